@@ -1,0 +1,76 @@
+// Texts and lists that a contract sees as a list. They are made of a `String` or a `Vec` and give it back
+// without taking memory.
+ghost use Rattle.std.specs.Prelude.{◌≡◌, List, ℕ, string_bytes, length};
+
+use std::fmt;
+use std::marker::Model;
+
+/// A text.
+#[derive(Debug, Drop)]
+pub struct Text {
+    text: String,
+}
+
+impl Model for Text {
+    ghost Value = { List ℕ };
+
+    ghost view = { λ t. string_bytes t.text };
+}
+
+impl fmt::Display for Text {
+    fn fmt<W: fmt::Write>(&self, f: &mut fmt::Formatter<W>) -> fmt::Result {
+        write!(f, "{}", self.text)
+    }
+}
+
+impl Text {
+    pub fn new(text: String) -> Self
+        ensures { result ≡ string_bytes text }
+    {
+        Text { text }
+    }
+
+    pub fn as_str(&self) -> &str
+        ensures { result.now ≡ self.now }
+    {
+        self.text.as_str()
+    }
+
+    pub fn into_string(self) -> String
+        ensures { string_bytes result ≡ self }
+    {
+        self.text
+    }
+}
+
+/// A list.
+#[derive(Drop)]
+pub struct Items<T> {
+    list: Vec<T>,
+}
+
+impl<T> Model for Items<T> {
+    ghost Value = { List T };
+
+    ghost view = { λ l. l.list.items };
+}
+
+impl<T> Items<T> {
+    pub fn new(list: Vec<T>) -> Self
+        ensures { result ≡ list.items }
+    {
+        Items { list }
+    }
+
+    pub fn as_slice(&self) -> &[T]
+        ensures { result.now ≡ self.now }
+    {
+        self.list.as_slice()
+    }
+
+    pub fn into_vec(self) -> Vec<T>
+        ensures { result.items ≡ self }
+    {
+        self.list
+    }
+}
