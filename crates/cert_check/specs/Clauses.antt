@@ -1,0 +1,27 @@
+-- Clauses 6 and 7 of a certificate.
+use Rattle.std.specs.Prelude.{◌≡◌, ◌↔◌, ℕ, ◌*◌, ◌<◌, ◌≤◌, Bool, IsTrue}
+use Rattle.crpd_base.specs.declared.data.Platform.{Platform}
+use Rattle.flat_graph.specs.Graph.{Graph}
+use Rattle.flat_graph.specs.EdgeCost.{Listing, edge_cost, end_cost}
+use Rattle.icache.specs.Accesses.{Accesses}
+use Rattle.loop_regions.specs.Nest.{Nest, Item, IsItem}
+use Rattle.loop_regions.specs.Potentials.{Costs, Potentials, item_potential, MeetsAt}
+use Rattle.evict_sets.specs.Full.{Listed, IsHit}
+
+-- which nodes are counted as hits, as a test
+abbrev pub CountsHits : Graph → Accesses → Listed → (ℕ → Bool) → Type 0
+CountsHits g a l is_hit = (y : ℕ) → y < g.size → IsTrue (is_hit y) ↔ IsHit g a l y
+
+-- the costs of the edges with these hits
+abbrev pub costs : Platform → Listing → (ℕ → Bool) → (ℕ → Bool) → Costs
+costs p listing answers is_hit =
+    record { edge = edge_cost p listing is_hit; answers = answers; end = end_cost p listing is_hit }
+
+-- clause 6: the inequalities on the node's edges, on the regions that they leave, and on the region whose head it is
+pub record PotentialsMeet (g : Graph) (n : Nest) (c : Costs) (p : Potentials) (u : ℕ) : Type 0 where
+  pub edges : MeetsAt g n c p u
+  pub loop : (r : ℕ) → r < n.size → n.head r ≡ u → n.bound r * p.node u ≤ p.loop r
+
+-- clause 7: the bound is at least the potential of the first node's item
+abbrev pub BoundMeets : Graph → Nest → Potentials → ℕ → Type 0
+BoundMeets g n p bound = (i : Item) → IsItem n g.first i → item_potential p i ≤ bound

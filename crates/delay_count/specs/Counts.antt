@@ -1,0 +1,28 @@
+-- Counts of jobs, in windows.
+use Rattle.std.specs.Prelude.{ℕ, ◌+◌, ◌-◌, ◌*◌, ◌/◌, Bool, ◌==◌, nat_lt, if◌then◌else◌}
+use Rattle.crpd_base.specs.declared.data.TaskSet.{TaskSet}
+use Rattle.script_reader.specs.Legal.{period_of, jitter_of}
+
+-- at most so many jobs of a task are released in a window: the window and the jitter by the period, rounded up
+abbrev pub jobs_in : ℕ → ℕ → ℕ → ℕ
+jobs_in period jitter window = (window + jitter + (period - 1)) / period
+
+-- what is counted of a task: its execution bound, the cache sets that it evicts and that are useful to it, and its
+-- longest cost of one instruction
+pub record Part : Type 0 where
+  pub bound : ℕ
+  pub evicts : ℕ → Bool
+  pub useful : ℕ → Bool
+  pub longest : ℕ
+
+-- jobs of task j in a window
+abbrev pub jobs_of : TaskSet → ℕ → ℕ → ℕ
+jobs_of set j w = jobs_in (period_of set j) (jitter_of set j) w
+
+-- how often jobs of task j may preempt those of task k within a window w of task i: each job of k in its own window
+abbrev pub preemptions : TaskSet → (ℕ → ℕ) → ℕ → ℕ → ℕ → ℕ → ℕ
+preemptions set window w i j k = if k == i then jobs_of set j w else jobs_of set j (window k) * jobs_of set k w
+
+-- the same of the tasks that j can affect in a window of i: below j's priority, and at least i's
+abbrev pub affected : TaskSet → (ℕ → ℕ) → ℕ → ℕ → ℕ → ℕ → ℕ
+affected set window w i j k = if nat_lt j k then preemptions set window w i j k else 0

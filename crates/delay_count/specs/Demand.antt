@@ -1,0 +1,32 @@
+-- What the jobs of a window may demand.
+use Rattle.std.specs.Prelude.{ℕ, zero, suc, ◌+◌, ◌-◌, ◌*◌, max, nat_le, if◌then◌else◌}
+use Rattle.crpd_base.specs.declared.data.Switching.{Switching}
+use Rattle.crpd_base.specs.declared.data.Switching.TheVariants.{Cycle, Instruction}
+use Rattle.crpd_base.specs.declared.data.TaskSet.{TaskSet}
+use Rattle.crpd_base.specs.Sum.{sum_below}
+use Rattle.crpd_base.specs.declared.data.Method.{Method}
+use Rattle.crpd_base.specs.declared.data.Method.TheVariants.{Ucb, Ecb}
+use Rattle.delay_count.specs.Counts.{Part, jobs_of}
+use Rattle.delay_count.specs.Gamma.{gamma_ucb, gamma_ecb}
+
+-- the greatest of f i, .., f (n - 1), or 0
+abbrev pub greatest_from : (ℕ → ℕ) → ℕ → ℕ → ℕ
+greatest_from f i zero = 0
+greatest_from f i (suc n) = if nat_le i n then max (f n) (greatest_from f i n) else 0
+
+-- what an instruction begun before the window may take of it, by the longest costs of this task and all below
+abbrev pub blocking : Switching → (ℕ → ℕ) → ℕ → ℕ → ℕ
+blocking Cycle longest i tasks = 0
+blocking Instruction longest i tasks = greatest_from (λ k. longest k - 1) i tasks
+
+abbrev pub gamma : TaskSet → (ℕ → Part) → (ℕ → ℕ) → ℕ → Method → ℕ → ℕ → ℕ
+gamma set parts window w Ucb i j = gamma_ucb set parts window w i j
+gamma set parts window w Ecb i j = gamma_ecb set parts window w i j
+
+-- the demand of a window w of task i, by a method, with the windows of the higher tasks: a switch, the bound, the
+-- blocking, and for each higher task its jobs, each with its bound and two switches, and the delay by them
+abbrev pub demand : TaskSet → ℕ → (ℕ → Part) → (ℕ → ℕ) → ℕ → Method → ℕ → ℕ
+demand set tasks parts window i method w =
+    let k = set.platform.switch in
+    k + (parts i).bound + blocking set.platform.switching (λ h. (parts h).longest) i tasks
+    + sum_below (λ j. jobs_of set j w * ((parts j).bound + (k + k)) + gamma set parts window w method i j) i

@@ -1,0 +1,2 @@
+//! Counts of jobs, the two delays, and demand: definitions.
+#![tactic(auto)]

@@ -1,0 +1,175 @@
+-- Worked rows, by computation.
+use Rattle.std.proofs.Common.{◌≡◌, ℕ, ◌+◌, Bool, true, false, map, refl, List, [], ◌∷◌, Option, Some, None}
+use Rattle.std.specs.Prelude.{◌==◌, nat_lt, if◌then◌else◌}
+use Rattle.crpd_base.specs.declared.data.Platform.{Platform}
+use Rattle.crpd_base.specs.declared.data.Switching.{Switching}
+use Rattle.crpd_base.specs.declared.data.Switching.TheVariants.{Cycle, Instruction}
+use Rattle.crpd_base.specs.declared.data.ScriptJob.{ScriptJob}
+use Rattle.crpd_base.specs.declared.data.TaskPlan.{TaskPlan}
+use Rattle.rv_decode.specs.Flow.{flow}
+use Rattle.rv_decode.specs.Table.{row, table}
+use Rattle.rv_decode.specs.Cost.{work_cost}
+use Rattle.rv_core.specs.Effect.{next_pc, written, stored}
+use Rattle.flow_watch.specs.Watch.{step as watch_step, is_kept}
+use Rattle.preempt_machine.specs.declared.End.TheVariants.{Unreleased, Open, Answered, Faulted}
+use Rattle.preempt_machine.specs.Machine.{System, Machine, Job, ins_at, started}
+use Rattle.preempt_machine.specs.Step.{run, candidate, turned, fetch, is_ready, comes_before}
+use Rattle.preempt_machine.specs.Safe.{completions}
+
+abbrev platform : Switching → Platform
+platform switching =
+    record { line = 16; sets = 4; hit = 1; miss = 10; memory = 3; taken = 2; switch = 5; mul = 0; div = 0; switching = switching }
+
+-- the words from an address on
+abbrev words : ℕ → List ℕ → ℕ → Option ℕ
+words at [] a = None
+words at (w ∷ ws) a = if a == at then Some w else words (at + 4) ws a
+
+abbrev find_word : ℕ → List (ℕ × ℕ) → Option ℕ
+find_word a [] = None
+find_word a (e ∷ es) = if a == e.0 then Some e.1 else find_word a es
+
+abbrev plan : ℕ → TaskPlan
+plan entry = record { entry = entry; stack = 0; global = 0; loops = [] }
+
+abbrev line : ℕ → ℕ → ScriptJob
+line t at = record { task = record { 0 = t }; arrival = at; release = at }
+
+abbrev empty : List (Option ℕ)
+empty = None ∷ None ∷ None ∷ None ∷ []
+
+abbrev two : System
+two = record { platform = platform Cycle; plans = plan 0x1000 ∷ []; word = words 0x1000 (0x00100293 ∷ 0x00000073 ∷ []) }
+
+two_at_16 : completions (run two (started two empty [] (line 0 0 ∷ [])) 16) ≡ Open ∷ []
+unfolding row table work_cost next_pc written stored watch_step flow ins_at candidate turned is_ready comes_before
+two_at_16 = refl
+
+two_at_17 : completions (run two (started two empty [] (line 0 0 ∷ [])) 17) ≡ Answered 17 ∷ []
+unfolding row table work_cost next_pc written stored watch_step flow ins_at candidate turned is_ready comes_before
+two_at_17 = refl
+
+-- row 21: a warm cache; two jobs of which the second comes too early; an unreleased job
+two_warm : completions (run two (started two (Some 256 ∷ None ∷ None ∷ None ∷ []) [] (line 0 0 ∷ [])) 7) ≡ Answered 7 ∷ []
+unfolding row table work_cost next_pc written stored watch_step flow ins_at candidate turned is_ready comes_before
+two_warm = refl
+
+two_twice : completions (run two (started two empty [] (line 0 0 ∷ line 0 99 ∷ [])) 200) ≡ Answered 17 ∷ Answered 106 ∷ []
+unfolding row table work_cost next_pc written stored watch_step flow ins_at candidate turned is_ready comes_before
+two_twice = refl
+
+two_unreleased : completions (run two (started two empty [] (line 0 300 ∷ [])) 200) ≡ Unreleased ∷ []
+unfolding row table work_cost next_pc written stored watch_step flow ins_at candidate turned is_ready comes_before
+two_unreleased = refl
+
+-- row 4: a loop. With bound 2 the watch is broken
+abbrev loop_plan : ℕ → TaskPlan
+loop_plan bound =
+    record { entry = 0x1000; stack = 0; global = 0; loops = record { head = 0x1004; bound = bound; ranges = (0x1004, 0x100C) ∷ [] } ∷ [] }
+
+abbrev four : ℕ → System
+four bound = record { platform = platform Cycle; plans = loop_plan bound ∷ []; word = words 0x1000 (0x00300293 ∷ 0xFFF28293 ∷ 0xFE029EE3 ∷ 0x00000073 ∷ []) }
+
+abbrev kept_of : Machine → List Bool
+kept_of m = map (λ (job : Job). is_kept job.watch) m.jobs
+
+four_open : completions (run (four 3) (started (four 3) empty [] (line 0 0 ∷ [])) 26) ≡ Open ∷ []
+unfolding row table work_cost next_pc written stored watch_step flow ins_at candidate turned is_ready comes_before
+four_open = refl
+
+four_answer : completions (run (four 3) (started (four 3) empty [] (line 0 0 ∷ [])) 27) ≡ Answered 27 ∷ []
+unfolding row table work_cost next_pc written stored watch_step flow ins_at candidate turned is_ready comes_before
+four_answer = refl
+
+four_kept : kept_of (run (four 3) (started (four 3) empty [] (line 0 0 ∷ [])) 100) ≡ true ∷ []
+unfolding row table work_cost next_pc written stored watch_step flow ins_at candidate turned is_ready comes_before
+four_kept = refl
+
+four_broken : kept_of (run (four 2) (started (four 2) empty [] (line 0 0 ∷ [])) 100) ≡ false ∷ []
+unfolding row table work_cost next_pc written stored watch_step flow ins_at candidate turned is_ready comes_before
+four_broken = refl
+
+four_broken_answer : completions (run (four 2) (started (four 2) empty [] (line 0 0 ∷ [])) 100) ≡ Answered 27 ∷ []
+unfolding row table work_cost next_pc written stored watch_step flow ins_at candidate turned is_ready comes_before
+four_broken_answer = refl
+
+-- rows 6, 7, 22 and 34: a preemption
+abbrev six : Switching → System
+six switching =
+    record {
+      platform = platform switching;
+      plans = plan 0x2000 ∷ plan 0x1000 ∷ [];
+      word = λ a. if nat_lt a 0x2000 then words 0x1000 (0x00100293 ∷ 0x00000073 ∷ []) a else words 0x2000 (0x00100293 ∷ 0x00000073 ∷ []) a;
+    }
+
+six_row : completions (run (six Cycle) (started (six Cycle) empty [] (line 1 0 ∷ line 0 16 ∷ [])) 100) ≡ Answered 49 ∷ Answered 33 ∷ []
+unfolding row table work_cost next_pc written stored watch_step flow ins_at candidate turned is_ready comes_before
+six_row = refl
+
+seven_row : completions (run (six Cycle) (started (six Cycle) empty [] (line 1 0 ∷ line 0 15 ∷ [])) 100) ≡ Answered 49 ∷ Answered 32 ∷ []
+unfolding row table work_cost next_pc written stored watch_step flow ins_at candidate turned is_ready comes_before
+seven_row = refl
+
+twenty_two_row : completions (run (six Cycle) (started (six Cycle) empty [] (line 1 0 ∷ line 0 0 ∷ [])) 100) ≡ Answered 34 ∷ Answered 17 ∷ []
+unfolding row table work_cost next_pc written stored watch_step flow ins_at candidate turned is_ready comes_before
+twenty_two_row = refl
+
+thirty_four_at_6 : completions (run (six Instruction) (started (six Instruction) empty [] (line 1 0 ∷ line 0 6 ∷ [])) 100) ≡ Answered 49 ∷ Answered 33 ∷ []
+unfolding row table work_cost next_pc written stored watch_step flow ins_at candidate turned is_ready comes_before
+thirty_four_at_6 = refl
+
+thirty_four_at_15 : completions (run (six Instruction) (started (six Instruction) empty [] (line 1 0 ∷ line 0 15 ∷ [])) 100) ≡ Answered 49 ∷ Answered 33 ∷ []
+unfolding row table work_cost next_pc written stored watch_step flow ins_at candidate turned is_ready comes_before
+thirty_four_at_15 = refl
+
+thirty_four_cycle : completions (run (six Cycle) (started (six Cycle) empty [] (line 1 0 ∷ line 0 6 ∷ [])) 100) ≡ Answered 49 ∷ Answered 23 ∷ []
+unfolding row table work_cost next_pc written stored watch_step flow ins_at candidate turned is_ready comes_before
+thirty_four_cycle = refl
+
+six_fetch : fetch (six Cycle) (run (six Cycle) (started (six Cycle) empty [] (line 1 0 ∷ line 0 16 ∷ [])) 38) ≡ Some (record { job = 0; address = 0x1004 })
+unfolding row table work_cost next_pc written stored watch_step flow ins_at candidate turned is_ready comes_before
+six_fetch = refl
+
+-- row 13: calls. Without the store of x1 the second return goes to 0, where no word is
+abbrev calls : ℕ → System
+calls second =
+    record {
+      platform = platform Cycle;
+      plans = record { entry = 0x1000; stack = 0x8000; global = 0; loops = [] } ∷ [];
+      word = words 0x1000 (0xFF010113 ∷ second ∷ 0x014000EF ∷ 0x010000EF ∷ 0x00C12083 ∷ 0x01010113 ∷ 0x00008067 ∷ 0x00008067 ∷ []);
+    }
+
+thirteen_row : completions (run (calls 0x00112623) (started (calls 0x00112623) empty [] (line 0 0 ∷ [])) 100) ≡ Answered 50 ∷ []
+unfolding row table work_cost next_pc written stored watch_step flow ins_at candidate turned is_ready comes_before
+thirteen_row = refl
+
+thirteen_kept : kept_of (run (calls 0x00112623) (started (calls 0x00112623) empty [] (line 0 0 ∷ [])) 100) ≡ true ∷ []
+unfolding row table work_cost next_pc written stored watch_step flow ins_at candidate turned is_ready comes_before
+thirteen_kept = refl
+
+thirteen_fault : completions (run (calls 0x00000013) (started (calls 0x00000013) empty [] (line 0 0 ∷ [])) 100) ≡ Faulted ∷ []
+unfolding row table work_cost next_pc written stored watch_step flow ins_at candidate turned is_ready comes_before
+thirteen_fault = refl
+
+thirteen_broken : kept_of (run (calls 0x00000013) (started (calls 0x00000013) empty [] (line 0 0 ∷ [])) 100) ≡ false ∷ []
+unfolding row table work_cost next_pc written stored watch_step flow ins_at candidate turned is_ready comes_before
+thirteen_broken = refl
+
+-- row 12: three tasks, nested preemptions
+abbrev twelve_word : ℕ → Option ℕ
+twelve_word a =
+    find_word a ((0x3010, 0x0100006F) ∷ (0x3020, 0x0100006F) ∷ (0x3030, 0x0100006F) ∷ (0x3040, 0x00000073)
+    ∷ (0x2010, 0x0100006F) ∷ (0x2014, 0x0100006F) ∷ (0x2020, 0xFF5FF06F) ∷ (0x2024, 0x00000073)
+    ∷ (0x1030, 0x0100006F) ∷ (0x1034, 0x0100006F) ∷ (0x1040, 0xFF5FF06F) ∷ (0x1044, 0x00000073) ∷ [])
+
+abbrev twelve : System
+twelve =
+    record {
+      platform = record (platform Cycle) { sets = 8 };
+      plans = plan 0x3010 ∷ plan 0x2010 ∷ plan 0x1030 ∷ [];
+      word = twelve_word;
+    }
+
+twelve_row : completions (run twelve (started twelve (None ∷ None ∷ None ∷ None ∷ empty) [] (line 2 0 ∷ line 1 31 ∷ line 0 62 ∷ [])) 180) ≡ Answered 175 ∷ Answered 146 ∷ Answered 117 ∷ []
+unfolding row table work_cost next_pc written stored watch_step flow ins_at candidate turned is_ready comes_before
+twelve_row = refl

@@ -1,0 +1,56 @@
+-- What is said of states: completions, kept, late, safe.
+use Rattle.std.specs.Prelude.{◌≡◌, ℕ, ◌+◌, ◌<◌, ◌≤◌, true, if◌then◌else◌, nat_le, List, length, map, slice_index, All}
+use Rattle.crpd_base.specs.declared.data.ScriptJob.{ScriptJob}
+use Rattle.crpd_base.specs.declared.data.TaskSet.{TaskSet}
+use Rattle.flow_watch.specs.Watch.{is_kept}
+use Rattle.script_reader.specs.Legal.{IsLegal}
+use Rattle.preempt_machine.specs.declared.End.{End}
+use Rattle.preempt_machine.specs.declared.End.TheVariants as «end»
+use Rattle.preempt_machine.specs.Machine.{System, Standing, Open, Answered, Faulted, Job, Machine}
+use Rattle.preempt_machine.specs.Step.{Start, state}
+
+-- how a job stands after this many steps
+abbrev pub end_by : ℕ → ℕ → Standing → End
+end_by time release Open = if nat_le time release then «end».Unreleased else «end».Open
+end_by time release (Answered t) = «end».Answered t
+end_by time release Faulted = «end».Faulted
+
+-- the completions, in the script's order
+abbrev pub completions : Machine → List End
+completions m = map (λ (job : Job). end_by m.time job.line.release job.standing) m.jobs
+
+-- no watch is broken
+abbrev pub IsKept : Machine → Type 0
+IsKept m = All (λ (job : Job). is_kept job.watch ≡ true) m.jobs
+
+-- answered at this time or earlier
+abbrev pub IsAnsweredBy : ℕ → Standing → Type 0
+IsAnsweredBy deadline Open = ⊥
+IsAnsweredBy deadline (Answered t) = t ≤ deadline
+IsAnsweredBy deadline Faulted = ⊥
+
+-- a job with this response time is late after so many steps
+abbrev pub IsLate : ℕ → ℕ → Job → Type 0
+IsLate time response job =
+    (job.line.arrival + response ≤ time) × ¬ IsAnsweredBy (job.line.arrival + response) job.standing
+
+-- a list of lines names tasks of the set only
+abbrev pub NamesTasks : TaskSet → List ScriptJob → Type 0
+NamesTasks set lines = All (λ (line : ScriptJob). line.task.0 < length set.tasks) lines
+
+-- what is asked of a run: a cache with an entry for each of the platform's sets, and jobs of the set's tasks
+pub record IsRunOf (set : TaskSet) (s : Start) : Type 0 where
+  pub cache : s.system.platform.sets ≤ length s.cache
+  pub tasks : NamesTasks set s.lines
+
+-- and a legal script
+pub record IsLegalRun (set : TaskSet) (s : Start) : Type 0 where
+  pub cache : s.system.platform.sets ≤ length s.cache
+  pub tasks : NamesTasks set s.lines
+  pub legal : IsLegal set s.lines
+
+-- from every cache and memory, for every legal script, after any number of steps: if the state is kept, no job is late
+abbrev pub IsSafe : System → TaskSet → List ℕ → Type 0
+IsSafe sys set responses =
+    (s : Start) (n : ℕ) → s.system ≡ sys → IsLegalRun set s → IsKept (state s n) →
+    All (λ (job : Job). ¬ IsLate n (slice_index responses job.line.task.0) job) (state s n).jobs

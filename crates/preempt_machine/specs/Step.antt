@@ -1,0 +1,191 @@
+-- One step of the machine, and runs.
+use Rattle.std.specs.Prelude.{ℕ, zero, suc, ◌-◌, Bool, true, false, not, ◌&&◌, ◌||◌, ◌==◌, nat_lt, nat_le, if◌then◌else◌, List, length, slice_set, Option, Some, None, is_some}
+use Rattle.crpd_base.specs.declared.data.Switching.{Switching}
+use Rattle.crpd_base.specs.declared.data.Switching.TheVariants.{Cycle, Instruction}
+use Rattle.crpd_base.specs.declared.data.ScriptJob.{ScriptJob}
+use Rattle.rv_decode.specs.declared.Ins.{Ins}
+use Rattle.rv_decode.specs.Cost.{cost}
+use Rattle.rv_core.specs.declared.Next.{Next}
+use Rattle.rv_core.specs.declared.Next.TheVariants.{Goto, Answer, Fault}
+use Rattle.rv_core.specs.Effect.{next_pc, registers_after, stored}
+use Rattle.rv_decode.specs.Address.{after, end}
+use Rattle.rv_core.specs.Memory.{Memory}
+use Rattle.icache.specs.Cache.{Cache, block_of, is_hit, accessed}
+use Rattle.flow_watch.specs.Watch.{step as watch_step}
+use Rattle.preempt_machine.specs.Machine.{System, ins_at, Standing, Open, Answered, Faulted, Job, Machine, plan_of, started, job_at}
+
+-- 1. A job is ready from its release until it answers or faults.
+abbrev pub is_open : Standing → Bool
+is_open Open = true
+is_open (Answered t) = false
+is_open Faulted = false
+
+unfoldable pub is_ready : ℕ → Job → Bool
+is_ready time job = is_open job.standing && nat_le job.line.release time
+
+-- 2. The line a of the script, at place x, comes before the line b, at place y: a higher task, then an earlier
+-- release, then a smaller place. (A job's number grows with its place among the jobs of its task.)
+unfoldable pub comes_before : ScriptJob → ℕ → ScriptJob → ℕ → Bool
+comes_before a x b y =
+    nat_lt a.task.0 b.task.0
+    || ((a.task.0 == b.task.0) && (nat_lt a.release b.release || ((a.release == b.release) && nat_lt x y)))
+
+abbrev pub before : List Job → ℕ → ℕ → Bool
+before jobs x y = comes_before (job_at jobs x).line x (job_at jobs y).line y
+
+-- the first in that order of the ready jobs below a place
+abbrev pub better : ℕ → List Job → ℕ → Option ℕ → Option ℕ
+better time jobs x best = if is_ready time (job_at jobs x) then (elim best [ None ↦ Some x | Some y ↦ if before jobs x y then Some x else Some y ]) else best
+
+abbrev pub first_ready : ℕ → List Job → ℕ → Option ℕ
+first_ready time jobs zero = None
+first_ready time jobs (suc n) = better time jobs n (first_ready time jobs n)
+
+-- whether a job keeps the core: a ready one in the middle of an instruction, where switches wait for its end
+abbrev pub keeps_core : Switching → ℕ → Job → Bool
+keeps_core Cycle time job = false
+keeps_core Instruction time job = is_ready time job && nat_lt 0 job.left
+
+-- the candidate: the owner where it keeps the core, else the ready job that comes before all others
+abbrev pub candidate_by : System → Machine → Option ℕ → Option ℕ
+candidate_by sys m None = first_ready m.time m.jobs (length m.jobs)
+candidate_by sys m (Some o) =
+    if keeps_core sys.platform.switching m.time (job_at m.jobs o) then Some o
+    else first_ready m.time m.jobs (length m.jobs)
+
+unfoldable pub candidate : System → Machine → Option ℕ
+candidate sys m = candidate_by sys m m.owner
+
+-- what the candidate's turn works on: its job, the cache, the memory and the switch cycles left
+pub record Turn : Type 0 where
+  pub cache : Cache
+  pub memory : Memory
+  pub switch_left : ℕ
+  pub job : Job
+
+-- 3. A candidate that is not the owner has all switch cycles before it.
+abbrev pub owns : Option ℕ → ℕ → Bool
+owns None i = false
+owns (Some o) i = o == i
+
+abbrev pub turn_of : System → Machine → ℕ → Turn
+turn_of sys m i =
+    record {
+      cache = m.cache;
+      memory = m.memory;
+      switch_left = if owns m.owner i then m.switch_left else sys.platform.switch;
+      job = job_at m.jobs i;
+    }
+
+-- 5. The fetch: the cache is accessed, and the instruction's cost is what is left of it.
+abbrev pub goes_on : Next → ℕ → Bool
+goes_on (Goto to) pc = to == after pc
+goes_on Answer pc = true
+goes_on Fault pc = true
+
+abbrev pub fetch_cost : System → Ins → Turn → ℕ
+fetch_cost sys ins t =
+    let p = sys.platform in
+    let pc = t.job.pc in
+    cost p ins (not (is_hit p t.cache (block_of p pc))) (not (goes_on (next_pc ins pc t.job.registers) pc))
+
+abbrev pub fetched : System → Ins → Turn → Turn
+fetched sys ins t =
+    if t.job.left == 0 then
+    record t {
+      cache = accessed sys.platform t.cache (block_of sys.platform t.job.pc);
+      job = record t.job { left = fetch_cost sys ins t };
+    }
+    else t
+
+-- the instruction has its effect: an ECALL answers, and any other goes on, under the watch
+abbrev pub went : System → ℕ → Ins → Turn → Next → Turn
+went sys n ins t (Goto to) =
+    let job = t.job in
+    record t {
+      memory = stored ins job.registers t.memory;
+      job = record {
+        line = job.line;
+        registers = registers_after ins job.pc job.registers t.memory;
+        pc = to;
+        left = 0;
+        watch = watch_step (plan_of sys job.line.task.0) job.watch job.pc ins to;
+        standing = if to == end then Answered (suc n) else Open;
+      };
+    }
+went sys n ins t Answer = record t { job = record t.job { left = 0; standing = Answered (suc n) } }
+went sys n ins t Fault = record t { job = record t.job { left = 0; standing = Faulted } }
+
+-- 6. One cycle of the instruction is used, and with the last one it has its effect.
+abbrev pub worked : System → ℕ → Ins → Turn → Turn
+worked sys n ins t =
+    if nat_lt 1 t.job.left then record t { job = record t.job { left = t.job.left - 1 } }
+    else went sys n ins t (next_pc ins t.job.pc t.job.registers)
+
+abbrev pub executed : System → ℕ → Turn → Option Ins → Turn
+executed sys n t None = record t { job = record t.job { standing = Faulted } }
+executed sys n t (Some ins) = worked sys n ins (fetched sys ins t)
+
+-- 4. A switch cycle that is left is used, and only without one the job's instruction.
+unfoldable pub turned : System → ℕ → Turn → Turn
+turned sys n t =
+    if nat_lt 0 t.switch_left then record t { switch_left = t.switch_left - 1 }
+    else executed sys n t (ins_at sys t.job.pc)
+
+-- the state after the turn of the job at a place
+abbrev pub placed : Machine → ℕ → Turn → Machine
+placed m i t =
+    record {
+      time = suc m.time;
+      cache = t.cache;
+      memory = t.memory;
+      owner = Some i;
+      switch_left = t.switch_left;
+      jobs = slice_set m.jobs i t.job;
+    }
+
+abbrev pub step_by : System → Machine → Option ℕ → Machine
+step_by sys m None = record m { time = suc m.time }
+step_by sys m (Some i) = placed m i (turned sys m.time (turn_of sys m i))
+
+-- the state after a step
+abbrev pub step : System → Machine → Machine
+step sys m = step_by sys m (candidate sys m)
+
+-- the state after n steps
+abbrev pub run : System → Machine → ℕ → Machine
+run sys m zero = m
+run sys m (suc n) = step sys (run sys m n)
+
+-- what a run starts from
+pub record Start : Type 0 where
+  pub system : System
+  pub cache : Cache
+  pub memory : Memory
+  pub lines : List ScriptJob
+
+-- the state of a run after n steps
+abbrev pub state : Start → ℕ → Machine
+state s n = run s.system (started s.system s.cache s.memory s.lines) n
+
+-- a fetch: the job's place, and the address
+pub record Fetch : Type 0 where
+  pub job : ℕ
+  pub address : ℕ
+
+-- whether the turn of a job makes a fetch
+abbrev pub makes_fetch : System → Turn → Bool
+makes_fetch sys t = (t.switch_left == 0) && (t.job.left == 0) && is_some (ins_at sys t.job.pc)
+
+abbrev pub fetch_by : System → Machine → Option ℕ → Option Fetch
+fetch_by sys m None = None
+fetch_by sys m (Some i) =
+    if makes_fetch sys (turn_of sys m i) then Some (record { job = i; address = (job_at m.jobs i).pc }) else None
+
+-- the fetch of the step from a state, if there is one
+abbrev pub fetch : System → Machine → Option Fetch
+fetch sys m = fetch_by sys m (candidate sys m)
+
+-- the fetch of the step after n steps of a run
+abbrev pub fetch_at : Start → ℕ → Option Fetch
+fetch_at s n = fetch s.system (state s n)

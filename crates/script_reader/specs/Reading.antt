@@ -1,0 +1,97 @@
+-- What the text of a script stands for beside a task set, or the first refusal.
+use Rattle.std.specs.Prelude.{ℕ, pos, ◌+◌, ◌^◌, List, [], ◌∷◌, ◌++◌, length, codes, Bool, false, Option, Some, None, nat_lt, Result, Ok, Err, if◌then◌else◌}
+use Rattle.std.specs.Str.{bytes_eq, is_utf8}
+use Rattle.crpd_base.specs.declared.data.ScriptJob.{ScriptJob}
+use Rattle.crpd_base.specs.declared.data.Script.{Script}
+use Rattle.crpd_base.specs.declared.data.TaskSpec.{TaskSpec}
+use Rattle.crpd_base.specs.declared.data.TaskSet.{TaskSet}
+use Rattle.toml.specs.Data.{Data, integer, Members, as_str, as_table}
+use Rattle.toml.specs.Parse.{parse_document}
+use Rattle.toml_keys.specs.declared.fault.KeyError.{KeyError}
+use Rattle.toml_keys.specs.declared.fault.KeyError.TheVariants as fault
+use Rattle.toml_keys.specs.Reading.{◌>>=◌, all_known, present, good, required, optional, whole, listed, each, item_path}
+use Rattle.script_reader.specs.declared.fault.ScriptError.{ScriptError}
+use Rattle.script_reader.specs.declared.fault.ScriptError.TheVariants.{Memory, NotToml, Missing, BadValue, UnknownTask, TooLong, UnknownKey}
+
+-- a fault of a key as a refusal of the script
+abbrev pub script_error : KeyError → ScriptError
+script_error fault.Memory = Memory
+script_error (fault.Missing key) = Missing key
+script_error (fault.BadValue key) = BadValue key
+script_error (fault.UnknownKey key) = UnknownKey key
+
+abbrev pub of_script : {A : Type 0} → Result A KeyError → Result A ScriptError
+of_script (Ok x) = Ok x
+of_script (Err e) = Err (script_error e)
+
+-- ---- jobs
+
+unfoldable pub job_keys : List (List ℕ)
+job_keys = codes "task" ∷ codes "arrival" ∷ codes "release" ∷ []
+
+-- the place of the first task of a name, counted from i
+abbrev pub first_named : List ℕ → List TaskSpec → ℕ → Option ℕ
+first_named name [] i = None
+first_named name (t ∷ ts) i = if bytes_eq name t.name then Some i else first_named name ts (i + 1)
+
+-- a task that was found, where a task's number can tell it
+abbrev pub told : List ℕ → Option ℕ → Result ℕ ScriptError
+told path None = Err (UnknownTask (path ++ codes "task"))
+told path (Some i) = if nat_lt i 256 then Ok i else Err (UnknownTask (path ++ codes "task"))
+
+-- the task of a name
+unfoldable pub task_named : List ℕ → List ℕ → TaskSet → Result ℕ ScriptError
+task_named path name set = told path (first_named name set.tasks 0)
+
+unfoldable pub job_at : TaskSet → List ℕ → Members → Result ScriptJob ScriptError
+job_at set path ms = do
+  _ ← of_script (all_known job_keys path ms)
+  name ← of_script (required as_str path (codes "task") ms)
+  task ← task_named path name set
+  arrival ← of_script (required (whole 0 (2 ^ 40)) path (codes "arrival") ms)
+  release ← of_script (required (whole 0 (2 ^ 40)) path (codes "release") ms)
+  Ok (record { task = record { 0 = task }; arrival = arrival; release = release })
+
+-- the job at a place
+abbrev pub nth_job : TaskSet → ℕ → Members → Result ScriptJob ScriptError
+nth_job set i = job_at set (item_path [] (codes "job") i)
+
+unfoldable pub jobs_at : TaskSet → Members → Result (List ScriptJob) ScriptError
+jobs_at set ms = do
+  tables ← of_script (optional [] (listed as_table) [] (codes "job") ms)
+  if nat_lt 10000 (length tables) then Err (TooLong (codes "job")) else each (nth_job set) 0 tables
+
+-- ---- the script
+
+unfoldable pub script_keys : List (List ℕ)
+script_keys = codes "cycles" ∷ codes "cache" ∷ codes "job" ∷ []
+
+-- a whole number above n
+unfoldable pub is_above : ℕ → Data → Bool
+is_above n (integer (pos m)) = nat_lt n m
+is_above n _ = false
+
+unfoldable pub cycles_at : Members → Result ℕ ScriptError
+cycles_at ms = do
+  d ← of_script (present [] (codes "cycles") ms)
+  if is_above (2 ^ 40) d then Err (TooLong (codes "cycles")) else of_script (good [] (codes "cycles") (whole 1 (2 ^ 40) d))
+
+-- the number of a block
+abbrev pub block : Data → Option ℕ
+block = whole 0 4294967295
+
+unfoldable pub script_at : TaskSet → Members → Result Script ScriptError
+script_at set ms = do
+  _ ← of_script (all_known script_keys [] ms)
+  cycles ← cycles_at ms
+  cache ← of_script (optional [] (listed block) [] (codes "cache") ms)
+  jobs ← jobs_at set ms
+  Ok (record { cycles = cycles; cache = cache; jobs = jobs })
+
+abbrev pub document : TaskSet → Option Members → Result Script ScriptError
+document set None = Err NotToml
+document set (Some ms) = script_at set ms
+
+-- What the text stands for, or its first refusal.
+unfoldable pub reading : List ℕ → TaskSet → Result Script ScriptError
+reading bytes set = if is_utf8 bytes then document set (parse_document bytes) else Err NotToml

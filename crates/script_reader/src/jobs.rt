@@ -1,0 +1,124 @@
+ghost use Rattle.std.specs.Prelude.{◌≡◌, ◌++◌, [], codes, length, map, option_map, IfOk, string_bytes};
+ghost use Rattle.toml.specs.Data.{as_str, as_table};
+ghost use Rattle.toml.specs.View.{view, table_view};
+ghost use Rattle.toml_keys.specs.Reading.{Gives, all_known, required, optional, each, listed};
+ghost use Rattle.script_reader.specs.Reading as spec;
+
+use crate::fault::ScriptError;
+use crpd_base::{ScriptJob, Task, TaskSet, TaskSpec, Text};
+use std::alloc::{AllocError, Global};
+use toml::Table;
+use toml_keys::{KeyError, Keys, item_path, key_path, tables};
+
+const KEYS: [&str; 3] = ["task", "arrival", "release"];
+
+const LATEST: u64 = 1 << 40;
+
+#[tactic(auto, unfolding(crate::specs::Reading::job_keys))]
+fn job_keys(alloc: Global, keys: Keys) -> Result<(), KeyError>
+    ensures { Gives KeyError.Memory (λ x. x) result (all_known spec.job_keys keys.entry.path.now (table_view keys.entry.table.now)) }
+{
+    keys.all_known(alloc, &KEYS)
+}
+
+/// The place of the first task of a name.
+fn first_named(name: &str, tasks: &[TaskSpec]) -> Option<usize>
+    ensures { result ≡ spec.first_named name.now tasks.now 0 }
+{
+    for (i, task) in tasks.iter().enumerate() {
+        if name == task.name.as_str() {
+            return Some(i);
+        }
+    }
+    None
+}
+
+/// The task of a name.
+#[tactic(auto, unfolding(crate::specs::Reading::task_named))]
+fn task_named(alloc: Global, path: &str, name: &str, set: &TaskSet) -> Result<Task, ScriptError>
+    ensures { Gives ScriptError.Memory (λ t. t.0) result (spec.task_named path.now name.now set.now) }
+{
+    match first_named(name, set.tasks.as_slice()) {
+        Some(i) if i < 256 => Ok(Task(i as u8)),
+        _ => Err(ScriptError::UnknownTask(key_path(alloc, path, "task")?)),
+    }
+}
+
+#[tactic(auto, using(toml_keys::proofs::Seen::good_seen), unfolding(toml_keys::specs::Reading::required))]
+fn name_at<'a>(alloc: Global, keys: Keys<'a>) -> Result<&'a str, KeyError>
+    ensures { Gives KeyError.Memory (λ s. s.now) result (required as_str keys.entry.path.now (codes "task") (table_view keys.entry.table.now)) }
+{
+    let value = keys.present(alloc, "task")?;
+    keys.good(alloc, "task", value.as_str())
+}
+
+/// What the keys of a job say.
+#[tactic(auto, unfolding(crate::specs::Reading::job_at))]
+fn job_at(alloc: Global, keys: Keys, set: &TaskSet) -> Result<ScriptJob, ScriptError>
+    ensures { Gives ScriptError.Memory (λ x. x) result (spec.job_at set.now keys.entry.path.now (table_view keys.entry.table.now)) }
+{
+    job_keys(alloc, keys)?;
+    let name = name_at(alloc, keys)?;
+    let task = task_named(alloc, keys.path, name, set)?;
+    let arrival = keys.number(alloc, "arrival", 0, LATEST)?;
+    let release = keys.number(alloc, "release", 0, LATEST)?;
+    Ok(ScriptJob {
+        task,
+        arrival,
+        release,
+    })
+}
+
+/// The job at a place.
+fn nth_job(
+    alloc: Global,
+    set: &TaskSet,
+    place: usize,
+    table: &Table,
+) -> Result<ScriptJob, ScriptError>
+    ensures { Gives ScriptError.Memory (λ x. x) result (spec.nth_job set.now place (table_view table.now)) }
+{
+    let path = item_path(alloc, "", "job", place)?;
+    job_at(
+        alloc,
+        Keys {
+            table,
+            path: path.as_str(),
+        },
+        set,
+    )
+}
+
+/// The jobs of a list, in order.
+#[tactic(auto, unfolding(toml_keys::specs::Reading::each))]
+fn each_job(alloc: Global, set: &TaskSet, tables: &[&Table]) -> Result<Vec<ScriptJob>, ScriptError>
+    ensures { Gives ScriptError.Memory (λ v. v.items) result (each (spec.nth_job set.now) 0 (map (λ t. table_view t.now) tables.now)) }
+{
+    let mut jobs = Vec::new(alloc);
+    for (i, table) in tables.iter().enumerate() {
+        jobs.push(nth_job(alloc, set, i, table)?)?;
+    }
+    Ok(jobs)
+}
+
+#[tactic(auto, using(toml_keys::proofs::Seen::good_seen), unfolding(toml_keys::specs::Reading::optional))]
+fn job_list<'a>(alloc: Global, keys: Keys<'a>) -> Result<Vec<&'a Table>, KeyError>
+    ensures { Gives KeyError.Memory (λ v. map (λ t. table_view t.now) v.items) result (optional [] (listed as_table) keys.entry.path.now (codes "job") (table_view keys.entry.table.now)) }
+{
+    match keys.get("job") {
+        None => Ok(Vec::new(alloc)),
+        Some(value) => keys.good(alloc, "job", tables(alloc, value)?),
+    }
+}
+
+/// The jobs of a script.
+#[tactic(auto, unfolding(crate::specs::Reading::jobs_at))]
+pub fn jobs_at(alloc: Global, table: &Table, set: &TaskSet) -> Result<Vec<ScriptJob>, ScriptError>
+    ensures { Gives ScriptError.Memory (λ v. v.items) result (spec.jobs_at set.now (table_view table.now)) }
+{
+    let tables = job_list(alloc, Keys { table, path: "" })?;
+    if tables.len() > 10_000 {
+        return Err(ScriptError::TooLong(Text::new(String::from_str(alloc, "job")?)));
+    }
+    each_job(alloc, set, tables.as_slice())
+}

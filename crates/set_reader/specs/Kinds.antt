@@ -1,0 +1,113 @@
+-- The kinds of a task set's values: what a value stands for, or None where it is of another kind or outside its range.
+use Rattle.std.specs.Prelude.{ℕ, ◌+◌, ◌*◌, ◌-◌, ◌^◌, pos, List, [], ◌∷◌, length, drop, codes, Bool, false, ◌||◌, ◌&&◌, ◌==◌, nat_le, nat_lt, Option, Some, None, option_map, option_and_then, if◌then◌else◌}
+use Rattle.std.specs.List.{list_all, position_or_len, before_first, after_first}
+use Rattle.std.specs.Str.{bytes_eq}
+use Rattle.toml.specs.Data.{Data, string, integer, Items, no_items, item, as_str, as_array}
+use Rattle.crpd_base.specs.declared.data.Place.{Place}
+use Rattle.crpd_base.specs.declared.data.Place.TheVariants.{Number, Symbol}
+use Rattle.crpd_base.specs.declared.data.Switching.{Switching}
+use Rattle.crpd_base.specs.declared.data.Switching.TheVariants.{Cycle, Instruction}
+use Rattle.toml_keys.specs.Reading.{whole}
+
+-- a value that passes a test
+abbrev pub only : {A : Type 0} → (A → Bool) → Option A → Option A
+only test None = None
+only test (Some x) = if test x then Some x else None
+
+-- a number between two others
+abbrev pub is_between : ℕ → ℕ → ℕ → Bool
+is_between low high n = nat_le low n && nat_le n high
+
+-- ---- the platform
+
+abbrev pub is_line : ℕ → Bool
+is_line n = n == 4 || n == 8 || n == 16 || n == 32 || n == 64
+
+unfoldable pub line : Data → Option ℕ
+line d = only is_line (whole 4 64 d)
+
+abbrev pub switching_named : List ℕ → Option Switching
+switching_named s = if bytes_eq s (codes "cycle") then Some Cycle else if bytes_eq s (codes "instruction") then Some Instruction else None
+
+unfoldable pub switching : Data → Option Switching
+switching d = option_and_then switching_named (as_str d)
+
+-- ---- texts
+
+-- a letter, a digit, or one of `_`, `.` and `-`
+abbrev pub is_name_byte : ℕ → Bool
+is_name_byte b = is_between 48 57 b || is_between 65 90 b || is_between 97 122 b || b == 95 || b == 46 || b == 45
+
+abbrev pub is_name : List ℕ → Bool
+is_name s = is_between 1 32 (length s) && list_all is_name_byte s
+
+unfoldable pub name : Data → Option (List ℕ)
+name d = only is_name (as_str d)
+
+-- no byte below 0x21, and not 0x7F
+abbrev pub is_file_byte : ℕ → Bool
+is_file_byte b = nat_le 33 b && (nat_lt b 127 || nat_lt 127 b)
+
+abbrev pub is_file : List ℕ → Bool
+is_file s = is_between 1 255 (length s) && list_all is_file_byte s
+
+unfoldable pub file : Data → Option (List ℕ)
+file d = only is_file (as_str d)
+
+-- ---- places
+
+-- the value of a digit
+abbrev pub digit : ℕ → ℕ → Option ℕ
+digit radix c =
+    if is_between 48 57 c then Some (c - 48)
+    else if radix == 16 && is_between 97 102 c then Some (c - 87)
+    else if radix == 16 && is_between 65 70 c then Some (c - 55)
+    else None
+
+-- the number that digits stand for, behind those for n, as far as it is below 2 ^ 32
+unfoldable pub digits : ℕ → ℕ → List ℕ → Option ℕ
+digits radix n [] = Some n
+digits radix n (c ∷ cs) = option_and_then (λ d. if nat_lt (n * radix + d) (2 ^ 32) then digits radix (n * radix + d) cs else None) (digit radix c)
+
+-- at least one digit, and at most so many
+abbrev pub number_of : ℕ → ℕ → List ℕ → Option ℕ
+number_of radix most cs = if is_between 1 most (length cs) then digits radix 0 cs else None
+
+abbrev pub starts_with_0x : List ℕ → Bool
+starts_with_0x (a ∷ b ∷ cs) = a == 48 && b == 120
+starts_with_0x _ = false
+
+-- 1 to 8 hexadecimal digits after `0x`, else 1 to 10 decimal digits
+unfoldable pub offset : List ℕ → Option ℕ
+offset cs = if starts_with_0x cs then number_of 16 8 (drop 2 cs) else number_of 10 10 cs
+
+abbrev pub is_plus : ℕ → Bool
+is_plus b = b == 43
+
+-- a symbol is not empty
+abbrev pub symbol : List ℕ → ℕ → Option Place
+symbol [] n = None
+symbol (c ∷ cs) n = Some (Symbol (c ∷ cs) n)
+
+-- a symbol, or a symbol and its offset, split at the first `+`
+unfoldable pub place_named : List ℕ → Option Place
+place_named s =
+    if nat_lt (position_or_len is_plus s) (length s)
+    then option_and_then (symbol (before_first is_plus s)) (offset (after_first is_plus s))
+    else symbol s 0
+
+unfoldable pub place : Data → Option Place
+place (integer (pos n)) = if nat_lt n (2 ^ 32) then Some (Number n) else None
+place (string s) = place_named s
+place _ = None
+
+abbrev pub both : Data → Data → Option (Place × Place)
+both from to = option_and_then (λ a. option_map (λ b. (a, b)) (place to)) (place from)
+
+unfoldable pub two_places : Items → Option (Place × Place)
+two_places (item from (item to no_items)) = both from to
+two_places _ = None
+
+-- a list of two places
+unfoldable pub range : Data → Option (Place × Place)
+range d = option_and_then two_places (as_array d)

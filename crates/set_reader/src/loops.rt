@@ -1,0 +1,103 @@
+ghost use Rattle.std.specs.Prelude.{◌≡◌, [], codes, length, map, option_map, IfOk};
+ghost use Rattle.toml.specs.View.{view, table_view};
+ghost use Rattle.toml_keys.specs.Reading.{Gives, all_known, required, optional, each, listed};
+ghost use Rattle.set_reader.specs.Kinds as kind;
+ghost use Rattle.set_reader.specs.Reading as spec;
+
+use crate::kinds::{place, ranges};
+use crpd_base::{Items, LoopSpec, Place};
+use std::alloc::{AllocError, Global};
+use toml::{Table, Value};
+use toml_keys::{KeyError, Keys, item_path, tables};
+
+const KEYS: [&str; 3] = ["head", "bound", "range"];
+
+#[tactic(auto, unfolding(crate::specs::Reading::loop_keys))]
+fn all_known(alloc: Global, keys: Keys) -> Result<(), KeyError>
+    ensures { Gives KeyError.Memory (λ x. x) result (all_known spec.loop_keys keys.entry.path.now (table_view keys.entry.table.now)) }
+{
+    keys.all_known(alloc, &KEYS)
+}
+
+#[tactic(auto, unfolding(toml_keys::specs::Reading::required))]
+fn head_at(alloc: Global, keys: Keys) -> Result<Place, KeyError>
+    ensures { Gives KeyError.Memory (λ x. x) result (required kind.place keys.entry.path.now (codes "head") (table_view keys.entry.table.now)) }
+{
+    let value = keys.present(alloc, "head")?;
+    keys.good(alloc, "head", place(alloc, value)?)
+}
+
+#[tactic(auto, using(toml_keys::proofs::Seen::good_seen), unfolding(toml_keys::specs::Reading::required))]
+fn ranges_at(alloc: Global, keys: Keys) -> Result<Vec<(Place, Place)>, KeyError>
+    ensures { Gives KeyError.Memory (λ v. v.items) result (required (listed kind.range) keys.entry.path.now (codes "range") (table_view keys.entry.table.now)) }
+{
+    let value = keys.present(alloc, "range")?;
+    keys.good(alloc, "range", ranges(alloc, value)?)
+}
+
+/// A stated loop.
+#[tactic(auto, unfolding(crate::specs::Reading::loop_at))]
+fn loop_at(alloc: Global, keys: Keys) -> Result<LoopSpec, KeyError>
+    ensures { Gives KeyError.Memory (λ x. x) result (spec.loop_at keys.entry.path.now (table_view keys.entry.table.now)) }
+{
+    all_known(alloc, keys)?;
+    Ok(LoopSpec {
+        head: head_at(alloc, keys)?,
+        bound: keys.small_number(alloc, "bound", 1, 1_000_000)?,
+        ranges: Items::new(ranges_at(alloc, keys)?),
+    })
+}
+
+/// The loop at a place of a task's list.
+fn nth_loop(alloc: Global, path: &str, place: usize, table: &Table) -> Result<LoopSpec, KeyError>
+    ensures { Gives KeyError.Memory (λ x. x) result (spec.nth_loop path.now place (table_view table.now)) }
+{
+    let path = item_path(alloc, path, "loop", place)?;
+    loop_at(
+        alloc,
+        Keys {
+            table,
+            path: path.as_str(),
+        },
+    )
+}
+
+/// The loops of a list, in order.
+#[tactic(auto, unfolding(toml_keys::specs::Reading::each))]
+fn each_loop(alloc: Global, path: &str, tables: &[&Table]) -> Result<Vec<LoopSpec>, KeyError>
+    ensures { Gives KeyError.Memory (λ v. v.items) result (each (spec.nth_loop path.now) 0 (map (λ t. table_view t.now) tables.now)) }
+{
+    let mut loops = Vec::new(alloc);
+    for (i, table) in tables.iter().enumerate() {
+        loops.push(nth_loop(alloc, path, i, table)?)?;
+    }
+    Ok(loops)
+}
+
+fn loop_tables<'a>(alloc: Global, value: &'a Value) -> Result<Option<Vec<&'a Table>>, AllocError>
+    ensures { IfOk result (λ found. option_map (λ v. map (λ t. table_view t.now) v.items) found ≡ spec.loop_tables (view value.now)) }
+{
+    match tables(alloc, value)? {
+        Some(tables) if tables.len() <= 64 => Ok(Some(tables)),
+        _ => Ok(None),
+    }
+}
+
+#[tactic(auto, using(toml_keys::proofs::Seen::good_seen), unfolding(toml_keys::specs::Reading::optional))]
+fn loop_list<'a>(alloc: Global, keys: Keys<'a>) -> Result<Vec<&'a Table>, KeyError>
+    ensures { Gives KeyError.Memory (λ v. map (λ t. table_view t.now) v.items) result (optional [] spec.loop_tables keys.entry.path.now (codes "loop") (table_view keys.entry.table.now)) }
+{
+    match keys.get("loop") {
+        None => Ok(Vec::new(alloc)),
+        Some(value) => keys.good(alloc, "loop", loop_tables(alloc, value)?),
+    }
+}
+
+/// The loops of a task.
+#[tactic(auto, unfolding(crate::specs::Reading::loops_at))]
+pub fn loops_at(alloc: Global, keys: Keys) -> Result<Vec<LoopSpec>, KeyError>
+    ensures { Gives KeyError.Memory (λ v. v.items) result (spec.loops_at keys.entry.path.now (table_view keys.entry.table.now)) }
+{
+    let tables = loop_list(alloc, keys)?;
+    each_loop(alloc, keys.path, tables.as_slice())
+}

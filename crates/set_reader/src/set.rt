@@ -1,0 +1,157 @@
+ghost use Rattle.std.specs.Prelude.{◌≡◌, ◌≤◌, All, [], ◌++◌, codes, string_bytes, length, map, option_map, IfOk};
+ghost use Rattle.toml.specs.Data.{as_table};
+ghost use Rattle.toml.specs.View.{view, table_view};
+ghost use Rattle.toml_keys.specs.Reading.{Gives, all_known, required, each};
+ghost use Rattle.set_reader.specs.Reading as spec;
+ghost use Rattle.set_reader.specs.Reading.{reading};
+
+use crate::fault::SetError;
+use crate::platform::platform_at;
+use crate::task::task_at;
+use crpd_base::{Items, Platform, TaskSet, TaskSpec, Text};
+use std::alloc::{AllocError, Global};
+use toml::{Table, Value};
+use toml_keys::{KeyError, Keys, item_path, tables};
+
+const KEYS: [&str; 2] = ["platform", "task"];
+
+#[tactic(auto, unfolding(crate::specs::Reading::set_keys))]
+fn all_known(alloc: Global, keys: Keys) -> Result<(), KeyError>
+    ensures { Gives KeyError.Memory (λ x. x) result (all_known spec.set_keys keys.entry.path.now (table_view keys.entry.table.now)) }
+{
+    keys.all_known(alloc, &KEYS)
+}
+
+/// Whether a task has this name.
+fn occurs(name: &str, tasks: &[TaskSpec]) -> bool
+    ensures { result ≡ spec.occurs name.now tasks.now }
+{
+    for task in tasks {
+        if name == task.name.as_str() {
+            return true;
+        }
+    }
+    false
+}
+
+/// The place of the first task whose name occurs earlier.
+fn first_repeated(tasks: &[TaskSpec]) -> Option<usize>
+    ensures { result ≡ spec.repeated_after [] tasks.now }
+{
+    for i in 0..tasks.len() {
+        let task = &tasks[i];
+        if occurs(task.name.as_str(), &tasks[..i]) {
+            return Some(i);
+        }
+    }
+    None
+}
+
+/// The tasks, whose names have to differ.
+#[tactic(auto, unfolding(crate::specs::Reading::distinct))]
+fn distinct(alloc: Global, tasks: Vec<TaskSpec>) -> Result<Vec<TaskSpec>, SetError>
+    ensures { Gives SetError.Memory (λ v. v.items) result (spec.distinct tasks.items) }
+{
+    match first_repeated(tasks.as_slice()) {
+        None => Ok(tasks),
+        Some(i) => {
+            let mut path = item_path(alloc, "", "task", i)?;
+            path.push_str("name")?;
+            Err(SetError::SameName(Text::new(path)))
+        }
+    }
+}
+
+/// The tasks of a list, in order.
+#[tactic(auto, unfolding(toml_keys::specs::Reading::each))]
+fn each_task(alloc: Global, tables: &[&Table]) -> Result<Vec<TaskSpec>, SetError>
+    ensures { Gives SetError.Memory (λ v. v.items) result (each spec.task_at 0 (map (λ t. table_view t.now) tables.now)) }
+{
+    let mut tasks = Vec::new(alloc);
+    for (i, table) in tables.iter().enumerate() {
+        tasks.push(task_at(alloc, i, table)?)?;
+    }
+    Ok(tasks)
+}
+
+fn task_tables<'a>(alloc: Global, value: &'a Value) -> Result<Option<Vec<&'a Table>>, AllocError>
+    ensures { IfOk result (λ found. option_map (λ v. map (λ t. table_view t.now) v.items) found ≡ spec.task_tables (view value.now)) }
+{
+    match tables(alloc, value)? {
+        Some(tables) if !tables.is_empty() => Ok(Some(tables)),
+        _ => Ok(None),
+    }
+}
+
+#[tactic(auto, using(toml_keys::proofs::Seen::good_seen), unfolding(toml_keys::specs::Reading::required))]
+fn task_list<'a>(alloc: Global, keys: Keys<'a>) -> Result<Vec<&'a Table>, KeyError>
+    ensures { Gives KeyError.Memory (λ v. map (λ t. table_view t.now) v.items) result (required spec.task_tables keys.entry.path.now (codes "task") (table_view keys.entry.table.now)) }
+{
+    let value = keys.present(alloc, "task")?;
+    keys.good(alloc, "task", task_tables(alloc, value)?)
+}
+
+/// The tasks of a set.
+#[tactic(auto, unfolding(crate::specs::Reading::tasks_at))]
+fn tasks_at(alloc: Global, table: &Table) -> Result<Vec<TaskSpec>, SetError>
+    ensures { Gives SetError.Memory (λ v. v.items) result (spec.tasks_at (table_view table.now)) }
+{
+    let tables = task_list(alloc, Keys { table, path: "" })?;
+    if tables.len() > 32 {
+        return Err(SetError::TooManyTasks(tables.len() as u64));
+    }
+    let tasks = each_task(alloc, tables.as_slice())?;
+    distinct(alloc, tasks)
+}
+
+#[tactic(auto, using(toml_keys::proofs::Seen::good_seen), unfolding(toml_keys::specs::Reading::required))]
+fn platform_table<'a>(alloc: Global, keys: Keys<'a>) -> Result<&'a Table, KeyError>
+    ensures { Gives KeyError.Memory (λ t. table_view t.now) result (required as_table keys.entry.path.now (codes "platform") (table_view keys.entry.table.now)) }
+{
+    let value = keys.present(alloc, "platform")?;
+    keys.good(alloc, "platform", value.as_table())
+}
+
+#[tactic(auto, unfolding(crate::specs::Reading::set_at))]
+fn set_at(alloc: Global, table: &Table) -> Result<TaskSet, SetError>
+    ensures { Gives SetError.Memory (λ x. x) result (spec.set_at (table_view table.now)) }
+{
+    let keys = Keys { table, path: "" };
+    all_known(alloc, keys)?;
+    let platform = platform_table(alloc, keys)?;
+    let platform = platform_at(
+        alloc,
+        Keys {
+            table: platform,
+            path: "platform.",
+        },
+    )?;
+    let tasks = tasks_at(alloc, table)?;
+    Ok(TaskSet {
+        platform,
+        tasks: Items::new(tasks),
+    })
+}
+
+#[tactic(auto, using(crate::proofs::Texts::reading_of_text, crate::proofs::Texts::reading_of_bytes))]
+fn set_of(alloc: Global, bytes: &[u8]) -> Result<TaskSet, SetError>
+    ensures { Gives SetError.Memory (λ x. x) result (reading bytes.now) }
+{
+    let Ok(text) = std::str::from_utf8(bytes) else {
+        return Err(SetError::NotToml);
+    };
+    match toml::table_from_str(alloc, text) {
+        Ok(table) => set_at(alloc, &table),
+        Err(e) if e.is_memory() => Err(SetError::Memory),
+        Err(_) => Err(SetError::NotToml),
+    }
+}
+
+/// Reads a task set. What it gives, and its first refusal, are those of `reading`.
+pub fn read_set(alloc: Global, bytes: &[u8]) -> Result<TaskSet, SetError>
+    ensures exact { Gives SetError.Memory (λ x. x) result (reading bytes.now) }
+    ensures few { IfOk result (λ s. length s.tasks ≤ 32) }
+    ensures deadlines { IfOk result (λ s. All (λ t. t.deadline ≤ t.period) s.tasks) }
+{
+    set_of(alloc, bytes)
+}

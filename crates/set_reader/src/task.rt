@@ -1,0 +1,103 @@
+ghost use Rattle.std.specs.Prelude.{◌≡◌, codes, string_bytes, None};
+ghost use Rattle.toml.specs.View.{table_view};
+ghost use Rattle.toml_keys.specs.Reading.{Gives, all_known, required, optional};
+ghost use Rattle.crpd_base.specs.declared.data.Place.TheVariants.{Number};
+ghost use Rattle.set_reader.specs.Kinds as kind;
+ghost use Rattle.set_reader.specs.Reading as spec;
+
+use crate::fault::SetError;
+use crate::kinds::{file, name, place};
+use crate::loops::loops_at;
+use crpd_base::{Items, Place, TaskSpec, Text};
+use std::alloc::Global;
+use toml::Table;
+use toml_keys::{KeyError, Keys, item_path};
+
+const KEYS: [&str; 9] = [
+    "name", "file", "entry", "period", "deadline", "jitter", "stack", "global", "loop",
+];
+
+#[tactic(auto, unfolding(crate::specs::Reading::task_keys))]
+fn all_known(alloc: Global, keys: Keys) -> Result<(), KeyError>
+    ensures { Gives KeyError.Memory (λ x. x) result (all_known spec.task_keys keys.entry.path.now (table_view keys.entry.table.now)) }
+{
+    keys.all_known(alloc, &KEYS)
+}
+
+const LONGEST: u64 = 1 << 40;
+
+#[tactic(auto, using(toml_keys::proofs::Seen::good_seen), unfolding(toml_keys::specs::Reading::required))]
+fn name_at(alloc: Global, keys: Keys) -> Result<String, KeyError>
+    ensures { Gives KeyError.Memory string_bytes result (required kind.name keys.entry.path.now (codes "name") (table_view keys.entry.table.now)) }
+{
+    let value = keys.present(alloc, "name")?;
+    keys.good(alloc, "name", name(alloc, value)?)
+}
+
+#[tactic(auto, using(toml_keys::proofs::Seen::good_seen), unfolding(toml_keys::specs::Reading::required))]
+fn file_at(alloc: Global, keys: Keys) -> Result<String, KeyError>
+    ensures { Gives KeyError.Memory string_bytes result (required kind.file keys.entry.path.now (codes "file") (table_view keys.entry.table.now)) }
+{
+    let value = keys.present(alloc, "file")?;
+    keys.good(alloc, "file", file(alloc, value)?)
+}
+
+#[tactic(auto, unfolding(toml_keys::specs::Reading::optional))]
+fn entry_at(alloc: Global, keys: Keys) -> Result<Option<Place>, KeyError>
+    ensures { Gives KeyError.Memory (λ x. x) result (optional None spec.entry_place keys.entry.path.now (codes "entry") (table_view keys.entry.table.now)) }
+{
+    match keys.get("entry") {
+        None => Ok(None),
+        Some(value) => Ok(Some(keys.good(alloc, "entry", place(alloc, value)?)?)),
+    }
+}
+
+/// A place, the number 0 where the key is absent.
+#[tactic(auto, unfolding(toml_keys::specs::Reading::optional))]
+fn place_or_zero(alloc: Global, keys: Keys, key: &str) -> Result<Place, KeyError>
+    ensures { Gives KeyError.Memory (λ x. x) result (optional (Number 0) kind.place keys.entry.path.now key.now (table_view keys.entry.table.now)) }
+{
+    match keys.get(key) {
+        None => Ok(Place::Number(0)),
+        Some(value) => keys.good(alloc, key, place(alloc, value)?),
+    }
+}
+
+/// What the keys of a task say.
+#[tactic(auto, unfolding(crate::specs::Reading::fields_at))]
+fn fields_at(alloc: Global, keys: Keys) -> Result<TaskSpec, KeyError>
+    ensures { Gives KeyError.Memory (λ x. x) result (spec.fields_at keys.entry.path.now (table_view keys.entry.table.now)) }
+{
+    all_known(alloc, keys)?;
+    Ok(TaskSpec {
+        name: Text::new(name_at(alloc, keys)?),
+        file: Text::new(file_at(alloc, keys)?),
+        entry: entry_at(alloc, keys)?,
+        period: keys.number(alloc, "period", 1, LONGEST)?,
+        deadline: keys.number(alloc, "deadline", 1, LONGEST)?,
+        jitter: keys.number(alloc, "jitter", 0, LONGEST)?,
+        stack: place_or_zero(alloc, keys, "stack")?,
+        global: place_or_zero(alloc, keys, "global")?,
+        loops: Items::new(loops_at(alloc, keys)?),
+    })
+}
+
+/// The task at a place.
+#[tactic(auto, unfolding(crate::specs::Reading::task_at))]
+pub fn task_at(alloc: Global, place: usize, table: &Table) -> Result<TaskSpec, SetError>
+    ensures { Gives SetError.Memory (λ x. x) result (spec.task_at place (table_view table.now)) }
+{
+    let mut path = item_path(alloc, "", "task", place)?;
+    let task = fields_at(
+        alloc,
+        Keys {
+            table,
+            path: path.as_str(),
+        },
+    )?;
+    if task.deadline > task.period {
+        path.push_str("deadline")?;
+        return Err(SetError::DeadlineAfterPeriod(Text::new(path)));
+    }
+    Ok(task)
+}

@@ -1,0 +1,31 @@
+-- What holds after the judge's yes.
+use Rattle.std.specs.Prelude.{◌≡◌, ◌≢◌, ◌⊎◌, ℕ, ◌+◌, ◌<◌, ◌≤◌, false, length, Some}
+use Rattle.crpd_base.specs.declared.data.TaskSet.{TaskSet}
+use Rattle.cert_check.specs.Certificate.{CertificateView}
+use Rattle.cert_check.specs.Judge.{TaskGraph, cert_at, IsYes, responses}
+use Rattle.preempt_machine.specs.Machine.{System}
+use Rattle.preempt_machine.specs.Step.{is_open, candidate, Start, state}
+use Rattle.preempt_machine.specs.Safe.{IsSafe, IsRunOf, IsKept, IsAnsweredBy}
+use Rattle.run_account.specs.Fetches.{job_of}
+use Rattle.run_account.specs.Nodes.{task_of}
+use Rattle.sound_laws.specs.Walks.{IsInRange, IsCodeOf}
+
+-- after a yes the set with its code and the reported responses is safe
+abbrev pub YesIsSafe : Type 0
+YesIsSafe =
+    (sys : System) (set : TaskSet) (graphs : ℕ → TaskGraph) (c : CertificateView) →
+    IsInRange set → IsCodeOf sys set graphs → IsYes set graphs c → IsSafe sys set (responses c)
+
+-- from its first step as the candidate on, a job is the candidate of so many steps, or over
+pub record IsUndisturbed (s : Start) (x first steps : ℕ) : Type 0 where
+  pub starts : candidate s.system (state s first) ≡ Some x
+  pub first_time : (n : ℕ) → n < first → candidate s.system (state s n) ≢ Some x
+  pub alone : (n : ℕ) → first ≤ n → n < first + steps → (candidate s.system (state s n) ≡ Some x) ⊎ (is_open (job_of s n x).standing ≡ false)
+
+-- after a yes, in a kept run, legal or not, an undisturbed job answers within its switch and its bound
+abbrev pub UndisturbedBound : Type 0
+UndisturbedBound =
+    (s : Start) (set : TaskSet) (graphs : ℕ → TaskGraph) (c : CertificateView) (n x first : ℕ) →
+    IsInRange set → IsCodeOf s.system set graphs → IsYes set graphs c → IsRunOf set s → IsKept (state s n) → x < length s.lines →
+    let steps = s.system.platform.switch + (cert_at c (task_of s x)).bound in
+    first + steps ≤ n → IsUndisturbed s x first steps → IsAnsweredBy (first + steps) (job_of s n x).standing

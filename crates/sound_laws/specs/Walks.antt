@@ -1,0 +1,69 @@
+-- The nodes of a job's fetches, and that they are a kept walk of its task's graph.
+use Rattle.std.specs.Prelude.{◌≡◌, ◌≢◌, ℕ, zero, suc, ◌+◌, ◌<◌, ◌≤◌, true, ◌==◌, if◌then◌else◌, List, [], ◌∷◌, length, drop, Option, Some, None}
+use Rattle.crpd_base.specs.declared.data.TaskPlan.{TaskPlan}
+use Rattle.crpd_base.specs.declared.data.TaskSet.{TaskSet}
+use Rattle.rv_decode.specs.Address.{end}
+use Rattle.rv_decode.specs.Flow.{Words, flows}
+use Rattle.script_reader.specs.Legal.{period_of}
+use Rattle.flow_watch.specs.Watch.{Frame, is_kept}
+use Rattle.flat_graph.specs.Graph.{IsWalk}
+use Rattle.loop_regions.specs.Nest.{IsKept}
+use Rattle.loop_regions.specs.Watched.{IsWatchedWalk}
+use Rattle.cert_check.specs.Judge.{TaskGraph, IsGraphOf, deadline_of}
+use Rattle.preempt_machine.specs.Machine.{System, Job, plan_of}
+use Rattle.preempt_machine.specs.Step.{is_open, Fetch, Start, fetch_at}
+use Rattle.preempt_machine.specs.Safe.{NamesTasks}
+use Rattle.run_account.specs.Fetches.{job_of}
+use Rattle.run_account.specs.Nodes.{task_of, plan_at, node_of}
+
+-- what the ranges of a task set give
+pub record IsInRange (set : TaskSet) : Type 0 where
+  pub hit : 1 ≤ set.platform.hit
+  pub sets : 1 ≤ set.platform.sets
+  pub periods : (k : ℕ) → k < length set.tasks → 1 ≤ period_of set k
+  pub deadlines : (k : ℕ) → k < length set.tasks → deadline_of set k ≤ period_of set k
+
+-- what a code map gives: each word ends at or before the address at which jobs end
+abbrev pub IsCodeMap : Words → Type 0
+IsCodeMap words = (a w : ℕ) → words a ≡ Some w → a + 4 ≤ end
+
+-- the system runs the set on its code, of which these are the tasks' graphs
+pub record IsCodeOf (sys : System) (set : TaskSet) (graphs : ℕ → TaskGraph) : Type 0 where
+  pub platform : sys.platform ≡ set.platform
+  pub map : IsCodeMap sys.word
+  pub graphs_of : (k : ℕ) → k < length set.tasks → IsGraphOf sys.word (plan_of sys k) (graphs k)
+
+-- the nodes before the job's own node, of which it may be in the middle, where these are the nodes of its fetches
+abbrev pub before_of : Job → List ℕ → List ℕ
+before_of job nodes = if job.left == 0 then nodes else drop 1 nodes
+
+-- a job stands at a node to which its fetches lead, with the open loops and counts of the walk
+pub record IsOnWalk (words : Words) (plan : TaskPlan) (t : TaskGraph) (job : Job) (nodes : List ℕ) : Type 0 where
+  pub frames : List Frame
+  pub watch : job.watch ≡ Some frames
+  pub walked : IsWatchedWalk (flows words) plan t.graph t.places t.nest (node_of t job) (before_of job nodes) job.pc frames
+  pub under_way : job.left ≢ 0 → nodes ≡ node_of t job ∷ before_of job nodes
+
+-- no node yet, or a kept walk
+abbrev pub IsNoneOrKeptWalk : TaskGraph → List ℕ → Type 0
+IsNoneOrKeptWalk t [] = Unit {0}
+IsNoneOrKeptWalk t (y ∷ before) = IsWalk t.graph (y ∷ before) × IsKept t.nest (y ∷ before)
+
+-- a fetch of a job adds its node
+abbrev pub fetched_by : Start → (ℕ → TaskGraph) → ℕ → ℕ → Option Fetch → List ℕ → List ℕ
+fetched_by s graphs n x None before = before
+fetched_by s graphs n x (Some f) before = if f.job == x then node_of (graphs (task_of s x)) (job_of s n x) ∷ before else before
+
+-- the nodes of the job's fetches in the first n steps, the last one first
+abbrev pub fetched_nodes : Start → (ℕ → TaskGraph) → ℕ → ℕ → List ℕ
+fetched_nodes s graphs zero x = []
+fetched_nodes s graphs (suc n) x = fetched_by s graphs n x (fetch_at s n) (fetched_nodes s graphs n x)
+
+-- while its watch is not broken, each job's fetches are a kept walk, and an open job goes on from it
+abbrev pub FetchesAreKeptWalk : Type 0
+FetchesAreKeptWalk =
+    (s : Start) (set : TaskSet) (graphs : ℕ → TaskGraph) (n x : ℕ) →
+    IsInRange set → IsCodeOf s.system set graphs → NamesTasks set s.lines → x < length s.lines →
+    is_kept (job_of s n x).watch ≡ true →
+    IsNoneOrKeptWalk (graphs (task_of s x)) (fetched_nodes s graphs n x)
+    × (is_open (job_of s n x).standing ≡ true → IsOnWalk s.system.word (plan_at s x) (graphs (task_of s x)) (job_of s n x) (fetched_nodes s graphs n x))

@@ -1,0 +1,154 @@
+ghost use Rattle.std.specs.Prelude.{◌≡◌, ℕ, ◌++◌, ◌≤◌, length, map, option_map, option_copied, string_bytes, None, IfOk};
+ghost use Rattle.toml.specs.Data.{get_member};
+ghost use Rattle.toml.specs.View.{view, table_view};
+ghost use Rattle.toml_keys.specs.Reading as spec;
+ghost use Rattle.toml_keys.specs.Reading.{Gives};
+
+use crate::fault::KeyError;
+use crate::kinds::whole;
+use crpd_base::Text;
+use std::alloc::{AllocError, Global};
+use toml::{Table, Value};
+
+/// The path of a key: that of its table, and the key.
+pub fn key_path(alloc: Global, path: &str, key: &str) -> Result<Text, AllocError>
+    ensures { IfOk result (λ t. t ≡ path.now ++ key.now) }
+{
+    let mut text = String::from_str(alloc, path)?;
+    text.push_str(key)?;
+    Ok(Text::new(text))
+}
+
+/// The path of the table at a place in the list at a key.
+pub fn item_path(alloc: Global, path: &str, key: &str, place: usize) -> Result<String, AllocError>
+    ensures { IfOk result (λ s. string_bytes s ≡ spec.item_path path.now key.now place) }
+{
+    format!(in alloc; "{path}{key}.{place}.")
+}
+
+/// Whether a key is one of these.
+fn is_listed(key: &str, keys: &[&str]) -> bool
+    ensures { result ≡ spec.is_listed key.now (map (λ k. k.now) keys.now) }
+{
+    for k in keys {
+        if key == *k {
+            return true;
+        }
+    }
+    false
+}
+
+/// The lesser of two texts by bytes.
+fn lesser<'a>(least: Option<&'a str>, key: &'a str) -> Option<&'a str>
+    ensures { option_map (λ k. k.now) result ≡ spec.lesser (option_map (λ k. k.now) least.entry) key.now }
+{
+    match least {
+        Some(other) if key >= other => Some(other),
+        _ => Some(key),
+    }
+}
+
+/// The least key of a table, by bytes, that is not one of these.
+fn least_unknown<'a>(table: &'a Table, keys: &[&str]) -> Option<&'a str>
+    ensures { option_map (λ k. k.now) result ≡ spec.least_unknown (map (λ k. k.now) keys.now) None (table_view table.now) }
+{
+    let mut least: Option<&'a str> = None;
+    for (key, _) in table {
+        let key = key.as_str();
+        if !is_listed(key, keys) {
+            least = lesser(least, key);
+        }
+    }
+    least
+}
+
+/// A table that is read, and the path of its keys.
+#[derive(Clone, Copy)]
+pub struct Keys<'a> {
+    pub table: &'a Table,
+    pub path: &'a str,
+}
+
+impl<'a> Keys<'a> {
+    /// The value at a key.
+    pub fn get(&self, key: &str) -> Option<&'a Value>
+        ensures { option_map (λ v. view v.now) result ≡ get_member key.now (table_view self.now.table.now) }
+    {
+        self.table.get(key)
+    }
+
+    /// The value at a key that has to be there.
+    pub fn present(&self, alloc: Global, key: &str) -> Result<&'a Value, KeyError>
+        ensures { Gives KeyError.Memory (λ v. view v.now) result (spec.present self.now.path.now key.now (table_view self.now.table.now)) }
+    {
+        match self.get(key) {
+            Some(value) => Ok(value),
+            None => Err(KeyError::Missing(key_path(alloc, self.path, key)?)),
+        }
+    }
+
+    /// What was read from the value at a key, which is bad where nothing was.
+    pub fn good<T: Drop>(&self, alloc: Global, key: &str, read: Option<T>) -> Result<T, KeyError>
+        ensures { Gives KeyError.Memory (λ x. x) result (spec.good self.now.path.now key.now read) }
+    {
+        match read {
+            Some(x) => Ok(x),
+            None => Err(KeyError::BadValue(key_path(alloc, self.path, key)?)),
+        }
+    }
+
+    /// Each key is one of these.
+    #[tactic(auto, unfolding(crate::specs::Reading::all_known))]
+    pub fn all_known(&self, alloc: Global, keys: &[&str]) -> Result<(), KeyError>
+        ensures { Gives KeyError.Memory (λ x. x) result (spec.all_known (map (λ k. k.now) keys.now) self.now.path.now (table_view self.now.table.now)) }
+    {
+        match least_unknown(self.table, keys) {
+            None => Ok(()),
+            Some(key) => Err(KeyError::UnknownKey(key_path(alloc, self.path, key)?)),
+        }
+    }
+
+    /// A required whole number in a range.
+    #[tactic(auto, unfolding(crate::specs::Reading::required))]
+    pub fn number(&self, alloc: Global, key: &str, low: u64, high: u64) -> Result<u64, KeyError>
+        ensures is { Gives KeyError.Memory (λ x. x) result (spec.required (spec.whole low high) self.now.path.now key.now (table_view self.now.table.now)) }
+        ensures bound { IfOk result (λ n. n ≤ high) }
+    {
+        let value = self.present(alloc, key)?;
+        self.good(alloc, key, whole(value, low, high))
+    }
+
+    /// A required whole number in a range of `u32`.
+    pub fn small_number(
+        &self,
+        alloc: Global,
+        key: &str,
+        low: u32,
+        high: u32,
+    ) -> Result<u32, KeyError>
+        ensures { Gives KeyError.Memory (λ x. x) result (spec.required (spec.whole low high) self.now.path.now key.now (table_view self.now.table.now)) }
+    {
+        let number = self.number(alloc, key, u64::from(low), u64::from(high))?;
+        Ok(number as u32)
+    }
+
+    /// An optional number of `u32`, 0 where it is absent.
+    #[tactic(auto, unfolding(crate::specs::Reading::optional))]
+    pub fn number_or_zero(
+        &self,
+        alloc: Global,
+        key: &str,
+        low: u32,
+        high: u32,
+    ) -> Result<u32, KeyError>
+        ensures { Gives KeyError.Memory (λ x. x) result (spec.optional 0 (spec.whole low high) self.now.path.now key.now (table_view self.now.table.now)) }
+    {
+        match self.get(key) {
+            None => Ok(0),
+            Some(value) => {
+                let number = self.good(alloc, key, whole(value, u64::from(low), u64::from(high)))?;
+                Ok(number as u32)
+            }
+        }
+    }
+}
