@@ -2,6 +2,7 @@ ghost use Rattle.std.specs.Prelude.{◌≡◌, ◌≤◌, All, [], ◌++◌, cod
 ghost use Rattle.toml.specs.Data.{as_table};
 ghost use Rattle.toml.specs.View.{view, table_view};
 ghost use Rattle.toml_keys.specs.Reading.{Gives, all_known, required, each};
+ghost use Rattle.crpd_base.specs.Ranges.{IsTaskSet};
 ghost use Rattle.set_reader.specs.Reading as spec;
 ghost use Rattle.set_reader.specs.Reading.{reading};
 
@@ -147,11 +148,12 @@ fn set_of(alloc: Global, bytes: &[u8]) -> Result<TaskSet, SetError>
     }
 }
 
-/// Reads a task set. What it gives, and its first refusal, are those of `reading`.
+/// Reads a task set from the TOML text in the bytes. What it gives, and its first refusal, are those of `reading`.
 pub fn read_set(alloc: Global, bytes: &[u8]) -> Result<TaskSet, SetError>
     ensures exact { Gives SetError.Memory (λ x. x) result (reading bytes.now) }
-    ensures few { IfOk result (λ s. length s.tasks ≤ 32) }
-    ensures deadlines { IfOk result (λ s. All (λ t. t.deadline ≤ t.period) s.tasks) }
+
+    // What the layers above need of a set: its ranges, and that its tasks have names of their own.
+    ensures ranges { IfOk result IsTaskSet }
 {
     set_of(alloc, bytes)
 }

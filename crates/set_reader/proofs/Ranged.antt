@@ -1,0 +1,312 @@
+-- What a set that was read keeps: the ranges of its numbers, and that its tasks have names of their own.
+use Rattle.std.proofs.Common.{◌≡◌, ◌≢◌, ◌⊎◌, ℕ, ◌≤◌, ◌<◌, ◌^◌, Bool, true, false, cond, nat_lt, nat_le, List, [], ◌∷◌, ◌++◌, length, codes, Option, Some, None, Result, Ok, Err, refl, sym, ap, subst, arith, inl, inr, get_or, pos}
+use Rattle.std.specs.Prelude.{All, AllPairs, IfOk}
+use Rattle.std.specs.List.{AllByRecursion}
+use Rattle.std.specs.Str.{is_utf8, bytes_eq}
+use Rattle.std.proofs.lemmas.Bool.{cases_Bool, ltb-false, leb-true}
+use Rattle.std.proofs.lemmas.List.{append_assoc, append-nil}
+use Rattle.std.proofs.lemmas.List.Elements.{All-from_recursion}
+use Rattle.std.proofs.lemmas.List.Folds.{list_any_at}
+use Rattle.std.proofs.lemmas.List.Quantifiers.{all_pairs_push}
+use Rattle.std.proofs.lemmas.Slice.Eq.{bytes_eq-Decides}
+use Rattle.crpd_base.specs.declared.data.Platform.{Platform}
+use Rattle.crpd_base.specs.declared.data.LoopSpec.{LoopSpec}
+use Rattle.crpd_base.specs.declared.data.TaskSet.{TaskSet}
+use Rattle.crpd_base.specs.declared.data.TaskSpec.{TaskSpec}
+use Rattle.crpd_base.specs.declared.data.Place.TheVariants.{Number}
+use Rattle.crpd_base.specs.declared.data.Switching.TheVariants.{Cycle}
+use Rattle.crpd_base.specs.Ranges.{IsPlatform, IsLoopSpec, IsTaskSpec, HaveOwnNames, IsTaskSet}
+use Rattle.toml.specs.Data.{Data, integer, Members, as_table, get_member}
+use Rattle.toml.specs.Parse.{parse_document}
+use Rattle.toml_keys.specs.declared.fault.KeyError.{KeyError}
+use Rattle.toml_keys.specs.Reading.{Gives, all_known, required, optional, whole, listed, each, item_path, present, good, at_most}
+use Rattle.toml_keys.proofs.Laws.{bind_ok, guard_ok, ok_is, each_all, each_length}
+use Rattle.set_reader.specs.Kinds as kind
+use Rattle.set_reader.specs.declared.fault.SetError.{SetError}
+use Rattle.set_reader.specs.declared.fault.SetError.TheVariants.{Memory, TooManyTasks, DeadlineAfterPeriod}
+use Rattle.set_reader.specs.Reading.{of_set, cycles, fields_at, task_at, told, distinct, task_tables, tasks_at, set_keys, platform_keys, platform_at, loop_keys, loop_at, nth_loop, loop_tables, loops_at, task_keys, entry_place, occurs, repeated_after, set_at, document, reading}
+
+-- ---- numbers
+
+-- n lies between the two
+pub record IsBetween (low high n : ℕ) : Type 0 where
+  pub reaches : low ≤ n
+  pub within : n ≤ high
+
+whole_between : (low high : ℕ) (d : Data) (n : ℕ) → whole low high d ≡ Some n → IsBetween low high n
+whole_between low high (integer (pos m)) n e =
+    elim (cases_Bool (nat_le low m)) [
+      | inl a ↦ elim (cases_Bool (nat_le m high)) [
+        | inl b ↦ let f = rw (a, b) at e in
+            let same : m ≡ n = cc in
+            subst (IsBetween low high) same (record { reaches = leb-true _ _ a; within = leb-true _ _ b })
+        | inr b ↦ absurd (let f = rw (a, b) at e in cc)
+      ]
+      | inr a ↦ absurd (let f = rw a at e in cc)
+    ]
+whole_between low high d n e = absurd cc
+
+good_ok : {A : Type 0} (path key : List ℕ) (o : Option A) (x : A) → good path key o ≡ Ok x → o ≡ Some x
+good_ok path key None x e = absurd cc
+good_ok path key (Some y) x e = ap (λ v. Some v) (ok_is y x e)
+
+-- the value of a key's kind
+required_ok : {A : Type 0} (read : Data → Option A) (path key : List ℕ) (ms : Members) (x : A) → required read path key ms ≡ Ok x → (d : Data) × (read d ≡ Some x)
+unfolding required
+required_ok read path key ms x e =
+    let d = bind_ok (present path key ms) _ x e in
+    (d.0, good_ok path key (read d.0) x d.2)
+
+optional_by : {A : Type 0} (default : A) (read : Data → Option A) (path key : List ℕ) (o : Option Data) (x : A) → ◌≡◌ {A = Result A KeyError} (elim o [ None ↦ Ok default | Some d ↦ good path key (read d) ]) (Ok x) → (default ≡ x) ⊎ ((d : Data) × (read d ≡ Some x))
+optional_by default read path key None x e = inl (ok_is default x e)
+optional_by default read path key (Some d) x e = inr (d, good_ok path key (read d) x e)
+
+optional_ok : {A : Type 0} (default : A) (read : Data → Option A) (path key : List ℕ) (ms : Members) (x : A) → optional default read path key ms ≡ Ok x → (default ≡ x) ⊎ ((d : Data) × (read d ≡ Some x))
+unfolding optional
+optional_ok default read path key ms x e = optional_by default read path key (get_member key ms) x e
+
+required_between : (low high : ℕ) (path key : List ℕ) (ms : Members) (n : ℕ) → required (whole low high) path key ms ≡ Ok n → IsBetween low high n
+required_between low high path key ms n e =
+    let d = required_ok (whole low high) path key ms n e in
+    whole_between low high d.0 n d.1
+
+optional_within : (high : ℕ) (path key : List ℕ) (ms : Members) (n : ℕ) → optional 0 (whole 0 high) path key ms ≡ Ok n → n ≤ high
+optional_within high path key ms n e =
+    elim (optional_ok 0 (whole 0 high) path key ms n e) [
+      | inl zero ↦ omega (arith, zero)
+      | inr d ↦ (whole_between 0 high d.0 n d.1).within
+    ]
+
+only_ok : {A : Type 0} (test : A → Bool) (o : Option A) (x : A) → kind.only test o ≡ Some x → o ≡ Some x
+only_ok test None x e = absurd cc
+only_ok test (Some y) x e =
+    elim (cases_Bool (test y)) [
+      | inl passes ↦ rw passes at e
+      | inr fails ↦ absurd (let f = rw fails at e in cc)
+    ]
+
+line_between : (d : Data) (n : ℕ) → kind.line d ≡ Some n → IsBetween 4 64 n
+unfolding kind.line
+line_between d n e = whole_between 4 64 d n (only_ok kind.is_line (whole 4 64 d) n e)
+
+-- ---- the platform
+
+platform_ranged : (path : List ℕ) (ms : Members) (p : Platform) → platform_at path ms ≡ Ok p → IsPlatform p
+unfolding platform_at
+platform_ranged path ms p e =
+    let known = bind_ok (all_known platform_keys path ms) _ p e in
+    let line = bind_ok (required kind.line path (codes "line") ms) _ p known.2 in
+    let sets = bind_ok (required (whole 1 512) path (codes "sets") ms) _ p line.2 in
+    let hit = bind_ok (required (whole 1 65535) path (codes "hit") ms) _ p sets.2 in
+    let miss = bind_ok (required cycles path (codes "miss") ms) _ p hit.2 in
+    let memory = bind_ok (required cycles path (codes "data") ms) _ p miss.2 in
+    let taken = bind_ok (required cycles path (codes "taken") ms) _ p memory.2 in
+    let switch = bind_ok (required cycles path (codes "switch") ms) _ p taken.2 in
+    let mul = bind_ok (optional 0 cycles path (codes "mul") ms) _ p switch.2 in
+    let div = bind_ok (optional 0 cycles path (codes "div") ms) _ p mul.2 in
+    let switching = bind_ok (optional Cycle kind.switching path (codes "switching") ms) _ p div.2 in
+    let line_kind = required_ok kind.line path (codes "line") ms line.0 line.1 in
+    let of_line = line_between line_kind.0 line.0 line_kind.1 in
+    let of_sets = required_between 1 512 path (codes "sets") ms sets.0 sets.1 in
+    let of_hit = required_between 1 65535 path (codes "hit") ms hit.0 hit.1 in
+    subst IsPlatform (ok_is _ p switching.2)
+    (record {
+      line = (of_line.reaches, of_line.within);
+      sets = (of_sets.reaches, of_sets.within);
+      hit = (of_hit.reaches, of_hit.within);
+      miss = (required_between 0 65535 path (codes "miss") ms miss.0 miss.1).within;
+      memory = (required_between 0 65535 path (codes "data") ms memory.0 memory.1).within;
+      taken = (required_between 0 65535 path (codes "taken") ms taken.0 taken.1).within;
+      switch = (required_between 0 65535 path (codes "switch") ms switch.0 switch.1).within;
+      mul = optional_within 65535 path (codes "mul") ms mul.0 mul.1;
+      div = optional_within 65535 path (codes "div") ms div.0 div.1;
+    })
+
+-- ---- loops
+
+loop_ranged : (path : List ℕ) (ms : Members) (l : LoopSpec) → loop_at path ms ≡ Ok l → IsLoopSpec l
+unfolding loop_at
+loop_ranged path ms l e =
+    let known = bind_ok (all_known loop_keys path ms) _ l e in
+    let head = bind_ok (required kind.place path (codes "head") ms) _ l known.2 in
+    let bound = bind_ok (required (whole 1 1000000) path (codes "bound") ms) _ l head.2 in
+    let ranges = bind_ok (required (listed kind.range) path (codes "range") ms) _ l bound.2 in
+    let of_bound = required_between 1 1000000 path (codes "bound") ms bound.0 bound.1 in
+    subst IsLoopSpec (ok_is _ l ranges.2) (of_bound.reaches, of_bound.within)
+
+at_most_ok : {A : Type 0} (n : ℕ) (o : Option (List A)) (xs : List A) → at_most n o ≡ Some xs → length xs ≤ n
+at_most_ok n None xs e = absurd cc
+at_most_ok n (Some ys) xs e =
+    elim (cases_Bool (nat_le (length ys) n)) [
+      | inl fits ↦ let f = rw fits at e in
+          let same : ys ≡ xs = cc in
+          subst (λ l. length l ≤ n) same (leb-true _ _ fits)
+      | inr long ↦ absurd (let f = rw long at e in cc)
+    ]
+
+pub record AreLoops (loops : List LoopSpec) : Type 0 where
+  pub few : length loops ≤ 64
+  pub each : AllByRecursion IsLoopSpec loops
+
+loops_ranged : (path : List ℕ) (ms : Members) (loops : List LoopSpec) → loops_at path ms ≡ Ok loops → AreLoops loops
+unfolding loops_at
+loops_ranged path ms loops e =
+    let tables = bind_ok (optional [] loop_tables path (codes "loop") ms) _ loops e in
+    let few : length tables.0 ≤ 64 =
+    elim (optional_ok [] loop_tables path (codes "loop") ms tables.0 tables.1) [
+      | inl none ↦ subst (λ (l : List Members). length l ≤ 64) none (omega arith)
+      | inr d ↦ at_most_ok 64 (listed as_table d.0) tables.0 d.1
+    ] in
+    let same : length loops ≡ length tables.0 = each_length (nth_loop path) 0 tables.0 loops tables.2 in
+    record {
+      few = omega arith;
+      each = each_all IsLoopSpec (nth_loop path) (λ i ms l h. loop_ranged (item_path path (codes "loop") i) ms l h) 0 tables.0 loops tables.2;
+    }
+
+-- ---- tasks
+
+-- the ranges of a task's numbers, but for its deadline's
+pub record HasRanges (t : TaskSpec) : Type 0 where
+  pub period : IsBetween 1 (2 ^ 40) t.period
+  pub deadline : IsBetween 1 (2 ^ 40) t.deadline
+  pub jitter : t.jitter ≤ 2 ^ 40
+  pub loops : AreLoops t.loops
+
+fields_ranged : (path : List ℕ) (ms : Members) (t : TaskSpec) → fields_at path ms ≡ Ok t → HasRanges t
+unfolding fields_at
+fields_ranged path ms t e =
+    let known = bind_ok (all_known task_keys path ms) _ t e in
+    let name = bind_ok (required kind.name path (codes "name") ms) _ t known.2 in
+    let file = bind_ok (required kind.file path (codes "file") ms) _ t name.2 in
+    let entry = bind_ok (optional None entry_place path (codes "entry") ms) _ t file.2 in
+    let period = bind_ok (required (whole 1 (2 ^ 40)) path (codes "period") ms) _ t entry.2 in
+    let deadline = bind_ok (required (whole 1 (2 ^ 40)) path (codes "deadline") ms) _ t period.2 in
+    let jitter = bind_ok (required (whole 0 (2 ^ 40)) path (codes "jitter") ms) _ t deadline.2 in
+    let stack = bind_ok (optional (Number 0) kind.place path (codes "stack") ms) _ t jitter.2 in
+    let global = bind_ok (optional (Number 0) kind.place path (codes "global") ms) _ t stack.2 in
+    let loops = bind_ok (loops_at path ms) _ t global.2 in
+    subst HasRanges (ok_is _ t loops.2)
+    (record {
+      period = required_between 1 (2 ^ 40) path (codes "period") ms period.0 period.1;
+      deadline = required_between 1 (2 ^ 40) path (codes "deadline") ms deadline.0 deadline.1;
+      jitter = (required_between 0 (2 ^ 40) path (codes "jitter") ms jitter.0 jitter.1).within;
+      loops = loops_ranged path ms loops.0 loops.1;
+    })
+
+of_set_ok : {A : Type 0} (r : Result A KeyError) (x : A) → of_set r ≡ Ok x → r ≡ Ok x
+of_set_ok (Ok y) x e = ap (λ v. Ok v) (ok_is y x e)
+of_set_ok (Err d) x e = absurd cc
+
+task_ranged : (i : ℕ) (ms : Members) (t : TaskSpec) → task_at i ms ≡ Ok t → IsTaskSpec t
+unfolding task_at
+task_ranged i ms t e =
+    let fields = bind_ok (of_set (fields_at (item_path [] (codes "task") i) ms)) _ t e in
+    let test = guard_ok (nat_lt fields.0.period fields.0.deadline) (DeadlineAfterPeriod (item_path [] (codes "task") i ++ codes "deadline")) (Ok fields.0) t fields.2 in
+    let ranges = fields_ranged (item_path [] (codes "task") i) ms fields.0 (of_set_ok _ fields.0 fields.1) in
+    subst IsTaskSpec (ok_is fields.0 t test.1)
+    (record {
+      period = (ranges.period.reaches, ranges.period.within);
+      deadline = (ranges.deadline.reaches, ltb-false _ _ test.0);
+      jitter = ranges.jitter;
+      few_loops = ranges.loops.few;
+      loops = All-from_recursion IsLoopSpec fields.0.loops ranges.loops.each;
+    })
+
+-- ---- names
+
+not_occurring : (name : List ℕ) (tasks : List TaskSpec) → occurs name tasks ≡ false → (k : ℕ) (d : TaskSpec) → k < length tasks → (get_or tasks k d).name ≢ name
+not_occurring name tasks none k d lt same =
+    let found : bytes_eq name (get_or tasks k d).name ≡ true = (bytes_eq-Decides name (get_or tasks k d).name).1 (sym same) in
+    let any : occurs name tasks ≡ true = list_any_at (λ (t : TaskSpec). bytes_eq name t.name) tasks k d lt found in
+    cc
+
+names_apart : (earlier tasks : List TaskSpec) → AllPairs HaveOwnNames earlier → repeated_after earlier tasks ≡ None → AllPairs HaveOwnNames (earlier ++ tasks)
+names_apart earlier [] apart e = subst (λ l. AllPairs HaveOwnNames l) (sym (append-nil earlier)) apart
+names_apart earlier (t ∷ ts) apart e =
+    elim (cases_Bool (occurs t.name earlier)) [
+      | inl again ↦ absurd (let f = rw again at e in cc)
+      | inr new ↦ let f = rw new at e in
+          let more = all_pairs_push HaveOwnNames earlier t apart (not_occurring t.name earlier new) in
+          subst (λ l. AllPairs HaveOwnNames l) (append_assoc earlier (t ∷ []) ts) (names_apart (earlier ++ t ∷ []) ts more f)
+    ]
+
+told_none : (tasks : List TaskSpec) (o : Option ℕ) (xs : List TaskSpec) → told tasks o ≡ Ok xs → (o ≡ None) × (tasks ≡ xs)
+told_none tasks None xs e = (refl, ok_is tasks xs e)
+told_none tasks (Some i) xs e = absurd cc
+
+-- ---- the set
+
+pub record AreTasks (tasks : List TaskSpec) : Type 0 where
+  pub some : 1 ≤ length tasks
+  pub few : length tasks ≤ 32
+  pub each : All IsTaskSpec tasks
+  pub names : AllPairs HaveOwnNames tasks
+
+no_pairs : AllPairs HaveOwnNames []
+no_pairs i j d lt le = absurd (omega (arith, lt, le))
+
+distinct_ranged : (tasks xs : List TaskSpec) → 1 ≤ length tasks → length tasks ≤ 32 → AllByRecursion IsTaskSpec tasks → distinct tasks ≡ Ok xs → AreTasks xs
+unfolding distinct
+distinct_ranged tasks xs some few each e =
+    let own = told_none tasks (repeated_after [] tasks) xs e in
+    subst AreTasks own.1
+    (record { some = some; few = few; each = All-from_recursion IsTaskSpec tasks each; names = names_apart [] tasks no_pairs own.0 })
+
+some_by : (o : Option (List Members)) (ts : List Members) → kind.only (λ (l : List Members). nat_le 1 (length l)) o ≡ Some ts → 1 ≤ length ts
+some_by None ts e = absurd cc
+some_by (Some us) ts e =
+    elim (cases_Bool (nat_le 1 (length us))) [
+      | inl fits ↦ let f = rw fits at e in
+          let same : us ≡ ts = cc in
+          subst (λ (l : List Members). 1 ≤ length l) same (leb-true _ _ fits)
+      | inr none ↦ absurd (let f = rw none at e in cc)
+    ]
+
+some_tables : (d : Data) (ts : List Members) → task_tables d ≡ Some ts → 1 ≤ length ts
+some_tables d ts e = some_by (listed as_table d) ts e
+
+tasks_ranged : (ms : Members) (tasks : List TaskSpec) → tasks_at ms ≡ Ok tasks → AreTasks tasks
+unfolding tasks_at
+tasks_ranged ms tasks e =
+    let tables = bind_ok (of_set (required task_tables [] (codes "task") ms)) _ tasks e in
+    let read = bind_ok (cond (nat_lt 32 (length tables.0)) (Err (TooManyTasks (length tables.0))) (each task_at 0 tables.0)) distinct tasks tables.2 in
+    let test = guard_ok (nat_lt 32 (length tables.0)) (TooManyTasks (length tables.0)) (each task_at 0 tables.0) read.0 read.1 in
+    let short : length tables.0 ≤ 32 = ltb-false _ _ test.0 in
+    let listed_data = required_ok task_tables [] (codes "task") ms tables.0 (of_set_ok _ tables.0 tables.1) in
+    let some : 1 ≤ length tables.0 = some_tables listed_data.0 tables.0 listed_data.1 in
+    let same : length read.0 ≡ length tables.0 = each_length task_at 0 tables.0 read.0 test.1 in
+    distinct_ranged read.0 tasks (omega arith) (omega arith) (each_all IsTaskSpec task_at task_ranged 0 tables.0 read.0 test.1) read.2
+
+set_ranged : (ms : Members) (s : TaskSet) → set_at ms ≡ Ok s → IsTaskSet s
+unfolding set_at
+set_ranged ms s e =
+    let keys = bind_ok (of_set (all_known set_keys [] ms)) _ s e in
+    let table = bind_ok (of_set (required as_table [] (codes "platform") ms)) _ s keys.2 in
+    let platform = bind_ok (of_set (platform_at (codes "platform.") table.0)) _ s table.2 in
+    let tasks = bind_ok (tasks_at ms) _ s platform.2 in
+    let ranges = tasks_ranged ms tasks.0 tasks.1 in
+    subst IsTaskSet (ok_is (record { platform = platform.0; tasks = tasks.0 }) s tasks.2)
+    (record {
+      platform = platform_ranged (codes "platform.") table.0 platform.0 (of_set_ok _ platform.0 platform.1);
+      some = ranges.some;
+      few = ranges.few;
+      each = ranges.each;
+      names = ranges.names;
+    })
+
+document_ranged : (o : Option Members) (s : TaskSet) → document o ≡ Ok s → IsTaskSet s
+document_ranged None s e = absurd cc
+document_ranged (Some ms) s e = set_ranged ms s e
+
+reading_ranged : (bytes : List ℕ) (s : TaskSet) → reading bytes ≡ Ok s → IsTaskSet s
+unfolding reading
+reading_ranged bytes s e =
+    elim (cases_Bool (is_utf8 bytes)) [
+      | inl text ↦ document_ranged (parse_document bytes) s (rw text at e)
+      | inr not_text ↦ absurd (let f = rw not_text at e in cc)
+    ]
+
+-- a set that was read keeps the ranges of a task set
+pub found_ranged : (bytes : List ℕ) (r : Result TaskSet SetError) → Gives Memory (λ x. x) r (reading bytes) → IfOk r IsTaskSet
+found_ranged bytes (Ok s) h = reading_ranged bytes s h
+found_ranged bytes (Err e) h = tt
