@@ -1,8 +1,8 @@
 -- What an instruction costs.
-use Rattle.std.specs.Prelude.{ℕ, ◌+◌, Bool, if◌then◌else◌}
+use Rattle.std.specs.Prelude.{ℕ, ◌+◌, Bool, true, false, ◌&&◌, if◌then◌else◌}
 use Rattle.crpd_base.specs.declared.data.Platform.{Platform}
 use Rattle.rv_decode.specs.declared.Ins.{Ins}
-use Rattle.rv_decode.specs.declared.Ins.TheVariants.{Lb, Lh, Lw, Lbu, Lhu, Sb, Sh, Sw, Mul, Mulh, Mulhsu, Mulhu, Div, Divu, Rem, Remu}
+use Rattle.rv_decode.specs.declared.Ins.TheVariants.{Jal, Jalr, Beq, Bne, Blt, Bge, Bltu, Bgeu, Lb, Lh, Lw, Lbu, Lhu, Sb, Sh, Sw, Mul, Mulh, Mulhsu, Mulhu, Div, Divu, Rem, Remu}
 
 -- the cycles for what an instruction does: data for a load or a store, and those of a product or a quotient
 unfoldable pub work_cost : Platform → Ins → ℕ
@@ -24,6 +24,18 @@ work_cost p (Rem _ _ _) = p.div
 work_cost p (Remu _ _ _) = p.div
 work_cost p _ = 0
 
+-- whether it is a branch, JAL or JALR
+unfoldable pub changes_flow : Ins → Bool
+changes_flow (Jal _ _) = true
+changes_flow (Jalr _ _ _) = true
+changes_flow (Beq _ _ _) = true
+changes_flow (Bne _ _ _) = true
+changes_flow (Blt _ _ _) = true
+changes_flow (Bge _ _ _) = true
+changes_flow (Bltu _ _ _) = true
+changes_flow (Bgeu _ _ _) = true
+changes_flow _ = false
+
 -- the cost, where the fetch missed or hit, and where the next address is another than pc + 4 or not
 abbrev pub cost : Platform → Ins → Bool → Bool → ℕ
-cost p ins missed taken = p.hit + (if missed then p.miss else 0) + work_cost p ins + (if taken then p.taken else 0)
+cost p ins missed taken = p.hit + (if missed then p.miss else 0) + work_cost p ins + (if taken && changes_flow ins then p.taken else 0)
