@@ -38,6 +38,7 @@ same_meets p t pot one two u e m =
         inside = λ v i w n o it. subst (λ b. cost p (t.ins u) (not b) (not (t.places.address v == t.places.address u + 4)) + item_potential pot i ≤ pot.node u) e (m.edges.inside v i w n o it);
         exit = m.edges.exit;
       };
+      left = m.left;
       loop = m.loop;
     }
 

@@ -409,6 +409,7 @@ meets u l =
         inside = λ v i e n o it. inside_pays i u v e n o it;
         exit = λ v r i e n lv it. exit_pays i r u v e n lv.0 it;
       };
+      left = λ v r e lv. below_one (λ z. 3 * pots (graph.nest.head z) ≤ (potentials_of task_certificate).loop z) (omega arith) r lv.0;
       loop = λ r k e. below_one (λ z. 3 * pots u ≤ (potentials_of task_certificate).loop z) (subst (λ z. 3 * pots z ≤ 13) e (omega arith)) r k;
     }
 
