@@ -1,19 +1,11 @@
 -- Counts of jobs, in windows.
-use Rattle.std.specs.Prelude.{ℕ, ◌+◌, ◌-◌, ◌*◌, ◌/◌, Bool, ◌==◌, nat_lt, if◌then◌else◌}
+use Rattle.std.specs.Prelude.{ℕ, ◌+◌, ◌-◌, ◌*◌, ◌/◌, ◌==◌, nat_lt, if◌then◌else◌}
 use Rattle.crpd_base.specs.declared.data.TaskSet.{TaskSet}
-use Rattle.script_reader.specs.Legal.{period_of, jitter_of}
+use Rattle.crpd_base.specs.Tasks.{period_of, jitter_of}
 
 -- at most so many jobs of a task are released in a window: the window and the jitter by the period, rounded up
 abbrev pub jobs_in : ℕ → ℕ → ℕ → ℕ
 jobs_in period jitter window = (window + jitter + (period - 1)) / period
-
--- what is counted of a task: its execution bound, the cache sets that it evicts and that are useful to it, and its
--- longest cost of one instruction
-pub record Part : Type 0 where
-  pub bound : ℕ
-  pub evicts : ℕ → Bool
-  pub useful : ℕ → Bool
-  pub longest : ℕ
 
 -- jobs of task j in a window
 abbrev pub jobs_of : TaskSet → ℕ → ℕ → ℕ

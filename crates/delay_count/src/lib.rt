@@ -1,2 +1,10 @@
-//! Counts of jobs, the two delays, and demand: definitions.
+//! Counts of jobs, the two delays by evictions, and the demand of a window.
 #![tactic(auto)]
+
+mod choice;
+mod share;
+mod union;
+
+pub use choice::gamma_ecb;
+pub use share::Share;
+pub use union::gamma_ucb;
