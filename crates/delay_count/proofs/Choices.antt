@@ -7,7 +7,7 @@ use Rattle.std.proofs.lemmas.Bool.{cases_Bool, cases_eq, eq-eqb, ne_eqb, le-leb,
 use Rattle.crpd_base.specs.Sum.{sum_below}
 use Rattle.delay_count.specs.Gamma.{greatest_to, greatest_choice}
 use Rattle.delay_count.specs.Filling.{IsNextValue, counted_at, counted_from, worth_from}
-use Rattle.delay_count.proofs.Sums.{sum_most}
+use Rattle.delay_count.proofs.Sums.{sum_same, sum_most, sum_none}
 
 pub to_ge : (f : ℕ → ℕ) (n y : ℕ) → y ≤ n → f y ≤ greatest_to f n
 to_ge f zero y h = let e : y ≡ 0 = omega arith in let same : f y ≡ f 0 = ap f e in omega (arith, same)
@@ -221,3 +221,10 @@ pub counted_other : (value count : ℕ → ℕ) (n v found all : ℕ) → found 
 counted_other value count n v found all before ne same =
     let b : (value n == v) ≡ false = ne_eqb (value n) v ne in
     rw (add-one n, b) (omega arith)
+
+-- a greatest choice is at most the greatest value, for each of the budget
+pub choice_few : (value count : ℕ → ℕ) (most n budget : ℕ) → ((k : ℕ) → k < n → value k ≤ most) → greatest_choice value count n budget ≤ most * budget
+choice_few value count most n budget h =
+    let none : sum_below (λ k. count k * (value k - most)) n ≡ 0 =
+    sum_same (λ k. count k * (value k - most)) (λ k. 0) n (λ k l. let z : value k - most ≡ 0 = omega (arith, h k l) in ap (λ y. count k * y) z ∙ omega arith) ∙ sum_none n in
+    omega (arith, choice_priced value count most n budget, none)

@@ -1,5 +1,5 @@
 -- What the jobs of a window may demand.
-use Rattle.std.specs.Prelude.{ℕ, zero, suc, ◌+◌, ◌-◌, ◌*◌, max, nat_le, if◌then◌else◌, List, [], length, slice_index_or}
+use Rattle.std.specs.Prelude.{ℕ, zero, suc, ◌+◌, ◌-◌, ◌*◌, max, nat_le, if◌then◌else◌, ◌<◌, ◌≤◌, ◌^◌, List, length, slice_index}
 use Rattle.crpd_base.specs.declared.data.Part.{Part}
 use Rattle.crpd_base.specs.declared.data.Switching.{Switching}
 use Rattle.crpd_base.specs.declared.data.Switching.TheVariants.{Cycle, Instruction}
@@ -33,6 +33,7 @@ demand set parts longest window i method w =
     k + (parts i).bound + blocking set.platform.switching longest i (length set.tasks)
     + sum_below (λ j. jobs_of set j w * ((parts j).bound + (k + k)) + gamma set parts window w method i j) i
 
--- the part at a place of a list
-abbrev pub part_at : List Part → ℕ → Part
-part_at parts k = slice_index_or parts k (record { bound = 0; evicting = []; useful = [] })
+-- the longest cost of an instruction of each task
+pub record HasLongest (set : TaskSet) (longest : List ℕ) : Type 0 where
+  pub tasks : length set.tasks ≤ length longest
+  pub range : (k : ℕ) → k < length set.tasks → (1 ≤ slice_index longest k) × (slice_index longest k ≤ 2 ^ 20)

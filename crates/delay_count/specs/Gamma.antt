@@ -48,6 +48,10 @@ abbrev pub ecb_delay : {W : ℕ} → ℕ → ℕ → List ℕ → List (Share W)
 ecb_delay miss jobs evicting_up lower sets =
     miss * greatest_choice (λ k. shared_count (useful_at lower k) (has evicting_up) sets) (count_at lower) (length lower) jobs
 
+-- the part at a place of a list
+abbrev pub part_at : List Part → ℕ → Part
+part_at parts k = slice_index_or parts k (record { bound = 0; evicting = []; useful = [] })
+
 -- the UCB-union multiset count of task j in a window w of task i
 abbrev pub ucb_count : TaskSet → (ℕ → Part) → (ℕ → ℕ) → ℕ → ℕ → ℕ → ℕ
 ucb_count set parts window w i j =

@@ -2,9 +2,12 @@
 #![tactic(auto)]
 
 mod choice;
+mod jobs;
 mod share;
 mod union;
+mod window_demand;
 
 pub use choice::gamma_ecb;
 pub use share::Share;
 pub use union::gamma_ucb;
+pub use window_demand::demand;
