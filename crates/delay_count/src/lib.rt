@@ -3,11 +3,13 @@
 
 mod choice;
 mod jobs;
+mod laws;
 mod share;
 mod union;
 mod window_demand;
 
 pub use choice::gamma_ecb;
+pub use laws::growth_law;
 pub use share::Share;
 pub use union::gamma_ucb;
 pub use window_demand::demand;
