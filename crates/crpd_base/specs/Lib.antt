@@ -2,3 +2,4 @@ pub mod Numbers
 pub mod Sets
 pub mod Sum
 pub mod Ranges
+pub mod Tasks

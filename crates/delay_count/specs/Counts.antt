@@ -1,19 +1,11 @@
 -- Counts of jobs, in windows.
-use Rattle.std.specs.Prelude.{ℕ, ◌+◌, ◌-◌, ◌*◌, ◌/◌, Bool, ◌==◌, nat_lt, if◌then◌else◌}
+use Rattle.std.specs.Prelude.{◌<◌, ◌≤◌, ◌^◌, List, length, slice_index, ℕ, ◌+◌, ◌-◌, ◌*◌, ◌/◌, ◌==◌, nat_lt, if◌then◌else◌}
 use Rattle.crpd_base.specs.declared.data.TaskSet.{TaskSet}
-use Rattle.script_reader.specs.Legal.{period_of, jitter_of}
+use Rattle.crpd_base.specs.Tasks.{period_of, jitter_of, deadline_of}
 
 -- at most so many jobs of a task are released in a window: the window and the jitter by the period, rounded up
 abbrev pub jobs_in : ℕ → ℕ → ℕ → ℕ
 jobs_in period jitter window = (window + jitter + (period - 1)) / period
-
--- what is counted of a task: its execution bound, the cache sets that it evicts and that are useful to it, and its
--- longest cost of one instruction
-pub record Part : Type 0 where
-  pub bound : ℕ
-  pub evicts : ℕ → Bool
-  pub useful : ℕ → Bool
-  pub longest : ℕ
 
 -- jobs of task j in a window
 abbrev pub jobs_of : TaskSet → ℕ → ℕ → ℕ
@@ -26,3 +18,9 @@ preemptions set window w i j k = if k == i then jobs_of set j w else jobs_of set
 -- the same of the tasks that j can affect in a window of i: below j's priority, and at least i's
 abbrev pub affected : TaskSet → (ℕ → ℕ) → ℕ → ℕ → ℕ → ℕ → ℕ
 affected set window w i j k = if nat_lt j k then preemptions set window w i j k else 0
+
+-- a window of each task above task i, in its deadline with its jitter
+pub record HasWindows (set : TaskSet) (windows : List ℕ) (i : ℕ) : Type 0 where
+  pub tasks : i ≤ length windows
+  pub most : (k : ℕ) → k < i → slice_index windows k ≤ 2 ^ 40
+  pub in_deadline : (k : ℕ) → k < i → slice_index windows k + jitter_of set k ≤ deadline_of set k

@@ -1,12 +1,13 @@
 -- What the jobs of a window may demand.
-use Rattle.std.specs.Prelude.{ℕ, zero, suc, ◌+◌, ◌-◌, ◌*◌, max, nat_le, if◌then◌else◌}
+use Rattle.std.specs.Prelude.{ℕ, zero, suc, ◌+◌, ◌-◌, ◌*◌, max, nat_le, if◌then◌else◌, ◌<◌, ◌≤◌, ◌^◌, List, length, slice_index}
+use Rattle.crpd_base.specs.declared.data.Part.{Part}
 use Rattle.crpd_base.specs.declared.data.Switching.{Switching}
 use Rattle.crpd_base.specs.declared.data.Switching.TheVariants.{Cycle, Instruction}
 use Rattle.crpd_base.specs.declared.data.TaskSet.{TaskSet}
-use Rattle.crpd_base.specs.Sum.{sum_below}
 use Rattle.crpd_base.specs.declared.data.Method.{Method}
 use Rattle.crpd_base.specs.declared.data.Method.TheVariants.{Ucb, Ecb}
-use Rattle.delay_count.specs.Counts.{Part, jobs_of}
+use Rattle.crpd_base.specs.Sum.{sum_below}
+use Rattle.delay_count.specs.Counts.{jobs_of}
 use Rattle.delay_count.specs.Gamma.{gamma_ucb, gamma_ecb}
 
 -- the greatest of f i, .., f (n - 1), or 0
@@ -23,10 +24,16 @@ abbrev pub gamma : TaskSet → (ℕ → Part) → (ℕ → ℕ) → ℕ → Meth
 gamma set parts window w Ucb i j = gamma_ucb set parts window w i j
 gamma set parts window w Ecb i j = gamma_ecb set parts window w i j
 
--- the demand of a window w of task i, by a method, with the windows of the higher tasks: a switch, the bound, the
--- blocking, and for each higher task its jobs, each with its bound and two switches, and the delay by them
-abbrev pub demand : TaskSet → ℕ → (ℕ → Part) → (ℕ → ℕ) → ℕ → Method → ℕ → ℕ
-demand set tasks parts window i method w =
+-- the demand of a window w of task i, by a method, with the parts and the longest costs of the tasks and the windows of
+-- the higher ones: a switch, the bound, the blocking, and for each higher task its jobs, each with its bound and two
+-- switches, and the delay by them
+abbrev pub demand : TaskSet → (ℕ → Part) → (ℕ → ℕ) → (ℕ → ℕ) → ℕ → Method → ℕ → ℕ
+demand set parts longest window i method w =
     let k = set.platform.switch in
-    k + (parts i).bound + blocking set.platform.switching (λ h. (parts h).longest) i tasks
+    k + (parts i).bound + blocking set.platform.switching longest i (length set.tasks)
     + sum_below (λ j. jobs_of set j w * ((parts j).bound + (k + k)) + gamma set parts window w method i j) i
+
+-- the longest cost of an instruction of each task
+pub record HasLongest (set : TaskSet) (longest : List ℕ) : Type 0 where
+  pub tasks : length set.tasks ≤ length longest
+  pub range : (k : ℕ) → k < length set.tasks → (1 ≤ slice_index longest k) × (slice_index longest k ≤ 2 ^ 20)

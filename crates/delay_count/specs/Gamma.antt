@@ -1,32 +1,23 @@
 -- The UCB-union and the ECB-union multiset delays.
-use Rattle.std.specs.Prelude.{ℕ, zero, suc, ◌+◌, ◌-◌, ◌*◌, max, min, Bool, ◌&&◌, ◌||◌, nat_lt, if◌then◌else◌}
+use Rattle.std.specs.Prelude.{ℕ, zero, suc, ◌+◌, ◌-◌, ◌*◌, max, min, Bool, ◌&&◌, ◌||◌, if◌then◌else◌, List, [], length, map, slice_index, slice_index_or}
+use Rattle.crpd_base.specs.declared.data.Part.{Part}
 use Rattle.crpd_base.specs.declared.data.TaskSet.{TaskSet}
+use Rattle.crpd_base.specs.Sets.{has}
 use Rattle.crpd_base.specs.Sum.{sum_below}
-use Rattle.delay_count.specs.Counts.{Part, jobs_of, preemptions, affected}
+use Rattle.delay_count.specs.declared.share.Share.{Share}
+use Rattle.delay_count.specs.Counts.{jobs_of, affected}
 
--- of one cache set: the smaller of j's jobs in the window and of the preemptions of the affected tasks that find the
--- set useful
-abbrev pub set_share : TaskSet → (ℕ → Part) → (ℕ → ℕ) → ℕ → ℕ → ℕ → ℕ → ℕ
-set_share set parts window w i j c =
-    min (jobs_of set j w) (sum_below (λ k. if nat_lt j k && (parts k).useful c then preemptions set window w i j k else 0) (suc i))
+-- of one cache set: the smaller of the jobs and of the preemptions of those of some tasks that find the set useful
+abbrev pub set_share : ℕ → (ℕ → ℕ → Bool) → (ℕ → ℕ) → ℕ → ℕ → ℕ
+set_share jobs useful count tasks c = min jobs (sum_below (λ k. if useful k c then count k else 0) tasks)
 
--- the UCB-union multiset count: over the sets that task j evicts
-abbrev pub ucb_count : TaskSet → (ℕ → Part) → (ℕ → ℕ) → ℕ → ℕ → ℕ → ℕ
-ucb_count set parts window w i j =
-    sum_below (λ c. if (parts j).evicts c then set_share set parts window w i j c else 0) set.platform.sets
+-- the UCB-union multiset count: the shares of the sets, below a number, that are evicted
+unfoldable pub union_count : ℕ → (ℕ → Bool) → (ℕ → ℕ → Bool) → (ℕ → ℕ) → ℕ → ℕ → ℕ
+union_count jobs evicts useful count tasks sets = sum_below (λ c. if evicts c then set_share jobs useful count tasks c else 0) sets
 
-abbrev pub gamma_ucb : TaskSet → (ℕ → Part) → (ℕ → ℕ) → ℕ → ℕ → ℕ → ℕ
-gamma_ucb set parts window w i j = set.platform.miss * ucb_count set parts window w i j
-
--- whether task j or one above it evicts a cache set
-abbrev pub evicted_from : (ℕ → Part) → ℕ → ℕ → Bool
-evicted_from parts zero c = (parts zero).evicts c
-evicted_from parts (suc j) c = (parts (suc j)).evicts c || evicted_from parts j c
-
--- how many sets are useful to task k and evicted by task j or one above it
-abbrev pub shared_sets : TaskSet → (ℕ → Part) → ℕ → ℕ → ℕ
-shared_sets set parts j k =
-    sum_below (λ c. if (parts k).useful c && evicted_from parts j c then 1 else 0) set.platform.sets
+-- how many sets, below a number, are useful and evicted
+unfoldable pub shared_count : (ℕ → Bool) → (ℕ → Bool) → ℕ → ℕ
+shared_count useful evicted sets = sum_below (λ c. if useful c && evicted c then 1 else 0) sets
 
 -- the greatest of f 0, .., f n
 abbrev pub greatest_to : (ℕ → ℕ) → ℕ → ℕ
@@ -40,11 +31,48 @@ greatest_choice value count zero budget = 0
 greatest_choice value count (suc n) budget =
     greatest_to (λ x. greatest_choice value count n (budget - x) + value n * x) (min (count n) budget)
 
--- the ECB-union multiset count: of jobs of task j that preempt each affected task, at most its preemptions, and in all j's
--- jobs in the window, each evicting the shared sets of that task
+-- the counts and the useful sets of a list of shares
+abbrev pub count_at : {W : ℕ} → List (Share W) → ℕ → ℕ
+count_at {W = W} lower k = slice_index (map (λ (s : Share W). s.count) lower) k
+
+abbrev pub useful_at : {W : ℕ} → List (Share W) → ℕ → ℕ → Bool
+useful_at {W = W} lower k = has (slice_index_or (map (λ (s : Share W). s.useful) lower) k [])
+
+-- the delay by so many jobs that evict some of the sets below a number, given the shares of the tasks that they affect:
+-- by the UCB-union multiset method
+abbrev pub ucb_delay : {W : ℕ} → ℕ → ℕ → List ℕ → List (Share W) → ℕ → ℕ
+ucb_delay miss jobs evicting lower sets = miss * union_count jobs (has evicting) (useful_at lower) (count_at lower) (length lower) sets
+
+-- and by the ECB-union multiset method, with the sets that these jobs and all of higher priority evict
+abbrev pub ecb_delay : {W : ℕ} → ℕ → ℕ → List ℕ → List (Share W) → ℕ → ℕ
+ecb_delay miss jobs evicting_up lower sets =
+    miss * greatest_choice (λ k. shared_count (useful_at lower k) (has evicting_up) sets) (count_at lower) (length lower) jobs
+
+-- the part at a place of a list
+abbrev pub part_at : List Part → ℕ → Part
+part_at parts k = slice_index_or parts k (record { bound = 0; evicting = []; useful = [] })
+
+-- the UCB-union multiset count of task j in a window w of task i
+abbrev pub ucb_count : TaskSet → (ℕ → Part) → (ℕ → ℕ) → ℕ → ℕ → ℕ → ℕ
+ucb_count set parts window w i j =
+    union_count (jobs_of set j w) (has (parts j).evicting) (λ k. has (parts k).useful) (affected set window w i j) (suc i) 512
+
+abbrev pub gamma_ucb : TaskSet → (ℕ → Part) → (ℕ → ℕ) → ℕ → ℕ → ℕ → ℕ
+gamma_ucb set parts window w i j = set.platform.miss * ucb_count set parts window w i j
+
+-- whether task j or one above it evicts a cache set
+abbrev pub evicted_from : (ℕ → Part) → ℕ → ℕ → Bool
+evicted_from parts zero c = has (parts zero).evicting c
+evicted_from parts (suc j) c = has (parts (suc j)).evicting c || evicted_from parts j c
+
+-- how many sets are useful to task k and evicted by task j or one above it
+abbrev pub shared_sets : (ℕ → Part) → ℕ → ℕ → ℕ
+shared_sets parts j k = shared_count (has (parts k).useful) (evicted_from parts j) 512
+
+-- the ECB-union multiset count of task j in a window w of task i: of its jobs that preempt each affected task, at most that
+-- task's preemptions, and in all its jobs in the window, each evicting the shared sets of that task
 abbrev pub ecb_count : TaskSet → (ℕ → Part) → (ℕ → ℕ) → ℕ → ℕ → ℕ → ℕ
-ecb_count set parts window w i j =
-    greatest_choice (shared_sets set parts j) (affected set window w i j) (suc i) (jobs_of set j w)
+ecb_count set parts window w i j = greatest_choice (shared_sets parts j) (affected set window w i j) (suc i) (jobs_of set j w)
 
 abbrev pub gamma_ecb : TaskSet → (ℕ → Part) → (ℕ → ℕ) → ℕ → ℕ → ℕ → ℕ
 gamma_ecb set parts window w i j = set.platform.miss * ecb_count set parts window w i j

@@ -1,2 +1,15 @@
-//! Counts of jobs, the two delays, and demand: definitions.
+//! Counts of jobs, the two delays by evictions, and the demand of a window.
 #![tactic(auto)]
+
+mod choice;
+mod jobs;
+mod laws;
+mod share;
+mod union;
+mod window_demand;
+
+pub use choice::gamma_ecb;
+pub use laws::growth_law;
+pub use share::Share;
+pub use union::gamma_ucb;
+pub use window_demand::demand;

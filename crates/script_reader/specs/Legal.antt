@@ -1,15 +1,8 @@
 -- Which scripts are legal.
 use Rattle.std.specs.Prelude.{◌≡◌, ℕ, ◌+◌, ◌<◌, ◌≤◌, ◌⊎◌, List, [], ◌∷◌, length, map, slice_index, ◌==◌, if◌then◌else◌, All, AllPairs}
 use Rattle.crpd_base.specs.declared.data.ScriptJob.{ScriptJob}
-use Rattle.crpd_base.specs.declared.data.TaskSpec.{TaskSpec}
 use Rattle.crpd_base.specs.declared.data.TaskSet.{TaskSet}
-
--- the period and the jitter of the task at a place
-abbrev pub period_of : TaskSet → ℕ → ℕ
-period_of set t = slice_index (map (λ (k : TaskSpec). k.period) set.tasks) t
-
-abbrev pub jitter_of : TaskSet → ℕ → ℕ
-jitter_of set t = slice_index (map (λ (k : TaskSpec). k.jitter) set.tasks) t
+pub use Rattle.crpd_base.specs.Tasks.{period_of, jitter_of}
 
 -- two times are at least so far apart
 abbrev pub AreApart : ℕ → ℕ → ℕ → Type 0

@@ -1,0 +1,22 @@
+-- The numbers of a task of a set, and their ranges.
+use Rattle.std.specs.Prelude.{ℕ, ◌<◌, ◌≤◌, ◌^◌, length, map, slice_index}
+use Rattle.crpd_base.specs.declared.data.TaskSpec.{TaskSpec}
+use Rattle.crpd_base.specs.declared.data.TaskSet.{TaskSet}
+
+-- the period, the jitter and the deadline of the task at a place
+abbrev pub period_of : TaskSet → ℕ → ℕ
+period_of set t = slice_index (map (λ (k : TaskSpec). k.period) set.tasks) t
+
+abbrev pub jitter_of : TaskSet → ℕ → ℕ
+jitter_of set t = slice_index (map (λ (k : TaskSpec). k.jitter) set.tasks) t
+
+abbrev pub deadline_of : TaskSet → ℕ → ℕ
+deadline_of set t = slice_index (map (λ (k : TaskSpec). k.deadline) set.tasks) t
+
+-- the ranges of the times of a task set, and of the number of its tasks
+pub record HasTimes (set : TaskSet) : Type 0 where
+  pub tasks : length set.tasks ≤ 32
+  pub period : (k : ℕ) → k < length set.tasks → 1 ≤ period_of set k
+  pub longest : (k : ℕ) → k < length set.tasks → period_of set k ≤ 2 ^ 40
+  pub deadline : (k : ℕ) → k < length set.tasks → deadline_of set k ≤ period_of set k
+  pub jitter : (k : ℕ) → k < length set.tasks → jitter_of set k ≤ 2 ^ 40

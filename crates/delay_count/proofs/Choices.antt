@@ -1,0 +1,230 @@
+-- A greatest choice is reached by filling from the greatest value downwards.
+use Rattle.std.proofs.Common.{◌≡◌, ◌≢◌, ℕ, zero, suc, ◌+◌, ◌-◌, ◌*◌, ◌<◌, ◌≤◌, ◌⊎◌, inl, inr, refl, sym, ◌∙◌, ap, arith, add-one, true, false}
+use Rattle.std.proofs.lemmas.Bool.{true≢false}
+use Rattle.std.specs.Prelude.{min, ◌==◌, nat_le, if◌then◌else◌}
+use Rattle.std.proofs.lemmas.Nat.{mul-le}
+use Rattle.std.proofs.lemmas.Bool.{cases_Bool, cases_eq, eq-eqb, ne_eqb, le-leb, leb-true}
+use Rattle.crpd_base.specs.Sum.{sum_below}
+use Rattle.delay_count.specs.Gamma.{greatest_to, greatest_choice}
+use Rattle.delay_count.specs.Filling.{IsNextValue, counted_at, counted_from, worth_from}
+use Rattle.delay_count.proofs.Sums.{sum_same, sum_most, sum_none}
+
+pub to_ge : (f : ℕ → ℕ) (n y : ℕ) → y ≤ n → f y ≤ greatest_to f n
+to_ge f zero y h = let e : y ≡ 0 = omega arith in let same : f y ≡ f 0 = ap f e in omega (arith, same)
+to_ge f (suc n) y h =
+    elim (cases_eq y (suc n)) [
+      | inl e ↦ let same : f y ≡ f (suc n) = ap f e in omega (arith, same)
+      | inr ne ↦ let r = to_ge f n y (omega arith) in omega (arith, r)
+    ]
+
+pub to_le : (f : ℕ → ℕ) (n m : ℕ) → ((y : ℕ) → y ≤ n → f y ≤ m) → greatest_to f n ≤ m
+to_le f zero m h = h 0 (omega arith)
+to_le f (suc n) m h = omega (arith, h (suc n) (omega arith), to_le f n m (λ y l. h y (omega arith)))
+
+-- a greatest choice never falls as the values, the counts and the budget grow
+pub choice_le : (value value' count count' : ℕ → ℕ) (n budget budget' : ℕ)
+    → ((k : ℕ) → k < n → value k ≤ value' k) → ((k : ℕ) → k < n → count k ≤ count' k) → budget ≤ budget'
+    → greatest_choice value count n budget ≤ greatest_choice value' count' n budget'
+choice_le value value' count count' zero budget budget' v c b = omega arith
+choice_le value value' count count' (suc n) budget budget' v c b =
+    to_le (λ x. greatest_choice value count n (budget - x) + value n * x) (min (count n) budget) (greatest_choice value' count' (suc n) budget') (λ x h.
+    let rest = choice_le value value' count count' n (budget - x) (budget' - x) (λ k l. v k (omega arith)) (λ k l. c k (omega arith)) (omega arith) in
+    let here = mul-le (value n) x (value' n) x (v n (omega arith)) (omega arith) in
+    let cn = c n (omega arith) in
+    let at = to_ge (λ y. greatest_choice value' count' n (budget' - y) + value' n * y) (min (count' n) budget') x (omega (arith, cn)) in
+    omega (arith, rest, here, at))
+
+pub choice_same : (value value' count : ℕ → ℕ) (n budget : ℕ) → ((k : ℕ) → k < n → value k ≡ value' k) → greatest_choice value count n budget ≡ greatest_choice value' count n budget
+choice_same value value' count n budget same =
+    let up = choice_le value value' count count n budget budget (λ k l. omega (arith, same k l)) (λ k l. omega arith) (omega arith) in
+    let down = choice_le value' value count count n budget budget (λ k l. omega (arith, same k l)) (λ k l. omega arith) (omega arith) in
+    omega (arith, up, down)
+
+above_price : (v p x : ℕ) → v * x ≤ p * x + x * (v - p)
+above_price v p x =
+    let l : v ≤ p + (v - p) = omega arith in
+    let m = mul-le v x (p + (v - p)) x l (omega arith) in
+    omega (arith, m)
+
+-- a greatest choice is at most the budget at a price, and what the counts bring above the price
+choice_priced : (value count : ℕ → ℕ) (price n budget : ℕ) → greatest_choice value count n budget ≤ price * budget + sum_below (λ k. count k * (value k - price)) n
+choice_priced value count price zero budget = omega arith
+choice_priced value count price (suc n) budget =
+    to_le (λ x. greatest_choice value count n (budget - x) + value n * x) (min (count n) budget) (price * budget + (sum_below (λ k. count k * (value k - price)) n + count n * (value n - price))) (λ x h.
+    let rest = choice_priced value count price n (budget - x) in
+    let b : (budget - x) + x ≡ budget = omega arith in
+    let pb : price * ((budget - x) + x) ≡ price * budget = ap (λ z. price * z) b in
+    let above = mul-le x (value n - price) (count n) (value n - price) (omega arith) (omega arith) in
+    let here = above_price (value n) price x in
+    omega (arith, rest, pb, above, here))
+
+cases_le : (a b : ℕ) → (a ≤ b) ⊎ (b < a)
+cases_le a b = grind arith
+
+not_le : (a b : ℕ) → nat_le a b ≡ false → b < a
+not_le a b e =
+    elim (cases_le a b) [
+      | inl l ↦ absurd (true≢false (sym (le-leb a b l) ∙ e))
+      | inr l ↦ l
+    ]
+
+-- what the counts bring above a price that is the greatest value below a level
+priced_worth : (value count : ℕ → ℕ) (level price n : ℕ) → price < level → ((k : ℕ) → k < n → value k < level → value k ≤ price)
+    → sum_below (λ k. count k * (value k - price)) n + price * counted_from value count level n ≡ worth_from value count level n
+priced_worth value count level price zero h g = omega arith
+priced_worth value count level price (suc n) h g =
+    let rest = priced_worth value count level price n h (λ k l. g k (omega arith)) in
+    elim (cases_Bool (nat_le level (value n))) [
+      | inl b ↦
+          let l : level ≤ value n = leb-true level (value n) b in
+          let e : (value n - price) + price ≡ value n = omega arith in
+          let ce : count n * ((value n - price) + price) ≡ count n * value n = ap (λ z. count n * z) e in
+          rw b (omega (arith, rest, ce))
+      | inr b ↦
+          let l : value n < level = not_le level (value n) b in
+          let z : value n - price ≡ 0 = omega (arith, g n (omega arith) l) in
+          let cz : count n * (value n - price) ≡ count n * 0 = ap (λ z. count n * z) z in
+          rw b (omega (arith, rest, cz))
+    ]
+
+-- one task more, in its three cases
+at_level : (value count : ℕ → ℕ) (level next n : ℕ) → next < level → level ≤ value n
+    → (counted_from value count level (suc n) ≡ counted_from value count level n + count n) × (worth_from value count level (suc n) ≡ worth_from value count level n + count n * value n) × (counted_at value count (suc n) next ≡ counted_at value count n next)
+at_level value count level next n h l =
+    let b : nat_le level (value n) ≡ true = le-leb level (value n) l in
+    let d : (value n == next) ≡ false = ne_eqb (value n) next (omega arith) in
+    (rw b refl, rw b refl, rw d (omega arith))
+
+at_next : (value count : ℕ → ℕ) (level next n : ℕ) → next < level → value n ≡ next
+    → (counted_from value count level (suc n) ≡ counted_from value count level n) × (worth_from value count level (suc n) ≡ worth_from value count level n) × (counted_at value count (suc n) next ≡ counted_at value count n next + count n)
+at_next value count level next n h e =
+    let b : nat_le level (value n) ≡ false = gt_leb level (value n) (omega arith) in
+    let d : (value n == next) ≡ true = eq-eqb (value n) next e in
+    (rw b (omega arith), rw b (omega arith), rw d refl)
+  where
+    gt_leb : (a b : ℕ) → b < a → nat_le a b ≡ false
+    gt_leb a b h = elim (cases_Bool (nat_le a b)) [ inl t ↦ let l : a ≤ b = leb-true a b t in absurd (omega arith) | inr f ↦ f ]
+
+at_none : (value count : ℕ → ℕ) (level next n : ℕ) → value n < level → value n ≢ next
+    → (counted_from value count level (suc n) ≡ counted_from value count level n) × (worth_from value count level (suc n) ≡ worth_from value count level n) × (counted_at value count (suc n) next ≡ counted_at value count n next)
+at_none value count level next n h ne =
+    let b : nat_le level (value n) ≡ false = gt_leb level (value n) h in
+    let d : (value n == next) ≡ false = ne_eqb (value n) next ne in
+    (rw b (omega arith), rw b (omega arith), rw d (omega arith))
+  where
+    gt_leb : (a b : ℕ) → b < a → nat_le a b ≡ false
+    gt_leb a b h = elim (cases_Bool (nat_le a b)) [ inl t ↦ let l : a ≤ b = leb-true a b t in absurd (omega arith) | inr f ↦ f ]
+
+-- the filling is a choice
+filled : (value count : ℕ → ℕ) (level next n budget r : ℕ) → next < level → r ≤ counted_at value count n next → counted_from value count level n + r ≤ budget
+    → worth_from value count level n + next * r ≤ greatest_choice value count n budget
+filled value count level next zero budget r h few room = let z : r ≡ 0 = omega arith in let nz : next * r ≡ next * 0 = ap (λ x. next * x) z in omega (arith, nz)
+filled value count level next (suc n) budget r h few room =
+    elim (cases_le level (value n)) [
+      | inl l ↦
+          let s = at_level value count level next n h l in
+          let rest = filled value count level next n (budget - count n) r h (omega (arith, s.2)) (omega (arith, s.0)) in
+          let at = to_ge (λ x. greatest_choice value count n (budget - x) + value n * x) (min (count n) budget) (count n) (omega (arith, s.0)) in
+          omega (arith, rest, at, s.1)
+      | inr l ↦
+          elim (cases_eq (value n) next) [
+            | inl e ↦
+                let s = at_next value count level next n h e in
+                let rest = filled value count level next n (budget - min (count n) r) (r - min (count n) r) h (omega (arith, s.2)) (omega (arith, s.0)) in
+                let at = to_ge (λ x. greatest_choice value count n (budget - x) + value n * x) (min (count n) budget) (min (count n) r) (omega (arith, s.0)) in
+                let parts : next * ((r - min (count n) r) + min (count n) r) ≡ next * r = ap (λ z. next * z) (omega arith) in
+                let same : value n * min (count n) r ≡ next * min (count n) r = ap (λ z. z * min (count n) r) e in
+                omega (arith, rest, at, s.1, parts, same)
+            | inr ne ↦
+                let s = at_none value count level next n l ne in
+                let rest = filled value count level next n (budget - 0) r h (omega (arith, s.2)) (omega (arith, s.0)) in
+                let at = to_ge (λ x. greatest_choice value count n (budget - x) + value n * x) (min (count n) budget) 0 (omega arith) in
+                omega (arith, rest, at, s.1)
+          ]
+    ]
+
+-- the greatest choice, where what is left goes to the next value
+pub full : (value count : ℕ → ℕ) (level next n jobs charged room : ℕ) → IsNextValue value n level next
+    → charged ≡ worth_from value count level n → counted_from value count level n + room ≡ jobs → room ≤ counted_at value count n next
+    → charged + room * next ≡ greatest_choice value count n jobs
+full value count level next n jobs charged room is worth left few =
+    let up = choice_priced value count next n jobs in
+    let even = priced_worth value count level next n is.below is.greatest in
+    let all : next * (counted_from value count level n + room) ≡ next * jobs = ap (λ z. next * z) left in
+    let down = filled value count level next n jobs room is.below few (omega arith) in
+    omega (arith, up, even, all, down)
+
+-- and where no value is left
+pub finished : (value count : ℕ → ℕ) (level next n jobs charged room : ℕ) → IsNextValue value n level next → next ≡ 0
+    → charged ≡ worth_from value count level n → counted_from value count level n + room ≡ jobs
+    → charged ≡ greatest_choice value count n jobs
+finished value count level next n jobs charged room is none worth left =
+    let up = choice_priced value count next n jobs in
+    let even = priced_worth value count level next n is.below is.greatest in
+    let zero_all : next * jobs ≡ 0 * jobs = ap (λ z. z * jobs) none in
+    let zero_from : next * counted_from value count level n ≡ 0 * counted_from value count level n = ap (λ z. z * counted_from value count level n) none in
+    let down = filled value count level next n jobs 0 is.below (omega arith) (omega arith) in
+    omega (arith, up, even, zero_all, zero_from, down)
+
+-- the next value joins those from the level on
+pub joined : (value count : ℕ → ℕ) (level next n : ℕ) → next < level → ((k : ℕ) → k < n → value k < level → value k ≤ next)
+    → (counted_from value count next n ≡ counted_from value count level n + counted_at value count n next) × (worth_from value count next n ≡ worth_from value count level n + counted_at value count n next * next)
+joined value count level next zero h g = (refl, omega arith)
+joined value count level next (suc n) h g =
+    let rest = joined value count level next n h (λ k l. g k (omega arith)) in
+    elim (cases_le level (value n)) [
+      | inl l ↦
+          let s = at_level value count level next n h l in
+          let b : nat_le next (value n) ≡ true = le-leb next (value n) (omega arith) in
+          let c : counted_from value count next (suc n) ≡ counted_from value count next n + count n = rw b refl in
+          let w : worth_from value count next (suc n) ≡ worth_from value count next n + count n * value n = rw b refl in
+          let m : counted_at value count (suc n) next * next ≡ counted_at value count n next * next = ap (λ z. z * next) s.2 in
+          (omega (arith, rest.0, s.0, s.2, c), omega (arith, rest.1, s.1, m, w))
+      | inr l ↦
+          elim (cases_eq (value n) next) [
+            | inl e ↦
+                let s = at_next value count level next n h e in
+                let b : nat_le next (value n) ≡ true = le-leb next (value n) (omega arith) in
+                let c : counted_from value count next (suc n) ≡ counted_from value count next n + count n = rw b refl in
+                let w : worth_from value count next (suc n) ≡ worth_from value count next n + count n * value n = rw b refl in
+                let v : count n * value n ≡ count n * next = ap (λ z. count n * z) e in
+                let m : counted_at value count (suc n) next * next ≡ (counted_at value count n next + count n) * next = ap (λ z. z * next) s.2 in
+                (omega (arith, rest.0, s.0, s.2, c), omega (arith, rest.1, s.1, m, w, v))
+            | inr ne ↦
+                let s = at_none value count level next n l ne in
+                let lt : value n < next = let le = g n (omega arith) l in omega arith in
+                let s' = at_none value count next next n lt ne in
+                let m : counted_at value count (suc n) next * next ≡ counted_at value count n next * next = ap (λ z. z * next) s.2 in
+                (omega (arith, rest.0, s.0, s.2, s'.0), omega (arith, rest.1, s.1, m, s'.1))
+          ]
+    ]
+
+-- no value is at least a level above all
+pub none_from : (value count : ℕ → ℕ) (level n : ℕ) → ((k : ℕ) → k < n → value k < level) → (counted_from value count level n ≡ 0) × (worth_from value count level n ≡ 0)
+none_from value count level zero h = (refl, refl)
+none_from value count level (suc n) h =
+    let rest = none_from value count level n (λ k l. h k (omega arith)) in
+    let s = at_none value count level level n (h n (omega arith)) (let l = h n (omega arith) in omega arith) in
+    (omega (arith, rest.0, s.0), omega (arith, rest.1, s.1))
+
+pub counted_most : (value count : ℕ → ℕ) (v m n : ℕ) → ((k : ℕ) → k < n → count k ≤ m) → counted_at value count n v ≤ n * m
+counted_most value count v m n h =
+    sum_most (λ k. if value k == v then count k else 0) m n (λ k l. elim (cases_Bool (value k == v)) [ inl b ↦ rw b (h k l) | inr b ↦ rw b (omega arith) ])
+
+-- one count more, of the value or of another
+pub counted_more : (value count : ℕ → ℕ) (n v found all : ℕ) {here : ℕ} → found ≡ counted_at value count n v → value n ≡ v → all ≡ found + here → count n ≡ here → all ≡ counted_at value count (n + 1) v
+counted_more value count n v found all before e sum is =
+    let b : (value n == v) ≡ true = eq-eqb (value n) v e in
+    rw (add-one n, b) (omega arith)
+
+pub counted_other : (value count : ℕ → ℕ) (n v found all : ℕ) → found ≡ counted_at value count n v → value n ≢ v → all ≡ found → all ≡ counted_at value count (n + 1) v
+counted_other value count n v found all before ne same =
+    let b : (value n == v) ≡ false = ne_eqb (value n) v ne in
+    rw (add-one n, b) (omega arith)
+
+-- a greatest choice is at most the greatest value, for each of the budget
+pub choice_few : (value count : ℕ → ℕ) (most n budget : ℕ) → ((k : ℕ) → k < n → value k ≤ most) → greatest_choice value count n budget ≤ most * budget
+choice_few value count most n budget h =
+    let none : sum_below (λ k. count k * (value k - most)) n ≡ 0 =
+    sum_same (λ k. count k * (value k - most)) (λ k. 0) n (λ k l. let z : value k - most ≡ 0 = omega (arith, h k l) in ap (λ y. count k * y) z ∙ omega arith) ∙ sum_none n in
+    omega (arith, choice_priced value count most n budget, none)

@@ -1,0 +1,88 @@
+-- The delays over shares, and those of the tasks of a set.
+use Rattle.std.proofs.Common.{◌≡◌, ℕ, suc, ◌+◌, ◌*◌, ◌<◌, ◌≤◌, ◌^◌, List, [], take, length, refl, sym, ◌∙◌, ap, arith, Bool}
+use Rattle.std.specs.Prelude.{min, ◌&&◌, if◌then◌else◌}
+use Rattle.std.proofs.lemmas.List.{length-take-le}
+use Rattle.std.proofs.lemmas.Nat.{mul-le}
+use Rattle.crpd_base.specs.Sum.{sum_below}
+use Rattle.crpd_base.specs.Sets.{has}
+use Rattle.crpd_base.specs.declared.data.TaskSet.{TaskSet}
+use Rattle.crpd_base.specs.declared.data.Part.{Part}
+use Rattle.delay_count.specs.declared.share.Share.{Share}
+use Rattle.delay_count.specs.Counts.{jobs_of, affected}
+use Rattle.delay_count.specs.Gamma.{union_count, shared_count, greatest_choice, set_share, count_at, useful_at, ucb_delay, ecb_delay, ucb_count, ecb_count, gamma_ucb, gamma_ecb, shared_sets, evicted_from}
+use Rattle.delay_count.proofs.Sums.{sum_same}
+use Rattle.delay_count.proofs.Bits.{union_fits, shared_most}
+use Rattle.delay_count.proofs.Choices.{choice_same, choice_le, choice_few}
+use Rattle.delay_count.proofs.Shares.{first_same}
+
+pub union_same : (jobs : ℕ) (evicts : ℕ → Bool) (useful useful' : ℕ → ℕ → Bool) (count count' : ℕ → ℕ) (n sets : ℕ)
+    → ((k c : ℕ) → k < n → useful k c ≡ useful' k c) → ((k : ℕ) → k < n → count k ≡ count' k)
+    → union_count jobs evicts useful count n sets ≡ union_count jobs evicts useful' count' n sets
+unfolding union_count
+union_same jobs evicts useful useful' count count' n sets u c =
+    sum_same (λ s. if evicts s then set_share jobs useful count n s else 0) (λ s. if evicts s then set_share jobs useful' count' n s else 0) sets (λ s l.
+    let inner : sum_below (λ k. if useful k s then count k else 0) n ≡ sum_below (λ k. if useful' k s then count' k else 0) n =
+    sum_same (λ k. if useful k s then count k else 0) (λ k. if useful' k s then count' k else 0) n (λ k h. let e = u k s h in let f = c k h in rw (e, f) refl) in
+    ap (λ x. if evicts s then min jobs x else 0) inner)
+
+pub shared_same : (useful useful' evicted evicted' : ℕ → Bool) (sets : ℕ) → ((c : ℕ) → useful c ≡ useful' c) → ((c : ℕ) → evicted c ≡ evicted' c)
+    → shared_count useful evicted sets ≡ shared_count useful' evicted' sets
+unfolding shared_count
+shared_same useful useful' evicted evicted' sets u e =
+    sum_same (λ c. if useful c && evicted c then 1 else 0) (λ c. if useful' c && evicted' c then 1 else 0) sets (λ c l. let p = u c in let q = e c in rw (p, q) refl)
+
+module _ (set : TaskSet) (parts : ℕ → Part) (window : ℕ → ℕ) (w i j : ℕ) (shares : List (Share 8)) (size : length shares ≡ 32) (few : i < 32)
+    (counts : (k : ℕ) → k ≤ i → count_at shares k ≡ affected set window w i j k) (useful : (k c : ℕ) → k ≤ i → useful_at shares k c ≡ has (parts k).useful c) where
+  abbrev lower : List (Share 8)
+  lower = take (i + 1) shares
+
+  pub lower_length : length lower ≡ i + 1
+  lower_length = length-take-le (i + 1) shares (omega arith)
+
+  pub lower_count : (k : ℕ) → k < suc i → count_at lower k ≡ affected set window w i j k
+  lower_count k h = first_same (λ (s : Share 8). s.count) shares (i + 1) k 0 (omega arith) ∙ counts k (omega arith)
+
+  pub lower_useful : (k c : ℕ) → k < suc i → useful_at lower k c ≡ has (parts k).useful c
+  lower_useful k c h = ap (λ z. has z c) (first_same (λ (s : Share 8). s.useful) shares (i + 1) k [] (omega arith)) ∙ useful k c (omega arith)
+
+  abbrev long : suc i ≡ i + 1
+  long = omega arith
+
+  pub is_ucb : (jobs : ℕ) (evicting : List ℕ) (result : ℕ) → jobs ≡ jobs_of set j w → evicting ≡ (parts j).evicting → result ≡ ucb_delay set.platform.miss jobs evicting lower 512 → result ≡ gamma_ucb set parts window w i j
+  is_ucb jobs evicting result e f is =
+      let same : union_count (jobs_of set j w) (has (parts j).evicting) (useful_at lower) (count_at lower) (suc i) 512 ≡ ucb_count set parts window w i j =
+      union_same (jobs_of set j w) (has (parts j).evicting) (useful_at lower) (λ k. has (parts k).useful) (count_at lower) (affected set window w i j) (suc i) 512 (λ k c h. lower_useful k c h) lower_count in
+      is
+      ∙ ap (λ z. set.platform.miss * union_count z (has evicting) (useful_at lower) (count_at lower) (length lower) 512) e
+      ∙ ap (λ z. set.platform.miss * union_count (jobs_of set j w) (has z) (useful_at lower) (count_at lower) (length lower) 512) f
+      ∙ ap (λ z. set.platform.miss * union_count (jobs_of set j w) (has (parts j).evicting) (useful_at lower) (count_at lower) z 512) (lower_length ∙ sym long)
+      ∙ ap (λ z. set.platform.miss * z) same
+
+  pub is_ecb : (jobs : ℕ) (up : List ℕ) (result : ℕ) → jobs ≡ jobs_of set j w → ((c : ℕ) → has up c ≡ evicted_from parts j c) → result ≡ ecb_delay set.platform.miss jobs up lower 512 → result ≡ gamma_ecb set parts window w i j
+  is_ecb jobs up result e f is =
+      let values : (k : ℕ) → k < suc i → shared_count (useful_at lower k) (has up) 512 ≡ shared_sets parts j k =
+      λ k h. shared_same (useful_at lower k) (has (parts k).useful) (has up) (evicted_from parts j) 512 (λ c. lower_useful k c h) f in
+      let same : greatest_choice (λ k. shared_count (useful_at lower k) (has up) 512) (count_at lower) (suc i) (jobs_of set j w) ≡ ecb_count set parts window w i j =
+      choice_same (λ k. shared_count (useful_at lower k) (has up) 512) (shared_sets parts j) (count_at lower) (suc i) (jobs_of set j w) values
+      ∙ counts_same (shared_sets parts j) (count_at lower) (affected set window w i j) (suc i) (jobs_of set j w) lower_count in
+      is
+      ∙ ap (λ z. set.platform.miss * greatest_choice (λ k. shared_count (useful_at lower k) (has up) 512) (count_at lower) (length lower) z) e
+      ∙ ap (λ z. set.platform.miss * greatest_choice (λ k. shared_count (useful_at lower k) (has up) 512) (count_at lower) z (jobs_of set j w)) (lower_length ∙ sym long)
+      ∙ ap (λ z. set.platform.miss * z) same
+    where
+      counts_same : (value count count' : ℕ → ℕ) (n budget : ℕ) → ((k : ℕ) → k < n → count k ≡ count' k) → greatest_choice value count n budget ≡ greatest_choice value count' n budget
+      counts_same value count count' n budget h =
+          let a = choice_le value value count count' n budget budget (λ k l. omega arith) (λ k l. omega (arith, h k l)) (omega arith) in
+          let b = choice_le value value count' count n budget budget (λ k l. omega arith) (λ k l. omega (arith, h k l)) (omega arith) in
+          omega (arith, a, b)
+
+-- neither delay is out of range
+pub ucb_fits : (miss jobs result : ℕ) (evicting : List ℕ) (lower : List (Share 8)) → miss < 2 ^ 32 → jobs < 2 ^ 64 → result ≡ ucb_delay miss jobs evicting lower 512 → result ≤ 2 ^ 112
+ucb_fits miss jobs result evicting lower m j is =
+    let most = union_fits jobs (length lower) 512 (union_count jobs (has evicting) (useful_at lower) (count_at lower) (length lower) 512) evicting lower j (omega arith) refl in
+    omega (arith, is, mul-le miss (union_count jobs (has evicting) (useful_at lower) (count_at lower) (length lower) 512) (2 ^ 32) (2 ^ 80) (omega arith) most)
+
+pub ecb_fits : (miss jobs result : ℕ) (up : List ℕ) (lower : List (Share 8)) → miss < 2 ^ 32 → jobs < 2 ^ 64 → result ≡ ecb_delay miss jobs up lower 512 → result ≤ 2 ^ 112
+ecb_fits miss jobs result up lower m j is =
+    let most = choice_few (λ k. shared_count (useful_at lower k) (has up) 512) (count_at lower) 512 (length lower) jobs (λ k h. shared_most (useful_at lower k) (has up) 512) in
+    omega (arith, is, mul-le miss (greatest_choice (λ k. shared_count (useful_at lower k) (has up) 512) (count_at lower) (length lower) jobs) (2 ^ 32) (2 ^ 80) (omega arith) (omega (arith, most)))

@@ -1,0 +1,32 @@
+-- Sums over the numbers below a bound.
+use Rattle.std.proofs.Common.{◌≡◌, ℕ, zero, suc, ◌+◌, ◌*◌, ◌<◌, ◌≤◌, refl, arith}
+use Rattle.crpd_base.specs.Sum.{sum_below}
+
+pub sum_same : (f g : ℕ → ℕ) (n : ℕ) → ((k : ℕ) → k < n → f k ≡ g k) → sum_below f n ≡ sum_below g n
+sum_same f g zero same = refl
+sum_same f g (suc n) same = omega (arith, sum_same f g n (λ k h. same k (omega arith)), same n (omega arith))
+
+pub sum_le : (f g : ℕ → ℕ) (n : ℕ) → ((k : ℕ) → k < n → f k ≤ g k) → sum_below f n ≤ sum_below g n
+sum_le f g zero le = omega arith
+sum_le f g (suc n) le = omega (arith, sum_le f g n (λ k h. le k (omega arith)), le n (omega arith))
+
+pub sum_add : (f g : ℕ → ℕ) (n : ℕ) → sum_below (λ k. f k + g k) n ≡ sum_below f n + sum_below g n
+sum_add f g zero = refl
+sum_add f g (suc n) = omega (arith, sum_add f g n)
+
+pub sum_times : (a : ℕ) (f : ℕ → ℕ) (n : ℕ) → sum_below (λ k. a * f k) n ≡ a * sum_below f n
+sum_times a f zero = omega arith
+sum_times a f (suc n) = omega (arith, sum_times a f n)
+
+pub sum_none : (n : ℕ) → sum_below (λ k. 0) n ≡ 0
+sum_none zero = refl
+sum_none (suc n) = omega (arith, sum_none n)
+
+pub sum_most : (f : ℕ → ℕ) (m n : ℕ) → ((k : ℕ) → k < n → f k ≤ m) → sum_below f n ≤ n * m
+sum_most f m zero le = omega arith
+sum_most f m (suc n) le = omega (arith, sum_most f m n (λ k h. le k (omega arith)), le n (omega arith))
+
+-- a sum in two parts
+pub sum_onto : (f : ℕ → ℕ) (a n : ℕ) → sum_below f (a + n) ≡ sum_below f a + sum_below (λ k. f (a + k)) n
+sum_onto f a zero = let e : a + 0 ≡ a = omega arith in rw e (omega arith)
+sum_onto f a (suc n) = let e : a + suc n ≡ suc (a + n) = omega arith in rw e (omega (arith, sum_onto f a n))

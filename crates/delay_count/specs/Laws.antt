@@ -1,0 +1,39 @@
+-- How the delays and the demand grow.
+use Rattle.std.specs.Prelude.{◌≡◌, ℕ, ◌<◌, ◌≤◌, length}
+use Rattle.crpd_base.specs.declared.data.Part.{Part}
+use Rattle.crpd_base.specs.declared.data.TaskSet.{TaskSet}
+use Rattle.crpd_base.specs.declared.data.Method.{Method}
+use Rattle.crpd_base.specs.Tasks.{HasTimes}
+use Rattle.delay_count.specs.Demand.{gamma, demand}
+
+-- what a demand is made of: a task set, and the parts, longest costs and windows of its tasks
+pub record Load : Type 0 where
+  pub set : TaskSet
+  pub parts : ℕ → Part
+  pub longest : ℕ → ℕ
+  pub window : ℕ → ℕ
+
+-- the same tasks with the same cache sets, where a reload, a switch, the bounds, the longest costs and the windows of the
+-- higher tasks take at least as long
+pub record IsCostlier (a b : Load) (i : ℕ) : Type 0 where
+  pub tasks : b.set.tasks ≡ a.set.tasks
+  pub switching : b.set.platform.switching ≡ a.set.platform.switching
+  pub miss : a.set.platform.miss ≤ b.set.platform.miss
+  pub switch : a.set.platform.switch ≤ b.set.platform.switch
+  pub bound : (k : ℕ) → k ≤ i → (a.parts k).bound ≤ (b.parts k).bound
+  pub evicting : (k : ℕ) → k ≤ i → (b.parts k).evicting ≡ (a.parts k).evicting
+  pub useful : (k : ℕ) → k ≤ i → (b.parts k).useful ≡ (a.parts k).useful
+  pub longest : (k : ℕ) → k < length a.set.tasks → a.longest k ≤ b.longest k
+  pub window : (k : ℕ) → k < i → a.window k ≤ b.window k
+
+-- the delay by a higher task, by either method, never falls as these and the window grow
+abbrev pub DelayGrows : Type 0
+DelayGrows =
+    (a b : Load) (i j w longer : ℕ) (method : Method) → HasTimes a.set → i < length a.set.tasks → j < i → IsCostlier a b i → w ≤ longer →
+    gamma a.set a.parts a.window w method i j ≤ gamma b.set b.parts b.window longer method i j
+
+-- nor does the demand
+abbrev pub DemandGrows : Type 0
+DemandGrows =
+    (a b : Load) (i w longer : ℕ) (method : Method) → HasTimes a.set → i < length a.set.tasks → IsCostlier a b i → w ≤ longer →
+    demand a.set a.parts a.longest a.window i method w ≤ demand b.set b.parts b.longest b.window i method longer

@@ -1,0 +1,9 @@
+// What a delay counts of a task.
+use crpd_base::SetBits;
+
+/// What a delay counts of an affected task: how often its jobs may be preempted, and its useful cache sets.
+#[derive(Clone, Copy)]
+pub struct Share<const W: usize> {
+    pub count: u128,
+    pub useful: SetBits<W>,
+}

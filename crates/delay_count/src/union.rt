@@ -1,0 +1,90 @@
+// The UCB-union multiset delay.
+ghost use Rattle.std.specs.Prelude.{◌≡◌, ℕ, ◌+◌, ◌*◌, ◌^◌, ◌<◌, ◌≤◌, length, slice_index};
+ghost use Rattle.delay_count.specs.Gamma.{count_at, ucb_delay};
+ghost use Rattle.delay_count.specs.Words.{word_share, useful_words};
+
+use crate::share::Share;
+use crpd_base::{MOST_TASKS, SetBits};
+
+/// The delay, in cycles, that `jobs` jobs bring by the sets of `evicting`, by the UCB-union multiset method of Altmeyer,
+/// Davis and Maiza (2012): a reload of `miss` cycles, for each set at most as often as there are jobs, and at most as
+/// often as the affected tasks that find the set useful may be preempted.
+///
+/// At most 32 shares, each with a count below 2^81. It takes no memory, and works on words of 64 sets.
+pub fn gamma_ucb<const W: usize>(
+    miss: u32,
+    jobs: u64,
+    evicting: &SetBits<W>,
+    lower: &[Share<W>],
+) -> u128
+    requires sets { 64 * W ≤ 65536 }
+    requires shares { length lower.now ≤ 32 }
+    requires counts { (k : ℕ) → k < length lower.now → count_at lower.now k < 2 ^ 81 }
+    ensures { result ≡ ucb_delay miss jobs evicting.now lower.now (64 * W) }
+{
+    let counts = counts_of(lower);
+    let mut charged = 0u128;
+    for place in 0..W {
+        let useful = words_at(lower, place);
+        charged += share_of_word(jobs, evicting.word(place), &useful, &counts, lower.len(), 0);
+    }
+    u128::from(miss) * charged
+}
+
+// The counts of the shares.
+fn counts_of<const W: usize>(lower: &[Share<W>]) -> [u128; MOST_TASKS]
+    requires { length lower.now ≤ 32 }
+    ensures { (k : ℕ) → k < length lower.now → slice_index result k ≡ count_at lower.now k }
+{
+    let mut counts = [0; MOST_TASKS];
+    for k in 0..lower.len() {
+        let share = &lower[k];
+        counts[k] = share.count;
+    }
+    counts
+}
+
+// Their useful sets in one word.
+fn words_at<const W: usize>(lower: &[Share<W>], place: usize) -> [u64; MOST_TASKS]
+    requires shares { length lower.now ≤ 32 }
+    requires place { place < W }
+    ensures { (k : ℕ) → k < length lower.now → slice_index result k ≡ useful_words lower.now place k }
+{
+    let mut words = [0; MOST_TASKS];
+    for k in 0..lower.len() {
+        let share = &lower[k];
+        words[k] = share.useful.word(place);
+    }
+    words
+}
+
+// The shares of the sets of one word, given what the tasks past the first `tasks` have counted for each of them.
+fn share_of_word(
+    jobs: u64,
+    word: u64,
+    useful: &[u64],
+    counts: &[u128],
+    tasks: usize,
+    counted: u128,
+) -> u128
+    requires useful { tasks ≤ length useful.now }
+    requires tasks { tasks ≤ length counts.now }
+    requires counts { (k : ℕ) → k < tasks → slice_index counts.now k < 2 ^ 81 }
+    requires counted { counted < 2 ^ 82 }
+    ensures { result ≡ word_share jobs word (slice_index useful.now) (slice_index counts.now) tasks counted }
+{
+    if word == 0 {
+        return 0;
+    }
+    if counted >= u128::from(jobs) {
+        return u128::from(jobs) * u128::from(word.count_ones());
+    }
+    if tasks == 0 {
+        return counted * u128::from(word.count_ones());
+    }
+    let last = tasks - 1;
+    let inside = useful[last];
+    let more = counted + counts[last];
+    share_of_word(jobs, word & inside, useful, counts, last, more)
+        + share_of_word(jobs, word & !inside, useful, counts, last, counted)
+}

@@ -1,0 +1,124 @@
+// What the jobs of a window may demand.
+ghost use Rattle.std.specs.Prelude.{◌≡◌, ℕ, suc, ◌+◌, ◌-◌, ◌*◌, ◌^◌, ◌<◌, ◌≤◌, length, slice_index};
+ghost use Rattle.crpd_base.specs.Sets.{has};
+ghost use Rattle.crpd_base.specs.Tasks.{HasTimes};
+ghost use Rattle.delay_count.specs.Counts.{HasWindows};
+ghost use Rattle.delay_count.specs.Gamma.{part_at, evicted_from};
+ghost use Rattle.delay_count.specs.Demand.{HasLongest, greatest_from, blocking, gamma, demand};
+
+use crate::choice::gamma_ecb;
+use crate::jobs::{affected_shares, jobs};
+use crate::union::gamma_ucb;
+use crpd_base::{Method, Part, SetBits, Switching, Task, TaskSet, WORDS};
+
+/// The cycles that the jobs of a window of `w` cycles may demand of the core until a job of the task has answered: its
+/// context switch, its execution bound, what an instruction begun before may take, and for each job of a higher task its
+/// bound, two switches and the delay by the cache sets that it evicts (Altmeyer, Davis and Maiza, 2012).
+///
+/// It needs the longest instruction of each task, from 1 to 2^20 cycles; a part of the task and of all higher ones; and
+/// a window of each higher task, at most 2^40 and in that task's deadline with its jitter; `w` is at most 2^40. It takes
+/// no memory.
+pub fn demand(
+    set: &TaskSet,
+    parts: &[Part],
+    longest: &[u64],
+    windows: &[u64],
+    task: Task,
+    method: Method,
+    w: u64,
+) -> u128
+    requires times { HasTimes set.now }
+    requires task { task.0 < length set.now.tasks }
+    requires parts { task.0 < length parts.now }
+    requires longest { HasLongest set.now longest.now }
+    requires windows { HasWindows set.now windows.now task.0 }
+    requires w { w ≤ 2 ^ 40 }
+    ensures { result ≡ demand set.now (part_at parts.now) (slice_index longest.now) (slice_index windows.now) task.0 method w }
+{
+    let i = task.0 as usize;
+    let platform = &set.platform;
+    let switch = u128::from(platform.switch);
+    let part = &parts[i];
+    let mut total = switch + u128::from(part.bound) + u128::from(longest_begun(set, longest, i));
+    for j in 0..i {
+        let part = &parts[j];
+        let each = u128::from(part.bound) + (switch + switch);
+        total += u128::from(jobs(set, j, w)) * each + delay(set, parts, windows, i, j, method, w);
+    }
+    total
+}
+
+// The most that an instruction begun before a window may take of it.
+fn longest_begun(set: &TaskSet, longest: &[u64], i: usize) -> u64
+    requires longest { HasLongest set.now longest.now }
+    requires i { i < length set.now.tasks }
+    ensures is { result ≡ blocking set.now.platform.switching (slice_index longest.now) i (length set.now.tasks) }
+    ensures most { result ≤ 2 ^ 20 }
+{
+    match set.platform.switching {
+        Switching::Cycle => 0,
+        Switching::Instruction => longest_from(longest, i, set.tasks.as_slice().len()),
+    }
+}
+
+// The greatest of some costs, less 1.
+fn longest_from(longest: &[u64], i: usize, tasks: usize) -> u64
+    requires tasks { tasks ≤ length longest.now }
+    requires i { i ≤ tasks }
+    requires range { (k : ℕ) → k < tasks → (1 ≤ slice_index longest.now k) × (slice_index longest.now k ≤ 2 ^ 20) }
+    ensures is { result ≡ greatest_from (λ k. slice_index longest.now k - 1) i tasks }
+    ensures most { result ≤ 2 ^ 20 }
+{
+    let mut most = 0;
+    for k in i..tasks {
+        most = most.max(longest[k] - 1);
+    }
+    most
+}
+
+// The delay by the evictions of a higher task's jobs.
+fn delay(
+    set: &TaskSet,
+    parts: &[Part],
+    windows: &[u64],
+    i: usize,
+    j: usize,
+    method: Method,
+    w: u64,
+) -> u128
+    requires times { HasTimes set.now }
+    requires i { i < length set.now.tasks }
+    requires j { j < i }
+    requires parts { i < length parts.now }
+    requires windows { HasWindows set.now windows.now i }
+    requires w { w ≤ 2 ^ 40 }
+    ensures is { result ≡ gamma set.now (part_at parts.now) (slice_index windows.now) w method i j }
+    ensures most { result ≤ 2 ^ 112 }
+{
+    let shares = affected_shares(set, parts, windows, i, j, w);
+    let lower = &shares[..i + 1];
+    let platform = &set.platform;
+    let miss = platform.miss;
+    let jobs = jobs(set, j, w);
+    match method {
+        Method::Ucb => {
+            let part = &parts[j];
+            gamma_ucb(miss, jobs, &part.evicting, lower)
+        }
+        Method::Ecb => gamma_ecb(miss, jobs, &evicted_up(parts, j), lower),
+    }
+}
+
+// The sets that a task or one above it evicts.
+fn evicted_up(parts: &[Part], j: usize) -> SetBits<WORDS>
+    requires { j < length parts.now }
+    ensures { (c : ℕ) → has result c ≡ evicted_from (part_at parts.now) j c }
+{
+    let part = &parts[0];
+    let mut sets = part.evicting;
+    for k in 0..j {
+        let part = &parts[k + 1];
+        sets.union(&part.evicting);
+    }
+    sets
+}
