@@ -12,7 +12,8 @@ use Rattle.evict_sets.specs.Full.{Listed}
 use Rattle.icache.specs.Accesses.{Accesses}
 use Rattle.evict_sets.proofs.FullLaws.{hit_test_law}
 use Rattle.loop_regions.specs.Potentials.{Potentials, item_potential}
-use Rattle.cert_check.specs.Certificate.{CertificateView, listed_of, potentials_of}
+use Rattle.crpd_base.specs.declared.data.Certificate.{Certificate}
+use Rattle.cert_check.specs.Certificate.{listed_of, potentials_of}
 use Rattle.cert_check.specs.Clauses.{CountsHits, costs, PotentialsMeet}
 use Rattle.cert_check.specs.Judge.{TaskGraph, listing_of, answering, accesses_of, cert_at, TaskMeets}
 use Rattle.cert_check.specs.Verdict.{Clause, Platforms, HasTask, Names, Last, Leaders, NodePotentials, LoopPotentials, States, UsefulSets, TaskSets, Inequalities, Bound, Window, Response, Deadline, Holds, YesLaw, OneAnswerLaw}
@@ -42,7 +43,7 @@ same_meets p t pot one two u e m =
       loop = m.loop;
     }
 
-module _ (set : TaskSet) (graphs : ℕ → TaskGraph) (c : CertificateView) where
+module _ (set : TaskSet) (graphs : ℕ → TaskGraph) (c : Certificate) where
   meets_of : (i : ℕ) → ((k : Clause) → Holds set graphs c i k) → (is_hit : ℕ → Bool) → CountsHits (graphs i).graph (accesses_of set.platform (graphs i)) (listed_of (cert_at c i)) is_hit → TaskMeets set graphs c i
   meets_of i h is_hit counts =
       record {

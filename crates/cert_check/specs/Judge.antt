@@ -19,9 +19,14 @@ use Rattle.loop_regions.specs.Watched.{HasNoErrors}
 use Rattle.evict_sets.specs.Clauses.{ListsLeaders, StatesMeet, UsefulMeets, SetsMeet}
 use Rattle.evict_sets.specs.Longest.{longest}
 use Rattle.crpd_base.specs.declared.data.Method.TheVariants.{Ucb}
-use Rattle.delay_count.specs.Counts.{Part}
 use Rattle.delay_count.specs.Demand.{demand}
-use Rattle.cert_check.specs.Certificate.{StateView, TaskCertView, CertificateView, has_set, listed_of, potentials_of}
+use Rattle.crpd_base.specs.declared.data.NodeState.{NodeState}
+use Rattle.crpd_base.specs.declared.data.TaskPart.{TaskPart}
+use Rattle.crpd_base.specs.declared.data.Certificate.{Certificate}
+use Rattle.crpd_base.specs.Sets.{has}
+use Rattle.crpd_base.specs.declared.data.Part.{Part}
+use Rattle.crpd_base.specs.Tasks.{jitter_of, deadline_of}
+use Rattle.cert_check.specs.Certificate.{listed_of, potentials_of}
 use Rattle.cert_check.specs.Clauses.{CountsHits, costs, PotentialsMeet, BoundMeets}
 
 -- the graph and the nest of a task, with the place and the instruction of each node
@@ -54,65 +59,55 @@ pub record IsGraphOf (words : Words) (plan : TaskPlan) (t : TaskGraph) : Type 0 
 
 -- clause 2: every listed number is a node's, every leader is listed, and there are as many potentials as nodes and as
 -- regions
-pub record Lists (t : TaskGraph) (c : TaskCertView) : Type 0 where
-  pub numbers : All (λ (s : StateView). s.node < t.graph.size) c.states
+pub record Lists (t : TaskGraph) (c : TaskPart) : Type 0 where
+  pub numbers : All (λ (s : NodeState). s.node < t.graph.size) c.states
   pub leaders : ListsLeaders t.graph (listed_of c)
   pub nodes : length c.potentials ≡ t.graph.size
   pub loops : length c.loops ≡ t.nest.size
 
 -- clauses 3 to 7 at a task: at each node, and the bound
-pub record GraphMeets (p : Platform) (t : TaskGraph) (c : TaskCertView) : Type 0 where
+pub record GraphMeets (p : Platform) (t : TaskGraph) (c : TaskPart) : Type 0 where
   pub states : (u : ℕ) → u < t.graph.size → StatesMeet t.graph (accesses_of p t) (listed_of c) u
   pub useful : (u : ℕ) → u < t.graph.size → UsefulMeets t.graph (accesses_of p t) (listed_of c) u
-  pub sets : (u : ℕ) → u < t.graph.size → SetsMeet t.graph (accesses_of p t) (listed_of c) (has_set c.evicting) (has_set c.useful) u
+  pub sets : (u : ℕ) → u < t.graph.size → SetsMeet t.graph (accesses_of p t) (listed_of c) (has c.part.evicting) (has c.part.useful) u
   pub is_hit : ℕ → Bool
   pub hits : CountsHits t.graph (accesses_of p t) (listed_of c) is_hit
   pub potentials : (u : ℕ) → u < t.graph.size → PotentialsMeet t.graph t.nest (costs p (listing_of t) (answering t) is_hit) (potentials_of c) u
-  pub bound : BoundMeets t.graph t.nest (potentials_of c) c.bound
+  pub bound : BoundMeets t.graph t.nest (potentials_of c) c.part.bound
 
 -- the part of a task in the certificate; past its end an empty one
-abbrev pub no_cert : TaskCertView
+abbrev pub no_cert : TaskPart
 no_cert =
     record {
       name = [];
+      part = record { bound = 0; evicting = []; useful = [] };
       states = [];
-      evicting = [];
-      useful = [];
       potentials = [];
       loops = [];
-      bound = 0;
-      window = 0;
       method = Ucb;
+      window = 0;
       response = 0;
     }
 
-abbrev pub cert_at : CertificateView → ℕ → TaskCertView
+abbrev pub cert_at : Certificate → ℕ → TaskPart
 cert_at c i = slice_index_or c.tasks i no_cert
 
-abbrev pub window_at : CertificateView → ℕ → ℕ
+abbrev pub window_at : Certificate → ℕ → ℕ
 window_at c i = (cert_at c i).window
 
-abbrev pub part_of : Platform → (ℕ → TaskGraph) → CertificateView → ℕ → Part
-part_of p graphs c i =
-    record {
-      bound = (cert_at c i).bound;
-      evicts = has_set (cert_at c i).evicting;
-      useful = has_set (cert_at c i).useful;
-      longest = longest_of p (graphs i);
-    }
+-- the part of each task that counts for windows, and its longest cost of one instruction
+abbrev pub part_of : Certificate → ℕ → Part
+part_of c i = (cert_at c i).part
 
--- the numbers of a task of a set
+abbrev pub longest_at : Platform → (ℕ → TaskGraph) → ℕ → ℕ
+longest_at p graphs i = longest_of p (graphs i)
+
+-- the name of a task of a set
 abbrev pub name_of : TaskSet → ℕ → List ℕ
 name_of set i = slice_index_or (map (λ (k : TaskSpec). k.name) set.tasks) i []
 
-abbrev pub deadline_of : TaskSet → ℕ → ℕ
-deadline_of set i = slice_index (map (λ (k : TaskSpec). k.deadline) set.tasks) i
-
-abbrev pub jitter_at : TaskSet → ℕ → ℕ
-jitter_at set i = slice_index (map (λ (k : TaskSpec). k.jitter) set.tasks) i
-
 -- all clauses at the task i
-pub record TaskMeets (set : TaskSet) (graphs : ℕ → TaskGraph) (c : CertificateView) (i : ℕ) : Type 0 where
+pub record TaskMeets (set : TaskSet) (graphs : ℕ → TaskGraph) (c : Certificate) (i : ℕ) : Type 0 where
   -- 1
   pub platform : c.platform ≡ set.platform
   pub has_task : i < length c.tasks
@@ -124,15 +119,15 @@ pub record TaskMeets (set : TaskSet) (graphs : ℕ → TaskGraph) (c : Certifica
   pub graph : GraphMeets set.platform (graphs i) (cert_at c i)
   -- 8
   pub some_window : 1 ≤ window_at c i
-  pub room : demand set (length set.tasks) (part_of set.platform graphs c) (window_at c) i (cert_at c i).method (window_at c i) ≤ window_at c i
+  pub room : demand set (part_of c) (longest_at set.platform graphs) (window_at c) i (cert_at c i).method (window_at c i) ≤ window_at c i
   -- 9
-  pub response : (cert_at c i).response ≡ window_at c i + jitter_at set i
+  pub response : (cert_at c i).response ≡ window_at c i + jitter_of set i
   pub in_deadline : (cert_at c i).response ≤ deadline_of set i
 
 -- the judge says yes
-abbrev pub IsYes : TaskSet → (ℕ → TaskGraph) → CertificateView → Type 0
+abbrev pub IsYes : TaskSet → (ℕ → TaskGraph) → Certificate → Type 0
 IsYes set graphs c = (i : ℕ) → i < length set.tasks → TaskMeets set graphs c i
 
 -- the reported responses
-abbrev pub responses : CertificateView → List ℕ
-responses c = map (λ (t : TaskCertView). t.response) c.tasks
+abbrev pub responses : Certificate → List ℕ
+responses c = map (λ (t : TaskPart). t.response) c.tasks

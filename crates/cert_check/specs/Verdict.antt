@@ -5,9 +5,13 @@ use Rattle.rv_decode.specs.Flow.{Words}
 use Rattle.crpd_base.specs.declared.data.TaskPlan.{TaskPlan}
 use Rattle.evict_sets.specs.Clauses.{ListsLeaders, StatesMeet, UsefulMeets, SetsMeet}
 use Rattle.delay_count.specs.Demand.{demand}
-use Rattle.cert_check.specs.Certificate.{StateView, CertificateView, has_set, listed_of, potentials_of}
+use Rattle.crpd_base.specs.declared.data.NodeState.{NodeState}
+use Rattle.crpd_base.specs.declared.data.Certificate.{Certificate}
+use Rattle.crpd_base.specs.Sets.{has}
+use Rattle.crpd_base.specs.Tasks.{jitter_of, deadline_of}
+use Rattle.cert_check.specs.Certificate.{listed_of, potentials_of}
 use Rattle.cert_check.specs.Clauses.{CountsHits, costs, PotentialsMeet, BoundMeets}
-use Rattle.cert_check.specs.Judge.{TaskGraph, IsGraphOf, listing_of, answering, accesses_of, cert_at, window_at, part_of, name_of, deadline_of, jitter_at, IsYes}
+use Rattle.cert_check.specs.Judge.{TaskGraph, IsGraphOf, listing_of, answering, accesses_of, cert_at, window_at, part_of, longest_at, name_of, IsYes}
 
 -- the clauses, those of nodes with their node
 pub data Clause : Type 0 where
@@ -63,13 +67,13 @@ place_of Response = 0
 place_of Deadline = 1
 
 -- the clause holds for task i
-abbrev pub Holds : TaskSet → (ℕ → TaskGraph) → CertificateView → ℕ → Clause → Type 0
+abbrev pub Holds : TaskSet → (ℕ → TaskGraph) → Certificate → ℕ → Clause → Type 0
 Holds set graphs c i Platforms = c.platform ≡ set.platform
 Holds set graphs c i HasTask = i < length c.tasks
 Holds set graphs c i Names = (cert_at c i).name ≡ name_of set i
 Holds set graphs c i Last = suc i ≡ length set.tasks → length c.tasks ≡ length set.tasks
 Holds set graphs c i Leaders =
-    All (λ (s : StateView). s.node < (graphs i).graph.size) (cert_at c i).states × ListsLeaders (graphs i).graph (listed_of (cert_at c i))
+    All (λ (s : NodeState). s.node < (graphs i).graph.size) (cert_at c i).states × ListsLeaders (graphs i).graph (listed_of (cert_at c i))
 Holds set graphs c i NodePotentials = length (cert_at c i).potentials ≡ (graphs i).graph.size
 Holds set graphs c i LoopPotentials = length (cert_at c i).loops ≡ (graphs i).nest.size
 Holds set graphs c i (States u) =
@@ -78,14 +82,14 @@ Holds set graphs c i (UsefulSets u) =
     u < (graphs i).graph.size → UsefulMeets (graphs i).graph (accesses_of set.platform (graphs i)) (listed_of (cert_at c i)) u
 Holds set graphs c i (TaskSets u) =
     u < (graphs i).graph.size →
-    SetsMeet (graphs i).graph (accesses_of set.platform (graphs i)) (listed_of (cert_at c i)) (has_set (cert_at c i).evicting) (has_set (cert_at c i).useful) u
+    SetsMeet (graphs i).graph (accesses_of set.platform (graphs i)) (listed_of (cert_at c i)) (has (cert_at c i).part.evicting) (has (cert_at c i).part.useful) u
 Holds set graphs c i (Inequalities u) =
     (is_hit : ℕ → Bool) → CountsHits (graphs i).graph (accesses_of set.platform (graphs i)) (listed_of (cert_at c i)) is_hit → u < (graphs i).graph.size →
     PotentialsMeet (graphs i).graph (graphs i).nest (costs set.platform (listing_of (graphs i)) (answering (graphs i)) is_hit) (potentials_of (cert_at c i)) u
-Holds set graphs c i Bound = BoundMeets (graphs i).graph (graphs i).nest (potentials_of (cert_at c i)) (cert_at c i).bound
+Holds set graphs c i Bound = BoundMeets (graphs i).graph (graphs i).nest (potentials_of (cert_at c i)) (cert_at c i).part.bound
 Holds set graphs c i Window =
-    (1 ≤ window_at c i) × (demand set (length set.tasks) (part_of set.platform graphs c) (window_at c) i (cert_at c i).method (window_at c i) ≤ window_at c i)
-Holds set graphs c i Response = (cert_at c i).response ≡ window_at c i + jitter_at set i
+    (1 ≤ window_at c i) × (demand set (part_of c) (longest_at set.platform graphs) (window_at c) i (cert_at c i).method (window_at c i) ≤ window_at c i)
+Holds set graphs c i Response = (cert_at c i).response ≡ window_at c i + jitter_of set i
 Holds set graphs c i Deadline = (cert_at c i).response ≤ deadline_of set i
 
 -- clause k is judged before l, of one task
@@ -93,7 +97,7 @@ abbrev pub IsEarlier : Clause → Clause → Type 0
 IsEarlier k l = (number_of k < number_of l) ⊎ ((number_of k ≡ number_of l) × (place_of k < place_of l))
 
 -- the first clause that fails: those of the tasks before i hold, and those before it
-pub record IsFirstFailure (set : TaskSet) (graphs : ℕ → TaskGraph) (c : CertificateView) (i : ℕ) (k : Clause) : Type 0 where
+pub record IsFirstFailure (set : TaskSet) (graphs : ℕ → TaskGraph) (c : Certificate) (i : ℕ) (k : Clause) : Type 0 where
   pub task : i < length set.tasks
   pub fails : Holds set graphs c i k → ⊥
   pub tasks_before : (j : ℕ) (l : Clause) → j < i → Holds set graphs c j l
@@ -103,19 +107,19 @@ pub data Answer : Type 0 where
   Yes : Answer
   No : (task clause place : ℕ) → Answer
 
-abbrev pub IsJudged : TaskSet → (ℕ → TaskGraph) → CertificateView → Answer → Type 0
+abbrev pub IsJudged : TaskSet → (ℕ → TaskGraph) → Certificate → Answer → Type 0
 IsJudged set graphs c Yes = (i : ℕ) (k : Clause) → i < length set.tasks → Holds set graphs c i k
 IsJudged set graphs c (No i n p) = (k : Clause) × (number_of k ≡ n) × (place_of k ≡ p) × IsFirstFailure set graphs c i k
 
 -- the judge's yes says that all clauses hold at each task
 abbrev pub YesLaw : Type 0
 YesLaw =
-    (set : TaskSet) (graphs : ℕ → TaskGraph) (c : CertificateView) (words : Words) (plans : ℕ → TaskPlan) →
+    (set : TaskSet) (graphs : ℕ → TaskGraph) (c : Certificate) (words : Words) (plans : ℕ → TaskPlan) →
     ((k : ℕ) → k < length set.tasks → IsGraphOf words (plans k) (graphs k)) →
     IsJudged set graphs c Yes ↔ IsYes set graphs c
 
 -- there is no yes beside a no
 abbrev pub OneAnswerLaw : Type 0
 OneAnswerLaw =
-    (set : TaskSet) (graphs : ℕ → TaskGraph) (c : CertificateView) (i n p : ℕ) →
+    (set : TaskSet) (graphs : ℕ → TaskGraph) (c : Certificate) (i n p : ℕ) →
     IsJudged set graphs c Yes → IsJudged set graphs c (No i n p) → ⊥

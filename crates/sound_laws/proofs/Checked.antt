@@ -15,12 +15,16 @@ use Rattle.script_reader.specs.Legal.{IsLegal, jitter_of, period_of}
 use Rattle.flow_watch.specs.Watch.{is_kept}
 use Rattle.crpd_base.specs.declared.data.Method.{Method}
 use Rattle.crpd_base.specs.declared.data.Method.TheVariants.{Ucb, Ecb}
-use Rattle.delay_count.specs.Counts.{Part, jobs_of}
+use Rattle.crpd_base.specs.declared.data.Part.{Part}
+use Rattle.delay_count.specs.Counts.{jobs_of}
 use Rattle.delay_count.specs.Gamma.{ucb_count, ecb_count, evicted_from}
 use Rattle.delay_count.specs.Demand.{blocking, greatest_from, gamma}
 use Rattle.evict_sets.specs.Full.{FullUseful}
-use Rattle.cert_check.specs.Certificate.{listed_of, TaskCertView, CertificateView, has_set, potentials_of}
-use Rattle.cert_check.specs.Judge.{TaskGraph, longest_of, cert_at, no_cert, window_at, part_of, IsYes, responses, accesses_of}
+use Rattle.crpd_base.specs.declared.data.TaskPart.{TaskPart}
+use Rattle.crpd_base.specs.declared.data.Certificate.{Certificate}
+use Rattle.cert_check.specs.Certificate.{listed_of, potentials_of}
+use Rattle.crpd_base.specs.Sets.{has as has_set}
+use Rattle.cert_check.specs.Judge.{TaskGraph, longest_of, cert_at, no_cert, window_at, part_of, longest_at, IsYes, responses, accesses_of}
 use Rattle.preempt_machine.specs.Machine.{Standing, Open, Answered, Faulted, Job, no_job}
 use Rattle.preempt_machine.specs.Step.{is_open, turn_of, owns, Fetch, Start, state, makes_fetch}
 use Rattle.preempt_machine.specs.Safe.{IsRunOf, IsLegalRun, IsAnsweredBy, IsLate, IsKept}
@@ -64,15 +68,18 @@ use Rattle.sound_laws.proofs.Executed.{IsMet, is_met, some_go, go_other, go_own,
 use Rattle.sound_laws.proofs.Own.{entry_is, set_is}
 use Rattle.sound_laws.proofs.NoFaults.{no_fault}
 
-module _ (s : Start) (set : TaskSet) (graphs : ℕ → TaskGraph) (c : CertificateView) (R : IsInRange set) (C : IsCodeOf s.system set graphs) (says : IsYes set graphs c) (run : IsRunOf set s) (horizon : ℕ) (kept : IsKept (state s horizon)) where
+module _ (s : Start) (set : TaskSet) (graphs : ℕ → TaskGraph) (c : Certificate) (R : IsInRange set) (C : IsCodeOf s.system set graphs) (says : IsYes set graphs c) (run : IsRunOf set s) (horizon : ℕ) (kept : IsKept (state s horizon)) where
   abbrev window : ℕ → ℕ
   window k = window_at c k
 
   abbrev parts : ℕ → Part
-  parts = part_of set.platform graphs c
+  parts = part_of c
+
+  abbrev longest : ℕ → ℕ
+  longest = longest_at set.platform graphs
 
   abbrev bound_of : ℕ → ℕ
-  bound_of k = (cert_at c k).bound
+  bound_of k = (cert_at c k).part.bound
 
   some_sets : 0 < s.system.platform.sets
   some_sets = subst (λ (p : Platform). 1 ≤ p.sets) (sym C.platform) R.sets
@@ -156,7 +163,7 @@ module _ (s : Start) (set : TaskSet) (graphs : ℕ → TaskGraph) (c : Certifica
     own : Fetch
     reload : IsReload s (victim n) n own_time fetch own
     set_same : fetched_set s fetch ≡ cached n
-    useful : (parts (task_at s (victim n))).useful (cached n) ≡ true
+    useful : has_set (parts (task_at s (victim n))).useful (cached n) ≡ true
     last_time : ℕ
     last : Fetch
     evicts : IsEvictor s (evictor_at n) n last_time fetch last
@@ -167,8 +174,8 @@ module _ (s : Start) (set : TaskSet) (graphs : ℕ → TaskGraph) (c : Certifica
       let k = kept_at n x early h in
       let r = entry_is s set graphs R C run.tasks x h (cert_at c (task_of s x)) (counted_at x) (met x h) n k e b in
       let last = last_fetcher_is s (set_at (job_of s n x).pc) n r.own_time r.own r.reload.own.earlier r.reload.own.own.is r.reload.own.to_set in
-      let in_set : (parts (task_at s x)).useful (set_at (job_of s n x).pc) ≡ true =
-      subst (λ z. has_set (cert_at c (task_of s x)).useful z ≡ true) (set_is s set graphs R C run.tasks x h n k (is_opened n x e)) r.in_set in
+      let in_set : has_set (parts (task_at s x)).useful (set_at (job_of s n x).pc) ≡ true =
+      subst (λ z. has_set (cert_at c (task_of s x)).part.useful z ≡ true) (set_is s set graphs R C run.tasks x h n k (is_opened n x e)) r.in_set in
       record {
         is_candidate = e ∙ ap Some (sym vx);
         below = subst (λ k. k < length s.lines) (sym vx) h;
@@ -177,7 +184,7 @@ module _ (s : Start) (set : TaskSet) (graphs : ℕ → TaskGraph) (c : Certifica
         own = r.own;
         reload = subst (λ k. IsReload s k n r.own_time (record { job = x; address = (job_of s n x).pc }) r.own) (sym vx) r.reload;
         set_same = ap (λ k. set_at (job_of s n k).pc) (sym vx);
-        useful = subst (λ k. (parts (task_at s k)).useful (set_at (job_of s n k).pc) ≡ true) (sym vx) in_set;
+        useful = subst (λ k. has_set (parts (task_at s k)).useful (set_at (job_of s n k).pc) ≡ true) (sym vx) in_set;
         last_time = last.time;
         last = last.fetch;
         evicts = record { last = last.last; by = last.by ∙ ap (λ k. last_fetcher s (set_at (job_of s n k).pc) n) (sym vx) };
@@ -236,7 +243,7 @@ module _ (s : Start) (set : TaskSet) (graphs : ℕ → TaskGraph) (c : Certifica
       ]
 
   -- a fetch is to a set that the job's task evicts
-  fetch_evicts : (m y : ℕ) (f : Fetch) → m ≤ horizon → FetchesAt s y m f → (parts (task_at s y)).evicts (fetched_set s f) ≡ true
+  fetch_evicts : (m y : ℕ) (f : Fetch) → m ≤ horizon → FetchesAt s y m f → has_set (parts (task_at s y)).evicting (fetched_set s f) ≡ true
   fetch_evicts m y f early at =
       let e = own_candidate s y m f at in
       let h = is_below m y e in
@@ -245,11 +252,11 @@ module _ (s : Start) (set : TaskSet) (graphs : ℕ → TaskGraph) (c : Certifica
       let W = (walking s set graphs R C run.tasks m y h k).on_walk o in
       let node = walk_node s.system (plan_at s y) (graphs (task_of s y)) (ok s set graphs R C run.tasks y h) C.map (node_of (graphs (task_of s y)) (job_of s m y)) (before_of (job_of s m y) (fetched_nodes s graphs m y)) W.walked.walk in
       let own = ((met y h).all.sets (node_of (graphs (task_of s y)) (job_of s m y)) node).own in
-      let at_pc : (parts (task_at s y)).evicts (set_at (job_of s m y).pc) ≡ true =
-      subst (λ z. has_set (cert_at c (task_of s y)).evicting z ≡ true) (set_is s set graphs R C run.tasks y h m k o) own in
+      let at_pc : has_set (parts (task_at s y)).evicting (set_at (job_of s m y).pc) ≡ true =
+      subst (λ z. has_set (cert_at c (task_of s y)).part.evicting z ≡ true) (set_is s set graphs R C run.tasks y h m k o) own in
       let says_at = fetch_says s.system (state s m) f at.is in
       let address : (job_of s m y).pc ≡ f.address = ap (λ z. (job_of s m z).pc) (sym at.by) ∙ sym says_at.at in
-      subst (λ a. (parts (task_at s y)).evicts (set_at a) ≡ true) address at_pc
+      subst (λ a. has_set (parts (task_at s y)).evicting (set_at a) ≡ true) address at_pc
 
   -- an entry at the horizon comes from higher tasks
   from_higher : (x p : ℕ) (e : IsPreempted s graphs c horizon x p) → IsFromHigher s graphs c horizon x p e
@@ -276,8 +283,8 @@ module _ (s : Start) (set : TaskSet) (graphs : ℕ → TaskGraph) (c : Certifica
         evictor = passes.higher;
         preemptor = preempts.higher;
         not_after = q.latest e.time q.evictor after until q.last.is;
-        evicts = subst (λ z. has_set (cert_at c (task_of s q.evictor.job)).evicting z ≡ true) q.last.to_set (fetch_evicts e.time q.evictor.job q.evictor (omega arith) at);
-        in_set = subst (λ z. IsTrue (has_set (cert_at c (task_of s x)).useful z)) (set_fetched s set graphs R C run.tasks x h horizon e.fetch k e.entry.fetches) in_set;
+        evicts = subst (λ z. has_set (cert_at c (task_of s q.evictor.job)).part.evicting z ≡ true) q.last.to_set (fetch_evicts e.time q.evictor.job q.evictor (omega arith) at);
+        in_set = subst (λ z. IsTrue (has_set (cert_at c (task_of s x)).part.useful z)) (set_fetched s set graphs R C run.tasks x h horizon e.fetch k e.entry.fetches) in_set;
         carried = carried;
       }
 
@@ -469,7 +476,7 @@ module _ (s : Start) (set : TaskSet) (graphs : ℕ → TaskGraph) (c : Certifica
       pub own : Fetch
       pub reload : IsReload s (victim n) n own_time fetch own
       pub set_same : fetched_set s fetch ≡ cached n
-      pub useful : (parts (task_at s (victim n))).useful (cached n) ≡ true
+      pub useful : has_set (parts (task_at s (victim n))).useful (cached n) ≡ true
       pub last_time : ℕ
       pub last : Fetch
       pub evicts : IsEvictor s y n last_time fetch last
@@ -551,14 +558,14 @@ module _ (s : Start) (set : TaskSet) (graphs : ℕ → TaskGraph) (c : Certifica
           let high : (line_at s (evictor n)).release < (line_at s (victim n)).release + window (task_at s (victim n)) = omega (arith, times.2, early) in
           and_from _ _ (le-leb _ _ low) (lt-ltb _ _ high)
 
-      evicted : (n : ℕ) → (b : test n ≡ true) → (parts (task_at s (evictor n))).evicts (cached n) ≡ true
+      evicted : (n : ℕ) → (b : test n ≡ true) → has_set (parts (task_at s (evictor n))).evicting (cached n) ≡ true
       evicted n b =
           let e = facts n b in
           let early = (facts n b).early in
           let before = e.evicts.last.earlier in
-          subst (λ k. (parts (task_at s (evictor n))).evicts k ≡ true) (e.evicts.last.to_set ∙ e.set_same) (fetch_evicts e.last_time (evictor n) e.last (omega (arith, early, before, by_horizon)) (evictor_fetches n b))
+          subst (λ k. has_set (parts (task_at s (evictor n))).evicting k ≡ true) (e.evicts.last.to_set ∙ e.set_same) (fetch_evicts e.last_time (evictor n) e.last (omega (arith, early, before, by_horizon)) (evictor_fetches n b))
 
-      useful : (n : ℕ) → (b : test n ≡ true) → (parts (task_at s (victim n))).useful (cached n) ≡ true
+      useful : (n : ℕ) → (b : test n ≡ true) → has_set (parts (task_at s (victim n))).useful (cached n) ≡ true
       useful n b = (facts n b).useful
 
       once : (n m : ℕ) → n < m → m < to → (b : test n ≡ true) → (c : test m ≡ true) → evictor n ≡ evictor m → cached n ≡ cached m → ⊥
@@ -577,7 +584,7 @@ module _ (s : Start) (set : TaskSet) (graphs : ℕ → TaskGraph) (c : Certifica
             evictors = λ n l b. (evictor_below n b, evictor_inside n l b);
             higher = evictor_higher;
             in_life = life;
-            places = λ n l b. let p = sets_same in let q = some_sets in omega arith;
+            places = λ n l b. let p = sets_same in let q = some_sets in let few = R.few_sets in omega arith;
             is_evicted = λ n l b. evicted n b;
             is_useful = λ n l b. useful n b;
             once = once;
@@ -645,7 +652,7 @@ module _ (s : Start) (set : TaskSet) (graphs : ℕ → TaskGraph) (c : Certifica
           let at : FetchesAt s q.evictor.job (preempted n b).v q.evictor = record { is = q.last.is; by = refl } in
           let early = (facts n b).early in
           let before_n = q.last.earlier in
-          let evicts : (parts (task_at s q.evictor.job)).evicts (cached n) ≡ true = subst (λ k. (parts (task_at s q.evictor.job)).evicts k ≡ true) (q.last.to_set ∙ e.set_same) (fetch_evicts (preempted n b).v q.evictor.job q.evictor (omega (arith, early, before_n, by_horizon)) at) in
+          let evicts : has_set (parts (task_at s q.evictor.job)).evicting (cached n) ≡ true = subst (λ k. has_set (parts (task_at s q.evictor.job)).evicting k ≡ true) (q.last.to_set ∙ e.set_same) (fetch_evicts (preempted n b).v q.evictor.job q.evictor (omega (arith, early, before_n, by_horizon)) at) in
           let up : task_at s q.evictor.job ≤ task_at s (preemptor n) =
           elim (preempted n b).up [
             | inl same ↦ let z : task_at s q.evictor.job ≡ task_at s (preemptor n) = ap (λ k. task_at s k) same in omega arith
@@ -660,7 +667,7 @@ module _ (s : Start) (set : TaskSet) (graphs : ℕ → TaskGraph) (c : Certifica
             preemptors = λ n l b. (preemptor_below n b, preemptor_inside n l b);
             higher = λ n l b. (preemptor_passes n b).higher;
             in_life = preemptor_life;
-            places = λ n l b. let p = sets_same in let q = some_sets in omega arith;
+            places = λ n l b. let p = sets_same in let q = some_sets in let few = R.few_sets in omega arith;
             is_evicted = λ n l b. evicted_up n b;
             is_useful = λ n l b. useful n b;
             one_job = λ n m l k b c q.
@@ -751,9 +758,9 @@ module _ (s : Start) (set : TaskSet) (graphs : ℕ → TaskGraph) (c : Certifica
           omega (arith, times, counts, same, more)
 
     abbrev block : ℕ → ℕ
-    block k = blocking s.system.platform.switching (λ h. (parts h).longest) k (length set.tasks)
+    block k = blocking s.system.platform.switching longest k (length set.tasks)
 
-    owner_short : (x t : ℕ) → x < length s.lines → t ≤ horizon → IsLastQuiet s x (line_at s x).release t → (o : ℕ) → (state s t).owner ≡ Some o → middle (job_of s t o) ≤ greatest_from (λ k. (parts k).longest - 1) (task_at s x) (length set.tasks)
+    owner_short : (x t : ℕ) → x < length s.lines → t ≤ horizon → IsLastQuiet s x (line_at s x).release t → (o : ℕ) → (state s t).owner ≡ Some o → middle (job_of s t o) ≤ greatest_from (λ k. longest k - 1) (task_at s x) (length set.tasks)
     owner_short x t h early last o own =
         elim (cases_Bool (is_open (job_of s t o).standing)) [
           | inr over ↦ let z = middle_over (job_of s t o) over in omega (arith, z)
@@ -770,20 +777,20 @@ module _ (s : Start) (set : TaskSet) (graphs : ℕ → TaskGraph) (c : Certifica
                     absurd (false≢true (sym (busy_none s x t (length s.lines) o last.quiet below) ∙ busy))
                 | inr g ↦ g
               ] in
-              let most = greatest_ge (λ k. (parts k).longest - 1) (task_at s x) (length set.tasks) (task_at s o) not_higher (below_tasks o below) in
+              let most = greatest_ge (λ k. longest k - 1) (task_at s x) (length set.tasks) (task_at s o) not_higher (below_tasks o below) in
               omega (arith, short, same, is, most)
         ]
 
-    front_by : (mode : Switching) → s.system.platform.switching ≡ mode → (x t : ℕ) → x < length s.lines → t ≤ horizon → IsLastQuiet s x (line_at s x).release t → HasShortFront s x t (blocking mode (λ h. (parts h).longest) (task_at s x) (length set.tasks))
+    front_by : (mode : Switching) → s.system.platform.switching ≡ mode → (x t : ℕ) → x < length s.lines → t ≤ horizon → IsLastQuiet s x (line_at s x).release t → HasShortFront s x t (blocking mode longest (task_at s x) (length set.tasks))
     front_by Cycle e x t h early last = cycle_front s x t 0 e
-    front_by Instruction e x t h early last = instruction_front s e x t (greatest_from (λ k. (parts k).longest - 1) (task_at s x) (length set.tasks)) (owner_short x t h early last)
+    front_by Instruction e x t h early last = instruction_front s e x t (greatest_from (λ k. longest k - 1) (task_at s x) (length set.tasks)) (owner_short x t h early last)
 
     room_at : (k : ℕ) → k < length set.tasks → block k + base_demand set s.system.platform.switch bound_of k (window k) + delay k ≤ window k
     room_at k h =
         let r = (says k h).room in
         let split = sum_add (λ j. jobs_of set j (window k) * (bound_of j + (set.platform.switch + set.platform.switch))) (gamma set parts window (window k) (cert_at c k).method k) k in
-        let by_set : blocking set.platform.switching (λ h. (parts h).longest) k (length set.tasks) + base_demand set set.platform.switch bound_of k (window k) + delay k ≤ window k = omega (arith, r, split) in
-        subst (λ (p : Platform). blocking p.switching (λ h. (parts h).longest) k (length set.tasks) + base_demand set p.switch bound_of k (window k) + delay k ≤ window k) (sym C.platform) by_set
+        let by_set : blocking set.platform.switching longest k (length set.tasks) + base_demand set set.platform.switch bound_of k (window k) + delay k ≤ window k = omega (arith, r, split) in
+        subst (λ (p : Platform). blocking p.switching longest k (length set.tasks) + base_demand set p.switch bound_of k (window k) + delay k ≤ window k) (sym C.platform) by_set
 
     response_at : (k : ℕ) → k < length set.tasks → window k + jitter_of set k ≤ period_of set k
     response_at k h =
@@ -968,13 +975,13 @@ module _ (s : Start) (set : TaskSet) (graphs : ℕ → TaskGraph) (c : Certifica
 run_of : {set : TaskSet} {s : Start} → IsLegalRun set s → IsRunOf set s
 run_of run = record { cache = run.cache; tasks = run.tasks }
 
-response_is : (set : TaskSet) (graphs : ℕ → TaskGraph) (c : CertificateView) → IsYes set graphs c → (k : ℕ) → k < length set.tasks → slice_index (responses c) k ≡ window_at c k + jitter_of set k
+response_is : (set : TaskSet) (graphs : ℕ → TaskGraph) (c : Certificate) → IsYes set graphs c → (k : ℕ) → k < length set.tasks → slice_index (responses c) k ≡ window_at c k + jitter_of set k
 response_is set graphs c says k h =
     let l = (says k h).has_task in
-    let at : slice_index (responses c) k ≡ (cert_at c k).response = get_or-map (λ (t : TaskCertView). t.response) c.tasks k no_cert 0 l in
+    let at : slice_index (responses c) k ≡ (cert_at c k).response = get_or-map (λ (t : TaskPart). t.response) c.tasks k no_cert 0 l in
     at ∙ (says k h).response
 
-safe_at : (s : Start) (set : TaskSet) (graphs : ℕ → TaskGraph) (c : CertificateView) (n : ℕ) → IsInRange set → IsCodeOf s.system set graphs → IsYes set graphs c → IsLegalRun set s → IsKept (state s n) → All (λ (job : Job). ¬ IsLate n (slice_index (responses c) job.line.task.0) job) (state s n).jobs
+safe_at : (s : Start) (set : TaskSet) (graphs : ℕ → TaskGraph) (c : Certificate) (n : ℕ) → IsInRange set → IsCodeOf s.system set graphs → IsYes set graphs c → IsLegalRun set s → IsKept (state s n) → All (λ (job : Job). ¬ IsLate n (slice_index (responses c) job.line.task.0) job) (state s n).jobs
 safe_at s set graphs c n R C says run kept k d l =
     let h : k < length s.lines = omega (arith, l, jobs_length s n) in
     let response = response_is set graphs c says (task_at s k) (below_tasks s set graphs c R C says (run_of run) n kept k h) in
@@ -1017,7 +1024,7 @@ entries_within_delays =
 pub entry_from_higher : EntryFromHigher
 entry_from_higher s set graphs c n x p R C says run e = from_higher s set graphs c R C says run n e.entry.kept x p e
 
-module _ (s : Start) (set : TaskSet) (graphs : ℕ → TaskGraph) (c : CertificateView) (R : IsInRange set) (C : IsCodeOf s.system set graphs) (says : IsYes set graphs c) (run : IsRunOf set s) (until : ℕ) (kept : IsKept (state s until)) (x p first : ℕ) (test useful : ℕ → Bool) (e : IsPreempted s graphs c first x p) (each : (n : ℕ) → test n ≡ true → (n < until) × IsPreempted s graphs c n x p) where
+module _ (s : Start) (set : TaskSet) (graphs : ℕ → TaskGraph) (c : Certificate) (R : IsInRange set) (C : IsCodeOf s.system set graphs) (says : IsYes set graphs c) (run : IsRunOf set s) (until : ℕ) (kept : IsKept (state s until)) (x p first : ℕ) (test useful : ℕ → Bool) (e : IsPreempted s graphs c first x p) (each : (n : ℕ) → test n ≡ true → (n < until) × IsPreempted s graphs c n x p) where
   abbrev place_at : ℕ → ℕ
   place_at n = set_of s.system.platform (block_of s.system.platform (job_of s n x).pc)
 

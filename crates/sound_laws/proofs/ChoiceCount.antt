@@ -8,8 +8,10 @@ use Rattle.script_reader.specs.Legal.{period_of, jitter_of}
 use Rattle.preempt_machine.specs.Step.{Start}
 use Rattle.preempt_machine.specs.Safe.{IsLegalRun}
 use Rattle.crpd_base.specs.Sum.{sum_below}
-use Rattle.delay_count.specs.Counts.{Part, jobs_in, preemptions}
-use Rattle.delay_count.specs.Gamma.{evicted_from, shared_sets, ecb_count}
+use Rattle.crpd_base.specs.Sets.{has as has_set}
+use Rattle.crpd_base.specs.declared.data.Part.{Part}
+use Rattle.delay_count.specs.Counts.{jobs_in, preemptions}
+use Rattle.delay_count.specs.Gamma.{evicted_from, shared_count, shared_sets, ecb_count}
 use Rattle.sound_laws.proofs.Choices.{IsChoice, choice_le}
 use Rattle.sound_laws.proofs.Sums.{sum_le, sum_swap, sum_times}
 use Rattle.sound_laws.proofs.Releases.{count, count_none, at_most_one, lies_in}
@@ -46,12 +48,12 @@ some_from p (suc n) x l h =
       | inr ne ↦ or_right (p n) (some_below p n) (some_from p n x (omega arith) h)
     ]
 
-pub evicted_by : (parts : ℕ → Part) (h j c : ℕ) → h ≤ j → (parts h).evicts c ≡ true → evicted_from parts j c ≡ true
-evicted_by parts h zero c l e = let z : h ≡ 0 = omega arith in subst (λ k. (parts k).evicts c ≡ true) z e
+pub evicted_by : (parts : ℕ → Part) (h j c : ℕ) → h ≤ j → has_set (parts h).evicting c ≡ true → evicted_from parts j c ≡ true
+evicted_by parts h zero c l e = let z : h ≡ 0 = omega arith in subst (λ k. has_set (parts k).evicting c ≡ true) z e
 evicted_by parts h (suc j) c l e =
     elim (cases_eq h (suc j)) [
-      | inl q ↦ or_left ((parts (suc j)).evicts c) (evicted_from parts j c) (subst (λ k. (parts k).evicts c ≡ true) q e)
-      | inr ne ↦ or_right ((parts (suc j)).evicts c) (evicted_from parts j c) (evicted_by parts h j c (omega arith) e)
+      | inl q ↦ or_left (has_set (parts (suc j)).evicting c) (evicted_from parts j c) (subst (λ k. has_set (parts k).evicting c ≡ true) q e)
+      | inr ne ↦ or_right (has_set (parts (suc j)).evicting c) (evicted_from parts j c) (evicted_by parts h j c (omega arith) e)
     ]
 
 -- the entries of a window: steps with a victim and a preemptor inside, of which the preemptor is of a higher task and is
@@ -62,9 +64,9 @@ pub record ArePreempted (s : Start) (set : TaskSet) (parts : ℕ → Part) (wind
   pub preemptors : (n : ℕ) → n < to → entry n ≡ true → (preemptor n < length s.lines) × (in_window s i t to (preemptor n) ≡ true)
   pub higher : (n : ℕ) → n < to → entry n ≡ true → task_at s (preemptor n) < task_at s (victim n)
   pub in_life : (n : ℕ) → n < to → entry n ≡ true → task_at s (victim n) < task_at s i → lies_in (line_at s (victim n)).release ((line_at s (victim n)).release + window (task_at s (victim n))) (line_at s (preemptor n)).release ≡ true
-  pub places : (n : ℕ) → n < to → entry n ≡ true → cached n < set.platform.sets
+  pub places : (n : ℕ) → n < to → entry n ≡ true → cached n < 512
   pub is_evicted : (n : ℕ) → n < to → entry n ≡ true → evicted_from parts (task_at s (preemptor n)) (cached n) ≡ true
-  pub is_useful : (n : ℕ) → n < to → entry n ≡ true → (parts (task_at s (victim n))).useful (cached n) ≡ true
+  pub is_useful : (n : ℕ) → n < to → entry n ≡ true → has_set (parts (task_at s (victim n))).useful (cached n) ≡ true
   pub one_job : (n m : ℕ) → n < to → m < to → entry n ≡ true → entry m ≡ true → preemptor n ≡ preemptor m → victim n ≡ victim m
   pub one_set : (n m : ℕ) → n < m → m < to → entry n ≡ true → entry m ≡ true → preemptor n ≡ preemptor m → cached n ≡ cached m → ⊥
 
@@ -117,17 +119,18 @@ module _ (s : Start) (set : TaskSet) (run : IsLegalRun set s) (parts : ℕ → P
       subst (λ q. is_member s t to j q ≡ true) f.is_preemptor (preemptor_member j (at k p) f.early f.is_entry (ap (λ q. task_at s q) f.is_preemptor ∙ f.is_task))
 
   -- the entries of one preemptor and one victim's task are at most the shared sets
-  pair_sets : (j k p : ℕ) → task_at s p ≡ j → count (of_pair p k) to ≤ shared_sets set parts j k
+  pair_sets : (j k p : ℕ) → task_at s p ≡ j → count (of_pair p k) to ≤ shared_sets parts j k
+  unfolding shared_count
   pair_sets j k p e =
-      inject (of_pair p k) cached (λ c. (parts k).useful c && evicted_from parts j c) to set.platform.sets
+      inject (of_pair p k) cached (λ c. has_set (parts k).useful c && evicted_from parts j c) to 512
       (λ n l b. are.places n l (and_parts (entry n) _ (and_parts (entry n && (preemptor n == p)) _ b).0).0)
       (λ n l b.
       let pair = and_parts (entry n && (preemptor n == p)) (task_at s (victim n) == k) b in
       let one = and_parts (entry n) (preemptor n == p) pair.0 in
       let vk : task_at s (victim n) ≡ k = eqb-true _ _ pair.1 in
       let pj : task_at s (preemptor n) ≡ j = ap (λ q. task_at s q) (eqb-true (preemptor n) p one.1) ∙ e in
-      and_from ((parts k).useful (cached n)) (evicted_from parts j (cached n))
-      (subst (λ q. (parts q).useful (cached n) ≡ true) vk (are.is_useful n l one.0))
+      and_from (has_set (parts k).useful (cached n)) (evicted_from parts j (cached n))
+      (subst (λ q. has_set (parts q).useful (cached n) ≡ true) vk (are.is_useful n l one.0))
       (subst (λ q. evicted_from parts q (cached n) ≡ true) pj (are.is_evicted n l one.0)))
       (λ n m l h a b q.
       let pa = and_parts (entry n) (preemptor n == p) (and_parts (entry n && (preemptor n == p)) _ a).0 in
@@ -227,7 +230,7 @@ module _ (s : Start) (set : TaskSet) (run : IsLegalRun set s) (parts : ℕ → P
   by_task j n = entry n && (task_at s (preemptor n) == j)
 
   -- of one preemptor and one task of victims, none or at most the shared sets
-  pair_le : (j k p : ℕ) → count (λ n. ((by_task j n) && (preemptor n == p)) && (task_at s (victim n) == k)) to ≤ shared_sets set parts j k * (if has j k p then 1 else 0)
+  pair_le : (j k p : ℕ) → count (λ n. ((by_task j n) && (preemptor n == p)) && (task_at s (victim n) == k)) to ≤ shared_sets parts j k * (if has j k p then 1 else 0)
   pair_le j k p =
       let le = count_le (λ n. ((by_task j n) && (preemptor n == p)) && (task_at s (victim n) == k)) (of_pair p k) to (λ n l b.
       let one = and_parts (by_task j n && (preemptor n == p)) (task_at s (victim n) == k) b in
@@ -252,17 +255,17 @@ module _ (s : Start) (set : TaskSet) (run : IsLegalRun set s) (parts : ℕ → P
             omega (arith, none)
       ]
 
-  task_count : (j : ℕ) → j ≤ task_at s i → count (by_task j) to ≤ sum_below (λ k. shared_sets set parts j k * choice j k) (suc (task_at s i))
+  task_count : (j : ℕ) → j ≤ task_at s i → count (by_task j) to ≤ sum_below (λ k. shared_sets parts j k * choice j k) (suc (task_at s i))
   task_count j h =
       let all = spread (by_task j) preemptor to (length s.lines) (λ n l b. (are.preemptors n l (and_parts (entry n) _ b).0).0) in
-      let split = sum_le (λ p. count (λ n. by_task j n && (preemptor n == p)) to) (λ p. sum_below (λ k. shared_sets set parts j k * (if has j k p then 1 else 0)) (suc (task_at s i))) (length s.lines) (λ p l.
+      let split = sum_le (λ p. count (λ n. by_task j n && (preemptor n == p)) to) (λ p. sum_below (λ k. shared_sets parts j k * (if has j k p then 1 else 0)) (suc (task_at s i))) (length s.lines) (λ p l.
       let by_victims = spread (λ n. by_task j n && (preemptor n == p)) (λ n. task_at s (victim n)) to (suc (task_at s i)) (λ n ln b.
       let top = inside_task s i t to (victim n) (are.victims n ln (and_parts (entry n) _ (and_parts (by_task j n) _ b).0).0).1 in omega arith) in
-      let le = sum_le (λ k. count (λ n. (by_task j n && (preemptor n == p)) && (task_at s (victim n) == k)) to) (λ k. shared_sets set parts j k * (if has j k p then 1 else 0)) (suc (task_at s i)) (λ k lk. pair_le j k p) in
+      let le = sum_le (λ k. count (λ n. (by_task j n && (preemptor n == p)) && (task_at s (victim n) == k)) to) (λ k. shared_sets parts j k * (if has j k p then 1 else 0)) (suc (task_at s i)) (λ k lk. pair_le j k p) in
       omega (arith, by_victims, le)) in
-      let swapped = sum_swap (λ p k. shared_sets set parts j k * (if has j k p then 1 else 0)) (length s.lines) (suc (task_at s i)) in
-      let times = sum_le (λ k. sum_below (λ p. shared_sets set parts j k * (if has j k p then 1 else 0)) (length s.lines)) (λ k. shared_sets set parts j k * choice j k) (suc (task_at s i)) (λ k l.
-      let e = sum_times (shared_sets set parts j k) (λ p. if has j k p then 1 else 0) (length s.lines) in omega (arith, e)) in
+      let swapped = sum_swap (λ p k. shared_sets parts j k * (if has j k p then 1 else 0)) (length s.lines) (suc (task_at s i)) in
+      let times = sum_le (λ k. sum_below (λ p. shared_sets parts j k * (if has j k p then 1 else 0)) (length s.lines)) (λ k. shared_sets parts j k * choice j k) (suc (task_at s i)) (λ k l.
+      let e = sum_times (shared_sets parts j k) (λ p. if has j k p then 1 else 0) (length s.lines) in omega (arith, e)) in
       omega (arith, all, split, swapped, times)
 
   -- the entries of the window, where each g j bounds every choice

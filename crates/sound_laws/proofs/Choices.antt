@@ -4,7 +4,8 @@ use Rattle.std.specs.Prelude.{min}
 use Rattle.std.proofs.lemmas.Bool.{cases_eq}
 use Rattle.crpd_base.specs.declared.data.TaskSet.{TaskSet}
 use Rattle.crpd_base.specs.Sum.{sum_below}
-use Rattle.delay_count.specs.Counts.{Part, jobs_of, affected}
+use Rattle.crpd_base.specs.declared.data.Part.{Part}
+use Rattle.delay_count.specs.Counts.{jobs_of, affected}
 use Rattle.delay_count.specs.Gamma.{shared_sets, greatest_to, greatest_choice, ecb_count}
 
 -- a choice: how many jobs of task j preempt each affected task, at most its preemptions, and j's jobs in all
@@ -28,6 +29,6 @@ choice_most value count x (suc n) budget each all =
     let at = to_ge (λ y. greatest_choice value count n (budget - y) + value n * y) (min (count n) budget) (x n) (omega (arith, here, all)) in
     omega (arith, rest, at)
 
-pub choice_le : (set : TaskSet) (parts : ℕ → Part) (window : ℕ → ℕ) (w i j : ℕ) (x : ℕ → ℕ) → IsChoice set window w i j x → sum_below (λ k. shared_sets set parts j k * x k) (suc i) ≤ ecb_count set parts window w i j
+pub choice_le : (set : TaskSet) (parts : ℕ → Part) (window : ℕ → ℕ) (w i j : ℕ) (x : ℕ → ℕ) → IsChoice set window w i j x → sum_below (λ k. shared_sets parts j k * x k) (suc i) ≤ ecb_count set parts window w i j
 choice_le set parts window w i j x c =
-    choice_most (shared_sets set parts j) (affected set window w i j) x (suc i) (jobs_of set j w) (λ k l. c.each k (omega arith)) c.all
+    choice_most (shared_sets parts j) (affected set window w i j) x (suc i) (jobs_of set j w) (λ k l. c.each k (omega arith)) c.all

@@ -10,7 +10,8 @@ use Rattle.loop_regions.specs.Nest.{IsNested, IsKept}
 use Rattle.loop_regions.specs.Potentials.{Meets, rest}
 use Rattle.loop_regions.proofs.Potential.{potential_law, item_law}
 use Rattle.loop_regions.proofs.Stated.{regions_law}
-use Rattle.cert_check.specs.Certificate.{TaskCertView, listed_of, potentials_of}
+use Rattle.crpd_base.specs.declared.data.TaskPart.{TaskPart}
+use Rattle.cert_check.specs.Certificate.{listed_of, potentials_of}
 use Rattle.cert_check.specs.Clauses.{CountsHits, costs}
 use Rattle.cert_check.specs.Judge.{TaskGraph, GraphMeets, listing_of, answering, accesses_of, longest_of, cert_at}
 use Rattle.preempt_machine.specs.Machine.{Job}
@@ -29,7 +30,7 @@ use Rattle.sound_laws.proofs.Walked.{nodes_after}
 use Rattle.sound_laws.proofs.Spends.{extra_of, go_between, SpendTurn, spend_turn}
 
 -- what the clauses give for a task, with these hits
-pub record IsMet (p : Platform) (t : TaskGraph) (c : TaskCertView) (counted : ℕ → Bool) : Type 0 where
+pub record IsMet (p : Platform) (t : TaskGraph) (c : TaskPart) (counted : ℕ → Bool) : Type 0 where
   pub meets : Meets t.graph t.nest (costs p (listing_of t) (answering t) counted) (potentials_of c)
   pub hits : CountsHits t.graph (accesses_of p t) (listed_of c) counted
   pub all : GraphMeets p t c
@@ -40,7 +41,7 @@ module _ (s : Start) (set : TaskSet) (graphs : ℕ → TaskGraph) (R : IsInRange
       let g = ok s set graphs R C T x h in
       regions_law (graphs (task_of s x)).graph (graphs (task_of s x)).places (plan_at s x).loops (graphs (task_of s x)).nest g.regions g.accepted
 
-  pub is_met : (c : TaskCertView) (x : ℕ) → x < length s.lines → (m : GraphMeets set.platform (graphs (task_of s x)) c) → IsMet s.system.platform (graphs (task_of s x)) c m.is_hit
+  pub is_met : (c : TaskPart) (x : ℕ) → x < length s.lines → (m : GraphMeets set.platform (graphs (task_of s x)) c) → IsMet s.system.platform (graphs (task_of s x)) c m.is_hit
   is_met c x h m =
       let t = graphs (task_of s x) in
       let N = nested x h in
@@ -54,7 +55,7 @@ module _ (s : Start) (set : TaskSet) (graphs : ℕ → TaskGraph) (R : IsInRange
         all = m;
       })
 
-  module _ (c : TaskCertView) (x : ℕ) (h : x < length s.lines) (counted : ℕ → Bool) (M : IsMet s.system.platform (graphs (task_of s x)) c counted) where
+  module _ (c : TaskPart) (x : ℕ) (h : x < length s.lines) (counted : ℕ → Bool) (M : IsMet s.system.platform (graphs (task_of s x)) c counted) where
     abbrev pub nodes : ℕ → List ℕ
     nodes n = fetched_nodes s graphs n x
 
@@ -119,7 +120,7 @@ module _ (s : Start) (set : TaskSet) (graphs : ℕ → TaskGraph) (R : IsInRange
         nodes_other s set graphs R C T n x (λ e. false≢true (sym both.0 ∙ (rw e (owns_same x)))) ∙ nodes_never n both.1
 
     -- at the start it has at most the bound to go
-    pub go_start : is_kept (job_of s 0 x).watch ≡ true → go 0 ≤ c.bound
+    pub go_start : is_kept (job_of s 0 x).watch ≡ true → go 0 ≤ c.part.bound
     go_start k =
         let t = graphs (task_of s x) in
         let o : is_open (job_of s 0 x).standing ≡ true = ap (λ (j : Job). is_open j.standing) (new_at s x h) in
@@ -136,7 +137,7 @@ module _ (s : Start) (set : TaskSet) (graphs : ℕ → TaskGraph) (R : IsInRange
         let bound = M.all.bound i.0 i.1 in
         omega (arith, law, is, same, bound)
 
-    pub go_fresh : (n : ℕ) → is_kept (job_of s 0 x).watch ≡ true → was_owner s n x ≡ false → go n ≤ c.bound
+    pub go_fresh : (n : ℕ) → is_kept (job_of s 0 x).watch ≡ true → was_owner s n x ≡ false → go n ≤ c.part.bound
     go_fresh n k w =
         let same = ap (λ (j : Job). cycles_to_go s.system (plan_at s x) (graphs (task_of s x)) (potentials_of c) j (fetched_nodes s graphs n x)) (never_moved s n x w) in
         let nodes = ap (λ b. cycles_to_go s.system (plan_at s x) (graphs (task_of s x)) (potentials_of c) (job_of s 0 x) b) (nodes_never n w) in
@@ -147,7 +148,7 @@ module _ (s : Start) (set : TaskSet) (graphs : ℕ → TaskGraph) (R : IsInRange
     abbrev entered : ℕ → Bool
     entered = enters s (graphs (task_of s x)) counted x
 
-    execution_step : (n : ℕ) → is_kept (job_of s (suc n) x).watch ≡ true → count_below (executes s x) n + go n ≤ c.bound + s.system.platform.miss * count_below entered n → count_below (executes s x) (suc n) + go (suc n) ≤ c.bound + s.system.platform.miss * count_below entered (suc n)
+    execution_step : (n : ℕ) → is_kept (job_of s (suc n) x).watch ≡ true → count_below (executes s x) n + go n ≤ c.part.bound + s.system.platform.miss * count_below entered n → count_below (executes s x) (suc n) + go (suc n) ≤ c.part.bound + s.system.platform.miss * count_below entered (suc n)
     execution_step n k so_far =
         elim (cases_some (candidate_at s n) x) [
           | inl e ↦
@@ -182,7 +183,7 @@ module _ (s : Start) (set : TaskSet) (graphs : ℕ → TaskGraph) (R : IsInRange
               rw (none, ent) (omega (arith, same, so_far))
         ]
 
-    pub execution : (n : ℕ) → is_kept (job_of s n x).watch ≡ true → count_below (executes s x) n + go n ≤ c.bound + s.system.platform.miss * count_below entered n
+    pub execution : (n : ℕ) → is_kept (job_of s n x).watch ≡ true → count_below (executes s x) n + go n ≤ c.part.bound + s.system.platform.miss * count_below entered n
     execution zero k = let start = go_start k in omega (arith, start)
     execution (suc n) k = execution_step n k (execution n (kept_before s set graphs R C T n x k))
 

@@ -9,7 +9,8 @@ use Rattle.flow_watch.specs.Watch.{is_kept}
 use Rattle.flat_graph.specs.Graph.{IsWalk, onto}
 use Rattle.evict_sets.specs.Full.{IsHit, FullUseful}
 use Rattle.evict_sets.proofs.WalkLaws.{first_here, first_on, walk_carry_law}
-use Rattle.cert_check.specs.Certificate.{TaskCertView, listed_of}
+use Rattle.crpd_base.specs.declared.data.TaskPart.{TaskPart}
+use Rattle.cert_check.specs.Certificate.{listed_of}
 use Rattle.cert_check.specs.Judge.{TaskGraph, accesses_of}
 use Rattle.preempt_machine.specs.Step.{Fetch, Start, state, fetch_at}
 use Rattle.preempt_machine.specs.Safe.{NamesTasks}
@@ -101,7 +102,7 @@ module _ (s : Start) (set : TaskSet) (graphs : ℕ → TaskGraph) (R : IsInRange
         ]
 
     -- so the set is in the useful set of the node of the fetch at c, where the job hits it by its state at step n
-    pub carried_to : (cert : TaskCertView) (counted : ℕ → Bool) → IsMet s.system.platform tg cert counted → c ≤ n → (g : Fetch) → FetchesAt s x n g → fetched_set s g ≡ target → IsHit tg.graph acc (listed_of cert) (node_of tg (job_of s n x)) → FullUseful tg.graph acc (listed_of cert) (node_of tg (job_of s c x)) target
+    pub carried_to : (cert : TaskPart) (counted : ℕ → Bool) → IsMet s.system.platform tg cert counted → c ≤ n → (g : Fetch) → FetchesAt s x n g → fetched_set s g ≡ target → IsHit tg.graph acc (listed_of cert) (node_of tg (job_of s n x)) → FullUseful tg.graph acc (listed_of cert) (node_of tg (job_of s c x)) target
     carried_to cert counted M l g ends to_set hit =
         let o = fetcher_open s x n g ends in
         let k = kept n (omega arith) in

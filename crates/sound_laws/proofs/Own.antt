@@ -8,7 +8,8 @@ use Rattle.flow_watch.specs.Watch.{is_kept}
 use Rattle.evict_sets.specs.Full.{FullState, IsHit}
 use Rattle.evict_sets.specs.Clauses.{StateAfter}
 use Rattle.evict_sets.proofs.WalkLaws.{last_here, last_on, last_access_law}
-use Rattle.cert_check.specs.Certificate.{TaskCertView, listed_of}
+use Rattle.crpd_base.specs.declared.data.TaskPart.{TaskPart}
+use Rattle.cert_check.specs.Certificate.{listed_of}
 use Rattle.cert_check.specs.Judge.{TaskGraph, accesses_of, cert_at}
 use Rattle.preempt_machine.specs.Step.{is_open, owns, Start, state, turn_of, makes_fetch}
 use Rattle.preempt_machine.specs.Safe.{NamesTasks}
@@ -82,7 +83,7 @@ module _ (s : Start) (set : TaskSet) (graphs : ℕ → TaskGraph) (R : IsInRange
             own_keeps s x c n b (own_of_nodes n c b kn (ap (last_access acc c) (sym (nodes_other s set graphs R C T n x ne)) ∙ e)) (λ f q. absurd (ne (own_candidate s x n f q)))
       ]
 
-  module _ (c : TaskCertView) (counted : ℕ → Bool) (M : IsMet s.system.platform tg c counted) where
+  module _ (c : TaskPart) (counted : ℕ → Bool) (M : IsMet s.system.platform tg c counted) where
     last_is : (n c' m : ℕ) (k : is_kept (job_of s n x).watch ≡ true) (o : is_open (job_of s n x).standing ≡ true) → FullState tg.graph acc (listed_of c) (node_of tg (job_of s n x)) c' m → last_access acc c' (before_of (job_of s n x) (fetched_nodes s graphs n x)) ≡ Some m
     last_is n c' m k o st =
         last_access_law tg.graph acc (listed_of c) (node_of tg (job_of s n x)) c' m (before_of (job_of s n x) (fetched_nodes s graphs n x)) (ok s set graphs R C T x h).follows.graph M.all.states (on_walk n k o).walked.walk st

@@ -18,12 +18,16 @@ use Rattle.loop_regions.specs.Potentials.{item_potential}
 use Rattle.loop_regions.specs.Watched.{HasNoErrors}
 use Rattle.evict_sets.specs.Full.{Listed, FullState, listed, accessed, passed, FullUseful, listed_useful, used, used_later}
 use Rattle.evict_sets.specs.Clauses.{ListsLeaders, StatesMeet, UsefulMeets, SetsMeet}
-use Rattle.cert_check.specs.Certificate.{StateView, block_in, listed_of, potentials_of, has_set}
+use Rattle.crpd_base.specs.declared.data.NodeState.{NodeState}
+use Rattle.cert_check.specs.Certificate.{block_in, listed_of, potentials_of}
+use Rattle.crpd_base.specs.Sets.{has as has_set}
 use Rattle.cert_check.specs.Clauses.{CountsHits, costs, PotentialsMeet, BoundMeets}
-use Rattle.cert_check.specs.Judge.{IsGraphOf, GraphMeets, IsYes, listing_of, answering, accesses_of, deadline_of}
+use Rattle.cert_check.specs.Judge.{IsGraphOf, GraphMeets, IsYes, listing_of, answering, accesses_of}
+use Rattle.crpd_base.specs.Tasks.{deadline_of}
 use Rattle.preempt_machine.specs.Machine.{plan_of}
 use Rattle.sound_laws.specs.Walks.{IsInRange, IsCodeMap, IsCodeOf}
-use Rattle.sound_laws.specs.RowTwo.{platform}
+use Rattle.sound_laws.specs.RowTwo.{platform, zero_alone}
+use Rattle.sound_laws.proofs.ZeroAlone.{has_says, no_member}
 use Rattle.sound_laws.specs.RowFour.{words, loop, system, set, address_of, ins_of, graph, task_certificate, certificate, RowFour}
 use Rattle.sound_laws.proofs.Checked.{yes_is_safe}
 
@@ -240,7 +244,7 @@ is_code = record { platform = refl; map = code_map; graphs_of = graphs_of }
     graphs_of (suc k) l = absurd (omega arith)
 
 in_range : IsInRange set
-in_range = record { hit = omega arith; sets = omega arith; periods = periods; deadlines = deadlines }
+in_range = record { hit = omega arith; sets = omega arith; few_sets = omega arith; periods = periods; deadlines = deadlines }
   where
     periods : (k : ℕ) → k < 1 → 1 ≤ period_of set k
     periods zero l = omega arith
@@ -310,16 +314,9 @@ full_make y l =
     four (λ z. 1 ≤ z → FullState graph.graph acc lists z (acc.set z) (acc.block z))
     (λ n. absurd (omega arith)) (λ n. listed 1 0 256 refl refl) (λ n. accessed 1 2 0 256 refl edge_12 refl refl) (λ n. listed 3 0 256 refl refl) y l
 
-has_says : (s : ℕ) → IsTrue (has_set (0 ∷ []) s) → s ≡ 0
-has_says s h =
-    elim (cases_Bool (0 == s)) [
-      | inl b ↦ sym (eqb-true 0 s b)
-      | inr b ↦ absurd (false≢true (rw b at h))
-    ]
-
 useful_says : (y s : ℕ) → y < 4 → FullUseful graph.graph acc lists y s → s ≡ 0
 useful_says y s l (listed_useful _ _ t st) =
-    four (λ z. IsTrue (lists.useful z s) → s ≡ 0) (λ h. absurd (false≢true h)) (λ h. has_says s h) (λ h. absurd (false≢true h)) (λ h. has_says s h) y l st
+    four (λ z. IsTrue (lists.useful z s) → s ≡ 0) (λ h. absurd (no_member s h)) (λ h. has_says s h) (λ h. absurd (false≢true h)) (λ h. has_says s h) y l st
 useful_says y s l (used _ _ f hit q) = sym q ∙ set_0 y l
 useful_says y s l (used_later _ v _ f e ne st) = useful_says v s (edge_below y v e) st
 
@@ -342,11 +339,11 @@ useful u l =
       edges = λ v s e ne st. absurd (ne (set_0 u l ∙ sym (useful_says v s (edge_below u v e) st)));
     }
 
-sets : (u : ℕ) → u < 4 → SetsMeet graph.graph acc lists (has_set (0 ∷ [])) (has_set (0 ∷ [])) u
+sets : (u : ℕ) → u < 4 → SetsMeet graph.graph acc lists (has_set zero_alone) (has_set zero_alone) u
 sets u l =
     record {
-      own = subst (λ z. IsTrue (has_set (0 ∷ []) z)) (sym (set_0 u l)) refl;
-      all = λ s st. subst (λ z. IsTrue (has_set (0 ∷ []) z)) (sym (useful_says u s l st)) refl;
+      own = subst (λ z. IsTrue (has_set zero_alone z)) (sym (set_0 u l)) refl;
+      all = λ s st. subst (λ z. IsTrue (has_set zero_alone z)) (sym (useful_says u s l st)) refl;
     }
 
 hits : CountsHits graph.graph acc lists (λ y. nat_lt 0 y)
@@ -435,7 +432,7 @@ is_yes zero l =
       in_deadline = omega arith;
     }
   where
-    numbers_below : (k : ℕ) (d : StateView) → k < 3 → (get_or task_certificate.states k d).node < 4
+    numbers_below : (k : ℕ) (d : NodeState) → k < 3 → (get_or task_certificate.states k d).node < 4
     numbers_below zero d l = omega arith
     numbers_below (suc zero) d l = omega arith
     numbers_below (suc (suc zero)) d l = omega arith

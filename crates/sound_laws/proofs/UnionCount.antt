@@ -1,5 +1,5 @@
 -- The entries of a window are at most the UCB-union multiset counts.
-use Rattle.std.proofs.Common.{◌≡◌, ℕ, suc, ◌+◌, ◌*◌, ◌<◌, ◌≤◌, ◌≢◌, Bool, true, ◌&&◌, length, refl, sym, ◌∙◌, ap, subst, inl, inr, arith}
+use Rattle.std.proofs.Common.{◌≡◌, ℕ, suc, ◌+◌, ◌*◌, ◌<◌, ◌≤◌, ◌≢◌, Bool, true, false, ◌&&◌, length, refl, sym, ◌∙◌, ap, subst, inl, inr, arith}
 use Rattle.std.specs.Prelude.{◌==◌, nat_lt, min, if◌then◌else◌}
 use Rattle.std.proofs.Math.Nat.{mul-le-mul_left}
 use Rattle.std.proofs.lemmas.Bool.{cases_Bool, cases_eq, false≢true, and_parts, and_from, or_cases, eq-eqb, eqb-true, ne_eqb, lt-ltb, ltb-true}
@@ -8,8 +8,10 @@ use Rattle.script_reader.specs.Legal.{period_of, jitter_of}
 use Rattle.preempt_machine.specs.Step.{Start}
 use Rattle.preempt_machine.specs.Safe.{IsLegalRun}
 use Rattle.crpd_base.specs.Sum.{sum_below}
-use Rattle.delay_count.specs.Counts.{Part, jobs_in, preemptions}
-use Rattle.delay_count.specs.Gamma.{ucb_count}
+use Rattle.crpd_base.specs.Sets.{has as has_set}
+use Rattle.crpd_base.specs.declared.data.Part.{Part}
+use Rattle.delay_count.specs.Counts.{jobs_in, preemptions, affected}
+use Rattle.delay_count.specs.Gamma.{union_count, ucb_count}
 use Rattle.sound_laws.proofs.Sums.{sum_le}
 use Rattle.sound_laws.proofs.Releases.{count, count_none, lies_in}
 use Rattle.sound_laws.proofs.Counting.{spread, inject, each_at_most, count_le}
@@ -24,10 +26,17 @@ pub record AreEntries (s : Start) (set : TaskSet) (parts : ℕ → Part) (window
   pub evictors : (n : ℕ) → n < to → entry n ≡ true → (evictor n < length s.lines) × (in_window s i t to (evictor n) ≡ true)
   pub higher : (n : ℕ) → n < to → entry n ≡ true → task_at s (evictor n) < task_at s (victim n)
   pub in_life : (n : ℕ) → n < to → entry n ≡ true → task_at s (victim n) < task_at s i → lies_in (line_at s (victim n)).release ((line_at s (victim n)).release + window (task_at s (victim n))) (line_at s (evictor n)).release ≡ true
-  pub places : (n : ℕ) → n < to → entry n ≡ true → cached n < set.platform.sets
-  pub is_evicted : (n : ℕ) → n < to → entry n ≡ true → (parts (task_at s (evictor n))).evicts (cached n) ≡ true
-  pub is_useful : (n : ℕ) → n < to → entry n ≡ true → (parts (task_at s (victim n))).useful (cached n) ≡ true
+  pub places : (n : ℕ) → n < to → entry n ≡ true → cached n < 512
+  pub is_evicted : (n : ℕ) → n < to → entry n ≡ true → has_set (parts (task_at s (evictor n))).evicting (cached n) ≡ true
+  pub is_useful : (n : ℕ) → n < to → entry n ≡ true → has_set (parts (task_at s (victim n))).useful (cached n) ≡ true
   pub once : (n m : ℕ) → n < m → m < to → entry n ≡ true → entry m ≡ true → evictor n ≡ evictor m → cached n ≡ cached m → ⊥
+
+-- two tests in either order
+swap_tests : (a b : Bool) (n : ℕ) → (if a && b then n else 0) ≡ (if b then (if a then n else 0) else 0)
+swap_tests true true n = refl
+swap_tests true false n = refl
+swap_tests false true n = refl
+swap_tests false false n = refl
 
 -- who is in a window is its job, or a member by its task
 pub inside_member : (s : Start) (i t to x : ℕ) → in_window s i t to x ≡ true → x ≢ i → is_member s t to (task_at s x) x ≡ true
@@ -134,9 +143,9 @@ module _ (s : Start) (set : TaskSet) (run : IsLegalRun set s) (parts : ℕ → P
       omega (arith, all, most, few)
 
   -- the second bound: the preemptions of the affected tasks
-  by_victims : (j c k : ℕ) → j ≤ task_at s i → k < suc (task_at s i) → count (by_victim j c k) to ≤ (if nat_lt j k && (parts k).useful c then preemptions set window (window (task_at s i)) (task_at s i) j k else 0)
+  by_victims : (j c k : ℕ) → j ≤ task_at s i → k < suc (task_at s i) → count (by_victim j c k) to ≤ (if nat_lt j k && has_set (parts k).useful c then preemptions set window (window (task_at s i)) (task_at s i) j k else 0)
   by_victims j c k h hk =
-      elim (cases_Bool (nat_lt j k && (parts k).useful c)) [
+      elim (cases_Bool (nat_lt j k && has_set (parts k).useful c)) [
         | inr b ↦
             let none = count_none (by_victim j c k) to (λ n l.
             elim (cases_Bool (by_victim j c k n)) [
@@ -149,8 +158,8 @@ module _ (s : Start) (set : TaskSet) (run : IsLegalRun set s) (parts : ℕ → P
                   let ej : task_at s (evictor n) ≡ j = eqb-true (task_at s (evictor n)) j eb.1 in
                   let cc' : cached n ≡ c = eqb-true (cached n) c tb.1 in
                   let l' : j < k = let hi = are.higher n l eb.0 in omega arith in
-                  let u : (parts k).useful c ≡ true = subst (λ z. (parts k).useful z ≡ true) cc' (subst (λ z. (parts z).useful (cached n) ≡ true) vk (are.is_useful n l eb.0)) in
-                  absurd (false≢true (sym b ∙ and_from (nat_lt j k) ((parts k).useful c) (lt-ltb j k l') u))
+                  let u : has_set (parts k).useful c ≡ true = subst (λ z. has_set (parts k).useful z ≡ true) cc' (subst (λ z. has_set (parts z).useful (cached n) ≡ true) vk (are.is_useful n l eb.0)) in
+                  absurd (false≢true (sym b ∙ and_from (nat_lt j k) (has_set (parts k).useful c) (lt-ltb j k l') u))
             ]) in
             omega (arith, none)
         | inl b ↦
@@ -167,21 +176,22 @@ module _ (s : Start) (set : TaskSet) (run : IsLegalRun set s) (parts : ℕ → P
             ]
       ]
 
-  by_preemptions : (j c : ℕ) → j ≤ task_at s i → count (by_set j c) to ≤ sum_below (λ k. if nat_lt j k && (parts k).useful c then preemptions set window (window (task_at s i)) (task_at s i) j k else 0) (suc (task_at s i))
+  by_preemptions : (j c : ℕ) → j ≤ task_at s i → count (by_set j c) to ≤ sum_below (λ k. if has_set (parts k).useful c then affected set window (window (task_at s i)) (task_at s i) j k else 0) (suc (task_at s i))
   by_preemptions j c h =
       let all = spread (by_set j c) (λ n. task_at s (victim n)) to (suc (task_at s i)) (λ n l b. let top = inside_task s i t to (victim n) (are.victims n l (and_parts _ _ (and_parts _ _ b).0).0).1 in omega arith) in
-      let le = sum_le (λ k. count (by_victim j c k) to) (λ k. if nat_lt j k && (parts k).useful c then preemptions set window (window (task_at s i)) (task_at s i) j k else 0) (suc (task_at s i)) (λ k l. by_victims j c k h l) in
+      let le = sum_le (λ k. count (by_victim j c k) to) (λ k. if has_set (parts k).useful c then affected set window (window (task_at s i)) (task_at s i) j k else 0) (suc (task_at s i)) (λ k l.
+      subst (λ n. count (by_victim j c k) to ≤ n) (swap_tests (nat_lt j k) (has_set (parts k).useful c) (preemptions set window (window (task_at s i)) (task_at s i) j k)) (by_victims j c k h l)) in
       omega (arith, all, le)
 
   abbrev share : ℕ → ℕ → ℕ
   share j c =
-      if (parts j).evicts c then
-      min (jobs j (window (task_at s i))) (sum_below (λ k. if nat_lt j k && (parts k).useful c then preemptions set window (window (task_at s i)) (task_at s i) j k else 0) (suc (task_at s i)))
+      if has_set (parts j).evicting c then
+      min (jobs j (window (task_at s i))) (sum_below (λ k. if has_set (parts k).useful c then affected set window (window (task_at s i)) (task_at s i) j k else 0) (suc (task_at s i)))
       else 0
 
   set_share : (j c : ℕ) → j ≤ task_at s i → count (by_set j c) to ≤ share j c
   set_share j c h =
-      elim (cases_Bool ((parts j).evicts c)) [
+      elim (cases_Bool (has_set (parts j).evicting c)) [
         | inl b ↦ let one = by_jobs j c h in let two = by_preemptions j c h in rw b (omega (arith, one, two))
         | inr b ↦
             let none = count_none (by_set j c) to (λ n l.
@@ -190,17 +200,21 @@ module _ (s : Start) (set : TaskSet) (run : IsLegalRun set s) (parts : ℕ → P
               | inl q ↦
                   let tb = and_parts (by_task j n) (cached n == c) q in
                   let eb = and_parts (entry n) (task_at s (evictor n) == j) tb.0 in
-                  let ev : (parts j).evicts c ≡ true = subst (λ z. (parts j).evicts z ≡ true) (eqb-true (cached n) c tb.1) (subst (λ z. (parts z).evicts (cached n) ≡ true) (eqb-true (task_at s (evictor n)) j eb.1) (are.is_evicted n l eb.0)) in
+                  let ev : has_set (parts j).evicting c ≡ true = subst (λ z. has_set (parts j).evicting z ≡ true) (eqb-true (cached n) c tb.1) (subst (λ z. has_set (parts z).evicting (cached n) ≡ true) (eqb-true (task_at s (evictor n)) j eb.1) (are.is_evicted n l eb.0)) in
                   absurd (false≢true (sym b ∙ ev))
             ]) in
             omega (arith, none)
       ]
 
-  pub task_share : (j : ℕ) → j ≤ task_at s i → count (by_task j) to ≤ ucb_count set parts window (window (task_at s i)) (task_at s i) j
-  task_share j h =
-      let all = spread (by_task j) cached to set.platform.sets (λ n l b. are.places n l (and_parts (entry n) _ b).0) in
-      let le = sum_le (λ c. count (by_set j c) to) (share j) set.platform.sets (λ c l. set_share j c h) in
+  all_shares : (j limit : ℕ) → j ≤ task_at s i → ((n : ℕ) → n < to → entry n ≡ true → cached n < limit) → count (by_task j) to ≤ sum_below (share j) limit
+  all_shares j limit h places =
+      let all = spread (by_task j) cached to limit (λ n l b. places n l (and_parts (entry n) _ b).0) in
+      let le = sum_le (λ c. count (by_set j c) to) (share j) limit (λ c l. set_share j c h) in
       omega (arith, all, le)
+
+  pub task_share : (j : ℕ) → j ≤ task_at s i → count (by_task j) to ≤ ucb_count set parts window (window (task_at s i)) (task_at s i) j
+  unfolding union_count
+  task_share j h = all_shares j 512 h are.places
 
   -- the entries of the window
   pub entries_few : count entry to ≤ sum_below (ucb_count set parts window (window (task_at s i)) (task_at s i)) (task_at s i)

@@ -4,7 +4,10 @@ use Rattle.crpd_base.specs.declared.data.TaskSet.{TaskSet}
 use Rattle.flow_watch.specs.Watch.{is_kept}
 use Rattle.evict_sets.specs.Full.{FullState, FullUseful}
 use Rattle.evict_sets.specs.Clauses.{StateAfter}
-use Rattle.cert_check.specs.Certificate.{TaskCertView, CertificateView, has_set, listed_of}
+use Rattle.crpd_base.specs.declared.data.TaskPart.{TaskPart}
+use Rattle.crpd_base.specs.declared.data.Certificate.{Certificate}
+use Rattle.cert_check.specs.Certificate.{listed_of}
+use Rattle.crpd_base.specs.Sets.{has as has_set}
 use Rattle.cert_check.specs.Judge.{TaskGraph, accesses_of, cert_at, IsYes}
 use Rattle.preempt_machine.specs.Step.{is_open, Fetch, Start}
 use Rattle.preempt_machine.specs.Safe.{NamesTasks}
@@ -16,28 +19,28 @@ use Rattle.sound_laws.specs.Rests.{counted_of, enters}
 
 -- each block that the full state of a job's node gives to a set is that of the job's own last fetch to it; while an
 -- instruction is under way, the same holds of the state after its node
-pub record OwnFetchesAgree (s : Start) (t : TaskGraph) (c : TaskCertView) (n x : ℕ) : Type 0 where
+pub record OwnFetchesAgree (s : Start) (t : TaskGraph) (c : TaskPart) (n x : ℕ) : Type 0 where
   pub between : (job_of s n x).left ≡ 0 → (set m : ℕ) → FullState t.graph (accesses_of s.system.platform t) (listed_of c) (node_of t (job_of s n x)) set m → HasOwn s x set n m
   pub within : (job_of s n x).left ≢ 0 → (set m : ℕ) → StateAfter t.graph (accesses_of s.system.platform t) (listed_of c) (node_of t (job_of s n x)) set m → HasOwn s x set n m
 
 abbrev pub OwnFetchesAgreeLaw : Type 0
 OwnFetchesAgreeLaw =
-    (s : Start) (set : TaskSet) (graphs : ℕ → TaskGraph) (c : CertificateView) (n x : ℕ) →
+    (s : Start) (set : TaskSet) (graphs : ℕ → TaskGraph) (c : Certificate) (n x : ℕ) →
     IsInRange set → IsCodeOf s.system set graphs → NamesTasks set s.lines → IsYes set graphs c → x < length s.lines →
     is_kept (job_of s n x).watch ≡ true → is_open (job_of s n x).standing ≡ true →
     OwnFetchesAgree s (graphs (task_of s x)) (cert_at c (task_of s x)) n x
 
 -- an entry is a reload, and its set is in the useful set of its node and of its task
-pub record IsReloadEntry (s : Start) (t : TaskGraph) (c : TaskCertView) (n x : ℕ) : Type 0 where
+pub record IsReloadEntry (s : Start) (t : TaskGraph) (c : TaskPart) (n x : ℕ) : Type 0 where
   pub own_time : ℕ
   pub own : Fetch
   pub reload : IsReload s x n own_time (record { job = x; address = (job_of s n x).pc }) own
   pub useful : FullUseful t.graph (accesses_of s.system.platform t) (listed_of c) (node_of t (job_of s n x)) ((accesses_of s.system.platform t).set (node_of t (job_of s n x)))
-  pub in_set : IsTrue (has_set c.useful ((accesses_of s.system.platform t).set (node_of t (job_of s n x))))
+  pub in_set : IsTrue (has_set c.part.useful ((accesses_of s.system.platform t).set (node_of t (job_of s n x))))
 
 abbrev pub EntriesAreReloads : Type 0
 EntriesAreReloads =
-    (s : Start) (set : TaskSet) (graphs : ℕ → TaskGraph) (c : CertificateView) (n x : ℕ) →
+    (s : Start) (set : TaskSet) (graphs : ℕ → TaskGraph) (c : Certificate) (n x : ℕ) →
     IsInRange set → IsCodeOf s.system set graphs → NamesTasks set s.lines → (says : IsYes set graphs c) → x < length s.lines → (l : task_of s x < length set.tasks) →
     is_kept (job_of s n x).watch ≡ true →
     enters s (graphs (task_of s x)) (counted_of set graphs c says (task_of s x) l) x n ≡ true →

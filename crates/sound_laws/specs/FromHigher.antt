@@ -2,7 +2,9 @@
 use Rattle.std.specs.Prelude.{◌≡◌, ◌⊎◌, ℕ, ◌<◌, true, IsTrue, Bool, ◌≤◌}
 use Rattle.crpd_base.specs.declared.data.TaskSet.{TaskSet}
 use Rattle.evict_sets.specs.Full.{FullUseful}
-use Rattle.cert_check.specs.Certificate.{CertificateView, has_set, listed_of}
+use Rattle.crpd_base.specs.declared.data.Certificate.{Certificate}
+use Rattle.cert_check.specs.Certificate.{listed_of}
+use Rattle.crpd_base.specs.Sets.{has as has_set}
 use Rattle.cert_check.specs.Judge.{TaskGraph, accesses_of, cert_at, IsYes}
 use Rattle.preempt_machine.specs.Step.{before, Start, state}
 use Rattle.preempt_machine.specs.Safe.{IsRunOf, IsKept}
@@ -15,26 +17,26 @@ use Rattle.sound_laws.specs.Rests.{count_below}
 -- an entry's evictor and preemptor are of higher tasks than its job, and the evictor does not come after the preemptor.
 -- Its set is in the evictor's evicting set, in its task's useful set, and in the useful set of the full state of the node
 -- of the second of the two fetches between which the evictor's was made: the node to which the job went on
-pub record IsFromHigher (s : Start) (graphs : ℕ → TaskGraph) (c : CertificateView) (n x p : ℕ) (e : IsPreempted s graphs c n x p) : Type 0 where
+pub record IsFromHigher (s : Start) (graphs : ℕ → TaskGraph) (c : Certificate) (n x p : ℕ) (e : IsPreempted s graphs c n x p) : Type 0 where
   pub evictor : task_of s e.is.evictor.job < task_of s x
   pub preemptor : task_of s p < task_of s x
   pub not_after : (e.is.evictor.job ≡ p) ⊎ (before (state s 0).jobs e.is.evictor.job p ≡ true)
-  pub evicts : IsTrue (has_set (cert_at c (task_of s e.is.evictor.job)).evicting (fetched_set s e.fetch))
-  pub in_set : IsTrue (has_set (cert_at c (task_of s x)).useful (fetched_set s e.fetch))
+  pub evicts : IsTrue (has_set (cert_at c (task_of s e.is.evictor.job)).part.evicting (fetched_set s e.fetch))
+  pub in_set : IsTrue (has_set (cert_at c (task_of s x)).part.useful (fetched_set s e.fetch))
   pub carried : let t = graphs (task_of s x) in
       FullUseful t.graph (accesses_of s.system.platform t) (listed_of (cert_at c (task_of s x))) (node_of t (job_of s e.until x)) (fetched_set s e.fetch)
 
 -- after a yes, of every run, legal or not
 abbrev pub EntryFromHigher : Type 0
 EntryFromHigher =
-    (s : Start) (set : TaskSet) (graphs : ℕ → TaskGraph) (c : CertificateView) (n x p : ℕ) →
+    (s : Start) (set : TaskSet) (graphs : ℕ → TaskGraph) (c : Certificate) (n x p : ℕ) →
     IsInRange set → IsCodeOf s.system set graphs → IsYes set graphs c → IsRunOf set s →
     (e : IsPreempted s graphs c n x p) → IsFromHigher s graphs c n x p e
 
 -- the entries of a job with one preemptor are at most as many as the useful sets of the node to which the job went on
 abbrev pub PreemptorWithinUseful : Type 0
 PreemptorWithinUseful =
-    (s : Start) (set : TaskSet) (graphs : ℕ → TaskGraph) (c : CertificateView) (until x p first : ℕ) (test useful : ℕ → Bool) →
+    (s : Start) (set : TaskSet) (graphs : ℕ → TaskGraph) (c : Certificate) (until x p first : ℕ) (test useful : ℕ → Bool) →
     IsInRange set → IsCodeOf s.system set graphs → IsYes set graphs c → IsRunOf set s → IsKept (state s until) →
     (e : IsPreempted s graphs c first x p) →
     ((n : ℕ) → test n ≡ true → (n < until) × IsPreempted s graphs c n x p) →

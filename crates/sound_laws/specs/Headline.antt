@@ -1,7 +1,7 @@
 -- What holds after the judge's yes.
 use Rattle.std.specs.Prelude.{◌≡◌, ◌≢◌, ◌⊎◌, ℕ, ◌+◌, ◌<◌, ◌≤◌, false, length, Some}
 use Rattle.crpd_base.specs.declared.data.TaskSet.{TaskSet}
-use Rattle.cert_check.specs.Certificate.{CertificateView}
+use Rattle.crpd_base.specs.declared.data.Certificate.{Certificate}
 use Rattle.cert_check.specs.Judge.{TaskGraph, cert_at, IsYes, responses}
 use Rattle.preempt_machine.specs.Machine.{System}
 use Rattle.preempt_machine.specs.Step.{is_open, candidate, Start, state}
@@ -13,7 +13,7 @@ use Rattle.sound_laws.specs.Walks.{IsInRange, IsCodeOf}
 -- after a yes the set with its code and the reported responses is safe
 abbrev pub YesIsSafe : Type 0
 YesIsSafe =
-    (sys : System) (set : TaskSet) (graphs : ℕ → TaskGraph) (c : CertificateView) →
+    (sys : System) (set : TaskSet) (graphs : ℕ → TaskGraph) (c : Certificate) →
     IsInRange set → IsCodeOf sys set graphs → IsYes set graphs c → IsSafe sys set (responses c)
 
 -- from its first step as the candidate on, a job is the candidate of so many steps, or over
@@ -25,7 +25,7 @@ pub record IsUndisturbed (s : Start) (x first steps : ℕ) : Type 0 where
 -- after a yes, in a kept run, legal or not, an undisturbed job answers within its switch and its bound
 abbrev pub UndisturbedBound : Type 0
 UndisturbedBound =
-    (s : Start) (set : TaskSet) (graphs : ℕ → TaskGraph) (c : CertificateView) (n x first : ℕ) →
+    (s : Start) (set : TaskSet) (graphs : ℕ → TaskGraph) (c : Certificate) (n x first : ℕ) →
     IsInRange set → IsCodeOf s.system set graphs → IsYes set graphs c → IsRunOf set s → IsKept (state s n) → x < length s.lines →
-    let steps = s.system.platform.switch + (cert_at c (task_of s x)).bound in
+    let steps = s.system.platform.switch + (cert_at c (task_of s x)).part.bound in
     first + steps ≤ n → IsUndisturbed s x first steps → IsAnsweredBy (first + steps) (job_of s n x).standing

@@ -11,7 +11,8 @@ use Rattle.rv_core.specs.Effect.{next_pc}
 use Rattle.icache.specs.Cache.{block_of, is_hit}
 use Rattle.flow_watch.specs.Watch.{is_kept, step as watch_step}
 use Rattle.loop_regions.specs.Potentials.{Potentials, rest}
-use Rattle.cert_check.specs.Certificate.{CertificateView, potentials_of}
+use Rattle.crpd_base.specs.declared.data.Certificate.{Certificate}
+use Rattle.cert_check.specs.Certificate.{potentials_of}
 use Rattle.cert_check.specs.Judge.{TaskGraph, cert_at, IsYes}
 use Rattle.preempt_machine.specs.Machine.{System, Job, ins_at}
 use Rattle.preempt_machine.specs.Step.{is_open, owns, candidate, Turn, turn_of, makes_fetch, Start, state}
@@ -49,7 +50,7 @@ is_entry sys t counted u =
     makes_fetch sys u && (counted (node_of t u.job) && not (is_hit sys.platform u.cache (block_of sys.platform u.job.pc)))
 
 -- the tests of the clauses, which say of each task's nodes which are counted as hits
-abbrev pub counted_of : (set : TaskSet) (graphs : ℕ → TaskGraph) (c : CertificateView) → IsYes set graphs c → (k : ℕ) → k < length set.tasks → ℕ → Bool
+abbrev pub counted_of : (set : TaskSet) (graphs : ℕ → TaskGraph) (c : Certificate) → IsYes set graphs c → (k : ℕ) → k < length set.tasks → ℕ → Bool
 counted_of set graphs c says k h = (says k h).graph.is_hit
 
 -- whether job x uses a cycle of an instruction at step n, and whether it makes an entry there
@@ -66,10 +67,10 @@ count_below p n = sum_below (λ x. if p x then 1 else 0) n
 -- entries so far. Those that it has to go are at least 1 while it is open
 abbrev pub ExecutionWithinBound : Type 0
 ExecutionWithinBound =
-    (s : Start) (set : TaskSet) (graphs : ℕ → TaskGraph) (c : CertificateView) (n x : ℕ) →
+    (s : Start) (set : TaskSet) (graphs : ℕ → TaskGraph) (c : Certificate) (n x : ℕ) →
     IsInRange set → IsCodeOf s.system set graphs → NamesTasks set s.lines → (says : IsYes set graphs c) → (h : x < length s.lines) → (l : task_of s x < length set.tasks) →
     is_kept (job_of s n x).watch ≡ true →
     let t = graphs (task_of s x) in
     let to_go = cycles_to_go s.system (plan_at s x) t (potentials_of (cert_at c (task_of s x))) (job_of s n x) (fetched_nodes s graphs n x) in
-    (count_below (executes s x) n + to_go ≤ (cert_at c (task_of s x)).bound + s.system.platform.miss * count_below (enters s t (counted_of set graphs c says (task_of s x) l) x) n)
+    (count_below (executes s x) n + to_go ≤ (cert_at c (task_of s x)).part.bound + s.system.platform.miss * count_below (enters s t (counted_of set graphs c says (task_of s x) l) x) n)
     × (is_open (job_of s n x).standing ≡ true → 1 ≤ to_go)

@@ -1,17 +1,18 @@
 -- The worked row of a loop: its system, its graph with a region, and its certificate as the analysis writes it.
-use Rattle.std.specs.Prelude.{ℕ, zero, suc, ◌==◌, ◌||◌, if◌then◌else◌, pos, negsuc, List, [], ◌∷◌, Option, Some, None}
+use Rattle.std.specs.Prelude.{ℕ, zero, suc, ◌==◌, ◌||◌, if◌then◌else◌, pos, negsuc, List, [], ◌∷◌, replicate, Option, Some, None}
 use Rattle.crpd_base.specs.declared.data.LoopAt.{LoopAt}
 use Rattle.crpd_base.specs.declared.data.TaskPlan.{TaskPlan}
 use Rattle.crpd_base.specs.declared.data.TaskSet.{TaskSet}
 use Rattle.rv_decode.specs.declared.Ins.{Ins}
 use Rattle.rv_decode.specs.declared.Ins.TheVariants.{Addi, Bne, Ecall}
 use Rattle.crpd_base.specs.declared.data.Method.TheVariants.{Ucb}
-use Rattle.cert_check.specs.Certificate.{TaskCertView, CertificateView}
+use Rattle.crpd_base.specs.declared.data.TaskPart.{TaskPart}
+use Rattle.crpd_base.specs.declared.data.Certificate.{Certificate}
 use Rattle.cert_check.specs.Judge.{TaskGraph, IsYes}
 use Rattle.preempt_machine.specs.Machine.{System}
 use Rattle.preempt_machine.specs.Safe.{IsSafe}
 use Rattle.sound_laws.specs.Walks.{IsInRange, IsCodeOf}
-use Rattle.sound_laws.specs.RowTwo.{platform, task}
+use Rattle.sound_laws.specs.RowTwo.{platform, task, zero_alone}
 
 -- three into x5, less one, back while it is not 0, ECALL
 abbrev pub words : ℕ → Option ℕ
@@ -58,24 +59,22 @@ graph =
       nest = record { size = 1; head = λ r. 1; bound = λ r. 3; holds = λ r y. (y == 1) || (y == 2) };
     }
 
-abbrev pub task_certificate : TaskCertView
+abbrev pub task_certificate : TaskPart
 task_certificate =
     record {
       name = [];
-      states = record { node = 0; sure = []; useful = [] }
-          ∷ record { node = 1; sure = (0, 256) ∷ []; useful = 0 ∷ [] }
-          ∷ record { node = 3; sure = (0, 256) ∷ []; useful = 0 ∷ [] } ∷ [];
-      evicting = 0 ∷ [];
-      useful = 0 ∷ [];
+      part = record { bound = 24; evicting = zero_alone; useful = zero_alone };
+      states = record { node = 0; sure = []; useful = replicate 8 0 }
+          ∷ record { node = 1; sure = (0, 256) ∷ []; useful = zero_alone }
+          ∷ record { node = 3; sure = (0, 256) ∷ []; useful = zero_alone } ∷ [];
       potentials = 24 ∷ 4 ∷ 3 ∷ 1 ∷ [];
       loops = 13 ∷ [];
-      bound = 24;
       window = 29;
       method = Ucb;
       response = 29;
     }
 
-abbrev pub certificate : CertificateView
+abbrev pub certificate : Certificate
 certificate = record { platform = platform; tasks = task_certificate ∷ [] }
 
 -- the premises of the laws hold of it, so the set is safe with the response 29

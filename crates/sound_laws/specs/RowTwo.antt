@@ -1,5 +1,5 @@
 -- The worked row of one task with two words: its system, its graph and its certificate.
-use Rattle.std.specs.Prelude.{ℕ, zero, suc, ◌==◌, if◌then◌else◌, false, pos, List, [], ◌∷◌, Option, Some, None}
+use Rattle.std.specs.Prelude.{ℕ, zero, suc, ◌==◌, if◌then◌else◌, false, pos, List, [], ◌∷◌, replicate, Option, Some, None}
 use Rattle.crpd_base.specs.declared.data.Platform.{Platform}
 use Rattle.crpd_base.specs.declared.data.Place.TheVariants.{Number}
 use Rattle.crpd_base.specs.declared.data.Switching.TheVariants.{Cycle}
@@ -9,7 +9,8 @@ use Rattle.crpd_base.specs.declared.data.TaskSet.{TaskSet}
 use Rattle.rv_decode.specs.declared.Ins.{Ins}
 use Rattle.rv_decode.specs.declared.Ins.TheVariants.{Addi, Ecall}
 use Rattle.crpd_base.specs.declared.data.Method.TheVariants.{Ucb}
-use Rattle.cert_check.specs.Certificate.{TaskCertView, CertificateView}
+use Rattle.crpd_base.specs.declared.data.TaskPart.{TaskPart}
+use Rattle.crpd_base.specs.declared.data.Certificate.{Certificate}
 use Rattle.cert_check.specs.Judge.{TaskGraph, IsYes}
 use Rattle.preempt_machine.specs.Machine.{System}
 use Rattle.preempt_machine.specs.Safe.{IsSafe}
@@ -54,23 +55,25 @@ graph =
       nest = record { size = 0; head = λ r. 0; bound = λ r. 0; holds = λ r y. false };
     }
 
+-- the set of cache set 0 alone, in its words
+abbrev pub zero_alone : List ℕ
+zero_alone = 1 ∷ replicate 7 0
+
 -- the certificate lists the one leader; the second node is a hit by the state after the first
-abbrev pub task_certificate : TaskCertView
+abbrev pub task_certificate : TaskPart
 task_certificate =
     record {
       name = [];
-      states = record { node = 0; sure = []; useful = [] } ∷ [];
-      evicting = 0 ∷ [];
-      useful = 0 ∷ [];
+      part = record { bound = 12; evicting = zero_alone; useful = zero_alone };
+      states = record { node = 0; sure = []; useful = replicate 8 0 } ∷ [];
       potentials = 12 ∷ 1 ∷ [];
       loops = [];
-      bound = 12;
       window = 17;
       method = Ucb;
       response = 17;
     }
 
-abbrev pub certificate : CertificateView
+abbrev pub certificate : Certificate
 certificate = record { platform = platform; tasks = task_certificate ∷ [] }
 
 -- the premises of the laws hold of it, so the set is safe with the response 17

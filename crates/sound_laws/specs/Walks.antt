@@ -9,7 +9,8 @@ use Rattle.flow_watch.specs.Watch.{Frame, is_kept}
 use Rattle.flat_graph.specs.Graph.{IsWalk}
 use Rattle.loop_regions.specs.Nest.{IsKept}
 use Rattle.loop_regions.specs.Watched.{IsWatchedWalk}
-use Rattle.cert_check.specs.Judge.{TaskGraph, IsGraphOf, deadline_of}
+use Rattle.cert_check.specs.Judge.{TaskGraph, IsGraphOf}
+use Rattle.crpd_base.specs.Tasks.{deadline_of}
 use Rattle.preempt_machine.specs.Machine.{System, Job, plan_of}
 use Rattle.preempt_machine.specs.Step.{is_open, Fetch, Start, fetch_at}
 use Rattle.preempt_machine.specs.Safe.{NamesTasks}
@@ -20,6 +21,7 @@ use Rattle.run_account.specs.Nodes.{task_of, plan_at, node_of}
 pub record IsInRange (set : TaskSet) : Type 0 where
   pub hit : 1 ≤ set.platform.hit
   pub sets : 1 ≤ set.platform.sets
+  pub few_sets : set.platform.sets ≤ 512
   pub periods : (k : ℕ) → k < length set.tasks → 1 ≤ period_of set k
   pub deadlines : (k : ℕ) → k < length set.tasks → deadline_of set k ≤ period_of set k
 
