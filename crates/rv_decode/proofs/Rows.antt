@@ -86,3 +86,12 @@ whole_row make w v found e = sym (ap row e ∙ found)
 
 pub not_whole : (w v : ℕ) → (w ≡ v → ⊥) → false ≡ fits (Whole v) w
 not_whole w v h = grind arith
+
+pub opcode_is : (w o : ℕ) → fits (Opcode o) w ≡ true → bits 0 7 w ≡ o
+opcode_is w o h = grind arith
+
+pub funct3_is : (w o f : ℕ) → fits (Funct3 o f) w ≡ true → (bits 0 7 w ≡ o) × (bits 12 3 w ≡ f)
+funct3_is w o f h = grind arith
+
+pub funct7_is : (w o f g : ℕ) → fits (Funct7 o f g) w ≡ true → (bits 0 7 w ≡ o) × (bits 12 3 w ≡ f) × (bits 25 7 w ≡ g)
+funct7_is w o f g h = grind arith

@@ -1,6 +1,8 @@
 // From a word to its instruction.
-ghost use Rattle.std.specs.Prelude.{◌≡◌};
-ghost use Rattle.rv_decode.specs.Table.{row};
+ghost use Rattle.std.specs.Prelude.{◌≡◌, IfSome};
+ghost use Rattle.rv_decode.specs.Encoding.{ExcludeEachOther};
+ghost use Rattle.rv_decode.specs.Range.{IsInRange};
+ghost use Rattle.rv_decode.specs.Table.{row, table};
 
 use crate::Ins;
 use crate::fields::{Fields, has_funct3, has_funct7, has_opcode};
@@ -98,9 +100,15 @@ macro_rules! decode_rows {
 /// (RISC-V unprivileged manual, "RV32/64G Instruction Set Listings").
 #[tactic(none)]
 pub fn decode(word: u32) -> Option<Ins>
-    ensures { result ≡ row word }
+    ensures row { result ≡ row word }
+    ensures in_range { IfSome result IsInRange }
 {
     let at = Fields::split(word);
     instruction_table!(decode_rows [word at]);
     None
 }
+
+/// A law: no word fits two rows of the table.
+pub fn no_word_fits_two_rows()
+    ensures { ExcludeEachOther table }
+{}

@@ -1,0 +1,46 @@
+// The registers.
+ghost use Rattle.std.specs.Prelude.{◌≡◌, ◌<◌, ℕ, List, length, replicate};
+ghost use Rattle.rv_core.specs.Registers.{reg, put};
+
+use std::marker::Model;
+
+/// 32 registers of 32 bits. Register 0 reads 0.
+#[derive(Clone, Copy, Debug, PartialEq, Eq)]
+pub struct Regs {
+    values: [u32; 32],
+}
+
+impl Model for Regs {
+    ghost Value = { List ℕ };
+
+    ghost view = { λ r. r.values };
+
+    ghost inverse = { λ v. record { values = v } };
+}
+
+impl Regs {
+    /// All 0.
+    pub fn new() -> Self
+        ensures { result ≡ replicate 32 0 }
+    {
+        Regs { values: [0; 32] }
+    }
+
+    /// What register `n` holds.
+    pub fn get(&self, n: u8) -> u32
+        requires { n < 32 }
+        ensures { result ≡ reg self.now n }
+    {
+        if n == 0 { 0 } else { self.values[n as usize] }
+    }
+
+    /// Puts a value into register `n`. A write to register 0 is lost.
+    pub fn put(&mut self, n: u8, value: u32)
+        requires { n < 32 }
+        ensures { self.new ≡ put self.old n value }
+    {
+        if n != 0 {
+            self.values[n as usize] = value;
+        }
+    }
+}

@@ -1,0 +1,191 @@
+// From an instruction to its word.
+ghost use Rattle.std.specs.Prelude.{◌≡◌, ◌+◌, ◌-◌, ◌<◌, ◌≤◌, ◌^◌, ◌/◌, ◌%◌, ◌*◌};
+ghost use Rattle.rv_decode.specs.Encoding.{IsWordOf, assembled, signed_bits, i_word, s_word, b_word, u_word, j_word};
+ghost use Rattle.rv_decode.specs.Range.{IsInRange, IsSigned};
+
+use crate::Ins;
+use crate::table::instruction_table;
+
+/// What stands in the places of rd, rs1, rs2 and funct7.
+#[derive(Clone, Copy)]
+struct Parts {
+    rd: u32,
+    rs1: u32,
+    rs2: u32,
+    funct7: u32,
+}
+
+fn assemble(opcode: u32, funct3: u32, parts: Parts) -> u32
+    requires opcode { opcode < 2 ^ 7 }
+    requires funct3 { funct3 < 2 ^ 3 }
+    requires rd { parts.rd < 2 ^ 5 }
+    requires rs1 { parts.rs1 < 2 ^ 5 }
+    requires rs2 { parts.rs2 < 2 ^ 5 }
+    requires funct7 { parts.funct7 < 2 ^ 7 }
+    ensures { result ≡ assembled opcode parts.rd funct3 parts.rs1 parts.rs2 parts.funct7 }
+{
+    let low = opcode + (parts.rd << 7) + (funct3 << 12);
+    low + (parts.rs1 << 15) + (parts.rs2 << 20) + (parts.funct7 << 25)
+}
+
+/// The `count` bits of a signed number.
+fn bits_of(imm: i32, count: u32) -> u32
+    requires some { 1 ≤ count }
+    requires few { count ≤ 21 }
+    requires within { IsSigned count imm }
+    ensures value { result ≡ signed_bits count imm }
+    ensures below { result < 2 ^ count }
+{
+    if imm < 0 {
+        (imm + (1 << count)) as u32
+    } else {
+        imm as u32
+    }
+}
+
+fn r_word(opcode: u32, funct3: u32, funct7: u32, rd: u8, rs1: u8, rs2: u8) -> u32
+    requires opcode { opcode < 2 ^ 7 }
+    requires funct3 { funct3 < 2 ^ 3 }
+    requires funct7 { funct7 < 2 ^ 7 }
+    requires rd { rd < 32 }
+    requires rs1 { rs1 < 32 }
+    requires rs2 { rs2 < 32 }
+    ensures { result ≡ assembled opcode rd funct3 rs1 rs2 funct7 }
+{
+    let parts = Parts {
+        rd: rd as u32,
+        rs1: rs1 as u32,
+        rs2: rs2 as u32,
+        funct7,
+    };
+    assemble(opcode, funct3, parts)
+}
+
+/// The I form, and FENCE, whose bits 31 to 20 are these.
+fn i_word(opcode: u32, funct3: u32, rd: u8, rs1: u8, high: u32) -> u32
+    requires opcode { opcode < 2 ^ 7 }
+    requires funct3 { funct3 < 2 ^ 3 }
+    requires rd { rd < 32 }
+    requires rs1 { rs1 < 32 }
+    requires high { high < 2 ^ 12 }
+    ensures { result ≡ i_word opcode funct3 rd rs1 high }
+{
+    let parts = Parts {
+        rd: rd as u32,
+        rs1: rs1 as u32,
+        rs2: high % 32,
+        funct7: high / 32,
+    };
+    assemble(opcode, funct3, parts)
+}
+
+fn s_word(opcode: u32, funct3: u32, rs1: u8, rs2: u8, imm: i32) -> u32
+    requires opcode { opcode < 2 ^ 7 }
+    requires funct3 { funct3 < 2 ^ 3 }
+    requires rs1 { rs1 < 32 }
+    requires rs2 { rs2 < 32 }
+    requires imm { IsSigned 12 imm }
+    ensures { result ≡ s_word opcode funct3 rs1 rs2 (signed_bits 12 imm) }
+{
+    let imm = bits_of(imm, 12);
+    let parts = Parts {
+        rd: imm % 32,
+        rs1: rs1 as u32,
+        rs2: rs2 as u32,
+        funct7: imm / 32,
+    };
+    assemble(opcode, funct3, parts)
+}
+
+fn b_word(opcode: u32, funct3: u32, rs1: u8, rs2: u8, imm: i32) -> u32
+    requires opcode { opcode < 2 ^ 7 }
+    requires funct3 { funct3 < 2 ^ 3 }
+    requires rs1 { rs1 < 32 }
+    requires rs2 { rs2 < 32 }
+    requires imm { IsSigned 13 imm }
+    ensures { result ≡ b_word opcode funct3 rs1 rs2 (signed_bits 13 imm) }
+{
+    let imm = bits_of(imm, 13);
+    let parts = Parts {
+        rd: (imm >> 11) % 2 + (imm >> 1) % 16 * 2,
+        rs1: rs1 as u32,
+        rs2: rs2 as u32,
+        funct7: (imm >> 5) % 64 + (imm >> 12) * 64,
+    };
+    assemble(opcode, funct3, parts)
+}
+
+fn u_word(opcode: u32, rd: u8, upper: u32) -> u32
+    requires opcode { opcode < 2 ^ 7 }
+    requires rd { rd < 32 }
+    requires upper { upper < 2 ^ 20 }
+    ensures { result ≡ u_word opcode rd upper }
+{
+    opcode + ((rd as u32) << 7) + (upper << 12)
+}
+
+fn j_word(opcode: u32, rd: u8, imm: i32) -> u32
+    requires opcode { opcode < 2 ^ 7 }
+    requires rd { rd < 32 }
+    requires imm { IsSigned 21 imm }
+    ensures { result ≡ j_word opcode rd (signed_bits 21 imm) }
+{
+    let imm = bits_of(imm, 21);
+    let low = (imm >> 12) % 256 + (imm >> 11) % 2 * 256;
+    u_word(
+        opcode,
+        rd,
+        low + (imm >> 1) % 1024 * 512 + (imm >> 20) * 524_288,
+    )
+}
+
+/// The word of a row and its fields.
+macro_rules! write_row {
+    (r { $rd:ident, $rs1:ident, $rs2:ident } $opcode:literal $funct3:literal $funct7:literal) => {
+        r_word($opcode, $funct3, $funct7, $rd, $rs1, $rs2)
+    };
+    (shift { $rd:ident, $rs1:ident, $amount:ident } $opcode:literal $funct3:literal $funct7:literal) => {
+        r_word($opcode, $funct3, $funct7, $rd, $rs1, $amount)
+    };
+    (i { $rd:ident, $rs1:ident, $imm:ident } $opcode:literal $funct3:literal) => {
+        i_word($opcode, $funct3, $rd, $rs1, bits_of($imm, 12))
+    };
+    (address { $rd:ident, $rs1:ident, $imm:ident } $opcode:literal $funct3:literal) => {
+        i_word($opcode, $funct3, $rd, $rs1, bits_of($imm, 12))
+    };
+    (s { $rs1:ident, $rs2:ident, $imm:ident } $opcode:literal $funct3:literal) => {
+        s_word($opcode, $funct3, $rs1, $rs2, $imm)
+    };
+    (b { $rs1:ident, $rs2:ident, $imm:ident } $opcode:literal $funct3:literal) => {
+        b_word($opcode, $funct3, $rs1, $rs2, $imm)
+    };
+    (u { $rd:ident, $upper:ident } $opcode:literal) => {
+        u_word($opcode, $rd, $upper)
+    };
+    (j { $rd:ident, $imm:ident } $opcode:literal) => {
+        j_word($opcode, $rd, $imm)
+    };
+    (fence { $rd:ident, $rs1:ident, $bits:ident } $opcode:literal $funct3:literal) => {
+        i_word($opcode, $funct3, $rd, $rs1, $bits as u32)
+    };
+    (whole {} $whole:literal) => {
+        $whole
+    };
+}
+
+macro_rules! encode_rows {
+    ([$ins:ident] $({ $form:ident $variant:ident $fields:tt $name:literal $($key:literal)* })*) => {
+        match *$ins {
+            $(Ins::$variant $fields => write_row!($form $fields $($key)*),)*
+        }
+    };
+}
+
+/// The word of an instruction whose fields are in range: the one word that is decoded to it.
+#[tactic(auto, unfolding(crate::specs::Range::IsInRange))]
+pub fn encode(ins: &Ins) -> u32
+    requires { IsInRange ins.now }
+    ensures { IsWordOf ins.now result }
+{
+    instruction_table!(encode_rows[ins])
+}
