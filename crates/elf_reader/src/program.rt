@@ -37,7 +37,7 @@ fn table(
     ensures headers { IfOk result (λ hs. hs.items ≡ map (λ i. fields.program_header bytes.now (start + 32 * i)) (range_with_len 0 count)) }
     ensures count { IfOk result (λ hs. vec_len hs ≡ count) }
 {
-    let mut headers = Vec::new(alloc);
+    let mut headers = Vec::with_capacity(alloc, usize::from(count))?;
     for i in 0..usize::from(count) {
         headers.push(program_header(bytes, start + 32 * i))?;
     }

@@ -34,7 +34,7 @@ fn table(
     requires { start + 40 * count ≤ length bytes.now }
     ensures { IfOk result (λ ss. ss.items ≡ map (λ i. fields.section_header bytes.now (start + 40 * i)) (range_with_len 0 count)) }
 {
-    let mut sections = Vec::new(alloc);
+    let mut sections = Vec::with_capacity(alloc, usize::from(count))?;
     for i in 0..usize::from(count) {
         sections.push(section_header(bytes, start + 40 * i))?;
     }
