@@ -46,6 +46,19 @@ fn push_words(bytes: &mut Vec<u8>, words: &[u32]) -> Result<(), AllocError> {
     Ok(())
 }
 
+// The bytes with this word at a place.
+fn with_word(alloc: Global, old: &[u8], place: usize, word: u32) -> Result<Vec<u8>, AllocError> {
+    let mut bytes = Vec::new(alloc);
+    for (i, byte) in old.iter().enumerate() {
+        if i == place {
+            push_words(&mut bytes, &[word])?;
+        } else if i < place || i - place > 3 {
+            bytes.extend_from_slice(&[*byte])?;
+        }
+    }
+    Ok(bytes)
+}
+
 // A file's header with entry 0x1000, and program headers behind it.
 fn file(alloc: Global, phnum: u16, shoff: u32, shnum: u16) -> Result<Vec<u8>, AllocError> {
     let mut bytes = Vec::from_slice(alloc, &ONE[..24])?;
@@ -113,9 +126,7 @@ fn changed_fields(rt: HostRuntime) -> Result<(), Fail> {
         (76, 0xfffffff1, Ok(())),
     ];
     for (place, word, want) in cases {
-        let mut bytes = Vec::from_slice(rt.alloc(), &ONE[..place])?;
-        push_words(&mut bytes, &[word])?;
-        bytes.extend_from_slice(&ONE[place + 4..])?;
+        let bytes = with_word(rt.alloc(), &ONE, place, word)?;
         assert_eq!(rt; outcome(rt.alloc(), &bytes), want, "{word:x} at {place}");
     }
     Ok(())
@@ -313,14 +324,7 @@ fn changed_section_table(rt: HostRuntime) -> Result<(), Fail> {
     ];
     let good = linked(rt.alloc(), &[[0; 5], SYMBOL_SECTION, STRING_SECTION])?;
     for (place, word, want) in cases {
-        let mut bytes = Vec::new(rt.alloc());
-        for (i, byte) in good.iter().enumerate() {
-            if i < place || place + 4 <= i {
-                bytes.push(*byte)?;
-            } else if i == place {
-                push_words(&mut bytes, &[word])?;
-            }
-        }
+        let bytes = with_word(rt.alloc(), &good, place, word)?;
         assert_eq!(rt;
             symbol_count(rt.alloc(), &bytes),
             want,
