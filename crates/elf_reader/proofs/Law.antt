@@ -1,10 +1,10 @@
 -- What holds of an image that was read.
-use Rattle.std.proofs.Common.{◌≡◌, ℕ, ◌+◌, ◌-◌, ◌^◌, ◌<◌, ◌≤◌, min, max, Bool, true, false, cond, not, ◌&&◌, ◌||◌, ltb, List, [], ◌∷◌, ◌++◌, length, map, take, drop, get_or, Option, Some, None, Result, Ok, Err, refl, ap, sym, subst, ◌∙◌, ⊎_elim, arith}
-use Rattle.std.specs.Prelude.{All, AllPairs, IfOk, filter, position, slice_range, if◌then◌else◌}
+use Rattle.std.proofs.Common.{◌≡◌, ℕ, ◌+◌, ◌-◌, ◌^◌, ◌≤◌, min, max, Bool, true, false, cond, ltb, List, [], ◌∷◌, ◌++◌, length, map, drop, Option, Some, None, Result, Ok, Err, refl, ap, sym, subst, ◌∙◌, ⊎_elim, arith}
+use Rattle.std.specs.Prelude.{All, AllPairs, IfOk, filter, position, slice_range}
 use Rattle.std.specs.List.{AllByRecursion, list_any}
 use Rattle.std.proofs.lemmas.Bool.{cases_Bool, ltb-false, or_parts}
 use Rattle.std.proofs.lemmas.Bool.Decides.{nat_tests}
-use Rattle.std.proofs.lemmas.List.{append-nil, append_assoc, length-take, length-drop, map-append}
+use Rattle.std.proofs.lemmas.List.{append-nil, append_assoc, length-take, map-append}
 use Rattle.std.proofs.lemmas.List.Elements.{All-from_recursion, All-get_or, filter-append, recursion_from_All}
 use Rattle.std.proofs.lemmas.List.Quantifiers.{all_pairs_push}
 use Rattle.crpd_base.specs.declared.data.Image.{Image}
@@ -14,10 +14,10 @@ use Rattle.elf_reader.specs.declared.entries.ProgramHeader.{ProgramHeader}
 use Rattle.elf_reader.specs.declared.fault.ElfError.{ElfError}
 use Rattle.elf_reader.specs.declared.fault.ElfError.TheVariants.{NotStatic, SegmentOutside, SegmentsOverlap, NoCode, Memory}
 use Rattle.elf_reader.specs.Fields.{e_entry}
-use Rattle.elf_reader.specs.Images.{AreDisjoint, IsImage, IsIn}
+use Rattle.elf_reader.specs.Images.{AreDisjoint, IsImage}
 use Rattle.elf_reader.specs.Outcome.{Gives, ◌>>=◌, ensure, nowhere}
 use Rattle.elf_reader.specs.Reading.{file_header, program_headers, reading}
-use Rattle.elf_reader.specs.Segments.{end_of, first_shared, is_code, is_dynamic, is_loaded, is_outside, occupies, segment, segments, shares}
+use Rattle.elf_reader.specs.Segments.{end_of, first_shared, is_code, is_dynamic, is_loaded, is_outside, segment, segments, shares}
 use Rattle.elf_reader.specs.Symbols.{symbols}
 use Rattle.elf_reader.proofs.Tables.{passes_nowhere}
 

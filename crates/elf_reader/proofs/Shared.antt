@@ -1,9 +1,9 @@
 -- The search for the first header that shares an address with an earlier one.
-use Rattle.std.proofs.Common.{◌≡◌, ℕ, ◌+◌, ◌<◌, ◌≤◌, ltb, max, min, Bool, true, false, cond, ◌&&◌, ◌||◌, not, List, [], ◌∷◌, ◌++◌, length, get_or, take, drop, Option, Some, None, refl, ap, sym, subst, ◌∙◌, arith}
+use Rattle.std.proofs.Common.{◌≡◌, ℕ, ◌+◌, ◌<◌, ◌≤◌, ltb, max, min, Bool, true, false, ◌&&◌, ◌||◌, not, List, [], ◌∷◌, ◌++◌, length, get_or, take, drop, Option, Some, refl, ap, sym, subst, ◌∙◌, arith}
 use Rattle.std.specs.Prelude.{if◌then◌else◌}
 use Rattle.std.specs.List.{list_any}
 use Rattle.std.proofs.lemmas.Bool.{and_parts, ltb-true}
-use Rattle.std.proofs.lemmas.List.{drop_more, take_more, drop_all, take_all, length-take-le}
+use Rattle.std.proofs.lemmas.List.{drop_more, take_more, length-take-le}
 use Rattle.elf_reader.specs.declared.entries.ProgramHeader.{ProgramHeader}
 use Rattle.elf_reader.specs.Segments.{end_of, first_shared, is_loaded, occupies, shares}
 

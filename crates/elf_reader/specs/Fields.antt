@@ -1,5 +1,5 @@
 -- The fields of an ELF32 file, with the names of the ELF specification. Numbers stand lowest byte first.
-use Rattle.std.specs.Prelude.{ℕ, ◌+◌, ◌*◌, List, drop, slice_index}
+use Rattle.std.specs.Prelude.{ℕ, ◌+◌, List, drop, slice_index}
 use Rattle.byteorder.specs.Endian.{little_number}
 use Rattle.elf_reader.specs.declared.entries.ProgramHeader.{ProgramHeader}
 use Rattle.elf_reader.specs.declared.entries.SectionHeader.{SectionHeader}

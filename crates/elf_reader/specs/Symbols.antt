@@ -1,5 +1,5 @@
 -- Sections and symbols.
-use Rattle.std.specs.Prelude.{ℕ, ◌+◌, ◌*◌, ◌/◌, ◌%◌, ◌==◌, Bool, ◌&&◌, ◌||◌, List, [], ◌∷◌, length, drop, take, map, filter_map, find, position, slice_get, slice_range, nat_le, Option, Some, None, option_and_then, option_map, Result, Ok, Err, if◌then◌else◌}
+use Rattle.std.specs.Prelude.{ℕ, ◌+◌, ◌*◌, ◌/◌, ◌%◌, ◌==◌, Bool, ◌&&◌, ◌||◌, List, [], length, drop, take, map, filter_map, find, position, slice_get, slice_range, nat_le, Option, Some, None, option_and_then, option_map, Result, Ok, Err, if◌then◌else◌}
 use Rattle.std.specs.List.{range_with_len}
 use Rattle.crpd_base.specs.declared.data.Symbol.{Symbol}
 use Rattle.elf_reader.specs.declared.entries.SectionHeader.{SectionHeader}

@@ -1,4 +1,4 @@
-use Rattle.std.proofs.Common.{◌≡◌, ◌<◌, ◌+◌, ap, sym, ◌∙◌, arith}
+use Rattle.std.proofs.Common.{◌<◌, ◌+◌, ap, sym, ◌∙◌, arith}
 use Rattle.std.specs.List.{list_any}
 use Rattle.elf_reader.specs.Segments.{end_of, is_loaded, meets}
 use Rattle.elf_reader.proofs.Ranges.{free_empty, insert_any, insert_apart, not_loaded, occupied}

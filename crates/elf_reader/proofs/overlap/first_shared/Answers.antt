@@ -1,4 +1,4 @@
-use Rattle.std.proofs.Common.{◌≡◌, ◌+◌, ap, get_or, not, sym, take, ◌∙◌, ◌&&◌, ◌||◌, arith}
+use Rattle.std.proofs.Common.{ap, get_or, not, sym, take, ◌∙◌, ◌&&◌, ◌||◌, arith}
 use Rattle.std.specs.List.{list_any}
 use Rattle.elf_reader.specs.Segments.{meets, occupies}
 use Rattle.elf_reader.proofs.Shared.{blank, goes_on, occupied_more, stops, told}

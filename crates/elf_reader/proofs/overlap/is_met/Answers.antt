@@ -1,4 +1,4 @@
-use Rattle.std.proofs.Common.{◌≡◌, sym, ◌∙◌}
+use Rattle.std.proofs.Common.{sym, ◌∙◌}
 use Rattle.elf_reader.proofs.Ranges.{last_met, none_met, range_is}
 use Rattle.elf_reader.proofs.overlap.is_met.Goals as goal
 

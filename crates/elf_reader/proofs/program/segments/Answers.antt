@@ -1,5 +1,4 @@
-use Rattle.std.proofs.Common.{◌≡◌, ◌+◌, ◌≤◌, false, get_or, length, arith}
-use Rattle.std.proofs.lemmas.Bool.Decides.{nat_tests}
+use Rattle.std.proofs.Common.{get_or, length, arith}
 use Rattle.elf_reader.specs.Segments.{is_outside}
 use Rattle.elf_reader.proofs.Shared.{blank}
 use Rattle.elf_reader.proofs.Tables.{passes_nowhere, inside}

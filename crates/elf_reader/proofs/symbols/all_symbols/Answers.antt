@@ -1,4 +1,4 @@
-use Rattle.std.proofs.Common.{◌∙◌, ◌+◌, ◌*◌, map, arith}
+use Rattle.std.proofs.Common.{◌∙◌, ◌+◌, ◌*◌, map}
 use Rattle.std.specs.List.{range_with_len}
 use Rattle.std.proofs.lemmas.Result.{IfOk-weaker}
 use Rattle.elf_reader.specs.Fields.{symbol_entry}

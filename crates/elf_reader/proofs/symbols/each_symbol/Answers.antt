@@ -1,4 +1,4 @@
-use Rattle.std.proofs.Common.{◌≡◌, ◌+◌, ◌*◌, ap, sym, ◌∙◌}
+use Rattle.std.proofs.Common.{◌+◌, ◌*◌, ap, sym, ◌∙◌}
 use Rattle.elf_reader.specs.Fields.{symbol_entry}
 use Rattle.elf_reader.specs.Symbols.{symbol}
 use Rattle.elf_reader.proofs.Tables.{one_kept, one_left}
