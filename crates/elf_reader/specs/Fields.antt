@@ -15,35 +15,45 @@ word file place = little_number 4 (drop place file)
 
 -- ---- the file's header
 
+-- the file's type, 2 for an executable (ET_EXEC)
 abbrev pub e_type : List ℕ → ℕ
 e_type file = half file 16
 
+-- the processor, 243 for RISC-V (EM_RISCV)
 abbrev pub e_machine : List ℕ → ℕ
 e_machine file = half file 18
 
+-- the address at which the program starts
 abbrev pub e_entry : List ℕ → ℕ
 e_entry file = word file 24
 
+-- where the program header table begins
 abbrev pub e_phoff : List ℕ → ℕ
 e_phoff file = word file 28
 
+-- where the section header table begins, 0 without one
 abbrev pub e_shoff : List ℕ → ℕ
 e_shoff file = word file 32
 
+-- the bytes of a program header
 abbrev pub e_phentsize : List ℕ → ℕ
 e_phentsize file = half file 42
 
+-- how many program headers there are
 abbrev pub e_phnum : List ℕ → ℕ
 e_phnum file = half file 44
 
+-- the bytes of a section header
 abbrev pub e_shentsize : List ℕ → ℕ
 e_shentsize file = half file 46
 
+-- how many section headers there are
 abbrev pub e_shnum : List ℕ → ℕ
 e_shnum file = half file 48
 
 -- ---- the entries of the tables, at a place of the file
 
+-- where the bytes stand in the file and in memory, and how many; p_paddr and p_align are not read
 abbrev pub program_header : List ℕ → ℕ → ProgramHeader
 program_header file place = record {
   p_type = word file place;
@@ -54,6 +64,7 @@ program_header file place = record {
   p_flags = word file (place + 24);
 }
 
+-- where the section stands in the file, its other section and the size of its entries
 abbrev pub section_header : List ℕ → ℕ → SectionHeader
 section_header file place = record {
   sh_type = word file (place + 4);
@@ -63,6 +74,7 @@ section_header file place = record {
   sh_entsize = word file (place + 36);
 }
 
+-- the name's place in the string section, the value, type and section; st_size and st_other are not read
 abbrev pub symbol_entry : List ℕ → ℕ → SymbolEntry
 symbol_entry file place = record {
   st_name = word file place;

@@ -29,6 +29,7 @@ end_of h = h.p_vaddr + h.p_memsz
 abbrev pub fits : ℕ → ProgramHeader → Bool
 fits len h = nat_le (h.p_offset + h.p_filesz) len && nat_le h.p_filesz h.p_memsz && nat_le (end_of h) (2 ^ 32)
 
+-- a header that is loaded and does not fit
 abbrev pub is_outside : ℕ → ProgramHeader → Bool
 is_outside len h = is_loaded h && not (fits len h)
 
@@ -58,6 +59,7 @@ segment file h = record {
   executable = is_executable h;
 }
 
+-- what the headers load, in the order of the table
 abbrev pub segments : List ℕ → List ProgramHeader → List Segment
 segments file hs = map (segment file) (filter is_loaded hs)
 
