@@ -1,0 +1,66 @@
+//! Why an ELF file was refused.
+
+ghost use Rattle.std.specs.Prelude.{◌≡◌};
+ghost use Rattle.elf_reader.specs.declared.fault.ElfError.TheVariants.{Memory};
+
+use std::alloc::{AllocError, AllocFailed};
+use thiserror::Error;
+
+/// The first thing that is wrong with the bytes of an ELF file. A number is the place of the first program
+/// header at fault, counted from 0 over the whole table, headers of every type included.
+#[derive(Clone, Copy, Debug, PartialEq, Eq, Error)]
+pub enum ElfError {
+    #[error("out of memory")]
+    Memory,
+    /// The file has fewer than the 52 bytes of an ELF32 header.
+    #[error("shorter than the header")]
+    Short,
+    /// The file does not begin with 0x7F and the letters ELF.
+    #[error("not ELF")]
+    NotElf,
+    /// The class is not ELFCLASS32, the data not ELFDATA2LSB, or the version not EV_CURRENT.
+    #[error("not ELF32 in little-endian order, version 1")]
+    NotElf32Little,
+    /// `e_machine` is not EM_RISCV.
+    #[error("not for RISC-V")]
+    NotRiscV,
+    /// `e_type` is not ET_EXEC.
+    #[error("not an executable")]
+    NotExecutable,
+    /// A header of type PT_DYNAMIC or PT_INTERP.
+    #[error("program header {0} is for dynamic linking")]
+    NotStatic(u32),
+    /// There are program headers, and `e_phentsize` is not 32 or their table passes the file's end.
+    #[error("the program headers lie outside the file")]
+    HeaderOutside,
+    /// A PT_LOAD whose bytes pass the file's end or are more than its size, or whose addresses pass 2^32.
+    #[error("segment {0} lies outside the file or the addresses")]
+    SegmentOutside(u32),
+    /// A PT_LOAD that shares an address with a PT_LOAD before it in the table.
+    #[error("segment {0} shares an address with an earlier one")]
+    SegmentsOverlap(u32),
+    /// No PT_LOAD with PF_X has bytes in the file.
+    #[error("no executable segment has bytes")]
+    NoCode,
+    /// There are section headers, and `e_shentsize` is not 40 or their table passes the file's end; or the first
+    /// SHT_SYMTAB passes it, its `sh_entsize` is not 16, or its `sh_link` is not the place of a SHT_STRTAB that
+    /// lies in the file.
+    #[error("the sections or symbols lie outside the file")]
+    SymbolsOutside,
+}
+
+impl From<AllocError> for ElfError {
+    ghost from_gives = { λ _ e. e ≡ Memory };
+
+    fn from(_e: AllocError) -> ElfError {
+        ElfError::Memory
+    }
+}
+
+impl<T: Drop> From<AllocFailed<T>> for ElfError {
+    ghost from_gives = { λ _ e. e ≡ Memory };
+
+    fn from(_e: AllocFailed<T>) -> ElfError {
+        ElfError::Memory
+    }
+}

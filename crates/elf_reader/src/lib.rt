@@ -1,0 +1,16 @@
+//! Reading of ELF32 executables for RISC-V, as the ELF specification (Tool Interface Standard, version 1.2)
+//! and the RISC-V ELF psABI lay them out.
+#![tactic(auto)]
+
+mod entries;
+mod fault;
+mod fields;
+mod overlap;
+mod program;
+mod reading;
+mod symbols;
+#[cfg(test)]
+mod tests;
+
+pub use fault::ElfError;
+pub use reading::read_elf;

@@ -1,0 +1,90 @@
+// The whole file.
+ghost use Rattle.std.specs.Prelude.{◌≡◌, ◌≤◌, length, IfOk, OnOk};
+ghost use Rattle.elf_reader.specs.Images.{IsImage};
+ghost use Rattle.elf_reader.specs.Outcome.{Gives};
+ghost use Rattle.elf_reader.specs.Reading as spec;
+
+use crate::fault::ElfError;
+use crate::fields::{half, word};
+use crate::overlap::check_apart;
+use crate::program::{check_code, check_inside, check_static, program_headers, segments};
+use crate::symbols::symbols;
+use crpd_base::{Image, Items};
+use std::alloc::Global;
+
+/// 0x7F and the letters ELF.
+const MAGIC: [u8; 4] = [0x7F, 0x45, 0x4C, 0x46];
+
+/// The bytes of the file's header.
+const HEADER: usize = 52;
+
+/// An executable.
+const ET_EXEC: u16 = 2;
+
+/// RISC-V.
+const EM_RISCV: u16 = 243;
+
+/// The file begins with the header of an executable of 32 bits, little-endian, for RISC-V.
+#[tactic(auto, unfolding(crate::specs::Reading::file_header))]
+fn check_file_header(bytes: &[u8]) -> Result<(), ElfError>
+    ensures header { Gives ElfError.Memory (λ x. x) result (spec.file_header bytes.now) }
+    ensures long { OnOk result (52 ≤ length bytes.now) }
+{
+    if bytes.len() < HEADER {
+        return Err(ElfError::Short);
+    }
+    if &bytes[..4] != &MAGIC[..] {
+        return Err(ElfError::NotElf);
+    }
+    if bytes[4] != 1 || bytes[5] != 1 || bytes[6] != 1 {
+        return Err(ElfError::NotElf32Little);
+    }
+    if half(bytes, 18) != EM_RISCV {
+        return Err(ElfError::NotRiscV);
+    }
+    if half(bytes, 16) != ET_EXEC {
+        return Err(ElfError::NotExecutable);
+    }
+    Ok(())
+}
+
+/// The image of the file, or its first refusal.
+#[tactic(auto, unfolding(crate::specs::Reading::reading))]
+fn image_of(alloc: Global, bytes: &[u8]) -> Result<Image, ElfError>
+    ensures { Gives ElfError.Memory (λ x. x) result (spec.reading bytes.now) }
+{
+    check_file_header(bytes)?;
+    let headers = program_headers(alloc, bytes)?;
+    check_static(&headers)?;
+    check_inside(&headers, bytes.len())?;
+    check_apart(alloc, &headers)?;
+    check_code(&headers)?;
+    let symbols = symbols(alloc, bytes)?;
+    Ok(Image {
+        entry: word(bytes, 24),
+        segments: Items::new(segments(alloc, bytes, &headers)?),
+        symbols: Items::new(symbols),
+    })
+}
+
+/// The image of an ELF32 executable for RISC-V: the entry, what each PT_LOAD header loads, in the order of the
+/// table, and the symbols of the first SHT_SYMTAB, in its order. A symbol is left out where it is undefined
+/// (SHN_UNDEF), names a source file (STT_FILE), or has no name: an empty one, or one that does not begin and end
+/// in the string section. Addresses and sizes are in bytes, and an address is below 2^32.
+///
+/// An `Err` is the first refusal in the order of the variants of `ElfError`, but that `HeaderOutside` comes
+/// before `NotStatic`. `Memory` may come in place of any answer.
+///
+/// Time is linear in the file and in the image, and n log n in the number of program headers. The memory
+/// beside the image is a few times that of the tables of program and section headers.
+///
+/// Source: Tool Interface Standard, Executable and Linking Format, version 1.2, book I, and the RISC-V ELF
+/// psABI specification.
+pub fn read_elf(alloc: Global, bytes: &[u8]) -> Result<Image, ElfError>
+    // What the bytes mean, unless memory runs out.
+    ensures is { Gives ElfError.Memory (λ x. x) result (spec.reading bytes.now) }
+    // The segments of an image lie below 2^32, are disjoint, and have no more bytes than their sizes.
+    ensures image { IfOk result IsImage }
+{
+    image_of(alloc, bytes)
+}
