@@ -10,15 +10,17 @@ module _ (V : Type 0) (p : Problem V) (laws : HasLaws V p) where
   -- the facts where paths begin, and all nodes wait
   pub at_start : (facts : ℕ → Option V) (waiting : ℕ → Bool)
     → ((n : ℕ) → n < p.nodes → facts n ≡ p.begins n) → ((n : ℕ) → p.nodes ≤ n → facts n ≡ None)
-    → ((k : ℕ) → k < p.edges → (p.ends k).0 < p.nodes) → ((n : ℕ) → n < p.nodes → IsTrue (waiting n))
-    → IsUnderWay V p facts waiting (λ k. Unit {0})
-  at_start facts waiting begin none own all = record {
+    → ((n : ℕ) → n < p.nodes → IsTrue (waiting n)) → IsUnderWay V p facts waiting (λ k. Unit {0})
+  at_start facts waiting begin none all = record {
     sound = λ n v e. ⊎_elim
       (λ (lt : n < p.nodes). of_one V p laws n v ([], lt, sym (begin n lt) ∙ e))
       (λ (ge : p.nodes ≤ n). let no_fact = none n ge in let absent : ⊥ = cc in absurd absent)
       (cases_lt n p.nodes);
     begun = λ n v lt e. (v, begin n lt ∙ e, below_self V p laws v);
-    carried = λ k lt _. inl (all (p.ends k).0 (own k lt)) }
+    carried = λ k lt _. ⊎_elim
+      (λ (own : (p.ends k).0 < p.nodes). inl (all (p.ends k).0 own))
+      (λ (ge : p.nodes ≤ (p.ends k).0). let no_fact = none (p.ends k).0 ge in inr (λ v e. let absent : ⊥ = cc in absurd absent))
+      (cases_lt (p.ends k).0 p.nodes) }
 
   module _ (facts new : ℕ → Option V) (waiting woken : ℕ → Bool) (t : ℕ) (u : V) (step : IsStep V p facts new waiting woken t u) where
 
