@@ -4,3 +4,4 @@ pub mod Steps
 pub mod Left
 pub mod Writes
 pub mod Waiting
+pub mod Depth

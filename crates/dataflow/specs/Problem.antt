@@ -14,7 +14,7 @@ pub record Problem (V : Type 0) : Type 0 where
 
 abbrev pub problem : {V : Type 0} → (V → V → V) → (ℕ → V → V) → (ℕ → Option V) → ℕ → ℕ → (ℕ → ℕ × ℕ) → Problem V
 problem joined passed begins nodes edges ends =
-  record { joined = joined; passed = passed; begins = begins; nodes = nodes; edges = edges; ends = ends }
+    record { joined = joined; passed = passed; begins = begins; nodes = nodes; edges = edges; ends = ends }
 
 -- a join is of two values, in any order and grouping
 pub record IsSemilattice (V : Type 0) (joined : V → V → V) : Type 0 where

@@ -73,7 +73,7 @@ pub record IsOrder (nodes : ℕ) (order : List ℕ) : Type 0 where
 -- how much there is left to do: twice what facts can rise, and who waits
 abbrev pub left : {F V : Type 0} → (F → V) → (V → ℕ) → ℕ → List (Option F) → List Bool → ℕ
 left view height tallest facts pending =
-  2 * sum_by (λ o. suc tallest - rank height (option_map view o)) facts + sum_by one_if pending
+    2 * sum_by (λ o. suc tallest - rank height (option_map view o)) facts + sum_by one_if pending
 
 -- a value u has come in at node t, whose fact is as before or which waits; all others are as before
 pub record IsStep (V : Type 0) (p : Problem V) (facts new : ℕ → Option V) (waiting woken : ℕ → Bool) (t : ℕ) (u : V) : Type 0 where
@@ -81,3 +81,19 @@ pub record IsStep (V : Type 0) (p : Problem V) (facts new : ℕ → Option V) (w
   pub here : new t ≡ Some (absorbed p.joined (facts t) u)
   pub kept : (n : ℕ) → IsTrue (waiting n) → IsTrue (woken n)
   pub changed : IsTrue (woken t) ⊎ (new t ≡ facts t)
+
+abbrev pub IsAt : ℕ → List ℕ → Type 0
+IsAt n xs = (i : ℕ) × (i < length xs) × (slice_index xs i ≡ n)
+
+-- a search in depth: each node found is on the path or left behind
+pub record IsInDepth (nodes edges : ℕ) (seen : List Bool) (next : List (Option ℕ)) (path left : List ℕ) : Type 0 where
+  pub seen_nodes : length seen ≡ nodes
+  pub next_nodes : length next ≡ nodes
+  pub next_edges : (m k : ℕ) → slice_index_or next m None ≡ Some k → k < edges
+  pub on_path : (i : ℕ) → i < length path → slice_index path i < nodes
+  pub own : (i : ℕ) → i < length left → slice_index left i < nodes
+  pub found : (n : ℕ) → slice_index_or seen n false ≡ true → IsAt n path ⊎ IsAt n left
+
+-- twice the edges still to follow, and the path
+abbrev pub to_follow : List (Option ℕ) → List ℕ → ℕ
+to_follow next path = 2 * sum_by past next + length path

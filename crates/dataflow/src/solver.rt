@@ -27,7 +27,11 @@ fn absorb<D: Domain>(domain: &D, fact: &mut Option<D::Fact>, value: &D::Fact) ->
 }
 
 /// The facts where paths begin.
-fn starts<G: Flow, D: Domain>(alloc: Global, flow: &G, domain: &D) -> Result<Vec<Option<D::Fact>>, AllocError>
+fn starts<G: Flow, D: Domain>(
+    alloc: Global,
+    flow: &G,
+    domain: &D,
+) -> Result<Vec<Option<D::Fact>>, AllocError>
     requires { (n : ℕ) → n < G.node_count flow.now → D.is_own domain.now n }
     ensures nodes { IfOk result (λ facts. vec_len facts ≡ G.node_count flow.now) }
     ensures begins { IfOk result (λ facts. (n : ℕ) → n < G.node_count flow.now → fact_at D.view facts.items n ≡ D.begins domain.now n) }
@@ -75,15 +79,19 @@ fn pass_on<G: Flow, D: Domain>(
 }
 
 /// The least solution, or want of memory.
-fn search<G: Flow, D: Domain>(alloc: Global, flow: &G, domain: &D) -> Result<Vec<Option<D::Fact>>, AllocError>
+fn search<G: Flow, D: Domain>(
+    alloc: Global,
+    flow: &G,
+    domain: &D,
+) -> Result<Vec<Option<D::Fact>>, AllocError>
     requires { (n : ℕ) → n < G.node_count flow.now → D.is_own domain.now n }
     ensures nodes { IfOk result (λ facts. vec_len facts ≡ G.node_count flow.now) }
     ensures facts { IfOk result (λ facts. (n : ℕ) → n < G.node_count flow.now →
         IsFact (problem D.joined (D.passed domain.now) (D.begins domain.now) (G.node_count flow.now) (G.edge_count flow.now) (G.ends flow.now))
-            n (fact_at D.view facts.items n)) }
+        n (fact_at D.view facts.items n)) }
     ensures least { IfOk result (λ facts.
         IsLeastSolution D.Value (problem D.joined (D.passed domain.now) (D.begins domain.now) (G.node_count flow.now) (G.edge_count flow.now) (G.ends flow.now))
-            (fact_at D.view facts.items)) }
+        (fact_at D.view facts.items)) }
 {
     let outgoing = chain(alloc, flow)?;
     let order = visit_order(alloc, flow, &outgoing)?;
@@ -93,7 +101,15 @@ fn search<G: Flow, D: Domain>(alloc: Global, flow: &G, domain: &D) -> Result<Vec
         if let Some(before) = &facts[node as usize] {
             let mut value = *before;
             domain.transfer(node, &mut value);
-            pass_on(flow, domain, &outgoing, node, &value, &mut facts, &mut waiting);
+            pass_on(
+                flow,
+                domain,
+                &outgoing,
+                node,
+                &value,
+                &mut facts,
+                &mut waiting,
+            );
         }
     }
     Ok(facts)
@@ -107,15 +123,19 @@ fn search<G: Flow, D: Domain>(alloc: Global, flow: &G, domain: &D) -> Result<Vec
 /// Nodes wait in a list and are visited in the reverse of the order in which a search in depth leaves them.
 /// A node is visited again only when its fact has risen, so each edge is followed at most once more than a
 /// fact can rise, and once where the edges have no cycle (Kam and Ullman 1976).
-pub fn solve<G: Flow, D: Domain>(alloc: Global, flow: &G, domain: &D) -> Result<Vec<Option<D::Fact>>, Memory>
+pub fn solve<G: Flow, D: Domain>(
+    alloc: Global,
+    flow: &G,
+    domain: &D,
+) -> Result<Vec<Option<D::Fact>>, Memory>
     requires { (n : ℕ) → n < G.node_count flow.now → D.is_own domain.now n }
     ensures nodes { IfOk result (λ facts. vec_len facts ≡ G.node_count flow.now) }
     ensures facts { IfOk result (λ facts. (n : ℕ) → n < G.node_count flow.now →
         IsFact (problem D.joined (D.passed domain.now) (D.begins domain.now) (G.node_count flow.now) (G.edge_count flow.now) (G.ends flow.now))
-            n (fact_at D.view facts.items n)) }
+        n (fact_at D.view facts.items n)) }
     ensures least { IfOk result (λ facts.
         IsLeastSolution D.Value (problem D.joined (D.passed domain.now) (D.begins domain.now) (G.node_count flow.now) (G.edge_count flow.now) (G.ends flow.now))
-            (fact_at D.view facts.items)) }
+        (fact_at D.view facts.items)) }
 {
     match search(alloc, flow, domain) {
         Ok(facts) => Ok(facts),
