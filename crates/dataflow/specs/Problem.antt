@@ -1,5 +1,5 @@
 -- A dataflow problem over a graph, and its solution: at each node the join over all paths to it.
-use Rattle.std.specs.Prelude.{◌≡◌, ℕ, ◌<◌, List, [], ◌∷◌, Option, Some, None, option_map}
+use Rattle.std.specs.Prelude.{◌≡◌, ℕ, ◌<◌, List, [], ◌∷◌, Option, Some, None, option_map, slice_index_or}
 use Rattle.std.specs.List.{All}
 
 -- values with joins, what a node makes of a value, the values that paths begin with, and a graph:
@@ -57,6 +57,10 @@ pub record IsJoinOverPaths (V : Type 0) (p : Problem V) (n : ℕ) (v : V) : Type
   pub brought : All (Brings p n) (first ∷ rest)
   pub join : joined_all p.joined first rest ≡ v
   pub above : (w : V) → Brings p n w → IsBelow p w v
+
+-- the value of the fact at node n
+abbrev pub fact_at : {F V : Type 0} → (F → V) → List (Option F) → ℕ → Option V
+fact_at view facts n = option_map view (slice_index_or facts n None)
 
 -- the fact at node n: none where no path brings a value, else the join over all paths
 abbrev pub IsFact : {V : Type 0} → Problem V → ℕ → Option V → Type 0

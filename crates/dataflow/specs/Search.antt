@@ -20,10 +20,6 @@ pub record IsChained (nodes edges : ℕ) (ends : ℕ → ℕ × ℕ) (last befor
   pub of_node : (m : ℕ) → m < nodes → IsLastEdge ends edges m (slice_index_or last m None)
   pub of_edge : (k : ℕ) → k < edges → IsLastEdge ends k (ends k).0 (slice_index_or before k None)
 
--- the value of the fact at node n
-abbrev pub fact_at : {F V : Type 0} → (F → V) → List (Option F) → ℕ → Option V
-fact_at view facts n = option_map view (slice_index_or facts n None)
-
 -- whether node n waits
 abbrev pub waits : List Bool → ℕ → Bool
 waits pending n = slice_index_or pending n false

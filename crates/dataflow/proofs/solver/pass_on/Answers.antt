@@ -1,7 +1,7 @@
 use Rattle.std.proofs.Common.{◌≡◌, ℕ, ◌<◌, ◌≤◌, Some, None, length, get_or, ap, sym, ◌∙◌, subst, arith, refl, option_map, set, true, false, MatchBool, Bool, List, Option}
 use Rattle.std.proofs.lemmas.List.{get_or_default, length-set}
-use Rattle.dataflow.specs.Problem.{problem, Problem}
-use Rattle.dataflow.specs.Search.{IsUnderWay, IsSource, IsLastEdge, IsStep, fact_at, waits, left, past, absorbed, rank}
+use Rattle.dataflow.specs.Problem.{problem, Problem, fact_at}
+use Rattle.dataflow.specs.Search.{IsUnderWay, IsSource, IsLastEdge, IsStep, waits, left, past, absorbed, rank}
 use Rattle.dataflow.proofs.Chain.{read_last, read_before, falls_back}
 use Rattle.dataflow.proofs.Solution.{HasLaws}
 use Rattle.dataflow.proofs.Steps.{none_passed, all_passed_on, stepped, still_source}

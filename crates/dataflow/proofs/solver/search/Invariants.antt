@@ -1,7 +1,7 @@
 -- The facts are under way, and what is left to do falls.
 use Rattle.std.proofs.Common.{◌≡◌, ℕ, length, vec_len}
-use Rattle.dataflow.specs.Problem.{problem}
-use Rattle.dataflow.specs.Search.{IsUnderWay, fact_at, waits, left}
+use Rattle.dataflow.specs.Problem.{problem, fact_at}
+use Rattle.dataflow.specs.Search.{IsUnderWay, waits, left}
 use Rattle.dataflow.proofs.solver.search.Given as goal
 
 abbrev pub invariant-loop-node : goal.invariant-loop-node
