@@ -1,0 +1,82 @@
+-- The laws of the two analyses of a variable.
+use Rattle.std.proofs.Common.{◌≡◌, ◌≢◌, ◌≤◌, ℕ, Bool, true, false, Option, Some, None, refl, arith, ◌||◌, ap, sym, ◌∙◌, ⊎_elim, cond, eqb, eq-eqb, lit≤, ne_eqb}
+use Rattle.dataflow.specs.Problem.{IsSemilattice}
+use Rattle.dataflow.specs.Variable.{both, known_after, live_before, unknown, one_if_live}
+use Rattle.dataflow.specs.declared.variable.Use.{Use}
+use Rattle.dataflow.specs.declared.variable.Use.TheVariants.{Reads, Writes, Neither}
+use Rattle.std.proofs.lemmas.Bool.{cases_eq}
+
+or_same : (a : Bool) → (a || a) ≡ a
+or_same true = refl
+or_same false = refl
+
+or_swapped : (a b : Bool) → (a || b) ≡ (b || a)
+or_swapped true true = refl
+or_swapped true false = refl
+or_swapped false true = refl
+or_swapped false false = refl
+
+or_grouped : (a b c : Bool) → ((a || b) || c) ≡ (a || (b || c))
+or_grouped true b c = refl
+or_grouped false b c = refl
+
+pub or_joins : IsSemilattice Bool (λ a b. a || b)
+or_joins = record { same = or_same; swapped = or_swapped; grouped = or_grouped }
+
+pub live_distributes : (u : Use) (a b : Bool) → live_before u (a || b) ≡ (live_before u a || live_before u b)
+live_distributes Reads a b = refl
+live_distributes (Writes k) a b = refl
+live_distributes Neither a b = refl
+
+pub live_bounded : (v : Bool) → one_if_live v ≤ 1
+live_bounded true = lit≤ tt
+live_bounded false = lit≤ tt
+
+both_equal : (j k : ℕ) → j ≡ k → both (Some j) (Some k) ≡ Some j
+both_equal j k e = ap (λ t. cond t (Some j) None) (eq-eqb j k e)
+
+both_other : (j k : ℕ) → j ≢ k → both (Some j) (Some k) ≡ None
+both_other j k ne = ap (λ t. cond t (Some j) None) (ne_eqb j k ne)
+
+both_same : (a : Option ℕ) → both a a ≡ a
+both_same None = refl
+both_same (Some k) = both_equal k k refl
+
+both_none : (a : Option ℕ) → both a None ≡ None
+both_none None = refl
+both_none (Some k) = refl
+
+both_swapped : (a b : Option ℕ) → both a b ≡ both b a
+both_swapped None b = sym (both_none b)
+both_swapped (Some j) None = refl
+both_swapped (Some j) (Some k) = ⊎_elim
+  (λ (e : j ≡ k). both_equal j k e ∙ ap Some e ∙ sym (both_equal k j (sym e)))
+  (λ (ne : j ≢ k). both_other j k ne ∙ sym (both_other k j (λ e. ne (sym e))))
+  (cases_eq j k)
+
+both_grouped : (a b c : Option ℕ) → both (both a b) c ≡ both a (both b c)
+both_grouped None b c = refl
+both_grouped (Some i) None c = refl
+both_grouped (Some i) (Some j) None = both_none (both (Some i) (Some j))
+both_grouped (Some i) (Some j) (Some k) = ⊎_elim
+  (λ (e : i ≡ j). ⊎_elim
+    (λ (f : j ≡ k). ap (λ o. both o (Some k)) (both_equal i j e) ∙ ap (λ o. both (Some i) o) (ap Some (sym f) ∙ sym (both_equal j k f)))
+    (λ (nf : j ≢ k). ap (λ o. both o (Some k)) (both_equal i j e ∙ ap Some e) ∙ both_other j k nf ∙ sym (ap (λ o. both (Some i) o) (both_other j k nf)))
+    (cases_eq j k))
+  (λ (ne : i ≢ j). ap (λ o. both o (Some k)) (both_other i j ne) ∙ ⊎_elim
+    (λ (f : j ≡ k). sym (ap (λ o. both (Some i) o) (both_equal j k f) ∙ both_other i j ne))
+    (λ (nf : j ≢ k). sym (ap (λ o. both (Some i) o) (both_other j k nf)))
+    (cases_eq j k))
+  (cases_eq i j)
+
+pub both_joins : IsSemilattice (Option ℕ) both
+both_joins = record { same = both_same; swapped = both_swapped; grouped = both_grouped }
+
+pub known_distributes : (u : Use) (a b : Option ℕ) → known_after u (both a b) ≡ both (known_after u a) (known_after u b)
+known_distributes Reads a b = refl
+known_distributes (Writes k) a b = sym (both_equal k k refl)
+known_distributes Neither a b = refl
+
+pub unknown_bounded : (v : Option ℕ) → unknown v ≤ 1
+unknown_bounded None = lit≤ tt
+unknown_bounded (Some k) = lit≤ tt

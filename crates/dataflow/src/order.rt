@@ -1,0 +1,115 @@
+// The order in which nodes are visited: each node before those that its edges lead to, but for cycles.
+ghost use Rattle.std.specs.Prelude.{◌≡◌, ◌<◌, ◌≤◌, ℕ, IfOk, OnOk, None, [], ◌∷◌, ◌++◌, length, vec_len, slice_index_or, slice_set, true, false};
+ghost use Rattle.dataflow.specs.Search.{IsChained, IsOrder, IsInDepth, to_follow};
+
+use crate::outgoing::Outgoing;
+use crate::problem::Flow;
+use std::alloc::{AllocError, Global};
+
+/// A search in depth.
+#[derive(Drop)]
+struct DepthFirst {
+    /// Which nodes were found.
+    seen: Vec<bool>,
+    /// The next edge to follow from each node.
+    next: Vec<Option<u32>>,
+    /// The nodes from the root to where the search is.
+    path: Vec<u32>,
+    /// The nodes that the search has left, in the order in which it left them.
+    left: Vec<u32>,
+}
+
+impl DepthFirst {
+    /// A search that has found nothing.
+    fn new(alloc: Global, outgoing: &Outgoing) -> Result<Self, AllocError>
+        ensures edges { IfOk result (λ s. s.next.items ≡ outgoing.now.last.items) }
+        ensures seen { IfOk result (λ s. vec_len s.seen ≡ vec_len outgoing.now.last) }
+        ensures none { IfOk result (λ s. (n : ℕ) → slice_index_or s.seen.items n false ≡ false) }
+        ensures path { IfOk result (λ s. s.path.items ≡ []) }
+        ensures left { IfOk result (λ s. s.left.items ≡ []) }
+    {
+        Ok(DepthFirst {
+            seen: vec![in alloc; false; outgoing.last.len()]?,
+            next: Vec::from_slice(alloc, &outgoing.last)?,
+            path: Vec::new(alloc),
+            left: Vec::new(alloc),
+        })
+    }
+
+    /// Puts a node at the end of the path.
+    fn find(&mut self, node: u32) -> Result<(), AllocError>
+        requires { node < vec_len self.old.seen }
+        ensures seen { OnOk result (self.new.seen.items ≡ slice_set self.old.seen.items node true) }
+        ensures path { OnOk result (self.new.path.items ≡ self.old.path.items ++ node ∷ []) }
+        ensures next { self.new.next ≡ self.old.next }
+        ensures left { self.new.left ≡ self.old.left }
+    {
+        self.seen[node as usize] = true;
+        self.path.push(node)?;
+        Ok(())
+    }
+
+    /// Follows the next edge from a node that was last on the path, or leaves the node.
+    fn visit<G: Flow>(&mut self, flow: &G, outgoing: &Outgoing, node: u32) -> Result<(), AllocError>
+        requires edges { IsChained (G.node_count flow.now) (G.edge_count flow.now) (G.ends flow.now) outgoing.now.last.items outgoing.now.before.items }
+        requires node { node < G.node_count flow.now }
+        requires search { IsInDepth (G.node_count flow.now) (G.edge_count flow.now) self.old.seen.items self.old.next.items (self.old.path.items ++ node ∷ []) self.old.left.items }
+        ensures search { OnOk result (IsInDepth (G.node_count flow.now) (G.edge_count flow.now) self.new.seen.items self.new.next.items self.new.path.items self.new.left.items) }
+        ensures seen { OnOk result ((n : ℕ) → slice_index_or self.old.seen.items n false ≡ true → slice_index_or self.new.seen.items n false ≡ true) }
+        ensures falls { OnOk result (to_follow self.new.next.items self.new.path.items ≤ to_follow self.old.next.items self.old.path.items) }
+    {
+        match self.next[node as usize] {
+            Some(k) => {
+                self.next[node as usize] = outgoing.before[k as usize];
+                self.path.push(node)?;
+                let (_, target) = flow.edge(k);
+                if !self.seen[target as usize] {
+                    self.find(target)?;
+                }
+                Ok(())
+            }
+            None => {
+                self.left.push(node)?;
+                Ok(())
+            }
+        }
+    }
+
+    /// Finds and leaves all nodes that edges lead to from the root, through nodes not found before.
+    fn run<G: Flow>(&mut self, flow: &G, outgoing: &Outgoing, root: u32) -> Result<(), AllocError>
+        requires edges { IsChained (G.node_count flow.now) (G.edge_count flow.now) (G.ends flow.now) outgoing.now.last.items outgoing.now.before.items }
+        requires root { root < G.node_count flow.now }
+        requires search { IsInDepth (G.node_count flow.now) (G.edge_count flow.now) self.old.seen.items self.old.next.items self.old.path.items self.old.left.items }
+        requires path { self.old.path.items ≡ [] }
+        ensures search { OnOk result (IsInDepth (G.node_count flow.now) (G.edge_count flow.now) self.new.seen.items self.new.next.items self.new.path.items self.new.left.items) }
+        ensures path { OnOk result (self.new.path.items ≡ []) }
+        ensures root { OnOk result (slice_index_or self.new.seen.items root false ≡ true) }
+        ensures seen { OnOk result ((n : ℕ) → slice_index_or self.old.seen.items n false ≡ true → slice_index_or self.new.seen.items n false ≡ true) }
+    {
+        self.find(root)?;
+        while let Some(node) = self.path.pop() {
+            self.visit(flow, outgoing, node)?;
+        }
+        Ok(())
+    }
+}
+
+/// The nodes in the reverse of the order in which a search in depth leaves them, in time linear in nodes and edges.
+pub(crate) fn visit_order<G: Flow>(
+    alloc: Global,
+    flow: &G,
+    outgoing: &Outgoing,
+) -> Result<Vec<u32>, AllocError>
+    requires { IsChained (G.node_count flow.now) (G.edge_count flow.now) (G.ends flow.now) outgoing.now.last.items outgoing.now.before.items }
+    ensures { IfOk result (λ order. IsOrder (G.node_count flow.now) order.items) }
+{
+    let mut search = DepthFirst::new(alloc, outgoing)?;
+    for root in 0..flow.nodes() {
+        if !search.seen[root as usize] {
+            search.run(flow, outgoing, root)?;
+        }
+    }
+    let mut order = search.left;
+    order.reverse();
+    Ok(order)
+}

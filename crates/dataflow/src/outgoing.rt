@@ -1,0 +1,29 @@
+// The edges that leave each node.
+ghost use Rattle.std.specs.Prelude.{IfOk};
+ghost use Rattle.dataflow.specs.Search.{IsChained};
+
+use crate::problem::Flow;
+use std::alloc::{AllocError, Global};
+
+/// The edges of each source as a chain from its last edge to its first.
+#[derive(Drop)]
+pub(crate) struct Outgoing {
+    /// The last edge that leaves each node.
+    pub(crate) last: Vec<Option<u32>>,
+    /// The last edge before each edge that leaves the same node.
+    pub(crate) before: Vec<Option<u32>>,
+}
+
+/// Chains the edges, in time linear in nodes and edges.
+pub(crate) fn chain<G: Flow>(alloc: Global, flow: &G) -> Result<Outgoing, AllocError>
+    ensures { IfOk result (λ o. IsChained (G.node_count flow.now) (G.edge_count flow.now) (G.ends flow.now) o.last.items o.before.items) }
+{
+    let mut last = vec![in alloc; None; flow.nodes() as usize]?;
+    let mut before = Vec::with_capacity(alloc, flow.edges() as usize)?;
+    for k in 0..flow.edges() {
+        let (source, _) = flow.edge(k);
+        before.push(last[source as usize])?;
+        last[source as usize] = Some(k);
+    }
+    Ok(Outgoing { last, before })
+}

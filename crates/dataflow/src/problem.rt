@@ -1,0 +1,74 @@
+// What a graph and a domain of facts are.
+ghost use Rattle.std.specs.Prelude.{◌≡◌, ℕ, ◌<◌, ◌≤◌, Option, MatchBool, option_map};
+ghost use Rattle.dataflow.specs.Problem.{IsSemilattice};
+
+/// A graph: nodes are the numbers below `nodes()`, and edge k leads from the first to the second of `edge(k)`.
+pub trait Flow {
+    ghost node_count: { Self → ℕ };
+
+    ghost edge_count: { Self → ℕ };
+
+    // The source and the target of each edge.
+    ghost ends: { Self → ℕ → ℕ × ℕ };
+
+    /// How many nodes there are.
+    fn nodes(&self) -> u32
+        ensures { result ≡ node_count self.now };
+
+    /// How many edges there are.
+    fn edges(&self) -> u32
+        ensures { result ≡ edge_count self.now };
+
+    /// The source and the target of edge k, at the cost of an access to an array.
+    fn edge(&self, k: u32) -> (u32, u32)
+        requires { k < edge_count self.now }
+        ensures ends { result ≡ ends self.now k }
+        ensures source { result.0 < node_count self.now }
+        ensures target { result.1 < node_count self.now };
+}
+
+/// Facts, each seen as a value. Values have least joins: a value is below another where their join is the other.
+pub trait Domain {
+    type Fact: Copy;
+
+    ghost Value: { Type 0 };
+
+    ghost view: { Self.Fact → Value };
+
+    ghost joined: { Value → Value → Value };
+
+    // What a node makes of a value.
+    ghost passed: { Self → ℕ → Value → Value };
+
+    // The value before a node where paths begin.
+    ghost begins: { Self → ℕ → Option Value };
+
+    // A number that rises with a value, and the greatest such number.
+    ghost height: { Self → Value → ℕ };
+
+    ghost tallest: { Self → ℕ };
+
+    // Which numbers are its nodes.
+    ghost is_own: { Self → ℕ → Type 0 };
+
+    /// The fact before a node where paths begin, None where none begins there.
+    fn start(&self, node: u32) -> Option<Self::Fact>
+        requires { is_own self.now node }
+        ensures { option_map view result ≡ begins self.now node };
+
+    /// Makes `a` the join of `a` and `b`, and says whether that changed it.
+    fn join(&self, a: &mut Self::Fact, b: &Self::Fact) -> bool
+        ensures value { view a.new ≡ joined (view a.old) (view b.now) }
+        ensures changed { MatchBool result (height self.now (view a.old) < height self.now (view a.new)) (view a.new ≡ view a.old) };
+
+    /// Makes the fact before a node the fact after it.
+    fn transfer(&self, node: u32, fact: &mut Self::Fact)
+        requires { is_own self.now node }
+        ensures { view fact.new ≡ passed self.now node (view fact.old) };
+
+    ghost joins: { IsSemilattice Value joined };
+
+    ghost distributes: { (d : Self) (n : ℕ) (a b : Value) → passed d n (joined a b) ≡ joined (passed d n a) (passed d n b) };
+
+    ghost bounded: { (d : Self) (v : Value) → height d v ≤ tallest d };
+}

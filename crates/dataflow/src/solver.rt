@@ -1,0 +1,144 @@
+// The search for the least solution.
+ghost use Rattle.std.specs.Prelude.{◌≡◌, ◌≢◌, ℕ, ◌+◌, ◌<◌, ◌≤◌, Option, IfOk, Some, MatchBool, length, vec_len, option_map, slice_index_or};
+ghost use Rattle.dataflow.specs.Problem.{problem, IsFact, IsLeastSolution, fact_at};
+ghost use Rattle.dataflow.specs.Search.{IsChained, IsUnderWay, IsSource, absorbed, rank, waits, left};
+
+use crate::order::visit_order;
+use crate::outgoing::{Outgoing, chain};
+use crate::problem::{Domain, Flow};
+use crate::worklist::Worklist;
+use crpd_base::Memory;
+use std::alloc::{AllocError, Global};
+
+/// Joins a value into a fact, and says whether that changed it.
+fn absorb<D: Domain>(domain: &D, fact: &mut Option<D::Fact>, value: &D::Fact) -> bool
+    ensures value { option_map D.view fact.new ≡ Some (absorbed D.joined (option_map D.view fact.old) (D.view value.now)) }
+    ensures changed { MatchBool result
+        (rank (D.height domain.now) (option_map D.view fact.old) < rank (D.height domain.now) (option_map D.view fact.new))
+        (option_map D.view fact.new ≡ option_map D.view fact.old) }
+{
+    match fact {
+        Some(fact) => domain.join(fact, value),
+        None => {
+            *fact = Some(*value);
+            true
+        }
+    }
+}
+
+/// The facts where paths begin.
+fn starts<G: Flow, D: Domain>(
+    alloc: Global,
+    flow: &G,
+    domain: &D,
+) -> Result<Vec<Option<D::Fact>>, AllocError>
+    requires { (n : ℕ) → n < G.node_count flow.now → D.is_own domain.now n }
+    ensures nodes { IfOk result (λ facts. vec_len facts ≡ G.node_count flow.now) }
+    ensures begins { IfOk result (λ facts. (n : ℕ) → n < G.node_count flow.now → fact_at D.view facts.items n ≡ D.begins domain.now n) }
+{
+    let mut facts = Vec::with_capacity(alloc, flow.nodes() as usize)?;
+    for node in 0..flow.nodes() {
+        facts.push(domain.start(node))?;
+    }
+    Ok(facts)
+}
+
+/// Joins the value after a node into the fact of each node that an edge leads to from there.
+/// The nodes whose facts change wait.
+fn pass_on<G: Flow, D: Domain>(
+    flow: &G,
+    domain: &D,
+    outgoing: &Outgoing,
+    node: u32,
+    value: &D::Fact,
+    facts: &mut [Option<D::Fact>],
+    waiting: &mut Worklist,
+)
+    requires edges { IsChained (G.node_count flow.now) (G.edge_count flow.now) (G.ends flow.now) outgoing.now.last.items outgoing.now.before.items }
+    requires node { node < G.node_count flow.now }
+    requires facts { length facts.old ≡ G.node_count flow.now }
+    requires waiting { length waiting.old ≡ G.node_count flow.now }
+    requires source { IsSource D.Value (problem D.joined (D.passed domain.now) (D.begins domain.now) (G.node_count flow.now) (G.edge_count flow.now) (G.ends flow.now))
+        (fact_at D.view facts.old) (waits waiting.old) node (D.view value.now) }
+    requires under_way { IsUnderWay D.Value (problem D.joined (D.passed domain.now) (D.begins domain.now) (G.node_count flow.now) (G.edge_count flow.now) (G.ends flow.now))
+        (fact_at D.view facts.old) (waits waiting.old) (λ k. (G.ends flow.now k).0 ≢ node) }
+    ensures waiting { length waiting.new ≡ G.node_count flow.now }
+    ensures under_way { IsUnderWay D.Value (problem D.joined (D.passed domain.now) (D.begins domain.now) (G.node_count flow.now) (G.edge_count flow.now) (G.ends flow.now))
+        (fact_at D.view facts.new) (waits waiting.new) (λ k. Unit {0}) }
+    ensures left { left D.view (D.height domain.now) (D.tallest domain.now) facts.new waiting.new
+        ≤ left D.view (D.height domain.now) (D.tallest domain.now) facts.old waiting.old }
+{
+    let mut next = outgoing.last[node as usize];
+    while let Some(k) = next {
+        let (_, target) = flow.edge(k);
+        if absorb(domain, &mut facts[target as usize], value) {
+            waiting.add(target);
+        }
+        next = outgoing.before[k as usize];
+    }
+}
+
+/// The least solution, or want of memory.
+fn search<G: Flow, D: Domain>(
+    alloc: Global,
+    flow: &G,
+    domain: &D,
+) -> Result<Vec<Option<D::Fact>>, AllocError>
+    requires { (n : ℕ) → n < G.node_count flow.now → D.is_own domain.now n }
+    ensures nodes { IfOk result (λ facts. vec_len facts ≡ G.node_count flow.now) }
+    ensures facts { IfOk result (λ facts. (n : ℕ) → n < G.node_count flow.now →
+        IsFact (problem D.joined (D.passed domain.now) (D.begins domain.now) (G.node_count flow.now) (G.edge_count flow.now) (G.ends flow.now))
+        n (fact_at D.view facts.items n)) }
+    ensures least { IfOk result (λ facts.
+        IsLeastSolution D.Value (problem D.joined (D.passed domain.now) (D.begins domain.now) (G.node_count flow.now) (G.edge_count flow.now) (G.ends flow.now))
+        (fact_at D.view facts.items)) }
+{
+    let outgoing = chain(alloc, flow)?;
+    let order = visit_order(alloc, flow, &outgoing)?;
+    let mut waiting = Worklist::new(alloc, order, flow.nodes() as usize)?;
+    let mut facts = starts(alloc, flow, domain)?;
+    while let Some(node) = waiting.take() {
+        if let Some(before) = &facts[node as usize] {
+            let mut value = *before;
+            domain.transfer(node, &mut value);
+            pass_on(
+                flow,
+                domain,
+                &outgoing,
+                node,
+                &value,
+                &mut facts,
+                &mut waiting,
+            );
+        }
+    }
+    Ok(facts)
+}
+
+/// The least solution of a dataflow problem. A node's fact is the fact before the node: the join of its
+/// start with what each edge that leads to it brings, the fact before the edge's source as that node's
+/// transfer makes it. It is the join over all paths from nodes with a start, and None exactly where no such
+/// path leads. The one refusal is want of memory.
+///
+/// Nodes wait in a list and are visited in the reverse of the order in which a search in depth leaves them.
+/// A node is visited again only when its fact has risen, so each edge is followed at most once more than a
+/// fact can rise, and once where the edges have no cycle (Kam and Ullman 1976).
+pub fn solve<G: Flow, D: Domain>(
+    alloc: Global,
+    flow: &G,
+    domain: &D,
+) -> Result<Vec<Option<D::Fact>>, Memory>
+    requires { (n : ℕ) → n < G.node_count flow.now → D.is_own domain.now n }
+    ensures nodes { IfOk result (λ facts. vec_len facts ≡ G.node_count flow.now) }
+    ensures facts { IfOk result (λ facts. (n : ℕ) → n < G.node_count flow.now →
+        IsFact (problem D.joined (D.passed domain.now) (D.begins domain.now) (G.node_count flow.now) (G.edge_count flow.now) (G.ends flow.now))
+        n (fact_at D.view facts.items n)) }
+    ensures least { IfOk result (λ facts.
+        IsLeastSolution D.Value (problem D.joined (D.passed domain.now) (D.begins domain.now) (G.node_count flow.now) (G.edge_count flow.now) (G.ends flow.now))
+        (fact_at D.view facts.items)) }
+{
+    match search(alloc, flow, domain) {
+        Ok(facts) => Ok(facts),
+        Err(_) => Err(Memory),
+    }
+}

@@ -1,0 +1,123 @@
+// Two analyses of one variable that nodes read and write, one along the edges and one against them.
+ghost use Rattle.std.specs.Prelude.{◌≡◌, ◌<◌, ◌||◌, ℕ, Option, Some, None, Bool, false, length, slice_index_or};
+ghost use Rattle.dataflow.specs.Variable.{both, first_unknown, known_after, live_before, unknown, one_if_live};
+ghost use Rattle.dataflow.specs.declared.variable.Use.{Use};
+ghost use Rattle.dataflow.specs.VariableLaws.{or_joins, live_distributes, both_joins, known_distributes, live_bounded, unknown_bounded};
+
+use crate::problem::Domain;
+
+/// What a node does with the variable.
+#[derive(Clone, Copy)]
+pub enum Use {
+    Reads,
+    Writes(u32),
+    Neither,
+}
+
+/// Whether the variable may be read before it is written, after a node. It flows against the edges, so the
+/// fact before a node in the flow is what holds after the node in the graph.
+#[derive(Clone, Copy)]
+pub struct Live<'a> {
+    pub uses: &'a [Use],
+}
+
+impl Domain for Live<'_> {
+    type Fact = bool;
+
+    ghost Value = { Bool };
+
+    ghost view = { λ live. live };
+
+    ghost joined = { λ a b. a || b };
+
+    ghost passed = { λ d n live. live_before (slice_index_or d.uses.now n Use.Neither) live };
+
+    ghost begins = { λ d n. Some false };
+
+    ghost height = { λ d live. one_if_live live };
+
+    ghost tallest = { λ d. 1 };
+
+    ghost is_own = { λ d n. n < length d.uses.now };
+
+    fn start(&self, _node: u32) -> Option<bool> {
+        Some(false)
+    }
+
+    fn join(&self, a: &mut bool, b: &bool) -> bool {
+        if *b && !*a {
+            *a = true;
+            true
+        } else {
+            false
+        }
+    }
+
+    fn transfer(&self, node: u32, live: &mut bool) {
+        match self.uses[node as usize] {
+            Use::Reads => *live = true,
+            Use::Writes(_) => *live = false,
+            Use::Neither => {}
+        }
+    }
+
+    ghost joins = { or_joins };
+
+    ghost distributes = { λ d n a b. live_distributes (slice_index_or d.uses.now n Use.Neither) a b };
+
+    ghost bounded = { λ d v. live_bounded v };
+}
+
+/// The constant that the variable surely holds before a node, where it is known. Paths begin at node 0,
+/// where it is not. It flows along the edges.
+#[derive(Clone, Copy)]
+pub struct Known<'a> {
+    pub uses: &'a [Use],
+}
+
+impl Domain for Known<'_> {
+    type Fact = Option<u32>;
+
+    ghost Value = { Option ℕ };
+
+    ghost view = { λ known. known };
+
+    ghost joined = { both };
+
+    ghost passed = { λ d n known. known_after (slice_index_or d.uses.now n Use.Neither) known };
+
+    ghost begins = { λ d n. first_unknown n };
+
+    ghost height = { λ d known. unknown known };
+
+    ghost tallest = { λ d. 1 };
+
+    ghost is_own = { λ d n. n < length d.uses.now };
+
+    fn start(&self, node: u32) -> Option<Option<u32>> {
+        if node == 0 { Some(None) } else { None }
+    }
+
+    fn join(&self, a: &mut Option<u32>, b: &Option<u32>) -> bool {
+        match (*a, *b) {
+            (Some(j), Some(k)) if j == k => false,
+            (Some(_), _) => {
+                *a = None;
+                true
+            }
+            (None, _) => false,
+        }
+    }
+
+    fn transfer(&self, node: u32, known: &mut Option<u32>) {
+        if let Use::Writes(constant) = self.uses[node as usize] {
+            *known = Some(constant);
+        }
+    }
+
+    ghost joins = { both_joins };
+
+    ghost distributes = { λ d n a b. known_distributes (slice_index_or d.uses.now n Use.Neither) a b };
+
+    ghost bounded = { λ d v. unknown_bounded v };
+}

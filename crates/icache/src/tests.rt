@@ -1,0 +1,60 @@
+// Accesses of a small cache, one after the other.
+ghost use Rattle.std.specs.Prelude.{◌≡◌};
+
+use super::*;
+use crpd_base::Switching;
+
+// Four cache sets of lines of 16 bytes.
+fn geometry() -> Geometry
+    ensures { result.platform.sets ≡ 4 }
+{
+    Geometry::new(&Platform {
+        line: 16,
+        sets: 4,
+        hit: 1,
+        miss: 11,
+        memory: 1,
+        taken: 1,
+        switch: 5,
+        mul: 1,
+        div: 1,
+        switching: Switching::Cycle,
+    })
+}
+
+#[test]
+fn blocks_and_sets(rt: HostRuntime) {
+    let geometry = geometry();
+    for (address, block, set) in [
+        (0u32, 0u32, 0u16),
+        (15, 0, 0),
+        (16, 1, 1),
+        (0x1004, 0x100, 0),
+        (0x1050, 0x105, 1),
+        (0xFFFF_FFFC, 0x0FFF_FFFF, 3),
+    ] {
+        assert_eq!(rt; geometry.block(address), block);
+        assert_eq!(rt; geometry.set(block), set);
+    }
+}
+
+#[test]
+fn hits_and_misses(rt: HostRuntime) {
+    let geometry = geometry();
+    let mut cache = Cache::<4>::empty();
+    for (block, found) in [
+        (0x100u32, Access::Miss),
+        (0x100, Access::Hit),
+        (0x101, Access::Miss),
+        (0x100, Access::Hit),
+        (0x104, Access::Miss),
+        (0x100, Access::Miss),
+        (0x101, Access::Hit),
+        (0, Access::Miss),
+    ] {
+        assert!(rt; cache.access(&geometry, block) == found);
+    }
+    assert_eq!(rt; cache.holds(0), Some(0));
+    assert_eq!(rt; cache.holds(1), Some(0x101));
+    assert_eq!(rt; cache.holds(2), None);
+}
