@@ -1,0 +1,94 @@
+// The window of each task, by the better of the two methods.
+ghost use Rattle.std.specs.Prelude.{◌≡◌, ℕ, ◌<◌, ◌≤◌, length, slice_index, MatchResult, MatchOption};
+ghost use Rattle.crpd_base.specs.Tasks.{HasTimes};
+ghost use Rattle.delay_count.specs.Gamma.{part_at};
+ghost use Rattle.delay_count.specs.Demand.{HasLongest};
+ghost use Rattle.response.specs.Windows.{smaller_of, IsAnswer, IsRefused};
+
+use crate::search::window;
+use crpd_base::{MOST_TASKS, Method, Part, Task, TaskSet};
+use delay_count::growth_law;
+use std::alloc::Global;
+
+/// A window in cycles, and the method by which it was found.
+#[derive(Clone, Copy, Debug, PartialEq, Eq)]
+pub struct Choice {
+    pub window: u64,
+    pub method: Method,
+}
+
+/// Why there are no windows: no memory, or the first task that has none by either method.
+#[derive(Clone, Copy, Debug, PartialEq, Eq)]
+pub enum WindowError {
+    Memory,
+    Unschedulable(Task),
+}
+
+/// The windows of all tasks, from the highest down: for each the smaller of the windows by the two methods, the UCB-union
+/// one where they are equal. A window is the least number of cycles that the task's demand does not exceed; with the
+/// task's jitter it is at most the deadline.
+///
+/// It needs a part and the longest instruction, from 1 to 2^20 cycles, of each task. `Unschedulable` names the first task
+/// that has no window by either method.
+pub fn windows(
+    alloc: Global,
+    set: &TaskSet,
+    parts: &[Part],
+    longest: &[u64],
+) -> Result<Vec<Choice>, WindowError>
+    requires times { HasTimes set.now }
+    requires parts { length parts.now ≡ length set.now.tasks }
+    requires longest { HasLongest set.now longest.now }
+    ensures { MatchResult result
+        (λ choices. IsAnswer set.now (part_at parts.now) (slice_index longest.now) choices.items)
+        (λ e. IsRefused set.now (part_at parts.now) (slice_index longest.now) e) }
+{
+    growth_law();
+    let mut choices = Vec::new(alloc);
+    let mut found = [0; MOST_TASKS];
+    for i in 0..set.tasks.as_slice().len() {
+        let task = Task(i as u8);
+        let ucb = window(set, parts, longest, &found, task, Method::Ucb);
+        let ecb = window(set, parts, longest, &found, task, Method::Ecb);
+        match smaller(ucb, ecb) {
+            None => return Err(WindowError::Unschedulable(task)),
+            Some(choice) => {
+                found[i] = choice.window;
+                if choices.push(choice).is_err() {
+                    return Err(WindowError::Memory);
+                }
+            }
+        }
+    }
+    Ok(choices)
+}
+
+// The smaller window, by the UCB-union method where they are equal.
+fn smaller(ucb: Option<u64>, ecb: Option<u64>) -> Option<Choice>
+    ensures { result ≡ smaller_of ucb ecb }
+{
+    match (ucb, ecb) {
+        (None, None) => None,
+        (Some(window), None) => Some(Choice {
+            window,
+            method: Method::Ucb,
+        }),
+        (None, Some(window)) => Some(Choice {
+            window,
+            method: Method::Ecb,
+        }),
+        (Some(first), Some(second)) => {
+            if first <= second {
+                Some(Choice {
+                    window: first,
+                    method: Method::Ucb,
+                })
+            } else {
+                Some(Choice {
+                    window: second,
+                    method: Method::Ecb,
+                })
+            }
+        }
+    }
+}

@@ -1,0 +1,7 @@
+//! The least windows, in which the jobs of each task answer.
+#![tactic(auto)]
+
+mod choice;
+mod search;
+
+pub use choice::{Choice, WindowError, windows};
