@@ -1,3 +1,4 @@
+pub mod Images
 pub mod Numbers
 pub mod Sets
 pub mod Sum

@@ -1,5 +1,4 @@
 pub mod Fields
-pub mod Images
 pub mod Outcome
 pub mod Reading
 pub mod Segments
