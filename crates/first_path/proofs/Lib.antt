@@ -1,2 +1,4 @@
 pub mod Turns
 pub mod OneTask
+pub mod Formed
+pub mod Straight

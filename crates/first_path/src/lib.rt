@@ -2,8 +2,15 @@
 #![tactic(auto)]
 
 ghost use Rattle.first_path.specs.FirstPath.{FirstPathIsSafe};
+ghost use Rattle.first_path.specs.Form.{YesIsSafe};
 
 /// A set of one task that goes straight on to its first ECALL is safe, where its window has room for it.
 pub fn first_path_is_safe()
     ensures { FirstPathIsSafe }
+{}
+
+/// Where the judge says yes to a set, a file and a certificate of the form, the set with its code and the stated response is
+/// safe.
+pub fn yes_is_safe()
+    ensures { YesIsSafe }
 {}
