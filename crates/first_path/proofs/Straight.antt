@@ -89,7 +89,7 @@ module _ (task : OneTask) (program : Program) where
       let rest = path (after a) (suc i) v vs (leaves_block sys a) (omega (arith, at, after_is)) (next program.words i w (v ∷ vs) from) both.1 (omega (arith, below, after_is)) in
       let c = cost_of task.platform w missed ins.0 ins.1 in
       let same : word_cost task.platform w missed + rest_cost task.platform (a / task.platform.line) (a + 4) (v ∷ vs)
-          ≡ cost task.platform ins.0 missed false + (word_cost task.platform v (leaves_block sys a) + rest_cost task.platform (after a / task.platform.line) (after a + 4) vs) =
+      ≡ cost task.platform ins.0 missed false + (word_cost task.platform v (leaves_block sys a) + rest_cost task.platform (after a / task.platform.line) (after a + 4) vs) =
       ap (λ n. n + rest_cost task.platform (a / task.platform.line) (a + 4) (v ∷ vs)) c
       ∙ ap (λ z. cost task.platform ins.0 missed false + (word_cost task.platform v (not (nat_eq (z / task.platform.line) (a / task.platform.line))) + rest_cost task.platform (z / task.platform.line) (z + 4) vs)) (sym after_is) in
       more ins.0 _ (ins_there a i w ins.0 at (got program.words i w (v ∷ vs) from) ins.1 (runs ins.0 ins.2)) ins.2 same rest
