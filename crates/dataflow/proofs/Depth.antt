@@ -1,5 +1,5 @@
 -- Steps of a search in depth.
-use Rattle.std.proofs.Common.{◌≡◌, ◌≢◌, ℕ, ◌+◌, ◌*◌, ◌<◌, ◌≤◌, ◌⊎◌, ⊎_elim, inl, inr, List, [], ◌∷◌, ◌++◌, Bool, true, false, length, get_or, set, ap, sym, ◌∙◌, subst, refl, arith, Option, Some, None, length-append, get_or-set_same, get_or-set_other, suc, zero, reverse, ◌-◌}
+use Rattle.std.proofs.Common.{◌≡◌, ◌≢◌, ℕ, ◌+◌, ◌<◌, ◌≤◌, ◌⊎◌, ⊎_elim, inl, inr, List, [], ◌∷◌, ◌++◌, Bool, true, false, length, get_or, set, ap, sym, ◌∙◌, subst, arith, Option, Some, None, length-append, get_or-set_same, get_or-set_other, suc, reverse, ◌-◌}
 use Rattle.std.specs.List.{sum_by}
 use Rattle.std.proofs.lemmas.Bool.{cases_eq, cases_lt}
 use Rattle.std.proofs.lemmas.List.{get_or_append_left, length-set, get_or_past, get_or_default, get_or-reverse, length-reverse}

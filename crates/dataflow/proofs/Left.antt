@@ -1,6 +1,5 @@
 -- What is left to do falls.
-use Rattle.std.proofs.Common.{◌≡◌, ◌≢◌, ℕ, ◌+◌, ◌-◌, ◌*◌, ◌<◌, ◌≤◌, ◌⊎◌, List, [], ◌∷◌, Option, Some, None, option_map, length, get_or, set, suc, zero, Bool, true, false, IsTrue, refl, sym, ap, ◌∙◌, subst, arith, MatchBool}
-use Rattle.std.specs.List.{sum_by}
+use Rattle.std.proofs.Common.{◌≡◌, ℕ, ◌-◌, ◌<◌, ◌≤◌, List, Option, Some, None, option_map, length, get_or, set, suc, Bool, true, false, refl, ap, arith}
 use Rattle.std.proofs.lemmas.List.Sums.{sum_by-set}
 use Rattle.dataflow.specs.Search.{rank, one_if, left}
 

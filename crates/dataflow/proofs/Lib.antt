@@ -5,3 +5,4 @@ pub mod Left
 pub mod Writes
 pub mod Waiting
 pub mod Depth
+pub mod Ordered

@@ -1,9 +1,9 @@
 -- Values that paths bring, and facts under way to the solution.
-use Rattle.std.proofs.Common.{◌≡◌, ℕ, ◌+◌, ◌<◌, ◌⊎◌, List, [], ◌∷◌, ◌++◌, Option, Some, None, option_map, length, map, get_or, suc, zero, ◌≤◌, Bool, true, false, IsTrue, refl, sym, ap, ◌∙◌, subst, inl, inr, arith}
+use Rattle.std.proofs.Common.{◌≡◌, ℕ, List, [], ◌∷◌, ◌++◌, Option, Some, None, option_map, map, get_or, suc, zero, refl, sym, ap, ◌∙◌, subst, arith}
 use Rattle.std.specs.List.{All}
 use Rattle.std.proofs.lemmas.List.Elements.{All-append, All-map}
-use Rattle.dataflow.specs.Problem.{Problem, IsSemilattice, IsBelow, HasEdge, IsPath, value, Brings, joined_all, IsJoinOverPaths, IsFact, IsAtLeast, Solves, IsLeastSolution}
-use Rattle.dataflow.specs.Search.{IsJoinOfPaths, IsCarried}
+use Rattle.dataflow.specs.Problem.{Problem, IsSemilattice, IsBelow, HasEdge, IsPath, value, Brings, joined_all, IsFact, IsAtLeast, Solves}
+use Rattle.dataflow.specs.Search.{IsJoinOfPaths}
 
 pub record HasLaws (V : Type 0) (p : Problem V) : Type 0 where
   pub joins : IsSemilattice V p.joined

@@ -1,9 +1,9 @@
 -- A value that comes in at one node.
-use Rattle.std.proofs.Common.{◌≡◌, ◌≢◌, ℕ, ◌+◌, ◌<◌, ◌≤◌, ◌⊎◌, List, [], ◌∷◌, ◌++◌, Option, Some, None, option_map, length, suc, zero, Bool, true, false, IsTrue, refl, sym, ap, ◌∙◌, subst, inl, inr, ⊎_elim, arith}
+use Rattle.std.proofs.Common.{◌≡◌, ◌≢◌, ℕ, ◌<◌, ◌≤◌, ◌⊎◌, [], Option, Some, None, suc, Bool, false, IsTrue, refl, sym, ap, ◌∙◌, subst, inl, inr, ⊎_elim, arith}
 use Rattle.std.proofs.lemmas.Bool.{cases_eq, cases_lt}
-use Rattle.dataflow.specs.Problem.{Problem, IsBelow, HasEdge, Brings, IsAtLeast, Solves}
+use Rattle.dataflow.specs.Problem.{Problem, IsBelow, HasEdge, IsAtLeast, Solves}
 use Rattle.dataflow.specs.Search.{past, IsLastEdge, IsJoinOfPaths, IsCarried, IsUnderWay, IsSource, IsStep, absorbed}
-use Rattle.dataflow.proofs.Solution.{HasLaws, below_self, below_trans, below_join_left, below_join_right, of_one, of_join, of_passed, at_least_below}
+use Rattle.dataflow.proofs.Solution.{HasLaws, below_self, below_trans, below_join_left, below_join_right, of_one, of_join, of_passed}
 
 module _ (V : Type 0) (p : Problem V) (laws : HasLaws V p) where
   -- the facts where paths begin, and all nodes wait

@@ -1,5 +1,5 @@
 -- Who waits, by the places of an order.
-use Rattle.std.proofs.Common.{◌≡◌, ℕ, ◌<◌, ◌≤◌, ◌⊎◌, ⊎_elim, List, Bool, false, length, slice_index, ap, sym, ◌∙◌, arith, MatchOption, Option, Some, None, true}
+use Rattle.std.proofs.Common.{◌≡◌, ℕ, ◌<◌, ◌≤◌, ⊎_elim, List, Bool, false, length, slice_index, ap, sym, ◌∙◌, arith, MatchOption, Option, Some, None, true}
 use Rattle.std.proofs.lemmas.Bool.{cases_lt}
 use Rattle.std.proofs.lemmas.List.{get_or_past}
 use Rattle.dataflow.specs.Search.{IsOrder, waits}

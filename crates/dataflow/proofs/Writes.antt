@@ -1,5 +1,5 @@
 -- A step, as what is written in the lists of facts and of nodes that wait.
-use Rattle.std.proofs.Common.{◌≡◌, ◌≢◌, ℕ, ◌<◌, ◌⊎◌, List, Option, Some, None, option_map, length, get_or, set, Bool, true, false, IsTrue, MatchBool, cond, ◌≤◌, refl, sym, ap, ◌∙◌, subst, inl, inr, ⊎_elim, arith, get_or-set_same, get_or-set_other}
+use Rattle.std.proofs.Common.{◌≡◌, ◌≢◌, ℕ, ◌<◌, List, Option, Some, None, option_map, length, get_or, set, Bool, true, false, IsTrue, MatchBool, cond, ◌≤◌, refl, sym, ap, ◌∙◌, subst, inl, inr, ⊎_elim, get_or-set_same, get_or-set_other}
 use Rattle.std.proofs.lemmas.Bool.{cases_eq}
 use Rattle.dataflow.specs.Problem.{Problem, fact_at}
 use Rattle.dataflow.specs.Search.{waits, absorbed, IsStep, rank, left}

@@ -80,3 +80,12 @@ pub record Solves (V : Type 0) (p : Problem V) (facts : ℕ → Option V) : Type
 pub record IsLeastSolution (V : Type 0) (p : Problem V) (facts : ℕ → Option V) : Type 0 where
   pub solves : Solves V p facts
   pub least : (other : ℕ → Option V) → Solves V p other → (n : ℕ) (v : V) → facts n ≡ Some v → IsAtLeast p (other n) v
+
+-- a is below b where their join is b: that is an order, and a join is the least value above both
+pub record IsOrderWithJoins (V : Type 0) (joined : V → V → V) : Type 0 where
+  pub reflexive : (a : V) → joined a a ≡ a
+  pub transitive : (a b c : V) → joined a b ≡ b → joined b c ≡ c → joined a c ≡ c
+  pub antisymmetric : (a b : V) → joined a b ≡ b → joined b a ≡ a → a ≡ b
+  pub above_left : (a b : V) → joined a (joined a b) ≡ joined a b
+  pub above_right : (a b : V) → joined b (joined a b) ≡ joined a b
+  pub least : (a b c : V) → joined a c ≡ c → joined b c ≡ c → joined (joined a b) c ≡ c

@@ -1,5 +1,5 @@
 -- What the search for the solution keeps.
-use Rattle.std.specs.Prelude.{◌≡◌, ◌≢◌, ℕ, ◌+◌, ◌-◌, ◌<◌, ◌≤◌, ◌⊎◌, List, ◌∷◌, Option, Some, None, option_map, slice_index_or, slice_index, length, ◌*◌, Bool, true, false, IsTrue, suc, if◌then◌else◌}
+use Rattle.std.specs.Prelude.{◌≡◌, ◌≢◌, ℕ, ◌+◌, ◌-◌, ◌<◌, ◌⊎◌, List, ◌∷◌, Option, Some, None, option_map, slice_index_or, slice_index, length, ◌*◌, Bool, true, false, IsTrue, suc, if◌then◌else◌}
 use Rattle.std.specs.List.{All, sum_by}
 use Rattle.dataflow.specs.Problem.{Problem, Brings, joined_all, IsAtLeast}
 

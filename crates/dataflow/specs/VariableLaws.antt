@@ -1,5 +1,5 @@
 -- The laws of the two analyses of a variable.
-use Rattle.std.proofs.Common.{◌≡◌, ◌≢◌, ◌≤◌, ℕ, Bool, true, false, Option, Some, None, refl, arith, ◌||◌, ap, sym, ◌∙◌, ⊎_elim, cond, eqb, eq-eqb, lit≤, ne_eqb}
+use Rattle.std.proofs.Common.{◌≡◌, ◌≢◌, ◌≤◌, ℕ, Bool, true, false, Option, Some, None, refl, ◌||◌, ap, sym, ◌∙◌, ⊎_elim, cond, eq-eqb, lit≤, ne_eqb}
 use Rattle.dataflow.specs.Problem.{IsSemilattice}
 use Rattle.dataflow.specs.Variable.{both, known_after, live_before, unknown, one_if_live}
 use Rattle.dataflow.specs.declared.variable.Use.{Use}
@@ -50,24 +50,24 @@ both_swapped : (a b : Option ℕ) → both a b ≡ both b a
 both_swapped None b = sym (both_none b)
 both_swapped (Some j) None = refl
 both_swapped (Some j) (Some k) = ⊎_elim
-  (λ (e : j ≡ k). both_equal j k e ∙ ap Some e ∙ sym (both_equal k j (sym e)))
-  (λ (ne : j ≢ k). both_other j k ne ∙ sym (both_other k j (λ e. ne (sym e))))
-  (cases_eq j k)
+    (λ (e : j ≡ k). both_equal j k e ∙ ap Some e ∙ sym (both_equal k j (sym e)))
+    (λ (ne : j ≢ k). both_other j k ne ∙ sym (both_other k j (λ e. ne (sym e))))
+    (cases_eq j k)
 
 both_grouped : (a b c : Option ℕ) → both (both a b) c ≡ both a (both b c)
 both_grouped None b c = refl
 both_grouped (Some i) None c = refl
 both_grouped (Some i) (Some j) None = both_none (both (Some i) (Some j))
 both_grouped (Some i) (Some j) (Some k) = ⊎_elim
-  (λ (e : i ≡ j). ⊎_elim
+    (λ (e : i ≡ j). ⊎_elim
     (λ (f : j ≡ k). ap (λ o. both o (Some k)) (both_equal i j e) ∙ ap (λ o. both (Some i) o) (ap Some (sym f) ∙ sym (both_equal j k f)))
     (λ (nf : j ≢ k). ap (λ o. both o (Some k)) (both_equal i j e ∙ ap Some e) ∙ both_other j k nf ∙ sym (ap (λ o. both (Some i) o) (both_other j k nf)))
     (cases_eq j k))
-  (λ (ne : i ≢ j). ap (λ o. both o (Some k)) (both_other i j ne) ∙ ⊎_elim
+    (λ (ne : i ≢ j). ap (λ o. both o (Some k)) (both_other i j ne) ∙ ⊎_elim
     (λ (f : j ≡ k). sym (ap (λ o. both (Some i) o) (both_equal j k f) ∙ both_other i j ne))
     (λ (nf : j ≢ k). sym (ap (λ o. both (Some i) o) (both_other j k nf)))
     (cases_eq j k))
-  (cases_eq i j)
+    (cases_eq i j)
 
 pub both_joins : IsSemilattice (Option ℕ) both
 both_joins = record { same = both_same; swapped = both_swapped; grouped = both_grouped }

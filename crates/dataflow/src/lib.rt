@@ -10,7 +10,7 @@ mod variable;
 mod worklist;
 
 pub use edges::{Against, EdgeList};
-pub use problem::{Domain, Flow};
+pub use problem::{Domain, Flow, order_law};
 pub use solver::solve;
 pub use variable::{Known, Live, Use};
 

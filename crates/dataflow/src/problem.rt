@@ -1,8 +1,9 @@
 // What a graph and a domain of facts are.
 ghost use Rattle.std.specs.Prelude.{◌≡◌, ℕ, ◌<◌, ◌≤◌, Option, MatchBool, option_map};
-ghost use Rattle.dataflow.specs.Problem.{IsSemilattice};
+ghost use Rattle.dataflow.specs.Problem.{IsSemilattice, IsOrderWithJoins};
 
-/// A graph: nodes are the numbers below `nodes()`, and edge k leads from the first to the second of `edge(k)`.
+/// A graph: its nodes are the numbers below `nodes()`, and edge k, for k below `edges()`, leads from the first
+/// to the second number of `edge(k)`. No call takes memory.
 pub trait Flow {
     ghost node_count: { Self → ℕ };
 
@@ -27,7 +28,9 @@ pub trait Flow {
         ensures target { result.1 < node_count self.now };
 }
 
-/// Facts, each seen as a value. Values have least joins: a value is below another where their join is the other.
+/// Facts about the nodes of a graph, and how they flow. A fact is seen as a value. A value is below another where
+/// their join is the other (`order_law`). The laws: joins are of both sides in any order and grouping, a node's
+/// transfer of a join is the join of its transfers, and no height exceeds the tallest. No call takes memory.
 pub trait Domain {
     type Fact: Copy;
 
@@ -43,7 +46,7 @@ pub trait Domain {
     // The value before a node where paths begin.
     ghost begins: { Self → ℕ → Option Value };
 
-    // A number that rises with a value, and the greatest such number.
+    // A number that rises where a join changes a value, and the greatest such number.
     ghost height: { Self → Value → ℕ };
 
     ghost tallest: { Self → ℕ };
@@ -56,7 +59,7 @@ pub trait Domain {
         requires { is_own self.now node }
         ensures { option_map view result ≡ begins self.now node };
 
-    /// Makes `a` the join of `a` and `b`, and says whether that changed it.
+    /// Makes `a` the join of `a` and `b`, and says whether that changed its value.
     fn join(&self, a: &mut Self::Fact, b: &Self::Fact) -> bool
         ensures value { view a.new ≡ joined (view a.old) (view b.now) }
         ensures changed { MatchBool result (height self.now (view a.old) < height self.now (view a.new)) (view a.new ≡ view a.old) };
@@ -72,3 +75,8 @@ pub trait Domain {
 
     ghost bounded: { (d : Self) (v : Value) → height d v ≤ tallest d };
 }
+
+/// A law: the values of a domain are ordered, and a join is the least value above both of its sides.
+pub fn order_law<D: Domain>()
+    ensures { IsOrderWithJoins D.Value D.joined }
+{}

@@ -115,14 +115,14 @@ fn search<G: Flow, D: Domain>(
     Ok(facts)
 }
 
-/// The least solution of a dataflow problem. A node's fact is the fact before the node: the join of its
-/// start with what each edge that leads to it brings, the fact before the edge's source as that node's
-/// transfer makes it. It is the join over all paths from nodes with a start, and None exactly where no such
-/// path leads. The one refusal is want of memory.
+/// The least solution of a dataflow problem. The fact of a node is the fact before it: the join of its start with
+/// the fact after the source of each edge that leads to it. It is the join over all paths from nodes with a start,
+/// and None exactly where no such path leads. All numbers below the flow's `nodes()` must be the domain's own. The
+/// one refusal is want of memory; a fact for each node is taken, and some ten bytes for each node and edge.
 ///
-/// Nodes wait in a list and are visited in the reverse of the order in which a search in depth leaves them.
-/// A node is visited again only when its fact has risen, so each edge is followed at most once more than a
-/// fact can rise, and once where the edges have no cycle (Kam and Ullman 1976).
+/// Nodes are visited round and round in the reverse of the order in which a search in depth leaves them, each only
+/// when its fact has risen since. So each edge is followed at most once more often than a fact can rise, and once
+/// where the edges have no cycle (Kam and Ullman 1976).
 pub fn solve<G: Flow, D: Domain>(
     alloc: Global,
     flow: &G,

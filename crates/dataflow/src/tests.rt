@@ -10,7 +10,11 @@ use std::alloc::Global;
 use std::cell::Cell;
 use std::test::Fail;
 
-fn known(alloc: Global, uses: &[Use], edges: &[(u32, u32)]) -> Result<Vec<Option<Option<u32>>>, Fail> {
+fn known(
+    alloc: Global,
+    uses: &[Use],
+    edges: &[(u32, u32)],
+) -> Result<Vec<Option<Option<u32>>>, Fail> {
     let nodes = u32::try_from(uses.len()).or(Err("more nodes than numbers"))?;
     let graph = EdgeList::new(nodes, edges).ok_or("an end of an edge is no node")?;
     Ok(solve(alloc, &graph, &Known { uses })?)
@@ -26,32 +30,103 @@ fn live(alloc: Global, uses: &[Use], edges: &[(u32, u32)]) -> Result<Vec<Option<
 fn a_chain(rt: HostRuntime) -> Result<(), Fail> {
     let uses = [Use::Neither, Use::Writes(7), Use::Reads, Use::Neither];
     let edges = [(2, 3), (1, 2), (0, 1)];
-    assert_eq!(rt; known(rt.alloc(), &uses, &edges)?.as_slice(), [Some(None), Some(None), Some(Some(7)), Some(Some(7))].as_slice());
-    assert_eq!(rt; live(rt.alloc(), &uses, &edges)?.as_slice(), [Some(false), Some(true), Some(false), Some(false)].as_slice());
+    assert_eq!(rt;
+        known(rt.alloc(), &uses, &edges)?.as_slice(),
+        [Some(None), Some(None), Some(Some(7)), Some(Some(7))].as_slice()
+    );
+    assert_eq!(rt;
+        live(rt.alloc(), &uses, &edges)?.as_slice(),
+        [Some(false), Some(true), Some(false), Some(false)].as_slice()
+    );
     Ok(())
 }
 
 #[test]
 fn a_diamond(rt: HostRuntime) -> Result<(), Fail> {
     let edges = [(0, 1), (0, 2), (1, 3), (2, 3), (3, 4)];
-    let same = [Use::Neither, Use::Writes(7), Use::Writes(7), Use::Reads, Use::Neither];
-    assert_eq!(rt; known(rt.alloc(), &same, &edges)?.as_slice(), [Some(None), Some(None), Some(None), Some(Some(7)), Some(Some(7))].as_slice());
-    let other = [Use::Reads, Use::Writes(7), Use::Writes(8), Use::Neither, Use::Reads];
-    assert_eq!(rt; known(rt.alloc(), &other, &edges)?.as_slice(), [Some(None), Some(None), Some(None), Some(None), Some(None)].as_slice());
-    let one_side = [Use::Neither, Use::Writes(7), Use::Neither, Use::Neither, Use::Reads];
-    assert_eq!(rt; known(rt.alloc(), &one_side, &edges)?.as_slice(), [Some(None), Some(None), Some(None), Some(None), Some(None)].as_slice());
-    assert_eq!(rt; live(rt.alloc(), &one_side, &edges)?.as_slice(), [Some(true), Some(true), Some(true), Some(true), Some(false)].as_slice());
+    let same = [
+        Use::Neither,
+        Use::Writes(7),
+        Use::Writes(7),
+        Use::Reads,
+        Use::Neither,
+    ];
+    assert_eq!(rt;
+        known(rt.alloc(), &same, &edges)?.as_slice(),
+        [
+            Some(None),
+            Some(None),
+            Some(None),
+            Some(Some(7)),
+            Some(Some(7))
+        ]
+        .as_slice()
+    );
+    let other = [
+        Use::Reads,
+        Use::Writes(7),
+        Use::Writes(8),
+        Use::Neither,
+        Use::Reads,
+    ];
+    assert_eq!(rt;
+        known(rt.alloc(), &other, &edges)?.as_slice(),
+        [Some(None), Some(None), Some(None), Some(None), Some(None)].as_slice()
+    );
+    let one_side = [
+        Use::Neither,
+        Use::Writes(7),
+        Use::Neither,
+        Use::Neither,
+        Use::Reads,
+    ];
+    assert_eq!(rt;
+        known(rt.alloc(), &one_side, &edges)?.as_slice(),
+        [Some(None), Some(None), Some(None), Some(None), Some(None)].as_slice()
+    );
+    assert_eq!(rt;
+        live(rt.alloc(), &one_side, &edges)?.as_slice(),
+        [Some(true), Some(true), Some(true), Some(true), Some(false)].as_slice()
+    );
     Ok(())
 }
 
 #[test]
 fn a_loop_and_a_node_that_no_path_reaches(rt: HostRuntime) -> Result<(), Fail> {
-    let uses = [Use::Writes(7), Use::Neither, Use::Writes(8), Use::Reads, Use::Writes(9)];
+    let uses = [
+        Use::Writes(7),
+        Use::Neither,
+        Use::Writes(8),
+        Use::Reads,
+        Use::Writes(9),
+    ];
     let edges = [(0, 1), (1, 2), (2, 1), (1, 3), (4, 3)];
-    assert_eq!(rt; known(rt.alloc(), &uses, &edges)?.as_slice(), [Some(None), Some(None), Some(None), Some(None), None].as_slice());
-    assert_eq!(rt; live(rt.alloc(), &uses, &edges)?.as_slice(), [Some(true), Some(true), Some(true), Some(false), Some(true)].as_slice());
-    let kept = [Use::Writes(7), Use::Neither, Use::Writes(7), Use::Reads, Use::Writes(9)];
-    assert_eq!(rt; known(rt.alloc(), &kept, &edges)?.as_slice(), [Some(None), Some(Some(7)), Some(Some(7)), Some(Some(7)), None].as_slice());
+    assert_eq!(rt;
+        known(rt.alloc(), &uses, &edges)?.as_slice(),
+        [Some(None), Some(None), Some(None), Some(None), None].as_slice()
+    );
+    assert_eq!(rt;
+        live(rt.alloc(), &uses, &edges)?.as_slice(),
+        [Some(true), Some(true), Some(true), Some(false), Some(true)].as_slice()
+    );
+    let kept = [
+        Use::Writes(7),
+        Use::Neither,
+        Use::Writes(7),
+        Use::Reads,
+        Use::Writes(9),
+    ];
+    assert_eq!(rt;
+        known(rt.alloc(), &kept, &edges)?.as_slice(),
+        [
+            Some(None),
+            Some(Some(7)),
+            Some(Some(7)),
+            Some(Some(7)),
+            None
+        ]
+        .as_slice()
+    );
     Ok(())
 }
 
@@ -115,7 +190,11 @@ fn each_node_of_a_loop_free_graph_is_visited_once(rt: HostRuntime) -> Result<(),
     let mut uses = Vec::new(rt.alloc());
     let mut edges = Vec::new(rt.alloc());
     for i in 0..1000u32 {
-        uses.push(if i % 3 == 0 { Use::Writes(i) } else { Use::Neither })?;
+        uses.push(if i % 3 == 0 {
+            Use::Writes(i)
+        } else {
+            Use::Neither
+        })?;
         if i < 998 {
             edges.push((i * 7 % 1000, (i + 1) * 7 % 1000))?;
             edges.push((i * 7 % 1000, (i + 2) * 7 % 1000))?;
@@ -125,7 +204,14 @@ fn each_node_of_a_loop_free_graph_is_visited_once(rt: HostRuntime) -> Result<(),
     assert_eq!(rt; uses.len(), 1000);
     let graph = EdgeList::new(1000, edges.as_slice()).ok_or("an end of an edge is no node")?;
     let visits = Cell::new(0);
-    let facts = solve(rt.alloc(), &graph, &Counted { uses: uses.as_slice(), visits: &visits })?;
+    let facts = solve(
+        rt.alloc(),
+        &graph,
+        &Counted {
+            uses: uses.as_slice(),
+            visits: &visits,
+        },
+    )?;
     assert!(rt; facts.iter().all(|fact| fact.is_some()));
     assert_eq!(rt; visits.get(), 1000);
     Ok(())

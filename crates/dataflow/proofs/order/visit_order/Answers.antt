@@ -1,5 +1,5 @@
-use Rattle.std.proofs.Common.{◌≡◌, ◌<◌, ℕ, length, ap, arith, subst, sym, ◌∙◌, true, false, get_or, []}
-use Rattle.dataflow.specs.Search.{IsInDepth, IsOrder}
+use Rattle.std.proofs.Common.{length, ap, arith, subst, sym}
+use Rattle.dataflow.specs.Search.{IsOrder}
 use Rattle.dataflow.proofs.Depth.{none_found, all_left, backwards}
 use Rattle.dataflow.proofs.order.visit_order.Goals as goal
 

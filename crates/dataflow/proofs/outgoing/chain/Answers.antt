@@ -1,4 +1,4 @@
-use Rattle.std.proofs.Common.{◌≡◌, ℕ, ap, sym, subst, arith}
+use Rattle.std.proofs.Common.{◌≡◌, ap, sym, subst, arith}
 use Rattle.dataflow.proofs.Chain.{chain_step}
 use Rattle.dataflow.specs.Search.{IsChained}
 use Rattle.dataflow.proofs.outgoing.chain.Goals as goal

@@ -1,10 +1,10 @@
-use Rattle.std.proofs.Common.{◌≡◌, ℕ, ◌<◌, ◌≤◌, Some, None, length, get_or, ap, sym, ◌∙◌, subst, arith, refl, option_map, set, true, false, MatchBool, Bool, List, Option}
-use Rattle.std.proofs.lemmas.List.{get_or_default, length-set}
-use Rattle.dataflow.specs.Problem.{problem, Problem, fact_at}
-use Rattle.dataflow.specs.Search.{IsUnderWay, IsSource, IsLastEdge, IsStep, waits, left, past, absorbed, rank}
+use Rattle.std.proofs.Common.{◌≡◌, ◌<◌, ◌≤◌, Some, None, length, ap, sym, ◌∙◌, subst, arith, option_map, true, false}
+use Rattle.std.proofs.lemmas.List.{get_or_default}
+use Rattle.dataflow.specs.Problem.{problem, fact_at}
+use Rattle.dataflow.specs.Search.{IsUnderWay, waits, past, absorbed}
 use Rattle.dataflow.proofs.Chain.{read_last, read_before, falls_back}
 use Rattle.dataflow.proofs.Solution.{HasLaws}
-use Rattle.dataflow.proofs.Steps.{none_passed, all_passed_on, stepped, still_source}
+use Rattle.dataflow.proofs.Steps.{none_passed, stepped, still_source}
 use Rattle.dataflow.proofs.Writes.{Outcome, outcome_of, step_of, woken_length, left_falls}
 use Rattle.dataflow.proofs.solver.pass_on.Goals as goal
 use Rattle.dataflow.proofs.solver.pass_on.Goals.{then-absorb, else-absorb}

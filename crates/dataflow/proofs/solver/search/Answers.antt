@@ -1,9 +1,9 @@
-use Rattle.std.proofs.Common.{◌≡◌, ℕ, ◌<◌, ◌≤◌, ◌++◌, Some, None, length, vec_len, get_or, set, take, drop, true, false, ap, sym, ◌∙◌, subst, arith, option_map, get_or-set_other, ◌≢◌, MatchOption, Option, List, Bool, refl}
+use Rattle.std.proofs.Common.{◌≡◌, ℕ, ◌<◌, ◌≤◌, ◌++◌, Some, None, length, get_or, set, take, drop, false, ap, sym, ◌∙◌, subst, arith, option_map, get_or-set_other, ◌≢◌, MatchOption, Option, List, Bool}
 use Rattle.std.proofs.Math.Seq.{take-append_seam}
 use Rattle.std.proofs.lemmas.List.{get_or_default, get_or_past, length-set}
-use Rattle.dataflow.specs.Problem.{Problem, problem, IsFact, Solves, fact_at}
-use Rattle.dataflow.specs.Search.{IsUnderWay, IsSource, waits, left}
-use Rattle.dataflow.proofs.Solution.{HasLaws, is_fact, is_least}
+use Rattle.dataflow.specs.Problem.{Problem, fact_at}
+use Rattle.dataflow.specs.Search.{IsUnderWay, IsSource, waits}
+use Rattle.dataflow.proofs.Solution.{is_fact, is_least}
 use Rattle.dataflow.proofs.Steps.{at_start, taken, taken_empty, its_source, solved}
 use Rattle.dataflow.proofs.solver.search.Goals as goal
 

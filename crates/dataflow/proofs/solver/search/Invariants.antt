@@ -1,5 +1,5 @@
 -- The facts are under way, and what is left to do falls.
-use Rattle.std.proofs.Common.{◌≡◌, ℕ, length, vec_len}
+use Rattle.std.proofs.Common.{◌≡◌, length, vec_len}
 use Rattle.dataflow.specs.Problem.{problem, fact_at}
 use Rattle.dataflow.specs.Search.{IsUnderWay, waits, left}
 use Rattle.dataflow.proofs.solver.search.Given as goal

@@ -1,5 +1,5 @@
 -- The facts so far are those where paths begin.
-use Rattle.std.proofs.Common.{◌≡◌, ℕ, ◌<◌, ◌≤◌, vec_len}
+use Rattle.std.proofs.Common.{◌≡◌, ℕ, ◌<◌, vec_len}
 use Rattle.dataflow.specs.Problem.{fact_at}
 use Rattle.dataflow.specs.Search.{}
 use Rattle.dataflow.proofs.solver.starts.Given as goal

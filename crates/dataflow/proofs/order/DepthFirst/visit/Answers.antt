@@ -1,5 +1,4 @@
-use Rattle.std.proofs.Common.{◌≡◌, ◌<◌, ◌≤◌, ◌+◌, ℕ, None, Some, [], ◌∷◌, ◌++◌, length, get_or, set, true, false, List, Bool, Option, ap, sym, ◌∙◌, subst, arith, refl}
-use Rattle.dataflow.specs.Search.{IsChained, IsInDepth, to_follow}
+use Rattle.std.proofs.Common.{◌<◌, Some, [], ◌∷◌, ◌++◌, length, ap, ◌∙◌, arith, refl}
 use Rattle.dataflow.proofs.Depth.{find, follow, leave, its_edge, same_search, falls_once, falls_twice}
 use Rattle.dataflow.proofs.Chain.{read_before, falls_back}
 use Rattle.dataflow.proofs.order.DepthFirst.visit.Goals as goal
