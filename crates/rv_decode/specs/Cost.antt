@@ -25,7 +25,7 @@ work_cost p (Remu _ _ _) = p.div
 work_cost p _ = 0
 
 -- whether it is a branch, JAL or JALR
-unfoldable pub changes_flow : Ins → Bool
+abbrev pub changes_flow : Ins → Bool
 changes_flow (Jal _ _) = true
 changes_flow (Jalr _ _ _) = true
 changes_flow (Beq _ _ _) = true

@@ -17,15 +17,19 @@ IsEven (negsuc k) = k % 2 ≡ 1
 abbrev pub R : ℕ → ℕ → ℕ → Type 0
 R d a b = (d < 32) × (a < 32) × (b < 32)
 
+-- two registers and a 12-bit immediate, as the I and the S form have
 abbrev pub I : ℕ → ℕ → ℤ → Type 0
 I d a imm = (d < 32) × (a < 32) × IsSigned 12 imm
 
+-- two registers and the offset of a branch
 abbrev pub B : ℕ → ℕ → ℤ → Type 0
 B a b imm = (a < 32) × (b < 32) × IsSigned 13 imm × IsEven imm
 
+-- a register and bits 31 to 12
 abbrev pub U : ℕ → ℕ → Type 0
 U d upper = (d < 32) × (upper < 2 ^ 20)
 
+-- a register and the offset of a jump
 abbrev pub J : ℕ → ℤ → Type 0
 J d imm = (d < 32) × IsSigned 21 imm × IsEven imm
 

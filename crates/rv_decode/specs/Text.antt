@@ -43,6 +43,7 @@ j_text name d imm = two name (register d) (signed_decimal imm)
 abbrev pub u_text : List ℕ → ℕ → ℕ → List ℕ
 u_text name d upper = two name (register d) (decimal upper)
 
+-- the text, with the name of the row
 unfoldable pub text : Ins → List ℕ
 text (Lui d upper) = u_text (codes "lui") d upper
 text (Auipc d upper) = u_text (codes "auipc") d upper

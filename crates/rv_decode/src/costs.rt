@@ -27,7 +27,6 @@ fn work_cost(platform: &Platform, ins: &Ins) -> u32
 }
 
 /// Whether it's a branch, JAL or JALR.
-#[tactic(auto, unfolding(crate::specs::Cost::changes_flow))]
 fn changes_flow(ins: &Ins) -> bool
     ensures { result ≡ changes_flow ins.now }
 {
