@@ -1,6 +1,7 @@
 //! The least windows, in which the jobs of each task answer.
 #![tactic(auto)]
 
+mod bounds;
 mod choice;
 mod search;
 
