@@ -1,2 +1,3 @@
 mod Least
 mod Jumps
+mod Ranges

@@ -4,5 +4,7 @@
 mod bounds;
 mod choice;
 mod search;
+#[cfg(test)]
+mod tests;
 
 pub use choice::{Choice, WindowError, windows};
