@@ -24,14 +24,19 @@ abbrev pub gamma : TaskSet → (ℕ → Part) → (ℕ → ℕ) → ℕ → Meth
 gamma set parts window w Ucb i j = gamma_ucb set parts window w i j
 gamma set parts window w Ecb i j = gamma_ecb set parts window w i j
 
+-- what task i takes of its window by itself: a switch, its bound, and the blocking
+abbrev pub own_demand : TaskSet → (ℕ → Part) → (ℕ → ℕ) → ℕ → ℕ
+own_demand set parts longest i = set.platform.switch + (parts i).bound + blocking set.platform.switching longest i (length set.tasks)
+
+-- what a higher task j takes of a window w of task i: its jobs, each with its bound and two switches, and the delay by them
+abbrev pub higher_demand : TaskSet → (ℕ → Part) → (ℕ → ℕ) → ℕ → Method → ℕ → ℕ → ℕ
+higher_demand set parts window w method i j =
+    jobs_of set j w * ((parts j).bound + (set.platform.switch + set.platform.switch)) + gamma set parts window w method i j
+
 -- the demand of a window w of task i, by a method, with the parts and the longest costs of the tasks and the windows of
--- the higher ones: a switch, the bound, the blocking, and for each higher task its jobs, each with its bound and two
--- switches, and the delay by them
+-- the higher ones
 abbrev pub demand : TaskSet → (ℕ → Part) → (ℕ → ℕ) → (ℕ → ℕ) → ℕ → Method → ℕ → ℕ
-demand set parts longest window i method w =
-    let k = set.platform.switch in
-    k + (parts i).bound + blocking set.platform.switching longest i (length set.tasks)
-    + sum_below (λ j. jobs_of set j w * ((parts j).bound + (k + k)) + gamma set parts window w method i j) i
+demand set parts longest window i method w = own_demand set parts longest i + sum_below (higher_demand set parts window w method i) i
 
 -- the longest cost of an instruction of each task
 pub record HasLongest (set : TaskSet) (longest : List ℕ) : Type 0 where

@@ -5,6 +5,8 @@ mod choice;
 mod jobs;
 mod laws;
 mod share;
+#[cfg(test)]
+mod tests;
 mod union;
 mod window_demand;
 
@@ -12,4 +14,4 @@ pub use choice::gamma_ecb;
 pub use laws::growth_law;
 pub use share::Share;
 pub use union::gamma_ucb;
-pub use window_demand::demand;
+pub use window_demand::{demand, higher_demand, own_demand};

@@ -4,7 +4,7 @@ ghost use Rattle.crpd_base.specs.Sets.{has};
 ghost use Rattle.crpd_base.specs.Tasks.{HasTimes};
 ghost use Rattle.delay_count.specs.Counts.{HasWindows};
 ghost use Rattle.delay_count.specs.Gamma.{part_at, evicted_from};
-ghost use Rattle.delay_count.specs.Demand.{HasLongest, greatest_from, blocking, gamma, demand};
+ghost use Rattle.delay_count.specs.Demand.{HasLongest, greatest_from, blocking, gamma, own_demand, higher_demand, demand};
 
 use crate::choice::gamma_ecb;
 use crate::jobs::{affected_shares, jobs};
@@ -36,16 +36,56 @@ pub fn demand(
     ensures { result ≡ demand set.now (part_at parts.now) (slice_index longest.now) (slice_index windows.now) task.0 method w }
 {
     let i = task.0 as usize;
-    let platform = &set.platform;
-    let switch = u128::from(platform.switch);
-    let part = &parts[i];
-    let mut total = switch + u128::from(part.bound) + u128::from(longest_begun(set, longest, i));
+    let mut total = own_demand(set, parts, longest, task);
     for j in 0..i {
-        let part = &parts[j];
-        let each = u128::from(part.bound) + (switch + switch);
-        total += u128::from(jobs(set, j, w)) * each + delay(set, parts, windows, i, j, method, w);
+        total += higher_demand(set, parts, windows, task, Task(j as u8), method, w);
     }
     total
+}
+
+/// What a task takes of its window by itself, in cycles: a context switch, its execution bound, and what an instruction
+/// begun before the window may take of it.
+pub fn own_demand(set: &TaskSet, parts: &[Part], longest: &[u64], task: Task) -> u128
+    requires task { task.0 < length set.now.tasks }
+    requires parts { task.0 < length parts.now }
+    requires longest { HasLongest set.now longest.now }
+    ensures is { result ≡ own_demand set.now (part_at parts.now) (slice_index longest.now) task.0 }
+    ensures most { result ≤ 2 ^ 66 }
+{
+    let i = task.0 as usize;
+    let platform = &set.platform;
+    let part = &parts[i];
+    u128::from(platform.switch)
+        + u128::from(part.bound)
+        + u128::from(longest_begun(set, longest, i))
+}
+
+/// What a higher task takes of a window of `w` cycles of a task, in cycles: its jobs in the window, each with its bound
+/// and two switches, and the delay by the cache sets that they evict.
+pub fn higher_demand(
+    set: &TaskSet,
+    parts: &[Part],
+    windows: &[u64],
+    task: Task,
+    higher: Task,
+    method: Method,
+    w: u64,
+) -> u128
+    requires times { HasTimes set.now }
+    requires task { task.0 < length set.now.tasks }
+    requires higher { higher.0 < task.0 }
+    requires parts { task.0 < length parts.now }
+    requires windows { HasWindows set.now windows.now task.0 }
+    requires w { w ≤ 2 ^ 40 }
+    ensures is { result ≡ higher_demand set.now (part_at parts.now) (slice_index windows.now) w method task.0 higher.0 }
+    ensures most { result ≤ 2 ^ 113 }
+{
+    let j = higher.0 as usize;
+    let platform = &set.platform;
+    let switch = u128::from(platform.switch);
+    let part = &parts[j];
+    let each = u128::from(part.bound) + (switch + switch);
+    u128::from(jobs(set, j, w)) * each + delay(set, parts, windows, task.0 as usize, j, method, w)
 }
 
 // The most that an instruction begun before a window may take of it.

@@ -1,1 +1,3 @@
 mod Least
+mod Jumps
+mod Ranges

@@ -1,7 +1,10 @@
 //! The least windows, in which the jobs of each task answer.
 #![tactic(auto)]
 
+mod bounds;
 mod choice;
 mod search;
+#[cfg(test)]
+mod tests;
 
 pub use choice::{Choice, WindowError, windows};
