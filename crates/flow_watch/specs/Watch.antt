@@ -1,10 +1,10 @@
 -- The watch over a job's flow: its calls, and the turns of its stated loops.
-use Rattle.std.specs.Prelude.{ℕ, suc, ◌+◌, ◌-◌, Bool, true, false, ◌&&◌, ◌||◌, ◌==◌, nat_lt, nat_le, if◌then◌else◌, List, [], ◌∷◌, ◌++◌, length, map, Option, Some, None}
+use Rattle.std.specs.Prelude.{ℕ, suc, Bool, true, false, ◌&&◌, ◌||◌, ◌==◌, nat_lt, nat_le, if◌then◌else◌, List, [], ◌∷◌, ◌++◌, length, map, Option, Some, None}
 use Rattle.std.specs.List.{list_any}
 use Rattle.crpd_base.specs.declared.data.LoopAt.{LoopAt}
 use Rattle.crpd_base.specs.declared.data.TaskPlan.{TaskPlan}
 use Rattle.rv_decode.specs.declared.Ins.{Ins}
-use Rattle.rv_decode.specs.Address.{end}
+use Rattle.rv_decode.specs.Address.{after, address_before, end}
 use Rattle.rv_decode.specs.Flow.{Flow, Call, Return, OtherJalr, OtherJal, flow}
 
 -- a function's run: where it returns to, and how often the head of each stated loop was met since the loop was
@@ -57,7 +57,7 @@ start plan = arrive plan plan.entry (new_frame plan end ∷ [])
 -- a call, with at most sixteen frames above the bottom
 abbrev pub call : TaskPlan → ℕ → ℕ → List Frame → Watch
 call plan from to frames =
-    if nat_lt (length frames) 17 then arrive plan to (new_frame plan (from + 4) ∷ frames) else None
+    if nat_lt (length frames) 17 then arrive plan to (new_frame plan (after from) ∷ frames) else None
 
 -- a return, which goes to the top frame's return address
 abbrev pub return : TaskPlan → ℕ → List Frame → Watch
@@ -82,11 +82,15 @@ abbrev pub is_kept : Watch → Bool
 is_kept None = false
 is_kept (Some frames) = true
 
+-- the address of the call to which a frame returns
+abbrev pub call_of : Frame → ℕ
+call_of f = address_before f.back
+
 -- the addresses of the calls under way, the outermost first
 abbrev pub calls : List Frame → List ℕ
 calls [] = []
 calls (f ∷ []) = []
-calls (f ∷ frames) = calls frames ++ (f.back - 4) ∷ []
+calls (f ∷ frames) = calls frames ++ call_of f ∷ []
 
 abbrev pub context : Watch → List ℕ
 context None = []

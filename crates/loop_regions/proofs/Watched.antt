@@ -5,15 +5,16 @@ use Rattle.std.proofs.lemmas.Bool.{cases_eq, cases_Bool, and_parts, leb-true, eq
 use Rattle.std.proofs.lemmas.List.{reverse-append, reverse-reverse}
 use Rattle.crpd_base.specs.declared.data.LoopAt.{LoopAt}
 use Rattle.crpd_base.specs.declared.data.TaskPlan.{TaskPlan}
-use Rattle.rv_decode.specs.Address.{end}
+use Rattle.rv_decode.specs.Address.{after, address_before, end}
 use Rattle.rv_decode.specs.Flow.{Flow, Plain, Branch, Jump, Call, Return, Exit, Break, OtherJalr, OtherJal, Flows}
+use Rattle.rv_decode.proofs.Addresses.{after_is, before_is, before_after}
 use Rattle.flat_graph.specs.FlatGraph.{FlatNode, returns_to, goes_to, goes_on, successors}
 use Rattle.flat_graph.specs.Graph.{Graph, Edge, IsWalk, Places}
 use Rattle.flat_graph.specs.Numbered.{node_at, FollowsCode}
-use Rattle.flow_watch.specs.Watch.{Frame, holds, turns_after, all_turns_after, within_bounds, arrive, new_frame, moved, start, calls}
+use Rattle.flow_watch.specs.Watch.{Frame, call_of, holds, turns_after, all_turns_after, within_bounds, arrive, new_frame, moved, start, calls}
 use Rattle.loop_regions.specs.Nest.{Nest, count, IsKept}
 use Rattle.loop_regions.specs.Stated.{seen_from, holds_seen, IsRegionOf, IsRegions}
-use Rattle.loop_regions.specs.Watched.{CanGo, turns_of, AreFrames, CountsAgree, IsWatchedWalk, HasNoErrors, GoesTo, WatchStartLaw, WatchStepLaw}
+use Rattle.loop_regions.specs.Watched.{CanGo, turns_of, IsBehindCall, AreFrames, CountsAgree, IsWatchedWalk, HasNoErrors, GoesTo, WatchStartLaw, WatchStepLaw}
 use Rattle.loop_regions.proofs.Stated.{seen_here}
 
 -- a node further in, seen from a context
@@ -97,6 +98,12 @@ top_length : (code : Flows) (plan : TaskPlan) (f : Frame) (fs : List Frame) → 
 top_length code plan f [] b = b.0
 top_length code plan f (g ∷ fs) b = b.0
 
+-- the address behind a call comes after that of the call
+pub behind_is : (code : Flows) (back : ℕ) → IsBehindCall code back → address_before back + 4 ≡ back
+behind_is code back b =
+    let call : address_before back ≡ b.0 = ap address_before b.3 ∙ before_is b.0 b.2 in
+    ap (λ a. a + 4) call ∙ sym b.3
+
 -- a return from a context that ends with b
 pub returns_from : (c : List ℕ) (b : ℕ) → returns_to (reverse (c ++ b ∷ [])) ≡ record { context = c; address = b + 4 } ∷ []
 returns_from c b =
@@ -179,7 +186,7 @@ module _ (code : Flows) (plan : TaskPlan) (g : Graph) (p : Places) (n : Nest) (F
     lower (f ∷ []) mv my pos cv cy seen old =
         ((λ r i l lt at O e. frame_same [] mv my pos cv cy seen r l O e ∙ old.0 r i l lt at O e), tt)
     lower (f ∷ h ∷ fs) mv my pos cv cy seen old =
-        let b : ℕ = f.back - 4 in (
+        let b : ℕ = call_of f in (
           (λ r i l lt at O e. frame_same (calls (f ∷ h ∷ fs)) mv my pos cv cy seen r l O e ∙ old.0 r i l lt at O e),
           lower (h ∷ fs) (b ∷ mv) (b ∷ my) (omega arith) (cv ∙ append_assoc (calls (h ∷ fs)) (b ∷ []) mv) (cy ∙ append_assoc (calls (h ∷ fs)) (b ∷ []) my) refl old.1,
         )
@@ -259,7 +266,7 @@ module _ (code : Flows) (plan : TaskPlan) (g : Graph) (p : Places) (n : Nest) (F
     below_top : (hs : List Frame) (v : ℕ) → v < g.size → p.context y ≡ calls (f ∷ hs) → p.context v ≡ calls (f ∷ hs) → CountsAgree g p loops n hs (y ∷ before) → CountsAgree g p loops n hs (v ∷ y ∷ before)
     below_top [] v v_lt cy cv old = tt
     below_top (h ∷ hs) v v_lt cy cv old =
-        let b : ℕ = f.back - 4 in
+        let b : ℕ = call_of f in
         lower v y before v_lt y_lt (h ∷ hs) (b ∷ []) (b ∷ []) (omega arith) cv cy refl old
 
     -- on to the next address in the same context
@@ -285,20 +292,19 @@ module _ (code : Flows) (plan : TaskPlan) (g : Graph) (p : Places) (n : Nest) (F
         ∙ ap (λ c. holds_seen l (seen_from c (p.context y) (p.address y))) (e ∙ cv)
         ∙ ap (holds_seen l) (seen_out (p.context y) [] (p.address y) (p.address y)))
 
-    call : (t : ℕ) → ins ≡ Call t → (frames : List Frame) → Contains (goes_to (p.context y) (p.address y) ins) (record { context = p.context y ++ p.address y ∷ []; address = to }) → arrive plan to (new_frame plan (from + 4) ∷ f ∷ fs) ≡ Some frames → GoesTo code plan g p n y before to frames
-    call t is frames c e =
+    call : (t : ℕ) → ins ≡ Call t → (frames : List Frame) → Contains (goes_to (p.context y) (p.address y) ins) (record { context = p.context y ++ p.address y ∷ []; address = to }) → arrive plan to (new_frame plan (after from) ∷ f ∷ fs) ≡ Some frames → from + 4 ≤ end → GoesTo code plan g p n y before to frames
+    call t is frames c e room =
         let v = next (record { context = p.context y ++ p.address y ∷ []; address = to }) c in
         let v_lt = F.graph.edges y v.0 v.1 in
         let cv : p.context v.0 ≡ p.context y ++ p.address y ∷ [] = ap (λ m. m.context) v.2 in
-        let four : from + 4 - 4 ≡ from = omega arith in
-        let back : p.address y ≡ from + 4 - 4 = W.address ∙ sym four in
-        let frame_context : p.context v.0 ≡ calls (f ∷ fs) ++ (from + 4 - 4) ∷ [] = cv ∙ ap (λ x. x ++ p.address y ∷ []) W.context ∙ ap (λ x. calls (f ∷ fs) ++ x ∷ []) back in
-        let is_call : code (from + 4 - 4) ≡ Some (Some (Call t)) = ap code four ∙ there ∙ ap (λ k. Some (Some k)) is in
+        let back : p.address y ≡ call_of (new_frame plan (after from)) = W.address ∙ sym (before_after from room) in
+        let frame_context : p.context v.0 ≡ calls (f ∷ fs) ++ call_of (new_frame plan (after from)) ∷ [] = cv ∙ ap (λ x. x ++ p.address y ∷ []) W.context ∙ ap (λ x. calls (f ∷ fs) ++ x ∷ []) back in
+        let behind : IsBehindCall code (after from) = (from, t, room, after_is from room, there ∙ ap (λ k. Some (Some k)) is) in
         record {
           node = v.0;
           edge = v.1;
-          walked = arrived_at v.0 (y ∷ before) (new_frame plan (from + 4)) (f ∷ fs) v_lt (v.1, W.walk) W.kept frame_context
-              (no_turns_length loops, (omega arith, t, is_call), W.are_frames)
+          walked = arrived_at v.0 (y ∷ before) (new_frame plan (after from)) (f ∷ fs) v_lt (v.1, W.walk) W.kept frame_context
+              (no_turns_length loops, behind, W.are_frames)
               (λ r i l lt at O e'. none_yet v.0 cv r l O e' ∙ sym (zero_turns loops i))
               (lower v.0 y before v_lt y_lt (f ∷ fs) (p.address y ∷ []) [] (omega arith)
               (cv ∙ ap (λ x. x ++ p.address y ∷ []) W.context) (W.context ∙ sym (append-nil (calls (f ∷ fs)))) refl W.counts)
@@ -308,20 +314,20 @@ module _ (code : Flows) (plan : TaskPlan) (g : Graph) (p : Places) (n : Nest) (F
   -- a return to the frame below
   module _ (no_error : HasNoErrors code plan.entry) (y : ℕ) (before : List ℕ) (from to : ℕ) (f h : Frame) (hs : List Frame) (W : IsWatchedWalk code plan g p n y before from (f ∷ h ∷ hs)) (there : code from ≡ Some (Some Return)) where
     landing : FlatNode
-    landing = record { context = calls (h ∷ hs); address = f.back - 4 + 4 }
+    landing = record { context = calls (h ∷ hs); address = call_of f + 4 }
 
     lands : Contains (goes_to (p.context y) (p.address y) Return) landing
     unfolding landing
     lands =
-        subst (λ l. Contains l (record { context = calls (h ∷ hs); address = f.back - 4 + 4 }))
-        (sym (ap (λ c. returns_to (reverse c)) W.context ∙ returns_from (calls (h ∷ hs)) (f.back - 4)))
-        (in_one (record { context = calls (h ∷ hs); address = f.back - 4 + 4 }) (record { context = calls (h ∷ hs); address = f.back - 4 + 4 }) refl)
+        subst (λ l. Contains l (record { context = calls (h ∷ hs); address = call_of f + 4 }))
+        (sym (ap (λ c. returns_to (reverse c)) W.context ∙ returns_from (calls (h ∷ hs)) (call_of f)))
+        (in_one (record { context = calls (h ∷ hs); address = call_of f + 4 }) (record { context = calls (h ∷ hs); address = call_of f + 4 }) refl)
 
-    below_lower : (ks : List Frame) (v : ℕ) → v < g.size → y < g.size → p.context y ≡ calls (h ∷ ks) ++ (f.back - 4) ∷ [] → p.context v ≡ calls (h ∷ ks) → CountsAgree g p loops n ks (y ∷ before) → CountsAgree g p loops n ks (v ∷ y ∷ before)
+    below_lower : (ks : List Frame) (v : ℕ) → v < g.size → y < g.size → p.context y ≡ calls (h ∷ ks) ++ (call_of f) ∷ [] → p.context v ≡ calls (h ∷ ks) → CountsAgree g p loops n ks (y ∷ before) → CountsAgree g p loops n ks (v ∷ y ∷ before)
     below_lower [] v v_lt y_lt cy cv old = tt
     below_lower (k ∷ ks) v v_lt y_lt cy cv old =
-        let b : ℕ = h.back - 4 in
-        let d : ℕ = f.back - 4 in
+        let b : ℕ = call_of h in
+        let d : ℕ = call_of f in
         lower v y before v_lt y_lt (k ∷ ks) (b ∷ []) (b ∷ d ∷ []) (omega arith) cv (cy ∙ append_assoc (calls (k ∷ ks)) (b ∷ []) (d ∷ [])) refl old
 
     back : (frames : List Frame) → to ≡ f.back → arrive plan to (h ∷ hs) ≡ Some frames → GoesTo code plan g p n y before to frames
@@ -330,8 +336,8 @@ module _ (code : Flows) (plan : TaskPlan) (g : Graph) (p : Places) (n : Nest) (F
         let v = next no_error y before from Return to f (h ∷ hs) W there landing lands in
         let v_lt = F.graph.edges y v.0 v.1 in
         let cv : p.context v.0 ≡ calls (h ∷ hs) = ap (λ m. m.context) v.2 in
-        let av : p.address v.0 ≡ f.back - 4 + 4 = ap (λ m. m.address) v.2 in
-        let four = W.are_frames.1.0 in
+        let av : p.address v.0 ≡ call_of f + 4 = ap (λ m. m.address) v.2 in
+        let four = behind_is code f.back W.are_frames.1 in
         record {
           node = v.0;
           edge = v.1;
@@ -342,38 +348,38 @@ module _ (code : Flows) (plan : TaskPlan) (g : Graph) (p : Places) (n : Nest) (F
         }
 
   -- any step
-  pub one_step : (no_error : HasNoErrors code plan.entry) (y : ℕ) (before : List ℕ) (from : ℕ) (ins : Flow) (to : ℕ) (f : Frame) (fs : List Frame) (W : IsWatchedWalk code plan g p n y before from (f ∷ fs)) → code from ≡ Some (Some ins) → CanGo from ins to → (h : Frame) (hs : List Frame) → moved plan (f ∷ fs) from ins to ≡ Some (h ∷ hs) → GoesTo code plan g p n y before to (h ∷ hs)
-  one_step no_error y before from Plain to f fs W there can h hs e =
-      straight no_error y before from Plain to f fs W there (h ∷ hs) (in_one _ _ (λ i. record { context = p.context y; address = (ap (λ a. a + 4) W.address ∙ sym can) i })) e
-  one_step no_error y before from (Branch t) to f fs W there can h hs e =
+  pub one_step : (no_error : HasNoErrors code plan.entry) (y : ℕ) (before : List ℕ) (from : ℕ) (ins : Flow) (to : ℕ) (f : Frame) (fs : List Frame) (W : IsWatchedWalk code plan g p n y before from (f ∷ fs)) → code from ≡ Some (Some ins) → from + 4 ≤ end → CanGo from ins to → (h : Frame) (hs : List Frame) → moved plan (f ∷ fs) from ins to ≡ Some (h ∷ hs) → GoesTo code plan g p n y before to (h ∷ hs)
+  one_step no_error y before from Plain to f fs W there room can h hs e =
+      straight no_error y before from Plain to f fs W there (h ∷ hs) (in_one _ _ (λ i. record { context = p.context y; address = (ap (λ a. a + 4) W.address ∙ sym (can ∙ after_is from room)) i })) e
+  one_step no_error y before from (Branch t) to f fs W there room can h hs e =
       straight no_error y before from (Branch t) to f fs W there (h ∷ hs)
       (⊎_elim
-      (λ (on : to ≡ from + 4). to_next (p.context y) (p.address y) t to (ap (λ a. a + 4) W.address ∙ sym on))
+      (λ (on : to ≡ after from). to_next (p.context y) (p.address y) t to (ap (λ a. a + 4) W.address ∙ sym (on ∙ after_is from room)))
       (λ (there : to ≡ t). to_target (p.context y) (p.address y) t to (sym there))
       can)
       e
-  one_step no_error y before from (Jump t) to f fs W there can h hs e =
+  one_step no_error y before from (Jump t) to f fs W there room can h hs e =
       straight no_error y before from (Jump t) to f fs W there (h ∷ hs) (in_one _ _ (λ i. record { context = p.context y; address = sym can i })) e
-  one_step no_error y before from (Call t) to f fs W there can h hs e =
+  one_step no_error y before from (Call t) to f fs W there room can h hs e =
       ⊎_elim
-      (λ (room : IsTrue (ltb (length (f ∷ fs)) 17)).
-      call no_error y before from (Call t) to f fs W there t refl (h ∷ hs) (in_one _ _ (λ i. record { context = p.context y ++ p.address y ∷ []; address = sym can i })) (rw room at e))
+      (λ (fits : IsTrue (ltb (length (f ∷ fs)) 17)).
+      call no_error y before from (Call t) to f fs W there t refl (h ∷ hs) (in_one _ _ (λ i. record { context = p.context y ++ p.address y ∷ []; address = sym can i })) (rw fits at e) room)
       (λ (full : IsFalse (ltb (length (f ∷ fs)) 17)). absurd (let x = rw full at e in cc))
       (cases_Bool (ltb (length (f ∷ fs)) 17))
-  one_step no_error y before from Return to f [] W there can h hs e =
+  one_step no_error y before from Return to f [] W there room can h hs e =
       ⊎_elim
       (λ (here : IsTrue (eqb to f.back)). absurd (let x = rw here at e in cc))
       (λ (other : IsFalse (eqb to f.back)). absurd (let x = rw other at e in cc))
       (cases_Bool (eqb to f.back))
-  one_step no_error y before from Return to f (k ∷ ks) W there can h hs e =
+  one_step no_error y before from Return to f (k ∷ ks) W there room can h hs e =
       ⊎_elim
       (λ (here : IsTrue (eqb to f.back)). back no_error y before from to f k ks W there (h ∷ hs) (eqb-true to f.back here) (rw here at e))
       (λ (other : IsFalse (eqb to f.back)). absurd (let x = rw other at e in cc))
       (cases_Bool (eqb to f.back))
-  one_step no_error y before from Exit to f fs W there can h hs e = absurd can
-  one_step no_error y before from Break to f fs W there can h hs e = absurd can
-  one_step no_error y before from OtherJalr to f fs W there can h hs e = absurd (let x = e in cc)
-  one_step no_error y before from OtherJal to f fs W there can h hs e = absurd (let x = e in cc)
+  one_step no_error y before from Exit to f fs W there room can h hs e = absurd can
+  one_step no_error y before from Break to f fs W there room can h hs e = absurd can
+  one_step no_error y before from OtherJalr to f fs W there room can h hs e = absurd (let x = e in cc)
+  one_step no_error y before from OtherJal to f fs W there room can h hs e = absurd (let x = e in cc)
 
   -- the start
   pub at_start : (frames : List Frame) → start plan ≡ Some frames → IsWatchedWalk code plan g p n g.first [] plan.entry frames
@@ -385,6 +391,6 @@ pub watch_start_law : WatchStartLaw
 watch_start_law code plan g p n frames F R e = at_start code plan g p n F R frames e
 
 pub watch_step_law : WatchStepLaw
-watch_step_law code plan g p n y before from [] flow to h hs F no_error R W there can e = absurd W.are_frames
-watch_step_law code plan g p n y before from (f ∷ fs) flow to h hs F no_error R W there can e =
-    one_step code plan g p n F R no_error y before from flow to f fs W there can h hs e
+watch_step_law code plan g p n y before from [] flow to h hs F no_error R W there room can e = absurd W.are_frames
+watch_step_law code plan g p n y before from (f ∷ fs) flow to h hs F no_error R W there room can e =
+    one_step code plan g p n F R no_error y before from flow to f fs W there room can h hs e

@@ -1,8 +1,8 @@
 -- A job whose watch is not broken makes a kept walk.
-use Rattle.std.specs.Prelude.{◌≡◌, ◌⊎◌, ℕ, ◌+◌, ◌-◌, ◌<◌, ◌≤◌, List, [], ◌∷◌, length, Some, None, slice_get, slice_index_or}
+use Rattle.std.specs.Prelude.{◌≡◌, ◌⊎◌, ℕ, ◌+◌, ◌<◌, ◌≤◌, List, [], ◌∷◌, length, Some, None, slice_get, slice_index_or}
 use Rattle.crpd_base.specs.declared.data.LoopAt.{LoopAt}
 use Rattle.crpd_base.specs.declared.data.TaskPlan.{TaskPlan}
-use Rattle.rv_decode.specs.Address.{end}
+use Rattle.rv_decode.specs.Address.{after, end}
 use Rattle.rv_decode.specs.Flow.{Flow, Plain, Branch, Jump, Call, Exit, Break, Flows}
 use Rattle.flat_graph.specs.FlatGraph.{FlatNode, IsNode, error_of}
 use Rattle.flat_graph.specs.Graph.{Graph, Edge, IsWalk, Places}
@@ -13,8 +13,8 @@ use Rattle.loop_regions.specs.Stated.{IsRegionOf, IsRegions}
 
 -- where an instruction may go for some registers
 abbrev pub CanGo : ℕ → Flow → ℕ → Type 0
-CanGo from Plain to = to ≡ from + 4
-CanGo from (Branch t) to = (to ≡ from + 4) ⊎ (to ≡ t)
+CanGo from Plain to = to ≡ after from
+CanGo from (Branch t) to = (to ≡ after from) ⊎ (to ≡ t)
 CanGo from (Jump t) to = to ≡ t
 CanGo from (Call t) to = to ≡ t
 CanGo from Exit to = ⊥
@@ -25,9 +25,9 @@ CanGo from _ to = Unit {0}
 abbrev pub turns_of : Frame → ℕ → ℕ
 turns_of f i = slice_index_or f.turns i 0
 
--- an address is the one behind a call
+-- an address is the one behind a call at address a
 abbrev pub IsBehindCall : Flows → ℕ → Type 0
-IsBehindCall code back = (4 ≤ back) × (t : ℕ) × (code (back - 4) ≡ Some (Some (Call t)))
+IsBehindCall code back = (a t : ℕ) × (a + 4 ≤ end) × (back ≡ a + 4) × (code a ≡ Some (Some (Call t)))
 
 -- the frames of a job: the bottom one returns to the end, each other one behind a call, and each counts all loops
 abbrev pub AreFrames : Flows → TaskPlan → List Frame → Type 0
@@ -67,10 +67,10 @@ pub record GoesTo (code : Flows) (plan : TaskPlan) (g : Graph) (p : Places) (n :
   pub edge : Edge g y node
   pub walked : IsWatchedWalk code plan g p n node (y ∷ before) to frames
 
--- a step after which the watch is not broken, and has a frame, goes on with it
+-- a step from an address with room for its word, after which the watch is not broken and has a frame, goes on with it
 abbrev pub WatchStepLaw : Type 0
 WatchStepLaw =
     (code : Flows) (plan : TaskPlan) (g : Graph) (p : Places) (n : Nest) (y : ℕ) (before : List ℕ) (from : ℕ) (frames : List Frame) (flow : Flow) (to : ℕ) (h : Frame) (hs : List Frame) →
     FollowsCode code plan.entry g p → HasNoErrors code plan.entry → IsRegions g p plan.loops n →
-    IsWatchedWalk code plan g p n y before from frames → code from ≡ Some (Some flow) → CanGo from flow to →
+    IsWatchedWalk code plan g p n y before from frames → code from ≡ Some (Some flow) → from + 4 ≤ end → CanGo from flow to →
     moved plan frames from flow to ≡ Some (h ∷ hs) → GoesTo code plan g p n y before to (h ∷ hs)

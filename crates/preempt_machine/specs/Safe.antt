@@ -2,6 +2,7 @@
 use Rattle.std.specs.Prelude.{◌≡◌, ℕ, ◌+◌, ◌<◌, ◌≤◌, true, if◌then◌else◌, nat_le, List, length, map, slice_index, All}
 use Rattle.crpd_base.specs.declared.data.ScriptJob.{ScriptJob}
 use Rattle.crpd_base.specs.declared.data.TaskSet.{TaskSet}
+use Rattle.rv_core.specs.Memory.{IsMemory}
 use Rattle.flow_watch.specs.Watch.{is_kept}
 use Rattle.script_reader.specs.Legal.{IsLegal}
 use Rattle.preempt_machine.specs.declared.End.{End}
@@ -38,14 +39,17 @@ IsLate time response job =
 abbrev pub NamesTasks : TaskSet → List ScriptJob → Type 0
 NamesTasks set lines = All (λ (line : ScriptJob). line.task.0 < length set.tasks) lines
 
--- what is asked of a run: a cache with an entry for each of the platform's sets, and jobs of the set's tasks
+-- what is asked of a run: a cache with an entry for each of the platform's sets, a data memory, and jobs of the set's
+-- tasks
 pub record IsRunOf (set : TaskSet) (s : Start) : Type 0 where
   pub cache : s.system.platform.sets ≤ length s.cache
+  pub memory : IsMemory s.memory
   pub tasks : NamesTasks set s.lines
 
 -- and a legal script
 pub record IsLegalRun (set : TaskSet) (s : Start) : Type 0 where
   pub cache : s.system.platform.sets ≤ length s.cache
+  pub memory : IsMemory s.memory
   pub tasks : NamesTasks set s.lines
   pub legal : IsLegal set s.lines
 

@@ -452,7 +452,7 @@ module _ (s : Start) (set : TaskSet) (graphs : ℕ → TaskGraph) (c : Certifica
 
   module _ (legal : IsLegal set s.lines) where
     legal_run : IsLegalRun set s
-    legal_run = record { cache = run.cache; tasks = run.tasks; legal = legal }
+    legal_run = record { cache = run.cache; memory = run.memory; tasks = run.tasks; legal = legal }
 
     sets_same : s.system.platform.sets ≡ set.platform.sets
     sets_same = ap (λ (p : Platform). p.sets) C.platform
@@ -973,7 +973,7 @@ module _ (s : Start) (set : TaskSet) (graphs : ℕ → TaskGraph) (c : Certifica
               omega (arith, few, le)
 
 run_of : {set : TaskSet} {s : Start} → IsLegalRun set s → IsRunOf set s
-run_of run = record { cache = run.cache; tasks = run.tasks }
+run_of run = record { cache = run.cache; memory = run.memory; tasks = run.tasks }
 
 response_is : (set : TaskSet) (graphs : ℕ → TaskGraph) (c : Certificate) → IsYes set graphs c → (k : ℕ) → k < length set.tasks → slice_index (responses c) k ≡ window_at c k + jitter_of set k
 response_is set graphs c says k h =

@@ -9,24 +9,26 @@ use Rattle.rv_decode.specs.Flow.{Flow, Plain, Branch, Jump, Call, Return, Exit, 
 use Rattle.rv_core.specs.declared.Next.{Next}
 use Rattle.rv_core.specs.declared.Next.TheVariants.{Goto, Answer, Fault}
 use Rattle.rv_core.specs.Effect.{next_pc}
-use Rattle.flow_watch.specs.Watch.{Frame, Watch, calls, is_kept, step as watch_step}
+use Rattle.flow_watch.specs.Watch.{Frame, Watch, call_of, calls, is_kept, step as watch_step}
 use Rattle.flat_graph.specs.FlatGraph.{FlatNode, answers_by, goes_to, returns_to}
 use Rattle.flat_graph.specs.Graph.{Edge}
 use Rattle.flat_graph.specs.Numbered.{node_at}
 use Rattle.flat_graph.specs.EdgeCost.{edge_cost, end_cost, is_return}
-use Rattle.loop_regions.specs.Watched.{IsWatchedWalk}
+use Rattle.loop_regions.specs.Watched.{IsBehindCall, IsWatchedWalk}
 use Rattle.loop_regions.specs.Potentials.{Potentials, Meets, rest}
 use Rattle.loop_regions.specs.Nest.{IsNested}
-use Rattle.loop_regions.proofs.Watched.{returns_from, in_one, to_next, to_target, next}
+use Rattle.loop_regions.proofs.Watched.{behind_is, returns_from, in_one, to_next, to_target, next}
 use Rattle.loop_regions.proofs.Potential.{step_rest_law}
 use Rattle.cert_check.specs.Clauses.{costs}
 use Rattle.cert_check.specs.Judge.{TaskGraph, IsGraphOf, listing_of, answering}
 use Rattle.preempt_machine.specs.Machine.{System, Job}
 use Rattle.preempt_machine.specs.Step.{goes_on}
 use Rattle.run_account.specs.Nodes.{node_of, node_number}
-use Rattle.sound_laws.specs.Walks.{IsCodeMap, before_of, IsOnWalk}
+use Rattle.rv_decode.specs.Flow.{IsCodeMap}
+use Rattle.sound_laws.specs.Walks.{before_of, IsOnWalk}
 use Rattle.sound_laws.specs.Rests.{rest_after, walk_of}
-use Rattle.sound_laws.proofs.Flows.{GoesBy, flow_goes, after_is}
+use Rattle.rv_decode.proofs.Addresses.{after_is}
+use Rattle.sound_laws.proofs.Flows.{GoesBy, flow_goes}
 use Rattle.sound_laws.proofs.Turns.{cost_taken}
 use Rattle.sound_laws.proofs.Stands.{Stands, IsFollowed, step_some, empty_at_end, goes_on_walk, number_there}
 
@@ -55,11 +57,11 @@ module _ (sys : System) (plan : TaskPlan) (t : TaskGraph) (ok : IsGraphOf sys.wo
     exit_answers [] = refl
     exit_answers (x ∷ c) = refl
 
-    behind_other : (back : ℕ) (target : ℕ) → flow a S.ins ≡ Return → flows sys.word (back - 4) ≡ Some (Some (Call target)) → back - 4 + 4 ≢ a + 4
-    behind_other back target r calls e =
-        let same : back - 4 ≡ a = omega arith in
-        let both : Some (Some (Call target)) ≡ Some (Some (flow a S.ins)) = sym calls ∙ ap (flows sys.word) same ∙ S.flow_is in
-        let wrong : Some (Some (Call target)) ≡ Some (Some Return) = both ∙ ap (λ f. Some (Some f)) r in
+    behind_other : (back : ℕ) → flow a S.ins ≡ Return → IsBehindCall (flows sys.word) back → back ≢ a + 4
+    behind_other back r behind e =
+        let same : behind.0 ≡ a = omega (arith, behind.3, e) in
+        let both : Some (Some (Call behind.1)) ≡ Some (Some (flow a S.ins)) = sym behind.4 ∙ ap (flows sys.word) same ∙ S.flow_is in
+        let wrong : Some (Some (Call behind.1)) ≡ Some (Some Return) = both ∙ ap (λ f. Some (Some f)) r in
         cc
 
     module _ (before : List ℕ) (f : Frame) (fs : List Frame) (W : IsWatchedWalk (flows sys.word) plan t.graph t.places t.nest y before a (f ∷ fs)) where
@@ -80,12 +82,12 @@ module _ (sys : System) (plan : TaskPlan) (t : TaskGraph) (ok : IsGraphOf sys.wo
         by_end true (ap (λ c. answers_by c (Some (Some (flow a S.ins)))) W.context ∙ ap (λ fl. answers_by [] (Some (Some fl))) r) (ap is_return r)
     returns_back before (f ∷ h ∷ hs) W r =
         let behind = W.are_frames.1 in
-        let there : Contains (goes_to (t.places.context y) (t.places.address y) Return) (record { context = calls (h ∷ hs); address = f.back - 4 + 4 }) =
-        subst (λ l. Contains l (record { context = calls (h ∷ hs); address = f.back - 4 + 4 }))
-        (sym (ap (λ c. returns_to (reverse c)) W.context ∙ returns_from (calls (h ∷ hs)) (f.back - 4)))
-        (in_one (record { context = calls (h ∷ hs); address = f.back - 4 + 4 }) (record { context = calls (h ∷ hs); address = f.back - 4 + 4 }) refl) in
-        let le = by_node before f (h ∷ hs) W Return r (calls (h ∷ hs)) (f.back - 4 + 4) there in
-        let away : (f.back - 4 + 4 == after a) ≡ false = ne_eqb _ _ (λ e. behind_other f.back behind.1 r behind.2 (e ∙ after_is a S.room)) in
+        let there : Contains (goes_to (t.places.context y) (t.places.address y) Return) (record { context = calls (h ∷ hs); address = call_of f + 4 }) =
+        subst (λ l. Contains l (record { context = calls (h ∷ hs); address = call_of f + 4 }))
+        (sym (ap (λ c. returns_to (reverse c)) W.context ∙ returns_from (calls (h ∷ hs)) (call_of f)))
+        (in_one (record { context = calls (h ∷ hs); address = call_of f + 4 }) (record { context = calls (h ∷ hs); address = call_of f + 4 }) refl) in
+        let le = by_node before f (h ∷ hs) W Return r (calls (h ∷ hs)) (call_of f + 4) there in
+        let away : (call_of f + 4 == after a) ≡ false = ne_eqb _ _ (λ e. behind_other f.back r behind (sym (behind_is (flows sys.word) f.back behind) ∙ e ∙ after_is a S.room)) in
         rw away at le
 
     by_flow : (before : List ℕ) (f : Frame) (fs : List Frame) (W : IsWatchedWalk (flows sys.word) plan t.graph t.places t.nest y before a (f ∷ fs)) (fl : Flow) (next : Next) → flow a S.ins ≡ fl → IsFollowed fl → GoesBy fl a next → cost sys.platform S.ins (not (counted y)) (not (goes_on next a)) ≤ most

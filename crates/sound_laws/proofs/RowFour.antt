@@ -25,7 +25,8 @@ use Rattle.cert_check.specs.Clauses.{CountsHits, costs, PotentialsMeet, BoundMee
 use Rattle.cert_check.specs.Judge.{IsGraphOf, GraphMeets, IsYes, listing_of, answering, accesses_of}
 use Rattle.crpd_base.specs.Tasks.{deadline_of}
 use Rattle.preempt_machine.specs.Machine.{plan_of}
-use Rattle.sound_laws.specs.Walks.{IsInRange, IsCodeMap, IsCodeOf}
+use Rattle.rv_decode.specs.Flow.{IsCodeMap}
+use Rattle.sound_laws.specs.Walks.{IsInRange, IsCodeOf}
 use Rattle.sound_laws.specs.RowTwo.{platform, zero_alone}
 use Rattle.sound_laws.proofs.ZeroAlone.{has_says, no_member}
 use Rattle.sound_laws.specs.RowFour.{words, loop, system, set, address_of, ins_of, graph, task_certificate, certificate, RowFour}

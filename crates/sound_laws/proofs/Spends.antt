@@ -18,7 +18,8 @@ use Rattle.cert_check.specs.Judge.{TaskGraph, IsGraphOf, listing_of, answering, 
 use Rattle.preempt_machine.specs.Machine.{System, Job, ins_at, plan_of}
 use Rattle.preempt_machine.specs.Step.{is_open, Turn, turned, went, makes_fetch, goes_on}
 use Rattle.run_account.specs.Nodes.{node_of, node_number}
-use Rattle.sound_laws.specs.Walks.{IsCodeMap, before_of, IsOnWalk}
+use Rattle.rv_decode.specs.Flow.{IsCodeMap}
+use Rattle.sound_laws.specs.Walks.{before_of, IsOnWalk}
 use Rattle.sound_laws.specs.Rests.{rest_after, walk_of, cycles_to_go, is_entry}
 use Rattle.sound_laws.proofs.Turns.{TurnOf, switches, works, goes, begun, cost_hit, cost_miss, cost_counted, turn_of_job}
 use Rattle.sound_laws.proofs.Stands.{Stands}

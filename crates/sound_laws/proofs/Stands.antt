@@ -20,8 +20,10 @@ use Rattle.loop_regions.proofs.Watched.{watch_step_law}
 use Rattle.cert_check.specs.Judge.{TaskGraph, IsGraphOf}
 use Rattle.preempt_machine.specs.Machine.{System, Job, ins_at, runnable}
 use Rattle.run_account.specs.Nodes.{node_of, node_number}
-use Rattle.sound_laws.specs.Walks.{IsCodeMap, before_of, IsOnWalk}
-use Rattle.sound_laws.proofs.Flows.{GoesBy, flow_goes, after_is}
+use Rattle.rv_decode.specs.Flow.{IsCodeMap}
+use Rattle.sound_laws.specs.Walks.{before_of, IsOnWalk}
+use Rattle.rv_decode.proofs.Addresses.{after_is}
+use Rattle.sound_laws.proofs.Flows.{GoesBy, flow_goes}
 use Rattle.sound_laws.proofs.Numbers.{number_is}
 
 -- the flows that a node without an error has
@@ -69,17 +71,17 @@ goto_same : (a b : ℕ) → Goto a ≡ Goto b → a ≡ b
 unfolding to_of
 goto_same a b e = ap to_of e
 
-pub can_go : (f : Flow) (a : ℕ) (next : Next) (to : ℕ) → GoesBy f a next → next ≡ Goto to → after a ≡ a + 4 → IsFollowed f → CanGo a f to
-can_go Plain a next to g e r h = goto_same to (after a) (sym e ∙ g) ∙ r
-can_go (Branch t) a next to (inl g) e r h = inl (goto_same to (after a) (sym e ∙ g) ∙ r)
-can_go (Branch t) a next to (inr g) e r h = inr (goto_same to t (sym e ∙ g))
-can_go (Jump t) a next to g e r h = goto_same to t (sym e ∙ g)
-can_go (Call t) a next to g e r h = goto_same to t (sym e ∙ g)
-can_go Return a next to g e r h = tt
-can_go Exit a next to g e r h = absurd (let x = sym e ∙ g in cc)
-can_go Break a next to g e r h = absurd h
-can_go OtherJalr a next to g e r h = absurd h
-can_go OtherJal a next to g e r h = absurd h
+pub can_go : (f : Flow) (a : ℕ) (next : Next) (to : ℕ) → GoesBy f a next → next ≡ Goto to → IsFollowed f → CanGo a f to
+can_go Plain a next to g e h = goto_same to (after a) (sym e ∙ g)
+can_go (Branch t) a next to (inl g) e h = inl (goto_same to (after a) (sym e ∙ g))
+can_go (Branch t) a next to (inr g) e h = inr (goto_same to t (sym e ∙ g))
+can_go (Jump t) a next to g e h = goto_same to t (sym e ∙ g)
+can_go (Call t) a next to g e h = goto_same to t (sym e ∙ g)
+can_go Return a next to g e h = tt
+can_go Exit a next to g e h = absurd (let x = sym e ∙ g in cc)
+can_go Break a next to g e h = absurd h
+can_go OtherJalr a next to g e h = absurd h
+can_go OtherJal a next to g e h = absurd h
 
 pub no_fault_next : (ins : Ins) (a : ℕ) (r : List ℕ) → IsFollowed (flow a ins) → next_pc ins a r ≡ Fault → ⊥
 no_fault_next ins a r h e = by_flow (flow a ins) (next_pc ins a r) h (flow_goes ins a r) e
@@ -111,7 +113,7 @@ empty_at_end code plan (f ∷ fs) from (Branch t) to are e = absurd (arrive_some
 empty_at_end code plan (f ∷ fs) from (Jump t) to are e = absurd (arrive_some plan to f fs e)
 empty_at_end code plan (f ∷ fs) from (Call t) to are e =
     elim (cases_Bool (nat_lt (length (f ∷ fs)) 17)) [
-      | inl b ↦ absurd (arrive_some plan to (new_frame plan (from + 4)) (f ∷ fs) (rw b at e))
+      | inl b ↦ absurd (arrive_some plan to (new_frame plan (after from)) (f ∷ fs) (rw b at e))
       | inr b ↦ absurd (let r = rw b at e in cc)
     ]
 empty_at_end code plan (f ∷ []) from Return to are e =
@@ -177,8 +179,8 @@ module _ (sys : System) (plan : TaskPlan) (t : TaskGraph) (ok : IsGraphOf sys.wo
   -- where a job goes under a watch that is not broken
   pub goes_on_walk : (job : Job) (nodes : List ℕ) (W : IsOnWalk sys.word plan t job nodes) (S : Stands sys t (node_of t job) job.pc) (to : ℕ) (h : Frame) (hs : List Frame) → next_pc S.ins job.pc job.registers ≡ Goto to → watch_step plan job.watch job.pc S.ins to ≡ Some (h ∷ hs) → GoesTo (flows sys.word) plan t.graph t.places t.nest (node_of t job) (before_of job nodes) to (h ∷ hs)
   goes_on_walk job nodes W S to h hs e w =
-      watch_step_law (flows sys.word) plan t.graph t.places t.nest (node_of t job) (before_of job nodes) job.pc W.frames (flow job.pc S.ins) to h hs ok.follows ok.no_errors ok.regions W.walked S.flow_is
-      (can_go (flow job.pc S.ins) job.pc (next_pc S.ins job.pc job.registers) to (flow_goes S.ins job.pc job.registers) e (after_is job.pc S.room) S.followed)
+      watch_step_law (flows sys.word) plan t.graph t.places t.nest (node_of t job) (before_of job nodes) job.pc W.frames (flow job.pc S.ins) to h hs ok.follows ok.no_errors ok.regions W.walked S.flow_is S.room
+      (can_go (flow job.pc S.ins) job.pc (next_pc S.ins job.pc job.registers) to (flow_goes S.ins job.pc job.registers) e S.followed)
       (sym (step_some plan W.frames job.pc S.ins to) ∙ ap (λ x. watch_step plan x job.pc S.ins to) (sym W.watch) ∙ w)
 
   -- the number of the node where it comes

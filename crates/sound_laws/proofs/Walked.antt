@@ -17,7 +17,8 @@ use Rattle.cert_check.specs.Judge.{TaskGraph, IsGraphOf}
 use Rattle.preempt_machine.specs.Machine.{System, Faulted, Job, plan_of}
 use Rattle.preempt_machine.specs.Step.{is_open, Turn, turned, went, makes_fetch, goes_on}
 use Rattle.run_account.specs.Nodes.{node_of, node_number}
-use Rattle.sound_laws.specs.Walks.{IsCodeMap, before_of, IsOnWalk, IsNoneOrKeptWalk}
+use Rattle.rv_decode.specs.Flow.{IsCodeMap}
+use Rattle.sound_laws.specs.Walks.{before_of, IsOnWalk, IsNoneOrKeptWalk}
 use Rattle.sound_laws.proofs.Turns.{TurnOf, switches, works, goes, begun, cost_hit, turn_of_job, not_faulted}
 use Rattle.sound_laws.proofs.Stands.{Stands, no_fault_next, step_some, empty_at_end, goes_on_walk, number_there}
 

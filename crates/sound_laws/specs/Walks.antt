@@ -2,8 +2,7 @@
 use Rattle.std.specs.Prelude.{◌≡◌, ◌≢◌, ℕ, zero, suc, ◌+◌, ◌<◌, ◌≤◌, true, ◌==◌, if◌then◌else◌, List, [], ◌∷◌, length, drop, Option, Some, None}
 use Rattle.crpd_base.specs.declared.data.TaskPlan.{TaskPlan}
 use Rattle.crpd_base.specs.declared.data.TaskSet.{TaskSet}
-use Rattle.rv_decode.specs.Address.{end}
-use Rattle.rv_decode.specs.Flow.{Words, flows}
+use Rattle.rv_decode.specs.Flow.{Words, IsCodeMap, flows}
 use Rattle.script_reader.specs.Legal.{period_of}
 use Rattle.flow_watch.specs.Watch.{Frame, is_kept}
 use Rattle.flat_graph.specs.Graph.{IsWalk}
@@ -24,10 +23,6 @@ pub record IsInRange (set : TaskSet) : Type 0 where
   pub few_sets : set.platform.sets ≤ 512
   pub periods : (k : ℕ) → k < length set.tasks → 1 ≤ period_of set k
   pub deadlines : (k : ℕ) → k < length set.tasks → deadline_of set k ≤ period_of set k
-
--- what a code map gives: each word ends at or before the address at which jobs end
-abbrev pub IsCodeMap : Words → Type 0
-IsCodeMap words = (a w : ℕ) → words a ≡ Some w → a + 4 ≤ end
 
 -- the system runs the set on its code, of which these are the tasks' graphs
 pub record IsCodeOf (sys : System) (set : TaskSet) (graphs : ℕ → TaskGraph) : Type 0 where
