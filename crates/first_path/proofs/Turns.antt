@@ -14,11 +14,10 @@ use Rattle.preempt_machine.specs.Machine.{System, Open, Answered, ins_at}
 use Rattle.preempt_machine.specs.Step.{Turn, turned, executed, worked, fetched, fetch_cost, goes_on}
 use Rattle.first_path.specs.FirstPath.{leaves_block, Path, last, more}
 use Rattle.first_form.specs.ProgramForm.{is_plain_ins}
-use Rattle.rv_decode.specs.Cost.{changes_flow}
 
 -- a plain instruction goes on, whatever the registers
 plain_goes : (ins : Ins) (pc : ℕ) (r : Rattle.std.specs.Prelude.List ℕ) → is_plain_ins ins ≡ true → next_pc ins pc r ≡ Goto (after pc)
-unfolding changes_flow next_pc
+unfolding next_pc
 plain_goes (Jal _ _) pc r h = absurd (false≢true h)
 plain_goes (Jalr _ _ _) pc r h = absurd (false≢true h)
 plain_goes (Beq _ _ _) pc r h = absurd (false≢true h)

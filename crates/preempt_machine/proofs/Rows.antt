@@ -8,7 +8,7 @@ use Rattle.crpd_base.specs.declared.data.ScriptJob.{ScriptJob}
 use Rattle.crpd_base.specs.declared.data.TaskPlan.{TaskPlan}
 use Rattle.rv_decode.specs.Flow.{flow}
 use Rattle.rv_decode.specs.Table.{row, table}
-use Rattle.rv_decode.specs.Cost.{work_cost, changes_flow}
+use Rattle.rv_decode.specs.Cost.{work_cost}
 use Rattle.rv_core.specs.Effect.{next_pc, written, stored}
 use Rattle.flow_watch.specs.Watch.{step as watch_step, is_kept}
 use Rattle.preempt_machine.specs.declared.End.TheVariants.{Unreleased, Open, Answered, Faulted}
@@ -42,24 +42,24 @@ abbrev two : System
 two = record { platform = platform Cycle; plans = plan 0x1000 ∷ []; word = words 0x1000 (0x00100293 ∷ 0x00000073 ∷ []) }
 
 two_at_16 : completions (run two (started two empty [] (line 0 0 ∷ [])) 16) ≡ Open ∷ []
-unfolding row table work_cost changes_flow next_pc written stored watch_step flow ins_at candidate turned is_ready comes_before
+unfolding row table work_cost next_pc written stored watch_step flow ins_at candidate turned is_ready comes_before
 two_at_16 = refl
 
 two_at_17 : completions (run two (started two empty [] (line 0 0 ∷ [])) 17) ≡ Answered 17 ∷ []
-unfolding row table work_cost changes_flow next_pc written stored watch_step flow ins_at candidate turned is_ready comes_before
+unfolding row table work_cost next_pc written stored watch_step flow ins_at candidate turned is_ready comes_before
 two_at_17 = refl
 
 -- row 21: a warm cache; two jobs of which the second comes too early; an unreleased job
 two_warm : completions (run two (started two (Some 256 ∷ None ∷ None ∷ None ∷ []) [] (line 0 0 ∷ [])) 7) ≡ Answered 7 ∷ []
-unfolding row table work_cost changes_flow next_pc written stored watch_step flow ins_at candidate turned is_ready comes_before
+unfolding row table work_cost next_pc written stored watch_step flow ins_at candidate turned is_ready comes_before
 two_warm = refl
 
 two_twice : completions (run two (started two empty [] (line 0 0 ∷ line 0 99 ∷ [])) 200) ≡ Answered 17 ∷ Answered 106 ∷ []
-unfolding row table work_cost changes_flow next_pc written stored watch_step flow ins_at candidate turned is_ready comes_before
+unfolding row table work_cost next_pc written stored watch_step flow ins_at candidate turned is_ready comes_before
 two_twice = refl
 
 two_unreleased : completions (run two (started two empty [] (line 0 300 ∷ [])) 200) ≡ Unreleased ∷ []
-unfolding row table work_cost changes_flow next_pc written stored watch_step flow ins_at candidate turned is_ready comes_before
+unfolding row table work_cost next_pc written stored watch_step flow ins_at candidate turned is_ready comes_before
 two_unreleased = refl
 
 -- row 4: a loop. With bound 2 the watch is broken
@@ -74,23 +74,23 @@ abbrev kept_of : Machine → List Bool
 kept_of m = map (λ (job : Job). is_kept job.watch) m.jobs
 
 four_open : completions (run (four 3) (started (four 3) empty [] (line 0 0 ∷ [])) 26) ≡ Open ∷ []
-unfolding row table work_cost changes_flow next_pc written stored watch_step flow ins_at candidate turned is_ready comes_before
+unfolding row table work_cost next_pc written stored watch_step flow ins_at candidate turned is_ready comes_before
 four_open = refl
 
 four_answer : completions (run (four 3) (started (four 3) empty [] (line 0 0 ∷ [])) 27) ≡ Answered 27 ∷ []
-unfolding row table work_cost changes_flow next_pc written stored watch_step flow ins_at candidate turned is_ready comes_before
+unfolding row table work_cost next_pc written stored watch_step flow ins_at candidate turned is_ready comes_before
 four_answer = refl
 
 four_kept : kept_of (run (four 3) (started (four 3) empty [] (line 0 0 ∷ [])) 100) ≡ true ∷ []
-unfolding row table work_cost changes_flow next_pc written stored watch_step flow ins_at candidate turned is_ready comes_before
+unfolding row table work_cost next_pc written stored watch_step flow ins_at candidate turned is_ready comes_before
 four_kept = refl
 
 four_broken : kept_of (run (four 2) (started (four 2) empty [] (line 0 0 ∷ [])) 100) ≡ false ∷ []
-unfolding row table work_cost changes_flow next_pc written stored watch_step flow ins_at candidate turned is_ready comes_before
+unfolding row table work_cost next_pc written stored watch_step flow ins_at candidate turned is_ready comes_before
 four_broken = refl
 
 four_broken_answer : completions (run (four 2) (started (four 2) empty [] (line 0 0 ∷ [])) 100) ≡ Answered 27 ∷ []
-unfolding row table work_cost changes_flow next_pc written stored watch_step flow ins_at candidate turned is_ready comes_before
+unfolding row table work_cost next_pc written stored watch_step flow ins_at candidate turned is_ready comes_before
 four_broken_answer = refl
 
 -- rows 6, 7, 22 and 34: a preemption
@@ -103,31 +103,31 @@ six switching =
     }
 
 six_row : completions (run (six Cycle) (started (six Cycle) empty [] (line 1 0 ∷ line 0 16 ∷ [])) 100) ≡ Answered 49 ∷ Answered 33 ∷ []
-unfolding row table work_cost changes_flow next_pc written stored watch_step flow ins_at candidate turned is_ready comes_before
+unfolding row table work_cost next_pc written stored watch_step flow ins_at candidate turned is_ready comes_before
 six_row = refl
 
 seven_row : completions (run (six Cycle) (started (six Cycle) empty [] (line 1 0 ∷ line 0 15 ∷ [])) 100) ≡ Answered 49 ∷ Answered 32 ∷ []
-unfolding row table work_cost changes_flow next_pc written stored watch_step flow ins_at candidate turned is_ready comes_before
+unfolding row table work_cost next_pc written stored watch_step flow ins_at candidate turned is_ready comes_before
 seven_row = refl
 
 twenty_two_row : completions (run (six Cycle) (started (six Cycle) empty [] (line 1 0 ∷ line 0 0 ∷ [])) 100) ≡ Answered 34 ∷ Answered 17 ∷ []
-unfolding row table work_cost changes_flow next_pc written stored watch_step flow ins_at candidate turned is_ready comes_before
+unfolding row table work_cost next_pc written stored watch_step flow ins_at candidate turned is_ready comes_before
 twenty_two_row = refl
 
 thirty_four_at_6 : completions (run (six Instruction) (started (six Instruction) empty [] (line 1 0 ∷ line 0 6 ∷ [])) 100) ≡ Answered 49 ∷ Answered 33 ∷ []
-unfolding row table work_cost changes_flow next_pc written stored watch_step flow ins_at candidate turned is_ready comes_before
+unfolding row table work_cost next_pc written stored watch_step flow ins_at candidate turned is_ready comes_before
 thirty_four_at_6 = refl
 
 thirty_four_at_15 : completions (run (six Instruction) (started (six Instruction) empty [] (line 1 0 ∷ line 0 15 ∷ [])) 100) ≡ Answered 49 ∷ Answered 33 ∷ []
-unfolding row table work_cost changes_flow next_pc written stored watch_step flow ins_at candidate turned is_ready comes_before
+unfolding row table work_cost next_pc written stored watch_step flow ins_at candidate turned is_ready comes_before
 thirty_four_at_15 = refl
 
 thirty_four_cycle : completions (run (six Cycle) (started (six Cycle) empty [] (line 1 0 ∷ line 0 6 ∷ [])) 100) ≡ Answered 49 ∷ Answered 23 ∷ []
-unfolding row table work_cost changes_flow next_pc written stored watch_step flow ins_at candidate turned is_ready comes_before
+unfolding row table work_cost next_pc written stored watch_step flow ins_at candidate turned is_ready comes_before
 thirty_four_cycle = refl
 
 six_fetch : fetch (six Cycle) (run (six Cycle) (started (six Cycle) empty [] (line 1 0 ∷ line 0 16 ∷ [])) 38) ≡ Some (record { job = 0; address = 0x1004 })
-unfolding row table work_cost changes_flow next_pc written stored watch_step flow ins_at candidate turned is_ready comes_before
+unfolding row table work_cost next_pc written stored watch_step flow ins_at candidate turned is_ready comes_before
 six_fetch = refl
 
 -- row 13: calls. Without the store of x1 the second return goes to 0, where no word is
@@ -140,19 +140,19 @@ calls second =
     }
 
 thirteen_row : completions (run (calls 0x00112623) (started (calls 0x00112623) empty [] (line 0 0 ∷ [])) 100) ≡ Answered 50 ∷ []
-unfolding row table work_cost changes_flow next_pc written stored watch_step flow ins_at candidate turned is_ready comes_before
+unfolding row table work_cost next_pc written stored watch_step flow ins_at candidate turned is_ready comes_before
 thirteen_row = refl
 
 thirteen_kept : kept_of (run (calls 0x00112623) (started (calls 0x00112623) empty [] (line 0 0 ∷ [])) 100) ≡ true ∷ []
-unfolding row table work_cost changes_flow next_pc written stored watch_step flow ins_at candidate turned is_ready comes_before
+unfolding row table work_cost next_pc written stored watch_step flow ins_at candidate turned is_ready comes_before
 thirteen_kept = refl
 
 thirteen_fault : completions (run (calls 0x00000013) (started (calls 0x00000013) empty [] (line 0 0 ∷ [])) 100) ≡ Faulted ∷ []
-unfolding row table work_cost changes_flow next_pc written stored watch_step flow ins_at candidate turned is_ready comes_before
+unfolding row table work_cost next_pc written stored watch_step flow ins_at candidate turned is_ready comes_before
 thirteen_fault = refl
 
 thirteen_broken : kept_of (run (calls 0x00000013) (started (calls 0x00000013) empty [] (line 0 0 ∷ [])) 100) ≡ false ∷ []
-unfolding row table work_cost changes_flow next_pc written stored watch_step flow ins_at candidate turned is_ready comes_before
+unfolding row table work_cost next_pc written stored watch_step flow ins_at candidate turned is_ready comes_before
 thirteen_broken = refl
 
 -- row 12: three tasks, nested preemptions
@@ -171,5 +171,5 @@ twelve =
     }
 
 twelve_row : completions (run twelve (started twelve (None ∷ None ∷ None ∷ None ∷ empty) [] (line 2 0 ∷ line 1 31 ∷ line 0 62 ∷ [])) 180) ≡ Answered 175 ∷ Answered 146 ∷ Answered 117 ∷ []
-unfolding row table work_cost changes_flow next_pc written stored watch_step flow ins_at candidate turned is_ready comes_before
+unfolding row table work_cost next_pc written stored watch_step flow ins_at candidate turned is_ready comes_before
 twelve_row = refl

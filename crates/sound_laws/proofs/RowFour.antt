@@ -5,7 +5,7 @@ use Rattle.std.proofs.lemmas.Bool.{cases_Bool, eqb-true, false≢true, true≢fa
 use Rattle.crpd_base.specs.declared.data.LoopAt.{LoopAt}
 use Rattle.rv_decode.specs.Flow.{flow, flows}
 use Rattle.rv_decode.specs.Table.{row, table}
-use Rattle.rv_decode.specs.Cost.{work_cost, changes_flow}
+use Rattle.rv_decode.specs.Cost.{work_cost}
 use Rattle.icache.specs.Accesses.{Accesses}
 use Rattle.script_reader.specs.Legal.{period_of}
 use Rattle.flat_graph.specs.FlatGraph.{FlatNode, IsNode, the_first, a_successor, successors, error_of}
@@ -364,15 +364,15 @@ below_one P a zero l = a
 below_one P a (suc k) l = absurd (omega arith)
 
 edge_pays : (u v : ℕ) → Edge graph.graph u v → cost_of u v ≤ pots u
-unfolding work_cost changes_flow
+unfolding work_cost
 edge_pays u v e = edges_all (λ a b. cost_of a b ≤ pots a) (omega arith) (omega arith) (omega arith) (omega arith) u v e
 
 end_pays : (u : ℕ) → u < 4 → IsTrue (answering graph u) → end_cost platform (listing_of graph) (λ y. nat_lt 0 y) u ≤ pots u
-unfolding work_cost changes_flow flow
+unfolding work_cost flow
 end_pays u l = four (λ z. IsTrue (answering graph z) → end_cost platform (listing_of graph) (λ y. nat_lt 0 y) z ≤ pots z) (λ b. absurd (false≢true b)) (λ b. absurd (false≢true b)) (λ b. absurd (false≢true b)) (λ b. omega arith) u l
 
 inside_pays : (i : Item) (u v : ℕ) → Edge graph.graph u v → (IsBackEdge graph.nest u v → ⊥) → ((r : ℕ) → Leaves graph.nest u v r → ⊥) → IsItem graph.nest v i → cost_of u v + item_potential (potentials_of task_certificate) i ≤ pots u
-unfolding work_cost changes_flow
+unfolding work_cost
 inside_pays (Node y) u v e =
     edges_all (λ a b. (IsBackEdge graph.nest a b → ⊥) → ((r : ℕ) → Leaves graph.nest a b r → ⊥) → IsItem graph.nest b (Node y) → cost_of a b + pots y ≤ pots a)
     (λ n o it. absurd (it.1 0 (omega arith) refl))
