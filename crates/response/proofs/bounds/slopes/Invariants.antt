@@ -6,5 +6,5 @@ use Rattle.response.proofs.bounds.slopes.Given as goal
 abbrev pub invariant-loop-k : goal.invariant-loop-k
 invariant-loop-k l = record {
   size : length l.slopes ≡ 32;
-  is : (k : ℕ) → k < l.k → IsSlope l.set (part_at l.parts) k (get_or l.slopes k 0);
+  is : (k : ℕ) → k < l.k → IsSlope l.set (part_at l.parts) l.task.0 k (get_or l.slopes k 0);
 }
