@@ -46,15 +46,15 @@ pub data WhyFirst (sys : System) (m : Machine) (i : ℕ) : Type 0 where
   new_owner : m.owner ≢ Some i → WhyFirst sys m i
   any_cycle : sys.platform.switching ≡ Cycle → WhyFirst sys m i
 
--- what the candidate is: a ready job, and with a cause the first of the ready ones
-pub record IsCandidate (sys : System) (m : Machine) (i : ℕ) : Type 0 where
+-- what proofs use of a candidate: it is a ready job, and with a cause the first of the ready ones
+pub record CandidateFacts (sys : System) (m : Machine) (i : ℕ) : Type 0 where
   pub below : i < length m.jobs
   pub ready : is_ready m.time (job_at m.jobs i) ≡ true
   pub first : WhyFirst sys m i → (j : ℕ) → is_ready m.time (job_at m.jobs j) ≡ true → (j ≡ i) ⊎ (before m.jobs i j ≡ true)
 
 abbrev pub SaysCandidate : System → Machine → Option ℕ → Type 0
 SaysCandidate sys m None = (j : ℕ) → is_ready m.time (job_at m.jobs j) ≡ false
-SaysCandidate sys m (Some i) = IsCandidate sys m i
+SaysCandidate sys m (Some i) = CandidateFacts sys m i
 
 first_says : (sys : System) (m : Machine) (best : Option ℕ) → IsBest m.time m.jobs (length m.jobs) best → SaysCandidate sys m best
 first_says sys m None h = λ j. elim (cases_Bool (is_ready m.time (job_at m.jobs j))) [ inl r ↦ absurd (false≢true (sym (h j (open_is_below m.jobs j (ready_open m.time (job_at m.jobs j) r))) ∙ r)) | inr r ↦ r ]
@@ -70,7 +70,7 @@ keeps_ready : (s : Switching) (time : ℕ) (job : Job) → keeps_core s time job
 keeps_ready Cycle time job k = absurd (false≢true k)
 keeps_ready Instruction time job k = (and_parts _ _ k).0
 
-keeps_says : (sys : System) (m : Machine) (o : ℕ) → m.owner ≡ Some o → keeps_core sys.platform.switching m.time (job_at m.jobs o) ≡ true → IsCandidate sys m o
+keeps_says : (sys : System) (m : Machine) (o : ℕ) → m.owner ≡ Some o → keeps_core sys.platform.switching m.time (job_at m.jobs o) ≡ true → CandidateFacts sys m o
 keeps_says sys m o e k =
     let ready = keeps_ready sys.platform.switching m.time (job_at m.jobs o) k in
     record {
@@ -91,7 +91,7 @@ pub candidate_says : (sys : System) (m : Machine) → SaysCandidate sys m (candi
 unfolding candidate
 candidate_says sys m = candidate_by_says sys m m.owner refl
 
-pub candidate_some : (sys : System) (m : Machine) (i : ℕ) → candidate sys m ≡ Some i → IsCandidate sys m i
+pub candidate_some : (sys : System) (m : Machine) (i : ℕ) → candidate sys m ≡ Some i → CandidateFacts sys m i
 candidate_some sys m i e = subst (λ c. SaysCandidate sys m c) e (candidate_says sys m)
 
 pub candidate_none : (sys : System) (m : Machine) → candidate sys m ≡ None → (j : ℕ) → is_ready m.time (job_at m.jobs j) ≡ false

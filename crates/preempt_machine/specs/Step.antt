@@ -46,7 +46,8 @@ abbrev pub keeps_core : Switching → ℕ → Job → Bool
 keeps_core Cycle time job = false
 keeps_core Instruction time job = is_ready time job && nat_lt 0 job.left
 
--- the candidate: the owner where it keeps the core, else the ready job that comes before all others
+-- the candidate, as it is found: the owner where it keeps the core, else the ready job that comes before all others.
+-- Candidate has it as a relation
 abbrev pub candidate_by : System → Machine → Option ℕ → Option ℕ
 candidate_by sys m None = first_ready m.time m.jobs (length m.jobs)
 candidate_by sys m (Some o) =

@@ -19,6 +19,7 @@ use Rattle.loop_regions.specs.Potentials.{Potentials, Meets, rest}
 use Rattle.loop_regions.specs.Nest.{IsNested}
 use Rattle.loop_regions.proofs.Watched.{behind_is, returns_from, in_one, to_next, to_target, next}
 use Rattle.loop_regions.proofs.Potential.{step_rest_law}
+use Rattle.loop_regions.proofs.Steps.{step_some}
 use Rattle.cert_check.specs.Clauses.{costs}
 use Rattle.cert_check.specs.Judge.{TaskGraph, IsGraphOf, listing_of, answering}
 use Rattle.preempt_machine.specs.Machine.{System, Job}
@@ -28,9 +29,9 @@ use Rattle.rv_decode.specs.Flow.{IsCodeMap}
 use Rattle.sound_laws.specs.Walks.{before_of, IsOnWalk}
 use Rattle.sound_laws.specs.Rests.{rest_after, walk_of}
 use Rattle.rv_decode.proofs.Addresses.{after_is}
-use Rattle.sound_laws.proofs.Flows.{GoesBy, flow_goes}
+use Rattle.loop_regions.proofs.Flows.{GoesBy, flow_goes}
 use Rattle.sound_laws.proofs.Turns.{cost_taken}
-use Rattle.sound_laws.proofs.Stands.{Stands, IsFollowed, step_some, empty_at_end, goes_on_walk, number_there}
+use Rattle.sound_laws.proofs.Stands.{Stands, IsFollowed, empty_at_end, goes_on_walk, number_there}
 
 module _ (sys : System) (plan : TaskPlan) (t : TaskGraph) (ok : IsGraphOf sys.word plan t) (map : IsCodeMap sys.word) where
   -- an instruction at a node costs at most what the node's edges cost at most

@@ -23,7 +23,8 @@ use Rattle.run_account.specs.Nodes.{node_of, node_number}
 use Rattle.rv_decode.specs.Flow.{IsCodeMap}
 use Rattle.sound_laws.specs.Walks.{before_of, IsOnWalk}
 use Rattle.rv_decode.proofs.Addresses.{after_is}
-use Rattle.sound_laws.proofs.Flows.{GoesBy, flow_goes}
+use Rattle.loop_regions.proofs.Flows.{GoesBy, flow_goes, can_go}
+use Rattle.loop_regions.proofs.Steps.{bottom_return, step_some}
 use Rattle.sound_laws.proofs.Numbers.{number_is}
 
 -- the flows that a node without an error has
@@ -62,27 +63,6 @@ followed_by code entry c Break h = none_some_error Breakpoint h
 followed_by code entry c OtherJalr h = none_some_error IndirectJump h
 followed_by code entry c OtherJal h = none_some_error OtherLink h
 
-to_of : Next → ℕ
-to_of (Goto to) = to
-to_of Answer = 0
-to_of Fault = 0
-
-goto_same : (a b : ℕ) → Goto a ≡ Goto b → a ≡ b
-unfolding to_of
-goto_same a b e = ap to_of e
-
-pub can_go : (f : Flow) (a : ℕ) (next : Next) (to : ℕ) → GoesBy f a next → next ≡ Goto to → IsFollowed f → CanGo a f to
-can_go Plain a next to g e h = goto_same to (after a) (sym e ∙ g)
-can_go (Branch t) a next to (inl g) e h = inl (goto_same to (after a) (sym e ∙ g))
-can_go (Branch t) a next to (inr g) e h = inr (goto_same to t (sym e ∙ g))
-can_go (Jump t) a next to g e h = goto_same to t (sym e ∙ g)
-can_go (Call t) a next to g e h = goto_same to t (sym e ∙ g)
-can_go Return a next to g e h = tt
-can_go Exit a next to g e h = absurd (let x = sym e ∙ g in cc)
-can_go Break a next to g e h = absurd h
-can_go OtherJalr a next to g e h = absurd h
-can_go OtherJal a next to g e h = absurd h
-
 pub no_fault_next : (ins : Ins) (a : ℕ) (r : List ℕ) → IsFollowed (flow a ins) → next_pc ins a r ≡ Fault → ⊥
 no_fault_next ins a r h e = by_flow (flow a ins) (next_pc ins a r) h (flow_goes ins a r) e
   where
@@ -99,41 +79,8 @@ no_fault_next ins a r h e = by_flow (flow a ins) (next_pc ins a r) h (flow_goes 
     by_flow OtherJal next h g e = h
 
 -- the frames are empty only where the job is at its end
-arrive_some : (plan : TaskPlan) (to : ℕ) (f : Frame) (fs : List Frame) → arrive plan to (f ∷ fs) ≡ Some [] → ⊥
-arrive_some plan to f fs e =
-    elim (cases_Bool (within_bounds plan.loops (all_turns_after to plan.loops f.turns))) [
-      | inl b ↦ let r = rw b at e in cc
-      | inr b ↦ let r = rw b at e in cc
-    ]
-
 pub empty_at_end : (code : ℕ → Option (Option Flow)) (plan : TaskPlan) (frames : List Frame) (from : ℕ) (f : Flow) (to : ℕ) → AreFrames code plan frames → moved plan frames from f to ≡ Some [] → to ≡ end
-empty_at_end code plan [] from f to are e = absurd are
-empty_at_end code plan (f ∷ fs) from Plain to are e = absurd (arrive_some plan to f fs e)
-empty_at_end code plan (f ∷ fs) from (Branch t) to are e = absurd (arrive_some plan to f fs e)
-empty_at_end code plan (f ∷ fs) from (Jump t) to are e = absurd (arrive_some plan to f fs e)
-empty_at_end code plan (f ∷ fs) from (Call t) to are e =
-    elim (cases_Bool (nat_lt (length (f ∷ fs)) 17)) [
-      | inl b ↦ absurd (arrive_some plan to (new_frame plan (after from)) (f ∷ fs) (rw b at e))
-      | inr b ↦ absurd (let r = rw b at e in cc)
-    ]
-empty_at_end code plan (f ∷ []) from Return to are e =
-    elim (cases_Bool (to == f.back)) [
-      | inl b ↦ eqb-true to f.back b ∙ are.1
-      | inr b ↦ absurd (let r = rw b at e in cc)
-    ]
-empty_at_end code plan (f ∷ h ∷ fs) from Return to are e =
-    elim (cases_Bool (to == f.back)) [
-      | inl b ↦ absurd (arrive_some plan to h fs (rw b at e))
-      | inr b ↦ absurd (let r = rw b at e in cc)
-    ]
-empty_at_end code plan (f ∷ fs) from Exit to are e = absurd (arrive_some plan to f fs e)
-empty_at_end code plan (f ∷ fs) from Break to are e = absurd (arrive_some plan to f fs e)
-empty_at_end code plan (f ∷ fs) from OtherJalr to are e = absurd (let r = e in cc)
-empty_at_end code plan (f ∷ fs) from OtherJal to are e = absurd (let r = e in cc)
-
-pub step_some : (plan : TaskPlan) (frames : List Frame) (from : ℕ) (ins : Ins) (to : ℕ) → watch_step plan (Some frames) from ins to ≡ moved plan frames from (flow from ins) to
-unfolding watch_step
-step_some plan frames from ins to = refl
+empty_at_end code plan frames from f to are e = (bottom_return code plan frames from f to are e).at_end
 
 module _ (sys : System) (plan : TaskPlan) (t : TaskGraph) (ok : IsGraphOf sys.word plan t) (map : IsCodeMap sys.word) where
   pub walk_node : (y : ℕ) (before : List ℕ) → IsWalk t.graph (y ∷ before) → y < t.graph.size
@@ -180,7 +127,7 @@ module _ (sys : System) (plan : TaskPlan) (t : TaskGraph) (ok : IsGraphOf sys.wo
   pub goes_on_walk : (job : Job) (nodes : List ℕ) (W : IsOnWalk sys.word plan t job nodes) (S : Stands sys t (node_of t job) job.pc) (to : ℕ) (h : Frame) (hs : List Frame) → next_pc S.ins job.pc job.registers ≡ Goto to → watch_step plan job.watch job.pc S.ins to ≡ Some (h ∷ hs) → GoesTo (flows sys.word) plan t.graph t.places t.nest (node_of t job) (before_of job nodes) to (h ∷ hs)
   goes_on_walk job nodes W S to h hs e w =
       watch_step_law (flows sys.word) plan t.graph t.places t.nest (node_of t job) (before_of job nodes) job.pc W.frames (flow job.pc S.ins) to h hs ok.follows ok.no_errors ok.regions W.walked S.flow_is S.room
-      (can_go (flow job.pc S.ins) job.pc (next_pc S.ins job.pc job.registers) to (flow_goes S.ins job.pc job.registers) e S.followed)
+      (can_go (flow job.pc S.ins) job.pc (next_pc S.ins job.pc job.registers) to (flow_goes S.ins job.pc job.registers) e)
       (sym (step_some plan W.frames job.pc S.ins to) ∙ ap (λ x. watch_step plan x job.pc S.ins to) (sym W.watch) ∙ w)
 
   -- the number of the node where it comes

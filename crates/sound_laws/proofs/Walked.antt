@@ -13,6 +13,7 @@ use Rattle.flow_watch.specs.Watch.{Frame, Watch, is_kept, step as watch_step}
 use Rattle.flat_graph.specs.Graph.{IsWalk}
 use Rattle.loop_regions.specs.Nest.{IsKept}
 use Rattle.loop_regions.specs.Watched.{IsWatchedWalk}
+use Rattle.loop_regions.proofs.Steps.{step_some}
 use Rattle.cert_check.specs.Judge.{TaskGraph, IsGraphOf}
 use Rattle.preempt_machine.specs.Machine.{System, Faulted, Job, plan_of}
 use Rattle.preempt_machine.specs.Step.{is_open, Turn, turned, went, makes_fetch, goes_on}
@@ -20,7 +21,7 @@ use Rattle.run_account.specs.Nodes.{node_of, node_number}
 use Rattle.rv_decode.specs.Flow.{IsCodeMap}
 use Rattle.sound_laws.specs.Walks.{before_of, IsOnWalk, IsNoneOrKeptWalk}
 use Rattle.sound_laws.proofs.Turns.{TurnOf, switches, works, goes, begun, cost_hit, turn_of_job, not_faulted}
-use Rattle.sound_laws.proofs.Stands.{Stands, no_fault_next, step_some, empty_at_end, goes_on_walk, number_there}
+use Rattle.sound_laws.proofs.Stands.{Stands, no_fault_next, empty_at_end, goes_on_walk, number_there}
 
 -- the nodes of a job's fetches after a turn
 abbrev pub nodes_after : System → TaskGraph → Turn → List ℕ → List ℕ
