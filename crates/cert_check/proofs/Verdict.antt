@@ -13,9 +13,12 @@ use Rattle.icache.specs.Accesses.{Accesses}
 use Rattle.evict_sets.proofs.FullLaws.{hit_test_law}
 use Rattle.loop_regions.specs.Potentials.{Potentials, item_potential}
 use Rattle.crpd_base.specs.declared.data.Certificate.{Certificate}
-use Rattle.cert_check.specs.Certificate.{listed_of, potentials_of}
+use Rattle.evict_sets.specs.Certificate.{listed_of}
+use Rattle.cert_check.specs.Certificate.{potentials_of}
 use Rattle.cert_check.specs.Clauses.{CountsHits, costs, PotentialsMeet}
-use Rattle.cert_check.specs.Judge.{TaskGraph, listing_of, answering, accesses_of, cert_at, TaskMeets}
+use Rattle.loop_regions.specs.TaskGraph.{TaskGraph, listing_of, answering}
+use Rattle.cert_check.specs.Judge.{accesses_of, TaskMeets}
+use Rattle.evict_sets.specs.Certificate.{cert_at}
 use Rattle.cert_check.specs.Verdict.{Clause, Platforms, HasTask, Names, Last, Leaders, NodePotentials, LoopPotentials, States, UsefulSets, TaskSets, Inequalities, Bound, Window, Response, Deadline, Holds, YesLaw, OneAnswerLaw}
 
 -- two tests of hits agree at the nodes

@@ -7,7 +7,8 @@ use Rattle.flat_graph.specs.FlatGraph.{FlatNode}
 use Rattle.flat_graph.specs.Numbered.{IsFlatGraph, ArePlaces}
 use Rattle.loop_regions.specs.Stated.{IsRegions, IsAccepted}
 use Rattle.loop_regions.specs.Watched.{HasNoErrors}
-use Rattle.cert_check.specs.Judge.{TaskGraph, IsGraphOf}
+use Rattle.loop_regions.specs.TaskGraph.{TaskGraph}
+use Rattle.cert_check.specs.Judge.{IsGraphOf}
 
 -- the flat graph under its numbering, without errors, with the instructions at its nodes, and the regions of the stated
 -- loops without refusals

@@ -4,21 +4,15 @@ use Rattle.crpd_base.specs.declared.data.Platform.{Platform}
 use Rattle.crpd_base.specs.declared.data.TaskPlan.{TaskPlan}
 use Rattle.crpd_base.specs.declared.data.TaskSpec.{TaskSpec}
 use Rattle.crpd_base.specs.declared.data.TaskSet.{TaskSet}
-use Rattle.rv_decode.specs.declared.Ins.{Ins}
-use Rattle.rv_decode.specs.Flow.{Words, flow, flows}
+use Rattle.rv_decode.specs.Flow.{Words, flows}
 use Rattle.rv_decode.specs.Table.{row}
-use Rattle.std.specs.Prelude.{Some, slice_index}
+use Rattle.std.specs.Prelude.{Some}
 use Rattle.icache.specs.Accesses.{Accesses, accesses}
-use Rattle.flat_graph.specs.FlatGraph.{answers_by}
-use Rattle.flat_graph.specs.Graph.{Graph, Places}
 use Rattle.flat_graph.specs.Numbered.{FollowsCode}
-use Rattle.flat_graph.specs.EdgeCost.{Listing}
-use Rattle.loop_regions.specs.Nest.{Nest}
 use Rattle.loop_regions.specs.Stated.{IsRegions, IsAccepted}
 use Rattle.loop_regions.specs.Watched.{HasNoErrors}
 use Rattle.evict_sets.specs.Clauses.{ListsLeaders, StatesMeet, UsefulMeets, SetsMeet}
 use Rattle.evict_sets.specs.Longest.{longest}
-use Rattle.crpd_base.specs.declared.data.Method.TheVariants.{Ucb}
 use Rattle.delay_count.specs.Demand.{demand}
 use Rattle.crpd_base.specs.declared.data.NodeState.{NodeState}
 use Rattle.crpd_base.specs.declared.data.TaskPart.{TaskPart}
@@ -26,22 +20,10 @@ use Rattle.crpd_base.specs.declared.data.Certificate.{Certificate}
 use Rattle.crpd_base.specs.Sets.{has}
 use Rattle.crpd_base.specs.declared.data.Part.{Part}
 use Rattle.crpd_base.specs.Tasks.{jitter_of, deadline_of}
-use Rattle.cert_check.specs.Certificate.{listed_of, potentials_of}
+use Rattle.loop_regions.specs.TaskGraph.{TaskGraph, listing_of, answering}
+use Rattle.evict_sets.specs.Certificate.{listed_of, cert_at}
+use Rattle.cert_check.specs.Certificate.{potentials_of}
 use Rattle.cert_check.specs.Clauses.{CountsHits, costs, PotentialsMeet, BoundMeets}
-
--- the graph and the nest of a task, with the place and the instruction of each node
-pub record TaskGraph : Type 0 where
-  pub graph : Graph
-  pub places : Places
-  pub ins : ℕ → Ins
-  pub nest : Nest
-
-abbrev pub listing_of : TaskGraph → Listing
-listing_of t = record { address = t.places.address; ins = t.ins }
-
--- the answering nodes
-abbrev pub answering : TaskGraph → ℕ → Bool
-answering t y = answers_by (t.places.context y) (Some (Some (flow (t.places.address y) (t.ins y))))
 
 abbrev pub accesses_of : Platform → TaskGraph → Accesses
 accesses_of p t = accesses p t.places.address
@@ -74,23 +56,6 @@ pub record GraphMeets (p : Platform) (t : TaskGraph) (c : TaskPart) : Type 0 whe
   pub hits : CountsHits t.graph (accesses_of p t) (listed_of c) is_hit
   pub potentials : (u : ℕ) → u < t.graph.size → PotentialsMeet t.graph t.nest (costs p (listing_of t) (answering t) is_hit) (potentials_of c) u
   pub bound : BoundMeets t.graph t.nest (potentials_of c) c.part.bound
-
--- the part of a task in the certificate; past its end an empty one
-abbrev pub no_cert : TaskPart
-no_cert =
-    record {
-      name = [];
-      part = record { bound = 0; evicting = []; useful = [] };
-      states = [];
-      potentials = [];
-      loops = [];
-      method = Ucb;
-      window = 0;
-      response = 0;
-    }
-
-abbrev pub cert_at : Certificate → ℕ → TaskPart
-cert_at c i = slice_index_or c.tasks i no_cert
 
 abbrev pub window_at : Certificate → ℕ → ℕ
 window_at c i = (cert_at c i).window

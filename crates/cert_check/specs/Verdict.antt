@@ -9,9 +9,12 @@ use Rattle.crpd_base.specs.declared.data.NodeState.{NodeState}
 use Rattle.crpd_base.specs.declared.data.Certificate.{Certificate}
 use Rattle.crpd_base.specs.Sets.{has}
 use Rattle.crpd_base.specs.Tasks.{jitter_of, deadline_of}
-use Rattle.cert_check.specs.Certificate.{listed_of, potentials_of}
+use Rattle.evict_sets.specs.Certificate.{listed_of}
+use Rattle.cert_check.specs.Certificate.{potentials_of}
 use Rattle.cert_check.specs.Clauses.{CountsHits, costs, PotentialsMeet, BoundMeets}
-use Rattle.cert_check.specs.Judge.{TaskGraph, IsGraphOf, listing_of, answering, accesses_of, cert_at, window_at, part_of, longest_at, name_of, IsYes}
+use Rattle.loop_regions.specs.TaskGraph.{TaskGraph, listing_of, answering}
+use Rattle.cert_check.specs.Judge.{IsGraphOf, accesses_of, window_at, part_of, longest_at, name_of, IsYes}
+use Rattle.evict_sets.specs.Certificate.{cert_at}
 
 -- the clauses, those of nodes with their node
 pub data Clause : Type 0 where

@@ -1,10 +1,10 @@
 -- What a set and a program of the form keep.
-use Rattle.std.proofs.Common.{◌≡◌, ℕ, suc, ◌+◌, ◌-◌, ◌*◌, ◌%◌, ◌<◌, ◌≤◌, Bool, true, false, ◌&&◌, cond, nat_le, nat_eq, List, [], ◌∷◌, length, drop, codes, Option, Some, None, refl, ap, subst, inl, inr, arith, pos, negsuc}
+use Rattle.std.proofs.Common.{◌≡◌, ℕ, ◌+◌, ◌-◌, ◌*◌, ◌%◌, ◌≤◌, Bool, true, false, ◌&&◌, cond, nat_le, nat_eq, List, [], ◌∷◌, length, drop, codes, Option, Some, None, refl, subst, arith, pos, negsuc}
 use Rattle.std.specs.Prelude.{option_and_then}
 use Rattle.std.specs.Str.{is_utf8}
 use Rattle.std.proofs.lemmas.List.{length-drop}
-use Rattle.std.proofs.lemmas.Bool.{leb-true, eqb-true, and_parts, false≢true}
-use Rattle.toml.specs.Data.{Members, Data, as_integer, get_member}
+use Rattle.std.proofs.lemmas.Bool.{leb-true, and_parts}
+use Rattle.toml.specs.Data.{Members, as_integer, get_member}
 use Rattle.toml.specs.Parse.{parse_document}
 use Rattle.crpd_base.specs.declared.data.Platform.{Platform}
 use Rattle.first_form.specs.declared.task.OneTask.{OneTask}

@@ -1,6 +1,6 @@
 -- A program of the form is a path, and a yes to it gives the path room.
-use Rattle.std.proofs.Common.{◌≡◌, ℕ, zero, suc, ◌+◌, ◌-◌, ◌*◌, ◌/◌, ◌%◌, ◌<◌, ◌≤◌, ◌^◌, Bool, true, false, not, ◌&&◌, cond, nat_le, nat_eq, List, [], ◌∷◌, length, drop, Option, Some, None, refl, sym, ◌∙◌, ap, subst, inl, inr, arith}
-use Rattle.std.specs.Prelude.{option_and_then, slice_get, ◌==◌, if◌then◌else◌}
+use Rattle.std.proofs.Common.{◌≡◌, ℕ, zero, suc, ◌+◌, ◌-◌, ◌*◌, ◌/◌, ◌%◌, ◌≤◌, Bool, true, false, not, ◌&&◌, cond, nat_le, nat_eq, List, [], ◌∷◌, length, drop, Option, Some, None, refl, sym, ◌∙◌, ap, subst, arith}
+use Rattle.std.specs.Prelude.{slice_get, ◌==◌}
 use Rattle.std.specs.Str.{bytes_eq}
 use Rattle.std.proofs.lemmas.Bool.{leb-true, le-leb, eqb-true, eq-eqb, and_parts, and_from, false≢true}
 use Rattle.crpd_base.specs.declared.data.Platform.{Platform}
@@ -9,18 +9,17 @@ use Rattle.rv_decode.specs.declared.Ins.TheVariants.{Ecall, Ebreak}
 use Rattle.rv_decode.specs.Table.{row, table}
 use Rattle.rv_decode.specs.Cost.{cost}
 use Rattle.rv_decode.specs.Address.{after}
-use Rattle.preempt_machine.specs.Machine.{System, runnable, ins_at, plan_of}
+use Rattle.preempt_machine.specs.Machine.{System, runnable, ins_at}
 use Rattle.first_form.specs.declared.task.OneTask.{OneTask}
 use Rattle.first_form.specs.declared.program.Program.{Program}
 use Rattle.first_form.specs.declared.certificate.Stated.{Stated}
 use Rattle.first_form.specs.declared.outcome.Verdict.{Verdict}
 use Rattle.first_form.specs.declared.outcome.Verdict.TheVariants.{Yes, No}
-use Rattle.first_form.specs.SetForm.{set_of}
-use Rattle.first_form.specs.ProgramForm.{is_plain_ins, is_plain_row, is_plain, is_straight, program_of}
+use Rattle.first_form.specs.ProgramForm.{is_plain_ins, is_plain_row, is_plain, is_straight}
 use Rattle.first_form.specs.Judge.{word_cost, rest_cost, program_cost, same_platform, judge_times, judge}
 use Rattle.first_path.specs.FirstPath.{leaves_block, Path, last, more, HasFirstPath}
 use Rattle.first_path.specs.Form.{task_set, word_from, system_of, YesIsSafe}
-use Rattle.first_path.proofs.Formed.{IsFormedTask, IsFormedProgram, set_formed, program_formed}
+use Rattle.first_path.proofs.Formed.{IsFormedProgram, set_formed, program_formed}
 use Rattle.first_path.proofs.OneTask.{first_path_is_safe}
 
 -- ---- words of a list

@@ -22,9 +22,12 @@ use Rattle.delay_count.specs.Demand.{blocking, greatest_from, gamma}
 use Rattle.evict_sets.specs.Full.{FullUseful}
 use Rattle.crpd_base.specs.declared.data.TaskPart.{TaskPart}
 use Rattle.crpd_base.specs.declared.data.Certificate.{Certificate}
-use Rattle.cert_check.specs.Certificate.{listed_of, potentials_of}
+use Rattle.evict_sets.specs.Certificate.{listed_of}
+use Rattle.cert_check.specs.Certificate.{potentials_of}
 use Rattle.crpd_base.specs.Sets.{has as has_set}
-use Rattle.cert_check.specs.Judge.{TaskGraph, longest_of, cert_at, no_cert, window_at, part_of, longest_at, IsYes, responses, accesses_of}
+use Rattle.loop_regions.specs.TaskGraph.{TaskGraph}
+use Rattle.cert_check.specs.Judge.{longest_of, window_at, part_of, longest_at, IsYes, responses, accesses_of}
+use Rattle.evict_sets.specs.Certificate.{cert_at, no_cert}
 use Rattle.preempt_machine.specs.Machine.{Standing, Open, Answered, Faulted, Job, no_job}
 use Rattle.preempt_machine.specs.Step.{is_open, turn_of, owns, Fetch, Start, state, makes_fetch}
 use Rattle.preempt_machine.specs.Safe.{IsRunOf, IsLegalRun, IsAnsweredBy, IsLate, IsKept}

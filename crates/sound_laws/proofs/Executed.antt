@@ -11,9 +11,12 @@ use Rattle.loop_regions.specs.Potentials.{Meets, rest}
 use Rattle.loop_regions.proofs.Potential.{potential_law, item_law}
 use Rattle.loop_regions.proofs.Stated.{regions_law}
 use Rattle.crpd_base.specs.declared.data.TaskPart.{TaskPart}
-use Rattle.cert_check.specs.Certificate.{listed_of, potentials_of}
+use Rattle.evict_sets.specs.Certificate.{listed_of}
+use Rattle.cert_check.specs.Certificate.{potentials_of}
 use Rattle.cert_check.specs.Clauses.{CountsHits, costs}
-use Rattle.cert_check.specs.Judge.{TaskGraph, GraphMeets, listing_of, answering, accesses_of, longest_of, cert_at}
+use Rattle.loop_regions.specs.TaskGraph.{TaskGraph, listing_of, answering}
+use Rattle.cert_check.specs.Judge.{GraphMeets, accesses_of, longest_of}
+use Rattle.evict_sets.specs.Certificate.{cert_at}
 use Rattle.preempt_machine.specs.Machine.{Job}
 use Rattle.preempt_machine.specs.Step.{is_open, owns, Turn, turned, turn_of, Start, state}
 use Rattle.preempt_machine.specs.Safe.{NamesTasks}

@@ -10,8 +10,9 @@ use Rattle.flat_graph.specs.Graph.{IsWalk, onto}
 use Rattle.evict_sets.specs.Full.{IsHit, FullUseful}
 use Rattle.evict_sets.proofs.WalkLaws.{first_here, first_on, walk_carry_law}
 use Rattle.crpd_base.specs.declared.data.TaskPart.{TaskPart}
-use Rattle.cert_check.specs.Certificate.{listed_of}
-use Rattle.cert_check.specs.Judge.{TaskGraph, accesses_of}
+use Rattle.evict_sets.specs.Certificate.{listed_of}
+use Rattle.loop_regions.specs.TaskGraph.{TaskGraph}
+use Rattle.cert_check.specs.Judge.{accesses_of}
 use Rattle.preempt_machine.specs.Step.{Fetch, Start, state, fetch_at}
 use Rattle.preempt_machine.specs.Safe.{NamesTasks}
 use Rattle.preempt_machine.proofs.Steps.{fetch_says, fetch_left, none_some}

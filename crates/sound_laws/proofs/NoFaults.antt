@@ -2,7 +2,7 @@
 use Rattle.std.proofs.Common.{◌≡◌, ◌≢◌, ℕ, zero, suc, ◌<◌, true, length, sym, ap, subst, inl, inr}
 use Rattle.crpd_base.specs.declared.data.TaskSet.{TaskSet}
 use Rattle.flow_watch.specs.Watch.{is_kept}
-use Rattle.cert_check.specs.Judge.{TaskGraph}
+use Rattle.loop_regions.specs.TaskGraph.{TaskGraph}
 use Rattle.preempt_machine.specs.Machine.{Job, Faulted}
 use Rattle.preempt_machine.specs.Step.{Start, state}
 use Rattle.preempt_machine.specs.Safe.{NamesTasks}

@@ -9,8 +9,10 @@ use Rattle.evict_sets.specs.Full.{FullState, IsHit}
 use Rattle.evict_sets.specs.Clauses.{StateAfter}
 use Rattle.evict_sets.proofs.WalkLaws.{last_here, last_on, last_access_law}
 use Rattle.crpd_base.specs.declared.data.TaskPart.{TaskPart}
-use Rattle.cert_check.specs.Certificate.{listed_of}
-use Rattle.cert_check.specs.Judge.{TaskGraph, accesses_of, cert_at}
+use Rattle.evict_sets.specs.Certificate.{listed_of}
+use Rattle.loop_regions.specs.TaskGraph.{TaskGraph}
+use Rattle.cert_check.specs.Judge.{accesses_of}
+use Rattle.evict_sets.specs.Certificate.{cert_at}
 use Rattle.preempt_machine.specs.Step.{is_open, owns, Start, state, turn_of, makes_fetch}
 use Rattle.preempt_machine.specs.Safe.{NamesTasks}
 use Rattle.preempt_machine.proofs.Steps.{some_injective, none_some}

@@ -1,5 +1,5 @@
 -- The potentials pay for each instruction of a job on a walk, and for what comes after it.
-use Rattle.std.proofs.Common.{◌≡◌, ◌≢◌, ℕ, ◌+◌, ◌-◌, ◌≤◌, Bool, true, false, not, List, [], ◌∷◌, ◌++◌, Some, None, Contains, IsTrue, reverse, refl, sym, ◌∙◌, ap, subst, inl, inr, arith}
+use Rattle.std.proofs.Common.{◌≡◌, ◌≢◌, ℕ, ◌+◌, ◌≤◌, Bool, true, false, not, List, [], ◌∷◌, ◌++◌, Some, None, Contains, IsTrue, reverse, refl, sym, ◌∙◌, ap, subst, inl, inr, arith}
 use Rattle.std.specs.Prelude.{◌==◌, if◌then◌else◌}
 use Rattle.std.proofs.lemmas.Bool.{cases_Bool, eqb-false, ne_eqb}
 use Rattle.crpd_base.specs.declared.data.TaskPlan.{TaskPlan}
@@ -21,7 +21,8 @@ use Rattle.loop_regions.proofs.Watched.{behind_is, returns_from, in_one, to_next
 use Rattle.loop_regions.proofs.Potential.{step_rest_law}
 use Rattle.loop_regions.proofs.Steps.{step_some}
 use Rattle.cert_check.specs.Clauses.{costs}
-use Rattle.cert_check.specs.Judge.{TaskGraph, IsGraphOf, listing_of, answering}
+use Rattle.loop_regions.specs.TaskGraph.{TaskGraph, listing_of, answering}
+use Rattle.cert_check.specs.Judge.{IsGraphOf}
 use Rattle.preempt_machine.specs.Machine.{System, Job}
 use Rattle.preempt_machine.specs.Step.{goes_on}
 use Rattle.run_account.specs.Nodes.{node_of, node_number}

@@ -19,10 +19,12 @@ use Rattle.loop_regions.specs.Watched.{HasNoErrors}
 use Rattle.evict_sets.specs.Full.{Listed, FullState, listed, accessed, passed, FullUseful, listed_useful, used, used_later}
 use Rattle.evict_sets.specs.Clauses.{ListsLeaders, StatesMeet, UsefulMeets, SetsMeet}
 use Rattle.crpd_base.specs.declared.data.NodeState.{NodeState}
-use Rattle.cert_check.specs.Certificate.{block_in, listed_of, potentials_of}
+use Rattle.evict_sets.specs.Certificate.{block_in, listed_of}
+use Rattle.cert_check.specs.Certificate.{potentials_of}
 use Rattle.crpd_base.specs.Sets.{has as has_set}
 use Rattle.cert_check.specs.Clauses.{CountsHits, costs, PotentialsMeet, BoundMeets}
-use Rattle.cert_check.specs.Judge.{IsGraphOf, GraphMeets, IsYes, listing_of, answering, accesses_of}
+use Rattle.cert_check.specs.Judge.{IsGraphOf, GraphMeets, IsYes, accesses_of}
+use Rattle.loop_regions.specs.TaskGraph.{listing_of, answering}
 use Rattle.crpd_base.specs.Tasks.{deadline_of}
 use Rattle.preempt_machine.specs.Machine.{plan_of}
 use Rattle.rv_decode.specs.Flow.{IsCodeMap}

@@ -14,7 +14,8 @@ use Rattle.flow_watch.specs.Watch.{is_kept, step as watch_step}
 use Rattle.loop_regions.specs.Nest.{IsNested}
 use Rattle.loop_regions.specs.Potentials.{Potentials, Meets, rest}
 use Rattle.cert_check.specs.Clauses.{costs}
-use Rattle.cert_check.specs.Judge.{TaskGraph, IsGraphOf, listing_of, answering, longest_of}
+use Rattle.loop_regions.specs.TaskGraph.{TaskGraph, listing_of, answering}
+use Rattle.cert_check.specs.Judge.{IsGraphOf, longest_of}
 use Rattle.preempt_machine.specs.Machine.{System, Job, ins_at, plan_of}
 use Rattle.preempt_machine.specs.Step.{is_open, Turn, turned, went, makes_fetch, goes_on}
 use Rattle.run_account.specs.Nodes.{node_of, node_number}

@@ -14,7 +14,8 @@ use Rattle.flat_graph.specs.Graph.{IsWalk}
 use Rattle.loop_regions.specs.Nest.{IsKept}
 use Rattle.loop_regions.specs.Watched.{IsWatchedWalk}
 use Rattle.loop_regions.proofs.Steps.{step_some}
-use Rattle.cert_check.specs.Judge.{TaskGraph, IsGraphOf}
+use Rattle.loop_regions.specs.TaskGraph.{TaskGraph}
+use Rattle.cert_check.specs.Judge.{IsGraphOf}
 use Rattle.preempt_machine.specs.Machine.{System, Faulted, Job, plan_of}
 use Rattle.preempt_machine.specs.Step.{is_open, Turn, turned, went, makes_fetch, goes_on}
 use Rattle.run_account.specs.Nodes.{node_of, node_number}

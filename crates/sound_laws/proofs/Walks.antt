@@ -9,7 +9,8 @@ use Rattle.rv_decode.specs.Flow.{flows}
 use Rattle.flow_watch.specs.Watch.{Watch, start, is_kept}
 use Rattle.loop_regions.specs.Watched.{IsWatchedWalk}
 use Rattle.loop_regions.proofs.Watched.{watch_start_law}
-use Rattle.cert_check.specs.Judge.{TaskGraph, IsGraphOf}
+use Rattle.loop_regions.specs.TaskGraph.{TaskGraph}
+use Rattle.cert_check.specs.Judge.{IsGraphOf}
 use Rattle.preempt_machine.specs.Machine.{Job, no_job, plan_of}
 use Rattle.preempt_machine.specs.Step.{is_open, Turn, turn_of, turned, makes_fetch, Fetch, Start, state, fetch_at}
 use Rattle.preempt_machine.specs.Safe.{NamesTasks}

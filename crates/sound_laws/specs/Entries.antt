@@ -6,9 +6,11 @@ use Rattle.evict_sets.specs.Full.{FullState, FullUseful}
 use Rattle.evict_sets.specs.Clauses.{StateAfter}
 use Rattle.crpd_base.specs.declared.data.TaskPart.{TaskPart}
 use Rattle.crpd_base.specs.declared.data.Certificate.{Certificate}
-use Rattle.cert_check.specs.Certificate.{listed_of}
+use Rattle.evict_sets.specs.Certificate.{listed_of}
 use Rattle.crpd_base.specs.Sets.{has as has_set}
-use Rattle.cert_check.specs.Judge.{TaskGraph, accesses_of, cert_at, IsYes}
+use Rattle.loop_regions.specs.TaskGraph.{TaskGraph}
+use Rattle.cert_check.specs.Judge.{accesses_of, IsYes}
+use Rattle.evict_sets.specs.Certificate.{cert_at}
 use Rattle.preempt_machine.specs.Step.{is_open, Fetch, Start}
 use Rattle.preempt_machine.specs.Safe.{NamesTasks}
 use Rattle.run_account.specs.Fetches.{job_of}

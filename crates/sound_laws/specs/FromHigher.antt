@@ -3,9 +3,11 @@ use Rattle.std.specs.Prelude.{◌≡◌, ◌⊎◌, ℕ, ◌<◌, true, IsTrue, 
 use Rattle.crpd_base.specs.declared.data.TaskSet.{TaskSet}
 use Rattle.evict_sets.specs.Full.{FullUseful}
 use Rattle.crpd_base.specs.declared.data.Certificate.{Certificate}
-use Rattle.cert_check.specs.Certificate.{listed_of}
+use Rattle.evict_sets.specs.Certificate.{listed_of}
 use Rattle.crpd_base.specs.Sets.{has as has_set}
-use Rattle.cert_check.specs.Judge.{TaskGraph, accesses_of, cert_at, IsYes}
+use Rattle.loop_regions.specs.TaskGraph.{TaskGraph}
+use Rattle.cert_check.specs.Judge.{accesses_of, IsYes}
+use Rattle.evict_sets.specs.Certificate.{cert_at}
 use Rattle.preempt_machine.specs.Step.{before, Start, state}
 use Rattle.preempt_machine.specs.Safe.{IsRunOf, IsKept}
 use Rattle.run_account.specs.Fetches.{job_of, fetched_set}

@@ -2,7 +2,9 @@
 use Rattle.std.specs.Prelude.{◌≡◌, ◌≢◌, ◌⊎◌, ℕ, ◌+◌, ◌<◌, ◌≤◌, false, length, Some}
 use Rattle.crpd_base.specs.declared.data.TaskSet.{TaskSet}
 use Rattle.crpd_base.specs.declared.data.Certificate.{Certificate}
-use Rattle.cert_check.specs.Judge.{TaskGraph, cert_at, IsYes, responses}
+use Rattle.loop_regions.specs.TaskGraph.{TaskGraph}
+use Rattle.evict_sets.specs.Certificate.{cert_at}
+use Rattle.cert_check.specs.Judge.{IsYes, responses}
 use Rattle.preempt_machine.specs.Machine.{System}
 use Rattle.preempt_machine.specs.Step.{is_open, candidate, Start, state}
 use Rattle.preempt_machine.specs.Safe.{IsSafe, IsRunOf, IsKept, IsAnsweredBy}

@@ -13,7 +13,9 @@ use Rattle.flow_watch.specs.Watch.{is_kept, step as watch_step}
 use Rattle.loop_regions.specs.Potentials.{Potentials, rest}
 use Rattle.crpd_base.specs.declared.data.Certificate.{Certificate}
 use Rattle.cert_check.specs.Certificate.{potentials_of}
-use Rattle.cert_check.specs.Judge.{TaskGraph, cert_at, IsYes}
+use Rattle.loop_regions.specs.TaskGraph.{TaskGraph}
+use Rattle.evict_sets.specs.Certificate.{cert_at}
+use Rattle.cert_check.specs.Judge.{IsYes}
 use Rattle.preempt_machine.specs.Machine.{System, Job, ins_at}
 use Rattle.preempt_machine.specs.Step.{is_open, owns, candidate, Turn, turn_of, makes_fetch, Start, state}
 use Rattle.preempt_machine.specs.Safe.{NamesTasks}

@@ -1,0 +1,22 @@
+-- The graph of a task with what stands at its nodes, and its regions.
+use Rattle.std.specs.Prelude.{ℕ, Bool, Some}
+use Rattle.rv_decode.specs.declared.Ins.{Ins}
+use Rattle.rv_decode.specs.Flow.{flow}
+use Rattle.flat_graph.specs.FlatGraph.{answers_by}
+use Rattle.flat_graph.specs.Graph.{Graph, Places}
+use Rattle.flat_graph.specs.EdgeCost.{Listing}
+use Rattle.loop_regions.specs.Nest.{Nest}
+
+-- the graph and the nest of a task, with the place and the instruction of each node
+pub record TaskGraph : Type 0 where
+  pub graph : Graph
+  pub places : Places
+  pub ins : ℕ → Ins
+  pub nest : Nest
+
+abbrev pub listing_of : TaskGraph → Listing
+listing_of t = record { address = t.places.address; ins = t.ins }
+
+-- the answering nodes
+abbrev pub answering : TaskGraph → ℕ → Bool
+answering t y = answers_by (t.places.context y) (Some (Some (flow (t.places.address y) (t.ins y))))
