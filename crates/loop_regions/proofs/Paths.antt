@@ -1,19 +1,16 @@
 -- The law on steps without loops: the watch without its stated loops goes the same way.
-use Rattle.std.proofs.Common.{◌≡◌, ◌≢◌, ℕ, ◌<◌, true, false, List, [], ◌∷◌, ◌++◌, map, Option, Some, None, refl, sym, ◌∙◌, ap, subst, inl, inr, arith}
+use Rattle.std.proofs.Common.{◌≡◌, ℕ, true, false, List, [], ◌∷◌, ◌++◌, Some, None, refl, sym, ◌∙◌, ap, inl, inr, arith}
 use Rattle.std.specs.Prelude.{◌==◌, nat_lt, length}
 use Rattle.std.proofs.lemmas.Bool.{cases_Bool, false≢true}
 use Rattle.crpd_base.specs.declared.data.TaskPlan.{TaskPlan}
 use Rattle.rv_decode.specs.declared.Ins.{Ins}
 use Rattle.rv_decode.specs.Address.{after, end}
-use Rattle.rv_decode.specs.Flow.{Flow, Plain, Branch, Jump, Call, Return, Exit, Break, OtherJalr, OtherJal, flow, Words, IsCodeMap, flows}
-use Rattle.flat_graph.specs.FlatGraph.{FlatNode}
+use Rattle.rv_decode.specs.Flow.{Flow, Plain, Branch, Jump, Call, Return, Exit, Break, OtherJalr, OtherJal, flow, Words}
 use Rattle.flat_graph.specs.Graph.{Graph, Places}
-use Rattle.flat_graph.specs.Numbered.{node_at, FollowsCode}
-use Rattle.flow_watch.specs.Watch.{Frame, Watch, all_turns_after, within_bounds, arrive, new_frame, moved, start, step as watch_step, is_kept, calls, call_of, context}
+use Rattle.flow_watch.specs.Watch.{Frame, Watch, all_turns_after, within_bounds, arrive, new_frame, moved, step as watch_step, is_kept, calls, call_of, context}
 use Rattle.loop_regions.specs.Nest.{Nest}
 use Rattle.loop_regions.specs.Stated.{IsRegions}
-use Rattle.loop_regions.specs.Watched.{HasNoErrors}
-use Rattle.loop_regions.specs.Steps.{Step, place_after, AreSteps, watch_after, node_after, nodes_along, IsWalkOf, IsKeptWalkOf, EndsAnswering, IsGoingOn, IsAnswer, exits, returns, PathLaw, PathEndLaw, ReturnLaw}
+use Rattle.loop_regions.specs.Steps.{Step, place_after, watch_after, node_after, nodes_along, IsWalkOf, IsKeptWalkOf, IsGoingOn, IsAnswer, exits, returns, PathLaw, PathEndLaw, ReturnLaw}
 use Rattle.loop_regions.proofs.Steps.{step_some, step_none, kept_before, kept_walk_of, answering_walk, returned}
 
 -- the plan, the nest and the frames without loops

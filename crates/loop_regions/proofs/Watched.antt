@@ -1,5 +1,5 @@
 -- The watch's counts are those of the walk.
-use Rattle.std.proofs.Common.{◌≡◌, ◌≢◌, ℕ, zero, suc, ◌+◌, ◌-◌, ◌<◌, ◌≤◌, eqb, ltb, leb, List, [], ◌∷◌, ◌++◌, length, map, reverse, Some, None, Contains, IsTrue, IsFalse, slice_get, refl, sym, ap, ◌∙◌, subst, ⊎_elim, arith, eq-eqb, ne_eqb, append_assoc, append-nil, length-append}
+use Rattle.std.proofs.Common.{◌≡◌, ◌≢◌, ℕ, zero, suc, ◌+◌, ◌<◌, ◌≤◌, eqb, ltb, leb, List, [], ◌∷◌, ◌++◌, length, map, reverse, Some, None, Contains, IsTrue, IsFalse, slice_get, refl, sym, ap, ◌∙◌, subst, ⊎_elim, arith, eq-eqb, ne_eqb, append_assoc, append-nil, length-append}
 use Rattle.std.specs.Prelude.{slice_index_or}
 use Rattle.std.proofs.lemmas.Bool.{cases_eq, cases_Bool, and_parts, leb-true, eqb-true, false≢true}
 use Rattle.std.proofs.lemmas.List.{reverse-append, reverse-reverse}

@@ -1,28 +1,27 @@
 -- A job on a walk stands at an instruction of its graph, and goes on along an edge.
 use Rattle.std.proofs.Common.{◌≡◌, ℕ, ◌+◌, ◌<◌, ◌≤◌, List, [], ◌∷◌, Option, Some, None, refl, sym, ◌∙◌, ap, subst, inl, inr}
-use Rattle.std.specs.Prelude.{◌==◌, ◌%◌, nat_lt, length}
-use Rattle.std.proofs.lemmas.Bool.{cases_Bool, eqb-true}
+use Rattle.std.specs.Prelude.{◌==◌, ◌%◌}
+use Rattle.std.proofs.lemmas.Bool.{cases_Bool}
 use Rattle.crpd_base.specs.declared.data.TaskPlan.{TaskPlan}
 use Rattle.rv_decode.specs.declared.Ins.{Ins}
 use Rattle.rv_decode.specs.declared.Ins.TheVariants.{Ebreak}
-use Rattle.rv_decode.specs.Address.{after, end}
+use Rattle.rv_decode.specs.Address.{end}
 use Rattle.rv_decode.specs.Table.{row}
 use Rattle.rv_decode.specs.Flow.{Flow, Plain, Branch, Jump, Call, Return, Exit, Break, OtherJalr, OtherJal, flow, flows, flow_of_word, flow_of_row}
 use Rattle.rv_core.specs.declared.Next.{Next}
-use Rattle.rv_core.specs.declared.Next.TheVariants.{Goto, Answer, Fault}
+use Rattle.rv_core.specs.declared.Next.TheVariants.{Goto, Fault}
 use Rattle.rv_core.specs.Effect.{next_pc}
-use Rattle.flow_watch.specs.Watch.{Frame, all_turns_after, within_bounds, arrive, moved, calls, new_frame, step as watch_step}
+use Rattle.flow_watch.specs.Watch.{Frame, moved, calls, step as watch_step}
 use Rattle.flat_graph.specs.FlatGraph.{NodeError, OutsideCode, Undecodable, Breakpoint, IndirectJump, OtherLink, Misaligned, ins_error}
 use Rattle.flat_graph.specs.Graph.{IsWalk}
 use Rattle.flat_graph.specs.Numbered.{node_at}
-use Rattle.loop_regions.specs.Watched.{CanGo, AreFrames, IsWatchedWalk, GoesTo}
+use Rattle.loop_regions.specs.Watched.{AreFrames, IsWatchedWalk, GoesTo}
 use Rattle.loop_regions.proofs.Watched.{watch_step_law}
 use Rattle.cert_check.specs.Judge.{TaskGraph, IsGraphOf}
 use Rattle.preempt_machine.specs.Machine.{System, Job, ins_at, runnable}
 use Rattle.run_account.specs.Nodes.{node_of, node_number}
 use Rattle.rv_decode.specs.Flow.{IsCodeMap}
 use Rattle.sound_laws.specs.Walks.{before_of, IsOnWalk}
-use Rattle.rv_decode.proofs.Addresses.{after_is}
 use Rattle.loop_regions.proofs.Flows.{GoesBy, flow_goes, can_go}
 use Rattle.loop_regions.proofs.Steps.{bottom_return, step_some}
 use Rattle.sound_laws.proofs.Numbers.{number_is}

@@ -1,5 +1,5 @@
 -- The nodes of a job's fetches, and that they are a kept walk of its task's graph.
-use Rattle.std.specs.Prelude.{◌≡◌, ◌≢◌, ℕ, zero, suc, ◌+◌, ◌<◌, ◌≤◌, true, ◌==◌, if◌then◌else◌, List, [], ◌∷◌, length, drop, Option, Some, None}
+use Rattle.std.specs.Prelude.{◌≡◌, ◌≢◌, ℕ, zero, suc, ◌<◌, ◌≤◌, true, ◌==◌, if◌then◌else◌, List, [], ◌∷◌, length, drop, Option, Some, None}
 use Rattle.crpd_base.specs.declared.data.TaskPlan.{TaskPlan}
 use Rattle.crpd_base.specs.declared.data.TaskSet.{TaskSet}
 use Rattle.rv_decode.specs.Flow.{Words, IsCodeMap, flows}
