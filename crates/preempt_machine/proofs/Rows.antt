@@ -1,5 +1,5 @@
 -- Worked rows, by computation.
-use Rattle.std.proofs.Common.{◌≡◌, ℕ, ◌+◌, Bool, true, false, map, refl, List, [], ◌∷◌, Option, Some, None}
+use Rattle.std.proofs.Common.{◌≡◌, ◌⊎◌, ℕ, zero, suc, ◌+◌, ◌<◌, Bool, inl, inr, lit<, lit≤, arith, true, false, map, refl, List, [], ◌∷◌, Option, Some, None}
 use Rattle.std.specs.Prelude.{◌==◌, nat_lt, if◌then◌else◌}
 use Rattle.crpd_base.specs.declared.data.Platform.{Platform}
 use Rattle.crpd_base.specs.declared.data.Switching.{Switching}
@@ -14,6 +14,7 @@ use Rattle.flow_watch.specs.Watch.{step as watch_step, is_kept}
 use Rattle.preempt_machine.specs.declared.End.TheVariants.{Unreleased, Open, Answered, Faulted}
 use Rattle.preempt_machine.specs.Machine.{System, Machine, Job, ins_at, started}
 use Rattle.preempt_machine.specs.Step.{run, candidate, turned, fetch, is_ready, comes_before}
+use Rattle.preempt_machine.specs.Candidate.{IsReady, ComesBefore, higher, IsCandidate, the_owner, the_first}
 use Rattle.preempt_machine.specs.Safe.{completions}
 
 abbrev platform : Switching → Platform
@@ -125,6 +126,25 @@ thirty_four_at_15 = refl
 thirty_four_cycle : completions (run (six Cycle) (started (six Cycle) empty [] (line 1 0 ∷ line 0 6 ∷ [])) 100) ≡ Answered 49 ∷ Answered 23 ∷ []
 unfolding row table work_cost next_pc written stored watch_step flow ins_at candidate turned is_ready comes_before
 thirty_four_cycle = refl
+
+-- in the middle of an instruction the owner keeps the core where switches wait, and the higher job is first elsewhere
+abbrev after_7 : Switching → Machine
+after_7 switching = run (six switching) (started (six switching) empty [] (line 1 0 ∷ line 0 6 ∷ [])) 7
+
+owner_keeps : IsCandidate (six Instruction) (after_7 Instruction) 0
+unfolding row table work_cost changes_flow next_pc written stored watch_step flow ins_at candidate turned is_ready comes_before
+owner_keeps = the_owner (record { waits = refl; owner = refl; ready = record { job = lit< tt; released = lit≤ tt; open_still = refl }; under_way = lit≤ tt })
+
+higher_first : IsCandidate (six Cycle) (after_7 Cycle) 1
+unfolding row table work_cost changes_flow next_pc written stored watch_step flow ins_at candidate turned is_ready comes_before
+higher_first =
+    the_first (λ y k. let w : Cycle ≡ Instruction = k.waits in cc)
+    (record { ready = record { job = lit< tt; released = lit≤ tt; open_still = refl }; first = first_of_two })
+  where
+    first_of_two : (y : ℕ) → IsReady (after_7 Cycle) y → (y ≡ 1) ⊎ ComesBefore (after_7 Cycle) 1 y
+    first_of_two zero r = inr (higher (lit< tt))
+    first_of_two (suc zero) r = inl refl
+    first_of_two (suc (suc y)) r = absurd (let l : suc (suc y) < 2 = r.job in omega arith)
 
 six_fetch : fetch (six Cycle) (run (six Cycle) (started (six Cycle) empty [] (line 1 0 ∷ line 0 16 ∷ [])) 38) ≡ Some (record { job = 0; address = 0x1004 })
 unfolding row table work_cost next_pc written stored watch_step flow ins_at candidate turned is_ready comes_before
