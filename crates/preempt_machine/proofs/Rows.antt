@@ -132,11 +132,11 @@ abbrev after_7 : Switching → Machine
 after_7 switching = run (six switching) (started (six switching) empty [] (line 1 0 ∷ line 0 6 ∷ [])) 7
 
 owner_keeps : IsCandidate (six Instruction) (after_7 Instruction) 0
-unfolding row table work_cost changes_flow next_pc written stored watch_step flow ins_at candidate turned is_ready comes_before
+unfolding row table work_cost next_pc written stored watch_step flow ins_at candidate turned is_ready comes_before
 owner_keeps = the_owner (record { waits = refl; owner = refl; ready = record { job = lit< tt; released = lit≤ tt; open_still = refl }; under_way = lit≤ tt })
 
 higher_first : IsCandidate (six Cycle) (after_7 Cycle) 1
-unfolding row table work_cost changes_flow next_pc written stored watch_step flow ins_at candidate turned is_ready comes_before
+unfolding row table work_cost next_pc written stored watch_step flow ins_at candidate turned is_ready comes_before
 higher_first =
     the_first (λ y k. let w : Cycle ≡ Instruction = k.waits in cc)
     (record { ready = record { job = lit< tt; released = lit≤ tt; open_still = refl }; first = first_of_two })
