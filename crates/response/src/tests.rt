@@ -1,5 +1,5 @@
 // The windows of small sets, and of sets whose higher tasks leave almost nothing.
-ghost use Rattle.std.specs.Prelude.{IsTrue};
+ghost use Rattle.std.specs.Prelude.{IsTrue, ◌≤◌};
 ghost use Rattle.crpd_base.specs.Tasks.{HasTimes};
 ghost use Rattle.delay_count.specs.Demand.{HasLongest};
 
@@ -10,14 +10,19 @@ use crpd_base::{
 };
 use std::alloc::{AllocError, Global};
 
-// A task's period, deadline, jitter and bound, and its evicting and useful cache sets below 64, as bits.
+// A task's period, deadline, jitter and bound, and its evicting and useful cache sets in each word of 64, as bits.
 type Row = (u64, u64, u64, u64, u64, u64);
 
-fn sets_of(bits: u64) -> SetBits<8> {
+// The bits in this many words.
+fn sets_of(bits: u64, words: u16) -> SetBits<8>
+    requires { words ≤ 8 }
+{
     let mut set = SetBits::new();
-    for s in 0..64u16 {
-        if bits >> s & 1 == 1 {
-            set.insert(s);
+    for word in 0..words {
+        for s in 0..64u16 {
+            if bits >> s & 1 == 1 {
+                set.insert(64 * word + s);
+            }
         }
     }
     set
@@ -93,12 +98,15 @@ fn has_longest(set: &TaskSet, longest: &[u64]) -> bool
     true
 }
 
-// The windows, or None where the rows are out of range.
+// The windows with cache sets in this many words, or None where the rows are out of range.
 fn windows_of(
     alloc: Global,
     switching: Switching,
     rows: &[Row],
-) -> Result<Option<Vec<Choice>>, WindowError> {
+    words: u16,
+) -> Result<Option<Vec<Choice>>, WindowError>
+    requires { words ≤ 8 }
+{
     let Ok(set) = set_of(alloc, switching, rows) else {
         return Err(WindowError::Memory);
     };
@@ -106,8 +114,8 @@ fn windows_of(
     for row in rows {
         let part = Part {
             bound: row.3,
-            evicting: sets_of(row.4),
-            useful: sets_of(row.5),
+            evicting: sets_of(row.4, words),
+            useful: sets_of(row.5, words),
         };
         if parts.push(part).is_err() {
             return Err(WindowError::Memory);
@@ -140,14 +148,14 @@ fn by_ecb(window: u64) -> Choice {
 
 // Whether these are the windows.
 fn agree(alloc: Global, switching: Switching, rows: &[Row], want: &[Choice]) -> bool {
-    match windows_of(alloc, switching, rows) {
+    match windows_of(alloc, switching, rows, 1) {
         Ok(Some(choices)) => choices.as_slice() == want,
         _ => false,
     }
 }
 
 fn is_first_without(alloc: Global, switching: Switching, rows: &[Row], task: Task) -> bool {
-    match windows_of(alloc, switching, rows) {
+    match windows_of(alloc, switching, rows, 1) {
         Err(error) => error == WindowError::Unschedulable(task),
         _ => false,
     }
@@ -269,4 +277,46 @@ fn windows_below_high_loads(rt: HostRuntime) {
         (long, long, 0, 1_000, 0, 0),
     ];
     assert!(rt; is_first_without(rt.alloc(), Switching::Cycle, &none_left, Task(1)));
+}
+
+// Thirty-one tasks with this bound that evict and use all 512 sets, and a task of the longest period below them.
+fn crowd_of(alloc: Global, bound: u64) -> Result<Vec<Row>, AllocError> {
+    let mut rows = Vec::new(alloc);
+    for _ in 0..31 {
+        rows.push((1_000_000, 1_000_000, 0, bound, u64::MAX, u64::MAX))?;
+    }
+    rows.push((LONGEST_TIME, LONGEST_TIME, 0, 1_000, u64::MAX, u64::MAX))?;
+    Ok(rows)
+}
+
+// Whether this is the last of the windows of a crowd.
+fn is_last_below(alloc: Global, bound: u64, want: Choice) -> bool {
+    let Ok(rows) = crowd_of(alloc, bound) else {
+        return false;
+    };
+    match windows_of(alloc, Switching::Cycle, rows.as_slice(), 8) {
+        Ok(Some(choices)) => match choices.as_slice().last() {
+            Some(last) => *last == want,
+            None => false,
+        },
+        _ => false,
+    }
+}
+
+fn has_none_below(alloc: Global, bound: u64) -> bool {
+    let Ok(rows) = crowd_of(alloc, bound) else {
+        return false;
+    };
+    match windows_of(alloc, Switching::Cycle, rows.as_slice(), 8) {
+        Err(error) => error == WindowError::Unschedulable(Task(31)),
+        _ => false,
+    }
+}
+
+// Each job of a crowd takes its bound, two switches and 512 reloads. Where these leave two cycles of each period, the last
+// task has a window after 503 periods; where they leave none, it has none. Both are found without creeping.
+#[test]
+fn windows_below_a_crowd(rt: HostRuntime) {
+    assert!(rt; is_last_below(rt.alloc(), 27_128, by_ucb(502_999_999)));
+    assert!(rt; has_none_below(rt.alloc(), 27_129));
 }
