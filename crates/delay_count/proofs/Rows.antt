@@ -1,4 +1,4 @@
--- Worked rows of the two delays and of the demand, by computation.
+-- The two delays and the demand of small sets, by computation.
 use Rattle.std.proofs.Common.{◌≡◌, ℕ, zero, suc, [], ◌∷◌, None, refl}
 use Rattle.crpd_base.specs.declared.data.Platform.{Platform}
 use Rattle.crpd_base.specs.declared.data.Place.TheVariants.{Number}

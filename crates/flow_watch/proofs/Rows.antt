@@ -1,4 +1,4 @@
--- Worked rows, by computation.
+-- Small flows, by computation.
 use Rattle.std.proofs.Common.{◌≡◌, List, [], ◌∷◌, Some, None, refl}
 use Rattle.std.specs.Prelude.{pos, ℕ}
 use Rattle.crpd_base.specs.declared.data.TaskPlan.{TaskPlan}

@@ -1,4 +1,4 @@
--- Worked rows, by computation: a call, its return and an ECALL.
+-- Small lists of steps, by computation: a call, its return and an ECALL.
 use Rattle.std.proofs.Common.{◌≡◌, ℕ, List, [], ◌∷◌, Option, Some, None, refl}
 use Rattle.std.specs.Prelude.{◌==◌, if◌then◌else◌, pos, replicate}
 use Rattle.crpd_base.specs.declared.data.TaskPlan.{TaskPlan}

@@ -1,4 +1,4 @@
--- Worked rows, by computation.
+-- Runs of small programs, by computation.
 use Rattle.std.proofs.Common.{◌≡◌, ◌⊎◌, ℕ, zero, suc, ◌+◌, ◌<◌, Bool, inl, inr, lit<, lit≤, arith, true, false, map, refl, List, [], ◌∷◌, Option, Some, None}
 use Rattle.std.specs.Prelude.{◌==◌, nat_lt, if◌then◌else◌}
 use Rattle.crpd_base.specs.declared.data.Platform.{Platform}
@@ -39,103 +39,103 @@ line t at = record { task = record { 0 = t }; arrival = at; release = at }
 abbrev empty : List (Option ℕ)
 empty = None ∷ None ∷ None ∷ None ∷ []
 
-abbrev two : System
-two = record { platform = platform Cycle; plans = plan 0x1000 ∷ []; word = words 0x1000 (0x00100293 ∷ 0x00000073 ∷ []) }
+abbrev alone : System
+alone = record { platform = platform Cycle; plans = plan 0x1000 ∷ []; word = words 0x1000 (0x00100293 ∷ 0x00000073 ∷ []) }
 
-two_at_16 : completions (run two (started two empty [] (line 0 0 ∷ [])) 16) ≡ Open ∷ []
+alone_at_16 : completions (run alone (started alone empty [] (line 0 0 ∷ [])) 16) ≡ Open ∷ []
 unfolding row table work_cost next_pc written stored watch_step flow ins_at candidate turned is_ready comes_before
-two_at_16 = refl
+alone_at_16 = refl
 
-two_at_17 : completions (run two (started two empty [] (line 0 0 ∷ [])) 17) ≡ Answered 17 ∷ []
+alone_at_17 : completions (run alone (started alone empty [] (line 0 0 ∷ [])) 17) ≡ Answered 17 ∷ []
 unfolding row table work_cost next_pc written stored watch_step flow ins_at candidate turned is_ready comes_before
-two_at_17 = refl
+alone_at_17 = refl
 
--- row 21: a warm cache; two jobs of which the second comes too early; an unreleased job
-two_warm : completions (run two (started two (Some 256 ∷ None ∷ None ∷ None ∷ []) [] (line 0 0 ∷ [])) 7) ≡ Answered 7 ∷ []
+-- a warm cache; alone jobs of which the second comes too early; an unreleased job
+alone_warm : completions (run alone (started alone (Some 256 ∷ None ∷ None ∷ None ∷ []) [] (line 0 0 ∷ [])) 7) ≡ Answered 7 ∷ []
 unfolding row table work_cost next_pc written stored watch_step flow ins_at candidate turned is_ready comes_before
-two_warm = refl
+alone_warm = refl
 
-two_twice : completions (run two (started two empty [] (line 0 0 ∷ line 0 99 ∷ [])) 200) ≡ Answered 17 ∷ Answered 106 ∷ []
+alone_twice : completions (run alone (started alone empty [] (line 0 0 ∷ line 0 99 ∷ [])) 200) ≡ Answered 17 ∷ Answered 106 ∷ []
 unfolding row table work_cost next_pc written stored watch_step flow ins_at candidate turned is_ready comes_before
-two_twice = refl
+alone_twice = refl
 
-two_unreleased : completions (run two (started two empty [] (line 0 300 ∷ [])) 200) ≡ Unreleased ∷ []
+alone_unreleased : completions (run alone (started alone empty [] (line 0 300 ∷ [])) 200) ≡ Unreleased ∷ []
 unfolding row table work_cost next_pc written stored watch_step flow ins_at candidate turned is_ready comes_before
-two_unreleased = refl
+alone_unreleased = refl
 
--- row 4: a loop. With bound 2 the watch is broken
+-- a loop. With bound 2 the watch is broken
 abbrev loop_plan : ℕ → TaskPlan
 loop_plan bound =
     record { entry = 0x1000; stack = 0; global = 0; loops = record { head = 0x1004; bound = bound; ranges = (0x1004, 0x100C) ∷ [] } ∷ [] }
 
-abbrev four : ℕ → System
-four bound = record { platform = platform Cycle; plans = loop_plan bound ∷ []; word = words 0x1000 (0x00300293 ∷ 0xFFF28293 ∷ 0xFE029EE3 ∷ 0x00000073 ∷ []) }
+abbrev looped : ℕ → System
+looped bound = record { platform = platform Cycle; plans = loop_plan bound ∷ []; word = words 0x1000 (0x00300293 ∷ 0xFFF28293 ∷ 0xFE029EE3 ∷ 0x00000073 ∷ []) }
 
 abbrev kept_of : Machine → List Bool
 kept_of m = map (λ (job : Job). is_kept job.watch) m.jobs
 
-four_open : completions (run (four 3) (started (four 3) empty [] (line 0 0 ∷ [])) 26) ≡ Open ∷ []
+loop_open : completions (run (looped 3) (started (looped 3) empty [] (line 0 0 ∷ [])) 26) ≡ Open ∷ []
 unfolding row table work_cost next_pc written stored watch_step flow ins_at candidate turned is_ready comes_before
-four_open = refl
+loop_open = refl
 
-four_answer : completions (run (four 3) (started (four 3) empty [] (line 0 0 ∷ [])) 27) ≡ Answered 27 ∷ []
+loop_answer : completions (run (looped 3) (started (looped 3) empty [] (line 0 0 ∷ [])) 27) ≡ Answered 27 ∷ []
 unfolding row table work_cost next_pc written stored watch_step flow ins_at candidate turned is_ready comes_before
-four_answer = refl
+loop_answer = refl
 
-four_kept : kept_of (run (four 3) (started (four 3) empty [] (line 0 0 ∷ [])) 100) ≡ true ∷ []
+loop_kept : kept_of (run (looped 3) (started (looped 3) empty [] (line 0 0 ∷ [])) 100) ≡ true ∷ []
 unfolding row table work_cost next_pc written stored watch_step flow ins_at candidate turned is_ready comes_before
-four_kept = refl
+loop_kept = refl
 
-four_broken : kept_of (run (four 2) (started (four 2) empty [] (line 0 0 ∷ [])) 100) ≡ false ∷ []
+loop_broken : kept_of (run (looped 2) (started (looped 2) empty [] (line 0 0 ∷ [])) 100) ≡ false ∷ []
 unfolding row table work_cost next_pc written stored watch_step flow ins_at candidate turned is_ready comes_before
-four_broken = refl
+loop_broken = refl
 
-four_broken_answer : completions (run (four 2) (started (four 2) empty [] (line 0 0 ∷ [])) 100) ≡ Answered 27 ∷ []
+loop_broken_answer : completions (run (looped 2) (started (looped 2) empty [] (line 0 0 ∷ [])) 100) ≡ Answered 27 ∷ []
 unfolding row table work_cost next_pc written stored watch_step flow ins_at candidate turned is_ready comes_before
-four_broken_answer = refl
+loop_broken_answer = refl
 
--- rows 6, 7, 22 and 34: a preemption
-abbrev six : Switching → System
-six switching =
+-- a preemption
+abbrev pair : Switching → System
+pair switching =
     record {
       platform = platform switching;
       plans = plan 0x2000 ∷ plan 0x1000 ∷ [];
       word = λ a. if nat_lt a 0x2000 then words 0x1000 (0x00100293 ∷ 0x00000073 ∷ []) a else words 0x2000 (0x00100293 ∷ 0x00000073 ∷ []) a;
     }
 
-six_row : completions (run (six Cycle) (started (six Cycle) empty [] (line 1 0 ∷ line 0 16 ∷ [])) 100) ≡ Answered 49 ∷ Answered 33 ∷ []
+pair_run : completions (run (pair Cycle) (started (pair Cycle) empty [] (line 1 0 ∷ line 0 16 ∷ [])) 100) ≡ Answered 49 ∷ Answered 33 ∷ []
 unfolding row table work_cost next_pc written stored watch_step flow ins_at candidate turned is_ready comes_before
-six_row = refl
+pair_run = refl
 
-seven_row : completions (run (six Cycle) (started (six Cycle) empty [] (line 1 0 ∷ line 0 15 ∷ [])) 100) ≡ Answered 49 ∷ Answered 32 ∷ []
+pair_inside_an_instruction : completions (run (pair Cycle) (started (pair Cycle) empty [] (line 1 0 ∷ line 0 15 ∷ [])) 100) ≡ Answered 49 ∷ Answered 32 ∷ []
 unfolding row table work_cost next_pc written stored watch_step flow ins_at candidate turned is_ready comes_before
-seven_row = refl
+pair_inside_an_instruction = refl
 
-twenty_two_row : completions (run (six Cycle) (started (six Cycle) empty [] (line 1 0 ∷ line 0 0 ∷ [])) 100) ≡ Answered 34 ∷ Answered 17 ∷ []
+pair_released_together : completions (run (pair Cycle) (started (pair Cycle) empty [] (line 1 0 ∷ line 0 0 ∷ [])) 100) ≡ Answered 34 ∷ Answered 17 ∷ []
 unfolding row table work_cost next_pc written stored watch_step flow ins_at candidate turned is_ready comes_before
-twenty_two_row = refl
+pair_released_together = refl
 
-thirty_four_at_6 : completions (run (six Instruction) (started (six Instruction) empty [] (line 1 0 ∷ line 0 6 ∷ [])) 100) ≡ Answered 49 ∷ Answered 33 ∷ []
+thirty_four_at_6 : completions (run (pair Instruction) (started (pair Instruction) empty [] (line 1 0 ∷ line 0 6 ∷ [])) 100) ≡ Answered 49 ∷ Answered 33 ∷ []
 unfolding row table work_cost next_pc written stored watch_step flow ins_at candidate turned is_ready comes_before
 thirty_four_at_6 = refl
 
-thirty_four_at_15 : completions (run (six Instruction) (started (six Instruction) empty [] (line 1 0 ∷ line 0 15 ∷ [])) 100) ≡ Answered 49 ∷ Answered 33 ∷ []
+thirty_four_at_15 : completions (run (pair Instruction) (started (pair Instruction) empty [] (line 1 0 ∷ line 0 15 ∷ [])) 100) ≡ Answered 49 ∷ Answered 33 ∷ []
 unfolding row table work_cost next_pc written stored watch_step flow ins_at candidate turned is_ready comes_before
 thirty_four_at_15 = refl
 
-thirty_four_cycle : completions (run (six Cycle) (started (six Cycle) empty [] (line 1 0 ∷ line 0 6 ∷ [])) 100) ≡ Answered 49 ∷ Answered 23 ∷ []
+pair_at_every_cycle : completions (run (pair Cycle) (started (pair Cycle) empty [] (line 1 0 ∷ line 0 6 ∷ [])) 100) ≡ Answered 49 ∷ Answered 23 ∷ []
 unfolding row table work_cost next_pc written stored watch_step flow ins_at candidate turned is_ready comes_before
-thirty_four_cycle = refl
+pair_at_every_cycle = refl
 
 -- in the middle of an instruction the owner keeps the core where switches wait, and the higher job is first elsewhere
 abbrev after_7 : Switching → Machine
-after_7 switching = run (six switching) (started (six switching) empty [] (line 1 0 ∷ line 0 6 ∷ [])) 7
+after_7 switching = run (pair switching) (started (pair switching) empty [] (line 1 0 ∷ line 0 6 ∷ [])) 7
 
-owner_keeps : IsCandidate (six Instruction) (after_7 Instruction) 0
+owner_keeps : IsCandidate (pair Instruction) (after_7 Instruction) 0
 unfolding row table work_cost next_pc written stored watch_step flow ins_at candidate turned is_ready comes_before
 owner_keeps = the_owner (record { waits = refl; owner = refl; ready = record { job = lit< tt; released = lit≤ tt; open_still = refl }; under_way = lit≤ tt })
 
-higher_first : IsCandidate (six Cycle) (after_7 Cycle) 1
+higher_first : IsCandidate (pair Cycle) (after_7 Cycle) 1
 unfolding row table work_cost next_pc written stored watch_step flow ins_at candidate turned is_ready comes_before
 higher_first =
     the_first (λ y k. let w : Cycle ≡ Instruction = k.waits in cc)
@@ -146,11 +146,11 @@ higher_first =
     first_of_two (suc zero) r = inl refl
     first_of_two (suc (suc y)) r = absurd (let l : suc (suc y) < 2 = r.job in omega arith)
 
-six_fetch : fetch (six Cycle) (run (six Cycle) (started (six Cycle) empty [] (line 1 0 ∷ line 0 16 ∷ [])) 38) ≡ Some (record { job = 0; address = 0x1004 })
+pair_fetch : fetch (pair Cycle) (run (pair Cycle) (started (pair Cycle) empty [] (line 1 0 ∷ line 0 16 ∷ [])) 38) ≡ Some (record { job = 0; address = 0x1004 })
 unfolding row table work_cost next_pc written stored watch_step flow ins_at candidate turned is_ready comes_before
-six_fetch = refl
+pair_fetch = refl
 
--- row 13: calls. Without the store of x1 the second return goes to 0, where no word is
+-- calls. Without the store of x1 the second return goes to 0, where no word is
 abbrev calls : ℕ → System
 calls second =
     record {
@@ -159,37 +159,37 @@ calls second =
       word = words 0x1000 (0xFF010113 ∷ second ∷ 0x014000EF ∷ 0x010000EF ∷ 0x00C12083 ∷ 0x01010113 ∷ 0x00008067 ∷ 0x00008067 ∷ []);
     }
 
-thirteen_row : completions (run (calls 0x00112623) (started (calls 0x00112623) empty [] (line 0 0 ∷ [])) 100) ≡ Answered 50 ∷ []
+calls_run : completions (run (calls 0x00112623) (started (calls 0x00112623) empty [] (line 0 0 ∷ [])) 100) ≡ Answered 50 ∷ []
 unfolding row table work_cost next_pc written stored watch_step flow ins_at candidate turned is_ready comes_before
-thirteen_row = refl
+calls_run = refl
 
-thirteen_kept : kept_of (run (calls 0x00112623) (started (calls 0x00112623) empty [] (line 0 0 ∷ [])) 100) ≡ true ∷ []
+calls_kept : kept_of (run (calls 0x00112623) (started (calls 0x00112623) empty [] (line 0 0 ∷ [])) 100) ≡ true ∷ []
 unfolding row table work_cost next_pc written stored watch_step flow ins_at candidate turned is_ready comes_before
-thirteen_kept = refl
+calls_kept = refl
 
-thirteen_fault : completions (run (calls 0x00000013) (started (calls 0x00000013) empty [] (line 0 0 ∷ [])) 100) ≡ Faulted ∷ []
+calls_fault : completions (run (calls 0x00000013) (started (calls 0x00000013) empty [] (line 0 0 ∷ [])) 100) ≡ Faulted ∷ []
 unfolding row table work_cost next_pc written stored watch_step flow ins_at candidate turned is_ready comes_before
-thirteen_fault = refl
+calls_fault = refl
 
-thirteen_broken : kept_of (run (calls 0x00000013) (started (calls 0x00000013) empty [] (line 0 0 ∷ [])) 100) ≡ false ∷ []
+calls_broken : kept_of (run (calls 0x00000013) (started (calls 0x00000013) empty [] (line 0 0 ∷ [])) 100) ≡ false ∷ []
 unfolding row table work_cost next_pc written stored watch_step flow ins_at candidate turned is_ready comes_before
-thirteen_broken = refl
+calls_broken = refl
 
--- row 12: three tasks, nested preemptions
-abbrev twelve_word : ℕ → Option ℕ
-twelve_word a =
+-- three tasks, nested preemptions
+abbrev nested_word : ℕ → Option ℕ
+nested_word a =
     find_word a ((0x3010, 0x0100006F) ∷ (0x3020, 0x0100006F) ∷ (0x3030, 0x0100006F) ∷ (0x3040, 0x00000073)
     ∷ (0x2010, 0x0100006F) ∷ (0x2014, 0x0100006F) ∷ (0x2020, 0xFF5FF06F) ∷ (0x2024, 0x00000073)
     ∷ (0x1030, 0x0100006F) ∷ (0x1034, 0x0100006F) ∷ (0x1040, 0xFF5FF06F) ∷ (0x1044, 0x00000073) ∷ [])
 
-abbrev twelve : System
-twelve =
+abbrev nested : System
+nested =
     record {
       platform = record (platform Cycle) { sets = 8 };
       plans = plan 0x3010 ∷ plan 0x2010 ∷ plan 0x1030 ∷ [];
-      word = twelve_word;
+      word = nested_word;
     }
 
-twelve_row : completions (run twelve (started twelve (None ∷ None ∷ None ∷ None ∷ empty) [] (line 2 0 ∷ line 1 31 ∷ line 0 62 ∷ [])) 180) ≡ Answered 175 ∷ Answered 146 ∷ Answered 117 ∷ []
+nested_run : completions (run nested (started nested (None ∷ None ∷ None ∷ None ∷ empty) [] (line 2 0 ∷ line 1 31 ∷ line 0 62 ∷ [])) 180) ≡ Answered 175 ∷ Answered 146 ∷ Answered 117 ∷ []
 unfolding row table work_cost next_pc written stored watch_step flow ins_at candidate turned is_ready comes_before
-twelve_row = refl
+nested_run = refl
