@@ -115,13 +115,13 @@ pair_released_together : completions (run (pair Cycle) (started (pair Cycle) emp
 unfolding row table work_cost next_pc written stored watch_step flow ins_at candidate turned is_ready comes_before
 pair_released_together = refl
 
-thirty_four_at_6 : completions (run (pair Instruction) (started (pair Instruction) empty [] (line 1 0 ∷ line 0 6 ∷ [])) 100) ≡ Answered 49 ∷ Answered 33 ∷ []
+between_instructions_at_6 : completions (run (pair Instruction) (started (pair Instruction) empty [] (line 1 0 ∷ line 0 6 ∷ [])) 100) ≡ Answered 49 ∷ Answered 33 ∷ []
 unfolding row table work_cost next_pc written stored watch_step flow ins_at candidate turned is_ready comes_before
-thirty_four_at_6 = refl
+between_instructions_at_6 = refl
 
-thirty_four_at_15 : completions (run (pair Instruction) (started (pair Instruction) empty [] (line 1 0 ∷ line 0 15 ∷ [])) 100) ≡ Answered 49 ∷ Answered 33 ∷ []
+between_instructions_at_15 : completions (run (pair Instruction) (started (pair Instruction) empty [] (line 1 0 ∷ line 0 15 ∷ [])) 100) ≡ Answered 49 ∷ Answered 33 ∷ []
 unfolding row table work_cost next_pc written stored watch_step flow ins_at candidate turned is_ready comes_before
-thirty_four_at_15 = refl
+between_instructions_at_15 = refl
 
 pair_at_every_cycle : completions (run (pair Cycle) (started (pair Cycle) empty [] (line 1 0 ∷ line 0 6 ∷ [])) 100) ≡ Answered 49 ∷ Answered 23 ∷ []
 unfolding row table work_cost next_pc written stored watch_step flow ins_at candidate turned is_ready comes_before
