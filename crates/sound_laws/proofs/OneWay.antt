@@ -1,15 +1,14 @@
 -- What the judge asks of a graph that goes one way, whose first node alone is listed.
-use Rattle.std.proofs.Common.{◌≡◌, ◌≢◌, ◌⊎◌, ℕ, zero, suc, ◌+◌, ◌<◌, ◌≤◌, Bool, List, [], ◌∷◌, Option, Some, None, Contains, IsTrue, IsFalse, refl, sym, ◌∙◌, ap, subst, inl, inr, arith, length}
-use Rattle.std.specs.Prelude.{◌==◌, slice_index_or, get_or}
-use Rattle.std.proofs.lemmas.Bool.{cases_Bool, cases_eq, eqb-true, eq-eqb, ne_eqb, false≢true, true≢false}
-use Rattle.crpd_base.specs.declared.data.Platform.{Platform}
+use Rattle.std.proofs.Common.{◌≡◌, ◌≢◌, ◌⊎◌, ℕ, zero, suc, ◌+◌, ◌<◌, ◌≤◌, Bool, true, List, [], ◌∷◌, Option, Some, None, Contains, IsTrue, IsFalse, refl, sym, ◌∙◌, ap, subst, inl, inr, arith, length}
+use Rattle.std.specs.Prelude.{◌==◌, ◌&&◌, nat_le}
+use Rattle.std.proofs.lemmas.Bool.{cases_Bool, leb-true, and_parts, cases_eq, eqb-true, eq-eqb, ne_eqb, false≢true, true≢false}
 use Rattle.crpd_base.specs.Sets.{has as has_set}
 use Rattle.rv_decode.specs.declared.Ins.{Ins}
 use Rattle.rv_decode.specs.Flow.{Words, IsCodeMap, flows}
 use Rattle.rv_decode.specs.Address.{end}
 use Rattle.rv_decode.specs.Table.{row}
 use Rattle.icache.specs.Cache.{is_block}
-use Rattle.icache.specs.Accesses.{Accesses, accesses, last_access}
+use Rattle.icache.specs.Accesses.{Accesses, last_access}
 use Rattle.flat_graph.specs.FlatGraph.{FlatNode, IsNode, the_first, a_successor, successors, error_of}
 use Rattle.flat_graph.specs.Graph.{Graph, Edge, IsWalk, IsGraph, Continues}
 use Rattle.loop_regions.specs.Nest.{Item, Node, Loop, IsItem, Leaves, IsBackEdge}
@@ -19,26 +18,23 @@ use Rattle.evict_sets.specs.Full.{Listed, FullState, listed, accessed, passed, F
 use Rattle.evict_sets.specs.Clauses.{ListsLeaders, StatesMeet, UsefulMeets, SetsMeet}
 use Rattle.evict_sets.proofs.FullLaws.{unlisted_state_law, unlisted_useful_law}
 use Rattle.evict_sets.specs.Certificate.{listed_of}
-use Rattle.cert_check.specs.Clauses.{CountsHits, costs, PotentialsMeet, BoundMeets}
-use Rattle.cert_check.specs.Certificate.{potentials_of}
-use Rattle.crpd_base.specs.declared.data.NodeState.{NodeState}
-use Rattle.loop_regions.specs.TaskGraph.{listing_of, answering}
-use Rattle.flat_graph.specs.EdgeCost.{edge_cost, end_cost}
-use Rattle.cert_check.specs.Judge.{IsGraphOf, GraphMeets, Lists}
+use Rattle.cert_check.specs.Clauses.{CountsHits, PotentialsMeet, BoundMeets}
+use Rattle.cert_check.specs.Judge.{IsGraphOf}
 use Rattle.sound_laws.specs.OneWay.{word_in, plan, to_one, one_way, no_regions, graph_of, first_alone}
 use Rattle.sound_laws.proofs.ZeroAlone.{no_member}
 
 -- the table of words is a code map where each of its words ends at or before the end
-abbrev pub AreBelow : List (ℕ × ℕ) → Type 0
-AreBelow [] = Unit {0}
-AreBelow (e ∷ table) = (e.0 + 4 ≤ end) × AreBelow table
+abbrev pub are_below : List (ℕ × ℕ) → Bool
+are_below [] = true
+are_below (e ∷ table) = nat_le (e.0 + 4) end && are_below table
 
-pub code_map : (table : List (ℕ × ℕ)) → AreBelow table → IsCodeMap (word_in table)
+pub code_map : (table : List (ℕ × ℕ)) → IsTrue (are_below table) → IsCodeMap (word_in table)
 code_map [] below a w e = absurd (let x = e in cc)
 code_map (x ∷ table) below a w e =
+    let parts = and_parts (nat_le (x.0 + 4) end) (are_below table) below in
     elim (cases_Bool (a == x.0)) [
-      | inl b ↦ let q = eqb-true a x.0 b in let l = below.0 in omega (arith, q, l)
-      | inr b ↦ code_map table below.1 a w (rw b at e)
+      | inl b ↦ let q = eqb-true a x.0 b in let l = leb-true (x.0 + 4) end parts.0 in omega (arith, q, l)
+      | inr b ↦ code_map table parts.1 a w (rw b at e)
     ]
 
 -- the walk to each node: the nodes before it, the last one first
@@ -313,75 +309,3 @@ potentials g c p pays ends u lt =
 pub bound_meets : (g : Graph) (p : Potentials) (bound : ℕ) → p.node g.first ≤ bound → BoundMeets g no_regions p bound
 bound_meets g p bound l (Node y) item = subst (λ z. p.node z ≤ bound) (sym item.0) l
 bound_meets g p bound l (Loop r) item = let q = item.0 in absurd (omega (arith, q))
-
--- what a node's successor has, if there is one
-abbrev pub OfNext : (ℕ → Type 0) → Option ℕ → Type 0
-OfNext P None = Unit {0}
-OfNext P (Some v) = P v
-
-of_next : (P : ℕ → Type 0) (to : Option ℕ) (v : ℕ) → OfNext P to → Contains (to_one to) v → P v
-of_next P None v h (k, l, e) = absurd (omega (arith, l))
-of_next P (Some x) v h (zero, l, e) = subst P e h
-of_next P (Some x) v h (suc k, l, e) = absurd (omega (arith, l))
-
--- these nodes, the last one first, lead from node 0 to node y
-abbrev pub LeadTo : ℕ → (ℕ → Option ℕ) → ℕ → List ℕ → Type 0
-LeadTo size next y [] = y ≡ 0
-LeadTo size next y (u ∷ before) = (u < size) × (next u ≡ Some y) × LeadTo size next u before
-
-way_of : (size : ℕ) (next : ℕ → Option ℕ) (y : ℕ) (before : List ℕ) → LeadTo size next y before → IsWalk (one_way size next) (y ∷ before)
-way_of size next y [] w = w
-way_of size next y (u ∷ before) w =
-    ((w.0, subst (λ to. Contains (to_one to) y) (sym w.1) (0, omega arith, refl)), way_of size next u before w.2)
-
-pub line : (size : ℕ) (next : ℕ → Option ℕ) (before : ℕ → List ℕ) → 0 < size → before 0 ≡ [] → ((y : ℕ) → y < size → LeadTo size next y (before y)) → ((u : ℕ) → u < size → OfNext (λ v. (v < size) × (before v ≡ u ∷ before u)) (next u)) → IsLine (one_way size next) before
-line size next before some start walks steps =
-    record {
-      some = some;
-      start = start;
-      walks = λ y l. way_of size next y (before y) (walks y l);
-      step = λ u v e. of_next (λ z. (z < size) × (before z ≡ u ∷ before u)) (next u) v (steps u e.0) e.1;
-      one_next = λ u v w a b. same_next size next u v w a b;
-    }
-
--- what is left to be computed of a task whose graph goes one way
-pub record IsWayOf (p : Platform) (size : ℕ) (next : ℕ → Option ℕ) (address : ℕ → ℕ) (ins : ℕ → Ins) (before : ℕ → List ℕ) (bound : ℕ) (evicting useful_sets potentials : List ℕ) : Type 0 where
-  pub evicts : (y : ℕ) → y < size → IsTrue (has_set evicting ((accesses p address).set y))
-  pub reuses : (y : ℕ) → y < size → IsTrue (hit_at before (accesses p address) y) → IsTrue (has_set useful_sets ((accesses p address).set y))
-  pub pays : (u : ℕ) → u < size → OfNext (λ v. edge_cost p (listing_of (graph_of (one_way size next) address ins)) (hit_at before (accesses p address)) u v + slice_index_or potentials v 0 ≤ slice_index_or potentials u 0) (next u)
-  pub ends : (u : ℕ) → u < size → IsTrue (answering (graph_of (one_way size next) address ins) u) → end_cost p (listing_of (graph_of (one_way size next) address ins)) (hit_at before (accesses p address)) u ≤ slice_index_or potentials u 0
-  pub first : slice_index_or potentials 0 0 ≤ bound
-
--- clauses 3 to 7
-pub graph_meets : (p : Platform) (size : ℕ) (next : ℕ → Option ℕ) (address : ℕ → ℕ) (ins : ℕ → Ins) (before : ℕ → List ℕ) (bound : ℕ) (evicting useful_sets listed_potentials : List ℕ) (window : ℕ) → IsLine (one_way size next) before → IsWayOf p size next address ins before bound evicting useful_sets listed_potentials → GraphMeets p (graph_of (one_way size next) address ins) (first_alone bound evicting useful_sets listed_potentials window)
-graph_meets p size next address ins before bound evicting useful_sets listed_potentials window on w =
-    let g = one_way size next in
-    let a = accesses p address in
-    let c = first_alone bound evicting useful_sets listed_potentials window in
-    let l = listed_of c in
-    let f = lists_first size next bound evicting useful_sets listed_potentials window in
-    let t = graph_of g address ins in
-    record {
-      states = states g before a l on f;
-      useful = useful g before a l on f;
-      sets = sets g before a l evicting useful_sets on f (λ y k. (w.evicts y k, w.reuses y k));
-      is_hit = hit_at before a;
-      hits = hits g before a l on f;
-      potentials = potentials g (costs p (listing_of t) (answering t) (hit_at before a)) (potentials_of c)
-          (λ u v e. of_next (λ z. edge_cost p (listing_of t) (hit_at before a) u z + slice_index_or listed_potentials z 0 ≤ slice_index_or listed_potentials u 0) (next u) v (w.pays u e.0) e.1) w.ends;
-      bound = bound_meets g (potentials_of c) bound w.first;
-    }
-
--- clause 2
-pub lists : (size : ℕ) (next : ℕ → Option ℕ) (address : ℕ → ℕ) (ins : ℕ → Ins) (before : ℕ → List ℕ) (bound : ℕ) (evicting useful_sets listed_potentials : List ℕ) (window : ℕ) → IsLine (one_way size next) before → length listed_potentials ≡ size → Lists (graph_of (one_way size next) address ins) (first_alone bound evicting useful_sets listed_potentials window)
-lists size next address ins before bound evicting useful_sets listed_potentials window on count =
-    record {
-      numbers = numbers_below;
-      leaders = leaders (one_way size next) before (listed_of (first_alone bound evicting useful_sets listed_potentials window)) on (lists_first size next bound evicting useful_sets listed_potentials window);
-      nodes = count;
-      loops = refl;
-    }
-  where
-    numbers_below : (k : ℕ) (d : NodeState) → k < 1 → (get_or (first_alone bound evicting useful_sets listed_potentials window).states k d).node < size
-    numbers_below zero d l = on.some
-    numbers_below (suc k) d l = absurd (omega (arith, l))

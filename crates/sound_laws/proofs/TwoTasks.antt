@@ -1,23 +1,16 @@
 -- The premises of the laws hold of two tasks of which one preempts the other.
-use Rattle.std.proofs.Common.{◌≡◌, ℕ, zero, suc, ◌+◌, ◌<◌, ◌≤◌, true, pos, List, [], ◌∷◌, Option, Some, None, IsTrue, refl, sym, subst, arith}
+use Rattle.std.proofs.Common.{◌≡◌, ℕ, zero, suc, ◌+◌, ◌<◌, ◌≤◌, true, pos, [], ◌∷◌, Some, None, refl, sym, subst, arith}
 use Rattle.std.specs.Prelude.{slice_index_or}
-use Rattle.std.proofs.lemmas.Bool.{false≢true}
 use Rattle.crpd_base.specs.declared.data.Method.TheVariants.{Ucb}
-use Rattle.crpd_base.specs.Sets.{has as has_set}
 use Rattle.crpd_base.specs.Tasks.{deadline_of}
 use Rattle.script_reader.specs.Legal.{period_of, AreSpaced, IsReleasedInTime}
 use Rattle.crpd_base.specs.declared.data.ScriptJob.{ScriptJob}
-use Rattle.rv_decode.specs.declared.Ins.{Ins}
 use Rattle.rv_decode.specs.declared.Ins.TheVariants.{Addi, Ecall}
-use Rattle.icache.specs.Accesses.{accesses}
-use Rattle.flat_graph.specs.FlatGraph.{successors, error_of}
-use Rattle.rv_decode.specs.Flow.{flow, flows}
+use Rattle.rv_decode.specs.Flow.{flow}
 use Rattle.rv_decode.specs.Table.{row, table}
 use Rattle.rv_decode.specs.Cost.{work_cost}
 use Rattle.rv_core.specs.Effect.{next_pc, written, stored}
 use Rattle.flow_watch.specs.Watch.{step as watch_step, is_kept}
-use Rattle.flat_graph.specs.EdgeCost.{edge_cost, end_cost}
-use Rattle.loop_regions.specs.TaskGraph.{listing_of, answering}
 use Rattle.cert_check.specs.Judge.{IsGraphOf, IsYes, TaskMeets, part_of, longest_at, window_at}
 use Rattle.delay_count.specs.Demand.{demand}
 use Rattle.delay_count.specs.Gamma.{union_count}
@@ -27,9 +20,10 @@ use Rattle.preempt_machine.specs.Step.{state, candidate, turned, is_ready, comes
 use Rattle.preempt_machine.specs.Safe.{IsLegalRun, IsKept, completions}
 use Rattle.sound_laws.specs.Walks.{IsInRange, IsCodeOf}
 use Rattle.sound_laws.specs.RowTwo.{platform, zero_alone}
-use Rattle.sound_laws.specs.OneWay.{word_in, one_way}
-use Rattle.sound_laws.specs.TwoTasks.{words, system, set, two_words, graphs, certificate, start, TwoTasks}
-use Rattle.sound_laws.proofs.OneWay as way
+use Rattle.sound_laws.specs.OneWay.{word_in}
+use Rattle.sound_laws.specs.TwoTasks.{words, system, set, graphs, certificate, start, TwoTasks}
+use Rattle.sound_laws.proofs.OneWay.{code_map}
+use Rattle.sound_laws.proofs.WayTests.{Way, IsWay, IsAt, IsCode, is_graph_of, IsCertified, graph_meets, lists}
 use Rattle.sound_laws.proofs.Checked.{yes_is_safe}
 
 demand_low : demand set (part_of certificate) (longest_at platform graphs) (window_at certificate) 1 Ucb 49 ≡ 49
@@ -40,68 +34,48 @@ answers : completions (state start 100) ≡ Answered 49 ∷ Answered 33 ∷ []
 unfolding row table work_cost next_pc written stored watch_step flow ins_at candidate turned is_ready comes_before
 answers = refl
 
--- both graphs go from node 0 to node 1
-abbrev next : ℕ → Option ℕ
-next y = slice_index_or (Some 1 ∷ None ∷ []) y None
-
-abbrev before : ℕ → List ℕ
-before zero = []
-before (suc k) = 0 ∷ []
+-- both go from node 0 to node 1
+abbrev way : ℕ → Way
+way entry =
+    record {
+      addresses = entry ∷ (entry + 4) ∷ [];
+      instructions = Addi 5 0 (pos 1) ∷ Ecall ∷ [];
+      successors = Some 1 ∷ None ∷ [];
+      walks = [] ∷ (0 ∷ []) ∷ [];
+    }
 
 both : (P : ℕ → Type 0) → P 0 → P 1 → (y : ℕ) → y < 2 → P y
 both P a b zero l = a
 both P a b (suc zero) l = b
 both P a b (suc (suc k)) l = absurd (omega (arith, l))
 
-on_line : way.IsLine (one_way 2 next) before
-on_line =
-    way.line 2 next before (omega arith) refl
-    (λ y l. both (λ z. way.LeadTo 2 next z (before z)) refl (omega arith, refl, refl) y l)
-    (λ u l. both (λ z. way.OfNext (λ v. (v < 2) × (before v ≡ z ∷ before z)) (next z)) (omega arith, refl) tt u l)
+is_way : (entry : ℕ) → IsWay (way entry)
+is_way entry = record { some = omega arith; start = refl; walks = refl; steps = refl }
 
-abbrev address : ℕ → ℕ → ℕ
-address entry y = slice_index_or (entry ∷ (entry + 4) ∷ []) y 0
-
-abbrev ins : ℕ → Ins
-ins y = slice_index_or (Addi 5 0 (pos 1) ∷ Ecall ∷ []) y Ecall
-
-one_number : (entry : ℕ) (u v : ℕ) → u < 2 → v < 2 → address entry u ≡ address entry v → u ≡ v
-one_number entry u v a b =
-    both (λ x. address entry x ≡ address entry v → x ≡ v)
-    (both (λ y. entry ≡ address entry y → 0 ≡ y) (λ e. refl) (λ e. absurd (omega (arith, e))) v b)
-    (both (λ y. entry + 4 ≡ address entry y → 1 ≡ y) (λ e. absurd (omega (arith, e))) (λ e. refl) v b) u a
-
-some_same : (a b : ℕ) → Some a ≡ Some b → a ≡ b
-some_same a b e = cc
-
-code_high : way.HasCode (word_in words) 0x2000 2 next (address 0x2000) ins
+code_high : IsCode (word_in words) 0x2000 (way 0x2000)
 unfolding flow row table
 code_high =
     record {
       entry_at = refl;
-      goes = both (λ u. successors (flows (word_in words)) 0x2000 (way.node (address 0x2000 u)) ≡ way.nodes_to (address 0x2000) (next u)) refl refl;
-      no_error = both (λ u. error_of (flows (word_in words)) 0x2000 (way.node (address 0x2000 u)) ≡ None) refl refl;
-      one_number = one_number 0x2000;
-      instructions = λ u w l. both (λ x. word_in words (address 0x2000 x) ≡ Some w → row w ≡ Some (ins x)) (λ e. subst (λ z. row z ≡ Some (ins 0)) (some_same 0x00100293 w e) refl) (λ e. subst (λ z. row z ≡ Some (ins 1)) (some_same 0x00000073 w e) refl) u l;
+      at = both (IsAt (word_in words) 0x2000 (way 0x2000)) (record { goes = refl; no_error = refl; decodes = refl }) (record { goes = refl; no_error = refl; decodes = refl });
+      one_number = refl;
     }
 
-code_low : way.HasCode (word_in words) 0x1000 2 next (address 0x1000) ins
+code_low : IsCode (word_in words) 0x1000 (way 0x1000)
 unfolding flow row table
 code_low =
     record {
       entry_at = refl;
-      goes = both (λ u. successors (flows (word_in words)) 0x1000 (way.node (address 0x1000 u)) ≡ way.nodes_to (address 0x1000) (next u)) refl refl;
-      no_error = both (λ u. error_of (flows (word_in words)) 0x1000 (way.node (address 0x1000 u)) ≡ None) refl refl;
-      one_number = one_number 0x1000;
-      instructions = λ u w l. both (λ x. word_in words (address 0x1000 x) ≡ Some w → row w ≡ Some (ins x)) (λ e. subst (λ z. row z ≡ Some (ins 0)) (some_same 0x00100293 w e) refl) (λ e. subst (λ z. row z ≡ Some (ins 1)) (some_same 0x00000073 w e) refl) u l;
+      at = both (IsAt (word_in words) 0x1000 (way 0x1000)) (record { goes = refl; no_error = refl; decodes = refl }) (record { goes = refl; no_error = refl; decodes = refl });
+      one_number = refl;
     }
 
 is_code : IsCodeOf system set graphs
 is_code =
     record {
       platform = refl;
-      map = way.code_map words (omega arith, (omega arith, (omega arith, (omega arith, tt))));
-      graphs_of = both (λ k. IsGraphOf (word_in words) (plan_of system k) (graphs k)) (way.is_graph_of (word_in words) 0x2000 2 next (address 0x2000) ins before code_high on_line) (way.is_graph_of (word_in words) 0x1000 2 next (address 0x1000) ins before code_low on_line);
+      map = code_map words refl;
+      graphs_of = both (λ k. IsGraphOf (word_in words) (plan_of system k) (graphs k)) (is_graph_of (word_in words) 0x2000 (way 0x2000) (is_way 0x2000) code_high) (is_graph_of (word_in words) 0x1000 (way 0x1000) (is_way 0x1000) code_low);
     }
 
 in_range : IsInRange set
@@ -115,27 +89,13 @@ in_range =
     }
 
 -- both nodes are in cache set 0; the second one is a hit
-way_high : way.IsWayOf platform 2 next (address 0x2000) ins before 12 zero_alone zero_alone (12 ∷ 1 ∷ [])
+high_certified : IsCertified platform (way 0x2000) 12 zero_alone zero_alone (12 ∷ 1 ∷ [])
 unfolding work_cost flow
-way_high =
-    record {
-      evicts = both (λ y. IsTrue (has_set zero_alone ((accesses platform (address 0x2000)).set y))) refl refl;
-      reuses = both (λ y. IsTrue (way.hit_at before (accesses platform (address 0x2000)) y) → IsTrue (has_set zero_alone ((accesses platform (address 0x2000)).set y))) (λ h. refl) (λ h. refl);
-      pays = λ u l. both (λ z. way.OfNext (λ v. edge_cost platform (listing_of (two_words 0x2000)) (way.hit_at before (accesses platform (address 0x2000))) z v + slice_index_or (12 ∷ 1 ∷ []) v 0 ≤ slice_index_or (12 ∷ 1 ∷ []) z 0) (next z)) (omega arith) tt u l;
-      ends = both (λ z. IsTrue (answering (two_words 0x2000) z) → end_cost platform (listing_of (two_words 0x2000)) (way.hit_at before (accesses platform (address 0x2000))) z ≤ slice_index_or (12 ∷ 1 ∷ []) z 0) (λ h. absurd (false≢true h)) (λ h. omega arith);
-      first = omega arith;
-    }
+high_certified = record { evicts = refl; reuses = refl; pays = refl; ends = refl; first = omega arith; count = refl }
 
-way_low : way.IsWayOf platform 2 next (address 0x1000) ins before 12 zero_alone zero_alone (12 ∷ 1 ∷ [])
+low_certified : IsCertified platform (way 0x1000) 12 zero_alone zero_alone (12 ∷ 1 ∷ [])
 unfolding work_cost flow
-way_low =
-    record {
-      evicts = both (λ y. IsTrue (has_set zero_alone ((accesses platform (address 0x1000)).set y))) refl refl;
-      reuses = both (λ y. IsTrue (way.hit_at before (accesses platform (address 0x1000)) y) → IsTrue (has_set zero_alone ((accesses platform (address 0x1000)).set y))) (λ h. refl) (λ h. refl);
-      pays = λ u l. both (λ z. way.OfNext (λ v. edge_cost platform (listing_of (two_words 0x1000)) (way.hit_at before (accesses platform (address 0x1000))) z v + slice_index_or (12 ∷ 1 ∷ []) v 0 ≤ slice_index_or (12 ∷ 1 ∷ []) z 0) (next z)) (omega arith) tt u l;
-      ends = both (λ z. IsTrue (answering (two_words 0x1000) z) → end_cost platform (listing_of (two_words 0x1000)) (way.hit_at before (accesses platform (address 0x1000))) z ≤ slice_index_or (12 ∷ 1 ∷ []) z 0) (λ h. absurd (false≢true h)) (λ h. omega arith);
-      first = omega arith;
-    }
+low_certified = record { evicts = refl; reuses = refl; pays = refl; ends = refl; first = omega arith; count = refl }
 
 is_yes : IsYes set graphs certificate
 is_yes =
@@ -145,8 +105,8 @@ is_yes =
       has_task = omega arith;
       name = refl;
       last = λ e. refl;
-      lists = way.lists 2 next (address 0x2000) ins before 12 zero_alone zero_alone (12 ∷ 1 ∷ []) 17 on_line refl;
-      graph = way.graph_meets platform 2 next (address 0x2000) ins before 12 zero_alone zero_alone (12 ∷ 1 ∷ []) 17 on_line way_high;
+      lists = lists platform (way 0x2000) 12 zero_alone zero_alone (12 ∷ 1 ∷ []) 17 (is_way 0x2000) high_certified;
+      graph = graph_meets platform (way 0x2000) 12 zero_alone zero_alone (12 ∷ 1 ∷ []) 17 (is_way 0x2000) high_certified;
       some_window = omega arith;
       room = omega arith;
       response = refl;
@@ -157,8 +117,8 @@ is_yes =
       has_task = omega arith;
       name = refl;
       last = λ e. refl;
-      lists = way.lists 2 next (address 0x1000) ins before 12 zero_alone zero_alone (12 ∷ 1 ∷ []) 49 on_line refl;
-      graph = way.graph_meets platform 2 next (address 0x1000) ins before 12 zero_alone zero_alone (12 ∷ 1 ∷ []) 49 on_line way_low;
+      lists = lists platform (way 0x1000) 12 zero_alone zero_alone (12 ∷ 1 ∷ []) 49 (is_way 0x1000) low_certified;
+      graph = graph_meets platform (way 0x1000) 12 zero_alone zero_alone (12 ∷ 1 ∷ []) 49 (is_way 0x1000) low_certified;
       some_window = omega arith;
       room = subst (λ x. x ≤ 49) (sym demand_low) (omega arith);
       response = refl;
