@@ -1,6 +1,7 @@
 -- The premises of the laws hold of three tasks of which each higher one preempts the next.
-use Rattle.std.proofs.Common.{◌≡◌, ℕ, zero, suc, ◌+◌, ◌<◌, ◌≤◌, true, pos, negsuc, [], ◌∷◌, Some, None, refl, sym, subst, arith}
-use Rattle.std.specs.Prelude.{slice_index_or}
+use Rattle.std.proofs.Common.{◌≡◌, ℕ, zero, suc, ◌+◌, ◌<◌, ◌≤◌, true, pos, negsuc, List, [], ◌∷◌, Some, None, refl, sym, subst, inl, inr, arith}
+use Rattle.std.specs.Prelude.{slice_index, slice_index_or}
+use Rattle.std.proofs.lemmas.Bool.{cases_lt}
 use Rattle.crpd_base.specs.declared.data.Method.TheVariants.{Ucb}
 use Rattle.crpd_base.specs.Tasks.{deadline_of}
 use Rattle.script_reader.specs.Legal.{period_of, AreSpaced, IsReleasedInTime}
@@ -15,10 +16,11 @@ use Rattle.cert_check.specs.Judge.{IsGraphOf, IsYes, TaskMeets, part_of, longest
 use Rattle.delay_count.specs.Demand.{demand}
 use Rattle.delay_count.specs.Gamma.{union_count}
 use Rattle.preempt_machine.specs.declared.End.TheVariants.{Answered}
-use Rattle.preempt_machine.specs.Machine.{plan_of, ins_at}
+use Rattle.preempt_machine.specs.Machine.{plan_of, ins_at, no_job}
 use Rattle.preempt_machine.specs.Step.{state, candidate, turned, is_ready, comes_before}
-use Rattle.preempt_machine.specs.Safe.{IsLegalRun, IsKept, completions}
+use Rattle.preempt_machine.specs.Safe.{IsSafe, IsLegalRun, IsKept, completions}
 use Rattle.sound_laws.specs.Walks.{IsInRange, IsCodeOf}
+use Rattle.sound_laws.specs.Least.{AreLeast}
 use Rattle.sound_laws.specs.OneWay.{word_in}
 use Rattle.sound_laws.specs.ThreeTasks.{platform, words, system, set, graphs, one_to_four, one_and_two, three_and_four, nothing, certificate, start, ThreeTasks}
 use Rattle.sound_laws.proofs.OneWay.{code_map}
@@ -201,6 +203,46 @@ kept : IsKept (state start 180)
 unfolding row table work_cost next_pc written stored watch_step flow ins_at candidate turned is_ready comes_before
 kept i d l = three (λ k. is_kept (slice_index_or (state start 180).jobs k d).watch ≡ true) refl refl refl i l
 
+-- one step before they answer, the jobs are open in a kept state
+kept_at_116 : IsKept (state start 116)
+unfolding row table work_cost next_pc written stored watch_step flow ins_at candidate turned is_ready comes_before
+kept_at_116 i d l = three (λ k. is_kept (slice_index_or (state start 116).jobs k d).watch ≡ true) refl refl refl i l
+
+kept_at_145 : IsKept (state start 145)
+unfolding row table work_cost next_pc written stored watch_step flow ins_at candidate turned is_ready comes_before
+kept_at_145 i d l = three (λ k. is_kept (slice_index_or (state start 145).jobs k d).watch ≡ true) refl refl refl i l
+
+kept_at_174 : IsKept (state start 174)
+unfolding row table work_cost next_pc written stored watch_step flow ins_at candidate turned is_ready comes_before
+kept_at_174 i d l = three (λ k. is_kept (slice_index_or (state start 174).jobs k d).watch ≡ true) refl refl refl i l
+
+high_least : (others : List ℕ) → IsSafe system set others → 55 ≤ slice_index others 0
+unfolding row table work_cost next_pc written stored watch_step flow ins_at candidate turned is_ready comes_before
+high_least others safe =
+    elim (cases_lt (slice_index others 0) 55) [
+      | inl l ↦ absurd (safe start 116 refl is_legal kept_at_116 2 no_job (omega arith) (omega (arith, l), λ q. q))
+      | inr g ↦ g
+    ]
+
+middle_least : (others : List ℕ) → IsSafe system set others → 115 ≤ slice_index others 1
+unfolding row table work_cost next_pc written stored watch_step flow ins_at candidate turned is_ready comes_before
+middle_least others safe =
+    elim (cases_lt (slice_index others 1) 115) [
+      | inl l ↦ absurd (safe start 145 refl is_legal kept_at_145 1 no_job (omega arith) (omega (arith, l), λ q. q))
+      | inr g ↦ g
+    ]
+
+low_least : (others : List ℕ) → IsSafe system set others → 175 ≤ slice_index others 2
+unfolding row table work_cost next_pc written stored watch_step flow ins_at candidate turned is_ready comes_before
+low_least others safe =
+    elim (cases_lt (slice_index others 2) 175) [
+      | inl l ↦ absurd (safe start 174 refl is_legal kept_at_174 0 no_job (omega arith) (omega (arith, l), λ q. q))
+      | inr g ↦ g
+    ]
+
+least : AreLeast system set (55 ∷ 115 ∷ 175 ∷ [])
+least others safe = three (λ k. slice_index (55 ∷ 115 ∷ 175 ∷ []) k ≤ slice_index others k) (high_least others safe) (middle_least others safe) (low_least others safe)
+
 pub three_tasks : ThreeTasks
 three_tasks =
     record {
@@ -208,6 +250,7 @@ three_tasks =
       code = is_code;
       says = is_yes;
       safe = yes_is_safe system set graphs certificate in_range is_code is_yes;
+      least = least;
       legal = is_legal;
       kept = kept;
       answers = answers;

@@ -1,6 +1,7 @@
 -- The premises of the laws hold of two tasks of which one preempts the other.
-use Rattle.std.proofs.Common.{◌≡◌, ℕ, zero, suc, ◌+◌, ◌<◌, ◌≤◌, true, pos, [], ◌∷◌, Some, None, refl, sym, subst, arith}
-use Rattle.std.specs.Prelude.{slice_index_or}
+use Rattle.std.proofs.Common.{◌≡◌, ℕ, zero, suc, ◌+◌, ◌<◌, ◌≤◌, true, pos, List, [], ◌∷◌, Some, None, refl, sym, subst, inl, inr, arith}
+use Rattle.std.specs.Prelude.{slice_index, slice_index_or}
+use Rattle.std.proofs.lemmas.Bool.{cases_lt}
 use Rattle.crpd_base.specs.declared.data.Method.TheVariants.{Ucb}
 use Rattle.crpd_base.specs.Tasks.{deadline_of}
 use Rattle.script_reader.specs.Legal.{period_of, AreSpaced, IsReleasedInTime}
@@ -15,11 +16,12 @@ use Rattle.cert_check.specs.Judge.{IsGraphOf, IsYes, TaskMeets, part_of, longest
 use Rattle.delay_count.specs.Demand.{demand}
 use Rattle.delay_count.specs.Gamma.{union_count}
 use Rattle.preempt_machine.specs.declared.End.TheVariants.{Answered}
-use Rattle.preempt_machine.specs.Machine.{plan_of, ins_at}
+use Rattle.preempt_machine.specs.Machine.{plan_of, ins_at, no_job}
 use Rattle.preempt_machine.specs.Step.{state, candidate, turned, is_ready, comes_before}
-use Rattle.preempt_machine.specs.Safe.{IsLegalRun, IsKept, completions}
+use Rattle.preempt_machine.specs.Safe.{IsSafe, IsLegalRun, IsKept, completions}
 use Rattle.sound_laws.specs.Walks.{IsInRange, IsCodeOf}
 use Rattle.sound_laws.specs.RowTwo.{platform, zero_alone}
+use Rattle.sound_laws.specs.Least.{AreLeast}
 use Rattle.sound_laws.specs.OneWay.{word_in}
 use Rattle.sound_laws.specs.TwoTasks.{words, system, set, graphs, certificate, start, TwoTasks}
 use Rattle.sound_laws.proofs.OneWay.{code_map}
@@ -147,6 +149,34 @@ kept : IsKept (state start 100)
 unfolding row table work_cost next_pc written stored watch_step flow ins_at candidate turned is_ready comes_before
 kept i d l = both (λ k. is_kept (slice_index_or (state start 100).jobs k d).watch ≡ true) refl refl i l
 
+-- one step before they answer, the jobs are open in a kept state
+kept_at_32 : IsKept (state start 32)
+unfolding row table work_cost next_pc written stored watch_step flow ins_at candidate turned is_ready comes_before
+kept_at_32 i d l = both (λ k. is_kept (slice_index_or (state start 32).jobs k d).watch ≡ true) refl refl i l
+
+kept_at_48 : IsKept (state start 48)
+unfolding row table work_cost next_pc written stored watch_step flow ins_at candidate turned is_ready comes_before
+kept_at_48 i d l = both (λ k. is_kept (slice_index_or (state start 48).jobs k d).watch ≡ true) refl refl i l
+
+high_least : (others : List ℕ) → IsSafe system set others → 17 ≤ slice_index others 0
+unfolding row table work_cost next_pc written stored watch_step flow ins_at candidate turned is_ready comes_before
+high_least others safe =
+    elim (cases_lt (slice_index others 0) 17) [
+      | inl l ↦ absurd (safe start 32 refl is_legal kept_at_32 1 no_job (omega arith) (omega (arith, l), λ q. q))
+      | inr g ↦ g
+    ]
+
+low_least : (others : List ℕ) → IsSafe system set others → 49 ≤ slice_index others 1
+unfolding row table work_cost next_pc written stored watch_step flow ins_at candidate turned is_ready comes_before
+low_least others safe =
+    elim (cases_lt (slice_index others 1) 49) [
+      | inl l ↦ absurd (safe start 48 refl is_legal kept_at_48 0 no_job (omega arith) (omega (arith, l), λ q. q))
+      | inr g ↦ g
+    ]
+
+least : AreLeast system set (17 ∷ 49 ∷ [])
+least others safe = both (λ k. slice_index (17 ∷ 49 ∷ []) k ≤ slice_index others k) (high_least others safe) (low_least others safe)
+
 pub two_tasks : TwoTasks
 two_tasks =
     record {
@@ -154,6 +184,7 @@ two_tasks =
       code = is_code;
       says = is_yes;
       safe = yes_is_safe system set graphs certificate in_range is_code is_yes;
+      least = least;
       legal = is_legal;
       kept = kept;
       answers = answers;

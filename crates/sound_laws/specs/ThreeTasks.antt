@@ -13,6 +13,7 @@ use Rattle.preempt_machine.specs.Step.{Start, state}
 use Rattle.preempt_machine.specs.Safe.{IsSafe, IsLegalRun, IsKept, completions}
 use Rattle.sound_laws.specs.Walks.{IsInRange, IsCodeOf}
 use Rattle.sound_laws.specs.RowTwo as two_words
+use Rattle.sound_laws.specs.Least.{AreLeast}
 use Rattle.sound_laws.specs.OneWay.{word_in, plan, task, job, listed_graph, first_alone}
 
 -- the platform with eight cache sets
@@ -74,12 +75,14 @@ abbrev pub start : Start
 start =
     record { system = system; cache = replicate 8 None; memory = []; lines = job 2 0 ∷ job 1 31 ∷ job 0 62 ∷ [] }
 
--- the premises of the laws hold of it, so the set is safe with the responses 55, 115 and 175; and a legal run takes each whole
+-- the premises of the laws hold of it, so the set is safe with the responses 55, 115 and 175, and with none that are shorter: a
+-- legal run takes each whole
 pub record ThreeTasks : Type 0 where
   pub in_range : IsInRange set
   pub code : IsCodeOf system set graphs
   pub says : IsYes set graphs certificate
   pub safe : IsSafe system set (55 ∷ 115 ∷ 175 ∷ [])
+  pub least : AreLeast system set (55 ∷ 115 ∷ 175 ∷ [])
   pub legal : IsLegalRun set start
   pub kept : IsKept (state start 180)
   pub answers : completions (state start 180) ≡ Answered 175 ∷ Answered 146 ∷ Answered 117 ∷ []

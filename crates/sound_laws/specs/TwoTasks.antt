@@ -12,6 +12,7 @@ use Rattle.preempt_machine.specs.Step.{Start, state}
 use Rattle.preempt_machine.specs.Safe.{IsSafe, IsLegalRun, IsKept, completions}
 use Rattle.sound_laws.specs.Walks.{IsInRange, IsCodeOf}
 use Rattle.sound_laws.specs.RowTwo.{platform, zero_alone}
+use Rattle.sound_laws.specs.Least.{AreLeast}
 use Rattle.sound_laws.specs.OneWay.{word_in, plan, task, job, listed_graph, first_alone}
 
 -- one into x5, ECALL: of the lower task at 0x1000, of the higher one at 0x2000
@@ -43,12 +44,14 @@ certificate =
 abbrev pub start : Start
 start = record { system = system; cache = None ∷ None ∷ None ∷ None ∷ []; memory = []; lines = job 1 0 ∷ job 0 16 ∷ [] }
 
--- the premises of the laws hold of it, so the set is safe with the responses 17 and 49; and a legal run takes both whole
+-- the premises of the laws hold of it, so the set is safe with the responses 17 and 49, and with none that are shorter: a legal
+-- run takes both whole
 pub record TwoTasks : Type 0 where
   pub in_range : IsInRange set
   pub code : IsCodeOf system set graphs
   pub says : IsYes set graphs certificate
   pub safe : IsSafe system set (17 ∷ 49 ∷ [])
+  pub least : AreLeast system set (17 ∷ 49 ∷ [])
   pub legal : IsLegalRun set start
   pub kept : IsKept (state start 100)
   pub answers : completions (state start 100) ≡ Answered 49 ∷ Answered 33 ∷ []
