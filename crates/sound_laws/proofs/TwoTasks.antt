@@ -20,7 +20,7 @@ use Rattle.preempt_machine.specs.Machine.{plan_of, ins_at, no_job}
 use Rattle.preempt_machine.specs.Step.{state, candidate, turned, is_ready, comes_before}
 use Rattle.preempt_machine.specs.Safe.{IsSafe, IsLegalRun, IsKept, completions}
 use Rattle.sound_laws.specs.Walks.{IsInRange, IsCodeOf}
-use Rattle.sound_laws.specs.RowTwo.{platform, zero_alone}
+use Rattle.sound_laws.specs.TwoWords.{platform, zero_alone}
 use Rattle.sound_laws.specs.Least.{AreLeast}
 use Rattle.sound_laws.specs.OneWay.{word_in}
 use Rattle.sound_laws.specs.TwoTasks.{words, system, set, graphs, certificate, start, TwoTasks}

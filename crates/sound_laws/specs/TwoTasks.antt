@@ -11,7 +11,7 @@ use Rattle.preempt_machine.specs.Machine.{System}
 use Rattle.preempt_machine.specs.Step.{Start, state}
 use Rattle.preempt_machine.specs.Safe.{IsSafe, IsLegalRun, IsKept, completions}
 use Rattle.sound_laws.specs.Walks.{IsInRange, IsCodeOf}
-use Rattle.sound_laws.specs.RowTwo.{platform, zero_alone}
+use Rattle.sound_laws.specs.TwoWords.{platform, zero_alone}
 use Rattle.sound_laws.specs.Least.{AreLeast}
 use Rattle.sound_laws.specs.OneWay.{word_in, plan, task, job, listed_graph, first_alone}
 

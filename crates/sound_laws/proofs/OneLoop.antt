@@ -1,4 +1,4 @@
--- The premises of the laws hold of the worked row of a loop.
+-- The premises of the laws hold of a task with a loop.
 use Rattle.std.proofs.Common.{◌≡◌, ◌≢◌, ℕ, zero, suc, ◌+◌, ◌*◌, ◌<◌, ◌≤◌, List, [], ◌∷◌, Some, None, Contains, IsTrue, IsFalse, refl, sym, ◌∙◌, ap, subst, inl, inr, arith, length}
 use Rattle.std.specs.Prelude.{◌==◌, nat_lt, get_or}
 use Rattle.std.proofs.lemmas.Bool.{cases_Bool, eqb-true, false≢true, true≢false, ne_eqb, ltb-true, lt-ltb}
@@ -29,9 +29,9 @@ use Rattle.crpd_base.specs.Tasks.{deadline_of}
 use Rattle.preempt_machine.specs.Machine.{plan_of}
 use Rattle.rv_decode.specs.Flow.{IsCodeMap}
 use Rattle.sound_laws.specs.Walks.{IsInRange, IsCodeOf}
-use Rattle.sound_laws.specs.RowTwo.{platform, zero_alone}
+use Rattle.sound_laws.specs.TwoWords.{platform, zero_alone}
 use Rattle.sound_laws.proofs.ZeroAlone.{has_says, no_member}
-use Rattle.sound_laws.specs.RowFour.{words, loop, system, set, address_of, ins_of, graph, task_certificate, certificate, RowFour}
+use Rattle.sound_laws.specs.OneLoop.{words, loop, system, set, address_of, ins_of, graph, task_certificate, certificate, OneLoop}
 use Rattle.sound_laws.proofs.Checked.{yes_is_safe}
 
 four : (P : ℕ → Type 0) → P 0 → P 1 → P 2 → P 3 → (y : ℕ) → y < 4 → P y
@@ -442,8 +442,8 @@ is_yes zero l =
     numbers_below (suc (suc (suc k))) d l = absurd (omega arith)
 is_yes (suc i) l = absurd (omega arith)
 
-pub row_four : RowFour
-row_four =
+pub one_loop : OneLoop
+one_loop =
     record {
       in_range = in_range;
       code = is_code;

@@ -1,4 +1,4 @@
--- The worked row of a loop: its system, its graph with a region, and its certificate as the analysis writes it.
+-- A task with a loop: its system, its graph with a region, and its certificate as the analysis writes it.
 use Rattle.std.specs.Prelude.{ℕ, zero, suc, ◌==◌, ◌||◌, if◌then◌else◌, pos, negsuc, List, [], ◌∷◌, replicate, Option, Some, None}
 use Rattle.crpd_base.specs.declared.data.LoopAt.{LoopAt}
 use Rattle.crpd_base.specs.declared.data.TaskPlan.{TaskPlan}
@@ -13,7 +13,7 @@ use Rattle.cert_check.specs.Judge.{IsYes}
 use Rattle.preempt_machine.specs.Machine.{System}
 use Rattle.preempt_machine.specs.Safe.{IsSafe}
 use Rattle.sound_laws.specs.Walks.{IsInRange, IsCodeOf}
-use Rattle.sound_laws.specs.RowTwo.{platform, task, zero_alone}
+use Rattle.sound_laws.specs.TwoWords.{platform, task, zero_alone}
 
 -- three into x5, less one, back while it is not 0, ECALL
 abbrev pub words : ℕ → Option ℕ
@@ -79,7 +79,7 @@ abbrev pub certificate : Certificate
 certificate = record { platform = platform; tasks = task_certificate ∷ [] }
 
 -- the premises of the laws hold of it, so the set is safe with the response 29
-pub record RowFour : Type 0 where
+pub record OneLoop : Type 0 where
   pub in_range : IsInRange set
   pub code : IsCodeOf system set (λ k. graph)
   pub says : IsYes set (λ k. graph) certificate

@@ -1,4 +1,4 @@
--- The worked row of one task with two words: its system, its graph and its certificate.
+-- A task of two words: its system, its graph and its certificate.
 use Rattle.std.specs.Prelude.{ℕ, zero, suc, ◌==◌, if◌then◌else◌, false, pos, List, [], ◌∷◌, replicate, Option, Some, None}
 use Rattle.crpd_base.specs.declared.data.Platform.{Platform}
 use Rattle.crpd_base.specs.declared.data.Place.TheVariants.{Number}
@@ -78,7 +78,7 @@ abbrev pub certificate : Certificate
 certificate = record { platform = platform; tasks = task_certificate ∷ [] }
 
 -- the premises of the laws hold of it, so the set is safe with the response 17
-pub record RowTwo : Type 0 where
+pub record TwoWords : Type 0 where
   pub in_range : IsInRange set
   pub code : IsCodeOf system set (λ k. graph)
   pub says : IsYes set (λ k. graph) certificate
