@@ -2,7 +2,6 @@
 use Rattle.std.proofs.Common.{◌≡◌, List, [], ◌∷◌, Some, None, refl}
 use Rattle.std.specs.Prelude.{pos, ℕ}
 use Rattle.crpd_base.specs.declared.data.TaskPlan.{TaskPlan}
-use Rattle.rv_decode.specs.declared.Ins.{Ins}
 use Rattle.rv_decode.specs.declared.Ins.TheVariants.{Jal, Jalr, Addi}
 use Rattle.rv_decode.specs.Flow.{flow}
 use Rattle.flow_watch.specs.Watch.{Watch, Frame, start, step, context}
