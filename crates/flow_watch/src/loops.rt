@@ -31,7 +31,8 @@ fn holds(stated: &LoopAt, address: u32) -> bool
     address == stated.head || is_in_ranges(stated, address)
 }
 
-/// The turns of a stated loop after an arrival at an address, or None where they are more than its bound.
+/// The turns of a stated loop after an arrival at an address, or None where they are more than its bound. Turns at the
+/// bound are not raised, so no sum wraps.
 fn turns_after(stated: &LoopAt, turns: u32, address: u32) -> Option<u32>
     ensures { result ≡ (let after = turns_after address stated.now turns in if nat_le after stated.now.bound then Some after else None) }
 {
