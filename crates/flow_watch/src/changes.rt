@@ -14,8 +14,8 @@ pub(crate) enum Change {
     Unfollowed,
 }
 
-/// What an instruction does to the frames, by its fields alone: a JAL with link register x1 is a call, `jalr x0,0(x1)` a
-/// return; other links and other indirect jumps are not followed.
+/// What an instruction does to the frames, by its fields alone: a JAL with link register x1 is a call, `jalr x0,0(x1)`
+/// a return; other links and other indirect jumps are not followed.
 #[tactic(auto, unfolding(rv_decode::specs::Flow::flow))]
 pub(crate) fn change_by(ins: &Ins) -> Change
     ensures { (a : ℕ) → result ≡ change_of (flow a ins.now) }

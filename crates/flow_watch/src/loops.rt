@@ -34,7 +34,8 @@ fn holds(stated: &LoopAt, address: u32) -> bool
 /// The turns of a stated loop after an arrival at an address, or None where they are more than its bound. Turns at the
 /// bound are not raised, so no sum wraps.
 fn turns_after(stated: &LoopAt, turns: u32, address: u32) -> Option<u32>
-    ensures { result ≡ (let after = turns_after address stated.now turns in if nat_le after stated.now.bound then Some after else None) }
+    ensures { let after = turns_after address stated.now turns in
+        result ≡ (if nat_le after stated.now.bound then Some after else None) }
 {
     let bound = stated.bound;
     if address == stated.head {
@@ -48,8 +49,8 @@ fn turns_after(stated: &LoopAt, turns: u32, address: u32) -> Option<u32>
     }
 }
 
-/// Counts an arrival at an address in a frame's turns, and says whether all are within their bounds. Where they are not,
-/// the turns may be left halfway.
+/// Counts an arrival at an address in a frame's turns, and says whether all are within their bounds. Where they are
+/// not, the turns may be left halfway.
 pub(crate) fn count_arrival(turns: &mut [u32], loops: &[LoopAt], address: u32) -> bool
     requires { length turns.old ≡ length loops.now }
     ensures within { result ≡ within_bounds loops.now (all_turns_after address loops.now turns.old) }

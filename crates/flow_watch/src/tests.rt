@@ -1,5 +1,4 @@
 // Watches over short lists of instructions.
-ghost use Rattle.std.specs.Prelude.{◌≡◌, ◌≢◌, Some, [], length, IfOk};
 
 use super::*;
 use crpd_base::{Items, LoopAt};

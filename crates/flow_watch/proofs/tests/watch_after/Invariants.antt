@@ -1,4 +1,4 @@
-use Rattle.std.proofs.Common.{◌≡◌, ◌≢◌, Some, [], length}
+use Rattle.std.proofs.Common.{◌≢◌, Some, [], length}
 use Rattle.flow_watch.specs.Turns.{HasTurns}
 use Rattle.flow_watch.proofs.tests.watch_after.Given as goal
 
