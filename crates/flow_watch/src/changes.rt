@@ -1,0 +1,34 @@
+// What an instruction does to the frames of a watch.
+ghost use Rattle.std.specs.Prelude.{◌≡◌, ℕ};
+ghost use Rattle.rv_decode.specs.Flow.{flow};
+ghost use Rattle.flow_watch.specs.Changes.{change_of};
+
+use rv_decode::Ins;
+
+/// What an instruction does to the frames: it stays in the top frame, pushes one or pops one, or is not followed.
+#[derive(Clone, Copy)]
+pub(crate) enum Change {
+    Stay,
+    Push,
+    Pop,
+    Unfollowed,
+}
+
+/// What an instruction does to the frames, by its fields alone: a JAL with link register x1 is a call, `jalr x0,0(x1)`
+/// a return; other links and other indirect jumps are not followed.
+#[tactic(auto, unfolding(rv_decode::specs::Flow::flow))]
+pub(crate) fn change_by(ins: &Ins) -> Change
+    ensures { (a : ℕ) → result ≡ change_of (flow a ins.now) }
+{
+    match *ins {
+        Ins::Jal { rd: 0, .. } => Change::Stay,
+        Ins::Jal { rd: 1, .. } => Change::Push,
+        Ins::Jalr {
+            rd: 0,
+            rs1: 1,
+            imm: 0,
+        } => Change::Pop,
+        Ins::Jal { .. } | Ins::Jalr { .. } => Change::Unfollowed,
+        _ => Change::Stay,
+    }
+}

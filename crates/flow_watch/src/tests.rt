@@ -1,0 +1,184 @@
+// Watches over short lists of instructions.
+
+use super::*;
+use crpd_base::{Items, LoopAt};
+use std::alloc::AllocError;
+use std::test::Fail;
+
+const NEXT: Ins = Ins::Addi {
+    rd: 0,
+    rs1: 0,
+    imm: 0,
+};
+
+const CALL: Ins = Ins::Jal { rd: 1, imm: 64 };
+
+const RETURN: Ins = Ins::Jalr {
+    rd: 0,
+    rs1: 1,
+    imm: 0,
+};
+
+// A stated loop with one range.
+#[derive(Clone, Copy)]
+struct Stated {
+    head: u32,
+    bound: u32,
+    range: (u32, u32),
+}
+
+// A plan with the entry 0x100.
+fn plan(alloc: Global, loops: &[Stated]) -> Result<TaskPlan, AllocError> {
+    let mut list = Vec::new(alloc);
+    for stated in loops {
+        list.push(LoopAt {
+            head: stated.head,
+            bound: stated.bound,
+            ranges: Items::new(vec![in alloc; stated.range]?),
+        })?;
+    }
+    Ok(TaskPlan {
+        entry: 0x100,
+        stack: 0,
+        global: 0,
+        loops: Items::new(list),
+    })
+}
+
+// The watch after the steps, each an instruction and the address after it, up to the end of the job.
+fn watch_after(alloc: Global, loops: &[Stated], steps: &[(Ins, u32)]) -> Result<Watch, Fail> {
+    let plan = plan(alloc, loops)?;
+    let mut watch = Watch::start(alloc, &plan)?;
+    let mut from = plan.entry;
+    for step in steps {
+        watch.step(&plan, from, &step.0, step.1);
+        if step.1 == END {
+            break;
+        }
+        from = step.1;
+    }
+    Ok(watch)
+}
+
+const ONCE: Stated = Stated {
+    head: 0x100,
+    bound: 1,
+    range: (0x100, 0x110),
+};
+
+const TWICE: Stated = Stated {
+    head: 0x100,
+    bound: 2,
+    range: (0x100, 0x110),
+};
+
+const THRICE: Stated = Stated {
+    head: 0x100,
+    bound: 3,
+    range: (0x100, 0x120),
+};
+
+const NEVER: Stated = Stated {
+    head: 0x100,
+    bound: 0,
+    range: (0, 0),
+};
+// Its range begins before its head.
+const BEFORE: Stated = Stated {
+    head: 0x108,
+    bound: 1,
+    range: (0x104, 0x10C),
+};
+
+const fn link(rd: u8) -> Ins {
+    Ins::Jal { rd, imm: 64 }
+}
+
+const fn indirect(rd: u8, rs1: u8, imm: i32) -> Ins {
+    Ins::Jalr { rd, rs1, imm }
+}
+
+// Stated loops, steps, whether the watch is broken, and the calls under way.
+#[test]
+fn follows(rt: HostRuntime) -> Result<(), Fail> {
+    let head = (NEXT, 0x100);
+    let call = (CALL, 0x200);
+    let back = (RETURN, 0x104);
+    for (loops, steps, broken, calls) in [
+        // the entry is a first turn of a loop whose head it is
+        (&[ONCE][..], &[][..], false, &[][..]),
+        (&[ONCE], &[head], true, &[]),
+        (&[NEVER], &[], true, &[]),
+        // a bound is reached, and exceeded by one
+        (&[TWICE], &[head], false, &[]),
+        (&[TWICE], &[head, head], true, &[]),
+        // a loop that is left begins anew; its range ends before its second address and begins with its first
+        (&[TWICE], &[head, (NEXT, 0x10C), head], true, &[]),
+        (&[TWICE], &[head, (NEXT, 0x110), head, head], false, &[]),
+        (
+            &[TWICE],
+            &[head, (NEXT, 0x110), head, head, head],
+            true,
+            &[],
+        ),
+        (
+            &[BEFORE],
+            &[(NEXT, 0x108), (NEXT, 0x104), (NEXT, 0x108)],
+            true,
+            &[],
+        ),
+        (
+            &[BEFORE],
+            &[(NEXT, 0x108), (NEXT, 0x100), (NEXT, 0x108)],
+            false,
+            &[],
+        ),
+        // two loops with one head, of which the smaller one is left
+        (&[TWICE, THRICE], &[head, (NEXT, 0x114), head], false, &[]),
+        (
+            &[TWICE, THRICE],
+            &[head, (NEXT, 0x114), head, head],
+            true,
+            &[],
+        ),
+        // a call, its return, and a return to another address
+        (&[], &[call], false, &[0x100]),
+        (&[], &[call, back], false, &[]),
+        (&[], &[call, (RETURN, 0x200)], true, &[]),
+        (&[], &[call, (RETURN, END)], true, &[]),
+        // a call leaves the loop round it open
+        (&[TWICE], &[call, back, head, call, back], false, &[]),
+        (&[TWICE], &[call, back, head, call, back, head], true, &[]),
+        // sixteen calls, and one more
+        (
+            &[],
+            &[call; 16],
+            false,
+            &[
+                0x100, 0x200, 0x200, 0x200, 0x200, 0x200, 0x200, 0x200, 0x200, 0x200, 0x200, 0x200,
+                0x200, 0x200, 0x200, 0x200,
+            ],
+        ),
+        (&[], &[call; 17], true, &[]),
+        // other links and other indirect jumps; a broken watch stays broken
+        (&[], &[(link(0), 0x140)], false, &[]),
+        (&[], &[(link(5), 0x140)], true, &[]),
+        (&[], &[(indirect(0, 5, 0), 0x104)], true, &[]),
+        (&[], &[(indirect(0, 1, 4), 0x104)], true, &[]),
+        (
+            &[],
+            &[call, (indirect(1, 1, 0), 0x104), head, call],
+            true,
+            &[],
+        ),
+        // the bottom frame returns to the end
+        (&[], &[(RETURN, END)], false, &[]),
+        (&[], &[(RETURN, 0x104)], true, &[]),
+        (&[ONCE], &[(NEXT, END)], false, &[]),
+    ] {
+        let watch = watch_after(rt.alloc(), loops, steps)?;
+        assert_eq!(rt; watch.broken(), broken);
+        assert_eq!(rt; watch.context(), calls);
+    }
+    Ok(())
+}
