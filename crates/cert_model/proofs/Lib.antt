@@ -1,0 +1,7 @@
+pub mod Laws
+pub mod Pairs
+pub mod Ranged
+pub mod Rising
+pub mod Seen
+pub mod Texts
+pub mod Turns

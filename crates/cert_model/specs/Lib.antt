@@ -1,0 +1,4 @@
+pub mod Kinds
+pub mod Keys
+pub mod Ranges
+pub mod Reading

@@ -1,0 +1,5 @@
+use Rattle.std.proofs.Common.{ℕ, ◌<◌, ◌^◌, get_or}
+use Rattle.crpd_base.proofs.set_bits.SetBits.words_law.Given as goal
+
+abbrev pub invariant-loop-i : goal.invariant-loop-i
+invariant-loop-i g l = (k : ℕ) → k < l.i → get_or l.self-inside.words k 0 < 2 ^ 64
