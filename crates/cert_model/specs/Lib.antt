@@ -2,3 +2,4 @@ pub mod Kinds
 pub mod Keys
 pub mod Ranges
 pub mod Reading
+pub mod Writing

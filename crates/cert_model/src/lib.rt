@@ -10,6 +10,10 @@ mod sets;
 mod states;
 mod task;
 mod version;
+mod writing;
 
 pub use fault::CertError;
 pub use reading::read_certificate;
+
+#[cfg(test)]
+mod tests;
