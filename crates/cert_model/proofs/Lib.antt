@@ -1,3 +1,4 @@
+pub mod Built
 pub mod Laws
 pub mod Pairs
 pub mod Ranged

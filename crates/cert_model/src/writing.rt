@@ -1,8 +1,10 @@
 //! A certificate, written as JSON text of version 2.
 
-ghost use Rattle.std.specs.Prelude.{◌≡◌, IfOk, map};
-ghost use Rattle.serde_json.specs.Data.{array, object};
+ghost use Rattle.std.specs.Prelude.{◌≡◌, ◌≤◌, false, Some, IfOk, IsUtf8, map};
+ghost use Rattle.serde_json.specs.Data.{array, object, depth};
+ghost use Rattle.serde_json.specs.Read.{read, max_depth};
 ghost use Rattle.serde_json.specs.View.{view, items_of};
+ghost use Rattle.serde_json.specs.Written.{compact_text, has_float};
 ghost use Rattle.cert_model.specs.Writing as spec;
 
 use crpd_base::{Certificate, Memory, Method, NodeState, Platform, SetBits, Switching, TaskPart, WORDS};
@@ -139,4 +141,13 @@ fn certificate(alloc: Global, certificate: &Certificate) -> Result<Value, AllocE
     let platform = platform(alloc, &certificate.platform)?;
     let tasks = tasks(alloc, certificate.tasks.as_slice())?;
     json!(in alloc; { "platform": platform, "tasks": tasks, "version": 2u64 })
+}
+
+fn bytes(alloc: Global, whole: &Certificate) -> Result<Vec<u8>, AllocError>
+    ensures text { IfOk result (λ b. has_float (object (spec.certificate_members whole.now)) ≡ false → b.items ≡ compact_text (object (spec.certificate_members whole.now))) }
+    ensures utf8 { IfOk result (λ b. IsUtf8 b.items) }
+    ensures reads_back { IfOk result (λ b. depth (object (spec.certificate_members whole.now)) ≤ max_depth → read b.items ≡ Some (object (spec.certificate_members whole.now))) }
+{
+    let value = certificate(alloc, whole)?;
+    value.to_vec(alloc)
 }
