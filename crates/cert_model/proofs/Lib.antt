@@ -1,6 +1,8 @@
+pub mod Back
 pub mod Built
 pub mod Laws
 pub mod Pairs
+pub mod Plain
 pub mod Ranged
 pub mod Rising
 pub mod Seen

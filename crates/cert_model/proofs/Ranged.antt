@@ -97,7 +97,7 @@ pub rise_length : {A : Type 0} (number : A → ℕ) (low limit : ℕ) (xs : List
 rise_length number low limit [] h r = omega arith
 rise_length number low limit (x ∷ xs) h r = omega (arith, r.0, r.1, rise_length number (number x + 1) limit xs (omega (arith, r.1)) r.2)
 
-rise_wider : {A : Type 0} (number : A → ℕ) (low limit wide : ℕ) (xs : List A) → limit ≤ wide → RiseFrom number low limit xs → RiseFrom number low wide xs
+pub rise_wider : {A : Type 0} (number : A → ℕ) (low limit wide : ℕ) (xs : List A) → limit ≤ wide → RiseFrom number low limit xs → RiseFrom number low wide xs
 rise_wider number low limit wide [] h r = tt
 rise_wider number low limit wide (x ∷ xs) h r = (r.0, omega (arith, r.1), rise_wider number (number x + 1) limit wide xs h r.2)
 

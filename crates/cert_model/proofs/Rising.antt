@@ -112,7 +112,7 @@ or_false false = refl
 equal_turned : (t n : ℕ) → (t == n) ≡ (n == t)
 equal_turned t n = grind (arith, nat_tests)
 
-in_more : (front : List ℕ) (n t : ℕ) → flag (is_in t (front ++ n ∷ [])) ≡ (if t == n then 1 else flag (is_in t front))
+pub in_more : (front : List ℕ) (n t : ℕ) → flag (is_in t (front ++ n ∷ [])) ≡ (if t == n then 1 else flag (is_in t front))
 in_more front n t =
     ap flag (list_any-append (λ x. x == t) front (n ∷ [])) ∙ ap (λ b. flag (is_in t front || b)) (or_false (n == t)) ∙ flag_or (is_in t front) (n == t)
     ∙ ap (λ (b : Bool). if b then 1 else flag (is_in t front)) (sym (equal_turned t n))

@@ -1,6 +1,7 @@
 -- The ranges of a certificate: those that a certificate which was read keeps, and within which one that is written reads back.
 use Rattle.std.specs.Prelude.{◌≡◌, ℕ, ◌+◌, ◌<◌, ◌≤◌, ◌^◌, List, [], ◌∷◌, length, All, true}
 use Rattle.crpd_base.specs.Ranges.{IsPlatform}
+use Rattle.crpd_base.specs.Sets.{AreWords}
 use Rattle.crpd_base.specs.declared.data.Certificate.{Certificate}
 use Rattle.crpd_base.specs.declared.data.NodeState.{NodeState}
 use Rattle.crpd_base.specs.declared.data.TaskPart.{TaskPart}
@@ -37,11 +38,19 @@ pub record IsTaskPart (t : TaskPart) : Type 0 where
   pub states : All IsState t.states
   pub window : t.window ≤ 2 ^ 40
 
+-- the sets of a task are sets of numbers below 512
+pub record HasSets (t : TaskPart) : Type 0 where
+  pub evicting : AreWords 8 t.part.evicting
+  pub useful : AreWords 8 t.part.useful
+  pub states : All (λ (s : NodeState). AreWords 8 s.useful) t.states
+
+-- 1 to 32 tasks
 pub record AreTasks (tasks : List TaskPart) : Type 0 where
   pub some : 1 ≤ length tasks
   pub few : length tasks ≤ 32
   pub each : All IsTaskPart tasks
 
+-- at most 4,000,000 state entries
 pub record IsCertificate (c : Certificate) : Type 0 where
   pub platform : IsPlatform c.platform
   pub line : is_line c.platform.line ≡ true

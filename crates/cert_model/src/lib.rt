@@ -14,6 +14,7 @@ mod writing;
 
 pub use fault::CertError;
 pub use reading::read_certificate;
+pub use writing::write_certificate;
 
 #[cfg(test)]
 mod tests;

@@ -1,10 +1,14 @@
 //! A certificate, written as JSON text of version 2.
 
-ghost use Rattle.std.specs.Prelude.{◌≡◌, ◌≤◌, false, Some, IfOk, IsUtf8, map};
+ghost use Rattle.std.specs.Prelude.{◌≡◌, ◌≤◌, false, Some, Ok, All, IfOk, IsUtf8, map};
+ghost use Rattle.crpd_base.specs.Sets.{AreWords};
+ghost use Rattle.crpd_base.specs.declared.data.NodeState.{NodeState};
 ghost use Rattle.serde_json.specs.Data.{array, object, depth};
 ghost use Rattle.serde_json.specs.Read.{read, max_depth};
 ghost use Rattle.serde_json.specs.View.{view, items_of};
 ghost use Rattle.serde_json.specs.Written.{compact_text, has_float};
+ghost use Rattle.cert_model.specs.Ranges.{HasSets, IsCertificate};
+ghost use Rattle.cert_model.specs.Reading.{reading};
 ghost use Rattle.cert_model.specs.Writing as spec;
 
 use crpd_base::{Certificate, Memory, Method, NodeState, Platform, SetBits, Switching, TaskPart, WORDS};
@@ -150,4 +154,40 @@ fn bytes(alloc: Global, whole: &Certificate) -> Result<Vec<u8>, AllocError>
 {
     let value = certificate(alloc, whole)?;
     value.to_vec(alloc)
+}
+
+/// The sets of nodes have 8 words each.
+fn state_sets(states: &[NodeState])
+    ensures { All (λ (s : NodeState). AreWords 8 s.useful) states.now }
+{
+    for state in states {
+        state.useful.words_law();
+    }
+}
+
+/// The sets of tasks have 8 words each.
+fn task_sets(tasks: &[TaskPart])
+    ensures { All HasSets tasks.now }
+{
+    for task in tasks {
+        task.part.evicting.words_law();
+        task.part.useful.words_law();
+        state_sets(task.states.as_slice());
+    }
+}
+
+/// Writes a certificate as JSON text of version 2: one line without spaces, with the keys of each object in byte order. Within the ranges of a
+/// certificate it reads back as the same. One pass is made over the certificate and one over its tree, which takes a small multiple of the
+/// text's size.
+pub fn write_certificate(alloc: Global, certificate: &Certificate) -> Result<Vec<u8>, Memory>
+    ensures exact { IfOk result (λ b. b.items ≡ spec.text certificate.now) }
+
+    // Reading gives the certificate back.
+    ensures reads_back { IsCertificate certificate.now → IfOk result (λ b. reading b.items ≡ Ok certificate.now) }
+{
+    task_sets(certificate.tasks.as_slice());
+    match bytes(alloc, certificate) {
+        Ok(bytes) => Ok(bytes),
+        Err(_) => Err(Memory),
+    }
 }
