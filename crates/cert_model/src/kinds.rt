@@ -128,10 +128,7 @@ pub fn potentials(alloc: Global, most: u64, value: &Value) -> Result<Option<Vec<
 }
 
 /// The objects of a list that has nothing else in it.
-fn all_objects<'a>(
-    alloc: Global,
-    value: &'a Value,
-) -> Result<Option<Vec<&'a Object>>, AllocError>
+fn all_objects<'a>(alloc: Global, value: &'a Value) -> Result<Option<Vec<&'a Object>>, AllocError>
     ensures { IfOk result (λ found. option_map (λ v. map (λ t. members_view t.now.entries) v.items) found ≡ spec.listed as_object (view value.now)) }
 {
     let Some(values) = value.as_array() else {

@@ -1,11 +1,13 @@
-use crate::read_certificate;
+use crate::{read_certificate, write_certificate};
 use crpd_base::Certificate;
 use std::alloc::{AllocError, Global};
 use std::test::Fail;
 
-const FIRST: &str = "{\"platform\":{\"data\":3,\"hit\":1,\"line\":16,\"miss\":10,\"sets\":4,\"switch\":5,\"taken\":2},\"tasks\":[{\"bound\":12,\"evicting\":[0],\"loops\":[],\"method\":\"ucb\",\"name\":\"one\",\"potentials\":[12,1],\"response\":17,\"states\":[[0,[],[]],[1,[0,256],[0]]],\"useful\":[0],\"window\":17}],\"version\":1}";
+const FIRST: &str =
+    "{\"platform\":{\"data\":3,\"hit\":1,\"line\":16,\"miss\":10,\"sets\":4,\"switch\":5,\"taken\":2},\"tasks\":[{\"bound\":12,\"evicting\":[0],\"loops\":[],\"method\":\"ucb\",\"name\":\"one\",\"potentials\":[12,1],\"response\":17,\"states\":[[0,[],[]],[1,[0,256],[0]]],\"useful\":[0],\"window\":17}],\"version\":1}";
 
-const SECOND: &str = "{\"platform\":{\"data\":3,\"div\":0,\"hit\":1,\"line\":16,\"miss\":10,\"mul\":0,\"sets\":4,\"switch\":5,\"switching\":\"cycle\",\"taken\":2},\"tasks\":[{\"bound\":12,\"evicting\":[0],\"loops\":[],\"method\":\"ucb\",\"name\":\"one\",\"potentials\":[12,1],\"response\":17,\"states\":[[0,[],[]]],\"useful\":[0],\"window\":17}],\"version\":2}";
+const SECOND: &str =
+    "{\"platform\":{\"data\":3,\"div\":0,\"hit\":1,\"line\":16,\"miss\":10,\"mul\":0,\"sets\":4,\"switch\":5,\"switching\":\"cycle\",\"taken\":2},\"tasks\":[{\"bound\":12,\"evicting\":[0],\"loops\":[],\"method\":\"ucb\",\"name\":\"one\",\"potentials\":[12,1],\"response\":17,\"states\":[[0,[],[]]],\"useful\":[0],\"window\":17}],\"version\":2}";
 
 // The text, with `new` in place of the part `old`.
 fn changed(alloc: Global, text: &str, old: &str, new: &str) -> Result<String, AllocError> {
@@ -78,9 +80,17 @@ fn first_version(rt: HostRuntime) -> Result<(), Fail> {
     let cases = [
         ("\"data\":3,", "\"data\":3,", "read"),
         ("\"data\":3,", "", "platform.data is missing"),
-        ("\"data\":3,", "\"data\":3,\"mul\":-7,\"switching\":0,", "read"),
+        (
+            "\"data\":3,",
+            "\"data\":3,\"mul\":-7,\"switching\":0,",
+            "read",
+        ),
         ("\"sets\":4", "\"sets\":256", "read"),
-        ("\"sets\":4", "\"sets\":257", "platform.sets has a bad value"),
+        (
+            "\"sets\":4",
+            "\"sets\":257",
+            "platform.sets has a bad value",
+        ),
         ("[0,256]", "[255,4294967295]", "read"),
         ("[0,256]", "[256,0]", "tasks.0.states has a bad value"),
         (
@@ -99,11 +109,7 @@ fn first_version(rt: HostRuntime) -> Result<(), Fail> {
             "[[0,[],[],[]],",
             "tasks.0.states has a bad value",
         ),
-        (
-            "\"evicting\":[0]",
-            "\"evicting\":[0,255]",
-            "read",
-        ),
+        ("\"evicting\":[0]", "\"evicting\":[0,255]", "read"),
         (
             "\"evicting\":[0]",
             "\"evicting\":[256]",
@@ -123,11 +129,23 @@ fn second_version(rt: HostRuntime) -> Result<(), Fail> {
     let cases = [
         ("\"data\":3,", "\"data\":3,", "read"),
         ("\"div\":0,", "", "platform.div is missing"),
-        ("\"mul\":0,", "\"mul\":65536,", "platform.mul has a bad value"),
-        ("\"line\":16,", "\"line\":5,", "platform.line has a bad value"),
+        (
+            "\"mul\":0,",
+            "\"mul\":65536,",
+            "platform.mul has a bad value",
+        ),
+        (
+            "\"line\":16,",
+            "\"line\":5,",
+            "platform.line has a bad value",
+        ),
         ("\"hit\":1,", "\"hit\":0,", "platform.hit has a bad value"),
         ("\"sets\":4", "\"sets\":512", "read"),
-        ("\"sets\":4", "\"sets\":513", "platform.sets has a bad value"),
+        (
+            "\"sets\":4",
+            "\"sets\":513",
+            "platform.sets has a bad value",
+        ),
         ("\"cycle\"", "\"instruction\"", "read"),
         (
             "\"cycle\"",
@@ -146,7 +164,11 @@ fn second_version(rt: HostRuntime) -> Result<(), Fail> {
             "\"window\":17.0",
             "tasks.0.window has a bad value",
         ),
-        ("\"window\":17", "\"windows\":17", "tasks.0.window is missing"),
+        (
+            "\"window\":17",
+            "\"windows\":17",
+            "tasks.0.window is missing",
+        ),
         ("\"window\":17", "\"window\":17,\"other\":null", "read"),
         ("\"bound\":12", "\"bound\":2199023255552", "read"),
         (
@@ -290,5 +312,87 @@ fn values(rt: HostRuntime) -> Result<(), Fail> {
         Ok(certificate) => assert!(rt; is_as_told(&certificate)),
         Err(_) => assert!(rt; false),
     }
+    Ok(())
+}
+
+// The text that is written for what a text says.
+fn rewritten(alloc: Global, text: &str) -> Result<Option<Vec<u8>>, AllocError> {
+    match read_certificate(alloc, text.as_bytes()) {
+        Ok(certificate) => match write_certificate(alloc, &certificate) {
+            Ok(bytes) => Ok(Some(bytes)),
+            Err(_) => Err(AllocError),
+        },
+        Err(_) => Ok(None),
+    }
+}
+
+#[test]
+fn written_texts(rt: HostRuntime) -> Result<(), Fail> {
+    let cases = [
+        (SECOND, "\"cycle\"", "\"cycle\""),
+        (SECOND, "\"cycle\"", "\"instruction\""),
+        (
+            SECOND,
+            "[[0,[],[]]]",
+            "[[0,[0,256,511,4294967295],[0,63,64,511]],[16383,[],[]]]",
+        ),
+        (SECOND, "\"evicting\":[0]", "\"evicting\":[1,127,128,510]"),
+        (SECOND, "\"ucb\"", "\"ecb\""),
+        (SECOND, "\"loops\":[]", "\"loops\":[0,1099511627776]"),
+    ];
+    for (text, old, new) in cases {
+        let text = changed(rt.alloc(), text, old, new)?;
+        match rewritten(rt.alloc(), text.as_str())? {
+            Some(bytes) => assert!(rt; bytes.as_slice() == text.as_bytes(), "at {new}"),
+            None => assert!(rt; false, "at {new}"),
+        }
+    }
+    Ok(())
+}
+
+#[test]
+fn first_version_as_second(rt: HostRuntime) -> Result<(), Fail> {
+    let old = "\"states\":[[0,[],[]]]";
+    let new = "\"states\":[[0,[],[]],[1,[0,256],[0]]]";
+    let want = changed(rt.alloc(), SECOND, old, new)?;
+    match rewritten(rt.alloc(), FIRST)? {
+        Some(bytes) => assert!(rt; bytes.as_slice() == want.as_bytes()),
+        None => assert!(rt; false),
+    }
+    Ok(())
+}
+
+// The text with so many states, each with the useful sets 0 to 511.
+fn with_states(alloc: Global, states: usize) -> Result<String, AllocError> {
+    let mut useful = String::new(alloc);
+    for set in 0..512 {
+        let number = format!(in alloc; "{set}")?;
+        if set > 0 {
+            useful.push_str(",")?;
+        }
+        useful.push_str(number.as_str())?;
+    }
+    let mut list = String::new(alloc);
+    for node in 0..states {
+        if node > 0 {
+            list.push_str(",")?;
+        }
+        let state = format!(in alloc; "[{node},[],[{useful}]]")?;
+        list.push_str(state.as_str())?;
+    }
+    changed(alloc, SECOND, "[0,[],[]]", list.as_str())
+}
+
+#[test]
+fn counts_of_entries(rt: HostRuntime) -> Result<(), Fail> {
+    let long = with_states(rt.alloc(), 7813)?;
+    let got = told(rt.alloc(), long.as_bytes())?;
+    assert_eq!(rt; got.as_str(), "4000256 state entries are too many");
+    let bad = changed(rt.alloc(), long.as_str(), "\"window\":17", "\"window\":-1")?;
+    let got = told(rt.alloc(), bad.as_bytes())?;
+    assert_eq!(rt; got.as_str(), "tasks.0.window has a bad value");
+    let short = with_states(rt.alloc(), 7812)?;
+    let got = told(rt.alloc(), short.as_bytes())?;
+    assert_eq!(rt; got.as_str(), "read");
     Ok(())
 }

@@ -11,7 +11,9 @@ ghost use Rattle.cert_model.specs.Ranges.{HasSets, IsCertificate};
 ghost use Rattle.cert_model.specs.Reading.{reading};
 ghost use Rattle.cert_model.specs.Writing as spec;
 
-use crpd_base::{Certificate, Memory, Method, NodeState, Platform, SetBits, Switching, TaskPart, WORDS};
+use crpd_base::{
+    Certificate, Memory, Method, NodeState, Platform, SetBits, Switching, TaskPart, WORDS,
+};
 use serde_json::{Value, json};
 use std::alloc::{AllocError, Global};
 
