@@ -1,8 +1,8 @@
 -- What was written is read as the same certificate.
-use Rattle.std.proofs.Common.{◌≡◌, ◌≢◌, ◌⊎◌, ℕ, zero, suc, ◌+◌, ◌*◌, ◌≤◌, ◌<◌, ◌^◌, Bool, true, false, nat_lt, nat_le, List, [], ◌∷◌, ◌++◌, length, map, codes, Option, Some, None, option_map, Result, Ok, Err, refl, sym, ap, subst, ◌∙◌, arith, inl, inr, cond}
-use Rattle.std.specs.Prelude.{All, IfOk, IsUtf8, option_and_then, if◌then◌else◌, ◌==◌}
+use Rattle.std.proofs.Common.{◌≡◌, ◌≢◌, ◌⊎◌, ℕ, zero, suc, ◌+◌, ◌≤◌, ◌<◌, ◌^◌, true, false, nat_lt, List, [], ◌∷◌, ◌++◌, length, map, codes, Option, Some, option_map, Result, Ok, refl, sym, ap, subst, ◌∙◌, arith, inl, inr}
+use Rattle.std.specs.Prelude.{All, if◌then◌else◌, ◌==◌}
 use Rattle.std.specs.List.{AllByRecursion}
-use Rattle.std.proofs.lemmas.Bool.{cases_Bool, le-leb, lt-ltb, ltb-false, ltb-true}
+use Rattle.std.proofs.lemmas.Bool.{cases_Bool, le-leb, lt-ltb, ltb-true}
 use Rattle.std.proofs.lemmas.Bool.Decides.{nat_tests}
 use Rattle.std.proofs.lemmas.List.{length-map}
 use Rattle.std.proofs.lemmas.List.Elements.{recursion_from_All}
@@ -17,11 +17,10 @@ use Rattle.crpd_base.specs.declared.data.Platform.{Platform}
 use Rattle.crpd_base.specs.declared.data.Switching.{Switching}
 use Rattle.crpd_base.specs.declared.data.Switching.TheVariants.{Cycle, Instruction}
 use Rattle.crpd_base.specs.declared.data.TaskPart.{TaskPart}
-use Rattle.serde_json.specs.Data.{Data, Items, no_items, item, Members, object, array, string}
+use Rattle.serde_json.specs.Data.{Data, Members, object, array, string}
 use Rattle.serde_json.specs.Find.{as_object, get_member}
 use Rattle.serde_json.specs.View.{items_of}
 use Rattle.cert_model.specs.declared.fault.CertError.{CertError}
-use Rattle.cert_model.specs.declared.version.Version.{Version}
 use Rattle.cert_model.specs.declared.version.Version.TheVariants.{Second}
 use Rattle.cert_model.specs.Keys.{◌>>=◌, present, good, required, each, item_path}
 use Rattle.cert_model.specs.Kinds as kind

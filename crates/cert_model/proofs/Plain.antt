@@ -1,15 +1,14 @@
 -- The tree of a certificate has no float, and is not deep.
-use Rattle.std.proofs.Common.{◌≡◌, ℕ, suc, ◌≤◌, false, List, [], ◌∷◌, map, refl, arith}
-use Rattle.std.specs.Prelude.{max}
+use Rattle.std.proofs.Common.{◌≡◌, ℕ, ◌≤◌, false, List, [], ◌∷◌, map, refl, arith}
 use Rattle.crpd_base.specs.declared.data.Certificate.{Certificate}
 use Rattle.crpd_base.specs.declared.data.NodeState.{NodeState}
 use Rattle.crpd_base.specs.declared.data.Platform.{Platform}
 use Rattle.crpd_base.specs.declared.data.TaskPart.{TaskPart}
-use Rattle.serde_json.specs.Data.{Data, object, array, depth, items_depth, members_depth}
+use Rattle.serde_json.specs.Data.{Data, object, depth, items_depth, members_depth}
 use Rattle.serde_json.specs.Read.{max_depth}
 use Rattle.serde_json.specs.View.{items_of}
 use Rattle.serde_json.specs.Written.{has_float, items_have_float, members_have_float}
-use Rattle.cert_model.specs.Writing.{whole_number, numbers, numbers_below, set_numbers, pairs, state, task, platform_members, task_members, certificate_members}
+use Rattle.cert_model.specs.Writing.{whole_number, numbers_below, set_numbers, pairs, state, task, platform_members, task_members, certificate_members}
 
 items_plain : {X : Type 0} (f : X → Data) → ((x : X) → has_float (f x) ≡ false) → (xs : List X) → items_have_float (items_of (map f xs)) ≡ false
 items_plain f one [] = refl

@@ -1,5 +1,5 @@
 -- What a certificate that was read keeps: the ranges of its numbers, and the order of its lists.
-use Rattle.std.proofs.Common.{◌≡◌, ◌⊎◌, ℕ, ◌+◌, ◌≤◌, ◌<◌, ◌^◌, Bool, true, false, cond, nat_lt, nat_le, List, [], ◌∷◌, length, get_or, codes, Option, Some, None, option_map, Result, Ok, Err, refl, sym, ap, subst, arith, inl, inr}
+use Rattle.std.proofs.Common.{◌≡◌, ℕ, ◌+◌, ◌≤◌, ◌<◌, ◌^◌, Bool, true, nat_lt, nat_le, List, [], ◌∷◌, length, get_or, codes, Option, Some, None, option_map, Result, Ok, Err, refl, sym, ap, subst, arith, inl, inr}
 use Rattle.std.specs.Prelude.{All, IfOk, option_and_then, ◌&&◌}
 use Rattle.std.specs.List.{AllByRecursion}
 use Rattle.std.specs.Str.{is_utf8}
@@ -18,7 +18,7 @@ use Rattle.cert_model.specs.declared.fault.CertError.{CertError}
 use Rattle.cert_model.specs.declared.fault.CertError.TheVariants.{TooLong}
 use Rattle.cert_model.specs.declared.version.Version.{Version}
 use Rattle.cert_model.specs.declared.version.Version.TheVariants.{First, Second}
-use Rattle.cert_model.specs.Keys.{Gives, required, each, item_path, present, good}
+use Rattle.cert_model.specs.Keys.{Gives, required, item_path, present, good}
 use Rattle.cert_model.specs.Kinds as kind
 use Rattle.cert_model.specs.Kinds.{only, is_between, whole, below, number_of, all_of, listed, is_line, is_name, pair, pairs_from, state_of, three, states_from}
 use Rattle.cert_model.specs.Ranges.{RiseFrom, IsState, ArePotentials, IsTaskPart, AreTasks, HasFewPairs, IsCertificate}

@@ -1,5 +1,5 @@
 -- What the text of a certificate stands for, or the first refusal: the keys of each object, each with its kind, in their order.
-use Rattle.std.specs.Prelude.{ℕ, zero, suc, ◌+◌, ◌^◌, List, [], ◌∷◌, ◌++◌, length, codes, Bool, ◌==◌, Option, Some, None, nat_lt, Result, Ok, Err, if◌then◌else◌, sum_by}
+use Rattle.std.specs.Prelude.{ℕ, ◌+◌, ◌^◌, List, [], length, codes, ◌==◌, Option, Some, None, nat_lt, Result, Ok, Err, if◌then◌else◌, sum_by}
 use Rattle.std.specs.Str.{is_utf8}
 use Rattle.crpd_base.specs.Sets.{members_below}
 use Rattle.crpd_base.specs.declared.data.Certificate.{Certificate}
@@ -16,7 +16,7 @@ use Rattle.cert_model.specs.declared.version.Version.{Version}
 use Rattle.cert_model.specs.declared.version.Version.TheVariants.{First, Second}
 use Rattle.cert_model.specs.Kinds as kind
 use Rattle.cert_model.specs.Kinds.{whole, number_of}
-use Rattle.cert_model.specs.Keys.{◌>>=◌, present, good, required, item_path, each}
+use Rattle.cert_model.specs.Keys.{◌>>=◌, required, item_path, each}
 
 -- ---- what a version holds at most
 

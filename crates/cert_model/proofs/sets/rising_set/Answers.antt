@@ -1,4 +1,4 @@
-use Rattle.std.proofs.Common.{arith, ◌∙◌, sym, ap, option_map, length}
+use Rattle.std.proofs.Common.{arith, ◌∙◌, sym, ap, option_map}
 use Rattle.serde_json.specs.View.{items_view}
 use Rattle.std.proofs.Math.ListN.{drop_of_length-le}
 use Rattle.cert_model.specs.Kinds.{words_of}
