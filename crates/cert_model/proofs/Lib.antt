@@ -1,0 +1,10 @@
+pub mod Back
+pub mod Built
+pub mod Laws
+pub mod Pairs
+pub mod Plain
+pub mod Ranged
+pub mod Rising
+pub mod Seen
+pub mod Texts
+pub mod Turns

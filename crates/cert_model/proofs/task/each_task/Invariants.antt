@@ -1,0 +1,10 @@
+use Rattle.std.proofs.Common.{◌≡◌, drop, map}
+use Rattle.serde_json.specs.View.{members_view}
+use Rattle.cert_model.specs.Keys.{each}
+use Rattle.cert_model.specs.Reading.{task_at}
+use Rattle.cert_model.proofs.Turns.{with_front}
+use Rattle.cert_model.proofs.task.each_task.Given as goal
+
+abbrev pub invariant-loop-i : goal.invariant-loop-i
+invariant-loop-i l =
+    with_front l.tasks.items (each (task_at l.version) l.i (map (λ t. members_view t.now.entries) (drop l.i l.objects))) ≡ each (task_at l.version) 0 (map (λ t. members_view t.now.entries) l.objects)

@@ -1,0 +1,156 @@
+-- The kinds of a certificate's values: what a value stands for, or None where it is of another kind or outside its range.
+use Rattle.std.specs.Prelude.{ℕ, zero, suc, ◌+◌, ◌*◌, ◌^◌, List, [], ◌∷◌, length, codes, Bool, ◌||◌, ◌&&◌, ◌==◌, nat_le, nat_lt, Option, Some, None, option_map, option_and_then, if◌then◌else◌}
+use Rattle.std.specs.List.{list_all, list_any}
+use Rattle.std.specs.Str.{bytes_eq}
+use Rattle.serde_json.specs.Data.{Data, Items, no_items, item, Members}
+use Rattle.serde_json.specs.Find.{as_number, as_u64, as_str, as_array, as_object}
+use Rattle.crpd_base.specs.declared.data.Method.{Method}
+use Rattle.crpd_base.specs.declared.data.Method.TheVariants.{Ucb, Ecb}
+use Rattle.crpd_base.specs.declared.data.NodeState.{NodeState}
+use Rattle.crpd_base.specs.declared.data.Switching.{Switching}
+use Rattle.crpd_base.specs.declared.data.Switching.TheVariants.{Cycle, Instruction}
+
+-- One step after another, as long as each gives something.
+infixl 10 ◌>>=◌
+abbrev pub ◌>>=◌ : {A B : Type 0} → Option A → (A → Option B) → Option B
+x >>= f = option_and_then f x
+
+-- a value that passes a test
+abbrev pub only : {A : Type 0} → (A → Bool) → Option A → Option A
+only test None = None
+only test (Some x) = if test x then Some x else None
+
+-- a number between two others
+abbrev pub is_between : ℕ → ℕ → ℕ → Bool
+is_between low high n = nat_le low n && nat_le n high
+
+-- ---- numbers
+
+-- a number that is kept as an unsigned one of 64 bits: none has a point, an exponent or a sign
+abbrev pub number_of : Data → Option ℕ
+number_of d = as_number d >>= as_u64
+
+-- a number from low to high
+abbrev pub whole : ℕ → ℕ → Data → Option ℕ
+whole low high d = only (is_between low high) (number_of d)
+
+-- a number from low on, below a limit
+abbrev pub below : ℕ → ℕ → Data → Option ℕ
+below low limit d = only (λ n. nat_le low n && nat_lt n limit) (number_of d)
+
+abbrev pub is_line : ℕ → Bool
+is_line n = n == 4 || n == 8 || n == 16 || n == 32 || n == 64
+
+-- the length of a cache line in bytes
+unfoldable pub line : Data → Option ℕ
+line d = only is_line (number_of d)
+
+-- ---- texts
+
+abbrev pub switching_named : List ℕ → Option Switching
+switching_named s = if bytes_eq s (codes "cycle") then Some Cycle else if bytes_eq s (codes "instruction") then Some Instruction else None
+
+unfoldable pub switching : Data → Option Switching
+switching d = as_str d >>= switching_named
+
+abbrev pub method_named : List ℕ → Option Method
+method_named s = if bytes_eq s (codes "ucb") then Some Ucb else if bytes_eq s (codes "ecb") then Some Ecb else None
+
+unfoldable pub method : Data → Option Method
+method d = as_str d >>= method_named
+
+-- a letter, a digit, or one of `_`, `.` and `-`
+abbrev pub is_name_byte : ℕ → Bool
+is_name_byte b = is_between 48 57 b || is_between 65 90 b || is_between 97 122 b || b == 95 || b == 46 || b == 45
+
+abbrev pub is_name : List ℕ → Bool
+is_name s = is_between 1 32 (length s) && list_all is_name_byte s
+
+unfoldable pub name : Data → Option (List ℕ)
+name d = only is_name (as_str d)
+
+-- ---- lists
+
+-- a list whose items are all of a kind
+abbrev pub all_of : {A : Type 0} → (Data → Option A) → Items → Option (List A)
+all_of kind no_items = Some []
+all_of kind (item d ds) = kind d >>= (λ x. option_map (λ xs. x ∷ xs) (all_of kind ds))
+
+abbrev pub listed : {A : Type 0} → (Data → Option A) → Data → Option (List A)
+listed kind d = as_array d >>= all_of kind
+
+-- at most so many potentials, each at most 2^40
+unfoldable pub potentials : ℕ → Data → Option (List ℕ)
+potentials most d = only (λ xs. nat_le (length xs) most) (listed (whole 0 (2 ^ 40)) d)
+
+-- 1 to so many objects
+unfoldable pub objects : ℕ → Data → Option (List Members)
+objects most d = only (λ ts. is_between 1 most (length ts)) (listed as_object d)
+
+-- ---- sets of numbers
+
+-- the numbers of a list, each above the one before: from low on, below a limit
+abbrev pub rising : ℕ → ℕ → Items → Option (List ℕ)
+rising low limit no_items = Some []
+rising low limit (item d ds) = below low limit d >>= (λ n. option_map (λ ns. n ∷ ns) (rising (n + 1) limit ds))
+
+abbrev pub is_in : ℕ → List ℕ → Bool
+is_in n ns = list_any (λ x. x == n) ns
+
+-- which of the numbers from the first on are in a list, as the bits of a word of so many, the lowest first
+unfoldable pub word_of : List ℕ → ℕ → ℕ → ℕ
+word_of ns first zero = 0
+word_of ns first (suc bits) = (if is_in first ns then 1 else 0) + 2 * word_of ns (first + 1) bits
+
+unfoldable pub words_from : List ℕ → ℕ → ℕ → List ℕ
+words_from ns first zero = []
+words_from ns first (suc words) = word_of ns first 64 ∷ words_from ns (first + 64) words
+
+-- the set of a list's numbers below 512, as its 8 words
+unfoldable pub words_of : List ℕ → List ℕ
+words_of ns = words_from ns 0 8
+
+-- set numbers, each above the one before and below a limit
+unfoldable pub set_numbers : ℕ → Data → Option (List ℕ)
+set_numbers limit d = option_map words_of (as_array d >>= rising 0 limit)
+
+-- ---- node states
+
+-- a set number and a block number
+unfoldable pub pair : ℕ → ℕ → Data → Data → Option (ℕ × ℕ)
+pair low limit set block = do
+  s ← below low limit set
+  b ← below 0 (2 ^ 32) block
+  Some (s, b)
+
+-- set, block, set, block: each set above the one before and below a limit
+abbrev pub pairs_from : ℕ → ℕ → Items → Option (List (ℕ × ℕ))
+pairs_from low limit no_items = Some []
+pairs_from low limit (item set no_items) = None
+pairs_from low limit (item set (item block ds)) = pair low limit set block >>= (λ p. option_map (λ more. p ∷ more) (pairs_from (p.0 + 1) limit ds))
+
+unfoldable pub sure_pairs : ℕ → Data → Option (List (ℕ × ℕ))
+sure_pairs limit d = as_array d >>= pairs_from 0 limit
+
+-- a node from low on, with its sure pairs and its useful sets
+unfoldable pub state_of : ℕ → ℕ → ℕ → Data → Data → Data → Option NodeState
+state_of sets nodes low node sure useful = do
+  n ← below low nodes node
+  pairs ← sure_pairs sets sure
+  words ← set_numbers sets useful
+  Some (record { node = n; sure = pairs; useful = words })
+
+abbrev pub three : {A : Type 0} → (Data → Data → Data → Option A) → Items → Option A
+three f (item a (item b (item c no_items))) = f a b c
+three f _ = None
+
+unfoldable pub state : ℕ → ℕ → ℕ → Data → Option NodeState
+state sets nodes low d = as_array d >>= three (state_of sets nodes low)
+
+-- each node above the one before: so there are at most as many as the limit says
+abbrev pub states_from : ℕ → ℕ → ℕ → Items → Option (List NodeState)
+states_from sets nodes low no_items = Some []
+states_from sets nodes low (item d ds) = state sets nodes low d >>= (λ s. option_map (λ more. s ∷ more) (states_from sets nodes (s.node + 1) ds))
+
+unfoldable pub states : ℕ → ℕ → Data → Option (List NodeState)
+states sets nodes d = as_array d >>= states_from sets nodes 0

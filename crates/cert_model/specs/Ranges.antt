@@ -1,0 +1,58 @@
+-- The ranges of a certificate: those that a certificate which was read keeps, and within which one that is written reads back.
+use Rattle.std.specs.Prelude.{◌≡◌, ℕ, ◌+◌, ◌<◌, ◌≤◌, ◌^◌, List, [], ◌∷◌, length, All, true}
+use Rattle.crpd_base.specs.Ranges.{IsPlatform}
+use Rattle.crpd_base.specs.Sets.{AreWords}
+use Rattle.crpd_base.specs.declared.data.Certificate.{Certificate}
+use Rattle.crpd_base.specs.declared.data.NodeState.{NodeState}
+use Rattle.crpd_base.specs.declared.data.TaskPart.{TaskPart}
+use Rattle.cert_model.specs.Kinds.{is_line, is_name}
+use Rattle.cert_model.specs.Reading.{entries}
+
+-- each number is above the one before: from low on, below a limit
+abbrev pub RiseFrom : {A : Type 0} → (A → ℕ) → ℕ → ℕ → List A → Type 0
+RiseFrom number low limit [] = Unit
+RiseFrom number low limit (x ∷ xs) = (low ≤ number x) × (number x < limit) × RiseFrom number (number x + 1) limit xs
+
+-- the sure pairs of a node: the sets rise, and the blocks have 32 bits
+pub record IsState (s : NodeState) : Type 0 where
+  pub sets : RiseFrom (λ (p : ℕ × ℕ). p.0) 0 512 s.sure
+  pub blocks : All (λ (p : ℕ × ℕ). p.1 < 2 ^ 32) s.sure
+
+-- a node with at most 512 sure pairs
+pub record HasFewPairs (s : NodeState) : Type 0 where
+  pub few : length s.sure ≤ 512
+
+-- at most 16,384 potentials, each at most 2^40
+pub record ArePotentials (numbers : List ℕ) : Type 0 where
+  pub few : length numbers ≤ 16384
+  pub each : All (λ n. n ≤ 2 ^ 40) numbers
+
+-- a task: its nodes rise
+pub record IsTaskPart (t : TaskPart) : Type 0 where
+  pub bound : t.part.bound ≤ 2 ^ 41
+  pub loops : ArePotentials t.loops
+  pub name : is_name t.name ≡ true
+  pub potentials : ArePotentials t.potentials
+  pub response : t.response ≤ 2 ^ 41
+  pub nodes : RiseFrom (λ (s : NodeState). s.node) 0 16384 t.states
+  pub states : All IsState t.states
+  pub window : t.window ≤ 2 ^ 40
+
+-- the sets of a task are sets of numbers below 512
+pub record HasSets (t : TaskPart) : Type 0 where
+  pub evicting : AreWords 8 t.part.evicting
+  pub useful : AreWords 8 t.part.useful
+  pub states : All (λ (s : NodeState). AreWords 8 s.useful) t.states
+
+-- 1 to 32 tasks
+pub record AreTasks (tasks : List TaskPart) : Type 0 where
+  pub some : 1 ≤ length tasks
+  pub few : length tasks ≤ 32
+  pub each : All IsTaskPart tasks
+
+-- at most 4,000,000 state entries
+pub record IsCertificate (c : Certificate) : Type 0 where
+  pub platform : IsPlatform c.platform
+  pub line : is_line c.platform.line ≡ true
+  pub tasks : AreTasks c.tasks
+  pub entries : entries c.tasks ≤ 4000000

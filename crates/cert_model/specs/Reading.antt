@@ -1,0 +1,146 @@
+-- What the text of a certificate stands for, or the first refusal: the keys of each object, each with its kind, in their order.
+use Rattle.std.specs.Prelude.{ℕ, ◌+◌, ◌^◌, List, [], length, codes, ◌==◌, Option, Some, None, nat_lt, Result, Ok, Err, if◌then◌else◌, sum_by}
+use Rattle.std.specs.Str.{is_utf8}
+use Rattle.crpd_base.specs.Sets.{members_below}
+use Rattle.crpd_base.specs.declared.data.Certificate.{Certificate}
+use Rattle.crpd_base.specs.declared.data.NodeState.{NodeState}
+use Rattle.crpd_base.specs.declared.data.Platform.{Platform}
+use Rattle.crpd_base.specs.declared.data.Switching.TheVariants.{Cycle}
+use Rattle.crpd_base.specs.declared.data.TaskPart.{TaskPart}
+use Rattle.serde_json.specs.Data.{Data, Members}
+use Rattle.serde_json.specs.Find.{as_object}
+use Rattle.serde_json.specs.Read.{read}
+use Rattle.cert_model.specs.declared.fault.CertError.{CertError}
+use Rattle.cert_model.specs.declared.fault.CertError.TheVariants.{NotJson, BadValue, TooLong, OtherVersion}
+use Rattle.cert_model.specs.declared.version.Version.{Version}
+use Rattle.cert_model.specs.declared.version.Version.TheVariants.{First, Second}
+use Rattle.cert_model.specs.Kinds as kind
+use Rattle.cert_model.specs.Kinds.{whole, number_of}
+use Rattle.cert_model.specs.Keys.{◌>>=◌, required, item_path, each}
+
+-- ---- what a version holds at most
+
+-- cache sets
+abbrev pub most_sets : Version → ℕ
+most_sets First = 256
+most_sets Second = 512
+
+-- nodes of a task
+abbrev pub most_nodes : Version → ℕ
+most_nodes First = 4096
+most_nodes Second = 16384
+
+abbrev pub most_tasks : Version → ℕ
+most_tasks First = 16
+most_tasks Second = 32
+
+-- ---- the version
+
+abbrev pub version_numbered : ℕ → Result Version CertError
+version_numbered n = if n == 1 then Ok First else if n == 2 then Ok Second else Err (OtherVersion n)
+
+unfoldable pub version_at : Members → Result Version CertError
+version_at ms = do
+  n ← required number_of [] (codes "version") ms
+  version_numbered n
+
+-- ---- the platform
+
+-- a number of cycles
+abbrev pub cycles : Data → Option ℕ
+cycles = whole 0 65535
+
+-- version 1: no cycles for multiplication and division, and a switch at each cycle
+unfoldable pub first_platform : List ℕ → Members → Result Platform CertError
+first_platform path ms = do
+  memory ← required cycles path (codes "data") ms
+  hit ← required (whole 1 65535) path (codes "hit") ms
+  line ← required kind.line path (codes "line") ms
+  miss ← required cycles path (codes "miss") ms
+  sets ← required (whole 1 256) path (codes "sets") ms
+  switch ← required cycles path (codes "switch") ms
+  taken ← required cycles path (codes "taken") ms
+  Ok (record { line = line; sets = sets; hit = hit; miss = miss; memory = memory; taken = taken; switch = switch; mul = 0; div = 0; switching = Cycle })
+
+unfoldable pub second_platform : List ℕ → Members → Result Platform CertError
+second_platform path ms = do
+  memory ← required cycles path (codes "data") ms
+  div ← required cycles path (codes "div") ms
+  hit ← required (whole 1 65535) path (codes "hit") ms
+  line ← required kind.line path (codes "line") ms
+  miss ← required cycles path (codes "miss") ms
+  mul ← required cycles path (codes "mul") ms
+  sets ← required (whole 1 512) path (codes "sets") ms
+  switch ← required cycles path (codes "switch") ms
+  switching ← required kind.switching path (codes "switching") ms
+  taken ← required cycles path (codes "taken") ms
+  Ok (record { line = line; sets = sets; hit = hit; miss = miss; memory = memory; taken = taken; switch = switch; mul = mul; div = div; switching = switching })
+
+abbrev pub platform_at : Version → List ℕ → Members → Result Platform CertError
+platform_at First = first_platform
+platform_at Second = second_platform
+
+-- ---- tasks
+
+unfoldable pub fields_at : Version → List ℕ → Members → Result TaskPart CertError
+fields_at version path ms = do
+  bound ← required (whole 0 (2 ^ 41)) path (codes "bound") ms
+  evicting ← required (kind.set_numbers (most_sets version)) path (codes "evicting") ms
+  loops ← required (kind.potentials (most_nodes version)) path (codes "loops") ms
+  method ← required kind.method path (codes "method") ms
+  name ← required kind.name path (codes "name") ms
+  potentials ← required (kind.potentials (most_nodes version)) path (codes "potentials") ms
+  response ← required (whole 0 (2 ^ 41)) path (codes "response") ms
+  states ← required (kind.states (most_sets version) (most_nodes version)) path (codes "states") ms
+  useful ← required (kind.set_numbers (most_sets version)) path (codes "useful") ms
+  window ← required (whole 0 (2 ^ 40)) path (codes "window") ms
+  Ok (record { name = name; part = record { bound = bound; evicting = evicting; useful = useful }; states = states; potentials = potentials; loops = loops; method = method; window = window; response = response })
+
+-- the task at a place
+abbrev pub task_at : Version → ℕ → Members → Result TaskPart CertError
+task_at version i = fields_at version (item_path (codes "tasks") i)
+
+-- ---- the certificate
+
+-- how many numbers a set of cache sets has
+unfoldable pub set_size : List ℕ → ℕ
+set_size words = members_below words 512
+
+-- the sure pairs and the useful sets of a node
+abbrev pub state_entries : NodeState → ℕ
+state_entries s = length s.sure + set_size s.useful
+
+abbrev pub task_entries : TaskPart → ℕ
+task_entries t = sum_by state_entries t.states
+
+-- the state entries of a certificate
+abbrev pub entries : List TaskPart → ℕ
+entries tasks = sum_by task_entries tasks
+
+unfoldable pub counted : Certificate → Result Certificate CertError
+counted c = if nat_lt 4000000 (entries c.tasks) then Err (TooLong (entries c.tasks)) else Ok c
+
+unfoldable pub tasks_at : Version → Members → Result (List TaskPart) CertError
+tasks_at version ms = do
+  objects ← required (kind.objects (most_tasks version)) [] (codes "tasks") ms
+  each (task_at version) 0 objects
+
+unfoldable pub certificate_at : Members → Result Certificate CertError
+certificate_at ms = do
+  version ← version_at ms
+  object ← required as_object [] (codes "platform") ms
+  platform ← platform_at version (codes "platform.") object
+  tasks ← tasks_at version ms
+  counted (record { platform = platform; tasks = tasks })
+
+abbrev pub whole_text : Option Members → Result Certificate CertError
+whole_text None = Err (BadValue (codes "-"))
+whole_text (Some ms) = certificate_at ms
+
+abbrev pub document : Option Data → Result Certificate CertError
+document None = Err NotJson
+document (Some d) = whole_text (as_object d)
+
+-- What the text stands for, or its first refusal.
+unfoldable pub reading : List ℕ → Result Certificate CertError
+reading bytes = if is_utf8 bytes then document (read bytes) else Err NotJson

@@ -1,0 +1,90 @@
+//! The keys of an object: each is looked up, and a fault is told with its path.
+
+ghost use Rattle.std.specs.Prelude.{◌≡◌, ◌++◌, ◌≤◌, option_map, string_bytes, IfOk};
+ghost use Rattle.serde_json.specs.Find.{get_member};
+ghost use Rattle.serde_json.specs.View.{view, members_view};
+ghost use Rattle.cert_model.specs.Keys as spec;
+ghost use Rattle.cert_model.specs.Keys.{Gives};
+ghost use Rattle.cert_model.specs.Kinds as kind;
+
+use crate::fault::CertError;
+use crate::kinds::{Object, whole};
+use crpd_base::Text;
+use serde_json::Value;
+use std::alloc::{AllocError, Global};
+
+/// The path of a key: that of its object, and the key.
+fn key_path(alloc: Global, path: &str, key: &str) -> Result<Text, AllocError>
+    ensures { IfOk result (λ t. t ≡ path.now ++ key.now) }
+{
+    let mut text = String::from_str(alloc, path)?;
+    text.push_str(key)?;
+    Ok(Text::new(text))
+}
+
+/// The path of the object at a place in the list at a key.
+pub fn item_path(alloc: Global, key: &str, place: usize) -> Result<String, AllocError>
+    ensures { IfOk result (λ s. string_bytes s ≡ spec.item_path key.now place) }
+{
+    format!(in alloc; "{key}.{place}.")
+}
+
+/// An object that is read, and the path of its keys.
+#[derive(Clone, Copy)]
+pub struct Keys<'a> {
+    pub object: &'a Object,
+    pub path: &'a str,
+}
+
+impl<'a> Keys<'a> {
+    /// The value at a key.
+    fn get(&self, key: &str) -> Option<&'a Value>
+        ensures { option_map (λ v. view v.now) result ≡ get_member key.now (members_view self.now.object.now.entries) }
+    {
+        self.object.get(key)
+    }
+
+    /// The value at a key that has to be there.
+    pub fn present(&self, alloc: Global, key: &str) -> Result<&'a Value, CertError>
+        ensures { Gives (λ v. view v.now) result (spec.present self.now.path.now key.now (members_view self.now.object.now.entries)) }
+    {
+        match self.get(key) {
+            Some(value) => Ok(value),
+            None => Err(CertError::Missing(key_path(alloc, self.path, key)?)),
+        }
+    }
+
+    /// What was read from the value at a key, which is bad where nothing was.
+    pub fn good<T: Drop>(&self, alloc: Global, key: &str, read: Option<T>) -> Result<T, CertError>
+        ensures { Gives (λ x. x) result (spec.good self.now.path.now key.now read) }
+    {
+        match read {
+            Some(x) => Ok(x),
+            None => Err(CertError::BadValue(key_path(alloc, self.path, key)?)),
+        }
+    }
+
+    /// A number from low to high.
+    #[tactic(auto, unfolding(crate::specs::Keys::required))]
+    pub fn number(&self, alloc: Global, key: &str, low: u64, high: u64) -> Result<u64, CertError>
+        ensures is { Gives (λ x. x) result (spec.required (kind.whole low high) self.now.path.now key.now (members_view self.now.object.now.entries)) }
+        ensures bound { IfOk result (λ n. n ≤ high) }
+    {
+        let value = self.present(alloc, key)?;
+        self.good(alloc, key, whole(value, low, high))
+    }
+
+    /// A number from low to high, of 32 bits.
+    pub fn small_number(
+        &self,
+        alloc: Global,
+        key: &str,
+        low: u32,
+        high: u32,
+    ) -> Result<u32, CertError>
+        ensures { Gives (λ x. x) result (spec.required (kind.whole low high) self.now.path.now key.now (members_view self.now.object.now.entries)) }
+    {
+        let number = self.number(alloc, key, u64::from(low), u64::from(high))?;
+        Ok(number as u32)
+    }
+}

@@ -1,0 +1,160 @@
+//! Numbers, texts and lists of a certificate.
+
+ghost use Rattle.std.specs.Prelude.{◌≡◌, ◌≤◌, ◌<◌, map, option_map, string_bytes, IfOk, IfSome};
+ghost use Rattle.std.specs.List.{list_all};
+ghost use Rattle.serde_json.specs.Find.{as_object};
+ghost use Rattle.serde_json.specs.View.{view, members_view};
+ghost use Rattle.cert_model.specs.Kinds as spec;
+
+use crpd_base::{LONGEST_TIME, Method, Switching};
+use serde_json::{Map, Value};
+use std::alloc::{AllocError, Global};
+
+/// The members of an object.
+pub type Object = Map<String, Value>;
+
+/// A number from low to high.
+pub fn whole(value: &Value, low: u64, high: u64) -> Option<u64>
+    ensures is { result ≡ spec.whole low high (view value.now) }
+    ensures bound { IfSome result (λ n. n ≤ high) }
+{
+    match value.as_u64() {
+        Some(n) if low <= n && n <= high => Some(n),
+        _ => None,
+    }
+}
+
+/// A number from low on, below a limit.
+pub fn below(value: &Value, low: u64, limit: u64) -> Option<u64>
+    ensures is { result ≡ spec.below low limit (view value.now) }
+    ensures bound { IfSome result (λ n. n < limit) }
+{
+    match value.as_u64() {
+        Some(n) if low <= n && n < limit => Some(n),
+        _ => None,
+    }
+}
+
+/// The length of a cache line in bytes.
+#[tactic(auto, unfolding(crate::specs::Kinds::line))]
+pub fn line(value: &Value) -> Option<u32>
+    ensures { result ≡ spec.line (view value.now) }
+{
+    match value.as_u64() {
+        Some(n) if matches!(n, 4 | 8 | 16 | 32 | 64) => Some(n as u32),
+        _ => None,
+    }
+}
+
+/// Where a context switch may happen.
+#[tactic(auto, unfolding(crate::specs::Kinds::switching))]
+pub fn switching(value: &Value) -> Option<Switching>
+    ensures { result ≡ spec.switching (view value.now) }
+{
+    match value.as_str()? {
+        "cycle" => Some(Switching::Cycle),
+        "instruction" => Some(Switching::Instruction),
+        _ => None,
+    }
+}
+
+/// By which delay a window is computed.
+#[tactic(auto, unfolding(crate::specs::Kinds::method))]
+pub fn method(value: &Value) -> Option<Method>
+    ensures { result ≡ spec.method (view value.now) }
+{
+    match value.as_str()? {
+        "ucb" => Some(Method::Ucb),
+        "ecb" => Some(Method::Ecb),
+        _ => None,
+    }
+}
+
+fn is_name_byte(b: u8) -> bool
+    ensures { result ≡ spec.is_name_byte b }
+{
+    matches!(b, b'0'..=b'9' | b'A'..=b'Z' | b'a'..=b'z' | b'_' | b'.' | b'-')
+}
+
+fn are_name_bytes(bytes: &[u8]) -> bool
+    ensures { result ≡ list_all spec.is_name_byte bytes.now }
+{
+    bytes.iter().all(|b| is_name_byte(*b))
+}
+
+fn is_name(text: &str) -> bool
+    ensures { result ≡ spec.is_name text.now }
+{
+    1 <= text.len() && text.len() <= 32 && are_name_bytes(text.as_bytes())
+}
+
+/// A task's name.
+#[tactic(auto, unfolding(crate::specs::Kinds::name))]
+pub fn name(alloc: Global, value: &Value) -> Result<Option<String>, AllocError>
+    ensures { IfOk result (λ s. option_map string_bytes s ≡ spec.name (view value.now)) }
+{
+    match value.as_str() {
+        Some(text) if is_name(text) => Ok(Some(String::from_str(alloc, text)?)),
+        _ => Ok(None),
+    }
+}
+
+/// The numbers from 0 to 2^40 of a list.
+fn numbers(alloc: Global, value: &Value) -> Result<Option<Vec<u64>>, AllocError>
+    ensures { IfOk result (λ found. option_map (λ v. v.items) found ≡ spec.listed (spec.whole 0 LONGEST_TIME) (view value.now)) }
+{
+    let Some(values) = value.as_array() else {
+        return Ok(None);
+    };
+    let mut found = Vec::new(alloc);
+    for value in values {
+        let Some(number) = whole(value, 0, LONGEST_TIME) else {
+            return Ok(None);
+        };
+        found.push(number)?;
+    }
+    Ok(Some(found))
+}
+
+/// At most so many potentials, each from 0 to 2^40.
+#[tactic(auto, unfolding(crate::specs::Kinds::potentials))]
+pub fn potentials(alloc: Global, most: u64, value: &Value) -> Result<Option<Vec<u64>>, AllocError>
+    ensures { IfOk result (λ found. option_map (λ v. v.items) found ≡ spec.potentials most (view value.now)) }
+{
+    match numbers(alloc, value)? {
+        Some(numbers) if numbers.len() as u64 <= most => Ok(Some(numbers)),
+        _ => Ok(None),
+    }
+}
+
+/// The objects of a list that has nothing else in it.
+fn all_objects<'a>(alloc: Global, value: &'a Value) -> Result<Option<Vec<&'a Object>>, AllocError>
+    ensures { IfOk result (λ found. option_map (λ v. map (λ t. members_view t.now.entries) v.items) found ≡ spec.listed as_object (view value.now)) }
+{
+    let Some(values) = value.as_array() else {
+        return Ok(None);
+    };
+    let mut found = Vec::new(alloc);
+    for value in values {
+        let Some(object) = value.as_object() else {
+            return Ok(None);
+        };
+        found.push(object)?;
+    }
+    Ok(Some(found))
+}
+
+/// A list of 1 to so many objects.
+#[tactic(auto, unfolding(crate::specs::Kinds::objects))]
+pub fn objects<'a>(
+    alloc: Global,
+    most: u64,
+    value: &'a Value,
+) -> Result<Option<Vec<&'a Object>>, AllocError>
+    ensures { IfOk result (λ found. option_map (λ v. map (λ t. members_view t.now.entries) v.items) found ≡ spec.objects most (view value.now)) }
+{
+    match all_objects(alloc, value)? {
+        Some(objects) if !objects.is_empty() && objects.len() as u64 <= most => Ok(Some(objects)),
+        _ => Ok(None),
+    }
+}

@@ -1,0 +1,151 @@
+//! A certificate, read from JSON text.
+
+ghost use Rattle.std.specs.Prelude.{◌≡◌, ◌≤◌, codes, length, All, IfOk, sum_by};
+ghost use Rattle.serde_json.specs.Find.{as_object};
+ghost use Rattle.serde_json.specs.View.{view, members_view};
+ghost use Rattle.cert_model.specs.Keys.{Gives, required};
+ghost use Rattle.cert_model.specs.Kinds as kind;
+ghost use Rattle.cert_model.specs.Ranges.{AreTasks, HasFewPairs, IsCertificate};
+ghost use Rattle.cert_model.specs.Reading as spec;
+ghost use Rattle.cert_model.specs.Reading.{reading};
+
+use crate::fault::CertError;
+use crate::keys::Keys;
+use crate::kinds::Object;
+use crate::platform::platform_at;
+use crate::task::tasks_at;
+use crate::version::Version;
+use crpd_base::{Certificate, Items, MOST_ENTRIES, NodeState, SetBits, TaskPart, Text, WORDS};
+use serde_json::Value;
+use std::alloc::Global;
+
+/// The version with a number.
+fn version_numbered(number: u64) -> Result<Version, CertError>
+    ensures { result ≡ spec.version_numbered number }
+{
+    match number {
+        1 => Ok(Version::First),
+        2 => Ok(Version::Second),
+        _ => Err(CertError::OtherVersion(number)),
+    }
+}
+
+#[tactic(auto, unfolding(crate::specs::Keys::required, crate::specs::Reading::version_at))]
+fn version_at(alloc: Global, object: &Object) -> Result<Version, CertError>
+    ensures { Gives (λ x. x) result (spec.version_at (members_view object.now.entries)) }
+{
+    let keys = Keys { object, path: "" };
+    let value = keys.present(alloc, "version")?;
+    let number = keys.good(alloc, "version", value.as_u64())?;
+    version_numbered(number)
+}
+
+#[tactic(auto, using(crate::proofs::Seen::good_seen), unfolding(crate::specs::Keys::required))]
+fn platform_object<'a>(alloc: Global, keys: Keys<'a>) -> Result<&'a Object, CertError>
+    ensures { Gives (λ t. members_view t.now.entries) result (required as_object keys.entry.path.now (codes "platform") (members_view keys.entry.object.now.entries)) }
+{
+    let value = keys.present(alloc, "platform")?;
+    keys.good(alloc, "platform", value.as_object())
+}
+
+/// How many cache sets a set has.
+fn set_size(set: &SetBits<WORDS>) -> u32
+    ensures is { result ≡ spec.set_size set.now }
+    ensures bound { result ≤ 512 }
+{
+    set.count()
+}
+
+/// The sure pairs and the useful sets of the listed nodes of a task.
+fn task_entries(states: &[NodeState]) -> u64
+    requires few { length states.now ≤ 16384 }
+    requires each { All HasFewPairs states.now }
+    ensures is { result ≡ sum_by spec.state_entries states.now }
+    ensures bound { result ≤ 16777216 }
+{
+    let mut found = 0;
+    for state in states {
+        let sure = state.sure.as_slice().len() as u64;
+        found += sure + u64::from(set_size(&state.useful));
+    }
+    found
+}
+
+/// The state entries of all tasks.
+fn entries(tasks: &[TaskPart]) -> u64
+    requires { AreTasks tasks.now }
+    ensures { result ≡ spec.entries tasks.now }
+{
+    let mut found = 0;
+    for task in tasks {
+        found += task_entries(task.states.as_slice());
+    }
+    found
+}
+
+/// The certificate, where it has few enough state entries.
+#[tactic(auto, unfolding(crate::specs::Reading::counted))]
+fn counted(certificate: Certificate) -> Result<Certificate, CertError>
+    requires { AreTasks certificate.tasks }
+    ensures { result ≡ spec.counted certificate }
+{
+    let entries = entries(certificate.tasks.as_slice());
+    if entries > MOST_ENTRIES {
+        return Err(CertError::TooLong(entries));
+    }
+    Ok(certificate)
+}
+
+#[tactic(auto, unfolding(crate::specs::Reading::certificate_at))]
+fn certificate_at(alloc: Global, object: &Object) -> Result<Certificate, CertError>
+    ensures { Gives (λ x. x) result (spec.certificate_at (members_view object.now.entries)) }
+{
+    let version = version_at(alloc, object)?;
+    let platform = platform_object(alloc, Keys { object, path: "" })?;
+    let path = "platform.";
+    let platform = platform_at(
+        alloc,
+        version,
+        Keys {
+            object: platform,
+            path,
+        },
+    )?;
+    let tasks = Items::new(tasks_at(alloc, version, object)?);
+    counted(Certificate { platform, tasks })
+}
+
+fn whole_text(alloc: Global, value: &Value) -> Result<Certificate, CertError>
+    ensures { Gives (λ x. x) result (spec.whole_text (as_object (view value.now))) }
+{
+    match value.as_object() {
+        Some(object) => certificate_at(alloc, object),
+        None => Err(CertError::BadValue(Text::new(String::from_str(alloc, "-")?))),
+    }
+}
+
+#[tactic(auto, using(crate::proofs::Texts::reading_of_text, crate::proofs::Texts::reading_of_bytes))]
+fn certificate_of(alloc: Global, bytes: &[u8]) -> Result<Certificate, CertError>
+    ensures { Gives (λ x. x) result (reading bytes.now) }
+{
+    let Ok(text) = std::str::from_utf8(bytes) else {
+        return Err(CertError::NotJson);
+    };
+    match Value::from_str(alloc, text) {
+        Ok(value) => whole_text(alloc, &value),
+        Err(e) if e.is_memory() => Err(CertError::Memory),
+        Err(_) => Err(CertError::NotJson),
+    }
+}
+
+/// Reads a certificate of version 1 or 2 from JSON text. What it gives, and its first refusal, are those of `reading`: of the version, the
+/// platform and the tasks, each with its keys in byte order, and last of the count of the state entries. Times are cycles. One pass is made over
+/// the text and one over its tree, which takes a small multiple of the text's size. JSON is that of RFC 8259.
+pub fn read_certificate(alloc: Global, bytes: &[u8]) -> Result<Certificate, CertError>
+    ensures exact { Gives (λ x. x) result (reading bytes.now) }
+
+    // What the layers above need of a certificate: its ranges, and that its lists rise.
+    ensures ranges { IfOk result IsCertificate }
+{
+    certificate_of(alloc, bytes)
+}

@@ -1,0 +1,46 @@
+//! The two forms of a certificate's text, and what each holds at most.
+
+ghost use Rattle.std.specs.Prelude.{◌≡◌, ◌≤◌};
+ghost use Rattle.cert_model.specs.Reading as spec;
+
+/// The form of a certificate's text.
+#[derive(Clone, Copy, Debug, PartialEq, Eq)]
+pub enum Version {
+    First,
+    Second,
+}
+
+impl Version {
+    /// The most cache sets.
+    pub fn most_sets(self) -> u64
+        ensures is { result ≡ spec.most_sets self }
+        ensures bound { result ≤ 512 }
+    {
+        match self {
+            Version::First => 256,
+            Version::Second => 512,
+        }
+    }
+
+    /// The most nodes of a task.
+    pub fn most_nodes(self) -> u64
+        ensures is { result ≡ spec.most_nodes self }
+        ensures bound { result ≤ 16384 }
+    {
+        match self {
+            Version::First => 4096,
+            Version::Second => 16384,
+        }
+    }
+
+    /// The most tasks.
+    pub fn most_tasks(self) -> u64
+        ensures is { result ≡ spec.most_tasks self }
+        ensures bound { result ≤ 32 }
+    {
+        match self {
+            Version::First => 16,
+            Version::Second => 32,
+        }
+    }
+}
