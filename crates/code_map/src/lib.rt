@@ -1,0 +1,9 @@
+//! The words that the tasks' files hold, and the addresses that the tasks' places stand for.
+#![tactic(auto)]
+
+mod fault;
+mod map;
+mod runs;
+
+pub use fault::MapError;
+pub use map::CodeMap;
