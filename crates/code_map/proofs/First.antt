@@ -5,7 +5,7 @@ use Rattle.std.proofs.lemmas.Option.{none-some}
 use Rattle.std.specs.List.{Contains}
 use Rattle.code_map.specs.Words.{find_map}
 
-option_cases : {Y : Type 0} (o : Option Y) → (o ≡ None) ⊎ ((y : Y) × (o ≡ Some y))
+pub option_cases : {Y : Type 0} (o : Option Y) → (o ≡ None) ⊎ ((y : Y) × (o ≡ Some y))
 option_cases None = inl refl
 option_cases (Some y) = inr (y, refl)
 
@@ -13,9 +13,13 @@ or_some : {Y : Type 0} (o p : Option Y) (y : Y) → option_or o p ≡ Some y →
 or_some None p y e = inr (refl, e)
 or_some (Some x) p y e = inl e
 
-or_none : {Y : Type 0} (o p : Option Y) → option_or o p ≡ None → (o ≡ None) × (p ≡ None)
+pub or_none : {Y : Type 0} (o p : Option Y) → option_or o p ≡ None → (o ≡ None) × (p ≡ None)
 or_none None p e = (refl, e)
 or_none (Some x) p e = absurd (none-some x (sym e))
+
+pub or_nothing : {Y : Type 0} (o : Option Y) → option_or o None ≡ o
+or_nothing None = refl
+or_nothing (Some x) = refl
 
 pub or_assoc : {Y : Type 0} (o p q : Option Y) → option_or (option_or o p) q ≡ option_or o (option_or p q)
 or_assoc None p q = refl
@@ -57,9 +61,5 @@ pub found_only : {X Y : Type 0} (f : X → Option Y) (xs : List X) (k : ℕ) (d 
 found_only f [] k d lt none = absurd (omega arith)
 found_only f (x ∷ xs) zero d lt none =
     rw (found_none f xs (λ j d lt. none (suc j) d (omega arith) (λ e. absurd (omega arith)))) (or_nothing (f x))
-  where
-    or_nothing : {Y : Type 0} (o : Option Y) → option_or o None ≡ o
-    or_nothing None = refl
-    or_nothing (Some x) = refl
 found_only f (x ∷ xs) (suc k) d lt none =
     rw (none 0 x (omega arith) (λ e. absurd (omega arith))) (found_only f xs k d (omega arith) (λ j d lt ne. none (suc j) d (omega arith) (λ e. ne (omega arith))))

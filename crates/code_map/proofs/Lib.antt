@@ -1,3 +1,8 @@
 pub mod First
 pub mod Found
 pub mod KeptWords
+pub mod Adding
+pub mod Sweep
+pub mod Gathered
+pub mod Has
+pub mod Indexed

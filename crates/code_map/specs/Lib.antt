@@ -1,5 +1,8 @@
+pub mod Conflicts
+pub mod Joined
 pub mod Kept
 pub mod Outcome
+pub mod Pieces
 pub mod Places
 pub mod Reading
 pub mod Runs

@@ -2,7 +2,10 @@
 #![tactic(auto)]
 
 mod fault;
+mod index;
+mod joined;
 mod map;
+mod pieces;
 mod runs;
 
 pub use fault::MapError;

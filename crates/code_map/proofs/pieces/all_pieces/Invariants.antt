@@ -1,0 +1,6 @@
+use Rattle.std.proofs.Common.{◌≡◌, ◌++◌, map, take}
+use Rattle.code_map.specs.Pieces.{all_pieces, told}
+use Rattle.code_map.proofs.pieces.all_pieces.Given as goal
+
+abbrev pub invariant-loop-image : goal.invariant-loop-image
+invariant-loop-image l = map told l.pieces.items ≡ all_pieces (take l.image-index l.images)
