@@ -6,3 +6,5 @@ pub mod Sweep
 pub mod Gathered
 pub mod Has
 pub mod Indexed
+pub mod Valued
+pub mod Turns

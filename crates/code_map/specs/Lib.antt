@@ -7,3 +7,4 @@ pub mod Places
 pub mod Reading
 pub mod Runs
 pub mod Words
+pub mod Values

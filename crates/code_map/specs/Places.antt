@@ -1,7 +1,6 @@
 -- What a task's places stand for in its own file, and the plan of a task.
-use Rattle.std.specs.Prelude.{ℕ, ◌+◌, ◌^◌, ◌==◌, List, [], ◌∷◌, ◌++◌, codes, nat_lt, find, Option, Some, None, is_some, option_map, Result, Ok, Err, if◌then◌else◌}
+use Rattle.std.specs.Prelude.{ℕ, ◌+◌, ◌^◌, ◌==◌, List, [], ◌∷◌, ◌++◌, codes, nat_lt, Option, Some, None, is_some, option_and_then, ok_or, Result, Ok, Err, if◌then◌else◌}
 use Rattle.std.specs.Fmt.{decimal}
-use Rattle.std.specs.Str.{bytes_eq}
 use Rattle.crpd_base.specs.declared.data.Image.{Image}
 use Rattle.crpd_base.specs.declared.data.LoopAt.{LoopAt}
 use Rattle.crpd_base.specs.declared.data.LoopSpec.{LoopSpec}
@@ -14,24 +13,24 @@ use Rattle.crpd_base.specs.declared.data.TaskSpec.{TaskSpec}
 use Rattle.code_map.specs.declared.fault.MapError.{MapError}
 use Rattle.code_map.specs.declared.fault.MapError.TheVariants.{UnknownSymbol, EntryOutside}
 use Rattle.code_map.specs.Outcome.{◌>>=◌, ensure, each}
-
--- the value of the first symbol of a name
-unfoldable pub value_of : List Symbol → List ℕ → Option ℕ
-value_of symbols name = option_map (λ (s : Symbol). s.value) (find (λ (s : Symbol). bytes_eq s.name name) symbols)
+use Rattle.code_map.specs.Values.{value_of}
 
 -- how a place is told: its symbol, followed by `+` and the offset in decimal where the offset is not 0
 unfoldable pub place_text : List ℕ → ℕ → List ℕ
 place_text name offset = if offset == 0 then name else name ++ codes "+" ++ decimal offset
 
+-- a value with an offset, where the sum is below 2 ^ 32
+abbrev pub shifted : ℕ → ℕ → Option ℕ
+shifted offset value = if nat_lt (value + offset) (2 ^ 32) then Some (value + offset) else None
+
 -- a symbol's value with an offset, where the file has the symbol and the sum is below 2 ^ 32
-unfoldable pub shifted : Task → List ℕ → ℕ → Option ℕ → Result ℕ MapError
-shifted task name offset None = Err (UnknownSymbol task (place_text name offset))
-shifted task name offset (Some value) = if nat_lt (value + offset) (2 ^ 32) then Ok (value + offset) else Err (UnknownSymbol task (place_text name offset))
+abbrev pub symbol_address : List Symbol → List ℕ → ℕ → Option ℕ
+symbol_address symbols name offset = option_and_then (shifted offset) (value_of symbols name)
 
 -- the address that a place of a task stands for
 unfoldable pub address_of : Task → List Symbol → Place → Result ℕ MapError
 address_of task symbols (Number address) = Ok address
-address_of task symbols (Named name offset) = shifted task name offset (value_of symbols name)
+address_of task symbols (Named name offset) = ok_or (symbol_address symbols name offset) (UnknownSymbol task (place_text name offset))
 
 -- the entry: where no place is given, the file's own
 unfoldable pub entry_of : Task → Image → Option Place → Result ℕ MapError

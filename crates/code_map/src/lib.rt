@@ -6,7 +6,9 @@ mod index;
 mod joined;
 mod map;
 mod pieces;
+mod places;
 mod runs;
+mod symbols;
 
 pub use fault::MapError;
 pub use map::CodeMap;
