@@ -58,7 +58,6 @@ runs_more rs r a = found_append (λ r. run_byte r a) rs (r ∷ []) ∙ ap (optio
 -- ---- a piece that begins in the last run or where it ends
 
 module _ (front : List Run) (last : Run) (p : Piece) (takes : TakesPiece (front ++ last ∷ []) p) where
-
   from : last.start ≤ p.start
   from = all_last (λ (r : Run). r.start ≤ p.start) front last takes.starts
 

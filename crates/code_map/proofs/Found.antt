@@ -74,14 +74,14 @@ pub same_number : (f g : ℕ → Option ℕ) (a e : ℕ) → f a ≡ g a → ((x
     → little_endian (f a) (f (a + 1)) (f (a + 2)) (f (a + 3)) ≡ little_endian (g a) (g (a + 1)) (g (a + 2)) (g (a + 3))
 same_number f g a e here same gone = ⊎_elim
     (λ (less : a < e). let one : f (a + 1) ≡ g (a + 1) = same (a + 1) (omega arith) (omega arith) in ⊎_elim
-        (λ (less : a + 1 < e). let two : f (a + 2) ≡ g (a + 2) = same (a + 2) (omega arith) (omega arith) in ⊎_elim
-            (λ (less : a + 2 < e). let three : f (a + 3) ≡ g (a + 3) = same (a + 3) (omega arith) (omega arith) in rw (here, one, two, three) refl)
-            (λ (past : e ≤ a + 2). let none : g (a + 2) ≡ None = gone (a + 2) past in
-            rw (here, one, two, none) refl)
-            (in_order (a + 2) e))
-        (λ (past : e ≤ a + 1). let none : g (a + 1) ≡ None = gone (a + 1) past in
-        rw (here, one, none) (little_2 (g a) (f (a + 2)) (f (a + 3)) ∙ sym (little_2 (g a) (g (a + 2)) (g (a + 3)))))
-        (in_order (a + 1) e))
+    (λ (less : a + 1 < e). let two : f (a + 2) ≡ g (a + 2) = same (a + 2) (omega arith) (omega arith) in ⊎_elim
+    (λ (less : a + 2 < e). let three : f (a + 3) ≡ g (a + 3) = same (a + 3) (omega arith) (omega arith) in rw (here, one, two, three) refl)
+    (λ (past : e ≤ a + 2). let none : g (a + 2) ≡ None = gone (a + 2) past in
+    rw (here, one, two, none) refl)
+    (in_order (a + 2) e))
+    (λ (past : e ≤ a + 1). let none : g (a + 1) ≡ None = gone (a + 1) past in
+    rw (here, one, none) (little_2 (g a) (f (a + 2)) (f (a + 3)) ∙ sym (little_2 (g a) (g (a + 2)) (g (a + 3)))))
+    (in_order (a + 1) e))
     (λ (past : e ≤ a). let none : g a ≡ None = gone a past in rw (here, none) refl)
     (in_order a e)
 

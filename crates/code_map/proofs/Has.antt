@@ -107,7 +107,6 @@ of_two f xs u v one other ne =
     false_is_true e = cc
 
 module _ {X Y : Type 0} (f : X → Option ℕ) (xs : List X) (g : Y → Option ℕ) (ys : List Y) (same : (u : ℕ) → has f xs u ≡ has g ys u) where
-
   -- functions with the same numbers disagree together
   pub same_disagree : disagree f xs ≡ disagree g ys
   same_disagree = both_ways (disagree f xs) (disagree g ys)
@@ -118,16 +117,16 @@ module _ {X Y : Type 0} (f : X → Option ℕ) (xs : List X) (g : Y → Option �
   pub same_found : disagree g ys ≡ false → find_map f xs ≡ find_map g ys
   same_found agree = ⊎_elim
       (λ (none : find_map f xs ≡ None). none ∙ ⊎_elim
-          (λ (too : find_map g ys ≡ None). sym too)
-          (λ (some : (w : ℕ) × (find_map g ys ≡ Some w)). let back = found_has f xs some.0 (same some.0 ∙ has_found g ys some.0 some.1) in absurd (none-some back.0 (sym none ∙ back.1)))
-          (option_cases (find_map g ys)))
+      (λ (too : find_map g ys ≡ None). sym too)
+      (λ (some : (w : ℕ) × (find_map g ys ≡ Some w)). let back = found_has f xs some.0 (same some.0 ∙ has_found g ys some.0 some.1) in absurd (none-some back.0 (sym none ∙ back.1)))
+      (option_cases (find_map g ys)))
       (λ (some : (w : ℕ) × (find_map f xs ≡ Some w)).
       let there : has g ys some.0 ≡ true = sym (same some.0) ∙ has_found f xs some.0 some.1 in
       let found = found_has g ys some.0 there in
       some.1 ∙ ⊎_elim
-          (λ (e : eqb found.0 some.0 ≡ true). ap Some (sym (eqb-true found.0 some.0 e)) ∙ sym found.1)
-          (λ (e : eqb found.0 some.0 ≡ false). absurd (false_is_true (sym agree ∙ has_other g ys found.0 some.0 found.1 there (λ s. false_is_true (sym e ∙ eq-eqb found.0 some.0 s)))))
-          (cases_Bool (eqb found.0 some.0)))
+      (λ (e : eqb found.0 some.0 ≡ true). ap Some (sym (eqb-true found.0 some.0 e)) ∙ sym found.1)
+      (λ (e : eqb found.0 some.0 ≡ false). absurd (false_is_true (sym agree ∙ has_other g ys found.0 some.0 found.1 there (λ s. false_is_true (sym e ∙ eq-eqb found.0 some.0 s)))))
+      (cases_Bool (eqb found.0 some.0)))
       (option_cases (find_map f xs))
     where
       false_is_true : false ≡ true → ⊥

@@ -20,7 +20,10 @@ use Rattle.code_map.specs.Conflicts.{disagree, first_conflict, is_conflict, IsFi
 use Rattle.code_map.specs.Pieces.{all_pieces, piece_byte, piece_of, pieces_of, told}
 use Rattle.code_map.specs.Runs.{runs_byte, IsBefore, IsIndex}
 use Rattle.code_map.specs.Words.{byte_from, code_byte, find_map, image_byte, segment_byte}
-use Rattle.code_map.proofs.First.{found_none, found_some, option_cases}
+use Rattle.code_map.proofs.First.{found_none, found_some, option_cases, or_nothing}
+use Rattle.code_map.proofs.Sweep.{same_never}
+use Rattle.std.proofs.lemmas.List.{get_or_append_left}
+use Rattle.std.proofs.Math.Seq.{get_or-append_seam}
 use Rattle.code_map.proofs.Found.{in_order, some_within}
 use Rattle.code_map.proofs.Adding.{first_same}
 use Rattle.code_map.proofs.Has.{any_at, any_true, both_ways, equals, equals_itself, equals_true, found_has, has, has_found, two, same_disagree, same_found}
@@ -59,9 +62,9 @@ one_segment i a u w j k image inj ink one other =
     ⊎_elim
     (λ (less : j < k). absurd (image.apart j k blank less ink a in_j in_k))
     (λ (le : k ≤ j). ⊎_elim
-        (λ (less : k < j). absurd (image.apart k j blank less inj a in_k in_j))
-        (λ (ge : j ≤ k). let same : j ≡ k = omega arith in same_Some u w (sym one ∙ (ap (λ n. segment_byte (get_or i.segments n blank) a) same ∙ other)))
-        (in_order k j))
+    (λ (less : k < j). absurd (image.apart k j blank less inj a in_k in_j))
+    (λ (ge : j ≤ k). let same : j ≡ k = omega arith in same_Some u w (sym one ∙ (ap (λ n. segment_byte (get_or i.segments n blank) a) same ∙ other)))
+    (in_order k j))
     (in_order j k)
 
 has_image : (i : Image) (a u : ℕ) → IsImage i → has (λ s. segment_byte s a) i.segments u ≡ equals u (image_byte i a)
@@ -135,7 +138,6 @@ told_at (p ∷ ps) (suc k) d lt all = told_at ps k d (omega arith) (λ j c in'. 
 -- ---- the index of files
 
 module _ (is : List Image) (ps : List Piece) (all : All IsImage is) (same : IsPermutation (all_pieces is) (map told ps)) where
-
   pub same_bytes : (a u : ℕ) → has (λ p. piece_byte p a) ps u ≡ has (λ i. image_byte i a) is u
   same_bytes a u =
       sym (has_map (byte_at a) told ps u)
@@ -174,3 +176,33 @@ pub index_of : (is : List Image) (ps : List Piece) (r : Result Joined AllocError
     → IfOk r (λ j. IsFirst (λ a. disagree (λ p. piece_byte p a) ps) j.conflict) → IfOk r (λ j. j.conflict ≡ None → IsIndex j.runs.items (code_byte is))
 index_of is ps (Ok j) all same apart bytes least = index_is is ps all same j.runs.items j.conflict apart bytes least
 index_of is ps (Err e) all same apart bytes least = tt
+
+-- ---- one file by itself
+
+-- a file has no conflict with itself
+alone : (i : Image) → first_conflict (i ∷ []) ≡ None
+unfolding first_conflict
+alone i = none_below (2 ^ 32) (is_conflict (i ∷ [])) (λ a. rw (or_nothing (image_byte i a), same_never (image_byte i a)) refl)
+
+pub alone_index : (i : Image) (is : List Image) (rs : List Run) (o : Option ℕ) → is ≡ i ∷ [] → o ≡ first_conflict is → (o ≡ None → IsIndex rs (code_byte is)) → IsIndex rs (image_byte i)
+alone_index i is rs o one conflict index =
+    let found : IsIndex rs (code_byte is) = index (conflict ∙ (ap first_conflict one ∙ alone i)) in
+    record { apart = found.apart; is = λ a. found.is a ∙ (ap (λ xs. code_byte xs a) one ∙ or_nothing (image_byte i a)) }
+
+-- an index more
+pub indexes_more : (own : List (List Run)) (is : List Image) (n : ℕ) (rs : List Run) (i : Image) → length own ≡ n → n < length is → i ≡ get_or is n i → IsIndex rs (image_byte i)
+    → ((k : ℕ) (r : List Run) (d : Image) → k < n → IsIndex (get_or own k r) (image_byte (get_or is k d)))
+    → (k : ℕ) (r : List Run) (d : Image) → k < n + 1 → IsIndex (get_or (own ++ rs ∷ []) k r) (image_byte (get_or is k d))
+indexes_more own is n rs i count lt item one all k r d below = ⊎_elim
+    (λ (less : k < n). let inside : k < length own = omega arith in rw (get_or_append_left own (rs ∷ []) r k inside) (all k r d less))
+    (λ (le : n ≤ k).
+    let seam : k ≡ length own = omega arith in
+    let at : k ≡ n = omega arith in
+    let same : get_or is k d ≡ i = ap (λ m. get_or is m d) at ∙ (image_same is n d i lt ∙ sym item) in
+    rw (same, seam, get_or-append_seam own rs [] r) one)
+    (in_order k n)
+  where
+    image_same : (xs : List Image) (n : ℕ) (c d : Image) → n < length xs → get_or xs n c ≡ get_or xs n d
+    image_same [] n c d lt = absurd (omega arith)
+    image_same (x ∷ xs) zero c d lt = refl
+    image_same (x ∷ xs) (suc n) c d lt = image_same xs n c d (omega arith)

@@ -8,3 +8,4 @@ pub mod Has
 pub mod Indexed
 pub mod Valued
 pub mod Turns
+pub mod Planned

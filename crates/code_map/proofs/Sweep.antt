@@ -20,7 +20,7 @@ use Rattle.code_map.proofs.Found.{in_order}
 
 -- ---- one element more
 
-same_never : (o : Option ℕ) → differ o o ≡ false
+pub same_never : (o : Option ℕ) → differ o o ≡ false
 same_never None = refl
 same_never (Some x) = grind arith
 
@@ -36,9 +36,11 @@ disagree_more f xs y = list_any-append (λ x. differ (find_map f (xs ++ y ∷ []
   where
     all : find_map f (xs ++ y ∷ []) ≡ option_or (find_map f xs) (f y)
     all = found_append f xs (y ∷ []) ∙ ap (option_or (find_map f xs)) (or_nothing (f y))
+
     or_last : (b : Bool) → (b || false) ≡ b
     or_last true = refl
     or_last false = refl
+
     step : (find_map f xs ≡ None) ⊎ ((z : ℕ) × (find_map f xs ≡ Some z))
         → (list_any (λ x. differ (find_map f (xs ++ y ∷ [])) (f x)) xs || list_any (λ x. differ (find_map f (xs ++ y ∷ [])) (f x)) (y ∷ [])) ≡ (disagree f xs || differ (find_map f xs) (f y))
     step (inl none) =

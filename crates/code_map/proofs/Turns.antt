@@ -8,7 +8,7 @@ abbrev pub with_front : {A E : Type 0} → List A → Result (List A) E → Resu
 with_front front (Ok xs) = Ok (front ++ xs)
 with_front front (Err e) = Err e
 
-with_front_pair : {A E : Type 0} (front : List A) (x : A) (rest : Result (List A) E) → with_front front (rest >>= (λ xs. Ok (x ∷ xs))) ≡ with_front (front ++ x ∷ []) rest
+pub with_front_pair : {A E : Type 0} (front : List A) (x : A) (rest : Result (List A) E) → with_front front (rest >>= (λ xs. Ok (x ∷ xs))) ≡ with_front (front ++ x ∷ []) rest
 with_front_pair front x (Ok xs) = ap (λ ys. Ok ys) (sym (append_assoc front (x ∷ []) xs))
 with_front_pair front x (Err e) = refl
 

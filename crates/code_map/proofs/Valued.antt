@@ -33,7 +33,6 @@ same_name : (xs ys : List ℕ) → bytes_eq xs ys ≡ true → xs ≡ ys
 same_name xs ys e = (bytes_eq-Decides xs ys).0 e
 
 module _ (ss : List Symbol) (i : ℕ) (s : Symbol) (m : BTreeMap (Bor (List ℕ)) ℕ) (lt : i < length ss) (item : s ≡ get_or ss i s) (same : (name : List ℕ) → at_name m name ≡ value_of (take i ss) name) where
-
   more : (name : List ℕ) → value_of (take (i + 1) ss) name ≡ option_or (value_of (take i ss) name) (cond (bytes_eq s.name name) (Some s.value) None)
   more name = ap (λ xs. value_of xs name) (take_more ss i s lt ∙ ap (λ x. take i ss ++ x ∷ []) (sym item)) ∙ value_more (take i ss) s name
 
@@ -63,3 +62,9 @@ module _ (ss : List Symbol) (i : ℕ) (s : Symbol) (m : BTreeMap (Bor (List ℕ)
       gone : (o p : Option ℕ) → is_some o ≡ false → p ≡ option_or o p
       gone None p e = refl
       gone (Some x) p e = absurd cc
+
+-- two lists of symbols that go on being the same
+pub symbols_more : (ss ts : List Symbol) (i : ℕ) (s t : Symbol) → i < length ss → i < length ts → s ≡ get_or ss i s → t ≡ get_or ts i t → s.name ≡ t.name → s.value ≡ t.value → take i ss ≡ take i ts → take (i + 1) ss ≡ take (i + 1) ts
+symbols_more ss ts i s t lt too one other name value same =
+    let equal : s ≡ t = ◌∙◌ (ap (λ n. record { name = n; value = s.value }) name) (ap (λ v. record { name = t.name; value = v }) value) in
+    take_more ss i s lt ∙ (ap (λ x. take i ss ++ x ∷ []) (sym one ∙ (equal ∙ other)) ∙ (ap (λ xs. xs ++ get_or ts i t ∷ []) same ∙ sym (take_more ts i t too)))

@@ -9,9 +9,15 @@ use Rattle.code_map.specs.Outcome.{◌>>=◌, nowhere}
 use Rattle.code_map.specs.Places.{plans_of}
 use Rattle.code_map.specs.Words.{Code, word_at}
 
+-- files without a conflict
+unfoldable pub files_of : List Image → Result (List Image) MapError
+files_of images = do
+  _ ← nowhere CodeConflict (first_conflict images)
+  Ok images
+
 -- the code of a task set whose tasks have these images, or the first refusal
 unfoldable pub code_of : TaskSet → List Image → Result Code MapError
 code_of set images = do
-  _ ← nowhere CodeConflict (first_conflict images)
-  plans ← plans_of (word_at images) 0 set.tasks images
-  Ok (record { images = images; plans = plans })
+  files ← files_of images
+  plans ← plans_of (word_at files) 0 set.tasks files
+  Ok (record { images = files; plans = plans })

@@ -15,6 +15,7 @@ use crpd_base::Items;
 use std::alloc::{AllocError, Global};
 
 /// The runs of pieces, and the least address at which two pieces have different bytes.
+#[derive(Drop)]
 pub(crate) struct Joined {
     pub(crate) runs: Vec<Run>,
     pub(crate) conflict: Option<u32>,

@@ -2,11 +2,13 @@
 #![tactic(auto)]
 
 mod fault;
+mod files;
 mod index;
 mod joined;
 mod map;
 mod pieces;
 mod places;
+mod plans;
 mod runs;
 mod symbols;
 

@@ -1,34 +1,60 @@
-// The code of the tasks' files.
-ghost use Rattle.std.specs.Prelude.{◌≡◌, ◌+◌, ◌<◌, ◌≤◌, length, slice_get, option_map, Some, IfSome};
+// The code of a task set.
+ghost use Rattle.std.specs.Prelude.{◌≡◌, ◌+◌, ◌<◌, ◌≤◌, length, slice_get, option_map, All, Some, IfSome};
+ghost use Rattle.crpd_base.specs.Images.{IsImage};
 ghost use Rattle.rv_decode.specs.Address.{end};
+ghost use Rattle.code_map.specs.Outcome.{Gives};
+ghost use Rattle.code_map.specs.Reading.{code_of};
 ghost use Rattle.code_map.specs.Words.{word_at, owns};
 
-use crate::runs::{Run, word};
-use crpd_base::{Image, Items, Task, TaskPlan};
+use crate::fault::MapError;
+use crate::files::Files;
+use crate::plans::plans_of;
+use crpd_base::{Image, Items, Task, TaskPlan, TaskSet};
+use std::alloc::Global;
 use std::marker::Model;
 
 /// The words that the tasks' files hold, and the tasks' plans.
 #[derive(Drop)]
 pub struct CodeMap {
-    images: Items<Image>,
+    files: Files,
     plans: Items<TaskPlan>,
-    runs: Items<Run>,
-    own: Items<Items<Run>>,
 }
 
 impl Model for CodeMap {
+    ghost use Rattle.std.specs.Prelude.{◌≡◌, length};
     ghost use Rattle.code_map.specs.Words.{Code};
 
     ghost Value = { Code };
 
-    ghost use Rattle.code_map.specs.Kept.{code, IsKept};
+    ghost view = { λ m. record { images = m.files; plans = m.plans } };
 
-    ghost view = { code };
-
-    ghost invariant = { IsKept };
+    ghost invariant = { λ m. length m.plans ≡ length m.files };
 }
 
 impl CodeMap {
+    /// The code of a task set whose tasks have these images, one each, in the order of the tasks: its words, and each
+    /// task's entry, stack, global and stated loops as addresses.
+    ///
+    /// An `Err` is the first refusal: `CodeConflict`, and then by task `UnknownSymbol` for the entry, the stack, the
+    /// global and each loop with its head and ranges, and `EntryOutside`. The images are dropped then. `Memory` may
+    /// come in place of any answer.
+    ///
+    /// Time is linear in the bytes of code, and n log n in the segments and symbols.
+    #[tactic(auto, unfolding(crate::specs::Reading::code_of))]
+    pub fn new(alloc: Global, set: &TaskSet, images: Vec<Image>) -> Result<Self, MapError>
+        requires one { length images.items ≡ length set.now.tasks }
+        requires few { length set.now.tasks ≤ 256 }
+        requires images { All IsImage images.items }
+        ensures { Gives MapError.Memory (λ c. c) result (code_of set.now images.items) }
+    {
+        let files = Files::new(alloc, images)?;
+        let plans = plans_of(alloc, set.tasks.as_slice(), &files)?;
+        Ok(CodeMap {
+            files,
+            plans: Items::new(plans),
+        })
+    }
+
     /// The word at an address: a number of 32 bits whose lowest byte stands at the address. There is none where
     /// the address is no multiple of 4, is 0xFFFFFFFC, or one of the four bytes is no code byte. Logarithmic in
     /// the number of segments.
@@ -36,7 +62,7 @@ impl CodeMap {
         ensures is { result ≡ word_at self.now.images address }
         ensures within { IfSome result (λ _. address + 4 ≤ end) }
     {
-        word(self.runs.as_slice(), address)
+        self.files.word(address)
     }
 
     /// The plan of a task.
@@ -48,19 +74,25 @@ impl CodeMap {
         &self.plans.as_slice()[place]
     }
 
-    /// Whether the word at an address stands wholly in the task's own file.
+    /// Whether the word at an address stands wholly in the task's own file. Logarithmic in the number of its segments.
     pub fn own(&self, task: Task, address: u32) -> bool
         requires { task.0 < length self.now.images }
         ensures { option_map (λ i. owns i address) (slice_get self.now.images task.0) ≡ Some result }
     {
-        let runs = &self.own.as_slice()[usize::from(task.0)];
-        word(runs.as_slice(), address).is_some()
+        self.files.own(usize::from(task.0), address)
     }
 
     /// The images of the tasks' files, in the order of the tasks.
     pub fn images(&self) -> &[Image]
         ensures { result.now ≡ self.now.images }
     {
-        self.images.as_slice()
+        self.files.images()
+    }
+
+    /// There is one plan for each image.
+    pub fn plans_law(&self)
+        ensures { length self.now.plans ≡ length self.now.images }
+    {
+        let _plans = &self.plans;
     }
 }

@@ -40,10 +40,7 @@ pub(crate) fn address_of(
         Place::Number(address) => Ok(*address),
         Place::Symbol { name, offset } => match symbol_address(names, name.as_str(), *offset) {
             Some(address) => Ok(address),
-            None => Err(MapError::UnknownSymbol(
-                task,
-                place_text(alloc, name.as_str(), *offset)?,
-            )),
+            None => Err(MapError::UnknownSymbol(task, place_text(alloc, name.as_str(), *offset)?)),
         },
     }
 }
@@ -100,12 +97,7 @@ fn ranges_of(
 
 /// A stated loop: its head, then its ranges.
 #[tactic(auto, unfolding(crate::specs::Places::loop_of))]
-fn loop_of(
-    alloc: Global,
-    task: Task,
-    names: &Names,
-    spec: &LoopSpec,
-) -> Result<LoopAt, MapError>
+fn loop_of(alloc: Global, task: Task, names: &Names, spec: &LoopSpec) -> Result<LoopAt, MapError>
     ensures { Gives MapError.Memory (λ x. x) result (places.loop_of task names.now spec.now) }
 {
     let head = address_of(alloc, task, names, &spec.head)?;

@@ -1,5 +1,5 @@
 // The symbols of a file by their names.
-ghost use Rattle.std.specs.Prelude.{◌≡◌, List, ℕ, IfOk};
+ghost use Rattle.std.specs.Prelude.{◌≡◌, List, ℕ, IfOk, IsTrue};
 ghost use Rattle.std.specs.BTreeMap as tree;
 ghost use Rattle.std.specs.Cmp.Lexicographic.{slice_cmp};
 ghost use Rattle.std.specs.Ordering.{nat_cmp};
@@ -47,12 +47,35 @@ fn values(alloc: Global, symbols: &[Symbol]) -> Result<BTreeMap<&[u8], u32>, All
     Ok(values)
 }
 
+/// Whether two lists of symbols are the same.
+fn are_same(symbols: &[Symbol], others: &[Symbol]) -> bool
+    ensures { IsTrue result → symbols.now ≡ others.now }
+{
+    if symbols.len() != others.len() {
+        return false;
+    }
+    for (i, symbol) in symbols.iter().enumerate() {
+        let other = &others[i];
+        if symbol.value != other.value || symbol.name.as_slice() != other.name.as_slice() {
+            return false;
+        }
+    }
+    true
+}
+
 impl<'a> Names<'a> {
     pub(crate) fn new(alloc: Global, symbols: &'a [Symbol]) -> Result<Self, AllocError>
         ensures { IfOk result (λ n. n ≡ symbols.now) }
     {
         let values = values(alloc, symbols)?;
         Ok(Names { symbols, values })
+    }
+
+    /// Whether they are the names of these symbols.
+    pub(crate) fn are_of(&self, symbols: &[Symbol]) -> bool
+        ensures { IsTrue result → self.now ≡ symbols.now }
+    {
+        are_same(self.symbols, symbols)
     }
 
     /// The value of the first symbol of a name.

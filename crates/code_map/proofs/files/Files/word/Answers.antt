@@ -1,7 +1,7 @@
 use Rattle.std.proofs.Common.{◌∙◌, sym}
 use Rattle.code_map.proofs.KeptWords.{index_apart, kept_word, within_end}
 use Rattle.code_map.specs.Runs.{runs_byte}
-use Rattle.code_map.proofs.map.CodeMap.word.Goals as goal
+use Rattle.code_map.proofs.files.Files.word.Goals as goal
 
 pub word-requires : goal.word-requires
 word-requires c = index_apart c.self.inside _ c.self.invariant c.as_slice.ensures
