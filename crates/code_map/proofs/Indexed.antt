@@ -1,12 +1,12 @@
 -- The pieces of files have the files' code bytes.
 use Rattle.std.proofs.Common.{◌≡◌, ℕ, ◌+◌, ◌-◌, ◌^◌, ◌<◌, ◌≤◌, Bool, true, false, ◌||◌, cond, List, [], ◌∷◌, ◌++◌, ◌⊎◌, length, get_or, Option, Some, None, Result, Ok, Err, refl, ap, sym, subst, ◌∙◌, inl, inr, ⊎_elim, arith, suc, zero}
-use Rattle.std.specs.Prelude.{All, AllPairs, IfOk, map, filter}
+use Rattle.std.specs.Prelude.{All, AllPairs, IfOk, OnOk, map, filter, slice_get}
 use Rattle.std.specs.Option.{option_or}
 use Rattle.std.specs.List.{list_any}
 use Rattle.std.specs.List.Sorted.{IsPermutation}
 use Rattle.std.specs.declared.alloc.AllocError.{AllocError}
-use Rattle.std.proofs.lemmas.Bool.{cases_Bool}
-use Rattle.std.proofs.lemmas.Option.{none-some, same_Some}
+use Rattle.std.proofs.lemmas.Bool.{cases_Bool, le-leb}
+use Rattle.std.proofs.lemmas.Option.{get_or_from_slice_get, none-some, same_Some, slice_get_within}
 use Rattle.std.proofs.lemmas.List.Elements.{All-append, All-filter, All-map, All-nil}
 use Rattle.std.proofs.lemmas.List.Folds.{list_any-append}
 use Rattle.std.proofs.lemmas.List.Sorted.{All-permutation, list_any-IsPermutation}
@@ -17,14 +17,14 @@ use Rattle.code_map.specs.declared.joined.Joined.{Joined}
 use Rattle.code_map.specs.declared.pieces.Piece.{Piece}
 use Rattle.code_map.specs.declared.runs.Run.{Run}
 use Rattle.code_map.specs.Conflicts.{disagree, first_conflict, is_conflict, IsFirst, IsLeast, least_below}
-use Rattle.code_map.specs.Pieces.{all_pieces, piece_byte, piece_of, pieces_of, told}
+use Rattle.code_map.specs.Pieces.{HasBytes, all_pieces, piece_byte, piece_of, pieces_of, told}
 use Rattle.code_map.specs.Runs.{runs_byte, IsBefore, IsIndex}
 use Rattle.code_map.specs.Words.{byte_from, code_byte, find_map, image_byte, segment_byte}
 use Rattle.code_map.proofs.First.{found_none, found_some, option_cases, or_nothing}
-use Rattle.code_map.proofs.Sweep.{same_never}
+use Rattle.code_map.proofs.Sweep.{no_piece, same_never}
 use Rattle.std.proofs.lemmas.List.{get_or_append_left}
 use Rattle.std.proofs.Math.Seq.{get_or-append_seam}
-use Rattle.code_map.proofs.Found.{in_order, some_within}
+use Rattle.code_map.proofs.Found.{before_none, in_order, some_within}
 use Rattle.code_map.proofs.Adding.{first_same}
 use Rattle.code_map.proofs.Has.{any_at, any_true, both_ways, equals, equals_itself, equals_true, found_has, has, has_found, two, same_disagree, same_found}
 
@@ -106,7 +106,7 @@ least_is (suc n) p a least lt = ⊎_elim
     (in_order a n)
 
 -- a code byte stands below 2 ^ 32
-byte_below : (is : List Image) (a u : ℕ) → All IsImage is → has (λ i. image_byte i a) is u ≡ true → a < 2 ^ 32
+pub byte_below : (is : List Image) (a u : ℕ) → All IsImage is → has (λ i. image_byte i a) is u ≡ true → a < 2 ^ 32
 byte_below is a u all h =
     let no_image : Image = record { entry = 0; segments = []; symbols = [] } in
     let at = any_at (λ i. equals u (image_byte i a)) is h in
@@ -165,6 +165,26 @@ module _ (is : List Image) (ps : List Piece) (all : All IsImage is) (same : IsPe
 
   pub all_below : All (λ p. p.start + length p.bytes.now ≤ 2 ^ 32) ps
   all_below k d lt = told_at ps k d lt (All-permutation Fits (all_pieces is) (map told ps) same (pieces_fit is all))
+
+-- a byte of a piece is a byte
+byte_in : (start : ℕ) (bytes : List ℕ) (a b : ℕ) → All (λ x. x < 256) bytes → byte_from start bytes a ≡ Some b → b < 256
+byte_in start bytes a b all e = ⊎_elim
+    (λ (less : a < start). absurd (none-some b (sym (before_none start bytes a less) ∙ e)))
+    (λ (le : start ≤ a).
+    let at : slice_get bytes (a - start) ≡ Some b = rw (le-leb start a le) at e in
+    let lt : a - start < length bytes = slice_get_within bytes (a - start) b at in
+    subst (λ x. x < 256) (get_or_from_slice_get bytes (a - start) b 0 at) (all (a - start) 0 lt))
+    (in_order a start)
+
+pub code_bytes : (is : List Image) (ps : List Piece) → All IsImage is → IsPermutation (all_pieces is) (map told ps) → All HasBytes ps → (a b : ℕ) → code_byte is a ≡ Some b → b < 256
+code_bytes is ps all same bytes a b e =
+    let there = any_at (λ p. equals b (piece_byte p a)) ps (same_bytes is ps all same a b ∙ has_found (λ i. image_byte i a) is b e) in
+    let p : Piece = get_or ps there.0 no_piece in
+    byte_in p.start p.bytes.now a b (bytes there.0 no_piece there.1) (equals_true b (piece_byte p a) (there.2 no_piece))
+
+pub bytes_of : (is : List Image) (ps : List Piece) (r : Result Joined AllocError) → All IsImage is → IsPermutation (all_pieces is) (map told ps) → All HasBytes ps → OnOk r ((a b : ℕ) → code_byte is a ≡ Some b → b < 256)
+bytes_of is ps (Ok j) all same bytes = code_bytes is ps all same bytes
+bytes_of is ps (Err e) all same bytes = tt
 
 pub conflict_of : (is : List Image) (ps : List Piece) (r : Result Joined AllocError) → All IsImage is → IsPermutation (all_pieces is) (map told ps)
     → IfOk r (λ j. IsFirst (λ a. disagree (λ p. piece_byte p a) ps) j.conflict) → IfOk r (λ j. j.conflict ≡ first_conflict is)

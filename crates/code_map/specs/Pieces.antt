@@ -1,5 +1,5 @@
 -- The code bytes of files in pieces: those of one segment each.
-use Rattle.std.specs.Prelude.{ℕ, List, [], ◌∷◌, ◌++◌, Bool, Option, map, filter}
+use Rattle.std.specs.Prelude.{ℕ, List, [], ◌∷◌, ◌++◌, Bool, Option, map, filter, All, ◌<◌}
 use Rattle.crpd_base.specs.declared.data.Image.{Image}
 use Rattle.crpd_base.specs.declared.data.Segment.{Segment}
 use Rattle.code_map.specs.declared.pieces.Piece.{Piece}
@@ -24,3 +24,7 @@ told p = (p.start, p.bytes.now)
 
 abbrev pub piece_byte : Piece → ℕ → Option ℕ
 piece_byte p a = byte_from p.start p.bytes.now a
+
+-- the bytes of a piece are bytes
+abbrev pub HasBytes : Piece → Type 0
+HasBytes p = All (λ b. b < 256) p.bytes.now

@@ -1,5 +1,5 @@
 // The tasks' files with the indexes of their code bytes.
-ghost use Rattle.std.specs.Prelude.{◌≡◌, ℕ, ◌+◌, ◌<◌, ◌≤◌, length, slice_get, slice_index_or, option_map, is_some, All, List, Some, IfOk, IfSome};
+ghost use Rattle.std.specs.Prelude.{◌≡◌, ℕ, ◌+◌, ◌^◌, ◌<◌, ◌≤◌, length, slice_get, slice_index_or, option_map, is_some, All, List, Some, IfOk, IfSome};
 ghost use Rattle.crpd_base.specs.Images.{IsImage};
 ghost use Rattle.crpd_base.specs.declared.data.Image.{Image};
 ghost use Rattle.rv_decode.specs.Address.{end};
@@ -100,5 +100,12 @@ impl Files {
         ensures { result.now ≡ self.now }
     {
         self.images.as_slice()
+    }
+
+    /// A word ends below the address at which jobs end, and has 32 bits.
+    pub(crate) fn words_law(&self)
+        ensures { (a w : ℕ) → word_at self.now a ≡ Some w → (a + 4 ≤ end) × (w < 2 ^ 32) }
+    {
+        let _images = &self.images;
     }
 }

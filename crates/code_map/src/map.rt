@@ -1,5 +1,5 @@
 // The code of a task set.
-ghost use Rattle.std.specs.Prelude.{◌≡◌, ◌+◌, ◌<◌, ◌≤◌, length, slice_get, option_map, All, Some, IfSome};
+ghost use Rattle.std.specs.Prelude.{◌≡◌, ℕ, ◌+◌, ◌^◌, ◌<◌, ◌≤◌, length, slice_get, option_map, All, Some, IfSome};
 ghost use Rattle.crpd_base.specs.Images.{IsImage};
 ghost use Rattle.rv_decode.specs.Address.{end};
 ghost use Rattle.code_map.specs.Outcome.{Gives};
@@ -94,5 +94,12 @@ impl CodeMap {
         ensures { length self.now.plans ≡ length self.now.images }
     {
         let _plans = &self.plans;
+    }
+
+    /// A word ends below the address at which jobs end, and has 32 bits.
+    pub fn words_law(&self)
+        ensures { (a w : ℕ) → word_at self.now.images a ≡ Some w → (a + 4 ≤ end) × (w < 2 ^ 32) }
+    {
+        self.files.words_law();
     }
 }

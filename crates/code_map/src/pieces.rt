@@ -1,8 +1,8 @@
 // The code bytes of files in pieces, those of one segment each, ascending by their starts.
-ghost use Rattle.std.specs.Prelude.{◌≡◌, ◌+◌, ◌≤◌, ◌^◌, ◌++◌, length, map, All, IfOk};
+ghost use Rattle.std.specs.Prelude.{◌≡◌, ◌+◌, ◌≤◌, ◌^◌, ◌++◌, length, map, All, IfOk, OnOk};
 ghost use Rattle.std.specs.List.Sorted.{IsNonDecreasingBy, IsPermutation};
 ghost use Rattle.crpd_base.specs.Images.{IsImage};
-ghost use Rattle.code_map.specs.Pieces.{pieces_of, all_pieces, told};
+ghost use Rattle.code_map.specs.Pieces.{pieces_of, all_pieces, told, HasBytes};
 
 use crpd_base::Image;
 use std::alloc::{AllocError, Global};
@@ -16,13 +16,16 @@ pub(crate) struct Piece<'a> {
 
 /// Adds the pieces of a file.
 fn add_pieces<'a>(pieces: &mut Vec<Piece<'a>>, image: &'a Image) -> Result<(), AllocError>
-    ensures { IfOk result (λ _. map told pieces.new.items ≡ map told pieces.old.items ++ pieces_of image.now) }
+    requires { All HasBytes pieces.old.items }
+    ensures same { IfOk result (λ _. map told pieces.new.items ≡ map told pieces.old.items ++ pieces_of image.now) }
+    ensures bytes { OnOk result (All HasBytes pieces.new.items) }
 {
     for segment in image.segments.as_slice() {
         if segment.executable {
+            let bytes = segment.bytes.as_slice();
             pieces.push(Piece {
                 start: segment.address,
-                bytes: segment.bytes.as_slice(),
+                bytes,
             })?;
         }
     }
@@ -31,7 +34,8 @@ fn add_pieces<'a>(pieces: &mut Vec<Piece<'a>>, image: &'a Image) -> Result<(), A
 
 /// The pieces of files, one file after another.
 fn all_pieces(alloc: Global, images: &[Image]) -> Result<Vec<Piece<'_>>, AllocError>
-    ensures { IfOk result (λ v. map told v.items ≡ all_pieces images.now) }
+    ensures same { IfOk result (λ v. map told v.items ≡ all_pieces images.now) }
+    ensures bytes { IfOk result (λ v. All HasBytes v.items) }
 {
     let mut pieces = Vec::new(alloc);
     for image in images {
@@ -43,6 +47,7 @@ fn all_pieces(alloc: Global, images: &[Image]) -> Result<Vec<Piece<'_>>, AllocEr
 /// The pieces of files, ascending by their starts.
 pub(crate) fn pieces(alloc: Global, images: &[Image]) -> Result<Vec<Piece<'_>>, AllocError>
     ensures same { IfOk result (λ v. IsPermutation (all_pieces images.now) (map told v.items)) }
+    ensures bytes { IfOk result (λ v. All HasBytes v.items) }
     ensures ascending { IfOk result (λ v. IsNonDecreasingBy (λ p. p.start) v.items) }
 {
     let mut pieces = all_pieces(alloc, images)?;
