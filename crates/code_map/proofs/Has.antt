@@ -95,7 +95,7 @@ has_other f (x ∷ xs) w v found h ne =
     any_true (λ z. differ (find_map f (x ∷ xs)) (f z)) (x ∷ xs) r.0 x r.1 (differs_in (find_map f (x ∷ xs)) (f (get_or (x ∷ xs) r.0 x)) w v found (equals_true v (f (get_or (x ∷ xs) r.0 x)) (r.2 x)) ne)
 
 -- of two numbers a function disagrees
-of_two : {X : Type 0} (f : X → Option ℕ) (xs : List X) (u v : ℕ) → has f xs u ≡ true → has f xs v ≡ true → (u ≡ v → ⊥) → disagree f xs ≡ true
+pub of_two : {X : Type 0} (f : X → Option ℕ) (xs : List X) (u v : ℕ) → has f xs u ≡ true → has f xs v ≡ true → (u ≡ v → ⊥) → disagree f xs ≡ true
 of_two f xs u v one other ne =
     let w = found_has f xs u one in
     ⊎_elim

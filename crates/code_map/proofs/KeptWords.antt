@@ -82,9 +82,9 @@ little_some (Some w) (Some x) (Some y) (Some z) n e = λ a b c d. (subst (λ m. 
 word_there : (byte : ℕ → Option ℕ) (a w : ℕ) → word_by byte a ≡ Some w → ((a % 4) ≡ 0) × (a ≡ end → ⊥) × (little_endian (byte a) (byte (a + 1)) (byte (a + 2)) (byte (a + 3)) ≡ Some w)
 word_there byte a w e = ⊎_elim
     (λ (even : eqb (a % 4) 0 ≡ true). ⊎_elim
-        (λ (here : eqb a end ≡ true). absurd (none-some w (rw (even, here) at e)))
-        (λ (ne : eqb a end ≡ false). (eqb-true (a % 4) 0 even, eqb-false a end ne, rw (even, ne) at e))
-        (cases_Bool (eqb a end)))
+    (λ (here : eqb a end ≡ true). absurd (none-some w (rw (even, here) at e)))
+    (λ (ne : eqb a end ≡ false). (eqb-true (a % 4) 0 even, eqb-false a end ne, rw (even, ne) at e))
+    (cases_Bool (eqb a end)))
     (λ (odd : eqb (a % 4) 0 ≡ false). absurd (none-some w (rw odd at e)))
     (cases_Bool (eqb (a % 4) 0))
 

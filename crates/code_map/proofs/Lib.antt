@@ -9,3 +9,4 @@ pub mod Indexed
 pub mod Valued
 pub mod Turns
 pub mod Planned
+pub mod Meaning

@@ -11,6 +11,8 @@ mod places;
 mod plans;
 mod runs;
 mod symbols;
+#[cfg(test)]
+mod tests;
 
 pub use fault::MapError;
 pub use map::CodeMap;
