@@ -36,7 +36,7 @@ all_last P xs y all =
     let long : length xs < length (xs ++ y ∷ []) = omega (arith, length-append xs (y ∷ [])) in
     subst P (get_or-append_seam xs y [] y) (all (length xs) y long)
 
-all_more : {X : Type 0} (P : X → Type 0) (xs : List X) (y : X) → All P xs → P y → All P (xs ++ y ∷ [])
+pub all_more : {X : Type 0} (P : X → Type 0) (xs : List X) (y : X) → All P xs → P y → All P (xs ++ y ∷ [])
 all_more P [] y all one zero d lt = one
 all_more P [] y all one (suc k) d lt = absurd (omega arith)
 all_more P (x ∷ xs) y all one zero d lt = all 0 d (omega arith)

@@ -10,3 +10,4 @@ pub mod Valued
 pub mod Turns
 pub mod Planned
 pub mod Meaning
+mod Rows
