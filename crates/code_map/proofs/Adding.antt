@@ -1,5 +1,5 @@
 -- Runs to which a piece is added.
-use Rattle.std.proofs.Common.{◌≡◌, ℕ, ◌+◌, ◌-◌, ◌<◌, ◌≤◌, min, Bool, true, false, List, [], ◌∷◌, ◌++◌, ◌⊎◌, length, get_or, Option, Some, None, refl, ap, sym, subst, ◌∙◌, inl, inr, ⊎_elim, arith, suc, zero, length-append}
+use Rattle.std.proofs.Common.{◌≡◌, ℕ, ◌<◌, ◌≤◌, Bool, false, List, [], ◌∷◌, ◌++◌, length, get_or, Option, Some, None, refl, ap, sym, subst, ◌∙◌, ⊎_elim, arith, suc, zero, length-append}
 use Rattle.std.specs.Prelude.{All, AllPairs}
 use Rattle.std.specs.Option.{option_or}
 use Rattle.std.proofs.lemmas.List.{get_or_append_left}
@@ -7,12 +7,12 @@ use Rattle.std.proofs.Math.Seq.{get_or-append_seam}
 use Rattle.std.proofs.lemmas.List.Quantifiers.{all_pairs_push}
 use Rattle.code_map.specs.declared.pieces.Piece.{Piece}
 use Rattle.code_map.specs.declared.runs.Run.{Run}
-use Rattle.code_map.specs.Conflicts.{differ, IsFirst, IsLeast}
+use Rattle.code_map.specs.Conflicts.{differ, IsFirst}
 use Rattle.code_map.specs.Joined.{HasPiece, TakesPiece}
 use Rattle.code_map.specs.Pieces.{piece_byte}
 use Rattle.code_map.specs.Runs.{run_byte, runs_byte, end_of, IsBefore}
 use Rattle.code_map.proofs.First.{found_append, found_none, or_assoc, or_nothing}
-use Rattle.code_map.proofs.Found.{before_none, blank, get_or_same, in_order, past_none, run_has}
+use Rattle.code_map.proofs.Found.{before_none, in_order, past_none}
 
 -- ---- lists with one element more
 

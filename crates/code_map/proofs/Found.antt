@@ -1,14 +1,14 @@
 -- Where runs have their bytes.
-use Rattle.std.proofs.Common.{◌≡◌, ℕ, ◌+◌, ◌-◌, ◌%◌, ◌<◌, ◌≤◌, leb, eq-eqb, Bool, true, false, cond, List, [], ◌∷◌, ◌⊎◌, length, get_or, Option, Some, None, refl, ap, sym, subst, ◌∙◌, inl, inr, ⊎_elim, arith, suc, zero}
-use Rattle.std.specs.Prelude.{AllPairs, slice_get}
+use Rattle.std.proofs.Common.{◌≡◌, ℕ, ◌+◌, ◌-◌, ◌%◌, ◌<◌, ◌≤◌, leb, eq-eqb, true, false, List, [], ◌∷◌, ◌⊎◌, length, get_or, Option, Some, None, refl, ap, sym, subst, ◌∙◌, inl, inr, ⊎_elim, arith, suc, zero}
+use Rattle.std.specs.Prelude.{AllPairs}
 use Rattle.std.specs.List.{AllWithin}
 use Rattle.std.specs.List.Sorted.{IsNonDecreasingBy}
 use Rattle.std.proofs.Math.Nat.{eq-or-lt_of_le}
 use Rattle.std.proofs.lemmas.Bool.{cases_Bool, leb-true, leb-false, le-leb, ne_eqb}
-use Rattle.std.proofs.lemmas.Option.{none-some, slice_get_past, slice_get-get_or, slice_get_within}
+use Rattle.std.proofs.lemmas.Option.{none-some, slice_get_past, slice_get_within}
 use Rattle.rv_decode.specs.Address.{end}
 use Rattle.code_map.specs.declared.runs.Run.{Run}
-use Rattle.code_map.specs.Words.{byte_from, find_map, little_endian, word_by}
+use Rattle.code_map.specs.Words.{byte_from, little_endian, word_by}
 use Rattle.code_map.specs.Runs.{run_byte, runs_byte, end_of, IsBefore}
 use Rattle.code_map.proofs.First.{found_none, found_only}
 

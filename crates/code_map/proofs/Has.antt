@@ -1,15 +1,12 @@
 -- Which numbers a function has of the elements of a list, in any order.
-use Rattle.std.proofs.Common.{◌≡◌, ℕ, ◌+◌, ◌<◌, eqb, eqb-true, eq-eqb, Bool, true, false, ◌||◌, List, [], ◌∷◌, ◌++◌, ◌⊎◌, length, get_or, Option, Some, None, refl, ap, sym, subst, ◌∙◌, inl, inr, ⊎_elim, arith, suc, zero}
-use Rattle.std.specs.Prelude.{not, map}
+use Rattle.std.proofs.Common.{◌≡◌, ℕ, ◌<◌, eqb, eqb-true, eq-eqb, Bool, true, false, List, [], ◌∷◌, length, get_or, Option, Some, None, refl, ap, sym, ◌∙◌, ⊎_elim, arith, suc, zero}
+use Rattle.std.specs.Prelude.{not}
 use Rattle.std.specs.List.{list_any}
-use Rattle.std.specs.List.Sorted.{IsPermutation}
 use Rattle.std.proofs.lemmas.Bool.{cases_Bool, ne_eqb}
-use Rattle.std.proofs.lemmas.List.Folds.{list_any-append}
-use Rattle.std.proofs.lemmas.List.Sorted.{list_any-IsPermutation}
-use Rattle.std.proofs.lemmas.Option.{none-some, same_Some}
+use Rattle.std.proofs.lemmas.Option.{none-some}
 use Rattle.code_map.specs.Conflicts.{differ, disagree}
 use Rattle.code_map.specs.Words.{find_map}
-use Rattle.code_map.proofs.First.{found_at, found_some, none_found, option_cases}
+use Rattle.code_map.proofs.First.{found_at, found_some, option_cases}
 
 -- a number is this one
 abbrev pub equals : ℕ → Option ℕ → Bool

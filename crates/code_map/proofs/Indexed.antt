@@ -1,8 +1,6 @@
 -- The pieces of files have the files' code bytes.
-use Rattle.std.proofs.Common.{◌≡◌, ℕ, ◌+◌, ◌-◌, ◌^◌, ◌<◌, ◌≤◌, Bool, true, false, ◌||◌, cond, List, [], ◌∷◌, ◌++◌, ◌⊎◌, length, get_or, Option, Some, None, Result, Ok, Err, refl, ap, sym, subst, ◌∙◌, inl, inr, ⊎_elim, arith, suc, zero}
+use Rattle.std.proofs.Common.{◌≡◌, ℕ, ◌+◌, ◌-◌, ◌^◌, ◌<◌, ◌≤◌, Bool, true, false, ◌||◌, List, [], ◌∷◌, ◌++◌, length, get_or, Option, Some, None, Result, Ok, Err, refl, ap, sym, subst, ◌∙◌, ⊎_elim, arith, suc, zero}
 use Rattle.std.specs.Prelude.{All, AllPairs, IfOk, OnOk, map, filter, slice_get}
-use Rattle.std.specs.Option.{option_or}
-use Rattle.std.specs.List.{list_any}
 use Rattle.std.specs.List.Sorted.{IsPermutation}
 use Rattle.std.specs.declared.alloc.AllocError.{AllocError}
 use Rattle.std.proofs.lemmas.Bool.{cases_Bool, le-leb}
@@ -10,7 +8,7 @@ use Rattle.std.proofs.lemmas.Option.{get_or_from_slice_get, none-some, same_Some
 use Rattle.std.proofs.lemmas.List.Elements.{All-append, All-filter, All-map, All-nil}
 use Rattle.std.proofs.lemmas.List.Folds.{list_any-append}
 use Rattle.std.proofs.lemmas.List.Sorted.{All-permutation, list_any-IsPermutation}
-use Rattle.crpd_base.specs.Images.{AreDisjoint, IsImage, IsIn}
+use Rattle.crpd_base.specs.Images.{IsImage, IsIn}
 use Rattle.crpd_base.specs.declared.data.Image.{Image}
 use Rattle.crpd_base.specs.declared.data.Segment.{Segment}
 use Rattle.code_map.specs.declared.joined.Joined.{Joined}
@@ -20,13 +18,13 @@ use Rattle.code_map.specs.Conflicts.{disagree, first_conflict, is_conflict, IsFi
 use Rattle.code_map.specs.Pieces.{HasBytes, all_pieces, piece_byte, piece_of, pieces_of, told}
 use Rattle.code_map.specs.Runs.{runs_byte, IsBefore, IsIndex}
 use Rattle.code_map.specs.Words.{byte_from, code_byte, find_map, image_byte, segment_byte}
-use Rattle.code_map.proofs.First.{found_none, found_some, option_cases, or_nothing}
+use Rattle.code_map.proofs.First.{found_some, or_nothing}
 use Rattle.code_map.proofs.Sweep.{no_piece, same_never}
 use Rattle.std.proofs.lemmas.List.{get_or_append_left}
 use Rattle.std.proofs.Math.Seq.{get_or-append_seam}
 use Rattle.code_map.proofs.Found.{before_none, in_order, some_within}
 use Rattle.code_map.proofs.Adding.{first_same}
-use Rattle.code_map.proofs.Has.{any_at, any_true, both_ways, equals, equals_itself, equals_true, found_has, has, has_found, two, same_disagree, same_found}
+use Rattle.code_map.proofs.Has.{any_at, both_ways, equals, equals_itself, equals_true, found_has, has, has_found, two, same_disagree, same_found}
 
 -- the byte of a piece
 abbrev pub byte_at : ℕ → ℕ × List ℕ → Option ℕ

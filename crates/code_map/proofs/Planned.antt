@@ -6,7 +6,6 @@ use Rattle.crpd_base.specs.declared.data.Image.{Image}
 use Rattle.crpd_base.specs.declared.data.TaskPlan.{TaskPlan}
 use Rattle.crpd_base.specs.declared.data.TaskSpec.{TaskSpec}
 use Rattle.code_map.specs.declared.fault.MapError.{MapError}
-use Rattle.code_map.specs.Outcome.{◌>>=◌}
 use Rattle.code_map.specs.Places.{plan_of, plans_of}
 use Rattle.code_map.proofs.Turns.{with_front, with_front_pair}
 

@@ -1,9 +1,7 @@
 -- Computed rows of the definitions.
-use Rattle.std.proofs.Common.{◌≡◌, ℕ, true, false, List, [], ◌∷◌, Some, None, Ok, Err, refl}
+use Rattle.std.proofs.Common.{◌≡◌, true, false, [], ◌∷◌, Some, None, Ok, Err, refl}
 use Rattle.crpd_base.specs.declared.data.Image.{Image}
 use Rattle.crpd_base.specs.declared.data.Place.TheVariants.{Symbol as Named}
-use Rattle.crpd_base.specs.declared.data.Segment.{Segment}
-use Rattle.crpd_base.specs.declared.data.Symbol.{Symbol}
 use Rattle.code_map.specs.declared.fault.MapError.TheVariants.{UnknownSymbol}
 use Rattle.code_map.specs.Conflicts.{is_conflict}
 use Rattle.code_map.specs.Places.{address_of, place_text}

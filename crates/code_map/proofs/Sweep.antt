@@ -1,18 +1,17 @@
 -- Pieces that are joined one after another.
-use Rattle.std.proofs.Common.{◌≡◌, ℕ, ◌+◌, ◌-◌, ◌^◌, ◌<◌, ◌≤◌, min, Bool, true, false, ◌||◌, List, [], ◌∷◌, ◌++◌, ◌⊎◌, length, get_or, take, Option, Some, None, refl, ap, sym, subst, ◌∙◌, inl, inr, ⊎_elim, arith, suc, zero}
-use Rattle.std.specs.Prelude.{All, AllPairs, eqb, not}
+use Rattle.std.proofs.Common.{◌≡◌, ℕ, ◌+◌, ◌^◌, ◌<◌, ◌≤◌, min, Bool, true, false, ◌||◌, List, [], ◌∷◌, ◌++◌, ◌⊎◌, length, get_or, take, Option, Some, None, refl, ap, sym, subst, ◌∙◌, inl, inr, ⊎_elim, arith, suc, zero}
+use Rattle.std.specs.Prelude.{All, AllPairs}
 use Rattle.std.specs.Option.{option_or}
 use Rattle.std.specs.List.{list_any}
 use Rattle.std.specs.List.Sorted.{IsNonDecreasingBy}
-use Rattle.std.proofs.lemmas.Bool.{cases_Bool}
 use Rattle.std.proofs.lemmas.List.{take_more}
 use Rattle.std.proofs.lemmas.List.Folds.{list_any-append}
 use Rattle.code_map.specs.declared.pieces.Piece.{Piece}
 use Rattle.code_map.specs.declared.runs.Run.{Run}
-use Rattle.code_map.specs.Conflicts.{differ, disagree, IsFirst, IsLeast}
+use Rattle.code_map.specs.Conflicts.{differ, disagree, IsFirst}
 use Rattle.code_map.specs.Joined.{HasPiece, TakesPiece, lesser}
 use Rattle.code_map.specs.Pieces.{piece_byte}
-use Rattle.code_map.specs.Runs.{run_byte, runs_byte, IsBefore}
+use Rattle.code_map.specs.Runs.{runs_byte, IsBefore}
 use Rattle.code_map.specs.Words.{find_map}
 use Rattle.code_map.proofs.First.{found_append, or_nothing, or_none, option_cases}
 use Rattle.code_map.proofs.Adding.{differ_none, first_same}

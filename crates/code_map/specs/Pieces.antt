@@ -1,5 +1,5 @@
 -- The code bytes of files in pieces: those of one segment each.
-use Rattle.std.specs.Prelude.{ℕ, List, [], ◌∷◌, ◌++◌, Bool, Option, map, filter, All, ◌<◌}
+use Rattle.std.specs.Prelude.{ℕ, List, [], ◌∷◌, ◌++◌, Option, map, filter, All, ◌<◌}
 use Rattle.crpd_base.specs.declared.data.Image.{Image}
 use Rattle.crpd_base.specs.declared.data.Segment.{Segment}
 use Rattle.code_map.specs.declared.pieces.Piece.{Piece}

@@ -1,5 +1,5 @@
 -- What a task's places stand for in its own file, and the plan of a task.
-use Rattle.std.specs.Prelude.{ℕ, ◌+◌, ◌^◌, ◌==◌, List, [], ◌∷◌, ◌++◌, codes, nat_lt, Option, Some, None, is_some, option_and_then, ok_or, Result, Ok, Err, if◌then◌else◌}
+use Rattle.std.specs.Prelude.{ℕ, ◌+◌, ◌^◌, ◌==◌, List, [], ◌∷◌, ◌++◌, codes, nat_lt, Option, Some, None, is_some, option_and_then, ok_or, Result, Ok, if◌then◌else◌}
 use Rattle.std.specs.Fmt.{decimal}
 use Rattle.crpd_base.specs.declared.data.Image.{Image}
 use Rattle.crpd_base.specs.declared.data.LoopAt.{LoopAt}

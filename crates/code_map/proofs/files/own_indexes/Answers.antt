@@ -1,4 +1,4 @@
-use Rattle.std.proofs.Common.{subst, sym, arith, length-append}
+use Rattle.std.proofs.Common.{subst, sym, arith}
 use Rattle.crpd_base.specs.Images.{IsImage}
 use Rattle.code_map.proofs.Indexed.{indexes_more}
 use Rattle.code_map.proofs.files.own_indexes.Goals as goal

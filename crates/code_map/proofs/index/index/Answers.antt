@@ -1,4 +1,3 @@
-use Rattle.std.proofs.Common.{map, subst}
 use Rattle.code_map.proofs.Indexed.{all_below, bytes_of, conflict_of, index_of}
 use Rattle.code_map.proofs.index.index.Goals as goal
 

@@ -1,4 +1,4 @@
-use Rattle.std.proofs.Common.{ℕ, List, subst, take, arith}
+use Rattle.std.proofs.Common.{List, subst, arith}
 use Rattle.std.proofs.lemmas.List.{take_all}
 use Rattle.code_map.specs.declared.pieces.Piece.{Piece}
 use Rattle.code_map.specs.Conflicts.{disagree, IsFirst}

@@ -1,4 +1,4 @@
-use Rattle.std.proofs.Common.{◌≡◌, ◌++◌, map, take}
+use Rattle.std.proofs.Common.{◌≡◌, map, take}
 use Rattle.std.specs.Prelude.{All}
 use Rattle.code_map.specs.Pieces.{HasBytes, all_pieces, told}
 use Rattle.code_map.proofs.pieces.all_pieces.Given as goal

@@ -1,11 +1,8 @@
-use Rattle.std.proofs.Common.{◌≡◌, ◌<◌, ◌++◌, ◌∷◌, [], List, length, get_or, sym, subst, arith}
+use Rattle.std.proofs.Common.{◌≡◌, ◌<◌, List, length, get_or, subst, arith}
 use Rattle.std.proofs.lemmas.Result.{err_from_is_err_and}
 use Rattle.crpd_base.specs.declared.data.Image.{Image}
-use Rattle.crpd_base.specs.declared.data.TaskPlan.{TaskPlan}
-use Rattle.code_map.specs.Places.{plans_of}
 use Rattle.code_map.specs.Words.{word_at}
 use Rattle.code_map.proofs.Planned.{plan_more, plan_refused, plans_end}
-use Rattle.code_map.proofs.Turns.{with_front}
 use Rattle.code_map.proofs.plans.plans_of.Goals as goal
 
 pub returns-in_err-plan_of-clause-is : goal.returns-in_err-plan_of-clause-is

@@ -1,5 +1,4 @@
 use Rattle.std.proofs.Common.{◌≡◌, ◌+◌, ◌-◌, ◌<◌, ◌∙◌, length, sym, subst, arith}
-use Rattle.std.specs.List.{AllWithin}
 use Rattle.code_map.specs.declared.runs.Run.{Run}
 use Rattle.code_map.specs.Runs.{run_byte, runs_byte}
 use Rattle.code_map.specs.Words.{little_endian}

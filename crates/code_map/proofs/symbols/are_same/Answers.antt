@@ -1,4 +1,4 @@
-use Rattle.std.proofs.Common.{◌≡◌, ◌∙◌, ap, sym, arith, true, false, Bool, not, refl}
+use Rattle.std.proofs.Common.{◌≡◌, ◌∙◌, sym, arith, true, false, Bool, not, refl}
 use Rattle.std.proofs.lemmas.Bool.Decides.{Decides-eqb}
 use Rattle.std.proofs.lemmas.Slice.Eq.{slice_eq-Decides}
 use Rattle.code_map.proofs.Valued.{symbols_more}

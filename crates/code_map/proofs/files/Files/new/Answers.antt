@@ -1,6 +1,4 @@
-use Rattle.std.proofs.Common.{◌≡◌, List, ◌∙◌, ap, sym, subst, length}
-use Rattle.crpd_base.specs.declared.data.Image.{Image}
-use Rattle.code_map.specs.declared.runs.Run.{Run}
+use Rattle.std.proofs.Common.{◌∙◌, sym}
 use Rattle.code_map.proofs.KeptWords.{is_kept}
 use Rattle.code_map.proofs.files.Files.new.Goals as goal
 
