@@ -1,0 +1,13 @@
+use Rattle.std.proofs.Common.{◌∙◌}
+use Rattle.code_map.proofs.KeptWords.{index_apart, kept_word, within_end}
+use Rattle.code_map.specs.Runs.{runs_byte}
+use Rattle.code_map.proofs.files.Files.word.Goals as goal
+
+pub word-requires : goal.word-requires
+word-requires c = index_apart c.self.inside _ c.self.invariant c.as_slice.ensures
+
+pub returns : goal.returns
+returns c = record {
+  is = c.word.ensures ∙ kept_word c.self.inside c.args.self.now c.as_slice.result.now c.args.address c.self.invariant c.self.view_is c.as_slice.ensures;
+  within = within_end (runs_byte c.as_slice.result.now) c.args.address c.word.result c.ranges.address.fits c.word.ensures;
+}

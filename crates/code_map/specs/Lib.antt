@@ -1,0 +1,10 @@
+pub mod Conflicts
+pub mod Joined
+pub mod Kept
+pub mod Outcome
+pub mod Pieces
+pub mod Places
+pub mod Reading
+pub mod Runs
+pub mod Words
+pub mod Values

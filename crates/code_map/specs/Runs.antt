@@ -1,0 +1,24 @@
+-- Code bytes kept as runs: bytes at successive addresses, by their starts.
+use Rattle.std.specs.Prelude.{◌≡◌, ℕ, ◌+◌, ◌<◌, List, length, AllPairs, Option}
+use Rattle.code_map.specs.declared.runs.Run.{Run}
+use Rattle.code_map.specs.Words.{byte_from, find_map}
+
+abbrev pub run_byte : Run → ℕ → Option ℕ
+run_byte r a = byte_from r.start r.bytes a
+
+-- the byte of the first run that has one
+abbrev pub runs_byte : List Run → ℕ → Option ℕ
+runs_byte rs a = find_map (λ r. run_byte r a) rs
+
+-- the address after the last of a run's
+abbrev pub end_of : Run → ℕ
+end_of r = r.start + length r.bytes
+
+-- an address lies between the two runs, which neither has
+abbrev pub IsBefore : Run → Run → Type 0
+IsBefore r s = end_of r < s.start
+
+-- runs that ascend with an address between any two, and have these bytes
+pub record IsIndex (runs : List Run) (byte : ℕ → Option ℕ) : Type 0 where
+  pub apart : AllPairs IsBefore runs
+  pub is : (a : ℕ) → runs_byte runs a ≡ byte a

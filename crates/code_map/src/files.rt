@@ -1,0 +1,111 @@
+// The tasks' files with the indexes of their code bytes.
+ghost use Rattle.std.specs.Prelude.{◌≡◌, ℕ, ◌+◌, ◌^◌, ◌<◌, ◌≤◌, length, slice_get, slice_index_or, option_map, is_some, All, List, Some, IfOk, IfSome};
+ghost use Rattle.crpd_base.specs.Images.{IsImage};
+ghost use Rattle.crpd_base.specs.declared.data.Image.{Image};
+ghost use Rattle.rv_decode.specs.Address.{end};
+ghost use Rattle.code_map.specs.declared.runs.Run.{Run};
+ghost use Rattle.code_map.specs.Outcome.{Gives};
+ghost use Rattle.code_map.specs.Reading.{files_of};
+ghost use Rattle.code_map.specs.Runs.{IsIndex};
+ghost use Rattle.code_map.specs.Words.{image_byte, word_at, owns};
+
+use crate::fault::MapError;
+use crate::index::index;
+use crate::runs::{Run, word};
+use crpd_base::{Image, Items};
+use std::alloc::{AllocError, Global};
+use std::marker::Model;
+use std::slice;
+
+/// The images of files, without a conflict, and their words. A contract sees it as the images.
+#[derive(Drop)]
+pub(crate) struct Files {
+    images: Items<Image>,
+    runs: Items<Run>,
+    own: Items<Items<Run>>,
+}
+
+impl Model for Files {
+    ghost use Rattle.std.specs.Prelude.{List};
+    ghost use Rattle.crpd_base.specs.declared.data.Image.{Image};
+
+    ghost Value = { List Image };
+
+    ghost use Rattle.code_map.specs.Kept.{IsKept};
+
+    ghost view = { λ f. f.images };
+
+    ghost invariant = { IsKept };
+}
+
+/// The index of one file.
+fn own_index(alloc: Global, image: &Image) -> Result<Items<Run>, AllocError>
+    requires { IsImage image.now }
+    ensures { IfOk result (λ rs. IsIndex rs (image_byte image.now)) }
+{
+    let joined = index(alloc, slice::from_ref(image))?;
+    Ok(Items::new(joined.runs))
+}
+
+/// The index of each file by itself.
+fn own_indexes(alloc: Global, images: &[Image]) -> Result<Vec<Items<Run>>, AllocError>
+    requires { All IsImage images.now }
+    ensures count { IfOk result (λ v. length v.items ≡ length images.now) }
+    ensures each { IfOk result (λ v. (k : ℕ) (r : List Run) (i : Image) → k < length images.now → IsIndex (slice_index_or v.items k r) (image_byte (slice_index_or images.now k i))) }
+{
+    let mut own = Vec::new(alloc);
+    for image in images {
+        own.push(own_index(alloc, image)?)?;
+    }
+    Ok(own)
+}
+
+impl Files {
+    #[tactic(auto, unfolding(crate::specs::Reading::files_of))]
+    pub(crate) fn new(alloc: Global, images: Vec<Image>) -> Result<Self, MapError>
+        requires { All IsImage images.items }
+        ensures is { Gives MapError.Memory (λ f. f) result (files_of images.items) }
+        ensures images { IfOk result (λ f. f ≡ images.items) }
+    {
+        let joined = index(alloc, &images)?;
+        if let Some(address) = joined.conflict {
+            return Err(MapError::CodeConflict(address));
+        }
+        let own = own_indexes(alloc, &images)?;
+        Ok(Files {
+            images: Items::new(images),
+            runs: Items::new(joined.runs),
+            own: Items::new(own),
+        })
+    }
+
+    /// The word at an address.
+    pub(crate) fn word(&self, address: u32) -> Option<u32>
+        ensures is { result ≡ word_at self.now address }
+        ensures within { IfSome result (λ _. address + 4 ≤ end) }
+    {
+        word(self.runs.as_slice(), address)
+    }
+
+    /// Whether the word at an address stands wholly in the file at a place.
+    pub(crate) fn own(&self, place: usize, address: u32) -> bool
+        requires { place < length self.now }
+        ensures { option_map (λ i. owns i address) (slice_get self.now place) ≡ Some result }
+    {
+        let runs = &self.own.as_slice()[place];
+        word(runs.as_slice(), address).is_some()
+    }
+
+    pub(crate) fn images(&self) -> &[Image]
+        ensures { result.now ≡ self.now }
+    {
+        self.images.as_slice()
+    }
+
+    /// A word ends below the address at which jobs end, and has 32 bits.
+    pub(crate) fn words_law(&self)
+        ensures { (a w : ℕ) → word_at self.now a ≡ Some w → (a + 4 ≤ end) × (w < 2 ^ 32) }
+    {
+        let _images = &self.images;
+    }
+}

@@ -1,0 +1,18 @@
+//! The words that the tasks' files hold, and the addresses that the tasks' places stand for.
+#![tactic(auto)]
+
+mod fault;
+mod files;
+mod index;
+mod joined;
+mod map;
+mod pieces;
+mod places;
+mod plans;
+mod runs;
+mod symbols;
+#[cfg(test)]
+mod tests;
+
+pub use fault::MapError;
+pub use map::CodeMap;

@@ -1,0 +1,105 @@
+// The code of a task set.
+ghost use Rattle.std.specs.Prelude.{◌≡◌, ℕ, ◌+◌, ◌^◌, ◌<◌, ◌≤◌, length, slice_get, option_map, All, Some, IfSome};
+ghost use Rattle.crpd_base.specs.Images.{IsImage};
+ghost use Rattle.rv_decode.specs.Address.{end};
+ghost use Rattle.code_map.specs.Outcome.{Gives};
+ghost use Rattle.code_map.specs.Reading.{code_of};
+ghost use Rattle.code_map.specs.Words.{word_at, owns};
+
+use crate::fault::MapError;
+use crate::files::Files;
+use crate::plans::plans_of;
+use crpd_base::{Image, Items, Task, TaskPlan, TaskSet};
+use std::alloc::Global;
+use std::marker::Model;
+
+/// The words that the tasks' files hold, and the tasks' plans.
+#[derive(Drop)]
+pub struct CodeMap {
+    files: Files,
+    plans: Items<TaskPlan>,
+}
+
+impl Model for CodeMap {
+    ghost use Rattle.std.specs.Prelude.{◌≡◌, length};
+    ghost use Rattle.code_map.specs.Words.{Code};
+
+    ghost Value = { Code };
+
+    ghost view = { λ m. record { images = m.files; plans = m.plans } };
+
+    ghost invariant = { λ m. length m.plans ≡ length m.files };
+}
+
+impl CodeMap {
+    /// The code of a task set whose tasks have these images, one each, in the order of the tasks: its words, and each
+    /// task's entry, stack, global and stated loops as addresses.
+    ///
+    /// An `Err` is the first refusal: `CodeConflict`, and then by task `UnknownSymbol` for the entry, the stack, the
+    /// global and each loop with its head and ranges, and `EntryOutside`. The images are dropped then. `Memory` may
+    /// come in place of any answer.
+    ///
+    /// Time is linear in the bytes of code, and n log n in the segments and symbols.
+    #[tactic(auto, unfolding(crate::specs::Reading::code_of))]
+    pub fn new(alloc: Global, set: &TaskSet, images: Vec<Image>) -> Result<Self, MapError>
+        requires one { length images.items ≡ length set.now.tasks }
+        requires few { length set.now.tasks ≤ 256 }
+        requires images { All IsImage images.items }
+        ensures { Gives MapError.Memory (λ c. c) result (code_of set.now images.items) }
+    {
+        let files = Files::new(alloc, images)?;
+        let plans = plans_of(alloc, set.tasks.as_slice(), &files)?;
+        Ok(CodeMap {
+            files,
+            plans: Items::new(plans),
+        })
+    }
+
+    /// The word at an address: a number of 32 bits whose lowest byte stands at the address. There is none where
+    /// the address is no multiple of 4, is 0xFFFFFFFC, or one of the four bytes is no code byte. Logarithmic in
+    /// the number of segments.
+    pub fn word(&self, address: u32) -> Option<u32>
+        ensures is { result ≡ word_at self.now.images address }
+        ensures within { IfSome result (λ _. address + 4 ≤ end) }
+    {
+        self.files.word(address)
+    }
+
+    /// The plan of a task.
+    pub fn plan(&self, task: Task) -> &TaskPlan
+        requires { task.0 < length self.now.plans }
+        ensures { slice_get self.now.plans task.0 ≡ Some result.now }
+    {
+        let place = usize::from(task.0);
+        &self.plans.as_slice()[place]
+    }
+
+    /// Whether the word at an address stands wholly in the task's own file. Logarithmic in the number of its segments.
+    pub fn own(&self, task: Task, address: u32) -> bool
+        requires { task.0 < length self.now.images }
+        ensures { option_map (λ i. owns i address) (slice_get self.now.images task.0) ≡ Some result }
+    {
+        self.files.own(usize::from(task.0), address)
+    }
+
+    /// The images of the tasks' files, in the order of the tasks.
+    pub fn images(&self) -> &[Image]
+        ensures { result.now ≡ self.now.images }
+    {
+        self.files.images()
+    }
+
+    /// There is one plan for each image.
+    pub fn plans_law(&self)
+        ensures { length self.now.plans ≡ length self.now.images }
+    {
+        let _plans = &self.plans;
+    }
+
+    /// A word ends below the address at which jobs end, and has 32 bits.
+    pub fn words_law(&self)
+        ensures { (a w : ℕ) → word_at self.now.images a ≡ Some w → (a + 4 ≤ end) × (w < 2 ^ 32) }
+    {
+        self.files.words_law();
+    }
+}

@@ -1,0 +1,65 @@
+// Code bytes kept as runs of bytes at successive addresses, so that a byte is found by the starts of the runs.
+ghost use Rattle.std.specs.Prelude.{◌≡◌, ℕ, ◌+◌, ◌*◌, ◌<◌, ◌≤◌, length, slice_index, AllPairs, Some};
+ghost use Rattle.std.specs.List.{AllWithin};
+ghost use Rattle.code_map.specs.Words.{little_endian, word_by};
+ghost use Rattle.code_map.specs.Runs.{run_byte, runs_byte, IsBefore};
+
+use crpd_base::Items;
+
+/// The address at which jobs end, and no word stands.
+const END: u32 = 0xFFFF_FFFC;
+
+/// Bytes at successive addresses.
+#[derive(Drop)]
+pub(crate) struct Run {
+    pub(crate) start: u32,
+    pub(crate) bytes: Items<u8>,
+}
+
+/// How many runs start at or below an address.
+fn runs_up_to(runs: &[Run], address: u32) -> usize
+    requires { AllPairs IsBefore runs.now }
+    ensures bound { result ≤ length runs.now }
+    ensures before { AllWithin (λ r. r.start ≤ address) runs.now 0 result }
+    ensures after { AllWithin (λ r. address < r.start) runs.now result (length runs.now) }
+{
+    runs.partition_point(|run| run.start <= address)
+}
+
+/// The number of four bytes, the lowest first.
+fn number(bytes: &[u8]) -> u32
+    requires { length bytes.now ≡ 4 }
+    ensures { result ≡ slice_index bytes.now 0 + 256 * slice_index bytes.now 1 + 65536 * slice_index bytes.now 2 + 16777216 * slice_index bytes.now 3 }
+{
+    let (low, high) = (u32::from(bytes[0]), u32::from(bytes[1]));
+    let (third, fourth) = (u32::from(bytes[2]), u32::from(bytes[3]));
+    low + 256 * high + 65536 * third + 16_777_216 * fourth
+}
+
+/// The number of the four bytes of a run from an address on.
+fn number_in(run: &Run, address: u32) -> Option<u32>
+    requires { run.now.start ≤ address }
+    ensures { result ≡ little_endian (run_byte run.now address) (run_byte run.now (address + 1)) (run_byte run.now (address + 2)) (run_byte run.now (address + 3)) }
+{
+    let bytes = run.bytes.as_slice();
+    let from = (address - run.start) as usize;
+    if bytes.len() < 4 || bytes.len() - 4 < from {
+        return None;
+    }
+    Some(number(&bytes[from..from + 4]))
+}
+
+/// The word at an address.
+pub(crate) fn word(runs: &[Run], address: u32) -> Option<u32>
+    requires { AllPairs IsBefore runs.now }
+    ensures { result ≡ word_by (runs_byte runs.now) address }
+{
+    if address % 4 != 0 || address == END {
+        return None;
+    }
+    let count = runs_up_to(runs, address);
+    if count == 0 {
+        return None;
+    }
+    number_in(&runs[count - 1], address)
+}
