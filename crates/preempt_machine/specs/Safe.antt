@@ -3,6 +3,7 @@ use Rattle.std.specs.Prelude.{◌≡◌, ℕ, ◌+◌, ◌<◌, ◌≤◌, true,
 use Rattle.crpd_base.specs.declared.data.ScriptJob.{ScriptJob}
 use Rattle.crpd_base.specs.declared.data.TaskSet.{TaskSet}
 use Rattle.rv_core.specs.Memory.{IsMemory}
+use Rattle.code_map.specs.Words.{Code, word_at}
 use Rattle.flow_watch.specs.Watch.{is_kept}
 use Rattle.script_reader.specs.Legal.{IsLegal}
 use Rattle.preempt_machine.specs.declared.End.{End}
@@ -58,3 +59,11 @@ abbrev pub IsSafe : System → TaskSet → List ℕ → Type 0
 IsSafe sys set responses =
     (s : Start) (n : ℕ) → s.system ≡ sys → IsLegalRun set s → IsKept (state s n) →
     All (λ (job : Job). ¬ IsLate n (slice_index responses job.line.task.0) job) (state s n).jobs
+
+-- the machine's system of a task set and its code
+abbrev pub system_of : TaskSet → Code → System
+system_of set code = record { platform = set.platform; plans = code.plans; word = word_at code.images }
+
+-- a task set with its code is safe with a response time for each task
+abbrev pub IsSafeWith : TaskSet → Code → List ℕ → Type 0
+IsSafeWith set code responses = IsSafe (system_of set code) set responses

@@ -2,12 +2,15 @@
 use Rattle.std.specs.Prelude.{◌≡◌, ◌≢◌, ◌⊎◌, ℕ, ◌+◌, ◌<◌, ◌≤◌, false, length, Some}
 use Rattle.crpd_base.specs.declared.data.TaskSet.{TaskSet}
 use Rattle.crpd_base.specs.declared.data.Certificate.{Certificate}
+use Rattle.crpd_base.specs.Ranges.{IsTaskSet}
+use Rattle.rv_decode.specs.Flow.{IsCodeMap}
+use Rattle.code_map.specs.Words.{Code, word_at}
 use Rattle.loop_regions.specs.TaskGraph.{TaskGraph}
 use Rattle.evict_sets.specs.Certificate.{cert_at}
-use Rattle.cert_check.specs.Judge.{IsYes, responses}
-use Rattle.preempt_machine.specs.Machine.{System}
+use Rattle.cert_check.specs.Judge.{IsGraphOf, IsYes, responses}
+use Rattle.preempt_machine.specs.Machine.{System, plan_of}
 use Rattle.preempt_machine.specs.Step.{is_open, candidate, Start, state}
-use Rattle.preempt_machine.specs.Safe.{IsSafe, IsRunOf, IsKept, IsAnsweredBy}
+use Rattle.preempt_machine.specs.Safe.{IsSafe, system_of, IsSafeWith, IsRunOf, IsKept, IsAnsweredBy}
 use Rattle.run_account.specs.Fetches.{job_of}
 use Rattle.run_account.specs.Nodes.{task_of}
 use Rattle.sound_laws.specs.Walks.{IsInRange, IsCodeOf}
@@ -17,6 +20,14 @@ abbrev pub YesIsSafe : Type 0
 YesIsSafe =
     (sys : System) (set : TaskSet) (graphs : ℕ → TaskGraph) (c : Certificate) →
     IsInRange set → IsCodeOf sys set graphs → IsYes set graphs c → IsSafe sys set (responses c)
+
+-- so a task set in its ranges, with its code, of which these are the graphs without refusals, is safe after a yes
+abbrev pub CheckedCodeIsSafe : Type 0
+CheckedCodeIsSafe =
+    (set : TaskSet) (code : Code) (graphs : ℕ → TaskGraph) (c : Certificate) →
+    IsTaskSet set → IsCodeMap (word_at code.images) →
+    ((k : ℕ) → k < length set.tasks → IsGraphOf (word_at code.images) (plan_of (system_of set code) k) (graphs k)) →
+    IsYes set graphs c → IsSafeWith set code (responses c)
 
 -- from its first step as the candidate on, a job is the candidate of so many steps, or over
 pub record IsUndisturbed (s : Start) (x first steps : ℕ) : Type 0 where
