@@ -39,7 +39,14 @@ impl CodeMap {
     /// global and each loop with its head and ranges, and `EntryOutside`. The images are dropped then. `Memory` may
     /// come in place of any answer.
     ///
-    /// Time is linear in the bytes of code, and n log n in the segments and symbols.
+    /// The code bytes are the file bytes of executable segments. Files are told apart by their bytes alone: tasks that
+    /// name one file have equal images, which never conflict. An address is in bytes and below 2^32.
+    ///
+    /// Time is linear in the bytes of code, and n log n in the segments and symbols; equal symbols of several images
+    /// are sorted once. The code map holds the code bytes twice beside the images.
+    ///
+    /// Source: Tool Interface Standard, Executable and Linking Format, version 1.2, book I (p_vaddr, p_filesz, PF_X,
+    /// st_value), and the RISC-V unprivileged manual (instructions are little-endian words at multiples of 4).
     #[tactic(auto, unfolding(crate::specs::Reading::code_of))]
     pub fn new(alloc: Global, set: &TaskSet, images: Vec<Image>) -> Result<Self, MapError>
         requires one { length images.items ≡ length set.now.tasks }
@@ -65,7 +72,7 @@ impl CodeMap {
         self.files.word(address)
     }
 
-    /// The plan of a task.
+    /// The plan of a task: the addresses of its entry, stack, global and loops. Takes no time that grows.
     pub fn plan(&self, task: Task) -> &TaskPlan
         requires { task.0 < length self.now.plans }
         ensures { slice_get self.now.plans task.0 ≡ Some result.now }
