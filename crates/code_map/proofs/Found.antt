@@ -6,9 +6,8 @@ use Rattle.std.specs.List.Sorted.{IsNonDecreasingBy}
 use Rattle.std.proofs.Math.Nat.{eq-or-lt_of_le}
 use Rattle.std.proofs.lemmas.Bool.{cases_Bool, leb-true, leb-false, le-leb, ne_eqb}
 use Rattle.std.proofs.lemmas.Option.{none-some, slice_get_past, slice_get_within}
-use Rattle.rv_decode.specs.Address.{end}
 use Rattle.code_map.specs.declared.runs.Run.{Run}
-use Rattle.code_map.specs.Words.{byte_from, little_endian, word_by}
+use Rattle.code_map.specs.Words.{byte_from, little_endian, word_by, end}
 use Rattle.code_map.specs.Runs.{run_byte, runs_byte, end_of, IsBefore}
 use Rattle.code_map.proofs.First.{found_none, found_only}
 

@@ -3,7 +3,6 @@ use Rattle.std.proofs.Common.{◌≡◌, ℕ, ◌+◌, ◌*◌, ◌%◌, ◌^◌
 use Rattle.std.specs.Prelude.{slice_get, option_map, is_some, All, AllPairs, IfSome}
 use Rattle.std.proofs.lemmas.Bool.{cases_Bool, eqb-true, eqb-false, ne_eqb}
 use Rattle.std.proofs.lemmas.Option.{none-some, same_Some, slice_get-get_or}
-use Rattle.rv_decode.specs.Address.{end}
 use Rattle.crpd_base.specs.Images.{IsImage}
 use Rattle.crpd_base.specs.declared.data.Image.{Image}
 use Rattle.code_map.proofs.Has.{has_found}
@@ -12,7 +11,7 @@ use Rattle.code_map.specs.declared.files.Files.TheInside.{Inside}
 use Rattle.code_map.specs.declared.runs.Run.{Run}
 use Rattle.code_map.specs.Kept.{IsKept}
 use Rattle.code_map.specs.Runs.{runs_byte, IsBefore, IsIndex}
-use Rattle.code_map.specs.Words.{code_byte, image_byte, little_endian, owns, word_at, word_by}
+use Rattle.code_map.specs.Words.{code_byte, image_byte, little_endian, owns, word_at, word_by, end}
 
 word_same : (f g : ℕ → Option ℕ) (a : ℕ) → ((x : ℕ) → f x ≡ g x) → word_by f a ≡ word_by g a
 word_same f g a h = rw (h a, h (a + 1), h (a + 2), h (a + 3)) refl

@@ -4,7 +4,10 @@ use Rattle.std.specs.Option.{option_or}
 use Rattle.crpd_base.specs.declared.data.Image.{Image}
 use Rattle.crpd_base.specs.declared.data.Segment.{Segment}
 use Rattle.crpd_base.specs.declared.data.TaskPlan.{TaskPlan}
-use Rattle.rv_decode.specs.Address.{end}
+
+-- the address at which jobs end; no code stands there
+abbrev pub end : ℕ
+end = 0xFFFFFFFC
 
 -- the tasks' images and plans, in the order of the tasks
 pub record Code : Type 0 where

@@ -2,12 +2,11 @@
 ghost use Rattle.std.specs.Prelude.{◌≡◌, ℕ, ◌+◌, ◌^◌, ◌<◌, ◌≤◌, length, slice_get, slice_index_or, option_map, is_some, All, List, Some, IfOk, IfSome};
 ghost use Rattle.crpd_base.specs.Images.{IsImage};
 ghost use Rattle.crpd_base.specs.declared.data.Image.{Image};
-ghost use Rattle.rv_decode.specs.Address.{end};
 ghost use Rattle.code_map.specs.declared.runs.Run.{Run};
 ghost use Rattle.code_map.specs.Outcome.{Gives};
 ghost use Rattle.code_map.specs.Reading.{files_of};
 ghost use Rattle.code_map.specs.Runs.{IsIndex};
-ghost use Rattle.code_map.specs.Words.{image_byte, word_at, owns};
+ghost use Rattle.code_map.specs.Words.{image_byte, word_at, owns, end};
 
 use crate::fault::MapError;
 use crate::index::index;

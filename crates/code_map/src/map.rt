@@ -1,10 +1,9 @@
 // The code of a task set.
 ghost use Rattle.std.specs.Prelude.{◌≡◌, ℕ, ◌+◌, ◌^◌, ◌<◌, ◌≤◌, length, slice_get, option_map, All, Some, IfSome};
 ghost use Rattle.crpd_base.specs.Images.{IsImage};
-ghost use Rattle.rv_decode.specs.Address.{end};
 ghost use Rattle.code_map.specs.Outcome.{Gives};
 ghost use Rattle.code_map.specs.Reading.{code_of};
-ghost use Rattle.code_map.specs.Words.{word_at, owns};
+ghost use Rattle.code_map.specs.Words.{word_at, owns, end};
 
 use crate::fault::MapError;
 use crate::files::Files;
