@@ -3,10 +3,9 @@ use Rattle.std.specs.Prelude.{◌≡◌, ℕ, ◌<◌, List, Some}
 use Rattle.crpd_base.specs.declared.data.TaskPlan.{TaskPlan}
 use Rattle.rv_decode.specs.Flow.{Words, flows}
 use Rattle.rv_decode.specs.Table.{row}
-use Rattle.flat_graph.specs.FlatGraph.{FlatNode}
+use Rattle.flat_graph.specs.FlatGraph.{FlatNode, HasNoErrors}
 use Rattle.flat_graph.specs.Numbered.{IsFlatGraph, ArePlaces}
 use Rattle.loop_regions.specs.Stated.{IsRegions, IsAccepted}
-use Rattle.loop_regions.specs.Watched.{HasNoErrors}
 use Rattle.loop_regions.specs.TaskGraph.{TaskGraph}
 use Rattle.cert_check.specs.Judge.{IsGraphOf}
 

@@ -10,7 +10,7 @@ use Rattle.std.specs.Prelude.{Some}
 use Rattle.icache.specs.Accesses.{Accesses, accesses}
 use Rattle.flat_graph.specs.Numbered.{FollowsCode}
 use Rattle.loop_regions.specs.Stated.{IsRegions, IsAccepted}
-use Rattle.loop_regions.specs.Watched.{HasNoErrors}
+use Rattle.flat_graph.specs.FlatGraph.{HasNoErrors}
 use Rattle.evict_sets.specs.Clauses.{ListsLeaders, StatesMeet, UsefulMeets, SetsMeet}
 use Rattle.evict_sets.specs.Longest.{longest}
 use Rattle.delay_count.specs.Demand.{demand}

@@ -7,13 +7,13 @@ use Rattle.rv_decode.specs.declared.Ins.{Ins}
 use Rattle.rv_decode.specs.Address.{after, end}
 use Rattle.rv_decode.specs.Flow.{Flow, Plain, Branch, Jump, Call, Return, Exit, Break, OtherJalr, OtherJal, flow, Words, IsCodeMap, Flows, flows, flow_of_word, flow_of_row}
 use Rattle.rv_core.specs.Effect.{next_pc}
-use Rattle.flat_graph.specs.FlatGraph.{answers_by}
+use Rattle.flat_graph.specs.FlatGraph.{answers_by, HasNoErrors}
 use Rattle.flat_graph.specs.Graph.{Graph, Places}
 use Rattle.flat_graph.specs.Numbered.{node_at, FollowsCode}
 use Rattle.flow_watch.specs.Watch.{Frame, Watch, all_turns_after, within_bounds, arrive, new_frame, moved, start, step as watch_step, is_kept, calls, context}
 use Rattle.loop_regions.specs.Nest.{Nest}
 use Rattle.loop_regions.specs.Stated.{IsRegions}
-use Rattle.loop_regions.specs.Watched.{AreFrames, CountsAgree, IsWatchedWalk, HasNoErrors}
+use Rattle.loop_regions.specs.Watched.{AreFrames, CountsAgree, IsWatchedWalk}
 use Rattle.loop_regions.specs.Steps.{Step, StandsAt, IsStep, place_after, AreSteps, watch_after, node_after, nodes_along, IsKeptWalkOf, EndsAnswering, IsGoingOn, IsAnswer, exits, returns, WalkLaw, WalkEndLaw}
 use Rattle.loop_regions.proofs.Watched.{watch_start_law, watch_step_law}
 use Rattle.loop_regions.proofs.Flows.{flow_goes, can_go, answer_exits}

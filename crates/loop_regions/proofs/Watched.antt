@@ -8,13 +8,13 @@ use Rattle.crpd_base.specs.declared.data.TaskPlan.{TaskPlan}
 use Rattle.rv_decode.specs.Address.{after, address_before, end}
 use Rattle.rv_decode.specs.Flow.{Flow, Plain, Branch, Jump, Call, Return, Exit, Break, OtherJalr, OtherJal, Flows}
 use Rattle.rv_decode.proofs.Addresses.{after_is, before_is, before_after}
-use Rattle.flat_graph.specs.FlatGraph.{FlatNode, returns_to, goes_to, goes_on, successors}
+use Rattle.flat_graph.specs.FlatGraph.{FlatNode, returns_to, goes_to, goes_on, successors, HasNoErrors}
 use Rattle.flat_graph.specs.Graph.{Graph, Edge, IsWalk, Places}
 use Rattle.flat_graph.specs.Numbered.{node_at, FollowsCode}
 use Rattle.flow_watch.specs.Watch.{Frame, call_of, holds, turns_after, all_turns_after, within_bounds, arrive, new_frame, moved, start, calls}
 use Rattle.loop_regions.specs.Nest.{Nest, count, IsKept}
 use Rattle.loop_regions.specs.Stated.{seen_from, holds_seen, IsRegionOf, IsRegions}
-use Rattle.loop_regions.specs.Watched.{CanGo, turns_of, IsBehindCall, AreFrames, CountsAgree, IsWatchedWalk, HasNoErrors, GoesTo, WatchStartLaw, WatchStepLaw}
+use Rattle.loop_regions.specs.Watched.{CanGo, turns_of, IsBehindCall, AreFrames, CountsAgree, IsWatchedWalk, GoesTo, WatchStartLaw, WatchStepLaw}
 use Rattle.loop_regions.proofs.Stated.{seen_here}
 
 -- a node further in, seen from a context

@@ -7,13 +7,13 @@ use Rattle.rv_decode.specs.Table.{row}
 use Rattle.rv_decode.specs.Flow.{Return, flow, Words, IsCodeMap, Flows, flows}
 use Rattle.rv_core.specs.declared.Next.TheVariants.{Goto, Answer}
 use Rattle.rv_core.specs.Effect.{next_pc}
-use Rattle.flat_graph.specs.FlatGraph.{FlatNode, answers}
+use Rattle.flat_graph.specs.FlatGraph.{FlatNode, answers, HasNoErrors}
 use Rattle.flat_graph.specs.Graph.{Graph, IsWalk, Places}
 use Rattle.flat_graph.specs.Numbered.{node_at, FollowsCode}
 use Rattle.flow_watch.specs.Watch.{Frame, Watch, start, step as watch_step, is_kept, context}
 use Rattle.loop_regions.specs.Nest.{Nest, IsKept}
 use Rattle.loop_regions.specs.Stated.{IsRegions}
-use Rattle.loop_regions.specs.Watched.{CountsAgree, HasNoErrors}
+use Rattle.loop_regions.specs.Watched.{CountsAgree}
 
 -- a step: the instruction at an address, and the address to which it went
 pub record Step : Type 0 where

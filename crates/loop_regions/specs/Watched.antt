@@ -4,7 +4,7 @@ use Rattle.crpd_base.specs.declared.data.LoopAt.{LoopAt}
 use Rattle.crpd_base.specs.declared.data.TaskPlan.{TaskPlan}
 use Rattle.rv_decode.specs.Address.{after, end}
 use Rattle.rv_decode.specs.Flow.{Flow, Plain, Branch, Jump, Call, Exit, Break, Flows}
-use Rattle.flat_graph.specs.FlatGraph.{FlatNode, IsNode, error_of}
+use Rattle.flat_graph.specs.FlatGraph.{HasNoErrors}
 use Rattle.flat_graph.specs.Graph.{Graph, Edge, IsWalk, Places}
 use Rattle.flat_graph.specs.Numbered.{FollowsCode}
 use Rattle.flow_watch.specs.Watch.{Frame, start, moved, calls}
@@ -50,9 +50,6 @@ pub record IsWatchedWalk (code : Flows) (plan : TaskPlan) (g : Graph) (p : Place
   pub address : p.address y ≡ a
   pub counts : CountsAgree g p plan.loops n frames (y ∷ before)
   pub are_frames : AreFrames code plan frames
-
-abbrev pub HasNoErrors : Flows → ℕ → Type 0
-HasNoErrors code entry = (m : FlatNode) → IsNode code entry m → error_of code entry m ≡ None
 
 -- the start is such a walk, where the watch is not broken
 abbrev pub WatchStartLaw : Type 0

@@ -8,14 +8,13 @@ use Rattle.rv_decode.specs.Table.{row, table}
 use Rattle.rv_decode.specs.Cost.{work_cost}
 use Rattle.icache.specs.Accesses.{Accesses}
 use Rattle.script_reader.specs.Legal.{period_of}
-use Rattle.flat_graph.specs.FlatGraph.{FlatNode, IsNode, the_first, a_successor, successors, error_of}
+use Rattle.flat_graph.specs.FlatGraph.{FlatNode, IsNode, the_first, a_successor, successors, error_of, HasNoErrors}
 use Rattle.flat_graph.specs.Graph.{Edge, IsWalk, IsGraph, Continues}
 use Rattle.flat_graph.specs.Numbered.{FollowsCode}
 use Rattle.flat_graph.specs.EdgeCost.{edge_cost, end_cost}
 use Rattle.loop_regions.specs.Nest.{IsBackEdge, Leaves, Item, Node, Loop, IsItem}
 use Rattle.loop_regions.specs.Stated.{IsRegionOf, IsRegions, IsSecondEntry, IsAccepted, IsForward, IsForwardWay, region_holds}
 use Rattle.loop_regions.specs.Potentials.{item_potential}
-use Rattle.loop_regions.specs.Watched.{HasNoErrors}
 use Rattle.evict_sets.specs.Full.{Listed, FullState, listed, accessed, passed, FullUseful, listed_useful, used, used_later}
 use Rattle.evict_sets.specs.Clauses.{ListsLeaders, StatesMeet, UsefulMeets, SetsMeet}
 use Rattle.crpd_base.specs.declared.data.NodeState.{NodeState}

@@ -1,0 +1,68 @@
+-- A task's flat graph as it is kept: its nodes in the order of their numbers.
+use Rattle.std.specs.Prelude.{◌≡◌, ℕ, ◌<◌, List, [], ◌∷◌, length, slice_index_or}
+use Rattle.rv_decode.specs.declared.Ins.{Ins}
+use Rattle.rv_decode.specs.declared.Ins.TheVariants.{Ecall}
+use Rattle.rv_decode.specs.Table.{row}
+use Rattle.std.specs.Prelude.{Some}
+use Rattle.rv_decode.specs.Flow.{Flow, Call, Return, Exit, flow, Words, IsCodeMap, flows}
+use Rattle.flat_graph.specs.FlatGraph.{FlatNode, HasNoErrors}
+use Rattle.flat_graph.specs.Graph.{Graph, Places}
+use Rattle.flat_graph.specs.Numbered.{IsFlatGraph, ArePlaces}
+use Rattle.flat_graph.specs.EdgeCost.{Listing}
+use Rattle.flat_graph.specs.declared.node.Kind.{Kind}
+use Rattle.flat_graph.specs.declared.node.Kind.TheVariants as kind
+
+-- a node: the calls under way, its address, its instruction, and the numbers of its successors
+pub record GraphNode : Type 0 where
+  pub context : List ℕ
+  pub address : ℕ
+  pub ins : Ins
+  pub next : List ℕ
+
+pub record CodeGraph : Type 0 where
+  pub nodes : List GraphNode
+  pub first : ℕ
+
+-- the node of a number; past the graph's end one that goes nowhere
+abbrev pub no_node : GraphNode
+no_node = record { context = []; address = 0; ins = Ecall; next = [] }
+
+abbrev pub node_of : CodeGraph → ℕ → GraphNode
+node_of g u = slice_index_or g.nodes u no_node
+
+-- its graph of numbers, where its nodes stand, and their instructions
+abbrev pub graph_of : CodeGraph → Graph
+graph_of g = record { size = length g.nodes; first = g.first; next = λ u. (node_of g u).next }
+
+abbrev pub places_of : CodeGraph → Places
+places_of g = record { context = λ u. (node_of g u).context; address = λ u. (node_of g u).address }
+
+abbrev pub ins_of : CodeGraph → ℕ → Ins
+ins_of g u = (node_of g u).ins
+
+-- what stands at the nodes
+abbrev pub listing : CodeGraph → Listing
+listing g = record { address = (places_of g).address; ins = ins_of g }
+
+-- it is the flat graph of the code from this entry, no node has an error, and the instructions are those of the code
+pub record IsCodeGraph (words : Words) (entry : ℕ) (g : CodeGraph) : Type 0 where
+  pub nodes : List FlatNode
+  pub flat : IsFlatGraph (flows words) entry nodes (graph_of g)
+  pub places : ArePlaces nodes (places_of g)
+  pub no_errors : HasNoErrors (flows words) entry
+  pub instructions : (u w : ℕ) → u < length g.nodes → words ((places_of g).address u) ≡ Some w → row w ≡ Some (ins_of g u)
+
+-- it is the graph of some code
+pub record HasCode (g : CodeGraph) : Type 0 where
+  pub words : Words
+  pub entry : ℕ
+  pub word_places : IsCodeMap words
+  pub of_code : IsCodeGraph words entry g
+
+-- the kind of a node, from the calls under way there and the flow of its instruction
+abbrev pub kind_of : List ℕ → Flow → Kind
+kind_of c (Call t) = kind.Call
+kind_of [] Return = kind.Answer
+kind_of (b ∷ c) Return = kind.Return
+kind_of c Exit = kind.Answer
+kind_of c _ = kind.Plain

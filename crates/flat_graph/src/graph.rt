@@ -1,0 +1,143 @@
+// A task's flat graph.
+ghost use Rattle.std.specs.Prelude.{◌≡◌, ℕ, ◌<◌, ◌≤◌, ◌+◌, ◌↔◌, length, slice_get, option_map, IsTrue, MatchOption};
+ghost use Rattle.rv_decode.specs.Flow.{flow};
+ghost use Rattle.flat_graph.specs.Graph.{IsGraph, IsLeader};
+ghost use Rattle.flat_graph.specs.Numbered.{node_at};
+ghost use Rattle.flat_graph.specs.CodeGraph.{HasCode, kind_of, graph_of, places_of, ins_of};
+
+use crate::node::{Node, kind_by};
+use crpd_base::{Items, NodeId};
+use rv_decode::Ins;
+use smallvec::SmallVec;
+use std::marker::Model;
+
+/// The addresses of the calls under way, the outermost first.
+#[derive(Drop)]
+pub(crate) struct Context {
+    pub(crate) calls: SmallVec<u32, 4>,
+}
+
+impl Model for Context {
+    ghost use Rattle.std.specs.Prelude.{List, ℕ};
+
+    ghost Value = { List ℕ };
+
+    ghost view = { λ c. c.calls.items };
+}
+
+/// The successors of a node, as numbers.
+#[derive(Clone, Copy)]
+pub(crate) enum Onward {
+    Ends,
+    To(u32),
+    Either(u32, u32),
+}
+
+/// A node: the number of its context, its address, its instruction, its successors, and whether it is a leader.
+#[derive(Clone, Copy)]
+pub(crate) struct Stand {
+    pub(crate) context: u32,
+    pub(crate) address: u32,
+    pub(crate) ins: Ins,
+    pub(crate) next: Onward,
+    pub(crate) leader: bool,
+}
+
+/// The flat graph of a task: a node is a list of the calls under way and an address, and goes on where the
+/// instruction there leads. Nodes are numbered from 0 by their calls under way, then by address; there are at most
+/// 16,384. Each node is reached from the first one, and has at most two successors.
+///
+/// Contracts see it as the graph of numbers, with the calls under way, the address and the instruction of each node.
+#[derive(Drop)]
+pub struct Graph {
+    pub(crate) contexts: Items<Context>,
+    pub(crate) nodes: Items<Stand>,
+    pub(crate) first: u32,
+}
+
+impl Model for Graph {
+    ghost use Rattle.flat_graph.specs.CodeGraph.{CodeGraph};
+
+    ghost Value = { CodeGraph };
+
+    ghost use Rattle.flat_graph.specs.Kept.{IsKept, kept_graph};
+
+    ghost view = { λ g. kept_graph g.contexts g.nodes g.first };
+
+    ghost invariant = { λ g. IsKept g.contexts g.nodes g.first };
+}
+
+impl Graph {
+    /// How many nodes there are: 1 to 16,384.
+    pub fn len(&self) -> u32
+        ensures { result ≡ (graph_of self.now).size }
+    {
+        self.nodes.as_slice().len() as u32
+    }
+
+    /// The node with no call under way at the task's entry.
+    pub fn first(&self) -> NodeId
+        ensures { result.0 ≡ (graph_of self.now).first }
+    {
+        NodeId(self.first)
+    }
+
+    /// A node's address, instruction and kind.
+    pub fn node(&self, id: NodeId) -> Node
+        requires { id.0 < (graph_of self.now).size }
+        ensures address { result.address ≡ (places_of self.now).address id.0 }
+        ensures instruction { result.ins ≡ ins_of self.now id.0 }
+        ensures kind { result.kind ≡ kind_of ((places_of self.now).context id.0) (flow ((places_of self.now).address id.0) (ins_of self.now id.0)) }
+    {
+        let stand = &self.nodes.as_slice()[id.0 as usize];
+        Node {
+            address: stand.address,
+            ins: stand.ins,
+            kind: kind_by(&stand.ins, self.context(id)),
+        }
+    }
+
+    /// The addresses of the calls under way at a node, the outermost first; at most 16.
+    pub fn context(&self, id: NodeId) -> &[u32]
+        requires { id.0 < (graph_of self.now).size }
+        ensures { result.now ≡ (places_of self.now).context id.0 }
+    {
+        let stand = &self.nodes.as_slice()[id.0 as usize];
+        let context = &self.contexts.as_slice()[stand.context as usize];
+        context.calls.as_slice()
+    }
+
+    /// The first (0) or second (1) successor of a node, None where it has no such one. The first successor of a
+    /// branch is the next address.
+    pub fn succ(&self, id: NodeId, k: u8) -> Option<NodeId>
+        requires node { id.0 < (graph_of self.now).size }
+        requires place { k < 2 }
+        ensures { option_map (λ v. v.0) result ≡ slice_get ((graph_of self.now).next id.0) k }
+    {
+        match (self.nodes.as_slice()[id.0 as usize].next, k) {
+            (Onward::To(only), 0) => Some(NodeId(only)),
+            (Onward::Either(first, _), 0) => Some(NodeId(first)),
+            (Onward::Either(_, second), _) => Some(NodeId(second)),
+            _ => None,
+        }
+    }
+
+    /// Whether a node is a leader: the first node, a node with other than one edge towards it, or a successor of a
+    /// node with two successors. Every cycle of the graph has a leader.
+    pub fn leader(&self, id: NodeId) -> bool
+        requires { id.0 < (graph_of self.now).size }
+        ensures { IsTrue result ↔ IsLeader (graph_of self.now) id.0 }
+    {
+        self.nodes.as_slice()[id.0 as usize].leader
+    }
+
+    /// What every such graph is: the flat graph of some code, in which each node is reached by a walk from the first.
+    pub fn graph_law(&self)
+        ensures code { HasCode self.now }
+        ensures graph { IsGraph (graph_of self.now) }
+        ensures few { (graph_of self.now).size ≤ 16384 }
+        ensures successors { (u : ℕ) → length ((graph_of self.now).next u) ≤ 2 }
+    {
+        let _nodes = &self.nodes;
+    }
+}

@@ -1,0 +1,46 @@
+// What stands at a node.
+ghost use Rattle.std.specs.Prelude.{◌≡◌, ℕ};
+ghost use Rattle.rv_decode.specs.Flow.{flow};
+ghost use Rattle.flat_graph.specs.CodeGraph.{kind_of};
+
+use rv_decode::Ins;
+
+/// How a job goes on from a node. A job ends at an answering node, by an ECALL or by a return with no call under way.
+#[derive(Clone, Copy, Debug, PartialEq, Eq)]
+pub enum Kind {
+    Plain,
+    Call,
+    Return,
+    Answer,
+}
+
+/// A node's address in bytes, its instruction and its kind.
+#[derive(Clone, Copy)]
+pub struct Node {
+    pub address: u32,
+    pub ins: Ins,
+    pub kind: Kind,
+}
+
+/// The kind of a node, from its instruction and the calls under way.
+#[tactic(auto, unfolding(rv_decode::specs::Flow::flow))]
+pub(crate) fn kind_by(ins: &Ins, context: &[u32]) -> Kind
+    ensures { (a : ℕ) → result ≡ kind_of context.now (flow a ins.now) }
+{
+    match *ins {
+        Ins::Jal { rd: 1, .. } => Kind::Call,
+        Ins::Jalr {
+            rd: 0,
+            rs1: 1,
+            imm: 0,
+        } => {
+            if context.is_empty() {
+                Kind::Answer
+            } else {
+                Kind::Return
+            }
+        }
+        Ins::Ecall => Kind::Answer,
+        _ => Kind::Plain,
+    }
+}
