@@ -1,10 +1,10 @@
 -- Straight code is a path, and a yes to it gives the path room.
-use Rattle.std.proofs.Common.{◌≡◌, ℕ, zero, suc, ◌+◌, ◌<◌, ◌≤◌, Bool, true, false, not, ◌&&◌, cond, nat_le, nat_eq, List, [], ◌∷◌, length, get_or, Option, Some, None, refl, sym, ◌∙◌, ap, subst, arith}
+use Rattle.std.proofs.Common.{◌≡◌, ℕ, zero, suc, ◌+◌, ◌≤◌, Bool, true, false, not, cond, nat_le, nat_eq, List, [], ◌∷◌, length, Option, Some, None, refl, sym, ◌∙◌, ap, subst, arith}
 use Rattle.std.specs.Prelude.{slice_get, slice_index_or, option_and_then, option_map, map, ◌==◌}
 use Rattle.icache.specs.Cache.{block_of}
 use Rattle.rv_decode.specs.Cost.{cost}
 use Rattle.std.specs.Str.{bytes_eq}
-use Rattle.std.proofs.lemmas.Bool.{leb-true, eqb-true, and_parts, false≢true, cases_Bool}
+use Rattle.std.proofs.lemmas.Bool.{leb-true, eqb-true, and_parts, false≢true}
 use Rattle.crpd_base.specs.declared.data.Certificate.{Certificate}
 use Rattle.crpd_base.specs.declared.data.TaskPart.{TaskPart}
 use Rattle.crpd_base.specs.declared.data.TaskPlan.{TaskPlan}
@@ -26,8 +26,8 @@ use Rattle.first_form.specs.declared.straight.Straight.{Straight}
 use Rattle.first_form.specs.declared.outcome.Verdict.{Verdict}
 use Rattle.first_form.specs.declared.outcome.Verdict.TheVariants.{Yes, No}
 use Rattle.first_form.specs.Straight.{is_plain, is_ecall, instruction_at, straight_from, has_form, straight_by, straight_of}
-use Rattle.first_form.specs.Judge.{cost_from, straight_cost, demand_by, same_platform, first_name, Clause, clauses, first_failure, judge}
-use Rattle.first_path.specs.FirstPath.{leaves_block, Path, last, more, HasFirstPath}
+use Rattle.first_form.specs.Judge.{cost_from, straight_cost, demand_by, Clause, clauses, first_failure, judge}
+use Rattle.first_path.specs.FirstPath.{Path, last, more, HasFirstPath}
 use Rattle.first_path.specs.Form.{YesIsSafe}
 use Rattle.first_path.proofs.OneTask.{first_path_is_safe}
 

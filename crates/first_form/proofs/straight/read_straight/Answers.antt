@@ -1,4 +1,4 @@
-use Rattle.std.proofs.Common.{◌-◌, sym, vec_len, arith, rules}
+use Rattle.std.proofs.Common.{◌-◌, vec_len, arith, rules}
 use Rattle.code_map.specs.Words.{word_at}
 use Rattle.first_form.proofs.Read.{whole_nothing, whole_ends, whole_stops, whole_goes, whole_end}
 use Rattle.first_form.proofs.straight.read_straight.Goals as goal
