@@ -1,1 +1,2 @@
 pub mod BestLaws
+pub mod Judged

@@ -1,6 +1,7 @@
-//! The analysis' certificate: the laws by which its states and sets meet the clauses.
+//! The analysis' certificate: what it is, and the laws by which it meets the clauses.
 #![tactic(auto)]
 
+ghost use Rattle.cert_build.specs.Best.{BestIsJudgedLaw};
 ghost use Rattle.cert_build.specs.BestLaws.{BestMeetsLaw, BestSetsLaw, BestStateLaw, BestUsefulLaw, EnoughSetsLaw};
 
 /// The full states and useful sets of a listing of Sure and Useful are Sure and Useful at all nodes, and meet the clauses on them.
@@ -10,4 +11,9 @@ pub fn best_laws()
     ensures best_meets { BestMeetsLaw }
     ensures best_sets { BestSetsLaw }
     ensures enough_sets { EnoughSetsLaw }
+{}
+
+/// The judge says yes to the analysis' certificate of a set whose graphs are those of its code, without refusals.
+pub fn best_is_judged()
+    ensures { BestIsJudgedLaw }
 {}
