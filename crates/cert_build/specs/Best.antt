@@ -7,7 +7,7 @@ use Rattle.crpd_base.specs.declared.data.NodeState.{NodeState}
 use Rattle.crpd_base.specs.declared.data.TaskPart.{TaskPart}
 use Rattle.crpd_base.specs.declared.data.Certificate.{Certificate}
 use Rattle.crpd_base.specs.Sets.{has, AreWords}
-use Rattle.crpd_base.specs.Tasks.{jitter_of}
+use Rattle.crpd_base.specs.Tasks.{HasTimes, jitter_of}
 use Rattle.rv_decode.specs.Flow.{Words}
 use Rattle.flat_graph.specs.Graph.{Graph, IsLeader}
 use Rattle.icache.specs.Accesses.{Accesses}
@@ -85,3 +85,10 @@ BestIsJudgedLaw =
     (set : TaskSet) (graphs : ℕ → TaskGraph) (c : Certificate) (words : Words) (plans : ℕ → TaskPlan) →
     ((k : ℕ) → k < length set.tasks → IsGraphOf words (plans k) (graphs k)) →
     IsBest set graphs c → IsJudged set graphs c Yes
+
+-- and there is one such certificate at most
+abbrev pub OneBestLaw : Type 0
+OneBestLaw =
+    (set : TaskSet) (graphs : ℕ → TaskGraph) (c d : Certificate) (words : Words) (plans : ℕ → TaskPlan) →
+    HasTimes set → ((k : ℕ) → k < length set.tasks → IsGraphOf words (plans k) (graphs k)) →
+    IsBest set graphs c → IsBest set graphs d → c ≡ d

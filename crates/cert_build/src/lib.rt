@@ -1,8 +1,10 @@
 //! The analysis' certificate: what it is, and the laws by which it meets the clauses.
 #![tactic(auto)]
 
-ghost use Rattle.cert_build.specs.Best.{BestIsJudgedLaw};
+ghost use Rattle.cert_build.specs.Best.{BestIsJudgedLaw, OneBestLaw};
 ghost use Rattle.cert_build.specs.BestLaws.{BestMeetsLaw, BestSetsLaw, BestStateLaw, BestUsefulLaw, EnoughSetsLaw};
+
+use delay_count::growth_law;
 
 /// The full states and useful sets of a listing of Sure and Useful are Sure and Useful at all nodes, and meet the clauses on them.
 pub fn best_laws()
@@ -17,3 +19,10 @@ pub fn best_laws()
 pub fn best_is_judged()
     ensures { BestIsJudgedLaw }
 {}
+
+/// A task set has one such certificate at most.
+pub fn one_best()
+    ensures { OneBestLaw }
+{
+    growth_law();
+}
