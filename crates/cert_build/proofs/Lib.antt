@@ -1,3 +1,4 @@
 pub mod BestLaws
 pub mod Judged
 pub mod OneBest
+pub mod TwoWords

@@ -3,6 +3,7 @@
 
 ghost use Rattle.cert_build.specs.Best.{BestIsJudgedLaw, OneBestLaw};
 ghost use Rattle.cert_build.specs.BestLaws.{BestMeetsLaw, BestSetsLaw, BestStateLaw, BestUsefulLaw, EnoughSetsLaw};
+ghost use Rattle.cert_build.specs.TwoWords.{TwoWords};
 
 use delay_count::growth_law;
 
@@ -26,3 +27,8 @@ pub fn one_best()
 {
     growth_law();
 }
+
+/// The certificate of a task of two words is the analysis'.
+pub fn two_words()
+    ensures { TwoWords }
+{}
