@@ -1,5 +1,5 @@
 -- The judge says yes to the analysis' certificate.
-use Rattle.std.proofs.Common.{◌≡◌, ℕ, zero, suc, ◌+◌, ◌*◌, ◌<◌, ◌≤◌, Bool, true, false, List, [], ◌∷◌, Option, Some, None, IsTrue, IsFalse, ◌↔◌, length, refl, sym, ap, ◌∙◌, subst, inl, inr, arith}
+use Rattle.std.proofs.Common.{◌≡◌, ℕ, suc, ◌*◌, ◌<◌, ◌≤◌, Bool, List, [], ◌∷◌, Option, Some, IsTrue, ◌↔◌, length, refl, sym, subst, inl, inr, arith}
 use Rattle.std.specs.Prelude.{◌==◌, is_some, All}
 use Rattle.std.proofs.lemmas.Bool.{cases_Bool, eqb-true, false≢true}
 use Rattle.crpd_base.specs.declared.data.Platform.{Platform}
@@ -26,7 +26,7 @@ use Rattle.cert_check.specs.Clauses.{CountsHits, costs, PotentialsMeet}
 use Rattle.cert_check.specs.Judge.{accesses_of, part_of, longest_at, window_at, Lists, GraphMeets, TaskMeets}
 use Rattle.cert_check.proofs.Verdict.{yes_law}
 use Rattle.cert_build.specs.BestLaws.{ListsBest}
-use Rattle.cert_build.specs.Best.{IsBestState, AreBestStates, TellsSureHits, IsBestPart, IsBestTask, IsBest, BestIsJudgedLaw}
+use Rattle.cert_build.specs.Best.{IsBestState, AreBestStates, TellsSureHits, IsBestPart, IsBest, BestIsJudgedLaw}
 use Rattle.cert_build.proofs.BestLaws.{best_state_law, best_meets_law, enough_sets_law}
 
 -- the entry that is found for a node

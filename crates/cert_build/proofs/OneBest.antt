@@ -1,7 +1,7 @@
 -- A task set has one certificate of the analysis at most.
-use Rattle.std.proofs.Common.{◌≡◌, ◌≢◌, ℕ, zero, suc, ◌+◌, ◌<◌, ◌≤◌, ◌⊎◌, Bool, true, false, List, [], ◌∷◌, Option, Some, None, IsTrue, IsFalse, ◌↔◌, length, refl, sym, ap, ◌∙◌, subst, inl, inr, arith}
+use Rattle.std.proofs.Common.{◌≡◌, ◌≢◌, ℕ, zero, suc, ◌+◌, ◌<◌, ◌≤◌, ◌⊎◌, Bool, List, [], ◌∷◌, Option, Some, None, IsTrue, length, refl, sym, ap, ◌∙◌, subst, inl, inr, arith}
 use Rattle.std.specs.Prelude.{◌==◌, not, is_some, All, AllPairs, slice_index_or}
-use Rattle.std.proofs.lemmas.Bool.{cases_Bool, cases_eq, cases_lt, cases_order, eqb-true, eq-eqb, ne_eqb, false≢true}
+use Rattle.std.proofs.lemmas.Bool.{cases_Bool, cases_eq, cases_lt, eqb-true, eq-eqb, ne_eqb, false≢true}
 use Rattle.std.proofs.lemmas.Grind.{same_number_lists}
 use Rattle.std.proofs.lemmas.List.{ext_get_or}
 use Rattle.crpd_base.specs.declared.data.Platform.{Platform}
@@ -12,27 +12,26 @@ use Rattle.crpd_base.specs.declared.data.Certificate.{Certificate}
 use Rattle.crpd_base.specs.declared.data.Part.{Part}
 use Rattle.crpd_base.specs.declared.data.Method.{Method}
 use Rattle.crpd_base.specs.declared.data.Method.TheVariants.{Ucb, Ecb}
-use Rattle.crpd_base.specs.Sets.{member, has}
+use Rattle.crpd_base.specs.Sets.{member}
 use Rattle.crpd_base.specs.Tasks.{HasTimes}
 use Rattle.crpd_base.proofs.Bits.{member_le_one, same_words}
 use Rattle.rv_decode.specs.Cost.{cost}
 use Rattle.rv_decode.specs.Flow.{flow}
-use Rattle.flat_graph.specs.Graph.{Graph, IsGraph, IsLeader}
+use Rattle.flat_graph.specs.Graph.{Graph, IsLeader}
 use Rattle.flat_graph.specs.EdgeCost.{is_return}
 use Rattle.icache.specs.Accesses.{Accesses}
-use Rattle.must_cache.specs.Sure.{Sure}
 use Rattle.useful_sets.specs.Useful.{Useful, IsUcb, IsEcb}
 use Rattle.loop_regions.specs.Potentials.{Potentials, item_potential, Meets}
 use Rattle.loop_regions.specs.TaskGraph.{TaskGraph, listing_of, answering}
 use Rattle.loop_regions.proofs.Potential.{item_law}
-use Rattle.evict_sets.specs.Certificate.{entry_of, block_in, listed_of, no_cert, cert_at}
+use Rattle.evict_sets.specs.Certificate.{entry_of, block_in, no_cert, cert_at}
 use Rattle.delay_count.specs.Demand.{demand}
 use Rattle.delay_count.specs.Laws.{Load, IsCostlier, DemandGrows}
 use Rattle.response.specs.Windows.{IsWindow, IsSmaller}
 use Rattle.cert_check.specs.Certificate.{potentials_of}
 use Rattle.cert_check.specs.Clauses.{costs}
 use Rattle.cert_check.specs.Judge.{accesses_of, window_at, part_of, longest_at}
-use Rattle.cert_build.specs.Best.{IsSetOf, IsBestState, AreBestStates, IsBestPart, IsBestTask, IsBest, OneBestLaw}
+use Rattle.cert_build.specs.Best.{IsSetOf, IsBestState, AreBestStates, IsBestPart, IsBest, OneBestLaw}
 
 -- sets with the same numbers are the same words
 member_at : (xs ys : List ℕ) (P : ℕ → Type 0) → IsSetOf xs P → IsSetOf ys P → (t : ℕ) → member xs t ≡ 1 → member ys t ≡ 1

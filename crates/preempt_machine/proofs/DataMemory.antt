@@ -12,7 +12,7 @@ use Rattle.rv_core.specs.Registers.{reg}
 use Rattle.rv_core.specs.Memory.{Memory, IsMemory}
 use Rattle.rv_core.proofs.Memories.{put_from, put_bytes_from, put_four}
 use Rattle.preempt_machine.specs.Machine.{System, Machine, ins_at}
-use Rattle.preempt_machine.specs.Step.{Start, Turn, turn_of, turned, executed, worked, went, fetched, step_by, candidate, state}
+use Rattle.preempt_machine.specs.Step.{Turn, turn_of, turned, executed, worked, went, fetched, step_by, candidate, state}
 use Rattle.preempt_machine.specs.DataMemory.{StepKeepsMemory, RunKeepsMemory}
 
 word_below : (n : ℕ) → n % 2 ^ 32 < 2 ^ 32

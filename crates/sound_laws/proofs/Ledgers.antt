@@ -1,16 +1,15 @@
 -- The ledger's entries of a window, counted as the steps at which they are made.
 use Rattle.std.proofs.Common.{◌≡◌, ℕ, zero, suc, ◌+◌, ◌-◌, ◌*◌, ◌<◌, ◌≤◌, Bool, true, false, ◌&&◌, List, [], ◌∷◌, length, refl, sym, ◌∙◌, ap, subst, inl, inr, arith, nat_lt, nat_le, if◌then◌else◌, cond, mul-le-mul_left, mul_comm}
 use Rattle.std.specs.Prelude.{◌==◌, ◌||◌, All, AllPairs}
-use Rattle.std.specs.List.{list_any, count_by, slice_index_or}
-use Rattle.std.proofs.lemmas.Bool.{cases_Bool, cases_lt, false≢true, and_parts, and_from, or_cases, ltb-true, leb-true, eqb-true, eq-eqb, ne_eqb}
+use Rattle.std.specs.List.{list_any, count_by}
+use Rattle.std.proofs.lemmas.Bool.{cases_Bool, false≢true, and_parts, or_cases, ltb-true, leb-true, eqb-true, eq-eqb}
 use Rattle.std.proofs.lemmas.List.{get_or_default}
 use Rattle.std.proofs.lemmas.List.Recursion.{is_count_by}
 use Rattle.crpd_base.specs.declared.data.TaskSet.{TaskSet}
 use Rattle.crpd_base.specs.declared.data.Certificate.{Certificate}
-use Rattle.crpd_base.specs.Sum.{sum_below}
 use Rattle.flow_watch.specs.Watch.{is_kept}
 use Rattle.loop_regions.specs.TaskGraph.{TaskGraph}
-use Rattle.preempt_machine.specs.Machine.{Job, Answered, no_job}
+use Rattle.preempt_machine.specs.Machine.{Job, no_job}
 use Rattle.preempt_machine.specs.Step.{is_open, Start, state}
 use Rattle.preempt_machine.specs.Safe.{IsKept}
 use Rattle.preempt_machine.proofs.Runs.{over_stays}

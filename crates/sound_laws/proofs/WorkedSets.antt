@@ -1,14 +1,13 @@
 -- Rows of the cache analyses on graphs that go one way, by tests that compute.
-use Rattle.std.proofs.Common.{◌≡◌, ◌≢◌, ℕ, zero, suc, ◌%◌, ◌<◌, ◌≤◌, Bool, true, false, List, [], ◌∷◌, Option, Some, None, Contains, IsTrue, ◌↔◌, refl, sym, ◌∙◌, ap, subst, inl, inr, arith, negsuc, pos}
+use Rattle.std.proofs.Common.{◌≡◌, ◌≢◌, ℕ, zero, suc, ◌%◌, ◌<◌, ◌≤◌, Bool, true, false, List, [], ◌∷◌, Option, Some, None, Contains, IsTrue, ◌↔◌, refl, sym, ◌∙◌, ap, subst, inl, inr, arith}
 use Rattle.std.specs.Prelude.{◌==◌, ◌&&◌, ◌||◌, nat_lt, slice_index_or}
 use Rattle.std.specs.List.{list_any}
 use Rattle.std.proofs.lemmas.Bool.{cases_lt, cases_eq, cases_Bool, eqb-true, eq-eqb, ne_eqb, ltb-true, and_parts, and_from, or_cases, false≢true}
 use Rattle.crpd_base.specs.declared.data.Platform.{Platform}
-use Rattle.rv_decode.specs.declared.Ins.{Ins}
 use Rattle.flat_graph.specs.Graph.{Graph, Edge, IsWalk, GoesOn}
 use Rattle.icache.specs.Accesses.{Accesses, accesses, last_access, first_access}
 use Rattle.must_cache.specs.Sure.{Sure, IsSureHit}
-use Rattle.useful_sets.specs.Useful.{LeadsToHit, Useful, IsUcb, IsEcb}
+use Rattle.useful_sets.specs.Useful.{Useful, IsUcb, IsEcb}
 use Rattle.useful_sets.proofs.UsefulLaws.{ucb_law}
 use Rattle.evict_sets.specs.Full.{Listed, FullState, IsHit, FullUseful, listed_useful, used, used_later}
 use Rattle.evict_sets.specs.Certificate.{block_in, listed_of}
@@ -16,7 +15,7 @@ use Rattle.evict_sets.proofs.WalkLaws.{first_here, first_on, carry_law}
 use Rattle.sound_laws.specs.OneWay.{first_alone}
 use Rattle.sound_laws.specs.TwoWords as two_words
 use Rattle.sound_laws.specs.ThreeTasks as three
-use Rattle.sound_laws.specs.WorkedSets.{AreThese, IsRow, HasSets, call_addresses, call_instructions, call_successors, zero_and_one, WorkedSets}
+use Rattle.sound_laws.specs.WorkedSets.{IsRow, HasSets, call_addresses, call_instructions, call_successors, zero_and_one, WorkedSets}
 use Rattle.sound_laws.proofs.OneWay as law
 use Rattle.sound_laws.proofs.WayTests.{Way, size, next, address, before, graph, each, each_says, same, same_says, at_next, at_next_says, is_next, is_next_says, IsWay, line}
 use Rattle.sound_laws.proofs.ThreeTasks.{high, lower, high_way, lower_way}
@@ -209,14 +208,16 @@ module _ (w : Way) (way : IsWay w) (rest : ℕ → List ℕ) (R : HasRests w res
   useful_is : (y s : ℕ) → y < size w → Useful g a y s ↔ IsTrue (is_useful y s)
   useful_is y s lt = (
     (λ u. let e = on_to u.1.later y s u.0 u.1.goes_on u.1.first in
-    rw e ((hit_is u.0 (node_found u.1.later y s u.0 u.1.goes_on u.1.first)).0 u.1.hit)),
-    (λ t. let f = found (first_access a s (y ∷ rest y)) t in
-    (f.0, record {
-      later = rest y;
-      goes_on = rest_goes y lt;
-      first = f.1;
-      hit = (hit_is f.0 (node_found (rest y) y s f.0 (rest_goes y lt) f.1)).1 f.2;
-    })),
+        rw e ((hit_is u.0 (node_found u.1.later y s u.0 u.1.goes_on u.1.first)).0 u.1.hit)),
+    (λ t. let f = found (first_access a s (y ∷ rest y)) t in (
+      f.0,
+      record {
+        later = rest y;
+        goes_on = rest_goes y lt;
+        first = f.1;
+        hit = (hit_is f.0 (node_found (rest y) y s f.0 (rest_goes y lt) f.1)).1 f.2;
+      },
+    )),
   )
 
   -- the full states, where the first node alone is listed
@@ -240,8 +241,8 @@ module _ (w : Way) (way : IsWay w) (rest : ℕ → List ℕ) (R : HasRests w res
     full_useful_is y s lt = (
       full_useful_says y s lt,
       (λ t. let h = found (first_access a s (y ∷ rest y)) t in
-      carry_law (graph w).graph a l y s h.0 (rest y) (law.useful (graph w).graph (before w) a l on f) (rest_goes y lt) h.1
-      ((counts h.0 (node_found (rest y) y s h.0 (rest_goes y lt) h.1)).0 h.2)),
+          carry_law (graph w).graph a l y s h.0 (rest y) (law.useful (graph w).graph (before w) a l on f) (rest_goes y lt) h.1
+          ((counts h.0 (node_found (rest y) y s h.0 (rest_goes y lt) h.1)).0 h.2)),
     )
 
     -- a row, by its tests at the cache sets
@@ -310,11 +311,11 @@ module _ (w : Way) (way : IsWay w) (rest : ℕ → List ℕ) (R : HasRests w res
           | inl lt ↦
               let same_tests = test_says (some_of (size w) (λ y. law.hit_at (before w) a y && (a.set y == s))) (is_in useful s) (each_says p.sets (λ c. same_test (some_of (size w) (λ y. law.hit_at (before w) a y && (a.set y == c))) (is_in useful c)) T.reuses s lt) in (
                 (λ u. let z = by.0 u in
-                in_says useful s (subst (λ b. IsTrue b) same_tests (says_some (size w) (λ y. law.hit_at (before w) a y && (a.set y == s)) z.0 z.1
-                (and_from (law.hit_at (before w) a z.0) (a.set z.0 == s) ((hit_is z.0 z.1).0 z.2) (eq-eqb (a.set z.0) s z.3))))),
+                    in_says useful s (subst (λ b. IsTrue b) same_tests (says_some (size w) (λ y. law.hit_at (before w) a y && (a.set y == s)) z.0 z.1
+                    (and_from (law.hit_at (before w) a z.0) (a.set z.0 == s) ((hit_is z.0 z.1).0 z.2) (eq-eqb (a.set z.0) s z.3))))),
                 (λ c. let k = some_says (size w) (λ y. law.hit_at (before w) a y && (a.set y == s)) (subst (λ b. IsTrue b) (sym same_tests) (says_in useful s c)) in
-                let q = and_parts (law.hit_at (before w) a k.0) (a.set k.0 == s) k.2 in
-                by.1 (k.0, k.1, (hit_is k.0 k.1).1 q.0, eqb-true (a.set k.0) s q.1)),
+                    let q = and_parts (law.hit_at (before w) a k.0) (a.set k.0 == s) k.2 in
+                    by.1 (k.0, k.1, (hit_is k.0 k.1).1 q.0, eqb-true (a.set k.0) s q.1)),
               )
           | inr ge ↦ (
             (λ u. let z = by.0 u in absurd (other_set a p.sets below s ge z.0 z.3)),

@@ -1,6 +1,5 @@
 -- Worked rows of the cache analyses: the three tasks that preempt each other, and a program that calls one function twice.
 use Rattle.std.specs.Prelude.{◌≡◌, ℕ, ◌↔◌, List, [], ◌∷◌, replicate, slice_index_or, Option, Some, None, Contains, pos, negsuc}
-use Rattle.crpd_base.specs.declared.data.Platform.{Platform}
 use Rattle.rv_decode.specs.declared.Ins.{Ins}
 use Rattle.rv_decode.specs.declared.Ins.TheVariants.{Addi, Sw, Lw, Jal, Jalr}
 use Rattle.flat_graph.specs.Graph.{Graph}
