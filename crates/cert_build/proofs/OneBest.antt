@@ -11,7 +11,6 @@ use Rattle.crpd_base.specs.declared.data.TaskPart.{TaskPart}
 use Rattle.crpd_base.specs.declared.data.Certificate.{Certificate}
 use Rattle.crpd_base.specs.declared.data.Part.{Part}
 use Rattle.crpd_base.specs.declared.data.Method.{Method}
-use Rattle.crpd_base.specs.declared.data.Method.TheVariants.{Ucb, Ecb}
 use Rattle.crpd_base.specs.Sets.{member}
 use Rattle.crpd_base.specs.Tasks.{HasTimes}
 use Rattle.crpd_base.proofs.Bits.{member_le_one, same_words}
