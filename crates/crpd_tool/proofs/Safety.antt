@@ -2,7 +2,6 @@
 use Rattle.std.proofs.Common.{◌≡◌, ℕ, List, Option, Some, None, Result, Ok, Err, refl, ap, sym, ◌∙◌}
 use Rattle.crpd_io.specs.Outside.{Contents}
 use Rattle.first_form.specs.declared.task.OneTask.{OneTask}
-use Rattle.first_form.specs.declared.program.Program.{Program}
 use Rattle.first_form.specs.declared.certificate.Stated.{Stated}
 use Rattle.first_form.specs.declared.outcome.Verdict.{Verdict}
 use Rattle.first_form.specs.declared.outcome.Verdict.TheVariants.{Yes, No}
@@ -14,9 +13,9 @@ use Rattle.crpd_tool.specs.declared.answer.Answer.{Answer}
 use Rattle.crpd_tool.specs.declared.answer.Outcome.TheVariants.{Done}
 use Rattle.crpd_tool.specs.declared.refusal.Refusal.{Refusal}
 use Rattle.crpd_tool.specs.Steps.{and_then, bytes_in, in_form}
-use Rattle.crpd_tool.specs.Words.{check, command_of}
+use Rattle.crpd_tool.specs.Words.{check}
 use Rattle.crpd_tool.specs.Check.{set_in, program_in, certificate_in, verdict_answer, check_of}
-use Rattle.crpd_tool.specs.Out.{answer_of, settled, out}
+use Rattle.crpd_tool.specs.Out.{settled}
 use Rattle.crpd_tool.specs.Safety.{IsCertified, DoneIsSafe}
 use Rattle.crpd_tool.proofs.Finish.{out-some}
 

@@ -6,9 +6,9 @@ use Rattle.code_map.proofs.runs.next_in.Goals.{then-address-via-then-address, th
 pub returns-then-address-clause-is : goal.returns-then-address-clause-is
 returns-then-address-clause-is c =
     elim c.then-address.branch [
-      then-address-via-then-address w ↦ none_at_end c.args.run.now c.args.from c.max-low.result c.max-low.ensures _ refl w.if-address.true
-    | then-address-via-else-address+then-is_none w ↦ none_there c.args.run.now c.args.from c.max-low.result c.max-low.ensures _ refl w.number_in.result w.number_in.ensures
-        (none_is w.number_in.result w.is_none.ensures w.if-is_none.true)
+      | then-address-via-then-address w ↦ none_at_end c.args.run.now c.args.from c.max-low.result c.max-low.ensures _ refl w.if-address.true
+      | then-address-via-else-address+then-is_none w ↦ none_there c.args.run.now c.args.from c.max-low.result c.max-low.ensures _ refl w.number_in.result w.number_in.ensures
+          (none_is w.number_in.result w.is_none.ensures w.if-is_none.true)
     ]
 
 pub returns-clause-is : goal.returns-clause-is
