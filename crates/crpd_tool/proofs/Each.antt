@@ -1,8 +1,9 @@
 -- A step for each item of a list, up to the first refusal.
 use Rattle.std.proofs.Common.{◌≡◌, ℕ, zero, suc, ◌+◌, ◌<◌, ◌≤◌, List, [], ◌∷◌, ◌++◌, length, get_or, take, drop, Some, None, Ok, Err, refl, ap, sym, ◌∙◌, arith}
-use Rattle.std.specs.Prelude.{Result, position}
+use Rattle.std.specs.Prelude.{All, Result, position}
 use Rattle.std.specs.Str.{bytes_eq}
 use Rattle.std.proofs.lemmas.List.{take_all, take_more, take-append-drop, drop_more}
+use Rattle.std.proofs.lemmas.List.Elements.{All-cons, All-nil}
 use Rattle.std.proofs.lemmas.List.Quantifiers.{position-Some}
 use Rattle.std.proofs.lemmas.Slice.Eq.{bytes_eq-Decides}
 use Rattle.crpd_base.specs.declared.data.Image.{Image}
@@ -56,6 +57,13 @@ module _ {A B : Type 0} (step : A → Result B Refusal) where
   stops : (xs : List A) (ys : List B) (x : A) (zs : List A) (r : Refusal) → each step xs ≡ Ok ys → step x ≡ Err r → each step (xs ++ x ∷ zs) ≡ Err r
   stops [] ys x zs r e h = stops_here x zs r h
   stops (w ∷ xs) ys x zs r e h = let f = front w xs ys e in stops_behind w (xs ++ x ∷ zs) f.0 r f.2 (stops xs f.1 x zs r f.3 h)
+
+  -- what holds of each value of the step holds of all
+  pub all_given : (P : B → Type 0) → ((x : A) (y : B) → step x ≡ Ok y → P y) → (xs : List A) (ys : List B) → each step xs ≡ Ok ys → All P ys
+  all_given P h [] ys e = rw (none_ok ys e) (All-nil P)
+  all_given P h (x ∷ xs) ys e =
+      let f = front x xs ys e in
+      rw f.4 (All-cons P f.0 f.1 (h x f.0 f.2) (all_given P h xs f.1 f.3))
 
   -- what the step gave of the item at a place
   pub at : (xs : List A) (ys : List B) (k : ℕ) (c : A) (d : B) → each step xs ≡ Ok ys → k < length xs → step (get_or xs k c) ≡ Ok (get_or ys k d)

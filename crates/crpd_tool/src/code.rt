@@ -13,7 +13,7 @@ use crpd_io::Files;
 use std::alloc::Global;
 
 /// The name of a task.
-fn task_name(set: &TaskSet, task: Task) -> &str
+pub(crate) fn task_name(set: &TaskSet, task: Task) -> &str
     ensures { result.now ≡ task_name_of set.now task }
 {
     match set.tasks.as_slice().get(usize::from(task.0)) {
