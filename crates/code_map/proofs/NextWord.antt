@@ -1,8 +1,8 @@
 -- The least address from one on at which a word stands in runs.
-use Rattle.std.proofs.Common.{◌≡◌, ℕ, ◌+◌, ◌-◌, ◌%◌, ◌^◌, ◌<◌, ◌≤◌, eqb, Bool, true, false, List, [], ◌∷◌, ◌⊎◌, length, get_or, Option, Some, None, refl, ap, sym, subst, ◌∙◌, inl, inr, ⊎_elim, arith, suc, zero}
-use Rattle.std.specs.Prelude.{AllPairs, All, is_some, max, slice_get, if◌then◌else◌, ◌&&◌, not, IfSome, MatchOption}
+use Rattle.std.proofs.Common.{◌≡◌, ℕ, ◌+◌, ◌-◌, ◌%◌, ◌^◌, ◌<◌, ◌≤◌, eqb, Bool, true, false, List, [], ◌∷◌, length, get_or, Option, Some, None, refl, ap, sym, subst, ◌∙◌, ⊎_elim, arith, suc, zero}
+use Rattle.std.specs.Prelude.{AllPairs, All, is_some, max, slice_get, if◌then◌else◌, ◌&&◌, not}
 use Rattle.std.proofs.Math.Nat.{eq-or-lt_of_le}
-use Rattle.std.proofs.lemmas.Bool.{cases_Bool, eqb-true, eqb-false, le-leb}
+use Rattle.std.proofs.lemmas.Bool.{le-leb}
 use Rattle.std.proofs.Common.{take, drop}
 use Rattle.std.proofs.lemmas.List.{get_or-drop, get_or-take, length-take, length-drop}
 use Rattle.std.proofs.lemmas.Option.{none-some, same_Some, slice_get-get_or}
@@ -12,9 +12,9 @@ use Rattle.code_map.specs.declared.files.Files.TheInside.{Inside}
 use Rattle.code_map.specs.declared.runs.Run.{Run}
 use Rattle.code_map.specs.Kept.{IsKept}
 use Rattle.code_map.specs.Next.{IsNext, IsNextOf, IsNextAddress}
-use Rattle.code_map.specs.Words.{byte_from, end, image_byte, little_endian, owns, word_by}
+use Rattle.code_map.specs.Words.{byte_from, image_byte, little_endian, owns, word_by, end}
 use Rattle.code_map.specs.Runs.{run_byte, runs_byte, has_word, have_word, end_of, IsBefore, IsIndex}
-use Rattle.code_map.proofs.First.{found_some, option_cases}
+use Rattle.code_map.proofs.First.{found_some}
 use Rattle.code_map.proofs.Found.{ascending, blank, in_order, get_or_same, number_of_run, some_within, word_there}
 use Rattle.code_map.proofs.Has.{any_true, equals_some, equals}
 use Rattle.code_map.proofs.Indexed.{byte_below}

@@ -112,6 +112,13 @@ impl Files {
         self.images.as_slice()
     }
 
+    /// The images are those of ELF files.
+    pub(crate) fn images_law(&self)
+        ensures { All IsImage self.now }
+    {
+        let _images = &self.images;
+    }
+
     /// A word ends below the address at which jobs end, and has 32 bits.
     pub(crate) fn words_law(&self)
         ensures { (a w : ℕ) → word_at self.now a ≡ Some w → (a + 4 ≤ end) × (w < 2 ^ 32) }

@@ -115,6 +115,13 @@ impl CodeMap {
         let _plans = &self.plans;
     }
 
+    /// Each image has its segments in the address space, apart from each other, and none with more bytes than its size.
+    pub fn images_law(&self)
+        ensures { All IsImage self.now.images }
+    {
+        self.files.images_law();
+    }
+
     /// A word ends below the address at which jobs end, and has 32 bits.
     pub fn words_law(&self)
         ensures { (a w : ℕ) → word_at self.now.images a ≡ Some w → (a + 4 ≤ end) × (w < 2 ^ 32) }

@@ -1,7 +1,7 @@
 // Code bytes kept as runs of bytes at successive addresses, so that a byte is found by the starts of the runs.
 ghost use Rattle.std.specs.Prelude.{◌≡◌, ℕ, ◌+◌, ◌*◌, ◌<◌, ◌≤◌, length, slice_index, AllPairs, Some, IfSome};
 ghost use Rattle.std.specs.List.{AllWithin};
-ghost use Rattle.code_map.specs.Words.{end, little_endian, word_by};
+ghost use Rattle.code_map.specs.Words.{little_endian, word_by, end};
 ghost use Rattle.code_map.specs.Next.{IsNextAddress};
 ghost use Rattle.code_map.specs.Runs.{run_byte, runs_byte, has_word, have_word, IsBefore};
 

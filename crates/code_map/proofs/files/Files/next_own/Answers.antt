@@ -1,5 +1,4 @@
-use Rattle.std.proofs.Common.{◌≡◌, List, get_or, ◌∙◌, ap, sym, subst, refl}
-use Rattle.code_map.specs.declared.runs.Run.{Run}
+use Rattle.std.proofs.Common.{refl}
 use Rattle.code_map.proofs.KeptWords.{runs_are, own_apart}
 use Rattle.code_map.proofs.NextWord.{kept_next}
 use Rattle.code_map.proofs.files.Files.next_own.Goals as goal

@@ -1,6 +1,5 @@
-use Rattle.std.proofs.Common.{◌≡◌, List, get_or, Some, ◌∙◌, ap, sym, subst, refl}
+use Rattle.std.proofs.Common.{Some, ◌∙◌, ap, sym, refl}
 use Rattle.std.specs.Prelude.{is_some}
-use Rattle.code_map.specs.declared.runs.Run.{Run}
 use Rattle.code_map.proofs.KeptWords.{runs_are, own_apart, own_word}
 use Rattle.code_map.proofs.files.Files.own.Goals as goal
 
