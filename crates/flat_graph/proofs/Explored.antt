@@ -1,14 +1,14 @@
 -- What is explored, step by step; and that words stand at the calls under way of every node.
-use Rattle.std.proofs.Common.{◌≡◌, ℕ, zero, suc, ◌+◌, ◌<◌, ◌≤◌, ◌↔◌, List, [], ◌∷◌, ◌++◌, reverse, length, map, Option, Some, None, Contains, slice_get, refl, sym, ap, ◌∙◌, subst, inl, inr, ⊎_elim, ◌⊎◌, arith, All, Bool, true, false, ◌==◌, if◌then◌else◌}
+use Rattle.std.proofs.Common.{◌≡◌, ℕ, ◌+◌, ◌<◌, ◌≤◌, List, [], ◌∷◌, ◌++◌, reverse, length, Option, Some, None, Contains, slice_get, refl, sym, ap, ◌∙◌, subst, ⊎_elim, arith, All, Bool, true, false, ◌==◌, if◌then◌else◌}
 use Rattle.std.proofs.lemmas.Bool.{cases_lt}
 use Rattle.std.proofs.lemmas.List.{get_or_append_left, length-append, reverse-reverse, reverse-append, length-map}
-use Rattle.std.proofs.lemmas.List.Elements.{Contains-get_or, Contains-append_left, Contains-append_cases, All-nil, All-push, All-take, All-contains}
+use Rattle.std.proofs.lemmas.List.Elements.{Contains-get_or, Contains-append_left, Contains-append_cases, All-nil, All-push}
 use Rattle.std.proofs.lemmas.Option.{slice_get_within}
 use Rattle.rv_decode.specs.Address.{end}
 use Rattle.rv_decode.specs.Flow.{Flow, Plain, Branch, Jump, Call, Return, Exit, Break, OtherJalr, OtherJal, Flows, Words, IsCodeMap, flows, flow_of_word}
-use Rattle.flat_graph.specs.FlatGraph.{FlatNode, NodeError, IsBefore, IsNode, the_first, a_successor, successors, returns_to, goes_to, goes_on, error_of, HasMoreNodes, IsNumbering}
+use Rattle.flat_graph.specs.FlatGraph.{FlatNode, NodeError, IsNode, the_first, a_successor, successors, returns_to, goes_to, goes_on, error_of, HasMoreNodes, IsNumbering}
 use Rattle.flat_graph.specs.Reach.{IsReached, AreAdded, IsExplored}
-use Rattle.flat_graph.specs.Spots.{flat, flats, IsBelowEnd}
+use Rattle.flat_graph.specs.Spots.{flats, IsBelowEnd}
 use Rattle.flat_graph.specs.declared.spots.Spot.{Spot}
 use Rattle.flat_graph.proofs.Members.{in_none, in_one, head_or_rest, contains_at, at_contains, slice_get_left}
 
@@ -62,9 +62,10 @@ pub numbered_spots : (code : Flows) (entry place : ℕ) (set list : List Spot) �
     length list ≤ place → IsNumbering code entry (flats set)
 numbered_spots code entry place set list R E le = record {
   ordered = R.ordered;
-  all = λ n.
-      (λ h. (R.same n).1 (explored_all code entry place (flats list) E (simp length-map (omega arith)) n h),
-      λ c. E.all n ((R.same n).0 c));
+  all = λ n. (
+    λ h. (R.same n).1 (explored_all code entry place (flats list) E (simp length-map (omega arith)) n h),
+    λ c. E.all n ((R.same n).0 c),
+  );
 }
 
 pub more_spots : (code : Flows) (entry place limit : ℕ) (set list : List Spot) → IsReached set list → IsExplored code entry place (flats list) →

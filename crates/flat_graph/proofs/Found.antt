@@ -1,5 +1,5 @@
 -- What was found, after one more spot.
-use Rattle.std.proofs.Common.{◌≡◌, ℕ, zero, suc, ◌+◌, ◌<◌, ◌≤◌, ◌↔◌, Bool, false, true, not, List, [], ◌∷◌, ◌++◌, length, map, Contains, get_or, refl, sym, ap, ◌∙◌, subst, inl, inr, ⊎_elim, ◌⊎◌, arith, AllPairs, All}
+use Rattle.std.proofs.Common.{◌≡◌, ◌+◌, ◌<◌, Bool, false, true, List, [], ◌∷◌, ◌++◌, length, Contains, get_or, refl, sym, ap, ◌∙◌, subst, inl, inr, ⊎_elim, ◌⊎◌, arith, AllPairs}
 use Rattle.std.proofs.lemmas.List.{get_or-map, length-map, map-append, append_assoc, length-append}
 use Rattle.std.proofs.lemmas.List.Elements.{Contains-append_left, Contains-append_right, Contains-append_cases}
 use Rattle.std.proofs.lemmas.Map.Keys.{Less-from_sorted}

@@ -1,17 +1,15 @@
 -- The order of spots is the order of numbering.
-use Rattle.std.proofs.Common.{◌≡◌, ℕ, zero, suc, ◌+◌, ◌<◌, ◌≤◌, false, true, List, [], ◌∷◌, ◌++◌, length, map, Contains, get_or, refl, sym, ap, ◌∙◌, subst, inl, inr, ⊎_elim, ◌⊎◌, arith, IsTrue, AllPairs, ◌==◌, nat_lt}
-use Rattle.std.proofs.lemmas.Bool.{cases_order, cases_eq, false≢true}
+use Rattle.std.proofs.Common.{◌≡◌, ℕ, ◌<◌, ◌≤◌, true, List, [], ◌∷◌, refl, sym, ap, ◌∙◌, subst, inl, inr, ⊎_elim, ◌⊎◌, arith, rules}
+use Rattle.std.proofs.lemmas.Bool.{cases_eq, false≢true}
 use Rattle.std.proofs.lemmas.Bool.Decides.{nat_tests}
 use Rattle.std.proofs.lemmas.Cmp.{ranked}
 use Rattle.std.specs.declared.cmp.Ordering.{Ordering}
 use Rattle.std.specs.declared.cmp.Ordering.TheVariants.{Less, Equal, Greater}
-use Rattle.std.specs.Ordering.{nat_cmp, ordering_then}
+use Rattle.std.specs.Ordering.{nat_cmp, ordering_then, ordering_reverse, ordering_index, then_cmp, on}
+use Rattle.std.specs.Cmp.{IsTotalOrder, nat_cmp_is}
+use Rattle.std.specs.Cmp.Rules.{comparing}
 use Rattle.std.specs.Cmp.Lexicographic.{slice_cmp}
-use Rattle.std.specs.List.Sorted.{IsStrictlySortedBy}
-use Rattle.std.proofs.lemmas.Map.Keys.{Less-from_sorted}
 use Rattle.flat_graph.specs.FlatGraph.{FlatNode, list_lt, IsBefore}
-use Rattle.flat_graph.specs.Spots.{flat, flats}
-use Rattle.flat_graph.specs.declared.spots.Spot.{Spot}
 
 abbrev pub list_cmp : List ℕ → List ℕ → Ordering
 list_cmp = slice_cmp nat_cmp
@@ -113,3 +111,37 @@ before_one_way n m (inr a) (inr b) = absurd (omega (arith, a.1, b.1))
 
 pub not_before_same : (n m : FlatNode) → n ≡ m → IsBefore n m → ⊥
 not_before_same n m e b = before_one_way n m b (subst (λ x. IsBefore x n) e (subst (λ x. IsBefore n x) (sym e) b))
+
+pub list_below : (xs ys : List ℕ) → list_lt xs ys ≡ true → list_cmp xs ys ≡ Less
+list_below [] [] e = absurd (false≢true e)
+list_below [] (y ∷ ys) e = refl
+list_below (x ∷ xs) [] e = absurd (false≢true e)
+list_below (x ∷ xs) (y ∷ ys) e =
+    ⊎_elim
+    (λ l. ap (λ o. ordering_then o (list_cmp xs ys)) (sym (nat_cmp_is x y Less l)))
+    (λ b. ap (λ o. ordering_then o (list_cmp xs ys)) (sym (nat_cmp_is x y Equal b.0)) ∙ list_below xs ys b.1)
+    (unlike_heads x y xs ys e)
+
+pub flat_below : (n m : FlatNode) → IsBefore n m → flat_cmp n m ≡ Less
+flat_below n m (inl a) = ap (λ o. ordering_then o (nat_cmp n.address m.address)) (list_below n.context m.context a)
+flat_below n m (inr b) =
+    ap (λ o. ordering_then o (nat_cmp n.address m.address)) (ap (list_cmp n.context) (sym b.0) ∙ list_same n.context)
+    ∙ sym (nat_cmp_is n.address m.address Less b.1)
+
+flat_total : IsTotalOrder (then_cmp (on (λ (n : FlatNode). n.context) (slice_cmp nat_cmp)) (on (λ (n : FlatNode). n.address) nat_cmp))
+flat_total = search (comparing, rules)
+
+by_order : (a b x : FlatNode) (r : Ordering) → flat_cmp b x ≡ r → flat_cmp a b ≡ Less → ordering_index (flat_cmp a x) ≤ ordering_index r
+by_order a b x Less e h = subst (λ o. ordering_index o ≤ 0) (sym (flat_total.trans a b x h e)) (omega arith)
+by_order a b x Equal e h =
+    subst (λ o. ordering_index o ≤ 1) (sym (flat_total.antisymm a x ∙ ap ordering_reverse (sym (flat_total.congr b x a e)) ∙ sym (flat_total.antisymm a b) ∙ h)) (omega arith)
+by_order a b x Greater e h = most (flat_cmp a x)
+  where
+    most : (o : Ordering) → ordering_index o ≤ 2
+    most Less = omega arith
+    most Equal = omega arith
+    most Greater = omega arith
+
+-- along the order, the comparison with a node does not fall
+pub rises : (a b x : FlatNode) → IsBefore a b → ordering_index (flat_cmp a x) ≤ ordering_index (flat_cmp b x)
+rises a b x h = by_order a b x (flat_cmp b x) refl (flat_below a b h)

@@ -1,5 +1,5 @@
 -- The spots that were found so far.
-use Rattle.std.specs.Prelude.{◌≡◌, ℕ, ◌<◌, List, [], ◌∷◌, ◌++◌, length, Contains, ◌↔◌, AllPairs, slice_get, Some}
+use Rattle.std.specs.Prelude.{◌≡◌, ℕ, ◌<◌, List, [], ◌++◌, length, Contains, ◌↔◌, AllPairs, slice_get, Some}
 use Rattle.rv_decode.specs.Flow.{Flows}
 use Rattle.flat_graph.specs.FlatGraph.{FlatNode, IsBefore, IsNode, successors}
 use Rattle.flat_graph.specs.declared.spots.Spot.{Spot}

@@ -85,7 +85,12 @@ fn steps_from(alloc: Global, code: &CodeMap, entry: u32, spot: &Spot) -> Result<
 
 /// The spots of the nodes of the graph from an entry, in the order of numbering: `TooManyNodes` where they are more than
 /// the most.
-pub(crate) fn reach(alloc: Global, code: &CodeMap, entry: u32, most: usize) -> Result<Vec<Spot>, GraphError>
+pub(crate) fn reach(
+    alloc: Global,
+    code: &CodeMap,
+    entry: u32,
+    most: usize,
+) -> Result<Vec<Spot>, GraphError>
     ensures reached { IfOk result (λ v. IsNumbering (flows (word_at code.now.images)) entry (flats v.items)) }
     ensures few { IfOk result (λ v. length v.items ≤ most) }
     ensures too_many { IfErr result (λ e. (e ≡ Memory) ⊎ ((e ≡ TooManyNodes entry) × HasMoreNodes (flows (word_at code.now.images)) entry most)) }

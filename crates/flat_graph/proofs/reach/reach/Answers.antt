@@ -1,11 +1,11 @@
-use Rattle.std.proofs.Common.{◌≡◌, ℕ, sym, ap, ◌∙◌, subst, Contains, [], ◌∷◌, inr, refl, length, arith, ◌≤◌, ◌<◌, ◌+◌, Some, slice_get, option_map}
+use Rattle.std.proofs.Common.{◌≡◌, sym, ap, ◌∙◌, subst, [], ◌∷◌, inr, refl, length, arith, ◌≤◌, ◌<◌, Some, slice_get, option_map}
 use Rattle.std.proofs.lemmas.Option.{slice_get_read, slice_get-map}
 use Rattle.std.proofs.lemmas.List.{length-map}
 use Rattle.code_map.specs.Words.{word_at}
 use Rattle.rv_decode.specs.Flow.{flows}
-use Rattle.flat_graph.specs.FlatGraph.{IsNumbering, successors}
-use Rattle.flat_graph.specs.Reach.{IsReached, AreAdded, IsExplored}
-use Rattle.flat_graph.specs.Spots.{flat, flats, flat_steps}
+use Rattle.flat_graph.specs.FlatGraph.{IsNumbering}
+use Rattle.flat_graph.specs.Reach.{AreAdded}
+use Rattle.flat_graph.specs.Spots.{flat, flats}
 use Rattle.flat_graph.proofs.Explored.{explored_first, explored_more, more_within, numbered_spots, more_spots}
 use Rattle.flat_graph.proofs.reach.reach.Goals as goal
 use Rattle.flat_graph.proofs.reach.reach.Goals.{then-loop-place-test+else-len-most, else-loop-place-test}
@@ -21,7 +21,7 @@ loop-place-init c = record {
 }
 
 pub loop-place-preserved : goal.loop-place-preserved
-loop-place-preserved c = 
+loop-place-preserved c =
     let items = c.loop-place.found.list.items in
     let lt : c.loop-place.place < length items = omega arith in
     let read : slice_get items c.loop-place.place ≡ Some c.index.result.now = slice_get_read items (length items) c.loop-place.place c.index.result.now refl lt c.index.ensures in
@@ -41,6 +41,6 @@ returns-then-len-most-2-clause-too_many c =
 pub returns-clause-reached : goal.returns-clause-reached
 returns-clause-reached c =
     let le : length c.loop-place.found.list.items ≤ c.loop-place.place =
-        elim c.loop-place-test.branch [ then-loop-place-test+else-len-most w ↦ absurd (omega arith) | else-loop-place-test w ↦ omega arith ] in
+    elim c.loop-place-test.branch [ then-loop-place-test+else-len-most w ↦ absurd (omega arith) | else-loop-place-test w ↦ omega arith ] in
     subst (λ l. IsNumbering (flows (word_at c.args.code.now.images)) c.args.entry (flats l)) (sym c.in_ok-ordered.ensures)
     (numbered_spots _ c.args.entry c.loop-place.place c.loop-place.found.set.keys c.loop-place.found.list.items c.loop-place.invariant.found c.loop-place.invariant.explored le)

@@ -2,7 +2,7 @@ use Rattle.std.proofs.Common.{refl, sym, ap, ◌∙◌, ◌+◌, false, not, tru
 use Rattle.std.specs.BTreeSet.{insert_key}
 use Rattle.std.specs.List.Sorted.{IsStrictlySortedBy}
 use Rattle.flat_graph.specs.contracts.spots.SpotOrd.TheImpl as order
-use Rattle.flat_graph.specs.Reach.{IsReached, AreAdded}
+use Rattle.flat_graph.specs.Reach.{IsReached}
 use Rattle.flat_graph.specs.Spots.{flat, flats}
 use Rattle.flat_graph.proofs.Members.{in_one}
 use Rattle.flat_graph.proofs.Found.{reached_more, added_none, found_flat}
