@@ -1,1 +1,4 @@
 pub mod BestLaws
+pub mod Judged
+pub mod OneBest
+pub mod TwoWords
