@@ -11,7 +11,6 @@ use Rattle.crpd_base.specs.declared.data.TaskPart.{TaskPart}
 use Rattle.crpd_base.specs.declared.data.Certificate.{Certificate}
 use Rattle.crpd_base.specs.declared.data.Part.{Part}
 use Rattle.crpd_base.specs.declared.data.Method.{Method}
-use Rattle.crpd_base.specs.declared.data.Method.TheVariants.{Ucb, Ecb}
 use Rattle.crpd_base.specs.Sets.{member}
 use Rattle.crpd_base.specs.Tasks.{HasTimes}
 use Rattle.crpd_base.proofs.Bits.{member_le_one, same_words}
@@ -27,10 +26,10 @@ use Rattle.loop_regions.proofs.Potential.{item_law}
 use Rattle.evict_sets.specs.Certificate.{entry_of, block_in, no_cert, cert_at}
 use Rattle.delay_count.specs.Demand.{demand}
 use Rattle.delay_count.specs.Laws.{Load, IsCostlier, DemandGrows}
-use Rattle.response.specs.Windows.{IsWindow, IsSmaller}
 use Rattle.cert_check.specs.Certificate.{potentials_of}
 use Rattle.cert_check.specs.Clauses.{costs}
 use Rattle.cert_check.specs.Judge.{accesses_of, window_at, part_of, longest_at}
+use Rattle.cert_build.proofs.Choices.{one_smaller}
 use Rattle.cert_build.specs.Best.{IsSetOf, IsBestState, AreBestStates, IsBestPart, IsBest, OneBestLaw}
 
 -- sets with the same numbers are the same words
@@ -292,48 +291,6 @@ module _ (p : Platform) (t : TaskGraph) (c d : TaskPart) (C : IsBestPart p t c) 
       ∙ ap (λ x. made d.name d.part d.states d.potentials d.loops d.method x c.response) windows
       ∙ ap (λ x. made d.name d.part d.states d.potentials d.loops d.method d.window x) responses
 
--- the windows, where the demands are the same
-module _ (set : TaskSet) (longest : ℕ → ℕ) (parts others : ℕ → Part) (window other : ℕ → ℕ) (i : ℕ) (same : (method : Method) (v : ℕ) → demand set parts longest window i method v ≡ demand set others longest other i method v) where
-  one_window : (method : Method) (w v : ℕ) → IsWindow set parts longest window i method w → IsWindow set others longest other i method v → w ≡ v
-  one_window method w v W V =
-      let e = same method w in
-      let f = same method v in
-      let a = W.enough in
-      let b = V.enough in
-      let le = W.least v V.some (omega (arith, f, b)) in
-      let ge = V.least w W.some (omega (arith, e, a)) in
-      omega (arith, le, ge)
-
-  to_other : (method : Method) (w : ℕ) → IsWindow set parts longest window i method w → IsWindow set others longest other i method w
-  to_other method w W =
-      record {
-        some = W.some;
-        enough = let e = same method w in let a = W.enough in omega (arith, e, a);
-        in_deadline = W.in_deadline;
-        least = λ v s b. let e = same method v in W.least v s (omega (arith, e, b));
-      }
-
-  back : (method : Method) (w : ℕ) → IsWindow set others longest other i method w → IsWindow set parts longest window i method w
-  back method w W =
-      record {
-        some = W.some;
-        enough = let e = same method w in let a = W.enough in omega (arith, e, a);
-        in_deadline = W.in_deadline;
-        least = λ v s b. let e = same method v in W.least v s (omega (arith, e, b));
-      }
-
-  one_smaller : (method by : Method) (w v : ℕ) → IsSmaller set parts longest window i method w → IsSmaller set others longest other i by v → (method ≡ by) × (w ≡ v)
-  one_smaller Ucb Ucb w v S T = (refl, one_window Ucb w v S.0 T.0)
-  one_smaller Ecb Ecb w v S T = (refl, one_window Ecb w v S.0 T.0)
-  one_smaller Ucb Ecb w v S T =
-      let le = S.1 v (back Ecb v T.0) in
-      let lt = T.1 w (to_other Ucb w S.0) in
-      absurd (omega (arith, le, lt))
-  one_smaller Ecb Ucb w v S T =
-      let lt = S.1 v (back Ucb v T.0) in
-      let le = T.1 w (to_other Ecb w S.0) in
-      absurd (omega (arith, le, lt))
-
 module _ (grows : DemandGrows) (set : TaskSet) (graphs : ℕ → TaskGraph) (c d : Certificate) (times : HasTimes set) (C : IsBest set graphs c) (D : IsBest set graphs d) where
   abbrev load : Certificate → Load
   load x = record { set = set; parts = part_of x; longest = longest_at set.platform graphs; window = window_at x }
@@ -363,7 +320,7 @@ module _ (grows : DemandGrows) (set : TaskSet) (graphs : ℕ → TaskGraph) (c d
 
   same_choice : (i : ℕ) → i < length set.tasks → ((k : ℕ) → k < i → window_at c k ≡ window_at d k) → ((cert_at c i).method ≡ (cert_at d i).method) × (window_at c i ≡ window_at d i)
   same_choice i l windows =
-      one_smaller set (longest_at set.platform graphs) (part_of c) (part_of d) (window_at c) (window_at d) i (same_demand i l windows)
+      one_smaller set (longest_at set.platform graphs) (longest_at set.platform graphs) (part_of c) (part_of d) (window_at c) (window_at d) i (same_demand i l windows)
       (cert_at c i).method (cert_at d i).method (window_at c i) (window_at d i) (C.each i l).window (D.each i l).window
 
   windows_below : (n : ℕ) → n ≤ length set.tasks → (k : ℕ) → k < n → window_at c k ≡ window_at d k

@@ -1,7 +1,7 @@
 //! The analysis' certificate: what it is, and the laws by which it meets the clauses.
 #![tactic(auto)]
 
-ghost use Rattle.cert_build.specs.Best.{BestIsJudgedLaw, OneBestLaw};
+ghost use Rattle.cert_build.specs.Best.{BestIsJudgedLaw, ChoicesLaw, OneBestLaw};
 ghost use Rattle.cert_build.specs.BestLaws.{BestMeetsLaw, BestSetsLaw, BestStateLaw, BestUsefulLaw, EnoughSetsLaw};
 ghost use Rattle.cert_build.specs.TwoWords.{TwoWords};
 
@@ -20,6 +20,13 @@ pub fn best_laws()
 pub fn best_is_judged()
     ensures { BestIsJudgedLaw }
 {}
+
+/// The windows found for the parts of a certificate, and written in it, are those of the analysis' certificate.
+pub fn choices_law()
+    ensures { ChoicesLaw }
+{
+    growth_law();
+}
 
 /// A task set has one such certificate at most.
 pub fn one_best()
