@@ -1,0 +1,60 @@
+// The graphs of the tasks.
+ghost use Rattle.std.specs.Prelude.{◌≡◌, ◌≤◌, ◌<◌, length, IfOk};
+ghost use Rattle.crpd_tool.specs.Steps.{IsRefusal, MeansBy};
+ghost use Rattle.crpd_tool.specs.Graphs.{GraphAt, GraphsIn, graph_refusal};
+
+use crate::code::task_name;
+use crate::halt::Halt;
+use crate::input::Input;
+use crate::refuse::refuse_address;
+use crpd_base::{Items, Task};
+use flat_graph::{Graph, GraphError, build};
+use std::alloc::Global;
+
+/// The refusal of a task's graph.
+fn graph_halt(alloc: Global, name: &str, error: GraphError) -> Halt
+    ensures { IsRefusal (graph_refusal name.now error) result }
+{
+    match error {
+        GraphError::Memory => Halt::Memory,
+        GraphError::Undecodable(address) => refuse_address(alloc, 50, name, address),
+        GraphError::OutsideCode(address) => refuse_address(alloc, 51, name, address),
+        GraphError::IndirectJump(address) => refuse_address(alloc, 52, name, address),
+        GraphError::OtherLink(address) => refuse_address(alloc, 53, name, address),
+        GraphError::Breakpoint(address) => refuse_address(alloc, 54, name, address),
+        GraphError::Recursive(address) => refuse_address(alloc, 55, name, address),
+        GraphError::TooManyNodes(address) => refuse_address(alloc, 56, name, address),
+        GraphError::TooDeep(address) => refuse_address(alloc, 57, name, address),
+        GraphError::Misaligned(address) => refuse_address(alloc, 58, name, address),
+    }
+}
+
+/// The graph of a task.
+fn task_graph(alloc: Global, input: &Input, task: Task) -> Result<Graph, Halt>
+    requires { task.0 < length input.now.code.plans }
+    ensures { MeansBy (GraphAt input.now task.0) result }
+{
+    match build(alloc, &input.code, task) {
+        Ok(graph) => Ok(graph),
+        Err(GraphError::Memory) => Err(Halt::Memory),
+        Err(error) => Err(graph_halt(alloc, task_name(&input.set, task), error)),
+    }
+}
+
+/// The graphs of all tasks, in their order.
+pub(crate) fn task_graphs(alloc: Global, input: &Input) -> Result<Items<Graph>, Halt>
+    requires few { length input.now.set.tasks ≤ 256 }
+    requires plans { length input.now.code.plans ≡ length input.now.set.tasks }
+    ensures exact { MeansBy (GraphsIn input.now) result }
+    ensures count { IfOk result (λ graphs. length graphs ≡ length input.now.set.tasks) }
+{
+    let mut graphs = Vec::new(alloc);
+    for place in 0..input.set.tasks.as_slice().len() {
+        let graph = match task_graph(alloc, input, Task(place as u8)) {
+            Ok(graph) => graph,
+            Err(halt) => return Err(halt),
+        };
+        graphs.push(graph)?;
+    }
+    Ok(Items::new(graphs))
+}
