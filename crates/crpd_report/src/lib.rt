@@ -1,0 +1,13 @@
+//! The texts that the certifier writes.
+#![tactic(auto)]
+
+mod address;
+mod list;
+mod refusal;
+
+pub use address::address_text;
+pub use list::list_text;
+pub use refusal::refusal_text;
+
+#[cfg(test)]
+mod tests;
