@@ -8,12 +8,12 @@ use std::test::Fail;
 const PLATFORM: &str =
     "[platform]\nline = 16\nsets = 4\nhit = 1\nmiss = 10\ndata = 3\ntaken = 2\nswitch = 5\n";
 
-const TIMES: &str = "period = 100\ndeadline = 100\njitter = 0\n";
+pub(crate) const TIMES: &str = "period = 100\ndeadline = 100\njitter = 0\n";
 
 // The tables of tasks, each with a name, a file and further keys.
-type Task = (&'static str, &'static str, &'static str);
+pub(crate) type Task = (&'static str, &'static str, &'static str);
 
-fn set_of(alloc: Global, tasks: &[Task]) -> Result<Vec<u8>, AllocError> {
+pub(crate) fn set_of(alloc: Global, tasks: &[Task]) -> Result<Vec<u8>, AllocError> {
     let mut text = String::from_str(alloc, PLATFORM)?;
     for task in tasks {
         let (name, file, keys) = *task;
@@ -51,13 +51,13 @@ const PROGRAM: [u32; 23] = [
 ];
 
 // A number as four bytes.
-fn push_word(bytes: &mut Vec<u8>, word: u32) -> Result<(), AllocError> {
+pub(crate) fn push_word(bytes: &mut Vec<u8>, word: u32) -> Result<(), AllocError> {
     bytes.extend_from_slice(&word.to_le_bytes())?;
     Ok(())
 }
 
 // The program, with other numbers at some places of its words.
-fn program_with(alloc: Global, changes: &[(usize, u32)]) -> Result<Vec<u8>, AllocError> {
+pub(crate) fn program_with(alloc: Global, changes: &[(usize, u32)]) -> Result<Vec<u8>, AllocError> {
     let mut words = PROGRAM.to_vec(alloc)?;
     for (place, word) in changes {
         if *place < words.len() {
@@ -93,10 +93,10 @@ fn straddling(alloc: Global) -> Result<Vec<u8>, AllocError> {
     Ok(bytes)
 }
 
-type File = (&'static str, Vec<u8>);
+pub(crate) type File = (&'static str, Vec<u8>);
 
 // What words end with over files of which a call fails, with a sink of which none does.
-fn ends(
+pub(crate) fn ends(
     rt: &impl Abort,
     alloc: Global,
     words: &[&str],
@@ -123,7 +123,7 @@ fn ends(
     Ok(())
 }
 
-const NEVER: u64 = u64::MAX;
+pub(crate) const NEVER: u64 = u64::MAX;
 
 const TWO_WORDS: &str = "00001000 00100293 addi x5,x0,1\n00001004 00000073 ecall\n";
 

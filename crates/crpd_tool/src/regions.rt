@@ -1,5 +1,5 @@
 // The regions of the tasks' loops.
-ghost use Rattle.std.specs.Prelude.{◌≡◌, ◌≤◌, ◌<◌, length, IfOk};
+ghost use Rattle.std.specs.Prelude.{◌≡◌, ◌≤◌, ◌<◌, length, IfOk, IsErrOf};
 ghost use Rattle.crpd_tool.specs.Steps.{IsRefusal, MeansBy};
 ghost use Rattle.crpd_tool.specs.Graphs.{RegionsAt, RegionsIn, loop_refusal};
 
@@ -29,7 +29,8 @@ fn loop_halt(alloc: Global, name: &str, error: LoopError) -> Halt
 fn task_regions(alloc: Global, input: &Input, graphs: &[Graph], task: Task) -> Result<Nest, Halt>
     requires planned { task.0 < length input.now.code.plans }
     requires has_graph { task.0 < length graphs.now }
-    ensures { MeansBy (RegionsAt input.now graphs.now task.0) result }
+    ensures exact { MeansBy (RegionsAt input.now graphs.now task.0) result }
+    ensures no_fault { ¬ IsErrOf result Halt.Fault }
 {
     let graph = &graphs[usize::from(task.0)];
     match regions(alloc, graph, input.code.plan(task)) {
@@ -49,6 +50,7 @@ pub(crate) fn all_regions(
     requires plans { length input.now.code.plans ≡ length input.now.set.tasks }
     requires graphs { length graphs.now ≡ length input.now.set.tasks }
     ensures exact { MeansBy (RegionsIn input.now graphs.now) result }
+    ensures no_fault { ¬ IsErrOf result Halt.Fault }
     ensures count { IfOk result (λ nests. length nests ≡ length input.now.set.tasks) }
 {
     let mut nests = Vec::new(alloc);
