@@ -1,0 +1,25 @@
+use Rattle.std.proofs.Common.{◌≡◌, Some, refl, sym, ◌∙◌, ap}
+use Rattle.std.specs.Prelude.{OnOk, length}
+use Rattle.std.proofs.lemmas.Result.{on_ok_weaker, on_err_weaker}
+use Rattle.flow_watch.specs.Turns.{HasTurns}
+use Rattle.preempt_machine.specs.Machine.{ins_at, plan_of}
+use Rattle.preempt_machine.specs.Running.{system_by}
+use Rattle.preempt_machine.specs.Jobs.{turn_by}
+use Rattle.preempt_machine.specs.Step.{executed}
+use Rattle.preempt_machine.proofs.Turns.{plan_is, keeps_plan}
+use Rattle.preempt_machine.proofs.jobs.Core.advance.Goals as goal
+
+pub returns-in-Some-clause-ok : goal.returns-in-Some-clause-ok
+returns-in-Some-clause-ok c =
+    let sys = system_by c.args.self.now.geometry.platform c.args.code.now in
+    let plan : plan_of sys c.args.job.now.line.task.0 ≡ c.plan.result.now = plan_is sys c.args.job.now.line.task.0 c.plan.result.now (rw c.task.ensures at c.plan.ensures) in
+    let found : Some c.in-Some.ins ≡ ins_at sys c.args.job.now.pc = rw c.pc.ensures at (c.in-Some.ensures.is c.args.self.now.geometry.platform) in
+    on_ok_weaker c.execute.result
+    (λ h. h sys 0 refl plan ∙ ap (executed sys c.args.now (turn_by c.args.self.now.cache c.args.self.now.memory 0 c.args.job.now)) found)
+    c.execute.ensures.ok
+
+pub returns-in-Some-clause-plan : goal.returns-in-Some-clause-plan
+returns-in-Some-clause-plan c = ?
+
+pub returns-in-Some-clause-store : goal.returns-in-Some-clause-store
+returns-in-Some-clause-store c = ?
