@@ -52,3 +52,33 @@ opened_more due p q old cs h le below =
 
     earlier : (r : ℕ) → r < q + 1 → place_at due r ≢ place_at due q → r < q
     earlier r b ne = elim (cases_eq r q) [ inl e ↦ absurd (ne (ap (place_at due) e)) | inr other ↦ omega arith ]
+
+-- one more position is linked: it is the first one of its task from here, and the next of its task is the first one so far
+pub record AreLinkedFrom (lines : List ScriptJob) (due : List (ℕ × ℕ)) (at : ℕ) (later heads : List ℕ) : Type 0 where
+  pub within : at ≤ length due
+  pub next : (p : ℕ) → at ≤ p → p < length due → IsFirstFrom lines due (task_at lines due p) (p + 1) (slice_index later p)
+  pub heads_are : (t : ℕ) → t < length heads → IsFirstFrom lines due t at (slice_index heads t)
+
+pub linked_more : (lines : List ScriptJob) (due : List (ℕ × ℕ)) (at n t : ℕ) (later heads : List ℕ) → at ≡ n + 1 → t ≡ task_at lines due n → t < length heads → length later ≡ length due → AreLinkedFrom lines due at later heads → AreLinkedFrom lines due n (slice_set later n (slice_index heads t)) (slice_set heads t n)
+linked_more lines due at n t later heads e is below long h =
+    record {
+      within = omega (arith, h.within);
+      next = λ p a b. elim (cases_eq p n) [
+        | inl same ↦
+            rw same
+            (rw (get_or-set_same later n (slice_index heads t) 0 (omega (arith, h.within)))
+            (subst (λ (k : ℕ). IsFirstFrom lines due (task_at lines due n) k (slice_index heads t)) e (subst (λ (k : ℕ). IsFirstFrom lines due k at (slice_index heads t)) is (h.heads_are t below))))
+        | inr ne ↦
+            subst (λ (k : ℕ). IsFirstFrom lines due (task_at lines due p) (p + 1) k) (sym (get_or-set_other later n p (slice_index heads t) 0 ne)) (h.next p (omega arith) b)
+      ];
+      heads_are = λ u b. elim (cases_eq u t) [
+        | inl same ↦
+            rw same
+            (subst (λ (k : ℕ). IsFirstFrom lines due t n k) (sym (get_or-set_same heads t n 0 below))
+            (subst (λ (k : ℕ). IsFirstFrom lines due k n n) (sym is) (first_here lines due n)))
+        | inr ne ↦
+            subst (λ (k : ℕ). IsFirstFrom lines due u n k) (sym (get_or-set_other heads t u n 0 ne))
+            (first_earlier lines due u n (slice_index heads u) (λ q. ne (sym (is ∙ q)))
+            (subst (λ (k : ℕ). IsFirstFrom lines due u k (slice_index heads u)) e (h.heads_are u (omega (arith, length-set heads t n)))))
+      ];
+    }

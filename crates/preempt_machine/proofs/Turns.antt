@@ -1,6 +1,6 @@
 -- A turn of a job as the program makes it.
 use Rattle.std.proofs.Common.{◌≡◌, ℕ, ◌<◌, ◌≤◌, true, false, List, Option, Some, None, refl, sym, ◌∙◌, ap, subst, arith}
-use Rattle.std.specs.Prelude.{◌==◌, nat_lt, Result, Ok, Err, OnErr, length, slice_get, slice_index_or, []}
+use Rattle.std.specs.Prelude.{◌==◌, nat_lt, Result, Ok, Err, OnOk, OnErr, length, slice_get, slice_index_or, []}
 use Rattle.std.proofs.lemmas.Bool.Decides.{nat_tests}
 use Rattle.std.proofs.lemmas.Option.{get_or_from_slice_get}
 use Rattle.crpd_base.specs.declared.data.TaskPlan.{TaskPlan}
@@ -20,6 +20,14 @@ use Rattle.preempt_machine.proofs.Steps.{executed_line}
 pub on_err_of : {T E : Type 0} (r : Result T E) (P : Type 0) → P → OnErr r P
 on_err_of (Ok x) P p = tt
 on_err_of (Err e) P p = p
+
+pub on_ok_both : {T E P Q R : Type 0} (r : Result T E) → (P → Q → R) → OnOk r P → OnOk r Q → OnOk r R
+on_ok_both (Ok x) f p q = f p q
+on_ok_both (Err e) f p q = tt
+
+pub on_err_both : {T E P Q R : Type 0} (r : Result T E) → (P → Q → R) → OnErr r P → OnErr r Q → OnErr r R
+on_err_both (Ok x) f p q = tt
+on_err_both (Err e) f p q = f p q
 
 -- the effect does not depend on the cycles left
 pub went_left : (sys : System) (n : ℕ) (ins : Ins) (cache : Cache) (memory : Memory) (k l : ℕ) (job : Job) (next : Next) → went sys n ins (turn_by cache memory k job) next ≡ went sys n ins (turn_by cache memory k (record job { left = l })) next

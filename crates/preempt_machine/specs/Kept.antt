@@ -5,7 +5,7 @@ use Rattle.preempt_machine.specs.declared.Completion.{Completion}
 use Rattle.preempt_machine.specs.declared.End.TheVariants as «end»
 use Rattle.preempt_machine.specs.declared.parts.Parts.{Parts}
 use Rattle.preempt_machine.specs.Machine.{System, Standing, Job, Machine, job_at, no_job}
-use Rattle.preempt_machine.specs.Step.{is_open, placed, turned, turn_of, fetch_by}
+use Rattle.preempt_machine.specs.Step.{is_open, placed, turned, turn_of, fetch, fetch_by, step}
 use Rattle.preempt_machine.specs.Jobs.{shown}
 use Rattle.preempt_machine.specs.Running.{completion_at, fetch_told}
 
@@ -114,6 +114,12 @@ pub record IsOwner (jobs : List Job) (due : List (ℕ × ℕ)) (heads : List ℕ
   pub below : o < length jobs
   pub first : is_open (job_at jobs o).standing ≡ true → place_at due (slice_index heads (job_at jobs o).line.task.0) ≡ o
 
+-- a job of the script is the first of its task that is open
+pub record IsHead (jobs : List Job) (due : List (ℕ × ℕ)) (heads : List ℕ) (x : ℕ) : Type 0 where
+  pub below : x < length jobs
+  pub inside : slice_index heads (job_at jobs x).line.task.0 < length due
+  pub first : place_at due (slice_index heads (job_at jobs x).line.task.0) ≡ x
+
 -- parts that hold a state
 pub record IsMachine (p : Parts) : Type 0 where
   pub room : p.core.geometry.platform.sets ≤ length p.core.cache
@@ -126,10 +132,39 @@ pub record IsMachine (p : Parts) : Type 0 where
   pub completions : (x : ℕ) → x < length p.jobs.items → completion p.completions.items x ≡ completion_at (machine_of p) x
   pub owner : (o : ℕ) → p.owner ≡ Some o → IsOwner p.jobs.items p.queue.due.items p.queue.heads.items o
 
+-- the first open jobs of the tasks, and the completions, once it is told whether the job at a place is over
+abbrev pub heads_after : List Job → List ℕ → List ℕ → ℕ → List ℕ
+heads_after jobs later heads x =
+    let task = (job_at jobs x).line.task.0 in
+    if is_open (job_at jobs x).standing then heads else slice_set heads task (slice_index later (slice_index heads task))
+
+abbrev pub completions_after : List Job → List Completion → ℕ → List Completion
+completions_after jobs cs x =
+    if is_open (job_at jobs x).standing then cs
+    else slice_set cs x (record { job = (completion cs x).job; «end» = shown (job_at jobs x).standing })
+
 -- the job at a place had its turn at this time, which is not told yet
 pub record HasTurned (sys : System) (old new : Parts) (place : ℕ) : Type 0 where
-  pub state : machine_of new ≡ record (placed (machine_of old) place (turned sys old.steps (turn_of sys (machine_of old) place))) { time = old.steps }
+  pub state : record (machine_of new) { time = old.steps + 1 } ≡ placed (machine_of old) place (turned sys old.steps (turn_of sys (machine_of old) place))
+  pub steps : new.steps ≡ old.steps
   pub fetch : new.fetch ≡ option_map (fetch_told sys (machine_of old)) (fetch_by sys (machine_of old) (Some place))
   pub geometry : new.core.geometry ≡ old.core.geometry
   pub completions : new.completions ≡ old.completions
   pub queue : new.queue ≡ old.queue
+
+-- the first job of its task is told to be over, where it is
+pub record HasSettled (old new : Parts) (place : ℕ) : Type 0 where
+  pub state : machine_of new ≡ machine_of old
+  pub fetch : new.fetch ≡ old.fetch
+  pub geometry : new.core.geometry ≡ old.core.geometry
+  pub due : new.queue.due.items ≡ old.queue.due.items
+  pub later : new.queue.later.items ≡ old.queue.later.items
+  pub released : new.queue.released ≡ old.queue.released
+  pub heads : new.queue.heads.items ≡ heads_after old.jobs.items old.queue.later.items old.queue.heads.items place
+  pub completions : new.completions.items ≡ completions_after old.jobs.items old.completions.items place
+
+-- a step was made
+pub record HasStepped (sys : System) (old new : Parts) : Type 0 where
+  pub state : machine_of new ≡ step sys (machine_of old)
+  pub fetch : new.fetch ≡ option_map (fetch_told sys (machine_of old)) (fetch sys (machine_of old))
+  pub geometry : new.core.geometry ≡ old.core.geometry

@@ -1,4 +1,9 @@
 // The machine's parts, and its step.
+ghost use Rattle.std.specs.Prelude.{◌≡◌, ℕ, ◌+◌, ◌<◌, ◌^◌, if◌then◌else◌, length, slice_index, Some, IfSome, OnOk, OnErr};
+ghost use Rattle.preempt_machine.specs.Machine.{System, job_at};
+ghost use Rattle.preempt_machine.specs.Step.{candidate, keeps_core, turn_of};
+ghost use Rattle.preempt_machine.specs.Running.{system_by, GivesStore, HasPlans};
+ghost use Rattle.preempt_machine.specs.Kept.{machine_of, HasSettled, HasStepped, HasTurned, IsHead, IsMachine};
 
 use crate::jobs::{Core, Job};
 use crate::queue::Queue;
@@ -21,7 +26,10 @@ pub(crate) struct Parts {
 
 impl Parts {
     /// Whether a job keeps the core until its instruction ends.
-    fn keeps_core(&self, place: usize) -> bool {
+    fn keeps_core(&self, place: usize) -> bool
+        requires { place < length self.now.jobs.items }
+        ensures { result ≡ keeps_core self.now.core.geometry.platform.switching self.now.steps (job_at self.now.jobs.items place) }
+    {
         let job = &self.jobs[place];
         self.core.geometry.platform.switching == Switching::Instruction
             && job.is_ready(self.steps)
@@ -29,7 +37,11 @@ impl Parts {
     }
 
     /// The place of the job that takes this cycle.
-    fn candidate(&self) -> Option<usize> {
+    fn candidate(&self) -> Option<usize>
+        requires { IsMachine self.now }
+        ensures is { (sys : System) → sys.platform ≡ self.now.core.geometry.platform → result ≡ candidate sys (machine_of self.now) }
+        ensures head { IfSome result (IsHead self.now.jobs.items self.now.queue.due.items self.now.queue.heads.items) }
+    {
         if let Some(owner) = self.owner
             && self.keeps_core(owner)
         {
@@ -39,7 +51,9 @@ impl Parts {
     }
 
     /// The switch cycles that a job has before it.
-    fn switch_cycles(&self, place: usize) -> u32 {
+    fn switch_cycles(&self, place: usize) -> u32
+        ensures { (sys : System) → sys.platform ≡ self.now.core.geometry.platform → result ≡ (turn_of sys (machine_of self.now) place).switch_left }
+    {
         match self.owner {
             Some(owner) if owner == place => self.switch_left,
             _ => self.core.geometry.platform.switch,
@@ -47,7 +61,16 @@ impl Parts {
     }
 
     /// A job's cycle on the core. After an error all is as before.
-    fn turn(&mut self, code: &CodeMap, place: usize) -> Result<(), Memory> {
+    fn turn(&mut self, code: &CodeMap, place: usize) -> Result<(), Memory>
+        requires machine { IsMachine self.old }
+        requires candidate { candidate (system_by self.old.core.geometry.platform code.now) (machine_of self.old) ≡ Some place }
+        requires plans { HasPlans code.now (machine_of self.old) }
+        requires later { self.old.steps + 1 < 2 ^ 64 }
+        ensures ok { OnOk result (HasTurned (system_by self.old.core.geometry.platform code.now) self.old self.new place) }
+        ensures plans { OnOk result (HasPlans code.now (machine_of self.new)) }
+        ensures err { OnErr result (self.new ≡ self.old) }
+        ensures only { OnErr result (GivesStore (system_by self.old.core.geometry.platform code.now) (machine_of self.old)) }
+    {
         let switch_left = self.switch_cycles(place);
         if switch_left > 0 {
             self.switch_left = switch_left - 1;
@@ -71,7 +94,13 @@ impl Parts {
     }
 
     /// Tells how a job that had its cycle stands.
-    fn settle(&mut self, place: usize) {
+    fn settle(&mut self, place: usize)
+        requires head { IsHead self.old.jobs.items self.old.queue.due.items self.old.queue.heads.items place }
+        requires task { (job_at self.old.jobs.items place).line.task.0 < length self.old.queue.heads.items }
+        requires later { length self.old.queue.later.items ≡ length self.old.queue.due.items }
+        requires completions { length self.old.completions.items ≡ length self.old.jobs.items }
+        ensures { HasSettled self.old self.new place }
+    {
         let job = &self.jobs[place];
         let end = job.end();
         if end != End::Open {
@@ -81,7 +110,16 @@ impl Parts {
     }
 
     /// One step. After an error all is as before.
-    pub(crate) fn step(&mut self, code: &CodeMap) -> Result<(), Memory> {
+    pub(crate) fn step(&mut self, code: &CodeMap) -> Result<(), Memory>
+        requires machine { IsMachine self.old }
+        requires plans { HasPlans code.now (machine_of self.old) }
+        requires later { self.old.steps + 1 < 2 ^ 64 }
+        ensures ok { OnOk result (HasStepped (system_by self.old.core.geometry.platform code.now) self.old self.new) }
+        ensures machine { IsMachine self.new }
+        ensures plans { HasPlans code.now (machine_of self.new) }
+        ensures err { OnErr result (self.new ≡ self.old) }
+        ensures only { OnErr result (GivesStore (system_by self.old.core.geometry.platform code.now) (machine_of self.old)) }
+    {
         let candidate = self.candidate();
         match candidate {
             Some(place) => self.turn(code, place)?,
