@@ -42,7 +42,7 @@ earlier_release : (a b : ℕ × ℕ) → IsEarlier a b → a.0 ≤ b.0
 earlier_release a b (inl h) = omega arith
 earlier_release a b (inr h) = omega (arith, h.0)
 
-release_le : (lines : List ScriptJob) (due : List (ℕ × ℕ)) (p r : ℕ) → IsDue lines due → p ≤ r → r < length due → release_at due p ≤ release_at due r
+pub release_le : (lines : List ScriptJob) (due : List (ℕ × ℕ)) (p r : ℕ) → IsDue lines due → p ≤ r → r < length due → release_at due p ≤ release_at due r
 release_le lines due p r d le b =
     elim (cases_eq p r) [
       | inl e ↦ let f = ap (release_at due) e in omega (arith, f)

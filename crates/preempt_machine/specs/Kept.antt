@@ -1,5 +1,5 @@
 -- How the program keeps a machine.
-use Rattle.std.specs.Prelude.{◌≡◌, ◌≢◌, ℕ, ◌+◌, ◌<◌, ◌≤◌, ◌⊎◌, Bool, true, false, if◌then◌else◌, length, map, List, slice_index, slice_index_or, slice_set, Option, Some, None, option_map}
+use Rattle.std.specs.Prelude.{◌≡◌, ◌≢◌, ℕ, suc, ◌+◌, ◌<◌, ◌≤◌, ◌⊎◌, Bool, true, false, if◌then◌else◌, length, map, List, slice_index, slice_index_or, slice_set, Option, Some, None, option_map}
 use Rattle.crpd_base.specs.declared.data.ScriptJob.{ScriptJob}
 use Rattle.preempt_machine.specs.declared.Completion.{Completion}
 use Rattle.preempt_machine.specs.declared.End.TheVariants as «end»
@@ -145,9 +145,17 @@ completions_after jobs cs x =
 
 -- the job at a place had its turn at this time, which is not told yet
 pub record HasTurned (sys : System) (old new : Parts) (place : ℕ) : Type 0 where
-  pub state : record (machine_of new) { time = old.steps + 1 } ≡ placed (machine_of old) place (turned sys old.steps (turn_of sys (machine_of old) place))
+  pub state : record (machine_of new) { time = suc old.steps } ≡ placed (machine_of old) place (turned sys old.steps (turn_of sys (machine_of old) place))
   pub steps : new.steps ≡ old.steps
   pub fetch : new.fetch ≡ option_map (fetch_told sys (machine_of old)) (fetch_by sys (machine_of old) (Some place))
+  pub geometry : new.core.geometry ≡ old.core.geometry
+  pub completions : new.completions ≡ old.completions
+  pub queue : new.queue ≡ old.queue
+
+-- nothing changed
+pub record IsSame (old new : Parts) : Type 0 where
+  pub state : machine_of new ≡ machine_of old
+  pub fetch : new.fetch ≡ old.fetch
   pub geometry : new.core.geometry ≡ old.core.geometry
   pub completions : new.completions ≡ old.completions
   pub queue : new.queue ≡ old.queue

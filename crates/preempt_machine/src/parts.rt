@@ -1,15 +1,16 @@
 // The machine's parts, and its step.
-ghost use Rattle.std.specs.Prelude.{◌≡◌, ℕ, ◌+◌, ◌<◌, ◌^◌, if◌then◌else◌, length, slice_index, Some, IfSome, OnOk, OnErr};
-ghost use Rattle.preempt_machine.specs.Machine.{System, job_at};
+ghost use Rattle.std.specs.Prelude.{◌≡◌, ℕ, ◌+◌, ◌<◌, ◌^◌, if◌then◌else◌, length, slice_index, Some, option_map, IfSome, OnOk, OnErr};
+ghost use Rattle.preempt_machine.specs.Machine.{System, Open, job_at};
 ghost use Rattle.preempt_machine.specs.Step.{candidate, keeps_core, turn_of};
-ghost use Rattle.preempt_machine.specs.Running.{system_by, GivesStore, HasPlans};
-ghost use Rattle.preempt_machine.specs.Kept.{machine_of, HasSettled, HasStepped, HasTurned, IsHead, IsMachine};
+ghost use Rattle.preempt_machine.specs.Running.{system_by, GivesStore, HasPlan, HasPlans, IsStoreNow};
+ghost use Rattle.preempt_machine.specs.Kept.{machine_of, HasSettled, HasStepped, HasTurned, IsHead, IsMachine, IsSame};
 
 use crate::jobs::{Core, Job};
 use crate::queue::Queue;
 use crate::{Completion, End, Fetch};
 use code_map::CodeMap;
-use crpd_base::{Memory, Switching};
+use crpd_base::{JobId, Memory, Switching};
+use icache::Access;
 
 /// The parts of a machine.
 #[derive(Drop)]
@@ -22,6 +23,20 @@ pub(crate) struct Parts {
     pub(crate) completions: Vec<Completion>,
     pub(crate) queue: Queue,
     pub(crate) fetch: Option<Fetch>,
+}
+
+/// A fetch of a job at an address, where one was made.
+fn fetch_of(job: JobId, address: u32, found: Option<Access>) -> Option<Fetch>
+    ensures { result ≡ option_map (λ access. record { job = job; address = address; access = access }) found }
+{
+    match found {
+        Some(access) => Some(Fetch {
+            job,
+            address,
+            access,
+        }),
+        None => None,
+    }
 }
 
 impl Parts {
@@ -60,6 +75,39 @@ impl Parts {
         }
     }
 
+    /// Uses one of the switch cycles that a job has before it.
+    fn switch(&mut self, place: usize, left: u32)
+        requires candidate { place < length self.old.jobs.items }
+        requires left { 0 < left }
+        ensures { (sys : System) → (turn_of sys (machine_of self.old) place).switch_left ≡ left → HasTurned sys self.old self.new place }
+    {
+        self.owner = Some(place);
+        self.switch_left = left - 1;
+        self.fetch = None;
+    }
+
+    /// A cycle of a job that has no switch cycle before it. After an error all is as before.
+    fn work(&mut self, code: &CodeMap, place: usize) -> Result<(), Memory>
+        requires machine { IsMachine self.old }
+        requires plan { HasPlan code.now.plans (job_at self.old.jobs.items place) }
+        requires below { place < length self.old.jobs.items }
+        requires open { (job_at self.old.jobs.items place).standing ≡ Open }
+        requires switched { (turn_of (system_by self.old.core.geometry.platform code.now) (machine_of self.old) place).switch_left ≡ 0 }
+        requires later { self.old.steps + 1 < 2 ^ 64 }
+        ensures ok { OnOk result (HasTurned (system_by self.old.core.geometry.platform code.now) self.old self.new place) }
+        ensures plan { OnOk result (HasPlan code.now.plans (job_at self.new.jobs.items place)) }
+        ensures err { OnErr result (IsSame self.old self.new) }
+        ensures only { OnErr result (IsStoreNow (system_by self.old.core.geometry.platform code.now) (turn_of (system_by self.old.core.geometry.platform code.now) (machine_of self.old) place)) }
+    {
+        let job = &mut self.jobs[place];
+        let address = job.pc();
+        let found = self.core.advance(job, code, self.steps)?;
+        self.owner = Some(place);
+        self.switch_left = 0;
+        self.fetch = fetch_of(self.completions[place].job, address, found);
+        Ok(())
+    }
+
     /// A job's cycle on the core. After an error all is as before.
     fn turn(&mut self, code: &CodeMap, place: usize) -> Result<(), Memory>
         requires machine { IsMachine self.old }
@@ -68,29 +116,15 @@ impl Parts {
         requires later { self.old.steps + 1 < 2 ^ 64 }
         ensures ok { OnOk result (HasTurned (system_by self.old.core.geometry.platform code.now) self.old self.new place) }
         ensures plans { OnOk result (HasPlans code.now (machine_of self.new)) }
-        ensures err { OnErr result (self.new ≡ self.old) }
+        ensures err { OnErr result (IsSame self.old self.new) }
         ensures only { OnErr result (GivesStore (system_by self.old.core.geometry.platform code.now) (machine_of self.old)) }
     {
         let switch_left = self.switch_cycles(place);
         if switch_left > 0 {
-            self.switch_left = switch_left - 1;
-            self.fetch = None;
-        } else {
-            let job = &mut self.jobs.as_mut_slice()[place];
-            let address = job.pc();
-            let found = self.core.advance(job, code, self.steps)?;
-            self.switch_left = 0;
-            self.fetch = match found {
-                Some(access) => Some(Fetch {
-                    job: self.completions[place].job,
-                    address,
-                    access,
-                }),
-                None => None,
-            };
+            self.switch(place, switch_left);
+            return Ok(());
         }
-        self.owner = Some(place);
-        Ok(())
+        self.work(code, place)
     }
 
     /// Tells how a job that had its cycle stands.
@@ -117,7 +151,7 @@ impl Parts {
         ensures ok { OnOk result (HasStepped (system_by self.old.core.geometry.platform code.now) self.old self.new) }
         ensures machine { IsMachine self.new }
         ensures plans { HasPlans code.now (machine_of self.new) }
-        ensures err { OnErr result (self.new ≡ self.old) }
+        ensures err { OnErr result (IsSame self.old self.new) }
         ensures only { OnErr result (GivesStore (system_by self.old.core.geometry.platform code.now) (machine_of self.old)) }
     {
         let candidate = self.candidate();
