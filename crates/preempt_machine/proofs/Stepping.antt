@@ -9,15 +9,15 @@ use Rattle.crpd_base.specs.declared.data.ScriptJob.{ScriptJob}
 use Rattle.preempt_machine.specs.declared.Completion.{Completion}
 use Rattle.preempt_machine.specs.declared.End.TheVariants as «end»
 use Rattle.preempt_machine.specs.Machine.{System, Standing, Open, Answered, Faulted, Job, Machine, job_at, no_job, number_of}
-use Rattle.preempt_machine.specs.Step.{is_open, candidate, step, step_by, turned, turn_of}
+use Rattle.preempt_machine.specs.Step.{is_open, candidate, makes_fetch, step, step_by, turn_of}
 use Rattle.preempt_machine.specs.Candidate.{release_of}
 use Rattle.preempt_machine.specs.Safe.{end_by}
 use Rattle.preempt_machine.specs.Jobs.{shown}
 use Rattle.preempt_machine.specs.Running.{job_id, completion_at}
-use Rattle.preempt_machine.specs.Kept.{line_at, task_at, place_at, release_at, lines_of, heads_after, completions_after, completion, opened, IsDue, IsFirstFrom, IsLinked, IsWaiting, IsUpTo, IsHead, HasOpened}
+use Rattle.preempt_machine.specs.Kept.{line_at, task_at, place_at, release_at, lines_of, heads_after, completions_after, completion, opened, IsDue, IsFirstFrom, IsLinked, IsWaiting, IsKept, IsUpTo, IsHead, IsOwner, HasOpened, AreReleased}
 use Rattle.preempt_machine.proofs.Candidates.{open_is}
 use Rattle.preempt_machine.proofs.Firsts.{line_is, lines_long, release_le}
-use Rattle.preempt_machine.proofs.Steps.{step_line, turned_line}
+use Rattle.preempt_machine.proofs.Steps.{cache_after, candidate_some, ready_open, ready_released, some_injective, step_length, step_line, step_other, step_time, turned_cache, turned_line}
 
 -- lines stay
 lines_by : (sys : System) (m : Machine) (c : Option ℕ) → lines_of (step_by sys m c).jobs ≡ lines_of m.jobs
@@ -68,12 +68,12 @@ apart lines due p r d a b e =
     ]
 
 -- the releases of a step
-pub up_to_next : (lines : List ScriptJob) (due : List (ℕ × ℕ)) (time from to : ℕ) → IsDue lines due → IsUpTo due time from → from ≤ to → to ≤ length due → ((p : ℕ) → from ≤ p → p < to → release_at due p ≤ time) → (to < length due → time < release_at due to) → IsUpTo due (suc time) to
-up_to_next lines due time from to d h le within come wait =
+pub up_to_next : (lines : List ScriptJob) (due : List (ℕ × ℕ)) (time from to : ℕ) (cs new : List Completion) → IsDue lines due → IsUpTo due time from → AreReleased due time from to cs new → IsUpTo due (suc time) to
+up_to_next lines due time from to cs new d h r =
     record {
-      within = within;
-      before = λ p a. elim (cases_lt p from) [ inl l ↦ omega (arith, h.before p l) | inr g ↦ omega (arith, come p g a) ];
-      after = λ p a b. omega (arith, wait (omega arith), release_le lines due to p d a b);
+      within = r.within h.within;
+      before = λ p a. elim (cases_lt p from) [ inl l ↦ omega (arith, h.before p l) | inr g ↦ omega (arith, r.come p g a) ];
+      after = λ p a b. omega (arith, r.wait (omega arith), release_le lines due to p d a b);
     }
 
 -- a record of completions at a time, by the standings of a state
@@ -179,3 +179,93 @@ waits_over lines due later heads jobs new i eq d k h same over w =
             ∙ w.open_still p a (subst (λ n. n ≤ p) (away (task_at lines due p) ne) b)
       ];
     }
+
+-- a cache keeps its length
+cache_by : (sys : System) (m : Machine) (c : Option ℕ) → length (step_by sys m c).cache ≡ length m.cache
+cache_by sys m None = refl
+cache_by sys m (Some i) = ap length (turned_cache sys m.time (turn_of sys m i)) ∙ after (makes_fetch sys (turn_of sys m i)) where
+  after : (b : Bool) → length (cache_after sys (turn_of sys m i) b) ≡ length m.cache
+  after true = length-set m.cache _ _
+  after false = refl
+
+-- the owner of the core after a job's turn
+owner_after : (jobs new : List Job) (due : List (ℕ × ℕ)) (later heads : List ℕ) (i : ℕ) → IsHead jobs due heads i → length new ≡ length jobs → (job_at new i).line ≡ (job_at jobs i).line → IsOwner new due (heads_after new later heads i) i
+owner_after jobs new due later heads i h long line =
+    record {
+      below = omega (arith, h.below);
+      first = λ o.
+          let same : heads_after new later heads i ≡ heads = rw o refl in
+          ap (λ (hs : List ℕ). place_at due (slice_index hs (job_at new i).line.task.0)) same
+          ∙ ap (λ (l : ScriptJob). place_at due (slice_index heads l.task.0)) line
+          ∙ h.first;
+    }
+
+-- the order after a job's turn
+waits_after : (lines : List ScriptJob) (due : List (ℕ × ℕ)) (later heads : List ℕ) (jobs new : List Job) (i : ℕ) → lines ≡ lines_of jobs → IsDue lines due → IsLinked lines due later → IsHead jobs due heads i → is_open (job_at jobs i).standing ≡ true → ((x : ℕ) → x ≢ i → job_at new x ≡ job_at jobs x) → (job_at new i).line ≡ (job_at jobs i).line → IsWaiting lines due heads jobs → IsWaiting lines due (heads_after new later heads i) new
+waits_after lines due later heads jobs new i eq d k h o same line w =
+    elim (cases_Bool (is_open (job_at new i).standing)) [
+      | inl t ↦
+          rw t
+          (waits_on lines due heads jobs new
+          (λ x. elim (cases_eq x i) [
+            | inl e ↦ rw e (t ∙ sym o)
+            | inr ne ↦ ap (λ (j : Job). is_open j.standing) (same x ne)
+          ])
+          w)
+      | inr f ↦
+          rw (f, line) (waits_over lines due later heads jobs new i eq d k h same f w)
+    ]
+
+-- without a ready job a state is kept
+pub kept_none : (sets : ℕ) (m : Machine) (due : List (ℕ × ℕ)) (later heads : List ℕ) (from to : ℕ) (cs new : List Completion) → IsKept sets m due later heads from cs → AreReleased due m.time from to cs new → IsKept sets (record m { time = suc m.time }) due later heads to new
+kept_none sets m due later heads from to cs new k r =
+    let next = up_to_next (lines_of m.jobs) due m.time from to cs new k.due k.released r in
+    record {
+      room = k.room;
+      due = k.due;
+      linked = k.linked;
+      waiting = k.waiting;
+      released = next;
+      over = λ x a b. omega (arith, k.over x a b);
+      told = r.opens.long ∙ k.told;
+      completions = told_next m due from to cs new k.due k.released next k.over r.opens k.completions;
+      owner = k.owner;
+    }
+
+-- and after the step of a job
+pub kept_some : (sys : System) (sets : ℕ) (m : Machine) (due : List (ℕ × ℕ)) (later heads : List ℕ) (from to : ℕ) (cs new : List Completion) (i : ℕ) → IsKept sets m due later heads from cs → candidate sys m ≡ Some i → IsHead m.jobs due heads i → AreReleased due m.time from to cs new → IsKept sets (step sys m) due later (heads_after (step sys m).jobs later heads i) to (completions_after (step sys m).jobs new i)
+kept_some sys sets m due later heads from to cs new i k e h r =
+    let m' = step sys m in
+    let time : m'.time ≡ suc m.time = step_time sys m in
+    let long : length m'.jobs ≡ length m.jobs = step_length sys m in
+    let lines : lines_of m'.jobs ≡ lines_of m.jobs = lines_stay sys m in
+    let same : (x : ℕ) → x ≢ i → job_at m'.jobs x ≡ job_at m.jobs x = λ x ne. step_other sys m x (λ z. ne (some_injective (sym z ∙ e))) in
+    let ready = (candidate_some sys m i e).ready in
+    let opening : is_open (job_at m.jobs i).standing ≡ true = ready_open m.time (job_at m.jobs i) ready in
+    let next = up_to_next (lines_of m.jobs) due m.time from to cs new k.due k.released r in
+    let told = told_next m due from to cs new k.due k.released next k.over r.opens k.completions in
+    let turn = told_turn m m'.jobs i new h.below (r.opens.long ∙ k.told) (open_is (job_at m.jobs i).standing opening) same told in
+    let waits = waits_after (lines_of m.jobs) due later heads m.jobs m'.jobs i refl k.due k.linked h opening same (step_line sys m i) k.waiting in
+    record {
+      room = omega (arith, k.room, cache_by sys m (candidate sys m));
+      due = subst (λ ls. IsDue ls due) (sym lines) k.due;
+      linked = subst (λ ls. IsLinked ls due later) (sym lines) k.linked;
+      waiting = subst (λ ls. IsWaiting ls due (heads_after m'.jobs later heads i) m'.jobs) (sym lines) waits;
+      released = subst (λ t. IsUpTo due t to) (sym time) next;
+      over = λ x a b. subst (λ t. (job_at m'.jobs x).line.release < t) (sym time) (elim (cases_eq x i) [
+        | inl z ↦ omega (arith, ready_released m.time (job_at m.jobs i) ready, ap (λ (l : ScriptJob). l.release) (step_line sys m x), ap (λ y. (job_at m.jobs y).line.release) z)
+        | inr ne ↦ omega (arith, k.over x (omega arith) (sym (ap (λ (j : Job). is_open j.standing) (same x ne)) ∙ b), ap (λ (l : ScriptJob). l.release) (step_line sys m x))
+      ]);
+      told = completions_long m'.jobs new i ∙ r.opens.long ∙ k.told ∙ sym long;
+      completions = λ x a.
+          turn x (omega arith)
+          ∙ ap (λ id. record { job = id; «end» = end_by (suc m.time) (release_of m x) (job_at m'.jobs x).standing }) (sym (id_stays sys m x))
+          ∙ ap (λ t. record { job = job_id m' x; «end» = end_by t (release_of m x) (job_at m'.jobs x).standing }) (sym time)
+          ∙ ap (λ (l : ScriptJob). record { job = job_id m' x; «end» = end_by m'.time l.release (job_at m'.jobs x).standing }) (sym (step_line sys m x));
+      owner = λ o own.
+          let is : i ≡ o = some_injective (sym (ap (λ c. (step_by sys m c).owner) e) ∙ own) in
+          subst (λ y. IsOwner m'.jobs due (heads_after m'.jobs later heads i) y) is (owner_after m.jobs m'.jobs due later heads i h long (step_line sys m i));
+    }
+  where
+    completions_long : (jobs : List Job) (c : List Completion) (x : ℕ) → length (completions_after jobs c x) ≡ length c
+    completions_long jobs c x = elim (cases_Bool (is_open (job_at jobs x).standing)) [ inl t ↦ rw t refl | inr f ↦ rw f (length-set c x _) ]

@@ -1,11 +1,12 @@
 -- How the program keeps a machine.
 use Rattle.std.specs.Prelude.{◌≡◌, ◌≢◌, ℕ, suc, ◌+◌, ◌<◌, ◌≤◌, ◌⊎◌, Bool, true, false, if◌then◌else◌, length, map, List, slice_index, slice_index_or, slice_set, Option, Some, None, option_map}
 use Rattle.crpd_base.specs.declared.data.ScriptJob.{ScriptJob}
+use Rattle.crpd_base.specs.declared.data.Switching.{Switching}
 use Rattle.preempt_machine.specs.declared.Completion.{Completion}
 use Rattle.preempt_machine.specs.declared.End.TheVariants as «end»
 use Rattle.preempt_machine.specs.declared.parts.Parts.{Parts}
 use Rattle.preempt_machine.specs.Machine.{System, Standing, Job, Machine, job_at, no_job}
-use Rattle.preempt_machine.specs.Step.{is_open, placed, turned, turn_of, fetch, fetch_by, step}
+use Rattle.preempt_machine.specs.Step.{is_open, keeps_core, placed, turned, turn_of, fetch, fetch_by, step}
 use Rattle.preempt_machine.specs.Jobs.{shown}
 use Rattle.preempt_machine.specs.Running.{completion_at, fetch_told}
 
@@ -120,17 +121,44 @@ pub record IsHead (jobs : List Job) (due : List (ℕ × ℕ)) (heads : List ℕ)
   pub inside : slice_index heads (job_at jobs x).line.task.0 < length due
   pub first : place_at due (slice_index heads (job_at jobs x).line.task.0) ≡ x
 
--- parts that hold a state
-pub record IsMachine (p : Parts) : Type 0 where
-  pub room : p.core.geometry.platform.sets ≤ length p.core.cache
-  pub due : IsDue (lines_of p.jobs.items) p.queue.due.items
-  pub linked : IsLinked (lines_of p.jobs.items) p.queue.due.items p.queue.later.items
-  pub waiting : IsWaiting (lines_of p.jobs.items) p.queue.due.items p.queue.heads.items p.jobs.items
-  pub released : IsUpTo p.queue.due.items p.steps p.queue.released
-  pub over : (x : ℕ) → x < length p.jobs.items → is_open (job_at p.jobs.items x).standing ≡ false → (job_at p.jobs.items x).line.release < p.steps
-  pub told : length p.completions.items ≡ length p.jobs.items
-  pub completions : (x : ℕ) → x < length p.jobs.items → completion p.completions.items x ≡ completion_at (machine_of p) x
-  pub owner : (o : ℕ) → p.owner ≡ Some o → IsOwner p.jobs.items p.queue.due.items p.queue.heads.items o
+-- how a state is kept beside the order of its jobs and their completions, in a cache with room for so many sets
+pub record IsKept (sets : ℕ) (m : Machine) (order : List (ℕ × ℕ)) (links firsts : List ℕ) (count : ℕ) (cs : List Completion) : Type 0 where
+  pub room : sets ≤ length m.cache
+  pub due : IsDue (lines_of m.jobs) order
+  pub linked : IsLinked (lines_of m.jobs) order links
+  pub waiting : IsWaiting (lines_of m.jobs) order firsts m.jobs
+  pub released : IsUpTo order m.time count
+  pub over : (x : ℕ) → x < length m.jobs → is_open (job_at m.jobs x).standing ≡ false → (job_at m.jobs x).line.release < m.time
+  pub told : length cs ≡ length m.jobs
+  pub completions : (x : ℕ) → x < length m.jobs → completion cs x ≡ completion_at m x
+  pub owner : (o : ℕ) → m.owner ≡ Some o → IsOwner m.jobs order firsts o
+
+abbrev pub IsMachine : Parts → Type 0
+IsMachine p =
+    IsKept p.core.geometry.platform.sets (machine_of p) p.queue.due.items p.queue.later.items p.queue.heads.items p.queue.released p.completions.items
+
+-- whether the owner keeps the core
+abbrev pub owner_keeps : Switching → ℕ → List Job → Option ℕ → Bool
+owner_keeps switching time jobs None = false
+owner_keeps switching time jobs (Some o) = keeps_core switching time (job_at jobs o)
+
+-- the jobs that are released in a step are told to be open
+pub record AreReleased (due : List (ℕ × ℕ)) (time from to : ℕ) (cs new : List Completion) : Type 0 where
+  pub opens : HasOpened due from to cs new
+  pub rises : from ≤ to
+  pub within : from ≤ length due → to ≤ length due
+  pub come : (p : ℕ) → from ≤ p → p < to → release_at due p ≤ time
+  pub wait : to < length due → time < release_at due to
+
+-- a cycle has passed
+pub record HasPassed (old new : Parts) : Type 0 where
+  pub state : machine_of new ≡ record (machine_of old) { time = suc old.steps }
+  pub fetch : new.fetch ≡ old.fetch
+  pub geometry : new.core.geometry ≡ old.core.geometry
+  pub due : new.queue.due.items ≡ old.queue.due.items
+  pub later : new.queue.later.items ≡ old.queue.later.items
+  pub heads : new.queue.heads.items ≡ old.queue.heads.items
+  pub released : AreReleased old.queue.due.items old.steps old.queue.released new.queue.released old.completions.items new.completions.items
 
 -- the first open jobs of the tasks, and the completions, once it is told whether the job at a place is over
 abbrev pub heads_after : List Job → List ℕ → List ℕ → ℕ → List ℕ

@@ -1,9 +1,9 @@
 // The machine's parts, and its step.
-ghost use Rattle.std.specs.Prelude.{◌≡◌, ℕ, ◌+◌, ◌<◌, ◌^◌, if◌then◌else◌, length, slice_index, Some, option_map, IfSome, OnOk, OnErr};
+ghost use Rattle.std.specs.Prelude.{◌≡◌, ℕ, ◌+◌, ◌<◌, ◌^◌, if◌then◌else◌, length, slice_index, Some, None, option_map, IfSome, OnOk, OnErr};
 ghost use Rattle.preempt_machine.specs.Machine.{System, Open, job_at};
 ghost use Rattle.preempt_machine.specs.Step.{candidate, keeps_core, turn_of};
 ghost use Rattle.preempt_machine.specs.Running.{system_by, GivesStore, HasPlan, HasPlans, IsStoreNow};
-ghost use Rattle.preempt_machine.specs.Kept.{machine_of, HasSettled, HasStepped, HasTurned, IsHead, IsMachine, IsSame};
+ghost use Rattle.preempt_machine.specs.Kept.{machine_of, owner_keeps, place_at, HasPassed, HasSettled, HasStepped, HasTurned, IsHead, IsMachine, IsSame};
 
 use crate::jobs::{Core, Job};
 use crate::queue::Queue;
@@ -51,18 +51,28 @@ impl Parts {
             && job.left() > 0
     }
 
+    /// Whether the owner keeps the core.
+    fn owner_keeps(&self) -> bool
+        requires { (o : ℕ) → self.now.owner ≡ Some o → o < length self.now.jobs.items }
+        ensures { result ≡ owner_keeps self.now.core.geometry.platform.switching self.now.steps self.now.jobs.items self.now.owner }
+    {
+        match self.owner {
+            Some(owner) => self.keeps_core(owner),
+            None => false,
+        }
+    }
+
     /// The place of the job that takes this cycle.
     fn candidate(&self) -> Option<usize>
         requires { IsMachine self.now }
         ensures is { (sys : System) → sys.platform ≡ self.now.core.geometry.platform → result ≡ candidate sys (machine_of self.now) }
         ensures head { IfSome result (IsHead self.now.jobs.items self.now.queue.due.items self.now.queue.heads.items) }
     {
-        if let Some(owner) = self.owner
-            && self.keeps_core(owner)
-        {
-            return self.owner;
+        if self.owner_keeps() {
+            self.owner
+        } else {
+            self.queue.first(self.steps)
         }
-        self.queue.first(self.steps)
     }
 
     /// The switch cycles that a job has before it.
@@ -79,7 +89,8 @@ impl Parts {
     fn switch(&mut self, place: usize, left: u32)
         requires candidate { place < length self.old.jobs.items }
         requires left { 0 < left }
-        ensures { (sys : System) → (turn_of sys (machine_of self.old) place).switch_left ≡ left → HasTurned sys self.old self.new place }
+        ensures turned { (sys : System) → (turn_of sys (machine_of self.old) place).switch_left ≡ left → HasTurned sys self.old self.new place }
+        ensures jobs { self.new.jobs.items ≡ self.old.jobs.items }
     {
         self.owner = Some(place);
         self.switch_left = left - 1;
@@ -143,28 +154,65 @@ impl Parts {
         }
     }
 
+    /// The cycle passes: tells of the jobs that it releases that they are open, and counts it.
+    fn pass(&mut self)
+        requires places { (p : ℕ) → p < length self.old.queue.due.items → place_at self.old.queue.due.items p < length self.old.completions.items }
+        requires later { self.old.steps + 1 < 2 ^ 64 }
+        ensures { HasPassed self.old self.new }
+    {
+        self.queue
+            .release(self.completions.as_mut_slice(), self.steps);
+        self.steps += 1;
+    }
+
+    /// A step in which no job is ready.
+    fn idle(&mut self)
+        requires machine { IsMachine self.old }
+        requires later { self.old.steps + 1 < 2 ^ 64 }
+        ensures step { (sys : System) → candidate sys (machine_of self.old) ≡ None → HasStepped sys self.old self.new }
+        ensures machine { (sys : System) → candidate sys (machine_of self.old) ≡ None → IsMachine self.new }
+        ensures jobs { self.new.jobs.items ≡ self.old.jobs.items }
+    {
+        self.fetch = None;
+        self.pass();
+    }
+
+    /// A step of a job. After an error all is as before.
+    fn take(&mut self, code: &CodeMap, place: usize) -> Result<(), Memory>
+        requires machine { IsMachine self.old }
+        requires candidate { candidate (system_by self.old.core.geometry.platform code.now) (machine_of self.old) ≡ Some place }
+        requires head { IsHead self.old.jobs.items self.old.queue.due.items self.old.queue.heads.items place }
+        requires plans { HasPlans code.now (machine_of self.old) }
+        requires later { self.old.steps + 1 < 2 ^ 64 }
+        ensures ok { OnOk result (HasStepped (system_by self.old.core.geometry.platform code.now) self.old self.new) }
+        ensures machine { OnOk result (IsMachine self.new) }
+        ensures plans { OnOk result (HasPlans code.now (machine_of self.new)) }
+        ensures err { OnErr result (IsSame self.old self.new) }
+        ensures only { OnErr result (GivesStore (system_by self.old.core.geometry.platform code.now) (machine_of self.old)) }
+    {
+        self.turn(code, place)?;
+        self.pass();
+        self.settle(place);
+        Ok(())
+    }
+
     /// One step. After an error all is as before.
     pub(crate) fn step(&mut self, code: &CodeMap) -> Result<(), Memory>
         requires machine { IsMachine self.old }
         requires plans { HasPlans code.now (machine_of self.old) }
         requires later { self.old.steps + 1 < 2 ^ 64 }
         ensures ok { OnOk result (HasStepped (system_by self.old.core.geometry.platform code.now) self.old self.new) }
-        ensures machine { IsMachine self.new }
-        ensures plans { HasPlans code.now (machine_of self.new) }
+        ensures machine { OnOk result (IsMachine self.new) }
+        ensures plans { OnOk result (HasPlans code.now (machine_of self.new)) }
         ensures err { OnErr result (IsSame self.old self.new) }
         ensures only { OnErr result (GivesStore (system_by self.old.core.geometry.platform code.now) (machine_of self.old)) }
     {
-        let candidate = self.candidate();
-        match candidate {
-            Some(place) => self.turn(code, place)?,
-            None => self.fetch = None,
+        match self.candidate() {
+            Some(place) => self.take(code, place),
+            None => {
+                self.idle();
+                Ok(())
+            }
         }
-        self.queue
-            .release(self.completions.as_mut_slice(), self.steps);
-        if let Some(place) = candidate {
-            self.settle(place);
-        }
-        self.steps += 1;
-        Ok(())
     }
 }
