@@ -108,7 +108,7 @@ told_next m due from to cs new d h k over o told x below =
 -- the completions once a job's turn is told: those of the jobs after it
 pub told_turn : (m : Machine) (jobs : List Job) (i : ℕ) (cs : List Completion) → i < length m.jobs → length cs ≡ length m.jobs → (job_at m.jobs i).standing ≡ Open → ((x : ℕ) → x ≢ i → job_at jobs x ≡ job_at m.jobs x) → ((x : ℕ) → x < length m.jobs → completion cs x ≡ told_at m (suc m.time) x) → (x : ℕ) → x < length m.jobs → completion (completions_after jobs cs i) x ≡ record { job = job_id m x; «end» = end_by (suc m.time) (release_of m x) (job_at jobs x).standing }
 told_turn m jobs i cs inside long opening same told x below =
-    let give = λ (s : Standing). record { job = job_id m x; «end» = end_by (suc m.time) (release_of m x) s } in
+    let give : Standing → Completion = λ s. record { job = job_id m x; «end» = end_by (suc m.time) (release_of m x) s } in
     elim (cases_Bool (is_open (job_at jobs i).standing)) [
       | inl t ↦ rw t (told x below ∙ ap give (elim (cases_eq x i) [
         | inl e ↦ rw e (opening ∙ sym (open_is (job_at jobs i).standing t))

@@ -3,6 +3,7 @@ use Rattle.std.proofs.Common.{◌≡◌, ℕ, ◌-◌, ◌<◌, ◌≤◌, true,
 use Rattle.std.specs.Prelude.{◌==◌, ◌&&◌, nat_lt, is_some, option_map, slice_index, slice_set, if◌then◌else◌, IfSome, MatchOption}
 use Rattle.std.proofs.lemmas.Bool.{cases_Bool, cases_eq, cases_lt, false≢true, and_parts}
 use Rattle.std.proofs.lemmas.Bool.Decides.{nat_tests}
+use Rattle.crpd_base.specs.declared.data.JobId.{JobId}
 use Rattle.crpd_base.specs.declared.data.ScriptJob.{ScriptJob}
 use Rattle.crpd_base.specs.declared.data.Switching.{Switching}
 use Rattle.crpd_base.specs.declared.data.Switching.TheVariants.{Cycle, Instruction}
@@ -35,7 +36,10 @@ turned_off sys m i k e h =
     let b : nat_lt 0 k ≡ true = grind (arith, nat_tests) in
     ap (turned sys m.time) (with_switch sys m i k e) ∙ rw b refl
 
-pub fetch_made : (sys : System) (m : Machine) (i : ℕ) → (turn_of sys m i).switch_left ≡ 0 → option_map (fetch_told sys m) (fetch_by sys m (Some i)) ≡ option_map (λ (access : Access). record { job = job_id m i; address = (job_at m.jobs i).pc; access = access }) (found_by sys (turn_by m.cache m.memory 0 (job_at m.jobs i)))
+abbrev pub fetches : JobId → ℕ → Option Access → Option Fetch
+fetches id pc found = option_map (λ (access : Access). record { job = id; address = pc; access = access }) found
+
+pub fetch_made : (sys : System) (m : Machine) (i : ℕ) → (turn_of sys m i).switch_left ≡ 0 → option_map (fetch_told sys m) (fetch_by sys m (Some i)) ≡ fetches (job_id m i) (job_at m.jobs i).pc (found_by sys (turn_by m.cache m.memory 0 (job_at m.jobs i)))
 fetch_made sys m i e =
     let job = job_at m.jobs i in
     let made : makes_fetch sys (turn_of sys m i) ≡ ((job.left == 0) && is_some (ins_at sys job.pc)) = ap (makes_fetch sys) (with_switch sys m i 0 e) in
