@@ -8,7 +8,7 @@ use Rattle.preempt_machine.specs.declared.parts.Parts.{Parts}
 use Rattle.preempt_machine.specs.Machine.{System, Standing, Job, Machine, job_at, no_job}
 use Rattle.preempt_machine.specs.Step.{is_open, keeps_core, placed, turned, turn_of, fetch, fetch_by, step}
 use Rattle.preempt_machine.specs.Jobs.{shown}
-use Rattle.preempt_machine.specs.Running.{completion_at, fetch_told}
+use Rattle.preempt_machine.specs.Running.{Running, completion_at, fetch_told}
 
 -- the release and the place of the job at a position of the order by release
 abbrev pub release_at : List (ℕ × ℕ) → ℕ → ℕ
@@ -136,6 +136,10 @@ pub record IsKept (sets : ℕ) (m : Machine) (order : List (ℕ × ℕ)) (links 
 abbrev pub IsMachine : Parts → Type 0
 IsMachine p =
     IsKept p.core.geometry.platform.sets (machine_of p) p.queue.due.items p.queue.later.items p.queue.heads.items p.queue.released p.completions.items
+
+-- what contracts see of the parts
+abbrev pub running_of : Parts → Running
+running_of p = record { platform = p.core.geometry.platform; state = machine_of p; fetch = p.fetch }
 
 -- whether the owner keeps the core
 abbrev pub owner_keeps : Switching → ℕ → List Job → Option ℕ → Bool

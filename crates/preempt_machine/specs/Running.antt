@@ -2,8 +2,11 @@
 use Rattle.std.specs.Prelude.{◌≡◌, ℕ, zero, suc, ◌<◌, ◌≤◌, if◌then◌else◌, length, List, slice_index_or, [], Option, Some, None, option_map}
 use Rattle.crpd_base.specs.declared.data.JobId.{JobId}
 use Rattle.crpd_base.specs.declared.data.Platform.{Platform}
+use Rattle.crpd_base.specs.declared.data.ScriptJob.{ScriptJob}
 use Rattle.crpd_base.specs.declared.data.TaskPlan.{TaskPlan}
+use Rattle.crpd_base.specs.declared.data.TaskSet.{TaskSet}
 use Rattle.rv_core.specs.Effect.{IsStore}
+use Rattle.rv_core.specs.Memory.{Memory}
 use Rattle.rv_decode.specs.declared.Ins.{Ins}
 use Rattle.icache.specs.Cache.{Cache, block_of, is_hit}
 use Rattle.icache.specs.declared.Access.{Access}
@@ -13,11 +16,11 @@ use Rattle.flow_watch.specs.Turns.{HasTurns}
 use Rattle.preempt_machine.specs.declared.End.{End}
 use Rattle.preempt_machine.specs.declared.Completion.{Completion}
 use Rattle.preempt_machine.specs.declared.Fetch as told
-use Rattle.preempt_machine.specs.Machine.{System, Job, Machine, ins_at, job_at}
+use Rattle.preempt_machine.specs.Machine.{System, Job, Machine, ins_at, job_at, started}
 use Rattle.preempt_machine.specs.Step as step
 use Rattle.preempt_machine.specs.Step.{candidate, Turn, turn_of, fetched}
 use Rattle.preempt_machine.specs.Candidate.{task_of, release_of, job_number}
-use Rattle.preempt_machine.specs.Safe.{end_by}
+use Rattle.preempt_machine.specs.Safe.{end_by, system_of}
 
 -- the platform, the state, and the fetch of the last step made
 pub record Running : Type 0 where
@@ -45,6 +48,11 @@ fetch_told sys m f =
       address = f.address;
       access = access_by sys.platform m.cache f.address;
     }
+
+-- the machine at the start of a run
+abbrev pub start_of : TaskSet → Code → Cache → Memory → List ScriptJob → Running
+start_of set code cache memory lines =
+    record { platform = set.platform; state = started (system_of set code) cache memory lines; fetch = None }
 
 -- after one step, and after n steps
 abbrev pub stepped : Code → Running → Running
@@ -82,6 +90,13 @@ pub record GivesStore (sys : System) (m : Machine) : Type 0 where
   pub is_candidate : candidate sys m ≡ Some place
   pub switched : (turn_of sys m place).switch_left ≡ 0
   pub store : IsStoreNow sys (turn_of sys m place)
+
+-- after some of so many steps, before one that gives a store its effect
+pub record StopsAtStore (code : Code) (n : ℕ) (old new : Running) : Type 0 where
+  pub made : ℕ
+  pub fewer : made < n
+  pub state : new ≡ stepped_by made code old
+  pub store : GivesStore (system_by old.platform code) new.state
 
 -- the completion of the job at a place
 abbrev pub completion_at : Machine → ℕ → Completion

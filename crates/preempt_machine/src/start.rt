@@ -1,5 +1,5 @@
 // The cache and the data memory that a script starts from.
-ghost use Rattle.std.specs.Prelude.{◌≡◌, ◌<◌, ◌≤◌, length, IfOk, All};
+ghost use Rattle.std.specs.Prelude.{◌≡◌, ◌+◌, ◌<◌, ◌≤◌, ◌^◌, length, All, IfOk, OnOk};
 ghost use Rattle.crpd_base.specs.Images.{IsImage};
 ghost use Rattle.preempt_machine.specs.Starts.{start_cache, start_memory, with_blocks, with_bytes, with_segment, with_segments};
 
@@ -27,7 +27,10 @@ pub fn start_cache(set: &TaskSet, script: &Script) -> Cache<SETS>
 }
 
 /// Puts bytes into the memory from an address on.
-fn put_bytes(memory: &mut DataMemory, address: u32, bytes: &[u8]) -> Result<(), Memory> {
+fn put_bytes(memory: &mut DataMemory, address: u32, bytes: &[u8]) -> Result<(), Memory>
+    requires { address + length bytes.now ≤ 2 ^ 32 }
+    ensures { OnOk result (memory.new ≡ with_bytes memory.old address bytes.now) }
+{
     for i in 0..bytes.len() {
         memory.put((address as u64 + i as u64) as u32, bytes[i])?;
     }
@@ -35,13 +38,21 @@ fn put_bytes(memory: &mut DataMemory, address: u32, bytes: &[u8]) -> Result<(), 
 }
 
 /// Puts a segment into the memory: its bytes of the file, and 0 at its addresses after them.
-fn put_segment(memory: &mut DataMemory, segment: &Segment) -> Result<(), Memory> {
+fn put_segment(memory: &mut DataMemory, segment: &Segment) -> Result<(), Memory>
+    requires below { segment.now.address + segment.now.size ≤ 2 ^ 32 }
+    requires sized { length segment.now.bytes ≤ segment.now.size }
+    ensures { OnOk result (memory.new ≡ with_segment memory.old segment.now) }
+{
     memory.clear(segment.address, segment.size);
     put_bytes(memory, segment.address, segment.bytes.as_slice())
 }
 
 /// Puts the segments of a file into the memory.
-fn put_segments(memory: &mut DataMemory, segments: &[Segment]) -> Result<(), Memory> {
+fn put_segments(memory: &mut DataMemory, segments: &[Segment]) -> Result<(), Memory>
+    requires below { All (λ s. s.address + s.size ≤ 2 ^ 32) segments.now }
+    requires sized { All (λ s. length s.bytes ≤ s.size) segments.now }
+    ensures { OnOk result (memory.new ≡ with_segments memory.old segments.now) }
+{
     for segment in segments {
         put_segment(memory, segment)?;
     }

@@ -1,8 +1,6 @@
 use Rattle.std.proofs.Common.{◌≡◌, ℕ, [], refl, sym, ◌∙◌, ap, subst, arith}
-
 use Rattle.std.proofs.lemmas.List.{get_or_default}
 use Rattle.crpd_base.specs.declared.data.JobId.{JobId}
-
 use Rattle.preempt_machine.specs.declared.Completion.{Completion}
 use Rattle.preempt_machine.specs.Machine.{Job, ins_at, job_at, no_job}
 use Rattle.preempt_machine.specs.Step.{executed}
