@@ -1,5 +1,6 @@
 // The machine that runs.
-ghost use Rattle.std.specs.Prelude.{◌≡◌, ℕ, ◌<◌, ◌^◌, map, length, IfOk};
+ghost use Rattle.std.specs.Prelude.{◌≡◌, ℕ, ◌<◌, ◌^◌, ◌↔◌, true, map, length, All, IfOk, IsTrue};
+ghost use Rattle.flow_watch.specs.Watch.{is_kept};
 ghost use Rattle.preempt_machine.specs.Machine.{System, job_at, new_job, number_of};
 ghost use Rattle.preempt_machine.specs.Running.{HasPlan};
 ghost use Rattle.preempt_machine.specs.Kept.{line_at, completion};
@@ -76,6 +77,18 @@ fn start_completions(alloc: Global, lines: &[ScriptJob]) -> Result<Vec<Completio
         counts[task] += 1;
     }
     Ok(completions)
+}
+
+/// Whether no job's watch is broken.
+fn are_kept(jobs: &[Job]) -> bool
+    ensures { IsTrue result ↔ All (λ job. is_kept job.watch ≡ true) jobs.now }
+{
+    for job in jobs {
+        if job.watch().broken() {
+            return false;
+        }
+    }
+    true
 }
 
 impl Machine {
@@ -210,12 +223,7 @@ impl Machine {
     pub fn kept(&self) -> bool
         ensures { IsTrue result ↔ IsKept self.now.state }
     {
-        for job in &self.parts.jobs {
-            if job.watch().broken() {
-                return false;
-            }
-        }
-        true
+        are_kept(self.parts.jobs.as_slice())
     }
 
     /// The owner of the core, None before the first turn of a job.
