@@ -1,10 +1,14 @@
 -- The machine at the start of a run, and what is told of it.
-use Rattle.std.proofs.Common.{◌≡◌, ℕ, zero, suc, ◌+◌, ◌<◌, ◌≤◌, ◌≢◌, true, false, List, [], ◌∷◌, length, Option, Some, None, refl, sym, ◌∙◌, ap, subst, inl, inr, arith}
-use Rattle.std.specs.Prelude.{◌==◌, if◌then◌else◌, map, slice_index, slice_index_or}
+use Rattle.std.proofs.Common.{◌≡◌, ℕ, zero, suc, ◌+◌, ◌<◌, ◌≤◌, ◌≢◌, true, false, List, [], ◌∷◌, ◌++◌, length, length-append, take, Option, Some, None, refl, sym, ◌∙◌, ap, subst, inl, inr, arith}
+use Rattle.std.specs.Prelude.{◌==◌, nat_le, if◌then◌else◌, map, slice_index, slice_index_or}
 use Rattle.std.proofs.lemmas.Bool.{cases_Bool, cases_lt, eq-eqb, false≢true, ne_eqb}
-use Rattle.std.proofs.lemmas.List.{ext_get_or, get_or-map, length-map}
+use Rattle.std.proofs.lemmas.Bool.Decides.{nat_tests}
+use Rattle.std.proofs.lemmas.List.{ext_get_or, get_or-map, length-map, map-append, take_more}
+use Rattle.std.proofs.Math.ListN.{get_or-append}
+use Rattle.std.proofs.Math.Seq.{get_or-append_seam}
 use Rattle.crpd_base.specs.declared.data.JobId.{JobId}
 use Rattle.crpd_base.specs.declared.data.ScriptJob.{ScriptJob}
+use Rattle.crpd_base.specs.declared.data.TaskPlan.{TaskPlan}
 use Rattle.preempt_machine.specs.declared.Completion.{Completion}
 use Rattle.preempt_machine.specs.declared.End.{End}
 use Rattle.preempt_machine.specs.declared.End.TheVariants as «end»
@@ -14,7 +18,7 @@ use Rattle.preempt_machine.specs.Machine.{System, Job, Machine, Open, job_at, ne
 use Rattle.preempt_machine.specs.Step.{is_open}
 use Rattle.preempt_machine.specs.Candidate.{job_number, task_of}
 use Rattle.preempt_machine.specs.Safe.{completions, end_by}
-use Rattle.preempt_machine.specs.Running.{completion_at, job_id, IsAt}
+use Rattle.preempt_machine.specs.Running.{completion_at, job_id, HasPlan, IsAt}
 use Rattle.preempt_machine.specs.Kept.{line_at, lines_of, completion, place_at, task_at, IsDue, IsFirstFrom, IsKept, IsLinked, IsWaiting}
 use Rattle.preempt_machine.proofs.Firsts.{line_is, lines_long}
 use Rattle.preempt_machine.proofs.Numbers.{number_grows}
@@ -100,7 +104,37 @@ start_kept sets sys cache memory lines due later heads cs room d k tasks first l
     }
   where
     waits : (release : ℕ) → «end».Unreleased ≡ end_by 0 release Open
-    waits release = refl
+    waits release = let b : nat_le 0 release ≡ true = grind (arith, nat_tests) in rw b refl
+
+-- and so are parts that hold it
+pub starts_kept : (sets : ℕ) (sys : System) (cache : Cache) (memory : Memory) (lines : List ScriptJob) (jobs : List Job) (count : ℕ) (due : List (ℕ × ℕ)) (later heads : List ℕ) (cs : List Completion) → jobs ≡ map (new_job sys) lines → count ≡ 0 → sets ≤ length cache → IsDue lines due → IsLinked lines due later → ((x : ℕ) → x < length lines → (line_at lines x).task.0 < length heads) → ((t : ℕ) → t < length heads → IsFirstFrom lines due t 0 (slice_index heads t)) → length cs ≡ length lines → ((x : ℕ) → x < length lines → completion cs x ≡ record { job = record { task = (line_at lines x).task; number = number_of lines (line_at lines x).task.0 x }; «end» = «end».Unreleased }) → IsKept sets (record { time = 0; cache = cache; memory = memory; owner = None; switch_left = 0; jobs = jobs }) due later heads count cs
+starts_kept sets sys cache memory lines jobs count due later heads cs e f room d k tasks first long told =
+    rw (e, f) (start_kept sets sys cache memory lines due later heads cs room d k tasks first long told)
+
+-- one more job with its plan
+pub plans_more : (plans : List TaskPlan) (jobs : List Job) (job : Job) → ((x : ℕ) → x < length jobs → HasPlan plans (job_at jobs x)) → HasPlan plans job → (x : ℕ) → x < length (jobs ++ job ∷ []) → HasPlan plans (job_at (jobs ++ job ∷ []) x)
+plans_more plans jobs job all one x h =
+    elim (cases_lt x (length jobs)) [
+      | inl l ↦ subst (λ (j : Job). HasPlan plans j) (sym (get_or-append jobs (job ∷ []) no_job x l)) (all x l)
+      | inr g ↦
+          let e : x ≡ length jobs = omega (arith, length-append jobs (job ∷ [])) in
+          subst (λ (j : Job). HasPlan plans j) (sym (ap (job_at (jobs ++ job ∷ [])) e ∙ get_or-append_seam jobs job [] no_job)) one
+    ]
+
+-- one more job of those that a script starts with
+pub jobs_more : (sys : System) (lines : List ScriptJob) (jobs : List Job) (job : Job) (i : ℕ) → i < length lines → jobs ≡ map (new_job sys) (take i lines) → job ≡ new_job sys (line_at lines i) → jobs ++ job ∷ [] ≡ map (new_job sys) (take (i + 1) lines)
+jobs_more sys lines jobs job i h e f =
+    rw (e, f) (sym (ap (map (new_job sys)) (take_more lines i no_job.line h) ∙ map-append (new_job sys) (take i lines) (line_at lines i ∷ [])))
+
+-- one more completion
+pub completions_more : (cs : List Completion) (c : Completion) (give : ℕ → Completion) (i : ℕ) → length cs ≡ i → ((x : ℕ) → x < i → completion cs x ≡ give x) → c ≡ give i → (x : ℕ) → x < i + 1 → completion (cs ++ c ∷ []) x ≡ give x
+completions_more cs c give i long all one x h =
+    elim (cases_lt x i) [
+      | inl l ↦ get_or-append cs (c ∷ []) _ x (omega (arith, long)) ∙ all x l
+      | inr g ↦
+          let e : x ≡ length cs = omega (arith, long) in
+          ap (completion (cs ++ c ∷ [])) e ∙ get_or-append_seam cs c [] _ ∙ one ∙ ap give (sym (e ∙ long))
+    ]
 
 -- the completions of a state
 pub ends_are : (m : Machine) (cs : List Completion) → length cs ≡ length m.jobs → ((x : ℕ) → x < length m.jobs → completion cs x ≡ completion_at m x) → map (λ (c : Completion). c.«end») cs ≡ completions m

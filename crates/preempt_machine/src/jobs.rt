@@ -79,6 +79,7 @@ impl Job {
     /// A job before its first step.
     pub(crate) fn start(alloc: Global, line: ScriptJob, plan: &TaskPlan) -> Result<Self, Memory>
         ensures is { IfOk result (λ job. (sys : System) → plan_of sys line.task.0 ≡ plan.now → job ≡ new_job sys line) }
+        ensures line { IfOk result (λ job. job.line ≡ line) }
         ensures turns { IfOk result (λ job. HasTurns (length plan.now.loops) job.watch) }
     {
         Ok(Job {

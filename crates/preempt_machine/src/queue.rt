@@ -75,6 +75,7 @@ impl Queue {
         ensures due { IfOk result (λ queue. IsDue lines.now queue.due.items) }
         ensures linked { IfOk result (λ queue. IsLinked lines.now queue.due.items queue.later.items) }
         ensures tasks { IfOk result (λ queue. length queue.heads.items ≡ tasks) }
+        ensures each { IfOk result (λ queue. (x : ℕ) → x < length lines.now → (line_at lines.now x).task.0 < length queue.heads.items) }
         ensures heads { IfOk result (λ queue. (t : ℕ) → t < tasks → IsFirstFrom lines.now queue.due.items t 0 (slice_index queue.heads.items t)) }
         ensures released { IfOk result (λ queue. queue.released ≡ 0) }
     {

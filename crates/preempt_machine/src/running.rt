@@ -1,5 +1,5 @@
 // The machine that runs.
-ghost use Rattle.std.specs.Prelude.{◌≡◌, ℕ, ◌<◌, ◌^◌, ◌↔◌, true, map, length, All, IfOk, IsTrue};
+ghost use Rattle.std.specs.Prelude.{◌≡◌, ℕ, ◌<◌, ◌^◌, ◌↔◌, ◌++◌, ◌∷◌, [], true, map, length, replicate, All, IfOk, OnOk, IsTrue};
 ghost use Rattle.flow_watch.specs.Watch.{is_kept};
 ghost use Rattle.preempt_machine.specs.Machine.{System, job_at, new_job, number_of};
 ghost use Rattle.preempt_machine.specs.Running.{HasPlan};
@@ -40,6 +40,16 @@ impl Model for Machine {
     ghost invariant = { λ m. IsMachine m.parts };
 }
 
+/// Adds an item to a list.
+fn push<T: Drop>(list: &mut Vec<T>, item: T) -> Result<(), Memory>
+    ensures { OnOk result (list.new.items ≡ list.old.items ++ item ∷ []) }
+{
+    match list.push(item) {
+        Ok(()) => Ok(()),
+        Err(_) => Err(Memory),
+    }
+}
+
 /// The jobs of a script before their first steps.
 fn start_jobs(alloc: Global, code: &CodeMap, lines: &[ScriptJob]) -> Result<Vec<Job>, Memory>
     requires { (x : ℕ) → x < length lines.now → (line_at lines.now x).task.0 < length code.now.plans }
@@ -49,20 +59,33 @@ fn start_jobs(alloc: Global, code: &CodeMap, lines: &[ScriptJob]) -> Result<Vec<
     let mut jobs = Vec::new(alloc);
     for line in lines {
         let job = Job::start(alloc, *line, code.plan(line.task))?;
-        if jobs.push(job).is_err() {
-            return Err(Memory);
-        }
+        push(&mut jobs, job)?;
     }
     Ok(jobs)
 }
 
+/// So many zeros.
+fn zeros(alloc: Global, count: usize) -> Result<Vec<u32>, Memory>
+    ensures { IfOk result (λ zeros. zeros.items ≡ replicate count 0) }
+{
+    match vec![in alloc; 0u32; count] {
+        Ok(zeros) => Ok(zeros),
+        Err(_) => Err(Memory),
+    }
+}
+
 /// The jobs of a script by task and number, all of them unreleased.
-fn start_completions(alloc: Global, lines: &[ScriptJob]) -> Result<Vec<Completion>, Memory>
-    requires { length lines.now < 2 ^ 32 }
+fn start_completions(
+    alloc: Global,
+    lines: &[ScriptJob],
+    tasks: usize,
+) -> Result<Vec<Completion>, Memory>
+    requires few { length lines.now < 2 ^ 32 }
+    requires tasks { (x : ℕ) → x < length lines.now → (line_at lines.now x).task.0 < tasks }
     ensures long { IfOk result (λ cs. length cs.items ≡ length lines.now) }
     ensures each { IfOk result (λ cs. (x : ℕ) → x < length lines.now → completion cs.items x ≡ record { job = record { task = (line_at lines.now x).task; number = number_of lines.now (line_at lines.now x).task.0 x }; «end» = End.Unreleased }) }
 {
-    let mut counts = [0u32; 256];
+    let mut counts = zeros(alloc, tasks)?;
     let mut completions = Vec::new(alloc);
     for line in lines {
         let task = usize::from(line.task.0);
@@ -71,12 +94,24 @@ fn start_completions(alloc: Global, lines: &[ScriptJob]) -> Result<Vec<Completio
             number: counts[task],
         };
         let end = End::Unreleased;
-        if completions.push(Completion { job, end }).is_err() {
-            return Err(Memory);
-        }
+        push(&mut completions, Completion { job, end })?;
         counts[task] += 1;
     }
     Ok(completions)
+}
+
+/// The place of a job, by a look through the completions.
+fn place_of(completions: &[Completion], job: JobId) -> usize
+    requires { (x : ℕ) × (x < length completions.now) × ((completion completions.now x).job ≡ job) }
+    ensures below { result < length completions.now }
+    ensures job { (completion completions.now result).job ≡ job }
+{
+    for place in 0..completions.len() {
+        if completions[place].job == job {
+            return place;
+        }
+    }
+    unreachable!()
 }
 
 /// Whether no job's watch is broken.
@@ -127,7 +162,7 @@ impl Machine {
         let lines = script.jobs.as_slice();
         let tasks = set.tasks.as_slice().len();
         let jobs = start_jobs(alloc, code, lines)?;
-        let completions = start_completions(alloc, lines)?;
+        let completions = start_completions(alloc, lines, tasks)?;
         let queue = Queue::new(alloc, lines, tasks)?;
         let geometry = Geometry::new(&set.platform);
         let parts = Parts {
@@ -242,13 +277,7 @@ impl Machine {
         ensures below { result < length self.now.state.jobs }
         ensures is { (x : ℕ) → IsAt self.now.state job x → result ≡ x }
     {
-        let completions = self.parts.completions.as_slice();
-        for place in 0..completions.len() {
-            if completions[place].job == job {
-                return place;
-            }
-        }
-        unreachable!()
+        place_of(self.parts.completions.as_slice(), job)
     }
 
     /// The pc of a job of the script, by a look through the jobs.

@@ -10,5 +10,6 @@ invariant-loop-line l =
     record {
       long : length l.completions.items ≡ l.line-index;
       each : (x : ℕ) → x < l.line-index → completion l.completions.items x ≡ record { job = record { task = (line_at l.lines x).task; number = number_of l.lines (line_at l.lines x).task.0 x }; «end» = «end».Unreleased };
-      counts : (t : ℕ) → t < 256 → slice_index l.counts t ≡ number_of l.lines t l.line-index;
+      count : length l.counts.items ≡ l.tasks;
+      counts : (t : ℕ) → t < l.tasks → slice_index l.counts.items t ≡ number_of l.lines t l.line-index;
     }
