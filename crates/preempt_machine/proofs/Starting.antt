@@ -1,6 +1,6 @@
 -- The machine at the start of a run, and what is told of it.
 use Rattle.std.proofs.Common.{◌≡◌, ℕ, zero, suc, ◌+◌, ◌<◌, ◌≤◌, ◌≢◌, true, false, List, [], ◌∷◌, ◌++◌, length, length-append, take, Option, Some, None, refl, sym, ◌∙◌, ap, subst, inl, inr, arith}
-use Rattle.std.specs.Prelude.{◌==◌, nat_le, if◌then◌else◌, map, slice_index, slice_index_or}
+use Rattle.std.specs.Prelude.{◌==◌, nat_le, if◌then◌else◌, map, slice_get, slice_index, slice_index_or}
 use Rattle.std.proofs.lemmas.Bool.{cases_Bool, cases_lt, eq-eqb, false≢true, ne_eqb}
 use Rattle.std.proofs.lemmas.Bool.Decides.{nat_tests}
 use Rattle.std.proofs.lemmas.List.{ext_get_or, get_or-map, length-map, map-append, take_more}
@@ -12,6 +12,8 @@ use Rattle.crpd_base.specs.declared.data.TaskPlan.{TaskPlan}
 use Rattle.preempt_machine.specs.declared.Completion.{Completion}
 use Rattle.preempt_machine.specs.declared.End.{End}
 use Rattle.preempt_machine.specs.declared.End.TheVariants as «end»
+use Rattle.std.proofs.lemmas.Option.{get_or_from_slice_get}
+use Rattle.flow_watch.specs.Turns.{HasTurns}
 use Rattle.icache.specs.Cache.{Cache}
 use Rattle.rv_core.specs.Memory.{Memory}
 use Rattle.preempt_machine.specs.Machine.{System, Job, Machine, Open, job_at, new_job, no_job, number_of, started}
@@ -172,3 +174,12 @@ pub id_at : (m : Machine) (job : JobId) (x : ℕ) → IsAt m job x → job_id m 
 id_at m job x h = by_parts job (job_id m x) h.task h.number where
   by_parts : (a b : JobId) → a.task.0 ≡ b.task.0 → a.number ≡ b.number → b ≡ a
   by_parts a b e f = ap (λ n. record { task = record { 0 = n }; number = b.number }) (sym e) ∙ ap (λ n. record { task = a.task; number = n }) (sym f)
+
+pub has_plan : (plans : List TaskPlan) (line : ScriptJob) (plan : TaskPlan) (job : Job) → job.line ≡ line → line.task.0 < length plans → slice_get plans line.task.0 ≡ Some plan → HasTurns (length plan.loops) job.watch → HasPlan plans job
+has_plan plans line plan job e below there turns =
+    let found = get_or_from_slice_get plans line.task.0 plan (record { entry = 0; stack = 0; global = 0; loops = [] }) there in
+    rw e
+    (record {
+      task = below;
+      loops = subst (λ (p : TaskPlan). HasTurns (length p.loops) job.watch) (sym found) turns;
+    })

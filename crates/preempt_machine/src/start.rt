@@ -66,7 +66,10 @@ fn put_segments(memory: &mut DataMemory, segments: &[Segment]) -> Result<(), Mem
 /// is the only error.
 ///
 /// Source: Tool Interface Standard, Executable and Linking Format, version 1.2, book I (p_filesz, p_memsz).
-pub fn start_memory(alloc: Global, code: &CodeMap) -> Result<DataMemory, Memory> {
+pub fn start_memory(alloc: Global, code: &CodeMap) -> Result<DataMemory, Memory>
+    requires { All IsImage code.now.images }
+    ensures { IfOk result (λ memory. memory ≡ start_memory code.now.images) }
+{
     let mut memory = DataMemory::new(alloc);
     for image in code.images() {
         put_segments(&mut memory, image.segments.as_slice())?;
