@@ -366,14 +366,22 @@ const LINKED: [(usize, u32); 53] = [
     (0x3110, 8),
 ];
 
-fn linked(alloc: Global) -> Result<Vec<u8>, AllocError> {
-    let mut bytes = vec![in alloc; 0u8; 0x3124]?;
-    for (place, word) in LINKED {
-        let end = place + 4;
+// Puts words at their places, where these lie in the bytes.
+fn put_words(bytes: &mut Vec<u8>, words: &[(usize, u32)]) {
+    for (place, word) in words {
+        let start = *place;
+        let Some(end) = start.checked_add(4) else {
+            return;
+        };
         if end <= bytes.len() {
-            bytes[place..end].copy_from_slice(&word.to_le_bytes());
+            bytes[start..end].copy_from_slice(&word.to_le_bytes());
         }
     }
+}
+
+fn linked(alloc: Global) -> Result<Vec<u8>, AllocError> {
+    let mut bytes = vec![in alloc; 0u8; 0x3124]?;
+    put_words(&mut bytes, &LINKED);
     Ok(bytes)
 }
 
