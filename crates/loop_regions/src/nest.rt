@@ -1,0 +1,110 @@
+// The regions of a task's graph.
+use crate::found::Regions;
+use crate::holders::Holders;
+use crpd_base::{Items, NodeId};
+use std::marker::Model;
+
+/// The regions of a task's graph: one for each stated loop in each context of its head, numbered from 0 by their heads.
+/// A region holds the nodes of its context whose addresses the loop holds, and those of the calls made there. Each is
+/// entered at its head only, and two regions are disjoint or lie one inside the other.
+///
+/// Contracts see it as the head and the bound of each region, and the regions that hold each node.
+#[derive(Drop)]
+pub struct Nest {
+    heads: Items<u32>,
+    bounds: Items<u32>,
+    holders: Items<Holders>,
+    parents: Items<Option<u32>>,
+    innermost: Items<Option<u32>>,
+}
+
+impl Model for Nest {
+    ghost use Rattle.loop_regions.specs.CodeNest.{CodeNest};
+
+    ghost Value = { CodeNest };
+
+    ghost use Rattle.loop_regions.specs.KeptNest.{IsKept};
+
+    ghost view = { λ n. record { heads = n.heads; bounds = n.bounds; holders = n.holders } };
+
+    ghost invariant = { λ n. IsKept (record { heads = n.heads; bounds = n.bounds; holders = n.holders }) n.parents n.innermost };
+}
+
+impl Nest {
+    ghost use Rattle.std.specs.Prelude.{◌≡◌, ◌<◌, length};
+    ghost use Rattle.loop_regions.specs.CodeNest.{nest_of};
+    ghost use Rattle.loop_regions.specs.Found.{code_nest};
+    ghost use Rattle.loop_regions.specs.KeptNest.{IsKept};
+    ghost use Rattle.loop_regions.specs.Levels.{IsLevel, IsParent};
+
+    /// The nest of regions, with the parent of each region and the innermost region of each node.
+    pub(crate) fn new(
+        regions: Regions,
+        parents: Vec<Option<u32>>,
+        innermost: Vec<Option<u32>>,
+    ) -> Self
+        requires { IsKept (code_nest regions) parents.items innermost.items }
+        ensures { result ≡ code_nest regions }
+    {
+        let Regions {
+            heads,
+            bounds,
+            holders,
+        } = regions;
+        Nest {
+            heads,
+            bounds,
+            holders,
+            parents: Items::new(parents),
+            innermost: Items::new(innermost),
+        }
+    }
+
+    /// How many regions there are: 0 to 16,384.
+    pub fn len(&self) -> u32
+        ensures { result ≡ (nest_of self.now).size }
+    {
+        self.heads.as_slice().len() as u32
+    }
+
+    /// The head of a region: the node at which it is entered.
+    pub fn head(&self, r: u32) -> NodeId
+        requires { r < (nest_of self.now).size }
+        ensures { result.0 ≡ (nest_of self.now).head r }
+    {
+        NodeId(self.heads.as_slice()[r as usize])
+    }
+
+    /// How often a kept walk may be at a region's head from an entry into the region until it leaves it: 1 to 1,000,000.
+    pub fn bound(&self, r: u32) -> u32
+        requires { r < (nest_of self.now).size }
+        ensures { result ≡ (nest_of self.now).bound r }
+    {
+        self.bounds.as_slice()[r as usize]
+    }
+
+    /// The innermost region round a region, None where there is none.
+    pub fn parent(&self, r: u32) -> Option<u32>
+        requires { r < (nest_of self.now).size }
+        ensures { IsParent (nest_of self.now) r result }
+    {
+        self.parents.as_slice()[r as usize]
+    }
+
+    /// Whether a region holds a node. Its time is at most the number of regions that hold the node.
+    pub fn holds(&self, r: u32, id: NodeId) -> bool
+        requires { id.0 < length self.now.holders }
+        ensures { result ≡ (nest_of self.now).holds r id.0 }
+    {
+        let holders = &self.holders.as_slice()[id.0 as usize];
+        holders.has(r)
+    }
+
+    /// The innermost region that holds a node, None where none does.
+    pub fn innermost(&self, id: NodeId) -> Option<u32>
+        requires { id.0 < length self.now.holders }
+        ensures { IsLevel (nest_of self.now) id.0 result }
+    {
+        self.innermost.as_slice()[id.0 as usize]
+    }
+}
