@@ -1,5 +1,5 @@
 // The regions of small programs.
-ghost use Rattle.std.specs.Prelude.{◌≡◌, length, IfOk, All, vec_len};
+ghost use Rattle.std.specs.Prelude.{◌≡◌, ◌<◌, length, IfOk, All, vec_len};
 ghost use Rattle.crpd_base.specs.Images.{IsImage};
 ghost use Rattle.flat_graph.specs.CodeGraph.{graph_of};
 
