@@ -1,7 +1,11 @@
-//! The analysis' certificate: the laws by which its states and sets meet the clauses.
+//! The analysis' certificate: what it is, and the laws by which it meets the clauses.
 #![tactic(auto)]
 
+ghost use Rattle.cert_build.specs.Best.{BestIsJudgedLaw, ChoicesLaw, OneBestLaw};
 ghost use Rattle.cert_build.specs.BestLaws.{BestMeetsLaw, BestSetsLaw, BestStateLaw, BestUsefulLaw, EnoughSetsLaw};
+ghost use Rattle.cert_build.specs.TwoWords.{TwoWords};
+
+use delay_count::growth_law;
 
 /// The full states and useful sets of a listing of Sure and Useful are Sure and Useful at all nodes, and meet the clauses on them.
 pub fn best_laws()
@@ -10,4 +14,28 @@ pub fn best_laws()
     ensures best_meets { BestMeetsLaw }
     ensures best_sets { BestSetsLaw }
     ensures enough_sets { EnoughSetsLaw }
+{}
+
+/// The judge says yes to the analysis' certificate of a set whose graphs are those of its code, without refusals.
+pub fn best_is_judged()
+    ensures { BestIsJudgedLaw }
+{}
+
+/// The windows found for the parts of a certificate, and written in it, are those of the analysis' certificate.
+pub fn choices_law()
+    ensures { ChoicesLaw }
+{
+    growth_law();
+}
+
+/// A task set has one such certificate at most.
+pub fn one_best()
+    ensures { OneBestLaw }
+{
+    growth_law();
+}
+
+/// The certificate of a task of two words is the analysis'.
+pub fn two_words()
+    ensures { TwoWords }
 {}

@@ -13,7 +13,7 @@ use Rattle.code_map.specs.Kept.{IsKept}
 use Rattle.code_map.specs.Runs.{runs_byte, IsBefore, IsIndex}
 use Rattle.code_map.specs.Words.{code_byte, image_byte, little_endian, owns, word_at, word_by, end}
 
-word_same : (f g : ℕ → Option ℕ) (a : ℕ) → ((x : ℕ) → f x ≡ g x) → word_by f a ≡ word_by g a
+pub word_same : (f g : ℕ → Option ℕ) (a : ℕ) → ((x : ℕ) → f x ≡ g x) → word_by f a ≡ word_by g a
 word_same f g a h = rw (h a, h (a + 1), h (a + 2), h (a + 3)) refl
 
 pub index_apart : (m : Inside) (rs : List Run) → IsKept m → rs ≡ m.runs → AllPairs IsBefore rs
@@ -22,6 +22,10 @@ index_apart m rs kept e = rw e (kept.all.apart)
 pub kept_word : (m : Inside) (is : List Image) (rs : List Run) (a : ℕ) → IsKept m → m.images ≡ is → rs ≡ m.runs → word_by (runs_byte rs) a ≡ word_at is a
 unfolding word_at
 kept_word m is rs a kept view e = rw (e, ← view) (word_same (runs_byte m.runs) _ a kept.all.is)
+
+-- the index of the file at a place
+pub runs_are : (all kept : List (List Run)) (n k : _) (r rs : List Run) → all ≡ kept → n ≡ k → r ≡ get_or all n r → rs ≡ r → rs ≡ get_or kept k rs
+runs_are all kept n k r rs a b c d = subst (λ x. rs ≡ get_or kept k x) (sym d) (d ∙ (c ∙ (ap (λ x. get_or x n r) a ∙ ap (λ i. get_or kept i r) b)))
 
 blank : Image
 blank = record { entry = 0; segments = []; symbols = [] }
@@ -78,8 +82,9 @@ little_some (Some w) (Some x) None d n e = absurd (none-some n e)
 little_some (Some w) (Some x) (Some y) None n e = absurd (none-some n e)
 little_some (Some w) (Some x) (Some y) (Some z) n e = λ a b c d. (subst (λ m. m < 2 ^ 32) (same_Some _ n e) (little_below w x y z (a w refl) (b x refl) (c y refl) (d z refl)), w, refl)
 
-word_there : (byte : ℕ → Option ℕ) (a w : ℕ) → word_by byte a ≡ Some w → ((a % 4) ≡ 0) × (a ≡ end → ⊥) × (little_endian (byte a) (byte (a + 1)) (byte (a + 2)) (byte (a + 3)) ≡ Some w)
-word_there byte a w e = ⊎_elim
+-- where a word stands
+pub word_where : (byte : ℕ → Option ℕ) (a w : ℕ) → word_by byte a ≡ Some w → ((a % 4) ≡ 0) × (a ≡ end → ⊥) × (little_endian (byte a) (byte (a + 1)) (byte (a + 2)) (byte (a + 3)) ≡ Some w)
+word_where byte a w e = ⊎_elim
     (λ (even : eqb (a % 4) 0 ≡ true). ⊎_elim
     (λ (here : eqb a end ≡ true). absurd (none-some w (rw (even, here) at e)))
     (λ (ne : eqb a end ≡ false). (eqb-true (a % 4) 0 even, eqb-false a end ne, rw (even, ne) at e))
@@ -93,7 +98,7 @@ unfolding word_at
 words_are m is kept view a w e =
     let bytes : (x b : ℕ) → code_byte is x ≡ Some b → b < 256 = rw (← view) kept.bytes in
     let images : All IsImage is = rw (← view) kept.images in
-    let t = word_there (code_byte is) a w e in
+    let t = word_where (code_byte is) a w e in
     let some = little_some (code_byte is a) (code_byte is (a + 1)) (code_byte is (a + 2)) (code_byte is (a + 3)) w t.2 (bytes a) (bytes (a + 1)) (bytes (a + 2)) (bytes (a + 3)) in
     let below : a < 2 ^ 32 = byte_below is a some.1 images (has_found (λ i. image_byte i a) is some.1 some.2) in
     let even : (a % 4) ≡ 0 = t.0 in

@@ -10,4 +10,5 @@ pub mod Valued
 pub mod Turns
 pub mod Planned
 pub mod Meaning
+pub mod NextWord
 mod Rows

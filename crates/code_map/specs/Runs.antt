@@ -1,7 +1,7 @@
 -- Code bytes kept as runs: bytes at successive addresses, by their starts.
-use Rattle.std.specs.Prelude.{◌≡◌, ℕ, ◌+◌, ◌<◌, List, length, AllPairs, Option}
+use Rattle.std.specs.Prelude.{◌≡◌, ℕ, ◌+◌, ◌<◌, Bool, List, length, AllPairs, Option, is_some}
 use Rattle.code_map.specs.declared.runs.Run.{Run}
-use Rattle.code_map.specs.Words.{byte_from, find_map}
+use Rattle.code_map.specs.Words.{byte_from, find_map, word_by}
 
 abbrev pub run_byte : Run → ℕ → Option ℕ
 run_byte r a = byte_from r.start r.bytes a
@@ -9,6 +9,13 @@ run_byte r a = byte_from r.start r.bytes a
 -- the byte of the first run that has one
 abbrev pub runs_byte : List Run → ℕ → Option ℕ
 runs_byte rs a = find_map (λ r. run_byte r a) rs
+
+-- a word stands wholly in a run, and in runs
+abbrev pub has_word : Run → ℕ → Bool
+has_word r a = is_some (word_by (run_byte r) a)
+
+abbrev pub have_word : List Run → ℕ → Bool
+have_word rs a = is_some (word_by (runs_byte rs) a)
 
 -- the address after the last of a run's
 abbrev pub end_of : Run → ℕ

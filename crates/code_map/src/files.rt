@@ -5,12 +5,13 @@ ghost use Rattle.crpd_base.specs.declared.data.Image.{Image};
 ghost use Rattle.code_map.specs.declared.runs.Run.{Run};
 ghost use Rattle.code_map.specs.Outcome.{Gives};
 ghost use Rattle.code_map.specs.Reading.{files_of};
+ghost use Rattle.code_map.specs.Next.{IsNextOf};
 ghost use Rattle.code_map.specs.Runs.{IsIndex};
 ghost use Rattle.code_map.specs.Words.{image_byte, word_at, owns, end};
 
 use crate::fault::MapError;
 use crate::index::index;
-use crate::runs::{Run, word};
+use crate::runs::{Run, next_word, word};
 use crpd_base::{Image, Items};
 use std::alloc::{AllocError, Global};
 use std::marker::Model;
@@ -95,10 +96,27 @@ impl Files {
         word(runs.as_slice(), address).is_some()
     }
 
+    /// The least address at or after one at which a word stands wholly in the file at a place.
+    pub(crate) fn next_own(&self, place: usize, from: u32) -> Option<u32>
+        requires { place < length self.now }
+        ensures is { (i : Image) → slice_get self.now place ≡ Some i → IsNextOf (owns i) from result }
+        ensures within { IfSome result (λ a. a + 4 ≤ end) }
+    {
+        let own = &self.own.as_slice()[place];
+        next_word(own.as_slice(), from)
+    }
+
     pub(crate) fn images(&self) -> &[Image]
         ensures { result.now ≡ self.now }
     {
         self.images.as_slice()
+    }
+
+    /// The images are those of ELF files.
+    pub(crate) fn images_law(&self)
+        ensures { All IsImage self.now }
+    {
+        let _images = &self.images;
     }
 
     /// A word ends below the address at which jobs end, and has 32 bits.

@@ -1,6 +1,8 @@
 // The code of a task set.
 ghost use Rattle.std.specs.Prelude.{◌≡◌, ℕ, ◌+◌, ◌^◌, ◌<◌, ◌≤◌, length, slice_get, option_map, All, Some, IfSome};
 ghost use Rattle.crpd_base.specs.Images.{IsImage};
+ghost use Rattle.crpd_base.specs.declared.data.Image.{Image};
+ghost use Rattle.code_map.specs.Next.{IsNextOf};
 ghost use Rattle.code_map.specs.Outcome.{Gives};
 ghost use Rattle.code_map.specs.Reading.{code_of};
 ghost use Rattle.code_map.specs.Words.{word_at, owns, end};
@@ -88,6 +90,17 @@ impl CodeMap {
         self.files.own(usize::from(task.0), address)
     }
 
+    /// The least address at or after one at which a word stands wholly in the task's own file, where there is one. So
+    /// the addresses of a task's own words come one after another. Logarithmic in the number of the file's segments,
+    /// and linear in those passed over.
+    pub fn next_own(&self, task: Task, from: u32) -> Option<u32>
+        requires { task.0 < length self.now.images }
+        ensures is { (i : Image) → slice_get self.now.images task.0 ≡ Some i → IsNextOf (owns i) from result }
+        ensures within { IfSome result (λ a. a + 4 ≤ end) }
+    {
+        self.files.next_own(usize::from(task.0), from)
+    }
+
     /// The images of the tasks' files, in the order of the tasks.
     pub fn images(&self) -> &[Image]
         ensures { result.now ≡ self.now.images }
@@ -100,6 +113,13 @@ impl CodeMap {
         ensures { length self.now.plans ≡ length self.now.images }
     {
         let _plans = &self.plans;
+    }
+
+    /// Each image has its segments in the address space, apart from each other, and none with more bytes than its size.
+    pub fn images_law(&self)
+        ensures { All IsImage self.now.images }
+    {
+        self.files.images_law();
     }
 
     /// A word ends below the address at which jobs end, and has 32 bits.

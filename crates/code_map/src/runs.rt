@@ -1,8 +1,9 @@
 // Code bytes kept as runs of bytes at successive addresses, so that a byte is found by the starts of the runs.
-ghost use Rattle.std.specs.Prelude.{◌≡◌, ℕ, ◌+◌, ◌*◌, ◌<◌, ◌≤◌, length, slice_index, AllPairs, Some};
+ghost use Rattle.std.specs.Prelude.{◌≡◌, ℕ, ◌+◌, ◌*◌, ◌<◌, ◌≤◌, length, slice_index, AllPairs, Some, IfSome};
 ghost use Rattle.std.specs.List.{AllWithin};
-ghost use Rattle.code_map.specs.Words.{little_endian, word_by};
-ghost use Rattle.code_map.specs.Runs.{run_byte, runs_byte, IsBefore};
+ghost use Rattle.code_map.specs.Words.{little_endian, word_by, end};
+ghost use Rattle.code_map.specs.Next.{IsNextAddress};
+ghost use Rattle.code_map.specs.Runs.{run_byte, runs_byte, has_word, have_word, IsBefore};
 
 use crpd_base::Items;
 
@@ -62,4 +63,35 @@ pub(crate) fn word(runs: &[Run], address: u32) -> Option<u32>
         return None;
     }
     number_in(&runs[count - 1], address)
+}
+
+/// The least address at or after one at which a word stands in a run.
+fn next_in(run: &Run, from: u32) -> Option<u32>
+    ensures is { IsNextAddress (has_word run.now) from result }
+    ensures within { IfSome result (λ a. a + 4 ≤ end) }
+{
+    let low = run.start.max(from);
+    if low >= END {
+        return None;
+    }
+    let address = low + (4 - low % 4) % 4;
+    if address == END || number_in(run, address).is_none() {
+        return None;
+    }
+    Some(address)
+}
+
+/// The least address at or after one at which a word stands in runs.
+pub(crate) fn next_word(runs: &[Run], from: u32) -> Option<u32>
+    requires { AllPairs IsBefore runs.now }
+    ensures is { IsNextAddress (have_word runs.now) from result }
+    ensures within { IfSome result (λ a. a + 4 ≤ end) }
+{
+    let first = runs_up_to(runs, from).saturating_sub(1);
+    for run in &runs[first..] {
+        if let Some(address) = next_in(run, from) {
+            return Some(address);
+        }
+    }
+    None
 }

@@ -411,6 +411,24 @@ fn words(rt: HostRuntime) -> Result<(), Fail> {
         let got = told(rt.alloc(), &code, address)?;
         assert_eq!(rt; got.as_str(), want, "at {address:x}");
     }
+    let next = [
+        (0, 0, Some(0x1000)),
+        (0, 0x1005, None),
+        (1, 0x1FFF, Some(0x2000)),
+        (1, 0x2001, Some(0x2004)),
+        (1, 0x2005, None),
+        (2, 0, None),
+        (3, 0, Some(0xFFFF_FFF8)),
+        (3, 0xFFFF_FFF9, None),
+    ];
+    for (task, from, want) in next {
+        assert!(rt; usize::from(task) < code.images().len());
+        assert_eq!(rt;
+            code.next_own(Task(task), from),
+            want,
+            "task {task} from {from:x}"
+        );
+    }
     Ok(())
 }
 

@@ -18,7 +18,7 @@ const HEADERS: [u8; 84] = [
     0, 16, 0, 0, 0, 16, 0, 0, 8, 0, 0, 0, 8, 0, 0, 0, 5, 0, 0, 0, 4, 0, 0, 0,
 ];
 
-// `addi x5,x0,1`, `lw x5,0(x0)`, `ecall`, `addi x0,x0,0` and `jal x0,0`.
+// `addi x5,x0,1`, `lw x5,0(x0)`, `ecall`, `addi x0,x0,0`, `jal x0,0` and `mul x5,x6,x7`.
 const ADDI: [u8; 4] = [147, 2, 16, 0];
 
 const LW: [u8; 4] = [131, 34, 0, 0];
@@ -28,6 +28,8 @@ const ECALL: [u8; 4] = [115, 0, 0, 0];
 const NOP: [u8; 4] = [19, 0, 0, 0];
 
 const JAL: [u8; 4] = [111, 0, 0, 0];
+
+const MUL: [u8; 4] = [179, 2, 115, 2];
 
 fn program_of(alloc: Global, first: [u8; 4], second: [u8; 4]) -> Result<Vec<u8>, AllocError> {
     let mut bytes = HEADERS.to_vec(alloc)?;
@@ -39,10 +41,11 @@ fn program_of(alloc: Global, first: [u8; 4], second: [u8; 4]) -> Result<Vec<u8>,
 // What a certificate states: the platform's sets, bound, window and response.
 type Numbers = (u32, u64, u64, u64);
 
+// A certificate of version 1 that lists both nodes of two words.
 fn certificate_of(alloc: Global, numbers: Numbers) -> Result<String, AllocError> {
     let (sets, bound, window, response) = numbers;
     format!(in alloc;
-        "{{\"platform\":{{\"data\":3,\"hit\":1,\"line\":16,\"miss\":10,\"sets\":{sets},\"switch\":5,\"taken\":2}},\"tasks\":[{{\"bound\":{bound},\"method\":\"ucb\",\"name\":\"one\",\"response\":{response},\"window\":{window}}}],\"version\":1}}"
+        "{{\"platform\":{{\"data\":3,\"hit\":1,\"line\":16,\"miss\":10,\"sets\":{sets},\"switch\":5,\"taken\":2}},\"tasks\":[{{\"bound\":{bound},\"evicting\":[0],\"loops\":[],\"method\":\"ucb\",\"name\":\"one\",\"potentials\":[{bound},1],\"response\":{response},\"states\":[[0,[],[]],[1,[0,256],[0]]],\"useful\":[0],\"window\":{window}}}],\"version\":1}}"
     )
 }
 
@@ -191,7 +194,7 @@ fn the_refusals(rt: HostRuntime) -> Result<(), Fail> {
             set.clone()?,
             program_of(alloc, NOP, JAL)?,
             certificate.clone()?,
-            "refused 90 NotYet one.elf -\n",
+            "refused 90 NotYet set.toml -\n",
         ),
         (
             none.clone()?,
@@ -221,12 +224,120 @@ fn the_refusals(rt: HostRuntime) -> Result<(), Fail> {
             set.clone()?,
             program.clone()?,
             set.clone()?,
-            "refused 90 NotYet cert.json -\n",
+            "refused 70 NotJson cert.json -\n",
         ),
     ];
     for (set, program, certificate, text) in cases {
         let files = files_of(alloc, set, program, certificate)?;
         check_ends(&rt, alloc, files, (NEVER, NEVER), Status::Refused, text)?;
+    }
+    Ok(())
+}
+
+// A set of two tasks is not of the form, whatever the certificate; a file that is no ELF file is refused before.
+#[test]
+fn the_order_of_refusals(rt: HostRuntime) -> Result<(), Fail> {
+    let alloc = rt.alloc();
+    let one = set_of(alloc, 100)?;
+    let table = one.as_str();
+    let two = format!(in alloc;
+        "{table}[[task]]\nname = \"two\"\nfile = \"one.elf\"\nperiod = 100\njitter = 0\ndeadline = 100\n"
+    )?;
+    let program = program_of(alloc, ADDI, ECALL)?;
+    let mut short = program.clone()?;
+    short.truncate(51);
+    let mut longer = program.clone()?;
+    longer.truncate(91);
+    let none = Vec::new(alloc);
+    let cases = [
+        (two.as_str(), program.clone()?, "refused 90 NotYet set.toml -\n"),
+        (two.as_str(), short, "refused 1 Short one.elf -\n"),
+        (two.as_str(), longer, "refused 8 SegmentOutside one.elf 0\n"),
+        (table, program.clone()?, "refused 80 NoFile cert.json -\n"),
+        ("x", none.clone()?, "refused 20 NotToml set.toml -\n"),
+    ];
+    for (set, program, text) in cases {
+        let set = set.as_bytes().to_vec(alloc)?;
+        let files = files_of(alloc, set, program, Vec::new(alloc))?;
+        check_ends(&rt, alloc, files, (NEVER, NEVER), Status::Refused, text)?;
+    }
+    Ok(())
+}
+
+// A certificate of version 2 that lists the first node alone, for this cost of a multiplication.
+fn second_of(alloc: Global, mul: u32, bound: u64, window: u64) -> Result<String, AllocError> {
+    format!(in alloc;
+        "{{\"platform\":{{\"data\":3,\"div\":0,\"hit\":1,\"line\":16,\"miss\":10,\"mul\":{mul},\"sets\":4,\"switch\":5,\"switching\":\"cycle\",\"taken\":2}},\"tasks\":[{{\"bound\":{bound},\"evicting\":[0],\"loops\":[],\"method\":\"ucb\",\"name\":\"one\",\"potentials\":[{bound},1],\"response\":{window},\"states\":[[0,[],[]]],\"useful\":[0],\"window\":{window}}}],\"version\":2}}"
+    )
+}
+
+#[test]
+fn certificates(rt: HostRuntime) -> Result<(), Fail> {
+    let alloc = rt.alloc();
+    let deep = vec![in alloc; b'['; 200]?;
+    let long = certificate_of(alloc, (4, 12, 1_099_511_627_777, 17))?;
+    let second = second_of(alloc, 0, 12, 17)?;
+    let cases = [
+        (second.as_bytes(), Status::Done, YES),
+        (
+            b"{}".as_slice(),
+            Status::Refused,
+            "refused 71 Missing cert.json version\n",
+        ),
+        (
+            b"{\"version\":3}".as_slice(),
+            Status::Refused,
+            "refused 74 OtherVersion cert.json 3\n",
+        ),
+        (
+            b"7".as_slice(),
+            Status::Refused,
+            "refused 72 BadValue cert.json -\n",
+        ),
+        (
+            deep.as_slice(),
+            Status::Refused,
+            "refused 70 NotJson cert.json -\n",
+        ),
+        (
+            long.as_bytes(),
+            Status::Refused,
+            "refused 72 BadValue cert.json tasks.0.window\n",
+        ),
+    ];
+    for (certificate, status, text) in cases {
+        let files = files_of(
+            alloc,
+            set_of(alloc, 100)?.into_bytes(),
+            program_of(alloc, ADDI, ECALL)?,
+            certificate.to_vec(alloc)?,
+        )?;
+        check_ends(&rt, alloc, files, (NEVER, NEVER), status, text)?;
+    }
+    Ok(())
+}
+
+// A certificate of version 1 has no cost of a multiplication.
+#[test]
+fn multiplication(rt: HostRuntime) -> Result<(), Fail> {
+    let alloc = rt.alloc();
+    let first = certificate_of(alloc, (4, 12, 17, 17))?;
+    let cases = [
+        (ADDI, first, Status::No, "no one clause 1 place 0\n"),
+        (
+            MUL,
+            second_of(alloc, 4, 16, 21)?,
+            Status::Done,
+            "yes\none bound 16 window 21 response 21 method ucb\n",
+        ),
+    ];
+    for (word, certificate, status, text) in cases {
+        let rest = set_of(alloc, 100)?;
+        let rest = rest.as_str().trim_start_matches("[platform]\n");
+        let set = format!(in alloc; "[platform]\nmul = 4\n{rest}")?;
+        let program = program_of(alloc, word, ECALL)?;
+        let files = files_of(alloc, set.into_bytes(), program, certificate.into_bytes())?;
+        check_ends(&rt, alloc, files, (NEVER, NEVER), status, text)?;
     }
     Ok(())
 }

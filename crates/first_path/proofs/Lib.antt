@@ -1,4 +1,3 @@
 pub mod Turns
 pub mod OneTask
-pub mod Formed
 pub mod Straight

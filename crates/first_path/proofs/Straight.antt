@@ -1,150 +1,222 @@
--- A program of the form is a path, and a yes to it gives the path room.
-use Rattle.std.proofs.Common.{◌≡◌, ℕ, zero, suc, ◌+◌, ◌-◌, ◌*◌, ◌/◌, ◌%◌, ◌≤◌, Bool, true, false, not, ◌&&◌, cond, nat_le, nat_eq, List, [], ◌∷◌, length, drop, Option, Some, None, refl, sym, ◌∙◌, ap, subst, arith}
-use Rattle.std.specs.Prelude.{slice_get, ◌==◌}
+-- Straight code is a path, and a yes to it gives the path room.
+use Rattle.std.proofs.Common.{◌≡◌, ℕ, zero, suc, ◌+◌, ◌≤◌, Bool, true, false, not, cond, nat_le, nat_eq, List, [], ◌∷◌, length, Option, Some, None, refl, sym, ◌∙◌, ap, subst, arith}
+use Rattle.std.specs.Prelude.{slice_get, slice_index_or, option_and_then, option_map, map, ◌==◌}
+use Rattle.icache.specs.Cache.{block_of}
+use Rattle.rv_decode.specs.Cost.{cost}
 use Rattle.std.specs.Str.{bytes_eq}
-use Rattle.std.proofs.lemmas.Bool.{leb-true, le-leb, eqb-true, eq-eqb, and_parts, and_from, false≢true}
-use Rattle.crpd_base.specs.declared.data.Platform.{Platform}
+use Rattle.std.proofs.lemmas.Bool.{leb-true, eqb-true, and_parts, false≢true}
+use Rattle.crpd_base.specs.declared.data.Certificate.{Certificate}
+use Rattle.crpd_base.specs.declared.data.TaskPart.{TaskPart}
+use Rattle.crpd_base.specs.declared.data.TaskPlan.{TaskPlan}
+use Rattle.crpd_base.specs.declared.data.TaskSet.{TaskSet}
+use Rattle.crpd_base.specs.declared.data.TaskSpec.{TaskSpec}
+use Rattle.crpd_base.specs.Ranges.{IsTaskSpec, IsTaskSet}
+use Rattle.crpd_base.specs.Tasks.{deadline_of, jitter_of}
 use Rattle.rv_decode.specs.declared.Ins.{Ins}
 use Rattle.rv_decode.specs.declared.Ins.TheVariants.{Ecall, Ebreak}
-use Rattle.rv_decode.specs.Table.{row, table}
-use Rattle.rv_decode.specs.Cost.{cost}
-use Rattle.rv_decode.specs.Address.{after}
-use Rattle.preempt_machine.specs.Machine.{System, runnable, ins_at}
-use Rattle.first_form.specs.declared.task.OneTask.{OneTask}
-use Rattle.first_form.specs.declared.program.Program.{Program}
-use Rattle.first_form.specs.declared.certificate.Stated.{Stated}
+use Rattle.rv_decode.specs.Address.{after, end}
+use Rattle.rv_decode.specs.Flow.{Words, IsCodeMap}
+use Rattle.rv_decode.specs.Table.{row}
+use Rattle.code_map.specs.Words.{Code, word_at}
+use Rattle.evict_sets.specs.Certificate.{no_cert, cert_at}
+use Rattle.cert_check.specs.Judge.{responses}
+use Rattle.preempt_machine.specs.Machine.{System, runnable, ins_at, plan_of}
+use Rattle.preempt_machine.specs.Safe.{IsSafe, system_of}
+use Rattle.first_form.specs.declared.straight.Straight.{Straight}
 use Rattle.first_form.specs.declared.outcome.Verdict.{Verdict}
 use Rattle.first_form.specs.declared.outcome.Verdict.TheVariants.{Yes, No}
-use Rattle.first_form.specs.ProgramForm.{is_plain_ins, is_plain_row, is_plain, is_straight}
-use Rattle.first_form.specs.Judge.{word_cost, rest_cost, program_cost, same_platform, judge_times, judge}
-use Rattle.first_path.specs.FirstPath.{leaves_block, Path, last, more, HasFirstPath}
-use Rattle.first_path.specs.Form.{task_set, word_from, system_of, YesIsSafe}
-use Rattle.first_path.proofs.Formed.{IsFormedProgram, set_formed, program_formed}
+use Rattle.first_form.specs.Straight.{is_plain, is_ecall, instruction_at, straight_from, has_form, straight_by, straight_of}
+use Rattle.first_form.specs.Judge.{cost_from, straight_cost, demand_by, Clause, clauses, first_failure, judge}
+use Rattle.first_path.specs.FirstPath.{Path, last, more, HasFirstPath}
+use Rattle.first_path.specs.Form.{YesIsSafe}
 use Rattle.first_path.proofs.OneTask.{first_path_is_safe}
 
--- ---- words of a list
+-- the value on which a step went on
+then_some : {A B : Type 0} (f : A → Option B) (o : Option A) (y : B) → option_and_then f o ≡ Some y → (x : A) × (o ≡ Some x) × (f x ≡ Some y)
+then_some f None y e = absurd cc
+then_some f (Some x) y e = (x, refl, e)
 
-got : (xs : List ℕ) (i w : ℕ) (ws : List ℕ) → drop i xs ≡ w ∷ ws → slice_get xs i ≡ Some w
-got [] zero w ws e = absurd cc
-got [] (suc i) w ws e = absurd cc
-got (x ∷ xs) zero w ws e = cc
-got (x ∷ xs) (suc i) w ws e = got xs i w ws e
-
-next : (xs : List ℕ) (i w : ℕ) (ws : List ℕ) → drop i xs ≡ w ∷ ws → drop (suc i) xs ≡ ws
-next [] zero w ws e = absurd cc
-next [] (suc i) w ws e = absurd cc
-next (x ∷ xs) zero w ws e = cc
-next (x ∷ xs) (suc i) w ws e = next xs i w ws e
+-- a test that was passed
+test_some : {A : Type 0} (b : Bool) (o : Option A) (y : A) → cond b o None ≡ Some y → (b ≡ true) × (o ≡ Some y)
+test_some true o y e = (refl, e)
+test_some false o y e = absurd cc
 
 -- ---- instructions
 
-runs : (ins : Ins) → is_plain_ins ins ≡ true → runnable ins ≡ Some ins
-runs Ebreak h = absurd (false≢true h)
-runs _ h = refl
+-- the instruction at an address of a code map ends below the last address
+instruction_below : (words : Words) (a : ℕ) (ins : Ins) → IsCodeMap words → instruction_at words a ≡ Some ins → a + 4 ≤ end
+instruction_below words a ins ends at = let w = then_some row (words a) ins at in ends a w.0 w.1
 
--- the instruction of a plain word
-plain_row : (o : Option Ins) → is_plain_row o ≡ true → (ins : Ins) × (o ≡ Some ins) × (is_plain_ins ins ≡ true)
-plain_row None h = absurd (false≢true h)
-plain_row (Some ins) h = (ins, refl, h)
+after_is : (a : ℕ) → a + 4 ≤ end → after a ≡ a + 4
+after_is a h = omega (arith, h)
 
-plain_word : (w : ℕ) → is_plain w ≡ true → (ins : Ins) × (row w ≡ Some ins) × (is_plain_ins ins ≡ true)
-unfolding is_plain
-plain_word w h = plain_row (row w) h
+plain_runs : (ins : Ins) → is_plain ins ≡ true → runnable ins ≡ Some ins
+plain_runs Ebreak h = absurd (false≢true h)
+plain_runs _ h = refl
 
-ecall_row : row 115 ≡ Some Ecall
-unfolding row table
-ecall_row = refl
+ecall_is : (ins : Ins) → is_ecall ins ≡ true → ins ≡ Ecall
+ecall_is Ecall h = refl
+ecall_is _ h = absurd (false≢true h)
 
-cost_of : (p : Platform) (w : ℕ) (missed : Bool) (ins : Ins) → row w ≡ Some ins → word_cost p w missed ≡ cost p ins missed false
-unfolding word_cost
-cost_of p w missed ins e = rw e refl
-
-module _ (task : OneTask) (program : Program) where
-  abbrev sys : System
-  sys = system_of task program
-
-  word_there : (a i w : ℕ) → a ≡ program.start + 4 * i → slice_get program.words i ≡ Some w → word_from program.start program.words a ≡ Some w
-  word_there a i w at e =
-      let d : a - program.start ≡ 4 * i = omega (arith, at) in
-      let m : (a - program.start) % 4 ≡ 0 = omega (arith, d) in
-      let q : (a - program.start) / 4 ≡ i = omega (arith, d) in
-      let t : (nat_le program.start a && ((a - program.start) % 4 == 0)) ≡ true = and_from _ _ (le-leb _ _ (omega (arith, at))) (eq-eqb _ _ m) in
-      rw (t, q) e
-
-  ins_there : (a i w : ℕ) (ins : Ins) → a ≡ program.start + 4 * i → slice_get program.words i ≡ Some w → row w ≡ Some ins → runnable ins ≡ Some ins → ins_at sys a ≡ Some ins
+module _ (sys : System) where
+  ins_there : (a : ℕ) (ins : Ins) → instruction_at sys.word a ≡ Some ins → runnable ins ≡ Some ins → ins_at sys a ≡ Some ins
   unfolding ins_at
-  ins_there a i w ins at e is can = rw (word_there a i w at e, is) can
+  ins_there a ins at runs = let w = then_some row (sys.word a) ins at in rw (w.1, w.2) runs
 
-  path : (a i w : ℕ) (ws : List ℕ) (missed : Bool) → a ≡ program.start + 4 * i → drop i program.words ≡ w ∷ ws → is_straight (w ∷ ws) ≡ true → a + 4 * length (w ∷ ws) ≤ 4294967292
-      → Path sys a missed (word_cost task.platform w missed + rest_cost task.platform (a / task.platform.line) (a + 4) ws)
-  path a i w [] missed at from straight below =
-      let is : w ≡ 115 = eqb-true w 115 straight in
-      let r : row w ≡ Some Ecall = ap row is ∙ ecall_row in
-      last (ins_there a i w Ecall at (got program.words i w [] from) r refl) (let c = cost_of task.platform w missed Ecall r in omega (arith, c))
-  path a i w (v ∷ vs) missed at from straight below =
-      let both = and_parts (is_plain w) (is_straight (v ∷ vs)) straight in
-      let ins = plain_word w both.0 in
-      let after_is : after a ≡ a + 4 = after_small a (omega (arith, below)) in
-      let rest = path (after a) (suc i) v vs (leaves_block sys a) (omega (arith, at, after_is)) (next program.words i w (v ∷ vs) from) both.1 (omega (arith, below, after_is)) in
-      let c = cost_of task.platform w missed ins.0 ins.1 in
-      let same : word_cost task.platform w missed + rest_cost task.platform (a / task.platform.line) (a + 4) (v ∷ vs)
-      ≡ cost task.platform ins.0 missed false + (word_cost task.platform v (leaves_block sys a) + rest_cost task.platform (after a / task.platform.line) (after a + 4) vs) =
-      ap (λ n. n + rest_cost task.platform (a / task.platform.line) (a + 4) (v ∷ vs)) c
-      ∙ ap (λ z. cost task.platform ins.0 missed false + (word_cost task.platform v (not (nat_eq (z / task.platform.line) (a / task.platform.line))) + rest_cost task.platform (z / task.platform.line) (z + 4) vs)) (sym after_is) in
-      more ins.0 _ (ins_there a i w ins.0 at (got program.words i w (v ∷ vs) from) ins.1 (runs ins.0 ins.2)) ins.2 same rest
-    where
-      after_small : (a : ℕ) → a + 4 ≤ 4294967292 → after a ≡ a + 4
-      after_small a h = omega (arith, h)
+  ecall_there : (a : ℕ) (ins : Ins) → instruction_at sys.word a ≡ Some ins → is_ecall ins ≡ true → ins_at sys a ≡ Some Ecall
+  ecall_there a ins at e = ins_there a Ecall (at ∙ ap (λ i. Some i) (ecall_is ins e)) refl
 
-  whole_path : (words : List ℕ) → program.words ≡ words → IsFormedProgram program → Path sys program.start true (program_cost task.platform program.start words)
-  whole_path [] e f = absurd (false≢true (subst (λ ws. is_straight ws ≡ true) e f.straight))
-  whole_path (w ∷ ws) e f =
-      path program.start 0 w ws true (omega arith) e (subst (λ l. is_straight l ≡ true) e f.straight) (subst (λ (l : List ℕ). program.start + 4 * length l ≤ 4294967292) e f.below)
+  -- straight code is a path of its cost
+  module _ (ends : IsCodeMap sys.word) where
+    abbrev PathBehind : ℕ → ℕ → Type 0
+    PathBehind n a = (missed : Bool) (later : List Ins) → straight_from sys.word n (a + 4) ≡ Some later → Path sys (a + 4) missed (cost_from sys.platform missed (a + 4) later)
+
+    path_by_plain : (n a : ℕ) (missed : Bool) (code : List Ins) (ins : Ins) → PathBehind n a → instruction_at sys.word a ≡ Some ins → (plain : Bool) → is_plain ins ≡ plain → (o : Option (List Ins)) → straight_from sys.word n (a + 4) ≡ o
+        → cond plain (option_map (λ later. ins ∷ later) o) None ≡ Some code → Path sys a missed (cost_from sys.platform missed a code)
+    path_by_plain n a missed code ins behind at false p o rest f = absurd cc
+    path_by_plain n a missed code ins behind at true p None rest f = absurd cc
+    path_by_plain n a missed code ins behind at true p (Some later) rest f =
+        let is : ins ∷ later ≡ code = cc in
+        let there = ins_there a ins at (plain_runs ins p) in
+        let next = after_is a (instruction_below sys.word a ins ends at) in
+        let leaves = not (block_of sys.platform (a + 4) == block_of sys.platform a) in
+        subst (λ c. Path sys a missed (cost_from sys.platform missed a c)) is
+        (more ins (cost_from sys.platform leaves (a + 4) later) there p refl
+        (subst (λ b. Path sys b (not (block_of sys.platform b == block_of sys.platform a)) (cost_from sys.platform leaves (a + 4) later)) (sym next) (behind leaves later rest)))
+
+    path_by_kind : (n a : ℕ) (missed : Bool) (code : List Ins) (ins : Ins) → PathBehind n a → instruction_at sys.word a ≡ Some ins → (ecall : Bool) → is_ecall ins ≡ ecall
+        → cond ecall (Some (ins ∷ [])) (cond (is_plain ins) (option_map (λ later. ins ∷ later) (straight_from sys.word n (a + 4))) None) ≡ Some code → Path sys a missed (cost_from sys.platform missed a code)
+    path_by_kind n a missed code ins behind at true e f =
+        let is : ins ∷ [] ≡ code = cc in
+        subst (λ c. Path sys a missed (cost_from sys.platform missed a c)) is (last (ecall_there a ins at e) (ap (λ i. cost sys.platform i missed false + 0) (ecall_is ins e) ∙ zero_more (cost sys.platform Ecall missed false)))
+      where
+        zero_more : (n : ℕ) → n + 0 ≡ n
+        zero_more n = omega arith
+    path_by_kind n a missed code ins behind at false e f = path_by_plain n a missed code ins behind at (is_plain ins) refl (straight_from sys.word n (a + 4)) refl f
+
+    -- straight code is a path of its cost
+    path : (n a : ℕ) (missed : Bool) (code : List Ins) → straight_from sys.word n a ≡ Some code → Path sys a missed (cost_from sys.platform missed a code)
+    unfolding straight_from
+    path zero a missed code e = absurd cc
+    path (suc n) a missed code e =
+        let first = then_some _ (instruction_at sys.word a) code e in
+        path_by_kind n a missed code first.0 (λ m later. path n (a + 4) m later) first.1 (is_ecall first.0) refl first.2
+
+-- ---- the form
+
+-- what the form says of a set and its code
+pub record HasForm (set : TaskSet) (code : Code) (straight : Straight) : Type 0 where
+  pub task : TaskSpec
+  pub one : set.tasks ≡ task ∷ []
+  pub plan : TaskPlan
+  pub first_plan : slice_get code.plans 0 ≡ Some plan
+  pub entry : plan.entry ≡ straight.entry
+  pub instructions : straight_from (word_at code.images) 16384 straight.entry ≡ Some straight.instructions
+
+only_task : (tasks : List TaskSpec) → has_form tasks ≡ true → (task : TaskSpec) × (tasks ≡ task ∷ [])
+only_task [] h = absurd (false≢true h)
+only_task (task ∷ []) h = (task, refl)
+only_task (task ∷ other ∷ tasks) h = absurd (false≢true h)
+
+-- what was read at a plan's entry
+read_is : (words : Words) (most : ℕ) (plan : TaskPlan) (straight : Straight) (o : Option (List Ins)) → straight_from words most plan.entry ≡ o
+    → option_map (λ instructions. record { entry = plan.entry; instructions = instructions }) o ≡ Some straight
+    → (plan.entry ≡ straight.entry) × (straight_from words most straight.entry ≡ Some straight.instructions)
+read_is words most plan straight None read e = absurd cc
+read_is words most plan straight (Some instructions) read e =
+    let is : ◌≡◌ {A = Straight} (record { entry = plan.entry; instructions = instructions }) straight = cc in
+    subst (λ (s : Straight). (plan.entry ≡ s.entry) × (straight_from words most s.entry ≡ Some s.instructions)) is (refl, read)
+
+form : (set : TaskSet) (code : Code) (straight : Straight) → straight_of set code ≡ Some straight → HasForm set code straight
+unfolding straight_of
+form set code straight e =
+    let t = test_some (has_form set.tasks) _ straight e in
+    let one = only_task set.tasks t.0 in
+    let plan = then_some (straight_by (word_at code.images)) (slice_get code.plans 0) straight t.1 in
+    let read = read_is (word_at code.images) 16384 plan.0 straight (straight_from (word_at code.images) 16384 plan.0.entry) refl plan.2 in
+    record { task = one.0; one = one.1; plan = plan.0; first_plan = plan.1; entry = read.0; instructions = read.1 }
 
 -- ---- the judge
 
-passed : (b : Bool) (clause place : ℕ) (rest : Verdict) → cond (not b) (No clause place) rest ≡ Yes → (b ≡ true) × (rest ≡ Yes)
-passed true clause place rest e = (refl, e)
-passed false clause place rest e = absurd cc
+abbrev AllHold : List Clause → Type 0
+AllHold [] = Unit {0}
+AllHold (c ∷ later) = (c.2 ≡ true) × AllHold later
 
--- what a yes says of the times
-pub record HasRoom (task : OneTask) (program : Program) (s : Stated) : Type 0 where
-  pub bound : program_cost task.platform program.start program.words ≤ s.claim.bound
-  pub window : task.platform.switch + s.claim.bound ≤ s.claim.window
-  pub response : s.claim.response ≡ s.claim.window + task.times.jitter
-  pub deadline : s.claim.response ≤ task.times.deadline
+passed : (holds : Bool) (rest : Verdict) (number place : ℕ) → cond holds rest (No number place) ≡ Yes → (holds ≡ true) × (rest ≡ Yes)
+passed true rest number place e = (refl, e)
+passed false rest number place e = absurd cc
 
-room : (task : OneTask) (program : Program) (s : Stated) → judge task program s ≡ Yes → HasRoom task program s
+-- where no clause is the first to fail, all hold
+all_hold : (cs : List Clause) → first_failure cs ≡ Yes → AllHold cs
+all_hold [] e = tt
+all_hold (c ∷ later) e = let p = passed c.2 (first_failure later) c.0 c.1 e in (p.0, all_hold later p.1)
+
+only_part : (parts : List TaskPart) → nat_eq (length parts) 1 ≡ true → parts ≡ slice_index_or parts 0 no_cert ∷ []
+only_part [] h = absurd (false≢true h)
+only_part (part ∷ []) h = refl
+only_part (part ∷ other ∷ parts) h = let l = eqb-true (length (part ∷ other ∷ parts)) 1 h in absurd (two (length parts) l)
+  where
+    two : (n : ℕ) → suc (suc n) ≡ 1 → ⊥
+    two n e = omega arith
+
+-- what a yes says of the only part of a certificate
+pub record HasRoom (set : TaskSet) (straight : Straight) (c : Certificate) : Type 0 where
+  pub one : c.tasks ≡ cert_at c 0 ∷ []
+  pub bound : straight_cost set.platform straight ≤ (cert_at c 0).part.bound
+  pub window : set.platform.switch + (cert_at c 0).part.bound ≤ (cert_at c 0).window
+  pub response : (cert_at c 0).response ≡ (cert_at c 0).window + jitter_of set 0
+  pub deadline : (cert_at c 0).response ≤ deadline_of set 0
+
+demand_room : (set : TaskSet) (straight : Straight) (part : TaskPart) → demand_by set straight part ≤ part.window → set.platform.switch + part.part.bound ≤ part.window
+demand_room set straight part h = omega (arith, h)
+
+room : (set : TaskSet) (straight : Straight) (c : Certificate) → judge set straight c ≡ Yes → HasRoom set straight c
 unfolding judge
-room task program s e =
-    let platform = passed (same_platform task.platform s.platform) 1 0 _ e in
-    let name = passed (bytes_eq task.name s.name) 1 2 _ platform.1 in
-    let bound = passed (nat_le (program_cost task.platform program.start program.words) s.claim.bound) 7 0 (judge_times task s) name.1 in
-    let window = passed (nat_le 1 s.claim.window && nat_le (task.platform.switch + s.claim.bound) s.claim.window) 8 0 _ bound.1 in
-    let response = passed (nat_eq s.claim.response (s.claim.window + task.times.jitter)) 9 0 _ window.1 in
-    let deadline = passed (nat_le s.claim.response task.times.deadline) 9 1 Yes response.1 in
+room set straight c e =
+    let all = all_hold (clauses set straight c) e in
+    let some = all.1 in
+    let name = some.1 in
+    let one = name.1 in
+    let bound = one.1 in
+    let window = bound.1 in
+    let response = window.1 in
+    let deadline = response.1 in
     record {
+      one = only_part c.tasks one.0;
       bound = leb-true _ _ bound.0;
-      window = leb-true _ _ (and_parts _ _ window.0).1;
+      window = demand_room set straight (cert_at c 0) (leb-true _ _ (and_parts (nat_le 1 (cert_at c 0).window) (nat_le (demand_by set straight (cert_at c 0)) (cert_at c 0).window) window.0).1);
       response = eqb-true _ _ response.0;
       deadline = leb-true _ _ deadline.0;
     }
 
-pub yes_is_safe : YesIsSafe
-yes_is_safe set_bytes program_bytes task program stated set_is program_is yes_is =
-    let t = set_formed set_bytes task set_is in
-    let f = program_formed program_bytes program program_is in
-    let r = room task program stated yes_is in
-    let is = r.response in
-    let has : HasFirstPath (system_of task program) (task_set task) _ (program_cost task.platform program.start program.words) stated.claim.window =
+first_is : (plans : List TaskPlan) (plan other : TaskPlan) → slice_get plans 0 ≡ Some plan → slice_index_or plans 0 other ≡ plan
+first_is [] plan other e = absurd cc
+first_is (first ∷ plans) plan other e = cc
+
+-- the set's path and room
+has_path : (set : TaskSet) (code : Code) (straight : Straight) (c : Certificate) → IsTaskSet set → IsCodeMap (word_at code.images) → (f : HasForm set code straight) → HasRoom set straight c
+    → HasFirstPath (system_of set code) set f.task (straight_cost set.platform straight) (cert_at c 0).window
+has_path set code straight c T ends f r =
+    let task : IsTaskSpec f.task = (subst (λ ts. Rattle.std.specs.Prelude.All IsTaskSpec ts) f.one T.each) 0 f.task (omega arith) in
+    let jitter : jitter_of set 0 ≡ f.task.jitter = ap (λ ts. slice_index_or (map (λ (t : TaskSpec). t.jitter) ts) 0 0) f.one in
+    let deadline : deadline_of set 0 ≡ f.task.deadline = ap (λ ts. slice_index_or (map (λ (t : TaskSpec). t.deadline) ts) 0 0) f.one in
+    let entry : (plan_of (system_of set code) 0).entry ≡ straight.entry = ap (λ (p : TaskPlan). p.entry) (first_is code.plans f.plan _ f.first_plan) ∙ f.entry in
     record {
-      tasks = refl;
-      path = whole_path task program program.words refl f;
-      room = let b = r.bound in let w = r.window in omega (arith, b, w);
-      response = let d = r.deadline in omega (arith, d, is);
-      deadline = t.deadline;
-      hit = t.platform.hit;
-      some_set = t.platform.sets;
-    } in
-    subst (λ n. Rattle.preempt_machine.specs.Safe.IsSafe (system_of task program) (task_set task) (n ∷ [])) (sym is)
-    (first_path_is_safe (system_of task program) (task_set task) _ (program_cost task.platform program.start program.words) stated.claim.window has)
+      tasks = f.one;
+      path = subst (λ a. Path (system_of set code) a true (straight_cost set.platform straight)) (sym entry) (path (system_of set code) ends 16384 straight.entry true straight.instructions f.instructions);
+      room = omega (arith, r.bound, r.window);
+      response = omega (arith, r.response, r.deadline, jitter, deadline);
+      deadline = task.deadline.1;
+      hit = T.platform.hit.0;
+      some_set = omega (arith, T.platform.sets.0);
+    }
+
+pub yes_is_safe : YesIsSafe
+yes_is_safe set code straight c T ends is says =
+    let f = form set code straight is in
+    let r = room set straight c says in
+    let jitter : jitter_of set 0 ≡ f.task.jitter = ap (λ ts. slice_index_or (map (λ (t : TaskSpec). t.jitter) ts) 0 0) f.one in
+    let reported : responses c ≡ ((cert_at c 0).window + f.task.jitter) ∷ [] =
+    ap (λ parts. map (λ (t : TaskPart). t.response) parts) r.one ∙ ap (λ n. n ∷ []) (r.response ∙ ap (λ j. (cert_at c 0).window + j) jitter) in
+    subst (λ rs. IsSafe (system_of set code) set rs) (sym reported)
+    (first_path_is_safe (system_of set code) set f.task (straight_cost set.platform straight) (cert_at c 0).window (has_path set code straight c T ends f r))

@@ -13,10 +13,10 @@ use Rattle.icache.specs.Cache.{Cache, block_of, set_of, is_hit, accessed}
 use Rattle.preempt_machine.specs.Machine.{System, Open, Answered, ins_at}
 use Rattle.preempt_machine.specs.Step.{Turn, turned, executed, worked, fetched, fetch_cost, goes_on}
 use Rattle.first_path.specs.FirstPath.{leaves_block, Path, last, more}
-use Rattle.first_form.specs.ProgramForm.{is_plain_ins}
+use Rattle.first_form.specs.Straight.{is_plain}
 
 -- a plain instruction goes on, whatever the registers
-plain_goes : (ins : Ins) (pc : ℕ) (r : Rattle.std.specs.Prelude.List ℕ) → is_plain_ins ins ≡ true → next_pc ins pc r ≡ Goto (after pc)
+plain_goes : (ins : Ins) (pc : ℕ) (r : Rattle.std.specs.Prelude.List ℕ) → is_plain ins ≡ true → next_pc ins pc r ≡ Goto (after pc)
 unfolding next_pc
 plain_goes (Jal _ _) pc r h = absurd (false≢true h)
 plain_goes (Jalr _ _ _) pc r h = absurd (false≢true h)
@@ -50,7 +50,7 @@ accessed_hits p cache b h = rw (get_or-set_same cache (set_of p b) (Some b) None
 
 -- a job with an instruction under way has c cycles to go: those left of it, and what follows
 pub data Within (sys : System) (t : Turn) (ins : Ins) (c : ℕ) : Type 0 where
-  plain : (rest : ℕ) → is_plain_ins ins ≡ true → is_hit sys.platform t.cache (block_of sys.platform t.job.pc) ≡ true → c ≡ t.job.left + rest → Path sys (after t.job.pc) (leaves_block sys t.job.pc) rest → Within sys t ins c
+  plain : (rest : ℕ) → is_plain ins ≡ true → is_hit sys.platform t.cache (block_of sys.platform t.job.pc) ≡ true → c ≡ t.job.left + rest → Path sys (after t.job.pc) (leaves_block sys t.job.pc) rest → Within sys t ins c
   answering : ins ≡ Ecall → c ≡ t.job.left → Within sys t ins c
 
 -- a job on its path has c cycles to go, the switch cycles with them
@@ -92,7 +92,7 @@ module _ (sys : System) (t : Turn) (fits : Fits sys t) (hit : 1 ≤ sys.platform
       let le = fetch_cost_le sys Ecall t missed (rw ecall_answers refl) h in
       record { to_go = fetch_cost sys Ecall t; less = omega (arith, le, e); some = rw b (cost_pos sys.platform Ecall _ _ hit); inside = rw b (answering refl refl) }
 
-  fetch_plain : (ins : Ins) (missed : Bool) (rest c : ℕ) → is_plain_ins ins ≡ true → t.job.left ≡ 0 → (missed ≡ false → is_hit sys.platform t.cache (block_of sys.platform t.job.pc) ≡ true) → rest ≡ cost sys.platform ins missed false + c → Path sys (after t.job.pc) (leaves_block sys t.job.pc) c → Fetches sys t ins rest
+  fetch_plain : (ins : Ins) (missed : Bool) (rest c : ℕ) → is_plain ins ≡ true → t.job.left ≡ 0 → (missed ≡ false → is_hit sys.platform t.cache (block_of sys.platform t.job.pc) ≡ true) → rest ≡ cost sys.platform ins missed false + c → Path sys (after t.job.pc) (leaves_block sys t.job.pc) c → Fetches sys t ins rest
   fetch_plain ins missed rest c p l h e path =
       let b : (t.job.left == 0) ≡ true = eq-eqb _ _ l in
       let le = fetch_cost_le sys ins t missed (rw (plain_goes ins t.job.pc t.job.registers p) (eq-eqb _ _ refl)) h in

@@ -4,7 +4,7 @@ use Rattle.crpd_base.specs.declared.data.TaskSpec.{TaskSpec}
 use Rattle.crpd_base.specs.declared.data.TaskSet.{TaskSet}
 use Rattle.rv_decode.specs.declared.Ins.{Ins}
 use Rattle.rv_decode.specs.declared.Ins.TheVariants.{Ecall}
-use Rattle.first_form.specs.ProgramForm.{is_plain_ins}
+use Rattle.first_form.specs.Straight.{is_plain}
 use Rattle.rv_decode.specs.Cost.{cost}
 use Rattle.rv_decode.specs.Address.{after}
 use Rattle.icache.specs.Cache.{block_of}
@@ -19,7 +19,7 @@ leaves_block sys a = not (block_of sys.platform (after a) == block_of sys.platfo
 -- and each later one is missed where its block is another than the one before it
 pub data Path (sys : System) : ℕ → Bool → ℕ → Type 0 where
   last : {a : ℕ} {missed : Bool} {c : ℕ} → ins_at sys a ≡ Some Ecall → c ≡ cost sys.platform Ecall missed false → Path sys a missed c
-  more : {a : ℕ} {missed : Bool} {c : ℕ} (ins : Ins) (rest : ℕ) → ins_at sys a ≡ Some ins → is_plain_ins ins ≡ true → c ≡ cost sys.platform ins missed false + rest → Path sys (after a) (leaves_block sys a) rest → Path sys a missed c
+  more : {a : ℕ} {missed : Bool} {c : ℕ} (ins : Ins) (rest : ℕ) → ins_at sys a ≡ Some ins → is_plain ins ≡ true → c ≡ cost sys.platform ins missed false + rest → Path sys (after a) (leaves_block sys a) rest → Path sys a missed c
 
 -- one task, with a path from its entry, a window with room for a switch and the path, and a deadline with room for the
 -- window and the jitter

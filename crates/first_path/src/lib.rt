@@ -9,8 +9,9 @@ pub fn first_path_is_safe()
     ensures { FirstPathIsSafe }
 {}
 
-/// Where the judge says yes to a set, a file and a certificate of the form, the set with its code and the stated response is
-/// safe.
+/// Where the judge says yes to a task set in its ranges, its straight code and a certificate, the set with its code and the
+/// reported responses is safe: from every cache and data memory, for every legal script, in every state in which no watch is
+/// broken, no job is late.
 pub fn yes_is_safe()
     ensures { YesIsSafe }
 {}

@@ -4,7 +4,7 @@ use Rattle.rv_decode.specs.declared.Ins.{Ins}
 use Rattle.rv_decode.specs.declared.Ins.TheVariants.{Ecall}
 use Rattle.rv_decode.specs.Table.{row}
 use Rattle.std.specs.Prelude.{Some}
-use Rattle.rv_decode.specs.Flow.{Flow, Call, Return, Exit, flow, Words, IsCodeMap, flows}
+use Rattle.rv_decode.specs.Flow.{Flow, Call, Return, Exit, Words, IsCodeMap, flows}
 use Rattle.flat_graph.specs.FlatGraph.{FlatNode, HasNoErrors}
 use Rattle.flat_graph.specs.Graph.{Graph, Places}
 use Rattle.flat_graph.specs.Numbered.{IsFlatGraph, ArePlaces}

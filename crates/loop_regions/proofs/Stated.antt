@@ -12,11 +12,11 @@ pub seen_here : (c : List ℕ) (a : ℕ) → seen_from c c a ≡ Some a
 seen_here [] a = refl
 seen_here (x ∷ c) a = rw (eq-eqb x x refl) (seen_here c a)
 
-loop_holds_head : (l : LoopAt) (a : ℕ) → a ≡ l.head → IsTrue (holds l a)
+pub loop_holds_head : (l : LoopAt) (a : ℕ) → a ≡ l.head → IsTrue (holds l a)
 loop_holds_head l a e = rw (eq-eqb a l.head e)
 
 -- below k, the nodes of r are nodes of s, or r holds one more
-inside_below : (n : Nest) (r s k : ℕ) → ((y : ℕ) → y < k → IsTrue (n.holds r y) → IsTrue (n.holds s y)) ⊎ HoldsMore n r s
+pub inside_below : (n : Nest) (r s k : ℕ) → ((y : ℕ) → y < k → IsTrue (n.holds r y) → IsTrue (n.holds s y)) ⊎ HoldsMore n r s
 inside_below n r s zero = inl (λ y lt h. absurd (omega arith))
 inside_below n r s (suc k) =
     ⊎_elim

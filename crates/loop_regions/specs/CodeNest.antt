@@ -1,10 +1,18 @@
 -- A task's regions as they are kept.
-use Rattle.std.specs.Prelude.{◌≡◌, ℕ, ◌==◌, ◌≤◌, List, [], length, slice_index, slice_index_or}
+use Rattle.std.specs.Prelude.{◌≡◌, ℕ, Bool, ◌==◌, ◌≤◌, List, [], length, slice_index, slice_index_or}
 use Rattle.std.specs.List.{All, list_any}
 use Rattle.crpd_base.specs.declared.data.LoopAt.{LoopAt}
 use Rattle.flat_graph.specs.CodeGraph.{CodeGraph, graph_of, places_of}
 use Rattle.loop_regions.specs.Nest.{Nest}
 use Rattle.loop_regions.specs.Stated.{IsRegions, IsAccepted, IsSameHead}
+
+-- whether a number is in a list
+abbrev pub has : List ℕ → ℕ → Bool
+has xs r = list_any (λ s. s == r) xs
+
+-- the list of a node, empty past the last node
+abbrev pub row : List (List ℕ) → ℕ → List ℕ
+row rows y = slice_index_or rows y []
 
 -- the head and the bound of each region, and for each node the regions that hold it
 pub record CodeNest : Type 0 where
@@ -18,7 +26,7 @@ nest_of n = record {
   size = length n.heads;
   head = λ r. slice_index n.heads r;
   bound = λ r. slice_index n.bounds r;
-  holds = λ r y. list_any (λ s. s == r) (slice_index_or n.holders y []);
+  holds = λ r y. has (row n.holders y) r;
 }
 
 -- each stated loop has a bound from 1 to 1,000,000

@@ -1,34 +1,8 @@
 // The regions of a task's graph.
-ghost use Rattle.std.specs.Prelude.{◌≡◌, ◌<◌, length};
-ghost use Rattle.loop_regions.specs.CodeNest.{nest_of};
-ghost use Rattle.loop_regions.specs.Levels.{IsLevel, IsParent};
-
+use crate::found::Regions;
+use crate::holders::Holders;
 use crpd_base::{Items, NodeId};
-use smallvec::SmallVec;
 use std::marker::Model;
-
-/// The regions that hold a node.
-#[derive(Drop)]
-pub(crate) struct Holders {
-    regions: SmallVec<u32, 4>,
-}
-
-impl Model for Holders {
-    ghost use Rattle.std.specs.Prelude.{List, ℕ};
-
-    ghost Value = { List ℕ };
-
-    ghost view = { λ h. h.regions.items };
-}
-
-impl Holders {
-    /// The numbers of the regions.
-    pub(crate) fn as_slice(&self) -> &[u32]
-        ensures { result.now ≡ self.now }
-    {
-        self.regions.as_slice()
-    }
-}
 
 /// The regions of a task's graph: one for each stated loop in each context of its head, numbered from 0 by their heads.
 /// A region holds the nodes of its context whose addresses the loop holds, and those of the calls made there. Each is
@@ -57,6 +31,35 @@ impl Model for Nest {
 }
 
 impl Nest {
+    ghost use Rattle.std.specs.Prelude.{◌≡◌, ◌<◌, length};
+    ghost use Rattle.loop_regions.specs.CodeNest.{nest_of};
+    ghost use Rattle.loop_regions.specs.Found.{code_nest};
+    ghost use Rattle.loop_regions.specs.KeptNest.{IsKept};
+    ghost use Rattle.loop_regions.specs.Levels.{IsLevel, IsParent};
+
+    /// The nest of regions, with the parent of each region and the innermost region of each node.
+    pub(crate) fn new(
+        regions: Regions,
+        parents: Vec<Option<u32>>,
+        innermost: Vec<Option<u32>>,
+    ) -> Self
+        requires { IsKept (code_nest regions) parents.items innermost.items }
+        ensures { result ≡ code_nest regions }
+    {
+        let Regions {
+            heads,
+            bounds,
+            holders,
+        } = regions;
+        Nest {
+            heads,
+            bounds,
+            holders,
+            parents: Items::new(parents),
+            innermost: Items::new(innermost),
+        }
+    }
+
     /// How many regions there are: 0 to 16,384.
     pub fn len(&self) -> u32
         ensures { result ≡ (nest_of self.now).size }
@@ -94,7 +97,7 @@ impl Nest {
         ensures { result ≡ (nest_of self.now).holds r id.0 }
     {
         let holders = &self.holders.as_slice()[id.0 as usize];
-        holders.as_slice().contains(&r)
+        holders.has(r)
     }
 
     /// The innermost region that holds a node, None where none does.

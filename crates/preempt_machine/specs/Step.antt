@@ -14,7 +14,7 @@ use Rattle.icache.specs.Cache.{Cache, block_of, is_hit, accessed}
 use Rattle.flow_watch.specs.Watch.{step as watch_step}
 use Rattle.preempt_machine.specs.Machine.{System, ins_at, Standing, Open, Answered, Faulted, Job, Machine, plan_of, started, job_at}
 
--- 1. A job is ready from its release until it answers or faults.
+-- a job is ready from its release until it answers or faults
 abbrev pub is_open : Standing → Bool
 is_open Open = true
 is_open (Answered t) = false
@@ -23,8 +23,8 @@ is_open Faulted = false
 unfoldable pub is_ready : ℕ → Job → Bool
 is_ready time job = is_open job.standing && nat_le job.line.release time
 
--- 2. The line a of the script, at place x, comes before the line b, at place y: a higher task, then an earlier
--- release, then a smaller place. (A job's number grows with its place among the jobs of its task.)
+-- the line a of the script, at place x, comes before the line b, at place y: a higher task, then an earlier release, then
+-- a smaller place (a job's number grows with its place among the jobs of its task)
 unfoldable pub comes_before : ScriptJob → ℕ → ScriptJob → ℕ → Bool
 comes_before a x b y =
     nat_lt a.task.0 b.task.0
@@ -64,7 +64,7 @@ pub record Turn : Type 0 where
   pub switch_left : ℕ
   pub job : Job
 
--- 3. A candidate that is not the owner has all switch cycles before it.
+-- a candidate that is not the owner has all switch cycles before it
 abbrev pub owns : Option ℕ → ℕ → Bool
 owns None i = false
 owns (Some o) i = o == i
@@ -78,7 +78,7 @@ turn_of sys m i =
       job = job_at m.jobs i;
     }
 
--- 5. The fetch: the cache is accessed, and the instruction's cost is what is left of it.
+-- the fetch: the cache is accessed, and the instruction's cost is what is left of it
 abbrev pub goes_on : Next → ℕ → Bool
 goes_on (Goto to) pc = to == after pc
 goes_on Answer pc = true
@@ -117,7 +117,7 @@ went sys n ins t (Goto to) =
 went sys n ins t Answer = record t { job = record t.job { left = 0; standing = Answered (suc n) } }
 went sys n ins t Fault = record t { job = record t.job { left = 0; standing = Faulted } }
 
--- 6. One cycle of the instruction is used, and with the last one it has its effect.
+-- one cycle of the instruction is used, and with the last one it has its effect
 abbrev pub worked : System → ℕ → Ins → Turn → Turn
 worked sys n ins t =
     if nat_lt 1 t.job.left then record t { job = record t.job { left = t.job.left - 1 } }
@@ -127,7 +127,7 @@ abbrev pub executed : System → ℕ → Turn → Option Ins → Turn
 executed sys n t None = record t { job = record t.job { standing = Faulted } }
 executed sys n t (Some ins) = worked sys n ins (fetched sys ins t)
 
--- 4. A switch cycle that is left is used, and only without one the job's instruction.
+-- a switch cycle that is left is used, and only without one the job's instruction
 unfoldable pub turned : System → ℕ → Turn → Turn
 turned sys n t =
     if nat_lt 0 t.switch_left then record t { switch_left = t.switch_left - 1 }

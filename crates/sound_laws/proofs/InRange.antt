@@ -1,5 +1,5 @@
 -- A task set in its ranges gives what the laws ask of one, so its checked code is safe.
-use Rattle.std.proofs.Common.{◌≡◌, ℕ, ◌<◌, ◌≤◌, List, [], None, length, get_or, refl, arith}
+use Rattle.std.proofs.Common.{◌≡◌, ℕ, ◌<◌, List, [], None, length, get_or, refl, arith}
 use Rattle.std.specs.Prelude.{map}
 use Rattle.std.proofs.lemmas.List.{get_or-map}
 use Rattle.crpd_base.specs.declared.data.Place.TheVariants.{Number}
@@ -9,7 +9,7 @@ use Rattle.crpd_base.specs.Ranges.{IsTaskSpec, IsTaskSet}
 use Rattle.crpd_base.specs.Tasks.{period_of, deadline_of}
 use Rattle.preempt_machine.specs.Safe.{system_of}
 use Rattle.sound_laws.specs.Headline.{CheckedCodeIsSafe}
-use Rattle.sound_laws.specs.Walks.{IsInRange, IsCodeOf}
+use Rattle.sound_laws.specs.Walks.{IsInRange}
 use Rattle.sound_laws.proofs.Checked.{yes_is_safe}
 
 no_task : TaskSpec

@@ -215,7 +215,7 @@ states g before a l line f u lt =
     }
 
 -- the full state of a node is that of the last accesses before it
-state_says : (g : Graph) (before : ℕ → List ℕ) (a : Accesses) (l : Listed) → IsLine g before → ListsFirst g l → (b : List ℕ) (y s m : ℕ) → IsWalk g (y ∷ b) → FullState g a l y s m → last_access a s b ≡ Some m
+pub state_says : (g : Graph) (before : ℕ → List ℕ) (a : Accesses) (l : Listed) → IsLine g before → ListsFirst g l → (b : List ℕ) (y s m : ℕ) → IsWalk g (y ∷ b) → FullState g a l y s m → last_access a s b ≡ Some m
 state_says g before a l line f [] y s m w st = absurd (empty_first g a l y s m f w st)
 state_says g before a l line f (u ∷ b) y s m w st =
     elim (state_after g before a l u y s m line f w.0 st) [
@@ -223,7 +223,7 @@ state_says g before a l line f (u ∷ b) y s m w st =
       | inr there ↦ rw (ne_eqb (a.set u) s there.0) (state_says g before a l line f b u s m w.1 there.1)
     ]
 
-state_made : (g : Graph) (before : ℕ → List ℕ) (a : Accesses) (l : Listed) → IsLine g before → ListsFirst g l → (b : List ℕ) (y s m : ℕ) → IsWalk g (y ∷ b) → last_access a s b ≡ Some m → FullState g a l y s m
+pub state_made : (g : Graph) (before : ℕ → List ℕ) (a : Accesses) (l : Listed) → IsLine g before → ListsFirst g l → (b : List ℕ) (y s m : ℕ) → IsWalk g (y ∷ b) → last_access a s b ≡ Some m → FullState g a l y s m
 state_made g before a l line f [] y s m w e = absurd (let x = e in cc)
 state_made g before a l line f (u ∷ b) y s m w e =
     elim (cases_eq (a.set u) s) [
@@ -235,7 +235,7 @@ state_made g before a l line f (u ∷ b) y s m w e =
 abbrev pub hit_at : (ℕ → List ℕ) → Accesses → ℕ → Bool
 hit_at before a y = is_block (last_access a (a.set y) (before y)) (a.block y)
 
-block_says : (o : Option ℕ) (m : ℕ) → IsTrue (is_block o m) → o ≡ Some m
+pub block_says : (o : Option ℕ) (m : ℕ) → IsTrue (is_block o m) → o ≡ Some m
 block_says None m t = absurd (false≢true t)
 block_says (Some b) m t = ap Some (eqb-true b m t)
 

@@ -53,7 +53,7 @@ four P a b c d (suc (suc (suc zero))) l = d
 four P a b c d (suc (suc (suc (suc k)))) l = absurd (omega (arith, l))
 
 -- the highest task goes through its nodes in their order, each other one from the first to the third, and back to the second
-abbrev high : Way
+abbrev pub high : Way
 high =
     record {
       addresses = 0x3010 ∷ 0x3020 ∷ 0x3030 ∷ 0x3040 ∷ [];
@@ -62,7 +62,7 @@ high =
       walks = [] ∷ (0 ∷ []) ∷ (1 ∷ 0 ∷ []) ∷ (2 ∷ 1 ∷ 0 ∷ []) ∷ [];
     }
 
-abbrev lower : ℕ → Way
+abbrev pub lower : ℕ → Way
 lower entry =
     record {
       addresses = entry ∷ (entry + 4) ∷ (entry + 16) ∷ (entry + 20) ∷ [];
@@ -71,10 +71,10 @@ lower entry =
       walks = [] ∷ (2 ∷ 0 ∷ []) ∷ (0 ∷ []) ∷ (1 ∷ 2 ∷ 0 ∷ []) ∷ [];
     }
 
-high_way : IsWay high
+pub high_way : IsWay high
 high_way = record { some = omega arith; start = refl; walks = refl; steps = refl }
 
-lower_way : (entry : ℕ) → IsWay (lower entry)
+pub lower_way : (entry : ℕ) → IsWay (lower entry)
 lower_way entry = record { some = omega arith; start = refl; walks = refl; steps = refl }
 
 code_high : IsCode (word_in words) 0x3010 high

@@ -52,7 +52,7 @@ abbrev pub each : ℕ → (ℕ → Bool) → Bool
 each zero test = true
 each (suc n) test = each n test && test n
 
-each_says : (n : ℕ) (test : ℕ → Bool) → IsTrue (each n test) → (k : ℕ) → k < n → IsTrue (test k)
+pub each_says : (n : ℕ) (test : ℕ → Bool) → IsTrue (each n test) → (k : ℕ) → k < n → IsTrue (test k)
 each_says zero test t k l = absurd (omega (arith, l))
 each_says (suc n) test t k l =
     let parts = and_parts (each n test) (test n) t in
@@ -76,7 +76,7 @@ same [] (y ∷ ys) = false
 same (x ∷ xs) [] = false
 same (x ∷ xs) (y ∷ ys) = (x == y) && same xs ys
 
-same_says : (xs ys : List ℕ) → IsTrue (same xs ys) → xs ≡ ys
+pub same_says : (xs ys : List ℕ) → IsTrue (same xs ys) → xs ≡ ys
 same_says [] [] t = refl
 same_says [] (y ∷ ys) t = absurd (false≢true t)
 same_says (x ∷ xs) [] t = absurd (false≢true t)
@@ -91,7 +91,7 @@ abbrev pub at_next : (ℕ → Bool) → Option ℕ → Bool
 at_next test None = true
 at_next test (Some v) = test v
 
-at_next_says : (test : ℕ → Bool) (to : Option ℕ) (v : ℕ) → IsTrue (at_next test to) → Contains (to_one to) v → IsTrue (test v)
+pub at_next_says : (test : ℕ → Bool) (to : Option ℕ) (v : ℕ) → IsTrue (at_next test to) → Contains (to_one to) v → IsTrue (test v)
 at_next_says test None v t (k, l, e) = absurd (omega (arith, l))
 at_next_says test (Some x) v t (zero, l, e) = subst (λ z. IsTrue (test z)) e t
 at_next_says test (Some x) v t (suc k, l, e) = absurd (omega (arith, l))
@@ -100,7 +100,7 @@ abbrev pub is_next : Option ℕ → ℕ → Bool
 is_next None y = false
 is_next (Some v) y = v == y
 
-is_next_says : (to : Option ℕ) (y : ℕ) → IsTrue (is_next to y) → Contains (to_one to) y
+pub is_next_says : (to : Option ℕ) (y : ℕ) → IsTrue (is_next to y) → Contains (to_one to) y
 is_next_says None y t = absurd (false≢true t)
 is_next_says (Some v) y t = (0, omega arith, eqb-true v y t)
 
@@ -109,7 +109,7 @@ abbrev pub lead_to : Way → ℕ → List ℕ → Bool
 lead_to w y [] = y == 0
 lead_to w y (u ∷ walk) = nat_lt u (size w) && (is_next (next w u) y && lead_to w u walk)
 
-walk_of : (w : Way) (y : ℕ) (walk : List ℕ) → IsTrue (lead_to w y walk) → IsWalk (graph w).graph (y ∷ walk)
+pub walk_of : (w : Way) (y : ℕ) (walk : List ℕ) → IsTrue (lead_to w y walk) → IsWalk (graph w).graph (y ∷ walk)
 walk_of w y [] t = eqb-true y 0 t
 walk_of w y (u ∷ walk) t =
     let a = and_parts (nat_lt u (size w)) (is_next (next w u) y && lead_to w u walk) t in
@@ -123,7 +123,7 @@ pub record IsWay (w : Way) : Type 0 where
   pub walks : IsTrue (each (size w) (λ y. lead_to w y (before w y)))
   pub steps : IsTrue (each (size w) (λ u. at_next (λ v. nat_lt v (size w) && same (before w v) (u ∷ before w u)) (next w u)))
 
-line : (w : Way) → IsWay w → law.IsLine (graph w).graph (before w)
+pub line : (w : Way) → IsWay w → law.IsLine (graph w).graph (before w)
 line w way =
     record {
       some = way.some;

@@ -1,11 +1,7 @@
-use Rattle.std.proofs.Common.{◌≡◌, List, get_or, Some, ◌∙◌, ap, sym, subst, refl}
+use Rattle.std.proofs.Common.{Some, ◌∙◌, ap, sym, refl}
 use Rattle.std.specs.Prelude.{is_some}
-use Rattle.code_map.specs.declared.runs.Run.{Run}
-use Rattle.code_map.proofs.KeptWords.{own_apart, own_word}
+use Rattle.code_map.proofs.KeptWords.{runs_are, own_apart, own_word}
 use Rattle.code_map.proofs.files.Files.own.Goals as goal
-
-runs_are : (all kept : List (List Run)) (n k : _) (r rs : List Run) → all ≡ kept → n ≡ k → r ≡ get_or all n r → rs ≡ r → rs ≡ get_or kept k rs
-runs_are all kept n k r rs a b c d = subst (λ x. rs ≡ get_or kept k x) (sym d) (d ∙ (c ∙ (ap (λ x. get_or x n r) a ∙ ap (λ i. get_or kept i r) b)))
 
 pub word-requires : goal.word-requires
 word-requires c = own_apart c.self.inside c.args.self.now _ c.args.place c.self.invariant c.self.view_is c.requires (runs_are _ _ _ _ _ _ c.as_slice.ensures refl c.index-as_slice-place.is c.as_slice-2.ensures)

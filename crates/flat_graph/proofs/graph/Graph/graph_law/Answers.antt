@@ -1,4 +1,4 @@
-use Rattle.std.proofs.Common.{◌≡◌, ℕ, ◌≤◌, length, subst}
+use Rattle.std.proofs.Common.{ℕ, ◌≤◌, length, subst}
 use Rattle.flat_graph.specs.CodeGraph.{CodeGraph, node_of}
 use Rattle.flat_graph.proofs.Kept.{two_at}
 use Rattle.flat_graph.proofs.graph.Graph.graph_law.Goals as goal

@@ -1,0 +1,82 @@
+// The text of a verdict on a certificate.
+ghost use Rattle.std.specs.Prelude.{◌≡◌, [], ◌∷◌, ◌++◌, codes, string_bytes, IfOk};
+ghost use Rattle.crpd_report.specs.Check as spec;
+
+use crpd_base::{Certificate, Memory, Method, TaskPart, TaskSet};
+use std::alloc::{AllocError, Global};
+
+fn method_name(method: Method) -> &'static str
+    ensures { result.now ≡ spec.method_name method }
+{
+    match method {
+        Method::Ucb => "ucb",
+        Method::Ecb => "ecb",
+    }
+}
+
+/// The times that a certificate states for a task.
+fn times_text(alloc: Global, part: &TaskPart) -> Result<String, AllocError>
+    ensures { IfOk result (λ text. string_bytes text ≡ spec.times_text part.now) }
+{
+    let bound = part.part.bound;
+    let window = part.window;
+    let response = part.response;
+    let method = method_name(part.method);
+    let text = format!(in alloc;
+        "bound {bound} window {window} response {response} method {method}"
+    )?;
+    Ok(text)
+}
+
+/// Adds the line of a task of this name.
+fn add_task(
+    alloc: Global,
+    text: &mut Vec<u8>,
+    name: &str,
+    part: &TaskPart,
+) -> Result<(), AllocError>
+    ensures { IfOk result (λ _. text.new.items ≡ text.old.items ++ (name.now ++ codes " " ++ spec.times_text part.now ++ 10 ∷ [])) }
+{
+    let times = times_text(alloc, part)?;
+    let line = format!(in alloc; "{name} {times}\n")?;
+    text.extend_from_slice(line.as_bytes())?;
+    Ok(())
+}
+
+fn yes(alloc: Global, set: &TaskSet, certificate: &Certificate) -> Result<Vec<u8>, AllocError>
+    ensures { IfOk result (λ text. text.items ≡ spec.yes_text set.now certificate.now) }
+{
+    let mut text = b"yes\n".to_vec(alloc)?;
+    for (task, part) in set
+        .tasks
+        .as_slice()
+        .iter()
+        .zip(certificate.tasks.as_slice())
+    {
+        add_task(alloc, &mut text, task.name.as_str(), part)?;
+    }
+    Ok(text)
+}
+
+/// The text of a certificate that is accepted: `yes`, and a line for each task of the set, with its name and what the
+/// certificate states at its place: bound, window and response in cycles, and the method. `Memory` is the only error.
+/// Linear in the text.
+pub fn yes_text(alloc: Global, set: &TaskSet, certificate: &Certificate) -> Result<Vec<u8>, Memory>
+    ensures { IfOk result (λ text. text.items ≡ spec.yes_text set.now certificate.now) }
+{
+    match yes(alloc, set, certificate) {
+        Ok(text) => Ok(text),
+        Err(_) => Err(Memory),
+    }
+}
+
+/// The line of a certificate that is not accepted: the name of the first task for which a clause does not hold, the number
+/// of that clause, and the place of the failure. `Memory` is the only error. Linear in the line.
+pub fn no_text(alloc: Global, name: &str, clause: u8, place: u32) -> Result<Vec<u8>, Memory>
+    ensures { IfOk result (λ text. text.items ≡ spec.no_text name.now clause place) }
+{
+    match format!(in alloc; "no {name} clause {clause} place {place}\n") {
+        Ok(text) => Ok(text.into_bytes()),
+        Err(_) => Err(Memory),
+    }
+}

@@ -1,0 +1,15 @@
+//! The texts that the certifier writes.
+#![tactic(auto)]
+
+mod address;
+mod check;
+mod list;
+mod refusal;
+
+pub use address::address_text;
+pub use check::{no_text, yes_text};
+pub use list::list_text;
+pub use refusal::refusal_text;
+
+#[cfg(test)]
+mod tests;

@@ -1,0 +1,138 @@
+-- The numbers of spots: their places in the order.
+use Rattle.std.proofs.Common.{◌≡◌, ℕ, zero, suc, ◌<◌, ◌≤◌, List, [], length, Option, Some, None, Contains, slice_get, get_or, refl, sym, ap, ◌∙◌, subst, ⊎_elim, arith, AllPairs, Result, Ok, Err, is_ok, true, option_map}
+use Rattle.std.proofs.lemmas.Bool.{cases_lt, cases_order}
+use Rattle.std.proofs.lemmas.List.{length-map, get_or-map}
+use Rattle.std.proofs.lemmas.List.Elements.{Contains-get_or}
+use Rattle.std.proofs.lemmas.Option.{slice_get_within, slice_get-get_or, get_or_from_slice_get}
+use Rattle.std.specs.declared.cmp.Ordering.{Ordering}
+use Rattle.std.specs.declared.cmp.Ordering.TheVariants.{Equal}
+use Rattle.std.specs.Ordering.{ordering_index}
+use Rattle.std.specs.List.Sorted.{IsBinarySearchResult, IsSearchInRange, IsNonDecreasingBy}
+use Rattle.rv_decode.specs.Flow.{Flows}
+use Rattle.flat_graph.specs.FlatGraph.{FlatNode, NodeError, IsBefore, IsNode, IsNumbering, HasMoreNodes, error_of, IsGraphRefused, AtNode}
+use Rattle.flat_graph.specs.FlatGraph as node
+use Rattle.flat_graph.specs.Refusals.{graph_error, IsRefused}
+use Rattle.flat_graph.specs.Spots.{flat, flats}
+use Rattle.flat_graph.specs.declared.fault.GraphError.{GraphError}
+use Rattle.flat_graph.specs.declared.spots.Spot.{Spot}
+use Rattle.flat_graph.proofs.Members.{contains_at, at_contains}
+use Rattle.flat_graph.proofs.Order.{flat_cmp, flat_equal, flat_same, rises, before_one_way, not_before_same}
+
+module _ (cmp : Spot → Spot → Ordering) (is : (s t : Spot) → cmp s t ≡ flat_cmp (flat s) (flat t)) where
+  rising : (xs : List Spot) (x : Spot) → AllPairs IsBefore (flats xs) → IsNonDecreasingBy (λ y. ordering_index (cmp y x)) xs
+  rising xs x h i j d le within =
+      ⊎_elim
+      (λ lt.
+      subst (λ o. ordering_index o ≤ ordering_index (cmp (get_or xs j d) x)) (sym (is (get_or xs i d) x))
+      (subst (λ o. ordering_index (flat_cmp (flat (get_or xs i d)) (flat x)) ≤ ordering_index o) (sym (is (get_or xs j d) x))
+      (rises (flat (get_or xs i d)) (flat (get_or xs j d)) (flat x) (before lt))))
+      (λ ge. subst (λ k. ordering_index (cmp (get_or xs i d) x) ≤ ordering_index (cmp (get_or xs k d) x)) (the i j (omega arith)) (omega arith))
+      (cases_lt i j)
+    where
+      the : (a b : ℕ) → a ≡ b → a ≡ b
+      the a b e = e
+
+      before : i < j → IsBefore (flat (get_or xs i d)) (flat (get_or xs j d))
+      before lt =
+          subst (λ n. IsBefore n (flat (get_or xs j d))) (get_or-map flat xs i d (flat d) (omega arith))
+          (subst (λ n. IsBefore (get_or (flats xs) i (flat d)) n) (get_or-map flat xs j d (flat d) within)
+          (h i j (flat d) lt (simp length-map (omega arith))))
+
+  -- a search for a spot that is there finds it
+  pub searched : (xs : List Spot) (x : Spot) (r : Result ℕ ℕ) → IsSearchInRange r (length xs) → IsBinarySearchResult (λ y. cmp y x) xs r →
+      AllPairs IsBefore (flats xs) → Contains (flats xs) (flat x) → (i : ℕ) × (r ≡ Ok i) × (slice_get (flats xs) i ≡ Some (flat x))
+  searched xs x (Ok i) within found h c = (
+    i,
+    refl,
+    slice_get-get_or (flats xs) i (flat x) (simp length-map within)
+        ∙ ap Some (get_or-map flat xs i x (flat x) within ∙ flat_equal (flat (get_or xs i x)) (flat x) (sym (is (get_or xs i x) x) ∙ found x)),
+  )
+  searched xs x (Err i) within parts h (k, lt, e) =
+      let below : k < length xs = subst (λ l. k < l) (length-map xs flat) lt in
+      let part = parts (rising xs x h) in
+      let same : cmp (get_or xs k x) x ≡ Equal =
+      is (get_or xs k x) x ∙ ap (λ n. flat_cmp n (flat x)) (sym (get_or-map flat xs k x (flat x) below) ∙ e) ∙ flat_same (flat x) in
+      ⊎_elim
+      (λ before. let less = part.0 k x (omega arith) before in cc)
+      (λ after. let more = part.1 k x after below in cc)
+      (cases_lt k i)
+
+pub found_ok : (r : Result ℕ ℕ) (i : ℕ) → r ≡ Ok i → is_ok r ≡ true
+found_ok r i e = ap is_ok e
+
+-- ordered nodes are at most as many as those among which they are, in the same order
+module _ (nodes some : List FlatNode) (N : AllPairs IsBefore nodes) (S : AllPairs IsBefore some) (among : (n : FlatNode) → Contains some n → Contains nodes n) where
+  later : (p q : ℕ) (n m : FlatNode) → slice_get nodes p ≡ Some n → slice_get nodes q ≡ Some m → IsBefore n m → p < q
+  later p q n m a b h =
+      ⊎_elim
+      (λ e. absurd (not_before_same n m (same e) h))
+      (λ o. ⊎_elim (λ lt. lt) (λ gt. absurd (before_one_way n m h (pair gt))) o)
+      (cases_order p q)
+    where
+      same : p ≡ q → n ≡ m
+      same e = let c = subst (λ k. slice_get nodes k ≡ Some n) e a in cc (c, b)
+
+      pair : q < p → IsBefore m n
+      pair lt =
+          subst (λ x. IsBefore x n) (get_or_from_slice_get nodes q m m b)
+          (subst (λ x. IsBefore (get_or nodes q m) x) (get_or_from_slice_get nodes p n m a)
+          (N q p m lt (slice_get_within nodes p n a)))
+
+  at_least : (d : FlatNode) (i : ℕ) → i < length some → (p : ℕ) × (slice_get nodes p ≡ Some (get_or some i d)) × (i ≤ p)
+  at_least d zero lt =
+      let c = contains_at nodes (get_or some 0 d) (among (get_or some 0 d) (Contains-get_or some 0 d lt)) in
+      (c.0, c.1, omega arith)
+  at_least d (suc i) lt =
+      let c = contains_at nodes (get_or some (suc i) d) (among (get_or some (suc i) d) (Contains-get_or some (suc i) d lt)) in
+      let b = at_least d i (omega arith) in
+      let l = later b.0 c.0 (get_or some i d) (get_or some (suc i) d) b.1 c.1 (S i (suc i) d (omega arith) lt) in
+      (c.0, c.1, omega (arith, b.2, l))
+
+  pub not_more : length some ≤ length nodes
+  not_more = by (length some) refl
+    where
+      by : (k : ℕ) → length some ≡ k → length some ≤ length nodes
+      by zero e = omega arith
+      by (suc k) e =
+          let d : FlatNode = record { context = []; address = 0 } in
+          let a = at_least d k (omega arith) in
+          omega (arith, a.2, slice_get_within nodes a.0 (get_or some k d) a.1)
+
+pub not_too_many : (code : Flows) (entry limit : ℕ) (nodes : List FlatNode) → IsNumbering code entry nodes → length nodes ≤ limit → HasMoreNodes code entry limit → ⊥
+not_too_many code entry limit nodes N le (some, S, all, more) =
+    absurd (omega (arith, not_more nodes some N.ordered S (λ n c. (N.all n).0 (is_node n c))))
+  where
+    is_node : (n : FlatNode) → Contains some n → IsNode code entry n
+    is_node n (k, lt, e) = subst (IsNode code entry) e (all k n lt)
+
+-- the first node with an error is the least
+pub refused_at : (code : Flows) (entry limit : ℕ) (nodes : List FlatNode) (k : ℕ) (n : FlatNode) (x : NodeError) → IsNumbering code entry nodes → length nodes ≤ limit →
+    slice_get nodes k ≡ Some n → error_of code entry n ≡ Some x → ((j : ℕ) (m : FlatNode) → j < k → slice_get nodes j ≡ Some m → error_of code entry m ≡ None) →
+    IsGraphRefused code entry limit (AtNode x n.address)
+refused_at code entry limit nodes k n x N le at e none =
+    (not_too_many code entry limit nodes N le, n, (N.all n).1 (at_contains nodes k n at), e, refl, least)
+  where
+    least : (m : FlatNode) (y : NodeError) → IsNode code entry m → error_of code entry m ≡ Some y → IsBefore m n → ⊥
+    least m y h f b =
+        let c = contains_at nodes m ((N.all m).0 h) in
+        let lt = later nodes nodes N.ordered N.ordered (λ z i. i) c.0 k m n c.1 at b in
+        let clean = none c.0 m lt c.1 in
+        cc
+
+pub refused_by : (code : Flows) (entry : ℕ) (o : Option NodeError) (a : ℕ) (e : GraphError) → option_map (λ x. graph_error x a) o ≡ Some e →
+    ((x : NodeError) → o ≡ Some x → IsGraphRefused code entry 16384 (AtNode x a)) → IsRefused code entry e
+refused_by code entry None a e h f = cc
+refused_by code entry (Some x) a e h f = subst (IsRefused code entry) (inner (graph_error x a) e h) (by x (f x refl))
+  where
+    inner : (p q : GraphError) → (Some p ≡ Some q) → p ≡ q
+    inner p q s = cc
+
+    by : (y : NodeError) → IsGraphRefused code entry 16384 (AtNode y a) → IsRefused code entry (graph_error y a)
+    by node.Misaligned r = r
+    by node.OutsideCode r = r
+    by node.Undecodable r = r
+    by node.Breakpoint r = r
+    by node.IndirectJump r = r
+    by node.OtherLink r = r
+    by node.Recursive r = r
+    by node.TooDeep r = r

@@ -1,0 +1,142 @@
+-- The graph that is put together from its parts.
+use Rattle.std.proofs.Common.{◌≡◌, ℕ, ◌<◌, ◌≤◌, ◌↔◌, Bool, List, [], length, map, Some, slice_get, refl, sym, ap, ◌∙◌, subst, arith, option_map, IsTrue}
+use Rattle.std.specs.Prelude.{slice_index}
+use Rattle.std.proofs.lemmas.List.{length-map}
+use Rattle.std.proofs.lemmas.Option.{slice_get_within, slice_get-map, get_or_from_slice_get}
+use Rattle.rv_decode.specs.Table.{row}
+use Rattle.rv_decode.specs.Flow.{Words, IsCodeMap, flows}
+use Rattle.flat_graph.specs.FlatGraph.{FlatNode, IsNumbering, error_of, successors}
+use Rattle.flat_graph.specs.Graph.{IsLeader}
+use Rattle.flat_graph.specs.Numbered.{IsFlatGraph}
+use Rattle.flat_graph.specs.CodeGraph.{GraphNode, CodeGraph, IsCodeGraph, node_of, no_node, graph_of}
+use Rattle.flat_graph.specs.Kept.{IsKept, kept_graph, node_by, onward}
+use Rattle.flat_graph.specs.Built.{HasContexts, AreLines, IsLine, AreStands}
+use Rattle.flat_graph.specs.Leaders.{AreEdges, HasLeaders}
+use Rattle.flat_graph.specs.Spots.{flat, flats}
+use Rattle.flat_graph.specs.declared.graph.Stand.{Stand}
+use Rattle.flat_graph.specs.declared.lines.Line.{Line}
+use Rattle.flat_graph.specs.declared.spots.Spot.{Spot}
+use Rattle.flat_graph.proofs.Members.{some_at, contains_at}
+use Rattle.flat_graph.proofs.Numbered.{flat_graph_law}
+
+-- what stands at a place
+record Part (spots : List Spot) (lines : List Line) (leaders : List Bool) (k : ℕ) : Type 0 where
+  spot : Spot
+  line : Line
+  leader : Bool
+  spot_at : slice_get spots k ≡ Some spot
+  line_at : slice_get lines k ≡ Some line
+  leader_at : slice_get leaders k ≡ Some leader
+
+pub record AreParts (words : Words) (entry : ℕ) (spots : List Spot) (lines : List Line) (first : ℕ) (leaders : List Bool) (lists : List (List ℕ)) (numbers : List ℕ) (stands : List Stand) : Type 0 where
+  pub word_places : IsCodeMap words
+  pub numbering : IsNumbering (flows words) entry (flats spots)
+  pub few : length spots ≤ 16384
+  pub line_of : AreLines words entry (flats spots) lines
+  pub line_count : length lines ≡ length spots
+  pub first_at : slice_get (flats spots) first ≡ Some (record { context = []; address = entry })
+  pub leader_of : HasLeaders lines first leaders
+  pub leader_count : length leaders ≡ length lines
+  pub context_of : HasContexts lists numbers spots (length spots)
+  pub stand_of : AreStands spots numbers lines leaders stands
+  pub stand_count : length stands ≡ length spots
+
+module _ (words : Words) (entry : ℕ) (spots : List Spot) (lines : List Line) (first : ℕ) (leaders : List Bool) (lists : List (List ℕ)) (numbers : List ℕ) (stands : List Stand)
+    (P : AreParts words entry spots lines first leaders lists numbers stands) where
+  abbrev graph : CodeGraph
+  graph = kept_graph lists stands first
+
+  one : {X : Type 0} (a b : X) → Some a ≡ Some b → a ≡ b
+  one a b h = cc
+
+  part : (k : ℕ) → k < length spots → Part spots lines leaders k
+  part k lt =
+      let s = some_at spots k lt in
+      let l = some_at lines k (omega (arith, P.line_count)) in
+      let b = some_at leaders k (omega (arith, P.line_count, P.leader_count)) in
+      record { spot = s.0; line = l.0; leader = b.0; spot_at = s.1; line_at = l.1; leader_at = b.1 }
+
+  abbrev stand : (k : ℕ) → Part spots lines leaders k → Stand
+  stand k p = record { context = slice_index numbers k; address = p.spot.address; ins = p.line.ins; next = p.line.next; leader = p.leader }
+
+  stand_at : (k : ℕ) (p : Part spots lines leaders k) → slice_get stands k ≡ Some (stand k p)
+  stand_at k p = P.stand_of k p.spot p.line p.leader p.spot_at p.line_at p.leader_at
+
+  -- the graph's node at a place
+  node_is : (k : ℕ) (p : Part spots lines leaders k) → node_of graph k ≡ node_by lists (stand k p)
+  node_is k p = get_or_from_slice_get graph.nodes k (node_by lists (stand k p)) no_node (slice_get-map (node_by lists) stands k ∙ ap (option_map (node_by lists)) (stand_at k p))
+
+  context_is : (k : ℕ) (p : Part spots lines leaders k) → (node_of graph k).context ≡ (flat p.spot).context
+  context_is k p = ap (λ (n : GraphNode). n.context) (node_is k p) ∙ (P.context_of k p.spot (slice_get_within spots k p.spot p.spot_at) p.spot_at).1
+
+  address_is : (k : ℕ) (p : Part spots lines leaders k) → (node_of graph k).address ≡ p.spot.address
+  address_is k p = ap (λ (n : GraphNode). n.address) (node_is k p)
+
+  flat_is : (k : ℕ) (p : Part spots lines leaders k) → slice_get (flats spots) k ≡ Some (flat p.spot)
+  flat_is k p = slice_get-map flat spots k ∙ ap (option_map flat) p.spot_at
+
+  line_is : (k : ℕ) (p : Part spots lines leaders k) → IsLine words entry (flats spots) (flat p.spot) p.line
+  line_is k p = P.line_of k (flat p.spot) p.line (flat_is k p) p.line_at
+
+  part_of : (k : ℕ) (n : FlatNode) → slice_get (flats spots) k ≡ Some n → (p : Part spots lines leaders k) × (flat p.spot ≡ n)
+  part_of k n e =
+      let p = part k (subst (λ l. k < l) (length-map spots flat) (slice_get_within (flats spots) k n e)) in
+      (p, one (flat p.spot) n (sym (flat_is k p) ∙ e))
+
+  size_is : length graph.nodes ≡ length spots
+  size_is = length-map stands (node_by lists) ∙ P.stand_count
+
+  flat_graph : IsFlatGraph (flows words) entry (flats spots) (graph_of graph)
+  flat_graph = record {
+    numbering = P.numbering;
+    size = size_is ∙ sym (length-map spots flat);
+    first = P.first_at;
+    next = λ u n e.
+        let q = part_of u n e in
+        ap (map (slice_get (flats spots))) (ap (λ (x : GraphNode). x.next) (node_is u q.0))
+        ∙ (line_is u q.0).next ∙ ap (λ x. map Some (successors (flows words) entry x)) q.1;
+  }
+
+  pub code_graph : IsCodeGraph words entry graph
+  code_graph = record {
+    nodes = flats spots;
+    flat = flat_graph;
+    places = record {
+      node = λ u n e.
+          let q = part_of u n e in
+          (context_is u q.0 ∙ ap (λ (x : FlatNode). x.context) q.1, address_is u q.0 ∙ ap (λ (x : FlatNode). x.address) q.1);
+    };
+    no_errors = λ m h.
+        let c = contains_at (flats spots) m ((P.numbering.all m).0 h) in
+        let q = part_of c.0 m c.1 in
+        ap (error_of (flows words) entry) (sym q.1) ∙ (line_is c.0 q.0).no_error;
+    instructions = λ u w lt e.
+        let p = part u (subst (λ l. u < l) size_is lt) in
+        let s = (line_is u p).stands in
+        let same : s.0 ≡ w = one s.0 w (sym s.1 ∙ ap words (sym (address_is u p)) ∙ e) in
+        ap row (sym same) ∙ s.2 ∙ ap (λ (x : GraphNode). Some x.ins) (sym (node_is u p));
+  }
+
+  pub is_kept : IsKept lists stands first
+  is_kept = record {
+    of_code = record { words = words; entry = entry; word_places = P.word_places; of_code = code_graph };
+    graph = flat_graph_law (flows words) entry (flats spots) (graph_of graph) flat_graph;
+    contexts_there = λ k d lt.
+        let p = part k (subst (λ l. k < l) P.stand_count lt) in
+        subst (λ (s : Stand). s.context < length lists) (sym (get_or_from_slice_get stands k (stand k p) d (stand_at k p)))
+        (P.context_of k p.spot (slice_get_within spots k p.spot p.spot_at) p.spot_at).0;
+    few = subst (λ l. l ≤ 16384) (sym P.stand_count) P.few;
+    leaders = λ u n e.
+        let p = part u (subst (λ l. u < l) P.stand_count (slice_get_within stands u n e)) in
+        let same : stand u p ≡ n = one (stand u p) n (sym (stand_at u p) ∙ e) in
+        subst (λ b. IsTrue b ↔ IsLeader (graph_of graph) u) (ap (λ (s : Stand). s.leader) same) (P.leader_of (graph_of graph) edges u p.leader p.leader_at);
+  }
+    where
+      edges : AreEdges (graph_of graph) lines first
+      edges = record {
+        size = size_is ∙ sym P.line_count;
+        start = refl;
+        next = λ u l e.
+            let p = part u (subst (λ m. u < m) P.line_count (slice_get_within lines u l e)) in
+            ap (λ (x : GraphNode). x.next) (node_is u p) ∙ ap (λ (x : Line). onward x.next) (one p.line l (sym p.line_at ∙ e));
+      }

@@ -1,0 +1,16 @@
+use Rattle.std.proofs.Common.{◌≤◌, ◌-◌, length}
+use Rattle.code_map.specs.Words.{word_at}
+use Rattle.rv_decode.specs.Flow.{flows}
+use Rattle.flat_graph.specs.Reach.{IsReached, IsExplored}
+use Rattle.flat_graph.specs.Spots.{flats}
+use Rattle.flat_graph.proofs.reach.reach.Given as goal
+
+abbrev pub invariant-loop-place : goal.invariant-loop-place
+invariant-loop-place l = record {
+  found : IsReached l.found.set.keys l.found.list.items;
+  explored : IsExplored (flows (word_at l.code.images)) l.entry l.place (flats l.found.list.items);
+  within : l.place ≤ length l.found.list.items;
+}
+
+abbrev pub decreases-loop-place : goal.decreases-loop-place
+decreases-loop-place l = l.most - l.place

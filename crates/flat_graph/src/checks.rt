@@ -1,0 +1,80 @@
+// Which spots of the code have an error.
+ghost use Rattle.std.specs.Prelude.{◌≡◌, ℕ, ◌≤◌, ◌+◌, Some, None, IfOk, MatchResult, IsTrue, option_map};
+ghost use Rattle.std.specs.List.{list_any};
+ghost use Rattle.code_map.specs.Words.{word_at};
+ghost use Rattle.rv_decode.specs.Address.{end};
+ghost use Rattle.rv_decode.specs.Flow.{flows, flow};
+ghost use Rattle.rv_decode.specs.Table.{row};
+ghost use Rattle.flat_graph.specs.FlatGraph.{calls, call_error, error_of};
+ghost use Rattle.flat_graph.specs.Refusals.{graph_error, Stands};
+ghost use Rattle.flat_graph.specs.Spots.{flat};
+
+use crate::fault::GraphError;
+use crate::spots::Spot;
+use crate::ways::{Way, way_of};
+use code_map::CodeMap;
+use crpd_base::MOST_CALLS;
+use rv_decode::{Ins, decode};
+
+/// Whether a call to this target stands at an address.
+fn calls(code: &CodeMap, address: u32, target: u32) -> bool
+    ensures { result ≡ calls (flows (word_at code.now.images) address) target }
+{
+    let Some(word) = code.word(address) else {
+        return false;
+    };
+    match decode(word) {
+        Some(ins) => match way_of(address, &ins) {
+            Way::Call(own) => own == target,
+            _ => false,
+        },
+        None => false,
+    }
+}
+
+/// Whether a call under way has this target.
+fn is_under_way(code: &CodeMap, under_way: &[u32], target: u32) -> bool
+    ensures { result ≡ list_any (λ a. calls (flows (word_at code.now.images) a) target) under_way.now }
+{
+    under_way.iter().any(|a| calls(code, *a, target))
+}
+
+/// The error of a call: its target is the entry or the target of a call under way, or sixteen calls are under way.
+fn call_error(code: &CodeMap, entry: u32, spot: &Spot, target: u32) -> Result<(), GraphError>
+    ensures { let error = call_error (flows (word_at code.now.images)) entry (flat spot.now).context target in
+        MatchResult result (λ _. error ≡ None) (λ e. option_map (λ x. graph_error x spot.now.address) error ≡ Some e) }
+{
+    let under_way = spot.calls.as_slice();
+    if target == entry || is_under_way(code, under_way, target) {
+        return Err(GraphError::Recursive(spot.address));
+    }
+    if under_way.len() == MOST_CALLS {
+        return Err(GraphError::TooDeep(spot.address));
+    }
+    Ok(())
+}
+
+/// The instruction at a spot, or the spot's error.
+pub(crate) fn check(code: &CodeMap, entry: u32, spot: &Spot) -> Result<Ins, GraphError>
+    ensures error { MatchResult result (λ _. error_of (flows (word_at code.now.images)) entry (flat spot.now) ≡ None)
+        (λ e. option_map (λ x. graph_error x spot.now.address) (error_of (flows (word_at code.now.images)) entry (flat spot.now)) ≡ Some e) }
+    ensures stands { IfOk result (Stands (word_at code.now.images) spot.now.address) }
+    ensures within { IfOk result (λ _. spot.now.address + 4 ≤ end) }
+{
+    let address = spot.address;
+    if address % 4 != 0 {
+        return Err(GraphError::Misaligned(address));
+    }
+    let word = code.word(address).ok_or(GraphError::OutsideCode(address))?;
+    let ins = decode(word).ok_or(GraphError::Undecodable(address))?;
+    match way_of(address, &ins) {
+        Way::Breakpoint => Err(GraphError::Breakpoint(address)),
+        Way::IndirectJump => Err(GraphError::IndirectJump(address)),
+        Way::OtherLink => Err(GraphError::OtherLink(address)),
+        Way::Call(target) => {
+            call_error(code, entry, spot, target)?;
+            Ok(ins)
+        }
+        _ => Ok(ins),
+    }
+}

@@ -1,0 +1,87 @@
+// The flat graph of a task from the code.
+ghost use Rattle.std.specs.Prelude.{◌≡◌, ◌≤◌, ◌<◌, ℕ, Bool, Some, IfOk, IfErr, IfSome, length, slice_get, slice_index};
+ghost use Rattle.code_map.specs.Words.{word_at};
+ghost use Rattle.rv_decode.specs.Flow.{flows};
+ghost use Rattle.flat_graph.specs.Built.{AreStands};
+ghost use Rattle.flat_graph.specs.CodeGraph.{IsCodeGraph};
+ghost use Rattle.flat_graph.specs.Refusals.{IsRefused};
+
+use crate::contexts::shared_contexts;
+use crate::fault::GraphError;
+use crate::graph::{Graph, Stand};
+use crate::leaders::leaders;
+use crate::lines::{Line, lines, number_of};
+use crate::reach::reach;
+use crate::spots::Spot;
+use code_map::CodeMap;
+use crpd_base::{Items, MOST_NODES, Task};
+use std::alloc::{AllocError, Global};
+
+/// The nodes of the spots, with the numbers of their contexts, their lines, and whether they are leaders.
+fn stands(
+    alloc: Global,
+    spots: &[Spot],
+    contexts: &[u32],
+    lines: &[Line],
+    leaders: &[bool],
+) -> Result<Vec<Stand>, AllocError>
+    requires contexts { length contexts.now ≡ length spots.now }
+    requires lines { length lines.now ≡ length spots.now }
+    requires leaders { length leaders.now ≡ length spots.now }
+    ensures count { IfOk result (λ v. length v.items ≡ length spots.now) }
+    ensures stands { IfOk result (λ v. AreStands spots.now contexts.now lines.now leaders.now v.items) }
+{
+    let mut stands = Vec::new(alloc);
+    for (place, spot) in spots.iter().enumerate() {
+        let line = lines[place];
+        stands.push(Stand {
+            context: contexts[place],
+            address: spot.address,
+            ins: line.ins,
+            next: line.next,
+            leader: leaders[place],
+        })?;
+    }
+    Ok(stands)
+}
+
+/// The flat graph of a task: the nodes that are reached from its entry, with the calls under way, in the order of
+/// numbering, each with its instruction and its successors.
+///
+/// An `Err` is `TooManyNodes` where more than 16,384 nodes are reached, those with errors included; else the error of
+/// the least node that has one, in the order of numbering, each node tried in the order `Misaligned`, `OutsideCode`,
+/// `Undecodable`, `Breakpoint`, `IndirectJump`, `OtherLink`, `Recursive`, `TooDeep`. Addresses are in bytes. `Memory`
+/// may come in place of any answer.
+///
+/// Time is n log n in the nodes, each comparison over at most 16 calls; besides the graph, each node is kept once more
+/// while the graph is built. A list of calls is kept once for all nodes of it.
+///
+/// Source: RISC-V unprivileged manual (JAL, JALR and the return-address register x1 of the standard calling convention).
+pub fn build(alloc: Global, code: &CodeMap, task: Task) -> Result<Graph, GraphError>
+    requires { task.0 < length code.now.plans }
+    ensures graph { IfOk result (λ g. IfSome (slice_get code.now.plans task.0) (λ p. IsCodeGraph (word_at code.now.images) p.entry g)) }
+    ensures few { IfOk result (λ g. length g.nodes ≤ 16384) }
+    ensures refused { IfErr result (λ e. IfSome (slice_get code.now.plans task.0) (λ p. IsRefused (flows (word_at code.now.images)) p.entry e)) }
+{
+    graph_from(alloc, code, code.plan(task).entry)
+}
+
+/// The flat graph of the code from an entry.
+fn graph_from(alloc: Global, code: &CodeMap, entry: u32) -> Result<Graph, GraphError>
+    ensures graph { IfOk result (IsCodeGraph (word_at code.now.images) entry) }
+    ensures few { IfOk result (λ g. length g.nodes ≤ 16384) }
+    ensures refused { IfErr result (IsRefused (flows (word_at code.now.images)) entry) }
+{
+    code.words_law();
+    let spots = reach(alloc, code, entry, MOST_NODES)?;
+    let lines = lines(alloc, code, entry, &spots)?;
+    let first = number_of(&spots, &Spot::first(alloc, entry)?);
+    let leaders = leaders(alloc, &lines, first)?;
+    let contexts = shared_contexts(alloc, &spots)?;
+    let stands = stands(alloc, &spots, &contexts.numbers, &lines, &leaders)?;
+    Ok(Graph {
+        contexts: Items::new(contexts.lists),
+        nodes: Items::new(stands),
+        first,
+    })
+}

@@ -1,0 +1,8 @@
+use Rattle.std.proofs.Common.{◌≡◌, ◌<◌, ℕ, length, slice_index}
+use Rattle.loop_regions.specs.CodeNest.{row}
+use Rattle.loop_regions.proofs.around.at_heads.Given as goal
+
+abbrev pub invariant-loop-head : goal.invariant-loop-head
+invariant-loop-head l =
+    (length l.rows.items ≡ l.head-index)
+    × ((r : ℕ) → r < l.head-index → row l.rows.items r ≡ row l.regions.holders (slice_index l.heads r))

@@ -1,0 +1,23 @@
+use Rattle.std.proofs.Common.{◌≡◌, ◌∙◌, sym, ap, subst, ◌+◌, Vec, Global, List}
+use Rattle.std.specs.Prelude.{Option, Some, None}
+use Rattle.flat_graph.specs.CodeGraph.{places_of}
+use Rattle.loop_regions.specs.Heads.{IsLoopAt, AreHeads}
+use Rattle.loop_regions.specs.declared.heads.Head.{Head}
+use Rattle.loop_regions.proofs.HeadsFound.{no_head, one_head}
+use Rattle.loop_regions.proofs.heads.heads.Goals as goal
+use Rattle.loop_regions.proofs.heads.heads.Goals.{in-Some+in_ok-push, in_default}
+
+pub loop-node-preserved : goal.loop-node-preserved
+loop-node-preserved c =
+    let p = places_of c.args.graph.now in
+    let loops = c.args.loops.now in
+    let k = c.loop-node.node in
+    let goes = λ (xs : List Head). AreHeads p loops (k + 1) xs in
+    elim c.match-loop_at.branch [
+      | in-Some+in_ok-push w ↦
+          subst goes (sym (ap (λ (v : Vec Head Global). v.items) w.heads-is ∙ w.in_ok-push.ensures.items))
+          (one_head p loops k w.in-Some.stated c.loop-node.heads.items c.loop-node.invariant (subst (λ a. IsLoopAt loops a (Some w.in-Some.stated)) c.node.ensures.address w.in-Some.ensures))
+      | in_default w ↦
+          subst goes (sym (ap (λ (v : Vec Head Global). v.items) w.heads-is))
+          (no_head p loops k c.loop-node.heads.items c.loop-node.invariant (subst (λ a. IsLoopAt loops a None) c.node.ensures.address w.in_default.ensures))
+    ]

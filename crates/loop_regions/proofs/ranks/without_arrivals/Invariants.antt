@@ -1,0 +1,6 @@
+use Rattle.std.proofs.Common.{◌<◌, length}
+use Rattle.std.specs.List.{All}
+use Rattle.loop_regions.proofs.ranks.without_arrivals.Given as goal
+
+abbrev pub invariant-loop-v : goal.invariant-loop-v
+invariant-loop-v l = All (λ v. v < length l.arrivals) l.ready.items

@@ -1,0 +1,84 @@
+-- The regions of a graph before they are known to be nested.
+use Rattle.std.specs.Prelude.{◌≡◌, ◌≢◌, ◌↔◌, ◌⊎◌, ℕ, ◌<◌, Bool, not, ◌&&◌, ◌==◌, nat_lt, List, length, slice_index, slice_get, IsTrue, IsFalse, Option, Some, None, true, if◌then◌else◌}
+use Rattle.std.specs.List.{list_any}
+use Rattle.flat_graph.specs.Graph.{Graph, Edge}
+use Rattle.loop_regions.specs.Nest.{Nest, IsInside}
+use Rattle.loop_regions.specs.CodeNest.{has, row, CodeNest, nest_of}
+use Rattle.loop_regions.specs.declared.found.Regions.{Regions}
+
+-- the nest that regions stand for
+abbrev pub code_nest : Regions → CodeNest
+code_nest r = record { heads = r.heads; bounds = r.bounds; holders = r.holders }
+
+abbrev pub nest_in : Regions → Nest
+nest_in r = nest_of (code_nest r)
+
+-- whether a node is the head of region r
+abbrev pub is_head : List ℕ → ℕ → ℕ → Bool
+is_head heads v r = nat_lt r (length heads) && (slice_index heads r == v)
+
+-- whether a region that holds v has another head
+abbrev pub is_inside_some : Regions → ℕ → Bool
+is_inside_some r v = list_any (λ q. not (is_head r.heads v q)) (row r.holders v)
+
+-- whether such a region does not hold u
+abbrev pub enters : Regions → ℕ → ℕ → Bool
+enters r u v = list_any (λ q. not (is_head r.heads v q) && not (has (row r.holders u) q)) (row r.holders v)
+
+-- whether an edge leads to the head of a region that holds its source
+abbrev pub is_back : Regions → ℕ → ℕ → Bool
+is_back r u v = list_any (λ q. is_head r.heads v q) (row r.holders u)
+
+-- a node of region r other than its head is entered from u
+abbrev pub Enters : Nest → ℕ → ℕ → Type 0
+Enters n u v = (r : ℕ) × (r < n.size) × IsTrue (n.holds r v) × (v ≢ n.head r) × IsFalse (n.holds r u)
+
+-- the edges from u enter this node
+abbrev pub EntersFrom : Graph → Nest → ℕ → ℕ → Type 0
+EntersFrom g n u v = Edge g u v × Enters n u v
+
+-- so does its first (0) or second (1) edge
+abbrev pub EntersBy : Graph → Nest → ℕ → ℕ → ℕ → Type 0
+EntersBy g n u k v = (slice_get (g.next u) k ≡ Some v) × Enters n u v
+
+-- it is the first node, and a region holds it of which it is not the head
+abbrev pub IsInsideStart : Graph → Nest → ℕ → Type 0
+IsInsideStart g n v = (v ≡ g.first) × (r : ℕ) × (r < n.size) × IsTrue (n.holds r v) × (v ≢ n.head r)
+
+-- for each region, the regions that hold all of its nodes
+pub record AreAround (n : Nest) (rows : List (List ℕ)) : Type 0 where
+  pub regions : length rows ≡ n.size
+  pub is : (r s : ℕ) → r < n.size → IsTrue (has (row rows r) s) ↔ ((s < n.size) × IsInside n r s)
+
+-- two regions of which neither holds the other, by these rows
+abbrev pub lie_across : List (List ℕ) → ℕ → ℕ → Bool
+lie_across rows r s = not (has (row rows r) s) && not (has (row rows s) r)
+
+-- one of these regions lies across another
+abbrev pub are_across : List (List ℕ) → List ℕ → Bool
+are_across rows among = list_any (λ r. list_any (lie_across rows r) among) among
+
+-- whether a region is another than this one
+abbrev pub is_other : Option ℕ → ℕ → Bool
+is_other None r = true
+is_other (Some b) r = not (b == r)
+
+-- whether a region lies inside the best one so far, where there is one
+abbrev pub is_better : List (List ℕ) → Option ℕ → ℕ → Bool
+is_better rows None r = true
+is_better rows (Some b) r = has (row rows r) b
+
+-- the innermost region so far
+abbrev pub better : List (List ℕ) → Option ℕ → Option ℕ → ℕ → Option ℕ
+better rows besides best r = if is_other besides r && is_better rows best r then Some r else best
+
+-- it is the innermost of these regions but one
+abbrev pub IsInnermost : List (List ℕ) → List ℕ → Option ℕ → Option ℕ → Type 0
+IsInnermost rows among besides None = (s : ℕ) → IsTrue (has among s) → besides ≡ Some s
+IsInnermost rows among besides (Some r) =
+    IsTrue (has among r) × (besides ≢ Some r) × ((s : ℕ) → IsTrue (has among s) → besides ≢ Some s → IsTrue (has (row rows r) s))
+
+-- of two of these regions one holds the other, and so on from region to region
+pub record AreInLine (rows : List (List ℕ)) (among : List ℕ) : Type 0 where
+  pub either : (r s : ℕ) → IsTrue (has among r) → IsTrue (has among s) → IsTrue (has (row rows r) s) ⊎ IsTrue (has (row rows s) r)
+  pub onward : (r s t : ℕ) → IsTrue (has among r) → IsTrue (has (row rows r) s) → IsTrue (has (row rows s) t) → IsTrue (has (row rows r) t)

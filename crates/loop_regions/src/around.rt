@@ -1,0 +1,46 @@
+// For each region the regions round it.
+ghost use Rattle.std.specs.Prelude.{◌≡◌, ◌↔◌, ◌<◌, ℕ, IfOk, IsTrue, length, slice_index};
+ghost use Rattle.loop_regions.specs.CodeNest.{has, row};
+ghost use Rattle.loop_regions.specs.Found.{nest_in, AreAround};
+
+use crate::found::Regions;
+use crate::holders::Holders;
+use std::alloc::{AllocError, Global};
+
+/// For each region the regions that hold its head.
+fn at_heads(alloc: Global, regions: &Regions) -> Result<Vec<Holders>, AllocError>
+    ensures regions { IfOk result (λ rows. length rows.items ≡ length regions.now.heads) }
+    ensures rows { IfOk result (λ rows. (r : ℕ) → r < length regions.now.heads →
+        row rows.items r ≡ row regions.now.holders (slice_index regions.now.heads r)) }
+{
+    let heads = regions.heads.as_slice();
+    let mut rows = Vec::with_capacity(alloc, heads.len())?;
+    for head in heads {
+        rows.push(Holders::from_slice(alloc, regions.holders(*head))?)?;
+    }
+    Ok(rows)
+}
+
+/// Keeps in the rows of a node's regions what holds the node.
+fn narrow(rows: &mut Vec<Holders>, holders: &[u32])
+    requires { (r : ℕ) → IsTrue (has holders.now r) → r < length rows.old.items }
+    ensures regions { length rows.new.items ≡ length rows.old.items }
+    ensures narrowed { (r s : ℕ) → r < length rows.old.items → IsTrue (has (row rows.new.items r) s)
+        ↔ (IsTrue (has (row rows.old.items r) s) × (IsTrue (has holders.now r) → IsTrue (has holders.now s))) }
+{
+    for r in holders {
+        let around = &mut rows[*r as usize];
+        around.keep(holders);
+    }
+}
+
+/// For each region the regions that hold all of its nodes, itself among them. Each region of each node is looked at once.
+pub(crate) fn regions_around(alloc: Global, regions: &Regions) -> Result<Vec<Holders>, AllocError>
+    ensures { IfOk result (λ rows. AreAround (nest_in regions.now) rows.items) }
+{
+    let mut rows = at_heads(alloc, regions)?;
+    for y in 0..regions.nodes() {
+        narrow(&mut rows, regions.holders(y));
+    }
+    Ok(rows)
+}

@@ -1,0 +1,86 @@
+// Cycles without back edges.
+ghost use Rattle.std.specs.Prelude.{◌≡◌, ◌+◌, ◌≤◌, ◌↔◌, ◌<◌, IfOk, OnOk, IsTrue, length};
+ghost use Rattle.flat_graph.specs.CodeGraph.{graph_of};
+ghost use Rattle.loop_regions.specs.Least.{IsLeast};
+ghost use Rattle.loop_regions.specs.Stated.{IsOnCycle};
+ghost use Rattle.loop_regions.specs.Found.{nest_in};
+ghost use Rattle.loop_regions.specs.Cycles.{IsSearch, IsMet, EdgesFrom, to_search};
+
+use crate::found::Regions;
+use crate::ranks::{fall, forward, ranks};
+use flat_graph::Graph;
+use std::alloc::{AllocError, Global};
+
+/// A search along forward edges from a node: the nodes that it found, and those of them whose edges it has not followed yet.
+#[derive(Drop)]
+struct Search {
+    start: u32,
+    seen: Vec<bool>,
+    waiting: Vec<u32>,
+}
+
+impl Search {
+    /// Follows the first or second edge of a node, where that is a forward one.
+    fn follow(&mut self, graph: &Graph, regions: &Regions, u: u32, k: u8) -> Result<(), AllocError>
+        requires nodes { length regions.now.holders ≡ (graph_of graph.now).size }
+        requires node { u < (graph_of graph.now).size }
+        requires place { k < 2 }
+        requires met { IsMet self.old.start self.old.seen.items u }
+        requires search { IsSearch (graph_of graph.now) (nest_in regions.now) self.old.start self.old.seen.items self.old.waiting.items (EdgesFrom u k) }
+        ensures search { OnOk result (IsSearch (graph_of graph.now) (nest_in regions.now) self.new.start self.new.seen.items self.new.waiting.items (EdgesFrom u (k + 1))) }
+        ensures falls { OnOk result (to_search self.new.seen.items self.new.waiting.items ≤ to_search self.old.seen.items self.old.waiting.items) }
+        ensures start { self.new.start ≡ self.old.start }
+        ensures met { OnOk result (IsMet self.new.start self.new.seen.items u) }
+    {
+        let Some(v) = forward(graph, regions, u, k) else {
+            return Ok(());
+        };
+        if self.seen[v as usize] {
+            return Ok(());
+        }
+        self.seen[v as usize] = true;
+        self.waiting.push(v)?;
+        Ok(())
+    }
+}
+
+/// Whether forward edges lead from a node back to it.
+fn is_on_cycle(alloc: Global, graph: &Graph, regions: &Regions, y: u32) -> Result<bool, AllocError>
+    requires nodes { length regions.now.holders ≡ (graph_of graph.now).size }
+    requires node { y < (graph_of graph.now).size }
+    ensures { IfOk result (λ says. IsTrue says ↔ IsOnCycle (graph_of graph.now) (nest_in regions.now) y) }
+{
+    graph.graph_law();
+    let mut search = Search {
+        start: y,
+        seen: vec![in alloc; false; graph.len() as usize]?,
+        waiting: vec![in alloc; y]?,
+    };
+    while let Some(u) = search.waiting.pop() {
+        search.follow(graph, regions, u, 0)?;
+        search.follow(graph, regions, u, 1)?;
+    }
+    Ok(search.seen[y as usize])
+}
+
+/// The least node on a cycle without back edges. Where there is none, each edge is looked at a few times; where there is
+/// one, there is a search from each node up to it.
+pub(crate) fn least_on_cycle(
+    alloc: Global,
+    graph: &Graph,
+    regions: &Regions,
+) -> Result<Option<u32>, AllocError>
+    requires { length regions.now.holders ≡ (graph_of graph.now).size }
+    ensures { IfOk result (IsLeast (IsOnCycle (graph_of graph.now) (nest_in regions.now))) }
+{
+    let ranks = ranks(alloc, graph, regions)?;
+    if fall(graph, regions, &ranks) {
+        return Ok(None);
+    }
+    for y in 0..graph.len() {
+        if is_on_cycle(alloc, graph, regions, y)? {
+            return Ok(Some(y));
+        }
+    }
+    Ok(None)
+}

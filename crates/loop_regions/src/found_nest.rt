@@ -1,0 +1,74 @@
+// The regions of a task's graph, or the first refusal.
+ghost use Rattle.std.specs.Prelude.{◌≡◌, ℕ, IfOk, IfErr, length};
+ghost use Rattle.flat_graph.specs.CodeGraph.{graph_of, places_of};
+ghost use Rattle.loop_regions.specs.CodeNest.{nest_of, AreBounded, IsNestOf};
+ghost use Rattle.loop_regions.specs.Stated.{IsRegions, IsAccepted, IsSameHead};
+ghost use Rattle.loop_regions.specs.Found.{nest_in};
+ghost use Rattle.loop_regions.specs.Refused.{IsLoopError};
+
+use crate::around::regions_around;
+use crate::cycles::least_on_cycle;
+use crate::fault::LoopError;
+use crate::found::Regions;
+use crate::nest::Nest;
+use crate::nested::{levels, not_nested, parents};
+use crate::same_head::least_same_head;
+use crate::second_entry::least_second_entry;
+use crpd_base::{LoopAt, NodeId, TaskPlan};
+use flat_graph::Graph;
+use std::alloc::Global;
+
+/// The nest of regions that were found for stated loops with heads of their own, or the first refusal.
+fn nest_of_found(
+    alloc: Global,
+    graph: &Graph,
+    loops: &[LoopAt],
+    found: Regions,
+) -> Result<Nest, LoopError>
+    requires nodes { length found.holders ≡ (graph_of graph.now).size }
+    requires one_head { (a : ℕ) → ¬ IsSameHead loops.now a }
+    requires regions { IsRegions (graph_of graph.now) (places_of graph.now) loops.now (nest_in found) }
+    ensures regions { IfOk result (λ nest. IsRegions (graph_of graph.now) (places_of graph.now) loops.now (nest_of nest)) }
+    ensures accepted { IfOk result (λ nest. IsAccepted (graph_of graph.now) (nest_of nest)) }
+    ensures nodes { IfOk result (λ nest. length nest.holders ≡ (graph_of graph.now).size) }
+    ensures refused { IfErr result (IsLoopError (graph_of graph.now) (places_of graph.now) loops.now) }
+{
+    graph.graph_law();
+    if let Some(v) = least_second_entry(graph, &found) {
+        return Err(LoopError::SecondEntry(graph.node(NodeId(v)).address));
+    }
+    let around = regions_around(alloc, &found)?;
+    if let Some(v) = not_nested(&found, &around) {
+        return Err(LoopError::NotNested(graph.node(NodeId(v)).address));
+    }
+    if let Some(v) = least_on_cycle(alloc, graph, &found)? {
+        return Err(LoopError::CycleWithoutBound(graph.node(NodeId(v)).address));
+    }
+    let innermost = levels(alloc, &found, &around)?;
+    let parents = parents(alloc, &found, &around)?;
+    Ok(Nest::new(found, parents, innermost))
+}
+
+/// The regions of a plan's stated loops in a task's graph: one for each loop in each context in which its head is a node.
+///
+/// An `Err` is the first refusal, in the order `SameHead`, `SecondEntry`, `NotNested`, `CycleWithoutBound`, each with its
+/// least address. `Memory` may come in place of any answer.
+///
+/// A region holds the nodes of its context whose addresses the loop holds, and the nodes of the calls made there. Time is
+/// linear in the nodes and edges, times the number of regions of their contexts; where a node lies on a cycle without back
+/// edges, each node up to the least such node is searched from.
+pub fn regions(alloc: Global, graph: &Graph, plan: &TaskPlan) -> Result<Nest, LoopError>
+    ensures regions { IfOk result (λ nest. IsRegions (graph_of graph.now) (places_of graph.now) plan.now.loops (nest_of nest)) }
+    ensures accepted { IfOk result (λ nest. IsAccepted (graph_of graph.now) (nest_of nest)) }
+    ensures one_head { IfOk result (λ _. (a : ℕ) → ¬ IsSameHead plan.now.loops a) }
+    ensures nodes { IfOk result (λ nest. length nest.holders ≡ (graph_of graph.now).size) }
+    ensures nest { IfOk result (λ nest. AreBounded plan.now.loops → IsNestOf graph.now nest) }
+    ensures refused { IfErr result (IsLoopError (graph_of graph.now) (places_of graph.now) plan.now.loops) }
+{
+    let loops = plan.loops.as_slice();
+    if let Some(address) = least_same_head(loops) {
+        return Err(LoopError::SameHead(address));
+    }
+    let found = Regions::find(alloc, graph, loops)?;
+    nest_of_found(alloc, graph, loops, found)
+}

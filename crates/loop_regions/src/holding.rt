@@ -1,0 +1,170 @@
+// Which regions hold a node.
+ghost use Rattle.std.specs.Prelude.{◌≡◌, ◌<◌, ◌≤◌, ◌↔◌, ◌∷◌, [], ◌++◌, ℕ, IfOk, OnOk, IsTrue, IsFalse, length, if◌then◌else◌, Some, slice_get};
+ghost use Rattle.std.specs.List.{list_any};
+ghost use Rattle.flow_watch.specs.Watch.{in_range, holds};
+ghost use Rattle.flat_graph.specs.CodeGraph.{graph_of, places_of};
+ghost use Rattle.loop_regions.specs.CodeNest.{has, row};
+ghost use Rattle.loop_regions.specs.Stated.{seen_from, region_holds};
+ghost use Rattle.loop_regions.specs.Heads.{AreHeads, IsHeldBy, sees};
+
+use crate::heads::Head;
+use crate::holders::Holders;
+use crpd_base::{LoopAt, NodeId};
+use flat_graph::Graph;
+use std::alloc::{AllocError, Global};
+
+/// Whether a range has the address: it includes its first address and excludes its second.
+fn in_range(address: u32, range: &(u32, u32)) -> bool
+    ensures { result ≡ in_range address range.now }
+{
+    range.0 <= address && address < range.1
+}
+
+/// Whether one of a stated loop's ranges has the address.
+fn is_in_ranges(stated: &LoopAt, address: u32) -> bool
+    ensures { result ≡ list_any (in_range address) stated.now.ranges }
+{
+    stated
+        .ranges
+        .as_slice()
+        .iter()
+        .any(|range| in_range(address, range))
+}
+
+/// Whether a stated loop holds an address: as its head, or in one of its ranges.
+fn holds(stated: &LoopAt, address: u32) -> bool
+    ensures { result ≡ holds stated.now address }
+{
+    address == stated.head || is_in_ranges(stated, address)
+}
+
+/// Seen from a context, the address of a node: its own, or that of the call that was made in the context. None where
+/// the node's context does not begin with it.
+fn seen_from(from: &[u32], context: &[u32], address: u32) -> Option<u32>
+    ensures { result ≡ seen_from from.now context.now address }
+{
+    if !context.starts_with(from) {
+        return None;
+    }
+    if from.len() < context.len() {
+        Some(context[from.len()])
+    } else {
+        Some(address)
+    }
+}
+
+/// The address of a node as it is seen from a context.
+fn seen(graph: &Graph, from: &[u32], y: u32) -> Option<u32>
+    requires { y < (graph_of graph.now).size }
+    ensures { result ≡ seen_from from.now ((places_of graph.now).context y) ((places_of graph.now).address y) }
+{
+    seen_from(
+        from,
+        graph.context(NodeId(y)),
+        graph.node(NodeId(y)).address,
+    )
+}
+
+/// Whether the region of a stated loop in the context of a head holds a node.
+fn region_holds(graph: &Graph, stated: &LoopAt, from: &[u32], y: u32) -> bool
+    requires { y < (graph_of graph.now).size }
+    ensures { result ≡ region_holds (places_of graph.now) stated.now from.now y }
+{
+    match seen(graph, from, y) {
+        Some(address) => holds(stated, address),
+        None => false,
+    }
+}
+
+/// Where the nodes that are seen from a node's context begin.
+fn first_seen(graph: &Graph, head: u32) -> u32
+    requires { head < (graph_of graph.now).size }
+    ensures below { result ≤ head }
+    ensures before { (y : ℕ) → y < result → IsFalse (sees (places_of graph.now) ((places_of graph.now).context head) y) }
+{
+    graph.graph_law();
+    let from = graph.context(NodeId(head));
+    let mut first = head;
+    while first > 0 && seen(graph, from, first - 1).is_some() {
+        first -= 1;
+    }
+    first
+}
+
+/// Where the nodes that are seen from a node's context end.
+fn past_seen(graph: &Graph, head: u32) -> u32
+    requires { head < (graph_of graph.now).size }
+    ensures within { result ≤ (graph_of graph.now).size }
+    ensures after { (y : ℕ) → result ≤ y → y < (graph_of graph.now).size → IsFalse (sees (places_of graph.now) ((places_of graph.now).context head) y) }
+{
+    graph.graph_law();
+    let from = graph.context(NodeId(head));
+    let mut past = head + 1;
+    while past < graph.len() && seen(graph, from, past).is_some() {
+        past += 1;
+    }
+    past
+}
+
+/// Adds a region to the nodes that it holds. Nodes are numbered by their contexts first, so those that are seen from a
+/// context stand together; no others are looked at.
+fn place(
+    graph: &Graph,
+    stated: &LoopAt,
+    head: u32,
+    r: u32,
+    holders: &mut Vec<Holders>,
+) -> Result<(), AllocError>
+    requires head { head < (graph_of graph.now).size }
+    requires nodes { length holders.old.items ≡ (graph_of graph.now).size }
+    ensures nodes { OnOk result (length holders.new.items ≡ (graph_of graph.now).size) }
+    ensures placed { OnOk result ((y : ℕ) → y < (graph_of graph.now).size → row holders.new.items y ≡ row holders.old.items y
+        ++ (if region_holds (places_of graph.now) stated.now ((places_of graph.now).context head) y then r ∷ [] else [])) }
+{
+    let from = graph.context(NodeId(head));
+    for y in first_seen(graph, head)..past_seen(graph, head) {
+        if region_holds(graph, stated, from, y) {
+            let here = &mut holders[y as usize];
+            here.push(r)?;
+        }
+    }
+    Ok(())
+}
+
+/// No regions for each of some nodes.
+fn no_holders(alloc: Global, nodes: u32) -> Result<Vec<Holders>, AllocError>
+    ensures nodes { IfOk result (λ holders. length holders.items ≡ nodes) }
+    ensures none { IfOk result (λ holders. (y : ℕ) → row holders.items y ≡ []) }
+{
+    let mut holders = Vec::with_capacity(alloc, nodes as usize)?;
+    for _ in 0..nodes {
+        holders.push(Holders::new(alloc))?;
+    }
+    Ok(holders)
+}
+
+/// For each node the regions that hold it, where the regions are those of these heads.
+pub(crate) fn holders(
+    alloc: Global,
+    graph: &Graph,
+    loops: &[LoopAt],
+    heads: &[Head],
+) -> Result<Vec<Holders>, AllocError>
+    requires { AreHeads (places_of graph.now) loops.now (graph_of graph.now).size heads.now }
+    ensures nodes { IfOk result (λ holders. length holders.items ≡ (graph_of graph.now).size) }
+    ensures held { IfOk result (λ holders. (y r : ℕ) → y < (graph_of graph.now).size →
+        IsTrue (has (row holders.items y) r) ↔ IsHeldBy (places_of graph.now) loops.now heads.now y r) }
+{
+    graph.graph_law();
+    let mut holders = no_holders(alloc, graph.len())?;
+    for (r, head) in heads.iter().enumerate() {
+        place(
+            graph,
+            &loops[head.stated],
+            head.node,
+            r as u32,
+            &mut holders,
+        )?;
+    }
+    Ok(holders)
+}

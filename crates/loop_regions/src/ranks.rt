@@ -1,0 +1,158 @@
+// Ranks that fall along forward edges, where no cycle is left without back edges.
+ghost use Rattle.std.specs.Prelude.{◌≡◌, ◌<◌, ◌^◌, ℕ, All, IfOk, IfSome, OnOk, IsTrue, Some, length, slice_get, slice_index};
+ghost use Rattle.flat_graph.specs.CodeGraph.{graph_of};
+ghost use Rattle.loop_regions.specs.Stated.{IsForward};
+ghost use Rattle.loop_regions.specs.Found.{nest_in, is_back};
+ghost use Rattle.loop_regions.specs.Cycles.{IsForwardBy};
+
+use crate::found::Regions;
+use crate::second_entry::next;
+use flat_graph::Graph;
+use std::alloc::{AllocError, Global};
+
+/// Whether an edge from u to v leads to the head of a region that holds u.
+fn is_back(regions: &Regions, u: u32, v: u32) -> bool
+    requires { u < length regions.now.holders }
+    ensures { result ≡ is_back regions.now u v }
+{
+    regions.holders(u).iter().any(|r| regions.is_head(*r, v))
+}
+
+/// The first (0) or second (1) successor of a node, where that edge is no back edge.
+pub(crate) fn forward(graph: &Graph, regions: &Regions, u: u32, k: u8) -> Option<u32>
+    requires nodes { length regions.now.holders ≡ (graph_of graph.now).size }
+    requires node { u < (graph_of graph.now).size }
+    requires place { k < 2 }
+    ensures edge { IsForwardBy (graph_of graph.now) (nest_in regions.now) u k result }
+    ensures within { IfSome result (λ v. v < (graph_of graph.now).size) }
+{
+    graph.graph_law();
+    let v = next(graph, u, k)?;
+    if is_back(regions, u, v) {
+        None
+    } else {
+        Some(v)
+    }
+}
+
+/// Counts one more edge that arrives at the first or second successor of a node.
+fn count(graph: &Graph, regions: &Regions, u: u32, k: u8, arrivals: &mut Vec<u32>)
+    requires nodes { length regions.now.holders ≡ (graph_of graph.now).size }
+    requires node { u < (graph_of graph.now).size }
+    requires place { k < 2 }
+    requires all { length arrivals.old.items ≡ (graph_of graph.now).size }
+    ensures { length arrivals.new.items ≡ length arrivals.old.items }
+{
+    if let Some(v) = forward(graph, regions, u, k) {
+        arrivals[v as usize] = arrivals[v as usize].saturating_add(1);
+    }
+}
+
+/// How many forward edges arrive at each node.
+fn count_arrivals(alloc: Global, graph: &Graph, regions: &Regions) -> Result<Vec<u32>, AllocError>
+    requires { length regions.now.holders ≡ (graph_of graph.now).size }
+    ensures { IfOk result (λ arrivals. length arrivals.items ≡ (graph_of graph.now).size) }
+{
+    let mut arrivals = vec![in alloc; 0u32; graph.len() as usize]?;
+    for u in 0..graph.len() {
+        count(graph, regions, u, 0, &mut arrivals);
+        count(graph, regions, u, 1, &mut arrivals);
+    }
+    Ok(arrivals)
+}
+
+/// The nodes at which no edge arrives.
+fn without_arrivals(alloc: Global, arrivals: &[u32]) -> Result<Vec<u32>, AllocError>
+    requires { length arrivals.now < 2 ^ 32 }
+    ensures { IfOk result (λ ready. All (λ v. v < length arrivals.now) ready.items) }
+{
+    let mut ready = Vec::new(alloc);
+    for (v, left) in arrivals.iter().enumerate() {
+        if *left == 0 {
+            ready.push(v as u32)?;
+        }
+    }
+    Ok(ready)
+}
+
+/// Takes an edge of a ranked node away. Its target is ready where that was the last edge that arrived there.
+fn take_away(
+    graph: &Graph,
+    regions: &Regions,
+    u: u32,
+    k: u8,
+    arrivals: &mut Vec<u32>,
+    ready: &mut Vec<u32>,
+) -> Result<(), AllocError>
+    requires nodes { length regions.now.holders ≡ (graph_of graph.now).size }
+    requires node { u < (graph_of graph.now).size }
+    requires place { k < 2 }
+    requires all { length arrivals.old.items ≡ (graph_of graph.now).size }
+    requires ready { All (λ v. v < (graph_of graph.now).size) ready.old.items }
+    ensures all { length arrivals.new.items ≡ length arrivals.old.items }
+    ensures ready { OnOk result (All (λ v. v < (graph_of graph.now).size) ready.new.items) }
+{
+    if let Some(v) = forward(graph, regions, u, k) {
+        let left = arrivals[v as usize].saturating_sub(1);
+        arrivals[v as usize] = left;
+        if left == 0 {
+            ready.push(v)?;
+        }
+    }
+    Ok(())
+}
+
+/// A number for each node: each node is ranked once all nodes with forward edges to it are, below them. Nodes that this
+/// leaves out have rank 0; there are such nodes only where a cycle is. Each edge is looked at twice.
+pub(crate) fn ranks(alloc: Global, graph: &Graph, regions: &Regions) -> Result<Vec<u32>, AllocError>
+    requires { length regions.now.holders ≡ (graph_of graph.now).size }
+    ensures { IfOk result (λ ranks. length ranks.items ≡ (graph_of graph.now).size) }
+{
+    graph.graph_law();
+    let nodes = graph.len();
+    let mut arrivals = count_arrivals(alloc, graph, regions)?;
+    let mut ready = without_arrivals(alloc, &arrivals)?;
+    let mut ranks = vec![in alloc; 0u32; nodes as usize]?;
+    for ranked in 0..nodes {
+        let Some(u) = ready.pop() else {
+            break;
+        };
+        ranks[u as usize] = nodes - ranked;
+        take_away(graph, regions, u, 0, &mut arrivals, &mut ready)?;
+        take_away(graph, regions, u, 1, &mut arrivals, &mut ready)?;
+    }
+    Ok(ranks)
+}
+
+/// Whether ranks fall along the first or second edge of a node, where that is a forward one.
+fn falls_along(graph: &Graph, regions: &Regions, ranks: &[u32], u: u32, k: u8) -> bool
+    requires nodes { length regions.now.holders ≡ (graph_of graph.now).size }
+    requires node { u < (graph_of graph.now).size }
+    requires place { k < 2 }
+    requires all { length ranks.now ≡ (graph_of graph.now).size }
+    ensures { IsTrue result → (v : ℕ) → slice_get ((graph_of graph.now).next u) k ≡ Some v → IsForward (graph_of graph.now) (nest_in regions.now) u v
+        → slice_index ranks.now v < slice_index ranks.now u }
+{
+    match forward(graph, regions, u, k) {
+        Some(v) => ranks[v as usize] < ranks[u as usize],
+        None => true,
+    }
+}
+
+/// Whether ranks fall along all forward edges. Then no cycle is left without back edges.
+pub(crate) fn fall(graph: &Graph, regions: &Regions, ranks: &[u32]) -> bool
+    requires nodes { length regions.now.holders ≡ (graph_of graph.now).size }
+    requires all { length ranks.now ≡ (graph_of graph.now).size }
+    ensures { IsTrue result → (u v : ℕ) → IsForward (graph_of graph.now) (nest_in regions.now) u v → slice_index ranks.now v < slice_index ranks.now u }
+{
+    graph.graph_law();
+    for u in 0..graph.len() {
+        if !falls_along(graph, regions, ranks, u, 0) {
+            return false;
+        }
+        if !falls_along(graph, regions, ranks, u, 1) {
+            return false;
+        }
+    }
+    true
+}

@@ -1,0 +1,90 @@
+// Regions that are entered elsewhere than at their heads.
+ghost use Rattle.std.specs.Prelude.{◌≡◌, ◌<◌, length, slice_get};
+ghost use Rattle.flat_graph.specs.CodeGraph.{graph_of};
+ghost use Rattle.loop_regions.specs.Least.{IsLeast};
+ghost use Rattle.loop_regions.specs.Stated.{IsSecondEntry};
+ghost use Rattle.loop_regions.specs.Found.{nest_in, is_inside_some, enters, EntersFrom, EntersBy, IsInsideStart};
+
+use crate::found::Regions;
+use crate::least::lesser;
+use crpd_base::NodeId;
+use flat_graph::Graph;
+
+/// Whether a region of which v is not the head holds it.
+fn is_inside_some(regions: &Regions, v: u32) -> bool
+    requires { v < length regions.now.holders }
+    ensures { result ≡ is_inside_some regions.now v }
+{
+    regions.holders(v).iter().any(|r| !regions.is_head(*r, v))
+}
+
+/// Whether an edge from u to v enters a region of which v is not the head.
+fn enters(regions: &Regions, u: u32, v: u32) -> bool
+    requires { v < length regions.now.holders }
+    ensures { result ≡ enters regions.now u v }
+{
+    regions
+        .holders(v)
+        .iter()
+        .any(|r| !regions.is_head(*r, v) && !regions.holds(*r, u))
+}
+
+/// The first (0) or second (1) successor of a node.
+pub(crate) fn next(graph: &Graph, u: u32, k: u8) -> Option<u32>
+    requires node { u < (graph_of graph.now).size }
+    requires place { k < 2 }
+    ensures { result ≡ slice_get ((graph_of graph.now).next u) k }
+{
+    graph.succ(NodeId(u), k).map(|id| id.0)
+}
+
+/// The first or second successor of a node, where that edge enters a region of which it is not the head.
+fn entered_by(graph: &Graph, regions: &Regions, u: u32, k: u8) -> Option<u32>
+    requires nodes { length regions.now.holders ≡ (graph_of graph.now).size }
+    requires node { u < (graph_of graph.now).size }
+    requires place { k < 2 }
+    ensures { IsLeast (EntersBy (graph_of graph.now) (nest_in regions.now) u k) result }
+{
+    graph.graph_law();
+    let v = next(graph, u, k)?;
+    if enters(regions, u, v) { Some(v) } else { None }
+}
+
+/// The least successor of a node at which a region is entered of which it is not the head.
+fn entered_from(graph: &Graph, regions: &Regions, u: u32) -> Option<u32>
+    requires nodes { length regions.now.holders ≡ (graph_of graph.now).size }
+    requires node { u < (graph_of graph.now).size }
+    ensures { IsLeast (EntersFrom (graph_of graph.now) (nest_in regions.now) u) result }
+{
+    graph.graph_law();
+    lesser(
+        entered_by(graph, regions, u, 0),
+        entered_by(graph, regions, u, 1),
+    )
+}
+
+/// The first node, where a region holds it of which it is not the head.
+fn inside_start(graph: &Graph, regions: &Regions) -> Option<u32>
+    requires { length regions.now.holders ≡ (graph_of graph.now).size }
+    ensures { IsLeast (IsInsideStart (graph_of graph.now) (nest_in regions.now)) result }
+{
+    graph.graph_law();
+    let first = graph.first().0;
+    if is_inside_some(regions, first) {
+        Some(first)
+    } else {
+        None
+    }
+}
+
+/// The least node at which a region is entered of which it is not the head. Each edge is looked at once.
+pub(crate) fn least_second_entry(graph: &Graph, regions: &Regions) -> Option<u32>
+    requires { length regions.now.holders ≡ (graph_of graph.now).size }
+    ensures { IsLeast (IsSecondEntry (graph_of graph.now) (nest_in regions.now)) result }
+{
+    let mut least = inside_start(graph, regions);
+    for u in 0..graph.len() {
+        least = lesser(least, entered_from(graph, regions, u));
+    }
+    least
+}
