@@ -11,11 +11,11 @@ use Rattle.code_map.specs.Words.{Code, word_at, owns}
 use Rattle.crpd_report.specs.List.{those_below, own_addresses, line_of, lines_of, list_text}
 
 -- one number more, which passes the test or does not
-one_more : (p : ℕ → Bool) (n : ℕ) → p n ≡ true → those_below (suc n) p ≡ those_below n p ++ n ∷ []
+pub one_more : (p : ℕ → Bool) (n : ℕ) → p n ≡ true → those_below (suc n) p ≡ those_below n p ++ n ∷ []
 unfolding those_below
 one_more p n e = rw e refl
 
-none_more : (p : ℕ → Bool) (n : ℕ) → p n ≡ false → those_below (suc n) p ≡ those_below n p
+pub none_more : (p : ℕ → Bool) (n : ℕ) → p n ≡ false → those_below (suc n) p ≡ those_below n p
 unfolding those_below
 none_more p n e = rw e (append-nil (those_below n p))
 
