@@ -1,17 +1,16 @@
 -- Forward edges, ranks that fall along them, and the search along them.
-use Rattle.std.proofs.Common.{◌≡◌, ◌≢◌, ◌⊎◌, ◌↔◌, ℕ, zero, suc, ◌+◌, ◌*◌, ◌<◌, ◌≤◌, Bool, true, false, List, [], ◌∷◌, ◌++◌, length, set, Some, None, Contains, slice_get, slice_index, get_or, IsTrue, IsFalse, refl, sym, ap, ◌∙◌, subst, inl, inr, ⊎_elim, arith, length-append, get_or-set_same, get_or-set_other}
-use Rattle.std.specs.Prelude.{Option}
+use Rattle.std.proofs.Common.{◌≡◌, ◌⊎◌, ◌↔◌, ℕ, zero, suc, ◌+◌, ◌<◌, ◌≤◌, Bool, true, false, List, [], ◌∷◌, ◌++◌, length, set, Some, None, Contains, slice_get, slice_index, IsTrue, refl, sym, ap, ◌∙◌, subst, inl, inr, ⊎_elim, arith, length-append, get_or-set_same, get_or-set_other}
 use Rattle.std.specs.List.{list_any}
-use Rattle.std.proofs.lemmas.Bool.{cases_eq, cases_lt, cases_Bool, both_ways, false≢true}
+use Rattle.std.proofs.lemmas.Bool.{cases_eq, both_ways}
 use Rattle.std.proofs.lemmas.List.{length-set}
 use Rattle.std.proofs.lemmas.Option.{slice_get_within, slice_get-get_or, get_or_from_slice_get}
-use Rattle.flat_graph.specs.Graph.{Graph, Edge, IsGraph}
+use Rattle.flat_graph.specs.Graph.{Graph}
 use Rattle.loop_regions.specs.Nest.{Nest, IsBackEdge}
 use Rattle.loop_regions.specs.Stated.{IsForward, IsForwardWay, IsOnCycle}
 use Rattle.loop_regions.specs.CodeNest.{has, row}
 use Rattle.loop_regions.specs.Sound.{IsSound}
 use Rattle.loop_regions.specs.Found.{is_head}
-use Rattle.loop_regions.specs.Cycles.{IsForwardBy, Reaches, was_seen, IsMet, IsSearch, EdgesFrom, NoEdges, unseen, to_search, NoneBelow}
+use Rattle.loop_regions.specs.Cycles.{IsForwardBy, Reaches, was_seen, IsMet, IsSearch, EdgesFrom, NoEdges, unseen, to_search}
 use Rattle.loop_regions.proofs.Has.{has_any, any_has, has_more, has_pushed, has_push_cases}
 use Rattle.loop_regions.proofs.SecondEntries.{head_is, is_the_head}
 use Rattle.loop_regions.proofs.LeastOf.{nest_by}
