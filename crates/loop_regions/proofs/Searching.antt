@@ -158,19 +158,6 @@ module _ (g : Graph) (n : Nest) (y : ℕ) where
           t)
           s
 
-  -- the start: no node is seen, and y waits
-  pub search_start : (seen : List Bool) → length seen ≡ g.size → y < g.size → ((v : ℕ) → was_seen seen v ≡ false) → IsSearch g n y seen (y ∷ []) NoEdges
-  search_start seen len lt none = record {
-    nodes = len;
-    start = lt;
-    sound = λ v h. absurd (both_ways (was_seen seen v) (none v) h);
-    own = λ u h. ⊎_elim (λ t. absurd (both_ways (has [] u) refl t)) (λ e. (subst (λ x. x < g.size) e lt, inl (sym e))) (has_push_cases [] y u h);
-    followed = λ u v k m e f. ⊎_elim
-        (λ is. inr (inl (subst (λ x. IsTrue (has (y ∷ []) x)) (sym is) (has_pushed [] y))))
-        (λ h. absurd (both_ways (was_seen seen u) (none u) h))
-        m;
-  }
-
   -- a node that waits is taken
   pub taken : (seen : List Bool) (old waiting : List ℕ) (u : ℕ) → old ≡ waiting ++ u ∷ [] → IsSearch g n y seen old NoEdges → (u < g.size) × IsMet y seen u × IsSearch g n y seen waiting (EdgesFrom u 0)
   taken seen old waiting u e R =
