@@ -1,11 +1,9 @@
 -- Numbers that pass a test, found one after another.
-use Rattle.std.proofs.Common.{◌≡◌, ℕ, zero, suc, ◌+◌, ◌-◌, ◌^◌, ◌<◌, ◌≤◌, Bool, true, false, List, [], ◌∷◌, ◌++◌, Option, Some, None, refl, ap, sym, ◌∙◌, ⊎_elim, arith}
-use Rattle.std.specs.Prelude.{slice_get, MatchOption}
+use Rattle.std.proofs.Common.{◌≡◌, ℕ, zero, suc, ◌+◌, ◌-◌, ◌^◌, ◌<◌, ◌≤◌, Bool, true, false, List, [], ◌∷◌, ◌++◌, Some, refl, ap, sym, ◌∙◌, arith}
+use Rattle.std.specs.Prelude.{slice_get}
 use Rattle.std.specs.Option.{option_map_or}
-use Rattle.std.proofs.Math.Nat.{eq-or-lt_of_le}
 use Rattle.std.proofs.lemmas.List.{append-nil}
 use Rattle.std.proofs.lemmas.Grind.{flat_map-append}
-use Rattle.std.specs.List.{flat_map}
 use Rattle.crpd_base.specs.declared.data.Task.{Task}
 use Rattle.crpd_base.specs.declared.data.Image.{Image}
 use Rattle.code_map.specs.Next.{IsNext}
@@ -13,11 +11,11 @@ use Rattle.code_map.specs.Words.{Code, word_at, owns}
 use Rattle.crpd_report.specs.List.{those_below, own_addresses, line_of, lines_of, list_text}
 
 -- one number more, which passes the test or does not
-one_more : (p : ℕ → Bool) (n : ℕ) → p n ≡ true → those_below (suc n) p ≡ those_below n p ++ n ∷ []
+pub one_more : (p : ℕ → Bool) (n : ℕ) → p n ≡ true → those_below (suc n) p ≡ those_below n p ++ n ∷ []
 unfolding those_below
 one_more p n e = rw e refl
 
-none_more : (p : ℕ → Bool) (n : ℕ) → p n ≡ false → those_below (suc n) p ≡ those_below n p
+pub none_more : (p : ℕ → Bool) (n : ℕ) → p n ≡ false → those_below (suc n) p ≡ those_below n p
 unfolding those_below
 none_more p n e = rw e (append-nil (those_below n p))
 

@@ -1,3 +1,5 @@
 pub mod Hexadecimal
 pub mod Addresses
 mod Zipped
+mod Legality
+mod Members

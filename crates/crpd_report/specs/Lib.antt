@@ -1,3 +1,5 @@
 pub mod Texts
 pub mod List
 pub mod Check
+pub mod Sets
+pub mod Simulate

@@ -5,11 +5,15 @@ mod address;
 mod check;
 mod list;
 mod refusal;
+mod sets;
+mod simulate;
 
 pub use address::address_text;
 pub use check::{no_text, yes_text};
 pub use list::list_text;
 pub use refusal::refusal_text;
+pub use sets::sets_text;
+pub use simulate::simulate_text;
 
 #[cfg(test)]
 mod tests;

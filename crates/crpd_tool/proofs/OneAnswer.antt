@@ -18,7 +18,7 @@ use Rattle.crpd_tool.specs.Out.{Ends, IsAnswer, IsOut, OneAnswer, bad_words, set
 use Rattle.crpd_tool.specs.Reading.{input_in}
 use Rattle.crpd_tool.specs.Shapes.{ShapesIn}
 use Rattle.crpd_tool.specs.Steps.{EachBelow, Exactly, Then}
-use Rattle.crpd_tool.specs.Words.{Command, check, list, command_of}
+use Rattle.crpd_tool.specs.Words.{Command, check, list, simulate, command_of}
 use Rattle.crpd_tool.proofs.OneGraph.{one_graph_at}
 use Rattle.crpd_tool.proofs.OneNest.{not_refused, one_loop_error}
 
@@ -170,6 +170,7 @@ module _ (contents : Contents) (set certificate : List ℕ) where
 one_end : (command : Command) (contents : Contents) (r s : Result Answer Refusal) → Ends command contents r → Ends command contents s → r ≡ s
 one_end (check set certificate) contents r s a b = check_end contents set certificate r s a b
 one_end (list set name) contents r s a b = sym a ∙ b
+one_end (simulate set script) contents r s a b = sym a ∙ b
 
 one_for : (o : Option Command) (contents : Contents) (one other : Answer) → MatchOption o (one ≡ bad_words) (λ command. IsAnswer contents command one) → MatchOption o (other ≡ bad_words) (λ command. IsAnswer contents command other) → one ≡ other
 one_for None contents one other a b = a ∙ sym b

@@ -14,12 +14,12 @@ use Rattle.preempt_machine.proofs.Order.{IsBest, first_ready_is}
 use Rattle.preempt_machine.proofs.Numbers.{number_grows}
 use Rattle.preempt_machine.proofs.Steps.{some_injective, none_some, ready_open, ready_released, ready_from, open_is_below}
 
-open_is : (s : Standing) → is_open s ≡ true → s ≡ Open
+pub open_is : (s : Standing) → is_open s ≡ true → s ≡ Open
 open_is Open o = refl
 open_is (Answered t) o = absurd (false≢true o)
 open_is Faulted o = absurd (false≢true o)
 
-is_ready_job : (m : Machine) (x : ℕ) → is_ready m.time (job_at m.jobs x) ≡ true → IsReady m x
+pub is_ready_job : (m : Machine) (x : ℕ) → is_ready m.time (job_at m.jobs x) ≡ true → IsReady m x
 is_ready_job m x r =
     let o = ready_open m.time (job_at m.jobs x) r in
     record {

@@ -113,7 +113,7 @@ worked_line sys n ins t =
 fetched_line : (sys : System) (ins : Ins) (t : Turn) → (fetched sys ins t).job.line ≡ t.job.line
 fetched_line sys ins t = elim (cases_Bool (t.job.left == 0)) [ inl b ↦ rw b | inr b ↦ rw b ]
 
-executed_line : (sys : System) (n : ℕ) (t : Turn) (ins : Option Ins) → (executed sys n t ins).job.line ≡ t.job.line
+pub executed_line : (sys : System) (n : ℕ) (t : Turn) (ins : Option Ins) → (executed sys n t ins).job.line ≡ t.job.line
 executed_line sys n t None = refl
 executed_line sys n t (Some ins) = worked_line sys n ins (fetched sys ins t) ∙ fetched_line sys ins t
 

@@ -1,0 +1,9 @@
+use Rattle.std.proofs.Common.{◌≡◌, ◌++◌}
+use Rattle.std.specs.List.{flat_map}
+use Rattle.crpd_base.specs.Sets.{has}
+use Rattle.crpd_report.specs.List.{those_below}
+use Rattle.crpd_report.specs.Sets.{number_text}
+use Rattle.crpd_report.proofs.sets.add_numbers.Given as goal
+
+abbrev pub invariant-loop-number : goal.invariant-loop-number
+invariant-loop-number l = l.text.items ≡ l.fn.text.items ++ flat_map number_text (those_below l.number (has l.set))

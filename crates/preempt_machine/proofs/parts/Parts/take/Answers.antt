@@ -1,0 +1,31 @@
+use Rattle.std.proofs.Common.{◌<◌, ◌∙◌, ap, subst, sym, length, arith}
+use Rattle.crpd_base.specs.declared.data.ScriptJob.{ScriptJob}
+use Rattle.preempt_machine.specs.declared.queue.Queue.{Queue}
+use Rattle.preempt_machine.specs.Machine.{Machine, job_at}
+use Rattle.preempt_machine.specs.Running.{system_by}
+use Rattle.preempt_machine.specs.Kept.{machine_of, line_at, lines_of}
+use Rattle.preempt_machine.proofs.Firsts.{line_is, lines_long}
+use Rattle.preempt_machine.proofs.Steps.{step_line}
+use Rattle.preempt_machine.proofs.Taken.{taken_head, taken_kept, taken_state}
+use Rattle.preempt_machine.proofs.parts.Parts.take.Goals as goal
+
+pub settle-requires-clause-head : goal.settle-requires-clause-head
+settle-requires-clause-head c =
+    let sys = system_by c.args.self.now.core.geometry.platform c.args.code.now in
+    taken_head sys c.args.self.now c.turn.new.self c.pass.new.self c.args.place c.requires.candidate c.requires.head c.in_ok-turn.ensures.ok c.pass.ensures
+
+pub settle-requires-clause-task : goal.settle-requires-clause-task
+settle-requires-clause-task c =
+    let sys = system_by c.args.self.now.core.geometry.platform c.args.code.now in
+    let m = machine_of c.args.self.now in
+    let place = c.args.place in
+    let heads = c.pass.ensures.heads ∙ ap (λ (q : Queue). q.heads.items) c.in_ok-turn.ensures.ok.queue in
+    let jobs = ap (λ (n : Machine). n.jobs) (taken_state sys c.args.self.now c.turn.new.self c.pass.new.self place c.requires.candidate c.in_ok-turn.ensures.ok c.pass.ensures) in
+    let line = ap (λ js. (job_at js place).line) jobs ∙ step_line sys m place ∙ sym (line_is m.jobs place) in
+    let below : (line_at (lines_of m.jobs) place).task.0 < length c.args.self.now.queue.heads.items = c.requires.machine.waiting.tasks place (omega (arith, c.requires.head.below, lines_long m.jobs)) in
+    rw heads (subst (λ (l : ScriptJob). l.task.0 < length c.args.self.now.queue.heads.items) (sym line) below)
+
+pub returns-clause-machine : goal.returns-clause-machine
+returns-clause-machine c =
+    let sys = system_by c.args.self.now.core.geometry.platform c.args.code.now in
+    taken_kept sys c.args.self.now c.turn.new.self c.pass.new.self c.settle.new.self c.args.place c.requires.machine c.requires.candidate c.requires.head c.in_ok-turn.ensures.ok c.pass.ensures c.settle.ensures

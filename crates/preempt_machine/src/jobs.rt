@@ -1,0 +1,337 @@
+// The jobs, and what a job does with the core while it has it.
+ghost use Rattle.std.specs.Prelude.{◌≡◌, ℕ, ◌+◌, ◌<◌, ◌≤◌, ◌^◌, ◌⊎◌, ◌∷◌, ◌==◌, if◌then◌else◌, replicate, length, Some, None, IfSome, IfOk, IsOk, OnOk, OnErr};
+ghost use Rattle.crpd_base.specs.declared.data.Platform.{Platform};
+ghost use Rattle.rv_decode.specs.Address.{end};
+ghost use Rattle.rv_decode.specs.Range.{IsInRange};
+ghost use Rattle.rv_core.specs.Effect.{IsStore, next_pc};
+ghost use Rattle.icache.specs.Cache.{Cache as Blocks};
+ghost use Rattle.flow_watch.specs.Turns.{HasTurns};
+ghost use Rattle.preempt_machine.specs.Machine.{System, Open, Faulted, Answered, ins_at, new_job, plan_of};
+ghost use Rattle.preempt_machine.specs.Step.{executed, fetch_cost, fetched, is_ready, went, worked};
+ghost use Rattle.preempt_machine.specs.Running.{access_by, system_by, HasPlan, IsStoreNow};
+ghost use Rattle.preempt_machine.specs.Jobs.{found_by, shown, turn_by};
+
+use crate::End;
+use code_map::CodeMap;
+use crpd_base::{Memory, SETS, ScriptJob, Task, TaskPlan};
+use flow_watch::Watch;
+use icache::{Access, Cache, Geometry};
+use rv_core::{DataMemory, Next, Regs, effect, next_pc};
+use rv_decode::{Ins, cost, decode};
+use std::alloc::Global;
+use std::marker::Model;
+
+/// The address at which a job ends.
+const END: u32 = 0xFFFF_FFFC;
+
+/// How a job stands.
+#[derive(Clone, Copy)]
+enum Standing {
+    Open,
+    Answered(u64),
+    Faulted,
+}
+
+/// A job of the script: its line, its registers and pc, the cycles left of the instruction under way, 0 where none is,
+/// and its watch.
+#[derive(Drop)]
+pub(crate) struct Job {
+    line: ScriptJob,
+    registers: Regs,
+    pc: u32,
+    left: u64,
+    watch: Watch,
+    standing: Standing,
+}
+
+/// The core's cache and the data memory.
+#[derive(Drop)]
+pub(crate) struct Core {
+    pub(crate) geometry: Geometry,
+    pub(crate) cache: Cache<SETS>,
+    pub(crate) memory: DataMemory,
+}
+
+impl Model for Job {
+    ghost use Rattle.preempt_machine.specs.Machine.{Job as Job_of};
+
+    ghost Value = { Job_of };
+
+    ghost use Rattle.preempt_machine.specs.Jobs.{job_of, IsUnderWay};
+
+    ghost view = { job_of };
+
+    ghost invariant = { IsUnderWay };
+}
+
+/// The registers of a job at its start: x1 is the address at which it ends, x2 the stack, x3 the global pointer.
+fn start_registers(plan: &TaskPlan) -> Regs
+    ensures { result ≡ 0 ∷ end ∷ plan.now.stack ∷ plan.now.global ∷ replicate 28 0 }
+{
+    let mut registers = Regs::new();
+    registers.put(1, END);
+    registers.put(2, plan.stack);
+    registers.put(3, plan.global);
+    registers
+}
+
+impl Job {
+    /// A job before its first step.
+    pub(crate) fn start(alloc: Global, line: ScriptJob, plan: &TaskPlan) -> Result<Self, Memory>
+        ensures is { IfOk result (λ job. (sys : System) → plan_of sys line.task.0 ≡ plan.now → job ≡ new_job sys line) }
+        ensures line { IfOk result (λ job. job.line ≡ line) }
+        ensures turns { IfOk result (λ job. HasTurns (length plan.now.loops) job.watch) }
+    {
+        Ok(Job {
+            line,
+            registers: start_registers(plan),
+            pc: plan.entry,
+            left: 0,
+            watch: Watch::start(alloc, plan)?,
+            standing: Standing::Open,
+        })
+    }
+
+    pub(crate) fn task(&self) -> Task
+        ensures { result ≡ self.now.line.task }
+    {
+        self.line.task
+    }
+
+    pub(crate) fn pc(&self) -> u32
+        ensures { result ≡ self.now.pc }
+    {
+        self.pc
+    }
+
+    pub(crate) fn watch(&self) -> &Watch
+        ensures { result.now ≡ self.now.watch }
+    {
+        &self.watch
+    }
+
+    pub(crate) fn left(&self) -> u64
+        ensures { result ≡ self.now.left }
+    {
+        self.left
+    }
+
+    #[tactic(auto, unfolding(crate::specs::Step::is_ready))]
+    pub(crate) fn is_ready(&self, now: u64) -> bool
+        ensures { result ≡ is_ready now self.now }
+    {
+        matches!(self.standing, Standing::Open) && self.line.release <= now
+    }
+
+    /// How the job stands, if it has been released.
+    pub(crate) fn end(&self) -> End
+        ensures { result ≡ shown self.now.standing }
+    {
+        match self.standing {
+            Standing::Open => End::Open,
+            Standing::Answered(time) => End::Answered(time),
+            Standing::Faulted => End::Faulted,
+        }
+    }
+
+    fn next(&self, ins: &Ins) -> Next
+        requires { IsInRange ins.now }
+        ensures { result ≡ next_pc ins.now self.now.pc self.now.registers }
+    {
+        next_pc(ins, self.pc, &self.registers)
+    }
+
+    fn set_left(&mut self, left: u64)
+        ensures { self.new ≡ record self.old { left = left } }
+    {
+        self.left = left;
+    }
+
+    fn fault(&mut self)
+        ensures { self.new ≡ record self.old { standing = Faulted } }
+    {
+        self.standing = Standing::Faulted;
+    }
+
+    fn answer(&mut self, time: u64)
+        ensures { self.new ≡ record self.old { left = 0; standing = Answered time } }
+    {
+        self.left = 0;
+        self.standing = Standing::Answered(time);
+    }
+
+    /// Goes on at an address, after the effect of its instruction.
+    fn arrive(
+        &mut self,
+        memory: &mut DataMemory,
+        plan: &TaskPlan,
+        ins: &Ins,
+        to: u32,
+        now: u64,
+    ) -> Result<(), Memory>
+        requires in_range { IsInRange ins.now }
+        requires turns { HasTurns (length plan.now.loops) self.old.watch }
+        requires open { self.old.standing ≡ Open }
+        requires later { now + 1 < 2 ^ 64 }
+        ensures ok { OnOk result ((sys : System) (cache : Blocks) (k : ℕ) → plan_of sys self.old.line.task.0 ≡ plan.now → turn_by cache memory.new k self.new ≡ went sys now ins.now (turn_by cache memory.old k self.old) (Next.Goto to)) }
+        ensures turns { OnOk result (HasTurns (length plan.now.loops) self.new.watch) }
+        ensures err { OnErr result ((self.new ≡ self.old) × (memory.new ≡ memory.old)) }
+        ensures only { IsStore ins.now ⊎ IsOk result }
+    {
+        effect(ins, self.pc, &mut self.registers, memory)?;
+        self.watch.step(plan, self.pc, ins, to);
+        self.pc = to;
+        self.left = 0;
+        if to == END {
+            self.standing = Standing::Answered(now + 1);
+        }
+        Ok(())
+    }
+
+    /// The effect of the job's instruction: it answers at the end of this cycle, or goes on.
+    fn finish(
+        &mut self,
+        memory: &mut DataMemory,
+        plan: &TaskPlan,
+        ins: &Ins,
+        now: u64,
+    ) -> Result<(), Memory>
+        requires in_range { IsInRange ins.now }
+        requires turns { HasTurns (length plan.now.loops) self.old.watch }
+        requires open { self.old.standing ≡ Open }
+        requires later { now + 1 < 2 ^ 64 }
+        ensures ok { OnOk result ((sys : System) (cache : Blocks) (k : ℕ) → plan_of sys self.old.line.task.0 ≡ plan.now → turn_by cache memory.new k self.new ≡ went sys now ins.now (turn_by cache memory.old k self.old) (next_pc ins.now self.old.pc self.old.registers)) }
+        ensures turns { OnOk result (HasTurns (length plan.now.loops) self.new.watch) }
+        ensures err { OnErr result ((self.new ≡ self.old) × (memory.new ≡ memory.old)) }
+        ensures only { IsStore ins.now ⊎ IsOk result }
+    {
+        match self.next(ins) {
+            Next::Goto(to) => return self.arrive(memory, plan, ins, to, now),
+            Next::Answer => self.answer(now + 1),
+            Next::Fault => {
+                self.set_left(0);
+                self.fault();
+            }
+        }
+        Ok(())
+    }
+
+    /// A cycle of the job's instruction, of which so many are left.
+    fn work(
+        &mut self,
+        memory: &mut DataMemory,
+        plan: &TaskPlan,
+        ins: &Ins,
+        left: u64,
+        now: u64,
+    ) -> Result<(), Memory>
+        requires in_range { IsInRange ins.now }
+        requires turns { HasTurns (length plan.now.loops) self.old.watch }
+        requires open { self.old.standing ≡ Open }
+        requires later { now + 1 < 2 ^ 64 }
+        ensures ok { OnOk result ((sys : System) (cache : Blocks) (k : ℕ) → plan_of sys self.old.line.task.0 ≡ plan.now → turn_by cache memory.new k self.new ≡ worked sys now ins.now (turn_by cache memory.old k (record self.old { left = left }))) }
+        ensures turns { OnOk result (HasTurns (length plan.now.loops) self.new.watch) }
+        ensures err { OnErr result ((self.new ≡ self.old) × (memory.new ≡ memory.old)) }
+        ensures store { OnErr result (IsStore ins.now) }
+        ensures last { OnErr result (left ≤ 1) }
+    {
+        if left > 1 {
+            self.set_left(left - 1);
+            return Ok(());
+        }
+        self.finish(memory, plan, ins, now)
+    }
+}
+
+/// The instruction at an address, unless a fetch faults there.
+#[tactic(auto, unfolding(crate::specs::Machine::ins_at))]
+fn instruction(code: &CodeMap, address: u32) -> Option<Ins>
+    ensures is { (platform : Platform) → result ≡ ins_at (system_by platform code.now) address }
+    ensures in_range { IfSome result IsInRange }
+{
+    match decode(code.word(address)?) {
+        Some(Ins::Ebreak) => None,
+        found => found,
+    }
+}
+
+impl Core {
+    /// The cycles of an instruction that a job fetches now.
+    fn cost(&self, job: &Job, ins: &Ins) -> u64
+        requires in_range { IsInRange ins.now }
+        requires room { self.now.geometry.platform.sets ≤ length self.now.cache }
+        ensures { (sys : System) (k : ℕ) → sys.platform ≡ self.now.geometry.platform → result ≡ fetch_cost sys ins.now (turn_by self.now.cache self.now.memory k job.now) }
+    {
+        let block = self.geometry.block(job.pc());
+        let missed = match self.cache.holds(self.geometry.set(block)) {
+            Some(held) => held != block,
+            None => true,
+        };
+        let taken = match job.next(ins) {
+            Next::Goto(to) => to != job.pc().wrapping_add(4),
+            Next::Answer | Next::Fault => false,
+        };
+        cost(&self.geometry.platform, ins, missed, taken)
+    }
+
+    /// A cycle of a job's instruction. Without one under way it is fetched; then the answer is what the fetch found.
+    /// After an error all is as before.
+    fn execute(
+        &mut self,
+        job: &mut Job,
+        plan: &TaskPlan,
+        ins: &Ins,
+        now: u64,
+    ) -> Result<Option<Access>, Memory>
+        requires in_range { IsInRange ins.now }
+        requires turns { HasTurns (length plan.now.loops) job.old.watch }
+        requires open { job.old.standing ≡ Open }
+        requires later { now + 1 < 2 ^ 64 }
+        requires room { self.old.geometry.platform.sets ≤ length self.old.cache }
+        ensures ok { OnOk result ((sys : System) (k : ℕ) → sys.platform ≡ self.old.geometry.platform → plan_of sys job.old.line.task.0 ≡ plan.now → turn_by self.new.cache self.new.memory k job.new ≡ worked sys now ins.now (fetched sys ins.now (turn_by self.old.cache self.old.memory k job.old))) }
+        ensures found { IfOk result (λ found. found ≡ (if job.old.left == 0 then Some (access_by self.old.geometry.platform self.old.cache job.old.pc) else None)) }
+        ensures turns { OnOk result (HasTurns (length plan.now.loops) job.new.watch) }
+        ensures geometry { self.new.geometry ≡ self.old.geometry }
+        ensures err { OnErr result ((job.new ≡ job.old) × (self.new ≡ self.old)) }
+        ensures store { OnErr result (IsStore ins.now) }
+        ensures last { OnErr result ((sys : System) (k : ℕ) → sys.platform ≡ self.old.geometry.platform → (fetched sys ins.now (turn_by self.old.cache self.old.memory k job.old)).job.left ≤ 1) }
+    {
+        let left = job.left();
+        if left > 0 {
+            job.work(&mut self.memory, plan, ins, left, now)?;
+            return Ok(None);
+        }
+        let block = self.geometry.block(job.pc());
+        let cycles = self.cost(job, ins);
+        job.work(&mut self.memory, plan, ins, cycles, now)?;
+        Ok(Some(self.cache.access(&self.geometry, block)))
+    }
+
+    /// A cycle of a job that has the core with no switch cycle left, and what it finds where it fetches. It faults where
+    /// no instruction can be fetched. After an error all is as before.
+    pub(crate) fn advance(
+        &mut self,
+        job: &mut Job,
+        code: &CodeMap,
+        now: u64,
+    ) -> Result<Option<Access>, Memory>
+        requires plan { HasPlan code.now.plans job.old }
+        requires open { job.old.standing ≡ Open }
+        requires later { now + 1 < 2 ^ 64 }
+        requires room { self.old.geometry.platform.sets ≤ length self.old.cache }
+        ensures ok { OnOk result (let sys = system_by self.old.geometry.platform code.now in turn_by self.new.cache self.new.memory 0 job.new ≡ executed sys now (turn_by self.old.cache self.old.memory 0 job.old) (ins_at sys job.old.pc)) }
+        ensures found { IfOk result (λ found. found ≡ found_by (system_by self.old.geometry.platform code.now) (turn_by self.old.cache self.old.memory 0 job.old)) }
+        ensures plan { OnOk result (HasPlan code.now.plans job.new) }
+        ensures geometry { self.new.geometry ≡ self.old.geometry }
+        ensures err { OnErr result ((job.new ≡ job.old) × (self.new ≡ self.old)) }
+        ensures store { OnErr result (IsStoreNow (system_by self.old.geometry.platform code.now) (turn_by self.old.cache self.old.memory 0 job.old)) }
+    {
+        match instruction(code, job.pc()) {
+            Some(ins) => self.execute(job, code.plan(job.task()), &ins, now),
+            None => {
+                job.fault();
+                Ok(None)
+            }
+        }
+    }
+}

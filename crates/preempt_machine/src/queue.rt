@@ -1,0 +1,136 @@
+// The order in which the jobs of a script come to the core.
+
+ghost use Rattle.std.specs.Prelude.{◌≡◌, ℕ, ◌+◌, ◌<◌, ◌≤◌, length, replicate, slice_index, slice_set, IfOk, MatchOption};
+ghost use Rattle.preempt_machine.specs.Kept.{line_at, release_at, place_at, AreListed, IsDue, IsLinked, IsFirstFrom, IsFirstCome, NoneHasCome, HasOpened};
+
+use crate::{Completion, End};
+use crpd_base::{Memory, ScriptJob, Task};
+use std::alloc::Global;
+
+/// The jobs of a script by release, and by place where they are released together.
+///
+/// `due` has their releases and places, `later` the next one of the same task, `heads` for each task the first one that
+/// is not over; a place past the end stands for none. `released` is how many have been told to be open.
+#[derive(Drop)]
+pub(crate) struct Queue {
+    pub(crate) due: Vec<(u64, usize)>,
+    pub(crate) later: Vec<usize>,
+    pub(crate) heads: Vec<usize>,
+    pub(crate) released: usize,
+}
+
+/// The releases and places of jobs, by place.
+fn listed(alloc: Global, lines: &[ScriptJob]) -> Result<Vec<(u64, usize)>, Memory>
+    ensures { IfOk result (λ due. AreListed lines.now due.items) }
+{
+    let mut due = Vec::new(alloc);
+    for place in 0..lines.len() {
+        if due.push((lines[place].release, place)).is_err() {
+            return Err(Memory);
+        }
+    }
+    Ok(due)
+}
+
+/// The releases and places of jobs, in ascending order.
+fn due(alloc: Global, lines: &[ScriptJob]) -> Result<Vec<(u64, usize)>, Memory>
+    ensures { IfOk result (λ due. IsDue lines.now due.items) }
+{
+    let mut due = listed(alloc, lines)?;
+    due.sort_unstable();
+    Ok(due)
+}
+
+/// The next job of the same task for each job, and the first one for each task.
+fn link(lines: &[ScriptJob], due: &[(u64, usize)], later: &mut [usize], heads: &mut [usize])
+    requires due { IsDue lines.now due.now }
+    requires tasks { (x : ℕ) → x < length lines.now → (line_at lines.now x).task.0 < length heads.old }
+    requires later { length later.old ≡ length due.now }
+    requires heads { (t : ℕ) → t < length heads.old → slice_index heads.old t ≡ length due.now }
+    ensures linked { IsLinked lines.now due.now later.new }
+    ensures heads { (t : ℕ) → t < length heads.old → IsFirstFrom lines.now due.now t 0 (slice_index heads.new t) }
+{
+    let mut at = due.len();
+    while at > 0 {
+        at -= 1;
+        let task = usize::from(lines[due[at].1].task.0);
+        later[at] = heads[task];
+        heads[task] = at;
+    }
+}
+
+/// So many numbers, all the same.
+fn numbers(alloc: Global, number: usize, count: usize) -> Result<Vec<usize>, Memory>
+    ensures { IfOk result (λ numbers. numbers.items ≡ replicate count number) }
+{
+    match vec![in alloc; number; count] {
+        Ok(numbers) => Ok(numbers),
+        Err(_) => Err(Memory),
+    }
+}
+
+impl Queue {
+    pub(crate) fn new(alloc: Global, lines: &[ScriptJob], tasks: usize) -> Result<Self, Memory>
+        requires { (x : ℕ) → x < length lines.now → (line_at lines.now x).task.0 < tasks }
+        ensures due { IfOk result (λ queue. IsDue lines.now queue.due.items) }
+        ensures linked { IfOk result (λ queue. IsLinked lines.now queue.due.items queue.later.items) }
+        ensures tasks { IfOk result (λ queue. length queue.heads.items ≡ tasks) }
+        ensures each { IfOk result (λ queue. (x : ℕ) → x < length lines.now → (line_at lines.now x).task.0 < length queue.heads.items) }
+        ensures heads { IfOk result (λ queue. (t : ℕ) → t < tasks → IsFirstFrom lines.now queue.due.items t 0 (slice_index queue.heads.items t)) }
+        ensures released { IfOk result (λ queue. queue.released ≡ 0) }
+    {
+        let due = due(alloc, lines)?;
+        let mut later = numbers(alloc, due.len(), due.len())?;
+        let mut heads = numbers(alloc, due.len(), tasks)?;
+        link(lines, &due, later.as_mut_slice(), heads.as_mut_slice());
+        Ok(Queue {
+            due,
+            later,
+            heads,
+            released: 0,
+        })
+    }
+
+    /// The place of the first ready job, by task, release and place.
+    pub(crate) fn first(&self, now: u64) -> Option<usize>
+        ensures { MatchOption result (NoneHasCome self.now.due.items self.now.heads.items now) (IsFirstCome self.now.due.items self.now.heads.items now) }
+    {
+        for head in &self.heads {
+            if *head < self.due.len() && self.due[*head].0 <= now {
+                return Some(self.due[*head].1);
+            }
+        }
+        None
+    }
+
+    /// The first job of a task is over.
+    pub(crate) fn finish(&mut self, task: Task)
+        requires task { task.0 < length self.old.heads.items }
+        requires head { slice_index self.old.heads.items task.0 < length self.old.later.items }
+        ensures heads { self.new.heads.items ≡ slice_set self.old.heads.items task.0 (slice_index self.old.later.items (slice_index self.old.heads.items task.0)) }
+        ensures due { self.new.due.items ≡ self.old.due.items }
+        ensures later { self.new.later.items ≡ self.old.later.items }
+        ensures released { self.new.released ≡ self.old.released }
+    {
+        let task = usize::from(task.0);
+        self.heads[task] = self.later[self.heads[task]];
+    }
+
+    /// Tells of the jobs that are released in this cycle that they are open.
+    pub(crate) fn release(&mut self, completions: &mut [Completion], now: u64)
+        requires { (p : ℕ) → p < length self.old.due.items → place_at self.old.due.items p < length completions.old }
+        ensures opened { HasOpened self.old.due.items self.old.released self.new.released completions.old completions.new }
+        ensures from { self.old.released ≤ self.new.released }
+        ensures to { self.old.released ≤ length self.old.due.items → self.new.released ≤ length self.old.due.items }
+        ensures come { (p : ℕ) → self.old.released ≤ p → p < self.new.released → release_at self.old.due.items p ≤ now }
+        ensures wait { self.new.released < length self.old.due.items → now < release_at self.old.due.items self.new.released }
+        ensures due { self.new.due.items ≡ self.old.due.items }
+        ensures later { self.new.later.items ≡ self.old.later.items }
+        ensures heads { self.new.heads.items ≡ self.old.heads.items }
+    {
+        while self.released < self.due.len() && self.due[self.released].0 <= now {
+            completions[self.due[self.released].1].end = End::Open;
+            self.released += 1;
+        }
+    }
+}

@@ -1,0 +1,307 @@
+// The machine that runs.
+ghost use Rattle.std.specs.Prelude.{◌≡◌, ℕ, ◌<◌, ◌^◌, ◌↔◌, ◌++◌, ◌∷◌, [], true, map, length, replicate, All, IfOk, OnOk, IsTrue};
+ghost use Rattle.flow_watch.specs.Watch.{is_kept};
+ghost use Rattle.preempt_machine.specs.Machine.{System, job_at, new_job, number_of};
+ghost use Rattle.preempt_machine.specs.Running.{HasPlan};
+ghost use Rattle.preempt_machine.specs.Kept.{line_at, completion};
+
+use crate::jobs::{Core, Job};
+use crate::parts::Parts;
+use crate::queue::Queue;
+use crate::start::{start_cache, start_memory};
+use crate::{Completion, End, Fetch};
+use code_map::CodeMap;
+use crpd_base::{JobId, Memory, SETS, Script, ScriptJob, TaskSet};
+use flow_watch::Watch;
+use icache::{Cache, Geometry};
+use rv_core::DataMemory;
+use std::alloc::Global;
+use std::marker::Model;
+
+/// A machine that runs the jobs of a script: one core with one instruction cache, on which the job of the highest task
+/// that is ready takes each cycle.
+///
+/// Contracts see it as its platform, its state and the fetch of the last step made. Times are cycles from the run's
+/// start.
+#[derive(Drop)]
+pub struct Machine {
+    parts: Parts,
+}
+
+impl Model for Machine {
+    ghost use Rattle.preempt_machine.specs.Running.{Running};
+
+    ghost Value = { Running };
+
+    ghost use Rattle.preempt_machine.specs.Kept.{running_of, IsMachine};
+
+    ghost view = { λ m. running_of m.parts };
+
+    ghost invariant = { λ m. IsMachine m.parts };
+}
+
+/// Adds an item to a list.
+fn push<T: Drop>(list: &mut Vec<T>, item: T) -> Result<(), Memory>
+    ensures { OnOk result (list.new.items ≡ list.old.items ++ item ∷ []) }
+{
+    match list.push(item) {
+        Ok(()) => Ok(()),
+        Err(_) => Err(Memory),
+    }
+}
+
+/// The jobs of a script before their first steps.
+fn start_jobs(alloc: Global, code: &CodeMap, lines: &[ScriptJob]) -> Result<Vec<Job>, Memory>
+    requires { (x : ℕ) → x < length lines.now → (line_at lines.now x).task.0 < length code.now.plans }
+    ensures jobs { IfOk result (λ jobs. (sys : System) → sys.plans ≡ code.now.plans → jobs.items ≡ map (new_job sys) lines.now) }
+    ensures plans { IfOk result (λ jobs. (x : ℕ) → x < length jobs.items → HasPlan code.now.plans (job_at jobs.items x)) }
+{
+    let mut jobs = Vec::new(alloc);
+    for line in lines {
+        let job = Job::start(alloc, *line, code.plan(line.task))?;
+        push(&mut jobs, job)?;
+    }
+    Ok(jobs)
+}
+
+/// So many zeros.
+fn zeros(alloc: Global, count: usize) -> Result<Vec<u32>, Memory>
+    ensures { IfOk result (λ zeros. zeros.items ≡ replicate count 0) }
+{
+    match vec![in alloc; 0u32; count] {
+        Ok(zeros) => Ok(zeros),
+        Err(_) => Err(Memory),
+    }
+}
+
+/// The jobs of a script by task and number, all of them unreleased.
+fn start_completions(
+    alloc: Global,
+    lines: &[ScriptJob],
+    tasks: usize,
+) -> Result<Vec<Completion>, Memory>
+    requires few { length lines.now < 2 ^ 32 }
+    requires tasks { (x : ℕ) → x < length lines.now → (line_at lines.now x).task.0 < tasks }
+    ensures long { IfOk result (λ cs. length cs.items ≡ length lines.now) }
+    ensures each { IfOk result (λ cs. (x : ℕ) → x < length lines.now → completion cs.items x ≡ record { job = record { task = (line_at lines.now x).task; number = number_of lines.now (line_at lines.now x).task.0 x }; «end» = End.Unreleased }) }
+{
+    let mut counts = zeros(alloc, tasks)?;
+    let mut completions = Vec::new(alloc);
+    for line in lines {
+        let task = usize::from(line.task.0);
+        let job = JobId {
+            task: line.task,
+            number: counts[task],
+        };
+        let end = End::Unreleased;
+        push(&mut completions, Completion { job, end })?;
+        counts[task] += 1;
+    }
+    Ok(completions)
+}
+
+/// The place of a job, by a look through the completions.
+fn place_of(completions: &[Completion], job: JobId) -> usize
+    requires { (x : ℕ) × (x < length completions.now) × ((completion completions.now x).job ≡ job) }
+    ensures below { result < length completions.now }
+    ensures job { (completion completions.now result).job ≡ job }
+{
+    for place in 0..completions.len() {
+        if completions[place].job == job {
+            return place;
+        }
+    }
+    unreachable!()
+}
+
+/// Whether no job's watch is broken.
+fn are_kept(jobs: &[Job]) -> bool
+    ensures { IsTrue result ↔ All (λ job. is_kept job.watch ≡ true) jobs.now }
+{
+    for job in jobs {
+        if job.watch().broken() {
+            return false;
+        }
+    }
+    true
+}
+
+impl Machine {
+    ghost use Rattle.std.specs.Prelude.{◌≡◌, ◌≢◌, ℕ, ◌+◌, ◌-◌, ◌<◌, ◌≤◌, ◌^◌, length, map, All, IsTrue, ◌↔◌, Some, None, option_map, IfOk, OnOk, OnErr};
+    ghost use Rattle.crpd_base.specs.Images.{IsImage};
+    ghost use Rattle.preempt_machine.specs.Safe.{completions, IsKept, NamesTasks};
+    ghost use Rattle.preempt_machine.specs.Starts.{start_cache, start_memory};
+    ghost use Rattle.preempt_machine.specs.Running.{completion_at, job_id, start_of, stepped, stepped_by, system_by, GivesStore, HasPlans, IsAt, StopsAtStore};
+    ghost use Rattle.preempt_machine.specs.Machine.{job_at};
+    ghost use Rattle.preempt_machine.specs.Kept.{completion};
+
+    /// The machine at the start of a run of a script, from any cache and data memory: no owner, and all jobs
+    /// unreleased. It makes all the room that steps fill, but that of the data memory.
+    ///
+    /// The code map has a plan for each task of the set, the script's jobs are of the set's tasks, and the cache has
+    /// room for the platform's sets. Want of memory is the only error; then the data memory is dropped. Time is
+    /// n log n in the jobs.
+    pub fn new(
+        alloc: Global,
+        code: &CodeMap,
+        set: &TaskSet,
+        script: &Script,
+        cache: Cache<SETS>,
+        memory: DataMemory,
+    ) -> Result<Self, Memory>
+        requires line { 0 < set.now.platform.line }
+        requires sets { 0 < set.now.platform.sets }
+        requires few { set.now.platform.sets ≤ 65536 }
+        requires room { set.now.platform.sets ≤ length cache }
+        requires plans { length code.now.plans ≡ length set.now.tasks }
+        requires tasks { NamesTasks set.now script.now.jobs }
+        requires jobs { length script.now.jobs < 2 ^ 32 }
+        ensures started { IfOk result (λ m. m ≡ start_of set.now code.now cache memory script.now.jobs) }
+        ensures plans { IfOk result (λ m. HasPlans code.now m.state) }
+    {
+        let lines = script.jobs.as_slice();
+        let tasks = set.tasks.as_slice().len();
+        let jobs = start_jobs(alloc, code, lines)?;
+        let completions = start_completions(alloc, lines, tasks)?;
+        let queue = Queue::new(alloc, lines, tasks)?;
+        let geometry = Geometry::new(&set.platform);
+        let parts = Parts {
+            core: Core {
+                geometry,
+                cache,
+                memory,
+            },
+            steps: 0,
+            owner: None,
+            switch_left: 0,
+            jobs,
+            completions,
+            queue,
+            fetch: None,
+        };
+        Ok(Machine { parts })
+    }
+
+    /// The machine at the start of a script: from the script's cache and the bytes of the files.
+    ///
+    /// It asks of set, code map and script what `new` asks. Want of memory is the only error.
+    pub fn load(
+        alloc: Global,
+        code: &CodeMap,
+        set: &TaskSet,
+        script: &Script,
+    ) -> Result<Self, Memory>
+        requires line { 0 < set.now.platform.line }
+        requires sets { 0 < set.now.platform.sets }
+        requires few { set.now.platform.sets ≤ 512 }
+        requires plans { length code.now.plans ≡ length set.now.tasks }
+        requires tasks { NamesTasks set.now script.now.jobs }
+        requires jobs { length script.now.jobs < 2 ^ 32 }
+        requires images { All IsImage code.now.images }
+        ensures started { IfOk result (λ m. m ≡ start_of set.now code.now (start_cache set.now.platform script.now.cache) (start_memory code.now.images) script.now.jobs) }
+        ensures plans { IfOk result (λ m. HasPlans code.now m.state) }
+    {
+        let memory = start_memory(alloc, code)?;
+        let cache = start_cache(set, script);
+        Machine::new(alloc, code, set, script, cache, memory)
+    }
+
+    /// One step: the next cycle. Fewer than 2^64 - 1 steps were made, and each job's task has a plan with as many
+    /// stated loops as at the start.
+    ///
+    /// `Memory` comes only where the step gives a store its effect, and then all is as before. Its time is that of its
+    /// work: of one instruction, of a look at each task's first waiting job, and of the jobs that this cycle releases.
+    pub fn cycle(&mut self, code: &CodeMap) -> Result<(), Memory>
+        requires later { self.old.state.time + 1 < 2 ^ 64 }
+        requires plans { HasPlans code.now self.old.state }
+        ensures ok { OnOk result (self.new ≡ stepped code.now self.old) }
+        ensures plans { HasPlans code.now self.new.state }
+        ensures err { OnErr result (self.new ≡ self.old) }
+        ensures only { OnErr result (GivesStore (system_by self.old.platform code.now) self.old.state) }
+    {
+        self.parts.step(code)
+    }
+
+    /// Makes steps until a cycle, and none where the machine stands at or past it. Each job's task has a plan with as
+    /// many stated loops as at the start.
+    ///
+    /// After `Memory` the machine stands after some of these steps, before one that gives a store its effect.
+    pub fn run_until(&mut self, code: &CodeMap, cycle: u64) -> Result<(), Memory>
+        requires plans { HasPlans code.now self.old.state }
+        ensures ok { OnOk result (self.new ≡ stepped_by (cycle - self.old.state.time) code.now self.old) }
+        ensures plans { HasPlans code.now self.new.state }
+        ensures err { OnErr result (StopsAtStore code.now (cycle - self.old.state.time) self.old self.new) }
+    {
+        while self.steps() < cycle {
+            self.cycle(code)?;
+        }
+        Ok(())
+    }
+
+    /// The number of steps made.
+    pub fn steps(&self) -> u64
+        ensures { result ≡ self.now.state.time }
+    {
+        self.parts.steps
+    }
+
+    /// How the jobs stand, in the order of the script.
+    pub fn completions(&self) -> &[Completion]
+        ensures ends { map (λ c. c.«end») result.now ≡ completions self.now.state }
+        ensures long { length result.now ≡ length self.now.state.jobs }
+        ensures each { (x : ℕ) → x < length self.now.state.jobs → completion result.now x ≡ completion_at self.now.state x }
+    {
+        self.parts.completions.as_slice()
+    }
+
+    /// Whether no watch is broken, by a look at each job.
+    pub fn kept(&self) -> bool
+        ensures { IsTrue result ↔ IsKept self.now.state }
+    {
+        are_kept(self.parts.jobs.as_slice())
+    }
+
+    /// The owner of the core, None before the first turn of a job.
+    pub fn owner(&self) -> Option<JobId>
+        ensures { result ≡ option_map (job_id self.now.state) self.now.state.owner }
+    {
+        match self.parts.owner {
+            Some(place) => Some(self.parts.completions[place].job),
+            None => None,
+        }
+    }
+
+    /// The place of a job in the script.
+    fn place(&self, job: JobId) -> usize
+        requires { (x : ℕ) × IsAt self.now.state job x }
+        ensures below { result < length self.now.state.jobs }
+        ensures is { (x : ℕ) → IsAt self.now.state job x → result ≡ x }
+    {
+        place_of(self.parts.completions.as_slice(), job)
+    }
+
+    /// The pc of a job of the script, by a look through the jobs.
+    pub fn pc(&self, job: JobId) -> u32
+        requires { (x : ℕ) × IsAt self.now.state job x }
+        ensures { (x : ℕ) → IsAt self.now.state job x → result ≡ (job_at self.now.state.jobs x).pc }
+    {
+        let place = self.place(job);
+        self.parts.jobs[place].pc()
+    }
+
+    /// The watch of a job of the script, by a look through the jobs.
+    pub fn watch(&self, job: JobId) -> &Watch
+        requires { (x : ℕ) × IsAt self.now.state job x }
+        ensures { (x : ℕ) → IsAt self.now.state job x → result.now ≡ (job_at self.now.state.jobs x).watch }
+    {
+        let place = self.place(job);
+        self.parts.jobs[place].watch()
+    }
+
+    /// The fetch of the last step made, None where it made none.
+    pub fn last_fetch(&self) -> Option<Fetch>
+        ensures { result ≡ self.now.fetch }
+    {
+        self.parts.fetch
+    }
+}
