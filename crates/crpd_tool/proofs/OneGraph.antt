@@ -3,7 +3,7 @@ use Rattle.std.proofs.Common.{◌≡◌, ◌≢◌, ℕ, zero, suc, ◌+◌, ◌
 use Rattle.std.specs.Prelude.{◌==◌, if◌then◌else◌, All, AllPairs, Contains, map, slice_get}
 use Rattle.std.specs.declared.cmp.Ordering.{Ordering}
 use Rattle.std.specs.declared.cmp.Ordering.TheVariants.{Less, Equal, Greater}
-use Rattle.std.specs.Ordering.{nat_cmp, ordering_reverse, then_cmp, on}
+use Rattle.std.specs.Ordering.{nat_cmp, ordering_reverse, ordering_then, then_cmp, on}
 use Rattle.std.specs.Cmp.{IsTotalOrder}
 use Rattle.std.specs.Cmp.Rules.{comparing}
 use Rattle.std.specs.Cmp.Lexicographic.{slice_cmp}
@@ -24,7 +24,7 @@ use Rattle.flat_graph.proofs.Members.{at_contains, at_head, at_rest, head_or_res
 use Rattle.crpd_tool.specs.declared.input.Input.{Input}
 use Rattle.crpd_tool.specs.declared.refusal.Refusal.{Refusal}
 use Rattle.crpd_tool.specs.Graphs.{GraphAt, IsGraphOrNot, graph_refusal, name_at}
-use Rattle.flat_graph.proofs.Order.{before_one_way, flat_cmp, flat_equal, flat_less, not_before_same}
+use Rattle.flat_graph.proofs.Order.{before_one_way, flat_equal, flat_less, not_before_same}
 
 -- ---- lists of nodes in order
 
@@ -174,6 +174,10 @@ not_both words entry g TooManyNodes X few more =
     let le = fewer more.0 X.nodes more.1 X.flat.numbering.ordered (λ n c. (X.flat.numbering.all n).0 (All-contains (IsNode (flows words) entry) more.0 n more.2 c)) in
     absurd (omega (arith, le, X.flat.size, few, more.3))
 not_both words entry g (AtNode e a) X few at = no_error (error_of (flows words) entry at.1) e (X.no_errors at.1 at.2) at.3
+
+-- by context, then by address
+abbrev flat_cmp : FlatNode → FlatNode → Ordering
+flat_cmp n m = ordering_then (slice_cmp nat_cmp n.context m.context) (nat_cmp n.address m.address)
 
 flat_total : IsTotalOrder (then_cmp (on (λ (n : FlatNode). n.context) (slice_cmp nat_cmp)) (on (λ (n : FlatNode). n.address) nat_cmp))
 flat_total = search (comparing, rules)

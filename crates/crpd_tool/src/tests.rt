@@ -194,7 +194,7 @@ fn the_refusals(rt: HostRuntime) -> Result<(), Fail> {
             set.clone()?,
             program_of(alloc, NOP, JAL)?,
             certificate.clone()?,
-            "refused 90 NotYet set.toml -\n",
+            "refused 63 CycleWithoutBound one 00001004\n",
         ),
         (
             none.clone()?,
