@@ -55,6 +55,7 @@ graph_once input k = record {
   where
     unlike : (x : CodeGraph) (r : Refusal) → ◌≡◌ {A = Result CodeGraph Refusal} (Ok x) (Err r) → ⊥
     unlike x r e = cc
+
     same_refusal : (r s : Refusal) → ◌≡◌ {A = Result CodeGraph Refusal} (Err r) (Err s) → r ≡ s
     same_refusal r s e = cc
 

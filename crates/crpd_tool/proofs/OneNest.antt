@@ -130,11 +130,16 @@ module _ (g : Graph) (p : Places) (loops : List LoopAt) (no_same : (a : ℕ) →
     second_too v e =
         let A = alike n m N M in
         let r = e.0 in
-        let lt = e.1 in
-        (r, A.there r lt, true_too _ _ (A.holds r v lt) e.2, (λ q. e.3 (q ∙ sym (A.head r lt))), elim e.4 [
-          | inl first ↦ inl first
-          | inr w ↦ inr (w.0, w.1, false_too _ _ (A.holds r w.0 lt) w.2)
-        ])
+        let lt = e.1 in (
+          r,
+          A.there r lt,
+          true_too _ _ (A.holds r v lt) e.2,
+          (λ q. e.3 (q ∙ sym (A.head r lt))),
+          elim e.4 [
+            | inl first ↦ inl first
+            | inr w ↦ inr (w.0, w.1, false_too _ _ (A.holds r w.0 lt) w.2)
+          ],
+        )
 
     more_too : (r s : ℕ) → r < n.size → s < n.size → HoldsMore n r s → HoldsMore m r s
     more_too r s a b e = let A = alike n m N M in (e.0, true_too _ _ (A.holds r e.0 a) e.1, false_too _ _ (A.holds s e.0 b) e.2)

@@ -113,9 +113,11 @@ const LOOP: &str = "[[task.loop]]\nhead = 0x1004\nbound = 3\nrange = [[0x1004, 0
 
 const LATER: &str = "[[task.loop]]\nhead = 0x1008\nbound = 3\nrange = [[0x1004, 0x100C]]\n";
 
-const TWICE: &str = "[[task.loop]]\nhead = 0x1004\nbound = 3\nrange = [[0x1004, 0x100C]]\n[[task.loop]]\nhead = 0x1004\nbound = 3\nrange = [[0x1004, 0x100C]]\n";
+const TWICE: &str =
+    "[[task.loop]]\nhead = 0x1004\nbound = 3\nrange = [[0x1004, 0x100C]]\n[[task.loop]]\nhead = 0x1004\nbound = 3\nrange = [[0x1004, 0x100C]]\n";
 
-const CROSSED: &str = "[[task.loop]]\nhead = 0x1000\nbound = 3\nrange = [[0x1000, 0x1008]]\n[[task.loop]]\nhead = 0x1004\nbound = 3\nrange = [[0x1004, 0x100C]]\n";
+const CROSSED: &str =
+    "[[task.loop]]\nhead = 0x1000\nbound = 3\nrange = [[0x1000, 0x1008]]\n[[task.loop]]\nhead = 0x1004\nbound = 3\nrange = [[0x1004, 0x100C]]\n";
 
 #[test]
 fn loops_refused(rt: HostRuntime) -> Result<(), Fail> {
@@ -164,7 +166,10 @@ fn graphs_before_loops(rt: HostRuntime) -> Result<(), Fail> {
         files.push(("turn.elf", file_of(alloc, &[THREE, LESS, AGAIN, ECALL])?))?;
         files.push(("one.elf", file_of(alloc, &[THREE, LESS])?))?;
         let at = [(6, 0x1010), (15, 0x1010), (16, 0x1010)];
-        files.push(("ends.elf", program_with(alloc, &[at[0], at[1], at[2], (21, 0x0010_0073)])?))?;
+        files.push((
+            "ends.elf",
+            program_with(alloc, &[at[0], at[1], at[2], (21, 0x0010_0073)])?,
+        ))?;
         let at = [(6, 0x1018), (15, 0x1018), (16, 0x1018), (17, 4), (18, 4)];
         files.push(("past.elf", program_with(alloc, &at)?))?;
         let words = ["check", "set.toml", "cert.json"];

@@ -8,8 +8,11 @@ use Rattle.crpd_tool.proofs.shapes.task_shapes.Goals as goal
 
 pub returns-in-Ok-clause-exact : goal.returns-in-Ok-clause-exact
 returns-in-Ok-clause-exact c =
-    inl (c.in_ok-graphs.graphs, c.in_ok-graphs.ensures.exact,
-    inl (c.in-Ok.nests, subst (λ (gs : List CodeGraph). RegionsIn c.args.input.now gs (Ok c.in-Ok.nests)) c.as_slice.ensures c.in-Ok.ensures.exact, refl))
+    inl (
+      c.in_ok-graphs.graphs,
+      c.in_ok-graphs.ensures.exact,
+      inl (c.in-Ok.nests, subst (λ (gs : List CodeGraph). RegionsIn c.args.input.now gs (Ok c.in-Ok.nests)) c.as_slice.ensures c.in-Ok.ensures.exact, refl),
+    )
 
 pub returns-in-Err-clause-exact : goal.returns-in-Err-clause-exact
 returns-in-Err-clause-exact c =
