@@ -239,29 +239,29 @@ fn the_refusals(rt: HostRuntime) -> Result<(), Fail> {
 fn the_order_of_refusals(rt: HostRuntime) -> Result<(), Fail> {
     let alloc = rt.alloc();
     let one = set_of(alloc, 100)?;
-    let table = one.as_str();
     let two = format!(in alloc;
-        "{table}[[task]]\nname = \"two\"\nfile = \"one.elf\"\nperiod = 100\njitter = 0\ndeadline = 100\n"
+        "{one}[[task]]\nname = \"two\"\nfile = \"one.elf\"\nperiod = 100\njitter = 0\ndeadline = 100\n"
     )?;
+    let (one, two) = (one.into_bytes(), two.into_bytes());
     let program = program_of(alloc, ADDI, ECALL)?;
     let mut short = program.clone()?;
     short.truncate(51);
     let mut longer = program.clone()?;
     longer.truncate(91);
+    let bad = [b'x'].to_vec(alloc)?;
     let none = Vec::new(alloc);
     let cases = [
         (
-            two.as_str(),
+            two.clone()?,
             program.clone()?,
             "refused 90 NotYet set.toml -\n",
         ),
-        (two.as_str(), short, "refused 1 Short one.elf -\n"),
-        (two.as_str(), longer, "refused 8 SegmentOutside one.elf 0\n"),
-        (table, program.clone()?, "refused 80 NoFile cert.json -\n"),
-        ("x", none.clone()?, "refused 20 NotToml set.toml -\n"),
+        (two.clone()?, short, "refused 1 Short one.elf -\n"),
+        (two, longer, "refused 8 SegmentOutside one.elf 0\n"),
+        (one, program, "refused 80 NoFile cert.json -\n"),
+        (bad, none, "refused 20 NotToml set.toml -\n"),
     ];
     for (set, program, text) in cases {
-        let set = set.as_bytes().to_vec(alloc)?;
         let files = files_of(alloc, set, program, Vec::new(alloc))?;
         check_ends(&rt, alloc, files, (NEVER, NEVER), Status::Refused, text)?;
     }
@@ -278,33 +278,30 @@ fn second_of(alloc: Global, mul: u32, bound: u64, window: u64) -> Result<String,
 #[test]
 fn certificates(rt: HostRuntime) -> Result<(), Fail> {
     let alloc = rt.alloc();
-    let deep = vec![in alloc; b'['; 200]?;
-    let long = certificate_of(alloc, (4, 12, 1_099_511_627_777, 17))?;
-    let second = second_of(alloc, 0, 12, 17)?;
     let cases = [
-        (second.as_bytes(), Status::Done, YES),
+        (second_of(alloc, 0, 12, 17)?.into_bytes(), Status::Done, YES),
         (
-            b"{}".as_slice(),
+            b"{}".to_vec(alloc)?,
             Status::Refused,
             "refused 71 Missing cert.json version\n",
         ),
         (
-            b"{\"version\":3}".as_slice(),
+            b"{\"version\":3}".to_vec(alloc)?,
             Status::Refused,
             "refused 74 OtherVersion cert.json 3\n",
         ),
         (
-            b"7".as_slice(),
+            b"7".to_vec(alloc)?,
             Status::Refused,
             "refused 72 BadValue cert.json -\n",
         ),
         (
-            deep.as_slice(),
+            vec![in alloc; b'['; 200]?,
             Status::Refused,
             "refused 70 NotJson cert.json -\n",
         ),
         (
-            long.as_bytes(),
+            certificate_of(alloc, (4, 12, 1_099_511_627_777, 17))?.into_bytes(),
             Status::Refused,
             "refused 72 BadValue cert.json tasks.0.window\n",
         ),
@@ -314,7 +311,7 @@ fn certificates(rt: HostRuntime) -> Result<(), Fail> {
             alloc,
             set_of(alloc, 100)?.into_bytes(),
             program_of(alloc, ADDI, ECALL)?,
-            certificate.to_vec(alloc)?,
+            certificate,
         )?;
         check_ends(&rt, alloc, files, (NEVER, NEVER), status, text)?;
     }
