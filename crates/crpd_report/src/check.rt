@@ -43,15 +43,16 @@ fn add_task(
     Ok(())
 }
 
-fn yes(
-    alloc: Global,
-    set: &TaskSet,
-    certificate: &Certificate,
-) -> Result<Vec<u8>, AllocError>
+fn yes(alloc: Global, set: &TaskSet, certificate: &Certificate) -> Result<Vec<u8>, AllocError>
     ensures { IfOk result (λ text. text.items ≡ spec.yes_text set.now certificate.now) }
 {
     let mut text = b"yes\n".to_vec(alloc)?;
-    for (task, part) in set.tasks.as_slice().iter().zip(certificate.tasks.as_slice()) {
+    for (task, part) in set
+        .tasks
+        .as_slice()
+        .iter()
+        .zip(certificate.tasks.as_slice())
+    {
         add_task(alloc, &mut text, task.name.as_str(), part)?;
     }
     Ok(text)
@@ -60,11 +61,7 @@ fn yes(
 /// The text of a certificate that is accepted: `yes`, and a line for each task of the set, with its name and what the
 /// certificate states at its place: bound, window and response in cycles, and the method. `Memory` is the only error.
 /// Linear in the text.
-pub fn yes_text(
-    alloc: Global,
-    set: &TaskSet,
-    certificate: &Certificate,
-) -> Result<Vec<u8>, Memory>
+pub fn yes_text(alloc: Global, set: &TaskSet, certificate: &Certificate) -> Result<Vec<u8>, Memory>
     ensures { IfOk result (λ text. text.items ≡ spec.yes_text set.now certificate.now) }
 {
     match yes(alloc, set, certificate) {

@@ -250,7 +250,11 @@ fn the_order_of_refusals(rt: HostRuntime) -> Result<(), Fail> {
     longer.truncate(91);
     let none = Vec::new(alloc);
     let cases = [
-        (two.as_str(), program.clone()?, "refused 90 NotYet set.toml -\n"),
+        (
+            two.as_str(),
+            program.clone()?,
+            "refused 90 NotYet set.toml -\n",
+        ),
         (two.as_str(), short, "refused 1 Short one.elf -\n"),
         (two.as_str(), longer, "refused 8 SegmentOutside one.elf 0\n"),
         (table, program.clone()?, "refused 80 NoFile cert.json -\n"),
