@@ -15,7 +15,8 @@ use Rattle.flat_graph.specs.Reach.{IsReached, AreAdded}
 use Rattle.flat_graph.specs.Spots.{flat, flats}
 use Rattle.flat_graph.specs.declared.spots.Spot.{Spot}
 use Rattle.flat_graph.proofs.Members.{at_head, at_rest, head_or_rest, in_none, in_one}
-use Rattle.flat_graph.proofs.Order.{flat_cmp, flat_less, flat_equal}
+use Rattle.flat_graph.specs.Compared.{flat_cmp}
+use Rattle.flat_graph.proofs.Order.{flat_less, flat_equal}
 
 module _ (cmp : Spot → Spot → Ordering) (is : (s t : Spot) → cmp s t ≡ flat_cmp (flat s) (flat t)) where
   -- keys in their order are nodes in the order of numbering

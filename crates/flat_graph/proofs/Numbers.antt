@@ -16,7 +16,8 @@ use Rattle.flat_graph.specs.Spots.{flat, flats}
 use Rattle.flat_graph.specs.declared.fault.GraphError.{GraphError}
 use Rattle.flat_graph.specs.declared.spots.Spot.{Spot}
 use Rattle.flat_graph.proofs.Members.{contains_at, at_contains}
-use Rattle.flat_graph.proofs.Order.{flat_cmp, flat_equal, flat_same, rises, before_one_way, not_before_same}
+use Rattle.flat_graph.specs.Compared.{flat_cmp}
+use Rattle.flat_graph.proofs.Order.{flat_equal, flat_same, rises, before_one_way, not_before_same}
 
 module _ (cmp : Spot → Spot → Ordering) (is : (s t : Spot) → cmp s t ≡ flat_cmp (flat s) (flat t)) where
   rising : (xs : List Spot) (x : Spot) → AllPairs IsBefore (flats xs) → IsNonDecreasingBy (λ y. ordering_index (cmp y x)) xs

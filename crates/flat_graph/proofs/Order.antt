@@ -9,14 +9,8 @@ use Rattle.std.specs.Ordering.{nat_cmp, ordering_then, ordering_reverse, orderin
 use Rattle.std.specs.Cmp.{IsTotalOrder, nat_cmp_is}
 use Rattle.std.specs.Cmp.Rules.{comparing}
 use Rattle.std.specs.Cmp.Lexicographic.{slice_cmp}
+use Rattle.flat_graph.specs.Compared.{list_cmp, flat_cmp}
 use Rattle.flat_graph.specs.FlatGraph.{FlatNode, list_lt, IsBefore}
-
-abbrev pub list_cmp : List ℕ → List ℕ → Ordering
-list_cmp = slice_cmp nat_cmp
-
--- by context, then by address
-abbrev pub flat_cmp : FlatNode → FlatNode → Ordering
-flat_cmp n m = ordering_then (list_cmp n.context m.context) (nat_cmp n.address m.address)
 
 then_less : (o rest : Ordering) → ordering_then o rest ≡ Less → (o ≡ Less) ⊎ ((o ≡ Equal) × (rest ≡ Less))
 then_less Less rest e = inl refl

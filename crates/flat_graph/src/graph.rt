@@ -1,14 +1,17 @@
 // A task's flat graph.
-ghost use Rattle.std.specs.Prelude.{◌≡◌, ℕ, ◌<◌, ◌≤◌, ◌+◌, ◌↔◌, length, slice_get, option_map, IsTrue, MatchOption};
+ghost use Rattle.std.specs.Prelude.{IfSome, IsNone, ◌≡◌, ℕ, ◌<◌, ◌≤◌, ◌+◌, ◌↔◌, length, slice_get, option_map, IsTrue, MatchOption};
 ghost use Rattle.rv_decode.specs.Flow.{flow};
 ghost use Rattle.flat_graph.specs.Graph.{IsGraph, IsLeader};
 ghost use Rattle.flat_graph.specs.Numbered.{node_at};
+ghost use Rattle.std.specs.List.Sorted.{IsSearchInRange, IsBinarySearchResult};
+ghost use Rattle.flat_graph.specs.Compared.{flat_cmp, stand_node};
 ghost use Rattle.flat_graph.specs.CodeGraph.{HasCode, kind_of, graph_of, places_of, ins_of};
 
 use crate::node::{Node, kind_by};
 use crpd_base::{Items, NodeId};
 use rv_decode::Ins;
 use smallvec::SmallVec;
+use std::cmp::Ordering;
 use std::marker::Model;
 
 /// The addresses of the calls under way, the outermost first.
@@ -67,6 +70,34 @@ impl Model for Graph {
     ghost invariant = { λ g. IsKept g.contexts g.nodes g.first };
 }
 
+/// How a node stands to the calls under way and an address, in the order of numbering.
+fn compare(contexts: &[Context], stand: &Stand, context: &[u32], address: u32) -> Ordering
+    ensures { result ≡ flat_cmp (stand_node contexts.now stand.now) (record { context = context.now; address = address }) }
+{
+    let calls = match contexts.get(stand.context as usize) {
+        Some(kept) => kept.calls.as_slice(),
+        None => &[],
+    };
+    calls.cmp(context).then(stand.address.cmp(&address))
+}
+
+/// Where a node with these calls under way and this address is kept, or where it would be.
+fn search(
+    contexts: &[Context],
+    nodes: &[Stand],
+    context: &[u32],
+    address: u32,
+) -> Result<usize, usize>
+    ensures bound { IsSearchInRange result (length nodes.now) }
+    ensures position { IsBinarySearchResult (λ s. flat_cmp (stand_node contexts.now s) (record { context = context.now; address = address })) nodes.now result }
+{
+    nodes.binary_search_by(
+        |stand: &Stand| -> Ordering
+            ensures { result ≡ flat_cmp (stand_node contexts.entry.now stand.now) (record { context = context.entry.now; address = address }) }
+        { compare(contexts, stand, context, address) },
+    )
+}
+
 impl Graph {
     /// How many nodes there are: 1 to 16,384.
     pub fn len(&self) -> u32
@@ -119,6 +150,19 @@ impl Graph {
             (Onward::Either(first, _), 0) => Some(NodeId(first)),
             (Onward::Either(_, second), _) => Some(NodeId(second)),
             _ => None,
+        }
+    }
+
+    /// The node with these calls under way, the outermost first, at this address; None where no node stands there.
+    /// Logarithmic in the number of nodes.
+    pub fn find(&self, context: &[u32], address: u32) -> Option<NodeId>
+        ensures found { IfSome result (λ id. (id.0 < (graph_of self.now).size) × (node_at (places_of self.now) id.0 ≡ record { context = context.now; address = address })) }
+        ensures none { IsNone result → (u : ℕ) → u < (graph_of self.now).size → node_at (places_of self.now) u ≡ record { context = context.now; address = address } → ⊥ }
+    {
+        let contexts = self.contexts.as_slice();
+        match search(contexts, self.nodes.as_slice(), context, address) {
+            Ok(place) => Some(NodeId(place as u32)),
+            Err(_) => None,
         }
     }
 

@@ -107,7 +107,7 @@ fn graph_of(
     Ok(build(alloc, &code, Task(0)))
 }
 
-// A node: the calls under way, its address, `*` for a leader, and the numbers of its successors.
+// A node: the calls under way, its address, `*` for a leader, and the numbers of its successors; `?` where it is not found.
 fn node_told(alloc: Global, graph: &Graph, id: NodeId) -> Result<String, AllocError>
     requires { id.0 < length graph.now.nodes }
 {
@@ -122,6 +122,9 @@ fn node_told(alloc: Global, graph: &Graph, id: NodeId) -> Result<String, AllocEr
             text.push_str(format!(in alloc; ">{}", next.0)?.as_str())?;
         }
     }
+    if graph.find(graph.context(id), graph.node(id).address) != Some(id) {
+        text.push_str("?")?;
+    }
     Ok(text)
 }
 
@@ -131,6 +134,9 @@ fn told(alloc: Global, graph: &Graph) -> Result<String, AllocError> {
         let node = node_told(alloc, graph, NodeId(number))?;
         text.push_str(" ")?;
         text.push_str(node.as_str())?;
+    }
+    if graph.find(&[], 1).is_some() || graph.find(&[1], 0x1000).is_some() {
+        text.push_str(" and more")?;
     }
     Ok(text)
 }

@@ -1,13 +1,11 @@
 -- The regions of stated loops, from the heads and the holders that were found.
-use Rattle.std.proofs.Common.{◌≡◌, ◌⊎◌, ◌↔◌, ℕ, zero, suc, ◌+◌, ◌<◌, ◌≤◌, Bool, true, false, List, [], ◌∷◌, length, map, Some, None, Contains, slice_get, slice_index, get_or, IsTrue, IsFalse, refl, sym, ap, ◌∙◌, subst, inl, inr, ⊎_elim, arith}
-use Rattle.std.proofs.lemmas.Bool.{cases_lt, cases_Bool, both_ways, false≢true}
+use Rattle.std.proofs.Common.{◌≡◌, ◌↔◌, ℕ, zero, suc, ◌<◌, ◌≤◌, Bool, true, false, List, [], ◌∷◌, length, map, Some, slice_get, slice_index, get_or, IsTrue, IsFalse, refl, sym, ap, ◌∙◌, subst, ⊎_elim, arith}
+use Rattle.std.proofs.lemmas.Bool.{cases_lt, both_ways}
 use Rattle.std.proofs.lemmas.Option.{slice_get_within, slice_get-get_or, get_or_from_slice_get}
 use Rattle.crpd_base.specs.declared.data.LoopAt.{LoopAt}
-use Rattle.flow_watch.specs.Watch.{holds}
 use Rattle.flat_graph.specs.Graph.{Graph, Places}
-use Rattle.loop_regions.specs.Nest.{Nest}
 use Rattle.loop_regions.specs.Stated.{holds_seen, region_holds, IsRegionOf, IsRegions}
-use Rattle.loop_regions.specs.CodeNest.{has, row, CodeNest, nest_of}
+use Rattle.loop_regions.specs.CodeNest.{has, row, nest_of}
 use Rattle.loop_regions.specs.Heads.{AreHeads, IsHeldBy}
 use Rattle.loop_regions.specs.Sound.{IsSound}
 use Rattle.loop_regions.specs.declared.heads.Head.{Head}

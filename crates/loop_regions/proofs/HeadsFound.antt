@@ -1,7 +1,6 @@
 -- The heads of stated loops, node by node, and the regions that hold a node, head by head.
-use Rattle.std.proofs.Common.{◌≡◌, ◌⊎◌, ◌↔◌, ℕ, zero, suc, ◌+◌, ◌<◌, ◌≤◌, List, [], ◌∷◌, ◌++◌, length, Some, None, Contains, slice_get, get_or, IsTrue, refl, sym, ap, ◌∙◌, subst, inl, inr, ⊎_elim, arith, length-append, if◌then◌else◌}
-use Rattle.std.specs.Prelude.{Option}
-use Rattle.std.proofs.lemmas.Bool.{cases_eq, cases_lt}
+use Rattle.std.proofs.Common.{◌≡◌, ◌⊎◌, ◌↔◌, ℕ, zero, suc, ◌+◌, ◌<◌, List, [], ◌∷◌, ◌++◌, length, Some, None, slice_get, IsTrue, refl, sym, ap, ◌∙◌, subst, inl, inr, ⊎_elim, arith, length-append, if◌then◌else◌}
+use Rattle.std.proofs.lemmas.Bool.{cases_eq}
 use Rattle.std.proofs.lemmas.Option.{slice_get_within}
 use Rattle.crpd_base.specs.declared.data.LoopAt.{LoopAt}
 use Rattle.flat_graph.specs.Graph.{Places}

@@ -1,5 +1,5 @@
 -- Refusals at least nodes.
-use Rattle.std.proofs.Common.{◌≡◌, ℕ, ◌<◌, ◌≤◌, Some, IsTrue, ⊎_elim, arith}
+use Rattle.std.proofs.Common.{◌≡◌, ℕ, ◌<◌, Some, IsTrue, ⊎_elim, arith}
 use Rattle.std.proofs.lemmas.Bool.{cases_lt, both_ways}
 use Rattle.crpd_base.specs.declared.data.LoopAt.{LoopAt}
 use Rattle.std.specs.Prelude.{List}

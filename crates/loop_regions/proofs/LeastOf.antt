@@ -1,6 +1,6 @@
 -- Least numbers with a property.
-use Rattle.std.proofs.Common.{◌≡◌, ◌⊎◌, ℕ, ◌<◌, ◌≤◌, List, Some, None, refl, subst, sym, inl, inr, ⊎_elim, arith}
-use Rattle.std.specs.Prelude.{Option, nat_lt, if◌then◌else◌}
+use Rattle.std.proofs.Common.{◌⊎◌, ℕ, List, Some, None, inl, inr, ⊎_elim, arith}
+use Rattle.std.specs.Prelude.{Option, nat_lt}
 use Rattle.std.proofs.lemmas.Bool.{cases_Bool, ltb-true, ltb-false}
 use Rattle.loop_regions.specs.Nest.{Nest}
 use Rattle.loop_regions.specs.CodeNest.{nest_of}
@@ -24,7 +24,3 @@ least_or P Q (Some a) (Some b) h i =
     (λ lt. rw lt (inr i.0, λ v s. ⊎_elim (λ p. let x = h.1 v p in let y = ltb-true b a lt in omega arith) (i.1 v) s))
     (λ ge. rw ge (inl h.0, λ v s. ⊎_elim (h.1 v) (λ q. let x = i.1 v q in let y = ltb-false b a ge in omega arith) s))
     (cases_Bool (nat_lt b a))
-
--- nothing is below 0, and one step more
-pub least_none : (P : ℕ → Type 0) → ((v : ℕ) → P v → ⊥) → IsLeast P None
-least_none P f = f

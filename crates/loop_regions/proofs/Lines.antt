@@ -1,10 +1,9 @@
 -- Regions that lie one inside the other, and the innermost of them.
-use Rattle.std.proofs.Common.{◌≡◌, ◌≢◌, ◌⊎◌, ◌↔◌, ℕ, ◌+◌, ◌<◌, ◌≤◌, Bool, true, false, not, ◌&&◌, List, [], ◌∷◌, ◌++◌, length, length-append, zero, suc, take, Some, None, slice_index, get_or, IsTrue, IsFalse, refl, sym, ap, ◌∙◌, subst, inl, inr, ⊎_elim, arith, ◌==◌, eq-eqb}
-use Rattle.std.specs.Prelude.{Option, if◌then◌else◌}
+use Rattle.std.proofs.Common.{◌≡◌, ◌≢◌, ◌⊎◌, ℕ, ◌+◌, ◌<◌, ◌≤◌, true, false, not, ◌&&◌, List, [], ◌∷◌, ◌++◌, length, length-append, zero, suc, take, Some, None, slice_index, get_or, IsTrue, IsFalse, refl, sym, ap, ◌∙◌, subst, inl, inr, ⊎_elim, arith, ◌==◌, eq-eqb}
+use Rattle.std.specs.Prelude.{Option}
 use Rattle.std.specs.List.{list_any}
-use Rattle.std.proofs.lemmas.Bool.{cases_eq, cases_lt, cases_Bool, both_ways, false≢true, eqb-true, and_parts, and_from, and_cases, or_cases, or_left, or_right, not-true, not-false, not_from_false, not_from_true, false_from_ne_true}
-use Rattle.loop_regions.specs.Nest.{Nest, IsInside}
-use Rattle.loop_regions.specs.Levels.{IsLevel, IsRound, IsParent}
+use Rattle.std.proofs.lemmas.Bool.{cases_eq, cases_lt, cases_Bool, both_ways, eqb-true, and_parts, and_from, and_cases, or_cases, or_left, or_right, not-true, not-false, not_from_false, false_from_ne_true}
+use Rattle.loop_regions.specs.Levels.{IsLevel, IsParent}
 use Rattle.loop_regions.specs.Stated.{HoldsMore, IsNotNested}
 use Rattle.loop_regions.specs.CodeNest.{has, row}
 use Rattle.loop_regions.specs.Sound.{IsSound}

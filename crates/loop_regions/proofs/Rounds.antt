@@ -1,8 +1,7 @@
 -- For each region the regions that hold all of its nodes.
-use Rattle.std.proofs.Common.{◌≡◌, ◌≢◌, ◌⊎◌, ◌↔◌, ℕ, ◌+◌, ◌<◌, ◌≤◌, Bool, List, [], ◌∷◌, length, take, set, slice_index, get_or, IsTrue, IsFalse, refl, sym, ap, ◌∙◌, subst, inl, inr, ⊎_elim, arith, get_or-set_same, get_or-set_other}
+use Rattle.std.proofs.Common.{◌≡◌, ◌↔◌, ℕ, ◌+◌, ◌<◌, ◌≤◌, List, [], length, take, set, slice_index, get_or, IsTrue, refl, sym, ap, ◌∙◌, subst, inl, inr, ⊎_elim, arith, get_or-set_same, get_or-set_other}
 use Rattle.std.specs.List.{filter}
 use Rattle.std.proofs.lemmas.Bool.{cases_eq, cases_lt, both_ways}
-use Rattle.loop_regions.specs.Nest.{Nest, IsInside}
 use Rattle.loop_regions.specs.CodeNest.{has, row}
 use Rattle.loop_regions.specs.Sound.{IsSound}
 use Rattle.loop_regions.specs.Found.{AreAround}

@@ -1,17 +1,16 @@
 -- Forward edges, ranks that fall along them, and the search along them.
-use Rattle.std.proofs.Common.{◌≡◌, ◌≢◌, ◌⊎◌, ◌↔◌, ℕ, zero, suc, ◌+◌, ◌*◌, ◌<◌, ◌≤◌, Bool, true, false, List, [], ◌∷◌, ◌++◌, length, set, Some, None, Contains, slice_get, slice_index, get_or, IsTrue, IsFalse, refl, sym, ap, ◌∙◌, subst, inl, inr, ⊎_elim, arith, length-append, get_or-set_same, get_or-set_other}
-use Rattle.std.specs.Prelude.{Option}
+use Rattle.std.proofs.Common.{◌≡◌, ◌⊎◌, ◌↔◌, ℕ, zero, suc, ◌+◌, ◌<◌, ◌≤◌, Bool, true, false, List, [], ◌∷◌, ◌++◌, length, set, Some, None, Contains, slice_get, slice_index, IsTrue, refl, sym, ap, ◌∙◌, subst, inl, inr, ⊎_elim, arith, length-append, get_or-set_same, get_or-set_other}
 use Rattle.std.specs.List.{list_any}
-use Rattle.std.proofs.lemmas.Bool.{cases_eq, cases_lt, cases_Bool, both_ways, false≢true}
+use Rattle.std.proofs.lemmas.Bool.{cases_eq, both_ways}
 use Rattle.std.proofs.lemmas.List.{length-set}
 use Rattle.std.proofs.lemmas.Option.{slice_get_within, slice_get-get_or, get_or_from_slice_get}
-use Rattle.flat_graph.specs.Graph.{Graph, Edge, IsGraph}
+use Rattle.flat_graph.specs.Graph.{Graph}
 use Rattle.loop_regions.specs.Nest.{Nest, IsBackEdge}
 use Rattle.loop_regions.specs.Stated.{IsForward, IsForwardWay, IsOnCycle}
 use Rattle.loop_regions.specs.CodeNest.{has, row}
 use Rattle.loop_regions.specs.Sound.{IsSound}
 use Rattle.loop_regions.specs.Found.{is_head}
-use Rattle.loop_regions.specs.Cycles.{IsForwardBy, Reaches, was_seen, IsMet, IsSearch, EdgesFrom, NoEdges, unseen, to_search, NoneBelow}
+use Rattle.loop_regions.specs.Cycles.{IsForwardBy, Reaches, was_seen, IsMet, IsSearch, EdgesFrom, NoEdges, unseen, to_search}
 use Rattle.loop_regions.proofs.Has.{has_any, any_has, has_more, has_pushed, has_push_cases}
 use Rattle.loop_regions.proofs.SecondEntries.{head_is, is_the_head}
 use Rattle.loop_regions.proofs.LeastOf.{nest_by}
@@ -158,19 +157,6 @@ module _ (g : Graph) (n : Nest) (y : ℕ) where
           (cases_eq j k))
           t)
           s
-
-  -- the start: no node is seen, and y waits
-  pub search_start : (seen : List Bool) → length seen ≡ g.size → y < g.size → ((v : ℕ) → was_seen seen v ≡ false) → IsSearch g n y seen (y ∷ []) NoEdges
-  search_start seen len lt none = record {
-    nodes = len;
-    start = lt;
-    sound = λ v h. absurd (both_ways (was_seen seen v) (none v) h);
-    own = λ u h. ⊎_elim (λ t. absurd (both_ways (has [] u) refl t)) (λ e. (subst (λ x. x < g.size) e lt, inl (sym e))) (has_push_cases [] y u h);
-    followed = λ u v k m e f. ⊎_elim
-        (λ is. inr (inl (subst (λ x. IsTrue (has (y ∷ []) x)) (sym is) (has_pushed [] y))))
-        (λ h. absurd (both_ways (was_seen seen u) (none u) h))
-        m;
-  }
 
   -- a node that waits is taken
   pub taken : (seen : List Bool) (old waiting : List ℕ) (u : ℕ) → old ≡ waiting ++ u ∷ [] → IsSearch g n y seen old NoEdges → (u < g.size) × IsMet y seen u × IsSearch g n y seen waiting (EdgesFrom u 0)

@@ -1,11 +1,10 @@
 -- Nodes as they are seen from a context: those that are seen stand together.
-use Rattle.std.proofs.Common.{◌≡◌, ◌⊎◌, ℕ, zero, suc, ◌+◌, ◌<◌, ◌≤◌, Bool, true, false, List, [], ◌∷◌, length, take, get_or, Some, None, slice_get, IsTrue, IsFalse, refl, sym, ap, ◌∙◌, subst, inl, inr, ⊎_elim, arith, eq-eqb, if◌then◌else◌, ◌==◌, nat_lt, nat_eq}
-use Rattle.std.specs.Prelude.{is_some, Option}
+use Rattle.std.proofs.Common.{◌≡◌, ◌⊎◌, ℕ, zero, suc, ◌<◌, ◌≤◌, true, false, List, [], ◌∷◌, length, get_or, Some, None, slice_get, IsTrue, IsFalse, refl, sym, ◌∙◌, subst, inl, inr, ⊎_elim, arith, eq-eqb, ◌==◌, nat_eq}
+use Rattle.std.specs.Prelude.{is_some}
 use Rattle.std.specs.List.{starts_with}
-use Rattle.std.proofs.lemmas.Bool.{cases_eq, cases_lt, cases_Bool, both_ways, false≢true, ne_eqb, eqb-true, ltb-true}
-use Rattle.std.proofs.lemmas.Option.{slice_get_within, slice_get-get_or, get_or_from_slice_get}
+use Rattle.std.proofs.lemmas.Bool.{cases_eq, cases_Bool, both_ways, false≢true, eqb-true, ltb-true}
+use Rattle.std.proofs.lemmas.Option.{slice_get_within, get_or_from_slice_get}
 use Rattle.flat_graph.specs.FlatGraph.{FlatNode, list_lt, IsBefore}
-use Rattle.flat_graph.specs.Graph.{Graph, Places}
 use Rattle.flat_graph.specs.Numbered.{ArePlaces, node_at}
 use Rattle.flat_graph.specs.CodeGraph.{CodeGraph, graph_of, places_of, HasCode}
 use Rattle.loop_regions.specs.Stated.{seen_from}

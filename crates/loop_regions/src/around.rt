@@ -34,12 +34,24 @@ fn narrow(rows: &mut Vec<Holders>, holders: &[u32])
     }
 }
 
-/// For each region the regions that hold all of its nodes, itself among them. Each region of each node is looked at once.
+/// Whether a node has the regions of the node before it.
+pub(crate) fn is_like_before(regions: &Regions, y: u32) -> bool
+    requires { y < length regions.now.holders }
+    ensures { IsTrue result → (z : ℕ) × (z < y) × (row regions.now.holders y ≡ row regions.now.holders z) }
+{
+    y > 0 && regions.holders(y) == regions.holders(y - 1)
+}
+
+/// For each region the regions that hold all of its nodes, itself among them. The regions of a node are looked at where the
+/// node before it has others.
 pub(crate) fn regions_around(alloc: Global, regions: &Regions) -> Result<Vec<Holders>, AllocError>
     ensures { IfOk result (λ rows. AreAround (nest_in regions.now) rows.items) }
 {
     let mut rows = at_heads(alloc, regions)?;
     for y in 0..regions.nodes() {
+        if is_like_before(regions, y) {
+            continue;
+        }
         narrow(&mut rows, regions.holders(y));
     }
     Ok(rows)

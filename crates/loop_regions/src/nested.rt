@@ -7,6 +7,7 @@ ghost use Rattle.loop_regions.specs.Levels.{IsLevel, IsParent};
 ghost use Rattle.loop_regions.specs.Stated.{IsNotNested};
 ghost use Rattle.loop_regions.specs.Found.{nest_in, AreAround, lie_across, are_across, is_other, is_better, better, IsInnermost, AreInLine};
 
+use crate::around::is_like_before;
 use crate::found::Regions;
 use crate::holders::{Holders, includes};
 use std::alloc::{AllocError, Global};
@@ -30,14 +31,6 @@ fn are_across(around: &[Holders], among: &[u32]) -> bool
     ensures { result ≡ are_across around.now among.now }
 {
     among.iter().any(|r| lies_across_any(around, among, *r))
-}
-
-/// Whether a node has the regions of the node before it.
-fn is_like_before(regions: &Regions, y: u32) -> bool
-    requires { y < length regions.now.holders }
-    ensures { IsTrue result → (z : ℕ) × (z < y) × (row regions.now.holders y ≡ row regions.now.holders z) }
-{
-    y > 0 && regions.holders(y) == regions.holders(y - 1)
 }
 
 /// The least node in two regions of which neither holds the other. The pairs of a node's regions are looked at where

@@ -1,0 +1,4 @@
+pub mod Sums
+pub mod Joins
+pub mod EdgeLists
+pub mod SureFacts

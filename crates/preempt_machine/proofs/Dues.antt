@@ -1,15 +1,10 @@
 -- The order of the jobs of a script.
-use Rattle.std.proofs.Common.{◌≡◌, ℕ, zero, suc, ◌+◌, ◌<◌, ◌≤◌, ◌≢◌, ◌⊎◌, true, false, List, length, refl, sym, ◌∙◌, ap, subst, inl, inr, arith, get_or, get_or-set_same, get_or-set_other, length-set}
-use Rattle.std.specs.Prelude.{slice_index, slice_index_or, slice_set}
-use Rattle.std.specs.List.{swap}
-use Rattle.std.specs.List.Sorted.{IsPermutation, IsSorted}
-use Rattle.std.specs.Ordering.{nat_cmp, ordering_then}
-use Rattle.std.proofs.lemmas.Bool.{cases_eq, cases_lt}
-use Rattle.std.proofs.lemmas.Bool.Decides.{nat_tests}
-use Rattle.std.proofs.lemmas.List.Sorted.{length_permutation, IsPermutation-keeps, Contains-permutation}
+use Rattle.std.proofs.Common.{◌≡◌, ℕ, ◌+◌, ◌<◌, ◌≤◌, ◌≢◌, List, length, refl, sym, ◌∙◌, ap, subst, inl, inr, arith, get_or-set_same, get_or-set_other, length-set}
+use Rattle.std.specs.Prelude.{slice_index, slice_set}
+use Rattle.std.proofs.lemmas.Bool.{cases_eq}
 use Rattle.crpd_base.specs.declared.data.ScriptJob.{ScriptJob}
 use Rattle.preempt_machine.specs.declared.Completion.{Completion}
-use Rattle.preempt_machine.specs.Kept.{line_at, task_at, place_at, release_at, IsEarlier, IsDue, AreListed, IsFirstFrom, HasOpened, completion, opened}
+use Rattle.preempt_machine.specs.Kept.{task_at, place_at, IsFirstFrom, HasOpened, completion, opened}
 
 -- the first position from here
 pub first_here : (lines : List ScriptJob) (due : List (ℕ × ℕ)) (p : ℕ) → IsFirstFrom lines due (task_at lines due p) p p

@@ -1,5 +1,5 @@
 -- The state after a step's parts, put together.
-use Rattle.std.proofs.Common.{◌≡◌, ℕ, suc, ◌<◌, List, length, Option, Some, None, refl, sym, ◌∙◌, ap, subst, arith}
+use Rattle.std.proofs.Common.{◌≡◌, ℕ, suc, ◌<◌, List, length, Some, refl, sym, ◌∙◌, ap, subst, arith}
 use Rattle.std.specs.Prelude.{slice_index}
 use Rattle.icache.specs.declared.Geometry.{Geometry}
 use Rattle.crpd_base.specs.declared.data.ScriptJob.{ScriptJob}

@@ -16,7 +16,7 @@ use Rattle.preempt_machine.specs.declared.Fetch.{Fetch}
 use Rattle.preempt_machine.specs.Machine.{System, Job, Machine, ins_at, job_at, no_job}
 use Rattle.preempt_machine.specs.Step.{is_open, is_ready, keeps_core, candidate, candidate_by, first_ready, turn_of, turned, executed, makes_fetch, fetch_by}
 use Rattle.preempt_machine.specs.Jobs.{turn_by, found_by}
-use Rattle.preempt_machine.specs.Kept.{line_at, task_at, place_at, lines_of, machine_of, owner_keeps, HasTurned, IsDue, IsWaiting, IsHead, IsOwner, IsFirstCome, NoneHasCome}
+use Rattle.preempt_machine.specs.Kept.{task_at, place_at, lines_of, machine_of, owner_keeps, HasTurned, IsDue, IsWaiting, IsHead, IsOwner, IsFirstCome, NoneHasCome}
 use Rattle.preempt_machine.specs.Running.{fetch_told, job_id, HasPlan, HasPlans}
 use Rattle.preempt_machine.specs.declared.parts.Parts.{Parts}
 use Rattle.preempt_machine.proofs.Firsts.{line_is, lines_long}

@@ -1,6 +1,6 @@
 -- A turn of a job as the program makes it.
-use Rattle.std.proofs.Common.{◌≡◌, ℕ, ◌<◌, ◌≤◌, true, false, List, Option, Some, None, refl, sym, ◌∙◌, ap, subst, arith}
-use Rattle.std.specs.Prelude.{◌==◌, nat_lt, Result, Ok, Err, OnOk, OnErr, length, slice_get, slice_index_or, []}
+use Rattle.std.proofs.Common.{◌≡◌, ℕ, ◌<◌, ◌≤◌, true, false, Option, Some, refl, sym, ◌∙◌, ap, arith}
+use Rattle.std.specs.Prelude.{◌==◌, nat_lt, Result, Ok, Err, OnOk, OnErr, length, slice_get, []}
 use Rattle.std.proofs.lemmas.Bool.Decides.{nat_tests}
 use Rattle.std.proofs.lemmas.Option.{get_or_from_slice_get}
 use Rattle.crpd_base.specs.declared.data.TaskPlan.{TaskPlan}
@@ -11,7 +11,7 @@ use Rattle.rv_core.specs.Memory.{Memory}
 use Rattle.rv_decode.specs.declared.Ins.{Ins}
 use Rattle.icache.specs.Cache.{Cache, accessed, block_of}
 use Rattle.flow_watch.specs.Turns.{HasTurns}
-use Rattle.preempt_machine.specs.Machine.{System, Job, ins_at, plan_of}
+use Rattle.preempt_machine.specs.Machine.{System, Job, plan_of}
 use Rattle.preempt_machine.specs.Step.{Turn, executed, fetched, fetch_cost, went, worked}
 use Rattle.preempt_machine.specs.Jobs.{turn_by}
 use Rattle.preempt_machine.specs.Running.{HasPlan}

@@ -5,7 +5,7 @@ use Rattle.crpd_base.specs.declared.data.Switching.{Switching}
 use Rattle.preempt_machine.specs.declared.Completion.{Completion}
 use Rattle.preempt_machine.specs.declared.End.TheVariants as «end»
 use Rattle.preempt_machine.specs.declared.parts.Parts.{Parts}
-use Rattle.preempt_machine.specs.Machine.{System, Standing, Job, Machine, job_at, no_job}
+use Rattle.preempt_machine.specs.Machine.{System, Job, Machine, job_at, no_job}
 use Rattle.preempt_machine.specs.Step.{is_open, keeps_core, placed, turned, turn_of, fetch, fetch_by, step}
 use Rattle.preempt_machine.specs.Jobs.{shown}
 use Rattle.preempt_machine.specs.Running.{Running, completion_at, fetch_told}

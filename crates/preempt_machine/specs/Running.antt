@@ -13,7 +13,6 @@ use Rattle.icache.specs.declared.Access.{Access}
 use Rattle.icache.specs.declared.Access.TheVariants.{Hit, Miss}
 use Rattle.code_map.specs.Words.{Code, word_at}
 use Rattle.flow_watch.specs.Turns.{HasTurns}
-use Rattle.preempt_machine.specs.declared.End.{End}
 use Rattle.preempt_machine.specs.declared.Completion.{Completion}
 use Rattle.preempt_machine.specs.declared.Fetch as told
 use Rattle.preempt_machine.specs.Machine.{System, Job, Machine, ins_at, job_at, started}

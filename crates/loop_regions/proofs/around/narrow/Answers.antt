@@ -1,7 +1,7 @@
-use Rattle.std.proofs.Common.{[], ◌≡◌, ◌∙◌, ◌<◌, ap, arith, length, get_or, set}
+use Rattle.std.proofs.Common.{[], ◌∙◌, ◌<◌, ap, arith, length, get_or, set}
 use Rattle.std.proofs.lemmas.List.{length-set, get_or_default}
 use Rattle.loop_regions.proofs.Has.{has_at}
-use Rattle.loop_regions.proofs.Rounds.{narrow_start, narrow_more}
+use Rattle.loop_regions.proofs.Rounds.{narrow_more}
 use Rattle.loop_regions.proofs.around.narrow.Goals as goal
 
 pub index_mut-around-requires : goal.index_mut-around-requires

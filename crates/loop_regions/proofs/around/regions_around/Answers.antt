@@ -1,4 +1,4 @@
-use Rattle.std.proofs.Common.{◌≤◌, arith}
+use Rattle.std.proofs.Common.{arith}
 use Rattle.loop_regions.proofs.Rounds.{all_round}
 use Rattle.loop_regions.proofs.around.regions_around.Goals as goal
 

@@ -3,7 +3,6 @@ use Rattle.std.specs.Prelude.{Result, Ok, Err, IfOk}
 use Rattle.crpd_base.specs.declared.data.LoopAt.{LoopAt}
 use Rattle.flat_graph.specs.CodeGraph.{graph_of, places_of}
 use Rattle.loop_regions.specs.Stated.{IsSameHead, IsLoopRefused, SameHead}
-use Rattle.loop_regions.specs.Least.{IsLeast}
 use Rattle.loop_regions.proofs.found_nest.regions.Goals as goal
 
 whatever : {A E : Type 0} (P : Type 0) (r : Result A E) → P → IfOk r (λ _. P)

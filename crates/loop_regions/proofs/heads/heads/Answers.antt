@@ -1,5 +1,5 @@
-use Rattle.std.proofs.Common.{◌≡◌, ◌∙◌, sym, ap, subst, ◌+◌, Vec, Global, List}
-use Rattle.std.specs.Prelude.{Option, Some, None}
+use Rattle.std.proofs.Common.{◌∙◌, sym, ap, subst, ◌+◌, Vec, Global, List}
+use Rattle.std.specs.Prelude.{Some, None}
 use Rattle.flat_graph.specs.CodeGraph.{places_of}
 use Rattle.loop_regions.specs.Heads.{IsLoopAt, AreHeads}
 use Rattle.loop_regions.specs.declared.heads.Head.{Head}

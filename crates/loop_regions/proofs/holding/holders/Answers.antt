@@ -1,4 +1,4 @@
-use Rattle.std.proofs.Common.{◌≡◌, ◌+◌, ◌<◌, ◌≤◌, ℕ, refl, arith, length, slice_get, get_or, Some}
+use Rattle.std.proofs.Common.{refl, arith, length, get_or}
 use Rattle.std.proofs.lemmas.Option.{slice_get_within, slice_get-get_or, slice_get_read}
 use Rattle.flat_graph.specs.CodeGraph.{places_of}
 use Rattle.loop_regions.specs.CodeNest.{row}

@@ -1,5 +1,5 @@
 use Rattle.loop_regions.proofs.Seen.{seen_none, seen_call, seen_itself}
-use Rattle.std.proofs.Common.{◌∙◌, sym, arith, ◌≡◌, length, ◌≤◌}
+use Rattle.std.proofs.Common.{◌∙◌, sym, arith}
 use Rattle.loop_regions.proofs.holding.seen_from.Goals as goal
 
 pub returns-then-not-starts_with : goal.returns-then-not-starts_with

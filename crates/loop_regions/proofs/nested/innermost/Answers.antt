@@ -1,4 +1,4 @@
-use Rattle.std.proofs.Common.{◌≤◌, ◌<◌, ◌+◌, take, sym, subst, arith}
+use Rattle.std.proofs.Common.{◌+◌, take, sym, subst, arith}
 use Rattle.loop_regions.proofs.Lines.{IsBest, best_more, best_of_all}
 use Rattle.loop_regions.proofs.nested.innermost.Goals as goal
 

@@ -1,4 +1,4 @@
-use Rattle.std.proofs.Common.{◌≤◌, None, sym, subst, ◌∙◌}
+use Rattle.std.proofs.Common.{None, sym, subst}
 use Rattle.loop_regions.specs.Found.{nest_in, AreInLine, IsInnermost}
 use Rattle.loop_regions.specs.Levels.{IsLevel}
 use Rattle.loop_regions.proofs.Lines.{at_node, level_of, answer_more}

@@ -1,4 +1,4 @@
-use Rattle.std.proofs.Common.{◌≡◌, ◌∙◌, ◌≤◌, ◌<◌, ℕ, IsTrue, sym, ap, subst, inl, inr, ⊎_elim, arith, length}
+use Rattle.std.proofs.Common.{◌∙◌, sym, ap, ⊎_elim, arith}
 use Rattle.std.proofs.lemmas.Bool.{cases_lt, both_ways}
 use Rattle.loop_regions.specs.CodeNest.{row}
 use Rattle.loop_regions.specs.Found.{are_across}

@@ -1,4 +1,4 @@
-use Rattle.std.proofs.Common.{◌≡◌, ◌∙◌, ◌<◌, ◌≤◌, [], Some, sym, subst, arith, length}
+use Rattle.std.proofs.Common.{◌≡◌, ◌∙◌, ◌<◌, [], Some, sym, subst, arith, length}
 use Rattle.std.proofs.lemmas.List.{get_or_default}
 use Rattle.loop_regions.specs.CodeNest.{row}
 use Rattle.loop_regions.specs.Found.{nest_in, AreInLine, IsInnermost}

@@ -1,4 +1,4 @@
-use Rattle.std.proofs.Common.{◌<◌, ◌≤◌, arith}
+use Rattle.std.proofs.Common.{arith}
 use Rattle.flat_graph.specs.CodeGraph.{graph_of}
 use Rattle.loop_regions.specs.Found.{nest_in}
 use Rattle.loop_regions.proofs.Searching.{falls_more}

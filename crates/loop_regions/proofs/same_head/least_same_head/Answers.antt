@@ -1,4 +1,4 @@
-use Rattle.std.proofs.Common.{◌≤◌, ◌+◌, length, subst, sym, arith}
+use Rattle.std.proofs.Common.{◌+◌, subst, sym, arith}
 use Rattle.loop_regions.specs.Least.{IsLeast}
 use Rattle.loop_regions.proofs.SameHeads.{IsSameBelow, one_more, all_heads}
 use Rattle.loop_regions.proofs.same_head.least_same_head.Goals as goal

@@ -1,4 +1,4 @@
-use Rattle.std.proofs.Common.{◌≡◌, ◌∙◌, sym, get_or}
+use Rattle.std.proofs.Common.{◌∙◌, sym, get_or}
 use Rattle.std.proofs.lemmas.Option.{slice_get-get_or}
 use Rattle.loop_regions.proofs.SameHeads.{repeated_here, repeated_not}
 use Rattle.loop_regions.proofs.same_head.repeated.Goals as goal

@@ -1,6 +1,6 @@
-use Rattle.std.proofs.Common.{◌≡◌, ◌∙◌, sym, ap, subst}
+use Rattle.std.proofs.Common.{◌∙◌, sym, ap, subst}
 use Rattle.flat_graph.specs.CodeGraph.{graph_of}
-use Rattle.std.specs.Prelude.{Some, Option, IsTrue, IsFalse, ℕ}
+use Rattle.std.specs.Prelude.{Some, ℕ}
 use Rattle.loop_regions.specs.Least.{IsLeast}
 use Rattle.loop_regions.specs.Found.{nest_in, is_inside_some, IsInsideStart}
 use Rattle.loop_regions.proofs.SecondEntries.{start_inside, start_not_inside}

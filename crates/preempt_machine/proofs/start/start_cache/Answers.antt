@@ -1,5 +1,4 @@
-use Rattle.std.proofs.Common.{◌≡◌, ◌<◌, ◌≤◌, None, length, take, sym, ◌∙◌, ap, arith}
-use Rattle.std.specs.Prelude.{replicate}
+use Rattle.std.proofs.Common.{◌<◌, ◌≤◌, length, sym, ◌∙◌, ap}
 use Rattle.std.proofs.lemmas.List.{take_all}
 use Rattle.icache.specs.Cache.{Cache}
 use Rattle.preempt_machine.specs.Starts.{start_cache, with_blocks}

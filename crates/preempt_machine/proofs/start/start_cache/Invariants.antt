@@ -1,5 +1,4 @@
-use Rattle.std.proofs.Common.{◌≡◌, None, take, length}
-use Rattle.std.specs.Prelude.{replicate}
+use Rattle.std.proofs.Common.{◌≡◌, take, length}
 use Rattle.preempt_machine.specs.Starts.{with_blocks}
 use Rattle.preempt_machine.proofs.start.start_cache.Given as goal
 

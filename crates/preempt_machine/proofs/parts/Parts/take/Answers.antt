@@ -1,4 +1,4 @@
-use Rattle.std.proofs.Common.{◌≡◌, ◌<◌, ◌∙◌, ap, subst, sym, length, arith}
+use Rattle.std.proofs.Common.{◌<◌, ◌∙◌, ap, subst, sym, length, arith}
 use Rattle.crpd_base.specs.declared.data.ScriptJob.{ScriptJob}
 use Rattle.preempt_machine.specs.declared.queue.Queue.{Queue}
 use Rattle.preempt_machine.specs.Machine.{Machine, job_at}

@@ -1,4 +1,4 @@
-use Rattle.std.proofs.Common.{◌≡◌, ◌<◌, sym, ◌∙◌, ap, refl, subst, length, List, ℕ, arith}
+use Rattle.std.proofs.Common.{◌≡◌, ◌<◌, sym, ◌∙◌, refl, subst, length, List, ℕ, arith}
 use Rattle.std.proofs.lemmas.Result.{on_err_weaker}
 use Rattle.preempt_machine.specs.Machine.{Job, job_at}
 use Rattle.preempt_machine.specs.Running.{system_by, HasPlan}

@@ -1,4 +1,4 @@
-use Rattle.std.proofs.Common.{◌≡◌, ℕ, ◌<◌, length}
+use Rattle.std.proofs.Common.{ℕ, ◌<◌}
 use Rattle.std.specs.Prelude.{slice_index}
 use Rattle.preempt_machine.specs.Kept.{HasCome}
 use Rattle.preempt_machine.proofs.queue.Queue.first.Given as goal

@@ -1,4 +1,4 @@
-use Rattle.std.proofs.Common.{◌≡◌, ◌≤◌, length, refl, ap, arith}
+use Rattle.std.proofs.Common.{◌≤◌, length, refl, ap, arith}
 use Rattle.crpd_base.specs.declared.data.Platform.{Platform}
 use Rattle.preempt_machine.specs.Safe.{system_of}
 use Rattle.preempt_machine.proofs.Starting.{starts_kept}

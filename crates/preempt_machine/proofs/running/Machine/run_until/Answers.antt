@@ -1,4 +1,4 @@
-use Rattle.std.proofs.Common.{◌≡◌, ℕ, suc, ◌-◌, ◌∙◌, ap, sym, arith}
+use Rattle.std.proofs.Common.{◌≡◌, ℕ, suc, ◌-◌, ◌∙◌, ap, arith}
 use Rattle.preempt_machine.specs.Running.{Running, stepped, stepped_by, system_by}
 use Rattle.preempt_machine.proofs.Steps.{step_time}
 use Rattle.preempt_machine.proofs.running.Machine.run_until.Goals as goal

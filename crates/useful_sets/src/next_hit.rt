@@ -1,0 +1,189 @@
+// Of which sets the next access is a hit, as a dataflow problem against the edges.
+ghost use Rattle.std.specs.Prelude.{◌≡◌, ℕ, ◌<◌, ◌≤◌, ◌*◌, Some, None, IfOk, IsSome, IsTrue, ◌↔◌, length, slice_index_or, false};
+ghost use Rattle.crpd_base.specs.Sets.{has};
+ghost use Rattle.icache.specs.Accesses.{accesses};
+ghost use Rattle.flat_graph.specs.CodeGraph.{graph_of, places_of};
+ghost use Rattle.must_cache.specs.Sure.{IsSureHit};
+ghost use Rattle.must_cache.specs.States.{AreSure};
+ghost use Rattle.useful_sets.specs.Sets.{AreUseful, sets_at};
+ghost use Rattle.useful_sets.specs.Reuse.{Reused, either, before_access, passing_below, IsAllBut};
+ghost use Rattle.useful_sets.specs.ReuseLaws.{either_joins, before_distributes, few_pass};
+
+use crate::others::{all_others, put};
+use crpd_base::{Memory, NodeId, SetBits};
+use dataflow::{Against, Domain, EdgeList, solve};
+use flat_graph::Graph;
+use icache::Geometry;
+use must_cache::{MustState, edges, is_hit};
+use std::alloc::{AllocError, Global};
+
+/// Whether each node is a hit on each walk.
+fn sure_hits<const S: usize>(
+    alloc: Global,
+    graph: &Graph,
+    geometry: &Geometry,
+    must: &[MustState<S>],
+) -> Result<Vec<bool>, AllocError>
+    requires room { geometry.now.platform.sets ≤ S }
+    requires sure { AreSure (graph_of graph.now) (accesses geometry.now.platform (places_of graph.now).address) must.now }
+    ensures count { IfOk result (λ hits. length hits.items ≡ (graph_of graph.now).size) }
+    ensures each { IfOk result (λ hits. (y : ℕ) → y < (graph_of graph.now).size →
+        IsTrue (slice_index_or hits.items y false) ↔ IsSureHit (graph_of graph.now) (accesses geometry.now.platform (places_of graph.now).address) y) }
+{
+    let mut hits = Vec::with_capacity(alloc, must.len())?;
+    for node in 0..graph.len() {
+        let address = graph.node(NodeId(node)).address;
+        hits.push(is_hit(&must[node as usize], geometry, address))?;
+    }
+    Ok(hits)
+}
+
+/// The sets whose next access after a node is at a hit, on some path. In the flow, which is against the edges, that is
+/// the fact before the node.
+#[derive(Clone, Copy)]
+struct NextHit<'a, const W: usize> {
+    graph: &'a Graph,
+    geometry: &'a Geometry,
+    hits: &'a [bool],
+    others: &'a [SetBits<W>],
+    ghost few: { 64 * W ≤ 65536 },
+    ghost room: { geometry.now.platform.sets ≤ 64 * W },
+    ghost all_hits: { length hits.now ≡ (graph_of graph.now).size },
+    ghost all_others: { length others.now ≡ geometry.now.platform.sets },
+    ghost each_other: { (s : ℕ) → s < geometry.now.platform.sets → IsAllBut (64 * W) s (sets_at others.now s) },
+}
+
+impl<const W: usize> Domain for NextHit<'_, W> {
+    type Fact = SetBits<W>;
+
+    ghost Value = { Reused };
+
+    ghost view = { λ sets s. has sets s };
+
+    ghost joined = { either };
+
+    ghost passed = { λ d n after. before_access (accesses d.geometry.now.platform (places_of d.graph.now).address) (λ y. slice_index_or d.hits.now y false) n after };
+
+    ghost begins = { λ d n. Some (λ s. false) };
+
+    ghost height = { λ d x. passing_below x (64 * W) };
+
+    ghost tallest = { λ d. 64 * W };
+
+    ghost is_own = { λ d n. n < (graph_of d.graph.now).size };
+
+    fn start(&self, _node: u32) -> Option<SetBits<W>> {
+        Some(SetBits::new())
+    }
+
+    fn join(&self, a: &mut SetBits<W>, b: &SetBits<W>) -> bool {
+        b.within_law();
+        match a.first_missing(b) {
+            Some(_) => {
+                a.union(b);
+                true
+            }
+            None => false,
+        }
+    }
+
+    fn transfer(&self, node: u32, sets: &mut SetBits<W>) {
+        let address = self.graph.node(NodeId(node)).address;
+        let set = self.geometry.set(self.geometry.block(address));
+        put(
+            sets,
+            &self.others[set as usize],
+            set,
+            self.hits[node as usize],
+        );
+    }
+
+    ghost joins = { either_joins };
+
+    ghost distributes = { λ d n a b. before_distributes (accesses d.geometry.now.platform (places_of d.graph.now).address) (λ y. slice_index_or d.hits.now y false) n a b };
+
+    ghost bounded = { λ d v. few_pass v (64 * W) };
+}
+
+/// The sets before each node, from those after it, which are there.
+fn all_before<const W: usize>(
+    alloc: Global,
+    domain: &NextHit<W>,
+    after: &[Option<SetBits<W>>],
+) -> Result<Vec<SetBits<W>>, AllocError>
+    requires count { length after.now ≡ (graph_of domain.now.graph.now).size }
+    requires there { (n : ℕ) → n < length after.now → IsSome (slice_index_or after.now n None) }
+    ensures count { IfOk result (λ before. length before.items ≡ length after.now) }
+    ensures each { IfOk result (λ before. (n s : ℕ) (sets : _) → n < length after.now → slice_index_or after.now n None ≡ Some sets →
+        has (sets_at before.items n) s ≡
+        before_access (accesses domain.now.geometry.now.platform (places_of domain.now.graph.now).address) (λ y. slice_index_or domain.now.hits.now y false) n (has sets) s) }
+{
+    let mut before = Vec::with_capacity(alloc, after.len())?;
+    for node in 0..domain.graph.len() {
+        let mut sets = match after[node as usize] {
+            Some(sets) => sets,
+            None => unreachable!(),
+        };
+        domain.transfer(node, &mut sets);
+        before.push(sets)?;
+    }
+    Ok(before)
+}
+
+/// The useful sets before each node, from which nodes are hits.
+fn useful_by_hits<const W: usize>(
+    alloc: Global,
+    graph: &Graph,
+    geometry: &Geometry,
+    hits: &[bool],
+) -> Result<Vec<SetBits<W>>, Memory>
+    requires few { 64 * W ≤ 65536 }
+    requires room { geometry.now.platform.sets ≤ 64 * W }
+    requires count { length hits.now ≡ (graph_of graph.now).size }
+    requires each { (y : ℕ) → y < (graph_of graph.now).size →
+        IsTrue (slice_index_or hits.now y false) ↔ IsSureHit (graph_of graph.now) (accesses geometry.now.platform (places_of graph.now).address) y }
+    ensures { IfOk result (λ sets. AreUseful (graph_of graph.now) (accesses geometry.now.platform (places_of graph.now).address) sets.items) }
+{
+    let edges = edges(alloc, graph)?;
+    let Some(flow) = EdgeList::new(graph.len(), &edges) else {
+        unreachable!()
+    };
+    let Ok(others) = all_others(alloc, geometry.platform.sets) else {
+        return Err(Memory);
+    };
+    let domain = NextHit::<W> {
+        graph,
+        geometry,
+        hits,
+        others: &others,
+    };
+    let after = solve(alloc, &Against::new(&flow), &domain)?;
+    match all_before(alloc, &domain, &after) {
+        Ok(before) => Ok(before),
+        Err(_) => Err(Memory),
+    }
+}
+
+/// The useful cache sets before each node, by the nodes' numbers: a set is useful where it surely holds a block that
+/// some path from the node on accesses next in this set, at an access that is surely a hit. `must` is what `must` of
+/// `must_cache` gives for this graph and geometry.
+///
+/// The one refusal is want of memory; two sets of numbers for each node and one for each cache set are taken. An edge is
+/// followed once where the graph has no cycle, and else again where the sets at its target have grown.
+pub fn useful<const S: usize, const W: usize>(
+    alloc: Global,
+    graph: &Graph,
+    geometry: &Geometry,
+    must: &[MustState<S>],
+) -> Result<Vec<SetBits<W>>, Memory>
+    requires room { geometry.now.platform.sets ≤ S }
+    requires few { 64 * W ≤ 65536 }
+    requires room_for_sets { geometry.now.platform.sets ≤ 64 * W }
+    requires sure { AreSure (graph_of graph.now) (accesses geometry.now.platform (places_of graph.now).address) must.now }
+    ensures { IfOk result (λ sets. AreUseful (graph_of graph.now) (accesses geometry.now.platform (places_of graph.now).address) sets.items) }
+{
+    let Ok(hits) = sure_hits(alloc, graph, geometry, must) else {
+        return Err(Memory);
+    };
+    useful_by_hits(alloc, graph, geometry, &hits)
+}
