@@ -47,9 +47,9 @@ module _ {A : Type 0} (test : A → A → Bool) (R : A → A → Type 0) (each :
 pub legal_decides : (set : TaskSet) (jobs : List ScriptJob) → IsTrue (is_legal set jobs) ↔ IsLegal set jobs
 legal_decides set jobs =
     let both =
-        Decides-and (list_all_pairs (are_spaced set) jobs) (list_all (is_in_time set) jobs)
-        (all_pairs (are_spaced set) (AreSpaced set) (spaced set) jobs)
-        (Decides-by_and (is_in_time set) (IsReleasedInTime set) (list_all (is_in_time set)) (in_time set) refl (λ _ _. refl) jobs)
+    Decides-and (list_all_pairs (are_spaced set) jobs) (list_all (is_in_time set) jobs)
+    (all_pairs (are_spaced set) (AreSpaced set) (spaced set) jobs)
+    (Decides-by_and (is_in_time set) (IsReleasedInTime set) (list_all (is_in_time set)) (in_time set) refl (λ _ _. refl) jobs)
     in
     (λ e. let h = both.0 e in record { spaced = h.0; in_time = h.1 }, λ h. both.1 (h.spaced, h.in_time))
 

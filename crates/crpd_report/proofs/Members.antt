@@ -15,7 +15,7 @@ module _ (line : ℕ → List ℕ) (p : ℕ → Bool) (head text : List ℕ) whe
       ap (λ t. t ++ line n) e ∙ append_assoc head (flat_map line (those_below n p)) (line n)
       ∙ ap (λ l. head ++ l)
       (ap (λ l. flat_map line (those_below n p) ++ l) (sym (append-nil (line n))) ∙ sym (flat_map-append line (those_below n p) (n ∷ []))
-          ∙ ap (flat_map line) (sym (one_more p n has_it) ∙ ap (λ k. those_below k p) (let e : suc n ≡ m = omega arith in e)))
+      ∙ ap (flat_map line) (sym (one_more p n has_it) ∙ ap (λ k. those_below k p) (let e : suc n ≡ m = omega arith in e)))
 
   pub failed : (n m : ℕ) → m ≡ n + 1 → p n ≡ false → text ≡ head ++ flat_map line (those_below n p) → text ≡ head ++ flat_map line (those_below m p)
   failed n m is lacks_it e =

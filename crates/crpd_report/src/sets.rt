@@ -15,11 +15,7 @@ fn add_number(alloc: Global, text: &mut Vec<u8>, number: usize) -> Result<(), Al
 }
 
 /// Adds the numbers of a set, in increasing order.
-fn add_numbers(
-    alloc: Global,
-    text: &mut Vec<u8>,
-    set: &SetBits<WORDS>,
-) -> Result<(), AllocError>
+fn add_numbers(alloc: Global, text: &mut Vec<u8>, set: &SetBits<WORDS>) -> Result<(), AllocError>
     ensures { IfOk result (λ _. text.new.items ≡ text.old.items ++ spec.numbers_text set.now) }
 {
     for number in 0..SETS {
@@ -49,12 +45,7 @@ fn add_line(
 }
 
 /// Adds the two lines of a task of this name.
-fn add_task(
-    alloc: Global,
-    text: &mut Vec<u8>,
-    name: &str,
-    part: &Part,
-) -> Result<(), AllocError>
+fn add_task(alloc: Global, text: &mut Vec<u8>, name: &str, part: &Part) -> Result<(), AllocError>
     ensures { IfOk result (λ _. text.new.items ≡ text.old.items ++ spec.lines_of name.now part.now) }
 {
     add_line(alloc, text, name, "evicting", &part.evicting)?;

@@ -1,18 +1,21 @@
 // The bounds of small programs.
 ghost use Rattle.std.specs.Prelude.{◌≡◌, ◌<◌, ◌≤◌, ◌↔◌, IfOk, All, IsTrue, vec_len};
 ghost use Rattle.crpd_base.specs.Images.{IsImage};
-ghost use Rattle.loop_regions.specs.CodeNest.{AreBounded};
+ghost use Rattle.icache.specs.Accesses.{accesses};
+ghost use Rattle.flat_graph.specs.CodeGraph.{graph_of, places_of};
+ghost use Rattle.must_cache.specs.States.{AreSure};
+ghost use Rattle.loop_regions.specs.CodeNest.{AreBounded, IsNestOf};
 
 use crate::{Bound, BoundError, bound};
 use code_map::CodeMap;
 use crpd_base::{
-    Image, Items, LoopAt, LoopSpec, Place, Platform, Segment, Switching, Task, TaskSet, TaskSpec,
-    Text,
+    Image, Items, LoopAt, LoopSpec, Place, Platform, Segment, Switching, Task, TaskPlan, TaskSet,
+    TaskSpec, Text,
 };
-use flat_graph::build;
+use flat_graph::{Graph, build};
 use icache::Geometry;
-use loop_regions::regions;
-use must_cache::must;
+use loop_regions::{Nest, regions};
+use must_cache::{MustState, must};
 use std::alloc::{AllocError, Global};
 use std::test::Fail;
 
@@ -167,7 +170,38 @@ fn are_bounded(loops: &[LoopAt]) -> bool
     loops.iter().all(|l| 1 <= l.bound && l.bound <= 1_000_000)
 }
 
-// The bound of the program, with room for S cache sets.
+// The regions of the plan's loops, whose bounds are in range.
+fn nest_of(alloc: Global, graph: &Graph, plan: &TaskPlan) -> Result<Nest, Fail>
+    ensures { IfOk result (λ nest. IsNestOf graph.now nest) }
+{
+    if !are_bounded(plan.loops.as_slice()) {
+        return Err(Fail::from("a bound out of range"));
+    }
+    match regions(alloc, graph, plan) {
+        Ok(nest) => Ok(nest),
+        Err(_) => Err(Fail::from("no regions")),
+    }
+}
+
+// The must states, with room for S cache sets.
+fn states_of<const S: usize>(
+    alloc: Global,
+    platform: &Platform,
+    graph: &Graph,
+) -> Result<Vec<MustState<S>>, Fail>
+    requires line { 0 < platform.now.line }
+    requires sets { 0 < platform.now.sets }
+    requires room { platform.now.sets ≤ S }
+    requires few { S ≤ 65536 }
+    ensures { IfOk result (λ states. AreSure (graph_of graph.now) (accesses platform.now (places_of graph.now).address) states.items) }
+{
+    match must::<S>(alloc, graph, &Geometry::new(platform)) {
+        Ok(states) => Ok(states),
+        Err(_) => Err(Fail::from("no memory")),
+    }
+}
+
+// The bound of the program.
 fn answer<const S: usize>(
     alloc: Global,
     platform: &Platform,
@@ -184,15 +218,14 @@ fn answer<const S: usize>(
     if code.images().is_empty() {
         return Err(Fail::from("no image"));
     }
-    let graph = build(alloc, &code, Task(0)).map_err(|_| "no graph")?;
-    let plan = code.plan(Task(0));
-    if !are_bounded(plan.loops.as_slice()) {
-        return Err(Fail::from("a bound out of range"));
+    match build(alloc, &code, Task(0)) {
+        Err(_) => Err(Fail::from("no graph")),
+        Ok(graph) => {
+            let nest = nest_of(alloc, &graph, code.plan(Task(0)))?;
+            let states = states_of::<S>(alloc, platform, &graph)?;
+            Ok(bound(alloc, &graph, &nest, platform, &states))
+        }
     }
-    let nest = regions(alloc, &graph, plan).map_err(|_| "no regions")?;
-    let geometry = Geometry::new(platform);
-    let states = must::<S>(alloc, &graph, &geometry).map_err(|_| "no memory")?;
-    Ok(bound(alloc, &graph, &nest, &geometry.platform, &states))
 }
 
 fn push_numbers(alloc: Global, text: &mut String, numbers: &[u64]) -> Result<(), AllocError> {

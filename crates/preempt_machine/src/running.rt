@@ -128,7 +128,6 @@ fn are_kept(jobs: &[Job]) -> bool
 
 impl Machine {
     ghost use Rattle.std.specs.Prelude.{◌≡◌, ◌≢◌, ℕ, ◌+◌, ◌-◌, ◌<◌, ◌≤◌, ◌^◌, length, map, All, IsTrue, ◌↔◌, Some, None, option_map, IfOk, OnOk, OnErr};
-    ghost use Rattle.crpd_base.specs.Images.{IsImage};
     ghost use Rattle.preempt_machine.specs.Safe.{completions, IsKept, NamesTasks};
     ghost use Rattle.preempt_machine.specs.Starts.{start_cache, start_memory};
     ghost use Rattle.preempt_machine.specs.Running.{completion_at, job_id, start_of, stepped, stepped_by, system_by, GivesStore, HasPlans, IsAt, StopsAtStore};
@@ -197,7 +196,6 @@ impl Machine {
         requires plans { length code.now.plans ≡ length set.now.tasks }
         requires tasks { NamesTasks set.now script.now.jobs }
         requires jobs { length script.now.jobs < 2 ^ 32 }
-        requires images { All IsImage code.now.images }
         ensures started { IfOk result (λ m. m ≡ start_of set.now code.now (start_cache set.now.platform script.now.cache) (start_memory code.now.images) script.now.jobs) }
         ensures plans { IfOk result (λ m. HasPlans code.now m.state) }
     {

@@ -1,6 +1,5 @@
 // The cache and the data memory that a script starts from.
 ghost use Rattle.std.specs.Prelude.{◌≡◌, ◌+◌, ◌<◌, ◌≤◌, ◌^◌, length, All, IfOk, OnOk};
-ghost use Rattle.crpd_base.specs.Images.{IsImage};
 ghost use Rattle.preempt_machine.specs.Starts.{start_cache, start_memory, with_blocks, with_bytes, with_segment, with_segments};
 
 use code_map::CodeMap;
@@ -67,9 +66,9 @@ fn put_segments(memory: &mut DataMemory, segments: &[Segment]) -> Result<(), Mem
 ///
 /// Source: Tool Interface Standard, Executable and Linking Format, version 1.2, book I (p_filesz, p_memsz).
 pub fn start_memory(alloc: Global, code: &CodeMap) -> Result<DataMemory, Memory>
-    requires { All IsImage code.now.images }
     ensures { IfOk result (λ memory. memory ≡ start_memory code.now.images) }
 {
+    code.images_law();
     let mut memory = DataMemory::new(alloc);
     for image in code.images() {
         put_segments(&mut memory, image.segments.as_slice())?;

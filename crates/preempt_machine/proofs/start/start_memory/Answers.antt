@@ -19,12 +19,12 @@ item_good items images i image e h inside all = subst IsImage (sym (item_is item
 
 pub put_segments-requires-clause-below : goal.put_segments-requires-clause-below
 put_segments-requires-clause-below c =
-    let good = item_good c.images-image-items.result.now c.args.code.now.images c.loop-image.image-index c.image-item.result c.loop-image.invariant.items c.image-item.is c.loop-image-test.true c.requires in
+    let good = item_good c.images-image-items.result.now c.args.code.now.images c.loop-image.image-index c.image-item.result c.loop-image.invariant.items c.image-item.is c.loop-image-test.true c.images_law.ensures in
     rw c.as_slice.ensures good.below
 
 pub put_segments-requires-clause-sized : goal.put_segments-requires-clause-sized
 put_segments-requires-clause-sized c =
-    let good = item_good c.images-image-items.result.now c.args.code.now.images c.loop-image.image-index c.image-item.result c.loop-image.invariant.items c.image-item.is c.loop-image-test.true c.requires in
+    let good = item_good c.images-image-items.result.now c.args.code.now.images c.loop-image.image-index c.image-item.result c.loop-image.invariant.items c.image-item.is c.loop-image-test.true c.images_law.ensures in
     rw c.as_slice.ensures good.sized
 
 pub loop-image-preserved : goal.loop-image-preserved
