@@ -97,16 +97,10 @@ fn chains_of_calls(rt: HostRuntime) -> Result<(), Fail> {
 #[test]
 fn many_nodes(rt: HostRuntime) -> Result<(), Fail> {
     let alloc = rt.alloc();
-    let cases = [
-        (16_383, "refused 80 NoFile cert.json -\n"),
-        (16_384, "refused 56 TooManyNodes one 00001000\n"),
-    ];
-    for (count, text) in cases {
-        let mut words = vec![in alloc; ONE; count]?;
-        words.push(ECALL)?;
-        one_ends(&rt, alloc, words.as_slice(), "", text)?;
-    }
-    Ok(())
+    let mut words = vec![in alloc; ONE; 16_384]?;
+    words.push(ECALL)?;
+    let text = "refused 56 TooManyNodes one 00001000\n";
+    one_ends(&rt, alloc, words.as_slice(), "", text)
 }
 
 const LOOP: &str = "[[task.loop]]\nhead = 0x1004\nbound = 3\nrange = [[0x1004, 0x100C]]\n";
