@@ -1,5 +1,5 @@
 -- Clauses 2 to 7 of one task's graph.
-use Rattle.std.specs.Prelude.{◌≡◌, ℕ, ◌<◌, Bool, length, All, Option, Some, None, ◌≤◌}
+use Rattle.std.specs.Prelude.{◌≡◌, ℕ, ◌<◌, Bool, length, All}
 use Rattle.crpd_base.specs.Sets.{has}
 use Rattle.crpd_base.specs.declared.data.Platform.{Platform}
 use Rattle.crpd_base.specs.declared.data.NodeState.{NodeState}
@@ -10,8 +10,7 @@ use Rattle.evict_sets.specs.Certificate.{listed_of}
 use Rattle.cert_check.specs.Certificate.{potentials_of}
 use Rattle.cert_check.specs.Clauses.{CountsHits, costs, PotentialsMeet, BoundMeets}
 use Rattle.cert_check.specs.Judge.{accesses_of}
-use Rattle.cert_check.specs.Verdict.{Clause, Leaders, NodePotentials, LoopPotentials, States, UsefulSets, TaskSets, Inequalities, Bound, number_of, place_of, IsEarlier}
-use Rattle.cert_check.specs.declared.outcome.Failure.{Failure}
+use Rattle.cert_check.specs.Verdict.{Clause, Leaders, NodePotentials, LoopPotentials, States, UsefulSets, TaskSets, Inequalities, Bound}
 
 -- the clause holds for a task with this graph and this part; the other clauses look at more
 abbrev pub GraphHolds : Platform → TaskGraph → TaskPart → Clause → Type 0
@@ -26,17 +25,3 @@ GraphHolds p t c (Inequalities u) =
     PotentialsMeet t.graph t.nest (costs p (listing_of t) (answering t) is_hit) (potentials_of c) u
 GraphHolds p t c Bound = BoundMeets t.graph t.nest (potentials_of c) c.part.bound
 GraphHolds p t c _ = Unit {0}
-
--- the failure is that of the first of the clauses from a number to another that does not hold
-pub record IsGraphFailure (p : Platform) (t : TaskGraph) (c : TaskPart) (low high : ℕ) (f : Failure) : Type 0 where
-  pub clause : Clause
-  pub number : number_of clause ≡ f.clause
-  pub place : place_of clause ≡ f.place
-  pub within : (low ≤ number_of clause) × (number_of clause ≤ high)
-  pub fails : GraphHolds p t c clause → ⊥
-  pub before : (l : Clause) → low ≤ number_of l → IsEarlier l clause → GraphHolds p t c l
-
--- what is found when these clauses are judged
-abbrev pub IsGraphJudged : Platform → TaskGraph → TaskPart → ℕ → ℕ → Option Failure → Type 0
-IsGraphJudged p t c low high None = (k : Clause) → low ≤ number_of k → number_of k ≤ high → GraphHolds p t c k
-IsGraphJudged p t c low high (Some f) = IsGraphFailure p t c low high f

@@ -1,5 +1,5 @@
 // Clauses 2 to 7 of one task, in their order.
-ghost use Rattle.std.specs.Prelude.{◌≡◌, ◌↔◌, ◌<◌, ◌≤◌, length, Option};
+ghost use Rattle.std.specs.Prelude.{◌≡◌, ◌↔◌, ◌<◌, ◌≤◌, length, MatchOption};
 ghost use Rattle.crpd_base.specs.Ranges.{IsPlatform};
 ghost use Rattle.flat_graph.specs.CodeGraph.{graph_of};
 ghost use Rattle.loop_regions.specs.CodeNest.{nest_of, IsNestOf};
@@ -7,7 +7,9 @@ ghost use Rattle.evict_sets.specs.Certificate.{listed_of};
 ghost use Rattle.cert_check.specs.Clauses.{CountsHits};
 ghost use Rattle.cert_check.specs.Shown.{shown, HasLowSets};
 ghost use Rattle.cert_check.specs.Case.{IsCase, IsIndex, IsOrder, fetches, counted};
-ghost use Rattle.cert_check.specs.Graphs.{IsGraphJudged};
+ghost use Rattle.cert_check.specs.Paid.{IsPaid};
+ghost use Rattle.cert_check.specs.Graphs.{GraphHolds};
+ghost use Rattle.cert_check.specs.Answered.{IsFound};
 
 use crate::case::Case;
 use crate::index::index;
@@ -19,7 +21,9 @@ use flat_graph::Graph;
 use loop_regions::Nest;
 
 /// A failure at a node, none where the place is the number of nodes.
-fn at_node(clause: u8, least: u32, size: u32) -> Option<Failure> {
+fn at_node(clause: u8, least: u32, size: u32) -> Option<Failure>
+    ensures { MatchOption result (size ≤ least) (λ f. (least < size) × (f.clause ≡ clause) × (f.place ≡ least)) }
+{
     if least < size {
         Some(Failure {
             clause,
@@ -34,7 +38,7 @@ impl Case<'_> {
     /// The first failure of clause 2.
     fn list_failure(&self, nest: &Nest) -> Option<Failure>
         requires index { IsIndex self.now.part.now.states (length self.now.graph.now.nodes) self.now.places.now }
-        ensures { IsGraphJudged self.now.platform.now (shown self.now.graph.now nest.now) self.now.part.now 2 2 result }
+        ensures { IsFound (GraphHolds self.now.platform.now (shown self.now.graph.now nest.now) self.now.part.now) 2 2 result }
     {
         let part = self.part;
         if !are_nodes(part.states.as_slice(), self.graph.len()) || !self.lists_leaders() {
@@ -63,7 +67,7 @@ impl Case<'_> {
         requires case { IsCase self.now.platform.now self.now.graph.now self.now.part.now self.now.places.now }
         requires count { length hits.old ≡ (graph_of self.now.graph.now).size }
         ensures hits { CountsHits (graph_of self.now.graph.now) (fetches self.now.platform.now self.now.graph.now) (listed_of self.now.part.now) (counted hits.new) }
-        ensures failure { IsGraphJudged self.now.platform.now (shown self.now.graph.now nest.now) self.now.part.now 3 5 result }
+        ensures failure { IsFound (GraphHolds self.now.platform.now (shown self.now.graph.now nest.now) self.now.part.now) 3 5 result }
     {
         self.graph.graph_law();
         let size = self.graph.len();
@@ -93,7 +97,7 @@ pub(crate) fn graph_failure(
     requires platform { IsPlatform platform.now }
     requires nest { IsNestOf graph.now nest.now }
     requires sets { HasLowSets part.now }
-    ensures { IsGraphJudged platform.now (shown graph.now nest.now) part.now 2 7 result }
+    ensures { IsFound (GraphHolds platform.now (shown graph.now nest.now) part.now) 2 7 result }
 {
     graph.graph_law();
     let size = graph.len() as usize;
@@ -128,7 +132,11 @@ pub(crate) fn graph_failure(
 
 impl Paid<'_> {
     /// The first failure of clauses 6 and 7.
-    fn potential_failure(&self) -> Option<Failure> {
+    fn potential_failure(&self) -> Option<Failure>
+        requires paid { IsPaid self.now.graph.now self.now.nest.now self.now.part.now self.now.hits.now }
+        requires hits { CountsHits (graph_of self.now.graph.now) (fetches self.now.platform.now self.now.graph.now) (listed_of self.now.part.now) (counted self.now.hits.now) }
+        ensures { IsFound (GraphHolds self.now.platform.now (shown self.now.graph.now self.now.nest.now) self.now.part.now) 6 7 result }
+    {
         let failure = at_node(6, self.judge_potentials(), self.graph.len());
         if failure.is_some() {
             return failure;

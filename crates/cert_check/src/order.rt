@@ -4,7 +4,7 @@ ghost use Rattle.flat_graph.specs.Graph.{Edge};
 ghost use Rattle.flat_graph.specs.CodeGraph.{graph_of};
 ghost use Rattle.evict_sets.specs.Certificate.{listed_of};
 ghost use Rattle.cert_check.specs.Case.{IsCase, IsOrder};
-ghost use Rattle.cert_check.specs.Ordered.{IsLine, IsClosed, AreIn};
+ghost use Rattle.cert_check.specs.Ordered.{IsLine, IsClosed, HasListed};
 
 use crate::case::Case;
 use crpd_base::NodeId;
@@ -34,9 +34,21 @@ impl Case<'_> {
     /// Writes a listed node behind the first so many, and the unlisted nodes that continue it; gives how many there are
     /// then.
     fn write_chain(&self, order: &mut [u32], start: usize, node: NodeId) -> usize
+        requires case { IsCase self.now.platform.now self.now.graph.now self.now.part.now self.now.places.now }
+        requires node { node.0 < (graph_of self.now.graph.now).size }
+        requires listed { IsTrue ((listed_of self.now.part.now).is_listed node.0) }
+        requires size { length order.old ≡ (graph_of self.now.graph.now).size }
+        requires line { IsLine (graph_of self.now.graph.now) (listed_of self.now.part.now) order.old start }
+        requires closed { IsClosed (graph_of self.now.graph.now) (listed_of self.now.part.now) order.old start }
+        requires all { HasListed (graph_of self.now.graph.now) (listed_of self.now.part.now) order.old start node.0 }
+        ensures line { IsLine (graph_of self.now.graph.now) (listed_of self.now.part.now) order.new result }
+        ensures closed { IsClosed (graph_of self.now.graph.now) (listed_of self.now.part.now) order.new result }
+        ensures all { HasListed (graph_of self.now.graph.now) (listed_of self.now.part.now) order.new result (node.0 + 1) }
     {
-        let mut count = start;
-        let mut last = Some(node);
+        self.graph.graph_law();
+        order[start] = node.0;
+        let mut count = start + 1;
+        let mut last = self.follower(node);
         while let Some(next) = last {
             order[count] = next.0;
             count += 1;
@@ -52,6 +64,7 @@ impl Case<'_> {
         requires count { length order.old ≡ (graph_of self.now.graph.now).size }
         ensures { IsOrder (graph_of self.now.graph.now) (listed_of self.now.part.now) order.new }
     {
+        self.graph.graph_law();
         let mut count = 0;
         for node in 0..self.graph.len() {
             if self.is_listed(NodeId(node)) {
