@@ -8,51 +8,9 @@ ghost use Rattle.evict_sets.specs.Certificate.{block_in, listed_of};
 ghost use Rattle.cert_check.specs.Clauses.{CountsHits};
 ghost use Rattle.cert_check.specs.Case.{IsCase, IsOrder, IsStateAt, IsStateAfter, IsLeast, fetches, counted};
 
+use crate::blocks::{access, are_held, load};
 use crate::case::Case;
-use crpd_base::{NodeId, SETS, SetBits, WORDS};
-
-/// Puts the listed blocks into their cache sets, and none into the others; of two entries of one set the first counts.
-fn load(blocks: &mut [Option<u32>], sure: &[(u16, u32)])
-    requires low { All (λ (x : ℕ × ℕ). x.0 < 512) sure.now }
-    requires room { length blocks.old ≡ 512 }
-    ensures { (s : ℕ) → held blocks.new s ≡ block_in sure.now s }
-{
-    blocks.fill(None);
-    for done in 0..sure.len() {
-        let (set, block) = sure[sure.len() - 1 - done];
-        blocks[set as usize] = Some(block);
-    }
-}
-
-/// Whether each listed block stands in its cache set; of two entries of one set the first counts.
-fn are_held(blocks: &[Option<u32>], sure: &[(u16, u32)]) -> bool
-    requires low { All (λ (x : ℕ × ℕ). x.0 < 512) sure.now }
-    requires room { length blocks.now ≡ 512 }
-    ensures { IsTrue result ↔ ((s m : ℕ) → block_in sure.now s ≡ Some m → held blocks.now s ≡ Some m) }
-{
-    let mut seen = SetBits::<WORDS>::new();
-    for k in 0..sure.len() {
-        let (set, block) = sure[k];
-        if !seen.has(set) {
-            if blocks[set as usize] != Some(block) {
-                return false;
-            }
-            seen.insert(set);
-        }
-    }
-    true
-}
-
-/// Puts a block into a cache set; gives whether it stood there.
-fn access(blocks: &mut [Option<u32>], set: u16, block: u32) -> bool
-    requires room { set < length blocks.old }
-    ensures hit { IsTrue result ↔ (held blocks.old set ≡ Some block) }
-    ensures after { blocks.new ≡ slice_set blocks.old set (Some block) }
-{
-    let hit = blocks[set as usize] == Some(block);
-    blocks[set as usize] = Some(block);
-    hit
-}
+use crpd_base::{NodeId, SETS};
 
 impl Case<'_> {
     /// Makes the state of a node from that after the node before it in the order.

@@ -10,38 +10,8 @@ ghost use Rattle.cert_check.specs.Clauses.{CountsHits};
 ghost use Rattle.cert_check.specs.Case.{IsCase, IsOrder, IsUsefulAt, IsUsefulBehind, IsLeast, fetches, counted};
 
 use crate::case::Case;
-use crpd_base::{NodeId, SETS, SetBits, WORDS};
-
-/// The sets but one.
-fn without(sets: &SetBits<WORDS>, set: u16) -> SetBits<WORDS>
-    requires { set < 512 }
-    ensures { (t : ℕ) → member result t ≡ (if t == set then 0 else member sets.now t) }
-{
-    sets.within_law();
-    let mut others = SetBits::new();
-    for t in 0..SETS as u16 {
-        if t != set && sets.has(t) {
-            others.insert(t);
-        }
-    }
-    others
-}
-
-/// The sets with or without one.
-fn with(sets: &SetBits<WORDS>, set: u16, is_there: bool) -> SetBits<WORDS>
-    requires { set < 512 }
-    ensures { (t : ℕ) → has result t ≡ (if t == set then is_there else has sets.now t) }
-{
-    let mut changed = *sets;
-    if is_there {
-        changed.insert(set);
-        changed
-    } else if sets.has(set) {
-        without(sets, set)
-    } else {
-        changed
-    }
-}
+use crate::changed::with;
+use crpd_base::{NodeId, SetBits, WORDS};
 
 impl Case<'_> {
     /// What is useful at a successor of a node, from what is useful at the node behind it in the order.

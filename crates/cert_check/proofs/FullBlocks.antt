@@ -1,6 +1,7 @@
 -- Full states kept as the blocks of the cache sets.
 use Rattle.std.proofs.Common.{◌≡◌, ◌≢◌, ◌↔◌, ◌⊎◌, ℕ, zero, suc, ◌+◌, ◌-◌, ◌<◌, ◌≤◌, Bool, true, false, eqb, List, [], ◌∷◌, length, set, get_or, drop, take, Option, Some, None, IsTrue, IsFalse, refl, sym, ap, ◌∙◌, subst, inl, inr, ⊎_elim, arith, ne_eqb, eq-eqb, get_or-set_same, get_or-set_other, drop-cons}
 use Rattle.std.specs.Prelude.{slice_get, if◌then◌else◌, ◌==◌, is_some}
+use Rattle.std.proofs.lemmas.List.{drop_all}
 use Rattle.std.proofs.lemmas.Bool.{cases_eq, cases_Bool, both_ways, false≢true}
 use Rattle.crpd_base.specs.declared.data.NodeState.{NodeState}
 use Rattle.icache.specs.Cache.{held}
@@ -12,6 +13,17 @@ use Rattle.evict_sets.specs.Certificate.{block_in, entry_of, state_by}
 use Rattle.evict_sets.proofs.FullLaws.{unlisted_state_law}
 use Rattle.cert_check.specs.Case.{IsStateAt, IsStateAfter}
 use Rattle.cert_check.proofs.Nexts.{some_one, none_some, edge_at, at_edges}
+
+pub past : (blocks : List (Option ℕ)) (s : ℕ) → length blocks ≤ s → held blocks s ≡ None
+past [] s le = refl
+past (x ∷ blocks) zero le = absurd (omega arith)
+past (x ∷ blocks) (suc s) le = past blocks s (omega arith)
+
+-- no block at first
+pub none_held : (blocks : List (Option ℕ)) (sure : List (ℕ × ℕ)) → ((s : ℕ) → held blocks s ≡ None) → (s : ℕ) → held blocks s ≡ block_in (drop (length sure - 0) sure) s
+none_held blocks sure none s =
+    let empty : drop (length sure - 0) sure ≡ [] = drop_all (length sure - 0) sure (omega arith) in
+    none s ∙ sym (ap (λ xs. block_in xs s) empty)
 
 -- one more block, in front of those so far
 pub block_more : (blocks : List (Option ℕ)) (sure : List (ℕ × ℕ)) (j k place : ℕ) (x : ℕ × ℕ) → j ≡ suc k → place ≡ k → k < length sure → x ≡ get_or sure place (0, 0) → x.0 < length blocks

@@ -1,0 +1,36 @@
+// Sets of cache sets with one set put in or taken away.
+ghost use Rattle.std.specs.Prelude.{◌≡◌, ◌<◌, ◌==◌, ℕ, if◌then◌else◌};
+ghost use Rattle.crpd_base.specs.Sets.{has, member};
+
+use crpd_base::{SETS, SetBits, WORDS};
+
+/// The sets but one.
+fn without(sets: &SetBits<WORDS>, set: u16) -> SetBits<WORDS>
+    requires { set < 512 }
+    ensures { (t : ℕ) → member result t ≡ (if t == set then 0 else member sets.now t) }
+{
+    sets.within_law();
+    let mut others = SetBits::new();
+    for t in 0..SETS as u16 {
+        if t != set && sets.has(t) {
+            others.insert(t);
+        }
+    }
+    others
+}
+
+/// The sets with or without one.
+pub(crate) fn with(sets: &SetBits<WORDS>, set: u16, is_there: bool) -> SetBits<WORDS>
+    requires { set < 512 }
+    ensures { (t : ℕ) → has result t ≡ (if t == set then is_there else has sets.now t) }
+{
+    let mut changed = *sets;
+    if is_there {
+        changed.insert(set);
+        changed
+    } else if sets.has(set) {
+        without(sets, set)
+    } else {
+        changed
+    }
+}
