@@ -144,3 +144,69 @@ found_node H P C n size least number place only to past back L (Some f) (lt, cla
       only (λ u. u < least) (λ u b. to u (omega (arith, b, lt)) (L.holds u b)) l (same.0 ∙ e) (let b = same.1 in omega (arith, b, p)))
       earlier;
 }
+
+-- the first of its number fails
+pub fails_first : (H : Clause → Type 0) (k : Clause) (f : Failure) → number_of k ≡ f.clause → place_of k ≡ f.place → place_of k ≡ 0 → (H k → ⊥) → IsFirstFailing H (number_of k) (number_of k) f
+fails_first H k f number place zero_place fails = record {
+  clause = k;
+  number = number;
+  place = place;
+  from_low = omega arith;
+  to_high = omega arith;
+  fails = fails;
+  before = λ l low earlier. ⊎_elim (λ less. absurd (omega (arith, low, less))) (λ same. absurd (let b = same.1 in omega (arith, zero_place, b))) earlier;
+}
+
+-- a later one fails, and the earlier ones hold
+pub fails_later : (H : Clause → Type 0) (k : Clause) (f : Failure) → number_of k ≡ f.clause → place_of k ≡ f.place
+    → ((l : Clause) → number_of l ≡ number_of k → place_of l < place_of k → H l) → (H k → ⊥) → IsFirstFailing H (number_of k) (number_of k) f
+fails_later H k f number place earlier_hold fails = record {
+  clause = k;
+  number = number;
+  place = place;
+  from_low = omega arith;
+  to_high = omega arith;
+  fails = fails;
+  before = λ l low earlier. ⊎_elim (λ less. absurd (omega (arith, low, less))) (λ same. earlier_hold l same.0 same.1) earlier;
+}
+
+-- every clause has a number from 1 to 9
+pub numbers : (l : Clause) → (1 ≤ number_of l) × (number_of l ≤ 9)
+numbers Platforms = (omega arith, omega arith)
+numbers HasTask = (omega arith, omega arith)
+numbers Names = (omega arith, omega arith)
+numbers Last = (omega arith, omega arith)
+numbers Leaders = (omega arith, omega arith)
+numbers NodePotentials = (omega arith, omega arith)
+numbers LoopPotentials = (omega arith, omega arith)
+numbers (States u) = (omega arith, omega arith)
+numbers (UsefulSets u) = (omega arith, omega arith)
+numbers (TaskSets u) = (omega arith, omega arith)
+numbers (Inequalities u) = (omega arith, omega arith)
+numbers Bound = (omega arith, omega arith)
+numbers Window = (omega arith, omega arith)
+numbers Response = (omega arith, omega arith)
+numbers Deadline = (omega arith, omega arith)
+
+-- what the clauses of the graph say of a task, and those of names and times
+pub by_number : (H : Clause → Type 0) (low high : ℕ)
+    → (low ≤ 1 → 1 ≤ high → H Platforms × H HasTask × H Names × H Last)
+    → (low ≤ 2 → 2 ≤ high → H Leaders × H NodePotentials × H LoopPotentials)
+    → ((u : ℕ) → low ≤ 3 → 3 ≤ high → H (States u)) → ((u : ℕ) → low ≤ 4 → 4 ≤ high → H (UsefulSets u)) → ((u : ℕ) → low ≤ 5 → 5 ≤ high → H (TaskSets u)) → ((u : ℕ) → low ≤ 6 → 6 ≤ high → H (Inequalities u))
+    → (low ≤ 7 → 7 ≤ high → H Bound) → (low ≤ 8 → 8 ≤ high → H Window) → (low ≤ 9 → 9 ≤ high → H Response × H Deadline)
+    → (k : Clause) → low ≤ number_of k → number_of k ≤ high → H k
+by_number H low high one two s f t i b w r Platforms a z = (one a z).0
+by_number H low high one two s f t i b w r HasTask a z = (one a z).1
+by_number H low high one two s f t i b w r Names a z = (one a z).2
+by_number H low high one two s f t i b w r Last a z = (one a z).3
+by_number H low high one two s f t i b w r Leaders a z = (two a z).0
+by_number H low high one two s f t i b w r NodePotentials a z = (two a z).1
+by_number H low high one two s f t i b w r LoopPotentials a z = (two a z).2
+by_number H low high one two s f t i b w r (States u) a z = s u a z
+by_number H low high one two s f t i b w r (UsefulSets u) a z = f u a z
+by_number H low high one two s f t i b w r (TaskSets u) a z = t u a z
+by_number H low high one two s f t i b w r (Inequalities u) a z = i u a z
+by_number H low high one two s f t i b w r Bound a z = b a z
+by_number H low high one two s f t i b w r Window a z = w a z
+by_number H low high one two s f t i b w r Response a z = (r a z).0
+by_number H low high one two s f t i b w r Deadline a z = (r a z).1

@@ -6,6 +6,7 @@ use Rattle.flat_graph.specs.Graph.{Graph, Edge, IsGraph}
 use Rattle.loop_regions.specs.Nest.{Nest, IsNested, IsBackEdge, Leaves, LeavesLast, Item, Node, Loop, IsItem}
 use Rattle.loop_regions.specs.Levels.{IsLevel}
 use Rattle.loop_regions.specs.Potentials.{Costs, Potentials, item_potential, MeetsAt}
+use Rattle.loop_regions.proofs.Potential.{item_law}
 use Rattle.loop_regions.proofs.Entries.{same_region}
 use Rattle.cert_check.specs.Clauses.{PotentialsMeet}
 use Rattle.cert_check.specs.Paid.{EdgePaid, item_by}
@@ -29,6 +30,10 @@ one_last g n G N u v r s a b =
     (λ inside. sym (same_region g n N G s r b.0.0 a.0.0 inside (b.1 r a.0)))
     (N.nested r s u a.0.0 b.0.0 a.0.1 b.0.1)
 
+-- a region pays for its turns
+abbrev pub IsPaidTurns : Nest → Potentials → ℕ → Type 0
+IsPaidTurns n p r = n.bound r * p.node (n.head r) ≤ p.loop r
+
 module _ (n : Nest) (c : Costs) (p : Potentials) (u v : ℕ) where
   abbrev pub LeftPaid : Type 0
   LeftPaid = (r : ℕ) → Leaves n u v r → n.bound r * p.node (n.head r) ≤ p.loop r
@@ -49,6 +54,21 @@ module _ (n : Nest) (c : Costs) (p : Potentials) (u v : ℕ) where
         let same : r ≡ o = one_last g n G N u v o r last l in
         subst (λ x. n.bound x * p.node (n.head x) + item_potential p i ≤ p.loop x) (sym same) (here i is);
   }
+
+-- a test of the item's potential, of which a node has one
+pub item_test : (n : Nest) (p : Potentials) (v t x q rest most : ℕ) (b : Bool) → t ≡ rest → q ≡ most → ((i : Item) → IsItem n v i → x ≡ item_potential p i) → IsTrue b ↔ (t + x ≤ q)
+    → IsTrue b ↔ ((i : Item) → IsItem n v i → rest + item_potential p i ≤ most)
+item_test n p v t x q rest most b t_is q_is x_is test = (
+  (λ h i is. let le = test.0 h in let e = x_is i is in omega (arith, le, e, t_is, q_is)),
+  (λ all. let i = item_law n v in let le = all i.0 i.1 in let e = x_is i.0 i.1 in test.1 (omega (arith, le, e, t_is, q_is))),
+)
+
+pub bound_test : (n : Nest) (p : Potentials) (v first x bound : ℕ) (b : Bool) → first ≡ v → ((i : Item) → IsItem n first i → x ≡ item_potential p i) → IsTrue b ↔ (x ≤ bound)
+    → IsTrue b ↔ ((i : Item) → IsItem n v i → item_potential p i ≤ bound)
+bound_test n p v first x bound b first_is x_is test = (
+  (λ h i is. let le = test.0 h in let e = x_is i (subst (λ y. IsItem n y i) (sym first_is) is) in omega (arith, le, e)),
+  (λ all. let i = item_law n first in let le = all i.0 (subst (λ y. IsItem n y i.0) first_is i.1) in let e = x_is i.0 i.1 in test.1 (omega (arith, le, e))),
+)
 
 -- all edges of the node, its edge to the end, and its region
 pub node_paid : (g : Graph) (n : Nest) (c : Costs) (p : Potentials) (u : ℕ) → length (g.next u) ≤ 2

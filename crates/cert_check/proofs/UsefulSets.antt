@@ -9,8 +9,8 @@ use Rattle.flat_graph.specs.Graph.{Graph, Edge, IsGraph}
 use Rattle.evict_sets.specs.Full.{Listed, FullUseful, listed_useful, used, used_later, IsHit}
 use Rattle.evict_sets.specs.Clauses.{UsefulMeets, SetsMeet}
 use Rattle.evict_sets.proofs.FullLaws.{unlisted_useful_law}
-use Rattle.cert_check.specs.Case.{IsUsefulAt, IsUsefulBehind}
-use Rattle.cert_check.proofs.Nexts.{place_of, edge_at}
+use Rattle.cert_check.specs.Case.{IsUsefulAt, IsUsefulBehind, IsUsefulBy}
+use Rattle.cert_check.proofs.Nexts.{place_of, edge_at, some_one, none_some}
 
 -- membership as a number and as a test
 pub is_member : (words : List ℕ) (t : ℕ) → IsTrue (has words t) → member words t ≡ 1
@@ -87,10 +87,7 @@ module _ (g : Graph) (a : Accesses) (l : Listed) where
       later_of s (used_later y' v s' o e other later) ne = (v, e, later)
 
   -- what is useful at the ends of both edges
-  abbrev pub IsUsefulBy : ℕ → ℕ → List ℕ → Type 0
-  IsUsefulBy y k words = (s : ℕ) → ((v : ℕ) × (slice_get (g.next y) k ≡ Some v) × FullUseful g a l v s) ↔ IsTrue (has words s)
-
-  pub behind_both : (y : ℕ) (one two new : List ℕ) → y < g.size → length (g.next y) ≤ 2 → IsUsefulBy y 0 one → IsUsefulBy y 1 two
+  pub behind_both : (y : ℕ) (one two new : List ℕ) → y < g.size → length (g.next y) ≤ 2 → IsUsefulBy g a l y 0 one → IsUsefulBy g a l y 1 two
       → ((t : ℕ) → member new t ≡ max (member one t) (member two t)) → IsUsefulBehind g a l y new
   behind_both y one two new lt few A B is s = (
     λ b. ⊎_elim
@@ -101,6 +98,19 @@ module _ (g : Graph) (a : Accesses) (l : Listed) where
         (λ (x : IsTrue (has one s)). let r = (A s).1 x in (r.0, edge_at g y 0 r.0 lt r.1, r.2))
         (λ (x : IsTrue (has two s)). let r = (B s).1 x in (r.0, edge_at g y 1 r.0 lt r.1, r.2))
         (in_either one two new s (is s) h),
+  )
+
+  -- at the end of one
+  pub nothing_by : (y k : ℕ) (words : List ℕ) → slice_get (g.next y) k ≡ None → ((t : ℕ) → member words t ≡ 0) → IsUsefulBy g a l y k words
+  nothing_by y k words none zero s = (
+    λ b. absurd (none_some b.0 (sym none ∙ b.1)),
+    λ h. absurd (let one = is_member words s h in let z = zero s in omega (arith, one, z)),
+  )
+
+  pub something_by : (y k v : ℕ) (words : List ℕ) → slice_get (g.next y) k ≡ Some v → IsUsefulAt g a l v words → IsUsefulBy g a l y k words
+  something_by y k v words at U s = (
+    λ b. (U s).0 (subst (λ x. FullUseful g a l x s) (some_one b.0 v (sym b.1 ∙ at)) b.2),
+    λ h. (v, at, (U s).1 h),
   )
 
   -- clause 4 at a listed node
@@ -124,3 +134,29 @@ module _ (g : Graph) (a : Accesses) (l : Listed) where
 
   pub unlisted_meets : (y : ℕ) → IsFalse (l.is_listed y) → UsefulMeets g a l y
   unlisted_meets y out = unlisted_useful_law g a l y out
+
+  -- the test of clause 4 at a listed node
+  pub useful_test : (y : ℕ) (useful behind withs : List ℕ) (b : Bool) → IsTrue (l.is_listed y) → ((s : ℕ) → has useful s ≡ l.useful y s) → IsUsefulBehind g a l y behind
+      → (IsHit g a l y → IsTrue (has useful (a.set y))) → ((t : ℕ) → has withs t ≡ (if t == a.set y then true else has useful t))
+      → IsTrue b ↔ ((t : ℕ) → IsTrue (has behind t) → IsTrue (has withs t)) → IsTrue b ↔ UsefulMeets g a l y
+  useful_test y useful behind withs b t is B own wider test = (
+    (λ h. meets_listed y useful behind t is B own (λ s ne there. sym (other s ne) ∙ test.0 h s there)),
+    (λ M. let both = listed_meets y useful behind t is B M in test.1 (λ s there. ⊎_elim (λ e. same s e) (λ ne. other s ne ∙ both.1 s ne there) (cases_eq s (a.set y)))),
+  )
+    where
+      same : (s : ℕ) → s ≡ a.set y → IsTrue (has withs s)
+      same s e = let q : (s == a.set y) ≡ true = eq-eqb s (a.set y) e in wider s ∙ rw q refl
+
+      other : (s : ℕ) → s ≢ a.set y → has withs s ≡ has useful s
+      other s ne = let q : (s == a.set y) ≡ false = ne_eqb s (a.set y) ne in wider s ∙ rw q refl
+
+  pub own_missing : (y : ℕ) (useful behind : List ℕ) → IsTrue (l.is_listed y) → ((s : ℕ) → has useful s ≡ l.useful y s) → IsUsefulBehind g a l y behind → IsHit g a l y → (IsTrue (has useful (a.set y)) → ⊥) → UsefulMeets g a l y → ⊥
+  own_missing y useful behind t is B hit none M = none ((listed_meets y useful behind t is B M).0 hit)
+
+  -- the test of clause 5
+  pub sets_test : (y : ℕ) (evicting task useful : List ℕ) (b : Bool) → IsUsefulAt g a l y useful → IsTrue (has evicting (a.set y)) → IsTrue b ↔ ((t : ℕ) → IsTrue (has useful t) → IsTrue (has task t))
+      → IsTrue b ↔ SetsMeet g a l (has evicting) (has task) y
+  sets_test y evicting task useful b U own test = (
+    (λ h. record { own = own; all = λ s f. test.0 h s ((U s).0 f) }),
+    (λ M. test.1 (λ t there. M.all t ((U t).1 there))),
+  )

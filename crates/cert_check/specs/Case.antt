@@ -46,6 +46,10 @@ IsUsefulAt g a l y words = (s : ℕ) → FullUseful g a l y s ↔ IsTrue (has wo
 abbrev pub IsUsefulBehind : Graph → Accesses → Listed → ℕ → List ℕ → Type 0
 IsUsefulBehind g a l y words = (s : ℕ) → ((v : ℕ) × Edge g y v × FullUseful g a l v s) ↔ IsTrue (has words s)
 
+-- and at the end of one of its edges
+abbrev pub IsUsefulBy : Graph → Accesses → Listed → ℕ → ℕ → List ℕ → Type 0
+IsUsefulBy g a l y k words = (s : ℕ) → ((v : ℕ) × (slice_get (g.next y) k ≡ Some v) × FullUseful g a l v s) ↔ IsTrue (has words s)
+
 -- all nodes in an order in which an unlisted node stands behind the node that it continues
 pub record IsOrder (g : Graph) (l : Listed) (order : List ℕ) : Type 0 where
   pub count : length order ≡ g.size

@@ -1,8 +1,16 @@
 // Sets of cache sets with one set put in or taken away.
-ghost use Rattle.std.specs.Prelude.{◌≡◌, ◌<◌, ◌==◌, ℕ, if◌then◌else◌};
+ghost use Rattle.std.specs.Prelude.{◌≡◌, ◌↔◌, ◌<◌, ◌==◌, ℕ, if◌then◌else◌, IsTrue};
 ghost use Rattle.crpd_base.specs.Sets.{has, member};
 
 use crpd_base::{SETS, SetBits, WORDS};
+
+/// Whether each of some sets is among others.
+pub(crate) fn covers(sets: &SetBits<WORDS>, others: &SetBits<WORDS>) -> bool
+    ensures { IsTrue result ↔ ((t : ℕ) → IsTrue (has others.now t) → IsTrue (has sets.now t)) }
+{
+    others.within_law();
+    sets.first_missing(others).is_none()
+}
 
 /// The sets but one.
 fn without(sets: &SetBits<WORDS>, set: u16) -> SetBits<WORDS>

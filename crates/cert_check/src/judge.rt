@@ -1,9 +1,11 @@
 // The judge.
-ghost use Rattle.std.specs.Prelude.{◌≡◌, ◌<◌, ◌≤◌, length};
+ghost use Rattle.std.specs.Prelude.{◌≡◌, ◌<◌, ◌≤◌, ℕ, length};
 ghost use Rattle.crpd_base.specs.Ranges.{IsTaskSet};
-ghost use Rattle.cert_check.specs.Verdict.{IsJudged};
+ghost use Rattle.delay_count.specs.Demand.{HasLongest};
+ghost use Rattle.cert_check.specs.Verdict.{Clause, Holds, IsJudged};
 ghost use Rattle.cert_check.specs.Shown.{shown_at, AreShown, IsInRange};
-ghost use Rattle.cert_check.specs.Answered.{answer_of, IsFirstOf};
+ghost use Rattle.cert_check.specs.Answered.{answer_of, IsFound};
+ghost use Rattle.cert_check.specs.Times.{AreLongest};
 
 use crate::graphs::graph_failure;
 use crate::outcome::{Failure, Verdict};
@@ -20,7 +22,16 @@ fn task_failure(
     certificate: &Certificate,
     longest: &[u64],
     i: usize,
-) -> Option<Failure> {
+) -> Option<Failure>
+    requires set { IsTaskSet set.now }
+    requires tasks { AreShown set.now graphs.now nests.now }
+    requires certificate { IsInRange certificate.now }
+    requires longest { AreLongest set.now graphs.now longest.now }
+    requires range { HasLongest set.now longest.now }
+    requires task { i < length set.now.tasks }
+    requires higher { (j : ℕ) (k : Clause) → j < i → Holds set.now (shown_at graphs.now nests.now) certificate.now j k }
+    ensures { IsFound (Holds set.now (shown_at graphs.now nests.now) certificate.now i) 1 9 result }
+{
     let failure = name_failure(set, certificate, i);
     if failure.is_some() {
         return failure;

@@ -7,6 +7,7 @@ ghost use Rattle.cert_check.specs.Case.{IsCase, IsOrder};
 ghost use Rattle.cert_check.specs.Ordered.{IsLine, IsClosed, HasListed};
 
 use crate::case::Case;
+use crate::steps::successor;
 use crpd_base::NodeId;
 
 impl Case<'_> {
@@ -19,7 +20,7 @@ impl Case<'_> {
             (λ v. Edge (graph_of self.now.graph.now) node.0 v.0 × IsFalse ((listed_of self.now.part.now).is_listed v.0)) }
     {
         self.graph.graph_law();
-        match self.graph.succ(node, 0) {
+        match successor(self.graph, node, 0) {
             Some(next) => {
                 if self.is_listed(next) {
                     None

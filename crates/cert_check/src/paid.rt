@@ -12,6 +12,8 @@ ghost use Rattle.cert_check.specs.Clauses.{PotentialsMeet, BoundMeets};
 ghost use Rattle.cert_check.specs.Case.{IsLeast, counted};
 ghost use Rattle.cert_check.specs.Paid.{IsPaid, costs_at, item_by, EdgePaid};
 
+use crate::least::at_most;
+use crate::steps::successor;
 use crpd_base::{NodeId, Platform, TaskPart};
 use flat_graph::{Graph, Kind};
 use loop_regions::Nest;
@@ -73,7 +75,7 @@ impl Paid<'_> {
         self.graph.graph_law();
         match self.nest.innermost(node) {
             Some(region) => {
-                if self.nest.head(region) == node {
+                if self.nest.head(region).0 == node.0 {
                     Some(region)
                 } else {
                     None
@@ -104,6 +106,15 @@ impl Paid<'_> {
         ensures small { result < 4294967296 * 18446744073709551616 }
     {
         u128::from(self.nest.bound(region)) * self.at_node(self.nest.head(region))
+    }
+
+    /// Whether a region pays for its turns.
+    fn region_pays(&self, region: u32) -> bool
+        requires paid { IsPaid self.now.graph.now self.now.nest.now self.now.part.now self.now.hits.now }
+        requires region { region < (nest_of self.now.nest.now).size }
+        ensures { IsTrue result ↔ ((nest_of self.now.nest.now).bound region * (potentials_of self.now.part.now).node ((nest_of self.now.nest.now).head region) ≤ (potentials_of self.now.part.now).loop region) }
+    {
+        self.turns(region) <= self.at_region(region)
     }
 
     /// Whether an edge leads back to the head of a region that holds its source.
@@ -154,7 +165,7 @@ impl Paid<'_> {
             if self.nest.holds(region, target) {
                 break;
             }
-            if self.at_region(region) < self.turns(region) {
+            if !self.region_pays(region) {
                 return false;
             }
             round = self.nest.parent(region);
@@ -192,24 +203,56 @@ impl Paid<'_> {
         u128::from(cycles) <= self.at_node(node)
     }
 
+    /// Whether the source of an edge pays for it.
+    fn source_pays(&self, source: NodeId, target: NodeId) -> bool
+        requires paid { IsPaid self.now.graph.now self.now.nest.now self.now.part.now self.now.hits.now }
+        requires source { source.0 < (graph_of self.now.graph.now).size }
+        requires target { target.0 < (graph_of self.now.graph.now).size }
+        ensures { IsTrue result ↔ ((costs_at self.now.platform.now self.now.graph.now (counted self.now.hits.now)).edge source.0 target.0 ≤ (potentials_of self.now.part.now).node source.0) }
+    {
+        at_most(self.edge_cost(source, target), self.at_node(source))
+    }
+
+    /// Whether the source of an edge pays for it and for the item that it leads to.
+    fn inside_pays(&self, source: NodeId, target: NodeId) -> bool
+        requires paid { IsPaid self.now.graph.now self.now.nest.now self.now.part.now self.now.hits.now }
+        requires source { source.0 < (graph_of self.now.graph.now).size }
+        requires target { target.0 < (graph_of self.now.graph.now).size }
+        ensures { IsTrue result ↔ ((i : Item) → IsItem (nest_of self.now.nest.now) target.0 i → (costs_at self.now.platform.now self.now.graph.now (counted self.now.hits.now)).edge source.0 target.0 + item_potential (potentials_of self.now.part.now) i ≤ (potentials_of self.now.part.now).node source.0) }
+    {
+        self.graph.graph_law();
+        let cost = self.edge_cost(source, target) + self.at_item(target);
+        at_most(cost, self.at_node(source))
+    }
+
+    /// Whether a region pays for its turns and for the item that an edge out of it leads to.
+    fn exit_pays(&self, region: u32, target: NodeId) -> bool
+        requires paid { IsPaid self.now.graph.now self.now.nest.now self.now.part.now self.now.hits.now }
+        requires region { region < (nest_of self.now.nest.now).size }
+        requires target { target.0 < (graph_of self.now.graph.now).size }
+        ensures { IsTrue result ↔ ((i : Item) → IsItem (nest_of self.now.nest.now) target.0 i → (nest_of self.now.nest.now).bound region * (potentials_of self.now.part.now).node ((nest_of self.now.nest.now).head region) + item_potential (potentials_of self.now.part.now) i ≤ (potentials_of self.now.part.now).loop region) }
+    {
+        let cost = self.turns(region) + self.at_item(target);
+        at_most(cost, self.at_region(region))
+    }
+
     /// Whether an edge, what comes after it, and the regions that it leaves are paid for.
     fn edge_pays(&self, source: NodeId, target: NodeId) -> bool
         requires paid { IsPaid self.now.graph.now self.now.nest.now self.now.part.now self.now.hits.now }
         requires source { source.0 < (graph_of self.now.graph.now).size }
-        requires edge { Edge (graph_of self.now.graph.now) source.0 target.0 }
+        requires target { target.0 < (graph_of self.now.graph.now).size }
         ensures { IsTrue result ↔ EdgePaid (nest_of self.now.nest.now) (costs_at self.now.platform.now self.now.graph.now (counted self.now.hits.now)) (potentials_of self.now.part.now) source.0 target.0 }
     {
         self.graph.graph_law();
-        let cost = self.edge_cost(source, target);
-        if self.at_node(source) < cost || !self.left_pay(source, target) {
+        if !self.source_pays(source, target) || !self.left_pay(source, target) {
             return false;
         }
         if self.is_back(source, target) {
             return true;
         }
         match self.outermost_left(source, target) {
-            Some(region) => self.turns(region) + self.at_item(target) <= self.at_region(region),
-            None => cost + self.at_item(target) <= self.at_node(source),
+            Some(region) => self.exit_pays(region, target),
+            None => self.inside_pays(source, target),
         }
     }
 
@@ -220,8 +263,7 @@ impl Paid<'_> {
         requires place { k < 2 }
         ensures { IsTrue result ↔ ((v : ℕ) → slice_get ((graph_of self.now.graph.now).next node.0) k ≡ Some v → EdgePaid (nest_of self.now.nest.now) (costs_at self.now.platform.now self.now.graph.now (counted self.now.hits.now)) (potentials_of self.now.part.now) node.0 v) }
     {
-        self.graph.graph_law();
-        match self.graph.succ(node, k) {
+        match successor(self.graph, node, k) {
             Some(next) => self.edge_pays(node, next),
             None => true,
         }
@@ -234,7 +276,7 @@ impl Paid<'_> {
         ensures { IsTrue result ↔ ((r : ℕ) → r < (nest_of self.now.nest.now).size → (nest_of self.now.nest.now).head r ≡ node.0 → (nest_of self.now.nest.now).bound r * (potentials_of self.now.part.now).node node.0 ≤ (potentials_of self.now.part.now).loop r) }
     {
         match self.headed_by(node) {
-            Some(region) => self.turns(region) <= self.at_region(region),
+            Some(region) => self.region_pays(region),
             None => true,
         }
     }
@@ -272,6 +314,7 @@ impl Paid<'_> {
         ensures { IsTrue result ↔ BoundMeets (graph_of self.now.graph.now) (nest_of self.now.nest.now) (potentials_of self.now.part.now) self.now.part.now.part.bound }
     {
         self.graph.graph_law();
-        self.at_item(self.graph.first()) <= u128::from(self.part.part.bound)
+        let part = &self.part.part;
+        at_most(self.at_item(self.graph.first()), u128::from(part.bound))
     }
 }

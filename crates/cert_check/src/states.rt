@@ -10,6 +10,8 @@ ghost use Rattle.cert_check.specs.Case.{IsCase, IsOrder, IsStateAt, IsStateAfter
 
 use crate::blocks::{access, are_held, load};
 use crate::case::Case;
+use crate::least::lowest;
+use crate::steps::successor;
 use crpd_base::{NodeId, SETS};
 
 impl Case<'_> {
@@ -44,7 +46,7 @@ impl Case<'_> {
         requires node { node.0 < (graph_of self.now.graph.now).size }
         ensures { IsTrue result ↔ (node.0 ≡ (graph_of self.now.graph.now).first → (s m : ℕ) → FullState (graph_of self.now.graph.now) (fetches self.now.platform.now self.now.graph.now) (listed_of self.now.part.now) node.0 s m → ⊥) }
     {
-        if node != self.graph.first() {
+        if node.0 != self.graph.first().0 {
             return true;
         }
         match self.entry(node) {
@@ -63,8 +65,7 @@ impl Case<'_> {
         requires after { IsStateAfter (graph_of self.now.graph.now) (fetches self.now.platform.now self.now.graph.now) (listed_of self.now.part.now) node.0 after.now }
         ensures { IsTrue result ↔ ((v s m : ℕ) → slice_get ((graph_of self.now.graph.now).next node.0) k ≡ Some v → FullState (graph_of self.now.graph.now) (fetches self.now.platform.now self.now.graph.now) (listed_of self.now.part.now) v s m → StateAfter (graph_of self.now.graph.now) (fetches self.now.platform.now self.now.graph.now) (listed_of self.now.part.now) node.0 s m) }
     {
-        self.graph.graph_law();
-        let Some(next) = self.graph.succ(node, k) else {
+        let Some(next) = successor(self.graph, node, k) else {
             return true;
         };
         match self.entry(next) {
@@ -103,9 +104,7 @@ impl Case<'_> {
             let node = NodeId(order[k]);
             self.enter(&mut blocks, node);
             hits[node.0 as usize] = self.leave(&mut blocks, node);
-            if node.0 < least && !self.state_holds(node, &blocks) {
-                least = node.0;
-            }
+            least = lowest(least, node.0, self.state_holds(node, &blocks));
         }
         least
     }

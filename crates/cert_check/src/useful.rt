@@ -7,10 +7,12 @@ ghost use Rattle.evict_sets.specs.Full.{IsHit};
 ghost use Rattle.evict_sets.specs.Clauses.{UsefulMeets, SetsMeet};
 ghost use Rattle.evict_sets.specs.Certificate.{listed_of};
 ghost use Rattle.cert_check.specs.Clauses.{CountsHits};
-ghost use Rattle.cert_check.specs.Case.{IsCase, IsOrder, IsUsefulAt, IsUsefulBehind, IsLeast, fetches, counted};
+ghost use Rattle.cert_check.specs.Case.{IsCase, IsOrder, IsUsefulAt, IsUsefulBehind, IsUsefulBy, IsLeast, fetches, counted};
 
 use crate::case::Case;
-use crate::changed::with;
+use crate::changed::{covers, with};
+use crate::least::lowest;
+use crate::steps::successor;
 use crpd_base::{NodeId, SetBits, WORDS};
 
 impl Case<'_> {
@@ -28,9 +30,14 @@ impl Case<'_> {
     }
 
     /// What is useful at the end of the first (0) or second (1) edge of a node; nothing where there is no such edge.
-    fn useful_by(&self, node: NodeId, k: u8, follower: &SetBits<WORDS>) -> SetBits<WORDS> {
-        self.graph.graph_law();
-        let Some(next) = self.graph.succ(node, k) else {
+    fn useful_by(&self, node: NodeId, k: u8, follower: &SetBits<WORDS>) -> SetBits<WORDS>
+        requires case { IsCase self.now.platform.now self.now.graph.now self.now.part.now self.now.places.now }
+        requires node { node.0 < (graph_of self.now.graph.now).size }
+        requires place { k < 2 }
+        requires follower { (v : ℕ) → Edge (graph_of self.now.graph.now) node.0 v → IsFalse ((listed_of self.now.part.now).is_listed v) → IsUsefulAt (graph_of self.now.graph.now) (fetches self.now.platform.now self.now.graph.now) (listed_of self.now.part.now) v follower.now }
+        ensures { IsUsefulBy (graph_of self.now.graph.now) (fetches self.now.platform.now self.now.graph.now) (listed_of self.now.part.now) node.0 k result }
+    {
+        let Some(next) = successor(self.graph, node, k) else {
             return SetBits::new();
         };
         match self.entry(next) {
@@ -66,8 +73,10 @@ impl Case<'_> {
         };
         let own = self.cache_set(node);
         let useful = entry.useful;
-        let with_own = with(&useful, own, true);
-        (!hit || useful.has(own)) && with_own.first_missing(behind).is_none()
+        if hit && !useful.has(own) {
+            return false;
+        }
+        covers(&with(&useful, own, true), behind)
     }
 
     /// Whether clause 5 holds at a node with this full useful set.
@@ -78,7 +87,7 @@ impl Case<'_> {
         ensures { IsTrue result ↔ SetsMeet (graph_of self.now.graph.now) (fetches self.now.platform.now self.now.graph.now) (listed_of self.now.part.now) (has self.now.part.now.part.evicting) (has self.now.part.now.part.useful) node.0 }
     {
         let part = &self.part.part;
-        part.evicting.has(self.cache_set(node)) && part.useful.first_missing(useful).is_none()
+        part.evicting.has(self.cache_set(node)) && covers(&part.useful, useful)
     }
 
     /// The least node at which clause 4 fails, the number of nodes where there is none. Linear in the nodes and edges.
@@ -95,9 +104,7 @@ impl Case<'_> {
             let node = NodeId(order[order.len() - 1 - done]);
             let hit = hits[node.0 as usize];
             let behind = self.useful_behind(node, &useful);
-            if node.0 < least && !self.useful_holds(node, hit, &behind) {
-                least = node.0;
-            }
+            least = lowest(least, node.0, self.useful_holds(node, hit, &behind));
             useful = self.useful_at(node, hit, &behind);
         }
         least
@@ -118,9 +125,7 @@ impl Case<'_> {
             let hit = hits[node.0 as usize];
             let behind = self.useful_behind(node, &useful);
             useful = self.useful_at(node, hit, &behind);
-            if node.0 < least && !self.sets_hold(node, &useful) {
-                least = node.0;
-            }
+            least = lowest(least, node.0, self.sets_hold(node, &useful));
         }
         least
     }

@@ -1,6 +1,6 @@
 -- The least node at which a fact fails, found along an order of the nodes.
-use Rattle.std.proofs.Common.{◌≡◌, ◌≢◌, ℕ, ◌+◌, ◌<◌, ◌≤◌, List, length, slice_index, sym, ap, ◌∙◌, subst, ⊎_elim, arith}
-use Rattle.std.proofs.lemmas.Bool.{cases_eq, cases_lt}
+use Rattle.std.proofs.Common.{◌≡◌, ◌≢◌, ◌↔◌, ℕ, ◌+◌, ◌<◌, ◌≤◌, min, Bool, true, false, if◌then◌else◌, IsTrue, refl, List, length, slice_index, sym, ap, ◌∙◌, subst, ⊎_elim, arith}
+use Rattle.std.proofs.lemmas.Bool.{cases_eq, cases_lt, false≢true}
 use Rattle.flat_graph.specs.Graph.{Graph}
 use Rattle.evict_sets.specs.Full.{Listed}
 use Rattle.cert_check.specs.Case.{IsLeast, IsOrder}
@@ -37,6 +37,15 @@ lowers P seen more size least x old below fails L = record {
   fails = λ lt. fails;
   holds = λ u s lt. L.holds u (old u s (λ e. absurd (omega (arith, lt, e)))) (omega (arith, lt, below));
 }
+
+-- with the test of one node more
+pub lowest : (P : ℕ → Type 0) (seen more : ℕ → Type 0) (size least x : ℕ) (b : Bool) → ((u : ℕ) → more u → u ≢ x → seen u) → IsTrue b ↔ P x → IsLeastSeen P seen size least → IsLeastSeen P more size (if b then least else min least x)
+lowest P seen more size least x true old test L = passes P seen more size least x old (λ lt. test.0 refl) L
+lowest P seen more size least x false old test L =
+    ⊎_elim
+    (λ (lt : x < least). subst (λ y. IsLeastSeen P more size y) (omega (arith, lt)) (lowers P seen more size least x old lt (λ p. false≢true (test.1 p)) L))
+    (λ le. subst (λ y. IsLeastSeen P more size y) (omega (arith, le)) (passes P seen more size least x old (λ lt. absurd (omega (arith, le, lt))) L))
+    (cases_lt x least)
 
 pub finished : (P : ℕ → Type 0) (seen : ℕ → Type 0) (size least : ℕ) → ((u : ℕ) → u < size → seen u) → IsLeastSeen P seen size least → IsLeast P size least
 finished P seen size least all L = record {
