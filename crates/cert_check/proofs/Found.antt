@@ -1,6 +1,7 @@
 -- Failures of clauses, put together.
-use Rattle.std.proofs.Common.{◌≡◌, ◌↔◌, ◌⊎◌, ℕ, ◌+◌, ◌<◌, ◌≤◌, Option, Some, None, MatchOption, sym, ap, ◌∙◌, subst, inl, inr, ⊎_elim, refl, arith}
-use Rattle.std.proofs.lemmas.Bool.{cases_eq, cases_lt}
+use Rattle.std.proofs.Common.{◌≡◌, ◌↔◌, ◌⊎◌, ℕ, ◌+◌, ◌<◌, ◌≤◌, true, false, Option, Some, None, MatchOption, sym, ap, ◌∙◌, subst, inl, inr, ⊎_elim, refl, arith}
+use Rattle.std.specs.Prelude.{is_some}
+use Rattle.std.proofs.lemmas.Bool.{cases_eq, cases_lt, false≢true}
 use Rattle.cert_check.specs.declared.outcome.Failure.{Failure}
 use Rattle.cert_check.specs.Verdict.{Clause, Platforms, HasTask, Names, Last, Leaders, NodePotentials, LoopPotentials, States, UsefulSets, TaskSets, Inequalities, Bound, Window, Response, Deadline, number_of, place_of, IsEarlier}
 use Rattle.cert_check.specs.Answered.{IsFirstFailing, IsFound}
@@ -210,3 +211,31 @@ by_number H low high one two s f t i b w r Bound a z = b a z
 by_number H low high one two s f t i b w r Window a z = w a z
 by_number H low high one two s f t i b w r Response a z = (r a z).0
 by_number H low high one two s f t i b w r Deadline a z = (r a z).1
+
+-- one clause of a number by itself
+pub only_window : (H : Clause → Type 0) → H Window → (k : Clause) → 8 ≤ number_of k → number_of k ≤ 8 → H k
+only_window H h k low high = numbered_end H (λ x. Unit {0}) 8 (omega arith) (λ e. absurd (omega (arith, e))) (λ e. h) (λ e b. absurd (omega (arith, e))) (λ e b. absurd (omega (arith, e))) k (omega (arith, low, high)) tt
+
+pub before_deadline : (H : Clause → Type 0) → H Response → (l : Clause) → number_of l ≡ 9 → place_of l < 1 → H l
+before_deadline H h l e lt = numbered_end H (λ x. x < 1) 9 (omega arith) (λ q. absurd (omega (arith, q))) (λ q. absurd (omega (arith, q))) (λ q b. h) (λ q b. absurd (omega (arith, b))) l e lt
+
+pub only_times : (H : Clause → Type 0) → H Response → H Deadline → (k : Clause) → 9 ≤ number_of k → number_of k ≤ 9 → H k
+only_times H h d k low high = numbered_end H (λ x. Unit {0}) 9 (omega arith) (λ e. absurd (omega (arith, e))) (λ e. absurd (omega (arith, e))) (λ e b. h) (λ e b. d) k (omega (arith, low, high)) tt
+
+pub only_bound : (H : Clause → Type 0) → H Bound → (k : Clause) → 7 ≤ number_of k → number_of k ≤ 7 → H k
+only_bound H h k low high = numbered_end H (λ x. Unit {0}) 7 (omega arith) (λ e. h) (λ e. absurd (omega (arith, e))) (λ e b. absurd (omega (arith, e))) (λ e b. absurd (omega (arith, e))) k (omega (arith, low, high)) tt
+
+pub before_two : (H : Clause → Type 0) (n : ℕ) → (0 < n → H Leaders) → (1 < n → H NodePotentials) → n ≤ 2 → (l : Clause) → number_of l ≡ 2 → place_of l < n → H l
+before_two H n a b le l e lt = numbered_two H (λ x. x < n) a b (λ z. absurd (omega (arith, z, le))) l e lt
+
+pub all_two : (H : Clause → Type 0) → H Leaders → H NodePotentials → H LoopPotentials → (k : Clause) → 2 ≤ number_of k → number_of k ≤ 2 → H k
+all_two H a b d k low high = numbered_two H (λ x. Unit {0}) (λ z. a) (λ z. b) (λ z. d) k (omega (arith, low, high)) tt
+
+-- a failure is found, or none yet
+pub stops : (H : Clause → Type 0) (low mid high : ℕ) (r : Option Failure) → is_some r ≡ true → mid ≤ high → IsFound H low mid r → IsFound H low high r
+stops H low mid high None e le F = absurd (false≢true e)
+stops H low mid high (Some f) e le F = found_first H low mid high f le F
+
+pub goes_on : (H : Clause → Type 0) (low mid : ℕ) (r : Option Failure) → is_some r ≡ false → IsFound H low mid r → IsFound H low mid None
+goes_on H low mid None e F = F
+goes_on H low mid (Some f) e F = absurd (false≢true (sym e))

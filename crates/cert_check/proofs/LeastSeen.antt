@@ -58,6 +58,6 @@ pub seen_more : (order : List ℕ) (k x u : ℕ) → slice_index order k ≡ x �
 seen_more order k x u is (j, lt, e) ne =
     ⊎_elim (λ (same : j ≡ k). absurd (ne (sym e ∙ ap (slice_index order) same ∙ is))) (λ other. (j, omega (arith, lt, other), e)) (cases_eq j k)
 
-pub seen_before : (order : List ℕ) (size k x u : ℕ) → slice_index order k ≡ x → SeenFrom order size k u → u ≢ x → SeenFrom order size (k + 1) u
-seen_before order size k x u is (j, le, lt, e) ne =
-    ⊎_elim (λ (same : j ≡ k). absurd (ne (sym e ∙ ap (slice_index order) same ∙ is))) (λ other. (j, omega (arith, le, other), lt, e)) (cases_eq j k)
+pub seen_before : (order : List ℕ) (size k next x u : ℕ) → k + 1 ≡ next → slice_index order k ≡ x → SeenFrom order size k u → u ≢ x → SeenFrom order size next u
+seen_before order size k next x u after is (j, le, lt, e) ne =
+    ⊎_elim (λ (same : j ≡ k). absurd (ne (sym e ∙ ap (slice_index order) same ∙ is))) (λ other. (j, omega (arith, le, other, after), lt, e)) (cases_eq j k)

@@ -87,10 +87,10 @@ module _ (g : Graph) (l : Listed) where
   pub has_room : (order : List ℕ) (count v : ℕ) → IsLine g l order count → v < g.size → IsFresh order count v → count < g.size
   has_room order count v L lt fresh = few_more (slice_index order) count g.size v L.nodes L.apart lt fresh
 
-  at_new : (order : List ℕ) (count v : ℕ) → count < length order → slice_index (set order count v) count ≡ v
+  pub at_new : (order : List ℕ) (count v : ℕ) → count < length order → slice_index (set order count v) count ≡ v
   at_new order count v lt = get_or-set_same order count v 0 lt
 
-  at_old : (order : List ℕ) (count v k : ℕ) → k < count → slice_index (set order count v) k ≡ slice_index order k
+  pub at_old : (order : List ℕ) (count v k : ℕ) → k < count → slice_index (set order count v) k ≡ slice_index order k
   at_old order count v k lt = get_or-set_other order count k v 0 (λ e. absurd (omega arith))
 
   -- one more node

@@ -10,7 +10,6 @@ use Rattle.loop_regions.proofs.Potential.{item_law}
 use Rattle.loop_regions.proofs.Entries.{same_region}
 use Rattle.cert_check.specs.Clauses.{PotentialsMeet}
 use Rattle.cert_check.specs.Paid.{EdgePaid, item_by}
-use Rattle.cert_check.proofs.Nexts.{at_edges}
 
 -- the region that a node heads is its innermost one
 pub heads_none : (n : Nest) (g : Graph) (y : ℕ) → IsNested g n → IsLevel n y None → IsItem n y (item_by None y)
@@ -63,20 +62,17 @@ item_test n p v t x q rest most b t_is q_is x_is test = (
   (λ all. let i = item_law n v in let le = all i.0 i.1 in let e = x_is i.0 i.1 in test.1 (omega (arith, le, e, t_is, q_is))),
 )
 
-pub bound_test : (n : Nest) (p : Potentials) (v first x bound : ℕ) (b : Bool) → first ≡ v → ((i : Item) → IsItem n first i → x ≡ item_potential p i) → IsTrue b ↔ (x ≤ bound)
+pub bound_test : (n : Nest) (p : Potentials) (v first x bound q : ℕ) (b : Bool) → first ≡ v → q ≡ bound → ((i : Item) → IsItem n first i → x ≡ item_potential p i) → IsTrue b ↔ (x ≤ q)
     → IsTrue b ↔ ((i : Item) → IsItem n v i → item_potential p i ≤ bound)
-bound_test n p v first x bound b first_is x_is test = (
-  (λ h i is. let le = test.0 h in let e = x_is i (subst (λ y. IsItem n y i) (sym first_is) is) in omega (arith, le, e)),
-  (λ all. let i = item_law n first in let le = all i.0 (subst (λ y. IsItem n y i.0) first_is i.1) in let e = x_is i.0 i.1 in test.1 (omega (arith, le, e))),
+bound_test n p v first x bound q b first_is q_is x_is test = (
+  (λ h i is. let le = test.0 h in let e = x_is i (subst (λ y. IsItem n y i) (sym first_is) is) in omega (arith, le, e, q_is)),
+  (λ all. let i = item_law n first in let le = all i.0 (subst (λ y. IsItem n y i.0) first_is i.1) in let e = x_is i.0 i.1 in test.1 (omega (arith, le, e, q_is))),
 )
 
 -- all edges of the node, its edge to the end, and its region
-pub node_paid : (g : Graph) (n : Nest) (c : Costs) (p : Potentials) (u : ℕ) → length (g.next u) ≤ 2
-    → (IsTrue (c.answers u) → c.end u ≤ p.node u)
-    → ((v : ℕ) → slice_get (g.next u) 0 ≡ Some v → EdgePaid n c p u v) → ((v : ℕ) → slice_get (g.next u) 1 ≡ Some v → EdgePaid n c p u v)
+pub node_paid : (g : Graph) (n : Nest) (c : Costs) (p : Potentials) (u : ℕ) → (IsTrue (c.answers u) → c.end u ≤ p.node u) → ((v : ℕ) → Edge g u v → EdgePaid n c p u v)
     → ((r : ℕ) → r < n.size → n.head r ≡ u → n.bound r * p.node u ≤ p.loop r) → PotentialsMeet g n c p u
-node_paid g n c p u few end one two region =
-    let each : (v : ℕ) → Edge g u v → EdgePaid n c p u v = at_edges g u (λ v. EdgePaid n c p u v) few one two in
+node_paid g n c p u end each region =
     record {
       edges = record {
         edge = λ v e. (each v e).edge;

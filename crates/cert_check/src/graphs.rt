@@ -2,7 +2,7 @@
 ghost use Rattle.std.specs.Prelude.{◌≡◌, ◌↔◌, ◌<◌, ◌≤◌, length, MatchOption};
 ghost use Rattle.crpd_base.specs.Ranges.{IsPlatform};
 ghost use Rattle.flat_graph.specs.CodeGraph.{graph_of};
-ghost use Rattle.loop_regions.specs.CodeNest.{nest_of, IsNestOf};
+ghost use Rattle.loop_regions.specs.CodeNest.{CodeNest, IsNestOf};
 ghost use Rattle.evict_sets.specs.Certificate.{listed_of};
 ghost use Rattle.cert_check.specs.Clauses.{CountsHits};
 ghost use Rattle.cert_check.specs.Shown.{shown, HasLowSets};
@@ -14,7 +14,7 @@ ghost use Rattle.cert_check.specs.Answered.{IsFound};
 use crate::case::Case;
 use crate::index::index;
 use crate::lists::are_nodes;
-use crate::outcome::Failure;
+use crate::outcome::{Failure, at};
 use crate::paid::Paid;
 use crpd_base::{MOST_NODES, Platform, TaskPart};
 use flat_graph::Graph;
@@ -40,47 +40,40 @@ impl Case<'_> {
         requires index { IsIndex self.now.part.now.states (length self.now.graph.now.nodes) self.now.places.now }
         ensures { IsFound (GraphHolds self.now.platform.now (shown self.now.graph.now nest.now) self.now.part.now) 2 2 result }
     {
+        let size = self.graph.len();
+        let regions = nest.len();
         let part = self.part;
-        if !are_nodes(part.states.as_slice(), self.graph.len()) || !self.lists_leaders() {
-            return Some(Failure {
-                clause: 2,
-                place: 0,
-            });
+        let states = part.states.as_slice();
+        let potentials = part.potentials.as_slice();
+        let loops = part.loops.as_slice();
+        if !are_nodes(states, size) || !self.lists_leaders() {
+            return at(2, 0);
         }
-        if part.potentials.as_slice().len() != self.graph.len() as usize {
-            return Some(Failure {
-                clause: 2,
-                place: 1,
-            });
+        if potentials.len() != size as usize {
+            return at(2, 1);
         }
-        if part.loops.as_slice().len() != nest.len() as usize {
-            return Some(Failure {
-                clause: 2,
-                place: 2,
-            });
+        if loops.len() != regions as usize {
+            return at(2, 2);
         }
         None
     }
 
     /// The first failure of clauses 3 to 5; writes which nodes are counted as hits.
-    fn state_failure(&self, nest: &Nest, hits: &mut [bool]) -> Option<Failure>
+    fn state_failure(&self, order: &[u32], hits: &mut [bool]) -> Option<Failure>
         requires case { IsCase self.now.platform.now self.now.graph.now self.now.part.now self.now.places.now }
+        requires order { IsOrder (graph_of self.now.graph.now) (listed_of self.now.part.now) order.now }
         requires count { length hits.old ≡ (graph_of self.now.graph.now).size }
         ensures hits { CountsHits (graph_of self.now.graph.now) (fetches self.now.platform.now self.now.graph.now) (listed_of self.now.part.now) (counted hits.new) }
-        ensures failure { IsFound (GraphHolds self.now.platform.now (shown self.now.graph.now nest.now) self.now.part.now) 3 5 result }
+        ensures failure { (nest : CodeNest) → IsFound (GraphHolds self.now.platform.now (shown self.now.graph.now nest) self.now.part.now) 3 5 result }
     {
-        self.graph.graph_law();
         let size = self.graph.len();
-        let mut table = [0; MOST_NODES];
-        let order = &mut table[..size as usize];
-        self.write_order(order);
-        let failure = at_node(3, self.judge_states(order, hits), size);
-        if failure.is_some() {
-            return failure;
+        let states = at_node(3, self.judge_states(order, hits), size);
+        if states.is_some() {
+            return states;
         }
-        let failure = at_node(4, self.judge_useful(order, hits), size);
-        if failure.is_some() {
-            return failure;
+        let useful = at_node(4, self.judge_useful(order, hits), size);
+        if useful.is_some() {
+            return useful;
         }
         at_node(5, self.judge_sets(order, hits), size)
     }
@@ -110,15 +103,18 @@ pub(crate) fn graph_failure(
         part,
         places,
     };
-    let failure = case.list_failure(nest);
-    if failure.is_some() {
-        return failure;
+    let listed = case.list_failure(nest);
+    if listed.is_some() {
+        return listed;
     }
-    let mut table = [false; MOST_NODES];
-    let hits = &mut table[..size];
-    let failure = case.state_failure(nest, hits);
-    if failure.is_some() {
-        return failure;
+    let mut numbers = [0; MOST_NODES];
+    let order = &mut numbers[..size];
+    case.write_order(order);
+    let mut flags = [false; MOST_NODES];
+    let hits = &mut flags[..size];
+    let states = case.state_failure(order, hits);
+    if states.is_some() {
+        return states;
     }
     let paid = Paid {
         platform,
@@ -137,17 +133,13 @@ impl Paid<'_> {
         requires hits { CountsHits (graph_of self.now.graph.now) (fetches self.now.platform.now self.now.graph.now) (listed_of self.now.part.now) (counted self.now.hits.now) }
         ensures { IsFound (GraphHolds self.now.platform.now (shown self.now.graph.now self.now.nest.now) self.now.part.now) 6 7 result }
     {
-        let failure = at_node(6, self.judge_potentials(), self.graph.len());
-        if failure.is_some() {
-            return failure;
+        let nodes = at_node(6, self.judge_potentials(), self.graph.len());
+        if nodes.is_some() {
+            return nodes;
         }
-        if self.bound_holds() {
-            None
-        } else {
-            Some(Failure {
-                clause: 7,
-                place: 0,
-            })
+        if !self.bound_holds() {
+            return at(7, 0);
         }
+        None
     }
 }

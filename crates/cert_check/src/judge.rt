@@ -9,8 +9,9 @@ ghost use Rattle.cert_check.specs.Times.{AreLongest};
 
 use crate::graphs::graph_failure;
 use crate::outcome::{Failure, Verdict};
-use crate::times::{name_failure, time_failure, write_longest};
+use crate::times::{name_failure, time_failure, times_law, write_longest};
 use crpd_base::{Certificate, MOST_TASKS, Task, TaskSet};
+use delay_count::growth_law;
 use flat_graph::Graph;
 use loop_regions::Nest;
 
@@ -32,12 +33,15 @@ fn task_failure(
     requires higher { (j : ℕ) (k : Clause) → j < i → Holds set.now (shown_at graphs.now nests.now) certificate.now j k }
     ensures { IsFound (Holds set.now (shown_at graphs.now nests.now) certificate.now i) 1 9 result }
 {
-    let failure = name_failure(set, certificate, i);
-    if failure.is_some() {
-        return failure;
+    growth_law();
+    times_law(set);
+    let name = name_failure(set, certificate, i);
+    if name.is_some() {
+        return name;
     }
     let part = &certificate.tasks.as_slice()[i];
-    let failure = graph_failure(&set.platform, &graphs[i], &nests[i], part);
+    let (graph, nest) = (&graphs[i], &nests[i]);
+    let failure = graph_failure(&set.platform, graph, nest, part);
     if failure.is_some() {
         return failure;
     }

@@ -1,4 +1,6 @@
 // What the judge answers.
+ghost use Rattle.std.specs.Prelude.{◌≡◌, Some};
+
 use crpd_base::Task;
 
 /// Whether every clause holds for every task, or the first that does not, by its task, its number and its place.
@@ -13,4 +15,11 @@ pub enum Verdict {
 pub(crate) struct Failure {
     pub(crate) clause: u8,
     pub(crate) place: u32,
+}
+
+/// The failure of a clause at a place.
+pub(crate) fn at(clause: u8, place: u32) -> Option<Failure>
+    ensures { result ≡ Some (record { clause = clause; place = place }) }
+{
+    Some(Failure { clause, place })
 }

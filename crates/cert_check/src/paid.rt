@@ -269,6 +269,19 @@ impl Paid<'_> {
         }
     }
 
+    /// Whether all edges of a node are paid for.
+    fn edges_pay(&self, node: NodeId) -> bool
+        requires paid { IsPaid self.now.graph.now self.now.nest.now self.now.part.now self.now.hits.now }
+        requires node { node.0 < (graph_of self.now.graph.now).size }
+        ensures { IsTrue result ↔ ((v : ℕ) → Edge (graph_of self.now.graph.now) node.0 v → EdgePaid (nest_of self.now.nest.now) (costs_at self.now.platform.now self.now.graph.now (counted self.now.hits.now)) (potentials_of self.now.part.now) node.0 v) }
+    {
+        self.graph.graph_law();
+        if !self.place_pays(node, 0) {
+            return false;
+        }
+        self.place_pays(node, 1)
+    }
+
     /// Whether the region that a node heads, if any, pays for its turns.
     fn head_pays(&self, node: NodeId) -> bool
         requires paid { IsPaid self.now.graph.now self.now.nest.now self.now.part.now self.now.hits.now }
@@ -287,11 +300,10 @@ impl Paid<'_> {
         requires node { node.0 < (graph_of self.now.graph.now).size }
         ensures { IsTrue result ↔ PotentialsMeet (graph_of self.now.graph.now) (nest_of self.now.nest.now) (costs_at self.now.platform.now self.now.graph.now (counted self.now.hits.now)) (potentials_of self.now.part.now) node.0 }
     {
-        self.graph.graph_law();
-        self.end_pays(node)
-            && self.place_pays(node, 0)
-            && self.place_pays(node, 1)
-            && self.head_pays(node)
+        if !self.end_pays(node) || !self.edges_pay(node) {
+            return false;
+        }
+        self.head_pays(node)
     }
 
     /// The least node at which clause 6 fails, the number of nodes where there is none. Its time is that of the nodes, and

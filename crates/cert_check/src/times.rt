@@ -13,16 +13,10 @@ ghost use Rattle.cert_check.specs.Answered.{IsFound};
 ghost use Rattle.cert_check.specs.Times.{AreLongest, HigherHold, TimesHold};
 
 use crate::least::at_most;
-use crate::outcome::Failure;
+use crate::outcome::{Failure, at};
 use crpd_base::{Certificate, MOST_TASKS, Platform, Task, TaskSet, Text};
 use delay_count::{demand, growth_law};
 use flat_graph::Graph;
-
-fn at(clause: u8, place: u32) -> Option<Failure>
-    ensures { result ≡ Some (record { clause = clause; place = place }) }
-{
-    Some(Failure { clause, place })
-}
 
 fn are_same(a: &Text, b: &Text) -> bool
     ensures { IsTrue result ↔ (a.now ≡ b.now) }
@@ -84,7 +78,7 @@ pub(crate) fn write_longest(set: &TaskSet, graphs: &[Graph], longest: &mut [u64]
 }
 
 /// The times of a task set are in their ranges.
-fn times_law(set: &TaskSet)
+pub(crate) fn times_law(set: &TaskSet)
     requires { IsTaskSet set.now }
     ensures { HasTimes set.now }
 {}
