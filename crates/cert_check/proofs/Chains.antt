@@ -38,6 +38,9 @@ module _ (g : Graph) (l : Listed) (G : IsGraph g) (leaders : ListsLeaders g l) w
         pending = λ k e. subst (λ x. IsFollower g l x next) (sym (ap (slice_index (set order count v)) (omega arith) ∙ at_new g l order count v room)) F;
       }
 
+  pub chain_node : (order : List ℕ) (count below : ℕ) (v : NodeId) → ChainTo g l order count below (Some v) → v.0 < g.size
+  chain_node order count below v C = G.edges (slice_index order (count - 1)) v.0 (C.pending (count - 1) (omega (arith, C.some))).0
+
   pub chain_room : (order : List ℕ) (count below : ℕ) (v : NodeId) → ChainTo g l order count below (Some v) → count < length order
   chain_room order count below v C =
       let p = C.pending (count - 1) (omega (arith, C.some)) in

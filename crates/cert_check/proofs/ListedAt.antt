@@ -34,3 +34,6 @@ entry_in P (x ∷ states) y s all e =
     let there : entry_of (x ∷ states) y ≡ entry_of states y = rw f refl in
     entry_in P states y s (λ k d lt. all (suc k) d (omega arith)) (sym there ∙ e))
     (cases_eq x.node y)
+
+pub nodes_as : (xs ys : List NodeState) (n m : ℕ) → xs ≡ ys → n ≡ m → All (λ (s : NodeState). s.node < n) xs → All (λ (s : NodeState). s.node < m) ys
+nodes_as xs ys n m e f all = subst (λ (zs : List NodeState). All (λ (s : NodeState). s.node < m) zs) e (subst (λ k. All (λ (s : NodeState). s.node < k) xs) f all)
