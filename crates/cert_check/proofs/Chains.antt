@@ -68,3 +68,9 @@ module _ (g : Graph) (l : Listed) (G : IsGraph g) (leaders : ListsLeaders g l) w
 
 pub chain_closed : (g : Graph) (l : Listed) (order : List ℕ) (count below : ℕ) → ChainTo g l order count below None → IsClosed g l order count
 chain_closed g l order count below C k v e f = C.pending k e v f
+
+-- the listed nodes below a number are written, with the unlisted ones that continue them
+pub record OrderTo (g : Graph) (l : Listed) (order : List ℕ) (count below : ℕ) : Type 0 where
+  pub line : IsLine g l order count
+  pub closed : IsClosed g l order count
+  pub all : HasListed g l order count below

@@ -9,6 +9,8 @@ use Rattle.flat_graph.specs.CodeGraph.{CodeGraph}
 use Rattle.loop_regions.specs.CodeNest.{CodeNest, IsNestOf}
 use Rattle.evict_sets.specs.Certificate.{cert_at, no_cert}
 use Rattle.cert_check.specs.Shown.{shown, shown_at, graph_at, nest_at, no_graph, no_nest, HasLowSets, AreShown, IsInRange}
+use Rattle.crpd_base.specs.declared.data.NodeState.{NodeState}
+use Rattle.cert_check.specs.Case.{IsIndex}
 use Rattle.cert_check.specs.Graphs.{GraphHolds}
 use Rattle.cert_check.specs.Answered.{IsFound}
 use Rattle.cert_check.specs.Verdict.{Holds}
@@ -35,3 +37,6 @@ found_task set graphs nests c i g n t r g_is n_is at F =
     (subst (λ x. IsFound (GraphHolds set.platform (shown x (nest_at nests i)) (cert_at c i)) 2 7 r) g_is
     (subst (λ x. IsFound (GraphHolds set.platform (shown g x) (cert_at c i)) 2 7 r) n_is
     (subst (λ x. IsFound (GraphHolds set.platform (shown g n) x) 2 7 r) (sym at) F)))
+
+pub index_of : (xs ys : List NodeState) (n m : ℕ) (places : List ℕ) → xs ≡ ys → n ≡ m → IsIndex xs n places → IsIndex ys m places
+index_of xs ys n m places e f I = subst (λ zs. IsIndex zs m places) e (subst (λ k. IsIndex xs k places) f I)
