@@ -63,6 +63,7 @@ impl Case<'_> {
         requires case { IsCase self.now.platform.now self.now.graph.now self.now.part.now self.now.places.now }
         requires order { IsOrder (graph_of self.now.graph.now) (listed_of self.now.part.now) order.now }
         requires count { length hits.old ≡ (graph_of self.now.graph.now).size }
+        ensures count { length hits.new ≡ (graph_of self.now.graph.now).size }
         ensures hits { CountsHits (graph_of self.now.graph.now) (fetches self.now.platform.now self.now.graph.now) (listed_of self.now.part.now) (counted hits.new) }
         ensures failure { (nest : CodeNest) → IsFound (GraphHolds self.now.platform.now (shown self.now.graph.now nest) self.now.part.now) 3 5 result }
     {
@@ -96,7 +97,7 @@ pub(crate) fn graph_failure(
     let size = graph.len() as usize;
     let mut table = [0; MOST_NODES];
     let places = &mut table[..size];
-    index(part.states.as_slice(), places);
+    index(part.states.as_slice(), size, places);
     let case = Case {
         platform,
         graph,

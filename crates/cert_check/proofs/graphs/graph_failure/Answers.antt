@@ -13,7 +13,7 @@ pub write_order-requires-clause-case : goal.write_order-requires-clause-case
 write_order-requires-clause-case c = record {
   platform = c.requires.platform;
   sets = c.requires.sets;
-  index = index_of c.as_slice.result.now c.args.part.now.states _ (length c.args.graph.now.nodes) c.index.new.places c.as_slice.ensures ? c.index.ensures;
+  index = index_of c.as_slice.result.now c.args.part.now.states c.len-size.result (length c.args.graph.now.nodes) c.index.new.places c.as_slice.ensures c.len-size.ensures c.index.ensures;
   leaders = ((goes_on (GraphHolds c.args.platform.now (shown c.args.graph.now c.args.nest.now) c.args.part.now) 2 2 c.list_failure-listed.result (sym c.is_some.ensures ∙ c.if-is_some.false) c.list_failure-listed.ensures) Leaders (omega arith) (omega arith)).1;
 }
 
@@ -21,7 +21,7 @@ pub state_failure-states-requires-clause-case : goal.state_failure-states-requir
 state_failure-states-requires-clause-case c = record {
   platform = c.requires.platform;
   sets = c.requires.sets;
-  index = index_of c.as_slice.result.now c.args.part.now.states _ (length c.args.graph.now.nodes) c.index.new.places c.as_slice.ensures ? c.index.ensures;
+  index = index_of c.as_slice.result.now c.args.part.now.states c.len-size.result (length c.args.graph.now.nodes) c.index.new.places c.as_slice.ensures c.len-size.ensures c.index.ensures;
   leaders = ((goes_on (GraphHolds c.args.platform.now (shown c.args.graph.now c.args.nest.now) c.args.part.now) 2 2 c.list_failure-listed.result (sym c.is_some.ensures ∙ c.if-is_some.false) c.list_failure-listed.ensures) Leaders (omega arith) (omega arith)).1;
 }
 
@@ -35,7 +35,7 @@ potential_failure-requires-clause-paid c = record {
   beside = c.requires.nest;
   nodes = (goes_on (GraphHolds c.args.platform.now (shown c.args.graph.now c.args.nest.now) c.args.part.now) 2 2 c.list_failure-listed.result (sym c.is_some.ensures ∙ c.if-is_some.false) c.list_failure-listed.ensures) NodePotentials (omega arith) (omega arith);
   loops = (goes_on (GraphHolds c.args.platform.now (shown c.args.graph.now c.args.nest.now) c.args.part.now) 2 2 c.list_failure-listed.result (sym c.is_some.ensures ∙ c.if-is_some.false) c.list_failure-listed.ensures) LoopPotentials (omega arith) (omega arith);
-  all_hits = ?;
+  all_hits = c.state_failure-states.ensures.count;
 }
 
 pub returns : goal.returns
