@@ -24,7 +24,7 @@ use Rattle.response.specs.Windows.{IsWindow, IsSmaller}
 use Rattle.cert_check.specs.Certificate.{potentials_of}
 use Rattle.cert_check.specs.Clauses.{CountsHits, costs, PotentialsMeet}
 use Rattle.cert_check.specs.Judge.{accesses_of, part_of, longest_at, window_at, Lists, GraphMeets, TaskMeets}
-use Rattle.cert_check.proofs.Verdict.{yes_law}
+use Rattle.cert_check.proofs.Clauses.{yes_law}
 use Rattle.cert_build.specs.BestLaws.{ListsBest}
 use Rattle.cert_build.specs.Best.{IsBestState, AreBestStates, TellsSureHits, IsBestPart, IsBest, BestIsJudgedLaw}
 use Rattle.cert_build.proofs.BestLaws.{best_state_law, best_meets_law, enough_sets_law}

@@ -22,7 +22,7 @@ use Rattle.evict_sets.specs.Certificate.{cert_at}
 use Rattle.cert_check.specs.Verdict.{Clause, Platforms, HasTask, Names, Last, Leaders, NodePotentials, LoopPotentials, States, UsefulSets, TaskSets, Inequalities, Bound, Window, Response, Deadline, Holds, YesLaw, OneAnswerLaw}
 
 -- two tests of hits agree at the nodes
-tests_agree : (g : Graph) (a : Accesses) (l : Listed) (one two : ℕ → Bool) (u : ℕ) → CountsHits g a l one → CountsHits g a l two → u < g.size → one u ≡ two u
+pub tests_agree : (g : Graph) (a : Accesses) (l : Listed) (one two : ℕ → Bool) (u : ℕ) → CountsHits g a l one → CountsHits g a l two → u < g.size → one u ≡ two u
 tests_agree g a l one two u p q h =
     elim (cases_Bool (one u)) [
       | inl b ↦ b ∙ sym ((q u h).1 ((p u h).0 b))
@@ -33,7 +33,7 @@ tests_agree g a l one two u p q h =
     ]
 
 -- the inequalities at a node see the test at that node only
-same_meets : (p : Platform) (t : TaskGraph) (pot : Potentials) (one two : ℕ → Bool) (u : ℕ) → one u ≡ two u → PotentialsMeet t.graph t.nest (costs p (listing_of t) (answering t) one) pot u → PotentialsMeet t.graph t.nest (costs p (listing_of t) (answering t) two) pot u
+pub same_meets : (p : Platform) (t : TaskGraph) (pot : Potentials) (one two : ℕ → Bool) (u : ℕ) → one u ≡ two u → PotentialsMeet t.graph t.nest (costs p (listing_of t) (answering t) one) pot u → PotentialsMeet t.graph t.nest (costs p (listing_of t) (answering t) two) pot u
 same_meets p t pot one two u e m =
     record {
       edges = record {

@@ -1,0 +1,67 @@
+-- Demands of the same parts, costs and windows, and the ranges of a set's times.
+use Rattle.std.proofs.Common.{◌≡◌, ℕ, zero, suc, ◌+◌, ◌<◌, ◌≤◌, List, [], ◌∷◌, length, map, get_or, All, refl, sym, ap, ◌∙◌, subst, arith}
+use Rattle.std.specs.Prelude.{◌^◌}
+use Rattle.crpd_base.specs.Ranges.{IsTaskSpec, IsTaskSet}
+use Rattle.crpd_base.specs.Tasks.{period_of, jitter_of, deadline_of, HasTimes}
+use Rattle.crpd_base.specs.declared.data.Part.{Part}
+use Rattle.crpd_base.specs.declared.data.Method.{Method}
+use Rattle.crpd_base.specs.declared.data.TaskSpec.{TaskSpec}
+use Rattle.crpd_base.specs.declared.data.TaskSet.{TaskSet}
+use Rattle.delay_count.specs.Demand.{demand}
+use Rattle.delay_count.specs.Laws.{Load, IsCostlier, DemandGrows}
+
+module _ (grows : DemandGrows) (set : TaskSet) (times : HasTimes set) (i : ℕ) (l : i < length set.tasks)
+    (parts others : ℕ → Part) (costs further window other : ℕ → ℕ)
+    (P : (k : ℕ) → k ≤ i → parts k ≡ others k) (C : (k : ℕ) → k < length set.tasks → costs k ≡ further k) (W : (k : ℕ) → k < i → window k ≡ other k) where
+  abbrev one : Load
+  one = record { set = set; parts = parts; longest = costs; window = window }
+
+  abbrev two : Load
+  two = record { set = set; parts = others; longest = further; window = other }
+
+  up : IsCostlier one two i
+  up = record {
+    tasks = refl;
+    switching = refl;
+    miss = omega arith;
+    switch = omega arith;
+    bound = λ k le. let e = ap (λ (q : Part). q.bound) (P k le) in omega (arith, e);
+    evicting = λ k le. sym (ap (λ (q : Part). q.evicting) (P k le));
+    useful = λ k le. sym (ap (λ (q : Part). q.useful) (P k le));
+    longest = λ k lt. let e = C k lt in omega (arith, e);
+    window = λ k lt. let e = W k lt in omega (arith, e);
+  }
+
+  down : IsCostlier two one i
+  down = record {
+    tasks = refl;
+    switching = refl;
+    miss = omega arith;
+    switch = omega arith;
+    bound = λ k le. let e = ap (λ (q : Part). q.bound) (P k le) in omega (arith, e);
+    evicting = λ k le. ap (λ (q : Part). q.evicting) (P k le);
+    useful = λ k le. ap (λ (q : Part). q.useful) (P k le);
+    longest = λ k lt. let e = C k lt in omega (arith, e);
+    window = λ k lt. let e = W k lt in omega (arith, e);
+  }
+
+  pub same_demand : (method : Method) (v : ℕ) → demand set parts costs window i method v ≡ demand set others further other i method v
+  same_demand method v =
+      let le = grows one two i v v method times l up (omega arith) in
+      let ge = grows two one i v v method times l down (omega arith) in
+      omega (arith, le, ge)
+
+-- what follows for numbers of the elements of a list
+mapped : {X : Type 0} (P : X → Type 0) (f g : X → ℕ) (Q : ℕ → ℕ → Type 0) (xs : List X) → All P xs → ((x : X) → P x → Q (f x) (g x)) → (k : ℕ) → k < length xs → Q (get_or (map f xs) k 0) (get_or (map g xs) k 0)
+mapped P f g Q [] all h k lt = absurd (omega arith)
+mapped P f g Q (x ∷ xs) all h zero lt = h x (all 0 x (omega arith))
+mapped P f g Q (x ∷ xs) all h (suc k) lt = mapped P f g Q xs (λ j d j_lt. all (suc j) d (omega arith)) h k (omega arith)
+
+pub has_times : (set : TaskSet) → IsTaskSet set → HasTimes set
+has_times set S = record {
+  tasks = S.few;
+  period = λ k lt. mapped IsTaskSpec (λ (t : TaskSpec). t.period) (λ (t : TaskSpec). t.period) (λ x y. 1 ≤ x) set.tasks S.each (λ t h. h.period.0) k lt;
+  longest = λ k lt. mapped IsTaskSpec (λ (t : TaskSpec). t.period) (λ (t : TaskSpec). t.period) (λ x y. x ≤ 2 ^ 40) set.tasks S.each (λ t h. h.period.1) k lt;
+  deadline = λ k lt. mapped IsTaskSpec (λ (t : TaskSpec). t.deadline) (λ (t : TaskSpec). t.period) (λ x y. x ≤ y) set.tasks S.each (λ t h. h.deadline.1) k lt;
+  jitter = λ k lt. mapped IsTaskSpec (λ (t : TaskSpec). t.jitter) (λ (t : TaskSpec). t.jitter) (λ x y. x ≤ 2 ^ 40) set.tasks S.each (λ t h. h.jitter) k lt;
+}

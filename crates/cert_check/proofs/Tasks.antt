@@ -1,0 +1,42 @@
+-- What is read of the lists of graphs, regions and parts.
+use Rattle.std.proofs.Common.{◌≡◌, ℕ, ◌<◌, List, length, get_or, All, Option, sym, ap, ◌∙◌, subst, arith}
+use Rattle.std.proofs.lemmas.List.{get_or_default}
+use Rattle.crpd_base.specs.declared.data.Platform.{Platform}
+use Rattle.crpd_base.specs.declared.data.TaskSet.{TaskSet}
+use Rattle.crpd_base.specs.declared.data.TaskPart.{TaskPart}
+use Rattle.crpd_base.specs.declared.data.Certificate.{Certificate}
+use Rattle.flat_graph.specs.CodeGraph.{CodeGraph}
+use Rattle.loop_regions.specs.CodeNest.{CodeNest, IsNestOf}
+use Rattle.evict_sets.specs.Certificate.{cert_at, no_cert}
+use Rattle.cert_check.specs.Shown.{shown, shown_at, graph_at, nest_at, no_graph, no_nest, HasLowSets, AreShown, IsInRange}
+use Rattle.crpd_base.specs.declared.data.NodeState.{NodeState}
+use Rattle.cert_check.specs.Case.{IsIndex}
+use Rattle.cert_check.specs.Graphs.{GraphHolds}
+use Rattle.cert_check.specs.Answered.{IsFound}
+use Rattle.cert_check.specs.Verdict.{Holds}
+use Rattle.cert_check.specs.declared.outcome.Failure.{Failure}
+use Rattle.cert_check.proofs.Found.{found_as}
+use Rattle.cert_check.proofs.Judgements.{graph_same}
+
+pub graph_is : (graphs : List CodeGraph) (i : ℕ) (g : CodeGraph) → i < length graphs → g ≡ get_or graphs i g → g ≡ graph_at graphs i
+graph_is graphs i g lt is = is ∙ get_or_default graphs i g no_graph lt
+
+pub nest_is : (nests : List CodeNest) (i : ℕ) (n : CodeNest) → i < length nests → n ≡ get_or nests i n → n ≡ nest_at nests i
+nest_is nests i n lt is = is ∙ get_or_default nests i n no_nest lt
+
+pub beside : (set : TaskSet) (graphs : List CodeGraph) (nests : List CodeNest) (i : ℕ) (g : CodeGraph) (n : CodeNest) → AreShown set graphs nests → i < length set.tasks → g ≡ graph_at graphs i → n ≡ nest_at nests i → IsNestOf g n
+beside set graphs nests i g n A lt g_is n_is = subst (λ x. IsNestOf x n) (sym g_is) (subst (λ x. IsNestOf (graph_at graphs i) x) (sym n_is) (A.each i lt))
+
+pub low_sets : (c : Certificate) (i : ℕ) (t : TaskPart) → IsInRange c → i < length c.tasks → cert_at c i ≡ t → HasLowSets t
+low_sets c i t R lt at = subst HasLowSets at (R.sets i no_cert lt)
+
+pub found_task : (set : TaskSet) (graphs : List CodeGraph) (nests : List CodeNest) (c : Certificate) (i : ℕ) (g : CodeGraph) (n : CodeNest) (t : TaskPart) (r : Option Failure) → g ≡ graph_at graphs i → n ≡ nest_at nests i → cert_at c i ≡ t
+    → IsFound (GraphHolds set.platform (shown g n) t) 2 7 r → IsFound (Holds set (shown_at graphs nests) c i) 2 7 r
+found_task set graphs nests c i g n t r g_is n_is at F =
+    found_as (GraphHolds set.platform (shown_at graphs nests i) (cert_at c i)) (Holds set (shown_at graphs nests) c i) 2 7 r (graph_same set (shown_at graphs nests) c i)
+    (subst (λ x. IsFound (GraphHolds set.platform (shown x (nest_at nests i)) (cert_at c i)) 2 7 r) g_is
+    (subst (λ x. IsFound (GraphHolds set.platform (shown g x) (cert_at c i)) 2 7 r) n_is
+    (subst (λ x. IsFound (GraphHolds set.platform (shown g n) x) 2 7 r) (sym at) F)))
+
+pub index_of : (xs ys : List NodeState) (n m : ℕ) (places : List ℕ) → xs ≡ ys → n ≡ m → IsIndex xs n places → IsIndex ys m places
+index_of xs ys n m places e f I = subst (λ zs. IsIndex zs m places) e (subst (λ k. IsIndex xs k places) f I)

@@ -1,0 +1,18 @@
+use Rattle.std.proofs.Common.{◌≡◌, ◌<◌, List, length, None, subst}
+use Rattle.crpd_base.specs.declared.data.TaskSpec.{TaskSpec}
+use Rattle.cert_check.specs.Verdict.{Holds}
+use Rattle.cert_check.specs.Answered.{IsFound}
+use Rattle.cert_check.specs.Shown.{shown_at}
+use Rattle.cert_check.proofs.Judgements.{holds_more, judged_no}
+use Rattle.cert_check.proofs.judge.verdict.Goals as goal
+
+pub returns-in-Some : goal.returns-in-Some
+returns-in-Some c =
+    judged_no c.args.set.now (shown_at c.args.graphs.now c.args.nests.now) c.args.certificate.now c.loop-i.i c.in-Some.failure
+    (subst (λ (xs : List TaskSpec). c.loop-i.i < length xs) c.as_slice-i-end.ensures c.loop-i-test.true) c.loop-i.invariant
+    (subst (λ r. IsFound (Holds c.args.set.now (shown_at c.args.graphs.now c.args.nests.now) c.args.certificate.now c.loop-i.i) 1 9 r) c.in-Some.is c.task_failure.ensures)
+
+pub loop-i-preserved : goal.loop-i-preserved
+loop-i-preserved c =
+    holds_more c.args.set.now (shown_at c.args.graphs.now c.args.nests.now) c.args.certificate.now c.loop-i.i
+    (subst (λ r. IsFound (Holds c.args.set.now (shown_at c.args.graphs.now c.args.nests.now) c.args.certificate.now c.loop-i.i) 1 9 r) c.in_default.is c.task_failure.ensures) c.loop-i.invariant

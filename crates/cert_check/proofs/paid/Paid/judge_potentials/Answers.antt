@@ -1,0 +1,31 @@
+use Rattle.std.proofs.Common.{◌≡◌, ◌≢◌, true, false, sym, ◌∙◌, subst, ⊎_elim, arith}
+use Rattle.std.proofs.lemmas.Bool.{cases_eq, false≢true}
+use Rattle.flat_graph.specs.CodeGraph.{graph_of}
+use Rattle.loop_regions.specs.CodeNest.{nest_of}
+use Rattle.cert_check.specs.Certificate.{potentials_of}
+use Rattle.cert_check.specs.Clauses.{PotentialsMeet}
+use Rattle.cert_check.specs.Case.{counted}
+use Rattle.cert_check.specs.Paid.{costs_at}
+use Rattle.cert_check.proofs.paid.Paid.judge_potentials.Goals as goal
+
+pub returns-then-not-node_pays : goal.returns-then-not-node_pays
+returns-then-not-node_pays c = record {
+  within = omega (arith, c.loop-node-test.true, c.len-node-end.ensures);
+  fails = λ lt h. false≢true (sym c.if-not-node_pays.true ∙ c.node_pays.ensures.1 h);
+  holds = c.loop-node.invariant;
+}
+
+pub loop-node-preserved : goal.loop-node-preserved
+loop-node-preserved c u lt =
+    ⊎_elim
+    (λ e. subst (λ x. PotentialsMeet (graph_of c.args.self.now.graph.now) (nest_of c.args.self.now.nest.now) (costs_at c.args.self.now.platform.now c.args.self.now.graph.now (counted c.args.self.now.hits.now)) (potentials_of c.args.self.now.part.now) x) (sym e)
+    (c.node_pays.ensures.0 c.if-not-node_pays.false))
+    (λ ne. c.loop-node.invariant u (omega arith))
+    (cases_eq u c.loop-node.node)
+
+pub returns : goal.returns
+returns c = record {
+  within = omega (arith, c.len.ensures);
+  fails = λ lt h. absurd (omega (arith, lt, c.len.ensures));
+  holds = λ u lt. c.loop-node.invariant u (omega (arith, lt, c.loop-node-test.false, c.len.ensures, c.len-node-end.ensures));
+}

@@ -1,0 +1,14 @@
+-- The nodes so far meet their inequalities.
+use Rattle.std.proofs.Common.{ℕ, ◌<◌}
+use Rattle.flat_graph.specs.CodeGraph.{graph_of}
+use Rattle.loop_regions.specs.CodeNest.{nest_of}
+use Rattle.cert_check.specs.Certificate.{potentials_of}
+use Rattle.cert_check.specs.Clauses.{PotentialsMeet}
+use Rattle.cert_check.specs.Case.{counted}
+use Rattle.cert_check.specs.Paid.{costs_at}
+use Rattle.cert_check.proofs.paid.Paid.judge_potentials.Given as goal
+
+abbrev pub invariant-loop-node : goal.invariant-loop-node
+invariant-loop-node l =
+    (u : ℕ) → u < l.node →
+    PotentialsMeet (graph_of l.self.graph.now) (nest_of l.self.nest.now) (costs_at l.self.platform.now l.self.graph.now (counted l.self.hits.now)) (potentials_of l.self.part.now) u

@@ -1,0 +1,14 @@
+-- The regions round the source so far pay for their turns.
+use Rattle.std.proofs.Common.{◌*◌, ◌≤◌}
+use Rattle.flat_graph.specs.CodeGraph.{graph_of}
+use Rattle.loop_regions.specs.CodeNest.{nest_of}
+use Rattle.cert_check.specs.Certificate.{potentials_of}
+use Rattle.cert_check.proofs.Rounds.{Holds, still_outside}
+use Rattle.cert_check.proofs.Potentials.{IsPaidTurns}
+use Rattle.cert_check.proofs.paid.Paid.left_pay.Given as goal
+
+abbrev pub invariant-loop-round : goal.invariant-loop-round
+invariant-loop-round l = Holds (nest_of l.self.nest.now) (IsPaidTurns (nest_of l.self.nest.now) (potentials_of l.self.part.now)) l.fn.source.0 l.round
+
+abbrev pub decreases-loop-round : goal.decreases-loop-round
+decreases-loop-round l = still_outside (graph_of l.self.graph.now) (nest_of l.self.nest.now) l.round

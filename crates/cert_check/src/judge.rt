@@ -1,0 +1,89 @@
+// The judge.
+ghost use Rattle.std.specs.Prelude.{◌≡◌, ◌<◌, ◌≤◌, ℕ, length};
+ghost use Rattle.crpd_base.specs.Ranges.{IsTaskSet};
+ghost use Rattle.delay_count.specs.Demand.{HasLongest};
+ghost use Rattle.cert_check.specs.Verdict.{Clause, Holds, IsJudged};
+ghost use Rattle.cert_check.specs.Shown.{shown_at, AreShown, IsInRange};
+ghost use Rattle.cert_check.specs.Answered.{answer_of, IsFound};
+ghost use Rattle.cert_check.specs.Times.{AreLongest};
+
+use crate::graphs::graph_failure;
+use crate::outcome::{Failure, Verdict};
+use crate::times::{name_failure, time_failure, times_law, write_longest};
+use crpd_base::{Certificate, MOST_TASKS, Task, TaskSet};
+use delay_count::growth_law;
+use flat_graph::Graph;
+use loop_regions::Nest;
+
+/// The first failure of a task whose higher tasks have none.
+fn task_failure(
+    set: &TaskSet,
+    graphs: &[Graph],
+    nests: &[Nest],
+    certificate: &Certificate,
+    longest: &[u64],
+    i: usize,
+) -> Option<Failure>
+    requires set { IsTaskSet set.now }
+    requires tasks { AreShown set.now graphs.now nests.now }
+    requires certificate { IsInRange certificate.now }
+    requires longest { AreLongest set.now graphs.now longest.now }
+    requires range { HasLongest set.now longest.now }
+    requires task { i < length set.now.tasks }
+    requires higher { (j : ℕ) (k : Clause) → j < i → Holds set.now (shown_at graphs.now nests.now) certificate.now j k }
+    ensures { IsFound (Holds set.now (shown_at graphs.now nests.now) certificate.now i) 1 9 result }
+{
+    growth_law();
+    times_law(set);
+    let name = name_failure(set, certificate, i);
+    if name.is_some() {
+        return name;
+    }
+    let part = &certificate.tasks.as_slice()[i];
+    let (graph, nest) = (&graphs[i], &nests[i]);
+    let failure = graph_failure(&set.platform, graph, nest, part);
+    if failure.is_some() {
+        return failure;
+    }
+    time_failure(set, certificate, longest, i)
+}
+
+/// Whether a certificate holds for a task set with these graphs and regions, one of each for each task, or the first
+/// clause that does not hold, by task, then by clause, then by place.
+///
+/// Clause 1: the platforms are equal (place 0), the certificate has the task (1), the names are equal (2), and after the
+/// last task it has none (3). Clause 2: the listed numbers are nodes and every leader is listed (0), there is a potential
+/// for each node (1) and for each region (2). Clauses 3 to 6, whose places are nodes: a state has nothing that is not in
+/// the state after each node before it, and the first is empty; a useful set has its node's set where the node is counted
+/// as a hit, and what is useful later; the task's sets have those of the node; the potentials pay for the node's edges and
+/// for the regions that they leave. Clause 7: the bound is at least the potential of the first node. Clause 8: the window
+/// has room for the demand. Clause 9: the response is the window and the jitter (0), and at most the deadline (1).
+///
+/// Takes no memory but some 250 kB of the stack. Its time is that of the nodes, each edge with the regions that it leaves
+/// and with the listed state that it leads to, the listed states, and for each task the demand of its window.
+///
+/// Source: Altmeyer, Davis and Maiza 2012 (the demand of a window); Lee et al. 1998 (useful cache blocks).
+pub fn verdict(
+    set: &TaskSet,
+    graphs: &[Graph],
+    nests: &[Nest],
+    certificate: &Certificate,
+) -> Verdict
+    requires set { IsTaskSet set.now }
+    requires tasks { AreShown set.now graphs.now nests.now }
+    requires certificate { IsInRange certificate.now }
+    ensures { IsJudged set.now (shown_at graphs.now nests.now) certificate.now (answer_of result) }
+{
+    let mut longest = [0; MOST_TASKS];
+    write_longest(set, graphs, &mut longest);
+    for i in 0..set.tasks.as_slice().len() {
+        if let Some(failure) = task_failure(set, graphs, nests, certificate, &longest, i) {
+            return Verdict::No {
+                task: Task(i as u8),
+                clause: failure.clause,
+                place: failure.place,
+            };
+        }
+    }
+    Verdict::Yes
+}

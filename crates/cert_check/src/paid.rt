@@ -1,0 +1,332 @@
+// Clauses 6 and 7: the potentials.
+ghost use Rattle.std.specs.Prelude.{◌≡◌, ◌↔◌, ◌<◌, ◌≤◌, ◌+◌, ◌*◌, ℕ, None, Some, Bool, if◌then◌else◌, length, slice_get, slice_index_or, IsTrue, MatchOption};
+ghost use Rattle.rv_decode.specs.Flow.{flow};
+ghost use Rattle.flat_graph.specs.EdgeCost.{is_return};
+ghost use Rattle.flat_graph.specs.Graph.{Edge};
+ghost use Rattle.flat_graph.specs.CodeGraph.{graph_of, places_of};
+ghost use Rattle.loop_regions.specs.CodeNest.{nest_of, IsNestOf};
+ghost use Rattle.loop_regions.specs.Nest.{Item, IsItem, IsBackEdge, Leaves, LeavesLast};
+ghost use Rattle.loop_regions.specs.Potentials.{item_potential, MeetsAt};
+ghost use Rattle.cert_check.specs.Certificate.{potentials_of};
+ghost use Rattle.cert_check.specs.Clauses.{PotentialsMeet, BoundMeets};
+ghost use Rattle.cert_check.specs.Case.{IsLeast, counted};
+ghost use Rattle.cert_check.specs.Paid.{IsPaid, costs_at, item_by, EdgePaid};
+
+use crate::least::at_most;
+use crate::steps::successor;
+use crpd_base::{NodeId, Platform, TaskPart};
+use flat_graph::{Graph, Kind};
+use loop_regions::Nest;
+use rv_decode::{Ins, cost};
+
+/// A task's graph and its regions, the potentials that the certificate lists for them, and the nodes that are counted as
+/// hits.
+#[derive(Clone, Copy)]
+pub(crate) struct Paid<'a> {
+    pub(crate) platform: &'a Platform,
+    pub(crate) graph: &'a Graph,
+    pub(crate) nest: &'a Nest,
+    pub(crate) part: &'a TaskPart,
+    pub(crate) hits: &'a [bool],
+}
+
+/// Whether an instruction is a return.
+#[tactic(auto, unfolding(rv_decode::specs::Flow::flow))]
+fn is_return(ins: &Ins) -> bool
+    ensures { (a : ℕ) → result ≡ is_return (flow a ins.now) }
+{
+    match *ins {
+        Ins::Jalr {
+            rd: 0,
+            rs1: 1,
+            imm: 0,
+        } => true,
+        _ => false,
+    }
+}
+
+impl Paid<'_> {
+    /// The potential of a node.
+    fn at_node(&self, node: NodeId) -> u128
+        requires paid { IsPaid self.now.graph.now self.now.nest.now self.now.part.now self.now.hits.now }
+        requires node { node.0 < (graph_of self.now.graph.now).size }
+        ensures is { result ≡ (potentials_of self.now.part.now).node node.0 }
+        ensures small { result < 18446744073709551616 }
+    {
+        u128::from(self.part.potentials.as_slice()[node.0 as usize])
+    }
+
+    /// The potential of a region.
+    fn at_region(&self, region: u32) -> u128
+        requires paid { IsPaid self.now.graph.now self.now.nest.now self.now.part.now self.now.hits.now }
+        requires region { region < (nest_of self.now.nest.now).size }
+        ensures is { result ≡ (potentials_of self.now.part.now).loop region }
+        ensures small { result < 18446744073709551616 }
+    {
+        u128::from(self.part.loops.as_slice()[region as usize])
+    }
+
+    /// The region that a node heads.
+    fn headed_by(&self, node: NodeId) -> Option<u32>
+        requires paid { IsPaid self.now.graph.now self.now.nest.now self.now.part.now self.now.hits.now }
+        requires node { node.0 < (graph_of self.now.graph.now).size }
+        ensures { IsItem (nest_of self.now.nest.now) node.0 (item_by result node.0) }
+    {
+        self.graph.graph_law();
+        match self.nest.innermost(node) {
+            Some(region) => {
+                if self.nest.head(region).0 == node.0 {
+                    Some(region)
+                } else {
+                    None
+                }
+            }
+            None => None,
+        }
+    }
+
+    /// The potential of a node's item: of the region that it heads, or its own.
+    fn at_item(&self, node: NodeId) -> u128
+        requires paid { IsPaid self.now.graph.now self.now.nest.now self.now.part.now self.now.hits.now }
+        requires node { node.0 < (graph_of self.now.graph.now).size }
+        ensures is { (i : Item) → IsItem (nest_of self.now.nest.now) node.0 i → result ≡ item_potential (potentials_of self.now.part.now) i }
+        ensures small { result < 18446744073709551616 }
+    {
+        match self.headed_by(node) {
+            Some(region) => self.at_region(region),
+            None => self.at_node(node),
+        }
+    }
+
+    /// What the turns of a region cost: its bound times the potential of its head.
+    fn turns(&self, region: u32) -> u128
+        requires paid { IsPaid self.now.graph.now self.now.nest.now self.now.part.now self.now.hits.now }
+        requires region { region < (nest_of self.now.nest.now).size }
+        ensures is { result ≡ (nest_of self.now.nest.now).bound region * (potentials_of self.now.part.now).node ((nest_of self.now.nest.now).head region) }
+        ensures small { result < 4294967296 * 18446744073709551616 }
+    {
+        u128::from(self.nest.bound(region)) * self.at_node(self.nest.head(region))
+    }
+
+    /// Whether a region pays for its turns.
+    fn region_pays(&self, region: u32) -> bool
+        requires paid { IsPaid self.now.graph.now self.now.nest.now self.now.part.now self.now.hits.now }
+        requires region { region < (nest_of self.now.nest.now).size }
+        ensures { IsTrue result ↔ ((nest_of self.now.nest.now).bound region * (potentials_of self.now.part.now).node ((nest_of self.now.nest.now).head region) ≤ (potentials_of self.now.part.now).loop region) }
+    {
+        self.turns(region) <= self.at_region(region)
+    }
+
+    /// Whether an edge leads back to the head of a region that holds its source.
+    fn is_back(&self, source: NodeId, target: NodeId) -> bool
+        requires paid { IsPaid self.now.graph.now self.now.nest.now self.now.part.now self.now.hits.now }
+        requires source { source.0 < (graph_of self.now.graph.now).size }
+        requires target { target.0 < (graph_of self.now.graph.now).size }
+        ensures { IsTrue result ↔ IsBackEdge (nest_of self.now.nest.now) source.0 target.0 }
+    {
+        match self.headed_by(target) {
+            Some(region) => self.nest.holds(region, source),
+            None => false,
+        }
+    }
+
+    /// The outermost region that an edge leaves. Its time is linear in the regions that the edge leaves.
+    fn outermost_left(&self, source: NodeId, target: NodeId) -> Option<u32>
+        requires paid { IsPaid self.now.graph.now self.now.nest.now self.now.part.now self.now.hits.now }
+        requires source { source.0 < (graph_of self.now.graph.now).size }
+        requires target { target.0 < (graph_of self.now.graph.now).size }
+        ensures { MatchOption result
+            ((r : ℕ) → Leaves (nest_of self.now.nest.now) source.0 target.0 r → ⊥)
+            (λ r. LeavesLast (nest_of self.now.nest.now) source.0 target.0 r) }
+    {
+        self.graph.graph_law();
+        let mut left = None;
+        let mut round = self.nest.innermost(source);
+        while let Some(region) = round {
+            if self.nest.holds(region, target) {
+                break;
+            }
+            left = Some(region);
+            round = self.nest.parent(region);
+        }
+        left
+    }
+
+    /// Whether each region that an edge leaves pays for its turns. Its time is linear in these regions.
+    fn left_pay(&self, source: NodeId, target: NodeId) -> bool
+        requires paid { IsPaid self.now.graph.now self.now.nest.now self.now.part.now self.now.hits.now }
+        requires source { source.0 < (graph_of self.now.graph.now).size }
+        requires target { target.0 < (graph_of self.now.graph.now).size }
+        ensures { IsTrue result ↔ ((r : ℕ) → Leaves (nest_of self.now.nest.now) source.0 target.0 r → (nest_of self.now.nest.now).bound r * (potentials_of self.now.part.now).node ((nest_of self.now.nest.now).head r) ≤ (potentials_of self.now.part.now).loop r) }
+    {
+        self.graph.graph_law();
+        let mut round = self.nest.innermost(source);
+        while let Some(region) = round {
+            if self.nest.holds(region, target) {
+                break;
+            }
+            if !self.region_pays(region) {
+                return false;
+            }
+            round = self.nest.parent(region);
+        }
+        true
+    }
+
+    /// The cycles of an edge.
+    fn edge_cost(&self, source: NodeId, target: NodeId) -> u128
+        requires paid { IsPaid self.now.graph.now self.now.nest.now self.now.part.now self.now.hits.now }
+        requires source { source.0 < (graph_of self.now.graph.now).size }
+        requires target { target.0 < (graph_of self.now.graph.now).size }
+        ensures is { result ≡ (costs_at self.now.platform.now self.now.graph.now (counted self.now.hits.now)).edge source.0 target.0 }
+        ensures small { result < 18446744073709551616 }
+    {
+        let node = self.graph.node(source);
+        let hit = self.hits[source.0 as usize];
+        let taken = u64::from(self.graph.node(target).address) != u64::from(node.address) + 4;
+        u128::from(cost(self.platform, &node.ins, !hit, taken))
+    }
+
+    /// Whether a node pays for its edge to the end, where it is an answering one. A return is a change of flow, an ECALL
+    /// is none.
+    fn end_pays(&self, node: NodeId) -> bool
+        requires paid { IsPaid self.now.graph.now self.now.nest.now self.now.part.now self.now.hits.now }
+        requires node { node.0 < (graph_of self.now.graph.now).size }
+        ensures { IsTrue result ↔ (IsTrue ((costs_at self.now.platform.now self.now.graph.now (counted self.now.hits.now)).answers node.0) → (costs_at self.now.platform.now self.now.graph.now (counted self.now.hits.now)).end node.0 ≤ (potentials_of self.now.part.now).node node.0) }
+    {
+        let stand = self.graph.node(node);
+        if stand.kind != Kind::Answer {
+            return true;
+        }
+        let hit = self.hits[node.0 as usize];
+        let cycles = cost(self.platform, &stand.ins, !hit, is_return(&stand.ins));
+        u128::from(cycles) <= self.at_node(node)
+    }
+
+    /// Whether the source of an edge pays for it.
+    fn source_pays(&self, source: NodeId, target: NodeId) -> bool
+        requires paid { IsPaid self.now.graph.now self.now.nest.now self.now.part.now self.now.hits.now }
+        requires source { source.0 < (graph_of self.now.graph.now).size }
+        requires target { target.0 < (graph_of self.now.graph.now).size }
+        ensures { IsTrue result ↔ ((costs_at self.now.platform.now self.now.graph.now (counted self.now.hits.now)).edge source.0 target.0 ≤ (potentials_of self.now.part.now).node source.0) }
+    {
+        at_most(self.edge_cost(source, target), self.at_node(source))
+    }
+
+    /// Whether the source of an edge pays for it and for the item that it leads to.
+    fn inside_pays(&self, source: NodeId, target: NodeId) -> bool
+        requires paid { IsPaid self.now.graph.now self.now.nest.now self.now.part.now self.now.hits.now }
+        requires source { source.0 < (graph_of self.now.graph.now).size }
+        requires target { target.0 < (graph_of self.now.graph.now).size }
+        ensures { IsTrue result ↔ ((i : Item) → IsItem (nest_of self.now.nest.now) target.0 i → (costs_at self.now.platform.now self.now.graph.now (counted self.now.hits.now)).edge source.0 target.0 + item_potential (potentials_of self.now.part.now) i ≤ (potentials_of self.now.part.now).node source.0) }
+    {
+        self.graph.graph_law();
+        let cost = self.edge_cost(source, target) + self.at_item(target);
+        at_most(cost, self.at_node(source))
+    }
+
+    /// Whether a region pays for its turns and for the item that an edge out of it leads to.
+    fn exit_pays(&self, region: u32, target: NodeId) -> bool
+        requires paid { IsPaid self.now.graph.now self.now.nest.now self.now.part.now self.now.hits.now }
+        requires region { region < (nest_of self.now.nest.now).size }
+        requires target { target.0 < (graph_of self.now.graph.now).size }
+        ensures { IsTrue result ↔ ((i : Item) → IsItem (nest_of self.now.nest.now) target.0 i → (nest_of self.now.nest.now).bound region * (potentials_of self.now.part.now).node ((nest_of self.now.nest.now).head region) + item_potential (potentials_of self.now.part.now) i ≤ (potentials_of self.now.part.now).loop region) }
+    {
+        let cost = self.turns(region) + self.at_item(target);
+        at_most(cost, self.at_region(region))
+    }
+
+    /// Whether an edge, what comes after it, and the regions that it leaves are paid for.
+    fn edge_pays(&self, source: NodeId, target: NodeId) -> bool
+        requires paid { IsPaid self.now.graph.now self.now.nest.now self.now.part.now self.now.hits.now }
+        requires source { source.0 < (graph_of self.now.graph.now).size }
+        requires target { target.0 < (graph_of self.now.graph.now).size }
+        ensures { IsTrue result ↔ EdgePaid (nest_of self.now.nest.now) (costs_at self.now.platform.now self.now.graph.now (counted self.now.hits.now)) (potentials_of self.now.part.now) source.0 target.0 }
+    {
+        self.graph.graph_law();
+        if !self.source_pays(source, target) || !self.left_pay(source, target) {
+            return false;
+        }
+        if self.is_back(source, target) {
+            return true;
+        }
+        match self.outermost_left(source, target) {
+            Some(region) => self.exit_pays(region, target),
+            None => self.inside_pays(source, target),
+        }
+    }
+
+    /// Whether the first (0) or second (1) edge of a node is paid for, where there is one.
+    fn place_pays(&self, node: NodeId, k: u8) -> bool
+        requires paid { IsPaid self.now.graph.now self.now.nest.now self.now.part.now self.now.hits.now }
+        requires node { node.0 < (graph_of self.now.graph.now).size }
+        requires place { k < 2 }
+        ensures { IsTrue result ↔ ((v : ℕ) → slice_get ((graph_of self.now.graph.now).next node.0) k ≡ Some v → EdgePaid (nest_of self.now.nest.now) (costs_at self.now.platform.now self.now.graph.now (counted self.now.hits.now)) (potentials_of self.now.part.now) node.0 v) }
+    {
+        match successor(self.graph, node, k) {
+            Some(next) => self.edge_pays(node, next),
+            None => true,
+        }
+    }
+
+    /// Whether all edges of a node are paid for.
+    fn edges_pay(&self, node: NodeId) -> bool
+        requires paid { IsPaid self.now.graph.now self.now.nest.now self.now.part.now self.now.hits.now }
+        requires node { node.0 < (graph_of self.now.graph.now).size }
+        ensures { IsTrue result ↔ ((v : ℕ) → Edge (graph_of self.now.graph.now) node.0 v → EdgePaid (nest_of self.now.nest.now) (costs_at self.now.platform.now self.now.graph.now (counted self.now.hits.now)) (potentials_of self.now.part.now) node.0 v) }
+    {
+        self.graph.graph_law();
+        if !self.place_pays(node, 0) {
+            return false;
+        }
+        self.place_pays(node, 1)
+    }
+
+    /// Whether the region that a node heads, if any, pays for its turns.
+    fn head_pays(&self, node: NodeId) -> bool
+        requires paid { IsPaid self.now.graph.now self.now.nest.now self.now.part.now self.now.hits.now }
+        requires node { node.0 < (graph_of self.now.graph.now).size }
+        ensures { IsTrue result ↔ ((r : ℕ) → r < (nest_of self.now.nest.now).size → (nest_of self.now.nest.now).head r ≡ node.0 → (nest_of self.now.nest.now).bound r * (potentials_of self.now.part.now).node node.0 ≤ (potentials_of self.now.part.now).loop r) }
+    {
+        match self.headed_by(node) {
+            Some(region) => self.region_pays(region),
+            None => true,
+        }
+    }
+
+    /// Whether clause 6 holds at a node.
+    fn node_pays(&self, node: NodeId) -> bool
+        requires paid { IsPaid self.now.graph.now self.now.nest.now self.now.part.now self.now.hits.now }
+        requires node { node.0 < (graph_of self.now.graph.now).size }
+        ensures { IsTrue result ↔ PotentialsMeet (graph_of self.now.graph.now) (nest_of self.now.nest.now) (costs_at self.now.platform.now self.now.graph.now (counted self.now.hits.now)) (potentials_of self.now.part.now) node.0 }
+    {
+        if !self.end_pays(node) || !self.edges_pay(node) {
+            return false;
+        }
+        self.head_pays(node)
+    }
+
+    /// The least node at which clause 6 fails, the number of nodes where there is none. Its time is that of the nodes, and
+    /// of each edge with the regions that it leaves.
+    pub(crate) fn judge_potentials(&self) -> u32
+        requires paid { IsPaid self.now.graph.now self.now.nest.now self.now.part.now self.now.hits.now }
+        ensures { IsLeast (PotentialsMeet (graph_of self.now.graph.now) (nest_of self.now.nest.now) (costs_at self.now.platform.now self.now.graph.now (counted self.now.hits.now)) (potentials_of self.now.part.now)) (graph_of self.now.graph.now).size result }
+    {
+        for node in 0..self.graph.len() {
+            if !self.node_pays(NodeId(node)) {
+                return node;
+            }
+        }
+        self.graph.len()
+    }
+
+    /// Whether clause 7 holds: the bound is at least the potential of the first node's item.
+    pub(crate) fn bound_holds(&self) -> bool
+        requires paid { IsPaid self.now.graph.now self.now.nest.now self.now.part.now self.now.hits.now }
+        ensures { IsTrue result ↔ BoundMeets (graph_of self.now.graph.now) (nest_of self.now.nest.now) (potentials_of self.now.part.now) self.now.part.now.part.bound }
+    {
+        self.graph.graph_law();
+        let part = &self.part.part;
+        at_most(self.at_item(self.graph.first()), u128::from(part.bound))
+    }
+}

@@ -1,0 +1,141 @@
+// Clauses 1, 8 and 9: what a task's part says beside its graph.
+ghost use Rattle.std.specs.Prelude.{◌≡◌, ◌↔◌, ◌<◌, ◌≤◌, ◌^◌, ◌+◌, ℕ, length, slice_index, IsTrue, All};
+ghost use Rattle.crpd_base.specs.Ranges.{IsTaskSet, IsPlatform};
+ghost use Rattle.crpd_base.specs.Tasks.{HasTimes};
+ghost use Rattle.crpd_base.specs.declared.data.TaskPart.{TaskPart};
+ghost use Rattle.flat_graph.specs.CodeGraph.{graph_of, listing};
+ghost use Rattle.loop_regions.specs.TaskGraph.{TaskGraph};
+ghost use Rattle.evict_sets.specs.Answering.{answers_of};
+ghost use Rattle.evict_sets.specs.Longest.{longest};
+ghost use Rattle.delay_count.specs.Demand.{HasLongest};
+ghost use Rattle.cert_check.specs.Verdict.{Holds, Window};
+ghost use Rattle.cert_check.specs.Answered.{IsFound};
+ghost use Rattle.cert_check.specs.Times.{AreLongest, HigherHold, TimesHold};
+
+use crate::least::at_most;
+use crate::outcome::{Failure, at};
+use crpd_base::{Certificate, MOST_TASKS, Platform, Task, TaskSet, Text};
+use delay_count::{demand, growth_law};
+use flat_graph::Graph;
+
+fn are_same(a: &Text, b: &Text) -> bool
+    ensures { IsTrue result ↔ (a.now ≡ b.now) }
+{
+    a.as_str() == b.as_str()
+}
+
+pub(crate) fn are_alike(a: &Platform, b: &Platform) -> bool
+    ensures { IsTrue result ↔ (a.now ≡ b.now) }
+{
+    *a == *b
+}
+
+/// The first failure of clause 1 at a task.
+pub(crate) fn name_failure(set: &TaskSet, certificate: &Certificate, i: usize) -> Option<Failure>
+    requires { i < length set.now.tasks }
+    ensures { (graphs : ℕ → TaskGraph) → IsFound (Holds set.now graphs certificate.now i) 1 1 result }
+{
+    let tasks = set.tasks.as_slice();
+    let parts = certificate.tasks.as_slice();
+    if !are_alike(&certificate.platform, &set.platform) {
+        return at(1, 0);
+    }
+    if parts.len() <= i {
+        return at(1, 1);
+    }
+    let (task, part) = (&tasks[i], &parts[i]);
+    if !are_same(&part.name, &task.name) {
+        return at(1, 2);
+    }
+    if i + 1 == tasks.len() && parts.len() != tasks.len() {
+        return at(1, 3);
+    }
+    None
+}
+
+/// The longest cost of one instruction of a task, 1 to 2^18 cycles.
+fn longest_cost(graph: &Graph, platform: &Platform) -> u64
+    requires { IsPlatform platform.now }
+    ensures is { result ≡ longest platform.now (graph_of graph.now) (listing graph.now) (answers_of graph.now) }
+    ensures some { 1 ≤ result }
+    ensures small { result ≤ 262144 }
+{
+    graph.graph_law();
+    evict_sets::longest(graph, platform)
+}
+
+/// Writes the longest cost of one instruction of each task. Linear in the nodes of all graphs.
+pub(crate) fn write_longest(set: &TaskSet, graphs: &[Graph], longest: &mut [u64])
+    requires platform { IsPlatform set.now.platform }
+    requires graphs { length graphs.now ≡ length set.now.tasks }
+    requires room { length set.now.tasks ≤ length longest.old }
+    ensures each { AreLongest set.now graphs.now longest.new }
+    ensures range { HasLongest set.now longest.new }
+{
+    for k in 0..graphs.len() {
+        longest[k] = longest_cost(&graphs[k], &set.platform);
+    }
+}
+
+/// The times of a task set are in their ranges.
+pub(crate) fn times_law(set: &TaskSet)
+    requires { IsTaskSet set.now }
+    ensures { HasTimes set.now }
+{}
+
+/// Whether clause 8 holds at a task: its window is at least 1, and the demand there is at most the window.
+fn has_room(set: &TaskSet, certificate: &Certificate, longest: &[u64], i: usize) -> bool
+    requires set { IsTaskSet set.now }
+    requires task { i < length set.now.tasks }
+    requires longest { HasLongest set.now longest.now }
+    requires windows { All (λ (t : TaskPart). t.window ≤ 2 ^ 40) certificate.now.tasks }
+    requires higher { HigherHold set.now certificate.now i }
+    ensures { IsTrue result ↔ TimesHold set.now (slice_index longest.now) certificate.now i Window }
+{
+    times_law(set);
+    growth_law();
+    let tasks = certificate.tasks.as_slice();
+    let part = &tasks[i];
+    let mut parts = [part.part; MOST_TASKS];
+    let mut windows = [0; MOST_TASKS];
+    for k in 0..i + 1 {
+        let task = &tasks[k];
+        parts[k] = task.part;
+        windows[k] = task.window;
+    }
+    let window = part.window;
+    let task = Task(i as u8);
+    if window == 0 {
+        return false;
+    }
+    let demand = demand(set, &parts, longest, &windows, task, part.method, window);
+    at_most(demand, u128::from(window))
+}
+
+/// The first failure of clauses 8 and 9 at a task.
+pub(crate) fn time_failure(
+    set: &TaskSet,
+    certificate: &Certificate,
+    longest: &[u64],
+    i: usize,
+) -> Option<Failure>
+    requires set { IsTaskSet set.now }
+    requires task { i < length set.now.tasks }
+    requires longest { HasLongest set.now longest.now }
+    requires windows { All (λ (t : TaskPart). t.window ≤ 2 ^ 40) certificate.now.tasks }
+    requires higher { HigherHold set.now certificate.now i }
+    ensures { IsFound (TimesHold set.now (slice_index longest.now) certificate.now i) 8 9 result }
+{
+    let task = &set.tasks.as_slice()[i];
+    let part = &certificate.tasks.as_slice()[i];
+    if !has_room(set, certificate, longest, i) {
+        return at(8, 0);
+    }
+    if u128::from(part.response) != u128::from(part.window) + u128::from(task.jitter) {
+        return at(9, 0);
+    }
+    if part.response > task.deadline {
+        return at(9, 1);
+    }
+    None
+}
