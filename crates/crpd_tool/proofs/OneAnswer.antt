@@ -16,11 +16,13 @@ use Rattle.crpd_tool.specs.Check.{CheckEnds, judged_in}
 use Rattle.crpd_tool.specs.Graphs.{AreRegionsOrNot, GraphAt, GraphsIn, RegionsAt, RegionsIn, loop_refusal, name_at}
 use Rattle.crpd_tool.specs.Out.{Ends, IsAnswer, IsOut, OneAnswer, bad_words, settled}
 use Rattle.crpd_tool.specs.Reading.{input_in}
+use Rattle.crpd_tool.specs.Sets.{SetsEnds, TextOf}
 use Rattle.crpd_tool.specs.Shapes.{ShapesIn}
 use Rattle.crpd_tool.specs.Steps.{EachBelow, Exactly, Then}
-use Rattle.crpd_tool.specs.Words.{Command, check, list, simulate, command_of}
+use Rattle.crpd_tool.specs.Words.{Command, check, list, simulate, sets, command_of}
 use Rattle.crpd_tool.proofs.OneGraph.{one_graph_at}
 use Rattle.crpd_tool.proofs.OneNest.{not_refused, one_loop_error}
+use Rattle.crpd_tool.proofs.OneText.{one_text}
 
 -- ---- a step that is refused in one way
 
@@ -153,6 +155,9 @@ module _ {A B : Type 0} (P : Result A Refusal → Type 0) (next : A → Result B
   then_one r s (inr a) (inl b) = absurd (once.exclusive b.0 a.0 b.1 a.1)
   then_one r s (inr a) (inr b) = a.2 ∙ ap (λ e. Err e) (once.one a.0 b.0 a.1 b.1) ∙ sym b.2
 
+same_input : (x y : Input) → ◌≡◌ {A = Result Input Refusal} (Ok y) (Ok x) → y ≡ x
+same_input x y e = cc
+
 module _ (contents : Contents) (set certificate : List ℕ) where
   abbrev Rest : Input → Result Answer Refusal → Type 0
   Rest input = Then (ShapesIn input) (λ shapes. Exactly (judged_in contents set certificate input))
@@ -160,18 +165,30 @@ module _ (contents : Contents) (set certificate : List ℕ) where
   rest_end : (input : Input) (r s : Result Answer Refusal) → Rest input r → Rest input s → r ≡ s
   rest_end input = then_one (ShapesIn input) (λ shapes. Exactly (judged_in contents set certificate input)) (shapes_once input) (λ x y a b r s e f. sym e ∙ f)
 
-  same_input : (x y : Input) → ◌≡◌ {A = Result Input Refusal} (Ok y) (Ok x) → y ≡ x
-  same_input x y e = cc
-
   check_end : (r s : Result Answer Refusal) → CheckEnds contents set certificate r → CheckEnds contents set certificate s → r ≡ s
   check_end =
       then_one (Exactly (input_in contents set)) Rest (exactly_once (input_in contents set))
       (λ x y a b r s e f. rest_end x r s e (subst (λ input. Rest input s) (same_input x y (sym b ∙ a)) f))
 
+module _ (contents : Contents) (set : List ℕ) where
+  abbrev Texts : Input → Result Answer Refusal → Type 0
+  Texts input = Then (GraphsIn input) (TextOf input)
+
+  texts_end : (input : Input) (r s : Result Answer Refusal) → Texts input r → Texts input s → r ≡ s
+  texts_end input =
+      then_one (GraphsIn input) (TextOf input) (each_once (GraphAt input) (graph_once input) (length input.set.tasks))
+      (λ x y a b r s e f. one_text input x r s e (subst (λ graphs. TextOf input graphs s) (sym (graphs_same input x y a b)) f))
+
+  sets_end : (r s : Result Answer Refusal) → SetsEnds contents set r → SetsEnds contents set s → r ≡ s
+  sets_end =
+      then_one (Exactly (input_in contents set)) Texts (exactly_once (input_in contents set))
+      (λ x y a b r s e f. texts_end x r s e (subst (λ input. Texts input s) (same_input x y (sym b ∙ a)) f))
+
 one_end : (command : Command) (contents : Contents) (r s : Result Answer Refusal) → Ends command contents r → Ends command contents s → r ≡ s
 one_end (check set certificate) contents r s a b = check_end contents set certificate r s a b
 one_end (list set name) contents r s a b = sym a ∙ b
 one_end (simulate set script) contents r s a b = sym a ∙ b
+one_end (sets set) contents r s a b = sets_end contents set r s a b
 
 one_for : (o : Option Command) (contents : Contents) (one other : Answer) → MatchOption o (one ≡ bad_words) (λ command. IsAnswer contents command one) → MatchOption o (other ≡ bad_words) (λ command. IsAnswer contents command other) → one ≡ other
 one_for None contents one other a b = a ∙ sym b
