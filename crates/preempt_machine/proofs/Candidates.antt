@@ -149,3 +149,6 @@ none_from sys m unready (Some y) e = absurd (unready y (candidate_ready sys m y 
 
 pub no_candidate_law : NoCandidateLaw
 no_candidate_law sys m = (says sys m None, λ unready. none_from sys m unready (candidate sys m) refl)
+
+pub none_candidate : (sys : System) (m : Machine) → ((x : ℕ) → is_ready m.time (job_at m.jobs x) ≡ false) → candidate sys m ≡ None
+none_candidate sys m none = (no_candidate_law sys m).1 (λ x r. false≢true (sym (none x) ∙ tests_ready m x r))

@@ -216,23 +216,7 @@ waits_after lines due later heads jobs new i eq d k h o same line w =
           rw (f, line) (waits_over lines due later heads jobs new i eq d k h same f w)
     ]
 
--- without a ready job a state is kept
-pub kept_none : (sets : ℕ) (m : Machine) (due : List (ℕ × ℕ)) (later heads : List ℕ) (from to : ℕ) (cs new : List Completion) → IsKept sets m due later heads from cs → AreReleased due m.time from to cs new → IsKept sets (record m { time = suc m.time }) due later heads to new
-kept_none sets m due later heads from to cs new k r =
-    let next = up_to_next (lines_of m.jobs) due m.time from to cs new k.due k.released r in
-    record {
-      room = k.room;
-      due = k.due;
-      linked = k.linked;
-      waiting = k.waiting;
-      released = next;
-      over = λ x a b. omega (arith, k.over x a b);
-      told = r.opens.long ∙ k.told;
-      completions = told_next m due from to cs new k.due k.released next k.over r.opens k.completions;
-      owner = k.owner;
-    }
-
--- and after the step of a job
+-- a state is kept after the step of a job
 pub kept_some : (sys : System) (sets : ℕ) (m : Machine) (due : List (ℕ × ℕ)) (later heads : List ℕ) (from to : ℕ) (cs new : List Completion) (i : ℕ) → IsKept sets m due later heads from cs → candidate sys m ≡ Some i → IsHead m.jobs due heads i → AreReleased due m.time from to cs new → IsKept sets (step sys m) due later (heads_after (step sys m).jobs later heads i) to (completions_after (step sys m).jobs new i)
 kept_some sys sets m due later heads from to cs new i k e h r =
     let m' = step sys m in

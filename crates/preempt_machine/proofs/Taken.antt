@@ -1,5 +1,5 @@
 -- The state after a step's parts, put together.
-use Rattle.std.proofs.Common.{◌≡◌, ℕ, suc, ◌<◌, List, length, Some, refl, sym, ◌∙◌, ap, subst, arith}
+use Rattle.std.proofs.Common.{◌≡◌, ℕ, suc, ◌<◌, List, length, Some, sym, ◌∙◌, ap, subst, arith}
 use Rattle.std.specs.Prelude.{slice_index}
 use Rattle.icache.specs.declared.Geometry.{Geometry}
 use Rattle.crpd_base.specs.declared.data.ScriptJob.{ScriptJob}
@@ -9,21 +9,12 @@ use Rattle.preempt_machine.specs.declared.queue.Queue.{Queue}
 use Rattle.preempt_machine.specs.Machine.{System, Job, Machine, job_at}
 use Rattle.preempt_machine.specs.Step.{candidate, step, step_by}
 use Rattle.preempt_machine.specs.Kept.{machine_of, place_at, heads_after, completions_after, AreReleased, HasPassed, HasSettled, HasTurned, IsHead, IsKept, IsMachine}
-use Rattle.preempt_machine.proofs.Stepping.{kept_none, kept_some}
+use Rattle.preempt_machine.proofs.Stepping.{kept_some}
 use Rattle.preempt_machine.proofs.Steps.{step_length, step_line}
 
 -- equal parts are kept alike
 pub kept_along : (sets other_sets : ℕ) (m n : Machine) (due order : List (ℕ × ℕ)) (later links heads firsts : List ℕ) (count number : ℕ) (cs ds : List Completion) → other_sets ≡ sets → n ≡ m → order ≡ due → links ≡ later → firsts ≡ heads → number ≡ count → ds ≡ cs → IsKept sets m due later heads count cs → IsKept other_sets n order links firsts number ds
 kept_along sets other_sets m n due order later links heads firsts count number cs ds a b c d e f g k = rw (a, b, c, d, e, f, g) k
-
-pub idle_kept : (old new : Parts) → IsMachine old → HasPassed old new → IsMachine new
-idle_kept old new k p =
-    kept_along old.core.geometry.platform.sets new.core.geometry.platform.sets
-    (record (machine_of old) { time = suc old.steps }) (machine_of new)
-    old.queue.due.items new.queue.due.items old.queue.later.items new.queue.later.items old.queue.heads.items new.queue.heads.items
-    new.queue.released new.queue.released new.completions.items new.completions.items
-    (ap (λ (g : Geometry). g.platform.sets) p.geometry) p.state p.due p.later p.heads refl refl
-    (kept_none old.core.geometry.platform.sets (machine_of old) old.queue.due.items old.queue.later.items old.queue.heads.items old.queue.released new.queue.released old.completions.items new.completions.items k p.released)
 
 pub taken_state : (sys : System) (old turn pass : Parts) (place : ℕ) → candidate sys (machine_of old) ≡ Some place → HasTurned sys old turn place → HasPassed turn pass → machine_of pass ≡ step sys (machine_of old)
 taken_state sys old turn pass place e t p =

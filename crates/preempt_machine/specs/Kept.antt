@@ -2,13 +2,14 @@
 use Rattle.std.specs.Prelude.{◌≡◌, ◌≢◌, ℕ, suc, ◌+◌, ◌<◌, ◌≤◌, ◌⊎◌, Bool, true, false, if◌then◌else◌, length, map, List, slice_index, slice_index_or, slice_set, Option, Some, None, option_map}
 use Rattle.crpd_base.specs.declared.data.ScriptJob.{ScriptJob}
 use Rattle.crpd_base.specs.declared.data.Switching.{Switching}
+use Rattle.code_map.specs.Words.{Code}
 use Rattle.preempt_machine.specs.declared.Completion.{Completion}
 use Rattle.preempt_machine.specs.declared.End.TheVariants as «end»
 use Rattle.preempt_machine.specs.declared.parts.Parts.{Parts}
 use Rattle.preempt_machine.specs.Machine.{System, Job, Machine, job_at, no_job}
-use Rattle.preempt_machine.specs.Step.{is_open, keeps_core, placed, turned, turn_of, fetch, fetch_by, step}
+use Rattle.preempt_machine.specs.Step.{is_open, is_ready, keeps_core, placed, turned, turn_of, fetch, fetch_by, step}
 use Rattle.preempt_machine.specs.Jobs.{shown}
-use Rattle.preempt_machine.specs.Running.{Running, completion_at, fetch_told}
+use Rattle.preempt_machine.specs.Running.{Running, completion_at, fetch_told, stepped_by}
 
 -- the release and the place of the job at a position of the order by release
 abbrev pub release_at : List (ℕ × ℕ) → ℕ → ℕ
@@ -93,6 +94,16 @@ pub record IsUpTo (due : List (ℕ × ℕ)) (time released : ℕ) : Type 0 where
   pub within : released ≤ length due
   pub before : (p : ℕ) → p < released → release_at due p < time
   pub after : (p : ℕ) → released ≤ p → p < length due → time ≤ release_at due p
+
+-- no job is ready at a time
+abbrev pub NoneIsReady : ℕ → List Job → Type 0
+NoneIsReady time jobs = (x : ℕ) → is_ready time (job_at jobs x) ≡ false
+
+-- the release at a position, or a cycle where none comes before it
+pub record IsNextRelease (due : List (ℕ × ℕ)) (released until time : ℕ) : Type 0 where
+  pub within : time ≤ until
+  pub before : released < length due → time ≤ release_at due released
+  pub one : (time ≡ until) ⊎ ((released < length due) × (time ≡ release_at due released))
 
 -- the lines of jobs
 abbrev pub lines_of : List Job → List ScriptJob
@@ -208,3 +219,10 @@ pub record HasStepped (sys : System) (old new : Parts) : Type 0 where
   pub state : machine_of new ≡ step sys (machine_of old)
   pub fetch : new.fetch ≡ option_map (fetch_told sys (machine_of old)) (fetch sys (machine_of old))
   pub geometry : new.core.geometry ≡ old.core.geometry
+
+-- some steps were made, none of them past a cycle
+pub record HasMade (code : Code) (cycle : ℕ) (old new : Running) : Type 0 where
+  pub made : ℕ
+  pub some : 1 ≤ made
+  pub within : old.state.time + made ≤ cycle
+  pub state : new ≡ stepped_by made code old

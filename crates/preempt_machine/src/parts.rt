@@ -1,9 +1,10 @@
 // The machine's parts, and its step.
 ghost use Rattle.std.specs.Prelude.{◌≡◌, ℕ, ◌+◌, ◌<◌, ◌^◌, if◌then◌else◌, length, slice_index, Some, None, option_map, IfSome, OnOk, OnErr};
+ghost use Rattle.code_map.specs.Words.{Code};
 ghost use Rattle.preempt_machine.specs.Machine.{System, Open, job_at};
 ghost use Rattle.preempt_machine.specs.Step.{candidate, keeps_core, turn_of};
 ghost use Rattle.preempt_machine.specs.Running.{system_by, GivesStore, HasPlan, HasPlans, IsStoreNow};
-ghost use Rattle.preempt_machine.specs.Kept.{machine_of, owner_keeps, place_at, HasPassed, HasSettled, HasStepped, HasTurned, IsHead, IsMachine, IsSame};
+ghost use Rattle.preempt_machine.specs.Kept.{machine_of, owner_keeps, place_at, running_of, HasMade, HasPassed, HasSettled, HasStepped, HasTurned, IsHead, IsMachine, IsSame, NoneIsReady};
 
 use crate::jobs::{Core, Job};
 use crate::queue::Queue;
@@ -165,16 +166,17 @@ impl Parts {
         self.steps += 1;
     }
 
-    /// A step in which no job is ready.
-    fn idle(&mut self)
+    /// The steps up to the next release where no job is ready, none of them past a cycle.
+    fn idle(&mut self, until: u64)
         requires machine { IsMachine self.old }
-        requires later { self.old.steps + 1 < 2 ^ 64 }
-        ensures step { (sys : System) → candidate sys (machine_of self.old) ≡ None → HasStepped sys self.old self.new }
-        ensures machine { (sys : System) → candidate sys (machine_of self.old) ≡ None → IsMachine self.new }
+        requires idle { NoneIsReady self.old.steps self.old.jobs.items }
+        requires before { self.old.steps < until }
+        ensures made { (code : Code) → HasMade code until (running_of self.old) (running_of self.new) }
+        ensures machine { IsMachine self.new }
         ensures jobs { self.new.jobs.items ≡ self.old.jobs.items }
     {
         self.fetch = None;
-        self.pass();
+        self.steps = self.queue.next_release(until);
     }
 
     /// A step of a job. After an error all is as before.
@@ -196,12 +198,13 @@ impl Parts {
         Ok(())
     }
 
-    /// One step. After an error all is as before.
-    pub(crate) fn step(&mut self, code: &CodeMap) -> Result<(), Memory>
+    /// One step of a job, or where no job is ready the steps up to the next release, none of them past a cycle. After an
+    /// error all is as before.
+    pub(crate) fn advance(&mut self, code: &CodeMap, until: u64) -> Result<(), Memory>
         requires machine { IsMachine self.old }
         requires plans { HasPlans code.now (machine_of self.old) }
-        requires later { self.old.steps + 1 < 2 ^ 64 }
-        ensures ok { OnOk result (HasStepped (system_by self.old.core.geometry.platform code.now) self.old self.new) }
+        requires before { self.old.steps < until }
+        ensures ok { OnOk result (HasMade code.now until (running_of self.old) (running_of self.new)) }
         ensures machine { OnOk result (IsMachine self.new) }
         ensures plans { OnOk result (HasPlans code.now (machine_of self.new)) }
         ensures err { OnErr result (IsSame self.old self.new) }
@@ -210,7 +213,7 @@ impl Parts {
         match self.candidate() {
             Some(place) => self.take(code, place),
             None => {
-                self.idle();
+                self.idle(until);
                 Ok(())
             }
         }

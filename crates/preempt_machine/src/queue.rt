@@ -1,7 +1,7 @@
 // The order in which the jobs of a script come to the core.
 
 ghost use Rattle.std.specs.Prelude.{◌≡◌, ℕ, ◌+◌, ◌<◌, ◌≤◌, length, replicate, slice_index, slice_set, IfOk, MatchOption};
-ghost use Rattle.preempt_machine.specs.Kept.{line_at, release_at, place_at, AreListed, IsDue, IsLinked, IsFirstFrom, IsFirstCome, NoneHasCome, HasOpened};
+ghost use Rattle.preempt_machine.specs.Kept.{line_at, release_at, place_at, AreListed, IsDue, IsLinked, IsFirstFrom, IsFirstCome, NoneHasCome, HasOpened, IsNextRelease};
 
 use crate::{Completion, End};
 use crpd_base::{Memory, ScriptJob, Task};
@@ -101,6 +101,17 @@ impl Queue {
             }
         }
         None
+    }
+
+    /// The release of the first job that is not told to be open, or a cycle where none comes before it.
+    pub(crate) fn next_release(&self, until: u64) -> u64
+        ensures { IsNextRelease self.now.due.items self.now.released until result }
+    {
+        if self.released < self.due.len() && self.due[self.released].0 < until {
+            self.due[self.released].0
+        } else {
+            until
+        }
     }
 
     /// The first job of a task is over.

@@ -132,7 +132,7 @@ impl Machine {
     ghost use Rattle.preempt_machine.specs.Starts.{start_cache, start_memory};
     ghost use Rattle.preempt_machine.specs.Running.{completion_at, job_id, start_of, stepped, stepped_by, system_by, GivesStore, HasPlans, IsAt, StopsAtStore};
     ghost use Rattle.preempt_machine.specs.Machine.{job_at};
-    ghost use Rattle.preempt_machine.specs.Kept.{completion};
+    ghost use Rattle.preempt_machine.specs.Kept.{completion, HasMade};
 
     /// The machine at the start of a run of a script, from any cache and data memory: no owner, and all jobs
     /// unreleased. It makes all the room that steps fill, but that of the data memory.
@@ -204,6 +204,19 @@ impl Machine {
         Machine::new(alloc, code, set, script, cache, memory)
     }
 
+    /// One step of a job, or where no job is ready the steps up to the next release, none of them past a cycle. After an
+    /// error all is as before.
+    fn advance(&mut self, code: &CodeMap, cycle: u64) -> Result<(), Memory>
+        requires before { self.old.state.time < cycle }
+        requires plans { HasPlans code.now self.old.state }
+        ensures ok { OnOk result (HasMade code.now cycle self.old self.new) }
+        ensures plans { HasPlans code.now self.new.state }
+        ensures err { OnErr result (self.new ≡ self.old) }
+        ensures only { OnErr result (GivesStore (system_by self.old.platform code.now) self.old.state) }
+    {
+        self.parts.advance(code, cycle)
+    }
+
     /// One step: the next cycle. Fewer than 2^64 - 1 steps were made, and each job's task has a plan with as many
     /// stated loops as at the start.
     ///
@@ -217,13 +230,15 @@ impl Machine {
         ensures err { OnErr result (self.new ≡ self.old) }
         ensures only { OnErr result (GivesStore (system_by self.old.platform code.now) self.old.state) }
     {
-        self.parts.step(code)
+        self.advance(code, self.steps() + 1)
     }
 
     /// Makes steps until a cycle, and none where the machine stands at or past it. Each job's task has a plan with as
     /// many stated loops as at the start.
     ///
-    /// After `Memory` the machine stands after some of these steps, before one that gives a store its effect.
+    /// After `Memory` the machine stands after some of these steps, before one that gives a store its effect. Where no job
+    /// is ready the machine goes at once to the next release. So its time is that of `cycle` for each cycle in which a job
+    /// is ready, and once a look at each task's first waiting job for each stretch of cycles in which none is.
     pub fn run_until(&mut self, code: &CodeMap, cycle: u64) -> Result<(), Memory>
         requires plans { HasPlans code.now self.old.state }
         ensures ok { OnOk result (self.new ≡ stepped_by (cycle - self.old.state.time) code.now self.old) }
@@ -231,7 +246,7 @@ impl Machine {
         ensures err { OnErr result (StopsAtStore code.now (cycle - self.old.state.time) self.old self.new) }
     {
         while self.steps() < cycle {
-            self.cycle(code)?;
+            self.advance(code, cycle)?;
         }
         Ok(())
     }

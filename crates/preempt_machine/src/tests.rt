@@ -1,13 +1,15 @@
 ghost use Rattle.std.specs.Prelude.{◌≡◌, ◌<◌, ◌≤◌, [], length, All, IfOk, IsTrue, vec_len};
 ghost use Rattle.crpd_base.specs.Images.{IsImage};
+ghost use Rattle.preempt_machine.specs.Running.{HasPlans};
 ghost use Rattle.preempt_machine.specs.Safe.{NamesTasks};
 
-use crate::{Completion, End, Machine};
+use crate::{Completion, End, Fetch, Machine};
 use code_map::{CodeMap, MapError};
 use crpd_base::{
-    Image, Items, LoopSpec, Place, Platform, Script, ScriptJob, Segment, Switching, Task, TaskSet,
-    TaskSpec, Text,
+    Image, Items, JobId, LoopSpec, Place, Platform, Script, ScriptJob, Segment, Switching, Task,
+    TaskSet, TaskSpec, Text,
 };
+use icache::Access;
 use std::alloc::{AllocError, Global};
 use std::process::Abort;
 use std::test::Fail;
@@ -30,6 +32,17 @@ struct Case {
     cycles: u64,
     jobs: &'static [(u8, u64, End)],
     kept: bool,
+}
+
+// What is seen after each cycle of a stretch, which ends when so many cycles were made: the owner, the pc of the low job
+// and of the high one, the fetch of the cycle, and how the two jobs stand.
+#[derive(Clone, Copy)]
+struct Stretch {
+    until: u64,
+    owner: JobId,
+    pcs: [u32; 2],
+    fetch: Option<(JobId, u32, Access)>,
+    ends: [End; 2],
 }
 
 // `addi x5,x0,1` and `ecall`.
@@ -164,7 +177,7 @@ const ALONE: Case = Case {
     kept: true,
 };
 
-const CASES: [Case; 19] = [
+const CASES: [Case; 21] = [
     Case {
         programs: &LOOP,
         jobs: &[(0, 0, End::Answered(27))],
@@ -181,11 +194,7 @@ const CASES: [Case; 19] = [
         jobs: &[(1, 0, End::Answered(49)), (0, 16, End::Answered(33))],
         ..ALONE
     },
-    Case {
-        programs: &PAIR,
-        jobs: &[(1, 0, End::Answered(49)), (0, 15, End::Answered(32))],
-        ..ALONE
-    },
+    INTERRUPTED,
     Case {
         programs: &THREE,
         cycles: 1000,
@@ -264,6 +273,25 @@ const CASES: [Case; 19] = [
         jobs: &[(1, 0, End::Answered(49)), (0, 6, End::Answered(23))],
         ..ALONE
     },
+    // long stretches in which no job is ready
+    Case {
+        cycles: 1_099_511_627_776,
+        jobs: &[(0, 1_000_000_000_000, End::Answered(1_000_000_000_017))],
+        ..ALONE
+    },
+    Case {
+        programs: &PAIR,
+        cycles: 1_099_511_627_776,
+        jobs: &[
+            (1, 0, End::Answered(17)),
+            (0, 400_000_000_000, End::Answered(400_000_000_017)),
+            (1, 549_755_813_888, End::Answered(549_755_813_913)),
+            (0, 549_755_813_889, End::Answered(549_755_813_896)),
+            (1, 1_099_511_627_775, End::Open),
+            (0, 1_099_511_627_776, End::Unreleased),
+        ],
+        ..ALONE
+    },
     // jobs of one task out of the order of their releases, two of them at once
     Case {
         jobs: &[
@@ -274,6 +302,130 @@ const CASES: [Case; 19] = [
             (0, 99, End::Open),
         ],
         ..ALONE
+    },
+];
+
+// The low job is interrupted in the last cycle of its first instruction.
+const INTERRUPTED: Case = Case {
+    programs: &PAIR,
+    jobs: &[(1, 0, End::Answered(49)), (0, 15, End::Answered(32))],
+    ..ALONE
+};
+
+const LOW_JOB: JobId = JobId {
+    task: Task(1),
+    number: 0,
+};
+
+const HIGH_JOB: JobId = JobId {
+    task: Task(0),
+    number: 0,
+};
+
+const STRETCHES: [Stretch; 14] = [
+    // the switch to the low job
+    Stretch {
+        until: 5,
+        owner: LOW_JOB,
+        pcs: [0x1000, 0x2000],
+        fetch: None,
+        ends: [End::Open, End::Unreleased],
+    },
+    // its first instruction: a miss and ten cycles more, of which the last is kept from it
+    Stretch {
+        until: 6,
+        owner: LOW_JOB,
+        pcs: [0x1000, 0x2000],
+        fetch: Some((LOW_JOB, 0x1000, Access::Miss)),
+        ends: [End::Open, End::Unreleased],
+    },
+    Stretch {
+        until: 15,
+        owner: LOW_JOB,
+        pcs: [0x1000, 0x2000],
+        fetch: None,
+        ends: [End::Open, End::Unreleased],
+    },
+    // the switch to the high job, its first instruction, and its second, a hit that answers
+    Stretch {
+        until: 20,
+        owner: HIGH_JOB,
+        pcs: [0x1000, 0x2000],
+        fetch: None,
+        ends: [End::Open, End::Open],
+    },
+    Stretch {
+        until: 21,
+        owner: HIGH_JOB,
+        pcs: [0x1000, 0x2000],
+        fetch: Some((HIGH_JOB, 0x2000, Access::Miss)),
+        ends: [End::Open, End::Open],
+    },
+    Stretch {
+        until: 30,
+        owner: HIGH_JOB,
+        pcs: [0x1000, 0x2000],
+        fetch: None,
+        ends: [End::Open, End::Open],
+    },
+    Stretch {
+        until: 31,
+        owner: HIGH_JOB,
+        pcs: [0x1000, 0x2004],
+        fetch: None,
+        ends: [End::Open, End::Open],
+    },
+    Stretch {
+        until: 32,
+        owner: HIGH_JOB,
+        pcs: [0x1000, 0x2004],
+        fetch: Some((HIGH_JOB, 0x2004, Access::Hit)),
+        ends: [End::Open, End::Answered(32)],
+    },
+    // the switch back, and the cycle that was left, without a fetch
+    Stretch {
+        until: 37,
+        owner: LOW_JOB,
+        pcs: [0x1000, 0x2004],
+        fetch: None,
+        ends: [End::Open, End::Answered(32)],
+    },
+    Stretch {
+        until: 38,
+        owner: LOW_JOB,
+        pcs: [0x1004, 0x2004],
+        fetch: None,
+        ends: [End::Open, End::Answered(32)],
+    },
+    // the second instruction: the high job took the block from the cache
+    Stretch {
+        until: 39,
+        owner: LOW_JOB,
+        pcs: [0x1004, 0x2004],
+        fetch: Some((LOW_JOB, 0x1004, Access::Miss)),
+        ends: [End::Open, End::Answered(32)],
+    },
+    Stretch {
+        until: 48,
+        owner: LOW_JOB,
+        pcs: [0x1004, 0x2004],
+        fetch: None,
+        ends: [End::Open, End::Answered(32)],
+    },
+    Stretch {
+        until: 49,
+        owner: LOW_JOB,
+        pcs: [0x1004, 0x2004],
+        fetch: None,
+        ends: [End::Answered(49), End::Answered(32)],
+    },
+    // no job is ready, and the owner stays
+    Stretch {
+        until: 55,
+        owner: LOW_JOB,
+        pcs: [0x1004, 0x2004],
+        fetch: None,
+        ends: [End::Answered(49), End::Answered(32)],
     },
 ];
 
@@ -418,8 +570,16 @@ fn are_named(set: &TaskSet, script: &Script) -> bool
     true
 }
 
-// Runs a case, and compares what comes of it.
-fn compare(rt: &impl Abort, alloc: Global, case: &Case) -> Result<(), Fail> {
+// A code map and a machine at the start of a script over it.
+struct Loaded {
+    code: CodeMap,
+    machine: Machine,
+}
+
+// The machine at the start of a case.
+fn load(rt: &impl Abort, alloc: Global, case: &Case) -> Result<Loaded, Fail>
+    ensures { IfOk result (λ l. HasPlans l.code l.machine.state) }
+{
     assert!(rt; case.programs.len() <= 256);
     let tasks = tasks(alloc, case.programs)?;
     let images = images(alloc, case.programs)?;
@@ -431,7 +591,13 @@ fn compare(rt: &impl Abort, alloc: Global, case: &Case) -> Result<(), Fail> {
     let script = script(alloc, case)?;
     assert!(rt; are_named(&set, &script));
     assert!(rt; script.jobs.as_slice().len() <= 100);
-    let mut machine = Machine::load(alloc, &code, &set, &script)?;
+    let machine = Machine::load(alloc, &code, &set, &script)?;
+    Ok(Loaded { code, machine })
+}
+
+// Runs a case, and compares what comes of it.
+fn compare(rt: &impl Abort, alloc: Global, case: &Case) -> Result<(), Fail> {
+    let Loaded { code, mut machine } = load(rt, alloc, case)?;
     machine.run_until(&code, case.cycles / 2)?;
     machine.run_until(&code, case.cycles)?;
     assert_eq!(rt; machine.steps(), case.cycles);
@@ -447,6 +613,81 @@ fn compare_ends(rt: &impl Abort, completions: &[Completion], jobs: &[(u8, u64, E
         assert_eq!(rt; completions[place].job.task, Task(task));
         assert_eq!(rt; completions[place].end, end, "release {release}");
     }
+}
+
+// The pc of the job at a place of the script.
+fn pc_at(machine: &Machine, place: usize) -> u32
+    requires { place < length machine.now.state.jobs }
+{
+    let job = machine.completions()[place].job;
+    machine.pc(job)
+}
+
+// Compares what is seen of the two jobs and of the last cycle.
+fn compare_sight(rt: &impl Abort, machine: &Machine, stretch: &Stretch) {
+    let steps = machine.steps();
+    assert_eq!(rt; machine.owner(), Some(stretch.owner), "after {steps}");
+    let fetch = match stretch.fetch {
+        Some((job, address, access)) => Some(Fetch {
+            job,
+            address,
+            access,
+        }),
+        None => None,
+    };
+    assert_eq!(rt; machine.last_fetch(), fetch, "after {steps}");
+    let completions = machine.completions();
+    assert_eq!(rt; completions.len(), 2);
+    for (place, job) in [LOW_JOB, HIGH_JOB].iter().enumerate() {
+        assert_eq!(rt; completions[place].job, *job);
+        assert_eq!(rt;
+            completions[place].end,
+            stretch.ends[place],
+            "after {steps}"
+        );
+        assert_eq!(rt; pc_at(machine, place), stretch.pcs[place], "after {steps}");
+    }
+}
+
+// Makes the cycles of a stretch by themselves, and compares after each.
+fn pass(
+    rt: &impl Abort,
+    machine: &mut Machine,
+    code: &CodeMap,
+    stretch: &Stretch,
+) -> Result<(), Fail>
+    requires { HasPlans code.now machine.old.state }
+    ensures { HasPlans code.now machine.new.state }
+{
+    for step in machine.steps()..stretch.until {
+        assert_eq!(rt; machine.steps(), step);
+        machine.cycle(code)?;
+        assert_eq!(rt; machine.steps(), step + 1);
+        compare_sight(rt, machine, stretch);
+    }
+    Ok(())
+}
+
+// Makes the cycles of all stretches, one after another.
+fn pass_all(rt: &impl Abort, machine: &mut Machine, code: &CodeMap) -> Result<(), Fail>
+    requires { HasPlans code.now machine.old.state }
+{
+    for stretch in &STRETCHES {
+        pass(rt, machine, code, stretch)?;
+        assert_eq!(rt; machine.steps(), stretch.until);
+    }
+    Ok(())
+}
+
+#[test]
+fn interrupted_instruction(rt: HostRuntime) -> Result<(), Fail> {
+    let Loaded { code, mut machine } = load(&rt, rt.alloc(), &INTERRUPTED)?;
+    assert_eq!(rt; machine.steps(), 0);
+    assert_eq!(rt; machine.owner(), None);
+    assert_eq!(rt; machine.last_fetch(), None);
+    pass_all(&rt, &mut machine, &code)?;
+    compare_ends(&rt, machine.completions(), INTERRUPTED.jobs);
+    Ok(())
 }
 
 #[test]
