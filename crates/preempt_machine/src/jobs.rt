@@ -12,12 +12,13 @@ ghost use Rattle.preempt_machine.specs.Running.{access_by, system_by, HasPlan, I
 ghost use Rattle.preempt_machine.specs.Jobs.{found_by, shown, turn_by};
 
 use crate::End;
+use crate::decoded::Decoded;
 use code_map::CodeMap;
 use crpd_base::{Memory, SETS, ScriptJob, Task, TaskPlan};
 use flow_watch::Watch;
 use icache::{Access, Cache, Geometry};
 use rv_core::{DataMemory, Next, Regs, effect, next_pc};
-use rv_decode::{Ins, cost, decode};
+use rv_decode::{Ins, cost};
 use std::alloc::Global;
 use std::marker::Model;
 
@@ -44,12 +45,13 @@ pub(crate) struct Job {
     standing: Standing,
 }
 
-/// The core's cache and the data memory.
+/// The core's cache, the data memory, and the instructions that are kept decoded.
 #[derive(Drop)]
 pub(crate) struct Core {
     pub(crate) geometry: Geometry,
     pub(crate) cache: Cache<SETS>,
     pub(crate) memory: DataMemory,
+    pub(crate) decoded: Decoded,
 }
 
 impl Model for Job {
@@ -245,11 +247,11 @@ impl Job {
 
 /// The instruction at an address, unless a fetch faults there.
 #[tactic(auto, unfolding(crate::specs::Machine::ins_at))]
-fn instruction(code: &CodeMap, address: u32) -> Option<Ins>
+fn instruction(decoded: &mut Decoded, code: &CodeMap, address: u32) -> Option<Ins>
     ensures is { (platform : Platform) → result ≡ ins_at (system_by platform code.now) address }
     ensures in_range { IfSome result IsInRange }
 {
-    match decode(code.word(address)?) {
+    match decoded.meaning(code.word(address)?, address) {
         Some(Ins::Ebreak) => None,
         found => found,
     }
@@ -326,7 +328,7 @@ impl Core {
         ensures err { OnErr result ((job.new ≡ job.old) × (self.new ≡ self.old)) }
         ensures store { OnErr result (IsStoreNow (system_by self.old.geometry.platform code.now) (turn_by self.old.cache self.old.memory 0 job.old)) }
     {
-        match instruction(code, job.pc()) {
+        match instruction(&mut self.decoded, code, job.pc()) {
             Some(ins) => self.execute(job, code.plan(job.task()), &ins, now),
             None => {
                 job.fault();

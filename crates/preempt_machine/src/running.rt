@@ -5,6 +5,7 @@ ghost use Rattle.preempt_machine.specs.Machine.{System, job_at, new_job, number_
 ghost use Rattle.preempt_machine.specs.Running.{HasPlan};
 ghost use Rattle.preempt_machine.specs.Kept.{line_at, completion};
 
+use crate::decoded::Decoded;
 use crate::jobs::{Core, Job};
 use crate::parts::Parts;
 use crate::queue::Queue;
@@ -163,12 +164,14 @@ impl Machine {
         let jobs = start_jobs(alloc, code, lines)?;
         let completions = start_completions(alloc, lines, tasks)?;
         let queue = Queue::new(alloc, lines, tasks)?;
+        let decoded = Decoded::new(alloc)?;
         let geometry = Geometry::new(&set.platform);
         let parts = Parts {
             core: Core {
                 geometry,
                 cache,
                 memory,
+                decoded,
             },
             steps: 0,
             owner: None,

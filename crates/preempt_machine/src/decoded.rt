@@ -1,0 +1,66 @@
+// The instructions of words that were met, so that a loop's words are decoded once.
+ghost use Rattle.std.specs.Prelude.{◌≡◌, IfSome};
+ghost use Rattle.rv_decode.specs.Range.{IsInRange};
+ghost use Rattle.rv_decode.specs.Table.{row};
+
+use crpd_base::Memory;
+use rv_decode::{Ins, decode};
+use std::alloc::Global;
+use std::marker::Model;
+
+/// How many words are kept. Words whose addresses differ by a multiple of four times this share a place.
+const PLACES: usize = 2048;
+
+/// A word, and the instruction that it means.
+#[derive(Clone, Copy)]
+struct Decoding {
+    word: u32,
+    meaning: Option<Ins>,
+}
+
+/// The instructions of words that were met last, by address.
+///
+/// Contracts see nothing of it, since it changes no answer.
+#[derive(Drop)]
+pub(crate) struct Decoded {
+    places: Vec<Decoding>,
+}
+
+impl Model for Decoded {
+    ghost use Rattle.preempt_machine.specs.Decodings.{AreDecoded, Nothing, nothing};
+
+    ghost Value = { Nothing };
+
+    ghost view = { λ d. nothing };
+
+    ghost invariant = { λ d. AreDecoded d.places.items };
+}
+
+impl Decoded {
+    pub(crate) fn new(alloc: Global) -> Result<Self, Memory> {
+        let blank = Decoding {
+            word: 0,
+            meaning: decode(0),
+        };
+        match vec![in alloc; blank; PLACES] {
+            Ok(places) => Ok(Decoded { places }),
+            Err(_) => Err(Memory),
+        }
+    }
+
+    /// The instruction that a word means, which stands at an address. Where the word was met last at its place it is not
+    /// decoded again.
+    pub(crate) fn meaning(&mut self, word: u32, address: u32) -> Option<Ins>
+        ensures row { result ≡ row word }
+        ensures in_range { IfSome result IsInRange }
+    {
+        let at = (address / 4) as usize % self.places.len();
+        let kept = self.places[at];
+        if kept.word == word {
+            return kept.meaning;
+        }
+        let meaning = decode(word);
+        self.places[at] = Decoding { word, meaning };
+        meaning
+    }
+}
