@@ -59,7 +59,10 @@ fn task_failure(
 /// for the regions that they leave. Clause 7: the bound is at least the potential of the first node. Clause 8: the window
 /// has room for the demand. Clause 9: the response is the window and the jitter (0), and at most the deadline (1).
 ///
-/// Takes no memory but some 250 kB of the stack. Its time is that of the nodes, each edge with the regions that it leaves
+/// The listed states may stand in any order; of two entries of a node, or of a cache set, the first counts. Listed cache
+/// sets are below 512, and windows are at most 2^40.
+///
+/// Takes no memory but some 220 kB of the stack. Its time is that of the nodes, each edge with the regions that it leaves
 /// and with the listed state that it leads to, the listed states, and for each task the demand of its window.
 ///
 /// Source: Altmeyer, Davis and Maiza 2012 (the demand of a window); Lee et al. 1998 (useful cache blocks).
