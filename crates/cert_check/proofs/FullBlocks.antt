@@ -62,14 +62,12 @@ module _ (g : Graph) (a : Accesses) (l : Listed) where
   state_after y blocks room S s m =
       ⊎_elim
       (λ (same : a.set y ≡ s).
-      let there : held (set blocks (a.set y) (Some (a.block y))) s ≡ Some (a.block y) = subst (λ z. held (set blocks (a.set y) (Some (a.block y))) z ≡ Some (a.block y)) same (get_or-set_same blocks (a.set y) (Some (a.block y)) None room) in
-      (
+      let there : held (set blocks (a.set y) (Some (a.block y))) s ≡ Some (a.block y) = subst (λ z. held (set blocks (a.set y) (Some (a.block y))) z ≡ Some (a.block y)) same (get_or-set_same blocks (a.set y) (Some (a.block y)) None room) in (
         (λ h. ⊎_elim (λ h'. there ∙ ap Some h'.1) (λ h'. absurd (h'.0 same)) h),
         (λ e. inl (same, some_one (a.block y) m (sym there ∙ e))),
       ))
       (λ (ne : a.set y ≢ s).
-      let there : held (set blocks (a.set y) (Some (a.block y))) s ≡ held blocks s = get_or-set_other blocks (a.set y) s (Some (a.block y)) None (λ e. ne (sym e)) in
-      (
+      let there : held (set blocks (a.set y) (Some (a.block y))) s ≡ held blocks s = get_or-set_other blocks (a.set y) s (Some (a.block y)) None (λ e. ne (sym e)) in (
         (λ h. ⊎_elim (λ h'. absurd (ne h'.0)) (λ h'. there ∙ (S s m).0 h'.1) h),
         (λ e. inr (ne, (S s m).1 (sym there ∙ e))),
       ))

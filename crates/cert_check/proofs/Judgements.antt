@@ -73,9 +73,14 @@ holds_more set graphs c i here before j k lt =
     (cases_eq j i)
 
 pub judged_no : (set : TaskSet) (graphs : ℕ → TaskGraph) (c : Certificate) (i : ℕ) (f : Failure) → i < length set.tasks → ((j : ℕ) (k : Clause) → j < i → Holds set graphs c j k) → IsFirstFailing (Holds set graphs c i) 1 9 f → IsJudged set graphs c (No i f.clause f.place)
-judged_no set graphs c i f lt before F = (F.clause, F.number, F.place, record {
-  task = lt;
-  fails = F.fails;
-  tasks_before = λ j l j_lt. before j l j_lt;
-  clauses_before = λ l earlier. F.before l (numbers l).0 earlier;
-})
+judged_no set graphs c i f lt before F = (
+  F.clause,
+  F.number,
+  F.place,
+  record {
+    task = lt;
+    fails = F.fails;
+    tasks_before = λ j l j_lt. before j l j_lt;
+    clauses_before = λ l earlier. F.before l (numbers l).0 earlier;
+  },
+)

@@ -16,10 +16,13 @@ pub heads_none : (n : Nest) (g : Graph) (y : ℕ) → IsNested g n → IsLevel n
 heads_none n g y N h = (refl, λ q lt e. h q lt (subst (λ x. IsTrue (n.holds q x)) (sym e) (N.holds_head q lt)))
 
 pub heads_other : (n : Nest) (g : Graph) (y r : ℕ) → IsGraph g → IsNested g n → IsLevel n y (Some r) → n.head r ≢ y → IsItem n y (item_by None y)
-heads_other n g y r G N h ne = (refl, λ q lt e.
-    let held : IsTrue (n.holds q y) = subst (λ x. IsTrue (n.holds q x)) (sym e) (N.holds_head q lt) in
-    let same : q ≡ r = same_region g n N G r q h.0 lt (h.2 q lt held) (subst (λ x. IsTrue (n.holds r x)) e h.1) in
-    ne (ap n.head (sym same) ∙ sym e))
+heads_other n g y r G N h ne = (
+  refl,
+  λ q lt e.
+      let held : IsTrue (n.holds q y) = subst (λ x. IsTrue (n.holds q x)) (sym e) (N.holds_head q lt) in
+      let same : q ≡ r = same_region g n N G r q h.0 lt (h.2 q lt held) (subst (λ x. IsTrue (n.holds r x)) e h.1) in
+      ne (ap n.head (sym same) ∙ sym e),
+)
 
 -- an edge leaves one region last
 pub one_last : (g : Graph) (n : Nest) → IsGraph g → IsNested g n → (u v r s : ℕ) → LeavesLast n u v r → LeavesLast n u v s → s ≡ r

@@ -31,8 +31,7 @@ module _ (g : Graph) (a : Accesses) (l : Listed) where
   pub edge_listed : (u k v : ℕ) (after : List (Option ℕ)) (b : Bool) → slice_get (g.next u) k ≡ Some v → IsTrue (l.is_listed v) → IsStateAfter g a l u after
       → IsTrue b ↔ AreHeld g a l after (l.state v) → IsTrue b ↔ ((w s m : ℕ) → slice_get (g.next u) k ≡ Some w → FullState g a l w s m → StateAfter g a l u s m)
   edge_listed u k v after b at t S test =
-      let H = held_at g a l u v after t S in
-      (
+      let H = held_at g a l u v after t S in (
         (λ h w s m e st. H.0 (test.0 h) s m (subst (λ x. FullState g a l x s m) (some_one w v (sym e ∙ at)) st)),
         (λ h. test.1 (H.1 (λ s m st. h v s m at st))),
       )

@@ -35,7 +35,7 @@ returns c =
     c.requires.behind
     (λ hit. elim c.else-hit.branch [
       | else-hit-via-then-hit+else-not-has w ↦
-      subst (λ x. IsTrue (has c.in-Some.entry.now.useful x)) c.cache_set-own.ensures.set (has_member c.in-Some.entry.now.useful c.cache_set-own.result (w.has.ensures.0 w.if-not-has.false))
+          subst (λ x. IsTrue (has c.in-Some.entry.now.useful x)) c.cache_set-own.ensures.set (has_member c.in-Some.entry.now.useful c.cache_set-own.result (w.has.ensures.0 w.if-not-has.false))
       | else-hit-via-else-hit w ↦ absurd (false≢true (sym w.if-hit.false ∙ c.requires.hit.1 hit))
     ])
     (λ t. subst (λ x. has c.with.result t ≡ (if t == x then true else has c.in-Some.entry.now.useful t)) c.cache_set-own.ensures.set (c.with.ensures t))
