@@ -1,18 +1,17 @@
 -- Full states kept as the blocks of the cache sets.
-use Rattle.std.proofs.Common.{◌≡◌, ◌≢◌, ◌↔◌, ◌⊎◌, ℕ, zero, suc, ◌+◌, ◌-◌, ◌<◌, ◌≤◌, Bool, true, false, eqb, List, [], ◌∷◌, length, set, get_or, drop, take, Option, Some, None, IsTrue, IsFalse, refl, sym, ap, ◌∙◌, subst, inl, inr, ⊎_elim, arith, ne_eqb, eq-eqb, get_or-set_same, get_or-set_other, drop-cons}
-use Rattle.std.specs.Prelude.{slice_get, if◌then◌else◌, ◌==◌, is_some}
+use Rattle.std.proofs.Common.{◌≡◌, ◌≢◌, ◌↔◌, ℕ, zero, suc, ◌-◌, ◌<◌, ◌≤◌, true, false, List, [], ◌∷◌, length, set, get_or, drop, Option, Some, None, IsTrue, IsFalse, refl, sym, ap, ◌∙◌, subst, inl, inr, ⊎_elim, arith, ne_eqb, eq-eqb, get_or-set_same, get_or-set_other, drop-cons}
+use Rattle.std.specs.Prelude.{◌==◌}
 use Rattle.std.proofs.lemmas.List.{drop_all}
-use Rattle.std.proofs.lemmas.Bool.{cases_eq, cases_Bool, both_ways, false≢true}
-use Rattle.crpd_base.specs.declared.data.NodeState.{NodeState}
+use Rattle.std.proofs.lemmas.Bool.{cases_eq, both_ways}
 use Rattle.icache.specs.Cache.{held}
 use Rattle.icache.specs.Accesses.{Accesses}
-use Rattle.flat_graph.specs.Graph.{Graph, Edge, IsGraph}
-use Rattle.evict_sets.specs.Full.{Listed, FullState, listed, accessed, passed, IsHit}
-use Rattle.evict_sets.specs.Clauses.{ListsLeaders, StateAfter, StatesMeet}
-use Rattle.evict_sets.specs.Certificate.{block_in, entry_of, state_by}
+use Rattle.flat_graph.specs.Graph.{Graph, Edge}
+use Rattle.evict_sets.specs.Full.{Listed, FullState, listed, accessed, passed}
+use Rattle.evict_sets.specs.Clauses.{ListsLeaders, StateAfter}
+use Rattle.evict_sets.specs.Certificate.{block_in}
 use Rattle.evict_sets.proofs.FullLaws.{unlisted_state_law}
 use Rattle.cert_check.specs.Case.{IsStateAt, IsStateAfter}
-use Rattle.cert_check.proofs.Nexts.{some_one, none_some, edge_at, at_edges}
+use Rattle.cert_check.proofs.Nexts.{some_one}
 
 pub past : (blocks : List (Option ℕ)) (s : ℕ) → length blocks ≤ s → held blocks s ≡ None
 past [] s le = refl

@@ -1,11 +1,9 @@
 -- The tests of clause 6 at a node.
-use Rattle.std.proofs.Common.{◌≡◌, ◌≢◌, ◌↔◌, ◌⊎◌, ℕ, ◌+◌, ◌*◌, ◌<◌, ◌≤◌, Bool, true, false, length, Option, Some, None, IsTrue, IsFalse, refl, sym, ap, ◌∙◌, subst, inl, inr, ⊎_elim, arith}
-use Rattle.std.specs.Prelude.{slice_get}
-use Rattle.std.proofs.lemmas.Bool.{cases_eq, cases_Bool, both_ways}
+use Rattle.std.proofs.Common.{◌≡◌, ◌≢◌, ◌↔◌, ℕ, ◌+◌, ◌*◌, ◌<◌, ◌≤◌, Bool, Some, None, IsTrue, refl, sym, ap, ◌∙◌, subst, ⊎_elim, arith}
 use Rattle.flat_graph.specs.Graph.{Graph, Edge, IsGraph}
-use Rattle.loop_regions.specs.Nest.{Nest, IsNested, IsBackEdge, Leaves, LeavesLast, Item, Node, Loop, IsItem}
+use Rattle.loop_regions.specs.Nest.{Nest, IsNested, IsBackEdge, Leaves, LeavesLast, Item, IsItem}
 use Rattle.loop_regions.specs.Levels.{IsLevel}
-use Rattle.loop_regions.specs.Potentials.{Costs, Potentials, item_potential, MeetsAt}
+use Rattle.loop_regions.specs.Potentials.{Costs, Potentials, item_potential}
 use Rattle.loop_regions.proofs.Potential.{item_law}
 use Rattle.loop_regions.proofs.Entries.{same_region}
 use Rattle.cert_check.specs.Clauses.{PotentialsMeet}

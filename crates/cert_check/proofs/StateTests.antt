@@ -1,15 +1,14 @@
 -- The tests of clause 3.
-use Rattle.std.proofs.Common.{◌≡◌, ◌≢◌, ◌↔◌, ℕ, ◌+◌, ◌<◌, ◌≤◌, Bool, true, false, List, [], ◌∷◌, length, Option, Some, None, IsTrue, IsFalse, refl, sym, ap, ◌∙◌, subst, ⊎_elim, arith, ne_eqb, eq-eqb}
-use Rattle.std.specs.Prelude.{slice_get, if◌then◌else◌, ◌==◌}
-use Rattle.std.proofs.lemmas.Bool.{cases_eq, cases_Bool, both_ways, false≢true}
-use Rattle.icache.specs.Cache.{held}
+use Rattle.std.proofs.Common.{◌≡◌, ◌↔◌, ℕ, ◌<◌, ◌≤◌, Bool, true, List, [], ◌∷◌, length, Option, Some, IsTrue, IsFalse, refl, sym, ◌∙◌, subst, ⊎_elim, arith, ne_eqb, eq-eqb}
+use Rattle.std.specs.Prelude.{slice_get, ◌==◌}
+use Rattle.std.proofs.lemmas.Bool.{cases_Bool, both_ways, false≢true}
 use Rattle.icache.specs.Accesses.{Accesses}
 use Rattle.flat_graph.specs.Graph.{Graph, Edge, IsGraph}
 use Rattle.evict_sets.specs.Full.{Listed, FullState, listed}
 use Rattle.evict_sets.specs.Clauses.{ListsLeaders, StateAfter, StatesMeet}
 use Rattle.evict_sets.specs.Certificate.{block_in}
 use Rattle.evict_sets.proofs.FullLaws.{unlisted_state_law}
-use Rattle.cert_check.specs.Case.{IsStateAt, IsStateAfter}
+use Rattle.cert_check.specs.Case.{IsStateAfter}
 use Rattle.cert_check.proofs.Nexts.{some_one, none_some, edge_at, at_edges}
 use Rattle.cert_check.proofs.FullBlocks.{as_listed, AreHeld, held_at}
 use Rattle.cert_check.proofs.Lines.{one_follows}

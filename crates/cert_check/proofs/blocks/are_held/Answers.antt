@@ -1,4 +1,4 @@
-use Rattle.std.proofs.Common.{◌≡◌, ◌+◌, IsTrue, true, false, refl, sym, ◌∙◌, subst, arith}
+use Rattle.std.proofs.Common.{◌+◌, refl, sym, ◌∙◌, subst, arith}
 use Rattle.std.proofs.lemmas.Bool.{false≢true}
 use Rattle.cert_check.proofs.Pairs.{PairsTo, all_held, not_held, pairs_skip, pairs_more}
 use Rattle.cert_check.proofs.blocks.are_held.Goals as goal

@@ -1,4 +1,4 @@
-use Rattle.std.proofs.Common.{◌≡◌, ◌+◌, ◌-◌, ◌≤◌, length, get_or, sym, ap, subst, arith}
+use Rattle.std.proofs.Common.{◌+◌, ◌-◌, ◌≤◌, length, get_or, sym, ap, subst, arith}
 use Rattle.crpd_base.specs.declared.data.NodeState.{NodeState}
 use Rattle.cert_check.proofs.Entries.{ArePlaced, none_placed, placed_more, placed_past}
 use Rattle.cert_check.proofs.index.index.Goals as goal

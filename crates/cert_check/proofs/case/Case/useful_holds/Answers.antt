@@ -1,10 +1,9 @@
-use Rattle.std.proofs.Common.{◌≡◌, ℕ, IsTrue, true, false, refl, ap, sym, subst, ◌∙◌}
+use Rattle.std.proofs.Common.{◌≡◌, IsTrue, true, refl, sym, subst, ◌∙◌}
 use Rattle.std.specs.Prelude.{if◌then◌else◌, ◌==◌}
 use Rattle.std.proofs.lemmas.Bool.{false≢true}
 use Rattle.crpd_base.specs.Sets.{has}
 use Rattle.flat_graph.specs.CodeGraph.{graph_of}
 use Rattle.evict_sets.specs.Certificate.{listed_of}
-use Rattle.evict_sets.specs.Full.{IsHit}
 use Rattle.cert_check.specs.Case.{fetches}
 use Rattle.cert_check.proofs.ListedAt.{entry_listed, entry_none, entry_useful}
 use Rattle.cert_check.proofs.UsefulSets.{is_member, has_member, useful_test, own_missing, unlisted_meets}
