@@ -1,5 +1,5 @@
 -- The unlisted nodes that continue a listed one, written one by one.
-use Rattle.std.proofs.Common.{◌≡◌, ◌≢◌, ℕ, zero, suc, ◌+◌, ◌-◌, ◌<◌, ◌≤◌, List, length, set, Option, Some, None, MatchOption, IsTrue, IsFalse, refl, sym, ap, ◌∙◌, subst, ⊎_elim, arith, length-set}
+use Rattle.std.proofs.Common.{◌≡◌, ℕ, ◌+◌, ◌-◌, ◌<◌, ◌≤◌, List, length, set, Option, Some, None, MatchOption, IsTrue, IsFalse, sym, ap, ◌∙◌, subst, arith, length-set}
 use Rattle.std.specs.Prelude.{slice_index}
 use Rattle.std.proofs.lemmas.Bool.{both_ways}
 use Rattle.crpd_base.specs.declared.data.NodeId.{NodeId}
@@ -7,7 +7,7 @@ use Rattle.flat_graph.specs.Graph.{Graph, Edge, IsGraph}
 use Rattle.evict_sets.specs.Full.{Listed}
 use Rattle.evict_sets.specs.Clauses.{ListsLeaders}
 use Rattle.cert_check.specs.Ordered.{IsLine, IsClosed, HasListed}
-use Rattle.cert_check.proofs.Lines.{IsFresh, has_room, at_new, line_more, listed_more, unlisted_more, fresh_listed, fresh_unlisted, one_follows}
+use Rattle.cert_check.proofs.Lines.{has_room, at_new, line_more, listed_more, unlisted_more, fresh_listed, fresh_unlisted, one_follows}
 
 -- what continues a node
 abbrev pub IsFollower : Graph → Listed → ℕ → Option NodeId → Type 0

@@ -1,5 +1,5 @@
 -- The longest cost of one instruction of a task is from 1 to 2^20.
-use Rattle.std.proofs.Common.{◌≡◌, ◌⊎◌, ℕ, zero, suc, ◌+◌, ◌*◌, ◌<◌, ◌≤◌, max, Bool, true, false, if◌then◌else◌, List, [], ◌∷◌, length, Option, Some, None, Contains, IsTrue, refl, sym, ap, ◌∙◌, subst, inl, inr, ⊎_elim, arith}
+use Rattle.std.proofs.Common.{◌≡◌, ◌⊎◌, ℕ, zero, suc, ◌+◌, ◌<◌, ◌≤◌, Bool, true, false, if◌then◌else◌, List, [], ◌∷◌, length, Option, Some, None, Contains, IsTrue, refl, sym, subst, inl, inr, ⊎_elim, arith}
 use Rattle.std.specs.Prelude.{reverse, ◌&&◌, ◌==◌, ◌%◌, not}
 use Rattle.std.proofs.lemmas.Bool.{cases_eq, false≢true}
 use Rattle.std.proofs.lemmas.List.{length-reverse}
@@ -9,10 +9,9 @@ use Rattle.rv_decode.specs.declared.Ins.{Ins}
 use Rattle.rv_decode.specs.declared.Ins.TheVariants.{Lb, Lh, Lw, Lbu, Lhu, Sb, Sh, Sw, Mul, Mulh, Mulhsu, Mulhu, Div, Divu, Rem, Remu}
 use Rattle.rv_decode.specs.Cost.{cost, work_cost, changes_flow}
 use Rattle.rv_decode.specs.Flow.{Flow, Plain, Branch, Jump, Call, Return, Exit, Break, OtherJalr, OtherJal, Flows, Words, flow, flows, flow_of_word, flow_of_row}
-use Rattle.rv_decode.specs.Table.{row}
-use Rattle.flat_graph.specs.FlatGraph.{FlatNode, NodeError, Misaligned, call_error, ins_error, error_of, returns_to, goes_to, goes_on, successors, answers_by, IsNode}
+use Rattle.flat_graph.specs.FlatGraph.{FlatNode, NodeError, Misaligned, ins_error, error_of, returns_to, goes_on, successors, answers_by}
 use Rattle.flat_graph.specs.Graph.{Graph, Edge}
-use Rattle.flat_graph.specs.Numbered.{FollowsCode, node_at}
+use Rattle.flat_graph.specs.Numbered.{node_at}
 use Rattle.flat_graph.specs.CodeGraph.{CodeGraph, graph_of, places_of, listing, IsCodeGraph, HasCode}
 use Rattle.flat_graph.specs.EdgeCost.{Listing, edge_cost, end_cost, is_return}
 use Rattle.flat_graph.proofs.Numbered.{follows_law}

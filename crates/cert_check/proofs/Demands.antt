@@ -1,8 +1,8 @@
 -- Demands of the same parts, costs and windows, and the ranges of a set's times.
-use Rattle.std.proofs.Common.{◌≡◌, ℕ, zero, suc, ◌+◌, ◌<◌, ◌≤◌, List, [], ◌∷◌, length, map, get_or, All, refl, sym, ap, ◌∙◌, subst, arith}
+use Rattle.std.proofs.Common.{◌≡◌, ℕ, zero, suc, ◌<◌, ◌≤◌, List, [], ◌∷◌, length, map, get_or, All, refl, sym, ap, arith}
 use Rattle.std.specs.Prelude.{◌^◌}
 use Rattle.crpd_base.specs.Ranges.{IsTaskSpec, IsTaskSet}
-use Rattle.crpd_base.specs.Tasks.{period_of, jitter_of, deadline_of, HasTimes}
+use Rattle.crpd_base.specs.Tasks.{HasTimes}
 use Rattle.crpd_base.specs.declared.data.Part.{Part}
 use Rattle.crpd_base.specs.declared.data.Method.{Method}
 use Rattle.crpd_base.specs.declared.data.TaskSpec.{TaskSpec}

@@ -1,18 +1,17 @@
 -- Full states kept as the blocks of the cache sets.
-use Rattle.std.proofs.Common.{◌≡◌, ◌≢◌, ◌↔◌, ◌⊎◌, ℕ, zero, suc, ◌+◌, ◌-◌, ◌<◌, ◌≤◌, Bool, true, false, eqb, List, [], ◌∷◌, length, set, get_or, drop, take, Option, Some, None, IsTrue, IsFalse, refl, sym, ap, ◌∙◌, subst, inl, inr, ⊎_elim, arith, ne_eqb, eq-eqb, get_or-set_same, get_or-set_other, drop-cons}
-use Rattle.std.specs.Prelude.{slice_get, if◌then◌else◌, ◌==◌, is_some}
+use Rattle.std.proofs.Common.{◌≡◌, ◌≢◌, ◌↔◌, ℕ, zero, suc, ◌-◌, ◌<◌, ◌≤◌, true, false, List, [], ◌∷◌, length, set, get_or, drop, Option, Some, None, IsTrue, IsFalse, refl, sym, ap, ◌∙◌, subst, inl, inr, ⊎_elim, arith, ne_eqb, eq-eqb, get_or-set_same, get_or-set_other, drop-cons}
+use Rattle.std.specs.Prelude.{◌==◌}
 use Rattle.std.proofs.lemmas.List.{drop_all}
-use Rattle.std.proofs.lemmas.Bool.{cases_eq, cases_Bool, both_ways, false≢true}
-use Rattle.crpd_base.specs.declared.data.NodeState.{NodeState}
+use Rattle.std.proofs.lemmas.Bool.{cases_eq, both_ways}
 use Rattle.icache.specs.Cache.{held}
 use Rattle.icache.specs.Accesses.{Accesses}
-use Rattle.flat_graph.specs.Graph.{Graph, Edge, IsGraph}
-use Rattle.evict_sets.specs.Full.{Listed, FullState, listed, accessed, passed, IsHit}
-use Rattle.evict_sets.specs.Clauses.{ListsLeaders, StateAfter, StatesMeet}
-use Rattle.evict_sets.specs.Certificate.{block_in, entry_of, state_by}
+use Rattle.flat_graph.specs.Graph.{Graph, Edge}
+use Rattle.evict_sets.specs.Full.{Listed, FullState, listed, accessed, passed}
+use Rattle.evict_sets.specs.Clauses.{ListsLeaders, StateAfter}
+use Rattle.evict_sets.specs.Certificate.{block_in}
 use Rattle.evict_sets.proofs.FullLaws.{unlisted_state_law}
 use Rattle.cert_check.specs.Case.{IsStateAt, IsStateAfter}
-use Rattle.cert_check.proofs.Nexts.{some_one, none_some, edge_at, at_edges}
+use Rattle.cert_check.proofs.Nexts.{some_one}
 
 pub past : (blocks : List (Option ℕ)) (s : ℕ) → length blocks ≤ s → held blocks s ≡ None
 past [] s le = refl
@@ -62,14 +61,12 @@ module _ (g : Graph) (a : Accesses) (l : Listed) where
   state_after y blocks room S s m =
       ⊎_elim
       (λ (same : a.set y ≡ s).
-      let there : held (set blocks (a.set y) (Some (a.block y))) s ≡ Some (a.block y) = subst (λ z. held (set blocks (a.set y) (Some (a.block y))) z ≡ Some (a.block y)) same (get_or-set_same blocks (a.set y) (Some (a.block y)) None room) in
-      (
+      let there : held (set blocks (a.set y) (Some (a.block y))) s ≡ Some (a.block y) = subst (λ z. held (set blocks (a.set y) (Some (a.block y))) z ≡ Some (a.block y)) same (get_or-set_same blocks (a.set y) (Some (a.block y)) None room) in (
         (λ h. ⊎_elim (λ h'. there ∙ ap Some h'.1) (λ h'. absurd (h'.0 same)) h),
         (λ e. inl (same, some_one (a.block y) m (sym there ∙ e))),
       ))
       (λ (ne : a.set y ≢ s).
-      let there : held (set blocks (a.set y) (Some (a.block y))) s ≡ held blocks s = get_or-set_other blocks (a.set y) s (Some (a.block y)) None (λ e. ne (sym e)) in
-      (
+      let there : held (set blocks (a.set y) (Some (a.block y))) s ≡ held blocks s = get_or-set_other blocks (a.set y) s (Some (a.block y)) None (λ e. ne (sym e)) in (
         (λ h. ⊎_elim (λ h'. absurd (ne h'.0)) (λ h'. there ∙ (S s m).0 h'.1) h),
         (λ e. inr (ne, (S s m).1 (sym there ∙ e))),
       ))

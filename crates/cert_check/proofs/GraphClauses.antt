@@ -1,5 +1,5 @@
 -- The clauses of a task's graph, found node by node.
-use Rattle.std.proofs.Common.{◌≡◌, ◌↔◌, ℕ, ◌<◌, ◌≤◌, Bool, Option, Some, None, MatchOption, refl, arith}
+use Rattle.std.proofs.Common.{◌≡◌, ℕ, ◌<◌, ◌≤◌, Bool, Option, MatchOption, refl, arith}
 use Rattle.crpd_base.specs.Sets.{has}
 use Rattle.crpd_base.specs.declared.data.Platform.{Platform}
 use Rattle.crpd_base.specs.declared.data.TaskPart.{TaskPart}

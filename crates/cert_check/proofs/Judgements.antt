@@ -1,8 +1,8 @@
 -- A task's clauses put together, and the tasks'.
-use Rattle.std.proofs.Common.{◌≡◌, ◌↔◌, ℕ, ◌+◌, ◌<◌, ◌≤◌, List, length, Option, Some, None, All, refl, sym, ap, ◌∙◌, subst, ⊎_elim, arith}
+use Rattle.std.proofs.Common.{◌≡◌, ◌↔◌, ℕ, ◌+◌, ◌<◌, ◌≤◌, List, length, None, refl, sym, subst, ⊎_elim, arith}
 use Rattle.std.specs.Prelude.{slice_index}
 use Rattle.std.proofs.lemmas.Bool.{cases_eq}
-use Rattle.crpd_base.specs.Tasks.{HasTimes, jitter_of, deadline_of}
+use Rattle.crpd_base.specs.Tasks.{HasTimes}
 use Rattle.crpd_base.specs.declared.data.TaskSet.{TaskSet}
 use Rattle.crpd_base.specs.declared.data.Certificate.{Certificate}
 use Rattle.flat_graph.specs.CodeGraph.{CodeGraph}
@@ -11,13 +11,13 @@ use Rattle.loop_regions.specs.TaskGraph.{TaskGraph}
 use Rattle.evict_sets.specs.Certificate.{cert_at}
 use Rattle.delay_count.specs.Laws.{DemandGrows}
 use Rattle.cert_check.specs.Judge.{window_at, part_of, longest_at}
-use Rattle.cert_check.specs.Verdict.{Clause, Platforms, HasTask, Names, Last, Leaders, NodePotentials, LoopPotentials, States, UsefulSets, TaskSets, Inequalities, Bound, Window, Response, Deadline, number_of, place_of, Holds, IsFirstFailure, IsJudged, Yes, No}
+use Rattle.cert_check.specs.Verdict.{Clause, Platforms, HasTask, Names, Last, Leaders, NodePotentials, LoopPotentials, States, UsefulSets, TaskSets, Inequalities, Bound, Window, Response, Deadline, number_of, Holds, IsJudged, No}
 use Rattle.cert_check.specs.Answered.{IsFirstFailing, IsFound}
 use Rattle.cert_check.specs.Graphs.{GraphHolds}
 use Rattle.cert_check.specs.Times.{AreLongest, HigherHold, TimesHold}
 use Rattle.cert_check.specs.Shown.{shown_at}
 use Rattle.cert_check.specs.declared.outcome.Failure.{Failure}
-use Rattle.cert_check.proofs.Found.{found_as, then_found, numbers}
+use Rattle.cert_check.proofs.Found.{numbers}
 use Rattle.cert_check.proofs.Demands.{same_demand}
 
 pub graph_same : (set : TaskSet) (graphs : ℕ → TaskGraph) (c : Certificate) (i : ℕ) (k : Clause) → 2 ≤ number_of k → number_of k ≤ 7 → GraphHolds set.platform (graphs i) (cert_at c i) k ↔ Holds set graphs c i k
@@ -73,9 +73,14 @@ holds_more set graphs c i here before j k lt =
     (cases_eq j i)
 
 pub judged_no : (set : TaskSet) (graphs : ℕ → TaskGraph) (c : Certificate) (i : ℕ) (f : Failure) → i < length set.tasks → ((j : ℕ) (k : Clause) → j < i → Holds set graphs c j k) → IsFirstFailing (Holds set graphs c i) 1 9 f → IsJudged set graphs c (No i f.clause f.place)
-judged_no set graphs c i f lt before F = (F.clause, F.number, F.place, record {
-  task = lt;
-  fails = F.fails;
-  tasks_before = λ j l j_lt. before j l j_lt;
-  clauses_before = λ l earlier. F.before l (numbers l).0 earlier;
-})
+judged_no set graphs c i f lt before F = (
+  F.clause,
+  F.number,
+  F.place,
+  record {
+    task = lt;
+    fails = F.fails;
+    tasks_before = λ j l j_lt. before j l j_lt;
+    clauses_before = λ l earlier. F.before l (numbers l).0 earlier;
+  },
+)

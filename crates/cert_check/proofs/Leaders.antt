@@ -1,6 +1,6 @@
 -- A node that is no leader continues another.
-use Rattle.std.proofs.Common.{◌≡◌, ◌≢◌, ℕ, zero, suc, ◌+◌, ◌<◌, List, [], ◌∷◌, length, Contains, IsTrue, IsFalse, inl, inr, ⊎_elim, sym, subst, arith}
-use Rattle.std.proofs.lemmas.Bool.{cases_eq, cases_Bool, both_ways}
+use Rattle.std.proofs.Common.{◌≡◌, ℕ, zero, suc, ◌+◌, ◌<◌, List, [], ◌∷◌, Contains, IsTrue, IsFalse, inl, inr, ⊎_elim, sym, subst, arith}
+use Rattle.std.proofs.lemmas.Bool.{cases_eq, both_ways}
 use Rattle.flat_graph.specs.Graph.{Graph, Edge, Continues, IsLeader, IsGraph}
 use Rattle.flat_graph.proofs.Decided.{Decided, is_below, «both», never, some_below, all_below, same_fact, implied}
 use Rattle.evict_sets.specs.Full.{Listed}

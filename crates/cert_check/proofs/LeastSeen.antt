@@ -1,9 +1,7 @@
 -- The least node at which a fact fails, found along an order of the nodes.
-use Rattle.std.proofs.Common.{◌≡◌, ◌≢◌, ◌↔◌, ℕ, ◌+◌, ◌<◌, ◌≤◌, min, Bool, true, false, if◌then◌else◌, IsTrue, refl, List, length, slice_index, sym, ap, ◌∙◌, subst, ⊎_elim, arith}
+use Rattle.std.proofs.Common.{◌≡◌, ◌≢◌, ◌↔◌, ℕ, ◌+◌, ◌<◌, ◌≤◌, min, Bool, true, false, if◌then◌else◌, IsTrue, refl, List, slice_index, sym, ap, ◌∙◌, subst, ⊎_elim, arith}
 use Rattle.std.proofs.lemmas.Bool.{cases_eq, cases_lt, false≢true}
-use Rattle.flat_graph.specs.Graph.{Graph}
-use Rattle.evict_sets.specs.Full.{Listed}
-use Rattle.cert_check.specs.Case.{IsLeast, IsOrder}
+use Rattle.cert_check.specs.Case.{IsLeast}
 
 -- the least number of nodes seen at which the fact fails
 pub record IsLeastSeen (P : ℕ → Type 0) (seen : ℕ → Type 0) (size least : ℕ) : Type 0 where

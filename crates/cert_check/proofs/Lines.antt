@@ -1,9 +1,9 @@
 -- An order of the nodes, written node by node.
-use Rattle.std.proofs.Common.{◌≡◌, ◌≢◌, ◌⊎◌, ℕ, zero, suc, ◌+◌, ◌<◌, ◌≤◌, Bool, true, false, eqb, List, [], ◌∷◌, length, set, get_or, slice_index, Option, Some, None, IsTrue, IsFalse, refl, sym, ap, ◌∙◌, subst, inl, inr, ⊎_elim, arith, ne_eqb, eq-eqb, eqb-true, ◌||◌, length-set, get_or-set_same, get_or-set_other}
+use Rattle.std.proofs.Common.{◌≡◌, ◌≢◌, ℕ, zero, suc, ◌+◌, ◌<◌, ◌≤◌, Bool, true, false, eqb, List, [], ◌∷◌, length, set, slice_index, IsTrue, IsFalse, refl, sym, ap, ◌∙◌, subst, ⊎_elim, arith, ne_eqb, eq-eqb, eqb-true, ◌||◌, length-set, get_or-set_same, get_or-set_other}
 use Rattle.std.specs.List.{IsDistinct, AllByRecursion, list_any}
-use Rattle.std.proofs.lemmas.Bool.{cases_eq, cases_lt, cases_Bool, both_ways, or_cases, false≢true}
+use Rattle.std.proofs.lemmas.Bool.{cases_eq, cases_Bool, both_ways, or_cases, false≢true}
 use Rattle.std.proofs.lemmas.Map.Steps.{length-le_from_distinct_below, le-length_from_below}
-use Rattle.flat_graph.specs.Graph.{Graph, Edge, IsWalk, IsGraph, Continues}
+use Rattle.flat_graph.specs.Graph.{Graph, Edge, IsWalk, IsGraph}
 use Rattle.evict_sets.specs.Full.{Listed}
 use Rattle.evict_sets.specs.Clauses.{ListsLeaders}
 use Rattle.cert_check.specs.Case.{IsOrder}

@@ -1,5 +1,5 @@
 -- Clause 1 of a task, and what is read of its entries.
-use Rattle.std.proofs.Common.{◌≡◌, ◌≢◌, ℕ, ◌+◌, ◌<◌, ◌≤◌, List, [], length, map, get_or, refl, sym, ap, ◌∙◌, subst, arith}
+use Rattle.std.proofs.Common.{◌≡◌, ℕ, ◌<◌, ◌≤◌, [], length, get_or, sym, ap, ◌∙◌, arith}
 use Rattle.std.proofs.lemmas.List.{get_or-map, get_or_default}
 use Rattle.crpd_base.specs.Tasks.{jitter_of, deadline_of}
 use Rattle.crpd_base.specs.declared.data.TaskSpec.{TaskSpec}
@@ -9,8 +9,7 @@ use Rattle.crpd_base.specs.declared.data.Certificate.{Certificate}
 use Rattle.evict_sets.specs.Certificate.{cert_at, no_cert}
 use Rattle.cert_check.specs.Judge.{name_of}
 use Rattle.cert_check.specs.Verdict.{Clause, Platforms, HasTask, Names, Last, number_of, place_of}
-use Rattle.cert_check.proofs.Found.{numbered_one, by_number}
-use Rattle.cert_check.specs.Answered.{IsFound}
+use Rattle.cert_check.proofs.Found.{numbered_one}
 
 pub name_at : (set : TaskSet) (i : ℕ) (t : TaskSpec) → i < length set.tasks → t ≡ get_or set.tasks i t → name_of set i ≡ t.name
 name_at set i t lt is = get_or-map (λ (k : TaskSpec). k.name) set.tasks i t [] lt ∙ ap (λ (k : TaskSpec). k.name) (sym is)

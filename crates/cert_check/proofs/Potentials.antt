@@ -1,11 +1,9 @@
 -- The tests of clause 6 at a node.
-use Rattle.std.proofs.Common.{◌≡◌, ◌≢◌, ◌↔◌, ◌⊎◌, ℕ, ◌+◌, ◌*◌, ◌<◌, ◌≤◌, Bool, true, false, length, Option, Some, None, IsTrue, IsFalse, refl, sym, ap, ◌∙◌, subst, inl, inr, ⊎_elim, arith}
-use Rattle.std.specs.Prelude.{slice_get}
-use Rattle.std.proofs.lemmas.Bool.{cases_eq, cases_Bool, both_ways}
+use Rattle.std.proofs.Common.{◌≡◌, ◌≢◌, ◌↔◌, ℕ, ◌+◌, ◌*◌, ◌<◌, ◌≤◌, Bool, Some, None, IsTrue, refl, sym, ap, ◌∙◌, subst, ⊎_elim, arith}
 use Rattle.flat_graph.specs.Graph.{Graph, Edge, IsGraph}
-use Rattle.loop_regions.specs.Nest.{Nest, IsNested, IsBackEdge, Leaves, LeavesLast, Item, Node, Loop, IsItem}
+use Rattle.loop_regions.specs.Nest.{Nest, IsNested, IsBackEdge, Leaves, LeavesLast, Item, IsItem}
 use Rattle.loop_regions.specs.Levels.{IsLevel}
-use Rattle.loop_regions.specs.Potentials.{Costs, Potentials, item_potential, MeetsAt}
+use Rattle.loop_regions.specs.Potentials.{Costs, Potentials, item_potential}
 use Rattle.loop_regions.proofs.Potential.{item_law}
 use Rattle.loop_regions.proofs.Entries.{same_region}
 use Rattle.cert_check.specs.Clauses.{PotentialsMeet}
@@ -16,10 +14,13 @@ pub heads_none : (n : Nest) (g : Graph) (y : ℕ) → IsNested g n → IsLevel n
 heads_none n g y N h = (refl, λ q lt e. h q lt (subst (λ x. IsTrue (n.holds q x)) (sym e) (N.holds_head q lt)))
 
 pub heads_other : (n : Nest) (g : Graph) (y r : ℕ) → IsGraph g → IsNested g n → IsLevel n y (Some r) → n.head r ≢ y → IsItem n y (item_by None y)
-heads_other n g y r G N h ne = (refl, λ q lt e.
-    let held : IsTrue (n.holds q y) = subst (λ x. IsTrue (n.holds q x)) (sym e) (N.holds_head q lt) in
-    let same : q ≡ r = same_region g n N G r q h.0 lt (h.2 q lt held) (subst (λ x. IsTrue (n.holds r x)) e h.1) in
-    ne (ap n.head (sym same) ∙ sym e))
+heads_other n g y r G N h ne = (
+  refl,
+  λ q lt e.
+      let held : IsTrue (n.holds q y) = subst (λ x. IsTrue (n.holds q x)) (sym e) (N.holds_head q lt) in
+      let same : q ≡ r = same_region g n N G r q h.0 lt (h.2 q lt held) (subst (λ x. IsTrue (n.holds r x)) e h.1) in
+      ne (ap n.head (sym same) ∙ sym e),
+)
 
 -- an edge leaves one region last
 pub one_last : (g : Graph) (n : Nest) → IsGraph g → IsNested g n → (u v r s : ℕ) → LeavesLast n u v r → LeavesLast n u v s → s ≡ r

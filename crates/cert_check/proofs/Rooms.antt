@@ -1,5 +1,5 @@
 -- The parts and windows that a demand is handed.
-use Rattle.std.proofs.Common.{◌≡◌, ◌≢◌, ◌↔◌, Bool, IsTrue, ℕ, ◌+◌, ◌<◌, ◌≤◌, List, [], length, set, get_or, refl, sym, ap, ◌∙◌, subst, ⊎_elim, arith, length-set, get_or-set_same, get_or-set_other}
+use Rattle.std.proofs.Common.{◌≡◌, ◌↔◌, Bool, IsTrue, ℕ, ◌+◌, ◌<◌, ◌≤◌, List, [], length, set, refl, sym, ap, ◌∙◌, subst, ⊎_elim, arith, length-set, get_or-set_same, get_or-set_other}
 use Rattle.std.specs.Prelude.{slice_index}
 use Rattle.std.proofs.lemmas.Bool.{cases_eq}
 use Rattle.crpd_base.specs.declared.data.Part.{Part}
@@ -48,8 +48,7 @@ room_test grows task_set times c i k l parts windows costs t d q b H below at d_
     (λ j le. H.part j (omega (arith, le, below))) (λ j lt. refl) (λ j lt. H.window j (omega (arith, lt, below))) (cert_at c i).method (window_at c i) in
     let whole : d ≡ demand task_set (part_at parts) (slice_index costs) (slice_index windows) i (cert_at c i).method (window_at c i) =
     subst (λ (x : TaskPart). d ≡ demand task_set (part_at parts) (slice_index costs) (slice_index windows) i x.method x.window) (sym at) d_is in
-    let w : window_at c i ≡ t.window = ap (λ (x : TaskPart). x.window) at in
-    (
+    let w : window_at c i ≡ t.window = ap (λ (x : TaskPart). x.window) at in (
       (λ h. let le = test.0 h in (omega (arith, w, some), omega (arith, le, same, whole, w, q_is))),
       (λ h. test.1 (let le = h.1 in omega (arith, le, same, whole, w, q_is))),
     )

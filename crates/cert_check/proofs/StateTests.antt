@@ -1,15 +1,14 @@
 -- The tests of clause 3.
-use Rattle.std.proofs.Common.{◌≡◌, ◌≢◌, ◌↔◌, ℕ, ◌+◌, ◌<◌, ◌≤◌, Bool, true, false, List, [], ◌∷◌, length, Option, Some, None, IsTrue, IsFalse, refl, sym, ap, ◌∙◌, subst, ⊎_elim, arith, ne_eqb, eq-eqb}
-use Rattle.std.specs.Prelude.{slice_get, if◌then◌else◌, ◌==◌}
-use Rattle.std.proofs.lemmas.Bool.{cases_eq, cases_Bool, both_ways, false≢true}
-use Rattle.icache.specs.Cache.{held}
+use Rattle.std.proofs.Common.{◌≡◌, ◌↔◌, ℕ, ◌<◌, ◌≤◌, Bool, true, List, [], ◌∷◌, length, Option, Some, IsTrue, IsFalse, refl, sym, ◌∙◌, subst, ⊎_elim, arith, ne_eqb, eq-eqb}
+use Rattle.std.specs.Prelude.{slice_get, ◌==◌}
+use Rattle.std.proofs.lemmas.Bool.{cases_Bool, both_ways, false≢true}
 use Rattle.icache.specs.Accesses.{Accesses}
 use Rattle.flat_graph.specs.Graph.{Graph, Edge, IsGraph}
 use Rattle.evict_sets.specs.Full.{Listed, FullState, listed}
 use Rattle.evict_sets.specs.Clauses.{ListsLeaders, StateAfter, StatesMeet}
 use Rattle.evict_sets.specs.Certificate.{block_in}
 use Rattle.evict_sets.proofs.FullLaws.{unlisted_state_law}
-use Rattle.cert_check.specs.Case.{IsStateAt, IsStateAfter}
+use Rattle.cert_check.specs.Case.{IsStateAfter}
 use Rattle.cert_check.proofs.Nexts.{some_one, none_some, edge_at, at_edges}
 use Rattle.cert_check.proofs.FullBlocks.{as_listed, AreHeld, held_at}
 use Rattle.cert_check.proofs.Lines.{one_follows}
@@ -31,8 +30,7 @@ module _ (g : Graph) (a : Accesses) (l : Listed) where
   pub edge_listed : (u k v : ℕ) (after : List (Option ℕ)) (b : Bool) → slice_get (g.next u) k ≡ Some v → IsTrue (l.is_listed v) → IsStateAfter g a l u after
       → IsTrue b ↔ AreHeld g a l after (l.state v) → IsTrue b ↔ ((w s m : ℕ) → slice_get (g.next u) k ≡ Some w → FullState g a l w s m → StateAfter g a l u s m)
   edge_listed u k v after b at t S test =
-      let H = held_at g a l u v after t S in
-      (
+      let H = held_at g a l u v after t S in (
         (λ h w s m e st. H.0 (test.0 h) s m (subst (λ x. FullState g a l x s m) (some_one w v (sym e ∙ at)) st)),
         (λ h. test.1 (H.1 (λ s m st. h v s m at st))),
       )

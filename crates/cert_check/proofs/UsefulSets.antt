@@ -1,11 +1,11 @@
 -- Full useful sets kept as sets of cache sets.
-use Rattle.std.proofs.Common.{◌≡◌, ◌≢◌, ◌↔◌, ◌⊎◌, ℕ, ◌+◌, ◌<◌, ◌≤◌, Bool, true, false, List, length, Option, Some, None, IsTrue, IsFalse, max, refl, sym, ap, ◌∙◌, subst, inl, inr, ⊎_elim, arith, ne_eqb, eq-eqb, eqb-true}
-use Rattle.std.specs.Prelude.{slice_get, slice_index, if◌then◌else◌, ◌==◌, ◌||◌, ◌/◌, ◌%◌}
-use Rattle.std.proofs.lemmas.Bool.{cases_eq, cases_lt, cases_Bool, both_ways, false≢true}
+use Rattle.std.proofs.Common.{◌≡◌, ◌≢◌, ◌↔◌, ◌⊎◌, ℕ, ◌<◌, ◌≤◌, Bool, true, false, List, length, Some, None, IsTrue, IsFalse, max, refl, sym, ◌∙◌, subst, inl, inr, ⊎_elim, arith, ne_eqb, eq-eqb, eqb-true}
+use Rattle.std.specs.Prelude.{slice_get, slice_index, if◌then◌else◌, ◌==◌, ◌/◌, ◌%◌}
+use Rattle.std.proofs.lemmas.Bool.{cases_eq, both_ways}
 use Rattle.std.proofs.lemmas.Nat.Bits.{bit_at-lt}
 use Rattle.crpd_base.specs.Sets.{member, has}
 use Rattle.icache.specs.Accesses.{Accesses}
-use Rattle.flat_graph.specs.Graph.{Graph, Edge, IsGraph}
+use Rattle.flat_graph.specs.Graph.{Graph, Edge}
 use Rattle.evict_sets.specs.Full.{Listed, FullUseful, listed_useful, used, used_later, IsHit}
 use Rattle.evict_sets.specs.Clauses.{UsefulMeets, SetsMeet}
 use Rattle.evict_sets.proofs.FullLaws.{unlisted_useful_law}
@@ -63,14 +63,12 @@ module _ (g : Graph) (a : Accesses) (l : Listed) where
   unlisted_at y hit behind words out test B is s =
       ⊎_elim
       (λ (same : s ≡ a.set y).
-      let here : has words s ≡ hit = (let t : (s == a.set y) ≡ true = eq-eqb s (a.set y) same in is s ∙ rw t refl) in
-      (
+      let here : has words s ≡ hit = (let t : (s == a.set y) ≡ true = eq-eqb s (a.set y) same in is s ∙ rw t refl) in (
         (λ u. here ∙ test.1 (hit_of s u same)),
         (λ h. used y s out (test.0 (sym here ∙ h)) (sym same)),
       ))
       (λ (ne : s ≢ a.set y).
-      let here : has words s ≡ has behind s = (let f : (s == a.set y) ≡ false = ne_eqb s (a.set y) ne in is s ∙ rw f refl) in
-      (
+      let here : has words s ≡ has behind s = (let f : (s == a.set y) ≡ false = ne_eqb s (a.set y) ne in is s ∙ rw f refl) in (
         (λ u. here ∙ (B s).0 (later_of s u ne)),
         (λ h. let b = (B s).1 (sym here ∙ h) in used_later y b.0 s out b.1 (λ e. ne (sym e)) b.2),
       ))
@@ -126,8 +124,7 @@ module _ (g : Graph) (a : Accesses) (l : Listed) where
   pub listed_meets : (y : ℕ) (useful behind : List ℕ) → IsTrue (l.is_listed y) → ((s : ℕ) → has useful s ≡ l.useful y s) → IsUsefulBehind g a l y behind → UsefulMeets g a l y
       → (IsHit g a l y → IsTrue (has useful (a.set y))) × ((t : ℕ) → t ≢ a.set y → IsTrue (has behind t) → IsTrue (has useful t))
   listed_meets y useful behind t is B M =
-      let U = listed_at y useful t is in
-      (
+      let U = listed_at y useful t is in (
         (λ hit. (U (a.set y)).0 (M.own hit)),
         (λ s ne h. let b = (B s).1 h in (U s).0 (M.edges b.0 s b.1 (λ e. ne (sym e)) b.2)),
       )

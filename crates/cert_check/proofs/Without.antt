@@ -1,5 +1,5 @@
 -- The sets below a number but one.
-use Rattle.std.proofs.Common.{◌≡◌, ◌≢◌, ◌↔◌, ◌⊎◌, ℕ, ◌+◌, ◌<◌, ◌≤◌, Bool, true, false, List, Option, Some, None, MatchOption, IsTrue, refl, sym, ap, ◌∙◌, subst, ⊎_elim, arith, ne_eqb, eq-eqb, eqb-true}
+use Rattle.std.proofs.Common.{◌≡◌, ◌≢◌, ◌↔◌, ℕ, ◌+◌, ◌<◌, ◌≤◌, Bool, true, false, List, Option, Some, None, MatchOption, IsTrue, refl, sym, ap, ◌∙◌, ⊎_elim, arith, ne_eqb, eq-eqb, eqb-true}
 use Rattle.std.specs.Prelude.{if◌then◌else◌, ◌==◌, is_some, not, slice_index, ◌/◌, ◌%◌}
 use Rattle.std.proofs.lemmas.Bool.{cases_eq, cases_lt, false≢true}
 use Rattle.std.proofs.lemmas.Nat.Bits.{bit_at-lt}

@@ -1,9 +1,9 @@
 -- What is known while clauses 6 and 7 are judged.
-use Rattle.std.specs.Prelude.{◌≡◌, ℕ, ◌+◌, ◌*◌, ◌<◌, ◌≤◌, Bool, List, Option, Some, None, length}
+use Rattle.std.specs.Prelude.{◌≡◌, ℕ, ◌+◌, ◌*◌, ◌≤◌, Bool, List, Option, Some, None, length}
 use Rattle.crpd_base.specs.declared.data.Platform.{Platform}
 use Rattle.crpd_base.specs.declared.data.TaskPart.{TaskPart}
 use Rattle.flat_graph.specs.CodeGraph.{CodeGraph, listing}
-use Rattle.loop_regions.specs.CodeNest.{CodeNest, nest_of, IsNestOf}
+use Rattle.loop_regions.specs.CodeNest.{CodeNest, IsNestOf}
 use Rattle.loop_regions.specs.Nest.{Nest, IsBackEdge, Leaves, LeavesLast, Item, Node, Loop, IsItem}
 use Rattle.loop_regions.specs.Potentials.{Costs, Potentials, item_potential}
 use Rattle.evict_sets.specs.Answering.{answers_of}

@@ -1,4 +1,4 @@
-use Rattle.std.proofs.Common.{◌≡◌, ◌+◌, IsTrue, true, false, refl, sym, ◌∙◌, subst, arith}
+use Rattle.std.proofs.Common.{◌+◌, refl, sym, ◌∙◌, subst, arith}
 use Rattle.std.proofs.lemmas.Bool.{false≢true}
 use Rattle.cert_check.proofs.Pairs.{PairsTo, all_held, not_held, pairs_skip, pairs_more}
 use Rattle.cert_check.proofs.blocks.are_held.Goals as goal
@@ -16,11 +16,11 @@ pub loop-k-preserved : goal.loop-k-preserved
 loop-k-preserved c =
     elim c.if-not-has.branch [
       | then-not-has+else-not-is_held w ↦
-      subst (λ x. PairsTo c.args.blocks.now c.args.sure.now x (c.loop-k.k + 1)) (sym w.seen-is)
-      (pairs_more c.args.blocks.now c.args.sure.now c.loop-k.seen w.insert.new.self c.loop-k.k (w.is_held.ensures.0 w.if-not-is_held.false) w.insert.ensures c.loop-k.invariant)
+          subst (λ x. PairsTo c.args.blocks.now c.args.sure.now x (c.loop-k.k + 1)) (sym w.seen-is)
+          (pairs_more c.args.blocks.now c.args.sure.now c.loop-k.seen w.insert.new.self c.loop-k.k (w.is_held.ensures.0 w.if-not-is_held.false) w.insert.ensures c.loop-k.invariant)
       | else-not-has w ↦
-      subst (λ x. PairsTo c.args.blocks.now c.args.sure.now x (c.loop-k.k + 1)) (sym w.seen-is)
-      (pairs_skip c.args.blocks.now c.args.sure.now c.loop-k.seen c.loop-k.k (c.has.ensures.0 w.if-not-has.false) c.loop-k.invariant)
+          subst (λ x. PairsTo c.args.blocks.now c.args.sure.now x (c.loop-k.k + 1)) (sym w.seen-is)
+          (pairs_skip c.args.blocks.now c.args.sure.now c.loop-k.seen c.loop-k.k (c.has.ensures.0 w.if-not-has.false) c.loop-k.invariant)
     ]
 
 pub returns : goal.returns

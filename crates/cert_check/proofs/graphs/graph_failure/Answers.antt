@@ -1,10 +1,7 @@
-use Rattle.std.proofs.Common.{◌≡◌, List, length, true, false, sym, ◌∙◌, subst, arith}
-use Rattle.crpd_base.specs.declared.data.NodeState.{NodeState}
-use Rattle.flat_graph.specs.CodeGraph.{graph_of}
+use Rattle.std.proofs.Common.{length, sym, ◌∙◌, arith}
 use Rattle.cert_check.specs.Shown.{shown}
 use Rattle.cert_check.specs.Graphs.{GraphHolds}
 use Rattle.cert_check.specs.Verdict.{Leaders, NodePotentials, LoopPotentials}
-use Rattle.cert_check.specs.Case.{IsCase, IsIndex}
 use Rattle.cert_check.proofs.Found.{stops, goes_on, then_found}
 use Rattle.cert_check.proofs.Tasks.{index_of}
 use Rattle.cert_check.proofs.graphs.graph_failure.Goals as goal

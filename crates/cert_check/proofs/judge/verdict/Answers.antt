@@ -1,4 +1,4 @@
-use Rattle.std.proofs.Common.{◌≡◌, ◌<◌, List, length, None, subst}
+use Rattle.std.proofs.Common.{◌<◌, List, length, subst}
 use Rattle.crpd_base.specs.declared.data.TaskSpec.{TaskSpec}
 use Rattle.cert_check.specs.Verdict.{Holds}
 use Rattle.cert_check.specs.Answered.{IsFound}

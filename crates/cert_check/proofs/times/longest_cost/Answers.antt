@@ -1,4 +1,4 @@
-use Rattle.std.proofs.Common.{◌≤◌, ℕ, sym, subst, arith}
+use Rattle.std.proofs.Common.{◌≤◌, sym, subst}
 use Rattle.flat_graph.specs.CodeGraph.{graph_of, listing}
 use Rattle.evict_sets.specs.Answering.{answers_of}
 use Rattle.cert_check.proofs.Costs.{small, some}

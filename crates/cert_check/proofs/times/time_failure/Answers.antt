@@ -1,4 +1,4 @@
-use Rattle.std.proofs.Common.{◌≡◌, ◌<◌, ◌≤◌, List, Some, length, get_or, false, true, refl, sym, ap, ◌∙◌, subst, arith}
+use Rattle.std.proofs.Common.{◌≡◌, List, Some, get_or, refl, sym, ap, ◌∙◌, subst, arith}
 use Rattle.std.specs.Prelude.{slice_index}
 use Rattle.std.proofs.lemmas.Bool.{false≢true}
 use Rattle.crpd_base.specs.declared.data.TaskPart.{TaskPart}
@@ -7,7 +7,7 @@ use Rattle.evict_sets.specs.Certificate.{cert_at}
 use Rattle.cert_check.specs.Verdict.{Window, Response, Deadline}
 use Rattle.cert_check.specs.Answered.{IsFound}
 use Rattle.cert_check.specs.Times.{TimesHold}
-use Rattle.cert_check.proofs.Found.{then_found, found_first, fails_first, fails_later, only_window, only_times, before_deadline}
+use Rattle.cert_check.proofs.Found.{then_found, found_first, fails_first, fails_later, only_window, before_deadline}
 use Rattle.cert_check.proofs.Names.{jitter_at, deadline_at, part_is}
 use Rattle.cert_check.proofs.times.time_failure.Goals as goal
 

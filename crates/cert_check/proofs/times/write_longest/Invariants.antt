@@ -1,5 +1,5 @@
 -- The costs of the tasks so far.
-use Rattle.std.proofs.Common.{◌≡◌, ℕ, ◌<◌, ◌≤◌, length}
+use Rattle.std.proofs.Common.{◌≡◌, ℕ, ◌<◌, ◌≤◌}
 use Rattle.std.specs.Prelude.{slice_index}
 use Rattle.flat_graph.specs.CodeGraph.{graph_of, listing}
 use Rattle.evict_sets.specs.Answering.{answers_of}

@@ -1,6 +1,5 @@
-use Rattle.std.proofs.Common.{◌≡◌, ◌<◌, ℕ, All, IsTrue, Some, None, ◌↔◌, refl, ap, sym, subst, ◌∙◌}
+use Rattle.std.proofs.Common.{◌≡◌, ◌<◌, ℕ, All, refl, ap, sym, subst, ◌∙◌}
 use Rattle.crpd_base.specs.declared.data.NodeState.{NodeState}
-use Rattle.icache.specs.Cache.{held}
 use Rattle.flat_graph.specs.CodeGraph.{graph_of}
 use Rattle.evict_sets.specs.Certificate.{block_in, listed_of}
 use Rattle.cert_check.specs.Case.{fetches}

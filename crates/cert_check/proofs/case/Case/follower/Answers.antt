@@ -1,4 +1,4 @@
-use Rattle.std.proofs.Common.{◌≡◌, sym, ◌∙◌}
+use Rattle.std.proofs.Common.{sym, ◌∙◌}
 use Rattle.flat_graph.specs.CodeGraph.{graph_of}
 use Rattle.evict_sets.specs.Certificate.{listed_of}
 use Rattle.cert_check.proofs.Nexts.{edge_at}

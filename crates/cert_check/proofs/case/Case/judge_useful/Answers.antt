@@ -1,4 +1,4 @@
-use Rattle.std.proofs.Common.{◌≡◌, ◌<◌, ◌+◌, ◌-◌, length, refl, sym, subst, arith}
+use Rattle.std.proofs.Common.{◌-◌, length, refl, sym, subst, arith}
 use Rattle.std.specs.Prelude.{slice_index_or}
 use Rattle.flat_graph.specs.CodeGraph.{graph_of}
 use Rattle.evict_sets.specs.Certificate.{listed_of}

@@ -1,6 +1,5 @@
-use Rattle.std.proofs.Common.{◌≡◌, ℕ, List, length, true, false, refl, ap, sym, ◌∙◌, subst, arith}
+use Rattle.std.proofs.Common.{ℕ, List, length, refl, ap, sym, ◌∙◌, subst, arith}
 use Rattle.std.proofs.lemmas.Bool.{false≢true}
-use Rattle.flat_graph.specs.CodeGraph.{graph_of}
 use Rattle.cert_check.specs.Verdict.{Leaders, NodePotentials, LoopPotentials}
 use Rattle.cert_check.specs.Answered.{IsFound}
 use Rattle.cert_check.specs.Shown.{shown}

@@ -1,4 +1,4 @@
-use Rattle.std.proofs.Common.{◌≡◌, false, true, sym, ◌∙◌}
+use Rattle.std.proofs.Common.{sym, ◌∙◌}
 use Rattle.std.proofs.lemmas.Bool.{false≢true}
 use Rattle.flat_graph.specs.CodeGraph.{graph_of}
 use Rattle.evict_sets.specs.Certificate.{listed_of}
@@ -10,7 +10,7 @@ pub loop-node-preserved : goal.loop-node-preserved
 loop-node-preserved c =
     elim c.else-leader.branch [
       | else-leader-via-then-leader+else-not-is_listed w ↦
-      listed_more (graph_of c.args.self.now.graph.now) (listed_of c.args.self.now.part.now) c.loop-node.node (sym w.is_listed.ensures ∙ w.if-not-is_listed.false) c.loop-node.invariant
+          listed_more (graph_of c.args.self.now.graph.now) (listed_of c.args.self.now.part.now) c.loop-node.node (sym w.is_listed.ensures ∙ w.if-not-is_listed.false) c.loop-node.invariant
       | else-leader-via-else-leader w ↦
-      other_more (graph_of c.args.self.now.graph.now) (listed_of c.args.self.now.part.now) c.loop-node.node c.graph_law.ensures.graph (λ leads. false≢true (sym w.if-leader.false ∙ c.leader.ensures.1 leads)) c.loop-node.invariant
+          other_more (graph_of c.args.self.now.graph.now) (listed_of c.args.self.now.part.now) c.loop-node.node c.graph_law.ensures.graph (λ leads. false≢true (sym w.if-leader.false ∙ c.leader.ensures.1 leads)) c.loop-node.invariant
     ]

@@ -1,10 +1,9 @@
-use Rattle.std.proofs.Common.{◌≡◌, ℕ, IsTrue, true, false, refl, ap, sym, subst, ◌∙◌}
+use Rattle.std.proofs.Common.{◌≡◌, IsTrue, true, refl, sym, subst, ◌∙◌}
 use Rattle.std.specs.Prelude.{if◌then◌else◌, ◌==◌}
 use Rattle.std.proofs.lemmas.Bool.{false≢true}
 use Rattle.crpd_base.specs.Sets.{has}
 use Rattle.flat_graph.specs.CodeGraph.{graph_of}
 use Rattle.evict_sets.specs.Certificate.{listed_of}
-use Rattle.evict_sets.specs.Full.{IsHit}
 use Rattle.cert_check.specs.Case.{fetches}
 use Rattle.cert_check.proofs.ListedAt.{entry_listed, entry_none, entry_useful}
 use Rattle.cert_check.proofs.UsefulSets.{is_member, has_member, useful_test, own_missing, unlisted_meets}
@@ -35,7 +34,7 @@ returns c =
     c.requires.behind
     (λ hit. elim c.else-hit.branch [
       | else-hit-via-then-hit+else-not-has w ↦
-      subst (λ x. IsTrue (has c.in-Some.entry.now.useful x)) c.cache_set-own.ensures.set (has_member c.in-Some.entry.now.useful c.cache_set-own.result (w.has.ensures.0 w.if-not-has.false))
+          subst (λ x. IsTrue (has c.in-Some.entry.now.useful x)) c.cache_set-own.ensures.set (has_member c.in-Some.entry.now.useful c.cache_set-own.result (w.has.ensures.0 w.if-not-has.false))
       | else-hit-via-else-hit w ↦ absurd (false≢true (sym w.if-hit.false ∙ c.requires.hit.1 hit))
     ])
     (λ t. subst (λ x. has c.with.result t ≡ (if t == x then true else has c.in-Some.entry.now.useful t)) c.cache_set-own.ensures.set (c.with.ensures t))

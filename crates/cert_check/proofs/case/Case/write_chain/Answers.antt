@@ -1,4 +1,4 @@
-use Rattle.std.proofs.Common.{◌+◌, ◌-◌, ◌<◌, length, None, subst, arith, length-set}
+use Rattle.std.proofs.Common.{◌+◌, subst, arith, length-set}
 use Rattle.flat_graph.specs.CodeGraph.{graph_of}
 use Rattle.evict_sets.specs.Certificate.{listed_of}
 use Rattle.cert_check.proofs.Chains.{ChainTo, start_room, chain_start, chain_room, chain_node, chain_more, chain_closed}

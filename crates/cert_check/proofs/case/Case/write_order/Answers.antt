@@ -1,4 +1,4 @@
-use Rattle.std.proofs.Common.{◌≡◌, ◌+◌, length, sym, subst, ◌∙◌, arith}
+use Rattle.std.proofs.Common.{◌+◌, sym, subst, ◌∙◌, arith}
 use Rattle.flat_graph.specs.CodeGraph.{graph_of}
 use Rattle.evict_sets.specs.Certificate.{listed_of}
 use Rattle.cert_check.specs.Ordered.{HasListed}
@@ -14,17 +14,17 @@ pub loop-node-preserved : goal.loop-node-preserved
 loop-node-preserved c =
     elim c.if-is_listed.branch [
       | then-is_listed w ↦
-      subst (λ o. OrderTo (graph_of c.args.self.now.graph.now) (listed_of c.args.self.now.part.now) o c.if-is_listed.count (c.loop-node.node + 1)) (sym w.order-is)
-      (subst (λ k. OrderTo (graph_of c.args.self.now.graph.now) (listed_of c.args.self.now.part.now) w.write_chain-count.new.order k (c.loop-node.node + 1)) (sym w.count-is)
-      (record { line = w.write_chain-count.ensures.line; closed = w.write_chain-count.ensures.closed; all = w.write_chain-count.ensures.all }))
+          subst (λ o. OrderTo (graph_of c.args.self.now.graph.now) (listed_of c.args.self.now.part.now) o c.if-is_listed.count (c.loop-node.node + 1)) (sym w.order-is)
+          (subst (λ k. OrderTo (graph_of c.args.self.now.graph.now) (listed_of c.args.self.now.part.now) w.write_chain-count.new.order k (c.loop-node.node + 1)) (sym w.count-is)
+          (record { line = w.write_chain-count.ensures.line; closed = w.write_chain-count.ensures.closed; all = w.write_chain-count.ensures.all }))
       | else-is_listed w ↦
-      subst (λ o. OrderTo (graph_of c.args.self.now.graph.now) (listed_of c.args.self.now.part.now) o c.if-is_listed.count (c.loop-node.node + 1)) (sym w.order-is)
-      (subst (λ k. OrderTo (graph_of c.args.self.now.graph.now) (listed_of c.args.self.now.part.now) c.loop-node.order k (c.loop-node.node + 1)) (sym w.count-is)
-      (record {
-        line = c.loop-node.invariant.line;
-        closed = c.loop-node.invariant.closed;
-        all = listed_past (graph_of c.args.self.now.graph.now) (listed_of c.args.self.now.part.now) c.loop-node.order c.loop-node.count c.loop-node.node (sym c.is_listed.ensures ∙ w.if-is_listed.false) c.loop-node.invariant.all;
-      }))
+          subst (λ o. OrderTo (graph_of c.args.self.now.graph.now) (listed_of c.args.self.now.part.now) o c.if-is_listed.count (c.loop-node.node + 1)) (sym w.order-is)
+          (subst (λ k. OrderTo (graph_of c.args.self.now.graph.now) (listed_of c.args.self.now.part.now) c.loop-node.order k (c.loop-node.node + 1)) (sym w.count-is)
+          (record {
+            line = c.loop-node.invariant.line;
+            closed = c.loop-node.invariant.closed;
+            all = listed_past (graph_of c.args.self.now.graph.now) (listed_of c.args.self.now.part.now) c.loop-node.order c.loop-node.count c.loop-node.node (sym c.is_listed.ensures ∙ w.if-is_listed.false) c.loop-node.invariant.all;
+          }))
     ]
 
 pub returns : goal.returns

@@ -1,5 +1,4 @@
 -- The regions round the source so far pay for their turns.
-use Rattle.std.proofs.Common.{◌*◌, ◌≤◌}
 use Rattle.flat_graph.specs.CodeGraph.{graph_of}
 use Rattle.loop_regions.specs.CodeNest.{nest_of}
 use Rattle.cert_check.specs.Certificate.{potentials_of}

@@ -1,4 +1,4 @@
-use Rattle.std.proofs.Common.{Some, None, true, false, refl, sym, ◌∙◌, subst, arith}
+use Rattle.std.proofs.Common.{Some, None, refl, sym, ◌∙◌, subst, arith}
 use Rattle.std.proofs.lemmas.Bool.{false≢true}
 use Rattle.cert_check.specs.Shown.{shown}
 use Rattle.cert_check.specs.Case.{counted}
