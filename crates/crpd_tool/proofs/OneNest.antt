@@ -1,13 +1,13 @@
 -- The loops of a task have regions, or one refusal.
-use Rattle.std.proofs.Common.{◌≡◌, ◌≢◌, ℕ, zero, suc, ◌+◌, ◌<◌, ◌≤◌, ◌⊎◌, Bool, true, false, List, [], ◌∷◌, Option, Some, None, Result, Ok, Err, IsTrue, length, refl, sym, ap, ◌∙◌, subst, inl, inr, arith}
+use Rattle.std.proofs.Common.{◌≡◌, ◌≢◌, ℕ, zero, suc, ◌<◌, ◌≤◌, Bool, false, List, [], ◌∷◌, Some, IsTrue, refl, sym, ap, ◌∙◌, subst, inl, inr, arith}
 use Rattle.std.specs.Prelude.{Contains, IsFalse, slice_get}
 use Rattle.std.proofs.lemmas.Bool.{cases_eq, cases_lt}
 use Rattle.crpd_base.specs.declared.data.LoopAt.{LoopAt}
-use Rattle.flat_graph.specs.Graph.{Graph, Edge, Places}
+use Rattle.flat_graph.specs.Graph.{Graph, Places}
 use Rattle.flat_graph.proofs.Members.{contains_at}
 use Rattle.loop_regions.specs.Nest.{Nest, IsBackEdge}
-use Rattle.loop_regions.specs.Refused.{AreRefused, IsLoopError}
-use Rattle.loop_regions.specs.Stated.{IsRegionOf, IsRegions, IsAccepted, IsSecondEntry, HoldsMore, IsNotNested, IsForward, IsForwardWay, IsOnCycle, IsSameHead, IsLeastAt, region_holds}
+use Rattle.loop_regions.specs.Refused.{IsLoopError}
+use Rattle.loop_regions.specs.Stated.{IsRegions, IsAccepted, IsSecondEntry, HoldsMore, IsNotNested, IsForward, IsForwardWay, IsOnCycle, IsSameHead, IsLeastAt, region_holds}
 use Rattle.loop_regions.specs.declared.fault.LoopError.{LoopError}
 use Rattle.loop_regions.specs.declared.fault.LoopError.TheVariants as loop_fault
 

@@ -2,7 +2,7 @@ use Rattle.std.proofs.Common.{◌≡◌, ◌∙◌, ap, sym, get_or, Some, rules
 use Rattle.std.specs.Prelude.{slice_get}
 use Rattle.std.proofs.lemmas.Option.{slice_get-get_or}
 use Rattle.flat_graph.specs.CodeGraph.{CodeGraph}
-use Rattle.crpd_tool.specs.Graphs.{RegionsAt, loop_refusal, name_at}
+use Rattle.crpd_tool.specs.Graphs.{RegionsAt, loop_refusal}
 use Rattle.crpd_tool.proofs.Below.{stops_so}
 use Rattle.crpd_tool.proofs.regions.task_regions.Goals as goal
 

@@ -1,6 +1,5 @@
 use Rattle.std.proofs.Common.{List, Ok, Err, inl, refl, subst}
 use Rattle.flat_graph.specs.CodeGraph.{CodeGraph}
-use Rattle.loop_regions.specs.CodeNest.{CodeNest}
 use Rattle.crpd_tool.specs.Graphs.{GraphsIn, RegionsIn}
 use Rattle.crpd_tool.specs.Steps.{Exactly, StopsBy, Then}
 use Rattle.crpd_tool.proofs.Chain.{goes_on, stopped}
