@@ -24,7 +24,7 @@ fn are_same(a: &Text, b: &Text) -> bool
     a.as_str() == b.as_str()
 }
 
-fn are_alike(a: &Platform, b: &Platform) -> bool
+pub(crate) fn are_alike(a: &Platform, b: &Platform) -> bool
     ensures { IsTrue result ↔ (a.now ≡ b.now) }
 {
     *a == *b
