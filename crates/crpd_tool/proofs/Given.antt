@@ -1,5 +1,5 @@
 -- What the steps that read give: a set in its ranges, and code of images that can lie in memory.
-use Rattle.std.proofs.Common.{◌≡◌, ℕ, List, Ok, Err, refl, subst}
+use Rattle.std.proofs.Common.{◌≡◌, ℕ, List, Ok, Err, length, refl, subst}
 use Rattle.std.specs.Prelude.{Result, All}
 use Rattle.crpd_base.specs.declared.data.Image.{Image}
 use Rattle.crpd_base.specs.declared.data.TaskSet.{TaskSet}
@@ -13,13 +13,13 @@ use Rattle.elf_reader.specs.Reading as elf
 use Rattle.elf_reader.proofs.Law.{read_image}
 use Rattle.set_reader.specs.Reading as set
 use Rattle.set_reader.proofs.Ranged.{found_ranged}
-use Rattle.first_form.proofs.Plans.{code_ends}
 use Rattle.crpd_io.specs.Outside.{Contents}
 use Rattle.crpd_tool.specs.declared.input.Input.{Input}
 use Rattle.crpd_tool.specs.declared.refusal.Refusal.{Refusal}
 use Rattle.crpd_tool.specs.Steps.{and_then, bytes_in, or_refused}
 use Rattle.crpd_tool.specs.Reading.{code_in, elf_refusal, image_in, images_in, input_in, map_refusal, set_in, set_refusal}
-use Rattle.crpd_tool.proofs.Each.{all_given}
+use Rattle.crpd_tool.proofs.Each.{all_given, each_count}
+use Rattle.crpd_tool.proofs.Plans.{code_ends, plan_per_task}
 
 -- the value on which a step went on
 pub step_ok : {A B : Type 0} (r : Result A Refusal) (next : A → Result B Refusal) (y : B) → and_then r next ≡ Ok y → (x : A) × (r ≡ Ok x) × (next x ≡ Ok y)
@@ -47,6 +47,13 @@ code_good contents name s c e =
     (all_given (λ (t : TaskSpec). image_in contents t.file) IsImage (λ t image is. image_good contents t.file image is) s.tasks images.0 images.1)
     (read_ok (map_refusal name s) (code_of s images.0) c images.2)
 
+code_planned : (contents : Contents) (name : List ℕ) (s : TaskSet) (c : Code) → code_in contents name s ≡ Ok c → length c.plans ≡ length s.tasks
+code_planned contents name s c e =
+    let images = step_ok (images_in contents s.tasks) (λ images. or_refused (map_refusal name s) (code_of s images)) c e in
+    plan_per_task s images.0 c
+    (each_count (λ (t : TaskSpec). image_in contents t.file) s.tasks images.0 images.1)
+    (read_ok (map_refusal name s) (code_of s images.0) c images.2)
+
 -- a set with its code
 pub record IsInput (input : Input) : Type 0 where
   pub ranges : IsTaskSet input.set
@@ -58,3 +65,11 @@ input_good contents name input e =
     let c = step_ok (code_in contents name s.0) (λ code. Ok (record { set = s.0; code = code })) input s.2 in
     let is : record { set = s.0; code = c.0 } ≡ input = cc in
     subst IsInput is (record { ranges = set_ranged contents name s.0 s.1; words = code_good contents name s.0 c.0 c.1 })
+
+-- its code has a plan for each task
+pub input_planned : (contents : Contents) (name : List ℕ) (input : Input) → input_in contents name ≡ Ok input → length input.code.plans ≡ length input.set.tasks
+input_planned contents name input e =
+    let s = step_ok (set_in contents name) _ input e in
+    let c = step_ok (code_in contents name s.0) (λ code. Ok (record { set = s.0; code = code })) input s.2 in
+    let is : record { set = s.0; code = c.0 } ≡ input = cc in
+    subst (λ (i : Input). length i.code.plans ≡ length i.set.tasks) is (code_planned contents name s.0 c.0 c.1)

@@ -1,10 +1,14 @@
 -- Any words have one answer.
-use Rattle.std.proofs.Common.{◌≡◌, ℕ, ◌<◌, ◌≤◌, List, [], Option, get_or, Some, None, Result, Ok, Err, length, refl, sym, ap, ◌∙◌, subst, inl, inr, arith}
+use Rattle.std.proofs.Common.{◌≡◌, ℕ, ◌<◌, ◌≤◌, List, Option, get_or, Some, None, Result, Ok, Err, length, refl, sym, ap, ◌∙◌, subst, inl, inr, arith}
 use Rattle.std.specs.Prelude.{MatchOption, slice_get}
 use Rattle.std.proofs.lemmas.Bool.{cases_lt}
 use Rattle.std.proofs.lemmas.List.{ext_get_or}
 use Rattle.std.proofs.lemmas.Option.{slice_get-get_or}
+use Rattle.crpd_base.specs.declared.data.Certificate.{Certificate}
 use Rattle.crpd_base.specs.declared.data.TaskPlan.{TaskPlan}
+use Rattle.cert_check.specs.Answered.{answer_of}
+use Rattle.cert_check.specs.Shown.{graph_at, nest_at, no_graph, no_nest, shown_at}
+use Rattle.cert_check.specs.Verdict.{IsJudged}
 use Rattle.flat_graph.specs.CodeGraph.{CodeGraph, graph_of, places_of}
 use Rattle.flat_graph.proofs.Members.{some_at}
 use Rattle.loop_regions.specs.CodeNest.{CodeNest, nest_of}
@@ -12,17 +16,20 @@ use Rattle.crpd_io.specs.Outside.{Contents}
 use Rattle.crpd_tool.specs.declared.answer.Answer.{Answer}
 use Rattle.crpd_tool.specs.declared.input.Input.{Input}
 use Rattle.crpd_tool.specs.declared.refusal.Refusal.{Refusal}
-use Rattle.crpd_tool.specs.Check.{CheckEnds, judged_in}
+use Rattle.crpd_tool.specs.declared.shapes.Shapes.{Shapes}
+use Rattle.crpd_tool.specs.Check.{CheckEnds, VerdictOf, verdict_answer}
 use Rattle.crpd_tool.specs.Graphs.{AreRegionsOrNot, GraphAt, GraphsIn, RegionsAt, RegionsIn, loop_refusal, name_at}
 use Rattle.crpd_tool.specs.Out.{Ends, IsAnswer, IsOut, OneAnswer, bad_words, settled}
-use Rattle.crpd_tool.specs.Reading.{input_in}
+use Rattle.crpd_tool.specs.Reading.{certificate_in, input_in}
 use Rattle.crpd_tool.specs.Sets.{SetsEnds, TextOf}
 use Rattle.crpd_tool.specs.Shapes.{ShapesIn}
 use Rattle.crpd_tool.specs.Steps.{EachBelow, Exactly, Then}
 use Rattle.crpd_tool.specs.Words.{Command, check, list, simulate, sets, command_of}
 use Rattle.crpd_tool.proofs.OneGraph.{one_graph_at}
 use Rattle.crpd_tool.proofs.OneNest.{not_refused, one_loop_error}
+use Rattle.crpd_tool.proofs.OneJudgement.{AreSame, judged_too}
 use Rattle.crpd_tool.proofs.OneText.{one_text}
+use Rattle.crpd_tool.proofs.OneVerdict.{one_verdict}
 
 -- ---- a step that is refused in one way
 
@@ -65,27 +72,24 @@ some_same : {A : Type 0} (x y : A) → Some x ≡ Some y → x ≡ y
 some_same x y e = cc
 
 module _ (input : Input) (graphs : List CodeGraph) (k : ℕ) where
-  same_plan : (r s : Result CodeNest Refusal) → RegionsAt input graphs k r → (b : RegionsAt input graphs k s) → (plan : TaskPlan) × (g : CodeGraph) × AreRegionsOrNot input k plan g r × AreRegionsOrNot input k plan g s
+  same_plan : (r s : Result CodeNest Refusal) → RegionsAt input graphs k r → (b : RegionsAt input graphs k s) → (plan : TaskPlan) × (g : CodeGraph) × (slice_get graphs k ≡ Some g) × AreRegionsOrNot input k plan g r × AreRegionsOrNot input k plan g s
   same_plan r s a b =
       let plan = some_same b.0 a.0 (sym b.2 ∙ a.2) in
       let g = some_same b.1 a.1 (sym b.3 ∙ a.3) in
-      (a.0, a.1, a.4, subst (λ x. AreRegionsOrNot input k a.0 x s) g (subst (λ x. AreRegionsOrNot input k x b.1 s) plan b.4))
+      (a.0, a.1, a.3, a.4, subst (λ x. AreRegionsOrNot input k a.0 x s) g (subst (λ x. AreRegionsOrNot input k x b.1 s) plan b.4))
 
   regions_exclusive : (x : CodeNest) (r : Refusal) → RegionsAt input graphs k (Ok x) → RegionsAt input graphs k (Err r) → ⊥
   regions_exclusive x r a b =
       let s = same_plan (Ok x) (Err r) a b in
-      not_refused (graph_of s.1) (places_of s.1) s.0.loops (nest_of x) s.3.0 s.2.0 s.2.1 s.2.2 (s.3.1, s.3.2)
+      not_refused (graph_of s.1) (places_of s.1) s.0.loops (nest_of x) s.4.0 s.3.0 s.3.1 s.3.2 (s.4.1, s.4.2)
 
   regions_one : (r t : Refusal) → RegionsAt input graphs k (Err r) → RegionsAt input graphs k (Err t) → r ≡ t
   regions_one r t a b =
       let s = same_plan (Err r) (Err t) a b in
-      s.2.3 ∙ ap (loop_refusal (name_at input k)) (one_loop_error (graph_of s.1) (places_of s.1) s.0.loops s.2.0 s.3.0 (s.2.1, s.2.2) (s.3.1, s.3.2)) ∙ sym s.3.3
+      s.3.3 ∙ ap (loop_refusal (name_at input k)) (one_loop_error (graph_of s.1) (places_of s.1) s.0.loops s.3.0 s.4.0 (s.3.1, s.3.2) (s.4.1, s.4.2)) ∙ sym s.4.3
 
   regions_once : IsRefusedOnce (RegionsAt input graphs k)
   regions_once = record { exclusive = regions_exclusive; one = regions_one }
-
-no_graph : CodeGraph
-no_graph = record { nodes = []; first = 0 }
 
 -- the graphs of all tasks are the same
 graphs_same : (input : Input) (gs hs : List CodeGraph) → GraphsIn input (Ok gs) → GraphsIn input (Ok hs) → gs ≡ hs
@@ -158,12 +162,69 @@ module _ {A B : Type 0} (P : Result A Refusal → Type 0) (next : A → Result B
 same_input : (x y : Input) → ◌≡◌ {A = Result Input Refusal} (Ok y) (Ok x) → y ≡ x
 same_input x y e = cc
 
+-- ---- the verdict
+
+not_refused_shapes : {A : Type 0} (x : A) (refusal : Refusal) → ◌≡◌ {A = Result A Refusal} (Ok x) (Err refusal) → ⊥
+not_refused_shapes x refusal e = cc
+
+same_stop : (r s : Refusal) → ◌≡◌ {A = Result Certificate Refusal} (Err r) (Err s) → r ≡ s
+same_stop r s e = cc
+
+same_ok : (a b : Shapes) → ◌≡◌ {A = Result Shapes Refusal} (Ok a) (Ok b) → a ≡ b
+same_ok a b e = cc
+
+-- the graphs and the regions of the step that gives both
+shapes_parts : (input : Input) (x : Shapes) → ShapesIn input (Ok x) → GraphsIn input (Ok x.graphs) × RegionsIn input x.graphs (Ok x.nests)
+shapes_parts input x (inl (graphs, found, inl (nests, regions, is))) =
+    subst (λ (s : Shapes). GraphsIn input (Ok s.graphs) × RegionsIn input s.graphs (Ok s.nests)) (same_ok (record { graphs = graphs; nests = nests }) x is) (found, regions)
+shapes_parts input x (inl (graphs, found, inr (refusal, stops, is))) = absurd (not_refused_shapes x refusal is)
+shapes_parts input x (inr (refusal, stops, is)) = absurd (not_refused_shapes x refusal is)
+
+-- the value at a place
+at_place : {A : Type 0} (xs : List A) (k : ℕ) (x d : A) → k < length xs → slice_get xs k ≡ Some x → x ≡ get_or xs k d
+at_place xs k x d lt at = some_same x (get_or xs k d) (sym at ∙ slice_get-get_or xs k d lt)
+
+-- two lists of regions of one list of graphs are of the same loops
+module _ (input : Input) (graphs : List CodeGraph) (all : length graphs ≡ length input.set.tasks) (ns ms : List CodeNest) (first : RegionsIn input graphs (Ok ns)) (second : RegionsIn input graphs (Ok ms)) where
+  regions_same : (k : ℕ) → k < length input.set.tasks → AreSame (graph_at graphs k) (nest_at ns k) (nest_at ms k)
+  regions_same k lt =
+      let a = first.1 k (nest_at ns k) (slice_get-get_or ns k no_nest (omega (arith, lt, first.0))) in
+      let b = second.1 k (nest_at ms k) (slice_get-get_or ms k no_nest (omega (arith, lt, second.0))) in
+      let s = same_plan input graphs k (Ok (nest_at ns k)) (Ok (nest_at ms k)) a b in
+      let g = at_place graphs k s.1 no_graph (omega (arith, lt, all)) s.2 in
+      subst (λ x. AreSame x (nest_at ns k) (nest_at ms k)) g (record { loops = s.0.loops; one_head = s.3.0; first = s.3.1; second = s.4.1 })
+
+-- the judge's answers on one certificate are one
+same_verdict : (input : Input) (x y : Shapes) (c : Certificate) → ShapesIn input (Ok x) → ShapesIn input (Ok y) → (r s : Result Answer Refusal) → VerdictOf input x c r → VerdictOf input y c s → r ≡ s
+same_verdict input x y c a b r s v w =
+    let p = shapes_parts input x a in
+    let q = shapes_parts input y b in
+    let graphs : y.graphs ≡ x.graphs = graphs_same input y.graphs x.graphs q.0 p.0 in
+    let regions = subst (λ gs. RegionsIn input gs (Ok y.nests)) graphs q.1 in
+    let judged = subst (λ gs. IsJudged input.set (shown_at gs y.nests) c (answer_of w.0)) graphs w.1 in
+    let same = judged_too input.set x.graphs c y.nests x.nests (regions_same input x.graphs p.0.0 y.nests x.nests regions p.1) (answer_of w.0) judged in
+    v.2 ∙ ap (λ verdict. Ok (verdict_answer input.set c verdict)) (one_verdict input.set (shown_at x.graphs x.nests) c v.0 w.0 v.1 same) ∙ sym w.2
+
+same_certificate : (x y : Certificate) → ◌≡◌ {A = Result Certificate Refusal} (Ok y) (Ok x) → y ≡ x
+same_certificate x y e = cc
+
 module _ (contents : Contents) (set certificate : List ℕ) where
+  abbrev Judged : Input → Shapes → Result Answer Refusal → Type 0
+  Judged input shapes = Then (Exactly (certificate_in contents certificate)) (VerdictOf input shapes)
+
   abbrev Rest : Input → Result Answer Refusal → Type 0
-  Rest input = Then (ShapesIn input) (λ shapes. Exactly (judged_in contents set certificate input))
+  Rest input = Then (ShapesIn input) (Judged input)
+
+  -- whatever the shapes are
+  judged_end : (input : Input) (x y : Shapes) → ShapesIn input (Ok x) → ShapesIn input (Ok y) → (r s : Result Answer Refusal) → Judged input x r → Judged input y s → r ≡ s
+  judged_end input x y a b r s (inl f) (inl h) =
+      same_verdict input x y f.0 a b r s f.2 (subst (λ c. VerdictOf input y c s) (same_certificate f.0 h.0 (sym h.1 ∙ f.1)) h.2)
+  judged_end input x y a b r s (inl f) (inr h) = absurd (not_refused_shapes f.0 h.0 (sym f.1 ∙ h.1))
+  judged_end input x y a b r s (inr f) (inl h) = absurd (not_refused_shapes h.0 f.0 (sym h.1 ∙ f.1))
+  judged_end input x y a b r s (inr f) (inr h) = f.2 ∙ ap (λ e. Err e) (same_stop f.0 h.0 (sym f.1 ∙ h.1)) ∙ sym h.2
 
   rest_end : (input : Input) (r s : Result Answer Refusal) → Rest input r → Rest input s → r ≡ s
-  rest_end input = then_one (ShapesIn input) (λ shapes. Exactly (judged_in contents set certificate input)) (shapes_once input) (λ x y a b r s e f. sym e ∙ f)
+  rest_end input = then_one (ShapesIn input) (Judged input) (shapes_once input) (judged_end input)
 
   check_end : (r s : Result Answer Refusal) → CheckEnds contents set certificate r → CheckEnds contents set certificate s → r ≡ s
   check_end =

@@ -82,10 +82,11 @@ module _ (g : Graph) (p : Places) (loops : List LoopAt) (no_same : (a : ℕ) →
       some_same x y e = cc
 
   -- what two nests have in common
-  record IsAlike (n m : Nest) : Type 0 where
-    there : (r : ℕ) → r < n.size → r < m.size
-    head : (r : ℕ) → r < n.size → n.head r ≡ m.head r
-    holds : (r y : ℕ) → r < n.size → n.holds r y ≡ m.holds r y
+  pub record IsAlike (n m : Nest) : Type 0 where
+    pub there : (r : ℕ) → r < n.size → r < m.size
+    pub head : (r : ℕ) → r < n.size → n.head r ≡ m.head r
+    pub bound : (r : ℕ) → r < n.size → n.bound r ≡ m.bound r
+    pub holds : (r y : ℕ) → r < n.size → n.holds r y ≡ m.holds r y
 
   heads_meet : (n m : Nest) → IsRegions g p loops n → IsRegions g p loops m → Meets n.size n.head m.size m.head
   heads_meet n m N M r lt =
@@ -110,19 +111,27 @@ module _ (g : Graph) (p : Places) (loops : List LoopAt) (no_same : (a : ℕ) →
       both_false : (a b : Bool) → IsFalse a → IsFalse b → a ≡ b
       both_false a b e f = cc
 
-  alike : (n m : Nest) → IsRegions g p loops n → IsRegions g p loops m → IsAlike n m
+  bounds_alike : (n m : Nest) → IsRegions g p loops n → IsRegions g p loops m → (r : ℕ) → r < n.size → n.bound r ≡ m.bound r
+  bounds_alike n m N M r lt =
+      let s = heads_alike n m N M r lt in
+      let l = N.stated r lt in
+      let k = M.stated r s.0 in
+      l.2.bound ∙ ap (λ (x : LoopAt). x.bound) (one_loop l.0 k.0 l.1 k.1 (sym l.2.head ∙ ap p.address s.1 ∙ k.2.head)) ∙ sym k.2.bound
+
+  pub alike : (n m : Nest) → IsRegions g p loops n → IsRegions g p loops m → IsAlike n m
   alike n m N M = record {
     there = λ r lt. (heads_alike n m N M r lt).0;
     head = λ r lt. (heads_alike n m N M r lt).1;
+    bound = bounds_alike n m N M;
     holds = holds_alike n m N M;
   }
 
   -- ---- what holds of one of them holds of the other
 
-  true_too : (a b : Bool) → a ≡ b → IsTrue a → IsTrue b
+  pub true_too : (a b : Bool) → a ≡ b → IsTrue a → IsTrue b
   true_too a b e t = subst (λ x. IsTrue x) e t
 
-  false_too : (a b : Bool) → a ≡ b → IsFalse a → IsFalse b
+  pub false_too : (a b : Bool) → a ≡ b → IsFalse a → IsFalse b
   false_too a b e t = subst (λ x. IsFalse x) e t
 
   module _ (n m : Nest) (N : IsRegions g p loops n) (M : IsRegions g p loops m) where
@@ -149,7 +158,7 @@ module _ (g : Graph) (p : Places) (loops : List LoopAt) (no_same : (a : ℕ) →
         let A = alike n m N M in
         (e.0, e.1, A.there e.0 e.2, A.there e.1 e.3, true_too _ _ (A.holds e.0 y e.2) e.4, true_too _ _ (A.holds e.1 y e.3) e.5, more_too e.0 e.1 e.2 e.3 e.6, more_too e.1 e.0 e.3 e.2 e.7)
 
-    back_too : (u v : ℕ) → IsBackEdge n u v → IsBackEdge m u v
+    pub back_too : (u v : ℕ) → IsBackEdge n u v → IsBackEdge m u v
     back_too u v e = let A = alike n m N M in (e.0, A.there e.0 e.1, true_too _ _ (A.holds e.0 u e.1) e.2, e.3 ∙ A.head e.0 e.1)
 
   module _ (n m : Nest) (N : IsRegions g p loops n) (M : IsRegions g p loops m) where

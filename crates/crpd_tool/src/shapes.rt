@@ -1,5 +1,7 @@
 // The graphs of the tasks with the regions of their loops.
-ghost use Rattle.std.specs.Prelude.{◌≡◌, ◌≤◌, length, IsErrOf};
+ghost use Rattle.std.specs.Prelude.{◌≡◌, ◌≤◌, length, IfOk, IsErrOf};
+ghost use Rattle.cert_check.specs.Shown.{AreShown};
+ghost use Rattle.crpd_base.specs.Ranges.{IsTaskSet};
 ghost use Rattle.crpd_tool.specs.Steps.{MeansBy};
 ghost use Rattle.crpd_tool.specs.Shapes.{ShapesIn};
 
@@ -21,11 +23,14 @@ pub struct Shapes {
 
 /// The graphs of all tasks, and then the regions of all tasks' loops.
 pub(crate) fn task_shapes(alloc: Global, input: &Input) -> Result<Shapes, Halt>
+    requires ranges { IsTaskSet input.now.set }
     requires few { length input.now.set.tasks ≤ 256 }
     requires plans { length input.now.code.plans ≡ length input.now.set.tasks }
     ensures exact { MeansBy (ShapesIn input.now) result }
     ensures no_fault { ¬ IsErrOf result Halt.Fault }
+    ensures shown { IfOk result (λ shapes. AreShown input.now.set shapes.graphs shapes.nests) }
 {
+    input.code.words_law();
     let graphs = task_graphs(alloc, input)?;
     match all_regions(alloc, input, graphs.as_slice()) {
         Ok(nests) => Ok(Shapes { graphs, nests }),

@@ -1,18 +1,29 @@
-use Rattle.std.proofs.Common.{List, Ok, Err, inl, refl, subst}
+use Rattle.std.proofs.Common.{◌≡◌, List, Ok, Err, inl, refl, length, subst}
 use Rattle.flat_graph.specs.CodeGraph.{CodeGraph}
 use Rattle.loop_regions.specs.CodeNest.{CodeNest}
 use Rattle.crpd_tool.specs.Graphs.{GraphsIn, RegionsIn}
+use Rattle.crpd_tool.specs.Shapes.{ShapesIn}
 use Rattle.crpd_tool.specs.Steps.{Exactly, StopsBy, Then}
+use Rattle.crpd_tool.specs.declared.input.Input.{Input}
+use Rattle.crpd_tool.specs.declared.shapes.Shapes.{Shapes}
+use Rattle.crpd_tool.proofs.Built.{shapes_shown}
 use Rattle.crpd_tool.proofs.Chain.{goes_on, stopped}
+use Rattle.crpd_tool.proofs.Given.{IsInput}
 use Rattle.crpd_tool.proofs.shapes.task_shapes.Goals as goal
 
+-- graphs and then nests are shapes
+shaped : (input : Input) (graphs gs : List CodeGraph) (nests : List CodeNest) → gs ≡ graphs → GraphsIn input (Ok graphs) → RegionsIn input gs (Ok nests) → ShapesIn input (Ok (record { graphs = graphs; nests = nests }))
+shaped input graphs gs nests same found regions = inl (graphs, found, inl (nests, subst (λ (x : List CodeGraph). RegionsIn input x (Ok nests)) same regions, refl))
+
 pub returns-in-Ok-clause-exact : goal.returns-in-Ok-clause-exact
-returns-in-Ok-clause-exact c =
-    inl (
-      c.in_ok-graphs.graphs,
-      c.in_ok-graphs.ensures.exact,
-      inl (c.in-Ok.nests, subst (λ (gs : List CodeGraph). RegionsIn c.args.input.now gs (Ok c.in-Ok.nests)) c.as_slice.ensures c.in-Ok.ensures.exact, refl),
-    )
+returns-in-Ok-clause-exact c = shaped c.args.input.now c.in_ok-graphs.graphs _ c.in-Ok.nests c.as_slice.ensures c.in_ok-graphs.ensures.exact c.in-Ok.ensures.exact
+
+pub returns-in-Ok-clause-shown : goal.returns-in-Ok-clause-shown
+returns-in-Ok-clause-shown c =
+    shapes_shown c.args.input.now (record { graphs = c.in_ok-graphs.graphs; nests = c.in-Ok.nests })
+    (record { ranges = c.args.requires.ranges; words = λ a w e. (c.words_law.ensures a w e).0 })
+    c.args.requires.plans
+    (shaped c.args.input.now c.in_ok-graphs.graphs _ c.in-Ok.nests c.as_slice.ensures c.in_ok-graphs.ensures.exact c.in-Ok.ensures.exact)
 
 pub returns-in-Err-clause-exact : goal.returns-in-Err-clause-exact
 returns-in-Err-clause-exact c =
