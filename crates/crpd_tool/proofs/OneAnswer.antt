@@ -164,9 +164,6 @@ same_input x y e = cc
 
 -- ---- the verdict
 
-not_refused_shapes : {A : Type 0} (x : A) (refusal : Refusal) → ◌≡◌ {A = Result A Refusal} (Ok x) (Err refusal) → ⊥
-not_refused_shapes x refusal e = cc
-
 same_stop : (r s : Refusal) → ◌≡◌ {A = Result Certificate Refusal} (Err r) (Err s) → r ≡ s
 same_stop r s e = cc
 
@@ -177,8 +174,8 @@ same_ok a b e = cc
 shapes_parts : (input : Input) (x : Shapes) → ShapesIn input (Ok x) → GraphsIn input (Ok x.graphs) × RegionsIn input x.graphs (Ok x.nests)
 shapes_parts input x (inl (graphs, found, inl (nests, regions, is))) =
     subst (λ (s : Shapes). GraphsIn input (Ok s.graphs) × RegionsIn input s.graphs (Ok s.nests)) (same_ok (record { graphs = graphs; nests = nests }) x is) (found, regions)
-shapes_parts input x (inl (graphs, found, inr (refusal, stops, is))) = absurd (not_refused_shapes x refusal is)
-shapes_parts input x (inr (refusal, stops, is)) = absurd (not_refused_shapes x refusal is)
+shapes_parts input x (inl (graphs, found, inr (refusal, stops, is))) = absurd (not_ok x refusal is)
+shapes_parts input x (inr (refusal, stops, is)) = absurd (not_ok x refusal is)
 
 -- the value at a place
 at_place : {A : Type 0} (xs : List A) (k : ℕ) (x d : A) → k < length xs → slice_get xs k ≡ Some x → x ≡ get_or xs k d
@@ -219,8 +216,8 @@ module _ (contents : Contents) (set certificate : List ℕ) where
   judged_end : (input : Input) (x y : Shapes) → ShapesIn input (Ok x) → ShapesIn input (Ok y) → (r s : Result Answer Refusal) → Judged input x r → Judged input y s → r ≡ s
   judged_end input x y a b r s (inl f) (inl h) =
       same_verdict input x y f.0 a b r s f.2 (subst (λ c. VerdictOf input y c s) (same_certificate f.0 h.0 (sym h.1 ∙ f.1)) h.2)
-  judged_end input x y a b r s (inl f) (inr h) = absurd (not_refused_shapes f.0 h.0 (sym f.1 ∙ h.1))
-  judged_end input x y a b r s (inr f) (inl h) = absurd (not_refused_shapes h.0 f.0 (sym h.1 ∙ f.1))
+  judged_end input x y a b r s (inl f) (inr h) = absurd (not_ok f.0 h.0 (sym f.1 ∙ h.1))
+  judged_end input x y a b r s (inr f) (inl h) = absurd (not_ok h.0 f.0 (sym h.1 ∙ f.1))
   judged_end input x y a b r s (inr f) (inr h) = f.2 ∙ ap (λ e. Err e) (same_stop f.0 h.0 (sym f.1 ∙ h.1)) ∙ sym h.2
 
   rest_end : (input : Input) (r s : Result Answer Refusal) → Rest input r → Rest input s → r ≡ s
