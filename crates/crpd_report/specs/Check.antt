@@ -1,5 +1,5 @@
 -- The text of a verdict on a certificate.
-use Rattle.std.specs.Prelude.{ℕ, List, [], ◌∷◌, ◌++◌, codes}
+use Rattle.std.specs.Prelude.{ℕ, ◌<◌, List, length, [], ◌∷◌, ◌++◌, codes}
 use Rattle.std.specs.Fmt.{decimal}
 use Rattle.std.specs.List.{flat_map, zip}
 use Rattle.crpd_base.specs.declared.data.Certificate.{Certificate}
@@ -8,6 +8,9 @@ use Rattle.crpd_base.specs.declared.data.Method.TheVariants.{Ucb, Ecb}
 use Rattle.crpd_base.specs.declared.data.TaskPart.{TaskPart}
 use Rattle.crpd_base.specs.declared.data.TaskSet.{TaskSet}
 use Rattle.crpd_base.specs.declared.data.TaskSpec.{TaskSpec}
+use Rattle.cert_check.specs.declared.outcome.Verdict.{Verdict}
+use Rattle.cert_check.specs.declared.outcome.Verdict.TheVariants.{Yes, No}
+use Rattle.crpd_report.specs.Simulate.{name_of}
 
 abbrev pub method_name : Method → List ℕ
 method_name Ucb = codes "ucb"
@@ -28,3 +31,13 @@ yes_text set certificate = (codes "yes" ++ 10 ∷ []) ++ flat_map task_line (zip
 -- a clause does not hold for a task
 abbrev pub no_text : List ℕ → ℕ → ℕ → List ℕ
 no_text name clause place = codes "no " ++ name ++ codes " clause " ++ decimal clause ++ codes " place " ++ decimal place ++ 10 ∷ []
+
+-- the text of a verdict
+abbrev pub check_text : TaskSet → Certificate → Verdict → List ℕ
+check_text set certificate Yes = yes_text set certificate
+check_text set certificate (No task clause place) = no_text (name_of set task) clause place
+
+-- the task that a verdict names is in the set
+abbrev pub NamesTask : TaskSet → Verdict → Type 0
+NamesTask set Yes = Unit {0}
+NamesTask set (No task clause place) = task.0 < length set.tasks

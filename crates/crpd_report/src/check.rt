@@ -2,6 +2,8 @@
 ghost use Rattle.std.specs.Prelude.{◌≡◌, [], ◌∷◌, ◌++◌, codes, string_bytes, IfOk};
 ghost use Rattle.crpd_report.specs.Check as spec;
 
+use crate::simulate::task_name;
+use cert_check::Verdict;
 use crpd_base::{Certificate, Memory, Method, TaskPart, TaskSet};
 use std::alloc::{AllocError, Global};
 
@@ -58,25 +60,48 @@ fn yes(alloc: Global, set: &TaskSet, certificate: &Certificate) -> Result<Vec<u8
     Ok(text)
 }
 
-/// The text of a certificate that is accepted: `yes`, and a line for each task of the set, with its name and what the
-/// certificate states at its place: bound, window and response in cycles, and the method. `Memory` is the only error.
-/// Linear in the text.
-pub fn yes_text(alloc: Global, set: &TaskSet, certificate: &Certificate) -> Result<Vec<u8>, Memory>
-    ensures { IfOk result (λ text. text.items ≡ spec.yes_text set.now certificate.now) }
+/// The line of a certificate that is not accepted.
+fn no(alloc: Global, name: &str, clause: u8, place: u32) -> Result<Vec<u8>, AllocError>
+    ensures { IfOk result (λ text. text.items ≡ spec.no_text name.now clause place) }
 {
-    match yes(alloc, set, certificate) {
-        Ok(text) => Ok(text),
-        Err(_) => Err(Memory),
+    let text = format!(in alloc; "no {name} clause {clause} place {place}\n")?;
+    Ok(text.into_bytes())
+}
+
+fn lines(
+    alloc: Global,
+    set: &TaskSet,
+    certificate: &Certificate,
+    verdict: &Verdict,
+) -> Result<Vec<u8>, AllocError>
+    ensures { IfOk result (λ text. text.items ≡ spec.check_text set.now certificate.now verdict.now) }
+{
+    match *verdict {
+        Verdict::Yes => yes(alloc, set, certificate),
+        Verdict::No {
+            task,
+            clause,
+            place,
+        } => no(alloc, task_name(set, task), clause, place),
     }
 }
 
-/// The line of a certificate that is not accepted: the name of the first task for which a clause does not hold, the number
-/// of that clause, and the place of the failure. `Memory` is the only error. Linear in the line.
-pub fn no_text(alloc: Global, name: &str, clause: u8, place: u32) -> Result<Vec<u8>, Memory>
-    ensures { IfOk result (λ text. text.items ≡ spec.no_text name.now clause place) }
+/// The text of a verdict on a certificate. After yes it is `yes`, and a line for each task of the set, with its name and
+/// what the certificate states at its place: bound, window and response in cycles, and the method. After no it is one line:
+/// the name of the first task for which a clause does not hold, the number of that clause, and the place of the failure.
+///
+/// The task that the verdict names is in the set. `Memory` is the only error. Linear in the text.
+pub fn check_text(
+    alloc: Global,
+    set: &TaskSet,
+    certificate: &Certificate,
+    verdict: &Verdict,
+) -> Result<Vec<u8>, Memory>
+    requires { spec.NamesTask set.now verdict.now }
+    ensures { IfOk result (λ text. text.items ≡ spec.check_text set.now certificate.now verdict.now) }
 {
-    match format!(in alloc; "no {name} clause {clause} place {place}\n") {
-        Ok(text) => Ok(text.into_bytes()),
+    match lines(alloc, set, certificate, verdict) {
+        Ok(text) => Ok(text),
         Err(_) => Err(Memory),
     }
 }

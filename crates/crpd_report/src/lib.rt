@@ -9,7 +9,7 @@ mod sets;
 mod simulate;
 
 pub use address::address_text;
-pub use check::{no_text, yes_text};
+pub use check::check_text;
 pub use list::list_text;
 pub use refusal::refusal_text;
 pub use sets::sets_text;

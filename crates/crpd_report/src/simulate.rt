@@ -11,7 +11,7 @@ use script_reader::legal;
 use std::alloc::{AllocError, Global};
 
 /// The name of a task.
-fn task_name(set: &TaskSet, task: Task) -> &str
+pub(crate) fn task_name(set: &TaskSet, task: Task) -> &str
     ensures { result.now ≡ spec.name_of set.now task }
 {
     match set.tasks.as_slice().get(usize::from(task.0)) {
