@@ -1,4 +1,4 @@
-//! The analysis' certificate: what it is, and the laws by which it meets the clauses.
+//! The analysis' certificate: how it is made, what it is, and the laws by which it meets the clauses.
 #![tactic(auto)]
 
 ghost use Rattle.cert_build.specs.Best.{BestIsJudgedLaw, ChoicesLaw, OneBestLaw};
@@ -6,6 +6,19 @@ ghost use Rattle.cert_build.specs.BestLaws.{BestMeetsLaw, BestSetsLaw, BestState
 ghost use Rattle.cert_build.specs.TwoWords.{TwoWords};
 
 use delay_count::growth_law;
+
+mod all_tasks;
+mod completed;
+mod fault;
+mod leader_states;
+mod one_task;
+#[cfg(test)]
+mod tests;
+
+pub use all_tasks::{analyse_all, certify, graphs_law};
+pub use completed::{assemble, complete, parts_of};
+pub use fault::BuildError;
+pub use one_task::{Analysis, analyse};
 
 /// The full states and useful sets of a listing of Sure and Useful are Sure and Useful at all nodes, and meet the clauses on them.
 pub fn best_laws()
@@ -16,7 +29,7 @@ pub fn best_laws()
     ensures enough_sets { EnoughSetsLaw }
 {}
 
-/// The judge says yes to the analysis' certificate of a set whose graphs are those of its code, without refusals.
+/// The judge says yes to the analysis' certificate.
 pub fn best_is_judged()
     ensures { BestIsJudgedLaw }
 {}

@@ -1,7 +1,6 @@
--- Demands of the same parts, costs and windows, and the ranges of a set's times.
+-- Demands of the same parts, costs and windows.
 use Rattle.std.proofs.Common.{◌≡◌, ℕ, zero, suc, ◌<◌, ◌≤◌, List, [], ◌∷◌, length, map, get_or, All, refl, sym, ap, arith}
 use Rattle.std.specs.Prelude.{◌^◌}
-use Rattle.crpd_base.specs.Ranges.{IsTaskSpec, IsTaskSet}
 use Rattle.crpd_base.specs.Tasks.{HasTimes}
 use Rattle.crpd_base.specs.declared.data.Part.{Part}
 use Rattle.crpd_base.specs.declared.data.Method.{Method}
@@ -50,18 +49,3 @@ module _ (grows : DemandGrows) (set : TaskSet) (times : HasTimes set) (i : ℕ) 
       let le = grows one two i v v method times l up (omega arith) in
       let ge = grows two one i v v method times l down (omega arith) in
       omega (arith, le, ge)
-
--- what follows for numbers of the elements of a list
-mapped : {X : Type 0} (P : X → Type 0) (f g : X → ℕ) (Q : ℕ → ℕ → Type 0) (xs : List X) → All P xs → ((x : X) → P x → Q (f x) (g x)) → (k : ℕ) → k < length xs → Q (get_or (map f xs) k 0) (get_or (map g xs) k 0)
-mapped P f g Q [] all h k lt = absurd (omega arith)
-mapped P f g Q (x ∷ xs) all h zero lt = h x (all 0 x (omega arith))
-mapped P f g Q (x ∷ xs) all h (suc k) lt = mapped P f g Q xs (λ j d j_lt. all (suc j) d (omega arith)) h k (omega arith)
-
-pub has_times : (set : TaskSet) → IsTaskSet set → HasTimes set
-has_times set S = record {
-  tasks = S.few;
-  period = λ k lt. mapped IsTaskSpec (λ (t : TaskSpec). t.period) (λ (t : TaskSpec). t.period) (λ x y. 1 ≤ x) set.tasks S.each (λ t h. h.period.0) k lt;
-  longest = λ k lt. mapped IsTaskSpec (λ (t : TaskSpec). t.period) (λ (t : TaskSpec). t.period) (λ x y. x ≤ 2 ^ 40) set.tasks S.each (λ t h. h.period.1) k lt;
-  deadline = λ k lt. mapped IsTaskSpec (λ (t : TaskSpec). t.deadline) (λ (t : TaskSpec). t.period) (λ x y. x ≤ y) set.tasks S.each (λ t h. h.deadline.1) k lt;
-  jitter = λ k lt. mapped IsTaskSpec (λ (t : TaskSpec). t.jitter) (λ (t : TaskSpec). t.jitter) (λ x y. x ≤ 2 ^ 40) set.tasks S.each (λ t h. h.jitter) k lt;
-}

@@ -54,7 +54,7 @@ pub(crate) fn name_failure(set: &TaskSet, certificate: &Certificate, i: usize) -
 }
 
 /// The longest cost of one instruction of a task, 1 to 2^18 cycles.
-fn longest_cost(graph: &Graph, platform: &Platform) -> u64
+pub fn longest_cost(graph: &Graph, platform: &Platform) -> u64
     requires { IsPlatform platform.now }
     ensures is { result ≡ longest platform.now (graph_of graph.now) (listing graph.now) (answers_of graph.now) }
     ensures some { 1 ≤ result }
@@ -65,7 +65,7 @@ fn longest_cost(graph: &Graph, platform: &Platform) -> u64
 }
 
 /// Writes the longest cost of one instruction of each task. Linear in the nodes of all graphs.
-pub(crate) fn write_longest(set: &TaskSet, graphs: &[Graph], longest: &mut [u64])
+pub fn write_longest(set: &TaskSet, graphs: &[Graph], longest: &mut [u64])
     requires platform { IsPlatform set.now.platform }
     requires graphs { length graphs.now ≡ length set.now.tasks }
     requires room { length set.now.tasks ≤ length longest.old }
@@ -78,7 +78,7 @@ pub(crate) fn write_longest(set: &TaskSet, graphs: &[Graph], longest: &mut [u64]
 }
 
 /// The times of a task set are in their ranges.
-pub(crate) fn times_law(set: &TaskSet)
+pub fn times_law(set: &TaskSet)
     requires { IsTaskSet set.now }
     ensures { HasTimes set.now }
 {}

@@ -24,7 +24,8 @@ use Rattle.cert_model.specs.declared.fault.CertError.{CertError}
 use Rattle.cert_model.specs.declared.version.Version.TheVariants.{Second}
 use Rattle.cert_model.specs.Keys.{◌>>=◌, present, good, required, each, item_path}
 use Rattle.cert_model.specs.Kinds as kind
-use Rattle.cert_model.specs.Kinds.{whole, below, all_of, listed, is_between, is_line, is_name, rising, words_of, is_in, pair, pairs_from, state_of, states_from}
+use Rattle.crpd_base.specs.Names.{is_between, is_line, is_name}
+use Rattle.cert_model.specs.Kinds.{whole, below, all_of, listed, rising, words_of, is_in, pair, pairs_from, state_of, states_from}
 use Rattle.cert_model.specs.Ranges.{RiseFrom, IsState, ArePotentials, IsTaskPart, AreTasks, HasSets, IsCertificate}
 use Rattle.cert_model.specs.Reading.{cycles, version_at, second_platform, fields_at, task_at, tasks_at, entries, counted, certificate_at}
 use Rattle.cert_model.specs.Writing as write
@@ -189,13 +190,13 @@ cycles_back path key ms n e h = required_back cycles path key ms (whole_number n
 number_back : (low high : ℕ) (path key : List ℕ) (ms : Members) (n : ℕ) → get_member key ms ≡ Some (whole_number n) → (low ≤ n) × (n ≤ high) → required (whole low high) path key ms ≡ Ok n
 number_back low high path key ms n e h = required_back (whole low high) path key ms (whole_number n) n e (whole_back low high n h.0 h.1)
 
-platform_back : (path : List ℕ) (p : Platform) → IsPlatform p → is_line p.line ≡ true → second_platform path (platform_members p) ≡ Ok p
+platform_back : (path : List ℕ) (p : Platform) → IsPlatform p → second_platform path (platform_members p) ≡ Ok p
 unfolding second_platform platform_members
-platform_back path p h line =
+platform_back path p h =
     bind_back _ _ p.memory p (cycles_back path (codes "data") _ p.memory refl h.memory)
     (bind_back _ _ p.div p (cycles_back path (codes "div") _ p.div refl h.div)
     (bind_back _ _ p.hit p (number_back 1 65535 path (codes "hit") _ p.hit refl h.hit)
-    (bind_back _ _ p.line p (required_back kind.line path (codes "line") _ (whole_number p.line) p.line refl (line_back p.line line))
+    (bind_back _ _ p.line p (required_back kind.line path (codes "line") _ (whole_number p.line) p.line refl (line_back p.line h.line_size))
     (bind_back _ _ p.miss p (cycles_back path (codes "miss") _ p.miss refl h.miss)
     (bind_back _ _ p.mul p (cycles_back path (codes "mul") _ p.mul refl h.mul)
     (bind_back _ _ p.sets p (number_back 1 512 path (codes "sets") _ p.sets refl h.sets)
@@ -260,5 +261,5 @@ unfolding certificate_at certificate_members
 certificate_back c h w =
     bind_back _ _ Second c (version_back _ refl)
     (bind_back _ _ (platform_members c.platform) c (required_back as_object [] (codes "platform") _ (object (platform_members c.platform)) (platform_members c.platform) refl refl)
-    (bind_back _ _ c.platform c (platform_back (codes "platform.") c.platform h.platform h.line)
+    (bind_back _ _ c.platform c (platform_back (codes "platform.") c.platform h.platform)
     (bind_back _ _ c.tasks c (tasks_back _ c.tasks refl h.tasks w) (counted_back c h.entries))))

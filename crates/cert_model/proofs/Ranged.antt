@@ -20,7 +20,8 @@ use Rattle.cert_model.specs.declared.version.Version.{Version}
 use Rattle.cert_model.specs.declared.version.Version.TheVariants.{First, Second}
 use Rattle.cert_model.specs.Keys.{Gives, required, item_path, present, good}
 use Rattle.cert_model.specs.Kinds as kind
-use Rattle.cert_model.specs.Kinds.{only, is_between, whole, below, number_of, all_of, listed, is_line, is_name, pair, pairs_from, state_of, three, states_from}
+use Rattle.crpd_base.specs.Names.{is_between, is_line, is_name}
+use Rattle.cert_model.specs.Kinds.{only, whole, below, number_of, all_of, listed, pair, pairs_from, state_of, three, states_from}
 use Rattle.cert_model.specs.Ranges.{RiseFrom, IsState, ArePotentials, IsTaskPart, AreTasks, HasFewPairs, IsCertificate}
 use Rattle.cert_model.specs.Reading.{most_sets, most_nodes, most_tasks, cycles, version_at, first_platform, second_platform, platform_at, fields_at, task_at, tasks_at, entries, counted, certificate_at, whole_text, document, reading}
 use Rattle.cert_model.proofs.Laws.{bind_ok, guard_ok, ok_is, each_all, each_length}
@@ -243,11 +244,7 @@ required_potentials most path key ms ns h e =
 
 -- ---- the platform
 
-record IsPlatformRead (p : Platform) : Type 0 where
-  ranges : IsPlatform p
-  line : is_line p.line ≡ true
-
-first_ranged : (path : List ℕ) (ms : Members) (p : Platform) → first_platform path ms ≡ Ok p → IsPlatformRead p
+first_ranged : (path : List ℕ) (ms : Members) (p : Platform) → first_platform path ms ≡ Ok p → IsPlatform p
 unfolding first_platform
 first_ranged path ms p e =
     let memory = bind_ok (required cycles path (codes "data") ms) _ p e in
@@ -257,27 +254,25 @@ first_ranged path ms p e =
     let sets = bind_ok (required (whole 1 256) path (codes "sets") ms) _ p miss.2 in
     let switch = bind_ok (required cycles path (codes "switch") ms) _ p sets.2 in
     let taken = bind_ok (required cycles path (codes "taken") ms) _ p switch.2 in
-    let is_line = required_line path (codes "line") ms line.0 line.1 in
-    let of_line = line_between line.0 is_line in
+    let line_size = required_line path (codes "line") ms line.0 line.1 in
+    let of_line = line_between line.0 line_size in
     let of_sets = required_between 1 256 path (codes "sets") ms sets.0 sets.1 in
     let of_hit = required_between 1 65535 path (codes "hit") ms hit.0 hit.1 in
-    subst IsPlatformRead (ok_is _ p taken.2)
+    subst IsPlatform (ok_is _ p taken.2)
     (record {
-      ranges = record {
-        line = (of_line.reaches, of_line.within);
-        sets = (of_sets.reaches, omega (arith, of_sets.within));
-        hit = (of_hit.reaches, of_hit.within);
-        miss = (required_between 0 65535 path (codes "miss") ms miss.0 miss.1).within;
-        memory = (required_between 0 65535 path (codes "data") ms memory.0 memory.1).within;
-        taken = (required_between 0 65535 path (codes "taken") ms taken.0 taken.1).within;
-        switch = (required_between 0 65535 path (codes "switch") ms switch.0 switch.1).within;
-        mul = omega arith;
-        div = omega arith;
-      };
-      line = is_line;
+      line = (of_line.reaches, of_line.within);
+      line_size = line_size;
+      sets = (of_sets.reaches, omega (arith, of_sets.within));
+      hit = (of_hit.reaches, of_hit.within);
+      miss = (required_between 0 65535 path (codes "miss") ms miss.0 miss.1).within;
+      memory = (required_between 0 65535 path (codes "data") ms memory.0 memory.1).within;
+      taken = (required_between 0 65535 path (codes "taken") ms taken.0 taken.1).within;
+      switch = (required_between 0 65535 path (codes "switch") ms switch.0 switch.1).within;
+      mul = omega arith;
+      div = omega arith;
     })
 
-second_ranged : (path : List ℕ) (ms : Members) (p : Platform) → second_platform path ms ≡ Ok p → IsPlatformRead p
+second_ranged : (path : List ℕ) (ms : Members) (p : Platform) → second_platform path ms ≡ Ok p → IsPlatform p
 unfolding second_platform
 second_ranged path ms p e =
     let memory = bind_ok (required cycles path (codes "data") ms) _ p e in
@@ -290,27 +285,25 @@ second_ranged path ms p e =
     let switch = bind_ok (required cycles path (codes "switch") ms) _ p sets.2 in
     let switching = bind_ok (required kind.switching path (codes "switching") ms) _ p switch.2 in
     let taken = bind_ok (required cycles path (codes "taken") ms) _ p switching.2 in
-    let is_line = required_line path (codes "line") ms line.0 line.1 in
-    let of_line = line_between line.0 is_line in
+    let line_size = required_line path (codes "line") ms line.0 line.1 in
+    let of_line = line_between line.0 line_size in
     let of_sets = required_between 1 512 path (codes "sets") ms sets.0 sets.1 in
     let of_hit = required_between 1 65535 path (codes "hit") ms hit.0 hit.1 in
-    subst IsPlatformRead (ok_is _ p taken.2)
+    subst IsPlatform (ok_is _ p taken.2)
     (record {
-      ranges = record {
-        line = (of_line.reaches, of_line.within);
-        sets = (of_sets.reaches, of_sets.within);
-        hit = (of_hit.reaches, of_hit.within);
-        miss = (required_between 0 65535 path (codes "miss") ms miss.0 miss.1).within;
-        memory = (required_between 0 65535 path (codes "data") ms memory.0 memory.1).within;
-        taken = (required_between 0 65535 path (codes "taken") ms taken.0 taken.1).within;
-        switch = (required_between 0 65535 path (codes "switch") ms switch.0 switch.1).within;
-        mul = (required_between 0 65535 path (codes "mul") ms mul.0 mul.1).within;
-        div = (required_between 0 65535 path (codes "div") ms div.0 div.1).within;
-      };
-      line = is_line;
+      line = (of_line.reaches, of_line.within);
+      line_size = line_size;
+      sets = (of_sets.reaches, of_sets.within);
+      hit = (of_hit.reaches, of_hit.within);
+      miss = (required_between 0 65535 path (codes "miss") ms miss.0 miss.1).within;
+      memory = (required_between 0 65535 path (codes "data") ms memory.0 memory.1).within;
+      taken = (required_between 0 65535 path (codes "taken") ms taken.0 taken.1).within;
+      switch = (required_between 0 65535 path (codes "switch") ms switch.0 switch.1).within;
+      mul = (required_between 0 65535 path (codes "mul") ms mul.0 mul.1).within;
+      div = (required_between 0 65535 path (codes "div") ms div.0 div.1).within;
     })
 
-platform_ranged : (version : Version) (path : List ℕ) (ms : Members) (p : Platform) → platform_at version path ms ≡ Ok p → IsPlatformRead p
+platform_ranged : (version : Version) (path : List ℕ) (ms : Members) (p : Platform) → platform_at version path ms ≡ Ok p → IsPlatform p
 platform_ranged First path ms p e = first_ranged path ms p e
 platform_ranged Second path ms p e = second_ranged path ms p e
 
@@ -408,7 +401,7 @@ certificate_ranged ms c e =
     let of_platform = platform_ranged version.0 (codes "platform.") object.0 platform.0 platform.1 in
     let count = counted_ok (record { platform = platform.0; tasks = tasks.0 }) c tasks.2 in
     subst IsCertificate count.0
-    (record { platform = of_platform.ranges; line = of_platform.line; tasks = tasks_ranged version.0 ms tasks.0 tasks.1; entries = count.1 })
+    (record { platform = of_platform; tasks = tasks_ranged version.0 ms tasks.0 tasks.1; entries = count.1 })
 
 text_ranged : (o : Option Members) (c : Certificate) → whole_text o ≡ Ok c → IsCertificate c
 text_ranged None c e = absurd cc

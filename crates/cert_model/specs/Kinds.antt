@@ -4,6 +4,7 @@ use Rattle.std.specs.List.{list_all, list_any}
 use Rattle.std.specs.Str.{bytes_eq}
 use Rattle.serde_json.specs.Data.{Data, Items, no_items, item, Members}
 use Rattle.serde_json.specs.Find.{as_number, as_u64, as_str, as_array, as_object}
+use Rattle.crpd_base.specs.Names.{is_between, is_line, is_name}
 use Rattle.crpd_base.specs.declared.data.Method.{Method}
 use Rattle.crpd_base.specs.declared.data.Method.TheVariants.{Ucb, Ecb}
 use Rattle.crpd_base.specs.declared.data.NodeState.{NodeState}
@@ -20,10 +21,6 @@ abbrev pub only : {A : Type 0} → (A → Bool) → Option A → Option A
 only test None = None
 only test (Some x) = if test x then Some x else None
 
--- a number between two others
-abbrev pub is_between : ℕ → ℕ → ℕ → Bool
-is_between low high n = nat_le low n && nat_le n high
-
 -- ---- numbers
 
 -- a number that is kept as an unsigned one of 64 bits: none has a point, an exponent or a sign
@@ -37,9 +34,6 @@ whole low high d = only (is_between low high) (number_of d)
 -- a number from low on, below a limit
 abbrev pub below : ℕ → ℕ → Data → Option ℕ
 below low limit d = only (λ n. nat_le low n && nat_lt n limit) (number_of d)
-
-abbrev pub is_line : ℕ → Bool
-is_line n = n == 4 || n == 8 || n == 16 || n == 32 || n == 64
 
 -- the length of a cache line in bytes
 unfoldable pub line : Data → Option ℕ
@@ -58,13 +52,6 @@ method_named s = if bytes_eq s (codes "ucb") then Some Ucb else if bytes_eq s (c
 
 unfoldable pub method : Data → Option Method
 method d = as_str d >>= method_named
-
--- a letter, a digit, or one of `_`, `.` and `-`
-abbrev pub is_name_byte : ℕ → Bool
-is_name_byte b = is_between 48 57 b || is_between 65 90 b || is_between 97 122 b || b == 95 || b == 46 || b == 45
-
-abbrev pub is_name : List ℕ → Bool
-is_name s = is_between 1 32 (length s) && list_all is_name_byte s
 
 unfoldable pub name : Data → Option (List ℕ)
 name d = only is_name (as_str d)

@@ -5,7 +5,7 @@ use Rattle.crpd_base.specs.Sets.{AreWords}
 use Rattle.crpd_base.specs.declared.data.Certificate.{Certificate}
 use Rattle.crpd_base.specs.declared.data.NodeState.{NodeState}
 use Rattle.crpd_base.specs.declared.data.TaskPart.{TaskPart}
-use Rattle.cert_model.specs.Kinds.{is_line, is_name}
+use Rattle.crpd_base.specs.Names.{is_name}
 use Rattle.cert_model.specs.Reading.{entries}
 
 -- each number is above the one before: from low on, below a limit
@@ -53,6 +53,5 @@ pub record AreTasks (tasks : List TaskPart) : Type 0 where
 -- at most 4,000,000 state entries
 pub record IsCertificate (c : Certificate) : Type 0 where
   pub platform : IsPlatform c.platform
-  pub line : is_line c.platform.line ≡ true
   pub tasks : AreTasks c.tasks
   pub entries : entries c.tasks ≤ 4000000

@@ -6,7 +6,7 @@ ghost use Rattle.serde_json.specs.Find.{as_object};
 ghost use Rattle.serde_json.specs.View.{view, members_view};
 ghost use Rattle.cert_model.specs.Kinds as spec;
 
-use crpd_base::{LONGEST_TIME, Method, Switching};
+use crpd_base::{is_name, LONGEST_TIME, Method, Switching};
 use serde_json::{Map, Value};
 use std::alloc::{AllocError, Global};
 
@@ -68,24 +68,6 @@ pub fn method(value: &Value) -> Option<Method>
         "ecb" => Some(Method::Ecb),
         _ => None,
     }
-}
-
-fn is_name_byte(b: u8) -> bool
-    ensures { result ≡ spec.is_name_byte b }
-{
-    matches!(b, b'0'..=b'9' | b'A'..=b'Z' | b'a'..=b'z' | b'_' | b'.' | b'-')
-}
-
-fn are_name_bytes(bytes: &[u8]) -> bool
-    ensures { result ≡ list_all spec.is_name_byte bytes.now }
-{
-    bytes.iter().all(|b| is_name_byte(*b))
-}
-
-fn is_name(text: &str) -> bool
-    ensures { result ≡ spec.is_name text.now }
-{
-    1 <= text.len() && text.len() <= 32 && are_name_bytes(text.as_bytes())
 }
 
 /// A task's name.

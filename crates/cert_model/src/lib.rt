@@ -13,7 +13,7 @@ mod version;
 mod writing;
 
 pub use fault::CertError;
-pub use reading::read_certificate;
+pub use reading::{read_certificate, task_entries};
 pub use writing::write_certificate;
 
 #[cfg(test)]

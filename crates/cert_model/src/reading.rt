@@ -56,8 +56,8 @@ fn set_size(set: &SetBits<WORDS>) -> u32
     set.count()
 }
 
-/// The sure pairs and the useful sets of the listed nodes of a task.
-fn task_entries(states: &[NodeState]) -> u64
+/// How many state entries a task has: the sure pairs and the useful sets of its listed nodes. Linear in the states.
+pub fn task_entries(states: &[NodeState]) -> u64
     requires few { length states.now ≤ 16384 }
     requires each { All HasFewPairs states.now }
     ensures is { result ≡ sum_by spec.state_entries states.now }

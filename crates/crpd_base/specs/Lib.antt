@@ -1,4 +1,5 @@
 pub mod Images
+pub mod Names
 pub mod Numbers
 pub mod Sets
 pub mod Sum

@@ -1,13 +1,15 @@
 -- The ranges that a task set keeps: the data that layers hand on.
-use Rattle.std.specs.Prelude.{◌≡◌, ◌≢◌, ℕ, ◌≤◌, ◌^◌, List, length, All, AllPairs}
+use Rattle.std.specs.Prelude.{◌≡◌, ◌≢◌, ℕ, true, ◌≤◌, ◌^◌, List, length, All, AllPairs}
 use Rattle.crpd_base.specs.declared.data.Platform.{Platform}
 use Rattle.crpd_base.specs.declared.data.LoopSpec.{LoopSpec}
 use Rattle.crpd_base.specs.declared.data.TaskSpec.{TaskSpec}
 use Rattle.crpd_base.specs.declared.data.TaskSet.{TaskSet}
+use Rattle.crpd_base.specs.Names.{is_line, is_name, is_file}
 
--- a platform: 4 to 64 bytes a line, 1 to 512 sets, at least one cycle an instruction, and costs below 2^16
+-- a platform: 4, 8, 16, 32 or 64 bytes a line, 1 to 512 sets, at least one cycle an instruction, and costs below 2^16
 pub record IsPlatform (p : Platform) : Type 0 where
   pub line : (4 ≤ p.line) × (p.line ≤ 64)
+  pub line_size : is_line p.line ≡ true
   pub sets : (1 ≤ p.sets) × (p.sets ≤ 512)
   pub hit : (1 ≤ p.hit) × (p.hit ≤ 65535)
   pub miss : p.miss ≤ 65535
@@ -21,8 +23,10 @@ pub record IsPlatform (p : Platform) : Type 0 where
 abbrev pub IsLoopSpec : LoopSpec → Type 0
 IsLoopSpec l = (1 ≤ l.bound) × (l.bound ≤ 1000000)
 
--- a task: a deadline of at most its period, times of at most 2^40 cycles, at most 64 loops
+-- a task: a name and a file, a deadline of at most its period, times of at most 2^40 cycles, at most 64 loops
 pub record IsTaskSpec (t : TaskSpec) : Type 0 where
+  pub name : is_name t.name ≡ true
+  pub file : is_file t.file ≡ true
   pub period : (1 ≤ t.period) × (t.period ≤ 2 ^ 40)
   pub deadline : (1 ≤ t.deadline) × (t.deadline ≤ t.period)
   pub jitter : t.jitter ≤ 2 ^ 40

@@ -1,5 +1,9 @@
 pub mod Hexadecimal
 pub mod Addresses
 mod Zipped
-mod Legality
+mod Lines
+mod CertifiedDelays
+mod LateLaw
+mod MadeText
+pub mod Legality
 mod Members

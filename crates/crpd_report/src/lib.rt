@@ -3,6 +3,8 @@
 
 mod address;
 mod check;
+mod explain;
+mod generate;
 mod list;
 mod refusal;
 mod sets;
@@ -10,6 +12,8 @@ mod simulate;
 
 pub use address::address_text;
 pub use check::check_text;
+pub use explain::explain_text;
+pub use generate::{generate_text, late_law};
 pub use list::list_text;
 pub use refusal::refusal_text;
 pub use sets::sets_text;

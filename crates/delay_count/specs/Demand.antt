@@ -38,6 +38,10 @@ higher_demand set parts window w method i j =
 abbrev pub demand : TaskSet → (ℕ → Part) → (ℕ → ℕ) → (ℕ → ℕ) → ℕ → Method → ℕ → ℕ
 demand set parts longest window i method w = own_demand set parts longest i + sum_below (higher_demand set parts window w method i) i
 
+-- the delays that this demand charges, of all higher tasks together
+abbrev pub charged_delays : TaskSet → (ℕ → Part) → (ℕ → ℕ) → ℕ → Method → ℕ → ℕ
+charged_delays set parts window i method w = sum_below (gamma set parts window w method i) i
+
 -- the longest cost of an instruction of each task
 pub record HasLongest (set : TaskSet) (longest : List ℕ) : Type 0 where
   pub tasks : length set.tasks ≤ length longest

@@ -14,4 +14,4 @@ pub use choice::gamma_ecb;
 pub use laws::growth_law;
 pub use share::Share;
 pub use union::gamma_ucb;
-pub use window_demand::{demand, higher_demand, own_demand};
+pub use window_demand::{charged_delays, demand, higher_demand, own_demand};

@@ -4,7 +4,7 @@ ghost use Rattle.crpd_base.specs.Sets.{has};
 ghost use Rattle.crpd_base.specs.Tasks.{HasTimes};
 ghost use Rattle.delay_count.specs.Counts.{HasWindows};
 ghost use Rattle.delay_count.specs.Gamma.{part_at, evicted_from};
-ghost use Rattle.delay_count.specs.Demand.{HasLongest, greatest_from, blocking, gamma, own_demand, higher_demand, demand};
+ghost use Rattle.delay_count.specs.Demand.{HasLongest, greatest_from, blocking, gamma, own_demand, higher_demand, demand, charged_delays};
 
 use crate::choice::gamma_ecb;
 use crate::jobs::{affected_shares, jobs};
@@ -86,6 +86,34 @@ pub fn higher_demand(
     let part = &parts[j];
     let each = u128::from(part.bound) + (switch + switch);
     u128::from(jobs(set, j, w)) * each + delay(set, parts, windows, task.0 as usize, j, method, w)
+}
+
+/// The delays, in cycles, that the demand of a window of `w` cycles charges by a method, of all higher tasks together: of
+/// each the delay by the cache sets that its jobs in the window evict (Altmeyer, Davis and Maiza, 2012).
+///
+/// It needs a part of the task and of all higher ones, and a window of each higher task, at most 2^40 and in that task's
+/// deadline with its jitter; `w` is at most 2^40. It takes no memory.
+pub fn charged_delays(
+    set: &TaskSet,
+    parts: &[Part],
+    windows: &[u64],
+    task: Task,
+    method: Method,
+    w: u64,
+) -> u128
+    requires times { HasTimes set.now }
+    requires task { task.0 < length set.now.tasks }
+    requires parts { task.0 < length parts.now }
+    requires windows { HasWindows set.now windows.now task.0 }
+    requires w { w ≤ 2 ^ 40 }
+    ensures { result ≡ charged_delays set.now (part_at parts.now) (slice_index windows.now) task.0 method w }
+{
+    let i = task.0 as usize;
+    let mut total = 0;
+    for higher in 0..i {
+        total += delay(set, parts, windows, i, higher, method, w);
+    }
+    total
 }
 
 // The most that an instruction begun before a window may take of it.

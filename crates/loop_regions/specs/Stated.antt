@@ -89,7 +89,7 @@ pub data LoopRefusal : Type 0 where
   NotNested : (address : ℕ) → LoopRefusal
   CycleWithoutBound : (address : ℕ) → LoopRefusal
 
--- the first refusal in order, with its least address
+-- the first refusal in order, with the least such head, or the address of the least such node
 abbrev pub IsLoopRefused : Graph → Places → List LoopAt → Nest → LoopRefusal → Type 0
 IsLoopRefused g p loops n (SameHead a) = IsSameHead loops a × ((b : ℕ) → IsSameHead loops b → a ≤ b)
 IsLoopRefused g p loops n (SecondEntry a) =

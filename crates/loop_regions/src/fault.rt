@@ -4,7 +4,8 @@ ghost use Rattle.loop_regions.specs.declared.fault.LoopError.TheVariants.{Memory
 
 use std::alloc::AllocError;
 
-/// The first thing that is wrong with the stated loops of a task, with the least address at which it is.
+/// The first thing that is wrong with the stated loops of a task. `SameHead` has the least such head; the others have the
+/// address of the least node, in the order of numbering, at which it is.
 #[derive(Clone, Copy, Debug, PartialEq, Eq)]
 pub enum LoopError {
     Memory,

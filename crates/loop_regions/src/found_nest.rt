@@ -51,8 +51,8 @@ fn nest_of_found(
 
 /// The regions of a plan's stated loops in a task's graph: one for each loop in each context in which its head is a node.
 ///
-/// An `Err` is the first refusal, in the order `SameHead`, `SecondEntry`, `NotNested`, `CycleWithoutBound`, each with its
-/// least address. `Memory` may come in place of any answer.
+/// An `Err` is the first refusal, in the order `SameHead`, `SecondEntry`, `NotNested`, `CycleWithoutBound`: `SameHead` with
+/// the least such head, the others with the address of the least such node. `Memory` may come in place of any answer.
 ///
 /// A region holds the nodes of its context whose addresses the loop holds, and the nodes of the calls made there. Time is
 /// linear in the nodes and edges, times the number of regions of their contexts; where a node lies on a cycle without back

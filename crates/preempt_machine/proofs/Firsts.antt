@@ -116,7 +116,8 @@ none_come due heads jobs now d w none x below =
       | inr f ↦ f
     ]
 
-best_is : (now : ℕ) (jobs : List Job) (place : ℕ) → IsFirst now jobs (length jobs) place → (best : Option ℕ) → IsBest now jobs (length jobs) best → best ≡ Some place
+-- the first of the ready jobs is the best of them
+pub best_is : (now : ℕ) (jobs : List Job) (place : ℕ) → IsFirst now jobs (length jobs) place → (best : Option ℕ) → IsBest now jobs (length jobs) best → best ≡ Some place
 best_is now jobs place f None h = absurd (false≢true (sym (h place f.below) ∙ f.ready))
 best_is now jobs place f (Some i) h =
     elim (h.first place f.below f.ready) [

@@ -1,5 +1,5 @@
 // The jobs, and what a job does with the core while it has it.
-ghost use Rattle.std.specs.Prelude.{◌≡◌, ℕ, ◌+◌, ◌<◌, ◌≤◌, ◌^◌, ◌⊎◌, ◌∷◌, ◌==◌, if◌then◌else◌, replicate, length, Some, None, IfSome, IfOk, IsOk, OnOk, OnErr};
+ghost use Rattle.std.specs.Prelude.{◌≡◌, ℕ, suc, ◌+◌, ◌<◌, ◌≤◌, ◌^◌, ◌⊎◌, ◌∷◌, ◌==◌, if◌then◌else◌, replicate, length, Some, None, IfSome, IfOk, IsOk, OnOk, OnErr};
 ghost use Rattle.crpd_base.specs.declared.data.Platform.{Platform};
 ghost use Rattle.rv_decode.specs.Address.{end};
 ghost use Rattle.rv_decode.specs.Range.{IsInRange};
@@ -7,7 +7,7 @@ ghost use Rattle.rv_core.specs.Effect.{IsStore, next_pc};
 ghost use Rattle.icache.specs.Cache.{Cache as Blocks};
 ghost use Rattle.flow_watch.specs.Turns.{HasTurns};
 ghost use Rattle.preempt_machine.specs.Machine.{System, Open, Faulted, Answered, ins_at, new_job, plan_of};
-ghost use Rattle.preempt_machine.specs.Step.{executed, fetch_cost, fetched, is_ready, went, worked};
+ghost use Rattle.preempt_machine.specs.Step.{executed, fetch_cost, fetched, is_open, is_ready, went, worked};
 ghost use Rattle.preempt_machine.specs.Running.{access_by, system_by, HasPlan, IsStoreNow};
 ghost use Rattle.preempt_machine.specs.Jobs.{found_by, shown, turn_by};
 
@@ -34,9 +34,9 @@ enum Standing {
 }
 
 /// A job of the script: its line, its registers and pc, the cycles left of the instruction under way, 0 where none is,
-/// and its watch.
+/// its watch, and how it stands: open, answered at a time, or faulted.
 #[derive(Drop)]
-pub(crate) struct Job {
+pub struct Job {
     line: ScriptJob,
     registers: Regs,
     pc: u32,
@@ -78,8 +78,8 @@ fn start_registers(plan: &TaskPlan) -> Regs
 }
 
 impl Job {
-    /// A job before its first step.
-    pub(crate) fn start(alloc: Global, line: ScriptJob, plan: &TaskPlan) -> Result<Self, Memory>
+    /// A job before its first step: at its task's entry, with the registers of a start. Want of memory is the only error.
+    pub fn start(alloc: Global, line: ScriptJob, plan: &TaskPlan) -> Result<Self, Memory>
         ensures is { IfOk result (λ job. (sys : System) → plan_of sys line.task.0 ≡ plan.now → job ≡ new_job sys line) }
         ensures line { IfOk result (λ job. job.line ≡ line) }
         ensures turns { IfOk result (λ job. HasTurns (length plan.now.loops) job.watch) }
@@ -94,39 +94,51 @@ impl Job {
         })
     }
 
-    pub(crate) fn task(&self) -> Task
+    /// The task that it is a job of.
+    pub fn task(&self) -> Task
         ensures { result ≡ self.now.line.task }
     {
         self.line.task
     }
 
-    pub(crate) fn pc(&self) -> u32
+    /// The address of the instruction that is under way or comes next.
+    pub fn pc(&self) -> u32
         ensures { result ≡ self.now.pc }
     {
         self.pc
     }
 
-    pub(crate) fn watch(&self) -> &Watch
+    /// The watch over its flow.
+    pub fn watch(&self) -> &Watch
         ensures { result.now ≡ self.now.watch }
     {
         &self.watch
     }
 
-    pub(crate) fn left(&self) -> u64
+    /// The cycles left of the instruction under way, 0 where none is.
+    pub fn left(&self) -> u64
         ensures { result ≡ self.now.left }
     {
         self.left
     }
 
+    /// Whether it has neither answered nor faulted.
+    pub fn is_open(&self) -> bool
+        ensures { result ≡ is_open self.now.standing }
+    {
+        matches!(self.standing, Standing::Open)
+    }
+
+    /// Whether it is open and was released at a time or before.
     #[tactic(auto, unfolding(crate::specs::Step::is_ready))]
-    pub(crate) fn is_ready(&self, now: u64) -> bool
+    pub fn is_ready(&self, now: u64) -> bool
         ensures { result ≡ is_ready now self.now }
     {
         matches!(self.standing, Standing::Open) && self.line.release <= now
     }
 
     /// How the job stands, if it has been released.
-    pub(crate) fn end(&self) -> End
+    pub fn end(&self) -> End
         ensures { result ≡ shown self.now.standing }
     {
         match self.standing {
@@ -136,20 +148,23 @@ impl Job {
         }
     }
 
-    fn next(&self, ins: &Ins) -> Next
+    /// Where an instruction at its pc sends it. The fields are in range.
+    pub fn next(&self, ins: &Ins) -> Next
         requires { IsInRange ins.now }
         ensures { result ≡ next_pc ins.now self.now.pc self.now.registers }
     {
         next_pc(ins, self.pc, &self.registers)
     }
 
-    fn set_left(&mut self, left: u64)
+    /// Sets the cycles left of the instruction under way.
+    pub fn set_left(&mut self, left: u64)
         ensures { self.new ≡ record self.old { left = left } }
     {
         self.left = left;
     }
 
-    fn fault(&mut self)
+    /// It faults.
+    pub fn fault(&mut self)
         ensures { self.new ≡ record self.old { standing = Faulted } }
     {
         self.standing = Standing::Faulted;
@@ -162,20 +177,19 @@ impl Job {
         self.standing = Standing::Answered(time);
     }
 
-    /// Goes on at an address, after the effect of its instruction.
+    /// Goes on at an address, after the effect of its instruction, which ends at a time.
     fn arrive(
         &mut self,
         memory: &mut DataMemory,
         plan: &TaskPlan,
         ins: &Ins,
         to: u32,
-        now: u64,
+        time: u64,
     ) -> Result<(), Memory>
         requires in_range { IsInRange ins.now }
         requires turns { HasTurns (length plan.now.loops) self.old.watch }
         requires open { self.old.standing ≡ Open }
-        requires later { now + 1 < 2 ^ 64 }
-        ensures ok { OnOk result ((sys : System) (cache : Blocks) (k : ℕ) → plan_of sys self.old.line.task.0 ≡ plan.now → turn_by cache memory.new k self.new ≡ went sys now ins.now (turn_by cache memory.old k self.old) (Next.Goto to)) }
+        ensures ok { OnOk result ((sys : System) (cache : Blocks) (k n : ℕ) → suc n ≡ time → plan_of sys self.old.line.task.0 ≡ plan.now → turn_by cache memory.new k self.new ≡ went sys n ins.now (turn_by cache memory.old k self.old) (Next.Goto to)) }
         ensures turns { OnOk result (HasTurns (length plan.now.loops) self.new.watch) }
         ensures err { OnErr result ((self.new ≡ self.old) × (memory.new ≡ memory.old)) }
         ensures only { IsStore ins.now ⊎ IsOk result }
@@ -185,31 +199,32 @@ impl Job {
         self.pc = to;
         self.left = 0;
         if to == END {
-            self.standing = Standing::Answered(now + 1);
+            self.standing = Standing::Answered(time);
         }
         Ok(())
     }
 
-    /// The effect of the job's instruction: it answers at the end of this cycle, or goes on.
-    fn finish(
+    /// The effect of its instruction, which ends at a time, and after which it goes on so: it answers then, faults, or goes on.
+    /// After an error all is as before. Memory is wanted by a store alone.
+    pub fn finish(
         &mut self,
         memory: &mut DataMemory,
         plan: &TaskPlan,
         ins: &Ins,
-        now: u64,
+        next: Next,
+        time: u64,
     ) -> Result<(), Memory>
         requires in_range { IsInRange ins.now }
         requires turns { HasTurns (length plan.now.loops) self.old.watch }
         requires open { self.old.standing ≡ Open }
-        requires later { now + 1 < 2 ^ 64 }
-        ensures ok { OnOk result ((sys : System) (cache : Blocks) (k : ℕ) → plan_of sys self.old.line.task.0 ≡ plan.now → turn_by cache memory.new k self.new ≡ went sys now ins.now (turn_by cache memory.old k self.old) (next_pc ins.now self.old.pc self.old.registers)) }
+        ensures ok { OnOk result ((sys : System) (cache : Blocks) (k n : ℕ) → suc n ≡ time → plan_of sys self.old.line.task.0 ≡ plan.now → turn_by cache memory.new k self.new ≡ went sys n ins.now (turn_by cache memory.old k self.old) next) }
         ensures turns { OnOk result (HasTurns (length plan.now.loops) self.new.watch) }
         ensures err { OnErr result ((self.new ≡ self.old) × (memory.new ≡ memory.old)) }
         ensures only { IsStore ins.now ⊎ IsOk result }
     {
-        match self.next(ins) {
-            Next::Goto(to) => return self.arrive(memory, plan, ins, to, now),
-            Next::Answer => self.answer(now + 1),
+        match next {
+            Next::Goto(to) => return self.arrive(memory, plan, ins, to, time),
+            Next::Answer => self.answer(time),
             Next::Fault => {
                 self.set_left(0);
                 self.fault();
@@ -241,7 +256,7 @@ impl Job {
             self.set_left(left - 1);
             return Ok(());
         }
-        self.finish(memory, plan, ins, now)
+        self.finish(memory, plan, ins, self.next(ins), now + 1)
     }
 }
 

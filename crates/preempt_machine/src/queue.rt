@@ -7,16 +7,18 @@ use crate::{Completion, End};
 use crpd_base::{Memory, ScriptJob, Task};
 use std::alloc::Global;
 
-/// The jobs of a script by release, and by place where they are released together.
-///
-/// `due` has their releases and places, `later` the next one of the same task, `heads` for each task the first one that
-/// is not over; a place past the end stands for none. `released` is how many have been told to be open.
+/// The jobs of a script by release, and by place where they are released together. A number past the last job stands for
+/// none.
 #[derive(Drop)]
-pub(crate) struct Queue {
-    pub(crate) due: Vec<(u64, usize)>,
-    pub(crate) later: Vec<usize>,
-    pub(crate) heads: Vec<usize>,
-    pub(crate) released: usize,
+pub struct Queue {
+    /// Their releases and places, in ascending order.
+    pub due: Vec<(u64, usize)>,
+    /// For each of these the next one of the same task.
+    pub later: Vec<usize>,
+    /// For each task the first one that is not over.
+    pub heads: Vec<usize>,
+    /// How many have been told to be open.
+    pub released: usize,
 }
 
 /// The releases and places of jobs, by place.
@@ -70,7 +72,9 @@ fn numbers(alloc: Global, number: usize, count: usize) -> Result<Vec<usize>, Mem
 }
 
 impl Queue {
-    pub(crate) fn new(alloc: Global, lines: &[ScriptJob], tasks: usize) -> Result<Self, Memory>
+    /// The jobs of a script, all of them unreleased, with room for so many tasks. Want of memory is the only error. Time
+    /// is n log n in the jobs.
+    pub fn new(alloc: Global, lines: &[ScriptJob], tasks: usize) -> Result<Self, Memory>
         requires { (x : ℕ) → x < length lines.now → (line_at lines.now x).task.0 < tasks }
         ensures due { IfOk result (λ queue. IsDue lines.now queue.due.items) }
         ensures linked { IfOk result (λ queue. IsLinked lines.now queue.due.items queue.later.items) }
@@ -91,8 +95,8 @@ impl Queue {
         })
     }
 
-    /// The place of the first ready job, by task, release and place.
-    pub(crate) fn first(&self, now: u64) -> Option<usize>
+    /// The place of the first ready job, by task, release and place, by a look at each task's first waiting job.
+    pub fn first(&self, now: u64) -> Option<usize>
         ensures { MatchOption result (NoneHasCome self.now.due.items self.now.heads.items now) (IsFirstCome self.now.due.items self.now.heads.items now) }
     {
         for head in &self.heads {
@@ -104,7 +108,7 @@ impl Queue {
     }
 
     /// The release of the first job that is not told to be open, or a cycle where none comes before it.
-    pub(crate) fn next_release(&self, until: u64) -> u64
+    pub fn next_release(&self, until: u64) -> u64
         ensures { IsNextRelease self.now.due.items self.now.released until result }
     {
         if self.released < self.due.len() && self.due[self.released].0 < until {
@@ -115,7 +119,7 @@ impl Queue {
     }
 
     /// The first job of a task is over.
-    pub(crate) fn finish(&mut self, task: Task)
+    pub fn finish(&mut self, task: Task)
         requires task { task.0 < length self.old.heads.items }
         requires head { slice_index self.old.heads.items task.0 < length self.old.later.items }
         ensures heads { self.new.heads.items ≡ slice_set self.old.heads.items task.0 (slice_index self.old.later.items (slice_index self.old.heads.items task.0)) }
@@ -128,7 +132,7 @@ impl Queue {
     }
 
     /// Tells of the jobs that are released in this cycle that they are open.
-    pub(crate) fn release(&mut self, completions: &mut [Completion], now: u64)
+    pub fn release(&mut self, completions: &mut [Completion], now: u64)
         requires { (p : ℕ) → p < length self.old.due.items → place_at self.old.due.items p < length completions.old }
         ensures opened { HasOpened self.old.due.items self.old.released self.new.released completions.old completions.new }
         ensures from { self.old.released ≤ self.new.released }

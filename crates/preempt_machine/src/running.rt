@@ -51,8 +51,9 @@ fn push<T: Drop>(list: &mut Vec<T>, item: T) -> Result<(), Memory>
     }
 }
 
-/// The jobs of a script before their first steps.
-fn start_jobs(alloc: Global, code: &CodeMap, lines: &[ScriptJob]) -> Result<Vec<Job>, Memory>
+/// The jobs of a script before their first steps, in its order. The code map has a plan for each job's task. Want of memory
+/// is the only error.
+pub fn start_jobs(alloc: Global, code: &CodeMap, lines: &[ScriptJob]) -> Result<Vec<Job>, Memory>
     requires { (x : ℕ) → x < length lines.now → (line_at lines.now x).task.0 < length code.now.plans }
     ensures jobs { IfOk result (λ jobs. (sys : System) → sys.plans ≡ code.now.plans → jobs.items ≡ map (new_job sys) lines.now) }
     ensures plans { IfOk result (λ jobs. (x : ℕ) → x < length jobs.items → HasPlan code.now.plans (job_at jobs.items x)) }
@@ -75,8 +76,9 @@ fn zeros(alloc: Global, count: usize) -> Result<Vec<u32>, Memory>
     }
 }
 
-/// The jobs of a script by task and number, all of them unreleased.
-fn start_completions(
+/// The jobs of a script by task and number, in its order, all of them unreleased. The jobs' tasks are among so many. Want
+/// of memory is the only error.
+pub fn start_completions(
     alloc: Global,
     lines: &[ScriptJob],
     tasks: usize,
@@ -116,7 +118,7 @@ fn place_of(completions: &[Completion], job: JobId) -> usize
 }
 
 /// Whether no job's watch is broken.
-fn are_kept(jobs: &[Job]) -> bool
+pub fn are_kept(jobs: &[Job]) -> bool
     ensures { IsTrue result ↔ All (λ job. is_kept job.watch ≡ true) jobs.now }
 {
     for job in jobs {

@@ -1,3 +1,3 @@
-mod Least
-mod Jumps
-mod Ranges
+pub mod Least
+pub mod Jumps
+pub mod Ranges

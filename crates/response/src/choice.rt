@@ -64,7 +64,7 @@ pub fn windows(
 }
 
 // The smaller window, by the UCB-union method where they are equal.
-fn smaller(ucb: Option<u64>, ecb: Option<u64>) -> Option<Choice>
+pub fn smaller(ucb: Option<u64>, ecb: Option<u64>) -> Option<Choice>
     ensures { result ≡ smaller_of ucb ecb }
 {
     match (ucb, ecb) {

@@ -7,4 +7,5 @@ mod search;
 #[cfg(test)]
 mod tests;
 
-pub use choice::{Choice, WindowError, windows};
+pub use choice::{Choice, WindowError, smaller, windows};
+pub use search::window;

@@ -15,8 +15,9 @@ use Rattle.crpd_base.specs.declared.data.TaskSet.{TaskSet}
 use Rattle.crpd_base.specs.declared.data.TaskSpec.{TaskSpec}
 use Rattle.crpd_base.specs.declared.data.Place.TheVariants.{Number}
 use Rattle.crpd_base.specs.declared.data.Switching.TheVariants.{Cycle}
+use Rattle.crpd_base.specs.Names.{is_line, is_name, is_file}
 use Rattle.crpd_base.specs.Ranges.{IsPlatform, IsLoopSpec, IsTaskSpec, HaveOwnNames, IsTaskSet}
-use Rattle.toml.specs.Data.{Data, integer, Members, as_table, get_member}
+use Rattle.toml.specs.Data.{Data, integer, Members, as_table, as_str, get_member}
 use Rattle.toml.specs.Parse.{parse_document}
 use Rattle.toml_keys.specs.declared.fault.KeyError.{KeyError}
 use Rattle.toml_keys.specs.Reading.{Gives, all_known, required, optional, whole, listed, each, item_path, present, good, at_most}
@@ -77,17 +78,39 @@ optional_within high path key ms n e =
       | inr d ↦ (whole_between 0 high d.0 n d.1).within
     ]
 
-only_ok : {A : Type 0} (test : A → Bool) (o : Option A) (x : A) → kind.only test o ≡ Some x → o ≡ Some x
+-- a value that passed a test: what it was before, and that it passes
+pub record Passed (A : Type 0) (test : A → Bool) (o : Option A) (x : A) : Type 0 where
+  pub same : o ≡ Some x
+  pub passes : test x ≡ true
+
+only_ok : {A : Type 0} (test : A → Bool) (o : Option A) (x : A) → kind.only test o ≡ Some x → Passed A test o x
 only_ok test None x e = absurd cc
 only_ok test (Some y) x e =
     elim (cases_Bool (test y)) [
-      | inl passes ↦ rw passes at e
+      | inl passes ↦ let f = rw passes at e in
+          let same : y ≡ x = cc in
+          record { same = f; passes = subst (λ v. test v ≡ true) same passes }
       | inr fails ↦ absurd (let f = rw fails at e in cc)
     ]
 
-line_between : (d : Data) (n : ℕ) → kind.line d ≡ Some n → IsBetween 4 64 n
+-- the length of a line: within its range, and one of the five
+pub record IsLine (n : ℕ) : Type 0 where
+  pub range : IsBetween 4 64 n
+  pub size : is_line n ≡ true
+
+line_ok : (d : Data) (n : ℕ) → kind.line d ≡ Some n → IsLine n
 unfolding kind.line
-line_between d n e = whole_between 4 64 d n (only_ok kind.is_line (whole 4 64 d) n e)
+line_ok d n e =
+    let passed = only_ok is_line (whole 4 64 d) n e in
+    record { range = whole_between 4 64 d n passed.same; size = passed.passes }
+
+name_ok : (d : Data) (s : List ℕ) → kind.name d ≡ Some s → is_name s ≡ true
+unfolding kind.name
+name_ok d s e = (only_ok is_name (as_str d) s e).passes
+
+file_ok : (d : Data) (s : List ℕ) → kind.file d ≡ Some s → is_file s ≡ true
+unfolding kind.file
+file_ok d s e = (only_ok is_file (as_str d) s e).passes
 
 -- ---- the platform
 
@@ -106,12 +129,13 @@ platform_ranged path ms p e =
     let div = bind_ok (optional 0 cycles path (codes "div") ms) _ p mul.2 in
     let switching = bind_ok (optional Cycle kind.switching path (codes "switching") ms) _ p div.2 in
     let line_kind = required_ok kind.line path (codes "line") ms line.0 line.1 in
-    let of_line = line_between line_kind.0 line.0 line_kind.1 in
+    let of_line = line_ok line_kind.0 line.0 line_kind.1 in
     let of_sets = required_between 1 512 path (codes "sets") ms sets.0 sets.1 in
     let of_hit = required_between 1 65535 path (codes "hit") ms hit.0 hit.1 in
     subst IsPlatform (ok_is _ p switching.2)
     (record {
-      line = (of_line.reaches, of_line.within);
+      line = (of_line.range.reaches, of_line.range.within);
+      line_size = of_line.size;
       sets = (of_sets.reaches, of_sets.within);
       hit = (of_hit.reaches, of_hit.within);
       miss = (required_between 0 65535 path (codes "miss") ms miss.0 miss.1).within;
@@ -165,8 +189,10 @@ loops_ranged path ms loops e =
 
 -- ---- tasks
 
--- the ranges of a task's numbers, but for its deadline's
+-- the ranges of a task's texts and numbers, but for its deadline's
 pub record HasRanges (t : TaskSpec) : Type 0 where
+  pub name : is_name t.name ≡ true
+  pub file : is_file t.file ≡ true
   pub period : IsBetween 1 (2 ^ 40) t.period
   pub deadline : IsBetween 1 (2 ^ 40) t.deadline
   pub jitter : t.jitter ≤ 2 ^ 40
@@ -185,8 +211,12 @@ fields_ranged path ms t e =
     let stack = bind_ok (optional (Number 0) kind.place path (codes "stack") ms) _ t jitter.2 in
     let global = bind_ok (optional (Number 0) kind.place path (codes "global") ms) _ t stack.2 in
     let loops = bind_ok (loops_at path ms) _ t global.2 in
+    let name_kind = required_ok kind.name path (codes "name") ms name.0 name.1 in
+    let file_kind = required_ok kind.file path (codes "file") ms file.0 file.1 in
     subst HasRanges (ok_is _ t loops.2)
     (record {
+      name = name_ok name_kind.0 name.0 name_kind.1;
+      file = file_ok file_kind.0 file.0 file_kind.1;
       period = required_between 1 (2 ^ 40) path (codes "period") ms period.0 period.1;
       deadline = required_between 1 (2 ^ 40) path (codes "deadline") ms deadline.0 deadline.1;
       jitter = (required_between 0 (2 ^ 40) path (codes "jitter") ms jitter.0 jitter.1).within;
@@ -205,6 +235,8 @@ task_ranged i ms t e =
     let ranges = fields_ranged (item_path [] (codes "task") i) ms fields.0 (of_set_ok _ fields.0 fields.1) in
     subst IsTaskSpec (ok_is fields.0 t test.1)
     (record {
+      name = ranges.name;
+      file = ranges.file;
       period = (ranges.period.reaches, ranges.period.within);
       deadline = (ranges.deadline.reaches, ltb-false _ _ test.0);
       jitter = ranges.jitter;

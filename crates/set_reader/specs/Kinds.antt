@@ -3,6 +3,7 @@ use Rattle.std.specs.Prelude.{ℕ, ◌+◌, ◌*◌, ◌-◌, ◌^◌, pos, List
 use Rattle.std.specs.List.{list_all, position_or_len, before_first, after_first}
 use Rattle.std.specs.Str.{bytes_eq}
 use Rattle.toml.specs.Data.{Data, string, integer, Items, no_items, item, as_str, as_array}
+use Rattle.crpd_base.specs.Names.{is_between, is_line, is_name, is_file}
 use Rattle.crpd_base.specs.declared.data.Place.{Place}
 use Rattle.crpd_base.specs.declared.data.Place.TheVariants.{Number, Symbol}
 use Rattle.crpd_base.specs.declared.data.Switching.{Switching}
@@ -14,14 +15,7 @@ abbrev pub only : {A : Type 0} → (A → Bool) → Option A → Option A
 only test None = None
 only test (Some x) = if test x then Some x else None
 
--- a number between two others
-abbrev pub is_between : ℕ → ℕ → ℕ → Bool
-is_between low high n = nat_le low n && nat_le n high
-
 -- ---- the platform
-
-abbrev pub is_line : ℕ → Bool
-is_line n = n == 4 || n == 8 || n == 16 || n == 32 || n == 64
 
 unfoldable pub line : Data → Option ℕ
 line d = only is_line (whole 4 64 d)
@@ -34,22 +28,8 @@ switching d = option_and_then switching_named (as_str d)
 
 -- ---- texts
 
--- a letter, a digit, or one of `_`, `.` and `-`
-abbrev pub is_name_byte : ℕ → Bool
-is_name_byte b = is_between 48 57 b || is_between 65 90 b || is_between 97 122 b || b == 95 || b == 46 || b == 45
-
-abbrev pub is_name : List ℕ → Bool
-is_name s = is_between 1 32 (length s) && list_all is_name_byte s
-
 unfoldable pub name : Data → Option (List ℕ)
 name d = only is_name (as_str d)
-
--- no byte below 0x21, and not 0x7F
-abbrev pub is_file_byte : ℕ → Bool
-is_file_byte b = nat_le 33 b && (nat_lt b 127 || nat_lt 127 b)
-
-abbrev pub is_file : List ℕ → Bool
-is_file s = is_between 1 255 (length s) && list_all is_file_byte s
 
 unfoldable pub file : Data → Option (List ℕ)
 file d = only is_file (as_str d)

@@ -4,7 +4,7 @@ ghost use Rattle.toml.specs.View.{view};
 ghost use Rattle.toml_keys.specs.Reading.{listed};
 ghost use Rattle.set_reader.specs.Kinds as spec;
 
-use crpd_base::{Place, Switching, Text};
+use crpd_base::{is_file, is_name, Place, Switching, Text};
 use std::alloc::{AllocError, Global};
 use toml::Value;
 use toml_keys::whole;
@@ -36,24 +36,6 @@ pub fn switching(value: &Value) -> Option<Switching>
     }
 }
 
-fn is_name_byte(b: u8) -> bool
-    ensures { result ≡ spec.is_name_byte b }
-{
-    matches!(b, b'0'..=b'9' | b'A'..=b'Z' | b'a'..=b'z' | b'_' | b'.' | b'-')
-}
-
-fn are_name_bytes(bytes: &[u8]) -> bool
-    ensures { result ≡ list_all spec.is_name_byte bytes.now }
-{
-    bytes.iter().all(|b| is_name_byte(*b))
-}
-
-fn is_name(text: &str) -> bool
-    ensures { result ≡ spec.is_name text.now }
-{
-    1 <= text.len() && text.len() <= 32 && are_name_bytes(text.as_bytes())
-}
-
 /// A task's name.
 #[tactic(auto, unfolding(crate::specs::Kinds::name))]
 pub fn name(alloc: Global, value: &Value) -> Result<Option<String>, AllocError>
@@ -63,24 +45,6 @@ pub fn name(alloc: Global, value: &Value) -> Result<Option<String>, AllocError>
         Some(text) if is_name(text) => Ok(Some(String::from_str(alloc, text)?)),
         _ => Ok(None),
     }
-}
-
-fn is_file_byte(b: u8) -> bool
-    ensures { result ≡ spec.is_file_byte b }
-{
-    0x21 <= b && (b < 0x7F || 0x7F < b)
-}
-
-fn are_file_bytes(bytes: &[u8]) -> bool
-    ensures { result ≡ list_all spec.is_file_byte bytes.now }
-{
-    bytes.iter().all(|b| is_file_byte(*b))
-}
-
-fn is_file(text: &str) -> bool
-    ensures { result ≡ spec.is_file text.now }
-{
-    1 <= text.len() && text.len() <= 255 && are_file_bytes(text.as_bytes())
 }
 
 /// The name of a file.

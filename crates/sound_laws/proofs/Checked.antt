@@ -43,7 +43,7 @@ use Rattle.run_account.proofs.ReloadLaws.{fetcher_open, fetcher_released, gap_is
 use Rattle.run_account.proofs.Gaps.{one_gap_per_preemptor}
 use Rattle.run_account.proofs.OwnFetches.{own_candidate, last_fetcher, last_fetcher_is}
 use Rattle.run_account.specs.Nodes.{task_of, plan_at, node_of}
-use Rattle.sound_laws.specs.Walks.{IsInRange, IsCodeOf, before_of, fetched_nodes}
+use Rattle.sound_laws.specs.Walks.{IsInRange, IsCodeOf, RunsJobsOf, RunsLegally, before_of, fetched_nodes}
 use Rattle.sound_laws.specs.Rests.{cycles_to_go, is_entry}
 use Rattle.run_account.specs.Ledger
 use Rattle.run_account.specs.Ledger.{IsPreempted, IsWindowStart}
@@ -71,7 +71,7 @@ use Rattle.sound_laws.proofs.Executed.{IsMet, is_met, some_go, go_other, go_own,
 use Rattle.sound_laws.proofs.Own.{entry_is, set_is}
 use Rattle.sound_laws.proofs.NoFaults.{no_fault}
 
-module _ (s : Start) (set : TaskSet) (graphs : ℕ → TaskGraph) (c : Certificate) (R : IsInRange set) (C : IsCodeOf s.system set graphs) (says : IsYes set graphs c) (run : IsRunOf set s) (horizon : ℕ) (kept : IsKept (state s horizon)) where
+module _ (s : Start) (set : TaskSet) (graphs : ℕ → TaskGraph) (c : Certificate) (R : IsInRange set) (C : IsCodeOf s.system set graphs) (says : IsYes set graphs c) (run : RunsJobsOf set s) (horizon : ℕ) (kept : IsKept (state s horizon)) where
   abbrev window : ℕ → ℕ
   window k = window_at c k
 
@@ -454,8 +454,8 @@ module _ (s : Start) (set : TaskSet) (graphs : ℕ → TaskGraph) (c : Certifica
       ]
 
   module _ (legal : IsLegal set s.lines) where
-    legal_run : IsLegalRun set s
-    legal_run = record { cache = run.cache; memory = run.memory; tasks = run.tasks; legal = legal }
+    legal_run : RunsLegally set s
+    legal_run = record { cache = run.cache; tasks = run.tasks; legal = legal }
 
     sets_same : s.system.platform.sets ≡ set.platform.sets
     sets_same = ap (λ (p : Platform). p.sets) C.platform
@@ -975,8 +975,15 @@ module _ (s : Start) (set : TaskSet) (graphs : ℕ → TaskGraph) (c : Certifica
               let le = counts_in (λ n. pick_preemptor n (cases_Bool (test n))) (λ n b. preemptor_task n (cases_Bool (test n)) b) in
               omega (arith, few, le)
 
-run_of : {set : TaskSet} {s : Start} → IsLegalRun set s → IsRunOf set s
-run_of run = record { cache = run.cache; memory = run.memory; tasks = run.tasks }
+run_of : {set : TaskSet} {s : Start} → RunsLegally set s → RunsJobsOf set s
+run_of run = record { cache = run.cache; tasks = run.tasks }
+
+-- the memory plays no part
+runs_jobs : {set : TaskSet} {s : Start} → IsRunOf set s → RunsJobsOf set s
+runs_jobs run = record { cache = run.cache; tasks = run.tasks }
+
+runs_legally : {set : TaskSet} {s : Start} → IsLegalRun set s → RunsLegally set s
+runs_legally run = record { cache = run.cache; tasks = run.tasks; legal = run.legal }
 
 response_is : (set : TaskSet) (graphs : ℕ → TaskGraph) (c : Certificate) → IsYes set graphs c → (k : ℕ) → k < length set.tasks → slice_index (responses c) k ≡ window_at c k + jitter_of set k
 response_is set graphs c says k h =
@@ -984,7 +991,7 @@ response_is set graphs c says k h =
     let at : slice_index (responses c) k ≡ (cert_at c k).response = get_or-map (λ (t : TaskPart). t.response) c.tasks k no_cert 0 l in
     at ∙ (says k h).response
 
-safe_at : (s : Start) (set : TaskSet) (graphs : ℕ → TaskGraph) (c : Certificate) (n : ℕ) → IsInRange set → IsCodeOf s.system set graphs → IsYes set graphs c → IsLegalRun set s → IsKept (state s n) → All (λ (job : Job). ¬ IsLate n (slice_index (responses c) job.line.task.0) job) (state s n).jobs
+safe_at : (s : Start) (set : TaskSet) (graphs : ℕ → TaskGraph) (c : Certificate) (n : ℕ) → IsInRange set → IsCodeOf s.system set graphs → IsYes set graphs c → RunsLegally set s → IsKept (state s n) → All (λ (job : Job). ¬ IsLate n (slice_index (responses c) job.line.task.0) job) (state s n).jobs
 safe_at s set graphs c n R C says run kept k d l =
     let h : k < length s.lines = omega (arith, l, jobs_length s n) in
     let response = response_is set graphs c says (task_at s k) (below_tasks s set graphs c R C says (run_of run) n kept k h) in
@@ -998,11 +1005,11 @@ safe_at s set graphs c n R C says run kept k d l =
 
 pub yes_is_safe : YesIsSafe
 yes_is_safe sys set graphs c R C says s n same run kept =
-    safe_at s set graphs c n R (subst (λ x. IsCodeOf x set graphs) (sym same) C) says run kept
+    safe_at s set graphs c n R (subst (λ x. IsCodeOf x set graphs) (sym same) C) says (runs_legally run) kept
 
 pub undisturbed_bound : UndisturbedBound
 undisturbed_bound s set graphs c n x first R C says run kept h hz still =
-    undisturbed s set graphs c R C says run n kept x first h still hz
+    undisturbed s set graphs c R C says (runs_jobs run) n kept x first h still hz
 
 -- where the window begins later there is no step to count
 none_counted : (s : Start) (t until : ℕ) (test : ℕ → Bool) → until < t → ((n : ℕ) → test n ≡ true → (n < until) × (t ≤ n)) → count test until ≡ 0
@@ -1025,9 +1032,9 @@ entries_within_delays =
     }
 
 pub entry_from_higher : EntryFromHigher
-entry_from_higher s set graphs c n x p R C says run e = from_higher s set graphs c R C says run n e.entry.kept x p e
+entry_from_higher s set graphs c n x p R C says run e = from_higher s set graphs c R C says (runs_jobs run) n e.entry.kept x p e
 
-module _ (s : Start) (set : TaskSet) (graphs : ℕ → TaskGraph) (c : Certificate) (R : IsInRange set) (C : IsCodeOf s.system set graphs) (says : IsYes set graphs c) (run : IsRunOf set s) (until : ℕ) (kept : IsKept (state s until)) (x p first : ℕ) (test useful : ℕ → Bool) (e : IsPreempted s graphs c first x p) (each : (n : ℕ) → test n ≡ true → (n < until) × IsPreempted s graphs c n x p) where
+module _ (s : Start) (set : TaskSet) (graphs : ℕ → TaskGraph) (c : Certificate) (R : IsInRange set) (C : IsCodeOf s.system set graphs) (says : IsYes set graphs c) (run : RunsJobsOf set s) (until : ℕ) (kept : IsKept (state s until)) (x p first : ℕ) (test useful : ℕ → Bool) (e : IsPreempted s graphs c first x p) (each : (n : ℕ) → test n ≡ true → (n < until) × IsPreempted s graphs c n x p) where
   abbrev place_at : ℕ → ℕ
   place_at n = set_of s.system.platform (block_of s.system.platform (job_of s n x).pc)
 
@@ -1051,7 +1058,7 @@ module _ (s : Start) (set : TaskSet) (graphs : ℕ → TaskGraph) (c : Certifica
       (λ n l b. let q = some_sets s set graphs c R C says run until kept in omega arith)
       (λ n l b.
       let E = (each n b).1 in
-      let from = entry_from_higher s set graphs c n x p R C says run E in
+      let from = from_higher s set graphs c R C says run n E.entry.kept x p E in
       let gap = one_gap_per_preemptor s x p n E.from E.time E.until first e.from e.time e.until E.fetch e.fetch E.is e.is in
       let here = subst (λ m. FullUseful (graphs (task_of s x)).graph (accesses_of s.system.platform (graphs (task_of s x))) (listed_of (cert_at c (task_of s x))) (node_of (graphs (task_of s x)) (job_of s m x)) (fetched_set s E.fetch)) gap.1 from.carried in
       subst (λ z. useful z ≡ true) (place_is n E.fetch E.entry.fetches) (covers (fetched_set s E.fetch) here))
@@ -1059,4 +1066,4 @@ module _ (s : Start) (set : TaskSet) (graphs : ℕ → TaskGraph) (c : Certifica
 
 pub preemptor_within_useful : PreemptorWithinUseful
 preemptor_within_useful s set graphs c until x p first test useful R C says run kept e each covers =
-    few_useful s set graphs c R C says run until kept x p first test useful e each covers
+    few_useful s set graphs c R C says (runs_jobs run) until kept x p first test useful e each covers

@@ -8,7 +8,7 @@ use Rattle.crpd_base.specs.declared.data.TaskSet.{TaskSet}
 use Rattle.script_reader.specs.Legal.{AreApart, AreSpaced, IsReleasedInTime, period_of, jitter_of}
 use Rattle.preempt_machine.specs.Machine.{no_job}
 use Rattle.preempt_machine.specs.Step.{Start}
-use Rattle.preempt_machine.specs.Safe.{IsLegalRun}
+use Rattle.sound_laws.specs.Walks.{RunsLegally}
 use Rattle.crpd_base.specs.Sum.{sum_below}
 use Rattle.delay_count.specs.Counts.{jobs_in}
 use Rattle.run_account.proofs.Jobs.{line_of, line_is}
@@ -26,7 +26,7 @@ base_demand set switch cost i window =
 abbrev pub is_member : Start → ℕ → ℕ → ℕ → ℕ → Bool
 is_member s t to j x = (task_at s x == j) && lies_in t to (line_at s x).release
 
-module _ (s : Start) (set : TaskSet) (run : IsLegalRun set s) where
+module _ (s : Start) (set : TaskSet) (run : RunsLegally set s) where
   -- a job's times
   pub in_time_at : (x : ℕ) → x < length s.lines → ((line_at s x).arrival ≤ (line_at s x).release) × ((line_at s x).release ≤ (line_at s x).arrival + jitter_of set (task_at s x))
   in_time_at x h = subst (λ (l : ScriptJob). IsReleasedInTime set l) (sym (line_is s 0 x h)) (run.legal.in_time x no_job.line h)

@@ -22,7 +22,7 @@ at f tasks k h = get_or-map f tasks k no_task 0 h
 task_at : (set : TaskSet) (k : ℕ) → IsTaskSet set → k < length set.tasks → IsTaskSpec (get_or set.tasks k no_task)
 task_at set k T h = T.each k no_task h
 
-in_range : (set : TaskSet) → IsTaskSet set → IsInRange set
+pub in_range : (set : TaskSet) → IsTaskSet set → IsInRange set
 in_range set T =
     record {
       hit = T.platform.hit.0;

@@ -6,7 +6,7 @@ use Rattle.crpd_base.specs.declared.data.TaskSet.{TaskSet}
 use Rattle.script_reader.specs.Legal.{AreApart, period_of, jitter_of}
 use Rattle.preempt_machine.specs.Machine.{no_job}
 use Rattle.preempt_machine.specs.Step.{is_open, is_ready, Start, state, Fetch, fetch_at}
-use Rattle.preempt_machine.specs.Safe.{IsLegalRun}
+use Rattle.sound_laws.specs.Walks.{RunsLegally}
 use Rattle.preempt_machine.proofs.Steps.{WhyFirst, ready_open, ready_released, past_is_not_open}
 use Rattle.preempt_machine.proofs.Runs.{state_time, state_line}
 use Rattle.run_account.specs.Fetches.{job_of}
@@ -59,7 +59,7 @@ pub record HasWindows (s : Start) (set : TaskSet) (rest : ℕ → ℕ → ℕ) (
       is_open (job_of s (t + window (task_at s x)) x).standing ≡ true →
       sum_below extra (t + window (task_at s x)) ≤ sum_below extra from + delay (task_at s x)
 
-module _ (s : Start) (set : TaskSet) (run : IsLegalRun set s) (rest : ℕ → ℕ → ℕ) (extra cost window block delay : ℕ → ℕ) (horizon : ℕ) (spends : Spends s rest extra horizon) (has : HasWindows s set rest extra cost window block delay horizon) where
+module _ (s : Start) (set : TaskSet) (run : RunsLegally set s) (rest : ℕ → ℕ → ℕ) (extra cost window block delay : ℕ → ℕ) (horizon : ℕ) (spends : Spends s rest extra horizon) (has : HasWindows s set rest extra cost window block delay horizon) where
   task_below : (x : ℕ) → x < length s.lines → task_at s x < length set.tasks
   task_below x h = subst (λ (l : ScriptJob). l.task.0 < length set.tasks) (sym (line_is s 0 x h)) (run.tasks x no_job.line h)
 

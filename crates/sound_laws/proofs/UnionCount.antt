@@ -6,7 +6,7 @@ use Rattle.std.proofs.lemmas.Bool.{cases_Bool, cases_eq, false≢true, and_parts
 use Rattle.crpd_base.specs.declared.data.TaskSet.{TaskSet}
 use Rattle.script_reader.specs.Legal.{period_of, jitter_of}
 use Rattle.preempt_machine.specs.Step.{Start}
-use Rattle.preempt_machine.specs.Safe.{IsLegalRun}
+use Rattle.sound_laws.specs.Walks.{RunsLegally}
 use Rattle.crpd_base.specs.Sum.{sum_below}
 use Rattle.crpd_base.specs.Sets.{has as has_set}
 use Rattle.crpd_base.specs.declared.data.Part.{Part}
@@ -53,7 +53,7 @@ inside_task s i t to x h =
       | inr q ↦ let l : task_at s x < task_at s i = ltb-true _ _ (and_parts _ _ q).0 in omega arith
     ]
 
-module _ (s : Start) (set : TaskSet) (run : IsLegalRun set s) (parts : ℕ → Part) (window : ℕ → ℕ) (i t : ℕ) (entry : ℕ → Bool) (victim evictor cached : ℕ → ℕ)
+module _ (s : Start) (set : TaskSet) (run : RunsLegally set s) (parts : ℕ → Part) (window : ℕ → ℕ) (i t : ℕ) (entry : ℕ → Bool) (victim evictor cached : ℕ → ℕ)
     (are : AreEntries s set parts window i t (t + window (task_at s i)) entry victim evictor cached) (periods : (k : ℕ) → k ≤ task_at s i → 0 < period_of set k) where
   abbrev to : ℕ
   to = t + window (task_at s i)

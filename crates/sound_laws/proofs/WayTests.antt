@@ -4,6 +4,7 @@ use Rattle.std.specs.Prelude.{◌==◌, ◌&&◌, ◌||◌, not, nat_lt, nat_le,
 use Rattle.std.proofs.lemmas.Bool.{cases_lt, eqb-true, eq-eqb, ltb-true, leb-true, and_parts, false≢true}
 use Rattle.crpd_base.specs.declared.data.Platform.{Platform}
 use Rattle.crpd_base.specs.declared.data.NodeState.{NodeState}
+use Rattle.crpd_base.specs.declared.data.TaskPart.{TaskPart}
 use Rattle.crpd_base.specs.Sets.{has as has_set}
 use Rattle.rv_decode.specs.declared.Ins.{Ins}
 use Rattle.rv_decode.specs.declared.Ins.TheVariants.{Ecall}
@@ -18,7 +19,7 @@ use Rattle.evict_sets.specs.Certificate.{listed_of}
 use Rattle.cert_check.specs.Certificate.{potentials_of}
 use Rattle.cert_check.specs.Clauses.{costs}
 use Rattle.cert_check.specs.Judge.{IsGraphOf, GraphMeets, Lists}
-use Rattle.sound_laws.specs.OneWay.{plan, to_one, listed_graph, first_alone}
+use Rattle.sound_laws.specs.OneWay.{plan, to_one, listed_graph, first_alone, named}
 use Rattle.sound_laws.proofs.OneWay as law
 
 -- the code of a task that goes one way: its nodes' addresses, instructions and successors, and the nodes before each, the
@@ -225,3 +226,11 @@ lists p w bound evicting useful_sets potentials window way is =
     numbers_below : (k : ℕ) (d : NodeState) → k < 1 → (get_or (first_alone bound evicting useful_sets potentials window).states k d).node < size w
     numbers_below zero d l = way.some
     numbers_below (suc k) d l = absurd (omega (arith, l))
+
+-- a name plays no part in either
+pub lists_named : (t : TaskGraph) (c : TaskPart) (name : List ℕ) → Lists t c → Lists t (named name c)
+lists_named t c name is = record { numbers = is.numbers; leaders = is.leaders; nodes = is.nodes; loops = is.loops }
+
+pub graph_named : (p : Platform) (t : TaskGraph) (c : TaskPart) (name : List ℕ) → GraphMeets p t c → GraphMeets p t (named name c)
+graph_named p t c name is =
+    record { states = is.states; useful = is.useful; sets = is.sets; is_hit = is.is_hit; hits = is.hits; potentials = is.potentials; bound = is.bound }

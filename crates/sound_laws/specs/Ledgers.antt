@@ -8,18 +8,18 @@ use Rattle.loop_regions.specs.TaskGraph.{TaskGraph}
 use Rattle.cert_check.specs.Judge.{IsYes, window_at, part_of}
 use Rattle.preempt_machine.specs.Machine.{Answered}
 use Rattle.preempt_machine.specs.Step.{Start, state}
-use Rattle.preempt_machine.specs.Safe.{IsLegalRun, IsKept}
+use Rattle.preempt_machine.specs.Safe.{IsKept}
 use Rattle.run_account.specs.Fetches.{job_of}
 use Rattle.run_account.specs.Nodes.{task_of}
 use Rattle.run_account.specs.Ledger.{IsWindowStart, LedgerEntry, IsLedger}
-use Rattle.sound_laws.specs.Walks.{IsInRange, IsCodeOf}
+use Rattle.sound_laws.specs.Walks.{IsInRange, IsCodeOf, RunsLegally}
 
 -- after a yes, a legal run that is kept after n steps, with its ledger, and a job that has answered, with its window's start
 pub record HasAnswered (s : Start) (set : TaskSet) (graphs : ℕ → TaskGraph) (c : Certificate) (n : ℕ) (ledger : List LedgerEntry) (x start answer : ℕ) : Type 0 where
   pub in_range : IsInRange set
   pub code : IsCodeOf s.system set graphs
   pub says : IsYes set graphs c
-  pub run : IsLegalRun set s
+  pub run : RunsLegally set s
   pub kept : IsKept (state s n)
   pub entries : IsLedger s graphs c n ledger
   pub job : x < length s.lines

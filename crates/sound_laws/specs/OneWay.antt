@@ -1,5 +1,7 @@
 -- Tasks whose code goes one way, without branches, calls and loops: their words, graphs and certificates.
-use Rattle.std.specs.Prelude.{ℕ, ◌==◌, if◌then◌else◌, false, List, [], ◌∷◌, length, replicate, slice_index_or, Option, Some, None}
+use Rattle.std.specs.Prelude.{ℕ, ◌*◌, ◌/◌, ◌%◌, ◌==◌, if◌then◌else◌, true, false, map, List, [], ◌∷◌, length, replicate, slice_index_or, Option, Some, None}
+use Rattle.crpd_base.specs.declared.data.Image.{Image}
+use Rattle.crpd_base.specs.declared.data.Segment.{Segment}
 use Rattle.crpd_base.specs.declared.data.TaskPlan.{TaskPlan}
 use Rattle.crpd_base.specs.declared.data.TaskSpec.{TaskSpec}
 use Rattle.crpd_base.specs.declared.data.TaskPart.{TaskPart}
@@ -24,6 +26,21 @@ plan entry = record { entry = entry; stack = 0; global = 0; loops = [] }
 abbrev pub task : ℕ → TaskSpec
 task period =
     record { name = []; file = []; entry = None; period = period; deadline = period; jitter = 0; stack = Number 0; global = Number 0; loops = [] }
+
+-- the same of a name, which its file has too
+abbrev pub named_task : List ℕ → ℕ → TaskSpec
+named_task name period = record (task period) { name = name; file = name }
+
+-- the bytes of words, of each the lowest first, and a file with words from some addresses on
+abbrev pub bytes_of : List ℕ → List ℕ
+bytes_of [] = []
+bytes_of (w ∷ ws) = (w % 256) ∷ ((w / 256) % 256) ∷ ((w / 65536) % 256) ∷ (w / 16777216) ∷ bytes_of ws
+
+abbrev pub segment_of : ℕ × List ℕ → Segment
+segment_of run = record { address = run.0; size = 4 * length run.1; bytes = bytes_of run.1; executable = true }
+
+abbrev pub file_of : List (ℕ × List ℕ) → Image
+file_of runs = record { entry = 0; segments = map segment_of runs; symbols = [] }
 
 -- a job of a task, released when it arrives
 abbrev pub job : ℕ → ℕ → ScriptJob
@@ -62,3 +79,7 @@ first_alone bound evicting useful potentials window =
       method = Ucb;
       response = window;
     }
+
+-- the same of a name
+abbrev pub named : List ℕ → TaskPart → TaskPart
+named name part = record part { name = name }

@@ -3,7 +3,7 @@ use Rattle.std.specs.Prelude.{◌≡◌, ◌≢◌, ℕ, zero, suc, ◌<◌, ◌
 use Rattle.crpd_base.specs.declared.data.TaskPlan.{TaskPlan}
 use Rattle.crpd_base.specs.declared.data.TaskSet.{TaskSet}
 use Rattle.rv_decode.specs.Flow.{Words, IsCodeMap, flows}
-use Rattle.script_reader.specs.Legal.{period_of}
+use Rattle.script_reader.specs.Legal.{period_of, IsLegal}
 use Rattle.flow_watch.specs.Watch.{Frame, is_kept}
 use Rattle.flat_graph.specs.Graph.{IsWalk}
 use Rattle.loop_regions.specs.Nest.{IsKept}
@@ -24,6 +24,17 @@ pub record IsInRange (set : TaskSet) : Type 0 where
   pub few_sets : set.platform.sets ≤ 512
   pub periods : (k : ℕ) → k < length set.tasks → 1 ≤ period_of set k
   pub deadlines : (k : ℕ) → k < length set.tasks → deadline_of set k ≤ period_of set k
+
+-- what is asked of a run: a cache with an entry for each of the platform's sets, and jobs of the set's tasks
+pub record RunsJobsOf (set : TaskSet) (s : Start) : Type 0 where
+  pub cache : s.system.platform.sets ≤ length s.cache
+  pub tasks : NamesTasks set s.lines
+
+-- and a legal script
+pub record RunsLegally (set : TaskSet) (s : Start) : Type 0 where
+  pub cache : s.system.platform.sets ≤ length s.cache
+  pub tasks : NamesTasks set s.lines
+  pub legal : IsLegal set s.lines
 
 -- the system runs the set on its code, of which these are the tasks' graphs
 pub record IsCodeOf (sys : System) (set : TaskSet) (graphs : ℕ → TaskGraph) : Type 0 where

@@ -6,11 +6,11 @@ use Rattle.crpd_base.specs.declared.data.Certificate.{Certificate}
 use Rattle.loop_regions.specs.TaskGraph.{TaskGraph}
 use Rattle.cert_check.specs.Judge.{IsYes, window_at, part_of}
 use Rattle.preempt_machine.specs.Step.{is_open, Start, state}
-use Rattle.preempt_machine.specs.Safe.{IsLegalRun, IsKept}
+use Rattle.preempt_machine.specs.Safe.{IsKept}
 use Rattle.run_account.specs.Fetches.{job_of}
 use Rattle.run_account.specs.Nodes.{task_of}
 use Rattle.run_account.specs.Ledger.{IsEvicted, IsPreempted, IsWindowStart}
-use Rattle.sound_laws.specs.Walks.{IsInRange, IsCodeOf}
+use Rattle.sound_laws.specs.Walks.{IsInRange, IsCodeOf, RunsLegally}
 use Rattle.sound_laws.specs.Rests.{count_below}
 
 -- after a yes, a legal run that is kept up to a step, and a job i that is open up to it, with its window's start
@@ -18,7 +18,7 @@ pub record HasWindow (s : Start) (set : TaskSet) (graphs : ℕ → TaskGraph) (c
   pub in_range : IsInRange set
   pub code : IsCodeOf s.system set graphs
   pub says : IsYes set graphs c
-  pub run : IsLegalRun set s
+  pub run : RunsLegally set s
   pub kept : IsKept (state s until)
   pub job : i < length s.lines
   pub starts : IsWindowStart s i t

@@ -1,15 +1,16 @@
 // Of which sets the next access is a hit, as a dataflow problem against the edges.
-ghost use Rattle.std.specs.Prelude.{◌≡◌, ℕ, ◌<◌, ◌≤◌, ◌*◌, Some, None, IfOk, IsSome, IsTrue, ◌↔◌, length, slice_index_or, false};
+ghost use Rattle.std.specs.Prelude.{◌≡◌, ℕ, ◌<◌, ◌≤◌, ◌*◌, ◌==◌, if◌then◌else◌, Some, None, IfOk, IsSome, IsTrue, ◌↔◌, length, slice_index_or, false};
 ghost use Rattle.crpd_base.specs.Sets.{has};
 ghost use Rattle.icache.specs.Accesses.{accesses};
 ghost use Rattle.flat_graph.specs.CodeGraph.{graph_of, places_of};
 ghost use Rattle.must_cache.specs.Sure.{IsSureHit};
 ghost use Rattle.must_cache.specs.States.{AreSure};
 ghost use Rattle.useful_sets.specs.Sets.{AreUseful, sets_at};
-ghost use Rattle.useful_sets.specs.Reuse.{Reused, either, before_access, passing_below, IsAllBut};
-ghost use Rattle.useful_sets.specs.ReuseLaws.{either_joins, before_distributes, few_pass};
+ghost use Rattle.must_cache.specs.Marks.{Marks, either, marks_below};
+ghost use Rattle.must_cache.specs.MarkLaws.{either_joins, few_marked};
+ghost use Rattle.useful_sets.specs.Reuse.{before_access};
+ghost use Rattle.useful_sets.specs.ReuseLaws.{before_distributes};
 
-use crate::others::{all_others, put};
 use crpd_base::{Memory, NodeId, SetBits};
 use dataflow::{Against, Domain, EdgeList, solve};
 use flat_graph::Graph;
@@ -38,6 +39,18 @@ fn sure_hits<const S: usize>(
     Ok(hits)
 }
 
+/// With a set exactly where `keep` says so, and else as before.
+fn put<const W: usize>(sets: &mut SetBits<W>, set: u16, keep: bool)
+    requires { set < 64 * W }
+    ensures { (t : ℕ) → has sets.new t ≡ (if set == t then keep else has sets.old t) }
+{
+    if keep {
+        sets.insert(set);
+    } else {
+        sets.remove(set);
+    }
+}
+
 /// The sets whose next access after a node is at a hit, on some path. In the flow, which is against the edges, that is
 /// the fact before the node.
 #[derive(Clone, Copy)]
@@ -45,18 +58,15 @@ struct NextHit<'a, const W: usize> {
     graph: &'a Graph,
     geometry: &'a Geometry,
     hits: &'a [bool],
-    others: &'a [SetBits<W>],
     ghost few: { 64 * W ≤ 65536 },
     ghost room: { geometry.now.platform.sets ≤ 64 * W },
     ghost all_hits: { length hits.now ≡ (graph_of graph.now).size },
-    ghost all_others: { length others.now ≡ geometry.now.platform.sets },
-    ghost each_other: { (s : ℕ) → s < geometry.now.platform.sets → IsAllBut (64 * W) s (sets_at others.now s) },
 }
 
 impl<const W: usize> Domain for NextHit<'_, W> {
     type Fact = SetBits<W>;
 
-    ghost Value = { Reused };
+    ghost Value = { Marks };
 
     ghost view = { λ sets s. has sets s };
 
@@ -66,7 +76,7 @@ impl<const W: usize> Domain for NextHit<'_, W> {
 
     ghost begins = { λ d n. Some (λ s. false) };
 
-    ghost height = { λ d x. passing_below x (64 * W) };
+    ghost height = { λ d x. marks_below x (64 * W) };
 
     ghost tallest = { λ d. 64 * W };
 
@@ -90,19 +100,14 @@ impl<const W: usize> Domain for NextHit<'_, W> {
     fn transfer(&self, node: u32, sets: &mut SetBits<W>) {
         let address = self.graph.node(NodeId(node)).address;
         let set = self.geometry.set(self.geometry.block(address));
-        put(
-            sets,
-            &self.others[set as usize],
-            set,
-            self.hits[node as usize],
-        );
+        put(sets, set, self.hits[node as usize]);
     }
 
     ghost joins = { either_joins };
 
     ghost distributes = { λ d n a b. before_distributes (accesses d.geometry.now.platform (places_of d.graph.now).address) (λ y. slice_index_or d.hits.now y false) n a b };
 
-    ghost bounded = { λ d v. few_pass v (64 * W) };
+    ghost bounded = { λ d v. few_marked v (64 * W) };
 }
 
 /// The sets before each node, from those after it, which are there.
@@ -130,8 +135,9 @@ fn all_before<const W: usize>(
     Ok(before)
 }
 
-/// The useful sets before each node, from which nodes are hits.
-fn useful_by_hits<const W: usize>(
+/// The useful cache sets before each node, from which nodes are hits by Sure: `hits` is what `sure_hits` of
+/// `must_cache` gives for this graph and geometry. Time and memory are those of `useful`.
+pub fn useful_by_hits<const W: usize>(
     alloc: Global,
     graph: &Graph,
     geometry: &Geometry,
@@ -148,14 +154,10 @@ fn useful_by_hits<const W: usize>(
     let Some(flow) = EdgeList::new(graph.len(), &edges) else {
         unreachable!()
     };
-    let Ok(others) = all_others(alloc, geometry.platform.sets) else {
-        return Err(Memory);
-    };
     let domain = NextHit::<W> {
         graph,
         geometry,
         hits,
-        others: &others,
     };
     let after = solve(alloc, &Against::new(&flow), &domain)?;
     match all_before(alloc, &domain, &after) {

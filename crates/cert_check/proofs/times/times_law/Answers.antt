@@ -1,4 +1,4 @@
-use Rattle.cert_check.proofs.Demands.{has_times}
+use Rattle.crpd_base.proofs.Times.{has_times}
 use Rattle.cert_check.proofs.times.times_law.Goals as goal
 
 pub returns : goal.returns

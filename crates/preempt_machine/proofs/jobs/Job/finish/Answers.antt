@@ -1,5 +1,4 @@
-use Rattle.std.proofs.Common.{sym}
 use Rattle.preempt_machine.proofs.jobs.Job.finish.Goals as goal
 
 pub returns-in-Goto-clause-ok : goal.returns-in-Goto-clause-ok
-returns-in-Goto-clause-ok c = rw (sym c.in-Goto.ensures) c.arrive.ensures.ok
+returns-in-Goto-clause-ok c = rw c.in-Goto.is c.arrive.ensures.ok

@@ -1,0 +1,47 @@
+-- The analysis of one task's code, and when there is none.
+use Rattle.std.specs.Prelude.{◌≡◌, ℕ, ◌≤◌, ◌^◌, Bool, List, [], true}
+use Rattle.crpd_base.specs.declared.data.Platform.{Platform}
+use Rattle.crpd_base.specs.declared.data.Method.{Method}
+use Rattle.crpd_base.specs.declared.data.Method.TheVariants.{Ucb}
+use Rattle.crpd_base.specs.declared.data.TaskPart.{TaskPart}
+use Rattle.loop_regions.specs.TaskGraph.{TaskGraph, listing_of, answering}
+use Rattle.exec_bound.specs.Costs.{IsTooLarge}
+use Rattle.exec_bound.specs.declared.fault.BoundError.{BoundError}
+use Rattle.exec_bound.specs.declared.fault.BoundError.TheVariants.{Memory, TooLarge}
+use Rattle.cert_check.specs.Clauses.{costs}
+use Rattle.cert_check.specs.Judge.{accesses_of}
+use Rattle.crpd_base.specs.Names.{is_name}
+use Rattle.cert_model.specs.Ranges.{IsTaskPart}
+use Rattle.cert_build.specs.Best.{TellsSureHits, IsBestPart}
+use Rattle.cert_build.specs.declared.one_task.Analysis.{Analysis}
+
+-- the task's part of a certificate that has an analysis, with what stands beside it
+abbrev pub part_with : Analysis → List ℕ → Method → ℕ → ℕ → TaskPart
+part_with a name method window response =
+    record { name = name; part = a.part; states = a.states; potentials = a.potentials; loops = a.loops; method = method; window = window; response = response }
+
+-- the part with nothing beside
+abbrev pub part_of_analysis : Analysis → TaskPart
+part_of_analysis a = part_with a [] Ucb 0 0
+
+-- the analysis of a task's code, whose bound is at most 2^40
+pub record IsAnalysis (p : Platform) (t : TaskGraph) (a : Analysis) : Type 0 where
+  pub best : IsBestPart p t (part_of_analysis a)
+  pub within : a.part.bound ≤ 2 ^ 40
+
+-- beside a name, and times in their ranges, it is in the ranges of a certificate's tasks
+abbrev pub KeepsRanges : Analysis → Type 0
+KeepsRanges a =
+    (name : List ℕ) (method : Method) (window response : ℕ) →
+    is_name name ≡ true → window ≤ 2 ^ 40 → response ≤ 2 ^ 41 → IsTaskPart (part_with a name method window response)
+
+-- the bound of a task's code, with the hits by Sure, exceeds 2^40
+pub record HasLargeBound (p : Platform) (t : TaskGraph) : Type 0 where
+  pub is_hit : ℕ → Bool
+  pub hits : TellsSureHits t.graph (accesses_of p t) is_hit
+  pub exceeds : IsTooLarge t.graph t.nest (costs p (listing_of t) (answering t) is_hit)
+
+-- no memory, which comes freely; or a bound that is too large, with the address of the task's entry
+abbrev pub HasNoAnalysis : Platform → TaskGraph → BoundError → Type 0
+HasNoAnalysis p t Memory = Unit {0}
+HasNoAnalysis p t (TooLarge address) = HasLargeBound p t × (address ≡ t.places.address t.graph.first)

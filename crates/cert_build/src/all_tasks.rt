@@ -1,0 +1,128 @@
+// The certificate of a task set.
+ghost use Rattle.std.specs.Prelude.{◌≡◌, ◌≤◌, IfOk, MatchResult, All};
+ghost use Rattle.crpd_base.specs.Ranges.{IsTaskSet};
+ghost use Rattle.crpd_base.specs.declared.data.Certificate.{Certificate};
+ghost use Rattle.flat_graph.specs.CodeGraph.{CodeGraph, graph_of};
+ghost use Rattle.flat_graph.specs.Graph.{IsGraph};
+ghost use Rattle.crpd_base.specs.Ranges.{IsPlatform};
+ghost use Rattle.loop_regions.specs.CodeNest.{IsNestOf};
+ghost use Rattle.cert_check.specs.Shown.{shown, shown_at, AreShown};
+ghost use Rattle.cert_check.specs.Verdict.{IsJudged, Yes};
+ghost use Rattle.cert_model.specs.Reading.{entries};
+ghost use Rattle.cert_model.specs.Ranges.{IsCertificate};
+ghost use Rattle.cert_build.specs.Best.{IsBest};
+ghost use Rattle.cert_build.specs.declared.one_task.Analysis.{Analysis};
+ghost use Rattle.cert_build.specs.Analysis.{IsAnalysis, KeepsRanges};
+ghost use Rattle.cert_build.specs.Assembly.{AreAnalysed, IsTaskRefused};
+ghost use Rattle.cert_build.specs.Certify.{AreRefused, IsBuildRefused};
+
+use crate::completed::complete;
+use crate::fault::BuildError;
+use crate::one_task::{Analysis, analyse};
+use cert_model::task_entries;
+use crpd_base::{Certificate, MOST_ENTRIES, Platform, Task, TaskSet};
+use delay_count::growth_law;
+use exec_bound::BoundError;
+use flat_graph::Graph;
+use loop_regions::Nest;
+use std::alloc::Global;
+
+/// The analysis of a task, with its place in a refusal.
+fn analyse_task(
+    alloc: Global,
+    graph: &Graph,
+    nest: &Nest,
+    platform: &Platform,
+    task: Task,
+) -> Result<Analysis, BuildError>
+    requires nest { IsNestOf graph.now nest.now }
+    requires platform { IsPlatform platform.now }
+    ensures exact { MatchResult result
+        (λ a. IsAnalysis platform.now (shown graph.now nest.now) a)
+        (λ e. IsTaskRefused platform.now (shown graph.now nest.now) task.0 e) }
+    ensures ranges { IfOk result KeepsRanges }
+{
+    match analyse(alloc, graph, nest, platform) {
+        Ok(analysis) => Ok(analysis),
+        Err(BoundError::Memory) => Err(BuildError::Memory),
+        Err(BoundError::TooLarge(address)) => Err(BuildError::TooLarge { task, address }),
+    }
+}
+
+/// The analyses of all tasks, one after the other, where their state entries are at most 4,000,000. Once they are more, the
+/// entries of the tasks left are counted and not kept.
+///
+/// The refusals are want of memory; then `TooLarge` for the first task whose bound exceeds 2^40 cycles, with the byte
+/// address of its entry; then `TooManyEntries` with the number of the state entries where it exceeds 4,000,000. The time
+/// is that of the analyses.
+pub fn analyse_all(
+    alloc: Global,
+    set: &TaskSet,
+    graphs: &[Graph],
+    nests: &[Nest],
+) -> Result<Vec<Analysis>, BuildError>
+    requires set { IsTaskSet set.now }
+    requires tasks { AreShown set.now graphs.now nests.now }
+    ensures { MatchResult result
+        (λ all. AreAnalysed set.now (shown_at graphs.now nests.now) all.items)
+        (λ e. AreRefused set.now (shown_at graphs.now nests.now) e) }
+{
+    graphs_law(graphs);
+    let mut kept = Vec::new(alloc);
+    let mut found = 0;
+    for k in 0..graphs.len() {
+        let task = Task(k as u8);
+        let analysis = analyse_task(alloc, &graphs[k], &nests[k], &set.platform, task)?;
+        found += task_entries(analysis.states.as_slice());
+        if found <= MOST_ENTRIES {
+            kept.push(analysis)?;
+        }
+    }
+    if found > MOST_ENTRIES {
+        return Err(BuildError::TooManyEntries(found));
+    }
+    Ok(kept)
+}
+
+/// The end of an edge is a node in each of the graphs, and each node is reached.
+pub fn graphs_law(graphs: &[Graph])
+    ensures { All (λ (g : CodeGraph). IsGraph (graph_of g)) graphs.now }
+{
+    for graph in graphs {
+        graph.graph_law();
+    }
+}
+
+/// The certificate of the analysis: for each task its execution bound, the evicting and the useful cache sets, the
+/// entries of all leaders, the least potentials, and the smaller of its least windows. There is exactly one, and the
+/// judge says yes to it. It needs a graph and its regions for each task.
+///
+/// The refusals are want of memory; then `TooLarge` for the first task whose bound exceeds 2^40 cycles, with the byte
+/// address of its entry; then `TooManyEntries` with the number of the state entries where it exceeds 4,000,000; then
+/// `Unschedulable` for the first task without a window. One task is analysed at a time, with 4 kB for each leader; of the
+/// others only their entries and potentials are kept. `write_certificate` writes it, and reading gives it back. The time is that of the analyses, one after the other, and of the
+/// windows.
+///
+/// Source: Lee et al. 1998 (useful cache blocks); Altmeyer, Davis and Maiza 2012 (the demand of a window).
+pub fn certify(
+    alloc: Global,
+    set: &TaskSet,
+    graphs: &[Graph],
+    nests: &[Nest],
+) -> Result<Certificate, BuildError>
+    requires set { IsTaskSet set.now }
+    requires tasks { AreShown set.now graphs.now nests.now }
+    ensures exact { MatchResult result
+        (λ c. IsBest set.now (shown_at graphs.now nests.now) c)
+        (λ e. IsBuildRefused set.now (shown_at graphs.now nests.now) e) }
+    ensures few { IfOk result (λ c. entries c.tasks ≤ 4000000) }
+    ensures ranges { IfOk result IsCertificate }
+    ensures judged { IfOk result (λ c. IsJudged set.now (shown_at graphs.now nests.now) c Yes) }
+    ensures one { IfOk result (λ c. (d : Certificate) → IsBest set.now (shown_at graphs.now nests.now) d → d ≡ c) }
+{
+    growth_law();
+    graphs_law(graphs);
+    let analyses = analyse_all(alloc, set, graphs, nests)?;
+    let certificate = complete(alloc, set, graphs, analyses)?;
+    Ok(certificate)
+}

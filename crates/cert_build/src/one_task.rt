@@ -1,0 +1,78 @@
+// The analysis of one task's code.
+ghost use Rattle.std.specs.Prelude.{MatchResult, IfOk};
+ghost use Rattle.crpd_base.specs.Ranges.{IsPlatform};
+ghost use Rattle.loop_regions.specs.CodeNest.{IsNestOf};
+ghost use Rattle.cert_check.specs.Shown.{shown};
+ghost use Rattle.cert_build.specs.Analysis.{IsAnalysis, KeepsRanges, HasNoAnalysis};
+
+use crate::leader_states::leader_states;
+use crpd_base::{Items, NodeState, Part, Platform, SETS, WORDS};
+use evict_sets::evicting;
+use exec_bound::{Bound, BoundError, bound_by_hits};
+use flat_graph::Graph;
+use icache::Geometry;
+use loop_regions::Nest;
+use must_cache::sure_parts;
+use std::alloc::Global;
+use useful_sets::{reused, useful_by_hits};
+
+/// What is found of a task's code alone: its execution bound in cycles, its evicting and its useful cache sets, the
+/// entries of its leaders by ascending node, and the least potentials of its nodes and regions in cycles.
+#[derive(Drop)]
+pub struct Analysis {
+    pub part: Part,
+    pub states: Items<NodeState>,
+    pub potentials: Items<u64>,
+    pub loops: Items<u64>,
+}
+
+/// The analysis of a task's code: the must analysis and the useful cache sets (Lee et al. 1998) at each leader, the
+/// evicting and the useful cache sets of the task (Altmeyer, Davis and Maiza 2012), and the least potentials with the
+/// misses that the must analysis leaves.
+///
+/// The refusals are want of memory, and `TooLarge` with the byte address of the task's entry exactly where the bound
+/// exceeds 2^40 cycles. While it works it takes 4 kB for each leader, some sets of cache sets for each node, and for
+/// each leader what its entry holds; it gives back all but the entries and 8 bytes for each node and region. The time is
+/// that of the must analysis, of the useful sets and of the bound, and one look at each cache set of each leader.
+pub fn analyse(
+    alloc: Global,
+    graph: &Graph,
+    nest: &Nest,
+    platform: &Platform,
+) -> Result<Analysis, BoundError>
+    requires nest { IsNestOf graph.now nest.now }
+    requires platform { IsPlatform platform.now }
+    ensures exact { MatchResult result
+        (λ a. IsAnalysis platform.now (shown graph.now nest.now) a)
+        (λ e. HasNoAnalysis platform.now (shown graph.now nest.now) e) }
+    ensures ranges { IfOk result KeepsRanges }
+{
+    graph.graph_law();
+    let geometry = Geometry::new(platform);
+    let Ok(parts) = sure_parts::<SETS, WORDS>(alloc, graph, &geometry) else {
+        return Err(BoundError::Memory);
+    };
+    let Bound {
+        cycles,
+        nodes,
+        loops,
+    } = bound_by_hits(alloc, graph, nest, platform, &parts.hits)?;
+    let Ok(useful) = useful_by_hits::<WORDS>(alloc, graph, &geometry, &parts.hits) else {
+        return Err(BoundError::Memory);
+    };
+    let states = leader_states(alloc, graph, &geometry, &parts, &useful)?;
+    let evicting = evicting::<WORDS>(graph, &geometry);
+    let useful = reused::<WORDS>(graph, &geometry, &parts.hits);
+    evicting.words_law();
+    useful.words_law();
+    Ok(Analysis {
+        part: Part {
+            bound: cycles,
+            evicting,
+            useful,
+        },
+        states: Items::new(states),
+        potentials: nodes,
+        loops,
+    })
+}

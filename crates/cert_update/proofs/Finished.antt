@@ -1,0 +1,104 @@
+-- The updated certificate, put together from the new parts and their windows.
+use Rattle.std.proofs.Common.{◌≡◌, ℕ, zero, suc, ◌<◌, ◌≤◌, ◌^◌, List, length, refl, sym, ap, subst, inl, inr, arith}
+use Rattle.std.specs.Prelude.{All, sum_by}
+use Rattle.crpd_base.specs.Ranges.{IsTaskSet}
+use Rattle.crpd_base.specs.declared.data.Task.{Task}
+use Rattle.crpd_base.specs.declared.data.TaskSet.{TaskSet}
+use Rattle.crpd_base.specs.declared.data.TaskPart.{TaskPart}
+use Rattle.crpd_base.specs.declared.data.Certificate.{Certificate}
+use Rattle.crpd_base.specs.declared.data.Method.{Method}
+use Rattle.crpd_base.specs.declared.data.Part.{Part}
+use Rattle.flat_graph.specs.CodeGraph.{CodeGraph, HasCode}
+use Rattle.loop_regions.specs.TaskGraph.{TaskGraph}
+use Rattle.loop_regions.specs.CodeNest.{CodeNest}
+use Rattle.evict_sets.specs.Certificate.{cert_at}
+use Rattle.response.specs.Windows.{IsFirstWithout}
+use Rattle.cert_check.specs.Judge.{longest_at}
+use Rattle.cert_check.specs.Shown.{no_graph, AreShown}
+use Rattle.cert_check.specs.Verdict.{Last, IsJudged, Yes}
+use Rattle.crpd_base.proofs.Times.{has_times}
+use Rattle.cert_model.specs.Ranges.{IsCertificate}
+use Rattle.cert_model.specs.Reading.{entries}
+use Rattle.cert_build.specs.Analysis.{part_with, part_of_analysis}
+use Rattle.cert_build.specs.Assembly.{analysis_at, entries_of}
+use Rattle.cert_build.specs.Certify.{IsCompleted}
+use Rattle.cert_build.specs.declared.one_task.Analysis.{Analysis}
+use Rattle.cert_build.proofs.Counting.{entries_map}
+use Rattle.cert_build.proofs.Certified.{beside as with_others, entries_are, in_ranges, in_deadlines}
+use Rattle.cert_update.specs.Unchanged.{Side}
+use Rattle.cert_update.specs.Update.{IsUpdate, IsUpdatedPart, AreAnalysed, AreParts}
+use Rattle.cert_update.specs.Parts.{AreNewParts}
+use Rattle.cert_update.specs.Laws.{HasCodes}
+use Rattle.cert_update.specs.Answer.{IsUpdated, HasNoWindowAt}
+use Rattle.cert_update.proofs.NewParts.{bare, at_bare, bare_parts}
+
+-- a yes of the judge says that the certificate has a part for each task
+pub all_parts : (set : TaskSet) (graphs : ℕ → TaskGraph) (c : Certificate) → IsTaskSet set → IsJudged set graphs c Yes → length c.tasks ≡ length set.tasks
+all_parts set graphs c S judges = by (length set.tasks) refl
+  where
+    by : (n : ℕ) → length set.tasks ≡ n → length c.tasks ≡ length set.tasks
+    by zero e = let s = S.some in absurd (omega (arith, s, e))
+    by (suc n) e = judges n Last (omega (arith, e)) (sym e)
+
+pub has_codes : (set : TaskSet) (graphs : List CodeGraph) (nests : List CodeNest) → IsTaskSet set → AreShown set graphs nests → All HasCode graphs → HasCodes set graphs nests
+has_codes set graphs nests S A H =
+    record {
+      range = S;
+      code = λ i lt. H i no_graph (let e = A.all_graphs in omega (arith, lt, e));
+      regions = λ i lt. let N = A.each i lt in record { loops = N.loops; regions = N.is_regions; accepted = N.accepted };
+    }
+
+-- ---- with what stands beside it
+
+module _ (old : Side) (c : Certificate) (new : Side) (i : ℕ) where
+  beside : (a : Analysis) (name : List ℕ) (method : Method) (window response : ℕ) → IsUpdatedPart old c new i (part_of_analysis a) → IsUpdatedPart old c new i (part_with a name method window response)
+  beside a name method window response (inl x) = inl (x.0, x.1, record { states = x.2.states; part = x.2.part; potentials = x.2.potentials; loops = x.2.loops })
+  beside a name method window response (inr x) = inr (x.0, with_others new.set.platform (new.graphs i) (part_of_analysis a) name method window response x.1)
+
+module _ (old : Side) (c : Certificate) (new : Side) (parts : List Analysis) (d : Certificate) (A : AreNewParts old c new (length new.set.tasks) parts) (few : sum_by entries_of parts ≤ 4000000) (K : IsCompleted new.set new.graphs (analysis_at parts) d) where
+  part_at : (i : ℕ) → i < length new.set.tasks → IsUpdatedPart old c new i (cert_at d i)
+  part_at i lt = subst (IsUpdatedPart old c new i) (sym (K.parts.part i lt)) (beside old c new i (analysis_at parts i) _ _ _ _ (A.each i lt).part)
+
+  pub is_update : IsUpdate old c new d
+  is_update =
+      record {
+        platform = K.parts.platform;
+        tasks = K.parts.tasks;
+        each = λ i lt. record {
+          name = ap (λ (t : TaskPart). t.name) (K.parts.part i lt);
+          part = part_at i lt;
+          window = K.smaller i lt;
+          response = ap (λ (t : TaskPart). t.response) (K.parts.part i lt);
+        };
+      }
+
+  are_parts : AreParts old c new d.tasks
+  are_parts =
+      record {
+        tasks = K.parts.tasks;
+        each = part_at;
+        within = λ i lt changed. subst (λ (t : TaskPart). t.part.bound ≤ 2 ^ 40) (sym (K.parts.part i lt)) ((A.each i lt).within changed);
+      }
+
+  few_entries : entries d.tasks ≤ 4000000
+  few_entries = let same = entries_are new.set parts d K.parts A.tasks in omega (arith, same, few)
+
+  pub is_updated : (tasks : List Task) → AreAnalysed old new tasks → IsUpdated old c new (record { certificate = d; analysed = tasks })
+  is_updated tasks analysed = record { certificate = is_update; analysed = analysed; within = are_parts; few = few_entries }
+
+  pub update_in_ranges : IsTaskSet new.set → IsCertificate d
+  update_in_ranges S =
+      in_ranges new.set parts d K.parts (has_times new.set S) S (λ i lt. (A.each i lt).ranges) (in_deadlines new.set new.graphs (analysis_at parts) d K) few_entries
+
+-- no windows for the new parts
+pub no_windows : (old : Side) (c : Certificate) (new : Side) (parts : List Analysis) (i : ℕ) → AreNewParts old c new (length new.set.tasks) parts → sum_by entries_of parts ≤ 4000000
+    → IsFirstWithout new.set (λ k. (analysis_at parts k).part) (longest_at new.set.platform new.graphs) i → HasNoWindowAt old c new i
+no_windows old c new parts i A few W =
+    record {
+      parts = bare old c new parts;
+      are = bare_parts old c new parts A;
+      few = let e = entries_map parts in omega (arith, e, few);
+      without =
+          subst (λ (f : ℕ → Part). IsFirstWithout new.set f (longest_at new.set.platform new.graphs) i)
+          (λ x k. ((sym (at_bare old c new parts k)) x).part) W;
+    }

@@ -1,0 +1,140 @@
+-- There is one update of a certificate at most.
+use Rattle.std.proofs.Common.{◌≡◌, ◌≢◌, ℕ, zero, suc, ◌<◌, ◌≤◌, List, [], length, get_or, refl, sym, ap, ◌∙◌, subst, inl, inr, ⊎_elim, arith}
+use Rattle.std.proofs.lemmas.Bool.{cases_eq, cases_order}
+use Rattle.std.proofs.lemmas.List.{ext_get_or, get_or-map}
+use Rattle.crpd_base.specs.Ranges.{IsTaskSet}
+use Rattle.crpd_base.specs.declared.data.TaskSpec.{TaskSpec}
+use Rattle.crpd_base.specs.declared.data.TaskSet.{TaskSet}
+use Rattle.crpd_base.specs.declared.data.TaskPart.{TaskPart}
+use Rattle.crpd_base.specs.declared.data.NodeState.{NodeState}
+use Rattle.crpd_base.specs.declared.data.Certificate.{Certificate}
+use Rattle.crpd_base.specs.declared.data.Part.{Part}
+use Rattle.crpd_base.specs.declared.data.Method.{Method}
+use Rattle.flat_graph.proofs.Members.{some_at}
+use Rattle.evict_sets.specs.Certificate.{no_cert, cert_at}
+use Rattle.delay_count.specs.Demand.{demand}
+use Rattle.delay_count.specs.Laws.{Load, IsCostlier, DemandGrows}
+use Rattle.cert_check.specs.Judge.{window_at, part_of, longest_at, name_of}
+use Rattle.crpd_base.proofs.Times.{has_times}
+use Rattle.cert_build.proofs.Choices.{one_smaller}
+use Rattle.cert_build.proofs.OneBest.{same_task}
+use Rattle.cert_build.proofs.Certified.{beside as with_others}
+use Rattle.cert_update.specs.Unchanged.{Side, IsUnchanged}
+use Rattle.cert_update.specs.Update.{IsUpdate, IsUpdatedPart, IsKept}
+use Rattle.cert_update.specs.Laws.{OneUpdateLaw}
+
+-- tasks of a set with one name are one task
+module _ (set : TaskSet) (S : IsTaskSet set) where
+  named : (i : ℕ) (d : TaskSpec) → i < length set.tasks → name_of set i ≡ (get_or set.tasks i d).name
+  named i d lt = get_or-map (λ (k : TaskSpec). k.name) set.tasks i d [] lt
+
+  apart : (i j : ℕ) → i < j → j < length set.tasks → name_of set i ≢ name_of set j
+  apart i j lt within e =
+      let d = some_at set.tasks j within in
+      S.names i j d.0 lt within (sym (named i d.0 (omega (arith, lt, within))) ∙ e ∙ named j d.0 within)
+
+  pub one_name : (i j : ℕ) → i < length set.tasks → j < length set.tasks → name_of set i ≡ name_of set j → i ≡ j
+  one_name i j i_lt j_lt e =
+      ⊎_elim
+      (λ same. same)
+      (λ o. ⊎_elim (λ lt. absurd (apart i j lt j_lt e)) (λ lt. absurd (apart j i lt i_lt (sym e))) o)
+      (cases_order i j)
+
+-- parts that say the same of the code, beside the same
+abbrev made : List ℕ → Part → List NodeState → List ℕ → List ℕ → Method → ℕ → ℕ → TaskPart
+made name part states potentials loops method window response =
+    record { name = name; part = part; states = states; potentials = potentials; loops = loops; method = method; window = window; response = response }
+
+kept_task : (c d e : TaskPart) → IsKept c d → IsKept c e → d.name ≡ e.name → d.method ≡ e.method → d.window ≡ e.window → d.response ≡ e.response → d ≡ e
+kept_task c d e D E names methods windows responses =
+    let part = D.part ∙ sym E.part in
+    let states = D.states ∙ sym E.states in
+    let potentials = D.potentials ∙ sym E.potentials in
+    let loops = D.loops ∙ sym E.loops in
+    λ i. made (names i) (part i) (states i) (potentials i) (loops i) (methods i) (windows i) (responses i)
+
+module _ (grows : DemandGrows) (old new : Side) (c d e : Certificate) (O : IsTaskSet old.set) (S : IsTaskSet new.set) (D : IsUpdate old c new d) (E : IsUpdate old c new e) where
+  abbrev load : Certificate → Load
+  load x = record { set = new.set; parts = part_of x; longest = longest_at new.set.platform new.graphs; window = window_at x }
+
+  one_source : (i k j : ℕ) → IsUnchanged old new k i → IsUnchanged old new j i → k ≡ j
+  one_source i k j K J = one_name old.set O k j K.task J.task (K.name ∙ sym J.name)
+
+  -- what is to be the same beside the parts
+  abbrev Beside : TaskPart → TaskPart → Type 0
+  Beside x y = (x.name ≡ y.name) × (x.method ≡ y.method) × (x.window ≡ y.window) × (x.response ≡ y.response)
+
+  same_whole : (i : ℕ) (x y : TaskPart) → IsUpdatedPart old c new i x → IsUpdatedPart old c new i y → Beside x y → x ≡ y
+  same_whole i x y (inl a) (inl b) z =
+      kept_task (cert_at c a.0) x y a.2 (subst (λ k. IsKept (cert_at c k) y) (one_source i b.0 a.0 b.1 a.1) b.2) z.0 z.1 z.2 z.3
+  same_whole i x y (inl a) (inr b) z = absurd (b.0 a.0 a.1)
+  same_whole i x y (inr a) (inl b) z = absurd (a.0 b.0 b.1)
+  same_whole i x y (inr a) (inr b) z = same_task new.set.platform (new.graphs i) x y a.1 b.1 z.0 z.1 z.2 z.3
+
+  -- the second with what stands beside the first
+  abbrev beside : TaskPart → TaskPart → TaskPart
+  beside x y = made x.name y.part y.states y.potentials y.loops x.method x.window x.response
+
+  moved : (i : ℕ) (x y : TaskPart) → IsUpdatedPart old c new i y → IsUpdatedPart old c new i (beside x y)
+  moved i x y (inl a) = inl (a.0, a.1, record { states = a.2.states; part = a.2.part; potentials = a.2.potentials; loops = a.2.loops })
+  moved i x y (inr a) = inr (a.0, with_others new.set.platform (new.graphs i) y x.name x.method x.window x.response a.1)
+
+  parts_at : (k : ℕ) → k < length new.set.tasks → part_of d k ≡ part_of e k
+  parts_at k l =
+      ap (λ (x : TaskPart). x.part)
+      (same_whole k (cert_at d k) (beside (cert_at d k) (cert_at e k)) (D.each k l).part (moved k (cert_at d k) (cert_at e k) (E.each k l).part) (refl, refl, refl, refl))
+
+  costlier : (x y : Certificate) (i : ℕ) → i < length new.set.tasks → ((k : ℕ) → k < length new.set.tasks → part_of x k ≡ part_of y k) → ((k : ℕ) → k < i → window_at x k ≡ window_at y k) → IsCostlier (load x) (load y) i
+  costlier x y i l parts windows =
+      record {
+        tasks = refl;
+        switching = refl;
+        miss = omega arith;
+        switch = omega arith;
+        bound = λ k le. let q = ap (λ (z : Part). z.bound) (parts k (omega (arith, le, l))) in omega (arith, q);
+        evicting = λ k le. sym (ap (λ (z : Part). z.evicting) (parts k (omega (arith, le, l))));
+        useful = λ k le. sym (ap (λ (z : Part). z.useful) (parts k (omega (arith, le, l))));
+        longest = λ k lt. omega arith;
+        window = λ k lt. let q = windows k lt in omega (arith, q);
+      }
+
+  same_demand : (i : ℕ) → i < length new.set.tasks → ((k : ℕ) → k < i → window_at d k ≡ window_at e k) → (method : Method) (v : ℕ) → demand new.set (part_of d) (longest_at new.set.platform new.graphs) (window_at d) i method v ≡ demand new.set (part_of e) (longest_at new.set.platform new.graphs) (window_at e) i method v
+  same_demand i l windows method v =
+      let times = has_times new.set S in
+      let le = grows (load d) (load e) i v v method times l (costlier d e i l parts_at windows) (omega arith) in
+      let ge = grows (load e) (load d) i v v method times l (costlier e d i l (λ k m. sym (parts_at k m)) (λ k m. sym (windows k m))) (omega arith) in
+      omega (arith, le, ge)
+
+  same_choice : (i : ℕ) → i < length new.set.tasks → ((k : ℕ) → k < i → window_at d k ≡ window_at e k) → ((cert_at d i).method ≡ (cert_at e i).method) × (window_at d i ≡ window_at e i)
+  same_choice i l windows =
+      one_smaller new.set (longest_at new.set.platform new.graphs) (longest_at new.set.platform new.graphs) (part_of d) (part_of e) (window_at d) (window_at e) i (same_demand i l windows)
+      (cert_at d i).method (cert_at e i).method (window_at d i) (window_at e i) (D.each i l).window (E.each i l).window
+
+  windows_below : (n : ℕ) → n ≤ length new.set.tasks → (k : ℕ) → k < n → window_at d k ≡ window_at e k
+  windows_below zero le k l = absurd (omega (arith, l))
+  windows_below (suc n) le k l =
+      elim (cases_eq k n) [
+        | inl q ↦ subst (λ x. window_at d x ≡ window_at e x) (sym q) (same_choice n (omega (arith, le)) (windows_below n (omega (arith, le)))).1
+        | inr ne ↦ windows_below n (omega (arith, le)) k (omega (arith, l, ne))
+      ]
+
+  same_at : (i : ℕ) → i < length new.set.tasks → cert_at d i ≡ cert_at e i
+  same_at i l =
+      let X = D.each i l in
+      let Y = E.each i l in
+      let choice = same_choice i l (windows_below i (omega (arith, l))) in
+      same_whole i (cert_at d i) (cert_at e i) X.part Y.part (
+        X.name ∙ sym Y.name,
+        choice.0,
+        choice.1,
+        (let x = X.response in let y = Y.response in let w = choice.1 in omega (arith, x, y, w)),
+      )
+
+  same_tasks : d.tasks ≡ e.tasks
+  same_tasks = ext_get_or no_cert d.tasks e.tasks (D.tasks ∙ sym E.tasks) (λ i l. same_at i (let q = D.tasks in omega (arith, l, q)))
+
+  pub one_update : d ≡ e
+  one_update = let p = D.platform ∙ sym E.platform in λ i. record { platform = p i; tasks = same_tasks i }
+
+pub one_update_by : DemandGrows → OneUpdateLaw
+one_update_by grows old new c d e O S D E = one_update grows old new c d e O S D E

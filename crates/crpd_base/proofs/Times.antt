@@ -1,0 +1,22 @@
+-- A task set in its ranges has times in theirs.
+use Rattle.std.proofs.Common.{ℕ, zero, suc, ◌<◌, ◌≤◌, List, [], ◌∷◌, length, map, get_or, All, arith}
+use Rattle.std.specs.Prelude.{◌^◌}
+use Rattle.crpd_base.specs.Ranges.{IsTaskSpec, IsTaskSet}
+use Rattle.crpd_base.specs.Tasks.{HasTimes}
+use Rattle.crpd_base.specs.declared.data.TaskSpec.{TaskSpec}
+use Rattle.crpd_base.specs.declared.data.TaskSet.{TaskSet}
+
+-- what follows for numbers of the elements of a list
+mapped : {X : Type 0} (P : X → Type 0) (f g : X → ℕ) (Q : ℕ → ℕ → Type 0) (xs : List X) → All P xs → ((x : X) → P x → Q (f x) (g x)) → (k : ℕ) → k < length xs → Q (get_or (map f xs) k 0) (get_or (map g xs) k 0)
+mapped P f g Q [] all h k lt = absurd (omega arith)
+mapped P f g Q (x ∷ xs) all h zero lt = h x (all 0 x (omega arith))
+mapped P f g Q (x ∷ xs) all h (suc k) lt = mapped P f g Q xs (λ j d j_lt. all (suc j) d (omega arith)) h k (omega arith)
+
+pub has_times : (set : TaskSet) → IsTaskSet set → HasTimes set
+has_times set S = record {
+  tasks = S.few;
+  period = λ k lt. mapped IsTaskSpec (λ (t : TaskSpec). t.period) (λ (t : TaskSpec). t.period) (λ x y. 1 ≤ x) set.tasks S.each (λ t h. h.period.0) k lt;
+  longest = λ k lt. mapped IsTaskSpec (λ (t : TaskSpec). t.period) (λ (t : TaskSpec). t.period) (λ x y. x ≤ 2 ^ 40) set.tasks S.each (λ t h. h.period.1) k lt;
+  deadline = λ k lt. mapped IsTaskSpec (λ (t : TaskSpec). t.deadline) (λ (t : TaskSpec). t.period) (λ x y. x ≤ y) set.tasks S.each (λ t h. h.deadline.1) k lt;
+  jitter = λ k lt. mapped IsTaskSpec (λ (t : TaskSpec). t.jitter) (λ (t : TaskSpec). t.jitter) (λ x y. x ≤ 2 ^ 40) set.tasks S.each (λ t h. h.jitter) k lt;
+}

@@ -1,0 +1,91 @@
+// A copy of a task set, whose costs can be changed.
+ghost use Rattle.std.specs.Prelude.{◌≡◌, IfOk};
+
+use crate::data::{LoopSpec, Place, TaskSet, TaskSpec};
+use crate::lists::{Items, Text};
+use std::alloc::{AllocError, Global};
+
+fn copy_text(alloc: Global, text: &Text) -> Result<Text, AllocError>
+    ensures { IfOk result (λ copy. copy ≡ text.now) }
+{
+    Ok(Text::new(String::from_str(alloc, text.as_str())?))
+}
+
+fn copy_place(alloc: Global, place: &Place) -> Result<Place, AllocError>
+    ensures { IfOk result (λ copy. copy ≡ place.now) }
+{
+    match place {
+        Place::Number(number) => Ok(Place::Number(*number)),
+        Place::Symbol { name, offset } => Ok(Place::Symbol {
+            name: copy_text(alloc, name)?,
+            offset: *offset,
+        }),
+    }
+}
+
+fn copy_entry(alloc: Global, entry: &Option<Place>) -> Result<Option<Place>, AllocError>
+    ensures { IfOk result (λ copy. copy ≡ entry.now) }
+{
+    match entry {
+        Some(place) => Ok(Some(copy_place(alloc, place)?)),
+        None => Ok(None),
+    }
+}
+
+fn copy_ranges(
+    alloc: Global,
+    ranges: &[(Place, Place)],
+) -> Result<Items<(Place, Place)>, AllocError>
+    ensures { IfOk result (λ copy. copy ≡ ranges.now) }
+{
+    let mut copy = Vec::new(alloc);
+    for range in ranges {
+        let (from, to) = (copy_place(alloc, &range.0)?, copy_place(alloc, &range.1)?);
+        copy.push((from, to))?;
+    }
+    Ok(Items::new(copy))
+}
+
+fn copy_loops(alloc: Global, loops: &[LoopSpec]) -> Result<Items<LoopSpec>, AllocError>
+    ensures { IfOk result (λ copy. copy ≡ loops.now) }
+{
+    let mut copy = Vec::new(alloc);
+    for stated in loops {
+        copy.push(LoopSpec {
+            head: copy_place(alloc, &stated.head)?,
+            bound: stated.bound,
+            ranges: copy_ranges(alloc, stated.ranges.as_slice())?,
+        })?;
+    }
+    Ok(Items::new(copy))
+}
+
+fn copy_task(alloc: Global, task: &TaskSpec) -> Result<TaskSpec, AllocError>
+    ensures { IfOk result (λ copy. copy ≡ task.now) }
+{
+    Ok(TaskSpec {
+        name: copy_text(alloc, &task.name)?,
+        file: copy_text(alloc, &task.file)?,
+        entry: copy_entry(alloc, &task.entry)?,
+        period: task.period,
+        deadline: task.deadline,
+        jitter: task.jitter,
+        stack: copy_place(alloc, &task.stack)?,
+        global: copy_place(alloc, &task.global)?,
+        loops: copy_loops(alloc, task.loops.as_slice())?,
+    })
+}
+
+/// The same task set once more, for a caller that changes one of its numbers. Linear in the set.
+pub fn copy_set(alloc: Global, set: &TaskSet) -> Result<TaskSet, AllocError>
+    ensures { IfOk result (λ copy. copy ≡ set.now) }
+{
+    let mut tasks = Vec::new(alloc);
+    for task in set.tasks.as_slice() {
+        tasks.push(copy_task(alloc, task)?)?;
+    }
+    Ok(TaskSet {
+        platform: set.platform,
+        tasks: Items::new(tasks),
+    })
+}

@@ -1,0 +1,15 @@
+pub mod Each
+pub mod OwnImages
+pub mod Named
+pub mod Given
+pub mod Below
+pub mod Chain
+pub mod OneGraph
+pub mod OneNest
+pub mod OneJudgement
+pub mod OneVerdict
+pub mod Plans
+pub mod Nests
+pub mod InRange
+pub mod Bounds
+pub mod Built

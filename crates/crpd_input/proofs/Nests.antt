@@ -1,0 +1,34 @@
+-- Each nest is that of the graph at its place.
+use Rattle.std.proofs.Common.{◌≡◌, ℕ, ◌<◌, List, length, get_or, Some, Ok, Err, sym, subst, arith}
+use Rattle.std.specs.Prelude.{Result, slice_get}
+use Rattle.std.proofs.lemmas.Option.{get_or_from_slice_get, slice_get-get_or}
+use Rattle.crpd_base.specs.declared.data.TaskPlan.{TaskPlan}
+use Rattle.crpd_base.specs.declared.data.TaskSet.{TaskSet}
+use Rattle.code_map.specs.Words.{Code}
+use Rattle.flat_graph.specs.CodeGraph.{CodeGraph}
+use Rattle.loop_regions.specs.CodeNest.{AreBounded, CodeNest, IsNestOf}
+use Rattle.cert_check.specs.Shown.{AreShown, graph_at, no_nest}
+use Rattle.crpd_input.specs.declared.refusal.Refusal.{Refusal}
+use Rattle.crpd_input.specs.Graphs.{HasBoundedLoops}
+use Rattle.crpd_input.proofs.Below.{HasValues}
+
+-- a nest is that of the graph at a place
+abbrev pub ShownAt : List CodeGraph → ℕ → Result CodeNest Refusal → Type 0
+ShownAt graphs k (Ok nest) = IsNestOf (graph_at graphs k) nest
+ShownAt graphs k (Err refusal) = Unit {0}
+
+pub all_shown : (set : TaskSet) (graphs : List CodeGraph) (nests : List CodeNest) → length graphs ≡ length set.tasks → length nests ≡ length set.tasks → HasValues (ShownAt graphs) nests → AreShown set graphs nests
+all_shown set graphs nests one two has = record {
+  all_graphs = one;
+  all_nests = two;
+  each = λ k lt. has k (get_or nests k no_nest) (slice_get-get_or nests k no_nest (omega (arith, lt, two)));
+}
+
+-- the loops of a plan are bounded
+pub plan_bounded : (code : Code) (k : ℕ) (plan : TaskPlan) → HasBoundedLoops code → k < length code.plans → slice_get code.plans k ≡ Some plan → AreBounded plan.loops
+plan_bounded code k plan bounded lt at =
+    subst (λ (p : TaskPlan). AreBounded p.loops) (get_or_from_slice_get code.plans k plan plan at) (bounded k plan lt)
+
+-- the graph at a place
+pub graph_there : (graphs : List CodeGraph) (k : ℕ) (g : CodeGraph) (n : CodeNest) → slice_get graphs k ≡ Some g → IsNestOf g n → IsNestOf (graph_at graphs k) n
+graph_there graphs k g n at is = subst (λ x. IsNestOf x n) (sym (get_or_from_slice_get graphs k g _ at)) is

@@ -1,0 +1,6 @@
+pub mod Names
+pub mod Steps
+pub mod Reading
+pub mod Script
+pub mod Graphs
+pub mod Shapes

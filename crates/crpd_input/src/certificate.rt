@@ -1,0 +1,52 @@
+// The certificate of a file.
+ghost use Rattle.std.specs.Prelude.{◌≡◌, ◌≤◌, IsErrOf, IfOk};
+ghost use Rattle.cert_model.specs.Ranges.{IsCertificate};
+ghost use Rattle.crpd_io.specs.Outside.{Rose};
+ghost use Rattle.crpd_input.specs.Steps.{IsRefusal, Means, Told};
+ghost use Rattle.crpd_input.specs.Reading.{certificate_in, certificate_refusal};
+
+use crate::halt::Halt;
+use crate::load::load;
+use crate::refuse::{refuse, refuse_count, refuse_plainly};
+use cert_model::{CertError, read_certificate};
+use crpd_base::{CERTIFICATE_BYTES, Certificate};
+use crpd_io::Files;
+use std::alloc::Global;
+
+/// The refusal of a certificate's file.
+fn certificate_halt(alloc: Global, file: &str, error: CertError) -> Halt
+    ensures { IsRefusal (certificate_refusal file.now error) result }
+{
+    match error {
+        CertError::Memory => Halt::Memory,
+        CertError::NotJson => refuse_plainly(alloc, 70, file),
+        CertError::Missing(key) => refuse(alloc, 71, file, key),
+        CertError::BadValue(key) => refuse(alloc, 72, file, key),
+        CertError::TooLong(count) => refuse_count(alloc, 73, file, count),
+        CertError::OtherVersion(version) => refuse_count(alloc, 74, file, version),
+    }
+}
+
+/// The certificate of a file of at most 134,217,728 bytes.
+///
+/// It is refused with 80 or 81 where there is no such file or it is longer, and with 70 to 74 as its text is read; the
+/// subject is the file. A fault comes only where the files counted one. Cost: that of reading the
+/// JSON text.
+pub fn load_certificate<F: Files>(
+    alloc: Global,
+    files: &mut F,
+    name: &str,
+) -> Result<Certificate, Halt>
+    ensures exact { Told (F.contents files.old) (λ c. Means (certificate_in c name.now) result) }
+    ensures ranges { IfOk result IsCertificate }
+    ensures same { F.contents files.new ≡ F.contents files.old }
+    ensures later { F.faults files.old ≤ F.faults files.new }
+    ensures fault { IsErrOf result Halt.Fault → Rose (F.faults files.old) (F.faults files.new) }
+{
+    let bytes = load(alloc, files, name, CERTIFICATE_BYTES)?;
+    match read_certificate(alloc, bytes.as_slice()) {
+        Ok(certificate) => Ok(certificate),
+        Err(CertError::Memory) => Err(Halt::Memory),
+        Err(error) => Err(certificate_halt(alloc, name, error)),
+    }
+}

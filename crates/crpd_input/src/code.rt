@@ -1,0 +1,68 @@
+// The code of a task set.
+ghost use Rattle.std.specs.Prelude.{◌≡◌, ◌≤◌, length, IsErrOf, IfOk};
+ghost use Rattle.crpd_base.specs.Ranges.{IsTaskSet};
+ghost use Rattle.crpd_io.specs.Outside.{Rose};
+ghost use Rattle.crpd_input.specs.Graphs.{HasBoundedLoops};
+ghost use Rattle.crpd_input.specs.Steps.{IsRefusal, Means, Told};
+ghost use Rattle.crpd_input.specs.Reading.{code_in, map_refusal, name_of as task_name_of};
+
+use crate::halt::Halt;
+use crate::images::load_images;
+use crate::refuse::{refuse, refuse_address};
+use code_map::{CodeMap, MapError};
+use crpd_base::{Task, TaskSet};
+use crpd_io::Files;
+use std::alloc::Global;
+
+/// The name of a task, empty where the set has no such task.
+pub fn task_name(set: &TaskSet, task: Task) -> &str
+    ensures { result.now ≡ task_name_of set.now task }
+{
+    match set.tasks.as_slice().get(usize::from(task.0)) {
+        Some(spec) => spec.name.as_str(),
+        None => "",
+    }
+}
+
+/// The refusal of a set's code.
+fn map_halt(alloc: Global, file: &str, set: &TaskSet, error: MapError) -> Halt
+    ensures { IsRefusal (map_refusal file.now set.now error) result }
+{
+    match error {
+        MapError::Memory => Halt::Memory,
+        MapError::CodeConflict(address) => refuse_address(alloc, 40, file, address),
+        MapError::UnknownSymbol(task, place) => refuse(alloc, 41, task_name(set, task), place),
+        MapError::EntryOutside(task, address) => {
+            refuse_address(alloc, 42, task_name(set, task), address)
+        }
+    }
+}
+
+/// The code of a set that was read from this file: the images of its tasks' files, and for each task its plan.
+///
+/// It is refused with 80 or 81 for a task's file that is not there or is longer than 16,777,216 bytes, with 1 to 11 for one
+/// that is no ELF file of this kind, and then with 40 to 42 for the code of all of them. A file that several tasks name is
+/// read once. A fault comes only where the files counted one. Cost: linear in the files, n log n in their segments and
+/// symbols.
+pub fn load_code<F: Files>(
+    alloc: Global,
+    files: &mut F,
+    name: &str,
+    set: &TaskSet,
+) -> Result<CodeMap, Halt>
+    requires ranges { IsTaskSet set.now }
+    requires few { length set.now.tasks ≤ 256 }
+    ensures exact { Told (F.contents files.old) (λ c. Means (code_in c name.now set.now) result) }
+    ensures count { IfOk result (λ code. length code.images ≡ length set.now.tasks) }
+    ensures bounded { IfOk result HasBoundedLoops }
+    ensures same { F.contents files.new ≡ F.contents files.old }
+    ensures later { F.faults files.old ≤ F.faults files.new }
+    ensures fault { IsErrOf result Halt.Fault → Rose (F.faults files.old) (F.faults files.new) }
+{
+    let images = load_images(alloc, files, set.tasks.as_slice())?;
+    match CodeMap::new(alloc, set, images.into_vec()) {
+        Ok(code) => Ok(code),
+        Err(MapError::Memory) => Err(Halt::Memory),
+        Err(error) => Err(map_halt(alloc, name, set, error)),
+    }
+}

@@ -1,0 +1,65 @@
+// The graphs of the tasks.
+ghost use Rattle.std.specs.Prelude.{◌≡◌, ◌≤◌, ◌<◌, length, IfOk, IsErrOf};
+ghost use Rattle.crpd_input.specs.Steps.{IsRefusal, MeansBy};
+ghost use Rattle.crpd_input.specs.Graphs.{GraphAt, GraphsIn, graph_refusal};
+
+use crate::code::task_name;
+use crate::halt::Halt;
+use crate::input::Input;
+use crate::refuse::refuse_address;
+use crpd_base::{Items, Task};
+use flat_graph::{Graph, GraphError, build};
+use std::alloc::Global;
+
+/// The refusal of a task's graph.
+fn graph_halt(alloc: Global, name: &str, error: GraphError) -> Halt
+    ensures { IsRefusal (graph_refusal name.now error) result }
+{
+    match error {
+        GraphError::Memory => Halt::Memory,
+        GraphError::Undecodable(address) => refuse_address(alloc, 50, name, address),
+        GraphError::OutsideCode(address) => refuse_address(alloc, 51, name, address),
+        GraphError::IndirectJump(address) => refuse_address(alloc, 52, name, address),
+        GraphError::OtherLink(address) => refuse_address(alloc, 53, name, address),
+        GraphError::Breakpoint(address) => refuse_address(alloc, 54, name, address),
+        GraphError::Recursive(address) => refuse_address(alloc, 55, name, address),
+        GraphError::TooManyNodes(address) => refuse_address(alloc, 56, name, address),
+        GraphError::TooDeep(address) => refuse_address(alloc, 57, name, address),
+        GraphError::Misaligned(address) => refuse_address(alloc, 58, name, address),
+    }
+}
+
+/// The graph of a task.
+fn task_graph(alloc: Global, input: &Input, task: Task) -> Result<Graph, Halt>
+    requires { task.0 < length input.now.code.plans }
+    ensures exact { MeansBy (GraphAt input.now task.0) result }
+    ensures no_fault { ¬ IsErrOf result Halt.Fault }
+{
+    match build(alloc, &input.code, task) {
+        Ok(graph) => Ok(graph),
+        Err(GraphError::Memory) => Err(Halt::Memory),
+        Err(error) => Err(graph_halt(alloc, task_name(&input.set, task), error)),
+    }
+}
+
+/// The flat graphs of all tasks, in their order, of at most 16,384 nodes each.
+///
+/// Refused with 50 to 58 for the first task without one; the subject is the task, the detail a byte address. Cost: that of
+/// building each graph.
+pub fn task_graphs(alloc: Global, input: &Input) -> Result<Items<Graph>, Halt>
+    requires few { length input.now.set.tasks ≤ 256 }
+    requires plans { length input.now.code.plans ≡ length input.now.set.tasks }
+    ensures exact { MeansBy (GraphsIn input.now) result }
+    ensures no_fault { ¬ IsErrOf result Halt.Fault }
+    ensures count { IfOk result (λ graphs. length graphs ≡ length input.now.set.tasks) }
+{
+    let mut graphs = Vec::new(alloc);
+    for place in 0..input.set.tasks.as_slice().len() {
+        let graph = match task_graph(alloc, input, Task(place as u8)) {
+            Ok(graph) => graph,
+            Err(halt) => return Err(halt),
+        };
+        graphs.push(graph)?;
+    }
+    Ok(Items::new(graphs))
+}

@@ -1,0 +1,108 @@
+// The images of the tasks' files.
+ghost use Rattle.std.specs.Prelude.{◌≡◌, ◌≤◌, ◌<◌, length, position, All, IsErrOf, IfOk, IfSome, Ok};
+ghost use Rattle.std.specs.Str.{bytes_eq};
+ghost use Rattle.crpd_base.specs.Images.{IsImage};
+ghost use Rattle.crpd_io.specs.Outside.{Rose};
+ghost use Rattle.crpd_input.specs.Steps.{IsRefusal, Means, Told};
+ghost use Rattle.crpd_input.specs.Reading.{elf_refusal, image_in, images_in};
+
+use crate::copies::copy_image;
+use crate::halt::Halt;
+use crate::load::load;
+use crate::refuse::{refuse_count, refuse_plainly};
+use crpd_base::{FILE_BYTES, Image, Items, TaskSpec};
+use crpd_io::Files;
+use elf_reader::{ElfError, read_elf};
+use std::alloc::Global;
+
+/// The refusal of an ELF file.
+fn elf_halt(alloc: Global, file: &str, error: ElfError) -> Halt
+    ensures { IsRefusal (elf_refusal file.now error) result }
+{
+    match error {
+        ElfError::Memory => Halt::Memory,
+        ElfError::Short => refuse_plainly(alloc, 1, file),
+        ElfError::NotElf => refuse_plainly(alloc, 2, file),
+        ElfError::NotElf32Little => refuse_plainly(alloc, 3, file),
+        ElfError::NotRiscV => refuse_plainly(alloc, 4, file),
+        ElfError::NotExecutable => refuse_plainly(alloc, 5, file),
+        ElfError::NotStatic(place) => refuse_count(alloc, 6, file, u64::from(place)),
+        ElfError::HeaderOutside => refuse_plainly(alloc, 7, file),
+        ElfError::SegmentOutside(place) => refuse_count(alloc, 8, file, u64::from(place)),
+        ElfError::SegmentsOverlap(place) => refuse_count(alloc, 9, file, u64::from(place)),
+        ElfError::NoCode => refuse_plainly(alloc, 10, file),
+        ElfError::SymbolsOutside => refuse_plainly(alloc, 11, file),
+    }
+}
+
+/// The image of an ELF file.
+fn load_image<F: Files>(alloc: Global, files: &mut F, name: &str) -> Result<Image, Halt>
+    ensures exact { Told (F.contents files.old) (λ c. Means (image_in c name.now) result) }
+    ensures image { IfOk result IsImage }
+    ensures same { F.contents files.new ≡ F.contents files.old }
+    ensures later { F.faults files.old ≤ F.faults files.new }
+    ensures fault { IsErrOf result Halt.Fault → Rose (F.faults files.old) (F.faults files.new) }
+{
+    let bytes = load(alloc, files, name, FILE_BYTES)?;
+    match read_elf(alloc, bytes.as_slice()) {
+        Ok(image) => Ok(image),
+        Err(ElfError::Memory) => Err(Halt::Memory),
+        Err(error) => Err(elf_halt(alloc, name, error)),
+    }
+}
+
+/// The place of the first of these tasks that names a file.
+fn first_of_file(tasks: &[TaskSpec], file: &str) -> Option<usize>
+    ensures is { result ≡ position (λ t. bytes_eq file.now t.file) tasks.now }
+    ensures within { IfSome result (λ place. place < length tasks.now) }
+{
+    tasks.iter().position(|task| file == task.file.as_str())
+}
+
+/// The image of a file: a copy where one of the earlier tasks, whose images are given, names it too. So a file is read
+/// once.
+fn image_of<F: Files>(
+    alloc: Global,
+    files: &mut F,
+    earlier: &[TaskSpec],
+    images: &[Image],
+    file: &str,
+) -> Result<Image, Halt>
+    requires count { length images.now ≡ length earlier.now }
+    requires are { Told (F.contents files.old) (λ c. images_in c earlier.now ≡ Ok images.now) }
+    requires images { All IsImage images.now }
+    ensures exact { Told (F.contents files.old) (λ c. Means (image_in c file.now) result) }
+    ensures image { IfOk result IsImage }
+    ensures same { F.contents files.new ≡ F.contents files.old }
+    ensures later { F.faults files.old ≤ F.faults files.new }
+    ensures fault { IsErrOf result Halt.Fault → Rose (F.faults files.old) (F.faults files.new) }
+{
+    match first_of_file(earlier, file) {
+        Some(place) => Ok(copy_image(alloc, &images[place])?),
+        None => load_image(alloc, files, file),
+    }
+}
+
+/// The images of the tasks' files, in the order of the tasks. A file that several tasks name is read and parsed once.
+pub fn load_images<F: Files>(
+    alloc: Global,
+    files: &mut F,
+    tasks: &[TaskSpec],
+) -> Result<Items<Image>, Halt>
+    ensures exact { Told (F.contents files.old) (λ c. Means (images_in c tasks.now) result) }
+    ensures count { IfOk result (λ images. length images ≡ length tasks.now) }
+    ensures images { IfOk result (λ images. All IsImage images) }
+    ensures same { F.contents files.new ≡ F.contents files.old }
+    ensures later { F.faults files.old ≤ F.faults files.new }
+    ensures fault { IsErrOf result Halt.Fault → Rose (F.faults files.old) (F.faults files.new) }
+{
+    let mut images = Vec::new(alloc);
+    for (i, task) in tasks.iter().enumerate() {
+        let image = match image_of(alloc, files, &tasks[..i], &images, task.file.as_str()) {
+            Ok(image) => image,
+            Err(halt) => return Err(halt),
+        };
+        images.push(image)?;
+    }
+    Ok(Items::new(images))
+}

@@ -1,0 +1,30 @@
+//! What the commands read: sets, images, code, graphs, regions, certificates and scripts, each with its refusals.
+#![tactic(auto)]
+
+mod certificate;
+mod code;
+mod copies;
+mod graphs;
+mod halt;
+mod images;
+mod input;
+mod load;
+mod names;
+mod refusal;
+mod refuse;
+mod regions;
+mod script;
+mod set;
+mod shapes;
+
+pub use certificate::load_certificate;
+pub use code::{load_code, task_name};
+pub use graphs::task_graphs;
+pub use halt::Halt;
+pub use input::{Input, load_input};
+pub use names::name_of;
+pub use refusal::Refusal;
+pub use refuse::{refuse_address, refuse_count, refuse_name};
+pub use script::load_script;
+pub use set::load_task_set;
+pub use shapes::{Shapes, task_shapes};

@@ -1,0 +1,31 @@
+// The bytes of a file.
+ghost use Rattle.std.specs.Prelude.{◌≡◌, ◌≤◌, IsErrOf};
+ghost use Rattle.crpd_io.specs.Outside.{Rose};
+ghost use Rattle.crpd_input.specs.Steps.{Means, Told, bytes_in};
+
+use crate::halt::Halt;
+use crate::refuse::refuse_plainly;
+use crpd_base::Items;
+use crpd_io::{FileError, Files, read_all};
+use std::alloc::Global;
+
+/// A file's bytes.
+pub fn load<F: Files>(
+    alloc: Global,
+    files: &mut F,
+    name: &str,
+    most: u64,
+) -> Result<Items<u8>, Halt>
+    ensures exact { Told (F.contents files.old) (λ c. Means (bytes_in most c name.now) result) }
+    ensures same { F.contents files.new ≡ F.contents files.old }
+    ensures later { F.faults files.old ≤ F.faults files.new }
+    ensures fault { IsErrOf result Halt.Fault → Rose (F.faults files.old) (F.faults files.new) }
+{
+    match read_all(alloc, files, name, most) {
+        Ok(bytes) => Ok(Items::new(bytes)),
+        Err(FileError::NoFile) => Err(refuse_plainly(alloc, 80, name)),
+        Err(FileError::FileTooLong) => Err(refuse_plainly(alloc, 81, name)),
+        Err(FileError::Memory) => Err(Halt::Memory),
+        Err(FileError::Fault) => Err(Halt::Fault),
+    }
+}

@@ -1,0 +1,70 @@
+// The regions of the tasks' loops.
+ghost use Rattle.std.specs.Prelude.{◌≡◌, ◌≤◌, ◌<◌, length, IfOk, IsErrOf};
+ghost use Rattle.crpd_input.specs.Steps.{IsRefusal, MeansBy};
+ghost use Rattle.crpd_input.specs.Graphs.{HasBoundedLoops, RegionsAt, RegionsIn, loop_refusal};
+ghost use Rattle.cert_check.specs.Shown.{AreShown, graph_at};
+ghost use Rattle.loop_regions.specs.CodeNest.{IsNestOf};
+
+use crate::code::task_name;
+use crate::halt::Halt;
+use crate::input::Input;
+use crate::refuse::refuse_address;
+use crpd_base::{Items, Task};
+use flat_graph::Graph;
+use loop_regions::{LoopError, Nest, regions};
+use std::alloc::Global;
+
+/// The refusal of a task's loops.
+fn loop_halt(alloc: Global, name: &str, error: LoopError) -> Halt
+    ensures { IsRefusal (loop_refusal name.now error) result }
+{
+    match error {
+        LoopError::Memory => Halt::Memory,
+        LoopError::SecondEntry(address) => refuse_address(alloc, 60, name, address),
+        LoopError::NotNested(address) => refuse_address(alloc, 61, name, address),
+        LoopError::SameHead(address) => refuse_address(alloc, 62, name, address),
+        LoopError::CycleWithoutBound(address) => refuse_address(alloc, 63, name, address),
+    }
+}
+
+/// The regions of a task's loops in its graph.
+fn task_regions(alloc: Global, input: &Input, graphs: &[Graph], task: Task) -> Result<Nest, Halt>
+    requires planned { task.0 < length input.now.code.plans }
+    requires has_graph { task.0 < length graphs.now }
+    requires bounded { HasBoundedLoops input.now.code }
+    ensures exact { MeansBy (RegionsAt input.now graphs.now task.0) result }
+    ensures no_fault { ¬ IsErrOf result Halt.Fault }
+    ensures shown { IfOk result (λ nest. IsNestOf (graph_at graphs.now task.0) nest) }
+{
+    let graph = &graphs[usize::from(task.0)];
+    match regions(alloc, graph, input.code.plan(task)) {
+        Ok(nest) => Ok(nest),
+        Err(LoopError::Memory) => Err(Halt::Memory),
+        Err(error) => Err(loop_halt(alloc, task_name(&input.set, task), error)),
+    }
+}
+
+/// The regions of all tasks' loops, in the order of the tasks.
+pub fn all_regions(
+    alloc: Global,
+    input: &Input,
+    graphs: &[Graph],
+) -> Result<Items<Nest>, Halt>
+    requires few { length input.now.set.tasks ≤ 256 }
+    requires plans { length input.now.code.plans ≡ length input.now.set.tasks }
+    requires graphs { length graphs.now ≡ length input.now.set.tasks }
+    requires bounded { HasBoundedLoops input.now.code }
+    ensures exact { MeansBy (RegionsIn input.now graphs.now) result }
+    ensures no_fault { ¬ IsErrOf result Halt.Fault }
+    ensures shown { IfOk result (AreShown input.now.set graphs.now) }
+{
+    let mut nests = Vec::new(alloc);
+    for place in 0..graphs.len() {
+        let nest = match task_regions(alloc, input, graphs, Task(place as u8)) {
+            Ok(nest) => nest,
+            Err(halt) => return Err(halt),
+        };
+        nests.push(nest)?;
+    }
+    Ok(Items::new(nests))
+}

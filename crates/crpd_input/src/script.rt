@@ -1,0 +1,54 @@
+// The script of a file.
+ghost use Rattle.std.specs.Prelude.{◌≡◌, ◌≤◌, length, IsErrOf, IfOk};
+ghost use Rattle.preempt_machine.specs.Safe.{NamesTasks};
+ghost use Rattle.crpd_io.specs.Outside.{Rose};
+ghost use Rattle.crpd_input.specs.Steps.{IsRefusal, Means, Told};
+ghost use Rattle.crpd_input.specs.Script.{script_in, script_refusal};
+
+use crate::halt::Halt;
+use crate::load::load;
+use crate::refuse::{refuse, refuse_plainly};
+use crpd_base::{FILE_BYTES, Script, TaskSet};
+use crpd_io::Files;
+use script_reader::{ScriptError, read_script};
+use std::alloc::Global;
+
+/// The refusal of a script's file.
+fn script_halt(alloc: Global, file: &str, error: ScriptError) -> Halt
+    ensures { IsRefusal (script_refusal file.now error) result }
+{
+    match error {
+        ScriptError::Memory => Halt::Memory,
+        ScriptError::NotToml => refuse_plainly(alloc, 30, file),
+        ScriptError::Missing(key) => refuse(alloc, 31, file, key),
+        ScriptError::BadValue(key) => refuse(alloc, 32, file, key),
+        ScriptError::UnknownTask(key) => refuse(alloc, 33, file, key),
+        ScriptError::TooLong(key) => refuse(alloc, 34, file, key),
+        ScriptError::UnknownKey(key) => refuse(alloc, 35, file, key),
+    }
+}
+
+/// The script of a file of at most 16,777,216 bytes, beside the set whose tasks it names: at most 10,000 jobs.
+///
+/// It is refused with 80 or 81 where there is no such file or it is longer, and with 30 to 35 as its text is read; the
+/// subject is the file. A fault comes only where the files counted one. Cost: that of reading the TOML text.
+pub fn load_script<F: Files>(
+    alloc: Global,
+    files: &mut F,
+    name: &str,
+    set: &TaskSet,
+) -> Result<Script, Halt>
+    ensures exact { Told (F.contents files.old) (λ c. Means (script_in c name.now set.now) result) }
+    ensures tasks { IfOk result (λ script. NamesTasks set.now script.jobs) }
+    ensures few { IfOk result (λ script. length script.jobs ≤ 10000) }
+    ensures same { F.contents files.new ≡ F.contents files.old }
+    ensures later { F.faults files.old ≤ F.faults files.new }
+    ensures fault { IsErrOf result Halt.Fault → Rose (F.faults files.old) (F.faults files.new) }
+{
+    let bytes = load(alloc, files, name, FILE_BYTES)?;
+    match read_script(alloc, bytes.as_slice(), set) {
+        Ok(script) => Ok(script),
+        Err(ScriptError::Memory) => Err(Halt::Memory),
+        Err(error) => Err(script_halt(alloc, name, error)),
+    }
+}

@@ -1,0 +1,54 @@
+// The task set of a file.
+ghost use Rattle.std.specs.Prelude.{◌≡◌, ◌≤◌, IsErrOf, IfOk};
+ghost use Rattle.crpd_base.specs.Ranges.{IsTaskSet};
+ghost use Rattle.crpd_io.specs.Outside.{Rose};
+ghost use Rattle.crpd_input.specs.Steps.{IsRefusal, Means, Told};
+ghost use Rattle.crpd_input.specs.Reading.{set_in, set_refusal};
+
+use crate::halt::Halt;
+use crate::load::load;
+use crate::refuse::{refuse, refuse_count, refuse_plainly};
+use crpd_base::{FILE_BYTES, TaskSet};
+use crpd_io::Files;
+use set_reader::{SetError, read_set};
+use std::alloc::Global;
+
+/// The refusal of a set's file.
+fn set_halt(alloc: Global, file: &str, error: SetError) -> Halt
+    ensures { IsRefusal (set_refusal file.now error) result }
+{
+    match error {
+        SetError::Memory => Halt::Memory,
+        SetError::NotToml => refuse_plainly(alloc, 20, file),
+        SetError::Missing(key) => refuse(alloc, 21, file, key),
+        SetError::BadValue(key) => refuse(alloc, 22, file, key),
+        SetError::TooManyTasks(count) => refuse_count(alloc, 23, file, count),
+        SetError::SameName(key) => refuse(alloc, 24, file, key),
+        SetError::DeadlineAfterPeriod(key) => refuse(alloc, 25, file, key),
+        SetError::UnknownKey(key) => refuse(alloc, 26, file, key),
+    }
+}
+
+/// The task set of a file of at most 16,777,216 bytes: 1 to 32 tasks.
+///
+/// It is refused with 80 or 81 where there is no such file or it is longer, and with 20 to 26 as its text is read; the
+/// subject is the file. A fault comes only where the files counted one. Cost: that of reading
+/// the TOML text.
+pub fn load_task_set<F: Files>(
+    alloc: Global,
+    files: &mut F,
+    name: &str,
+) -> Result<TaskSet, Halt>
+    ensures exact { Told (F.contents files.old) (λ c. Means (set_in c name.now) result) }
+    ensures ranges { IfOk result IsTaskSet }
+    ensures same { F.contents files.new ≡ F.contents files.old }
+    ensures later { F.faults files.old ≤ F.faults files.new }
+    ensures fault { IsErrOf result Halt.Fault → Rose (F.faults files.old) (F.faults files.new) }
+{
+    let bytes = load(alloc, files, name, FILE_BYTES)?;
+    match read_set(alloc, bytes.as_slice()) {
+        Ok(set) => Ok(set),
+        Err(SetError::Memory) => Err(Halt::Memory),
+        Err(error) => Err(set_halt(alloc, name, error)),
+    }
+}

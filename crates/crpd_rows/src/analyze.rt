@@ -1,0 +1,324 @@
+// The command `analyze`, on worked examples, and `check` of what it wrote.
+use crate::sets::{FOUR, TWO, file_of};
+use crpd_io::{MemFiles, MemSink};
+use crpd_tool::{Status, run};
+use std::alloc::{AllocError, Global};
+use std::process::Abort;
+use std::test::Fail;
+
+// A task with its program: the name, the address of its first word, its words, and its times and loops as the set has
+// them.
+pub(crate) struct Program {
+    pub name: &'static str,
+    pub start: u32,
+    pub words: &'static [u32],
+    pub stated: &'static str,
+}
+
+// Programs on a platform with so many cache sets, and with what the set says of it besides; what a command ends with,
+// and what `check` of the certificate then writes.
+pub(crate) struct Case {
+    pub cache_sets: u32,
+    pub platform: &'static str,
+    pub programs: &'static [Program],
+    pub status: Status,
+    pub text: &'static str,
+    pub checked: &'static str,
+}
+
+// `addi x5,x0,1` and `ecall`.
+pub(crate) const SHORT: [u32; 2] = [0x0010_0293, 0x0000_0073];
+
+// Counts down from 3.
+const COUNT: [u32; 4] = [0x0030_0293, 0xFFF2_8293, 0xFE02_9EE3, 0x0000_0073];
+
+// Two loops, one in the other.
+pub(crate) const NESTED: [u32; 4] = [0x0030_0293, 0x0002_9063, 0xFE02_9CE3, 0x0000_0073];
+
+pub(crate) const PLAIN: &str = "period = 100\ndeadline = 100\njitter = 0\n";
+
+pub(crate) const LONG: &str = "period = 10000\ndeadline = 10000\njitter = 0\n";
+
+const CASES: [Case; 9] = [
+    Case {
+        cache_sets: 4,
+        platform: "",
+        programs: &[Program {
+            name: "one",
+            start: 0x1000,
+            words: &SHORT,
+            stated: PLAIN,
+        }],
+        status: Status::Done,
+        text: "{\"platform\":{\"data\":3,\"div\":0,\"hit\":1,\"line\":16,\"miss\":10,\"mul\":0,\"sets\":4,\"switch\":5,\"switching\":\"cycle\",\"taken\":2},\"tasks\":[{\"bound\":12,\"evicting\":[0],\"loops\":[],\"method\":\"ucb\",\"name\":\"one\",\"potentials\":[12,1],\"response\":17,\"states\":[[0,[],[]]],\"useful\":[0],\"window\":17}],\"version\":2}\n",
+        checked: "yes\none bound 12 window 17 response 17 method ucb\n",
+    },
+    Case {
+        cache_sets: 4,
+        platform: "",
+        programs: &[Program {
+            name: "one",
+            start: 0x1000,
+            words: &SHORT,
+            stated: "period = 100\ndeadline = 17\njitter = 0\n",
+        }],
+        status: Status::Done,
+        text: "{\"platform\":{\"data\":3,\"div\":0,\"hit\":1,\"line\":16,\"miss\":10,\"mul\":0,\"sets\":4,\"switch\":5,\"switching\":\"cycle\",\"taken\":2},\"tasks\":[{\"bound\":12,\"evicting\":[0],\"loops\":[],\"method\":\"ucb\",\"name\":\"one\",\"potentials\":[12,1],\"response\":17,\"states\":[[0,[],[]]],\"useful\":[0],\"window\":17}],\"version\":2}\n",
+        checked: "yes\none bound 12 window 17 response 17 method ucb\n",
+    },
+    Case {
+        cache_sets: 4,
+        platform: "",
+        programs: &[Program {
+            name: "one",
+            start: 0x1000,
+            words: &SHORT,
+            stated: "period = 100\ndeadline = 16\njitter = 0\n",
+        }],
+        status: Status::No,
+        text: "unschedulable one\n",
+        checked: "",
+    },
+    Case {
+        cache_sets: 4,
+        platform: "",
+        programs: &[Program {
+            name: "one",
+            start: 0x1000,
+            words: &COUNT,
+            stated: "period = 100\ndeadline = 100\njitter = 0\n[[task.loop]]\nhead = 0x1004\nbound = 3\nrange = [[0x1004, 0x100C]]\n",
+        }],
+        status: Status::Done,
+        text: "{\"platform\":{\"data\":3,\"div\":0,\"hit\":1,\"line\":16,\"miss\":10,\"mul\":0,\"sets\":4,\"switch\":5,\"switching\":\"cycle\",\"taken\":2},\"tasks\":[{\"bound\":24,\"evicting\":[0],\"loops\":[13],\"method\":\"ucb\",\"name\":\"one\",\"potentials\":[24,4,3,1],\"response\":29,\"states\":[[0,[],[]],[1,[0,256],[0]],[3,[0,256],[0]]],\"useful\":[0],\"window\":29}],\"version\":2}\n",
+        checked: "yes\none bound 24 window 29 response 29 method ucb\n",
+    },
+    Case {
+        cache_sets: 4,
+        platform: "",
+        programs: &[
+            Program {
+                name: "high",
+                start: 0x2000,
+                words: &SHORT,
+                stated: PLAIN,
+            },
+            Program {
+                name: "low",
+                start: 0x1000,
+                words: &SHORT,
+                stated: PLAIN,
+            },
+        ],
+        status: Status::Done,
+        text: "{\"platform\":{\"data\":3,\"div\":0,\"hit\":1,\"line\":16,\"miss\":10,\"mul\":0,\"sets\":4,\"switch\":5,\"switching\":\"cycle\",\"taken\":2},\"tasks\":[{\"bound\":12,\"evicting\":[0],\"loops\":[],\"method\":\"ucb\",\"name\":\"high\",\"potentials\":[12,1],\"response\":17,\"states\":[[0,[],[]]],\"useful\":[0],\"window\":17},{\"bound\":12,\"evicting\":[0],\"loops\":[],\"method\":\"ucb\",\"name\":\"low\",\"potentials\":[12,1],\"response\":49,\"states\":[[0,[],[]]],\"useful\":[0],\"window\":49}],\"version\":2}\n",
+        checked: "yes\nhigh bound 12 window 17 response 17 method ucb\nlow bound 12 window 49 response 49 method ucb\n",
+    },
+    Case {
+        cache_sets: 4,
+        platform: "",
+        programs: &[
+            Program {
+                name: "high",
+                start: 0x2000,
+                words: &SHORT,
+                stated: "period = 100\ndeadline = 100\njitter = 60\n",
+            },
+            Program {
+                name: "low",
+                start: 0x1000,
+                words: &SHORT,
+                stated: PLAIN,
+            },
+        ],
+        status: Status::Done,
+        text: "{\"platform\":{\"data\":3,\"div\":0,\"hit\":1,\"line\":16,\"miss\":10,\"mul\":0,\"sets\":4,\"switch\":5,\"switching\":\"cycle\",\"taken\":2},\"tasks\":[{\"bound\":12,\"evicting\":[0],\"loops\":[],\"method\":\"ucb\",\"name\":\"high\",\"potentials\":[12,1],\"response\":77,\"states\":[[0,[],[]]],\"useful\":[0],\"window\":17},{\"bound\":12,\"evicting\":[0],\"loops\":[],\"method\":\"ucb\",\"name\":\"low\",\"potentials\":[12,1],\"response\":81,\"states\":[[0,[],[]]],\"useful\":[0],\"window\":81}],\"version\":2}\n",
+        checked: "yes\nhigh bound 12 window 17 response 77 method ucb\nlow bound 12 window 81 response 81 method ucb\n",
+    },
+    Case {
+        cache_sets: 8,
+        platform: "",
+        programs: &[
+            Program {
+                name: "a",
+                start: 0x3010,
+                words: &FOUR,
+                stated: LONG,
+            },
+            Program {
+                name: "b",
+                start: 0x2010,
+                words: &TWO,
+                stated: LONG,
+            },
+            Program {
+                name: "c",
+                start: 0x1030,
+                words: &TWO,
+                stated: LONG,
+            },
+        ],
+        status: Status::Done,
+        text: "{\"platform\":{\"data\":3,\"div\":0,\"hit\":1,\"line\":16,\"miss\":10,\"mul\":0,\"sets\":8,\"switch\":5,\"switching\":\"cycle\",\"taken\":2},\"tasks\":[{\"bound\":50,\"evicting\":[1,2,3,4],\"loops\":[],\"method\":\"ucb\",\"name\":\"a\",\"potentials\":[50,37,24,11],\"response\":55,\"states\":[[0,[],[]]],\"useful\":[],\"window\":55},{\"bound\":30,\"evicting\":[1,2],\"loops\":[],\"method\":\"ucb\",\"name\":\"b\",\"potentials\":[30,4,17,1],\"response\":115,\"states\":[[0,[],[]]],\"useful\":[1,2],\"window\":115},{\"bound\":30,\"evicting\":[3,4],\"loops\":[],\"method\":\"ucb\",\"name\":\"c\",\"potentials\":[30,4,17,1],\"response\":175,\"states\":[[0,[],[]]],\"useful\":[3,4],\"window\":175}],\"version\":2}\n",
+        checked: "yes\na bound 50 window 55 response 55 method ucb\nb bound 30 window 115 response 115 method ucb\nc bound 30 window 175 response 175 method ucb\n",
+    },
+    Case {
+        cache_sets: 4,
+        platform: "",
+        programs: &[Program {
+            name: "one",
+            start: 0x1000,
+            words: &NESTED,
+            stated: "period = 100\ndeadline = 100\njitter = 0\n[[task.loop]]\nhead = 0x1000\nbound = 1000000\nrange = [[0x1000, 0x100C]]\n[[task.loop]]\nhead = 0x1004\nbound = 1000000\nrange = []\n",
+        }],
+        status: Status::Refused,
+        text: "refused 64 BoundTooLarge one 00001000\n",
+        checked: "",
+    },
+    Case {
+        cache_sets: 4,
+        platform: "switching = \"instruction\"\n",
+        programs: &[
+            Program {
+                name: "high",
+                start: 0x2000,
+                words: &SHORT,
+                stated: PLAIN,
+            },
+            Program {
+                name: "low",
+                start: 0x1000,
+                words: &SHORT,
+                stated: PLAIN,
+            },
+        ],
+        status: Status::Done,
+        text: "{\"platform\":{\"data\":3,\"div\":0,\"hit\":1,\"line\":16,\"miss\":10,\"mul\":0,\"sets\":4,\"switch\":5,\"switching\":\"instruction\",\"taken\":2},\"tasks\":[{\"bound\":12,\"evicting\":[0],\"loops\":[],\"method\":\"ucb\",\"name\":\"high\",\"potentials\":[12,1],\"response\":27,\"states\":[[0,[],[]]],\"useful\":[0],\"window\":27},{\"bound\":12,\"evicting\":[0],\"loops\":[],\"method\":\"ucb\",\"name\":\"low\",\"potentials\":[12,1],\"response\":59,\"states\":[[0,[],[]]],\"useful\":[0],\"window\":59}],\"version\":2}\n",
+        checked: "yes\nhigh bound 12 window 27 response 27 method ucb\nlow bound 12 window 59 response 59 method ucb\n",
+    },
+];
+
+// The set of a case, with these costs of a reload and of a switch.
+fn set_text(alloc: Global, case: &Case, miss: u32, switch: u32) -> Result<String, AllocError> {
+    let cache_sets = case.cache_sets;
+    let more = case.platform;
+    let mut text = format!(in alloc;
+        "[platform]\nline = 16\nsets = {cache_sets}\nhit = 1\nmiss = {miss}\ndata = 3\ntaken = 2\nswitch = {switch}\n{more}"
+    )?;
+    for program in case.programs {
+        let name = program.name;
+        let stated = program.stated;
+        let table = format!(in alloc;
+            "[[task]]\nname = \"{name}\"\nfile = \"{name}.elf\"\n{stated}"
+        )?;
+        text.push_str(table.as_str())?;
+    }
+    Ok(text)
+}
+
+// The set of a case with these costs, its files, and a certificate.
+pub(crate) fn files_with(
+    alloc: Global,
+    case: &Case,
+    miss: u32,
+    switch: u32,
+    certificate: &[u8],
+) -> Result<Vec<(String, Vec<u8>)>, AllocError> {
+    let mut files = Vec::new(alloc);
+    let set = set_text(alloc, case, miss, switch)?;
+    files.push((String::from_str(alloc, "set.toml")?, set.into_bytes()))?;
+    for program in case.programs {
+        let name = program.name;
+        let file = format!(in alloc; "{name}.elf")?;
+        files.push((file, file_of(alloc, program.start, program.words)?))?;
+    }
+    let stated = certificate.to_vec(alloc)?;
+    files.push((String::from_str(alloc, "cert.json")?, stated))?;
+    Ok(files)
+}
+
+// The same with a reload of 10 cycles and a switch of 5.
+fn files_of(
+    alloc: Global,
+    case: &Case,
+    certificate: &[u8],
+) -> Result<Vec<(String, Vec<u8>)>, AllocError> {
+    files_with(alloc, case, 10, 5, certificate)
+}
+
+pub(crate) const NEVER: u64 = u64::MAX;
+
+// How words end over files of which a call fails, and what they write.
+pub(crate) fn ends(
+    alloc: Global,
+    words: &[&str],
+    files: Vec<(String, Vec<u8>)>,
+    failing: u64,
+) -> Result<(Status, Vec<u8>), Fail> {
+    let mut list = Vec::new(alloc);
+    for word in words {
+        list.push(String::from_str(alloc, word)?)?;
+    }
+    let mut files = MemFiles::new(files, [failing].to_vec(alloc)?);
+    let Ok(mut out) = MemSink::new(alloc, 10000, 700, Vec::new(alloc)) else {
+        return Err(Fail::from("no memory"));
+    };
+    let found = run(alloc, list.as_slice(), &mut files, &mut out);
+    Ok((found, out.written().to_vec(alloc)?))
+}
+
+// Makes the certificate of a case by a command, and checks what this wrote.
+pub(crate) fn make_then_check(
+    rt: &impl Abort,
+    alloc: Global,
+    command: &str,
+    case: &Case,
+) -> Result<(), Fail> {
+    let files = files_of(alloc, case, b"")?;
+    let (status, written) = ends(alloc, &[command, "set.toml"], files, NEVER)?;
+    assert_eq!(rt; written.as_slice(), case.text.as_bytes());
+    assert_eq!(rt; status, case.status);
+    if status == Status::Done {
+        let files = files_of(alloc, case, &written)?;
+        let (status, text) = ends(alloc, &["check", "set.toml", "cert.json"], files, NEVER)?;
+        assert_eq!(rt; text.as_slice(), case.checked.as_bytes());
+        assert_eq!(rt; status, Status::Done);
+    }
+    Ok(())
+}
+
+#[test]
+fn analyses_of_programs(rt: HostRuntime) -> Result<(), Fail> {
+    let alloc = rt.alloc();
+    for case in &CASES {
+        make_then_check(&rt, alloc, "analyze", case)?;
+    }
+    Ok(())
+}
+
+// Other numbers of words are no command, and a file that cannot be read is a fault.
+#[test]
+fn other_ends(rt: HostRuntime) -> Result<(), Fail> {
+    let alloc = rt.alloc();
+    let cases: [(&[&str], u64, Status, &str); 4] = [
+        (&["analyze"], NEVER, Status::BadWords, "bad words\n"),
+        (
+            &["analyze", "set.toml", "one"],
+            NEVER,
+            Status::BadWords,
+            "bad words\n",
+        ),
+        (
+            &["analyse", "set.toml"],
+            NEVER,
+            Status::BadWords,
+            "bad words\n",
+        ),
+        (&["analyze", "set.toml"], 3, Status::ReadFault, ""),
+    ];
+    for (words, failing, status, text) in cases {
+        let (found, written) = ends(alloc, words, files_of(alloc, &CASES[0], b"")?, failing)?;
+        assert_eq!(rt; written.as_slice(), text.as_bytes());
+        assert_eq!(rt; found, status);
+    }
+    Ok(())
+}

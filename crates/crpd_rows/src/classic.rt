@@ -1,0 +1,129 @@
+// The command `classic`, on worked examples, and `check` of what it wrote.
+use crate::analyze::{
+    Case, LONG, NESTED, NEVER, Program, SHORT, ends, files_with, make_then_check,
+};
+use crate::sets::{FOUR, TWO};
+use crpd_tool::Status;
+use std::test::Fail;
+
+const OFTEN: &str = "period = 120\ndeadline = 120\njitter = 0\n";
+
+// Two jobs of the highest task reload the sets of the middle one, which this can be made to do once alone.
+const CASES: [Case; 3] = [
+    Case {
+        cache_sets: 8,
+        platform: "",
+        programs: &[
+            Program {
+                name: "a",
+                start: 0x3010,
+                words: &FOUR,
+                stated: OFTEN,
+            },
+            Program {
+                name: "b",
+                start: 0x2010,
+                words: &TWO,
+                stated: LONG,
+            },
+            Program {
+                name: "one",
+                start: 0x1000,
+                words: &SHORT,
+                stated: LONG,
+            },
+        ],
+        status: Status::Done,
+        text: "{\"platform\":{\"data\":3,\"div\":0,\"hit\":1,\"line\":16,\"miss\":10,\"mul\":0,\"sets\":8,\"switch\":5,\"switching\":\"cycle\",\"taken\":2},\"tasks\":[{\"bound\":50,\"evicting\":[1,2,3,4],\"loops\":[],\"method\":\"ucb\",\"name\":\"a\",\"potentials\":[50,37,24,11],\"response\":55,\"states\":[[0,[],[]]],\"useful\":[],\"window\":55},{\"bound\":30,\"evicting\":[1,2],\"loops\":[],\"method\":\"ucb\",\"name\":\"b\",\"potentials\":[30,4,17,1],\"response\":115,\"states\":[[0,[],[]]],\"useful\":[1,2],\"window\":115},{\"bound\":12,\"evicting\":[0],\"loops\":[],\"method\":\"ucb\",\"name\":\"one\",\"potentials\":[12,1],\"response\":217,\"states\":[[0,[],[]]],\"useful\":[0],\"window\":217}],\"version\":2}\n",
+        checked: "yes\na bound 50 window 55 response 55 method ucb\nb bound 30 window 115 response 115 method ucb\none bound 12 window 217 response 217 method ucb\n",
+    },
+    Case {
+        cache_sets: 8,
+        platform: "",
+        programs: &[
+            Program {
+                name: "a",
+                start: 0x3010,
+                words: &FOUR,
+                stated: OFTEN,
+            },
+            Program {
+                name: "b",
+                start: 0x2010,
+                words: &TWO,
+                stated: LONG,
+            },
+            Program {
+                name: "one",
+                start: 0x1000,
+                words: &SHORT,
+                stated: "period = 10000\ndeadline = 200\njitter = 0\n",
+            },
+        ],
+        status: Status::No,
+        text: "unschedulable one\n",
+        checked: "",
+    },
+    Case {
+        cache_sets: 4,
+        platform: "",
+        programs: &[Program {
+            name: "one",
+            start: 0x1000,
+            words: &NESTED,
+            stated: "period = 100\ndeadline = 100\njitter = 0\n[[task.loop]]\nhead = 0x1000\nbound = 1000000\nrange = [[0x1000, 0x100C]]\n[[task.loop]]\nhead = 0x1004\nbound = 1000000\nrange = []\n",
+        }],
+        status: Status::Refused,
+        text: "refused 64 BoundTooLarge one 00001000\n",
+        checked: "",
+    },
+];
+
+#[test]
+fn plain_delays_of_programs(rt: HostRuntime) -> Result<(), Fail> {
+    let alloc = rt.alloc();
+    for case in &CASES {
+        make_then_check(&rt, alloc, "classic", case)?;
+    }
+    Ok(())
+}
+
+const WITH_ANALYSIS: &str =
+    "yes\na bound 50 window 55 response 55 method ucb\nb bound 30 window 115 response 115 method ucb\none bound 12 window 197 response 197 method ucb\n";
+
+// The analysis finds a window where the plain delays find none.
+#[test]
+fn analysed_where_plain_delays_are_too_long(rt: HostRuntime) -> Result<(), Fail> {
+    let alloc = rt.alloc();
+    let files = files_with(alloc, &CASES[1], 10, 5, b"")?;
+    let (status, written) = ends(alloc, &["analyze", "set.toml"], files, NEVER)?;
+    assert_eq!(rt; status, Status::Done);
+    let files = files_with(alloc, &CASES[1], 10, 5, &written)?;
+    let (status, text) = ends(alloc, &["check", "set.toml", "cert.json"], files, NEVER)?;
+    assert_eq!(rt; text.as_slice(), WITH_ANALYSIS.as_bytes());
+    assert_eq!(rt; status, Status::Done);
+    Ok(())
+}
+
+// Other numbers of words are no command, and a file that cannot be read is a fault.
+#[test]
+fn other_ends(rt: HostRuntime) -> Result<(), Fail> {
+    let alloc = rt.alloc();
+    let cases: [(&[&str], u64, Status, &str); 3] = [
+        (&["classic"], NEVER, Status::BadWords, "bad words\n"),
+        (
+            &["classic", "set.toml", "one"],
+            NEVER,
+            Status::BadWords,
+            "bad words\n",
+        ),
+        (&["classic", "set.toml"], 3, Status::ReadFault, ""),
+    ];
+    for (words, failing, status, text) in cases {
+        let files = files_with(alloc, &CASES[0], 10, 5, b"")?;
+        let (found, written) = ends(alloc, words, files, failing)?;
+        assert_eq!(rt; written.as_slice(), text.as_bytes());
+        assert_eq!(rt; found, status);
+    }
+    Ok(())
+}

@@ -1,0 +1,423 @@
+// The command `list`, on worked examples.
+use crpd_io::{MemFiles, MemSink};
+use crpd_tool::{Status, run};
+use std::alloc::{AllocError, Global};
+use std::process::Abort;
+use std::test::Fail;
+
+const PLATFORM: &str =
+    "[platform]\nline = 16\nsets = 4\nhit = 1\nmiss = 10\ndata = 3\ntaken = 2\nswitch = 5\n";
+
+pub(crate) const TIMES: &str = "period = 100\ndeadline = 100\njitter = 0\n";
+
+// The tables of tasks, each with a name, a file and further keys.
+pub(crate) type Task = (&'static str, &'static str, &'static str);
+
+pub(crate) fn set_of(alloc: Global, tasks: &[Task]) -> Result<Vec<u8>, AllocError> {
+    let mut text = String::from_str(alloc, PLATFORM)?;
+    for task in tasks {
+        let (name, file, keys) = *task;
+        let table = format!(in alloc; "[[task]]\nname = \"{name}\"\nfile = \"{file}\"\n{keys}")?;
+        text.push_str(table.as_str())?;
+    }
+    Ok(text.into_bytes())
+}
+
+// An ELF header with one program header, at 0x1000, and two words: `addi x5,x0,1` and `ecall`.
+const PROGRAM: [u32; 23] = [
+    0x464C_457F,
+    0x0001_0101,
+    0,
+    0,
+    0x00F3_0002,
+    1,
+    0x1000,
+    52,
+    0,
+    0,
+    0x0020_0034,
+    1,
+    0,
+    1,
+    84,
+    0x1000,
+    0x1000,
+    8,
+    8,
+    5,
+    4,
+    0x0010_0293,
+    0x0000_0073,
+];
+
+// A number as four bytes.
+pub(crate) fn push_word(bytes: &mut Vec<u8>, word: u32) -> Result<(), AllocError> {
+    bytes.extend_from_slice(&word.to_le_bytes())?;
+    Ok(())
+}
+
+// The program, with other numbers at some places of its words.
+pub(crate) fn program_with(alloc: Global, changes: &[(usize, u32)]) -> Result<Vec<u8>, AllocError> {
+    let mut words = PROGRAM.to_vec(alloc)?;
+    for (place, word) in changes {
+        if *place < words.len() {
+            words[*place] = *word;
+        }
+    }
+    let mut bytes = Vec::new(alloc);
+    for word in &words {
+        push_word(&mut bytes, *word)?;
+    }
+    Ok(bytes)
+}
+
+// A file of two segments that adjoin at 0x1006, within a word, and a word that is none.
+fn straddling(alloc: Global) -> Result<Vec<u8>, AllocError> {
+    let mut bytes = program_with(alloc, &[(11, 2), (14, 116), (17, 6), (18, 6)])?;
+    bytes.truncate(84);
+    for word in [
+        1,
+        122,
+        0x1006,
+        0x1006,
+        6,
+        6,
+        5,
+        4,
+        0x0010_0293,
+        0x0000_0073,
+        0,
+    ] {
+        push_word(&mut bytes, word)?;
+    }
+    Ok(bytes)
+}
+
+pub(crate) type File = (&'static str, Vec<u8>);
+
+// What words end with over files of which a call fails, with a sink of which none does.
+pub(crate) fn ends(
+    rt: &impl Abort,
+    alloc: Global,
+    words: &[&str],
+    files: Vec<File>,
+    failing: u64,
+    ended: (Status, &str),
+) -> Result<(), Fail> {
+    let mut list = Vec::new(alloc);
+    for word in words {
+        list.push(String::from_str(alloc, word)?)?;
+    }
+    let mut held = Vec::new(alloc);
+    for (name, bytes) in files {
+        held.push((String::from_str(alloc, name)?, bytes))?;
+    }
+    let mut files = MemFiles::new(held, [failing].to_vec(alloc)?);
+    let Ok(mut out) = MemSink::new(alloc, 200_000, 1000, Vec::new(alloc)) else {
+        return Err(Fail::from("no memory"));
+    };
+    let (status, text) = ended;
+    let found = run(alloc, list.as_slice(), &mut files, &mut out);
+    assert_eq!(rt; out.written(), text.as_bytes());
+    assert_eq!(rt; found, status);
+    Ok(())
+}
+
+pub(crate) const NEVER: u64 = u64::MAX;
+
+const TWO_WORDS: &str = "00001000 00100293 addi x5,x0,1\n00001004 00000073 ecall\n";
+
+// `list` of the task `one` alone, over its file.
+fn one_ends(rt: &impl Abort, alloc: Global, file: Vec<u8>, text: &str) -> Result<(), Fail> {
+    let mut files: Vec<File> = Vec::new(alloc);
+    files.push(("set.toml", set_of(alloc, &[("one", "one.elf", TIMES)])?))?;
+    files.push(("one.elf", file))?;
+    let status = if text == TWO_WORDS {
+        Status::Done
+    } else {
+        Status::Refused
+    };
+    ends(
+        rt,
+        alloc,
+        &["list", "set.toml", "one"],
+        files,
+        NEVER,
+        (status, text),
+    )
+}
+
+// The two words, cut to each length.
+#[test]
+fn a_file_cut(rt: HostRuntime) -> Result<(), Fail> {
+    let alloc = rt.alloc();
+    let whole = program_with(alloc, &[])?;
+    for n in 0..whole.len() {
+        let mut file = whole.clone()?;
+        file.truncate(n);
+        let text = match n {
+            0..=51 => "refused 1 Short one.elf -\n",
+            52..=83 => "refused 7 HeaderOutside one.elf -\n",
+            _ => "refused 8 SegmentOutside one.elf 0\n",
+        };
+        one_ends(&rt, alloc, file, text)?;
+    }
+    Ok(())
+}
+
+#[test]
+fn a_file_changed(rt: HostRuntime) -> Result<(), Fail> {
+    let alloc = rt.alloc();
+    let cases: [(&[(usize, u32)], &str); 14] = [
+        (&[], TWO_WORDS),
+        (&[(0, 0x464C_4500)], "refused 2 NotElf one.elf -\n"),
+        (&[(1, 0x0001_0102)], "refused 3 NotElf32Little one.elf -\n"),
+        (&[(4, 0x003E_0002)], "refused 4 NotRiscV one.elf -\n"),
+        (&[(4, 0x00F3_0003)], "refused 5 NotExecutable one.elf -\n"),
+        (&[(13, 2)], "refused 6 NotStatic one.elf 0\n"),
+        (&[(19, 4)], "refused 10 NoCode one.elf -\n"),
+        (&[(17, 0xFFFF_FFFF)], "refused 8 SegmentOutside one.elf 0\n"),
+        (&[(17, 9), (18, 9)], "refused 8 SegmentOutside one.elf 0\n"),
+        (&[(18, 0xFFFF_F000)], TWO_WORDS),
+        (&[(18, 0xFFFF_F001)], "refused 8 SegmentOutside one.elf 0\n"),
+        (&[(8, 92), (12, 1)], "refused 11 SymbolsOutside one.elf -\n"),
+        (&[(6, 0x1008)], "refused 42 EntryOutside one 00001008\n"),
+        (&[(6, 0x1002)], "refused 42 EntryOutside one 00001002\n"),
+    ];
+    for (changes, text) in cases {
+        one_ends(&rt, alloc, program_with(alloc, changes)?, text)?;
+    }
+    Ok(())
+}
+
+// The keys of the set, the tasks' names, and the order of refusals: the set, the task, the files by task, the code.
+#[test]
+fn refusals_in_order(rt: HostRuntime) -> Result<(), Fail> {
+    let alloc = rt.alloc();
+    let stack = "period = 100\ndeadline = 100\njitter = 0\nstack = \"s+4\"\n";
+    let cases: [(&[Task], &str, &str); 11] = [
+        (
+            &[(
+                "one",
+                "one.elf",
+                "period = 100\ndeadline = 100\njitter = 0\njiter = 0\n",
+            )],
+            "one",
+            "refused 26 UnknownKey set.toml task.0.jiter\n",
+        ),
+        (
+            &[("one", "one.elf", "deadline = 100\njitter = 0\n")],
+            "one",
+            "refused 21 Missing set.toml task.0.period\n",
+        ),
+        (
+            &[(
+                "one",
+                "one.elf",
+                "period = 100\ndeadline = 101\njitter = 0\n",
+            )],
+            "one",
+            "refused 25 DeadlineAfterPeriod set.toml task.0.deadline\n",
+        ),
+        (
+            &[("one", "one.elf", "period = 0\ndeadline = 100\njitter = 0\n")],
+            "one",
+            "refused 22 BadValue set.toml task.0.period\n",
+        ),
+        (
+            &[("one", "one.elf", TIMES), ("one", "one.elf", TIMES)],
+            "one",
+            "refused 24 SameName set.toml task.1.name\n",
+        ),
+        (&[], "one", "refused 21 Missing set.toml task\n"),
+        (
+            &[("one", "none.elf", TIMES)],
+            "two",
+            "refused 82 NoSuchTask set.toml two\n",
+        ),
+        (
+            &[("one", "none.elf", TIMES)],
+            "one",
+            "refused 80 NoFile none.elf -\n",
+        ),
+        (
+            &[("one", "set.toml", TIMES), ("two", "none.elf", TIMES)],
+            "two",
+            "refused 2 NotElf set.toml -\n",
+        ),
+        (
+            &[("one", "one.elf", stack), ("two", "two.elf", stack)],
+            "two",
+            "refused 40 CodeConflict set.toml 00001002\n",
+        ),
+        (
+            &[("one", "one.elf", TIMES), ("two", "copy.elf", stack)],
+            "one",
+            "refused 41 UnknownSymbol two s+4\n",
+        ),
+    ];
+    for (tasks, name, text) in cases {
+        let mut files: Vec<File> = Vec::new(alloc);
+        files.push(("set.toml", set_of(alloc, tasks)?))?;
+        files.push(("one.elf", program_with(alloc, &[])?))?;
+        files.push(("copy.elf", program_with(alloc, &[])?))?;
+        files.push(("two.elf", program_with(alloc, &[(21, 0x0030_0293)])?))?;
+        let words = ["list", "set.toml", name];
+        ends(&rt, alloc, &words, files, NEVER, (Status::Refused, text))?;
+    }
+    Ok(())
+}
+
+// A set of three tasks, two of which name one file.
+fn three_files(alloc: Global) -> Result<Vec<File>, AllocError> {
+    let tasks = [
+        ("one", "one.elf", TIMES),
+        ("again", "one.elf", TIMES),
+        ("low", "low.elf", TIMES),
+    ];
+    let mut files: Vec<File> = Vec::new(alloc);
+    files.push(("set.toml", set_of(alloc, &tasks)?))?;
+    files.push(("one.elf", program_with(alloc, &[])?))?;
+    files.push(("low.elf", straddling(alloc)?))?;
+    Ok(files)
+}
+
+const STRADDLING: &str =
+    "00001000 00100293 addi x5,x0,1\n00001004 00000073 ecall\n00001008 00000000 .word\n";
+
+// Each file is measured once and read once: six calls in all.
+#[test]
+fn files_are_read_once(rt: HostRuntime) -> Result<(), Fail> {
+    let alloc = rt.alloc();
+    for n in 0..6 {
+        let files = three_files(alloc)?;
+        let words = ["list", "set.toml", "low"];
+        ends(&rt, alloc, &words, files, n, (Status::ReadFault, ""))?;
+    }
+    let cases = [
+        ("one", TWO_WORDS),
+        ("again", TWO_WORDS),
+        ("low", STRADDLING),
+    ];
+    for (name, text) in cases {
+        let words = ["list", "set.toml", name];
+        let files = three_files(alloc)?;
+        ends(&rt, alloc, &words, files, 6, (Status::Done, text))?;
+    }
+    Ok(())
+}
+
+// The words, by their places, of an image as a linker writes it: its first segment begins with the headers, at 0x10000; then
+// comes a program header of a processor's kind; a symbol table has a file's symbol, a section's, and the functions `a`, `b`
+// and `c`; all other words are 0.
+const LINKED: [(usize, u32); 53] = [
+    (0, 0x464C_457F),
+    (4, 0x0001_0101),
+    (16, 0x00F3_0002),
+    (20, 1),
+    (24, 0x0001_3010),
+    (28, 52),
+    (32, 0x30AC),
+    (40, 0x0020_0034),
+    (44, 0x0028_0002),
+    (48, 3),
+    (52, 1),
+    (60, 0x0001_0000),
+    (64, 0x0001_0000),
+    (68, 0x3044),
+    (72, 0x3044),
+    (76, 5),
+    (80, 0x1000),
+    (84, 0x7000_0003),
+    (0x1030, 0x0100_006F),
+    (0x1034, 0x0100_006F),
+    (0x1040, 0xFF5F_F06F),
+    (0x1044, 0x0000_0073),
+    (0x2010, 0x0100_006F),
+    (0x2014, 0x0100_006F),
+    (0x2020, 0xFF5F_F06F),
+    (0x2024, 0x0000_0073),
+    (0x3010, 0x0100_006F),
+    (0x3020, 0x0100_006F),
+    (0x3030, 0x0100_006F),
+    (0x3040, 0x0000_0073),
+    (0x3044, 0x6200_6100),
+    (0x3048, 0x0000_6300),
+    (0x305C, 1),
+    (0x3068, 0xFFF1_0004),
+    (0x3070, 0x0001_0000),
+    (0x3078, 0x0001_0003),
+    (0x307C, 1),
+    (0x3080, 0x0001_3010),
+    (0x3088, 0x0001_0012),
+    (0x308C, 3),
+    (0x3090, 0x0001_2010),
+    (0x3098, 0x0001_0012),
+    (0x309C, 5),
+    (0x30A0, 0x0001_1030),
+    (0x30A8, 0x0001_0012),
+    (0x30D8, 2),
+    (0x30E4, 0x304C),
+    (0x30E8, 96),
+    (0x30EC, 2),
+    (0x30F8, 16),
+    (0x3100, 3),
+    (0x310C, 0x3044),
+    (0x3110, 8),
+];
+
+// Puts words at their places, where these lie in the bytes.
+fn put_words(bytes: &mut Vec<u8>, words: &[(usize, u32)]) {
+    for (place, word) in words {
+        let start = *place;
+        let Some(end) = start.checked_add(4) else {
+            return;
+        };
+        if end <= bytes.len() {
+            bytes[start..end].copy_from_slice(&word.to_le_bytes());
+        }
+    }
+}
+
+fn linked(alloc: Global) -> Result<Vec<u8>, AllocError> {
+    let mut bytes = vec![in alloc; 0u8; 0x3124]?;
+    put_words(&mut bytes, &LINKED);
+    Ok(bytes)
+}
+
+#[test]
+fn a_linked_image(rt: HostRuntime) -> Result<(), Fail> {
+    let alloc = rt.alloc();
+    let cases = [
+        ("a", Status::Done, TWO_WORDS),
+        ("d", Status::Refused, "refused 41 UnknownSymbol a d\n"),
+        ("a+8", Status::Done, TWO_WORDS),
+        (
+            "a+4294967295",
+            Status::Refused,
+            "refused 41 UnknownSymbol a a+4294967295\n",
+        ),
+        (
+            "a+2",
+            Status::Refused,
+            "refused 42 EntryOutside a 00013012\n",
+        ),
+    ];
+    for (entry, status, text) in cases {
+        let entry = format!(in alloc; "{TIMES}entry = \"{entry}\"\n")?;
+        let mut text_of_set = set_of(alloc, &[("one", "one.elf", TIMES)])?;
+        for (name, keys) in [("a", entry.as_str()), ("b", TIMES), ("c", TIMES)] {
+            let table = format!(in alloc;
+                "[[task]]\nname = \"{name}\"\nfile = \"abc.elf\"\n{keys}"
+            )?;
+            text_of_set.extend_from_slice(table.as_bytes())?;
+        }
+        let mut files: Vec<File> = Vec::new(alloc);
+        files.push(("set.toml", text_of_set))?;
+        files.push(("one.elf", program_with(alloc, &[])?))?;
+        files.push(("abc.elf", linked(alloc)?))?;
+        let words = ["list", "set.toml", "one"];
+        ends(&rt, alloc, &words, files, NEVER, (status, text))?;
+    }
+    Ok(())
+}

@@ -1,0 +1,218 @@
+// The command `sets`, on worked examples.
+use crpd_io::{MemFiles, MemSink};
+use crpd_tool::{Status, run};
+use std::alloc::{AllocError, Global};
+use std::process::Abort;
+use std::test::Fail;
+
+// A task with its program: the name, the address of its first word, its words.
+type Program = (&'static str, u32, &'static [u32]);
+
+// Programs on a platform of so many cache sets, and what `sets` ends with.
+struct Case {
+    cache_sets: u32,
+    programs: &'static [Program],
+    status: Status,
+    text: &'static str,
+}
+
+// Jumps through four blocks, and through two there and back.
+pub(crate) const FOUR: [u32; 13] = [
+    0x0100_006F,
+    0,
+    0,
+    0,
+    0x0100_006F,
+    0,
+    0,
+    0,
+    0x0100_006F,
+    0,
+    0,
+    0,
+    0x0000_0073,
+];
+
+pub(crate) const TWO: [u32; 6] = [0x0100_006F, 0x0100_006F, 0, 0, 0xFF5F_F06F, 0x0000_0073];
+
+// Two calls of a function, which have nine nodes.
+const CALLS: [u32; 8] = [
+    0xFF01_0113,
+    0x0011_2623,
+    0x0140_00EF,
+    0x0100_00EF,
+    0x00C1_2083,
+    0x0101_0113,
+    0x0000_8067,
+    0x0000_8067,
+];
+
+// A branch to the same address, without a stated loop, and `ecall`.
+const TURNS: [u32; 2] = [0x0002_8063, 0x0000_0073];
+
+const BREAKPOINT: [u32; 1] = [0x0010_0073];
+
+const CASES: [Case; 5] = [
+    Case {
+        cache_sets: 8,
+        programs: &[
+            ("a", 0x3010, &FOUR),
+            ("b", 0x2010, &TWO),
+            ("c", 0x1030, &TWO),
+        ],
+        status: Status::Done,
+        text: "a evicting 1 2 3 4\na useful\nb evicting 1 2\nb useful 1 2\nc evicting 3 4\nc useful 3 4\n",
+    },
+    Case {
+        cache_sets: 4,
+        programs: &[("one", 0x1000, &CALLS)],
+        status: Status::Done,
+        text: "one evicting 0 1\none useful 0 1\n",
+    },
+    Case {
+        cache_sets: 512,
+        programs: &[("one", 0x1FF0, &TURNS)],
+        status: Status::Done,
+        text: "one evicting 511\none useful 511\n",
+    },
+    Case {
+        cache_sets: 4,
+        programs: &[("turns", 0x2000, &TURNS), ("ends", 0x1000, &BREAKPOINT)],
+        status: Status::Refused,
+        text: "refused 54 Breakpoint ends 00001000\n",
+    },
+    Case {
+        cache_sets: 513,
+        programs: &[("one", 0x1000, &CALLS)],
+        status: Status::Refused,
+        text: "refused 22 BadValue set.toml platform.sets\n",
+    },
+];
+
+fn set_text(alloc: Global, case: &Case) -> Result<String, AllocError> {
+    let cache_sets = case.cache_sets;
+    let mut text = format!(in alloc;
+        "[platform]\nline = 16\nsets = {cache_sets}\nhit = 1\nmiss = 10\ndata = 3\ntaken = 2\nswitch = 5\n"
+    )?;
+    for (name, _start, _words) in case.programs {
+        let table = format!(in alloc;
+            "[[task]]\nname = \"{name}\"\nfile = \"{name}.elf\"\nperiod = 10000\ndeadline = 10000\njitter = 0\nstack = 0x8000\n"
+        )?;
+        text.push_str(table.as_str())?;
+    }
+    Ok(text)
+}
+
+fn push_words(bytes: &mut Vec<u8>, words: &[u32]) -> Result<(), AllocError> {
+    for word in words {
+        bytes.extend_from_slice(&word.to_le_bytes())?;
+    }
+    Ok(())
+}
+
+// The file of words from an address on.
+pub(crate) fn file_of(alloc: Global, start: u32, words: &[u32]) -> Result<Vec<u8>, AllocError> {
+    let mut code = Vec::new(alloc);
+    push_words(&mut code, words)?;
+    let size = u32::try_from(code.len()).unwrap_or(0);
+    let mut bytes = Vec::new(alloc);
+    let headers = [
+        0x464C_457F,
+        0x0001_0101,
+        0,
+        0,
+        0x00F3_0002,
+        1,
+        start,
+        52,
+        0,
+        0,
+        0x0020_0034,
+        1,
+        0,
+        1,
+        84,
+        start,
+        start,
+        size,
+        size,
+        5,
+        4,
+    ];
+    push_words(&mut bytes, &headers)?;
+    bytes.extend_from_slice(code.as_slice())?;
+    Ok(bytes)
+}
+
+// The set and the files of a case.
+fn files_of(alloc: Global, case: &Case) -> Result<Vec<(String, Vec<u8>)>, AllocError> {
+    let mut files = Vec::new(alloc);
+    let set = set_text(alloc, case)?;
+    files.push((String::from_str(alloc, "set.toml")?, set.into_bytes()))?;
+    for (name, start, words) in case.programs {
+        let file = format!(in alloc; "{name}.elf")?;
+        files.push((file, file_of(alloc, *start, words)?))?;
+    }
+    Ok(files)
+}
+
+// What words end with over files of which a call fails.
+fn ends(
+    rt: &impl Abort,
+    alloc: Global,
+    words: &[&str],
+    files: Vec<(String, Vec<u8>)>,
+    failing: u64,
+    ended: (Status, &str),
+) -> Result<(), Fail> {
+    let mut list = Vec::new(alloc);
+    for word in words {
+        list.push(String::from_str(alloc, word)?)?;
+    }
+    let mut files = MemFiles::new(files, [failing].to_vec(alloc)?);
+    let Ok(mut out) = MemSink::new(alloc, 1000, 7, Vec::new(alloc)) else {
+        return Err(Fail::from("no memory"));
+    };
+    let (status, text) = ended;
+    let found = run(alloc, list.as_slice(), &mut files, &mut out);
+    assert_eq!(rt; out.written(), text.as_bytes());
+    assert_eq!(rt; found, status);
+    Ok(())
+}
+
+const NEVER: u64 = u64::MAX;
+
+#[test]
+fn sets_of_programs(rt: HostRuntime) -> Result<(), Fail> {
+    let alloc = rt.alloc();
+    for case in &CASES {
+        let words = ["sets", "set.toml"];
+        let files = files_of(alloc, case)?;
+        ends(&rt, alloc, &words, files, NEVER, (case.status, case.text))?;
+    }
+    Ok(())
+}
+
+// Other numbers of words are no command, and a file that cannot be read is a fault.
+#[test]
+fn other_ends(rt: HostRuntime) -> Result<(), Fail> {
+    let alloc = rt.alloc();
+    let bad = (Status::BadWords, "bad words\n");
+    let cases: [(&[&str], u64, (Status, &str)); 4] = [
+        (&["sets"], NEVER, bad),
+        (&["sets", "set.toml", "one"], NEVER, bad),
+        (&["set", "set.toml"], NEVER, bad),
+        (&["sets", "set.toml"], 0, (Status::ReadFault, "")),
+    ];
+    for (words, failing, ended) in cases {
+        ends(
+            &rt,
+            alloc,
+            words,
+            files_of(alloc, &CASES[1])?,
+            failing,
+            ended,
+        )?;
+    }
+    Ok(())
+}

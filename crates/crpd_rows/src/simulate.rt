@@ -1,0 +1,437 @@
+use crpd_io::{MemFiles, MemSink};
+use crpd_tool::{Status, run};
+use std::alloc::{AllocError, Global};
+use std::process::Abort;
+use std::test::Fail;
+
+// A program with its task: the name, the address of its first word, its words, and further keys of the task.
+type Program = (&'static str, u32, &'static [u32], &'static str);
+
+// A job of a script: its task, and its arrival, which is its release.
+pub(crate) type Job = (&'static str, u64);
+
+// A script over programs, and the text of its run; the first two are further keys of the platform and of the script.
+#[derive(Clone, Copy)]
+struct Case {
+    platform: &'static str,
+    script: &'static str,
+    programs: &'static [Program],
+    cycles: u64,
+    jobs: &'static [Job],
+    text: &'static str,
+}
+
+// `addi x5,x0,1` and `ecall`.
+pub(crate) const ONE: [u32; 2] = [0x0010_0293, 0x0000_0073];
+
+const LONE: [Program; 1] = [("one", 0x1000, &ONE, "")];
+
+const PAIR: [Program; 2] = [("high", 0x2000, &ONE, ""), ("low", 0x1000, &ONE, "")];
+
+// A loop of three turns.
+pub(crate) const TURNS: [u32; 4] = [0x0030_0293, 0xFFF2_8293, 0xFE02_9EE3, 0x0000_0073];
+
+const LOOP: [Program; 1] = [(
+    "one",
+    0x1000,
+    &TURNS,
+    "[[task.loop]]\nhead = 0x1004\nbound = 3\nrange = [[0x1004, 0x100C]]\n",
+)];
+
+const SHORT_LOOP: [Program; 1] = [(
+    "one",
+    0x1000,
+    &TURNS,
+    "[[task.loop]]\nhead = 0x1004\nbound = 2\nrange = [[0x1004, 0x100C]]\n",
+)];
+
+// Jumps through four blocks, and through two there and back.
+pub(crate) const FOUR: [u32; 13] = [
+    0x0100_006F,
+    0,
+    0,
+    0,
+    0x0100_006F,
+    0,
+    0,
+    0,
+    0x0100_006F,
+    0,
+    0,
+    0,
+    0x0000_0073,
+];
+
+pub(crate) const TWO: [u32; 6] = [0x0100_006F, 0x0100_006F, 0, 0, 0xFF5F_F06F, 0x0000_0073];
+
+const THREE: [Program; 3] = [
+    ("a", 0x3010, &FOUR, ""),
+    ("b", 0x2010, &TWO, ""),
+    ("c", 0x1030, &TWO, ""),
+];
+
+// Two calls of a function; the return address is kept on the stack, and then it is not.
+const CALLS: [u32; 8] = [
+    0xFF01_0113,
+    0x0011_2623,
+    0x0140_00EF,
+    0x0100_00EF,
+    0x00C1_2083,
+    0x0101_0113,
+    0x0000_8067,
+    0x0000_8067,
+];
+
+const LOST: [u32; 8] = [
+    0xFF01_0113,
+    0x0000_0013,
+    0x0140_00EF,
+    0x0100_00EF,
+    0x00C1_2083,
+    0x0101_0113,
+    0x0000_8067,
+    0x0000_8067,
+];
+
+const CALLER: [Program; 1] = [("one", 0x1000, &CALLS, "stack = 0x8000\n")];
+
+const LOSER: [Program; 1] = [("one", 0x1000, &LOST, "stack = 0x8000\n")];
+
+// A loop round a call.
+const CALL_TURNS: [u32; 7] = [
+    0x0020_0313,
+    0x0140_00EF,
+    0xFFF3_0313,
+    0xFE03_1CE3,
+    0x0000_0073,
+    0x0000_0013,
+    0x0000_8067,
+];
+
+const CALL_LOOP: [Program; 1] = [(
+    "one",
+    0x1000,
+    &CALL_TURNS,
+    "[[task.loop]]\nhead = 0x1004\nbound = 2\nrange = [[0x1004, 0x1010]]\n",
+)];
+
+const ALONE: Case = Case {
+    platform: "sets = 4\n",
+    script: "",
+    programs: &LONE,
+    cycles: 100,
+    jobs: &[],
+    text: "",
+};
+
+const BETWEEN: &str = "sets = 4\nswitching = \"instruction\"\n";
+
+const CASES: [Case; 18] = [
+    Case {
+        programs: &LOOP,
+        jobs: &[("one", 0)],
+        text: "job one 0 arrival 0 release 0 answer 27\nrun legal kept\n",
+        ..ALONE
+    },
+    Case {
+        programs: &SHORT_LOOP,
+        jobs: &[("one", 0)],
+        text: "job one 0 arrival 0 release 0 answer 27\nrun legal broken\n",
+        ..ALONE
+    },
+    Case {
+        programs: &PAIR,
+        jobs: &[("low", 0), ("high", 16)],
+        text: "job low 0 arrival 0 release 0 answer 49\njob high 0 arrival 16 release 16 answer 33\nrun legal kept\n",
+        ..ALONE
+    },
+    Case {
+        programs: &PAIR,
+        jobs: &[("low", 0), ("high", 15)],
+        text: "job low 0 arrival 0 release 0 answer 49\njob high 0 arrival 15 release 15 answer 32\nrun legal kept\n",
+        ..ALONE
+    },
+    Case {
+        platform: "sets = 8\n",
+        programs: &THREE,
+        cycles: 1000,
+        jobs: &[("c", 0), ("b", 31), ("a", 62)],
+        text: "job c 0 arrival 0 release 0 answer 175\njob b 0 arrival 31 release 31 answer 146\njob a 0 arrival 62 release 62 answer 117\nrun legal kept\n",
+        ..ALONE
+    },
+    Case {
+        programs: &CALLER,
+        jobs: &[("one", 0)],
+        text: "job one 0 arrival 0 release 0 answer 50\nrun legal kept\n",
+        ..ALONE
+    },
+    Case {
+        programs: &LOSER,
+        jobs: &[("one", 0)],
+        text: "job one 0 arrival 0 release 0 fault\nrun legal broken\n",
+        ..ALONE
+    },
+    Case {
+        programs: &CALL_LOOP,
+        jobs: &[("one", 0)],
+        text: "job one 0 arrival 0 release 0 answer 45\nrun legal kept\n",
+        ..ALONE
+    },
+    Case {
+        cycles: 10,
+        text: "run legal kept\n",
+        ..ALONE
+    },
+    Case {
+        cycles: 16,
+        jobs: &[("one", 0)],
+        text: "job one 0 arrival 0 release 0 open\nrun legal kept\n",
+        ..ALONE
+    },
+    Case {
+        cycles: 17,
+        jobs: &[("one", 0)],
+        text: "job one 0 arrival 0 release 0 answer 17\nrun legal kept\n",
+        ..ALONE
+    },
+    Case {
+        script: "cache = [256]\n",
+        cycles: 17,
+        jobs: &[("one", 0)],
+        text: "job one 0 arrival 0 release 0 answer 7\nrun legal kept\n",
+        ..ALONE
+    },
+    Case {
+        cycles: 200,
+        jobs: &[("one", 0), ("one", 99)],
+        text: "job one 0 arrival 0 release 0 answer 17\njob one 1 arrival 99 release 99 answer 106\nrun illegal kept\n",
+        ..ALONE
+    },
+    Case {
+        cycles: 200,
+        jobs: &[("one", 300)],
+        text: "job one 0 arrival 300 release 300 unreleased\nrun legal kept\n",
+        ..ALONE
+    },
+    Case {
+        programs: &PAIR,
+        jobs: &[("low", 0), ("high", 0)],
+        text: "job low 0 arrival 0 release 0 answer 34\njob high 0 arrival 0 release 0 answer 17\nrun legal kept\n",
+        ..ALONE
+    },
+    Case {
+        platform: BETWEEN,
+        programs: &PAIR,
+        jobs: &[("low", 0), ("high", 6)],
+        text: "job low 0 arrival 0 release 0 answer 49\njob high 0 arrival 6 release 6 answer 33\nrun legal kept\n",
+        ..ALONE
+    },
+    Case {
+        platform: BETWEEN,
+        programs: &PAIR,
+        jobs: &[("low", 0), ("high", 15)],
+        text: "job low 0 arrival 0 release 0 answer 49\njob high 0 arrival 15 release 15 answer 33\nrun legal kept\n",
+        ..ALONE
+    },
+    Case {
+        programs: &PAIR,
+        jobs: &[("low", 0), ("high", 6)],
+        text: "job low 0 arrival 0 release 0 answer 49\njob high 0 arrival 6 release 6 answer 23\nrun legal kept\n",
+        ..ALONE
+    },
+];
+
+fn set_text(alloc: Global, case: &Case) -> Result<String, AllocError> {
+    let platform = case.platform;
+    let mut text = format!(in alloc;
+        "[platform]\nline = 16\n{platform}hit = 1\nmiss = 10\ndata = 3\ntaken = 2\nswitch = 5\n"
+    )?;
+    for (name, _start, _words, keys) in case.programs {
+        let table = format!(in alloc;
+            "[[task]]\nname = \"{name}\"\nfile = \"{name}.elf\"\nperiod = 100\ndeadline = 100\njitter = 0\n{keys}"
+        )?;
+        text.push_str(table.as_str())?;
+    }
+    Ok(text)
+}
+
+fn script_text(alloc: Global, case: &Case) -> Result<String, AllocError> {
+    let (cycles, keys) = (case.cycles, case.script);
+    let mut text = format!(in alloc; "cycles = {cycles}\n{keys}")?;
+    for (name, time) in case.jobs {
+        let table = format!(in alloc;
+            "[[job]]\ntask = \"{name}\"\narrival = {time}\nrelease = {time}\n"
+        )?;
+        text.push_str(table.as_str())?;
+    }
+    Ok(text)
+}
+
+fn push_words(bytes: &mut Vec<u8>, words: &[u32]) -> Result<(), AllocError> {
+    for word in words {
+        bytes.extend_from_slice(&word.to_le_bytes())?;
+    }
+    Ok(())
+}
+
+// The file of words from an address on.
+pub(crate) fn file_of(alloc: Global, start: u32, words: &[u32]) -> Result<Vec<u8>, AllocError> {
+    let mut code = Vec::new(alloc);
+    push_words(&mut code, words)?;
+    let size = u32::try_from(code.len()).unwrap_or(0);
+    let mut bytes = Vec::new(alloc);
+    let headers = [
+        0x464C_457F,
+        0x0001_0101,
+        0,
+        0,
+        0x00F3_0002,
+        1,
+        start,
+        52,
+        0,
+        0,
+        0x0020_0034,
+        1,
+        0,
+        1,
+        84,
+        start,
+        start,
+        size,
+        size,
+        5,
+        4,
+    ];
+    push_words(&mut bytes, &headers)?;
+    bytes.extend_from_slice(code.as_slice())?;
+    Ok(bytes)
+}
+
+pub(crate) type Held = Vec<(String, Vec<u8>)>;
+
+// The set and the files of a case, without its script.
+fn files_of(alloc: Global, case: &Case) -> Result<Held, AllocError> {
+    let mut files = Vec::new(alloc);
+    let set = set_text(alloc, case)?;
+    files.push((String::from_str(alloc, "set.toml")?, set.into_bytes()))?;
+    for (name, start, words, _keys) in case.programs {
+        let file = format!(in alloc; "{name}.elf")?;
+        files.push((file, file_of(alloc, *start, words)?))?;
+    }
+    Ok(files)
+}
+
+fn push_script(alloc: Global, files: &mut Held, script: Vec<u8>) -> Result<(), AllocError> {
+    files.push((String::from_str(alloc, "script.toml")?, script))?;
+    Ok(())
+}
+
+// What `simulate` ends with over files of which a call fails, read and written in pieces.
+fn ends(
+    rt: &impl Abort,
+    alloc: Global,
+    files: Held,
+    failing: (u64, u64),
+    ended: (Status, &str),
+) -> Result<(), Fail> {
+    let mut words = Vec::new(alloc);
+    for word in ["simulate", "set.toml", "script.toml"] {
+        words.push(String::from_str(alloc, word)?)?;
+    }
+    let mut files = MemFiles::with_most(files, [failing.0].to_vec(alloc)?, 64);
+    let Ok(mut out) = MemSink::new(alloc, 1000, 7, [failing.1].to_vec(alloc)?) else {
+        return Err(Fail::from("no memory"));
+    };
+    let (status, text) = ended;
+    let found = run(alloc, words.as_slice(), &mut files, &mut out);
+    assert_eq!(rt; out.written(), text.as_bytes());
+    assert_eq!(rt; found, status);
+    Ok(())
+}
+
+pub(crate) const NEVER: u64 = u64::MAX;
+
+#[test]
+fn runs(rt: HostRuntime) -> Result<(), Fail> {
+    let alloc = rt.alloc();
+    for case in &CASES {
+        let mut files = files_of(alloc, case)?;
+        push_script(alloc, &mut files, script_text(alloc, case)?.into_bytes())?;
+        ends(&rt, alloc, files, (NEVER, NEVER), (Status::Done, case.text))?;
+    }
+    Ok(())
+}
+
+const CUT: Case = Case {
+    programs: &[("one", 0x1002, &ONE, "")],
+    ..ALONE
+};
+
+// The script comes after the files and their code.
+#[test]
+fn refusals(rt: HostRuntime) -> Result<(), Fail> {
+    let alloc = rt.alloc();
+    let cases: [(&Case, &str, &str); 8] = [
+        (&CUT, "", "refused 42 EntryOutside one 00001002\n"),
+        (&ALONE, "cycles", "refused 30 NotToml script.toml -\n"),
+        (&ALONE, "", "refused 31 Missing script.toml cycles\n"),
+        (
+            &ALONE,
+            "cycles = 0",
+            "refused 32 BadValue script.toml cycles\n",
+        ),
+        (
+            &ALONE,
+            "cycles = 1\n[[job]]\ntask = \"two\"",
+            "refused 33 UnknownTask script.toml job.0.task\n",
+        ),
+        (
+            &ALONE,
+            "cycles = 1099511627777",
+            "refused 34 TooLong script.toml cycles\n",
+        ),
+        (
+            &ALONE,
+            "cycle = 1",
+            "refused 35 UnknownKey script.toml cycle\n",
+        ),
+        (
+            &ALONE,
+            "cycles = 1\n[[job]]\ntask = \"one\"\narrival = 0",
+            "refused 31 Missing script.toml job.0.release\n",
+        ),
+    ];
+    for (case, script, text) in cases {
+        let mut files = files_of(alloc, case)?;
+        push_script(alloc, &mut files, script.as_bytes().to_vec(alloc)?)?;
+        ends(&rt, alloc, files, (NEVER, NEVER), (Status::Refused, text))?;
+    }
+    ends(
+        &rt,
+        alloc,
+        files_of(alloc, &ALONE)?,
+        (NEVER, NEVER),
+        (Status::Refused, "refused 80 NoFile script.toml -\n"),
+    )
+}
+
+// A call that fails comes before any text, and ends it where it is one of the sink's.
+#[test]
+fn faults(rt: HostRuntime) -> Result<(), Fail> {
+    let alloc = rt.alloc();
+    let case = &CASES[0];
+    let cases = [
+        ((0, NEVER), Status::ReadFault, ""),
+        ((4, NEVER), Status::ReadFault, ""),
+        ((9, NEVER), Status::ReadFault, ""),
+        ((NEVER, 0), Status::WriteFault, ""),
+        ((NEVER, 2), Status::WriteFault, "job one 0 arri"),
+    ];
+    for (failing, status, text) in cases {
+        let mut files = files_of(alloc, case)?;
+        push_script(alloc, &mut files, script_text(alloc, case)?.into_bytes())?;
+        ends(&rt, alloc, files, failing, (status, text))?;
+    }
+    Ok(())
+}

@@ -1,0 +1,181 @@
+// The command `slack`, on worked examples, and `analyze` at each greatest cost and at the next one.
+use crate::analyze::{Case, NESTED, NEVER, PLAIN, Program, SHORT, ends, files_with};
+use crpd_tool::Status;
+use std::alloc::Global;
+use std::test::Fail;
+
+// A set, and the greatest accepted costs of a switch and of a reload.
+struct Row {
+    case: Case,
+    switch: Option<u32>,
+    miss: Option<u32>,
+}
+
+const ROWS: [Row; 5] = [
+    Row {
+        case: Case {
+            cache_sets: 4,
+            platform: "",
+            programs: &[
+                Program {
+                    name: "high",
+                    start: 0x2000,
+                    words: &SHORT,
+                    stated: PLAIN,
+                },
+                Program {
+                    name: "low",
+                    start: 0x1000,
+                    words: &SHORT,
+                    stated: PLAIN,
+                },
+            ],
+            status: Status::Done,
+            text: "switch 22 window low\nmiss 27 window low\n",
+            checked: "",
+        },
+        switch: Some(22),
+        miss: Some(27),
+    },
+    Row {
+        case: Case {
+            cache_sets: 4,
+            platform: "",
+            programs: &[Program {
+                name: "one",
+                start: 0x1000,
+                words: &SHORT,
+                stated: "period = 100\ndeadline = 16\njitter = 0\n",
+            }],
+            status: Status::Done,
+            text: "switch 4 window one\nmiss 9 window one\n",
+            checked: "",
+        },
+        switch: Some(4),
+        miss: Some(9),
+    },
+    Row {
+        case: Case {
+            cache_sets: 4,
+            platform: "",
+            programs: &[Program {
+                name: "one",
+                start: 0x1000,
+                words: &SHORT,
+                stated: "period = 100\ndeadline = 5\njitter = 0\n",
+            }],
+            status: Status::Done,
+            text: "switch none window one\nmiss none window one\n",
+            checked: "",
+        },
+        switch: None,
+        miss: None,
+    },
+    Row {
+        case: Case {
+            cache_sets: 4,
+            platform: "",
+            programs: &[Program {
+                name: "one",
+                start: 0x1000,
+                words: &SHORT,
+                stated: "period = 1000000\ndeadline = 1000000\njitter = 0\n",
+            }],
+            status: Status::Done,
+            text: "switch 65535 limit\nmiss 65535 limit\n",
+            checked: "",
+        },
+        switch: Some(65535),
+        miss: Some(65535),
+    },
+    // each turn of the inner loop costs three cycles at least, and it has 10^12 of them
+    Row {
+        case: Case {
+            cache_sets: 4,
+            platform: "",
+            programs: &[Program {
+                name: "one",
+                start: 0x1000,
+                words: &NESTED,
+                stated: "period = 100\ndeadline = 100\njitter = 0\n[[task.loop]]\nhead = 0x1000\nbound = 1000000\nrange = [[0x1000, 0x100C]]\n[[task.loop]]\nhead = 0x1004\nbound = 1000000\nrange = []\n",
+            }],
+            status: Status::Done,
+            text: "switch none bound one\nmiss none bound one\n",
+            checked: "",
+        },
+        switch: None,
+        miss: None,
+    },
+];
+
+// Whether the set with these costs has a certificate.
+fn is_accepted(alloc: Global, case: &Case, miss: u32, switch: u32) -> Result<bool, Fail> {
+    let files = files_with(alloc, case, miss, switch, b"")?;
+    let (status, _) = ends(alloc, &["analyze", "set.toml"], files, NEVER)?;
+    Ok(status == Status::Done)
+}
+
+// The least cost that is refused, if a platform may have it.
+fn next_of(greatest: Option<u32>) -> Option<u32> {
+    match greatest {
+        None => Some(0),
+        Some(65535) => None,
+        Some(cost) => cost.checked_add(1),
+    }
+}
+
+#[test]
+fn greatest_costs_of_programs(rt: HostRuntime) -> Result<(), Fail> {
+    let alloc = rt.alloc();
+    for row in &ROWS {
+        let files = files_with(alloc, &row.case, 10, 5, b"")?;
+        let (status, text) = ends(alloc, &["slack", "set.toml"], files, NEVER)?;
+        assert_eq!(rt; text.as_slice(), row.case.text.as_bytes());
+        assert_eq!(rt; status, row.case.status);
+    }
+    Ok(())
+}
+
+// The analysis finds a certificate at each greatest cost, and none at the next one.
+#[test]
+fn analysed_up_to_the_greatest_costs(rt: HostRuntime) -> Result<(), Fail> {
+    let alloc = rt.alloc();
+    for row in &ROWS {
+        if let Some(switch) = row.switch {
+            assert!(rt; is_accepted(alloc, &row.case, 10, switch)?);
+        }
+        if let Some(switch) = next_of(row.switch) {
+            assert!(rt; !is_accepted(alloc, &row.case, 10, switch)?);
+        }
+        if let Some(miss) = row.miss {
+            assert!(rt; is_accepted(alloc, &row.case, miss, 5)?);
+        }
+        if let Some(miss) = next_of(row.miss) {
+            assert!(rt; !is_accepted(alloc, &row.case, miss, 5)?);
+        }
+    }
+    Ok(())
+}
+
+// Other numbers of words are no command, and a file that cannot be read is a fault.
+#[test]
+fn other_ends(rt: HostRuntime) -> Result<(), Fail> {
+    let alloc = rt.alloc();
+    let cases: [(&[&str], u64, Status, &str); 3] = [
+        (&["slack"], NEVER, Status::BadWords, "bad words\n"),
+        (
+            &["slack", "set.toml", "one"],
+            NEVER,
+            Status::BadWords,
+            "bad words\n",
+        ),
+        (&["slack", "set.toml"], 3, Status::ReadFault, ""),
+    ];
+    for (words, failing, status, text) in cases {
+        let files = files_with(alloc, &ROWS[0].case, 10, 5, b"")?;
+        let (found, written) = ends(alloc, words, files, failing)?;
+        assert_eq!(rt; written.as_slice(), text.as_bytes());
+        assert_eq!(rt; found, status);
+    }
+    Ok(())
+}

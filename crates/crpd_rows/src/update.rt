@@ -1,0 +1,526 @@
+// The command `update`, on worked examples.
+use crate::sets::file_of;
+use crpd_io::{MemFiles, MemSink};
+use crpd_tool::{Status, run};
+use std::alloc::{AllocError, Global};
+use std::process::Abort;
+use std::test::Fail;
+
+// A task as a set states it: its name, its file, and its times and loops.
+type Stated = (&'static str, &'static str, &'static str);
+
+// A task as a certificate states it; its potentials, loops and states are as they stand in the text.
+#[derive(Clone, Copy)]
+struct Part {
+    name: &'static str,
+    bound: u64,
+    loops: &'static str,
+    potentials: &'static str,
+    states: &'static str,
+    window: u64,
+    response: u64,
+}
+
+// An old certificate of some version, a new set on a platform, and what `update` ends with: the new certificate's tasks,
+// or another text.
+#[derive(Clone, Copy)]
+struct Case {
+    version: u32,
+    old: &'static [Part],
+    line: u32,
+    switching: &'static str,
+    tasks: &'static [Stated],
+    status: Status,
+    new: &'static [Part],
+    text: &'static str,
+}
+
+const PLAIN: &str = "period = 100\ndeadline = 100\njitter = 0\n";
+
+const HIGH: Stated = ("high", "high.elf", PLAIN);
+
+const LOW: Stated = ("low", "low.elf", PLAIN);
+
+// A task of two words, as the analysis of the first task finds it.
+const FIRST: Part = Part {
+    name: "high",
+    bound: 12,
+    loops: "[]",
+    potentials: "[12,1]",
+    states: "[[0,[],[]]]",
+    window: 17,
+    response: 17,
+};
+
+// And one below it.
+const SECOND: Part = Part {
+    name: "low",
+    window: 49,
+    response: 49,
+    ..FIRST
+};
+
+// It with a bound that is not the least.
+const LARGER: Part = Part {
+    bound: 13,
+    window: 50,
+    response: 50,
+    ..SECOND
+};
+
+const SMALLER: Part = Part {
+    bound: 11,
+    window: 48,
+    response: 48,
+    ..SECOND
+};
+
+// It with both of its nodes, where one is a leader.
+const LISTED: Part = Part {
+    states: "[[0,[],[]],[1,[0,256],[0]]]",
+    ..LARGER
+};
+
+// A change of nothing, with no answer yet.
+const SAME: Case = Case {
+    version: 2,
+    old: &[FIRST, LARGER],
+    line: 16,
+    switching: "cycle",
+    tasks: &[HIGH, LOW],
+    status: Status::Done,
+    new: &[FIRST, LARGER],
+    text: "",
+};
+
+const CASES: [Case; 20] = [
+    // What the old certificate says of the code is kept; its windows are not.
+    SAME,
+    Case {
+        old: &[
+            FIRST,
+            Part {
+                window: 60,
+                response: 60,
+                ..SECOND
+            },
+        ],
+        new: &[FIRST, SECOND],
+        ..SAME
+    },
+    Case {
+        old: &[FIRST, SMALLER],
+        status: Status::No,
+        text: "no low clause 7 place 0\n",
+        ..SAME
+    },
+    // A later jitter changes windows and responses alone.
+    Case {
+        old: &[FIRST, SECOND],
+        tasks: &[
+            (
+                "high",
+                "high.elf",
+                "period = 100\ndeadline = 100\njitter = 60\n",
+            ),
+            LOW,
+        ],
+        new: &[
+            Part {
+                response: 77,
+                ..FIRST
+            },
+            Part {
+                window: 81,
+                response: 81,
+                ..SECOND
+            },
+        ],
+        ..SAME
+    },
+    // Another program is analysed.
+    Case {
+        tasks: &[
+            HIGH,
+            (
+                "low",
+                "count.elf",
+                "period = 100\ndeadline = 100\njitter = 0\n[[task.loop]]\nhead = 0x1004\nbound = 3\nrange = [[0x1004, 0x100C]]\n",
+            ),
+        ],
+        new: &[
+            FIRST,
+            Part {
+                bound: 24,
+                loops: "[13]",
+                potentials: "[24,4,3,1]",
+                states: "[[0,[],[]],[1,[0,256],[0]],[3,[0,256],[0]]]",
+                window: 61,
+                response: 61,
+                ..SECOND
+            },
+        ],
+        ..SAME
+    },
+    // The same code under another file's name is unchanged.
+    Case {
+        tasks: &[HIGH, ("low", "again.elf", PLAIN)],
+        ..SAME
+    },
+    // Tasks in another order.
+    Case {
+        tasks: &[LOW, HIGH],
+        new: &[
+            Part {
+                window: 18,
+                response: 18,
+                ..LARGER
+            },
+            Part {
+                window: 50,
+                response: 50,
+                ..FIRST
+            },
+        ],
+        ..SAME
+    },
+    // A task of another name is analysed.
+    Case {
+        tasks: &[HIGH, ("slow", "low.elf", PLAIN)],
+        new: &[
+            FIRST,
+            Part {
+                name: "slow",
+                ..SECOND
+            },
+        ],
+        ..SAME
+    },
+    // A task less, and one more.
+    Case {
+        tasks: &[LOW, ("third", "third.elf", PLAIN)],
+        new: &[
+            Part {
+                window: 18,
+                response: 18,
+                ..LARGER
+            },
+            Part {
+                name: "third",
+                window: 50,
+                response: 50,
+                ..SECOND
+            },
+        ],
+        ..SAME
+    },
+    // On another platform all tasks are analysed, but not for where a switch may happen.
+    Case {
+        line: 32,
+        new: &[FIRST, SECOND],
+        ..SAME
+    },
+    Case {
+        switching: "instruction",
+        new: &[
+            Part {
+                window: 27,
+                response: 27,
+                ..FIRST
+            },
+            Part {
+                window: 60,
+                response: 60,
+                ..LARGER
+            },
+        ],
+        ..SAME
+    },
+    // An old certificate of version 1, and one that lists more than the leaders.
+    Case { version: 1, ..SAME },
+    Case {
+        old: &[FIRST, LISTED],
+        new: &[FIRST, LISTED],
+        ..SAME
+    },
+    // A bound that is too large, and a task without a window; a task that is kept is not bounded again.
+    Case {
+        tasks: &[
+            (
+                "high",
+                "high.elf",
+                "period = 100\ndeadline = 16\njitter = 0\n",
+            ),
+            (
+                "low",
+                "nested.elf",
+                "period = 100\ndeadline = 100\njitter = 0\n[[task.loop]]\nhead = 0x1000\nbound = 1_000_000\nrange = [[0x1000, 0x100C]]\n[[task.loop]]\nhead = 0x1004\nbound = 1_000_000\nrange = []\n",
+            ),
+        ],
+        status: Status::Refused,
+        text: "refused 64 BoundTooLarge low 00001000\n",
+        ..SAME
+    },
+    Case {
+        tasks: &[
+            HIGH,
+            (
+                "low",
+                "low.elf",
+                "period = 100\ndeadline = 49\njitter = 0\n",
+            ),
+        ],
+        status: Status::No,
+        text: "unschedulable low\n",
+        ..SAME
+    },
+    // A refusal of the new set comes before the no to the old certificate, and that before a task without a window.
+    Case {
+        old: &[FIRST, SMALLER],
+        tasks: &[HIGH, ("low", "none.elf", PLAIN)],
+        status: Status::Refused,
+        text: "refused 80 NoFile none.elf -\n",
+        ..SAME
+    },
+    Case {
+        old: &[FIRST, SMALLER],
+        tasks: &[HIGH, ("low", "ends.elf", PLAIN)],
+        status: Status::Refused,
+        text: "refused 54 Breakpoint low 00001000\n",
+        ..SAME
+    },
+    Case {
+        old: &[FIRST, SMALLER],
+        tasks: &[
+            (
+                "high",
+                "high.elf",
+                "period = 100\ndeadline = 16\njitter = 0\n",
+            ),
+            LOW,
+        ],
+        status: Status::No,
+        text: "no low clause 7 place 0\n",
+        ..SAME
+    },
+    // A refusal of the old certificate comes before one of the new set.
+    Case {
+        version: 3,
+        tasks: &[HIGH, ("low", "none.elf", PLAIN)],
+        status: Status::Refused,
+        text: "refused 74 OtherVersion cert.json 3\n",
+        ..SAME
+    },
+    // A certificate of other tasks is not one of the old set.
+    Case {
+        old: &[FIRST],
+        status: Status::No,
+        text: "no low clause 1 place 1\n",
+        ..SAME
+    },
+];
+
+const SHORT: [u32; 2] = [0x0010_0293, 0x0000_0073];
+
+// Counts down from 3.
+const COUNT: [u32; 4] = [0x0030_0293, 0xFFF2_8293, 0xFE02_9EE3, 0x0000_0073];
+
+// Two loops, one in the other.
+const NESTED: [u32; 4] = [0x0030_0293, 0x0002_9063, 0xFE02_9CE3, 0x0000_0073];
+
+const BREAKPOINT: [u32; 1] = [0x0010_0073];
+
+const PROGRAMS: [(&str, u32, &[u32]); 7] = [
+    ("high.elf", 0x2000, &SHORT),
+    ("low.elf", 0x1000, &SHORT),
+    ("again.elf", 0x1000, &SHORT),
+    ("third.elf", 0x3000, &SHORT),
+    ("count.elf", 0x1000, &COUNT),
+    ("nested.elf", 0x1000, &NESTED),
+    ("ends.elf", 0x1000, &BREAKPOINT),
+];
+
+fn set_text(
+    alloc: Global,
+    line: u32,
+    switching: &str,
+    tasks: &[Stated],
+) -> Result<String, AllocError> {
+    let mut text = format!(in alloc;
+        "[platform]\nline = {line}\nsets = 4\nhit = 1\nmiss = 10\ndata = 3\ntaken = 2\nswitch = 5\nswitching = \"{switching}\"\n"
+    )?;
+    for (name, file, stated) in tasks {
+        let table = format!(in alloc; "[[task]]\nname = \"{name}\"\nfile = \"{file}\"\n{stated}")?;
+        text.push_str(table.as_str())?;
+    }
+    Ok(text)
+}
+
+// The text of a certificate. Version 1 has no costs of multiplication and division, and no kind of switching.
+fn certificate_text(
+    alloc: Global,
+    version: u32,
+    line: u32,
+    switching: &str,
+    parts: &[Part],
+) -> Result<String, AllocError> {
+    let mut text = if version == 1 {
+        format!(in alloc;
+            "{{\"platform\":{{\"data\":3,\"hit\":1,\"line\":{line},\"miss\":10,\"sets\":4,\"switch\":5,\"taken\":2}},\"tasks\":["
+        )?
+    } else {
+        format!(in alloc;
+            "{{\"platform\":{{\"data\":3,\"div\":0,\"hit\":1,\"line\":{line},\"miss\":10,\"mul\":0,\"sets\":4,\"switch\":5,\"switching\":\"{switching}\",\"taken\":2}},\"tasks\":["
+        )?
+    };
+    let mut between = "";
+    for part in parts {
+        text.push_str(between)?;
+        text.push_str(part_text(alloc, part)?.as_str())?;
+        between = ",";
+    }
+    text.push_str(format!(in alloc; "],\"version\":{version}}}")?.as_str())?;
+    Ok(text)
+}
+
+fn part_text(alloc: Global, part: &Part) -> Result<String, AllocError> {
+    let (name, bound, loops) = (part.name, part.bound, part.loops);
+    let (potentials, states) = (part.potentials, part.states);
+    let (window, response) = (part.window, part.response);
+    format!(in alloc;
+        "{{\"bound\":{bound},\"evicting\":[0],\"loops\":{loops},\"method\":\"ucb\",\"name\":\"{name}\",\"potentials\":{potentials},\"response\":{response},\"states\":{states},\"useful\":[0],\"window\":{window}}}"
+    )
+}
+
+// The two sets, the old certificate and the programs.
+fn files_of(alloc: Global, case: &Case) -> Result<Vec<(String, Vec<u8>)>, AllocError> {
+    let mut files = Vec::new(alloc);
+    let old = set_text(alloc, 16, "cycle", &[HIGH, LOW])?;
+    files.push((String::from_str(alloc, "old.toml")?, old.into_bytes()))?;
+    let certificate = certificate_text(alloc, case.version, 16, "cycle", case.old)?;
+    files.push((
+        String::from_str(alloc, "cert.json")?,
+        certificate.into_bytes(),
+    ))?;
+    let new = set_text(alloc, case.line, case.switching, case.tasks)?;
+    files.push((String::from_str(alloc, "new.toml")?, new.into_bytes()))?;
+    for (name, start, words) in &PROGRAMS {
+        files.push((
+            String::from_str(alloc, name)?,
+            file_of(alloc, *start, words)?,
+        ))?;
+    }
+    Ok(files)
+}
+
+const NEVER: u64 = u64::MAX;
+
+const WORDS: [&str; 4] = ["update", "old.toml", "cert.json", "new.toml"];
+
+// How words end over files of which a call fails, and what they write.
+fn ends(
+    alloc: Global,
+    words: &[&str],
+    files: Vec<(String, Vec<u8>)>,
+    failing: u64,
+) -> Result<(Status, Vec<u8>), Fail> {
+    let mut list = Vec::new(alloc);
+    for word in words {
+        list.push(String::from_str(alloc, word)?)?;
+    }
+    let mut files = MemFiles::new(files, [failing].to_vec(alloc)?);
+    let Ok(mut out) = MemSink::new(alloc, 10000, 700, Vec::new(alloc)) else {
+        return Err(Fail::from("no memory"));
+    };
+    let found = run(alloc, list.as_slice(), &mut files, &mut out);
+    Ok((found, out.written().to_vec(alloc)?))
+}
+
+// What a case writes.
+fn wanted(alloc: Global, case: &Case) -> Result<String, AllocError> {
+    if case.status != Status::Done {
+        return String::from_str(alloc, case.text);
+    }
+    let mut text = certificate_text(alloc, 2, case.line, case.switching, case.new)?;
+    text.push('\n')?;
+    Ok(text)
+}
+
+#[test]
+fn updates(rt: HostRuntime) -> Result<(), Fail> {
+    let alloc = rt.alloc();
+    for case in &CASES {
+        let (status, written) = ends(alloc, &WORDS, files_of(alloc, case)?, NEVER)?;
+        assert_eq!(rt; written.as_slice(), wanted(alloc, case)?.as_bytes());
+        assert_eq!(rt; status, case.status);
+    }
+    Ok(())
+}
+
+// `check` says yes to the new certificate for the new set, and where the old one is that of `analyze`, so is the new one.
+#[test]
+fn updates_are_checked_and_analysed(rt: HostRuntime) -> Result<(), Fail> {
+    let alloc = rt.alloc();
+    let case = Case {
+        old: &[FIRST, SECOND],
+        tasks: &[LOW, HIGH],
+        ..SAME
+    };
+    let (status, made) = ends(alloc, &WORDS, files_of(alloc, &case)?, NEVER)?;
+    assert_eq!(rt; status, Status::Done);
+    let words = ["analyze", "new.toml"];
+    let (status, analysed) = ends(alloc, &words, files_of(alloc, &case)?, NEVER)?;
+    assert_eq!(rt; status, Status::Done);
+    assert_eq!(rt; made.as_slice(), analysed.as_slice());
+    let mut files = files_of(alloc, &case)?;
+    files.push((String::from_str(alloc, "made.json")?, made))?;
+    let words = ["check", "new.toml", "made.json"];
+    let (status, text) = ends(alloc, &words, files, NEVER)?;
+    assert_eq!(rt;
+        text.as_slice(),
+        "yes\nlow bound 12 window 17 response 17 method ucb\nhigh bound 12 window 49 response 49 method ucb\n".as_bytes()
+    );
+    assert_eq!(rt; status, Status::Done);
+    Ok(())
+}
+
+// Other numbers of words are no command, a set that is not there is refused first, and a file that cannot be read is a
+// fault.
+#[test]
+fn other_ends(rt: HostRuntime) -> Result<(), Fail> {
+    let alloc = rt.alloc();
+    let cases: [(&[&str], u64, Status, &str); 6] = [
+        (&WORDS[..3], NEVER, Status::BadWords, "bad words\n"),
+        (
+            &["update", "old.toml", "cert.json", "new.toml", "new.toml"],
+            NEVER,
+            Status::BadWords,
+            "bad words\n",
+        ),
+        (
+            &["update", "none.toml", "none.json", "gone.toml"],
+            NEVER,
+            Status::Refused,
+            "refused 80 NoFile none.toml -\n",
+        ),
+        (
+            &["update", "old.toml", "none.json", "gone.toml"],
+            NEVER,
+            Status::Refused,
+            "refused 80 NoFile none.json -\n",
+        ),
+        (
+            &["update", "old.toml", "cert.json", "gone.toml"],
+            NEVER,
+            Status::Refused,
+            "refused 80 NoFile gone.toml -\n",
+        ),
+        (&WORDS, 3, Status::ReadFault, ""),
+    ];
+    for (words, failing, status, text) in cases {
+        let (found, written) = ends(alloc, words, files_of(alloc, &SAME)?, failing)?;
+        assert_eq!(rt; written.as_slice(), text.as_bytes());
+        assert_eq!(rt; found, status);
+    }
+    Ok(())
+}

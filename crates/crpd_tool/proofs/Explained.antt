@@ -1,0 +1,176 @@
+-- A text of `explain` with the status Done comes of a yes, and of an account within the certificate's delays.
+use Rattle.std.proofs.Common.{◌≡◌, ◌++◌, ℕ, ◌<◌, ◌≤◌, List, Result, Ok, Err, length, ap, sym, subst, ◌∙◌, refl, arith}
+use Rattle.std.specs.Prelude.{slice_index_or}
+use Rattle.crpd_base.specs.declared.data.Certificate.{Certificate}
+use Rattle.crpd_base.specs.declared.data.Script.{Script}
+use Rattle.crpd_base.specs.declared.data.ScriptJob.{ScriptJob}
+use Rattle.crpd_base.specs.declared.data.TaskSet.{TaskSet}
+use Rattle.code_map.specs.Words.{word_at}
+use Rattle.script_reader.specs.Legal.{IsLegal}
+use Rattle.script_reader.specs.Reading as script_reader
+use Rattle.script_reader.proofs.Found.{found_in}
+use Rattle.loop_regions.specs.TaskGraph.{TaskGraph}
+use Rattle.cert_check.specs.Answered.{answer_of}
+use Rattle.cert_check.specs.Judge.{IsGraphOf, IsYes}
+use Rattle.cert_check.specs.Shown.{shown_at}
+use Rattle.cert_check.specs.Verdict.{IsJudged, States, TaskSets, UsefulSets, Yes, YesLaw}
+use Rattle.cert_check.specs.declared.outcome.Verdict.{Verdict}
+use Rattle.cert_check.specs.declared.outcome.Verdict.TheVariants as verdict
+use Rattle.preempt_machine.specs.Machine.{no_job, plan_of}
+use Rattle.preempt_machine.specs.Safe.{IsKept, NamesTasks, system_of}
+use Rattle.preempt_machine.specs.Step.{Start}
+use Rattle.run_account.specs.Account.{HasAccountFacts, IsAccount}
+use Rattle.run_account.specs.Facts.{AreSetsMet, LedgerFacts}
+use Rattle.run_account.specs.Fetches.{HasCache}
+use Rattle.run_account.specs.Nodes.{task_of}
+use Rattle.run_account.specs.Walks.{HasGraphs}
+use Rattle.run_account.specs.Shown.{start_of_script}
+use Rattle.run_account.specs.declared.told.Account.{Account}
+use Rattle.run_account.proofs.Jobs.{line_is}
+use Rattle.run_account.proofs.Ready.{cache_length}
+use Rattle.sound_laws.specs.Within.{CheckedAccountIsWithinDelays, IsChecked, IsWithinDelays}
+use Rattle.crpd_io.specs.Outside.{Contents}
+use Rattle.crpd_input.specs.declared.input.Input.{Input}
+use Rattle.crpd_input.specs.declared.refusal.Refusal.{Refusal}
+use Rattle.crpd_input.specs.declared.shapes.Shapes.{Shapes}
+use Rattle.crpd_input.specs.Reading.{certificate_in, input_in}
+use Rattle.crpd_input.specs.Script.{script_in, script_refusal}
+use Rattle.crpd_input.specs.Shapes.{ShapesIn}
+use Rattle.crpd_input.specs.Steps.{Exactly, Then, bytes_in, or_refused}
+use Rattle.crpd_input.proofs.Built.{shapes_built}
+use Rattle.crpd_input.proofs.Given.{IsInput, input_good, input_planned, read_ok, step_ok}
+use Rattle.crpd_tool.specs.Check.{verdict_answer}
+use Rattle.crpd_tool.specs.Explain.{AccountOf, ExplainEnds, ExplainedBy, ExplanationOf}
+use Rattle.crpd_tool.specs.Explained.{DoneIsExplained, IsExplained}
+use Rattle.crpd_tool.specs.Out.{Output, settled}
+use Rattle.crpd_tool.specs.Simulate.{run_of}
+use Rattle.crpd_tool.specs.Words.{explain}
+use Rattle.crpd_tool.specs.declared.answer.Answer.{Answer}
+use Rattle.crpd_tool.specs.declared.status.Status.TheVariants.{Done}
+use Rattle.crpd_tool.proofs.Finish.{some-out}
+use Rattle.crpd_tool.proofs.Safety.{then_done}
+
+-- the jobs of a script that was read are of the set's tasks
+script_named : (contents : Contents) (name : List ℕ) (set : TaskSet) (given : Script) → script_in contents name set ≡ Ok given → NamesTasks set given.jobs
+script_named contents name set given e =
+    let bytes = step_ok (bytes_in 16777216 contents name) (λ bytes. or_refused (script_refusal name) (script_reader.reading bytes set)) given e in
+    found_in bytes.0 set (Ok given) (read_ok (script_refusal name) (script_reader.reading bytes.0 set) given bytes.2)
+
+-- what a yes gives the laws on a script's run
+module _ (input : Input) (shapes : Shapes) (c : Certificate) (given : Script) (is : IsInput input) (planned : length input.code.plans ≡ length input.set.tasks) (shaped : ShapesIn input (Ok shapes))
+    (named : NamesTasks input.set given.jobs) (judged : IsJudged input.set (shown_at shapes.graphs shapes.nests) c Yes) where
+  abbrev start : Start
+  start = start_of_script input.set input.code given
+
+  abbrev graphs : ℕ → TaskGraph
+  graphs = shown_at shapes.graphs shapes.nests
+
+  built : (k : ℕ) → k < length input.set.tasks → IsGraphOf (word_at input.code.images) (plan_of (system_of input.set input.code) k) (graphs k)
+  built = shapes_built input shapes is planned shaped
+
+  task_below : (x : ℕ) → x < length given.jobs → task_of start x < length input.set.tasks
+  task_below x h = subst (λ (l : ScriptJob). l.task.0 < length input.set.tasks) (sym (line_is start 0 x h)) (named x no_job.line h)
+
+  has_graphs : HasGraphs start graphs
+  has_graphs =
+      record {
+        code = is.words;
+        hit = is.ranges.platform.hit.0;
+        graph = λ x h. let g = built (task_of start x) (task_below x h) in record { follows = g.follows; no_errors = g.no_errors };
+      }
+
+  sets_met : AreSetsMet start graphs c
+  sets_met x h =
+      let lt = task_below x h in
+      record {
+        states = λ u l. judged (task_of start x) (States u) lt l;
+        useful = λ u l. judged (task_of start x) (UsefulSets u) lt l;
+        sets = λ u l. judged (task_of start x) (TaskSets u) lt l;
+      }
+
+  cached : HasCache start
+  cached =
+      let sets = is.ranges.platform.sets in
+      let room : length (start.cache) ≡ 512 = cache_length input.set.platform given.cache in
+      record { size = omega (arith, sets.1, room); some_set = omega (arith, sets.0) }
+
+  checked : YesLaw → IsChecked input.set input.code graphs c
+  checked yes_law =
+      record {
+        ranges = is.ranges;
+        words = is.words;
+        graphs_of = built;
+        says = (yes_law input.set graphs c (word_at input.code.images) (plan_of (system_of input.set input.code)) built).0 judged;
+      }
+
+  account_facts : LedgerFacts → (a : Account) → IsAccount start graphs c given.cycles a → HasAccountFacts start graphs c given.cycles a
+  account_facts facts_law a I =
+      record {
+        ledger = I.ledger;
+        is_ledger = I.is_ledger;
+        entries = I.entries;
+        facts = facts_law start graphs c given.cycles I.ledger cached has_graphs sets_met I.is_ledger;
+      }
+
+  within_delays : CheckedAccountIsWithinDelays → YesLaw → (a : Account) → IsAccount start graphs c given.cycles a → IsLegal input.set given.jobs → IsKept (run_of input given) → IsWithinDelays input.set input.code given c a
+  within_delays within_law yes_law a I legal kept = within_law input.set input.code graphs c given a (checked yes_law) named legal I (I.kept.1 kept)
+
+denied : (set : TaskSet) (c : Certificate) (task clause place : ℕ) → (settled (Ok (verdict_answer set c (verdict.No (record { 0 = task }) clause place)))).status ≡ Done → ⊥
+denied set c task clause place e = cc
+
+-- with the status Done the verdict was yes
+account_of : (input : Input) (shapes : Shapes) (c : Certificate) (given : Script) (v : Verdict) (ending : Result Answer Refusal) → ExplainedBy input shapes c given v ending → (settled ending).status ≡ Done
+    → (answer_of v ≡ Yes) × AccountOf input shapes c given ending
+account_of input shapes c given verdict.Yes ending a e = (refl, a)
+account_of input shapes c given (verdict.No task clause place) ending a e =
+    absurd (denied input.set c task.0 clause place (ap (λ (r : Result Answer Refusal). (settled r).status) (sym a) ∙ e))
+
+module _ (facts_law : LedgerFacts) (within_law : CheckedAccountIsWithinDelays) (yes_law : YesLaw) (contents : Contents) (set certificate script : List ℕ) where
+  explained : (input : Input) (shapes : Shapes) (c : Certificate) (given : Script) (ending : Result Answer Refusal) → input_in contents set ≡ Ok input → ShapesIn input (Ok shapes)
+      → certificate_in contents certificate ≡ Ok c → script_in contents script input.set ≡ Ok given → ExplanationOf input shapes c given ending → (settled ending).status ≡ Done
+      → IsExplained contents set certificate script (settled ending).text
+  explained input shapes c given ending input_is shaped stated scripted found e =
+      let is = input_good contents set input input_is in
+      let planned = input_planned contents set input input_is in
+      let named = script_named contents script input.set given scripted in
+      let told = account_of input shapes c given found.0 ending found.2 e in
+      let judged : IsJudged input.set (shown_at shapes.graphs shapes.nests) c Yes = subst (λ a. IsJudged input.set (shown_at shapes.graphs shapes.nests) c a) told.0 found.1 in
+      let account = told.1 in
+      record {
+        input = input;
+        shapes = shapes;
+        stated = c;
+        given = given;
+        account = account.0;
+        last = account.1;
+        input_is = input_is;
+        shapes_are = shaped;
+        certificate_is = stated;
+        script_is = scripted;
+        judged = judged;
+        is_account = account.2;
+        line = account.3;
+        text_is = ap (λ (r : Result Answer Refusal). (settled r).text) account.4;
+        facts = account_facts input shapes c given is planned shaped named judged facts_law account.0 account.2;
+        within = within_delays input shapes c given is planned shaped named judged within_law yes_law account.0 account.2;
+      }
+
+  abbrev Scripts : Input → Shapes → Certificate → Result Answer Refusal → Type 0
+  Scripts input shapes stated = Then (Exactly (script_in contents script input.set)) (ExplanationOf input shapes stated)
+
+  abbrev Certificates : Input → Shapes → Result Answer Refusal → Type 0
+  Certificates input shapes = Then (Exactly (certificate_in contents certificate)) (Scripts input shapes)
+
+  ended : (ending : Result Answer Refusal) → ExplainEnds contents set certificate script ending → (settled ending).status ≡ Done → IsExplained contents set certificate script (settled ending).text
+  ended ending is e =
+      let input = then_done (Exactly (input_in contents set)) (λ input. Then (ShapesIn input) (Certificates input)) ending is e in
+      let shapes = then_done (ShapesIn input.0) (Certificates input.0) ending input.2 e in
+      let stated = then_done (Exactly (certificate_in contents certificate)) (Scripts input.0 shapes.0) ending shapes.2 e in
+      let given = then_done (Exactly (script_in contents script input.0.set)) (ExplanationOf input.0 shapes.0 stated.0) ending stated.2 e in
+      explained input.0 shapes.0 stated.0 given.0 ending input.1 shapes.1 stated.1 given.1 given.2 e
+
+pub done_is_explained : LedgerFacts → CheckedAccountIsWithinDelays → YesLaw → (words : List (List ℕ)) (contents : Contents) → DoneIsExplained words contents
+done_is_explained facts_law within_law yes_law words contents set certificate script output is out e =
+    let given = some-out words contents (explain set certificate script) output is out in
+    subst (IsExplained contents set certificate script) (sym (ap (λ (o : Output). o.text) given.2))
+    (ended facts_law within_law yes_law contents set certificate script given.0 given.1 (ap (λ (o : Output). o.status) (sym given.2) ∙ e))

@@ -1,0 +1,96 @@
+-- What the judge's yes gives an account of a script's run, and the text of one.
+use Rattle.std.proofs.Common.{◌≡◌, ℕ, suc, ◌+◌, ◌-◌, ◌<◌, ◌≤◌, length, Result, Ok, Err, Some, sym, ap, ◌∙◌, subst, inl, inr, arith}
+use Rattle.std.specs.Prelude.{IfOk}
+use Rattle.std.proofs.lemmas.Option.{get_or_from_slice_get}
+use Rattle.std.proofs.lemmas.List.Elements.{All-get_or}
+use Rattle.crpd_base.specs.declared.data.Certificate.{Certificate}
+use Rattle.crpd_base.specs.declared.data.Script.{Script}
+use Rattle.crpd_base.specs.declared.data.Task.{Task}
+use Rattle.crpd_base.specs.declared.data.TaskPlan.{TaskPlan}
+use Rattle.crpd_base.specs.declared.data.TaskSet.{TaskSet}
+use Rattle.crpd_base.specs.Ranges.{IsTaskSet}
+use Rattle.flat_graph.specs.CodeGraph.{IsCodeGraph}
+use Rattle.flat_graph.proofs.Members.{some_at}
+use Rattle.loop_regions.specs.TaskGraph.{TaskGraph}
+use Rattle.loop_regions.specs.TaskSteps.{words_of}
+use Rattle.evict_sets.specs.Certificate.{cert_at, no_cert}
+use Rattle.cert_check.specs.Shown.{HasLowSets, graph_at, no_graph, shown_at}
+use Rattle.cert_check.specs.Answered.{answer_of}
+use Rattle.cert_check.specs.Verdict.{Deadline, HasTask, IsJudged, Last, Leaders, Response, States, Yes}
+use Rattle.cert_check.specs.declared.outcome.Verdict.TheVariants as verdict
+use Rattle.cert_model.specs.Ranges.{IsCertificate}
+use Rattle.run_account.specs.Shown.{AreGraphsOf, StatesAreMet}
+use Rattle.crpd_input.specs.declared.input.Input.{Input}
+use Rattle.crpd_input.specs.declared.shapes.Shapes.{Shapes}
+use Rattle.crpd_input.specs.declared.refusal.Refusal.{Refusal}
+use Rattle.crpd_input.specs.Graphs.{GraphsIn}
+use Rattle.crpd_input.specs.Shapes.{ShapesIn}
+use Rattle.crpd_input.proofs.InRange.{in_range}
+use Rattle.crpd_report.specs.Explain.{HasWindowOfEach}
+use Rattle.crpd_tool.specs.Check.{verdict_answer}
+use Rattle.crpd_tool.specs.Explain.{AccountOf, ExplanationOf}
+use Rattle.crpd_tool.specs.declared.answer.Answer.{Answer}
+
+same_plan : (p q : TaskPlan) → Some p ≡ Some q → p ≡ q
+same_plan p q e = cc
+
+same_shapes : (x y : Shapes) → ◌≡◌ {A = Result Shapes Refusal} (Ok x) (Ok y) → x ≡ y
+same_shapes x y e = cc
+
+not_refused : (x : Shapes) (r : Refusal) → ◌≡◌ {A = Result Shapes Refusal} (Ok x) (Err r) → ⊥
+not_refused x r e = cc
+
+graphs_made : (input : Input) (shapes : Shapes) → ShapesIn input (Ok shapes) → GraphsIn input (Ok shapes.graphs)
+graphs_made input shapes (inl (graphs, found, inl (nests, regions, is))) =
+    subst (λ (s : Shapes). GraphsIn input (Ok s.graphs)) (same_shapes (record { graphs = graphs; nests = nests }) shapes is) found
+graphs_made input shapes (inl (graphs, found, inr (refusal, stops, is))) = absurd (not_refused shapes refusal is)
+graphs_made input shapes (inr (refusal, stops, is)) = absurd (not_refused shapes refusal is)
+
+-- the graphs of the step are the flat graphs of the tasks' code
+pub graphs_of : (input : Input) (shapes : Shapes) → ShapesIn input (Ok shapes) → AreGraphsOf input.code input.set shapes.graphs
+graphs_of input shapes shaped =
+    let found = graphs_made input shapes shaped in
+    record {
+      all = found.0;
+      each = λ i lt plan at.
+          let g = some_at shapes.graphs i (omega (arith, lt, found.0)) in
+          let made = found.1 i g.0 g.1 in
+          let graph : graph_at shapes.graphs i ≡ g.0 = get_or_from_slice_get shapes.graphs i g.0 no_graph g.1 in
+          let of_code = subst (λ x. IsCodeGraph (words_of input.code) made.0.entry x) (sym graph) made.2.0 in
+          subst (λ (p : TaskPlan). IsCodeGraph (words_of input.code) p.entry (graph_at shapes.graphs i)) (same_plan made.0 plan (sym made.1 ∙ at)) of_code;
+    }
+
+module _ (set : TaskSet) (shapes : Shapes) (c : Certificate) (judged : IsJudged set (shown_at shapes.graphs shapes.nests) c Yes) where
+  -- every leader is listed, and clause 3 holds
+  pub states_met : IsCertificate c → StatesAreMet set shapes.graphs c
+  states_met is i lt =
+      let has : i < length c.tasks = judged i HasTask lt in
+      record {
+        has_task = has;
+        low_sets = All-get_or HasLowSets c.tasks i no_cert has (in_range c is).sets;
+        leaders = (judged i Leaders lt).1;
+        states = λ u below. judged i (States u) lt below;
+      }
+
+  -- there is a window for each task, within its deadline
+  pub windows_met : IsTaskSet set → HasWindowOfEach set c
+  windows_met is =
+      let some : 1 ≤ length set.tasks = is.some in
+      record {
+        tasks = judged (length set.tasks - 1) Last (omega arith) (omega arith);
+        in_deadline = λ k lt.
+            let response = judged k Response lt in
+            let deadline = judged k Deadline lt in
+            omega (arith, response, deadline);
+      }
+
+module _ {E : Type 0} (input : Input) (shapes : Shapes) (c : Certificate) (script : Script) where
+  -- what follows a yes, and what follows a no
+  pub after_yes : (r : Result Answer E) → IsJudged input.set (shown_at shapes.graphs shapes.nests) c Yes → IfOk r (λ answer. AccountOf input shapes c script (Ok answer)) → IfOk r (λ answer. ExplanationOf input shapes c script (Ok answer))
+  after_yes (Ok answer) judged account = (verdict.Yes, judged, account)
+  after_yes (Err e) judged account = tt
+
+  pub after_no : (task : Task) (clause place : ℕ) (r : Result Answer E) → IsJudged input.set (shown_at shapes.graphs shapes.nests) c (answer_of (verdict.No task clause place)) → IfOk r (λ answer. answer ≡ verdict_answer input.set c (verdict.No task clause place))
+      → IfOk r (λ answer. ExplanationOf input shapes c script (Ok answer))
+  after_no task clause place (Ok answer) judged is = (verdict.No task clause place, judged, ap (λ a. Ok a) is)
+  after_no task clause place (Err e) judged is = tt

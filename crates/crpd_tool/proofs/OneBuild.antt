@@ -1,0 +1,170 @@
+-- Over the same graphs, a set has the analysis' certificate or one refusal of it.
+use Rattle.std.proofs.Common.{◌≡◌, ◌≢◌, ℕ, zero, suc, ◌+◌, ◌<◌, ◌≤◌, ◌^◌, List, [], ◌∷◌, length, refl, sym, ap, ◌∙◌, subst, inl, inr, arith}
+use Rattle.std.proofs.lemmas.Bool.{cases_eq, cases_lt}
+use Rattle.std.proofs.lemmas.List.Sums.{sum_by-cons}
+use Rattle.std.specs.Prelude.{slice_index_or, sum_by}
+use Rattle.crpd_base.specs.declared.data.Platform.{Platform}
+use Rattle.crpd_base.specs.declared.data.Part.{Part}
+use Rattle.crpd_base.specs.declared.data.Method.{Method}
+use Rattle.crpd_base.specs.declared.data.Method.TheVariants.{Ucb, Ecb}
+use Rattle.crpd_base.specs.declared.data.NodeState.{NodeState}
+use Rattle.crpd_base.specs.declared.data.Task.{Task}
+use Rattle.crpd_base.specs.declared.data.TaskPart.{TaskPart}
+use Rattle.crpd_base.specs.declared.data.TaskSet.{TaskSet}
+use Rattle.crpd_base.specs.declared.data.Certificate.{Certificate}
+use Rattle.crpd_base.specs.Tasks.{HasTimes}
+use Rattle.flat_graph.specs.Graph.{IsGraph}
+use Rattle.loop_regions.specs.TaskGraph.{TaskGraph}
+use Rattle.evict_sets.specs.Certificate.{cert_at, no_cert}
+use Rattle.delay_count.specs.Demand.{demand}
+use Rattle.delay_count.specs.Laws.{DemandGrows}
+use Rattle.response.specs.Windows.{IsSmaller, IsFirstWithout, method_at, window_at as chosen_window}
+use Rattle.cert_check.specs.Judge.{accesses_of, longest_at, part_of, window_at}
+use Rattle.cert_check.proofs.Demands.{same_demand}
+use Rattle.cert_model.specs.Reading.{entries, state_entries, task_entries}
+use Rattle.cert_build.specs.Analysis.{HasLargeBound}
+use Rattle.cert_build.specs.Best.{IsBest, IsBestPart}
+use Rattle.cert_build.specs.Certify.{AreBestParts, IsBuildRefused, IsFirstLarge, needs_at}
+use Rattle.cert_build.specs.declared.fault.BuildError.{BuildError}
+use Rattle.cert_build.specs.declared.fault.BuildError.TheVariants.{Memory, TooLarge, TooManyEntries, Unschedulable}
+use Rattle.cert_build.proofs.Choices.{one_smaller}
+use Rattle.cert_build.proofs.Counting.{not_large}
+use Rattle.cert_build.proofs.OneBest.{same_part, same_states}
+
+-- ---- parts
+
+-- a part with a bound of at most 2^40 is not one of a task whose bound is larger
+pub within : (p : Platform) (t : TaskGraph) (c : TaskPart) → IsGraph t.graph → IsBestPart p t c → c.part.bound ≤ 2 ^ 40 → HasLargeBound p t → ⊥
+within p t c G B le large = not_large p t c G B le large
+
+pub entries_same : (xs ys : List TaskPart) → length xs ≡ length ys → ((k : ℕ) → k < length xs → (slice_index_or xs k no_cert).states ≡ (slice_index_or ys k no_cert).states) → entries xs ≡ entries ys
+entries_same [] [] e h = refl
+entries_same [] (y ∷ ys) e h = absurd (omega (arith, e))
+entries_same (x ∷ xs) [] e h = absurd (omega (arith, e))
+entries_same (x ∷ xs) (y ∷ ys) e h =
+    let here : task_entries x ≡ task_entries y = ap (λ (l : List NodeState). sum_by state_entries l) (h 0 (omega arith)) in
+    sum_by-cons task_entries x xs ∙ ap (λ n. n + entries xs) here
+    ∙ ap (λ n. task_entries y + n) (entries_same xs ys (omega (arith, e)) (λ k l. h (suc k) (omega (arith, l)))) ∙ sym (sum_by-cons task_entries y ys)
+
+-- ---- windows
+
+module _ (grows : DemandGrows) (set : TaskSet) (longest : ℕ → ℕ) (times : HasTimes set) where
+  -- the windows of the first tasks, by these parts
+  abbrev AreChosen : (ℕ → Part) → (ℕ → ℕ) → (ℕ → Method) → ℕ → Type 0
+  AreChosen parts window method n = (k : ℕ) → k < n → IsSmaller set parts longest window k (method k) (window k)
+
+  module _ (parts others : ℕ → Part) (P : (k : ℕ) → k < length set.tasks → parts k ≡ others k) where
+    demands : (window other : ℕ → ℕ) (i : ℕ) → i < length set.tasks → ((k : ℕ) → k < i → window k ≡ other k) → (method : Method) (v : ℕ) → demand set parts longest window i method v ≡ demand set others longest other i method v
+    demands window other i lt same method v =
+        same_demand grows set times i lt parts others longest longest window other (λ k le. P k (omega (arith, le, lt))) (λ k l. refl) same method v
+
+    windows_same : (window other : ℕ → ℕ) (method by : ℕ → Method) (n : ℕ) → n ≤ length set.tasks → AreChosen parts window method n → AreChosen others other by n → (k : ℕ) → k < n → window k ≡ other k
+    windows_same window other method by zero le X Y k lt = absurd (omega (arith, lt))
+    windows_same window other method by (suc n) le X Y k lt =
+        let below = windows_same window other method by n (omega (arith, le)) (λ j l. X j (omega (arith, l))) (λ j l. Y j (omega (arith, l))) in
+        elim (cases_eq k n) [
+          | inl e ↦ subst (λ x. window x ≡ other x) (sym e)
+              (one_smaller set longest longest parts others window other n (demands window other n (omega (arith, le)) below)
+              (method n) (by n) (window n) (other n) (X n (omega arith)) (Y n (omega arith))).1
+          | inr ne ↦ below k (omega (arith, lt, ne))
+        ]
+
+    -- a task with a window is not the first without one
+    pub has_window : (i : ℕ) → IsFirstWithout set parts longest i → (other : ℕ → ℕ) (by : ℕ → Method) → AreChosen others other by (suc i) → ⊥
+    has_window i F other by Y =
+        let below = windows_same (chosen_window F.higher) other (method_at F.higher) by i (let l = F.task in omega (arith, l)) F.each (λ k l. Y k (omega (arith, l))) in
+        by_method (by i) (other i) (Y i (omega arith)) (demands (chosen_window F.higher) other i F.task below)
+      where
+        by_method : (m : Method) (w : ℕ) → IsSmaller set others longest other i m w
+            → ((method : Method) (v : ℕ) → demand set parts longest (chosen_window F.higher) i method v ≡ demand set others longest other i method v) → ⊥
+        by_method Ucb w S same =
+            let e = same Ucb w in let enough = S.0.enough in let none = F.no_ucb w S.0.some S.0.in_deadline in absurd (omega (arith, e, enough, none))
+        by_method Ecb w S same =
+            let e = same Ecb w in let enough = S.0.enough in let none = F.no_ecb w S.0.some S.0.in_deadline in absurd (omega (arith, e, enough, none))
+
+-- ---- the certificate and its refusals
+
+module _ (grows : DemandGrows) (set : TaskSet) (graphs : ℕ → TaskGraph) (times : HasTimes set) (G : (k : ℕ) → k < length set.tasks → IsGraph (graphs k).graph) where
+  -- no bound of the parts is too large
+  pub none_large : (parts : List TaskPart) (t : Task) → AreBestParts set graphs parts → IsFirstLarge set graphs t.0 → ⊥
+  none_large parts t B L =
+      within set.platform (graphs t.0) (slice_index_or parts t.0 no_cert) (G t.0 L.task) (B.each t.0 L.task) (B.within t.0 L.task) L.large
+
+  -- nor is one of the certificate, since its windows are in the deadlines
+  pub bound_in : (c : Certificate) (i : ℕ) (method : Method) (w : ℕ) → i < length set.tasks → IsSmaller set (part_of c) (longest_at set.platform graphs) (window_at c) i method w → (part_of c i).bound ≤ 2 ^ 40
+  bound_in c i Ucb w lt S =
+      let enough = S.0.enough in let dead = S.0.in_deadline in let d = times.deadline i lt in let p = times.longest i lt in omega (arith, enough, dead, d, p)
+  bound_in c i Ecb w lt S =
+      let enough = S.0.enough in let dead = S.0.in_deadline in let d = times.deadline i lt in let p = times.longest i lt in omega (arith, enough, dead, d, p)
+
+  -- the certificate's parts are best parts
+  of_best : (c : Certificate) → IsBest set graphs c → AreBestParts set graphs c.tasks
+  of_best c B = record {
+    tasks = B.tasks;
+    each = λ k lt. (B.each k lt).part;
+    within = λ k lt. bound_in c k (cert_at c k).method (window_at c k) lt (B.each k lt).window;
+  }
+
+  pub same_parts : (xs ys : List TaskPart) → AreBestParts set graphs xs → AreBestParts set graphs ys → (k : ℕ) → k < length set.tasks → needs_at xs k ≡ needs_at ys k
+  same_parts xs ys X Y k lt = same_part set.platform (graphs k) (slice_index_or xs k no_cert) (slice_index_or ys k no_cert) (X.each k lt) (Y.each k lt)
+
+  pub same_entries : (xs ys : List TaskPart) → AreBestParts set graphs xs → AreBestParts set graphs ys → entries xs ≡ entries ys
+  same_entries xs ys X Y =
+      entries_same xs ys (X.tasks ∙ sym Y.tasks)
+      (λ k l.
+      let lt : k < length set.tasks = let e = X.tasks in omega (arith, e, l) in
+      same_states (graphs k).graph (accesses_of set.platform (graphs k)) (slice_index_or xs k no_cert) (slice_index_or ys k no_cert) (X.each k lt).states (Y.each k lt).states)
+
+  -- where the certificate is, nothing is refused but want of memory
+  pub not_refused : (c : Certificate) (e : BuildError) → IsBest set graphs c → entries c.tasks ≤ 4000000 → e ≢ Memory → IsBuildRefused set graphs e → ⊥
+  not_refused c Memory B few free R = absurd (free refl)
+  not_refused c (TooLarge t address) B few free R = none_large c.tasks t (of_best c B) R.0
+  not_refused c (TooManyEntries n) B few free R =
+      let same = same_entries c.tasks R.0 (of_best c B) R.1 in
+      let is = R.2 in
+      let many = R.3 in
+      absurd (omega (arith, same, is, many, few))
+  not_refused c (Unschedulable t) B few free R =
+      let first = R.3 in
+      has_window grows set (longest_at set.platform graphs) times (needs_at R.0) (part_of c) (same_parts R.0 c.tasks R.1 (of_best c B)) t.0 first
+      (window_at c) (λ k. (cert_at c k).method) (λ k l. (B.each k (let f = first.task in omega (arith, f, l))).window)
+
+  first_is : (xs ys : List TaskPart) (i j : ℕ) → AreBestParts set graphs xs → AreBestParts set graphs ys
+      → IsFirstWithout set (needs_at xs) (longest_at set.platform graphs) i → IsFirstWithout set (needs_at ys) (longest_at set.platform graphs) j → i < j → ⊥
+  first_is xs ys i j X Y F H lt =
+      has_window grows set (longest_at set.platform graphs) times (needs_at xs) (needs_at ys) (same_parts xs ys X Y) i F
+      (chosen_window H.higher) (method_at H.higher) (λ k l. H.each k (omega (arith, l, lt)))
+
+  -- numbers of which neither is less
+  pub neither : (i j : ℕ) → (i < j → ⊥) → (j < i → ⊥) → i ≡ j
+  neither i j low high =
+      elim (cases_lt i j) [
+        | inl lt ↦ absurd (low lt)
+        | inr ge ↦ elim (cases_lt j i) [
+          | inl lt ↦ absurd (high lt)
+          | inr le ↦ omega (arith, ge, le)
+        ]
+      ]
+
+  -- and there is one refusal beside want of memory
+  pub one_refusal : (e d : BuildError) → e ≢ Memory → d ≢ Memory → IsBuildRefused set graphs e → IsBuildRefused set graphs d → e ≡ d
+  one_refusal Memory d free other E D = absurd (free refl)
+  one_refusal e Memory free other E D = absurd (other refl)
+  one_refusal (TooLarge t a) (TooLarge u b) free other E D =
+      let task : t.0 ≡ u.0 = neither t.0 u.0 (λ lt. D.0.before t.0 lt E.0.large) (λ lt. E.0.before u.0 lt D.0.large) in
+      let address : a ≡ b = E.1 ∙ ap (λ k. (graphs k).places.address (graphs k).graph.first) task ∙ sym D.1 in
+      λ i. TooLarge (record { 0 = task i }) (address i)
+  one_refusal (TooLarge t a) (TooManyEntries n) free other E D = absurd (none_large D.0 t D.1 E.0)
+  one_refusal (TooLarge t a) (Unschedulable u) free other E D = absurd (none_large D.0 t D.1 E.0)
+  one_refusal (TooManyEntries n) (TooLarge u b) free other E D = absurd (none_large E.0 u E.1 D.0)
+  one_refusal (TooManyEntries n) (TooManyEntries m) free other E D =
+      let same : n ≡ m = E.2 ∙ same_entries E.0 D.0 E.1 D.1 ∙ sym D.2 in
+      λ i. TooManyEntries (same i)
+  one_refusal (TooManyEntries n) (Unschedulable u) free other E D =
+      let same = same_entries E.0 D.0 E.1 D.1 in let is = E.2 in let many = E.3 in let few = D.2 in absurd (omega (arith, same, is, many, few))
+  one_refusal (Unschedulable t) (TooLarge u b) free other E D = absurd (none_large E.0 u E.1 D.0)
+  one_refusal (Unschedulable t) (TooManyEntries m) free other E D =
+      let same = same_entries E.0 D.0 E.1 D.1 in let is = D.2 in let many = D.3 in let few = E.2 in absurd (omega (arith, same, is, many, few))
+  one_refusal (Unschedulable t) (Unschedulable u) free other E D =
+      let task : t.0 ≡ u.0 = neither t.0 u.0 (first_is E.0 D.0 t.0 u.0 E.1 D.1 E.3 D.3) (first_is D.0 E.0 u.0 t.0 D.1 E.1 D.3 E.3) in
+      λ i. Unschedulable (record { 0 = task i })

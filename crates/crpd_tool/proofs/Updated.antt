@@ -1,0 +1,116 @@
+-- A whole text with the status Done comes of the old certificate's update.
+use Rattle.std.proofs.Common.{◌≡◌, ℕ, ◌<◌, List, Result, Ok, length, refl, ap, sym, ◌∙◌, subst, inl, inr, arith}
+use Rattle.std.proofs.lemmas.Option.{slice_get-get_or}
+use Rattle.crpd_base.specs.declared.data.Certificate.{Certificate}
+use Rattle.crpd_base.specs.declared.data.Task.{Task}
+use Rattle.crpd_base.specs.declared.data.TaskSet.{TaskSet}
+use Rattle.code_map.specs.Words.{word_at}
+use Rattle.preempt_machine.specs.Machine.{plan_of}
+use Rattle.preempt_machine.specs.Safe.{system_of}
+use Rattle.cert_check.specs.Shown.{graph_at, no_graph, shown_at}
+use Rattle.cert_check.specs.Verdict.{IsJudged, Yes}
+use Rattle.cert_check.specs.declared.outcome.Verdict.TheVariants as verdict
+use Rattle.cert_model.specs.Writing.{text as certificate_text}
+use Rattle.cert_update.specs.Laws.{HasCodes, UpdateIsBestLaw, UpdateIsJudgedLaw}
+use Rattle.crpd_io.specs.Outside.{Contents}
+use Rattle.crpd_input.specs.declared.input.Input.{Input}
+use Rattle.crpd_input.specs.declared.refusal.Refusal.{Refusal}
+use Rattle.crpd_input.specs.declared.shapes.Shapes.{Shapes}
+use Rattle.crpd_input.specs.Reading.{certificate_in, input_in}
+use Rattle.crpd_input.specs.Shapes.{ShapesIn}
+use Rattle.crpd_input.specs.Steps.{Exactly, Then}
+use Rattle.crpd_input.proofs.Built.{shapes_built}
+use Rattle.crpd_input.proofs.Given.{input_good, input_planned}
+use Rattle.crpd_tool.specs.declared.answer.Answer.{Answer}
+use Rattle.crpd_tool.specs.declared.answer.Outcome.TheVariants as ended
+use Rattle.crpd_tool.specs.declared.status.Status.TheVariants.{Done}
+use Rattle.crpd_tool.specs.Analyze.{certificate_answer}
+use Rattle.crpd_tool.specs.Check.{verdict_answer}
+use Rattle.crpd_tool.specs.Out.{Output, settled}
+use Rattle.crpd_tool.specs.Update.{IsMadeAnew, UpdateEnds, UpdateOf, as_of_analysis, side_of}
+use Rattle.crpd_tool.specs.Updated.{DoneIsUpdate, IsUpdated}
+use Rattle.crpd_tool.specs.Words.{update}
+use Rattle.crpd_tool.proofs.Analyzed.{not_done}
+use Rattle.crpd_tool.proofs.Finish.{some-out}
+use Rattle.crpd_tool.proofs.OneAnswer.{shapes_parts}
+use Rattle.crpd_tool.proofs.Safety.{then_done}
+
+-- a no has another status
+no_done : (set : TaskSet) (c : Certificate) (task : Task) (clause place : ℕ) → (settled (Ok (verdict_answer set c (verdict.No task clause place)))).status ≡ Done → ⊥
+no_done set c task clause place is = cc
+
+-- the graphs that the steps give are those of the set's code, and the nests have their regions
+coded : (contents : Contents) (set : List ℕ) (input : Input) (shapes : Shapes) → input_in contents set ≡ Ok input → ShapesIn input (Ok shapes) → HasCodes input.set shapes.graphs shapes.nests
+coded contents set input shapes is shaped =
+    let good = input_good contents set input is in
+    let graphs = (shapes_parts input shapes shaped).0 in
+    record {
+      range = good.ranges;
+      code = λ i lt.
+          let at = graphs.1 i (graph_at shapes.graphs i) (slice_get-get_or shapes.graphs i no_graph (omega (arith, lt, graphs.0))) in
+          record { words = word_at input.code.images; entry = at.0.entry; word_places = good.words; of_code = at.2.0 };
+      regions = λ i lt.
+          let built = shapes_built input shapes good (input_planned contents set input is) shaped i lt in
+          record { loops = (plan_of (system_of input.set input.code) i).loops; regions = built.regions; accepted = built.accepted };
+    }
+
+module _ (judges : UpdateIsJudgedLaw) (bests : UpdateIsBestLaw) (contents : Contents) (old_set old_certificate new_set : List ℕ) where
+  -- the update with which the command ended
+  made : (old : Input) (old_shapes : Shapes) (stated : Certificate) (input : Input) (shapes : Shapes) (ending : Result Answer Refusal) → UpdateOf new_set old old_shapes stated input shapes ending
+      → (settled ending).status ≡ Done
+      → IsJudged old.set (shown_at old_shapes.graphs old_shapes.nests) stated Yes × ((c : Certificate) × IsMadeAnew (side_of old old_shapes) stated (side_of input shapes) c × (ending ≡ Ok (certificate_answer c)))
+  made old old_shapes stated input shapes ending (inl denied) e =
+      absurd (no_done old.set stated denied.0 denied.1 denied.2 (ap (λ (r : Result Answer Refusal). (settled r).status) (sym denied.4) ∙ e))
+  made old old_shapes stated input shapes ending (inr (judged, inl found)) e = (judged, found)
+  made old old_shapes stated input shapes ending (inr (judged, inr none)) e =
+      absurd (not_done new_set input.set (as_of_analysis none.0) (ap (λ (r : Result Answer Refusal). (settled r).status) (sym none.3) ∙ e))
+
+  module _ (old : Input) (old_shapes : Shapes) (stated : Certificate) (input : Input) (shapes : Shapes) (old_is : input_in contents old_set ≡ Ok old) (old_shaped : ShapesIn old (Ok old_shapes))
+      (stated_is : certificate_in contents old_certificate ≡ Ok stated) (is : input_in contents new_set ≡ Ok input) (shaped : ShapesIn input (Ok shapes)) where
+    updated : (c : Certificate) (ending : Result Answer Refusal) → IsJudged old.set (shown_at old_shapes.graphs old_shapes.nests) stated Yes → IsMadeAnew (side_of old old_shapes) stated (side_of input shapes) c
+        → ending ≡ Ok (certificate_answer c) → IsUpdated contents old_set old_certificate new_set (settled ending).text
+    updated c ending judged M end =
+        let O = coded contents old_set old old_shapes old_is old_shaped in
+        let N = coded contents new_set input shapes is shaped in
+        let yes = judges old.set input.set old_shapes.graphs shapes.graphs old_shapes.nests shapes.nests stated c O N judged M.update in
+        let text = ap (λ (r : Result Answer Refusal). (settled r).text) end in
+        record {
+          old = old;
+          old_shapes = old_shapes;
+          stated = stated;
+          input = input;
+          shapes = shapes;
+          made = c;
+          written = certificate_text c;
+          old_is = old_is;
+          old_shapes_are = old_shaped;
+          stated_is = stated_is;
+          input_is = is;
+          shapes_are = shaped;
+          text_is = text;
+          reads = M.reads;
+          update = M.update;
+          judged = yes;
+          checks = λ others file name same read. inl (input, same, inl (shapes, shaped, inl (c, read, (verdict.Yes, yes, refl))));
+          best = λ best. bests old.set input.set old_shapes.graphs shapes.graphs old_shapes.nests shapes.nests stated c O N best M.update;
+          analyzes = λ best others file same.
+              let B = bests old.set input.set old_shapes.graphs shapes.graphs old_shapes.nests shapes.nests stated c O N best M.update in
+              inl (input, same, inl (shapes, shaped, inl (c, record { best = B; few = M.few; reads = M.reads }, ap (λ t. Ok (record { text = t; outcome = ended.Done })) text)));
+        }
+
+  ending_done : (ending : Result Answer Refusal) → UpdateEnds contents old_set old_certificate new_set ending → (settled ending).status ≡ Done → IsUpdated contents old_set old_certificate new_set (settled ending).text
+  ending_done ending is e =
+      let old = then_done (Exactly (input_in contents old_set)) (λ old. Then (ShapesIn old) (λ x. Then (Exactly (certificate_in contents old_certificate)) (λ c. Then (Exactly (input_in contents new_set)) (λ input. Then (ShapesIn input) (UpdateOf new_set old x c input))))) ending is e in
+      let x = then_done (ShapesIn old.0) (λ x. Then (Exactly (certificate_in contents old_certificate)) (λ c. Then (Exactly (input_in contents new_set)) (λ input. Then (ShapesIn input) (UpdateOf new_set old.0 x c input)))) ending old.2 e in
+      let c = then_done (Exactly (certificate_in contents old_certificate)) (λ c. Then (Exactly (input_in contents new_set)) (λ input. Then (ShapesIn input) (UpdateOf new_set old.0 x.0 c input))) ending x.2 e in
+      let input = then_done (Exactly (input_in contents new_set)) (λ input. Then (ShapesIn input) (UpdateOf new_set old.0 x.0 c.0 input)) ending c.2 e in
+      let shapes = then_done (ShapesIn input.0) (UpdateOf new_set old.0 x.0 c.0 input.0) ending input.2 e in
+      let found = made old.0 x.0 c.0 input.0 shapes.0 ending shapes.2 e in
+      updated old.0 x.0 c.0 input.0 shapes.0 old.1 x.1 c.1 input.1 shapes.1 found.1.0 ending found.0 found.1.1 found.1.2
+
+pub done_is_update : UpdateIsJudgedLaw → UpdateIsBestLaw → (words : List (List ℕ)) (contents : Contents) → DoneIsUpdate words contents
+done_is_update judges bests words contents old_set old_certificate new_set output is out e =
+    let given = some-out words contents (update old_set old_certificate new_set) output is out in
+    let text = ap (λ (o : Output). o.text) given.2 in
+    subst (λ t. IsUpdated contents old_set old_certificate new_set t) (sym text)
+    (ending_done judges bests contents old_set old_certificate new_set given.0 given.1 (ap (λ (o : Output). o.status) (sym given.2) ∙ e))

@@ -1,0 +1,45 @@
+// The command `classic`.
+ghost use Rattle.std.specs.Prelude.{◌≡◌, ◌≤◌, IsErrOf};
+ghost use Rattle.cert_check.specs.Shown.{AreShown};
+ghost use Rattle.crpd_base.specs.Ranges.{IsTaskSet};
+ghost use Rattle.crpd_io.specs.Outside.{Rose};
+ghost use Rattle.crpd_input.specs.Steps.{MeansBy, Told};
+ghost use Rattle.crpd_tool.specs.Classic.{ClassicEnds, ClassicOf};
+
+use crate::answer::Answer;
+use crate::ending::{certificate_answer, without_certificate};
+use crpd_input::{Halt, Input, Shapes, load_input, task_shapes};
+use crpd_io::Files;
+use delay_classic::ClassicError;
+use std::alloc::Global;
+
+/// The answer of the analysis with the plain union delays of a set that was read from this file.
+fn plain_analysis(alloc: Global, file: &str, input: &Input, shapes: &Shapes) -> Result<Answer, Halt>
+    requires set { IsTaskSet input.now.set }
+    requires shown { AreShown input.now.set shapes.now.graphs shapes.now.nests }
+    ensures exact { MeansBy (ClassicOf file.now input.now shapes.now) result }
+    ensures no_fault { ¬ IsErrOf result Halt.Fault }
+{
+    let graphs = shapes.graphs.as_slice();
+    let nests = shapes.nests.as_slice();
+    match delay_classic::classic(alloc, &input.set, graphs, nests) {
+        Ok(certificate) => Ok(certificate_answer(alloc, &certificate)?),
+        Err(ClassicError::Memory) => Err(Halt::Memory),
+        Err(error) => without_certificate(alloc, file, &input.set, error),
+    }
+}
+
+/// Analyses a set with its code by the plain union delays, after the graphs of all tasks and the regions of their loops.
+pub(crate) fn classic<F: Files>(alloc: Global, files: &mut F, set: &str) -> Result<Answer, Halt>
+    ensures exact { Told (F.contents files.old) (λ c. MeansBy (ClassicEnds c set.now) result) }
+    ensures same { F.contents files.new ≡ F.contents files.old }
+    ensures later { F.faults files.old ≤ F.faults files.new }
+    ensures fault { IsErrOf result Halt.Fault → Rose (F.faults files.old) (F.faults files.new) }
+{
+    let input = load_input(alloc, files, set)?;
+    let shapes = task_shapes(alloc, &input)?;
+    match plain_analysis(alloc, set, &input, &shapes) {
+        Ok(answer) => Ok(answer),
+        Err(halt) => Err(halt),
+    }
+}

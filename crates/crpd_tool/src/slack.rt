@@ -1,0 +1,48 @@
+// The command `slack`.
+ghost use Rattle.std.specs.Prelude.{◌≡◌, ◌≤◌, IfOk, IsErrOf, Ok};
+ghost use Rattle.cert_check.specs.Shown.{AreShown};
+ghost use Rattle.crpd_base.specs.Ranges.{IsTaskSet};
+ghost use Rattle.crpd_io.specs.Outside.{Rose};
+ghost use Rattle.crpd_input.specs.Steps.{MeansBy, Told};
+ghost use Rattle.crpd_tool.specs.Slack.{SlackEnds, SlackOf};
+
+use crate::answer::{Answer, Outcome};
+use crate::slack_lines::slack_text;
+use crpd_base::{Items, Memory};
+use crpd_input::{Halt, Input, Shapes, load_input, task_shapes};
+use crpd_io::Files;
+use sensitivity::{greatest_miss, greatest_switch};
+use std::alloc::Global;
+
+/// The answer with the greatest costs of a set.
+fn greatest_costs(alloc: Global, input: &Input, shapes: &Shapes) -> Result<Answer, Memory>
+    requires set { IsTaskSet input.now.set }
+    requires shown { AreShown input.now.set shapes.now.graphs shapes.now.nests }
+    ensures { IfOk result (λ answer. SlackOf input.now shapes.now (Ok answer)) }
+{
+    let graphs = shapes.graphs.as_slice();
+    let nests = shapes.nests.as_slice();
+    let by_switch = greatest_switch(alloc, &input.set, graphs, nests)?;
+    let by_miss = greatest_miss(alloc, &input.set, graphs, nests)?;
+    match slack_text(alloc, &input.set, &by_switch, &by_miss) {
+        Ok(text) => Ok(Answer {
+            text: Items::new(text),
+            outcome: Outcome::Done,
+        }),
+        Err(_) => Err(Memory),
+    }
+}
+
+/// Finds the greatest costs of a switch and of a reload with which a set with its code is accepted, after the graphs of all
+/// tasks and the regions of their loops.
+pub(crate) fn slack<F: Files>(alloc: Global, files: &mut F, set: &str) -> Result<Answer, Halt>
+    ensures exact { Told (F.contents files.old) (λ c. MeansBy (SlackEnds c set.now) result) }
+    ensures same { F.contents files.new ≡ F.contents files.old }
+    ensures later { F.faults files.old ≤ F.faults files.new }
+    ensures fault { IsErrOf result Halt.Fault → Rose (F.faults files.old) (F.faults files.new) }
+{
+    let input = load_input(alloc, files, set)?;
+    let shapes = task_shapes(alloc, &input)?;
+    let answer = greatest_costs(alloc, &input, &shapes)?;
+    Ok(answer)
+}

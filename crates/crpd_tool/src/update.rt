@@ -1,0 +1,116 @@
+// The command `update`.
+ghost use Rattle.std.specs.Prelude.{◌≡◌, ◌≤◌, IsErrOf};
+ghost use Rattle.cert_check.specs.Shown.{AreShown, shown_at};
+ghost use Rattle.cert_check.specs.Verdict.{IsJudged, Yes};
+ghost use Rattle.cert_model.specs.Ranges.{IsCertificate};
+ghost use Rattle.crpd_base.specs.Ranges.{IsTaskSet};
+ghost use Rattle.crpd_io.specs.Outside.{Rose};
+ghost use Rattle.crpd_input.specs.Steps.{MeansBy, Told};
+ghost use Rattle.crpd_tool.specs.Update.{ChangeOf, UpdateEnds, UpdateOf, as_of_analysis};
+
+use crate::answer::Answer;
+use crate::ending::{certificate_answer, without_certificate};
+use crate::texts::write_verdict;
+use cert_build::BuildError;
+use cert_check::{Verdict, verdict};
+use cert_update::UpdateError;
+use crpd_base::Certificate;
+use crpd_input::{Halt, Input, Shapes, load_certificate, load_input, task_shapes};
+use crpd_io::Files;
+use std::alloc::Global;
+
+/// Why there is no updated certificate, as an analysis says it.
+fn as_analysis(error: UpdateError) -> BuildError
+    ensures { result ≡ as_of_analysis error }
+{
+    match error {
+        UpdateError::Memory => BuildError::Memory,
+        UpdateError::TooLarge { task, address } => BuildError::TooLarge { task, address },
+        UpdateError::TooManyEntries(count) => BuildError::TooManyEntries(count),
+        UpdateError::Unschedulable(task) => BuildError::Unschedulable(task),
+    }
+}
+
+/// The answer of the update of a certificate that the judge said yes to, for a set that was read from this file.
+fn change(
+    alloc: Global,
+    file: &str,
+    old: &Input,
+    old_shapes: &Shapes,
+    stated: &Certificate,
+    input: &Input,
+    shapes: &Shapes,
+) -> Result<Answer, Halt>
+    requires old { IsTaskSet old.now.set }
+    requires old_shown { AreShown old.now.set old_shapes.now.graphs old_shapes.now.nests }
+    requires stated { IsCertificate stated.now }
+    requires judged { IsJudged old.now.set (shown_at old_shapes.now.graphs old_shapes.now.nests) stated.now Yes }
+    requires set { IsTaskSet input.now.set }
+    requires shown { AreShown input.now.set shapes.now.graphs shapes.now.nests }
+    ensures exact { MeansBy (ChangeOf file.now old.now old_shapes.now stated.now input.now shapes.now) result }
+    ensures no_fault { ¬ IsErrOf result Halt.Fault }
+{
+    let old_graphs = old_shapes.graphs.as_slice();
+    let old_nests = old_shapes.nests.as_slice();
+    let graphs = shapes.graphs.as_slice();
+    let nests = shapes.nests.as_slice();
+    match cert_update::update(
+        alloc, &old.set, old_graphs, old_nests, stated, &input.set, graphs, nests,
+    ) {
+        Ok(updated) => Ok(certificate_answer(alloc, &updated.certificate)?),
+        Err(UpdateError::Memory) => Err(Halt::Memory),
+        Err(error) => without_certificate(alloc, file, &input.set, as_analysis(error)),
+    }
+}
+
+/// The answer of the judge's no to the old certificate, or of its update.
+fn judge_and_change(
+    alloc: Global,
+    file: &str,
+    old: &Input,
+    old_shapes: &Shapes,
+    stated: &Certificate,
+    input: &Input,
+    shapes: &Shapes,
+) -> Result<Answer, Halt>
+    requires old { IsTaskSet old.now.set }
+    requires old_shown { AreShown old.now.set old_shapes.now.graphs old_shapes.now.nests }
+    requires stated { IsCertificate stated.now }
+    requires set { IsTaskSet input.now.set }
+    requires shown { AreShown input.now.set shapes.now.graphs shapes.now.nests }
+    ensures exact { MeansBy (UpdateOf file.now old.now old_shapes.now stated.now input.now shapes.now) result }
+    ensures no_fault { ¬ IsErrOf result Halt.Fault }
+{
+    let graphs = old_shapes.graphs.as_slice();
+    let nests = old_shapes.nests.as_slice();
+    let found = verdict(&old.set, graphs, nests, stated);
+    match found {
+        Verdict::Yes => change(alloc, file, old, old_shapes, stated, input, shapes),
+        Verdict::No { .. } => Ok(write_verdict(alloc, &old.set, stated, &found)?),
+    }
+}
+
+/// Updates an old certificate to a new set: after the old set with its graphs and regions, its certificate, and the new
+/// set with its graphs and regions.
+pub(crate) fn update<F: Files>(
+    alloc: Global,
+    files: &mut F,
+    old_set: &str,
+    old_certificate: &str,
+    new_set: &str,
+) -> Result<Answer, Halt>
+    ensures exact { Told (F.contents files.old) (λ c. MeansBy (UpdateEnds c old_set.now old_certificate.now new_set.now) result) }
+    ensures same { F.contents files.new ≡ F.contents files.old }
+    ensures later { F.faults files.old ≤ F.faults files.new }
+    ensures fault { IsErrOf result Halt.Fault → Rose (F.faults files.old) (F.faults files.new) }
+{
+    let old = load_input(alloc, files, old_set)?;
+    let old_shapes = task_shapes(alloc, &old)?;
+    let stated = load_certificate(alloc, files, old_certificate)?;
+    let input = load_input(alloc, files, new_set)?;
+    let shapes = task_shapes(alloc, &input)?;
+    match judge_and_change(alloc, new_set, &old, &old_shapes, &stated, &input, &shapes) {
+        Ok(answer) => Ok(answer),
+        Err(halt) => Err(halt),
+    }
+}

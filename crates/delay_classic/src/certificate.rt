@@ -1,0 +1,59 @@
+// The certificate with the plain union delays.
+ghost use Rattle.std.specs.Prelude.{◌≡◌, ◌≤◌, length, IfOk, MatchResult};
+ghost use Rattle.crpd_base.specs.Ranges.{IsTaskSet};
+ghost use Rattle.crpd_base.specs.declared.data.Certificate.{Certificate};
+ghost use Rattle.cert_check.specs.Shown.{shown_at, AreShown};
+ghost use Rattle.cert_check.specs.Verdict.{IsJudged, Yes};
+ghost use Rattle.cert_model.specs.Ranges.{IsCertificate};
+ghost use Rattle.cert_model.specs.Reading.{entries};
+ghost use Rattle.delay_classic.specs.Classic.{IsClassic, HasBest};
+ghost use Rattle.delay_classic.specs.Refused.{IsClassicRefused};
+
+use crate::laws::certificate_law;
+use crate::windows::classic_windows;
+use cert_build::{BuildError as ClassicError, analyse_all, assemble, graphs_law, parts_of};
+use cert_check::{times_law, write_longest};
+use crpd_base::{Certificate, MOST_TASKS, TaskSet};
+use flat_graph::Graph;
+use loop_regions::Nest;
+use std::alloc::Global;
+
+/// The certificate with the plain union delays of a task set with these graphs and regions, one of each for each task: it has
+/// the analysis of each task's code, and the windows, methods and responses by the plain UCB-union and ECB-union delays. Where
+/// there is one, there is the analysis' certificate too, and none of its windows is longer. There is exactly one, and the
+/// judge says yes to it.
+///
+/// The refusals are want of memory; `TooLarge` for the first task whose execution bound exceeds 2^40 cycles, with the byte
+/// address of its entry; `TooManyEntries` with the number of the state entries where it exceeds 4,000,000; `Unschedulable`
+/// for the first task without a window. The first that applies is given, in this order. The time is that of the analyses,
+/// and of the windows.
+///
+/// Source: Altmeyer, Davis and Maiza 2012.
+pub fn classic(
+    alloc: Global,
+    set: &TaskSet,
+    graphs: &[Graph],
+    nests: &[Nest],
+) -> Result<Certificate, ClassicError>
+    requires set { IsTaskSet set.now }
+    requires tasks { AreShown set.now graphs.now nests.now }
+    ensures exact { MatchResult result
+        (λ c. IsClassic set.now (shown_at graphs.now nests.now) c)
+        (λ e. IsClassicRefused set.now (shown_at graphs.now nests.now) e) }
+    ensures few { IfOk result (λ c. entries c.tasks ≤ 4000000) }
+    ensures ranges { IfOk result IsCertificate }
+    ensures judged { IfOk result (λ c. IsJudged set.now (shown_at graphs.now nests.now) c Yes) }
+    ensures one { IfOk result (λ c. (d : Certificate) → IsClassic set.now (shown_at graphs.now nests.now) d → d ≡ c) }
+    ensures best { IfOk result (λ c. HasBest set.now (shown_at graphs.now nests.now) c) }
+{
+    certificate_law();
+    times_law(set);
+    graphs_law(graphs);
+    let analyses = analyse_all(alloc, set, graphs, nests)?;
+    let mut longest = [0; MOST_TASKS];
+    write_longest(set, graphs, &mut longest);
+    let parts = parts_of(alloc, &analyses)?;
+    let choices = classic_windows(alloc, set, &parts, &longest)?;
+    let certificate = assemble(alloc, set, analyses, &choices)?;
+    Ok(certificate)
+}

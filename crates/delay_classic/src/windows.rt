@@ -1,0 +1,91 @@
+// The window of each task by the plain union delays.
+ghost use Rattle.std.specs.Prelude.{◌≡◌, ℕ, ◌^◌, ◌<◌, ◌≤◌, length, slice_index, MatchResult, MatchOption};
+ghost use Rattle.crpd_base.specs.declared.data.Method.TheVariants.{Ucb, Ecb};
+ghost use Rattle.crpd_base.specs.Tasks.{HasTimes, deadline_of, jitter_of};
+ghost use Rattle.delay_count.specs.Gamma.{part_at};
+ghost use Rattle.delay_count.specs.Demand.{HasLongest};
+ghost use Rattle.delay_classic.specs.Demand.{classic_demand};
+ghost use Rattle.delay_classic.specs.Windows.{IsWindowOf, HasNoWindowOf, IsSmallerOf, IsClassicAnswer, IsRefused};
+
+use crate::charged::charged;
+use crpd_base::{MOST_TASKS, Method, Part, Task, TaskSet};
+use response::{Choice, WindowError, smaller, window};
+use std::alloc::Global;
+
+/// The windows of all tasks by the plain union delays, from the highest down: for each the smaller of the windows by the two
+/// methods, the UCB-union one where they are equal. A window is the least number of cycles that the task's demand does not
+/// exceed; with the task's jitter it is at most the deadline.
+///
+/// It needs a part, with a bound of at most 2^40 cycles, and the longest instruction, from 1 to 2^20 cycles, of each task.
+/// `Unschedulable` names the first task that has no window by either method. The search goes on by lower bounds from the
+/// rates of the higher tasks, so it takes few steps also where these leave almost nothing.
+pub fn classic_windows(
+    alloc: Global,
+    set: &TaskSet,
+    parts: &[Part],
+    longest: &[u64],
+) -> Result<Vec<Choice>, WindowError>
+    requires times { HasTimes set.now }
+    requires parts { length parts.now ≡ length set.now.tasks }
+    requires bounds { (k : ℕ) → k < length set.now.tasks → (part_at parts.now k).bound ≤ 2 ^ 40 }
+    requires longest { HasLongest set.now longest.now }
+    ensures { MatchResult result
+        (λ choices. IsClassicAnswer set.now (part_at parts.now) (slice_index longest.now) choices.items)
+        (λ e. IsRefused set.now (part_at parts.now) (slice_index longest.now) e) }
+{
+    let mut choices = Vec::new(alloc);
+    for i in 0..set.tasks.as_slice().len() {
+        let task = Task(i as u8);
+        match choice(set, parts, longest, task) {
+            None => return Err(WindowError::Unschedulable(task)),
+            Some(choice) => {
+                if choices.push(choice).is_err() {
+                    return Err(WindowError::Memory);
+                }
+            }
+        }
+    }
+    Ok(choices)
+}
+
+// The smaller of a task's windows by the two methods.
+fn choice(set: &TaskSet, parts: &[Part], longest: &[u64], task: Task) -> Option<Choice>
+    requires times { HasTimes set.now }
+    requires task { task.0 < length set.now.tasks }
+    requires parts { length parts.now ≡ length set.now.tasks }
+    requires bounds { (k : ℕ) → k < length set.now.tasks → (part_at parts.now k).bound ≤ 2 ^ 40 }
+    requires longest { HasLongest set.now longest.now }
+    requires higher { (k : ℕ) → k < task.0 → jitter_of set.now k ≤ deadline_of set.now k }
+    ensures { MatchOption result
+        (HasNoWindowOf set.now (classic_demand set.now (part_at parts.now) (slice_index longest.now) task.0 Ucb) task.0
+        × HasNoWindowOf set.now (classic_demand set.now (part_at parts.now) (slice_index longest.now) task.0 Ecb) task.0)
+        (λ c. IsSmallerOf set.now (classic_demand set.now (part_at parts.now) (slice_index longest.now) task.0) task.0 c.method c.window) }
+{
+    let ucb = classic_window(set, parts, longest, task, Method::Ucb);
+    let ecb = classic_window(set, parts, longest, task, Method::Ecb);
+    smaller(ucb, ecb)
+}
+
+// The least window of a task by a plain union delay, if it is in the deadline with the jitter. No window of a higher task
+// counts in it.
+fn classic_window(
+    set: &TaskSet,
+    parts: &[Part],
+    longest: &[u64],
+    task: Task,
+    method: Method,
+) -> Option<u64>
+    requires times { HasTimes set.now }
+    requires task { task.0 < length set.now.tasks }
+    requires parts { length parts.now ≡ length set.now.tasks }
+    requires bounds { (k : ℕ) → k < length set.now.tasks → (part_at parts.now k).bound ≤ 2 ^ 40 }
+    requires longest { HasLongest set.now longest.now }
+    requires higher { (k : ℕ) → k < task.0 → jitter_of set.now k ≤ deadline_of set.now k }
+    ensures { MatchOption result
+        (HasNoWindowOf set.now (classic_demand set.now (part_at parts.now) (slice_index longest.now) task.0 method) task.0)
+        (λ w. IsWindowOf set.now (classic_demand set.now (part_at parts.now) (slice_index longest.now) task.0 method) task.0 w) }
+{
+    let platform = &set.platform;
+    let charged = charged(platform.miss, parts, task, method);
+    window(set, &charged, longest, &[0; MOST_TASKS], task, method)
+}

@@ -1,0 +1,24 @@
+-- Tests of the cache sets, and how they go along the edges.
+use Rattle.std.specs.Prelude.{ℕ, Bool, false, ◌||◌, ◌==◌, if◌then◌else◌, List, [], slice_index_or}
+use Rattle.crpd_base.specs.Sum.{sum_below}
+use Rattle.icache.specs.Accesses.{Accesses}
+use Rattle.dataflow.specs.Search.{one_if}
+
+-- a test of the sets
+abbrev pub Marks : Type 0
+Marks = ℕ → Bool
+
+abbrev pub either : Marks → Marks → Marks
+either x y s = x s || y s
+
+-- after node n its own set is not marked, the others as before it
+abbrev pub unmarked : Accesses → ℕ → Marks → Marks
+unmarked a n before s = if a.set n == s then false else before s
+
+-- how many of the sets below n are marked
+abbrev pub marks_below : Marks → ℕ → ℕ
+marks_below x n = sum_below (λ s. one_if (x s)) n
+
+-- the set of a node; past the last one an empty one
+abbrev pub sets_at : List (List ℕ) → ℕ → List ℕ
+sets_at sets y = slice_index_or sets y []

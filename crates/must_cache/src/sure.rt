@@ -1,0 +1,174 @@
+// Which nodes are hits on all walks, and what leaders surely hold, from one walk to each node and the sets in which others differ.
+ghost use Rattle.std.specs.Prelude.{◌≡◌, ℕ, ◌<◌, ◌≤◌, ◌*◌, None, Some, IfOk, IsSome, IsTrue, ◌↔◌, length, slice_index_or, false};
+ghost use Rattle.crpd_base.specs.Sets.{has};
+ghost use Rattle.icache.specs.Accesses.{accesses};
+ghost use Rattle.flat_graph.specs.Graph.{IsLeader};
+ghost use Rattle.flat_graph.specs.CodeGraph.{graph_of, places_of};
+ghost use Rattle.must_cache.specs.Marks.{sets_at};
+ghost use Rattle.must_cache.specs.Sure.{Sure, IsSureHit};
+ghost use Rattle.must_cache.specs.Walks.{AreSureParts};
+
+use crate::edge_pairs::edges;
+use crate::first_walks::first_walks;
+use crate::state::MustState;
+use crate::unsure::Unsure;
+use crpd_base::{Memory, NodeId, SetBits};
+use dataflow::{EdgeList, solve};
+use flat_graph::Graph;
+use icache::Geometry;
+use std::alloc::{AllocError, Global};
+
+/// Which nodes of a graph are hits on all walks, and what its leaders surely hold. `sure_at` reads the latter.
+#[derive(Drop)]
+pub struct SureParts<const S: usize, const W: usize> {
+    /// For each leader the place of its state; the numbers of other nodes mean nothing.
+    pub places: Vec<Option<usize>>,
+    /// What one walk to each leader leaves in the cache sets.
+    pub states: Vec<MustState<S>>,
+    /// Whether each node is a hit on all walks.
+    pub hits: Vec<bool>,
+    /// The sets in which some walk to a node leaves something else than the one that was taken.
+    pub unsure: Vec<SetBits<W>>,
+}
+
+/// The sets at each node, which are there.
+fn all_sets<const W: usize>(
+    alloc: Global,
+    facts: &[Option<SetBits<W>>],
+) -> Result<Vec<SetBits<W>>, AllocError>
+    requires { (n : ℕ) → n < length facts.now → IsSome (slice_index_or facts.now n None) }
+    ensures count { IfOk result (λ sets. length sets.items ≡ length facts.now) }
+    ensures each { IfOk result (λ sets. (n : ℕ) → n < length facts.now → slice_index_or facts.now n None ≡ Some (sets_at sets.items n)) }
+{
+    let mut all = Vec::with_capacity(alloc, facts.len())?;
+    for fact in facts {
+        match fact {
+            Some(sets) => all.push(*sets)?,
+            None => unreachable!(),
+        }
+    }
+    Ok(all)
+}
+
+/// Whether a hit on one walk is one on all walks.
+fn sure_one<const W: usize>(hit: bool, unsure: &SetBits<W>, set: u16) -> bool
+    requires { set < 64 * W }
+    ensures { IsTrue result ↔ (IsTrue hit × (has unsure.now set ≡ false)) }
+{
+    hit && !unsure.has(set)
+}
+
+/// Which hits on one walk are hits on all walks, from the sets in which other walks differ.
+fn sure_ones<const W: usize>(
+    alloc: Global,
+    graph: &Graph,
+    geometry: &Geometry,
+    hits: &[bool],
+    unsure: &[SetBits<W>],
+) -> Result<Vec<bool>, AllocError>
+    requires few { 64 * W ≤ 65536 }
+    requires room { geometry.now.platform.sets ≤ 64 * W }
+    requires hits { length hits.now ≡ (graph_of graph.now).size }
+    requires unsure { length unsure.now ≡ (graph_of graph.now).size }
+    ensures count { IfOk result (λ sure. length sure.items ≡ (graph_of graph.now).size) }
+    ensures each { IfOk result (λ sure. (y : ℕ) → y < (graph_of graph.now).size →
+        IsTrue (slice_index_or sure.items y false) ↔ (IsTrue (slice_index_or hits.now y false)
+        × (has (sets_at unsure.now y) ((accesses geometry.now.platform (places_of graph.now).address).set y) ≡ false))) }
+{
+    let mut sure = Vec::with_capacity(alloc, hits.len())?;
+    for node in 0..graph.len() {
+        let set = geometry.set(geometry.block(graph.node(NodeId(node)).address));
+        sure.push(sure_one(hits[node as usize], &unsure[node as usize], set))?;
+    }
+    Ok(sure)
+}
+
+/// Which nodes are hits on all walks, and what leaders surely hold. One walk is taken to each node, and each edge to a
+/// leader that was met before is compared once; the sets in which it differs go along the edges.
+///
+/// The one refusal is want of memory; a state for each leader is taken, of 8 bytes for each of S sets, one for each node
+/// of a walk whose edges are still to be followed, and some three sets of numbers for each node. An edge is followed
+/// again where the sets at its source have grown.
+pub fn sure_parts<const S: usize, const W: usize>(
+    alloc: Global,
+    graph: &Graph,
+    geometry: &Geometry,
+) -> Result<SureParts<S, W>, Memory>
+    requires room { geometry.now.platform.sets ≤ S }
+    requires few { 64 * W ≤ 65536 }
+    requires room_for_sets { S ≤ 64 * W }
+    ensures { IfOk result (λ p. AreSureParts (graph_of graph.now) (accesses geometry.now.platform (places_of graph.now).address)
+        p.places.items p.states.items p.hits.items p.unsure.items) }
+{
+    graph.graph_law();
+    let Ok(walks) = first_walks::<S, W>(alloc, graph, geometry) else {
+        return Err(Memory);
+    };
+    let edges = edges(alloc, graph)?;
+    let Some(flow) = EdgeList::new(graph.len(), &edges) else {
+        unreachable!()
+    };
+    let domain = Unsure::<W> {
+        graph,
+        geometry,
+        apart: &walks.apart,
+    };
+    let facts = solve(alloc, &flow, &domain)?;
+    let Ok(unsure) = all_sets(alloc, &facts) else {
+        return Err(Memory);
+    };
+    let Ok(hits) = sure_ones(alloc, graph, geometry, &walks.hits, &unsure) else {
+        return Err(Memory);
+    };
+    Ok(SureParts {
+        places: walks.met,
+        states: walks.states,
+        hits,
+        unsure,
+    })
+}
+
+/// The block that a cache set surely holds before a leader, None where none is known. It takes no memory.
+pub fn sure_at<const S: usize, const W: usize>(
+    parts: &SureParts<S, W>,
+    graph: &Graph,
+    geometry: &Geometry,
+    leader: NodeId,
+    set: u16,
+) -> Option<u32>
+    requires set { set < S }
+    requires few { 64 * W ≤ 65536 }
+    requires room_for_sets { S ≤ 64 * W }
+    requires node { leader.0 < (graph_of graph.now).size }
+    requires leader { IsLeader (graph_of graph.now) leader.0 }
+    requires parts { AreSureParts (graph_of graph.now) (accesses geometry.now.platform (places_of graph.now).address)
+        parts.now.places.items parts.now.states.items parts.now.hits.items parts.now.unsure.items }
+    ensures { (m : ℕ) → (result ≡ Some m) ↔ Sure (graph_of graph.now) (accesses geometry.now.platform (places_of graph.now).address) leader.0 set m }
+{
+    let node = leader.0 as usize;
+    let Some(place) = parts.places[node] else {
+        unreachable!()
+    };
+    if parts.unsure[node].has(set) {
+        None
+    } else {
+        parts.states[place].at(set)
+    }
+}
+
+/// Which nodes are hits on all walks: their own cache set surely holds their block.
+pub fn sure_hits<const S: usize, const W: usize>(
+    alloc: Global,
+    graph: &Graph,
+    geometry: &Geometry,
+) -> Result<Vec<bool>, Memory>
+    requires room { geometry.now.platform.sets ≤ S }
+    requires few { 64 * W ≤ 65536 }
+    requires room_for_sets { S ≤ 64 * W }
+    ensures count { IfOk result (λ hits. length hits.items ≡ (graph_of graph.now).size) }
+    ensures each { IfOk result (λ hits. (y : ℕ) → y < (graph_of graph.now).size →
+        IsTrue (slice_index_or hits.items y false) ↔ IsSureHit (graph_of graph.now) (accesses geometry.now.platform (places_of graph.now).address) y) }
+{
+    let parts = sure_parts::<S, W>(alloc, graph, geometry)?;
+    Ok(parts.hits)
+}

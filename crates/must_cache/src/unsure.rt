@@ -1,0 +1,78 @@
+// Which sets do not surely hold what one walk leaves there, as a dataflow problem along the edges.
+ghost use Rattle.std.specs.Prelude.{◌≡◌, ℕ, ◌<◌, ◌≤◌, ◌*◌, ◌==◌, if◌then◌else◌, Some, length, false};
+ghost use Rattle.crpd_base.specs.Sets.{has};
+ghost use Rattle.icache.specs.Accesses.{accesses};
+ghost use Rattle.flat_graph.specs.CodeGraph.{graph_of, places_of};
+ghost use Rattle.must_cache.specs.Marks.{Marks, either, unmarked, marks_below, sets_at};
+ghost use Rattle.must_cache.specs.MarkLaws.{either_joins, unmarked_distributes, few_marked};
+
+use crpd_base::{NodeId, SetBits};
+use dataflow::Domain;
+use flat_graph::Graph;
+use icache::Geometry;
+
+/// Without a set, and else as before.
+fn without<const W: usize>(sets: &mut SetBits<W>, set: u16)
+    requires { set < 64 * W }
+    ensures { (t : ℕ) → has sets.new t ≡ (if set == t then false else has sets.old t) }
+{
+    sets.remove(set);
+}
+
+/// The sets in which some walk to a node leaves something else than the walk that was taken.
+#[derive(Clone, Copy)]
+pub(crate) struct Unsure<'a, const W: usize> {
+    pub(crate) graph: &'a Graph,
+    pub(crate) geometry: &'a Geometry,
+    pub(crate) apart: &'a [SetBits<W>],
+    ghost few: { 64 * W ≤ 65536 },
+    ghost room: { geometry.now.platform.sets ≤ 64 * W },
+    ghost all_apart: { length apart.now ≡ (graph_of graph.now).size },
+}
+
+impl<const W: usize> Domain for Unsure<'_, W> {
+    type Fact = SetBits<W>;
+
+    ghost Value = { Marks };
+
+    ghost view = { λ sets s. has sets s };
+
+    ghost joined = { either };
+
+    ghost passed = { λ d n before. unmarked (accesses d.geometry.now.platform (places_of d.graph.now).address) n before };
+
+    ghost begins = { λ d n. Some (λ s. has (sets_at d.apart.now n) s) };
+
+    ghost height = { λ d x. marks_below x (64 * W) };
+
+    ghost tallest = { λ d. 64 * W };
+
+    ghost is_own = { λ d n. n < (graph_of d.graph.now).size };
+
+    fn start(&self, node: u32) -> Option<SetBits<W>> {
+        Some(self.apart[node as usize])
+    }
+
+    fn join(&self, a: &mut SetBits<W>, b: &SetBits<W>) -> bool {
+        b.within_law();
+        match a.first_missing(b) {
+            Some(_) => {
+                a.union(b);
+                true
+            }
+            None => false,
+        }
+    }
+
+    fn transfer(&self, node: u32, sets: &mut SetBits<W>) {
+        let address = self.graph.node(NodeId(node)).address;
+        let set = self.geometry.set(self.geometry.block(address));
+        without(sets, set);
+    }
+
+    ghost joins = { either_joins };
+
+    ghost distributes = { λ d n a b. unmarked_distributes (accesses d.geometry.now.platform (places_of d.graph.now).address) n a b };
+
+    ghost bounded = { λ d v. few_marked v (64 * W) };
+}

@@ -1,0 +1,4 @@
+pub mod Turnings
+pub mod Stretches
+pub mod Keeping
+pub mod Taking

@@ -1,0 +1,4 @@
+pub mod Stretch
+pub mod Decodings
+pub mod Parts
+pub mod Fast

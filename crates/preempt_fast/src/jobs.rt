@@ -1,0 +1,163 @@
+// The core, and what a job does with it while it has it.
+ghost use Rattle.std.specs.Prelude.{◌≡◌, ℕ, ◌<◌, ◌≤◌, not, length, IfOk, OnOk};
+ghost use Rattle.rv_decode.specs.Range.{IsInRange};
+ghost use Rattle.rv_core.specs.Effect.{next_pc};
+ghost use Rattle.icache.specs.Cache.{accessed, block_of, is_hit, set_of};
+ghost use Rattle.flow_watch.specs.Turns.{HasTurns};
+ghost use Rattle.preempt_machine.specs.Machine.{System, Open, plan_of};
+ghost use Rattle.preempt_machine.specs.Step.{fetch_cost, fetched, goes_on};
+ghost use Rattle.preempt_machine.specs.Running.{system_by, HasPlan};
+ghost use Rattle.preempt_machine.specs.Jobs.{turn_by};
+ghost use Rattle.preempt_fast.specs.Decodings.{AreDecoded};
+ghost use Rattle.preempt_fast.specs.Stretch.{HasMoved};
+
+use crate::decoded::{Decoded, Decoding};
+use code_map::CodeMap;
+use crpd_base::{Memory, SETS, TaskPlan};
+use icache::{Access, Cache, Geometry};
+use preempt_machine::Job;
+use rv_core::{DataMemory, Next};
+use rv_decode::{Ins, cost};
+
+/// The core's cache, the data memory, and the instructions that are kept by address.
+#[derive(Drop)]
+pub(crate) struct Core {
+    pub(crate) geometry: Geometry,
+    pub(crate) cache: Cache<SETS>,
+    pub(crate) memory: DataMemory,
+    pub(crate) decoded: Decoded,
+}
+
+/// Whether a branch or a jump is taken, where it goes on so.
+fn is_taken(next: Next, pc: u32) -> bool
+    ensures { result ≡ not (goes_on next pc) }
+{
+    match next {
+        Next::Goto(to) => to != pc.wrapping_add(4),
+        Next::Answer | Next::Fault => false,
+    }
+}
+
+impl Core {
+    /// An access to a block in its cache set, and whether it misses.
+    fn misses(&mut self, block: u32, set: u16) -> bool
+        requires room { self.old.geometry.platform.sets ≤ length self.old.cache }
+        requires set { set ≡ set_of self.old.geometry.platform block }
+        ensures missed { result ≡ not (is_hit self.old.geometry.platform self.old.cache block) }
+        ensures cache { self.new.cache ≡ accessed self.old.geometry.platform self.old.cache block }
+        ensures memory { self.new.memory ≡ self.old.memory }
+        ensures geometry { self.new.geometry ≡ self.old.geometry }
+        ensures decoded { self.new.decoded ≡ self.old.decoded }
+    {
+        match self.cache.holds(set) {
+            Some(held) if held == block => false,
+            _ => self.cache.access(&self.geometry, block) == Access::Miss,
+        }
+    }
+
+    /// Fetches a job's instruction, after which it goes on so, and gives its cycles.
+    fn fetch(&mut self, job: &Job, found: &Decoding, ins: &Ins, next: Next) -> u64
+        requires in_range { IsInRange ins.now }
+        requires next { next ≡ next_pc ins.now job.now.pc job.now.registers }
+        requires room { self.old.geometry.platform.sets ≤ length self.old.cache }
+        requires block { found.now.block ≡ block_of self.old.geometry.platform job.now.pc }
+        requires set { found.now.set ≡ set_of self.old.geometry.platform found.now.block }
+        ensures cost { (sys : System) (k : ℕ) → sys.platform ≡ self.old.geometry.platform → result ≡ fetch_cost sys ins.now (turn_by self.old.cache self.old.memory k job.now) }
+        ensures cache { self.new.cache ≡ accessed self.old.geometry.platform self.old.cache (block_of self.old.geometry.platform job.now.pc) }
+        ensures memory { self.new.memory ≡ self.old.memory }
+        ensures geometry { self.new.geometry ≡ self.old.geometry }
+        ensures decoded { self.new.decoded ≡ self.old.decoded }
+    {
+        let missed = self.misses(found.block, found.set);
+        let taken = is_taken(next, job.pc());
+        cost(&self.geometry.platform, ins, missed, taken)
+    }
+
+    /// Fetches a job's instruction where none is under way.
+    fn begin(&mut self, job: &mut Job, found: &Decoding, ins: &Ins, next: Next)
+        requires in_range { IsInRange ins.now }
+        requires next { next ≡ next_pc ins.now job.old.pc job.old.registers }
+        requires room { self.old.geometry.platform.sets ≤ length self.old.cache }
+        requires block { found.now.block ≡ block_of self.old.geometry.platform job.old.pc }
+        requires set { found.now.set ≡ set_of self.old.geometry.platform found.now.block }
+        ensures fetched { (sys : System) (k : ℕ) → sys.platform ≡ self.old.geometry.platform → turn_by self.new.cache self.new.memory k job.new ≡ fetched sys ins.now (turn_by self.old.cache self.old.memory k job.old) }
+        ensures job { job.new ≡ record job.old { left = job.new.left } }
+        ensures geometry { self.new.geometry ≡ self.old.geometry }
+        ensures decoded { self.new.decoded ≡ self.old.decoded }
+    {
+        if job.left() == 0 {
+            let cycles = self.fetch(job, found, ins, next);
+            job.set_left(cycles);
+        }
+    }
+
+    /// A job's move: as many cycles of its instruction as are left, but none from a time on. It gives the time after it.
+    ///
+    /// The job faults where no instruction can be fetched, which takes a cycle.
+    fn advance(
+        &mut self,
+        job: &mut Job,
+        code: &CodeMap,
+        plan: &TaskPlan,
+        now: u64,
+        until: u64,
+    ) -> Result<u64, Memory>
+        requires before { now < until }
+        requires room { self.old.geometry.platform.sets ≤ length self.old.cache }
+        requires decoded { AreDecoded self.old.geometry.platform code.now self.old.decoded.places.items }
+        requires plan { plan_of (system_by self.old.geometry.platform code.now) job.old.line.task.0 ≡ plan.now }
+        requires turns { HasTurns (length plan.now.loops) job.old.watch }
+        requires open { job.old.standing ≡ Open }
+        ensures moved { IfOk result (λ time. HasMoved (system_by self.old.geometry.platform code.now) now time (turn_by self.old.cache self.old.memory 0 job.old) (turn_by self.new.cache self.new.memory 0 job.new)) }
+        ensures later { IfOk result (λ time. now < time) }
+        ensures within { IfOk result (λ time. time ≤ until) }
+        ensures turns { OnOk result (HasTurns (length plan.now.loops) job.new.watch) }
+        ensures geometry { OnOk result (self.new.geometry ≡ self.old.geometry) }
+        ensures decoded { OnOk result (AreDecoded self.old.geometry.platform code.now self.new.decoded.places.items) }
+    {
+        let found = self.decoded.find(code, &self.geometry, job.pc());
+        let Some(ins) = found.meaning else {
+            job.fault();
+            return Ok(now + 1);
+        };
+        let next = job.next(&ins);
+        self.begin(job, &found, &ins, next);
+        let left = job.left();
+        if left > until - now {
+            job.set_left(left - (until - now));
+            return Ok(until);
+        }
+        let time = now + left.max(1);
+        job.finish(&mut self.memory, plan, &ins, next, time)?;
+        Ok(time)
+    }
+
+    /// The moves of a job that has the core with no switch cycle left, up to a time or until it has answered or faulted.
+    /// It gives the time after them.
+    pub(crate) fn run(
+        &mut self,
+        job: &mut Job,
+        code: &CodeMap,
+        from: u64,
+        until: u64,
+    ) -> Result<u64, Memory>
+        requires before { from < until }
+        requires room { self.old.geometry.platform.sets ≤ length self.old.cache }
+        requires decoded { AreDecoded self.old.geometry.platform code.now self.old.decoded.places.items }
+        requires plan { HasPlan code.now.plans job.old }
+        requires open { job.old.standing ≡ Open }
+        ensures moved { IfOk result (λ time. HasMoved (system_by self.old.geometry.platform code.now) from time (turn_by self.old.cache self.old.memory 0 job.old) (turn_by self.new.cache self.new.memory 0 job.new)) }
+        ensures later { IfOk result (λ time. from < time) }
+        ensures within { IfOk result (λ time. time ≤ until) }
+        ensures plan { OnOk result (HasPlan code.now.plans job.new) }
+        ensures geometry { OnOk result (self.new.geometry ≡ self.old.geometry) }
+        ensures decoded { OnOk result (AreDecoded self.old.geometry.platform code.now self.new.decoded.places.items) }
+    {
+        let plan = code.plan(job.task());
+        let mut now = from;
+        while now < until && job.is_open() {
+            now = self.advance(job, code, plan, now, until)?;
+        }
+        Ok(now)
+    }
+}

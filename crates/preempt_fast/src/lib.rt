@@ -1,0 +1,22 @@
+//! The machine's completions in the time of an instruction-set simulator.
+#![tactic(auto)]
+
+mod decoded;
+mod jobs;
+mod parts;
+mod running;
+#[cfg(test)]
+mod tests;
+
+ghost use Rattle.preempt_fast.specs.Stretch.{CyclesLaw, EffectLaw, IdleLaw, SwitchLaw};
+
+pub use running::run_fast;
+
+/// A skipped stretch is so many steps of the machine: one in which no job is ready, one of switch cycles, one of cycles of
+/// an instruction before its last, and one up to the last, with which it has its effect.
+pub fn stretch_law()
+    ensures idle { IdleLaw }
+    ensures switch { SwitchLaw }
+    ensures cycles { CyclesLaw }
+    ensures effect { EffectLaw }
+{}

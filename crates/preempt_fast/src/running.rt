@@ -1,0 +1,86 @@
+// The run of a script.
+ghost use Rattle.std.specs.Prelude.{◌≡◌, ◌<◌, ◌≤◌, ◌^◌, length, IfOk};
+ghost use Rattle.preempt_machine.specs.Machine.{started};
+ghost use Rattle.preempt_machine.specs.Safe.{system_of, NamesTasks};
+ghost use Rattle.preempt_machine.specs.Starts.{start_cache, start_memory};
+ghost use Rattle.preempt_fast.specs.Fast.{state_after, IsOutcome};
+ghost use Rattle.preempt_fast.specs.Parts.{machine_of, IsMachine, IsRunOf};
+
+use crate::decoded::Decoded;
+use crate::jobs::Core;
+use crate::parts::Parts;
+use code_map::CodeMap;
+use crpd_base::{Memory, Script, TaskSet};
+use icache::Geometry;
+use preempt_machine::{
+    Completion, Queue, are_kept, start_cache, start_completions, start_jobs, start_memory,
+};
+use std::alloc::Global;
+
+/// The parts at the start of a script: from the script's cache and the bytes of the files, with no owner, and all jobs
+/// unreleased.
+fn load(alloc: Global, code: &CodeMap, set: &TaskSet, script: &Script) -> Result<Parts, Memory>
+    requires line { 0 < set.now.platform.line }
+    requires sets { 0 < set.now.platform.sets }
+    requires few { set.now.platform.sets ≤ 512 }
+    requires plans { length code.now.plans ≡ length set.now.tasks }
+    requires tasks { NamesTasks set.now script.now.jobs }
+    requires jobs { length script.now.jobs < 2 ^ 32 }
+    ensures started { IfOk result (λ parts. machine_of parts ≡ started (system_of set.now code.now) (start_cache set.now.platform script.now.cache) (start_memory code.now.images) script.now.jobs) }
+    ensures machine { IfOk result IsMachine }
+    ensures run { IfOk result (IsRunOf code.now) }
+    ensures platform { IfOk result (λ parts. parts.core.geometry.platform ≡ set.now.platform) }
+{
+    let lines = script.jobs.as_slice();
+    let tasks = set.tasks.as_slice().len();
+    let memory = start_memory(alloc, code)?;
+    let jobs = start_jobs(alloc, code, lines)?;
+    let completions = start_completions(alloc, lines, tasks)?;
+    let queue = Queue::new(alloc, lines, tasks)?;
+    let geometry = Geometry::new(&set.platform);
+    let decoded = Decoded::new(alloc, code, &geometry)?;
+    Ok(Parts {
+        core: Core {
+            geometry,
+            cache: start_cache(set, script),
+            memory,
+            decoded,
+        },
+        steps: 0,
+        owner: None,
+        switch_left: 0,
+        jobs,
+        completions,
+        queue,
+    })
+}
+
+/// How the jobs of a script stand after its cycles, in the order of the script, and whether no watch is broken: what the
+/// machine comes to from the script's cache and the bytes of the files.
+///
+/// The code map has a plan for each task of the set, and the script's jobs are of the set's tasks. Want of memory is the
+/// only error. It goes in one move over the cycles in which no job is ready, over those of a switch, and over those of an
+/// instruction in which no job is released. So its time is that of its instructions, and for each release, answer and
+/// fault a look at each task's first waiting job; besides n log n in the jobs, and the time of `start_memory`. An
+/// instruction is looked up and decoded where its address is met anew at its place in a table of 4,096.
+pub fn run_fast(
+    alloc: Global,
+    code: &CodeMap,
+    set: &TaskSet,
+    script: &Script,
+) -> Result<(Vec<Completion>, bool), Memory>
+    requires line { 0 < set.now.platform.line }
+    requires sets { 0 < set.now.platform.sets }
+    requires few { set.now.platform.sets ≤ 512 }
+    requires plans { length code.now.plans ≡ length set.now.tasks }
+    requires tasks { NamesTasks set.now script.now.jobs }
+    requires jobs { length script.now.jobs < 2 ^ 32 }
+    ensures { IfOk result (λ outcome. IsOutcome (state_after set.now code.now script.now) outcome.0.items outcome.1) }
+{
+    let mut parts = load(alloc, code, set, script)?;
+    while parts.steps < script.cycles {
+        parts.leap(code, script.cycles)?;
+    }
+    let kept = are_kept(parts.jobs.as_slice());
+    Ok((parts.completions, kept))
+}

@@ -1,0 +1,36 @@
+-- The facts of an account's entries.
+use Rattle.std.proofs.Common.{ℕ, ◌<◌, length}
+use Rattle.loop_regions.specs.Nest.{Nest}
+use Rattle.run_account.specs.declared.run.Run.{Run}
+use Rattle.run_account.specs.declared.told.Account.{Account}
+use Rattle.run_account.specs.Account.{IsAccount, HasAccountFacts}
+use Rattle.run_account.specs.Facts.{AreSetsMet}
+use Rattle.run_account.specs.Nodes.{task_of}
+use Rattle.run_account.specs.Runs.{start_in, certificate_in, IsReady}
+use Rattle.run_account.specs.Shown.{with_nests, UsefulIsMet}
+use Rattle.run_account.specs.Walks.{HasGraphs}
+use Rattle.run_account.proofs.EntryFacts.{ledger_facts}
+use Rattle.run_account.proofs.Ready.{cached, task_below, has_graphs}
+
+module _ (r : Run) (R : IsReady r) (nests : ℕ → Nest) where
+  -- regions play no part
+  graphs_with : HasGraphs (start_in r) (with_nests r.graphs.now nests)
+  graphs_with =
+      let G = has_graphs r R in
+      record { code = G.code; hit = G.hit; graph = λ x h. let g = G.graph x h in record { follows = g.follows; no_errors = g.no_errors } }
+
+  sets_met : UsefulIsMet r.set.now r.graphs.now r.certificate.now → AreSetsMet (start_in r) (with_nests r.graphs.now nests) (certificate_in r)
+  sets_met U x h =
+      let l = task_below r R x h in
+      let S = R.states (task_of (start_in r) x) l in
+      let M = U (task_of (start_in r) x) l in
+      record { states = S.states; useful = M.useful; sets = M.sets }
+
+  pub account_facts : UsefulIsMet r.set.now r.graphs.now r.certificate.now → (n : ℕ) (a : Account) → IsAccount (start_in r) (with_nests r.graphs.now nests) (certificate_in r) n a → HasAccountFacts (start_in r) (with_nests r.graphs.now nests) (certificate_in r) n a
+  account_facts U n a I =
+      record {
+        ledger = I.ledger;
+        is_ledger = I.is_ledger;
+        entries = I.entries;
+        facts = ledger_facts (start_in r) (with_nests r.graphs.now nests) (certificate_in r) n I.ledger (cached r R) graphs_with (sets_met U) I.is_ledger;
+      }

@@ -1,0 +1,5 @@
+use Rattle.run_account.proofs.EntryFacts.{ledger_facts}
+use Rattle.run_account.proofs.ledger_facts.Goals as goal
+
+pub returns : goal.returns
+returns c = ledger_facts

@@ -1,0 +1,57 @@
+-- Facts of a ledger's entries that hold of every run: where an entry comes from, and how few there are of one evictor or
+-- preemptor.
+use Rattle.std.specs.Prelude.{◌≡◌, ◌≢◌, ◌⊎◌, ℕ, ◌<◌, true, IsTrue, List, length, All, AllPairs}
+use Rattle.crpd_base.specs.declared.data.Certificate.{Certificate}
+use Rattle.crpd_base.specs.declared.data.Platform.{Platform}
+use Rattle.crpd_base.specs.declared.data.TaskPart.{TaskPart}
+use Rattle.crpd_base.specs.Sets.{has}
+use Rattle.icache.specs.Accesses.{Accesses, accesses}
+use Rattle.loop_regions.specs.TaskGraph.{TaskGraph}
+use Rattle.evict_sets.specs.Full.{FullUseful}
+use Rattle.evict_sets.specs.Clauses.{StatesMeet, UsefulMeets, SetsMeet}
+use Rattle.evict_sets.specs.Certificate.{listed_of, cert_at}
+use Rattle.preempt_machine.specs.Step.{before, Start, state}
+use Rattle.run_account.specs.Fetches.{job_of, HasCache}
+use Rattle.run_account.specs.Ledger.{LedgerEntry, IsOfRun, IsLedger}
+use Rattle.run_account.specs.Nodes.{task_of, node_of}
+use Rattle.run_account.specs.Walks.{HasGraphs}
+
+-- clauses 3 to 5 at each node of a task's graph
+pub record MeetsSets (p : Platform) (t : TaskGraph) (c : TaskPart) : Type 0 where
+  pub states : (u : ℕ) → u < t.graph.size → StatesMeet t.graph (accesses p t.places.address) (listed_of c) u
+  pub useful : (u : ℕ) → u < t.graph.size → UsefulMeets t.graph (accesses p t.places.address) (listed_of c) u
+  pub sets : (u : ℕ) → u < t.graph.size → SetsMeet t.graph (accesses p t.places.address) (listed_of c) (has c.part.evicting) (has c.part.useful) u
+
+-- and of the task of each job of the script
+abbrev pub AreSetsMet : Start → (ℕ → TaskGraph) → Certificate → Type 0
+AreSetsMet s graphs c = (x : ℕ) → x < length s.lines → MeetsSets s.system.platform (graphs (task_of s x)) (cert_at c (task_of s x))
+
+-- an entry's evictor and preemptor are of higher tasks than its job, and the evictor does not come after the preemptor.
+-- Its set is in the evictor's evicting set, in its task's useful set, and in the useful set of the full state of the node
+-- to which the job went on: that of the second of the two fetches between which the evictor's was made
+pub record IsOfHigher (s : Start) (graphs : ℕ → TaskGraph) (c : Certificate) (e : LedgerEntry) (r : IsOfRun s graphs c e) : Type 0 where
+  pub evictor : task_of s e.evictor < task_of s e.job
+  pub preemptor : task_of s e.preemptor < task_of s e.job
+  pub not_after : (e.evictor ≡ e.preemptor) ⊎ (before (state s 0).jobs e.evictor e.preemptor ≡ true)
+  pub evicts : IsTrue (has (cert_at c (task_of s e.evictor)).part.evicting e.set)
+  pub in_set : IsTrue (has (cert_at c (task_of s e.job)).part.useful e.set)
+  pub carried : let t = graphs (task_of s e.job) in
+      FullUseful t.graph (accesses s.system.platform t.places.address) (listed_of (cert_at c (task_of s e.job))) (node_of t (job_of s r.preempted.until e.job)) e.set
+
+-- two entries do not have the same evictor and the same set; those of one preemptor are of one job, went on at one node,
+-- and do not have the same set
+pub record AreDistinct (s : Start) (graphs : ℕ → TaskGraph) (c : Certificate) (d e : LedgerEntry) : Type 0 where
+  pub evictor : d.evictor ≡ e.evictor → d.set ≢ e.set
+  pub job : d.preemptor ≡ e.preemptor → d.job ≡ e.job
+  pub set : d.preemptor ≡ e.preemptor → d.set ≢ e.set
+  pub until : d.preemptor ≡ e.preemptor → (q : IsOfRun s graphs c d) (r : IsOfRun s graphs c e) → q.preempted.until ≡ r.preempted.until
+
+pub record HasFacts (s : Start) (graphs : ℕ → TaskGraph) (c : Certificate) (ledger : List LedgerEntry) : Type 0 where
+  pub of_higher : All (λ (e : LedgerEntry). (r : IsOfRun s graphs c e) → IsOfHigher s graphs c e r) ledger
+  pub distinct : AllPairs (AreDistinct s graphs c) ledger
+
+-- the ledger of each run has them where clauses 3 to 5 hold
+abbrev pub LedgerFacts : Type 0
+LedgerFacts =
+    (s : Start) (graphs : ℕ → TaskGraph) (c : Certificate) (n : ℕ) (ledger : List LedgerEntry) →
+    HasCache s → HasGraphs s graphs → AreSetsMet s graphs c → IsLedger s graphs c n ledger → HasFacts s graphs c ledger

@@ -1,0 +1,65 @@
+-- The graphs of tasks as they are kept, and what an account asks of them and of a certificate.
+use Rattle.std.specs.Prelude.{◌≡◌, ℕ, ◌<◌, List, [], length, slice_index_or}
+use Rattle.crpd_base.specs.declared.data.Certificate.{Certificate}
+use Rattle.crpd_base.specs.declared.data.Script.{Script}
+use Rattle.crpd_base.specs.declared.data.TaskSet.{TaskSet}
+use Rattle.crpd_base.specs.Sets.{has}
+use Rattle.code_map.specs.Words.{Code}
+use Rattle.flat_graph.specs.CodeGraph.{CodeGraph, graph_of, places_of, ins_of}
+use Rattle.loop_regions.specs.Nest.{Nest}
+use Rattle.loop_regions.specs.TaskGraph.{TaskGraph}
+use Rattle.loop_regions.specs.TaskSteps.{IsGraphOfTask}
+use Rattle.evict_sets.specs.Clauses.{ListsLeaders, StatesMeet, UsefulMeets, SetsMeet}
+use Rattle.evict_sets.specs.Certificate.{listed_of, cert_at}
+use Rattle.preempt_machine.specs.Safe.{system_of}
+use Rattle.preempt_machine.specs.Starts.{start_cache, start_memory}
+use Rattle.preempt_machine.specs.Step.{Start}
+use Rattle.run_account.specs.Case.{HasLowSets, fetches}
+
+abbrev pub no_graph : CodeGraph
+no_graph = record { nodes = []; first = 0 }
+
+abbrev pub graph_at : List CodeGraph → ℕ → CodeGraph
+graph_at graphs i = slice_index_or graphs i no_graph
+
+-- the task graph of each task; its regions play no part in a ledger, and may be any
+abbrev pub with_nests : List CodeGraph → (ℕ → Nest) → ℕ → TaskGraph
+with_nests graphs nests i =
+    record { graph = graph_of (graph_at graphs i); places = places_of (graph_at graphs i); ins = ins_of (graph_at graphs i); nest = nests i }
+
+-- what a run of a script starts from
+abbrev pub start_of_script : TaskSet → Code → Script → Start
+start_of_script set code script =
+    record {
+      system = system_of set code;
+      cache = start_cache set.platform script.cache;
+      memory = start_memory code.images;
+      lines = script.jobs;
+    }
+
+-- there is a graph for each task, which is the flat graph of its code
+pub record AreGraphsOf (code : Code) (set : TaskSet) (graphs : List CodeGraph) : Type 0 where
+  pub all : length graphs ≡ length set.tasks
+  pub each : (i : ℕ) → i < length set.tasks → IsGraphOfTask code i (graph_at graphs i)
+
+-- of the clauses of a certificate those that a ledger rests on, at each task: the certificate has a part for it, with cache
+-- sets below 512; every leader is listed; and clause 3 holds at each node
+pub record MeetsStates (set : TaskSet) (graphs : List CodeGraph) (c : Certificate) (i : ℕ) : Type 0 where
+  pub has_task : i < length c.tasks
+  pub low_sets : HasLowSets (cert_at c i)
+  pub leaders : ListsLeaders (graph_of (graph_at graphs i)) (listed_of (cert_at c i))
+  pub states : (u : ℕ) → u < length (graph_at graphs i).nodes →
+      StatesMeet (graph_of (graph_at graphs i)) (fetches set.platform (graph_at graphs i)) (listed_of (cert_at c i)) u
+
+abbrev pub StatesAreMet : TaskSet → List CodeGraph → Certificate → Type 0
+StatesAreMet set graphs c = (i : ℕ) → i < length set.tasks → MeetsStates set graphs c i
+
+-- of the other clauses those that the facts of its entries rest on besides, at each task: clauses 4 and 5 hold at each node
+pub record MeetsUseful (set : TaskSet) (graphs : List CodeGraph) (c : Certificate) (i : ℕ) : Type 0 where
+  pub useful : (u : ℕ) → u < length (graph_at graphs i).nodes →
+      UsefulMeets (graph_of (graph_at graphs i)) (fetches set.platform (graph_at graphs i)) (listed_of (cert_at c i)) u
+  pub sets : (u : ℕ) → u < length (graph_at graphs i).nodes →
+      SetsMeet (graph_of (graph_at graphs i)) (fetches set.platform (graph_at graphs i)) (listed_of (cert_at c i)) (has (cert_at c i).part.evicting) (has (cert_at c i).part.useful) u
+
+abbrev pub UsefulIsMet : TaskSet → List CodeGraph → Certificate → Type 0
+UsefulIsMet set graphs c = (i : ℕ) → i < length set.tasks → MeetsUseful set graphs c i

@@ -1,0 +1,349 @@
+// The account of a run.
+ghost use Rattle.std.specs.Prelude.{◌≡◌, ◌<◌, ◌≤◌, ◌+◌, ◌^◌, ℕ, ◌↔◌, ◌⊎◌, Some, length, map, slice_get, IfOk, OnOk, IsTrue};
+ghost use Rattle.crpd_base.specs.Ranges.{IsTaskSet};
+ghost use Rattle.loop_regions.specs.Nest.{Nest};
+ghost use Rattle.preempt_machine.specs.Kept.{completion, line_at};
+ghost use Rattle.run_account.specs.Idle.{IsIdle, IsIdleUntil};
+ghost use Rattle.preempt_machine.specs.Running.{job_id, HasPlans};
+ghost use Rattle.preempt_machine.specs.Safe.{IsKept, NamesTasks};
+ghost use Rattle.preempt_machine.specs.Step.{state};
+ghost use Rattle.run_account.specs.Account.{told_by, IsAccount, HasAccountFacts};
+ghost use Rattle.run_account.specs.Ledger.{IsLedger};
+ghost use Rattle.run_account.specs.Runs.{graphs_in, start_in, certificate_in, AreHits, IsFetched, IsQuick, IsReady, IsRunning, IsSoFar};
+ghost use Rattle.run_account.specs.Shown.{start_of_script, with_nests, AreGraphsOf, StatesAreMet, UsefulIsMet};
+ghost use Rattle.run_account.specs.Trails.{entry_of, IsNoted};
+
+use crate::hits::hits;
+use crate::told::{Account, Entry};
+use crate::trails::{Reload, Trails, push};
+use code_map::CodeMap;
+use crpd_base::{Certificate, Items, JobId, Memory, Script, ScriptJob, TaskSet};
+use flat_graph::Graph;
+use icache::{Access, Geometry};
+use preempt_machine::{Completion, End, Fetch, Machine};
+use std::alloc::Global;
+
+/// Which nodes of a graph are counted as hits.
+#[derive(Drop)]
+pub(crate) struct Hits {
+    pub(crate) flags: Vec<bool>,
+}
+
+/// What stays the same along a run: the set with its code, the script, the tasks' graphs, the certificate, and which nodes
+/// are counted as hits.
+#[derive(Clone, Copy)]
+pub(crate) struct Run<'a> {
+    pub(crate) code: &'a CodeMap,
+    pub(crate) set: &'a TaskSet,
+    pub(crate) script: &'a Script,
+    pub(crate) graphs: &'a [Graph],
+    pub(crate) certificate: &'a Certificate,
+    pub(crate) hits: &'a [Hits],
+}
+
+/// Which nodes of each task's graph are counted as hits.
+fn all_hits(
+    alloc: Global,
+    set: &TaskSet,
+    graphs: &[Graph],
+    certificate: &Certificate,
+) -> Result<Vec<Hits>, Memory>
+    requires set { IsTaskSet set.now }
+    requires graphs { length graphs.now ≡ length set.now.tasks }
+    requires states { StatesAreMet set.now graphs.now certificate.now }
+    ensures { IfOk result (λ all. AreHits set.now.platform graphs.now certificate.now all.items) }
+{
+    let mut all = Vec::new(alloc);
+    for task in 0..graphs.len() {
+        let part = &certificate.tasks.as_slice()[task];
+        let flags = hits(alloc, &set.platform, &graphs[task], part)?;
+        push(&mut all, Hits { flags })?;
+    }
+    Ok(all)
+}
+
+impl Run<'_> {
+    /// Whether an instruction that misses may end in the cycle of its fetch.
+    fn is_quick(&self) -> bool
+        requires { IsReady self.now }
+        ensures { IsTrue result ↔ IsQuick self.now.set.now.platform }
+    {
+        self.set.platform.hit + self.set.platform.miss < 2
+    }
+}
+
+/// The place of a job: the one that is tried first, where it is the job's, and else by a look through the completions.
+fn place_of(completions: &[Completion], job: JobId, first: Option<usize>) -> usize
+    requires { (x : ℕ) × (x < length completions.now) × ((completion completions.now x).job ≡ job) }
+    ensures below { result < length completions.now }
+    ensures job { (completion completions.now result).job ≡ job }
+{
+    if let Some(tried) = first {
+        if tried < completions.len() && completions[tried].job == job {
+            return tried;
+        }
+    }
+    for place in 0..completions.len() {
+        if completions[place].job == job {
+            return place;
+        }
+    }
+    unreachable!()
+}
+
+/// The first cycle from now on in which a job may be ready, at most a cycle behind it; jobs by their completions.
+fn idle_until(lines: &[ScriptJob], completions: &[Completion], now: u64, cycles: u64) -> u64
+    requires jobs { length lines.now ≡ length completions.now }
+    requires later { now ≤ cycles }
+    ensures within { result ≤ cycles }
+    ensures idle { now < result → (x : ℕ) → x < length completions.now → IsIdleUntil (completion completions.now x).«end» (line_at lines.now x).release result }
+{
+    let mut until = cycles;
+    for place in 0..completions.len() {
+        match completions[place].end {
+            End::Open => return now,
+            End::Unreleased => until = until.min(lines[place].release),
+            End::Answered(_) | End::Faulted => {}
+        }
+    }
+    until
+}
+
+/// Whether a job is over.
+fn is_over(end: End) -> bool {
+    match end {
+        End::Answered(_) | End::Faulted => true,
+        End::Unreleased | End::Open => false,
+    }
+}
+
+/// Whether a fetch at a node that is counted as a hit or not misses there all the same.
+fn is_reload(counted: bool, access: Access) -> bool
+    ensures { IsTrue result ↔ (IsTrue counted × (access ≡ Access.Miss)) }
+{
+    counted && access == Access::Miss
+}
+
+/// Whether no watch was broken before a fetch that missed, as far as it has to be looked at after the fetch.
+fn was_kept(run: &Run<'_>, machine: &Machine) -> bool
+    requires { IsReady run.now }
+    ensures { IsTrue result ↔ (IsQuick run.now.set.now.platform ⊎ IsKept machine.now.state) }
+{
+    run.is_quick() || machine.kept()
+}
+
+/// Whether no watch is broken, as far as it has to be looked at before a fetch.
+fn is_kept_so_far(run: &Run<'_>, machine: &Machine) -> bool
+    requires { IsReady run.now }
+    ensures { IsTrue result ↔ (IsQuick run.now.set.now.platform → IsKept machine.now.state) }
+{
+    !run.is_quick() || machine.kept()
+}
+
+impl Trails {
+    /// Notes a fetch of the job at a place, after which the machine stands as it is. False where it finds that a watch was
+    /// broken before the fetch, so that neither this fetch nor a later one is a reload.
+    fn note(
+        &mut self,
+        run: &Run<'_>,
+        machine: &Machine,
+        fetch: &Fetch,
+        place: usize,
+        now: u64,
+    ) -> Result<bool, Memory>
+        requires ready { IsReady run.now }
+        requires running { IsRunning run.now (now + 1) machine.now }
+        requires quick { IsQuick run.now.set.now.platform → IsKept (state (start_in run.now) now) }
+        requires fetched { IsFetched run.now now place fetch.now }
+        requires noted { IsNoted (start_in run.now) (graphs_in run.now) (certificate_in run.now) now self.old }
+        ensures { IfOk result (λ on. IsSoFar run.now (now + 1) on self.new) }
+    {
+        let task = usize::from(fetch.job.task.0);
+        let hits = run.hits[task].flags.as_slice();
+        let counted = self.follow(&run.graphs[task], hits, place, fetch.address);
+        self.close_gap(run.script.jobs.as_slice(), place, now)?;
+        let geometry = Geometry::new(&run.set.platform);
+        let set = geometry.set(geometry.block(fetch.address));
+        if is_reload(counted, fetch.access) {
+            if was_kept(run, machine) {
+                self.enter(place, set, now)?;
+            } else {
+                return Ok(false);
+            }
+        }
+        self.touch(place, set, now);
+        Ok(true)
+    }
+
+    /// Makes a cycle of a run, and notes its fetch. False where it finds that a watch was broken before it.
+    fn make_cycle(&mut self, machine: &mut Machine, run: &Run<'_>) -> Result<bool, Memory>
+        requires ready { IsReady run.now }
+        requires running { IsRunning run.now machine.old.state.time machine.old }
+        requires within { machine.old.state.time < run.now.script.now.cycles }
+        requires later { machine.old.state.time + 1 < 2 ^ 64 }
+        requires quick { IsQuick run.now.set.now.platform → IsKept machine.old.state }
+        requires noted { IsNoted (start_in run.now) (graphs_in run.now) (certificate_in run.now) machine.old.state.time self.old }
+        ensures running { OnOk result (IsRunning run.now machine.new.state.time machine.new) }
+        ensures within { OnOk result (machine.new.state.time ≤ run.now.script.now.cycles) }
+        ensures so_far { IfOk result (λ on. IsSoFar run.now machine.new.state.time on self.new) }
+        ensures forth { IfOk result (λ on. IsTrue on → machine.old.state.time < machine.new.state.time) }
+        ensures back { OnOk result (machine.old.state.time ≤ machine.new.state.time) }
+    {
+        let now = machine.steps();
+        machine.cycle(run.code)?;
+        let Some(fetch) = machine.last_fetch() else {
+            return Ok(true);
+        };
+        let place = place_of(machine.completions(), fetch.job, self.owner);
+        let on = self.note(run, machine, &fetch, place, now)?;
+        Ok(on)
+    }
+
+    /// The first cycle from now on in which a job may be ready, by a look through the jobs where the last one that fetched
+    /// is over and still owns the core.
+    fn idle_until(&self, machine: &Machine, run: &Run<'_>) -> u64
+        requires running { IsRunning run.now machine.now.state.time machine.now }
+        requires within { machine.now.state.time < run.now.script.now.cycles }
+        ensures within { result ≤ run.now.script.now.cycles }
+        ensures idle { IsIdle (start_in run.now) machine.now.state.time result }
+    {
+        let now = machine.steps();
+        let completions = machine.completions();
+        let idle = match self.owner {
+            Some(place) => {
+                place < completions.len()
+                    && machine.owner() == Some(completions[place].job)
+                    && is_over(completions[place].end)
+            }
+            None => machine.owner().is_none(),
+        };
+        if idle {
+            idle_until(
+                run.script.jobs.as_slice(),
+                completions,
+                now,
+                run.script.cycles,
+            )
+        } else {
+            now
+        }
+    }
+
+    /// The steps up to the first one in which a job may be ready, where there are such, and else a cycle. False without a
+    /// step where a watch is found to be broken before it.
+    fn step(&mut self, machine: &mut Machine, run: &Run<'_>) -> Result<bool, Memory>
+        requires ready { IsReady run.now }
+        requires running { IsRunning run.now machine.old.state.time machine.old }
+        requires within { machine.old.state.time < run.now.script.now.cycles }
+        requires later { machine.old.state.time + 1 < 2 ^ 64 }
+        requires noted { IsNoted (start_in run.now) (graphs_in run.now) (certificate_in run.now) machine.old.state.time self.old }
+        ensures running { OnOk result (IsRunning run.now machine.new.state.time machine.new) }
+        ensures within { OnOk result (machine.new.state.time ≤ run.now.script.now.cycles) }
+        ensures so_far { IfOk result (λ on. IsSoFar run.now machine.new.state.time on self.new) }
+        ensures forth { IfOk result (λ on. IsTrue on → machine.old.state.time < machine.new.state.time) }
+        ensures back { OnOk result (machine.old.state.time ≤ machine.new.state.time) }
+    {
+        let until = self.idle_until(machine, run);
+        if until > machine.steps() {
+            machine.run_until(run.code, until)?;
+            Ok(true)
+        } else if is_kept_so_far(run, machine) {
+            let on = self.make_cycle(machine, run)?;
+            Ok(on)
+        } else {
+            Ok(false)
+        }
+    }
+
+    /// Makes the cycles of a run from its start, and notes its fetches up to and including the first cycle in which a watch
+    /// breaks.
+    fn follow_run(&mut self, machine: &mut Machine, run: &Run<'_>) -> Result<(), Memory>
+        requires ready { IsReady run.now }
+        requires started { IsRunning run.now 0 machine.old }
+        requires noted { IsNoted (start_in run.now) (graphs_in run.now) (certificate_in run.now) 0 self.old }
+        ensures ledger { OnOk result (IsLedger (start_in run.now) (graphs_in run.now) (certificate_in run.now) run.now.script.now.cycles (map entry_of self.new.reloads.items)) }
+        ensures state { OnOk result (machine.new.state ≡ state (start_in run.now) run.now.script.now.cycles) }
+    {
+        let mut on = true;
+        while on && machine.steps() < run.script.cycles {
+            on = self.step(machine, run)?;
+        }
+        machine.run_until(run.code, run.script.cycles)
+    }
+}
+
+/// The reloads with their jobs by task and number.
+fn told(alloc: Global, completions: &[Completion], reloads: &[Reload]) -> Result<Vec<Entry>, Memory>
+    requires jobs { (k : ℕ) (r : Reload) → slice_get reloads.now k ≡ Some r → r.job < length completions.now }
+    requires evictors { (k : ℕ) (r : Reload) → slice_get reloads.now k ≡ Some r → r.evictor < length completions.now }
+    requires preemptors { (k : ℕ) (r : Reload) → slice_get reloads.now k ≡ Some r → r.preemptor < length completions.now }
+    ensures { IfOk result (λ entries. entries.items ≡ map (told_by completions.now) reloads.now) }
+{
+    let mut entries = Vec::new(alloc);
+    for reload in reloads {
+        let entry = Entry {
+            job: completions[reload.job].job,
+            set: reload.set,
+            time: reload.time,
+            evictor: completions[reload.evictor].job,
+            preemptor: completions[reload.preemptor].job,
+        };
+        push(&mut entries, entry)?;
+    }
+    Ok(entries)
+}
+
+/// The reloads of the run of a script from the script's start, for the script's cycles: the fetches, up to and including
+/// the first cycle in which a watch breaks, that miss at a node that its full state counts as a hit, in the order of their
+/// times. Each has the job of the last fetch to the set before, the evictor. That fetch lies between two successive
+/// fetches of the job that misses; of the others that fetched between these two, the preemptor is the last in the order
+/// of jobs. Beside them stand the jobs' completions, and whether the run is kept.
+///
+/// The code map has a plan for each task of the set, the graphs are the flat graphs of the tasks' code, the script's jobs
+/// are of the set's tasks, every leader of each graph is listed, and clause 3 holds at each node. Want of memory is the
+/// only error.
+///
+/// Where clauses 4 and 5 hold too, evictors and preemptors are of higher tasks, whatever the script, and there is at most
+/// one entry of an evictor, or of a preemptor, and a cache set; all entries of a preemptor are of one job.
+pub fn account(
+    alloc: Global,
+    code: &CodeMap,
+    set: &TaskSet,
+    graphs: &[Graph],
+    certificate: &Certificate,
+    script: &Script,
+) -> Result<Account, Memory>
+    requires set { IsTaskSet set.now }
+    requires plans { length code.now.plans ≡ length set.now.tasks }
+    requires graphs { AreGraphsOf code.now set.now graphs.now }
+    requires states { StatesAreMet set.now graphs.now certificate.now }
+    requires tasks { NamesTasks set.now script.now.jobs }
+    requires jobs { length script.now.jobs < 2 ^ 32 }
+    ensures is { IfOk result (λ a. (nests : ℕ → Nest) → IsAccount (start_of_script set.now code.now script.now) (with_nests graphs.now nests) certificate.now script.now.cycles a) }
+    ensures facts { UsefulIsMet set.now graphs.now certificate.now → IfOk result (λ a. (nests : ℕ → Nest) → HasAccountFacts (start_of_script set.now code.now script.now) (with_nests graphs.now nests) certificate.now script.now.cycles a) }
+{
+    code.words_law();
+    let hits = all_hits(alloc, set, graphs, certificate)?;
+    let run = Run {
+        code,
+        set,
+        script,
+        graphs,
+        certificate,
+        hits: hits.as_slice(),
+    };
+    let jobs = script.jobs.as_slice().len();
+    let mut trails = Trails::new(alloc, jobs, set.platform.sets as usize)?;
+    let mut machine = Machine::load(alloc, code, set, script)?;
+    trails.follow_run(&mut machine, &run)?;
+    let completions = machine.completions();
+    let entries = told(alloc, completions, trails.reloads.as_slice())?;
+    let Ok(completions) = Vec::from_slice(alloc, completions) else {
+        return Err(Memory);
+    };
+    Ok(Account {
+        entries: Items::new(entries),
+        completions: Items::new(completions),
+        kept: machine.kept(),
+    })
+}

@@ -1,0 +1,10 @@
+pub mod Costs
+pub mod Bounds
+pub mod Fits
+pub mod ByCosts
+pub mod Compared
+pub mod Acceptance
+pub mod Slacks
+pub mod Parts
+pub mod Trials
+pub mod Shown

@@ -1,0 +1,45 @@
+use Rattle.std.proofs.Common.{◌≡◌, Bool, List, ◌∷◌, [], ◌++◌, ◌∙◌, ap, subst, length, length-append, not, arith}
+use Rattle.std.specs.Prelude.{if◌then◌else◌}
+use Rattle.crpd_base.specs.declared.data.Part.{Part}
+use Rattle.loop_regions.specs.CodeNest.{CodeNest}
+use Rattle.flat_graph.specs.CodeGraph.{CodeGraph}
+use Rattle.cert_check.specs.Shown.{shown, graph_at, nest_at}
+use Rattle.cert_check.proofs.Tasks.{graph_is}
+use Rattle.sensitivity.specs.Accepted.{HasSets}
+use Rattle.sensitivity.specs.Found.{TellsHits}
+use Rattle.sensitivity.proofs.Parts.{one_more}
+use Rattle.sensitivity.proofs.analysis.all_known.Goals as goal
+
+pub loop-k-preserved : goal.loop-k-preserved
+loop-k-preserved c =
+    let part : Part = c.in_ok-known.known.part in
+    let list : List Bool = c.in_ok-known.known.hits in
+    let stored : c.push.new.self.items ≡ c.loop-k.parts.items ++ part ∷ [] =
+    c.push.ensures.items ∙ ap (λ b. if b then c.loop-k.parts.items ++ part ∷ [] else c.loop-k.parts.items) (c.is_err.ensures.negation ∙ ap not c.if-is_err.false) in
+    let kept : c.push-in-loop-k.new.self.items ≡ c.loop-k.hits.items ++ list ∷ [] =
+    c.push-in-loop-k.ensures.items ∙ ap (λ b. if b then c.loop-k.hits.items ++ list ∷ [] else c.loop-k.hits.items) (c.is_err-in-loop-k.ensures.negation ∙ ap not c.if-is_err-2.false) in
+    let here = graph_is c.args.graphs.now c.loop-k.k c.index-graphs-k.result c.loop-k-test.true c.index-graphs-k.is in
+    record {
+      parts = rw stored (simp length-append (omega (arith, c.loop-k.invariant.parts)));
+      sets = one_more (λ j (x : Part). (nest : CodeNest) → HasSets c.args.set.now.platform (shown (graph_at c.args.graphs.now j) nest) x) c.loop-k.parts.items c.push.new.self.items part _ c.loop-k.k stored c.loop-k.invariant.parts c.loop-k.invariant.sets
+          (λ nest. subst (λ (g : CodeGraph). HasSets c.args.set.now.platform (shown g nest) part) here (c.in_ok-known.ensures.sets nest));
+      lists = rw kept (simp length-append (omega (arith, c.loop-k.invariant.lists)));
+      hits = one_more (λ j (x : List Bool). (nest : CodeNest) → TellsHits c.args.set.now.platform (shown (graph_at c.args.graphs.now j) nest) x) c.loop-k.hits.items c.push-in-loop-k.new.self.items list [] c.loop-k.k kept c.loop-k.invariant.lists c.loop-k.invariant.hits
+          (λ nest. subst (λ (g : CodeGraph). TellsHits c.args.set.now.platform (shown g nest) list) here (c.in_ok-known.ensures.hits nest));
+    }
+
+pub returns-clause-sets : goal.returns-clause-sets
+returns-clause-sets c nests =
+    let all : c.loop-k.k ≡ length c.args.set.now.tasks = omega arith in
+    record {
+      count = c.loop-k.invariant.parts ∙ all;
+      each = λ k lt. c.loop-k.invariant.sets k (omega (arith, lt, all)) (nest_at nests k);
+    }
+
+pub returns-clause-hits : goal.returns-clause-hits
+returns-clause-hits c nests =
+    let all : c.loop-k.k ≡ length c.args.set.now.tasks = omega arith in
+    record {
+      count = c.loop-k.invariant.lists ∙ all;
+      each = λ k lt. c.loop-k.invariant.hits k (omega (arith, lt, all)) (nest_at nests k);
+    }

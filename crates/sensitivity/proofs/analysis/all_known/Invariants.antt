@@ -1,0 +1,16 @@
+-- What is known of the tasks so far.
+use Rattle.std.proofs.Common.{◌≡◌, ℕ, ◌<◌, [], length, get_or}
+use Rattle.delay_count.specs.Gamma.{part_at}
+use Rattle.loop_regions.specs.CodeNest.{CodeNest}
+use Rattle.cert_check.specs.Shown.{shown, graph_at}
+use Rattle.sensitivity.specs.Accepted.{HasSets}
+use Rattle.sensitivity.specs.Found.{TellsHits}
+use Rattle.sensitivity.proofs.analysis.all_known.Given as goal
+
+abbrev pub invariant-loop-k : goal.invariant-loop-k
+invariant-loop-k l = record {
+  parts : length l.parts.items ≡ l.k;
+  sets : (j : ℕ) → j < l.k → (nest : CodeNest) → HasSets l.set.platform (shown (graph_at l.graphs j) nest) (part_at l.parts.items j);
+  lists : length l.hits.items ≡ l.k;
+  hits : (j : ℕ) → j < l.k → (nest : CodeNest) → TellsHits l.set.platform (shown (graph_at l.graphs j) nest) (get_or l.hits.items j []);
+}

@@ -1,0 +1,85 @@
+// The greatest costs.
+ghost use Rattle.std.specs.Prelude.{IfOk};
+ghost use Rattle.crpd_base.specs.Ranges.{IsTaskSet};
+ghost use Rattle.cert_check.specs.Shown.{shown_at, AreShown};
+ghost use Rattle.sensitivity.specs.Costs.{with_switch, with_miss};
+ghost use Rattle.sensitivity.specs.Slack.{IsSlack};
+
+use crate::analysis::{Bounded, all_known, with_bounds};
+use crate::cost::Cost;
+use crate::laws::acceptance_law;
+use crate::search::Search;
+use crate::slack::{Slack, Stop};
+use cert_build::graphs_law;
+use crpd_base::{Memory, TaskSet};
+use flat_graph::Graph;
+use loop_regions::Nest;
+use std::alloc::Global;
+
+/// The greatest cost of a context switch, 0 to 65,535 cycles, with which the task set, all else equal, is accepted: each
+/// task has an execution bound of at most 2^40 cycles and a window. Each smaller cost is accepted, and each greater one
+/// refused. There is one graph and one nest for each task.
+///
+/// The one refusal is want of memory. The execution bounds do not depend on this cost, and are found once; the windows
+/// are found for at most 17 costs. A byte is kept for each node; the memory taken beside it at a time is that of the
+/// analysis of one task.
+pub fn greatest_switch(
+    alloc: Global,
+    set: &TaskSet,
+    graphs: &[Graph],
+    nests: &[Nest],
+) -> Result<Slack, Memory>
+    requires set { IsTaskSet set.now }
+    requires tasks { AreShown set.now graphs.now nests.now }
+    ensures { IfOk result (λ slack. IsSlack (with_switch set.now) (shown_at graphs.now nests.now) slack) }
+{
+    acceptance_law();
+    graphs_law(graphs);
+    let known = all_known(alloc, set, graphs)?;
+    match with_bounds(alloc, set, graphs, nests, &known.parts, &known.hits)? {
+        Bounded::TooLarge(task) => Ok(Slack {
+            greatest: None,
+            stop: Stop::Bound(task),
+        }),
+        Bounded::Parts(parts) => {
+            let search = Search {
+                set,
+                graphs,
+                nests,
+                parts: &parts,
+                hits: &known.hits,
+                cost: Cost::Switch,
+            };
+            search.greatest(alloc)
+        }
+    }
+}
+
+/// The greatest cost of a reload, 0 to 65,535 cycles, with which the task set, all else equal, is accepted: each task has
+/// an execution bound of at most 2^40 cycles and a window. Each smaller cost is accepted, and each greater one refused.
+/// There is one graph and one nest for each task.
+///
+/// The one refusal is want of memory. The evicting and useful cache sets and the sure hits do not depend on this cost, and
+/// are found once; the execution bounds and the windows are found for at most 17 costs. A byte is kept for each node; the
+/// memory taken beside it at a time is that of the analysis of one task.
+pub fn greatest_miss(
+    alloc: Global,
+    set: &TaskSet,
+    graphs: &[Graph],
+    nests: &[Nest],
+) -> Result<Slack, Memory>
+    requires set { IsTaskSet set.now }
+    requires tasks { AreShown set.now graphs.now nests.now }
+    ensures { IfOk result (λ slack. IsSlack (with_miss set.now) (shown_at graphs.now nests.now) slack) }
+{
+    let known = all_known(alloc, set, graphs)?;
+    let search = Search {
+        set,
+        graphs,
+        nests,
+        parts: &known.parts,
+        hits: &known.hits,
+        cost: Cost::Miss,
+    };
+    search.greatest(alloc)
+}

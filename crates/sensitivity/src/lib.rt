@@ -1,0 +1,15 @@
+//! The greatest costs of a context switch and of a reload with which a task set is accepted.
+#![tactic(auto)]
+
+mod analysis;
+mod cost;
+mod greatest;
+mod laws;
+mod search;
+mod slack;
+#[cfg(test)]
+mod tests;
+
+pub use greatest::{greatest_miss, greatest_switch};
+pub use laws::{acceptance_law, costs_law};
+pub use slack::{Slack, Stop};

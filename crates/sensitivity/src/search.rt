@@ -1,0 +1,121 @@
+// The search for the greatest accepted cost.
+ghost use Rattle.std.specs.Prelude.{◌≡◌, ◌≤◌, IfOk};
+ghost use Rattle.crpd_base.specs.Ranges.{IsTaskSet};
+ghost use Rattle.cert_check.specs.Shown.{shown_at, AreShown};
+ghost use Rattle.sensitivity.specs.Found.{ListsParts, AreKnown, IsJudged, with_cost};
+ghost use Rattle.sensitivity.specs.Slack.{IsSlack};
+
+use crate::analysis::{Bounded, with_bounds};
+use crate::cost::{Cost, platform_with};
+use crate::laws::acceptance_law;
+use crate::slack::{Slack, Stop};
+use cert_build::graphs_law;
+use cert_check::write_longest;
+use crpd_base::{Items, MOST_TASKS, Memory, Part, TaskSet, copy_set};
+use flat_graph::Graph;
+use loop_regions::Nest;
+use response::{WindowError, windows};
+use std::alloc::Global;
+
+/// The greatest cost that a platform may have, in cycles.
+const GREATEST: u32 = 65_535;
+
+/// Where a set with these parts stops, None where each task has a window.
+fn stop_of(
+    alloc: Global,
+    set: &TaskSet,
+    graphs: &[Graph],
+    nests: &[Nest],
+    parts: &[Part],
+) -> Result<Option<Stop>, Memory>
+    requires set { IsTaskSet set.now }
+    requires tasks { AreShown set.now graphs.now nests.now }
+    requires parts { ListsParts set.now (shown_at graphs.now nests.now) parts.now }
+    ensures { IfOk result (λ stop. IsJudged set.now (shown_at graphs.now nests.now) stop) }
+{
+    delay_count::growth_law();
+    let mut longest = [0; MOST_TASKS];
+    write_longest(set, graphs, &mut longest);
+    match windows(alloc, set, parts, &longest) {
+        Ok(_choices) => Ok(None),
+        Err(WindowError::Unschedulable(task)) => Ok(Some(Stop::Window(task))),
+        Err(WindowError::Memory) => Err(Memory),
+    }
+}
+
+/// A task set with its graphs, its parts as far as they do not depend on the cost that is tried, which nodes of each task
+/// are surely hits, and that cost.
+#[derive(Clone, Copy)]
+pub(crate) struct Search<'a> {
+    pub(crate) set: &'a TaskSet,
+    pub(crate) graphs: &'a [Graph],
+    pub(crate) nests: &'a [Nest],
+    pub(crate) parts: &'a [Part],
+    pub(crate) hits: &'a [Items<bool>],
+    pub(crate) cost: Cost,
+}
+
+impl Search<'_> {
+    /// Where the set with another cost stops, None where it is accepted. `trial` is a copy of the set, and gets that cost.
+    fn stop_at(
+        &self,
+        alloc: Global,
+        trial: &mut TaskSet,
+        cycles: u32,
+    ) -> Result<Option<Stop>, Memory>
+        requires set { IsTaskSet self.now.set.now }
+        requires tasks { AreShown self.now.set.now self.now.graphs.now self.now.nests.now }
+        requires known { AreKnown self.now.cost self.now.set.now (shown_at self.now.graphs.now self.now.nests.now) self.now.parts.now self.now.hits.now }
+        requires trial { trial.old.tasks ≡ self.now.set.now.tasks }
+        requires cycles { cycles ≤ 65535 }
+        ensures trial { trial.new.tasks ≡ trial.old.tasks }
+        ensures judged { IfOk result (λ stop. IsJudged (with_cost self.now.cost self.now.set.now cycles) (shown_at self.now.graphs.now self.now.nests.now) stop) }
+    {
+        trial.platform = platform_with(self.set, self.cost, cycles);
+        match self.cost {
+            Cost::Switch => stop_of(alloc, trial, self.graphs, self.nests, self.parts),
+            Cost::Miss => {
+                let (graphs, nests) = (self.graphs, self.nests);
+                match with_bounds(alloc, trial, graphs, nests, self.parts, self.hits)? {
+                    Bounded::TooLarge(task) => Ok(Some(Stop::Bound(task))),
+                    Bounded::Parts(parts) => stop_of(alloc, trial, graphs, nests, &parts),
+                }
+            }
+        }
+    }
+
+    /// The greatest accepted cost: a binary search, since acceptance never comes back.
+    pub(crate) fn greatest(&self, alloc: Global) -> Result<Slack, Memory>
+        requires set { IsTaskSet self.now.set.now }
+        requires tasks { AreShown self.now.set.now self.now.graphs.now self.now.nests.now }
+        requires known { AreKnown self.now.cost self.now.set.now (shown_at self.now.graphs.now self.now.nests.now) self.now.parts.now self.now.hits.now }
+        ensures { IfOk result (λ slack. IsSlack (with_cost self.now.cost self.now.set.now) (shown_at self.now.graphs.now self.now.nests.now) slack) }
+    {
+        acceptance_law();
+        graphs_law(self.graphs);
+        let Ok(mut trial) = copy_set(alloc, self.set) else {
+            return Err(Memory);
+        };
+        let Some(mut stop) = self.stop_at(alloc, &mut trial, GREATEST)? else {
+            return Ok(Slack {
+                greatest: Some(GREATEST),
+                stop: Stop::Limit,
+            });
+        };
+        let (mut low, mut high) = (0, GREATEST);
+        while low < high {
+            let middle = (low + high) / 2;
+            match self.stop_at(alloc, &mut trial, middle)? {
+                None => low = middle + 1,
+                Some(found) => {
+                    high = middle;
+                    stop = found;
+                }
+            }
+        }
+        Ok(Slack {
+            greatest: high.checked_sub(1),
+            stop,
+        })
+    }
+}
