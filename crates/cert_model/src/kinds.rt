@@ -6,7 +6,7 @@ ghost use Rattle.serde_json.specs.Find.{as_object};
 ghost use Rattle.serde_json.specs.View.{view, members_view};
 ghost use Rattle.cert_model.specs.Kinds as spec;
 
-use crpd_base::{is_name, LONGEST_TIME, Method, Switching};
+use crpd_base::{LONGEST_TIME, Method, Switching, is_name};
 use serde_json::{Map, Value};
 use std::alloc::{AllocError, Global};
 

@@ -45,11 +45,7 @@ fn task_regions(alloc: Global, input: &Input, graphs: &[Graph], task: Task) -> R
 }
 
 /// The regions of all tasks' loops, in the order of the tasks.
-pub fn all_regions(
-    alloc: Global,
-    input: &Input,
-    graphs: &[Graph],
-) -> Result<Items<Nest>, Halt>
+pub fn all_regions(alloc: Global, input: &Input, graphs: &[Graph]) -> Result<Items<Nest>, Halt>
     requires few { length input.now.set.tasks ≤ 256 }
     requires plans { length input.now.code.plans ≡ length input.now.set.tasks }
     requires graphs { length graphs.now ≡ length input.now.set.tasks }

@@ -34,11 +34,7 @@ fn set_halt(alloc: Global, file: &str, error: SetError) -> Halt
 /// It is refused with 80 or 81 where there is no such file or it is longer, and with 20 to 26 as its text is read; the
 /// subject is the file. A fault comes only where the files counted one. Cost: that of reading
 /// the TOML text.
-pub fn load_task_set<F: Files>(
-    alloc: Global,
-    files: &mut F,
-    name: &str,
-) -> Result<TaskSet, Halt>
+pub fn load_task_set<F: Files>(alloc: Global, files: &mut F, name: &str) -> Result<TaskSet, Halt>
     ensures exact { Told (F.contents files.old) (λ c. Means (set_in c name.now) result) }
     ensures ranges { IfOk result IsTaskSet }
     ensures same { F.contents files.new ≡ F.contents files.old }

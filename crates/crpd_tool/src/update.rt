@@ -106,11 +106,17 @@ pub(crate) fn update<F: Files>(
 {
     let old = load_input(alloc, files, old_set)?;
     let old_shapes = task_shapes(alloc, &old)?;
-    let stated = load_certificate(alloc, files, old_certificate)?;
-    let input = load_input(alloc, files, new_set)?;
-    let shapes = task_shapes(alloc, &input)?;
-    match judge_and_change(alloc, new_set, &old, &old_shapes, &stated, &input, &shapes) {
-        Ok(answer) => Ok(answer),
-        Err(halt) => Err(halt),
-    }
+    let stated = match load_certificate(alloc, files, old_certificate) {
+        Ok(stated) => stated,
+        Err(halt) => return Err(halt),
+    };
+    let input = match load_input(alloc, files, new_set) {
+        Ok(input) => input,
+        Err(halt) => return Err(halt),
+    };
+    let shapes = match task_shapes(alloc, &input) {
+        Ok(shapes) => shapes,
+        Err(halt) => return Err(halt),
+    };
+    judge_and_change(alloc, new_set, &old, &old_shapes, &stated, &input, &shapes)
 }

@@ -49,10 +49,7 @@ impl Core {
         ensures geometry { self.new.geometry ≡ self.old.geometry }
         ensures decoded { self.new.decoded ≡ self.old.decoded }
     {
-        match self.cache.holds(set) {
-            Some(held) if held == block => false,
-            _ => self.cache.access(&self.geometry, block) == Access::Miss,
-        }
+        self.cache.access_at(set, block) == Access::Miss
     }
 
     /// Fetches a job's instruction, after which it goes on so, and gives its cycles.

@@ -17,7 +17,7 @@ use code_map::CodeMap;
 use crpd_base::{Memory, SETS, ScriptJob, Task, TaskPlan};
 use flow_watch::Watch;
 use icache::{Access, Cache, Geometry};
-use rv_core::{DataMemory, Next, Regs, effect, next_pc};
+use rv_core::{DataMemory, Next, Regs, carry_out, next_pc};
 use rv_decode::{Ins, cost};
 use std::alloc::Global;
 use std::marker::Model;
@@ -194,7 +194,7 @@ impl Job {
         ensures err { OnErr result ((self.new ≡ self.old) × (memory.new ≡ memory.old)) }
         ensures only { IsStore ins.now ⊎ IsOk result }
     {
-        effect(ins, self.pc, &mut self.registers, memory)?;
+        carry_out(ins, self.pc, &mut self.registers, memory)?;
         self.watch.step(plan, self.pc, ins, to);
         self.pc = to;
         self.left = 0;

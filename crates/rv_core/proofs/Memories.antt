@@ -1,10 +1,7 @@
 -- The memory as a map: what a write changes, and that the bytes tell the memory.
-use Rattle.std.proofs.Common.{◌≡◌, ℕ, zero, suc, ◌+◌, ◌/◌, ◌%◌, ◌^◌, ◌-◌, ◌<◌, ◌≤◌, ◌==◌, true, false, nat_lt, if◌then◌else◌, List, [], ◌∷◌, arith, refl, sym, ap, ◌∙◌, inl, inr, ◌⊎◌, subst, ltb-true, ltb-false, unwrap_or, Option, Some, None, Result, Ok, Err, OnOk, OnErr}
-use Rattle.std.proofs.lemmas.Bool.{cases_Bool, lt-ltb, le-ltb}
+use Rattle.std.proofs.Common.{◌≡◌, ℕ, zero, suc, ◌+◌, ◌/◌, ◌%◌, ◌^◌, ◌-◌, ◌<◌, ◌≤◌, ◌==◌, true, false, nat_lt, if◌then◌else◌, List, [], ◌∷◌, arith, refl, sym, ap, ◌∙◌, inl, inr, ◌⊎◌, subst, ltb-true, ltb-false, Result, Ok, Err, OnOk, OnErr}
+use Rattle.std.proofs.lemmas.Bool.{cases_Bool}
 use Rattle.rv_core.specs.Memory.{Memory, IsFrom, IsMemory, byte, entry, put_byte, is_within, clear_bytes, next_byte, put_bytes, put_half, put_whole}
-use Rattle.std.specs.BTreeMap.{insert_entry, is_at}
-use Rattle.std.specs.Map.{lookup, remove_entry}
-use Rattle.std.specs.Ordering.{nat_cmp}
 
 same_numbers : (a b : ℕ) → (a == b) ≡ true → a ≡ b
 same_numbers a b h = grind arith
@@ -12,16 +9,16 @@ same_numbers a b h = grind arith
 other_numbers : (a b : ℕ) → (a == b) ≡ false → a ≡ b → ⊥
 other_numbers a b h = grind arith
 
-unequal : (a b : ℕ) → (a ≡ b → ⊥) → (a == b) ≡ false
+pub unequal : (a b : ℕ) → (a ≡ b → ⊥) → (a == b) ≡ false
 unequal a b h = grind arith
 
 not_both : true ≡ false → ⊥
 not_both e = cc
 
-is_equal : (a b : ℕ) → a ≡ b → (a == b) ≡ true
+pub is_equal : (a b : ℕ) → a ≡ b → (a == b) ≡ true
 is_equal a b h = grind arith
 
-equal : (a : ℕ) → (a == a) ≡ true
+pub equal : (a : ℕ) → (a == a) ≡ true
 equal a = grind arith
 
 -- no byte below the first address
@@ -35,7 +32,7 @@ pub from_lower : (low high : ℕ) (memory : Memory) → low ≤ high → IsFrom 
 from_lower low high [] le h = tt
 from_lower low high (e ∷ memory) le h = (record { above = omega (arith, h.0.above); below = h.0.below; some = h.0.some; byte = h.0.byte }, h.1)
 
-byte_entry : (a b c : ℕ) (memory : Memory) → byte memory a ≡ 0 → byte (entry a b memory) c ≡ (if a == c then b else byte memory c)
+pub byte_entry : (a b c : ℕ) (memory : Memory) → byte memory a ≡ 0 → byte (entry a b memory) c ≡ (if a == c then b else byte memory c)
 byte_entry a b c memory h = elim (cases_Bool (b == 0)) [
   | inl e ↦ rw e (zero_case (same_numbers b 0 e))
   | inr e ↦ rw e refl
@@ -70,7 +67,7 @@ byte_put low (e ∷ memory) a b c h = elim (cases_Bool (nat_lt e.0 a)) [
       | inr other ↦ let apart : (e.0 == c) ≡ false = ap (λ n. n == c) q ∙ other in rw (other, apart) refl
     ]
 
-from_entry : (low a b : ℕ) (memory : Memory) → IsFrom (a + 1) memory → low ≤ a → a < 2 ^ 32 → b < 2 ^ 8 → IsFrom low (entry a b memory)
+pub from_entry : (low a b : ℕ) (memory : Memory) → IsFrom (a + 1) memory → low ≤ a → a < 2 ^ 32 → b < 2 ^ 8 → IsFrom low (entry a b memory)
 from_entry low a b memory h le below small = elim (cases_Bool (b == 0)) [
   | inl e ↦ rw e (from_lower low (a + 1) memory (omega (arith, le)) h)
   | inr e ↦ rw e (record { above = le; below = below; some = omega (arith, other_numbers b 0 e); byte = small }, h)
@@ -90,7 +87,7 @@ put_from low (e ∷ memory) a b h le below small = elim (cases_Bool (nat_lt e.0 
 byte_first : (e : ℕ × ℕ) (memory : Memory) → byte (e ∷ memory) e.0 ≡ e.1
 byte_first e memory = rw (equal e.0) refl
 
-order_cases : (a b : ℕ) → (a < b) ⊎ ((b < a) ⊎ (a ≡ b))
+pub order_cases : (a b : ℕ) → (a < b) ⊎ ((b < a) ⊎ (a ≡ b))
 order_cases a b = elim (cases_Bool (nat_lt a b)) [
   | inl e ↦ inl (ltb-true a b e)
   | inr e ↦ elim (cases_Bool (nat_lt b a)) [
@@ -190,44 +187,6 @@ put_four memory a value =
     let b : ℕ = next_byte (next_byte a) in
     ap (λ x. put_byte (put_byte m b x) (next_byte b) (value / 2 ^ 8 / 2 ^ 8 / 2 ^ 8 % 2 ^ 8)) third ∙ ap (λ x. put_byte (put_byte m b (value / 2 ^ 16 % 2 ^ 8)) (next_byte b) x) fourth
 
--- the tree map's insertion and removal are writes
-pub put_some : (memory : Memory) (a b : ℕ) → 1 ≤ b → put_byte memory a b ≡ insert_entry nat_cmp memory a b
-put_some [] a b some = let z : (b == 0) ≡ false = unequal b 0 (λ q. absurd (omega (arith, q))) in rw z refl
-put_some (e ∷ memory) a b some =
-    let z : (b == 0) ≡ false = unequal b 0 (λ q. absurd (omega (arith, q))) in
-    elim (order_cases e.0 a) [
-      | inl lt ↦ rw (lt-ltb e.0 a lt, le-ltb a e.0 (omega (arith, lt)), unequal a e.0 (λ q. absurd (omega (arith, lt, q)))) (ap (λ (m : Memory). e ∷ m) (put_some memory a b some))
-      | inr rest ↦ elim rest [
-        | inl gt ↦ rw (le-ltb e.0 a (omega (arith, gt)), unequal e.0 a (λ q. absurd (omega (arith, gt, q))), lt-ltb a e.0 gt, z) refl
-        | inr q ↦ rw (le-ltb e.0 a (omega (arith, q)), is_equal e.0 a q, le-ltb a e.0 (omega (arith, q)), is_equal a e.0 (sym q), z) (ap (λ (n : ℕ). (n, b) ∷ memory) (sym q))
-      ]
-    ]
-
-nothing_removed : (low : ℕ) (memory : Memory) (a : ℕ) → IsFrom low memory → a < low → remove_entry (is_at (nat_cmp a)) memory ≡ memory
-nothing_removed low [] a h lt = refl
-nothing_removed low (e ∷ memory) a h lt = let less : a < e.0 = omega (arith, h.0.above) in rw (lt-ltb a e.0 less) (ap (λ (m : Memory). e ∷ m) (nothing_removed (e.0 + 1) memory a h.1 (omega (arith, less))))
-
-pub put_zero : (low : ℕ) (memory : Memory) (a : ℕ) → IsFrom low memory → put_byte memory a 0 ≡ remove_entry (is_at (nat_cmp a)) memory
-put_zero low [] a h = refl
-put_zero low (e ∷ memory) a h = elim (order_cases e.0 a) [
-  | inl lt ↦ rw (lt-ltb e.0 a lt, le-ltb a e.0 (omega (arith, lt)), unequal a e.0 (λ q. absurd (omega (arith, lt, q)))) (ap (λ (m : Memory). e ∷ m) (put_zero (e.0 + 1) memory a h.1))
-  | inr rest ↦ elim rest [
-    | inl gt ↦ rw (le-ltb e.0 a (omega (arith, gt)), unequal e.0 a (λ q. absurd (omega (arith, gt, q))), lt-ltb a e.0 gt) (ap (λ (m : Memory). e ∷ m) (sym (nothing_removed (e.0 + 1) memory a h.1 (omega (arith, gt)))))
-    | inr q ↦ rw (le-ltb e.0 a (omega (arith, q)), is_equal e.0 a q, le-ltb a e.0 (omega (arith, q)), is_equal a e.0 (sym q)) refl
-  ]
-]
-
--- what a look-up finds is the byte
-pub byte_lookup : (memory : Memory) (a : ℕ) → byte memory a ≡ unwrap_or (lookup (is_at (nat_cmp a)) memory) 0
-byte_lookup [] a = refl
-byte_lookup (e ∷ memory) a = elim (order_cases e.0 a) [
-  | inl lt ↦ rw (unequal e.0 a (λ q. absurd (omega (arith, lt, q))), le-ltb a e.0 (omega (arith, lt)), unequal a e.0 (λ q. absurd (omega (arith, lt, q)))) (byte_lookup memory a)
-  | inr rest ↦ elim rest [
-    | inl gt ↦ rw (unequal e.0 a (λ q. absurd (omega (arith, gt, q))), lt-ltb a e.0 gt) (byte_lookup memory a)
-    | inr q ↦ rw (is_equal e.0 a q, le-ltb a e.0 (omega (arith, q)), is_equal a e.0 (sym q)) refl
-  ]
-]
-
 pub byte_after_clear : (memory : Memory) (a length c : ℕ) → byte (clear_bytes memory a length) c ≡ (if is_within a length c then 0 else byte memory c)
 byte_after_clear [] a length c = elim (cases_Bool (is_within a length c)) [ inl e ↦ rw e refl | inr e ↦ rw e refl ]
 byte_after_clear (e ∷ memory) a length c = elim (cases_Bool (is_within a length e.0)) [
@@ -256,16 +215,6 @@ clear_from low (e ∷ memory) a length h = elim (cases_Bool (is_within a length 
   | inl gone ↦ rw gone (from_lower low (e.0 + 1) _ (omega (arith, h.0.above)) (clear_from (e.0 + 1) memory a length h.1))
   | inr stays ↦ rw stays (h.0, clear_from (e.0 + 1) memory a length h.1)
 ]
-
-pub byte_found : (memory : Memory) (a v : ℕ) → Some v ≡ lookup (is_at (nat_cmp a)) memory → v ≡ byte memory a
-byte_found memory a v e = ap (λ o. unwrap_or o 0) e ∙ sym (byte_lookup memory a)
-
-pub byte_missing : (memory : Memory) (a : ℕ) → None ≡ lookup (is_at (nat_cmp a)) memory → 0 ≡ byte memory a
-byte_missing memory a e = ap (λ o. unwrap_or o 0) e ∙ sym (byte_lookup memory a)
-
-pub inserted : {E : Type 0} (r : Result (Option ℕ) E) (memory after : Memory) (a b : ℕ) → IsMemory memory → a < 2 ^ 32 → b < 2 ^ 8 → 1 ≤ b → OnOk r (after ≡ insert_entry nat_cmp memory a b) → OnErr r (after ≡ memory) → IsMemory after
-inserted (Ok old) memory after a b h ha hb some ok err = subst IsMemory (put_some memory a b some ∙ sym ok) (put_from 0 memory a b h (omega arith) ha hb)
-inserted (Err e) memory after a b h ha hb some ok err = subst IsMemory (sym err) h
 
 pub on_ok : {A E P Q : Type 0} (r : Result A E) → (P → Q) → OnOk r P → OnOk r Q
 on_ok (Ok x) f p = f p

@@ -109,6 +109,23 @@ fn store(ins: &Ins, regs: &Regs, memory: &mut DataMemory) -> Result<(), Memory>
     }
 }
 
+/// Carries out an instruction at `pc`, whose fields are in range: what it does to registers and memory, for a caller that
+/// has computed where the job goes.
+///
+/// Registers and memory change as by `effect`. Only a store may want memory; then nothing has changed.
+pub fn carry_out(ins: &Ins, pc: u32, regs: &mut Regs, memory: &mut DataMemory) -> Result<(), Memory>
+    requires { IsInRange ins.now }
+    ensures registers { OnOk result (regs.new ≡ registers_after ins.now pc regs.old memory.old) }
+    ensures memory { OnOk result (memory.new ≡ stored ins.now regs.old memory.old) }
+    ensures err { OnErr result ((regs.new ≡ regs.old) × (memory.new ≡ memory.old)) }
+    ensures only { IsStore ins.now ⊎ IsOk result }
+{
+    let (register, value) = written(ins, pc, regs, memory);
+    store(ins, regs, memory)?;
+    regs.put(register, value);
+    Ok(())
+}
+
 /// Carries out an instruction at `pc`, whose fields are in range, and says where the job goes.
 ///
 /// Registers and memory change by the effect column of the instruction table (RISC-V unprivileged manual, RV32I and
@@ -123,8 +140,6 @@ pub fn effect(ins: &Ins, pc: u32, regs: &mut Regs, memory: &mut DataMemory) -> R
     ensures only { IsStore ins.now ⊎ IsOk result }
 {
     let next = next_pc(ins, pc, regs);
-    let (register, value) = written(ins, pc, regs, memory);
-    store(ins, regs, memory)?;
-    regs.put(register, value);
+    carry_out(ins, pc, regs, memory)?;
     Ok(next)
 }

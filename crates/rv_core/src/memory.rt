@@ -1,34 +1,52 @@
 // The data memory.
-ghost use Rattle.std.specs.Prelude.{◌≡◌, ℕ, ◌+◌, ◌<◌, ◌≤◌, ◌^◌, List, [], OnOk, OnErr};
-ghost use Rattle.rv_core.specs.Memory.{IsMemory, ByteAfterPut, PutKeepsMemory, BytesTellMemory, ByteAfterClear, byte as byte_at, put_byte, put_bytes, clear_bytes, half, is_within, whole};
+ghost use Rattle.std.specs.Prelude.{◌≡◌, ℕ, ◌+◌, ◌*◌, ◌<◌, ◌≤◌, ◌^◌, ◌-◌, ◌%◌, List, [], OnOk, OnErr};
+ghost use Rattle.rv_core.specs.Memory.{IsMemory, ByteAfterPut, PutKeepsMemory, BytesTellMemory, ByteAfterClear, byte as byte_at, put_byte, put_bytes, clear_bytes, half, whole};
+ghost use Rattle.rv_core.specs.Pages.{word_in, written};
 
 use crpd_base::Memory;
 use std::alloc::Global;
 use std::collections::BTreeMap;
 use std::marker::Model;
 
-/// 2^32 bytes, of which those that are not 0 are stored.
+/// 2^32 bytes, of which those that are not 0 are stored, in pages of 64.
+///
+/// Contracts see the bytes that are not 0, in the order of their addresses.
 #[derive(Drop)]
 pub struct DataMemory {
-    bytes: BTreeMap<u32, u8>,
+    pages: BTreeMap<u32, [u8; 64]>,
 }
 
 impl Model for DataMemory {
     ghost use Rattle.std.specs.Prelude.{ℕ, List};
-    ghost use Rattle.rv_core.specs.Memory.{Memory, IsMemory};
+    ghost use Rattle.rv_core.specs.Memory.{Memory};
+    ghost use Rattle.rv_core.specs.Pages.{memory_of, ArePages};
 
     ghost Value = { Memory };
 
-    ghost view = { λ m. m.bytes.entries };
+    ghost view = { λ m. memory_of m.pages.entries };
 
-    ghost invariant = { λ m. IsMemory m.bytes.entries };
+    ghost invariant = { λ m. ArePages 0 m.pages.entries };
 }
 
-fn is_within(address: u32, length: u64, at: u32) -> bool
-    requires { address + length ≤ 2 ^ 32 }
-    ensures { result ≡ is_within address length at }
+/// The little-endian number in the four bytes of a page from a place on.
+fn word_of(page: &[u8; 64], at: usize) -> u32
+    requires { at + 4 ≤ 64 }
+    ensures { result ≡ word_in page.now at }
 {
-    address <= at && (at as u64) < address as u64 + length
+    let low = page[at] as u32 + 256 * page[at + 1] as u32;
+    let high = page[at + 2] as u32 + 256 * page[at + 3] as u32;
+    low + 65_536 * high
+}
+
+/// Writes the low `count` bytes of a value to a page, from a place on.
+fn write(page: &mut [u8; 64], at: usize, value: u32, count: u32)
+    requires { at + count ≤ 64 }
+    ensures { page.new ≡ written count page.old at value }
+{
+    if count > 0 {
+        page[at] = (value % 256) as u8;
+        write(page, at + 1, value / 256, count - 1);
+    }
 }
 
 impl DataMemory {
@@ -37,49 +55,108 @@ impl DataMemory {
         ensures { result ≡ [] }
     {
         DataMemory {
-            bytes: BTreeMap::new(alloc),
+            pages: BTreeMap::new(alloc),
         }
     }
 
-    /// The byte at an address, in time logarithmic in the stored bytes.
+    /// The byte at an address, in time logarithmic in the stored pages.
     pub fn byte(&self, address: u32) -> u8
         ensures value { result ≡ byte_at self.now address }
         ensures memory { IsMemory self.now }
     {
-        match self.bytes.get(&address) {
-            Some(byte) => *byte,
+        match self.pages.get(&(address / 64)) {
+            Some(page) => page[address as usize % 64],
             None => 0,
         }
     }
 
-    /// Changes one byte, in time logarithmic in the stored bytes. After an error all is as before. Memory is wanted
+    /// Changes one byte, in time logarithmic in the stored pages. After an error all is as before. Memory is wanted
     /// only where a byte that was 0 becomes another.
     pub fn put(&mut self, address: u32, byte: u8) -> Result<(), Memory>
         ensures ok { OnOk result (self.new ≡ put_byte self.old address byte) }
         ensures err { OnErr result (self.new ≡ self.old) }
         ensures stored { OnErr result ((byte_at self.old address ≡ 0) × (1 ≤ byte)) }
     {
-        if byte == 0 {
-            let _ = self.bytes.remove(&address);
+        self.store_within(address, byte as u32, 1)
+    }
+
+    /// Stores the low `count` bytes of a value from an address on, all of them in one page. After an error all is as
+    /// before. Memory is wanted only for a page that is not stored yet.
+    fn store_within(&mut self, address: u32, value: u32, count: u32) -> Result<(), Memory>
+        requires { address % 64 + count ≤ 64 }
+        ensures ok { OnOk result (self.new ≡ put_bytes count self.old address value) }
+        ensures err { OnErr result (self.new ≡ self.old) }
+        ensures stored { OnErr result ((byte_at self.old address ≡ 0) × (1 ≤ value)) }
+    {
+        let at = address as usize % 64;
+        if let Some(page) = self.pages.get_mut(&(address / 64)) {
+            write(page, at, value, count);
             return Ok(());
         }
-        match self.bytes.insert(address, byte) {
+        if value == 0 {
+            return Ok(());
+        }
+        let mut page = [0; 64];
+        write(&mut page, at, value, count);
+        match self.pages.insert(address / 64, page) {
             Ok(_) => Ok(()),
             Err(_) => Err(Memory),
         }
     }
 
-    /// Makes `length` bytes from an address on 0, in the time of a walk over the stored bytes. It takes no memory.
+    /// Makes `count` bytes from an address on 0, all of them in one page.
+    fn zero(&mut self, address: u32, count: u32)
+        requires { address % 64 + count ≤ 64 }
+        ensures { self.new ≡ clear_bytes self.old address count }
+    {
+        if let Some(page) = self.pages.get_mut(&(address / 64)) {
+            write(page, address as usize % 64, 0, count);
+        }
+    }
+
+    /// Makes the bytes of the pages from a number up to another 0.
+    fn clear_pages(&mut self, first: u64, last: u64)
+        requires { first ≤ last }
+        ensures { self.new ≡ clear_bytes self.old (64 * first) (64 * last - 64 * first) }
+    {
+        self.pages.retain(|number, _| (*number as u64) < first || last <= *number as u64);
+    }
+
+    /// Makes `length` bytes from an address on 0, in the time of a walk over the stored pages. It takes no memory.
     pub fn clear(&mut self, address: u32, length: u64)
         requires { address + length ≤ 2 ^ 32 }
         ensures { self.new ≡ clear_bytes self.old address length }
     {
-        self.bytes.retain(|at, _| !is_within(address, length, *at));
+        let end = address as u64 + length;
+        let first = (address as u64 + 63) / 64;
+        let last = end / 64;
+        if last < first {
+            self.zero(address, length as u32);
+            return;
+        }
+        self.clear_pages(first, last);
+        self.zero(address, (64 * first - address as u64) as u32);
+        if end > 64 * last {
+            self.zero((64 * last) as u32, (end - 64 * last) as u32);
+        }
     }
 
-    /// Stores the low `count` bytes of a value from an address on, which wraps at 2^32. After an error all is as
-    /// before: a byte that becomes 0 is put after the others, since it takes no memory.
+    /// Stores the low `count` bytes of a value from an address on, which wraps at 2^32. After an error all is as before.
     pub(crate) fn store(&mut self, address: u32, value: u32, count: u32) -> Result<(), Memory>
+        requires { count ≤ 4 }
+        ensures ok { OnOk result (self.new ≡ put_bytes count self.old address value) }
+        ensures err { OnErr result (self.new ≡ self.old) }
+    {
+        if address % 64 + count <= 64 {
+            self.store_within(address, value, count)
+        } else {
+            self.store_across(address, value, count)
+        }
+    }
+
+    /// The same, where the bytes may be in two pages: a byte that becomes 0 is put after the others, since it takes no
+    /// memory.
+    fn store_across(&mut self, address: u32, value: u32, count: u32) -> Result<(), Memory>
         requires { count ≤ 4 }
         ensures ok { OnOk result (self.new ≡ put_bytes count self.old address value) }
         ensures err { OnErr result (self.new ≡ self.old) }
@@ -91,11 +168,11 @@ impl DataMemory {
         let next = address.wrapping_add(1);
         let before = self.byte(address);
         if low == 0 {
-            self.store(next, value / 256, count - 1)?;
+            self.store_across(next, value / 256, count - 1)?;
             return self.put(address, 0);
         }
         self.put(address, low)?;
-        match self.store(next, value / 256, count - 1) {
+        match self.store_across(next, value / 256, count - 1) {
             Ok(()) => Ok(()),
             Err(Memory) => {
                 let _ = self.put(address, before);
@@ -118,7 +195,13 @@ impl DataMemory {
     pub(crate) fn whole(&self, address: u32) -> u32
         ensures { result ≡ whole self.now address }
     {
-        self.half(address) + 65_536 * self.half(address.wrapping_add(2))
+        if address % 64 > 60 {
+            return self.half(address) + 65_536 * self.half(address.wrapping_add(2));
+        }
+        match self.pages.get(&(address / 64)) {
+            Some(page) => word_of(page, address as usize % 64),
+            None => 0,
+        }
     }
 }
 

@@ -4,7 +4,7 @@ ghost use Rattle.toml.specs.View.{view};
 ghost use Rattle.toml_keys.specs.Reading.{listed};
 ghost use Rattle.set_reader.specs.Kinds as spec;
 
-use crpd_base::{is_file, is_name, Place, Switching, Text};
+use crpd_base::{Place, Switching, Text, is_file, is_name};
 use std::alloc::{AllocError, Global};
 use toml::Value;
 use toml_keys::whole;

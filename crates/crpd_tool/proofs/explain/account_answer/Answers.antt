@@ -1,5 +1,4 @@
-use Rattle.std.proofs.Common.{◌≡◌, ◌++◌, ◌∙◌, ℕ, ap, refl, subst, sym, Ok}
-use Rattle.crpd_report.specs.Explain.{delay_lines, reload_lines}
+use Rattle.std.proofs.Common.{◌∙◌, ℕ, ap, refl, subst, sym, Ok}
 use Rattle.crpd_report.specs.Simulate.{is_legal, run_line}
 use Rattle.crpd_report.proofs.Legality.{legal_decides}
 use Rattle.cert_check.specs.Shown.{nest_at}

@@ -1,4 +1,4 @@
-use Rattle.std.proofs.Common.{◌≡◌, ◌∙◌, List, ℕ, Result, Ok}
+use Rattle.std.proofs.Common.{Err, ◌≡◌, ◌∙◌, List, ℕ, Result, Ok}
 use Rattle.crpd_base.specs.declared.data.Certificate.{Certificate}
 use Rattle.crpd_io.specs.Outside.{Contents}
 use Rattle.crpd_input.specs.declared.halt.Halt.{Halt}
@@ -8,7 +8,7 @@ use Rattle.crpd_input.specs.declared.shapes.Shapes.{Shapes}
 use Rattle.crpd_input.specs.Reading.{certificate_in, input_in}
 use Rattle.crpd_input.specs.Shapes.{ShapesIn}
 use Rattle.crpd_input.specs.Steps.{Exactly, MeansBy, Then}
-use Rattle.crpd_input.proofs.Chain.{goes_on}
+use Rattle.crpd_input.proofs.Chain.{by_exactly, goes_on, stopped}
 use Rattle.crpd_tool.specs.declared.answer.Answer.{Answer}
 use Rattle.crpd_tool.specs.Update.{UpdateEnds, UpdateOf}
 use Rattle.crpd_tool.proofs.update.update.Goals as goal
@@ -41,10 +41,32 @@ module _ (contents : Contents) (old_set old_certificate new_set : List ℕ) wher
   behind_input old x c input result is shaped stated renewed later =
       behind_stated old x c result is shaped stated (goes_on (Exactly (input_in contents new_set)) (Compared old x c) input result renewed later)
 
-pub returns-in-Ok-clause-exact : goal.returns-in-Ok-clause-exact
-returns-in-Ok-clause-exact g c = λ contents told.
+pub returns-in-Err-clause-exact : goal.returns-in-Err-clause-exact
+returns-in-Err-clause-exact g c = λ contents told.
+    behind_old contents c.args.old_set.now c.args.old_certificate.now c.args.new_set.now c.in_ok-old.old c.in_ok-old_shapes.old_shapes (Err c.in-Err.halt)
+    (c.in_ok-old.ensures.exact contents told) c.in_ok-old_shapes.ensures.exact
+    (stopped (Exactly (certificate_in contents c.args.old_certificate.now)) (Renewed contents c.args.old_set.now c.args.old_certificate.now c.args.new_set.now c.in_ok-old.old c.in_ok-old_shapes.old_shapes) c.in-Err.halt
+    (by_exactly (certificate_in contents c.args.old_certificate.now) (Err c.in-Err.halt) (c.in-Err.ensures.exact contents (c.in_ok-old.ensures.same ∙ told))))
+
+pub returns-in-Err-load_input-clause-exact : goal.returns-in-Err-load_input-clause-exact
+returns-in-Err-load_input-clause-exact g c = λ contents told.
     let then_told = c.in_ok-old.ensures.same ∙ told in
-    behind_input contents c.args.old_set.now c.args.old_certificate.now c.args.new_set.now c.in_ok-old.old c.in_ok-old_shapes.old_shapes c.in_ok-stated.stated c.in_ok-input.input (Ok c.in-Ok.answer)
-    (c.in_ok-old.ensures.exact contents told) c.in_ok-old_shapes.ensures.exact (c.in_ok-stated.ensures.exact contents then_told) (c.in_ok-input.ensures.exact contents (c.in_ok-stated.ensures.same ∙ then_told))
-    (goes_on (ShapesIn c.in_ok-input.input) (UpdateOf c.args.new_set.now c.in_ok-old.old c.in_ok-old_shapes.old_shapes c.in_ok-stated.stated c.in_ok-input.input) c.in_ok-shapes.shapes (Ok c.in-Ok.answer)
-    c.in_ok-shapes.ensures.exact c.in-Ok.ensures.exact)
+    behind_stated contents c.args.old_set.now c.args.old_certificate.now c.args.new_set.now c.in_ok-old.old c.in_ok-old_shapes.old_shapes c.in-Ok.stated (Err c.in-Err-load_input.halt)
+    (c.in_ok-old.ensures.exact contents told) c.in_ok-old_shapes.ensures.exact (c.in-Ok.ensures.exact contents then_told)
+    (stopped (Exactly (input_in contents c.args.new_set.now)) (Compared contents c.args.old_set.now c.args.old_certificate.now c.args.new_set.now c.in_ok-old.old c.in_ok-old_shapes.old_shapes c.in-Ok.stated) c.in-Err-load_input.halt
+    (by_exactly (input_in contents c.args.new_set.now) (Err c.in-Err-load_input.halt) (c.in-Err-load_input.ensures.exact contents (c.in-Ok.ensures.same ∙ then_told))))
+
+pub returns-in-Err-task_shapes-clause-exact : goal.returns-in-Err-task_shapes-clause-exact
+returns-in-Err-task_shapes-clause-exact g c = λ contents told.
+    let then_told = c.in_ok-old.ensures.same ∙ told in
+    behind_input contents c.args.old_set.now c.args.old_certificate.now c.args.new_set.now c.in_ok-old.old c.in_ok-old_shapes.old_shapes c.in-Ok.stated c.in-Ok-load_input.input (Err c.in-Err-task_shapes.halt)
+    (c.in_ok-old.ensures.exact contents told) c.in_ok-old_shapes.ensures.exact (c.in-Ok.ensures.exact contents then_told) (c.in-Ok-load_input.ensures.exact contents (c.in-Ok.ensures.same ∙ then_told))
+    (stopped (ShapesIn c.in-Ok-load_input.input) (UpdateOf c.args.new_set.now c.in_ok-old.old c.in_ok-old_shapes.old_shapes c.in-Ok.stated c.in-Ok-load_input.input) c.in-Err-task_shapes.halt c.in-Err-task_shapes.ensures.exact)
+
+pub returns-clause-exact : goal.returns-clause-exact
+returns-clause-exact g c = λ contents told.
+    let then_told = c.in_ok-old.ensures.same ∙ told in
+    behind_input contents c.args.old_set.now c.args.old_certificate.now c.args.new_set.now c.in_ok-old.old c.in_ok-old_shapes.old_shapes c.in-Ok.stated c.in-Ok-load_input.input c.judge_and_change.result
+    (c.in_ok-old.ensures.exact contents told) c.in_ok-old_shapes.ensures.exact (c.in-Ok.ensures.exact contents then_told) (c.in-Ok-load_input.ensures.exact contents (c.in-Ok.ensures.same ∙ then_told))
+    (goes_on (ShapesIn c.in-Ok-load_input.input) (UpdateOf c.args.new_set.now c.in_ok-old.old c.in_ok-old_shapes.old_shapes c.in-Ok.stated c.in-Ok-load_input.input) c.in-Ok-task_shapes.shapes c.judge_and_change.result
+    c.in-Ok-task_shapes.ensures.exact c.judge_and_change.ensures.exact)

@@ -1,4 +1,4 @@
-use Rattle.std.proofs.Common.{◌≡◌, ℕ, ◌<◌, length}
+use Rattle.std.proofs.Common.{ℕ, ◌<◌, length}
 use Rattle.preempt_machine.specs.Kept.{line_at}
 use Rattle.preempt_machine.proofs.tests.are_named.Given as goal
 

@@ -1,0 +1,52 @@
+-- How the data memory is kept: pages of 64 bytes, each with its number.
+use Rattle.std.specs.Prelude.{ℕ, zero, suc, ◌≡◌, ◌+◌, ◌*◌, ◌/◌, ◌%◌, ◌^◌, ◌<◌, ◌≤◌, List, [], ◌∷◌, length, slice_index, slice_set, unwrap_or}
+use Rattle.std.specs.BTreeMap.{is_at}
+use Rattle.std.specs.Map.{lookup}
+use Rattle.std.specs.Ordering.{nat_cmp}
+use Rattle.rv_core.specs.Memory.{Memory, entry}
+
+abbrev pub Pages : Type 0
+Pages = List (ℕ × List ℕ)
+
+-- bytes from an address on, in front of a memory
+abbrev pub bytes_before : ℕ → List ℕ → Memory → Memory
+bytes_before a [] memory = memory
+bytes_before a (b ∷ bytes) memory = entry a b (bytes_before (a + 1) bytes memory)
+
+-- the bytes of pages that are not 0
+abbrev pub memory_of : Pages → Memory
+memory_of [] = []
+memory_of (p ∷ pages) = bytes_before (64 * p.0) p.1 (memory_of pages)
+
+-- 64 bytes
+pub record IsPage (page : List ℕ) : Type 0 where
+  pub long : length page ≡ 64
+  pub small : (i : ℕ) → slice_index page i < 2 ^ 8
+
+-- a page with a number from low on, below 2^26
+pub record IsNumbered (low : ℕ) (p : ℕ × List ℕ) : Type 0 where
+  pub above : low ≤ p.0
+  pub below : p.0 < 2 ^ 26
+  pub page : IsPage p.1
+
+-- pages whose numbers rise, from low on
+abbrev pub ArePages : ℕ → Pages → Type 0
+ArePages low [] = Unit {0}
+ArePages low (p ∷ pages) = IsNumbered low p × ArePages (p.0 + 1) pages
+
+-- the page of a number, none where all its bytes are 0
+abbrev pub page_at : Pages → ℕ → List ℕ
+page_at pages k = unwrap_or (lookup (is_at (nat_cmp k)) pages) []
+
+-- the byte of an address in the page of its number
+abbrev pub byte_in : List ℕ → ℕ → ℕ
+byte_in page c = slice_index page (c % 64)
+
+-- a page with the low n bytes of a value from a place on
+abbrev pub written : ℕ → List ℕ → ℕ → ℕ → List ℕ
+written zero page at value = page
+written (suc n) page at value = written n (slice_set page at (value % 2 ^ 8)) (at + 1) (value / 2 ^ 8)
+
+-- the little-endian number in four bytes of a page
+abbrev pub word_in : List ℕ → ℕ → ℕ
+word_in page at = slice_index page at + 2 ^ 8 * slice_index page (at + 1) + 2 ^ 16 * (slice_index page (at + 2) + 2 ^ 8 * slice_index page (at + 3))
