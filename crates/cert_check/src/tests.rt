@@ -12,7 +12,7 @@ use crate::{Verdict, verdict};
 use code_map::CodeMap;
 use crpd_base::{
     Certificate, Image, Items, LoopAt, LoopSpec, Method, NodeState, Part, Place, Platform, Segment,
-    SetBits, Switching, Task, TaskPart, TaskPlan, TaskSet, TaskSpec, Text, WORDS,
+    SetBits, Switching, Task, TaskPart, TaskPlan, TaskSet, TaskSpec, Text, WORDS, is_file, is_name,
 };
 use flat_graph::{Graph, build};
 use loop_regions::{Nest, regions};
@@ -128,6 +128,9 @@ fn is_task(task: &TaskSpec) -> bool
         return false;
     }
     if task.period != 100 || task.jitter != 0 {
+        return false;
+    }
+    if !is_name(task.name.as_str()) || !is_file(task.file.as_str()) {
         return false;
     }
     1 <= task.deadline && task.deadline <= 100
