@@ -1,0 +1,235 @@
+// Each call of the files and of the sink failing in turn, over three tasks that preempt each other.
+use crpd_io::{MemFiles, MemSink};
+use crpd_tool::{Status, run};
+use std::alloc::{AllocError, Global};
+use std::process::Abort;
+use std::test::Fail;
+
+const SET: &str =
+    "[platform]\nline = 16\nsets = 8\nhit = 1\nmiss = 10\ndata = 3\ntaken = 2\nswitch = 5\n\n[[task]]\nname = \"a\"\nfile = \"a.elf\"\nperiod = 10000\ndeadline = 10000\njitter = 0\n\n[[task]]\nname = \"b\"\nfile = \"b.elf\"\nperiod = 10000\ndeadline = 10000\njitter = 0\n\n[[task]]\nname = \"c\"\nfile = \"c.elf\"\nperiod = 10000\ndeadline = 10000\njitter = 0\n";
+
+const SCRIPT: &str =
+    "cycles = 1000\n\n[[job]]\ntask = \"c\"\narrival = 0\nrelease = 0\n\n[[job]]\ntask = \"b\"\narrival = 31\nrelease = 31\n\n[[job]]\ntask = \"a\"\narrival = 62\nrelease = 62\n";
+
+const CERTIFICATE: &str =
+    "{\"platform\":{\"data\":3,\"div\":0,\"hit\":1,\"line\":16,\"miss\":10,\"mul\":0,\"sets\":8,\"switch\":5,\"switching\":\"cycle\",\"taken\":2},\"tasks\":[{\"bound\":50,\"evicting\":[1,2,3,4],\"loops\":[],\"method\":\"ucb\",\"name\":\"a\",\"potentials\":[50,37,24,11],\"response\":55,\"states\":[[0,[],[]]],\"useful\":[],\"window\":55},{\"bound\":30,\"evicting\":[1,2],\"loops\":[],\"method\":\"ucb\",\"name\":\"b\",\"potentials\":[30,4,17,1],\"response\":115,\"states\":[[0,[],[]]],\"useful\":[1,2],\"window\":115},{\"bound\":30,\"evicting\":[3,4],\"loops\":[],\"method\":\"ucb\",\"name\":\"c\",\"potentials\":[30,4,17,1],\"response\":175,\"states\":[[0,[],[]]],\"useful\":[3,4],\"window\":175}],\"version\":2}\n";
+
+// Jumps through four blocks, and through two there and back.
+const FOUR: [u32; 13] = [
+    0x0100_006F,
+    0,
+    0,
+    0,
+    0x0100_006F,
+    0,
+    0,
+    0,
+    0x0100_006F,
+    0,
+    0,
+    0,
+    0x0000_0073,
+];
+
+const TWO: [u32; 6] = [0x0100_006F, 0x0100_006F, 0, 0, 0xFF5F_F06F, 0x0000_0073];
+
+// The file of words from an address on, which are so many bytes.
+fn file_of(alloc: Global, start: u32, words: &[u32], size: u32) -> Result<Vec<u8>, AllocError> {
+    let headers = [
+        0x464C_457F,
+        0x0001_0101,
+        0,
+        0,
+        0x00F3_0002,
+        1,
+        start,
+        52,
+        0,
+        0,
+        0x0020_0034,
+        1,
+        0,
+        1,
+        84,
+        start,
+        start,
+        size,
+        size,
+        5,
+        4,
+    ];
+    let mut bytes = Vec::new(alloc);
+    for list in [headers.as_slice(), words] {
+        for word in list {
+            bytes.extend_from_slice(&word.to_le_bytes())?;
+        }
+    }
+    Ok(bytes)
+}
+
+fn files_of(alloc: Global) -> Result<Vec<(String, Vec<u8>)>, AllocError> {
+    let mut files = Vec::new(alloc);
+    for (name, bytes) in [
+        ("set.toml", SET.as_bytes().to_vec(alloc)?),
+        ("a.elf", file_of(alloc, 0x3010, &FOUR, 52)?),
+        ("b.elf", file_of(alloc, 0x2010, &TWO, 24)?),
+        ("c.elf", file_of(alloc, 0x1030, &TWO, 24)?),
+        ("cert.json", CERTIFICATE.as_bytes().to_vec(alloc)?),
+        ("script.toml", SCRIPT.as_bytes().to_vec(alloc)?),
+    ] {
+        files.push((String::from_str(alloc, name)?, bytes))?;
+    }
+    Ok(files)
+}
+
+// Words, the sizes of the files in the order in which they are read, and the text.
+#[derive(Clone, Copy)]
+struct Case {
+    words: &'static [&'static str],
+    sizes: &'static [u64],
+    text: &'static str,
+}
+
+const CHECK: Case = Case {
+    words: &["check", "set.toml", "cert.json"],
+    sizes: &[315, 136, 108, 108, 609],
+    text: "yes\na bound 50 window 55 response 55 method ucb\nb bound 30 window 115 response 115 method ucb\nc bound 30 window 175 response 175 method ucb\n",
+};
+
+const ANALYZE: Case = Case {
+    words: &["analyze", "set.toml"],
+    sizes: &[315, 136, 108, 108],
+    text: CERTIFICATE,
+};
+
+const SIMULATE: Case = Case {
+    words: &["simulate", "set.toml", "script.toml"],
+    sizes: &[315, 136, 108, 108, 150],
+    text: "job c 0 arrival 0 release 0 answer 175\njob b 0 arrival 31 release 31 answer 146\njob a 0 arrival 62 release 62 answer 117\nrun legal kept\n",
+};
+
+const EXPLAIN: Case = Case {
+    words: &["explain", "set.toml", "cert.json", "script.toml"],
+    sizes: &[315, 136, 108, 108, 609, 150],
+    text: "reload b 0 set 1 cycle 122 evictor a 0 preemptor a 0\nreload b 0 set 2 cycle 135 evictor a 0 preemptor a 0\nreload c 0 set 3 cycle 151 evictor a 0 preemptor b 0\nreload c 0 set 4 cycle 164 evictor a 0 preemptor b 0\ndelay a 0\ndelay b 20\ndelay c 40\nrun legal kept\n",
+};
+
+const UPDATE: Case = Case {
+    words: &["update", "set.toml", "cert.json", "set.toml"],
+    sizes: &[315, 136, 108, 108, 609, 315, 136, 108, 108],
+    text: CERTIFICATE,
+};
+
+const NEVER: u64 = u64::MAX;
+
+// What a case ends with, with at most so many bytes in a call; these calls of the files and of the sink fail.
+fn ends(
+    rt: &impl Abort,
+    alloc: Global,
+    case: &Case,
+    most: usize,
+    failing: (u64, u64),
+    ended: (Status, &[u8]),
+) -> Result<(), Fail> {
+    let mut words = Vec::new(alloc);
+    for word in case.words {
+        words.push(String::from_str(alloc, word)?)?;
+    }
+    let most = most.max(1);
+    let mut files = MemFiles::with_most(files_of(alloc)?, [failing.0].to_vec(alloc)?, most);
+    let Ok(mut out) = MemSink::new(alloc, 1000, most, [failing.1].to_vec(alloc)?) else {
+        return Err(Fail::from("no memory"));
+    };
+    let found = run(alloc, words.as_slice(), &mut files, &mut out);
+    assert_eq!(rt; out.written(), ended.1, "{failing:?} of {most}");
+    assert_eq!(rt; found, ended.0, "{failing:?} of {most}");
+    Ok(())
+}
+
+// A file takes a call for its size, and one for each piece of its bytes.
+fn calls_of(sizes: &[u64], most: u64) -> u64 {
+    let mut calls: u64 = 0;
+    for size in sizes {
+        let pieces = size.div_ceil(most.max(1));
+        calls = calls.saturating_add(pieces).saturating_add(1);
+    }
+    calls
+}
+
+const MOST: [usize; 3] = [1, 7, 4096];
+
+// A call that is made and fails is a fault, after which nothing is written; all is well where it is not made.
+fn each_read_failing(rt: &impl Abort, alloc: Global, case: &Case) -> Result<(), Fail> {
+    for most in MOST {
+        let calls = calls_of(case.sizes, most as u64);
+        for n in 0..calls {
+            let fault = (Status::ReadFault, b"".as_slice());
+            ends(rt, alloc, case, most, (n, NEVER), fault)?;
+        }
+        for n in [calls, calls.saturating_add(1), NEVER] {
+            let done = (Status::Done, case.text.as_bytes());
+            ends(rt, alloc, case, most, (n, NEVER), done)?;
+        }
+    }
+    Ok(())
+}
+
+// Where a call of the sink fails, the pieces before it are written.
+fn each_write_failing(rt: &impl Abort, alloc: Global, case: &Case) -> Result<(), Fail> {
+    let text = case.text.as_bytes();
+    for most in MOST {
+        let calls = text.len().div_ceil(most.max(1));
+        for n in 0..=calls {
+            let written = n.saturating_mul(most).min(text.len());
+            let status = if written < text.len() {
+                Status::WriteFault
+            } else {
+                Status::Done
+            };
+            let failing = (NEVER, n as u64);
+            ends(rt, alloc, case, most, failing, (status, &text[..written]))?;
+        }
+    }
+    Ok(())
+}
+
+#[test]
+fn reads_of_check(rt: HostRuntime) -> Result<(), Fail> {
+    each_read_failing(&rt, rt.alloc(), &CHECK)
+}
+
+#[test]
+fn reads_of_analyze(rt: HostRuntime) -> Result<(), Fail> {
+    each_read_failing(&rt, rt.alloc(), &ANALYZE)
+}
+
+#[test]
+fn reads_of_simulate(rt: HostRuntime) -> Result<(), Fail> {
+    each_read_failing(&rt, rt.alloc(), &SIMULATE)
+}
+
+#[test]
+fn reads_of_explain(rt: HostRuntime) -> Result<(), Fail> {
+    each_read_failing(&rt, rt.alloc(), &EXPLAIN)
+}
+
+#[test]
+fn reads_of_update(rt: HostRuntime) -> Result<(), Fail> {
+    each_read_failing(&rt, rt.alloc(), &UPDATE)
+}
+
+#[test]
+fn writes_of_lines(rt: HostRuntime) -> Result<(), Fail> {
+    for case in [CHECK, SIMULATE, EXPLAIN] {
+        each_write_failing(&rt, rt.alloc(), &case)?;
+    }
+    Ok(())
+}
+
+#[test]
+fn writes_of_certificates(rt: HostRuntime) -> Result<(), Fail> {
+    for case in [ANALYZE, UPDATE] {
+        each_write_failing(&rt, rt.alloc(), &case)?;
+    }
+    Ok(())
+}
