@@ -3,6 +3,7 @@
 
 use crpd_io::{DiskFiles, StdSink};
 use crpd_tool::run;
+use std::alloc::{AllocError, Global};
 use std::io;
 
 // The words of each command, over the files that lie where this program runs.
@@ -47,18 +48,26 @@ const COMMANDS: [&[&str]; 38] = [
     &["simulate", "pair.toml", "empty"],
 ];
 
+// The words as a command gets them.
+fn texts(alloc: Global, words: &[&str]) -> Result<Vec<String>, AllocError> {
+    let mut list = Vec::new(alloc);
+    for word in words {
+        list.push(String::from_str(alloc, word)?)?;
+    }
+    Ok(list)
+}
+
 fn main(rt: HostRuntime) -> io::Result<()> {
-    let alloc = rt.alloc();
     let mut files = DiskFiles::new(&rt);
     for words in COMMANDS {
-        let mut list = Vec::new(alloc);
+        let list = texts(rt.alloc(), words)?;
         print!(rt; "$ crpd")?;
-        for word in words {
+        for word in &list {
             print!(rt; " {word}")?;
-            list.push(String::from_str(alloc, word)?)?;
         }
         println!(rt;)?;
-        let status = run(alloc, list.as_slice(), &mut files, &mut StdSink::new(&rt));
+        let mut out = StdSink::new(&rt);
+        let status = run(rt.alloc(), list.as_slice(), &mut files, &mut out);
         println!(rt; "{status:?} {}", status.code())?;
     }
     Ok(())
