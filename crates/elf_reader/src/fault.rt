@@ -10,6 +10,7 @@ use thiserror::Error;
 /// header at fault, counted from 0 over the whole table, headers of every type included.
 #[derive(Clone, Copy, Debug, PartialEq, Eq, Error)]
 pub enum ElfError {
+    /// There is no memory for the image or for the tables that are read.
     #[error("out of memory")]
     Memory,
     /// The file has fewer than the 52 bytes of an ELF32 header.
