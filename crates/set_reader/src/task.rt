@@ -82,7 +82,8 @@ fn fields_at(alloc: Global, keys: Keys) -> Result<TaskSpec, KeyError>
     })
 }
 
-/// The task at a place.
+/// The task at a place. Places count from 0. The deadline is compared with the period after all keys are read, those
+/// of the loops included.
 #[tactic(auto, unfolding(crate::specs::Reading::task_at))]
 pub fn task_at(alloc: Global, place: usize, table: &Table) -> Result<TaskSpec, SetError>
     ensures { Gives SetError.Memory (λ x. x) result (spec.task_at place (table_view table.now)) }
