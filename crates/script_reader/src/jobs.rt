@@ -111,7 +111,7 @@ fn job_list<'a>(alloc: Global, keys: Keys<'a>) -> Result<Vec<&'a Table>, KeyErro
     }
 }
 
-/// The jobs of a script.
+/// The jobs of a script. At most 10,000, else `TooLong`; none where the key is absent. A task is found by its name.
 #[tactic(auto, unfolding(crate::specs::Reading::jobs_at))]
 pub fn jobs_at(alloc: Global, table: &Table, set: &TaskSet) -> Result<Vec<ScriptJob>, ScriptError>
     ensures { Gives ScriptError.Memory (λ v. v.items) result (spec.jobs_at set.now (table_view table.now)) }
