@@ -44,9 +44,10 @@ fn changes_flow(ins: &Ins) -> bool
 }
 
 /// The cycles of an instruction: `hit`, plus `miss` where its fetch missed, plus what it does, plus `taken` for a
-/// branch, JAL or JALR whose next address is not the one after it.  `miss` says that the fetch missed, and `taken`
-/// that the next address is another. Every sum fits: each of the four terms is below 2^32. In constant time; it takes
-/// no memory.
+/// branch, JAL or JALR whose next address is not the one after it.
+///
+/// `miss` says that the fetch missed, and `taken` that the next address is another. Every sum fits: each of the four
+/// terms is below 2^32. In constant time; it takes no memory.
 pub fn cost(platform: &Platform, ins: &Ins, miss: bool, taken: bool) -> u64
     ensures { result ≡ cost platform.now ins.now miss taken }
 {
