@@ -35,6 +35,7 @@ enum Standing {
 
 /// A job of the script: its line, its registers and pc, the cycles left of the instruction under way, 0 where none is,
 /// its watch, and how it stands: open, answered at a time, or faulted.
+/// Each call but `start`, `next` and `finish` is in constant time and takes no memory.
 #[derive(Drop)]
 pub struct Job {
     line: ScriptJob,
@@ -78,7 +79,8 @@ fn start_registers(plan: &TaskPlan) -> Regs
 }
 
 impl Job {
-    /// A job before its first step: at its task's entry, with the registers of a start. Want of memory is the only error.
+    /// A job before its first step: at its task's entry, with the registers of a start. Want of memory is the only
+    /// error. Time and memory are those of the watch.
     pub fn start(alloc: Global, line: ScriptJob, plan: &TaskPlan) -> Result<Self, Memory>
         ensures is { IfOk result (λ job. (sys : System) → plan_of sys line.task.0 ≡ plan.now → job ≡ new_job sys line) }
         ensures line { IfOk result (λ job. job.line ≡ line) }
@@ -149,6 +151,7 @@ impl Job {
     }
 
     /// Where an instruction at its pc sends it. The fields are in range.
+    /// In constant time.
     pub fn next(&self, ins: &Ins) -> Next
         requires { IsInRange ins.now }
         ensures { result ≡ next_pc ins.now self.now.pc self.now.registers }
@@ -204,8 +207,9 @@ impl Job {
         Ok(())
     }
 
-    /// The effect of its instruction, which ends at a time, and after which it goes on so: it answers then, faults, or goes on.
-    /// After an error all is as before. Memory is wanted by a store alone.
+    /// The effect of its instruction, which ends at a time, and after which it goes on so: it answers then, faults,
+    /// or goes on. After an error all is as before. Memory is wanted by a store alone. Its time is that of the effect
+    /// and of a step of the watch.
     pub fn finish(
         &mut self,
         memory: &mut DataMemory,
@@ -324,8 +328,8 @@ impl Core {
         Ok(Some(self.cache.access(&self.geometry, block)))
     }
 
-    /// A cycle of a job that has the core with no switch cycle left, and what it finds where it fetches. It faults where
-    /// no instruction can be fetched. After an error all is as before.
+    /// A cycle of a job that has the core with no switch cycle left, and what it finds where it fetches. It faults
+    /// where no instruction can be fetched. After an error all is as before.
     pub(crate) fn advance(
         &mut self,
         job: &mut Job,

@@ -7,8 +7,8 @@ use crate::{Completion, End};
 use crpd_base::{Memory, ScriptJob, Task};
 use std::alloc::Global;
 
-/// The jobs of a script by release, and by place where they are released together. A number past the last job stands for
-/// none.
+/// The jobs of a script by release, and by place where they are released together. A number past the last job stands
+/// for none.
 #[derive(Drop)]
 pub struct Queue {
     /// Their releases and places, in ascending order.
@@ -72,8 +72,8 @@ fn numbers(alloc: Global, number: usize, count: usize) -> Result<Vec<usize>, Mem
 }
 
 impl Queue {
-    /// The jobs of a script, all of them unreleased, with room for so many tasks. Want of memory is the only error. Time
-    /// is n log n in the jobs.
+    /// The jobs of a script, all of them unreleased, with room for so many tasks. Want of memory is the only error.
+    /// Time is n log n in the jobs.
     pub fn new(alloc: Global, lines: &[ScriptJob], tasks: usize) -> Result<Self, Memory>
         requires { (x : ℕ) → x < length lines.now → (line_at lines.now x).task.0 < tasks }
         ensures due { IfOk result (λ queue. IsDue lines.now queue.due.items) }
@@ -108,6 +108,7 @@ impl Queue {
     }
 
     /// The release of the first job that is not told to be open, or a cycle where none comes before it.
+    /// In constant time.
     pub fn next_release(&self, until: u64) -> u64
         ensures { IsNextRelease self.now.due.items self.now.released until result }
     {
@@ -119,6 +120,7 @@ impl Queue {
     }
 
     /// The first job of a task is over.
+    /// In constant time.
     pub fn finish(&mut self, task: Task)
         requires task { task.0 < length self.old.heads.items }
         requires head { slice_index self.old.heads.items task.0 < length self.old.later.items }
@@ -132,6 +134,7 @@ impl Queue {
     }
 
     /// Tells of the jobs that are released in this cycle that they are open.
+    /// Linear in these; it takes no memory.
     pub fn release(&mut self, completions: &mut [Completion], now: u64)
         requires { (p : ℕ) → p < length self.old.due.items → place_at self.old.due.items p < length completions.old }
         ensures opened { HasOpened self.old.due.items self.old.released self.new.released completions.old completions.new }

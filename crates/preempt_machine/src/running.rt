@@ -51,8 +51,8 @@ fn push<T: Drop>(list: &mut Vec<T>, item: T) -> Result<(), Memory>
     }
 }
 
-/// The jobs of a script before their first steps, in its order. The code map has a plan for each job's task. Want of memory
-/// is the only error.
+/// The jobs of a script before their first steps, in its order. The code map has a plan for each job's task. Want of
+/// memory is the only error. Linear in the jobs, each with its watch.
 pub fn start_jobs(alloc: Global, code: &CodeMap, lines: &[ScriptJob]) -> Result<Vec<Job>, Memory>
     requires { (x : ℕ) → x < length lines.now → (line_at lines.now x).task.0 < length code.now.plans }
     ensures jobs { IfOk result (λ jobs. (sys : System) → sys.plans ≡ code.now.plans → jobs.items ≡ map (new_job sys) lines.now) }
@@ -76,8 +76,8 @@ fn zeros(alloc: Global, count: usize) -> Result<Vec<u32>, Memory>
     }
 }
 
-/// The jobs of a script by task and number, in its order, all of them unreleased. The jobs' tasks are among so many. Want
-/// of memory is the only error.
+/// The jobs of a script by task and number, in its order, all of them unreleased. The jobs' tasks are among so many.
+/// Want of memory is the only error. Linear in the jobs and in the tasks.
 pub fn start_completions(
     alloc: Global,
     lines: &[ScriptJob],
@@ -118,6 +118,7 @@ fn place_of(completions: &[Completion], job: JobId) -> usize
 }
 
 /// Whether no job's watch is broken.
+/// Linear in the jobs; it takes no memory.
 pub fn are_kept(jobs: &[Job]) -> bool
     ensures { IsTrue result ↔ All (λ job. is_kept job.watch ≡ true) jobs.now }
 {
@@ -209,8 +210,8 @@ impl Machine {
         Machine::new(alloc, code, set, script, cache, memory)
     }
 
-    /// One step of a job, or where no job is ready the steps up to the next release, none of them past a cycle. After an
-    /// error all is as before.
+    /// One step of a job, or where no job is ready the steps up to the next release, none of them past a cycle. After
+    /// an error all is as before.
     fn advance(&mut self, code: &CodeMap, cycle: u64) -> Result<(), Memory>
         requires before { self.old.state.time < cycle }
         requires plans { HasPlans code.now self.old.state }
@@ -241,9 +242,10 @@ impl Machine {
     /// Makes steps until a cycle, and none where the machine stands at or past it. Each job's task has a plan with as
     /// many stated loops as at the start.
     ///
-    /// After `Memory` the machine stands after some of these steps, before one that gives a store its effect. Where no job
-    /// is ready the machine goes at once to the next release. So its time is that of `cycle` for each cycle in which a job
-    /// is ready, and once a look at each task's first waiting job for each stretch of cycles in which none is.
+    /// After `Memory` the machine stands after some of these steps, before one that gives a store its effect. Where
+    /// no job is ready the machine goes at once to the next release. So its time is that of `cycle` for each cycle in
+    /// which a job is ready, and once a look at each task's first waiting job for each stretch of cycles in which
+    /// none is.
     pub fn run_until(&mut self, code: &CodeMap, cycle: u64) -> Result<(), Memory>
         requires plans { HasPlans code.now self.old.state }
         ensures ok { OnOk result (self.new ≡ stepped_by (cycle - self.old.state.time) code.now self.old) }
@@ -257,6 +259,7 @@ impl Machine {
     }
 
     /// The number of steps made.
+    /// In constant time.
     pub fn steps(&self) -> u64
         ensures { result ≡ self.now.state.time }
     {
@@ -264,6 +267,7 @@ impl Machine {
     }
 
     /// How the jobs stand, in the order of the script.
+    /// In constant time.
     pub fn completions(&self) -> &[Completion]
         ensures ends { map (λ c. c.«end») result.now ≡ completions self.now.state }
         ensures long { length result.now ≡ length self.now.state.jobs }
@@ -280,6 +284,7 @@ impl Machine {
     }
 
     /// The owner of the core, None before the first turn of a job.
+    /// In constant time.
     pub fn owner(&self) -> Option<JobId>
         ensures { result ≡ option_map (job_id self.now.state) self.now.state.owner }
     {
@@ -317,6 +322,7 @@ impl Machine {
     }
 
     /// The fetch of the last step made, None where it made none.
+    /// In constant time.
     pub fn last_fetch(&self) -> Option<Fetch>
         ensures { result ≡ self.now.fetch }
     {
