@@ -79,8 +79,8 @@ fn start_registers(plan: &TaskPlan) -> Regs
 }
 
 impl Job {
-    /// A job before its first step: at its task's entry, with the registers of a start. Want of memory is the only
-    /// error. Time and memory are those of the watch.
+    /// A job before its first step: at its task's entry, with the registers of a start. Want of memory is the only error.
+    /// Time and memory are those of the watch.
     pub fn start(alloc: Global, line: ScriptJob, plan: &TaskPlan) -> Result<Self, Memory>
         ensures is { IfOk result (λ job. (sys : System) → plan_of sys line.task.0 ≡ plan.now → job ≡ new_job sys line) }
         ensures line { IfOk result (λ job. job.line ≡ line) }
@@ -207,9 +207,9 @@ impl Job {
         Ok(())
     }
 
-    /// The effect of its instruction, which ends at a time, and after which it goes on so: it answers then, faults,
-    /// or goes on. After an error all is as before. Memory is wanted by a store alone. Its time is that of the effect
-    /// and of a step of the watch.
+    /// The effect of its instruction, which ends at a time, and after which it goes on so: it answers then, faults, or goes on.
+    /// After an error all is as before. Memory is wanted by a store alone.
+    /// Its time is that of the effect and of a step of the watch.
     pub fn finish(
         &mut self,
         memory: &mut DataMemory,
@@ -328,8 +328,8 @@ impl Core {
         Ok(Some(self.cache.access(&self.geometry, block)))
     }
 
-    /// A cycle of a job that has the core with no switch cycle left, and what it finds where it fetches. It faults
-    /// where no instruction can be fetched. After an error all is as before.
+    /// A cycle of a job that has the core with no switch cycle left, and what it finds where it fetches. It faults where
+    /// no instruction can be fetched. After an error all is as before.
     pub(crate) fn advance(
         &mut self,
         job: &mut Job,

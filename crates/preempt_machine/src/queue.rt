@@ -7,8 +7,8 @@ use crate::{Completion, End};
 use crpd_base::{Memory, ScriptJob, Task};
 use std::alloc::Global;
 
-/// The jobs of a script by release, and by place where they are released together. A number past the last job stands
-/// for none.
+/// The jobs of a script by release, and by place where they are released together. A number past the last job stands for
+/// none.
 #[derive(Drop)]
 pub struct Queue {
     /// Their releases and places, in ascending order.
@@ -72,8 +72,8 @@ fn numbers(alloc: Global, number: usize, count: usize) -> Result<Vec<usize>, Mem
 }
 
 impl Queue {
-    /// The jobs of a script, all of them unreleased, with room for so many tasks. Want of memory is the only error.
-    /// Time is n log n in the jobs.
+    /// The jobs of a script, all of them unreleased, with room for so many tasks. Want of memory is the only error. Time
+    /// is n log n in the jobs.
     pub fn new(alloc: Global, lines: &[ScriptJob], tasks: usize) -> Result<Self, Memory>
         requires { (x : ℕ) → x < length lines.now → (line_at lines.now x).task.0 < tasks }
         ensures due { IfOk result (λ queue. IsDue lines.now queue.due.items) }

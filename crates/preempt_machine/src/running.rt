@@ -51,8 +51,9 @@ fn push<T: Drop>(list: &mut Vec<T>, item: T) -> Result<(), Memory>
     }
 }
 
-/// The jobs of a script before their first steps, in its order. The code map has a plan for each job's task. Want of
-/// memory is the only error. Linear in the jobs, each with its watch.
+/// The jobs of a script before their first steps, in its order. The code map has a plan for each job's task. Want of memory
+/// is the only error.
+/// Linear in the jobs, each with its watch.
 pub fn start_jobs(alloc: Global, code: &CodeMap, lines: &[ScriptJob]) -> Result<Vec<Job>, Memory>
     requires { (x : ℕ) → x < length lines.now → (line_at lines.now x).task.0 < length code.now.plans }
     ensures jobs { IfOk result (λ jobs. (sys : System) → sys.plans ≡ code.now.plans → jobs.items ≡ map (new_job sys) lines.now) }
@@ -76,8 +77,9 @@ fn zeros(alloc: Global, count: usize) -> Result<Vec<u32>, Memory>
     }
 }
 
-/// The jobs of a script by task and number, in its order, all of them unreleased. The jobs' tasks are among so many.
-/// Want of memory is the only error. Linear in the jobs and in the tasks.
+/// The jobs of a script by task and number, in its order, all of them unreleased. The jobs' tasks are among so many. Want
+/// of memory is the only error.
+/// Linear in the jobs and in the tasks.
 pub fn start_completions(
     alloc: Global,
     lines: &[ScriptJob],
@@ -210,8 +212,8 @@ impl Machine {
         Machine::new(alloc, code, set, script, cache, memory)
     }
 
-    /// One step of a job, or where no job is ready the steps up to the next release, none of them past a cycle. After
-    /// an error all is as before.
+    /// One step of a job, or where no job is ready the steps up to the next release, none of them past a cycle. After an
+    /// error all is as before.
     fn advance(&mut self, code: &CodeMap, cycle: u64) -> Result<(), Memory>
         requires before { self.old.state.time < cycle }
         requires plans { HasPlans code.now self.old.state }
@@ -242,10 +244,9 @@ impl Machine {
     /// Makes steps until a cycle, and none where the machine stands at or past it. Each job's task has a plan with as
     /// many stated loops as at the start.
     ///
-    /// After `Memory` the machine stands after some of these steps, before one that gives a store its effect. Where
-    /// no job is ready the machine goes at once to the next release. So its time is that of `cycle` for each cycle in
-    /// which a job is ready, and once a look at each task's first waiting job for each stretch of cycles in which
-    /// none is.
+    /// After `Memory` the machine stands after some of these steps, before one that gives a store its effect. Where no job
+    /// is ready the machine goes at once to the next release. So its time is that of `cycle` for each cycle in which a job
+    /// is ready, and once a look at each task's first waiting job for each stretch of cycles in which none is.
     pub fn run_until(&mut self, code: &CodeMap, cycle: u64) -> Result<(), Memory>
         requires plans { HasPlans code.now self.old.state }
         ensures ok { OnOk result (self.new ≡ stepped_by (cycle - self.old.state.time) code.now self.old) }
