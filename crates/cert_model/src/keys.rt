@@ -67,7 +67,7 @@ impl<'a> Keys<'a> {
         }
     }
 
-    /// A number from low to high, else `Missing` or `BadValue`.
+    /// A number from low to high, else `Missing` or `BadValue`. Memory is taken for the path of a refusal alone.
     #[tactic(auto, unfolding(crate::specs::Keys::required))]
     pub fn number(&self, alloc: Global, key: &str, low: u64, high: u64) -> Result<u64, CertError>
         ensures is { Gives (λ x. x) result (spec.required (kind.whole low high) self.now.path.now key.now (members_view self.now.object.now.entries)) }
@@ -77,7 +77,8 @@ impl<'a> Keys<'a> {
         self.good(alloc, key, whole(value, low, high))
     }
 
-    /// A number from low to high, of 32 bits, else `Missing` or `BadValue`.
+    /// A number from low to high, of 32 bits, else `Missing` or `BadValue`. Memory is taken for the path of a refusal
+    /// alone.
     pub fn small_number(
         &self,
         alloc: Global,

@@ -35,7 +35,7 @@ pub fn below(value: &Value, low: u64, limit: u64) -> Option<u64>
     }
 }
 
-/// The length of a cache line in bytes: 4, 8, 16, 32 or 64, None for any other value.
+/// The length of a cache line in bytes: 4, 8, 16, 32 or 64, None for any other value. In constant time.
 #[tactic(auto, unfolding(crate::specs::Kinds::line))]
 pub fn line(value: &Value) -> Option<u32>
     ensures { result ≡ spec.line (view value.now) }
@@ -46,7 +46,7 @@ pub fn line(value: &Value) -> Option<u32>
     }
 }
 
-/// Where a context switch may happen: `cycle` or `instruction`, None for any other value.
+/// Where a context switch may happen: `cycle` or `instruction`, None for any other value. In constant time.
 #[tactic(auto, unfolding(crate::specs::Kinds::switching))]
 pub fn switching(value: &Value) -> Option<Switching>
     ensures { result ≡ spec.switching (view value.now) }
@@ -58,7 +58,7 @@ pub fn switching(value: &Value) -> Option<Switching>
     }
 }
 
-/// By which delay a window is computed: `ucb` or `ecb`, None for any other value.
+/// By which delay a window is computed: `ucb` or `ecb`, None for any other value. In constant time.
 #[tactic(auto, unfolding(crate::specs::Kinds::method))]
 pub fn method(value: &Value) -> Option<Method>
     ensures { result ≡ spec.method (view value.now) }

@@ -13,7 +13,7 @@ pub enum Version {
 }
 
 impl Version {
-    /// The most cache sets: 256 or 512.
+    /// The most cache sets: 256 or 512. In constant time.
     pub fn most_sets(self) -> u64
         ensures is { result ≡ spec.most_sets self }
         ensures bound { result ≤ 512 }
@@ -24,7 +24,7 @@ impl Version {
         }
     }
 
-    /// The most nodes of a task: 4,096 or 16,384.
+    /// The most nodes of a task: 4,096 or 16,384. In constant time.
     pub fn most_nodes(self) -> u64
         ensures is { result ≡ spec.most_nodes self }
         ensures bound { result ≤ 16384 }
@@ -35,7 +35,7 @@ impl Version {
         }
     }
 
-    /// The most tasks: 16 or 32.
+    /// The most tasks: 16 or 32. In constant time.
     pub fn most_tasks(self) -> u64
         ensures is { result ≡ spec.most_tasks self }
         ensures bound { result ≤ 32 }
