@@ -11,7 +11,7 @@ use toml_keys::whole;
 
 const LIMIT: u64 = 1 << 32;
 
-/// The length of a cache line in bytes: 4, 8, 16, 32 or 64; None for any other value.
+/// The length of a cache line in bytes: 4, 8, 16, 32 or 64; None for any other value. In constant time.
 #[tactic(auto, unfolding(crate::specs::Kinds::line))]
 pub fn line(value: &Value) -> Option<u32>
     ensures { result ≡ spec.line (view value.now) }
@@ -24,7 +24,7 @@ pub fn line(value: &Value) -> Option<u32>
     }
 }
 
-/// Where a context switch may happen: `cycle` or `instruction`; None for any other value.
+/// Where a context switch may happen: `cycle` or `instruction`; None for any other value. In constant time.
 #[tactic(auto, unfolding(crate::specs::Kinds::switching))]
 pub fn switching(value: &Value) -> Option<Switching>
     ensures { result ≡ spec.switching (view value.now) }
