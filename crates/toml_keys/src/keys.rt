@@ -113,7 +113,8 @@ impl<'a> Keys<'a> {
         }
     }
 
-    /// A required whole number from `low` to `high`, else `Missing` or `BadValue`.
+    /// A required whole number from `low` to `high`, else `Missing` or `BadValue`. Memory is taken for the path of a
+    /// refusal alone.
     #[tactic(auto, unfolding(crate::specs::Reading::required))]
     pub fn number(&self, alloc: Global, key: &str, low: u64, high: u64) -> Result<u64, KeyError>
         ensures is { Gives KeyError.Memory (λ x. x) result (spec.required (spec.whole low high) self.now.path.now key.now (table_view self.now.table.now)) }
@@ -123,7 +124,8 @@ impl<'a> Keys<'a> {
         self.good(alloc, key, whole(value, low, high))
     }
 
-    /// A required whole number from `low` to `high`, else `Missing` or `BadValue`.
+    /// A required whole number from `low` to `high`, else `Missing` or `BadValue`. Memory is taken for the path of a
+    /// refusal alone.
     pub fn small_number(
         &self,
         alloc: Global,
@@ -137,7 +139,8 @@ impl<'a> Keys<'a> {
         Ok(number as u32)
     }
 
-    /// An optional number from `low` to `high`, else `BadValue`; 0 where the key is absent.
+    /// An optional number from `low` to `high`, else `BadValue`; 0 where the key is absent. Memory is taken for the
+    /// path of a refusal alone.
     #[tactic(auto, unfolding(crate::specs::Reading::optional))]
     pub fn number_or_zero(
         &self,
