@@ -20,9 +20,9 @@ pub fn jobs(set: &TaskSet, task: usize, window: u64) -> u64
     (window + task.jitter + (task.period - 1)) / task.period
 }
 
-/// How often jobs of task `j` may preempt those of each task in a window of task `i`, and the useful sets of that
-/// task; 0 and no sets for the tasks that they do not preempt. Linear in the tasks, each with its set; it takes no
-/// memory.
+/// How often jobs of task `j` may preempt those of each task in a window of `window` cycles of task `i`, 0 for the
+/// tasks that they do not preempt, and the useful sets of that task. Linear in the tasks, each with its set; it takes
+/// no memory.
 pub fn affected_shares(
     set: &TaskSet,
     parts: &[Part],
