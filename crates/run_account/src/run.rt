@@ -306,9 +306,10 @@ fn told(alloc: Global, completions: &[Completion], reloads: &[Reload]) -> Result
 /// Where clauses 4 and 5 hold too, evictors and preemptors are of higher tasks, whatever the script, and there is at
 /// most one entry of an evictor, or of a preemptor, and a cache set; all entries of a preemptor are of one job.
 ///
-/// Its time is that of the machine's cycles in which a job is ready, with a look through the jobs for each stretch
-/// without one, for each fetch of a job behind others' fetches and for each reload. A flag is kept for each node, an
-/// entry for each reload, and a note for each time at which a job goes on behind others.
+/// Its time is that of the machine's cycles in which a job is ready, with a look through the jobs where another job
+/// fetches than before, where a job is over, and for each reload; where `hit` and `miss` together are below 2 cycles,
+/// with one for each of these cycles. A flag is kept for each node, an entry for each reload, and a note for each time
+/// at which a job goes on behind others.
 pub fn account(
     alloc: Global,
     code: &CodeMap,
