@@ -43,9 +43,8 @@ pub enum ElfError {
     /// No PT_LOAD with PF_X has bytes in the file.
     #[error("no executable segment has bytes")]
     NoCode,
-    /// There are section headers, and `e_shentsize` is not 40 or their table passes the file's end; or the first
-    /// SHT_SYMTAB passes it, its `sh_entsize` is not 16, or its `sh_link` is not the place of a SHT_STRTAB that
-    /// lies in the file.
+    /// Section headers whose `e_shentsize` is not 40 or whose table passes the file's end; or a first SHT_SYMTAB that
+    /// passes it, whose `sh_entsize` is not 16, or whose `sh_link` is the place of no SHT_STRTAB in the file.
     #[error("the sections or symbols lie outside the file")]
     SymbolsOutside,
 }
