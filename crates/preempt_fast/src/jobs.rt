@@ -1,11 +1,12 @@
 // The core, and what a job does with it while it has it.
-ghost use Rattle.std.specs.Prelude.{◌≡◌, ℕ, ◌<◌, ◌≤◌, not, length, IfOk, OnOk};
+ghost use Rattle.std.specs.Prelude.{◌≡◌, ℕ, suc, ◌<◌, ◌≤◌, not, length, IfOk, IsTrue, OnOk};
 ghost use Rattle.rv_decode.specs.Range.{IsInRange};
 ghost use Rattle.rv_core.specs.Effect.{next_pc};
 ghost use Rattle.icache.specs.Cache.{accessed, block_of, is_hit, set_of};
 ghost use Rattle.flow_watch.specs.Turns.{HasTurns};
+ghost use Rattle.flow_watch.specs.Quiet.{AreQuiet, IsArrival};
 ghost use Rattle.preempt_machine.specs.Machine.{System, Open, plan_of};
-ghost use Rattle.preempt_machine.specs.Step.{fetch_cost, fetched, goes_on};
+ghost use Rattle.preempt_machine.specs.Step.{fetch_cost, fetched, goes_on, went};
 ghost use Rattle.preempt_machine.specs.Running.{system_by, HasPlan};
 ghost use Rattle.preempt_machine.specs.Jobs.{turn_by};
 ghost use Rattle.preempt_fast.specs.Decodings.{AreDecoded};
@@ -88,9 +89,45 @@ impl Core {
         }
     }
 
+    /// The effect of a job's instruction, which ends at a time, and after which it goes on so. Its watch is not stepped where
+    /// it goes on within the addresses that are quiet for it; where it leaves them, they are found anew.
+    fn finish(
+        &mut self,
+        job: &mut Job,
+        plan: &TaskPlan,
+        found: &Decoding,
+        ins: &Ins,
+        next: Next,
+        time: u64,
+        quiet: &mut (u32, u32),
+    ) -> Result<(), Memory>
+        requires in_range { IsInRange ins.now }
+        requires stays { IsTrue found.now.stays → IsArrival ins.now }
+        requires turns { HasTurns (length plan.now.loops) job.old.watch }
+        requires open { job.old.standing ≡ Open }
+        requires quiet { AreQuiet plan.now job.old.watch quiet.old }
+        ensures ok { OnOk result ((sys : System) (k n : ℕ) → suc n ≡ time → plan_of sys job.old.line.task.0 ≡ plan.now → turn_by self.new.cache self.new.memory k job.new ≡ went sys n ins.now (turn_by self.old.cache self.old.memory k job.old) next) }
+        ensures turns { OnOk result (HasTurns (length plan.now.loops) job.new.watch) }
+        ensures quiet { OnOk result (AreQuiet plan.now job.new.watch quiet.new) }
+        ensures geometry { self.new.geometry ≡ self.old.geometry }
+        ensures decoded { self.new.decoded ≡ self.old.decoded }
+    {
+        if let Next::Goto(to) = next
+            && found.stays
+            && quiet.0 <= to
+            && to < quiet.1
+        {
+            return job.go_on(&mut self.memory, ins, to, time);
+        }
+        job.finish(&mut self.memory, plan, ins, next, time)?;
+        *quiet = job.watch().quiet(plan, job.pc());
+        Ok(())
+    }
+
     /// A job's move: as many cycles of its instruction as are left, but none from a time on. It gives the time after it.
     ///
-    /// The job faults where no instruction can be fetched, which takes a cycle.
+    /// The job faults where no instruction can be fetched, which takes a cycle. An arrival at one of the addresses that are
+    /// quiet leaves its watch as it is.
     fn advance(
         &mut self,
         job: &mut Job,
@@ -98,6 +135,7 @@ impl Core {
         plan: &TaskPlan,
         now: u64,
         until: u64,
+        quiet: &mut (u32, u32),
     ) -> Result<u64, Memory>
         requires before { now < until }
         requires room { self.old.geometry.platform.sets ≤ length self.old.cache }
@@ -105,10 +143,12 @@ impl Core {
         requires plan { plan_of (system_by self.old.geometry.platform code.now) job.old.line.task.0 ≡ plan.now }
         requires turns { HasTurns (length plan.now.loops) job.old.watch }
         requires open { job.old.standing ≡ Open }
+        requires quiet { AreQuiet plan.now job.old.watch quiet.old }
         ensures moved { IfOk result (λ time. HasMoved (system_by self.old.geometry.platform code.now) now time (turn_by self.old.cache self.old.memory 0 job.old) (turn_by self.new.cache self.new.memory 0 job.new)) }
         ensures later { IfOk result (λ time. now < time) }
         ensures within { IfOk result (λ time. time ≤ until) }
         ensures turns { OnOk result (HasTurns (length plan.now.loops) job.new.watch) }
+        ensures quiet { OnOk result (AreQuiet plan.now job.new.watch quiet.new) }
         ensures geometry { OnOk result (self.new.geometry ≡ self.old.geometry) }
         ensures decoded { OnOk result (AreDecoded self.old.geometry.platform code.now self.new.decoded.places.items) }
     {
@@ -125,7 +165,7 @@ impl Core {
             return Ok(until);
         }
         let time = now + left.max(1);
-        job.finish(&mut self.memory, plan, &ins, next, time)?;
+        self.finish(job, plan, &found, &ins, next, time, quiet)?;
         Ok(time)
     }
 
@@ -152,8 +192,9 @@ impl Core {
     {
         let plan = code.plan(job.task());
         let mut now = from;
+        let mut quiet = job.watch().quiet(plan, job.pc());
         while now < until && job.is_open() {
-            now = self.advance(job, code, plan, now, until)?;
+            now = self.advance(job, code, plan, now, until, &mut quiet)?;
         }
         Ok(now)
     }

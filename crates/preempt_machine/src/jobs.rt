@@ -6,6 +6,7 @@ ghost use Rattle.rv_decode.specs.Range.{IsInRange};
 ghost use Rattle.rv_core.specs.Effect.{IsStore, next_pc};
 ghost use Rattle.icache.specs.Cache.{Cache as Blocks};
 ghost use Rattle.flow_watch.specs.Turns.{HasTurns};
+ghost use Rattle.flow_watch.specs.Watch.{step as watch_step};
 ghost use Rattle.preempt_machine.specs.Machine.{System, Open, Faulted, Answered, ins_at, new_job, plan_of};
 ghost use Rattle.preempt_machine.specs.Step.{executed, fetch_cost, fetched, is_open, is_ready, went, worked};
 ghost use Rattle.preempt_machine.specs.Running.{access_by, system_by, HasPlan, IsStoreNow};
@@ -199,6 +200,32 @@ impl Job {
     {
         carry_out(ins, self.pc, &mut self.registers, memory)?;
         self.watch.step(plan, self.pc, ins, to);
+        self.pc = to;
+        self.left = 0;
+        if to == END {
+            self.standing = Standing::Answered(time);
+        }
+        Ok(())
+    }
+
+    /// The effect of its instruction, which ends at a time, and after which it goes on at an address. Its watch stays as it
+    /// is, so the caller has to know that the watch's step leaves it so. After an error all is as before. Memory is wanted
+    /// by a store alone.
+    pub fn go_on(
+        &mut self,
+        memory: &mut DataMemory,
+        ins: &Ins,
+        to: u32,
+        time: u64,
+    ) -> Result<(), Memory>
+        requires in_range { IsInRange ins.now }
+        requires open { self.old.standing ≡ Open }
+        ensures ok { OnOk result ((sys : System) (cache : Blocks) (k n : ℕ) → suc n ≡ time → watch_step (plan_of sys self.old.line.task.0) self.old.watch self.old.pc ins.now to ≡ self.old.watch → turn_by cache memory.new k self.new ≡ went sys n ins.now (turn_by cache memory.old k self.old) (Next.Goto to)) }
+        ensures watch { self.new.watch ≡ self.old.watch }
+        ensures err { OnErr result ((self.new ≡ self.old) × (memory.new ≡ memory.old)) }
+        ensures only { IsStore ins.now ⊎ IsOk result }
+    {
+        carry_out(ins, self.pc, &mut self.registers, memory)?;
         self.pc = to;
         self.left = 0;
         if to == END {
