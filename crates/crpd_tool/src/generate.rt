@@ -1,8 +1,8 @@
 // The command `generate`.
 ghost use Rattle.std.specs.Prelude.{◌≡◌, ◌^◌, ◌<◌, ◌≤◌, ◌++◌, length, map, string_bytes, IfOk, IsErrOf, Ok};
 ghost use Rattle.cert_build.specs.Best.{IsBest};
-ghost use Rattle.cert_check.specs.Shown.{AreShown, IsInRange, shown_at};
-ghost use Rattle.cert_model.specs.Reading.{entries};
+ghost use Rattle.cert_check.specs.Shown.{AreShown, shown_at};
+ghost use Rattle.cert_model.specs.Ranges.{IsCertificate};
 ghost use Rattle.crpd_base.specs.Ranges.{IsTaskSet};
 ghost use Rattle.preempt_machine.specs.Safe.{NamesTasks};
 ghost use Rattle.crpd_report.specs.Made.{made_line};
@@ -87,9 +87,8 @@ fn certified(
     requires count { length input.now.code.images ≡ length input.now.set.tasks }
     requires tasks { NamesTasks input.now.set script.now.jobs }
     requires jobs { length script.now.jobs < 2 ^ 32 }
-    requires ranges { IsInRange certificate.now }
+    requires ranges { IsCertificate certificate.now }
     requires best { IsBest input.now.set (shown_at shapes.now.graphs shapes.now.nests) certificate.now }
-    requires few { entries certificate.now.tasks ≤ 4000000 }
     ensures { IfOk result (λ answer. GeneratedOf number script.now input.now shapes.now (Ok answer)) }
 {
     let graphs = shapes.graphs.as_slice();

@@ -19,8 +19,8 @@ pub returns-in-Ok-clause-exact : goal.returns-in-Ok-clause-exact
 returns-in-Ok-clause-exact c =
     from_made c.args.seed.number c.in_ok-made.made c.as_slice.result.now (Ok c.in-Ok.answer) c.in_ok-made.ensures.is c.as_slice.ensures c.in-Ok.ensures.exact
 
-pub returns-in-Err-clause-exact : goal.returns-in-Err-clause-exact
-returns-in-Err-clause-exact c =
+pub returns-clause-exact : goal.returns-clause-exact
+returns-clause-exact c =
     from_made c.args.seed.number c.in_ok-made.made c.as_slice.result.now (Err c.in-Err.halt) c.in_ok-made.ensures.is c.as_slice.ensures c.in-Err.ensures.exact
 
 pub answer_of-requires-clause-count : goal.answer_of-requires-clause-count
