@@ -68,7 +68,7 @@ one_end : (front other : List ℕ) → front ++ run_line true true ≡ other ++ 
 one_end front other e =
     let kept : front ++ run_line true true ≡ (front ++ codes "run legal kep") ++ 116 ∷ 10 ∷ [] = ap (λ l. front ++ l) kept_line ∙ sym (append_assoc front (codes "run legal kep") (116 ∷ 10 ∷ [])) in
     let broken : other ++ run_line true false ≡ (other ++ codes "run legal broke") ++ 110 ∷ 10 ∷ [] = ap (λ l. other ++ l) broken_line ∙ sym (append_assoc other (codes "run legal broke") (110 ∷ 10 ∷ [])) in
-    let same : 116 ≡ 110 = last_two (front ++ codes "run legal kep") (other ++ codes "run legal broke") 116 10 110 10 (sym kept ∙ e ∙ broken) in
+    let same : ◌≡◌ {A = ℕ} 116 110 = last_two (front ++ codes "run legal kep") (other ++ codes "run legal broke") 116 10 110 10 (sym kept ∙ e ∙ broken) in
     omega arith
 
 -- the line before the last one

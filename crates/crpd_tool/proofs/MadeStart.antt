@@ -1,7 +1,7 @@
 -- The data memory that a made script starts from is one.
-use Rattle.std.proofs.Common.{◌≡◌, ℕ, zero, suc, ◌+◌, ◌*◌, ◌^◌, ◌<◌, ◌≤◌, List, [], ◌∷◌, ◌++◌, length, map, get_or, Bool, true, false, Some, None, Ok, Err, refl, ap, sym, subst, ◌∙◌, arith, lit≤, w32}
+use Rattle.std.proofs.Common.{◌≡◌, ℕ, zero, suc, ◌+◌, ◌*◌, ◌/◌, ◌%◌, ◌^◌, ◌<◌, ◌≤◌, List, [], ◌∷◌, ◌++◌, length, map, get_or, Bool, true, false, Some, None, Ok, Err, refl, ap, sym, subst, ◌∙◌, arith, lit≤, w32}
 use Rattle.std.specs.Prelude.{All, Option, Result, nat_lt, if◌then◌else◌}
-use Rattle.std.specs.Int.{to_le_bytes}
+use Rattle.std.specs.Int.{byte_at, bytes_low_first, to_le_bytes}
 use Rattle.std.specs.List.{flat_map, range_with_len, zip}
 use Rattle.std.specs.Str.{bytes_eq}
 use Rattle.std.proofs.lemmas.Bool.{cases_Bool}
@@ -83,9 +83,19 @@ start_kept images are small = images_kept [] images tt are small
 
 -- ---- the images of the made files
 
+low_byte : (n : ℕ) → n % 256 < 2 ^ 8
+low_byte n = omega arith
+
+byte_small : (i n : ℕ) → byte_at i n < 2 ^ 8
+byte_small zero n = low_byte n
+byte_small (suc i) n = low_byte (n / 256 ^ suc i)
+
+bytes_small : (i k n : ℕ) → All IsByte (bytes_low_first i k n)
+bytes_small i zero n = All-nil IsByte
+bytes_small i (suc k) n = All-cons IsByte (byte_at i n) (bytes_low_first (suc i) k n) (byte_small i n) (bytes_small (suc i) k n)
+
 word_bytes : (x : ℕ) → All IsByte (to_le_bytes w32 x)
-word_bytes x =
-    All-cons IsByte _ _ (omega arith) (All-cons IsByte _ _ (omega arith) (All-cons IsByte _ _ (omega arith) (All-cons IsByte _ _ (omega arith) (All-nil IsByte))))
+word_bytes x = bytes_small 0 4 x
 
 words_bytes : (xs : List ℕ) → All IsByte (words xs)
 words_bytes [] = All-nil IsByte
@@ -113,14 +123,15 @@ made_files_mean n k d lt image is =
     subst HasBytes (same_image (image_at n k) image (sym found ∙ is)) (image_bytes n k)
 
 -- the bytes of a file that is held
+held_head : (P : List ℕ → Type 0) (b : Bool) (file bytes : List ℕ) (rest : Option (List ℕ)) → P file → (rest ≡ Some bytes → P bytes) → (if b then Some file else rest) ≡ Some bytes → P bytes
+held_head P true file bytes rest here later e = let same : file ≡ bytes = cc in subst P same here
+held_head P false file bytes rest here later e = later e
+
 held_means : (P : List ℕ → Type 0) (names files : List (List ℕ)) (name bytes : List ℕ) → All P files → held (zip names files) name ≡ Some bytes → P bytes
 held_means P [] files name bytes all e = absurd cc
 held_means P (x ∷ names) [] name bytes all e = absurd cc
-held_means P (x ∷ names) (file ∷ files) name bytes all e = here (bytes_eq name x) e
-  where
-    here : (b : Bool) → (if b then Some file else held (zip names files) name) ≡ Some bytes → P bytes
-    here true is = let same : file ≡ bytes = cc in subst P same (All-head P file files all)
-    here false is = held_means P names files name bytes (All-tail P file files all) is
+held_means P (x ∷ names) (file ∷ files) name bytes all e =
+    held_head P (bytes_eq name x) file bytes (held (zip names files) name) (All-head P file files all) (held_means P names files name bytes (All-tail P file files all)) e
 
 within_some : (most : ℕ) (name : List ℕ) (o : Option (List ℕ)) (bytes : List ℕ) → refused_file name (file_within most o) ≡ Ok bytes → o ≡ Some bytes
 within_some most name None bytes e = absurd cc

@@ -3,8 +3,8 @@ use Rattle.crpd_tool.proofs.number.value.Goals as goal
 
 pub loop-digit-preserved : goal.loop-digit-preserved
 loop-digit-preserved c = record {
-  below = below_more c.args.digits.now c.loop-digit.number c.loop-digit.digit-index c.digit-item.result c.loop-digit-test.true c.requires.digits c.digit-item.is c.loop-digit.invariant.below;
-  written = written_more c.args.digits.now c.loop-digit.number c.loop-digit.digit-index c.digit-item.result c.loop-digit-test.true c.digit-item.is c.loop-digit.invariant.written;
+  below = below_more c.args.digits.now c.loop-digit.number c.loop-digit.digit-index c.from.result c.loop-digit-test.true c.requires.digits c.from.ensures c.loop-digit.invariant.below;
+  written = written_more c.args.digits.now c.loop-digit.number c.loop-digit.digit-index c.from.result c.loop-digit-test.true c.from.ensures c.loop-digit.invariant.written;
 }
 
 pub returns : goal.returns
