@@ -6,7 +6,7 @@ use std::process::Abort;
 use std::test::Fail;
 
 // A number, and the whole text of its made input.
-const NUMBERS: [(&str, &str); 3] = [
+const NUMBERS: [(&str, &str); 5] = [
     (
         "0",
         "generated 0 tasks 16 nodes 573\n\
@@ -50,6 +50,52 @@ const NUMBERS: [(&str, &str); 3] = [
          t13 bound 2994 window 17739 response 19739 method ucb\n\
          t14 bound 472 window 18311 response 19311 method ucb\n\
          t15 bound 357 window 18768 response 20768 method ucb\n\
+         jobs 21 answered 21 late 0\n\
+         run legal kept\n",
+    ),
+    (
+        "2",
+        "generated 2 tasks 16 nodes 697\n\
+         yes\n\
+         t0 bound 1309 window 1314 response 3314 method ucb\n\
+         t1 bound 1604 window 2928 response 3928 method ucb\n\
+         t2 bound 2568 window 5586 response 8586 method ucb\n\
+         t3 bound 915 window 6531 response 6531 method ucb\n\
+         t4 bound 940 window 7531 response 10531 method ucb\n\
+         t5 bound 415 window 8056 response 8056 method ucb\n\
+         t6 bound 2248 window 10444 response 11444 method ucb\n\
+         t7 bound 436 window 10990 response 13990 method ucb\n\
+         t8 bound 942 window 12082 response 12082 method ucb\n\
+         t9 bound 2367 window 14549 response 16549 method ucb\n\
+         t10 bound 484 window 15043 response 15043 method ucb\n\
+         t11 bound 282 window 15375 response 15375 method ucb\n\
+         t12 bound 472 window 15947 response 15947 method ucb\n\
+         t13 bound 1510 window 17627 response 17627 method ucb\n\
+         t14 bound 2201 window 19988 response 22988 method ucb\n\
+         t15 bound 841 window 20879 response 22879 method ucb\n\
+         jobs 21 answered 21 late 0\n\
+         run legal kept\n",
+    ),
+    (
+        "1000000007",
+        "generated 1000000007 tasks 16 nodes 632\n\
+         yes\n\
+         t0 bound 130 window 135 response 3135 method ucb\n\
+         t1 bound 815 window 960 response 960 method ucb\n\
+         t2 bound 2781 window 3771 response 6771 method ucb\n\
+         t3 bound 2058 window 5849 response 5849 method ucb\n\
+         t4 bound 1420 window 7379 response 7379 method ucb\n\
+         t5 bound 1412 window 8801 response 10801 method ucb\n\
+         t6 bound 604 window 9475 response 9475 method ucb\n\
+         t7 bound 618 window 10183 response 11183 method ucb\n\
+         t8 bound 492 window 10735 response 12735 method ucb\n\
+         t9 bound 1907 window 12742 response 15742 method ucb\n\
+         t10 bound 396 window 13288 response 16288 method ucb\n\
+         t11 bound 1572 window 14980 response 16980 method ucb\n\
+         t12 bound 602 window 15672 response 15672 method ucb\n\
+         t13 bound 2997 window 18829 response 21829 method ucb\n\
+         t14 bound 2794 window 21783 response 23783 method ucb\n\
+         t15 bound 432 window 22235 response 23235 method ucb\n\
          jobs 21 answered 21 late 0\n\
          run legal kept\n",
     ),
