@@ -1,6 +1,6 @@
 -- A made input's text with the status Done comes of a yes, and no job of a kept run is late.
-use Rattle.std.proofs.Common.{◌≡◌, ℕ, ◌<◌, ◌++◌, Bool, true, false, List, [], ◌∷◌, length, map, drop, Result, Ok, Err, refl, ap, sym, subst, ◌∙◌, inl, inr, arith, length-append}
-use Rattle.std.specs.Prelude.{All, IsTrue, codes}
+use Rattle.std.proofs.Common.{◌≡◌, ℕ, ◌++◌, Bool, true, false, List, [], ◌∷◌, length, map, drop, Result, Ok, refl, ap, sym, subst, ◌∙◌, inl, inr, arith, length-append}
+use Rattle.std.specs.Prelude.{IsTrue, codes}
 use Rattle.std.proofs.Math.Seq.{drop-append_seam}
 use Rattle.std.proofs.lemmas.List.{append_assoc, ext_get_or, get_or-map, length-map}
 use Rattle.crpd_base.specs.declared.data.Certificate.{Certificate}
@@ -39,7 +39,7 @@ use Rattle.crpd_tool.specs.declared.answer.Answer.{Answer}
 use Rattle.crpd_tool.specs.declared.status.Status.TheVariants.{Done}
 use Rattle.crpd_tool.specs.Analyze.{without_certificate}
 use Rattle.crpd_tool.specs.Check.{verdict_outcome}
-use Rattle.crpd_tool.specs.Generate.{GenerateEnds, GeneratedOf, IsRunJudged, behind, made_answer, made_input, node_count}
+use Rattle.crpd_tool.specs.Generate.{GenerateEnds, GeneratedOf, IsRunJudged, behind, made_input, node_count}
 use Rattle.crpd_tool.specs.Generated.{DoneIsGenerated, IsGenerated}
 use Rattle.crpd_tool.specs.Out.{Output, settled, status_of}
 use Rattle.crpd_tool.specs.Simulate.{completions_of, run_of}

@@ -1,10 +1,9 @@
 -- The data memory that a made script starts from is one.
-use Rattle.std.proofs.Common.{◌≡◌, ℕ, zero, suc, ◌+◌, ◌*◌, ◌/◌, ◌%◌, ◌^◌, ◌<◌, ◌≤◌, List, [], ◌∷◌, ◌++◌, length, map, get_or, Bool, true, false, Some, None, Ok, Err, refl, ap, sym, subst, ◌∙◌, arith, lit≤, w32}
+use Rattle.std.proofs.Common.{◌≡◌, ℕ, zero, suc, ◌+◌, ◌/◌, ◌%◌, ◌^◌, ◌<◌, ◌≤◌, List, [], ◌∷◌, length, map, get_or, Bool, true, false, Some, None, Ok, Err, ap, sym, subst, ◌∙◌, arith, w32}
 use Rattle.std.specs.Prelude.{All, Option, Result, nat_lt, if◌then◌else◌}
 use Rattle.std.specs.Int.{byte_at, bytes_low_first, to_le_bytes}
-use Rattle.std.specs.List.{flat_map, range_with_len, zip}
+use Rattle.std.specs.List.{range_with_len, zip}
 use Rattle.std.specs.Str.{bytes_eq}
-use Rattle.std.proofs.lemmas.Bool.{cases_Bool}
 use Rattle.std.proofs.lemmas.List.{get_or-map, length-map}
 use Rattle.std.proofs.lemmas.List.Elements.{All-append, All-cons, All-head, All-nil, All-tail}
 use Rattle.std.proofs.lemmas.List.FromFn.{get_or-map-range_with_len, length-map-range_with_len}
@@ -25,7 +24,6 @@ use Rattle.gen_tasks.specs.Files.{words}
 use Rattle.gen_tasks.specs.Made.{made}
 use Rattle.gen_tasks.specs.Programs.{image_at}
 use Rattle.gen_tasks.proofs.ElfLaw.{files_read}
-use Rattle.crpd_input.specs.declared.refusal.Refusal.{Refusal}
 use Rattle.crpd_input.specs.Reading.{code_in, elf_refusal, image_in, images_in, map_refusal}
 use Rattle.crpd_input.specs.Steps.{bytes_in, or_refused, refused_file}
 use Rattle.crpd_input.proofs.Each.{all_given}

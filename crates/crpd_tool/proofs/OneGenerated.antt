@@ -1,5 +1,5 @@
 -- A made input has one end by all regions of the same loops.
-use Rattle.std.proofs.Common.{◌≡◌, ℕ, ◌<◌, Bool, List, length, Result, Ok, Err, refl, sym, ap, subst, ◌∙◌, inl, inr}
+use Rattle.std.proofs.Common.{◌≡◌, ℕ, ◌<◌, Bool, List, length, Result, Ok, sym, ap, subst, ◌∙◌, inl, inr}
 use Rattle.std.proofs.lemmas.Bool.Decides.{same_from_decides}
 use Rattle.crpd_base.specs.declared.data.Certificate.{Certificate}
 use Rattle.crpd_base.specs.declared.data.Script.{Script}
@@ -8,7 +8,6 @@ use Rattle.flat_graph.specs.CodeGraph.{CodeGraph, graph_of}
 use Rattle.flat_graph.specs.Graph.{IsGraph}
 use Rattle.loop_regions.specs.CodeNest.{CodeNest}
 use Rattle.delay_count.specs.Laws.{DemandGrows}
-use Rattle.cert_build.specs.declared.fault.BuildError.{BuildError}
 use Rattle.cert_build.proofs.OneBest.{one_best}
 use Rattle.cert_check.specs.Answered.{answer_of}
 use Rattle.cert_check.specs.Shown.{graph_at, shown_at}

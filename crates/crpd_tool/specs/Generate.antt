@@ -1,5 +1,5 @@
 -- The steps of `generate N`.
-use Rattle.std.specs.Prelude.{◌≡◌, ◌≢◌, ◌⊎◌, ◌↔◌, IsTrue, ℕ, Bool, ◌≤◌, List, [], ◌∷◌, ◌++◌, codes, length, map, Option, Some, None, Result, Ok, Err, if◌then◌else◌}
+use Rattle.std.specs.Prelude.{◌≡◌, ◌≢◌, ◌⊎◌, ◌↔◌, IsTrue, ℕ, Bool, ◌≤◌, List, [], ◌∷◌, ◌++◌, codes, length, map, Some, None, Result, Ok, Err, if◌then◌else◌}
 use Rattle.std.specs.List.{sum_by, zip}
 use Rattle.std.specs.Str.{bytes_eq}
 use Rattle.crpd_base.specs.declared.data.Certificate.{Certificate}

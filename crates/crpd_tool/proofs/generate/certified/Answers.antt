@@ -1,4 +1,4 @@
-use Rattle.std.proofs.Common.{◌≡◌, ◌∙◌, ℕ, List, Ok, Result, ap, inl, subst}
+use Rattle.std.proofs.Common.{◌≡◌, ◌∙◌, ℕ, List, Ok, ap, inl, subst}
 use Rattle.flat_graph.specs.CodeGraph.{CodeGraph}
 use Rattle.loop_regions.specs.CodeNest.{CodeNest}
 use Rattle.cert_check.specs.Answered.{answer_of}
@@ -6,10 +6,8 @@ use Rattle.cert_check.specs.Shown.{shown_at}
 use Rattle.cert_check.specs.Verdict.{IsJudged}
 use Rattle.preempt_machine.specs.declared.Completion.{Completion}
 use Rattle.crpd_report.specs.Made.{generate_text}
-use Rattle.crpd_input.specs.declared.refusal.Refusal.{Refusal}
 use Rattle.crpd_input.proofs.InRange.{in_range}
 use Rattle.crpd_tool.specs.declared.answer.Answer.{Answer}
-use Rattle.crpd_tool.specs.Check.{verdict_outcome}
 use Rattle.crpd_tool.specs.Generate.{made_answer, node_count}
 use Rattle.crpd_tool.specs.Simulate.{completions_of, run_of}
 use Rattle.crpd_tool.proofs.Simulated.{told}

@@ -1,5 +1,4 @@
 use Rattle.std.proofs.Common.{◌≡◌, ◌∙◌, ◌<◌, ◌^◌, ℕ, List, Result, Ok, Err, ap, length, subst, sym}
-use Rattle.crpd_base.specs.declared.data.ScriptJob.{ScriptJob}
 use Rattle.gen_tasks.specs.Made.{made}
 use Rattle.gen_tasks.specs.declared.Generated.{Generated}
 use Rattle.crpd_input.specs.Steps.{MeansBy}
