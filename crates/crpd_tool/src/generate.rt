@@ -11,18 +11,16 @@ ghost use Rattle.crpd_input.specs.Reading.{code_in};
 ghost use Rattle.crpd_input.specs.Steps.{Means, MeansBy};
 ghost use Rattle.crpd_tool.specs.Generate as spec;
 ghost use Rattle.crpd_tool.specs.Generate.{EndsFrom, GenerateEnds, GeneratedOf, held, made_name, named_files};
-ghost use Rattle.crpd_tool.specs.Texts.{unschedulable_text};
 
-use crate::answer::{Answer, Outcome};
+use crate::answer::Answer;
+use crate::ending::without_certificate;
 use crate::number::Seed;
 use crate::texts::verdict_outcome;
 use cert_build::{BuildError, certify};
 use cert_check::verdict;
 use code_map::CodeMap;
 use crpd_base::{Certificate, Items, Memory, Script, TaskSet};
-use crpd_input::{
-    Halt, Input, Shapes, load_code, refuse_address, refuse_count, task_name, task_shapes,
-};
+use crpd_input::{Halt, Input, Shapes, load_code, task_shapes};
 use crpd_io::SureFiles;
 use crpd_report::generate_text;
 use flat_graph::Graph;
@@ -115,14 +113,17 @@ fn certified(
     })
 }
 
-/// The first line, and the line of a task that has no window.
-fn no_window_text(alloc: Global, number: u32, nodes: u64, name: &str) -> Result<Items<u8>, Memory>
-    ensures { IfOk result (λ text. text ≡ made_line number nodes ++ unschedulable_text name.now) }
+/// An answer behind the line of the made input.
+fn behind(alloc: Global, number: u32, nodes: u64, answer: Answer) -> Result<Answer, AllocError>
+    ensures { IfOk result (λ whole. Ok whole ≡ spec.behind (made_line number nodes) (Ok answer)) }
 {
-    match format!(in alloc; "generated {number} tasks 16 nodes {nodes}\nunschedulable {name}\n") {
-        Ok(text) => Ok(Items::new(text.into_bytes())),
-        Err(_) => Err(Memory),
-    }
+    let line = format!(in alloc; "generated {number} tasks 16 nodes {nodes}\n")?;
+    let mut text = line.into_bytes();
+    text.extend_from_slice(answer.text.as_slice())?;
+    Ok(Answer {
+        text: Items::new(text),
+        outcome: answer.outcome,
+    })
 }
 
 /// The answer of the analysis of a made set.
@@ -145,17 +146,9 @@ fn analysed(
     match certify(alloc, &input.set, graphs, shapes.nests.as_slice()) {
         Ok(certificate) => Ok(certified(alloc, number, script, input, shapes, &certificate)?),
         Err(BuildError::Memory) => Err(Halt::Memory),
-        Err(BuildError::TooLarge { task, address }) => {
-            let name = task_name(&input.set, task);
-            Err(refuse_address(alloc, 64, name, address))
-        }
-        Err(BuildError::TooManyEntries(count)) => Err(refuse_count(alloc, 75, NAME, count)),
-        Err(BuildError::Unschedulable(task)) => {
-            let name = task_name(&input.set, task);
-            Ok(Answer {
-                text: no_window_text(alloc, number, node_count(graphs), name)?,
-                outcome: Outcome::No,
-            })
+        Err(error) => {
+            let ending = without_certificate(alloc, NAME, &input.set, error)?;
+            Ok(behind(alloc, number, node_count(graphs), ending)?)
         }
     }
 }
