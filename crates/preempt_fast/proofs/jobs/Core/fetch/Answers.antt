@@ -1,4 +1,4 @@
-use Rattle.std.proofs.Common.{◌≡◌, Option, Some, sym, ap, subst, ◌∙◌}
+use Rattle.std.proofs.Common.{◌≡◌, Option, sym, ap, subst, ◌∙◌}
 use Rattle.std.specs.Prelude.{not, Bool, IfSome}
 use Rattle.crpd_base.specs.declared.data.Platform.{Platform}
 use Rattle.rv_decode.specs.declared.Ins.{Ins}
@@ -21,5 +21,5 @@ returns-clause-cost c sys k ins same found =
     ∙ costs c.misses-missed.result c.is_taken.result
     ∙ ap (λ (b : Bool). cost platform ins b c.is_taken.result) (c.misses-missed.ensures.missed ∙ ap (λ b. not (is_hit platform old.cache b)) c.requires.block)
     ∙ ap (λ (b : Bool). cost platform ins (not (is_hit platform old.cache (block_of platform job.pc))) b)
-      (c.is_taken.ensures ∙ ap (λ (n : Next). not (goes_on n c.pc.result)) next ∙ ap (λ p. not (goes_on (next_pc ins job.pc job.registers) p)) c.pc.ensures)
+    (c.is_taken.ensures ∙ ap (λ (n : Next). not (goes_on n c.pc.result)) next ∙ ap (λ p. not (goes_on (next_pc ins job.pc job.registers) p)) c.pc.ensures)
     ∙ ap (λ (p : Platform). cost p ins (not (is_hit p old.cache (block_of p job.pc))) (not (goes_on (next_pc ins job.pc job.registers) job.pc))) (sym same)
