@@ -6,7 +6,7 @@ use Rattle.std.proofs.lemmas.Bool.Decides.{nat_tests}
 use Rattle.std.proofs.lemmas.List.{drop_all, take-append-drop}
 use Rattle.std.proofs.Math.Seq.{take-suc}
 use Rattle.crpd_base.specs.declared.data.LoopAt.{LoopAt}
-use Rattle.flow_watch.specs.Watch.{in_range, turns_after, all_turns_after, within_bounds}
+use Rattle.flow_watch.specs.Watch.{in_range, all_turns_after, within_bounds}
 use Rattle.flow_watch.specs.Quiet.{AreStill, KeepsTurns}
 
 -- the turns with those of the first i loops counted: what is left to count gives the whole
@@ -31,7 +31,7 @@ counted_still a loops turns i loop h below is keeps =
     let test : nat_le t loop.bound ≡ true = grind (arith, nat_tests, keeps.within) in
     let all : all_turns_after a (drop i loops) (drop i turns) ≡ t ∷ rest = rw (here, turn) (ap (λ (x : ℕ). x ∷ rest) keeps.same) in
     let fits : within_bounds (drop i loops) (all_turns_after a (drop i loops) (drop i turns)) ≡ within_bounds (drop (suc i) loops) rest =
-        ap (within_bounds (drop i loops)) all ∙ rw (here, test) refl in
+    ap (within_bounds (drop i loops)) all ∙ rw (here, test) refl in
     let next : suc i ≡ i + 1 = omega arith in
     subst (λ (n : ℕ). IsCounted a loops turns n turns) next
     (record {
@@ -59,7 +59,7 @@ counted_all a loops turns i h all =
     let none : drop i loops ≡ [] = drop_all i loops all in
     let last : drop i turns ≡ [] = drop_all i turns (omega (arith, h.same)) in
     let same : all_turns_after a loops turns ≡ turns =
-        h.counted ∙ (ap (λ (xs : List ℕ). take i turns ++ xs) (none_counts a (drop i loops) (drop i turns) none ∙ sym last) ∙ take-append-drop i turns) in
+    h.counted ∙ (ap (λ (xs : List ℕ). take i turns ++ xs) (none_counts a (drop i loops) (drop i turns) none ∙ sym last) ∙ take-append-drop i turns) in
     record { same = same; within = ap (within_bounds loops) (sym same) ∙ h.within ∙ none_exceeds (drop i loops) (all_turns_after a (drop i loops) (drop i turns)) none }
 
 -- an arrival at another address than its head leaves a loop that is not open as it is
@@ -80,6 +80,7 @@ still_held a near loop turns r other within found low high =
   where
     option_some_same : (x r : ℕ × ℕ) → Some x ≡ Some r → x ≡ r
     option_some_same x r e = cc
+
     held_by : (a near : ℕ) (rs : List (ℕ × ℕ)) (r : ℕ × ℕ) → find (in_range near) rs ≡ Some r → r.0 ≤ a → a < r.1 → list_any (in_range a) rs ≡ true
     held_by a near [] r found low high = cc
     held_by a near (x ∷ rs) r found low high =

@@ -3,7 +3,6 @@ ghost use Rattle.std.specs.Prelude.{◌≡◌, ◌≢◌, ℕ, ◌<◌, ◌≤�
 ghost use Rattle.std.specs.Bool.{OnTrue};
 ghost use Rattle.std.specs.List.{find, list_any};
 ghost use Rattle.flow_watch.specs.Watch.{holds, in_range, turns_after, all_turns_after, within_bounds};
-
 ghost use Rattle.flow_watch.specs.Quiet.{AreStill, KeepsTurns};
 
 use crpd_base::LoopAt;

@@ -1,5 +1,5 @@
 // The core, and what a job does with it while it has it.
-ghost use Rattle.std.specs.Prelude.{◌≡◌, ℕ, suc, ◌<◌, ◌≤◌, not, length, IfOk, IsTrue, OnOk};
+ghost use Rattle.std.specs.Prelude.{◌≡◌, ℕ, suc, ◌<◌, ◌≤◌, not, length, Some, IfOk, IfSome, IsTrue, OnOk};
 ghost use Rattle.rv_decode.specs.Range.{IsInRange};
 ghost use Rattle.rv_core.specs.Effect.{next_pc};
 ghost use Rattle.icache.specs.Cache.{accessed, block_of, is_hit, set_of};
@@ -9,7 +9,7 @@ ghost use Rattle.preempt_machine.specs.Machine.{System, Open, plan_of};
 ghost use Rattle.preempt_machine.specs.Step.{fetch_cost, fetched, goes_on, went};
 ghost use Rattle.preempt_machine.specs.Running.{system_by, HasPlan};
 ghost use Rattle.preempt_machine.specs.Jobs.{turn_by};
-ghost use Rattle.preempt_fast.specs.Decodings.{AreDecoded};
+ghost use Rattle.preempt_fast.specs.Decodings.{AreCosts, AreDecoded};
 ghost use Rattle.preempt_fast.specs.Stretch.{HasMoved};
 
 use crate::decoded::{Decoded, Decoding};
@@ -18,7 +18,7 @@ use crpd_base::{Memory, SETS, TaskPlan};
 use icache::{Access, Cache, Geometry};
 use preempt_machine::Job;
 use rv_core::{DataMemory, Next};
-use rv_decode::{Ins, cost};
+use rv_decode::Ins;
 
 /// The core's cache, the data memory, and the instructions that are kept by address.
 #[derive(Drop)]
@@ -54,37 +54,36 @@ impl Core {
     }
 
     /// Fetches a job's instruction, after which it goes on so, and gives its cycles.
-    fn fetch(&mut self, job: &Job, found: &Decoding, ins: &Ins, next: Next) -> u64
-        requires in_range { IsInRange ins.now }
-        requires next { next ≡ next_pc ins.now job.now.pc job.now.registers }
+    fn fetch(&mut self, job: &Job, found: &Decoding, next: Next) -> u64
+        requires costs { IfSome found.now.meaning (AreCosts self.old.geometry.platform found.now.costs) }
+        requires next { IfSome found.now.meaning (λ ins. next ≡ next_pc ins job.now.pc job.now.registers) }
         requires room { self.old.geometry.platform.sets ≤ length self.old.cache }
         requires block { found.now.block ≡ block_of self.old.geometry.platform job.now.pc }
         requires set { found.now.set ≡ set_of self.old.geometry.platform found.now.block }
-        ensures cost { (sys : System) (k : ℕ) → sys.platform ≡ self.old.geometry.platform → result ≡ fetch_cost sys ins.now (turn_by self.old.cache self.old.memory k job.now) }
+        ensures cost { (sys : System) (k : ℕ) (ins : Ins) → sys.platform ≡ self.old.geometry.platform → found.now.meaning ≡ Some ins → result ≡ fetch_cost sys ins (turn_by self.old.cache self.old.memory k job.now) }
         ensures cache { self.new.cache ≡ accessed self.old.geometry.platform self.old.cache (block_of self.old.geometry.platform job.now.pc) }
         ensures memory { self.new.memory ≡ self.old.memory }
         ensures geometry { self.new.geometry ≡ self.old.geometry }
         ensures decoded { self.new.decoded ≡ self.old.decoded }
     {
         let missed = self.misses(found.block, found.set);
-        let taken = is_taken(next, job.pc());
-        cost(&self.geometry.platform, ins, missed, taken)
+        found.costs.cycles(missed, is_taken(next, job.pc()))
     }
 
     /// Fetches a job's instruction where none is under way.
-    fn begin(&mut self, job: &mut Job, found: &Decoding, ins: &Ins, next: Next)
-        requires in_range { IsInRange ins.now }
-        requires next { next ≡ next_pc ins.now job.old.pc job.old.registers }
+    fn begin(&mut self, job: &mut Job, found: &Decoding, next: Next)
+        requires costs { IfSome found.now.meaning (AreCosts self.old.geometry.platform found.now.costs) }
+        requires next { IfSome found.now.meaning (λ ins. next ≡ next_pc ins job.old.pc job.old.registers) }
         requires room { self.old.geometry.platform.sets ≤ length self.old.cache }
         requires block { found.now.block ≡ block_of self.old.geometry.platform job.old.pc }
         requires set { found.now.set ≡ set_of self.old.geometry.platform found.now.block }
-        ensures fetched { (sys : System) (k : ℕ) → sys.platform ≡ self.old.geometry.platform → turn_by self.new.cache self.new.memory k job.new ≡ fetched sys ins.now (turn_by self.old.cache self.old.memory k job.old) }
+        ensures fetched { (sys : System) (k : ℕ) (ins : Ins) → sys.platform ≡ self.old.geometry.platform → found.now.meaning ≡ Some ins → turn_by self.new.cache self.new.memory k job.new ≡ fetched sys ins (turn_by self.old.cache self.old.memory k job.old) }
         ensures job { job.new ≡ record job.old { left = job.new.left } }
         ensures geometry { self.new.geometry ≡ self.old.geometry }
         ensures decoded { self.new.decoded ≡ self.old.decoded }
     {
         if job.left() == 0 {
-            let cycles = self.fetch(job, found, ins, next);
+            let cycles = self.fetch(job, found, next);
             job.set_left(cycles);
         }
     }
@@ -158,7 +157,7 @@ impl Core {
             return Ok(now + 1);
         };
         let next = job.next(&ins);
-        self.begin(job, &found, &ins, next);
+        self.begin(job, &found, next);
         let left = job.left();
         if left > until - now {
             job.set_left(left - (until - now));

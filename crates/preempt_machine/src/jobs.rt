@@ -181,6 +181,17 @@ impl Job {
         self.standing = Standing::Answered(time);
     }
 
+    /// It is at an address from a time on, with no instruction under way. At the end it has answered then.
+    fn reach(&mut self, to: u32, time: u64)
+        ensures { self.new ≡ record self.old { pc = to; left = 0; standing = if to == end then Answered time else self.old.standing } }
+    {
+        self.pc = to;
+        self.left = 0;
+        if to == END {
+            self.standing = Standing::Answered(time);
+        }
+    }
+
     /// Goes on at an address, after the effect of its instruction, which ends at a time.
     fn arrive(
         &mut self,
@@ -199,12 +210,9 @@ impl Job {
         ensures only { IsStore ins.now ⊎ IsOk result }
     {
         carry_out(ins, self.pc, &mut self.registers, memory)?;
-        self.watch.step(plan, self.pc, ins, to);
-        self.pc = to;
-        self.left = 0;
-        if to == END {
-            self.standing = Standing::Answered(time);
-        }
+        let from = self.pc;
+        self.reach(to, time);
+        self.watch.step(plan, from, ins, to);
         Ok(())
     }
 
@@ -226,11 +234,7 @@ impl Job {
         ensures only { IsStore ins.now ⊎ IsOk result }
     {
         carry_out(ins, self.pc, &mut self.registers, memory)?;
-        self.pc = to;
-        self.left = 0;
-        if to == END {
-            self.standing = Standing::Answered(time);
-        }
+        self.reach(to, time);
         Ok(())
     }
 
