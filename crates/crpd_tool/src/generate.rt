@@ -1,5 +1,5 @@
 // The command `generate`.
-ghost use Rattle.std.specs.Prelude.{◌≡◌, ◌^◌, ◌<◌, ◌≤◌, ◌++◌, length, map, string_bytes, IfOk, IsErrOf, Ok};
+ghost use Rattle.std.specs.Prelude.{◌≡◌, ◌^◌, ◌<◌, ◌≤◌, length, map, string_bytes, IfOk, IsErrOf, Ok};
 ghost use Rattle.cert_build.specs.Best.{IsBest};
 ghost use Rattle.cert_check.specs.Shown.{AreShown, shown_at};
 ghost use Rattle.cert_model.specs.Ranges.{IsCertificate};
