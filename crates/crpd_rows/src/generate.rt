@@ -141,12 +141,7 @@ const NO_NUMBERS: [&str; 12] = [
 ];
 
 // What words end with, over files whose first call fails.
-fn ends(
-    rt: &impl Abort,
-    alloc: Global,
-    words: &[&str],
-    ended: (Status, &str),
-) -> Result<(), Fail> {
+fn ends(rt: &impl Abort, alloc: Global, words: &[&str], ended: (Status, &str)) -> Result<(), Fail> {
     let mut list = Vec::new(alloc);
     for word in words {
         list.push(String::from_str(alloc, word)?)?;
