@@ -128,6 +128,22 @@ impl Graph {
         }
     }
 
+    /// A node's address in bytes. In constant time; it takes no memory.
+    pub fn address(&self, id: NodeId) -> u32
+        requires { id.0 < (graph_of self.now).size }
+        ensures { result ≡ (places_of self.now).address id.0 }
+    {
+        self.nodes.as_slice()[id.0 as usize].address
+    }
+
+    /// The instruction at a node. In constant time; it takes no memory.
+    pub fn ins(&self, id: NodeId) -> Ins
+        requires { id.0 < (graph_of self.now).size }
+        ensures { result ≡ ins_of self.now id.0 }
+    {
+        self.nodes.as_slice()[id.0 as usize].ins
+    }
+
     /// The addresses of the calls under way at a node, the outermost first; at most 16. In constant time; it takes no
     /// memory.
     pub fn context(&self, id: NodeId) -> &[u32]
