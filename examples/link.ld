@@ -1,6 +1,6 @@
 /* Code and constants in one segment, data in another. */
 OUTPUT_ARCH(riscv)
-ENTRY(control_step)
+ENTRY(_start)
 PHDRS
 {
     code PT_LOAD FLAGS(5);
@@ -9,7 +9,7 @@ PHDRS
 SECTIONS
 {
     . = 0x1000;
-    .text : { *(.text .text.*) } :code
+    .text : { PROVIDE(_start = .); *(.text .text.*) } :code
     .rodata : { *(.rodata .rodata.* .srodata .srodata.*) } :code
     . = 0x8000;
     .data : { *(.data .data.* .sdata .sdata.*) } :data

@@ -49,12 +49,12 @@ fn analyse_task(
     }
 }
 
-/// The analyses of all tasks, one after the other, where their state entries are at most 4,000,000. Once they are more, the
-/// entries of the tasks left are counted and not kept.
+/// The analyses of all tasks, one after the other, where their state entries are at most 4,000,000. Once they are
+/// more, the entries of the tasks left are counted and not kept.
 ///
 /// The refusals are want of memory; then `TooLarge` for the first task whose bound exceeds 2^40 cycles, with the byte
-/// address of its entry; then `TooManyEntries` with the number of the state entries where it exceeds 4,000,000. The time
-/// is that of the analyses.
+/// address of its entry; then `TooManyEntries` with the number of the state entries where it exceeds 4,000,000. The
+/// time is that of the analyses.
 pub fn analyse_all(
     alloc: Global,
     set: &TaskSet,
@@ -84,7 +84,7 @@ pub fn analyse_all(
     Ok(kept)
 }
 
-/// The end of an edge is a node in each of the graphs, and each node is reached.
+/// A law: the end of an edge is a node in each of the graphs, and each node is reached. Linear in the graphs.
 pub fn graphs_law(graphs: &[Graph])
     ensures { All (λ (g : CodeGraph). IsGraph (graph_of g)) graphs.now }
 {
@@ -99,9 +99,9 @@ pub fn graphs_law(graphs: &[Graph])
 ///
 /// The refusals are want of memory; then `TooLarge` for the first task whose bound exceeds 2^40 cycles, with the byte
 /// address of its entry; then `TooManyEntries` with the number of the state entries where it exceeds 4,000,000; then
-/// `Unschedulable` for the first task without a window. One task is analysed at a time, with 4 kB for each leader; of the
-/// others only their entries and potentials are kept. `write_certificate` writes it, and reading gives it back. The time is that of the analyses, one after the other, and of the
-/// windows.
+/// `Unschedulable` for the first task without a window. One task is analysed at a time, with 4 kB for each leader; of
+/// the others only their entries and potentials are kept. `write_certificate` writes it, and reading gives it back.
+/// The time is that of the analyses, one after the other, and of the windows.
 ///
 /// Source: Lee et al. 1998 (useful cache blocks); Altmeyer, Davis and Maiza 2012 (the demand of a window).
 pub fn certify(

@@ -17,7 +17,7 @@ use flat_graph::Graph;
 use response::{Choice, WindowError, windows};
 use std::alloc::{AllocError, Global};
 
-/// The parts of some analyses: what their windows need.
+/// The parts of some analyses: what their windows need. Linear in the analyses; the only error is want of memory.
 pub fn parts_of(alloc: Global, analyses: &[Analysis]) -> Result<Vec<Part>, AllocError>
     ensures { IfOk result (λ parts. parts.items ≡ map (λ (a : Analysis). a.part) analyses.now) }
 {
@@ -69,7 +69,8 @@ fn task_parts(
 }
 
 /// The certificate of a task set with these analyses and choices, one of each for each task: each task's part has its
-/// analysis, the method and the window of its choice, and as response the window with the task's jitter.
+/// analysis, the method and the window of its choice, and as response the window with the task's jitter. Linear in
+/// the tasks; the analyses are moved. The only error is want of memory.
 pub fn assemble(
     alloc: Global,
     set: &TaskSet,
@@ -89,11 +90,11 @@ pub fn assemble(
 }
 
 /// The certificate of a task set with these analyses, one for each task: each task's part has its analysis, and the
-/// smaller of its least windows by the two methods, as `windows` of `response` finds them. The regions of the graphs do
-/// not matter.
+/// smaller of its least windows by the two methods, as `windows` of `response` finds them. The regions of the graphs
+/// do not matter.
 ///
-/// The refusals are want of memory, and `Unschedulable` exactly for the first task without a window. The time is that of
-/// the windows and one look at each node.
+/// The refusals are want of memory, and `Unschedulable` exactly for the first task without a window. The time is that
+/// of the windows and one look at each node.
 pub fn complete(
     alloc: Global,
     set: &TaskSet,

@@ -20,7 +20,8 @@ pub use completed::{assemble, complete, parts_of};
 pub use fault::BuildError;
 pub use one_task::{Analysis, analyse};
 
-/// The full states and useful sets of a listing of Sure and Useful are Sure and Useful at all nodes, and meet the clauses on them.
+/// A law: the full states and useful sets of a listing of Sure and Useful are Sure and Useful at all nodes, and meet
+/// the clauses on them. In constant time.
 pub fn best_laws()
     ensures best_state { BestStateLaw }
     ensures best_useful { BestUsefulLaw }
@@ -29,26 +30,27 @@ pub fn best_laws()
     ensures enough_sets { EnoughSetsLaw }
 {}
 
-/// The judge says yes to the analysis' certificate.
+/// A law: the judge says yes to the analysis' certificate. In constant time.
 pub fn best_is_judged()
     ensures { BestIsJudgedLaw }
 {}
 
-/// The windows found for the parts of a certificate, and written in it, are those of the analysis' certificate.
+/// A law: the windows found for the parts of a certificate, and written in it, are those of the analysis'
+/// certificate. In constant time.
 pub fn choices_law()
     ensures { ChoicesLaw }
 {
     growth_law();
 }
 
-/// A task set has one such certificate at most.
+/// A law: a task set has one such certificate at most. In constant time.
 pub fn one_best()
     ensures { OneBestLaw }
 {
     growth_law();
 }
 
-/// The certificate of a task of two words is the analysis'.
+/// A law: the certificate of a task of two words is the analysis'. In constant time.
 pub fn two_words()
     ensures { TwoWords }
 {}

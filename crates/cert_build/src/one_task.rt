@@ -20,9 +20,13 @@ use useful_sets::{reused, useful_by_hits};
 /// entries of its leaders by ascending node, and the least potentials of its nodes and regions in cycles.
 #[derive(Drop)]
 pub struct Analysis {
+    /// Its execution bound in cycles, 1 to 2^40, and its evicting and useful cache sets.
     pub part: Part,
+    /// What is surely held and useful before each leader, by ascending node.
     pub states: Items<NodeState>,
+    /// The least potentials of its nodes, 0 to 2^40 cycles, by node number.
     pub potentials: Items<u64>,
+    /// The least potentials of its regions, 0 to 2^40 cycles, by region number.
     pub loops: Items<u64>,
 }
 
@@ -32,8 +36,8 @@ pub struct Analysis {
 ///
 /// The refusals are want of memory, and `TooLarge` with the byte address of the task's entry exactly where the bound
 /// exceeds 2^40 cycles. While it works it takes 4 kB for each leader, some sets of cache sets for each node, and for
-/// each leader what its entry holds; it gives back all but the entries and 8 bytes for each node and region. The time is
-/// that of the must analysis, of the useful sets and of the bound, and one look at each cache set of each leader.
+/// each leader what its entry holds; it gives back all but the entries and 8 bytes for each node and region. The time
+/// is that of the must analysis, of the useful sets and of the bound, and one look at each cache set of each leader.
 pub fn analyse(
     alloc: Global,
     graph: &Graph,

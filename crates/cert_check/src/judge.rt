@@ -53,11 +53,13 @@ fn task_failure(
 ///
 /// Clause 1: the platforms are equal (place 0), the certificate has the task (1), the names are equal (2), and after the
 /// last task it has none (3). Clause 2: the listed numbers are nodes and every leader is listed (0), there is a potential
-/// for each node (1) and for each region (2). Clauses 3 to 6, whose places are nodes: a state has nothing that is not in
-/// the state after each node before it, and the first is empty; a useful set has its node's set where the node is counted
-/// as a hit, and what is useful later; the task's sets have those of the node; the potentials pay for the node's edges and
-/// for the regions that they leave. Clause 7: the bound is at least the potential of the first node. Clause 8: the window
-/// has room for the demand. Clause 9: the response is the window and the jitter (0), and at most the deadline (1).
+/// for each node (1) and for each region (2). Clauses 3 to 6 speak of each node, which is the place: the first node's state
+/// is empty, and a successor's state has nothing that is not in the state after the node (3); the node's useful set has its
+/// own cache set where it is counted as a hit, and every other one that is useful at a successor (4); the task's sets have
+/// those of the node (5); the potentials pay for the node's edges, for the regions that these leave, and for the turns of
+/// the region whose head it is (6). Clause 7: the bound is at least the potential of the first node, or of the region whose
+/// head that is. Clause 8: the window has room for the demand. Clause 9: the response is the window and the jitter (0), and
+/// at most the deadline (1).
 ///
 /// The listed states may stand in any order; of two entries of a node, or of a cache set, the first counts. Listed cache
 /// sets are below 512, and windows are at most 2^40.

@@ -53,7 +53,7 @@ pub(crate) fn name_failure(set: &TaskSet, certificate: &Certificate, i: usize) -
     None
 }
 
-/// The longest cost of one instruction of a task, 1 to 2^18 cycles.
+/// The longest cost of one instruction of a task, 1 to 2^18 cycles. It looks at each node once and takes no memory.
 pub fn longest_cost(graph: &Graph, platform: &Platform) -> u64
     requires { IsPlatform platform.now }
     ensures is { result ≡ longest platform.now (graph_of graph.now) (listing graph.now) (answers_of graph.now) }
@@ -64,7 +64,7 @@ pub fn longest_cost(graph: &Graph, platform: &Platform) -> u64
     evict_sets::longest(graph, platform)
 }
 
-/// Writes the longest cost of one instruction of each task. Linear in the nodes of all graphs.
+/// Writes the longest cost of one instruction of each task. Linear in the nodes of all graphs. It takes no memory.
 pub fn write_longest(set: &TaskSet, graphs: &[Graph], longest: &mut [u64])
     requires platform { IsPlatform set.now.platform }
     requires graphs { length graphs.now ≡ length set.now.tasks }
@@ -77,7 +77,7 @@ pub fn write_longest(set: &TaskSet, graphs: &[Graph], longest: &mut [u64])
     }
 }
 
-/// The times of a task set are in their ranges.
+/// The times of a task set are in their ranges. In constant time.
 pub fn times_law(set: &TaskSet)
     requires { IsTaskSet set.now }
     ensures { HasTimes set.now }

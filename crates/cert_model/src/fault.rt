@@ -7,19 +7,26 @@ use crpd_base::Text;
 use std::alloc::{AllocError, AllocFailed};
 use thiserror::Error;
 
-/// The first thing that is wrong with the text of a certificate. A key is told with its path, and the whole text as `-`.
+/// The first thing that is wrong with the text of a certificate. A key is told with its path, and the whole text as
+/// `-`.
 #[derive(Debug, Drop, Error)]
 pub enum CertError {
+    /// There is no memory for the certificate or for what the text says.
     #[error("out of memory")]
     Memory,
+    /// The bytes are no JSON.
     #[error("not JSON")]
     NotJson,
+    /// A key is absent.
     #[error("{0} is missing")]
     Missing(Text),
+    /// A value is of another kind or outside its range.
     #[error("{0} has a bad value")]
     BadValue(Text),
+    /// There are more than 4,000,000 state entries: their number.
     #[error("{0} state entries are too many")]
     TooLong(u64),
+    /// The version is a whole number other than 1 and 2.
     #[error("version {0} is not known")]
     OtherVersion(u64),
 }

@@ -22,7 +22,8 @@ fn key_path(alloc: Global, path: &str, key: &str) -> Result<Text, AllocError>
     Ok(Text::new(text))
 }
 
-/// The path of the object at a place in the list at a key.
+/// The path of the object at a place, counted from 0, in the list at a key, with a point at the end. The only error
+/// is want of memory.
 pub fn item_path(alloc: Global, key: &str, place: usize) -> Result<String, AllocError>
     ensures { IfOk result (λ s. string_bytes s ≡ spec.item_path key.now place) }
 {
@@ -32,7 +33,9 @@ pub fn item_path(alloc: Global, key: &str, place: usize) -> Result<String, Alloc
 /// An object that is read, and the path of its keys.
 #[derive(Clone, Copy)]
 pub struct Keys<'a> {
+    /// The object.
     pub object: &'a Object,
+    /// What stands before each of its keys in a path: empty for the whole text, else with a point at the end.
     pub path: &'a str,
 }
 
@@ -44,7 +47,7 @@ impl<'a> Keys<'a> {
         self.object.get(key)
     }
 
-    /// The value at a key that has to be there.
+    /// The value at a key that has to be there, else `Missing`. Memory is taken for the path of a refusal alone.
     pub fn present(&self, alloc: Global, key: &str) -> Result<&'a Value, CertError>
         ensures { Gives (λ v. view v.now) result (spec.present self.now.path.now key.now (members_view self.now.object.now.entries)) }
     {
@@ -54,7 +57,7 @@ impl<'a> Keys<'a> {
         }
     }
 
-    /// What was read from the value at a key, which is bad where nothing was.
+    /// What was read from the value at a key, else `BadValue`. Memory is taken for the path of a refusal alone.
     pub fn good<T: Drop>(&self, alloc: Global, key: &str, read: Option<T>) -> Result<T, CertError>
         ensures { Gives (λ x. x) result (spec.good self.now.path.now key.now read) }
     {
@@ -64,7 +67,7 @@ impl<'a> Keys<'a> {
         }
     }
 
-    /// A number from low to high.
+    /// A number from low to high, else `Missing` or `BadValue`. Memory is taken for the path of a refusal alone.
     #[tactic(auto, unfolding(crate::specs::Keys::required))]
     pub fn number(&self, alloc: Global, key: &str, low: u64, high: u64) -> Result<u64, CertError>
         ensures is { Gives (λ x. x) result (spec.required (kind.whole low high) self.now.path.now key.now (members_view self.now.object.now.entries)) }
@@ -74,7 +77,8 @@ impl<'a> Keys<'a> {
         self.good(alloc, key, whole(value, low, high))
     }
 
-    /// A number from low to high, of 32 bits.
+    /// A number from low to high, of 32 bits, else `Missing` or `BadValue`. Memory is taken for the path of a refusal
+    /// alone.
     pub fn small_number(
         &self,
         alloc: Global,

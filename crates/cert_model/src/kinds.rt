@@ -13,7 +13,7 @@ use std::alloc::{AllocError, Global};
 /// The members of an object.
 pub type Object = Map<String, Value>;
 
-/// A number from low to high.
+/// A number from low to high, None for any other value. In constant time.
 pub fn whole(value: &Value, low: u64, high: u64) -> Option<u64>
     ensures is { result ≡ spec.whole low high (view value.now) }
     ensures bound { IfSome result (λ n. n ≤ high) }
@@ -24,7 +24,7 @@ pub fn whole(value: &Value, low: u64, high: u64) -> Option<u64>
     }
 }
 
-/// A number from low on, below a limit.
+/// A number from low on, below a limit, None for any other value. In constant time.
 pub fn below(value: &Value, low: u64, limit: u64) -> Option<u64>
     ensures is { result ≡ spec.below low limit (view value.now) }
     ensures bound { IfSome result (λ n. n < limit) }
@@ -35,7 +35,7 @@ pub fn below(value: &Value, low: u64, limit: u64) -> Option<u64>
     }
 }
 
-/// The length of a cache line in bytes.
+/// The length of a cache line in bytes: 4, 8, 16, 32 or 64, None for any other value. In constant time.
 #[tactic(auto, unfolding(crate::specs::Kinds::line))]
 pub fn line(value: &Value) -> Option<u32>
     ensures { result ≡ spec.line (view value.now) }
@@ -46,7 +46,7 @@ pub fn line(value: &Value) -> Option<u32>
     }
 }
 
-/// Where a context switch may happen.
+/// Where a context switch may happen: `cycle` or `instruction`, None for any other value. In constant time.
 #[tactic(auto, unfolding(crate::specs::Kinds::switching))]
 pub fn switching(value: &Value) -> Option<Switching>
     ensures { result ≡ spec.switching (view value.now) }
@@ -58,7 +58,7 @@ pub fn switching(value: &Value) -> Option<Switching>
     }
 }
 
-/// By which delay a window is computed.
+/// By which delay a window is computed: `ucb` or `ecb`, None for any other value. In constant time.
 #[tactic(auto, unfolding(crate::specs::Kinds::method))]
 pub fn method(value: &Value) -> Option<Method>
     ensures { result ≡ spec.method (view value.now) }
@@ -70,7 +70,7 @@ pub fn method(value: &Value) -> Option<Method>
     }
 }
 
-/// A task's name.
+/// A task's name, 1 to 32 bytes, None for any other value. The only error is want of memory.
 #[tactic(auto, unfolding(crate::specs::Kinds::name))]
 pub fn name(alloc: Global, value: &Value) -> Result<Option<String>, AllocError>
     ensures { IfOk result (λ s. option_map string_bytes s ≡ spec.name (view value.now)) }
@@ -98,7 +98,8 @@ fn numbers(alloc: Global, value: &Value) -> Result<Option<Vec<u64>>, AllocError>
     Ok(Some(found))
 }
 
-/// At most so many potentials, each from 0 to 2^40.
+/// At most so many potentials, each from 0 to 2^40 cycles, None for any other value. Linear in the list; the only
+/// error is want of memory.
 #[tactic(auto, unfolding(crate::specs::Kinds::potentials))]
 pub fn potentials(alloc: Global, most: u64, value: &Value) -> Result<Option<Vec<u64>>, AllocError>
     ensures { IfOk result (λ found. option_map (λ v. v.items) found ≡ spec.potentials most (view value.now)) }
@@ -126,7 +127,7 @@ fn all_objects<'a>(alloc: Global, value: &'a Value) -> Result<Option<Vec<&'a Obj
     Ok(Some(found))
 }
 
-/// A list of 1 to so many objects.
+/// A list of 1 to so many objects, None for any other value. Linear in the list; the only error is want of memory.
 #[tactic(auto, unfolding(crate::specs::Kinds::objects))]
 pub fn objects<'a>(
     alloc: Global,

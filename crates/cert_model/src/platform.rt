@@ -92,7 +92,9 @@ fn second_platform(alloc: Global, keys: Keys) -> Result<Platform, CertError>
     })
 }
 
-/// The platform of a certificate.
+/// The platform of a certificate, its keys in byte order. In version 1 `mul` and `div` are 0, and switches may happen
+/// in every cycle. The first key that is absent or has a bad value is the refusal; memory is taken for its path
+/// alone.
 pub fn platform_at(alloc: Global, version: Version, keys: Keys) -> Result<Platform, CertError>
     ensures { Gives (λ x. x) result (spec.platform_at version keys.entry.path.now (members_view keys.entry.object.now.entries)) }
 {

@@ -153,7 +153,9 @@ fn listed_tasks(
     each_task(alloc, version, objects.as_slice())
 }
 
-/// The tasks of a certificate.
+/// The tasks of a certificate, 1 to 16 in version 1 and to 32 in version 2, each with its keys in byte order. Linear
+/// in the text's tree. The first key that is absent or has a bad value is the refusal; `Memory` may come in place of
+/// any answer.
 pub fn tasks_at(
     alloc: Global,
     version: Version,

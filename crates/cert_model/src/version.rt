@@ -6,12 +6,14 @@ ghost use Rattle.cert_model.specs.Reading as spec;
 /// The form of a certificate's text.
 #[derive(Clone, Copy, Debug, PartialEq, Eq)]
 pub enum Version {
+    /// Version 1, which is read and never written.
     First,
+    /// Version 2, which is read and written.
     Second,
 }
 
 impl Version {
-    /// The most cache sets.
+    /// The most cache sets: 256 or 512. In constant time.
     pub fn most_sets(self) -> u64
         ensures is { result ≡ spec.most_sets self }
         ensures bound { result ≤ 512 }
@@ -22,7 +24,7 @@ impl Version {
         }
     }
 
-    /// The most nodes of a task.
+    /// The most nodes of a task: 4,096 or 16,384. In constant time.
     pub fn most_nodes(self) -> u64
         ensures is { result ≡ spec.most_nodes self }
         ensures bound { result ≤ 16384 }
@@ -33,7 +35,7 @@ impl Version {
         }
     }
 
-    /// The most tasks.
+    /// The most tasks: 16 or 32. In constant time.
     pub fn most_tasks(self) -> u64
         ensures is { result ≡ spec.most_tasks self }
         ensures bound { result ≤ 32 }

@@ -9,6 +9,7 @@ use std::alloc::{AllocError, AllocFailed};
 /// The first thing that is wrong with a task set and its files.
 #[derive(Debug, Drop)]
 pub enum MapError {
+    /// There is no memory for the code map.
     Memory,
     /// The least address at which two files have different code bytes.
     CodeConflict(u32),

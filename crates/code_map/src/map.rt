@@ -63,9 +63,9 @@ impl CodeMap {
         })
     }
 
-    /// The word at an address: a number of 32 bits whose lowest byte stands at the address. There is none where
-    /// the address is no multiple of 4, is 0xFFFFFFFC, or one of the four bytes is no code byte. Logarithmic in
-    /// the number of segments.
+    /// The word at an address: a number of 32 bits whose lowest byte stands at the address. There is none where the
+    /// address is no multiple of 4, is 0xFFFFFFFC, or one of the four bytes is no code byte. Logarithmic in the
+    /// number of segments. It takes no memory.
     pub fn word(&self, address: u32) -> Option<u32>
         ensures is { result ≡ word_at self.now.images address }
         ensures within { IfSome result (λ _. address + 4 ≤ end) }
@@ -73,7 +73,7 @@ impl CodeMap {
         self.files.word(address)
     }
 
-    /// The plan of a task: the addresses of its entry, stack, global and loops. Takes no time that grows.
+    /// The plan of a task of the set: the addresses of its entry, stack, global and loops. In constant time.
     pub fn plan(&self, task: Task) -> &TaskPlan
         requires { task.0 < length self.now.plans }
         ensures { slice_get self.now.plans task.0 ≡ Some result.now }
@@ -82,7 +82,8 @@ impl CodeMap {
         &self.plans.as_slice()[place]
     }
 
-    /// Whether the word at an address stands wholly in the task's own file. Logarithmic in the number of its segments.
+    /// Whether the word at an address stands wholly in the task's own file. Logarithmic in the number of its
+    /// segments. It takes no memory.
     pub fn own(&self, task: Task, address: u32) -> bool
         requires { task.0 < length self.now.images }
         ensures { option_map (λ i. owns i address) (slice_get self.now.images task.0) ≡ Some result }
@@ -92,7 +93,7 @@ impl CodeMap {
 
     /// The least address at or after one at which a word stands wholly in the task's own file, where there is one. So
     /// the addresses of a task's own words come one after another. Logarithmic in the number of the file's segments,
-    /// and linear in those passed over.
+    /// and linear in those passed over. It takes no memory.
     pub fn next_own(&self, task: Task, from: u32) -> Option<u32>
         requires { task.0 < length self.now.images }
         ensures is { (i : Image) → slice_get self.now.images task.0 ≡ Some i → IsNextOf (owns i) from result }
@@ -101,28 +102,29 @@ impl CodeMap {
         self.files.next_own(usize::from(task.0), from)
     }
 
-    /// The images of the tasks' files, in the order of the tasks.
+    /// The images of the tasks' files, in the order of the tasks. In constant time.
     pub fn images(&self) -> &[Image]
         ensures { result.now ≡ self.now.images }
     {
         self.files.images()
     }
 
-    /// There is one plan for each image.
+    /// There is one plan for each image. In constant time.
     pub fn plans_law(&self)
         ensures { length self.now.plans ≡ length self.now.images }
     {
         let _plans = &self.plans;
     }
 
-    /// Each image has its segments in the address space, apart from each other, and none with more bytes than its size.
+    /// Each image has its segments in the address space, apart from each other, and none with more bytes than its
+    /// size. In constant time.
     pub fn images_law(&self)
         ensures { All IsImage self.now.images }
     {
         self.files.images_law();
     }
 
-    /// A word ends below the address at which jobs end, and has 32 bits.
+    /// A word ends below the address at which jobs end, and has 32 bits. In constant time.
     pub fn words_law(&self)
         ensures { (a w : ℕ) → word_at self.now.images a ≡ Some w → (a + 4 ≤ end) × (w < 2 ^ 32) }
     {

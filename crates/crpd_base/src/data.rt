@@ -3,166 +3,249 @@ use crate::limits::WORDS;
 use crate::lists::{Items, Text};
 use crate::set_bits::SetBits;
 
-/// Want of memory.
+/// Want of memory: an allocation was refused.
 #[derive(Clone, Copy, Debug, PartialEq, Eq)]
 pub struct Memory;
 
-/// A task's place in priority order, 0 the highest.
+/// A task's place in priority order, 0 the highest, at most 31.
 #[derive(Clone, Copy, Debug, PartialEq, Eq)]
 pub struct Task(pub u8);
 
-/// A node's number.
+/// A node's number in its task's flat graph, from 0, below 16,384. Nodes are ordered by context, then by address.
 #[derive(Clone, Copy, Debug, PartialEq, Eq)]
 pub struct NodeId(pub u32);
 
 /// A job: the job of this number of its task in the script.
 #[derive(Clone, Copy, Debug, PartialEq, Eq)]
 pub struct JobId {
+    /// The job's task.
     pub task: Task,
+    /// How many jobs of this task stand before it in the script, below 10,000.
     pub number: u32,
 }
 
-/// Where a switch may happen.
+/// Where a switch from one job to another may happen.
 #[derive(Clone, Copy, Debug, PartialEq, Eq)]
 pub enum Switching {
+    /// In every cycle; an interrupted instruction goes on later with the cycles it has left.
     Cycle,
+    /// Only between two instructions.
     Instruction,
 }
 
-/// The core and its cache. Times are cycles; `memory` is the cost of a load or store.
+/// The core and its direct-mapped instruction cache. Costs are in cycles, the further ones on top of `hit`.
 #[derive(Clone, Copy, Debug, PartialEq, Eq)]
 pub struct Platform {
+    /// Length of a cache line in bytes: 4, 8, 16, 32 or 64. The block of a byte address is the address over it.
     pub line: u32,
+    /// How many cache sets there are, each of one line: 1 to 512.
     pub sets: u32,
+    /// Cycles of any instruction: 1 to 65,535.
     pub hit: u32,
+    /// Further cycles where the instruction's block has to be loaded: 0 to 65,535.
     pub miss: u32,
+    /// Further cycles of a load or store: 0 to 65,535. Files give it under the key `data`.
     pub memory: u32,
+    /// Further cycles where the next instruction is not the one that follows in memory: 0 to 65,535.
     pub taken: u32,
+    /// Cycles of a context switch: 0 to 65,535.
     pub switch: u32,
+    /// Further cycles of mul, mulh, mulhsu and mulhu: 0 to 65,535.
     pub mul: u32,
+    /// Further cycles of div, divu, rem and remu: 0 to 65,535.
     pub div: u32,
+    /// Where a switch may happen.
     pub switching: Switching,
 }
 
-/// An address, as a number or by a symbol.
+/// A byte address, as a number or by a symbol of the task's own ELF file.
 #[derive(Drop)]
 pub enum Place {
+    /// The address itself.
     Number(u32),
+    /// The value of the file's first symbol of this name, which is not empty, plus the offset in bytes.
     Symbol { name: Text, offset: u32 },
 }
 
+/// A loop that the user states, with its bound. It holds its head and the addresses in its ranges.
 #[derive(Drop)]
 pub struct LoopSpec {
+    /// The place of the instruction at which each turn begins.
     pub head: Place,
+    /// How often the head is reached at most each time the loop is entered: 1 to 1,000,000.
     pub bound: u32,
+    /// Pairs of places; each pair holds the addresses from the first place on, without the second. It may be empty.
     pub ranges: Items<(Place, Place)>,
 }
 
+/// A task as its set states it. Times are in cycles.
 #[derive(Drop)]
 pub struct TaskSpec {
+    /// 1 to 32 bytes, each an ASCII letter or digit, `_`, `.` or `-`; no two tasks of a set have one name.
     pub name: Text,
+    /// The name of its ELF file: 1 to 255 bytes, none of them 0x7F or below 0x21.
     pub file: Text,
+    /// Where its jobs start; None stands for the entry that the ELF file names.
     pub entry: Option<Place>,
+    /// The least cycles between two arrivals of its jobs: 1 to 2^40.
     pub period: u64,
+    /// The cycles from an arrival within which the job has to answer: 1 to the period.
     pub deadline: u64,
+    /// How many cycles after its arrival a job is released at most: 0 to 2^40.
     pub jitter: u64,
+    /// What x2 holds at a job's start.
     pub stack: Place,
+    /// What x3 holds at a job's start.
     pub global: Place,
+    /// Its stated loops, at most 64.
     pub loops: Items<LoopSpec>,
 }
 
+/// Fixed-priority preemptive tasks that share one core and its instruction cache.
 #[derive(Drop)]
 pub struct TaskSet {
+    /// The core and its cache.
     pub platform: Platform,
+    /// 1 to 32 tasks in priority order, the highest first.
     pub tasks: Items<TaskSpec>,
 }
 
+/// A PT_LOAD segment of an ELF32 file.
 #[derive(Drop)]
 pub struct Segment {
+    /// The byte address at which it begins (`p_vaddr`).
     pub address: u32,
+    /// Its length in bytes (`p_memsz`); address plus size is at most 2^32.
     pub size: u64,
+    /// Its first bytes, as they stand in the file (`p_filesz` of them, at most the size); the others are 0.
     pub bytes: Items<u8>,
+    /// Whether its bytes are code (flag PF_X).
     pub executable: bool,
 }
 
+/// A symbol of an ELF32 file.
 #[derive(Drop)]
 pub struct Symbol {
+    /// The bytes of its name without the zero at the end; at least one.
     pub name: Items<u8>,
+    /// Its value (`st_value`), a byte address.
     pub value: u32,
 }
 
+/// What is read of a RISC-V ELF32 executable.
 #[derive(Drop)]
 pub struct Image {
+    /// The byte address at which it starts (`e_entry`).
     pub entry: u32,
+    /// Its PT_LOAD segments in the order of the file; no two share an address.
     pub segments: Items<Segment>,
+    /// Its named symbols in the order of the first symbol table; of those with one name the first counts.
     pub symbols: Items<Symbol>,
 }
 
+/// A stated loop whose places are resolved to byte addresses.
 #[derive(Drop)]
 pub struct LoopAt {
+    /// The address at which each turn begins.
     pub head: u32,
+    /// How often the head is reached at most each time the loop is entered: 1 to 1,000,000.
     pub bound: u32,
+    /// Pairs of addresses; each pair holds the addresses from the first on, without the second. It may be empty.
     pub ranges: Items<(u32, u32)>,
 }
 
+/// A task whose places are resolved to byte addresses.
 #[derive(Drop)]
 pub struct TaskPlan {
+    /// The address at which its jobs start.
     pub entry: u32,
+    /// What x2 holds at a job's start.
     pub stack: u32,
+    /// What x3 holds at a job's start.
     pub global: u32,
+    /// Its stated loops in the order of the set, at most 64.
     pub loops: Items<LoopAt>,
 }
 
+/// A job of a script. Times are cycles from the run's start.
 #[derive(Clone, Copy, Debug, PartialEq, Eq)]
 pub struct ScriptJob {
+    /// Its task, one of the set.
     pub task: Task,
+    /// The cycle from which its deadline counts: 0 to 2^40.
     pub arrival: u64,
+    /// The cycle from which it may run: 0 to 2^40; in a legal script from the arrival on, at most the jitter later.
     pub release: u64,
 }
 
+/// What a run starts with.
 #[derive(Drop)]
 pub struct Script {
+    /// How many cycles the run makes: 1 to 2^40.
     pub cycles: u64,
+    /// The blocks that are cached at the start, each in its cache set, a later one over an earlier one.
     pub cache: Items<u32>,
+    /// The jobs, at most 10,000. A job's number counts those of its task before it.
     pub jobs: Items<ScriptJob>,
 }
 
-/// By which delay a window is computed.
+/// By which delay a window is computed: the multiset methods of Altmeyer, Davis and Maiza (2012).
 #[derive(Clone, Copy, Debug, PartialEq, Eq)]
 pub enum Method {
+    /// UCB-union multiset: the useful cache sets of the preempted tasks that the preempting task evicts.
     Ucb,
+    /// ECB-union multiset: per preempted task, its useful cache sets that the tasks from the preempting one up evict.
     Ecb,
 }
 
 /// What a window needs of a task: its execution bound, its evicting and its useful cache sets.
 #[derive(Clone, Copy)]
 pub struct Part {
+    /// Its execution bound in cycles, without preemption and switch: 0 to 2^41 as read, at most 2^40 as computed.
     pub bound: u64,
+    /// The cache sets that its code accesses (evicting cache blocks, ECB), each below 512.
     pub evicting: SetBits<WORDS>,
+    /// The cache sets that hold a block which may be used again (useful cache blocks, UCB; Lee et al. 1998), below 512.
     pub useful: SetBits<WORDS>,
 }
 
+/// What a certificate says of the cache before one node of a task's graph.
 #[derive(Drop)]
 pub struct NodeState {
+    /// The node's number, below 16,384.
     pub node: u32,
+    /// The cache sets whose block is surely known before the node, each with its block, by strictly increasing set.
     pub sure: Items<(u16, u32)>,
+    /// The cache sets that are useful before the node.
     pub useful: SetBits<WORDS>,
 }
 
+/// What a certificate says of one task. Times are in cycles.
 #[derive(Drop)]
 pub struct TaskPart {
+    /// The task's name, as in the set.
     pub name: Text,
+    /// Its execution bound, its evicting and its useful cache sets.
     pub part: Part,
+    /// The states of the listed nodes, all leaders among them, by strictly increasing node; at most 16,384.
     pub states: Items<NodeState>,
+    /// Per node the most cycles from it to the end at its level of loop, 0 to 2^40; by node number.
     pub potentials: Items<u64>,
+    /// Per region (a loop in one context) the potential of all its turns and what follows, 0 to 2^40; by region number.
     pub loops: Items<u64>,
+    /// By which delay the window holds.
     pub method: Method,
+    /// The most cycles from a job's release to its answer: 0 to 2^40 as read, 1 to deadline less jitter as judged.
     pub window: u64,
+    /// The most cycles from a job's arrival to its answer, the window plus the jitter: 0 to 2^41 as read.
     pub response: u64,
 }
 
+/// A claim of response times, which a checker decides with the task set and its code.
 #[derive(Drop)]
 pub struct Certificate {
+    /// The platform for which it is claimed.
     pub platform: Platform,
+    /// 1 to 32 tasks in priority order, the highest first.
     pub tasks: Items<TaskPart>,
 }

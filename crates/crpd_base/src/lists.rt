@@ -5,7 +5,7 @@ ghost use Rattle.std.specs.Prelude.{◌≡◌, List, ℕ, string_bytes, length};
 use std::fmt;
 use std::marker::Model;
 
-/// A text.
+/// A text. A contract sees the list of its UTF-8 bytes.
 #[derive(Debug, Drop)]
 pub struct Text {
     text: String,
@@ -24,18 +24,21 @@ impl fmt::Display for Text {
 }
 
 impl Text {
+    /// The text of a string. In constant time; it takes no memory.
     pub fn new(text: String) -> Self
         ensures { result ≡ string_bytes text }
     {
         Text { text }
     }
 
+    /// The text as a slice. In constant time; it takes no memory.
     pub fn as_str(&self) -> &str
         ensures { result.now ≡ self.now }
     {
         self.text.as_str()
     }
 
+    /// The string that it was made of. In constant time; it takes no memory.
     pub fn into_string(self) -> String
         ensures { string_bytes result ≡ self }
     {
@@ -43,7 +46,7 @@ impl Text {
     }
 }
 
-/// A list.
+/// A list. A contract sees the list of its elements.
 #[derive(Drop)]
 pub struct Items<T> {
     list: Vec<T>,
@@ -56,18 +59,21 @@ impl<T> Model for Items<T> {
 }
 
 impl<T> Items<T> {
+    /// The list of a vector's elements. In constant time; it takes no memory.
     pub fn new(list: Vec<T>) -> Self
         ensures { result ≡ list.items }
     {
         Items { list }
     }
 
+    /// The elements as a slice. In constant time; it takes no memory.
     pub fn as_slice(&self) -> &[T]
         ensures { result.now ≡ self.now }
     {
         self.list.as_slice()
     }
 
+    /// The vector that it was made of. In constant time; it takes no memory.
     pub fn into_vec(self) -> Vec<T>
         ensures { result.items ≡ self }
     {

@@ -51,6 +51,7 @@ fn copy_symbols(alloc: Global, symbols: &[Symbol]) -> Result<Vec<Symbol>, AllocE
 }
 
 /// An image once more. Linear in the image.
+/// The only error is want of memory.
 pub fn copy_image(alloc: Global, image: &Image) -> Result<Image, AllocError>
     ensures { IfOk result (λ copy. copy ≡ image.now) }
 {

@@ -10,8 +10,11 @@ use std::alloc::{AllocError, AllocFailed};
 /// they counted.
 #[derive(Drop)]
 pub enum Halt {
+    /// What it reads is refused, for this first reason.
     Refused(Refusal),
+    /// There is no memory; this may come at any place.
     Memory,
+    /// A call of the files failed, and they counted it.
     Fault,
 }
 

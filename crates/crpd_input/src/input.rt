@@ -17,11 +17,14 @@ use std::alloc::Global;
 /// A task set in its ranges, with the code of its files: an image and a plan for each task.
 #[derive(Drop)]
 pub struct Input {
+    /// The set, in its ranges.
     pub set: TaskSet,
+    /// Its code, with one image and one plan for each task.
     pub code: CodeMap,
 }
 
 /// The set of a file with its code, as `load_task_set` and then `load_code` give them.
+/// Refused as these two say; a fault comes only where the files counted one. Cost: that of both.
 pub fn load_input<F: Files>(alloc: Global, files: &mut F, name: &str) -> Result<Input, Halt>
     ensures exact { Told (F.contents files.old) (λ c. Means (input_in c name.now) result) }
     ensures ranges { IfOk result (λ input. IsTaskSet input.set) }

@@ -125,6 +125,7 @@ fn file_name(number: u32) -> Option<&'static str>
 }
 
 /// The name of a refusal's number; other numbers have the empty name.
+/// In constant time; it takes no memory.
 pub fn name_of(number: u32) -> &'static str
     ensures { result.now ≡ refusal_name number }
 {

@@ -11,6 +11,7 @@ use crpd_report::address_text;
 use std::alloc::Global;
 
 /// The refusal of this number with a detail.
+/// `Memory` where there is no memory for it. Linear in the subject.
 pub fn refuse(alloc: Global, number: u32, subject: &str, detail: Text) -> Halt
     ensures { IsRefusal (refusal number subject.now detail) result }
 {
@@ -25,6 +26,7 @@ pub fn refuse(alloc: Global, number: u32, subject: &str, detail: Text) -> Halt
 }
 
 /// The refusal of this number without a detail.
+/// `Memory` where there is no memory for it. Linear in the subject.
 pub fn refuse_plainly(alloc: Global, number: u32, subject: &str) -> Halt
     ensures { IsRefusal (plain_refusal number subject.now) result }
 {

@@ -45,6 +45,8 @@ fn task_regions(alloc: Global, input: &Input, graphs: &[Graph], task: Task) -> R
 }
 
 /// The regions of all tasks' loops, in the order of the tasks.
+/// Refused with 60 to 63 for the first task whose loops have no such regions; the subject is the task, the detail a
+/// byte address. Cost: that of finding the regions of each task.
 pub fn all_regions(alloc: Global, input: &Input, graphs: &[Graph]) -> Result<Items<Nest>, Halt>
     requires few { length input.now.set.tasks ≤ 256 }
     requires plans { length input.now.code.plans ≡ length input.now.set.tasks }

@@ -17,7 +17,9 @@ use std::alloc::Global;
 /// The graph of each task, and the regions of each task's loops, in the order of the tasks.
 #[derive(Drop)]
 pub struct Shapes {
+    /// The flat graph of each task, in priority order.
     pub graphs: Items<Graph>,
+    /// The regions of each task's loops, in priority order.
     pub nests: Items<Nest>,
 }
 

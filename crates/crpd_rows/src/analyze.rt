@@ -9,20 +9,30 @@ use std::test::Fail;
 // A task with its program: the name, the address of its first word, its words, and its times and loops as the set has
 // them.
 pub(crate) struct Program {
+    /// The task's name.
     pub name: &'static str,
+    /// The byte address of its first word, which is its entry.
     pub start: u32,
+    /// Its words of code.
     pub words: &'static [u32],
+    /// Its times, in cycles, and its loops, as the set has them.
     pub stated: &'static str,
 }
 
 // Programs on a platform with so many cache sets, and with what the set says of it besides; what a command ends with,
 // and what `check` of the certificate then writes.
 pub(crate) struct Case {
+    /// The number of cache sets.
     pub cache_sets: u32,
+    /// What the set says of the platform besides.
     pub platform: &'static str,
+    /// The tasks, the highest first.
     pub programs: &'static [Program],
+    /// How `analyze` ends.
     pub status: Status,
+    /// What it writes.
     pub text: &'static str,
+    /// What `check` of that certificate writes.
     pub checked: &'static str,
 }
 

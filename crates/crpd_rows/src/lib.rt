@@ -10,6 +10,8 @@ mod classic;
 #[cfg(test)]
 mod explain;
 #[cfg(test)]
+mod generate;
+#[cfg(test)]
 mod graphs;
 #[cfg(test)]
 mod list;

@@ -1,6 +1,5 @@
 -- A text of `explain` with the status Done comes of a yes, and of an account within the certificate's delays.
-use Rattle.std.proofs.Common.{◌≡◌, ◌++◌, ℕ, ◌<◌, ◌≤◌, List, Result, Ok, Err, length, ap, sym, subst, ◌∙◌, refl, arith}
-use Rattle.std.specs.Prelude.{slice_index_or}
+use Rattle.std.proofs.Common.{◌≡◌, ℕ, ◌<◌, List, Result, Ok, length, ap, sym, subst, ◌∙◌, refl, arith}
 use Rattle.crpd_base.specs.declared.data.Certificate.{Certificate}
 use Rattle.crpd_base.specs.declared.data.Script.{Script}
 use Rattle.crpd_base.specs.declared.data.ScriptJob.{ScriptJob}
@@ -11,7 +10,7 @@ use Rattle.script_reader.specs.Reading as script_reader
 use Rattle.script_reader.proofs.Found.{found_in}
 use Rattle.loop_regions.specs.TaskGraph.{TaskGraph}
 use Rattle.cert_check.specs.Answered.{answer_of}
-use Rattle.cert_check.specs.Judge.{IsGraphOf, IsYes}
+use Rattle.cert_check.specs.Judge.{IsGraphOf}
 use Rattle.cert_check.specs.Shown.{shown_at}
 use Rattle.cert_check.specs.Verdict.{IsJudged, States, TaskSets, UsefulSets, Yes, YesLaw}
 use Rattle.cert_check.specs.declared.outcome.Verdict.{Verdict}

@@ -1,5 +1,5 @@
 -- What the judge's yes gives an account of a script's run, and the text of one.
-use Rattle.std.proofs.Common.{◌≡◌, ℕ, suc, ◌+◌, ◌-◌, ◌<◌, ◌≤◌, length, Result, Ok, Err, Some, sym, ap, ◌∙◌, subst, inl, inr, arith}
+use Rattle.std.proofs.Common.{◌≡◌, ℕ, ◌-◌, ◌<◌, ◌≤◌, length, Result, Ok, Err, Some, sym, ap, ◌∙◌, subst, inl, inr, arith}
 use Rattle.std.specs.Prelude.{IfOk}
 use Rattle.std.proofs.lemmas.Option.{get_or_from_slice_get}
 use Rattle.std.proofs.lemmas.List.Elements.{All-get_or}
@@ -11,9 +11,8 @@ use Rattle.crpd_base.specs.declared.data.TaskSet.{TaskSet}
 use Rattle.crpd_base.specs.Ranges.{IsTaskSet}
 use Rattle.flat_graph.specs.CodeGraph.{IsCodeGraph}
 use Rattle.flat_graph.proofs.Members.{some_at}
-use Rattle.loop_regions.specs.TaskGraph.{TaskGraph}
 use Rattle.loop_regions.specs.TaskSteps.{words_of}
-use Rattle.evict_sets.specs.Certificate.{cert_at, no_cert}
+use Rattle.evict_sets.specs.Certificate.{no_cert}
 use Rattle.cert_check.specs.Shown.{HasLowSets, graph_at, no_graph, shown_at}
 use Rattle.cert_check.specs.Answered.{answer_of}
 use Rattle.cert_check.specs.Verdict.{Deadline, HasTask, IsJudged, Last, Leaders, Response, States, Yes}

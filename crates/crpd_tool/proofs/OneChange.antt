@@ -1,5 +1,5 @@
 -- An update has one end by all regions of the same loops, those of the old set and those of the new one.
-use Rattle.std.proofs.Common.{◌≡◌, ◌≢◌, ℕ, suc, ◌<◌, ◌≤◌, List, length, Result, Ok, refl, sym, ap, ◌∙◌, subst, inl, inr, arith}
+use Rattle.std.proofs.Common.{◌≡◌, ◌≢◌, ℕ, ◌<◌, ◌≤◌, List, length, Result, Ok, refl, sym, ap, ◌∙◌, subst, inl, inr, arith}
 use Rattle.crpd_base.specs.Ranges.{IsTaskSet}
 use Rattle.crpd_base.specs.Tasks.{HasTimes}
 use Rattle.crpd_base.specs.declared.data.Certificate.{Certificate}

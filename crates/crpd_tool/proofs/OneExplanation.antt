@@ -4,12 +4,10 @@ use Rattle.crpd_base.specs.declared.data.Certificate.{Certificate}
 use Rattle.crpd_base.specs.declared.data.Script.{Script}
 use Rattle.cert_check.specs.Answered.{answer_of}
 use Rattle.cert_check.specs.Shown.{graph_at, nest_at, shown_at}
-use Rattle.cert_check.specs.Verdict.{IsJudged}
 use Rattle.cert_check.specs.declared.outcome.Verdict.{Verdict}
 use Rattle.cert_check.specs.declared.outcome.Verdict.TheVariants.{Yes, No}
 use Rattle.flat_graph.specs.CodeGraph.{CodeGraph}
 use Rattle.loop_regions.specs.CodeNest.{CodeNest}
-use Rattle.loop_regions.specs.TaskGraph.{TaskGraph}
 use Rattle.preempt_machine.specs.Step.{Fetch, Start}
 use Rattle.run_account.specs.Account.{IsAccount, told}
 use Rattle.run_account.specs.Ledger.{IsEntry, IsEvicted, IsLedger, IsOfRun, IsPreempted, LedgerEntry}

@@ -5,18 +5,20 @@ ghost use Rattle.dataflow.specs.Problem.{IsSemilattice, IsOrderWithJoins};
 /// A graph: its nodes are the numbers below `nodes()`, and edge k, for k below `edges()`, leads from the first
 /// to the second number of `edge(k)`. No call takes memory.
 pub trait Flow {
+    /// How many nodes there are.
     ghost node_count: { Self → ℕ };
 
+    /// How many edges there are.
     ghost edge_count: { Self → ℕ };
 
-    // The source and the target of each edge.
+    /// The source and the target of each edge.
     ghost ends: { Self → ℕ → ℕ × ℕ };
 
-    /// How many nodes there are.
+    /// How many nodes there are. In constant time.
     fn nodes(&self) -> u32
         ensures { result ≡ node_count self.now };
 
-    /// How many edges there are.
+    /// How many edges there are. In constant time.
     fn edges(&self) -> u32
         ensures { result ≡ edge_count self.now };
 
@@ -32,26 +34,31 @@ pub trait Flow {
 /// their join is the other (`order_law`). The laws: joins are of both sides in any order and grouping, a node's
 /// transfer of a join is the join of its transfers, and no height exceeds the tallest. No call takes memory.
 pub trait Domain {
+    /// What is known before a node.
     type Fact: Copy;
 
+    /// What a fact is seen as.
     ghost Value: { Type 0 };
 
+    /// The value of a fact.
     ghost view: { Self.Fact → Value };
 
+    /// The join of two values, the least value above both.
     ghost joined: { Value → Value → Value };
 
-    // What a node makes of a value.
+    /// What a node makes of a value.
     ghost passed: { Self → ℕ → Value → Value };
 
-    // The value before a node where paths begin.
+    /// The value before a node where paths begin, None where none begins there.
     ghost begins: { Self → ℕ → Option Value };
 
-    // A number that rises where a join changes a value, and the greatest such number.
+    /// A number that rises where a join changes a value.
     ghost height: { Self → Value → ℕ };
 
+    /// The greatest such number.
     ghost tallest: { Self → ℕ };
 
-    // Which numbers are its nodes.
+    /// Which numbers are its nodes.
     ghost is_own: { Self → ℕ → Type 0 };
 
     /// The fact before a node where paths begin, None where none begins there.
@@ -69,14 +76,18 @@ pub trait Domain {
         requires { is_own self.now node }
         ensures { view fact.new ≡ passed self.now node (view fact.old) };
 
+    /// A law: joins are of both sides in any order and grouping, and a value's join with itself is that value.
     ghost joins: { IsSemilattice Value joined };
 
+    /// A law: a node's transfer of a join is the join of its transfers.
     ghost distributes: { (d : Self) (n : ℕ) (a b : Value) → passed d n (joined a b) ≡ joined (passed d n a) (passed d n b) };
 
+    /// A law: no height exceeds the tallest.
     ghost bounded: { (d : Self) (v : Value) → height d v ≤ tallest d };
 }
 
-/// A law: the values of a domain are ordered, and a join is the least value above both of its sides.
+/// A law: the values of a domain are ordered, and a join is the least value above both of its sides. In constant
+/// time.
 pub fn order_law<D: Domain>()
     ensures { IsOrderWithJoins D.Value D.joined }
 {}

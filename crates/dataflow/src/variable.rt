@@ -9,8 +9,11 @@ use crate::problem::Domain;
 /// What a node does with the variable.
 #[derive(Clone, Copy)]
 pub enum Use {
+    /// It reads the variable.
     Reads,
+    /// It writes this constant to the variable.
     Writes(u32),
+    /// It does neither.
     Neither,
 }
 
@@ -18,6 +21,7 @@ pub enum Use {
 /// fact before a node in the flow is what holds after the node in the graph.
 #[derive(Clone, Copy)]
 pub struct Live<'a> {
+    /// What each node does, by its number; the domain's own nodes are those that are listed.
     pub uses: &'a [Use],
 }
 
@@ -72,6 +76,7 @@ impl Domain for Live<'_> {
 /// where it is not. It flows along the edges.
 #[derive(Clone, Copy)]
 pub struct Known<'a> {
+    /// What each node does, by its number; the domain's own nodes are those that are listed.
     pub uses: &'a [Use],
 }
 

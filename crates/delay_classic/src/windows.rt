@@ -12,13 +12,14 @@ use crpd_base::{MOST_TASKS, Method, Part, Task, TaskSet};
 use response::{Choice, WindowError, smaller, window};
 use std::alloc::Global;
 
-/// The windows of all tasks by the plain union delays, from the highest down: for each the smaller of the windows by the two
-/// methods, the UCB-union one where they are equal. A window is the least number of cycles that the task's demand does not
-/// exceed; with the task's jitter it is at most the deadline.
+/// The windows of all tasks by the plain union delays, from the highest down: for each the smaller of the windows by
+/// the two methods, the UCB-union one where they are equal. A window is the least number of cycles that the task's
+/// demand does not exceed; with the task's jitter it is at most the deadline.
 ///
-/// It needs a part, with a bound of at most 2^40 cycles, and the longest instruction, from 1 to 2^20 cycles, of each task.
-/// `Unschedulable` names the first task that has no window by either method. The search goes on by lower bounds from the
-/// rates of the higher tasks, so it takes few steps also where these leave almost nothing.
+/// It needs a part, with a bound of at most 2^40 cycles, and the longest instruction, from 1 to 2^20 cycles, of each
+/// task. `Unschedulable` names the first task that has no window by either method. The search goes on by lower bounds
+/// from the rates of the higher tasks, so it takes few steps also where these leave almost nothing. The only other
+/// error is want of memory, which is taken for the choices alone.
 pub fn classic_windows(
     alloc: Global,
     set: &TaskSet,

@@ -12,10 +12,11 @@ const ABOVE_ALL: u32 = 65_537;
 
 /// The delay, in cycles, that `jobs` jobs bring by the ECB-union multiset method of Altmeyer, Davis and Maiza (2012):
 /// each of the jobs preempts one job of an affected task, no task more often than its count, and evicts those useful
-/// sets of it that are in `evicting_up`, the sets of all tasks of at least the jobs' priority. It is the greatest sum of
-/// reloads of `miss` cycles, found by filling from the greatest number of sets downwards.
+/// sets of it that are in `evicting_up`, the sets of all tasks of at least the jobs' priority. It is the greatest sum
+/// of reloads of `miss` cycles, found by filling from the greatest number of sets downwards.
 ///
-/// At most 32 shares, each with a count below 2^81. It takes no memory.
+/// At most 32 shares, each with a count below 2^81. It takes no memory. Its time is at most that of all pairs of two
+/// shares, and of each share's set.
 pub fn gamma_ecb<const W: usize>(
     miss: u32,
     jobs: u64,

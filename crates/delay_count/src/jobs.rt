@@ -8,7 +8,8 @@ ghost use Rattle.delay_count.specs.Gamma.{count_at, useful_at, part_at};
 use crate::share::Share;
 use crpd_base::{MOST_TASKS, Part, SetBits, TaskSet, WORDS};
 
-// The jobs of a task that are released in a window.
+/// The jobs of a task that are released in a window of so many cycles, at most 2^40: the window and the task's jitter
+/// over its period, rounded up. In constant time.
 pub fn jobs(set: &TaskSet, task: usize, window: u64) -> u64
     requires times { HasTimes set.now }
     requires task { task < length set.now.tasks }
@@ -19,7 +20,9 @@ pub fn jobs(set: &TaskSet, task: usize, window: u64) -> u64
     (window + task.jitter + (task.period - 1)) / task.period
 }
 
-// How often jobs of task `j` may preempt those of each task in a window of task `i`, and the useful sets of that task.
+/// How often jobs of task `j` may preempt those of each task in a window of `window` cycles of task `i`, 0 for the
+/// tasks that they do not preempt, and the useful sets of that task. Linear in the tasks, each with its set; it takes
+/// no memory.
 pub fn affected_shares(
     set: &TaskSet,
     parts: &[Part],

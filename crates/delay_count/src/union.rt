@@ -6,11 +6,12 @@ ghost use Rattle.delay_count.specs.Words.{word_share, useful_words};
 use crate::share::Share;
 use crpd_base::{MOST_TASKS, SetBits};
 
-/// The delay, in cycles, that `jobs` jobs bring by the sets of `evicting`, by the UCB-union multiset method of Altmeyer,
-/// Davis and Maiza (2012): a reload of `miss` cycles, for each set at most as often as there are jobs, and at most as
-/// often as the affected tasks that find the set useful may be preempted.
+/// The delay, in cycles, that `jobs` jobs bring by the sets of `evicting`, by the UCB-union multiset method of
+/// Altmeyer, Davis and Maiza (2012): a reload of `miss` cycles, for each set at most as often as there are jobs, and
+/// at most as often as the affected tasks that find the set useful may be preempted.
 ///
-/// At most 32 shares, each with a count below 2^81. It takes no memory, and works on words of 64 sets.
+/// At most 32 shares, each with a count below 2^81. It takes no memory, and works on words of 64 sets; its time is at
+/// most that of all pairs of a set and a share.
 pub fn gamma_ucb<const W: usize>(
     miss: u32,
     jobs: u64,

@@ -11,13 +11,13 @@ use crate::jobs::{affected_shares, jobs};
 use crate::union::gamma_ucb;
 use crpd_base::{Method, Part, SetBits, Switching, Task, TaskSet, WORDS};
 
-/// The cycles that the jobs of a window of `w` cycles may demand of the core until a job of the task has answered: its
-/// context switch, its execution bound, what an instruction begun before may take, and for each job of a higher task its
-/// bound, two switches and the delay by the cache sets that it evicts (Altmeyer, Davis and Maiza, 2012).
+/// The cycles that the jobs of a window of `w` cycles may demand of the core until a job of the task has answered:
+/// its context switch, its execution bound, what an instruction begun before may take, and for each job of a higher
+/// task its bound, two switches and the delay by the cache sets that it evicts (Altmeyer, Davis and Maiza, 2012).
 ///
-/// It needs the longest instruction of each task, from 1 to 2^20 cycles; a part of the task and of all higher ones; and
-/// a window of each higher task, at most 2^40 and in that task's deadline with its jitter; `w` is at most 2^40. It takes
-/// no memory.
+/// It needs the longest instruction of each task, from 1 to 2^20 cycles; a part of the task and of all higher ones;
+/// and a window of each higher task, at most 2^40 and in that task's deadline with its jitter; `w` is at most 2^40.
+/// It takes no memory. Its time is that of the delays by each higher task.
 pub fn demand(
     set: &TaskSet,
     parts: &[Part],
@@ -43,8 +43,8 @@ pub fn demand(
     total
 }
 
-/// What a task takes of its window by itself, in cycles: a context switch, its execution bound, and what an instruction
-/// begun before the window may take of it.
+/// What a task takes of its window by itself, in cycles: a context switch, its execution bound, and what an
+/// instruction begun before the window may take of it. Linear in the tasks; it takes no memory.
 pub fn own_demand(set: &TaskSet, parts: &[Part], longest: &[u64], task: Task) -> u128
     requires task { task.0 < length set.now.tasks }
     requires parts { task.0 < length parts.now }
@@ -60,8 +60,9 @@ pub fn own_demand(set: &TaskSet, parts: &[Part], longest: &[u64], task: Task) ->
         + u128::from(longest_begun(set, longest, i))
 }
 
-/// What a higher task takes of a window of `w` cycles of a task, in cycles: its jobs in the window, each with its bound
-/// and two switches, and the delay by the cache sets that they evict.
+/// What a higher task takes of a window of `w` cycles of a task, in cycles: its jobs in the window, each with its
+/// bound and two switches, and the delay by the cache sets that they evict. The higher task is one above the task. It
+/// needs what `demand` needs but the longest instructions. Its time is that of the delay; it takes no memory.
 pub fn higher_demand(
     set: &TaskSet,
     parts: &[Part],
@@ -88,11 +89,12 @@ pub fn higher_demand(
     u128::from(jobs(set, j, w)) * each + delay(set, parts, windows, task.0 as usize, j, method, w)
 }
 
-/// The delays, in cycles, that the demand of a window of `w` cycles charges by a method, of all higher tasks together: of
-/// each the delay by the cache sets that its jobs in the window evict (Altmeyer, Davis and Maiza, 2012).
+/// The delays, in cycles, that the demand of a window of `w` cycles charges by a method, of all higher tasks
+/// together: of each the delay by the cache sets that its jobs in the window evict (Altmeyer, Davis and Maiza, 2012).
 ///
-/// It needs a part of the task and of all higher ones, and a window of each higher task, at most 2^40 and in that task's
-/// deadline with its jitter; `w` is at most 2^40. It takes no memory.
+/// It needs a part of the task and of all higher ones, and a window of each higher task, at most 2^40 and in that
+/// task's deadline with its jitter; `w` is at most 2^40. It takes no memory. Its time is that of the delays by each
+/// higher task.
 pub fn charged_delays(
     set: &TaskSet,
     parts: &[Part],

@@ -10,6 +10,7 @@ use thiserror::Error;
 /// header at fault, counted from 0 over the whole table, headers of every type included.
 #[derive(Clone, Copy, Debug, PartialEq, Eq, Error)]
 pub enum ElfError {
+    /// There is no memory for the image or for the tables that are read.
     #[error("out of memory")]
     Memory,
     /// The file has fewer than the 52 bytes of an ELF32 header.
@@ -42,9 +43,8 @@ pub enum ElfError {
     /// No PT_LOAD with PF_X has bytes in the file.
     #[error("no executable segment has bytes")]
     NoCode,
-    /// There are section headers, and `e_shentsize` is not 40 or their table passes the file's end; or the first
-    /// SHT_SYMTAB passes it, its `sh_entsize` is not 16, or its `sh_link` is not the place of a SHT_STRTAB that
-    /// lies in the file.
+    /// Section headers whose `e_shentsize` is not 40 or whose table passes the file's end; or a first SHT_SYMTAB that
+    /// passes it, whose `sh_entsize` is not 16, or whose `sh_link` is the place of no SHT_STRTAB in the file.
     #[error("the sections or symbols lie outside the file")]
     SymbolsOutside,
 }

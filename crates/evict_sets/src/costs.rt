@@ -53,7 +53,7 @@ fn node_longest(graph: &Graph, platform: &Platform, id: NodeId) -> u64
 }
 
 /// The longest cost in cycles of one instruction of a task: the greatest cost of any edge of its graph, those to the
-/// end included, where each fetch misses. It looks at each node once.
+/// end included, where each fetch misses. It looks at each node once. It takes no memory.
 pub fn longest(graph: &Graph, platform: &Platform) -> u64
     ensures { result ≡ longest platform.now (graph_of graph.now) (listing graph.now) (answers_of graph.now) }
 {

@@ -9,6 +9,7 @@ use std::alloc::{AllocError, AllocFailed};
 /// of numbering, and for `TooManyNodes` the task's entry.
 #[derive(Clone, Copy, Debug, PartialEq, Eq)]
 pub enum GraphError {
+    /// There is no memory for the graph.
     Memory,
     /// More than 16,384 nodes are reached, those with an error included.
     TooManyNodes(u32),

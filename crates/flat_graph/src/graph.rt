@@ -99,21 +99,21 @@ fn search(
 }
 
 impl Graph {
-    /// How many nodes there are: 1 to 16,384.
+    /// How many nodes there are: 1 to 16,384. In constant time.
     pub fn len(&self) -> u32
         ensures { result ≡ (graph_of self.now).size }
     {
         self.nodes.as_slice().len() as u32
     }
 
-    /// The node with no call under way at the task's entry.
+    /// The node with no call under way at the task's entry. In constant time.
     pub fn first(&self) -> NodeId
         ensures { result.0 ≡ (graph_of self.now).first }
     {
         NodeId(self.first)
     }
 
-    /// A node's address, instruction and kind.
+    /// A node's address, instruction and kind. In constant time; it takes no memory.
     pub fn node(&self, id: NodeId) -> Node
         requires { id.0 < (graph_of self.now).size }
         ensures address { result.address ≡ (places_of self.now).address id.0 }
@@ -128,7 +128,24 @@ impl Graph {
         }
     }
 
-    /// The addresses of the calls under way at a node, the outermost first; at most 16.
+    /// A node's address in bytes. In constant time; it takes no memory.
+    pub fn address(&self, id: NodeId) -> u32
+        requires { id.0 < (graph_of self.now).size }
+        ensures { result ≡ (places_of self.now).address id.0 }
+    {
+        self.nodes.as_slice()[id.0 as usize].address
+    }
+
+    /// The instruction at a node. In constant time; it takes no memory.
+    pub fn ins(&self, id: NodeId) -> Ins
+        requires { id.0 < (graph_of self.now).size }
+        ensures { result ≡ ins_of self.now id.0 }
+    {
+        self.nodes.as_slice()[id.0 as usize].ins
+    }
+
+    /// The addresses of the calls under way at a node, the outermost first; at most 16. In constant time; it takes no
+    /// memory.
     pub fn context(&self, id: NodeId) -> &[u32]
         requires { id.0 < (graph_of self.now).size }
         ensures { result.now ≡ (places_of self.now).context id.0 }
@@ -139,7 +156,7 @@ impl Graph {
     }
 
     /// The first (0) or second (1) successor of a node, None where it has no such one. The first successor of a
-    /// branch is the next address.
+    /// branch is the next address. In constant time; it takes no memory.
     pub fn succ(&self, id: NodeId, k: u8) -> Option<NodeId>
         requires node { id.0 < (graph_of self.now).size }
         requires place { k < 2 }
@@ -154,7 +171,7 @@ impl Graph {
     }
 
     /// The node with these calls under way, the outermost first, at this address; None where no node stands there.
-    /// Logarithmic in the number of nodes.
+    /// Logarithmic in the number of nodes. It takes no memory.
     pub fn find(&self, context: &[u32], address: u32) -> Option<NodeId>
         ensures found { IfSome result (λ id. (id.0 < (graph_of self.now).size) × (node_at (places_of self.now) id.0 ≡ record { context = context.now; address = address })) }
         ensures none { IsNone result → (u : ℕ) → u < (graph_of self.now).size → node_at (places_of self.now) u ≡ record { context = context.now; address = address } → ⊥ }
@@ -167,7 +184,7 @@ impl Graph {
     }
 
     /// Whether a node is a leader: the first node, a node with other than one edge towards it, or a successor of a
-    /// node with two successors. Every cycle of the graph has a leader.
+    /// node with two successors. Every cycle of the graph has a leader. In constant time; it takes no memory.
     pub fn leader(&self, id: NodeId) -> bool
         requires { id.0 < (graph_of self.now).size }
         ensures { IsTrue result ↔ IsLeader (graph_of self.now) id.0 }
@@ -176,6 +193,7 @@ impl Graph {
     }
 
     /// What every such graph is: the flat graph of some code, in which each node is reached by a walk from the first.
+    /// In constant time.
     pub fn graph_law(&self)
         ensures code { HasCode self.now }
         ensures graph { IsGraph (graph_of self.now) }

@@ -1,5 +1,5 @@
 // The instructions and successors of the spots of a graph.
-ghost use Rattle.std.specs.Prelude.{◌≡◌, ◌≤◌, ◌<◌, ◌⊎◌, ℕ, Some, IfOk, IfErr, length, slice_get, All, AllPairs, Contains};
+ghost use Rattle.std.specs.Prelude.{◌≡◌, ◌≤◌, ◌<◌, ◌⊎◌, ℕ, Some, IfOk, IfErr, length, slice_get, All, AllPairs, Contains, IsTrue};
 ghost use Rattle.code_map.specs.Words.{word_at};
 ghost use Rattle.rv_decode.specs.Flow.{flows};
 ghost use Rattle.flat_graph.specs.FlatGraph.{IsNumbering, IsBefore};
@@ -34,18 +34,43 @@ pub(crate) fn number_of(spots: &[Spot], spot: &Spot) -> u32
     spots.binary_search(spot).unwrap() as u32
 }
 
-/// The numbers of the spots to which a spot leads.
-fn numbered(spots: &[Spot], steps: &Steps) -> Onward
+/// Whether the spot at a place is this one.
+fn is_at(spots: &[Spot], place: usize, spot: &Spot) -> bool
+    ensures { IsTrue result → slice_get (flats spots.now) place ≡ Some (flat spot.now) }
+{
+    match spots.get(place) {
+        Some(other) => other.address == spot.address && other.calls == spot.calls,
+        None => false,
+    }
+}
+
+/// The number of a spot, which mostly stands at the place where it is sought first.
+fn number_from(spots: &[Spot], place: usize, spot: &Spot) -> u32
+    requires few { length spots.now ≤ 16384 }
+    requires ordered { AllPairs IsBefore (flats spots.now) }
+    requires there { Contains (flats spots.now) (flat spot.now) }
+    requires place { place ≤ length spots.now }
+    ensures { slice_get (flats spots.now) result ≡ Some (flat spot.now) }
+{
+    if is_at(spots, place, spot) {
+        return place as u32;
+    }
+    number_of(spots, spot)
+}
+
+/// The numbers of the spots to which a spot leads. The first of them mostly stands at the place after the spot's own.
+fn numbered(spots: &[Spot], next: usize, steps: &Steps) -> Onward
     requires few { length spots.now ≤ 16384 }
     requires ordered { AllPairs IsBefore (flats spots.now) }
     requires there { All (Contains (flats spots.now)) (flat_steps steps.now) }
+    requires next { next ≤ length spots.now }
     ensures { AreNumbers (flats spots.now) (onward result) (flat_steps steps.now) }
 {
     match steps {
         Steps::Ends => Onward::Ends,
-        Steps::To(spot) => Onward::To(number_of(spots, spot)),
+        Steps::To(spot) => Onward::To(number_from(spots, next, spot)),
         Steps::Either(spot, other) => {
-            Onward::Either(number_of(spots, spot), number_of(spots, other))
+            Onward::Either(number_from(spots, next, spot), number_of(spots, other))
         }
     }
 }
@@ -68,7 +93,7 @@ pub(crate) fn lines(
     for spot in spots {
         let ins = check(code, entry, spot)?;
         let steps = spot.steps(alloc, way_of(spot.address, &ins))?;
-        let next = numbered(spots, &steps);
+        let next = numbered(spots, lines.len() + 1, &steps);
         lines.push(Line { ins, next })?;
     }
     Ok(lines)

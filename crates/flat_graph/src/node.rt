@@ -8,17 +8,24 @@ use rv_decode::Ins;
 /// How a job goes on from a node. A job ends at an answering node, by an ECALL or by a return with no call under way.
 #[derive(Clone, Copy, Debug, PartialEq, Eq)]
 pub enum Kind {
+    /// To the next address, or by a branch or a jump to another, with the same calls under way.
     Plain,
+    /// To the target of a JAL with link register x1, with one more call under way.
     Call,
+    /// To the address after the innermost call, which is then no longer under way.
     Return,
+    /// Nowhere: the job ends.
     Answer,
 }
 
 /// A node's address in bytes, its instruction and its kind.
 #[derive(Clone, Copy)]
 pub struct Node {
+    /// Its address in bytes, a multiple of 4.
     pub address: u32,
+    /// The instruction there, with its fields in range.
     pub ins: Ins,
+    /// How a job goes on from it.
     pub kind: Kind,
 }
 

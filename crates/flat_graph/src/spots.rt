@@ -1,5 +1,10 @@
 // Spots of the code of a task: the calls under way and an address.
 ghost use Rattle.std.specs.Prelude.{◌≡◌, ◌≤◌, ◌+◌, ◌++◌, ◌∷◌, [], reverse, IfOk};
+ghost use Rattle.std.proofs.Common.{rules};
+ghost use Rattle.std.specs.Cmp.{partial_order_from_own_ties};
+ghost use Rattle.std.specs.Cmp.Lexicographic.{slice_cmp};
+ghost use Rattle.std.specs.Cmp.Rules.{comparing};
+ghost use Rattle.std.specs.Ordering.{nat_cmp, on, then_cmp, as_partial_cmp};
 ghost use Rattle.rv_decode.specs.Address.{end};
 ghost use Rattle.flat_graph.specs.FlatGraph.{goes_to, returns_to};
 ghost use Rattle.flat_graph.specs.Spots.{flat, flat_steps, IsBelowEnd};
@@ -8,6 +13,7 @@ ghost use Rattle.flat_graph.specs.Ways.{flow_by};
 use crate::ways::Way;
 use smallvec::SmallVec;
 use std::alloc::{AllocError, Global};
+use std::cmp::Ordering;
 use std::rc::Rc;
 
 /// The addresses of the calls under way, the outermost first.
@@ -15,10 +21,40 @@ pub(crate) type Calls = SmallVec<u32, 4>;
 
 /// The calls under way and an address. Spots are ordered by their calls as lists, item by item, and then by address.
 /// Spots with the same calls under way share them.
-#[derive(PartialEq, Eq, PartialOrd, Ord, Drop)]
+#[derive(PartialEq, Eq, Drop)]
 pub(crate) struct Spot {
     pub(crate) calls: Rc<Calls>,
     pub(crate) address: u32,
+}
+
+impl Ord for Spot {
+    ghost cmp = { then_cmp (on (λ s. s.calls.value.items) (slice_cmp nat_cmp)) (on (λ s. s.address) nat_cmp) };
+
+    ghost total = { Prim.search (comparing, rules) };
+
+    ghost matches_partial_cmp = { Prim.search (comparing, rules) };
+
+    ghost matches_eq = { Prim.search (comparing, rules) };
+
+    /// By the addresses alone where both have no call under way, as most spots have.
+    fn cmp(&self, other: &Spot) -> Ordering {
+        let calls = self.calls.as_slice();
+        let others = other.calls.as_slice();
+        if calls.is_empty() && others.is_empty() {
+            return self.address.cmp(&other.address);
+        }
+        calls.cmp(others).then(self.address.cmp(&other.address))
+    }
+}
+
+impl PartialOrd for Spot {
+    ghost partial_cmp = { as_partial_cmp (then_cmp (on (λ s. s.calls.value.items) (slice_cmp nat_cmp)) (on (λ s. s.address) nat_cmp)) };
+
+    ghost laws = { partial_order_from_own_ties (Prim.search (comparing, rules)) (Prim.search (comparing, rules)) };
+
+    fn partial_cmp(&self, other: &Spot) -> Option<Ordering> {
+        Some(self.cmp(other))
+    }
 }
 
 /// Where a spot leads.

@@ -12,6 +12,7 @@ use Rattle.rv_decode.specs.Address.{after, address_before, end}
 use Rattle.crpd_base.specs.declared.data.TaskPlan.{TaskPlan}
 use Rattle.flow_watch.specs.Watch.{Frame, Watch, all_turns_after, within_bounds, arrive, context}
 use Rattle.flow_watch.specs.Turns.{HasTurns}
+use Rattle.flow_watch.specs.Quiet.{AreStill, IsQuiet}
 use Rattle.flow_watch.specs.Changes.{pushed, popped}
 use Rattle.flow_watch.specs.Rows.{row, back, frames_of, watch_of, IsRoom}
 
@@ -299,3 +300,23 @@ closed loops n rows is len =
     let few : n ≤ 17 * n = omega arith in
     let front_is : take n (replicate (17 * n) 0) ≡ replicate n 0 = take-replicate {X = ℕ} n (17 * n) 0 few in
     rw (none, is) (front_is ∙ splat_is_map loops n 0 (sym len))
+
+-- an arrival at an address that leaves the turns of the top frame as they are leaves the watch as it is
+pub quiet_frames :
+    (plan : TaskPlan) (a n : ℕ) (calls turns : List ℕ) (frames : ℕ) (w : Watch) →
+    Some (frames_of n calls turns frames) ≡ w → 0 < frames →
+    AreStill a plan.loops (row n turns (frames - 1)) → IsQuiet plan w a
+quiet_frames plan a n calls turns zero w is some still = absurd (omega arith)
+quiet_frames plan a n calls turns (suc k) w is some still =
+    let at_k : suc k - 1 ≡ k = omega arith in
+    let stands : AreStill a plan.loops (row n turns k) = subst (λ (j : ℕ). AreStill a plan.loops (row n turns j)) at_k still in
+    let same = stands.same in
+    let within = stands.within in
+    rw (← is, same, within) refl
+
+-- a watch with no frame in use makes no arrival
+pub quiet_empty :
+    (plan : TaskPlan) (a n : ℕ) (calls turns : List ℕ) (frames : ℕ) (w : Watch) →
+    Some (frames_of n calls turns frames) ≡ w → frames ≤ 0 → IsQuiet plan w a
+quiet_empty plan a n calls turns zero w is none = rw (← is) refl
+quiet_empty plan a n calls turns (suc k) w is none = absurd (omega arith)

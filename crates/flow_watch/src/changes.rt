@@ -1,7 +1,9 @@
 // What an instruction does to the frames of a watch.
 ghost use Rattle.std.specs.Prelude.{◌≡◌, ℕ};
 ghost use Rattle.rv_decode.specs.Flow.{flow};
+ghost use Rattle.std.specs.Bool.{OnTrue};
 ghost use Rattle.flow_watch.specs.Changes.{change_of};
+ghost use Rattle.flow_watch.specs.Quiet.{stays, IsArrival};
 
 use rv_decode::Ins;
 
@@ -30,5 +32,17 @@ pub(crate) fn change_by(ins: &Ins) -> Change
         } => Change::Pop,
         Ins::Jal { .. } | Ins::Jalr { .. } => Change::Unfollowed,
         _ => Change::Stay,
+    }
+}
+
+/// Whether an instruction stays in its frame: it neither calls nor returns, and is followed. Then a step of a watch by it
+/// is the arrival alone.
+pub fn stays_in_frame(ins: &Ins) -> bool
+    ensures is { (a : ℕ) → result ≡ stays (flow a ins.now) }
+    ensures arrival { OnTrue result (IsArrival ins.now) }
+{
+    match change_by(ins) {
+        Change::Stay => true,
+        Change::Push | Change::Pop | Change::Unfollowed => false,
     }
 }

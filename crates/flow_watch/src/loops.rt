@@ -1,10 +1,14 @@
 // The turns of a frame's stated loops.
-ghost use Rattle.std.specs.Prelude.{◌≡◌, Some, None, length, nat_le, if◌then◌else◌};
+ghost use Rattle.std.specs.Prelude.{◌≡◌, ◌≢◌, ℕ, ◌<◌, ◌≤◌, Some, None, length, nat_le, if◌then◌else◌};
 ghost use Rattle.std.specs.Bool.{OnTrue};
-ghost use Rattle.std.specs.List.{list_any};
+ghost use Rattle.std.specs.List.{find, list_any};
 ghost use Rattle.flow_watch.specs.Watch.{holds, in_range, turns_after, all_turns_after, within_bounds};
+ghost use Rattle.flow_watch.specs.Quiet.{AreStill, KeepsTurns};
 
 use crpd_base::LoopAt;
+
+/// No address.
+const NOWHERE: (u32, u32) = (0, 0);
 
 /// Whether a range has the address: it includes its first address and excludes its second.
 fn in_range(address: u32, range: &(u32, u32)) -> bool
@@ -63,4 +67,58 @@ pub(crate) fn count_arrival(turns: &mut [u32], loops: &[LoopAt], address: u32) -
         }
     }
     true
+}
+
+/// The first of a stated loop's ranges that has the address.
+fn range_around(stated: &LoopAt, address: u32) -> Option<(u32, u32)>
+    ensures { result ≡ find (in_range address) stated.now.ranges }
+{
+    for range in stated.ranges.as_slice() {
+        if in_range(address, range) {
+            return Some(*range);
+        }
+    }
+    None
+}
+
+/// The addresses of a range on the side of a loop's head on which an address lies, after the head where it is the head.
+fn beside_head(range: (u32, u32), head: u32, near: u32) -> (u32, u32)
+    ensures { (a : ℕ) → result.0 ≤ a → a < result.1 → (range.0 ≤ a) × (a < range.1) × (a ≢ head) }
+{
+    if near < head {
+        (range.0, range.1.min(head))
+    } else if head < u32::MAX {
+        (range.0.max(head + 1), range.1)
+    } else {
+        NOWHERE
+    }
+}
+
+/// The addresses of a range at which an arrival leaves a stated loop's turns as they are, of those around an address.
+fn still(range: (u32, u32), stated: &LoopAt, turns: u32, near: u32) -> (u32, u32)
+    ensures { (a : ℕ) → result.0 ≤ a → a < result.1 → (range.0 ≤ a) × (a < range.1) × KeepsTurns a stated.now turns }
+{
+    let around = beside_head(range, stated.head, near);
+    if turns == 0 {
+        return around;
+    }
+    if turns > stated.bound {
+        return NOWHERE;
+    }
+    match range_around(stated, near) {
+        Some(held) => (around.0.max(held.0), around.1.min(held.1)),
+        None => NOWHERE,
+    }
+}
+
+/// A range of addresses around one, at which an arrival leaves a frame's turns as they are.
+pub(crate) fn all_still(turns: &[u32], loops: &[LoopAt], near: u32) -> (u32, u32)
+    requires { length turns.now ≡ length loops.now }
+    ensures { (a : ℕ) → result.0 ≤ a → a < result.1 → AreStill a loops.now turns.now }
+{
+    let mut range = (0, u32::MAX);
+    for (i, stated) in loops.iter().enumerate() {
+        range = still(range, stated, turns[i], near);
+    }
+    range
 }

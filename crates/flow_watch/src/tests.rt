@@ -1,4 +1,6 @@
 // Watches over short lists of instructions.
+ghost use Rattle.std.specs.Prelude.{length, IfOk};
+ghost use Rattle.flow_watch.specs.Turns.{HasTurns};
 
 use super::*;
 use crpd_base::{Items, LoopAt};
@@ -46,12 +48,13 @@ fn plan(alloc: Global, loops: &[Stated]) -> Result<TaskPlan, AllocError> {
 }
 
 // The watch after the steps, each an instruction and the address after it, up to the end of the job.
-fn watch_after(alloc: Global, loops: &[Stated], steps: &[(Ins, u32)]) -> Result<Watch, Fail> {
-    let plan = plan(alloc, loops)?;
-    let mut watch = Watch::start(alloc, &plan)?;
+fn watch_after(alloc: Global, plan: &TaskPlan, steps: &[(Ins, u32)]) -> Result<Watch, Fail>
+    ensures { IfOk result (HasTurns (length plan.now.loops)) }
+{
+    let mut watch = Watch::start(alloc, plan)?;
     let mut from = plan.entry;
     for step in steps {
-        watch.step(&plan, from, &step.0, step.1);
+        watch.step(plan, from, &step.0, step.1);
         if step.1 == END {
             break;
         }
@@ -176,9 +179,58 @@ fn follows(rt: HostRuntime) -> Result<(), Fail> {
         (&[], &[(RETURN, 0x104)], true, &[]),
         (&[ONCE], &[(NEXT, END)], false, &[]),
     ] {
-        let watch = watch_after(rt.alloc(), loops, steps)?;
+        let plan = plan(rt.alloc(), loops)?;
+        let watch = watch_after(rt.alloc(), &plan, steps)?;
         assert_eq!(rt; watch.broken(), broken);
         assert_eq!(rt; watch.context(), calls);
     }
     Ok(())
+}
+
+// The addresses that are quiet around an address after steps, also where there are no loops.
+#[test]
+fn quiet_addresses(rt: HostRuntime) -> Result<(), Fail> {
+    let call = (CALL, 0x200);
+    for (loops, steps, near, quiet) in [
+        (&[][..], &[][..], 0x100u32, (0u32, u32::MAX)),
+        // an open loop, from after its head to the end of its range
+        (&[TWICE], &[], 0x100, (0x101, 0x110)),
+        (&[TWICE], &[], 0x10C, (0x101, 0x110)),
+        (&[TWICE], &[], 0x110, (0, 0)),
+        // a loop that was left, and one in another frame
+        (&[TWICE], &[(NEXT, 0x110)], 0x110, (0x101, u32::MAX)),
+        (&[TWICE], &[call], 0x200, (0x101, u32::MAX)),
+        // before the head of a loop that is not open, and of one whose range begins before it
+        (&[BEFORE], &[], 0x100, (0, 0x108)),
+        (
+            &[BEFORE],
+            &[(NEXT, 0x108), (NEXT, 0x104)],
+            0x104,
+            (0x104, 0x108),
+        ),
+        // two open loops
+        (&[TWICE, THRICE], &[], 0x104, (0x101, 0x110)),
+        // a broken watch, and one whose bottom frame was popped
+        (&[NEVER], &[], 0x100, (0, u32::MAX)),
+        (&[TWICE], &[(RETURN, END)], END, (0, u32::MAX)),
+    ] {
+        let plan = plan(rt.alloc(), loops)?;
+        let watch = watch_after(rt.alloc(), &plan, steps)?;
+        assert_eq!(rt; watch.quiet(&plan, near), quiet);
+    }
+    Ok(())
+}
+
+#[test]
+fn frames_that_stay(rt: HostRuntime) {
+    for (ins, stays) in [
+        (NEXT, true),
+        (link(0), true),
+        (CALL, false),
+        (RETURN, false),
+        (link(5), false),
+        (indirect(0, 5, 0), false),
+    ] {
+        assert_eq!(rt; stays_in_frame(&ins), stays);
+    }
 }

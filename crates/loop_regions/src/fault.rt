@@ -4,10 +4,11 @@ ghost use Rattle.loop_regions.specs.declared.fault.LoopError.TheVariants.{Memory
 
 use std::alloc::AllocError;
 
-/// The first thing that is wrong with the stated loops of a task. `SameHead` has the least such head; the others have the
-/// address of the least node, in the order of numbering, at which it is.
+/// The first thing that is wrong with the stated loops of a task. `SameHead` has the least such head; the others have
+/// the byte address of the least node, in the order of numbering, at which it is.
 #[derive(Clone, Copy, Debug, PartialEq, Eq)]
 pub enum LoopError {
+    /// There is no memory for the regions.
     Memory,
     /// Two stated loops have this head.
     SameHead(u32),

@@ -28,7 +28,7 @@ pub(crate) fn heads(alloc: Global, graph: &Graph, loops: &[LoopAt]) -> Result<Ve
 {
     let mut heads = Vec::new(alloc);
     for node in 0..graph.len() {
-        if let Some(stated) = loop_at(loops, graph.node(NodeId(node)).address) {
+        if let Some(stated) = loop_at(loops, graph.address(NodeId(node))) {
             heads.push(Head { node, stated })?;
         }
     }

@@ -58,11 +58,7 @@ fn seen(graph: &Graph, from: &[u32], y: u32) -> Option<u32>
     requires { y < (graph_of graph.now).size }
     ensures { result ≡ seen_from from.now ((places_of graph.now).context y) ((places_of graph.now).address y) }
 {
-    seen_from(
-        from,
-        graph.context(NodeId(y)),
-        graph.node(NodeId(y)).address,
-    )
+    seen_from(from, graph.context(NodeId(y)), graph.address(NodeId(y)))
 }
 
 /// Whether the region of a stated loop in the context of a head holds a node.
@@ -76,7 +72,7 @@ fn region_holds(graph: &Graph, stated: &LoopAt, from: &[u32], y: u32) -> bool
     }
 }
 
-/// Where the nodes that are seen from a node's context begin.
+/// Where the nodes that are seen from a node's context begin. Logarithmic in the number of nodes.
 fn first_seen(graph: &Graph, head: u32) -> u32
     requires { head < (graph_of graph.now).size }
     ensures below { result ≤ head }
@@ -84,14 +80,20 @@ fn first_seen(graph: &Graph, head: u32) -> u32
 {
     graph.graph_law();
     let from = graph.context(NodeId(head));
-    let mut first = head;
-    while first > 0 && seen(graph, from, first - 1).is_some() {
-        first -= 1;
+    let mut first = 0;
+    let mut found = head;
+    while first < found {
+        let middle = first + (found - first) / 2;
+        if seen(graph, from, middle).is_some() {
+            found = middle;
+        } else {
+            first = middle + 1;
+        }
     }
     first
 }
 
-/// Where the nodes that are seen from a node's context end.
+/// Where the nodes that are seen from a node's context end. Logarithmic in the number of nodes.
 fn past_seen(graph: &Graph, head: u32) -> u32
     requires { head < (graph_of graph.now).size }
     ensures within { result ≤ (graph_of graph.now).size }
@@ -99,9 +101,15 @@ fn past_seen(graph: &Graph, head: u32) -> u32
 {
     graph.graph_law();
     let from = graph.context(NodeId(head));
-    let mut past = head + 1;
-    while past < graph.len() && seen(graph, from, past).is_some() {
-        past += 1;
+    let mut found = head + 1;
+    let mut past = graph.len();
+    while found < past {
+        let middle = found + (past - found) / 2;
+        if seen(graph, from, middle).is_some() {
+            found = middle + 1;
+        } else {
+            past = middle;
+        }
     }
     past
 }

@@ -60,14 +60,14 @@ impl Nest {
         }
     }
 
-    /// How many regions there are: 0 to 16,384.
+    /// How many regions there are: 0 to 16,384. In constant time.
     pub fn len(&self) -> u32
         ensures { result ≡ (nest_of self.now).size }
     {
         self.heads.as_slice().len() as u32
     }
 
-    /// The head of a region: the node at which it is entered.
+    /// The head of a region: the node at which it is entered. In constant time.
     pub fn head(&self, r: u32) -> NodeId
         requires { r < (nest_of self.now).size }
         ensures { result.0 ≡ (nest_of self.now).head r }
@@ -75,7 +75,8 @@ impl Nest {
         NodeId(self.heads.as_slice()[r as usize])
     }
 
-    /// How often a kept walk may be at a region's head from an entry into the region until it leaves it: 1 to 1,000,000.
+    /// How often a kept walk may be at a region's head from an entry into the region until it leaves it: 1 to
+    /// 1,000,000. In constant time.
     pub fn bound(&self, r: u32) -> u32
         requires { r < (nest_of self.now).size }
         ensures { result ≡ (nest_of self.now).bound r }
@@ -83,7 +84,7 @@ impl Nest {
         self.bounds.as_slice()[r as usize]
     }
 
-    /// The innermost region round a region, None where there is none.
+    /// The innermost region round a region, None where there is none. In constant time.
     pub fn parent(&self, r: u32) -> Option<u32>
         requires { r < (nest_of self.now).size }
         ensures { IsParent (nest_of self.now) r result }
@@ -91,7 +92,8 @@ impl Nest {
         self.parents.as_slice()[r as usize]
     }
 
-    /// Whether a region holds a node. Its time is at most the number of regions that hold the node.
+    /// Whether a region holds a node. Its time is at most the number of regions that hold the node. It takes no
+    /// memory.
     pub fn holds(&self, r: u32, id: NodeId) -> bool
         requires { id.0 < length self.now.holders }
         ensures { result ≡ (nest_of self.now).holds r id.0 }
@@ -100,7 +102,7 @@ impl Nest {
         holders.has(r)
     }
 
-    /// The innermost region that holds a node, None where none does.
+    /// The innermost region that holds a node, None where none does. In constant time.
     pub fn innermost(&self, id: NodeId) -> Option<u32>
         requires { id.0 < length self.now.holders }
         ensures { IsLevel (nest_of self.now) id.0 result }

@@ -21,7 +21,8 @@ use std::alloc::{AllocError, Global};
 /// Which nodes of a graph are hits on all walks, and what its leaders surely hold. `sure_at` reads the latter.
 #[derive(Drop)]
 pub struct SureParts<const S: usize, const W: usize> {
-    /// For each leader the place of its state; the numbers of other nodes mean nothing.
+    /// For each node the place of its state among `states`, where it is a leader; the numbers of other nodes mean
+    /// nothing.
     pub places: Vec<Option<usize>>,
     /// What one walk to each leader leaves in the cache sets.
     pub states: Vec<MustState<S>>,
@@ -83,12 +84,12 @@ fn sure_ones<const W: usize>(
     Ok(sure)
 }
 
-/// Which nodes are hits on all walks, and what leaders surely hold. One walk is taken to each node, and each edge to a
-/// leader that was met before is compared once; the sets in which it differs go along the edges.
+/// Which nodes are hits on all walks, and what leaders surely hold. One walk is taken to each node, and each edge to
+/// a leader that was met before is compared once; the sets in which it differs go along the edges.
 ///
-/// The one refusal is want of memory; a state for each leader is taken, of 8 bytes for each of S sets, one for each node
-/// of a walk whose edges are still to be followed, and some three sets of numbers for each node. An edge is followed
-/// again where the sets at its source have grown.
+/// The one refusal is want of memory; a state for each leader is taken, of 8 bytes for each of S sets, one for each
+/// node of a walk whose edges are still to be followed, and some three sets of numbers for each node. An edge is
+/// followed again where the sets at its source have grown.
 pub fn sure_parts<const S: usize, const W: usize>(
     alloc: Global,
     graph: &Graph,
@@ -128,7 +129,8 @@ pub fn sure_parts<const S: usize, const W: usize>(
     })
 }
 
-/// The block that a cache set surely holds before a leader, None where none is known. It takes no memory.
+/// The block that a cache set surely holds before a leader, None where none is known. It takes no memory. In constant
+/// time.
 pub fn sure_at<const S: usize, const W: usize>(
     parts: &SureParts<S, W>,
     graph: &Graph,
@@ -156,7 +158,8 @@ pub fn sure_at<const S: usize, const W: usize>(
     }
 }
 
-/// Which nodes are hits on all walks: their own cache set surely holds their block.
+/// Which nodes are hits on all walks, by the nodes' numbers: their own cache set surely holds their block. The one
+/// refusal is want of memory; time and memory are those of `sure_parts`, of which the hits alone are kept.
 pub fn sure_hits<const S: usize, const W: usize>(
     alloc: Global,
     graph: &Graph,

@@ -9,7 +9,7 @@ use Rattle.crpd_base.specs.declared.data.Switching.{Switching}
 use Rattle.crpd_base.specs.declared.data.Switching.TheVariants.{Cycle, Instruction}
 use Rattle.rv_decode.specs.declared.Ins.{Ins}
 use Rattle.preempt_machine.specs.Machine.{System, Job, Machine, ins_at, job_at, no_job}
-use Rattle.preempt_machine.specs.Step.{is_open, is_ready, comes_before, keeps_core, candidate, first_ready, Turn, turn_of, turned, went, fetched, placed, step, step_by, run}
+use Rattle.preempt_machine.specs.Step.{is_open, is_ready, comes_before, keeps_core, candidate, first_ready, Turn, turn_of, turned, fetched, placed, step, step_by, run}
 use Rattle.preempt_machine.specs.Candidate.{release_of}
 use Rattle.preempt_machine.specs.Kept.{owner_keeps}
 use Rattle.preempt_machine.proofs.Candidates.{none_candidate}

@@ -1,14 +1,15 @@
 // The core, and what a job does with it while it has it.
-ghost use Rattle.std.specs.Prelude.{◌≡◌, ℕ, ◌<◌, ◌≤◌, not, length, IfOk, OnOk};
+ghost use Rattle.std.specs.Prelude.{◌≡◌, ℕ, suc, ◌<◌, ◌≤◌, not, length, Some, IfOk, IfSome, IsTrue, OnOk};
 ghost use Rattle.rv_decode.specs.Range.{IsInRange};
 ghost use Rattle.rv_core.specs.Effect.{next_pc};
 ghost use Rattle.icache.specs.Cache.{accessed, block_of, is_hit, set_of};
 ghost use Rattle.flow_watch.specs.Turns.{HasTurns};
+ghost use Rattle.flow_watch.specs.Quiet.{AreQuiet, IsArrival};
 ghost use Rattle.preempt_machine.specs.Machine.{System, Open, plan_of};
-ghost use Rattle.preempt_machine.specs.Step.{fetch_cost, fetched, goes_on};
+ghost use Rattle.preempt_machine.specs.Step.{fetch_cost, fetched, goes_on, went};
 ghost use Rattle.preempt_machine.specs.Running.{system_by, HasPlan};
 ghost use Rattle.preempt_machine.specs.Jobs.{turn_by};
-ghost use Rattle.preempt_fast.specs.Decodings.{AreDecoded};
+ghost use Rattle.preempt_fast.specs.Decodings.{AreCosts, AreDecoded};
 ghost use Rattle.preempt_fast.specs.Stretch.{HasMoved};
 
 use crate::decoded::{Decoded, Decoding};
@@ -17,7 +18,7 @@ use crpd_base::{Memory, SETS, TaskPlan};
 use icache::{Access, Cache, Geometry};
 use preempt_machine::Job;
 use rv_core::{DataMemory, Next};
-use rv_decode::{Ins, cost};
+use rv_decode::Ins;
 
 /// The core's cache, the data memory, and the instructions that are kept by address.
 #[derive(Drop)]
@@ -53,44 +54,79 @@ impl Core {
     }
 
     /// Fetches a job's instruction, after which it goes on so, and gives its cycles.
-    fn fetch(&mut self, job: &Job, found: &Decoding, ins: &Ins, next: Next) -> u64
-        requires in_range { IsInRange ins.now }
-        requires next { next ≡ next_pc ins.now job.now.pc job.now.registers }
+    fn fetch(&mut self, job: &Job, found: &Decoding, next: Next) -> u64
+        requires costs { IfSome found.now.meaning (AreCosts self.old.geometry.platform found.now.costs) }
+        requires next { IfSome found.now.meaning (λ ins. next ≡ next_pc ins job.now.pc job.now.registers) }
         requires room { self.old.geometry.platform.sets ≤ length self.old.cache }
         requires block { found.now.block ≡ block_of self.old.geometry.platform job.now.pc }
         requires set { found.now.set ≡ set_of self.old.geometry.platform found.now.block }
-        ensures cost { (sys : System) (k : ℕ) → sys.platform ≡ self.old.geometry.platform → result ≡ fetch_cost sys ins.now (turn_by self.old.cache self.old.memory k job.now) }
+        ensures cost { (sys : System) (k : ℕ) (ins : Ins) → sys.platform ≡ self.old.geometry.platform → found.now.meaning ≡ Some ins → result ≡ fetch_cost sys ins (turn_by self.old.cache self.old.memory k job.now) }
         ensures cache { self.new.cache ≡ accessed self.old.geometry.platform self.old.cache (block_of self.old.geometry.platform job.now.pc) }
         ensures memory { self.new.memory ≡ self.old.memory }
         ensures geometry { self.new.geometry ≡ self.old.geometry }
         ensures decoded { self.new.decoded ≡ self.old.decoded }
     {
         let missed = self.misses(found.block, found.set);
-        let taken = is_taken(next, job.pc());
-        cost(&self.geometry.platform, ins, missed, taken)
+        found.costs.cycles(missed, is_taken(next, job.pc()))
     }
 
     /// Fetches a job's instruction where none is under way.
-    fn begin(&mut self, job: &mut Job, found: &Decoding, ins: &Ins, next: Next)
-        requires in_range { IsInRange ins.now }
-        requires next { next ≡ next_pc ins.now job.old.pc job.old.registers }
+    fn begin(&mut self, job: &mut Job, found: &Decoding, next: Next)
+        requires costs { IfSome found.now.meaning (AreCosts self.old.geometry.platform found.now.costs) }
+        requires next { IfSome found.now.meaning (λ ins. next ≡ next_pc ins job.old.pc job.old.registers) }
         requires room { self.old.geometry.platform.sets ≤ length self.old.cache }
         requires block { found.now.block ≡ block_of self.old.geometry.platform job.old.pc }
         requires set { found.now.set ≡ set_of self.old.geometry.platform found.now.block }
-        ensures fetched { (sys : System) (k : ℕ) → sys.platform ≡ self.old.geometry.platform → turn_by self.new.cache self.new.memory k job.new ≡ fetched sys ins.now (turn_by self.old.cache self.old.memory k job.old) }
+        ensures fetched { (sys : System) (k : ℕ) (ins : Ins) → sys.platform ≡ self.old.geometry.platform → found.now.meaning ≡ Some ins → turn_by self.new.cache self.new.memory k job.new ≡ fetched sys ins (turn_by self.old.cache self.old.memory k job.old) }
         ensures job { job.new ≡ record job.old { left = job.new.left } }
         ensures geometry { self.new.geometry ≡ self.old.geometry }
         ensures decoded { self.new.decoded ≡ self.old.decoded }
     {
         if job.left() == 0 {
-            let cycles = self.fetch(job, found, ins, next);
+            let cycles = self.fetch(job, found, next);
             job.set_left(cycles);
         }
     }
 
+    /// The effect of a job's instruction, which ends at a time, and after which it goes on so. Its watch is not stepped where
+    /// it goes on within the addresses that are quiet for it; where it leaves them, they are found anew.
+    fn finish(
+        &mut self,
+        job: &mut Job,
+        plan: &TaskPlan,
+        found: &Decoding,
+        ins: &Ins,
+        next: Next,
+        time: u64,
+        quiet: &mut (u32, u32),
+    ) -> Result<(), Memory>
+        requires in_range { IsInRange ins.now }
+        requires stays { IsTrue found.now.stays → IsArrival ins.now }
+        requires turns { HasTurns (length plan.now.loops) job.old.watch }
+        requires open { job.old.standing ≡ Open }
+        requires quiet { AreQuiet plan.now job.old.watch quiet.old }
+        ensures ok { OnOk result ((sys : System) (k n : ℕ) → suc n ≡ time → plan_of sys job.old.line.task.0 ≡ plan.now → turn_by self.new.cache self.new.memory k job.new ≡ went sys n ins.now (turn_by self.old.cache self.old.memory k job.old) next) }
+        ensures turns { OnOk result (HasTurns (length plan.now.loops) job.new.watch) }
+        ensures quiet { OnOk result (AreQuiet plan.now job.new.watch quiet.new) }
+        ensures geometry { self.new.geometry ≡ self.old.geometry }
+        ensures decoded { self.new.decoded ≡ self.old.decoded }
+    {
+        if let Next::Goto(to) = next
+            && found.stays
+            && quiet.0 <= to
+            && to < quiet.1
+        {
+            return job.go_on(&mut self.memory, ins, to, time);
+        }
+        job.finish(&mut self.memory, plan, ins, next, time)?;
+        *quiet = job.watch().quiet(plan, job.pc());
+        Ok(())
+    }
+
     /// A job's move: as many cycles of its instruction as are left, but none from a time on. It gives the time after it.
     ///
-    /// The job faults where no instruction can be fetched, which takes a cycle.
+    /// The job faults where no instruction can be fetched, which takes a cycle. An arrival at one of the addresses that are
+    /// quiet leaves its watch as it is.
     fn advance(
         &mut self,
         job: &mut Job,
@@ -98,6 +134,7 @@ impl Core {
         plan: &TaskPlan,
         now: u64,
         until: u64,
+        quiet: &mut (u32, u32),
     ) -> Result<u64, Memory>
         requires before { now < until }
         requires room { self.old.geometry.platform.sets ≤ length self.old.cache }
@@ -105,10 +142,12 @@ impl Core {
         requires plan { plan_of (system_by self.old.geometry.platform code.now) job.old.line.task.0 ≡ plan.now }
         requires turns { HasTurns (length plan.now.loops) job.old.watch }
         requires open { job.old.standing ≡ Open }
+        requires quiet { AreQuiet plan.now job.old.watch quiet.old }
         ensures moved { IfOk result (λ time. HasMoved (system_by self.old.geometry.platform code.now) now time (turn_by self.old.cache self.old.memory 0 job.old) (turn_by self.new.cache self.new.memory 0 job.new)) }
         ensures later { IfOk result (λ time. now < time) }
         ensures within { IfOk result (λ time. time ≤ until) }
         ensures turns { OnOk result (HasTurns (length plan.now.loops) job.new.watch) }
+        ensures quiet { OnOk result (AreQuiet plan.now job.new.watch quiet.new) }
         ensures geometry { OnOk result (self.new.geometry ≡ self.old.geometry) }
         ensures decoded { OnOk result (AreDecoded self.old.geometry.platform code.now self.new.decoded.places.items) }
     {
@@ -118,14 +157,14 @@ impl Core {
             return Ok(now + 1);
         };
         let next = job.next(&ins);
-        self.begin(job, &found, &ins, next);
+        self.begin(job, &found, next);
         let left = job.left();
         if left > until - now {
             job.set_left(left - (until - now));
             return Ok(until);
         }
         let time = now + left.max(1);
-        job.finish(&mut self.memory, plan, &ins, next, time)?;
+        self.finish(job, plan, &found, &ins, next, time, quiet)?;
         Ok(time)
     }
 
@@ -152,8 +191,9 @@ impl Core {
     {
         let plan = code.plan(job.task());
         let mut now = from;
+        let mut quiet = job.watch().quiet(plan, job.pc());
         while now < until && job.is_open() {
-            now = self.advance(job, code, plan, now, until)?;
+            now = self.advance(job, code, plan, now, until, &mut quiet)?;
         }
         Ok(now)
     }

@@ -208,6 +208,26 @@ const ROUNDS: [Program; 2] = [
     },
 ];
 
+// The same loop, which its branch leaves, so that each turn begins it anew.
+const LEFT_ROUNDS: [Program; 2] = [
+    HIGH,
+    Program {
+        words: &TURNS,
+        turns: Some((0x1004, 1, 0x1008)),
+        ..LOW
+    },
+];
+
+// A loop whose head is its branch, and whose range begins and ends there.
+const LATE_HEAD: [Program; 2] = [
+    HIGH,
+    Program {
+        words: &TURNS,
+        turns: Some((0x1008, 2, 0x100C)),
+        ..LOW
+    },
+];
+
 const EACH_CYCLE: Costs = Costs {
     hit: 1,
     miss: 10,
@@ -450,7 +470,25 @@ const SHARED: [Case; 22] = [
     },
 ];
 
-const BROKEN: [Case; 8] = [
+const BROKEN: [Case; 12] = [
+    Case {
+        programs: &LEFT_ROUNDS,
+        ..LATE_ROUNDS
+    },
+    Case {
+        programs: &LEFT_ROUNDS,
+        costs: EACH_INSTRUCTION,
+        ..LATE_ROUNDS
+    },
+    Case {
+        programs: &LATE_HEAD,
+        ..LATE_ROUNDS
+    },
+    Case {
+        programs: &LATE_HEAD,
+        costs: EACH_INSTRUCTION,
+        ..LATE_ROUNDS
+    },
     Case { ..LATE_ROUNDS },
     Case {
         costs: EACH_INSTRUCTION,
@@ -708,7 +746,7 @@ fn shared_scripts(rt: HostRuntime) -> Result<(), Fail> {
     Ok(())
 }
 
-// Watches that break, also beside jobs that break in.
+// Watches that break and some that do not, also beside jobs that break in.
 #[test]
 fn broken_watches(rt: HostRuntime) -> Result<(), Fail> {
     for case in &BROKEN {

@@ -6,6 +6,7 @@ ghost use Rattle.rv_decode.specs.Range.{IsInRange};
 ghost use Rattle.rv_core.specs.Effect.{IsStore, next_pc};
 ghost use Rattle.icache.specs.Cache.{Cache as Blocks};
 ghost use Rattle.flow_watch.specs.Turns.{HasTurns};
+ghost use Rattle.flow_watch.specs.Watch.{step as watch_step};
 ghost use Rattle.preempt_machine.specs.Machine.{System, Open, Faulted, Answered, ins_at, new_job, plan_of};
 ghost use Rattle.preempt_machine.specs.Step.{executed, fetch_cost, fetched, is_open, is_ready, went, worked};
 ghost use Rattle.preempt_machine.specs.Running.{access_by, system_by, HasPlan, IsStoreNow};
@@ -35,6 +36,7 @@ enum Standing {
 
 /// A job of the script: its line, its registers and pc, the cycles left of the instruction under way, 0 where none is,
 /// its watch, and how it stands: open, answered at a time, or faulted.
+/// Each call but `start`, `next` and `finish` is in constant time and takes no memory.
 #[derive(Drop)]
 pub struct Job {
     line: ScriptJob,
@@ -79,6 +81,7 @@ fn start_registers(plan: &TaskPlan) -> Regs
 
 impl Job {
     /// A job before its first step: at its task's entry, with the registers of a start. Want of memory is the only error.
+    /// Time and memory are those of the watch.
     pub fn start(alloc: Global, line: ScriptJob, plan: &TaskPlan) -> Result<Self, Memory>
         ensures is { IfOk result (λ job. (sys : System) → plan_of sys line.task.0 ≡ plan.now → job ≡ new_job sys line) }
         ensures line { IfOk result (λ job. job.line ≡ line) }
@@ -149,6 +152,7 @@ impl Job {
     }
 
     /// Where an instruction at its pc sends it. The fields are in range.
+    /// In constant time.
     pub fn next(&self, ins: &Ins) -> Next
         requires { IsInRange ins.now }
         ensures { result ≡ next_pc ins.now self.now.pc self.now.registers }
@@ -177,6 +181,17 @@ impl Job {
         self.standing = Standing::Answered(time);
     }
 
+    /// It is at an address from a time on, with no instruction under way. At the end it has answered then.
+    fn reach(&mut self, to: u32, time: u64)
+        ensures { self.new ≡ record self.old { pc = to; left = 0; standing = if to == end then Answered time else self.old.standing } }
+    {
+        self.pc = to;
+        self.left = 0;
+        if to == END {
+            self.standing = Standing::Answered(time);
+        }
+    }
+
     /// Goes on at an address, after the effect of its instruction, which ends at a time.
     fn arrive(
         &mut self,
@@ -195,17 +210,37 @@ impl Job {
         ensures only { IsStore ins.now ⊎ IsOk result }
     {
         carry_out(ins, self.pc, &mut self.registers, memory)?;
-        self.watch.step(plan, self.pc, ins, to);
-        self.pc = to;
-        self.left = 0;
-        if to == END {
-            self.standing = Standing::Answered(time);
-        }
+        let from = self.pc;
+        self.reach(to, time);
+        self.watch.step(plan, from, ins, to);
+        Ok(())
+    }
+
+    /// The effect of its instruction, which ends at a time, and after which it goes on at an address. Its watch stays as it
+    /// is, so the caller has to know that the watch's step leaves it so. After an error all is as before. Memory is wanted
+    /// by a store alone.
+    pub fn go_on(
+        &mut self,
+        memory: &mut DataMemory,
+        ins: &Ins,
+        to: u32,
+        time: u64,
+    ) -> Result<(), Memory>
+        requires in_range { IsInRange ins.now }
+        requires open { self.old.standing ≡ Open }
+        ensures ok { OnOk result ((sys : System) (cache : Blocks) (k n : ℕ) → suc n ≡ time → watch_step (plan_of sys self.old.line.task.0) self.old.watch self.old.pc ins.now to ≡ self.old.watch → turn_by cache memory.new k self.new ≡ went sys n ins.now (turn_by cache memory.old k self.old) (Next.Goto to)) }
+        ensures watch { self.new.watch ≡ self.old.watch }
+        ensures err { OnErr result ((self.new ≡ self.old) × (memory.new ≡ memory.old)) }
+        ensures only { IsStore ins.now ⊎ IsOk result }
+    {
+        carry_out(ins, self.pc, &mut self.registers, memory)?;
+        self.reach(to, time);
         Ok(())
     }
 
     /// The effect of its instruction, which ends at a time, and after which it goes on so: it answers then, faults, or goes on.
     /// After an error all is as before. Memory is wanted by a store alone.
+    /// Its time is that of the effect and of a step of the watch.
     pub fn finish(
         &mut self,
         memory: &mut DataMemory,

@@ -108,6 +108,7 @@ impl Queue {
     }
 
     /// The release of the first job that is not told to be open, or a cycle where none comes before it.
+    /// In constant time.
     pub fn next_release(&self, until: u64) -> u64
         ensures { IsNextRelease self.now.due.items self.now.released until result }
     {
@@ -119,6 +120,7 @@ impl Queue {
     }
 
     /// The first job of a task is over.
+    /// In constant time.
     pub fn finish(&mut self, task: Task)
         requires task { task.0 < length self.old.heads.items }
         requires head { slice_index self.old.heads.items task.0 < length self.old.later.items }
@@ -132,6 +134,7 @@ impl Queue {
     }
 
     /// Tells of the jobs that are released in this cycle that they are open.
+    /// Linear in these; it takes no memory.
     pub fn release(&mut self, completions: &mut [Completion], now: u64)
         requires { (p : ℕ) → p < length self.old.due.items → place_at self.old.due.items p < length completions.old }
         ensures opened { HasOpened self.old.due.items self.old.released self.new.released completions.old completions.new }

@@ -53,6 +53,7 @@ fn push<T: Drop>(list: &mut Vec<T>, item: T) -> Result<(), Memory>
 
 /// The jobs of a script before their first steps, in its order. The code map has a plan for each job's task. Want of memory
 /// is the only error.
+/// Linear in the jobs, each with its watch.
 pub fn start_jobs(alloc: Global, code: &CodeMap, lines: &[ScriptJob]) -> Result<Vec<Job>, Memory>
     requires { (x : ℕ) → x < length lines.now → (line_at lines.now x).task.0 < length code.now.plans }
     ensures jobs { IfOk result (λ jobs. (sys : System) → sys.plans ≡ code.now.plans → jobs.items ≡ map (new_job sys) lines.now) }
@@ -78,6 +79,7 @@ fn zeros(alloc: Global, count: usize) -> Result<Vec<u32>, Memory>
 
 /// The jobs of a script by task and number, in its order, all of them unreleased. The jobs' tasks are among so many. Want
 /// of memory is the only error.
+/// Linear in the jobs and in the tasks.
 pub fn start_completions(
     alloc: Global,
     lines: &[ScriptJob],
@@ -118,6 +120,7 @@ fn place_of(completions: &[Completion], job: JobId) -> usize
 }
 
 /// Whether no job's watch is broken.
+/// Linear in the jobs; it takes no memory.
 pub fn are_kept(jobs: &[Job]) -> bool
     ensures { IsTrue result ↔ All (λ job. is_kept job.watch ≡ true) jobs.now }
 {
@@ -257,6 +260,7 @@ impl Machine {
     }
 
     /// The number of steps made.
+    /// In constant time.
     pub fn steps(&self) -> u64
         ensures { result ≡ self.now.state.time }
     {
@@ -264,6 +268,7 @@ impl Machine {
     }
 
     /// How the jobs stand, in the order of the script.
+    /// In constant time.
     pub fn completions(&self) -> &[Completion]
         ensures ends { map (λ c. c.«end») result.now ≡ completions self.now.state }
         ensures long { length result.now ≡ length self.now.state.jobs }
@@ -280,6 +285,7 @@ impl Machine {
     }
 
     /// The owner of the core, None before the first turn of a job.
+    /// In constant time.
     pub fn owner(&self) -> Option<JobId>
         ensures { result ≡ option_map (job_id self.now.state) self.now.state.owner }
     {
@@ -317,6 +323,7 @@ impl Machine {
     }
 
     /// The fetch of the last step made, None where it made none.
+    /// In constant time.
     pub fn last_fetch(&self) -> Option<Fetch>
         ensures { result ≡ self.now.fetch }
     {

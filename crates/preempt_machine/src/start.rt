@@ -61,7 +61,7 @@ fn put_segments(memory: &mut DataMemory, segments: &[Segment]) -> Result<(), Mem
 /// The data memory at the start of a script: the bytes of the segments of all tasks' files, in the order of the tasks, a
 /// later file over an earlier one; a segment's addresses past its bytes of the file hold 0, and so do all others.
 ///
-/// Time is n log n in the bytes of all segments, besides a walk over the stored bytes for each segment. Want of memory
+/// Time is n log n in the bytes of all segments, besides a walk over the stored pages for each segment. Want of memory
 /// is the only error.
 ///
 /// Source: Tool Interface Standard, Executable and Linking Format, version 1.2, book I (p_filesz, p_memsz).

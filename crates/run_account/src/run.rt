@@ -29,8 +29,8 @@ pub(crate) struct Hits {
     pub(crate) flags: Vec<bool>,
 }
 
-/// What stays the same along a run: the set with its code, the script, the tasks' graphs, the certificate, and which nodes
-/// are counted as hits.
+/// What stays the same along a run: the set with its code, the script, the tasks' graphs, the certificate, and which
+/// nodes are counted as hits.
 #[derive(Clone, Copy)]
 pub(crate) struct Run<'a> {
     pub(crate) code: &'a CodeMap,
@@ -141,8 +141,8 @@ fn is_kept_so_far(run: &Run<'_>, machine: &Machine) -> bool
 }
 
 impl Trails {
-    /// Notes a fetch of the job at a place, after which the machine stands as it is. False where it finds that a watch was
-    /// broken before the fetch, so that neither this fetch nor a later one is a reload.
+    /// Notes a fetch of the job at a place, after which the machine stands as it is. False where it finds that a
+    /// watch was broken before the fetch, so that neither this fetch nor a later one is a reload.
     fn note(
         &mut self,
         run: &Run<'_>,
@@ -199,8 +199,8 @@ impl Trails {
         Ok(on)
     }
 
-    /// The first cycle from now on in which a job may be ready, by a look through the jobs where the last one that fetched
-    /// is over and still owns the core.
+    /// The first cycle from now on in which a job may be ready, by a look through the jobs where the last one that
+    /// fetched is over and still owns the core.
     fn idle_until(&self, machine: &Machine, run: &Run<'_>) -> u64
         requires running { IsRunning run.now machine.now.state.time machine.now }
         requires within { machine.now.state.time < run.now.script.now.cycles }
@@ -229,8 +229,8 @@ impl Trails {
         }
     }
 
-    /// The steps up to the first one in which a job may be ready, where there are such, and else a cycle. False without a
-    /// step where a watch is found to be broken before it.
+    /// The steps up to the first one in which a job may be ready, where there are such, and else a cycle. False
+    /// without a step where a watch is found to be broken before it.
     fn step(&mut self, machine: &mut Machine, run: &Run<'_>) -> Result<bool, Memory>
         requires ready { IsReady run.now }
         requires running { IsRunning run.now machine.old.state.time machine.old }
@@ -255,8 +255,8 @@ impl Trails {
         }
     }
 
-    /// Makes the cycles of a run from its start, and notes its fetches up to and including the first cycle in which a watch
-    /// breaks.
+    /// Makes the cycles of a run from its start, and notes its fetches up to and including the first cycle in which a
+    /// watch breaks.
     fn follow_run(&mut self, machine: &mut Machine, run: &Run<'_>) -> Result<(), Memory>
         requires ready { IsReady run.now }
         requires started { IsRunning run.now 0 machine.old }
@@ -293,18 +293,23 @@ fn told(alloc: Global, completions: &[Completion], reloads: &[Reload]) -> Result
     Ok(entries)
 }
 
-/// The reloads of the run of a script from the script's start, for the script's cycles: the fetches, up to and including
-/// the first cycle in which a watch breaks, that miss at a node that its full state counts as a hit, in the order of their
-/// times. Each has the job of the last fetch to the set before, the evictor. That fetch lies between two successive
-/// fetches of the job that misses; of the others that fetched between these two, the preemptor is the last in the order
-/// of jobs. Beside them stand the jobs' completions, and whether the run is kept.
+/// The reloads of the run of a script from the script's start, for the script's cycles: the fetches, up to and
+/// including the first cycle in which a watch breaks, that miss at a node that its full state counts as a hit, in the
+/// order of their times. Each has the job of the last fetch to the set before, the evictor. That fetch lies between
+/// two successive fetches of the job that misses; of the others that fetched between these two, the preemptor is the
+/// last in the order of jobs. Beside them stand the jobs' completions, and whether the run is kept.
 ///
-/// The code map has a plan for each task of the set, the graphs are the flat graphs of the tasks' code, the script's jobs
-/// are of the set's tasks, every leader of each graph is listed, and clause 3 holds at each node. Want of memory is the
-/// only error.
+/// The code map has a plan for each task of the set, the graphs are the flat graphs of the tasks' code, the script's
+/// jobs are of the set's tasks, every leader of each graph is listed, and clause 3 holds at each node. Want of memory
+/// is the only error.
 ///
-/// Where clauses 4 and 5 hold too, evictors and preemptors are of higher tasks, whatever the script, and there is at most
-/// one entry of an evictor, or of a preemptor, and a cache set; all entries of a preemptor are of one job.
+/// Where clauses 4 and 5 hold too, evictors and preemptors are of higher tasks, whatever the script, and there is at
+/// most one entry of an evictor, or of a preemptor, and a cache set; all entries of a preemptor are of one job.
+///
+/// Its time is that of the machine's cycles in which a job is ready, with a look through the jobs where another job
+/// fetches than before, where a job is over, and for each reload; where `hit` and `miss` together are below 2 cycles,
+/// with one for each of these cycles. A flag is kept for each node, an entry for each reload, and a note for each time
+/// at which a job goes on behind others.
 pub fn account(
     alloc: Global,
     code: &CodeMap,

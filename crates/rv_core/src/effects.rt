@@ -24,7 +24,8 @@ fn branch(taken: bool, pc: u32, imm: i32) -> Next
     }
 }
 
-/// Where a job goes from an instruction at `pc`: ECALL answers, EBREAK faults. The fields are in range.
+/// Where a job goes from an instruction at `pc`: ECALL answers, EBREAK faults. The fields are in range. In constant
+/// time; it takes no memory.
 #[tactic(auto, unfolding(crate::specs::Effect::next_pc, rv_decode::specs::Range::IsInRange))]
 pub fn next_pc(ins: &Ins, pc: u32, regs: &Regs) -> Next
     requires { IsInRange ins.now }
@@ -109,10 +110,11 @@ fn store(ins: &Ins, regs: &Regs, memory: &mut DataMemory) -> Result<(), Memory>
     }
 }
 
-/// Carries out an instruction at `pc`, whose fields are in range: what it does to registers and memory, for a caller that
-/// has computed where the job goes.
+/// Carries out an instruction at `pc`, whose fields are in range: what it does to registers and memory, for a caller
+/// that has computed where the job goes.
 ///
-/// Registers and memory change as by `effect`. Only a store may want memory; then nothing has changed.
+/// Registers and memory change as by `effect`. Only a store may want memory; then nothing has changed. Time is
+/// constant, but for a load or store logarithmic in the stored pages.
 pub fn carry_out(ins: &Ins, pc: u32, regs: &mut Regs, memory: &mut DataMemory) -> Result<(), Memory>
     requires { IsInRange ins.now }
     ensures registers { OnOk result (regs.new ≡ registers_after ins.now pc regs.old memory.old) }
@@ -130,7 +132,8 @@ pub fn carry_out(ins: &Ins, pc: u32, regs: &mut Regs, memory: &mut DataMemory) -
 ///
 /// Registers and memory change by the effect column of the instruction table (RISC-V unprivileged manual, RV32I and
 /// M): arithmetic is modulo 2^32, data is little-endian, an access that reaches the end of memory goes on at 0, and
-/// misaligned accesses are carried out. Only a store may want memory; then nothing has changed.
+/// misaligned accesses are carried out. Only a store may want memory; then nothing has changed. Time is constant, but
+/// for a load or store logarithmic in the stored pages.
 pub fn effect(ins: &Ins, pc: u32, regs: &mut Regs, memory: &mut DataMemory) -> Result<Next, Memory>
     requires { IsInRange ins.now }
     ensures next { IfOk result (λ next. next ≡ next_pc ins.now pc regs.old) }

@@ -141,7 +141,8 @@ impl DataMemory {
         }
     }
 
-    /// Stores the low `count` bytes of a value from an address on, which wraps at 2^32. After an error all is as before.
+    /// Stores the low `count` bytes of a value from an address on, which wraps at 2^32. After an error all is as
+    /// before.
     pub(crate) fn store(&mut self, address: u32, value: u32, count: u32) -> Result<(), Memory>
         requires { count ≤ 4 }
         ensures ok { OnOk result (self.new ≡ put_bytes count self.old address value) }
@@ -205,22 +206,22 @@ impl DataMemory {
     }
 }
 
-/// A law: after a write one byte is another, and all else stays.
+/// A law: after a write one byte is another, and all else stays. In constant time.
 pub fn byte_after_put()
     ensures { ByteAfterPut }
 {}
 
-/// A law: a write keeps a memory in order.
+/// A law: a write keeps a memory in order. In constant time.
 pub fn put_keeps_memory()
     ensures { PutKeepsMemory }
 {}
 
-/// A law: a clearing makes its bytes 0, and all else stays.
+/// A law: a clearing makes its bytes 0, and all else stays. In constant time.
 pub fn byte_after_clear()
     ensures { ByteAfterClear }
 {}
 
-/// A law: memories with the same bytes are one.
+/// A law: memories with the same bytes are one. In constant time.
 pub fn bytes_tell_memory()
     ensures { BytesTellMemory }
 {}

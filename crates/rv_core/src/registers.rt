@@ -4,7 +4,8 @@ ghost use Rattle.rv_core.specs.Registers.{reg, put};
 
 use std::marker::Model;
 
-/// 32 registers of 32 bits. Register 0 reads 0.
+/// 32 registers of 32 bits (RISC-V unprivileged manual, "Programmers' Model for Base Integer ISA"). Register 0 reads
+/// 0. No call takes memory.
 #[derive(Clone, Copy, Debug, PartialEq, Eq)]
 pub struct Regs {
     values: [u32; 32],
@@ -19,14 +20,14 @@ impl Model for Regs {
 }
 
 impl Regs {
-    /// All 0.
+    /// All 0. In constant time.
     pub fn new() -> Self
         ensures { result ≡ replicate 32 0 }
     {
         Regs { values: [0; 32] }
     }
 
-    /// What register `n` holds.
+    /// What register `n` holds; `n` is below 32. In constant time.
     pub fn get(&self, n: u8) -> u32
         requires { n < 32 }
         ensures { result ≡ reg self.now n }
@@ -34,7 +35,7 @@ impl Regs {
         if n == 0 { 0 } else { self.values[n as usize] }
     }
 
-    /// Puts a value into register `n`. A write to register 0 is lost.
+    /// Puts a value into register `n`, which is below 32. A write to register 0 is lost. In constant time.
     pub fn put(&mut self, n: u8, value: u32)
         requires { n < 32 }
         ensures { self.new ≡ put self.old n value }

@@ -130,7 +130,7 @@ macro_rules! text_rows {
 impl Ins {
     /// The text of the instruction, as an assembler reads it: the name, a space, and the operands with commas
     /// between them. Registers are `x0` to `x31` and numbers decimal; a branch and JAL name their offset in bytes.
-    /// Takes memory for the text alone.
+    /// Time and memory are those of the text, fewer than 20 bytes. The only error is want of memory.
     #[tactic(auto, unfolding(crate::specs::Text::text))]
     pub fn text(&self, alloc: Global) -> Result<String, Memory>
         ensures { IfOk result (λ s. string_bytes s ≡ text self.now) }

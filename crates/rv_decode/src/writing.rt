@@ -181,7 +181,8 @@ macro_rules! encode_rows {
     };
 }
 
-/// The word of an instruction whose fields are in range: the one word that is decoded to it.
+/// The word of an instruction whose fields are in range: the one word that is decoded to it. In constant time; it
+/// takes no memory.
 #[tactic(auto, unfolding(crate::specs::Range::IsInRange))]
 pub fn encode(ins: &Ins) -> u32
     requires { IsInRange ins.now }

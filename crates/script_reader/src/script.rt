@@ -103,7 +103,10 @@ fn script_of(alloc: Global, bytes: &[u8], set: &TaskSet) -> Result<Script, Scrip
     }
 }
 
-/// Reads a script beside a task set. What it gives, and its first refusal, are those of `reading`.
+/// Reads a script beside a task set from the TOML text in the bytes. What it gives, and its first refusal, are those
+/// of `reading`: unknown keys of a table first, then cycles, cache, the count of jobs, and each job's keys. `Memory`
+/// may come in place of any answer. Beside the parse by `toml`, time is linear in the text, with a look at each
+/// task's name per job, and memory is linear in the text.
 pub fn read_script(alloc: Global, bytes: &[u8], set: &TaskSet) -> Result<Script, ScriptError>
     ensures exact { Gives ScriptError.Memory (λ x. x) result (reading bytes.now set.now) }
 

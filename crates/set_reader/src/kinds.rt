@@ -11,7 +11,7 @@ use toml_keys::whole;
 
 const LIMIT: u64 = 1 << 32;
 
-/// The length of a cache line.
+/// The length of a cache line in bytes: 4, 8, 16, 32 or 64; None for any other value. In constant time.
 #[tactic(auto, unfolding(crate::specs::Kinds::line))]
 pub fn line(value: &Value) -> Option<u32>
     ensures { result ≡ spec.line (view value.now) }
@@ -24,7 +24,7 @@ pub fn line(value: &Value) -> Option<u32>
     }
 }
 
-/// Where a context switch may happen.
+/// Where a context switch may happen: `cycle` or `instruction`; None for any other value. In constant time.
 #[tactic(auto, unfolding(crate::specs::Kinds::switching))]
 pub fn switching(value: &Value) -> Option<Switching>
     ensures { result ≡ spec.switching (view value.now) }
@@ -36,7 +36,7 @@ pub fn switching(value: &Value) -> Option<Switching>
     }
 }
 
-/// A task's name.
+/// A task's name, 1 to 32 bytes; None for any other value. The only error is want of memory.
 #[tactic(auto, unfolding(crate::specs::Kinds::name))]
 pub fn name(alloc: Global, value: &Value) -> Result<Option<String>, AllocError>
     ensures { IfOk result (λ s. option_map string_bytes s ≡ spec.name (view value.now)) }
@@ -47,7 +47,7 @@ pub fn name(alloc: Global, value: &Value) -> Result<Option<String>, AllocError>
     }
 }
 
-/// The name of a file.
+/// The name of a file, 1 to 255 bytes; None for any other value. The only error is want of memory.
 #[tactic(auto, unfolding(crate::specs::Kinds::file))]
 pub fn file(alloc: Global, value: &Value) -> Result<Option<String>, AllocError>
     ensures { IfOk result (λ s. option_map string_bytes s ≡ spec.file (view value.now)) }
@@ -133,7 +133,8 @@ fn place_named(alloc: Global, text: &str) -> Result<Option<Place>, AllocError>
     }
 }
 
-/// An address, or a symbol with an offset.
+/// An address from 0 to 2^32 - 1, or a symbol with an offset in bytes as `symbol+offset`; None for any other value.
+/// Linear in the text; the only error is want of memory.
 #[tactic(auto, unfolding(crate::specs::Kinds::place))]
 pub fn place(alloc: Global, value: &Value) -> Result<Option<Place>, AllocError>
     ensures { IfOk result (λ p. p ≡ spec.place (view value.now)) }
@@ -171,7 +172,8 @@ fn range(alloc: Global, value: &Value) -> Result<Option<(Place, Place)>, AllocEr
     }
 }
 
-/// A list of ranges.
+/// A list of ranges, each a list of two places; None for any other value. Linear in the list; the only error is want of
+/// memory.
 pub fn ranges(alloc: Global, value: &Value) -> Result<Option<Vec<(Place, Place)>>, AllocError>
     ensures { IfOk result (λ found. option_map (λ v. v.items) found ≡ listed spec.range (view value.now)) }
 {

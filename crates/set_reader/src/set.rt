@@ -148,7 +148,9 @@ fn set_of(alloc: Global, bytes: &[u8]) -> Result<TaskSet, SetError>
     }
 }
 
-/// Reads a task set from the TOML text in the bytes. What it gives, and its first refusal, are those of `reading`.
+/// Reads a task set from the TOML text in the bytes. What it gives, and its first refusal, are those of `reading`:
+/// unknown keys of a table first, then its keys in their order, the platform before the tasks, equal names last.
+/// `Memory` may come in place of any answer. Beside the parse by `toml`, time and memory are linear in the text.
 pub fn read_set(alloc: Global, bytes: &[u8]) -> Result<TaskSet, SetError>
     ensures exact { Gives SetError.Memory (λ x. x) result (reading bytes.now) }
 

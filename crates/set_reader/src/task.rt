@@ -82,7 +82,9 @@ fn fields_at(alloc: Global, keys: Keys) -> Result<TaskSpec, KeyError>
     })
 }
 
-/// The task at a place.
+/// The task at a place of the list, counted from 0. The deadline is compared with the period after all keys are read,
+/// those of the loops included. The first thing that is wrong is the refusal; `Memory` may come in place of any answer.
+/// Linear in what the keys say.
 #[tactic(auto, unfolding(crate::specs::Reading::task_at))]
 pub fn task_at(alloc: Global, place: usize, table: &Table) -> Result<TaskSpec, SetError>
     ensures { Gives SetError.Memory (λ x. x) result (spec.task_at place (table_view table.now)) }

@@ -10,7 +10,8 @@ use crpd_base::Text;
 use std::alloc::{AllocError, Global};
 use toml::{Table, Value};
 
-/// The path of a key: that of its table, and the key.
+/// The path of a key: that of its table, and the key. Time and memory are those of the path; the only error is want of
+/// memory.
 pub fn key_path(alloc: Global, path: &str, key: &str) -> Result<Text, AllocError>
     ensures { IfOk result (λ t. t ≡ path.now ++ key.now) }
 {
@@ -19,7 +20,8 @@ pub fn key_path(alloc: Global, path: &str, key: &str) -> Result<Text, AllocError
     Ok(Text::new(text))
 }
 
-/// The path of the table at a place in the list at a key.
+/// The path of the table at a place, counted from 0, in the list at a key, with a point at the end. Time and memory are
+/// those of the path; the only error is want of memory.
 pub fn item_path(alloc: Global, path: &str, key: &str, place: usize) -> Result<String, AllocError>
     ensures { IfOk result (λ s. string_bytes s ≡ spec.item_path path.now key.now place) }
 {
@@ -65,19 +67,21 @@ fn least_unknown<'a>(table: &'a Table, keys: &[&str]) -> Option<&'a str>
 /// A table that is read, and the path of its keys.
 #[derive(Clone, Copy)]
 pub struct Keys<'a> {
+    /// The table.
     pub table: &'a Table,
+    /// What stands before each of its keys in a path: empty for the whole file, else with a point at the end.
     pub path: &'a str,
 }
 
 impl<'a> Keys<'a> {
-    /// The value at a key.
+    /// The value at a key, None where it is absent. It takes no memory.
     pub fn get(&self, key: &str) -> Option<&'a Value>
         ensures { option_map (λ v. view v.now) result ≡ get_member key.now (table_view self.now.table.now) }
     {
         self.table.get(key)
     }
 
-    /// The value at a key that has to be there.
+    /// The value at a key that has to be there, else `Missing`. Memory is taken for the path of a refusal alone.
     pub fn present(&self, alloc: Global, key: &str) -> Result<&'a Value, KeyError>
         ensures { Gives KeyError.Memory (λ v. view v.now) result (spec.present self.now.path.now key.now (table_view self.now.table.now)) }
     {
@@ -87,7 +91,7 @@ impl<'a> Keys<'a> {
         }
     }
 
-    /// What was read from the value at a key, which is bad where nothing was.
+    /// What was read from the value at a key, else `BadValue`. Memory is taken for the path of a refusal alone.
     pub fn good<T: Drop>(&self, alloc: Global, key: &str, read: Option<T>) -> Result<T, KeyError>
         ensures { Gives KeyError.Memory (λ x. x) result (spec.good self.now.path.now key.now read) }
     {
@@ -97,7 +101,8 @@ impl<'a> Keys<'a> {
         }
     }
 
-    /// Each key is one of these.
+    /// Each key of the table is one of these, else `UnknownKey`. Time is that of all pairs of a key and a listed one;
+    /// memory is taken for the path of a refusal alone.
     #[tactic(auto, unfolding(crate::specs::Reading::all_known))]
     pub fn all_known(&self, alloc: Global, keys: &[&str]) -> Result<(), KeyError>
         ensures { Gives KeyError.Memory (λ x. x) result (spec.all_known (map (λ k. k.now) keys.now) self.now.path.now (table_view self.now.table.now)) }
@@ -108,7 +113,8 @@ impl<'a> Keys<'a> {
         }
     }
 
-    /// A required whole number in a range.
+    /// A required whole number from `low` to `high`, else `Missing` or `BadValue`. Memory is taken for the path of a
+    /// refusal alone.
     #[tactic(auto, unfolding(crate::specs::Reading::required))]
     pub fn number(&self, alloc: Global, key: &str, low: u64, high: u64) -> Result<u64, KeyError>
         ensures is { Gives KeyError.Memory (λ x. x) result (spec.required (spec.whole low high) self.now.path.now key.now (table_view self.now.table.now)) }
@@ -118,7 +124,8 @@ impl<'a> Keys<'a> {
         self.good(alloc, key, whole(value, low, high))
     }
 
-    /// A required whole number in a range of `u32`.
+    /// A required whole number from `low` to `high`, else `Missing` or `BadValue`. Memory is taken for the path of a
+    /// refusal alone.
     pub fn small_number(
         &self,
         alloc: Global,
@@ -132,7 +139,8 @@ impl<'a> Keys<'a> {
         Ok(number as u32)
     }
 
-    /// An optional number of `u32`, 0 where it is absent.
+    /// An optional number from `low` to `high`, else `BadValue`; 0 where the key is absent. Memory is taken for the
+    /// path of a refusal alone.
     #[tactic(auto, unfolding(crate::specs::Reading::optional))]
     pub fn number_or_zero(
         &self,

@@ -1,0 +1,179 @@
+-- A made input's text with the status Done comes of a yes, and no job of a kept run is late.
+use Rattle.std.proofs.Common.{◌≡◌, ℕ, ◌++◌, Bool, true, false, List, [], ◌∷◌, length, map, drop, Result, Ok, refl, ap, sym, subst, ◌∙◌, inl, inr, arith, length-append}
+use Rattle.std.specs.Prelude.{IsTrue, codes}
+use Rattle.std.proofs.Math.Seq.{drop-append_seam}
+use Rattle.std.proofs.lemmas.List.{append_assoc, ext_get_or, get_or-map, length-map}
+use Rattle.crpd_base.specs.declared.data.Certificate.{Certificate}
+use Rattle.crpd_base.specs.declared.data.Script.{Script}
+use Rattle.crpd_base.specs.declared.data.TaskSet.{TaskSet}
+use Rattle.code_map.specs.Words.{word_at}
+use Rattle.script_reader.specs.Legal.{IsLegal}
+use Rattle.cert_build.specs.declared.fault.BuildError.{BuildError}
+use Rattle.cert_build.specs.declared.fault.BuildError.TheVariants.{Memory, TooLarge, TooManyEntries, Unschedulable}
+use Rattle.cert_check.specs.Answered.{answer_of}
+use Rattle.cert_check.specs.Judge.{IsYes, responses}
+use Rattle.cert_check.specs.Shown.{shown_at}
+use Rattle.cert_check.specs.Verdict.{IsJudged, YesLaw}
+use Rattle.cert_check.specs.declared.outcome.Verdict.{Verdict}
+use Rattle.cert_check.specs.declared.outcome.Verdict.TheVariants.{Yes, No}
+use Rattle.preempt_machine.specs.Machine.{Job, no_job, plan_of}
+use Rattle.preempt_machine.specs.Safe.{IsKept, IsSafeWith, system_of}
+use Rattle.preempt_machine.specs.Step.{Start, state}
+use Rattle.preempt_fast.specs.Fast.{start_of}
+use Rattle.run_account.proofs.Jobs.{jobs_length, line_is}
+use Rattle.sound_laws.specs.Headline.{CheckedCodeIsSafe}
+use Rattle.crpd_io.specs.Outside.{Contents}
+use Rattle.crpd_report.specs.Check.{check_text}
+use Rattle.crpd_report.specs.Made.{NoneLateLaw, answered_count, generate_text, jobs_line, late_count, made_line}
+use Rattle.crpd_report.specs.Simulate.{is_legal, run_line}
+use Rattle.crpd_report.proofs.Legality.{legal_decides}
+use Rattle.gen_tasks.specs.Made.{made}
+use Rattle.gen_tasks.proofs.MadeLaw.{made_legal}
+use Rattle.crpd_input.specs.declared.input.Input.{Input}
+use Rattle.crpd_input.specs.declared.refusal.Refusal.{Refusal}
+use Rattle.crpd_input.specs.declared.shapes.Shapes.{Shapes}
+use Rattle.crpd_input.specs.Shapes.{ShapesIn}
+use Rattle.crpd_input.specs.Steps.{Exactly, Then}
+use Rattle.crpd_input.proofs.Built.{shapes_built}
+use Rattle.crpd_tool.specs.declared.answer.Answer.{Answer}
+use Rattle.crpd_tool.specs.declared.status.Status.TheVariants.{Done}
+use Rattle.crpd_tool.specs.Analyze.{without_certificate}
+use Rattle.crpd_tool.specs.Check.{verdict_outcome}
+use Rattle.crpd_tool.specs.Generate.{GenerateEnds, GeneratedOf, IsRunJudged, behind, made_input, node_count}
+use Rattle.crpd_tool.specs.Generated.{DoneIsGenerated, IsGenerated}
+use Rattle.crpd_tool.specs.Out.{Output, settled, status_of}
+use Rattle.crpd_tool.specs.Simulate.{completions_of, run_of}
+use Rattle.crpd_tool.specs.Words.{generate}
+use Rattle.crpd_tool.proofs.Finish.{some-out}
+use Rattle.crpd_tool.proofs.MadeGood.{made_good, made_parts, made_planned, made_run}
+use Rattle.crpd_tool.proofs.Safety.{then_done}
+
+-- ---- the last two bytes of a text
+
+last_two : (xs ys : List ℕ) (a b c d : ℕ) → xs ++ a ∷ b ∷ [] ≡ ys ++ c ∷ d ∷ [] → a ≡ c
+last_two xs ys a b c d e =
+    let long : length xs ≡ length ys = omega (arith, ap length e, length-append xs (a ∷ b ∷ []), length-append ys (c ∷ d ∷ [])) in
+    let same : ◌≡◌ {A = List ℕ} (a ∷ b ∷ []) (c ∷ d ∷ []) =
+    sym (drop-append_seam xs (a ∷ b ∷ [])) ∙ ap (drop (length xs)) e ∙ ap (λ k. drop k (ys ++ c ∷ d ∷ [])) long ∙ drop-append_seam ys (c ∷ d ∷ []) in
+    cc
+
+kept_line : run_line true true ≡ codes "run legal kep" ++ 116 ∷ 10 ∷ []
+kept_line = refl
+
+broken_line : run_line true false ≡ codes "run legal broke" ++ 110 ∷ 10 ∷ []
+broken_line = refl
+
+-- a text does not end with both
+one_end : (front other : List ℕ) → front ++ run_line true true ≡ other ++ run_line true false → ⊥
+one_end front other e =
+    let kept : front ++ run_line true true ≡ (front ++ codes "run legal kep") ++ 116 ∷ 10 ∷ [] = ap (λ l. front ++ l) kept_line ∙ sym (append_assoc front (codes "run legal kep") (116 ∷ 10 ∷ [])) in
+    let broken : other ++ run_line true false ≡ (other ++ codes "run legal broke") ++ 110 ∷ 10 ∷ [] = ap (λ l. other ++ l) broken_line ∙ sym (append_assoc other (codes "run legal broke") (110 ∷ 10 ∷ [])) in
+    let same : ◌≡◌ {A = ℕ} 116 110 = last_two (front ++ codes "run legal kep") (other ++ codes "run legal broke") 116 10 110 10 (sym kept ∙ e ∙ broken) in
+    omega arith
+
+-- the line before the last one
+late_said : (text A : List ℕ) (j a late : ℕ) (legal kept : Bool) → text ≡ (A ++ jobs_line j a late) ++ run_line legal kept → legal ≡ true → (IsTrue kept → late ≡ 0)
+    → (front : List ℕ) → text ≡ front ++ run_line true true → (before : List ℕ) × (jobs : ℕ) × (answered : ℕ) × (text ≡ before ++ jobs_line jobs answered 0 ++ run_line true true)
+late_said text A j a late legal true is lawful none front ends = (A, j, a, is ∙ ap (λ b. (A ++ jobs_line j a late) ++ run_line b true) lawful ∙ ap (λ l. (A ++ jobs_line j a l) ++ run_line true true) (none refl))
+late_said text A j a late legal false is lawful none front ends =
+    absurd (one_end front (A ++ jobs_line j a late) (sym ends ∙ is ∙ ap (λ b. (A ++ jobs_line j a late) ++ run_line b false) lawful))
+
+-- ---- the lines of a run's jobs
+
+lines_are : (s : Start) (n : ℕ) → s.lines ≡ map (λ (job : Job). job.line) (state s n).jobs
+lines_are s n =
+    let jobs = (state s n).jobs in
+    let long : length jobs ≡ length s.lines = jobs_length s n in
+    ext_get_or no_job.line s.lines (map (λ (job : Job). job.line) jobs) (sym (length-map jobs (λ (job : Job). job.line) ∙ long))
+    (λ i lt. sym (line_is s n i lt) ∙ sym (get_or-map (λ (job : Job). job.line) jobs i no_job no_job.line (omega arith)))
+
+-- ---- Done comes of a yes
+
+not_done : (line file : List ℕ) (set : TaskSet) (e : BuildError) → (settled (behind line (without_certificate file set e))).status ≡ Done → ⊥
+not_done line file set Memory is = cc
+not_done line file set (TooLarge task address) is = cc
+not_done line file set (TooManyEntries count) is = cc
+not_done line file set (Unschedulable task) is = cc
+
+yes_only : (v : Verdict) → status_of (verdict_outcome v) ≡ Done → v ≡ Yes
+yes_only Yes e = refl
+yes_only (No task clause place) e = absurd cc
+
+module _ (safe_law : CheckedCodeIsSafe) (yes_law : YesLaw) (none_law : NoneLateLaw) (n : ℕ) where
+  abbrev script : Script
+  script = (made n).script
+
+  all_hold : (input : Input) (shapes : Shapes) (c : Certificate) → made_input n ≡ Ok input → ShapesIn input (Ok shapes)
+      → IsJudged input.set (shown_at shapes.graphs shapes.nests) c (answer_of Yes) → IsYes input.set (shown_at shapes.graphs shapes.nests) c
+  all_hold input shapes c is shaped judged =
+      (yes_law input.set (shown_at shapes.graphs shapes.nests) c (word_at input.code.images) (plan_of (system_of input.set input.code))
+      (shapes_built input shapes (made_good n input is) (made_planned n input is) shaped)).0 judged
+
+  safe : (input : Input) (shapes : Shapes) (c : Certificate) → made_input n ≡ Ok input → ShapesIn input (Ok shapes)
+      → IsJudged input.set (shown_at shapes.graphs shapes.nests) c (answer_of Yes) → IsSafeWith input.set input.code (responses c)
+  safe input shapes c is shaped judged =
+      let good = made_good n input is in
+      safe_law input.set input.code (shown_at shapes.graphs shapes.nests) c good.ranges good.words
+      (shapes_built input shapes good (made_planned n input is) shaped) (all_hold input shapes c is shaped judged)
+
+  none_late : (input : Input) (c : Certificate) → made_input n ≡ Ok input → IsSafeWith input.set input.code (responses c) → IsKept (run_of input script)
+      → late_count script c (completions_of (run_of input script)) ≡ 0
+  none_late input c is safely kept =
+      let s = start_of input.set input.code script in
+      none_law script c (run_of input script) (lines_are s script.cycles) (safely s script.cycles refl (made_run n input is) kept)
+
+  said : (input : Input) (shapes : Shapes) (c : Certificate) (kept : Bool) (text : List ℕ) → is_legal input.set script.jobs ≡ true
+      → (IsTrue kept → late_count script c (completions_of (run_of input script)) ≡ 0)
+      → text ≡ generate_text n (node_count shapes.graphs) input.set c Yes script (completions_of (run_of input script)) kept
+      → (front : List ℕ) → text ≡ front ++ run_line true true → (before : List ℕ) × (jobs : ℕ) × (answered : ℕ) × (text ≡ before ++ jobs_line jobs answered 0 ++ run_line true true)
+  unfolding generate_text
+  said input shapes c kept text lawful none is =
+      let ends = completions_of (run_of input script) in
+      late_said text (made_line n (node_count shapes.graphs) ++ check_text input.set c Yes) (length script.jobs) (answered_count ends) (late_count script c ends) (is_legal input.set script.jobs) kept is lawful none
+
+  generated : (input : Input) (shapes : Shapes) (c : Certificate) (kept : Bool) (text : List ℕ) → made_input n ≡ Ok input → ShapesIn input (Ok shapes) → IsRunJudged script input shapes c Yes kept
+      → text ≡ generate_text n (node_count shapes.graphs) input.set c Yes script (completions_of (run_of input script)) kept → IsGenerated n text
+  generated input shapes c kept text is shaped J text_is =
+      let safely = safe input shapes c is shaped J.judged in
+      let lawful : IsLegal input.set script.jobs = subst (λ s. IsLegal s script.jobs) (sym (made_parts n input is).set) (made_legal n) in
+      let legal_said : is_legal input.set script.jobs ≡ true = (legal_decides input.set script.jobs).1 lawful in
+      let none : IsTrue kept → late_count script c (completions_of (run_of input script)) ≡ 0 = λ k. none_late input c is safely (J.kept_so.0 k) in
+      record {
+        input = input;
+        shapes = shapes;
+        found = c;
+        kept = kept;
+        input_is = is;
+        shapes_are = shaped;
+        best = J.best;
+        judged = J.judged;
+        safe = safely;
+        legal = lawful;
+        legal_said = legal_said;
+        kept_so = J.kept_so;
+        text_is = text_is;
+        none_late = none;
+        late_0 = said input shapes c kept text legal_said none text_is;
+      }
+
+  answered : (input : Input) (shapes : Shapes) (ending : Result Answer Refusal) → made_input n ≡ Ok input → ShapesIn input (Ok shapes) → GeneratedOf n script input shapes ending → (settled ending).status ≡ Done
+      → IsGenerated n (settled ending).text
+  answered input shapes ending is shaped (inl (c, v, kept, J, end)) e =
+      let yes : v ≡ Yes = yes_only v (ap (λ (r : Result Answer Refusal). (settled r).status) (sym end) ∙ e) in
+      let text : (settled ending).text ≡ generate_text n (node_count shapes.graphs) input.set c v script (completions_of (run_of input script)) kept = ap (λ (r : Result Answer Refusal). (settled r).text) end in
+      generated input shapes c kept (settled ending).text is shaped (subst (λ x. IsRunJudged script input shapes c x kept) yes J)
+      (text ∙ ap (λ x. generate_text n (node_count shapes.graphs) input.set c x script (completions_of (run_of input script)) kept) yes)
+  answered input shapes ending is shaped (inr none) e =
+      absurd (not_done (made_line n (node_count shapes.graphs)) (codes "generate") input.set none.0 (ap (λ (r : Result Answer Refusal). (settled r).status) (sym none.3) ∙ e))
+
+  ended : (ending : Result Answer Refusal) → GenerateEnds n ending → (settled ending).status ≡ Done → IsGenerated n (settled ending).text
+  ended ending is e =
+      let input = then_done (Exactly (made_input n)) (λ input. Then (ShapesIn input) (GeneratedOf n script input)) ending is e in
+      let shapes = then_done (ShapesIn input.0) (GeneratedOf n script input.0) ending input.2 e in
+      answered input.0 shapes.0 ending input.1 shapes.1 shapes.2 e
+
+pub done_is_generated : CheckedCodeIsSafe → YesLaw → NoneLateLaw → (words : List (List ℕ)) (contents : Contents) → DoneIsGenerated words contents
+done_is_generated safe_law yes_law none_law words contents n output is out e =
+    let given = some-out words contents (generate n) output is out in
+    subst (IsGenerated n) (sym (ap (λ (o : Output). o.text) given.2))
+    (ended safe_law yes_law none_law n given.0 given.1 (ap (λ (o : Output). o.status) (sym given.2) ∙ e))

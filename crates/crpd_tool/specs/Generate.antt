@@ -1,0 +1,101 @@
+-- The steps of `generate N`.
+use Rattle.std.specs.Prelude.{◌≡◌, ◌≢◌, ◌⊎◌, ◌↔◌, IsTrue, ℕ, Bool, ◌≤◌, List, [], ◌∷◌, ◌++◌, codes, length, map, Some, None, Result, Ok, Err, if◌then◌else◌}
+use Rattle.std.specs.List.{sum_by, zip}
+use Rattle.std.specs.Str.{bytes_eq}
+use Rattle.crpd_base.specs.declared.data.Certificate.{Certificate}
+use Rattle.crpd_base.specs.declared.data.Script.{Script}
+use Rattle.crpd_base.specs.declared.data.TaskSet.{TaskSet}
+use Rattle.crpd_base.specs.declared.data.TaskSpec.{TaskSpec}
+use Rattle.flat_graph.specs.CodeGraph.{CodeGraph}
+use Rattle.cert_build.specs.Best.{IsBest}
+use Rattle.cert_build.specs.Certify.{IsBuildRefused}
+use Rattle.cert_build.specs.declared.fault.BuildError.{BuildError}
+use Rattle.cert_build.specs.declared.fault.BuildError.TheVariants as build
+use Rattle.cert_check.specs.Answered.{answer_of}
+use Rattle.cert_check.specs.Shown.{shown_at}
+use Rattle.cert_check.specs.Verdict.{IsJudged}
+use Rattle.cert_check.specs.declared.outcome.Verdict.{Verdict}
+use Rattle.cert_model.specs.Reading.{entries}
+use Rattle.preempt_machine.specs.Safe.{IsKept}
+use Rattle.crpd_io.specs.Outside.{Contents}
+use Rattle.crpd_report.specs.Made.{generate_text, made_line}
+use Rattle.gen_tasks.specs.Made.{made}
+use Rattle.gen_tasks.specs.declared.Generated.{Generated}
+use Rattle.crpd_input.specs.declared.input.Input.{Input}
+use Rattle.crpd_input.specs.declared.refusal.Refusal.{Refusal}
+use Rattle.crpd_input.specs.declared.shapes.Shapes.{Shapes}
+use Rattle.crpd_input.specs.Reading.{code_in}
+use Rattle.crpd_input.specs.Shapes.{ShapesIn}
+use Rattle.crpd_input.specs.Steps.{Exactly, Then, and_then}
+use Rattle.crpd_tool.specs.declared.answer.Answer.{Answer}
+use Rattle.crpd_tool.specs.Analyze.{without_certificate}
+use Rattle.crpd_tool.specs.Check.{verdict_outcome}
+use Rattle.crpd_tool.specs.Simulate.{completions_of, run_of}
+
+-- ---- the made input
+
+-- the bytes of the first file of a name
+abbrev pub held : List (List ℕ × List ℕ) → Contents
+held [] name = None
+held (file ∷ files) name = if bytes_eq name file.0 then Some file.1 else held files name
+
+-- the files of a set's tasks, under the names that the tasks have for them
+abbrev pub named_files : TaskSet → List (List ℕ) → List (List ℕ × List ℕ)
+named_files set files = zip (map (λ (t : TaskSpec). t.file) set.tasks) files
+
+-- what stands for the set's file in refusals
+abbrev pub made_name : List ℕ
+made_name = codes "generate"
+
+-- a set with the code that these files mean, as for a set that was read
+abbrev pub input_of : TaskSet → List (List ℕ) → Result Input Refusal
+input_of set files = and_then (code_in (held (named_files set files)) made_name set) (λ code. Ok (record { set = set; code = code }))
+
+-- the made set with its code
+abbrev pub made_input : ℕ → Result Input Refusal
+made_input n = input_of (made n).set (made n).files
+
+-- ---- its analysis, its verdict and its run
+
+-- the nodes of all graphs together
+abbrev pub node_count : List CodeGraph → ℕ
+node_count graphs = sum_by (λ (g : CodeGraph). length g.nodes) graphs
+
+-- the analysis' certificate, with at most 4,000,000 state entries; the judge's verdict on it; and whether the state after
+-- the script's cycles is kept
+pub record IsRunJudged (script : Script) (input : Input) (shapes : Shapes) (c : Certificate) (verdict : Verdict) (kept : Bool) : Type 0 where
+  pub best : IsBest input.set (shown_at shapes.graphs shapes.nests) c
+  pub few : entries c.tasks ≤ 4000000
+  pub judged : IsJudged input.set (shown_at shapes.graphs shapes.nests) c (answer_of verdict)
+  pub kept_so : IsTrue kept ↔ IsKept (run_of input script)
+
+-- the answer with a certificate
+abbrev pub made_answer : ℕ → Script → Input → Shapes → Certificate → Verdict → Bool → Answer
+made_answer n script input shapes c verdict kept = record {
+  text = generate_text n (node_count shapes.graphs) input.set c verdict script (completions_of (run_of input script)) kept;
+  outcome = verdict_outcome verdict;
+}
+
+-- an answer behind a line; a refusal stands alone
+abbrev pub behind : List ℕ → Result Answer Refusal → Result Answer Refusal
+behind line (Ok answer) = Ok (record { text = line ++ answer.text; outcome = answer.outcome })
+behind line (Err refusal) = Err refusal
+
+-- where there is no certificate, the analysis' end, with the first line before the line of a task without a window
+abbrev pub without_made : ℕ → Input → Shapes → BuildError → Result Answer Refusal
+without_made n input shapes e = behind (made_line n (node_count shapes.graphs)) (without_certificate made_name input.set e)
+
+-- the analysis of all tasks, and with its certificate the verdict and the script's run
+abbrev pub GeneratedOf : ℕ → Script → Input → Shapes → Result Answer Refusal → Type 0
+GeneratedOf n script input shapes r =
+    ((c : Certificate) × (verdict : Verdict) × (kept : Bool) × IsRunJudged script input shapes c verdict kept × (r ≡ Ok (made_answer n script input shapes c verdict kept)))
+    ⊎ ((e : BuildError) × (e ≢ build.Memory) × IsBuildRefused input.set (shown_at shapes.graphs shapes.nests) e × (r ≡ without_made n input shapes e))
+
+-- over an input that was made of a number: the set with its code, the graphs of all tasks and the regions of their loops,
+-- and then the analysis, the verdict and the run
+abbrev pub EndsFrom : ℕ → Generated → Result Answer Refusal → Type 0
+EndsFrom n g = Then (Exactly (input_of g.set g.files)) (λ input. Then (ShapesIn input) (GeneratedOf n g.script input))
+
+-- the whole command
+abbrev pub GenerateEnds : ℕ → Result Answer Refusal → Type 0
+GenerateEnds n = EndsFrom n (made n)

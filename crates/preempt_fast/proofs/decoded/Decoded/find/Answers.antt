@@ -1,0 +1,12 @@
+use Rattle.std.proofs.Common.{◌∙◌, length-set}
+use Rattle.std.proofs.lemmas.List.Elements.{All-set}
+use Rattle.preempt_fast.specs.Decodings.{IsDecoded}
+use Rattle.preempt_fast.proofs.decoded.Decoded.find.Goals as goal
+
+pub returns-clause-decoded : goal.returns-clause-decoded
+returns-clause-decoded c =
+    let places = c.args.self.now.places.items in
+    record {
+      long = length-set places _ _ ∙ c.requires.long;
+      each = All-set (IsDecoded c.args.geometry.now.platform c.args.code.now) places _ c.decoding_at-found.result c.decoding_at-found.ensures.is c.requires.each;
+    }

@@ -1,0 +1,32 @@
+use Rattle.std.proofs.Common.{sym, ap, subst, ◌∙◌}
+use Rattle.std.proofs.lemmas.Result.{on_ok_weaker}
+use Rattle.crpd_base.specs.declared.data.TaskPlan.{TaskPlan}
+use Rattle.flow_watch.specs.Watch.{Watch, step}
+use Rattle.flow_watch.specs.Quiet.{AreQuiet}
+use Rattle.preempt_machine.specs.Step.{went}
+use Rattle.preempt_machine.specs.Jobs.{turn_by}
+use Rattle.preempt_fast.proofs.jobs.Core.finish.Goals as goal
+
+pub returns-clause-ok : goal.returns-clause-ok
+returns-clause-ok c =
+    let job = c.args.job.now in
+    let ins = c.args.ins.now in
+    let to = c.in-Goto.to in
+    let cache = c.args.self.now.cache in
+    on_ok_weaker c.go_on.result
+    (λ h sys k n at plan.
+    h sys cache k n at
+    (ap (λ (p : TaskPlan). step p job.watch job.pc ins to) plan
+    ∙ c.requires.stays c.if-found.true c.args.plan.now job.watch job.pc to
+    ∙ c.requires.quiet to c.if-quiet-to.true c.if-to-quiet.true)
+    ∙ ap (went sys n ins (turn_by cache c.args.self.now.memory k job)) (sym c.in-Goto.is))
+    c.go_on.ensures.ok
+
+pub returns-clause-quiet : goal.returns-clause-quiet
+returns-clause-quiet c =
+    on_ok_weaker c.go_on.result
+    (λ h. subst (λ (w : Watch). AreQuiet c.args.plan.now w c.args.quiet.now) (sym c.go_on.ensures.watch) c.requires.quiet)
+    c.go_on.ensures.ok
+
+pub returns-2-clause-quiet : goal.returns-2-clause-quiet
+returns-2-clause-quiet c = subst (λ (w : Watch). AreQuiet c.args.plan.now w c.quiet.result) c.watch.ensures c.quiet.ensures
