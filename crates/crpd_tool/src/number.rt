@@ -7,6 +7,7 @@ ghost use Rattle.crpd_tool.specs.Numbers.{number_of};
 /// The number of a made input, below 2^31.
 #[derive(Clone, Copy)]
 pub struct Seed {
+    /// The number itself: 0 to 2^31 - 1.
     pub number: u32,
     ghost small: { number < 2 ^ 31 },
 }
