@@ -1,5 +1,5 @@
 /* Multiplication and division for -march=rv32i, in place of the compiler's library, whose signed division returns through x5.
- * Each of the three loops makes at most 32 turns. */
+ * Each of the two loops makes at most 32 turns. */
 typedef unsigned int word;
 
 word __mulsi3(word a, word b)
@@ -12,7 +12,8 @@ word __mulsi3(word a, word b)
     return product;
 }
 
-word __udivsi3(word a, word b)
+/* The quotient, and what is left over. */
+static word divide(word a, word b, word *over)
 {
     word rest = 0;
 
@@ -25,21 +26,23 @@ word __udivsi3(word a, word b)
             a |= 1;
         }
     }
+    *over = rest;
     return a;
+}
+
+word __udivsi3(word a, word b)
+{
+    word over;
+
+    return divide(a, b, &over);
 }
 
 word __umodsi3(word a, word b)
 {
-    word rest = 0;
+    word over;
 
-    for (int bit = 0; bit < 32; bit++) {
-        word carry = rest >> 31;
-        rest = rest << 1 | a >> 31;
-        a <<= 1;
-        if (carry || rest >= b)
-            rest -= b;
-    }
-    return rest;
+    divide(a, b, &over);
+    return over;
 }
 
 static word size(int a) { return a < 0 ? -(word)a : (word)a; }
