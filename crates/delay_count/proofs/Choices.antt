@@ -47,7 +47,7 @@ above_price v p x =
     omega (arith, m)
 
 -- a greatest choice is at most the budget at a price, and what the counts bring above the price
-choice_priced : (value count : ℕ → ℕ) (price n budget : ℕ) → greatest_choice value count n budget ≤ price * budget + sum_below (λ k. count k * (value k - price)) n
+pub choice_priced : (value count : ℕ → ℕ) (price n budget : ℕ) → greatest_choice value count n budget ≤ price * budget + sum_below (λ k. count k * (value k - price)) n
 choice_priced value count price zero budget = omega arith
 choice_priced value count price (suc n) budget =
     to_le (λ x. greatest_choice value count n (budget - x) + value n * x) (min (count n) budget) (price * budget + (sum_below (λ k. count k * (value k - price)) n + count n * (value n - price))) (λ x h.
@@ -69,7 +69,7 @@ not_le a b e =
     ]
 
 -- what the counts bring above a price that is the greatest value below a level
-priced_worth : (value count : ℕ → ℕ) (level price n : ℕ) → price < level → ((k : ℕ) → k < n → value k < level → value k ≤ price)
+pub priced_worth : (value count : ℕ → ℕ) (level price n : ℕ) → price < level → ((k : ℕ) → k < n → value k < level → value k ≤ price)
     → sum_below (λ k. count k * (value k - price)) n + price * counted_from value count level n ≡ worth_from value count level n
 priced_worth value count level price zero h g = omega arith
 priced_worth value count level price (suc n) h g =

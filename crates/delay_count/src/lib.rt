@@ -4,6 +4,7 @@
 mod choice;
 mod jobs;
 mod laws;
+mod rates;
 mod share;
 #[cfg(test)]
 mod tests;
@@ -12,6 +13,7 @@ mod window_demand;
 
 pub use choice::gamma_ecb;
 pub use laws::growth_law;
+pub use rates::least_rate;
 pub use share::Share;
 pub use union::gamma_ucb;
 pub use window_demand::{charged_delays, demand, higher_demand, own_demand};

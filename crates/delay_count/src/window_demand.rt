@@ -3,11 +3,13 @@ ghost use Rattle.std.specs.Prelude.{◌≡◌, ℕ, suc, ◌+◌, ◌-◌, ◌*�
 ghost use Rattle.crpd_base.specs.Sets.{has};
 ghost use Rattle.crpd_base.specs.Tasks.{HasTimes};
 ghost use Rattle.delay_count.specs.Counts.{HasWindows};
-ghost use Rattle.delay_count.specs.Gamma.{part_at, evicted_from};
+ghost use Rattle.delay_count.specs.Gamma.{count_at, useful_at, part_at, evicted_from};
 ghost use Rattle.delay_count.specs.Demand.{HasLongest, greatest_from, blocking, gamma, own_demand, higher_demand, demand, charged_delays};
+ghost use Rattle.delay_count.specs.Rates.{gamma_by};
 
 use crate::choice::gamma_ecb;
 use crate::jobs::{affected_shares, jobs};
+use crate::share::Share;
 use crate::union::gamma_ucb;
 use crpd_base::{Method, Part, SetBits, Switching, Task, TaskSet, WORDS};
 
@@ -166,10 +168,31 @@ fn delay(
     ensures most { result ≤ 2 ^ 112 }
 {
     let shares = affected_shares(set, parts, windows, i, j, w);
-    let lower = &shares[..i + 1];
     let platform = &set.platform;
-    let miss = platform.miss;
-    let jobs = jobs(set, j, w);
+    delay_by(platform.miss, parts, i, j, method, jobs(set, j, w), &shares)
+}
+
+/// The delay of task `i` by the evictions of so many jobs of a higher task `j`, in cycles, given the shares of the
+/// task and of all higher ones. It takes no memory.
+pub fn delay_by(
+    miss: u32,
+    parts: &[Part],
+    i: usize,
+    j: usize,
+    method: Method,
+    jobs: u64,
+    shares: &[Share<WORDS>],
+) -> u128
+    requires i { i < 32 }
+    requires j { j < i }
+    requires parts { i < length parts.now }
+    requires size { length shares.now ≡ 32 }
+    requires counts { (k : ℕ) → k ≤ i → count_at shares.now k < 2 ^ 81 }
+    requires useful { (k c : ℕ) → k ≤ i → useful_at shares.now k c ≡ has (part_at parts.now k).useful c }
+    ensures is { result ≡ gamma_by method miss (part_at parts.now) (count_at shares.now) jobs i j }
+    ensures most { result ≤ 2 ^ 112 }
+{
+    let lower = &shares[..i + 1];
     match method {
         Method::Ucb => {
             let part = &parts[j];

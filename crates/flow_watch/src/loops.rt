@@ -2,7 +2,7 @@
 ghost use Rattle.std.specs.Prelude.{◌≡◌, ◌≢◌, ℕ, ◌<◌, ◌≤◌, Some, None, length, nat_le, if◌then◌else◌};
 ghost use Rattle.std.specs.Bool.{OnTrue};
 ghost use Rattle.std.specs.List.{find, list_any};
-ghost use Rattle.flow_watch.specs.Watch.{holds, in_range, turns_after, all_turns_after, within_bounds};
+ghost use Rattle.flow_watch.specs.Watch.{in_range, turns_after, all_turns_after, within_bounds};
 ghost use Rattle.flow_watch.specs.Quiet.{AreStill, KeepsTurns};
 
 use crpd_base::LoopAt;
@@ -28,15 +28,8 @@ fn is_in_ranges(stated: &LoopAt, address: u32) -> bool
         .any(|range| in_range(address, range))
 }
 
-/// Whether a stated loop holds an address: as its head, or in one of its ranges.
-fn holds(stated: &LoopAt, address: u32) -> bool
-    ensures { result ≡ holds stated.now address }
-{
-    address == stated.head || is_in_ranges(stated, address)
-}
-
 /// The turns of a stated loop after an arrival at an address, or None where they are more than its bound. Turns at the
-/// bound are not raised, so no sum wraps.
+/// bound are not raised, so no sum wraps. Only of a loop that is open its ranges are looked through.
 fn turns_after(stated: &LoopAt, turns: u32, address: u32) -> Option<u32>
     ensures { let after = turns_after address stated.now turns in
         result ≡ (if nat_le after stated.now.bound then Some after else None) }
@@ -44,7 +37,7 @@ fn turns_after(stated: &LoopAt, turns: u32, address: u32) -> Option<u32>
     let bound = stated.bound;
     if address == stated.head {
         if turns < bound { Some(turns + 1) } else { None }
-    } else if !holds(stated, address) {
+    } else if turns == 0 || !is_in_ranges(stated, address) {
         Some(0)
     } else if turns <= bound {
         Some(turns)

@@ -289,12 +289,28 @@ fn crowd_of(alloc: Global, bound: u64) -> Result<Vec<Row>, AllocError> {
     Ok(rows)
 }
 
-// Whether this is the last of the windows of a crowd.
-fn is_last_below(alloc: Global, bound: u64, want: Choice) -> bool {
-    let Ok(rows) = crowd_of(alloc, bound) else {
+// Tasks that take all but ten cycles in 2^20, of which a sixth are reloads that the first brings the second, and a task
+// below them.
+fn delayed(alloc: Global) -> Result<Vec<Row>, AllocError> {
+    let mut rows = Vec::new(alloc);
+    rows.push((64, 64, 0, 22, 1, 0))?;
+    rows.push((64, 64, 0, 2, 0, 1))?;
+    for k in 7..21u32 {
+        let period = 1u64 << k;
+        rows.push((period, period, 0, 0, 2, 0))?;
+    }
+    rows.push((LONGEST_TIME, LONGEST_TIME, 0, 655_355, 4, 0))?;
+    Ok(rows)
+}
+
+// Whether this is the last of the windows, with cache sets in this many words.
+fn is_last(alloc: Global, rows: Result<Vec<Row>, AllocError>, words: u16, want: Choice) -> bool
+    requires { words ≤ 8 }
+{
+    let Ok(rows) = rows else {
         return false;
     };
-    match windows_of(alloc, Switching::Cycle, rows.as_slice(), 8) {
+    match windows_of(alloc, Switching::Cycle, rows.as_slice(), words) {
         Ok(Some(choices)) => match choices.as_slice().last() {
             Some(last) => *last == want,
             None => false,
@@ -317,6 +333,14 @@ fn has_none_below(alloc: Global, bound: u64) -> bool {
 // task has a window after 503 periods; where they leave none, it has none. Both are found without creeping.
 #[test]
 fn windows_below_a_crowd(rt: HostRuntime) {
-    assert!(rt; is_last_below(rt.alloc(), 27_128, by_ucb(502_999_999)));
+    let crowd = crowd_of(rt.alloc(), 27_128);
+    assert!(rt; is_last(rt.alloc(), crowd, 8, by_ucb(502_999_999)));
     assert!(rt; has_none_below(rt.alloc(), 27_129));
+}
+
+// Where the load is that of delays between the higher tasks too, the window is found without creeping as well.
+#[test]
+fn windows_below_delays(rt: HostRuntime) {
+    let rows = delayed(rt.alloc());
+    assert!(rt; is_last(rt.alloc(), rows, 1, by_ucb(68_719_476_736)));
 }
