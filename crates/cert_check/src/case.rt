@@ -49,7 +49,7 @@ impl Case<'_> {
         requires node { node.0 < (graph_of self.now.graph.now).size }
         ensures { result ≡ (fetches self.now.platform.now self.now.graph.now).block node.0 }
     {
-        Geometry::new(self.platform).block(self.graph.node(node).address)
+        Geometry::new(self.platform).block(self.graph.address(node))
     }
 
     /// The cache set of a node's block.

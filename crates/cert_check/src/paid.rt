@@ -181,10 +181,10 @@ impl Paid<'_> {
         ensures is { result ≡ (costs_at self.now.platform.now self.now.graph.now (counted self.now.hits.now)).edge source.0 target.0 }
         ensures small { result < 18446744073709551616 }
     {
-        let node = self.graph.node(source);
         let hit = self.hits[source.0 as usize];
-        let taken = u64::from(self.graph.node(target).address) != u64::from(node.address) + 4;
-        u128::from(cost(self.platform, &node.ins, !hit, taken))
+        let straight = u64::from(self.graph.address(source)) + 4;
+        let taken = u64::from(self.graph.address(target)) != straight;
+        u128::from(cost(self.platform, &self.graph.ins(source), !hit, taken))
     }
 
     /// Whether a node pays for its edge to the end, where it is an answering one. A return is a change of flow, an ECALL

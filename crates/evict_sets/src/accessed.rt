@@ -17,7 +17,7 @@ pub fn evicting<const W: usize>(graph: &Graph, geometry: &Geometry) -> SetBits<W
 {
     let mut accessed = SetBits::new();
     for node in 0..graph.len() {
-        let address = graph.node(NodeId(node)).address;
+        let address = graph.address(NodeId(node));
         accessed.insert(geometry.set(geometry.block(address)));
     }
     accessed

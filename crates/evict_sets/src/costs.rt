@@ -19,10 +19,9 @@ fn edge_longest(graph: &Graph, platform: &Platform, id: NodeId, k: u8) -> u64
     graph.graph_law();
     match graph.succ(id, k) {
         Some(next) => {
-            let node = graph.node(id);
-            let after = u64::from(graph.node(next).address);
-            let taken = after != u64::from(node.address) + 4;
-            cost(platform, &node.ins, true, taken)
+            let straight = u64::from(graph.address(id)) + 4;
+            let taken = u64::from(graph.address(next)) != straight;
+            cost(platform, &graph.ins(id), true, taken)
         }
         None => 0,
     }

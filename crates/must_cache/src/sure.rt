@@ -78,7 +78,7 @@ fn sure_ones<const W: usize>(
 {
     let mut sure = Vec::with_capacity(alloc, hits.len())?;
     for node in 0..graph.len() {
-        let set = geometry.set(geometry.block(graph.node(NodeId(node)).address));
+        let set = geometry.set(geometry.block(graph.address(NodeId(node))));
         sure.push(sure_one(hits[node as usize], &unsure[node as usize], set))?;
     }
     Ok(sure)

@@ -65,7 +65,7 @@ impl<const W: usize> Domain for Unsure<'_, W> {
     }
 
     fn transfer(&self, node: u32, sets: &mut SetBits<W>) {
-        let address = self.graph.node(NodeId(node)).address;
+        let address = self.graph.address(NodeId(node));
         let set = self.geometry.set(self.geometry.block(address));
         without(sets, set);
     }

@@ -33,7 +33,7 @@ fn sure_hits<const S: usize>(
 {
     let mut hits = Vec::with_capacity(alloc, must.len())?;
     for node in 0..graph.len() {
-        let address = graph.node(NodeId(node)).address;
+        let address = graph.address(NodeId(node));
         hits.push(is_hit(&must[node as usize], geometry, address))?;
     }
     Ok(hits)
@@ -98,7 +98,7 @@ impl<const W: usize> Domain for NextHit<'_, W> {
     }
 
     fn transfer(&self, node: u32, sets: &mut SetBits<W>) {
-        let address = self.graph.node(NodeId(node)).address;
+        let address = self.graph.address(NodeId(node));
         let set = self.geometry.set(self.geometry.block(address));
         put(sets, set, self.hits[node as usize]);
     }

@@ -21,7 +21,7 @@ loop-node-preserved g c =
           rw w.sets-is
           (sets_more hit a.set c.loop-node.node c.loop-node.sets _ c.loop-node.invariant
           (subst (λ k. (t : ℕ) → member w.insert.new.self t ≡ (if t == k then 1 else member c.loop-node.sets t))
-          (w.set.ensures ∙ ap (set_of p) (w.block.ensures ∙ ap (block_of p) w.node.ensures.address)) w.insert.ensures)
+          (w.set.ensures ∙ ap (set_of p) (w.block.ensures ∙ ap (block_of p) w.address.ensures)) w.insert.ensures)
           w.if-hits-node.true)
       | else-hits-node w ↦
           rw w.sets-is
