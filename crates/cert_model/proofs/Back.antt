@@ -30,7 +30,7 @@ use Rattle.cert_model.specs.Ranges.{RiseFrom, IsState, ArePotentials, IsTaskPart
 use Rattle.cert_model.specs.Reading.{cycles, version_at, second_platform, fields_at, task_at, tasks_at, entries, counted, certificate_at}
 use Rattle.cert_model.specs.Writing as write
 use Rattle.cert_model.specs.Writing.{whole_number, numbers_below, platform_members, task_members, certificate_members}
-use Rattle.cert_model.proofs.Built.{below_none, below_more, below_same}
+use Rattle.cert_model.proofs.Next.{below_none, below_more, below_same}
 use Rattle.cert_model.proofs.Ranged.{rise_wider}
 use Rattle.cert_model.proofs.Rising.{flag, in_more, words_are, words_member}
 
@@ -76,7 +76,7 @@ zero_or_one zero h = inl refl
 zero_or_one (suc zero) h = inr refl
 zero_or_one (suc (suc b)) h = absurd (omega arith)
 
-below_rise : (words : List ℕ) (n : ℕ) → RiseFrom (λ (m : ℕ). m) 0 n (numbers_below words n)
+pub below_rise : (words : List ℕ) (n : ℕ) → RiseFrom (λ (m : ℕ). m) 0 n (numbers_below words n)
 below_rise words zero = subst (λ (l : List ℕ). RiseFrom (λ (m : ℕ). m) 0 0 l) (sym (below_none words)) tt
 below_rise words (suc n) =
     elim (zero_or_one (member words n) (member_le_one words n)) [

@@ -1,9 +1,10 @@
 pub mod Back
-pub mod Built
+pub mod Adds
 pub mod Laws
+pub mod Next
 pub mod Pairs
-pub mod Plain
 pub mod Ranged
+pub mod Trees
 pub mod Rising
 pub mod Seen
 pub mod Texts

@@ -1,74 +1,92 @@
 //! A certificate, written as JSON text of version 2.
 
-ghost use Rattle.std.specs.Prelude.{◌≡◌, ◌≤◌, false, Some, Ok, All, IfOk, IsUtf8, map};
+ghost use Rattle.std.specs.Prelude.{◌≡◌, ◌<◌, All, IfOk, IsUtf8, MatchOption, map};
 ghost use Rattle.crpd_base.specs.Sets.{AreWords};
 ghost use Rattle.crpd_base.specs.declared.data.NodeState.{NodeState};
-ghost use Rattle.serde_json.specs.Data.{array, object, depth};
-ghost use Rattle.serde_json.specs.Read.{read, max_depth};
-ghost use Rattle.serde_json.specs.View.{view, items_of};
-ghost use Rattle.serde_json.specs.Written.{compact_text, has_float};
+ghost use Rattle.json.specs.Lex.{tokens};
+ghost use Rattle.serde_json.specs.Data.{array, object, string};
+ghost use Rattle.serde_json.specs.View.{items_of};
 ghost use Rattle.cert_model.specs.Ranges.{HasSets, IsCertificate};
 ghost use Rattle.cert_model.specs.Reading.{reading};
+ghost use Rattle.cert_model.specs.Tokens.{Appends, AppendsAt, IsNext, NoneInWord, tokens_of};
 ghost use Rattle.cert_model.specs.Writing as spec;
 
 use crpd_base::{
     Certificate, Memory, Method, NodeState, Platform, SetBits, Switching, TaskPart, WORDS,
 };
-use serde_json::{Value, json};
+use json::Writer;
 use std::alloc::{AllocError, Global};
 
-fn numbers(alloc: Global, list: &[u64]) -> Result<Value, AllocError>
-    ensures { IfOk result (λ v. view v ≡ spec.numbers list.now) }
+fn numbers(out: &mut Writer, list: &[u64]) -> Result<(), AllocError>
+    ensures { Appends result out.old out.new (spec.numbers list.now) }
 {
-    let mut values = Vec::new(alloc);
+    out.begin_array()?;
     for number in list {
-        values.push(Value::from(*number))?;
+        out.u64(*number)?;
     }
-    Ok(Value::from(values))
+    out.end_array()
+}
+
+/// The least number of a set from one on, which is below 512, within its word of 64. In constant time.
+fn next_number(set: &SetBits<WORDS>, from: u16) -> Option<u16>
+    requires { from < 512 }
+    ensures { MatchOption result (NoneInWord set.now from) (IsNext set.now from) }
+{
+    let left = set.word(from as usize / 64) >> (from % 64);
+    if left == 0 {
+        return None;
+    }
+    Some(from + left.trailing_zeros() as u16)
 }
 
 /// The numbers of a set, in order.
-#[tactic(auto, unfolding(crate::specs::Writing::set_numbers))]
-fn set_numbers(alloc: Global, set: &SetBits<WORDS>) -> Result<Value, AllocError>
-    ensures { IfOk result (λ v. view v ≡ spec.set_numbers set.now) }
+fn set_numbers(out: &mut Writer, set: &SetBits<WORDS>) -> Result<(), AllocError>
+    ensures { Appends result out.old out.new (spec.set_numbers set.now) }
 {
-    let mut values = Vec::new(alloc);
-    for number in 0..512u16 {
-        if set.has(number) {
-            values.push(Value::from(number))?;
+    out.begin_array()?;
+    let mut from = 0;
+    while from < 512 {
+        match next_number(set, from) {
+            Some(number) => {
+                out.u64(u64::from(number))?;
+                from = number + 1;
+            }
+            None => from = (from / 64 + 1) * 64,
         }
     }
-    Ok(Value::from(values))
+    out.end_array()
 }
 
-fn pairs(alloc: Global, sure: &[(u16, u32)]) -> Result<Value, AllocError>
-    ensures { IfOk result (λ v. view v ≡ array (spec.pairs sure.now)) }
+fn pairs(out: &mut Writer, sure: &[(u16, u32)]) -> Result<(), AllocError>
+    ensures { Appends result out.old out.new (array (spec.pairs sure.now)) }
 {
-    let mut values = Vec::new(alloc);
+    out.begin_array()?;
     for (set, block) in sure {
-        values.push(Value::from(*set))?;
-        values.push(Value::from(*block))?;
+        out.u64(u64::from(*set))?;
+        out.u64(u64::from(*block))?;
     }
-    Ok(Value::from(values))
+    out.end_array()
 }
 
 /// A node, its sure pairs and its useful sets.
-fn state(alloc: Global, state: &NodeState) -> Result<Value, AllocError>
-    ensures { IfOk result (λ v. view v ≡ spec.state state.now) }
+fn state(out: &mut Writer, state: &NodeState) -> Result<(), AllocError>
+    ensures { Appends result out.old out.new (spec.state state.now) }
 {
-    let sure = pairs(alloc, state.sure.as_slice())?;
-    let useful = set_numbers(alloc, &state.useful)?;
-    json!(in alloc; [state.node, sure, useful])
+    out.begin_array()?;
+    out.u64(u64::from(state.node))?;
+    pairs(out, state.sure.as_slice())?;
+    set_numbers(out, &state.useful)?;
+    out.end_array()
 }
 
-fn states(alloc: Global, list: &[NodeState]) -> Result<Value, AllocError>
-    ensures { IfOk result (λ v. view v ≡ array (items_of (map spec.state list.now))) }
+fn states(out: &mut Writer, list: &[NodeState]) -> Result<(), AllocError>
+    ensures { Appends result out.old out.new (array (items_of (map spec.state list.now))) }
 {
-    let mut values = Vec::new(alloc);
+    out.begin_array()?;
     for node in list {
-        values.push(state(alloc, node)?)?;
+        state(out, node)?;
     }
-    Ok(Value::from(values))
+    out.end_array()
 }
 
 fn switching_name(switching: Switching) -> &'static str
@@ -89,73 +107,113 @@ fn method_name(method: Method) -> &'static str
     }
 }
 
-#[tactic(auto, unfolding(crate::specs::Writing::platform_members))]
-fn platform(alloc: Global, platform: &Platform) -> Result<Value, AllocError>
-    ensures { IfOk result (λ v. view v ≡ object (spec.platform_members platform.now)) }
+fn number_at(out: &mut Writer, name: &str, value: u64) -> Result<(), AllocError>
+    ensures { AppendsAt result out.old out.new name.now (spec.whole_number value) }
 {
-    json!(in alloc; {
-        "data": platform.memory,
-        "div": platform.div,
-        "hit": platform.hit,
-        "line": platform.line,
-        "miss": platform.miss,
-        "mul": platform.mul,
-        "sets": platform.sets,
-        "switch": platform.switch,
-        "switching": switching_name(platform.switching),
-        "taken": platform.taken
-    })
+    out.key(name)?;
+    out.u64(value)
 }
 
-#[tactic(auto, unfolding(crate::specs::Writing::task_members))]
-fn task(alloc: Global, task: &TaskPart) -> Result<Value, AllocError>
-    ensures { IfOk result (λ v. view v ≡ spec.task task.now) }
+fn short_at(out: &mut Writer, name: &str, value: u32) -> Result<(), AllocError>
+    ensures { AppendsAt result out.old out.new name.now (spec.whole_number value) }
 {
-    let evicting = set_numbers(alloc, &task.part.evicting)?;
-    let loops = numbers(alloc, task.loops.as_slice())?;
-    let potentials = numbers(alloc, task.potentials.as_slice())?;
-    let states = states(alloc, task.states.as_slice())?;
-    let useful = set_numbers(alloc, &task.part.useful)?;
-    json!(in alloc; {
-        "bound": task.part.bound,
-        "evicting": evicting,
-        "loops": loops,
-        "method": method_name(task.method),
-        "name": task.name.as_str(),
-        "potentials": potentials,
-        "response": task.response,
-        "states": states,
-        "useful": useful,
-        "window": task.window
-    })
+    number_at(out, name, u64::from(value))
 }
 
-fn tasks(alloc: Global, list: &[TaskPart]) -> Result<Value, AllocError>
-    ensures { IfOk result (λ v. view v ≡ array (items_of (map spec.task list.now))) }
+fn text_at(out: &mut Writer, name: &str, value: &str) -> Result<(), AllocError>
+    ensures { AppendsAt result out.old out.new name.now (string value.now) }
 {
-    let mut values = Vec::new(alloc);
+    out.key(name)?;
+    out.string(value)
+}
+
+fn numbers_at(out: &mut Writer, name: &str, list: &[u64]) -> Result<(), AllocError>
+    ensures { AppendsAt result out.old out.new name.now (spec.numbers list.now) }
+{
+    out.key(name)?;
+    numbers(out, list)
+}
+
+fn set_at(out: &mut Writer, name: &str, set: &SetBits<WORDS>) -> Result<(), AllocError>
+    ensures { AppendsAt result out.old out.new name.now (spec.set_numbers set.now) }
+{
+    out.key(name)?;
+    set_numbers(out, set)
+}
+
+fn states_at(out: &mut Writer, name: &str, list: &[NodeState]) -> Result<(), AllocError>
+    ensures { AppendsAt result out.old out.new name.now
+        (array (items_of (map spec.state list.now))) }
+{
+    out.key(name)?;
+    states(out, list)
+}
+
+fn platform(out: &mut Writer, platform: &Platform) -> Result<(), AllocError>
+    ensures { Appends result out.old out.new (object (spec.platform_members platform.now)) }
+{
+    out.begin_object()?;
+    short_at(out, "data", platform.memory)?;
+    short_at(out, "div", platform.div)?;
+    short_at(out, "hit", platform.hit)?;
+    short_at(out, "line", platform.line)?;
+    short_at(out, "miss", platform.miss)?;
+    short_at(out, "mul", platform.mul)?;
+    short_at(out, "sets", platform.sets)?;
+    short_at(out, "switch", platform.switch)?;
+    text_at(out, "switching", switching_name(platform.switching))?;
+    short_at(out, "taken", platform.taken)?;
+    out.end_object()
+}
+
+fn task(out: &mut Writer, task: &TaskPart) -> Result<(), AllocError>
+    ensures { Appends result out.old out.new (spec.task task.now) }
+{
+    out.begin_object()?;
+    number_at(out, "bound", task.part.bound)?;
+    set_at(out, "evicting", &task.part.evicting)?;
+    numbers_at(out, "loops", task.loops.as_slice())?;
+    text_at(out, "method", method_name(task.method))?;
+    text_at(out, "name", task.name.as_str())?;
+    numbers_at(out, "potentials", task.potentials.as_slice())?;
+    number_at(out, "response", task.response)?;
+    states_at(out, "states", task.states.as_slice())?;
+    set_at(out, "useful", &task.part.useful)?;
+    number_at(out, "window", task.window)?;
+    out.end_object()
+}
+
+fn tasks(out: &mut Writer, list: &[TaskPart]) -> Result<(), AllocError>
+    ensures { Appends result out.old out.new (array (items_of (map spec.task list.now))) }
+{
+    out.begin_array()?;
     for part in list {
-        values.push(task(alloc, part)?)?;
+        task(out, part)?;
     }
-    Ok(Value::from(values))
+    out.end_array()
 }
 
-#[tactic(auto, unfolding(crate::specs::Writing::certificate_members))]
-fn certificate(alloc: Global, certificate: &Certificate) -> Result<Value, AllocError>
-    ensures { IfOk result (λ v. view v ≡ object (spec.certificate_members certificate.now)) }
+fn certificate(out: &mut Writer, certificate: &Certificate) -> Result<(), AllocError>
+    ensures { Appends result out.old out.new (object (spec.certificate_members certificate.now)) }
 {
-    let platform = platform(alloc, &certificate.platform)?;
-    let tasks = tasks(alloc, certificate.tasks.as_slice())?;
-    json!(in alloc; { "platform": platform, "tasks": tasks, "version": 2u64 })
+    out.begin_object()?;
+    out.key("platform")?;
+    platform(out, &certificate.platform)?;
+    out.key("tasks")?;
+    tasks(out, certificate.tasks.as_slice())?;
+    number_at(out, "version", 2)?;
+    out.end_object()
 }
 
 fn bytes(alloc: Global, whole: &Certificate) -> Result<Vec<u8>, AllocError>
-    ensures text { IfOk result (λ b. has_float (object (spec.certificate_members whole.now)) ≡ false → b.items ≡ compact_text (object (spec.certificate_members whole.now))) }
+    ensures text { IfOk result (λ b. b.items ≡ spec.text whole.now) }
+    ensures tokens { IfOk result (λ b. tokens b.items
+        ≡ tokens_of (object (spec.certificate_members whole.now))) }
     ensures utf8 { IfOk result (λ b. IsUtf8 b.items) }
-    ensures reads_back { IfOk result (λ b. depth (object (spec.certificate_members whole.now)) ≤ max_depth → read b.items ≡ Some (object (spec.certificate_members whole.now))) }
 {
-    let value = certificate(alloc, whole)?;
-    value.to_vec(alloc)
+    let mut out = Writer::new(Vec::new(alloc));
+    certificate(&mut out, whole)?;
+    Ok(out.into_inner())
 }
 
 /// The sets of nodes have 8 words each.
@@ -179,8 +237,8 @@ fn task_sets(tasks: &[TaskPart])
 }
 
 /// Writes a certificate as JSON text of version 2: one line without spaces, with the keys of each object in byte
-/// order. Within the ranges of a certificate it reads back as the same. One pass is made over the certificate and one
-/// over its tree, which takes a small multiple of the text's size. The only error is want of memory.
+/// order. Within the ranges of a certificate it reads back as the same. One pass is made over the certificate,
+/// and the memory taken is a small multiple of the text's size. The only error is want of memory.
 pub fn write_certificate(alloc: Global, certificate: &Certificate) -> Result<Vec<u8>, Memory>
     ensures exact { IfOk result (λ b. b.items ≡ spec.text certificate.now) }
 

@@ -1,7 +1,9 @@
-use Rattle.std.proofs.Common.{refl}
+use Rattle.cert_model.specs.Tokens.{tokens_of}
 use Rattle.cert_model.specs.Writing.{whole_number}
-use Rattle.cert_model.proofs.Built.{pushed_at}
+use Rattle.cert_model.proofs.Adds.{wrote, all_of, list}
 use Rattle.cert_model.proofs.writing.numbers.Goals as goal
 
-pub loop-number-preserved : goal.loop-number-preserved
-loop-number-preserved c = pushed_at whole_number c.loop-number.values.items _ c.from.result c.args.list.now c.loop-number.number-index 0 _ c.loop-number-test.true refl c.in_ok-push.ensures.items c.from.ensures c.loop-number.invariant
+pub returns : goal.returns
+returns c =
+    list c.end_array.result whole_number c.args.list.now (wrote c.in_ok-begin_array.ensures)
+    (all_of (λ n. tokens_of (whole_number n)) c.args.list.now c.loop-number.number-index c.loop-number-test.false c.loop-number.invariant) c.end_array.ensures

@@ -1,8 +1,7 @@
-use Rattle.std.proofs.Common.{refl}
-use Rattle.cert_model.proofs.Built.{pushed_pair}
+use Rattle.cert_model.proofs.Adds.{wrote, all_of, pair_tokens, list_of_pairs}
 use Rattle.cert_model.proofs.writing.pairs.Goals as goal
 
-pub loop-set-preserved : goal.loop-set-preserved
-loop-set-preserved c =
-    pushed_pair c.loop-set.values.items _ _ c.from.result c.from-in-loop-set.result c.args.sure.now c.loop-set.set-index (0, 0) _ c.loop-set-test.true refl c.in_ok-push.ensures.items c.in_ok-push-2.ensures.items
-    c.from.ensures c.from-in-loop-set.ensures c.loop-set.invariant
+pub returns : goal.returns
+returns c =
+    list_of_pairs c.end_array.result c.args.sure.now (wrote c.in_ok-begin_array.ensures)
+    (all_of pair_tokens c.args.sure.now c.loop-set.set-index c.loop-set-test.false c.loop-set.invariant) c.end_array.ensures

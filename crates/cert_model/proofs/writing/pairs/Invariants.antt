@@ -1,7 +1,8 @@
-use Rattle.std.proofs.Common.{◌≡◌, take}
-use Rattle.serde_json.specs.View.{items_view}
-use Rattle.cert_model.specs.Writing.{pairs}
+use Rattle.std.proofs.Common.{take}
+use Rattle.std.specs.List.{flat_map}
+use Rattle.cert_model.specs.Tokens.{Adds}
+use Rattle.cert_model.proofs.Adds.{pair_tokens}
 use Rattle.cert_model.proofs.writing.pairs.Given as goal
 
 abbrev pub invariant-loop-set : goal.invariant-loop-set
-invariant-loop-set l = items_view l.values.items ≡ pairs (take l.set-index l.sure)
+invariant-loop-set l = Adds l.initial.out l.out (flat_map pair_tokens (take l.set-index l.sure))

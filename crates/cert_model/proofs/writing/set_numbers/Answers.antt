@@ -1,17 +1,26 @@
-use Rattle.std.proofs.Common.{ap, sym, map, ◌∙◌, Vec, Global}
-use Rattle.serde_json.specs.View.{items_of, items_view}
-use Rattle.serde_json.specs.declared.value.Value.{Value}
-use Rattle.cert_model.specs.Writing.{whole_number}
-use Rattle.cert_model.proofs.Built.{below_none, set_more, set_same}
+use Rattle.std.proofs.Common.{◌≡◌, [], ◌∷◌, decimal, arith}
+use Rattle.json.specs.Token.{number}
+use Rattle.cert_model.specs.Writing.{set_numbers, whole_number, numbers_below}
+use Rattle.cert_model.specs.Tokens.{tokens_by}
+use Rattle.cert_model.proofs.Adds.{wrote, moved, list}
+use Rattle.cert_model.proofs.Next.{start, wrote_next, wrote_none}
 use Rattle.cert_model.proofs.writing.set_numbers.Goals as goal
-use Rattle.cert_model.proofs.writing.set_numbers.Goals.{then-has+in_ok-push, else-has}
 
-pub loop-number-init : goal.loop-number-init
-loop-number-init c = ap items_view c.new-values.ensures.items ∙ sym (ap (λ l. items_of (map whole_number l)) (below_none c.args.set.now))
+pub loop-from-init : goal.loop-from-init
+loop-from-init c = record { written = start c.args.set.now c.begin_array.new.self; within = omega arith }
 
-pub loop-number-preserved : goal.loop-number-preserved
-loop-number-preserved c = elim c.if-has.branch [
-  | then-has+in_ok-push w ↦
-      set_more c.args.set.now c.loop-number.number c.loop-number.values.items _ w.from.result c.has.result c.has.ensures w.if-has.true (ap (λ (v : Vec Value Global). v.items) w.values-is ∙ w.in_ok-push.ensures.items) w.from.ensures c.loop-number.invariant
-  | else-has w ↦ set_same c.args.set.now c.loop-number.number c.loop-number.values.items _ c.has.result c.has.ensures w.if-has.false (ap (λ (v : Vec Value Global). v.items) w.values-is) c.loop-number.invariant
-]
+pub loop-from-preserved-in-Some : goal.loop-from-preserved-in-Some
+loop-from-preserved-in-Some c = record {
+  written = wrote_next c.args.set.now c.loop-from.from c.in-Some.number c.in-Some.ensures c.loop-from.invariant.written (moved (λ n. number (decimal n) ∷ []) c.from.ensures (wrote c.in_ok-u64-in-Some.ensures));
+  within = omega (arith, c.in-Some.ensures.below);
+}
+
+pub loop-from-preserved : goal.loop-from-preserved
+loop-from-preserved c = record { written = wrote_none c.args.set.now c.loop-from.from c.in-None.ensures c.loop-from.invariant.written; within = omega arith }
+
+pub returns : goal.returns
+unfolding set_numbers
+returns c =
+    let all : c.loop-from.from ≡ 512 = omega (arith, c.loop-from.invariant.within) in
+    list c.end_array.result whole_number (numbers_below c.args.set.now 512) (wrote c.in_ok-begin_array.ensures)
+    (moved (λ n. tokens_by whole_number (numbers_below c.args.set.now n)) all c.loop-from.invariant.written) c.end_array.ensures

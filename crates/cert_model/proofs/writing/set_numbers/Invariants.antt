@@ -1,7 +1,10 @@
-use Rattle.std.proofs.Common.{◌≡◌, map}
-use Rattle.serde_json.specs.View.{items_view, items_of}
+use Rattle.std.proofs.Common.{◌≤◌, ◌-◌}
+use Rattle.cert_model.specs.Tokens.{Adds, tokens_by}
 use Rattle.cert_model.specs.Writing.{whole_number, numbers_below}
 use Rattle.cert_model.proofs.writing.set_numbers.Given as goal
 
-abbrev pub invariant-loop-number : goal.invariant-loop-number
-invariant-loop-number l = items_view l.values.items ≡ items_of (map whole_number (numbers_below l.set l.number))
+abbrev pub invariant-loop-from : goal.invariant-loop-from
+invariant-loop-from l = record { written : Adds l.initial.out l.out (tokens_by whole_number (numbers_below l.set l.from)); within : l.from ≤ 512 }
+
+abbrev pub decreases-loop-from : goal.decreases-loop-from
+decreases-loop-from l = 512 - l.from
