@@ -1,15 +1,14 @@
 -- What is explored, step by step; and that words stand at the calls under way of every node.
 use Rattle.std.proofs.Common.{◌≡◌, ℕ, ◌+◌, ◌<◌, ◌≤◌, List, [], ◌∷◌, ◌++◌, reverse, length, Option, Some, None, Contains, slice_get, refl, sym, ap, ◌∙◌, subst, ⊎_elim, arith, All, Bool, true, false, ◌==◌, if◌then◌else◌}
 use Rattle.std.proofs.lemmas.Bool.{cases_lt}
-use Rattle.std.proofs.lemmas.List.{get_or_append_left, length-append, reverse-reverse, reverse-append, length-map}
-use Rattle.std.proofs.lemmas.List.Elements.{Contains-get_or, Contains-append_left, Contains-append_cases, All-nil, All-push}
+use Rattle.std.proofs.lemmas.List.{get_or_append_left, length-append, reverse-reverse, reverse-append}
+use Rattle.std.proofs.lemmas.List.Elements.{Contains-append_left, Contains-append_cases, All-nil, All-push}
 use Rattle.std.proofs.lemmas.Option.{slice_get_within}
 use Rattle.rv_decode.specs.Address.{end}
 use Rattle.rv_decode.specs.Flow.{Flow, Plain, Branch, Jump, Call, Return, Exit, Break, OtherJalr, OtherJal, Flows, Words, IsCodeMap, flows, flow_of_word}
-use Rattle.flat_graph.specs.FlatGraph.{FlatNode, NodeError, IsNode, the_first, a_successor, successors, returns_to, goes_to, goes_on, error_of, HasMoreNodes, IsNumbering}
-use Rattle.flat_graph.specs.Reach.{IsReached, AreAdded, IsExplored}
-use Rattle.flat_graph.specs.Spots.{flats, IsBelowEnd}
-use Rattle.flat_graph.specs.declared.spots.Spot.{Spot}
+use Rattle.flat_graph.specs.FlatGraph.{FlatNode, NodeError, IsNode, the_first, a_successor, successors, returns_to, goes_to, goes_on, error_of}
+use Rattle.flat_graph.specs.Reach.{AreAdded, IsExplored}
+use Rattle.flat_graph.specs.Spots.{IsBelowEnd}
 use Rattle.flat_graph.proofs.Members.{in_none, in_one, head_or_rest, contains_at, at_contains, slice_get_left}
 
 pub explored_first : (code : Flows) (entry : ℕ) (nodes : List FlatNode) → AreAdded [] (record { context = []; address = entry } ∷ []) nodes → IsExplored code entry 0 nodes
@@ -57,24 +56,6 @@ explored_all code entry place nodes E le n (the_first) = E.first
 explored_all code entry place nodes E le m (a_successor n m' h c) =
     let k = contains_at nodes n (explored_all code entry place nodes E le n h) in
     E.closed k.0 n m (omega (arith, slice_get_within nodes k.0 n k.1)) k.1 c
-
-pub numbered_spots : (code : Flows) (entry place : ℕ) (set list : List Spot) → IsReached set list → IsExplored code entry place (flats list) →
-    length list ≤ place → IsNumbering code entry (flats set)
-numbered_spots code entry place set list R E le = record {
-  ordered = R.ordered;
-  all = λ n. (
-    λ h. (R.same n).1 (explored_all code entry place (flats list) E (simp length-map (omega arith)) n h),
-    λ c. E.all n ((R.same n).0 c),
-  );
-}
-
-pub more_spots : (code : Flows) (entry place limit : ℕ) (set list : List Spot) → IsReached set list → IsExplored code entry place (flats list) →
-    limit < length list → HasMoreNodes code entry limit
-more_spots code entry place limit set list R E lt =
-    (flats set, R.ordered, all_nodes, simp length-map (omega (arith, R.count)))
-  where
-    all_nodes : All (IsNode code entry) (flats set)
-    all_nodes k d within = E.all _ ((R.same _).0 (Contains-get_or (flats set) k d within))
 
 All-left : {X : Type 0} (P : X → Type 0) (xs ys : List X) → All P (xs ++ ys) → All P xs
 All-left P xs ys h k d lt = subst P (get_or_append_left xs ys d k lt) (h k d (simp length-append (omega arith)))

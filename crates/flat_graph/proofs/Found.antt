@@ -1,121 +1,137 @@
 -- What was found, after one more spot.
-use Rattle.std.proofs.Common.{◌≡◌, ◌+◌, ◌<◌, Bool, false, true, List, [], ◌∷◌, ◌++◌, length, Contains, get_or, refl, sym, ap, ◌∙◌, subst, inl, inr, ⊎_elim, ◌⊎◌, arith, AllPairs}
-use Rattle.std.proofs.lemmas.List.{get_or-map, length-map, map-append, append_assoc, length-append}
-use Rattle.std.proofs.lemmas.List.Elements.{Contains-append_left, Contains-append_right, Contains-append_cases}
+use Rattle.std.proofs.Common.{◌≡◌, ℕ, ◌+◌, ◌<◌, Bool, false, true, List, [], ◌∷◌, ◌++◌, length, Contains, get_or, refl, sym, ap, ◌∙◌, subst, inl, inr, ⊎_elim, ◌⊎◌, arith, AllPairs, Result, Ok, Err}
+use Rattle.std.specs.Prelude.{OnOk}
+use Rattle.std.proofs.lemmas.List.{map-append, append_assoc, length-append}
+use Rattle.std.proofs.lemmas.List.Elements.{Contains-append_left, Contains-append_right, Contains-append_cases, All-push}
 use Rattle.std.proofs.lemmas.Map.Keys.{Less-from_sorted}
 use Rattle.std.specs.declared.cmp.Ordering.{Ordering}
 use Rattle.std.specs.declared.cmp.Ordering.TheVariants.{Less, Equal, Greater}
-use Rattle.std.specs.Ordering.{match_ordering, is_eq}
+use Rattle.std.specs.Ordering.{match_ordering, is_eq, nat_cmp, ordering_then}
 use Rattle.std.specs.List.{list_any}
 use Rattle.std.specs.List.Sorted.{IsStrictlySortedBy}
 use Rattle.std.specs.BTreeMap.{is_at}
 use Rattle.std.specs.BTreeSet.{insert_key}
-use Rattle.flat_graph.specs.FlatGraph.{FlatNode, IsBefore}
+use Rattle.flat_graph.specs.FlatGraph.{FlatNode}
 use Rattle.flat_graph.specs.Reach.{IsReached, AreAdded}
 use Rattle.flat_graph.specs.Spots.{flat, flats}
 use Rattle.flat_graph.specs.declared.spots.Spot.{Spot}
 use Rattle.flat_graph.proofs.Members.{at_head, at_rest, head_or_rest, in_none, in_one}
-use Rattle.flat_graph.specs.Compared.{flat_cmp}
-use Rattle.flat_graph.proofs.Order.{flat_less, flat_equal}
+use Rattle.flat_graph.proofs.Numbered.{contains_map}
+use Rattle.flat_graph.proofs.Order.{then_equal, nat_equal, nat_same}
 
-module _ (cmp : Spot → Spot → Ordering) (is : (s t : Spot) → cmp s t ≡ flat_cmp (flat s) (flat t)) where
-  -- keys in their order are nodes in the order of numbering
-  pub ordered_flats : (ks : List Spot) → IsStrictlySortedBy cmp ks → AllPairs IsBefore (flats ks)
-  ordered_flats [] h i j d lt within = absurd (omega arith)
-  ordered_flats (k ∷ ks) h i j d lt within =
-      let below : j < length (k ∷ ks) = subst (λ l. j < l) (length-map (k ∷ ks) flat) within in
-      let a = get_or-map flat (k ∷ ks) i k d (omega arith) in
-      let b = get_or-map flat (k ∷ ks) j k d below in
-      let less = Less-from_sorted cmp (k ∷ ks) i j k h lt below in
-      subst (λ n. IsBefore n (get_or (flats (k ∷ ks)) j d)) (sym a)
-      (subst (λ n. IsBefore (flat (get_or (k ∷ ks) i k)) n) (sym b)
-      (flat_less (flat (get_or (k ∷ ks) i k)) (flat (get_or (k ∷ ks) j k)) (sym (is (get_or (k ∷ ks) i k) (get_or (k ∷ ks) j k)) ∙ less)))
+-- the order of numbers, then of addresses
+abbrev spot_cmp : Spot → Spot → Ordering
+spot_cmp s t = ordering_then (nat_cmp s.context t.context) (nat_cmp s.address t.address)
 
-  same_flat : (s t : Spot) → cmp s t ≡ Equal → flat s ≡ flat t
-  same_flat s t e = flat_equal (flat s) (flat t) (sym (is s t) ∙ e)
+spot_equal : (s t : Spot) → spot_cmp s t ≡ Equal → s ≡ t
+spot_equal s t e =
+    let b = then_equal (nat_cmp s.context t.context) (nat_cmp s.address t.address) e in
+    let c = nat_equal s.context t.context b.0 in
+    let a = nat_equal s.address t.address b.1 in
+    λ i. record { context = c i; address = a i }
 
-  has_by : (o : Ordering) (s x : Spot) (xs more : List Spot) → (o ≡ Equal → flat s ≡ flat x) → Contains (flats more) (flat s) →
-      Contains (flats (match_ordering o (s ∷ x ∷ xs) (x ∷ xs) (x ∷ more))) (flat s)
-  has_by Less s x xs more f c = at_head (flats (x ∷ xs)) (flat s) (flat s) refl
-  has_by Equal s x xs more f c = at_head (flats xs) (flat s) (flat x) (sym (f refl))
-  has_by Greater s x xs more f c = at_rest (flats more) (flat s) (flat x) c
+spot_same : (s : Spot) → spot_cmp s s ≡ Equal
+spot_same s = ap (λ o. ordering_then o (nat_cmp s.address s.address)) (nat_same s.context) ∙ nat_same s.address
 
-  pub has_inserted : (ks : List Spot) (s : Spot) → Contains (flats (insert_key cmp ks s)) (flat s)
-  has_inserted [] s = at_head [] (flat s) (flat s) refl
-  has_inserted (x ∷ xs) s = has_by (cmp s x) s x xs (insert_key cmp xs s) (same_flat s x) (has_inserted xs s)
+module _ (cmp : Spot → Spot → Ordering) (is : (s t : Spot) → cmp s t ≡ spot_cmp s t) where
+  -- keys in their order are apart
+  pub apart_keys : (ks : List Spot) → IsStrictlySortedBy cmp ks → AllPairs (λ s t. s ≡ t → ⊥) ks
+  apart_keys ks h i j d lt within e =
+      let s = get_or ks i d in
+      let less : cmp s s ≡ Less = subst (λ t. cmp s t ≡ Less) (sym e) (Less-from_sorted cmp ks i j d h lt within) in
+      let same : cmp s s ≡ Equal = is s s ∙ spot_same s in
+      cc
 
-  from_by : (o : Ordering) (s x : Spot) (xs more : List Spot) (n : FlatNode) → (Contains (flats more) n → Contains (flats xs) n ⊎ (flat s ≡ n)) →
-      Contains (flats (match_ordering o (s ∷ x ∷ xs) (x ∷ xs) (x ∷ more))) n → Contains (flats (x ∷ xs)) n ⊎ (flat s ≡ n)
-  from_by Less s x xs more n f c = ⊎_elim (λ e. inr e) (λ r. inl r) (head_or_rest (flats (x ∷ xs)) n (flat s) c)
+  same_spot : (s t : Spot) → cmp s t ≡ Equal → s ≡ t
+  same_spot s t e = spot_equal s t (sym (is s t) ∙ e)
+
+  has_by : (o : Ordering) (s x : Spot) (xs more : List Spot) → (o ≡ Equal → s ≡ x) → Contains more s →
+      Contains (match_ordering o (s ∷ x ∷ xs) (x ∷ xs) (x ∷ more)) s
+  has_by Less s x xs more f c = at_head (x ∷ xs) s s refl
+  has_by Equal s x xs more f c = at_head xs s x (sym (f refl))
+  has_by Greater s x xs more f c = at_rest more s x c
+
+  pub has_inserted : (ks : List Spot) (s : Spot) → Contains (insert_key cmp ks s) s
+  has_inserted [] s = at_head [] s s refl
+  has_inserted (x ∷ xs) s = has_by (cmp s x) s x xs (insert_key cmp xs s) (same_spot s x) (has_inserted xs s)
+
+  from_by : (o : Ordering) (s x : Spot) (xs more : List Spot) (n : Spot) → (Contains more n → Contains xs n ⊎ (s ≡ n)) →
+      Contains (match_ordering o (s ∷ x ∷ xs) (x ∷ xs) (x ∷ more)) n → Contains (x ∷ xs) n ⊎ (s ≡ n)
+  from_by Less s x xs more n f c = ⊎_elim (λ e. inr e) (λ r. inl r) (head_or_rest (x ∷ xs) n s c)
   from_by Equal s x xs more n f c = inl c
   from_by Greater s x xs more n f c =
       ⊎_elim
-      (λ e. inl (at_head (flats xs) n (flat x) e))
-      (λ r. ⊎_elim (λ a. inl (at_rest (flats xs) n (flat x) a)) (λ e. inr e) (f r))
-      (head_or_rest (flats more) n (flat x) c)
+      (λ e. inl (at_head xs n x e))
+      (λ r. ⊎_elim (λ a. inl (at_rest xs n x a)) (λ e. inr e) (f r))
+      (head_or_rest more n x c)
 
-  pub from_inserted : (ks : List Spot) (s : Spot) (n : FlatNode) → Contains (flats (insert_key cmp ks s)) n → Contains (flats ks) n ⊎ (flat s ≡ n)
-  from_inserted [] s n c = inr (in_one n (flat s) c)
+  pub from_inserted : (ks : List Spot) (s : Spot) (n : Spot) → Contains (insert_key cmp ks s) n → Contains ks n ⊎ (s ≡ n)
+  from_inserted [] s n c = inr (in_one n s c)
   from_inserted (x ∷ xs) s n c = from_by (cmp s x) s x xs (insert_key cmp xs s) n (from_inserted xs s n) c
 
-  kept_by : (o : Ordering) (s x : Spot) (xs more : List Spot) (n : FlatNode) → (Contains (flats xs) n → Contains (flats more) n) →
-      Contains (flats (x ∷ xs)) n → Contains (flats (match_ordering o (s ∷ x ∷ xs) (x ∷ xs) (x ∷ more))) n
-  kept_by Less s x xs more n f c = at_rest (flats (x ∷ xs)) n (flat s) c
+  kept_by : (o : Ordering) (s x : Spot) (xs more : List Spot) (n : Spot) → (Contains xs n → Contains more n) →
+      Contains (x ∷ xs) n → Contains (match_ordering o (s ∷ x ∷ xs) (x ∷ xs) (x ∷ more)) n
+  kept_by Less s x xs more n f c = at_rest (x ∷ xs) n s c
   kept_by Equal s x xs more n f c = c
   kept_by Greater s x xs more n f c =
       ⊎_elim
-      (λ e. at_head (flats more) n (flat x) e)
-      (λ r. at_rest (flats more) n (flat x) (f r))
-      (head_or_rest (flats xs) n (flat x) c)
+      (λ e. at_head more n x e)
+      (λ r. at_rest more n x (f r))
+      (head_or_rest xs n x c)
 
-  pub kept_inserted : (ks : List Spot) (s : Spot) (n : FlatNode) → Contains (flats ks) n → Contains (flats (insert_key cmp ks s)) n
+  pub kept_inserted : (ks : List Spot) (s : Spot) (n : Spot) → Contains ks n → Contains (insert_key cmp ks s) n
   kept_inserted [] s n c = absurd (in_none n c)
   kept_inserted (x ∷ xs) s n c = kept_by (cmp s x) s x xs (insert_key cmp xs s) n (kept_inserted xs s n) c
 
-  found_by : (b : Bool) (s x : Spot) (xs : List Spot) → (is_at (cmp s) x ≡ b) → (list_any (is_at (cmp s)) xs ≡ true → Contains (flats xs) (flat s)) →
-      list_any (is_at (cmp s)) (x ∷ xs) ≡ true → Contains (flats (x ∷ xs)) (flat s)
-  found_by true s x xs e f h = at_head (flats xs) (flat s) (flat x) (sym (same_flat s x (equal (cmp s x) e)))
+  found_by : (b : Bool) (s x : Spot) (xs : List Spot) → (is_at (cmp s) x ≡ b) → (list_any (is_at (cmp s)) xs ≡ true → Contains xs s) →
+      list_any (is_at (cmp s)) (x ∷ xs) ≡ true → Contains (x ∷ xs) s
+  found_by true s x xs e f h = at_head xs s x (sym (same_spot s x (equal (cmp s x) e)))
     where
       equal : (o : Ordering) → is_eq o ≡ true → o ≡ Equal
       equal Less h = cc
       equal Equal h = refl
       equal Greater h = cc
-  found_by false s x xs e f h = at_rest (flats xs) (flat s) (flat x) (f (grind arith))
+  found_by false s x xs e f h = at_rest xs s x (f (grind arith))
 
-  -- a key that the set has is a node that it has
-  pub found_flat : (ks : List Spot) (s : Spot) → list_any (is_at (cmp s)) ks ≡ true → Contains (flats ks) (flat s)
-  found_flat [] s h = cc
-  found_flat (x ∷ xs) s h = found_by (is_at (cmp s) x) s x xs refl (found_flat xs s) h
+  -- a key that the set has is a spot of it
+  pub found_spot : (ks : List Spot) (s : Spot) → list_any (is_at (cmp s)) ks ≡ true → Contains ks s
+  found_spot [] s h = cc
+  found_spot (x ∷ xs) s h = found_by (is_at (cmp s) x) s x xs refl (found_spot xs s) h
 
   -- one more spot that was not there
-  pub reached_more : (set list : List Spot) (s t : Spot) → IsReached set list → IsStrictlySortedBy cmp (insert_key cmp set s) →
-      length (insert_key cmp set s) ≡ length set + 1 → flat t ≡ flat s → IsReached (insert_key cmp set s) (list ++ t ∷ [])
-  reached_more set list s t R sorted count same = record {
-    ordered = ordered_flats (insert_key cmp set s) sorted;
+  pub reached_more : (lists : List (List ℕ)) (set list : List Spot) (s : Spot) → IsReached lists set list → IsStrictlySortedBy cmp (insert_key cmp set s) →
+      length (insert_key cmp set s) ≡ length set + 1 → s.context < length lists → IsReached lists (insert_key cmp set s) (list ++ s ∷ [])
+  reached_more lists set list s R sorted count lt = record {
+    apart = apart_keys (insert_key cmp set s) sorted;
     same = λ n. (into n, from n);
     count = count ∙ ap (λ l. l + 1) R.count ∙ sym (length_more list);
+    inside = All-push (λ (t : Spot). t.context < length lists) list s R.inside lt;
   }
     where
-      length_more : (l : List Spot) → length (l ++ t ∷ []) ≡ length l + 1
+      length_more : (l : List Spot) → length (l ++ s ∷ []) ≡ length l + 1
       length_more l = simp length-append (omega arith)
 
-      split : flats (list ++ t ∷ []) ≡ flats list ++ flat t ∷ []
-      split = map-append flat list (t ∷ [])
-
-      into : (n : FlatNode) → Contains (flats (insert_key cmp set s)) n → Contains (flats (list ++ t ∷ [])) n
+      into : (n : Spot) → Contains (insert_key cmp set s) n → Contains (list ++ s ∷ []) n
       into n c =
-          subst (λ l. Contains l n) (sym split)
-          (⊎_elim
-          (λ a. Contains-append_left (flats list) (flat t ∷ []) n ((R.same n).0 a))
-          (λ e. Contains-append_right (flats list) (flat t ∷ []) n (at_head [] n (flat t) (same ∙ e)))
-          (from_inserted set s n c))
+          ⊎_elim
+          (λ a. Contains-append_left list (s ∷ []) n ((R.same n).0 a))
+          (λ e. Contains-append_right list (s ∷ []) n (at_head [] n s e))
+          (from_inserted set s n c)
 
-      from : (n : FlatNode) → Contains (flats (list ++ t ∷ [])) n → Contains (flats (insert_key cmp set s)) n
+      from : (n : Spot) → Contains (list ++ s ∷ []) n → Contains (insert_key cmp set s) n
       from n c =
           ⊎_elim
           (λ a. kept_inserted set s n ((R.same n).1 a))
-          (λ b. subst (λ m. Contains (flats (insert_key cmp set s)) m) (sym same ∙ in_one n (flat t) b) (has_inserted set s))
-          (Contains-append_cases (flats list) (flat t ∷ []) n (subst (λ l. Contains l n) split c))
+          (λ b. subst (λ m. Contains (insert_key cmp set s) m) (in_one n s b) (has_inserted set s))
+          (Contains-append_cases list (s ∷ []) n c)
+
+pub on_ok : {T E : Type 0} (r : Result T E) (P : Type 0) → P → OnOk r P
+on_ok (Ok x) P p = p
+on_ok (Err e) P p = tt
+
+pub on_ok_map : {T E : Type 0} (r : Result T E) (P Q : Type 0) → (P → Q) → OnOk r P → OnOk r Q
+on_ok_map (Ok x) P Q f p = f p
+on_ok_map (Err e) P Q f p = tt
 
 pub added_none : (old some : List FlatNode) → ((n : FlatNode) → Contains some n → Contains old n) → AreAdded old some old
 added_none old some f = record { more = []; behind = sym (append_nil old); among = λ n c. absurd (in_none n c); has = f }
@@ -124,16 +140,20 @@ added_none old some f = record { more = []; behind = sym (append_nil old); among
     append_nil [] = refl
     append_nil (x ∷ l) = ap (λ r. x ∷ r) (append_nil l)
 
-pub added_one : (old new : List Spot) (s t : Spot) → flat t ≡ flat s → new ≡ old ++ t ∷ [] → AreAdded (flats old) (flat s ∷ []) (flats new)
-added_one old new s t same e = record {
-  more = flat t ∷ [];
+pub added_there : (lists : List (List ℕ)) (old : List Spot) (s : Spot) → Contains old s → AreAdded (flats lists old) (flat lists s ∷ []) (flats lists old)
+added_there lists old s there =
+    added_none (flats lists old) (flat lists s ∷ []) (λ n m. subst (Contains (flats lists old)) (in_one n _ m) (contains_map (flat lists) old s there))
+
+pub added_one : (lists : List (List ℕ)) (old new : List Spot) (s : Spot) → new ≡ old ++ s ∷ [] → AreAdded (flats lists old) (flat lists s ∷ []) (flats lists new)
+added_one lists old new s e = record {
+  more = flat lists s ∷ [];
   behind = split;
-  among = λ n c. at_head [] n (flat s) (sym same ∙ in_one n (flat t) c);
-  has = λ n c. subst (λ l. Contains l n) (sym split) (Contains-append_right (flats old) (flat t ∷ []) n (at_head [] n (flat t) (same ∙ in_one n (flat s) c)));
+  among = λ n c. c;
+  has = λ n c. subst (λ l. Contains l n) (sym split) (Contains-append_right (flats lists old) (flat lists s ∷ []) n c);
 }
   where
-    split : flats new ≡ flats old ++ flat t ∷ []
-    split = ap flats e ∙ map-append flat old (t ∷ [])
+    split : flats lists new ≡ flats lists old ++ flat lists s ∷ []
+    split = ap (flats lists) e ∙ map-append (flat lists) old (s ∷ [])
 
 pub added_then : (old mid new : List FlatNode) (a b : FlatNode) → AreAdded old (a ∷ []) mid → AreAdded mid (b ∷ []) new → AreAdded old (a ∷ b ∷ []) new
 added_then old mid new a b A B = record {

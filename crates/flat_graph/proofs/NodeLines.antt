@@ -1,6 +1,6 @@
 -- The lines of nodes, one by one.
-use Rattle.std.proofs.Common.{◌≡◌, ℕ, ◌<◌, ◌≤◌, List, [], ◌∷◌, ◌++◌, length, Some, None, Contains, slice_get, get_or, refl, sym, ap, ◌∙◌, subst, ⊎_elim, All, option_map}
-use Rattle.std.proofs.lemmas.Option.{slice_get_read, slice_get-map}
+use Rattle.std.proofs.Common.{◌≡◌, ℕ, ◌<◌, ◌≤◌, List, [], ◌∷◌, ◌++◌, length, Some, None, Contains, slice_get, get_or, sym, ap, ◌∙◌, subst, ⊎_elim, All, option_map}
+use Rattle.std.proofs.lemmas.Option.{slice_get-get_or, slice_get-map}
 use Rattle.std.proofs.lemmas.List.Elements.{All-contains_itself, All-weaker}
 use Rattle.rv_decode.specs.declared.Ins.{Ins}
 use Rattle.rv_decode.specs.Flow.{Flow, Flows, Words, flow, flows, flow_of_row, flow_of_word}
@@ -15,8 +15,8 @@ use Rattle.flat_graph.proofs.Members.{at_contains, some_at, at_more}
 use Rattle.flat_graph.proofs.Numbers.{refused_at, refused_by}
 
 -- the spot at a place, as a node
-pub flat_at : (spots : List Spot) (k : ℕ) (s : Spot) → k < length spots → s ≡ get_or spots k s → slice_get (flats spots) k ≡ Some (flat s)
-flat_at spots k s lt e = slice_get-map flat spots k ∙ ap (option_map flat) (slice_get_read spots (length spots) k s refl lt e)
+pub flat_at : (lists : List (List ℕ)) (spots : List Spot) (k : ℕ) (d : Spot) → k < length spots → slice_get (flats lists spots) k ≡ Some (flat lists (get_or spots k d))
+flat_at lists spots k d lt = slice_get-map (flat lists) spots k ∙ ap (option_map (flat lists)) (slice_get-get_or spots k d lt)
 
 pub node_at : (code : Flows) (entry : ℕ) (nodes : List FlatNode) (k : ℕ) (n : FlatNode) → IsNumbering code entry nodes → slice_get nodes k ≡ Some n → IsNode code entry n
 node_at code entry nodes k n N e = (N.all n).1 (at_contains nodes k n e)

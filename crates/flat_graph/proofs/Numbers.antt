@@ -4,7 +4,6 @@ use Rattle.std.proofs.lemmas.Bool.{cases_lt, cases_order}
 use Rattle.std.proofs.lemmas.List.{length-map, get_or-map}
 use Rattle.std.proofs.lemmas.List.Elements.{Contains-get_or}
 use Rattle.std.proofs.lemmas.Option.{slice_get_within, slice_get-get_or, get_or_from_slice_get}
-use Rattle.std.specs.declared.cmp.Ordering.{Ordering}
 use Rattle.std.specs.declared.cmp.Ordering.TheVariants.{Equal}
 use Rattle.std.specs.Ordering.{ordering_index}
 use Rattle.std.specs.List.Sorted.{IsBinarySearchResult, IsSearchInRange, IsNonDecreasingBy}
@@ -19,43 +18,45 @@ use Rattle.flat_graph.proofs.Members.{contains_at, at_contains}
 use Rattle.flat_graph.specs.Compared.{flat_cmp}
 use Rattle.flat_graph.proofs.Order.{flat_equal, flat_same, rises, before_one_way, not_before_same}
 
-module _ (cmp : Spot → Spot → Ordering) (is : (s t : Spot) → cmp s t ≡ flat_cmp (flat s) (flat t)) where
-  rising : (xs : List Spot) (x : Spot) → AllPairs IsBefore (flats xs) → IsNonDecreasingBy (λ y. ordering_index (cmp y x)) xs
+module _ (lists : List (List ℕ)) where
+  abbrev node_in : Spot → FlatNode
+  node_in = flat lists
+
+  rising : (xs : List Spot) (x : FlatNode) → AllPairs IsBefore (flats lists xs) → IsNonDecreasingBy (λ y. ordering_index (flat_cmp (node_in y) x)) xs
   rising xs x h i j d le within =
       ⊎_elim
-      (λ lt.
-      subst (λ o. ordering_index o ≤ ordering_index (cmp (get_or xs j d) x)) (sym (is (get_or xs i d) x))
-      (subst (λ o. ordering_index (flat_cmp (flat (get_or xs i d)) (flat x)) ≤ ordering_index o) (sym (is (get_or xs j d) x))
-      (rises (flat (get_or xs i d)) (flat (get_or xs j d)) (flat x) (before lt))))
-      (λ ge. subst (λ k. ordering_index (cmp (get_or xs i d) x) ≤ ordering_index (cmp (get_or xs k d) x)) (the i j (omega arith)) (omega arith))
+      (λ lt. rises (node_in (get_or xs i d)) (node_in (get_or xs j d)) x (before lt))
+      (λ ge. subst (λ k. ordering_index (flat_cmp (node_in (get_or xs i d)) x) ≤ ordering_index (flat_cmp (node_in (get_or xs k d)) x)) (the i j (omega arith)) (omega arith))
       (cases_lt i j)
     where
       the : (a b : ℕ) → a ≡ b → a ≡ b
       the a b e = e
 
-      before : i < j → IsBefore (flat (get_or xs i d)) (flat (get_or xs j d))
+      before : i < j → IsBefore (node_in (get_or xs i d)) (node_in (get_or xs j d))
       before lt =
-          subst (λ n. IsBefore n (flat (get_or xs j d))) (get_or-map flat xs i d (flat d) (omega arith))
-          (subst (λ n. IsBefore (get_or (flats xs) i (flat d)) n) (get_or-map flat xs j d (flat d) within)
-          (h i j (flat d) lt (simp length-map (omega arith))))
+          subst (λ n. IsBefore n (node_in (get_or xs j d))) (get_or-map node_in xs i d (node_in d) (omega arith))
+          (subst (λ n. IsBefore (get_or (flats lists xs) i (node_in d)) n) (get_or-map node_in xs j d (node_in d) within)
+          (h i j (node_in d) lt (simp length-map (omega arith))))
 
-  -- a search for a spot that is there finds it
-  pub searched : (xs : List Spot) (x : Spot) (r : Result ℕ ℕ) → IsSearchInRange r (length xs) → IsBinarySearchResult (λ y. cmp y x) xs r →
-      AllPairs IsBefore (flats xs) → Contains (flats xs) (flat x) → (i : ℕ) × (r ≡ Ok i) × (slice_get (flats xs) i ≡ Some (flat x))
-  searched xs x (Ok i) within found h c = (
-    i,
-    refl,
-    slice_get-get_or (flats xs) i (flat x) (simp length-map within)
-        ∙ ap Some (get_or-map flat xs i x (flat x) within ∙ flat_equal (flat (get_or xs i x)) (flat x) (sym (is (get_or xs i x) x) ∙ found x)),
-  )
+  -- a search for a node that is there finds it
+  pub searched : (xs : List Spot) (x : FlatNode) (r : Result ℕ ℕ) → IsSearchInRange r (length xs) → IsBinarySearchResult (λ y. flat_cmp (node_in y) x) xs r →
+      AllPairs IsBefore (flats lists xs) → Contains (flats lists xs) x → (i : ℕ) × (r ≡ Ok i) × (slice_get (flats lists xs) i ≡ Some x)
+  searched xs x (Ok i) within found h c =
+      let d : Spot = record { context = 0; address = 0 } in (
+        i,
+        refl,
+        slice_get-get_or (flats lists xs) i x (simp length-map within)
+            ∙ ap Some (get_or-map node_in xs i d x within ∙ flat_equal (node_in (get_or xs i d)) x (found d)),
+      )
   searched xs x (Err i) within parts h (k, lt, e) =
-      let below : k < length xs = subst (λ l. k < l) (length-map xs flat) lt in
+      let d : Spot = record { context = 0; address = 0 } in
+      let below : k < length xs = subst (λ l. k < l) (length-map xs node_in) lt in
       let part = parts (rising xs x h) in
-      let same : cmp (get_or xs k x) x ≡ Equal =
-      is (get_or xs k x) x ∙ ap (λ n. flat_cmp n (flat x)) (sym (get_or-map flat xs k x (flat x) below) ∙ e) ∙ flat_same (flat x) in
+      let same : flat_cmp (node_in (get_or xs k d)) x ≡ Equal =
+      ap (λ n. flat_cmp n x) (sym (get_or-map node_in xs k d x below) ∙ e) ∙ flat_same x in
       ⊎_elim
-      (λ before. let less = part.0 k x (omega arith) before in cc)
-      (λ after. let more = part.1 k x after below in cc)
+      (λ before. let less = part.0 k d (omega arith) before in cc)
+      (λ after. let more = part.1 k d after below in cc)
       (cases_lt k i)
 
 pub found_ok : (r : Result ℕ ℕ) (i : ℕ) → r ≡ Ok i → is_ok r ≡ true

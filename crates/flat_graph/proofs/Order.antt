@@ -17,7 +17,7 @@ then_less Less rest e = inl refl
 then_less Equal rest e = inr (refl, e)
 then_less Greater rest e = cc
 
-then_equal : (o rest : Ordering) → ordering_then o rest ≡ Equal → (o ≡ Equal) × (rest ≡ Equal)
+pub then_equal : (o rest : Ordering) → ordering_then o rest ≡ Equal → (o ≡ Equal) × (rest ≡ Equal)
 then_equal Less rest e = cc
 then_equal Equal rest e = (refl, e)
 then_equal Greater rest e = cc
@@ -25,10 +25,10 @@ then_equal Greater rest e = cc
 nat_less : (x y : ℕ) → nat_cmp x y ≡ Less → x < y
 nat_less x y e = ranked x y Less (sym e)
 
-nat_equal : (x y : ℕ) → nat_cmp x y ≡ Equal → x ≡ y
+pub nat_equal : (x y : ℕ) → nat_cmp x y ≡ Equal → x ≡ y
 nat_equal x y e = ranked x y Equal (sym e)
 
-nat_same : (x : ℕ) → nat_cmp x x ≡ Equal
+pub nat_same : (x : ℕ) → nat_cmp x x ≡ Equal
 nat_same x = grind (arith, nat_tests)
 
 lower_head : (x y : ℕ) (xs ys : List ℕ) → x < y → list_lt (x ∷ xs) (y ∷ ys) ≡ true
@@ -124,6 +124,9 @@ flat_below n m (inr b) =
 
 flat_total : IsTotalOrder (then_cmp (on (λ (n : FlatNode). n.context) (slice_cmp nat_cmp)) (on (λ (n : FlatNode). n.address) nat_cmp))
 flat_total = search (comparing, rules)
+
+pub flat_order : IsTotalOrder flat_cmp
+flat_order = flat_total
 
 by_order : (a b x : FlatNode) (r : Ordering) → flat_cmp b x ≡ r → flat_cmp a b ≡ Less → ordering_index (flat_cmp a x) ≤ ordering_index r
 by_order a b x Less e h = subst (λ o. ordering_index o ≤ 0) (sym (flat_total.trans a b x h e)) (omega arith)

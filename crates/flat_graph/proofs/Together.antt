@@ -1,6 +1,5 @@
 -- The graph that is put together from its parts.
-use Rattle.std.proofs.Common.{◌≡◌, ℕ, ◌<◌, ◌≤◌, ◌↔◌, Bool, List, [], length, map, Some, slice_get, refl, sym, ap, ◌∙◌, subst, arith, option_map, IsTrue}
-use Rattle.std.specs.Prelude.{slice_index}
+use Rattle.std.proofs.Common.{◌≡◌, ℕ, ◌<◌, ◌≤◌, ◌↔◌, Bool, List, [], length, map, Some, slice_get, refl, sym, ap, ◌∙◌, subst, arith, option_map, IsTrue, All}
 use Rattle.std.proofs.lemmas.List.{length-map}
 use Rattle.std.proofs.lemmas.Option.{slice_get_within, slice_get-map, get_or_from_slice_get}
 use Rattle.rv_decode.specs.Table.{row}
@@ -10,7 +9,7 @@ use Rattle.flat_graph.specs.Graph.{IsLeader}
 use Rattle.flat_graph.specs.Numbered.{IsFlatGraph}
 use Rattle.flat_graph.specs.CodeGraph.{GraphNode, CodeGraph, IsCodeGraph, node_of, no_node, graph_of}
 use Rattle.flat_graph.specs.Kept.{IsKept, kept_graph, node_by, onward}
-use Rattle.flat_graph.specs.Built.{HasContexts, AreLines, IsLine, AreStands}
+use Rattle.flat_graph.specs.Built.{AreLines, IsLine, AreStands}
 use Rattle.flat_graph.specs.Leaders.{AreEdges, HasLeaders}
 use Rattle.flat_graph.specs.Spots.{flat, flats}
 use Rattle.flat_graph.specs.declared.graph.Stand.{Stand}
@@ -28,21 +27,21 @@ record Part (spots : List Spot) (lines : List Line) (leaders : List Bool) (k : �
   line_at : slice_get lines k ≡ Some line
   leader_at : slice_get leaders k ≡ Some leader
 
-pub record AreParts (words : Words) (entry : ℕ) (spots : List Spot) (lines : List Line) (first : ℕ) (leaders : List Bool) (lists : List (List ℕ)) (numbers : List ℕ) (stands : List Stand) : Type 0 where
+pub record AreParts (words : Words) (entry : ℕ) (spots : List Spot) (lines : List Line) (first : ℕ) (leaders : List Bool) (lists : List (List ℕ)) (stands : List Stand) : Type 0 where
   pub word_places : IsCodeMap words
-  pub numbering : IsNumbering (flows words) entry (flats spots)
+  pub numbering : IsNumbering (flows words) entry (flats lists spots)
   pub few : length spots ≤ 16384
-  pub line_of : AreLines words entry (flats spots) lines
+  pub line_of : AreLines words entry (flats lists spots) lines
   pub line_count : length lines ≡ length spots
-  pub first_at : slice_get (flats spots) first ≡ Some (record { context = []; address = entry })
+  pub first_at : slice_get (flats lists spots) first ≡ Some (record { context = []; address = entry })
   pub leader_of : HasLeaders lines first leaders
   pub leader_count : length leaders ≡ length lines
-  pub context_of : HasContexts lists numbers spots (length spots)
-  pub stand_of : AreStands spots numbers lines leaders stands
+  pub context_of : All (λ s. s.context < length lists) spots
+  pub stand_of : AreStands spots lines leaders stands
   pub stand_count : length stands ≡ length spots
 
-module _ (words : Words) (entry : ℕ) (spots : List Spot) (lines : List Line) (first : ℕ) (leaders : List Bool) (lists : List (List ℕ)) (numbers : List ℕ) (stands : List Stand)
-    (P : AreParts words entry spots lines first leaders lists numbers stands) where
+module _ (words : Words) (entry : ℕ) (spots : List Spot) (lines : List Line) (first : ℕ) (leaders : List Bool) (lists : List (List ℕ)) (stands : List Stand)
+    (P : AreParts words entry spots lines first leaders lists stands) where
   abbrev graph : CodeGraph
   graph = kept_graph lists stands first
 
@@ -57,7 +56,7 @@ module _ (words : Words) (entry : ℕ) (spots : List Spot) (lines : List Line) (
       record { spot = s.0; line = l.0; leader = b.0; spot_at = s.1; line_at = l.1; leader_at = b.1 }
 
   abbrev stand : (k : ℕ) → Part spots lines leaders k → Stand
-  stand k p = record { context = slice_index numbers k; address = p.spot.address; ins = p.line.ins; next = p.line.next; leader = p.leader }
+  stand k p = record { context = p.spot.context; address = p.spot.address; ins = p.line.ins; next = p.line.next; leader = p.leader }
 
   stand_at : (k : ℕ) (p : Part spots lines leaders k) → slice_get stands k ≡ Some (stand k p)
   stand_at k p = P.stand_of k p.spot p.line p.leader p.spot_at p.line_at p.leader_at
@@ -66,40 +65,40 @@ module _ (words : Words) (entry : ℕ) (spots : List Spot) (lines : List Line) (
   node_is : (k : ℕ) (p : Part spots lines leaders k) → node_of graph k ≡ node_by lists (stand k p)
   node_is k p = get_or_from_slice_get graph.nodes k (node_by lists (stand k p)) no_node (slice_get-map (node_by lists) stands k ∙ ap (option_map (node_by lists)) (stand_at k p))
 
-  context_is : (k : ℕ) (p : Part spots lines leaders k) → (node_of graph k).context ≡ (flat p.spot).context
-  context_is k p = ap (λ (n : GraphNode). n.context) (node_is k p) ∙ (P.context_of k p.spot (slice_get_within spots k p.spot p.spot_at) p.spot_at).1
+  context_is : (k : ℕ) (p : Part spots lines leaders k) → (node_of graph k).context ≡ (flat lists p.spot).context
+  context_is k p = ap (λ (n : GraphNode). n.context) (node_is k p)
 
   address_is : (k : ℕ) (p : Part spots lines leaders k) → (node_of graph k).address ≡ p.spot.address
   address_is k p = ap (λ (n : GraphNode). n.address) (node_is k p)
 
-  flat_is : (k : ℕ) (p : Part spots lines leaders k) → slice_get (flats spots) k ≡ Some (flat p.spot)
-  flat_is k p = slice_get-map flat spots k ∙ ap (option_map flat) p.spot_at
+  flat_is : (k : ℕ) (p : Part spots lines leaders k) → slice_get (flats lists spots) k ≡ Some (flat lists p.spot)
+  flat_is k p = slice_get-map (flat lists) spots k ∙ ap (option_map (flat lists)) p.spot_at
 
-  line_is : (k : ℕ) (p : Part spots lines leaders k) → IsLine words entry (flats spots) (flat p.spot) p.line
-  line_is k p = P.line_of k (flat p.spot) p.line (flat_is k p) p.line_at
+  line_is : (k : ℕ) (p : Part spots lines leaders k) → IsLine words entry (flats lists spots) (flat lists p.spot) p.line
+  line_is k p = P.line_of k (flat lists p.spot) p.line (flat_is k p) p.line_at
 
-  part_of : (k : ℕ) (n : FlatNode) → slice_get (flats spots) k ≡ Some n → (p : Part spots lines leaders k) × (flat p.spot ≡ n)
+  part_of : (k : ℕ) (n : FlatNode) → slice_get (flats lists spots) k ≡ Some n → (p : Part spots lines leaders k) × (flat lists p.spot ≡ n)
   part_of k n e =
-      let p = part k (subst (λ l. k < l) (length-map spots flat) (slice_get_within (flats spots) k n e)) in
-      (p, one (flat p.spot) n (sym (flat_is k p) ∙ e))
+      let p = part k (subst (λ l. k < l) (length-map spots (flat lists)) (slice_get_within (flats lists spots) k n e)) in
+      (p, one (flat lists p.spot) n (sym (flat_is k p) ∙ e))
 
   size_is : length graph.nodes ≡ length spots
   size_is = length-map stands (node_by lists) ∙ P.stand_count
 
-  flat_graph : IsFlatGraph (flows words) entry (flats spots) (graph_of graph)
+  flat_graph : IsFlatGraph (flows words) entry (flats lists spots) (graph_of graph)
   flat_graph = record {
     numbering = P.numbering;
-    size = size_is ∙ sym (length-map spots flat);
+    size = size_is ∙ sym (length-map spots (flat lists));
     first = P.first_at;
     next = λ u n e.
         let q = part_of u n e in
-        ap (map (slice_get (flats spots))) (ap (λ (x : GraphNode). x.next) (node_is u q.0))
+        ap (map (slice_get (flats lists spots))) (ap (λ (x : GraphNode). x.next) (node_is u q.0))
         ∙ (line_is u q.0).next ∙ ap (λ x. map Some (successors (flows words) entry x)) q.1;
   }
 
   pub code_graph : IsCodeGraph words entry graph
   code_graph = record {
-    nodes = flats spots;
+    nodes = flats lists spots;
     flat = flat_graph;
     places = record {
       node = λ u n e.
@@ -107,7 +106,7 @@ module _ (words : Words) (entry : ℕ) (spots : List Spot) (lines : List Line) (
           (context_is u q.0 ∙ ap (λ (x : FlatNode). x.context) q.1, address_is u q.0 ∙ ap (λ (x : FlatNode). x.address) q.1);
     };
     no_errors = λ m h.
-        let c = contains_at (flats spots) m ((P.numbering.all m).0 h) in
+        let c = contains_at (flats lists spots) m ((P.numbering.all m).0 h) in
         let q = part_of c.0 m c.1 in
         ap (error_of (flows words) entry) (sym q.1) ∙ (line_is c.0 q.0).no_error;
     instructions = λ u w lt e.
@@ -120,11 +119,11 @@ module _ (words : Words) (entry : ℕ) (spots : List Spot) (lines : List Line) (
   pub is_kept : IsKept lists stands first
   is_kept = record {
     of_code = record { words = words; entry = entry; word_places = P.word_places; of_code = code_graph };
-    graph = flat_graph_law (flows words) entry (flats spots) (graph_of graph) flat_graph;
+    graph = flat_graph_law (flows words) entry (flats lists spots) (graph_of graph) flat_graph;
     contexts_there = λ k d lt.
         let p = part k (subst (λ l. k < l) P.stand_count lt) in
         subst (λ (s : Stand). s.context < length lists) (sym (get_or_from_slice_get stands k (stand k p) d (stand_at k p)))
-        (P.context_of k p.spot (slice_get_within spots k p.spot p.spot_at) p.spot_at).0;
+        (subst (λ (s : Spot). s.context < length lists) (get_or_from_slice_get spots k p.spot p.spot p.spot_at) (P.context_of k p.spot (slice_get_within spots k p.spot p.spot_at)));
     few = subst (λ l. l ≤ 16384) (sym P.stand_count) P.few;
     leaders = λ u n e.
         let p = part u (subst (λ l. u < l) P.stand_count (slice_get_within stands u n e)) in

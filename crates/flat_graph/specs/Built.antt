@@ -1,19 +1,12 @@
 -- The parts from which a task's graph is put together.
-use Rattle.std.specs.Prelude.{◌≡◌, ℕ, ◌<◌, Bool, List, [], length, map, Some, None, slice_get, slice_index, slice_index_or}
+use Rattle.std.specs.Prelude.{◌≡◌, ℕ, Bool, List, map, Some, None, slice_get}
 use Rattle.rv_decode.specs.Flow.{Words, flows}
 use Rattle.flat_graph.specs.FlatGraph.{FlatNode, error_of, successors}
 use Rattle.flat_graph.specs.Kept.{onward}
 use Rattle.flat_graph.specs.Refusals.{Stands}
-use Rattle.flat_graph.specs.Spots.{flat}
 use Rattle.flat_graph.specs.declared.graph.Stand.{Stand}
 use Rattle.flat_graph.specs.declared.lines.Line.{Line}
 use Rattle.flat_graph.specs.declared.spots.Spot.{Spot}
-
--- each of the first spots has the list of its calls at its number
-abbrev pub HasContexts : List (List ℕ) → List ℕ → List Spot → ℕ → Type 0
-HasContexts lists numbers spots count =
-    (k : ℕ) (s : Spot) → k < count → slice_get spots k ≡ Some s →
-    (slice_index numbers k < length lists) × (slice_index_or lists (slice_index numbers k) [] ≡ (flat s).context)
 
 -- the numbers are those of these nodes
 abbrev pub AreNumbers : List FlatNode → List ℕ → List FlatNode → Type 0
@@ -30,7 +23,7 @@ AreLines words entry nodes lines =
     (k : ℕ) (n : FlatNode) (line : Line) → slice_get nodes k ≡ Some n → slice_get lines k ≡ Some line → IsLine words entry nodes n line
 
 -- the entries of nodes, put together from these parts
-abbrev pub AreStands : List Spot → List ℕ → List Line → List Bool → List Stand → Type 0
-AreStands spots contexts lines leaders stands =
+abbrev pub AreStands : List Spot → List Line → List Bool → List Stand → Type 0
+AreStands spots lines leaders stands =
     (k : ℕ) (s : Spot) (l : Line) (b : Bool) → slice_get spots k ≡ Some s → slice_get lines k ≡ Some l → slice_get leaders k ≡ Some b →
-    slice_get stands k ≡ Some (record { context = slice_index contexts k; address = s.address; ins = l.ins; next = l.next; leader = b })
+    slice_get stands k ≡ Some (record { context = s.context; address = s.address; ins = l.ins; next = l.next; leader = b })

@@ -1,15 +1,25 @@
 -- The spots that were found so far.
-use Rattle.std.specs.Prelude.{◌≡◌, ℕ, ◌<◌, List, [], ◌++◌, length, Contains, ◌↔◌, AllPairs, slice_get, Some}
+use Rattle.std.specs.Prelude.{◌≡◌, ℕ, ◌<◌, List, [], ◌++◌, length, Contains, ◌↔◌, All, AllPairs, slice_get, Some}
+use Rattle.std.specs.BTreeMap.{BTreeMap, get}
 use Rattle.rv_decode.specs.Flow.{Flows}
-use Rattle.flat_graph.specs.FlatGraph.{FlatNode, IsBefore, IsNode, successors}
+use Rattle.flat_graph.specs.Compared.{list_cmp}
+use Rattle.flat_graph.specs.FlatGraph.{FlatNode, IsNode, successors}
 use Rattle.flat_graph.specs.declared.spots.Spot.{Spot}
-use Rattle.flat_graph.specs.Spots.{flats}
 
--- a set and a list have the same spots, as nodes, each once
-pub record IsReached (set : List Spot) (list : List Spot) : Type 0 where
-  pub ordered : AllPairs IsBefore (flats set)
-  pub same : (n : FlatNode) → Contains (flats set) n ↔ Contains (flats list) n
+-- each list of calls has the number at which it stands, and no other list has that number
+abbrev pub AreNumbered : BTreeMap (List ℕ) ℕ → List (List ℕ) → Type 0
+AreNumbered numbers lists = (c : List ℕ) (n : ℕ) → (get list_cmp numbers c ≡ Some n) ↔ (slice_get lists n ≡ Some c)
+
+-- the lists stand where they stood
+abbrev pub HasMore : List (List ℕ) → List (List ℕ) → Type 0
+HasMore old new = (n : ℕ) (c : List ℕ) → slice_get old n ≡ Some c → slice_get new n ≡ Some c
+
+-- a set and a list have the same spots, each once, and each has a list of calls
+pub record IsReached (lists : List (List ℕ)) (set list : List Spot) : Type 0 where
+  pub apart : AllPairs (λ s t. s ≡ t → ⊥) set
+  pub same : (s : Spot) → Contains set s ↔ Contains list s
   pub count : length set ≡ length list
+  pub inside : All (λ s. s.context < length lists) list
 
 -- the nodes `some` are there now, and what is behind the old ones is of them
 pub record AreAdded (old some new : List FlatNode) : Type 0 where

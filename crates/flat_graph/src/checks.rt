@@ -7,10 +7,8 @@ ghost use Rattle.rv_decode.specs.Flow.{flows, flow};
 ghost use Rattle.rv_decode.specs.Table.{row};
 ghost use Rattle.flat_graph.specs.FlatGraph.{calls, call_error, error_of};
 ghost use Rattle.flat_graph.specs.Refusals.{graph_error, Stands};
-ghost use Rattle.flat_graph.specs.Spots.{flat};
 
 use crate::fault::GraphError;
-use crate::spots::Spot;
 use crate::ways::{Way, way_of};
 use code_map::CodeMap;
 use crpd_base::MOST_CALLS;
@@ -40,28 +38,37 @@ fn is_under_way(code: &CodeMap, under_way: &[u32], target: u32) -> bool
 }
 
 /// The error of a call: its target is the entry or the target of a call under way, or sixteen calls are under way.
-fn call_error(code: &CodeMap, entry: u32, spot: &Spot, target: u32) -> Result<(), GraphError>
-    ensures { let error = call_error (flows (word_at code.now.images)) entry (flat spot.now).context target in
-        MatchResult result (λ _. error ≡ None) (λ e. option_map (λ x. graph_error x spot.now.address) error ≡ Some e) }
+fn call_error(
+    code: &CodeMap,
+    entry: u32,
+    under_way: &[u32],
+    address: u32,
+    target: u32,
+) -> Result<(), GraphError>
+    ensures { let error = call_error (flows (word_at code.now.images)) entry under_way.now target in
+        MatchResult result (λ _. error ≡ None) (λ e. option_map (λ x. graph_error x address) error ≡ Some e) }
 {
-    let under_way = spot.calls.as_slice();
     if target == entry || is_under_way(code, under_way, target) {
-        return Err(GraphError::Recursive(spot.address));
+        return Err(GraphError::Recursive(address));
     }
     if under_way.len() == MOST_CALLS {
-        return Err(GraphError::TooDeep(spot.address));
+        return Err(GraphError::TooDeep(address));
     }
     Ok(())
 }
 
-/// The instruction at a spot, or the spot's error.
-pub(crate) fn check(code: &CodeMap, entry: u32, spot: &Spot) -> Result<Ins, GraphError>
-    ensures error { MatchResult result (λ _. error_of (flows (word_at code.now.images)) entry (flat spot.now) ≡ None)
-        (λ e. option_map (λ x. graph_error x spot.now.address) (error_of (flows (word_at code.now.images)) entry (flat spot.now)) ≡ Some e) }
-    ensures stands { IfOk result (Stands (word_at code.now.images) spot.now.address) }
-    ensures within { IfOk result (λ _. spot.now.address + 4 ≤ end) }
+/// The instruction of a node with these calls under way at an address, or the node's error.
+pub(crate) fn check(
+    code: &CodeMap,
+    entry: u32,
+    under_way: &[u32],
+    address: u32,
+) -> Result<Ins, GraphError>
+    ensures error { let error = error_of (flows (word_at code.now.images)) entry (record { context = under_way.now; address = address }) in
+        MatchResult result (λ _. error ≡ None) (λ e. option_map (λ x. graph_error x address) error ≡ Some e) }
+    ensures stands { IfOk result (Stands (word_at code.now.images) address) }
+    ensures within { IfOk result (λ _. address + 4 ≤ end) }
 {
-    let address = spot.address;
     if address % 4 != 0 {
         return Err(GraphError::Misaligned(address));
     }
@@ -72,7 +79,7 @@ pub(crate) fn check(code: &CodeMap, entry: u32, spot: &Spot) -> Result<Ins, Grap
         Way::IndirectJump => Err(GraphError::IndirectJump(address)),
         Way::OtherLink => Err(GraphError::OtherLink(address)),
         Way::Call(target) => {
-            call_error(code, entry, spot, target)?;
+            call_error(code, entry, under_way, address, target)?;
             Ok(ins)
         }
         _ => Ok(ins),

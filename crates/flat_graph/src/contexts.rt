@@ -1,45 +1,70 @@
-// The calls under way at spots, each list of calls kept once.
-ghost use Rattle.std.specs.Prelude.{◌≡◌, ◌<◌, ◌-◌, ◌≤◌, ℕ, Some, IsTrue, IfOk, length, slice_get, slice_index, slice_index_or, []};
-ghost use Rattle.flat_graph.specs.Spots.{flat};
-ghost use Rattle.flat_graph.specs.Built.{HasContexts};
+// Lists of calls under way, each kept once and numbered as it is met.
+ghost use Rattle.std.specs.Prelude.{◌≡◌, ◌<◌, ◌≤◌, ◌+◌, ◌^◌, ◌++◌, ◌∷◌, Some, None, IfOk, OnOk, length, slice_get, slice_index_or, []};
+ghost use Rattle.std.specs.BTreeMap.{get};
+ghost use Rattle.flat_graph.specs.Compared.{list_cmp};
+ghost use Rattle.flat_graph.specs.Reach.{AreNumbered, HasMore};
 
 use crate::graph::Context;
-use crate::spots::Spot;
 use smallvec::SmallVec;
 use std::alloc::{AllocError, Global};
+use std::collections::BTreeMap;
 
-/// The lists of calls, and for each spot the number of its own.
+/// The lists of calls that were met, in the order in which they were met, and the number of each, which is its place.
 #[derive(Drop)]
 pub(crate) struct Contexts {
     pub(crate) lists: Vec<Context>,
-    pub(crate) numbers: Vec<u32>,
+    pub(crate) numbers: BTreeMap<Context, u32>,
 }
 
-/// Whether these calls are the last list.
-fn is_last(lists: &[Context], calls: &[u32]) -> bool
-    ensures { IsTrue result → (0 < length lists.now) × (slice_index_or lists.now (length lists.now - 1) [] ≡ calls.now) }
-{
-    match lists.last() {
-        Some(last) => last.calls.as_slice() == calls,
-        None => false,
-    }
-}
-
-/// The calls under way at spots that stand in the order of their calls.
-pub(crate) fn shared_contexts(alloc: Global, spots: &[Spot]) -> Result<Contexts, AllocError>
-    requires { length spots.now ≤ 16384 }
-    ensures count { IfOk result (λ c. length c.numbers.items ≡ length spots.now) }
-    ensures each { IfOk result (λ c. HasContexts c.lists.items c.numbers.items spots.now (length spots.now)) }
-{
-    let mut lists: Vec<Context> = Vec::new(alloc);
-    let mut numbers = Vec::new(alloc);
-    for spot in spots {
-        let calls = spot.calls.as_slice();
-        if !is_last(&lists, calls) {
-            let calls = SmallVec::from_slice(alloc, calls)?;
-            lists.push(Context { calls })?;
+impl Contexts {
+    pub(crate) fn new(alloc: Global) -> Self
+        ensures numbered { AreNumbered result.numbers result.lists.items }
+        ensures none { result.lists.items ≡ [] }
+    {
+        Contexts {
+            lists: Vec::new(alloc),
+            numbers: BTreeMap::new(alloc),
         }
-        numbers.push(lists.len() as u32 - 1)?;
     }
-    Ok(Contexts { lists, numbers })
+
+    /// The number of a list of calls. Logarithmic in the number of lists.
+    pub(crate) fn number(&mut self, alloc: Global, calls: Context) -> Result<u32, AllocError>
+        requires numbered { AreNumbered self.old.numbers self.old.lists.items }
+        requires few { length self.old.lists.items < 2 ^ 32 }
+        ensures numbered { OnOk result (AreNumbered self.new.numbers self.new.lists.items) }
+        ensures number { IfOk result (λ n. slice_get self.new.lists.items n ≡ Some calls) }
+        ensures more { OnOk result (HasMore self.old.lists.items self.new.lists.items) }
+        ensures count { OnOk result (length self.new.lists.items ≤ length self.old.lists.items + 1) }
+    {
+        match self.numbers.get(&calls) {
+            Some(number) => Ok(*number),
+            None => self.add(alloc, calls),
+        }
+    }
+
+    /// Adds a list of calls that was not met yet.
+    fn add(&mut self, alloc: Global, calls: Context) -> Result<u32, AllocError>
+        requires numbered { AreNumbered self.old.numbers self.old.lists.items }
+        requires few { length self.old.lists.items < 2 ^ 32 }
+        requires unmet { get list_cmp self.old.numbers calls ≡ None }
+        ensures numbered { OnOk result (AreNumbered self.new.numbers self.new.lists.items) }
+        ensures lists { OnOk result (self.new.lists.items ≡ self.old.lists.items ++ calls ∷ []) }
+        ensures number { IfOk result (λ n. n ≡ length self.old.lists.items) }
+    {
+        let number = self.lists.len() as u32;
+        let same = SmallVec::from_slice(alloc, calls.calls.as_slice())?;
+        self.numbers.insert(calls, number)?;
+        self.lists.push(Context { calls: same })?;
+        Ok(number)
+    }
+}
+
+/// The calls of a number.
+pub(crate) fn calls_of(lists: &[Context], number: u32) -> &[u32]
+    ensures { result.now ≡ slice_index_or lists.now number [] }
+{
+    match lists.get(number as usize) {
+        Some(context) => context.calls.as_slice(),
+        None => &[],
+    }
 }

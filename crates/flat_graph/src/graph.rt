@@ -1,9 +1,13 @@
 // A task's flat graph.
-ghost use Rattle.std.specs.Prelude.{IfSome, IsNone, ◌≡◌, ℕ, ◌<◌, ◌≤◌, ◌+◌, ◌↔◌, length, slice_get, option_map, IsTrue, MatchOption};
+ghost use Rattle.std.specs.Prelude.{IfSome, IsNone, ◌≡◌, ℕ, ◌<◌, ◌≤◌, ◌+◌, ◌↔◌, length, slice_get, option_map, IsTrue, MatchOption, nat_eq};
 ghost use Rattle.rv_decode.specs.Flow.{flow};
 ghost use Rattle.flat_graph.specs.Graph.{IsGraph, IsLeader};
 ghost use Rattle.flat_graph.specs.Numbered.{node_at};
+ghost use Rattle.std.proofs.Common.{rules};
+ghost use Rattle.std.specs.Cmp.Rules.{comparing};
+ghost use Rattle.std.specs.Cmp.Lexicographic.{slice_cmp, nat_list_cmp_total, pointwise, texts_ties, texts_po};
 ghost use Rattle.std.specs.List.Sorted.{IsSearchInRange, IsBinarySearchResult};
+ghost use Rattle.std.specs.Ordering.{nat_cmp, as_partial_cmp};
 ghost use Rattle.flat_graph.specs.Compared.{flat_cmp, stand_node};
 ghost use Rattle.flat_graph.specs.CodeGraph.{HasCode, kind_of, graph_of, places_of, ins_of};
 
@@ -26,6 +30,45 @@ impl Model for Context {
     ghost Value = { List ℕ };
 
     ghost view = { λ c. c.calls.items };
+}
+
+impl PartialEq for Context {
+    ghost eq = { pointwise nat_eq };
+
+    ghost laws = { Prim.search (comparing, rules) };
+
+    fn eq(&self, other: &Context) -> bool {
+        self.calls.as_slice() == other.calls.as_slice()
+    }
+}
+
+impl Eq for Context {
+    ghost laws = { Prim.search (comparing, rules) };
+}
+
+impl PartialOrd for Context {
+    ghost partial_cmp = { as_partial_cmp (slice_cmp nat_cmp) };
+
+    ghost laws = { texts_po };
+
+    fn partial_cmp(&self, other: &Context) -> Option<Ordering> {
+        Some(self.cmp(other))
+    }
+}
+
+impl Ord for Context {
+    ghost cmp = { slice_cmp nat_cmp };
+
+    ghost total = { nat_list_cmp_total };
+
+    ghost matches_partial_cmp = { Prim.search (comparing, rules) };
+
+    ghost matches_eq = { texts_ties };
+
+    /// Item by item; a list comes before its longer continuations.
+    fn cmp(&self, other: &Context) -> Ordering {
+        self.calls.as_slice().cmp(other.calls.as_slice())
+    }
 }
 
 /// The successors of a node, as numbers.

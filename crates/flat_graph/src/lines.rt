@@ -1,7 +1,8 @@
 // The instructions and successors of the spots of a graph.
-ghost use Rattle.std.specs.Prelude.{◌≡◌, ◌≤◌, ◌<◌, ◌⊎◌, ℕ, Some, IfOk, IfErr, length, slice_get, All, AllPairs, Contains, IsTrue};
+ghost use Rattle.std.specs.Prelude.{◌≡◌, ◌≤◌, ◌<◌, ◌⊎◌, ℕ, Some, IfOk, IfErr, length, slice_get, slice_index_or, [], All, AllPairs, Contains, IsTrue};
 ghost use Rattle.code_map.specs.Words.{word_at};
 ghost use Rattle.rv_decode.specs.Flow.{flows};
+ghost use Rattle.flat_graph.specs.Compared.{flat_cmp};
 ghost use Rattle.flat_graph.specs.FlatGraph.{IsNumbering, IsBefore};
 ghost use Rattle.flat_graph.specs.Kept.{onward};
 ghost use Rattle.flat_graph.specs.Spots.{flat, flats, flat_steps};
@@ -9,13 +10,15 @@ ghost use Rattle.flat_graph.specs.Refusals.{IsRefused};
 ghost use Rattle.flat_graph.specs.Built.{IsLine, AreLines, AreNumbers};
 
 use crate::checks::check;
+use crate::contexts::calls_of;
 use crate::fault::GraphError;
-use crate::graph::Onward;
-use crate::spots::{Spot, Steps};
+use crate::graph::{Context, Onward};
+use crate::spots::{Spot, Steps, compare, steps_of};
 use crate::ways::way_of;
 use code_map::CodeMap;
 use rv_decode::Ins;
 use std::alloc::Global;
+use std::cmp::Ordering;
 
 /// The instruction of a node and the numbers of its successors.
 #[derive(Clone, Copy)]
@@ -24,54 +27,104 @@ pub(crate) struct Line {
     pub(crate) next: Onward,
 }
 
-/// The number of a spot, which is its place among all in the order of numbering. Logarithmic in their number.
-pub(crate) fn number_of(spots: &[Spot], spot: &Spot) -> u32
+/// The number of the spot with these calls under way at an address, which is its place in the order of numbering.
+/// Logarithmic in the number of spots.
+pub(crate) fn number_of(lists: &[Context], spots: &[Spot], calls: &[u32], address: u32) -> u32
     requires few { length spots.now ≤ 16384 }
-    requires ordered { AllPairs IsBefore (flats spots.now) }
-    requires there { Contains (flats spots.now) (flat spot.now) }
-    ensures { slice_get (flats spots.now) result ≡ Some (flat spot.now) }
+    requires ordered { AllPairs IsBefore (flats lists.now spots.now) }
+    requires there { Contains (flats lists.now spots.now) (record { context = calls.now; address = address }) }
+    ensures { slice_get (flats lists.now spots.now) result ≡ Some (record { context = calls.now; address = address }) }
 {
-    spots.binary_search(spot).unwrap() as u32
+    let found = spots.binary_search_by(
+        |spot: &Spot| -> Ordering
+            ensures { result ≡ flat_cmp (flat lists.entry.now spot.now) (record { context = calls.entry.now; address = address }) }
+        {
+            calls_of(lists, spot.context)
+                .cmp(calls)
+                .then(spot.address.cmp(&address))
+        },
+    );
+    found.unwrap() as u32
+}
+
+/// The number of a spot, found by comparisons of addresses alone among the spots with the same calls under way.
+/// Logarithmic in the number of spots.
+fn number_at(lists: &[Context], spots: &[Spot], spot: &Spot) -> u32
+    requires few { length spots.now ≤ 16384 }
+    requires ordered { AllPairs IsBefore (flats lists.now spots.now) }
+    requires there { Contains (flats lists.now spots.now) (flat lists.now spot.now) }
+    ensures { slice_get (flats lists.now spots.now) result ≡ Some (flat lists.now spot.now) }
+{
+    let found = spots.binary_search_by(
+        |other: &Spot| -> Ordering
+            ensures { result ≡ flat_cmp (flat lists.entry.now other.now) (flat lists.entry.now spot.entry.now) }
+        { compare(lists, other, spot) },
+    );
+    found.unwrap() as u32
 }
 
 /// Whether the spot at a place is this one.
 fn is_at(spots: &[Spot], place: usize, spot: &Spot) -> bool
-    ensures { IsTrue result → slice_get (flats spots.now) place ≡ Some (flat spot.now) }
+    ensures { IsTrue result → slice_get spots.now place ≡ Some spot.now }
 {
     match spots.get(place) {
-        Some(other) => other.address == spot.address && other.calls == spot.calls,
+        Some(other) => other.address == spot.address && other.context == spot.context,
         None => false,
     }
 }
 
 /// The number of a spot, which mostly stands at the place where it is sought first.
-fn number_from(spots: &[Spot], place: usize, spot: &Spot) -> u32
+fn number_from(lists: &[Context], spots: &[Spot], place: usize, spot: &Spot) -> u32
     requires few { length spots.now ≤ 16384 }
-    requires ordered { AllPairs IsBefore (flats spots.now) }
-    requires there { Contains (flats spots.now) (flat spot.now) }
+    requires ordered { AllPairs IsBefore (flats lists.now spots.now) }
+    requires there { Contains (flats lists.now spots.now) (flat lists.now spot.now) }
     requires place { place ≤ length spots.now }
-    ensures { slice_get (flats spots.now) result ≡ Some (flat spot.now) }
+    ensures { slice_get (flats lists.now spots.now) result ≡ Some (flat lists.now spot.now) }
 {
     if is_at(spots, place, spot) {
         return place as u32;
     }
-    number_of(spots, spot)
+    number_at(lists, spots, spot)
 }
 
-/// The numbers of the spots to which a spot leads. The first of them mostly stands at the place after the spot's own.
-fn numbered(spots: &[Spot], next: usize, steps: &Steps) -> Onward
+/// The numbers of the spots to which a spot leads whose calls have the number `from`. The first of them mostly stands at the
+/// place after the spot's own.
+fn numbered(lists: &[Context], spots: &[Spot], next: usize, from: u32, steps: &Steps) -> Onward
     requires few { length spots.now ≤ 16384 }
-    requires ordered { AllPairs IsBefore (flats spots.now) }
-    requires there { All (Contains (flats spots.now)) (flat_steps steps.now) }
+    requires ordered { AllPairs IsBefore (flats lists.now spots.now) }
+    requires there { All (Contains (flats lists.now spots.now)) (flat_steps (slice_index_or lists.now from []) steps.now) }
     requires next { next ≤ length spots.now }
-    ensures { AreNumbers (flats spots.now) (onward result) (flat_steps steps.now) }
+    ensures { AreNumbers (flats lists.now spots.now) (onward result) (flat_steps (slice_index_or lists.now from []) steps.now) }
 {
     match steps {
         Steps::Ends => Onward::Ends,
-        Steps::To(spot) => Onward::To(number_from(spots, next, spot)),
-        Steps::Either(spot, other) => {
-            Onward::Either(number_from(spots, next, spot), number_of(spots, other))
+        Steps::To(address) => {
+            let spot = Spot {
+                context: from,
+                address: *address,
+            };
+            Onward::To(number_from(lists, spots, next, &spot))
         }
+        Steps::Either(address, other) => {
+            let spot = Spot {
+                context: from,
+                address: *address,
+            };
+            let second = Spot {
+                context: from,
+                address: *other,
+            };
+            Onward::Either(
+                number_from(lists, spots, next, &spot),
+                number_at(lists, spots, &second),
+            )
+        }
+        Steps::Away(calls, address) => Onward::To(number_of(
+            lists,
+            spots,
+            calls.calls.as_slice(),
+            *address,
+        )),
     }
 }
 
@@ -80,20 +133,23 @@ pub(crate) fn lines(
     alloc: Global,
     code: &CodeMap,
     entry: u32,
+    lists: &[Context],
     spots: &[Spot],
 ) -> Result<Vec<Line>, GraphError>
     requires few { length spots.now ≤ 16384 }
-    requires numbering { IsNumbering (flows (word_at code.now.images)) entry (flats spots.now) }
-    ensures lines { IfOk result (λ v. AreLines (word_at code.now.images) entry (flats spots.now) v.items) }
+    requires numbering { IsNumbering (flows (word_at code.now.images)) entry (flats lists.now spots.now) }
+    ensures lines { IfOk result (λ v. AreLines (word_at code.now.images) entry (flats lists.now spots.now) v.items) }
     ensures count { IfOk result (λ v. length v.items ≡ length spots.now) }
     ensures refused { IfErr result (IsRefused (flows (word_at code.now.images)) entry) }
 {
     code.words_law();
     let mut lines = Vec::new(alloc);
     for spot in spots {
-        let ins = check(code, entry, spot)?;
-        let steps = spot.steps(alloc, way_of(spot.address, &ins))?;
-        let next = numbered(spots, lines.len() + 1, &steps);
+        let Spot { context, address } = *spot;
+        let calls = calls_of(lists, context);
+        let ins = check(code, entry, calls, address)?;
+        let steps = steps_of(alloc, calls, address, way_of(address, &ins))?;
+        let next = numbered(lists, spots, lines.len() + 1, context, &steps);
         lines.push(Line { ins, next })?;
     }
     Ok(lines)

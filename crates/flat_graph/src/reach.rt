@@ -1,33 +1,51 @@
 // Which spots of the code are reached from a task's entry.
-ghost use Rattle.std.specs.Prelude.{◌≡◌, ◌<◌, ◌≤◌, ◌⊎◌, length, AllPairs, All, Contains, IfOk, OnOk, IfErr, [], ◌∷◌};
+ghost use Rattle.std.specs.Prelude.{◌≡◌, ◌<◌, ◌≤◌, ◌+◌, ◌⊎◌, ◌^◌, All, length, IfOk, OnOk, IfErr, [], ◌∷◌, slice_index_or};
 ghost use Rattle.code_map.specs.Words.{word_at};
 ghost use Rattle.rv_decode.specs.Flow.{flows};
+ghost use Rattle.std.specs.List.Sorted.{IsPermutation, IsSortedBy};
+ghost use Rattle.std.specs.Ordering.{is_lt};
+ghost use Rattle.flat_graph.specs.Compared.{flat_cmp};
 ghost use Rattle.flat_graph.specs.FlatGraph.{IsNode, IsNumbering, successors, HasMoreNodes};
-ghost use Rattle.flat_graph.specs.Reach.{IsReached, AreAdded};
+ghost use Rattle.flat_graph.specs.Reach.{AreNumbered, HasMore, IsReached, AreAdded};
 ghost use Rattle.flat_graph.specs.Spots.{flat, flats, flat_steps};
 ghost use Rattle.flat_graph.specs.declared.fault.GraphError.TheVariants.{Memory, TooManyNodes};
 
 use crate::checks::check;
+use crate::contexts::{Contexts, calls_of};
 use crate::fault::GraphError;
-use crate::spots::{Spot, Steps};
+use crate::graph::Context;
+use crate::spots::{Spot, Steps, sort, steps_of};
 use crate::ways::way_of;
 use code_map::CodeMap;
+use smallvec::SmallVec;
 use std::alloc::{AllocError, Global};
 use std::collections::BTreeSet;
 
-/// The spots that were found so far: in the order of numbering, and in the order in which they were found.
+/// The spots that were found so far, with the lists of calls to which their numbers point: as a set, and in the order in
+/// which they were found.
 #[derive(Drop)]
 struct Found {
+    contexts: Contexts,
     set: BTreeSet<Spot>,
     list: Vec<Spot>,
 }
 
+/// Spots in the order of numbering, with the lists of calls to which their numbers point.
+#[derive(Drop)]
+pub(crate) struct Ordered {
+    pub(crate) lists: Vec<Context>,
+    pub(crate) spots: Vec<Spot>,
+}
+
 impl Found {
     fn new(alloc: Global) -> Self
-        ensures found { IsReached result.set.keys result.list.items }
+        ensures numbered { AreNumbered result.contexts.numbers result.contexts.lists.items }
+        ensures found { IsReached result.contexts.lists.items result.set.keys result.list.items }
         ensures none { result.list.items ≡ [] }
+        ensures no_lists { result.contexts.lists.items ≡ [] }
     {
         Found {
+            contexts: Contexts::new(alloc),
             set: BTreeSet::new(alloc),
             list: Vec::new(alloc),
         }
@@ -35,50 +53,96 @@ impl Found {
 
     /// Adds a spot that is not found yet.
     fn add(&mut self, spot: Spot) -> Result<(), AllocError>
-        requires { IsReached self.old.set.keys self.old.list.items }
-        ensures found { OnOk result (IsReached self.new.set.keys self.new.list.items) }
-        ensures added { OnOk result (AreAdded (flats self.old.list.items) (flat spot ∷ []) (flats self.new.list.items)) }
+        requires found { IsReached self.old.contexts.lists.items self.old.set.keys self.old.list.items }
+        requires list { spot.context < length self.old.contexts.lists.items }
+        ensures found { OnOk result (IsReached self.new.contexts.lists.items self.new.set.keys self.new.list.items) }
+        ensures added { let lists = self.old.contexts.lists.items in
+            OnOk result (AreAdded (flats lists self.old.list.items) (flat lists spot ∷ []) (flats lists self.new.list.items)) }
+        ensures same { self.new.contexts ≡ self.old.contexts }
     {
-        let same = spot.at(spot.address)?;
         if self.set.insert(spot)? {
-            self.list.push(same)?;
+            self.list.push(spot)?;
         }
         Ok(())
     }
 
-    /// Adds the spots to which a spot leads.
-    fn add_steps(&mut self, steps: Steps) -> Result<(), AllocError>
-        requires { IsReached self.old.set.keys self.old.list.items }
-        ensures found { OnOk result (IsReached self.new.set.keys self.new.list.items) }
-        ensures added { OnOk result (AreAdded (flats self.old.list.items) (flat_steps steps) (flats self.new.list.items)) }
+    /// Adds the spot with these calls under way at an address, if it is not found yet.
+    fn add_away(&mut self, alloc: Global, calls: Context, address: u32) -> Result<(), AllocError>
+        requires numbered { AreNumbered self.old.contexts.numbers self.old.contexts.lists.items }
+        requires few { length self.old.contexts.lists.items < 2 ^ 32 }
+        requires found { IsReached self.old.contexts.lists.items self.old.set.keys self.old.list.items }
+        ensures numbered { OnOk result (AreNumbered self.new.contexts.numbers self.new.contexts.lists.items) }
+        ensures found { OnOk result (IsReached self.new.contexts.lists.items self.new.set.keys self.new.list.items) }
+        ensures added { OnOk result (AreAdded (flats self.old.contexts.lists.items self.old.list.items) (record { context = calls; address = address } ∷ [])
+            (flats self.new.contexts.lists.items self.new.list.items)) }
+        ensures more { OnOk result (HasMore self.old.contexts.lists.items self.new.contexts.lists.items) }
+        ensures count { OnOk result (length self.new.contexts.lists.items ≤ length self.old.contexts.lists.items + 1) }
+    {
+        let context = self.contexts.number(alloc, calls)?;
+        self.add(Spot { context, address })
+    }
+
+    /// Adds the spots to which a spot leads whose calls have this number.
+    fn add_steps(&mut self, alloc: Global, from: u32, steps: Steps) -> Result<(), AllocError>
+        requires numbered { AreNumbered self.old.contexts.numbers self.old.contexts.lists.items }
+        requires few { length self.old.contexts.lists.items < 2 ^ 32 }
+        requires found { IsReached self.old.contexts.lists.items self.old.set.keys self.old.list.items }
+        requires from { from < length self.old.contexts.lists.items }
+        ensures numbered { OnOk result (AreNumbered self.new.contexts.numbers self.new.contexts.lists.items) }
+        ensures found { OnOk result (IsReached self.new.contexts.lists.items self.new.set.keys self.new.list.items) }
+        ensures added { OnOk result (AreAdded (flats self.old.contexts.lists.items self.old.list.items)
+            (flat_steps (slice_index_or self.old.contexts.lists.items from []) steps) (flats self.new.contexts.lists.items self.new.list.items)) }
+        ensures count { OnOk result (length self.new.contexts.lists.items ≤ length self.old.contexts.lists.items + 1) }
     {
         match steps {
-            Steps::Ends => {}
-            Steps::To(spot) => self.add(spot)?,
-            Steps::Either(spot, other) => {
-                self.add(spot)?;
-                self.add(other)?;
+            Steps::Ends => Ok(()),
+            Steps::To(address) => self.add(Spot {
+                context: from,
+                address,
+            }),
+            Steps::Either(address, other) => {
+                self.add(Spot {
+                    context: from,
+                    address,
+                })?;
+                self.add(Spot {
+                    context: from,
+                    address: other,
+                })
             }
+            Steps::Away(calls, address) => self.add_away(alloc, calls, address),
         }
-        Ok(())
     }
 
     /// The spots in the order of numbering.
-    fn ordered(self, alloc: Global) -> Result<Vec<Spot>, AllocError>
-        ensures { IfOk result (λ v. v.items ≡ self.set.keys) }
+    fn ordered(self, alloc: Global) -> Result<Ordered, AllocError>
+        ensures lists { IfOk result (λ o. o.lists.items ≡ self.contexts.lists.items) }
+        ensures same { IfOk result (λ o. IsPermutation self.set.keys o.spots.items) }
+        ensures sorted { IfOk result (λ o. IsSortedBy (λ s t. is_lt (flat_cmp (flat self.contexts.lists.items s) (flat self.contexts.lists.items t))) o.spots.items) }
     {
-        self.set.into_iter().collect(alloc)
+        let set = self.set;
+        let contexts = self.contexts;
+        let lists = contexts.lists;
+        let mut spots: Vec<Spot> = set.into_iter().collect(alloc)?;
+        sort(lists.as_slice(), &mut spots)?;
+        Ok(Ordered { lists, spots })
     }
 }
 
 /// Where a spot leads: nowhere, if it has an error.
-fn steps_from(alloc: Global, code: &CodeMap, entry: u32, spot: &Spot) -> Result<Steps, AllocError>
-    requires { IsNode (flows (word_at code.now.images)) entry (flat spot.now) }
-    ensures { IfOk result (λ s. flat_steps s ≡ successors (flows (word_at code.now.images)) entry (flat spot.now)) }
+fn steps_from(
+    alloc: Global,
+    code: &CodeMap,
+    entry: u32,
+    calls: &[u32],
+    address: u32,
+) -> Result<Steps, AllocError>
+    requires { IsNode (flows (word_at code.now.images)) entry (record { context = calls.now; address = address }) }
+    ensures { IfOk result (λ s. flat_steps calls.now s ≡ successors (flows (word_at code.now.images)) entry (record { context = calls.now; address = address })) }
 {
     code.words_law();
-    match check(code, entry, spot) {
-        Ok(ins) => spot.steps(alloc, way_of(spot.address, &ins)),
+    match check(code, entry, calls, address) {
+        Ok(ins) => steps_of(alloc, calls, address, way_of(address, &ins)),
         Err(_) => Ok(Steps::Ends),
     }
 }
@@ -90,21 +154,27 @@ pub(crate) fn reach(
     code: &CodeMap,
     entry: u32,
     most: usize,
-) -> Result<Vec<Spot>, GraphError>
-    ensures reached { IfOk result (λ v. IsNumbering (flows (word_at code.now.images)) entry (flats v.items)) }
-    ensures few { IfOk result (λ v. length v.items ≤ most) }
+) -> Result<Ordered, GraphError>
+    requires { most ≤ 16384 }
+    ensures reached { IfOk result (λ o. IsNumbering (flows (word_at code.now.images)) entry (flats o.lists.items o.spots.items)) }
+    ensures few { IfOk result (λ o. length o.spots.items ≤ most) }
+    ensures inside { IfOk result (λ o. All (λ s. s.context < length o.lists.items) o.spots.items) }
     ensures too_many { IfErr result (λ e. (e ≡ Memory) ⊎ ((e ≡ TooManyNodes entry) × HasMoreNodes (flows (word_at code.now.images)) entry most)) }
 {
     let mut found = Found::new(alloc);
-    found.add(Spot::first(alloc, entry)?)?;
+    let none = SmallVec::new(alloc);
+    found.add_away(alloc, Context { calls: none }, entry)?;
     let mut place = 0;
     while place < found.list.len() && found.list.len() <= most {
-        let steps = steps_from(alloc, code, entry, &found.list[place])?;
-        found.add_steps(steps)?;
+        let spot = found.list[place];
+        let calls = calls_of(found.contexts.lists.as_slice(), spot.context);
+        let steps = steps_from(alloc, code, entry, calls, spot.address)?;
+        found.add_steps(alloc, spot.context, steps)?;
         place += 1;
     }
-    if found.list.len() > most {
+    let ordered = found.ordered(alloc)?;
+    if ordered.spots.len() > most {
         return Err(GraphError::TooManyNodes(entry));
     }
-    Ok(found.ordered(alloc)?)
+    Ok(ordered)
 }

@@ -6,7 +6,6 @@ ghost use Rattle.flat_graph.specs.Built.{AreStands};
 ghost use Rattle.flat_graph.specs.CodeGraph.{IsCodeGraph};
 ghost use Rattle.flat_graph.specs.Refusals.{IsRefused};
 
-use crate::contexts::shared_contexts;
 use crate::fault::GraphError;
 use crate::graph::{Graph, Stand};
 use crate::leaders::leaders;
@@ -17,25 +16,23 @@ use code_map::CodeMap;
 use crpd_base::{Items, MOST_NODES, Task};
 use std::alloc::{AllocError, Global};
 
-/// The nodes of the spots, with the numbers of their contexts, their lines, and whether they are leaders.
+/// The nodes of the spots, with their lines, and whether they are leaders.
 fn stands(
     alloc: Global,
     spots: &[Spot],
-    contexts: &[u32],
     lines: &[Line],
     leaders: &[bool],
 ) -> Result<Vec<Stand>, AllocError>
-    requires contexts { length contexts.now ≡ length spots.now }
     requires lines { length lines.now ≡ length spots.now }
     requires leaders { length leaders.now ≡ length spots.now }
     ensures count { IfOk result (λ v. length v.items ≡ length spots.now) }
-    ensures stands { IfOk result (λ v. AreStands spots.now contexts.now lines.now leaders.now v.items) }
+    ensures stands { IfOk result (λ v. AreStands spots.now lines.now leaders.now v.items) }
 {
     let mut stands = Vec::new(alloc);
     for (place, spot) in spots.iter().enumerate() {
         let line = lines[place];
         stands.push(Stand {
-            context: contexts[place],
+            context: spot.context,
             address: spot.address,
             ins: line.ins,
             next: line.next,
@@ -53,8 +50,9 @@ fn stands(
 /// `Undecodable`, `Breakpoint`, `IndirectJump`, `OtherLink`, `Recursive`, `TooDeep`. Addresses are in bytes. `Memory`
 /// may come in place of any answer.
 ///
-/// Time is n log n in the nodes, each comparison over at most 16 calls; besides the graph, each node is kept once more
-/// while the graph is built. A list of calls is kept once for all nodes of it.
+/// Time is n log n in the nodes, each step of it a comparison of two numbers; lists of at most 16 calls are compared only
+/// at calls and returns, and to put the lists in order. Besides the graph, each node is kept twice more while the graph is
+/// built. A list of calls is kept once for all nodes of it.
 ///
 /// Source: RISC-V unprivileged manual (JAL, JALR and the return-address register x1 of the standard calling convention).
 pub fn build(alloc: Global, code: &CodeMap, task: Task) -> Result<Graph, GraphError>
@@ -73,14 +71,15 @@ fn graph_from(alloc: Global, code: &CodeMap, entry: u32) -> Result<Graph, GraphE
     ensures refused { IfErr result (IsRefused (flows (word_at code.now.images)) entry) }
 {
     code.words_law();
-    let spots = reach(alloc, code, entry, MOST_NODES)?;
-    let lines = lines(alloc, code, entry, &spots)?;
-    let first = number_of(&spots, &Spot::first(alloc, entry)?);
+    let ordered = reach(alloc, code, entry, MOST_NODES)?;
+    let lists = ordered.lists;
+    let spots = ordered.spots;
+    let lines = lines(alloc, code, entry, &lists, &spots)?;
+    let first = number_of(&lists, &spots, &[], entry);
     let leaders = leaders(alloc, &lines, first)?;
-    let contexts = shared_contexts(alloc, &spots)?;
-    let stands = stands(alloc, &spots, &contexts.numbers, &lines, &leaders)?;
+    let stands = stands(alloc, &spots, &lines, &leaders)?;
     Ok(Graph {
-        contexts: Items::new(contexts.lists),
+        contexts: Items::new(lists),
         nodes: Items::new(stands),
         first,
     })

@@ -7,5 +7,5 @@ use Rattle.flat_graph.proofs.lines.lines.Given as goal
 abbrev pub invariant-loop-spot : goal.invariant-loop-spot
 invariant-loop-spot l = record {
   count : length l.lines.items ≡ l.spot-index;
-  lines : AreLines (word_at l.code.images) l.entry (flats l.spots) l.lines.items;
+  lines : AreLines (word_at l.code.images) l.entry (flats l.lists l.spots) l.lines.items;
 }

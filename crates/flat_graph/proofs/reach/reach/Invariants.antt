@@ -1,15 +1,17 @@
-use Rattle.std.proofs.Common.{◌≤◌, ◌-◌, length}
+use Rattle.std.proofs.Common.{◌≤◌, ◌+◌, ◌-◌, length}
 use Rattle.code_map.specs.Words.{word_at}
 use Rattle.rv_decode.specs.Flow.{flows}
-use Rattle.flat_graph.specs.Reach.{IsReached, IsExplored}
+use Rattle.flat_graph.specs.Reach.{AreNumbered, IsReached, IsExplored}
 use Rattle.flat_graph.specs.Spots.{flats}
 use Rattle.flat_graph.proofs.reach.reach.Given as goal
 
 abbrev pub invariant-loop-place : goal.invariant-loop-place
 invariant-loop-place l = record {
-  found : IsReached l.found.set.keys l.found.list.items;
-  explored : IsExplored (flows (word_at l.code.images)) l.entry l.place (flats l.found.list.items);
+  numbered : AreNumbered l.found.contexts.numbers l.found.contexts.lists.items;
+  found : IsReached l.found.contexts.lists.items l.found.set.keys l.found.list.items;
+  explored : IsExplored (flows (word_at l.code.images)) l.entry l.place (flats l.found.contexts.lists.items l.found.list.items);
   within : l.place ≤ length l.found.list.items;
+  lists : length l.found.contexts.lists.items ≤ l.place + 1;
 }
 
 abbrev pub decreases-loop-place : goal.decreases-loop-place

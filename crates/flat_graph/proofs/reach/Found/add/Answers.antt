@@ -1,11 +1,9 @@
-use Rattle.std.proofs.Common.{refl, sym, ap, ◌∙◌, ◌+◌, false, not, true, ◌≡◌, Bool, Contains, subst, length, cond}
+use Rattle.std.proofs.Common.{refl, sym, ap, ◌∙◌, ◌+◌, false, not, true, ◌≡◌, Bool, subst, length, cond}
 use Rattle.std.specs.BTreeSet.{insert_key}
 use Rattle.std.specs.List.Sorted.{IsStrictlySortedBy}
 use Rattle.flat_graph.specs.contracts.spots.SpotOrd.TheImpl as order
 use Rattle.flat_graph.specs.Reach.{IsReached}
-use Rattle.flat_graph.specs.Spots.{flat, flats}
-use Rattle.flat_graph.proofs.Members.{in_one}
-use Rattle.flat_graph.proofs.Found.{reached_more, added_none, found_flat}
+use Rattle.flat_graph.proofs.Found.{reached_more, added_one, added_there, found_spot}
 use Rattle.flat_graph.proofs.reach.Found.add.Goals as goal
 
 not_not : (b : Bool) → not b ≡ false → b ≡ true
@@ -14,15 +12,19 @@ not_not false h = cc
 
 pub returns-in_ok-push-clause-found : goal.returns-in_ok-push-clause-found
 returns-in_ok-push-clause-found c =
-    subst (λ ks. IsReached ks c.push.new.self.items) (sym c.in_ok-insert.ensures.keys)
-    (subst (λ l. IsReached (insert_key order.cmp-value.it c.args.self.now.set.keys c.args.spot) l) (sym c.in_ok-push.ensures.items)
-    (reached_more order.cmp-value.it (λ s t. refl) c.args.self.now.set.keys c.args.self.now.list.items c.args.spot c.in_ok-same.same
-    c.requires
+    let lists = c.args.self.now.contexts.lists.items in
+    subst (λ ks. IsReached lists ks c.push.new.self.items) (sym c.in_ok-insert.ensures.keys)
+    (subst (λ l. IsReached lists (insert_key order.cmp-value.it c.args.self.now.set.keys c.args.spot) l) (sym c.in_ok-push.ensures.items)
+    (reached_more order.cmp-value.it (λ s t. refl) lists c.args.self.now.set.keys c.args.self.now.list.items c.args.spot c.requires.found
     (subst (IsStrictlySortedBy order.cmp-value.it) c.in_ok-insert.ensures.keys c.in_ok-insert.ensures.ordered)
     (sym (ap length c.in_ok-insert.ensures.keys) ∙ c.in_ok-insert.ensures.len ∙ ap (λ b. length c.args.self.now.set.keys + cond b 1 0) c.if-branch.true)
-    c.in_ok-same.ensures))
+    c.requires.list))
+
+pub returns-in_ok-push-clause-added : goal.returns-in_ok-push-clause-added
+returns-in_ok-push-clause-added c =
+    added_one c.args.self.now.contexts.lists.items c.args.self.now.list.items c.push.new.self.items c.args.spot c.in_ok-push.ensures.items
 
 pub returns-else-branch-clause-added : goal.returns-else-branch-clause-added
 returns-else-branch-clause-added c =
-    let there = found_flat order.cmp-value.it (λ s t. refl) c.args.self.now.set.keys c.args.spot (not_not _ (sym c.in_ok-insert.ensures.added ∙ c.if-branch.false)) in
-    added_none (flats c.args.self.now.list.items) _ (λ n m. subst (Contains _) (in_one n _ m) ((c.requires.same (flat c.args.spot)).0 there))
+    let there = found_spot order.cmp-value.it (λ s t. refl) c.args.self.now.set.keys c.args.spot (not_not _ (sym c.in_ok-insert.ensures.added ∙ c.if-branch.false)) in
+    added_there c.args.self.now.contexts.lists.items c.args.self.now.list.items c.args.spot ((c.requires.found.same c.args.spot).0 there)

@@ -1,10 +1,34 @@
-use Rattle.std.proofs.Common.{sym, subst}
-use Rattle.flat_graph.specs.Reach.{AreAdded}
-use Rattle.flat_graph.specs.Spots.{flats, flat_steps}
-use Rattle.flat_graph.proofs.Found.{added_then}
+use Rattle.std.proofs.Common.{◌∙◌, sym, subst, [], ◌∷◌}
+use Rattle.std.specs.Prelude.{slice_index_or}
+use Rattle.flat_graph.specs.Reach.{AreNumbered, AreAdded}
+use Rattle.flat_graph.specs.Spots.{flat, flats, flat_steps}
+use Rattle.flat_graph.specs.declared.contexts.Contexts.{Contexts}
+use Rattle.flat_graph.specs.declared.spots.Spot.{Spot}
+use Rattle.flat_graph.proofs.Found.{added_then, on_ok, on_ok_map}
 use Rattle.flat_graph.proofs.reach.Found.add_steps.Goals as goal
 
-pub returns-in_ok-add-in-Either-2-clause-added : goal.returns-in_ok-add-in-Either-2-clause-added
-returns-in_ok-add-in-Either-2-clause-added c =
-    subst (λ s. AreAdded (flats c.args.self.now.list.items) (flat_steps s) (flats c.add-in-Either-2.new.self.list.items)) (sym c.in-Either.is)
-    (added_then _ (flats c.add-in-Either.new.self.list.items) _ _ _ c.in_ok-add-in-Either.ensures.added c.in_ok-add-in-Either-2.ensures.added)
+pub returns-in-To-clause-numbered : goal.returns-in-To-clause-numbered
+returns-in-To-clause-numbered c =
+    on_ok c.add.result _ (subst (λ (x : Contexts). AreNumbered x.numbers x.lists.items) (sym c.add.ensures.same) c.requires.numbered)
+
+pub returns-in_ok-add-in-Either-clause-numbered : goal.returns-in_ok-add-in-Either-clause-numbered
+returns-in_ok-add-in-Either-clause-numbered c =
+    on_ok c.add-in-Either-2.result _
+    (subst (λ (x : Contexts). AreNumbered x.numbers x.lists.items) (sym (c.add-in-Either-2.ensures.same ∙ c.in_ok-add-in-Either.ensures.same)) c.requires.numbered)
+
+pub returns-in_ok-add-in-Either-clause-added : goal.returns-in_ok-add-in-Either-clause-added
+returns-in_ok-add-in-Either-clause-added c =
+    let lists = c.args.self.now.contexts.lists.items in
+    let old = c.args.self.now.list.items in
+    let mid = c.add-in-Either.new.self.list.items in
+    let new = c.add-in-Either-2.new.self.list.items in
+    let calls = slice_index_or lists c.args.from [] in
+    let s : Spot = record { context = c.args.from; address = c.in-Either.address } in
+    let t : Spot = record { context = c.args.from; address = c.in-Either.other } in
+    on_ok_map c.add-in-Either-2.result _ _
+    (λ a.
+    subst (λ steps. AreAdded (flats lists old) (flat_steps calls steps) (flats c.add-in-Either-2.new.self.contexts.lists.items new)) (sym c.in-Either.is)
+    (subst (λ (x : Contexts). AreAdded (flats lists old) (flat lists s ∷ flat lists t ∷ []) (flats x.lists.items new)) (sym (c.add-in-Either-2.ensures.same ∙ c.in_ok-add-in-Either.ensures.same))
+    (added_then (flats lists old) (flats lists mid) (flats lists new) (flat lists s) (flat lists t) c.in_ok-add-in-Either.ensures.added
+    (subst (λ (x : Contexts). AreAdded (flats x.lists.items mid) (flat x.lists.items t ∷ []) (flats x.lists.items new)) c.in_ok-add-in-Either.ensures.same a))))
+    c.add-in-Either-2.ensures.added

@@ -1,0 +1,147 @@
+-- The spots of a set in the order of numbering.
+use Rattle.std.proofs.Common.{◌≡◌, ℕ, ◌<◌, ◌≤◌, Bool, false, List, length, Contains, get_or, refl, sym, ap, ◌∙◌, subst, ⊎_elim, arith, All, AllPairs}
+use Rattle.std.proofs.lemmas.Bool.{cases_eq, cases_order, false≢true}
+use Rattle.std.proofs.lemmas.List.{length-map, get_or-map}
+use Rattle.std.proofs.lemmas.List.Edits.{Swapped, swapped_from_swap, length-swap}
+use Rattle.std.proofs.lemmas.List.Elements.{Contains-get_or}
+use Rattle.std.proofs.lemmas.List.Sorted.{IsPermutation-keeps, IsPermutation-sym, Contains-permutation, length_permutation, ranks_by, sorted_far}
+use Rattle.std.specs.declared.cmp.Ordering.{Ordering}
+use Rattle.std.specs.declared.cmp.Ordering.TheVariants.{Less, Equal, Greater}
+use Rattle.std.specs.Ordering.{is_lt, ordering_reverse}
+use Rattle.std.specs.List.{swap}
+use Rattle.std.specs.List.Sorted.{IsPermutation, IsSortedBy}
+use Rattle.std.specs.BTreeMap.{BTreeMap}
+use Rattle.rv_decode.specs.Flow.{Flows}
+use Rattle.flat_graph.specs.Compared.{flat_cmp}
+use Rattle.flat_graph.specs.FlatGraph.{FlatNode, IsBefore, IsNode, IsNumbering, HasMoreNodes}
+use Rattle.flat_graph.specs.Reach.{AreNumbered, IsReached, IsExplored}
+use Rattle.flat_graph.specs.Spots.{flat, flats}
+use Rattle.flat_graph.specs.declared.spots.Spot.{Spot}
+use Rattle.flat_graph.proofs.Numbered.{contains_map, contains_mapped}
+use Rattle.flat_graph.proofs.Order.{flat_less, flat_equal, flat_order}
+use Rattle.flat_graph.proofs.Explored.{explored_all}
+use Rattle.flat_graph.proofs.Listed.{one_spot}
+
+-- no spot stands at two places
+abbrev Apart : List Spot → Type 0
+Apart l = (i j : ℕ) (d : Spot) → i < length l → j < length l → (i ≡ j → ⊥) → get_or l i d ≡ get_or l j d → ⊥
+
+apart_pairs : (l : List Spot) → AllPairs (λ s t. s ≡ t → ⊥) l → Apart l
+apart_pairs l h i j d i_lt j_lt ne e =
+    ⊎_elim
+    (λ same. ne same)
+    (λ o. ⊎_elim (λ lt. h i j d lt j_lt e) (λ gt. h j i d gt i_lt (sym e)) o)
+    (cases_order i j)
+
+swapped : (l : List Spot) (a b : ℕ) → a < length l → b < length l → Apart l → Apart (swap l a b)
+swapped l a b a_lt b_lt H i j d i_lt j_lt ne e =
+    ⊎_elim
+    (λ ia. ⊎_elim
+    (λ ja. ne (ia ∙ sym ja))
+    (λ nja. ⊎_elim
+    (λ jb. H b a d b_lt a_lt (λ h. nja (jb ∙ h)) (sym (at_a i ia) ∙ e ∙ at_b j jb))
+    (λ njb. H b j d b_lt jl (λ h. njb (sym h)) (sym (at_a i ia) ∙ e ∙ s.2 j nja njb))
+    (cases_eq j b))
+    (cases_eq j a))
+    (λ nia. ⊎_elim
+    (λ ib. ⊎_elim
+    (λ ja. H a b d a_lt b_lt (λ h. nia (ib ∙ sym h)) (sym (at_b i ib) ∙ e ∙ at_a j ja))
+    (λ nja. ⊎_elim
+    (λ jb. ne (ib ∙ sym jb))
+    (λ njb. H a j d a_lt jl (λ h. nja (sym h)) (sym (at_b i ib) ∙ e ∙ s.2 j nja njb))
+    (cases_eq j b))
+    (cases_eq j a))
+    (λ nib. ⊎_elim
+    (λ ja. H i b d il b_lt nib (sym (s.2 i nia nib) ∙ e ∙ at_a j ja))
+    (λ nja. ⊎_elim
+    (λ jb. H i a d il a_lt nia (sym (s.2 i nia nib) ∙ e ∙ at_b j jb))
+    (λ njb. H i j d il jl ne (sym (s.2 i nia nib) ∙ e ∙ s.2 j nja njb))
+    (cases_eq j b))
+    (cases_eq j a))
+    (cases_eq i b))
+    (cases_eq i a)
+  where
+    il : i < length l
+    il = subst (λ n. i < n) (length-swap l a b) i_lt
+
+    jl : j < length l
+    jl = subst (λ n. j < n) (length-swap l a b) j_lt
+
+    s : Swapped (λ m. get_or l m d) (λ m. get_or (swap l a b) m d) a b
+    s = swapped_from_swap l (swap l a b) a b d a_lt b_lt refl
+
+    at_a : (m : ℕ) → m ≡ a → get_or (swap l a b) m d ≡ get_or l b d
+    at_a m h = ap (λ k. get_or (swap l a b) k d) h ∙ s.0
+
+    at_b : (m : ℕ) → m ≡ b → get_or (swap l a b) m d ≡ get_or l a d
+    at_b m h = ap (λ k. get_or (swap l a b) k d) h ∙ s.1
+
+moved : (xs ys : List Spot) → AllPairs (λ s t. s ≡ t → ⊥) xs → IsPermutation xs ys → Apart ys
+moved xs ys h p = IsPermutation-keeps xs Apart (apart_pairs xs h) swapped ys p
+
+abbrev below : List (List ℕ) → Spot → Spot → Bool
+below lists s t = is_lt (flat_cmp (flat lists s) (flat lists t))
+
+not_below : (o : Ordering) (n m : FlatNode) → flat_cmp m n ≡ o → is_lt o ≡ false → (n ≡ m → ⊥) → IsBefore n m
+not_below Less n m e h ne = absurd (false≢true (sym h))
+not_below Equal n m e h ne = absurd (ne (sym (flat_equal m n e)))
+not_below Greater n m e h ne = flat_less n m (flat_order.antisymm n m ∙ ap ordering_reverse e)
+
+module _ (m : BTreeMap (List ℕ) ℕ) (lists : List (List ℕ)) (set list spots : List Spot) (N : AreNumbered m lists) (R : IsReached lists set list)
+    (P : IsPermutation set spots) (sorted : IsSortedBy (below lists) spots) where
+  inside_of : (s : Spot) → Contains list s → s.context < length lists
+  inside_of s (k, lt, e) = subst (λ (t : Spot). t.context < length lists) e (R.inside k s lt)
+
+  into : (s : Spot) → Contains list s → Contains spots s
+  into s c = Contains-permutation set spots s P ((R.same s).1 c)
+
+  from : (s : Spot) → Contains spots s → Contains list s
+  from s c = (R.same s).0 (Contains-permutation spots set s (IsPermutation-sym set spots P) c)
+
+  pub count : length spots ≡ length list
+  count = length_permutation set spots P ∙ R.count
+
+  -- each spot has a list of calls
+  pub inside : All (λ s. s.context < length lists) spots
+  inside k d lt = inside_of _ (from _ (Contains-get_or spots k d lt))
+
+  before : (i j : ℕ) (d : Spot) → i < j → j < length spots → IsBefore (flat lists (get_or spots i d)) (flat lists (get_or spots j d))
+  before i j d lt within =
+      let s = get_or spots i d in
+      let t = get_or spots j d in
+      not_below (flat_cmp (flat lists t) (flat lists s)) (flat lists s) (flat lists t) refl
+      (sorted_far (below lists) (ranks_by flat_order (flat lists)) spots sorted i j d (omega arith) within)
+      (λ e. moved set spots R.apart P i j d (omega arith) within (λ h. absurd (omega arith)) (one_spot m lists N s t (inside i d (omega arith)) (inside j d within) e))
+
+  ordered : AllPairs IsBefore (flats lists spots)
+  ordered i j d lt within =
+      let e : Spot = record { context = 0; address = 0 } in
+      let j_lt : j < length spots = subst (λ l. j < l) (length-map spots (flat lists)) within in
+      subst (λ n. IsBefore n (get_or (flats lists spots) j d)) (sym (get_or-map (flat lists) spots i e d (omega arith)))
+      (subst (λ n. IsBefore (flat lists (get_or spots i e)) n) (sym (get_or-map (flat lists) spots j e d j_lt))
+      (before i j e lt j_lt))
+
+  into_nodes : (n : FlatNode) → Contains (flats lists list) n → Contains (flats lists spots) n
+  into_nodes n c =
+      let s = contains_mapped (flat lists) list n c in
+      subst (Contains (flats lists spots)) s.2 (contains_map (flat lists) spots s.0 (into s.0 s.1))
+
+  from_nodes : (n : FlatNode) → Contains (flats lists spots) n → Contains (flats lists list) n
+  from_nodes n c =
+      let s = contains_mapped (flat lists) spots n c in
+      subst (Contains (flats lists list)) s.2 (contains_map (flat lists) list s.0 (from s.0 s.1))
+
+  pub numbered_spots : (code : Flows) (entry place : ℕ) → IsExplored code entry place (flats lists list) → length list ≤ place → IsNumbering code entry (flats lists spots)
+  numbered_spots code entry place E le = record {
+    ordered = ordered;
+    all = λ n. (
+      λ h. into_nodes n (explored_all code entry place (flats lists list) E (subst (λ l. l ≤ place) (sym (length-map list (flat lists))) le) n h),
+      λ c. E.all n (from_nodes n c),
+    );
+  }
+
+  pub more_spots : (code : Flows) (entry place limit : ℕ) → IsExplored code entry place (flats lists list) → limit < length spots → HasMoreNodes code entry limit
+  more_spots code entry place limit E lt = (flats lists spots, ordered, all_nodes, subst (λ l. limit < l) (sym (length-map spots (flat lists))) lt)
+    where
+      all_nodes : All (IsNode code entry) (flats lists spots)
+      all_nodes k d within = E.all _ (from_nodes _ (Contains-get_or (flats lists spots) k d within))

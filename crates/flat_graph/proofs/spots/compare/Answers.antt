@@ -1,0 +1,13 @@
+use Rattle.std.proofs.Common.{◌∙◌, sym, ap}
+use Rattle.std.specs.Prelude.{slice_index_or, []}
+use Rattle.std.specs.Ordering.{nat_cmp, ordering_then}
+use Rattle.flat_graph.specs.Compared.{list_cmp}
+use Rattle.flat_graph.proofs.Order.{list_same}
+use Rattle.flat_graph.proofs.spots.compare.Goals as goal
+
+pub returns-then-spot-other : goal.returns-then-spot-other
+returns-then-spot-other c =
+    let calls = slice_index_or c.args.lists.now c.args.spot.now.context [] in
+    c.cmp.ensures
+    ∙ ap (λ o. ordering_then o (nat_cmp c.args.spot.now.address c.args.other.now.address))
+    (sym (list_same calls) ∙ ap (λ k. list_cmp calls (slice_index_or c.args.lists.now k [])) c.if-spot-other.true)
