@@ -1,12 +1,12 @@
 -- What loops over blocks, bytes, segments and files have put so far.
-use Rattle.std.proofs.Common.{◌≡◌, ℕ, suc, ◌+◌, ◌<◌, List, [], ◌∷◌, ◌++◌, length, take, None, refl, sym, ◌∙◌, ap, arith, get_or}
+use Rattle.std.proofs.Common.{◌≡◌, ℕ, ◌+◌, ◌<◌, List, [], ◌∷◌, ◌++◌, length, take, None, refl, sym, ◌∙◌, ap, arith, get_or}
 use Rattle.std.specs.Prelude.{replicate}
-use Rattle.std.proofs.lemmas.List.{ext_get_or, get_or-replicate, length-replicate, length-take, take_more}
+use Rattle.std.proofs.lemmas.List.{ext_get_or, get_or-replicate, length-replicate, take_more}
 use Rattle.crpd_base.specs.declared.data.Image.{Image}
 use Rattle.crpd_base.specs.declared.data.Platform.{Platform}
 use Rattle.crpd_base.specs.declared.data.Segment.{Segment}
 use Rattle.icache.specs.Cache.{Cache, accessed, held}
-use Rattle.rv_core.specs.Memory.{Memory, put_byte}
+use Rattle.rv_core.specs.Memory.{Memory, put_all, put_byte}
 use Rattle.preempt_machine.specs.Starts.{with_blocks, with_bytes, with_images, with_segment, with_segments}
 
 -- one more at the end
@@ -14,11 +14,10 @@ blocks_more : (p : Platform) (cache : Cache) (xs : List ℕ) (b : ℕ) → with_
 blocks_more p cache [] b = refl
 blocks_more p cache (x ∷ xs) b = blocks_more p (accessed p cache x) xs b
 
-bytes_more : (memory : Memory) (a : ℕ) (xs : List ℕ) (b : ℕ) → with_bytes memory a (xs ++ b ∷ []) ≡ put_byte (with_bytes memory a xs) (a + length xs) b
-bytes_more memory a [] b = let e : a ≡ a + 0 = omega arith in ap (λ n. put_byte memory n b) e
-bytes_more memory a (x ∷ xs) b =
-    let e : a + 1 + length xs ≡ a + suc (length xs) = omega arith in
-    bytes_more (put_byte memory a x) (a + 1) xs b ∙ ap (λ n. put_byte (with_bytes (put_byte memory a x) (a + 1) xs) n b) e
+-- the bytes of a segment
+pub bytes_are : (memory : Memory) (a : ℕ) (bytes : List ℕ) → put_all memory a bytes ≡ with_bytes memory a bytes
+bytes_are memory a [] = refl
+bytes_are memory a (b ∷ bytes) = bytes_are (put_byte memory a b) (a + 1) bytes
 
 segments_more : (memory : Memory) (xs : List Segment) (s : Segment) → with_segments memory (xs ++ s ∷ []) ≡ with_segment (with_segments memory xs) s
 segments_more memory [] s = refl
@@ -31,11 +30,6 @@ images_more memory (x ∷ xs) i = images_more (with_segments memory x.segments) 
 -- up to one more
 pub next_block : (p : Platform) (cache : Cache) (xs : List ℕ) (i : ℕ) → i < length xs → with_blocks p cache (take (i + 1) xs) ≡ accessed p (with_blocks p cache (take i xs)) (get_or xs i 0)
 next_block p cache xs i h = ap (with_blocks p cache) (take_more xs i 0 h) ∙ blocks_more p cache (take i xs) (get_or xs i 0)
-
-pub next_byte : (memory : Memory) (a : ℕ) (xs : List ℕ) (i : ℕ) → i < length xs → with_bytes memory a (take (i + 1) xs) ≡ put_byte (with_bytes memory a (take i xs)) (a + i) (get_or xs i 0)
-next_byte memory a xs i h =
-    let e : a + length (take i xs) ≡ a + i = omega (arith, length-take i xs) in
-    ap (with_bytes memory a) (take_more xs i 0 h) ∙ bytes_more memory a (take i xs) (get_or xs i 0) ∙ ap (λ n. put_byte (with_bytes memory a (take i xs)) n (get_or xs i 0)) e
 
 pub next_segment : (memory : Memory) (xs : List Segment) (i : ℕ) (d : Segment) → i < length xs → with_segments memory (take (i + 1) xs) ≡ with_segment (with_segments memory (take i xs)) (get_or xs i d)
 next_segment memory xs i d h = ap (with_segments memory) (take_more xs i d h) ∙ segments_more memory (take i xs) (get_or xs i d)

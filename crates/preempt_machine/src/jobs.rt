@@ -153,6 +153,7 @@ impl Job {
 
     /// Where an instruction at its pc sends it. The fields are in range.
     /// In constant time.
+    #[inline(always)]
     pub fn next(&self, ins: &Ins) -> Next
         requires { IsInRange ins.now }
         ensures { result ≡ next_pc ins.now self.now.pc self.now.registers }
@@ -219,6 +220,7 @@ impl Job {
     /// The effect of its instruction, which ends at a time, and after which it goes on at an address. Its watch stays as it
     /// is, so the caller has to know that the watch's step leaves it so. After an error all is as before. Memory is wanted
     /// by a store alone.
+    #[inline(always)]
     pub fn go_on(
         &mut self,
         memory: &mut DataMemory,

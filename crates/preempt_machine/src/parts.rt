@@ -4,6 +4,7 @@ ghost use Rattle.code_map.specs.Words.{Code};
 ghost use Rattle.preempt_machine.specs.Machine.{System, Open, job_at};
 ghost use Rattle.preempt_machine.specs.Step.{candidate, keeps_core, turn_of};
 ghost use Rattle.preempt_machine.specs.Running.{system_by, GivesStore, HasPlan, HasPlans, IsStoreNow};
+ghost use Rattle.preempt_machine.specs.Flags.{owner_is_kept, ChangesOwner};
 ghost use Rattle.preempt_machine.specs.Kept.{machine_of, owner_keeps, place_at, running_of, HasMade, HasPassed, HasSettled, HasStepped, HasTurned, IsHead, IsMachine, IsSame, NoneIsReady};
 
 use crate::jobs::{Core, Job};
@@ -60,6 +61,17 @@ impl Parts {
         match self.owner {
             Some(owner) => self.keeps_core(owner),
             None => false,
+        }
+    }
+
+    /// Whether the watch of the owner is not broken, where there is an owner.
+    pub(crate) fn owner_is_kept(&self) -> bool
+        requires { (o : ℕ) → self.now.owner ≡ Some o → o < length self.now.jobs.items }
+        ensures { result ≡ owner_is_kept (machine_of self.now) }
+    {
+        match self.owner {
+            Some(owner) => !self.jobs[owner].watch().broken(),
+            None => true,
         }
     }
 
@@ -207,6 +219,7 @@ impl Parts {
         ensures ok { OnOk result (HasMade code.now until (running_of self.old) (running_of self.new)) }
         ensures machine { OnOk result (IsMachine self.new) }
         ensures plans { OnOk result (HasPlans code.now (machine_of self.new)) }
+        ensures owner { OnOk result (ChangesOwner (machine_of self.old) (machine_of self.new)) }
         ensures err { OnErr result (IsSame self.old self.new) }
         ensures only { OnErr result (GivesStore (system_by self.old.core.geometry.platform code.now) (machine_of self.old)) }
     {

@@ -27,6 +27,7 @@ use std::marker::Model;
 #[derive(Drop)]
 pub struct Machine {
     parts: Parts,
+    kept: bool,
 }
 
 impl Model for Machine {
@@ -34,11 +35,12 @@ impl Model for Machine {
 
     ghost Value = { Running };
 
-    ghost use Rattle.preempt_machine.specs.Kept.{running_of, IsMachine};
+    ghost use Rattle.preempt_machine.specs.Kept.{running_of};
+    ghost use Rattle.preempt_machine.specs.Flags.{IsFlagged};
 
     ghost view = { λ m. running_of m.parts };
 
-    ghost invariant = { λ m. IsMachine m.parts };
+    ghost invariant = { λ m. IsFlagged m.parts m.kept };
 }
 
 /// Adds an item to a list.
@@ -171,6 +173,7 @@ impl Machine {
         let queue = Queue::new(alloc, lines, tasks)?;
         let decoded = Decoded::new(alloc)?;
         let geometry = Geometry::new(&set.platform);
+        let kept = are_kept(jobs.as_slice());
         let parts = Parts {
             core: Core {
                 geometry,
@@ -186,7 +189,7 @@ impl Machine {
             queue,
             fetch: None,
         };
-        Ok(Machine { parts })
+        Ok(Machine { parts, kept })
     }
 
     /// The machine at the start of a script: from the script's cache and the bytes of the files.
@@ -222,7 +225,9 @@ impl Machine {
         ensures err { OnErr result (self.new ≡ self.old) }
         ensures only { OnErr result (GivesStore (system_by self.old.platform code.now) self.old.state) }
     {
-        self.parts.advance(code, cycle)
+        self.parts.advance(code, cycle)?;
+        self.kept = self.kept && self.parts.owner_is_kept();
+        Ok(())
     }
 
     /// One step: the next cycle. Fewer than 2^64 - 1 steps were made, and each job's task has a plan with as many
@@ -277,11 +282,12 @@ impl Machine {
         self.parts.completions.as_slice()
     }
 
-    /// Whether no watch is broken, by a look at each job.
+    /// Whether no watch is broken.
+    /// In constant time.
     pub fn kept(&self) -> bool
         ensures { IsTrue result ↔ IsKept self.now.state }
     {
-        are_kept(self.parts.jobs.as_slice())
+        self.kept
     }
 
     /// The owner of the core, None before the first turn of a job.
@@ -293,6 +299,14 @@ impl Machine {
             Some(place) => Some(self.parts.completions[place].job),
             None => None,
         }
+    }
+
+    /// The place in the script of the owner of the core, None before the first turn of a job.
+    /// In constant time.
+    pub fn owner_place(&self) -> Option<usize>
+        ensures { result ≡ self.now.state.owner }
+    {
+        self.parts.owner
     }
 
     /// The place of a job in the script.

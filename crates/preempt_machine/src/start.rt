@@ -1,6 +1,6 @@
 // The cache and the data memory that a script starts from.
 ghost use Rattle.std.specs.Prelude.{◌≡◌, ◌+◌, ◌<◌, ◌≤◌, ◌^◌, length, All, IfOk, OnOk};
-ghost use Rattle.preempt_machine.specs.Starts.{start_cache, start_memory, with_blocks, with_bytes, with_segment, with_segments};
+ghost use Rattle.preempt_machine.specs.Starts.{start_cache, start_memory, with_blocks, with_segment, with_segments};
 
 use code_map::CodeMap;
 use crpd_base::{Memory, SETS, Script, Segment, TaskSet};
@@ -25,17 +25,6 @@ pub fn start_cache(set: &TaskSet, script: &Script) -> Cache<SETS>
     cache
 }
 
-/// Puts bytes into the memory from an address on.
-fn put_bytes(memory: &mut DataMemory, address: u32, bytes: &[u8]) -> Result<(), Memory>
-    requires { address + length bytes.now ≤ 2 ^ 32 }
-    ensures { OnOk result (memory.new ≡ with_bytes memory.old address bytes.now) }
-{
-    for i in 0..bytes.len() {
-        memory.put((address as u64 + i as u64) as u32, bytes[i])?;
-    }
-    Ok(())
-}
-
 /// Puts a segment into the memory: its bytes of the file, and 0 at its addresses after them.
 fn put_segment(memory: &mut DataMemory, segment: &Segment) -> Result<(), Memory>
     requires below { segment.now.address + segment.now.size ≤ 2 ^ 32 }
@@ -43,7 +32,7 @@ fn put_segment(memory: &mut DataMemory, segment: &Segment) -> Result<(), Memory>
     ensures { OnOk result (memory.new ≡ with_segment memory.old segment.now) }
 {
     memory.clear(segment.address, segment.size);
-    put_bytes(memory, segment.address, segment.bytes.as_slice())
+    memory.put_all(segment.address, segment.bytes.as_slice())
 }
 
 /// Puts the segments of a file into the memory.
@@ -61,8 +50,8 @@ fn put_segments(memory: &mut DataMemory, segments: &[Segment]) -> Result<(), Mem
 /// The data memory at the start of a script: the bytes of the segments of all tasks' files, in the order of the tasks, a
 /// later file over an earlier one; a segment's addresses past its bytes of the file hold 0, and so do all others.
 ///
-/// Time is n log n in the bytes of all segments, besides a walk over the stored pages for each segment. Want of memory
-/// is the only error.
+/// Time is that of a walk over the bytes of all segments, with one look-up for each 64 of them that is logarithmic in
+/// the stored pages, besides a walk over the stored pages for each segment. Want of memory is the only error.
 ///
 /// Source: Tool Interface Standard, Executable and Linking Format, version 1.2, book I (p_filesz, p_memsz).
 pub fn start_memory(alloc: Global, code: &CodeMap) -> Result<DataMemory, Memory>

@@ -50,3 +50,8 @@ written (suc n) page at value = written n (slice_set page at (value % 2 ^ 8)) (a
 -- the little-endian number in four bytes of a page
 abbrev pub word_in : List ℕ → ℕ → ℕ
 word_in page at = slice_index page at + 2 ^ 8 * slice_index page (at + 1) + 2 ^ 16 * (slice_index page (at + 2) + 2 ^ 8 * slice_index page (at + 3))
+
+-- the little-endian number in bytes
+abbrev pub number_of : List ℕ → ℕ
+number_of [] = 0
+number_of (b ∷ bytes) = b + 2 ^ 8 * number_of bytes

@@ -27,6 +27,7 @@ fn branch(taken: bool, pc: u32, imm: i32) -> Next
 /// Where a job goes from an instruction at `pc`: ECALL answers, EBREAK faults. The fields are in range. In constant
 /// time; it takes no memory.
 #[tactic(auto, unfolding(crate::specs::Effect::next_pc, rv_decode::specs::Range::IsInRange))]
+#[inline(always)]
 pub fn next_pc(ins: &Ins, pc: u32, regs: &Regs) -> Next
     requires { IsInRange ins.now }
     ensures { result ≡ next_pc ins.now pc regs.now }
@@ -115,6 +116,7 @@ fn store(ins: &Ins, regs: &Regs, memory: &mut DataMemory) -> Result<(), Memory>
 ///
 /// Registers and memory change as by `effect`. Only a store may want memory; then nothing has changed. Time is
 /// constant, but for a load or store logarithmic in the stored pages.
+#[inline(always)]
 pub fn carry_out(ins: &Ins, pc: u32, regs: &mut Regs, memory: &mut DataMemory) -> Result<(), Memory>
     requires { IsInRange ins.now }
     ensures registers { OnOk result (regs.new ≡ registers_after ins.now pc regs.old memory.old) }

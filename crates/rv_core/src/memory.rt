@@ -1,7 +1,7 @@
 // The data memory.
-ghost use Rattle.std.specs.Prelude.{◌≡◌, ℕ, ◌+◌, ◌*◌, ◌<◌, ◌≤◌, ◌^◌, ◌-◌, ◌%◌, List, [], OnOk, OnErr};
-ghost use Rattle.rv_core.specs.Memory.{IsMemory, ByteAfterPut, PutKeepsMemory, BytesTellMemory, ByteAfterClear, byte as byte_at, put_byte, put_bytes, clear_bytes, half, whole};
-ghost use Rattle.rv_core.specs.Pages.{word_in, written};
+ghost use Rattle.std.specs.Prelude.{◌≡◌, ◌↔◌, ℕ, ◌+◌, ◌*◌, ◌<◌, ◌≤◌, ◌^◌, ◌-◌, ◌%◌, List, [], length, slice_index, take, EachIndex, IsTrue, OnOk, OnErr};
+ghost use Rattle.rv_core.specs.Memory.{IsMemory, ByteAfterPut, PutKeepsMemory, BytesTellMemory, ByteAfterClear, byte as byte_at, put_all, put_byte, put_bytes, clear_bytes, half, whole};
+ghost use Rattle.rv_core.specs.Pages.{number_of, word_in, written};
 
 use crpd_base::Memory;
 use std::alloc::Global;
@@ -47,6 +47,21 @@ fn write(page: &mut [u8; 64], at: usize, value: u32, count: u32)
         page[at] = (value % 256) as u8;
         write(page, at + 1, value / 256, count - 1);
     }
+}
+
+/// Copies bytes to a page, from a place on.
+fn copy(page: &mut [u8; 64], at: usize, bytes: &[u8])
+    requires { at + length bytes.now ≤ 64 }
+    ensures { page.new ≡ written (length bytes.now) page.old at (number_of bytes.now) }
+{
+    page[at..at + bytes.len()].copy_from_slice(bytes);
+}
+
+/// Whether all bytes are 0.
+fn are_zero(bytes: &[u8]) -> bool
+    ensures { IsTrue result ↔ EachIndex bytes.now (λ k. slice_index bytes.now k ≡ 0) }
+{
+    bytes.iter().all(|byte| *byte == 0)
 }
 
 impl DataMemory {
@@ -102,6 +117,48 @@ impl DataMemory {
             Ok(_) => Ok(()),
             Err(_) => Err(Memory),
         }
+    }
+
+    /// Puts bytes from an address on, all of them in one page. After an error all is as before. Memory is wanted only
+    /// for a page that is not stored yet.
+    fn put_within(&mut self, address: u32, bytes: &[u8]) -> Result<(), Memory>
+        requires { address % 64 + length bytes.now ≤ 64 }
+        ensures ok { OnOk result (self.new ≡ put_all self.old address bytes.now) }
+        ensures err { OnErr result (self.new ≡ self.old) }
+    {
+        let number = address / 64;
+        let at = address as usize % 64;
+        if let Some(page) = self.pages.get_mut(&number) {
+            copy(page, at, bytes);
+            return Ok(());
+        }
+        if are_zero(bytes) {
+            return Ok(());
+        }
+        let mut page = [0; 64];
+        copy(&mut page, at, bytes);
+        match self.pages.insert(number, page) {
+            Ok(_) => Ok(()),
+            Err(_) => Err(Memory),
+        }
+    }
+
+    /// Puts bytes from an address on, in the time of a walk over them with one look-up for each of their pages, which is
+    /// logarithmic in the stored pages. After an error some of them stand, from the first one on. Memory is wanted only
+    /// for a page that is not stored yet and has a byte that is not 0.
+    pub fn put_all(&mut self, address: u32, bytes: &[u8]) -> Result<(), Memory>
+        requires { address + length bytes.now ≤ 2 ^ 32 }
+        ensures ok { OnOk result (self.new ≡ put_all self.old address bytes.now) }
+        ensures err { OnErr result ((n : ℕ) × (n < length bytes.now) × (self.new ≡ put_all self.old address (take n bytes.now))) }
+    {
+        let mut from = 0;
+        while from < bytes.len() {
+            let start = address as usize + from;
+            let to = bytes.len().min(from + (64 - start % 64));
+            self.put_within(start as u32, &bytes[from..to])?;
+            from = to;
+        }
+        Ok(())
     }
 
     /// Makes `count` bytes from an address on 0, all of them in one page.

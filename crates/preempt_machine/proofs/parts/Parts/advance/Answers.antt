@@ -1,9 +1,12 @@
-use Rattle.std.proofs.Common.{refl, sym}
+use Rattle.std.proofs.Common.{refl, sym, subst}
 use Rattle.std.proofs.lemmas.Result.{on_ok_weaker}
 use Rattle.preempt_machine.specs.Running.{system_by}
-use Rattle.preempt_machine.specs.Kept.{machine_of}
+use Rattle.preempt_machine.specs.Machine.{Machine}
+use Rattle.preempt_machine.specs.Flags.{ChangesOwner}
+use Rattle.preempt_machine.specs.Kept.{machine_of, HasStepped}
 use Rattle.preempt_machine.proofs.Made.{one_made}
 use Rattle.preempt_machine.proofs.Steps.{candidate_none}
+use Rattle.preempt_machine.proofs.Watches.{none_changes, step_changes}
 use Rattle.preempt_machine.proofs.parts.Parts.advance.Goals as goal
 
 pub returns-in-Some-clause-ok : goal.returns-in-Some-clause-ok
@@ -16,3 +19,14 @@ idle-requires-clause-idle c =
 
 pub returns-in-None-clause-ok : goal.returns-in-None-clause-ok
 returns-in-None-clause-ok c = c.idle.ensures.made c.args.code.now
+
+pub returns-in-Some-clause-owner : goal.returns-in-Some-clause-owner
+returns-in-Some-clause-owner c =
+    let m = machine_of c.args.self.now in
+    let sys = system_by c.args.self.now.core.geometry.platform c.args.code.now in
+    on_ok_weaker c.take.result
+    (λ (h : HasStepped sys c.args.self.now c.take.new.self). subst (λ (n : Machine). ChangesOwner m n) (sym h.state) (step_changes sys m c.in-Some.place (sym (c.in-Some.ensures.is sys refl))))
+    c.take.ensures.ok
+
+pub returns-in-None-clause-owner : goal.returns-in-None-clause-owner
+returns-in-None-clause-owner c = none_changes (machine_of c.args.self.now) (machine_of c.idle.new.self) c.idle.ensures.jobs

@@ -2,4 +2,4 @@ use Rattle.std.proofs.Common.{arith}
 use Rattle.preempt_machine.proofs.running.Machine.owner.Goals as goal
 
 pub index-requires : goal.index-requires
-index-requires c = omega (arith, (c.self.invariant.owner c.in-Some.place c.in-Some.is).below, c.self.invariant.told)
+index-requires c = omega (arith, (c.self.invariant.machine.owner c.in-Some.place c.in-Some.is).below, c.self.invariant.machine.told)
