@@ -1,5 +1,5 @@
 -- A task with a loop: its system, its graph with a region, and its certificate as the analysis writes it.
-use Rattle.std.specs.Prelude.{ℕ, zero, suc, ◌==◌, ◌||◌, if◌then◌else◌, pos, negsuc, List, [], ◌∷◌, replicate, Option, Some, None}
+use Rattle.std.specs.Prelude.{ℕ, zero, suc, ◌==◌, ◌||◌, pos, negsuc, List, [], ◌∷◌, replicate, Option}
 use Rattle.crpd_base.specs.declared.data.LoopAt.{LoopAt}
 use Rattle.crpd_base.specs.declared.data.TaskPlan.{TaskPlan}
 use Rattle.crpd_base.specs.declared.data.TaskSet.{TaskSet}
@@ -13,13 +13,12 @@ use Rattle.cert_check.specs.Judge.{IsYes}
 use Rattle.preempt_machine.specs.Machine.{System}
 use Rattle.preempt_machine.specs.Safe.{IsSafe}
 use Rattle.sound_laws.specs.Walks.{IsInRange, IsCodeOf}
-use Rattle.sound_laws.specs.TwoWords.{platform, task, zero_alone}
+use Rattle.worked_examples.specs.OneWay.{word_in, task}
+use Rattle.worked_examples.specs.TwoWords.{platform, zero_alone}
 
 -- three into x5, less one, back while it is not 0, ECALL
 abbrev pub words : ℕ → Option ℕ
-words a =
-    if a == 0x1000 then Some 0x00300293
-    else (if a == 0x1004 then Some 0xFFF28293 else (if a == 0x1008 then Some 0xFE029EE3 else (if a == 0x100C then Some 0x00000073 else None)))
+words = word_in ((0x1000, 0x00300293) ∷ (0x1004, 0xFFF28293) ∷ (0x1008, 0xFE029EE3) ∷ (0x100C, 0x00000073) ∷ [])
 
 abbrev pub loop : LoopAt
 loop = record { head = 0x1004; bound = 3; ranges = (0x1004, 0x100C) ∷ [] }
@@ -31,7 +30,7 @@ abbrev pub system : System
 system = record { platform = platform; plans = plan ∷ []; word = words }
 
 abbrev pub set : TaskSet
-set = record { platform = platform; tasks = task ∷ [] }
+set = record { platform = platform; tasks = task 100 ∷ [] }
 
 abbrev pub next_of : ℕ → List ℕ
 next_of zero = 1 ∷ []

@@ -5,7 +5,7 @@ use Rattle.std.proofs.lemmas.Bool.{cases_eq, cases_lt, eqb-true}
 use Rattle.std.proofs.lemmas.List.{get_or_past, get_or-replicate, length-replicate}
 use Rattle.std.proofs.lemmas.Nat.Bits.{bit_at-zero, bit_at-pow_other}
 use Rattle.crpd_base.specs.Sets.{member, has}
-use Rattle.sound_laws.specs.TwoWords.{zero_alone}
+use Rattle.worked_examples.specs.TwoWords.{zero_alone}
 
 zeros_only : (n k : ℕ) → ◌≡◌ {A = ℕ} (get_or (replicate n 0) k 0) 0
 zeros_only n k =

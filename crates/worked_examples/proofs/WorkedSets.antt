@@ -12,13 +12,13 @@ use Rattle.useful_sets.proofs.UsefulLaws.{ucb_law}
 use Rattle.evict_sets.specs.Full.{Listed, FullState, IsHit, FullUseful, listed_useful, used, used_later}
 use Rattle.evict_sets.specs.Certificate.{block_in, listed_of}
 use Rattle.evict_sets.proofs.WalkLaws.{first_here, first_on, carry_law}
-use Rattle.sound_laws.specs.OneWay.{first_alone}
-use Rattle.sound_laws.specs.TwoWords as two_words
-use Rattle.sound_laws.specs.ThreeTasks as three
-use Rattle.sound_laws.specs.WorkedSets.{IsRow, HasSets, call_addresses, call_instructions, call_successors, zero_and_one, WorkedSets}
-use Rattle.sound_laws.proofs.OneWay as law
-use Rattle.sound_laws.proofs.WayTests.{Way, size, next, address, before, graph, each, each_says, same, same_says, at_next, at_next_says, is_next, is_next_says, IsWay, line}
-use Rattle.sound_laws.proofs.ThreeTasks.{high, lower, high_way, lower_way}
+use Rattle.worked_examples.specs.OneWay.{first_alone}
+use Rattle.worked_examples.specs.TwoWords as two_words
+use Rattle.worked_examples.specs.ThreeTasks as three
+use Rattle.worked_examples.specs.WorkedSets.{IsRow, HasSets, call_addresses, call_instructions, call_successors, zero_and_one, WorkedSets}
+use Rattle.worked_examples.proofs.OneWay as law
+use Rattle.worked_examples.proofs.WayTests.{Way, size, next, address, before, graph, each, each_says, same, same_says, at_next, at_next_says, is_next, is_next_says, IsWay, line}
+use Rattle.worked_examples.proofs.ThreeTasks.{high, lower, high_way, lower_way}
 
 -- tests on lists and options
 abbrev is_in : List ℕ → ℕ → Bool

@@ -20,8 +20,8 @@ use Rattle.evict_sets.proofs.FullLaws.{unlisted_state_law, unlisted_useful_law}
 use Rattle.evict_sets.specs.Certificate.{listed_of}
 use Rattle.cert_check.specs.Clauses.{CountsHits, PotentialsMeet, BoundMeets}
 use Rattle.cert_check.specs.Judge.{IsGraphOf}
-use Rattle.sound_laws.specs.OneWay.{word_in, plan, to_one, one_way, no_regions, graph_of, first_alone}
-use Rattle.sound_laws.proofs.ZeroAlone.{no_member}
+use Rattle.worked_examples.specs.OneWay.{word_in, plan, to_one, one_way, no_regions, graph_of, first_alone}
+use Rattle.worked_examples.proofs.ZeroAlone.{no_member}
 
 -- the table of words is a code map where each of its words ends at or before the end
 abbrev pub are_below : List (ℕ × ℕ) → Bool

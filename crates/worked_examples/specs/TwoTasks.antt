@@ -1,19 +1,18 @@
 -- Two tasks on one cache set, of which the higher one preempts: their code, graphs and certificate, and a run that takes the
 -- responses whole.
-use Rattle.std.specs.Prelude.{◌≡◌, ℕ, zero, suc, ◌+◌, List, [], ◌∷◌, Some, None, pos, codes}
+use Rattle.std.specs.Prelude.{◌≡◌, ℕ, zero, suc, List, [], ◌∷◌, None, codes}
 use Rattle.crpd_base.specs.declared.data.TaskSet.{TaskSet}
 use Rattle.crpd_base.specs.declared.data.Certificate.{Certificate}
 use Rattle.code_map.specs.Words.{Code}
-use Rattle.rv_decode.specs.declared.Ins.TheVariants.{Addi, Ecall}
 use Rattle.loop_regions.specs.TaskGraph.{TaskGraph}
 use Rattle.preempt_machine.specs.declared.End.TheVariants.{Answered}
 use Rattle.preempt_machine.specs.Machine.{System}
 use Rattle.preempt_machine.specs.Step.{Start, state}
 use Rattle.preempt_machine.specs.Safe.{system_of, IsSafeWith, IsLegalRun, IsKept, completions}
 use Rattle.sound_laws.specs.Within.{IsChecked}
-use Rattle.sound_laws.specs.TwoWords.{platform, zero_alone}
-use Rattle.sound_laws.specs.Least.{AreLeast}
-use Rattle.sound_laws.specs.OneWay.{plan, named_task, file_of, job, listed_graph, first_alone, named}
+use Rattle.worked_examples.specs.TwoWords.{platform, graph_from, zero_alone}
+use Rattle.worked_examples.specs.Least.{AreLeast}
+use Rattle.worked_examples.specs.OneWay.{plan, named_task, file_of, job, first_alone, named}
 
 -- one into x5, ECALL: of the lower task at 0x1000, of the higher one at 0x2000
 abbrev pub words : List ℕ
@@ -34,12 +33,9 @@ set = record { platform = platform; tasks = named_task high_name 100 ∷ named_t
 abbrev pub system : System
 system = system_of set code
 
-abbrev pub two_words : ℕ → TaskGraph
-two_words entry = listed_graph (entry ∷ (entry + 4) ∷ []) (Addi 5 0 (pos 1) ∷ Ecall ∷ []) (Some 1 ∷ None ∷ [])
-
 abbrev pub graphs : ℕ → TaskGraph
-graphs zero = two_words 0x2000
-graphs (suc k) = two_words 0x1000
+graphs zero = graph_from 0x2000
+graphs (suc k) = graph_from 0x1000
 
 -- a reload by the one preemption, two switches and the higher bound are what the lower response has more
 abbrev pub certificate : Certificate

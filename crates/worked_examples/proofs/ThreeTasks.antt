@@ -1,14 +1,11 @@
 -- The premises of the laws hold of three tasks of which each higher one preempts the next.
-use Rattle.std.proofs.Common.{◌≡◌, ℕ, zero, suc, ◌+◌, ◌<◌, ◌≤◌, true, pos, negsuc, List, [], ◌∷◌, length, Some, None, refl, sym, ap, subst, inl, inr, arith}
+use Rattle.std.proofs.Common.{◌≡◌, ℕ, ◌+◌, ◌<◌, ◌≤◌, true, pos, negsuc, List, [], ◌∷◌, length, Some, None, refl, sym, ap, subst, inl, inr, arith}
 use Rattle.std.specs.Prelude.{slice_index, slice_index_or}
 use Rattle.std.proofs.lemmas.Bool.{cases_lt}
 use Rattle.crpd_base.specs.declared.data.Method.TheVariants.{Ucb}
-use Rattle.crpd_base.specs.declared.data.TaskSpec.{TaskSpec}
-use Rattle.crpd_base.specs.Names.{is_name, is_file}
-use Rattle.crpd_base.specs.Ranges.{IsPlatform, IsTaskSpec, HaveOwnNames, IsTaskSet}
+use Rattle.crpd_base.specs.Ranges.{IsTaskSpec, HaveOwnNames, IsTaskSet}
 use Rattle.code_map.specs.Words.{word_at}
 use Rattle.script_reader.specs.Legal.{AreSpaced, IsReleasedInTime}
-use Rattle.crpd_base.specs.declared.data.ScriptJob.{ScriptJob}
 use Rattle.rv_decode.specs.declared.Ins.TheVariants.{Jal, Ecall}
 use Rattle.rv_decode.specs.Flow.{flow, IsCodeMap}
 use Rattle.rv_decode.specs.Table.{row, table}
@@ -22,12 +19,14 @@ use Rattle.preempt_machine.specs.declared.End.TheVariants.{Answered}
 use Rattle.preempt_machine.specs.Machine.{plan_of, ins_at, no_job}
 use Rattle.preempt_machine.specs.Step.{state, candidate, turned, is_ready, comes_before}
 use Rattle.preempt_machine.specs.Safe.{IsSafe, IsLegalRun, IsKept, completions}
-use Rattle.sound_laws.specs.Least.{AreLeast}
-use Rattle.sound_laws.specs.OneWay.{named_task, first_alone}
-use Rattle.sound_laws.specs.ThreeTasks.{platform, code, high_name, middle_name, low_name, system, set, lines, there_again, graphs, one_to_four, one_and_two, three_and_four, nothing, certificate, start, ThreeTasks}
-use Rattle.sound_laws.proofs.InRange.{checked_code_is_safe}
-use Rattle.sound_laws.proofs.LowFiles.{low_code}
-use Rattle.sound_laws.proofs.WayTests.{Way, IsWay, IsAt, IsCode, is_graph_of, IsCertified, graph_meets, lists, lists_named, graph_named}
+use Rattle.worked_examples.specs.Least.{AreLeast}
+use Rattle.worked_examples.specs.OneWay.{first_alone}
+use Rattle.worked_examples.specs.ThreeTasks.{platform, code, high_name, middle_name, low_name, system, set, lines, there_again, graphs, one_to_four, one_and_two, three_and_four, nothing, certificate, start, ThreeTasks}
+use Rattle.sound_laws.specs.Headline.{CheckedCodeIsSafe}
+use Rattle.worked_examples.proofs.Few.{three, four, three_pairs}
+use Rattle.worked_examples.proofs.InRanges.{is_platform, is_task}
+use Rattle.worked_examples.proofs.LowFiles.{low_code}
+use Rattle.worked_examples.proofs.WayTests.{Way, IsWay, IsAt, IsCode, is_graph_of, IsCertified, graph_meets, lists, lists_named, graph_named}
 
 demand_middle : demand set (part_of certificate) (longest_at platform graphs) (window_at certificate) 1 Ucb 115 ≡ 115
 unfolding union_count
@@ -40,19 +39,6 @@ demand_low = refl
 answers : completions (state start 180) ≡ Answered 175 ∷ Answered 146 ∷ Answered 117 ∷ []
 unfolding word_at row table work_cost next_pc written stored watch_step flow ins_at candidate turned is_ready comes_before
 answers = refl
-
-three : (P : ℕ → Type 0) → P 0 → P 1 → P 2 → (y : ℕ) → y < 3 → P y
-three P a b c zero l = a
-three P a b c (suc zero) l = b
-three P a b c (suc (suc zero)) l = c
-three P a b c (suc (suc (suc k))) l = absurd (omega (arith, l))
-
-four : (P : ℕ → Type 0) → P 0 → P 1 → P 2 → P 3 → (y : ℕ) → y < 4 → P y
-four P a b c d zero l = a
-four P a b c d (suc zero) l = b
-four P a b c d (suc (suc zero)) l = c
-four P a b c d (suc (suc (suc zero))) l = d
-four P a b c d (suc (suc (suc (suc k)))) l = absurd (omega (arith, l))
 
 -- the highest task goes through its nodes in their order, each other one from the first to the third, and back to the second
 abbrev pub high : Way
@@ -111,53 +97,17 @@ graphs_of =
     three (λ k. IsGraphOf (word_at code.images) (plan_of system k) (graphs k)) (is_graph_of (word_at code.images) 0x3010 high high_way code_high)
     (is_graph_of (word_at code.images) 0x2010 (lower 0x2010) (lower_way 0x2010) code_middle) (is_graph_of (word_at code.images) 0x1030 (lower 0x1030) (lower_way 0x1030) code_low)
 
-is_platform : IsPlatform platform
-is_platform =
-    record {
-      line = (omega arith, omega arith);
-      line_size = refl;
-      sets = (omega arith, omega arith);
-      hit = (omega arith, omega arith);
-      miss = omega arith;
-      memory = omega arith;
-      taken = omega arith;
-      switch = omega arith;
-      mul = omega arith;
-      div = omega arith;
-    }
-
-is_task : (name : List ℕ) → is_name name ≡ true → is_file name ≡ true → IsTaskSpec (named_task name 10000)
-is_task name n f =
-    record {
-      name = n;
-      file = f;
-      period = (omega arith, omega arith);
-      deadline = (omega arith, omega arith);
-      jitter = omega arith;
-      few_loops = omega arith;
-      loops = λ i d l. absurd (omega (arith, l));
-    }
-
 is_set : IsTaskSet set
 is_set =
     record {
-      platform = is_platform;
+      platform = is_platform 8 (omega arith) (omega arith);
       some = omega arith;
       few = omega arith;
-      each = λ i d l. three (λ k. IsTaskSpec (slice_index_or set.tasks k d)) (is_task high_name refl refl) (is_task middle_name refl refl) (is_task low_name refl refl) i l;
-      names = pairs;
+      each = λ i d l. three (λ k. IsTaskSpec (slice_index_or set.tasks k d)) (is_task high_name 10000 refl refl (omega arith) (omega arith)) (is_task middle_name 10000 refl refl (omega arith) (omega arith)) (is_task low_name 10000 refl refl (omega arith) (omega arith)) i l;
+      names = λ i j d a b.
+          three_pairs (λ x y. HaveOwnNames (slice_index_or set.tasks x d) (slice_index_or set.tasks y d))
+          (λ e. let n = ap (length {A = ℕ}) e in absurd (omega (arith, n))) (λ e. let n = ap (length {A = ℕ}) e in absurd (omega (arith, n))) (λ e. let n = ap (length {A = ℕ}) e in absurd (omega (arith, n))) i j a b;
     }
-  where
-    -- the names are of different lengths
-    other : (d : TaskSpec) (i j : ℕ) → i < 3 → j < 3 → i < j → HaveOwnNames (slice_index_or set.tasks i d) (slice_index_or set.tasks j d)
-    other d i j a b =
-        three (λ x. x < j → HaveOwnNames (slice_index_or set.tasks x d) (slice_index_or set.tasks j d))
-        (three (λ y. 0 < y → HaveOwnNames (slice_index_or set.tasks 0 d) (slice_index_or set.tasks y d)) (λ l e. absurd (omega (arith, l))) (λ l e. let n = ap (length {A = ℕ}) e in absurd (omega (arith, n))) (λ l e. let n = ap (length {A = ℕ}) e in absurd (omega (arith, n))) j b)
-        (three (λ y. 1 < y → HaveOwnNames (slice_index_or set.tasks 1 d) (slice_index_or set.tasks y d)) (λ l e. absurd (omega (arith, l))) (λ l e. absurd (omega (arith, l))) (λ l e. let n = ap (length {A = ℕ}) e in absurd (omega (arith, n))) j b)
-        (λ l e. absurd (omega (arith, l, b))) i a
-
-    pairs : (i j : ℕ) (d : TaskSpec) → i < j → j < 3 → HaveOwnNames (slice_index_or set.tasks i d) (slice_index_or set.tasks j d)
-    pairs i j d a b = other d i j (omega (arith, a, b)) b a
 
 -- the highest task has no hit, and each other one two: at the second visit of either line
 high_certified : IsCertified platform high 50 one_to_four nothing (50 ∷ 37 ∷ 24 ∷ 11 ∷ [])
@@ -219,21 +169,10 @@ is_legal =
       memory = tt;
       tasks = λ i d l. three (λ k. (slice_index_or start.lines k d).task.0 < 3) (omega arith) (omega arith) (omega arith) i l;
       legal = record {
-        spaced = pairs;
+        spaced = λ i j d a b. three_pairs (λ x y. AreSpaced set (slice_index_or start.lines x d) (slice_index_or start.lines y d)) (λ e. absurd (omega (arith, e))) (λ e. absurd (omega (arith, e))) (λ e. absurd (omega (arith, e))) i j a b;
         in_time = λ i d l. three (λ k. IsReleasedInTime set (slice_index_or start.lines k d)) (omega arith, omega arith) (omega arith, omega arith) (omega arith, omega arith) i l;
       };
     }
-  where
-    -- the jobs are of different tasks
-    other : (d : ScriptJob) (i j : ℕ) → i < 3 → j < 3 → i < j → AreSpaced set (slice_index_or start.lines i d) (slice_index_or start.lines j d)
-    other d i j a b =
-        three (λ x. x < j → AreSpaced set (slice_index_or start.lines x d) (slice_index_or start.lines j d))
-        (three (λ y. 0 < y → AreSpaced set (slice_index_or start.lines 0 d) (slice_index_or start.lines y d)) (λ l e. absurd (omega (arith, l))) (λ l e. absurd (omega (arith, e))) (λ l e. absurd (omega (arith, e))) j b)
-        (three (λ y. 1 < y → AreSpaced set (slice_index_or start.lines 1 d) (slice_index_or start.lines y d)) (λ l e. absurd (omega (arith, l))) (λ l e. absurd (omega (arith, l))) (λ l e. absurd (omega (arith, e))) j b)
-        (λ l e. absurd (omega (arith, l, b))) i a
-
-    pairs : (i j : ℕ) (d : ScriptJob) → i < j → j < 3 → AreSpaced set (slice_index_or start.lines i d) (slice_index_or start.lines j d)
-    pairs i j d a b = other d i j (omega (arith, a, b)) b a
 
 kept : IsKept (state start 180)
 unfolding word_at row table work_cost next_pc written stored watch_step flow ins_at candidate turned is_ready comes_before
@@ -283,11 +222,11 @@ least others safe = three (λ k. slice_index (55 ∷ 115 ∷ 175 ∷ []) k ≤ s
 is_map : IsCodeMap (word_at code.images)
 is_map = low_code code.images refl
 
-pub three_tasks : ThreeTasks
-three_tasks =
+pub three_tasks : CheckedCodeIsSafe → ThreeTasks
+three_tasks law =
     record {
       checked = record { ranges = is_set; words = is_map; graphs_of = graphs_of; says = is_yes };
-      safe = checked_code_is_safe set code graphs certificate is_set is_map graphs_of is_yes;
+      safe = law set code graphs certificate is_set is_map graphs_of is_yes;
       least = least;
       legal = is_legal;
       kept = kept;

@@ -10,9 +10,9 @@ use Rattle.loop_regions.specs.TaskGraph.{TaskGraph}
 use Rattle.evict_sets.specs.Full.{Listed, FullState, FullUseful}
 use Rattle.evict_sets.specs.Certificate.{block_in, listed_of, cert_at}
 use Rattle.cert_check.specs.Judge.{accesses_of}
-use Rattle.sound_laws.specs.OneWay.{listed_graph, first_alone}
-use Rattle.sound_laws.specs.TwoWords as two_words
-use Rattle.sound_laws.specs.ThreeTasks as three
+use Rattle.worked_examples.specs.OneWay.{listed_graph, first_alone}
+use Rattle.worked_examples.specs.TwoWords as two_words
+use Rattle.worked_examples.specs.ThreeTasks as three
 
 -- these numbers have the property, and no others
 abbrev pub AreThese : List ℕ → (ℕ → Type 0) → Type 0

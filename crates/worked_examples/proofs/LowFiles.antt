@@ -1,6 +1,6 @@
 -- Files whose bytes all stand below the address at which jobs end are a code map.
-use Rattle.std.proofs.Common.{◌≡◌, ℕ, ◌+◌, ◌-◌, ◌<◌, ◌≤◌, Bool, true, false, not, ◌&&◌, List, [], ◌∷◌, length, Option, Some, None, IsTrue, refl, sym, ◌∙◌, subst, inl, inr, arith, nat_le, cond}
-use Rattle.std.specs.Prelude.{slice_get, ◌==◌, ◌%◌, if◌then◌else◌}
+use Rattle.std.proofs.Common.{◌≡◌, ℕ, ◌+◌, ◌-◌, ◌<◌, Bool, true, not, ◌&&◌, List, [], ◌∷◌, length, Option, Some, None, IsTrue, refl, inl, inr, arith, nat_le}
+use Rattle.std.specs.Prelude.{◌==◌, ◌%◌}
 use Rattle.std.specs.Option.{option_or}
 use Rattle.std.proofs.lemmas.Bool.{cases_Bool, and_parts, leb-true}
 use Rattle.std.proofs.lemmas.Option.{slice_get_within}
@@ -8,7 +8,7 @@ use Rattle.crpd_base.specs.declared.data.Image.{Image}
 use Rattle.crpd_base.specs.declared.data.Segment.{Segment}
 use Rattle.rv_decode.specs.Address.{end}
 use Rattle.rv_decode.specs.Flow.{IsCodeMap}
-use Rattle.code_map.specs.Words.{find_map, byte_from, segment_byte, image_byte, code_byte, little_endian, word_by, word_at}
+use Rattle.code_map.specs.Words.{find_map, byte_from, segment_byte, image_byte, code_byte, little_endian, word_at}
 use Rattle.preempt_machine.proofs.Steps.{none_some}
 
 abbrev pub are_low : List Segment → Bool

@@ -17,28 +17,21 @@ use Rattle.loop_regions.specs.Stated.{IsRegionOf, IsRegions, IsSecondEntry, IsAc
 use Rattle.loop_regions.specs.Potentials.{item_potential}
 use Rattle.evict_sets.specs.Full.{Listed, FullState, listed, accessed, passed, FullUseful, listed_useful, used, used_later}
 use Rattle.evict_sets.specs.Clauses.{ListsLeaders, StatesMeet, UsefulMeets, SetsMeet}
-use Rattle.crpd_base.specs.declared.data.NodeState.{NodeState}
 use Rattle.evict_sets.specs.Certificate.{block_in, listed_of}
 use Rattle.cert_check.specs.Certificate.{potentials_of}
 use Rattle.crpd_base.specs.Sets.{has as has_set}
 use Rattle.cert_check.specs.Clauses.{CountsHits, costs, PotentialsMeet, BoundMeets}
-use Rattle.cert_check.specs.Judge.{IsGraphOf, GraphMeets, IsYes, accesses_of}
+use Rattle.cert_check.specs.Judge.{IsGraphOf, GraphMeets, IsYes, TaskMeets, accesses_of}
 use Rattle.loop_regions.specs.TaskGraph.{listing_of, answering}
 use Rattle.crpd_base.specs.Tasks.{deadline_of}
 use Rattle.preempt_machine.specs.Machine.{plan_of}
-use Rattle.rv_decode.specs.Flow.{IsCodeMap}
 use Rattle.sound_laws.specs.Walks.{IsInRange, IsCodeOf}
-use Rattle.sound_laws.specs.TwoWords.{platform, zero_alone}
-use Rattle.sound_laws.proofs.ZeroAlone.{has_says, no_member}
-use Rattle.sound_laws.specs.OneLoop.{words, loop, system, set, address_of, ins_of, graph, task_certificate, certificate, OneLoop}
-use Rattle.sound_laws.proofs.Checked.{yes_is_safe}
-
-four : (P : ℕ → Type 0) → P 0 → P 1 → P 2 → P 3 → (y : ℕ) → y < 4 → P y
-four P a b c d zero l = a
-four P a b c d (suc zero) l = b
-four P a b c d (suc (suc zero)) l = c
-four P a b c d (suc (suc (suc zero))) l = d
-four P a b c d (suc (suc (suc (suc k)))) l = absurd (omega arith)
+use Rattle.worked_examples.specs.TwoWords.{platform, zero_alone}
+use Rattle.worked_examples.proofs.Few.{one, three, four}
+use Rattle.worked_examples.proofs.OneWay.{code_map}
+use Rattle.worked_examples.proofs.ZeroAlone.{has_says, no_member}
+use Rattle.worked_examples.specs.OneLoop.{words, loop, system, set, address_of, ins_of, graph, task_certificate, certificate, OneLoop}
+use Rattle.sound_laws.specs.Headline.{YesIsSafe}
 
 in_one_is : (A : Type 0) (a b : A) → Contains (a ∷ []) b → a ≡ b
 in_one_is A a b (zero, l, e) = e
@@ -222,39 +215,23 @@ accepted =
       no_cycle = λ y c. let l = way_up y c.0 y c.1 in absurd (omega arith);
     }
 
-code_map : IsCodeMap words
-code_map a w e =
-    elim (cases_Bool (a == 0x1000)) [
-      | inl b ↦ let q = eqb-true a 0x1000 b in omega (arith, q)
-      | inr b ↦ elim (cases_Bool (a == 0x1004)) [
-        | inl d ↦ let q = eqb-true a 0x1004 d in omega (arith, q)
-        | inr d ↦ elim (cases_Bool (a == 0x1008)) [
-          | inl f ↦ let q = eqb-true a 0x1008 f in omega (arith, q)
-          | inr f ↦ elim (cases_Bool (a == 0x100C)) [
-            | inl g ↦ let q = eqb-true a 0x100C g in omega (arith, q)
-            | inr g ↦ absurd (let x = rw (b, d, f, g) at e in cc)
-          ]
-        ]
-      ]
-    ]
-
 is_code : IsCodeOf system set (λ k. graph)
-is_code = record { platform = refl; map = code_map; graphs_of = graphs_of }
-  where
-    graphs_of : (k : ℕ) → k < 1 → IsGraphOf words (plan_of system k) graph
-    graphs_of zero l = record { follows = follows; no_errors = no_errors; instructions = instructions; regions = regions; accepted = accepted }
-    graphs_of (suc k) l = absurd (omega arith)
+is_code =
+    record {
+      platform = refl;
+      map = code_map ((0x1000, 0x00300293) ∷ (0x1004, 0xFFF28293) ∷ (0x1008, 0xFE029EE3) ∷ (0x100C, 0x00000073) ∷ []) refl;
+      graphs_of = one (λ k. IsGraphOf words (plan_of system k) graph) (record { follows = follows; no_errors = no_errors; instructions = instructions; regions = regions; accepted = accepted });
+    }
 
 in_range : IsInRange set
-in_range = record { hit = omega arith; sets = omega arith; few_sets = omega arith; periods = periods; deadlines = deadlines }
-  where
-    periods : (k : ℕ) → k < 1 → 1 ≤ period_of set k
-    periods zero l = omega arith
-    periods (suc k) l = absurd (omega arith)
-
-    deadlines : (k : ℕ) → k < 1 → deadline_of set k ≤ period_of set k
-    deadlines zero l = omega arith
-    deadlines (suc k) l = absurd (omega arith)
+in_range =
+    record {
+      hit = omega arith;
+      sets = omega arith;
+      few_sets = omega arith;
+      periods = one (λ k. 1 ≤ period_of set k) (omega arith);
+      deadlines = one (λ k. deadline_of set k ≤ period_of set k) (omega arith);
+    }
 
 abbrev acc : Accesses
 acc = accesses_of platform graph
@@ -360,10 +337,6 @@ cost_of = edge_cost platform (listing_of graph) (λ y. nat_lt 0 y)
 abbrev pots : ℕ → ℕ
 pots = (potentials_of task_certificate).node
 
-below_one : (P : ℕ → Type 0) → P 0 → (r : ℕ) → r < 1 → P r
-below_one P a zero l = a
-below_one P a (suc k) l = absurd (omega arith)
-
 edge_pays : (u v : ℕ) → Edge graph.graph u v → cost_of u v ≤ pots u
 unfolding work_cost
 edge_pays u v e = edges_all (λ a b. cost_of a b ≤ pots a) (omega arith) (omega arith) (omega arith) (omega arith) u v e
@@ -382,7 +355,7 @@ inside_pays (Node y) u v e =
     (λ n o it. absurd (n back_edge)) u v e
 inside_pays (Loop r) u v e =
     edges_all (λ a b. (IsBackEdge graph.nest a b → ⊥) → ((r : ℕ) → Leaves graph.nest a b r → ⊥) → IsItem graph.nest b (Loop r) → cost_of a b + (potentials_of task_certificate).loop r ≤ pots a)
-    (λ n o it. below_one (λ z. cost_of 0 1 + (potentials_of task_certificate).loop z ≤ pots 0) (omega arith) r it.0)
+    (λ n o it. one (λ z. cost_of 0 1 + (potentials_of task_certificate).loop z ≤ pots 0) (omega arith) r it.0)
     (λ n o it. absurd (let q = it.1 in omega (arith, q)))
     (λ n o it. absurd (o 0 (omega arith, refl, refl)))
     (λ n o it. absurd (n back_edge)) u v e
@@ -391,7 +364,7 @@ exit_pays : (i : Item) (r u v : ℕ) → Edge graph.graph u v → (IsBackEdge gr
 exit_pays (Node y) r u v e =
     edges_all (λ a b. (IsBackEdge graph.nest a b → ⊥) → Leaves graph.nest a b r → IsItem graph.nest b (Node y) → 3 * pots 1 + pots y ≤ (potentials_of task_certificate).loop r)
     (λ n lv it. absurd (false≢true lv.1)) (λ n lv it. absurd (true≢false lv.2))
-    (λ n lv it. below_one (λ q. 3 * pots 1 + pots y ≤ (potentials_of task_certificate).loop q) (subst (λ z. 3 * pots 1 + pots z ≤ 13) (sym it.0) (omega arith)) r lv.0)
+    (λ n lv it. one (λ q. 3 * pots 1 + pots y ≤ (potentials_of task_certificate).loop q) (subst (λ z. 3 * pots 1 + pots z ≤ 13) (sym it.0) (omega arith)) r lv.0)
     (λ n lv it. absurd (n back_edge)) u v e
 exit_pays (Loop k) r u v e =
     edges_all (λ a b. (IsBackEdge graph.nest a b → ⊥) → Leaves graph.nest a b r → IsItem graph.nest b (Loop k) → 3 * pots 1 + (potentials_of task_certificate).loop k ≤ (potentials_of task_certificate).loop r)
@@ -408,8 +381,8 @@ meets u l =
         inside = λ v i e n o it. inside_pays i u v e n o it;
         exit = λ v r i e n lv it. exit_pays i r u v e n lv.0 it;
       };
-      left = λ v r e lv. below_one (λ z. 3 * pots (graph.nest.head z) ≤ (potentials_of task_certificate).loop z) (omega arith) r lv.0;
-      loop = λ r k e. below_one (λ z. 3 * pots u ≤ (potentials_of task_certificate).loop z) (subst (λ z. 3 * pots z ≤ 13) e (omega arith)) r k;
+      left = λ v r e lv. one (λ z. 3 * pots (graph.nest.head z) ≤ (potentials_of task_certificate).loop z) (omega arith) r lv.0;
+      loop = λ r k e. one (λ z. 3 * pots u ≤ (potentials_of task_certificate).loop z) (subst (λ z. 3 * pots z ≤ 13) e (omega arith)) r k;
     }
 
 bound_meets : BoundMeets graph.graph graph.nest (potentials_of task_certificate) 24
@@ -420,32 +393,31 @@ graph_meets : GraphMeets platform graph task_certificate
 graph_meets = record { states = states; useful = useful; sets = sets; is_hit = λ y. nat_lt 0 y; hits = hits; potentials = meets; bound = bound_meets }
 
 is_yes : IsYes set (λ k. graph) certificate
-is_yes zero l =
-    record {
+is_yes =
+    one (TaskMeets set (λ k. graph) certificate)
+    (record {
       platform = refl;
       has_task = omega arith;
       name = refl;
       last = λ e. refl;
-      lists = record { numbers = numbers_below; leaders = leaders; nodes = refl; loops = refl };
+      lists = record {
+        numbers = λ k d l. three (λ i. (get_or task_certificate.states i d).node < 4) (omega arith) (omega arith) (omega arith) k l;
+        leaders = leaders;
+        nodes = refl;
+        loops = refl;
+      };
       graph = graph_meets;
       some_window = omega arith;
       room = omega arith;
       response = refl;
       in_deadline = omega arith;
-    }
-  where
-    numbers_below : (k : ℕ) (d : NodeState) → k < 3 → (get_or task_certificate.states k d).node < 4
-    numbers_below zero d l = omega arith
-    numbers_below (suc zero) d l = omega arith
-    numbers_below (suc (suc zero)) d l = omega arith
-    numbers_below (suc (suc (suc k))) d l = absurd (omega arith)
-is_yes (suc i) l = absurd (omega arith)
+    })
 
-pub one_loop : OneLoop
-one_loop =
+pub one_loop : YesIsSafe → OneLoop
+one_loop law =
     record {
       in_range = in_range;
       code = is_code;
       says = is_yes;
-      safe = yes_is_safe system set (λ k. graph) certificate in_range is_code is_yes;
+      safe = law system set (λ k. graph) certificate in_range is_code is_yes;
     }

@@ -19,8 +19,8 @@ use Rattle.evict_sets.specs.Certificate.{listed_of}
 use Rattle.cert_check.specs.Certificate.{potentials_of}
 use Rattle.cert_check.specs.Clauses.{costs}
 use Rattle.cert_check.specs.Judge.{IsGraphOf, GraphMeets, Lists}
-use Rattle.sound_laws.specs.OneWay.{plan, to_one, listed_graph, first_alone, named}
-use Rattle.sound_laws.proofs.OneWay as law
+use Rattle.worked_examples.specs.OneWay.{plan, to_one, listed_graph, first_alone, named}
+use Rattle.worked_examples.proofs.OneWay as law
 
 -- the code of a task that goes one way: its nodes' addresses, instructions and successors, and the nodes before each, the
 -- last one first
