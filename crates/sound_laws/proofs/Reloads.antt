@@ -1,0 +1,2 @@
+-- Step 4: what a full state gives a set was the job's own last fetch there, so entries are reloads.
+pub mod OwnFetches
