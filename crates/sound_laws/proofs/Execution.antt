@@ -3,3 +3,4 @@ pub mod Longests
 pub mod Paid
 pub mod Spends
 pub mod Executed
+pub mod Spent

@@ -5,3 +5,4 @@ pub mod Stands
 pub mod Walked
 pub mod KeptWalks
 pub mod NoFaults
+pub mod CheckedRuns

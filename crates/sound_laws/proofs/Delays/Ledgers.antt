@@ -25,7 +25,7 @@ use Rattle.sound_laws.proofs.Counts.Sums.{sum_change}
 use Rattle.sound_laws.proofs.Windows.Releases.{count, one_le}
 use Rattle.sound_laws.proofs.Counts.Counting.{count_le}
 use Rattle.sound_laws.proofs.Walks.KeptWalks.{kept_before}
-use Rattle.sound_laws.proofs.Headline.Checked.{entries_within_delays}
+use Rattle.sound_laws.proofs.Delays.WindowDelays.{entries_within_delays}
 
 -- how many entries pass a test, and whether one that passes is made at a step
 how_many : (LedgerEntry → Bool) → List LedgerEntry → ℕ

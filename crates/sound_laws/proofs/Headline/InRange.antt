@@ -10,7 +10,7 @@ use Rattle.crpd_base.specs.Tasks.{period_of, deadline_of}
 use Rattle.preempt_machine.specs.Safe.{system_of}
 use Rattle.sound_laws.specs.Headline.{CheckedCodeIsSafe}
 use Rattle.sound_laws.specs.Walks.{IsInRange}
-use Rattle.sound_laws.proofs.Headline.Checked.{yes_is_safe}
+use Rattle.sound_laws.proofs.Headline.YesIsSafe.{yes_is_safe}
 
 no_task : TaskSpec
 no_task = record { name = []; file = []; entry = None; period = 0; deadline = 0; jitter = 0; stack = Number 0; global = Number 0; loops = [] }

@@ -1,8 +1,7 @@
 -- An undisturbed job of checked code answers within its bound, and the entries of its account are within the delays.
-use Rattle.std.proofs.Common.{◌≡◌, ℕ, zero, suc, ◌+◌, ◌*◌, ◌<◌, ◌≤◌, Bool, true, false, ◌&&◌, List, [], ◌∷◌, length, get_or, map, cond, nat_le, if◌then◌else◌, IsTrue, refl, sym, ◌∙◌, ap, subst, inl, inr, arith}
+use Rattle.std.proofs.Common.{◌≡◌, ℕ, zero, suc, ◌+◌, ◌*◌, ◌<◌, ◌≤◌, Bool, true, false, ◌&&◌, List, [], ◌∷◌, length, get_or, map, cond, nat_le, if◌then◌else◌, IsTrue, refl, sym, ◌∙◌, ap, subst, arith}
 use Rattle.std.specs.Prelude.{slice_index}
 use Rattle.std.specs.List.{count_by}
-use Rattle.std.proofs.lemmas.Bool.{cases_Bool}
 use Rattle.std.proofs.lemmas.List.Recursion.{is_count_by}
 use Rattle.crpd_base.specs.declared.data.Certificate.{Certificate}
 use Rattle.crpd_base.specs.declared.data.Script.{Script}
@@ -20,7 +19,7 @@ use Rattle.preempt_machine.specs.declared.End.TheVariants as «end»
 use Rattle.preempt_machine.specs.Kept.{completion, line_at}
 use Rattle.preempt_machine.specs.Machine.{System, Standing, Open, Answered, Faulted}
 use Rattle.preempt_machine.specs.Step.{Start, state}
-use Rattle.preempt_machine.specs.Safe.{system_of, IsKept, IsAnsweredBy, NamesTasks, end_by}
+use Rattle.preempt_machine.specs.Safe.{system_of, IsAnsweredBy, NamesTasks, end_by}
 use Rattle.run_account.specs.declared.told.Account.{Account}
 use Rattle.run_account.specs.declared.told.Entry.{Entry}
 use Rattle.run_account.specs.Account.{told, IsAccount}
@@ -33,8 +32,8 @@ use Rattle.run_account.proofs.Ready.{cache_length}
 use Rattle.sound_laws.specs.Headline.{IsUndisturbed}
 use Rattle.sound_laws.specs.Ledgers.{HasAnswered}
 use Rattle.sound_laws.specs.Walks.{IsCodeOf, RunsLegally}
-use Rattle.sound_laws.specs.Within.{IsChecked, bounds, CheckedCodeIsBounded, is_in_window, has_evictor, has_preemptor, IsWithinDelays, CheckedAccountIsWithinDelays}
-use Rattle.sound_laws.proofs.Headline.Checked.{undisturbed_bound}
+use Rattle.sound_laws.specs.Within.{IsChecked, bounds, CheckedCodeIsBounded, is_in_window, has_evictor, has_preemptor, CheckedAccountIsWithinDelays}
+use Rattle.sound_laws.proofs.Headline.Undisturbed.{undisturbed_bound}
 use Rattle.sound_laws.proofs.Headline.InRange.{in_range}
 use Rattle.sound_laws.proofs.Delays.Ledgers.{ledger_within_delays}
 
