@@ -85,24 +85,32 @@ module _ (K : CheckedRun) where
             let more = sum_mono (λ n. if test n && (task_at s (other n) == j) then 1 else 0) horizon (t + window K (task_at s i)) in_time in
             omega (arith, le, more)
 
-        -- with an evictor of the task
-        module _ (each : (n : ℕ) → test n ≡ true → (n < horizon) × EvictedBy s graphs c i t j n) where
-          pick_evictor : (n : ℕ) → (test n ≡ true) ⊎ (test n ≡ false) → ℕ
-          pick_evictor n (inl b) = (each n b).1.2
-          pick_evictor n (inr b) = 0
+        -- where each step that the test passes has such a job of task j, one for each step
+        module _ (P : ℕ → ℕ → Type 0) (each : (n : ℕ) → test n ≡ true → (y : ℕ) × (task_at s y ≡ j) × P n y) where
+          pick : (n : ℕ) → (test n ≡ true) ⊎ (test n ≡ false) → ℕ
+          pick n (inl b) = (each n b).0
+          pick n (inr b) = 0
 
-          evictor_of : ℕ → ℕ
-          evictor_of n = pick_evictor n (cases_Bool (test n))
+          pick_is : (n : ℕ) (d : (test n ≡ true) ⊎ (test n ≡ false)) → test n ≡ true → (task_at s (pick n d) ≡ j) × P n (pick n d)
+          unfolding pick
+          pick_is n (inl b) _ = ((each n b).1, (each n b).2)
+          pick_is n (inr q) b = absurd (false≢true (sym q ∙ b))
 
-          facts_by : (n : ℕ) (d : (test n ≡ true) ⊎ (test n ≡ false)) → test n ≡ true → IsCounted K front.from horizon n (pick_evictor n d) (preemptor_at K n)
-          unfolding pick_evictor
-          facts_by n (inr q) b = absurd (false≢true (sym q ∙ b))
-          facts_by n (inl b) _ =
-              let w = each n b in
-              let x = w.1.1 in
-              let E = w.1.5 in
-              let e = entry_says K n (ledger_test K n w.1.1 E.fetch w.0 E.entry) in
-              let same = fetch_same K n w.1.1 (victim K n) E.fetch e.fetch E.entry.fetches e.reload.fetches in
+          picked : ℕ → ℕ
+          picked n = pick n (cases_Bool (test n))
+
+          picked_is : (n : ℕ) → test n ≡ true → (task_at s (picked n) ≡ j) × P n (picked n)
+          unfolding picked
+          picked_is n b = pick_is n (cases_Bool (test n)) b
+
+        -- an entry with its evictor, and with its preemptor
+        evicted_at : (n : ℕ) → (n < horizon) × EvictedBy s graphs c i t j n → (y : ℕ) × (task_at s y ≡ j) × IsCounted K front.from horizon n y (preemptor_at K n)
+        evicted_at n w =
+            let E = w.1.5 in
+            let e = entry_says K n (ledger_test K n w.1.1 E.fetch w.0 E.entry) in
+            let same = fetch_same K n w.1.1 (victim K n) E.fetch e.fetch E.entry.fetches e.reload.fetches in (
+              w.1.2,
+              w.1.4,
               record {
                 late = late_of n w.1.1 E.fetch w.1.0 E.entry.fetches;
                 early = w.0;
@@ -111,37 +119,19 @@ module _ (K : CheckedRun) where
                 last = E.last;
                 evicts = subst (λ f. IsEvictor s w.1.2 n E.time f E.last) same E.is;
                 preempted = own_preemptor n e;
-              }
+              },
+            )
 
-          task_by : (n : ℕ) (d : (test n ≡ true) ⊎ (test n ≡ false)) → test n ≡ true → task_at s (pick_evictor n d) ≡ j
-          unfolding pick_evictor
-          task_by n (inr q) b = absurd (false≢true (sym q ∙ b))
-          task_by n (inl b) _ = (each n b).1.4
-
-          pub evicted_few : count test horizon ≤ ucb_count set (parts K) (window K) (window K (task_at s i)) (task_at s i) j
-          unfolding evictor_of
-          evicted_few =
-              let few = ucb_of K legal i t front.from horizon h front.after in_time (omega arith) covers higher open_before test (λ n. pick_evictor n (cases_Bool (test n))) (preemptor_at K) (λ n b. facts_by n (cases_Bool (test n)) b) j top in
-              let le = counts_in (λ n. pick_evictor n (cases_Bool (test n))) (λ n b. task_by n (cases_Bool (test n)) b) in
-              omega (arith, few, le)
-
-        -- with a preemptor of the task
-        module _ (each : (n : ℕ) → test n ≡ true → (n < horizon) × PreemptedBy s graphs c i t j n) where
-          pick_preemptor : (n : ℕ) → (test n ≡ true) ⊎ (test n ≡ false) → ℕ
-          pick_preemptor n (inl b) = (each n b).1.2
-          pick_preemptor n (inr b) = 0
-
-          preemptor_facts : (n : ℕ) (d : (test n ≡ true) ⊎ (test n ≡ false)) → test n ≡ true → IsCounted K front.from horizon n (evictor_at K n) (pick_preemptor n d)
-          unfolding pick_preemptor
-          preemptor_facts n (inr q) b = absurd (false≢true (sym q ∙ b))
-          preemptor_facts n (inl b) _ =
-              let w = each n b in
-              let E = w.1.5 in
-              let e = entry_says K n (ledger_test K n w.1.1 E.fetch w.0 E.entry) in
-              let same = fetch_same K n w.1.1 (victim K n) E.fetch e.fetch E.entry.fetches e.reload.fetches in
-              let is_x : IsPreemptor s (victim K n) w.1.2 n E.from E.time E.until E.fetch = subst (λ x. IsPreemptor s x w.1.2 n E.from E.time E.until E.fetch) (victim_is K n w.1.1 E.fetch E.entry.fetches) E.is in
-              let up : IsUpTo s is_x.evictor.job w.1.2 = is_x.latest E.time is_x.evictor is_x.gap.after is_x.gap.until is_x.last.is in
-              let has : HasPreemptor s (victim K n) n w.1.2 E.fetch = record { a = E.from; v = E.time; c = E.until; is = is_x; up = up } in
+        preempted_at : (n : ℕ) → (n < horizon) × PreemptedBy s graphs c i t j n → (y : ℕ) × (task_at s y ≡ j) × IsCounted K front.from horizon n (evictor_at K n) y
+        preempted_at n w =
+            let E = w.1.5 in
+            let e = entry_says K n (ledger_test K n w.1.1 E.fetch w.0 E.entry) in
+            let same = fetch_same K n w.1.1 (victim K n) E.fetch e.fetch E.entry.fetches e.reload.fetches in
+            let is_x : IsPreemptor s (victim K n) w.1.2 n E.from E.time E.until E.fetch = subst (λ x. IsPreemptor s x w.1.2 n E.from E.time E.until E.fetch) (victim_is K n w.1.1 E.fetch E.entry.fetches) E.is in
+            let up : IsUpTo s is_x.evictor.job w.1.2 = is_x.latest E.time is_x.evictor is_x.gap.after is_x.gap.until is_x.last.is in
+            let has : HasPreemptor s (victim K n) n w.1.2 E.fetch = record { a = E.from; v = E.time; c = E.until; is = is_x; up = up } in (
+              w.1.2,
+              w.1.4,
               record {
                 late = late_of n w.1.1 E.fetch w.1.0 E.entry.fetches;
                 early = w.0;
@@ -150,18 +140,24 @@ module _ (K : CheckedRun) where
                 last = e.last;
                 evicts = e.evicts;
                 preempted = subst (λ f. HasPreemptor s (victim K n) n w.1.2 f) same has;
-              }
+              },
+            )
 
-          preemptor_task : (n : ℕ) (d : (test n ≡ true) ⊎ (test n ≡ false)) → test n ≡ true → task_at s (pick_preemptor n d) ≡ j
-          unfolding pick_preemptor
-          preemptor_task n (inr q) b = absurd (false≢true (sym q ∙ b))
-          preemptor_task n (inl b) _ = (each n b).1.4
+        pub evicted_few : ((n : ℕ) → test n ≡ true → (n < horizon) × EvictedBy s graphs c i t j n) → count test horizon ≤ ucb_count set (parts K) (window K) (window K (task_at s i)) (task_at s i) j
+        evicted_few each =
+            let P = λ (n y : ℕ). IsCounted K front.from horizon n y (preemptor_at K n) in
+            let with_one = λ (n : ℕ) (b : test n ≡ true). evicted_at n (each n b) in
+            let few = ucb_of K legal i t front.from horizon h front.after in_time (omega arith) covers higher open_before test (picked P with_one) (preemptor_at K) (λ n b. (picked_is P with_one n b).1) j top in
+            let le = counts_in (picked P with_one) (λ n b. (picked_is P with_one n b).0) in
+            omega (arith, few, le)
 
-          pub preempted_by_few : count test horizon ≤ ecb_count set (parts K) (window K) (window K (task_at s i)) (task_at s i) j
-          preempted_by_few =
-              let few = ecb_of K legal i t front.from horizon h front.after in_time (omega arith) covers higher open_before test (evictor_at K) (λ n. pick_preemptor n (cases_Bool (test n))) (λ n b. preemptor_facts n (cases_Bool (test n)) b) j top in
-              let le = counts_in (λ n. pick_preemptor n (cases_Bool (test n))) (λ n b. preemptor_task n (cases_Bool (test n)) b) in
-              omega (arith, few, le)
+        pub preempted_by_few : ((n : ℕ) → test n ≡ true → (n < horizon) × PreemptedBy s graphs c i t j n) → count test horizon ≤ ecb_count set (parts K) (window K) (window K (task_at s i)) (task_at s i) j
+        preempted_by_few each =
+            let P = λ (n y : ℕ). IsCounted K front.from horizon n (evictor_at K n) y in
+            let with_one = λ (n : ℕ) (b : test n ≡ true). preempted_at n (each n b) in
+            let few = ecb_of K legal i t front.from horizon h front.after in_time (omega arith) covers higher open_before test (evictor_at K) (picked P with_one) (λ n b. (picked_is P with_one n b).1) j top in
+            let le = counts_in (picked P with_one) (λ n b. (picked_is P with_one n b).0) in
+            omega (arith, few, le)
 
 -- where the window begins later there is no step to count
 none_counted : (t until : ℕ) (test : ℕ → Bool) → until < t → ((n : ℕ) → test n ≡ true → (n < until) × (t ≤ n)) → count test until ≡ 0
