@@ -1,4 +1,4 @@
-use Rattle.sound_laws.proofs.Ledgers.{ledger_within_delays}
+use Rattle.sound_laws.proofs.Delays.Ledgers.{ledger_within_delays}
 use Rattle.sound_laws.proofs.ledger_within_delays.Goals as goal
 
 pub returns : goal.returns

@@ -1,0 +1,205 @@
+-- Step 6, ledger_within_delays: the ledger's entries of a window, counted as the steps at which they are made, are within
+-- both delays.
+use Rattle.std.proofs.Common.{◌≡◌, ℕ, zero, suc, ◌+◌, ◌-◌, ◌*◌, ◌<◌, ◌≤◌, Bool, true, false, ◌&&◌, List, [], ◌∷◌, length, refl, sym, ◌∙◌, ap, subst, inl, inr, arith, nat_lt, nat_le, if◌then◌else◌, cond, mul-le-mul_left, mul_comm}
+use Rattle.std.specs.Prelude.{◌==◌, ◌||◌, All, AllPairs}
+use Rattle.std.specs.List.{list_any, count_by}
+use Rattle.std.proofs.lemmas.Bool.{cases_Bool, false≢true, and_parts, or_cases, ltb-true, leb-true, eqb-true, eq-eqb}
+use Rattle.std.proofs.lemmas.List.{get_or_default}
+use Rattle.std.proofs.lemmas.List.Recursion.{is_count_by}
+use Rattle.crpd_base.specs.declared.data.TaskSet.{TaskSet}
+use Rattle.crpd_base.specs.declared.data.Certificate.{Certificate}
+use Rattle.flow_watch.specs.Watch.{is_kept}
+use Rattle.loop_regions.specs.TaskGraph.{TaskGraph}
+use Rattle.preempt_machine.specs.Machine.{Job, no_job}
+use Rattle.preempt_machine.specs.Step.{is_open, Start, state}
+use Rattle.preempt_machine.specs.Safe.{IsKept}
+use Rattle.preempt_machine.proofs.Runs.{over_stays}
+use Rattle.run_account.specs.Fetches.{job_of}
+use Rattle.run_account.specs.Nodes.{task_of}
+use Rattle.run_account.specs.Ledger.{LedgerEntry, IsOfRun}
+use Rattle.run_account.proofs.Jobs.{jobs_length}
+use Rattle.run_account.proofs.AnswerTimes.{answered_by}
+use Rattle.sound_laws.specs.Windows.{HasWindow, EvictedBy, PreemptedBy}
+use Rattle.sound_laws.specs.Ledgers.{HasAnswered, is_in_window, evicted_by, preempted_by, LedgerWithinDelays}
+use Rattle.sound_laws.proofs.Counts.Sums.{sum_change}
+use Rattle.sound_laws.proofs.Windows.Releases.{count, one_le}
+use Rattle.sound_laws.proofs.Counts.Counting.{count_le}
+use Rattle.sound_laws.proofs.Walks.KeptWalks.{kept_before}
+use Rattle.sound_laws.proofs.Delays.WindowDelays.{entries_within_delays}
+
+-- how many entries pass a test, and whether one that passes is made at a step
+how_many : (LedgerEntry → Bool) → List LedgerEntry → ℕ
+how_many p [] = 0
+how_many p (e ∷ es) = cond (p e) (1 + how_many p es) (how_many p es)
+
+abbrev made_at : (LedgerEntry → Bool) → List LedgerEntry → ℕ → Bool
+made_at p es n = list_any (λ (e : LedgerEntry). (e.time == n) && p e) es
+
+abbrev one_if : Bool → ℕ
+one_if b = if b then 1 else 0
+
+or_right : (b c : Bool) → c ≡ true → (b || c) ≡ true
+or_right true c h = refl
+or_right false c h = h
+
+or_left : (b c : Bool) → b ≡ true → (b || c) ≡ true
+or_left b c h = rw h refl
+
+-- the entry at a step
+pub record IsMade (P : LedgerEntry → Type 0) (p : LedgerEntry → Bool) (n : ℕ) : Type 0 where
+  pub entry : LedgerEntry
+  pub at : entry.time ≡ n
+  pub passes : p entry ≡ true
+  pub holds : P entry
+
+made_by : (P : LedgerEntry → Type 0) (p : LedgerEntry → Bool) (es : List LedgerEntry) (n : ℕ) → All P es → made_at p es n ≡ true → IsMade P p n
+made_by P p [] n h m = absurd (false≢true m)
+made_by P p (e ∷ es) n h m =
+    elim (or_cases ((e.time == n) && p e) (made_at p es n) m) [
+      | inl b ↦ let q = and_parts (e.time == n) (p e) b in record { entry = e; at = eqb-true e.time n q.0; passes = q.1; holds = h 0 e (omega arith) }
+      | inr b ↦ made_by P p es n (λ k d l. h (suc k) d (omega (arith, l))) b
+    ]
+
+abbrev Rises : List LedgerEntry → Type 0
+Rises es = AllPairs (λ (d e : LedgerEntry). d.time < e.time) es
+
+-- none is made later at the first one's step
+none_later : (p : LedgerEntry → Bool) (e : LedgerEntry) (es : List LedgerEntry) → Rises (e ∷ es) → made_at p es e.time ≡ false
+none_later p e es r =
+    elim (cases_Bool (made_at p es e.time)) [
+      | inr b ↦ b
+      | inl b ↦
+          let m = made_by (λ (d : LedgerEntry). e.time < d.time) p es e.time (λ k d l. r 0 (suc k) d (omega arith) (omega (arith, l))) b in
+          let late = m.holds in
+          let at = m.at in
+          absurd (omega (arith, late, at))
+    ]
+
+one_more : (p : LedgerEntry → Bool) (e : LedgerEntry) (es : List LedgerEntry) → p e ≡ true → how_many p (e ∷ es) ≡ 1 + how_many p es
+unfolding how_many
+one_more p e es b = rw b refl
+
+no_more : (p : LedgerEntry → Bool) (e : LedgerEntry) (es : List LedgerEntry) → p e ≡ false → how_many p (e ∷ es) ≡ how_many p es
+unfolding how_many
+no_more p e es b = rw b refl
+
+-- the entries that pass are made at as many steps
+many_steps : (p : LedgerEntry → Bool) (until : ℕ) (es : List LedgerEntry) → Rises es → ((e : LedgerEntry) → p e ≡ true → e.time < until) → how_many p es ≤ count (made_at p es) until
+many_steps p until [] r early = unfold how_many in omega arith
+many_steps p until (e ∷ es) r early =
+    let rest = many_steps p until es (λ i j d l k. r (suc i) (suc j) d (omega (arith, l)) (omega (arith, k))) early in
+    elim (cases_Bool (p e)) [
+      | inl b ↦
+          let none : one_if (made_at p es e.time) ≡ 0 = rw (none_later p e es r) refl in
+          let one : one_if (made_at p (e ∷ es) e.time) ≡ 1 = rw (eq-eqb e.time e.time refl, b) refl in
+          let more = sum_change (λ n. one_if (made_at p (e ∷ es) n)) (λ n. one_if (made_at p es n)) until e.time 1 0 (early e b) (omega (arith, none, one))
+          (λ n ne. one_le (made_at p es n) (made_at p (e ∷ es) n) (or_right ((e.time == n) && p e) (made_at p es n))) in
+          omega (arith, rest, more, one_more p e es b)
+      | inr b ↦
+          let more = count_le (made_at p es) (made_at p (e ∷ es)) until (λ n l h. or_right ((e.time == n) && p e) (made_at p es n) h) in
+          omega (arith, rest, more, no_more p e es b)
+    ]
+
+counted : (p : LedgerEntry → Bool) (until : ℕ) (es : List LedgerEntry) → Rises es → ((e : LedgerEntry) → p e ≡ true → e.time < until) → count_by p es ≤ count (made_at p es) until
+counted p until es r early =
+    subst (λ k. k ≤ count (made_at p es) until) (is_count_by (how_many p) p (unfold how_many in refl) (unfold how_many in λ e more. refl) es) (many_steps p until es r early)
+
+module _ (s : Start) (set : TaskSet) (graphs : ℕ → TaskGraph) (c : Certificate) (n : ℕ) (ledger : List LedgerEntry) (x start answer : ℕ) (H : HasAnswered s set graphs c n ledger x start answer) where
+  answer_by : answer ≤ n
+  answer_by = answered_by s n x answer H.answered
+
+  kept_down : (d m y : ℕ) → is_kept (job_of s (m + d) y).watch ≡ true → is_kept (job_of s m y).watch ≡ true
+  kept_down zero m y k = let e : m + 0 ≡ m = omega arith in subst (λ u. is_kept (job_of s u y).watch ≡ true) e k
+  kept_down (suc d) m y k =
+      let e : m + suc d ≡ suc (m + d) = omega arith in
+      kept_down d m y (kept_before s set graphs H.in_range H.code H.run.tasks (m + d) y (subst (λ u. is_kept (job_of s u y).watch ≡ true) e k))
+
+  kept_job : (y : ℕ) → y < length s.lines → is_kept (job_of s answer y).watch ≡ true
+  kept_job y l =
+      let b = answer_by in
+      let e : answer + (n - answer) ≡ n = omega (arith, b) in
+      kept_down (n - answer) answer y (subst (λ u. is_kept (job_of s u y).watch ≡ true) (sym e) (H.kept y no_job (omega (arith, jobs_length s n, l))))
+
+  kept : IsKept (state s answer)
+  kept y d l = rw (get_or_default (state s answer).jobs y d no_job l) (kept_job y (omega (arith, l, jobs_length s answer)))
+
+  open_before : (m : ℕ) → m < answer → is_open (job_of s m x).standing ≡ true
+  open_before m l =
+      elim (cases_Bool (is_open (job_of s m x).standing)) [
+        | inl b ↦ b
+        | inr b ↦
+            let by = answer_by in
+            let same = over_stays s x m n (omega (arith, l, by)) b in
+            let early = answered_by s m x answer (ap (λ (j : Job). j.standing) (sym same) ∙ H.answered) in
+            absurd (omega (arith, early, l))
+      ]
+
+  has_window : HasWindow s set graphs c x start answer
+  has_window =
+      record {
+        in_range = H.in_range;
+        code = H.code;
+        says = H.says;
+        run = H.run;
+        kept = kept;
+        job = H.job;
+        starts = H.starts;
+        open_before = open_before;
+      }
+
+  module _ (test : LedgerEntry → Bool) where
+    abbrev of_window : LedgerEntry → Bool
+    of_window e = is_in_window s x start answer e && test e
+
+    -- what the test of the window says
+    pub record InWindow (e : LedgerEntry) : Type 0 where
+      pub late : start ≤ e.time
+      pub early : e.time < answer
+      pub by : task_of s e.job ≤ task_of s x
+      pub passes : test e ≡ true
+
+    in_window : (e : LedgerEntry) → of_window e ≡ true → InWindow e
+    in_window e b =
+        let one = and_parts (is_in_window s x start answer e) (test e) b in
+        let two = and_parts (nat_le start e.time && nat_lt e.time answer) (nat_le (task_of s e.job) (task_of s x)) one.0 in
+        let three = and_parts (nat_le start e.time) (nat_lt e.time answer) two.0 in
+        record { late = leb-true _ _ three.0; early = ltb-true _ _ three.1; by = leb-true _ _ two.1; passes = one.1 }
+
+    made : (t : ℕ) → made_at of_window ledger t ≡ true → IsMade (λ (e : LedgerEntry). (e.time < n) × IsOfRun s graphs c e) of_window t
+    made t b = made_by (λ (e : LedgerEntry). (e.time < n) × IsOfRun s graphs c e) of_window ledger t H.entries.entries b
+
+    few : count_by of_window ledger ≤ count (made_at of_window ledger) answer
+    few = counted of_window answer ledger H.entries.in_order (λ e b. (in_window e b).early)
+
+  evicted_at : (j t : ℕ) → made_at (of_window (evicted_by s j)) ledger t ≡ true → (t < answer) × EvictedBy s graphs c x start j t
+  evicted_at j t b =
+      let m = made (evicted_by s j) t b in
+      let e = m.entry in
+      let w = in_window (evicted_by s j) e m.passes in
+      subst (λ u. (u < answer) × EvictedBy s graphs c x start j u) m.at
+      (w.early, (w.late, e.job, e.evictor, w.by, eqb-true _ _ w.passes, m.holds.1.evicted))
+
+  preempted_at : (j t : ℕ) → made_at (of_window (preempted_by s j)) ledger t ≡ true → (t < answer) × PreemptedBy s graphs c x start j t
+  preempted_at j t b =
+      let m = made (preempted_by s j) t b in
+      let e = m.entry in
+      let w = in_window (preempted_by s j) e m.passes in
+      subst (λ u. (u < answer) × PreemptedBy s graphs c x start j u) m.at
+      (w.early, (w.late, e.job, e.preemptor, w.by, eqb-true _ _ w.passes, m.holds.1.preempted))
+
+times_within : (a b miss most : ℕ) → a ≤ b → miss * b ≤ most → a * miss ≤ most
+times_within a b miss most le h =
+    let more = mul-le-mul_left miss le in
+    let turn : a * miss ≡ miss * a = mul_comm a miss in
+    omega (arith, more, turn, h)
+
+pub ledger_within_delays : LedgerWithinDelays
+ledger_within_delays =
+    record {
+      ucb = λ s set graphs c n ledger x start answer j H l.
+          times_within _ _ set.platform.miss _ (few s set graphs c n ledger x start answer H (evicted_by s j))
+          (entries_within_delays.ucb s set graphs c x start answer j _ (has_window s set graphs c n ledger x start answer H) (omega (arith, l)) (evicted_at s set graphs c n ledger x start answer H j));
+      ecb = λ s set graphs c n ledger x start answer j H l.
+          times_within _ _ set.platform.miss _ (few s set graphs c n ledger x start answer H (preempted_by s j))
+          (entries_within_delays.ecb s set graphs c x start answer j _ (has_window s set graphs c n ledger x start answer H) (omega (arith, l)) (preempted_at s set graphs c n ledger x start answer H j));
+    }

@@ -1,0 +1,168 @@
+-- Step 3, fetches_are_kept_walk: while its watch is not broken, each job's fetches are a kept walk of its task's graph.
+use Rattle.std.proofs.Common.{◌≡◌, ◌≢◌, ℕ, zero, suc, ◌<◌, ◌≤◌, true, false, [], length, Option, Some, None, refl, sym, ◌∙◌, ap, subst, inl, inr, arith}
+use Rattle.std.specs.Prelude.{◌==◌}
+use Rattle.std.proofs.lemmas.Bool.{cases_Bool, eq-eqb, eqb-true, false≢true, true≢false}
+use Rattle.crpd_base.specs.declared.data.Platform.{Platform}
+use Rattle.crpd_base.specs.declared.data.ScriptJob.{ScriptJob}
+use Rattle.crpd_base.specs.declared.data.TaskSet.{TaskSet}
+use Rattle.rv_decode.specs.Flow.{flows}
+use Rattle.flow_watch.specs.Watch.{Watch, start, is_kept}
+use Rattle.loop_regions.specs.Watched.{IsWatchedWalk}
+use Rattle.loop_regions.proofs.Watched.{watch_start_law}
+use Rattle.loop_regions.specs.TaskGraph.{TaskGraph}
+use Rattle.cert_check.specs.Judge.{IsGraphOf}
+use Rattle.preempt_machine.specs.Machine.{Job, no_job, plan_of}
+use Rattle.preempt_machine.specs.Step.{is_open, Turn, turn_of, turned, makes_fetch, Fetch, Start, state, fetch_at}
+use Rattle.preempt_machine.specs.Safe.{NamesTasks}
+use Rattle.preempt_machine.proofs.Steps.{candidate_some, ready_open, step_own, step_other}
+use Rattle.preempt_machine.proofs.Runs.{state_line}
+use Rattle.run_account.specs.Fetches.{job_of}
+use Rattle.run_account.proofs.Jobs.{jobs_length, line_is, new_at}
+use Rattle.run_account.proofs.Owners.{candidate_at, cases_some}
+use Rattle.run_account.proofs.OwnFetches.{fetch_made, fetch_not_made, own_candidate}
+use Rattle.run_account.specs.Nodes.{task_of, plan_at, node_of, node_number}
+use Rattle.sound_laws.specs.Walks.{IsInRange, IsCodeOf, before_of, IsOnWalk, IsNoneOrKeptWalk, fetched_by, fetched_nodes, FetchesAreKeptWalk}
+use Rattle.sound_laws.proofs.Walks.Turns.{turned_watch}
+use Rattle.sound_laws.proofs.Walks.Stands.{Stands, stands_on, number_there}
+use Rattle.sound_laws.proofs.Walks.Walked.{nodes_after, WalkTurn, walk_turn}
+
+module _ (s : Start) (set : TaskSet) (graphs : ℕ → TaskGraph) (R : IsInRange set) (C : IsCodeOf s.system set graphs) (T : NamesTasks set s.lines) where
+  abbrev pub graph_at : ℕ → TaskGraph
+  graph_at x = graphs (task_of s x)
+
+  pub opened : (n x : ℕ) → candidate_at s n ≡ Some x → is_open (job_of s n x).standing ≡ true
+  opened n x e = ready_open (state s n).time (job_of s n x) (candidate_some s.system (state s n) x e).ready
+
+  pub below_at : (n x : ℕ) → candidate_at s n ≡ Some x → x < length s.lines
+  below_at n x e = let b = (candidate_some s.system (state s n) x e).below in omega (arith, b, jobs_length s n)
+
+  pub task_below : (x : ℕ) → x < length s.lines → task_of s x < length set.tasks
+  task_below x h = subst (λ (l : ScriptJob). l.task.0 < length set.tasks) (sym (line_is s 0 x h)) (T x no_job.line h)
+
+  pub ok : (x : ℕ) → x < length s.lines → IsGraphOf s.system.word (plan_at s x) (graph_at x)
+  ok x h = C.graphs_of (task_of s x) (task_below x h)
+
+  pub hit_some : 1 ≤ s.system.platform.hit
+  hit_some = subst (λ (p : Platform). 1 ≤ p.hit) (sym C.platform) R.hit
+
+  pub same_plan : (n x : ℕ) → plan_of s.system (job_of s n x).line.task.0 ≡ plan_at s x
+  same_plan n x = ap (λ (l : ScriptJob). plan_of s.system l.task.0) (state_line s n x)
+
+  abbrev pub turn_at : ℕ → ℕ → Turn
+  turn_at n x = turn_of s.system (state s n) x
+
+  -- the nodes of the fetches after a step
+  pub nodes_own : (n x : ℕ) → candidate_at s n ≡ Some x → fetched_nodes s graphs (suc n) x ≡ nodes_after s.system (graph_at x) (turn_at n x) (fetched_nodes s graphs n x)
+  nodes_own n x e =
+      elim (cases_Bool (makes_fetch s.system (turn_at n x))) [
+        | inl m ↦ rw (fetch_made s x n e m, m, eq-eqb x x refl) refl
+        | inr m ↦ rw (fetch_not_made s x n e m, m) refl
+      ]
+
+  nodes_by : (n x : ℕ) (f : Option Fetch) → fetch_at s n ≡ f → candidate_at s n ≢ Some x → fetched_by s graphs n x f (fetched_nodes s graphs n x) ≡ fetched_nodes s graphs n x
+  nodes_by n x None e ne = refl
+  nodes_by n x (Some f) e ne =
+      elim (cases_Bool (f.job == x)) [
+        | inl b ↦ absurd (ne (own_candidate s x n f (record { is = e; by = eqb-true f.job x b })))
+        | inr b ↦ rw b refl
+      ]
+
+  pub nodes_other : (n x : ℕ) → candidate_at s n ≢ Some x → fetched_nodes s graphs (suc n) x ≡ fetched_nodes s graphs n x
+  nodes_other n x ne = nodes_by n x (fetch_at s n) refl ne
+
+  -- a watch that is kept was kept before
+  broken : (w : Watch) → is_kept w ≡ false → w ≡ None
+  broken None h = refl
+  broken (Some frames) h = absurd (true≢false h)
+
+  broken_step : (n x : ℕ) → (job_of s n x).watch ≡ None → (job_of s (suc n) x).watch ≡ None
+  broken_step n x b =
+      elim (cases_some (candidate_at s n) x) [
+        | inl e ↦ ap (λ (j : Job). j.watch) (step_own s.system (state s n) x e) ∙ turned_watch s.system (state s n).time (turn_of s.system (state s n) x) b
+        | inr ne ↦ ap (λ (j : Job). j.watch) (step_other s.system (state s n) x ne) ∙ b
+      ]
+
+  pub kept_before : (n x : ℕ) → is_kept (job_of s (suc n) x).watch ≡ true → is_kept (job_of s n x).watch ≡ true
+  kept_before n x k =
+      elim (cases_Bool (is_kept (job_of s n x).watch)) [
+        | inl b ↦ b
+        | inr b ↦ absurd (false≢true (ap is_kept (sym (broken_step n x (broken _ b))) ∙ k))
+      ]
+
+  -- the start
+  watch_is : (x : ℕ) → x < length s.lines → (job_of s 0 x).watch ≡ start (plan_at s x)
+  watch_is x h = ap (λ (j : Job). j.watch) (new_at s x h) ∙ ap (λ (l : ScriptJob). start (plan_of s.system l.task.0)) (sym (line_is s 0 x h))
+
+  entry_is : (x : ℕ) → x < length s.lines → (job_of s 0 x).pc ≡ (plan_at s x).entry
+  entry_is x h = ap (λ (j : Job). j.pc) (new_at s x h) ∙ ap (λ (l : ScriptJob). (plan_of s.system l.task.0).entry) (sym (line_is s 0 x h))
+
+  pub left_zero : (x : ℕ) → x < length s.lines → (job_of s 0 x).left ≡ 0
+  left_zero x h = ap (λ (j : Job). j.left) (new_at s x h)
+
+  first_by : (x : ℕ) → x < length s.lines → (w : Watch) → start (plan_at s x) ≡ w → is_kept w ≡ true → IsOnWalk s.system.word (plan_at s x) (graph_at x) (job_of s 0 x) []
+  first_by x h None e k = absurd (false≢true k)
+  first_by x h (Some frames) e k =
+      let g = ok x h in
+      let W = watch_start_law (flows s.system.word) (plan_at s x) (graph_at x).graph (graph_at x).places (graph_at x).nest frames g.follows g.regions e in
+      let watch : (job_of s 0 x).watch ≡ Some frames = watch_is x h ∙ e in
+      let node : node_of (graph_at x) (job_of s 0 x) ≡ (graph_at x).graph.first =
+      ap (λ w. node_number (graph_at x) w (job_of s 0 x).pc) watch ∙ ap (λ a. node_number (graph_at x) (Some frames) a) (entry_is x h) ∙ number_there s.system (plan_at s x) (graph_at x) g C.map (graph_at x).graph.first [] (plan_at s x).entry frames W in
+      let bit : ((job_of s 0 x).left == 0) ≡ true = eq-eqb _ _ (left_zero x h) in
+      let before : before_of (job_of s 0 x) [] ≡ [] = rw bit refl in
+      record {
+        frames = frames;
+        watch = watch;
+        walked = subst (λ y. IsWatchedWalk (flows s.system.word) (plan_at s x) (graph_at x).graph (graph_at x).places (graph_at x).nest y (before_of (job_of s 0 x) []) (job_of s 0 x).pc frames) (sym node)
+            (subst (λ b. IsWatchedWalk (flows s.system.word) (plan_at s x) (graph_at x).graph (graph_at x).places (graph_at x).nest (graph_at x).graph.first b (job_of s 0 x).pc frames) (sym before)
+            (subst (λ a. IsWatchedWalk (flows s.system.word) (plan_at s x) (graph_at x).graph (graph_at x).places (graph_at x).nest (graph_at x).graph.first [] a frames) (sym (entry_is x h)) W));
+        under_way = λ ne. absurd (ne (left_zero x h));
+      }
+
+  -- what holds of a job
+  pub record IsWalking (n x : ℕ) : Type 0 where
+    pub nodes_kept : IsNoneOrKeptWalk (graph_at x) (fetched_nodes s graphs n x)
+    pub on_walk : is_open (job_of s n x).standing ≡ true → IsOnWalk s.system.word (plan_at s x) (graph_at x) (job_of s n x) (fetched_nodes s graphs n x)
+
+  pub stands_at : (n x : ℕ) → x < length s.lines → IsOnWalk s.system.word (plan_at s x) (graph_at x) (job_of s n x) (fetched_nodes s graphs n x) → Stands s.system (graph_at x) (node_of (graph_at x) (job_of s n x)) (job_of s n x).pc
+  stands_at n x h W = stands_on s.system (plan_at s x) (graph_at x) (ok x h) C.map (job_of s n x) (fetched_nodes s graphs n x) W
+
+  pub turn_walks : (n x : ℕ) → candidate_at s n ≡ Some x → IsWalking n x → WalkTurn s.system (plan_at s x) (graph_at x) (nodes_after s.system (graph_at x) (turn_at n x) (fetched_nodes s graphs n x)) (turned s.system (state s n).time (turn_at n x))
+  turn_walks n x e is =
+      let h = below_at n x e in
+      let o = opened n x e in
+      let W = is.on_walk o in
+      walk_turn s.system (plan_at s x) (graph_at x) (ok x h) C.map hit_some (state s n).time (turn_at n x) (fetched_nodes s graphs n x) W (stands_at n x h W) (same_plan n x) o
+
+  walking_step : (n x : ℕ) → is_kept (job_of s (suc n) x).watch ≡ true → IsWalking n x → IsWalking (suc n) x
+  walking_step n x k is =
+      elim (cases_some (candidate_at s n) x) [
+        | inl e ↦
+            let t = turn_walks n x e is in
+            let own = step_own s.system (state s n) x e in
+            let nodes = nodes_own n x e in
+            record {
+              nodes_kept = subst (λ b. IsNoneOrKeptWalk (graph_at x) b) (sym nodes) t.nodes_kept;
+              on_walk = λ o. subst (λ b. IsOnWalk s.system.word (plan_at s x) (graph_at x) (job_of s (suc n) x) b) (sym nodes)
+                  (subst (λ (j : Job). IsOnWalk s.system.word (plan_at s x) (graph_at x) j (nodes_after s.system (graph_at x) (turn_at n x) (fetched_nodes s graphs n x))) (sym own)
+                  (t.stays (subst (λ (j : Job). is_kept j.watch ≡ true) own k) (subst (λ (j : Job). is_open j.standing ≡ true) own o)));
+            }
+        | inr ne ↦
+            let same = step_other s.system (state s n) x ne in
+            let nodes = nodes_other n x ne in
+            record {
+              nodes_kept = subst (λ b. IsNoneOrKeptWalk (graph_at x) b) (sym nodes) is.nodes_kept;
+              on_walk = λ o. subst (λ b. IsOnWalk s.system.word (plan_at s x) (graph_at x) (job_of s (suc n) x) b) (sym nodes)
+                  (subst (λ (j : Job). IsOnWalk s.system.word (plan_at s x) (graph_at x) j (fetched_nodes s graphs n x)) (sym same)
+                  (is.on_walk (subst (λ (j : Job). is_open j.standing ≡ true) same o)));
+            }
+      ]
+
+  pub walking : (n x : ℕ) → x < length s.lines → is_kept (job_of s n x).watch ≡ true → IsWalking n x
+  walking zero x h k =
+      record { nodes_kept = tt; on_walk = λ o. first_by x h (start (plan_at s x)) refl (ap is_kept (sym (watch_is x h)) ∙ k) }
+  walking (suc n) x h k = walking_step n x k (walking n x h (kept_before n x k))
+
+pub fetches_are_kept_walk : FetchesAreKeptWalk
+fetches_are_kept_walk s set graphs n x R C T h k =
+    let is = walking s set graphs R C T n x h k in
+    (is.nodes_kept, is.on_walk)

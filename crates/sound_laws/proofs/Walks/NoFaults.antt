@@ -1,0 +1,23 @@
+-- For step 7: no job on a walk faults.
+use Rattle.std.proofs.Common.{◌≡◌, ◌≢◌, ℕ, zero, suc, ◌<◌, true, length, sym, ap, subst, inl, inr}
+use Rattle.crpd_base.specs.declared.data.TaskSet.{TaskSet}
+use Rattle.flow_watch.specs.Watch.{is_kept}
+use Rattle.loop_regions.specs.TaskGraph.{TaskGraph}
+use Rattle.preempt_machine.specs.Machine.{Job, Faulted}
+use Rattle.preempt_machine.specs.Step.{Start, state}
+use Rattle.preempt_machine.specs.Safe.{NamesTasks}
+use Rattle.preempt_machine.proofs.Steps.{step_own, step_other}
+use Rattle.run_account.specs.Fetches.{job_of}
+use Rattle.run_account.proofs.Jobs.{new_at}
+use Rattle.run_account.proofs.Owners.{candidate_at, cases_some}
+use Rattle.sound_laws.specs.Walks.{IsInRange, IsCodeOf}
+use Rattle.sound_laws.proofs.Walks.KeptWalks.{kept_before, walking, turn_walks}
+
+pub no_fault : (s : Start) (set : TaskSet) (graphs : ℕ → TaskGraph) → IsInRange set → IsCodeOf s.system set graphs → NamesTasks set s.lines → (n x : ℕ) → x < length s.lines → is_kept (job_of s n x).watch ≡ true → (job_of s n x).standing ≢ Faulted
+no_fault s set graphs R C T zero x h k = let st = ap (λ (j : Job). j.standing) (new_at s x h) in λ q. cc
+no_fault s set graphs R C T (suc n) x h k =
+    let kn = kept_before s set graphs R C T n x k in
+    elim (cases_some (candidate_at s n) x) [
+      | inl e ↦ subst (λ (j : Job). j.standing ≢ Faulted) (sym (step_own s.system (state s n) x e)) (turn_walks s set graphs R C T n x e (walking s set graphs R C T n x h kn)).no_fault
+      | inr ne ↦ subst (λ (j : Job). j.standing ≢ Faulted) (sym (step_other s.system (state s n) x ne)) (no_fault s set graphs R C T n x h kn)
+    ]

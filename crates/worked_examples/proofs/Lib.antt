@@ -1,0 +1,11 @@
+pub mod Few
+pub mod InRanges
+pub mod ZeroAlone
+pub mod OneWay
+pub mod WayTests
+pub mod LowFiles
+pub mod TwoWords
+pub mod OneLoop
+pub mod TwoTasks
+pub mod ThreeTasks
+pub mod WorkedSets

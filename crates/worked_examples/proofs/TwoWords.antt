@@ -1,0 +1,86 @@
+-- The premises of the laws hold of a task of two words.
+use Rattle.std.proofs.Common.{ℕ, ◌+◌, ◌≤◌, pos, [], ◌∷◌, Some, None, refl, arith}
+use Rattle.rv_decode.specs.declared.Ins.TheVariants.{Addi, Ecall}
+use Rattle.rv_decode.specs.Flow.{flow}
+use Rattle.rv_decode.specs.Table.{row, table}
+use Rattle.rv_decode.specs.Cost.{work_cost}
+use Rattle.script_reader.specs.Legal.{period_of}
+use Rattle.crpd_base.specs.Tasks.{deadline_of}
+use Rattle.cert_check.specs.Judge.{IsGraphOf, IsYes, TaskMeets}
+use Rattle.preempt_machine.specs.Machine.{plan_of}
+use Rattle.sound_laws.specs.Headline.{YesIsSafe}
+use Rattle.sound_laws.specs.Walks.{IsInRange, IsCodeOf}
+use Rattle.worked_examples.specs.TwoWords.{platform, words, system, set, graph, zero_alone, certificate, TwoWords}
+use Rattle.worked_examples.proofs.Few.{one, two}
+use Rattle.worked_examples.proofs.OneWay.{code_map}
+use Rattle.worked_examples.proofs.WayTests.{Way, IsWay, IsAt, IsCode, is_graph_of, IsCertified, graph_meets, lists}
+
+-- from node 0 to node 1
+abbrev pub way : ℕ → Way
+way entry =
+    record {
+      addresses = entry ∷ (entry + 4) ∷ [];
+      instructions = Addi 5 0 (pos 1) ∷ Ecall ∷ [];
+      successors = Some 1 ∷ None ∷ [];
+      walks = [] ∷ (0 ∷ []) ∷ [];
+    }
+
+pub is_way : (entry : ℕ) → IsWay (way entry)
+is_way entry = record { some = omega arith; start = refl; walks = refl; steps = refl }
+
+-- both nodes are in cache set 0; the second one is a hit
+pub certified : IsCertified platform (way 0x1000) 12 zero_alone zero_alone (12 ∷ 1 ∷ [])
+unfolding work_cost flow
+certified = record { evicts = refl; reuses = refl; pays = refl; ends = refl; first = omega arith; count = refl }
+
+code : IsCode words 0x1000 (way 0x1000)
+unfolding flow row table
+code =
+    record {
+      entry_at = refl;
+      at = two (IsAt words 0x1000 (way 0x1000)) (record { goes = refl; no_error = refl; decodes = refl }) (record { goes = refl; no_error = refl; decodes = refl });
+      one_number = refl;
+    }
+
+is_code : IsCodeOf system set (λ k. graph)
+is_code =
+    record {
+      platform = refl;
+      map = code_map ((0x1000, 0x00100293) ∷ (0x1004, 0x00000073) ∷ []) refl;
+      graphs_of = one (λ k. IsGraphOf words (plan_of system k) graph) (is_graph_of words 0x1000 (way 0x1000) (is_way 0x1000) code);
+    }
+
+in_range : IsInRange set
+in_range =
+    record {
+      hit = omega arith;
+      sets = omega arith;
+      few_sets = omega arith;
+      periods = one (λ k. 1 ≤ period_of set k) (omega arith);
+      deadlines = one (λ k. deadline_of set k ≤ period_of set k) (omega arith);
+    }
+
+is_yes : IsYes set (λ k. graph) certificate
+is_yes =
+    one (TaskMeets set (λ k. graph) certificate)
+    (record {
+      platform = refl;
+      has_task = omega arith;
+      name = refl;
+      last = λ e. refl;
+      lists = lists platform (way 0x1000) 12 zero_alone zero_alone (12 ∷ 1 ∷ []) 17 (is_way 0x1000) certified;
+      graph = graph_meets platform (way 0x1000) 12 zero_alone zero_alone (12 ∷ 1 ∷ []) 17 (is_way 0x1000) certified;
+      some_window = omega arith;
+      room = omega arith;
+      response = refl;
+      in_deadline = omega arith;
+    })
+
+pub two_words : YesIsSafe → TwoWords
+two_words law =
+    record {
+      in_range = in_range;
+      code = is_code;
+      says = is_yes;
+      safe = law system set (λ k. graph) certificate in_range is_code is_yes;
+    }

@@ -1,0 +1,7 @@
+pub mod OneWay
+pub mod TwoWords
+pub mod OneLoop
+pub mod Least
+pub mod TwoTasks
+pub mod ThreeTasks
+pub mod WorkedSets

@@ -1,0 +1,60 @@
+-- Two tasks on one cache set, of which the higher one preempts: their code, graphs and certificate, and a run that takes the
+-- responses whole.
+use Rattle.std.specs.Prelude.{◌≡◌, ℕ, zero, suc, List, [], ◌∷◌, None, codes}
+use Rattle.crpd_base.specs.declared.data.TaskSet.{TaskSet}
+use Rattle.crpd_base.specs.declared.data.Certificate.{Certificate}
+use Rattle.code_map.specs.Words.{Code}
+use Rattle.loop_regions.specs.TaskGraph.{TaskGraph}
+use Rattle.preempt_machine.specs.declared.End.TheVariants.{Answered}
+use Rattle.preempt_machine.specs.Machine.{System}
+use Rattle.preempt_machine.specs.Step.{Start, state}
+use Rattle.preempt_machine.specs.Safe.{system_of, IsSafeWith, IsLegalRun, IsKept, completions}
+use Rattle.sound_laws.specs.Within.{IsChecked}
+use Rattle.worked_examples.specs.TwoWords.{platform, graph_from, zero_alone}
+use Rattle.worked_examples.specs.Least.{AreLeast}
+use Rattle.worked_examples.specs.OneWay.{plan, named_task, file_of, job, first_alone, named}
+
+-- one into x5, ECALL: of the lower task at 0x1000, of the higher one at 0x2000
+abbrev pub words : List ℕ
+words = 0x00100293 ∷ 0x00000073 ∷ []
+
+abbrev pub code : Code
+code = record { images = file_of ((0x2000, words) ∷ []) ∷ file_of ((0x1000, words) ∷ []) ∷ []; plans = plan 0x2000 ∷ plan 0x1000 ∷ [] }
+
+abbrev pub high_name : List ℕ
+high_name = codes "high"
+
+abbrev pub low_name : List ℕ
+low_name = codes "low"
+
+abbrev pub set : TaskSet
+set = record { platform = platform; tasks = named_task high_name 100 ∷ named_task low_name 100 ∷ [] }
+
+abbrev pub system : System
+system = system_of set code
+
+abbrev pub graphs : ℕ → TaskGraph
+graphs zero = graph_from 0x2000
+graphs (suc k) = graph_from 0x1000
+
+-- a reload by the one preemption, two switches and the higher bound are what the lower response has more
+abbrev pub certificate : Certificate
+certificate =
+    record {
+      platform = platform;
+      tasks = named high_name (first_alone 12 zero_alone zero_alone (12 ∷ 1 ∷ []) 17) ∷ named low_name (first_alone 12 zero_alone zero_alone (12 ∷ 1 ∷ []) 49) ∷ [];
+    }
+
+-- the lower task first, and the higher one in the middle of it
+abbrev pub start : Start
+start = record { system = system; cache = None ∷ None ∷ None ∷ None ∷ []; memory = []; lines = job 1 0 ∷ job 0 16 ∷ [] }
+
+-- the premises of the laws hold of the set with its code, so it is safe with the responses 17 and 49, and with none that are shorter: a legal
+-- run takes both whole
+pub record TwoTasks : Type 0 where
+  pub checked : IsChecked set code graphs certificate
+  pub safe : IsSafeWith set code (17 ∷ 49 ∷ [])
+  pub least : AreLeast system set (17 ∷ 49 ∷ [])
+  pub legal : IsLegalRun set start
+  pub kept : IsKept (state start 100)
+  pub answers : completions (state start 100) ≡ Answered 49 ∷ Answered 33 ∷ []
