@@ -55,8 +55,9 @@ fn nest_of_found(
 /// the least such head, the others with the address of the least such node. `Memory` may come in place of any answer.
 ///
 /// A region holds the nodes of its context whose addresses the loop holds, and the nodes of the calls made there. Time is
-/// linear in the nodes and edges, times the number of regions of their contexts; where a node lies on a cycle without back
-/// edges, each node up to the least such node is searched from.
+/// linear in the nodes and edges, times the number of regions of their contexts, with a search among the ranges of a loop for
+/// each node that its regions may hold, and n log n in the ranges; where a node lies on a cycle without back edges, each node
+/// up to the least such node is searched from. The ranges are kept twice while the regions are found.
 pub fn regions(alloc: Global, graph: &Graph, plan: &TaskPlan) -> Result<Nest, LoopError>
     ensures regions { IfOk result (λ nest. IsRegions (graph_of graph.now) (places_of graph.now) plan.now.loops (nest_of nest)) }
     ensures accepted { IfOk result (λ nest. IsAccepted (graph_of graph.now) (nest_of nest)) }

@@ -1,7 +1,5 @@
 // Which regions hold a node.
 ghost use Rattle.std.specs.Prelude.{◌≡◌, ◌<◌, ◌≤◌, ◌↔◌, ◌∷◌, [], ◌++◌, ℕ, IfOk, OnOk, IsTrue, IsFalse, length, if◌then◌else◌, Some, slice_get};
-ghost use Rattle.std.specs.List.{list_any};
-ghost use Rattle.flow_watch.specs.Watch.{in_range, holds};
 ghost use Rattle.flat_graph.specs.CodeGraph.{graph_of, places_of};
 ghost use Rattle.loop_regions.specs.CodeNest.{has, row};
 ghost use Rattle.loop_regions.specs.Stated.{seen_from, region_holds};
@@ -9,34 +7,10 @@ ghost use Rattle.loop_regions.specs.Heads.{AreHeads, IsHeldBy, sees};
 
 use crate::heads::Head;
 use crate::holders::Holders;
+use crate::ranges::{RangedLoop, ranged_loops};
 use crpd_base::{LoopAt, NodeId};
 use flat_graph::Graph;
 use std::alloc::{AllocError, Global};
-
-/// Whether a range has the address: it includes its first address and excludes its second.
-fn in_range(address: u32, range: &(u32, u32)) -> bool
-    ensures { result ≡ in_range address range.now }
-{
-    range.0 <= address && address < range.1
-}
-
-/// Whether one of a stated loop's ranges has the address.
-fn is_in_ranges(stated: &LoopAt, address: u32) -> bool
-    ensures { result ≡ list_any (in_range address) stated.now.ranges }
-{
-    stated
-        .ranges
-        .as_slice()
-        .iter()
-        .any(|range| in_range(address, range))
-}
-
-/// Whether a stated loop holds an address: as its head, or in one of its ranges.
-fn holds(stated: &LoopAt, address: u32) -> bool
-    ensures { result ≡ holds stated.now address }
-{
-    address == stated.head || is_in_ranges(stated, address)
-}
 
 /// Seen from a context, the address of a node: its own, or that of the call that was made in the context. None where
 /// the node's context does not begin with it.
@@ -62,12 +36,12 @@ fn seen(graph: &Graph, from: &[u32], y: u32) -> Option<u32>
 }
 
 /// Whether the region of a stated loop in the context of a head holds a node.
-fn region_holds(graph: &Graph, stated: &LoopAt, from: &[u32], y: u32) -> bool
+fn region_holds(graph: &Graph, stated: &RangedLoop, from: &[u32], y: u32) -> bool
     requires { y < (graph_of graph.now).size }
     ensures { result ≡ region_holds (places_of graph.now) stated.now from.now y }
 {
     match seen(graph, from, y) {
-        Some(address) => holds(stated, address),
+        Some(address) => stated.holds(address),
         None => false,
     }
 }
@@ -118,7 +92,7 @@ fn past_seen(graph: &Graph, head: u32) -> u32
 /// context stand together; no others are looked at.
 fn place(
     graph: &Graph,
-    stated: &LoopAt,
+    stated: &RangedLoop,
     head: u32,
     r: u32,
     holders: &mut Vec<Holders>,
@@ -164,11 +138,12 @@ pub(crate) fn holders(
         IsTrue (has (row holders.items y) r) ↔ IsHeldBy (places_of graph.now) loops.now heads.now y r) }
 {
     graph.graph_law();
+    let ranged = ranged_loops(alloc, loops)?;
     let mut holders = no_holders(alloc, graph.len())?;
     for (r, head) in heads.iter().enumerate() {
         place(
             graph,
-            &loops[head.stated],
+            &ranged[head.stated],
             head.node,
             r as u32,
             &mut holders,

@@ -1,4 +1,4 @@
-use Rattle.std.proofs.Common.{refl, arith, length, get_or}
+use Rattle.std.proofs.Common.{◌∙◌, refl, ap, arith, length, get_or}
 use Rattle.std.proofs.lemmas.Option.{slice_get_within, slice_get-get_or, slice_get_read}
 use Rattle.flat_graph.specs.CodeGraph.{places_of}
 use Rattle.loop_regions.specs.CodeNest.{row}
@@ -15,9 +15,10 @@ loop-r-preserved c =
     let h = get_or heads k none in
     let eh = slice_get-get_or heads k none (omega arith) in
     let s = c.requires.stated k h eh in
-    let el = slice_get_read loops (length loops) h.stated c.index-loops-head.result refl (slice_get_within loops h.stated s.0 s.1) c.index-loops-head.is in (
+    let stated = c.index.result.now in
+    let el = slice_get_read loops (length loops) h.stated stated refl (slice_get_within loops h.stated s.0 s.1) (c.index.ensures ∙ ap (λ l. get_or l h.stated stated) c.in_ok-ranged.ensures) in (
       c.in_ok-place.ensures.nodes,
-      λ y r lt. placed (places_of c.args.graph.now) loops heads y k h c.index-loops-head.result (row c.loop-r.holders.items y) (row c.place.new.holders.items y) eh el (c.in_ok-place.ensures.placed y lt) (λ q. c.loop-r.invariant.1 y q lt) r,
+      λ y r lt. placed (places_of c.args.graph.now) loops heads y k h stated (row c.loop-r.holders.items y) (row c.place.new.holders.items y) eh el (c.in_ok-place.ensures.placed y lt) (λ q. c.loop-r.invariant.1 y q lt) r,
     )
 
 pub returns-clause-held : goal.returns-clause-held
