@@ -23,6 +23,7 @@ use Rattle.preempt_machine.specs.Safe.{IsKept}
 use Rattle.preempt_machine.specs.Step.{is_open, turn_of, makes_fetch, Fetch, Start, state, fetch_at}
 use Rattle.preempt_machine.proofs.Steps.{candidate_some, ready_open, step_own, step_other, fetch_says, fetch_left, some_injective, none_some, open_is_below}
 use Rattle.preempt_machine.proofs.Runs.{state_line}
+use Rattle.preempt_machine.proofs.Watches.{turned_watch}
 use Rattle.run_account.specs.Fetches.{job_of, fetched_set}
 use Rattle.run_account.specs.Nodes.{task_of, plan_at, node_of}
 use Rattle.run_account.specs.Reloads.{block_in, FetchesAt, HasOwn}
@@ -31,7 +32,6 @@ use Rattle.run_account.proofs.Jobs.{jobs_length, line_is, new_at}
 use Rattle.run_account.proofs.Owners.{candidate_at, cases_some}
 use Rattle.run_account.proofs.OwnFetches.{fetch_made, fetch_not_made, own_candidate, own_keeps, own_new}
 use Rattle.run_account.proofs.ReloadLaws.{fetcher_open, same_fetch}
-use Rattle.run_account.proofs.Turns.{turned_watch}
 use Rattle.run_account.proofs.Stands.{StandsOn, nodes_after, stands_first, turn_stands, walk_below, head_of}
 
 -- the address of the first of the nodes along steps is the place after them

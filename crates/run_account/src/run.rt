@@ -194,7 +194,7 @@ impl Trails {
         let Some(fetch) = machine.last_fetch() else {
             return Ok(true);
         };
-        let place = place_of(machine.completions(), fetch.job, self.owner);
+        let place = place_of(machine.completions(), fetch.job, machine.owner_place());
         let on = self.note(run, machine, &fetch, place, now)?;
         Ok(on)
     }
@@ -307,9 +307,8 @@ fn told(alloc: Global, completions: &[Completion], reloads: &[Reload]) -> Result
 /// most one entry of an evictor, or of a preemptor, and a cache set; all entries of a preemptor are of one job.
 ///
 /// Its time is that of the machine's cycles in which a job is ready, with a look through the jobs where another job
-/// fetches than before, where a job is over, and for each reload; where `hit` and `miss` together are below 2 cycles,
-/// with one for each of these cycles. A flag is kept for each node, an entry for each reload, and a note for each time
-/// at which a job goes on behind others.
+/// fetches than before and where a job is over. A flag is kept for each node, an entry for each reload, and a note for
+/// each time at which a job goes on behind others.
 pub fn account(
     alloc: Global,
     code: &CodeMap,

@@ -49,6 +49,7 @@ pub fn next_pc(ins: &Ins, pc: u32, regs: &Regs) -> Next
 
 /// The register that an instruction writes, and the value. Register 0 stands for none.
 #[tactic(auto, unfolding(crate::specs::Effect::written, rv_decode::specs::Range::IsInRange))]
+#[inline(always)]
 fn written(ins: &Ins, pc: u32, regs: &Regs, memory: &DataMemory) -> (u8, u32)
     requires { IsInRange ins.now }
     ensures value { result ≡ written ins.now pc regs.now memory.now }
@@ -97,6 +98,7 @@ fn written(ins: &Ins, pc: u32, regs: &Regs, memory: &DataMemory) -> (u8, u32)
 
 /// Carries out the store of an instruction that is one.
 #[tactic(auto, unfolding(crate::specs::Effect::stored, crate::specs::Effect::IsStore, rv_decode::specs::Range::IsInRange))]
+#[inline(always)]
 fn store(ins: &Ins, regs: &Regs, memory: &mut DataMemory) -> Result<(), Memory>
     requires { IsInRange ins.now }
     ensures ok { OnOk result (memory.new ≡ stored ins.now regs.now memory.old) }
