@@ -1,6 +1,6 @@
 use Rattle.std.proofs.Common.{codes, map, [], ◌∷◌}
 use Rattle.json.specs.Token.{key, string}
-use Rattle.serde_json.specs.Data.{object, array}
+use Rattle.serde_json.specs.Data.{array}
 use Rattle.serde_json.specs.View.{items_of}
 use Rattle.cert_model.specs.Tokens.{tokens_of}
 use Rattle.cert_model.specs.Writing.{numbers, state, task, task_members}
