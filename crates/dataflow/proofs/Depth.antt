@@ -4,8 +4,8 @@ use Rattle.std.specs.List.{sum_by}
 use Rattle.std.proofs.lemmas.Bool.{cases_eq, cases_lt}
 use Rattle.std.proofs.lemmas.List.{get_or_append_left, length-set, get_or_past, get_or_default, get_or-reverse, length-reverse}
 use Rattle.std.proofs.lemmas.List.Sums.{sum_by-set}
-use Rattle.std.proofs.Math.Seq.{get_or-append_seam}
-use Rattle.dataflow.specs.Search.{IsChained, IsAt, IsInDepth, IsOrder, to_follow, past}
+use Rattle.std.proofs.Math.Seq.{get_or-append_seam, get_or-append_right}
+use Rattle.dataflow.specs.Search.{IsChained, IsAt, IsInDepth, IsOrder, root_at, to_follow, past}
 
 at_front : (n m : ℕ) (xs : List ℕ) → IsAt n xs → IsAt n (xs ++ m ∷ [])
 at_front n m xs h = (h.0, omega (arith, h.1, length-append xs (m ∷ [])), get_or_append_left xs (m ∷ []) 0 h.0 h.1 ∙ h.2)
@@ -167,3 +167,21 @@ backwards nodes xs h = record {
         get_or-reverse xs (length xs - 1 - at_n.0) 0 within ∙ ap (λ i. get_or xs i 0) back ∙ at_n.2,
       );
 }
+
+-- two orders, one after the other
+pub both_orders : (nodes : ℕ) (xs ys : List ℕ) → IsOrder nodes xs → IsOrder nodes ys → IsOrder nodes (xs ++ ys)
+both_orders nodes xs ys h k = record {
+  own = λ i lt. ⊎_elim
+      (λ (front : i < length xs). subst (λ x. x < nodes) (sym (get_or_append_left xs ys 0 i front)) (h.own i front))
+      (λ (ge : length xs ≤ i). subst (λ x. x < nodes) (sym (get_or-append_right xs ys i 0 ge)) (k.own (i - length xs) (omega (arith, lt, ge, length-append xs ys))))
+      (cases_lt i (length xs));
+  each = λ n lt. let at_n = h.each n lt in (at_n.0, omega (arith, at_n.1, length-append xs ys), get_or_append_left xs ys 0 at_n.0 at_n.1 ∙ at_n.2);
+}
+
+-- each node is a root
+pub each_root : (P : ℕ → Type 0) (from_last : Bool) (nodes : ℕ) → ((k : ℕ) → k < nodes → P (root_at from_last nodes k)) → (n : ℕ) → n < nodes → P n
+each_root P false nodes h n lt = h n lt
+each_root P true nodes h n lt =
+    let back : nodes - 1 - (nodes - 1 - n) ≡ n = omega arith in
+    let within : nodes - 1 - n < nodes = omega arith in
+    subst P back (h (nodes - 1 - n) within)

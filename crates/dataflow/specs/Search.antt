@@ -90,6 +90,10 @@ pub record IsInDepth (nodes edges : ℕ) (seen : List Bool) (next : List (Option
   pub own : (i : ℕ) → i < length left → slice_index left i < nodes
   pub found : (n : ℕ) → slice_index_or seen n false ≡ true → IsAt n path ⊎ IsAt n left
 
+-- node k, or the k-th node from the last one back
+abbrev pub root_at : Bool → ℕ → ℕ → ℕ
+root_at from_last nodes k = if from_last then nodes - 1 - k else k
+
 -- twice the edges still to follow, and the path
 abbrev pub to_follow : List (Option ℕ) → List ℕ → ℕ
 to_follow next path = 2 * sum_by past next + length path

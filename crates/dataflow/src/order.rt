@@ -1,6 +1,6 @@
-// The order in which nodes are visited: each node before those that its edges lead to, but for cycles.
+// The orders in which nodes are visited: each node before those that its edges lead to, but for cycles.
 ghost use Rattle.std.specs.Prelude.{◌≡◌, ◌<◌, ◌≤◌, ℕ, IfOk, OnOk, None, [], ◌∷◌, ◌++◌, length, vec_len, slice_index_or, slice_set, true, false};
-ghost use Rattle.dataflow.specs.Search.{IsChained, IsOrder, IsInDepth, to_follow};
+ghost use Rattle.dataflow.specs.Search.{IsChained, IsOrder, IsInDepth, root_at, to_follow};
 
 use crate::outgoing::Outgoing;
 use crate::problem::Flow;
@@ -94,7 +94,40 @@ impl DepthFirst {
     }
 }
 
-/// The nodes in the reverse of the order in which a search in depth leaves them, in time linear in nodes and edges.
+/// The k-th root of a search: node k, or the k-th node from the last one back.
+fn root_at(nodes: u32, from_last: bool, k: u32) -> u32
+    requires { k < nodes }
+    ensures { result ≡ root_at from_last nodes k }
+{
+    if from_last { nodes - 1 - k } else { k }
+}
+
+/// The nodes in the reverse of the order in which a search in depth leaves them, which takes its roots from the first
+/// node on, or from the last one back.
+fn depth_order<G: Flow>(
+    alloc: Global,
+    flow: &G,
+    outgoing: &Outgoing,
+    from_last: bool,
+) -> Result<Vec<u32>, AllocError>
+    requires { IsChained (G.node_count flow.now) (G.edge_count flow.now) (G.ends flow.now) outgoing.now.last.items outgoing.now.before.items }
+    ensures { IfOk result (λ order. IsOrder (G.node_count flow.now) order.items) }
+{
+    let mut search = DepthFirst::new(alloc, outgoing)?;
+    for k in 0..flow.nodes() {
+        let root = root_at(flow.nodes(), from_last, k);
+        if !search.seen[root as usize] {
+            search.run(flow, outgoing, root)?;
+        }
+    }
+    let mut order = search.left;
+    order.reverse();
+    Ok(order)
+}
+
+/// Two orders of all nodes, one after the other: by a search in depth from the first node on, and by one from the last
+/// node back. The first has each node before those that its edges lead to, but for cycles. The second goes through a
+/// chain of loops that overlap from its end. Time is linear in nodes and edges.
 pub(crate) fn visit_order<G: Flow>(
     alloc: Global,
     flow: &G,
@@ -103,13 +136,8 @@ pub(crate) fn visit_order<G: Flow>(
     requires { IsChained (G.node_count flow.now) (G.edge_count flow.now) (G.ends flow.now) outgoing.now.last.items outgoing.now.before.items }
     ensures { IfOk result (λ order. IsOrder (G.node_count flow.now) order.items) }
 {
-    let mut search = DepthFirst::new(alloc, outgoing)?;
-    for root in 0..flow.nodes() {
-        if !search.seen[root as usize] {
-            search.run(flow, outgoing, root)?;
-        }
-    }
-    let mut order = search.left;
-    order.reverse();
+    let mut order = depth_order(alloc, flow, outgoing, false)?;
+    let second = depth_order(alloc, flow, outgoing, true)?;
+    order.extend_from_slice(&second)?;
     Ok(order)
 }

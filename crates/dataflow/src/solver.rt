@@ -118,11 +118,13 @@ fn search<G: Flow, D: Domain>(
 /// The least solution of a dataflow problem. The fact of a node is the fact before it: the join of its start with
 /// the fact after the source of each edge that leads to it. It is the join over all paths from nodes with a start,
 /// and None exactly where no such path leads. All numbers below the flow's `nodes()` must be the domain's own. The
-/// one refusal is want of memory; a fact for each node is taken, and some ten bytes for each node and edge.
+/// one refusal is want of memory; a fact for each node is taken, and some fifteen bytes for each node and edge.
 ///
-/// Nodes are visited round and round in the reverse of the order in which a search in depth leaves them, each only
-/// when its fact has risen since. So each edge is followed at most once more often than a fact can rise, and once
-/// where the edges have no cycle (Kam and Ullman 1976).
+/// Nodes are visited round and round in two orders in turn, each the reverse of the order in which a search in depth
+/// leaves them: of a search from the first node on, and of one from the last node back. Each is visited only when its
+/// fact has risen since. So each edge is followed at most once more often than a fact can rise, and once where the
+/// edges have no cycle (Kam and Ullman 1976). By the second order a fact goes back through a chain of loops that
+/// overlap in one round.
 pub fn solve<G: Flow, D: Domain>(
     alloc: Global,
     flow: &G,

@@ -5,7 +5,7 @@ ghost use Rattle.dataflow.specs.Search.{IsOrder, waits};
 use std::alloc::{AllocError, Global};
 use std::marker::Model;
 
-/// Nodes that wait, taken round and round in one order.
+/// Nodes that wait, taken round and round in an order, which may have a node more than once.
 #[derive(Drop)]
 pub(crate) struct Worklist {
     waiting: Vec<bool>,
