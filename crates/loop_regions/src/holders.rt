@@ -69,6 +69,17 @@ impl Holders {
     }
 }
 
+/// Copies of rows of regions.
+pub(crate) fn copy_holders(alloc: Global, rows: &[Holders]) -> Result<Vec<Holders>, AllocError>
+    ensures { IfOk result (λ copies. copies.items ≡ rows.now) }
+{
+    let mut copies = Vec::with_capacity(alloc, rows.len())?;
+    for row in rows {
+        copies.push(Holders::from_slice(alloc, row.as_slice())?)?;
+    }
+    Ok(copies)
+}
+
 /// Whether a row of a table has a region; there is none in a row past the last.
 pub(crate) fn includes(rows: &[Holders], y: u32, r: u32) -> bool
     ensures { result ≡ has (row rows.now y) r }

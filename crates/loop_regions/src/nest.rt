@@ -1,7 +1,8 @@
 // The regions of a task's graph.
 use crate::found::Regions;
-use crate::holders::Holders;
+use crate::holders::{Holders, copy_holders};
 use crpd_base::{Items, NodeId};
+use std::alloc::{AllocError, Global};
 use std::marker::Model;
 
 /// The regions of a task's graph: one for each stated loop in each context of its head, numbered from 0 by their heads.
@@ -31,7 +32,7 @@ impl Model for Nest {
 }
 
 impl Nest {
-    ghost use Rattle.std.specs.Prelude.{◌≡◌, ◌<◌, length};
+    ghost use Rattle.std.specs.Prelude.{◌≡◌, ◌<◌, length, IfOk};
     ghost use Rattle.loop_regions.specs.CodeNest.{nest_of};
     ghost use Rattle.loop_regions.specs.Found.{code_nest};
     ghost use Rattle.loop_regions.specs.KeptNest.{IsKept};
@@ -58,6 +59,24 @@ impl Nest {
             parents: Items::new(parents),
             innermost: Items::new(innermost),
         }
+    }
+
+    /// The nest once more. Linear in the regions and, for each node, those that hold it. The only error is want of memory.
+    pub fn copy(&self, alloc: Global) -> Result<Nest, AllocError>
+        ensures { IfOk result (λ nest. nest ≡ self.now) }
+    {
+        let heads = Vec::from_slice(alloc, self.heads.as_slice())?;
+        let bounds = Vec::from_slice(alloc, self.bounds.as_slice())?;
+        let holders = copy_holders(alloc, self.holders.as_slice())?;
+        let parents = Vec::from_slice(alloc, self.parents.as_slice())?;
+        let innermost = Vec::from_slice(alloc, self.innermost.as_slice())?;
+        Ok(Nest {
+            heads: Items::new(heads),
+            bounds: Items::new(bounds),
+            holders: Items::new(holders),
+            parents: Items::new(parents),
+            innermost: Items::new(innermost),
+        })
     }
 
     /// How many regions there are: 0 to 16,384. In constant time.

@@ -1,0 +1,52 @@
+// Whether the graph of some code is that of other code too.
+ghost use Rattle.std.specs.Prelude.{◌≡◌, ◌↔◌, IsTrue};
+ghost use Rattle.code_map.specs.Words.{word_at};
+ghost use Rattle.flat_graph.specs.CodeGraph.{IsCodeGraph};
+ghost use Rattle.flat_graph.specs.Refusals.{Stands};
+ghost use Rattle.flat_graph.specs.SameCode.{FitsCode};
+
+use crate::graph::Graph;
+use code_map::CodeMap;
+use crpd_base::NodeId;
+use rv_decode::{Ins, decode};
+
+/// Whether an instruction stands at an address.
+fn stands(code: &CodeMap, address: u32, ins: &Ins) -> bool
+    ensures { IsTrue result ↔ Stands (word_at code.now.images) address ins.now }
+{
+    let Some(word) = code.word(address) else {
+        return false;
+    };
+    match decode(word) {
+        Some(own) => own == *ins,
+        None => false,
+    }
+}
+
+/// Whether a graph begins at an entry, and its nodes' instructions stand in the code.
+fn fits(graph: &Graph, code: &CodeMap, entry: u32) -> bool
+    ensures { IsTrue result ↔ FitsCode (word_at code.now.images) entry graph.now }
+{
+    graph.graph_law();
+    if graph.address(graph.first()) != entry {
+        return false;
+    }
+    for u in 0..graph.len() {
+        let id = NodeId(u);
+        if !stands(code, graph.address(id), &graph.ins(id)) {
+            return false;
+        }
+    }
+    true
+}
+
+impl Graph {
+    /// Whether this is the flat graph of some code from an entry, as `build` would give it. Its time is that of one word
+    /// of the code for each node, at most; it takes no memory.
+    pub fn is_of_code(&self, code: &CodeMap, entry: u32) -> bool
+        ensures { IsTrue result ↔ IsCodeGraph (word_at code.now.images) entry self.now }
+    {
+        self.graph_law();
+        fits(self, code, entry)
+    }
+}
