@@ -50,8 +50,9 @@ fn put_segments(memory: &mut DataMemory, segments: &[Segment]) -> Result<(), Mem
 /// The data memory at the start of a script: the bytes of the segments of all tasks' files, in the order of the tasks, a
 /// later file over an earlier one; a segment's addresses past its bytes of the file hold 0, and so do all others.
 ///
-/// Time is that of a walk over the bytes of all segments, with one look-up for each 64 of them that is logarithmic in
-/// the stored pages, besides a walk over the stored pages for each segment. Want of memory is the only error.
+/// Time is that of a walk over the segments and all their bytes of the files, with a look-up for each segment and for
+/// each 64 bytes that is logarithmic in the stored pages: a page that a later segment takes out was stored by an earlier
+/// one. Want of memory is the only error.
 ///
 /// Source: Tool Interface Standard, Executable and Linking Format, version 1.2, book I (p_filesz, p_memsz).
 pub fn start_memory(alloc: Global, code: &CodeMap) -> Result<DataMemory, Memory>

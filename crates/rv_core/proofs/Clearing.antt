@@ -1,13 +1,15 @@
 -- What a clearing leaves.
-use Rattle.std.proofs.Common.{◌≡◌, ℕ, zero, suc, ◌+◌, ◌*◌, ◌/◌, ◌^◌, ◌-◌, ◌<◌, ◌≤◌, Bool, true, false, nat_lt, if◌then◌else◌, [], ◌∷◌, arith, refl, sym, ap, ◌∙◌, inl, inr, ◌⊎◌, unwrap_or, None, filter}
-use Rattle.std.specs.Prelude.{nat_le, ◌||◌}
-use Rattle.std.proofs.lemmas.Bool.{and_from, and_parts, cases_Bool, cases_lt, cases_eq, false≢true}
+use Rattle.std.proofs.Common.{◌≡◌, ℕ, zero, suc, ◌+◌, ◌*◌, ◌/◌, ◌^◌, ◌-◌, ◌<◌, ◌≤◌, true, false, nat_lt, if◌then◌else◌, [], ◌∷◌, arith, refl, sym, ap, ◌∙◌, inl, inr, ◌⊎◌, unwrap_or, None, filter}
+use Rattle.std.specs.Prelude.{nat_le}
+use Rattle.std.proofs.lemmas.Bool.{and_from, and_parts, cases_Bool, cases_lt, cases_eq, false≢true, lt-ltb, le-ltb}
 use Rattle.std.proofs.lemmas.Bool.Decides.{nat_tests}
 use Rattle.std.specs.BTreeMap.{is_at}
-use Rattle.std.specs.Map.{lookup}
-use Rattle.std.specs.Ordering.{nat_cmp}
+use Rattle.std.specs.BTreeMap.Range.{entries_between, range_contains}
+use Rattle.std.specs.declared.ops.Bound.TheVariants.{Included, Excluded}
+use Rattle.std.specs.Map.{lookup, remove_entry}
+use Rattle.std.specs.Ordering.{is_le, nat_cmp}
 use Rattle.rv_core.specs.Memory.{Memory, IsMemory, byte, put_byte, next_byte, put_bytes, is_within, clear_bytes}
-use Rattle.rv_core.specs.Pages.{Pages, memory_of, ArePages, byte_in}
+use Rattle.rv_core.specs.Pages.{Pages, memory_of, ArePages, byte_in, is_outside}
 use Rattle.rv_core.proofs.Memories.{byte_after_clear, byte_put, clear_from, is_equal, put_bytes_from, put_from, same_bytes, unequal}
 use Rattle.rv_core.proofs.Pages.{at_other, at_same, byte_of, pages_from}
 
@@ -72,9 +74,6 @@ zeros_clear n memory a m below fits =
     same_bytes 0 _ _ (put_bytes_from n memory a 0 m below) (clear_from 0 memory a n m) (λ c. zeros_byte n memory a c m below fits ∙ sym (byte_after_clear memory a n c))
 
 -- pages outside those from a number up to another
-abbrev pub is_outside : ℕ → ℕ → ℕ → Bool
-is_outside first last k = nat_lt k first || nat_le last k
-
 outside_true : (first last k : ℕ) → (k < first) ⊎ (last ≤ k) → is_outside first last k ≡ true
 outside_true first last k (inl l) = rw (lt_true k first l) refl
 outside_true first last k (inr g) = elim (cases_Bool (nat_lt k first)) [ inl t ↦ rw t refl | inr f ↦ rw (f, le_true last k g) refl ]
@@ -113,6 +112,40 @@ outside_gone (p ∷ pages) first last q f = elim (cases_Bool (is_outside first l
       let ne : q ≡ p.0 → ⊥ = λ e. false≢true (sym f ∙ ap (is_outside first last) e ∙ s) in
       rw (s, at_other q p.0 ne) (outside_gone pages first last q f)
   | inr s ↦ rw s (outside_gone pages first last q f)
+]
+
+-- a number that is not outside is in the range
+inside_between : (first last q : ℕ) → is_outside first last q ≡ false → range_contains nat_cmp (Included first) (Excluded last) q ≡ true
+inside_between first last q f =
+    let low : first ≤ q = elim (cases_lt q first) [ inl l ↦ absurd (false≢true (sym f ∙ outside_true first last q (inl l))) | inr g ↦ g ] in
+    let high : q < last = elim (cases_lt q last) [ inl l ↦ l | inr g ↦ absurd (false≢true (sym f ∙ outside_true first last q (inr g))) ] in
+    let end : is_le (nat_cmp last q) ≡ false = rw (le-ltb last q (omega (arith, high)), unequal last q (λ e. absurd (omega (arith, high, e)))) refl in
+    let start : is_le (nat_cmp first q) ≡ true = elim (cases_eq first q) [
+      | inl e ↦ rw (le-ltb first q (omega (arith, e)), is_equal first q e) refl
+      | inr ne ↦ rw (lt-ltb first q (elim (cases_lt first q) [ inl l ↦ l | inr g ↦ absurd (ne (omega (arith, g, low))) ])) refl
+    ] in
+    rw (start, end) refl
+
+-- where no page is in the range, all are outside
+pub none_between : (first last : ℕ) (pages : Pages) → entries_between nat_cmp (Included first) (Excluded last) pages ≡ [] → filter (λ e. is_outside first last e.0) pages ≡ pages
+none_between first last [] h = refl
+none_between first last (p ∷ pages) h = elim (cases_Bool (is_outside first last p.0)) [
+  | inl t ↦ elim (cases_Bool (range_contains nat_cmp (Included first) (Excluded last) p.0)) [
+    | inl s ↦ let e : p ∷ entries_between nat_cmp (Included first) (Excluded last) pages ≡ [] = rw s at h in absurd (cc)
+    | inr s ↦ rw t (ap (λ (m : Pages). p ∷ m) (none_between first last pages (rw s at h)))
+  ]
+  | inr f ↦ let e : p ∷ entries_between nat_cmp (Included first) (Excluded last) pages ≡ [] = rw (inside_between first last p.0 f) at h in absurd (cc)
+]
+
+-- without a page from a number up to another, the same are outside
+pub outside_removed : (pages : Pages) (first last k : ℕ) → is_outside first last k ≡ false → filter (λ e. is_outside first last e.0) (remove_entry (is_at (nat_cmp k)) pages) ≡ filter (λ e. is_outside first last e.0) pages
+outside_removed [] first last k f = refl
+outside_removed (p ∷ pages) first last k f = elim (cases_eq k p.0) [
+  | inl e ↦ let s : is_outside first last p.0 ≡ false = ap (is_outside first last) (sym e) ∙ f in rw (at_same k p.0 e, s) refl
+  | inr ne ↦ elim (cases_Bool (is_outside first last p.0)) [
+    | inl s ↦ rw (at_other k p.0 ne, s) (ap (λ (m : Pages). p ∷ m) (outside_removed pages first last k f))
+    | inr s ↦ rw (at_other k p.0 ne, s) (outside_removed pages first last k f)
+  ]
 ]
 
 pub outside_clear : (pages : Pages) (first last : ℕ) → ArePages 0 pages → first ≤ last → memory_of (filter (λ e. is_outside first last e.0) pages) ≡ clear_bytes (memory_of pages) (64 * first) (64 * last - 64 * first)

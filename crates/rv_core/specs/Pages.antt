@@ -1,5 +1,5 @@
 -- How the data memory is kept: pages of 64 bytes, each with its number.
-use Rattle.std.specs.Prelude.{ℕ, zero, suc, ◌≡◌, ◌+◌, ◌*◌, ◌/◌, ◌%◌, ◌^◌, ◌<◌, ◌≤◌, List, [], ◌∷◌, length, slice_index, slice_set, unwrap_or}
+use Rattle.std.specs.Prelude.{ℕ, zero, suc, ◌≡◌, ◌+◌, ◌*◌, ◌/◌, ◌%◌, ◌^◌, ◌<◌, ◌≤◌, ◌||◌, nat_le, nat_lt, Bool, List, [], ◌∷◌, length, slice_index, slice_set, unwrap_or}
 use Rattle.std.specs.BTreeMap.{is_at}
 use Rattle.std.specs.Map.{lookup}
 use Rattle.std.specs.Ordering.{nat_cmp}
@@ -37,6 +37,10 @@ ArePages low (p ∷ pages) = IsNumbered low p × ArePages (p.0 + 1) pages
 -- the page of a number, none where all its bytes are 0
 abbrev pub page_at : Pages → ℕ → List ℕ
 page_at pages k = unwrap_or (lookup (is_at (nat_cmp k)) pages) []
+
+-- whether a number is not from one up to another
+abbrev pub is_outside : ℕ → ℕ → ℕ → Bool
+is_outside first last k = nat_lt k first || nat_le last k
 
 -- the byte of an address in the page of its number
 abbrev pub byte_in : List ℕ → ℕ → ℕ

@@ -1,7 +1,10 @@
 // The data memory.
-ghost use Rattle.std.specs.Prelude.{◌≡◌, ◌↔◌, ℕ, ◌+◌, ◌*◌, ◌<◌, ◌≤◌, ◌^◌, ◌-◌, ◌%◌, List, [], length, slice_index, take, EachIndex, IsTrue, OnOk, OnErr};
+ghost use Rattle.std.specs.Prelude.{◌≡◌, ◌↔◌, ℕ, false, ◌+◌, ◌*◌, ◌<◌, ◌≤◌, ◌^◌, ◌-◌, ◌%◌, List, [], length, slice_index, take, EachIndex, IfNone, IfSome, IsTrue, OnOk, OnErr};
+ghost use Rattle.std.specs.BTreeMap.{ContainsKey};
+ghost use Rattle.std.specs.List.{filter};
+ghost use Rattle.std.specs.Ordering.{nat_cmp};
 ghost use Rattle.rv_core.specs.Memory.{IsMemory, ByteAfterPut, PutKeepsMemory, BytesTellMemory, ByteAfterClear, byte as byte_at, put_all, put_byte, put_bytes, clear_bytes, half, whole};
-ghost use Rattle.rv_core.specs.Pages.{number_of, word_in, written};
+ghost use Rattle.rv_core.specs.Pages.{is_outside, number_of, word_in, written};
 
 use crpd_base::Memory;
 use std::alloc::Global;
@@ -62,6 +65,26 @@ fn are_zero(bytes: &[u8]) -> bool
     ensures { IsTrue result ↔ EachIndex bytes.now (λ k. slice_index bytes.now k ≡ 0) }
 {
     bytes.iter().all(|byte| *byte == 0)
+}
+
+/// The number of a page from one up to another, if there is such a page.
+fn page_between(pages: &BTreeMap<u32, [u8; 64]>, first: u32, last: u32) -> Option<u32>
+    requires { first ≤ last }
+    ensures found { IfSome result (λ k. (is_outside first last k ≡ false) × ContainsKey nat_cmp pages.now k) }
+    ensures none { IfNone result (filter (λ page. is_outside first last page.0) pages.now.entries ≡ pages.now.entries) }
+{
+    let (number, _) = pages.range(first..last).next()?;
+    Some(*number)
+}
+
+/// Takes out the pages from a number up to another, one by one, in time logarithmic in the pages for each.
+fn remove_pages(pages: &mut BTreeMap<u32, [u8; 64]>, first: u32, last: u32)
+    requires { first ≤ last }
+    ensures { pages.new.entries ≡ filter (λ page. is_outside first last page.0) pages.old.entries }
+{
+    while let Some(number) = page_between(pages, first, last) {
+        pages.remove(&number);
+    }
 }
 
 impl DataMemory {
@@ -171,15 +194,17 @@ impl DataMemory {
         }
     }
 
-    /// Makes the bytes of the pages from a number up to another 0.
-    fn clear_pages(&mut self, first: u64, last: u64)
+    /// Makes the bytes of the pages from a number up to another 0, in time logarithmic in the stored pages for each of
+    /// them that is stored.
+    fn clear_pages(&mut self, first: u32, last: u32)
         requires { first ≤ last }
         ensures { self.new ≡ clear_bytes self.old (64 * first) (64 * last - 64 * first) }
     {
-        self.pages.retain(|number, _| (*number as u64) < first || last <= *number as u64);
+        remove_pages(&mut self.pages, first, last);
     }
 
-    /// Makes `length` bytes from an address on 0, in the time of a walk over the stored pages. It takes no memory.
+    /// Makes `length` bytes from an address on 0, in time logarithmic in the stored pages, and once more so for each page
+    /// that it takes out, however many addresses have none. It takes no memory.
     pub fn clear(&mut self, address: u32, length: u64)
         requires { address + length ≤ 2 ^ 32 }
         ensures { self.new ≡ clear_bytes self.old address length }
@@ -191,7 +216,7 @@ impl DataMemory {
             self.zero(address, length as u32);
             return;
         }
-        self.clear_pages(first, last);
+        self.clear_pages(first as u32, last as u32);
         self.zero(address, (64 * first - address as u64) as u32);
         if end > 64 * last {
             self.zero((64 * last) as u32, (end - 64 * last) as u32);
