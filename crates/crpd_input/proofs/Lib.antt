@@ -13,3 +13,4 @@ pub mod Nests
 pub mod InRange
 pub mod Bounds
 pub mod Built
+pub mod SameTask

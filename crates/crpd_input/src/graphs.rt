@@ -30,7 +30,7 @@ fn graph_halt(alloc: Global, name: &str, error: GraphError) -> Halt
 }
 
 /// The graph of a task.
-fn task_graph(alloc: Global, input: &Input, task: Task) -> Result<Graph, Halt>
+pub(crate) fn task_graph(alloc: Global, input: &Input, task: Task) -> Result<Graph, Halt>
     requires { task.0 < length input.now.code.plans }
     ensures exact { MeansBy (GraphAt input.now task.0) result }
     ensures no_fault { ¬ IsErrOf result Halt.Fault }

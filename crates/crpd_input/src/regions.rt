@@ -28,7 +28,12 @@ fn loop_halt(alloc: Global, name: &str, error: LoopError) -> Halt
 }
 
 /// The regions of a task's loops in its graph.
-fn task_regions(alloc: Global, input: &Input, graphs: &[Graph], task: Task) -> Result<Nest, Halt>
+pub(crate) fn task_regions(
+    alloc: Global,
+    input: &Input,
+    graphs: &[Graph],
+    task: Task,
+) -> Result<Nest, Halt>
     requires planned { task.0 < length input.now.code.plans }
     requires has_graph { task.0 < length graphs.now }
     requires bounded { HasBoundedLoops input.now.code }

@@ -15,7 +15,7 @@ use cert_build::BuildError;
 use cert_check::{Verdict, verdict};
 use cert_update::UpdateError;
 use crpd_base::Certificate;
-use crpd_input::{Halt, Input, Shapes, load_certificate, load_input, task_shapes};
+use crpd_input::{Halt, Input, Shapes, load_certificate, load_input, renewed_shapes, task_shapes};
 use crpd_io::Files;
 use std::alloc::Global;
 
@@ -114,7 +114,7 @@ pub(crate) fn update<F: Files>(
         Ok(input) => input,
         Err(halt) => return Err(halt),
     };
-    let shapes = match task_shapes(alloc, &input) {
+    let shapes = match renewed_shapes(alloc, &old, &old_shapes, &input) {
         Ok(shapes) => shapes,
         Err(halt) => return Err(halt),
     };

@@ -56,17 +56,17 @@ returns-in-Err-load_input-clause-exact g c = λ contents told.
     (stopped (Exactly (input_in contents c.args.new_set.now)) (Compared contents c.args.old_set.now c.args.old_certificate.now c.args.new_set.now c.in_ok-old.old c.in_ok-old_shapes.old_shapes c.in-Ok.stated) c.in-Err-load_input.halt
     (by_exactly (input_in contents c.args.new_set.now) (Err c.in-Err-load_input.halt) (c.in-Err-load_input.ensures.exact contents (c.in-Ok.ensures.same ∙ then_told))))
 
-pub returns-in-Err-task_shapes-clause-exact : goal.returns-in-Err-task_shapes-clause-exact
-returns-in-Err-task_shapes-clause-exact g c = λ contents told.
+pub returns-in-Err-renewed_shapes-clause-exact : goal.returns-in-Err-renewed_shapes-clause-exact
+returns-in-Err-renewed_shapes-clause-exact g c = λ contents told.
     let then_told = c.in_ok-old.ensures.same ∙ told in
-    behind_input contents c.args.old_set.now c.args.old_certificate.now c.args.new_set.now c.in_ok-old.old c.in_ok-old_shapes.old_shapes c.in-Ok.stated c.in-Ok-load_input.input (Err c.in-Err-task_shapes.halt)
+    behind_input contents c.args.old_set.now c.args.old_certificate.now c.args.new_set.now c.in_ok-old.old c.in_ok-old_shapes.old_shapes c.in-Ok.stated c.in-Ok-load_input.input (Err c.in-Err-renewed_shapes.halt)
     (c.in_ok-old.ensures.exact contents told) c.in_ok-old_shapes.ensures.exact (c.in-Ok.ensures.exact contents then_told) (c.in-Ok-load_input.ensures.exact contents (c.in-Ok.ensures.same ∙ then_told))
-    (stopped (ShapesIn c.in-Ok-load_input.input) (UpdateOf c.args.new_set.now c.in_ok-old.old c.in_ok-old_shapes.old_shapes c.in-Ok.stated c.in-Ok-load_input.input) c.in-Err-task_shapes.halt c.in-Err-task_shapes.ensures.exact)
+    (stopped (ShapesIn c.in-Ok-load_input.input) (UpdateOf c.args.new_set.now c.in_ok-old.old c.in_ok-old_shapes.old_shapes c.in-Ok.stated c.in-Ok-load_input.input) c.in-Err-renewed_shapes.halt c.in-Err-renewed_shapes.ensures.exact)
 
 pub returns-clause-exact : goal.returns-clause-exact
 returns-clause-exact g c = λ contents told.
     let then_told = c.in_ok-old.ensures.same ∙ told in
     behind_input contents c.args.old_set.now c.args.old_certificate.now c.args.new_set.now c.in_ok-old.old c.in_ok-old_shapes.old_shapes c.in-Ok.stated c.in-Ok-load_input.input c.judge_and_change.result
     (c.in_ok-old.ensures.exact contents told) c.in_ok-old_shapes.ensures.exact (c.in-Ok.ensures.exact contents then_told) (c.in-Ok-load_input.ensures.exact contents (c.in-Ok.ensures.same ∙ then_told))
-    (goes_on (ShapesIn c.in-Ok-load_input.input) (UpdateOf c.args.new_set.now c.in_ok-old.old c.in_ok-old_shapes.old_shapes c.in-Ok.stated c.in-Ok-load_input.input) c.in-Ok-task_shapes.shapes c.judge_and_change.result
-    c.in-Ok-task_shapes.ensures.exact c.judge_and_change.ensures.exact)
+    (goes_on (ShapesIn c.in-Ok-load_input.input) (UpdateOf c.args.new_set.now c.in_ok-old.old c.in_ok-old_shapes.old_shapes c.in-Ok.stated c.in-Ok-load_input.input) c.in-Ok-renewed_shapes.shapes c.judge_and_change.result
+    c.in-Ok-renewed_shapes.ensures.exact c.judge_and_change.ensures.exact)
