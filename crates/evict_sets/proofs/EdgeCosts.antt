@@ -1,5 +1,5 @@
 -- The costs of a node's edges.
-use Rattle.std.proofs.Common.{◌≡◌, ℕ, zero, suc, ◌<◌, ◌≤◌, true, false, max, pos, List, [], ◌∷◌, Some, length, slice_get, refl, sym, arith}
+use Rattle.std.proofs.Common.{◌≡◌, ℕ, zero, suc, ◌<◌, ◌≤◌, Bool, true, false, max, pos, List, [], ◌∷◌, Some, length, slice_get, refl, sym, arith}
 use Rattle.std.proofs.lemmas.Bool.{false≢true}
 use Rattle.std.proofs.lemmas.Option.{slice_get_within, get_or_from_slice_get}
 use Rattle.flat_graph.specs.Graph.{Graph, IsGraph}
@@ -53,12 +53,12 @@ other_kind c OtherJalr ne = refl
 other_kind c OtherJal ne = refl
 
 -- where a job answers by an ECALL, no change of flow is paid for
-pub end_cost_is : (p : Platform) (a : ℕ) (c : List ℕ) (ins : Ins) → answers_by c (Some (Some (flow a ins))) ≡ true → cost p ins true true ≡ cost p ins true (is_return (flow a ins))
+pub end_cost_is : (p : Platform) (a : ℕ) (c : List ℕ) (ins : Ins) (missed : Bool) → answers_by c (Some (Some (flow a ins))) ≡ true → cost p ins missed true ≡ cost p ins missed (is_return (flow a ins))
 unfolding flow
-end_cost_is p a c (Jal zero imm) e = absurd (false≢true e)
-end_cost_is p a c (Jal (suc zero) imm) e = absurd (false≢true e)
-end_cost_is p a c (Jal (suc (suc d)) imm) e = absurd (false≢true e)
-end_cost_is p a c (Jalr zero (suc zero) (pos zero)) e = refl
-end_cost_is p a c (Jalr rd rs imm) e = absurd (false≢true e)
-end_cost_is p a c Ecall e = refl
-end_cost_is p a c ins e = absurd (false≢true e)
+end_cost_is p a c (Jal zero imm) missed e = absurd (false≢true e)
+end_cost_is p a c (Jal (suc zero) imm) missed e = absurd (false≢true e)
+end_cost_is p a c (Jal (suc (suc d)) imm) missed e = absurd (false≢true e)
+end_cost_is p a c (Jalr zero (suc zero) (pos zero)) missed e = refl
+end_cost_is p a c (Jalr rd rs imm) missed e = absurd (false≢true e)
+end_cost_is p a c Ecall missed e = refl
+end_cost_is p a c ins missed e = absurd (false≢true e)

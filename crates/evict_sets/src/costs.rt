@@ -1,14 +1,70 @@
-// The longest cost of one instruction of a task.
-ghost use Rattle.std.specs.Prelude.{◌≡◌, ℕ, ◌<◌, false, if◌then◌else◌, slice_get};
+// The costs of a graph's edges, and the longest cost of one instruction of a task.
+ghost use Rattle.std.specs.Prelude.{◌≡◌, ℕ, ◌<◌, ◌≤◌, ◌^◌, false, if◌then◌else◌, slice_get};
+ghost use Rattle.crpd_base.specs.Ranges.{IsPlatform};
+ghost use Rattle.rv_decode.specs.Cost.{cost};
 ghost use Rattle.flat_graph.specs.CodeGraph.{graph_of, listing};
 ghost use Rattle.flat_graph.specs.EdgeCost.{edge_cost, end_cost};
 ghost use Rattle.evict_sets.specs.Longest.{longest_at, longest};
 ghost use Rattle.evict_sets.specs.Answering.{answers_of};
 ghost use Rattle.evict_sets.specs.Greatest.{of_one};
+ghost use Rattle.evict_sets.specs.Amounts.{AreWords};
 
 use crpd_base::{NodeId, Platform};
 use flat_graph::{Graph, Kind};
-use rv_decode::cost;
+use rv_decode::{Ins, cost};
+
+/// The costs of a platform are numbers of 32 bits.
+fn costs_law(platform: &Platform)
+    ensures { AreWords platform.now }
+{
+    prove!(platform.hit <= u32::MAX);
+    prove!(platform.miss <= u32::MAX);
+    prove!(platform.memory <= u32::MAX);
+    prove!(platform.taken <= u32::MAX);
+    prove!(platform.mul <= u32::MAX);
+    prove!(platform.div <= u32::MAX);
+}
+
+/// The cycles of an instruction.
+fn cycles(platform: &Platform, ins: &Ins, miss: bool, taken: bool) -> u64
+    ensures cost { result ≡ cost platform.now ins.now miss taken }
+    ensures small { result < 2 ^ 34 }
+{
+    costs_law(platform);
+    cost(platform, ins, miss, taken)
+}
+
+/// The cost of an edge in cycles, below 2^34, from whether its source counts as a hit. An edge to another address than
+/// the next one is a change of flow. In constant time.
+pub fn edge_cost(
+    graph: &Graph,
+    platform: &Platform,
+    source: NodeId,
+    target: NodeId,
+    hit: bool,
+) -> u64
+    requires source { source.0 < (graph_of graph.now).size }
+    requires target { target.0 < (graph_of graph.now).size }
+    ensures cost { result ≡ edge_cost platform.now (listing graph.now) (λ y. hit) source.0 target.0 }
+    ensures small { result < 2 ^ 34 }
+{
+    let straight = u64::from(graph.address(source)) + 4;
+    let taken = u64::from(graph.address(target)) != straight;
+    cycles(platform, &graph.ins(source), !hit, taken)
+}
+
+/// The cost in cycles of an answering node's edge to the end, from whether the node counts as a hit; 0 at other nodes.
+/// It is a change of flow but for an ECALL, which never costs one. In constant time.
+pub fn end_cost(graph: &Graph, platform: &Platform, id: NodeId, hit: bool) -> u64
+    requires { id.0 < (graph_of graph.now).size }
+    ensures { result ≡ (if answers_of graph.now id.0 then end_cost platform.now (listing graph.now) (λ y. hit) id.0 else 0) }
+{
+    let node = graph.node(id);
+    match node.kind {
+        Kind::Answer => cost(platform, &node.ins, !hit, true),
+        _ => 0,
+    }
+}
 
 /// The cost of the first (0) or second (1) edge of a node, with a miss; 0 where there is no such edge.
 fn edge_longest(graph: &Graph, platform: &Platform, id: NodeId, k: u8) -> u64
@@ -18,25 +74,8 @@ fn edge_longest(graph: &Graph, platform: &Platform, id: NodeId, k: u8) -> u64
 {
     graph.graph_law();
     match graph.succ(id, k) {
-        Some(next) => {
-            let straight = u64::from(graph.address(id)) + 4;
-            let taken = u64::from(graph.address(next)) != straight;
-            cost(platform, &graph.ins(id), true, taken)
-        }
+        Some(next) => edge_cost(graph, platform, id, next, false),
         None => 0,
-    }
-}
-
-/// The cost of an answering node's edge to the end, with a miss; 0 at other nodes. It is a change of flow but for an
-/// ECALL, which never costs one.
-fn end_longest(graph: &Graph, platform: &Platform, id: NodeId) -> u64
-    requires { id.0 < (graph_of graph.now).size }
-    ensures { result ≡ (if answers_of graph.now id.0 then end_cost platform.now (listing graph.now) (λ y. false) id.0 else 0) }
-{
-    let node = graph.node(id);
-    match node.kind {
-        Kind::Answer => cost(platform, &node.ins, true, true),
-        _ => 0,
     }
 }
 
@@ -48,7 +87,7 @@ fn node_longest(graph: &Graph, platform: &Platform, id: NodeId) -> u64
     graph.graph_law();
     let first = edge_longest(graph, platform, id, 0);
     let second = edge_longest(graph, platform, id, 1);
-    first.max(second).max(end_longest(graph, platform, id))
+    first.max(second).max(end_cost(graph, platform, id, false))
 }
 
 /// The longest cost in cycles of one instruction of a task: the greatest cost of any edge of its graph, those to the
@@ -61,4 +100,14 @@ pub fn longest(graph: &Graph, platform: &Platform) -> u64
         greatest = node_longest(graph, platform, NodeId(node)).max(greatest);
     }
     greatest
+}
+
+/// A law: on a platform in its ranges the longest cost of one instruction of a task is from 1 to 2^18 cycles. In constant
+/// time.
+pub fn longest_law(graph: &Graph, platform: &Platform)
+    requires { IsPlatform platform.now }
+    ensures some { 1 ≤ longest platform.now (graph_of graph.now) (listing graph.now) (answers_of graph.now) }
+    ensures small { longest platform.now (graph_of graph.now) (listing graph.now) (answers_of graph.now) ≤ 2 ^ 18 }
+{
+    graph.graph_law();
 }

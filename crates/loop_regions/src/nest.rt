@@ -32,7 +32,7 @@ impl Model for Nest {
 }
 
 impl Nest {
-    ghost use Rattle.std.specs.Prelude.{◌≡◌, ◌<◌, length, IfOk};
+    ghost use Rattle.std.specs.Prelude.{◌≡◌, ◌<◌, ◌≤◌, length, IfOk};
     ghost use Rattle.loop_regions.specs.CodeNest.{nest_of};
     ghost use Rattle.loop_regions.specs.Found.{code_nest};
     ghost use Rattle.loop_regions.specs.KeptNest.{IsKept};
@@ -84,6 +84,13 @@ impl Nest {
         ensures { result ≡ (nest_of self.now).size }
     {
         self.heads.as_slice().len() as u32
+    }
+
+    /// A law: there are at most 16,384 regions. In constant time.
+    pub fn size_law(&self)
+        ensures { (nest_of self.now).size ≤ 16384 }
+    {
+        let _ = &self.heads;
     }
 
     /// The head of a region: the node at which it is entered. In constant time.
