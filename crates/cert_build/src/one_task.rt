@@ -52,6 +52,7 @@ pub fn analyse(
     ensures ranges { IfOk result KeepsRanges }
 {
     graph.graph_law();
+    nest.size_law();
     let geometry = Geometry::new(platform);
     let Ok(parts) = sure_parts::<SETS, WORDS>(alloc, graph, &geometry) else {
         return Err(BoundError::Memory);

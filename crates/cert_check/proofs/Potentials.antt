@@ -1,34 +1,13 @@
 -- The tests of clause 6 at a node.
-use Rattle.std.proofs.Common.{◌≡◌, ◌≢◌, ◌↔◌, ℕ, ◌+◌, ◌*◌, ◌<◌, ◌≤◌, Bool, Some, None, IsTrue, refl, sym, ap, ◌∙◌, subst, ⊎_elim, arith}
+use Rattle.std.proofs.Common.{◌≡◌, ◌↔◌, ℕ, ◌+◌, ◌*◌, ◌<◌, ◌≤◌, Bool, true, false, if◌then◌else◌, IsTrue, refl, sym, subst, arith}
+use Rattle.std.proofs.lemmas.Bool.{false≢true}
 use Rattle.flat_graph.specs.Graph.{Graph, Edge, IsGraph}
 use Rattle.loop_regions.specs.Nest.{Nest, IsNested, IsBackEdge, Leaves, LeavesLast, Item, IsItem}
-use Rattle.loop_regions.specs.Levels.{IsLevel}
 use Rattle.loop_regions.specs.Potentials.{Costs, Potentials, item_potential}
 use Rattle.loop_regions.proofs.Potential.{item_law}
-use Rattle.loop_regions.proofs.Entries.{same_region}
+use Rattle.loop_regions.proofs.Beside.{one_last}
 use Rattle.cert_check.specs.Clauses.{PotentialsMeet}
-use Rattle.cert_check.specs.Paid.{EdgePaid, item_by}
-
--- the region that a node heads is its innermost one
-pub heads_none : (n : Nest) (g : Graph) (y : ℕ) → IsNested g n → IsLevel n y None → IsItem n y (item_by None y)
-heads_none n g y N h = (refl, λ q lt e. h q lt (subst (λ x. IsTrue (n.holds q x)) (sym e) (N.holds_head q lt)))
-
-pub heads_other : (n : Nest) (g : Graph) (y r : ℕ) → IsGraph g → IsNested g n → IsLevel n y (Some r) → n.head r ≢ y → IsItem n y (item_by None y)
-heads_other n g y r G N h ne = (
-  refl,
-  λ q lt e.
-      let held : IsTrue (n.holds q y) = subst (λ x. IsTrue (n.holds q x)) (sym e) (N.holds_head q lt) in
-      let same : q ≡ r = same_region g n N G r q h.0 lt (h.2 q lt held) (subst (λ x. IsTrue (n.holds r x)) e h.1) in
-      ne (ap n.head (sym same) ∙ sym e),
-)
-
--- an edge leaves one region last
-pub one_last : (g : Graph) (n : Nest) → IsGraph g → IsNested g n → (u v r s : ℕ) → LeavesLast n u v r → LeavesLast n u v s → s ≡ r
-one_last g n G N u v r s a b =
-    ⊎_elim
-    (λ inside. same_region g n N G r s a.0.0 b.0.0 inside (a.1 s b.0))
-    (λ inside. sym (same_region g n N G s r b.0.0 a.0.0 inside (b.1 r a.0)))
-    (N.nested r s u a.0.0 b.0.0 a.0.1 b.0.1)
+use Rattle.cert_check.specs.Paid.{EdgePaid}
 
 -- a region pays for its turns
 abbrev pub IsPaidTurns : Nest → Potentials → ℕ → Type 0
@@ -69,6 +48,14 @@ bound_test n p v first x bound q b first_is q_is x_is test = (
   (λ h i is. let le = test.0 h in let e = x_is i (subst (λ y. IsItem n y i) (sym first_is) is) in omega (arith, le, e, q_is)),
   (λ all. let i = item_law n first in let le = all i.0 (subst (λ y. IsItem n y i.0) first_is i.1) in let e = x_is i.0 i.1 in test.1 (omega (arith, le, e, q_is))),
 )
+
+-- a test of the cost of an edge to the end, which is nothing at other nodes than answering ones
+pub end_test : (answers : Bool) (end x q most : ℕ) (b : Bool) → x ≡ (if answers then end else 0) → q ≡ most → IsTrue b ↔ (x ≤ q) → IsTrue b ↔ (IsTrue answers → end ≤ most)
+end_test true end x q most b x_is q_is test = (
+  (λ h t. let le = test.0 h in omega (arith, le, x_is, q_is)),
+  (λ pays. let le = pays refl in test.1 (omega (arith, le, x_is, q_is))),
+)
+end_test false end x q most b x_is q_is test = ((λ h t. absurd (false≢true t)), (λ pays. test.1 (omega (arith, x_is))))
 
 -- all edges of the node, its edge to the end, and its region
 pub node_paid : (g : Graph) (n : Nest) (c : Costs) (p : Potentials) (u : ℕ) → (IsTrue (c.answers u) → c.end u ≤ p.node u) → ((v : ℕ) → Edge g u v → EdgePaid n c p u v)

@@ -1,10 +1,10 @@
 -- What is known while clauses 6 and 7 are judged.
-use Rattle.std.specs.Prelude.{◌≡◌, ℕ, ◌+◌, ◌*◌, ◌≤◌, Bool, List, Option, Some, None, length}
+use Rattle.std.specs.Prelude.{◌≡◌, ℕ, ◌+◌, ◌*◌, ◌≤◌, Bool, List, length}
 use Rattle.crpd_base.specs.declared.data.Platform.{Platform}
 use Rattle.crpd_base.specs.declared.data.TaskPart.{TaskPart}
 use Rattle.flat_graph.specs.CodeGraph.{CodeGraph, listing}
 use Rattle.loop_regions.specs.CodeNest.{CodeNest, IsNestOf}
-use Rattle.loop_regions.specs.Nest.{Nest, IsBackEdge, Leaves, LeavesLast, Item, Node, Loop, IsItem}
+use Rattle.loop_regions.specs.Nest.{Nest, IsBackEdge, Leaves, LeavesLast, Item, IsItem}
 use Rattle.loop_regions.specs.Potentials.{Costs, Potentials, item_potential}
 use Rattle.evict_sets.specs.Answering.{answers_of}
 use Rattle.cert_check.specs.Clauses.{costs}
@@ -19,11 +19,6 @@ pub record IsPaid (g : CodeGraph) (n : CodeNest) (t : TaskPart) (hits : List Boo
 -- the costs of the edges with these hits
 abbrev pub costs_at : Platform → CodeGraph → (ℕ → Bool) → Costs
 costs_at p g is_hit = costs p (listing g) (answers_of g) is_hit
-
--- the item of a node of which the region that it heads, if any, is known
-abbrev pub item_by : Option ℕ → ℕ → Item
-item_by None v = Node v
-item_by (Some r) v = Loop r
 
 -- the inequalities on an edge and on the regions that it leaves
 pub record EdgePaid (n : Nest) (c : Costs) (p : Potentials) (u v : ℕ) : Type 0 where

@@ -1,23 +1,21 @@
 // Clauses 6 and 7: the potentials.
-ghost use Rattle.std.specs.Prelude.{◌≡◌, ◌↔◌, ◌<◌, ◌≤◌, ◌+◌, ◌*◌, ℕ, None, Some, Bool, if◌then◌else◌, length, slice_get, slice_index_or, IsTrue, MatchOption};
-ghost use Rattle.rv_decode.specs.Flow.{flow};
-ghost use Rattle.flat_graph.specs.EdgeCost.{is_return};
+ghost use Rattle.std.specs.Prelude.{◌≡◌, ◌↔◌, ◌<◌, ◌≤◌, ◌+◌, ◌*◌, ℕ, Some, slice_get, IsTrue};
 ghost use Rattle.flat_graph.specs.Graph.{Edge};
-ghost use Rattle.flat_graph.specs.CodeGraph.{graph_of, places_of};
-ghost use Rattle.loop_regions.specs.CodeNest.{nest_of, IsNestOf};
-ghost use Rattle.loop_regions.specs.Nest.{Item, IsItem, IsBackEdge, Leaves, LeavesLast};
-ghost use Rattle.loop_regions.specs.Potentials.{item_potential, MeetsAt};
+ghost use Rattle.flat_graph.specs.CodeGraph.{graph_of};
+ghost use Rattle.loop_regions.specs.CodeNest.{nest_of};
+ghost use Rattle.loop_regions.specs.Nest.{Item, IsItem, Leaves};
+ghost use Rattle.loop_regions.specs.Potentials.{item_potential};
 ghost use Rattle.cert_check.specs.Certificate.{potentials_of};
 ghost use Rattle.cert_check.specs.Clauses.{PotentialsMeet, BoundMeets};
 ghost use Rattle.cert_check.specs.Case.{IsLeast, counted};
-ghost use Rattle.cert_check.specs.Paid.{IsPaid, costs_at, item_by, EdgePaid};
+ghost use Rattle.cert_check.specs.Paid.{IsPaid, costs_at, EdgePaid};
 
 use crate::least::at_most;
 use crate::steps::successor;
 use crpd_base::{NodeId, Platform, TaskPart};
-use flat_graph::{Graph, Kind};
-use loop_regions::Nest;
-use rv_decode::{Ins, cost};
+use evict_sets::{edge_cost, end_cost};
+use flat_graph::Graph;
+use loop_regions::{Nest, Way};
 
 /// A task's graph and its regions, the potentials that the certificate lists for them, and the nodes that are counted as
 /// hits.
@@ -28,21 +26,6 @@ pub(crate) struct Paid<'a> {
     pub(crate) nest: &'a Nest,
     pub(crate) part: &'a TaskPart,
     pub(crate) hits: &'a [bool],
-}
-
-/// Whether an instruction is a return.
-#[tactic(auto, unfolding(rv_decode::specs::Flow::flow))]
-fn is_return(ins: &Ins) -> bool
-    ensures { (a : ℕ) → result ≡ is_return (flow a ins.now) }
-{
-    match *ins {
-        Ins::Jalr {
-            rd: 0,
-            rs1: 1,
-            imm: 0,
-        } => true,
-        _ => false,
-    }
 }
 
 impl Paid<'_> {
@@ -66,25 +49,6 @@ impl Paid<'_> {
         u128::from(self.part.loops.as_slice()[region as usize])
     }
 
-    /// The region that a node heads.
-    fn headed_by(&self, node: NodeId) -> Option<u32>
-        requires paid { IsPaid self.now.graph.now self.now.nest.now self.now.part.now self.now.hits.now }
-        requires node { node.0 < (graph_of self.now.graph.now).size }
-        ensures { IsItem (nest_of self.now.nest.now) node.0 (item_by result node.0) }
-    {
-        self.graph.graph_law();
-        match self.nest.innermost(node) {
-            Some(region) => {
-                if self.nest.head(region).0 == node.0 {
-                    Some(region)
-                } else {
-                    None
-                }
-            }
-            None => None,
-        }
-    }
-
     /// The potential of a node's item: of the region that it heads, or its own.
     fn at_item(&self, node: NodeId) -> u128
         requires paid { IsPaid self.now.graph.now self.now.nest.now self.now.part.now self.now.hits.now }
@@ -92,7 +56,7 @@ impl Paid<'_> {
         ensures is { (i : Item) → IsItem (nest_of self.now.nest.now) node.0 i → result ≡ item_potential (potentials_of self.now.part.now) i }
         ensures small { result < 18446744073709551616 }
     {
-        match self.headed_by(node) {
+        match self.nest.headed_by(self.graph, node) {
             Some(region) => self.at_region(region),
             None => self.at_node(node),
         }
@@ -115,41 +79,6 @@ impl Paid<'_> {
         ensures { IsTrue result ↔ ((nest_of self.now.nest.now).bound region * (potentials_of self.now.part.now).node ((nest_of self.now.nest.now).head region) ≤ (potentials_of self.now.part.now).loop region) }
     {
         self.turns(region) <= self.at_region(region)
-    }
-
-    /// Whether an edge leads back to the head of a region that holds its source.
-    fn is_back(&self, source: NodeId, target: NodeId) -> bool
-        requires paid { IsPaid self.now.graph.now self.now.nest.now self.now.part.now self.now.hits.now }
-        requires source { source.0 < (graph_of self.now.graph.now).size }
-        requires target { target.0 < (graph_of self.now.graph.now).size }
-        ensures { IsTrue result ↔ IsBackEdge (nest_of self.now.nest.now) source.0 target.0 }
-    {
-        match self.headed_by(target) {
-            Some(region) => self.nest.holds(region, source),
-            None => false,
-        }
-    }
-
-    /// The outermost region that an edge leaves. Its time is linear in the regions that the edge leaves.
-    fn outermost_left(&self, source: NodeId, target: NodeId) -> Option<u32>
-        requires paid { IsPaid self.now.graph.now self.now.nest.now self.now.part.now self.now.hits.now }
-        requires source { source.0 < (graph_of self.now.graph.now).size }
-        requires target { target.0 < (graph_of self.now.graph.now).size }
-        ensures { MatchOption result
-            ((r : ℕ) → Leaves (nest_of self.now.nest.now) source.0 target.0 r → ⊥)
-            (λ r. LeavesLast (nest_of self.now.nest.now) source.0 target.0 r) }
-    {
-        self.graph.graph_law();
-        let mut left = None;
-        let mut round = self.nest.innermost(source);
-        while let Some(region) = round {
-            if self.nest.holds(region, target) {
-                break;
-            }
-            left = Some(region);
-            round = self.nest.parent(region);
-        }
-        left
     }
 
     /// Whether each region that an edge leaves pays for its turns. Its time is linear in these regions.
@@ -182,25 +111,24 @@ impl Paid<'_> {
         ensures small { result < 18446744073709551616 }
     {
         let hit = self.hits[source.0 as usize];
-        let straight = u64::from(self.graph.address(source)) + 4;
-        let taken = u64::from(self.graph.address(target)) != straight;
-        u128::from(cost(self.platform, &self.graph.ins(source), !hit, taken))
+        u128::from(edge_cost(
+            self.graph,
+            self.platform,
+            source,
+            target,
+            hit,
+        ))
     }
 
-    /// Whether a node pays for its edge to the end, where it is an answering one. A return is a change of flow, an ECALL
-    /// is none.
+    /// Whether a node pays for its edge to the end, where it is an answering one.
     fn end_pays(&self, node: NodeId) -> bool
         requires paid { IsPaid self.now.graph.now self.now.nest.now self.now.part.now self.now.hits.now }
         requires node { node.0 < (graph_of self.now.graph.now).size }
         ensures { IsTrue result ↔ (IsTrue ((costs_at self.now.platform.now self.now.graph.now (counted self.now.hits.now)).answers node.0) → (costs_at self.now.platform.now self.now.graph.now (counted self.now.hits.now)).end node.0 ≤ (potentials_of self.now.part.now).node node.0) }
     {
-        let stand = self.graph.node(node);
-        if stand.kind != Kind::Answer {
-            return true;
-        }
         let hit = self.hits[node.0 as usize];
-        let cycles = cost(self.platform, &stand.ins, !hit, is_return(&stand.ins));
-        u128::from(cycles) <= self.at_node(node)
+        let cost = end_cost(self.graph, self.platform, node, hit);
+        at_most(u128::from(cost), self.at_node(node))
     }
 
     /// Whether the source of an edge pays for it.
@@ -247,12 +175,10 @@ impl Paid<'_> {
         if !self.source_pays(source, target) || !self.left_pay(source, target) {
             return false;
         }
-        if self.is_back(source, target) {
-            return true;
-        }
-        match self.outermost_left(source, target) {
-            Some(region) => self.exit_pays(region, target),
-            None => self.inside_pays(source, target),
+        match self.nest.way(self.graph, source, target) {
+            Way::Back => true,
+            Way::Inside => self.inside_pays(source, target),
+            Way::Exit(region) => self.exit_pays(region, target),
         }
     }
 
@@ -288,7 +214,7 @@ impl Paid<'_> {
         requires node { node.0 < (graph_of self.now.graph.now).size }
         ensures { IsTrue result ↔ ((r : ℕ) → r < (nest_of self.now.nest.now).size → (nest_of self.now.nest.now).head r ≡ node.0 → (nest_of self.now.nest.now).bound r * (potentials_of self.now.part.now).node node.0 ≤ (potentials_of self.now.part.now).loop r) }
     {
-        match self.headed_by(node) {
+        match self.nest.headed_by(self.graph, node) {
             Some(region) => self.region_pays(region),
             None => true,
         }

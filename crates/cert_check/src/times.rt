@@ -16,6 +16,7 @@ use crate::least::at_most;
 use crate::outcome::{Failure, at};
 use crpd_base::{Certificate, MOST_TASKS, Platform, Task, TaskSet, Text};
 use delay_count::{demand, growth_law};
+use evict_sets::{longest, longest_law};
 use flat_graph::Graph;
 
 fn are_same(a: &Text, b: &Text) -> bool
@@ -53,15 +54,15 @@ pub(crate) fn name_failure(set: &TaskSet, certificate: &Certificate, i: usize) -
     None
 }
 
-/// The longest cost of one instruction of a task, 1 to 2^18 cycles. It looks at each node once and takes no memory.
-pub fn longest_cost(graph: &Graph, platform: &Platform) -> u64
+/// The longest cost of one instruction of a task, 1 to 2^18 cycles.
+fn longest_cost(graph: &Graph, platform: &Platform) -> u64
     requires { IsPlatform platform.now }
     ensures is { result ≡ longest platform.now (graph_of graph.now) (listing graph.now) (answers_of graph.now) }
     ensures some { 1 ≤ result }
     ensures small { result ≤ 262144 }
 {
-    graph.graph_law();
-    evict_sets::longest(graph, platform)
+    longest_law(graph, platform);
+    longest(graph, platform)
 }
 
 /// Writes the longest cost of one instruction of each task. Linear in the nodes of all graphs. It takes no memory.

@@ -1,5 +1,5 @@
 -- Over the same graphs, a set has the analysis' certificate or one refusal of it.
-use Rattle.std.proofs.Common.{◌≡◌, ◌≢◌, ℕ, zero, suc, ◌+◌, ◌<◌, ◌≤◌, ◌^◌, List, [], ◌∷◌, length, refl, sym, ap, ◌∙◌, subst, inl, inr, arith}
+use Rattle.std.proofs.Common.{◌≡◌, ◌≢◌, ℕ, zero, suc, ◌+◌, ◌<◌, ◌≤◌, List, [], ◌∷◌, length, refl, sym, ap, ◌∙◌, subst, inl, inr, arith}
 use Rattle.std.proofs.lemmas.Bool.{cases_eq, cases_lt}
 use Rattle.std.proofs.lemmas.List.Sums.{sum_by-cons}
 use Rattle.std.specs.Prelude.{slice_index_or, sum_by}
@@ -22,8 +22,7 @@ use Rattle.response.specs.Windows.{IsSmaller, IsFirstWithout, method_at, window_
 use Rattle.cert_check.specs.Judge.{accesses_of, longest_at, part_of, window_at}
 use Rattle.cert_check.proofs.Demands.{same_demand}
 use Rattle.cert_model.specs.Reading.{entries, state_entries, task_entries}
-use Rattle.cert_build.specs.Analysis.{HasLargeBound}
-use Rattle.cert_build.specs.Best.{IsBest, IsBestPart}
+use Rattle.cert_build.specs.Best.{IsBest}
 use Rattle.cert_build.specs.Certify.{AreBestParts, IsBuildRefused, IsFirstLarge, needs_at}
 use Rattle.cert_build.specs.declared.fault.BuildError.{BuildError}
 use Rattle.cert_build.specs.declared.fault.BuildError.TheVariants.{Memory, TooLarge, TooManyEntries, Unschedulable}
@@ -32,10 +31,6 @@ use Rattle.cert_build.proofs.Counting.{not_large}
 use Rattle.cert_build.proofs.OneBest.{same_part, same_states}
 
 -- ---- parts
-
--- a part with a bound of at most 2^40 is not one of a task whose bound is larger
-pub within : (p : Platform) (t : TaskGraph) (c : TaskPart) → IsGraph t.graph → IsBestPart p t c → c.part.bound ≤ 2 ^ 40 → HasLargeBound p t → ⊥
-within p t c G B le large = not_large p t c G B le large
 
 pub entries_same : (xs ys : List TaskPart) → length xs ≡ length ys → ((k : ℕ) → k < length xs → (slice_index_or xs k no_cert).states ≡ (slice_index_or ys k no_cert).states) → entries xs ≡ entries ys
 entries_same [] [] e h = refl
@@ -88,7 +83,7 @@ module _ (grows : DemandGrows) (set : TaskSet) (graphs : ℕ → TaskGraph) (tim
   -- no bound of the parts is too large
   pub none_large : (parts : List TaskPart) (t : Task) → AreBestParts set graphs parts → IsFirstLarge set graphs t.0 → ⊥
   none_large parts t B L =
-      within set.platform (graphs t.0) (slice_index_or parts t.0 no_cert) (G t.0 L.task) (B.each t.0 L.task) (B.within t.0 L.task) L.large
+      not_large set.platform (graphs t.0) (slice_index_or parts t.0 no_cert) (G t.0 L.task) (B.each t.0 L.task) (B.within t.0 L.task) L.large
 
   -- nor is one of the certificate, since its windows are in the deadlines
   pub bound_in : (c : Certificate) (i : ℕ) (method : Method) (w : ℕ) → i < length set.tasks → IsSmaller set (part_of c) (longest_at set.platform graphs) (window_at c) i method w → (part_of c i).bound ≤ 2 ^ 40

@@ -22,6 +22,7 @@ use Rattle.cert_check.specs.declared.outcome.Verdict.{Verdict}
 use Rattle.cert_check.specs.declared.outcome.Verdict.TheVariants as verdict
 use Rattle.cert_model.specs.Reading.{entries}
 use Rattle.cert_build.specs.Certify.{needs_at}
+use Rattle.cert_build.proofs.Counting.{not_large}
 use Rattle.cert_build.proofs.OneBest.{same_part, same_states}
 use Rattle.cert_update.specs.Answer.{IsFirstLarge, IsLargeAt, IsRefused}
 use Rattle.cert_update.specs.Laws.{side}
@@ -39,7 +40,7 @@ use Rattle.crpd_tool.specs.declared.answer.Answer.{Answer}
 use Rattle.crpd_tool.specs.Analyze.{certificate_answer, without_certificate}
 use Rattle.crpd_tool.specs.Check.{verdict_answer}
 use Rattle.crpd_tool.specs.Update.{ChangeOf, UpdateOf, as_of_analysis}
-use Rattle.crpd_tool.proofs.OneBuild.{bound_in, entries_same, has_window, neither, within}
+use Rattle.crpd_tool.proofs.OneBuild.{bound_in, entries_same, has_window, neither}
 use Rattle.crpd_tool.proofs.OneMade.{Same, back, large_too, part_too}
 
 -- ---- by other regions of the same loops
@@ -154,7 +155,7 @@ module _ (grows : DemandGrows) (old new : Side) (c : Certificate) (O : IsTaskSet
     where
       by : IsUpdatedPart old c new i (task_at parts i) → ⊥
       by (inl x) = L.large.0 x.0 x.1
-      by (inr x) = within new.set.platform (new.graphs i) (task_at parts i) (G i L.task) x.1 (P.within i L.task L.large.0) L.large.1
+      by (inr x) = not_large new.set.platform (new.graphs i) (task_at parts i) (G i L.task) x.1 (P.within i L.task L.large.0) L.large.1
 
   -- the certificate's parts are new parts
   of_update : (d : Certificate) → IsUpdate old c new d → AreParts old c new d.tasks

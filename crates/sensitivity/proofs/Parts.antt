@@ -16,7 +16,7 @@ use Rattle.std.proofs.lemmas.List.{get_or_default}
 use Rattle.useful_sets.specs.Useful.{IsEcb, IsUcb}
 use Rattle.exec_bound.specs.Costs.{costs_of, counted, listed, greatest_bound, IsBound, IsTooLarge}
 use Rattle.exec_bound.specs.Walks.{CountsSureHits}
-use Rattle.exec_bound.proofs.Beside.{nested}
+use Rattle.loop_regions.proofs.Beside.{nested}
 use Rattle.cert_check.specs.Shown.{shown, shown_at, graph_at, nest_at}
 use Rattle.sensitivity.specs.Accepted.{HasSets, IsLeastBound, IsPart}
 use Rattle.sensitivity.specs.Found.{IsLarge, TellsHits}

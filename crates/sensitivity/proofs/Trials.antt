@@ -23,7 +23,7 @@ use Rattle.sensitivity.specs.Slack.{IsSlack}
 use Rattle.sensitivity.specs.Laws.{IsLoopBounded, StaysAccepted, NeverStops}
 use Rattle.crpd_base.specs.Tasks.{HasTimes}
 use Rattle.sensitivity.specs.Found.{HaveSets, HaveHits, ListsParts, AreKnown, with_cost}
-use Rattle.exec_bound.proofs.Beside.{nested}
+use Rattle.loop_regions.proofs.Beside.{nested}
 use Rattle.sensitivity.proofs.Bounds.{meets_less}
 
 -- the cost before a number, if there is one

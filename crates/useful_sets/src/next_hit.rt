@@ -15,29 +15,8 @@ use crpd_base::{Memory, NodeId, SetBits};
 use dataflow::{Against, Domain, EdgeList, solve};
 use flat_graph::Graph;
 use icache::Geometry;
-use must_cache::{MustState, edges, is_hit};
+use must_cache::{MustState, edges, hits_of_states};
 use std::alloc::{AllocError, Global};
-
-/// Whether each node is a hit on each walk.
-fn sure_hits<const S: usize>(
-    alloc: Global,
-    graph: &Graph,
-    geometry: &Geometry,
-    must: &[MustState<S>],
-) -> Result<Vec<bool>, AllocError>
-    requires room { geometry.now.platform.sets ≤ S }
-    requires sure { AreSure (graph_of graph.now) (accesses geometry.now.platform (places_of graph.now).address) must.now }
-    ensures count { IfOk result (λ hits. length hits.items ≡ (graph_of graph.now).size) }
-    ensures each { IfOk result (λ hits. (y : ℕ) → y < (graph_of graph.now).size →
-        IsTrue (slice_index_or hits.items y false) ↔ IsSureHit (graph_of graph.now) (accesses geometry.now.platform (places_of graph.now).address) y) }
-{
-    let mut hits = Vec::with_capacity(alloc, must.len())?;
-    for node in 0..graph.len() {
-        let address = graph.address(NodeId(node));
-        hits.push(is_hit(&must[node as usize], geometry, address))?;
-    }
-    Ok(hits)
-}
 
 /// With a set exactly where `keep` says so, and else as before.
 fn put<const W: usize>(sets: &mut SetBits<W>, set: u16, keep: bool)
@@ -184,7 +163,7 @@ pub fn useful<const S: usize, const W: usize>(
     requires sure { AreSure (graph_of graph.now) (accesses geometry.now.platform (places_of graph.now).address) must.now }
     ensures { IfOk result (λ sets. AreUseful (graph_of graph.now) (accesses geometry.now.platform (places_of graph.now).address) sets.items) }
 {
-    let Ok(hits) = sure_hits(alloc, graph, geometry, must) else {
+    let Ok(hits) = hits_of_states(alloc, graph, geometry, must) else {
         return Err(Memory);
     };
     useful_by_hits(alloc, graph, geometry, &hits)

@@ -53,7 +53,7 @@ returns-clause-ranges c =
     let entries : AreEntries g (accesses c.args.platform.now address) g.size c.new.result =
     subst (λ (l : List NodeState). AreEntries g (accesses c.args.platform.now address) g.size l) (sym c.new.ensures)
     (subst (λ (p : Platform). AreEntries g (accesses p address) g.size c.in_ok-states.states.items) c.new-geometry.ensures c.in_ok-states.ensures) in
-    ranges c.args.platform.now c.args.graph.now c.args.nest.now c.in-Ok.parts.hits.items c.graph_law.ensures.graph c.requires.nest c.graph_law.ensures.few
+    ranges c.args.platform.now c.args.graph.now c.args.nest.now c.in-Ok.parts.hits.items c.graph_law.ensures.few c.size_law.ensures
     (record { part = record { bound = c.in_ok-cycles.field-0.cycles; evicting = c.evicting-evicting.result; useful = c.reused-useful.result }; states = c.new.result; potentials = c.in_ok-cycles.field-0.nodes; loops = c.in_ok-cycles.field-0.loops })
     entries
     (c.in_ok-cycles.ensures.least (counted c.in-Ok.parts.hits.items) hits)

@@ -2,7 +2,7 @@
 use Rattle.flat_graph.specs.CodeGraph.{graph_of}
 use Rattle.loop_regions.specs.CodeNest.{nest_of}
 use Rattle.cert_check.specs.Certificate.{potentials_of}
-use Rattle.cert_check.proofs.Rounds.{Holds, still_outside}
+use Rattle.loop_regions.proofs.Climbs.{Holds, still_outside}
 use Rattle.cert_check.proofs.Potentials.{IsPaidTurns}
 use Rattle.cert_check.proofs.paid.Paid.left_pay.Given as goal
 
