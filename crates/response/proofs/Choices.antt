@@ -10,7 +10,7 @@ use Rattle.crpd_base.specs.declared.data.Method.TheVariants.{Ucb, Ecb}
 use Rattle.crpd_base.specs.Tasks.{jitter_of, deadline_of}
 use Rattle.response.specs.declared.choice.Choice.{Choice}
 use Rattle.response.specs.Windows.{Demand, IsSmaller, window_at, method_at, AreChoices, IsAnswer, IsFirstWithout}
-use Rattle.response.proofs.Windows.{smaller_too, none_too}
+use Rattle.response.proofs.WindowLaws.{smaller_too, none_too}
 
 -- a demand looks at the windows of the higher tasks alone, and at these of the first tasks
 abbrev pub LooksAbove : Demand → ℕ → Type 0

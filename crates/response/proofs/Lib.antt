@@ -1,4 +1,4 @@
-pub mod Windows
+pub mod WindowLaws
 pub mod Choices
 pub mod Least
 pub mod Jumps

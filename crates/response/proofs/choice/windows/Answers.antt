@@ -4,7 +4,7 @@ use Rattle.crpd_base.specs.declared.data.Method.TheVariants.{Ucb, Ecb}
 use Rattle.delay_count.specs.Gamma.{part_at}
 use Rattle.delay_count.specs.Demand.{demand}
 use Rattle.response.specs.Windows.{window_at}
-use Rattle.response.proofs.Windows.{chosen_none, chosen_some, none_too, smaller_is_window}
+use Rattle.response.proofs.WindowLaws.{chosen_none, chosen_some, none_too, smaller_is_window}
 use Rattle.response.proofs.Choices.{choices_more, found_more, deadlines_more}
 use Rattle.response.proofs.Least.{looks_above}
 use Rattle.response.proofs.choice.windows.Goals as goal

@@ -32,3 +32,6 @@ loop-w-preserved c = record {
   some = omega (arith, c.loop-w.invariant.some, c.from.ensures, c.lower_bound-next.ensures.onward);
   below = jumped c.args.set.now (part_at c.args.parts.now) (slice_index c.args.longest.now) (slice_index c.args.windows.now) c.args.task.0 c.args.method c.requires.times c.requires.task c.own_demand-own.result c.loop-w.w c.lower_bound-next.result (slice_index c.higher_demands-higher.result) (slice_index c.slopes-slopes.result) c.own_demand-own.ensures.is c.higher_demands-higher.ensures.is c.slopes-slopes.ensures.slopes c.lower_bound-next.ensures.lower c.loop-w.invariant.below;
 }
+
+pub returns : goal.returns
+returns c = none_left c.args.set.now (demand c.args.set.now (part_at c.args.parts.now) (slice_index c.args.longest.now) (slice_index c.args.windows.now) c.args.task.0 c.args.method) c.args.task.0 c.loop-w.w c.room-limit.result c.room-limit.ensures c.loop-w.invariant.below (omega arith)
