@@ -14,12 +14,6 @@ use Rattle.cert_check.proofs.Found.{numbered_one}
 pub name_at : (set : TaskSet) (i : ℕ) (t : TaskSpec) → i < length set.tasks → t ≡ get_or set.tasks i t → name_of set i ≡ t.name
 name_at set i t lt is = get_or-map (λ (k : TaskSpec). k.name) set.tasks i t [] lt ∙ ap (λ (k : TaskSpec). k.name) (sym is)
 
-pub jitter_at : (set : TaskSet) (i : ℕ) (t : TaskSpec) → i < length set.tasks → t ≡ get_or set.tasks i t → jitter_of set i ≡ t.jitter
-jitter_at set i t lt is = get_or-map (λ (k : TaskSpec). k.jitter) set.tasks i t 0 lt ∙ ap (λ (k : TaskSpec). k.jitter) (sym is)
-
-pub deadline_at : (set : TaskSet) (i : ℕ) (t : TaskSpec) → i < length set.tasks → t ≡ get_or set.tasks i t → deadline_of set i ≡ t.deadline
-deadline_at set i t lt is = get_or-map (λ (k : TaskSpec). k.deadline) set.tasks i t 0 lt ∙ ap (λ (k : TaskSpec). k.deadline) (sym is)
-
 pub part_is : (c : Certificate) (i : ℕ) (t : TaskPart) → i < length c.tasks → t ≡ get_or c.tasks i t → cert_at c i ≡ t
 part_is c i t lt is = sym (is ∙ get_or_default c.tasks i t no_cert lt)
 
