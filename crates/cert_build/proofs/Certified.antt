@@ -17,7 +17,7 @@ use Rattle.evict_sets.specs.Certificate.{no_cert, cert_at}
 use Rattle.delay_count.specs.Demand.{demand}
 use Rattle.response.specs.declared.choice.WindowError.{WindowError}
 use Rattle.response.specs.declared.choice.WindowError.TheVariants as window
-use Rattle.cert_check.specs.Judge.{window_at, part_of, longest_at, name_of}
+use Rattle.cert_check.specs.Judge.{window_at, longest_at, name_of}
 use Rattle.crpd_base.proofs.Times.{has_times}
 use Rattle.crpd_base.specs.Names.{is_name}
 use Rattle.cert_model.specs.Reading.{task_entries, entries}

@@ -6,7 +6,7 @@ use Rattle.flat_graph.specs.CodeGraph.{CodeGraph}
 use Rattle.loop_regions.specs.TaskGraph.{TaskGraph}
 use Rattle.loop_regions.specs.CodeNest.{CodeNest}
 use Rattle.evict_sets.specs.Certificate.{cert_at}
-use Rattle.cert_check.specs.Judge.{part_of, longest_at, window_at}
+use Rattle.cert_check.specs.Judge.{window_at}
 use Rattle.cert_check.specs.Shown.{shown_at, graph_at, nest_at}
 use Rattle.cert_check.specs.Verdict.{Clause, Platforms, HasTask, Names, Last, Leaders, NodePotentials, LoopPotentials, States, UsefulSets, TaskSets, Inequalities, Bound, Window, Response, Deadline, Holds, IsJudged, Yes}
 use Rattle.cert_check.specs.Graphs.{GraphHolds}

@@ -8,7 +8,6 @@ use Rattle.crpd_base.specs.declared.data.TaskSet.{TaskSet}
 use Rattle.crpd_base.specs.declared.data.TaskPart.{TaskPart}
 use Rattle.crpd_base.specs.declared.data.Certificate.{Certificate}
 use Rattle.crpd_base.specs.declared.data.Method.{Method}
-use Rattle.crpd_base.specs.declared.data.Method.TheVariants.{Ucb, Ecb}
 use Rattle.crpd_base.specs.Tasks.{HasTimes, jitter_of, deadline_of}
 use Rattle.loop_regions.specs.TaskGraph.{TaskGraph}
 use Rattle.evict_sets.specs.Certificate.{cert_at}

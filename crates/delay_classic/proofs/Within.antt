@@ -1,6 +1,6 @@
 -- The multiset delays are at most the plain ones.
-use Rattle.std.proofs.Common.{◌≡◌, ℕ, zero, suc, ◌+◌, ◌-◌, ◌*◌, ◌<◌, ◌≤◌, ◌⊎◌, inl, inr, refl, sym, arith, false}
-use Rattle.std.specs.Prelude.{Bool, nat_le, nat_lt, if◌then◌else◌, ◌&&◌, min}
+use Rattle.std.proofs.Common.{◌≡◌, ℕ, zero, suc, ◌+◌, ◌-◌, ◌*◌, ◌<◌, ◌≤◌, inl, inr, refl, sym, arith, false}
+use Rattle.std.specs.Prelude.{Bool, nat_le, if◌then◌else◌, ◌&&◌}
 use Rattle.std.proofs.lemmas.Nat.{mul-le}
 use Rattle.std.proofs.lemmas.Bool.{cases_Bool, cases_lt, leb-false, true≢false}
 use Rattle.crpd_base.specs.declared.data.TaskSet.{TaskSet}
@@ -10,7 +10,7 @@ use Rattle.crpd_base.specs.declared.data.Method.TheVariants.{Ucb, Ecb}
 use Rattle.crpd_base.specs.Sets.{has}
 use Rattle.crpd_base.specs.Sum.{sum_below}
 use Rattle.delay_count.specs.Counts.{jobs_of, affected}
-use Rattle.delay_count.specs.Gamma.{set_share, union_count, shared_count, greatest_to, greatest_choice, shared_sets, ucb_count, ecb_count}
+use Rattle.delay_count.specs.Gamma.{set_share, union_count, shared_count, shared_sets, ucb_count, ecb_count}
 use Rattle.delay_count.specs.Demand.{gamma, jobs_demand, higher_demand}
 use Rattle.delay_classic.specs.Gamma.{useful_to_some, ucb_sets, ecb_sets, classic_gamma}
 use Rattle.delay_classic.specs.Laws.{UcbWithin, EcbWithin, DemandWithin}
