@@ -14,22 +14,23 @@ use Rattle.crpd_base.specs.declared.data.Certificate.{Certificate}
 use Rattle.crpd_base.specs.declared.data.Method.{Method}
 use Rattle.loop_regions.specs.TaskGraph.{TaskGraph}
 use Rattle.evict_sets.specs.Certificate.{no_cert, cert_at}
-use Rattle.delay_count.specs.Laws.{DemandGrows}
+use Rattle.delay_count.specs.Demand.{demand}
 use Rattle.response.specs.declared.choice.WindowError.{WindowError}
 use Rattle.response.specs.declared.choice.WindowError.TheVariants as window
-use Rattle.cert_check.specs.Judge.{window_at, part_of, longest_at, name_of}
+use Rattle.cert_check.specs.Judge.{window_at, longest_at, name_of}
 use Rattle.crpd_base.proofs.Times.{has_times}
 use Rattle.crpd_base.specs.Names.{is_name}
 use Rattle.cert_model.specs.Reading.{task_entries, entries}
 use Rattle.cert_model.specs.Ranges.{IsTaskPart, IsCertificate}
-use Rattle.cert_build.specs.Best.{IsBestPart, IsBest}
+use Rattle.cert_build.specs.Best.{IsBestPart, IsBest, demand_of}
 use Rattle.cert_build.specs.Analysis.{part_of_analysis, IsAnalysis, KeepsRanges}
 use Rattle.cert_build.specs.Assembly.{no_analysis, analysis_at, entries_of, AreAnalysed}
 use Rattle.cert_build.specs.Certify.{needs_at, HasParts, IsCompleted, HasNoWindows, IsBuildRefused, of_windows}
 use Rattle.cert_build.specs.declared.one_task.Analysis.{Analysis}
 use Rattle.cert_build.specs.declared.fault.BuildError.{BuildError}
-use Rattle.cert_build.proofs.Judged.{smaller_is}
-use Rattle.cert_build.proofs.FoundWindows.{first_too}
+use Rattle.response.proofs.WindowLaws.{smaller_is_window}
+use Rattle.response.proofs.Choices.{first_too}
+use Rattle.response.proofs.Least.{demands_agree}
 use Rattle.cert_build.proofs.Counting.{best_parts, entries_map}
 
 -- what holds of the names of all tasks holds of that of one
@@ -97,7 +98,7 @@ module _ (set : TaskSet) (all : List Analysis) (c : Certificate) (H : HasParts s
 -- the smaller windows are in the deadlines
 pub in_deadlines : (set : TaskSet) (graphs : ℕ → TaskGraph) (analyses : ℕ → Analysis) (c : Certificate) → IsCompleted set graphs analyses c → (k : ℕ) → k < length set.tasks → window_at c k + jitter_of set k ≤ deadline_of set k
 in_deadlines set graphs analyses c C k lt =
-    (smaller_is set (part_of c) (longest_at set.platform graphs) (window_at c) k (cert_at c k).method (window_at c k) (C.smaller k lt)).in_deadline
+    (smaller_is_window set (demand_of set graphs c k) k (cert_at c k).method (window_at c k) (C.smaller k lt)).in_deadline
 
 module _ (set : TaskSet) (graphs : ℕ → TaskGraph) (all : List Analysis) (c : Certificate) (A : AreAnalysed set graphs all) (C : IsCompleted set graphs (analysis_at all) c) where
   pub is_best : IsBest set graphs c
@@ -120,15 +121,16 @@ module _ (set : TaskSet) (graphs : ℕ → TaskGraph) (all : List Analysis) (c :
   best_in_ranges S = in_ranges set all c C.parts (has_times set S) S A.ranges (in_deadlines set graphs (analysis_at all) c C) few_entries
 
 -- a want of windows refuses the certificate
-module _ (grows : DemandGrows) (set : TaskSet) (graphs : ℕ → TaskGraph) (all : List Analysis) (times : HasTimes set) (A : AreAnalysed set graphs all) where
+module _ (set : TaskSet) (graphs : ℕ → TaskGraph) (all : List Analysis) (times : HasTimes set) (A : AreAnalysed set graphs all) where
   no_windows : (e : WindowError) → HasNoWindows set graphs (analysis_at all) e → IsBuildRefused set graphs (of_windows e)
   no_windows window.Memory none = tt
   no_windows (window.Unschedulable t) none = (
     map part_of_analysis all,
     best_parts set graphs all A.tasks A.each,
     (let e = entries_map all in let few = A.entries in omega (arith, e, few)),
-    first_too grows set times (λ k. (analysis_at all k).part) (needs_at (map part_of_analysis all)) (longest_at set.platform graphs) (longest_at set.platform graphs)
-        (λ k. ap (λ (p : TaskPart). p.part) (sym (mapped part_of_analysis all k no_analysis))) (λ k lt. refl) t.0 none,
+    first_too set (demand set (λ k. (analysis_at all k).part) (longest_at set.platform graphs)) (demand set (needs_at (map part_of_analysis all)) (longest_at set.platform graphs))
+        (demands_agree set (λ k. (analysis_at all k).part) (needs_at (map part_of_analysis all)) (longest_at set.platform graphs) (longest_at set.platform graphs) (length set.tasks) times (omega arith)
+        (λ k lt. ap (λ (p : TaskPart). p.part) (sym (mapped part_of_analysis all k no_analysis))) (λ k lt. refl)) t.0 none,
   )
 
   pub not_scheduled : (e : WindowError) (x : BuildError) → HasNoWindows set graphs (analysis_at all) e → x ≡ of_windows e → IsBuildRefused set graphs x

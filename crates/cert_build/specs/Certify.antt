@@ -7,12 +7,13 @@ use Rattle.crpd_base.specs.declared.data.Certificate.{Certificate}
 use Rattle.crpd_base.specs.Tasks.{jitter_of}
 use Rattle.loop_regions.specs.TaskGraph.{TaskGraph}
 use Rattle.evict_sets.specs.Certificate.{no_cert, cert_at}
+use Rattle.delay_count.specs.Demand.{demand}
 use Rattle.response.specs.Windows.{IsSmaller, IsFirstWithout}
 use Rattle.response.specs.declared.choice.WindowError.{WindowError}
 use Rattle.response.specs.declared.choice.WindowError.TheVariants as window
-use Rattle.cert_check.specs.Judge.{window_at, part_of, longest_at, name_of}
+use Rattle.cert_check.specs.Judge.{window_at, longest_at, name_of}
 use Rattle.cert_model.specs.Reading.{entries}
-use Rattle.cert_build.specs.Best.{IsBestPart}
+use Rattle.cert_build.specs.Best.{IsBestPart, demand_of}
 use Rattle.cert_build.specs.Analysis.{part_with, HasLargeBound}
 use Rattle.cert_build.specs.declared.one_task.Analysis.{Analysis}
 use Rattle.cert_build.specs.declared.fault.BuildError.{BuildError}
@@ -46,7 +47,7 @@ AreRefused set graphs (Unschedulable t) = ⊥
 abbrev pub IsBuildRefused : TaskSet → (ℕ → TaskGraph) → BuildError → Type 0
 IsBuildRefused set graphs (Unschedulable t) =
     (parts : List TaskPart) × AreBestParts set graphs parts × (entries parts ≤ 4000000)
-    × IsFirstWithout set (needs_at parts) (longest_at set.platform graphs) t.0
+    × IsFirstWithout set (demand set (needs_at parts) (longest_at set.platform graphs)) t.0
 IsBuildRefused set graphs e = AreRefused set graphs e
 
 -- the refusal of a certificate for want of windows
@@ -65,10 +66,10 @@ pub record HasParts (set : TaskSet) (analyses : ℕ → Analysis) (c : Certifica
 pub record IsCompleted (set : TaskSet) (graphs : ℕ → TaskGraph) (analyses : ℕ → Analysis) (c : Certificate) : Type 0 where
   pub parts : HasParts set analyses c
   pub smaller : (k : ℕ) → k < length set.tasks →
-      IsSmaller set (part_of c) (longest_at set.platform graphs) (window_at c) k (cert_at c k).method (window_at c k)
+      IsSmaller set (demand_of set graphs c k) k (cert_at c k).method (window_at c k)
 
 -- when there are no windows for these analyses
 abbrev pub HasNoWindows : TaskSet → (ℕ → TaskGraph) → (ℕ → Analysis) → WindowError → Type 0
 HasNoWindows set graphs analyses window.Memory = Unit {0}
 HasNoWindows set graphs analyses (window.Unschedulable t) =
-    IsFirstWithout set (λ k. (analyses k).part) (longest_at set.platform graphs) t.0
+    IsFirstWithout set (demand set (λ k. (analyses k).part) (longest_at set.platform graphs)) t.0

@@ -21,7 +21,6 @@ use crate::fault::BuildError;
 use crate::one_task::{Analysis, analyse};
 use cert_model::task_entries;
 use crpd_base::{Certificate, MOST_ENTRIES, Platform, Task, TaskSet};
-use delay_count::growth_law;
 use exec_bound::BoundError;
 use flat_graph::Graph;
 use loop_regions::Nest;
@@ -120,7 +119,6 @@ pub fn certify(
     ensures judged { IfOk result (λ c. IsJudged set.now (shown_at graphs.now nests.now) c Yes) }
     ensures one { IfOk result (λ c. (d : Certificate) → IsBest set.now (shown_at graphs.now nests.now) d → d ≡ c) }
 {
-    growth_law();
     graphs_law(graphs);
     let analyses = analyse_all(alloc, set, graphs, nests)?;
     let certificate = complete(alloc, set, graphs, analyses)?;

@@ -12,7 +12,6 @@ ghost use Rattle.cert_build.specs.Assembly.{analysis_at, AreAssembled, HaveRespo
 use crate::one_task::Analysis;
 use cert_check::{times_law, write_longest};
 use crpd_base::{Certificate, Items, MOST_TASKS, Part, TaskPart, TaskSet, TaskSpec, Text};
-use delay_count::growth_law;
 use flat_graph::Graph;
 use response::{Choice, WindowError, windows};
 use std::alloc::{AllocError, Global};
@@ -108,7 +107,6 @@ pub fn complete(
         (λ c. IsCompleted set.now (shown_at graphs.now nests) (analysis_at analyses.items) c)
         (λ e. HasNoWindows set.now (shown_at graphs.now nests) (analysis_at analyses.items) e) }
 {
-    growth_law();
     times_law(set);
     let mut longest = [0; MOST_TASKS];
     write_longest(set, graphs, &mut longest);

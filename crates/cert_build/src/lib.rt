@@ -5,8 +5,6 @@ ghost use Rattle.cert_build.specs.Best.{BestIsJudgedLaw, ChoicesLaw, OneBestLaw}
 ghost use Rattle.cert_build.specs.BestLaws.{BestMeetsLaw, BestSetsLaw, BestStateLaw, BestUsefulLaw, EnoughSetsLaw};
 ghost use Rattle.cert_build.specs.TwoWords.{TwoWords};
 
-use delay_count::growth_law;
-
 mod all_tasks;
 mod completed;
 mod fault;
@@ -39,16 +37,12 @@ pub fn best_is_judged()
 /// certificate. In constant time.
 pub fn choices_law()
     ensures { ChoicesLaw }
-{
-    growth_law();
-}
+{}
 
 /// A law: a task set has one such certificate at most. In constant time.
 pub fn one_best()
     ensures { OneBestLaw }
-{
-    growth_law();
-}
+{}
 
 /// A law: the certificate of a task of two words is the analysis'. In constant time.
 pub fn two_words()

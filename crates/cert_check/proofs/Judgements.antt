@@ -18,7 +18,7 @@ use Rattle.cert_check.specs.Times.{AreLongest, HigherHold, TimesHold}
 use Rattle.cert_check.specs.Shown.{shown_at}
 use Rattle.cert_check.specs.declared.outcome.Failure.{Failure}
 use Rattle.cert_check.proofs.Found.{numbers}
-use Rattle.cert_check.proofs.Demands.{same_demand}
+use Rattle.delay_count.proofs.Growth.{demand_same}
 
 pub graph_same : (set : TaskSet) (graphs : ℕ → TaskGraph) (c : Certificate) (i : ℕ) (k : Clause) → 2 ≤ number_of k → number_of k ≤ 7 → GraphHolds set.platform (graphs i) (cert_at c i) k ↔ Holds set graphs c i k
 graph_same set graphs c i Platforms low high = absurd (omega (arith, low))
@@ -53,7 +53,7 @@ times_same grows set times graphs c i costs lt C (TaskSets u) low high = absurd 
 times_same grows set times graphs c i costs lt C (Inequalities u) low high = absurd (omega (arith, low))
 times_same grows set times graphs c i costs lt C Bound low high = absurd (omega (arith, low))
 times_same grows set times graphs c i costs lt C Window low high =
-    let same = same_demand grows set times i lt (part_of c) (part_of c) (slice_index costs) (longest_at set.platform graphs) (window_at c) (window_at c) (λ k le. refl) C (λ k l. refl) (cert_at c i).method (window_at c i) in
+    let same = demand_same set (part_of c) (part_of c) (slice_index costs) (longest_at set.platform graphs) (window_at c) (window_at c) i times lt (λ k le. refl) C (λ k l. refl) (cert_at c i).method (window_at c i) in
     ((λ h. (h.0, subst (λ x. x ≤ window_at c i) same h.1)), (λ h. (h.0, subst (λ x. x ≤ window_at c i) (sym same) h.1)))
 times_same grows set times graphs c i costs lt C Response low high = ((λ h. h), (λ h. h))
 times_same grows set times graphs c i costs lt C Deadline low high = ((λ h. h), (λ h. h))

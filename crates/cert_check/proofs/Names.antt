@@ -1,7 +1,6 @@
 -- Clause 1 of a task, and what is read of its entries.
 use Rattle.std.proofs.Common.{◌≡◌, ℕ, ◌<◌, ◌≤◌, [], length, get_or, sym, ap, ◌∙◌, arith}
 use Rattle.std.proofs.lemmas.List.{get_or-map, get_or_default}
-use Rattle.crpd_base.specs.Tasks.{jitter_of, deadline_of}
 use Rattle.crpd_base.specs.declared.data.TaskSpec.{TaskSpec}
 use Rattle.crpd_base.specs.declared.data.TaskSet.{TaskSet}
 use Rattle.crpd_base.specs.declared.data.TaskPart.{TaskPart}
@@ -13,12 +12,6 @@ use Rattle.cert_check.proofs.Found.{numbered_one}
 
 pub name_at : (set : TaskSet) (i : ℕ) (t : TaskSpec) → i < length set.tasks → t ≡ get_or set.tasks i t → name_of set i ≡ t.name
 name_at set i t lt is = get_or-map (λ (k : TaskSpec). k.name) set.tasks i t [] lt ∙ ap (λ (k : TaskSpec). k.name) (sym is)
-
-pub jitter_at : (set : TaskSet) (i : ℕ) (t : TaskSpec) → i < length set.tasks → t ≡ get_or set.tasks i t → jitter_of set i ≡ t.jitter
-jitter_at set i t lt is = get_or-map (λ (k : TaskSpec). k.jitter) set.tasks i t 0 lt ∙ ap (λ (k : TaskSpec). k.jitter) (sym is)
-
-pub deadline_at : (set : TaskSet) (i : ℕ) (t : TaskSpec) → i < length set.tasks → t ≡ get_or set.tasks i t → deadline_of set i ≡ t.deadline
-deadline_at set i t lt is = get_or-map (λ (k : TaskSpec). k.deadline) set.tasks i t 0 lt ∙ ap (λ (k : TaskSpec). k.deadline) (sym is)
 
 pub part_is : (c : Certificate) (i : ℕ) (t : TaskPart) → i < length c.tasks → t ≡ get_or c.tasks i t → cert_at c i ≡ t
 part_is c i t lt is = sym (is ∙ get_or_default c.tasks i t no_cert lt)

@@ -10,10 +10,9 @@ use Rattle.crpd_base.specs.declared.data.TaskPart.{TaskPart}
 use Rattle.evict_sets.specs.Certificate.{cert_at}
 use Rattle.delay_count.specs.Gamma.{part_at}
 use Rattle.delay_count.specs.Demand.{demand}
-use Rattle.delay_count.specs.Laws.{DemandGrows}
 use Rattle.cert_check.specs.Verdict.{Window}
 use Rattle.cert_check.specs.Times.{TimesHold}
-use Rattle.cert_check.proofs.Demands.{same_demand}
+use Rattle.delay_count.proofs.Growth.{demand_same}
 use Rattle.cert_check.specs.Judge.{window_at, part_of}
 
 -- the parts and windows of the tasks below k are there
@@ -40,11 +39,11 @@ handed_more c parts windows k p w lt p_is w_is H = record {
   nothing = record { bound = 0; evicting = []; useful = [] }
 
 -- the test of clause 8
-pub room_test : (grows : DemandGrows) (task_set : TaskSet) (times : HasTimes task_set) (c : Certificate) (i k : ℕ) (l : i < length task_set.tasks) (parts : List Part) (windows costs : List ℕ) (t : TaskPart) (d q : ℕ) (b : Bool)
+pub room_test : (task_set : TaskSet) (times : HasTimes task_set) (c : Certificate) (i k : ℕ) (l : i < length task_set.tasks) (parts : List Part) (windows costs : List ℕ) (t : TaskPart) (d q : ℕ) (b : Bool)
     → AreHanded c parts windows k → i < k → cert_at c i ≡ t → d ≡ demand task_set (part_at parts) (slice_index costs) (slice_index windows) i t.method t.window → q ≡ t.window → (t.window ≡ 0 → ⊥)
     → IsTrue b ↔ (d ≤ q) → IsTrue b ↔ TimesHold task_set (slice_index costs) c i Window
-room_test grows task_set times c i k l parts windows costs t d q b H below at d_is q_is some test =
-    let same = same_demand grows task_set times i l (part_at parts) (part_of c) (slice_index costs) (slice_index costs) (slice_index windows) (window_at c)
+room_test task_set times c i k l parts windows costs t d q b H below at d_is q_is some test =
+    let same = demand_same task_set (part_at parts) (part_of c) (slice_index costs) (slice_index costs) (slice_index windows) (window_at c) i times l
     (λ j le. H.part j (omega (arith, le, below))) (λ j lt. refl) (λ j lt. H.window j (omega (arith, lt, below))) (cert_at c i).method (window_at c i) in
     let whole : d ≡ demand task_set (part_at parts) (slice_index costs) (slice_index windows) i (cert_at c i).method (window_at c i) =
     subst (λ (x : TaskPart). d ≡ demand task_set (part_at parts) (slice_index costs) (slice_index windows) i x.method x.window) (sym at) d_is in

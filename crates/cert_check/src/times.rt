@@ -15,7 +15,7 @@ ghost use Rattle.cert_check.specs.Times.{AreLongest, HigherHold, TimesHold};
 use crate::least::at_most;
 use crate::outcome::{Failure, at};
 use crpd_base::{Certificate, MOST_TASKS, Platform, Task, TaskSet, Text};
-use delay_count::{demand, growth_law};
+use delay_count::demand;
 use evict_sets::{longest, longest_law};
 use flat_graph::Graph;
 
@@ -94,7 +94,6 @@ fn has_room(set: &TaskSet, certificate: &Certificate, longest: &[u64], i: usize)
     ensures { IsTrue result ↔ TimesHold set.now (slice_index longest.now) certificate.now i Window }
 {
     times_law(set);
-    growth_law();
     let tasks = certificate.tasks.as_slice();
     let part = &tasks[i];
     let mut parts = [part.part; MOST_TASKS];

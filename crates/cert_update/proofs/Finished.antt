@@ -12,6 +12,7 @@ use Rattle.flat_graph.specs.CodeGraph.{CodeGraph, HasCode}
 use Rattle.loop_regions.specs.TaskGraph.{TaskGraph}
 use Rattle.loop_regions.specs.CodeNest.{CodeNest}
 use Rattle.evict_sets.specs.Certificate.{cert_at}
+use Rattle.delay_count.specs.Demand.{demand}
 use Rattle.response.specs.Windows.{IsFirstWithout}
 use Rattle.cert_check.specs.Judge.{longest_at}
 use Rattle.cert_check.specs.Shown.{no_graph, AreShown}
@@ -92,13 +93,13 @@ module _ (old : Side) (c : Certificate) (new : Side) (parts : List Analysis) (d 
 
 -- no windows for the new parts
 pub no_windows : (old : Side) (c : Certificate) (new : Side) (parts : List Analysis) (i : ℕ) → AreNewParts old c new (length new.set.tasks) parts → sum_by entries_of parts ≤ 4000000
-    → IsFirstWithout new.set (λ k. (analysis_at parts k).part) (longest_at new.set.platform new.graphs) i → HasNoWindowAt old c new i
+    → IsFirstWithout new.set (demand new.set (λ k. (analysis_at parts k).part) (longest_at new.set.platform new.graphs)) i → HasNoWindowAt old c new i
 no_windows old c new parts i A few W =
     record {
       parts = bare old c new parts;
       are = bare_parts old c new parts A;
       few = let e = entries_map parts in omega (arith, e, few);
       without =
-          subst (λ (f : ℕ → Part). IsFirstWithout new.set f (longest_at new.set.platform new.graphs) i)
+          subst (λ (f : ℕ → Part). IsFirstWithout new.set (demand new.set f (longest_at new.set.platform new.graphs)) i)
           (λ x k. ((sym (at_bare old c new parts k)) x).part) W;
     }

@@ -6,12 +6,13 @@ use Rattle.flat_graph.specs.CodeGraph.{CodeGraph}
 use Rattle.loop_regions.specs.TaskGraph.{TaskGraph}
 use Rattle.loop_regions.specs.CodeNest.{CodeNest}
 use Rattle.evict_sets.specs.Certificate.{cert_at}
-use Rattle.cert_check.specs.Judge.{part_of, longest_at, window_at}
+use Rattle.cert_check.specs.Judge.{window_at}
 use Rattle.cert_check.specs.Shown.{shown_at, graph_at, nest_at}
 use Rattle.cert_check.specs.Verdict.{Clause, Platforms, HasTask, Names, Last, Leaders, NodePotentials, LoopPotentials, States, UsefulSets, TaskSets, Inequalities, Bound, Window, Response, Deadline, Holds, IsJudged, Yes}
 use Rattle.cert_check.specs.Graphs.{GraphHolds}
-use Rattle.cert_build.specs.Best.{IsBestPart, IsBest}
-use Rattle.cert_build.proofs.Judged.{smaller_is, best_holds, all_hold}
+use Rattle.cert_build.specs.Best.{IsBestPart, IsBest, demand_of}
+use Rattle.response.proofs.WindowLaws.{smaller_is_window}
+use Rattle.cert_build.proofs.Judged.{best_holds, all_hold}
 use Rattle.cert_update.specs.Update.{IsUpdate}
 use Rattle.cert_update.specs.Laws.{side, HasCodes, UpdateIsJudgedLaw, UpdateIsBestLaw}
 use Rattle.cert_update.proofs.Pass.{is_graph, pass_law, best_pass_law}
@@ -53,7 +54,7 @@ module _ (old set : TaskSet) (old_graphs graphs : List CodeGraph) (old_nests nes
     pub judged : (i : ℕ) (k : Clause) → i < length set.tasks → Holds set (shown_at graphs nests) d i k
     judged i k lt =
         let T = U.each i lt in
-        let w = smaller_is set (part_of d) (longest_at set.platform (shown_at graphs nests)) (window_at d) i (cert_at d i).method (window_at d i) T.window in
+        let w = smaller_is_window set (demand_of set (shown_at graphs nests) d i) i (cert_at d i).method (window_at d i) T.window in
         all_hold set (shown_at graphs nests) d i lt U.platform U.tasks T.name (λ clause. part_holds judges i clause lt) w.some w.enough T.response w.in_deadline k
 
   pub is_best : IsBest old (shown_at old_graphs old_nests) c → IsBest set (shown_at graphs nests) d

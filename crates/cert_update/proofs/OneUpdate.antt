@@ -1,6 +1,6 @@
 -- There is one update of a certificate at most.
-use Rattle.std.proofs.Common.{◌≡◌, ◌≢◌, ℕ, zero, suc, ◌<◌, ◌≤◌, List, [], length, get_or, refl, sym, ap, ◌∙◌, subst, inl, inr, ⊎_elim, arith}
-use Rattle.std.proofs.lemmas.Bool.{cases_eq, cases_order}
+use Rattle.std.proofs.Common.{◌≡◌, ◌≢◌, ℕ, ◌<◌, List, [], length, get_or, refl, sym, ap, ◌∙◌, subst, inl, inr, ⊎_elim, arith}
+use Rattle.std.proofs.lemmas.Bool.{cases_order}
 use Rattle.std.proofs.lemmas.List.{ext_get_or, get_or-map}
 use Rattle.crpd_base.specs.Ranges.{IsTaskSet}
 use Rattle.crpd_base.specs.declared.data.TaskSpec.{TaskSpec}
@@ -12,11 +12,11 @@ use Rattle.crpd_base.specs.declared.data.Part.{Part}
 use Rattle.crpd_base.specs.declared.data.Method.{Method}
 use Rattle.flat_graph.proofs.Members.{some_at}
 use Rattle.evict_sets.specs.Certificate.{no_cert, cert_at}
-use Rattle.delay_count.specs.Demand.{demand}
-use Rattle.delay_count.specs.Laws.{Load, IsCostlier, DemandGrows}
+use Rattle.response.proofs.WindowLaws.{one_choice}
+use Rattle.response.proofs.Least.{demands_agree}
 use Rattle.cert_check.specs.Judge.{window_at, part_of, longest_at, name_of}
 use Rattle.crpd_base.proofs.Times.{has_times}
-use Rattle.cert_build.proofs.Choices.{one_smaller}
+use Rattle.cert_build.specs.Best.{demand_of}
 use Rattle.cert_build.proofs.OneBest.{same_task}
 use Rattle.cert_build.proofs.Certified.{beside as with_others}
 use Rattle.cert_update.specs.Unchanged.{Side, IsUnchanged}
@@ -53,10 +53,7 @@ kept_task c d e D E names methods windows responses =
     let loops = D.loops ∙ sym E.loops in
     λ i. made (names i) (part i) (states i) (potentials i) (loops i) (methods i) (windows i) (responses i)
 
-module _ (grows : DemandGrows) (old new : Side) (c d e : Certificate) (O : IsTaskSet old.set) (S : IsTaskSet new.set) (D : IsUpdate old c new d) (E : IsUpdate old c new e) where
-  abbrev load : Certificate → Load
-  load x = record { set = new.set; parts = part_of x; longest = longest_at new.set.platform new.graphs; window = window_at x }
-
+module _ (old new : Side) (c d e : Certificate) (O : IsTaskSet old.set) (S : IsTaskSet new.set) (D : IsUpdate old c new d) (E : IsUpdate old c new e) where
   one_source : (i k j : ℕ) → IsUnchanged old new k i → IsUnchanged old new j i → k ≡ j
   one_source i k j K J = one_name old.set O k j K.task J.task (K.name ∙ sym J.name)
 
@@ -84,45 +81,17 @@ module _ (grows : DemandGrows) (old new : Side) (c d e : Certificate) (O : IsTas
       ap (λ (x : TaskPart). x.part)
       (same_whole k (cert_at d k) (beside (cert_at d k) (cert_at e k)) (D.each k l).part (moved k (cert_at d k) (cert_at e k) (E.each k l).part) (refl, refl, refl, refl))
 
-  costlier : (x y : Certificate) (i : ℕ) → i < length new.set.tasks → ((k : ℕ) → k < length new.set.tasks → part_of x k ≡ part_of y k) → ((k : ℕ) → k < i → window_at x k ≡ window_at y k) → IsCostlier (load x) (load y) i
-  costlier x y i l parts windows =
-      record {
-        tasks = refl;
-        switching = refl;
-        miss = omega arith;
-        switch = omega arith;
-        bound = λ k le. let q = ap (λ (z : Part). z.bound) (parts k (omega (arith, le, l))) in omega (arith, q);
-        evicting = λ k le. sym (ap (λ (z : Part). z.evicting) (parts k (omega (arith, le, l))));
-        useful = λ k le. sym (ap (λ (z : Part). z.useful) (parts k (omega (arith, le, l))));
-        longest = λ k lt. omega arith;
-        window = λ k lt. let q = windows k lt in omega (arith, q);
-      }
-
-  same_demand : (i : ℕ) → i < length new.set.tasks → ((k : ℕ) → k < i → window_at d k ≡ window_at e k) → (method : Method) (v : ℕ) → demand new.set (part_of d) (longest_at new.set.platform new.graphs) (window_at d) i method v ≡ demand new.set (part_of e) (longest_at new.set.platform new.graphs) (window_at e) i method v
-  same_demand i l windows method v =
-      let times = has_times new.set S in
-      let le = grows (load d) (load e) i v v method times l (costlier d e i l parts_at windows) (omega arith) in
-      let ge = grows (load e) (load d) i v v method times l (costlier e d i l (λ k m. sym (parts_at k m)) (λ k m. sym (windows k m))) (omega arith) in
-      omega (arith, le, ge)
-
-  same_choice : (i : ℕ) → i < length new.set.tasks → ((k : ℕ) → k < i → window_at d k ≡ window_at e k) → ((cert_at d i).method ≡ (cert_at e i).method) × (window_at d i ≡ window_at e i)
-  same_choice i l windows =
-      one_smaller new.set (longest_at new.set.platform new.graphs) (longest_at new.set.platform new.graphs) (part_of d) (part_of e) (window_at d) (window_at e) i (same_demand i l windows)
-      (cert_at d i).method (cert_at e i).method (window_at d i) (window_at e i) (D.each i l).window (E.each i l).window
-
-  windows_below : (n : ℕ) → n ≤ length new.set.tasks → (k : ℕ) → k < n → window_at d k ≡ window_at e k
-  windows_below zero le k l = absurd (omega (arith, l))
-  windows_below (suc n) le k l =
-      elim (cases_eq k n) [
-        | inl q ↦ subst (λ x. window_at d x ≡ window_at e x) (sym q) (same_choice n (omega (arith, le)) (windows_below n (omega (arith, le)))).1
-        | inr ne ↦ windows_below n (omega (arith, le)) k (omega (arith, l, ne))
-      ]
+  same_choice : (i : ℕ) → i < length new.set.tasks → ((cert_at d i).method ≡ (cert_at e i).method) × (window_at d i ≡ window_at e i)
+  same_choice =
+      one_choice new.set (demand_of new.set new.graphs d) (demand_of new.set new.graphs e) (window_at d) (window_at e) (λ i. (cert_at d i).method) (λ i. (cert_at e i).method) (length new.set.tasks)
+      (demands_agree new.set (part_of d) (part_of e) (longest_at new.set.platform new.graphs) (longest_at new.set.platform new.graphs) (length new.set.tasks) (has_times new.set S) (omega arith) parts_at (λ k m. refl) (window_at d) (window_at e))
+      (λ i l. (D.each i l).window) (λ i l. (E.each i l).window)
 
   same_at : (i : ℕ) → i < length new.set.tasks → cert_at d i ≡ cert_at e i
   same_at i l =
       let X = D.each i l in
       let Y = E.each i l in
-      let choice = same_choice i l (windows_below i (omega (arith, l))) in
+      let choice = same_choice i l in
       same_whole i (cert_at d i) (cert_at e i) X.part Y.part (
         X.name ∙ sym Y.name,
         choice.0,
@@ -136,5 +105,5 @@ module _ (grows : DemandGrows) (old new : Side) (c d e : Certificate) (O : IsTas
   pub one_update : d ≡ e
   one_update = let p = D.platform ∙ sym E.platform in λ i. record { platform = p i; tasks = same_tasks i }
 
-pub one_update_by : DemandGrows → OneUpdateLaw
-one_update_by grows old new c d e O S D E = one_update grows old new c d e O S D E
+pub one_update_by : OneUpdateLaw
+one_update_by old new c d e O S D E = one_update old new c d e O S D E

@@ -19,7 +19,6 @@ use crate::parts::new_parts;
 use crate::sources::sources;
 use cert_build::complete;
 use crpd_base::{Certificate, Items, TaskSet};
-use delay_count::growth_law;
 use flat_graph::Graph;
 use loop_regions::Nest;
 use response::WindowError;
@@ -77,7 +76,6 @@ pub fn update(
         IsUpdate (side old.now old_graphs.now old_nests.now) certificate.now (side set.now graphs.now nests.now) d → d ≡ u.certificate) }
     ensures ranges { IfOk result (λ u. IsCertificate u.certificate) }
 {
-    growth_law();
     codes_law(old_graphs);
     codes_law(graphs);
     let change = Change {

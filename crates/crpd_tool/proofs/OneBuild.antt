@@ -1,12 +1,11 @@
 -- Over the same graphs, a set has the analysis' certificate or one refusal of it.
-use Rattle.std.proofs.Common.{◌≡◌, ◌≢◌, ℕ, zero, suc, ◌+◌, ◌<◌, ◌≤◌, List, [], ◌∷◌, length, refl, sym, ap, ◌∙◌, subst, inl, inr, arith}
+use Rattle.std.proofs.Common.{◌≡◌, ◌≢◌, ℕ, zero, suc, ◌+◌, ◌<◌, ◌≤◌, List, [], ◌∷◌, length, refl, sym, ap, ◌∙◌, subst, inl, inr, arith, ◌^◌}
 use Rattle.std.proofs.lemmas.Bool.{cases_eq, cases_lt}
 use Rattle.std.proofs.lemmas.List.Sums.{sum_by-cons}
 use Rattle.std.specs.Prelude.{slice_index_or, sum_by}
 use Rattle.crpd_base.specs.declared.data.Platform.{Platform}
 use Rattle.crpd_base.specs.declared.data.Part.{Part}
 use Rattle.crpd_base.specs.declared.data.Method.{Method}
-use Rattle.crpd_base.specs.declared.data.Method.TheVariants.{Ucb, Ecb}
 use Rattle.crpd_base.specs.declared.data.NodeState.{NodeState}
 use Rattle.crpd_base.specs.declared.data.Task.{Task}
 use Rattle.crpd_base.specs.declared.data.TaskPart.{TaskPart}
@@ -17,16 +16,17 @@ use Rattle.flat_graph.specs.Graph.{IsGraph}
 use Rattle.loop_regions.specs.TaskGraph.{TaskGraph}
 use Rattle.evict_sets.specs.Certificate.{cert_at, no_cert}
 use Rattle.delay_count.specs.Demand.{demand}
-use Rattle.delay_count.specs.Laws.{DemandGrows}
+use Rattle.response.proofs.WindowLaws.{smaller_is_window}
+use Rattle.response.proofs.Choices.{not_first}
+use Rattle.response.proofs.Least.{demands_agree}
 use Rattle.response.specs.Windows.{IsSmaller, IsFirstWithout, method_at, window_at as chosen_window}
 use Rattle.cert_check.specs.Judge.{accesses_of, longest_at, part_of, window_at}
-use Rattle.cert_check.proofs.Demands.{same_demand}
 use Rattle.cert_model.specs.Reading.{entries, state_entries, task_entries}
-use Rattle.cert_build.specs.Best.{IsBest}
+use Rattle.cert_build.specs.Best.{IsBest, IsBestPart, demand_of}
+use Rattle.cert_build.specs.Analysis.{HasLargeBound}
 use Rattle.cert_build.specs.Certify.{AreBestParts, IsBuildRefused, IsFirstLarge, needs_at}
 use Rattle.cert_build.specs.declared.fault.BuildError.{BuildError}
 use Rattle.cert_build.specs.declared.fault.BuildError.TheVariants.{Memory, TooLarge, TooManyEntries, Unschedulable}
-use Rattle.cert_build.proofs.Choices.{one_smaller}
 use Rattle.cert_build.proofs.Counting.{not_large}
 use Rattle.cert_build.proofs.OneBest.{same_part, same_states}
 
@@ -43,54 +43,26 @@ entries_same (x ∷ xs) (y ∷ ys) e h =
 
 -- ---- windows
 
-module _ (grows : DemandGrows) (set : TaskSet) (longest : ℕ → ℕ) (times : HasTimes set) where
-  -- the windows of the first tasks, by these parts
-  abbrev AreChosen : (ℕ → Part) → (ℕ → ℕ) → (ℕ → Method) → ℕ → Type 0
-  AreChosen parts window method n = (k : ℕ) → k < n → IsSmaller set parts longest window k (method k) (window k)
-
-  module _ (parts others : ℕ → Part) (P : (k : ℕ) → k < length set.tasks → parts k ≡ others k) where
-    demands : (window other : ℕ → ℕ) (i : ℕ) → i < length set.tasks → ((k : ℕ) → k < i → window k ≡ other k) → (method : Method) (v : ℕ) → demand set parts longest window i method v ≡ demand set others longest other i method v
-    demands window other i lt same method v =
-        same_demand grows set times i lt parts others longest longest window other (λ k le. P k (omega (arith, le, lt))) (λ k l. refl) same method v
-
-    windows_same : (window other : ℕ → ℕ) (method by : ℕ → Method) (n : ℕ) → n ≤ length set.tasks → AreChosen parts window method n → AreChosen others other by n → (k : ℕ) → k < n → window k ≡ other k
-    windows_same window other method by zero le X Y k lt = absurd (omega (arith, lt))
-    windows_same window other method by (suc n) le X Y k lt =
-        let below = windows_same window other method by n (omega (arith, le)) (λ j l. X j (omega (arith, l))) (λ j l. Y j (omega (arith, l))) in
-        elim (cases_eq k n) [
-          | inl e ↦ subst (λ x. window x ≡ other x) (sym e)
-              (one_smaller set longest longest parts others window other n (demands window other n (omega (arith, le)) below)
-              (method n) (by n) (window n) (other n) (X n (omega arith)) (Y n (omega arith))).1
-          | inr ne ↦ below k (omega (arith, lt, ne))
-        ]
-
-    -- a task with a window is not the first without one
-    pub has_window : (i : ℕ) → IsFirstWithout set parts longest i → (other : ℕ → ℕ) (by : ℕ → Method) → AreChosen others other by (suc i) → ⊥
-    has_window i F other by Y =
-        let below = windows_same (chosen_window F.higher) other (method_at F.higher) by i (let l = F.task in omega (arith, l)) F.each (λ k l. Y k (omega (arith, l))) in
-        by_method (by i) (other i) (Y i (omega arith)) (demands (chosen_window F.higher) other i F.task below)
-      where
-        by_method : (m : Method) (w : ℕ) → IsSmaller set others longest other i m w
-            → ((method : Method) (v : ℕ) → demand set parts longest (chosen_window F.higher) i method v ≡ demand set others longest other i method v) → ⊥
-        by_method Ucb w S same =
-            let e = same Ucb w in let enough = S.0.enough in let none = F.no_ucb w S.0.some S.0.in_deadline in absurd (omega (arith, e, enough, none))
-        by_method Ecb w S same =
-            let e = same Ecb w in let enough = S.0.enough in let none = F.no_ecb w S.0.some S.0.in_deadline in absurd (omega (arith, e, enough, none))
+-- a task with a window is not the first without one, by parts that are the same
+pub has_window : (set : TaskSet) (longest : ℕ → ℕ) → HasTimes set → (parts others : ℕ → Part) → ((k : ℕ) → k < length set.tasks → parts k ≡ others k)
+    → (i : ℕ) → IsFirstWithout set (demand set parts longest) i → (window : ℕ → ℕ) (method : ℕ → Method)
+    → ((k : ℕ) → k < suc i → IsSmaller set (demand set others longest window k) k (method k) (window k)) → ⊥
+has_window set longest times parts others P =
+    not_first set (demand set parts longest) (demand set others longest) (demands_agree set parts others longest longest (length set.tasks) times (omega arith) P (λ k l. refl))
 
 -- ---- the certificate and its refusals
 
-module _ (grows : DemandGrows) (set : TaskSet) (graphs : ℕ → TaskGraph) (times : HasTimes set) (G : (k : ℕ) → k < length set.tasks → IsGraph (graphs k).graph) where
+module _ (set : TaskSet) (graphs : ℕ → TaskGraph) (times : HasTimes set) (G : (k : ℕ) → k < length set.tasks → IsGraph (graphs k).graph) where
   -- no bound of the parts is too large
   pub none_large : (parts : List TaskPart) (t : Task) → AreBestParts set graphs parts → IsFirstLarge set graphs t.0 → ⊥
   none_large parts t B L =
       not_large set.platform (graphs t.0) (slice_index_or parts t.0 no_cert) (G t.0 L.task) (B.each t.0 L.task) (B.within t.0 L.task) L.large
 
   -- nor is one of the certificate, since its windows are in the deadlines
-  pub bound_in : (c : Certificate) (i : ℕ) (method : Method) (w : ℕ) → i < length set.tasks → IsSmaller set (part_of c) (longest_at set.platform graphs) (window_at c) i method w → (part_of c i).bound ≤ 2 ^ 40
-  bound_in c i Ucb w lt S =
-      let enough = S.0.enough in let dead = S.0.in_deadline in let d = times.deadline i lt in let p = times.longest i lt in omega (arith, enough, dead, d, p)
-  bound_in c i Ecb w lt S =
-      let enough = S.0.enough in let dead = S.0.in_deadline in let d = times.deadline i lt in let p = times.longest i lt in omega (arith, enough, dead, d, p)
+  pub bound_in : (c : Certificate) (i : ℕ) (method : Method) (w : ℕ) → i < length set.tasks → IsSmaller set (demand_of set graphs c i) i method w → (part_of c i).bound ≤ 2 ^ 40
+  bound_in c i method w lt S =
+      let W = smaller_is_window set (demand_of set graphs c i) i method w S in
+      let enough = W.enough in let dead = W.in_deadline in let d = times.deadline i lt in let p = times.longest i lt in omega (arith, enough, dead, d, p)
 
   -- the certificate's parts are best parts
   of_best : (c : Certificate) → IsBest set graphs c → AreBestParts set graphs c.tasks
@@ -121,13 +93,13 @@ module _ (grows : DemandGrows) (set : TaskSet) (graphs : ℕ → TaskGraph) (tim
       absurd (omega (arith, same, is, many, few))
   not_refused c (Unschedulable t) B few free R =
       let first = R.3 in
-      has_window grows set (longest_at set.platform graphs) times (needs_at R.0) (part_of c) (same_parts R.0 c.tasks R.1 (of_best c B)) t.0 first
+      has_window set (longest_at set.platform graphs) times (needs_at R.0) (part_of c) (same_parts R.0 c.tasks R.1 (of_best c B)) t.0 first
       (window_at c) (λ k. (cert_at c k).method) (λ k l. (B.each k (let f = first.task in omega (arith, f, l))).window)
 
   first_is : (xs ys : List TaskPart) (i j : ℕ) → AreBestParts set graphs xs → AreBestParts set graphs ys
-      → IsFirstWithout set (needs_at xs) (longest_at set.platform graphs) i → IsFirstWithout set (needs_at ys) (longest_at set.platform graphs) j → i < j → ⊥
+      → IsFirstWithout set (demand set (needs_at xs) (longest_at set.platform graphs)) i → IsFirstWithout set (demand set (needs_at ys) (longest_at set.platform graphs)) j → i < j → ⊥
   first_is xs ys i j X Y F H lt =
-      has_window grows set (longest_at set.platform graphs) times (needs_at xs) (needs_at ys) (same_parts xs ys X Y) i F
+      has_window set (longest_at set.platform graphs) times (needs_at xs) (needs_at ys) (same_parts xs ys X Y) i F
       (chosen_window H.higher) (method_at H.higher) (λ k l. H.each k (omega (arith, l, lt)))
 
   -- numbers of which neither is less

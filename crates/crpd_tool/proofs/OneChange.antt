@@ -12,7 +12,6 @@ use Rattle.flat_graph.specs.CodeGraph.{CodeGraph, graph_of, places_of}
 use Rattle.flat_graph.specs.Graph.{IsGraph}
 use Rattle.loop_regions.specs.CodeNest.{CodeNest, nest_of}
 use Rattle.evict_sets.specs.Certificate.{cert_at}
-use Rattle.delay_count.specs.Laws.{DemandGrows}
 use Rattle.response.specs.Windows.{IsFirstWithout, method_at, window_at as chosen_window}
 use Rattle.cert_check.specs.Answered.{answer_of}
 use Rattle.cert_check.specs.Judge.{accesses_of, longest_at, part_of, window_at}
@@ -116,7 +115,7 @@ module _ (old_set set : TaskSet) (gs hs : List CodeGraph) where
 
 -- ---- the update and its refusals, over the same graphs and regions
 
-module _ (grows : DemandGrows) (old new : Side) (c : Certificate) (O : IsTaskSet old.set) (S : IsTaskSet new.set) (G : (k : ℕ) → k < length new.set.tasks → IsGraph (new.graphs k).graph) where
+module _ (old new : Side) (c : Certificate) (O : IsTaskSet old.set) (S : IsTaskSet new.set) (G : (k : ℕ) → k < length new.set.tasks → IsGraph (new.graphs k).graph) where
   abbrev times : HasTimes new.set
   times = has_times new.set S
 
@@ -146,7 +145,7 @@ module _ (grows : DemandGrows) (old new : Side) (c : Certificate) (O : IsTaskSet
     -- the first task without a window by one of them is not before that by the other
     not_before : (i j : ℕ) → IsFirstWithout new.set (needs_at xs) (longest_at new.set.platform new.graphs) i → IsFirstWithout new.set (needs_at ys) (longest_at new.set.platform new.graphs) j → i < j → ⊥
     not_before i j F H lt =
-        has_window grows new.set (longest_at new.set.platform new.graphs) times (needs_at xs) (needs_at ys) same_needs i F
+        has_window new.set (longest_at new.set.platform new.graphs) times (needs_at xs) (needs_at ys) same_needs i F
         (chosen_window H.higher) (method_at H.higher) (λ k l. H.each k (omega (arith, l, lt)))
 
   -- no bound of the parts is too large
@@ -162,7 +161,7 @@ module _ (grows : DemandGrows) (old new : Side) (c : Certificate) (O : IsTaskSet
   of_update d U = record {
     tasks = U.tasks;
     each = λ i lt. (U.each i lt).part;
-    within = λ i lt changed. bound_in grows new.set new.graphs times G d i (cert_at d i).method (window_at d i) lt (U.each i lt).window;
+    within = λ i lt changed. bound_in new.set new.graphs times G d i (cert_at d i).method (window_at d i) lt (U.each i lt).window;
   }
 
   -- where the certificate is, nothing is refused but want of memory
@@ -176,7 +175,7 @@ module _ (grows : DemandGrows) (old new : Side) (c : Certificate) (O : IsTaskSet
       absurd (omega (arith, same, is, many, few))
   not_refused d (Unschedulable t) U few free R =
       let first = R.without in
-      has_window grows new.set (longest_at new.set.platform new.graphs) times (needs_at R.parts) (part_of d) (same_needs R.parts d.tasks R.are (of_update d U)) t.0 first
+      has_window new.set (longest_at new.set.platform new.graphs) times (needs_at R.parts) (part_of d) (same_needs R.parts d.tasks R.are (of_update d U)) t.0 first
       (window_at d) (λ k. (cert_at d k).method) (λ k l. (U.each k (let f = first.task in omega (arith, f, l))).window)
 
   -- and there is one refusal beside want of memory
@@ -184,7 +183,7 @@ module _ (grows : DemandGrows) (old new : Side) (c : Certificate) (O : IsTaskSet
   one_refusal Memory d free other E D = absurd (free refl)
   one_refusal e Memory free other E D = absurd (other refl)
   one_refusal (TooLarge t a) (TooLarge u b) free other E D =
-      let task : t.0 ≡ u.0 = neither grows new.set new.graphs times G t.0 u.0 (λ lt. D.first t.0 lt E.large) (λ lt. E.first u.0 lt D.large) in
+      let task : t.0 ≡ u.0 = neither new.set new.graphs times G t.0 u.0 (λ lt. D.first t.0 lt E.large) (λ lt. E.first u.0 lt D.large) in
       let address : a ≡ b = E.at ∙ ap (λ k. (new.graphs k).places.address (new.graphs k).graph.first) task ∙ sym D.at in
       λ i. TooLarge (record { 0 = task i }) (address i)
   one_refusal (TooLarge t a) (TooManyEntries n) free other E D = absurd (none_large D.parts t.0 a D.are E)
@@ -199,7 +198,7 @@ module _ (grows : DemandGrows) (old new : Side) (c : Certificate) (O : IsTaskSet
   one_refusal (Unschedulable t) (TooManyEntries m) free other E D =
       let same = same_entries E.parts D.parts E.are D.are in let is = D.count_is in let many = D.many in let few = E.few in absurd (omega (arith, same, is, many, few))
   one_refusal (Unschedulable t) (Unschedulable u) free other E D =
-      let task : t.0 ≡ u.0 = neither grows new.set new.graphs times G t.0 u.0 (not_before E.parts D.parts E.are D.are t.0 u.0 E.without D.without) (not_before D.parts E.parts D.are E.are u.0 t.0 D.without E.without) in
+      let task : t.0 ≡ u.0 = neither new.set new.graphs times G t.0 u.0 (not_before E.parts D.parts E.are D.are t.0 u.0 E.without D.without) (not_before D.parts E.parts D.are E.are u.0 t.0 D.without E.without) in
       λ i. Unschedulable (record { 0 = task i })
 
 -- ---- the end
@@ -207,7 +206,7 @@ module _ (grows : DemandGrows) (old new : Side) (c : Certificate) (O : IsTaskSet
 no_yes : (task : Task) (clause place : ℕ) → verdict.No task clause place ≡ verdict.Yes → ⊥
 no_yes task clause place e = cc
 
-module _ (grows : DemandGrows) (file : List ℕ) (old input : Input) (c : Certificate) (gs hs : List CodeGraph) (ns vs ms ws : List CodeNest)
+module _ (file : List ℕ) (old input : Input) (c : Certificate) (gs hs : List CodeGraph) (ns vs ms ws : List CodeNest)
     (O : IsTaskSet old.set) (S : IsTaskSet input.set) (G : (k : ℕ) → k < length input.set.tasks → IsGraph (graph_of (graph_at hs k)))
     (before : Same old.set gs ns vs) (after : Same input.set hs ms ws) where
   abbrev OldSide : Side
@@ -219,14 +218,14 @@ module _ (grows : DemandGrows) (file : List ℕ) (old input : Input) (c : Certif
   one_made : (r s : Result Answer Refusal) → ChangeOf file old (record { graphs = gs; nests = ns }) c input (record { graphs = hs; nests = ms }) r
       → ChangeOf file old (record { graphs = gs; nests = vs }) c input (record { graphs = hs; nests = ws }) s → r ≡ s
   one_made r s (inl a) (inl b) =
-      let same : a.0 ≡ b.0 = one_update_by grows OldSide NewSide c a.0 b.0 O S (update_too old.set input.set gs hs ns vs ms ws before after c a.0 a.1.update) b.1.update in
+      let same : a.0 ≡ b.0 = one_update_by OldSide NewSide c a.0 b.0 O S (update_too old.set input.set gs hs ns vs ms ws before after c a.0 a.1.update) b.1.update in
       a.2 ∙ ap (λ x. Ok (certificate_answer x)) same ∙ sym b.2
   one_made r s (inl a) (inr b) =
-      absurd (not_refused grows OldSide NewSide c O S G a.0 b.0 (update_too old.set input.set gs hs ns vs ms ws before after c a.0 a.1.update) a.1.few b.1 b.2)
+      absurd (not_refused OldSide NewSide c O S G a.0 b.0 (update_too old.set input.set gs hs ns vs ms ws before after c a.0 a.1.update) a.1.few b.1 b.2)
   one_made r s (inr a) (inl b) =
-      absurd (not_refused grows OldSide NewSide c O S G b.0 a.0 b.1.update b.1.few a.1 (refused_too old.set input.set gs hs ns vs ms ws before after c a.0 a.2))
+      absurd (not_refused OldSide NewSide c O S G b.0 a.0 b.1.update b.1.few a.1 (refused_too old.set input.set gs hs ns vs ms ws before after c a.0 a.2))
   one_made r s (inr a) (inr b) =
-      let e : a.0 ≡ b.0 = one_refusal grows OldSide NewSide c O S G a.0 b.0 a.1 b.1 (refused_too old.set input.set gs hs ns vs ms ws before after c a.0 a.2) b.2 in
+      let e : a.0 ≡ b.0 = one_refusal OldSide NewSide c O S G a.0 b.0 a.1 b.1 (refused_too old.set input.set gs hs ns vs ms ws before after c a.0 a.2) b.2 in
       a.3 ∙ ap (λ x. without_certificate file input.set (as_of_analysis x)) e ∙ sym b.3
 
   -- the judge's answers to the old certificate are one

@@ -7,7 +7,6 @@ use Rattle.crpd_base.specs.Tasks.{HasTimes}
 use Rattle.flat_graph.specs.CodeGraph.{CodeGraph, graph_of}
 use Rattle.flat_graph.specs.Graph.{IsGraph}
 use Rattle.loop_regions.specs.CodeNest.{CodeNest}
-use Rattle.delay_count.specs.Laws.{DemandGrows}
 use Rattle.cert_build.proofs.OneBest.{one_best}
 use Rattle.cert_check.specs.Answered.{answer_of}
 use Rattle.cert_check.specs.Shown.{graph_at, shown_at}
@@ -25,7 +24,7 @@ use Rattle.crpd_tool.specs.Simulate.{run_of}
 use Rattle.crpd_tool.proofs.OneBuild.{not_refused, one_refusal}
 use Rattle.crpd_tool.proofs.OneMade.{Same, best_too, refused_too}
 
-module _ (grows : DemandGrows) (n : ℕ) (script : Script) (input : Input) (graphs : List CodeGraph) (ns ms : List CodeNest) (times : HasTimes input.set)
+module _ (n : ℕ) (script : Script) (input : Input) (graphs : List CodeGraph) (ns ms : List CodeNest) (times : HasTimes input.set)
     (G : (k : ℕ) → k < length input.set.tasks → IsGraph (graph_of (graph_at graphs k))) (same : Same input.set graphs ns ms) where
   abbrev by_first : Shapes
   by_first = record { graphs = graphs; nests = ns }
@@ -34,7 +33,7 @@ module _ (grows : DemandGrows) (n : ℕ) (script : Script) (input : Input) (grap
   by_second = record { graphs = graphs; nests = ms }
 
   one_certificate : (c d : Certificate) (v w : Verdict) (k l : Bool) → IsRunJudged script input by_first c v k → IsRunJudged script input by_second d w l → c ≡ d
-  one_certificate c d v w k l M N = one_best grows input.set (shown_at graphs ms) c d times (best_too input.set graphs ns ms same c M.best) N.best
+  one_certificate c d v w k l M N = one_best input.set (shown_at graphs ms) c d times (best_too input.set graphs ns ms same c M.best) N.best
 
   same_verdict : (c d : Certificate) (v w : Verdict) (k l : Bool) → IsRunJudged script input by_first c v k → IsRunJudged script input by_second d w l → v ≡ w
   same_verdict c d v w k l M N =
@@ -52,9 +51,9 @@ module _ (grows : DemandGrows) (n : ℕ) (script : Script) (input : Input) (grap
       let kept : k ≡ l = same_from_decides {P = IsKept (run_of input script)} k l M.kept_so N.kept_so in
       e ∙ same_answer c d v w k l (one_certificate c d v w k l M N) (same_verdict c d v w k l M N) kept ∙ sym f
   one_generated r s (inl (c, v, k, M, e)) (inr b) =
-      absurd (not_refused grows input.set (shown_at graphs ms) times G c b.0 (best_too input.set graphs ns ms same c M.best) M.few b.1 b.2)
+      absurd (not_refused input.set (shown_at graphs ms) times G c b.0 (best_too input.set graphs ns ms same c M.best) M.few b.1 b.2)
   one_generated r s (inr a) (inl (d, w, l, N, f)) =
-      absurd (not_refused grows input.set (shown_at graphs ms) times G d a.0 N.best N.few a.1 (refused_too input.set graphs ns ms same a.0 a.2))
+      absurd (not_refused input.set (shown_at graphs ms) times G d a.0 N.best N.few a.1 (refused_too input.set graphs ns ms same a.0 a.2))
   one_generated r s (inr a) (inr b) =
-      let e : a.0 ≡ b.0 = one_refusal grows input.set (shown_at graphs ms) times G a.0 b.0 a.1 b.1 (refused_too input.set graphs ns ms same a.0 a.2) b.2 in
+      let e : a.0 ≡ b.0 = one_refusal input.set (shown_at graphs ms) times G a.0 b.0 a.1 b.1 (refused_too input.set graphs ns ms same a.0 a.2) b.2 in
       a.3 ∙ ap (without_made n input by_second) e ∙ sym b.3

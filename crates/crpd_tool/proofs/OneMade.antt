@@ -8,7 +8,6 @@ use Rattle.crpd_base.specs.Tasks.{HasTimes}
 use Rattle.flat_graph.specs.CodeGraph.{CodeGraph, graph_of, places_of}
 use Rattle.flat_graph.specs.Graph.{IsGraph}
 use Rattle.loop_regions.specs.CodeNest.{CodeNest, nest_of}
-use Rattle.delay_count.specs.Laws.{DemandGrows}
 use Rattle.evict_sets.specs.Certificate.{cert_at}
 use Rattle.cert_check.specs.Shown.{graph_at, nest_at, shown, shown_at}
 use Rattle.cert_build.specs.Analysis.{HasLargeBound}
@@ -106,16 +105,16 @@ module _ (set : TaskSet) (graphs : List CodeGraph) where
 
 -- ---- the end
 
-module _ (grows : DemandGrows) (file : List ℕ) (input : Input) (graphs : List CodeGraph) (ns ms : List CodeNest) (times : HasTimes input.set)
+module _ (file : List ℕ) (input : Input) (graphs : List CodeGraph) (ns ms : List CodeNest) (times : HasTimes input.set)
     (G : (k : ℕ) → k < length input.set.tasks → IsGraph (graph_of (graph_at graphs k))) (same : Same input.set graphs ns ms) where
   pub one_analysis : (r s : Result Answer Refusal) → AnalysisOf file input (record { graphs = graphs; nests = ns }) r → AnalysisOf file input (record { graphs = graphs; nests = ms }) s → r ≡ s
   one_analysis r s (inl a) (inl b) =
-      let c : a.0 ≡ b.0 = one_best grows input.set (shown_at graphs ms) a.0 b.0 times (best_too input.set graphs ns ms same a.0 a.1.best) b.1.best in
+      let c : a.0 ≡ b.0 = one_best input.set (shown_at graphs ms) a.0 b.0 times (best_too input.set graphs ns ms same a.0 a.1.best) b.1.best in
       a.2 ∙ ap (λ x. Ok (certificate_answer x)) c ∙ sym b.2
   one_analysis r s (inl a) (inr b) =
-      absurd (not_refused grows input.set (shown_at graphs ms) times G a.0 b.0 (best_too input.set graphs ns ms same a.0 a.1.best) a.1.few b.1 b.2)
+      absurd (not_refused input.set (shown_at graphs ms) times G a.0 b.0 (best_too input.set graphs ns ms same a.0 a.1.best) a.1.few b.1 b.2)
   one_analysis r s (inr a) (inl b) =
-      absurd (not_refused grows input.set (shown_at graphs ms) times G b.0 a.0 b.1.best b.1.few a.1 (refused_too input.set graphs ns ms same a.0 a.2))
+      absurd (not_refused input.set (shown_at graphs ms) times G b.0 a.0 b.1.best b.1.few a.1 (refused_too input.set graphs ns ms same a.0 a.2))
   one_analysis r s (inr a) (inr b) =
-      let e : a.0 ≡ b.0 = one_refusal grows input.set (shown_at graphs ms) times G a.0 b.0 a.1 b.1 (refused_too input.set graphs ns ms same a.0 a.2) b.2 in
+      let e : a.0 ≡ b.0 = one_refusal input.set (shown_at graphs ms) times G a.0 b.0 a.1 b.1 (refused_too input.set graphs ns ms same a.0 a.2) b.2 in
       a.3 ∙ ap (without_certificate file input.set) e ∙ sym b.3

@@ -10,7 +10,6 @@ use Rattle.flat_graph.specs.CodeGraph.{CodeGraph, graph_of, places_of}
 use Rattle.loop_regions.specs.CodeNest.{CodeNest, nest_of}
 use Rattle.loop_regions.specs.TaskGraph.{TaskGraph}
 use Rattle.loop_regions.proofs.Stated.{regions_law}
-use Rattle.delay_count.specs.Laws.{DemandGrows}
 use Rattle.cert_check.specs.Judge.{IsGraphOf}
 use Rattle.cert_check.specs.Shown.{graph_at, nest_at, shown, shown_at}
 use Rattle.sensitivity.specs.Accepted.{AreParts, IsAccepted, IsLeastBound, IsPart, IsStop}
@@ -93,16 +92,16 @@ module _ (at : ℕ → TaskSet) (graphs : List CodeGraph) (ns ms : List CodeNest
   slack_too slack S = record { greatest = greatest_too slack.greatest S.greatest; stop = next_too slack.greatest slack.stop S.stop }
 
 -- a set has one of each kind
-pub one_pair : DemandGrows → (set : TaskSet) (graphs : ℕ → TaskGraph) → HasTimes set → ((k : ℕ) → k < length set.tasks → IsLoopBounded (graphs k))
+pub one_pair : (set : TaskSet) (graphs : ℕ → TaskGraph) → HasTimes set → ((k : ℕ) → k < length set.tasks → IsLoopBounded (graphs k))
     → (one two first second : Slack) → AreSlacks set graphs one two → AreSlacks set graphs first second → (one ≡ first) × (two ≡ second)
-one_pair grows set graphs times bounded one two first second A B = (
-  (one_slack_by grows set graphs one first times bounded).0 A.by_switch B.by_switch,
-  (one_slack_by grows set graphs two second times bounded).1 A.by_miss B.by_miss,
+one_pair set graphs times bounded one two first second A B = (
+  (one_slack_by set graphs one first times bounded).0 A.by_switch B.by_switch,
+  (one_slack_by set graphs two second times bounded).1 A.by_miss B.by_miss,
 )
 
 -- ---- the end
 
-module _ (grows : DemandGrows) (input : Input) (graphs : List CodeGraph) (ns ms : List CodeNest) (times : HasTimes input.set)
+module _ (input : Input) (graphs : List CodeGraph) (ns ms : List CodeNest) (times : HasTimes input.set)
     (bounded : (k : ℕ) → k < length input.set.tasks → IsLoopBounded (shown_at graphs ns k)) (same : Same input.set graphs ns ms) where
   slacks_back : (first second : Slack) → AreSlacks input.set (shown_at graphs ms) first second → AreSlacks input.set (shown_at graphs ns) first second
   slacks_back first second S = record {
@@ -112,5 +111,5 @@ module _ (grows : DemandGrows) (input : Input) (graphs : List CodeGraph) (ns ms 
 
   pub one_slack_end : (r s : Result Answer Refusal) → SlackOf input (record { graphs = graphs; nests = ns }) r → SlackOf input (record { graphs = graphs; nests = ms }) s → r ≡ s
   one_slack_end r s a b =
-      let pair = one_pair grows input.set (shown_at graphs ns) times bounded a.0 a.1 b.0 b.1 a.2 (slacks_back b.0 b.1 b.2) in
+      let pair = one_pair input.set (shown_at graphs ns) times bounded a.0 a.1 b.0 b.1 a.2 (slacks_back b.0 b.1 b.2) in
       a.3 ∙ ap (λ (x : Slack). Ok (slack_answer input.set x a.1)) pair.0 ∙ ap (λ (x : Slack). Ok (slack_answer input.set b.0 x)) pair.1 ∙ sym b.3

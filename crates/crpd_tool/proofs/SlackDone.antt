@@ -2,7 +2,6 @@
 use Rattle.std.proofs.Common.{◌≡◌, ℕ, ◌<◌, List, Result, Ok, length, ap, sym, ◌∙◌, subst}
 use Rattle.code_map.specs.Words.{word_at}
 use Rattle.cert_check.specs.Shown.{shown_at}
-use Rattle.delay_count.specs.Laws.{DemandGrows}
 use Rattle.preempt_machine.specs.Machine.{plan_of}
 use Rattle.preempt_machine.specs.Safe.{system_of}
 use Rattle.sensitivity.specs.Laws.{IsLoopBounded, StaysAccepted}
@@ -26,7 +25,7 @@ use Rattle.crpd_tool.proofs.Finish.{some-out}
 use Rattle.crpd_tool.proofs.OneSlack.{loop_bounded, one_pair}
 use Rattle.crpd_tool.proofs.Safety.{then_done}
 
-module _ (grows : DemandGrows) (stays_law : StaysAccepted) (contents : Contents) (set : List ℕ) where
+module _ (stays_law : StaysAccepted) (contents : Contents) (set : List ℕ) where
   greatest : (input : Input) (shapes : Shapes) (ending : Result Answer Refusal) → input_in contents set ≡ Ok input → ShapesIn input (Ok shapes)
       → SlackOf input shapes ending → HasGreatestCosts contents set (settled ending).text
   greatest input shapes ending is shaped S =
@@ -44,7 +43,7 @@ module _ (grows : DemandGrows) (stays_law : StaysAccepted) (contents : Contents)
         shapes_are = shaped;
         text_is = ap (λ (r : Result Answer Refusal). (settled r).text) S.3;
         are = S.2;
-        only = λ one two A. one_pair grows input.set (shown_at shapes.graphs shapes.nests) (has_times input.set good.ranges) bounded one two S.0 S.1 A S.2;
+        only = λ one two A. one_pair input.set (shown_at shapes.graphs shapes.nests) (has_times input.set good.ranges) bounded one two S.0 S.1 A S.2;
         stays = λ s m k d switch miss A.
             stays_law input.set (shown_at shapes.graphs shapes.nests) s m k d
             (record { times = has_times input.set good.ranges; bounded = bounded; switch = switch; miss = miss }) A;
@@ -56,8 +55,8 @@ module _ (grows : DemandGrows) (stays_law : StaysAccepted) (contents : Contents)
       let shapes = then_done (ShapesIn input.0) (SlackOf input.0) ending input.2 e in
       greatest input.0 shapes.0 ending input.1 shapes.1 shapes.2
 
-pub done_is_slack : DemandGrows → StaysAccepted → (words : List (List ℕ)) (contents : Contents) → DoneIsSlack words contents
-done_is_slack grows stays_law words contents set output is out e =
+pub done_is_slack : StaysAccepted → (words : List (List ℕ)) (contents : Contents) → DoneIsSlack words contents
+done_is_slack stays_law words contents set output is out e =
     let given = some-out words contents (slack set) output is out in
     let text = ap (λ (o : Output). o.text) given.2 in
-    subst (λ t. HasGreatestCosts contents set t) (sym text) (ended grows stays_law contents set given.0 given.1 (ap (λ (o : Output). o.status) (sym given.2) ∙ e))
+    subst (λ t. HasGreatestCosts contents set t) (sym text) (ended stays_law contents set given.0 given.1 (ap (λ (o : Output). o.status) (sym given.2) ∙ e))

@@ -8,7 +8,6 @@ use Rattle.crpd_base.specs.declared.data.TaskSet.{TaskSet}
 use Rattle.crpd_base.specs.declared.data.TaskPart.{TaskPart}
 use Rattle.crpd_base.specs.declared.data.Certificate.{Certificate}
 use Rattle.crpd_base.specs.declared.data.Method.{Method}
-use Rattle.crpd_base.specs.declared.data.Method.TheVariants.{Ucb, Ecb}
 use Rattle.crpd_base.specs.Tasks.{HasTimes, jitter_of, deadline_of}
 use Rattle.loop_regions.specs.TaskGraph.{TaskGraph}
 use Rattle.evict_sets.specs.Certificate.{cert_at}
@@ -16,7 +15,9 @@ use Rattle.delay_count.specs.Gamma.{part_at}
 use Rattle.response.specs.declared.choice.Choice.{Choice}
 use Rattle.response.specs.declared.choice.WindowError.{WindowError}
 use Rattle.response.specs.declared.choice.WindowError.TheVariants as window
-use Rattle.response.specs.Windows.{method_at, window_at as chosen_window}
+use Rattle.response.specs.Windows.{IsSmaller, IsRefused, IsAnswer, IsFirstWithout, method_at, window_at as chosen_window}
+use Rattle.response.proofs.WindowLaws.{smaller_is_window, smaller_too}
+use Rattle.response.proofs.Choices.{first_too}
 use Rattle.cert_check.specs.Judge.{window_at, part_of, longest_at, name_of}
 use Rattle.cert_model.specs.Ranges.{IsCertificate}
 use Rattle.cert_model.specs.Reading.{entries}
@@ -27,14 +28,13 @@ use Rattle.cert_build.specs.declared.one_task.Analysis.{Analysis}
 use Rattle.cert_build.specs.declared.fault.BuildError.{BuildError}
 use Rattle.cert_build.proofs.Assembly.{has_parts}
 use Rattle.cert_build.proofs.Counting.{best_parts, entries_map}
-use Rattle.cert_build.proofs.FoundWindows.{part_of_list}
+use Rattle.cert_build.proofs.FoundWindows.{part_of_list, responses}
 use Rattle.cert_build.proofs.Certified.{part_best, entries_are, in_ranges}
-use Rattle.delay_classic.specs.Demand.{classic_demand}
-use Rattle.delay_classic.specs.Windows.{IsSmallerOf, IsRefused, IsClassicAnswer, IsFirstWithoutClassic}
+use Rattle.delay_classic.specs.Demand.{classic_demand, classic_demands}
 use Rattle.delay_classic.specs.Refused.{IsClassicRefused}
 use Rattle.delay_classic.specs.Classic.{IsClassicTask, IsClassic}
-use Rattle.delay_classic.proofs.Choices.{smaller_in_deadline}
-use Rattle.delay_classic.proofs.Same.{classic_same, smaller_too, none_too}
+use Rattle.delay_classic.proofs.Choices.{demands_agree}
+use Rattle.delay_classic.proofs.Same.{classic_same}
 
 module _ (set : TaskSet) (graphs : ℕ → TaskGraph) (analyses : List Analysis) (parts : List Part) (longest : List ℕ) (A : AreAnalysed set graphs analyses)
     (made : parts ≡ map (λ (a : Analysis). a.part) analyses) (L : (k : ℕ) → k < length set.tasks → slice_index longest k ≡ longest_at set.platform graphs k) where
@@ -51,22 +51,12 @@ module _ (set : TaskSet) (graphs : ℕ → TaskGraph) (analyses : List Analysis)
   bare_is : (k : ℕ) → part_at parts k ≡ needs_at (map part_of_analysis analyses) k
   bare_is k = part_is k ∙ sym (ap (λ (t : TaskPart). t.part) (mapped part_of_analysis analyses k no_analysis))
 
-  first_without : (i : ℕ) → IsFirstWithoutClassic set (part_at parts) (slice_index longest) i → IsFirstWithoutClassic set (needs_at (map part_of_analysis analyses)) (longest_at set.platform graphs) i
-  first_without i h =
-      let same : (k : ℕ) → k < length set.tasks → (method : Method) (v : ℕ) → classic_demand set (part_at parts) (slice_index longest) k method v ≡ classic_demand set (needs_at (map part_of_analysis analyses)) (longest_at set.platform graphs) k method v =
-      λ k l. classic_same set (part_at parts) (needs_at (map part_of_analysis analyses)) (slice_index longest) (longest_at set.platform graphs) k l (λ q m. bare_is q) L in
-      record {
-        task = h.task;
-        higher = h.higher;
-        each = λ k l.
-            let t = h.task in
-            smaller_too set (classic_demand set (part_at parts) (slice_index longest) k) (classic_demand set (needs_at (map part_of_analysis analyses)) (longest_at set.platform graphs) k) k (same k (omega (arith, l, t)))
-            (method_at h.higher k) (chosen_window h.higher k) (h.each k l);
-        no_ucb = none_too set (classic_demand set (part_at parts) (slice_index longest) i) (classic_demand set (needs_at (map part_of_analysis analyses)) (longest_at set.platform graphs) i) i (same i h.task) Ucb h.no_ucb;
-        no_ecb = none_too set (classic_demand set (part_at parts) (slice_index longest) i) (classic_demand set (needs_at (map part_of_analysis analyses)) (longest_at set.platform graphs) i) i (same i h.task) Ecb h.no_ecb;
-      }
+  first_without : (i : ℕ) → IsFirstWithout set (classic_demands set (part_at parts) (slice_index longest)) i → IsFirstWithout set (classic_demands set (needs_at (map part_of_analysis analyses)) (longest_at set.platform graphs)) i
+  first_without =
+      first_too set (classic_demands set (part_at parts) (slice_index longest)) (classic_demands set (needs_at (map part_of_analysis analyses)) (longest_at set.platform graphs))
+      (demands_agree set (part_at parts) (needs_at (map part_of_analysis analyses)) (slice_index longest) (longest_at set.platform graphs) (λ k l. bare_is k) L)
 
-  refused_by : (e : WindowError) → IsRefused set (part_at parts) (slice_index longest) e → IsClassicRefused set graphs (of_windows e)
+  refused_by : (e : WindowError) → IsRefused set (classic_demands set (part_at parts) (slice_index longest)) e → IsClassicRefused set graphs (of_windows e)
   refused_by window.Memory h = tt
   refused_by (window.Unschedulable t) h = (
     map part_of_analysis analyses,
@@ -75,19 +65,15 @@ module _ (set : TaskSet) (graphs : ℕ → TaskGraph) (analyses : List Analysis)
     first_without t.0 h,
   )
 
-  pub refused : (e : WindowError) (x : BuildError) → IsRefused set (part_at parts) (slice_index longest) e → x ≡ of_windows e → IsClassicRefused set graphs x
+  pub refused : (e : WindowError) (x : BuildError) → IsRefused set (classic_demands set (part_at parts) (slice_index longest)) e → x ≡ of_windows e → IsClassicRefused set graphs x
   refused e x h is = subst (IsClassicRefused set graphs) (sym is) (refused_by e h)
 
-  module _ (choices : List Choice) (answer : IsClassicAnswer set (part_at parts) (slice_index longest) choices) where
+  module _ (choices : List Choice) (answer : IsAnswer set (classic_demands set (part_at parts) (slice_index longest)) choices) where
     in_deadlines : (k : ℕ) → k < length set.tasks → chosen_window choices k + jitter_of set k ≤ deadline_of set k
-    in_deadlines k l = smaller_in_deadline set (classic_demand set (part_at parts) (slice_index longest) k) k (method_at choices k) (chosen_window choices k) (answer.each k l)
+    in_deadlines k l = (smaller_is_window set (classic_demand set (part_at parts) (slice_index longest) k) k (method_at choices k) (chosen_window choices k) (answer.each k l)).in_deadline
 
     pub have_responses : HasTimes set → HaveResponses set choices
-    have_responses times k l =
-        let d = in_deadlines k l in
-        let p = times.deadline k l in
-        let q = times.longest k l in
-        omega (arith, d, p, q)
+    have_responses times = responses set (classic_demands set (part_at parts) (slice_index longest)) choices times answer
 
     module _ (c : Certificate) (C : IsAssembled set analyses choices c) where
       at : (k : ℕ) → k < length set.tasks → cert_at c k ≡ part_with (analysis_at analyses k) (name_of set k) (method_at choices k) (chosen_window choices k) (chosen_window choices k + jitter_of set k)
@@ -106,8 +92,8 @@ module _ (set : TaskSet) (graphs : ℕ → TaskGraph) (analyses : List Analysis)
             name = ap (λ (t : TaskPart). t.name) (at k l);
             part = part_best set analyses c (has_parts set analyses choices c C) graphs k l (A.each k l);
             window =
-                subst (λ m. IsSmallerOf set (classic_demand set (part_of c) (longest_at set.platform graphs) k) k m (window_at c k)) (sym method)
-                (subst (λ w. IsSmallerOf set (classic_demand set (part_of c) (longest_at set.platform graphs) k) k (method_at choices k) w) (sym (window_is k l))
+                subst (λ m. IsSmaller set (classic_demand set (part_of c) (longest_at set.platform graphs) k) k m (window_at c k)) (sym method)
+                (subst (λ w. IsSmaller set (classic_demand set (part_of c) (longest_at set.platform graphs) k) k (method_at choices k) w) (sym (window_is k l))
                 (smaller_too set (classic_demand set (part_at parts) (slice_index longest) k) (classic_demand set (part_of c) (longest_at set.platform graphs) k) k (same k l) (method_at choices k) (chosen_window choices k) (answer.each k l)));
             response = ap (λ (t : TaskPart). t.response) (at k l) ∙ ap (λ w. w + jitter_of set k) (sym (window_is k l));
           }

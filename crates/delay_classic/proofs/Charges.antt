@@ -1,8 +1,8 @@
 -- The demand with parts that have the reloads in their bounds.
-use Rattle.std.proofs.Common.{◌≡◌, ℕ, zero, suc, ◌+◌, ◌*◌, ◌<◌, ◌≤◌, inl, inr, List, [], length, set as list_set, replicate, Option, Some, None, refl, sym, ◌∙◌, ap, subst, arith, false, ◌^◌}
-use Rattle.std.specs.Prelude.{Bool, if◌then◌else◌, MatchOption, slice_index}
+use Rattle.std.proofs.Common.{◌≡◌, ℕ, zero, suc, ◌+◌, ◌*◌, ◌<◌, ◌≤◌, inl, inr, List, [], length, set as list_set, replicate, refl, sym, ◌∙◌, ap, subst, arith, false, ◌^◌}
+use Rattle.std.specs.Prelude.{Bool, if◌then◌else◌, slice_index}
 use Rattle.std.proofs.lemmas.Nat.{mul-le}
-use Rattle.std.proofs.lemmas.Bool.{cases_Bool, cases_eq}
+use Rattle.std.proofs.lemmas.Bool.{cases_Bool, cases_eq, cases_lt}
 use Rattle.std.proofs.lemmas.List.{get_or-replicate, get_or_past, length-replicate, get_or-set_same, get_or-set_other}
 use Rattle.crpd_base.specs.declared.data.TaskSet.{TaskSet}
 use Rattle.crpd_base.specs.declared.data.Part.{Part}
@@ -13,16 +13,15 @@ use Rattle.crpd_base.specs.Sum.{sum_below}
 use Rattle.crpd_base.specs.Tasks.{jitter_of, deadline_of}
 use Rattle.delay_count.specs.Counts.{jobs_of, affected, HasWindows}
 use Rattle.delay_count.specs.Gamma.{part_at, union_count, shared_sets, evicted_from, ucb_count, ecb_count}
-use Rattle.delay_count.specs.Demand.{gamma, own_demand, higher_demand, demand}
-use Rattle.response.specs.Windows.{IsWindow, HasNoWindow}
+use Rattle.delay_count.specs.Demand.{gamma, own_demand, jobs_demand, higher_demand, demand}
 use Rattle.delay_classic.specs.Gamma.{useful_to_some, classic_gamma}
 use Rattle.delay_classic.specs.Charged.{classic_sets, IsCharged, AreCharged}
 use Rattle.delay_classic.specs.Demand.{classic_demand}
-use Rattle.delay_classic.specs.Windows.{IsWindowOf, HasNoWindowOf}
 use Rattle.delay_count.proofs.Sums.{sum_same}
-use Rattle.delay_classic.proofs.Sums.{in_order, greatest_none, some_none, shared_none}
+use Rattle.delay_count.proofs.Greatest.{greatest_none}
+use Rattle.delay_count.proofs.Choices.{choice_within}
+use Rattle.delay_classic.proofs.Useful.{some_none, shared_none}
 use Rattle.delay_classic.proofs.Lists.{sets_few}
-use Rattle.delay_classic.proofs.Within.{choice_within}
 
 abbrev no_part : Part
 no_part = record { bound = 0; evicting = []; useful = [] }
@@ -68,7 +67,7 @@ module _ (set : TaskSet) (parts charged : ℕ → Part) (longest window : ℕ �
       let z : set.platform.miss * classic_sets parts method i i ≡ 0 = ap (λ x. set.platform.miss * x) (own_sets parts method i) ∙ omega arith in
       omega (arith, b, z)
 
-  higher_same : (w j : ℕ) → j < i → higher_demand set charged window w method i j ≡ jobs_of set j w * ((parts j).bound + (set.platform.switch + set.platform.switch)) + classic_gamma set parts w method i j
+  higher_same : (w j : ℕ) → j < i → higher_demand set charged window w method i j ≡ jobs_demand set parts w j + classic_gamma set parts w method i j
   higher_same w j h =
       let b = (C j (omega arith)).bound in
       let z = no_gamma set charged window w method i j (λ k c l. (C k l).useful c) in
@@ -80,26 +79,9 @@ module _ (set : TaskSet) (parts charged : ℕ → Part) (longest window : ℕ �
   pub demand_same : (w : ℕ) → demand set charged longest window i method w ≡ classic_demand set parts longest i method w
   demand_same w =
       let sums = sum_same (higher_demand set charged window w method i)
-      (λ j. jobs_of set j w * ((parts j).bound + (set.platform.switch + set.platform.switch)) + classic_gamma set parts w method i j) i (λ j h. higher_same w j h) in
+      (λ j. jobs_demand set parts w j + classic_gamma set parts w method i j) i (λ j h. higher_same w j h) in
       let own = own_same in
       omega (arith, sums, own)
-
-  -- so the windows are the same
-  pub window_is : (w : ℕ) → IsWindow set charged longest window i method w → IsWindowOf set (classic_demand set parts longest i method) i w
-  window_is w h = record {
-    some = h.some;
-    enough = let e = demand_same w in let f = h.enough in omega (arith, e, f);
-    in_deadline = h.in_deadline;
-    least = λ v s f. let e = demand_same v in h.least v s (omega (arith, e, f));
-  }
-
-  pub none_is : HasNoWindow set charged longest window i method → HasNoWindowOf set (classic_demand set parts longest i method) i
-  none_is h w s d = let e = demand_same w in let f = h w s d in omega (arith, e, f)
-
-  pub found_is : (o : Option ℕ) → MatchOption o (HasNoWindow set charged longest window i method) (λ w. IsWindow set charged longest window i method w)
-      → MatchOption o (HasNoWindowOf set (classic_demand set parts longest i method) i) (λ w. IsWindowOf set (classic_demand set parts longest i method) i w)
-  found_is None h = none_is h
-  found_is (Some w) h = window_is w h
 
 -- no windows at all are windows of higher tasks, where these have jitters in their deadlines
 abbrev pub nothing : ℕ → List ℕ
@@ -110,9 +92,9 @@ nothing_long n = length-replicate n 0
 
 nothing_at : (n k : ℕ) → slice_index (nothing n) k ≡ 0
 nothing_at n k =
-    elim (in_order n k) [
-      | inl l ↦ get_or_past (nothing n) k 0 (omega (arith, nothing_long n, l))
-      | inr l ↦ get_or-replicate n k 0 0 l
+    elim (cases_lt k n) [
+      | inr l ↦ get_or_past (nothing n) k 0 (omega (arith, nothing_long n, l))
+      | inl l ↦ get_or-replicate n k 0 0 l
     ]
 
 pub no_windows : (set : TaskSet) (n i : ℕ) → i ≤ n → ((k : ℕ) → k < i → jitter_of set k ≤ deadline_of set k) → HasWindows set (nothing n) i

@@ -1,4 +1,4 @@
-pub mod Sums
+pub mod Useful
 pub mod Lists
 pub mod Within
 pub mod Shorter

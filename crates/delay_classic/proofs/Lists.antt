@@ -12,9 +12,10 @@ use Rattle.delay_count.specs.Gamma.{shared_count, shared_sets, evicted_from}
 use Rattle.delay_count.specs.Demand.{greatest_from}
 use Rattle.delay_classic.specs.Gamma.{useful_to_some, useful_in, classic_ucb_delay, classic_ecb_delay, ucb_sets, ecb_sets}
 use Rattle.delay_classic.specs.Charged.{classic_sets}
-use Rattle.delay_count.proofs.Bits.{shared_most}
+use Rattle.delay_count.proofs.Bits.{shared_most, product}
+use Rattle.delay_count.proofs.Greatest.{greatest_le, greatest_moved}
 use Rattle.delay_count.proofs.Delays.{shared_same}
-use Rattle.delay_classic.proofs.Sums.{some_more, some_moved, greatest_moved, greatest_le, product}
+use Rattle.delay_classic.proofs.Useful.{some_more, some_moved}
 
 -- a set that is useful to some task is so to one of them
 some_of : (useful : ℕ → ℕ → Bool) (n c : ℕ) → useful_to_some useful 0 n c ≡ true → (k : ℕ) × (k < n) × (useful k c ≡ true)

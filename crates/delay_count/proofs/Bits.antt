@@ -12,7 +12,7 @@ use Rattle.delay_count.specs.declared.share.Share.{Share}
 use Rattle.delay_count.specs.Gamma.{shared_count, set_share, union_count, count_at, useful_at}
 use Rattle.delay_count.specs.Words.{word_sum, word_share, useful_words}
 use Rattle.std.proofs.lemmas.Bool.{cases_Bool}
-use Rattle.delay_count.proofs.Sums.{sum_same, sum_add, sum_none, sum_most, sum_onto}
+use Rattle.delay_count.proofs.Sums.{sum_same, sum_zero, sum_add, sum_most, sum_onto}
 
 -- a number below 2 is 0 or 1
 bit_cases : (b : ℕ) → b < 2 → (b ≡ 0) ⊎ (b ≡ 1)
@@ -52,7 +52,7 @@ word_all w v f h same =
 
 pub word_none : (f : ℕ → ℕ) → word_sum 0 f ≡ 0
 unfolding word_sum
-word_none f = sum_same (λ b. bit_at 0 b * f b) (λ b. 0) 64 (λ b l. let e : bit_at 0 b ≡ 0 = bit_at-zero b in ap (λ x. x * f b) e ∙ omega arith) ∙ sum_none 64
+word_none f = sum_zero (λ b. bit_at 0 b * f b) 64 (λ b l. let e : bit_at 0 b ≡ 0 = bit_at-zero b in ap (λ x. x * f b) e ∙ omega arith)
 
 -- a word in two parts, by another
 pub word_split : (w u : ℕ) (f g h : ℕ → ℕ) → u < 2 ^ 64

@@ -1,25 +1,13 @@
 -- A greatest choice is reached by filling from the greatest value downwards.
-use Rattle.std.proofs.Common.{◌≡◌, ◌≢◌, ℕ, zero, suc, ◌+◌, ◌-◌, ◌*◌, ◌<◌, ◌≤◌, ◌⊎◌, inl, inr, refl, sym, ◌∙◌, ap, arith, add-one, true, false}
-use Rattle.std.proofs.lemmas.Bool.{true≢false}
+use Rattle.std.proofs.Common.{◌≡◌, ◌≢◌, ℕ, zero, suc, ◌+◌, ◌-◌, ◌*◌, ◌<◌, ◌≤◌, ◌⊎◌, inl, inr, refl, ◌∙◌, ap, arith, add-one, true, false}
 use Rattle.std.specs.Prelude.{min, ◌==◌, nat_le, if◌then◌else◌}
 use Rattle.std.proofs.lemmas.Nat.{mul-le}
-use Rattle.std.proofs.lemmas.Bool.{cases_Bool, cases_eq, eq-eqb, ne_eqb, le-leb, leb-true}
+use Rattle.std.proofs.lemmas.Bool.{cases_Bool, cases_eq, cases_lt, eq-eqb, ne_eqb, le-leb, lt-leb, leb-true, leb-false}
 use Rattle.crpd_base.specs.Sum.{sum_below}
-use Rattle.delay_count.specs.Gamma.{greatest_to, greatest_choice}
+use Rattle.delay_count.specs.Gamma.{greatest_choice}
 use Rattle.delay_count.specs.Filling.{IsNextValue, counted_at, counted_from, worth_from}
-use Rattle.delay_count.proofs.Sums.{sum_same, sum_most, sum_none}
-
-pub to_ge : (f : ℕ → ℕ) (n y : ℕ) → y ≤ n → f y ≤ greatest_to f n
-to_ge f zero y h = let e : y ≡ 0 = omega arith in let same : f y ≡ f 0 = ap f e in omega (arith, same)
-to_ge f (suc n) y h =
-    elim (cases_eq y (suc n)) [
-      | inl e ↦ let same : f y ≡ f (suc n) = ap f e in omega (arith, same)
-      | inr ne ↦ let r = to_ge f n y (omega arith) in omega (arith, r)
-    ]
-
-pub to_le : (f : ℕ → ℕ) (n m : ℕ) → ((y : ℕ) → y ≤ n → f y ≤ m) → greatest_to f n ≤ m
-to_le f zero m h = h 0 (omega arith)
-to_le f (suc n) m h = omega (arith, h (suc n) (omega arith), to_le f n m (λ y l. h y (omega arith)))
+use Rattle.delay_count.proofs.Sums.{sum_zero, sum_most}
+use Rattle.delay_count.proofs.Greatest.{to_ge, to_le}
 
 -- a greatest choice never falls as the values, the counts and the budget grow
 pub choice_le : (value value' count count' : ℕ → ℕ) (n budget budget' : ℕ)
@@ -58,16 +46,6 @@ choice_priced value count price (suc n) budget =
     let here = above_price (value n) price x in
     omega (arith, rest, pb, above, here))
 
-cases_le : (a b : ℕ) → (a ≤ b) ⊎ (b < a)
-cases_le a b = grind arith
-
-not_le : (a b : ℕ) → nat_le a b ≡ false → b < a
-not_le a b e =
-    elim (cases_le a b) [
-      | inl l ↦ absurd (true≢false (sym (le-leb a b l) ∙ e))
-      | inr l ↦ l
-    ]
-
 -- what the counts bring above a price that is the greatest value below a level
 pub priced_worth : (value count : ℕ → ℕ) (level price n : ℕ) → price < level → ((k : ℕ) → k < n → value k < level → value k ≤ price)
     → sum_below (λ k. count k * (value k - price)) n + price * counted_from value count level n ≡ worth_from value count level n
@@ -81,7 +59,7 @@ priced_worth value count level price (suc n) h g =
           let ce : count n * ((value n - price) + price) ≡ count n * value n = ap (λ z. count n * z) e in
           rw b (omega (arith, rest, ce))
       | inr b ↦
-          let l : value n < level = not_le level (value n) b in
+          let l : value n < level = leb-false level (value n) b in
           let z : value n - price ≡ 0 = omega (arith, g n (omega arith) l) in
           let cz : count n * (value n - price) ≡ count n * 0 = ap (λ z. count n * z) z in
           rw b (omega (arith, rest, cz))
@@ -98,35 +76,29 @@ at_level value count level next n h l =
 at_next : (value count : ℕ → ℕ) (level next n : ℕ) → next < level → value n ≡ next
     → (counted_from value count level (suc n) ≡ counted_from value count level n) × (worth_from value count level (suc n) ≡ worth_from value count level n) × (counted_at value count (suc n) next ≡ counted_at value count n next + count n)
 at_next value count level next n h e =
-    let b : nat_le level (value n) ≡ false = gt_leb level (value n) (omega arith) in
+    let b : nat_le level (value n) ≡ false = lt-leb level (value n) (omega arith) in
     let d : (value n == next) ≡ true = eq-eqb (value n) next e in
     (rw b (omega arith), rw b (omega arith), rw d refl)
-  where
-    gt_leb : (a b : ℕ) → b < a → nat_le a b ≡ false
-    gt_leb a b h = elim (cases_Bool (nat_le a b)) [ inl t ↦ let l : a ≤ b = leb-true a b t in absurd (omega arith) | inr f ↦ f ]
 
 at_none : (value count : ℕ → ℕ) (level next n : ℕ) → value n < level → value n ≢ next
     → (counted_from value count level (suc n) ≡ counted_from value count level n) × (worth_from value count level (suc n) ≡ worth_from value count level n) × (counted_at value count (suc n) next ≡ counted_at value count n next)
 at_none value count level next n h ne =
-    let b : nat_le level (value n) ≡ false = gt_leb level (value n) h in
+    let b : nat_le level (value n) ≡ false = lt-leb level (value n) h in
     let d : (value n == next) ≡ false = ne_eqb (value n) next ne in
     (rw b (omega arith), rw b (omega arith), rw d (omega arith))
-  where
-    gt_leb : (a b : ℕ) → b < a → nat_le a b ≡ false
-    gt_leb a b h = elim (cases_Bool (nat_le a b)) [ inl t ↦ let l : a ≤ b = leb-true a b t in absurd (omega arith) | inr f ↦ f ]
 
 -- the filling is a choice
 filled : (value count : ℕ → ℕ) (level next n budget r : ℕ) → next < level → r ≤ counted_at value count n next → counted_from value count level n + r ≤ budget
     → worth_from value count level n + next * r ≤ greatest_choice value count n budget
 filled value count level next zero budget r h few room = let z : r ≡ 0 = omega arith in let nz : next * r ≡ next * 0 = ap (λ x. next * x) z in omega (arith, nz)
 filled value count level next (suc n) budget r h few room =
-    elim (cases_le level (value n)) [
-      | inl l ↦
+    elim (cases_lt (value n) level) [
+      | inr l ↦
           let s = at_level value count level next n h l in
           let rest = filled value count level next n (budget - count n) r h (omega (arith, s.2)) (omega (arith, s.0)) in
           let at = to_ge (λ x. greatest_choice value count n (budget - x) + value n * x) (min (count n) budget) (count n) (omega (arith, s.0)) in
           omega (arith, rest, at, s.1)
-      | inr l ↦
+      | inl l ↦
           elim (cases_eq (value n) next) [
             | inl e ↦
                 let s = at_next value count level next n h e in
@@ -172,15 +144,15 @@ pub joined : (value count : ℕ → ℕ) (level next n : ℕ) → next < level �
 joined value count level next zero h g = (refl, omega arith)
 joined value count level next (suc n) h g =
     let rest = joined value count level next n h (λ k l. g k (omega arith)) in
-    elim (cases_le level (value n)) [
-      | inl l ↦
+    elim (cases_lt (value n) level) [
+      | inr l ↦
           let s = at_level value count level next n h l in
           let b : nat_le next (value n) ≡ true = le-leb next (value n) (omega arith) in
           let c : counted_from value count next (suc n) ≡ counted_from value count next n + count n = rw b refl in
           let w : worth_from value count next (suc n) ≡ worth_from value count next n + count n * value n = rw b refl in
           let m : counted_at value count (suc n) next * next ≡ counted_at value count n next * next = ap (λ z. z * next) s.2 in
           (omega (arith, rest.0, s.0, s.2, c), omega (arith, rest.1, s.1, m, w))
-      | inr l ↦
+      | inl l ↦
           elim (cases_eq (value n) next) [
             | inl e ↦
                 let s = at_next value count level next n h e in
@@ -222,9 +194,22 @@ counted_other value count n v found all before ne same =
     let b : (value n == v) ≡ false = ne_eqb (value n) v ne in
     rw (add-one n, b) (omega arith)
 
--- a greatest choice is at most the greatest value, for each of the budget
-pub choice_few : (value count : ℕ → ℕ) (most n budget : ℕ) → ((k : ℕ) → k < n → value k ≤ most) → greatest_choice value count n budget ≤ most * budget
-choice_few value count most n budget h =
+-- a choice is at most the budget at the greatest value that counts
+pub choice_within : (value count : ℕ → ℕ) (most n budget : ℕ) → ((k : ℕ) → k < n → (count k ≡ 0) ⊎ (value k ≤ most)) → greatest_choice value count n budget ≤ most * budget
+choice_within value count most n budget h =
     let none : sum_below (λ k. count k * (value k - most)) n ≡ 0 =
-    sum_same (λ k. count k * (value k - most)) (λ k. 0) n (λ k l. let z : value k - most ≡ 0 = omega (arith, h k l) in ap (λ y. count k * y) z ∙ omega arith) ∙ sum_none n in
+    sum_zero (λ k. count k * (value k - most)) n (λ k l.
+    elim (h k l) [
+      | inl z ↦ ap (λ y. y * (value k - most)) z ∙ omega arith
+      | inr v ↦ let z : value k - most ≡ 0 = omega arith in ap (λ y. count k * y) z ∙ omega arith
+    ]) in
     omega (arith, choice_priced value count most n budget, none)
+
+-- and at least what any one of them brings
+pub choice_most : (value count x : ℕ → ℕ) (n budget : ℕ) → ((k : ℕ) → k < n → x k ≤ count k) → sum_below x n ≤ budget → sum_below (λ k. value k * x k) n ≤ greatest_choice value count n budget
+choice_most value count x zero budget each all = omega arith
+choice_most value count x (suc n) budget each all =
+    let rest = choice_most value count x n (budget - x n) (λ k l. each k (omega arith)) (omega (arith, all)) in
+    let here = each n (omega arith) in
+    let at = to_ge (λ y. greatest_choice value count n (budget - y) + value n * y) (min (count n) budget) (x n) (omega (arith, here, all)) in
+    omega (arith, rest, at)

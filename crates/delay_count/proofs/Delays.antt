@@ -1,5 +1,5 @@
 -- The delays over shares, and those of the tasks of a set.
-use Rattle.std.proofs.Common.{◌≡◌, ℕ, suc, ◌+◌, ◌*◌, ◌<◌, ◌≤◌, ◌^◌, List, [], take, length, refl, sym, ◌∙◌, ap, arith, Bool}
+use Rattle.std.proofs.Common.{◌≡◌, ℕ, suc, ◌+◌, ◌*◌, ◌<◌, ◌≤◌, ◌^◌, List, [], take, length, inr, refl, sym, ◌∙◌, ap, arith, Bool}
 use Rattle.std.specs.Prelude.{min, ◌&&◌, if◌then◌else◌}
 use Rattle.std.proofs.lemmas.List.{length-take-le}
 use Rattle.std.proofs.lemmas.Nat.{mul-le}
@@ -16,7 +16,7 @@ use Rattle.delay_count.specs.Demand.{gamma}
 use Rattle.delay_count.specs.Rates.{gamma_by}
 use Rattle.delay_count.proofs.Sums.{sum_same}
 use Rattle.delay_count.proofs.Bits.{union_fits, shared_most}
-use Rattle.delay_count.proofs.Choices.{choice_same, choice_le, choice_few}
+use Rattle.delay_count.proofs.Choices.{choice_same, choice_le, choice_within}
 use Rattle.delay_count.proofs.Shares.{first_same}
 
 pub union_same : (jobs : ℕ) (evicts : ℕ → Bool) (useful useful' : ℕ → ℕ → Bool) (count count' : ℕ → ℕ) (n sets : ℕ)
@@ -95,5 +95,5 @@ ucb_fits miss jobs result evicting lower m j is =
 
 pub ecb_fits : (miss jobs result : ℕ) (up : List ℕ) (lower : List (Share 8)) → miss < 2 ^ 32 → jobs < 2 ^ 64 → result ≡ ecb_delay miss jobs up lower 512 → result ≤ 2 ^ 112
 ecb_fits miss jobs result up lower m j is =
-    let most = choice_few (λ k. shared_count (useful_at lower k) (has up) 512) (count_at lower) 512 (length lower) jobs (λ k h. shared_most (useful_at lower k) (has up) 512) in
+    let most = choice_within (λ k. shared_count (useful_at lower k) (has up) 512) (count_at lower) 512 (length lower) jobs (λ k h. inr (shared_most (useful_at lower k) (has up) 512)) in
     omega (arith, is, mul-le miss (greatest_choice (λ k. shared_count (useful_at lower k) (has up) 512) (count_at lower) (length lower) jobs) (2 ^ 32) (2 ^ 80) (omega arith) (omega (arith, most)))

@@ -1,22 +1,23 @@
 -- The delays and the demand never fall.
-use Rattle.std.proofs.Common.{◌≡◌, ℕ, zero, suc, ◌+◌, ◌-◌, ◌*◌, ◌<◌, ◌≤◌, Bool, length, refl, sym, ◌∙◌, ap, subst, arith, inl, inr}
-use Rattle.std.specs.Prelude.{map, min, nat_lt, nat_le, slice_index, if◌then◌else◌}
+use Rattle.std.proofs.Common.{◌≡◌, ℕ, zero, suc, ◌+◌, ◌*◌, ◌<◌, ◌≤◌, Bool, length, refl, sym, ◌∙◌, ap, subst, arith, inl, inr}
+use Rattle.std.specs.Prelude.{map, min, nat_lt, slice_index, if◌then◌else◌}
 use Rattle.std.proofs.lemmas.Nat.{mul-le}
 use Rattle.std.proofs.lemmas.Bool.{cases_Bool, cases_eq, eq-eqb, ne_eqb}
 use Rattle.crpd_base.specs.declared.data.TaskSpec.{TaskSpec}
 use Rattle.crpd_base.specs.declared.data.Part.{Part}
+use Rattle.crpd_base.specs.declared.data.TaskSet.{TaskSet}
 use Rattle.crpd_base.specs.declared.data.Method.{Method}
 use Rattle.crpd_base.specs.declared.data.Method.TheVariants.{Ucb, Ecb}
 use Rattle.crpd_base.specs.declared.data.Switching.{Switching}
-use Rattle.crpd_base.specs.declared.data.Switching.TheVariants.{Cycle, Instruction}
 use Rattle.crpd_base.specs.Sets.{has}
 use Rattle.crpd_base.specs.Sum.{sum_below}
 use Rattle.crpd_base.specs.Tasks.{period_of, jitter_of, HasTimes}
 use Rattle.delay_count.specs.Counts.{jobs_in, jobs_of, affected}
 use Rattle.delay_count.specs.Gamma.{set_share, union_count, ucb_count, ecb_count, evicted_from, shared_sets}
-use Rattle.delay_count.specs.Demand.{greatest_from, blocking, gamma, demand}
-use Rattle.delay_count.specs.Laws.{Load, IsCostlier}
+use Rattle.delay_count.specs.Demand.{blocking, gamma, demand}
+use Rattle.delay_count.specs.Laws.{Load, IsCostlier, DelayGrows, DemandGrows}
 use Rattle.delay_count.proofs.Sums.{sum_le}
+use Rattle.delay_count.proofs.Greatest.{blocking_grows}
 use Rattle.delay_count.proofs.Choices.{choice_le}
 use Rattle.delay_count.proofs.Delays.{shared_same}
 use Rattle.delay_count.proofs.Times.{jobs_grow}
@@ -36,18 +37,7 @@ union_le jobs jobs' evicts evicts' useful useful' count count' n sets j e u c =
     let q = e s in
     rw q (elim (cases_Bool (evicts' s)) [ inl b ↦ rw b (min_le jobs _ jobs' _ j inner) | inr b ↦ rw b (omega arith) ]))
 
-greatest_from_le : (f g : ℕ → ℕ) (i n : ℕ) → ((k : ℕ) → k < n → f k ≤ g k) → greatest_from f i n ≤ greatest_from g i n
-greatest_from_le f g i zero h = omega arith
-greatest_from_le f g i (suc n) h =
-    let rest = greatest_from_le f g i n (λ k l. h k (omega arith)) in
-    let here = h n (omega arith) in
-    elim (cases_Bool (nat_le i n)) [ inl b ↦ rw b (omega (arith, rest, here)) | inr b ↦ rw b (omega arith) ]
-
-blocking_le : (mode : Switching) (f g : ℕ → ℕ) (i n : ℕ) → ((k : ℕ) → k < n → f k ≤ g k) → blocking mode f i n ≤ blocking mode g i n
-blocking_le Cycle f g i n h = omega arith
-blocking_le Instruction f g i n h = greatest_from_le (λ k. f k - 1) (λ k. g k - 1) i n (λ k l. omega (arith, h k l))
-
-evicted_same : (p q : ℕ → Part) (j c : ℕ) → ((k : ℕ) → k ≤ j → (q k).evicting ≡ (p k).evicting) → evicted_from p j c ≡ evicted_from q j c
+pub evicted_same : (p q : ℕ → Part) (j c : ℕ) → ((k : ℕ) → k ≤ j → (q k).evicting ≡ (p k).evicting) → evicted_from p j c ≡ evicted_from q j c
 evicted_same p q zero c h = ap (λ z. has z c) (sym (h 0 (omega arith)))
 evicted_same p q (suc j) c h =
     let here : has (p (suc j)).evicting c ≡ has (q (suc j)).evicting c = ap (λ z. has z c) (sym (h (suc j) (omega arith))) in
@@ -103,7 +93,7 @@ module _ (a b : Load) (i w longer : ℕ) (times : HasTimes a.set) (is : i < leng
   gamma_le j Ucb h = mul-le a.set.platform.miss (ucb_count a.set a.parts a.window w i j) b.set.platform.miss (ucb_count b.set b.parts b.window longer i j) costlier.miss (ucb_le j h)
   gamma_le j Ecb h = mul-le a.set.platform.miss (ecb_count a.set a.parts a.window w i j) b.set.platform.miss (ecb_count b.set b.parts b.window longer i j) costlier.miss (ecb_le j h)
 
-  each_le : (method : Method) (j : ℕ) → j < i
+  pub each_le : (method : Method) (j : ℕ) → j < i
       → jobs_of a.set j w * ((a.parts j).bound + (a.set.platform.switch + a.set.platform.switch)) + gamma a.set a.parts a.window w method i j
       ≤ jobs_of b.set j longer * ((b.parts j).bound + (b.set.platform.switch + b.set.platform.switch)) + gamma b.set b.parts b.window longer method i j
   each_le method j h =
@@ -124,5 +114,53 @@ module _ (a b : Load) (i w longer : ℕ) (times : HasTimes a.set) (is : i < leng
       let begun : blocking a.set.platform.switching a.longest i (length a.set.tasks) ≤ blocking b.set.platform.switching b.longest i (length b.set.tasks) =
       subst (λ (m : Switching). blocking a.set.platform.switching a.longest i (length a.set.tasks) ≤ blocking m b.longest i (length b.set.tasks)) (sym costlier.switching)
       (subst (λ (x : ℕ). blocking a.set.platform.switching a.longest i (length a.set.tasks) ≤ blocking a.set.platform.switching b.longest i x) (sym n)
-      (blocking_le a.set.platform.switching a.longest b.longest i (length a.set.tasks) costlier.longest)) in
+      (blocking_grows a.set.platform.switching a.longest b.longest i (length a.set.tasks) costlier.longest)) in
       omega (arith, sums, own, s, begun)
+
+pub delay_grows : DelayGrows
+delay_grows a b i j w longer method times is h costlier less = gamma_le a b i w longer times is costlier less j method h
+
+pub demand_grows : DemandGrows
+demand_grows a b i w longer method times is costlier less = demand_le a b i w longer times is costlier less method
+
+-- nothing costs less than itself
+pub as_costly : (a : Load) (i : ℕ) → IsCostlier a a i
+as_costly a i = record {
+  tasks = refl;
+  switching = refl;
+  miss = omega arith;
+  switch = omega arith;
+  bound = λ k h. omega arith;
+  evicting = λ k h. refl;
+  useful = λ k h. refl;
+  longest = λ k h. omega arith;
+  window = λ k h. omega arith;
+}
+
+-- the same parts, longest costs and windows of the higher tasks
+module _ (set : TaskSet) (parts others : ℕ → Part) (longest further window other : ℕ → ℕ) (i : ℕ)
+    (P : (k : ℕ) → k ≤ i → parts k ≡ others k) (L : (k : ℕ) → k < length set.tasks → longest k ≡ further k) (W : (k : ℕ) → k < i → window k ≡ other k) where
+  as_costly_by : IsCostlier (record { set = set; parts = parts; longest = longest; window = window }) (record { set = set; parts = others; longest = further; window = other }) i
+  as_costly_by = record {
+    tasks = refl;
+    switching = refl;
+    miss = omega arith;
+    switch = omega arith;
+    bound = λ k h. let e = ap (λ (p : Part). p.bound) (P k h) in omega (arith, e);
+    evicting = λ k h. sym (ap (λ (p : Part). p.evicting) (P k h));
+    useful = λ k h. sym (ap (λ (p : Part). p.useful) (P k h));
+    longest = λ k h. let e = L k h in omega (arith, e);
+    window = λ k h. let e = W k h in omega (arith, e);
+  }
+
+  demand_within : HasTimes set → i < length set.tasks → (method : Method) (w : ℕ) → demand set parts longest window i method w ≤ demand set others further other i method w
+  demand_within times is method w = demand_grows _ _ i w w method times is as_costly_by (omega arith)
+
+-- make the same demand
+pub demand_same : (set : TaskSet) (parts others : ℕ → Part) (longest further window other : ℕ → ℕ) (i : ℕ) → HasTimes set → i < length set.tasks
+    → ((k : ℕ) → k ≤ i → parts k ≡ others k) → ((k : ℕ) → k < length set.tasks → longest k ≡ further k) → ((k : ℕ) → k < i → window k ≡ other k)
+    → (method : Method) (w : ℕ) → demand set parts longest window i method w ≡ demand set others further other i method w
+demand_same set parts others longest further window other i times is P L W method w =
+    let le = demand_within set parts others longest further window other i P L W times is method w in
+    let ge = demand_within set others parts further longest other window i (λ k h. sym (P k h)) (λ k h. sym (L k h)) (λ k h. sym (W k h)) times is method w in
+    omega (arith, le, ge)

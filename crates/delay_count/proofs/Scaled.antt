@@ -1,8 +1,8 @@
 -- Delays by rates of jobs are below those by jobs.
-use Rattle.std.proofs.Common.{◌≡◌, ◌≢◌, ℕ, zero, suc, ◌+◌, ◌-◌, ◌*◌, ◌/◌, ◌^◌, ◌<◌, ◌≤◌, ◌⊎◌, inl, inr, Bool, length, refl, sym, ◌∙◌, ap, subst, arith}
-use Rattle.std.specs.Prelude.{min, nat_le, nat_lt, ◌==◌, if◌then◌else◌}
+use Rattle.std.proofs.Common.{◌≡◌, ℕ, zero, suc, ◌+◌, ◌-◌, ◌*◌, ◌/◌, ◌^◌, ◌<◌, ◌≤◌, inl, inr, Bool, length, refl, sym, ap, subst, arith}
+use Rattle.std.specs.Prelude.{min, nat_lt, if◌then◌else◌}
 use Rattle.std.proofs.lemmas.Nat.{mul-le}
-use Rattle.std.proofs.lemmas.Bool.{cases_Bool, cases_eq, eq-eqb, ne_eqb}
+use Rattle.std.proofs.lemmas.Bool.{cases_Bool, cases_eq, cases_lt, eq-eqb, ne_eqb}
 use Rattle.crpd_base.specs.declared.data.Part.{Part}
 use Rattle.crpd_base.specs.declared.data.TaskSet.{TaskSet}
 use Rattle.crpd_base.specs.declared.data.Method.{Method}
@@ -11,16 +11,12 @@ use Rattle.crpd_base.specs.Sets.{has}
 use Rattle.crpd_base.specs.Sum.{sum_below}
 use Rattle.crpd_base.specs.Tasks.{period_of, jitter_of, HasTimes}
 use Rattle.delay_count.specs.Counts.{jobs_in, jobs_of, affected}
-use Rattle.delay_count.specs.Gamma.{set_share, union_count, greatest_choice, shared_count, shared_sets, evicted_from}
+use Rattle.delay_count.specs.Gamma.{set_share, union_count, greatest_choice, shared_sets, evicted_from}
 use Rattle.delay_count.specs.Filling.{IsNextValue, counted_at, counted_from, worth_from}
-use Rattle.delay_count.specs.Demand.{gamma, higher_demand}
+use Rattle.delay_count.specs.Demand.{gamma}
 use Rattle.delay_count.specs.Rates.{gamma_by, release_rate, affected_rate}
-use Rattle.delay_count.proofs.Sums.{sum_le}
 use Rattle.delay_count.proofs.Bits.{shared_most}
 use Rattle.delay_count.proofs.Choices.{choice_priced, priced_worth, full, finished, joined, none_from}
-
-in_order : (a b : ℕ) → (a ≤ b) ⊎ (b < a)
-in_order a b = grind arith
 
 under_quotient : (p x q : ℕ) → 1 ≤ p → q ≡ x / p → p * q ≤ x
 under_quotient p x q some is = let e : p * q ≡ p * (x / p) = ap (λ z. p * z) is in omega arith
@@ -44,9 +40,9 @@ sum_scaled f g w one (suc n) le = omega (arith, sum_scaled f g w one n (λ k h. 
 
 min_scaled : (a b c d w one : ℕ) → a * w ≤ c * one → b * w ≤ d * one → min a b * w ≤ min c d * one
 min_scaled a b c d w one h k =
-    elim (in_order c d) [
-      | inl l ↦ let m : min c d ≡ c = omega arith in let less = mul-le (min a b) w a w (omega arith) (omega arith) in rw m (omega (arith, less, h))
-      | inr l ↦ let m : min c d ≡ d = omega arith in let less = mul-le (min a b) w b w (omega arith) (omega arith) in rw m (omega (arith, less, k))
+    elim (cases_lt d c) [
+      | inr l ↦ let m : min c d ≡ c = omega arith in let less = mul-le (min a b) w a w (omega arith) (omega arith) in rw m (omega (arith, less, h))
+      | inl l ↦ let m : min c d ≡ d = omega arith in let less = mul-le (min a b) w b w (omega arith) (omega arith) in rw m (omega (arith, less, k))
     ]
 
 union_scaled : (jobs jobs' : ℕ) (evicts : ℕ → Bool) (useful : ℕ → ℕ → Bool) (count count' : ℕ → ℕ) (n sets w one : ℕ)
@@ -84,9 +80,9 @@ priced_below : (value count : ℕ → ℕ) (n budget next : ℕ) → counted_fro
 priced_below value count n budget zero room = (0, finished_at value count n budget room)
 priced_below value count n budget (suc next) room =
     let more = (joined value count (suc (suc next)) (suc next) n (omega arith) (λ k h l. omega arith)).0 in
-    elim (in_order budget (counted_from value count (suc next) n)) [
-      | inl l ↦ (suc next, filled_at value count n budget (suc next) room (omega (arith, more, l)))
-      | inr l ↦ priced_below value count n budget next (omega arith)
+    elim (cases_lt (counted_from value count (suc next) n) budget) [
+      | inr l ↦ (suc next, filled_at value count n budget (suc next) room (omega (arith, more, l)))
+      | inl l ↦ priced_below value count n budget next (omega arith)
     ]
 
 choice_scaled : (value count count' : ℕ → ℕ) (n jobs jobs' most w one : ℕ) → ((k : ℕ) → k < n → value k ≤ most)

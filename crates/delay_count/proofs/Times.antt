@@ -1,9 +1,9 @@
 -- Numbers of tasks and counts of jobs.
-use Rattle.std.proofs.Common.{◌≡◌, ◌≢◌, ℕ, ◌+◌, ◌*◌, ◌<◌, ◌≤◌, ◌^◌, ◌⊎◌, inl, inr, List, length, get_or, refl, sym, ◌∙◌, ap, arith, false}
+use Rattle.std.proofs.Common.{◌≡◌, ◌≢◌, ℕ, ◌+◌, ◌*◌, ◌<◌, ◌≤◌, ◌^◌, inl, inr, List, length, get_or, refl, sym, ◌∙◌, ap, arith, false}
 use Rattle.std.specs.Prelude.{slice_index, nat_lt}
 use Rattle.std.proofs.lemmas.List.{get_or-map}
 use Rattle.std.proofs.lemmas.Nat.{mul-le}
-use Rattle.std.proofs.lemmas.Bool.{cases_Bool, cases_eq, eq-eqb, ne_eqb, lt-ltb, ltb-true}
+use Rattle.std.proofs.lemmas.Bool.{cases_eq, cases_lt, eq-eqb, ne_eqb, lt-ltb, le-ltb}
 use Rattle.crpd_base.specs.declared.data.TaskSpec.{TaskSpec}
 use Rattle.crpd_base.specs.declared.data.TaskSet.{TaskSet}
 use Rattle.crpd_base.specs.Tasks.{period_of, jitter_of, deadline_of, HasTimes}
@@ -21,29 +21,23 @@ deadline_is set k x h e = get_or-map (λ (t : TaskSpec). t.deadline) set.tasks k
 -- at most one job more than cycles
 pub jobs_few : (period jitter window : ℕ) → 1 ≤ period → jitter ≤ period → jobs_in period jitter window ≤ window + 1
 jobs_few period jitter window some less =
-    elim (in_order (jobs_in period jitter window) (window + 1)) [
-      | inl l ↦ l
-      | inr l ↦
+    elim (cases_lt (window + 1) (jobs_in period jitter window)) [
+      | inr l ↦ l
+      | inl l ↦
           let many = mul-le period (window + 2) period (jobs_in period jitter window) (omega arith) (omega arith) in
           let one = mul-le 1 window period window some (omega arith) in
           absurd (omega (arith, many, one))
     ]
-  where
-    in_order : (a b : ℕ) → (a ≤ b) ⊎ (b < a)
-    in_order a b = grind arith
 
 -- and never fewer in a longer window
 pub jobs_grow : (period jitter window longer : ℕ) → 1 ≤ period → window ≤ longer → jobs_in period jitter window ≤ jobs_in period jitter longer
 jobs_grow period jitter window longer some less =
-    elim (in_order (jobs_in period jitter window) (jobs_in period jitter longer)) [
-      | inl l ↦ l
-      | inr l ↦
+    elim (cases_lt (jobs_in period jitter longer) (jobs_in period jitter window)) [
+      | inr l ↦ l
+      | inl l ↦
           let more = mul-le period (jobs_in period jitter longer + 1) period (jobs_in period jitter window) (omega arith) (omega arith) in
           absurd (omega (arith, more))
     ]
-  where
-    in_order : (a b : ℕ) → (a ≤ b) ⊎ (b < a)
-    in_order a b = grind arith
 
 -- the jobs of a higher task that has a window
 pub jobs_of_few : (set : TaskSet) (windows : List ℕ) (i j w : ℕ) → HasTimes set → HasWindows set windows i → i < length set.tasks → j < i → jobs_of set j w ≤ w + 1
@@ -52,10 +46,7 @@ jobs_of_few set windows i j w times has h l =
     (omega (arith, has.in_deadline j l, times.deadline j (omega arith)))
 
 pub not_affected : (set : TaskSet) (window : ℕ → ℕ) (w i j k : ℕ) → k ≤ j → 0 ≡ affected set window w i j k
-not_affected set window w i j k h = let b : nat_lt j k ≡ false = not_lt j k h in rw b refl
-  where
-    not_lt : (a b : ℕ) → b ≤ a → nat_lt a b ≡ false
-    not_lt a b h = elim (cases_Bool (nat_lt a b)) [ inl t ↦ let l : a < b = ltb-true a b t in absurd (omega arith) | inr f ↦ f ]
+not_affected set window w i j k h = let b : nat_lt j k ≡ false = le-ltb j k h in rw b refl
 
 pub affected_self : (set : TaskSet) (window : ℕ → ℕ) (w i j k : ℕ) → j < k → k ≡ i → affected set window w i j k ≡ jobs_of set j w
 affected_self set window w i j k h e = rw (lt-ltb j k h, eq-eqb k i e) refl
@@ -66,9 +57,9 @@ affected_other set window w i j k h ne = rw (lt-ltb j k h, ne_eqb k i ne) refl
 pub affected_few : (set : TaskSet) (windows : List ℕ) (w i j k : ℕ) → HasTimes set → HasWindows set windows i → i < length set.tasks → j < i → k ≤ i → w ≤ 2 ^ 40
     → affected set (slice_index windows) w i j k < 2 ^ 81
 affected_few set windows w i j k times has h l lk room =
-    elim (in_order k j) [
-      | inl le ↦ omega (arith, not_affected set (slice_index windows) w i j k le)
-      | inr lt ↦
+    elim (cases_lt j k) [
+      | inr le ↦ omega (arith, not_affected set (slice_index windows) w i j k le)
+      | inl lt ↦
           elim (cases_eq k i) [
             | inl e ↦ omega (arith, affected_self set (slice_index windows) w i j k lt e, jobs_of_few set windows i j w times has h l)
             | inr ne ↦
@@ -78,6 +69,3 @@ affected_few set windows w i j k times has h l lk room =
                 omega (arith, affected_other set (slice_index windows) w i j k lt ne, mul-le (jobs_of set j (slice_index windows k)) (jobs_of set k w) (2 ^ 40 + 1) (2 ^ 40 + 1) first second)
           ]
     ]
-  where
-    in_order : (a b : ℕ) → (a ≤ b) ⊎ (b < a)
-    in_order a b = grind arith

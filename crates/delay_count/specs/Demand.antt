@@ -28,15 +28,24 @@ gamma set parts window w Ecb i j = gamma_ecb set parts window w i j
 abbrev pub own_demand : TaskSet → (ℕ → Part) → (ℕ → ℕ) → ℕ → ℕ
 own_demand set parts longest i = set.platform.switch + (parts i).bound + blocking set.platform.switching longest i (length set.tasks)
 
--- what a higher task j takes of a window w of task i: its jobs, each with its bound and two switches, and the delay by them
+-- what the jobs of a higher task j take of a window of w cycles beside their delay: each its bound and two switches
+abbrev pub jobs_demand : TaskSet → (ℕ → Part) → ℕ → ℕ → ℕ
+jobs_demand set parts w j = jobs_of set j w * ((parts j).bound + (set.platform.switch + set.platform.switch))
+
+-- the demand of a window w of task i, where each higher task brings a delay: the task's own, and of each higher task its
+-- jobs' and the delay
+abbrev pub demand_by : TaskSet → (ℕ → Part) → (ℕ → ℕ) → ℕ → (ℕ → ℕ) → ℕ → ℕ
+demand_by set parts longest i delay w =
+    own_demand set parts longest i + sum_below (λ j. jobs_demand set parts w j + delay j) i
+
+-- what a higher task j takes of a window w of task i, with the delay by a method
 abbrev pub higher_demand : TaskSet → (ℕ → Part) → (ℕ → ℕ) → ℕ → Method → ℕ → ℕ → ℕ
-higher_demand set parts window w method i j =
-    jobs_of set j w * ((parts j).bound + (set.platform.switch + set.platform.switch)) + gamma set parts window w method i j
+higher_demand set parts window w method i j = jobs_demand set parts w j + gamma set parts window w method i j
 
 -- the demand of a window w of task i, by a method, with the parts and the longest costs of the tasks and the windows of
 -- the higher ones
 abbrev pub demand : TaskSet → (ℕ → Part) → (ℕ → ℕ) → (ℕ → ℕ) → ℕ → Method → ℕ → ℕ
-demand set parts longest window i method w = own_demand set parts longest i + sum_below (higher_demand set parts window w method i) i
+demand set parts longest window i method w = demand_by set parts longest i (gamma set parts window w method i) w
 
 -- the delays that this demand charges, of all higher tasks together
 abbrev pub charged_delays : TaskSet → (ℕ → Part) → (ℕ → ℕ) → ℕ → Method → ℕ → ℕ

@@ -154,6 +154,7 @@ fn job_rate(set: &TaskSet, k: usize) -> u64
     ONE_JOB / period(set, k)
 }
 
+// The period of a task, in cycles.
 fn period(set: &TaskSet, k: usize) -> u64
     requires times { HasTimes set.now }
     requires task { k < length set.now.tasks }

@@ -1,3 +1,5 @@
+pub mod WindowLaws
+pub mod Choices
 pub mod Least
 pub mod Jumps
 pub mod Ranges

@@ -2,12 +2,11 @@
 ghost use Rattle.std.specs.Prelude.{◌≡◌, ℕ, ◌<◌, ◌≤◌, length, slice_index, MatchResult, MatchOption};
 ghost use Rattle.crpd_base.specs.Tasks.{HasTimes};
 ghost use Rattle.delay_count.specs.Gamma.{part_at};
-ghost use Rattle.delay_count.specs.Demand.{HasLongest};
+ghost use Rattle.delay_count.specs.Demand.{HasLongest, demand};
 ghost use Rattle.response.specs.Windows.{smaller_of, IsAnswer, IsRefused};
 
 use crate::search::window;
 use crpd_base::{MOST_TASKS, Method, Part, Task, TaskSet};
-use delay_count::growth_law;
 use std::alloc::Global;
 
 /// A window in cycles, and the method by which it was found.
@@ -46,10 +45,9 @@ pub fn windows(
     requires parts { length parts.now ≡ length set.now.tasks }
     requires longest { HasLongest set.now longest.now }
     ensures { MatchResult result
-        (λ choices. IsAnswer set.now (part_at parts.now) (slice_index longest.now) choices.items)
-        (λ e. IsRefused set.now (part_at parts.now) (slice_index longest.now) e) }
+        (λ choices. IsAnswer set.now (demand set.now (part_at parts.now) (slice_index longest.now)) choices.items)
+        (λ e. IsRefused set.now (demand set.now (part_at parts.now) (slice_index longest.now)) e) }
 {
-    growth_law();
     let mut choices = Vec::new(alloc);
     let mut found = [0; MOST_TASKS];
     for i in 0..set.tasks.as_slice().len() {

@@ -1,18 +1,17 @@
 -- Acceptance as the costs of a switch and of a reload grow.
-use Rattle.std.proofs.Common.{◌≡◌, ℕ, zero, suc, ◌<◌, ◌≤◌, ◌⊎◌, List, [], ◌∷◌, ◌++◌, length, map, Option, Some, None, refl, ap, inl, inr, arith, length-append}
-use Rattle.std.specs.Prelude.{MatchOption}
+use Rattle.std.proofs.Common.{◌≡◌, ℕ, zero, suc, ◌+◌, ◌<◌, ◌≤◌, ◌⊎◌, List, [], ◌∷◌, ◌++◌, length, refl, ap, inl, inr, arith, length-append}
 use Rattle.std.proofs.lemmas.Bool.{cases_eq, cases_lt}
 use Rattle.crpd_base.specs.declared.data.Part.{Part}
 use Rattle.crpd_base.specs.declared.data.Task.{Task}
 use Rattle.crpd_base.specs.declared.data.TaskSet.{TaskSet}
-use Rattle.crpd_base.specs.declared.data.Method.{Method}
-use Rattle.crpd_base.specs.declared.data.Method.TheVariants.{Ucb, Ecb}
 use Rattle.loop_regions.specs.TaskGraph.{TaskGraph}
 use Rattle.exec_bound.specs.Costs.{greatest_bound}
-use Rattle.delay_count.specs.Laws.{DemandGrows}
+use Rattle.delay_count.specs.Demand.{demand}
 use Rattle.response.specs.declared.choice.Choice.{Choice}
-use Rattle.response.specs.Windows.{IsWindow, HasNoWindow, AreChoices, window_at, smaller_of}
-use Rattle.response.proofs.Least.{chosen_none, chosen_some, choices_more}
+use Rattle.response.specs.Windows.{Demand, AreChoices, window_at}
+use Rattle.response.proofs.WindowLaws.{smaller_or_none}
+use Rattle.response.proofs.Choices.{choices_more}
+use Rattle.response.proofs.Least.{looks_above}
 use Rattle.cert_check.specs.Judge.{longest_at}
 use Rattle.sensitivity.specs.declared.slack.Stop.{Stop}
 use Rattle.sensitivity.specs.declared.slack.Stop.TheVariants.{Limit, Window, Bound}
@@ -20,12 +19,11 @@ use Rattle.sensitivity.specs.Costs.{priced, with_costs}
 use Rattle.sensitivity.specs.Accepted.{IsLeastBound, IsPart, AreParts, IsAccepted, IsFirstTooLarge, IsFirstLate, IsStop}
 use Rattle.sensitivity.specs.Laws.{AreDearer, WindowsGrow, StaysAccepted, NeverStops, OneStop}
 use Rattle.sensitivity.proofs.Bounds.{bound_grows, some_bound}
-use Rattle.sensitivity.proofs.Fits.{window_or_none}
 use Rattle.sensitivity.proofs.Compared.{times_with, windows_grow, never_late}
 
-pub windows_grow_by : DemandGrows → WindowsGrow
-windows_grow_by grows set graphs s m k d dearer a b i lt =
-    windows_grow grows set graphs s m k d dearer a.parts b.parts a.are b.are a.choices b.choices (length set.tasks) (omega arith) a.windows.each b.windows.each i lt
+pub windows_grow_by : WindowsGrow
+windows_grow_by set graphs s m k d dearer a b i lt =
+    windows_grow set graphs s m k d dearer a.parts b.parts a.are b.are a.choices b.choices (length set.tasks) (omega arith) a.windows.each b.windows.each i lt
 
 -- no bound that is too large becomes small
 large_stays : (set : TaskSet) (graphs : ℕ → TaskGraph) (s m k d : ℕ) → AreDearer set graphs s m k d → (i c e : ℕ) → i < length set.tasks
@@ -34,16 +32,16 @@ large_stays set graphs s m k d dearer i c e lt C E large small =
     let l = bound_grows set.platform (graphs i) s k m d c e (dearer.bounded i lt).graph dearer.miss C E in
     absurd (omega (arith, l, large, small))
 
-pub never_stops_by : DemandGrows → NeverStops
-never_stops_by grows set graphs s m k d Limit dearer b stop = stop
-never_stops_by grows set graphs s m k d (Bound t) dearer b stop =
+pub never_stops_by : NeverStops
+never_stops_by set graphs s m k d Limit dearer b stop = stop
+never_stops_by set graphs s m k d (Bound t) dearer b stop =
     large_stays set graphs s m k d dearer t.0 stop.cycles (b.parts t.0).bound stop.task stop.bound (b.are.each t.0 stop.task).bound stop.large (b.are.within t.0 stop.task)
-never_stops_by grows set graphs s m k d (Window t) dearer b stop =
-    never_late grows set graphs s m k d dearer stop.parts b.parts stop.are b.are stop.first.higher b.choices t.0 stop.first.task
+never_stops_by set graphs s m k d (Window t) dearer b stop =
+    never_late set graphs s m k d dearer stop.parts b.parts stop.are b.are stop.first.higher b.choices t.0 stop.first.task
     stop.first.each (λ j l. b.windows.each j (let q = stop.first.task in omega (arith, l, q))) stop.first.no_ucb stop.first.no_ecb
 
 -- the parts with cheaper costs, from those with dearer ones
-module _ (grows : DemandGrows) (set : TaskSet) (graphs : ℕ → TaskGraph) (s m k d : ℕ) (dearer : AreDearer set graphs s m k d) (b : IsAccepted (with_costs set k d) graphs) where
+module _ (set : TaskSet) (graphs : ℕ → TaskGraph) (s m k d : ℕ) (dearer : AreDearer set graphs s m k d) (b : IsAccepted (with_costs set k d) graphs) where
   abbrev cheap : TaskSet
   cheap = with_costs set s m
 
@@ -77,38 +75,27 @@ module _ (grows : DemandGrows) (set : TaskSet) (graphs : ℕ → TaskGraph) (s m
     within = λ j l. (is_part j (cases_lt j (length set.tasks)) l).1;
   }
 
-  abbrev Has : (ℕ → ℕ) → ℕ → Method → Option ℕ → Type 0
-  Has window i method o = MatchOption o (HasNoWindow cheap parts cheap_longest window i method) (λ w. IsWindow cheap parts cheap_longest window i method w)
-
-  window_by : (window : ℕ → ℕ) (i : ℕ) (method : Method) → (o : Option ℕ) × Has window i method o
-  window_by window i method =
-      elim (window_or_none cheap parts cheap_longest window i method) [
-        | inl h ↦ (Some h.0, h.1)
-        | inr none ↦ (None, none)
-      ]
+  abbrev cheap_demand : Demand
+  cheap_demand = demand cheap parts cheap_longest
 
   abbrev ChoicesTo : ℕ → Type 0
-  ChoicesTo n = (choices : List Choice) × (length choices ≡ n) × AreChoices cheap parts cheap_longest choices n
+  ChoicesTo n = (choices : List Choice) × (length choices ≡ n) × AreChoices cheap cheap_demand choices n
 
-  -- one more, where there is a choice
-  more : (n : ℕ) → n < length set.tasks → (h : ChoicesTo n) (c : Option Choice) (u e : Option ℕ) → Has (window_at h.0) n Ucb u → Has (window_at h.0) n Ecb e → c ≡ smaller_of u e → ChoicesTo (suc n)
-  more n lt h None u e U E is =
-      let none = chosen_none cheap parts cheap_longest (window_at h.0) n u e None U E is refl in
-      absurd (never_late grows set graphs s m k d dearer parts b.parts are b.are h.0 b.choices n lt h.2 (λ j l. b.windows.each j (omega (arith, l, lt))) none.0 none.1)
-  more n lt h (Some x) u e U E is =
-      let here = chosen_some cheap parts cheap_longest (window_at h.0) n u e (Some x) x U E is refl in (
-        h.0 ++ x ∷ [],
-        (let q = h.1 in simp length-append (omega (arith, q))),
-        (λ j l. choices_more h.0 x n h.1 grows cheap parts cheap_longest (map (λ (c : Choice). c.window) h.0) (times_with set s m dearer.times) lt (λ q r. refl) h.2 here j (omega (arith, l))),
-      )
+  -- one more, since there is a choice
+  more : (n : ℕ) → n < length set.tasks → ChoicesTo n → ChoicesTo (suc n)
+  more n lt h =
+      elim (smaller_or_none cheap (cheap_demand (window_at h.0) n) n) [
+        | inl x ↦ (
+          h.0 ++ x.0 ∷ [],
+          (let q = h.1 in simp length-append (omega (arith, q))),
+          (λ j l. choices_more h.0 x.0 n h.1 cheap cheap_demand (window_at h.0) (looks_above cheap parts cheap_longest (n + 1) (times_with set s m dearer.times) (omega (arith, lt))) (λ q r. refl) h.2 x.1 j (omega (arith, l))),
+        )
+        | inr none ↦ absurd (never_late set graphs s m k d dearer parts b.parts are b.are h.0 b.choices n lt h.2 (λ j l. b.windows.each j (omega (arith, l, lt))) none.0 none.1)
+      ]
 
   choices_to : (n : ℕ) → n ≤ length set.tasks → ChoicesTo n
   choices_to zero le = ([], refl, λ j l. absurd (omega (arith, l)))
-  choices_to (suc n) le =
-      let h = choices_to n (omega (arith, le)) in
-      let u = window_by (window_at h.0) n Ucb in
-      let e = window_by (window_at h.0) n Ecb in
-      more n (omega (arith, le)) h (smaller_of u.0 e.0) u.0 e.0 u.1 e.1 refl
+  choices_to (suc n) le = more n (omega (arith, le)) (choices_to n (omega (arith, le)))
 
   pub stays : IsAccepted (with_costs set s m) graphs
   stays =
@@ -120,11 +107,11 @@ module _ (grows : DemandGrows) (set : TaskSet) (graphs : ℕ → TaskGraph) (s m
         windows = record { tasks = h.1; each = h.2 };
       }
 
-pub stays_accepted_by : DemandGrows → StaysAccepted
-stays_accepted_by grows set graphs s m k d dearer b = stays grows set graphs s m k d dearer b
+pub stays_accepted_by : StaysAccepted
+stays_accepted_by set graphs s m k d dearer b = stays set graphs s m k d dearer b
 
 -- stops at the same costs
-module _ (grows : DemandGrows) (set : TaskSet) (graphs : ℕ → TaskGraph) (s m : ℕ) (dearer : AreDearer set graphs s m s m) where
+module _ (set : TaskSet) (graphs : ℕ → TaskGraph) (s m : ℕ) (dearer : AreDearer set graphs s m s m) where
   not_earlier_bound : (i j : ℕ) → IsFirstTooLarge (with_costs set s m) graphs i → IsFirstTooLarge (with_costs set s m) graphs j → i < j → ⊥
   not_earlier_bound i j A B lt =
       let h = B.higher i lt in
@@ -136,7 +123,7 @@ module _ (grows : DemandGrows) (set : TaskSet) (graphs : ℕ → TaskGraph) (s m
 
   not_earlier_late : (i j : ℕ) → IsFirstLate (with_costs set s m) graphs i → IsFirstLate (with_costs set s m) graphs j → i < j → ⊥
   not_earlier_late i j A B lt =
-      never_late grows set graphs s m s m dearer A.parts B.parts A.are B.are A.first.higher B.first.higher i A.first.task A.first.each
+      never_late set graphs s m s m dearer A.parts B.parts A.are B.are A.first.higher B.first.higher i A.first.task A.first.each
       (λ q l. B.first.each q (omega (arith, l, lt))) A.first.no_ucb A.first.no_ecb
 
   one_task : (P : ℕ → Type 0) → ((i j : ℕ) → P i → P j → i < j → ⊥) → (i j : ℕ) → P i → P j → i ≡ j
@@ -158,5 +145,5 @@ module _ (grows : DemandGrows) (set : TaskSet) (graphs : ℕ → TaskGraph) (s m
   one_stop (Window t) (Bound u) A B = absurd (not_both u.0 t.0 B A)
   one_stop (Window t) (Window u) A B = ap (λ n. Window (task n)) (one_task (IsFirstLate (with_costs set s m) graphs) not_earlier_late t.0 u.0 A B)
 
-pub one_stop_by : DemandGrows → OneStop
-one_stop_by grows set graphs s m one two dearer A B = one_stop grows set graphs s m dearer one two A B
+pub one_stop_by : OneStop
+one_stop_by set graphs s m one two dearer A B = one_stop set graphs s m dearer one two A B

@@ -1,7 +1,5 @@
 pub mod Costs
 pub mod Bounds
-pub mod Fits
-pub mod ByCosts
 pub mod Compared
 pub mod Acceptance
 pub mod Slacks

@@ -33,7 +33,6 @@ fn stop_of(
     requires parts { ListsParts set.now (shown_at graphs.now nests.now) parts.now }
     ensures { IfOk result (λ stop. IsJudged set.now (shown_at graphs.now nests.now) stop) }
 {
-    delay_count::growth_law();
     let mut longest = [0; MOST_TASKS];
     write_longest(set, graphs, &mut longest);
     match windows(alloc, set, parts, &longest) {

@@ -1,4 +1,2 @@
--- Sums and counts, which several steps use.
-pub mod Sums
+-- Counts, which several steps use.
 pub mod Counting
-pub mod Greatest

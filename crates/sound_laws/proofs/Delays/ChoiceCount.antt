@@ -13,7 +13,7 @@ use Rattle.crpd_base.specs.declared.data.Part.{Part}
 use Rattle.delay_count.specs.Counts.{jobs_in, preemptions}
 use Rattle.delay_count.specs.Gamma.{evicted_from, shared_count, shared_sets, ecb_count}
 use Rattle.sound_laws.proofs.Delays.Choices.{IsChoice, choice_le}
-use Rattle.sound_laws.proofs.Counts.Sums.{sum_le, sum_swap, sum_times}
+use Rattle.delay_count.proofs.Sums.{sum_le, sum_swap, sum_times}
 use Rattle.sound_laws.proofs.Windows.Releases.{count, count_none, at_most_one, lies_in}
 use Rattle.sound_laws.proofs.Counts.Counting.{spread, inject, each_at_most, count_le}
 use Rattle.sound_laws.proofs.Windows.Busy.{line_at, task_at, in_window}

@@ -21,7 +21,7 @@ use Rattle.run_account.proofs.Jobs.{jobs_length}
 use Rattle.run_account.proofs.AnswerTimes.{answered_by}
 use Rattle.sound_laws.specs.Windows.{HasWindow, EvictedBy, PreemptedBy}
 use Rattle.sound_laws.specs.Ledgers.{HasAnswered, is_in_window, evicted_by, preempted_by, LedgerWithinDelays}
-use Rattle.sound_laws.proofs.Counts.Sums.{sum_change}
+use Rattle.delay_count.proofs.Sums.{sum_change}
 use Rattle.sound_laws.proofs.Windows.Releases.{count, one_le}
 use Rattle.sound_laws.proofs.Counts.Counting.{count_le}
 use Rattle.sound_laws.proofs.Walks.KeptWalks.{kept_before}

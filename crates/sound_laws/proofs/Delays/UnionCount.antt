@@ -12,7 +12,7 @@ use Rattle.crpd_base.specs.Sets.{has as has_set}
 use Rattle.crpd_base.specs.declared.data.Part.{Part}
 use Rattle.delay_count.specs.Counts.{jobs_in, preemptions, affected}
 use Rattle.delay_count.specs.Gamma.{union_count, ucb_count}
-use Rattle.sound_laws.proofs.Counts.Sums.{sum_le}
+use Rattle.delay_count.proofs.Sums.{sum_le}
 use Rattle.sound_laws.proofs.Windows.Releases.{count, count_none, lies_in}
 use Rattle.sound_laws.proofs.Counts.Counting.{spread, inject, each_at_most, count_le}
 use Rattle.sound_laws.proofs.Windows.Busy.{line_at, task_at, in_window}

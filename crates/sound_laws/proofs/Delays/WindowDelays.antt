@@ -10,7 +10,7 @@ use Rattle.run_account.specs.Fetches.{job_of}
 use Rattle.run_account.specs.Reloads.{FetchesAt, IsEvictor, IsPreemptor}
 use Rattle.run_account.specs.Ledger.{IsWindowStart}
 use Rattle.sound_laws.specs.Windows.{EvictedBy, PreemptedBy, EntriesWithinDelays}
-use Rattle.sound_laws.proofs.Counts.Sums.{sum_mono}
+use Rattle.delay_count.proofs.Sums.{sum_mono}
 use Rattle.sound_laws.proofs.Windows.Accounts.{Spends}
 use Rattle.sound_laws.proofs.Windows.Rooms.{Covers}
 use Rattle.sound_laws.proofs.Windows.Busy.{line_at, task_at, in_window, IsLastQuiet, is_busy_by, all_quiet, some_busy}

@@ -7,7 +7,7 @@ use Rattle.preempt_machine.proofs.Order.{comes_before_asym}
 use Rattle.preempt_machine.proofs.Steps.{new_owner, candidate_some, ready_open, step_other, some_injective, none_some}
 use Rattle.run_account.specs.Fetches.{job_of}
 use Rattle.crpd_base.specs.Sum.{sum_below}
-use Rattle.sound_laws.proofs.Counts.Sums.{sum_change, sum_change_two}
+use Rattle.delay_count.proofs.Sums.{sum_change, sum_change_two}
 use Rattle.run_account.proofs.Jobs.{jobs_length, owns_none}
 use Rattle.run_account.proofs.Owners.{candidate_at, was_owner, cases_some, owns_true, owns_same, owner_after, owner_stays, owner_was, was_released, ready_at, owner_is_first, first_at}
 

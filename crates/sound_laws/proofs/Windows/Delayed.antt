@@ -14,7 +14,7 @@ use Rattle.evict_sets.specs.Certificate.{cert_at}
 use Rattle.preempt_machine.specs.Step.{is_open}
 use Rattle.run_account.specs.Fetches.{job_of}
 use Rattle.run_account.proofs.Owners.{was_open}
-use Rattle.sound_laws.proofs.Counts.Sums.{sum_times}
+use Rattle.delay_count.proofs.Sums.{sum_times}
 use Rattle.sound_laws.proofs.Windows.Rooms.{Covers}
 use Rattle.sound_laws.proofs.Windows.Busy.{task_at, in_window}
 use Rattle.sound_laws.proofs.Windows.Releases.{count}

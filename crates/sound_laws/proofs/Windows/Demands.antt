@@ -12,7 +12,7 @@ use Rattle.sound_laws.specs.Walks.{RunsLegally}
 use Rattle.crpd_base.specs.Sum.{sum_below}
 use Rattle.delay_count.specs.Counts.{jobs_in}
 use Rattle.run_account.proofs.Jobs.{line_of, line_is}
-use Rattle.sound_laws.proofs.Counts.Sums.{sum_le, sum_add, sum_times, sum_swap, sum_ge, only, sum_only}
+use Rattle.delay_count.proofs.Sums.{sum_le, sum_add, sum_times, sum_swap, sum_ge, only, sum_only}
 use Rattle.sound_laws.proofs.Windows.Rooms.{allowance}
 use Rattle.sound_laws.proofs.Windows.Busy.{line_at, task_at, in_window}
 use Rattle.sound_laws.proofs.Windows.Releases.{count, one_le, lies_in, few_in_periods, jobs_in_fits}

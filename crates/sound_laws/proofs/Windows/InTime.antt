@@ -16,12 +16,12 @@ use Rattle.preempt_machine.proofs.Runs.{over_stays}
 use Rattle.run_account.specs.Fetches.{job_of}
 use Rattle.run_account.proofs.Owners.{owner_was, was_released}
 use Rattle.run_account.specs.Nodes.{task_of}
-use Rattle.sound_laws.proofs.Counts.Sums.{sum_add}
+use Rattle.delay_count.proofs.Sums.{sum_add}
 use Rattle.sound_laws.proofs.Windows.Accounts.{was_below}
 use Rattle.sound_laws.proofs.Windows.Busy.{line_at, task_at, IsLastQuiet, is_busy_by, busy_none}
 use Rattle.sound_laws.proofs.Windows.Demands.{in_time_at, base_demand}
 use Rattle.sound_laws.proofs.Windows.Responses.{HasShortFront, HasWindows, over_in_window}
-use Rattle.sound_laws.proofs.Counts.Greatest.{greatest_ge}
+use Rattle.delay_count.proofs.Greatest.{greatest_ge}
 use Rattle.sound_laws.proofs.Windows.Fronts.{middle, middle_left, middle_over, cycle_front, instruction_front}
 use Rattle.sound_laws.proofs.Execution.Executed.{short_at}
 use Rattle.sound_laws.proofs.Walks.NoFaults.{no_fault}

@@ -5,7 +5,7 @@ use Rattle.std.proofs.lemmas.Bool.{cases_Bool, cases_lt, and_parts, and_from, lt
 use Rattle.script_reader.specs.Legal.{AreApart}
 use Rattle.crpd_base.specs.Sum.{sum_below}
 use Rattle.delay_count.specs.Counts.{jobs_in}
-use Rattle.sound_laws.proofs.Counts.Sums.{sum_le, sum_zero, sum_add}
+use Rattle.delay_count.proofs.Sums.{sum_le, sum_zero, sum_add}
 
 -- how many numbers below n pass a test
 abbrev pub count : (ℕ → Bool) → ℕ → ℕ

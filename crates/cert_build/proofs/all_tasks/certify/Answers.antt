@@ -26,12 +26,12 @@ returns-clause-judged c =
 
 pub returns-clause-one : goal.returns-clause-one
 returns-clause-one c d D =
-    one_best c.growth_law.ensures.demand c.args.set.now (shown_at c.args.graphs.now c.args.nests.now) d c.in_ok-certificate.certificate (has_times c.args.set.now c.requires.set) D
+    one_best c.args.set.now (shown_at c.args.graphs.now c.args.nests.now) d c.in_ok-certificate.certificate (has_times c.args.set.now c.requires.set) D
     (is_best c.args.set.now (shown_at c.args.graphs.now c.args.nests.now) c.in_ok-analyses.analyses.items c.in_ok-certificate.certificate c.in_ok-analyses.ensures (c.in_ok-certificate.ensures c.args.nests.now))
 
 pub returns-in_err-certificate-clause-exact : goal.returns-in_err-certificate-clause-exact
 returns-in_err-certificate-clause-exact c =
     let p = err_from_is_err_and c.from_residual-in_err-certificate.result c.from_residual-in_err-certificate.ensures.1 in
     rw p.1
-    (not_scheduled c.growth_law.ensures.demand c.args.set.now (shown_at c.args.graphs.now c.args.nests.now) c.in_ok-analyses.analyses.items (has_times c.args.set.now c.requires.set) c.in_ok-analyses.ensures
+    (not_scheduled c.args.set.now (shown_at c.args.graphs.now c.args.nests.now) c.in_ok-analyses.analyses.items (has_times c.args.set.now c.requires.set) c.in_ok-analyses.ensures
     c.in_err-certificate.field-0.0 p.0 (c.in_err-certificate.ensures c.args.nests.now) p.2)

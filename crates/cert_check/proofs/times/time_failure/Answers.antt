@@ -8,7 +8,8 @@ use Rattle.cert_check.specs.Verdict.{Window, Response, Deadline}
 use Rattle.cert_check.specs.Answered.{IsFound}
 use Rattle.cert_check.specs.Times.{TimesHold}
 use Rattle.cert_check.proofs.Found.{then_found, found_first, fails_first, fails_later, only_window, before_deadline}
-use Rattle.cert_check.proofs.Names.{jitter_at, deadline_at, part_is}
+use Rattle.delay_count.proofs.Times.{jitter_is, deadline_is}
+use Rattle.cert_check.proofs.Names.{part_is}
 use Rattle.cert_check.proofs.times.time_failure.Goals as goal
 
 pub returns-then-not-has_room : goal.returns-then-not-has_room
@@ -21,8 +22,8 @@ returns-then-from c =
     let part : cert_at c.args.certificate.now c.args.i ≡ c.index-as_slice-i-2.result = (part_is c.args.certificate.now c.args.i c.index-as_slice-i-2.result c.requires.higher.tasks (subst (λ (xs : List TaskPart). c.index-as_slice-i-2.result ≡ get_or xs c.args.i c.index-as_slice-i-2.result) c.as_slice-2.ensures c.index-as_slice-i-2.is)) in
     let r : (cert_at c.args.certificate.now c.args.i).response ≡ c.index-as_slice-i-2.result.response = ap (λ (t : TaskPart). t.response) part in
     let w : (cert_at c.args.certificate.now c.args.i).window ≡ c.index-as_slice-i-2.result.window = ap (λ (t : TaskPart). t.window) part in
-    let j = jitter_at c.args.set.now c.args.i c.index-as_slice-i.result c.requires.task (subst (λ (xs : List TaskSpec). c.index-as_slice-i.result ≡ get_or xs c.args.i c.index-as_slice-i.result) c.as_slice.ensures c.index-as_slice-i.is) in
-    let d = deadline_at c.args.set.now c.args.i c.index-as_slice-i.result c.requires.task (subst (λ (xs : List TaskSpec). c.index-as_slice-i.result ≡ get_or xs c.args.i c.index-as_slice-i.result) c.as_slice.ensures c.index-as_slice-i.is) in
+    let j = jitter_is c.args.set.now c.args.i c.index-as_slice-i.result c.requires.task (subst (λ (xs : List TaskSpec). c.index-as_slice-i.result ≡ get_or xs c.args.i c.index-as_slice-i.result) c.as_slice.ensures c.index-as_slice-i.is) in
+    let d = deadline_is c.args.set.now c.args.i c.index-as_slice-i.result c.requires.task (subst (λ (xs : List TaskSpec). c.index-as_slice-i.result ≡ get_or xs c.args.i c.index-as_slice-i.result) c.as_slice.ensures c.index-as_slice-i.is) in
     subst (λ r. IsFound (TimesHold c.args.set.now (slice_index c.args.longest.now) c.args.certificate.now c.args.i) 8 9 r) (sym c.at-then-from.ensures)
     (then_found (TimesHold c.args.set.now (slice_index c.args.longest.now) c.args.certificate.now c.args.i) 8 8 9 (Some (record { clause = 9; place = 0 })) (omega arith) (omega arith) (only_window (TimesHold c.args.set.now (slice_index c.args.longest.now) c.args.certificate.now c.args.i) (c.has_room.ensures.0 c.if-not-has_room.false))
     (fails_first (TimesHold c.args.set.now (slice_index c.args.longest.now) c.args.certificate.now c.args.i) Response (record { clause = 9; place = 0 }) refl refl refl (λ h. c.if-from.true (omega (arith, h, r, w, j, c.from.ensures, c.from-2.ensures, c.from-3.ensures)))))
@@ -32,8 +33,8 @@ returns-then-part-task c =
     let part : cert_at c.args.certificate.now c.args.i ≡ c.index-as_slice-i-2.result = (part_is c.args.certificate.now c.args.i c.index-as_slice-i-2.result c.requires.higher.tasks (subst (λ (xs : List TaskPart). c.index-as_slice-i-2.result ≡ get_or xs c.args.i c.index-as_slice-i-2.result) c.as_slice-2.ensures c.index-as_slice-i-2.is)) in
     let r : (cert_at c.args.certificate.now c.args.i).response ≡ c.index-as_slice-i-2.result.response = ap (λ (t : TaskPart). t.response) part in
     let w : (cert_at c.args.certificate.now c.args.i).window ≡ c.index-as_slice-i-2.result.window = ap (λ (t : TaskPart). t.window) part in
-    let j = jitter_at c.args.set.now c.args.i c.index-as_slice-i.result c.requires.task (subst (λ (xs : List TaskSpec). c.index-as_slice-i.result ≡ get_or xs c.args.i c.index-as_slice-i.result) c.as_slice.ensures c.index-as_slice-i.is) in
-    let d = deadline_at c.args.set.now c.args.i c.index-as_slice-i.result c.requires.task (subst (λ (xs : List TaskSpec). c.index-as_slice-i.result ≡ get_or xs c.args.i c.index-as_slice-i.result) c.as_slice.ensures c.index-as_slice-i.is) in
+    let j = jitter_is c.args.set.now c.args.i c.index-as_slice-i.result c.requires.task (subst (λ (xs : List TaskSpec). c.index-as_slice-i.result ≡ get_or xs c.args.i c.index-as_slice-i.result) c.as_slice.ensures c.index-as_slice-i.is) in
+    let d = deadline_is c.args.set.now c.args.i c.index-as_slice-i.result c.requires.task (subst (λ (xs : List TaskSpec). c.index-as_slice-i.result ≡ get_or xs c.args.i c.index-as_slice-i.result) c.as_slice.ensures c.index-as_slice-i.is) in
     subst (λ r. IsFound (TimesHold c.args.set.now (slice_index c.args.longest.now) c.args.certificate.now c.args.i) 8 9 r) (sym c.at-then-part-task.ensures)
     (then_found (TimesHold c.args.set.now (slice_index c.args.longest.now) c.args.certificate.now c.args.i) 8 8 9 (Some (record { clause = 9; place = 1 })) (omega arith) (omega arith) (only_window (TimesHold c.args.set.now (slice_index c.args.longest.now) c.args.certificate.now c.args.i) (c.has_room.ensures.0 c.if-not-has_room.false))
     (fails_later (TimesHold c.args.set.now (slice_index c.args.longest.now) c.args.certificate.now c.args.i) Deadline (record { clause = 9; place = 1 }) refl refl (before_deadline (TimesHold c.args.set.now (slice_index c.args.longest.now) c.args.certificate.now c.args.i) (omega (arith, c.if-from.false, r, w, j, c.from.ensures, c.from-2.ensures, c.from-3.ensures)))

@@ -2,6 +2,7 @@ use Rattle.std.proofs.Common.{◌≡◌, ℕ, ◌+◌, ◌<◌, ◌≤◌, lengt
 use Rattle.std.specs.Prelude.{slice_index}
 use Rattle.crpd_base.specs.Tasks.{jitter_of, deadline_of}
 use Rattle.delay_count.specs.Gamma.{part_at}
+use Rattle.delay_count.specs.Demand.{demand}
 use Rattle.response.specs.Windows.{AreChoices, window_at}
 use Rattle.response.proofs.choice.windows.Given as goal
 
@@ -11,5 +12,5 @@ invariant-loop-i l = record {
   room : length l.found ≡ 32;
   same : (k : ℕ) → k < l.i → get_or l.found k 0 ≡ window_at l.choices.items k;
   in_deadline : (k : ℕ) → k < l.i → get_or l.found k 0 + jitter_of l.set k ≤ deadline_of l.set k;
-  each : AreChoices l.set (part_at l.parts) (slice_index l.longest) l.choices.items l.i;
+  each : AreChoices l.set (demand l.set (part_at l.parts) (slice_index l.longest)) l.choices.items l.i;
 }
