@@ -4,7 +4,7 @@ ghost use Rattle.crpd_base.specs.Ranges.{IsTaskSet};
 ghost use Rattle.loop_regions.specs.Nest.{Nest};
 ghost use Rattle.preempt_machine.specs.Kept.{completion, line_at};
 ghost use Rattle.run_account.specs.Idle.{IsIdle, IsIdleUntil};
-ghost use Rattle.preempt_machine.specs.Running.{job_id, HasPlans};
+ghost use Rattle.preempt_machine.specs.Running.{HasPlans};
 ghost use Rattle.preempt_machine.specs.Safe.{IsKept, NamesTasks};
 ghost use Rattle.preempt_machine.specs.Step.{state};
 ghost use Rattle.run_account.specs.Account.{told_by, IsAccount, HasAccountFacts};
