@@ -23,10 +23,10 @@ use Rattle.run_account.specs.Facts.{AreSetsMet, LedgerFacts}
 use Rattle.run_account.specs.Fetches.{HasCache}
 use Rattle.run_account.specs.Nodes.{task_of}
 use Rattle.run_account.specs.Walks.{HasGraphs}
-use Rattle.run_account.specs.Shown.{start_of_script}
+use Rattle.preempt_machine.specs.Starts.{start_of_script}
 use Rattle.run_account.specs.declared.told.Account.{Account}
 use Rattle.run_account.proofs.Jobs.{line_is}
-use Rattle.run_account.proofs.Ready.{cache_length}
+use Rattle.preempt_machine.proofs.Loads.{start_cache_length}
 use Rattle.sound_laws.specs.Within.{CheckedAccountIsWithinDelays, IsChecked, IsWithinDelays}
 use Rattle.crpd_io.specs.Outside.{Contents}
 use Rattle.crpd_input.specs.declared.input.Input.{Input}
@@ -90,7 +90,7 @@ module _ (input : Input) (shapes : Shapes) (c : Certificate) (given : Script) (i
   cached : HasCache start
   cached =
       let sets = is.ranges.platform.sets in
-      let room : length (start.cache) ≡ 512 = cache_length input.set.platform given.cache in
+      let room : length (start.cache) ≡ 512 = start_cache_length input.set.platform given.cache in
       record { size = omega (arith, sets.1, room); some_set = omega (arith, sets.0) }
 
   checked : YesLaw → IsChecked input.set input.code graphs c

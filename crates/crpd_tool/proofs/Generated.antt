@@ -19,7 +19,7 @@ use Rattle.cert_check.specs.declared.outcome.Verdict.TheVariants.{Yes, No}
 use Rattle.preempt_machine.specs.Machine.{Job, no_job, plan_of}
 use Rattle.preempt_machine.specs.Safe.{IsKept, IsSafeWith, system_of}
 use Rattle.preempt_machine.specs.Step.{Start, state}
-use Rattle.preempt_fast.specs.Fast.{start_of}
+use Rattle.preempt_machine.specs.Starts.{start_of_script}
 use Rattle.run_account.proofs.Jobs.{jobs_length, line_is}
 use Rattle.sound_laws.specs.Headline.{CheckedCodeIsSafe}
 use Rattle.crpd_io.specs.Outside.{Contents}
@@ -119,7 +119,7 @@ module _ (safe_law : CheckedCodeIsSafe) (yes_law : YesLaw) (none_law : NoneLateL
   none_late : (input : Input) (c : Certificate) → made_input n ≡ Ok input → IsSafeWith input.set input.code (responses c) → IsKept (run_of input script)
       → late_count script c (completions_of (run_of input script)) ≡ 0
   none_late input c is safely kept =
-      let s = start_of input.set input.code script in
+      let s = start_of_script input.set input.code script in
       none_law script c (run_of input script) (lines_are s script.cycles) (safely s script.cycles refl (made_run n input is) kept)
 
   said : (input : Input) (shapes : Shapes) (c : Certificate) (kept : Bool) (text : List ℕ) → is_legal input.set script.jobs ≡ true

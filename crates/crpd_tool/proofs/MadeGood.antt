@@ -3,8 +3,8 @@ use Rattle.std.proofs.Common.{◌≡◌, ℕ, length, Ok, ap, sym, subst, ◌∙
 use Rattle.crpd_base.specs.Ranges.{IsTaskSet}
 use Rattle.script_reader.specs.Legal.{IsLegal}
 use Rattle.preempt_machine.specs.Safe.{IsLegalRun, NamesTasks}
-use Rattle.preempt_fast.specs.Fast.{start_of}
-use Rattle.run_account.proofs.Ready.{cache_length}
+use Rattle.preempt_machine.specs.Starts.{start_of_script}
+use Rattle.preempt_machine.proofs.Loads.{start_cache_length}
 use Rattle.gen_tasks.specs.Made.{made}
 use Rattle.gen_tasks.proofs.MadeLaw.{made_in_set, made_legal, made_set_is}
 use Rattle.crpd_input.specs.declared.input.Input.{Input}
@@ -38,12 +38,12 @@ made_planned n input e =
     code_planned (held (named_files (made n).set (made n).files)) made_name (made n).set input.code M.code ∙ sym (ap (λ s. length s.tasks) M.set)
 
 -- the run of the made script is a legal one
-pub made_run : (n : ℕ) (input : Input) → made_input n ≡ Ok input → IsLegalRun input.set (start_of input.set input.code (made n).script)
+pub made_run : (n : ℕ) (input : Input) → made_input n ≡ Ok input → IsLegalRun input.set (start_of_script input.set input.code (made n).script)
 made_run n input e =
     let M = made_parts n input e in
     let good = made_good n input e in
     record {
-      cache = omega (arith, good.ranges.platform.sets, cache_length input.set.platform (made n).script.cache);
+      cache = omega (arith, good.ranges.platform.sets, start_cache_length input.set.platform (made n).script.cache);
       memory = made_start n input.code M.code;
       tasks = subst (λ s. NamesTasks s (made n).script.jobs) (sym M.set) (made_in_set n);
       legal = subst (λ s. IsLegal s (made n).script.jobs) (sym M.set) (made_legal n);

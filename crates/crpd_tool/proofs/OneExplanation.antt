@@ -11,7 +11,7 @@ use Rattle.loop_regions.specs.CodeNest.{CodeNest}
 use Rattle.preempt_machine.specs.Step.{Fetch, Start}
 use Rattle.run_account.specs.Account.{IsAccount, told}
 use Rattle.run_account.specs.Ledger.{IsEntry, IsEvicted, IsLedger, IsOfRun, IsPreempted, LedgerEntry}
-use Rattle.run_account.specs.Shown.{start_of_script}
+use Rattle.preempt_machine.specs.Starts.{start_of_script}
 use Rattle.run_account.specs.declared.told.Account.{Account}
 use Rattle.run_account.specs.declared.told.Entry.{Entry}
 use Rattle.run_account.proofs.OneLedger.{one_ledger}

@@ -9,7 +9,7 @@ use Rattle.cert_check.specs.Verdict.{IsJudged}
 use Rattle.cert_check.specs.declared.outcome.Verdict.{Verdict}
 use Rattle.cert_check.specs.declared.outcome.Verdict.TheVariants.{Yes, No}
 use Rattle.run_account.specs.Account.{IsAccount}
-use Rattle.run_account.specs.Shown.{start_of_script}
+use Rattle.preempt_machine.specs.Starts.{start_of_script}
 use Rattle.run_account.specs.declared.told.Account.{Account}
 use Rattle.crpd_io.specs.Outside.{Contents}
 use Rattle.crpd_report.specs.Explain.{delay_lines, reload_lines}

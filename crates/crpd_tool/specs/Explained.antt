@@ -7,7 +7,7 @@ use Rattle.cert_check.specs.Shown.{shown_at}
 use Rattle.cert_check.specs.Verdict.{IsJudged, Yes}
 use Rattle.preempt_machine.specs.Safe.{IsKept}
 use Rattle.run_account.specs.Account.{HasAccountFacts, IsAccount}
-use Rattle.run_account.specs.Shown.{start_of_script}
+use Rattle.preempt_machine.specs.Starts.{start_of_script}
 use Rattle.run_account.specs.declared.told.Account.{Account}
 use Rattle.sound_laws.specs.Within.{IsWithinDelays}
 use Rattle.crpd_io.specs.Outside.{Contents}

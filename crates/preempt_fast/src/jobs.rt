@@ -6,7 +6,7 @@ ghost use Rattle.icache.specs.Cache.{accessed, block_of, is_hit, set_of};
 ghost use Rattle.flow_watch.specs.Turns.{HasTurns};
 ghost use Rattle.flow_watch.specs.Quiet.{AreQuiet, IsArrival};
 ghost use Rattle.preempt_machine.specs.Machine.{System, Open, plan_of};
-ghost use Rattle.preempt_machine.specs.Step.{fetch_cost, fetched, goes_on, went};
+ghost use Rattle.preempt_machine.specs.Step.{fetch_cost, fetched, went};
 ghost use Rattle.preempt_machine.specs.Running.{system_by, HasPlan};
 ghost use Rattle.preempt_machine.specs.Jobs.{turn_by};
 ghost use Rattle.preempt_fast.specs.Decodings.{AreCosts, AreDecoded};
@@ -16,7 +16,7 @@ use crate::decoded::{Decoded, Decoding};
 use code_map::CodeMap;
 use crpd_base::{Memory, SETS, TaskPlan};
 use icache::{Access, Cache, Geometry};
-use preempt_machine::Job;
+use preempt_machine::{Job, is_taken};
 use rv_core::{DataMemory, Next};
 use rv_decode::Ins;
 
@@ -27,16 +27,6 @@ pub(crate) struct Core {
     pub(crate) cache: Cache<SETS>,
     pub(crate) memory: DataMemory,
     pub(crate) decoded: Decoded,
-}
-
-/// Whether a branch or a jump is taken, where it goes on so.
-fn is_taken(next: Next, pc: u32) -> bool
-    ensures { result ≡ not (goes_on next pc) }
-{
-    match next {
-        Next::Goto(to) => to != pc.wrapping_add(4),
-        Next::Answer | Next::Fault => false,
-    }
 }
 
 impl Core {

@@ -2,8 +2,8 @@
 ghost use Rattle.std.specs.Prelude.{◌≡◌, ◌<◌, ◌≤◌, ◌^◌, length, IfOk};
 ghost use Rattle.preempt_machine.specs.Machine.{started};
 ghost use Rattle.preempt_machine.specs.Safe.{system_of, NamesTasks};
-ghost use Rattle.preempt_machine.specs.Starts.{start_cache, start_memory};
-ghost use Rattle.preempt_fast.specs.Fast.{state_after, IsOutcome};
+ghost use Rattle.preempt_machine.specs.Starts.{start_cache, start_memory, state_after};
+ghost use Rattle.preempt_fast.specs.Fast.{IsOutcome};
 ghost use Rattle.preempt_fast.specs.Parts.{machine_of, IsMachine, IsRunOf};
 
 use crate::decoded::Decoded;
@@ -12,9 +12,7 @@ use crate::parts::Parts;
 use code_map::CodeMap;
 use crpd_base::{Memory, Script, TaskSet};
 use icache::Geometry;
-use preempt_machine::{
-    Completion, Queue, are_kept, start_cache, start_completions, start_jobs, start_memory,
-};
+use preempt_machine::{Completion, Schedule, start_cache, start_memory};
 use std::alloc::Global;
 
 /// The parts at the start of a script: from the script's cache and the bytes of the files, with no owner, and all jobs
@@ -31,12 +29,8 @@ fn load(alloc: Global, code: &CodeMap, set: &TaskSet, script: &Script) -> Result
     ensures run { IfOk result (IsRunOf code.now) }
     ensures platform { IfOk result (λ parts. parts.core.geometry.platform ≡ set.now.platform) }
 {
-    let lines = script.jobs.as_slice();
-    let tasks = set.tasks.as_slice().len();
     let memory = start_memory(alloc, code)?;
-    let jobs = start_jobs(alloc, code, lines)?;
-    let completions = start_completions(alloc, lines, tasks)?;
-    let queue = Queue::new(alloc, lines, tasks)?;
+    let schedule = Schedule::new(alloc, code, set, script)?;
     let geometry = Geometry::new(&set.platform);
     let decoded = Decoded::new(alloc, code, &geometry)?;
     Ok(Parts {
@@ -46,12 +40,7 @@ fn load(alloc: Global, code: &CodeMap, set: &TaskSet, script: &Script) -> Result
             memory,
             decoded,
         },
-        steps: 0,
-        owner: None,
-        switch_left: 0,
-        jobs,
-        completions,
-        queue,
+        schedule,
     })
 }
 
@@ -78,9 +67,10 @@ pub fn run_fast(
     ensures { IfOk result (λ outcome. IsOutcome (state_after set.now code.now script.now) outcome.0.items outcome.1) }
 {
     let mut parts = load(alloc, code, set, script)?;
-    while parts.steps < script.cycles {
+    while parts.schedule.steps < script.cycles {
         parts.leap(code, script.cycles)?;
     }
-    let kept = are_kept(parts.jobs.as_slice());
-    Ok((parts.completions, kept))
+    let schedule = parts.schedule;
+    let kept = schedule.are_kept();
+    Ok((schedule.completions, kept))
 }

@@ -1,13 +1,13 @@
 -- What loops over blocks, bytes, segments and files have put so far.
-use Rattle.std.proofs.Common.{◌≡◌, ℕ, ◌+◌, ◌<◌, List, [], ◌∷◌, ◌++◌, length, take, None, refl, sym, ◌∙◌, ap, arith, get_or}
+use Rattle.std.proofs.Common.{◌≡◌, ℕ, ◌+◌, ◌<◌, List, [], ◌∷◌, ◌++◌, length, take, Option, Some, None, refl, sym, ◌∙◌, ap, arith, get_or, length-set}
 use Rattle.std.specs.Prelude.{replicate}
 use Rattle.std.proofs.lemmas.List.{ext_get_or, get_or-replicate, length-replicate, take_more}
 use Rattle.crpd_base.specs.declared.data.Image.{Image}
 use Rattle.crpd_base.specs.declared.data.Platform.{Platform}
 use Rattle.crpd_base.specs.declared.data.Segment.{Segment}
-use Rattle.icache.specs.Cache.{Cache, accessed, held}
+use Rattle.icache.specs.Cache.{Cache, accessed, held, set_of}
 use Rattle.rv_core.specs.Memory.{Memory, put_all, put_byte}
-use Rattle.preempt_machine.specs.Starts.{with_blocks, with_bytes, with_images, with_segment, with_segments}
+use Rattle.preempt_machine.specs.Starts.{start_cache, with_blocks, with_bytes, with_images, with_segment, with_segments}
 
 -- one more at the end
 blocks_more : (p : Platform) (cache : Cache) (xs : List ℕ) (b : ℕ) → with_blocks p cache (xs ++ b ∷ []) ≡ accessed p (with_blocks p cache xs) b
@@ -41,3 +41,12 @@ next_image memory xs i d h = ap (with_images memory) (take_more xs i d h) ∙ im
 pub empty_is : (n : ℕ) (cache : Cache) → length cache ≡ n → ((set : ℕ) → held cache set ≡ None) → cache ≡ replicate n None
 empty_is n cache long none =
     ext_get_or None cache (replicate n None) (long ∙ sym (length-replicate n None)) (λ i h. none i ∙ sym (get_or-replicate n i None None (omega (arith, long))))
+
+-- the cache at the start of a script has room for 512 sets
+blocks_length : (p : Platform) (cache : Cache) (blocks : List ℕ) → length (with_blocks p cache blocks) ≡ length cache
+blocks_length p cache [] = refl
+blocks_length p cache (b ∷ blocks) = blocks_length p (accessed p cache b) blocks ∙ length-set cache (set_of p b) (Some b)
+
+pub start_cache_length : (p : Platform) (blocks : List ℕ) → length (start_cache p blocks) ≡ 512
+unfolding start_cache
+start_cache_length p blocks = blocks_length p (replicate 512 None) blocks ∙ length-replicate {A = Option ℕ} 512 None

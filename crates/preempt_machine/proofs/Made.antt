@@ -43,7 +43,7 @@ made_once code old new h =
 running : Platform → Machine → Option told.Fetch → Running
 running p m f = record { platform = p; state = m; fetch = f }
 
-pub one_made : (code : Code) (old new : Parts) (cycle : ℕ) → old.steps < cycle → HasStepped (system_by old.core.geometry.platform code) old new → HasMade code cycle (running_of old) (running_of new)
+pub one_made : (code : Code) (old new : Parts) (cycle : ℕ) → old.schedule.steps < cycle → HasStepped (system_by old.core.geometry.platform code) old new → HasMade code cycle (running_of old) (running_of new)
 unfolding running
 one_made code old new cycle less h =
     let sys = system_by old.core.geometry.platform code in

@@ -66,7 +66,7 @@ keeps_why sys m o e Instruction q k (between l) = false≢true (ap (λ n. nat_lt
 keeps_why sys m o e Instruction q k (new_owner ne) = ne e
 keeps_why sys m o e Instruction q k (any_cycle c) = cc
 
-keeps_ready : (s : Switching) (time : ℕ) (job : Job) → keeps_core s time job ≡ true → is_ready time job ≡ true
+pub keeps_ready : (s : Switching) (time : ℕ) (job : Job) → keeps_core s time job ≡ true → is_ready time job ≡ true
 keeps_ready Cycle time job k = absurd (false≢true k)
 keeps_ready Instruction time job k = (and_parts _ _ k).0
 

@@ -20,7 +20,7 @@ use Rattle.preempt_machine.specs.Kept.{task_at, place_at, lines_of, machine_of, 
 use Rattle.preempt_machine.specs.Running.{fetch_told, job_id, HasPlan, HasPlans}
 use Rattle.preempt_machine.specs.declared.parts.Parts.{Parts}
 use Rattle.preempt_machine.proofs.Firsts.{line_is, lines_long}
-use Rattle.preempt_machine.proofs.Steps.{ready_open}
+use Rattle.preempt_machine.proofs.Steps.{keeps_ready, ready_open}
 
 -- a turn with so many switch cycles left
 with_switch : (sys : System) (m : Machine) (i k : ℕ) → (turn_of sys m i).switch_left ≡ k → turn_of sys m i ≡ turn_by m.cache m.memory k (job_at m.jobs i)
@@ -72,10 +72,6 @@ pub candidate_is : (sys : System) (m : Machine) → candidate sys m ≡ (if owne
 unfolding candidate
 candidate_is sys m = by_owner sys m m.owner
 
-keeps_ready : (s : Switching) (time : ℕ) (job : Job) → keeps_core s time job ≡ true → is_ready time job ≡ true
-keeps_ready Cycle time job h = absurd (false≢true h)
-keeps_ready Instruction time job h = (and_parts _ _ h).0
-
 -- an open owner is the first of its task
 pub owner_head : (jobs : List Job) (due : List (ℕ × ℕ)) (heads : List ℕ) (o : ℕ) → IsDue (lines_of jobs) due → IsWaiting (lines_of jobs) due heads jobs → IsOwner jobs due heads o → is_open (job_at jobs o).standing ≡ true → IsHead jobs due heads o
 owner_head jobs due heads o d w h t =
@@ -108,10 +104,10 @@ come_head jobs due heads now (Some x) d w f =
     }
 
 -- the plans after a turn
-pub plans_turned : (sys : System) (code : Code) (old new : Parts) (place : ℕ) → place < length old.jobs.items → HasTurned sys old new place → HasPlans code (machine_of old) → HasPlan code.plans (job_at new.jobs.items place) → HasPlans code (machine_of new)
+pub plans_turned : (sys : System) (code : Code) (old new : Parts) (place : ℕ) → place < length old.schedule.jobs.items → HasTurned sys old new place → HasPlans code (machine_of old) → HasPlan code.plans (job_at new.schedule.jobs.items place) → HasPlans code (machine_of new)
 plans_turned sys code old new place below turn all one =
-    let job = (turned sys old.steps (turn_of sys (machine_of old) place)).job in
-    let jobs : new.jobs.items ≡ slice_set old.jobs.items place job = ap (λ (m : Machine). m.jobs) turn.state in
-    let own : job_at new.jobs.items place ≡ job = ap (λ (js : List Job). job_at js place) jobs ∙ get_or-set_same old.jobs.items place job no_job below in
+    let job = (turned sys old.schedule.steps (turn_of sys (machine_of old) place)).job in
+    let jobs : new.schedule.jobs.items ≡ slice_set old.schedule.jobs.items place job = ap (λ (m : Machine). m.jobs) turn.state in
+    let own : job_at new.schedule.jobs.items place ≡ job = ap (λ (js : List Job). job_at js place) jobs ∙ get_or-set_same old.schedule.jobs.items place job no_job below in
     subst (λ (js : List Job). (x : ℕ) → x < length js → HasPlan code.plans (job_at js x)) (sym jobs)
-    (plans_set code.plans old.jobs.items place job all (subst (λ (j : Job). HasPlan code.plans j) own one))
+    (plans_set code.plans old.schedule.jobs.items place job all (subst (λ (j : Job). HasPlan code.plans j) own one))

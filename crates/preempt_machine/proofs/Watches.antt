@@ -1,6 +1,6 @@
 -- A broken watch stays broken; so a flag that is looked at for the owner alone tells whether no watch is broken.
 use Rattle.std.proofs.Common.{◌≡◌, ◌≢◌, ℕ, ◌<◌, Bool, true, false, ◌&&◌, List, length, Option, Some, None, refl, sym, ◌∙◌, ap, subst, inl, inr, ◌⊎◌, arith}
-use Rattle.std.specs.Prelude.{◌==◌, ◌↔◌, nat_lt, IsTrue}
+use Rattle.std.specs.Prelude.{◌↔◌, nat_lt, IsTrue}
 use Rattle.std.proofs.lemmas.Bool.{cases_Bool, cases_eq, and_from, and_parts, false≢true, true≢false}
 use Rattle.std.proofs.lemmas.List.{get_or_default}
 use Rattle.crpd_base.specs.declared.data.TaskPlan.{TaskPlan}
@@ -14,6 +14,7 @@ use Rattle.preempt_machine.specs.Machine.{System, Job, Machine, ins_at, job_at, 
 use Rattle.preempt_machine.specs.Safe.{IsKept}
 use Rattle.preempt_machine.specs.Step.{Turn, candidate, executed, fetched, step, turned, turn_of, went, worked}
 use Rattle.preempt_machine.proofs.Steps.{some_injective, step_length, step_other, step_own}
+use Rattle.preempt_machine.proofs.TurnLaws.{fetched_watch}
 
 step_none : (plan : TaskPlan) (from : ℕ) (ins : Ins) (to : ℕ) → watch_step plan None from ins to ≡ None
 unfolding watch_step
@@ -27,9 +28,6 @@ went_watch sys n ins t Fault e = e
 worked_watch : (sys : System) (n : ℕ) (ins : Ins) (t : Turn) → t.job.watch ≡ None → (worked sys n ins t).job.watch ≡ None
 worked_watch sys n ins t e =
     elim (cases_Bool (nat_lt 1 t.job.left)) [ inl b ↦ rw b e | inr b ↦ rw b (went_watch sys n ins t (next_pc ins t.job.pc t.job.registers) e) ]
-
-fetched_watch : (sys : System) (ins : Ins) (t : Turn) → (fetched sys ins t).job.watch ≡ t.job.watch
-fetched_watch sys ins t = elim (cases_Bool (t.job.left == 0)) [ inl b ↦ rw b | inr b ↦ rw b ]
 
 executed_watch : (sys : System) (n : ℕ) (t : Turn) (ins : Option Ins) → t.job.watch ≡ None → (executed sys n t ins).job.watch ≡ None
 executed_watch sys n t None e = e

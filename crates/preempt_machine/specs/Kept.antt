@@ -5,7 +5,10 @@ use Rattle.crpd_base.specs.declared.data.Switching.{Switching}
 use Rattle.code_map.specs.Words.{Code}
 use Rattle.preempt_machine.specs.declared.Completion.{Completion}
 use Rattle.preempt_machine.specs.declared.End.TheVariants as «end»
+use Rattle.icache.specs.Cache.{Cache}
+use Rattle.rv_core.specs.Memory.{Memory}
 use Rattle.preempt_machine.specs.declared.parts.Parts.{Parts}
+use Rattle.preempt_machine.specs.declared.schedule.Schedule.{Schedule}
 use Rattle.preempt_machine.specs.Machine.{System, Job, Machine, job_at, no_job}
 use Rattle.preempt_machine.specs.Step.{is_open, is_ready, keeps_core, placed, turned, turn_of, fetch, fetch_by, step}
 use Rattle.preempt_machine.specs.Jobs.{shown}
@@ -109,17 +112,21 @@ pub record IsNextRelease (due : List (ℕ × ℕ)) (released until time : ℕ) :
 abbrev pub lines_of : List Job → List ScriptJob
 lines_of jobs = map (λ (job : Job). job.line) jobs
 
+-- the state that a schedule holds beside a cache and a data memory
+abbrev pub machine_by : Cache → Memory → Schedule → Machine
+machine_by cache memory s =
+    record {
+      time = s.steps;
+      cache = cache;
+      memory = memory;
+      owner = s.owner;
+      switch_left = s.switch_left;
+      jobs = s.jobs.items;
+    }
+
 -- the state that the parts hold
 abbrev pub machine_of : Parts → Machine
-machine_of p =
-    record {
-      time = p.steps;
-      cache = p.core.cache;
-      memory = p.core.memory;
-      owner = p.owner;
-      switch_left = p.switch_left;
-      jobs = p.jobs.items;
-    }
+machine_of p = machine_by p.core.cache p.core.memory p.schedule
 
 -- an owner is a job of the script, and the first of its task while it is open
 pub record IsOwner (jobs : List Job) (due : List (ℕ × ℕ)) (heads : List ℕ) (o : ℕ) : Type 0 where
@@ -144,9 +151,13 @@ pub record IsKept (sets : ℕ) (m : Machine) (order : List (ℕ × ℕ)) (links 
   pub completions : (x : ℕ) → x < length m.jobs → completion cs x ≡ completion_at m x
   pub owner : (o : ℕ) → m.owner ≡ Some o → IsOwner m.jobs order firsts o
 
+-- a schedule holds a state with its order and completions
+abbrev pub IsScheduled : ℕ → Cache → Memory → Schedule → Type 0
+IsScheduled sets cache memory s =
+    IsKept sets (machine_by cache memory s) s.queue.due.items s.queue.later.items s.queue.heads.items s.queue.released s.completions.items
+
 abbrev pub IsMachine : Parts → Type 0
-IsMachine p =
-    IsKept p.core.geometry.platform.sets (machine_of p) p.queue.due.items p.queue.later.items p.queue.heads.items p.queue.released p.completions.items
+IsMachine p = IsScheduled p.core.geometry.platform.sets p.core.cache p.core.memory p.schedule
 
 -- what contracts see of the parts
 abbrev pub running_of : Parts → Running
@@ -165,11 +176,20 @@ pub record AreReleased (due : List (ℕ × ℕ)) (time from to : ℕ) (cs new : 
   pub come : (p : ℕ) → from ≤ p → p < to → release_at due p ≤ time
   pub wait : to < length due → time < release_at due to
 
--- a cycle has passed
-pub record HasPassed (old new : Parts) : Type 0 where
-  pub state : machine_of new ≡ record (machine_of old) { time = suc old.steps }
-  pub fetch : new.fetch ≡ old.fetch
-  pub geometry : new.core.geometry ≡ old.core.geometry
+-- the jobs that are released in a step are told to be open, and nothing else changes
+pub record HasTold (old new : Schedule) : Type 0 where
+  pub steps : new.steps ≡ old.steps
+  pub owner : new.owner ≡ old.owner
+  pub switch_left : new.switch_left ≡ old.switch_left
+  pub jobs : new.jobs ≡ old.jobs
+  pub due : new.queue.due.items ≡ old.queue.due.items
+  pub later : new.queue.later.items ≡ old.queue.later.items
+  pub heads : new.queue.heads.items ≡ old.queue.heads.items
+  pub released : AreReleased old.queue.due.items old.steps old.queue.released new.queue.released old.completions.items new.completions.items
+
+-- a cycle has passed: the jobs that are released in it are told to be open, and it is counted
+pub record HasPassed (old new : Schedule) : Type 0 where
+  pub state : (cache : Cache) (memory : Memory) → machine_by cache memory new ≡ record (machine_by cache memory old) { time = suc old.steps }
   pub due : new.queue.due.items ≡ old.queue.due.items
   pub later : new.queue.later.items ≡ old.queue.later.items
   pub heads : new.queue.heads.items ≡ old.queue.heads.items
@@ -188,26 +208,24 @@ completions_after jobs cs x =
 
 -- the job at a place had its turn at this time, which is not told yet
 pub record HasTurned (sys : System) (old new : Parts) (place : ℕ) : Type 0 where
-  pub state : record (machine_of new) { time = suc old.steps } ≡ placed (machine_of old) place (turned sys old.steps (turn_of sys (machine_of old) place))
-  pub steps : new.steps ≡ old.steps
+  pub state : record (machine_of new) { time = suc old.schedule.steps } ≡ placed (machine_of old) place (turned sys old.schedule.steps (turn_of sys (machine_of old) place))
+  pub steps : new.schedule.steps ≡ old.schedule.steps
   pub fetch : new.fetch ≡ option_map (fetch_told sys (machine_of old)) (fetch_by sys (machine_of old) (Some place))
   pub geometry : new.core.geometry ≡ old.core.geometry
-  pub completions : new.completions ≡ old.completions
-  pub queue : new.queue ≡ old.queue
+  pub completions : new.schedule.completions ≡ old.schedule.completions
+  pub queue : new.schedule.queue ≡ old.schedule.queue
 
 -- nothing changed
 pub record IsSame (old new : Parts) : Type 0 where
   pub state : machine_of new ≡ machine_of old
   pub fetch : new.fetch ≡ old.fetch
   pub geometry : new.core.geometry ≡ old.core.geometry
-  pub completions : new.completions ≡ old.completions
-  pub queue : new.queue ≡ old.queue
+  pub completions : new.schedule.completions ≡ old.schedule.completions
+  pub queue : new.schedule.queue ≡ old.schedule.queue
 
--- the first job of its task is told to be over, where it is
-pub record HasSettled (old new : Parts) (place : ℕ) : Type 0 where
-  pub state : machine_of new ≡ machine_of old
-  pub fetch : new.fetch ≡ old.fetch
-  pub geometry : new.core.geometry ≡ old.core.geometry
+-- the first job of its task is told to be over, where it is, and nothing else changes
+pub record HasSettled (old new : Schedule) (place : ℕ) : Type 0 where
+  pub state : (cache : Cache) (memory : Memory) → machine_by cache memory new ≡ machine_by cache memory old
   pub due : new.queue.due.items ≡ old.queue.due.items
   pub later : new.queue.later.items ≡ old.queue.later.items
   pub released : new.queue.released ≡ old.queue.released

@@ -1,10 +1,16 @@
--- The cache and the data memory that a script starts from.
+-- What the run of a script starts from, and what it comes to.
 use Rattle.std.specs.Prelude.{ℕ, ◌+◌, List, [], ◌∷◌, replicate, None}
 use Rattle.crpd_base.specs.declared.data.Image.{Image}
 use Rattle.crpd_base.specs.declared.data.Platform.{Platform}
+use Rattle.crpd_base.specs.declared.data.Script.{Script}
 use Rattle.crpd_base.specs.declared.data.Segment.{Segment}
+use Rattle.crpd_base.specs.declared.data.TaskSet.{TaskSet}
 use Rattle.icache.specs.Cache.{Cache, accessed}
 use Rattle.rv_core.specs.Memory.{Memory, put_byte, clear_bytes}
+use Rattle.code_map.specs.Words.{Code}
+use Rattle.preempt_machine.specs.Machine.{Machine}
+use Rattle.preempt_machine.specs.Safe.{system_of}
+use Rattle.preempt_machine.specs.Step.{Start, state}
 
 -- each block stands in its cache set, a later one over an earlier one
 abbrev pub with_blocks : Platform → Cache → List ℕ → Cache
@@ -36,3 +42,17 @@ with_images memory (i ∷ images) = with_images (with_segments memory i.segments
 -- the data memory at the start of a script: all else is 0
 unfoldable pub start_memory : List Image → Memory
 start_memory images = with_images [] images
+
+-- what the run of a script starts from
+abbrev pub start_of_script : TaskSet → Code → Script → Start
+start_of_script set code script =
+    record {
+      system = system_of set code;
+      cache = start_cache set.platform script.cache;
+      memory = start_memory code.images;
+      lines = script.jobs;
+    }
+
+-- the state after the script's cycles
+abbrev pub state_after : TaskSet → Code → Script → Machine
+state_after set code script = state (start_of_script set code script) script.cycles

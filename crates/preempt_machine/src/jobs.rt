@@ -1,5 +1,5 @@
 // The jobs, and what a job does with the core while it has it.
-ghost use Rattle.std.specs.Prelude.{◌≡◌, ℕ, suc, ◌+◌, ◌<◌, ◌≤◌, ◌^◌, ◌⊎◌, ◌∷◌, ◌==◌, if◌then◌else◌, replicate, length, Some, None, IfSome, IfOk, IsOk, OnOk, OnErr};
+ghost use Rattle.std.specs.Prelude.{◌≡◌, ℕ, suc, ◌+◌, ◌<◌, ◌≤◌, ◌^◌, ◌⊎◌, ◌∷◌, ◌==◌, if◌then◌else◌, not, replicate, length, Some, None, IfSome, IfOk, IsOk, OnOk, OnErr};
 ghost use Rattle.crpd_base.specs.declared.data.Platform.{Platform};
 ghost use Rattle.rv_decode.specs.Address.{end};
 ghost use Rattle.rv_decode.specs.Range.{IsInRange};
@@ -8,7 +8,7 @@ ghost use Rattle.icache.specs.Cache.{Cache as Blocks};
 ghost use Rattle.flow_watch.specs.Turns.{HasTurns};
 ghost use Rattle.flow_watch.specs.Watch.{step as watch_step};
 ghost use Rattle.preempt_machine.specs.Machine.{System, Open, Faulted, Answered, ins_at, new_job, plan_of};
-ghost use Rattle.preempt_machine.specs.Step.{executed, fetch_cost, fetched, is_open, is_ready, went, worked};
+ghost use Rattle.preempt_machine.specs.Step.{executed, fetch_cost, fetched, goes_on, is_open, is_ready, went, worked};
 ghost use Rattle.preempt_machine.specs.Running.{access_by, system_by, HasPlan, IsStoreNow};
 ghost use Rattle.preempt_machine.specs.Jobs.{found_by, shown, turn_by};
 
@@ -77,6 +77,18 @@ fn start_registers(plan: &TaskPlan) -> Regs
     registers.put(2, plan.stack);
     registers.put(3, plan.global);
     registers
+}
+
+/// Whether a branch or a jump at an address is taken, where it goes on so.
+/// In constant time.
+#[inline(always)]
+pub fn is_taken(next: Next, pc: u32) -> bool
+    ensures { result ≡ not (goes_on next pc) }
+{
+    match next {
+        Next::Goto(to) => to != pc.wrapping_add(4),
+        Next::Answer | Next::Fault => false,
+    }
 }
 
 impl Job {
@@ -321,10 +333,7 @@ impl Core {
             Some(held) => held != block,
             None => true,
         };
-        let taken = match job.next(ins) {
-            Next::Goto(to) => to != job.pc().wrapping_add(4),
-            Next::Answer | Next::Fault => false,
-        };
+        let taken = is_taken(job.next(ins), job.pc());
         cost(&self.geometry.platform, ins, missed, taken)
     }
 

@@ -27,11 +27,11 @@ use Rattle.run_account.proofs.OneLedger.{last_job}
 use Rattle.run_account.proofs.ReloadLaws.{fetcher_open, same_fetch, gap_is_of_higher, evictor_is_other, one_reload_per_evictor_and_set, one_job_per_preemptor}
 
 -- nodes at the end
-onto_last : (later : List ℕ) (z : ℕ) (w : List ℕ) → onto (later ++ z ∷ []) w ≡ z ∷ onto later w
+pub onto_last : (later : List ℕ) (z : ℕ) (w : List ℕ) → onto (later ++ z ∷ []) w ≡ z ∷ onto later w
 onto_last [] z w = refl
 onto_last (a ∷ later) z w = onto_last later z (a ∷ w)
 
-none_then : (a : Accesses) (s : ℕ) (xs : List ℕ) (z : ℕ) → first_access a s xs ≡ None → first_access a s (xs ++ z ∷ []) ≡ first_access a s (z ∷ [])
+pub none_then : (a : Accesses) (s : ℕ) (xs : List ℕ) (z : ℕ) → first_access a s xs ≡ None → first_access a s (xs ++ z ∷ []) ≡ first_access a s (z ∷ [])
 none_then a s [] z e = refl
 none_then a s (x ∷ xs) z e =
     elim (cases_eq (a.set x) s) [

@@ -17,7 +17,7 @@ use Rattle.loop_regions.specs.TaskGraph.{TaskGraph}
 use Rattle.evict_sets.specs.Full.{IsHit}
 use Rattle.evict_sets.specs.Clauses.{StatesMeet}
 use Rattle.evict_sets.specs.Certificate.{listed_of, cert_at}
-use Rattle.evict_sets.proofs.WalkLaws.{last_here, last_on, last_access_law}
+use Rattle.evict_sets.proofs.WalkLaws.{last_here, last_on, last_access_law, on_walk}
 use Rattle.preempt_machine.specs.Machine.{Job, plan_of, no_job}
 use Rattle.preempt_machine.specs.Safe.{IsKept}
 use Rattle.preempt_machine.specs.Step.{is_open, turn_of, makes_fetch, Fetch, Start, state, fetch_at}
@@ -32,7 +32,7 @@ use Rattle.run_account.proofs.Jobs.{jobs_length, line_is, new_at}
 use Rattle.run_account.proofs.Owners.{candidate_at, cases_some}
 use Rattle.run_account.proofs.OwnFetches.{fetch_made, fetch_not_made, own_candidate, own_keeps, own_new}
 use Rattle.run_account.proofs.ReloadLaws.{fetcher_open, same_fetch}
-use Rattle.run_account.proofs.Stands.{StandsOn, nodes_after, stands_first, turn_stands, walk_below, head_of}
+use Rattle.run_account.proofs.Stands.{StandsOn, nodes_after, stands_first, turn_stands, head_of}
 
 -- the address of the first of the nodes along steps is the place after them
 place_is : (p : Places) (plan : TaskPlan) (y : ℕ) (before : List ℕ) (steps : List Step) → map (node_at p) (y ∷ before) ≡ nodes_along plan steps → p.address y ≡ place_after plan.entry steps
@@ -47,7 +47,7 @@ module _ (s : Start) (graphs : ℕ → TaskGraph) where
   same_plan n x = ap (λ (l : ScriptJob). plan_of s.system l.task.0) (state_line s n x)
 
   -- the nodes of the fetches after a step
-  nodes_own : (n x : ℕ) → candidate_at s n ≡ Some x → fetched_nodes s graphs (suc n) x ≡ nodes_after s.system (graphs (task_of s x)) (turn_of s.system (state s n) x) (fetched_nodes s graphs n x)
+  pub nodes_own : (n x : ℕ) → candidate_at s n ≡ Some x → fetched_nodes s graphs (suc n) x ≡ nodes_after s.system (graphs (task_of s x)) (turn_of s.system (state s n) x) (fetched_nodes s graphs n x)
   nodes_own n x e =
       elim (cases_Bool (makes_fetch s.system (turn_of s.system (state s n) x))) [
         | inl m ↦ rw (fetch_made s x n e m, m, eq-eqb x x refl) refl
@@ -157,7 +157,7 @@ module _ (s : Start) (graphs : ℕ → TaskGraph) where
         let same : fetched_nodes s graphs n x ≡ S.before = rw bit at S.fetched in
         record {
           walk = subst (λ xs. IsWalk tg.graph (node_of tg (job_of s n x) ∷ xs)) (sym same) S.walk;
-          below = walk_below tg.graph ok.follows.graph (node_of tg (job_of s n x)) S.before S.walk;
+          below = on_walk tg.graph ok.follows.graph (node_of tg (job_of s n x)) S.before S.walk;
           address = place_is tg.places (plan_at s x) (node_of tg (job_of s n x)) S.before S.steps S.along ∙ sym S.place;
         }
 

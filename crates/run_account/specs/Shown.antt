@@ -27,16 +27,6 @@ abbrev pub with_nests : List CodeGraph → (ℕ → Nest) → ℕ → TaskGraph
 with_nests graphs nests i =
     record { graph = graph_of (graph_at graphs i); places = places_of (graph_at graphs i); ins = ins_of (graph_at graphs i); nest = nests i }
 
--- what a run of a script starts from
-abbrev pub start_of_script : TaskSet → Code → Script → Start
-start_of_script set code script =
-    record {
-      system = system_of set code;
-      cache = start_cache set.platform script.cache;
-      memory = start_memory code.images;
-      lines = script.jobs;
-    }
-
 -- there is a graph for each task, which is the flat graph of its code
 pub record AreGraphsOf (code : Code) (set : TaskSet) (graphs : List CodeGraph) : Type 0 where
   pub all : length graphs ≡ length set.tasks

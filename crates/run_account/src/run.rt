@@ -4,23 +4,24 @@ ghost use Rattle.crpd_base.specs.Ranges.{IsTaskSet};
 ghost use Rattle.loop_regions.specs.Nest.{Nest};
 ghost use Rattle.preempt_machine.specs.Kept.{completion, line_at};
 ghost use Rattle.run_account.specs.Idle.{IsIdle, IsIdleUntil};
-ghost use Rattle.preempt_machine.specs.Running.{job_id, HasPlans};
+ghost use Rattle.preempt_machine.specs.Running.{HasPlans};
 ghost use Rattle.preempt_machine.specs.Safe.{IsKept, NamesTasks};
 ghost use Rattle.preempt_machine.specs.Step.{state};
 ghost use Rattle.run_account.specs.Account.{told_by, IsAccount, HasAccountFacts};
 ghost use Rattle.run_account.specs.Ledger.{IsLedger};
 ghost use Rattle.run_account.specs.Runs.{graphs_in, start_in, certificate_in, AreHits, IsFetched, IsQuick, IsReady, IsRunning, IsSoFar};
-ghost use Rattle.run_account.specs.Shown.{start_of_script, with_nests, AreGraphsOf, StatesAreMet, UsefulIsMet};
+ghost use Rattle.preempt_machine.specs.Starts.{start_of_script};
+ghost use Rattle.run_account.specs.Shown.{with_nests, AreGraphsOf, StatesAreMet, UsefulIsMet};
 ghost use Rattle.run_account.specs.Trails.{entry_of, IsNoted};
 
 use crate::hits::hits;
 use crate::told::{Account, Entry};
-use crate::trails::{Reload, Trails, push};
+use crate::trails::{Reload, Trails};
 use code_map::CodeMap;
-use crpd_base::{Certificate, Items, JobId, Memory, Script, ScriptJob, TaskSet};
+use crpd_base::{Certificate, Items, Memory, Script, ScriptJob, TaskSet};
 use flat_graph::Graph;
 use icache::{Access, Geometry};
-use preempt_machine::{Completion, End, Fetch, Machine};
+use preempt_machine::{Completion, End, Fetch, Machine, push};
 use std::alloc::Global;
 
 /// Which nodes of a graph are counted as hits.
@@ -70,25 +71,6 @@ impl Run<'_> {
     {
         self.set.platform.hit + self.set.platform.miss < 2
     }
-}
-
-/// The place of a job: the one that is tried first, where it is the job's, and else by a look through the completions.
-fn place_of(completions: &[Completion], job: JobId, first: Option<usize>) -> usize
-    requires { (x : ℕ) × (x < length completions.now) × ((completion completions.now x).job ≡ job) }
-    ensures below { result < length completions.now }
-    ensures job { (completion completions.now result).job ≡ job }
-{
-    if let Some(tried) = first {
-        if tried < completions.len() && completions[tried].job == job {
-            return tried;
-        }
-    }
-    for place in 0..completions.len() {
-        if completions[place].job == job {
-            return place;
-        }
-    }
-    unreachable!()
 }
 
 /// The first cycle from now on in which a job may be ready, at most a cycle behind it; jobs by their completions.
@@ -194,7 +176,9 @@ impl Trails {
         let Some(fetch) = machine.last_fetch() else {
             return Ok(true);
         };
-        let place = place_of(machine.completions(), fetch.job, machine.owner_place());
+        let Some(place) = machine.owner_place() else {
+            unreachable!()
+        };
         let on = self.note(run, machine, &fetch, place, now)?;
         Ok(on)
     }

@@ -1,6 +1,4 @@
 -- Step 3: a job under an unbroken watch makes a kept walk of its graph.
-pub mod Numbers
-pub mod Turns
 pub mod Stands
 pub mod Walked
 pub mod KeptWalks

@@ -21,7 +21,8 @@ use Rattle.preempt_machine.specs.Step.{is_open, owns, candidate, Turn, turn_of, 
 use Rattle.preempt_machine.specs.Safe.{NamesTasks}
 use Rattle.run_account.specs.Fetches.{job_of}
 use Rattle.run_account.specs.Nodes.{task_of, plan_at, node_number, node_of}
-use Rattle.sound_laws.specs.Walks.{IsInRange, IsCodeOf, before_of, fetched_nodes}
+use Rattle.run_account.specs.Walks.{fetched_nodes}
+use Rattle.sound_laws.specs.Walks.{IsInRange, IsCodeOf, before_of}
 
 -- the rest of the walk after the instruction that is under way; none where it answers or breaks the watch
 abbrev pub rest_after : TaskPlan → TaskGraph → Potentials → Job → List ℕ → Ins → Next → ℕ

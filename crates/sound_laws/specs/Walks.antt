@@ -16,6 +16,7 @@ use Rattle.preempt_machine.specs.Step.{is_open, Fetch, Start, fetch_at}
 use Rattle.preempt_machine.specs.Safe.{NamesTasks}
 use Rattle.run_account.specs.Fetches.{job_of}
 use Rattle.run_account.specs.Nodes.{task_of, plan_at, node_of}
+use Rattle.run_account.specs.Walks.{fetched_nodes}
 
 -- what the ranges of a task set give
 pub record IsInRange (set : TaskSet) : Type 0 where
@@ -57,16 +58,6 @@ pub record IsOnWalk (words : Words) (plan : TaskPlan) (t : TaskGraph) (job : Job
 abbrev pub IsNoneOrKeptWalk : TaskGraph → List ℕ → Type 0
 IsNoneOrKeptWalk t [] = Unit {0}
 IsNoneOrKeptWalk t (y ∷ before) = IsWalk t.graph (y ∷ before) × IsKept t.nest (y ∷ before)
-
--- a fetch of a job adds its node
-abbrev pub fetched_by : Start → (ℕ → TaskGraph) → ℕ → ℕ → Option Fetch → List ℕ → List ℕ
-fetched_by s graphs n x None before = before
-fetched_by s graphs n x (Some f) before = if f.job == x then node_of (graphs (task_of s x)) (job_of s n x) ∷ before else before
-
--- the nodes of the job's fetches in the first n steps, the last one first
-abbrev pub fetched_nodes : Start → (ℕ → TaskGraph) → ℕ → ℕ → List ℕ
-fetched_nodes s graphs zero x = []
-fetched_nodes s graphs (suc n) x = fetched_by s graphs n x (fetch_at s n) (fetched_nodes s graphs n x)
 
 -- while its watch is not broken, each job's fetches are a kept walk, and an open job goes on from it
 abbrev pub FetchesAreKeptWalk : Type 0

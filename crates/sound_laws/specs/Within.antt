@@ -24,7 +24,7 @@ use Rattle.run_account.specs.Account.{IsAccount}
 use Rattle.run_account.specs.Fetches.{job_of}
 use Rattle.run_account.specs.Ledger.{IsWindowStart}
 use Rattle.run_account.specs.Nodes.{task_of}
-use Rattle.run_account.specs.Shown.{start_of_script}
+use Rattle.preempt_machine.specs.Starts.{start_of_script}
 use Rattle.sound_laws.specs.Headline.{IsUndisturbed}
 
 -- a task set in its ranges with its code, of which these are the graphs without refusals, and the judge says yes

@@ -19,25 +19,15 @@ use Rattle.preempt_machine.proofs.Steps.{fetch_says, fetch_left, none_some}
 use Rattle.run_account.specs.Fetches.{job_of, fetched_set}
 use Rattle.run_account.specs.Nodes.{task_of, node_of}
 use Rattle.run_account.specs.Reloads.{FetchesAt}
+use Rattle.run_account.proofs.EntryFacts.{none_then, onto_last}
+use Rattle.run_account.proofs.JobWalks.{nodes_fetch, nodes_step}
 use Rattle.run_account.proofs.ReloadLaws.{fetcher_open}
-use Rattle.sound_laws.specs.Walks.{IsInRange, IsCodeOf, fetched_by, fetched_nodes}
+use Rattle.run_account.specs.Walks.{fetched_nodes}
+use Rattle.sound_laws.specs.Walks.{IsInRange, IsCodeOf}
 use Rattle.sound_laws.proofs.Walks.Walked.{before_fresh}
 use Rattle.sound_laws.proofs.Walks.KeptWalks.{ok}
 use Rattle.sound_laws.proofs.Execution.Executed.{IsMet}
 use Rattle.sound_laws.proofs.Reloads.OwnFetches.{on_walk, set_is}
-
--- nodes at the end
-onto_last : (later : List ℕ) (z : ℕ) (w : List ℕ) → onto (later ++ z ∷ []) w ≡ z ∷ onto later w
-onto_last [] z w = refl
-onto_last (a ∷ later) z w = onto_last later z (a ∷ w)
-
-none_then : (a : Accesses) (s : ℕ) (xs : List ℕ) (z : ℕ) → first_access a s xs ≡ None → first_access a s (xs ++ z ∷ []) ≡ first_access a s (z ∷ [])
-none_then a s [] z e = refl
-none_then a s (x ∷ xs) z e =
-    elim (cases_eq (a.set x) s) [
-      | inl q ↦ absurd (none_some (sym e ∙ first_here a s x xs q))
-      | inr ne ↦ first_on a s x (xs ++ z ∷ []) ne ∙ none_then a s xs z (sym (first_on a s x xs ne) ∙ e)
-    ]
 
 first_none : (a : Accesses) (s z : ℕ) → a.set z ≢ s → first_access a s (z ∷ []) ≡ None
 first_none a s z ne = first_on a s z [] ne
@@ -48,20 +38,6 @@ module _ (s : Start) (set : TaskSet) (graphs : ℕ → TaskGraph) (R : IsInRange
 
   abbrev acc : Accesses
   acc = accesses_of s.system.platform (graphs (task_of s x))
-
-  nodes_fetched : (m : ℕ) (g : Fetch) → FetchesAt s x m g → fetched_nodes s graphs (suc m) x ≡ node_of tg (job_of s m x) ∷ fetched_nodes s graphs m x
-  nodes_fetched m g f = let b : (g.job == x) ≡ true = eq-eqb _ _ f.by in rw (f.is, b) refl
-
-  nodes_by : (m : ℕ) (o : Option Fetch) → fetch_at s m ≡ o → ((g : Fetch) × FetchesAt s x m g) ⊎ (fetched_by s graphs m x o (fetched_nodes s graphs m x) ≡ fetched_nodes s graphs m x)
-  nodes_by m None e = inr refl
-  nodes_by m (Some g) e =
-      elim (cases_Bool (g.job == x)) [
-        | inl b ↦ inl (g, record { is = e; by = eqb-true _ _ b })
-        | inr b ↦ inr (rw b refl)
-      ]
-
-  nodes_step : (m : ℕ) → ((g : Fetch) × FetchesAt s x m g) ⊎ (fetched_nodes s graphs (suc m) x ≡ fetched_nodes s graphs m x)
-  nodes_step m = nodes_by m (fetch_at s m) refl
 
   -- the node of a fetch accesses its set
   pub set_fetched : (m : ℕ) (g : Fetch) → is_kept (job_of s m x).watch ≡ true → FetchesAt s x m g → acc.set (node_of tg (job_of s m x)) ≡ fetched_set s g
@@ -80,12 +56,12 @@ module _ (s : Start) (set : TaskSet) (graphs : ℕ → TaskGraph) (R : IsInRange
   module _ (c n target : ℕ) (f : Fetch) (begins : FetchesAt s x c f) (kept : (m : ℕ) → m ≤ n → is_kept (job_of s m x).watch ≡ true) (away : (m : ℕ) (g : Fetch) → c ≤ m → m < n → FetchesAt s x m g → fetched_set s g ≢ target) where
     carry_step : (m : ℕ) → c < m → m < n → IsCarried c target m → IsCarried c target (suc m)
     carry_step m l k is =
-        elim (nodes_step m) [
+        elim (nodes_step s graphs m x) [
           | inl g ↦
               let ne : acc.set (node_of tg (job_of s m x)) ≢ target = λ q. away m g.0 (omega arith) k g.1 (sym (set_fetched m g.0 (kept m (omega arith)) g.1) ∙ q) in
               record {
                 later = is.later ++ node_of tg (job_of s m x) ∷ [];
-                nodes = nodes_fetched m g.0 g.1 ∙ ap (λ w. node_of tg (job_of s m x) ∷ w) is.nodes ∙ sym (onto_last is.later (node_of tg (job_of s m x)) (node_of tg (job_of s c x) ∷ fetched_nodes s graphs c x));
+                nodes = nodes_fetch s graphs m x g.0 g.1 ∙ ap (λ w. node_of tg (job_of s m x) ∷ w) is.nodes ∙ sym (onto_last is.later (node_of tg (job_of s m x)) (node_of tg (job_of s c x) ∷ fetched_nodes s graphs c x));
                 none = none_then acc target (node_of tg (job_of s c x) ∷ is.later) (node_of tg (job_of s m x)) is.none ∙ first_none acc target (node_of tg (job_of s m x)) ne;
               }
           | inr same ↦ record { later = is.later; nodes = same ∙ is.nodes; none = is.none }
@@ -97,7 +73,7 @@ module _ (s : Start) (set : TaskSet) (graphs : ℕ → TaskGraph) (R : IsInRange
         elim (cases_eq m c) [
           | inl e ↦
               let ne : acc.set (node_of tg (job_of s c x)) ≢ target = λ q. away c f (omega arith) (omega arith) begins (sym (set_fetched c f (kept c (omega arith)) begins) ∙ q) in
-              let first : IsCarried c target (suc c) = record { later = []; nodes = nodes_fetched c f begins; none = first_none acc target (node_of tg (job_of s c x)) ne } in
+              let first : IsCarried c target (suc c) = record { later = []; nodes = nodes_fetch s graphs c x f begins; none = first_none acc target (node_of tg (job_of s c x)) ne } in
               subst (λ z. IsCarried c target (suc z)) (sym e) first
           | inr ne ↦ carry_step m (omega arith) (omega arith) (carry m (omega arith) (omega arith))
         ]

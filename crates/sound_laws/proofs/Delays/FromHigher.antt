@@ -14,7 +14,8 @@ use Rattle.run_account.proofs.ReloadLaws.{gap_is_of_higher, one_job_per_preempto
 use Rattle.run_account.proofs.Gaps.{one_gap_per_preemptor}
 use Rattle.run_account.proofs.OwnFetches.{own_candidate}
 use Rattle.run_account.specs.Nodes.{task_of, plan_at, node_of}
-use Rattle.sound_laws.specs.Walks.{before_of, fetched_nodes}
+use Rattle.run_account.specs.Walks.{fetched_nodes}
+use Rattle.sound_laws.specs.Walks.{before_of}
 use Rattle.run_account.specs.Ledger.{IsPreempted}
 use Rattle.sound_laws.specs.FromHigher.{IsFromHigher, EntryFromHigher, PreemptorWithinUseful}
 use Rattle.sound_laws.proofs.Delays.Carried.{carried_to, set_fetched}

@@ -24,7 +24,7 @@ use Rattle.sound_laws.specs.Ledgers.{HasAnswered, is_in_window, evicted_by, pree
 use Rattle.delay_count.proofs.Sums.{sum_change}
 use Rattle.sound_laws.proofs.Windows.Releases.{count, one_le}
 use Rattle.sound_laws.proofs.Counts.Counting.{count_le}
-use Rattle.sound_laws.proofs.Walks.KeptWalks.{kept_before}
+use Rattle.run_account.proofs.JobWalks.{kept_before}
 use Rattle.sound_laws.proofs.Delays.WindowDelays.{entries_within_delays}
 
 -- how many entries pass a test, and whether one that passes is made at a step
@@ -112,7 +112,7 @@ module _ (s : Start) (set : TaskSet) (graphs : ℕ → TaskGraph) (c : Certifica
   kept_down zero m y k = let e : m + 0 ≡ m = omega arith in subst (λ u. is_kept (job_of s u y).watch ≡ true) e k
   kept_down (suc d) m y k =
       let e : m + suc d ≡ suc (m + d) = omega arith in
-      kept_down d m y (kept_before s set graphs H.in_range H.code H.run.tasks (m + d) y (subst (λ u. is_kept (job_of s u y).watch ≡ true) e k))
+      kept_down d m y (kept_before s graphs (m + d) y (subst (λ u. is_kept (job_of s u y).watch ≡ true) e k))
 
   kept_job : (y : ℕ) → y < length s.lines → is_kept (job_of s answer y).watch ≡ true
   kept_job y l =

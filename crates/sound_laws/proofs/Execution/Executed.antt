@@ -26,10 +26,12 @@ use Rattle.run_account.proofs.Jobs.{new_at, owns_none}
 use Rattle.run_account.proofs.Owners.{candidate_at, was_owner, cases_some, owns_same}
 use Rattle.run_account.proofs.Moves.{never_moved}
 use Rattle.run_account.specs.Nodes.{task_of, plan_at, node_of}
-use Rattle.sound_laws.specs.Walks.{IsInRange, IsCodeOf, before_of, fetched_nodes}
+use Rattle.run_account.specs.Walks.{fetched_nodes}
+use Rattle.sound_laws.specs.Walks.{IsInRange, IsCodeOf, before_of}
 use Rattle.sound_laws.specs.Rests.{walk_of, cycles_to_go, is_entry, executes, enters, count_below, ExecutionWithinBound}
-use Rattle.sound_laws.proofs.Walks.KeptWalks.{opened, ok, hit_some, same_plan, nodes_own, nodes_other, kept_before, left_zero, stands_at, walking}
-use Rattle.sound_laws.proofs.Walks.Walked.{nodes_after}
+use Rattle.run_account.proofs.JobWalks.{kept_before, nodes_other, nodes_own, opened, same_plan}
+use Rattle.sound_laws.proofs.Walks.KeptWalks.{ok, hit_some, left_zero, stands_at, walking}
+use Rattle.run_account.proofs.Stands.{nodes_after}
 use Rattle.sound_laws.proofs.Execution.Spends.{extra_of, go_between, SpendTurn, spend_turn}
 
 -- what the clauses give for a task, with these hits
@@ -72,7 +74,7 @@ module _ (s : Start) (set : TaskSet) (graphs : ℕ → TaskGraph) (R : IsInRange
     spends_at n o k =
         let W = (walking s set graphs R C T n x h k).on_walk o in
         spend_turn s.system (plan_at s x) (graphs (task_of s x)) (ok s set graphs R C T x h) C.map (hit_some s set graphs R C T) counted (potentials_of c) (nested x h) M.meets
-        (state s n).time (turn_now n) (fetched_nodes s graphs n x) W (stands_at s set graphs R C T n x h W) (same_plan s set graphs R C T n x) o
+        (state s n).time (turn_now n) (fetched_nodes s graphs n x) W (stands_at s set graphs R C T n x h W) (same_plan s graphs n x) o
 
     pub some_go : (n : ℕ) → is_open (job_of s n x).standing ≡ true → is_kept (job_of s n x).watch ≡ true → 1 ≤ go n
     some_go n o k = (spends_at n o k).some
@@ -80,34 +82,34 @@ module _ (s : Start) (set : TaskSet) (graphs : ℕ → TaskGraph) (R : IsInRange
     pub go_other : (n : ℕ) → candidate_at s n ≢ Some x → go (suc n) ≡ go n
     go_other n ne =
         ap (λ (j : Job). cycles_to_go s.system (plan_at s x) (graphs (task_of s x)) (potentials_of c) j (fetched_nodes s graphs (suc n) x)) (step_other s.system (state s n) x ne)
-        ∙ ap (λ b. cycles_to_go s.system (plan_at s x) (graphs (task_of s x)) (potentials_of c) (job_of s n x) b) (nodes_other s set graphs R C T n x ne)
+        ∙ ap (λ b. cycles_to_go s.system (plan_at s x) (graphs (task_of s x)) (potentials_of c) (job_of s n x) b) (nodes_other s graphs n x ne)
 
     go_turned : (n : ℕ) → candidate_at s n ≡ Some x → go (suc n) ≡ cycles_to_go s.system (plan_at s x) (graphs (task_of s x)) (potentials_of c) (turned s.system (state s n).time (turn_now n)).job (nodes_after s.system (graphs (task_of s x)) (turn_now n) (fetched_nodes s graphs n x))
     go_turned n e =
         ap (λ (j : Job). cycles_to_go s.system (plan_at s x) (graphs (task_of s x)) (potentials_of c) j (fetched_nodes s graphs (suc n) x)) (step_own s.system (state s n) x e)
-        ∙ ap (λ b. cycles_to_go s.system (plan_at s x) (graphs (task_of s x)) (potentials_of c) (turned s.system (state s n).time (turn_now n)).job b) (nodes_own s set graphs R C T n x e)
+        ∙ ap (λ b. cycles_to_go s.system (plan_at s x) (graphs (task_of s x)) (potentials_of c) (turned s.system (state s n).time (turn_now n)).job b) (nodes_own s graphs n x e)
 
     kept_turned : (n : ℕ) → candidate_at s n ≡ Some x → is_kept (job_of s (suc n) x).watch ≡ true → is_kept (turned s.system (state s n).time (turn_now n)).job.watch ≡ true
     kept_turned n e k = subst (λ (j : Job). is_kept j.watch ≡ true) (step_own s.system (state s n) x e) k
 
     pub go_own : (n : ℕ) → candidate_at s n ≡ Some x → is_kept (job_of s (suc n) x).watch ≡ true → go (suc n) + (state s (suc n)).switch_left + 1 ≤ go n + (turn_now n).switch_left + extra_of s.system (graphs (task_of s x)) counted (turn_now n)
     go_own n e k =
-        let o = opened s set graphs R C T n x e in
-        let t = spends_at n o (kept_before s set graphs R C T n x k) in
+        let o = opened s graphs n x e in
+        let t = spends_at n o (kept_before s graphs n x k) in
         let less = t.less (kept_turned n e k) in
         let switch : (state s (suc n)).switch_left ≡ (turned s.system (state s n).time (turn_now n)).switch_left = rw e refl in
         omega (arith, less, switch, go_turned n e)
 
     pub go_switched : (n : ℕ) → candidate_at s n ≡ Some x → is_kept (job_of s n x).watch ≡ true → 0 < (turn_now n).switch_left → go (suc n) ≡ go n
-    go_switched n e k l = go_turned n e ∙ (spends_at n (opened s set graphs R C T n x e) k).switched l
+    go_switched n e k l = go_turned n e ∙ (spends_at n (opened s graphs n x e) k).switched l
 
     pub short_at : (n : ℕ) → is_kept (job_of s n x).watch ≡ true → is_open (job_of s n x).standing ≡ true → (job_of s n x).left ≤ longest_of s.system.platform (graphs (task_of s x)) - 1
     short_at zero k o = let z = left_zero s set graphs R C T x h in omega (arith, z)
     short_at (suc n) k o =
-        let kn = kept_before s set graphs R C T n x k in
+        let kn = kept_before s graphs n x k in
         elim (cases_some (candidate_at s n) x) [
           | inl e ↦
-              let op = opened s set graphs R C T n x e in
+              let op = opened s graphs n x e in
               let t = (spends_at n op kn).short (short_at n kn op) in
               subst (λ (j : Job). j.left ≤ longest_of s.system.platform (graphs (task_of s x)) - 1) (sym (step_own s.system (state s n) x e)) t
           | inr ne ↦
@@ -120,7 +122,7 @@ module _ (s : Start) (set : TaskSet) (graphs : ℕ → TaskGraph) (R : IsInRange
     nodes_never zero w = refl
     nodes_never (suc n) w =
         let both = or_parts (owns (candidate_at s n) x) (was_owner s n x) w in
-        nodes_other s set graphs R C T n x (λ e. false≢true (sym both.0 ∙ (rw e (owns_same x)))) ∙ nodes_never n both.1
+        nodes_other s graphs n x (λ e. false≢true (sym both.0 ∙ (rw e (owns_same x)))) ∙ nodes_never n both.1
 
     -- at the start it has at most the bound to go
     pub go_start : is_kept (job_of s 0 x).watch ≡ true → go 0 ≤ c.part.bound
@@ -175,7 +177,7 @@ module _ (s : Start) (set : TaskSet) (graphs : ℕ → TaskGraph) (R : IsInRange
                     let bit : ((turn_now n).switch_left == 0) ≡ false = ne_eqb _ _ ne in
                     let none : executes s x n ≡ false = rw (mine, bit) refl in
                     let ent : entered n ≡ false = rw (mine, bit) refl in
-                    let same = go_switched n e (kept_before s set graphs R C T n x k) (omega arith) in
+                    let same = go_switched n e (kept_before s graphs n x k) (omega arith) in
                     rw (none, ent) (omega (arith, same, so_far))
               ]
           | inr ne ↦
@@ -188,7 +190,7 @@ module _ (s : Start) (set : TaskSet) (graphs : ℕ → TaskGraph) (R : IsInRange
 
     pub execution : (n : ℕ) → is_kept (job_of s n x).watch ≡ true → count_below (executes s x) n + go n ≤ c.part.bound + s.system.platform.miss * count_below entered n
     execution zero k = let start = go_start k in omega (arith, start)
-    execution (suc n) k = execution_step n k (execution n (kept_before s set graphs R C T n x k))
+    execution (suc n) k = execution_step n k (execution n (kept_before s graphs n x k))
 
 pub execution_within_bound : ExecutionWithinBound
 execution_within_bound s set graphs c n x R C T says h l k =

@@ -31,7 +31,7 @@ use Rattle.sound_laws.specs.Walks.{before_of, IsOnWalk}
 use Rattle.sound_laws.specs.Rests.{rest_after, walk_of}
 use Rattle.rv_decode.proofs.Addresses.{after_is}
 use Rattle.loop_regions.proofs.Flows.{GoesBy, flow_goes}
-use Rattle.sound_laws.proofs.Walks.Turns.{cost_taken}
+use Rattle.preempt_machine.proofs.TurnLaws.{cost_taken}
 use Rattle.sound_laws.proofs.Walks.Stands.{Stands, IsFollowed, empty_at_end, goes_on_walk, number_there}
 
 module _ (sys : System) (plan : TaskPlan) (t : TaskGraph) (ok : IsGraphOf sys.word plan t) (map : IsCodeMap sys.word) where

@@ -22,9 +22,10 @@ use Rattle.run_account.specs.Nodes.{node_of, node_number}
 use Rattle.rv_decode.specs.Flow.{IsCodeMap}
 use Rattle.sound_laws.specs.Walks.{before_of, IsOnWalk}
 use Rattle.sound_laws.specs.Rests.{rest_after, walk_of, cycles_to_go, is_entry}
-use Rattle.sound_laws.proofs.Walks.Turns.{TurnOf, switches, works, goes, begun, cost_hit, cost_miss, cost_counted, turn_of_job}
+use Rattle.preempt_machine.proofs.TurnLaws.{TurnOf, switches, works, goes, begun, cost_hit, cost_miss, cost_counted, turn_of_job}
 use Rattle.sound_laws.proofs.Walks.Stands.{Stands}
-use Rattle.sound_laws.proofs.Walks.Walked.{nodes_after, nodes_executed, nodes_switched, begun_pos}
+use Rattle.run_account.proofs.Stands.{nodes_after}
+use Rattle.sound_laws.proofs.Walks.Walked.{nodes_executed, nodes_switched, begun_pos}
 use Rattle.sound_laws.proofs.Execution.Longests.{edge_longest, end_longest}
 use Rattle.sound_laws.proofs.Execution.Paid.{pays, pays_alone}
 

@@ -11,7 +11,7 @@ use Rattle.run_account.specs.Fetches.{job_of}
 use Rattle.run_account.proofs.Jobs.{jobs_length}
 use Rattle.run_account.proofs.Owners.{candidate_at, was_owner}
 use Rattle.run_account.specs.Nodes.{task_of, plan_at}
-use Rattle.sound_laws.specs.Walks.{fetched_nodes}
+use Rattle.run_account.specs.Walks.{fetched_nodes}
 use Rattle.sound_laws.specs.Rests.{cycles_to_go}
 use Rattle.sound_laws.proofs.Windows.Accounts.{Spends}
 use Rattle.sound_laws.proofs.Windows.Busy.{task_at}

@@ -26,9 +26,9 @@ use Rattle.run_account.specs.Account.{told, IsAccount}
 use Rattle.run_account.specs.Fetches.{job_of}
 use Rattle.run_account.specs.Ledger.{LedgerEntry, IsWindowStart}
 use Rattle.run_account.specs.Nodes.{task_of}
-use Rattle.run_account.specs.Shown.{start_of_script}
+use Rattle.preempt_machine.specs.Starts.{start_of_script}
 use Rattle.run_account.proofs.Jobs.{line_is}
-use Rattle.run_account.proofs.Ready.{cache_length}
+use Rattle.preempt_machine.proofs.Loads.{start_cache_length}
 use Rattle.sound_laws.specs.Headline.{IsUndisturbed}
 use Rattle.sound_laws.specs.Ledgers.{HasAnswered}
 use Rattle.sound_laws.specs.Walks.{IsCodeOf, RunsLegally}
@@ -90,7 +90,7 @@ module _ (set : TaskSet) (code : Code) (graphs : ℕ → TaskGraph) (c : Certifi
   run : RunsLegally set s
   run =
       let few = K.ranges.platform.sets.1 in
-      record { cache = omega (arith, few, cache_length set.platform script.cache); tasks = T; legal = legal }
+      record { cache = omega (arith, few, start_cache_length set.platform script.cache); tasks = T; legal = legal }
 
   has_answered : (x start answer : ℕ) → x < length script.jobs → (completion a.completions x).«end» ≡ «end».Answered answer → IsWindowStart s x start → HasAnswered s set graphs c script.cycles I.ledger x start answer
   has_answered x start answer h e w =

@@ -13,7 +13,8 @@ use Rattle.run_account.proofs.Owners.{candidate_at}
 use Rattle.run_account.proofs.ReloadLaws.{fetcher_open}
 use Rattle.run_account.proofs.OwnFetches.{own_candidate, last_fetcher, last_fetcher_is}
 use Rattle.run_account.specs.Nodes.{task_of, plan_at, node_of}
-use Rattle.sound_laws.specs.Walks.{before_of, fetched_nodes}
+use Rattle.run_account.specs.Walks.{fetched_nodes}
+use Rattle.sound_laws.specs.Walks.{before_of}
 use Rattle.sound_laws.specs.Rests.{is_entry}
 use Rattle.run_account.specs.Ledger
 use Rattle.sound_laws.proofs.Windows.Busy.{task_at}

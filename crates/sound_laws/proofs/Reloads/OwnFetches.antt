@@ -22,11 +22,13 @@ use Rattle.run_account.specs.Reloads.{FetchesAt, HasOwn}
 use Rattle.run_account.proofs.Owners.{candidate_at, cases_some, owns_true}
 use Rattle.run_account.proofs.OwnFetches.{own_keeps, own_new, own_candidate, fetch_made, fetch_not_made}
 use Rattle.run_account.specs.Nodes.{task_of, plan_at, node_of}
-use Rattle.sound_laws.specs.Walks.{IsInRange, IsCodeOf, before_of, IsOnWalk, fetched_nodes}
+use Rattle.run_account.specs.Walks.{fetched_nodes}
+use Rattle.sound_laws.specs.Walks.{IsInRange, IsCodeOf, before_of, IsOnWalk}
 use Rattle.sound_laws.specs.Rests.{is_entry}
 use Rattle.sound_laws.specs.Entries.{OwnFetchesAgreeLaw, IsReloadEntry, EntriesAreReloads}
 use Rattle.sound_laws.proofs.Walks.Walked.{before_fresh}
-use Rattle.sound_laws.proofs.Walks.KeptWalks.{opened, task_below, ok, nodes_own, nodes_other, kept_before, walking}
+use Rattle.run_account.proofs.JobWalks.{kept_before, nodes_other, nodes_own, opened}
+use Rattle.sound_laws.proofs.Walks.KeptWalks.{task_below, ok, walking}
 use Rattle.sound_laws.proofs.Walks.Stands.{walk_node}
 use Rattle.sound_laws.proofs.Execution.Executed.{IsMet, is_met}
 
@@ -69,11 +71,11 @@ module _ (s : Start) (set : TaskSet) (graphs : ℕ → TaskGraph) (R : IsInRange
   pub own_of_nodes : (n c b : ℕ) → is_kept (job_of s n x).watch ≡ true → last_access acc c (fetched_nodes s graphs n x) ≡ Some b → HasOwn s x c n b
   own_of_nodes zero c b k e = absurd (none_is_some b e)
   own_of_nodes (suc n) c b k e =
-      let kn = kept_before s set graphs R C T n x k in
+      let kn = kept_before s graphs n x k in
       elim (cases_some (candidate_at s n) x) [
         | inl mine ↦
-            let o = opened s set graphs R C T n x mine in
-            let nodes = nodes_own s set graphs R C T n x mine in
+            let o = opened s graphs n x mine in
+            let nodes = nodes_own s graphs n x mine in
             elim (cases_Bool (makes_fetch s.system (turn_of s.system (state s n) x))) [
               | inl m ↦
                   let more : fetched_nodes s graphs (suc n) x ≡ node_of tg (job_of s n x) ∷ fetched_nodes s graphs n x = nodes ∙ (rw m refl) in
@@ -83,7 +85,7 @@ module _ (s : Start) (set : TaskSet) (graphs : ℕ → TaskGraph) (R : IsInRange
                   own_keeps s x c n b (own_of_nodes n c b kn (ap (last_access acc c) (sym same) ∙ e)) (λ f q. absurd (none_some (sym (fetch_not_made s x n mine m) ∙ q.is)))
             ]
         | inr ne ↦
-            own_keeps s x c n b (own_of_nodes n c b kn (ap (last_access acc c) (sym (nodes_other s set graphs R C T n x ne)) ∙ e)) (λ f q. absurd (ne (own_candidate s x n f q)))
+            own_keeps s x c n b (own_of_nodes n c b kn (ap (last_access acc c) (sym (nodes_other s graphs n x ne)) ∙ e)) (λ f q. absurd (ne (own_candidate s x n f q)))
       ]
 
   module _ (c : TaskPart) (counted : ℕ → Bool) (M : IsMet s.system.platform tg c counted) where
@@ -106,7 +108,7 @@ module _ (s : Start) (set : TaskSet) (graphs : ℕ → TaskGraph) (R : IsInRange
 
     pub entry_is : (n : ℕ) → is_kept (job_of s n x).watch ≡ true → candidate_at s n ≡ Some x → is_entry s.system tg counted (turn_of s.system (state s n) x) ≡ true → IsReloadEntry s tg c n x
     entry_is n k e b =
-        let o = opened s set graphs R C T n x e in
+        let o = opened s graphs n x e in
         let both = and_parts (makes_fetch s.system (turn_of s.system (state s n) x)) _ b in
         let more = and_parts (counted (node_of tg (job_of s n x))) _ both.1 in
         let l : (job_of s n x).left ≡ 0 = eqb-true _ _ (and_parts _ _ (and_parts _ _ both.0).0).1 in

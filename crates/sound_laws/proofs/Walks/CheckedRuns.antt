@@ -19,7 +19,8 @@ use Rattle.run_account.proofs.Owners.{candidate_at}
 use Rattle.run_account.proofs.AnswerTimes.{answered_by}
 use Rattle.sound_laws.specs.Walks.{IsInRange, IsCodeOf, RunsJobsOf, RunsLegally}
 use Rattle.sound_laws.proofs.Windows.Busy.{task_at}
-use Rattle.sound_laws.proofs.Walks.KeptWalks.{opened, below_at, task_below, kept_before}
+use Rattle.run_account.proofs.JobWalks.{kept_before, opened}
+use Rattle.sound_laws.proofs.Walks.KeptWalks.{below_at, task_below}
 
 -- a run of a set with its code, of which these are the graphs, after the judge's yes: it is kept up to the horizon
 pub record CheckedRun : Type 0 where
@@ -64,7 +65,7 @@ module _ (K : CheckedRun) where
   below_tasks x h = task_below s set graphs R C run.tasks x h
 
   pub is_opened : (n x : ℕ) → candidate_at s n ≡ Some x → is_open (job_of s n x).standing ≡ true
-  is_opened n x e = opened s set graphs R C run.tasks n x e
+  is_opened n x e = opened s graphs n x e
 
   pub is_below : (n x : ℕ) → candidate_at s n ≡ Some x → x < length s.lines
   is_below n x e = below_at s set graphs R C run.tasks n x e
@@ -73,7 +74,7 @@ module _ (K : CheckedRun) where
   kept_down zero n x k = let e : n + 0 ≡ n = omega arith in subst (λ m. is_kept (job_of s m x).watch ≡ true) e k
   kept_down (suc d) n x k =
       let e : n + suc d ≡ suc (n + d) = omega arith in
-      kept_down d n x (kept_before s set graphs R C run.tasks (n + d) x (subst (λ m. is_kept (job_of s m x).watch ≡ true) e k))
+      kept_down d n x (kept_before s graphs (n + d) x (subst (λ m. is_kept (job_of s m x).watch ≡ true) e k))
 
   pub kept_at : (n x : ℕ) → n ≤ horizon → x < length s.lines → is_kept (job_of s n x).watch ≡ true
   kept_at n x l h =

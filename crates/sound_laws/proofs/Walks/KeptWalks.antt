@@ -14,24 +14,21 @@ use Rattle.cert_check.specs.Judge.{IsGraphOf}
 use Rattle.preempt_machine.specs.Machine.{Job, no_job, plan_of}
 use Rattle.preempt_machine.specs.Step.{is_open, Turn, turn_of, turned, makes_fetch, Fetch, Start, state, fetch_at}
 use Rattle.preempt_machine.specs.Safe.{NamesTasks}
-use Rattle.preempt_machine.proofs.Steps.{candidate_some, ready_open, step_own, step_other}
-use Rattle.preempt_machine.proofs.Runs.{state_line}
+use Rattle.preempt_machine.proofs.Steps.{candidate_some, step_own, step_other}
 use Rattle.run_account.specs.Fetches.{job_of}
 use Rattle.run_account.proofs.Jobs.{jobs_length, line_is, new_at}
 use Rattle.run_account.proofs.Owners.{candidate_at, cases_some}
-use Rattle.run_account.proofs.OwnFetches.{fetch_made, fetch_not_made, own_candidate}
+use Rattle.run_account.proofs.JobWalks.{kept_before, nodes_other, nodes_own, opened, same_plan}
+use Rattle.run_account.proofs.Stands.{nodes_after}
 use Rattle.run_account.specs.Nodes.{task_of, plan_at, node_of, node_number}
-use Rattle.sound_laws.specs.Walks.{IsInRange, IsCodeOf, before_of, IsOnWalk, IsNoneOrKeptWalk, fetched_by, fetched_nodes, FetchesAreKeptWalk}
-use Rattle.sound_laws.proofs.Walks.Turns.{turned_watch}
+use Rattle.run_account.specs.Walks.{fetched_nodes}
+use Rattle.sound_laws.specs.Walks.{IsInRange, IsCodeOf, before_of, IsOnWalk, IsNoneOrKeptWalk, FetchesAreKeptWalk}
 use Rattle.sound_laws.proofs.Walks.Stands.{Stands, stands_on, number_there}
-use Rattle.sound_laws.proofs.Walks.Walked.{nodes_after, WalkTurn, walk_turn}
+use Rattle.sound_laws.proofs.Walks.Walked.{WalkTurn, walk_turn}
 
 module _ (s : Start) (set : TaskSet) (graphs : ℕ → TaskGraph) (R : IsInRange set) (C : IsCodeOf s.system set graphs) (T : NamesTasks set s.lines) where
   abbrev pub graph_at : ℕ → TaskGraph
   graph_at x = graphs (task_of s x)
-
-  pub opened : (n x : ℕ) → candidate_at s n ≡ Some x → is_open (job_of s n x).standing ≡ true
-  opened n x e = ready_open (state s n).time (job_of s n x) (candidate_some s.system (state s n) x e).ready
 
   pub below_at : (n x : ℕ) → candidate_at s n ≡ Some x → x < length s.lines
   below_at n x e = let b = (candidate_some s.system (state s n) x e).below in omega (arith, b, jobs_length s n)
@@ -45,49 +42,8 @@ module _ (s : Start) (set : TaskSet) (graphs : ℕ → TaskGraph) (R : IsInRange
   pub hit_some : 1 ≤ s.system.platform.hit
   hit_some = subst (λ (p : Platform). 1 ≤ p.hit) (sym C.platform) R.hit
 
-  pub same_plan : (n x : ℕ) → plan_of s.system (job_of s n x).line.task.0 ≡ plan_at s x
-  same_plan n x = ap (λ (l : ScriptJob). plan_of s.system l.task.0) (state_line s n x)
-
   abbrev pub turn_at : ℕ → ℕ → Turn
   turn_at n x = turn_of s.system (state s n) x
-
-  -- the nodes of the fetches after a step
-  pub nodes_own : (n x : ℕ) → candidate_at s n ≡ Some x → fetched_nodes s graphs (suc n) x ≡ nodes_after s.system (graph_at x) (turn_at n x) (fetched_nodes s graphs n x)
-  nodes_own n x e =
-      elim (cases_Bool (makes_fetch s.system (turn_at n x))) [
-        | inl m ↦ rw (fetch_made s x n e m, m, eq-eqb x x refl) refl
-        | inr m ↦ rw (fetch_not_made s x n e m, m) refl
-      ]
-
-  nodes_by : (n x : ℕ) (f : Option Fetch) → fetch_at s n ≡ f → candidate_at s n ≢ Some x → fetched_by s graphs n x f (fetched_nodes s graphs n x) ≡ fetched_nodes s graphs n x
-  nodes_by n x None e ne = refl
-  nodes_by n x (Some f) e ne =
-      elim (cases_Bool (f.job == x)) [
-        | inl b ↦ absurd (ne (own_candidate s x n f (record { is = e; by = eqb-true f.job x b })))
-        | inr b ↦ rw b refl
-      ]
-
-  pub nodes_other : (n x : ℕ) → candidate_at s n ≢ Some x → fetched_nodes s graphs (suc n) x ≡ fetched_nodes s graphs n x
-  nodes_other n x ne = nodes_by n x (fetch_at s n) refl ne
-
-  -- a watch that is kept was kept before
-  broken : (w : Watch) → is_kept w ≡ false → w ≡ None
-  broken None h = refl
-  broken (Some frames) h = absurd (true≢false h)
-
-  broken_step : (n x : ℕ) → (job_of s n x).watch ≡ None → (job_of s (suc n) x).watch ≡ None
-  broken_step n x b =
-      elim (cases_some (candidate_at s n) x) [
-        | inl e ↦ ap (λ (j : Job). j.watch) (step_own s.system (state s n) x e) ∙ turned_watch s.system (state s n).time (turn_of s.system (state s n) x) b
-        | inr ne ↦ ap (λ (j : Job). j.watch) (step_other s.system (state s n) x ne) ∙ b
-      ]
-
-  pub kept_before : (n x : ℕ) → is_kept (job_of s (suc n) x).watch ≡ true → is_kept (job_of s n x).watch ≡ true
-  kept_before n x k =
-      elim (cases_Bool (is_kept (job_of s n x).watch)) [
-        | inl b ↦ b
-        | inr b ↦ absurd (false≢true (ap is_kept (sym (broken_step n x (broken _ b))) ∙ k))
-      ]
 
   -- the start
   watch_is : (x : ℕ) → x < length s.lines → (job_of s 0 x).watch ≡ start (plan_at s x)
@@ -129,9 +85,9 @@ module _ (s : Start) (set : TaskSet) (graphs : ℕ → TaskGraph) (R : IsInRange
   pub turn_walks : (n x : ℕ) → candidate_at s n ≡ Some x → IsWalking n x → WalkTurn s.system (plan_at s x) (graph_at x) (nodes_after s.system (graph_at x) (turn_at n x) (fetched_nodes s graphs n x)) (turned s.system (state s n).time (turn_at n x))
   turn_walks n x e is =
       let h = below_at n x e in
-      let o = opened n x e in
+      let o = opened s graphs n x e in
       let W = is.on_walk o in
-      walk_turn s.system (plan_at s x) (graph_at x) (ok x h) C.map hit_some (state s n).time (turn_at n x) (fetched_nodes s graphs n x) W (stands_at n x h W) (same_plan n x) o
+      walk_turn s.system (plan_at s x) (graph_at x) (ok x h) C.map hit_some (state s n).time (turn_at n x) (fetched_nodes s graphs n x) W (stands_at n x h W) (same_plan s graphs n x) o
 
   walking_step : (n x : ℕ) → is_kept (job_of s (suc n) x).watch ≡ true → IsWalking n x → IsWalking (suc n) x
   walking_step n x k is =
@@ -139,7 +95,7 @@ module _ (s : Start) (set : TaskSet) (graphs : ℕ → TaskGraph) (R : IsInRange
         | inl e ↦
             let t = turn_walks n x e is in
             let own = step_own s.system (state s n) x e in
-            let nodes = nodes_own n x e in
+            let nodes = nodes_own s graphs n x e in
             record {
               nodes_kept = subst (λ b. IsNoneOrKeptWalk (graph_at x) b) (sym nodes) t.nodes_kept;
               on_walk = λ o. subst (λ b. IsOnWalk s.system.word (plan_at s x) (graph_at x) (job_of s (suc n) x) b) (sym nodes)
@@ -148,7 +104,7 @@ module _ (s : Start) (set : TaskSet) (graphs : ℕ → TaskGraph) (R : IsInRange
             }
         | inr ne ↦
             let same = step_other s.system (state s n) x ne in
-            let nodes = nodes_other n x ne in
+            let nodes = nodes_other s graphs n x ne in
             record {
               nodes_kept = subst (λ b. IsNoneOrKeptWalk (graph_at x) b) (sym nodes) is.nodes_kept;
               on_walk = λ o. subst (λ b. IsOnWalk s.system.word (plan_at s x) (graph_at x) (job_of s (suc n) x) b) (sym nodes)
@@ -160,7 +116,7 @@ module _ (s : Start) (set : TaskSet) (graphs : ℕ → TaskGraph) (R : IsInRange
   pub walking : (n x : ℕ) → x < length s.lines → is_kept (job_of s n x).watch ≡ true → IsWalking n x
   walking zero x h k =
       record { nodes_kept = tt; on_walk = λ o. first_by x h (start (plan_at s x)) refl (ap is_kept (sym (watch_is x h)) ∙ k) }
-  walking (suc n) x h k = walking_step n x k (walking n x h (kept_before n x k))
+  walking (suc n) x h k = walking_step n x k (walking n x h (kept_before s graphs n x k))
 
 pub fetches_are_kept_walk : FetchesAreKeptWalk
 fetches_are_kept_walk s set graphs n x R C T h k =

@@ -25,7 +25,7 @@ use Rattle.rv_decode.specs.Flow.{IsCodeMap}
 use Rattle.sound_laws.specs.Walks.{before_of, IsOnWalk}
 use Rattle.loop_regions.proofs.Flows.{GoesBy, flow_goes, can_go}
 use Rattle.loop_regions.proofs.Steps.{bottom_return, step_some}
-use Rattle.sound_laws.proofs.Walks.Numbers.{number_is}
+use Rattle.run_account.proofs.NodeNumbers.{number_is}
 
 -- the flows that a node without an error has
 abbrev pub IsFollowed : Flow → Type 0

@@ -21,12 +21,9 @@ use Rattle.preempt_machine.specs.Step.{is_open, Turn, turned, went, makes_fetch,
 use Rattle.run_account.specs.Nodes.{node_of, node_number}
 use Rattle.rv_decode.specs.Flow.{IsCodeMap}
 use Rattle.sound_laws.specs.Walks.{before_of, IsOnWalk, IsNoneOrKeptWalk}
-use Rattle.sound_laws.proofs.Walks.Turns.{TurnOf, switches, works, goes, begun, cost_hit, turn_of_job, not_faulted}
+use Rattle.preempt_machine.proofs.TurnLaws.{TurnOf, switches, works, goes, begun, cost_hit, turn_of_job, not_faulted}
+use Rattle.run_account.proofs.Stands.{nodes_after}
 use Rattle.sound_laws.proofs.Walks.Stands.{Stands, no_fault_next, empty_at_end, goes_on_walk, number_there}
-
--- the nodes of a job's fetches after a turn
-abbrev pub nodes_after : System → TaskGraph → Turn → List ℕ → List ℕ
-nodes_after sys t u nodes = if makes_fetch sys u then node_of t u.job ∷ nodes else nodes
 
 -- what a turn leaves
 pub record WalkTurn (sys : System) (plan : TaskPlan) (t : TaskGraph) (nodes : List ℕ) (after : Turn) : Type 0 where

@@ -12,6 +12,7 @@ use Rattle.rv_core.specs.Effect.{next_pc}
 use Rattle.preempt_machine.specs.Machine.{System, Job, Machine, ins_at, job_at, no_job}
 use Rattle.preempt_machine.specs.Step.{is_open, is_ready, candidate, keeps_core, Turn, turn_of, turned, executed, worked, went, fetched, Start, state}
 use Rattle.preempt_machine.proofs.Steps.{between, new_owner, any_cycle, fetch_says, fetch_left, candidate_some, ready_open, step_own, step_other, some_injective, none_some}
+use Rattle.preempt_machine.proofs.TurnLaws.{fetched_none, fetched_switch, went_switch}
 use Rattle.run_account.specs.Fetches.{job_of}
 use Rattle.run_account.proofs.Owners.{candidate_at, cases_some, owns_same, owner_after, owner_was, was_released, ready_at}
 use Rattle.run_account.proofs.Jobs.{new_at, jobs_length}
@@ -36,17 +37,9 @@ pub middle_over : (job : Job) → is_open job.standing ≡ false → middle job 
 middle_over job o = rw o
 
 -- a turn's instruction leaves the switch cycles
-went_switch : (sys : System) (n : ℕ) (ins : Ins) (t : Turn) (next : Next) → (went sys n ins t next).switch_left ≡ t.switch_left
-went_switch sys n ins t (Goto to) = refl
-went_switch sys n ins t Answer = refl
-went_switch sys n ins t Fault = refl
-
 worked_switch : (sys : System) (n : ℕ) (ins : Ins) (t : Turn) → (worked sys n ins t).switch_left ≡ t.switch_left
 worked_switch sys n ins t =
     elim (cases_Bool (nat_lt 1 t.job.left)) [ inl b ↦ rw b | inr b ↦ rw b (went_switch sys n ins t (next_pc ins t.job.pc t.job.registers)) ]
-
-fetched_switch : (sys : System) (ins : Ins) (t : Turn) → (fetched sys ins t).switch_left ≡ t.switch_left
-fetched_switch sys ins t = elim (cases_Bool (t.job.left == 0)) [ inl b ↦ rw b | inr b ↦ rw b ]
 
 executed_switch : (sys : System) (n : ℕ) (t : Turn) (ins : Option Ins) → (executed sys n t ins).switch_left ≡ t.switch_left
 executed_switch sys n t None = refl
@@ -74,12 +67,9 @@ worked_middle sys n ins t o l =
       | inr b ↦ rw b (omega (arith, l, went_middle sys n ins t (next_pc ins t.job.pc t.job.registers)))
     ]
 
-fetched_none : (sys : System) (ins : Ins) (t : Turn) → 1 ≤ t.job.left → fetched sys ins t ≡ t
-fetched_none sys ins t l = let b : (t.job.left == 0) ≡ false = ne_eqb _ _ (λ e. omega arith) in rw b
-
 executed_middle : (sys : System) (n : ℕ) (t : Turn) (ins : Option Ins) → is_open t.job.standing ≡ true → 1 ≤ t.job.left → middle (executed sys n t ins).job + 1 ≤ t.job.left
 executed_middle sys n t None o l = omega arith
-executed_middle sys n t (Some ins) o l = rw (fetched_none sys ins t l) (worked_middle sys n ins t o l)
+executed_middle sys n t (Some ins) o l = rw (fetched_none sys ins t (λ z. omega arith)) (worked_middle sys n ins t o l)
 
 turned_less : (sys : System) (n : ℕ) (t : Turn) → t.switch_left ≡ 0 → is_open t.job.standing ≡ true → 1 ≤ t.job.left → middle (turned sys n t).job + 1 ≤ t.job.left
 unfolding turned

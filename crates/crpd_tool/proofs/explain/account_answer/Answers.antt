@@ -5,7 +5,8 @@ use Rattle.cert_check.specs.Shown.{nest_at}
 use Rattle.loop_regions.specs.CodeNest.{nest_of}
 use Rattle.loop_regions.specs.Nest.{Nest}
 use Rattle.run_account.specs.Account.{IsAccount}
-use Rattle.run_account.specs.Shown.{AreGraphsOf, StatesAreMet, start_of_script, with_nests}
+use Rattle.preempt_machine.specs.Starts.{start_of_script}
+use Rattle.run_account.specs.Shown.{AreGraphsOf, StatesAreMet, with_nests}
 use Rattle.crpd_tool.specs.Simulate.{IsRunLine, run_of}
 use Rattle.crpd_tool.specs.declared.answer.Outcome.TheVariants.{Done}
 use Rattle.crpd_tool.proofs.Explaining.{graphs_of, states_met, windows_met}

@@ -10,7 +10,8 @@ use Rattle.run_account.specs.declared.run.Run.{Run}
 use Rattle.run_account.specs.Account.{told_by}
 use Rattle.run_account.specs.Ledger.{IsLedger}
 use Rattle.run_account.specs.Runs.{no_nests, AreHits, IsReady}
-use Rattle.run_account.specs.Shown.{start_of_script, with_nests}
+use Rattle.preempt_machine.specs.Starts.{start_of_script}
+use Rattle.run_account.specs.Shown.{with_nests}
 use Rattle.run_account.specs.Trails.{entry_of}
 use Rattle.run_account.proofs.Accounts.{noted_start, job_below, evictor_below, preemptor_below, told_same, ledger_by}
 use Rattle.run_account.proofs.AccountFacts.{account_facts}

@@ -14,8 +14,9 @@ returns-in-Some-clause-ok c = on_ok_weaker c.take.result (one_made c.args.code.n
 
 pub idle-requires-clause-idle : goal.idle-requires-clause-idle
 idle-requires-clause-idle c =
-    let sys = system_by c.args.self.now.core.geometry.platform c.args.code.now in
-    candidate_none sys (machine_of c.args.self.now) (sym (c.in-None.ensures.is sys refl))
+    let core = c.args.self.now.core in
+    let sys = system_by core.geometry.platform c.args.code.now in
+    candidate_none sys (machine_of c.args.self.now) (sym (c.in-None.ensures.is sys core.cache core.memory refl))
 
 pub returns-in-None-clause-ok : goal.returns-in-None-clause-ok
 returns-in-None-clause-ok c = c.idle.ensures.made c.args.code.now
@@ -23,9 +24,10 @@ returns-in-None-clause-ok c = c.idle.ensures.made c.args.code.now
 pub returns-in-Some-clause-owner : goal.returns-in-Some-clause-owner
 returns-in-Some-clause-owner c =
     let m = machine_of c.args.self.now in
-    let sys = system_by c.args.self.now.core.geometry.platform c.args.code.now in
+    let core = c.args.self.now.core in
+    let sys = system_by core.geometry.platform c.args.code.now in
     on_ok_weaker c.take.result
-    (λ (h : HasStepped sys c.args.self.now c.take.new.self). subst (λ (n : Machine). ChangesOwner m n) (sym h.state) (step_changes sys m c.in-Some.place (sym (c.in-Some.ensures.is sys refl))))
+    (λ (h : HasStepped sys c.args.self.now c.take.new.self). subst (λ (n : Machine). ChangesOwner m n) (sym h.state) (step_changes sys m c.in-Some.place (sym (c.in-Some.ensures.is sys core.cache core.memory refl))))
     c.take.ensures.ok
 
 pub returns-in-None-clause-owner : goal.returns-in-None-clause-owner

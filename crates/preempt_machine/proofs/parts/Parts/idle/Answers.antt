@@ -9,7 +9,7 @@ returns-clause-made c code =
     let kept = c.requires.machine in
     let next = c.next_release-self.ensures in
     let m = machine_of old in
-    let later : old.steps < c.next_release-self.result = elim next.one [
+    let later : old.schedule.steps < c.next_release-self.result = elim next.one [
       | inl e ↦ omega (arith, c.requires.before)
       | inr (inside, e) ↦ omega (arith, next_is_later _ m _ _ _ _ _ kept c.requires.idle inside)
     ] in
@@ -21,7 +21,7 @@ returns-clause-machine c =
     let old = c.args.self.now in
     let next = c.next_release-self.ensures in
     let m = machine_of old in
-    let later : old.steps ≤ c.next_release-self.result = elim next.one [
+    let later : old.schedule.steps ≤ c.next_release-self.result = elim next.one [
       | inl e ↦ omega (arith, c.requires.before)
       | inr (inside, e) ↦ omega (arith, next_is_later _ m _ _ _ _ _ c.requires.machine c.requires.idle inside)
     ] in

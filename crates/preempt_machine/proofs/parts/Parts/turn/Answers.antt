@@ -14,8 +14,9 @@ switch-requires-clause-candidate c = (candidate_some _ (machine_of c.args.self.n
 
 pub returns-then-switch_left-gt0-clause-ok : goal.returns-then-switch_left-gt0-clause-ok
 returns-then-switch_left-gt0-clause-ok c =
-    let sys = system_by c.args.self.now.core.geometry.platform c.args.code.now in
-    c.switch.ensures.turned sys (sym (c.switch_cycles-switch_left.ensures sys refl))
+    let core = c.args.self.now.core in
+    let sys = system_by core.geometry.platform c.args.code.now in
+    c.switch.ensures.turned sys (sym (c.switch_cycles-switch_left.ensures sys core.cache core.memory refl))
 
 pub returns-then-switch_left-gt0-clause-plans : goal.returns-then-switch_left-gt0-clause-plans
 returns-then-switch_left-gt0-clause-plans c =
@@ -34,17 +35,19 @@ work-requires-clause-open c =
 
 pub work-requires-clause-switched : goal.work-requires-clause-switched
 work-requires-clause-switched c =
+    let core = c.args.self.now.core in
     let none : c.switch_cycles-switch_left.result ≡ 0 = omega (arith, c.if-switch_left-gt0.false) in
-    sym (c.switch_cycles-switch_left.ensures (system_by c.args.self.now.core.geometry.platform c.args.code.now) refl) ∙ none
+    sym (c.switch_cycles-switch_left.ensures (system_by core.geometry.platform c.args.code.now) core.cache core.memory refl) ∙ none
 
 pub returns-clause-only : goal.returns-clause-only
 returns-clause-only c =
+    let core = c.args.self.now.core in
     let none : c.switch_cycles-switch_left.result ≡ 0 = omega (arith, c.if-switch_left-gt0.false) in
     on_err_weaker c.work.result
     (λ store. record {
       place = c.args.place;
       is_candidate = c.requires.candidate;
-      switched = sym (c.switch_cycles-switch_left.ensures (system_by c.args.self.now.core.geometry.platform c.args.code.now) refl) ∙ none;
+      switched = sym (c.switch_cycles-switch_left.ensures (system_by core.geometry.platform c.args.code.now) core.cache core.memory refl) ∙ none;
       store = store;
     })
     c.work.ensures.only

@@ -19,7 +19,7 @@ returns-clause-ok c =
     let own : c.index_mut-job.result.now ≡ job_at m.jobs place = c.index_mut-job.ensures.value ∙ get_or_default m.jobs place c.index_mut-job.result.now no_job c.requires.below in
     let executes = subst (λ (j : Job). turn_by after.cache after.memory 0 c.advance.new.job ≡ executed sys m.time (turn_by m.cache m.memory 0 j) (ins_at sys j.pc)) own c.in_ok-found.ensures.ok in
     let found = subst (λ (j : Job). c.in_ok-found.found ≡ found_by sys (turn_by m.cache m.memory 0 j)) own c.in_ok-found.ensures.found in
-    let there = c.index.ensures ∙ get_or_default c.args.self.now.completions.items place c.index.result.now (completion [] 0) (omega (arith, c.requires.below, c.requires.machine.told)) ∙ c.requires.machine.completions place c.requires.below in
+    let there = c.index.ensures ∙ get_or_default c.args.self.now.schedule.completions.items place c.index.result.now (completion [] 0) (omega (arith, c.requires.below, c.requires.machine.told)) ∙ c.requires.machine.completions place c.requires.below in
     let id : c.index.result.now.job ≡ job_id m place = ap (λ (x : Completion). x.job) there in
     let pc : c.pc-address.result ≡ (job_at m.jobs place).pc = c.pc-address.ensures ∙ ap (λ (j : Job). j.pc) own in
     record {

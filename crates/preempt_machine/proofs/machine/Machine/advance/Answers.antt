@@ -1,0 +1,25 @@
+use Rattle.std.proofs.Common.{◌≡◌, ◌<◌, ◌&&◌, Bool, Some, ℕ, length, sym, ◌∙◌, ap, subst}
+use Rattle.std.specs.Prelude.{◌↔◌, IsTrue}
+use Rattle.preempt_machine.specs.Flags.{owner_is_kept}
+use Rattle.preempt_machine.specs.Kept.{machine_of}
+use Rattle.preempt_machine.specs.Safe.{IsKept}
+use Rattle.preempt_machine.proofs.Watches.{flag_goes_on}
+use Rattle.preempt_machine.proofs.machine.Machine.advance.Goals as goal
+use Rattle.preempt_machine.proofs.machine.Machine.advance.Goals.{then-self, else-self}
+
+pub owner_is_kept-self-inside-requires : goal.owner_is_kept-self-inside-requires
+owner_is_kept-self-inside-requires c o e = (c.in_ok-advance.ensures.machine.owner o e).below
+
+pub invariant_of-self-2 : goal.invariant_of-self-2
+invariant_of-self-2 c =
+    let new = machine_of c.advance.new.self in
+    let flag = c.self.inside.kept in
+    let both : c.if-self.self ≡ (flag && owner_is_kept new) = elim c.if-self.branch [
+      | then-self w ↦ w.self-is ∙ w.owner_is_kept-self-inside.ensures ∙ ap (λ b. b && owner_is_kept new) (sym w.if-self.true)
+      | else-self w ↦ w.self-is ∙ w.if-self.false ∙ ap (λ b. b && owner_is_kept new) (sym w.if-self.false)
+    ] in
+    let below : (o : ℕ) → new.owner ≡ Some o → o < length new.jobs = λ o e. (c.in_ok-advance.ensures.machine.owner o e).below in
+    record {
+      machine = c.in_ok-advance.ensures.machine;
+      kept = subst (λ (b : Bool). IsTrue b ↔ IsKept new) (sym both) (flag_goes_on (machine_of c.self.inside.parts) new flag c.in_ok-advance.ensures.owner below c.self.invariant.kept);
+    }

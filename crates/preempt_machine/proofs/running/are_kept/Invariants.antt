@@ -1,7 +1,0 @@
-use Rattle.std.proofs.Common.{◌≡◌, ℕ, ◌<◌, true}
-use Rattle.flow_watch.specs.Watch.{is_kept}
-use Rattle.preempt_machine.specs.Machine.{job_at}
-use Rattle.preempt_machine.proofs.running.are_kept.Given as goal
-
-abbrev pub invariant-loop-job : goal.invariant-loop-job
-invariant-loop-job l = (u : ℕ) → u < l.job-index → is_kept (job_at l.jobs u).watch ≡ true

@@ -1,0 +1,257 @@
+// The machine that runs.
+ghost use Rattle.std.specs.Prelude.{◌≡◌, ℕ, ◌<◌, length};
+ghost use Rattle.preempt_machine.specs.Kept.{completion};
+
+use crate::decoded::Decoded;
+use crate::jobs::Core;
+use crate::parts::Parts;
+use crate::schedule::Schedule;
+use crate::start::{start_cache, start_memory};
+use crate::{Completion, Fetch};
+use code_map::CodeMap;
+use crpd_base::{JobId, Memory, SETS, Script, TaskSet};
+use flow_watch::Watch;
+use icache::{Cache, Geometry};
+use rv_core::DataMemory;
+use std::alloc::Global;
+use std::marker::Model;
+
+/// A machine that runs the jobs of a script: one core with one instruction cache, on which the job of the highest task
+/// that is ready takes each cycle.
+///
+/// Contracts see it as its platform, its state and the fetch of the last step made. Times are cycles from the run's
+/// start.
+#[derive(Drop)]
+pub struct Machine {
+    parts: Parts,
+    kept: bool,
+}
+
+impl Model for Machine {
+    ghost use Rattle.preempt_machine.specs.Running.{Running};
+
+    ghost Value = { Running };
+
+    ghost use Rattle.preempt_machine.specs.Kept.{running_of};
+    ghost use Rattle.preempt_machine.specs.Flags.{IsFlagged};
+
+    ghost view = { λ m. running_of m.parts };
+
+    ghost invariant = { λ m. IsFlagged m.parts m.kept };
+}
+
+/// The place of a job, by a look through the completions.
+fn place_of(completions: &[Completion], job: JobId) -> usize
+    requires { (x : ℕ) × (x < length completions.now) × ((completion completions.now x).job ≡ job) }
+    ensures below { result < length completions.now }
+    ensures job { (completion completions.now result).job ≡ job }
+{
+    for place in 0..completions.len() {
+        if completions[place].job == job {
+            return place;
+        }
+    }
+    unreachable!()
+}
+
+impl Machine {
+    ghost use Rattle.std.specs.Prelude.{◌≡◌, ◌≢◌, ℕ, ◌+◌, ◌-◌, ◌<◌, ◌≤◌, ◌^◌, length, map, All, IsTrue, ◌↔◌, Some, None, option_map, IfOk, OnOk, OnErr};
+    ghost use Rattle.preempt_machine.specs.Safe.{completions, IsKept, NamesTasks};
+    ghost use Rattle.preempt_machine.specs.Starts.{start_cache, start_memory};
+    ghost use Rattle.preempt_machine.specs.Running.{completion_at, job_id, start_of, stepped, stepped_by, system_by, GivesStore, HasPlans, IsAt, StopsAtStore};
+    ghost use Rattle.preempt_machine.specs.Machine.{job_at};
+    ghost use Rattle.preempt_machine.specs.Kept.{completion, HasMade};
+
+    /// The machine at the start of a run of a script, from any cache and data memory: no owner, and all jobs
+    /// unreleased. It makes all the room that steps fill, but that of the data memory.
+    ///
+    /// The code map has a plan for each task of the set, the script's jobs are of the set's tasks, and the cache has
+    /// room for the platform's sets. Want of memory is the only error; then the data memory is dropped. Time is
+    /// n log n in the jobs.
+    pub fn new(
+        alloc: Global,
+        code: &CodeMap,
+        set: &TaskSet,
+        script: &Script,
+        cache: Cache<SETS>,
+        memory: DataMemory,
+    ) -> Result<Self, Memory>
+        requires line { 0 < set.now.platform.line }
+        requires sets { 0 < set.now.platform.sets }
+        requires few { set.now.platform.sets ≤ 65536 }
+        requires room { set.now.platform.sets ≤ length cache }
+        requires plans { length code.now.plans ≡ length set.now.tasks }
+        requires tasks { NamesTasks set.now script.now.jobs }
+        requires jobs { length script.now.jobs < 2 ^ 32 }
+        ensures started { IfOk result (λ m. m ≡ start_of set.now code.now cache memory script.now.jobs) }
+        ensures plans { IfOk result (λ m. HasPlans code.now m.state) }
+    {
+        let schedule = Schedule::new(alloc, code, set, script)?;
+        let decoded = Decoded::new(alloc)?;
+        let geometry = Geometry::new(&set.platform);
+        let kept = schedule.are_kept();
+        let parts = Parts {
+            core: Core {
+                geometry,
+                cache,
+                memory,
+                decoded,
+            },
+            schedule,
+            fetch: None,
+        };
+        Ok(Machine { parts, kept })
+    }
+
+    /// The machine at the start of a script: from the script's cache and the bytes of the files.
+    ///
+    /// It asks of set, code map and script what `new` asks. Want of memory is the only error.
+    pub fn load(
+        alloc: Global,
+        code: &CodeMap,
+        set: &TaskSet,
+        script: &Script,
+    ) -> Result<Self, Memory>
+        requires line { 0 < set.now.platform.line }
+        requires sets { 0 < set.now.platform.sets }
+        requires few { set.now.platform.sets ≤ 512 }
+        requires plans { length code.now.plans ≡ length set.now.tasks }
+        requires tasks { NamesTasks set.now script.now.jobs }
+        requires jobs { length script.now.jobs < 2 ^ 32 }
+        ensures started { IfOk result (λ m. m ≡ start_of set.now code.now (start_cache set.now.platform script.now.cache) (start_memory code.now.images) script.now.jobs) }
+        ensures plans { IfOk result (λ m. HasPlans code.now m.state) }
+    {
+        let memory = start_memory(alloc, code)?;
+        let cache = start_cache(set, script);
+        Machine::new(alloc, code, set, script, cache, memory)
+    }
+
+    /// One step of a job, or where no job is ready the steps up to the next release, none of them past a cycle. After an
+    /// error all is as before.
+    fn advance(&mut self, code: &CodeMap, cycle: u64) -> Result<(), Memory>
+        requires before { self.old.state.time < cycle }
+        requires plans { HasPlans code.now self.old.state }
+        ensures ok { OnOk result (HasMade code.now cycle self.old self.new) }
+        ensures plans { HasPlans code.now self.new.state }
+        ensures err { OnErr result (self.new ≡ self.old) }
+        ensures only { OnErr result (GivesStore (system_by self.old.platform code.now) self.old.state) }
+    {
+        self.parts.advance(code, cycle)?;
+        self.kept = self.kept && self.parts.schedule.owner_is_kept();
+        Ok(())
+    }
+
+    /// One step: the next cycle. Fewer than 2^64 - 1 steps were made, and each job's task has a plan with as many
+    /// stated loops as at the start.
+    ///
+    /// `Memory` comes only where the step gives a store its effect, and then all is as before. Its time is that of its
+    /// work: of one instruction, of a look at each task's first waiting job, and of the jobs that this cycle releases.
+    pub fn cycle(&mut self, code: &CodeMap) -> Result<(), Memory>
+        requires later { self.old.state.time + 1 < 2 ^ 64 }
+        requires plans { HasPlans code.now self.old.state }
+        ensures ok { OnOk result (self.new ≡ stepped code.now self.old) }
+        ensures plans { HasPlans code.now self.new.state }
+        ensures err { OnErr result (self.new ≡ self.old) }
+        ensures only { OnErr result (GivesStore (system_by self.old.platform code.now) self.old.state) }
+    {
+        self.advance(code, self.steps() + 1)
+    }
+
+    /// Makes steps until a cycle, and none where the machine stands at or past it. Each job's task has a plan with as
+    /// many stated loops as at the start.
+    ///
+    /// After `Memory` the machine stands after some of these steps, before one that gives a store its effect. Where no job
+    /// is ready the machine goes at once to the next release. So its time is that of `cycle` for each cycle in which a job
+    /// is ready, and once a look at each task's first waiting job for each stretch of cycles in which none is.
+    pub fn run_until(&mut self, code: &CodeMap, cycle: u64) -> Result<(), Memory>
+        requires plans { HasPlans code.now self.old.state }
+        ensures ok { OnOk result (self.new ≡ stepped_by (cycle - self.old.state.time) code.now self.old) }
+        ensures plans { HasPlans code.now self.new.state }
+        ensures err { OnErr result (StopsAtStore code.now (cycle - self.old.state.time) self.old self.new) }
+    {
+        while self.steps() < cycle {
+            self.advance(code, cycle)?;
+        }
+        Ok(())
+    }
+
+    /// The number of steps made.
+    /// In constant time.
+    pub fn steps(&self) -> u64
+        ensures { result ≡ self.now.state.time }
+    {
+        self.parts.schedule.steps
+    }
+
+    /// How the jobs stand, in the order of the script.
+    /// In constant time.
+    pub fn completions(&self) -> &[Completion]
+        ensures ends { map (λ c. c.«end») result.now ≡ completions self.now.state }
+        ensures long { length result.now ≡ length self.now.state.jobs }
+        ensures each { (x : ℕ) → x < length self.now.state.jobs → completion result.now x ≡ completion_at self.now.state x }
+    {
+        self.parts.schedule.completions.as_slice()
+    }
+
+    /// Whether no watch is broken.
+    /// In constant time.
+    pub fn kept(&self) -> bool
+        ensures { IsTrue result ↔ IsKept self.now.state }
+    {
+        self.kept
+    }
+
+    /// The owner of the core, None before the first turn of a job.
+    /// In constant time.
+    pub fn owner(&self) -> Option<JobId>
+        ensures { result ≡ option_map (job_id self.now.state) self.now.state.owner }
+    {
+        match self.parts.schedule.owner {
+            Some(place) => Some(self.parts.schedule.completions[place].job),
+            None => None,
+        }
+    }
+
+    /// The place in the script of the owner of the core, None before the first turn of a job.
+    /// In constant time.
+    pub fn owner_place(&self) -> Option<usize>
+        ensures { result ≡ self.now.state.owner }
+    {
+        self.parts.schedule.owner
+    }
+
+    /// The place of a job in the script.
+    fn place(&self, job: JobId) -> usize
+        requires { (x : ℕ) × IsAt self.now.state job x }
+        ensures below { result < length self.now.state.jobs }
+        ensures is { (x : ℕ) → IsAt self.now.state job x → result ≡ x }
+    {
+        place_of(self.parts.schedule.completions.as_slice(), job)
+    }
+
+    /// The pc of a job of the script, by a look through the jobs.
+    pub fn pc(&self, job: JobId) -> u32
+        requires { (x : ℕ) × IsAt self.now.state job x }
+        ensures { (x : ℕ) → IsAt self.now.state job x → result ≡ (job_at self.now.state.jobs x).pc }
+    {
+        let place = self.place(job);
+        self.parts.schedule.jobs[place].pc()
+    }
+
+    /// The watch of a job of the script, by a look through the jobs.
+    pub fn watch(&self, job: JobId) -> &Watch
+        requires { (x : ℕ) × IsAt self.now.state job x }
+        ensures { (x : ℕ) → IsAt self.now.state job x → result.now ≡ (job_at self.now.state.jobs x).watch }
+    {
+        let place = self.place(job);
+        self.parts.schedule.jobs[place].watch()
+    }
+
+    /// The fetch of the last step made, None where it made none.
+    /// In constant time.
+    pub fn last_fetch(&self) -> Option<Fetch>
+        ensures { result ≡ self.now.fetch }
+    {
+        self.parts.fetch
+    }
+}
