@@ -13,8 +13,8 @@ ghost use Rattle.cert_check.specs.Case.{IsLeast, counted};
 ghost use Rattle.cert_check.specs.Paid.{IsPaid, costs_at, item_by, EdgePaid};
 
 use crate::least::at_most;
-use crate::steps::successor;
 use crpd_base::{NodeId, Platform, TaskPart};
+use evict_sets::successor;
 use flat_graph::{Graph, Kind};
 use loop_regions::Nest;
 use rv_decode::{Ins, cost};

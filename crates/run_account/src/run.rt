@@ -13,11 +13,11 @@ ghost use Rattle.run_account.specs.Runs.{graphs_in, start_in, certificate_in, Ar
 ghost use Rattle.run_account.specs.Shown.{start_of_script, with_nests, AreGraphsOf, StatesAreMet, UsefulIsMet};
 ghost use Rattle.run_account.specs.Trails.{entry_of, IsNoted};
 
-use crate::hits::hits;
 use crate::told::{Account, Entry};
 use crate::trails::{Reload, Trails, push};
 use code_map::CodeMap;
 use crpd_base::{Certificate, Items, JobId, Memory, Script, ScriptJob, TaskSet};
+use evict_sets::hits;
 use flat_graph::Graph;
 use icache::{Access, Geometry};
 use preempt_machine::{Completion, End, Fetch, Machine};
