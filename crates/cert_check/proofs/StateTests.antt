@@ -8,10 +8,10 @@ use Rattle.evict_sets.specs.Full.{Listed, FullState, listed}
 use Rattle.evict_sets.specs.Clauses.{ListsLeaders, StateAfter, StatesMeet}
 use Rattle.evict_sets.specs.Certificate.{block_in}
 use Rattle.evict_sets.proofs.FullLaws.{unlisted_state_law}
-use Rattle.cert_check.specs.Case.{IsStateAfter}
-use Rattle.cert_check.proofs.Nexts.{some_one, none_some, edge_at, at_edges}
-use Rattle.cert_check.proofs.FullBlocks.{as_listed, AreHeld, held_at}
-use Rattle.cert_check.proofs.Lines.{one_follows}
+use Rattle.evict_sets.specs.Listing.{IsStateAfter}
+use Rattle.flat_graph.proofs.Nexts.{some_one, none_some, edge_at, at_edges}
+use Rattle.evict_sets.proofs.FullBlocks.{as_listed, AreHeld, held_at}
+use Rattle.evict_sets.proofs.Lines.{one_follows}
 
 module _ (g : Graph) (a : Accesses) (l : Listed) where
   -- a listed state is empty where it has no pairs

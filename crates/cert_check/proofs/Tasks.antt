@@ -9,7 +9,7 @@ use Rattle.loop_regions.specs.CodeNest.{CodeNest, IsNestOf}
 use Rattle.evict_sets.specs.Certificate.{cert_at, no_cert}
 use Rattle.cert_check.specs.Shown.{shown, shown_at, graph_at, nest_at, no_graph, no_nest, HasLowSets, AreShown, IsInRange}
 use Rattle.crpd_base.specs.declared.data.NodeState.{NodeState}
-use Rattle.cert_check.specs.Case.{IsIndex}
+use Rattle.evict_sets.specs.Listing.{IsIndex}
 use Rattle.cert_check.specs.Graphs.{GraphHolds}
 use Rattle.cert_check.specs.Answered.{IsFound}
 use Rattle.cert_check.specs.Verdict.{Holds}

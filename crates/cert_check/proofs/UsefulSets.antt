@@ -10,7 +10,7 @@ use Rattle.evict_sets.specs.Full.{Listed, FullUseful, listed_useful, used, used_
 use Rattle.evict_sets.specs.Clauses.{UsefulMeets, SetsMeet}
 use Rattle.evict_sets.proofs.FullLaws.{unlisted_useful_law}
 use Rattle.cert_check.specs.Case.{IsUsefulAt, IsUsefulBehind, IsUsefulBy}
-use Rattle.cert_check.proofs.Nexts.{place_of, edge_at, some_one, none_some}
+use Rattle.flat_graph.proofs.Nexts.{place_of, edge_at, some_one, none_some}
 
 -- membership as a number and as a test
 pub is_member : (words : List ℕ) (t : ℕ) → IsTrue (has words t) → member words t ≡ 1

@@ -1,42 +1,10 @@
--- A task's graph beside what its part of a certificate lists, and what is known while the clauses are judged there.
-use Rattle.std.specs.Prelude.{◌≡◌, ◌↔◌, ℕ, ◌+◌, ◌<◌, ◌≤◌, Bool, false, List, length, Option, Some, slice_get, slice_index, slice_index_or, IsTrue, IsFalse}
-use Rattle.crpd_base.specs.Ranges.{IsPlatform}
+-- What is known while clauses 3 to 5 are judged at a task's nodes.
+use Rattle.std.specs.Prelude.{◌≡◌, ◌↔◌, ℕ, ◌<◌, ◌≤◌, List, Some, slice_get, IsTrue}
 use Rattle.crpd_base.specs.Sets.{has}
-use Rattle.crpd_base.specs.declared.data.Platform.{Platform}
-use Rattle.crpd_base.specs.declared.data.NodeState.{NodeState}
-use Rattle.crpd_base.specs.declared.data.TaskPart.{TaskPart}
-use Rattle.icache.specs.Cache.{held}
-use Rattle.icache.specs.Accesses.{Accesses, accesses}
+use Rattle.icache.specs.Accesses.{Accesses}
 use Rattle.flat_graph.specs.Graph.{Graph, Edge}
-use Rattle.flat_graph.specs.CodeGraph.{CodeGraph, graph_of, places_of}
-use Rattle.evict_sets.specs.Full.{Listed, FullState, FullUseful}
-use Rattle.evict_sets.specs.Clauses.{ListsLeaders, StateAfter}
-use Rattle.evict_sets.specs.Certificate.{entry_of, listed_of}
-use Rattle.cert_check.specs.Shown.{HasLowSets}
-
--- the accesses of a graph's nodes
-abbrev pub fetches : Platform → CodeGraph → Accesses
-fetches p g = accesses p (places_of g).address
-
--- each node has the place of its entry among the listed states; a node that is not listed has a place past them
-pub record IsIndex (states : List NodeState) (size : ℕ) (places : List ℕ) : Type 0 where
-  pub count : length places ≡ size
-  pub each : (y : ℕ) → y < size → slice_get states (slice_index places y) ≡ entry_of states y
-
--- the platform and the part are in their ranges, the places are those of the part's entries, and the leaders are listed
-pub record IsCase (p : Platform) (g : CodeGraph) (t : TaskPart) (places : List ℕ) : Type 0 where
-  pub platform : IsPlatform p
-  pub sets : HasLowSets t
-  pub index : IsIndex t.states (length g.nodes) places
-  pub leaders : ListsLeaders (graph_of g) (listed_of t)
-
--- the blocks of the cache sets are the full state of node y
-abbrev pub IsStateAt : Graph → Accesses → Listed → ℕ → List (Option ℕ) → Type 0
-IsStateAt g a l y blocks = (s m : ℕ) → FullState g a l y s m ↔ (held blocks s ≡ Some m)
-
--- and the state after node u
-abbrev pub IsStateAfter : Graph → Accesses → Listed → ℕ → List (Option ℕ) → Type 0
-IsStateAfter g a l u blocks = (s m : ℕ) → StateAfter g a l u s m ↔ (held blocks s ≡ Some m)
+use Rattle.evict_sets.specs.Full.{Listed, FullUseful}
+pub use Rattle.evict_sets.specs.Listing.{counted}
 
 -- the words are the full useful set of node y
 abbrev pub IsUsefulAt : Graph → Accesses → Listed → ℕ → List ℕ → Type 0
@@ -49,19 +17,6 @@ IsUsefulBehind g a l y words = (s : ℕ) → ((v : ℕ) × Edge g y v × FullUse
 -- and at the end of one of its edges
 abbrev pub IsUsefulBy : Graph → Accesses → Listed → ℕ → ℕ → List ℕ → Type 0
 IsUsefulBy g a l y k words = (s : ℕ) → ((v : ℕ) × (slice_get (g.next y) k ≡ Some v) × FullUseful g a l v s) ↔ IsTrue (has words s)
-
--- all nodes in an order in which an unlisted node stands behind the node that it continues
-pub record IsOrder (g : Graph) (l : Listed) (order : List ℕ) : Type 0 where
-  pub count : length order ≡ g.size
-  pub nodes : (k : ℕ) → k < g.size → slice_index order k < g.size
-  pub every : (y : ℕ) → y < g.size → (k : ℕ) × (k < g.size) × (slice_index order k ≡ y)
-  pub start : 0 < g.size → IsTrue (l.is_listed (slice_index order 0))
-  pub before : (k : ℕ) → k + 1 < g.size → IsFalse (l.is_listed (slice_index order (k + 1))) → Edge g (slice_index order k) (slice_index order (k + 1))
-  pub behind : (k v : ℕ) → k < g.size → Edge g (slice_index order k) v → IsFalse (l.is_listed v) → (k + 1 < g.size) × (slice_index order (k + 1) ≡ v)
-
--- whether the list counts the node as a hit
-abbrev pub counted : List Bool → ℕ → Bool
-counted hits y = slice_index_or hits y false
 
 -- the least node at which a fact fails; the number of nodes where there is none
 pub record IsLeast (P : ℕ → Type 0) (size least : ℕ) : Type 0 where

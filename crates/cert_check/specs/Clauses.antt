@@ -1,16 +1,11 @@
 -- Clauses 6 and 7 of a certificate.
-use Rattle.std.specs.Prelude.{◌≡◌, ◌↔◌, ℕ, ◌*◌, ◌<◌, ◌≤◌, Bool, IsTrue}
+use Rattle.std.specs.Prelude.{◌≡◌, ℕ, ◌*◌, ◌<◌, ◌≤◌, Bool}
 use Rattle.crpd_base.specs.declared.data.Platform.{Platform}
 use Rattle.flat_graph.specs.Graph.{Graph, Edge}
 use Rattle.flat_graph.specs.EdgeCost.{Listing, edge_cost, end_cost}
-use Rattle.icache.specs.Accesses.{Accesses}
 use Rattle.loop_regions.specs.Nest.{Nest, Leaves, Item, IsItem}
 use Rattle.loop_regions.specs.Potentials.{Costs, Potentials, item_potential, MeetsAt}
-use Rattle.evict_sets.specs.Full.{Listed, IsHit}
-
--- which nodes are counted as hits, as a test
-abbrev pub CountsHits : Graph → Accesses → Listed → (ℕ → Bool) → Type 0
-CountsHits g a l is_hit = (y : ℕ) → y < g.size → IsTrue (is_hit y) ↔ IsHit g a l y
+pub use Rattle.evict_sets.specs.Listing.{CountsHits}
 
 -- the costs of the edges with these hits
 abbrev pub costs : Platform → Listing → (ℕ → Bool) → (ℕ → Bool) → Costs

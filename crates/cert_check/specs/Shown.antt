@@ -1,12 +1,12 @@
 -- The task graphs that kept graphs and regions are seen as, and the ranges of a certificate.
 use Rattle.std.specs.Prelude.{◌≡◌, ℕ, ◌<◌, ◌≤◌, ◌^◌, List, [], length, All, slice_index_or}
 use Rattle.crpd_base.specs.declared.data.TaskSet.{TaskSet}
-use Rattle.crpd_base.specs.declared.data.NodeState.{NodeState}
 use Rattle.crpd_base.specs.declared.data.TaskPart.{TaskPart}
 use Rattle.crpd_base.specs.declared.data.Certificate.{Certificate}
 use Rattle.flat_graph.specs.CodeGraph.{CodeGraph, graph_of, places_of, ins_of}
 use Rattle.loop_regions.specs.CodeNest.{CodeNest, nest_of, IsNestOf}
 use Rattle.loop_regions.specs.TaskGraph.{TaskGraph}
+pub use Rattle.evict_sets.specs.Listing.{HasLowSets}
 
 -- a kept graph and its regions as one
 abbrev pub shown : CodeGraph → CodeNest → TaskGraph
@@ -34,11 +34,7 @@ pub record AreShown (set : TaskSet) (graphs : List CodeGraph) (nests : List Code
   pub all_nests : length nests ≡ length set.tasks
   pub each : (i : ℕ) → i < length set.tasks → IsNestOf (graph_at graphs i) (nest_at nests i)
 
--- the cache sets of the listed states are below 512
-abbrev pub HasLowSets : TaskPart → Type 0
-HasLowSets t = All (λ (s : NodeState). All (λ (x : ℕ × ℕ). x.0 < 512) s.sure) t.states
-
--- and the windows are at most 2^40
+-- the cache sets of the listed states are below 512, and the windows are at most 2^40
 pub record IsInRange (c : Certificate) : Type 0 where
   pub sets : All HasLowSets c.tasks
   pub windows : All (λ (t : TaskPart). t.window ≤ 2 ^ 40) c.tasks

@@ -4,10 +4,10 @@ ghost use Rattle.crpd_base.specs.declared.data.NodeState.{NodeState};
 ghost use Rattle.flat_graph.specs.CodeGraph.{graph_of};
 ghost use Rattle.evict_sets.specs.Certificate.{listed_of};
 ghost use Rattle.evict_sets.specs.Clauses.{ListsLeaders};
-ghost use Rattle.cert_check.specs.Case.{IsIndex};
+ghost use Rattle.evict_sets.specs.Listing.{IsIndex};
 
-use crate::case::Case;
 use crpd_base::{NodeId, NodeState};
+use evict_sets::Listing;
 
 /// Whether each listed number is that of one of so many nodes.
 pub(crate) fn are_nodes(states: &[NodeState], size: u32) -> bool
@@ -16,18 +16,16 @@ pub(crate) fn are_nodes(states: &[NodeState], size: u32) -> bool
     states.iter().all(|state| state.node < size)
 }
 
-impl Case<'_> {
-    /// Whether every leader is listed.
-    pub(crate) fn lists_leaders(&self) -> bool
-        requires index { IsIndex self.now.part.now.states (length self.now.graph.now.nodes) self.now.places.now }
-        ensures { IsTrue result ↔ ListsLeaders (graph_of self.now.graph.now) (listed_of self.now.part.now) }
-    {
-        self.graph.graph_law();
-        for node in 0..self.graph.len() {
-            if self.graph.leader(NodeId(node)) && !self.is_listed(NodeId(node)) {
-                return false;
-            }
+/// Whether every leader is listed.
+pub(crate) fn lists_leaders(listing: &Listing<'_>) -> bool
+    requires index { IsIndex listing.now.part.now.states (length listing.now.graph.now.nodes) listing.now.places.now }
+    ensures { IsTrue result ↔ ListsLeaders (graph_of listing.now.graph.now) (listed_of listing.now.part.now) }
+{
+    listing.graph.graph_law();
+    for node in 0..listing.graph.len() {
+        if listing.graph.leader(NodeId(node)) && !listing.is_listed(NodeId(node)) {
+            return false;
         }
-        true
     }
+    true
 }

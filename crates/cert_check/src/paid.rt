@@ -11,9 +11,8 @@ ghost use Rattle.cert_check.specs.Case.{IsLeast, counted};
 ghost use Rattle.cert_check.specs.Paid.{IsPaid, costs_at, EdgePaid};
 
 use crate::least::at_most;
-use crate::steps::successor;
 use crpd_base::{NodeId, Platform, TaskPart};
-use evict_sets::{edge_cost, end_cost};
+use evict_sets::{edge_cost, end_cost, successor};
 use flat_graph::Graph;
 use loop_regions::{Nest, Way};
 

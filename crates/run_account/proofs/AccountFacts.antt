@@ -24,7 +24,7 @@ module _ (r : Run) (R : IsReady r) (nests : ℕ → Nest) where
       let l = task_below r R x h in
       let S = R.states (task_of (start_in r) x) l in
       let M = U (task_of (start_in r) x) l in
-      record { states = S.states; useful = M.useful; sets = M.sets }
+      record { states = S.states.states; useful = M.useful; sets = M.sets }
 
   pub account_facts : UsefulIsMet r.set.now r.graphs.now r.certificate.now → (n : ℕ) (a : Account) → IsAccount (start_in r) (with_nests r.graphs.now nests) (certificate_in r) n a → HasAccountFacts (start_in r) (with_nests r.graphs.now nests) (certificate_in r) n a
   account_facts U n a I =

@@ -3,18 +3,16 @@ use Rattle.std.specs.Prelude.{◌≡◌, ℕ, ◌<◌, List, [], length, slice_i
 use Rattle.crpd_base.specs.declared.data.Certificate.{Certificate}
 use Rattle.crpd_base.specs.declared.data.Script.{Script}
 use Rattle.crpd_base.specs.declared.data.TaskSet.{TaskSet}
-use Rattle.crpd_base.specs.Sets.{has}
 use Rattle.code_map.specs.Words.{Code}
 use Rattle.flat_graph.specs.CodeGraph.{CodeGraph, graph_of, places_of, ins_of}
 use Rattle.loop_regions.specs.Nest.{Nest}
 use Rattle.loop_regions.specs.TaskGraph.{TaskGraph}
 use Rattle.loop_regions.specs.TaskSteps.{IsGraphOfTask}
-use Rattle.evict_sets.specs.Clauses.{ListsLeaders, StatesMeet, UsefulMeets, SetsMeet}
-use Rattle.evict_sets.specs.Certificate.{listed_of, cert_at}
+use Rattle.evict_sets.specs.Certificate.{cert_at}
+use Rattle.evict_sets.specs.Listing.{MeetsStates, MeetsUseful}
 use Rattle.preempt_machine.specs.Safe.{system_of}
 use Rattle.preempt_machine.specs.Starts.{start_cache, start_memory}
 use Rattle.preempt_machine.specs.Step.{Start}
-use Rattle.run_account.specs.Case.{HasLowSets, fetches}
 
 abbrev pub no_graph : CodeGraph
 no_graph = record { nodes = []; first = 0 }
@@ -32,24 +30,15 @@ pub record AreGraphsOf (code : Code) (set : TaskSet) (graphs : List CodeGraph) :
   pub all : length graphs ≡ length set.tasks
   pub each : (i : ℕ) → i < length set.tasks → IsGraphOfTask code i (graph_at graphs i)
 
--- of the clauses of a certificate those that a ledger rests on, at each task: the certificate has a part for it, with cache
--- sets below 512; every leader is listed; and clause 3 holds at each node
-pub record MeetsStates (set : TaskSet) (graphs : List CodeGraph) (c : Certificate) (i : ℕ) : Type 0 where
+-- of the clauses of a certificate those that a ledger rests on, at each task: the certificate has a part for it, which meets
+-- the clauses on states
+pub record MeetsTask (set : TaskSet) (graphs : List CodeGraph) (c : Certificate) (i : ℕ) : Type 0 where
   pub has_task : i < length c.tasks
-  pub low_sets : HasLowSets (cert_at c i)
-  pub leaders : ListsLeaders (graph_of (graph_at graphs i)) (listed_of (cert_at c i))
-  pub states : (u : ℕ) → u < length (graph_at graphs i).nodes →
-      StatesMeet (graph_of (graph_at graphs i)) (fetches set.platform (graph_at graphs i)) (listed_of (cert_at c i)) u
+  pub states : MeetsStates set.platform (graph_at graphs i) (cert_at c i)
 
 abbrev pub StatesAreMet : TaskSet → List CodeGraph → Certificate → Type 0
-StatesAreMet set graphs c = (i : ℕ) → i < length set.tasks → MeetsStates set graphs c i
+StatesAreMet set graphs c = (i : ℕ) → i < length set.tasks → MeetsTask set graphs c i
 
--- of the other clauses those that the facts of its entries rest on besides, at each task: clauses 4 and 5 hold at each node
-pub record MeetsUseful (set : TaskSet) (graphs : List CodeGraph) (c : Certificate) (i : ℕ) : Type 0 where
-  pub useful : (u : ℕ) → u < length (graph_at graphs i).nodes →
-      UsefulMeets (graph_of (graph_at graphs i)) (fetches set.platform (graph_at graphs i)) (listed_of (cert_at c i)) u
-  pub sets : (u : ℕ) → u < length (graph_at graphs i).nodes →
-      SetsMeet (graph_of (graph_at graphs i)) (fetches set.platform (graph_at graphs i)) (listed_of (cert_at c i)) (has (cert_at c i).part.evicting) (has (cert_at c i).part.useful) u
-
+-- of the other clauses those that the facts of its entries rest on besides, at each task
 abbrev pub UsefulIsMet : TaskSet → List CodeGraph → Certificate → Type 0
-UsefulIsMet set graphs c = (i : ℕ) → i < length set.tasks → MeetsUseful set graphs c i
+UsefulIsMet set graphs c = (i : ℕ) → i < length set.tasks → MeetsUseful set.platform (graph_at graphs i) (cert_at c i)

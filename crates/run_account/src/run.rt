@@ -14,11 +14,11 @@ ghost use Rattle.preempt_machine.specs.Starts.{start_of_script};
 ghost use Rattle.run_account.specs.Shown.{with_nests, AreGraphsOf, StatesAreMet, UsefulIsMet};
 ghost use Rattle.run_account.specs.Trails.{entry_of, IsNoted};
 
-use crate::hits::hits;
 use crate::told::{Account, Entry};
 use crate::trails::{Reload, Trails};
 use code_map::CodeMap;
 use crpd_base::{Certificate, Items, Memory, Script, ScriptJob, TaskSet};
+use evict_sets::hits;
 use flat_graph::Graph;
 use icache::{Access, Geometry};
 use preempt_machine::{Completion, End, Fetch, Machine, push};

@@ -6,6 +6,7 @@ use Rattle.std.proofs.lemmas.Bool.{cases_Bool, cases_eq, false≢true, and_parts
 use Rattle.crpd_base.specs.declared.data.TaskSet.{TaskSet}
 use Rattle.script_reader.specs.Legal.{period_of, jitter_of}
 use Rattle.preempt_machine.specs.Step.{Start}
+use Rattle.run_account.proofs.LastBelow.{some_below, found_below, found_is, some_from}
 use Rattle.sound_laws.specs.Walks.{RunsLegally}
 use Rattle.crpd_base.specs.Sum.{sum_below}
 use Rattle.crpd_base.specs.Sets.{has as has_set}
@@ -19,34 +20,6 @@ use Rattle.sound_laws.proofs.Counts.Counting.{spread, inject, each_at_most, coun
 use Rattle.sound_laws.proofs.Windows.Busy.{line_at, task_at, in_window}
 use Rattle.sound_laws.proofs.Windows.Demands.{is_member, releases_few}
 use Rattle.sound_laws.proofs.Delays.UnionCount.{inside_member, inside_task}
-
--- whether a number below n passes, and one that does
-abbrev pub some_below : (ℕ → Bool) → ℕ → Bool
-some_below p zero = false
-some_below p (suc n) = p n || some_below p n
-
-abbrev pub found_below : (ℕ → Bool) → ℕ → ℕ
-found_below p zero = 0
-found_below p (suc n) = if p n then n else found_below p n
-
-pub found_is : (p : ℕ → Bool) (n : ℕ) → some_below p n ≡ true → (found_below p n < n) × (p (found_below p n) ≡ true)
-found_is p zero h = absurd (false≢true h)
-found_is p (suc n) h =
-    elim (cases_Bool (p n)) [
-      | inl b ↦ rw b (omega arith, b)
-      | inr b ↦
-          let rest : some_below p n ≡ true = elim (or_cases (p n) (some_below p n) h) [ inl q ↦ absurd (false≢true (sym b ∙ q)) | inr q ↦ q ] in
-          let r = found_is p n rest in
-          rw b (omega (arith, r.0), r.1)
-    ]
-
-pub some_from : (p : ℕ → Bool) (n x : ℕ) → x < n → p x ≡ true → some_below p n ≡ true
-some_from p zero x l h = absurd (omega arith)
-some_from p (suc n) x l h =
-    elim (cases_eq x n) [
-      | inl e ↦ or_left (p n) (some_below p n) (subst (λ k. p k ≡ true) e h)
-      | inr ne ↦ or_right (p n) (some_below p n) (some_from p n x (omega arith) h)
-    ]
 
 pub evicted_by : (parts : ℕ → Part) (h j c : ℕ) → h ≤ j → has_set (parts h).evicting c ≡ true → evicted_from parts j c ≡ true
 evicted_by parts h zero c l e = let z : h ≡ 0 = omega arith in subst (λ k. has_set (parts k).evicting c ≡ true) z e

@@ -1,66 +1,60 @@
 -- Step 6, entry_from_higher and preemptor_within_useful: an entry comes from higher tasks, and those of a job with one
 -- preemptor are at most the useful sets of one node.
-use Rattle.std.proofs.Common.{◌≡◌, ℕ, ◌<◌, ◌≤◌, ◌≢◌, Bool, true, IsTrue, refl, sym, ◌∙◌, ap, subst, arith}
+use Rattle.std.proofs.Common.{◌≡◌, ℕ, ◌<◌, ◌≤◌, Bool, true, length, refl, sym, ◌∙◌, ap, subst, arith}
+use Rattle.crpd_base.specs.declared.data.Platform.{Platform}
 use Rattle.evict_sets.specs.Full.{FullUseful}
-use Rattle.evict_sets.specs.Certificate.{listed_of}
-use Rattle.crpd_base.specs.Sets.{has as has_set}
+use Rattle.evict_sets.specs.Certificate.{listed_of, cert_at}
 use Rattle.cert_check.specs.Judge.{accesses_of}
-use Rattle.evict_sets.specs.Certificate.{cert_at}
 use Rattle.preempt_machine.specs.Step.{Fetch, state}
 use Rattle.preempt_machine.proofs.Steps.{fetch_says}
+use Rattle.run_account.specs.Facts.{AreSetsMet}
 use Rattle.run_account.specs.Fetches.{job_of, fetched_set}
+use Rattle.run_account.specs.Ledger.{IsPreempted, IsOfRun, LedgerEntry}
+use Rattle.run_account.specs.Nodes.{task_of, node_of}
 use Rattle.run_account.specs.Reloads.{FetchesAt}
-use Rattle.run_account.proofs.ReloadLaws.{gap_is_of_higher, one_job_per_preemptor}
+use Rattle.run_account.specs.Walks.{HasGraphs}
+use Rattle.run_account.proofs.EntryFacts.{of_higher}
 use Rattle.run_account.proofs.Gaps.{one_gap_per_preemptor}
-use Rattle.run_account.proofs.OwnFetches.{own_candidate}
-use Rattle.run_account.specs.Nodes.{task_of, plan_at, node_of}
-use Rattle.run_account.specs.Walks.{fetched_nodes}
-use Rattle.sound_laws.specs.Walks.{before_of}
-use Rattle.run_account.specs.Ledger.{IsPreempted}
+use Rattle.run_account.proofs.ReloadLaws.{one_job_per_preemptor}
 use Rattle.sound_laws.specs.FromHigher.{IsFromHigher, EntryFromHigher, PreemptorWithinUseful}
-use Rattle.sound_laws.proofs.Delays.Carried.{carried_to, set_fetched}
 use Rattle.sound_laws.proofs.Windows.Releases.{count}
 use Rattle.sound_laws.proofs.Counts.Counting.{inject}
-use Rattle.sound_laws.proofs.Walks.Stands.{walk_node}
-use Rattle.sound_laws.proofs.Walks.KeptWalks.{ok, walking}
-use Rattle.sound_laws.proofs.Walks.CheckedRuns.{CheckedRun, checked_run, runs_jobs, some_sets, cached_run, is_opened, is_below, kept_at}
-use Rattle.sound_laws.proofs.Reloads.Entries.{counted_at, met, set_at, fetch_evicts, ledger_reload}
+use Rattle.sound_laws.proofs.Walks.CheckedRuns.{CheckedRun, below_tasks, cached_run, checked_run, runs_jobs, some_sets}
+use Rattle.sound_laws.proofs.Reloads.Entries.{met, set_at, ledger_reload}
 
 module _ (K : CheckedRun) where
-  open K use {start as s, set, graphs, certificate as c, horizon, in_range as R, code as C, says, run, kept}
+  open K use {start as s, set, graphs, certificate as c, horizon, in_range as R, code as C, says, run}
 
-  -- an entry at the horizon comes from higher tasks
-  from_higher : (x p : ℕ) (e : IsPreempted s graphs c horizon x p) → IsFromHigher s graphs c horizon x p e
-  from_higher x p e =
-      let mine = own_candidate s x horizon e.fetch e.entry.fetches in
-      let h = is_below K horizon x mine in
-      let k = kept_at K horizon x (omega arith) h in
-      let q = e.is in
-      let at : FetchesAt s q.evictor.job e.time q.evictor = record { is = q.last.is; by = refl } in
-      let last_before = q.last.earlier in
-      let in_time = q.in_time in
-      let until = q.gap.until in
-      let after = q.gap.after in
-      let other : q.evictor.job ≢ x = q.gap.none e.time q.evictor after until q.last.is in
-      let passes = gap_is_of_higher s x q.evictor.job e.from e.time e.until q.from q.evictor q.to after until q.gap.begins at q.gap.ends other in
-      let preempts = gap_is_of_higher s x p e.from q.at e.until q.from q.fetch q.to q.after q.until q.gap.begins q.by q.gap.ends q.other in
-      let carried = carried_to s set graphs R C run.tasks x h e.until horizon (fetched_set s e.fetch) q.to q.gap.ends (λ m l. kept_at K m x l h)
-      (λ m g a b f. q.last.last m g (omega arith) b f.is)
-      (cert_at c (task_of s x)) (counted_at K x) (met K x h) in_time e.fetch e.entry.fetches refl e.entry.counted in
-      let node = walk_node s.system (plan_at s x) (graphs (task_of s x)) (ok s set graphs R C run.tasks x h) C.map (node_of (graphs (task_of s x)) (job_of s horizon x)) (before_of (job_of s horizon x) (fetched_nodes s graphs horizon x)) ((walking s set graphs R C run.tasks horizon x h k).on_walk (is_opened K horizon x mine)).walked.walk in
-      let own = ((met K x h).all.useful (node_of (graphs (task_of s x)) (job_of s horizon x)) node).own e.entry.counted in
-      let in_set = ((met K x h).all.sets (node_of (graphs (task_of s x)) (job_of s horizon x)) node).all _ own in
+  -- what the laws on ledgers ask of such a run
+  has_graphs : HasGraphs s graphs
+  has_graphs =
       record {
-        evictor = passes.higher;
-        preemptor = preempts.higher;
-        not_after = q.latest e.time q.evictor after until q.last.is;
-        evicts = subst (λ z. has_set (cert_at c (task_of s q.evictor.job)).part.evicting z ≡ true) q.last.to_set (fetch_evicts K e.time q.evictor.job q.evictor (omega arith) at);
-        in_set = subst (λ z. IsTrue (has_set (cert_at c (task_of s x)).part.useful z)) (set_fetched s set graphs R C run.tasks x h horizon e.fetch k e.entry.fetches) in_set;
-        carried = carried;
+        code = C.map;
+        hit = subst (λ (p : Platform). 1 ≤ p.hit) (sym C.platform) R.hit;
+        graph = λ x h. let g = C.graphs_of (task_of s x) (below_tasks K x h) in record { follows = g.follows; no_errors = g.no_errors };
       }
 
+  sets_met : AreSetsMet s graphs c
+  sets_met x h = let M = (met K x h).all in record { states = M.states; useful = M.useful; sets = M.sets }
+
+  -- an entry with its preemptor, and with its evictor
+  of_run : (n x p : ℕ) (e : IsPreempted s graphs c n x p) → IsOfRun s graphs c (record { job = x; set = fetched_set s e.fetch; time = n; evictor = e.is.evictor.job; preemptor = p })
+  of_run n x p e =
+      record {
+        evicted = record { fetch = e.fetch; entry = e.entry; time = e.time; last = e.is.evictor; is = record { last = e.is.last; by = refl } };
+        preempted = e;
+        to_set = refl;
+      }
+
+  -- it comes from higher tasks
+  from_higher : (n x p : ℕ) (e : IsPreempted s graphs c n x p) → IsFromHigher s graphs c n x p e
+  from_higher n x p e =
+      let entry : LedgerEntry = record { job = x; set = fetched_set s e.fetch; time = n; evictor = e.is.evictor.job; preemptor = p } in
+      let h = of_higher s graphs c (cached_run K) has_graphs sets_met entry (of_run n x p e) in
+      record { evictor = h.evictor; preemptor = h.preemptor; not_after = h.not_after; evicts = h.evicts; in_set = h.in_set; carried = h.carried }
+
 pub entry_from_higher : EntryFromHigher
-entry_from_higher s set graphs c n x p R C says run e = from_higher (checked_run s set graphs c n R C says (runs_jobs run) e.entry.kept) x p e
+entry_from_higher s set graphs c n x p R C says run e = from_higher (checked_run s set graphs c n R C says (runs_jobs run) e.entry.kept) n x p e
 
 -- the entries of a job with one preemptor
 module _ (K : CheckedRun) (x p first : ℕ) (test useful : ℕ → Bool) (e : IsPreempted K.start K.graphs K.certificate first x p) (each : (n : ℕ) → test n ≡ true → (n < K.horizon) × IsPreempted K.start K.graphs K.certificate n x p) where
@@ -89,7 +83,7 @@ module _ (K : CheckedRun) (x p first : ℕ) (test useful : ℕ → Bool) (e : Is
       (λ n l b. let q = some_sets K in omega arith)
       (λ n l b.
       let E = (each n b).1 in
-      let from = from_higher (checked_run s set graphs c n R C says run E.entry.kept) x p E in
+      let from = from_higher K n x p E in
       let gap = one_gap_per_preemptor s x p n E.from E.time E.until first e.from e.time e.until E.fetch e.fetch E.is e.is in
       let here = subst (λ m. FullUseful (graphs (task_of s x)).graph (accesses_of s.system.platform (graphs (task_of s x))) (listed_of (cert_at c (task_of s x))) (node_of (graphs (task_of s x)) (job_of s m x)) (fetched_set s E.fetch)) gap.1 from.carried in
       subst (λ z. useful z ≡ true) (place_is n E.fetch E.entry.fetches) (covers (fetched_set s E.fetch) here))

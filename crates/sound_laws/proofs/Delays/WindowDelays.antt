@@ -17,7 +17,7 @@ use Rattle.sound_laws.proofs.Windows.Busy.{line_at, task_at, in_window, IsLastQu
 use Rattle.sound_laws.proofs.Windows.Releases.{count, count_none}
 use Rattle.sound_laws.proofs.Counts.Counting.{count_le}
 use Rattle.sound_laws.proofs.Windows.Responses.{HasShortFront, HigherAreOver, higher_over, over_after_quiet, quiet_covers}
-use Rattle.sound_laws.proofs.Delays.Preemptors.{IsUpTo, preemptor_of, HasPreemptor, preemptor_is}
+use Rattle.run_account.proofs.Preemptors.{IsUpTo, preemptor_of, HasPreemptor, preemptor_is}
 use Rattle.sound_laws.proofs.Walks.CheckedRuns.{CheckedRun, checked_run, run_of, window, parts, bound_of, cached_run}
 use Rattle.sound_laws.proofs.Reloads.Entries.{extra, victim, evictor_at, preemptor_at, IsEntry, entry_says, ledger_test, fetch_same, victim_is}
 use Rattle.sound_laws.proofs.Execution.Spent.{rest, rest_spends}

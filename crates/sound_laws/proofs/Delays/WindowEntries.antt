@@ -19,7 +19,7 @@ use Rattle.sound_laws.proofs.Windows.Busy.{before_task, line_at, task_at, in_win
 use Rattle.sound_laws.proofs.Windows.Releases.{count, lies_in}
 use Rattle.sound_laws.proofs.Windows.Responses.{HigherAreOver}
 use Rattle.sound_laws.proofs.Delays.ChoiceCount.{ArePreempted, preempted_few, task_choice, evicted_by}
-use Rattle.sound_laws.proofs.Delays.Preemptors.{HasPreemptor, same_reload, same_job}
+use Rattle.run_account.proofs.Preemptors.{HasPreemptor, same_reload, same_job}
 use Rattle.sound_laws.proofs.Delays.UnionCount.{AreEntries, entries_few, task_share, inside_task}
 use Rattle.sound_laws.proofs.Walks.CheckedRuns.{CheckedRun, window, parts, some_sets, cached_run, below_tasks, is_below, sets_same}
 use Rattle.sound_laws.proofs.Reloads.Entries.{victim, cached, IsEntry, fetch_evicts}

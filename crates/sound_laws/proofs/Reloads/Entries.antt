@@ -18,7 +18,7 @@ use Rattle.sound_laws.specs.Walks.{before_of}
 use Rattle.sound_laws.specs.Rests.{is_entry}
 use Rattle.run_account.specs.Ledger
 use Rattle.sound_laws.proofs.Windows.Busy.{task_at}
-use Rattle.sound_laws.proofs.Delays.Preemptors.{preemptor_of}
+use Rattle.run_account.proofs.Preemptors.{preemptor_of}
 use Rattle.sound_laws.proofs.Walks.Stands.{walk_node}
 use Rattle.sound_laws.proofs.Walks.KeptWalks.{ok, walking}
 use Rattle.sound_laws.proofs.Execution.Spends.{extra_of}

@@ -20,7 +20,7 @@ use Rattle.sound_laws.proofs.Windows.Busy.{task_at, in_window}
 use Rattle.sound_laws.proofs.Windows.Releases.{count}
 use Rattle.sound_laws.proofs.Counts.Counting.{count_le}
 use Rattle.sound_laws.proofs.Windows.Responses.{HigherAreOver}
-use Rattle.sound_laws.proofs.Delays.Preemptors.{preemptor_of, HasPreemptor, preemptor_is}
+use Rattle.run_account.proofs.Preemptors.{preemptor_of, HasPreemptor, preemptor_is}
 use Rattle.sound_laws.proofs.Walks.CheckedRuns.{CheckedRun, window, parts, cached_run}
 use Rattle.sound_laws.proofs.Reloads.Entries.{entry, extra, victim, evictor_at, preemptor_at, entry_says}
 use Rattle.sound_laws.proofs.Execution.Spent.{extra_counts}

@@ -5,7 +5,7 @@ use Rattle.loop_regions.specs.CodeNest.{nest_of}
 use Rattle.cert_check.specs.Certificate.{potentials_of}
 use Rattle.cert_check.specs.Case.{counted}
 use Rattle.cert_check.specs.Paid.{costs_at, EdgePaid}
-use Rattle.cert_check.proofs.Nexts.{edge_at, at_edges}
+use Rattle.flat_graph.proofs.Nexts.{edge_at, at_edges}
 use Rattle.cert_check.proofs.paid.Paid.edges_pay.Goals as goal
 
 pub returns-then-not-place_pays : goal.returns-then-not-place_pays

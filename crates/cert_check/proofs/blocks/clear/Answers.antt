@@ -1,7 +1,0 @@
-use Rattle.std.proofs.Common.{⊎_elim, arith}
-use Rattle.std.proofs.lemmas.Bool.{cases_lt}
-use Rattle.cert_check.proofs.FullBlocks.{past}
-use Rattle.cert_check.proofs.blocks.clear.Goals as goal
-
-pub returns : goal.returns
-returns c s = ⊎_elim (λ lt. c.loop-k.invariant s lt) (λ le. past c.loop-k.blocks s (omega (arith, le, c.loop-k-test.false))) (cases_lt s c.loop-k.k)

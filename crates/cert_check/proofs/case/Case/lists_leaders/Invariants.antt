@@ -1,8 +1,0 @@
--- The leaders below the node are listed.
-use Rattle.flat_graph.specs.CodeGraph.{graph_of}
-use Rattle.evict_sets.specs.Certificate.{listed_of}
-use Rattle.cert_check.proofs.Leaders.{ListsBelow}
-use Rattle.cert_check.proofs.case.Case.lists_leaders.Given as goal
-
-abbrev pub invariant-loop-node : goal.invariant-loop-node
-invariant-loop-node l = ListsBelow (graph_of l.self.graph.now) (listed_of l.self.part.now) l.node

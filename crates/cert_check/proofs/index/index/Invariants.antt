@@ -1,7 +1,0 @@
--- The entries from the last so far are at their places.
-use Rattle.std.proofs.Common.{◌-◌, length}
-use Rattle.cert_check.proofs.Entries.{ArePlaced}
-use Rattle.cert_check.proofs.index.index.Given as goal
-
-abbrev pub invariant-loop-done : goal.invariant-loop-done
-invariant-loop-done l = ArePlaced l.states l.places (length l.states - l.done)

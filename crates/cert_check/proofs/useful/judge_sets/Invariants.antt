@@ -1,0 +1,12 @@
+-- The nodes from the last place so far on are judged.
+use Rattle.std.proofs.Common.{◌-◌, length}
+use Rattle.crpd_base.specs.Sets.{has}
+use Rattle.flat_graph.specs.CodeGraph.{graph_of}
+use Rattle.evict_sets.specs.Certificate.{listed_of}
+use Rattle.evict_sets.specs.Listing.{fetches}
+use Rattle.evict_sets.specs.Clauses.{SetsMeet}
+use Rattle.cert_check.proofs.Judging.{UsefulFrom}
+use Rattle.cert_check.proofs.useful.judge_sets.Given as goal
+
+abbrev pub invariant-loop-done : goal.invariant-loop-done
+invariant-loop-done l = UsefulFrom (graph_of l.listing.graph.now) (fetches l.listing.platform.now l.listing.graph.now) (listed_of l.listing.part.now) (SetsMeet (graph_of l.listing.graph.now) (fetches l.listing.platform.now l.listing.graph.now) (listed_of l.listing.part.now) (has l.listing.part.now.part.evicting) (has l.listing.part.now.part.useful)) l.order l.useful l.least (length l.order - l.done)

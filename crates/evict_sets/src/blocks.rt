@@ -1,0 +1,67 @@
+// A state as the blocks of the cache sets.
+ghost use Rattle.std.specs.Prelude.{◌≡◌, ◌↔◌, ◌<◌, ℕ, Some, None, length, slice_set, IsTrue, All};
+ghost use Rattle.icache.specs.Cache.{held};
+ghost use Rattle.evict_sets.specs.Certificate.{block_in};
+
+use crpd_base::{SetBits, WORDS};
+
+/// Takes the block of each cache set away.
+fn clear(blocks: &mut [Option<u32>])
+    ensures { (s : ℕ) → held blocks.new s ≡ None }
+{
+    for k in 0..blocks.len() {
+        blocks[k] = None;
+    }
+}
+
+/// Puts the listed blocks into their cache sets, and none into the others; of two entries of one set the first counts.
+pub(crate) fn load(blocks: &mut [Option<u32>], sure: &[(u16, u32)])
+    requires low { All (λ (x : ℕ × ℕ). x.0 < 512) sure.now }
+    requires room { length blocks.old ≡ 512 }
+    ensures { (s : ℕ) → held blocks.new s ≡ block_in sure.now s }
+{
+    clear(blocks);
+    for done in 0..sure.len() {
+        let (set, block) = sure[sure.len() - 1 - done];
+        blocks[set as usize] = Some(block);
+    }
+}
+
+/// Whether a block stands in a cache set.
+fn is_held(blocks: &[Option<u32>], set: u16, block: u32) -> bool
+    requires { set < length blocks.now }
+    ensures { IsTrue result ↔ (held blocks.now set ≡ Some block) }
+{
+    blocks[set as usize] == Some(block)
+}
+
+/// Whether each listed block stands in its cache set, by the blocks of the 512 cache sets; of two entries of one set the
+/// first counts. It looks at each entry once. It takes no memory.
+pub fn are_held(blocks: &[Option<u32>], sure: &[(u16, u32)]) -> bool
+    requires low { All (λ (x : ℕ × ℕ). x.0 < 512) sure.now }
+    requires room { length blocks.now ≡ 512 }
+    ensures { IsTrue result ↔ ((s m : ℕ) → block_in sure.now s ≡ Some m → held blocks.now s ≡ Some m) }
+{
+    let mut seen = SetBits::<WORDS>::new();
+    for k in 0..sure.len() {
+        let (set, block) = sure[k];
+        if !seen.has(set) {
+            if !is_held(blocks, set, block) {
+                return false;
+            }
+            seen.insert(set);
+        }
+    }
+    true
+}
+
+/// Puts a block into a cache set; gives whether it stood there.
+pub(crate) fn access(blocks: &mut [Option<u32>], set: u16, block: u32) -> bool
+    requires room { set < length blocks.old }
+    ensures hit { IsTrue result ↔ (held blocks.old set ≡ Some block) }
+    ensures after { blocks.new ≡ slice_set blocks.old set (Some block) }
+{
+    let hit = is_held(blocks, set, block);
+    blocks[set as usize] = Some(block);
+    hit
+}

@@ -1,0 +1,68 @@
+// A task's graph with what a certificate lists at its nodes.
+ghost use Rattle.std.specs.Prelude.{◌≡◌, ◌↔◌, ◌<◌, ◌≤◌, Some, None, length, IsTrue, MatchOption};
+ghost use Rattle.crpd_base.specs.Ranges.{IsPlatform};
+ghost use Rattle.flat_graph.specs.CodeGraph.{graph_of};
+ghost use Rattle.evict_sets.specs.Certificate.{entry_of, listed_of};
+ghost use Rattle.evict_sets.specs.Listing.{IsIndex, fetches};
+
+use crpd_base::{NodeId, NodeState, Platform, TaskPart};
+use flat_graph::Graph;
+use icache::Geometry;
+
+/// A task's graph with the states that a certificate lists at its nodes.
+#[derive(Clone, Copy)]
+pub struct Listing<'a> {
+    /// The platform, whose lines and sets give each node its block and cache set.
+    pub platform: &'a Platform,
+    /// The task's graph.
+    pub graph: &'a Graph,
+    /// The task's part of the certificate.
+    pub part: &'a TaskPart,
+    /// For each node the place of its entry among the part's states, past them all for a node that is not listed: what
+    /// `index` writes.
+    pub places: &'a [usize],
+}
+
+impl Listing<'_> {
+    /// The entry of a node, None where the node is not listed. In constant time.
+    pub fn entry(&self, node: NodeId) -> Option<&NodeState>
+        requires index { IsIndex self.now.part.now.states (length self.now.graph.now.nodes) self.now.places.now }
+        requires node { node.0 < (graph_of self.now.graph.now).size }
+        ensures { MatchOption result
+            (entry_of self.now.part.now.states node.0 ≡ None)
+            (λ s. entry_of self.now.part.now.states node.0 ≡ Some s.now) }
+    {
+        self.part
+            .states
+            .as_slice()
+            .get(self.places[node.0 as usize])
+    }
+
+    /// Whether a node is listed. In constant time.
+    pub fn is_listed(&self, node: NodeId) -> bool
+        requires index { IsIndex self.now.part.now.states (length self.now.graph.now.nodes) self.now.places.now }
+        requires node { node.0 < (graph_of self.now.graph.now).size }
+        ensures { result ≡ (listed_of self.now.part.now).is_listed node.0 }
+    {
+        self.entry(node).is_some()
+    }
+
+    /// The block that a node's instruction lies in: its address by the bytes of a line. In constant time.
+    pub fn block(&self, node: NodeId) -> u32
+        requires platform { IsPlatform self.now.platform.now }
+        requires node { node.0 < (graph_of self.now.graph.now).size }
+        ensures { result ≡ (fetches self.now.platform.now self.now.graph.now).block node.0 }
+    {
+        Geometry::new(self.platform).block(self.graph.address(node))
+    }
+
+    /// The cache set of a node's block, below the platform's number of sets. In constant time.
+    pub fn cache_set(&self, node: NodeId) -> u16
+        requires platform { IsPlatform self.now.platform.now }
+        requires node { node.0 < (graph_of self.now.graph.now).size }
+        ensures set { result ≡ (fetches self.now.platform.now self.now.graph.now).set node.0 }
+        ensures low { result < 512 }
+    {
+        Geometry::new(self.platform).set(self.block(node))
+    }
+}

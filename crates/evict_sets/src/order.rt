@@ -1,0 +1,76 @@
+// An order of the nodes in which each unlisted node stands behind the node that it continues.
+ghost use Rattle.std.specs.Prelude.{◌≡◌, ◌+◌, ◌<◌, ◌≤◌, ℕ, length, slice_index, IsTrue, IsFalse, MatchOption};
+ghost use Rattle.flat_graph.specs.Graph.{Edge};
+ghost use Rattle.flat_graph.specs.CodeGraph.{graph_of};
+ghost use Rattle.evict_sets.specs.Certificate.{listed_of};
+ghost use Rattle.evict_sets.specs.Listing.{IsListing, IsOrder};
+ghost use Rattle.evict_sets.specs.Ordered.{IsLine, IsClosed, HasListed};
+
+use crate::listing::Listing;
+use crate::steps::successor;
+use crpd_base::NodeId;
+
+impl Listing<'_> {
+    /// The unlisted node that continues a node, None where there is none.
+    fn follower(&self, node: NodeId) -> Option<NodeId>
+        requires case { IsListing self.now.platform.now self.now.graph.now self.now.part.now self.now.places.now }
+        requires node { node.0 < (graph_of self.now.graph.now).size }
+        ensures { MatchOption result
+            ((v : ℕ) → Edge (graph_of self.now.graph.now) node.0 v → IsTrue ((listed_of self.now.part.now).is_listed v))
+            (λ v. Edge (graph_of self.now.graph.now) node.0 v.0 × IsFalse ((listed_of self.now.part.now).is_listed v.0)) }
+    {
+        self.graph.graph_law();
+        match successor(self.graph, node, 0) {
+            Some(next) => {
+                if self.is_listed(next) {
+                    None
+                } else {
+                    Some(next)
+                }
+            }
+            None => None,
+        }
+    }
+
+    /// Writes a listed node behind the first so many, and the unlisted nodes that continue it; gives how many there are
+    /// then.
+    fn write_chain(&self, order: &mut [u32], start: usize, node: NodeId) -> usize
+        requires case { IsListing self.now.platform.now self.now.graph.now self.now.part.now self.now.places.now }
+        requires node { node.0 < (graph_of self.now.graph.now).size }
+        requires listed { IsTrue ((listed_of self.now.part.now).is_listed node.0) }
+        requires size { length order.old ≡ (graph_of self.now.graph.now).size }
+        requires line { IsLine (graph_of self.now.graph.now) (listed_of self.now.part.now) order.old start }
+        requires closed { IsClosed (graph_of self.now.graph.now) (listed_of self.now.part.now) order.old start }
+        requires all { HasListed (graph_of self.now.graph.now) (listed_of self.now.part.now) order.old start node.0 }
+        ensures line { IsLine (graph_of self.now.graph.now) (listed_of self.now.part.now) order.new result }
+        ensures closed { IsClosed (graph_of self.now.graph.now) (listed_of self.now.part.now) order.new result }
+        ensures all { HasListed (graph_of self.now.graph.now) (listed_of self.now.part.now) order.new result (node.0 + 1) }
+    {
+        self.graph.graph_law();
+        order[start] = node.0;
+        let mut count = start + 1;
+        let mut last = self.follower(node);
+        while let Some(next) = last {
+            order[count] = next.0;
+            count += 1;
+            last = self.follower(next);
+        }
+        count
+    }
+
+    /// Writes the numbers of the nodes, each once, in an order in which each unlisted node stands right behind the node
+    /// that it continues. It looks at each node and edge once. It takes no memory.
+    pub fn write_order(&self, order: &mut [u32])
+        requires case { IsListing self.now.platform.now self.now.graph.now self.now.part.now self.now.places.now }
+        requires count { length order.old ≡ (graph_of self.now.graph.now).size }
+        ensures { IsOrder (graph_of self.now.graph.now) (listed_of self.now.part.now) order.new }
+    {
+        self.graph.graph_law();
+        let mut count = 0;
+        for node in 0..self.graph.len() {
+            if self.is_listed(NodeId(node)) {
+                count = self.write_chain(order, count, NodeId(node));
+            }
+        }
+    }
+}

@@ -1,0 +1,106 @@
+// The full states of nodes as the blocks of the cache sets, and which nodes are counted as hits.
+ghost use Rattle.std.specs.Prelude.{◌≡◌, ◌↔◌, ◌<◌, length, IfOk, IsTrue, IsFalse};
+ghost use Rattle.crpd_base.specs.Ranges.{IsPlatform};
+ghost use Rattle.flat_graph.specs.CodeGraph.{graph_of};
+ghost use Rattle.evict_sets.specs.Full.{IsHit};
+ghost use Rattle.evict_sets.specs.Clauses.{ListsLeaders};
+ghost use Rattle.evict_sets.specs.Certificate.{listed_of};
+ghost use Rattle.evict_sets.specs.Listing.{IsListing, IsOrder, IsStateAt, IsStateAfter, HasLowSets, CountsHits, fetches, counted};
+
+use crate::blocks::{access, load};
+use crate::places::index;
+use crate::listing::Listing;
+use crpd_base::{MOST_NODES, Memory, NodeId, Platform, SETS, TaskPart};
+use flat_graph::Graph;
+use std::alloc::Global;
+
+impl Listing<'_> {
+    /// Makes the full state of a node, as the blocks of the 512 cache sets, from the state after the node before it in
+    /// the order. Its time is that of the node's entry; an unlisted node's state is what stands there.
+    pub fn enter(&self, blocks: &mut [Option<u32>], node: NodeId)
+        requires case { IsListing self.now.platform.now self.now.graph.now self.now.part.now self.now.places.now }
+        requires node { node.0 < (graph_of self.now.graph.now).size }
+        requires room { length blocks.old ≡ 512 }
+        requires follows { IsFalse ((listed_of self.now.part.now).is_listed node.0) → IsStateAt (graph_of self.now.graph.now) (fetches self.now.platform.now self.now.graph.now) (listed_of self.now.part.now) node.0 blocks.old }
+        ensures { IsStateAt (graph_of self.now.graph.now) (fetches self.now.platform.now self.now.graph.now) (listed_of self.now.part.now) node.0 blocks.new }
+    {
+        if let Some(entry) = self.entry(node) {
+            load(blocks, entry.sure.as_slice());
+        }
+    }
+
+    /// Makes the state after a node from its full state, as the blocks of the 512 cache sets; gives whether the node is
+    /// counted as a hit. In constant time.
+    pub fn leave(&self, blocks: &mut [Option<u32>], node: NodeId) -> bool
+        requires case { IsListing self.now.platform.now self.now.graph.now self.now.part.now self.now.places.now }
+        requires node { node.0 < (graph_of self.now.graph.now).size }
+        requires room { length blocks.old ≡ 512 }
+        requires state { IsStateAt (graph_of self.now.graph.now) (fetches self.now.platform.now self.now.graph.now) (listed_of self.now.part.now) node.0 blocks.old }
+        ensures hit { IsTrue result ↔ IsHit (graph_of self.now.graph.now) (fetches self.now.platform.now self.now.graph.now) (listed_of self.now.part.now) node.0 }
+        ensures after { IsStateAfter (graph_of self.now.graph.now) (fetches self.now.platform.now self.now.graph.now) (listed_of self.now.part.now) node.0 blocks.new }
+    {
+        access(blocks, self.cache_set(node), self.block(node))
+    }
+
+    /// Writes which nodes are counted as hits. Linear in the nodes and the listed states.
+    fn write_hits(&self, order: &[u32], hits: &mut [bool])
+        requires case { IsListing self.now.platform.now self.now.graph.now self.now.part.now self.now.places.now }
+        requires order { IsOrder (graph_of self.now.graph.now) (listed_of self.now.part.now) order.now }
+        requires count { length hits.old ≡ (graph_of self.now.graph.now).size }
+        ensures { CountsHits (graph_of self.now.graph.now) (fetches self.now.platform.now self.now.graph.now) (listed_of self.now.part.now) (counted hits.new) }
+    {
+        let mut blocks = [None; SETS];
+        for k in 0..order.len() {
+            let node = NodeId(order[k]);
+            self.enter(&mut blocks, node);
+            hits[node.0 as usize] = self.leave(&mut blocks, node);
+        }
+    }
+}
+
+/// Which nodes of a task's graph are counted as hits, a flag for each node: those whose full state, from what the task's
+/// part of a certificate lists, gives the node's cache set the node's block. The listed cache sets are below 512, and
+/// every leader is listed.
+///
+/// It looks at each node, edge and listed state once. It keeps a flag for each node, and takes some 200 kB of the stack.
+/// Want of memory is the only error.
+pub fn hits(
+    alloc: Global,
+    platform: &Platform,
+    graph: &Graph,
+    part: &TaskPart,
+) -> Result<Vec<bool>, Memory>
+    requires platform { IsPlatform platform.now }
+    requires sets { HasLowSets part.now }
+    requires leaders { ListsLeaders (graph_of graph.now) (listed_of part.now) }
+    ensures hits { IfOk result (λ hits. CountsHits (graph_of graph.now) (fetches platform.now graph.now) (listed_of part.now) (counted hits.items)) }
+    ensures count { IfOk result (λ hits. length hits.items ≡ (graph_of graph.now).size) }
+{
+    graph.graph_law();
+    let size = graph.len() as usize;
+    let mut table = [0; MOST_NODES];
+    let places = &mut table[..size];
+    index(part.states.as_slice(), size, places);
+    let listing = Listing {
+        platform,
+        graph,
+        part,
+        places,
+    };
+    let mut numbers = [0; MOST_NODES];
+    let order = &mut numbers[..size];
+    listing.write_order(order);
+    let mut hits = flags(alloc, size)?;
+    listing.write_hits(order, hits.as_mut_slice());
+    Ok(hits)
+}
+
+/// So many flags, none of them set.
+fn flags(alloc: Global, count: usize) -> Result<Vec<bool>, Memory>
+    ensures { IfOk result (λ flags. length flags.items ≡ count) }
+{
+    match vec![in alloc; false; count] {
+        Ok(flags) => Ok(flags),
+        Err(_) => Err(Memory),
+    }
+}
