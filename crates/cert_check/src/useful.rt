@@ -1,4 +1,4 @@
-// Clauses 4 and 5: the useful sets of the nodes, and the sets of the task.
+// The clauses of the useful sets of the nodes, and of the sets of the task.
 ghost use Rattle.std.specs.Prelude.{◌≡◌, ◌↔◌, ◌<◌, ◌≤◌, ◌==◌, ℕ, if◌then◌else◌, length, IsTrue, IsFalse};
 ghost use Rattle.crpd_base.specs.Sets.{has, member};
 ghost use Rattle.flat_graph.specs.Graph.{Edge};
@@ -60,7 +60,7 @@ impl Case<'_> {
         }
     }
 
-    /// Whether clause 4 holds at a node.
+    /// Whether a node's useful set holds what it must.
     fn useful_holds(&self, node: NodeId, hit: bool, behind: &SetBits<WORDS>) -> bool
         requires case { IsCase self.now.platform.now self.now.graph.now self.now.part.now self.now.places.now }
         requires node { node.0 < (graph_of self.now.graph.now).size }
@@ -79,7 +79,7 @@ impl Case<'_> {
         covers(&with(&useful, own, true), behind)
     }
 
-    /// Whether clause 5 holds at a node with this full useful set.
+    /// Whether the task's sets have those of a node with this full useful set.
     fn sets_hold(&self, node: NodeId, useful: &SetBits<WORDS>) -> bool
         requires case { IsCase self.now.platform.now self.now.graph.now self.now.part.now self.now.places.now }
         requires node { node.0 < (graph_of self.now.graph.now).size }
@@ -90,7 +90,7 @@ impl Case<'_> {
         part.evicting.has(self.cache_set(node)) && covers(&part.useful, useful)
     }
 
-    /// The least node at which clause 4 fails, the number of nodes where there is none. Linear in the nodes and edges.
+    /// The least node whose useful set fails, the number of nodes where there is none. Linear in the nodes and edges.
     pub(crate) fn judge_useful(&self, order: &[u32], hits: &[bool]) -> u32
         requires case { IsCase self.now.platform.now self.now.graph.now self.now.part.now self.now.places.now }
         requires order { IsOrder (graph_of self.now.graph.now) (listed_of self.now.part.now) order.now }
@@ -110,7 +110,7 @@ impl Case<'_> {
         least
     }
 
-    /// The least node at which clause 5 fails, the number of nodes where there is none. Linear in the nodes and edges.
+    /// The least node at which the task's sets fail, the number of nodes where there is none. Linear in the nodes and edges.
     pub(crate) fn judge_sets(&self, order: &[u32], hits: &[bool]) -> u32
         requires case { IsCase self.now.platform.now self.now.graph.now self.now.part.now self.now.places.now }
         requires order { IsOrder (graph_of self.now.graph.now) (listed_of self.now.part.now) order.now }
