@@ -1,25 +1,31 @@
--- The judge's yes is that all clauses hold.
-use Rattle.std.proofs.Common.{◌≡◌, ℕ, ◌+◌, ◌<◌, ◌≤◌, Bool, sym, ◌∙◌, subst, inl, inr}
+-- What the clauses of a graph say together.
+use Rattle.std.proofs.Common.{◌≡◌, ℕ, zero, suc, ◌+◌, ◌<◌, ◌≤◌, Bool, length, refl, sym, ◌∙◌, subst, inl, inr, arith}
 use Rattle.std.specs.Prelude.{not, ◌==◌}
 use Rattle.std.proofs.lemmas.Bool.{cases_Bool, false≢true}
 use Rattle.crpd_base.specs.declared.data.Platform.{Platform}
 use Rattle.crpd_base.specs.declared.data.TaskSet.{TaskSet}
 use Rattle.rv_decode.specs.Cost.{cost}
 use Rattle.rv_decode.specs.Flow.{flow}
-use Rattle.flat_graph.specs.Graph.{Graph}
+use Rattle.flat_graph.specs.Graph.{Graph, IsGraph}
 use Rattle.flat_graph.specs.EdgeCost.{is_return}
 use Rattle.evict_sets.specs.Full.{Listed}
 use Rattle.icache.specs.Accesses.{Accesses}
 use Rattle.evict_sets.proofs.FullLaws.{hit_test_law}
 use Rattle.loop_regions.specs.Potentials.{Potentials, item_potential}
 use Rattle.crpd_base.specs.declared.data.Certificate.{Certificate}
-use Rattle.evict_sets.specs.Certificate.{listed_of}
+use Rattle.evict_sets.specs.Certificate.{listed_of, cert_at}
 use Rattle.cert_check.specs.Certificate.{potentials_of}
-use Rattle.cert_check.specs.Clauses.{CountsHits, costs, PotentialsMeet}
+use Rattle.cert_check.specs.Clauses.{CountsHits, costs, PotentialsMeet, BoundMeets}
 use Rattle.loop_regions.specs.TaskGraph.{TaskGraph, listing_of, answering}
-use Rattle.cert_check.specs.Judge.{accesses_of, TaskMeets}
-use Rattle.evict_sets.specs.Certificate.{cert_at}
-use Rattle.cert_check.specs.Verdict.{Clause, Platforms, HasTask, Names, Last, Leaders, NodePotentials, LoopPotentials, States, UsefulSets, TaskSets, Inequalities, Bound, Window, Response, Deadline, Holds, YesLaw, OneAnswerLaw}
+use Rattle.evict_sets.specs.Clauses.{StatesMeet, UsefulMeets, SetsMeet}
+use Rattle.crpd_base.specs.Sets.{has}
+use Rattle.crpd_base.specs.declared.data.TaskPart.{TaskPart}
+use Rattle.crpd_base.specs.Tasks.{jitter_of, deadline_of}
+use Rattle.delay_count.specs.Demand.{demand}
+use Rattle.cert_check.specs.Judge.{accesses_of, part_of, longest_at, window_at, name_of}
+use Rattle.cert_check.specs.declared.outcome.Clause.{Clause}
+use Rattle.cert_check.specs.declared.outcome.Clause.TheVariants.{Platforms, HasTask, Names, Last, Leaders, NodePotentials, LoopPotentials, States, UsefulSets, TaskSets, Inequalities, Bound, Window, Response, Deadline}
+use Rattle.cert_check.specs.Verdict.{GraphHolds, Holds, IsYes}
 
 -- two tests of hits agree at the nodes
 pub tests_agree : (g : Graph) (a : Accesses) (l : Listed) (one two : ℕ → Bool) (u : ℕ) → CountsHits g a l one → CountsHits g a l two → u < g.size → one u ≡ two u
@@ -46,57 +52,76 @@ same_meets p t pot one two u e m =
       loop = m.loop;
     }
 
-module _ (set : TaskSet) (graphs : ℕ → TaskGraph) (c : Certificate) where
-  meets_of : (i : ℕ) → ((k : Clause) → Holds set graphs c i k) → (is_hit : ℕ → Bool) → CountsHits (graphs i).graph (accesses_of set.platform (graphs i)) (listed_of (cert_at c i)) is_hit → TaskMeets set graphs c i
-  meets_of i h is_hit counts =
+-- the clauses of the nodes and the bound, with a test of the hits that are counted
+pub record GraphMeets (p : Platform) (t : TaskGraph) (c : TaskPart) : Type 0 where
+  pub states : (u : ℕ) → u < t.graph.size → StatesMeet t.graph (accesses_of p t) (listed_of c) u
+  pub useful : (u : ℕ) → u < t.graph.size → UsefulMeets t.graph (accesses_of p t) (listed_of c) u
+  pub sets : (u : ℕ) → u < t.graph.size → SetsMeet t.graph (accesses_of p t) (listed_of c) (has c.part.evicting) (has c.part.useful) u
+  pub is_hit : ℕ → Bool
+  pub hits : CountsHits t.graph (accesses_of p t) (listed_of c) is_hit
+  pub potentials : (u : ℕ) → u < t.graph.size → PotentialsMeet t.graph t.nest (costs p (listing_of t) (answering t) is_hit) (potentials_of c) u
+  pub bound : BoundMeets t.graph t.nest (potentials_of c) c.part.bound
+
+module _ (p : Platform) (t : TaskGraph) (c : TaskPart) where
+  pub meets_with : ((k : Clause) → GraphHolds p t c k) → (is_hit : ℕ → Bool) → CountsHits t.graph (accesses_of p t) (listed_of c) is_hit → GraphMeets p t c
+  meets_with h is_hit counts =
       record {
-        platform = h Platforms;
-        has_task = h HasTask;
-        name = h Names;
-        last = h Last;
-        lists = record { numbers = (h Leaders).0; leaders = (h Leaders).1; nodes = h NodePotentials; loops = h LoopPotentials };
-        graph = record {
-          states = λ u l. h (States u) l;
-          useful = λ u l. h (UsefulSets u) l;
-          sets = λ u l. h (TaskSets u) l;
-          is_hit = is_hit;
-          hits = counts;
-          potentials = λ u l. h (Inequalities u) is_hit counts l;
-          bound = h Bound;
-        };
-        some_window = (h Window).0;
-        room = (h Window).1;
-        response = h Response;
-        in_deadline = h Deadline;
+        states = λ u l. h (States u) l;
+        useful = λ u l. h (UsefulSets u) l;
+        sets = λ u l. h (TaskSets u) l;
+        is_hit = is_hit;
+        hits = counts;
+        potentials = λ u l. h (Inequalities u) is_hit counts l;
+        bound = h Bound;
       }
 
-  holds_of : (i : ℕ) → TaskMeets set graphs c i → (k : Clause) → Holds set graphs c i k
-  holds_of i m Platforms = m.platform
-  holds_of i m HasTask = m.has_task
-  holds_of i m Names = m.name
-  holds_of i m Last = m.last
-  holds_of i m Leaders = (m.lists.numbers, m.lists.leaders)
-  holds_of i m NodePotentials = m.lists.nodes
-  holds_of i m LoopPotentials = m.lists.loops
-  holds_of i m (States u) = λ l. m.graph.states u l
-  holds_of i m (UsefulSets u) = λ l. m.graph.useful u l
-  holds_of i m (TaskSets u) = λ l. m.graph.sets u l
-  holds_of i m (Inequalities u) = λ is_hit counts l.
-      same_meets set.platform (graphs i) (potentials_of (cert_at c i)) m.graph.is_hit is_hit u
-      (tests_agree (graphs i).graph (accesses_of set.platform (graphs i)) (listed_of (cert_at c i)) m.graph.is_hit is_hit u m.graph.hits counts l)
-      (m.graph.potentials u l)
-  holds_of i m Bound = m.graph.bound
-  holds_of i m Window = (m.some_window, m.room)
-  holds_of i m Response = m.response
-  holds_of i m Deadline = m.in_deadline
+  -- where the leaders are listed there is a test of the hits that are counted
+  pub graph_meets : IsGraph t.graph → ((k : Clause) → GraphHolds p t c k) → GraphMeets p t c
+  graph_meets G h = let test = hit_test_law t.graph (accesses_of p t) (listed_of c) G (h Leaders).1 in meets_with h test.0 test.1
 
-pub yes_law : YesLaw
-yes_law set graphs c words plans ok = (
-  (λ all i l.
-      let t = hit_test_law (graphs i).graph (accesses_of set.platform (graphs i)) (listed_of (cert_at c i)) (ok i l).follows.graph (all i Leaders l).1 in
-      meets_of set graphs c i (λ k. all i k l) t.0 t.1),
-  (λ says i k l. holds_of set graphs c i (says i l) k),
-)
+-- what is listed, and these: the clauses of a graph
+pub clauses_of : (p : Platform) (t : TaskGraph) (c : TaskPart) → GraphHolds p t c Leaders → length c.potentials ≡ t.graph.size → length c.loops ≡ t.nest.size → GraphMeets p t c → (k : Clause) → GraphHolds p t c k
+clauses_of p t c leaders nodes loops m Leaders = leaders
+clauses_of p t c leaders nodes loops m NodePotentials = nodes
+clauses_of p t c leaders nodes loops m LoopPotentials = loops
+clauses_of p t c leaders nodes loops m (States u) = λ l. m.states u l
+clauses_of p t c leaders nodes loops m (UsefulSets u) = λ l. m.useful u l
+clauses_of p t c leaders nodes loops m (TaskSets u) = λ l. m.sets u l
+clauses_of p t c leaders nodes loops m (Inequalities u) = λ is_hit counts l.
+    same_meets p t (potentials_of c) m.is_hit is_hit u (tests_agree t.graph (accesses_of p t) (listed_of c) m.is_hit is_hit u m.hits counts l) (m.potentials u l)
+clauses_of p t c leaders nodes loops m Bound = m.bound
+clauses_of p t c leaders nodes loops m _ = tt
 
-pub one_answer_law : OneAnswerLaw
-one_answer_law set graphs c i n p all (k, a, b, first) = first.fails (all i k first.task)
+-- with these of a task's part, and with what stands beside it, all clauses hold
+module _ (set : TaskSet) (graphs : ℕ → TaskGraph) (c : Certificate) (i : ℕ) (lt : i < length set.tasks) (platform : c.platform ≡ set.platform) (tasks : length c.tasks ≡ length set.tasks)
+    (name : (cert_at c i).name ≡ name_of set i) (part : (k : Clause) → GraphHolds set.platform (graphs i) (cert_at c i) k) (some : 1 ≤ window_at c i)
+    (enough : demand set (part_of c) (longest_at set.platform graphs) (window_at c) i (cert_at c i).method (window_at c i) ≤ window_at c i)
+    (response : (cert_at c i).response ≡ window_at c i + jitter_of set i) (in_deadline : window_at c i + jitter_of set i ≤ deadline_of set i) where
+  pub all_hold : (k : Clause) → Holds set graphs c i k
+  all_hold Platforms = platform
+  all_hold HasTask = omega (arith, tasks, lt)
+  all_hold Names = name
+  all_hold Last = λ e. tasks
+  all_hold Window = (some, enough)
+  all_hold Response = response
+  all_hold Deadline = omega (arith, response, in_deadline)
+  all_hold k = part k
+
+-- the clauses of a task say those of its graph
+pub graph_part : (set : TaskSet) (graphs : ℕ → TaskGraph) (c : Certificate) (i : ℕ) (k : Clause) → Holds set graphs c i k → GraphHolds set.platform (graphs i) (cert_at c i) k
+graph_part set graphs c i Platforms h = tt
+graph_part set graphs c i HasTask h = tt
+graph_part set graphs c i Names h = tt
+graph_part set graphs c i Last h = tt
+graph_part set graphs c i Window h = tt
+graph_part set graphs c i Response h = tt
+graph_part set graphs c i Deadline h = tt
+graph_part set graphs c i k h = h
+
+-- a yes says that the certificate has a part for each task
+pub as_many : (set : TaskSet) (graphs : ℕ → TaskGraph) (c : Certificate) → 1 ≤ length set.tasks → IsYes set graphs c → length c.tasks ≡ length set.tasks
+as_many set graphs c some says = by (length set.tasks) refl
+  where
+    by : (n : ℕ) → length set.tasks ≡ n → length c.tasks ≡ length set.tasks
+    by zero e = absurd (omega (arith, some, e))
+    by (suc n) e = says n Last (omega (arith, e)) (sym e)

@@ -1,5 +1,5 @@
--- The clauses of a task's graph, found node by node.
-use Rattle.std.proofs.Common.{◌≡◌, ℕ, ◌<◌, ◌≤◌, Bool, Option, MatchOption, refl, arith}
+-- The clauses of the nodes of a task's graph.
+use Rattle.std.proofs.Common.{◌≡◌, ℕ, ◌<◌, ◌≤◌, Bool, Ok, Err, refl, arith}
 use Rattle.crpd_base.specs.Sets.{has}
 use Rattle.crpd_base.specs.declared.data.Platform.{Platform}
 use Rattle.crpd_base.specs.declared.data.TaskPart.{TaskPart}
@@ -9,43 +9,116 @@ use Rattle.evict_sets.specs.Certificate.{listed_of}
 use Rattle.cert_check.specs.Certificate.{potentials_of}
 use Rattle.cert_check.specs.Clauses.{CountsHits, costs, PotentialsMeet}
 use Rattle.cert_check.specs.Judge.{accesses_of}
-use Rattle.cert_check.specs.Verdict.{States, UsefulSets, TaskSets, Inequalities}
-use Rattle.cert_check.specs.Answered.{IsFound}
+use Rattle.cert_check.specs.declared.outcome.Clause.{Clause}
+use Rattle.cert_check.specs.declared.outcome.Clause.TheVariants.{States, UsefulSets, TaskSets, Inequalities, Bound}
+use Rattle.cert_check.specs.Verdict.{number_of, place_of, GraphHolds}
+use Rattle.cert_check.specs.Answered.{IsFirstFailing, AllHold}
 use Rattle.cert_check.specs.Case.{IsLeast}
-use Rattle.cert_check.specs.Graphs.{GraphHolds}
-use Rattle.cert_check.specs.declared.outcome.Failure.{Failure}
-use Rattle.cert_check.proofs.Found.{numbered_node, found_node}
+use Rattle.cert_check.proofs.Found.{IsOfNodes, found_first, then_found, node_fails, nodes_hold, fails_first, bound_holds}
 use Rattle.cert_check.proofs.Clauses.{tests_agree, same_meets}
 
--- what is made of the least node
-abbrev pub IsNodeFailure : ℕ → ℕ → ℕ → Option Failure → Type 0
-IsNodeFailure n size least r = MatchOption r (size ≤ least) (λ f. (least < size) × (f.clause ≡ n) × (f.place ≡ least))
+only_states : (l : Clause) → number_of l ≡ 3 → States (place_of l) ≡ l
+only_states (States u) e = refl
+only_states l e = absurd (omega (arith, e))
+
+only_useful : (l : Clause) → number_of l ≡ 4 → UsefulSets (place_of l) ≡ l
+only_useful (UsefulSets u) e = refl
+only_useful l e = absurd (omega (arith, e))
+
+only_sets : (l : Clause) → number_of l ≡ 5 → TaskSets (place_of l) ≡ l
+only_sets (TaskSets u) e = refl
+only_sets l e = absurd (omega (arith, e))
+
+only_inequalities : (l : Clause) → number_of l ≡ 6 → Inequalities (place_of l) ≡ l
+only_inequalities (Inequalities u) e = refl
+only_inequalities l e = absurd (omega (arith, e))
 
 module _ (p : Platform) (t : TaskGraph) (c : TaskPart) where
-  pub found_states : (least : ℕ) (r : Option Failure) → IsLeast (StatesMeet t.graph (accesses_of p t) (listed_of c)) t.graph.size least → IsNodeFailure 3 t.graph.size least r → IsFound (GraphHolds p t c) 3 3 r
-  found_states least r L M =
-      found_node (GraphHolds p t c) (StatesMeet t.graph (accesses_of p t) (listed_of c)) (λ u. States u) 3 t.graph.size least (λ u. refl) (λ u. refl)
-      (λ B h. numbered_node (GraphHolds p t c) B 3 (omega arith) (omega arith) (λ u e b. h u b) (λ u e. absurd (omega (arith, e))) (λ u e. absurd (omega (arith, e))) (λ u e. absurd (omega (arith, e))))
-      (λ u lt m lt'. m) (λ u le lt. absurd (omega (arith, le, lt))) (λ u lt h. h lt) L r M
+  pub of_states : IsOfNodes (GraphHolds p t c) (StatesMeet t.graph (accesses_of p t) (listed_of c)) (λ u. States u) 3 t.graph.size
+  of_states =
+      record {
+        number = λ u. refl;
+        place = λ u. refl;
+        only = only_states;
+        to = λ u lt m below. m;
+        past = λ u le below. absurd (omega (arith, le, below));
+        back = λ u lt h. h lt;
+      }
 
-  pub found_useful : (least : ℕ) (r : Option Failure) → IsLeast (UsefulMeets t.graph (accesses_of p t) (listed_of c)) t.graph.size least → IsNodeFailure 4 t.graph.size least r → IsFound (GraphHolds p t c) 4 4 r
-  found_useful least r L M =
-      found_node (GraphHolds p t c) (UsefulMeets t.graph (accesses_of p t) (listed_of c)) (λ u. UsefulSets u) 4 t.graph.size least (λ u. refl) (λ u. refl)
-      (λ B h. numbered_node (GraphHolds p t c) B 4 (omega arith) (omega arith) (λ u e. absurd (omega (arith, e))) (λ u e b. h u b) (λ u e. absurd (omega (arith, e))) (λ u e. absurd (omega (arith, e))))
-      (λ u lt m lt'. m) (λ u le lt. absurd (omega (arith, le, lt))) (λ u lt h. h lt) L r M
+  pub of_useful : IsOfNodes (GraphHolds p t c) (UsefulMeets t.graph (accesses_of p t) (listed_of c)) (λ u. UsefulSets u) 4 t.graph.size
+  of_useful =
+      record {
+        number = λ u. refl;
+        place = λ u. refl;
+        only = only_useful;
+        to = λ u lt m below. m;
+        past = λ u le below. absurd (omega (arith, le, below));
+        back = λ u lt h. h lt;
+      }
 
-  pub found_sets : (least : ℕ) (r : Option Failure) → IsLeast (SetsMeet t.graph (accesses_of p t) (listed_of c) (has c.part.evicting) (has c.part.useful)) t.graph.size least → IsNodeFailure 5 t.graph.size least r
-      → IsFound (GraphHolds p t c) 5 5 r
-  found_sets least r L M =
-      found_node (GraphHolds p t c) (SetsMeet t.graph (accesses_of p t) (listed_of c) (has c.part.evicting) (has c.part.useful)) (λ u. TaskSets u) 5 t.graph.size least (λ u. refl) (λ u. refl)
-      (λ B h. numbered_node (GraphHolds p t c) B 5 (omega arith) (omega arith) (λ u e. absurd (omega (arith, e))) (λ u e. absurd (omega (arith, e))) (λ u e b. h u b) (λ u e. absurd (omega (arith, e))))
-      (λ u lt m lt'. m) (λ u le lt. absurd (omega (arith, le, lt))) (λ u lt h. h lt) L r M
+  pub of_sets : IsOfNodes (GraphHolds p t c) (SetsMeet t.graph (accesses_of p t) (listed_of c) (has c.part.evicting) (has c.part.useful)) (λ u. TaskSets u) 5 t.graph.size
+  of_sets =
+      record {
+        number = λ u. refl;
+        place = λ u. refl;
+        only = only_sets;
+        to = λ u lt m below. m;
+        past = λ u le below. absurd (omega (arith, le, below));
+        back = λ u lt h. h lt;
+      }
 
-  pub found_potentials : (is_hit : ℕ → Bool) (least : ℕ) (r : Option Failure) → CountsHits t.graph (accesses_of p t) (listed_of c) is_hit
-      → IsLeast (PotentialsMeet t.graph t.nest (costs p (listing_of t) (answering t) is_hit) (potentials_of c)) t.graph.size least → IsNodeFailure 6 t.graph.size least r → IsFound (GraphHolds p t c) 6 6 r
-  found_potentials is_hit least r counts L M =
-      found_node (GraphHolds p t c) (PotentialsMeet t.graph t.nest (costs p (listing_of t) (answering t) is_hit) (potentials_of c)) (λ u. Inequalities u) 6 t.graph.size least (λ u. refl) (λ u. refl)
-      (λ B h. numbered_node (GraphHolds p t c) B 6 (omega arith) (omega arith) (λ u e. absurd (omega (arith, e))) (λ u e. absurd (omega (arith, e))) (λ u e. absurd (omega (arith, e))) (λ u e b. h u b))
-      (λ u lt m other other_counts lt'. same_meets p t (potentials_of c) is_hit other u (tests_agree t.graph (accesses_of p t) (listed_of c) is_hit other u counts other_counts lt) m)
-      (λ u le other other_counts lt. absurd (omega (arith, le, lt)))
-      (λ u lt h. h is_hit counts lt) L r M
+  pub of_inequalities : (is_hit : ℕ → Bool) → CountsHits t.graph (accesses_of p t) (listed_of c) is_hit
+      → IsOfNodes (GraphHolds p t c) (PotentialsMeet t.graph t.nest (costs p (listing_of t) (answering t) is_hit) (potentials_of c)) (λ u. Inequalities u) 6 t.graph.size
+  of_inequalities is_hit counts =
+      record {
+        number = λ u. refl;
+        place = λ u. refl;
+        only = only_inequalities;
+        to = λ u lt m other others below. same_meets p t (potentials_of c) is_hit other u (tests_agree t.graph (accesses_of p t) (listed_of c) is_hit other u counts others lt) m;
+        past = λ u le other others below. absurd (omega (arith, le, below));
+        back = λ u lt h. h is_hit counts lt;
+      }
+
+  abbrev H : Clause → Type 0
+  H = GraphHolds p t c
+
+  -- the states and sets, judged in their order
+  module _ (states : ℕ) (S : IsLeast (StatesMeet t.graph (accesses_of p t) (listed_of c)) t.graph.size states) where
+    pub states_fail : states < t.graph.size → IsFirstFailing H 3 5 (States states)
+    states_fail lt = found_first H 3 3 5 (States states) (omega arith) (node_fails H _ _ 3 t.graph.size states of_states S lt)
+
+    module _ (le : t.graph.size ≤ states) (useful : ℕ) (U : IsLeast (UsefulMeets t.graph (accesses_of p t) (listed_of c)) t.graph.size useful) where
+      states_hold : AllHold H 3 3
+      states_hold = nodes_hold H _ _ 3 t.graph.size states of_states S le
+
+      pub useful_fail : useful < t.graph.size → IsFirstFailing H 3 5 (UsefulSets useful)
+      useful_fail lt =
+          then_found H 3 3 5 (Err (UsefulSets useful)) (omega arith) (omega arith) states_hold
+          (found_first H 4 4 5 (UsefulSets useful) (omega arith) (node_fails H _ _ 4 t.graph.size useful of_useful U lt))
+
+      module _ (more : t.graph.size ≤ useful) (sets : ℕ)
+          (T : IsLeast (SetsMeet t.graph (accesses_of p t) (listed_of c) (has c.part.evicting) (has c.part.useful)) t.graph.size sets) where
+        useful_hold : AllHold H 3 4
+        useful_hold = then_found H 3 3 4 (Ok tt) (omega arith) (omega arith) states_hold (nodes_hold H _ _ 4 t.graph.size useful of_useful U more)
+
+        pub sets_fail : sets < t.graph.size → IsFirstFailing H 3 5 (TaskSets sets)
+        sets_fail lt = then_found H 3 4 5 (Err (TaskSets sets)) (omega arith) (omega arith) useful_hold (node_fails H _ _ 5 t.graph.size sets of_sets T lt)
+
+        pub sets_hold : t.graph.size ≤ sets → AllHold H 3 5
+        sets_hold most = then_found H 3 4 5 (Ok tt) (omega arith) (omega arith) useful_hold (nodes_hold H _ _ 5 t.graph.size sets of_sets T most)
+
+  -- and the potentials with the bound
+  module _ (is_hit : ℕ → Bool) (counts : CountsHits t.graph (accesses_of p t) (listed_of c) is_hit) (least : ℕ)
+      (L : IsLeast (PotentialsMeet t.graph t.nest (costs p (listing_of t) (answering t) is_hit) (potentials_of c)) t.graph.size least) where
+    pub inequalities_fail : least < t.graph.size → IsFirstFailing H 6 7 (Inequalities least)
+    inequalities_fail lt =
+        found_first H 6 6 7 (Inequalities least) (omega arith) (node_fails H _ _ 6 t.graph.size least (of_inequalities is_hit counts) L lt)
+
+    inequalities_hold : t.graph.size ≤ least → AllHold H 6 6
+    inequalities_hold le = nodes_hold H _ _ 6 t.graph.size least (of_inequalities is_hit counts) L le
+
+    pub bound_fails : t.graph.size ≤ least → (H Bound → ⊥) → IsFirstFailing H 6 7 Bound
+    bound_fails le none = then_found H 6 6 7 (Err Bound) (omega arith) (omega arith) (inequalities_hold le) (fails_first H Bound refl none)
+
+    pub potentials_hold : t.graph.size ≤ least → H Bound → AllHold H 6 7
+    potentials_hold le h = then_found H 6 6 7 (Ok tt) (omega arith) (omega arith) (inequalities_hold le) (bound_holds H h)

@@ -1,5 +1,5 @@
 -- A task's clauses put together, and the tasks'.
-use Rattle.std.proofs.Common.{◌≡◌, ◌↔◌, ℕ, ◌+◌, ◌<◌, ◌≤◌, List, length, None, refl, sym, subst, ⊎_elim, arith}
+use Rattle.std.proofs.Common.{◌≡◌, ◌↔◌, ℕ, ◌+◌, ◌<◌, ◌≤◌, List, length, refl, sym, subst, ⊎_elim, arith}
 use Rattle.std.specs.Prelude.{slice_index}
 use Rattle.std.proofs.lemmas.Bool.{cases_eq}
 use Rattle.crpd_base.specs.Tasks.{HasTimes}
@@ -11,12 +11,12 @@ use Rattle.loop_regions.specs.TaskGraph.{TaskGraph}
 use Rattle.evict_sets.specs.Certificate.{cert_at}
 use Rattle.delay_count.specs.Laws.{DemandGrows}
 use Rattle.cert_check.specs.Judge.{window_at, part_of, longest_at}
-use Rattle.cert_check.specs.Verdict.{Clause, Platforms, HasTask, Names, Last, Leaders, NodePotentials, LoopPotentials, States, UsefulSets, TaskSets, Inequalities, Bound, Window, Response, Deadline, number_of, Holds, IsJudged, No}
-use Rattle.cert_check.specs.Answered.{IsFirstFailing, IsFound}
-use Rattle.cert_check.specs.Graphs.{GraphHolds}
-use Rattle.cert_check.specs.Times.{AreLongest, HigherHold, TimesHold}
+use Rattle.cert_check.specs.declared.outcome.Clause.{Clause}
+use Rattle.cert_check.specs.declared.outcome.Clause.TheVariants.{Platforms, HasTask, Names, Last, Window, Response, Deadline}
+use Rattle.cert_check.specs.Verdict.{number_of, place_of, GraphHolds, TimesHold, Holds, IsJudged, No}
+use Rattle.cert_check.specs.Answered.{IsFirstFailing, AllHold}
+use Rattle.cert_check.specs.Times.{AreLongest, HigherHold}
 use Rattle.cert_check.specs.Shown.{shown_at}
-use Rattle.cert_check.specs.declared.outcome.Failure.{Failure}
 use Rattle.cert_check.proofs.Found.{numbers}
 use Rattle.delay_count.proofs.Growth.{demand_same}
 
@@ -25,38 +25,20 @@ graph_same set graphs c i Platforms low high = absurd (omega (arith, low))
 graph_same set graphs c i HasTask low high = absurd (omega (arith, low))
 graph_same set graphs c i Names low high = absurd (omega (arith, low))
 graph_same set graphs c i Last low high = absurd (omega (arith, low))
-graph_same set graphs c i Leaders low high = ((λ h. h), (λ h. h))
-graph_same set graphs c i NodePotentials low high = ((λ h. h), (λ h. h))
-graph_same set graphs c i LoopPotentials low high = ((λ h. h), (λ h. h))
-graph_same set graphs c i (States u) low high = ((λ h. h), (λ h. h))
-graph_same set graphs c i (UsefulSets u) low high = ((λ h. h), (λ h. h))
-graph_same set graphs c i (TaskSets u) low high = ((λ h. h), (λ h. h))
-graph_same set graphs c i (Inequalities u) low high = ((λ h. h), (λ h. h))
-graph_same set graphs c i Bound low high = ((λ h. h), (λ h. h))
 graph_same set graphs c i Window low high = absurd (omega (arith, high))
 graph_same set graphs c i Response low high = absurd (omega (arith, high))
 graph_same set graphs c i Deadline low high = absurd (omega (arith, high))
+graph_same set graphs c i k low high = ((λ h. h), (λ h. h))
 
--- clauses 8 and 9 with the costs that are handed
+-- the clauses of the times with the costs that are handed
 pub times_same : (grows : DemandGrows) (set : TaskSet) (times : HasTimes set) (graphs : ℕ → TaskGraph) (c : Certificate) (i : ℕ) (costs : List ℕ) → i < length set.tasks
     → ((k : ℕ) → k < length set.tasks → slice_index costs k ≡ longest_at set.platform graphs k) → (k : Clause) → 8 ≤ number_of k → number_of k ≤ 9 → TimesHold set (slice_index costs) c i k ↔ Holds set graphs c i k
-times_same grows set times graphs c i costs lt C Platforms low high = absurd (omega (arith, low))
-times_same grows set times graphs c i costs lt C HasTask low high = absurd (omega (arith, low))
-times_same grows set times graphs c i costs lt C Names low high = absurd (omega (arith, low))
-times_same grows set times graphs c i costs lt C Last low high = absurd (omega (arith, low))
-times_same grows set times graphs c i costs lt C Leaders low high = absurd (omega (arith, low))
-times_same grows set times graphs c i costs lt C NodePotentials low high = absurd (omega (arith, low))
-times_same grows set times graphs c i costs lt C LoopPotentials low high = absurd (omega (arith, low))
-times_same grows set times graphs c i costs lt C (States u) low high = absurd (omega (arith, low))
-times_same grows set times graphs c i costs lt C (UsefulSets u) low high = absurd (omega (arith, low))
-times_same grows set times graphs c i costs lt C (TaskSets u) low high = absurd (omega (arith, low))
-times_same grows set times graphs c i costs lt C (Inequalities u) low high = absurd (omega (arith, low))
-times_same grows set times graphs c i costs lt C Bound low high = absurd (omega (arith, low))
 times_same grows set times graphs c i costs lt C Window low high =
     let same = demand_same set (part_of c) (part_of c) (slice_index costs) (longest_at set.platform graphs) (window_at c) (window_at c) i times lt (λ k le. refl) C (λ k l. refl) (cert_at c i).method (window_at c i) in
     ((λ h. (h.0, subst (λ x. x ≤ window_at c i) same h.1)), (λ h. (h.0, subst (λ x. x ≤ window_at c i) (sym same) h.1)))
 times_same grows set times graphs c i costs lt C Response low high = ((λ h. h), (λ h. h))
 times_same grows set times graphs c i costs lt C Deadline low high = ((λ h. h), (λ h. h))
+times_same grows set times graphs c i costs lt C k low high = absurd (omega (arith, low))
 
 pub longest_same : (set : TaskSet) (graphs : List CodeGraph) (nests : List CodeNest) (costs : List ℕ) → AreLongest set graphs costs → (k : ℕ) → k < length set.tasks → slice_index costs k ≡ longest_at set.platform (shown_at graphs nests) k
 longest_same set graphs nests costs L k lt = L.each k lt
@@ -65,18 +47,19 @@ pub higher_hold : (set : TaskSet) (graphs : ℕ → TaskGraph) (c : Certificate)
 higher_hold set graphs c i lt before = record { tasks = lt; response = λ k k_lt. before k Response k_lt; in_deadline = λ k k_lt. before k Deadline k_lt }
 
 -- all clauses of one task more
-pub holds_more : (set : TaskSet) (graphs : ℕ → TaskGraph) (c : Certificate) (i : ℕ) → IsFound (Holds set graphs c i) 1 9 None → ((j : ℕ) (k : Clause) → j < i → Holds set graphs c j k) → (j : ℕ) (k : Clause) → j < i + 1 → Holds set graphs c j k
+pub holds_more : (set : TaskSet) (graphs : ℕ → TaskGraph) (c : Certificate) (i : ℕ) → AllHold (Holds set graphs c i) 1 9 → ((j : ℕ) (k : Clause) → j < i → Holds set graphs c j k) → (j : ℕ) (k : Clause) → j < i + 1 → Holds set graphs c j k
 holds_more set graphs c i here before j k lt =
     ⊎_elim
     (λ (e : j ≡ i). subst (λ x. Holds set graphs c x k) (sym e) (here k (numbers k).0 (numbers k).1))
     (λ ne. before j k (omega arith))
     (cases_eq j i)
 
-pub judged_no : (set : TaskSet) (graphs : ℕ → TaskGraph) (c : Certificate) (i : ℕ) (f : Failure) → i < length set.tasks → ((j : ℕ) (k : Clause) → j < i → Holds set graphs c j k) → IsFirstFailing (Holds set graphs c i) 1 9 f → IsJudged set graphs c (No i f.clause f.place)
-judged_no set graphs c i f lt before F = (
-  F.clause,
-  F.number,
-  F.place,
+pub judged_no : (set : TaskSet) (graphs : ℕ → TaskGraph) (c : Certificate) (i : ℕ) (k : Clause) (number place : ℕ) → number ≡ number_of k → place ≡ place_of k → i < length set.tasks → ((j : ℕ) (l : Clause) → j < i → Holds set graphs c j l)
+    → IsFirstFailing (Holds set graphs c i) 1 9 k → IsJudged set graphs c (No i number place)
+judged_no set graphs c i k number place n p lt before F = (
+  k,
+  sym n,
+  sym p,
   record {
     task = lt;
     fails = F.fails;

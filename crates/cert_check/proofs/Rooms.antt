@@ -10,8 +10,8 @@ use Rattle.crpd_base.specs.declared.data.TaskPart.{TaskPart}
 use Rattle.evict_sets.specs.Certificate.{cert_at}
 use Rattle.delay_count.specs.Gamma.{part_at}
 use Rattle.delay_count.specs.Demand.{demand}
-use Rattle.cert_check.specs.Verdict.{Window}
-use Rattle.cert_check.specs.Times.{TimesHold}
+use Rattle.cert_check.specs.declared.outcome.Clause.TheVariants.{Window}
+use Rattle.cert_check.specs.Verdict.{TimesHold}
 use Rattle.delay_count.proofs.Growth.{demand_same}
 use Rattle.cert_check.specs.Judge.{window_at, part_of}
 
@@ -38,7 +38,7 @@ handed_more c parts windows k p w lt p_is w_is H = record {
   nothing : Part
   nothing = record { bound = 0; evicting = []; useful = [] }
 
--- the test of clause 8
+-- the test of a window
 pub room_test : (task_set : TaskSet) (times : HasTimes task_set) (c : Certificate) (i k : ℕ) (l : i < length task_set.tasks) (parts : List Part) (windows costs : List ℕ) (t : TaskPart) (d q : ℕ) (b : Bool)
     → AreHanded c parts windows k → i < k → cert_at c i ≡ t → d ≡ demand task_set (part_at parts) (slice_index costs) (slice_index windows) i t.method t.window → q ≡ t.window → (t.window ≡ 0 → ⊥)
     → IsTrue b ↔ (d ≤ q) → IsTrue b ↔ TimesHold task_set (slice_index costs) c i Window

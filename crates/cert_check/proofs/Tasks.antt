@@ -1,5 +1,5 @@
 -- What is read of the lists of graphs, regions and parts.
-use Rattle.std.proofs.Common.{◌≡◌, ℕ, ◌<◌, List, length, get_or, Option, sym, ◌∙◌, subst}
+use Rattle.std.proofs.Common.{◌≡◌, ℕ, ◌<◌, List, length, get_or, Result, sym, ◌∙◌, subst}
 use Rattle.std.proofs.lemmas.List.{get_or_default}
 use Rattle.crpd_base.specs.declared.data.TaskSet.{TaskSet}
 use Rattle.crpd_base.specs.declared.data.TaskPart.{TaskPart}
@@ -10,10 +10,9 @@ use Rattle.evict_sets.specs.Certificate.{cert_at, no_cert}
 use Rattle.cert_check.specs.Shown.{shown, shown_at, graph_at, nest_at, no_graph, no_nest, HasLowSets, AreShown, IsInRange}
 use Rattle.crpd_base.specs.declared.data.NodeState.{NodeState}
 use Rattle.evict_sets.specs.Listing.{IsIndex}
-use Rattle.cert_check.specs.Graphs.{GraphHolds}
+use Rattle.cert_check.specs.declared.outcome.Clause.{Clause}
+use Rattle.cert_check.specs.Verdict.{GraphHolds, Holds}
 use Rattle.cert_check.specs.Answered.{IsFound}
-use Rattle.cert_check.specs.Verdict.{Holds}
-use Rattle.cert_check.specs.declared.outcome.Failure.{Failure}
 use Rattle.cert_check.proofs.Found.{found_as}
 use Rattle.cert_check.proofs.Judgements.{graph_same}
 
@@ -29,7 +28,7 @@ beside set graphs nests i g n A lt g_is n_is = subst (λ x. IsNestOf x n) (sym g
 pub low_sets : (c : Certificate) (i : ℕ) (t : TaskPart) → IsInRange c → i < length c.tasks → cert_at c i ≡ t → HasLowSets t
 low_sets c i t R lt at = subst HasLowSets at (R.sets i no_cert lt)
 
-pub found_task : (set : TaskSet) (graphs : List CodeGraph) (nests : List CodeNest) (c : Certificate) (i : ℕ) (g : CodeGraph) (n : CodeNest) (t : TaskPart) (r : Option Failure) → g ≡ graph_at graphs i → n ≡ nest_at nests i → cert_at c i ≡ t
+pub found_task : (set : TaskSet) (graphs : List CodeGraph) (nests : List CodeNest) (c : Certificate) (i : ℕ) (g : CodeGraph) (n : CodeNest) (t : TaskPart) (r : Result (Unit {0}) Clause) → g ≡ graph_at graphs i → n ≡ nest_at nests i → cert_at c i ≡ t
     → IsFound (GraphHolds set.platform (shown g n) t) 2 7 r → IsFound (Holds set (shown_at graphs nests) c i) 2 7 r
 found_task set graphs nests c i g n t r g_is n_is at F =
     found_as (GraphHolds set.platform (shown_at graphs nests i) (cert_at c i)) (Holds set (shown_at graphs nests) c i) 2 7 r (graph_same set (shown_at graphs nests) c i)

@@ -111,7 +111,7 @@ module _ (g : Graph) (a : Accesses) (l : Listed) where
     λ h. (v, at, (U s).1 h),
   )
 
-  -- clause 4 at a listed node
+  -- a listed node's useful set
   pub meets_listed : (y : ℕ) (useful behind : List ℕ) → IsTrue (l.is_listed y) → ((s : ℕ) → has useful s ≡ l.useful y s) → IsUsefulBehind g a l y behind
       → (IsHit g a l y → IsTrue (has useful (a.set y))) → ((t : ℕ) → t ≢ a.set y → IsTrue (has behind t) → IsTrue (has useful t)) → UsefulMeets g a l y
   meets_listed y useful behind t is B own others =
@@ -132,7 +132,7 @@ module _ (g : Graph) (a : Accesses) (l : Listed) where
   pub unlisted_meets : (y : ℕ) → IsFalse (l.is_listed y) → UsefulMeets g a l y
   unlisted_meets y out = unlisted_useful_law g a l y out
 
-  -- the test of clause 4 at a listed node
+  -- the test of it
   pub useful_test : (y : ℕ) (useful behind withs : List ℕ) (b : Bool) → IsTrue (l.is_listed y) → ((s : ℕ) → has useful s ≡ l.useful y s) → IsUsefulBehind g a l y behind
       → (IsHit g a l y → IsTrue (has useful (a.set y))) → ((t : ℕ) → has withs t ≡ (if t == a.set y then true else has useful t))
       → IsTrue b ↔ ((t : ℕ) → IsTrue (has behind t) → IsTrue (has withs t)) → IsTrue b ↔ UsefulMeets g a l y
@@ -150,7 +150,7 @@ module _ (g : Graph) (a : Accesses) (l : Listed) where
   pub own_missing : (y : ℕ) (useful behind : List ℕ) → IsTrue (l.is_listed y) → ((s : ℕ) → has useful s ≡ l.useful y s) → IsUsefulBehind g a l y behind → IsHit g a l y → (IsTrue (has useful (a.set y)) → ⊥) → UsefulMeets g a l y → ⊥
   own_missing y useful behind t is B hit none M = none ((listed_meets y useful behind t is B M).0 hit)
 
-  -- the test of clause 5
+  -- the test of the task's sets
   pub sets_test : (y : ℕ) (evicting task useful : List ℕ) (b : Bool) → IsUsefulAt g a l y useful → IsTrue (has evicting (a.set y)) → IsTrue b ↔ ((t : ℕ) → IsTrue (has useful t) → IsTrue (has task t))
       → IsTrue b ↔ SetsMeet g a l (has evicting) (has task) y
   sets_test y evicting task useful b U own test = (

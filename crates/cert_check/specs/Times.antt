@@ -1,4 +1,4 @@
--- What is known while clauses 8 and 9 are judged.
+-- What is known while the clauses of a task's times are judged.
 use Rattle.std.specs.Prelude.{◌≡◌, ℕ, ◌+◌, ◌<◌, ◌≤◌, List, length, slice_index}
 use Rattle.crpd_base.specs.Tasks.{jitter_of, deadline_of}
 use Rattle.crpd_base.specs.declared.data.TaskSet.{TaskSet}
@@ -7,9 +7,7 @@ use Rattle.flat_graph.specs.CodeGraph.{CodeGraph, graph_of, listing}
 use Rattle.evict_sets.specs.Answering.{answers_of}
 use Rattle.evict_sets.specs.Longest.{longest}
 use Rattle.evict_sets.specs.Certificate.{cert_at}
-use Rattle.delay_count.specs.Demand.{demand}
-use Rattle.cert_check.specs.Judge.{window_at, part_of}
-use Rattle.cert_check.specs.Verdict.{Clause, Window, Response, Deadline}
+use Rattle.cert_check.specs.Judge.{window_at}
 use Rattle.cert_check.specs.Shown.{graph_at}
 
 -- the longest cost of one instruction of each task
@@ -22,11 +20,3 @@ pub record HigherHold (set : TaskSet) (c : Certificate) (i : ℕ) : Type 0 where
   pub tasks : i < length c.tasks
   pub response : (k : ℕ) → k < i → (cert_at c k).response ≡ window_at c k + jitter_of set k
   pub in_deadline : (k : ℕ) → k < i → (cert_at c k).response ≤ deadline_of set k
-
--- clauses 8 and 9 of a task, by these costs; the other clauses look at more
-abbrev pub TimesHold : TaskSet → (ℕ → ℕ) → Certificate → ℕ → Clause → Type 0
-TimesHold set costs c i Window =
-    (1 ≤ window_at c i) × (demand set (part_of c) costs (window_at c) i (cert_at c i).method (window_at c i) ≤ window_at c i)
-TimesHold set costs c i Response = (cert_at c i).response ≡ window_at c i + jitter_of set i
-TimesHold set costs c i Deadline = (cert_at c i).response ≤ deadline_of set i
-TimesHold set costs c i _ = Unit {0}

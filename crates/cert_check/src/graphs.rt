@@ -1,5 +1,5 @@
-// Clauses 2 to 7 of one task, in their order.
-ghost use Rattle.std.specs.Prelude.{◌≡◌, ◌↔◌, ◌<◌, ◌≤◌, length, MatchOption};
+// The clauses of one task's graph, in their order.
+ghost use Rattle.std.specs.Prelude.{◌≡◌, ◌↔◌, ◌<◌, ◌≤◌, length};
 ghost use Rattle.crpd_base.specs.Ranges.{IsPlatform};
 ghost use Rattle.flat_graph.specs.CodeGraph.{graph_of};
 ghost use Rattle.loop_regions.specs.CodeNest.{CodeNest, IsNestOf};
@@ -7,11 +7,11 @@ ghost use Rattle.evict_sets.specs.Certificate.{listed_of};
 ghost use Rattle.evict_sets.specs.Listing.{CountsHits, HasLowSets, IsIndex, IsListing, IsOrder, counted, fetches};
 ghost use Rattle.cert_check.specs.Shown.{shown};
 ghost use Rattle.cert_check.specs.Paid.{IsPaid};
-ghost use Rattle.cert_check.specs.Graphs.{GraphHolds};
+ghost use Rattle.cert_check.specs.Verdict.{GraphHolds};
 ghost use Rattle.cert_check.specs.Answered.{IsFound};
 
 use crate::lists::{are_nodes, lists_leaders};
-use crate::outcome::{Failure, at};
+use crate::outcome::Clause;
 use crate::paid::Paid;
 use crate::states::judge_states;
 use crate::useful::{judge_sets, judge_useful};
@@ -20,22 +20,8 @@ use evict_sets::{Listing, index};
 use flat_graph::Graph;
 use loop_regions::Nest;
 
-/// A failure at a node, none where the place is the number of nodes.
-fn at_node(clause: u8, least: u32, size: u32) -> Option<Failure>
-    ensures { MatchOption result (size ≤ least) (λ f. (least < size) × (f.clause ≡ clause) × (f.place ≡ least)) }
-{
-    if least < size {
-        Some(Failure {
-            clause,
-            place: least,
-        })
-    } else {
-        None
-    }
-}
-
-/// The first failure of clause 2.
-fn list_failure(listing: &Listing<'_>, nest: &Nest) -> Option<Failure>
+/// The first failure of what is listed, as an error.
+fn list_failure(listing: &Listing<'_>, nest: &Nest) -> Result<(), Clause>
     requires index { IsIndex listing.now.part.now.states (length listing.now.graph.now.nodes) listing.now.places.now }
     ensures { IsFound (GraphHolds listing.now.platform.now (shown listing.now.graph.now nest.now) listing.now.part.now) 2 2 result }
 {
@@ -46,19 +32,19 @@ fn list_failure(listing: &Listing<'_>, nest: &Nest) -> Option<Failure>
     let potentials = part.potentials.as_slice();
     let loops = part.loops.as_slice();
     if !are_nodes(states, size) || !lists_leaders(listing) {
-        return at(2, 0);
+        return Err(Clause::Leaders);
     }
     if potentials.len() != size as usize {
-        return at(2, 1);
+        return Err(Clause::NodePotentials);
     }
     if loops.len() != regions as usize {
-        return at(2, 2);
+        return Err(Clause::LoopPotentials);
     }
-    None
+    Ok(())
 }
 
-/// The first failure of clauses 3 to 5; writes which nodes are counted as hits.
-fn state_failure(listing: &Listing<'_>, order: &[u32], hits: &mut [bool]) -> Option<Failure>
+/// The first failure of the states and sets, as an error; writes which nodes are counted as hits.
+fn state_failure(listing: &Listing<'_>, order: &[u32], hits: &mut [bool]) -> Result<(), Clause>
     requires case { IsListing listing.now.platform.now listing.now.graph.now listing.now.part.now listing.now.places.now }
     requires order { IsOrder (graph_of listing.now.graph.now) (listed_of listing.now.part.now) order.now }
     requires count { length hits.old ≡ (graph_of listing.now.graph.now).size }
@@ -67,25 +53,29 @@ fn state_failure(listing: &Listing<'_>, order: &[u32], hits: &mut [bool]) -> Opt
     ensures failure { (nest : CodeNest) → IsFound (GraphHolds listing.now.platform.now (shown listing.now.graph.now nest) listing.now.part.now) 3 5 result }
 {
     let size = listing.graph.len();
-    let states = at_node(3, judge_states(listing, order, hits), size);
-    if states.is_some() {
-        return states;
+    let node = judge_states(listing, order, hits);
+    if node < size {
+        return Err(Clause::States(node));
     }
-    let useful = at_node(4, judge_useful(listing, order, hits), size);
-    if useful.is_some() {
-        return useful;
+    let node = judge_useful(listing, order, hits);
+    if node < size {
+        return Err(Clause::UsefulSets(node));
     }
-    at_node(5, judge_sets(listing, order, hits), size)
+    let node = judge_sets(listing, order, hits);
+    if node < size {
+        return Err(Clause::TaskSets(node));
+    }
+    Ok(())
 }
 
-/// The first failure of clauses 2 to 7 of a task. Near linear in the nodes and edges of its graph, the regions that edges
-/// leave, and the listed states.
+/// The first failure of the clauses of a task's graph, as an error. Near linear in the nodes and edges
+/// of its graph, the regions that edges leave, and the listed states.
 pub(crate) fn graph_failure(
     platform: &Platform,
     graph: &Graph,
     nest: &Nest,
     part: &TaskPart,
-) -> Option<Failure>
+) -> Result<(), Clause>
     requires platform { IsPlatform platform.now }
     requires nest { IsNestOf graph.now nest.now }
     requires sets { HasLowSets part.now }
@@ -102,19 +92,13 @@ pub(crate) fn graph_failure(
         part,
         places,
     };
-    let listed = list_failure(&listing, nest);
-    if listed.is_some() {
-        return listed;
-    }
+    list_failure(&listing, nest)?;
     let mut numbers = [0; MOST_NODES];
     let order = &mut numbers[..size];
     listing.write_order(order);
     let mut flags = [false; MOST_NODES];
     let hits = &mut flags[..size];
-    let states = state_failure(&listing, order, hits);
-    if states.is_some() {
-        return states;
-    }
+    state_failure(&listing, order, hits)?;
     let paid = Paid {
         platform,
         graph,
@@ -126,19 +110,19 @@ pub(crate) fn graph_failure(
 }
 
 impl Paid<'_> {
-    /// The first failure of clauses 6 and 7.
-    fn potential_failure(&self) -> Option<Failure>
+    /// The first failure of the potentials and of the bound, as an error.
+    fn potential_failure(&self) -> Result<(), Clause>
         requires paid { IsPaid self.now.graph.now self.now.nest.now self.now.part.now self.now.hits.now }
         requires hits { CountsHits (graph_of self.now.graph.now) (fetches self.now.platform.now self.now.graph.now) (listed_of self.now.part.now) (counted self.now.hits.now) }
         ensures { IsFound (GraphHolds self.now.platform.now (shown self.now.graph.now self.now.nest.now) self.now.part.now) 6 7 result }
     {
-        let nodes = at_node(6, self.judge_potentials(), self.graph.len());
-        if nodes.is_some() {
-            return nodes;
+        let node = self.judge_potentials();
+        if node < self.graph.len() {
+            return Err(Clause::Inequalities(node));
         }
         if !self.bound_holds() {
-            return at(7, 0);
+            return Err(Clause::Bound);
         }
-        None
+        Ok(())
     }
 }

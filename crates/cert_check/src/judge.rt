@@ -2,20 +2,21 @@
 ghost use Rattle.std.specs.Prelude.{◌≡◌, ◌<◌, ◌≤◌, ℕ, length};
 ghost use Rattle.crpd_base.specs.Ranges.{IsTaskSet};
 ghost use Rattle.delay_count.specs.Demand.{HasLongest};
-ghost use Rattle.cert_check.specs.Verdict.{Clause, Holds, IsJudged};
+ghost use Rattle.cert_check.specs.declared.outcome.Clause.{Clause};
+ghost use Rattle.cert_check.specs.Verdict.{Holds, IsJudged};
 ghost use Rattle.cert_check.specs.Shown.{shown_at, AreShown, IsInRange};
 ghost use Rattle.cert_check.specs.Answered.{answer_of, IsFound};
 ghost use Rattle.cert_check.specs.Times.{AreLongest};
 
 use crate::graphs::graph_failure;
-use crate::outcome::{Failure, Verdict};
+use crate::outcome::{Clause, Verdict};
 use crate::times::{name_failure, time_failure, times_law, write_longest};
 use crpd_base::{Certificate, MOST_TASKS, Task, TaskSet};
 use delay_count::growth_law;
 use flat_graph::Graph;
 use loop_regions::Nest;
 
-/// The first failure of a task whose higher tasks have none.
+/// The first failure of a task whose higher tasks have none, as an error.
 fn task_failure(
     set: &TaskSet,
     graphs: &[Graph],
@@ -23,7 +24,7 @@ fn task_failure(
     certificate: &Certificate,
     longest: &[u64],
     i: usize,
-) -> Option<Failure>
+) -> Result<(), Clause>
     requires set { IsTaskSet set.now }
     requires tasks { AreShown set.now graphs.now nests.now }
     requires certificate { IsInRange certificate.now }
@@ -35,16 +36,10 @@ fn task_failure(
 {
     growth_law();
     times_law(set);
-    let name = name_failure(set, certificate, i);
-    if name.is_some() {
-        return name;
-    }
+    name_failure(set, certificate, i)?;
     let part = &certificate.tasks.as_slice()[i];
     let (graph, nest) = (&graphs[i], &nests[i]);
-    let failure = graph_failure(&set.platform, graph, nest, part);
-    if failure.is_some() {
-        return failure;
-    }
+    graph_failure(&set.platform, graph, nest, part)?;
     time_failure(set, certificate, longest, i)
 }
 
@@ -82,11 +77,11 @@ pub fn verdict(
     let mut longest = [0; MOST_TASKS];
     write_longest(set, graphs, &mut longest);
     for i in 0..set.tasks.as_slice().len() {
-        if let Some(failure) = task_failure(set, graphs, nests, certificate, &longest, i) {
+        if let Err(clause) = task_failure(set, graphs, nests, certificate, &longest, i) {
             return Verdict::No {
                 task: Task(i as u8),
-                clause: failure.clause,
-                place: failure.place,
+                clause: clause.number(),
+                place: clause.place(),
             };
         }
     }

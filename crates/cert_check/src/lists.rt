@@ -1,4 +1,4 @@
-// Clause 2: what is listed.
+// What is listed.
 ghost use Rattle.std.specs.Prelude.{◌≡◌, ◌↔◌, ◌<◌, ◌≤◌, length, IsTrue, All};
 ghost use Rattle.crpd_base.specs.declared.data.NodeState.{NodeState};
 ghost use Rattle.flat_graph.specs.CodeGraph.{graph_of};

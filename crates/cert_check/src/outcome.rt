@@ -1,5 +1,6 @@
-// What the judge answers.
-ghost use Rattle.std.specs.Prelude.{◌≡◌, Some};
+// The clauses of a certificate, and what the judge answers.
+ghost use Rattle.std.specs.Prelude.{◌≡◌};
+ghost use Rattle.cert_check.specs.Verdict.{number_of, place_of};
 
 use crpd_base::Task;
 
@@ -13,16 +14,72 @@ pub enum Verdict {
     No { task: Task, clause: u8, place: u32 },
 }
 
-/// The first clause that does not hold for a task, by its number and its place.
-#[derive(Clone, Copy, Debug, PartialEq, Eq)]
-pub(crate) struct Failure {
-    pub(crate) clause: u8,
-    pub(crate) place: u32,
+/// A clause of a certificate, in the order in which they are judged for a task; those of nodes with the node's number.
+#[derive(Clone, Copy)]
+pub(crate) enum Clause {
+    /// The platforms are equal.
+    Platforms,
+    /// The certificate has the task.
+    HasTask,
+    /// The names are equal.
+    Names,
+    /// After the set's last task the certificate has none.
+    Last,
+    /// The listed numbers are nodes, and every leader is listed.
+    Leaders,
+    /// There is a potential for each node.
+    NodePotentials,
+    /// There is a potential for each region.
+    LoopPotentials,
+    /// The first node's state is empty; a successor's state has nothing that is not in the state after the node.
+    States(u32),
+    /// The node's useful set has its own set where it is counted as a hit, and what is useful at a successor.
+    UsefulSets(u32),
+    /// The task's sets have those of the node.
+    TaskSets(u32),
+    /// The potentials pay for the node's edges, the regions that these leave, and the turns of the one that it heads.
+    Inequalities(u32),
+    /// The bound is at least the potential of the first node's item.
+    Bound,
+    /// The window has room for the demand.
+    Window,
+    /// The response is the window and the jitter.
+    Response,
+    /// The response is at most the deadline.
+    Deadline,
 }
 
-/// The failure of a clause at a place.
-pub(crate) fn at(clause: u8, place: u32) -> Option<Failure>
-    ensures { result ≡ Some (record { clause = clause; place = place }) }
-{
-    Some(Failure { clause, place })
+impl Clause {
+    /// The clause's number, 1 to 9.
+    pub(crate) fn number(self) -> u8
+        ensures { result ≡ number_of self }
+    {
+        match self {
+            Clause::Platforms | Clause::HasTask | Clause::Names | Clause::Last => 1,
+            Clause::Leaders | Clause::NodePotentials | Clause::LoopPotentials => 2,
+            Clause::States(_) => 3,
+            Clause::UsefulSets(_) => 4,
+            Clause::TaskSets(_) => 5,
+            Clause::Inequalities(_) => 6,
+            Clause::Bound => 7,
+            Clause::Window => 8,
+            Clause::Response | Clause::Deadline => 9,
+        }
+    }
+
+    /// The clause's place among those of its number: the node's number where it is of a node.
+    pub(crate) fn place(self) -> u32
+        ensures { result ≡ place_of self }
+    {
+        match self {
+            Clause::HasTask | Clause::NodePotentials | Clause::Deadline => 1,
+            Clause::Names | Clause::LoopPotentials => 2,
+            Clause::Last => 3,
+            Clause::States(node)
+            | Clause::UsefulSets(node)
+            | Clause::TaskSets(node)
+            | Clause::Inequalities(node) => node,
+            _ => 0,
+        }
+    }
 }

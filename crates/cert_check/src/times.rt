@@ -1,4 +1,4 @@
-// Clauses 1, 8 and 9: what a task's part says beside its graph.
+// The clauses of what a task's part says beside its graph.
 ghost use Rattle.std.specs.Prelude.{◌≡◌, ◌↔◌, ◌<◌, ◌≤◌, ◌^◌, ◌+◌, ℕ, length, slice_index, IsTrue, All};
 ghost use Rattle.crpd_base.specs.Ranges.{IsTaskSet, IsPlatform};
 ghost use Rattle.crpd_base.specs.Tasks.{HasTimes};
@@ -8,12 +8,13 @@ ghost use Rattle.loop_regions.specs.TaskGraph.{TaskGraph};
 ghost use Rattle.evict_sets.specs.Answering.{answers_of};
 ghost use Rattle.evict_sets.specs.Longest.{longest};
 ghost use Rattle.delay_count.specs.Demand.{HasLongest};
-ghost use Rattle.cert_check.specs.Verdict.{Holds, Window};
+ghost use Rattle.cert_check.specs.declared.outcome.Clause.TheVariants.{Window};
+ghost use Rattle.cert_check.specs.Verdict.{Holds, TimesHold};
 ghost use Rattle.cert_check.specs.Answered.{IsFound};
-ghost use Rattle.cert_check.specs.Times.{AreLongest, HigherHold, TimesHold};
+ghost use Rattle.cert_check.specs.Times.{AreLongest, HigherHold};
 
 use crate::least::at_most;
-use crate::outcome::{Failure, at};
+use crate::outcome::Clause;
 use crpd_base::{Certificate, MOST_TASKS, Platform, Task, TaskSet, Text};
 use delay_count::demand;
 use evict_sets::{longest, longest_law};
@@ -31,27 +32,27 @@ pub(crate) fn are_alike(a: &Platform, b: &Platform) -> bool
     *a == *b
 }
 
-/// The first failure of clause 1 at a task.
-pub(crate) fn name_failure(set: &TaskSet, certificate: &Certificate, i: usize) -> Option<Failure>
+/// The first failure of the platform, the tasks and the names at a task, as an error.
+pub(crate) fn name_failure(set: &TaskSet, certificate: &Certificate, i: usize) -> Result<(), Clause>
     requires { i < length set.now.tasks }
     ensures { (graphs : ℕ → TaskGraph) → IsFound (Holds set.now graphs certificate.now i) 1 1 result }
 {
     let tasks = set.tasks.as_slice();
     let parts = certificate.tasks.as_slice();
     if !are_alike(&certificate.platform, &set.platform) {
-        return at(1, 0);
+        return Err(Clause::Platforms);
     }
     if parts.len() <= i {
-        return at(1, 1);
+        return Err(Clause::HasTask);
     }
     let (task, part) = (&tasks[i], &parts[i]);
     if !are_same(&part.name, &task.name) {
-        return at(1, 2);
+        return Err(Clause::Names);
     }
     if i + 1 == tasks.len() && parts.len() != tasks.len() {
-        return at(1, 3);
+        return Err(Clause::Last);
     }
-    None
+    Ok(())
 }
 
 /// The longest cost of one instruction of a task, 1 to 2^18 cycles.
@@ -84,7 +85,7 @@ pub fn times_law(set: &TaskSet)
     ensures { HasTimes set.now }
 {}
 
-/// Whether clause 8 holds at a task: its window is at least 1, and the demand there is at most the window.
+/// Whether a task's window has room for the demand: it is at least 1, and the demand there is at most the window.
 fn has_room(set: &TaskSet, certificate: &Certificate, longest: &[u64], i: usize) -> bool
     requires set { IsTaskSet set.now }
     requires task { i < length set.now.tasks }
@@ -112,13 +113,13 @@ fn has_room(set: &TaskSet, certificate: &Certificate, longest: &[u64], i: usize)
     at_most(demand, u128::from(window))
 }
 
-/// The first failure of clauses 8 and 9 at a task.
+/// The first failure of a task's times, as an error.
 pub(crate) fn time_failure(
     set: &TaskSet,
     certificate: &Certificate,
     longest: &[u64],
     i: usize,
-) -> Option<Failure>
+) -> Result<(), Clause>
     requires set { IsTaskSet set.now }
     requires task { i < length set.now.tasks }
     requires longest { HasLongest set.now longest.now }
@@ -129,13 +130,13 @@ pub(crate) fn time_failure(
     let task = &set.tasks.as_slice()[i];
     let part = &certificate.tasks.as_slice()[i];
     if !has_room(set, certificate, longest, i) {
-        return at(8, 0);
+        return Err(Clause::Window);
     }
     if u128::from(part.response) != u128::from(part.window) + u128::from(task.jitter) {
-        return at(9, 0);
+        return Err(Clause::Response);
     }
     if part.response > task.deadline {
-        return at(9, 1);
+        return Err(Clause::Deadline);
     }
-    None
+    Ok(())
 }

@@ -1,4 +1,4 @@
-// Clauses 4 and 5: the useful sets of the nodes, and the sets of the task.
+// The clauses of the useful sets of the nodes, and of the sets of the task.
 ghost use Rattle.std.specs.Prelude.{◌≡◌, ◌↔◌, ◌<◌, ◌≤◌, ◌==◌, ℕ, if◌then◌else◌, length, IsTrue, IsFalse};
 ghost use Rattle.crpd_base.specs.Sets.{has, member};
 ghost use Rattle.flat_graph.specs.Graph.{Edge};

@@ -16,7 +16,6 @@ use Rattle.delay_count.specs.Demand.{demand}
 use Rattle.response.specs.Windows.{IsFirstWithout}
 use Rattle.cert_check.specs.Judge.{longest_at}
 use Rattle.cert_check.specs.Shown.{no_graph, AreShown}
-use Rattle.cert_check.specs.Verdict.{Last, IsJudged, Yes}
 use Rattle.crpd_base.proofs.Times.{has_times}
 use Rattle.cert_model.specs.Ranges.{IsCertificate}
 use Rattle.cert_model.specs.Reading.{entries}
@@ -32,14 +31,6 @@ use Rattle.cert_update.specs.Parts.{AreNewParts}
 use Rattle.cert_update.specs.Laws.{HasCodes}
 use Rattle.cert_update.specs.Answer.{IsUpdated, HasNoWindowAt}
 use Rattle.cert_update.proofs.NewParts.{bare, at_bare, bare_parts}
-
--- a yes of the judge says that the certificate has a part for each task
-pub all_parts : (set : TaskSet) (graphs : ℕ → TaskGraph) (c : Certificate) → IsTaskSet set → IsJudged set graphs c Yes → length c.tasks ≡ length set.tasks
-all_parts set graphs c S judges = by (length set.tasks) refl
-  where
-    by : (n : ℕ) → length set.tasks ≡ n → length c.tasks ≡ length set.tasks
-    by zero e = let s = S.some in absurd (omega (arith, s, e))
-    by (suc n) e = judges n Last (omega (arith, e)) (sym e)
 
 pub has_codes : (set : TaskSet) (graphs : List CodeGraph) (nests : List CodeNest) → IsTaskSet set → AreShown set graphs nests → All HasCode graphs → HasCodes set graphs nests
 has_codes set graphs nests S A H =

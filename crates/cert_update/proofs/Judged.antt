@@ -6,38 +6,20 @@ use Rattle.flat_graph.specs.CodeGraph.{CodeGraph}
 use Rattle.loop_regions.specs.TaskGraph.{TaskGraph}
 use Rattle.loop_regions.specs.CodeNest.{CodeNest}
 use Rattle.evict_sets.specs.Certificate.{cert_at}
+use Rattle.cert_check.specs.declared.outcome.Clause.{Clause}
 use Rattle.cert_check.specs.Judge.{window_at}
+use Rattle.cert_check.specs.Verdict.{GraphHolds, IsYes}
 use Rattle.cert_check.specs.Shown.{shown_at, graph_at, nest_at}
-use Rattle.cert_check.specs.Verdict.{Clause, Platforms, HasTask, Names, Last, Leaders, NodePotentials, LoopPotentials, States, UsefulSets, TaskSets, Inequalities, Bound, Window, Response, Deadline, Holds, IsJudged, Yes}
-use Rattle.cert_check.specs.Graphs.{GraphHolds}
+use Rattle.cert_check.proofs.Clauses.{all_hold, graph_part}
 use Rattle.cert_build.specs.Best.{IsBestPart, IsBest, demand_of}
 use Rattle.response.proofs.WindowLaws.{smaller_is_window}
-use Rattle.cert_build.proofs.Judged.{best_holds, all_hold}
+use Rattle.cert_build.proofs.Judged.{best_holds}
 use Rattle.cert_update.specs.Update.{IsUpdate}
 use Rattle.cert_update.specs.Laws.{side, HasCodes, UpdateIsJudgedLaw, UpdateIsBestLaw}
 use Rattle.cert_update.proofs.Pass.{is_graph, pass_law, best_pass_law}
 
--- ---- clauses 2 to 7 look at the graph and the part alone
-
-graph_holds : (set : TaskSet) (graphs : ℕ → TaskGraph) (c : Certificate) (i : ℕ) (k : Clause) → Holds set graphs c i k → GraphHolds set.platform (graphs i) (cert_at c i) k
-graph_holds set graphs c i Platforms h = tt
-graph_holds set graphs c i HasTask h = tt
-graph_holds set graphs c i Names h = tt
-graph_holds set graphs c i Last h = tt
-graph_holds set graphs c i Leaders h = h
-graph_holds set graphs c i NodePotentials h = h
-graph_holds set graphs c i LoopPotentials h = h
-graph_holds set graphs c i (States u) h = h
-graph_holds set graphs c i (UsefulSets u) h = h
-graph_holds set graphs c i (TaskSets u) h = h
-graph_holds set graphs c i (Inequalities u) h = h
-graph_holds set graphs c i Bound h = h
-graph_holds set graphs c i Window h = tt
-graph_holds set graphs c i Response h = tt
-graph_holds set graphs c i Deadline h = tt
-
 module _ (old set : TaskSet) (old_graphs graphs : List CodeGraph) (old_nests nests : List CodeNest) (c d : Certificate) (O : HasCodes old old_graphs old_nests) (N : HasCodes set graphs nests) (U : IsUpdate (side old old_graphs old_nests) c (side set graphs nests) d) where
-  part_holds : ((i : ℕ) (k : Clause) → i < length old.tasks → Holds old (shown_at old_graphs old_nests) c i k) →
+  part_holds : IsYes old (shown_at old_graphs old_nests) c →
       (i : ℕ) (k : Clause) → i < length set.tasks → GraphHolds set.platform (shown_at graphs nests i) (cert_at d i) k
   part_holds judges i k lt =
       elim (U.each i lt).part [
@@ -46,16 +28,15 @@ module _ (old set : TaskSet) (old_graphs graphs : List CodeGraph) (old_nests nes
             let u = x.1 in
             pass_law old.platform set.platform (graph_at old_graphs from) (graph_at graphs i) (nest_at old_nests from) (nest_at nests i) (cert_at c from) (cert_at d i) k
             (O.code from u.task) (N.code i lt) (O.regions from u.task) (N.regions i lt) u.code x.2
-            (graph_holds old (shown_at old_graphs old_nests) c from k (judges from k u.task))
+            (graph_part old (shown_at old_graphs old_nests) c from k (judges from k u.task))
         | inr x ↦ best_holds set.platform (shown_at graphs nests i) (cert_at d i) (is_graph (graph_at graphs i) (N.code i lt)) x.1 k
       ]
 
-  module _ (judges : IsJudged old (shown_at old_graphs old_nests) c Yes) where
-    pub judged : (i : ℕ) (k : Clause) → i < length set.tasks → Holds set (shown_at graphs nests) d i k
-    judged i k lt =
-        let T = U.each i lt in
-        let w = smaller_is_window set (demand_of set (shown_at graphs nests) d i) i (cert_at d i).method (window_at d i) T.window in
-        all_hold set (shown_at graphs nests) d i lt U.platform U.tasks T.name (λ clause. part_holds judges i clause lt) w.some w.enough T.response w.in_deadline k
+  pub judged : IsYes old (shown_at old_graphs old_nests) c → IsYes set (shown_at graphs nests) d
+  judged judges i k lt =
+      let T = U.each i lt in
+      let w = smaller_is_window set (demand_of set (shown_at graphs nests) d) i (cert_at d i).method (window_at d i) T.window in
+      all_hold set (shown_at graphs nests) d i lt U.platform U.tasks T.name (λ clause. part_holds judges i clause lt) w.some w.enough T.response w.in_deadline k
 
   pub is_best : IsBest old (shown_at old_graphs old_nests) c → IsBest set (shown_at graphs nests) d
   is_best B =

@@ -17,8 +17,9 @@ use Rattle.loop_regions.specs.Potentials.{Costs}
 use Rattle.cert_check.specs.Certificate.{potentials_of}
 use Rattle.cert_check.specs.Clauses.{costs, PotentialsMeet}
 use Rattle.cert_check.specs.Shown.{shown}
-use Rattle.cert_check.specs.Verdict.{Clause, Leaders, LoopPotentials, Inequalities, Bound}
-use Rattle.cert_check.specs.Graphs.{GraphHolds}
+use Rattle.cert_check.specs.declared.outcome.Clause.{Clause}
+use Rattle.cert_check.specs.declared.outcome.Clause.TheVariants.{Leaders, LoopPotentials, Inequalities, Bound}
+use Rattle.cert_check.specs.Verdict.{GraphHolds}
 use Rattle.loop_regions.proofs.Stated.{regions_law}
 use Rattle.cert_build.specs.Best.{IsBestPart, AreBestPotentials}
 use Rattle.cert_update.specs.Unchanged.{AreAlike, HasSameNodes, HasSameRegions}

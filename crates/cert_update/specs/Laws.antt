@@ -11,8 +11,8 @@ use Rattle.loop_regions.specs.CodeNest.{CodeNest, nest_of}
 use Rattle.loop_regions.specs.Stated.{IsAccepted, IsRegions}
 use Rattle.loop_regions.specs.TaskGraph.{TaskGraph}
 use Rattle.cert_check.specs.Shown.{shown, shown_at, graph_at, nest_at}
-use Rattle.cert_check.specs.Verdict.{Clause, IsJudged, Yes}
-use Rattle.cert_check.specs.Graphs.{GraphHolds}
+use Rattle.cert_check.specs.declared.outcome.Clause.{Clause}
+use Rattle.cert_check.specs.Verdict.{IsJudged, Yes, GraphHolds}
 use Rattle.cert_build.specs.Best.{IsBest, IsBestPart}
 use Rattle.cert_update.specs.Unchanged.{Side, IsSameCode}
 use Rattle.cert_update.specs.Update.{IsKept, IsUpdate}
@@ -44,7 +44,7 @@ SameGraphLaw =
     HasCode g → HasCode h → HasRegions g n → HasRegions h m → IsSameCode p (shown g n) q (shown h m) →
     AreSameGraphs (shown g n) (shown h m)
 
--- clauses 2 to 7 of a part pass from an old task to the unchanged new one
+-- the clauses of a task's graph pass with its part from an old task to the unchanged new one
 abbrev pub PassLaw : Type 0
 PassLaw =
     (p q : Platform) (g h : CodeGraph) (n m : CodeNest) (c d : TaskPart) (k : Clause) →

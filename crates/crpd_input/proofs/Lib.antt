@@ -7,7 +7,6 @@ pub mod Chain
 pub mod OneGraph
 pub mod OneNest
 pub mod OneJudgement
-pub mod OneVerdict
 pub mod Plans
 pub mod Nests
 pub mod InRange

@@ -13,7 +13,9 @@ use Rattle.exec_bound.specs.Least.{IsLeast}
 use Rattle.loop_regions.specs.Stated.{IsRegions, IsSameHead}
 use Rattle.cert_check.specs.Clauses.{BoundMeets, PotentialsMeet}
 use Rattle.cert_check.specs.Shown.{graph_at, nest_at, shown_at}
-use Rattle.cert_check.specs.Verdict.{Answer, Yes, No, Bound, Clause, Holds, Inequalities, IsJudged, LoopPotentials}
+use Rattle.cert_check.specs.declared.outcome.Clause.{Clause}
+use Rattle.cert_check.specs.declared.outcome.Clause.TheVariants.{Bound, Inequalities, LoopPotentials}
+use Rattle.cert_check.specs.Verdict.{Answer, Yes, No, Holds, IsJudged}
 use Rattle.crpd_input.proofs.OneNest.{alike, back_too, false_too, true_too}
 
 -- ---- two nests of the same loops

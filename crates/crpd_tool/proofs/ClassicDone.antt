@@ -3,8 +3,8 @@ use Rattle.std.proofs.Common.{◌≡◌, ℕ, ◌<◌, List, Result, Ok, length,
 use Rattle.crpd_base.specs.declared.data.Certificate.{Certificate}
 use Rattle.code_map.specs.Words.{word_at}
 use Rattle.cert_check.specs.Judge.{IsGraphOf}
+use Rattle.cert_check.specs.Verdict.{IsJudged, Yes}
 use Rattle.cert_check.specs.Shown.{shown_at}
-use Rattle.cert_check.specs.Verdict.{IsJudged, Yes, YesLaw}
 use Rattle.cert_check.specs.declared.outcome.Verdict.TheVariants as verdict
 use Rattle.cert_model.specs.Writing.{text as certificate_text}
 use Rattle.delay_classic.specs.Classic.{ClassicHasBest, ClassicIsJudged, OneClassic}
@@ -32,7 +32,7 @@ use Rattle.crpd_tool.proofs.Analyzed.{not_done}
 use Rattle.crpd_tool.proofs.Finish.{some-out}
 use Rattle.crpd_tool.proofs.Safety.{then_done}
 
-module _ (safe_law : CheckedCodeIsSafe) (yes_law : YesLaw) (judged_law : ClassicIsJudged) (one_law : OneClassic) (best_law : ClassicHasBest) (contents : Contents) (set : List ℕ) where
+module _ (safe_law : CheckedCodeIsSafe) (judged_law : ClassicIsJudged) (one_law : OneClassic) (best_law : ClassicHasBest) (contents : Contents) (set : List ℕ) where
   made : (input : Input) (shapes : Shapes) (ending : Result Answer Refusal) → ClassicOf set input shapes ending → (settled ending).status ≡ Done
       → (c : Certificate) × IsMadeClassic input.set (shown_at shapes.graphs shapes.nests) c × (ending ≡ Ok (certificate_answer c))
   made input shapes ending (inl found) e = found
@@ -57,8 +57,7 @@ module _ (safe_law : CheckedCodeIsSafe) (yes_law : YesLaw) (judged_law : Classic
         is = M.classic;
         only = λ d D. one_law input.set (shown_at shapes.graphs shapes.nests) d c D M.classic;
         judged = yes;
-        safe = safe_law input.set input.code (shown_at shapes.graphs shapes.nests) c good.ranges good.words built
-            ((yes_law input.set (shown_at shapes.graphs shapes.nests) c (word_at input.code.images) (plan_of (system_of input.set input.code)) built).0 yes);
+        safe = safe_law input.set input.code (shown_at shapes.graphs shapes.nests) c good.ranges good.words built yes;
         best = best_law input.set (shown_at shapes.graphs shapes.nests) c (has_times input.set good.ranges) M.classic;
         checks = λ others file name same read. inl (input, same, inl (shapes, shaped, inl (c, read, (verdict.Yes, yes, refl))));
       }
@@ -70,9 +69,9 @@ module _ (safe_law : CheckedCodeIsSafe) (yes_law : YesLaw) (judged_law : Classic
       let found = made input.0 shapes.0 ending shapes.2 e in
       sound input.0 shapes.0 found.0 ending input.1 shapes.1 found.1 found.2
 
-pub done_is_classic : CheckedCodeIsSafe → YesLaw → ClassicIsJudged → OneClassic → ClassicHasBest → (words : List (List ℕ)) (contents : Contents) → DoneIsClassic words contents
-done_is_classic safe_law yes_law judged_law one_law best_law words contents set output is out e =
+pub done_is_classic : CheckedCodeIsSafe → ClassicIsJudged → OneClassic → ClassicHasBest → (words : List (List ℕ)) (contents : Contents) → DoneIsClassic words contents
+done_is_classic safe_law judged_law one_law best_law words contents set output is out e =
     let given = some-out words contents (classic set) output is out in
     let text = ap (λ (o : Output). o.text) given.2 in
     subst (λ t. IsSoundClassic contents set t) (sym text)
-    (ended safe_law yes_law judged_law one_law best_law contents set given.0 given.1 (ap (λ (o : Output). o.status) (sym given.2) ∙ e))
+    (ended safe_law judged_law one_law best_law contents set given.0 given.1 (ap (λ (o : Output). o.status) (sym given.2) ∙ e))

@@ -10,9 +10,10 @@ use Rattle.script_reader.specs.Reading as script_reader
 use Rattle.script_reader.proofs.Found.{found_in}
 use Rattle.loop_regions.specs.TaskGraph.{TaskGraph}
 use Rattle.cert_check.specs.Answered.{answer_of}
+use Rattle.cert_check.specs.declared.outcome.Clause.TheVariants.{States, TaskSets, UsefulSets}
 use Rattle.cert_check.specs.Judge.{IsGraphOf}
+use Rattle.cert_check.specs.Verdict.{IsJudged, Yes}
 use Rattle.cert_check.specs.Shown.{shown_at}
-use Rattle.cert_check.specs.Verdict.{IsJudged, States, TaskSets, UsefulSets, Yes, YesLaw}
 use Rattle.cert_check.specs.declared.outcome.Verdict.{Verdict}
 use Rattle.cert_check.specs.declared.outcome.Verdict.TheVariants as verdict
 use Rattle.preempt_machine.specs.Machine.{no_job, plan_of}
@@ -93,13 +94,13 @@ module _ (input : Input) (shapes : Shapes) (c : Certificate) (given : Script) (i
       let room : length (start.cache) ≡ 512 = start_cache_length input.set.platform given.cache in
       record { size = omega (arith, sets.1, room); some_set = omega (arith, sets.0) }
 
-  checked : YesLaw → IsChecked input.set input.code graphs c
-  checked yes_law =
+  checked : IsChecked input.set input.code graphs c
+  checked =
       record {
         ranges = is.ranges;
         words = is.words;
         graphs_of = built;
-        says = (yes_law input.set graphs c (word_at input.code.images) (plan_of (system_of input.set input.code)) built).0 judged;
+        says = judged;
       }
 
   account_facts : LedgerFacts → (a : Account) → IsAccount start graphs c given.cycles a → HasAccountFacts start graphs c given.cycles a
@@ -111,8 +112,8 @@ module _ (input : Input) (shapes : Shapes) (c : Certificate) (given : Script) (i
         facts = facts_law start graphs c given.cycles I.ledger cached has_graphs sets_met I.is_ledger;
       }
 
-  within_delays : CheckedAccountIsWithinDelays → YesLaw → (a : Account) → IsAccount start graphs c given.cycles a → IsLegal input.set given.jobs → IsKept (run_of input given) → IsWithinDelays input.set input.code given c a
-  within_delays within_law yes_law a I legal kept = within_law input.set input.code graphs c given a (checked yes_law) named legal I (I.kept.1 kept)
+  within_delays : CheckedAccountIsWithinDelays → (a : Account) → IsAccount start graphs c given.cycles a → IsLegal input.set given.jobs → IsKept (run_of input given) → IsWithinDelays input.set input.code given c a
+  within_delays within_law a I legal kept = within_law input.set input.code graphs c given a checked named legal I (I.kept.1 kept)
 
 denied : (set : TaskSet) (c : Certificate) (task clause place : ℕ) → (settled (Ok (verdict_answer set c (verdict.No (record { 0 = task }) clause place)))).status ≡ Done → ⊥
 denied set c task clause place e = cc
@@ -124,7 +125,7 @@ account_of input shapes c given verdict.Yes ending a e = (refl, a)
 account_of input shapes c given (verdict.No task clause place) ending a e =
     absurd (denied input.set c task.0 clause place (ap (λ (r : Result Answer Refusal). (settled r).status) (sym a) ∙ e))
 
-module _ (facts_law : LedgerFacts) (within_law : CheckedAccountIsWithinDelays) (yes_law : YesLaw) (contents : Contents) (set certificate script : List ℕ) where
+module _ (facts_law : LedgerFacts) (within_law : CheckedAccountIsWithinDelays) (contents : Contents) (set certificate script : List ℕ) where
   explained : (input : Input) (shapes : Shapes) (c : Certificate) (given : Script) (ending : Result Answer Refusal) → input_in contents set ≡ Ok input → ShapesIn input (Ok shapes)
       → certificate_in contents certificate ≡ Ok c → script_in contents script input.set ≡ Ok given → ExplanationOf input shapes c given ending → (settled ending).status ≡ Done
       → IsExplained contents set certificate script (settled ending).text
@@ -151,7 +152,7 @@ module _ (facts_law : LedgerFacts) (within_law : CheckedAccountIsWithinDelays) (
         line = account.3;
         text_is = ap (λ (r : Result Answer Refusal). (settled r).text) account.4;
         facts = account_facts input shapes c given is planned shaped named judged facts_law account.0 account.2;
-        within = within_delays input shapes c given is planned shaped named judged within_law yes_law account.0 account.2;
+        within = within_delays input shapes c given is planned shaped named judged within_law account.0 account.2;
       }
 
   abbrev Scripts : Input → Shapes → Certificate → Result Answer Refusal → Type 0
@@ -168,8 +169,8 @@ module _ (facts_law : LedgerFacts) (within_law : CheckedAccountIsWithinDelays) (
       let given = then_done (Exactly (script_in contents script input.0.set)) (ExplanationOf input.0 shapes.0 stated.0) ending stated.2 e in
       explained input.0 shapes.0 stated.0 given.0 ending input.1 shapes.1 stated.1 given.1 given.2 e
 
-pub done_is_explained : LedgerFacts → CheckedAccountIsWithinDelays → YesLaw → (words : List (List ℕ)) (contents : Contents) → DoneIsExplained words contents
-done_is_explained facts_law within_law yes_law words contents set certificate script output is out e =
+pub done_is_explained : LedgerFacts → CheckedAccountIsWithinDelays → (words : List (List ℕ)) (contents : Contents) → DoneIsExplained words contents
+done_is_explained facts_law within_law words contents set certificate script output is out e =
     let given = some-out words contents (explain set certificate script) output is out in
     subst (IsExplained contents set certificate script) (sym (ap (λ (o : Output). o.text) given.2))
-    (ended facts_law within_law yes_law contents set certificate script given.0 given.1 (ap (λ (o : Output). o.status) (sym given.2) ∙ e))
+    (ended facts_law within_law contents set certificate script given.0 given.1 (ap (λ (o : Output). o.status) (sym given.2) ∙ e))

@@ -15,7 +15,8 @@ use Rattle.loop_regions.specs.TaskSteps.{words_of}
 use Rattle.evict_sets.specs.Certificate.{no_cert}
 use Rattle.cert_check.specs.Shown.{HasLowSets, graph_at, no_graph, shown_at}
 use Rattle.cert_check.specs.Answered.{answer_of}
-use Rattle.cert_check.specs.Verdict.{Deadline, HasTask, IsJudged, Last, Leaders, Response, States, Yes}
+use Rattle.cert_check.specs.declared.outcome.Clause.TheVariants.{Deadline, HasTask, Last, Leaders, Response, States}
+use Rattle.cert_check.specs.Verdict.{IsJudged, Yes}
 use Rattle.cert_check.specs.declared.outcome.Verdict.TheVariants as verdict
 use Rattle.cert_model.specs.Ranges.{IsCertificate}
 use Rattle.run_account.specs.Shown.{AreGraphsOf, StatesAreMet}

@@ -11,9 +11,9 @@ use Rattle.script_reader.specs.Legal.{IsLegal}
 use Rattle.cert_build.specs.declared.fault.BuildError.{BuildError}
 use Rattle.cert_build.specs.declared.fault.BuildError.TheVariants.{Memory, TooLarge, TooManyEntries, Unschedulable}
 use Rattle.cert_check.specs.Answered.{answer_of}
-use Rattle.cert_check.specs.Judge.{IsYes, responses}
+use Rattle.cert_check.specs.Judge.{responses}
+use Rattle.cert_check.specs.Verdict.{IsYes, IsJudged}
 use Rattle.cert_check.specs.Shown.{shown_at}
-use Rattle.cert_check.specs.Verdict.{IsJudged, YesLaw}
 use Rattle.cert_check.specs.declared.outcome.Verdict.{Verdict}
 use Rattle.cert_check.specs.declared.outcome.Verdict.TheVariants.{Yes, No}
 use Rattle.preempt_machine.specs.Machine.{Job, no_job, plan_of}
@@ -99,22 +99,16 @@ yes_only : (v : Verdict) → status_of (verdict_outcome v) ≡ Done → v ≡ Ye
 yes_only Yes e = refl
 yes_only (No task clause place) e = absurd cc
 
-module _ (safe_law : CheckedCodeIsSafe) (yes_law : YesLaw) (none_law : NoneLateLaw) (n : ℕ) where
+module _ (safe_law : CheckedCodeIsSafe) (none_law : NoneLateLaw) (n : ℕ) where
   abbrev script : Script
   script = (made n).script
-
-  all_hold : (input : Input) (shapes : Shapes) (c : Certificate) → made_input n ≡ Ok input → ShapesIn input (Ok shapes)
-      → IsJudged input.set (shown_at shapes.graphs shapes.nests) c (answer_of Yes) → IsYes input.set (shown_at shapes.graphs shapes.nests) c
-  all_hold input shapes c is shaped judged =
-      (yes_law input.set (shown_at shapes.graphs shapes.nests) c (word_at input.code.images) (plan_of (system_of input.set input.code))
-      (shapes_built input shapes (made_good n input is) (made_planned n input is) shaped)).0 judged
 
   safe : (input : Input) (shapes : Shapes) (c : Certificate) → made_input n ≡ Ok input → ShapesIn input (Ok shapes)
       → IsJudged input.set (shown_at shapes.graphs shapes.nests) c (answer_of Yes) → IsSafeWith input.set input.code (responses c)
   safe input shapes c is shaped judged =
       let good = made_good n input is in
       safe_law input.set input.code (shown_at shapes.graphs shapes.nests) c good.ranges good.words
-      (shapes_built input shapes good (made_planned n input is) shaped) (all_hold input shapes c is shaped judged)
+      (shapes_built input shapes good (made_planned n input is) shaped) judged
 
   none_late : (input : Input) (c : Certificate) → made_input n ≡ Ok input → IsSafeWith input.set input.code (responses c) → IsKept (run_of input script)
       → late_count script c (completions_of (run_of input script)) ≡ 0
@@ -172,8 +166,8 @@ module _ (safe_law : CheckedCodeIsSafe) (yes_law : YesLaw) (none_law : NoneLateL
       let shapes = then_done (ShapesIn input.0) (GeneratedOf n script input.0) ending input.2 e in
       answered input.0 shapes.0 ending input.1 shapes.1 shapes.2 e
 
-pub done_is_generated : CheckedCodeIsSafe → YesLaw → NoneLateLaw → (words : List (List ℕ)) (contents : Contents) → DoneIsGenerated words contents
-done_is_generated safe_law yes_law none_law words contents n output is out e =
+pub done_is_generated : CheckedCodeIsSafe → NoneLateLaw → (words : List (List ℕ)) (contents : Contents) → DoneIsGenerated words contents
+done_is_generated safe_law none_law words contents n output is out e =
     let given = some-out words contents (generate n) output is out in
     subst (IsGenerated n) (sym (ap (λ (o : Output). o.text) given.2))
-    (ended safe_law yes_law none_law n given.0 given.1 (ap (λ (o : Output). o.status) (sym given.2) ∙ e))
+    (ended safe_law none_law n given.0 given.1 (ap (λ (o : Output). o.status) (sym given.2) ∙ e))

@@ -15,8 +15,8 @@ use Rattle.evict_sets.specs.Certificate.{cert_at}
 use Rattle.response.specs.Windows.{IsFirstWithout, method_at, window_at as chosen_window}
 use Rattle.cert_check.specs.Answered.{answer_of}
 use Rattle.cert_check.specs.Judge.{accesses_of, longest_at, part_of, window_at}
-use Rattle.cert_check.specs.Shown.{graph_at, nest_at, shown, shown_at}
 use Rattle.cert_check.specs.Verdict.{IsJudged}
+use Rattle.cert_check.specs.Shown.{graph_at, nest_at, shown, shown_at}
 use Rattle.cert_check.specs.declared.outcome.Verdict.{Verdict}
 use Rattle.cert_check.specs.declared.outcome.Verdict.TheVariants as verdict
 use Rattle.cert_model.specs.Reading.{entries}
@@ -34,7 +34,7 @@ use Rattle.crpd_input.specs.declared.input.Input.{Input}
 use Rattle.crpd_input.specs.declared.refusal.Refusal.{Refusal}
 use Rattle.crpd_input.proofs.OneJudgement.{AreSame, judged_too, size_same}
 use Rattle.crpd_input.proofs.OneNest.{alike}
-use Rattle.crpd_input.proofs.OneVerdict.{one_verdict}
+use Rattle.cert_check.proofs.OneAnswer.{one_verdict}
 use Rattle.crpd_tool.specs.declared.answer.Answer.{Answer}
 use Rattle.crpd_tool.specs.Analyze.{certificate_answer, without_certificate}
 use Rattle.crpd_tool.specs.Check.{verdict_answer}

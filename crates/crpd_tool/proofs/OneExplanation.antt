@@ -19,7 +19,7 @@ use Rattle.crpd_input.specs.declared.input.Input.{Input}
 use Rattle.crpd_input.specs.declared.refusal.Refusal.{Refusal}
 use Rattle.crpd_input.specs.declared.shapes.Shapes.{Shapes}
 use Rattle.crpd_input.proofs.OneJudgement.{AreSame, judged_too}
-use Rattle.crpd_input.proofs.OneVerdict.{one_verdict}
+use Rattle.cert_check.proofs.OneAnswer.{one_verdict}
 use Rattle.crpd_report.specs.Explain.{delay_lines, reload_lines}
 use Rattle.crpd_tool.specs.Explain.{AccountOf, ExplainedBy, ExplanationOf}
 use Rattle.crpd_tool.specs.Simulate.{run_of}

@@ -18,7 +18,7 @@ use Rattle.crpd_input.specs.declared.input.Input.{Input}
 use Rattle.crpd_input.specs.declared.refusal.Refusal.{Refusal}
 use Rattle.crpd_input.specs.declared.shapes.Shapes.{Shapes}
 use Rattle.crpd_input.proofs.OneJudgement.{judged_too}
-use Rattle.crpd_input.proofs.OneVerdict.{one_verdict}
+use Rattle.cert_check.proofs.OneAnswer.{one_verdict}
 use Rattle.crpd_tool.specs.Generate.{GeneratedOf, IsRunJudged, made_answer, without_made}
 use Rattle.crpd_tool.specs.Simulate.{run_of}
 use Rattle.crpd_tool.proofs.OneBuild.{not_refused, one_refusal}

@@ -3,15 +3,15 @@ use Rattle.std.proofs.Common.{ℕ, List, ◌∙◌}
 use Rattle.std.proofs.lemmas.List.{length-map}
 use Rattle.crpd_base.specs.declared.data.TaskPart.{TaskPart}
 use Rattle.cert_check.specs.Shown.{shown_at}
-use Rattle.cert_check.specs.Verdict.{YesLaw}
+use Rattle.cert_check.proofs.Clauses.{as_many}
 use Rattle.sound_laws.specs.Within.{CheckedCodeIsBounded}
 use Rattle.crpd_io.specs.Outside.{Contents}
 use Rattle.crpd_tool.specs.Undisturbed.{DoneIsBounded}
-use Rattle.crpd_tool.proofs.Safety.{as_many, done_is_checked}
+use Rattle.crpd_tool.proofs.Safety.{done_is_checked}
 
-pub done_is_bounded : CheckedCodeIsBounded → YesLaw → (words : List (List ℕ)) (contents : Contents) → DoneIsBounded words contents
-done_is_bounded bounded_law yes_law words contents set certificate output is out e =
-    let found = done_is_checked yes_law words contents set certificate output is out e in
+pub done_is_bounded : CheckedCodeIsBounded → (words : List (List ℕ)) (contents : Contents) → DoneIsBounded words contents
+done_is_bounded bounded_law words contents set certificate output is out e =
+    let found = done_is_checked words contents set certificate output is out e in
     let graphs = shown_at found.shapes.graphs found.shapes.nests in
     record {
       input = found.input;

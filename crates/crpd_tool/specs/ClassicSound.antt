@@ -2,8 +2,8 @@
 use Rattle.std.specs.Prelude.{◌≡◌, ℕ, List, Some, Ok}
 use Rattle.crpd_base.specs.declared.data.Certificate.{Certificate}
 use Rattle.cert_check.specs.Judge.{responses}
-use Rattle.cert_check.specs.Shown.{shown_at}
 use Rattle.cert_check.specs.Verdict.{IsJudged, Yes}
+use Rattle.cert_check.specs.Shown.{shown_at}
 use Rattle.cert_check.specs.declared.outcome.Verdict.TheVariants as verdict
 use Rattle.cert_model.specs.Reading.{reading}
 use Rattle.delay_classic.specs.Classic.{HasBest, IsClassic}

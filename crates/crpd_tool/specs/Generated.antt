@@ -4,8 +4,8 @@ use Rattle.crpd_base.specs.declared.data.Certificate.{Certificate}
 use Rattle.script_reader.specs.Legal.{IsLegal}
 use Rattle.cert_build.specs.Best.{IsBest}
 use Rattle.cert_check.specs.Judge.{responses}
-use Rattle.cert_check.specs.Shown.{shown_at}
 use Rattle.cert_check.specs.Verdict.{IsJudged, Yes}
+use Rattle.cert_check.specs.Shown.{shown_at}
 use Rattle.cert_check.specs.declared.outcome.Verdict.TheVariants as verdict
 use Rattle.preempt_machine.specs.Safe.{IsKept, IsSafeWith}
 use Rattle.crpd_io.specs.Outside.{Contents}

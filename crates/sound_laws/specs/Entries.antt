@@ -1,5 +1,5 @@
 -- A job's own last fetches agree with the full states, and its entries are reloads.
-use Rattle.std.specs.Prelude.{◌≡◌, ◌≢◌, ℕ, ◌<◌, true, IsTrue, length}
+use Rattle.std.specs.Prelude.{◌≡◌, ◌≢◌, ℕ, ◌<◌, Bool, true, IsTrue, length}
 use Rattle.crpd_base.specs.declared.data.TaskSet.{TaskSet}
 use Rattle.flow_watch.specs.Watch.{is_kept}
 use Rattle.evict_sets.specs.Full.{FullState, FullUseful}
@@ -9,7 +9,9 @@ use Rattle.crpd_base.specs.declared.data.Certificate.{Certificate}
 use Rattle.evict_sets.specs.Certificate.{listed_of}
 use Rattle.crpd_base.specs.Sets.{has as has_set}
 use Rattle.loop_regions.specs.TaskGraph.{TaskGraph}
-use Rattle.cert_check.specs.Judge.{accesses_of, IsYes}
+use Rattle.cert_check.specs.Clauses.{CountsHits}
+use Rattle.cert_check.specs.Judge.{accesses_of}
+use Rattle.cert_check.specs.Verdict.{IsYes}
 use Rattle.evict_sets.specs.Certificate.{cert_at}
 use Rattle.preempt_machine.specs.Step.{is_open, Fetch, Start}
 use Rattle.preempt_machine.specs.Safe.{NamesTasks}
@@ -17,7 +19,7 @@ use Rattle.run_account.specs.Fetches.{job_of}
 use Rattle.run_account.specs.Reloads.{HasOwn, IsReload}
 use Rattle.run_account.specs.Nodes.{task_of, node_of}
 use Rattle.sound_laws.specs.Walks.{IsInRange, IsCodeOf}
-use Rattle.sound_laws.specs.Rests.{counted_of, enters}
+use Rattle.sound_laws.specs.Rests.{enters}
 
 -- each block that the full state of a job's node gives to a set is that of the job's own last fetch to it; while an
 -- instruction is under way, the same holds of the state after its node
@@ -40,10 +42,12 @@ pub record IsReloadEntry (s : Start) (t : TaskGraph) (c : TaskPart) (n x : ℕ) 
   pub useful : FullUseful t.graph (accesses_of s.system.platform t) (listed_of c) (node_of t (job_of s n x)) ((accesses_of s.system.platform t).set (node_of t (job_of s n x)))
   pub in_set : IsTrue (has_set c.part.useful ((accesses_of s.system.platform t).set (node_of t (job_of s n x))))
 
+-- with any test of the hits that are counted
 abbrev pub EntriesAreReloads : Type 0
 EntriesAreReloads =
-    (s : Start) (set : TaskSet) (graphs : ℕ → TaskGraph) (c : Certificate) (n x : ℕ) →
-    IsInRange set → IsCodeOf s.system set graphs → NamesTasks set s.lines → (says : IsYes set graphs c) → x < length s.lines → (l : task_of s x < length set.tasks) →
-    is_kept (job_of s n x).watch ≡ true →
-    enters s (graphs (task_of s x)) (counted_of set graphs c says (task_of s x) l) x n ≡ true →
-    IsReloadEntry s (graphs (task_of s x)) (cert_at c (task_of s x)) n x
+    (s : Start) (set : TaskSet) (graphs : ℕ → TaskGraph) (c : Certificate) (n x : ℕ) (is_hit : ℕ → Bool) →
+    IsInRange set → IsCodeOf s.system set graphs → NamesTasks set s.lines → IsYes set graphs c → x < length s.lines → task_of s x < length set.tasks →
+    let t = graphs (task_of s x) in
+    let part = cert_at c (task_of s x) in
+    CountsHits t.graph (accesses_of s.system.platform t) (listed_of part) is_hit → is_kept (job_of s n x).watch ≡ true →
+    enters s t is_hit x n ≡ true → IsReloadEntry s t part n x

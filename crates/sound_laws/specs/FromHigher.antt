@@ -6,7 +6,8 @@ use Rattle.crpd_base.specs.declared.data.Certificate.{Certificate}
 use Rattle.evict_sets.specs.Certificate.{listed_of}
 use Rattle.crpd_base.specs.Sets.{has as has_set}
 use Rattle.loop_regions.specs.TaskGraph.{TaskGraph}
-use Rattle.cert_check.specs.Judge.{accesses_of, IsYes}
+use Rattle.cert_check.specs.Judge.{accesses_of}
+use Rattle.cert_check.specs.Verdict.{IsYes}
 use Rattle.evict_sets.specs.Certificate.{cert_at}
 use Rattle.preempt_machine.specs.Step.{before, Start, state}
 use Rattle.preempt_machine.specs.Safe.{IsRunOf, IsKept}

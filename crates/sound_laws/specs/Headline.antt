@@ -7,7 +7,8 @@ use Rattle.rv_decode.specs.Flow.{IsCodeMap}
 use Rattle.code_map.specs.Words.{Code, word_at}
 use Rattle.loop_regions.specs.TaskGraph.{TaskGraph}
 use Rattle.evict_sets.specs.Certificate.{cert_at}
-use Rattle.cert_check.specs.Judge.{IsGraphOf, IsYes, responses}
+use Rattle.cert_check.specs.Judge.{IsGraphOf, responses}
+use Rattle.cert_check.specs.Verdict.{IsYes}
 use Rattle.preempt_machine.specs.Machine.{System, plan_of}
 use Rattle.preempt_machine.specs.Step.{is_open, candidate, Start, state}
 use Rattle.preempt_machine.specs.Safe.{IsSafe, system_of, IsSafeWith, IsRunOf, IsKept, IsAnsweredBy}

@@ -5,7 +5,8 @@ use Rattle.crpd_base.specs.declared.data.TaskSet.{TaskSet}
 use Rattle.crpd_base.specs.declared.data.Certificate.{Certificate}
 use Rattle.delay_count.specs.Gamma.{gamma_ucb, gamma_ecb}
 use Rattle.loop_regions.specs.TaskGraph.{TaskGraph}
-use Rattle.cert_check.specs.Judge.{IsYes, window_at, part_of}
+use Rattle.cert_check.specs.Judge.{window_at, part_of}
+use Rattle.cert_check.specs.Verdict.{IsYes}
 use Rattle.preempt_machine.specs.Machine.{Answered}
 use Rattle.preempt_machine.specs.Step.{Start, state}
 use Rattle.preempt_machine.specs.Safe.{IsKept}

@@ -14,8 +14,10 @@ use Rattle.loop_regions.specs.Potentials.{Potentials, rest}
 use Rattle.crpd_base.specs.declared.data.Certificate.{Certificate}
 use Rattle.cert_check.specs.Certificate.{potentials_of}
 use Rattle.loop_regions.specs.TaskGraph.{TaskGraph}
-use Rattle.evict_sets.specs.Certificate.{cert_at}
-use Rattle.cert_check.specs.Judge.{IsYes}
+use Rattle.evict_sets.specs.Certificate.{listed_of, cert_at}
+use Rattle.cert_check.specs.Clauses.{CountsHits}
+use Rattle.cert_check.specs.Judge.{accesses_of}
+use Rattle.cert_check.specs.Verdict.{IsYes}
 use Rattle.preempt_machine.specs.Machine.{System, Job, ins_at}
 use Rattle.preempt_machine.specs.Step.{is_open, owns, candidate, Turn, turn_of, makes_fetch, Start, state}
 use Rattle.preempt_machine.specs.Safe.{NamesTasks}
@@ -52,10 +54,6 @@ abbrev pub is_entry : System → TaskGraph → (ℕ → Bool) → Turn → Bool
 is_entry sys t counted u =
     makes_fetch sys u && (counted (node_of t u.job) && not (is_hit sys.platform u.cache (block_of sys.platform u.job.pc)))
 
--- the tests of the clauses, which say of each task's nodes which are counted as hits
-abbrev pub counted_of : (set : TaskSet) (graphs : ℕ → TaskGraph) (c : Certificate) → IsYes set graphs c → (k : ℕ) → k < length set.tasks → ℕ → Bool
-counted_of set graphs c says k h = (says k h).graph.is_hit
-
 -- whether job x uses a cycle of an instruction at step n, and whether it makes an entry there
 abbrev pub executes : Start → ℕ → ℕ → Bool
 executes s x n = owns (candidate s.system (state s n)) x && ((turn_of s.system (state s n) x).switch_left == 0)
@@ -66,14 +64,15 @@ enters s t counted x n = owns (candidate s.system (state s n)) x && is_entry s.s
 abbrev pub count_below : (ℕ → Bool) → ℕ → ℕ
 count_below p n = sum_below (λ x. if p x then 1 else 0) n
 
--- the cycles that a job has executed and those that it has to go are at most its bound and a reload for each of its
--- entries so far. Those that it has to go are at least 1 while it is open
+-- with any test of the hits that are counted: the cycles that a job has executed and those that it has to go are at most its
+-- bound and a reload for each of its entries so far. Those that it has to go are at least 1 while it is open
 abbrev pub ExecutionWithinBound : Type 0
 ExecutionWithinBound =
-    (s : Start) (set : TaskSet) (graphs : ℕ → TaskGraph) (c : Certificate) (n x : ℕ) →
-    IsInRange set → IsCodeOf s.system set graphs → NamesTasks set s.lines → (says : IsYes set graphs c) → (h : x < length s.lines) → (l : task_of s x < length set.tasks) →
-    is_kept (job_of s n x).watch ≡ true →
+    (s : Start) (set : TaskSet) (graphs : ℕ → TaskGraph) (c : Certificate) (n x : ℕ) (is_hit : ℕ → Bool) →
+    IsInRange set → IsCodeOf s.system set graphs → NamesTasks set s.lines → IsYes set graphs c → x < length s.lines → task_of s x < length set.tasks →
     let t = graphs (task_of s x) in
-    let to_go = cycles_to_go s.system (plan_at s x) t (potentials_of (cert_at c (task_of s x))) (job_of s n x) (fetched_nodes s graphs n x) in
-    (count_below (executes s x) n + to_go ≤ (cert_at c (task_of s x)).part.bound + s.system.platform.miss * count_below (enters s t (counted_of set graphs c says (task_of s x) l) x) n)
+    let part = cert_at c (task_of s x) in
+    CountsHits t.graph (accesses_of s.system.platform t) (listed_of part) is_hit → is_kept (job_of s n x).watch ≡ true →
+    let to_go = cycles_to_go s.system (plan_at s x) t (potentials_of part) (job_of s n x) (fetched_nodes s graphs n x) in
+    (count_below (executes s x) n + to_go ≤ part.part.bound + s.system.platform.miss * count_below (enters s t is_hit x) n)
     × (is_open (job_of s n x).standing ≡ true → 1 ≤ to_go)

@@ -4,7 +4,8 @@ use Rattle.crpd_base.specs.declared.data.TaskSet.{TaskSet}
 use Rattle.delay_count.specs.Gamma.{gamma_ucb, gamma_ecb}
 use Rattle.crpd_base.specs.declared.data.Certificate.{Certificate}
 use Rattle.loop_regions.specs.TaskGraph.{TaskGraph}
-use Rattle.cert_check.specs.Judge.{IsYes, window_at, part_of}
+use Rattle.cert_check.specs.Judge.{window_at, part_of}
+use Rattle.cert_check.specs.Verdict.{IsYes}
 use Rattle.preempt_machine.specs.Step.{is_open, Start, state}
 use Rattle.preempt_machine.specs.Safe.{IsKept}
 use Rattle.run_account.specs.Fetches.{job_of}

@@ -12,7 +12,8 @@ use Rattle.code_map.specs.Words.{Code, word_at}
 use Rattle.script_reader.specs.Legal.{IsLegal}
 use Rattle.delay_count.specs.Gamma.{gamma_ucb, gamma_ecb}
 use Rattle.loop_regions.specs.TaskGraph.{TaskGraph}
-use Rattle.cert_check.specs.Judge.{IsGraphOf, IsYes, window_at, part_of}
+use Rattle.cert_check.specs.Judge.{IsGraphOf, window_at, part_of}
+use Rattle.cert_check.specs.Verdict.{IsYes}
 use Rattle.preempt_machine.specs.declared.End.TheVariants as «end»
 use Rattle.preempt_machine.specs.Kept.{completion, line_at}
 use Rattle.preempt_machine.specs.Machine.{plan_of}

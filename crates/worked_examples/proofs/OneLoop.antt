@@ -21,7 +21,10 @@ use Rattle.evict_sets.specs.Certificate.{block_in, listed_of}
 use Rattle.cert_check.specs.Certificate.{potentials_of}
 use Rattle.crpd_base.specs.Sets.{has as has_set}
 use Rattle.cert_check.specs.Clauses.{CountsHits, costs, PotentialsMeet, BoundMeets}
-use Rattle.cert_check.specs.Judge.{IsGraphOf, GraphMeets, IsYes, TaskMeets, accesses_of}
+use Rattle.cert_check.specs.Judge.{IsGraphOf, accesses_of}
+use Rattle.cert_check.specs.declared.outcome.Clause.{Clause}
+use Rattle.cert_check.specs.Verdict.{GraphHolds, Holds, IsYes}
+use Rattle.cert_check.proofs.Clauses.{GraphMeets, clauses_of, all_hold}
 use Rattle.loop_regions.specs.TaskGraph.{listing_of, answering}
 use Rattle.crpd_base.specs.Tasks.{deadline_of}
 use Rattle.preempt_machine.specs.Machine.{plan_of}
@@ -392,26 +395,16 @@ bound_meets (Loop r) item = let q = item.1 in absurd (omega (arith, q))
 graph_meets : GraphMeets platform graph task_certificate
 graph_meets = record { states = states; useful = useful; sets = sets; is_hit = λ y. nat_lt 0 y; hits = hits; potentials = meets; bound = bound_meets }
 
+part_holds : (k : Clause) → GraphHolds platform graph task_certificate k
+part_holds = clauses_of platform graph task_certificate (λ k d l. three (λ i. (get_or task_certificate.states i d).node < 4) (omega arith) (omega arith) (omega arith) k l, leaders) refl refl graph_meets
+
 is_yes : IsYes set (λ k. graph) certificate
-is_yes =
-    one (TaskMeets set (λ k. graph) certificate)
-    (record {
-      platform = refl;
-      has_task = omega arith;
-      name = refl;
-      last = λ e. refl;
-      lists = record {
-        numbers = λ k d l. three (λ i. (get_or task_certificate.states i d).node < 4) (omega arith) (omega arith) (omega arith) k l;
-        leaders = leaders;
-        nodes = refl;
-        loops = refl;
-      };
-      graph = graph_meets;
-      some_window = omega arith;
-      room = omega arith;
-      response = refl;
-      in_deadline = omega arith;
-    })
+is_yes i k l =
+    one (λ j. (clause : Clause) → Holds set (λ k. graph) certificate j clause)
+    (all_hold set (λ k. graph) certificate 0 (omega arith) refl refl refl
+    part_holds
+    (omega arith) (omega arith) refl (omega arith))
+    i l k
 
 pub one_loop : YesIsSafe → OneLoop
 one_loop law =

@@ -12,7 +12,10 @@ use Rattle.rv_decode.specs.Table.{row, table}
 use Rattle.rv_decode.specs.Cost.{work_cost}
 use Rattle.rv_core.specs.Effect.{next_pc, written, stored}
 use Rattle.flow_watch.specs.Watch.{step as watch_step, is_kept}
-use Rattle.cert_check.specs.Judge.{IsGraphOf, IsYes, TaskMeets, part_of, longest_at, window_at}
+use Rattle.cert_check.specs.Judge.{IsGraphOf, part_of, longest_at, window_at}
+use Rattle.cert_check.specs.declared.outcome.Clause.{Clause}
+use Rattle.cert_check.specs.Verdict.{Holds, IsYes}
+use Rattle.cert_check.proofs.Clauses.{all_hold}
 use Rattle.delay_count.specs.Demand.{demand}
 use Rattle.delay_count.specs.Gamma.{union_count}
 use Rattle.preempt_machine.specs.declared.End.TheVariants.{Answered}
@@ -26,7 +29,7 @@ use Rattle.sound_laws.specs.Headline.{CheckedCodeIsSafe}
 use Rattle.worked_examples.proofs.Few.{three, four, three_pairs}
 use Rattle.worked_examples.proofs.InRanges.{is_platform, is_task}
 use Rattle.worked_examples.proofs.LowFiles.{low_code}
-use Rattle.worked_examples.proofs.WayTests.{Way, IsWay, IsAt, IsCode, is_graph_of, IsCertified, graph_meets, lists, lists_named, graph_named}
+use Rattle.worked_examples.proofs.WayTests.{Way, IsWay, IsAt, IsCode, is_graph_of, IsCertified, part_holds, named_holds}
 
 demand_middle : demand set (part_of certificate) (longest_at platform graphs) (window_at certificate) 1 Ucb 115 ≡ 115
 unfolding union_count
@@ -123,44 +126,18 @@ unfolding work_cost flow
 low_certified = record { evicts = refl; reuses = refl; pays = refl; ends = refl; first = omega arith; count = refl }
 
 is_yes : IsYes set graphs certificate
-is_yes =
-    three (TaskMeets set graphs certificate)
-    (record {
-      platform = refl;
-      has_task = omega arith;
-      name = refl;
-      last = λ e. refl;
-      lists = lists_named (lines 0x3010) (first_alone 50 one_to_four nothing (50 ∷ 37 ∷ 24 ∷ 11 ∷ []) 55) high_name (lists platform high 50 one_to_four nothing (50 ∷ 37 ∷ 24 ∷ 11 ∷ []) 55 high_way high_certified);
-      graph = graph_named platform (lines 0x3010) (first_alone 50 one_to_four nothing (50 ∷ 37 ∷ 24 ∷ 11 ∷ []) 55) high_name (graph_meets platform high 50 one_to_four nothing (50 ∷ 37 ∷ 24 ∷ 11 ∷ []) 55 high_way high_certified);
-      some_window = omega arith;
-      room = omega arith;
-      response = refl;
-      in_deadline = omega arith;
-    })
-    (record {
-      platform = refl;
-      has_task = omega arith;
-      name = refl;
-      last = λ e. refl;
-      lists = lists_named (there_again 0x2010) (first_alone 30 one_and_two one_and_two (30 ∷ 4 ∷ 17 ∷ 1 ∷ []) 115) middle_name (lists platform (lower 0x2010) 30 one_and_two one_and_two (30 ∷ 4 ∷ 17 ∷ 1 ∷ []) 115 (lower_way 0x2010) middle_certified);
-      graph = graph_named platform (there_again 0x2010) (first_alone 30 one_and_two one_and_two (30 ∷ 4 ∷ 17 ∷ 1 ∷ []) 115) middle_name (graph_meets platform (lower 0x2010) 30 one_and_two one_and_two (30 ∷ 4 ∷ 17 ∷ 1 ∷ []) 115 (lower_way 0x2010) middle_certified);
-      some_window = omega arith;
-      room = subst (λ x. x ≤ 115) (sym demand_middle) (omega arith);
-      response = refl;
-      in_deadline = omega arith;
-    })
-    (record {
-      platform = refl;
-      has_task = omega arith;
-      name = refl;
-      last = λ e. refl;
-      lists = lists_named (there_again 0x1030) (first_alone 30 three_and_four three_and_four (30 ∷ 4 ∷ 17 ∷ 1 ∷ []) 175) low_name (lists platform (lower 0x1030) 30 three_and_four three_and_four (30 ∷ 4 ∷ 17 ∷ 1 ∷ []) 175 (lower_way 0x1030) low_certified);
-      graph = graph_named platform (there_again 0x1030) (first_alone 30 three_and_four three_and_four (30 ∷ 4 ∷ 17 ∷ 1 ∷ []) 175) low_name (graph_meets platform (lower 0x1030) 30 three_and_four three_and_four (30 ∷ 4 ∷ 17 ∷ 1 ∷ []) 175 (lower_way 0x1030) low_certified);
-      some_window = omega arith;
-      room = subst (λ x. x ≤ 175) (sym demand_low) (omega arith);
-      response = refl;
-      in_deadline = omega arith;
-    })
+is_yes i k l =
+    three (λ j. (clause : Clause) → Holds set graphs certificate j clause)
+    (all_hold set graphs certificate 0 (omega arith) refl refl refl
+    (named_holds platform (lines 0x3010) (first_alone 50 one_to_four nothing (50 ∷ 37 ∷ 24 ∷ 11 ∷ []) 55) high_name (part_holds platform high 50 one_to_four nothing (50 ∷ 37 ∷ 24 ∷ 11 ∷ []) 55 high_way high_certified))
+    (omega arith) (omega arith) refl (omega arith))
+    (all_hold set graphs certificate 1 (omega arith) refl refl refl
+    (named_holds platform (there_again 0x2010) (first_alone 30 one_and_two one_and_two (30 ∷ 4 ∷ 17 ∷ 1 ∷ []) 115) middle_name (part_holds platform (lower 0x2010) 30 one_and_two one_and_two (30 ∷ 4 ∷ 17 ∷ 1 ∷ []) 115 (lower_way 0x2010) middle_certified))
+    (omega arith) (subst (λ x. x ≤ 115) (sym demand_middle) (omega arith)) refl (omega arith))
+    (all_hold set graphs certificate 2 (omega arith) refl refl refl
+    (named_holds platform (there_again 0x1030) (first_alone 30 three_and_four three_and_four (30 ∷ 4 ∷ 17 ∷ 1 ∷ []) 175) low_name (part_holds platform (lower 0x1030) 30 three_and_four three_and_four (30 ∷ 4 ∷ 17 ∷ 1 ∷ []) 175 (lower_way 0x1030) low_certified))
+    (omega arith) (subst (λ x. x ≤ 175) (sym demand_low) (omega arith)) refl (omega arith))
+    i l k
 
 is_legal : IsLegalRun set start
 is_legal =

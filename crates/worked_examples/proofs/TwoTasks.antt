@@ -11,7 +11,10 @@ use Rattle.rv_decode.specs.Table.{row, table}
 use Rattle.rv_decode.specs.Cost.{work_cost}
 use Rattle.rv_core.specs.Effect.{next_pc, written, stored}
 use Rattle.flow_watch.specs.Watch.{step as watch_step, is_kept}
-use Rattle.cert_check.specs.Judge.{IsGraphOf, IsYes, TaskMeets, part_of, longest_at, window_at}
+use Rattle.cert_check.specs.Judge.{IsGraphOf, part_of, longest_at, window_at}
+use Rattle.cert_check.specs.declared.outcome.Clause.{Clause}
+use Rattle.cert_check.specs.Verdict.{Holds, IsYes}
+use Rattle.cert_check.proofs.Clauses.{all_hold}
 use Rattle.delay_count.specs.Demand.{demand}
 use Rattle.delay_count.specs.Gamma.{union_count}
 use Rattle.preempt_machine.specs.declared.End.TheVariants.{Answered}
@@ -27,7 +30,7 @@ use Rattle.worked_examples.proofs.Few.{two, one_pair}
 use Rattle.worked_examples.proofs.InRanges.{is_platform, is_task}
 use Rattle.worked_examples.proofs.TwoWords.{way, is_way, certified}
 use Rattle.worked_examples.proofs.LowFiles.{low_code}
-use Rattle.worked_examples.proofs.WayTests.{IsAt, IsCode, is_graph_of, IsCertified, graph_meets, lists, lists_named, graph_named}
+use Rattle.worked_examples.proofs.WayTests.{IsAt, IsCode, is_graph_of, IsCertified, part_holds, named_holds}
 
 demand_low : demand set (part_of certificate) (longest_at platform graphs) (window_at certificate) 1 Ucb 49 ≡ 49
 unfolding union_count
@@ -74,32 +77,15 @@ unfolding work_cost flow
 high_certified = record { evicts = refl; reuses = refl; pays = refl; ends = refl; first = omega arith; count = refl }
 
 is_yes : IsYes set graphs certificate
-is_yes =
-    two (TaskMeets set graphs certificate)
-    (record {
-      platform = refl;
-      has_task = omega arith;
-      name = refl;
-      last = λ e. refl;
-      lists = lists_named (graph_from 0x2000) (first_alone 12 zero_alone zero_alone (12 ∷ 1 ∷ []) 17) high_name (lists platform (way 0x2000) 12 zero_alone zero_alone (12 ∷ 1 ∷ []) 17 (is_way 0x2000) high_certified);
-      graph = graph_named platform (graph_from 0x2000) (first_alone 12 zero_alone zero_alone (12 ∷ 1 ∷ []) 17) high_name (graph_meets platform (way 0x2000) 12 zero_alone zero_alone (12 ∷ 1 ∷ []) 17 (is_way 0x2000) high_certified);
-      some_window = omega arith;
-      room = omega arith;
-      response = refl;
-      in_deadline = omega arith;
-    })
-    (record {
-      platform = refl;
-      has_task = omega arith;
-      name = refl;
-      last = λ e. refl;
-      lists = lists_named (graph_from 0x1000) (first_alone 12 zero_alone zero_alone (12 ∷ 1 ∷ []) 49) low_name (lists platform (way 0x1000) 12 zero_alone zero_alone (12 ∷ 1 ∷ []) 49 (is_way 0x1000) certified);
-      graph = graph_named platform (graph_from 0x1000) (first_alone 12 zero_alone zero_alone (12 ∷ 1 ∷ []) 49) low_name (graph_meets platform (way 0x1000) 12 zero_alone zero_alone (12 ∷ 1 ∷ []) 49 (is_way 0x1000) certified);
-      some_window = omega arith;
-      room = subst (λ x. x ≤ 49) (sym demand_low) (omega arith);
-      response = refl;
-      in_deadline = omega arith;
-    })
+is_yes i k l =
+    two (λ j. (clause : Clause) → Holds set graphs certificate j clause)
+    (all_hold set graphs certificate 0 (omega arith) refl refl refl
+    (named_holds platform (graph_from 0x2000) (first_alone 12 zero_alone zero_alone (12 ∷ 1 ∷ []) 17) high_name (part_holds platform (way 0x2000) 12 zero_alone zero_alone (12 ∷ 1 ∷ []) 17 (is_way 0x2000) high_certified))
+    (omega arith) (omega arith) refl (omega arith))
+    (all_hold set graphs certificate 1 (omega arith) refl refl refl
+    (named_holds platform (graph_from 0x1000) (first_alone 12 zero_alone zero_alone (12 ∷ 1 ∷ []) 49) low_name (part_holds platform (way 0x1000) 12 zero_alone zero_alone (12 ∷ 1 ∷ []) 49 (is_way 0x1000) certified))
+    (omega arith) (subst (λ x. x ≤ 49) (sym demand_low) (omega arith)) refl (omega arith))
+    i l k
 
 is_legal : IsLegalRun set start
 is_legal =

@@ -6,14 +6,17 @@ use Rattle.rv_decode.specs.Table.{row, table}
 use Rattle.rv_decode.specs.Cost.{work_cost}
 use Rattle.script_reader.specs.Legal.{period_of}
 use Rattle.crpd_base.specs.Tasks.{deadline_of}
-use Rattle.cert_check.specs.Judge.{IsGraphOf, IsYes, TaskMeets}
+use Rattle.cert_check.specs.Judge.{IsGraphOf}
+use Rattle.cert_check.specs.declared.outcome.Clause.{Clause}
+use Rattle.cert_check.specs.Verdict.{Holds, IsYes}
+use Rattle.cert_check.proofs.Clauses.{all_hold}
 use Rattle.preempt_machine.specs.Machine.{plan_of}
 use Rattle.sound_laws.specs.Headline.{YesIsSafe}
 use Rattle.sound_laws.specs.Walks.{IsInRange, IsCodeOf}
 use Rattle.worked_examples.specs.TwoWords.{platform, words, system, set, graph, zero_alone, certificate, TwoWords}
 use Rattle.worked_examples.proofs.Few.{one, two}
 use Rattle.worked_examples.proofs.OneWay.{code_map}
-use Rattle.worked_examples.proofs.WayTests.{Way, IsWay, IsAt, IsCode, is_graph_of, IsCertified, graph_meets, lists}
+use Rattle.worked_examples.proofs.WayTests.{Way, IsWay, IsAt, IsCode, is_graph_of, IsCertified, part_holds}
 
 -- from node 0 to node 1
 abbrev pub way : ℕ → Way
@@ -61,20 +64,12 @@ in_range =
     }
 
 is_yes : IsYes set (λ k. graph) certificate
-is_yes =
-    one (TaskMeets set (λ k. graph) certificate)
-    (record {
-      platform = refl;
-      has_task = omega arith;
-      name = refl;
-      last = λ e. refl;
-      lists = lists platform (way 0x1000) 12 zero_alone zero_alone (12 ∷ 1 ∷ []) 17 (is_way 0x1000) certified;
-      graph = graph_meets platform (way 0x1000) 12 zero_alone zero_alone (12 ∷ 1 ∷ []) 17 (is_way 0x1000) certified;
-      some_window = omega arith;
-      room = omega arith;
-      response = refl;
-      in_deadline = omega arith;
-    })
+is_yes i k l =
+    one (λ j. (clause : Clause) → Holds set (λ k. graph) certificate j clause)
+    (all_hold set (λ k. graph) certificate 0 (omega arith) refl refl refl
+    (part_holds platform (way 0x1000) 12 zero_alone zero_alone (12 ∷ 1 ∷ []) 17 (is_way 0x1000) certified)
+    (omega arith) (omega arith) refl (omega arith))
+    i l k
 
 pub two_words : YesIsSafe → TwoWords
 two_words law =

@@ -18,7 +18,11 @@ use Rattle.loop_regions.specs.TaskGraph.{TaskGraph, listing_of, answering}
 use Rattle.evict_sets.specs.Certificate.{listed_of}
 use Rattle.cert_check.specs.Certificate.{potentials_of}
 use Rattle.cert_check.specs.Clauses.{costs}
-use Rattle.cert_check.specs.Judge.{IsGraphOf, GraphMeets, Lists}
+use Rattle.cert_check.specs.declared.outcome.Clause.{Clause}
+use Rattle.cert_check.specs.declared.outcome.Clause.TheVariants.{Leaders}
+use Rattle.cert_check.specs.Judge.{IsGraphOf}
+use Rattle.cert_check.specs.Verdict.{GraphHolds}
+use Rattle.cert_check.proofs.Clauses.{GraphMeets, clauses_of}
 use Rattle.worked_examples.specs.OneWay.{plan, to_one, listed_graph, first_alone, named}
 use Rattle.worked_examples.proofs.OneWay as law
 
@@ -181,8 +185,8 @@ pub record IsCertified (p : Platform) (w : Way) (bound : ℕ) (evicting useful_s
   pub first : slice_index_or potentials 0 0 ≤ bound
   pub count : length potentials ≡ size w
 
--- clauses 3 to 7
-pub graph_meets : (p : Platform) (w : Way) (bound : ℕ) (evicting useful_sets potentials : List ℕ) (window : ℕ) → IsWay w → IsCertified p w bound evicting useful_sets potentials → GraphMeets p (graph w) (first_alone bound evicting useful_sets potentials window)
+-- with the hits that are counted
+graph_meets : (p : Platform) (w : Way) (bound : ℕ) (evicting useful_sets potentials : List ℕ) (window : ℕ) → IsWay w → IsCertified p w bound evicting useful_sets potentials → GraphMeets p (graph w) (first_alone bound evicting useful_sets potentials window)
 graph_meets p w bound evicting useful_sets potentials window way is =
     let g = (graph w).graph in
     let a = accesses p (address w) in
@@ -213,24 +217,19 @@ graph_meets p w bound evicting useful_sets potentials window way is =
       bound = law.bound_meets g (potentials_of c) bound is.first;
     }
 
--- clause 2
-pub lists : (p : Platform) (w : Way) (bound : ℕ) (evicting useful_sets potentials : List ℕ) (window : ℕ) → IsWay w → IsCertified p w bound evicting useful_sets potentials → Lists (graph w) (first_alone bound evicting useful_sets potentials window)
-lists p w bound evicting useful_sets potentials window way is =
-    record {
-      numbers = numbers_below;
-      leaders = law.leaders (graph w).graph (before w) (listed_of (first_alone bound evicting useful_sets potentials window)) (line w way) (law.lists_first (size w) (next w) bound evicting useful_sets potentials window);
-      nodes = is.count;
-      loops = refl;
-    }
+-- so its part meets the clauses of the graph
+pub part_holds : (p : Platform) (w : Way) (bound : ℕ) (evicting useful_sets potentials : List ℕ) (window : ℕ) → IsWay w → IsCertified p w bound evicting useful_sets potentials
+    → (k : Clause) → GraphHolds p (graph w) (first_alone bound evicting useful_sets potentials window) k
+part_holds p w bound evicting useful_sets potentials window way is =
+    clauses_of p (graph w) (first_alone bound evicting useful_sets potentials window)
+    (numbers_below, law.leaders (graph w).graph (before w) (listed_of (first_alone bound evicting useful_sets potentials window)) (line w way) (law.lists_first (size w) (next w) bound evicting useful_sets potentials window))
+    is.count refl (graph_meets p w bound evicting useful_sets potentials window way is)
   where
     numbers_below : (k : ℕ) (d : NodeState) → k < 1 → (get_or (first_alone bound evicting useful_sets potentials window).states k d).node < size w
     numbers_below zero d l = way.some
     numbers_below (suc k) d l = absurd (omega (arith, l))
 
--- a name plays no part in either
-pub lists_named : (t : TaskGraph) (c : TaskPart) (name : List ℕ) → Lists t c → Lists t (named name c)
-lists_named t c name is = record { numbers = is.numbers; leaders = is.leaders; nodes = is.nodes; loops = is.loops }
-
-pub graph_named : (p : Platform) (t : TaskGraph) (c : TaskPart) (name : List ℕ) → GraphMeets p t c → GraphMeets p t (named name c)
-graph_named p t c name is =
-    record { states = is.states; useful = is.useful; sets = is.sets; is_hit = is.is_hit; hits = is.hits; potentials = is.potentials; bound = is.bound }
+-- a name plays no part in it
+pub named_holds : (p : Platform) (t : TaskGraph) (c : TaskPart) (name : List ℕ) → ((k : Clause) → GraphHolds p t c k) → (k : Clause) → GraphHolds p t (named name c) k
+named_holds p t c name holds Leaders = holds Leaders
+named_holds p t c name holds k = holds k

@@ -7,7 +7,7 @@ use Rattle.rv_decode.specs.declared.Ins.TheVariants.{Addi, Ecall}
 use Rattle.crpd_base.specs.declared.data.TaskPart.{TaskPart}
 use Rattle.crpd_base.specs.declared.data.Certificate.{Certificate}
 use Rattle.loop_regions.specs.TaskGraph.{TaskGraph}
-use Rattle.cert_check.specs.Judge.{IsYes}
+use Rattle.cert_check.specs.Verdict.{IsYes}
 use Rattle.preempt_machine.specs.Machine.{System}
 use Rattle.preempt_machine.specs.Safe.{IsSafe}
 use Rattle.sound_laws.specs.Walks.{IsInRange, IsCodeOf}

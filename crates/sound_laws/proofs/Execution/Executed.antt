@@ -10,12 +10,18 @@ use Rattle.loop_regions.specs.Nest.{IsNested, IsKept}
 use Rattle.loop_regions.specs.Potentials.{Meets, rest}
 use Rattle.loop_regions.proofs.Potential.{potential_law, item_law}
 use Rattle.loop_regions.proofs.Stated.{regions_law}
+use Rattle.crpd_base.specs.declared.data.Certificate.{Certificate}
 use Rattle.crpd_base.specs.declared.data.TaskPart.{TaskPart}
+use Rattle.evict_sets.proofs.FullLaws.{hit_test_law}
 use Rattle.evict_sets.specs.Certificate.{listed_of}
 use Rattle.cert_check.specs.Certificate.{potentials_of}
 use Rattle.cert_check.specs.Clauses.{CountsHits, costs}
 use Rattle.loop_regions.specs.TaskGraph.{TaskGraph, listing_of, answering}
-use Rattle.cert_check.specs.Judge.{GraphMeets, accesses_of, longest_of}
+use Rattle.cert_check.specs.declared.outcome.Clause.{Clause}
+use Rattle.cert_check.specs.declared.outcome.Clause.TheVariants.{Leaders}
+use Rattle.cert_check.specs.Judge.{accesses_of, longest_of}
+use Rattle.cert_check.specs.Verdict.{GraphHolds, IsYes}
+use Rattle.cert_check.proofs.Clauses.{GraphMeets, graph_part, meets_with}
 use Rattle.evict_sets.specs.Certificate.{cert_at}
 use Rattle.preempt_machine.specs.Machine.{Job}
 use Rattle.preempt_machine.specs.Step.{is_open, owns, Turn, turned, turn_of, Start, state}
@@ -46,19 +52,26 @@ module _ (s : Start) (set : TaskSet) (graphs : ℕ → TaskGraph) (R : IsInRange
       let g = ok s set graphs R C T x h in
       regions_law (graphs (task_of s x)).graph (graphs (task_of s x)).places (plan_at s x).loops (graphs (task_of s x)).nest g.regions g.accepted
 
-  pub is_met : (c : TaskPart) (x : ℕ) → x < length s.lines → (m : GraphMeets set.platform (graphs (task_of s x)) c) → IsMet s.system.platform (graphs (task_of s x)) c m.is_hit
-  is_met c x h m =
+  -- after a yes, with any test of the hits that are counted
+  pub is_met : (c : Certificate) (x : ℕ) → x < length s.lines → IsYes set graphs c → task_of s x < length set.tasks → (counted : ℕ → Bool)
+      → CountsHits (graphs (task_of s x)).graph (accesses_of s.system.platform (graphs (task_of s x))) (listed_of (cert_at c (task_of s x))) counted → IsMet s.system.platform (graphs (task_of s x)) (cert_at c (task_of s x)) counted
+  is_met c x h says l counted counts =
       let t = graphs (task_of s x) in
       let N = nested x h in
-      subst (λ (p : Platform). IsMet p t c m.is_hit) (sym C.platform)
-      (record {
+      let here = λ k. graph_part set graphs c (task_of s x) k (says (task_of s x) k l) in
+      let m = meets_with s.system.platform t (cert_at c (task_of s x)) (subst (λ (p : Platform). (k : Clause) → GraphHolds p t (cert_at c (task_of s x)) k) (sym C.platform) here) counted counts in
+      record {
         meets = record {
           nodes = λ u l. (m.potentials u l).edges;
           loops = λ r l. (m.potentials (t.nest.head r) (N.holds_nodes r (t.nest.head r) l (N.holds_head r l))).loop r l refl;
         };
-        hits = m.hits;
+        hits = counts;
         all = m;
-      })
+      }
+
+  -- there is such a test
+  pub hit_test : (c : Certificate) (k : ℕ) → IsYes set graphs c → k < length set.tasks → (counted : ℕ → Bool) × CountsHits (graphs k).graph (accesses_of s.system.platform (graphs k)) (listed_of (cert_at c k)) counted
+  hit_test c k says l = hit_test_law (graphs k).graph (accesses_of s.system.platform (graphs k)) (listed_of (cert_at c k)) (C.graphs_of k l).follows.graph (says k Leaders l).1
 
   module _ (c : TaskPart) (x : ℕ) (h : x < length s.lines) (counted : ℕ → Bool) (M : IsMet s.system.platform (graphs (task_of s x)) c counted) where
     abbrev pub nodes : ℕ → List ℕ
@@ -193,9 +206,8 @@ module _ (s : Start) (set : TaskSet) (graphs : ℕ → TaskGraph) (R : IsInRange
     execution (suc n) k = execution_step n k (execution n (kept_before s graphs n x k))
 
 pub execution_within_bound : ExecutionWithinBound
-execution_within_bound s set graphs c n x R C T says h l k =
-    let m = (says (task_of s x) l).graph in
-    let M = is_met s set graphs R C T (cert_at c (task_of s x)) x h m in (
-      execution s set graphs R C T (cert_at c (task_of s x)) x h m.is_hit M n k,
-      λ o. some_go s set graphs R C T (cert_at c (task_of s x)) x h m.is_hit M n o k,
+execution_within_bound s set graphs c n x is_hit R C T says h l counts k =
+    let M = is_met s set graphs R C T c x h says l is_hit counts in (
+      execution s set graphs R C T (cert_at c (task_of s x)) x h is_hit M n k,
+      λ o. some_go s set graphs R C T (cert_at c (task_of s x)) x h is_hit M n o k,
     )

@@ -8,7 +8,9 @@ use Rattle.script_reader.specs.Legal.{IsLegal, jitter_of}
 use Rattle.crpd_base.specs.declared.data.TaskPart.{TaskPart}
 use Rattle.crpd_base.specs.declared.data.Certificate.{Certificate}
 use Rattle.loop_regions.specs.TaskGraph.{TaskGraph}
-use Rattle.cert_check.specs.Judge.{window_at, IsYes, responses}
+use Rattle.cert_check.specs.Judge.{window_at, responses}
+use Rattle.cert_check.specs.declared.outcome.Clause.TheVariants.{HasTask, Response}
+use Rattle.cert_check.specs.Verdict.{IsYes}
 use Rattle.evict_sets.specs.Certificate.{cert_at, no_cert}
 use Rattle.preempt_machine.specs.Machine.{Job, no_job}
 use Rattle.preempt_machine.specs.Step.{state}
@@ -23,9 +25,9 @@ use Rattle.sound_laws.proofs.Windows.InTime.{sure_not_late}
 
 response_is : (set : TaskSet) (graphs : ℕ → TaskGraph) (c : Certificate) → IsYes set graphs c → (k : ℕ) → k < length set.tasks → slice_index (responses c) k ≡ window_at c k + jitter_of set k
 response_is set graphs c says k h =
-    let l = (says k h).has_task in
+    let l = says k HasTask h in
     let at : slice_index (responses c) k ≡ (cert_at c k).response = get_or-map (λ (t : TaskPart). t.response) c.tasks k no_cert 0 l in
-    at ∙ (says k h).response
+    at ∙ says k Response h
 
 module _ (K : CheckedRun) where
   open K use {start as s, set, graphs, certificate as c, horizon, says}

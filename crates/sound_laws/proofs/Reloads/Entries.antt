@@ -22,7 +22,7 @@ use Rattle.run_account.proofs.Preemptors.{preemptor_of}
 use Rattle.sound_laws.proofs.Walks.Stands.{walk_node}
 use Rattle.sound_laws.proofs.Walks.KeptWalks.{ok, walking}
 use Rattle.sound_laws.proofs.Execution.Spends.{extra_of}
-use Rattle.sound_laws.proofs.Execution.Executed.{IsMet, is_met}
+use Rattle.sound_laws.proofs.Execution.Executed.{IsMet, is_met, hit_test}
 use Rattle.sound_laws.proofs.Reloads.OwnFetches.{entry_is, set_is}
 use Rattle.sound_laws.proofs.Walks.CheckedRuns.{CheckedRun, parts, below_tasks, is_opened, is_below, kept_at}
 
@@ -31,7 +31,7 @@ module _ (K : CheckedRun) where
 
   -- the hits that the clauses count, of the task of each job
   pub counted_by : (k : ℕ) → (k < length set.tasks) ⊎ (length set.tasks ≤ k) → ℕ → Bool
-  counted_by k (inl l) = (says k l).graph.is_hit
+  counted_by k (inl l) = (hit_test s set graphs R C run.tasks c k says l).0
   counted_by k (inr g) = λ y. false
 
   pub counted_at : ℕ → ℕ → Bool
@@ -39,7 +39,7 @@ module _ (K : CheckedRun) where
 
   pub met_by : (x : ℕ) → x < length s.lines → (d : (task_of s x < length set.tasks) ⊎ (length set.tasks ≤ task_of s x)) → IsMet s.system.platform (graphs (task_of s x)) (cert_at c (task_of s x)) (counted_by (task_of s x) d)
   unfolding counted_by
-  met_by x h (inl l) = is_met s set graphs R C run.tasks (cert_at c (task_of s x)) x h (says (task_of s x) l).graph
+  met_by x h (inl l) = let test = hit_test s set graphs R C run.tasks c (task_of s x) says l in is_met s set graphs R C run.tasks c x h says l test.0 test.1
   met_by x h (inr g) = let l = below_tasks K x h in absurd (omega arith)
 
   pub met : (x : ℕ) → x < length s.lines → IsMet s.system.platform (graphs (task_of s x)) (cert_at c (task_of s x)) (counted_at x)

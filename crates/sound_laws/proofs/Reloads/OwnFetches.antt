@@ -30,7 +30,7 @@ use Rattle.sound_laws.proofs.Walks.Walked.{before_fresh}
 use Rattle.run_account.proofs.JobWalks.{kept_before, nodes_other, nodes_own, opened}
 use Rattle.sound_laws.proofs.Walks.KeptWalks.{task_below, ok, walking}
 use Rattle.sound_laws.proofs.Walks.Stands.{walk_node}
-use Rattle.sound_laws.proofs.Execution.Executed.{IsMet, is_met}
+use Rattle.sound_laws.proofs.Execution.Executed.{IsMet, is_met, hit_test}
 
 none_is_some : (b : ℕ) → None ≡ Some b → ⊥
 none_is_some b e = none_some e
@@ -130,14 +130,15 @@ module _ (s : Start) (set : TaskSet) (graphs : ℕ → TaskGraph) (R : IsInRange
 pub own_fetches_agree : OwnFetchesAgreeLaw
 own_fetches_agree s set graphs c n x R C T says h k o =
     let l = task_below s set graphs R C T x h in
-    let M = is_met s set graphs R C T (cert_at c (task_of s x)) x h (says (task_of s x) l).graph in
+    let test = hit_test s set graphs R C T c (task_of s x) says l in
+    let M = is_met s set graphs R C T c x h says l test.0 test.1 in
     record {
-      between = own_between s set graphs R C T x h (cert_at c (task_of s x)) (says (task_of s x) l).graph.is_hit M n k o;
-      within = own_within s set graphs R C T x h (cert_at c (task_of s x)) (says (task_of s x) l).graph.is_hit M n k o;
+      between = own_between s set graphs R C T x h (cert_at c (task_of s x)) test.0 M n k o;
+      within = own_within s set graphs R C T x h (cert_at c (task_of s x)) test.0 M n k o;
     }
 
 pub entries_are_reloads : EntriesAreReloads
-entries_are_reloads s set graphs c n x R C T says h l k b =
-    let M = is_met s set graphs R C T (cert_at c (task_of s x)) x h (says (task_of s x) l).graph in
+entries_are_reloads s set graphs c n x is_hit R C T says h l counts k b =
+    let M = is_met s set graphs R C T c x h says l is_hit counts in
     let both = and_parts (owns (candidate_at s n) x) _ b in
-    entry_is s set graphs R C T x h (cert_at c (task_of s x)) (says (task_of s x) l).graph.is_hit M n k (owns_true (candidate_at s n) x both.0) both.1
+    entry_is s set graphs R C T x h (cert_at c (task_of s x)) is_hit M n k (owns_true (candidate_at s n) x both.0) both.1

@@ -8,7 +8,8 @@ use Rattle.flow_watch.specs.Watch.{is_kept}
 use Rattle.crpd_base.specs.declared.data.Part.{Part}
 use Rattle.crpd_base.specs.declared.data.Certificate.{Certificate}
 use Rattle.loop_regions.specs.TaskGraph.{TaskGraph}
-use Rattle.cert_check.specs.Judge.{window_at, part_of, longest_at, IsYes}
+use Rattle.cert_check.specs.Judge.{window_at, part_of, longest_at}
+use Rattle.cert_check.specs.Verdict.{IsYes}
 use Rattle.evict_sets.specs.Certificate.{cert_at}
 use Rattle.preempt_machine.specs.Machine.{Standing, Open, Answered, Faulted, Job, no_job}
 use Rattle.preempt_machine.specs.Step.{is_open, Start, state}

@@ -7,6 +7,7 @@ use Rattle.crpd_base.specs.declared.data.Switching.TheVariants.{Cycle, Instructi
 use Rattle.script_reader.specs.Legal.{IsLegal, jitter_of, period_of}
 use Rattle.delay_count.specs.Counts.{jobs_of}
 use Rattle.delay_count.specs.Demand.{blocking, greatest_from, gamma}
+use Rattle.cert_check.specs.declared.outcome.Clause.TheVariants.{Window, Response, Deadline}
 use Rattle.cert_check.specs.Judge.{longest_of}
 use Rattle.evict_sets.specs.Certificate.{cert_at}
 use Rattle.preempt_machine.specs.Machine.{Job}
@@ -65,15 +66,15 @@ module _ (K : CheckedRun) where
 
     pub room_at : (k : ℕ) → k < length set.tasks → block k + base_demand set s.system.platform.switch (bound_of K) k (window K k) + delay K legal k ≤ window K k
     room_at k h =
-        let r = (says k h).room in
+        let r = (says k Window h).1 in
         let split = sum_add (λ j. jobs_of set j (window K k) * (bound_of K j + (set.platform.switch + set.platform.switch))) (gamma set (parts K) (window K) (window K k) (cert_at c k).method k) k in
         let by_set : blocking set.platform.switching (longest K) k (length set.tasks) + base_demand set set.platform.switch (bound_of K) k (window K k) + delay K legal k ≤ window K k = omega (arith, r, split) in
         subst (λ (p : Platform). blocking p.switching (longest K) k (length set.tasks) + base_demand set p.switch (bound_of K) k (window K k) + delay K legal k ≤ window K k) (sym C.platform) by_set
 
     pub response_at : (k : ℕ) → k < length set.tasks → window K k + jitter_of set k ≤ period_of set k
     response_at k h =
-        let r = (says k h).response in
-        let d = (says k h).in_deadline in
+        let r = says k Response h in
+        let d = says k Deadline h in
         let p = R.deadlines k h in
         omega (arith, r, d, p)
 

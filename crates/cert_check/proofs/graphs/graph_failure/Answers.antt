@@ -1,43 +1,48 @@
-use Rattle.std.proofs.Common.{length, sym, ◌∙◌, arith}
+use Rattle.std.proofs.Common.{length, Ok, Err, arith}
+use Rattle.cert_check.specs.declared.outcome.Clause.TheVariants.{Leaders, NodePotentials, LoopPotentials}
 use Rattle.cert_check.specs.Shown.{shown}
-use Rattle.cert_check.specs.Graphs.{GraphHolds}
-use Rattle.cert_check.specs.Verdict.{Leaders, NodePotentials, LoopPotentials}
-use Rattle.cert_check.proofs.Found.{stops, goes_on, then_found}
+use Rattle.cert_check.specs.Verdict.{GraphHolds}
+use Rattle.cert_check.proofs.Found.{found_first, then_found, handed_on}
 use Rattle.cert_check.proofs.Tasks.{index_of}
 use Rattle.cert_check.proofs.graphs.graph_failure.Goals as goal
+
+pub returns-in_err-list_failure : goal.returns-in_err-list_failure
+returns-in_err-list_failure c =
+    handed_on (GraphHolds c.args.platform.now (shown c.args.graph.now c.args.nest.now) c.args.part.now) 2 7 c.from_residual.result c.in_err-list_failure.field-0.0 c.from_residual.ensures.1
+    (found_first (GraphHolds c.args.platform.now (shown c.args.graph.now c.args.nest.now) c.args.part.now) 2 2 7 c.in_err-list_failure.field-0.0 (omega arith) c.in_err-list_failure.ensures)
 
 pub write_order-requires-clause-case : goal.write_order-requires-clause-case
 write_order-requires-clause-case c = record {
   platform = c.requires.platform;
   sets = c.requires.sets;
   index = index_of c.as_slice.result.now c.args.part.now.states c.len-size.result (length c.args.graph.now.nodes) c.index.new.places c.as_slice.ensures c.len-size.ensures c.index.ensures;
-  leaders = ((goes_on (GraphHolds c.args.platform.now (shown c.args.graph.now c.args.nest.now) c.args.part.now) 2 2 c.list_failure-listed.result (sym c.is_some.ensures ∙ c.if-is_some.false) c.list_failure-listed.ensures) Leaders (omega arith) (omega arith)).1;
+  leaders = (c.in_ok-list_failure.ensures Leaders (omega arith) (omega arith)).1;
 }
 
-pub state_failure-states-requires-clause-case : goal.state_failure-states-requires-clause-case
-state_failure-states-requires-clause-case c = record {
+pub state_failure-requires-clause-case : goal.state_failure-requires-clause-case
+state_failure-requires-clause-case c = record {
   platform = c.requires.platform;
   sets = c.requires.sets;
   index = index_of c.as_slice.result.now c.args.part.now.states c.len-size.result (length c.args.graph.now.nodes) c.index.new.places c.as_slice.ensures c.len-size.ensures c.index.ensures;
-  leaders = ((goes_on (GraphHolds c.args.platform.now (shown c.args.graph.now c.args.nest.now) c.args.part.now) 2 2 c.list_failure-listed.result (sym c.is_some.ensures ∙ c.if-is_some.false) c.list_failure-listed.ensures) Leaders (omega arith) (omega arith)).1;
+  leaders = (c.in_ok-list_failure.ensures Leaders (omega arith) (omega arith)).1;
 }
 
-pub returns-then-is_some-2 : goal.returns-then-is_some-2
-returns-then-is_some-2 c =
-    then_found (GraphHolds c.args.platform.now (shown c.args.graph.now c.args.nest.now) c.args.part.now) 2 2 7 c.state_failure-states.result (omega arith) (omega arith) (goes_on (GraphHolds c.args.platform.now (shown c.args.graph.now c.args.nest.now) c.args.part.now) 2 2 c.list_failure-listed.result (sym c.is_some.ensures ∙ c.if-is_some.false) c.list_failure-listed.ensures)
-    (stops (GraphHolds c.args.platform.now (shown c.args.graph.now c.args.nest.now) c.args.part.now) 3 5 7 c.state_failure-states.result (sym c.is_some-2.ensures ∙ c.if-is_some-2.true) (omega arith) (c.state_failure-states.ensures.failure c.args.nest.now))
+pub returns-in_err-state_failure : goal.returns-in_err-state_failure
+returns-in_err-state_failure c =
+    handed_on (GraphHolds c.args.platform.now (shown c.args.graph.now c.args.nest.now) c.args.part.now) 2 7 c.from_residual-in_err-state_failure.result c.in_err-state_failure.field-0.0 c.from_residual-in_err-state_failure.ensures.1
+    (then_found (GraphHolds c.args.platform.now (shown c.args.graph.now c.args.nest.now) c.args.part.now) 2 2 7 (Err c.in_err-state_failure.field-0.0) (omega arith) (omega arith) c.in_ok-list_failure.ensures
+    (found_first (GraphHolds c.args.platform.now (shown c.args.graph.now c.args.nest.now) c.args.part.now) 3 5 7 c.in_err-state_failure.field-0.0 (omega arith) (c.in_err-state_failure.ensures.failure c.args.nest.now)))
 
 pub potential_failure-requires-clause-paid : goal.potential_failure-requires-clause-paid
 potential_failure-requires-clause-paid c = record {
   beside = c.requires.nest;
-  nodes = (goes_on (GraphHolds c.args.platform.now (shown c.args.graph.now c.args.nest.now) c.args.part.now) 2 2 c.list_failure-listed.result (sym c.is_some.ensures ∙ c.if-is_some.false) c.list_failure-listed.ensures) NodePotentials (omega arith) (omega arith);
-  loops = (goes_on (GraphHolds c.args.platform.now (shown c.args.graph.now c.args.nest.now) c.args.part.now) 2 2 c.list_failure-listed.result (sym c.is_some.ensures ∙ c.if-is_some.false) c.list_failure-listed.ensures) LoopPotentials (omega arith) (omega arith);
-  all_hits = c.state_failure-states.ensures.count;
+  nodes = c.in_ok-list_failure.ensures NodePotentials (omega arith) (omega arith);
+  loops = c.in_ok-list_failure.ensures LoopPotentials (omega arith) (omega arith);
+  all_hits = c.in_ok-state_failure.ensures.count;
 }
 
 pub returns : goal.returns
 returns c =
-    then_found (GraphHolds c.args.platform.now (shown c.args.graph.now c.args.nest.now) c.args.part.now) 2 2 7 c.potential_failure.result (omega arith) (omega arith) (goes_on (GraphHolds c.args.platform.now (shown c.args.graph.now c.args.nest.now) c.args.part.now) 2 2 c.list_failure-listed.result (sym c.is_some.ensures ∙ c.if-is_some.false) c.list_failure-listed.ensures)
-    (then_found (GraphHolds c.args.platform.now (shown c.args.graph.now c.args.nest.now) c.args.part.now) 3 5 7 c.potential_failure.result (omega arith) (omega arith)
-    (goes_on (GraphHolds c.args.platform.now (shown c.args.graph.now c.args.nest.now) c.args.part.now) 3 5 c.state_failure-states.result (sym c.is_some-2.ensures ∙ c.if-is_some-2.false) (c.state_failure-states.ensures.failure c.args.nest.now))
-    c.potential_failure.ensures)
+    then_found (GraphHolds c.args.platform.now (shown c.args.graph.now c.args.nest.now) c.args.part.now) 2 5 7 c.potential_failure.result (omega arith) (omega arith)
+    (then_found (GraphHolds c.args.platform.now (shown c.args.graph.now c.args.nest.now) c.args.part.now) 2 2 5 (Ok tt) (omega arith) (omega arith) c.in_ok-list_failure.ensures (c.in_ok-state_failure.ensures.failure c.args.nest.now))
+    c.potential_failure.ensures

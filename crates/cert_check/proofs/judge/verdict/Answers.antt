@@ -6,11 +6,10 @@ use Rattle.cert_check.specs.Shown.{shown_at}
 use Rattle.cert_check.proofs.Judgements.{holds_more, judged_no}
 use Rattle.cert_check.proofs.judge.verdict.Goals as goal
 
-pub returns-in-Some : goal.returns-in-Some
-returns-in-Some c =
-    judged_no c.args.set.now (shown_at c.args.graphs.now c.args.nests.now) c.args.certificate.now c.loop-i.i c.in-Some.failure
-    (subst (λ (xs : List TaskSpec). c.loop-i.i < length xs) c.as_slice-i-end.ensures c.loop-i-test.true) c.loop-i.invariant
-    (subst (λ r. IsFound (Holds c.args.set.now (shown_at c.args.graphs.now c.args.nests.now) c.args.certificate.now c.loop-i.i) 1 9 r) c.in-Some.is c.task_failure.ensures)
+pub returns-in-Err : goal.returns-in-Err
+returns-in-Err c =
+    judged_no c.args.set.now (shown_at c.args.graphs.now c.args.nests.now) c.args.certificate.now c.loop-i.i c.in-Err.clause c.number.result c.place.result c.number.ensures c.place.ensures
+    (subst (λ (xs : List TaskSpec). c.loop-i.i < length xs) c.as_slice-i-end.ensures c.loop-i-test.true) c.loop-i.invariant c.in-Err.ensures
 
 pub loop-i-preserved : goal.loop-i-preserved
 loop-i-preserved c =

@@ -1,6 +1,7 @@
 -- All clauses hold for the tasks so far.
 use Rattle.std.proofs.Common.{ℕ, ◌<◌}
-use Rattle.cert_check.specs.Verdict.{Clause, Holds}
+use Rattle.cert_check.specs.declared.outcome.Clause.{Clause}
+use Rattle.cert_check.specs.Verdict.{Holds}
 use Rattle.cert_check.specs.Shown.{shown_at}
 use Rattle.cert_check.proofs.judge.verdict.Given as goal
 

@@ -1,21 +1,19 @@
-use Rattle.std.proofs.Common.{◌≡◌, List, Some, get_or, refl, sym, ap, ◌∙◌, subst, arith}
+use Rattle.std.proofs.Common.{◌≡◌, List, Ok, Err, get_or, refl, sym, ap, ◌∙◌, subst, arith}
 use Rattle.std.specs.Prelude.{slice_index}
 use Rattle.std.proofs.lemmas.Bool.{false≢true}
 use Rattle.crpd_base.specs.declared.data.TaskPart.{TaskPart}
 use Rattle.crpd_base.specs.declared.data.TaskSpec.{TaskSpec}
 use Rattle.evict_sets.specs.Certificate.{cert_at}
-use Rattle.cert_check.specs.Verdict.{Window, Response, Deadline}
-use Rattle.cert_check.specs.Answered.{IsFound}
-use Rattle.cert_check.specs.Times.{TimesHold}
-use Rattle.cert_check.proofs.Found.{then_found, found_first, fails_first, fails_later, only_window, before_deadline}
+use Rattle.cert_check.specs.declared.outcome.Clause.TheVariants.{Window, Response, Deadline}
+use Rattle.cert_check.specs.Verdict.{TimesHold}
+use Rattle.cert_check.proofs.Found.{then_found, found_first, fails_first, fails_later, window_holds, response_holds, response_before}
 use Rattle.delay_count.proofs.Times.{jitter_is, deadline_is}
 use Rattle.cert_check.proofs.Names.{part_is}
 use Rattle.cert_check.proofs.times.time_failure.Goals as goal
 
 pub returns-then-not-has_room : goal.returns-then-not-has_room
 returns-then-not-has_room c =
-    subst (λ r. IsFound (TimesHold c.args.set.now (slice_index c.args.longest.now) c.args.certificate.now c.args.i) 8 9 r) (sym c.at.ensures)
-    (found_first (TimesHold c.args.set.now (slice_index c.args.longest.now) c.args.certificate.now c.args.i) 8 8 9 (record { clause = 8; place = 0 }) (omega arith) (fails_first (TimesHold c.args.set.now (slice_index c.args.longest.now) c.args.certificate.now c.args.i) Window (record { clause = 8; place = 0 }) refl refl refl (λ h. false≢true (sym c.if-not-has_room.true ∙ c.has_room.ensures.1 h))))
+    found_first (TimesHold c.args.set.now (slice_index c.args.longest.now) c.args.certificate.now c.args.i) 8 8 9 Window (omega arith) (fails_first (TimesHold c.args.set.now (slice_index c.args.longest.now) c.args.certificate.now c.args.i) Window refl (λ h. false≢true (sym c.if-not-has_room.true ∙ c.has_room.ensures.1 h)))
 
 pub returns-then-from : goal.returns-then-from
 returns-then-from c =
@@ -24,9 +22,8 @@ returns-then-from c =
     let w : (cert_at c.args.certificate.now c.args.i).window ≡ c.index-as_slice-i-2.result.window = ap (λ (t : TaskPart). t.window) part in
     let j = jitter_is c.args.set.now c.args.i c.index-as_slice-i.result c.requires.task (subst (λ (xs : List TaskSpec). c.index-as_slice-i.result ≡ get_or xs c.args.i c.index-as_slice-i.result) c.as_slice.ensures c.index-as_slice-i.is) in
     let d = deadline_is c.args.set.now c.args.i c.index-as_slice-i.result c.requires.task (subst (λ (xs : List TaskSpec). c.index-as_slice-i.result ≡ get_or xs c.args.i c.index-as_slice-i.result) c.as_slice.ensures c.index-as_slice-i.is) in
-    subst (λ r. IsFound (TimesHold c.args.set.now (slice_index c.args.longest.now) c.args.certificate.now c.args.i) 8 9 r) (sym c.at-then-from.ensures)
-    (then_found (TimesHold c.args.set.now (slice_index c.args.longest.now) c.args.certificate.now c.args.i) 8 8 9 (Some (record { clause = 9; place = 0 })) (omega arith) (omega arith) (only_window (TimesHold c.args.set.now (slice_index c.args.longest.now) c.args.certificate.now c.args.i) (c.has_room.ensures.0 c.if-not-has_room.false))
-    (fails_first (TimesHold c.args.set.now (slice_index c.args.longest.now) c.args.certificate.now c.args.i) Response (record { clause = 9; place = 0 }) refl refl refl (λ h. c.if-from.true (omega (arith, h, r, w, j, c.from.ensures, c.from-2.ensures, c.from-3.ensures)))))
+    then_found (TimesHold c.args.set.now (slice_index c.args.longest.now) c.args.certificate.now c.args.i) 8 8 9 (Err Response) (omega arith) (omega arith) (window_holds (TimesHold c.args.set.now (slice_index c.args.longest.now) c.args.certificate.now c.args.i) (c.has_room.ensures.0 c.if-not-has_room.false))
+    (fails_first (TimesHold c.args.set.now (slice_index c.args.longest.now) c.args.certificate.now c.args.i) Response refl (λ h. c.if-from.true (omega (arith, h, r, w, j, c.from.ensures, c.from-2.ensures, c.from-3.ensures))))
 
 pub returns-then-part-task : goal.returns-then-part-task
 returns-then-part-task c =
@@ -35,7 +32,16 @@ returns-then-part-task c =
     let w : (cert_at c.args.certificate.now c.args.i).window ≡ c.index-as_slice-i-2.result.window = ap (λ (t : TaskPart). t.window) part in
     let j = jitter_is c.args.set.now c.args.i c.index-as_slice-i.result c.requires.task (subst (λ (xs : List TaskSpec). c.index-as_slice-i.result ≡ get_or xs c.args.i c.index-as_slice-i.result) c.as_slice.ensures c.index-as_slice-i.is) in
     let d = deadline_is c.args.set.now c.args.i c.index-as_slice-i.result c.requires.task (subst (λ (xs : List TaskSpec). c.index-as_slice-i.result ≡ get_or xs c.args.i c.index-as_slice-i.result) c.as_slice.ensures c.index-as_slice-i.is) in
-    subst (λ r. IsFound (TimesHold c.args.set.now (slice_index c.args.longest.now) c.args.certificate.now c.args.i) 8 9 r) (sym c.at-then-part-task.ensures)
-    (then_found (TimesHold c.args.set.now (slice_index c.args.longest.now) c.args.certificate.now c.args.i) 8 8 9 (Some (record { clause = 9; place = 1 })) (omega arith) (omega arith) (only_window (TimesHold c.args.set.now (slice_index c.args.longest.now) c.args.certificate.now c.args.i) (c.has_room.ensures.0 c.if-not-has_room.false))
-    (fails_later (TimesHold c.args.set.now (slice_index c.args.longest.now) c.args.certificate.now c.args.i) Deadline (record { clause = 9; place = 1 }) refl refl (before_deadline (TimesHold c.args.set.now (slice_index c.args.longest.now) c.args.certificate.now c.args.i) (omega (arith, c.if-from.false, r, w, j, c.from.ensures, c.from-2.ensures, c.from-3.ensures)))
-    (λ h. absurd (omega (arith, h, r, d, c.if-part-task.true)))))
+    then_found (TimesHold c.args.set.now (slice_index c.args.longest.now) c.args.certificate.now c.args.i) 8 8 9 (Err Deadline) (omega arith) (omega arith) (window_holds (TimesHold c.args.set.now (slice_index c.args.longest.now) c.args.certificate.now c.args.i) (c.has_room.ensures.0 c.if-not-has_room.false))
+    (fails_later (TimesHold c.args.set.now (slice_index c.args.longest.now) c.args.certificate.now c.args.i) Deadline (response_before (TimesHold c.args.set.now (slice_index c.args.longest.now) c.args.certificate.now c.args.i) (omega (arith, c.if-from.false, r, w, j, c.from.ensures, c.from-2.ensures, c.from-3.ensures)))
+    (λ h. absurd (omega (arith, h, r, d, c.if-part-task.true))))
+
+pub returns : goal.returns
+returns c =
+    let part : cert_at c.args.certificate.now c.args.i ≡ c.index-as_slice-i-2.result = (part_is c.args.certificate.now c.args.i c.index-as_slice-i-2.result c.requires.higher.tasks (subst (λ (xs : List TaskPart). c.index-as_slice-i-2.result ≡ get_or xs c.args.i c.index-as_slice-i-2.result) c.as_slice-2.ensures c.index-as_slice-i-2.is)) in
+    let r : (cert_at c.args.certificate.now c.args.i).response ≡ c.index-as_slice-i-2.result.response = ap (λ (t : TaskPart). t.response) part in
+    let w : (cert_at c.args.certificate.now c.args.i).window ≡ c.index-as_slice-i-2.result.window = ap (λ (t : TaskPart). t.window) part in
+    let j = jitter_is c.args.set.now c.args.i c.index-as_slice-i.result c.requires.task (subst (λ (xs : List TaskSpec). c.index-as_slice-i.result ≡ get_or xs c.args.i c.index-as_slice-i.result) c.as_slice.ensures c.index-as_slice-i.is) in
+    let d = deadline_is c.args.set.now c.args.i c.index-as_slice-i.result c.requires.task (subst (λ (xs : List TaskSpec). c.index-as_slice-i.result ≡ get_or xs c.args.i c.index-as_slice-i.result) c.as_slice.ensures c.index-as_slice-i.is) in
+    then_found (TimesHold c.args.set.now (slice_index c.args.longest.now) c.args.certificate.now c.args.i) 8 8 9 (Ok tt) (omega arith) (omega arith) (window_holds (TimesHold c.args.set.now (slice_index c.args.longest.now) c.args.certificate.now c.args.i) (c.has_room.ensures.0 c.if-not-has_room.false))
+    (response_holds (TimesHold c.args.set.now (slice_index c.args.longest.now) c.args.certificate.now c.args.i) (omega (arith, c.if-from.false, r, w, j, c.from.ensures, c.from-2.ensures, c.from-3.ensures)) (omega (arith, r, d, c.if-part-task.false)))
