@@ -28,7 +28,8 @@ use Rattle.cert_check.specs.declared.outcome.Clause.TheVariants.{Platforms, HasT
 use Rattle.cert_check.specs.Verdict.{GraphHolds, Holds, IsYes}
 
 -- two tests of hits agree at the nodes
-pub tests_agree : (g : Graph) (a : Accesses) (l : Listed) (one two : ℕ → Bool) (u : ℕ) → CountsHits g a l one → CountsHits g a l two → u < g.size → one u ≡ two u
+pub tests_agree : (g : Graph) (a : Accesses) (l : Listed) (one two : ℕ → Bool) (u : ℕ)
+    → CountsHits g a l one → CountsHits g a l two → u < g.size → one u ≡ two u
 tests_agree g a l one two u p q h =
     elim (cases_Bool (one u)) [
       | inl b ↦ b ∙ sym ((q u h).1 ((p u h).0 b))
@@ -39,7 +40,9 @@ tests_agree g a l one two u p q h =
     ]
 
 -- the inequalities at a node see the test at that node only
-pub same_meets : (p : Platform) (t : TaskGraph) (pot : Potentials) (one two : ℕ → Bool) (u : ℕ) → one u ≡ two u → PotentialsMeet t.graph t.nest (costs p (listing_of t) (answering t) one) pot u → PotentialsMeet t.graph t.nest (costs p (listing_of t) (answering t) two) pot u
+pub same_meets : (p : Platform) (t : TaskGraph) (pot : Potentials) (one two : ℕ → Bool) (u : ℕ)
+    → one u ≡ two u → PotentialsMeet t.graph t.nest (costs p (listing_of t) (answering t) one) pot u
+    → PotentialsMeet t.graph t.nest (costs p (listing_of t) (answering t) two) pot u
 same_meets p t pot one two u e m =
     record {
       edges = record {
@@ -56,14 +59,17 @@ same_meets p t pot one two u e m =
 pub record GraphMeets (p : Platform) (t : TaskGraph) (c : TaskPart) : Type 0 where
   pub states : (u : ℕ) → u < t.graph.size → StatesMeet t.graph (accesses_of p t) (listed_of c) u
   pub useful : (u : ℕ) → u < t.graph.size → UsefulMeets t.graph (accesses_of p t) (listed_of c) u
-  pub sets : (u : ℕ) → u < t.graph.size → SetsMeet t.graph (accesses_of p t) (listed_of c) (has c.part.evicting) (has c.part.useful) u
+  pub sets : (u : ℕ) → u < t.graph.size
+      → SetsMeet t.graph (accesses_of p t) (listed_of c) (has c.part.evicting) (has c.part.useful) u
   pub is_hit : ℕ → Bool
   pub hits : CountsHits t.graph (accesses_of p t) (listed_of c) is_hit
-  pub potentials : (u : ℕ) → u < t.graph.size → PotentialsMeet t.graph t.nest (costs p (listing_of t) (answering t) is_hit) (potentials_of c) u
+  pub potentials : (u : ℕ) → u < t.graph.size
+      → PotentialsMeet t.graph t.nest (costs p (listing_of t) (answering t) is_hit) (potentials_of c) u
   pub bound : BoundMeets t.graph t.nest (potentials_of c) c.part.bound
 
 module _ (p : Platform) (t : TaskGraph) (c : TaskPart) where
-  pub meets_with : ((k : Clause) → GraphHolds p t c k) → (is_hit : ℕ → Bool) → CountsHits t.graph (accesses_of p t) (listed_of c) is_hit → GraphMeets p t c
+  pub meets_with : ((k : Clause) → GraphHolds p t c k) → (is_hit : ℕ → Bool)
+      → CountsHits t.graph (accesses_of p t) (listed_of c) is_hit → GraphMeets p t c
   meets_with h is_hit counts =
       record {
         states = λ u l. h (States u) l;
@@ -80,7 +86,9 @@ module _ (p : Platform) (t : TaskGraph) (c : TaskPart) where
   graph_meets G h = let test = hit_test_law t.graph (accesses_of p t) (listed_of c) G (h Leaders).1 in meets_with h test.0 test.1
 
 -- what is listed, and these: the clauses of a graph
-pub clauses_of : (p : Platform) (t : TaskGraph) (c : TaskPart) → GraphHolds p t c Leaders → length c.potentials ≡ t.graph.size → length c.loops ≡ t.nest.size → GraphMeets p t c → (k : Clause) → GraphHolds p t c k
+pub clauses_of : (p : Platform) (t : TaskGraph) (c : TaskPart) → GraphHolds p t c Leaders
+    → length c.potentials ≡ t.graph.size → length c.loops ≡ t.nest.size → GraphMeets p t c
+    → (k : Clause) → GraphHolds p t c k
 clauses_of p t c leaders nodes loops m Leaders = leaders
 clauses_of p t c leaders nodes loops m NodePotentials = nodes
 clauses_of p t c leaders nodes loops m LoopPotentials = loops
@@ -93,7 +101,9 @@ clauses_of p t c leaders nodes loops m Bound = m.bound
 clauses_of p t c leaders nodes loops m _ = tt
 
 -- with these of a task's part, and with what stands beside it, all clauses hold
-module _ (set : TaskSet) (graphs : ℕ → TaskGraph) (c : Certificate) (i : ℕ) (lt : i < length set.tasks) (platform : c.platform ≡ set.platform) (tasks : length c.tasks ≡ length set.tasks)
+module _ (set : TaskSet) (graphs : ℕ → TaskGraph) (c : Certificate) (i : ℕ)
+    (lt : i < length set.tasks) (platform : c.platform ≡ set.platform)
+    (tasks : length c.tasks ≡ length set.tasks)
     (name : (cert_at c i).name ≡ name_of set i) (part : (k : Clause) → GraphHolds set.platform (graphs i) (cert_at c i) k) (some : 1 ≤ window_at c i)
     (enough : demand set (part_of c) (longest_at set.platform graphs) (window_at c) i (cert_at c i).method (window_at c i) ≤ window_at c i)
     (response : (cert_at c i).response ≡ window_at c i + jitter_of set i) (in_deadline : window_at c i + jitter_of set i ≤ deadline_of set i) where
@@ -108,7 +118,8 @@ module _ (set : TaskSet) (graphs : ℕ → TaskGraph) (c : Certificate) (i : ℕ
   all_hold k = part k
 
 -- the clauses of a task say those of its graph
-pub graph_part : (set : TaskSet) (graphs : ℕ → TaskGraph) (c : Certificate) (i : ℕ) (k : Clause) → Holds set graphs c i k → GraphHolds set.platform (graphs i) (cert_at c i) k
+pub graph_part : (set : TaskSet) (graphs : ℕ → TaskGraph) (c : Certificate) (i : ℕ) (k : Clause)
+    → Holds set graphs c i k → GraphHolds set.platform (graphs i) (cert_at c i) k
 graph_part set graphs c i Platforms h = tt
 graph_part set graphs c i HasTask h = tt
 graph_part set graphs c i Names h = tt
@@ -119,7 +130,8 @@ graph_part set graphs c i Deadline h = tt
 graph_part set graphs c i k h = h
 
 -- a yes says that the certificate has a part for each task
-pub as_many : (set : TaskSet) (graphs : ℕ → TaskGraph) (c : Certificate) → 1 ≤ length set.tasks → IsYes set graphs c → length c.tasks ≡ length set.tasks
+pub as_many : (set : TaskSet) (graphs : ℕ → TaskGraph) (c : Certificate) → 1 ≤ length set.tasks
+    → IsYes set graphs c → length c.tasks ≡ length set.tasks
 as_many set graphs c some says = by (length set.tasks) refl
   where
     by : (n : ℕ) → length set.tasks ≡ n → length c.tasks ≡ length set.tasks

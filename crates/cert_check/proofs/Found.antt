@@ -10,7 +10,8 @@ use Rattle.cert_check.specs.Case.{IsLeast}
 
 module _ (H : Clause → Type 0) where
   -- first some clauses, which hold, then those of greater numbers
-  pub then_found : (low mid high : ℕ) (r : Result (Unit {0}) Clause) → low ≤ mid + 1 → mid ≤ high → AllHold H low mid → IsFound H (mid + 1) high r → IsFound H low high r
+  pub then_found : (low mid high : ℕ) (r : Result (Unit {0}) Clause) → low ≤ mid + 1 → mid ≤ high
+      → AllHold H low mid → IsFound H (mid + 1) high r → IsFound H low high r
   then_found low mid high (Ok _) a b first rest = λ k from_low to_high.
       ⊎_elim (λ lt. first k from_low (omega arith)) (λ le. rest k le to_high) (cases_lt (number_of k) (mid + 1))
   then_found low mid high (Err k) a b first rest = record {
@@ -21,17 +22,20 @@ module _ (H : Clause → Type 0) where
   }
 
   -- a failure among the first
-  pub found_first : (low mid high : ℕ) (k : Clause) → mid ≤ high → IsFirstFailing H low mid k → IsFirstFailing H low high k
+  pub found_first : (low mid high : ℕ) (k : Clause) → mid ≤ high → IsFirstFailing H low mid k
+      → IsFirstFailing H low high k
   found_first low mid high k le F =
       record { from_low = F.from_low; to_high = (let to = F.to_high in omega (arith, to, le)); fails = F.fails; before = F.before }
 
   -- it is handed on
-  pub handed_on : (low high : ℕ) (r : Result (Unit {0}) Clause) (k : Clause) → IsErrAnd r (λ l. l ≡ k) → IsFirstFailing H low high k → IsFound H low high r
+  pub handed_on : (low high : ℕ) (r : Result (Unit {0}) Clause) (k : Clause)
+      → IsErrAnd r (λ l. l ≡ k) → IsFirstFailing H low high k → IsFound H low high r
   handed_on low high (Ok _) k h F = absurd h
   handed_on low high (Err l) k h F = subst (IsFirstFailing H low high) (sym h) F
 
   -- the first of its number fails
-  pub fails_first : (k : Clause) → place_of k ≡ 0 → (H k → ⊥) → IsFirstFailing H (number_of k) (number_of k) k
+  pub fails_first : (k : Clause) → place_of k ≡ 0 → (H k → ⊥)
+      → IsFirstFailing H (number_of k) (number_of k) k
   fails_first k zero_place fails = record {
     from_low = omega arith;
     to_high = omega arith;
@@ -40,7 +44,9 @@ module _ (H : Clause → Type 0) where
   }
 
   -- a later one fails, and the earlier ones hold
-  pub fails_later : (k : Clause) → ((l : Clause) → number_of l ≡ number_of k → place_of l < place_of k → H l) → (H k → ⊥) → IsFirstFailing H (number_of k) (number_of k) k
+  pub fails_later : (k : Clause)
+      → ((l : Clause) → number_of l ≡ number_of k → place_of l < place_of k → H l) → (H k → ⊥)
+      → IsFirstFailing H (number_of k) (number_of k) k
   fails_later k earlier_hold fails = record {
     from_low = omega arith;
     to_high = omega arith;
@@ -56,7 +62,8 @@ module _ (H : Clause → Type 0) where
   names_hold p t n z Last low high = z
   names_hold p t n z k low high = absurd (omega (arith, low, high))
 
-  pub names_before : (n : ℕ) → (0 < n → H Platforms) → (1 < n → H HasTask) → (2 < n → H Names) → n ≤ 3 → (l : Clause) → number_of l ≡ 1 → place_of l < n → H l
+  pub names_before : (n : ℕ) → (0 < n → H Platforms) → (1 < n → H HasTask) → (2 < n → H Names)
+      → n ≤ 3 → (l : Clause) → number_of l ≡ 1 → place_of l < n → H l
   names_before n p t m le Platforms e lt = p lt
   names_before n p t m le HasTask e lt = t lt
   names_before n p t m le Names e lt = m lt
@@ -70,7 +77,8 @@ module _ (H : Clause → Type 0) where
   lists_hold a b d LoopPotentials low high = d
   lists_hold a b d k low high = absurd (omega (arith, low, high))
 
-  pub lists_before : (n : ℕ) → (0 < n → H Leaders) → (1 < n → H NodePotentials) → n ≤ 2 → (l : Clause) → number_of l ≡ 2 → place_of l < n → H l
+  pub lists_before : (n : ℕ) → (0 < n → H Leaders) → (1 < n → H NodePotentials) → n ≤ 2
+      → (l : Clause) → number_of l ≡ 2 → place_of l < n → H l
   lists_before n a b le Leaders e lt = a lt
   lists_before n a b le NodePotentials e lt = b lt
   lists_before n a b le LoopPotentials e lt = absurd (omega (arith, le, lt))
@@ -104,7 +112,8 @@ pub record IsOfNodes (H : Clause → Type 0) (P : ℕ → Type 0) (C : ℕ → C
   pub past : (u : ℕ) → size ≤ u → H (C u)
   pub back : (u : ℕ) → u < size → H (C u) → P u
 
-module _ (H : Clause → Type 0) (P : ℕ → Type 0) (C : ℕ → Clause) (n size least : ℕ) (X : IsOfNodes H P C n size) (L : IsLeast P size least) where
+module _ (H : Clause → Type 0) (P : ℕ → Type 0) (C : ℕ → Clause) (n size least : ℕ)
+    (X : IsOfNodes H P C n size) (L : IsLeast P size least) where
   -- it fails at the least node
   pub node_fails : least < size → IsFirstFailing H n n (C least)
   node_fails lt = record {
@@ -132,7 +141,9 @@ not_later l k (inl lt) = omega (arith, lt)
 not_later l k (inr e) = (let same = e.0 in omega (arith, same))
 
 -- clauses that say the same
-pub found_as : (H K : Clause → Type 0) (low high : ℕ) (r : Result (Unit {0}) Clause) → ((k : Clause) → low ≤ number_of k → number_of k ≤ high → H k ↔ K k) → IsFound H low high r → IsFound K low high r
+pub found_as : (H K : Clause → Type 0) (low high : ℕ) (r : Result (Unit {0}) Clause)
+    → ((k : Clause) → low ≤ number_of k → number_of k ≤ high → H k ↔ K k) → IsFound H low high r
+    → IsFound K low high r
 found_as H K low high (Ok _) same F = λ k a b. (same k a b).0 (F k a b)
 found_as H K low high (Err k) same F = record {
   from_low = F.from_low;

@@ -67,7 +67,8 @@ module _ (p : Platform) (t : TaskGraph) (c : TaskPart) where
         back = λ u lt h. h lt;
       }
 
-  pub of_inequalities : (is_hit : ℕ → Bool) → CountsHits t.graph (accesses_of p t) (listed_of c) is_hit
+  pub of_inequalities : (is_hit : ℕ → Bool)
+      → CountsHits t.graph (accesses_of p t) (listed_of c) is_hit
       → IsOfNodes (GraphHolds p t c) (PotentialsMeet t.graph t.nest (costs p (listing_of t) (answering t) is_hit) (potentials_of c)) (λ u. Inequalities u) 6 t.graph.size
   of_inequalities is_hit counts =
       record {
@@ -83,11 +84,13 @@ module _ (p : Platform) (t : TaskGraph) (c : TaskPart) where
   H = GraphHolds p t c
 
   -- the states and sets, judged in their order
-  module _ (states : ℕ) (S : IsLeast (StatesMeet t.graph (accesses_of p t) (listed_of c)) t.graph.size states) where
+  module _ (states : ℕ)
+      (S : IsLeast (StatesMeet t.graph (accesses_of p t) (listed_of c)) t.graph.size states) where
     pub states_fail : states < t.graph.size → IsFirstFailing H 3 5 (States states)
     states_fail lt = found_first H 3 3 5 (States states) (omega arith) (node_fails H _ _ 3 t.graph.size states of_states S lt)
 
-    module _ (le : t.graph.size ≤ states) (useful : ℕ) (U : IsLeast (UsefulMeets t.graph (accesses_of p t) (listed_of c)) t.graph.size useful) where
+    module _ (le : t.graph.size ≤ states) (useful : ℕ)
+        (U : IsLeast (UsefulMeets t.graph (accesses_of p t) (listed_of c)) t.graph.size useful) where
       states_hold : AllHold H 3 3
       states_hold = nodes_hold H _ _ 3 t.graph.size states of_states S le
 
@@ -108,7 +111,8 @@ module _ (p : Platform) (t : TaskGraph) (c : TaskPart) where
         sets_hold most = then_found H 3 4 5 (Ok tt) (omega arith) (omega arith) useful_hold (nodes_hold H _ _ 5 t.graph.size sets of_sets T most)
 
   -- and the potentials with the bound
-  module _ (is_hit : ℕ → Bool) (counts : CountsHits t.graph (accesses_of p t) (listed_of c) is_hit) (least : ℕ)
+  module _ (is_hit : ℕ → Bool) (counts : CountsHits t.graph (accesses_of p t) (listed_of c) is_hit)
+      (least : ℕ)
       (L : IsLeast (PotentialsMeet t.graph t.nest (costs p (listing_of t) (answering t) is_hit) (potentials_of c)) t.graph.size least) where
     pub inequalities_fail : least < t.graph.size → IsFirstFailing H 6 7 (Inequalities least)
     inequalities_fail lt =

@@ -1,4 +1,4 @@
--- The clauses of a certificate, the judge's yes, and its answer: yes, or no with the first clause that fails.
+-- The clauses of a certificate, and the judge's answer: yes, or no with the first that fails.
 use Rattle.std.specs.Prelude.{◌≡◌, ◌⊎◌, ℕ, suc, ◌+◌, ◌<◌, ◌≤◌, Bool, length, All}
 use Rattle.crpd_base.specs.Sets.{has}
 use Rattle.crpd_base.specs.Tasks.{jitter_of, deadline_of}
@@ -73,11 +73,13 @@ GraphHolds p t c (Inequalities u) =
 GraphHolds p t c Bound = BoundMeets t.graph t.nest (potentials_of c) c.part.bound
 GraphHolds p t c _ = Unit {0}
 
--- the clauses of a task's times, with the longest cost of one instruction of each task; the others look at more
+-- the clauses of a task's times, with the longest cost of one instruction of each task; the others
+-- look at more
 abbrev pub TimesHold : TaskSet → (ℕ → ℕ) → Certificate → ℕ → Clause → Type 0
 TimesHold set longest c i Window =
     (1 ≤ window_at c i)
-    × (demand set (part_of c) longest (window_at c) i (cert_at c i).method (window_at c i) ≤ window_at c i)
+    × (demand set (part_of c) longest (window_at c) i (cert_at c i).method (window_at c i)
+    ≤ window_at c i)
 TimesHold set longest c i Response = (cert_at c i).response ≡ window_at c i + jitter_of set i
 TimesHold set longest c i Deadline = (cert_at c i).response ≤ deadline_of set i
 TimesHold set longest c i _ = Unit {0}
@@ -99,10 +101,13 @@ IsYes set graphs c = (i : ℕ) (clause : Clause) → i < length set.tasks → Ho
 
 -- a clause is judged before another, of one task
 abbrev pub IsEarlier : Clause → Clause → Type 0
-IsEarlier k l = (number_of k < number_of l) ⊎ ((number_of k ≡ number_of l) × (place_of k < place_of l))
+IsEarlier k l =
+    (number_of k < number_of l)
+    ⊎ ((number_of k ≡ number_of l) × (place_of k < place_of l))
 
 -- the first clause that fails: those of the tasks before i hold, and those before it
-pub record IsFirstFailure (set : TaskSet) (graphs : ℕ → TaskGraph) (c : Certificate) (i : ℕ) (k : Clause) : Type 0 where
+pub record IsFirstFailure (set : TaskSet) (graphs : ℕ → TaskGraph) (c : Certificate) (i : ℕ)
+    (k : Clause) : Type 0 where
   pub task : i < length set.tasks
   pub fails : Holds set graphs c i k → ⊥
   pub tasks_before : (j : ℕ) (l : Clause) → j < i → Holds set graphs c j l

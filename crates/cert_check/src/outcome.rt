@@ -16,7 +16,7 @@ pub enum Verdict {
 
 /// A clause of a certificate, in the order in which they are judged for a task; those of nodes with the node's number.
 #[derive(Clone, Copy)]
-pub(crate) enum Clause {
+pub enum Clause {
     /// The platforms are equal.
     Platforms,
     /// The certificate has the task.
@@ -50,8 +50,8 @@ pub(crate) enum Clause {
 }
 
 impl Clause {
-    /// The clause's number, 1 to 9.
-    pub(crate) fn number(self) -> u8
+    /// The clause's number, 1 to 9. In constant time.
+    pub fn number(self) -> u8
         ensures { result ≡ number_of self }
     {
         match self {
@@ -67,8 +67,8 @@ impl Clause {
         }
     }
 
-    /// The clause's place among those of its number: the node's number where it is of a node.
-    pub(crate) fn place(self) -> u32
+    /// The clause's place among those of its number: the node's number where it is of a node. In constant time.
+    pub fn place(self) -> u32
         ensures { result ≡ place_of self }
     {
         match self {

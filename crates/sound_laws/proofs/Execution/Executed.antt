@@ -18,7 +18,7 @@ use Rattle.cert_check.specs.Certificate.{potentials_of}
 use Rattle.cert_check.specs.Clauses.{CountsHits, costs}
 use Rattle.loop_regions.specs.TaskGraph.{TaskGraph, listing_of, answering}
 use Rattle.cert_check.specs.declared.outcome.Clause.{Clause}
-use Rattle.cert_check.specs.declared.outcome.Clause.TheVariants.{Leaders}
+use Rattle.cert_check.specs.declared.outcome.Clause.TheVariants.{Leaders, Inequalities}
 use Rattle.cert_check.specs.Judge.{accesses_of, longest_of}
 use Rattle.cert_check.specs.Verdict.{GraphHolds, IsYes}
 use Rattle.cert_check.proofs.Clauses.{GraphMeets, graph_part, meets_with}
@@ -58,15 +58,17 @@ module _ (s : Start) (set : TaskSet) (graphs : ℕ → TaskGraph) (R : IsInRange
   is_met c x h says l counted counts =
       let t = graphs (task_of s x) in
       let N = nested x h in
-      let here = λ k. graph_part set graphs c (task_of s x) k (says (task_of s x) k l) in
-      let m = meets_with s.system.platform t (cert_at c (task_of s x)) (subst (λ (p : Platform). (k : Clause) → GraphHolds p t (cert_at c (task_of s x)) k) (sym C.platform) here) counted counts in
+      let here : (k : Clause) → GraphHolds set.platform t (cert_at c (task_of s x)) k =
+      λ k. graph_part set graphs c (task_of s x) k (says (task_of s x) k l) in
+      let there : (k : Clause) → GraphHolds s.system.platform t (cert_at c (task_of s x)) k =
+      subst (λ (p : Platform). (k : Clause) → GraphHolds p t (cert_at c (task_of s x)) k) (sym C.platform) here in
       record {
         meets = record {
-          nodes = λ u l. (m.potentials u l).edges;
-          loops = λ r l. (m.potentials (t.nest.head r) (N.holds_nodes r (t.nest.head r) l (N.holds_head r l))).loop r l refl;
+          nodes = λ u below. (there (Inequalities u) counted counts below).edges;
+          loops = λ r below. (there (Inequalities (t.nest.head r)) counted counts (N.holds_nodes r (t.nest.head r) below (N.holds_head r below))).loop r below refl;
         };
         hits = counts;
-        all = m;
+        all = meets_with s.system.platform t (cert_at c (task_of s x)) there counted counts;
       }
 
   -- there is such a test
