@@ -1,10 +1,8 @@
 -- Demands of the same parts, costs and windows.
-use Rattle.std.proofs.Common.{◌≡◌, ℕ, zero, suc, ◌<◌, ◌≤◌, List, [], ◌∷◌, length, map, get_or, All, refl, sym, ap, arith}
-use Rattle.std.specs.Prelude.{◌^◌}
+use Rattle.std.proofs.Common.{◌≡◌, ℕ, ◌<◌, ◌≤◌, length, refl, sym, ap, arith}
 use Rattle.crpd_base.specs.Tasks.{HasTimes}
 use Rattle.crpd_base.specs.declared.data.Part.{Part}
 use Rattle.crpd_base.specs.declared.data.Method.{Method}
-use Rattle.crpd_base.specs.declared.data.TaskSpec.{TaskSpec}
 use Rattle.crpd_base.specs.declared.data.TaskSet.{TaskSet}
 use Rattle.delay_count.specs.Demand.{demand}
 use Rattle.delay_count.specs.Laws.{Load, IsCostlier, DemandGrows}
