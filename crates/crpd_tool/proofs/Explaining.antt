@@ -13,7 +13,8 @@ use Rattle.flat_graph.specs.CodeGraph.{IsCodeGraph}
 use Rattle.flat_graph.proofs.Members.{some_at}
 use Rattle.loop_regions.specs.TaskSteps.{words_of}
 use Rattle.evict_sets.specs.Certificate.{no_cert}
-use Rattle.cert_check.specs.Shown.{HasLowSets, graph_at, no_graph, shown_at}
+use Rattle.evict_sets.specs.Listing.{HasLowSets}
+use Rattle.cert_check.specs.Shown.{graph_at, no_graph, shown_at}
 use Rattle.cert_check.specs.Answered.{answer_of}
 use Rattle.cert_check.specs.declared.outcome.Clause.TheVariants.{Deadline, HasTask, Last, Leaders, Response, States}
 use Rattle.cert_check.specs.Verdict.{IsJudged, Yes}
@@ -67,9 +68,11 @@ module _ (set : TaskSet) (shapes : Shapes) (c : Certificate) (judged : IsJudged 
       let has : i < length c.tasks = judged i HasTask lt in
       record {
         has_task = has;
-        low_sets = All-get_or HasLowSets c.tasks i no_cert has (in_range c is).sets;
-        leaders = (judged i Leaders lt).1;
-        states = λ u below. judged i (States u) lt below;
+        states = record {
+          low_sets = All-get_or HasLowSets c.tasks i no_cert has (in_range c is).sets;
+          leaders = (judged i Leaders lt).1;
+          states = λ u below. judged i (States u) lt below;
+        };
       }
 
   -- there is a window for each task, within its deadline

@@ -1,6 +1,5 @@
 -- The evictor and the preemptor of each entry, and the ledger of a run.
-use Rattle.std.proofs.Common.{◌≡◌, ◌⊎◌, ℕ, zero, suc, ◌<◌, true, false, All, List, [], ◌∷◌, ◌++◌, length, get_or, Option, Some, None, refl, sym, ◌∙◌, ap, subst, inl, inr, arith}
-use Rattle.std.specs.Prelude.{IsTrue}
+use Rattle.std.proofs.Common.{◌≡◌, ◌⊎◌, ℕ, zero, suc, true, All, List, [], ◌∷◌, ◌++◌, Option, Some, None, refl, sym, ◌∙◌, ap, subst, inl, inr, arith}
 use Rattle.std.proofs.lemmas.Bool.{cases_Bool, false≢true}
 use Rattle.crpd_base.specs.declared.data.Certificate.{Certificate}
 use Rattle.flow_watch.specs.Watch.{is_kept}
@@ -10,10 +9,9 @@ use Rattle.loop_regions.specs.TaskGraph.{TaskGraph}
 use Rattle.evict_sets.specs.Certificate.{listed_of, cert_at}
 use Rattle.evict_sets.proofs.FullLaws.{hit_test_law}
 use Rattle.preempt_machine.specs.Machine.{Job}
-use Rattle.preempt_machine.specs.Safe.{IsKept}
 use Rattle.preempt_machine.specs.Step.{Fetch, Start, state, fetch_at}
 use Rattle.preempt_machine.proofs.Steps.{none_some}
-use Rattle.run_account.specs.Causes.{AreLeadersMet, HasCauses, EntryHasCauses, RunHasLedger}
+use Rattle.run_account.specs.Causes.{AreLeadersMet, EntryHasCauses, RunHasLedger}
 use Rattle.run_account.specs.Fetches.{job_of, fetched_set, HasCache}
 use Rattle.run_account.specs.Ledger.{IsEntry, LedgerEntry, IsLedger}
 use Rattle.run_account.specs.Nodes.{task_of, node_of}

@@ -1,6 +1,6 @@
 -- Step 6, entry_from_higher and preemptor_within_useful: an entry comes from higher tasks, and those of a job with one
 -- preemptor are at most the useful sets of one node.
-use Rattle.std.proofs.Common.{◌≡◌, ℕ, ◌<◌, ◌≤◌, Bool, true, length, refl, sym, ◌∙◌, ap, subst, arith}
+use Rattle.std.proofs.Common.{◌≡◌, ℕ, ◌<◌, ◌≤◌, Bool, true, refl, sym, ◌∙◌, ap, subst, arith}
 use Rattle.crpd_base.specs.declared.data.Platform.{Platform}
 use Rattle.evict_sets.specs.Full.{FullUseful}
 use Rattle.evict_sets.specs.Certificate.{listed_of, cert_at}
@@ -38,7 +38,7 @@ module _ (K : CheckedRun) where
   sets_met x h = let M = (met K x h).all in record { states = M.states; useful = M.useful; sets = M.sets }
 
   -- an entry with its preemptor, and with its evictor
-  of_run : (n x p : ℕ) (e : IsPreempted s graphs c n x p) → IsOfRun s graphs c (record { job = x; set = fetched_set s e.fetch; time = n; evictor = e.is.evictor.job; preemptor = p })
+  abbrev of_run : (n x p : ℕ) (e : IsPreempted s graphs c n x p) → IsOfRun s graphs c (record { job = x; set = fetched_set s e.fetch; time = n; evictor = e.is.evictor.job; preemptor = p })
   of_run n x p e =
       record {
         evicted = record { fetch = e.fetch; entry = e.entry; time = e.time; last = e.is.evictor; is = record { last = e.is.last; by = refl } };
