@@ -1,5 +1,5 @@
 -- The facts of an account's entries.
-use Rattle.std.proofs.Common.{ℕ}
+use Rattle.std.proofs.Common.{ℕ, ◌<◌, length}
 use Rattle.loop_regions.specs.Nest.{Nest}
 use Rattle.run_account.specs.declared.run.Run.{Run}
 use Rattle.run_account.specs.declared.told.Account.{Account}

@@ -13,18 +13,18 @@ use Rattle.evict_sets.specs.Full.{IsHit, FullUseful}
 use Rattle.evict_sets.specs.Certificate.{listed_of, cert_at}
 use Rattle.evict_sets.proofs.WalkLaws.{first_here, first_on, walk_carry_law}
 use Rattle.preempt_machine.specs.Safe.{IsKept}
-use Rattle.preempt_machine.specs.Step.{before, Fetch, Start, state}
+use Rattle.preempt_machine.specs.Step.{before, Fetch, Start, state, fetch_at}
 use Rattle.preempt_machine.proofs.Steps.{none_some}
-use Rattle.run_account.specs.Facts.{MeetsSets, AreSetsMet, IsOfHigher, AreDistinct, LedgerFacts}
-use Rattle.run_account.specs.Fetches.{job_of, fetched_set, HasCache}
-use Rattle.run_account.specs.Ledger.{LedgerEntry, IsOfRun}
+use Rattle.run_account.specs.Facts.{MeetsSets, AreSetsMet, IsOfHigher, AreDistinct, HasFacts, LedgerFacts}
+use Rattle.run_account.specs.Fetches.{job_of, fetched_set, HasCache, IsLastFetchTo}
+use Rattle.run_account.specs.Ledger.{LedgerEntry, IsOfRun, IsLedger}
 use Rattle.run_account.specs.Nodes.{task_of, node_of}
 use Rattle.run_account.specs.Reloads.{FetchesAt, IsReload, IsEvictor, IsPreemptor, IsPassing}
 use Rattle.run_account.specs.Walks.{fetched_nodes, HasGraphs, IsReloaded}
 use Rattle.run_account.proofs.Gaps.{one_gap_per_preemptor}
 use Rattle.run_account.proofs.JobWalks.{nodes_fetch, kept_one, each_kept, address_at, pc_of, fetcher_below, entry_is_reload, nodes_step}
 use Rattle.run_account.proofs.OneLedger.{last_job}
-use Rattle.run_account.proofs.ReloadLaws.{same_fetch, gap_is_of_higher, evictor_is_other, one_reload_per_evictor_and_set, one_job_per_preemptor}
+use Rattle.run_account.proofs.ReloadLaws.{fetcher_open, same_fetch, gap_is_of_higher, evictor_is_other, one_reload_per_evictor_and_set, one_job_per_preemptor}
 
 -- nodes at the end
 pub onto_last : (later : List ℕ) (z : ℕ) (w : List ℕ) → onto (later ++ z ∷ []) w ≡ z ∷ onto later w

@@ -5,7 +5,7 @@ use Rattle.crpd_base.specs.declared.data.Certificate.{Certificate}
 use Rattle.crpd_base.specs.declared.data.Platform.{Platform}
 use Rattle.crpd_base.specs.declared.data.TaskPart.{TaskPart}
 use Rattle.crpd_base.specs.Sets.{has}
-use Rattle.icache.specs.Accesses.{accesses}
+use Rattle.icache.specs.Accesses.{Accesses, accesses}
 use Rattle.loop_regions.specs.TaskGraph.{TaskGraph}
 use Rattle.evict_sets.specs.Full.{FullUseful}
 use Rattle.evict_sets.specs.Clauses.{StatesMeet, UsefulMeets, SetsMeet}

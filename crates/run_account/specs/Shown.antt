@@ -1,6 +1,7 @@
 -- The graphs of tasks as they are kept, and what an account asks of them and of a certificate.
 use Rattle.std.specs.Prelude.{◌≡◌, ℕ, ◌<◌, List, [], length, slice_index_or}
 use Rattle.crpd_base.specs.declared.data.Certificate.{Certificate}
+use Rattle.crpd_base.specs.declared.data.Script.{Script}
 use Rattle.crpd_base.specs.declared.data.TaskSet.{TaskSet}
 use Rattle.crpd_base.specs.Sets.{has}
 use Rattle.code_map.specs.Words.{Code}
@@ -10,6 +11,9 @@ use Rattle.loop_regions.specs.TaskGraph.{TaskGraph}
 use Rattle.loop_regions.specs.TaskSteps.{IsGraphOfTask}
 use Rattle.evict_sets.specs.Clauses.{ListsLeaders, StatesMeet, UsefulMeets, SetsMeet}
 use Rattle.evict_sets.specs.Certificate.{listed_of, cert_at}
+use Rattle.preempt_machine.specs.Safe.{system_of}
+use Rattle.preempt_machine.specs.Starts.{start_cache, start_memory}
+use Rattle.preempt_machine.specs.Step.{Start}
 use Rattle.run_account.specs.Case.{HasLowSets, fetches}
 
 abbrev pub no_graph : CodeGraph

@@ -1,7 +1,7 @@
 -- For step 6: the set of an entry is useful at the node to which its job went on.
-use Rattle.std.proofs.Common.{◌≡◌, ◌≢◌, ◌⊎◌, ℕ, zero, suc, ◌<◌, ◌≤◌, true, List, [], ◌∷◌, ◌++◌, length, Option, Some, None, refl, sym, ◌∙◌, ap, subst, inl, inr, arith}
-use Rattle.std.specs.Prelude.{Bool, ◌==◌}
-use Rattle.std.proofs.lemmas.Bool.{cases_Bool, cases_eq, eq-eqb, eqb-true}
+use Rattle.std.proofs.Common.{◌≡◌, ◌≢◌, ℕ, zero, suc, ◌<◌, ◌≤◌, true, List, [], ◌∷◌, ◌++◌, length, Some, None, sym, ◌∙◌, ap, subst, inl, inr, arith}
+use Rattle.std.specs.Prelude.{Bool}
+use Rattle.std.proofs.lemmas.Bool.{cases_eq}
 use Rattle.crpd_base.specs.declared.data.TaskSet.{TaskSet}
 use Rattle.icache.specs.Accesses.{Accesses, first_access}
 use Rattle.icache.specs.Cache.{block_of, set_of}
@@ -13,9 +13,9 @@ use Rattle.crpd_base.specs.declared.data.TaskPart.{TaskPart}
 use Rattle.evict_sets.specs.Certificate.{listed_of}
 use Rattle.loop_regions.specs.TaskGraph.{TaskGraph}
 use Rattle.cert_check.specs.Judge.{accesses_of}
-use Rattle.preempt_machine.specs.Step.{Fetch, Start, state, fetch_at}
+use Rattle.preempt_machine.specs.Step.{Fetch, Start, state}
 use Rattle.preempt_machine.specs.Safe.{NamesTasks}
-use Rattle.preempt_machine.proofs.Steps.{fetch_says, fetch_left, none_some}
+use Rattle.preempt_machine.proofs.Steps.{fetch_says, fetch_left}
 use Rattle.run_account.specs.Fetches.{job_of, fetched_set}
 use Rattle.run_account.specs.Nodes.{task_of, node_of}
 use Rattle.run_account.specs.Reloads.{FetchesAt}
