@@ -1,5 +1,5 @@
 -- The nodes of a job's fetches, and that they are a kept walk of its task's graph.
-use Rattle.std.specs.Prelude.{◌≡◌, ◌≢◌, ℕ, zero, suc, ◌<◌, ◌≤◌, true, ◌==◌, if◌then◌else◌, List, [], ◌∷◌, length, drop, Option, Some, None}
+use Rattle.std.specs.Prelude.{◌≡◌, ◌≢◌, ℕ, ◌<◌, ◌≤◌, true, ◌==◌, if◌then◌else◌, List, [], ◌∷◌, length, drop, Some}
 use Rattle.crpd_base.specs.declared.data.TaskPlan.{TaskPlan}
 use Rattle.crpd_base.specs.declared.data.TaskSet.{TaskSet}
 use Rattle.rv_decode.specs.Flow.{Words, IsCodeMap, flows}
@@ -12,7 +12,7 @@ use Rattle.loop_regions.specs.TaskGraph.{TaskGraph}
 use Rattle.cert_check.specs.Judge.{IsGraphOf}
 use Rattle.crpd_base.specs.Tasks.{deadline_of}
 use Rattle.preempt_machine.specs.Machine.{System, Job, plan_of}
-use Rattle.preempt_machine.specs.Step.{is_open, Fetch, Start, fetch_at}
+use Rattle.preempt_machine.specs.Step.{is_open, Start}
 use Rattle.preempt_machine.specs.Safe.{NamesTasks}
 use Rattle.run_account.specs.Fetches.{job_of}
 use Rattle.run_account.specs.Nodes.{task_of, plan_at, node_of}

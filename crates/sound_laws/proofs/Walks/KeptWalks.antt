@@ -1,7 +1,7 @@
 -- Step 3, fetches_are_kept_walk: while its watch is not broken, each job's fetches are a kept walk of its task's graph.
-use Rattle.std.proofs.Common.{◌≡◌, ◌≢◌, ℕ, zero, suc, ◌<◌, ◌≤◌, true, false, [], length, Option, Some, None, refl, sym, ◌∙◌, ap, subst, inl, inr, arith}
+use Rattle.std.proofs.Common.{◌≡◌, ℕ, zero, suc, ◌<◌, ◌≤◌, true, [], length, Some, None, refl, sym, ◌∙◌, ap, subst, inl, inr, arith}
 use Rattle.std.specs.Prelude.{◌==◌}
-use Rattle.std.proofs.lemmas.Bool.{cases_Bool, eq-eqb, eqb-true, false≢true, true≢false}
+use Rattle.std.proofs.lemmas.Bool.{eq-eqb, false≢true}
 use Rattle.crpd_base.specs.declared.data.Platform.{Platform}
 use Rattle.crpd_base.specs.declared.data.ScriptJob.{ScriptJob}
 use Rattle.crpd_base.specs.declared.data.TaskSet.{TaskSet}
@@ -12,7 +12,7 @@ use Rattle.loop_regions.proofs.Watched.{watch_start_law}
 use Rattle.loop_regions.specs.TaskGraph.{TaskGraph}
 use Rattle.cert_check.specs.Judge.{IsGraphOf}
 use Rattle.preempt_machine.specs.Machine.{Job, no_job, plan_of}
-use Rattle.preempt_machine.specs.Step.{is_open, Turn, turn_of, turned, makes_fetch, Fetch, Start, state, fetch_at}
+use Rattle.preempt_machine.specs.Step.{is_open, Turn, turn_of, turned, Start, state}
 use Rattle.preempt_machine.specs.Safe.{NamesTasks}
 use Rattle.preempt_machine.proofs.Steps.{candidate_some, step_own, step_other}
 use Rattle.run_account.specs.Fetches.{job_of}

@@ -1,6 +1,6 @@
 -- For step 3: a turn of a job on a walk goes on with the walk.
 use Rattle.std.proofs.Common.{◌≡◌, ◌≢◌, ℕ, ◌<◌, ◌≤◌, true, false, not, List, [], ◌∷◌, Some, None, refl, sym, ◌∙◌, ap, subst, inl, inr, arith}
-use Rattle.std.specs.Prelude.{◌==◌, if◌then◌else◌, drop}
+use Rattle.std.specs.Prelude.{◌==◌, drop}
 use Rattle.std.proofs.lemmas.Bool.{cases_Bool, cases_eq, and_from, eqb-false, eq-eqb, ne_eqb, false≢true}
 use Rattle.crpd_base.specs.declared.data.TaskPlan.{TaskPlan}
 use Rattle.rv_decode.specs.Address.{end}
