@@ -9,7 +9,6 @@ pub mod OneNest
 pub mod OneJudgement
 pub mod Plans
 pub mod Nests
-pub mod InRange
 pub mod Bounds
 pub mod Built
 pub mod SameTask
