@@ -12,6 +12,7 @@ use Rattle.flat_graph.specs.CodeGraph.{CodeGraph, graph_of, places_of}
 use Rattle.flat_graph.specs.Graph.{IsGraph}
 use Rattle.loop_regions.specs.CodeNest.{CodeNest, nest_of}
 use Rattle.evict_sets.specs.Certificate.{cert_at}
+use Rattle.delay_count.specs.Demand.{demand}
 use Rattle.response.specs.Windows.{IsFirstWithout, method_at, window_at as chosen_window}
 use Rattle.cert_check.specs.Answered.{answer_of}
 use Rattle.cert_check.specs.Judge.{accesses_of, longest_at, part_of, window_at}
@@ -143,7 +144,7 @@ module _ (old new : Side) (c : Certificate) (O : IsTaskSet old.set) (S : IsTaskS
         (alike_parts k (task_at xs k) (task_at ys k) (X.each k lt) (Y.each k lt)).1)
 
     -- the first task without a window by one of them is not before that by the other
-    not_before : (i j : ℕ) → IsFirstWithout new.set (needs_at xs) (longest_at new.set.platform new.graphs) i → IsFirstWithout new.set (needs_at ys) (longest_at new.set.platform new.graphs) j → i < j → ⊥
+    not_before : (i j : ℕ) → IsFirstWithout new.set (demand new.set (needs_at xs) (longest_at new.set.platform new.graphs)) i → IsFirstWithout new.set (demand new.set (needs_at ys) (longest_at new.set.platform new.graphs)) j → i < j → ⊥
     not_before i j F H lt =
         has_window new.set (longest_at new.set.platform new.graphs) times (needs_at xs) (needs_at ys) same_needs i F
         (chosen_window H.higher) (method_at H.higher) (λ k l. H.each k (omega (arith, l, lt)))
