@@ -110,13 +110,7 @@ impl Paid<'_> {
         ensures small { result < 18446744073709551616 }
     {
         let hit = self.hits[source.0 as usize];
-        u128::from(edge_cost(
-            self.graph,
-            self.platform,
-            source,
-            target,
-            hit,
-        ))
+        u128::from(edge_cost(self.graph, self.platform, source, target, hit))
     }
 
     /// Whether a node pays for its edge to the end, where it is an answering one.

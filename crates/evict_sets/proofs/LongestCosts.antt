@@ -1,6 +1,6 @@
 -- The longest cost of one instruction of a task is from 1 to 2^18.
 use Rattle.std.proofs.Common.{◌≡◌, ◌⊎◌, ℕ, zero, suc, ◌+◌, ◌<◌, ◌≤◌, Bool, true, false, if◌then◌else◌, List, [], ◌∷◌, length, Option, Some, None, Contains, IsTrue, refl, sym, subst, inl, inr, ⊎_elim, arith}
-use Rattle.std.specs.Prelude.{reverse, ◌&&◌, ◌==◌, ◌%◌, not}
+use Rattle.std.specs.Prelude.{reverse, ◌==◌, ◌%◌, not}
 use Rattle.std.proofs.lemmas.Bool.{cases_eq, false≢true}
 use Rattle.std.proofs.lemmas.List.{length-reverse}
 use Rattle.crpd_base.specs.Ranges.{IsPlatform}
