@@ -11,8 +11,17 @@ use crate::fault::CertError;
 use crate::keys::Keys;
 use crate::kinds::{line, switching};
 use crate::version::Version;
-use crpd_base::{Platform, Switching};
+use crpd_base::{Platform, SETS, Switching};
 use std::alloc::Global;
+
+/// The greatest cost of a platform, in cycles.
+const MOST_CYCLES: u32 = 65_535;
+
+/// The most cache sets of a platform.
+const MOST_SETS: u32 = SETS as u32;
+
+/// The most cache sets of a platform of version 1.
+const FIRST_SETS: u32 = 256;
 
 #[tactic(auto, unfolding(crate::specs::Keys::required))]
 fn line_at(alloc: Global, keys: Keys) -> Result<u32, CertError>
@@ -35,7 +44,7 @@ fn switching_at(alloc: Global, keys: Keys) -> Result<Switching, CertError>
 fn cycles_at(alloc: Global, keys: Keys, key: &str) -> Result<u32, CertError>
     ensures { Gives CertError.Memory (λ x. x) result (required spec.cycles keys.entry.path.now key.now (members_view keys.entry.object.now.entries)) }
 {
-    keys.small_number(alloc, key, 0, 65535)
+    keys.small_number(alloc, key, 0, MOST_CYCLES)
 }
 
 /// A platform of version 1, which has no cycles for multiplication and division.
@@ -44,10 +53,10 @@ fn first_platform(alloc: Global, keys: Keys) -> Result<Platform, CertError>
     ensures { Gives CertError.Memory (λ x. x) result (spec.first_platform keys.entry.path.now (members_view keys.entry.object.now.entries)) }
 {
     let memory = cycles_at(alloc, keys, "data")?;
-    let hit = keys.small_number(alloc, "hit", 1, 65535)?;
+    let hit = keys.small_number(alloc, "hit", 1, MOST_CYCLES)?;
     let line = line_at(alloc, keys)?;
     let miss = cycles_at(alloc, keys, "miss")?;
-    let sets = keys.small_number(alloc, "sets", 1, 256)?;
+    let sets = keys.small_number(alloc, "sets", 1, FIRST_SETS)?;
     let switch = cycles_at(alloc, keys, "switch")?;
     let taken = cycles_at(alloc, keys, "taken")?;
     Ok(Platform {
@@ -71,11 +80,11 @@ fn second_platform(alloc: Global, keys: Keys) -> Result<Platform, CertError>
 {
     let memory = cycles_at(alloc, keys, "data")?;
     let div = cycles_at(alloc, keys, "div")?;
-    let hit = keys.small_number(alloc, "hit", 1, 65535)?;
+    let hit = keys.small_number(alloc, "hit", 1, MOST_CYCLES)?;
     let line = line_at(alloc, keys)?;
     let miss = cycles_at(alloc, keys, "miss")?;
     let mul = cycles_at(alloc, keys, "mul")?;
-    let sets = keys.small_number(alloc, "sets", 1, 512)?;
+    let sets = keys.small_number(alloc, "sets", 1, MOST_SETS)?;
     let switch = cycles_at(alloc, keys, "switch")?;
     let switching = switching_at(alloc, keys)?;
     let taken = cycles_at(alloc, keys, "taken")?;

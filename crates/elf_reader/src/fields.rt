@@ -7,13 +7,21 @@ use byteorder::{ByteOrder, LittleEndian};
 
 // The places of the fields in the file's header, with the names of the ELF specification.
 pub(crate) const E_TYPE: usize = 16;
+
 pub(crate) const E_MACHINE: usize = 18;
+
 pub(crate) const E_ENTRY: usize = 24;
+
 pub(crate) const E_PHOFF: usize = 28;
+
 pub(crate) const E_SHOFF: usize = 32;
+
 pub(crate) const E_PHENTSIZE: usize = 42;
+
 pub(crate) const E_PHNUM: usize = 44;
+
 pub(crate) const E_SHENTSIZE: usize = 46;
+
 pub(crate) const E_SHNUM: usize = 48;
 
 /// The bytes of the file's header.

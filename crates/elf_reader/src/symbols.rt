@@ -8,8 +8,8 @@ ghost use Rattle.elf_reader.specs.Symbols as spec;
 use crate::entries::{SectionHeader, SymbolEntry};
 use crate::fault::ElfError;
 use crate::fields::{
-    E_SHENTSIZE, E_SHNUM, E_SHOFF, SECTION_HEADER, SYMBOL_ENTRY, half, section_header, symbol_entry,
-    word,
+    E_SHENTSIZE, E_SHNUM, E_SHOFF, SECTION_HEADER, SYMBOL_ENTRY, half, section_header,
+    symbol_entry, word,
 };
 use crpd_base::{Items, Symbol};
 use std::alloc::{AllocError, Global};
@@ -159,7 +159,11 @@ fn each_symbol(
 {
     let mut symbols = Vec::new(alloc);
     for i in 0..count {
-        if let Some(found) = symbol(alloc, strings, symbol_entry(bytes, start + SYMBOL_ENTRY * i))? {
+        if let Some(found) = symbol(
+            alloc,
+            strings,
+            symbol_entry(bytes, start + SYMBOL_ENTRY * i),
+        )? {
             symbols.push(found)?;
         }
     }

@@ -20,7 +20,6 @@ use Rattle.crpd_base.specs.Ranges.{IsPlatform, IsLoopSpec, IsTaskSpec, HaveOwnNa
 use Rattle.toml.specs.Data.{Data, integer, Members, as_table, as_str, get_member}
 use Rattle.toml.specs.Parse.{parse_document}
 use Rattle.toml_keys.specs.declared.fault.KeyError.{KeyError}
-use Rattle.toml_keys.specs.Kinds.{only}
 use Rattle.toml_keys.specs.Reading.{Gives, all_known, required, optional, whole, listed, each, item_path, present, good, at_most}
 use Rattle.toml_keys.proofs.Laws.{bind_ok, guard_ok, ok_is, each_all, each_length}
 use Rattle.toml_keys.proofs.Ranged.{IsBetween, only_ok, whole_between, required_ok, optional_ok, required_between, optional_within, at_most_ok}
@@ -210,18 +209,8 @@ distinct_ranged tasks xs some few each e =
     subst AreTasks own.1
     (record { some = some; few = few; each = All-from_recursion IsTaskSpec tasks each; names = names_apart [] tasks no_pairs own.0 })
 
-some_by : (o : Option (List Members)) (ts : List Members) → only (λ (l : List Members). nat_le 1 (length l)) o ≡ Some ts → 1 ≤ length ts
-some_by None ts e = absurd cc
-some_by (Some us) ts e =
-    elim (cases_Bool (nat_le 1 (length us))) [
-      | inl fits ↦ let f = rw fits at e in
-          let same : us ≡ ts = cc in
-          subst (λ (l : List Members). 1 ≤ length l) same (leb-true _ _ fits)
-      | inr none ↦ absurd (let f = rw none at e in cc)
-    ]
-
 some_tables : (d : Data) (ts : List Members) → task_tables d ≡ Some ts → 1 ≤ length ts
-some_tables d ts e = some_by (listed as_table d) ts e
+some_tables d ts e = leb-true _ _ (only_ok (λ (l : List Members). nat_le 1 (length l)) (listed as_table d) ts e).0
 
 tasks_ranged : (ms : Members) (tasks : List TaskSpec) → tasks_at ms ≡ Ok tasks → AreTasks tasks
 unfolding tasks_at
