@@ -20,13 +20,9 @@ use Rattle.code_map.specs.Words.{Code, word_at}
 use Rattle.code_map.specs.declared.fault.MapError.TheVariants.{EntryOutside}
 use Rattle.loop_regions.specs.CodeNest.{AreBounded}
 use Rattle.crpd_input.specs.Graphs.{HasBoundedLoops}
+use Rattle.crpd_input.proofs.Plans.{then_ok}
 
--- the value on which a step went on
-then_ok : {A B E : Type 0} (r : Result A E) (f : A → Result B E) (y : B) → (r >>= f) ≡ Ok y → (x : A) × (r ≡ Ok x) × (f x ≡ Ok y)
-then_ok (Ok x) f y e = (x, refl, e)
-then_ok (Err x) f y e = absurd cc
-
-value_is : {A E : Type 0} (x y : A) → ◌≡◌ {A = Result A E} (Ok x) (Ok y) → x ≡ y
+pub value_is : {A E : Type 0} (x y : A) → ◌≡◌ {A = Result A E} (Ok x) (Ok y) → x ≡ y
 value_is x y e = cc
 
 abbrev IsBounded : LoopAt → Type 0

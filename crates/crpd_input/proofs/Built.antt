@@ -15,16 +15,14 @@ use Rattle.cert_check.proofs.Built.{graph_of_law}
 use Rattle.preempt_machine.specs.Machine.{plan_of}
 use Rattle.preempt_machine.specs.Safe.{system_of}
 use Rattle.crpd_input.specs.declared.input.Input.{Input}
-use Rattle.crpd_input.specs.declared.refusal.Refusal.{Refusal}
+use Rattle.crpd_input.specs.declared.halt.Halt.{Halt}
 use Rattle.crpd_input.specs.declared.shapes.Shapes.{Shapes}
 use Rattle.crpd_input.specs.Graphs.{GraphsIn, RegionsIn}
 use Rattle.crpd_input.specs.Shapes.{ShapesIn}
+use Rattle.crpd_input.proofs.Bounds.{value_is}
 use Rattle.crpd_input.proofs.Given.{IsInput}
 
-value_is : {A E : Type 0} (x y : A) → ◌≡◌ {A = Result A E} (Ok x) (Ok y) → x ≡ y
-value_is x y e = cc
-
-not_refused : {A : Type 0} (x : A) (r : Refusal) → ◌≡◌ {A = Result A Refusal} (Ok x) (Err r) → ⊥
+not_refused : {A : Type 0} (x : A) (r : Halt) → ◌≡◌ {A = Result A Halt} (Ok x) (Err r) → ⊥
 not_refused x r e = cc
 
 -- the graphs of all tasks, and their regions
@@ -36,7 +34,7 @@ made : (input : Input) (shapes : Shapes) → ShapesIn input (Ok shapes) → AreM
 made input shapes given =
     elim given [
       | inl x ↦ elim x.2 [
-        | inl y ↦ subst (AreMade input) (value_is {E = Refusal} (record { graphs = x.0; nests = y.0 }) shapes y.2) (record { graphs = x.1; nests = y.1 })
+        | inl y ↦ subst (AreMade input) (value_is {E = Halt} (record { graphs = x.0; nests = y.0 }) shapes y.2) (record { graphs = x.1; nests = y.1 })
         | inr y ↦ absurd (not_refused shapes y.0 y.2)
       ]
       | inr x ↦ absurd (not_refused shapes x.0 x.2)

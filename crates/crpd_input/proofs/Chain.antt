@@ -2,10 +2,9 @@
 use Rattle.std.proofs.Common.{Result, Ok, Err, refl, inl, inr}
 use Rattle.crpd_input.specs.declared.halt.Halt.{Halt}
 use Rattle.crpd_input.specs.declared.halt.Halt.TheVariants.{Refused, Memory, Fault}
-use Rattle.crpd_input.specs.declared.refusal.Refusal.{Refusal}
 use Rattle.crpd_input.specs.Steps.{Exactly, Means, MeansBy, StopsBy, Then}
 
-module _ {A B : Type 0} (P : Result A Refusal → Type 0) (next : A → Result B Refusal → Type 0) where
+module _ {A B : Type 0} (P : Result A Halt → Type 0) (next : A → Result B Halt → Type 0) where
   -- a step gave a value, and the next ones end so
   pub goes_on : (value : A) (result : Result B Halt) → P (Ok value) → MeansBy (next value) result → MeansBy (Then P next) result
   goes_on value (Ok x) here later = inl (value, here, later)
@@ -15,12 +14,12 @@ module _ {A B : Type 0} (P : Result A Refusal → Type 0) (next : A → Result B
 
   -- a step stopped
   pub stopped : (halt : Halt) → StopsBy P halt → StopsBy (Then P next) halt
-  stopped (Refused r) here = inr (r, here, refl)
+  stopped (Refused r) here = inr (Refused r, here, refl)
   stopped Memory here = tt
   stopped Fault here = tt
 
 -- a step with one end
-pub by_exactly : {A : Type 0} (meant : Result A Refusal) (result : Result A Halt) → Means meant result → MeansBy (Exactly meant) result
+pub by_exactly : {A : Type 0} (meant : Result A Halt) (result : Result A Halt) → Means meant result → MeansBy (Exactly meant) result
 by_exactly meant (Ok x) is = is
 by_exactly meant (Err (Refused r)) is = is
 by_exactly meant (Err Memory) is = tt

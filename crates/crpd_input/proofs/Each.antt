@@ -1,4 +1,4 @@
--- A step for each item of a list, up to the first refusal.
+-- A step for each item of a list, up to the first stop.
 use Rattle.std.proofs.Common.{◌≡◌, ℕ, zero, suc, ◌+◌, ◌<◌, ◌≤◌, List, [], ◌∷◌, ◌++◌, length, get_or, take, drop, Some, None, Ok, Err, refl, ap, sym, ◌∙◌, arith}
 use Rattle.std.specs.Prelude.{All, Result, position}
 use Rattle.std.specs.Str.{bytes_eq}
@@ -8,17 +8,16 @@ use Rattle.std.proofs.lemmas.List.Quantifiers.{position-Some}
 use Rattle.std.proofs.lemmas.Slice.Eq.{bytes_eq-Decides}
 use Rattle.crpd_base.specs.declared.data.Image.{Image}
 use Rattle.crpd_base.specs.declared.data.TaskSpec.{TaskSpec}
-use Rattle.crpd_input.specs.declared.refusal.Refusal.{Refusal}
-use Rattle.crpd_base.specs.declared.data.Place.TheVariants.{Number}
 use Rattle.crpd_input.specs.declared.halt.Halt.{Halt}
+use Rattle.crpd_base.specs.declared.data.Place.TheVariants.{Number}
 use Rattle.crpd_input.specs.declared.halt.Halt.TheVariants.{Refused, Memory, Fault}
 use Rattle.crpd_input.specs.Steps.{and_then, each, Stops}
 
-module _ {A B : Type 0} (step : A → Result B Refusal) where
-  pair_ok : (r : Result B Refusal) (rs : Result (List B) Refusal) (y : B) (ys : List B) → r ≡ Ok y → rs ≡ Ok ys → and_then r (λ y. and_then rs (λ ys. Ok (y ∷ ys))) ≡ Ok (y ∷ ys)
+module _ {A B : Type 0} (step : A → Result B Halt) where
+  pair_ok : (r : Result B Halt) (rs : Result (List B) Halt) (y : B) (ys : List B) → r ≡ Ok y → rs ≡ Ok ys → and_then r (λ y. and_then rs (λ ys. Ok (y ∷ ys))) ≡ Ok (y ∷ ys)
   pair_ok r rs y ys a b = rw (a, b) refl
 
-  parts : (r : Result B Refusal) (rs : Result (List B) Refusal) (ys : List B) → and_then r (λ y. and_then rs (λ ys. Ok (y ∷ ys))) ≡ Ok ys
+  parts : (r : Result B Halt) (rs : Result (List B) Halt) (ys : List B) → and_then r (λ y. and_then rs (λ ys. Ok (y ∷ ys))) ≡ Ok ys
       → (y : B) × (zs : List B) × (r ≡ Ok y) × (rs ≡ Ok zs) × (ys ≡ y ∷ zs)
   parts (Ok y) (Ok zs) ys e = (y, zs, refl, refl, cc)
   parts (Ok y) (Err r) ys e = absurd cc
@@ -36,11 +35,11 @@ module _ {A B : Type 0} (step : A → Result B Refusal) where
   unfolding each
   behind x xs y ys a b = pair_ok (step x) (each step xs) y ys a b
 
-  stops_here : (x : A) (xs : List A) (e : Refusal) → step x ≡ Err e → each step (x ∷ xs) ≡ Err e
+  stops_here : (x : A) (xs : List A) (e : Halt) → step x ≡ Err e → each step (x ∷ xs) ≡ Err e
   unfolding each
   stops_here x xs e h = rw h refl
 
-  stops_behind : (x : A) (xs : List A) (y : B) (e : Refusal) → step x ≡ Ok y → each step xs ≡ Err e → each step (x ∷ xs) ≡ Err e
+  stops_behind : (x : A) (xs : List A) (y : B) (e : Halt) → step x ≡ Ok y → each step xs ≡ Err e → each step (x ∷ xs) ≡ Err e
   unfolding each
   stops_behind x xs y e a b = rw (a, b) refl
 
@@ -54,7 +53,7 @@ module _ {A B : Type 0} (step : A → Result B Refusal) where
       let f = front w xs ys e in
       behind w (xs ++ x ∷ []) f.0 (f.1 ++ y ∷ []) f.2 (more xs f.1 x y f.3 h) ∙ ap (λ zs. Ok (zs ++ y ∷ [])) (sym f.4)
 
-  stops : (xs : List A) (ys : List B) (x : A) (zs : List A) (r : Refusal) → each step xs ≡ Ok ys → step x ≡ Err r → each step (xs ++ x ∷ zs) ≡ Err r
+  stops : (xs : List A) (ys : List B) (x : A) (zs : List A) (r : Halt) → each step xs ≡ Ok ys → step x ≡ Err r → each step (xs ++ x ∷ zs) ≡ Err r
   stops [] ys x zs r e h = stops_here x zs r h
   stops (w ∷ xs) ys x zs r e h = let f = front w xs ys e in stops_behind w (xs ++ x ∷ zs) f.0 r f.2 (stops xs f.1 x zs r f.3 h)
 
@@ -80,7 +79,7 @@ module _ {A B : Type 0} (step : A → Result B Refusal) where
   pub one_more : (xs : List A) (i : ℕ) (x : A) (ys : List B) (y : B) → i < length xs → x ≡ get_or xs i x → each step (take i xs) ≡ Ok ys → step x ≡ Ok y → each step (take (i + 1) xs) ≡ Ok (ys ++ y ∷ [])
   one_more xs i x ys y lt is e h = ap (each step) (take_more xs i x lt ∙ ap (λ z. take i xs ++ z ∷ []) (sym is)) ∙ more (take i xs) ys x y e h
 
-  pub one_refused : (xs : List A) (i : ℕ) (x : A) (ys : List B) (r : Refusal) → i < length xs → x ≡ get_or xs i x → each step (take i xs) ≡ Ok ys → step x ≡ Err r → each step xs ≡ Err r
+  pub one_refused : (xs : List A) (i : ℕ) (x : A) (ys : List B) (r : Halt) → i < length xs → x ≡ get_or xs i x → each step (take i xs) ≡ Ok ys → step x ≡ Err r → each step xs ≡ Err r
   one_refused xs i x ys r lt is e h =
       ap (each step) (sym (take-append-drop i xs) ∙ ap (λ zs. take i xs ++ zs) (drop_more xs i x lt ∙ ap (λ z. z ∷ drop (i + 1) xs) (sym is)))
       ∙ stops (take i xs) ys x (drop (i + 1) xs) r e h
@@ -93,7 +92,7 @@ module _ {A B : Type 0} (step : A → Result B Refusal) where
 blank : TaskSpec
 blank = record { name = []; file = []; entry = None; period = 0; deadline = 0; jitter = 0; stack = Number 0; global = Number 0; loops = [] }
 
-pub of_earlier : (step : List ℕ → Result Image Refusal) (tasks : List TaskSpec) (images : List Image) (file : List ℕ) (k : ℕ) (d : Image)
+pub of_earlier : (step : List ℕ → Result Image Halt) (tasks : List TaskSpec) (images : List Image) (file : List ℕ) (k : ℕ) (d : Image)
     → each (λ (t : TaskSpec). step t.file) tasks ≡ Ok images → position (λ (t : TaskSpec). bytes_eq file t.file) tasks ≡ Some k → k < length tasks → step file ≡ Ok (get_or images k d)
 of_earlier step tasks images file k d e found lt =
     let p = position-Some (λ (t : TaskSpec). bytes_eq file t.file) tasks k blank found in
@@ -102,7 +101,7 @@ of_earlier step tasks images file k d e found lt =
 
 -- ---- the stop at one item
 
-pub stops_whole : {A B : Type 0} (one : Result A Refusal) (whole : Result B Refusal) (halt : Halt) → ((r : Refusal) → one ≡ Err r → whole ≡ Err r) → Stops one halt → Stops whole halt
-stops_whole one whole (Refused r) h s = h r s
+pub stops_whole : {A B : Type 0} (one : Result A Halt) (whole : Result B Halt) (halt : Halt) → ((r : Halt) → one ≡ Err r → whole ≡ Err r) → Stops one halt → Stops whole halt
+stops_whole one whole (Refused r) h s = h (Refused r) s
 stops_whole one whole Memory h s = tt
 stops_whole one whole Fault h s = tt

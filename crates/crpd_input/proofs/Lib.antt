@@ -10,7 +10,6 @@ pub mod OneJudgement
 pub mod OneVerdict
 pub mod Plans
 pub mod Nests
-pub mod InRange
 pub mod Bounds
 pub mod Built
 pub mod SameTask

@@ -8,12 +8,12 @@ use Rattle.code_map.specs.Words.{Code}
 use Rattle.flat_graph.specs.CodeGraph.{CodeGraph}
 use Rattle.loop_regions.specs.CodeNest.{AreBounded, CodeNest, IsNestOf}
 use Rattle.cert_check.specs.Shown.{AreShown, graph_at, no_nest}
-use Rattle.crpd_input.specs.declared.refusal.Refusal.{Refusal}
+use Rattle.crpd_input.specs.declared.halt.Halt.{Halt}
 use Rattle.crpd_input.specs.Graphs.{HasBoundedLoops}
 use Rattle.crpd_input.proofs.Below.{HasValues}
 
 -- a nest is that of the graph at a place
-abbrev pub ShownAt : List CodeGraph → ℕ → Result CodeNest Refusal → Type 0
+abbrev pub ShownAt : List CodeGraph → ℕ → Result CodeNest Halt → Type 0
 ShownAt graphs k (Ok nest) = IsNestOf (graph_at graphs k) nest
 ShownAt graphs k (Err refusal) = Unit {0}
 

@@ -22,8 +22,8 @@ use Rattle.flat_graph.specs.declared.fault.GraphError.{GraphError}
 use Rattle.flat_graph.specs.declared.fault.GraphError.TheVariants as graph
 use Rattle.flat_graph.proofs.Members.{at_contains, at_head, at_rest, head_or_rest, in_none, some_at}
 use Rattle.crpd_input.specs.declared.input.Input.{Input}
-use Rattle.crpd_input.specs.declared.refusal.Refusal.{Refusal}
-use Rattle.crpd_input.specs.Graphs.{GraphAt, IsGraphOrNot, graph_refusal, name_at}
+use Rattle.crpd_input.specs.declared.halt.Halt.{Halt}
+use Rattle.crpd_input.specs.Graphs.{GraphAt, IsGraphOrNot, graph_halt, name_at}
 use Rattle.flat_graph.proofs.Order.{before_one_way, flat_equal, flat_less, not_before_same}
 
 -- ---- lists of nodes in order
@@ -233,7 +233,7 @@ one_error code entry e d x y = x.2 ∙ ap (error_for entry) (one_refusal code en
 -- ---- the step of a task
 
 module _ (input : Input) (k : ℕ) (plan : TaskPlan) where
-  one_ending : (r s : Result CodeGraph Refusal) → IsGraphOrNot input k plan r → IsGraphOrNot input k plan s → r ≡ s
+  one_ending : (r s : Result CodeGraph Halt) → IsGraphOrNot input k plan r → IsGraphOrNot input k plan s → r ≡ s
   one_ending (Ok g) (Ok h) x y = ap Ok (one_graph (word_at input.code.images) plan.entry g h x.0 y.0)
   one_ending (Ok g) (Err s) x y =
       let m = meant (flows (word_at input.code.images)) plan.entry y.0 y.1 y.2 in
@@ -244,9 +244,9 @@ module _ (input : Input) (k : ℕ) (plan : TaskPlan) where
   one_ending (Err r) (Err s) x y =
       let m = meant (flows (word_at input.code.images)) plan.entry x.0 x.1 x.2 in
       let n = meant (flows (word_at input.code.images)) plan.entry y.0 y.1 y.2 in
-      ap (λ e. Err e) (x.3 ∙ ap (graph_refusal (name_at input k)) (one_error (flows (word_at input.code.images)) plan.entry x.0 y.0 m n) ∙ sym y.3)
+      ap (λ e. Err e) (x.3 ∙ ap (graph_halt (name_at input k)) (one_error (flows (word_at input.code.images)) plan.entry x.0 y.0 m n) ∙ sym y.3)
 
-pub one_graph_at : (input : Input) (k : ℕ) (r s : Result CodeGraph Refusal) → GraphAt input k r → GraphAt input k s → r ≡ s
+pub one_graph_at : (input : Input) (k : ℕ) (r s : Result CodeGraph Halt) → GraphAt input k r → GraphAt input k s → r ≡ s
 one_graph_at input k r s x y =
     let same : x.0 ≡ y.0 = some_same x.0 y.0 (sym x.1 ∙ y.1) in
     one_ending input k x.0 r s x.2 (subst (λ p. IsGraphOrNot input k p s) (sym same) y.2)

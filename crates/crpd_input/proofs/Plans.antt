@@ -20,7 +20,7 @@ use Rattle.rv_decode.specs.Address.{end}
 use Rattle.rv_decode.specs.Flow.{IsCodeMap}
 
 -- the value on which a step went on
-then_ok : {A B E : Type 0} (r : Result A E) (f : A → Result B E) (y : B) → (r >>= f) ≡ Ok y → (x : A) × (r ≡ Ok x) × (f x ≡ Ok y)
+pub then_ok : {A B E : Type 0} (r : Result A E) (f : A → Result B E) (y : B) → (r >>= f) ≡ Ok y → (x : A) × (r ≡ Ok x) × (f x ≡ Ok y)
 then_ok (Ok x) f y e = (x, refl, e)
 then_ok (Err x) f y e = absurd cc
 

@@ -1,4 +1,4 @@
-pub mod Names
+pub mod Causes
 pub mod Steps
 pub mod Reading
 pub mod Script

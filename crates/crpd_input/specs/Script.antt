@@ -6,19 +6,21 @@ use Rattle.script_reader.specs.Reading as script
 use Rattle.script_reader.specs.declared.fault.ScriptError.{ScriptError}
 use Rattle.script_reader.specs.declared.fault.ScriptError.TheVariants as script_fault
 use Rattle.crpd_io.specs.Outside.{Contents}
-use Rattle.crpd_input.specs.declared.refusal.Refusal.{Refusal}
-use Rattle.crpd_input.specs.Steps.{and_then, bytes_in, or_refused, plain_refusal, refusal}
+use Rattle.crpd_input.specs.declared.cause.Cause.TheVariants as cause
+use Rattle.crpd_input.specs.declared.halt.Halt.{Halt}
+use Rattle.crpd_input.specs.declared.halt.Halt.TheVariants as halt
+use Rattle.crpd_input.specs.Steps.{and_then, bytes_in, file_bytes, or_refused, plain_refusal, refusal}
 
--- the refusals of a script's file; want of memory is none, and reading never gives it
-abbrev pub script_refusal : List ℕ → ScriptError → Refusal
-script_refusal file script_fault.Memory = plain_refusal 0 file
-script_refusal file script_fault.NotToml = plain_refusal 30 file
-script_refusal file (script_fault.Missing key) = refusal 31 file key
-script_refusal file (script_fault.BadValue key) = refusal 32 file key
-script_refusal file (script_fault.UnknownTask key) = refusal 33 file key
-script_refusal file (script_fault.TooLong key) = refusal 34 file key
-script_refusal file (script_fault.UnknownKey key) = refusal 35 file key
+-- the stop of a script's file; want of memory is no refusal, and reading never gives it
+abbrev pub script_halt : List ℕ → ScriptError → Halt
+script_halt file script_fault.Memory = halt.Memory
+script_halt file script_fault.NotToml = plain_refusal cause.ScriptNotToml file
+script_halt file (script_fault.Missing key) = refusal cause.ScriptMissing file key
+script_halt file (script_fault.BadValue key) = refusal cause.ScriptBadValue file key
+script_halt file (script_fault.UnknownTask key) = refusal cause.UnknownTask file key
+script_halt file (script_fault.TooLong key) = refusal cause.ScriptTooLong file key
+script_halt file (script_fault.UnknownKey key) = refusal cause.ScriptUnknownKey file key
 
 -- the script of a file beside a set
-abbrev pub script_in : Contents → List ℕ → TaskSet → Result Script Refusal
-script_in contents name set = and_then (bytes_in 16777216 contents name) (λ bytes. or_refused (script_refusal name) (script.reading bytes set))
+abbrev pub script_in : Contents → List ℕ → TaskSet → Result Script Halt
+script_in contents name set = and_then (bytes_in file_bytes contents name) (λ bytes. or_refused (script_halt name) (script.reading bytes set))

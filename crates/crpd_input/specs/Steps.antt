@@ -1,40 +1,48 @@
--- A command is a list of steps. Each gives a value, or the refusal with which the command ends.
+-- A command is a list of steps. Each gives a value, or why the command stops.
 use Rattle.std.specs.Prelude.{◌≡◌, ◌⊎◌, ℕ, ◌<◌, List, [], ◌∷◌, length, slice_get, Option, Some, Result, Ok, Err, codes}
 use Rattle.crpd_io.specs.Outside.{Contents}
 use Rattle.crpd_io.specs.Whole.{file_within, FileRefusal, no_file, too_long}
-use Rattle.crpd_input.specs.declared.refusal.Refusal.{Refusal}
+use Rattle.crpd_input.specs.declared.cause.Cause.{Cause}
+use Rattle.crpd_input.specs.declared.cause.Cause.TheVariants as cause
 use Rattle.crpd_input.specs.declared.halt.Halt.{Halt}
 use Rattle.crpd_input.specs.declared.halt.Halt.TheVariants.{Refused, Memory, Fault}
 
--- one step after another: the first refusal ends them
-abbrev pub and_then : {A B : Type 0} → Result A Refusal → (A → Result B Refusal) → Result B Refusal
+-- one step after another: the first stop ends them
+abbrev pub and_then : {A B : Type 0} → Result A Halt → (A → Result B Halt) → Result B Halt
 and_then (Ok value) next = next value
-and_then (Err refusal) next = Err refusal
+and_then (Err halt) next = Err halt
 
--- each in its turn, up to the first refusal
-unfoldable pub each : {A B : Type 0} → (A → Result B Refusal) → List A → Result (List B) Refusal
+-- each in its turn, up to the first stop
+unfoldable pub each : {A B : Type 0} → (A → Result B Halt) → List A → Result (List B) Halt
 each step [] = Ok []
 each step (x ∷ xs) = and_then (step x) (λ y. and_then (each step xs) (λ ys. Ok (y ∷ ys)))
 
--- the refusal of this number of a file or a task, with a detail and without one
-abbrev pub refusal : ℕ → List ℕ → List ℕ → Refusal
-refusal number subject detail = record { number = number; subject = subject; detail = detail }
+-- the refusal of a file or a task for this cause, with a detail and without one
+abbrev pub refusal : Cause → List ℕ → List ℕ → Halt
+refusal why subject detail = Refused (record { cause = why; subject = subject; detail = detail })
 
-abbrev pub plain_refusal : ℕ → List ℕ → Refusal
-plain_refusal number subject = refusal number subject (codes "-")
+abbrev pub plain_refusal : Cause → List ℕ → Halt
+plain_refusal why subject = refusal why subject (codes "-")
 
--- what a reader gives, with its refusal as the command's
-abbrev pub or_refused : {A E : Type 0} → (E → Refusal) → Result A E → Result A Refusal
-or_refused refusal_of (Ok value) = Ok value
-or_refused refusal_of (Err e) = Err (refusal_of e)
+-- what a reader gives, with its error as the command's stop
+abbrev pub or_refused : {A E : Type 0} → (E → Halt) → Result A E → Result A Halt
+or_refused halt_of (Ok value) = Ok value
+or_refused halt_of (Err e) = Err (halt_of e)
 
-abbrev pub refused_file : {A : Type 0} → List ℕ → Result A FileRefusal → Result A Refusal
+abbrev pub refused_file : {A : Type 0} → List ℕ → Result A FileRefusal → Result A Halt
 refused_file name (Ok bytes) = Ok bytes
-refused_file name (Err no_file) = Err (plain_refusal 80 name)
-refused_file name (Err too_long) = Err (plain_refusal 81 name)
+refused_file name (Err no_file) = Err (plain_refusal cause.NoFile name)
+refused_file name (Err too_long) = Err (plain_refusal cause.FileTooLong name)
+
+-- the most bytes of a set, a script and an ELF file, and of a certificate
+abbrev pub file_bytes : ℕ
+file_bytes = 16777216
+
+abbrev pub certificate_bytes : ℕ
+certificate_bytes = 134217728
 
 -- a file's bytes, or why there are none
-abbrev pub bytes_in : ℕ → Contents → List ℕ → Result (List ℕ) Refusal
+abbrev pub bytes_in : ℕ → Contents → List ℕ → Result (List ℕ) Halt
 bytes_in most contents name = refused_file name (file_within most (contents name))
 
 -- a fact about the contents, where they are told
@@ -42,44 +50,44 @@ abbrev pub Told : Option Contents → (Contents → Type 0) → Type 0
 Told told P = (c : Contents) → told ≡ Some c → P c
 
 -- the stop is the one that is meant, want of memory and faults aside
-abbrev pub Stops : {A : Type 0} → Result A Refusal → Halt → Type 0
-Stops meant (Refused refusal) = meant ≡ Err refusal
+abbrev pub Stops : {A : Type 0} → Result A Halt → Halt → Type 0
+Stops meant (Refused refusal) = meant ≡ Err (Refused refusal)
 Stops meant Memory = Unit {0}
 Stops meant Fault = Unit {0}
 
 -- the code's answer is the one that is meant, want of memory and faults aside
-abbrev pub Means : {A : Type 0} → Result A Refusal → Result A Halt → Type 0
+abbrev pub Means : {A : Type 0} → Result A Halt → Result A Halt → Type 0
 Means meant (Ok value) = meant ≡ Ok value
 Means meant (Err halt) = Stops meant halt
 
--- this refusal, or want of memory
-abbrev pub IsRefusal : Refusal → Halt → Type 0
-IsRefusal refusal (Refused r) = r ≡ refusal
-IsRefusal refusal Memory = Unit {0}
-IsRefusal refusal Fault = ⊥
+-- this stop, or want of memory
+abbrev pub IsRefusal : Halt → Halt → Type 0
+IsRefusal meant (Refused refusal) = Refused refusal ≡ meant
+IsRefusal meant Memory = Unit {0}
+IsRefusal meant Fault = ⊥
 
 -- ---- steps of which more than one end may be meant
 
 -- exactly this end
-abbrev pub Exactly : {A : Type 0} → Result A Refusal → Result A Refusal → Type 0
+abbrev pub Exactly : {A : Type 0} → Result A Halt → Result A Halt → Type 0
 Exactly meant r = meant ≡ r
 
--- one step after another: the first refusal ends them
-abbrev pub Then : {A B : Type 0} → (Result A Refusal → Type 0) → (A → Result B Refusal → Type 0) → Result B Refusal → Type 0
-Then {A} P next r = ((value : A) × P (Ok value) × next value r) ⊎ ((refusal : Refusal) × P (Err refusal) × (r ≡ Err refusal))
+-- one step after another: the first stop ends them
+abbrev pub Then : {A B : Type 0} → (Result A Halt → Type 0) → (A → Result B Halt → Type 0) → Result B Halt → Type 0
+Then {A} P next r = ((value : A) × P (Ok value) × next value r) ⊎ ((halt : Halt) × P (Err halt) × (r ≡ Err halt))
 
--- a step for each number below n, in order: a value for each, or the refusal of one before which each has a value
-abbrev pub EachBelow : {B : Type 0} → (ℕ → Result B Refusal → Type 0) → ℕ → Result (List B) Refusal → Type 0
+-- a step for each number below n, in order: a value for each, or the stop of one before which each has a value
+abbrev pub EachBelow : {B : Type 0} → (ℕ → Result B Halt → Type 0) → ℕ → Result (List B) Halt → Type 0
 EachBelow {B} P n (Ok ys) = (length ys ≡ n) × ((k : ℕ) (y : B) → slice_get ys k ≡ Some y → P k (Ok y))
-EachBelow {B} P n (Err refusal) = (k : ℕ) × (k < n) × P k (Err refusal) × ((j : ℕ) → j < k → (y : B) × P j (Ok y))
+EachBelow {B} P n (Err halt) = (k : ℕ) × (k < n) × P k (Err halt) × ((j : ℕ) → j < k → (y : B) × P j (Ok y))
 
 -- the stop is one that is meant, want of memory and faults aside
-abbrev pub StopsBy : {A : Type 0} → (Result A Refusal → Type 0) → Halt → Type 0
-StopsBy P (Refused refusal) = P (Err refusal)
+abbrev pub StopsBy : {A : Type 0} → (Result A Halt → Type 0) → Halt → Type 0
+StopsBy P (Refused refusal) = P (Err (Refused refusal))
 StopsBy P Memory = Unit {0}
 StopsBy P Fault = Unit {0}
 
 -- the code's answer is one that is meant, want of memory and faults aside
-abbrev pub MeansBy : {A : Type 0} → (Result A Refusal → Type 0) → Result A Halt → Type 0
+abbrev pub MeansBy : {A : Type 0} → (Result A Halt → Type 0) → Result A Halt → Type 0
 MeansBy P (Ok value) = P (Ok value)
 MeansBy P (Err halt) = StopsBy P halt

@@ -3,8 +3,9 @@ ghost use Rattle.std.specs.Prelude.{◌≡◌, ◌≤◌, IsErrOf, IfOk};
 ghost use Rattle.cert_model.specs.Ranges.{IsCertificate};
 ghost use Rattle.crpd_io.specs.Outside.{Rose};
 ghost use Rattle.crpd_input.specs.Steps.{IsRefusal, Means, Told};
-ghost use Rattle.crpd_input.specs.Reading.{certificate_in, certificate_refusal};
+ghost use Rattle.crpd_input.specs.Reading.{certificate_in, certificate_halt as certificate_stop};
 
+use crate::cause::Cause;
 use crate::halt::Halt;
 use crate::load::load;
 use crate::refuse::{refuse, refuse_count, refuse_plainly};
@@ -13,17 +14,17 @@ use crpd_base::{CERTIFICATE_BYTES, Certificate};
 use crpd_io::Files;
 use std::alloc::Global;
 
-/// The refusal of a certificate's file.
+/// Why a command stops at a certificate's file.
 fn certificate_halt(alloc: Global, file: &str, error: CertError) -> Halt
-    ensures { IsRefusal (certificate_refusal file.now error) result }
+    ensures { IsRefusal (certificate_stop file.now error) result }
 {
     match error {
         CertError::Memory => Halt::Memory,
-        CertError::NotJson => refuse_plainly(alloc, 70, file),
-        CertError::Missing(key) => refuse(alloc, 71, file, key),
-        CertError::BadValue(key) => refuse(alloc, 72, file, key),
-        CertError::TooLong(count) => refuse_count(alloc, 73, file, count),
-        CertError::OtherVersion(version) => refuse_count(alloc, 74, file, version),
+        CertError::NotJson => refuse_plainly(alloc, Cause::NotJson, file),
+        CertError::Missing(key) => refuse(alloc, Cause::CertificateMissing, file, key),
+        CertError::BadValue(key) => refuse(alloc, Cause::CertificateBadValue, file, key),
+        CertError::TooLong(count) => refuse_count(alloc, Cause::CertificateTooLong, file, count),
+        CertError::OtherVersion(version) => refuse_count(alloc, Cause::OtherVersion, file, version),
     }
 }
 

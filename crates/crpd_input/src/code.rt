@@ -4,8 +4,9 @@ ghost use Rattle.crpd_base.specs.Ranges.{IsTaskSet};
 ghost use Rattle.crpd_io.specs.Outside.{Rose};
 ghost use Rattle.crpd_input.specs.Graphs.{HasBoundedLoops};
 ghost use Rattle.crpd_input.specs.Steps.{IsRefusal, Means, Told};
-ghost use Rattle.crpd_input.specs.Reading.{code_in, map_refusal, name_of as task_name_of};
+ghost use Rattle.crpd_input.specs.Reading.{code_in, map_halt as map_stop, name_of as task_name_of};
 
+use crate::cause::Cause;
 use crate::halt::Halt;
 use crate::images::load_images;
 use crate::refuse::{refuse, refuse_address};
@@ -25,16 +26,26 @@ pub fn task_name(set: &TaskSet, task: Task) -> &str
     }
 }
 
-/// The refusal of a set's code.
+/// Why a command stops at a set's code.
 fn map_halt(alloc: Global, file: &str, set: &TaskSet, error: MapError) -> Halt
-    ensures { IsRefusal (map_refusal file.now set.now error) result }
+    ensures { IsRefusal (map_stop file.now set.now error) result }
 {
     match error {
         MapError::Memory => Halt::Memory,
-        MapError::CodeConflict(address) => refuse_address(alloc, 40, file, address),
-        MapError::UnknownSymbol(task, place) => refuse(alloc, 41, task_name(set, task), place),
+        MapError::CodeConflict(address) => refuse_address(
+            alloc,
+            Cause::CodeConflict,
+            file,
+            address,
+        ),
+        MapError::UnknownSymbol(task, place) => refuse(
+            alloc,
+            Cause::UnknownSymbol,
+            task_name(set, task),
+            place,
+        ),
         MapError::EntryOutside(task, address) => {
-            refuse_address(alloc, 42, task_name(set, task), address)
+            refuse_address(alloc, Cause::EntryOutside, task_name(set, task), address)
         }
     }
 }

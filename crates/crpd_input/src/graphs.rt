@@ -1,8 +1,9 @@
 // The graphs of the tasks.
 ghost use Rattle.std.specs.Prelude.{◌≡◌, ◌≤◌, ◌<◌, length, IfOk, IsErrOf};
 ghost use Rattle.crpd_input.specs.Steps.{IsRefusal, MeansBy};
-ghost use Rattle.crpd_input.specs.Graphs.{GraphAt, GraphsIn, graph_refusal};
+ghost use Rattle.crpd_input.specs.Graphs.{GraphAt, GraphsIn, graph_halt as graph_stop};
 
+use crate::cause::Cause;
 use crate::code::task_name;
 use crate::halt::Halt;
 use crate::input::Input;
@@ -11,21 +12,41 @@ use crpd_base::{Items, Task};
 use flat_graph::{Graph, GraphError, build};
 use std::alloc::Global;
 
-/// The refusal of a task's graph.
+/// Why a command stops at a task's graph.
 fn graph_halt(alloc: Global, name: &str, error: GraphError) -> Halt
-    ensures { IsRefusal (graph_refusal name.now error) result }
+    ensures { IsRefusal (graph_stop name.now error) result }
 {
     match error {
         GraphError::Memory => Halt::Memory,
-        GraphError::Undecodable(address) => refuse_address(alloc, 50, name, address),
-        GraphError::OutsideCode(address) => refuse_address(alloc, 51, name, address),
-        GraphError::IndirectJump(address) => refuse_address(alloc, 52, name, address),
-        GraphError::OtherLink(address) => refuse_address(alloc, 53, name, address),
-        GraphError::Breakpoint(address) => refuse_address(alloc, 54, name, address),
-        GraphError::Recursive(address) => refuse_address(alloc, 55, name, address),
-        GraphError::TooManyNodes(address) => refuse_address(alloc, 56, name, address),
-        GraphError::TooDeep(address) => refuse_address(alloc, 57, name, address),
-        GraphError::Misaligned(address) => refuse_address(alloc, 58, name, address),
+        GraphError::Undecodable(address) => refuse_address(
+            alloc,
+            Cause::Undecodable,
+            name,
+            address,
+        ),
+        GraphError::OutsideCode(address) => refuse_address(
+            alloc,
+            Cause::OutsideCode,
+            name,
+            address,
+        ),
+        GraphError::IndirectJump(address) => refuse_address(
+            alloc,
+            Cause::IndirectJump,
+            name,
+            address,
+        ),
+        GraphError::OtherLink(address) => refuse_address(alloc, Cause::OtherLink, name, address),
+        GraphError::Breakpoint(address) => refuse_address(alloc, Cause::Breakpoint, name, address),
+        GraphError::Recursive(address) => refuse_address(alloc, Cause::Recursive, name, address),
+        GraphError::TooManyNodes(address) => refuse_address(
+            alloc,
+            Cause::TooManyNodes,
+            name,
+            address,
+        ),
+        GraphError::TooDeep(address) => refuse_address(alloc, Cause::TooDeep, name, address),
+        GraphError::Misaligned(address) => refuse_address(alloc, Cause::Misaligned, name, address),
     }
 }
 

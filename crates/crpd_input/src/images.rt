@@ -4,8 +4,9 @@ ghost use Rattle.std.specs.Str.{bytes_eq};
 ghost use Rattle.crpd_base.specs.Images.{IsImage};
 ghost use Rattle.crpd_io.specs.Outside.{Rose};
 ghost use Rattle.crpd_input.specs.Steps.{IsRefusal, Means, Told};
-ghost use Rattle.crpd_input.specs.Reading.{elf_refusal, image_in, images_in};
+ghost use Rattle.crpd_input.specs.Reading.{elf_halt as elf_stop, image_in, images_in};
 
+use crate::cause::Cause;
 use crate::copies::copy_image;
 use crate::halt::Halt;
 use crate::load::load;
@@ -15,23 +16,33 @@ use crpd_io::Files;
 use elf_reader::{ElfError, read_elf};
 use std::alloc::Global;
 
-/// The refusal of an ELF file.
+/// Why a command stops at an ELF file.
 fn elf_halt(alloc: Global, file: &str, error: ElfError) -> Halt
-    ensures { IsRefusal (elf_refusal file.now error) result }
+    ensures { IsRefusal (elf_stop file.now error) result }
 {
     match error {
         ElfError::Memory => Halt::Memory,
-        ElfError::Short => refuse_plainly(alloc, 1, file),
-        ElfError::NotElf => refuse_plainly(alloc, 2, file),
-        ElfError::NotElf32Little => refuse_plainly(alloc, 3, file),
-        ElfError::NotRiscV => refuse_plainly(alloc, 4, file),
-        ElfError::NotExecutable => refuse_plainly(alloc, 5, file),
-        ElfError::NotStatic(place) => refuse_count(alloc, 6, file, u64::from(place)),
-        ElfError::HeaderOutside => refuse_plainly(alloc, 7, file),
-        ElfError::SegmentOutside(place) => refuse_count(alloc, 8, file, u64::from(place)),
-        ElfError::SegmentsOverlap(place) => refuse_count(alloc, 9, file, u64::from(place)),
-        ElfError::NoCode => refuse_plainly(alloc, 10, file),
-        ElfError::SymbolsOutside => refuse_plainly(alloc, 11, file),
+        ElfError::Short => refuse_plainly(alloc, Cause::Short, file),
+        ElfError::NotElf => refuse_plainly(alloc, Cause::NotElf, file),
+        ElfError::NotElf32Little => refuse_plainly(alloc, Cause::NotElf32Little, file),
+        ElfError::NotRiscV => refuse_plainly(alloc, Cause::NotRiscV, file),
+        ElfError::NotExecutable => refuse_plainly(alloc, Cause::NotExecutable, file),
+        ElfError::NotStatic(place) => refuse_count(alloc, Cause::NotStatic, file, u64::from(place)),
+        ElfError::HeaderOutside => refuse_plainly(alloc, Cause::HeaderOutside, file),
+        ElfError::SegmentOutside(place) => refuse_count(
+            alloc,
+            Cause::SegmentOutside,
+            file,
+            u64::from(place),
+        ),
+        ElfError::SegmentsOverlap(place) => refuse_count(
+            alloc,
+            Cause::SegmentsOverlap,
+            file,
+            u64::from(place),
+        ),
+        ElfError::NoCode => refuse_plainly(alloc, Cause::NoCode, file),
+        ElfError::SymbolsOutside => refuse_plainly(alloc, Cause::SymbolsOutside, file),
     }
 }
 

@@ -1,6 +1,7 @@
 //! What the commands read: sets, images, code, graphs, regions, certificates and scripts, each with its refusals.
 #![tactic(auto)]
 
+mod cause;
 mod certificate;
 mod code;
 mod copies;
@@ -9,7 +10,6 @@ mod halt;
 mod images;
 mod input;
 mod load;
-mod names;
 mod refusal;
 mod refuse;
 mod regions;
@@ -19,12 +19,12 @@ mod script;
 mod set;
 mod shapes;
 
+pub use cause::Cause;
 pub use certificate::load_certificate;
 pub use code::{load_code, task_name};
 pub use graphs::task_graphs;
 pub use halt::Halt;
 pub use input::{Input, load_input};
-pub use names::name_of;
 pub use refusal::Refusal;
 pub use refuse::{refuse_address, refuse_count, refuse_name};
 pub use renewed::renewed_shapes;

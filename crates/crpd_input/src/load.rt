@@ -3,6 +3,7 @@ ghost use Rattle.std.specs.Prelude.{◌≡◌, ◌≤◌, IsErrOf};
 ghost use Rattle.crpd_io.specs.Outside.{Rose};
 ghost use Rattle.crpd_input.specs.Steps.{Means, Told, bytes_in};
 
+use crate::cause::Cause;
 use crate::halt::Halt;
 use crate::refuse::refuse_plainly;
 use crpd_base::Items;
@@ -25,8 +26,8 @@ pub fn load<F: Files>(
 {
     match read_all(alloc, files, name, most) {
         Ok(bytes) => Ok(Items::new(bytes)),
-        Err(FileError::NoFile) => Err(refuse_plainly(alloc, 80, name)),
-        Err(FileError::FileTooLong) => Err(refuse_plainly(alloc, 81, name)),
+        Err(FileError::NoFile) => Err(refuse_plainly(alloc, Cause::NoFile, name)),
+        Err(FileError::FileTooLong) => Err(refuse_plainly(alloc, Cause::FileTooLong, name)),
         Err(FileError::Memory) => Err(Halt::Memory),
         Err(FileError::Fault) => Err(Halt::Fault),
     }

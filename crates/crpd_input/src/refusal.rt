@@ -1,12 +1,13 @@
 // Refusals.
+use crate::cause::Cause;
 use crpd_base::Text;
 
-/// Why a file is refused. The number, from 1 to 82, gives the refusal's name; the subject is a file or a task, and the
-/// detail a key, a number, an address, a name, or `-`.
+/// That something is refused: why, for which file or task, and what is wrong there: a key, a number, an address, a name,
+/// or `-`.
 #[derive(Drop)]
 pub struct Refusal {
-    /// 1 to 82; it gives the refusal's name.
-    pub number: u32,
+    /// Why; it gives the number and the name.
+    pub cause: Cause,
     /// The name of a file or of a task.
     pub subject: Text,
     /// What is wrong there, or `-`.

@@ -4,20 +4,21 @@ ghost use Rattle.std.specs.Fmt.{decimal};
 ghost use Rattle.crpd_report.specs.Texts.{hexadecimal};
 ghost use Rattle.crpd_input.specs.Steps.{IsRefusal, plain_refusal, refusal};
 
+use crate::cause::Cause;
 use crate::halt::Halt;
 use crate::refusal::Refusal;
 use crpd_base::Text;
 use crpd_report::address_text;
 use std::alloc::Global;
 
-/// The refusal of this number with a detail.
+/// The refusal for this cause with a detail.
 /// `Memory` where there is no memory for it. Linear in the subject.
-pub fn refuse(alloc: Global, number: u32, subject: &str, detail: Text) -> Halt
-    ensures { IsRefusal (refusal number subject.now detail) result }
+pub fn refuse(alloc: Global, cause: Cause, subject: &str, detail: Text) -> Halt
+    ensures { IsRefusal (refusal cause subject.now detail) result }
 {
     match String::from_str(alloc, subject) {
         Ok(subject) => Halt::Refused(Refusal {
-            number,
+            cause,
             subject: Text::new(subject),
             detail,
         }),
@@ -25,45 +26,45 @@ pub fn refuse(alloc: Global, number: u32, subject: &str, detail: Text) -> Halt
     }
 }
 
-/// The refusal of this number without a detail.
+/// The refusal for this cause without a detail.
 /// `Memory` where there is no memory for it. Linear in the subject.
-pub fn refuse_plainly(alloc: Global, number: u32, subject: &str) -> Halt
-    ensures { IsRefusal (plain_refusal number subject.now) result }
+pub fn refuse_plainly(alloc: Global, cause: Cause, subject: &str) -> Halt
+    ensures { IsRefusal (plain_refusal cause subject.now) result }
 {
     match String::from_str(alloc, "-") {
-        Ok(detail) => refuse(alloc, number, subject, Text::new(detail)),
+        Ok(detail) => refuse(alloc, cause, subject, Text::new(detail)),
         Err(_) => Halt::Memory,
     }
 }
 
-/// The refusal of this number with a name as its detail; `Memory` where there is no memory for it. Linear in both texts.
-pub fn refuse_name(alloc: Global, number: u32, subject: &str, name: &str) -> Halt
-    ensures { IsRefusal (refusal number subject.now name.now) result }
+/// The refusal for this cause with a name as its detail; `Memory` where there is no memory for it. Linear in both texts.
+pub fn refuse_name(alloc: Global, cause: Cause, subject: &str, name: &str) -> Halt
+    ensures { IsRefusal (refusal cause subject.now name.now) result }
 {
     match String::from_str(alloc, name) {
-        Ok(detail) => refuse(alloc, number, subject, Text::new(detail)),
+        Ok(detail) => refuse(alloc, cause, subject, Text::new(detail)),
         Err(_) => Halt::Memory,
     }
 }
 
-/// The refusal of this number with a number in decimal as its detail; `Memory` where there is no memory for it. Linear in the
+/// The refusal for this cause with a number in decimal as its detail; `Memory` where there is no memory for it. Linear in the
 /// subject.
-pub fn refuse_count(alloc: Global, number: u32, subject: &str, count: u64) -> Halt
-    ensures { IsRefusal (refusal number subject.now (decimal count)) result }
+pub fn refuse_count(alloc: Global, cause: Cause, subject: &str, count: u64) -> Halt
+    ensures { IsRefusal (refusal cause subject.now (decimal count)) result }
 {
     match format!(in alloc; "{count}") {
-        Ok(detail) => refuse(alloc, number, subject, Text::new(detail)),
+        Ok(detail) => refuse(alloc, cause, subject, Text::new(detail)),
         Err(_) => Halt::Memory,
     }
 }
 
-/// The refusal of this number with a byte address, in 8 hexadecimal digits, as its detail; `Memory` where there is no memory
+/// The refusal for this cause with a byte address, in 8 hexadecimal digits, as its detail; `Memory` where there is no memory
 /// for it. Linear in the subject.
-pub fn refuse_address(alloc: Global, number: u32, subject: &str, address: u32) -> Halt
-    ensures { IsRefusal (refusal number subject.now (hexadecimal address)) result }
+pub fn refuse_address(alloc: Global, cause: Cause, subject: &str, address: u32) -> Halt
+    ensures { IsRefusal (refusal cause subject.now (hexadecimal address)) result }
 {
     match address_text(alloc, address) {
-        Ok(detail) => refuse(alloc, number, subject, Text::new(detail)),
+        Ok(detail) => refuse(alloc, cause, subject, Text::new(detail)),
         Err(_) => Halt::Memory,
     }
 }

@@ -1,10 +1,11 @@
 // The regions of the tasks' loops.
 ghost use Rattle.std.specs.Prelude.{◌≡◌, ◌≤◌, ◌<◌, length, IfOk, IsErrOf};
 ghost use Rattle.crpd_input.specs.Steps.{IsRefusal, MeansBy};
-ghost use Rattle.crpd_input.specs.Graphs.{HasBoundedLoops, RegionsAt, RegionsIn, loop_refusal};
+ghost use Rattle.crpd_input.specs.Graphs.{HasBoundedLoops, RegionsAt, RegionsIn, loop_halt as loop_stop};
 ghost use Rattle.cert_check.specs.Shown.{AreShown, graph_at};
 ghost use Rattle.loop_regions.specs.CodeNest.{IsNestOf};
 
+use crate::cause::Cause;
 use crate::code::task_name;
 use crate::halt::Halt;
 use crate::input::Input;
@@ -14,16 +15,21 @@ use flat_graph::Graph;
 use loop_regions::{LoopError, Nest, regions};
 use std::alloc::Global;
 
-/// The refusal of a task's loops.
+/// Why a command stops at a task's loops.
 fn loop_halt(alloc: Global, name: &str, error: LoopError) -> Halt
-    ensures { IsRefusal (loop_refusal name.now error) result }
+    ensures { IsRefusal (loop_stop name.now error) result }
 {
     match error {
         LoopError::Memory => Halt::Memory,
-        LoopError::SecondEntry(address) => refuse_address(alloc, 60, name, address),
-        LoopError::NotNested(address) => refuse_address(alloc, 61, name, address),
-        LoopError::SameHead(address) => refuse_address(alloc, 62, name, address),
-        LoopError::CycleWithoutBound(address) => refuse_address(alloc, 63, name, address),
+        LoopError::SecondEntry(address) => refuse_address(alloc, Cause::SecondEntry, name, address),
+        LoopError::NotNested(address) => refuse_address(alloc, Cause::NotNested, name, address),
+        LoopError::SameHead(address) => refuse_address(alloc, Cause::SameHead, name, address),
+        LoopError::CycleWithoutBound(address) => refuse_address(
+            alloc,
+            Cause::CycleWithoutBound,
+            name,
+            address,
+        ),
     }
 }
 

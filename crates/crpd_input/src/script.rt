@@ -3,8 +3,9 @@ ghost use Rattle.std.specs.Prelude.{◌≡◌, ◌≤◌, length, IsErrOf, IfOk}
 ghost use Rattle.preempt_machine.specs.Safe.{NamesTasks};
 ghost use Rattle.crpd_io.specs.Outside.{Rose};
 ghost use Rattle.crpd_input.specs.Steps.{IsRefusal, Means, Told};
-ghost use Rattle.crpd_input.specs.Script.{script_in, script_refusal};
+ghost use Rattle.crpd_input.specs.Script.{script_in, script_halt as script_stop};
 
+use crate::cause::Cause;
 use crate::halt::Halt;
 use crate::load::load;
 use crate::refuse::{refuse, refuse_plainly};
@@ -13,18 +14,18 @@ use crpd_io::Files;
 use script_reader::{ScriptError, read_script};
 use std::alloc::Global;
 
-/// The refusal of a script's file.
+/// Why a command stops at a script's file.
 fn script_halt(alloc: Global, file: &str, error: ScriptError) -> Halt
-    ensures { IsRefusal (script_refusal file.now error) result }
+    ensures { IsRefusal (script_stop file.now error) result }
 {
     match error {
         ScriptError::Memory => Halt::Memory,
-        ScriptError::NotToml => refuse_plainly(alloc, 30, file),
-        ScriptError::Missing(key) => refuse(alloc, 31, file, key),
-        ScriptError::BadValue(key) => refuse(alloc, 32, file, key),
-        ScriptError::UnknownTask(key) => refuse(alloc, 33, file, key),
-        ScriptError::TooLong(key) => refuse(alloc, 34, file, key),
-        ScriptError::UnknownKey(key) => refuse(alloc, 35, file, key),
+        ScriptError::NotToml => refuse_plainly(alloc, Cause::ScriptNotToml, file),
+        ScriptError::Missing(key) => refuse(alloc, Cause::ScriptMissing, file, key),
+        ScriptError::BadValue(key) => refuse(alloc, Cause::ScriptBadValue, file, key),
+        ScriptError::UnknownTask(key) => refuse(alloc, Cause::UnknownTask, file, key),
+        ScriptError::TooLong(key) => refuse(alloc, Cause::ScriptTooLong, file, key),
+        ScriptError::UnknownKey(key) => refuse(alloc, Cause::ScriptUnknownKey, file, key),
     }
 }
 

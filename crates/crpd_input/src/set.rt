@@ -3,8 +3,9 @@ ghost use Rattle.std.specs.Prelude.{◌≡◌, ◌≤◌, IsErrOf, IfOk};
 ghost use Rattle.crpd_base.specs.Ranges.{IsTaskSet};
 ghost use Rattle.crpd_io.specs.Outside.{Rose};
 ghost use Rattle.crpd_input.specs.Steps.{IsRefusal, Means, Told};
-ghost use Rattle.crpd_input.specs.Reading.{set_in, set_refusal};
+ghost use Rattle.crpd_input.specs.Reading.{set_in, set_halt as set_stop};
 
+use crate::cause::Cause;
 use crate::halt::Halt;
 use crate::load::load;
 use crate::refuse::{refuse, refuse_count, refuse_plainly};
@@ -13,19 +14,19 @@ use crpd_io::Files;
 use set_reader::{SetError, read_set};
 use std::alloc::Global;
 
-/// The refusal of a set's file.
+/// Why a command stops at a set's file.
 fn set_halt(alloc: Global, file: &str, error: SetError) -> Halt
-    ensures { IsRefusal (set_refusal file.now error) result }
+    ensures { IsRefusal (set_stop file.now error) result }
 {
     match error {
         SetError::Memory => Halt::Memory,
-        SetError::NotToml => refuse_plainly(alloc, 20, file),
-        SetError::Missing(key) => refuse(alloc, 21, file, key),
-        SetError::BadValue(key) => refuse(alloc, 22, file, key),
-        SetError::TooManyTasks(count) => refuse_count(alloc, 23, file, count),
-        SetError::SameName(key) => refuse(alloc, 24, file, key),
-        SetError::DeadlineAfterPeriod(key) => refuse(alloc, 25, file, key),
-        SetError::UnknownKey(key) => refuse(alloc, 26, file, key),
+        SetError::NotToml => refuse_plainly(alloc, Cause::SetNotToml, file),
+        SetError::Missing(key) => refuse(alloc, Cause::SetMissing, file, key),
+        SetError::BadValue(key) => refuse(alloc, Cause::SetBadValue, file, key),
+        SetError::TooManyTasks(count) => refuse_count(alloc, Cause::TooManyTasks, file, count),
+        SetError::SameName(key) => refuse(alloc, Cause::SameName, file, key),
+        SetError::DeadlineAfterPeriod(key) => refuse(alloc, Cause::DeadlineAfterPeriod, file, key),
+        SetError::UnknownKey(key) => refuse(alloc, Cause::SetUnknownKey, file, key),
     }
 }
 

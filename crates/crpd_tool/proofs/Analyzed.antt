@@ -15,7 +15,7 @@ use Rattle.crpd_io.specs.Outside.{Contents}
 use Rattle.crpd_tool.specs.declared.answer.Answer.{Answer}
 use Rattle.crpd_tool.specs.declared.status.Status.TheVariants.{Done}
 use Rattle.crpd_input.specs.declared.input.Input.{Input}
-use Rattle.crpd_input.specs.declared.refusal.Refusal.{Refusal}
+use Rattle.crpd_input.specs.declared.halt.Halt.{Halt}
 use Rattle.crpd_input.specs.declared.shapes.Shapes.{Shapes}
 use Rattle.crpd_tool.specs.Analyze.{AnalysisOf, AnalyzeEnds, IsMade, certificate_answer, without_certificate}
 use Rattle.crpd_tool.specs.Analyzed.{DoneIsBest, IsAnalyzed}
@@ -37,12 +37,12 @@ not_done file set (TooManyEntries count) is = cc
 not_done file set (Unschedulable task) is = cc
 
 module _ (contents : Contents) (set : List ℕ) where
-  made : (input : Input) (shapes : Shapes) (ending : Result Answer Refusal) → AnalysisOf set input shapes ending → (settled ending).status ≡ Done
+  made : (input : Input) (shapes : Shapes) (ending : Result Answer Halt) → AnalysisOf set input shapes ending → (settled ending).status ≡ Done
       → (c : Certificate) × IsMade input.set (shown_at shapes.graphs shapes.nests) c × (ending ≡ Ok (certificate_answer c))
   made input shapes ending (inl found) e = found
-  made input shapes ending (inr none) e = absurd (not_done set input.set none.0 (ap (λ (r : Result Answer Refusal). (settled r).status) (sym none.3) ∙ e))
+  made input shapes ending (inr none) e = absurd (not_done set input.set none.0 (ap (λ (r : Result Answer Halt). (settled r).status) (sym none.3) ∙ e))
 
-  analyzed : (input : Input) (shapes : Shapes) (c : Certificate) (ending : Result Answer Refusal) → input_in contents set ≡ Ok input → ShapesIn input (Ok shapes)
+  analyzed : (input : Input) (shapes : Shapes) (c : Certificate) (ending : Result Answer Halt) → input_in contents set ≡ Ok input → ShapesIn input (Ok shapes)
       → IsMade input.set (shown_at shapes.graphs shapes.nests) c → ending ≡ Ok (certificate_answer c) → IsAnalyzed contents set (settled ending).text
   analyzed input shapes c ending is shaped M end =
       let G : (k : ℕ) → k < length input.set.tasks → IsGraph (graph_of (graph_at shapes.graphs k)) =
@@ -55,14 +55,14 @@ module _ (contents : Contents) (set : List ℕ) where
         written = certificate_text c;
         input_is = is;
         shapes_are = shaped;
-        text_is = ap (λ (r : Result Answer Refusal). (settled r).text) end;
+        text_is = ap (λ (r : Result Answer Halt). (settled r).text) end;
         reads = M.reads;
         best = M.best;
         judged = yes;
         checks = λ others file name same read. inl (input, same, inl (shapes, shaped, inl (c, read, (verdict.Yes, yes, refl))));
       }
 
-  ended : (ending : Result Answer Refusal) → AnalyzeEnds contents set ending → (settled ending).status ≡ Done → IsAnalyzed contents set (settled ending).text
+  ended : (ending : Result Answer Halt) → AnalyzeEnds contents set ending → (settled ending).status ≡ Done → IsAnalyzed contents set (settled ending).text
   ended ending is e =
       let input = then_done (Exactly (input_in contents set)) (λ input. Then (ShapesIn input) (AnalysisOf set input)) ending is e in
       let shapes = then_done (ShapesIn input.0) (AnalysisOf set input.0) ending input.2 e in

@@ -16,7 +16,7 @@ use Rattle.crpd_io.specs.Outside.{Contents}
 use Rattle.crpd_tool.specs.declared.answer.Answer.{Answer}
 use Rattle.crpd_tool.specs.declared.status.Status.TheVariants.{Done}
 use Rattle.crpd_input.specs.declared.input.Input.{Input}
-use Rattle.crpd_input.specs.declared.refusal.Refusal.{Refusal}
+use Rattle.crpd_input.specs.declared.halt.Halt.{Halt}
 use Rattle.crpd_input.specs.declared.shapes.Shapes.{Shapes}
 use Rattle.crpd_input.specs.Reading.{input_in}
 use Rattle.crpd_input.specs.Shapes.{ShapesIn}
@@ -33,12 +33,12 @@ use Rattle.crpd_tool.proofs.Finish.{some-out}
 use Rattle.crpd_tool.proofs.Safety.{then_done}
 
 module _ (safe_law : CheckedCodeIsSafe) (yes_law : YesLaw) (judged_law : ClassicIsJudged) (one_law : OneClassic) (best_law : ClassicHasBest) (contents : Contents) (set : List ℕ) where
-  made : (input : Input) (shapes : Shapes) (ending : Result Answer Refusal) → ClassicOf set input shapes ending → (settled ending).status ≡ Done
+  made : (input : Input) (shapes : Shapes) (ending : Result Answer Halt) → ClassicOf set input shapes ending → (settled ending).status ≡ Done
       → (c : Certificate) × IsMadeClassic input.set (shown_at shapes.graphs shapes.nests) c × (ending ≡ Ok (certificate_answer c))
   made input shapes ending (inl found) e = found
-  made input shapes ending (inr none) e = absurd (not_done set input.set none.0 (ap (λ (r : Result Answer Refusal). (settled r).status) (sym none.3) ∙ e))
+  made input shapes ending (inr none) e = absurd (not_done set input.set none.0 (ap (λ (r : Result Answer Halt). (settled r).status) (sym none.3) ∙ e))
 
-  sound : (input : Input) (shapes : Shapes) (c : Certificate) (ending : Result Answer Refusal) → input_in contents set ≡ Ok input → ShapesIn input (Ok shapes)
+  sound : (input : Input) (shapes : Shapes) (c : Certificate) (ending : Result Answer Halt) → input_in contents set ≡ Ok input → ShapesIn input (Ok shapes)
       → IsMadeClassic input.set (shown_at shapes.graphs shapes.nests) c → ending ≡ Ok (certificate_answer c) → IsSoundClassic contents set (settled ending).text
   sound input shapes c ending is shaped M end =
       let good = input_good contents set input is in
@@ -52,7 +52,7 @@ module _ (safe_law : CheckedCodeIsSafe) (yes_law : YesLaw) (judged_law : Classic
         written = certificate_text c;
         input_is = is;
         shapes_are = shaped;
-        text_is = ap (λ (r : Result Answer Refusal). (settled r).text) end;
+        text_is = ap (λ (r : Result Answer Halt). (settled r).text) end;
         reads = M.reads;
         is = M.classic;
         only = λ d D. one_law input.set (shown_at shapes.graphs shapes.nests) d c D M.classic;
@@ -63,7 +63,7 @@ module _ (safe_law : CheckedCodeIsSafe) (yes_law : YesLaw) (judged_law : Classic
         checks = λ others file name same read. inl (input, same, inl (shapes, shaped, inl (c, read, (verdict.Yes, yes, refl))));
       }
 
-  ended : (ending : Result Answer Refusal) → ClassicEnds contents set ending → (settled ending).status ≡ Done → IsSoundClassic contents set (settled ending).text
+  ended : (ending : Result Answer Halt) → ClassicEnds contents set ending → (settled ending).status ≡ Done → IsSoundClassic contents set (settled ending).text
   ended ending is e =
       let input = then_done (Exactly (input_in contents set)) (λ input. Then (ShapesIn input) (ClassicOf set input)) ending is e in
       let shapes = then_done (ShapesIn input.0) (ClassicOf set input.0) ending input.2 e in

@@ -30,12 +30,12 @@ use Rattle.run_account.proofs.Ready.{cache_length}
 use Rattle.sound_laws.specs.Within.{CheckedAccountIsWithinDelays, IsChecked, IsWithinDelays}
 use Rattle.crpd_io.specs.Outside.{Contents}
 use Rattle.crpd_input.specs.declared.input.Input.{Input}
-use Rattle.crpd_input.specs.declared.refusal.Refusal.{Refusal}
+use Rattle.crpd_input.specs.declared.halt.Halt.{Halt}
 use Rattle.crpd_input.specs.declared.shapes.Shapes.{Shapes}
 use Rattle.crpd_input.specs.Reading.{certificate_in, input_in}
-use Rattle.crpd_input.specs.Script.{script_in, script_refusal}
+use Rattle.crpd_input.specs.Script.{script_in, script_halt}
 use Rattle.crpd_input.specs.Shapes.{ShapesIn}
-use Rattle.crpd_input.specs.Steps.{Exactly, Then, bytes_in, or_refused}
+use Rattle.crpd_input.specs.Steps.{Exactly, Then, bytes_in, file_bytes, or_refused}
 use Rattle.crpd_input.proofs.Built.{shapes_built}
 use Rattle.crpd_input.proofs.Given.{IsInput, input_good, input_planned, read_ok, step_ok}
 use Rattle.crpd_tool.specs.Check.{verdict_answer}
@@ -52,8 +52,8 @@ use Rattle.crpd_tool.proofs.Safety.{then_done}
 -- the jobs of a script that was read are of the set's tasks
 script_named : (contents : Contents) (name : List ℕ) (set : TaskSet) (given : Script) → script_in contents name set ≡ Ok given → NamesTasks set given.jobs
 script_named contents name set given e =
-    let bytes = step_ok (bytes_in 16777216 contents name) (λ bytes. or_refused (script_refusal name) (script_reader.reading bytes set)) given e in
-    found_in bytes.0 set (Ok given) (read_ok (script_refusal name) (script_reader.reading bytes.0 set) given bytes.2)
+    let bytes = step_ok (bytes_in file_bytes contents name) (λ bytes. or_refused (script_halt name) (script_reader.reading bytes set)) given e in
+    found_in bytes.0 set (Ok given) (read_ok (script_halt name) (script_reader.reading bytes.0 set) given bytes.2)
 
 -- what a yes gives the laws on a script's run
 module _ (input : Input) (shapes : Shapes) (c : Certificate) (given : Script) (is : IsInput input) (planned : length input.code.plans ≡ length input.set.tasks) (shaped : ShapesIn input (Ok shapes))
@@ -118,14 +118,14 @@ denied : (set : TaskSet) (c : Certificate) (task clause place : ℕ) → (settle
 denied set c task clause place e = cc
 
 -- with the status Done the verdict was yes
-account_of : (input : Input) (shapes : Shapes) (c : Certificate) (given : Script) (v : Verdict) (ending : Result Answer Refusal) → ExplainedBy input shapes c given v ending → (settled ending).status ≡ Done
+account_of : (input : Input) (shapes : Shapes) (c : Certificate) (given : Script) (v : Verdict) (ending : Result Answer Halt) → ExplainedBy input shapes c given v ending → (settled ending).status ≡ Done
     → (answer_of v ≡ Yes) × AccountOf input shapes c given ending
 account_of input shapes c given verdict.Yes ending a e = (refl, a)
 account_of input shapes c given (verdict.No task clause place) ending a e =
-    absurd (denied input.set c task.0 clause place (ap (λ (r : Result Answer Refusal). (settled r).status) (sym a) ∙ e))
+    absurd (denied input.set c task.0 clause place (ap (λ (r : Result Answer Halt). (settled r).status) (sym a) ∙ e))
 
 module _ (facts_law : LedgerFacts) (within_law : CheckedAccountIsWithinDelays) (yes_law : YesLaw) (contents : Contents) (set certificate script : List ℕ) where
-  explained : (input : Input) (shapes : Shapes) (c : Certificate) (given : Script) (ending : Result Answer Refusal) → input_in contents set ≡ Ok input → ShapesIn input (Ok shapes)
+  explained : (input : Input) (shapes : Shapes) (c : Certificate) (given : Script) (ending : Result Answer Halt) → input_in contents set ≡ Ok input → ShapesIn input (Ok shapes)
       → certificate_in contents certificate ≡ Ok c → script_in contents script input.set ≡ Ok given → ExplanationOf input shapes c given ending → (settled ending).status ≡ Done
       → IsExplained contents set certificate script (settled ending).text
   explained input shapes c given ending input_is shaped stated scripted found e =
@@ -149,18 +149,18 @@ module _ (facts_law : LedgerFacts) (within_law : CheckedAccountIsWithinDelays) (
         judged = judged;
         is_account = account.2;
         line = account.3;
-        text_is = ap (λ (r : Result Answer Refusal). (settled r).text) account.4;
+        text_is = ap (λ (r : Result Answer Halt). (settled r).text) account.4;
         facts = account_facts input shapes c given is planned shaped named judged facts_law account.0 account.2;
         within = within_delays input shapes c given is planned shaped named judged within_law yes_law account.0 account.2;
       }
 
-  abbrev Scripts : Input → Shapes → Certificate → Result Answer Refusal → Type 0
+  abbrev Scripts : Input → Shapes → Certificate → Result Answer Halt → Type 0
   Scripts input shapes stated = Then (Exactly (script_in contents script input.set)) (ExplanationOf input shapes stated)
 
-  abbrev Certificates : Input → Shapes → Result Answer Refusal → Type 0
+  abbrev Certificates : Input → Shapes → Result Answer Halt → Type 0
   Certificates input shapes = Then (Exactly (certificate_in contents certificate)) (Scripts input shapes)
 
-  ended : (ending : Result Answer Refusal) → ExplainEnds contents set certificate script ending → (settled ending).status ≡ Done → IsExplained contents set certificate script (settled ending).text
+  ended : (ending : Result Answer Halt) → ExplainEnds contents set certificate script ending → (settled ending).status ≡ Done → IsExplained contents set certificate script (settled ending).text
   ended ending is e =
       let input = then_done (Exactly (input_in contents set)) (λ input. Then (ShapesIn input) (Certificates input)) ending is e in
       let shapes = then_done (ShapesIn input.0) (Certificates input.0) ending input.2 e in

@@ -21,10 +21,10 @@ use Rattle.cert_model.specs.Ranges.{IsCertificate}
 use Rattle.run_account.specs.Shown.{AreGraphsOf, StatesAreMet}
 use Rattle.crpd_input.specs.declared.input.Input.{Input}
 use Rattle.crpd_input.specs.declared.shapes.Shapes.{Shapes}
-use Rattle.crpd_input.specs.declared.refusal.Refusal.{Refusal}
+use Rattle.crpd_input.specs.declared.halt.Halt.{Halt}
 use Rattle.crpd_input.specs.Graphs.{GraphsIn}
 use Rattle.crpd_input.specs.Shapes.{ShapesIn}
-use Rattle.crpd_input.proofs.InRange.{in_range}
+use Rattle.cert_build.proofs.InRange.{in_range}
 use Rattle.crpd_report.specs.Explain.{HasWindowOfEach}
 use Rattle.crpd_tool.specs.Check.{verdict_answer}
 use Rattle.crpd_tool.specs.Explain.{AccountOf, ExplanationOf}
@@ -33,10 +33,10 @@ use Rattle.crpd_tool.specs.declared.answer.Answer.{Answer}
 same_plan : (p q : TaskPlan) → Some p ≡ Some q → p ≡ q
 same_plan p q e = cc
 
-same_shapes : (x y : Shapes) → ◌≡◌ {A = Result Shapes Refusal} (Ok x) (Ok y) → x ≡ y
+same_shapes : (x y : Shapes) → ◌≡◌ {A = Result Shapes Halt} (Ok x) (Ok y) → x ≡ y
 same_shapes x y e = cc
 
-not_refused : (x : Shapes) (r : Refusal) → ◌≡◌ {A = Result Shapes Refusal} (Ok x) (Err r) → ⊥
+not_refused : (x : Shapes) (r : Halt) → ◌≡◌ {A = Result Shapes Halt} (Ok x) (Err r) → ⊥
 not_refused x r e = cc
 
 graphs_made : (input : Input) (shapes : Shapes) → ShapesIn input (Ok shapes) → GraphsIn input (Ok shapes.graphs)

@@ -30,7 +30,7 @@ use Rattle.crpd_report.proofs.Legality.{legal_decides}
 use Rattle.gen_tasks.specs.Made.{made}
 use Rattle.gen_tasks.proofs.MadeLaw.{made_legal}
 use Rattle.crpd_input.specs.declared.input.Input.{Input}
-use Rattle.crpd_input.specs.declared.refusal.Refusal.{Refusal}
+use Rattle.crpd_input.specs.declared.halt.Halt.{Halt}
 use Rattle.crpd_input.specs.declared.shapes.Shapes.{Shapes}
 use Rattle.crpd_input.specs.Shapes.{ShapesIn}
 use Rattle.crpd_input.specs.Steps.{Exactly, Then}
@@ -156,17 +156,17 @@ module _ (safe_law : CheckedCodeIsSafe) (yes_law : YesLaw) (none_law : NoneLateL
         late_0 = said input shapes c kept text legal_said none text_is;
       }
 
-  answered : (input : Input) (shapes : Shapes) (ending : Result Answer Refusal) → made_input n ≡ Ok input → ShapesIn input (Ok shapes) → GeneratedOf n script input shapes ending → (settled ending).status ≡ Done
+  answered : (input : Input) (shapes : Shapes) (ending : Result Answer Halt) → made_input n ≡ Ok input → ShapesIn input (Ok shapes) → GeneratedOf n script input shapes ending → (settled ending).status ≡ Done
       → IsGenerated n (settled ending).text
   answered input shapes ending is shaped (inl (c, v, kept, J, end)) e =
-      let yes : v ≡ Yes = yes_only v (ap (λ (r : Result Answer Refusal). (settled r).status) (sym end) ∙ e) in
-      let text : (settled ending).text ≡ generate_text n (node_count shapes.graphs) input.set c v script (completions_of (run_of input script)) kept = ap (λ (r : Result Answer Refusal). (settled r).text) end in
+      let yes : v ≡ Yes = yes_only v (ap (λ (r : Result Answer Halt). (settled r).status) (sym end) ∙ e) in
+      let text : (settled ending).text ≡ generate_text n (node_count shapes.graphs) input.set c v script (completions_of (run_of input script)) kept = ap (λ (r : Result Answer Halt). (settled r).text) end in
       generated input shapes c kept (settled ending).text is shaped (subst (λ x. IsRunJudged script input shapes c x kept) yes J)
       (text ∙ ap (λ x. generate_text n (node_count shapes.graphs) input.set c x script (completions_of (run_of input script)) kept) yes)
   answered input shapes ending is shaped (inr none) e =
-      absurd (not_done (made_line n (node_count shapes.graphs)) (codes "generate") input.set none.0 (ap (λ (r : Result Answer Refusal). (settled r).status) (sym none.3) ∙ e))
+      absurd (not_done (made_line n (node_count shapes.graphs)) (codes "generate") input.set none.0 (ap (λ (r : Result Answer Halt). (settled r).status) (sym none.3) ∙ e))
 
-  ended : (ending : Result Answer Refusal) → GenerateEnds n ending → (settled ending).status ≡ Done → IsGenerated n (settled ending).text
+  ended : (ending : Result Answer Halt) → GenerateEnds n ending → (settled ending).status ≡ Done → IsGenerated n (settled ending).text
   ended ending is e =
       let input = then_done (Exactly (made_input n)) (λ input. Then (ShapesIn input) (GeneratedOf n script input)) ending is e in
       let shapes = then_done (ShapesIn input.0) (GeneratedOf n script input.0) ending input.2 e in

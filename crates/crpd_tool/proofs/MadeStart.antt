@@ -24,8 +24,8 @@ use Rattle.gen_tasks.specs.Files.{words}
 use Rattle.gen_tasks.specs.Made.{made}
 use Rattle.gen_tasks.specs.Programs.{image_at}
 use Rattle.gen_tasks.proofs.ElfLaw.{files_read}
-use Rattle.crpd_input.specs.Reading.{code_in, elf_refusal, image_in, images_in, map_refusal}
-use Rattle.crpd_input.specs.Steps.{bytes_in, or_refused, refused_file}
+use Rattle.crpd_input.specs.Reading.{code_in, elf_halt, image_in, images_in, map_halt}
+use Rattle.crpd_input.specs.Steps.{bytes_in, file_bytes, or_refused, refused_file}
 use Rattle.crpd_input.proofs.Each.{all_given}
 use Rattle.crpd_input.proofs.Given.{image_good, read_ok, step_ok}
 use Rattle.crpd_input.proofs.Plans.{code_parts}
@@ -145,17 +145,17 @@ module _ (n : ℕ) where
 
   image_means : (name : List ℕ) (image : Image) → image_in files_of name ≡ Ok image → HasBytes image
   image_means name image e =
-      let bytes = step_ok (bytes_in 16777216 files_of name) (λ bytes. or_refused (elf_refusal name) (elf.reading bytes)) image e in
+      let bytes = step_ok (bytes_in file_bytes files_of name) (λ bytes. or_refused (elf_halt name) (elf.reading bytes)) image e in
       let found : files_of name ≡ Some bytes.0 = within_some 16777216 name (files_of name) bytes.0 bytes.1 in
       held_means MeansBytes (map (λ (t : TaskSpec). t.file) (made n).set.tasks) (made n).files name bytes.0 (made_files_mean n) found image
-      (read_ok (elf_refusal name) (elf.reading bytes.0) image bytes.2)
+      (read_ok (elf_halt name) (elf.reading bytes.0) image bytes.2)
 
   -- so the data memory at the start is one
   pub made_start : (code : Code) → code_in files_of made_name (made n).set ≡ Ok code → IsMemory (start_memory code.images)
   made_start code e =
       let tasks = (made n).set.tasks in
-      let images = step_ok (images_in files_of tasks) (λ images. or_refused (map_refusal made_name (made n).set) (code_of (made n).set images)) code e in
-      let same : code.images ≡ images.0 = (code_parts (made n).set images.0 code (read_ok (map_refusal made_name (made n).set) (code_of (made n).set images.0) code images.2)).0 in
+      let images = step_ok (images_in files_of tasks) (λ images. or_refused (map_halt made_name (made n).set) (code_of (made n).set images)) code e in
+      let same : code.images ≡ images.0 = (code_parts (made n).set images.0 code (read_ok (map_halt made_name (made n).set) (code_of (made n).set images.0) code images.2)).0 in
       subst (λ is. IsMemory (start_memory is)) (sym same)
       (start_kept images.0
       (all_given (λ (t : TaskSpec). image_in files_of t.file) IsImage (λ t image is. image_good files_of t.file image is) tasks images.0 images.1)

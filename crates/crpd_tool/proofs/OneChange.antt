@@ -31,7 +31,7 @@ use Rattle.cert_update.specs.declared.fault.UpdateError.{UpdateError}
 use Rattle.cert_update.specs.declared.fault.UpdateError.TheVariants.{Memory, TooLarge, TooManyEntries, Unschedulable}
 use Rattle.cert_update.proofs.OneUpdate.{one_name, one_update_by}
 use Rattle.crpd_input.specs.declared.input.Input.{Input}
-use Rattle.crpd_input.specs.declared.refusal.Refusal.{Refusal}
+use Rattle.crpd_input.specs.declared.halt.Halt.{Halt}
 use Rattle.crpd_input.proofs.OneJudgement.{AreSame, judged_too, size_same}
 use Rattle.crpd_input.proofs.OneNest.{alike}
 use Rattle.crpd_input.proofs.OneVerdict.{one_verdict}
@@ -215,7 +215,7 @@ module _ (grows : DemandGrows) (file : List ℕ) (old input : Input) (c : Certif
   abbrev NewSide : Side
   NewSide = side input.set hs ws
 
-  one_made : (r s : Result Answer Refusal) → ChangeOf file old (record { graphs = gs; nests = ns }) c input (record { graphs = hs; nests = ms }) r
+  one_made : (r s : Result Answer Halt) → ChangeOf file old (record { graphs = gs; nests = ns }) c input (record { graphs = hs; nests = ms }) r
       → ChangeOf file old (record { graphs = gs; nests = vs }) c input (record { graphs = hs; nests = ws }) s → r ≡ s
   one_made r s (inl a) (inl b) =
       let same : a.0 ≡ b.0 = one_update_by grows OldSide NewSide c a.0 b.0 O S (update_too old.set input.set gs hs ns vs ms ws before after c a.0 a.1.update) b.1.update in
@@ -232,7 +232,7 @@ module _ (grows : DemandGrows) (file : List ℕ) (old input : Input) (c : Certif
   one_answer : (v w : Verdict) → IsJudged old.set (shown_at gs ns) c (answer_of v) → IsJudged old.set (shown_at gs vs) c (answer_of w) → v ≡ w
   one_answer v w a b = one_verdict old.set (shown_at gs vs) c v w (judged_too old.set gs c ns vs before (answer_of v) a) b
 
-  pub one_change : (r s : Result Answer Refusal) → UpdateOf file old (record { graphs = gs; nests = ns }) c input (record { graphs = hs; nests = ms }) r
+  pub one_change : (r s : Result Answer Halt) → UpdateOf file old (record { graphs = gs; nests = ns }) c input (record { graphs = hs; nests = ms }) r
       → UpdateOf file old (record { graphs = gs; nests = vs }) c input (record { graphs = hs; nests = ws }) s → r ≡ s
   one_change r s (inl a) (inl b) =
       a.4 ∙ ap (λ x. Ok (verdict_answer old.set c x)) (one_answer (verdict.No a.0 a.1 a.2) (verdict.No b.0 b.1 b.2) a.3 b.3) ∙ sym b.4

@@ -28,7 +28,7 @@ use Rattle.delay_classic.proofs.OneClassic.{one_classic}
 use Rattle.delay_classic.proofs.Same.{classic_same}
 use Rattle.crpd_tool.specs.declared.answer.Answer.{Answer}
 use Rattle.crpd_input.specs.declared.input.Input.{Input}
-use Rattle.crpd_input.specs.declared.refusal.Refusal.{Refusal}
+use Rattle.crpd_input.specs.declared.halt.Halt.{Halt}
 use Rattle.crpd_tool.specs.Analyze.{certificate_answer, without_certificate}
 use Rattle.crpd_tool.specs.Classic.{ClassicOf}
 use Rattle.crpd_tool.proofs.OneBuild.{neither, none_large, same_entries, same_parts, one_refusal as one_analysis_refusal}
@@ -131,7 +131,7 @@ module _ (set : TaskSet) (graphs : List CodeGraph) (ns ms : List CodeNest) (same
 
 module _ (grows : DemandGrows) (file : List ℕ) (input : Input) (graphs : List CodeGraph) (ns ms : List CodeNest) (times : HasTimes input.set)
     (G : (k : ℕ) → k < length input.set.tasks → IsGraph (graph_of (graph_at graphs k))) (same : Same input.set graphs ns ms) where
-  pub one_classic_end : (r s : Result Answer Refusal) → ClassicOf file input (record { graphs = graphs; nests = ns }) r → ClassicOf file input (record { graphs = graphs; nests = ms }) s → r ≡ s
+  pub one_classic_end : (r s : Result Answer Halt) → ClassicOf file input (record { graphs = graphs; nests = ns }) r → ClassicOf file input (record { graphs = graphs; nests = ms }) s → r ≡ s
   one_classic_end r s (inl a) (inl b) =
       let c : a.0 ≡ b.0 = one_classic input.set (shown_at graphs ms) a.0 b.0 (classic_too input.set graphs ns ms same a.0 a.1.classic) b.1.classic in
       a.2 ∙ ap (λ x. Ok (certificate_answer x)) c ∙ sym b.2

@@ -16,7 +16,7 @@ use Rattle.run_account.specs.declared.told.Account.{Account}
 use Rattle.run_account.specs.declared.told.Entry.{Entry}
 use Rattle.run_account.proofs.OneLedger.{one_ledger}
 use Rattle.crpd_input.specs.declared.input.Input.{Input}
-use Rattle.crpd_input.specs.declared.refusal.Refusal.{Refusal}
+use Rattle.crpd_input.specs.declared.halt.Halt.{Halt}
 use Rattle.crpd_input.specs.declared.shapes.Shapes.{Shapes}
 use Rattle.crpd_input.proofs.OneJudgement.{AreSame, judged_too}
 use Rattle.crpd_input.proofs.OneVerdict.{one_verdict}
@@ -70,18 +70,18 @@ module _ (input : Input) (graphs : List CodeGraph) (c : Certificate) (script : S
   abbrev second : Shapes
   second = record { graphs = graphs; nests = ms }
 
-  one_account : (r s : Result Answer Refusal) → AccountOf input first c script r → AccountOf input second c script s → r ≡ s
+  one_account : (r s : Result Answer Halt) → AccountOf input first c script r → AccountOf input second c script s → r ≡ s
   one_account r s a b =
-      let text : List Entry → List ℕ → Result Answer Refusal = λ entries last. Ok (record { text = reload_lines input.set entries ++ delay_lines input.set c ++ last; outcome = Done }) in
+      let text : List Entry → List ℕ → Result Answer Halt = λ entries last. Ok (record { text = reload_lines input.set entries ++ delay_lines input.set c ++ last; outcome = Done }) in
       let entries : a.0.entries ≡ b.0.entries = same_entries (start_of_script input.set input.code script) graphs c ns ms script.cycles a.0 b.0 a.2 b.2 in
       let line : a.1 ≡ b.1 = one_line input.set script (run_of input script) a.1 b.1 a.3 b.3 in
       a.4 ∙ ap (λ es. text es a.1) entries ∙ ap (text b.0.entries) line ∙ sym b.4
 
-  one_by : (v : Verdict) (r s : Result Answer Refusal) → ExplainedBy input first c script v r → ExplainedBy input second c script v s → r ≡ s
+  one_by : (v : Verdict) (r s : Result Answer Halt) → ExplainedBy input first c script v r → ExplainedBy input second c script v s → r ≡ s
   one_by Yes r s a b = one_account r s a b
   one_by (No task clause place) r s a b = a ∙ sym b
 
-  pub one_explanation : ((k : ℕ) → k < length input.set.tasks → AreSame (graph_at graphs k) (nest_at ms k) (nest_at ns k)) → (r s : Result Answer Refusal)
+  pub one_explanation : ((k : ℕ) → k < length input.set.tasks → AreSame (graph_at graphs k) (nest_at ms k) (nest_at ns k)) → (r s : Result Answer Halt)
       → ExplanationOf input first c script r → ExplanationOf input second c script s → r ≡ s
   one_explanation same r s a b =
       let judged = judged_too input.set graphs c ms ns same (answer_of b.0) b.1 in

@@ -16,7 +16,7 @@ use Rattle.cert_check.specs.declared.outcome.Verdict.{Verdict}
 use Rattle.preempt_machine.specs.Safe.{IsKept}
 use Rattle.crpd_tool.specs.declared.answer.Answer.{Answer}
 use Rattle.crpd_input.specs.declared.input.Input.{Input}
-use Rattle.crpd_input.specs.declared.refusal.Refusal.{Refusal}
+use Rattle.crpd_input.specs.declared.halt.Halt.{Halt}
 use Rattle.crpd_input.specs.declared.shapes.Shapes.{Shapes}
 use Rattle.crpd_input.proofs.OneJudgement.{judged_too}
 use Rattle.crpd_input.proofs.OneVerdict.{one_verdict}
@@ -43,11 +43,11 @@ module _ (grows : DemandGrows) (n : ℕ) (script : Script) (input : Input) (grap
       one_verdict input.set (shown_at graphs ms) d v w (judged_too input.set graphs d ns ms same (answer_of v) judged) N.judged
 
   same_answer : (c d : Certificate) (v w : Verdict) (k l : Bool) → c ≡ d → v ≡ w → k ≡ l
-      → ◌≡◌ {A = Result Answer Refusal} (Ok (made_answer n script input by_first c v k)) (Ok (made_answer n script input by_second d w l))
+      → ◌≡◌ {A = Result Answer Halt} (Ok (made_answer n script input by_first c v k)) (Ok (made_answer n script input by_second d w l))
   same_answer c d v w k l e f g =
       ap (λ x. Ok (made_answer n script input by_first x v k)) e ∙ ap (λ x. Ok (made_answer n script input by_first d x k)) f ∙ ap (λ x. Ok (made_answer n script input by_first d w x)) g
 
-  pub one_generated : (r s : Result Answer Refusal) → GeneratedOf n script input by_first r → GeneratedOf n script input by_second s → r ≡ s
+  pub one_generated : (r s : Result Answer Halt) → GeneratedOf n script input by_first r → GeneratedOf n script input by_second s → r ≡ s
   one_generated r s (inl (c, v, k, M, e)) (inl (d, w, l, N, f)) =
       let kept : k ≡ l = same_from_decides {P = IsKept (run_of input script)} k l M.kept_so N.kept_so in
       e ∙ same_answer c d v w k l (one_certificate c d v w k l M N) (same_verdict c d v w k l M N) kept ∙ sym f

@@ -19,7 +19,7 @@ use Rattle.cert_build.specs.declared.fault.BuildError.TheVariants.{Memory, TooLa
 use Rattle.cert_build.proofs.OneBest.{one_best}
 use Rattle.crpd_tool.specs.declared.answer.Answer.{Answer}
 use Rattle.crpd_input.specs.declared.input.Input.{Input}
-use Rattle.crpd_input.specs.declared.refusal.Refusal.{Refusal}
+use Rattle.crpd_input.specs.declared.halt.Halt.{Halt}
 use Rattle.crpd_tool.specs.Analyze.{AnalysisOf, certificate_answer, without_certificate}
 use Rattle.crpd_tool.proofs.OneBuild.{not_refused, one_refusal}
 use Rattle.crpd_input.proofs.OneJudgement.{AreSame, item_too, least_too, size_same, turned}
@@ -108,7 +108,7 @@ module _ (set : TaskSet) (graphs : List CodeGraph) where
 
 module _ (grows : DemandGrows) (file : List ℕ) (input : Input) (graphs : List CodeGraph) (ns ms : List CodeNest) (times : HasTimes input.set)
     (G : (k : ℕ) → k < length input.set.tasks → IsGraph (graph_of (graph_at graphs k))) (same : Same input.set graphs ns ms) where
-  pub one_analysis : (r s : Result Answer Refusal) → AnalysisOf file input (record { graphs = graphs; nests = ns }) r → AnalysisOf file input (record { graphs = graphs; nests = ms }) s → r ≡ s
+  pub one_analysis : (r s : Result Answer Halt) → AnalysisOf file input (record { graphs = graphs; nests = ns }) r → AnalysisOf file input (record { graphs = graphs; nests = ms }) s → r ≡ s
   one_analysis r s (inl a) (inl b) =
       let c : a.0 ≡ b.0 = one_best grows input.set (shown_at graphs ms) a.0 b.0 times (best_too input.set graphs ns ms same a.0 a.1.best) b.1.best in
       a.2 ∙ ap (λ x. Ok (certificate_answer x)) c ∙ sym b.2

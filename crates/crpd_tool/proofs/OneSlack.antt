@@ -23,7 +23,7 @@ use Rattle.sensitivity.specs.declared.slack.Stop.TheVariants.{Limit, Window, Bou
 use Rattle.sensitivity.proofs.Slacks.{one_slack_by}
 use Rattle.crpd_tool.specs.declared.answer.Answer.{Answer}
 use Rattle.crpd_input.specs.declared.input.Input.{Input}
-use Rattle.crpd_input.specs.declared.refusal.Refusal.{Refusal}
+use Rattle.crpd_input.specs.declared.halt.Halt.{Halt}
 use Rattle.crpd_input.proofs.OneJudgement.{AreSame, item_too, least_too}
 use Rattle.crpd_tool.specs.Slack.{AreSlacks, SlackOf, slack_answer}
 use Rattle.crpd_tool.proofs.OneMade.{Same, back}
@@ -110,7 +110,7 @@ module _ (grows : DemandGrows) (input : Input) (graphs : List CodeGraph) (ns ms 
     by_miss = slack_too (λ c. with_miss input.set c) graphs ms ns (λ c. back input.set graphs ns ms same) (λ c. same) second S.by_miss;
   }
 
-  pub one_slack_end : (r s : Result Answer Refusal) → SlackOf input (record { graphs = graphs; nests = ns }) r → SlackOf input (record { graphs = graphs; nests = ms }) s → r ≡ s
+  pub one_slack_end : (r s : Result Answer Halt) → SlackOf input (record { graphs = graphs; nests = ns }) r → SlackOf input (record { graphs = graphs; nests = ms }) s → r ≡ s
   one_slack_end r s a b =
       let pair = one_pair grows input.set (shown_at graphs ns) times bounded a.0 a.1 b.0 b.1 a.2 (slacks_back b.0 b.1 b.2) in
       a.3 ∙ ap (λ (x : Slack). Ok (slack_answer input.set x a.1)) pair.0 ∙ ap (λ (x : Slack). Ok (slack_answer input.set b.0 x)) pair.1 ∙ sym b.3

@@ -9,7 +9,7 @@ use Rattle.preempt_machine.specs.Safe.{IsKept}
 use Rattle.crpd_io.specs.Outside.{Contents}
 use Rattle.crpd_report.specs.Simulate.{job_lines, run_line}
 use Rattle.crpd_input.specs.declared.input.Input.{Input}
-use Rattle.crpd_input.specs.declared.refusal.Refusal.{Refusal}
+use Rattle.crpd_input.specs.declared.halt.Halt.{Halt}
 use Rattle.crpd_input.specs.Reading.{input_in}
 use Rattle.crpd_input.specs.Script.{script_in}
 use Rattle.crpd_input.specs.Steps.{Exactly, Then}
@@ -30,7 +30,7 @@ one_line set script m one other a b =
     let kept = same_from_decides {P = IsKept m} a.kept b.kept a.kept_so b.kept_so in
     a.line_is ∙ ap (λ x. run_line x a.kept) legal ∙ ap (run_line b.legal) kept ∙ sym b.line_is
 
-pub one_report : (input : Input) (script : Script) (r s : Result Answer Refusal) → ReportOf input script r → ReportOf input script s → r ≡ s
+pub one_report : (input : Input) (script : Script) (r s : Result Answer Halt) → ReportOf input script r → ReportOf input script s → r ≡ s
 one_report input script r s a b =
     let m = run_of input script in
     a.2
@@ -38,7 +38,7 @@ one_report input script r s a b =
     ∙ sym b.2
 
 module _ (contents : Contents) (set script : List ℕ) where
-  ended : (ending : Result Answer Refusal) → SimulateEnds contents set script ending → (settled ending).status ≡ Done → IsReported contents set script (settled ending).text
+  ended : (ending : Result Answer Halt) → SimulateEnds contents set script ending → (settled ending).status ≡ Done → IsReported contents set script (settled ending).text
   ended ending is e =
       let input = then_done (Exactly (input_in contents set)) (λ input. Then (Exactly (script_in contents script input.set)) (ReportOf input)) ending is e in
       let stated = then_done (Exactly (script_in contents script input.0.set)) (ReportOf input.0) ending input.2 e in
@@ -50,7 +50,7 @@ module _ (contents : Contents) (set script : List ℕ) where
         input_is = input.1;
         script_is = stated.1;
         line = report.1;
-        text_is = ap (λ (r : Result Answer Refusal). (settled r).text) report.2;
+        text_is = ap (λ (r : Result Answer Halt). (settled r).text) report.2;
       }
 
 pub done_is_reported : (words : List (List ℕ)) (contents : Contents) → DoneIsReported words contents

@@ -11,7 +11,7 @@ use Rattle.crpd_io.specs.Outside.{Contents}
 use Rattle.crpd_tool.specs.declared.answer.Answer.{Answer}
 use Rattle.crpd_tool.specs.declared.status.Status.TheVariants.{Done}
 use Rattle.crpd_input.specs.declared.input.Input.{Input}
-use Rattle.crpd_input.specs.declared.refusal.Refusal.{Refusal}
+use Rattle.crpd_input.specs.declared.halt.Halt.{Halt}
 use Rattle.crpd_input.specs.declared.shapes.Shapes.{Shapes}
 use Rattle.crpd_input.specs.Reading.{input_in}
 use Rattle.crpd_input.specs.Shapes.{ShapesIn}
@@ -27,7 +27,7 @@ use Rattle.crpd_tool.proofs.OneSlack.{loop_bounded, one_pair}
 use Rattle.crpd_tool.proofs.Safety.{then_done}
 
 module _ (grows : DemandGrows) (stays_law : StaysAccepted) (contents : Contents) (set : List ℕ) where
-  greatest : (input : Input) (shapes : Shapes) (ending : Result Answer Refusal) → input_in contents set ≡ Ok input → ShapesIn input (Ok shapes)
+  greatest : (input : Input) (shapes : Shapes) (ending : Result Answer Halt) → input_in contents set ≡ Ok input → ShapesIn input (Ok shapes)
       → SlackOf input shapes ending → HasGreatestCosts contents set (settled ending).text
   greatest input shapes ending is shaped S =
       let good = input_good contents set input is in
@@ -42,7 +42,7 @@ module _ (grows : DemandGrows) (stays_law : StaysAccepted) (contents : Contents)
         second = S.1;
         input_is = is;
         shapes_are = shaped;
-        text_is = ap (λ (r : Result Answer Refusal). (settled r).text) S.3;
+        text_is = ap (λ (r : Result Answer Halt). (settled r).text) S.3;
         are = S.2;
         only = λ one two A. one_pair grows input.set (shown_at shapes.graphs shapes.nests) (has_times input.set good.ranges) bounded one two S.0 S.1 A S.2;
         stays = λ s m k d switch miss A.
@@ -50,7 +50,7 @@ module _ (grows : DemandGrows) (stays_law : StaysAccepted) (contents : Contents)
             (record { times = has_times input.set good.ranges; bounded = bounded; switch = switch; miss = miss }) A;
       }
 
-  ended : (ending : Result Answer Refusal) → SlackEnds contents set ending → (settled ending).status ≡ Done → HasGreatestCosts contents set (settled ending).text
+  ended : (ending : Result Answer Halt) → SlackEnds contents set ending → (settled ending).status ≡ Done → HasGreatestCosts contents set (settled ending).text
   ended ending is e =
       let input = then_done (Exactly (input_in contents set)) (λ input. Then (ShapesIn input) (SlackOf input)) ending is e in
       let shapes = then_done (ShapesIn input.0) (SlackOf input.0) ending input.2 e in

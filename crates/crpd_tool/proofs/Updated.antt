@@ -14,7 +14,7 @@ use Rattle.cert_model.specs.Writing.{text as certificate_text}
 use Rattle.cert_update.specs.Laws.{HasCodes, UpdateIsBestLaw, UpdateIsJudgedLaw}
 use Rattle.crpd_io.specs.Outside.{Contents}
 use Rattle.crpd_input.specs.declared.input.Input.{Input}
-use Rattle.crpd_input.specs.declared.refusal.Refusal.{Refusal}
+use Rattle.crpd_input.specs.declared.halt.Halt.{Halt}
 use Rattle.crpd_input.specs.declared.shapes.Shapes.{Shapes}
 use Rattle.crpd_input.specs.Reading.{certificate_in, input_in}
 use Rattle.crpd_input.specs.Shapes.{ShapesIn}
@@ -56,24 +56,24 @@ coded contents set input shapes is shaped =
 
 module _ (judges : UpdateIsJudgedLaw) (bests : UpdateIsBestLaw) (contents : Contents) (old_set old_certificate new_set : List ℕ) where
   -- the update with which the command ended
-  made : (old : Input) (old_shapes : Shapes) (stated : Certificate) (input : Input) (shapes : Shapes) (ending : Result Answer Refusal) → UpdateOf new_set old old_shapes stated input shapes ending
+  made : (old : Input) (old_shapes : Shapes) (stated : Certificate) (input : Input) (shapes : Shapes) (ending : Result Answer Halt) → UpdateOf new_set old old_shapes stated input shapes ending
       → (settled ending).status ≡ Done
       → IsJudged old.set (shown_at old_shapes.graphs old_shapes.nests) stated Yes × ((c : Certificate) × IsMadeAnew (side_of old old_shapes) stated (side_of input shapes) c × (ending ≡ Ok (certificate_answer c)))
   made old old_shapes stated input shapes ending (inl denied) e =
-      absurd (no_done old.set stated denied.0 denied.1 denied.2 (ap (λ (r : Result Answer Refusal). (settled r).status) (sym denied.4) ∙ e))
+      absurd (no_done old.set stated denied.0 denied.1 denied.2 (ap (λ (r : Result Answer Halt). (settled r).status) (sym denied.4) ∙ e))
   made old old_shapes stated input shapes ending (inr (judged, inl found)) e = (judged, found)
   made old old_shapes stated input shapes ending (inr (judged, inr none)) e =
-      absurd (not_done new_set input.set (as_of_analysis none.0) (ap (λ (r : Result Answer Refusal). (settled r).status) (sym none.3) ∙ e))
+      absurd (not_done new_set input.set (as_of_analysis none.0) (ap (λ (r : Result Answer Halt). (settled r).status) (sym none.3) ∙ e))
 
   module _ (old : Input) (old_shapes : Shapes) (stated : Certificate) (input : Input) (shapes : Shapes) (old_is : input_in contents old_set ≡ Ok old) (old_shaped : ShapesIn old (Ok old_shapes))
       (stated_is : certificate_in contents old_certificate ≡ Ok stated) (is : input_in contents new_set ≡ Ok input) (shaped : ShapesIn input (Ok shapes)) where
-    updated : (c : Certificate) (ending : Result Answer Refusal) → IsJudged old.set (shown_at old_shapes.graphs old_shapes.nests) stated Yes → IsMadeAnew (side_of old old_shapes) stated (side_of input shapes) c
+    updated : (c : Certificate) (ending : Result Answer Halt) → IsJudged old.set (shown_at old_shapes.graphs old_shapes.nests) stated Yes → IsMadeAnew (side_of old old_shapes) stated (side_of input shapes) c
         → ending ≡ Ok (certificate_answer c) → IsUpdated contents old_set old_certificate new_set (settled ending).text
     updated c ending judged M end =
         let O = coded contents old_set old old_shapes old_is old_shaped in
         let N = coded contents new_set input shapes is shaped in
         let yes = judges old.set input.set old_shapes.graphs shapes.graphs old_shapes.nests shapes.nests stated c O N judged M.update in
-        let text = ap (λ (r : Result Answer Refusal). (settled r).text) end in
+        let text = ap (λ (r : Result Answer Halt). (settled r).text) end in
         record {
           old = old;
           old_shapes = old_shapes;
@@ -98,7 +98,7 @@ module _ (judges : UpdateIsJudgedLaw) (bests : UpdateIsBestLaw) (contents : Cont
               inl (input, same, inl (shapes, shaped, inl (c, record { best = B; few = M.few; reads = M.reads }, ap (λ t. Ok (record { text = t; outcome = ended.Done })) text)));
         }
 
-  ending_done : (ending : Result Answer Refusal) → UpdateEnds contents old_set old_certificate new_set ending → (settled ending).status ≡ Done → IsUpdated contents old_set old_certificate new_set (settled ending).text
+  ending_done : (ending : Result Answer Halt) → UpdateEnds contents old_set old_certificate new_set ending → (settled ending).status ≡ Done → IsUpdated contents old_set old_certificate new_set (settled ending).text
   ending_done ending is e =
       let old = then_done (Exactly (input_in contents old_set)) (λ old. Then (ShapesIn old) (λ x. Then (Exactly (certificate_in contents old_certificate)) (λ c. Then (Exactly (input_in contents new_set)) (λ input. Then (ShapesIn input) (UpdateOf new_set old x c input))))) ending is e in
       let x = then_done (ShapesIn old.0) (λ x. Then (Exactly (certificate_in contents old_certificate)) (λ c. Then (Exactly (input_in contents new_set)) (λ input. Then (ShapesIn input) (UpdateOf new_set old.0 x c input)))) ending old.2 e in

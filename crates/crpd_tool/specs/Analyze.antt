@@ -15,12 +15,14 @@ use Rattle.crpd_io.specs.Outside.{Contents}
 use Rattle.crpd_tool.specs.declared.answer.Answer.{Answer}
 use Rattle.crpd_tool.specs.declared.answer.Outcome.TheVariants.{Done, No}
 use Rattle.crpd_input.specs.declared.input.Input.{Input}
-use Rattle.crpd_input.specs.declared.refusal.Refusal.{Refusal}
+use Rattle.crpd_input.specs.declared.cause.Cause.TheVariants as cause
+use Rattle.crpd_input.specs.declared.halt.Halt.{Halt}
+use Rattle.crpd_input.specs.declared.halt.Halt.TheVariants as halt
 use Rattle.crpd_input.specs.declared.shapes.Shapes.{Shapes}
 use Rattle.crpd_input.specs.Graphs.{refused_at}
 use Rattle.crpd_input.specs.Reading.{input_in, name_of}
 use Rattle.crpd_input.specs.Shapes.{ShapesIn}
-use Rattle.crpd_input.specs.Steps.{Exactly, Then, plain_refusal, refusal}
+use Rattle.crpd_input.specs.Steps.{Exactly, Then, refusal}
 use Rattle.crpd_tool.specs.Texts.{line, unschedulable_text}
 
 -- the certificate of the analysis, with at most 4,000,000 state entries; its text is read as this certificate
@@ -35,18 +37,18 @@ certificate_answer c = record { text = line (certificate_text c); outcome = Done
 
 -- how the command ends where there is no certificate: a bound that is too large is a refusal of the task, and too many
 -- state entries one of the set's file; a task without a window is an answer. Want of memory is none.
-abbrev pub without_certificate : List ℕ → TaskSet → BuildError → Result Answer Refusal
-without_certificate file set build.Memory = Err (plain_refusal 0 file)
-without_certificate file set (build.TooLarge task address) = Err (refused_at 64 (name_of set task) address)
-without_certificate file set (build.TooManyEntries count) = Err (refusal 75 file (decimal count))
+abbrev pub without_certificate : List ℕ → TaskSet → BuildError → Result Answer Halt
+without_certificate file set build.Memory = Err halt.Memory
+without_certificate file set (build.TooLarge task address) = Err (refused_at cause.BoundTooLarge (name_of set task) address)
+without_certificate file set (build.TooManyEntries count) = Err (refusal cause.TooManyEntries file (decimal count))
 without_certificate file set (build.Unschedulable task) = Ok (record { text = unschedulable_text (name_of set task); outcome = No })
 
 -- the analysis of all tasks, over their graphs and the regions of their loops: its certificate, or why there is none
-abbrev pub AnalysisOf : List ℕ → Input → Shapes → Result Answer Refusal → Type 0
+abbrev pub AnalysisOf : List ℕ → Input → Shapes → Result Answer Halt → Type 0
 AnalysisOf file input shapes r =
     ((c : Certificate) × IsMade input.set (shown_at shapes.graphs shapes.nests) c × (r ≡ Ok (certificate_answer c)))
     ⊎ ((e : BuildError) × (e ≢ build.Memory) × IsBuildRefused input.set (shown_at shapes.graphs shapes.nests) e × (r ≡ without_certificate file input.set e))
 
 -- the whole command: the set with its code, the graphs of all tasks and the regions of their loops, and then the analysis
-abbrev pub AnalyzeEnds : Contents → List ℕ → Result Answer Refusal → Type 0
+abbrev pub AnalyzeEnds : Contents → List ℕ → Result Answer Halt → Type 0
 AnalyzeEnds contents set = Then (Exactly (input_in contents set)) (λ input. Then (ShapesIn input) (AnalysisOf set input))

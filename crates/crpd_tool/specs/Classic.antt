@@ -13,7 +13,7 @@ use Rattle.delay_classic.specs.Refused.{IsClassicRefused}
 use Rattle.crpd_io.specs.Outside.{Contents}
 use Rattle.crpd_tool.specs.declared.answer.Answer.{Answer}
 use Rattle.crpd_input.specs.declared.input.Input.{Input}
-use Rattle.crpd_input.specs.declared.refusal.Refusal.{Refusal}
+use Rattle.crpd_input.specs.declared.halt.Halt.{Halt}
 use Rattle.crpd_input.specs.declared.shapes.Shapes.{Shapes}
 use Rattle.crpd_input.specs.Reading.{input_in}
 use Rattle.crpd_input.specs.Shapes.{ShapesIn}
@@ -28,11 +28,11 @@ pub record IsMadeClassic (set : TaskSet) (graphs : ℕ → TaskGraph) (c : Certi
 
 -- the analysis of all tasks with the plain union delays, over their graphs and the regions of their loops: its certificate,
 -- or why there is none
-abbrev pub ClassicOf : List ℕ → Input → Shapes → Result Answer Refusal → Type 0
+abbrev pub ClassicOf : List ℕ → Input → Shapes → Result Answer Halt → Type 0
 ClassicOf file input shapes r =
     ((c : Certificate) × IsMadeClassic input.set (shown_at shapes.graphs shapes.nests) c × (r ≡ Ok (certificate_answer c)))
     ⊎ ((e : BuildError) × (e ≢ Memory) × IsClassicRefused input.set (shown_at shapes.graphs shapes.nests) e × (r ≡ without_certificate file input.set e))
 
 -- the whole command: the set with its code, the graphs of all tasks and the regions of their loops, and then the analysis
-abbrev pub ClassicEnds : Contents → List ℕ → Result Answer Refusal → Type 0
+abbrev pub ClassicEnds : Contents → List ℕ → Result Answer Halt → Type 0
 ClassicEnds contents set = Then (Exactly (input_in contents set)) (λ input. Then (ShapesIn input) (ClassicOf set input))

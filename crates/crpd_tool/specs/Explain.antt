@@ -14,7 +14,7 @@ use Rattle.run_account.specs.declared.told.Account.{Account}
 use Rattle.crpd_io.specs.Outside.{Contents}
 use Rattle.crpd_report.specs.Explain.{delay_lines, reload_lines}
 use Rattle.crpd_input.specs.declared.input.Input.{Input}
-use Rattle.crpd_input.specs.declared.refusal.Refusal.{Refusal}
+use Rattle.crpd_input.specs.declared.halt.Halt.{Halt}
 use Rattle.crpd_input.specs.declared.shapes.Shapes.{Shapes}
 use Rattle.crpd_input.specs.Reading.{certificate_in, input_in}
 use Rattle.crpd_input.specs.Script.{script_in}
@@ -32,7 +32,7 @@ account_answer set certificate account last =
 
 -- the account of the script's run over the graphs of all tasks, with the line of the run in the state after the script's
 -- cycles
-abbrev pub AccountOf : Input → Shapes → Certificate → Script → Result Answer Refusal → Type 0
+abbrev pub AccountOf : Input → Shapes → Certificate → Script → Result Answer Halt → Type 0
 AccountOf input shapes certificate script r =
     (account : Account) × (last : List ℕ)
     × IsAccount (start_of_script input.set input.code script) (shown_at shapes.graphs shapes.nests) certificate script.cycles account
@@ -40,19 +40,19 @@ AccountOf input shapes certificate script r =
     × (r ≡ Ok (account_answer input.set certificate account last))
 
 -- the account after a yes, and else the line of the no
-abbrev pub ExplainedBy : Input → Shapes → Certificate → Script → Verdict → Result Answer Refusal → Type 0
+abbrev pub ExplainedBy : Input → Shapes → Certificate → Script → Verdict → Result Answer Halt → Type 0
 ExplainedBy input shapes certificate script Yes r = AccountOf input shapes certificate script r
 ExplainedBy input shapes certificate script (No task clause place) r = r ≡ Ok (verdict_answer input.set certificate (No task clause place))
 
 -- what follows the judge's verdict on a certificate, over the graphs of all tasks with the regions of their loops
-abbrev pub ExplanationOf : Input → Shapes → Certificate → Script → Result Answer Refusal → Type 0
+abbrev pub ExplanationOf : Input → Shapes → Certificate → Script → Result Answer Halt → Type 0
 ExplanationOf input shapes certificate script r =
     (verdict : Verdict) × IsJudged input.set (shown_at shapes.graphs shapes.nests) certificate (answer_of verdict)
     × ExplainedBy input shapes certificate script verdict r
 
 -- the whole command: the set with its code, the graphs of all tasks and the regions of their loops, the certificate, the
 -- script, and then the verdict
-abbrev pub ExplainEnds : Contents → List ℕ → List ℕ → List ℕ → Result Answer Refusal → Type 0
+abbrev pub ExplainEnds : Contents → List ℕ → List ℕ → List ℕ → Result Answer Halt → Type 0
 ExplainEnds contents set certificate script =
     Then (Exactly (input_in contents set)) (λ input.
     Then (ShapesIn input) (λ shapes.

@@ -22,7 +22,7 @@ use Rattle.crpd_report.specs.Made.{generate_text, made_line}
 use Rattle.gen_tasks.specs.Made.{made}
 use Rattle.gen_tasks.specs.declared.Generated.{Generated}
 use Rattle.crpd_input.specs.declared.input.Input.{Input}
-use Rattle.crpd_input.specs.declared.refusal.Refusal.{Refusal}
+use Rattle.crpd_input.specs.declared.halt.Halt.{Halt}
 use Rattle.crpd_input.specs.declared.shapes.Shapes.{Shapes}
 use Rattle.crpd_input.specs.Reading.{code_in}
 use Rattle.crpd_input.specs.Shapes.{ShapesIn}
@@ -48,11 +48,11 @@ abbrev pub made_name : List ℕ
 made_name = codes "generate"
 
 -- a set with the code that these files mean, as for a set that was read
-abbrev pub input_of : TaskSet → List (List ℕ) → Result Input Refusal
+abbrev pub input_of : TaskSet → List (List ℕ) → Result Input Halt
 input_of set files = and_then (code_in (held (named_files set files)) made_name set) (λ code. Ok (record { set = set; code = code }))
 
 -- the made set with its code
-abbrev pub made_input : ℕ → Result Input Refusal
+abbrev pub made_input : ℕ → Result Input Halt
 made_input n = input_of (made n).set (made n).files
 
 -- ---- its analysis, its verdict and its run
@@ -76,26 +76,26 @@ made_answer n script input shapes c verdict kept = record {
   outcome = verdict_outcome verdict;
 }
 
--- an answer behind a line; a refusal stands alone
-abbrev pub behind : List ℕ → Result Answer Refusal → Result Answer Refusal
+-- an answer behind a line; a stop stands alone
+abbrev pub behind : List ℕ → Result Answer Halt → Result Answer Halt
 behind line (Ok answer) = Ok (record { text = line ++ answer.text; outcome = answer.outcome })
-behind line (Err refusal) = Err refusal
+behind line (Err halt) = Err halt
 
 -- where there is no certificate, the analysis' end, with the first line before the line of a task without a window
-abbrev pub without_made : ℕ → Input → Shapes → BuildError → Result Answer Refusal
+abbrev pub without_made : ℕ → Input → Shapes → BuildError → Result Answer Halt
 without_made n input shapes e = behind (made_line n (node_count shapes.graphs)) (without_certificate made_name input.set e)
 
 -- the analysis of all tasks, and with its certificate the verdict and the script's run
-abbrev pub GeneratedOf : ℕ → Script → Input → Shapes → Result Answer Refusal → Type 0
+abbrev pub GeneratedOf : ℕ → Script → Input → Shapes → Result Answer Halt → Type 0
 GeneratedOf n script input shapes r =
     ((c : Certificate) × (verdict : Verdict) × (kept : Bool) × IsRunJudged script input shapes c verdict kept × (r ≡ Ok (made_answer n script input shapes c verdict kept)))
     ⊎ ((e : BuildError) × (e ≢ build.Memory) × IsBuildRefused input.set (shown_at shapes.graphs shapes.nests) e × (r ≡ without_made n input shapes e))
 
 -- over an input that was made of a number: the set with its code, the graphs of all tasks and the regions of their loops,
 -- and then the analysis, the verdict and the run
-abbrev pub EndsFrom : ℕ → Generated → Result Answer Refusal → Type 0
+abbrev pub EndsFrom : ℕ → Generated → Result Answer Halt → Type 0
 EndsFrom n g = Then (Exactly (input_of g.set g.files)) (λ input. Then (ShapesIn input) (GeneratedOf n g.script input))
 
 -- the whole command
-abbrev pub GenerateEnds : ℕ → Result Answer Refusal → Type 0
+abbrev pub GenerateEnds : ℕ → Result Answer Halt → Type 0
 GenerateEnds n = EndsFrom n (made n)

@@ -10,7 +10,7 @@ use Rattle.crpd_io.specs.Outside.{Contents}
 use Rattle.crpd_tool.specs.declared.answer.Answer.{Answer}
 use Rattle.crpd_tool.specs.declared.answer.Outcome.TheVariants.{Done}
 use Rattle.crpd_input.specs.declared.input.Input.{Input}
-use Rattle.crpd_input.specs.declared.refusal.Refusal.{Refusal}
+use Rattle.crpd_input.specs.declared.halt.Halt.{Halt}
 use Rattle.crpd_input.specs.declared.shapes.Shapes.{Shapes}
 use Rattle.crpd_input.specs.Reading.{input_in}
 use Rattle.crpd_input.specs.Shapes.{ShapesIn}
@@ -26,10 +26,10 @@ abbrev pub slack_answer : TaskSet → (first second : Slack) → Answer
 slack_answer set first second = record { text = slack_text set first second; outcome = Done }
 
 -- the text of these, over the graphs of the tasks and the regions of their loops
-abbrev pub SlackOf : Input → Shapes → Result Answer Refusal → Type 0
+abbrev pub SlackOf : Input → Shapes → Result Answer Halt → Type 0
 SlackOf input shapes r =
     (first : Slack) × (second : Slack) × AreSlacks input.set (shown_at shapes.graphs shapes.nests) first second × (r ≡ Ok (slack_answer input.set first second))
 
 -- the whole command: the set with its code, the graphs of all tasks and the regions of their loops, and then the text
-abbrev pub SlackEnds : Contents → List ℕ → Result Answer Refusal → Type 0
+abbrev pub SlackEnds : Contents → List ℕ → Result Answer Halt → Type 0
 SlackEnds contents set = Then (Exactly (input_in contents set)) (λ input. Then (ShapesIn input) (SlackOf input))

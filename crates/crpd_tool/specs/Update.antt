@@ -18,7 +18,7 @@ use Rattle.cert_update.specs.declared.fault.UpdateError.{UpdateError}
 use Rattle.cert_update.specs.declared.fault.UpdateError.TheVariants as fault
 use Rattle.crpd_io.specs.Outside.{Contents}
 use Rattle.crpd_input.specs.declared.input.Input.{Input}
-use Rattle.crpd_input.specs.declared.refusal.Refusal.{Refusal}
+use Rattle.crpd_input.specs.declared.halt.Halt.{Halt}
 use Rattle.crpd_input.specs.declared.shapes.Shapes.{Shapes}
 use Rattle.crpd_input.specs.Reading.{certificate_in, input_in}
 use Rattle.crpd_input.specs.Shapes.{ShapesIn}
@@ -45,27 +45,27 @@ as_of_analysis (fault.TooManyEntries count) = build.TooManyEntries count
 as_of_analysis (fault.Unschedulable task) = build.Unschedulable task
 
 -- the answer to the judge's no to the old certificate
-abbrev pub NoOf : Input → Shapes → Certificate → Result Answer Refusal → Type 0
+abbrev pub NoOf : Input → Shapes → Certificate → Result Answer Halt → Type 0
 NoOf old shapes stated r =
     (task : Task) × (clause : ℕ) × (place : ℕ) × IsJudged old.set (shown_at shapes.graphs shapes.nests) stated (answer_of (verdict.No task clause place))
     × (r ≡ Ok (verdict_answer old.set stated (verdict.No task clause place)))
 
 -- the new certificate, or why there is none; the file is the new set's
-abbrev pub ChangeOf : List ℕ → Input → Shapes → Certificate → Input → Shapes → Result Answer Refusal → Type 0
+abbrev pub ChangeOf : List ℕ → Input → Shapes → Certificate → Input → Shapes → Result Answer Halt → Type 0
 ChangeOf file old old_shapes stated input shapes r =
     ((c : Certificate) × IsMadeAnew (side_of old old_shapes) stated (side_of input shapes) c × (r ≡ Ok (certificate_answer c)))
     ⊎ ((e : UpdateError) × (e ≢ fault.Memory) × IsRefused (side_of old old_shapes) stated (side_of input shapes) e
     × (r ≡ without_certificate file input.set (as_of_analysis e)))
 
 -- the judge's no to the old certificate, or, where he says yes to it, its update to the new set
-abbrev pub UpdateOf : List ℕ → Input → Shapes → Certificate → Input → Shapes → Result Answer Refusal → Type 0
+abbrev pub UpdateOf : List ℕ → Input → Shapes → Certificate → Input → Shapes → Result Answer Halt → Type 0
 UpdateOf file old old_shapes stated input shapes r =
     NoOf old old_shapes stated r
     ⊎ (IsJudged old.set (shown_at old_shapes.graphs old_shapes.nests) stated Yes × ChangeOf file old old_shapes stated input shapes r)
 
 -- the whole command: the old set with its code, its graphs and regions, the old certificate; the new set with its code, its
 -- graphs and regions; then the verdict on the old certificate, and the update
-abbrev pub UpdateEnds : Contents → List ℕ → List ℕ → List ℕ → Result Answer Refusal → Type 0
+abbrev pub UpdateEnds : Contents → List ℕ → List ℕ → List ℕ → Result Answer Halt → Type 0
 UpdateEnds contents old_set old_certificate new_set =
     Then (Exactly (input_in contents old_set)) (λ old.
     Then (ShapesIn old) (λ old_shapes.

@@ -10,7 +10,7 @@ use crate::answer::{Answer, Outcome};
 use crate::texts::{certificate_text, no_window_text};
 use cert_build::BuildError;
 use crpd_base::{Certificate, Memory, TaskSet};
-use crpd_input::{Halt, refuse_address, refuse_count, task_name};
+use crpd_input::{Cause, Halt, refuse_address, refuse_count, task_name};
 use std::alloc::Global;
 
 /// The answer with a certificate.
@@ -41,9 +41,9 @@ pub(crate) fn without_certificate(
         BuildError::Memory => Err(Halt::Memory),
         BuildError::TooLarge { task, address } => {
             let name = task_name(set, task);
-            Err(refuse_address(alloc, 64, name, address))
+            Err(refuse_address(alloc, Cause::BoundTooLarge, name, address))
         }
-        BuildError::TooManyEntries(count) => Err(refuse_count(alloc, 75, file, count)),
+        BuildError::TooManyEntries(count) => Err(refuse_count(alloc, Cause::TooManyEntries, file, count)),
         BuildError::Unschedulable(task) => Ok(Answer {
             text: no_window_text(alloc, task_name(set, task))?,
             outcome: Outcome::No,

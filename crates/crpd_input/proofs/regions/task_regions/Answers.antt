@@ -2,7 +2,7 @@ use Rattle.std.proofs.Common.{◌≡◌, ◌∙◌, ap, sym, get_or, Some, rules
 use Rattle.std.specs.Prelude.{slice_get}
 use Rattle.std.proofs.lemmas.Option.{slice_get-get_or}
 use Rattle.flat_graph.specs.CodeGraph.{CodeGraph}
-use Rattle.crpd_input.specs.Graphs.{RegionsAt, loop_refusal}
+use Rattle.crpd_input.specs.Graphs.{RegionsAt, loop_halt}
 use Rattle.crpd_input.proofs.Below.{stops_so}
 use Rattle.crpd_input.proofs.Nests.{graph_there, plan_bounded}
 use Rattle.crpd_input.proofs.regions.task_regions.Goals as goal
@@ -19,8 +19,8 @@ returns-in-Err-clause-exact c =
     let here : slice_get c.args.graphs.now c.args.task.0 ≡ Some c.index-graphs-from.result =
     slice_get-get_or c.args.graphs.now c.args.task.0 c.index-graphs-from.result c.requires.has_graph
     ∙ ap (λ k. Some (get_or c.args.graphs.now k c.index-graphs-from.result)) (sym c.from.ensures) ∙ ap (λ (g : CodeGraph). Some g) (sym c.index-graphs-from.is) in
-    stops_so (RegionsAt c.args.input.now c.args.graphs.now c.args.task.0) (loop_refusal c.task_name.result.now c.in-Err.error) c.loop_halt.result c.loop_halt.ensures
-    (c.plan.result.now, c.index-graphs-from.result, c.plan.ensures, here, (c.in-Err.error, (search rules), c.in-Err.ensures.refused, ap (λ n. loop_refusal n c.in-Err.error) c.task_name.ensures))
+    stops_so (RegionsAt c.args.input.now c.args.graphs.now c.args.task.0) (loop_halt c.task_name.result.now c.in-Err.error) c.loop_halt.result c.loop_halt.ensures
+    (c.plan.result.now, c.index-graphs-from.result, c.plan.ensures, here, (c.in-Err.error, (search rules), c.in-Err.ensures.refused, ap (λ n. loop_halt n c.in-Err.error) c.task_name.ensures))
 
 pub returns-in-Ok-clause-shown : goal.returns-in-Ok-clause-shown
 returns-in-Ok-clause-shown c =

@@ -6,7 +6,7 @@ use Rattle.crpd_input.specs.Script.{script_in}
 use Rattle.crpd_input.specs.Shapes.{ShapesIn}
 use Rattle.crpd_input.specs.Steps.{Exactly, Then}
 use Rattle.crpd_input.specs.declared.input.Input.{Input}
-use Rattle.crpd_input.specs.declared.refusal.Refusal.{Refusal}
+use Rattle.crpd_input.specs.declared.halt.Halt.{Halt}
 use Rattle.crpd_input.specs.declared.shapes.Shapes.{Shapes}
 use Rattle.crpd_input.proofs.Chain.{by_exactly, goes_on, stopped}
 use Rattle.crpd_tool.specs.Explain.{ExplanationOf}
@@ -14,13 +14,13 @@ use Rattle.crpd_tool.specs.declared.answer.Answer.{Answer}
 use Rattle.crpd_tool.proofs.explain.explain.Goals as goal
 
 -- the steps behind the certificate, behind the shapes, and behind the set with its code
-abbrev Scripts : Contents → List ℕ → Input → Shapes → Certificate → Result Answer Refusal → Type 0
+abbrev Scripts : Contents → List ℕ → Input → Shapes → Certificate → Result Answer Halt → Type 0
 Scripts contents script input shapes stated = Then (Exactly (script_in contents script input.set)) (ExplanationOf input shapes stated)
 
-abbrev Certificates : Contents → List ℕ → List ℕ → Input → Shapes → Result Answer Refusal → Type 0
+abbrev Certificates : Contents → List ℕ → List ℕ → Input → Shapes → Result Answer Halt → Type 0
 Certificates contents certificate script input shapes = Then (Exactly (certificate_in contents certificate)) (Scripts contents script input shapes)
 
-abbrev Rest : Contents → List ℕ → List ℕ → Input → Result Answer Refusal → Type 0
+abbrev Rest : Contents → List ℕ → List ℕ → Input → Result Answer Halt → Type 0
 Rest contents certificate script input = Then (ShapesIn input) (Certificates contents certificate script input)
 
 pub returns-clause-exact : goal.returns-clause-exact

@@ -4,7 +4,7 @@ use Rattle.cert_check.specs.Answered.{answer_of}
 use Rattle.cert_check.specs.Shown.{shown_at}
 use Rattle.cert_check.specs.Verdict.{IsJudged, Yes}
 use Rattle.cert_check.specs.declared.outcome.Verdict.TheVariants as verdict
-use Rattle.crpd_input.proofs.InRange.{in_range}
+use Rattle.cert_build.proofs.InRange.{in_range}
 use Rattle.crpd_tool.specs.Check.{verdict_answer}
 use Rattle.crpd_tool.proofs.Explaining.{after_no, after_yes}
 use Rattle.crpd_tool.proofs.explain.explanation.Goals as goal

@@ -6,7 +6,7 @@ use Rattle.cert_check.specs.Shown.{shown_at}
 use Rattle.cert_check.specs.Verdict.{IsJudged}
 use Rattle.preempt_machine.specs.declared.Completion.{Completion}
 use Rattle.crpd_report.specs.Made.{generate_text}
-use Rattle.crpd_input.proofs.InRange.{in_range}
+use Rattle.cert_build.proofs.InRange.{in_range}
 use Rattle.crpd_tool.specs.declared.answer.Answer.{Answer}
 use Rattle.crpd_tool.specs.Generate.{made_answer, node_count}
 use Rattle.crpd_tool.specs.Simulate.{completions_of, run_of}

@@ -1,7 +1,7 @@
 use Rattle.std.proofs.Common.{◌∙◌, List, ℕ, Result, Ok, Err}
 use Rattle.crpd_io.specs.Outside.{Contents}
 use Rattle.crpd_input.specs.declared.input.Input.{Input}
-use Rattle.crpd_input.specs.declared.refusal.Refusal.{Refusal}
+use Rattle.crpd_input.specs.declared.halt.Halt.{Halt}
 use Rattle.crpd_input.specs.Reading.{input_in}
 use Rattle.crpd_input.specs.Script.{script_in}
 use Rattle.crpd_input.specs.Steps.{Exactly, Then}
@@ -11,7 +11,7 @@ use Rattle.crpd_tool.specs.declared.answer.Answer.{Answer}
 use Rattle.crpd_tool.proofs.simulate.simulate.Goals as goal
 
 -- the steps behind the set with its code
-abbrev Rest : Contents → List ℕ → Input → Result Answer Refusal → Type 0
+abbrev Rest : Contents → List ℕ → Input → Result Answer Halt → Type 0
 Rest contents script input = Then (Exactly (script_in contents script input.set)) (ReportOf input)
 
 pub returns-clause-exact : goal.returns-clause-exact

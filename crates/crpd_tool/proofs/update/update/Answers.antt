@@ -3,7 +3,6 @@ use Rattle.crpd_base.specs.declared.data.Certificate.{Certificate}
 use Rattle.crpd_io.specs.Outside.{Contents}
 use Rattle.crpd_input.specs.declared.halt.Halt.{Halt}
 use Rattle.crpd_input.specs.declared.input.Input.{Input}
-use Rattle.crpd_input.specs.declared.refusal.Refusal.{Refusal}
 use Rattle.crpd_input.specs.declared.shapes.Shapes.{Shapes}
 use Rattle.crpd_input.specs.Reading.{certificate_in, input_in}
 use Rattle.crpd_input.specs.Shapes.{ShapesIn}
@@ -15,16 +14,16 @@ use Rattle.crpd_tool.proofs.update.update.Goals as goal
 
 module _ (contents : Contents) (old_set old_certificate new_set : List ℕ) where
   -- the steps behind each value
-  abbrev Compared : Input → Shapes → Certificate → Input → Result Answer Refusal → Type 0
+  abbrev Compared : Input → Shapes → Certificate → Input → Result Answer Halt → Type 0
   Compared old x c input = Then (ShapesIn input) (UpdateOf new_set old x c input)
 
-  abbrev Renewed : Input → Shapes → Certificate → Result Answer Refusal → Type 0
+  abbrev Renewed : Input → Shapes → Certificate → Result Answer Halt → Type 0
   Renewed old x c = Then (Exactly (input_in contents new_set)) (Compared old x c)
 
-  abbrev Stated : Input → Shapes → Result Answer Refusal → Type 0
+  abbrev Stated : Input → Shapes → Result Answer Halt → Type 0
   Stated old x = Then (Exactly (certificate_in contents old_certificate)) (Renewed old x)
 
-  abbrev Older : Input → Result Answer Refusal → Type 0
+  abbrev Older : Input → Result Answer Halt → Type 0
   Older old = Then (ShapesIn old) (Stated old)
 
   -- the command, behind the old set with its graphs and regions, behind the old certificate, and behind the new set

@@ -1,0 +1,189 @@
+// Why something is refused.
+ghost use Rattle.std.specs.Prelude.{◌≡◌};
+ghost use Rattle.crpd_input.specs.Causes.{row as row_of};
+
+/// Why something is refused. Where nothing else is said, the refusal has no detail.
+#[derive(Clone, Copy, Debug, PartialEq, Eq)]
+pub enum Cause {
+    /// An ELF file has fewer than 52 bytes.
+    Short,
+    /// Its first four bytes are another file's.
+    NotElf,
+    /// It is not of 32 bits in little-endian order, or of another version.
+    NotElf32Little,
+    /// It is for another machine.
+    NotRiscV,
+    /// It is an object file or a shared one.
+    NotExecutable,
+    /// It asks for dynamic linking; the detail is the program header's place.
+    NotStatic,
+    /// Its program headers are not of 32 bytes, or not inside the file.
+    HeaderOutside,
+    /// A segment is not inside the file or the addresses; the detail is the program header's
+    /// place.
+    SegmentOutside,
+    /// A segment shares an address with an earlier one; the detail is the program header's place.
+    SegmentsOverlap,
+    /// It has no executable segment with bytes.
+    NoCode,
+    /// Its sections, symbols or their names are not inside the file, or not of their sizes.
+    SymbolsOutside,
+    /// A task set is no TOML text.
+    SetNotToml,
+    /// A required key of a task set is absent; the detail is the key, as in the next one.
+    SetMissing,
+    /// A value of a task set is of another kind or outside its range.
+    SetBadValue,
+    /// A task set has more than 32 tasks; the detail is their number.
+    TooManyTasks,
+    /// A task's name occurs earlier; the detail is the key.
+    SameName,
+    /// A deadline exceeds its period; the detail is the key.
+    DeadlineAfterPeriod,
+    /// A task set has a key that is none of its keys; the detail is the key.
+    SetUnknownKey,
+    /// A script is no TOML text.
+    ScriptNotToml,
+    /// A required key of a script is absent; the detail is the key, as in those of scripts below.
+    ScriptMissing,
+    /// A value of a script is of another kind or outside its range.
+    ScriptBadValue,
+    /// A job's task is not in the set.
+    UnknownTask,
+    /// A script has more than 2^40 cycles or more than 10,000 jobs.
+    ScriptTooLong,
+    /// A script has a key that is none of its keys.
+    ScriptUnknownKey,
+    /// Two files have different code at an address; the detail is the least such address.
+    CodeConflict,
+    /// A task's file has no such symbol, or symbol and offset together pass 2^32; the detail is
+    /// the place.
+    UnknownSymbol,
+    /// There is no word of code at a task's entry; the detail is the entry.
+    EntryOutside,
+    /// The word at an address that a task's flow reaches is no instruction; the detail is this
+    /// address, as in those of flows below.
+    Undecodable,
+    /// The flow leaves the code.
+    OutsideCode,
+    /// The flow reaches a `jalr` that is no return.
+    IndirectJump,
+    /// The flow reaches a `jal` that links in another register than x1.
+    OtherLink,
+    /// The flow reaches an `ebreak`.
+    Breakpoint,
+    /// The flow reaches a call of a function that is under way.
+    Recursive,
+    /// The flow has more than 16,384 nodes; the detail is the entry.
+    TooManyNodes,
+    /// The flow reaches a call within 16 calls.
+    TooDeep,
+    /// The flow reaches an address that is no multiple of 4.
+    Misaligned,
+    /// A loop is entered elsewhere than at its head; the detail is the address of the least such
+    /// node.
+    SecondEntry,
+    /// Two loops overlap and neither holds the other; the detail is the address of the least such
+    /// node.
+    NotNested,
+    /// Two stated loops have one head; the detail is its address.
+    SameHead,
+    /// A cycle has no stated loop; the detail is the address of the least node on one.
+    CycleWithoutBound,
+    /// A task's bound exceeds 2^40; the detail is the entry.
+    BoundTooLarge,
+    /// A certificate is no JSON text.
+    NotJson,
+    /// A key of a certificate is absent; the detail is the key, as in the next one.
+    CertificateMissing,
+    /// A value of a certificate is of another kind or outside its range.
+    CertificateBadValue,
+    /// A certificate has more than 4,000,000 state entries; the detail is their number.
+    CertificateTooLong,
+    /// A certificate is of another version; the detail is the version.
+    OtherVersion,
+    /// The certificate to be made would have more than 4,000,000 state entries; the detail is
+    /// their number.
+    TooManyEntries,
+    /// There is no file of this name.
+    NoFile,
+    /// A file is longer than is read.
+    FileTooLong,
+    /// The set has no task of this name; the detail is the name.
+    NoSuchTask,
+}
+
+impl Cause {
+    // The number and the name of each cause.
+    fn row(self) -> (u32, &'static str)
+        ensures number { result.0 ≡ (row_of self).0 }
+        ensures name { result.1.now ≡ (row_of self).1 }
+    {
+        match self {
+            Cause::Short => (1, "Short"),
+            Cause::NotElf => (2, "NotElf"),
+            Cause::NotElf32Little => (3, "NotElf32Little"),
+            Cause::NotRiscV => (4, "NotRiscV"),
+            Cause::NotExecutable => (5, "NotExecutable"),
+            Cause::NotStatic => (6, "NotStatic"),
+            Cause::HeaderOutside => (7, "HeaderOutside"),
+            Cause::SegmentOutside => (8, "SegmentOutside"),
+            Cause::SegmentsOverlap => (9, "SegmentsOverlap"),
+            Cause::NoCode => (10, "NoCode"),
+            Cause::SymbolsOutside => (11, "SymbolsOutside"),
+            Cause::SetNotToml => (20, "NotToml"),
+            Cause::SetMissing => (21, "Missing"),
+            Cause::SetBadValue => (22, "BadValue"),
+            Cause::TooManyTasks => (23, "TooManyTasks"),
+            Cause::SameName => (24, "SameName"),
+            Cause::DeadlineAfterPeriod => (25, "DeadlineAfterPeriod"),
+            Cause::SetUnknownKey => (26, "UnknownKey"),
+            Cause::ScriptNotToml => (30, "NotToml"),
+            Cause::ScriptMissing => (31, "Missing"),
+            Cause::ScriptBadValue => (32, "BadValue"),
+            Cause::UnknownTask => (33, "UnknownTask"),
+            Cause::ScriptTooLong => (34, "TooLong"),
+            Cause::ScriptUnknownKey => (35, "UnknownKey"),
+            Cause::CodeConflict => (40, "CodeConflict"),
+            Cause::UnknownSymbol => (41, "UnknownSymbol"),
+            Cause::EntryOutside => (42, "EntryOutside"),
+            Cause::Undecodable => (50, "Undecodable"),
+            Cause::OutsideCode => (51, "OutsideCode"),
+            Cause::IndirectJump => (52, "IndirectJump"),
+            Cause::OtherLink => (53, "OtherLink"),
+            Cause::Breakpoint => (54, "Breakpoint"),
+            Cause::Recursive => (55, "Recursive"),
+            Cause::TooManyNodes => (56, "TooManyNodes"),
+            Cause::TooDeep => (57, "TooDeep"),
+            Cause::Misaligned => (58, "Misaligned"),
+            Cause::SecondEntry => (60, "SecondEntry"),
+            Cause::NotNested => (61, "NotNested"),
+            Cause::SameHead => (62, "SameHead"),
+            Cause::CycleWithoutBound => (63, "CycleWithoutBound"),
+            Cause::BoundTooLarge => (64, "BoundTooLarge"),
+            Cause::NotJson => (70, "NotJson"),
+            Cause::CertificateMissing => (71, "Missing"),
+            Cause::CertificateBadValue => (72, "BadValue"),
+            Cause::CertificateTooLong => (73, "TooLong"),
+            Cause::OtherVersion => (74, "OtherVersion"),
+            Cause::TooManyEntries => (75, "TooManyEntries"),
+            Cause::NoFile => (80, "NoFile"),
+            Cause::FileTooLong => (81, "FileTooLong"),
+            Cause::NoSuchTask => (82, "NoSuchTask"),
+        }
+    }
+
+    /// The number of this cause, from 1 to 82. In constant time.
+    pub fn number(self) -> u32
+        ensures { result ≡ (row_of self).0 }
+    {
+        self.row().0
+    }
+
+    /// The name of this cause; causes of different files may share one. In constant time.
+    pub fn name(self) -> &'static str
+        ensures { result.now ≡ (row_of self).1 }
+    {
+        self.row().1
+    }
+}
