@@ -22,7 +22,8 @@ use Rattle.serde_json.specs.Find.{as_object, get_member}
 use Rattle.serde_json.specs.View.{items_of}
 use Rattle.cert_model.specs.declared.fault.CertError.{CertError}
 use Rattle.cert_model.specs.declared.version.Version.TheVariants.{Second}
-use Rattle.cert_model.specs.Keys.{◌>>=◌, present, good, required, each, item_path}
+use Rattle.toml_keys.specs.Reading.{◌>>=◌, each, item_path}
+use Rattle.cert_model.specs.Keys.{present, good, required}
 use Rattle.cert_model.specs.Kinds as kind
 use Rattle.crpd_base.specs.Names.{is_between, is_line, is_name}
 use Rattle.cert_model.specs.Kinds.{whole, below, all_of, listed, rising, words_of, is_in, pair, pairs_from, state_of, states_from}
@@ -223,7 +224,7 @@ fields_back path t h w =
 each_back : (i : ℕ) (ts : List TaskPart) → AllByRecursion IsTaskPart ts → AllByRecursion HasSets ts → each (task_at Second) i (map task_members ts) ≡ Ok ts
 unfolding each
 each_back i [] h w = refl
-each_back i (t ∷ ts) h w = rw (fields_back (item_path (codes "tasks") i) t h.0 w.0, each_back (i + 1) ts h.1 w.1)
+each_back i (t ∷ ts) h w = rw (fields_back (item_path [] (codes "tasks") i) t h.0 w.0, each_back (i + 1) ts h.1 w.1)
 
 all_objects : (ts : List TaskPart) → all_of as_object (items_of (map write.task ts)) ≡ Some (map task_members ts)
 all_objects [] = refl

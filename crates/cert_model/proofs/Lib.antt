@@ -1,6 +1,5 @@
 pub mod Back
 pub mod Adds
-pub mod Laws
 pub mod Next
 pub mod Pairs
 pub mod Ranged
@@ -8,4 +7,3 @@ pub mod Trees
 pub mod Rising
 pub mod Seen
 pub mod Texts
-pub mod Turns

@@ -15,16 +15,19 @@ use Rattle.serde_json.specs.Data.{Data, Items, no_items, item, Members}
 use Rattle.serde_json.specs.Find.{as_array, as_object, as_str}
 use Rattle.serde_json.specs.Read.{read}
 use Rattle.cert_model.specs.declared.fault.CertError.{CertError}
-use Rattle.cert_model.specs.declared.fault.CertError.TheVariants.{TooLong}
+use Rattle.cert_model.specs.declared.fault.CertError.TheVariants.{Memory, TooLong}
 use Rattle.cert_model.specs.declared.version.Version.{Version}
 use Rattle.cert_model.specs.declared.version.Version.TheVariants.{First, Second}
-use Rattle.cert_model.specs.Keys.{Gives, required, item_path, present, good}
+use Rattle.toml_keys.specs.Kinds.{only}
+use Rattle.toml_keys.specs.Reading.{Gives, item_path}
+use Rattle.toml_keys.proofs.Laws.{bind_ok, guard_ok, ok_is, each_all, each_length}
+use Rattle.toml_keys.proofs.Ranged.{IsBetween, between_ok, line_between, only_ok}
+use Rattle.cert_model.specs.Keys.{required, present, good}
 use Rattle.cert_model.specs.Kinds as kind
 use Rattle.crpd_base.specs.Names.{is_between, is_line, is_name}
-use Rattle.cert_model.specs.Kinds.{only, whole, below, number_of, all_of, listed, pair, pairs_from, state_of, three, states_from}
+use Rattle.cert_model.specs.Kinds.{whole, below, number_of, all_of, listed, pair, pairs_from, state_of, three, states_from}
 use Rattle.cert_model.specs.Ranges.{RiseFrom, IsState, ArePotentials, IsTaskPart, AreTasks, HasFewPairs, IsCertificate}
 use Rattle.cert_model.specs.Reading.{most_sets, most_nodes, most_tasks, cycles, version_at, first_platform, second_platform, platform_at, fields_at, task_at, tasks_at, entries, counted, certificate_at, whole_text, document, reading}
-use Rattle.cert_model.proofs.Laws.{bind_ok, guard_ok, ok_is, each_all, each_length}
 
 -- ---- options that gave something
 
@@ -39,37 +42,12 @@ pub map_ok : {A B : Type 0} (o : Option A) (f : A → B) (y : B) → option_map 
 map_ok None f y e = absurd cc
 map_ok (Some x) f y e = (x, refl, some_is (f x) y e)
 
-pub only_ok : {A : Type 0} (test : A → Bool) (o : Option A) (x : A) → only test o ≡ Some x → (test x ≡ true) × (o ≡ Some x)
-only_ok test None x e = absurd cc
-only_ok test (Some y) x e =
-    elim (cases_Bool (test y)) [
-      | inl passes ↦ let f = rw passes at e in
-          let same : y ≡ x = some_is y x f in
-          subst (λ z. (test z ≡ true) × (◌≡◌ {A = Option _} (Some y) (Some z))) same (passes, refl)
-      | inr fails ↦ absurd (let f = rw fails at e in cc)
-    ]
-
 -- ---- numbers
-
--- n lies between the two
-pub record IsBetween (low high n : ℕ) : Type 0 where
-  pub reaches : low ≤ n
-  pub within : n ≤ high
 
 -- n is from low on, below the limit
 pub record IsFrom (low limit n : ℕ) : Type 0 where
   pub reaches : low ≤ n
   pub within : n < limit
-
-between_ok : (low high n : ℕ) → is_between low high n ≡ true → IsBetween low high n
-between_ok low high n e =
-    elim (cases_Bool (nat_le low n)) [
-      | inl a ↦ elim (cases_Bool (nat_le n high)) [
-        | inl b ↦ record { reaches = leb-true _ _ a; within = leb-true _ _ b }
-        | inr b ↦ absurd (let f = rw (a, b) at e in cc)
-      ]
-      | inr a ↦ absurd (let f = rw a at e in cc)
-    ]
 
 whole_between : (low high : ℕ) (d : Data) (n : ℕ) → whole low high d ≡ Some n → IsBetween low high n
 whole_between low high d n e = between_ok low high n (only_ok (is_between low high) (number_of d) n e).0
@@ -202,9 +180,6 @@ potentials_ok most d ns h e =
 line_ok : (d : Data) (n : ℕ) → kind.line d ≡ Some n → is_line n ≡ true
 unfolding kind.line
 line_ok d n e = (only_ok is_line (number_of d) n e).0
-
-line_between : (n : ℕ) → is_line n ≡ true → IsBetween 4 64 n
-line_between n e = record { reaches = grind (arith, nat_tests); within = grind (arith, nat_tests) }
 
 name_ok : (d : Data) (s : List ℕ) → kind.name d ≡ Some s → is_name s ≡ true
 unfolding kind.name
@@ -350,7 +325,7 @@ fields_ranged version path ms t e =
     })
 
 task_ranged : (version : Version) (i : ℕ) (ms : Members) (t : TaskPart) → task_at version i ms ≡ Ok t → IsTaskPart t
-task_ranged version i ms t e = fields_ranged version (item_path (codes "tasks") i) ms t e
+task_ranged version i ms t e = fields_ranged version (item_path [] (codes "tasks") i) ms t e
 
 tasks_ranged : (version : Version) (ms : Members) (tasks : List TaskPart) → tasks_at version ms ≡ Ok tasks → AreTasks tasks
 unfolding tasks_at
@@ -366,7 +341,7 @@ tasks_ranged version ms tasks e =
     }
 
 -- the tasks that were read keep their ranges
-pub found_tasks : {X : Type 0} (view : X → List TaskPart) (version : Version) (ms : Members) (r : Result X CertError) → Gives view r (tasks_at version ms) → IfOk r (λ x. AreTasks (view x))
+pub found_tasks : {X : Type 0} (view : X → List TaskPart) (version : Version) (ms : Members) (r : Result X CertError) → Gives Memory view r (tasks_at version ms) → IfOk r (λ x. AreTasks (view x))
 found_tasks view version ms (Ok x) h = tasks_ranged version ms (view x) h
 found_tasks view version ms (Err e) h = tt
 
@@ -420,6 +395,6 @@ reading_ranged bytes c e =
     ]
 
 -- a certificate that was read keeps the ranges
-pub found_ranged : (bytes : List ℕ) (r : Result Certificate CertError) → Gives (λ x. x) r (reading bytes) → IfOk r IsCertificate
+pub found_ranged : (bytes : List ℕ) (r : Result Certificate CertError) → Gives Memory (λ x. x) r (reading bytes) → IfOk r IsCertificate
 found_ranged bytes (Ok c) h = reading_ranged bytes c h
 found_ranged bytes (Err e) h = tt

@@ -1,10 +1,12 @@
 -- A value that is read as a list or a text in memory, and seen as the list.
 use Rattle.std.proofs.Common.{◌≡◌, List, ℕ, Option, Some, None, option_map, Result, Ok, Err}
 use Rattle.cert_model.specs.declared.fault.CertError.{CertError}
-use Rattle.cert_model.specs.Keys.{Gives, good}
+use Rattle.cert_model.specs.declared.fault.CertError.TheVariants.{Memory}
+use Rattle.toml_keys.specs.Reading.{Gives}
+use Rattle.cert_model.specs.Keys.{good}
 
 pub good_seen : {X Y : Type 0} (view : X → Y) (path key : List ℕ) (read : Option X) (o : Option Y) (r : Result X CertError)
-    → Gives (λ x. x) r (good path key read) → option_map view read ≡ o → Gives view r (good path key o)
+    → Gives Memory (λ x. x) r (good path key read) → option_map view read ≡ o → Gives Memory view r (good path key o)
 good_seen view path key None None (Ok x) h e = absurd cc
 good_seen view path key None None (Err x) h e = λ n. let k = h n in cc
 good_seen view path key None (Some y) r h e = absurd cc

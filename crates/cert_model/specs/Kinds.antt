@@ -9,17 +9,12 @@ use Rattle.crpd_base.specs.declared.data.Method.{Method}
 use Rattle.crpd_base.specs.declared.data.Method.TheVariants.{Ucb, Ecb}
 use Rattle.crpd_base.specs.declared.data.NodeState.{NodeState}
 use Rattle.crpd_base.specs.declared.data.Switching.{Switching}
-use Rattle.crpd_base.specs.declared.data.Switching.TheVariants.{Cycle, Instruction}
+use Rattle.toml_keys.specs.Kinds.{only, switching_named}
 
 -- One step after another, as long as each gives something.
 infixl 10 ◌>>=◌
 abbrev pub ◌>>=◌ : {A B : Type 0} → Option A → (A → Option B) → Option B
 x >>= f = option_and_then f x
-
--- a value that passes a test
-abbrev pub only : {A : Type 0} → (A → Bool) → Option A → Option A
-only test None = None
-only test (Some x) = if test x then Some x else None
 
 -- ---- numbers
 
@@ -40,9 +35,6 @@ unfoldable pub line : Data → Option ℕ
 line d = only is_line (number_of d)
 
 -- ---- texts
-
-abbrev pub switching_named : List ℕ → Option Switching
-switching_named s = if bytes_eq s (codes "cycle") then Some Cycle else if bytes_eq s (codes "instruction") then Some Instruction else None
 
 unfoldable pub switching : Data → Option Switching
 switching d = as_str d >>= switching_named

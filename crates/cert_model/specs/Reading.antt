@@ -16,7 +16,8 @@ use Rattle.cert_model.specs.declared.version.Version.{Version}
 use Rattle.cert_model.specs.declared.version.Version.TheVariants.{First, Second}
 use Rattle.cert_model.specs.Kinds as kind
 use Rattle.cert_model.specs.Kinds.{whole, number_of}
-use Rattle.cert_model.specs.Keys.{◌>>=◌, required, item_path, each}
+use Rattle.toml_keys.specs.Reading.{◌>>=◌, item_path, each}
+use Rattle.cert_model.specs.Keys.{required}
 
 -- ---- what a version holds at most
 
@@ -98,7 +99,7 @@ fields_at version path ms = do
 
 -- the task at a place
 abbrev pub task_at : Version → ℕ → Members → Result TaskPart CertError
-task_at version i = fields_at version (item_path (codes "tasks") i)
+task_at version i = fields_at version (item_path [] (codes "tasks") i)
 
 -- ---- the certificate
 

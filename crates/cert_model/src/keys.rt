@@ -1,34 +1,17 @@
 //! The keys of an object: each is looked up, and a fault is told with its path.
 
-ghost use Rattle.std.specs.Prelude.{◌≡◌, ◌++◌, ◌≤◌, option_map, string_bytes, IfOk};
+ghost use Rattle.std.specs.Prelude.{◌≡◌, ◌≤◌, option_map, IfOk};
 ghost use Rattle.serde_json.specs.Find.{get_member};
 ghost use Rattle.serde_json.specs.View.{view, members_view};
 ghost use Rattle.cert_model.specs.Keys as spec;
-ghost use Rattle.cert_model.specs.Keys.{Gives};
+ghost use Rattle.toml_keys.specs.Reading.{Gives};
 ghost use Rattle.cert_model.specs.Kinds as kind;
 
 use crate::fault::CertError;
 use crate::kinds::{Object, whole};
-use crpd_base::Text;
 use serde_json::Value;
-use std::alloc::{AllocError, Global};
-
-/// The path of a key: that of its object, and the key.
-fn key_path(alloc: Global, path: &str, key: &str) -> Result<Text, AllocError>
-    ensures { IfOk result (λ t. t ≡ path.now ++ key.now) }
-{
-    let mut text = String::from_str(alloc, path)?;
-    text.push_str(key)?;
-    Ok(Text::new(text))
-}
-
-/// The path of the object at a place, counted from 0, in the list at a key, with a point at the end. The only error
-/// is want of memory.
-pub fn item_path(alloc: Global, key: &str, place: usize) -> Result<String, AllocError>
-    ensures { IfOk result (λ s. string_bytes s ≡ spec.item_path key.now place) }
-{
-    format!(in alloc; "{key}.{place}.")
-}
+use std::alloc::Global;
+use toml_keys::key_path;
 
 /// An object that is read, and the path of its keys.
 #[derive(Clone, Copy)]
@@ -49,7 +32,7 @@ impl<'a> Keys<'a> {
 
     /// The value at a key that has to be there, else `Missing`. Memory is taken for the path of a refusal alone.
     pub fn present(&self, alloc: Global, key: &str) -> Result<&'a Value, CertError>
-        ensures { Gives (λ v. view v.now) result (spec.present self.now.path.now key.now (members_view self.now.object.now.entries)) }
+        ensures { Gives CertError.Memory (λ v. view v.now) result (spec.present self.now.path.now key.now (members_view self.now.object.now.entries)) }
     {
         match self.get(key) {
             Some(value) => Ok(value),
@@ -59,7 +42,7 @@ impl<'a> Keys<'a> {
 
     /// What was read from the value at a key, else `BadValue`. Memory is taken for the path of a refusal alone.
     pub fn good<T: Drop>(&self, alloc: Global, key: &str, read: Option<T>) -> Result<T, CertError>
-        ensures { Gives (λ x. x) result (spec.good self.now.path.now key.now read) }
+        ensures { Gives CertError.Memory (λ x. x) result (spec.good self.now.path.now key.now read) }
     {
         match read {
             Some(x) => Ok(x),
@@ -70,7 +53,7 @@ impl<'a> Keys<'a> {
     /// A number from low to high, else `Missing` or `BadValue`. Memory is taken for the path of a refusal alone.
     #[tactic(auto, unfolding(crate::specs::Keys::required))]
     pub fn number(&self, alloc: Global, key: &str, low: u64, high: u64) -> Result<u64, CertError>
-        ensures is { Gives (λ x. x) result (spec.required (kind.whole low high) self.now.path.now key.now (members_view self.now.object.now.entries)) }
+        ensures is { Gives CertError.Memory (λ x. x) result (spec.required (kind.whole low high) self.now.path.now key.now (members_view self.now.object.now.entries)) }
         ensures bound { IfOk result (λ n. n ≤ high) }
     {
         let value = self.present(alloc, key)?;
@@ -86,7 +69,7 @@ impl<'a> Keys<'a> {
         low: u32,
         high: u32,
     ) -> Result<u32, CertError>
-        ensures { Gives (λ x. x) result (spec.required (kind.whole low high) self.now.path.now key.now (members_view self.now.object.now.entries)) }
+        ensures { Gives CertError.Memory (λ x. x) result (spec.required (kind.whole low high) self.now.path.now key.now (members_view self.now.object.now.entries)) }
     {
         let number = self.number(alloc, key, u64::from(low), u64::from(high))?;
         Ok(number as u32)

@@ -6,9 +6,10 @@ ghost use Rattle.serde_json.specs.Find.{as_object};
 ghost use Rattle.serde_json.specs.View.{view, members_view};
 ghost use Rattle.cert_model.specs.Kinds as spec;
 
-use crpd_base::{LONGEST_TIME, Method, Switching, is_name};
+use crpd_base::{LONGEST_TIME, Method, Switching};
 use serde_json::{Map, Value};
 use std::alloc::{AllocError, Global};
+use toml_keys::{line_length, switching_named, task_name};
 
 /// The members of an object.
 pub type Object = Map<String, Value>;
@@ -40,10 +41,7 @@ pub fn below(value: &Value, low: u64, limit: u64) -> Option<u64>
 pub fn line(value: &Value) -> Option<u32>
     ensures { result ≡ spec.line (view value.now) }
 {
-    match value.as_u64() {
-        Some(n) if matches!(n, 4 | 8 | 16 | 32 | 64) => Some(n as u32),
-        _ => None,
-    }
+    line_length(value.as_u64()?)
 }
 
 /// Where a context switch may happen: `cycle` or `instruction`, None for any other value. In constant time.
@@ -51,11 +49,7 @@ pub fn line(value: &Value) -> Option<u32>
 pub fn switching(value: &Value) -> Option<Switching>
     ensures { result ≡ spec.switching (view value.now) }
 {
-    match value.as_str()? {
-        "cycle" => Some(Switching::Cycle),
-        "instruction" => Some(Switching::Instruction),
-        _ => None,
-    }
+    switching_named(value.as_str()?)
 }
 
 /// By which delay a window is computed: `ucb` or `ecb`, None for any other value. In constant time.
@@ -75,10 +69,7 @@ pub fn method(value: &Value) -> Option<Method>
 pub fn name(alloc: Global, value: &Value) -> Result<Option<String>, AllocError>
     ensures { IfOk result (λ s. option_map string_bytes s ≡ spec.name (view value.now)) }
 {
-    match value.as_str() {
-        Some(text) if is_name(text) => Ok(Some(String::from_str(alloc, text)?)),
-        _ => Ok(None),
-    }
+    task_name(alloc, value.as_str())
 }
 
 /// The numbers from 0 to 2^40 of a list.

@@ -2,7 +2,8 @@
 
 ghost use Rattle.std.specs.Prelude.{◌≡◌, codes};
 ghost use Rattle.serde_json.specs.View.{members_view};
-ghost use Rattle.cert_model.specs.Keys.{Gives, required};
+ghost use Rattle.toml_keys.specs.Reading.{Gives};
+ghost use Rattle.cert_model.specs.Keys.{required};
 ghost use Rattle.cert_model.specs.Kinds as kind;
 ghost use Rattle.cert_model.specs.Reading as spec;
 
@@ -10,19 +11,28 @@ use crate::fault::CertError;
 use crate::keys::Keys;
 use crate::kinds::{line, switching};
 use crate::version::Version;
-use crpd_base::{Platform, Switching};
+use crpd_base::{Platform, SETS, Switching};
 use std::alloc::Global;
+
+/// The greatest cost of a platform, in cycles.
+const MOST_CYCLES: u32 = 65_535;
+
+/// The most cache sets of a platform.
+const MOST_SETS: u32 = SETS as u32;
+
+/// The most cache sets of a platform of version 1.
+const FIRST_SETS: u32 = 256;
 
 #[tactic(auto, unfolding(crate::specs::Keys::required))]
 fn line_at(alloc: Global, keys: Keys) -> Result<u32, CertError>
-    ensures { Gives (λ x. x) result (required kind.line keys.entry.path.now (codes "line") (members_view keys.entry.object.now.entries)) }
+    ensures { Gives CertError.Memory (λ x. x) result (required kind.line keys.entry.path.now (codes "line") (members_view keys.entry.object.now.entries)) }
 {
     keys.good(alloc, "line", line(keys.present(alloc, "line")?))
 }
 
 #[tactic(auto, unfolding(crate::specs::Keys::required))]
 fn switching_at(alloc: Global, keys: Keys) -> Result<Switching, CertError>
-    ensures { Gives (λ x. x) result (required kind.switching keys.entry.path.now (codes "switching") (members_view keys.entry.object.now.entries)) }
+    ensures { Gives CertError.Memory (λ x. x) result (required kind.switching keys.entry.path.now (codes "switching") (members_view keys.entry.object.now.entries)) }
 {
     keys.good(
         alloc,
@@ -32,21 +42,21 @@ fn switching_at(alloc: Global, keys: Keys) -> Result<Switching, CertError>
 }
 
 fn cycles_at(alloc: Global, keys: Keys, key: &str) -> Result<u32, CertError>
-    ensures { Gives (λ x. x) result (required spec.cycles keys.entry.path.now key.now (members_view keys.entry.object.now.entries)) }
+    ensures { Gives CertError.Memory (λ x. x) result (required spec.cycles keys.entry.path.now key.now (members_view keys.entry.object.now.entries)) }
 {
-    keys.small_number(alloc, key, 0, 65535)
+    keys.small_number(alloc, key, 0, MOST_CYCLES)
 }
 
 /// A platform of version 1, which has no cycles for multiplication and division.
 #[tactic(auto, unfolding(crate::specs::Reading::first_platform))]
 fn first_platform(alloc: Global, keys: Keys) -> Result<Platform, CertError>
-    ensures { Gives (λ x. x) result (spec.first_platform keys.entry.path.now (members_view keys.entry.object.now.entries)) }
+    ensures { Gives CertError.Memory (λ x. x) result (spec.first_platform keys.entry.path.now (members_view keys.entry.object.now.entries)) }
 {
     let memory = cycles_at(alloc, keys, "data")?;
-    let hit = keys.small_number(alloc, "hit", 1, 65535)?;
+    let hit = keys.small_number(alloc, "hit", 1, MOST_CYCLES)?;
     let line = line_at(alloc, keys)?;
     let miss = cycles_at(alloc, keys, "miss")?;
-    let sets = keys.small_number(alloc, "sets", 1, 256)?;
+    let sets = keys.small_number(alloc, "sets", 1, FIRST_SETS)?;
     let switch = cycles_at(alloc, keys, "switch")?;
     let taken = cycles_at(alloc, keys, "taken")?;
     Ok(Platform {
@@ -66,15 +76,15 @@ fn first_platform(alloc: Global, keys: Keys) -> Result<Platform, CertError>
 /// A platform of version 2.
 #[tactic(auto, unfolding(crate::specs::Reading::second_platform))]
 fn second_platform(alloc: Global, keys: Keys) -> Result<Platform, CertError>
-    ensures { Gives (λ x. x) result (spec.second_platform keys.entry.path.now (members_view keys.entry.object.now.entries)) }
+    ensures { Gives CertError.Memory (λ x. x) result (spec.second_platform keys.entry.path.now (members_view keys.entry.object.now.entries)) }
 {
     let memory = cycles_at(alloc, keys, "data")?;
     let div = cycles_at(alloc, keys, "div")?;
-    let hit = keys.small_number(alloc, "hit", 1, 65535)?;
+    let hit = keys.small_number(alloc, "hit", 1, MOST_CYCLES)?;
     let line = line_at(alloc, keys)?;
     let miss = cycles_at(alloc, keys, "miss")?;
     let mul = cycles_at(alloc, keys, "mul")?;
-    let sets = keys.small_number(alloc, "sets", 1, 512)?;
+    let sets = keys.small_number(alloc, "sets", 1, MOST_SETS)?;
     let switch = cycles_at(alloc, keys, "switch")?;
     let switching = switching_at(alloc, keys)?;
     let taken = cycles_at(alloc, keys, "taken")?;
@@ -96,7 +106,7 @@ fn second_platform(alloc: Global, keys: Keys) -> Result<Platform, CertError>
 /// in every cycle. The first key that is absent or has a bad value is the refusal; memory is taken for its path
 /// alone.
 pub fn platform_at(alloc: Global, version: Version, keys: Keys) -> Result<Platform, CertError>
-    ensures { Gives (λ x. x) result (spec.platform_at version keys.entry.path.now (members_view keys.entry.object.now.entries)) }
+    ensures { Gives CertError.Memory (λ x. x) result (spec.platform_at version keys.entry.path.now (members_view keys.entry.object.now.entries)) }
 {
     match version {
         Version::First => first_platform(alloc, keys),

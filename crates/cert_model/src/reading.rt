@@ -3,7 +3,8 @@
 ghost use Rattle.std.specs.Prelude.{◌≡◌, ◌≤◌, codes, length, All, IfOk, sum_by};
 ghost use Rattle.serde_json.specs.Find.{as_object};
 ghost use Rattle.serde_json.specs.View.{view, members_view};
-ghost use Rattle.cert_model.specs.Keys.{Gives, required};
+ghost use Rattle.toml_keys.specs.Reading.{Gives};
+ghost use Rattle.cert_model.specs.Keys.{required};
 ghost use Rattle.cert_model.specs.Kinds as kind;
 ghost use Rattle.cert_model.specs.Ranges.{AreTasks, HasFewPairs, IsCertificate};
 ghost use Rattle.cert_model.specs.Reading as spec;
@@ -32,7 +33,7 @@ fn version_numbered(number: u64) -> Result<Version, CertError>
 
 #[tactic(auto, unfolding(crate::specs::Keys::required, crate::specs::Reading::version_at))]
 fn version_at(alloc: Global, object: &Object) -> Result<Version, CertError>
-    ensures { Gives (λ x. x) result (spec.version_at (members_view object.now.entries)) }
+    ensures { Gives CertError.Memory (λ x. x) result (spec.version_at (members_view object.now.entries)) }
 {
     let keys = Keys { object, path: "" };
     let value = keys.present(alloc, "version")?;
@@ -42,7 +43,7 @@ fn version_at(alloc: Global, object: &Object) -> Result<Version, CertError>
 
 #[tactic(auto, using(crate::proofs::Seen::good_seen), unfolding(crate::specs::Keys::required))]
 fn platform_object<'a>(alloc: Global, keys: Keys<'a>) -> Result<&'a Object, CertError>
-    ensures { Gives (λ t. members_view t.now.entries) result (required as_object keys.entry.path.now (codes "platform") (members_view keys.entry.object.now.entries)) }
+    ensures { Gives CertError.Memory (λ t. members_view t.now.entries) result (required as_object keys.entry.path.now (codes "platform") (members_view keys.entry.object.now.entries)) }
 {
     let value = keys.present(alloc, "platform")?;
     keys.good(alloc, "platform", value.as_object())
@@ -98,7 +99,7 @@ fn counted(certificate: Certificate) -> Result<Certificate, CertError>
 
 #[tactic(auto, unfolding(crate::specs::Reading::certificate_at))]
 fn certificate_at(alloc: Global, object: &Object) -> Result<Certificate, CertError>
-    ensures { Gives (λ x. x) result (spec.certificate_at (members_view object.now.entries)) }
+    ensures { Gives CertError.Memory (λ x. x) result (spec.certificate_at (members_view object.now.entries)) }
 {
     let version = version_at(alloc, object)?;
     let platform = platform_object(alloc, Keys { object, path: "" })?;
@@ -116,7 +117,7 @@ fn certificate_at(alloc: Global, object: &Object) -> Result<Certificate, CertErr
 }
 
 fn whole_text(alloc: Global, value: &Value) -> Result<Certificate, CertError>
-    ensures { Gives (λ x. x) result (spec.whole_text (as_object (view value.now))) }
+    ensures { Gives CertError.Memory (λ x. x) result (spec.whole_text (as_object (view value.now))) }
 {
     match value.as_object() {
         Some(object) => certificate_at(alloc, object),
@@ -126,7 +127,7 @@ fn whole_text(alloc: Global, value: &Value) -> Result<Certificate, CertError>
 
 #[tactic(auto, using(crate::proofs::Texts::reading_of_text, crate::proofs::Texts::reading_of_bytes))]
 fn certificate_of(alloc: Global, bytes: &[u8]) -> Result<Certificate, CertError>
-    ensures { Gives (λ x. x) result (reading bytes.now) }
+    ensures { Gives CertError.Memory (λ x. x) result (reading bytes.now) }
 {
     let Ok(text) = std::str::from_utf8(bytes) else {
         return Err(CertError::NotJson);
@@ -142,7 +143,7 @@ fn certificate_of(alloc: Global, bytes: &[u8]) -> Result<Certificate, CertError>
 /// platform and the tasks, each with its keys in byte order, and last of the count of the state entries. Times are cycles. One pass is made over
 /// the text and one over its tree, which takes a small multiple of the text's size. JSON is that of RFC 8259.
 pub fn read_certificate(alloc: Global, bytes: &[u8]) -> Result<Certificate, CertError>
-    ensures exact { Gives (λ x. x) result (reading bytes.now) }
+    ensures exact { Gives CertError.Memory (λ x. x) result (reading bytes.now) }
 
     // What the layers above need of a certificate: its ranges, and that its lists rise.
     ensures ranges { IfOk result IsCertificate }

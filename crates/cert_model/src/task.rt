@@ -2,19 +2,21 @@
 
 ghost use Rattle.std.specs.Prelude.{◌≡◌, codes, map, string_bytes, IfOk};
 ghost use Rattle.serde_json.specs.View.{members_view};
-ghost use Rattle.cert_model.specs.Keys.{Gives, required, each};
+ghost use Rattle.toml_keys.specs.Reading.{Gives, each};
+ghost use Rattle.cert_model.specs.Keys.{required};
 ghost use Rattle.cert_model.specs.Kinds as kind;
 ghost use Rattle.cert_model.specs.Ranges.{AreTasks};
 ghost use Rattle.cert_model.specs.Reading as spec;
 
 use crate::fault::CertError;
-use crate::keys::{Keys, item_path};
+use crate::keys::Keys;
 use crate::kinds::{Object, method, name, objects, potentials};
 use crate::sets::set_numbers;
 use crate::states::states;
 use crate::version::Version;
 use crpd_base::{Items, LONGEST_TIME, Method, NodeState, Part, SetBits, TaskPart, Text, WORDS};
 use std::alloc::Global;
+use toml_keys::item_path;
 
 const LONGEST_BOUND: u64 = 1 << 41;
 
@@ -25,7 +27,7 @@ fn set_at(
     keys: Keys,
     key: &str,
 ) -> Result<SetBits<WORDS>, CertError>
-    ensures { Gives (λ x. x) result (required (kind.set_numbers (spec.most_sets version)) keys.entry.path.now key.now (members_view keys.entry.object.now.entries)) }
+    ensures { Gives CertError.Memory (λ x. x) result (required (kind.set_numbers (spec.most_sets version)) keys.entry.path.now key.now (members_view keys.entry.object.now.entries)) }
 {
     let value = keys.present(alloc, key)?;
     keys.good(alloc, key, set_numbers(version.most_sets(), value))
@@ -38,7 +40,7 @@ fn potentials_at(
     keys: Keys,
     key: &str,
 ) -> Result<Vec<u64>, CertError>
-    ensures { Gives (λ v. v.items) result (required (kind.potentials (spec.most_nodes version)) keys.entry.path.now key.now (members_view keys.entry.object.now.entries)) }
+    ensures { Gives CertError.Memory (λ v. v.items) result (required (kind.potentials (spec.most_nodes version)) keys.entry.path.now key.now (members_view keys.entry.object.now.entries)) }
 {
     let value = keys.present(alloc, key)?;
     keys.good(alloc, key, potentials(alloc, version.most_nodes(), value)?)
@@ -46,14 +48,14 @@ fn potentials_at(
 
 #[tactic(auto, unfolding(crate::specs::Keys::required))]
 fn method_at(alloc: Global, keys: Keys) -> Result<Method, CertError>
-    ensures { Gives (λ x. x) result (required kind.method keys.entry.path.now (codes "method") (members_view keys.entry.object.now.entries)) }
+    ensures { Gives CertError.Memory (λ x. x) result (required kind.method keys.entry.path.now (codes "method") (members_view keys.entry.object.now.entries)) }
 {
     keys.good(alloc, "method", method(keys.present(alloc, "method")?))
 }
 
 #[tactic(auto, using(crate::proofs::Seen::good_seen), unfolding(crate::specs::Keys::required))]
 fn name_at(alloc: Global, keys: Keys) -> Result<String, CertError>
-    ensures { Gives string_bytes result (required kind.name keys.entry.path.now (codes "name") (members_view keys.entry.object.now.entries)) }
+    ensures { Gives CertError.Memory string_bytes result (required kind.name keys.entry.path.now (codes "name") (members_view keys.entry.object.now.entries)) }
 {
     let value = keys.present(alloc, "name")?;
     keys.good(alloc, "name", name(alloc, value)?)
@@ -61,7 +63,7 @@ fn name_at(alloc: Global, keys: Keys) -> Result<String, CertError>
 
 #[tactic(auto, using(crate::proofs::Seen::good_seen), unfolding(crate::specs::Keys::required))]
 fn states_at(alloc: Global, version: Version, keys: Keys) -> Result<Vec<NodeState>, CertError>
-    ensures { Gives (λ v. v.items) result (required (kind.states (spec.most_sets version) (spec.most_nodes version)) keys.entry.path.now (codes "states") (members_view keys.entry.object.now.entries)) }
+    ensures { Gives CertError.Memory (λ v. v.items) result (required (kind.states (spec.most_sets version) (spec.most_nodes version)) keys.entry.path.now (codes "states") (members_view keys.entry.object.now.entries)) }
 {
     let value = keys.present(alloc, "states")?;
     let found = states(alloc, version.most_sets(), version.most_nodes(), value)?;
@@ -71,7 +73,7 @@ fn states_at(alloc: Global, version: Version, keys: Keys) -> Result<Vec<NodeStat
 /// What the keys of a task say.
 #[tactic(auto, unfolding(crate::specs::Reading::fields_at))]
 fn fields_at(alloc: Global, version: Version, keys: Keys) -> Result<TaskPart, CertError>
-    ensures { Gives (λ x. x) result (spec.fields_at version keys.entry.path.now (members_view keys.entry.object.now.entries)) }
+    ensures { Gives CertError.Memory (λ x. x) result (spec.fields_at version keys.entry.path.now (members_view keys.entry.object.now.entries)) }
 {
     let bound = keys.number(alloc, "bound", 0, LONGEST_BOUND)?;
     let evicting = set_at(alloc, version, keys, "evicting")?;
@@ -106,21 +108,21 @@ fn task_at(
     place: usize,
     object: &Object,
 ) -> Result<TaskPart, CertError>
-    ensures { Gives (λ x. x) result (spec.task_at version place (members_view object.now.entries)) }
+    ensures { Gives CertError.Memory (λ x. x) result (spec.task_at version place (members_view object.now.entries)) }
 {
-    let path = item_path(alloc, "tasks", place)?;
+    let path = item_path(alloc, "", "tasks", place)?;
     let path = path.as_str();
     fields_at(alloc, version, Keys { object, path })
 }
 
 /// The tasks of a list, in order.
-#[tactic(auto, unfolding(crate::specs::Keys::each))]
+#[tactic(auto, unfolding(toml_keys::specs::Reading::each))]
 fn each_task(
     alloc: Global,
     version: Version,
     objects: &[&Object],
 ) -> Result<Vec<TaskPart>, CertError>
-    ensures { Gives (λ v. v.items) result (each (spec.task_at version) 0 (map (λ t. members_view t.now.entries) objects.now)) }
+    ensures { Gives CertError.Memory (λ v. v.items) result (each (spec.task_at version) 0 (map (λ t. members_view t.now.entries) objects.now)) }
 {
     let mut tasks = Vec::new(alloc);
     for (i, object) in objects.iter().enumerate() {
@@ -135,7 +137,7 @@ fn task_objects<'a>(
     version: Version,
     keys: Keys<'a>,
 ) -> Result<Vec<&'a Object>, CertError>
-    ensures { Gives (λ v. map (λ t. members_view t.now.entries) v.items) result (required (kind.objects (spec.most_tasks version)) keys.entry.path.now (codes "tasks") (members_view keys.entry.object.now.entries)) }
+    ensures { Gives CertError.Memory (λ v. map (λ t. members_view t.now.entries) v.items) result (required (kind.objects (spec.most_tasks version)) keys.entry.path.now (codes "tasks") (members_view keys.entry.object.now.entries)) }
 {
     let value = keys.present(alloc, "tasks")?;
     keys.good(alloc, "tasks", objects(alloc, version.most_tasks(), value)?)
@@ -147,7 +149,7 @@ fn listed_tasks(
     version: Version,
     object: &Object,
 ) -> Result<Vec<TaskPart>, CertError>
-    ensures { Gives (λ v. v.items) result (spec.tasks_at version (members_view object.now.entries)) }
+    ensures { Gives CertError.Memory (λ v. v.items) result (spec.tasks_at version (members_view object.now.entries)) }
 {
     let objects = task_objects(alloc, version, Keys { object, path: "" })?;
     each_task(alloc, version, objects.as_slice())
@@ -161,7 +163,7 @@ pub fn tasks_at(
     version: Version,
     object: &Object,
 ) -> Result<Vec<TaskPart>, CertError>
-    ensures exact { Gives (λ v. v.items) result (spec.tasks_at version (members_view object.now.entries)) }
+    ensures exact { Gives CertError.Memory (λ v. v.items) result (spec.tasks_at version (members_view object.now.entries)) }
     ensures ranges { IfOk result (λ v. AreTasks v.items) }
 {
     listed_tasks(alloc, version, object)

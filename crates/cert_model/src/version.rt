@@ -3,6 +3,8 @@
 ghost use Rattle.std.specs.Prelude.{◌≡◌, ◌≤◌};
 ghost use Rattle.cert_model.specs.Reading as spec;
 
+use crpd_base::{MOST_NODES, MOST_TASKS, SETS};
+
 /// The form of a certificate's text.
 #[derive(Clone, Copy, Debug, PartialEq, Eq)]
 pub enum Version {
@@ -20,7 +22,7 @@ impl Version {
     {
         match self {
             Version::First => 256,
-            Version::Second => 512,
+            Version::Second => SETS as u64,
         }
     }
 
@@ -31,7 +33,7 @@ impl Version {
     {
         match self {
             Version::First => 4096,
-            Version::Second => 16384,
+            Version::Second => MOST_NODES as u64,
         }
     }
 
@@ -42,7 +44,7 @@ impl Version {
     {
         match self {
             Version::First => 16,
-            Version::Second => 32,
+            Version::Second => MOST_TASKS as u64,
         }
     }
 }

@@ -5,6 +5,37 @@ ghost use Rattle.elf_reader.specs.Fields as spec;
 use crate::entries::{ProgramHeader, SectionHeader, SymbolEntry};
 use byteorder::{ByteOrder, LittleEndian};
 
+// The places of the fields in the file's header, with the names of the ELF specification.
+pub(crate) const E_TYPE: usize = 16;
+
+pub(crate) const E_MACHINE: usize = 18;
+
+pub(crate) const E_ENTRY: usize = 24;
+
+pub(crate) const E_PHOFF: usize = 28;
+
+pub(crate) const E_SHOFF: usize = 32;
+
+pub(crate) const E_PHENTSIZE: usize = 42;
+
+pub(crate) const E_PHNUM: usize = 44;
+
+pub(crate) const E_SHENTSIZE: usize = 46;
+
+pub(crate) const E_SHNUM: usize = 48;
+
+/// The bytes of the file's header.
+pub(crate) const FILE_HEADER: usize = 52;
+
+/// The bytes of a program header.
+pub(crate) const PROGRAM_HEADER: usize = 32;
+
+/// The bytes of a section header.
+pub(crate) const SECTION_HEADER: usize = 40;
+
+/// The bytes of an entry of the symbol table.
+pub(crate) const SYMBOL_ENTRY: usize = 16;
+
 /// The number in the two bytes at a place.
 #[tactic(auto, unfolding(crate::specs::Fields::half))]
 pub(crate) fn half(bytes: &[u8], place: usize) -> u16

@@ -9,7 +9,7 @@ ghost use Rattle.elf_reader.specs.declared.fault.ElfError.TheVariants.{NoCode, N
 
 use crate::entries::ProgramHeader;
 use crate::fault::ElfError;
-use crate::fields::{half, program_header, word};
+use crate::fields::{E_PHENTSIZE, E_PHNUM, E_PHOFF, PROGRAM_HEADER, half, program_header, word};
 use crpd_base::{Items, Segment};
 use std::alloc::{AllocError, Global};
 
@@ -39,7 +39,7 @@ fn table(
 {
     let mut headers = Vec::with_capacity(alloc, usize::from(count))?;
     for i in 0..usize::from(count) {
-        headers.push(program_header(bytes, start + 32 * i))?;
+        headers.push(program_header(bytes, start + PROGRAM_HEADER * i))?;
     }
     Ok(headers)
 }
@@ -51,12 +51,13 @@ pub(crate) fn program_headers(alloc: Global, bytes: &[u8]) -> Result<Vec<Program
     ensures headers { Gives ElfError.Memory (λ hs. hs.items) result (reading.program_headers bytes.now) }
     ensures count { IfOk result (λ hs. vec_len hs < 2 ^ 16) }
 {
-    let start = word(bytes, 28) as usize;
-    let count = half(bytes, 44);
+    let start = word(bytes, E_PHOFF) as usize;
+    let count = half(bytes, E_PHNUM);
     if count == 0 {
         return Ok(Vec::new(alloc));
     }
-    if half(bytes, 42) != 32 || start + 32 * usize::from(count) > bytes.len() {
+    let size = usize::from(half(bytes, E_PHENTSIZE));
+    if size != PROGRAM_HEADER || start + PROGRAM_HEADER * usize::from(count) > bytes.len() {
         return Err(ElfError::HeaderOutside);
     }
     Ok(table(alloc, bytes, start, count)?)

@@ -5,7 +5,7 @@ ghost use Rattle.elf_reader.specs.Outcome.{Gives};
 ghost use Rattle.elf_reader.specs.Reading as spec;
 
 use crate::fault::ElfError;
-use crate::fields::{half, word};
+use crate::fields::{E_ENTRY, E_MACHINE, E_TYPE, FILE_HEADER, half, word};
 use crate::overlap::check_apart;
 use crate::program::{check_code, check_inside, check_static, program_headers, segments};
 use crate::symbols::symbols;
@@ -14,9 +14,6 @@ use std::alloc::Global;
 
 /// 0x7F and the letters ELF.
 const MAGIC: [u8; 4] = [0x7F, 0x45, 0x4C, 0x46];
-
-/// The bytes of the file's header.
-const HEADER: usize = 52;
 
 /// An executable.
 const ET_EXEC: u16 = 2;
@@ -30,7 +27,7 @@ fn check_file_header(bytes: &[u8]) -> Result<(), ElfError>
     ensures header { Gives ElfError.Memory (λ x. x) result (spec.file_header bytes.now) }
     ensures long { OnOk result (52 ≤ length bytes.now) }
 {
-    if bytes.len() < HEADER {
+    if bytes.len() < FILE_HEADER {
         return Err(ElfError::Short);
     }
     if &bytes[..4] != &MAGIC[..] {
@@ -39,10 +36,10 @@ fn check_file_header(bytes: &[u8]) -> Result<(), ElfError>
     if bytes[4] != 1 || bytes[5] != 1 || bytes[6] != 1 {
         return Err(ElfError::NotElf32Little);
     }
-    if half(bytes, 18) != EM_RISCV {
+    if half(bytes, E_MACHINE) != EM_RISCV {
         return Err(ElfError::NotRiscV);
     }
-    if half(bytes, 16) != ET_EXEC {
+    if half(bytes, E_TYPE) != ET_EXEC {
         return Err(ElfError::NotExecutable);
     }
     Ok(())
@@ -61,7 +58,7 @@ fn image_of(alloc: Global, bytes: &[u8]) -> Result<Image, ElfError>
     check_code(&headers)?;
     let symbols = symbols(alloc, bytes)?;
     Ok(Image {
-        entry: word(bytes, 24),
+        entry: word(bytes, E_ENTRY),
         segments: Items::new(segments(alloc, bytes, &headers)?),
         symbols: Items::new(symbols),
     })

@@ -7,7 +7,10 @@ ghost use Rattle.elf_reader.specs.Symbols as spec;
 
 use crate::entries::{SectionHeader, SymbolEntry};
 use crate::fault::ElfError;
-use crate::fields::{half, section_header, symbol_entry, word};
+use crate::fields::{
+    E_SHENTSIZE, E_SHNUM, E_SHOFF, SECTION_HEADER, SYMBOL_ENTRY, half, section_header,
+    symbol_entry, word,
+};
 use crpd_base::{Items, Symbol};
 use std::alloc::{AllocError, Global};
 
@@ -36,7 +39,7 @@ fn table(
 {
     let mut sections = Vec::with_capacity(alloc, usize::from(count))?;
     for i in 0..usize::from(count) {
-        sections.push(section_header(bytes, start + 40 * i))?;
+        sections.push(section_header(bytes, start + SECTION_HEADER * i))?;
     }
     Ok(sections)
 }
@@ -47,12 +50,13 @@ fn section_headers(alloc: Global, bytes: &[u8]) -> Result<Vec<SectionHeader>, El
     requires { 52 ≤ length bytes.now }
     ensures { Gives ElfError.Memory (λ ss. ss.items) result (spec.section_headers bytes.now) }
 {
-    let start = word(bytes, 32) as usize;
-    let count = half(bytes, 48);
+    let start = word(bytes, E_SHOFF) as usize;
+    let count = half(bytes, E_SHNUM);
     if start == 0 || count == 0 {
         return Ok(Vec::new(alloc));
     }
-    if half(bytes, 46) != 40 || start + 40 * usize::from(count) > bytes.len() {
+    let size = usize::from(half(bytes, E_SHENTSIZE));
+    if size != SECTION_HEADER || start + SECTION_HEADER * usize::from(count) > bytes.len() {
         return Err(ElfError::SymbolsOutside);
     }
     Ok(table(alloc, bytes, start, count)?)
@@ -155,7 +159,11 @@ fn each_symbol(
 {
     let mut symbols = Vec::new(alloc);
     for i in 0..count {
-        if let Some(found) = symbol(alloc, strings, symbol_entry(bytes, start + 16 * i))? {
+        if let Some(found) = symbol(
+            alloc,
+            strings,
+            symbol_entry(bytes, start + SYMBOL_ENTRY * i),
+        )? {
             symbols.push(found)?;
         }
     }
@@ -198,11 +206,11 @@ fn symbols_of(
     };
     let start = table.sh_offset as usize;
     let size = table.sh_size as usize;
-    if table.sh_entsize != 16 || start + size > bytes.len() {
+    if table.sh_entsize as usize != SYMBOL_ENTRY || start + size > bytes.len() {
         return Err(ElfError::SymbolsOutside);
     }
     let strings = strings_at(bytes, section_at(sections, table.sh_link))?;
-    Ok(all_symbols(alloc, bytes, strings, start, size / 16)?)
+    Ok(all_symbols(alloc, bytes, strings, start, size / SYMBOL_ENTRY)?)
 }
 
 /// The first symbol section.

@@ -5,14 +5,12 @@ ghost use Rattle.toml_keys.specs.Reading.{Gives, all_known, required, optional, 
 ghost use Rattle.script_reader.specs.Reading as spec;
 
 use crate::fault::ScriptError;
-use crpd_base::{ScriptJob, Task, TaskSet, TaskSpec, Text};
+use crpd_base::{LONGEST_TIME, ScriptJob, Task, TaskSet, TaskSpec, Text};
 use std::alloc::{AllocError, Global};
 use toml::Table;
 use toml_keys::{KeyError, Keys, item_path, key_path, tables};
 
 const KEYS: [&str; 3] = ["task", "arrival", "release"];
-
-const LATEST: u64 = 1 << 40;
 
 #[tactic(auto, unfolding(crate::specs::Reading::job_keys))]
 fn job_keys(alloc: Global, keys: Keys) -> Result<(), KeyError>
@@ -60,8 +58,8 @@ fn job_at(alloc: Global, keys: Keys, set: &TaskSet) -> Result<ScriptJob, ScriptE
     job_keys(alloc, keys)?;
     let name = name_at(alloc, keys)?;
     let task = task_named(alloc, keys.path, name, set)?;
-    let arrival = keys.number(alloc, "arrival", 0, LATEST)?;
-    let release = keys.number(alloc, "release", 0, LATEST)?;
+    let arrival = keys.number(alloc, "arrival", 0, LONGEST_TIME)?;
+    let release = keys.number(alloc, "release", 0, LONGEST_TIME)?;
     Ok(ScriptJob {
         task,
         arrival,

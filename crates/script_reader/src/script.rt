@@ -6,14 +6,12 @@ ghost use Rattle.script_reader.specs.Reading.{reading};
 
 use crate::fault::ScriptError;
 use crate::jobs::jobs_at;
-use crpd_base::{Items, Script, TaskSet, Text};
+use crpd_base::{Items, LONGEST_TIME, Script, TaskSet, Text};
 use std::alloc::{AllocError, Global};
 use toml::{Table, Value};
 use toml_keys::{KeyError, Keys, whole};
 
 const KEYS: [&str; 3] = ["cycles", "cache", "job"];
-
-const LONGEST: u64 = 1 << 40;
 
 #[tactic(auto, unfolding(crate::specs::Reading::script_keys))]
 fn script_keys(alloc: Global, keys: Keys) -> Result<(), KeyError>
@@ -43,10 +41,10 @@ fn cycles_at(alloc: Global, table: &Table) -> Result<u64, ScriptError>
 {
     let keys = Keys { table, path: "" };
     let value = keys.present(alloc, "cycles")?;
-    if is_above(value, LONGEST) {
+    if is_above(value, LONGEST_TIME) {
         return Err(ScriptError::TooLong(Text::new(String::from_str(alloc, "cycles")?)));
     }
-    Ok(keys.good(alloc, "cycles", whole(value, 1, LONGEST))?)
+    Ok(keys.good(alloc, "cycles", whole(value, 1, LONGEST_TIME))?)
 }
 
 /// The numbers of blocks.

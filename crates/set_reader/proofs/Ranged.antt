@@ -22,76 +22,11 @@ use Rattle.toml.specs.Parse.{parse_document}
 use Rattle.toml_keys.specs.declared.fault.KeyError.{KeyError}
 use Rattle.toml_keys.specs.Reading.{Gives, all_known, required, optional, whole, listed, each, item_path, present, good, at_most}
 use Rattle.toml_keys.proofs.Laws.{bind_ok, guard_ok, ok_is, each_all, each_length}
+use Rattle.toml_keys.proofs.Ranged.{IsBetween, only_ok, whole_between, required_ok, optional_ok, required_between, optional_within, at_most_ok}
 use Rattle.set_reader.specs.Kinds as kind
 use Rattle.set_reader.specs.declared.fault.SetError.{SetError}
 use Rattle.set_reader.specs.declared.fault.SetError.TheVariants.{Memory, TooManyTasks, DeadlineAfterPeriod}
 use Rattle.set_reader.specs.Reading.{of_set, cycles, fields_at, task_at, told, distinct, task_tables, tasks_at, set_keys, platform_keys, platform_at, loop_keys, loop_at, nth_loop, loop_tables, loops_at, task_keys, entry_place, occurs, repeated_after, set_at, document, reading}
-
--- ---- numbers
-
--- n lies between the two
-pub record IsBetween (low high n : ℕ) : Type 0 where
-  pub reaches : low ≤ n
-  pub within : n ≤ high
-
-whole_between : (low high : ℕ) (d : Data) (n : ℕ) → whole low high d ≡ Some n → IsBetween low high n
-whole_between low high (integer (pos m)) n e =
-    elim (cases_Bool (nat_le low m)) [
-      | inl a ↦ elim (cases_Bool (nat_le m high)) [
-        | inl b ↦ let f = rw (a, b) at e in
-            let same : m ≡ n = cc in
-            subst (IsBetween low high) same (record { reaches = leb-true _ _ a; within = leb-true _ _ b })
-        | inr b ↦ absurd (let f = rw (a, b) at e in cc)
-      ]
-      | inr a ↦ absurd (let f = rw a at e in cc)
-    ]
-whole_between low high d n e = absurd cc
-
-good_ok : {A : Type 0} (path key : List ℕ) (o : Option A) (x : A) → good path key o ≡ Ok x → o ≡ Some x
-good_ok path key None x e = absurd cc
-good_ok path key (Some y) x e = ap (λ v. Some v) (ok_is y x e)
-
--- the value of a key's kind
-required_ok : {A : Type 0} (read : Data → Option A) (path key : List ℕ) (ms : Members) (x : A) → required read path key ms ≡ Ok x → (d : Data) × (read d ≡ Some x)
-unfolding required
-required_ok read path key ms x e =
-    let d = bind_ok (present path key ms) _ x e in
-    (d.0, good_ok path key (read d.0) x d.2)
-
-optional_by : {A : Type 0} (default : A) (read : Data → Option A) (path key : List ℕ) (o : Option Data) (x : A) → ◌≡◌ {A = Result A KeyError} (elim o [ None ↦ Ok default | Some d ↦ good path key (read d) ]) (Ok x) → (default ≡ x) ⊎ ((d : Data) × (read d ≡ Some x))
-optional_by default read path key None x e = inl (ok_is default x e)
-optional_by default read path key (Some d) x e = inr (d, good_ok path key (read d) x e)
-
-optional_ok : {A : Type 0} (default : A) (read : Data → Option A) (path key : List ℕ) (ms : Members) (x : A) → optional default read path key ms ≡ Ok x → (default ≡ x) ⊎ ((d : Data) × (read d ≡ Some x))
-unfolding optional
-optional_ok default read path key ms x e = optional_by default read path key (get_member key ms) x e
-
-required_between : (low high : ℕ) (path key : List ℕ) (ms : Members) (n : ℕ) → required (whole low high) path key ms ≡ Ok n → IsBetween low high n
-required_between low high path key ms n e =
-    let d = required_ok (whole low high) path key ms n e in
-    whole_between low high d.0 n d.1
-
-optional_within : (high : ℕ) (path key : List ℕ) (ms : Members) (n : ℕ) → optional 0 (whole 0 high) path key ms ≡ Ok n → n ≤ high
-optional_within high path key ms n e =
-    elim (optional_ok 0 (whole 0 high) path key ms n e) [
-      | inl zero ↦ omega (arith, zero)
-      | inr d ↦ (whole_between 0 high d.0 n d.1).within
-    ]
-
--- a value that passed a test: what it was before, and that it passes
-pub record Passed (A : Type 0) (test : A → Bool) (o : Option A) (x : A) : Type 0 where
-  pub same : o ≡ Some x
-  pub passes : test x ≡ true
-
-only_ok : {A : Type 0} (test : A → Bool) (o : Option A) (x : A) → kind.only test o ≡ Some x → Passed A test o x
-only_ok test None x e = absurd cc
-only_ok test (Some y) x e =
-    elim (cases_Bool (test y)) [
-      | inl passes ↦ let f = rw passes at e in
-          let same : y ≡ x = cc in
-          record { same = f; passes = subst (λ v. test v ≡ true) same passes }
-      | inr fails ↦ absurd (let f = rw fails at e in cc)
-    ]
 
 -- the length of a line: within its range, and one of the five
 pub record IsLine (n : ℕ) : Type 0 where
@@ -102,15 +37,15 @@ line_ok : (d : Data) (n : ℕ) → kind.line d ≡ Some n → IsLine n
 unfolding kind.line
 line_ok d n e =
     let passed = only_ok is_line (whole 4 64 d) n e in
-    record { range = whole_between 4 64 d n passed.same; size = passed.passes }
+    record { range = whole_between 4 64 d n passed.1; size = passed.0 }
 
 name_ok : (d : Data) (s : List ℕ) → kind.name d ≡ Some s → is_name s ≡ true
 unfolding kind.name
-name_ok d s e = (only_ok is_name (as_str d) s e).passes
+name_ok d s e = (only_ok is_name (as_str d) s e).0
 
 file_ok : (d : Data) (s : List ℕ) → kind.file d ≡ Some s → is_file s ≡ true
 unfolding kind.file
-file_ok d s e = (only_ok is_file (as_str d) s e).passes
+file_ok d s e = (only_ok is_file (as_str d) s e).0
 
 -- ---- the platform
 
@@ -157,16 +92,6 @@ loop_ranged path ms l e =
     let ranges = bind_ok (required (listed kind.range) path (codes "range") ms) _ l bound.2 in
     let of_bound = required_between 1 1000000 path (codes "bound") ms bound.0 bound.1 in
     subst IsLoopSpec (ok_is _ l ranges.2) (of_bound.reaches, of_bound.within)
-
-at_most_ok : {A : Type 0} (n : ℕ) (o : Option (List A)) (xs : List A) → at_most n o ≡ Some xs → length xs ≤ n
-at_most_ok n None xs e = absurd cc
-at_most_ok n (Some ys) xs e =
-    elim (cases_Bool (nat_le (length ys) n)) [
-      | inl fits ↦ let f = rw fits at e in
-          let same : ys ≡ xs = cc in
-          subst (λ l. length l ≤ n) same (leb-true _ _ fits)
-      | inr long ↦ absurd (let f = rw long at e in cc)
-    ]
 
 pub record AreLoops (loops : List LoopSpec) : Type 0 where
   pub few : length loops ≤ 64
@@ -284,18 +209,8 @@ distinct_ranged tasks xs some few each e =
     subst AreTasks own.1
     (record { some = some; few = few; each = All-from_recursion IsTaskSpec tasks each; names = names_apart [] tasks no_pairs own.0 })
 
-some_by : (o : Option (List Members)) (ts : List Members) → kind.only (λ (l : List Members). nat_le 1 (length l)) o ≡ Some ts → 1 ≤ length ts
-some_by None ts e = absurd cc
-some_by (Some us) ts e =
-    elim (cases_Bool (nat_le 1 (length us))) [
-      | inl fits ↦ let f = rw fits at e in
-          let same : us ≡ ts = cc in
-          subst (λ (l : List Members). 1 ≤ length l) same (leb-true _ _ fits)
-      | inr none ↦ absurd (let f = rw none at e in cc)
-    ]
-
 some_tables : (d : Data) (ts : List Members) → task_tables d ≡ Some ts → 1 ≤ length ts
-some_tables d ts e = some_by (listed as_table d) ts e
+some_tables d ts e = leb-true _ _ (only_ok (λ (l : List Members). nat_le 1 (length l)) (listed as_table d) ts e).0
 
 tasks_ranged : (ms : Members) (tasks : List TaskSpec) → tasks_at ms ≡ Ok tasks → AreTasks tasks
 unfolding tasks_at

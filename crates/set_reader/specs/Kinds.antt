@@ -7,21 +7,13 @@ use Rattle.crpd_base.specs.Names.{is_between, is_line, is_name, is_file}
 use Rattle.crpd_base.specs.declared.data.Place.{Place}
 use Rattle.crpd_base.specs.declared.data.Place.TheVariants.{Number, Symbol}
 use Rattle.crpd_base.specs.declared.data.Switching.{Switching}
-use Rattle.crpd_base.specs.declared.data.Switching.TheVariants.{Cycle, Instruction}
+use Rattle.toml_keys.specs.Kinds.{only, switching_named}
 use Rattle.toml_keys.specs.Reading.{whole}
-
--- a value that passes a test
-abbrev pub only : {A : Type 0} → (A → Bool) → Option A → Option A
-only test None = None
-only test (Some x) = if test x then Some x else None
 
 -- ---- the platform
 
 unfoldable pub line : Data → Option ℕ
 line d = only is_line (whole 4 64 d)
-
-abbrev pub switching_named : List ℕ → Option Switching
-switching_named s = if bytes_eq s (codes "cycle") then Some Cycle else if bytes_eq s (codes "instruction") then Some Instruction else None
 
 unfoldable pub switching : Data → Option Switching
 switching d = option_and_then switching_named (as_str d)

@@ -13,6 +13,7 @@ use Rattle.toml.specs.Data.{Data, Members, as_table}
 use Rattle.toml.specs.Parse.{parse_document}
 use Rattle.toml_keys.specs.declared.fault.KeyError.{KeyError}
 use Rattle.toml_keys.specs.declared.fault.KeyError.TheVariants as fault
+use Rattle.toml_keys.specs.Kinds.{only}
 use Rattle.toml_keys.specs.Reading.{◌>>=◌, all_known, required, optional, whole, listed, at_most, each, item_path}
 use Rattle.set_reader.specs.declared.fault.SetError.{SetError}
 use Rattle.set_reader.specs.declared.fault.SetError.TheVariants.{Memory, NotToml, Missing, BadValue, TooManyTasks, SameName, DeadlineAfterPeriod, UnknownKey}
@@ -129,7 +130,7 @@ set_keys = codes "platform" ∷ codes "task" ∷ []
 
 -- a list of tables that is not empty
 abbrev pub task_tables : Data → Option (List Members)
-task_tables d = kind.only (λ ts. nat_le 1 (length ts)) (listed as_table d)
+task_tables d = only (λ ts. nat_le 1 (length ts)) (listed as_table d)
 
 unfoldable pub tasks_at : Members → Result (List TaskSpec) SetError
 tasks_at ms = do

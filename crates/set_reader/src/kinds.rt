@@ -4,10 +4,10 @@ ghost use Rattle.toml.specs.View.{view};
 ghost use Rattle.toml_keys.specs.Reading.{listed};
 ghost use Rattle.set_reader.specs.Kinds as spec;
 
-use crpd_base::{Place, Switching, Text, is_file, is_name};
+use crpd_base::{Place, Switching, Text, is_file};
 use std::alloc::{AllocError, Global};
 use toml::Value;
-use toml_keys::whole;
+use toml_keys::{line_length, switching_named, task_name, whole};
 
 const LIMIT: u64 = 1 << 32;
 
@@ -16,12 +16,7 @@ const LIMIT: u64 = 1 << 32;
 pub fn line(value: &Value) -> Option<u32>
     ensures { result ≡ spec.line (view value.now) }
 {
-    let length = whole(value, 4, 64)?;
-    if matches!(length, 4 | 8 | 16 | 32 | 64) {
-        Some(length as u32)
-    } else {
-        None
-    }
+    line_length(whole(value, 4, 64)?)
 }
 
 /// Where a context switch may happen: `cycle` or `instruction`; None for any other value. In constant time.
@@ -29,11 +24,7 @@ pub fn line(value: &Value) -> Option<u32>
 pub fn switching(value: &Value) -> Option<Switching>
     ensures { result ≡ spec.switching (view value.now) }
 {
-    match value.as_str()? {
-        "cycle" => Some(Switching::Cycle),
-        "instruction" => Some(Switching::Instruction),
-        _ => None,
-    }
+    switching_named(value.as_str()?)
 }
 
 /// A task's name, 1 to 32 bytes; None for any other value. The only error is want of memory.
@@ -41,10 +32,7 @@ pub fn switching(value: &Value) -> Option<Switching>
 pub fn name(alloc: Global, value: &Value) -> Result<Option<String>, AllocError>
     ensures { IfOk result (λ s. option_map string_bytes s ≡ spec.name (view value.now)) }
 {
-    match value.as_str() {
-        Some(text) if is_name(text) => Ok(Some(String::from_str(alloc, text)?)),
-        _ => Ok(None),
-    }
+    task_name(alloc, value.as_str())
 }
 
 /// The name of a file, 1 to 255 bytes; None for any other value. The only error is want of memory.

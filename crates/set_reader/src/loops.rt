@@ -5,7 +5,7 @@ ghost use Rattle.set_reader.specs.Kinds as kind;
 ghost use Rattle.set_reader.specs.Reading as spec;
 
 use crate::kinds::{place, ranges};
-use crpd_base::{Items, LoopSpec, Place};
+use crpd_base::{Items, LoopSpec, MOST_LOOPS, Place};
 use std::alloc::{AllocError, Global};
 use toml::{Table, Value};
 use toml_keys::{KeyError, Keys, item_path, tables};
@@ -78,7 +78,7 @@ fn loop_tables<'a>(alloc: Global, value: &'a Value) -> Result<Option<Vec<&'a Tab
     ensures { IfOk result (λ found. option_map (λ v. map (λ t. table_view t.now) v.items) found ≡ spec.loop_tables (view value.now)) }
 {
     match tables(alloc, value)? {
-        Some(tables) if tables.len() <= 64 => Ok(Some(tables)),
+        Some(tables) if tables.len() <= MOST_LOOPS => Ok(Some(tables)),
         _ => Ok(None),
     }
 }

@@ -9,7 +9,7 @@ ghost use Rattle.set_reader.specs.Reading.{reading};
 use crate::fault::SetError;
 use crate::platform::platform_at;
 use crate::task::task_at;
-use crpd_base::{Items, Platform, TaskSet, TaskSpec, Text};
+use crpd_base::{Items, MOST_TASKS, Platform, TaskSet, TaskSpec, Text};
 use std::alloc::{AllocError, Global};
 use toml::{Table, Value};
 use toml_keys::{KeyError, Keys, item_path, tables};
@@ -98,7 +98,7 @@ fn tasks_at(alloc: Global, table: &Table) -> Result<Vec<TaskSpec>, SetError>
     ensures { Gives SetError.Memory (λ v. v.items) result (spec.tasks_at (table_view table.now)) }
 {
     let tables = task_list(alloc, Keys { table, path: "" })?;
-    if tables.len() > 32 {
+    if tables.len() > MOST_TASKS {
         return Err(SetError::TooManyTasks(tables.len() as u64));
     }
     let tasks = each_task(alloc, tables.as_slice())?;

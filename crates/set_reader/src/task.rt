@@ -8,7 +8,7 @@ ghost use Rattle.set_reader.specs.Reading as spec;
 use crate::fault::SetError;
 use crate::kinds::{file, name, place};
 use crate::loops::loops_at;
-use crpd_base::{Items, Place, TaskSpec, Text};
+use crpd_base::{Items, LONGEST_TIME, Place, TaskSpec, Text};
 use std::alloc::Global;
 use toml::Table;
 use toml_keys::{KeyError, Keys, item_path};
@@ -23,8 +23,6 @@ fn all_known(alloc: Global, keys: Keys) -> Result<(), KeyError>
 {
     keys.all_known(alloc, &KEYS)
 }
-
-const LONGEST: u64 = 1 << 40;
 
 #[tactic(auto, using(toml_keys::proofs::Seen::good_seen), unfolding(toml_keys::specs::Reading::required))]
 fn name_at(alloc: Global, keys: Keys) -> Result<String, KeyError>
@@ -73,9 +71,9 @@ fn fields_at(alloc: Global, keys: Keys) -> Result<TaskSpec, KeyError>
         name: Text::new(name_at(alloc, keys)?),
         file: Text::new(file_at(alloc, keys)?),
         entry: entry_at(alloc, keys)?,
-        period: keys.number(alloc, "period", 1, LONGEST)?,
-        deadline: keys.number(alloc, "deadline", 1, LONGEST)?,
-        jitter: keys.number(alloc, "jitter", 0, LONGEST)?,
+        period: keys.number(alloc, "period", 1, LONGEST_TIME)?,
+        deadline: keys.number(alloc, "deadline", 1, LONGEST_TIME)?,
+        jitter: keys.number(alloc, "jitter", 0, LONGEST_TIME)?,
         stack: place_or_zero(alloc, keys, "stack")?,
         global: place_or_zero(alloc, keys, "global")?,
         loops: Items::new(loops_at(alloc, keys)?),
