@@ -1,6 +1,5 @@
 pub mod Each
 pub mod OwnImages
-pub mod Named
 pub mod Given
 pub mod Below
 pub mod Chain
