@@ -35,7 +35,7 @@ module _ (old set : TaskSet) (old_graphs graphs : List CodeGraph) (old_nests nes
   pub judged : IsYes old (shown_at old_graphs old_nests) c → IsYes set (shown_at graphs nests) d
   judged judges i k lt =
       let T = U.each i lt in
-      let w = smaller_is_window set (demand_of set (shown_at graphs nests) d) i (cert_at d i).method (window_at d i) T.window in
+      let w = smaller_is_window set (demand_of set (shown_at graphs nests) d i) i (cert_at d i).method (window_at d i) T.window in
       all_hold set (shown_at graphs nests) d i lt U.platform U.tasks T.name (λ clause. part_holds judges i clause lt) w.some w.enough T.response w.in_deadline k
 
   pub is_best : IsBest old (shown_at old_graphs old_nests) c → IsBest set (shown_at graphs nests) d

@@ -8,8 +8,8 @@ ghost use Rattle.evict_sets.specs.Certificate.{listed_of};
 ghost use Rattle.evict_sets.specs.Listing.{IsListing, IsOrder, IsStateAt, IsStateAfter, HasLowSets, CountsHits, fetches, counted};
 
 use crate::blocks::{access, load};
-use crate::places::index;
 use crate::listing::Listing;
+use crate::places::index;
 use crpd_base::{MOST_NODES, Memory, NodeId, Platform, SETS, TaskPart};
 use flat_graph::Graph;
 use std::alloc::Global;
