@@ -1,3 +1,2 @@
 pub mod Least
 pub mod Jumps
-pub mod Ranges
