@@ -10,8 +10,6 @@ mod completed;
 mod fault;
 mod leader_states;
 mod one_task;
-#[cfg(test)]
-mod tests;
 
 pub use all_tasks::{analyse_all, certify, graphs_law};
 pub use completed::{assemble, complete, parts_of};

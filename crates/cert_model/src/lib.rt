@@ -15,6 +15,3 @@ mod writing;
 pub use fault::CertError;
 pub use reading::{read_certificate, task_entries};
 pub use writing::write_certificate;
-
-#[cfg(test)]
-mod tests;

@@ -11,8 +11,6 @@ mod places;
 mod plans;
 mod runs;
 mod symbols;
-#[cfg(test)]
-mod tests;
 
 pub use fault::MapError;
 pub use map::CodeMap;

@@ -18,6 +18,3 @@ pub use list::list_text;
 pub use refusal::refusal_text;
 pub use sets::sets_text;
 pub use simulate::simulate_text;
-
-#[cfg(test)]
-mod tests;

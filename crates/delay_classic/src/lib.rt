@@ -5,8 +5,6 @@ mod certificate;
 mod charged;
 mod delays;
 mod laws;
-#[cfg(test)]
-mod tests;
 mod windows;
 
 pub use cert_build::BuildError as ClassicError;

@@ -33,16 +33,19 @@ fn delays(jobs: u64, first: u8, second: u8) -> (u128, u128) {
     )
 }
 
+// How many jobs evict, the jobs of two affected tasks, and the delays.
+const DELAYS: [(u64, u8, u8, (u128, u128)); 6] = [
+    (1, 1, 1, (40, 30)),
+    (3, 1, 1, (50, 50)),
+    (2, 5, 1, (60, 50)),
+    (2, 0, 5, (60, 60)),
+    (7, 2, 4, (160, 160)),
+    (0, 3, 3, (0, 0)),
+];
+
 #[test]
 fn delays_of_two_tasks(rt: HostRuntime) {
-    for (jobs, first, second, want) in [
-        (1, 1, 1, (40, 30)),
-        (3, 1, 1, (50, 50)),
-        (2, 5, 1, (60, 50)),
-        (2, 0, 5, (60, 60)),
-        (7, 2, 4, (160, 160)),
-        (0, 3, 3, (0, 0)),
-    ] {
+    for (jobs, first, second, want) in DELAYS {
         assert_eq!(rt;
             delays(jobs, first, second),
             want,

@@ -9,8 +9,6 @@ mod overlap;
 mod program;
 mod reading;
 mod symbols;
-#[cfg(test)]
-mod tests;
 
 pub use fault::ElfError;
 pub use reading::read_elf;

@@ -93,92 +93,120 @@ const BEFORE: Stated = Stated {
     range: (0x104, 0x10C),
 };
 
-const fn link(rd: u8) -> Ins {
-    Ins::Jal { rd, imm: 64 }
-}
+// A jump and a link by x5, and jumps and links by a register.
+const JUMP: Ins = Ins::Jal { rd: 0, imm: 64 };
 
-const fn indirect(rd: u8, rs1: u8, imm: i32) -> Ins {
-    Ins::Jalr { rd, rs1, imm }
-}
+const OTHER_LINK: Ins = Ins::Jal { rd: 5, imm: 64 };
+
+const OTHER_RETURN: Ins = Ins::Jalr {
+    rd: 0,
+    rs1: 5,
+    imm: 0,
+};
+
+const LATE_RETURN: Ins = Ins::Jalr {
+    rd: 0,
+    rs1: 1,
+    imm: 4,
+};
+
+const LINKED_RETURN: Ins = Ins::Jalr {
+    rd: 1,
+    rs1: 1,
+    imm: 0,
+};
+
+// An instruction with the address after it.
+type Step = (Ins, u32);
+
+const HEAD: Step = (NEXT, 0x100);
+
+const CALLED: Step = (CALL, 0x200);
+
+const BACK: Step = (RETURN, 0x104);
 
 // Stated loops, steps, whether the watch is broken, and the calls under way.
+const FOLLOWED: [(&[Stated], &[Step], bool, &[u32]); 28] = [
+    // the entry is a first turn of a loop whose head it is
+    (&[ONCE], &[], false, &[]),
+    (&[ONCE], &[HEAD], true, &[]),
+    (&[NEVER], &[], true, &[]),
+    // a bound is reached, and exceeded by one
+    (&[TWICE], &[HEAD], false, &[]),
+    (&[TWICE], &[HEAD, HEAD], true, &[]),
+    // a loop that is left begins anew; its range ends before its second address and begins with its first
+    (&[TWICE], &[HEAD, (NEXT, 0x10C), HEAD], true, &[]),
+    (&[TWICE], &[HEAD, (NEXT, 0x110), HEAD, HEAD], false, &[]),
+    (
+        &[TWICE],
+        &[HEAD, (NEXT, 0x110), HEAD, HEAD, HEAD],
+        true,
+        &[],
+    ),
+    (
+        &[BEFORE],
+        &[(NEXT, 0x108), (NEXT, 0x104), (NEXT, 0x108)],
+        true,
+        &[],
+    ),
+    (
+        &[BEFORE],
+        &[(NEXT, 0x108), (NEXT, 0x100), (NEXT, 0x108)],
+        false,
+        &[],
+    ),
+    // two loops with one HEAD, of which the smaller one is left
+    (&[TWICE, THRICE], &[HEAD, (NEXT, 0x114), HEAD], false, &[]),
+    (
+        &[TWICE, THRICE],
+        &[HEAD, (NEXT, 0x114), HEAD, HEAD],
+        true,
+        &[],
+    ),
+    // a CALLED, its return, and a return to another address
+    (&[], &[CALLED], false, &[0x100]),
+    (&[], &[CALLED, BACK], false, &[]),
+    (&[], &[CALLED, (RETURN, 0x200)], true, &[]),
+    (&[], &[CALLED, (RETURN, END)], true, &[]),
+    // a call leaves the loop round it open
+    (&[TWICE], &[CALLED, BACK, HEAD, CALLED, BACK], false, &[]),
+    (
+        &[TWICE],
+        &[CALLED, BACK, HEAD, CALLED, BACK, HEAD],
+        true,
+        &[],
+    ),
+    // sixteen calls, and one more
+    (
+        &[],
+        &[CALLED; 16],
+        false,
+        &[
+            0x100, 0x200, 0x200, 0x200, 0x200, 0x200, 0x200, 0x200, 0x200, 0x200, 0x200, 0x200,
+            0x200, 0x200, 0x200, 0x200,
+        ],
+    ),
+    (&[], &[CALLED; 17], true, &[]),
+    // other links and other indirect jumps; a broken watch stays broken
+    (&[], &[(JUMP, 0x140)], false, &[]),
+    (&[], &[(OTHER_LINK, 0x140)], true, &[]),
+    (&[], &[(OTHER_RETURN, 0x104)], true, &[]),
+    (&[], &[(LATE_RETURN, 0x104)], true, &[]),
+    (
+        &[],
+        &[CALLED, (LINKED_RETURN, 0x104), HEAD, CALLED],
+        true,
+        &[],
+    ),
+    // the bottom frame returns to the end
+    (&[], &[(RETURN, END)], false, &[]),
+    (&[], &[(RETURN, 0x104)], true, &[]),
+    (&[ONCE], &[(NEXT, END)], false, &[]),
+];
+
 #[test]
 fn follows(rt: HostRuntime) -> Result<(), Fail> {
-    let head = (NEXT, 0x100);
-    let call = (CALL, 0x200);
-    let back = (RETURN, 0x104);
-    for (loops, steps, broken, calls) in [
-        // the entry is a first turn of a loop whose head it is
-        (&[ONCE][..], &[][..], false, &[][..]),
-        (&[ONCE], &[head], true, &[]),
-        (&[NEVER], &[], true, &[]),
-        // a bound is reached, and exceeded by one
-        (&[TWICE], &[head], false, &[]),
-        (&[TWICE], &[head, head], true, &[]),
-        // a loop that is left begins anew; its range ends before its second address and begins with its first
-        (&[TWICE], &[head, (NEXT, 0x10C), head], true, &[]),
-        (&[TWICE], &[head, (NEXT, 0x110), head, head], false, &[]),
-        (
-            &[TWICE],
-            &[head, (NEXT, 0x110), head, head, head],
-            true,
-            &[],
-        ),
-        (
-            &[BEFORE],
-            &[(NEXT, 0x108), (NEXT, 0x104), (NEXT, 0x108)],
-            true,
-            &[],
-        ),
-        (
-            &[BEFORE],
-            &[(NEXT, 0x108), (NEXT, 0x100), (NEXT, 0x108)],
-            false,
-            &[],
-        ),
-        // two loops with one head, of which the smaller one is left
-        (&[TWICE, THRICE], &[head, (NEXT, 0x114), head], false, &[]),
-        (
-            &[TWICE, THRICE],
-            &[head, (NEXT, 0x114), head, head],
-            true,
-            &[],
-        ),
-        // a call, its return, and a return to another address
-        (&[], &[call], false, &[0x100]),
-        (&[], &[call, back], false, &[]),
-        (&[], &[call, (RETURN, 0x200)], true, &[]),
-        (&[], &[call, (RETURN, END)], true, &[]),
-        // a call leaves the loop round it open
-        (&[TWICE], &[call, back, head, call, back], false, &[]),
-        (&[TWICE], &[call, back, head, call, back, head], true, &[]),
-        // sixteen calls, and one more
-        (
-            &[],
-            &[call; 16],
-            false,
-            &[
-                0x100, 0x200, 0x200, 0x200, 0x200, 0x200, 0x200, 0x200, 0x200, 0x200, 0x200, 0x200,
-                0x200, 0x200, 0x200, 0x200,
-            ],
-        ),
-        (&[], &[call; 17], true, &[]),
-        // other links and other indirect jumps; a broken watch stays broken
-        (&[], &[(link(0), 0x140)], false, &[]),
-        (&[], &[(link(5), 0x140)], true, &[]),
-        (&[], &[(indirect(0, 5, 0), 0x104)], true, &[]),
-        (&[], &[(indirect(0, 1, 4), 0x104)], true, &[]),
-        (
-            &[],
-            &[call, (indirect(1, 1, 0), 0x104), head, call],
-            true,
-            &[],
-        ),
-        // the bottom frame returns to the end
-        (&[], &[(RETURN, END)], false, &[]),
-        (&[], &[(RETURN, 0x104)], true, &[]),
-        (&[ONCE], &[(NEXT, END)], false, &[]),
-    ] {
+    for (loops, steps, broken, calls) in FOLLOWED {
         let plan = plan(rt.alloc(), loops)?;
         let watch = watch_after(rt.alloc(), &plan, steps)?;
         assert_eq!(rt; watch.broken(), broken);
@@ -188,32 +216,33 @@ fn follows(rt: HostRuntime) -> Result<(), Fail> {
 }
 
 // The addresses that are quiet around an address after steps, also where there are no loops.
+const QUIET: [(&[Stated], &[Step], u32, (u32, u32)); 11] = [
+    (&[], &[], 0x100, (0, u32::MAX)),
+    // an open loop, from after its head to the end of its range
+    (&[TWICE], &[], 0x100, (0x101, 0x110)),
+    (&[TWICE], &[], 0x10C, (0x101, 0x110)),
+    (&[TWICE], &[], 0x110, (0, 0)),
+    // a loop that was left, and one in another frame
+    (&[TWICE], &[(NEXT, 0x110)], 0x110, (0x101, u32::MAX)),
+    (&[TWICE], &[CALLED], 0x200, (0x101, u32::MAX)),
+    // before the head of a loop that is not open, and of one whose range begins before it
+    (&[BEFORE], &[], 0x100, (0, 0x108)),
+    (
+        &[BEFORE],
+        &[(NEXT, 0x108), (NEXT, 0x104)],
+        0x104,
+        (0x104, 0x108),
+    ),
+    // two open loops
+    (&[TWICE, THRICE], &[], 0x104, (0x101, 0x110)),
+    // a broken watch, and one whose bottom frame was popped
+    (&[NEVER], &[], 0x100, (0, u32::MAX)),
+    (&[TWICE], &[(RETURN, END)], END, (0, u32::MAX)),
+];
+
 #[test]
 fn quiet_addresses(rt: HostRuntime) -> Result<(), Fail> {
-    let call = (CALL, 0x200);
-    for (loops, steps, near, quiet) in [
-        (&[][..], &[][..], 0x100u32, (0u32, u32::MAX)),
-        // an open loop, from after its head to the end of its range
-        (&[TWICE], &[], 0x100, (0x101, 0x110)),
-        (&[TWICE], &[], 0x10C, (0x101, 0x110)),
-        (&[TWICE], &[], 0x110, (0, 0)),
-        // a loop that was left, and one in another frame
-        (&[TWICE], &[(NEXT, 0x110)], 0x110, (0x101, u32::MAX)),
-        (&[TWICE], &[call], 0x200, (0x101, u32::MAX)),
-        // before the head of a loop that is not open, and of one whose range begins before it
-        (&[BEFORE], &[], 0x100, (0, 0x108)),
-        (
-            &[BEFORE],
-            &[(NEXT, 0x108), (NEXT, 0x104)],
-            0x104,
-            (0x104, 0x108),
-        ),
-        // two open loops
-        (&[TWICE, THRICE], &[], 0x104, (0x101, 0x110)),
-        // a broken watch, and one whose bottom frame was popped
-        (&[NEVER], &[], 0x100, (0, u32::MAX)),
-        (&[TWICE], &[(RETURN, END)], END, (0, u32::MAX)),
-    ] {
+    for (loops, steps, near, quiet) in QUIET {
         let plan = plan(rt.alloc(), loops)?;
         let watch = watch_after(rt.alloc(), &plan, steps)?;
         assert_eq!(rt; watch.quiet(&plan, near), quiet);
@@ -221,16 +250,19 @@ fn quiet_addresses(rt: HostRuntime) -> Result<(), Fail> {
     Ok(())
 }
 
+// Whether an instruction stays in its frame.
+const STAY: [(Ins, bool); 6] = [
+    (NEXT, true),
+    (JUMP, true),
+    (CALL, false),
+    (RETURN, false),
+    (OTHER_LINK, false),
+    (OTHER_RETURN, false),
+];
+
 #[test]
 fn frames_that_stay(rt: HostRuntime) {
-    for (ins, stays) in [
-        (NEXT, true),
-        (link(0), true),
-        (CALL, false),
-        (RETURN, false),
-        (link(5), false),
-        (indirect(0, 5, 0), false),
-    ] {
+    for (ins, stays) in STAY {
         assert_eq!(rt; stays_in_frame(&ins), stays);
     }
 }

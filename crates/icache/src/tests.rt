@@ -22,17 +22,32 @@ fn geometry() -> Geometry
     })
 }
 
+// Addresses with their blocks and their cache sets.
+const PLACES: [(u32, u32, u16); 6] = [
+    (0, 0, 0),
+    (15, 0, 0),
+    (16, 1, 1),
+    (0x1004, 0x100, 0),
+    (0x1050, 0x105, 1),
+    (0xFFFF_FFFC, 0x0FFF_FFFF, 3),
+];
+
+// Blocks that are asked for one after another, and how each is found.
+const FOUND: [(u32, Access); 8] = [
+    (0x100, Access::Miss),
+    (0x100, Access::Hit),
+    (0x101, Access::Miss),
+    (0x100, Access::Hit),
+    (0x104, Access::Miss),
+    (0x100, Access::Miss),
+    (0x101, Access::Hit),
+    (0, Access::Miss),
+];
+
 #[test]
 fn blocks_and_sets(rt: HostRuntime) {
     let geometry = geometry();
-    for (address, block, set) in [
-        (0u32, 0u32, 0u16),
-        (15, 0, 0),
-        (16, 1, 1),
-        (0x1004, 0x100, 0),
-        (0x1050, 0x105, 1),
-        (0xFFFF_FFFC, 0x0FFF_FFFF, 3),
-    ] {
+    for (address, block, set) in PLACES {
         assert_eq!(rt; geometry.block(address), block);
         assert_eq!(rt; geometry.set(block), set);
     }
@@ -42,16 +57,7 @@ fn blocks_and_sets(rt: HostRuntime) {
 fn hits_and_misses(rt: HostRuntime) {
     let geometry = geometry();
     let mut cache = Cache::<4>::empty();
-    for (block, found) in [
-        (0x100u32, Access::Miss),
-        (0x100, Access::Hit),
-        (0x101, Access::Miss),
-        (0x100, Access::Hit),
-        (0x104, Access::Miss),
-        (0x100, Access::Miss),
-        (0x101, Access::Hit),
-        (0, Access::Miss),
-    ] {
+    for (block, found) in FOUND {
         assert!(rt; cache.access(&geometry, block) == found);
     }
     assert_eq!(rt; cache.holds(0), Some(0));

@@ -5,8 +5,6 @@ mod decoded;
 mod jobs;
 mod parts;
 mod running;
-#[cfg(test)]
-mod tests;
 
 ghost use Rattle.preempt_fast.specs.Stretch.{CyclesLaw, EffectLaw, IdleLaw, SwitchLaw};
 

@@ -2,4 +2,3 @@ pub mod WindowLaws
 pub mod Choices
 pub mod Least
 pub mod Jumps
-pub mod Ranges

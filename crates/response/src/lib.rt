@@ -4,8 +4,6 @@
 mod bounds;
 mod choice;
 mod search;
-#[cfg(test)]
-mod tests;
 
 pub use choice::{Choice, WindowError, smaller, windows};
 pub use search::window;

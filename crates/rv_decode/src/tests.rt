@@ -1,6 +1,5 @@
 use crate::{Ins, cost, decode, encode};
 use crpd_base::{Platform, Switching};
-use std::process::Abort;
 use std::test::Fail;
 
 // Each row once: words as LLVM's assembler makes them of the texts.
@@ -69,20 +68,21 @@ fn every_row(rt: HostRuntime) -> Result<(), Fail> {
     Ok(())
 }
 
+// A shift with another funct7, a JALR and a branch with another funct3, a system word, an M row with another bit, and others.
+const NO_ROWS: [u32; 8] = [
+    0x2010_5013,
+    0x0000_1067,
+    0x0000_2063,
+    0,
+    0x0020_0073,
+    0x0473_02B3,
+    0x0000_100F,
+    0xFFFF_FFFF,
+];
+
 #[test]
 fn words_of_no_row(rt: HostRuntime) {
-    // a shift with another funct7, a JALR and a branch with another funct3, a system word, an M row with another bit
-    let words = [
-        0x2010_5013,
-        0x0000_1067,
-        0x0000_2063,
-        0,
-        0x0020_0073,
-        0x0473_02B3,
-        0x0000_100F,
-        0xFFFF_FFFF,
-    ];
-    for word in words {
+    for word in NO_ROWS {
         assert!(rt; decode(word).is_none());
     }
 }
@@ -113,36 +113,39 @@ fn fields(rt: HostRuntime) {
     assert!(rt; store.reads() == (2, 1));
 }
 
-fn check_cost(rt: &impl Abort, word: u32, miss: bool, taken: bool, cycles: u64) {
-    let platform = Platform {
-        line: 16,
-        sets: 4,
-        hit: 1,
-        miss: 10,
-        memory: 3,
-        taken: 2,
-        switch: 5,
-        mul: 4,
-        div: 30,
-        switching: Switching::Cycle,
-    };
-    match decode(word) {
-        Some(ins) => assert_eq!(rt; cost(&platform, &ins, miss, taken), cycles),
-        None => assert!(rt; false, "no row"),
-    }
-}
+const PLATFORM: Platform = Platform {
+    line: 16,
+    sets: 4,
+    hit: 1,
+    miss: 10,
+    memory: 3,
+    taken: 2,
+    switch: 5,
+    mul: 4,
+    div: 30,
+    switching: Switching::Cycle,
+};
+
+// A word, whether it misses and whether it is taken, and its cycles: addi, sw, jal, bne, div, mul, jalr and ecall.
+const COSTS: [(u32, bool, bool, u64); 10] = [
+    (0x0010_0293, true, false, 11),
+    (0x0010_0293, false, true, 1),
+    (0x0011_2623, false, false, 4),
+    (0x0140_00EF, false, true, 3),
+    (0xFE02_9EE3, true, true, 13),
+    (0xFE02_9EE3, false, false, 1),
+    (0x0273_42B3, false, false, 31),
+    (0x0273_02B3, true, false, 15),
+    (0x0000_8067, true, true, 13),
+    (0x0000_0073, false, true, 1),
+];
 
 #[test]
 fn costs(rt: HostRuntime) {
-    // addi, sw, jal, bne, div, mul, jalr, ecall
-    check_cost(&rt, 0x0010_0293, true, false, 11);
-    check_cost(&rt, 0x0010_0293, false, true, 1);
-    check_cost(&rt, 0x0011_2623, false, false, 4);
-    check_cost(&rt, 0x0140_00EF, false, true, 3);
-    check_cost(&rt, 0xFE02_9EE3, true, true, 13);
-    check_cost(&rt, 0xFE02_9EE3, false, false, 1);
-    check_cost(&rt, 0x0273_42B3, false, false, 31);
-    check_cost(&rt, 0x0273_02B3, true, false, 15);
-    check_cost(&rt, 0x0000_8067, true, true, 13);
-    check_cost(&rt, 0x0000_0073, false, true, 1);
+    for (word, miss, taken, cycles) in COSTS {
+        match decode(word) {
+            Some(ins) => assert_eq!(rt; cost(&PLATFORM, &ins, miss, taken), cycles),
+            None => assert!(rt; false, "no row"),
+        }
+    }
 }

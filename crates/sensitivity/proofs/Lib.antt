@@ -5,4 +5,3 @@ pub mod Acceptance
 pub mod Slacks
 pub mod Parts
 pub mod Trials
-pub mod Shown

@@ -7,8 +7,6 @@ mod greatest;
 mod laws;
 mod search;
 mod slack;
-#[cfg(test)]
-mod tests;
 
 pub use greatest::{greatest_miss, greatest_switch};
 pub use laws::{acceptance_law, costs_law};

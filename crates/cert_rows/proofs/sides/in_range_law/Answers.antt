@@ -1,0 +1,5 @@
+use Rattle.cert_build.proofs.InRange.{in_range}
+use Rattle.cert_rows.proofs.sides.in_range_law.Goals as goal
+
+pub returns : goal.returns
+returns c = in_range _ c.requires

@@ -1,0 +1,483 @@
+// The code maps of small files.
+ghost use Rattle.std.specs.Prelude.{◌≡◌, ◌≤◌, ◌<◌, ◌+◌, ◌^◌, [], length, All, IfOk, IsTrue, vec_len};
+ghost use Rattle.crpd_base.specs.Images.{IsImage};
+
+use code_map::{CodeMap, MapError};
+use crpd_base::{
+    Image, Items, LoopSpec, Place, Segment, Symbol, Task, TaskPlan, TaskSet, TaskSpec, Text,
+};
+use fixtures::PLATFORM;
+use std::alloc::{AllocError, Global};
+use std::test::Fail;
+
+// A segment: its address, size, bytes, and whether it is executable.
+#[derive(Clone, Copy)]
+struct Part(u32, u64, &'static [u8], bool);
+
+// A place: a symbol with an offset, or, without a symbol, a number.
+#[derive(Clone, Copy)]
+struct At(&'static str, u32);
+
+// A task's file of two segments, the lower one first, and the task's places.
+#[derive(Clone, Copy)]
+struct File {
+    name: &'static str,
+    parts: (Part, Part),
+    entry: At,
+    stack: At,
+    range: (At, At),
+}
+
+const NONE: Part = Part(0, 0, &[], false);
+
+// `addi x5,x0,1` and `ecall`.
+const ONE: [u8; 8] = [0x93, 0x02, 0x10, 0x00, 0x73, 0x00, 0x00, 0x00];
+
+// Another instruction before the `ecall`, which differs from ONE in its third byte alone.
+const TWO: [u8; 8] = [0x93, 0x02, 0x20, 0x00, 0x73, 0x00, 0x00, 0x00];
+
+// The first six bytes of ONE, and two of the others.
+const HEAD: [u8; 6] = [0x93, 0x02, 0x10, 0x00, 0x73, 0x00];
+
+const TAIL: [u8; 2] = [0x00, 0x00];
+
+const PLAIN: File = File {
+    name: "one.elf",
+    parts: (NONE, Part(0x1000, 8, &ONE, true)),
+    entry: At("", 0x1000),
+    stack: At("", 0),
+    range: (At("", 0), At("", 0)),
+};
+
+fn segment(alloc: Global, part: Part) -> Result<Segment, AllocError> {
+    let Part(address, size, bytes, executable) = part;
+    Ok(Segment {
+        address,
+        size,
+        bytes: Items::new(Vec::from_slice(alloc, bytes)?),
+        executable,
+    })
+}
+
+fn fits(segment: &Segment) -> bool
+    ensures above { IsTrue result → segment.now.address + segment.now.size ≤ 2 ^ 32 }
+    ensures sized { IsTrue result → length segment.now.bytes ≤ segment.now.size }
+{
+    segment.size <= 0x1_0000_0000 - u64::from(segment.address)
+        && segment.bytes.as_slice().len() as u64 <= segment.size
+}
+
+// The segments, the lower one first; none where they cannot lie in memory so.
+fn segments(alloc: Global, first: Segment, second: Segment) -> Result<Vec<Segment>, AllocError>
+    ensures { IfOk result (λ v. IsImage (record { entry = 0; segments = v.items; symbols = [] })) }
+{
+    let mut segments = Vec::new(alloc);
+    if !fits(&first) || !fits(&second) {
+        return Ok(segments);
+    }
+    if u64::from(second.address) < u64::from(first.address) + first.size {
+        return Ok(segments);
+    }
+    segments.push(first)?;
+    segments.push(second)?;
+    Ok(segments)
+}
+
+// The symbols of each file.
+const SYMBOLS: [(&[u8], u32); 4] = [
+    (b"a", 0x1000),
+    (b"b", 0x1004),
+    (b"a", 0x1008),
+    (b"high", 0xFFFF_FFFF),
+];
+
+fn symbols(alloc: Global) -> Result<Vec<Symbol>, AllocError> {
+    let mut symbols = Vec::new(alloc);
+    for (name, value) in SYMBOLS {
+        symbols.push(Symbol {
+            name: Items::new(Vec::from_slice(alloc, name)?),
+            value,
+        })?;
+    }
+    Ok(symbols)
+}
+
+fn image(alloc: Global, file: &File) -> Result<Image, AllocError>
+    ensures { IfOk result IsImage }
+{
+    let (first, second) = file.parts;
+    let first = segment(alloc, first)?;
+    let segments = segments(alloc, first, segment(alloc, second)?)?;
+    Ok(Image {
+        entry: 0x1004,
+        segments: Items::new(segments),
+        symbols: Items::new(symbols(alloc)?),
+    })
+}
+
+fn images(alloc: Global, files: &[File]) -> Result<Vec<Image>, AllocError>
+    ensures images { IfOk result (λ v. All IsImage v.items) }
+    ensures count { IfOk result (λ v. vec_len v ≡ length files.now) }
+{
+    let mut images = Vec::new(alloc);
+    for file in files {
+        images.push(image(alloc, file)?)?;
+    }
+    Ok(images)
+}
+
+fn place(alloc: Global, at: At) -> Result<Place, AllocError> {
+    let At(name, number) = at;
+    if name.is_empty() {
+        return Ok(Place::Number(number));
+    }
+    Ok(Place::Symbol {
+        name: Text::new(String::from_str(alloc, name)?),
+        offset: number,
+    })
+}
+
+fn task(alloc: Global, file: &File) -> Result<TaskSpec, AllocError> {
+    let (from, to) = file.range;
+    let mut ranges = Vec::new(alloc);
+    ranges.push((place(alloc, from)?, place(alloc, to)?))?;
+    let mut loops = Vec::new(alloc);
+    loops.push(LoopSpec {
+        head: place(alloc, from)?,
+        bound: 3,
+        ranges: Items::new(ranges),
+    })?;
+    let entry = if file.entry.0 == "e_entry" {
+        None
+    } else {
+        Some(place(alloc, file.entry)?)
+    };
+    Ok(TaskSpec {
+        name: Text::new(String::from_str(alloc, "one")?),
+        file: Text::new(String::from_str(alloc, file.name)?),
+        entry,
+        period: 100,
+        deadline: 100,
+        jitter: 0,
+        stack: place(alloc, file.stack)?,
+        global: Place::Number(7),
+        loops: Items::new(loops),
+    })
+}
+
+fn tasks(alloc: Global, files: &[File]) -> Result<Vec<TaskSpec>, AllocError>
+    ensures { IfOk result (λ v. vec_len v ≡ length files.now) }
+{
+    let mut tasks = Vec::new(alloc);
+    for file in files {
+        tasks.push(task(alloc, file)?)?;
+    }
+    Ok(tasks)
+}
+
+fn code(alloc: Global, files: &[File]) -> Result<CodeMap, MapError>
+    requires { length files.now ≤ 256 }
+{
+    let tasks = tasks(alloc, files)?;
+    let images = images(alloc, files)?;
+    let set = TaskSet {
+        platform: PLATFORM,
+        tasks: Items::new(tasks),
+    };
+    CodeMap::new(alloc, &set, images)
+}
+
+fn outcome(alloc: Global, files: &[File]) -> Result<String, AllocError>
+    requires { length files.now ≤ 256 }
+{
+    match code(alloc, files) {
+        Ok(_) => format!(in alloc; "code"),
+        Err(MapError::Memory) => format!(in alloc; "memory"),
+        Err(MapError::CodeConflict(address)) => format!(in alloc; "40 {address:08x}"),
+        Err(MapError::UnknownSymbol(task, text)) => {
+            format!(in alloc; "41 {} {}", task.0, text.as_str())
+        }
+        Err(MapError::EntryOutside(task, address)) => {
+            format!(in alloc; "42 {} {address:08x}", task.0)
+        }
+    }
+}
+
+// The last bytes of memory, and bytes that overlap the plain file's.
+const HIGH: Part = Part(0xFFFF_FFF8, 8, &ONE, true);
+
+const LATE: Part = Part(0x1002, 8, &ONE, true);
+
+// A file beside the plain one, and what comes of the two.
+const REFUSALS: [(File, &str); 18] = [
+    (PLAIN, "code"),
+    (
+        File {
+            name: "copy.elf",
+            ..PLAIN
+        },
+        "code",
+    ),
+    (
+        File {
+            name: "two.elf",
+            parts: (NONE, Part(0x1000, 8, &TWO, true)),
+            ..PLAIN
+        },
+        "40 00001002",
+    ),
+    (
+        File {
+            name: "two.elf",
+            parts: (NONE, LATE),
+            ..PLAIN
+        },
+        "40 00001002",
+    ),
+    (
+        File {
+            name: "two.elf",
+            parts: (NONE, Part(0x1000, 8, &TWO, false)),
+            ..PLAIN
+        },
+        "code",
+    ),
+    (
+        File {
+            name: "two.elf",
+            parts: (NONE, NONE),
+            ..PLAIN
+        },
+        "code",
+    ),
+    (
+        File {
+            entry: At("a", 0),
+            ..PLAIN
+        },
+        "code",
+    ),
+    (
+        File {
+            entry: At("e_entry", 0),
+            ..PLAIN
+        },
+        "code",
+    ),
+    (
+        File {
+            entry: At("c", 0),
+            ..PLAIN
+        },
+        "41 1 c",
+    ),
+    (
+        File {
+            entry: At("c", 16),
+            ..PLAIN
+        },
+        "41 1 c+16",
+    ),
+    (
+        File {
+            entry: At("b", 2),
+            ..PLAIN
+        },
+        "42 1 00001006",
+    ),
+    (
+        File {
+            entry: At("b", 4),
+            ..PLAIN
+        },
+        "42 1 00001008",
+    ),
+    (
+        File {
+            entry: At("high", 1),
+            ..PLAIN
+        },
+        "41 1 high+1",
+    ),
+    (
+        File {
+            entry: At("high", 0),
+            ..PLAIN
+        },
+        "42 1 ffffffff",
+    ),
+    (
+        File {
+            entry: At("", 0xFFFF_FFF8),
+            parts: (NONE, HIGH),
+            ..PLAIN
+        },
+        "code",
+    ),
+    (
+        File {
+            entry: At("", 0xFFFF_FFFC),
+            parts: (NONE, HIGH),
+            ..PLAIN
+        },
+        "42 1 fffffffc",
+    ),
+    (
+        File {
+            entry: At("", 2),
+            stack: At("s", 0),
+            ..PLAIN
+        },
+        "41 1 s",
+    ),
+    (
+        File {
+            entry: At("", 2),
+            range: (At("", 0), At("r", 1)),
+            ..PLAIN
+        },
+        "41 1 r+1",
+    ),
+];
+
+#[test]
+fn refusals(rt: HostRuntime) -> Result<(), Fail> {
+    for (file, want) in REFUSALS {
+        let got = outcome(rt.alloc(), &[PLAIN, file])?;
+        assert_eq!(rt; got.as_str(), want);
+    }
+    Ok(())
+}
+
+// Where the words of these files stand, and in which of the files each stands wholly.
+fn told(alloc: Global, code: &CodeMap, address: u32) -> Result<String, AllocError> {
+    code.words_law();
+    let Some(word) = code.word(address) else {
+        return format!(in alloc; "none");
+    };
+    let mut text = format!(in alloc; "{word:08x}")?;
+    for task in 0..4 {
+        if usize::from(task) < code.images().len() && code.own(Task(task), address) {
+            let own = format!(in alloc; " {task}")?;
+            text.push_str(own.as_str())?;
+        }
+    }
+    Ok(text)
+}
+
+// Words that stand in one file, in two pieces, in two files, and at the end of memory.
+const FILES: [File; 4] = [
+    File {
+        parts: (NONE, Part(0x1000, 12, &ONE, true)),
+        ..PLAIN
+    },
+    File {
+        parts: (Part(0x2000, 6, &HEAD, true), Part(0x2006, 2, &TAIL, true)),
+        ..PLAIN
+    },
+    File {
+        parts: (Part(0x2008, 2, &TAIL, true), Part(0x3000, 8, &ONE, false)),
+        ..PLAIN
+    },
+    File {
+        parts: (
+            Part(0x200A, 2, &TAIL, true),
+            Part(0xFFFF_FFF8, 8, &ONE, true),
+        ),
+        ..PLAIN
+    },
+];
+
+// Addresses with the words there.
+const WORDS: [(u32, &str); 12] = [
+    (0x0FFC, "none"),
+    (0x1000, "00100293 0"),
+    (0x1001, "none"),
+    (0x1004, "00000073 0"),
+    (0x1008, "none"),
+    (0x2000, "00100293 1"),
+    (0x2004, "00000073 1"),
+    (0x2008, "00000000"),
+    (0x200C, "none"),
+    (0x3000, "none"),
+    (0xFFFF_FFF8, "00100293 3"),
+    (0xFFFF_FFFC, "none"),
+];
+
+// Each task's next address of a word of its own from an address on.
+const NEXT: [(u8, u32, Option<u32>); 8] = [
+    (0, 0, Some(0x1000)),
+    (0, 0x1005, None),
+    (1, 0x1FFF, Some(0x2000)),
+    (1, 0x2001, Some(0x2004)),
+    (1, 0x2005, None),
+    (2, 0, None),
+    (3, 0, Some(0xFFFF_FFF8)),
+    (3, 0xFFFF_FFF9, None),
+];
+
+#[test]
+fn words(rt: HostRuntime) -> Result<(), Fail> {
+    let code = code(rt.alloc(), &FILES).map_err(|_| "refused")?;
+    for (address, want) in WORDS {
+        let got = told(rt.alloc(), &code, address)?;
+        assert_eq!(rt; got.as_str(), want, "at {address:x}");
+    }
+    for (task, from, want) in NEXT {
+        assert!(rt; usize::from(task) < code.images().len());
+        assert_eq!(rt;
+            code.next_own(Task(task), from),
+            want,
+            "task {task} from {from:x}"
+        );
+    }
+    Ok(())
+}
+
+fn plan_told(alloc: Global, plan: &TaskPlan) -> Result<String, AllocError> {
+    let mut text = format!(in alloc; "{:x} {:x} {:x}", plan.entry, plan.stack, plan.global)?;
+    for stated in plan.loops.as_slice() {
+        let line = format!(in alloc; ", {:x} {}", stated.head, stated.bound)?;
+        text.push_str(line.as_str())?;
+        for range in stated.ranges.as_slice() {
+            let (first, last) = *range;
+            let line = format!(in alloc; " {first:x} to {last:x}")?;
+            text.push_str(line.as_str())?;
+        }
+    }
+    Ok(text)
+}
+
+// Numbers, symbols with offsets, and the file's own entry.
+const PLACES: [File; 3] = [
+    PLAIN,
+    File {
+        entry: At("a", 4),
+        stack: At("b", 0x10),
+        range: (At("b", 0), At("high", 0)),
+        ..PLAIN
+    },
+    File {
+        entry: At("e_entry", 0),
+        ..PLAIN
+    },
+];
+
+// The plans of files with such places.
+const PLANS: [(u8, &str); 3] = [
+    (0, "1000 0 7, 0 3 0 to 0"),
+    (1, "1004 1014 7, 1004 3 1004 to ffffffff"),
+    (2, "1004 0 7, 0 3 0 to 0"),
+];
+
+#[test]
+fn plans(rt: HostRuntime) -> Result<(), Fail> {
+    let code = code(rt.alloc(), &PLACES).map_err(|_| "refused")?;
+    code.plans_law();
+    for (task, want) in PLANS {
+        assert!(rt; usize::from(task) < code.images().len());
+        let got = plan_told(rt.alloc(), code.plan(Task(task)))?;
+        assert_eq!(rt; got.as_str(), want, "task {task}");
+    }
+    Ok(())
+}

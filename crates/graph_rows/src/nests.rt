@@ -1,0 +1,155 @@
+// The regions of small programs.
+ghost use Rattle.std.specs.Prelude.{◌≡◌, ◌<◌, length};
+ghost use Rattle.flat_graph.specs.CodeGraph.{graph_of};
+
+use crpd_base::{NodeId, Task};
+use fixtures::{CALL_LOOP, ECALL, LOOP, NESTED, NEXT, ONE, PLATFORM, Program, RET, Stated, load};
+use flat_graph::{Graph, build};
+use loop_regions::{LoopError, Nest, regions};
+use std::alloc::{AllocError, Global};
+use std::test::Fail;
+
+// `addi x5,x5,-1` and `bne x5,x0,-4`.
+const DOWN: u32 = 0xFFF2_8293;
+
+const JUMP: u32 = 0xFE02_9EE3;
+
+// Two calls of a function with a loop.
+const TWO_CALLS: [u32; 6] = [0x00C0_00EF, 0x0080_00EF, ECALL, DOWN, JUMP, RET];
+
+// A loop round a call of a function with a loop.
+const LOOP_IN_CALL: [u32; 6] = [0x00C0_00EF, 0xFE03_1EE3, ECALL, DOWN, JUMP, RET];
+
+fn number_told(alloc: Global, number: Option<u32>) -> Result<String, AllocError> {
+    match number {
+        Some(number) => format!(in alloc; " {number}"),
+        None => String::from_str(alloc, " -"),
+    }
+}
+
+// A region: its head, its bound, its parent, and the nodes that it holds.
+fn region_told(alloc: Global, graph: &Graph, nest: &Nest, r: u32) -> Result<String, AllocError>
+    requires region { r < length nest.now.heads }
+    requires nodes { length nest.now.holders ≡ (graph_of graph.now).size }
+{
+    let mut text = format!(in alloc; " {} times {} in", nest.head(r).0, nest.bound(r))?;
+    text.push_str(number_told(alloc, nest.parent(r))?.as_str())?;
+    text.push_str(":")?;
+    for y in 0..graph.len() {
+        if nest.holds(r, NodeId(y)) {
+            text.push_str(number_told(alloc, Some(y))?.as_str())?;
+        }
+    }
+    text.push_str(";")?;
+    Ok(text)
+}
+
+// The regions, and the innermost region of each node.
+fn told(alloc: Global, graph: &Graph, nest: &Nest) -> Result<String, AllocError>
+    requires { length nest.now.holders ≡ (graph_of graph.now).size }
+{
+    let mut text = format!(in alloc; "{}:", nest.len())?;
+    for r in 0..nest.len() {
+        text.push_str(region_told(alloc, graph, nest, r)?.as_str())?;
+    }
+    text.push_str(" of")?;
+    for y in 0..graph.len() {
+        text.push_str(number_told(alloc, nest.innermost(NodeId(y)))?.as_str())?;
+    }
+    Ok(text)
+}
+
+fn refusal_told(alloc: Global, error: LoopError) -> Result<String, AllocError> {
+    let (number, address) = match error {
+        LoopError::Memory => (0, 0),
+        LoopError::SecondEntry(address) => (60, address),
+        LoopError::NotNested(address) => (61, address),
+        LoopError::SameHead(address) => (62, address),
+        LoopError::CycleWithoutBound(address) => (63, address),
+    };
+    format!(in alloc; "{number} {address:08x}")
+}
+
+fn answer_told<'a>(alloc: Global, words: &'a [u32], loops: &'a [Stated]) -> Result<String, Fail> {
+    let program = Program {
+        words,
+        loops,
+        ..ONE
+    };
+    let code = load(alloc, PLATFORM, &[program])?.code;
+    match build(alloc, &code, Task(0)) {
+        Err(_) => Ok(String::from_str(alloc, "no graph")?),
+        Ok(graph) => match regions(alloc, &graph, code.plan(Task(0))) {
+            Ok(nest) => Ok(told(alloc, &graph, &nest)?),
+            Err(error) => Ok(refusal_told(alloc, error)?),
+        },
+    }
+}
+
+// The body of the loop of two instructions.
+const BODY: (u32, u32) = (0x1004, 0x100C);
+
+// Words, stated loops, and the regions or the refusal.
+const REGIONS: [(&[u32], &[Stated], &str); 16] = [
+    (
+        &LOOP,
+        &[(0x1004, 3, BODY)],
+        "1: 1 times 3 in -: 1 2; of - 0 0 -",
+    ),
+    (&[NEXT, ECALL], &[], "0: of - -"),
+    (&[NEXT, ECALL], &[(0x2000, 3, BODY)], "0: of - -"),
+    (
+        &CALL_LOOP,
+        &[(0x1004, 2, (0x1004, 0x1010))],
+        "1: 1 times 2 in -: 1 2 3 5; of - 0 0 0 - 0",
+    ),
+    (
+        &TWO_CALLS,
+        &[(0x100C, 3, (0x100C, 0x1014))],
+        "2: 3 times 3 in -: 3 4; 6 times 3 in -: 6 7; of - - - 0 0 - 1 1 -",
+    ),
+    (
+        &LOOP_IN_CALL,
+        &[(0x100C, 3, (0x100C, 0x1014)), (0x1000, 3, (0x1000, 0x1008))],
+        "2: 0 times 3 in -: 0 1 3 4 5; 3 times 3 in 0: 3 4; of 0 0 - 1 1 0",
+    ),
+    (
+        &NESTED,
+        &[(0x1004, 3, (0, 0)), (0x1000, 3, (0x1000, 0x100C))],
+        "2: 0 times 3 in -: 0 1 2; 1 times 3 in 0: 1; of 0 1 0 -",
+    ),
+    (&LOOP, &[], "63 00001004"),
+    (&NESTED, &[(0x1000, 3, (0x1000, 0x100C))], "63 00001004"),
+    (&NESTED, &[(0x1004, 3, (0, 0))], "63 00001000"),
+    (&LOOP, &[(0x1008, 3, BODY)], "60 00001004"),
+    (&LOOP, &[(0x1004, 3, (0x1000, 0x100C))], "60 00001000"),
+    (
+        &[NEXT, NEXT, NEXT, ECALL],
+        &[(0x1000, 3, (0x1000, 0x1008)), (0x1004, 3, BODY)],
+        "61 00001004",
+    ),
+    (
+        &LOOP,
+        &[(0x1004, 3, BODY), (0x1004, 3, BODY)],
+        "62 00001004",
+    ),
+    (
+        &LOOP,
+        &[(0x1008, 3, BODY), (0x1004, 3, BODY), (0x1004, 3, BODY)],
+        "62 00001004",
+    ),
+    (
+        &LOOP,
+        &[(8, 3, BODY), (8, 3, BODY), (4, 3, BODY), (4, 3, BODY)],
+        "62 00000004",
+    ),
+];
+
+#[test]
+fn regions_of_small_programs(rt: HostRuntime) -> Result<(), Fail> {
+    for (words, stated, want) in REGIONS {
+        let got = answer_told(rt.alloc(), words, stated)?;
+        assert_eq!(rt; got.as_str(), want);
+    }
+    Ok(())
+}

@@ -1,0 +1,223 @@
+// One interrupted run, cycle by cycle.
+ghost use Rattle.std.specs.Prelude.{◌<◌, length};
+ghost use Rattle.preempt_machine.specs.Running.{HasPlans};
+
+use crate::runs::{INTERRUPTED, compare_ends};
+use crate::scripts::script_of;
+use code_map::CodeMap;
+use crpd_base::{JobId, Task};
+use fixtures::load;
+use icache::Access;
+use preempt_machine::{End, Fetch, Machine};
+use std::process::Abort;
+use std::test::Fail;
+
+// What is seen after each cycle of a stretch, which ends when so many cycles were made: the owner, the pc of the low job
+// and of the high one, the fetch of the cycle, and how the two jobs stand.
+#[derive(Clone, Copy)]
+struct Stretch {
+    until: u64,
+    owner: JobId,
+    pcs: [u32; 2],
+    fetch: Option<(JobId, u32, Access)>,
+    ends: [End; 2],
+}
+
+const LOW_JOB: JobId = JobId {
+    task: Task(1),
+    number: 0,
+};
+
+const HIGH_JOB: JobId = JobId {
+    task: Task(0),
+    number: 0,
+};
+
+const STRETCHES: [Stretch; 14] = [
+    // the switch to the low job
+    Stretch {
+        until: 5,
+        owner: LOW_JOB,
+        pcs: [0x1000, 0x2000],
+        fetch: None,
+        ends: [End::Open, End::Unreleased],
+    },
+    // its first instruction: a miss and ten cycles more, of which the last is kept from it
+    Stretch {
+        until: 6,
+        owner: LOW_JOB,
+        pcs: [0x1000, 0x2000],
+        fetch: Some((LOW_JOB, 0x1000, Access::Miss)),
+        ends: [End::Open, End::Unreleased],
+    },
+    Stretch {
+        until: 15,
+        owner: LOW_JOB,
+        pcs: [0x1000, 0x2000],
+        fetch: None,
+        ends: [End::Open, End::Unreleased],
+    },
+    // the switch to the high job, its first instruction, and its second, a hit that answers
+    Stretch {
+        until: 20,
+        owner: HIGH_JOB,
+        pcs: [0x1000, 0x2000],
+        fetch: None,
+        ends: [End::Open, End::Open],
+    },
+    Stretch {
+        until: 21,
+        owner: HIGH_JOB,
+        pcs: [0x1000, 0x2000],
+        fetch: Some((HIGH_JOB, 0x2000, Access::Miss)),
+        ends: [End::Open, End::Open],
+    },
+    Stretch {
+        until: 30,
+        owner: HIGH_JOB,
+        pcs: [0x1000, 0x2000],
+        fetch: None,
+        ends: [End::Open, End::Open],
+    },
+    Stretch {
+        until: 31,
+        owner: HIGH_JOB,
+        pcs: [0x1000, 0x2004],
+        fetch: None,
+        ends: [End::Open, End::Open],
+    },
+    Stretch {
+        until: 32,
+        owner: HIGH_JOB,
+        pcs: [0x1000, 0x2004],
+        fetch: Some((HIGH_JOB, 0x2004, Access::Hit)),
+        ends: [End::Open, End::Answered(32)],
+    },
+    // the switch back, and the cycle that was left, without a fetch
+    Stretch {
+        until: 37,
+        owner: LOW_JOB,
+        pcs: [0x1000, 0x2004],
+        fetch: None,
+        ends: [End::Open, End::Answered(32)],
+    },
+    Stretch {
+        until: 38,
+        owner: LOW_JOB,
+        pcs: [0x1004, 0x2004],
+        fetch: None,
+        ends: [End::Open, End::Answered(32)],
+    },
+    // the second instruction: the high job took the block from the cache
+    Stretch {
+        until: 39,
+        owner: LOW_JOB,
+        pcs: [0x1004, 0x2004],
+        fetch: Some((LOW_JOB, 0x1004, Access::Miss)),
+        ends: [End::Open, End::Answered(32)],
+    },
+    Stretch {
+        until: 48,
+        owner: LOW_JOB,
+        pcs: [0x1004, 0x2004],
+        fetch: None,
+        ends: [End::Open, End::Answered(32)],
+    },
+    Stretch {
+        until: 49,
+        owner: LOW_JOB,
+        pcs: [0x1004, 0x2004],
+        fetch: None,
+        ends: [End::Answered(49), End::Answered(32)],
+    },
+    // no job is ready, and the owner stays
+    Stretch {
+        until: 55,
+        owner: LOW_JOB,
+        pcs: [0x1004, 0x2004],
+        fetch: None,
+        ends: [End::Answered(49), End::Answered(32)],
+    },
+];
+
+// The pc of the job at a place of the script.
+fn pc_at(machine: &Machine, place: usize) -> u32
+    requires { place < length machine.now.state.jobs }
+{
+    let job = machine.completions()[place].job;
+    machine.pc(job)
+}
+
+// Compares what is seen of the two jobs and of the last cycle.
+fn compare_sight(rt: &impl Abort, machine: &Machine, stretch: &Stretch) {
+    let steps = machine.steps();
+    assert_eq!(rt; machine.owner(), Some(stretch.owner), "after {steps}");
+    let fetch = match stretch.fetch {
+        Some((job, address, access)) => Some(Fetch {
+            job,
+            address,
+            access,
+        }),
+        None => None,
+    };
+    assert_eq!(rt; machine.last_fetch(), fetch, "after {steps}");
+    let completions = machine.completions();
+    assert_eq!(rt; completions.len(), 2);
+    for (place, job) in [LOW_JOB, HIGH_JOB].iter().enumerate() {
+        assert_eq!(rt; completions[place].job, *job);
+        assert_eq!(rt;
+            completions[place].end,
+            stretch.ends[place],
+            "after {steps}"
+        );
+        assert_eq!(rt; pc_at(machine, place), stretch.pcs[place], "after {steps}");
+    }
+}
+
+// Makes the cycles of a stretch by themselves, and compares after each.
+fn pass(
+    rt: &impl Abort,
+    machine: &mut Machine,
+    code: &CodeMap,
+    stretch: &Stretch,
+) -> Result<(), Fail>
+    requires { HasPlans code.now machine.old.state }
+    ensures { HasPlans code.now machine.new.state }
+{
+    for step in machine.steps()..stretch.until {
+        assert_eq!(rt; machine.steps(), step);
+        machine.cycle(code)?;
+        assert_eq!(rt; machine.steps(), step + 1);
+        compare_sight(rt, machine, stretch);
+    }
+    Ok(())
+}
+
+// Makes the cycles of all stretches, one after another.
+fn pass_all(rt: &impl Abort, machine: &mut Machine, code: &CodeMap) -> Result<(), Fail>
+    requires { HasPlans code.now machine.old.state }
+{
+    for stretch in &STRETCHES {
+        pass(rt, machine, code, stretch)?;
+        assert_eq!(rt; machine.steps(), stretch.until);
+    }
+    Ok(())
+}
+
+#[test]
+fn interrupted_instruction(rt: HostRuntime) -> Result<(), Fail> {
+    let alloc = rt.alloc();
+    let loaded = load(alloc, INTERRUPTED.platform, INTERRUPTED.programs)?;
+    let script = script_of(alloc, &loaded.set, 100, &[], INTERRUPTED.jobs)?;
+    let mut machine = Machine::load(alloc, &loaded.code, &loaded.set, &script)?;
+    assert_eq!(rt; machine.steps(), 0);
+    assert_eq!(rt; machine.owner(), None);
+    assert_eq!(rt; machine.last_fetch(), None);
+    pass_all(&rt, &mut machine, &loaded.code)?;
+    compare_ends(
+        &rt,
+        machine.completions(),
+        &[End::Answered(49), End::Answered(32)],
+    );
+    Ok(())
+}

@@ -1,0 +1,92 @@
+// The plain union delays of small lists of sets, and the windows with them.
+ghost use Rattle.std.specs.Prelude.{◌≤◌};
+
+use crate::rows::{Row, crowd_of, numbers_of, told};
+use crpd_base::Switching;
+use delay_classic::{classic_ecb, classic_ucb, classic_windows};
+use fixtures::sets_of;
+use std::alloc::Global;
+use std::test::Fail;
+
+// How many jobs evict the sets 1 to 4, the useful sets of two affected tasks, and the delays by both methods.
+const DELAYS: [(u64, &[u16], &[u16], u128, u128); 6] = [
+    (1, &[1, 2], &[3, 4], 40, 20),
+    (1, &[1, 2], &[2, 3, 4, 5], 40, 30),
+    (3, &[1, 2], &[2, 3], 90, 60),
+    (2, &[], &[5, 6, 7], 0, 0),
+    (0, &[1], &[2], 0, 0),
+    (
+        u64::MAX,
+        &[1],
+        &[],
+        184_467_440_737_095_516_150,
+        184_467_440_737_095_516_150,
+    ),
+];
+
+#[test]
+fn delays_of_two_tasks(rt: HostRuntime) {
+    let evicting = sets_of(&[1, 2, 3, 4]);
+    for (jobs, first, second, ucb, ecb) in DELAYS {
+        let lower = [sets_of(first), sets_of(second)];
+        assert_eq!(rt; classic_ucb(10, jobs, &evicting, &lower), ucb);
+        assert_eq!(rt; classic_ecb(10, jobs, &evicting, &lower), ecb);
+    }
+}
+
+// The windows with cache sets in this many words, or the first task without one.
+fn answer(alloc: Global, rows: &[Row], words: u16) -> Result<String, Fail>
+    requires { words ≤ 8 }
+{
+    let n = numbers_of(alloc, Switching::Cycle, rows, words)?;
+    Ok(told(
+        alloc,
+        classic_windows(alloc, &n.set, n.parts.as_slice(), &n.longest),
+    )?)
+}
+
+const LONG: u64 = 10_000;
+
+const WINDOWS: [(&[Row], &str); 3] = [
+    // two jobs of the highest task reload the middle one's sets, once each
+    (
+        &[
+            (120, 120, 0, 50, 30, 0),
+            (LONG, LONG, 0, 30, 6, 6),
+            (LONG, LONG, 0, 12, 1, 1),
+        ],
+        "windows ucb 55 ucb 115 ucb 217",
+    ),
+    (
+        &[
+            (120, 120, 0, 50, 30, 0),
+            (LONG, LONG, 0, 30, 6, 6),
+            (LONG, 200, 0, 12, 1, 1),
+        ],
+        "none of 2",
+    ),
+    // the sets of the middle task and of the lowest add up by the one method alone
+    (
+        &[
+            (LONG, LONG, 0, 50, 30, 0),
+            (LONG, LONG, 0, 30, 24, 6),
+            (LONG, LONG, 0, 30, 0, 24),
+        ],
+        "windows ucb 55 ucb 115 ecb 175",
+    ),
+];
+
+#[test]
+fn windows_of_small_sets(rt: HostRuntime) -> Result<(), Fail> {
+    for (rows, want) in WINDOWS {
+        let got = answer(rt.alloc(), rows, 1)?;
+        assert_eq!(rt; got.as_str(), want);
+    }
+    let crowd = crowd_of(rt.alloc(), 27_128)?;
+    let got = answer(rt.alloc(), &crowd, 8)?;
+    assert!(rt; got.as_str().ends_with(" ucb 502999999"));
+    let crowd = crowd_of(rt.alloc(), 27_129)?;
+    let got = answer(rt.alloc(), &crowd, 8)?;
+    assert_eq!(rt; got.as_str(), "none of 31");
+    Ok(())
+}
