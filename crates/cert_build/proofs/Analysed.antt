@@ -52,7 +52,7 @@ module _ (p : Platform) (g : CodeGraph) (n : CodeNest) (hits : List Bool) where
       → IsBound (graph_of g) (nest_of n) (costs_of p g (counted hits)) a.part.bound a.potentials a.loops → KeepsRanges a
   ranges few few_regions a E B name method window response is_name window_le response_le =
       record {
-        bound = let within : a.part.bound ≤ 2 ^ 40 = subst (λ k. a.part.bound ≤ k) bound_number B.within in omega (arith, within);
+        bound = let top : a.part.bound ≤ 2 ^ 40 = subst (λ k. a.part.bound ≤ k) bound_number B.within in omega (arith, top);
         loops = record { few = let count = B.all_loops in omega (arith, count, few_regions); each = B.small_loops };
         name = is_name;
         potentials = record { few = let count = B.all_nodes in omega (arith, count, few); each = B.small_nodes };
