@@ -28,7 +28,12 @@ fn useful_behind(listing: &Listing<'_>, node: NodeId, follower: &SetBits<WORDS>)
 }
 
 /// What is useful at the end of the first (0) or second (1) edge of a node; nothing where there is no such edge.
-fn useful_by(listing: &Listing<'_>, node: NodeId, k: u8, follower: &SetBits<WORDS>) -> SetBits<WORDS>
+fn useful_by(
+    listing: &Listing<'_>,
+    node: NodeId,
+    k: u8,
+    follower: &SetBits<WORDS>,
+) -> SetBits<WORDS>
     requires case { IsListing listing.now.platform.now listing.now.graph.now listing.now.part.now listing.now.places.now }
     requires node { node.0 < (graph_of listing.now.graph.now).size }
     requires place { k < 2 }
@@ -45,7 +50,12 @@ fn useful_by(listing: &Listing<'_>, node: NodeId, k: u8, follower: &SetBits<WORD
 }
 
 /// The full useful set of a node.
-fn useful_at(listing: &Listing<'_>, node: NodeId, hit: bool, behind: &SetBits<WORDS>) -> SetBits<WORDS>
+fn useful_at(
+    listing: &Listing<'_>,
+    node: NodeId,
+    hit: bool,
+    behind: &SetBits<WORDS>,
+) -> SetBits<WORDS>
     requires case { IsListing listing.now.platform.now listing.now.graph.now listing.now.part.now listing.now.places.now }
     requires node { node.0 < (graph_of listing.now.graph.now).size }
     requires hit { IsTrue hit ↔ IsHit (graph_of listing.now.graph.now) (fetches listing.now.platform.now listing.now.graph.now) (listed_of listing.now.part.now) node.0 }

@@ -43,7 +43,12 @@ pub(crate) fn without_certificate(
             let name = task_name(set, task);
             Err(refuse_address(alloc, Cause::BoundTooLarge, name, address))
         }
-        BuildError::TooManyEntries(count) => Err(refuse_count(alloc, Cause::TooManyEntries, file, count)),
+        BuildError::TooManyEntries(count) => Err(refuse_count(
+            alloc,
+            Cause::TooManyEntries,
+            file,
+            count,
+        )),
         BuildError::Unschedulable(task) => Ok(Answer {
             text: no_window_text(alloc, task_name(set, task))?,
             outcome: Outcome::No,

@@ -57,8 +57,7 @@ fn choice(set: &TaskSet, parts: &[Part], longest: &[u64], task: Task) -> Option<
     requires bounds { (k : ℕ) → k < length set.now.tasks → (part_at parts.now k).bound ≤ 2 ^ 40 }
     requires longest { HasLongest set.now longest.now }
     requires higher { (k : ℕ) → k < task.0 → jitter_of set.now k ≤ deadline_of set.now k }
-    ensures {
-        let needs = classic_demand set.now (part_at parts.now) (slice_index longest.now) task.0 in
+    ensures { let needs = classic_demand set.now (part_at parts.now) (slice_index longest.now) task.0 in
         MatchOption result
         (HasNoWindow set.now (needs Ucb) task.0 × HasNoWindow set.now (needs Ecb) task.0)
         (λ c. IsSmaller set.now needs task.0 c.method c.window) }
@@ -83,8 +82,7 @@ fn classic_window(
     requires bounds { (k : ℕ) → k < length set.now.tasks → (part_at parts.now k).bound ≤ 2 ^ 40 }
     requires longest { HasLongest set.now longest.now }
     requires higher { (k : ℕ) → k < task.0 → jitter_of set.now k ≤ deadline_of set.now k }
-    ensures {
-        let needs = classic_demand set.now (part_at parts.now) (slice_index longest.now) task.0 method in
+    ensures { let needs = classic_demand set.now (part_at parts.now) (slice_index longest.now) task.0 method in
         MatchOption result (HasNoWindow set.now needs task.0) (λ w. IsWindow set.now needs task.0 w) }
 {
     let platform = &set.platform;
