@@ -1,5 +1,5 @@
 -- The updated certificate, put together from the new parts and their windows.
-use Rattle.std.proofs.Common.{◌≡◌, ℕ, zero, suc, ◌<◌, ◌≤◌, ◌^◌, List, length, refl, sym, ap, subst, inl, inr, arith}
+use Rattle.std.proofs.Common.{ℕ, ◌<◌, ◌≤◌, ◌^◌, List, length, sym, ap, subst, inl, inr, arith}
 use Rattle.std.specs.Prelude.{All, sum_by}
 use Rattle.crpd_base.specs.Ranges.{IsTaskSet}
 use Rattle.crpd_base.specs.declared.data.Task.{Task}
@@ -9,7 +9,6 @@ use Rattle.crpd_base.specs.declared.data.Certificate.{Certificate}
 use Rattle.crpd_base.specs.declared.data.Method.{Method}
 use Rattle.crpd_base.specs.declared.data.Part.{Part}
 use Rattle.flat_graph.specs.CodeGraph.{CodeGraph, HasCode}
-use Rattle.loop_regions.specs.TaskGraph.{TaskGraph}
 use Rattle.loop_regions.specs.CodeNest.{CodeNest}
 use Rattle.evict_sets.specs.Certificate.{cert_at}
 use Rattle.delay_count.specs.Demand.{demand}

@@ -3,7 +3,6 @@ use Rattle.std.proofs.Common.{ℕ, ◌<◌, List, length, inl, inr}
 use Rattle.crpd_base.specs.declared.data.TaskSet.{TaskSet}
 use Rattle.crpd_base.specs.declared.data.Certificate.{Certificate}
 use Rattle.flat_graph.specs.CodeGraph.{CodeGraph}
-use Rattle.loop_regions.specs.TaskGraph.{TaskGraph}
 use Rattle.loop_regions.specs.CodeNest.{CodeNest}
 use Rattle.evict_sets.specs.Certificate.{cert_at}
 use Rattle.cert_check.specs.declared.outcome.Clause.{Clause}

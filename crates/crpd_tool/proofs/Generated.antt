@@ -6,18 +6,17 @@ use Rattle.std.proofs.lemmas.List.{append_assoc, ext_get_or, get_or-map, length-
 use Rattle.crpd_base.specs.declared.data.Certificate.{Certificate}
 use Rattle.crpd_base.specs.declared.data.Script.{Script}
 use Rattle.crpd_base.specs.declared.data.TaskSet.{TaskSet}
-use Rattle.code_map.specs.Words.{word_at}
 use Rattle.script_reader.specs.Legal.{IsLegal}
 use Rattle.cert_build.specs.declared.fault.BuildError.{BuildError}
 use Rattle.cert_build.specs.declared.fault.BuildError.TheVariants.{Memory, TooLarge, TooManyEntries, Unschedulable}
 use Rattle.cert_check.specs.Answered.{answer_of}
 use Rattle.cert_check.specs.Judge.{responses}
-use Rattle.cert_check.specs.Verdict.{IsYes, IsJudged}
+use Rattle.cert_check.specs.Verdict.{IsJudged}
 use Rattle.cert_check.specs.Shown.{shown_at}
 use Rattle.cert_check.specs.declared.outcome.Verdict.{Verdict}
 use Rattle.cert_check.specs.declared.outcome.Verdict.TheVariants.{Yes, No}
-use Rattle.preempt_machine.specs.Machine.{Job, no_job, plan_of}
-use Rattle.preempt_machine.specs.Safe.{IsKept, IsSafeWith, system_of}
+use Rattle.preempt_machine.specs.Machine.{Job, no_job}
+use Rattle.preempt_machine.specs.Safe.{IsKept, IsSafeWith}
 use Rattle.preempt_machine.specs.Step.{Start, state}
 use Rattle.preempt_machine.specs.Starts.{start_of_script}
 use Rattle.run_account.proofs.Jobs.{jobs_length, line_is}
