@@ -11,6 +11,7 @@ use cert_update::{UpdateError, update};
 use crpd_base::{Platform, Switching};
 use fixtures::{LOOP, NESTED, ONE, PLATFORM, Program};
 use std::alloc::{AllocError, Global};
+use std::process::Abort;
 use std::test::Fail;
 
 const HIGH: Program<'static> = Program {
@@ -235,21 +236,29 @@ fn updated(alloc: Global, old: &Side, text: &str, new: &Side) -> Result<String, 
     }
 }
 
+// Updates the old certificate of a case, and compares what comes of it.
+fn compare(rt: &impl Abort, alloc: Global, old: &Side, case: &Case) -> Result<(), Fail>
+    requires old { IsTaskSet old.now.set }
+    requires old_tasks { AreShown old.now.set old.now.graphs.items old.now.nests.items }
+{
+    let text = text_of(alloc, &[HIGH_TOLD, case.low])?;
+    let new = side_of(alloc, case.platform, &case.programs)?;
+    let got = updated(alloc, old, text.as_str(), &new)?;
+    if case.told.is_empty() {
+        assert!(rt; got.as_str().ends_with(case.end));
+    } else {
+        let mut want = text_of(alloc, case.told)?;
+        want.push_str(case.end)?;
+        assert!(rt; got.as_str() == want.as_str());
+    }
+    Ok(())
+}
+
 #[test]
 fn changed_sets(rt: HostRuntime) -> Result<(), Fail> {
-    let alloc = rt.alloc();
-    let old = side_of(alloc, PLATFORM, &[HIGH, LOW])?;
+    let old = side_of(rt.alloc(), PLATFORM, &[HIGH, LOW])?;
     for case in &CASES {
-        let text = text_of(alloc, &[HIGH_TOLD, case.low])?;
-        let new = side_of(alloc, case.platform, &case.programs)?;
-        let got = updated(alloc, &old, text.as_str(), &new)?;
-        if case.told.is_empty() {
-            assert!(rt; got.as_str().ends_with(case.end));
-        } else {
-            let mut want = text_of(alloc, case.told)?;
-            want.push_str(case.end)?;
-            assert!(rt; got.as_str() == want.as_str());
-        }
+        compare(&rt, rt.alloc(), &old, case)?;
     }
     Ok(())
 }
