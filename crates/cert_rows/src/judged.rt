@@ -15,7 +15,7 @@ const LOOPING: Program<'static> = Program {
 };
 
 // What a certificate says of a program, and the verdict.
-const VERDICTS: [(Program<'static>, Told, &str); 11] = [
+static VERDICTS: [(Program<'static>, Told, &str); 11] = [
     (ONE, ONE_TOLD, "yes"),
     (
         ONE,
@@ -106,7 +106,7 @@ fn told(alloc: Global, verdict: Verdict) -> Result<String, AllocError> {
 
 #[test]
 fn verdicts(rt: HostRuntime) -> Result<(), Fail> {
-    for (program, part, want) in VERDICTS {
+    for &(program, part, want) in &VERDICTS {
         let side = side_of(rt.alloc(), PLATFORM, &[program])?;
         let certificate = certificate_of(rt.alloc(), text_of(rt.alloc(), &[part])?.as_str())?;
         let verdict = verdict(&side.set, &side.graphs, &side.nests, &certificate);

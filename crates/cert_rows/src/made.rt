@@ -24,7 +24,7 @@ const HIGH: Program<'static> = Program {
 const LOW: Program<'static> = Program { name: "low", ..ONE };
 
 // Programs, and what their certificate says of them.
-const CERTIFIED: [(&[Program<'static>], &[Told]); 5] = [
+static CERTIFIED: [(&[Program<'static>], &[Told]); 5] = [
     (
         &[Program {
             period: 17,
@@ -67,7 +67,7 @@ const CERTIFIED: [(&[Program<'static>], &[Told]); 5] = [
 ];
 
 // Programs that have no certificate, and why.
-const REFUSED: [(Program<'static>, &str); 3] = [
+static REFUSED: [(Program<'static>, &str); 3] = [
     (
         Program {
             period: 16,
@@ -123,11 +123,11 @@ fn certified(alloc: Global, platform: Platform, programs: &[Program]) -> Result<
 
 #[test]
 fn certificates(rt: HostRuntime) -> Result<(), Fail> {
-    for (programs, parts) in CERTIFIED {
+    for &(programs, parts) in &CERTIFIED {
         let got = certified(rt.alloc(), PLATFORM, programs)?;
         assert!(rt; got.as_slice() == text_of(rt.alloc(), parts)?.as_bytes());
     }
-    for (program, want) in REFUSED {
+    for &(program, want) in &REFUSED {
         let got = certified(rt.alloc(), PLATFORM, &[program])?;
         assert!(rt; got.as_slice() == want.as_bytes());
     }

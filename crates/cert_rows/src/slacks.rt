@@ -33,7 +33,7 @@ const LOOPS: Program<'static> = Program {
 };
 
 // Sets, and the greatest costs of a switch and of a reload, each with what stops it.
-const SLACKS: [(&[Program<'static>], &str); 6] = [
+static SLACKS: [(&[Program<'static>], &str); 6] = [
     (
         &[Program {
             deadline: 16,
@@ -95,7 +95,7 @@ fn slacks(alloc: Global, programs: &[Program]) -> Result<String, Fail> {
 
 #[test]
 fn greatest_costs(rt: HostRuntime) -> Result<(), Fail> {
-    for (programs, want) in SLACKS {
+    for &(programs, want) in &SLACKS {
         let got = slacks(rt.alloc(), programs)?;
         assert_eq!(rt; got.as_str(), want);
     }

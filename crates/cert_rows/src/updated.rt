@@ -28,7 +28,7 @@ const LOW: Program<'static> = Program { name: "low", ..ONE };
 struct Case {
     low: Told,
     platform: Platform,
-    programs: [Program<'static>; 2],
+    programs: &'static [Program<'static>],
     told: &'static [Told],
     end: &'static str,
 }
@@ -36,15 +36,15 @@ struct Case {
 const SAME: Case = Case {
     low: LOW_TOLD,
     platform: PLATFORM,
-    programs: [HIGH, LOW],
+    programs: &[HIGH, LOW],
     told: &[],
     end: "",
 };
 
-const CASES: [Case; 11] = [
+static CASES: [Case; 11] = [
     // a later jitter changes the windows alone
     Case {
-        programs: [Program { jitter: 60, ..HIGH }, LOW],
+        programs: &[Program { jitter: 60, ..HIGH }, LOW],
         told: &[
             Told {
                 response: 77,
@@ -60,7 +60,7 @@ const CASES: [Case; 11] = [
     },
     // another program is analysed
     Case {
-        programs: [
+        programs: &[
             HIGH,
             Program {
                 words: &LOOP,
@@ -118,7 +118,7 @@ const CASES: [Case; 11] = [
     },
     // the refusals
     Case {
-        programs: [
+        programs: &[
             Program {
                 period: 16,
                 deadline: 16,
@@ -137,7 +137,7 @@ const CASES: [Case; 11] = [
         ..SAME
     },
     Case {
-        programs: [
+        programs: &[
             HIGH,
             Program {
                 period: 48,
@@ -150,7 +150,7 @@ const CASES: [Case; 11] = [
     },
     // what makes a task another one
     Case {
-        programs: [
+        programs: &[
             HIGH,
             Program {
                 name: "slow",
@@ -161,7 +161,7 @@ const CASES: [Case; 11] = [
         ..SAME
     },
     Case {
-        programs: [LOW, HIGH],
+        programs: &[LOW, HIGH],
         end: "\"version\":2}",
         ..SAME
     },
@@ -242,7 +242,7 @@ fn compare(rt: &impl Abort, alloc: Global, old: &Side, case: &Case) -> Result<()
     requires old_tasks { AreShown old.now.set old.now.graphs.items old.now.nests.items }
 {
     let text = text_of(alloc, &[HIGH_TOLD, case.low])?;
-    let new = side_of(alloc, case.platform, &case.programs)?;
+    let new = side_of(alloc, case.platform, case.programs)?;
     let got = updated(alloc, old, text.as_str(), &new)?;
     if case.told.is_empty() {
         assert!(rt; got.as_str().ends_with(case.end));

@@ -1,7 +1,6 @@
 // Each call of the files and of the sink failing in turn, over three tasks that preempt each other.
 use crpd_io::{MemFiles, MemSink};
 use crpd_tool::{Status, run};
-use fixtures::file_of;
 use std::alloc::{AllocError, Global};
 use std::process::Abort;
 use std::test::Fail;
@@ -34,13 +33,47 @@ const FOUR: [u32; 13] = [
 
 const TWO: [u32; 6] = [0x0100_006F, 0x0100_006F, 0, 0, 0xFF5F_F06F, 0x0000_0073];
 
+// The file of words from an address on, which are so many bytes.
+fn file_of(alloc: Global, start: u32, words: &[u32], size: u32) -> Result<Vec<u8>, AllocError> {
+    let headers = [
+        0x464C_457F,
+        0x0001_0101,
+        0,
+        0,
+        0x00F3_0002,
+        1,
+        start,
+        52,
+        0,
+        0,
+        0x0020_0034,
+        1,
+        0,
+        1,
+        84,
+        start,
+        start,
+        size,
+        size,
+        5,
+        4,
+    ];
+    let mut bytes = Vec::new(alloc);
+    for list in [headers.as_slice(), words] {
+        for word in list {
+            bytes.extend_from_slice(&word.to_le_bytes())?;
+        }
+    }
+    Ok(bytes)
+}
+
 fn files_of(alloc: Global) -> Result<Vec<(String, Vec<u8>)>, AllocError> {
     let mut files = Vec::new(alloc);
     for (name, bytes) in [
         ("set.toml", SET.as_bytes().to_vec(alloc)?),
-        ("a.elf", file_of(alloc, 0x3010, &FOUR)?),
-        ("b.elf", file_of(alloc, 0x2010, &TWO)?),
-        ("c.elf", file_of(alloc, 0x1030, &TWO)?),
+        ("a.elf", file_of(alloc, 0x3010, &FOUR, 52)?),
+        ("b.elf", file_of(alloc, 0x2010, &TWO, 24)?),
+        ("c.elf", file_of(alloc, 0x1030, &TWO, 24)?),
         ("cert.json", CERTIFICATE.as_bytes().to_vec(alloc)?),
         ("script.toml", SCRIPT.as_bytes().to_vec(alloc)?),
     ] {

@@ -1,8 +1,7 @@
 // The command `analyze`, on worked examples, and `check` of what it wrote.
-use crate::sets::{FOUR, TWO};
+use crate::sets::{FOUR, TWO, file_of};
 use crpd_io::{MemFiles, MemSink};
 use crpd_tool::{Status, run};
-use fixtures::file_of;
 use std::alloc::{AllocError, Global};
 use std::process::Abort;
 use std::test::Fail;
@@ -306,29 +305,27 @@ fn analyses_of_programs(rt: HostRuntime) -> Result<(), Fail> {
     Ok(())
 }
 
-// Words, which call fails, and what they end with.
-const ENDED: [(&[&str], u64, Status, &str); 4] = [
-    (&["analyze"], NEVER, Status::BadWords, "bad words\n"),
-    (
-        &["analyze", "set.toml", "one"],
-        NEVER,
-        Status::BadWords,
-        "bad words\n",
-    ),
-    (
-        &["analyse", "set.toml"],
-        NEVER,
-        Status::BadWords,
-        "bad words\n",
-    ),
-    (&["analyze", "set.toml"], 3, Status::ReadFault, ""),
-];
-
 // Other numbers of words are no command, and a file that cannot be read is a fault.
 #[test]
 fn other_ends(rt: HostRuntime) -> Result<(), Fail> {
     let alloc = rt.alloc();
-    for (words, failing, status, text) in ENDED {
+    let cases: [(&[&str], u64, Status, &str); 4] = [
+        (&["analyze"], NEVER, Status::BadWords, "bad words\n"),
+        (
+            &["analyze", "set.toml", "one"],
+            NEVER,
+            Status::BadWords,
+            "bad words\n",
+        ),
+        (
+            &["analyse", "set.toml"],
+            NEVER,
+            Status::BadWords,
+            "bad words\n",
+        ),
+        (&["analyze", "set.toml"], 3, Status::ReadFault, ""),
+    ];
+    for (words, failing, status, text) in cases {
         let (found, written) = ends(alloc, words, files_of(alloc, &CASES[0], b"")?, failing)?;
         assert_eq!(rt; written.as_slice(), text.as_bytes());
         assert_eq!(rt; found, status);

@@ -120,78 +120,76 @@ fn case_ends(
 
 const YES: &str = "yes\none bound 12 window 17 response 17 method ucb\n";
 
-// The first word, a deadline, a certificate's numbers, and how `check` ends.
-const VERDICTS: [([u8; 4], u64, Numbers, Status, &str); 11] = [
-    (ADDI, 100, (4, 12, 12, 17, 17), Status::Done, YES),
-    (ADDI, 17, (4, 12, 12, 17, 17), Status::Done, YES),
-    (
-        ADDI,
-        100,
-        (8, 12, 12, 17, 17),
-        Status::No,
-        "no one clause 1 place 0\n",
-    ),
-    (
-        ADDI,
-        100,
-        (4, 11, 12, 17, 17),
-        Status::No,
-        "no one clause 6 place 0\n",
-    ),
-    (
-        ADDI,
-        100,
-        (4, 12, 11, 17, 17),
-        Status::No,
-        "no one clause 7 place 0\n",
-    ),
-    (
-        ADDI,
-        100,
-        (4, 12, 12, 16, 16),
-        Status::No,
-        "no one clause 8 place 0\n",
-    ),
-    (
-        ADDI,
-        100,
-        (4, 12, 12, 17, 18),
-        Status::No,
-        "no one clause 9 place 0\n",
-    ),
-    (
-        ADDI,
-        16,
-        (4, 12, 12, 17, 17),
-        Status::No,
-        "no one clause 9 place 1\n",
-    ),
-    (
-        LW,
-        100,
-        (4, 14, 15, 20, 20),
-        Status::No,
-        "no one clause 6 place 0\n",
-    ),
-    (
-        LW,
-        100,
-        (4, 15, 14, 20, 20),
-        Status::No,
-        "no one clause 7 place 0\n",
-    ),
-    (
-        LW,
-        100,
-        (4, 15, 15, 20, 20),
-        Status::Done,
-        "yes\none bound 15 window 20 response 20 method ucb\n",
-    ),
-];
-
 #[test]
 fn the_clauses(rt: HostRuntime) -> Result<(), Fail> {
-    for (first, deadline, numbers, status, text) in VERDICTS {
+    let cases = [
+        (ADDI, 100, (4, 12, 12, 17, 17), Status::Done, YES),
+        (ADDI, 17, (4, 12, 12, 17, 17), Status::Done, YES),
+        (
+            ADDI,
+            100,
+            (8, 12, 12, 17, 17),
+            Status::No,
+            "no one clause 1 place 0\n",
+        ),
+        (
+            ADDI,
+            100,
+            (4, 11, 12, 17, 17),
+            Status::No,
+            "no one clause 6 place 0\n",
+        ),
+        (
+            ADDI,
+            100,
+            (4, 12, 11, 17, 17),
+            Status::No,
+            "no one clause 7 place 0\n",
+        ),
+        (
+            ADDI,
+            100,
+            (4, 12, 12, 16, 16),
+            Status::No,
+            "no one clause 8 place 0\n",
+        ),
+        (
+            ADDI,
+            100,
+            (4, 12, 12, 17, 18),
+            Status::No,
+            "no one clause 9 place 0\n",
+        ),
+        (
+            ADDI,
+            16,
+            (4, 12, 12, 17, 17),
+            Status::No,
+            "no one clause 9 place 1\n",
+        ),
+        (
+            LW,
+            100,
+            (4, 14, 15, 20, 20),
+            Status::No,
+            "no one clause 6 place 0\n",
+        ),
+        (
+            LW,
+            100,
+            (4, 15, 14, 20, 20),
+            Status::No,
+            "no one clause 7 place 0\n",
+        ),
+        (
+            LW,
+            100,
+            (4, 15, 15, 20, 20),
+            Status::Done,
+            "yes\none bound 15 window 20 response 20 method ucb\n",
+        ),
+    ];
+    for (first, deadline, numbers, status, text) in cases {
         case_ends(&rt, rt.alloc(), first, deadline, numbers, status, text)?;
     }
     Ok(())
@@ -418,13 +416,11 @@ fn each_call_of_the_files_failing(rt: HostRuntime) -> Result<(), Fail> {
     )
 }
 
-// Which piece fails to be written, and what is written before.
-const WRITTEN: [(u64, &str); 4] = [(0, ""), (1, "yes"), (2, "yes\non"), (3, "yes\none b")];
-
 #[test]
 fn each_call_of_the_sink_failing(rt: HostRuntime) -> Result<(), Fail> {
     let alloc = rt.alloc();
-    for (n, text) in WRITTEN {
+    let cases = [(0, ""), (1, "yes"), (2, "yes\non"), (3, "yes\none b")];
+    for (n, text) in cases {
         let files = plain_files(alloc)?;
         check_ends(&rt, alloc, files, (NEVER, n), Status::WriteFault, text)?;
     }

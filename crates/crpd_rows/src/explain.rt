@@ -1,8 +1,7 @@
 // The command `explain`: a certificate and a script in, the reloads of the script's run and the certificate's delays out.
-use crate::simulate::{FOUR, Held, Job, NEVER, ONE, TURNS, TWO};
+use crate::simulate::{FOUR, Held, Job, NEVER, ONE, TURNS, TWO, file_of};
 use crpd_io::{MemFiles, MemSink};
 use crpd_tool::{Status, run};
-use fixtures::file_of;
 use std::alloc::{AllocError, Global};
 use std::process::Abort;
 use std::test::Fail;
@@ -439,20 +438,18 @@ fn refusals(rt: HostRuntime) -> Result<(), Fail> {
     Ok(())
 }
 
-// Which calls of the files and of the sink fail, and how the words end.
-const FAULTS: [((u64, u64), Status, &str); 5] = [
-    ((0, NEVER), Status::ReadFault, ""),
-    ((4, NEVER), Status::ReadFault, ""),
-    ((12, NEVER), Status::ReadFault, ""),
-    ((NEVER, 0), Status::WriteFault, ""),
-    ((NEVER, 2), Status::WriteFault, "reload low 0 s"),
-];
-
 // A call that fails comes before any text, and ends it where it is one of the sink's.
 #[test]
 fn faults(rt: HostRuntime) -> Result<(), Fail> {
     let alloc = rt.alloc();
-    for (failing, status, text) in FAULTS {
+    let cases = [
+        ((0, NEVER), Status::ReadFault, ""),
+        ((4, NEVER), Status::ReadFault, ""),
+        ((12, NEVER), Status::ReadFault, ""),
+        ((NEVER, 0), Status::WriteFault, ""),
+        ((NEVER, 2), Status::WriteFault, "reload low 0 s"),
+    ];
+    for (failing, status, text) in cases {
         let files = whole_files(alloc, &PAIRED)?;
         ends(&rt, alloc, files, failing, (status, text))?;
     }

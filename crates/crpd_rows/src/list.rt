@@ -165,104 +165,98 @@ fn a_file_cut(rt: HostRuntime) -> Result<(), Fail> {
     Ok(())
 }
 
-// Changes of the program's words, and how `list` ends.
-const PROGRAMS: [(&[(usize, u32)], &str); 14] = [
-    (&[], TWO_WORDS),
-    (&[(0, 0x464C_4500)], "refused 2 NotElf one.elf -\n"),
-    (&[(1, 0x0001_0102)], "refused 3 NotElf32Little one.elf -\n"),
-    (&[(4, 0x003E_0002)], "refused 4 NotRiscV one.elf -\n"),
-    (&[(4, 0x00F3_0003)], "refused 5 NotExecutable one.elf -\n"),
-    (&[(13, 2)], "refused 6 NotStatic one.elf 0\n"),
-    (&[(19, 4)], "refused 10 NoCode one.elf -\n"),
-    (&[(17, 0xFFFF_FFFF)], "refused 8 SegmentOutside one.elf 0\n"),
-    (&[(17, 9), (18, 9)], "refused 8 SegmentOutside one.elf 0\n"),
-    (&[(18, 0xFFFF_F000)], TWO_WORDS),
-    (&[(18, 0xFFFF_F001)], "refused 8 SegmentOutside one.elf 0\n"),
-    (&[(8, 92), (12, 1)], "refused 11 SymbolsOutside one.elf -\n"),
-    (&[(6, 0x1008)], "refused 42 EntryOutside one 00001008\n"),
-    (&[(6, 0x1002)], "refused 42 EntryOutside one 00001002\n"),
-];
-
 #[test]
 fn a_file_changed(rt: HostRuntime) -> Result<(), Fail> {
     let alloc = rt.alloc();
-    for (changes, text) in PROGRAMS {
+    let cases: [(&[(usize, u32)], &str); 14] = [
+        (&[], TWO_WORDS),
+        (&[(0, 0x464C_4500)], "refused 2 NotElf one.elf -\n"),
+        (&[(1, 0x0001_0102)], "refused 3 NotElf32Little one.elf -\n"),
+        (&[(4, 0x003E_0002)], "refused 4 NotRiscV one.elf -\n"),
+        (&[(4, 0x00F3_0003)], "refused 5 NotExecutable one.elf -\n"),
+        (&[(13, 2)], "refused 6 NotStatic one.elf 0\n"),
+        (&[(19, 4)], "refused 10 NoCode one.elf -\n"),
+        (&[(17, 0xFFFF_FFFF)], "refused 8 SegmentOutside one.elf 0\n"),
+        (&[(17, 9), (18, 9)], "refused 8 SegmentOutside one.elf 0\n"),
+        (&[(18, 0xFFFF_F000)], TWO_WORDS),
+        (&[(18, 0xFFFF_F001)], "refused 8 SegmentOutside one.elf 0\n"),
+        (&[(8, 92), (12, 1)], "refused 11 SymbolsOutside one.elf -\n"),
+        (&[(6, 0x1008)], "refused 42 EntryOutside one 00001008\n"),
+        (&[(6, 0x1002)], "refused 42 EntryOutside one 00001002\n"),
+    ];
+    for (changes, text) in cases {
         one_ends(&rt, alloc, program_with(alloc, changes)?, text)?;
     }
     Ok(())
 }
 
-// Times with a stack at a symbol.
-const STACK: &str = "period = 100\ndeadline = 100\njitter = 0\nstack = \"s+4\"\n";
-
-// Tasks, a name, and how `list` refuses them.
-const SETS: [(&[Task], &str, &str); 11] = [
-    (
-        &[(
-            "one",
-            "one.elf",
-            "period = 100\ndeadline = 100\njitter = 0\njiter = 0\n",
-        )],
-        "one",
-        "refused 26 UnknownKey set.toml task.0.jiter\n",
-    ),
-    (
-        &[("one", "one.elf", "deadline = 100\njitter = 0\n")],
-        "one",
-        "refused 21 Missing set.toml task.0.period\n",
-    ),
-    (
-        &[(
-            "one",
-            "one.elf",
-            "period = 100\ndeadline = 101\njitter = 0\n",
-        )],
-        "one",
-        "refused 25 DeadlineAfterPeriod set.toml task.0.deadline\n",
-    ),
-    (
-        &[("one", "one.elf", "period = 0\ndeadline = 100\njitter = 0\n")],
-        "one",
-        "refused 22 BadValue set.toml task.0.period\n",
-    ),
-    (
-        &[("one", "one.elf", TIMES), ("one", "one.elf", TIMES)],
-        "one",
-        "refused 24 SameName set.toml task.1.name\n",
-    ),
-    (&[], "one", "refused 21 Missing set.toml task\n"),
-    (
-        &[("one", "none.elf", TIMES)],
-        "two",
-        "refused 82 NoSuchTask set.toml two\n",
-    ),
-    (
-        &[("one", "none.elf", TIMES)],
-        "one",
-        "refused 80 NoFile none.elf -\n",
-    ),
-    (
-        &[("one", "set.toml", TIMES), ("two", "none.elf", TIMES)],
-        "two",
-        "refused 2 NotElf set.toml -\n",
-    ),
-    (
-        &[("one", "one.elf", STACK), ("two", "two.elf", STACK)],
-        "two",
-        "refused 40 CodeConflict set.toml 00001002\n",
-    ),
-    (
-        &[("one", "one.elf", TIMES), ("two", "copy.elf", STACK)],
-        "one",
-        "refused 41 UnknownSymbol two s+4\n",
-    ),
-];
-
 // The keys of the set, the tasks' names, and the order of refusals: the set, the task, the files by task, the code.
 #[test]
 fn refusals_in_order(rt: HostRuntime) -> Result<(), Fail> {
     let alloc = rt.alloc();
-    for (tasks, name, text) in SETS {
+    let stack = "period = 100\ndeadline = 100\njitter = 0\nstack = \"s+4\"\n";
+    let cases: [(&[Task], &str, &str); 11] = [
+        (
+            &[(
+                "one",
+                "one.elf",
+                "period = 100\ndeadline = 100\njitter = 0\njiter = 0\n",
+            )],
+            "one",
+            "refused 26 UnknownKey set.toml task.0.jiter\n",
+        ),
+        (
+            &[("one", "one.elf", "deadline = 100\njitter = 0\n")],
+            "one",
+            "refused 21 Missing set.toml task.0.period\n",
+        ),
+        (
+            &[(
+                "one",
+                "one.elf",
+                "period = 100\ndeadline = 101\njitter = 0\n",
+            )],
+            "one",
+            "refused 25 DeadlineAfterPeriod set.toml task.0.deadline\n",
+        ),
+        (
+            &[("one", "one.elf", "period = 0\ndeadline = 100\njitter = 0\n")],
+            "one",
+            "refused 22 BadValue set.toml task.0.period\n",
+        ),
+        (
+            &[("one", "one.elf", TIMES), ("one", "one.elf", TIMES)],
+            "one",
+            "refused 24 SameName set.toml task.1.name\n",
+        ),
+        (&[], "one", "refused 21 Missing set.toml task\n"),
+        (
+            &[("one", "none.elf", TIMES)],
+            "two",
+            "refused 82 NoSuchTask set.toml two\n",
+        ),
+        (
+            &[("one", "none.elf", TIMES)],
+            "one",
+            "refused 80 NoFile none.elf -\n",
+        ),
+        (
+            &[("one", "set.toml", TIMES), ("two", "none.elf", TIMES)],
+            "two",
+            "refused 2 NotElf set.toml -\n",
+        ),
+        (
+            &[("one", "one.elf", stack), ("two", "two.elf", stack)],
+            "two",
+            "refused 40 CodeConflict set.toml 00001002\n",
+        ),
+        (
+            &[("one", "one.elf", TIMES), ("two", "copy.elf", stack)],
+            "one",
+            "refused 41 UnknownSymbol two s+4\n",
+        ),
+    ];
+    for (tasks, name, text) in cases {
         let mut files: Vec<File> = Vec::new(alloc);
         files.push(("set.toml", set_of(alloc, tasks)?))?;
         files.push(("one.elf", program_with(alloc, &[])?))?;
@@ -391,27 +385,25 @@ fn linked(alloc: Global) -> Result<Vec<u8>, AllocError> {
     Ok(bytes)
 }
 
-// A task's entry, and how `list` ends.
-const IMAGES: [(&str, Status, &str); 5] = [
-    ("a", Status::Done, TWO_WORDS),
-    ("d", Status::Refused, "refused 41 UnknownSymbol a d\n"),
-    ("a+8", Status::Done, TWO_WORDS),
-    (
-        "a+4294967295",
-        Status::Refused,
-        "refused 41 UnknownSymbol a a+4294967295\n",
-    ),
-    (
-        "a+2",
-        Status::Refused,
-        "refused 42 EntryOutside a 00013012\n",
-    ),
-];
-
 #[test]
 fn a_linked_image(rt: HostRuntime) -> Result<(), Fail> {
     let alloc = rt.alloc();
-    for (entry, status, text) in IMAGES {
+    let cases = [
+        ("a", Status::Done, TWO_WORDS),
+        ("d", Status::Refused, "refused 41 UnknownSymbol a d\n"),
+        ("a+8", Status::Done, TWO_WORDS),
+        (
+            "a+4294967295",
+            Status::Refused,
+            "refused 41 UnknownSymbol a a+4294967295\n",
+        ),
+        (
+            "a+2",
+            Status::Refused,
+            "refused 42 EntryOutside a 00013012\n",
+        ),
+    ];
+    for (entry, status, text) in cases {
         let entry = format!(in alloc; "{TIMES}entry = \"{entry}\"\n")?;
         let mut text_of_set = set_of(alloc, &[("one", "one.elf", TIMES)])?;
         for (name, keys) in [("a", entry.as_str()), ("b", TIMES), ("c", TIMES)] {

@@ -1,7 +1,6 @@
 // The command `sets`, on worked examples.
 use crpd_io::{MemFiles, MemSink};
 use crpd_tool::{Status, run};
-use fixtures::file_of;
 use std::alloc::{AllocError, Global};
 use std::process::Abort;
 use std::test::Fail;
@@ -104,6 +103,47 @@ fn set_text(alloc: Global, case: &Case) -> Result<String, AllocError> {
     Ok(text)
 }
 
+fn push_words(bytes: &mut Vec<u8>, words: &[u32]) -> Result<(), AllocError> {
+    for word in words {
+        bytes.extend_from_slice(&word.to_le_bytes())?;
+    }
+    Ok(())
+}
+
+// The file of words from an address on.
+pub(crate) fn file_of(alloc: Global, start: u32, words: &[u32]) -> Result<Vec<u8>, AllocError> {
+    let mut code = Vec::new(alloc);
+    push_words(&mut code, words)?;
+    let size = u32::try_from(code.len()).unwrap_or(0);
+    let mut bytes = Vec::new(alloc);
+    let headers = [
+        0x464C_457F,
+        0x0001_0101,
+        0,
+        0,
+        0x00F3_0002,
+        1,
+        start,
+        52,
+        0,
+        0,
+        0x0020_0034,
+        1,
+        0,
+        1,
+        84,
+        start,
+        start,
+        size,
+        size,
+        5,
+        4,
+    ];
+    push_words(&mut bytes, &headers)?;
+    bytes.extend_from_slice(code.as_slice())?;
+    Ok(bytes)
+}
+
 // The set and the files of a case.
 fn files_of(alloc: Global, case: &Case) -> Result<Vec<(String, Vec<u8>)>, AllocError> {
     let mut files = Vec::new(alloc);
@@ -153,21 +193,18 @@ fn sets_of_programs(rt: HostRuntime) -> Result<(), Fail> {
     Ok(())
 }
 
-const BAD: (Status, &str) = (Status::BadWords, "bad words\n");
-
-// Words, which call fails, and what they end with.
-const ENDED: [(&[&str], u64, (Status, &str)); 4] = [
-    (&["sets"], NEVER, BAD),
-    (&["sets", "set.toml", "one"], NEVER, BAD),
-    (&["set", "set.toml"], NEVER, BAD),
-    (&["sets", "set.toml"], 0, (Status::ReadFault, "")),
-];
-
 // Other numbers of words are no command, and a file that cannot be read is a fault.
 #[test]
 fn other_ends(rt: HostRuntime) -> Result<(), Fail> {
     let alloc = rt.alloc();
-    for (words, failing, ended) in ENDED {
+    let bad = (Status::BadWords, "bad words\n");
+    let cases: [(&[&str], u64, (Status, &str)); 4] = [
+        (&["sets"], NEVER, bad),
+        (&["sets", "set.toml", "one"], NEVER, bad),
+        (&["set", "set.toml"], NEVER, bad),
+        (&["sets", "set.toml"], 0, (Status::ReadFault, "")),
+    ];
+    for (words, failing, ended) in cases {
         ends(
             &rt,
             alloc,

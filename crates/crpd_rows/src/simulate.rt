@@ -1,6 +1,5 @@
 use crpd_io::{MemFiles, MemSink};
 use crpd_tool::{Status, run};
-use fixtures::file_of;
 use std::alloc::{AllocError, Global};
 use std::process::Abort;
 use std::test::Fail;
@@ -268,6 +267,47 @@ fn script_text(alloc: Global, case: &Case) -> Result<String, AllocError> {
     Ok(text)
 }
 
+fn push_words(bytes: &mut Vec<u8>, words: &[u32]) -> Result<(), AllocError> {
+    for word in words {
+        bytes.extend_from_slice(&word.to_le_bytes())?;
+    }
+    Ok(())
+}
+
+// The file of words from an address on.
+pub(crate) fn file_of(alloc: Global, start: u32, words: &[u32]) -> Result<Vec<u8>, AllocError> {
+    let mut code = Vec::new(alloc);
+    push_words(&mut code, words)?;
+    let size = u32::try_from(code.len()).unwrap_or(0);
+    let mut bytes = Vec::new(alloc);
+    let headers = [
+        0x464C_457F,
+        0x0001_0101,
+        0,
+        0,
+        0x00F3_0002,
+        1,
+        start,
+        52,
+        0,
+        0,
+        0x0020_0034,
+        1,
+        0,
+        1,
+        84,
+        start,
+        start,
+        size,
+        size,
+        5,
+        4,
+    ];
+    push_words(&mut bytes, &headers)?;
+    bytes.extend_from_slice(code.as_slice())?;
+    Ok(bytes)
+}
+
 pub(crate) type Held = Vec<(String, Vec<u8>)>;
 
 // The set and the files of a case, without its script.
@@ -328,43 +368,41 @@ const CUT: Case = Case {
     ..ALONE
 };
 
-// A case, a change of its script, and the refusal.
-const REFUSED: [(&Case, &str, &str); 8] = [
-    (&CUT, "", "refused 42 EntryOutside one 00001002\n"),
-    (&ALONE, "cycles", "refused 30 NotToml script.toml -\n"),
-    (&ALONE, "", "refused 31 Missing script.toml cycles\n"),
-    (
-        &ALONE,
-        "cycles = 0",
-        "refused 32 BadValue script.toml cycles\n",
-    ),
-    (
-        &ALONE,
-        "cycles = 1\n[[job]]\ntask = \"two\"",
-        "refused 33 UnknownTask script.toml job.0.task\n",
-    ),
-    (
-        &ALONE,
-        "cycles = 1099511627777",
-        "refused 34 TooLong script.toml cycles\n",
-    ),
-    (
-        &ALONE,
-        "cycle = 1",
-        "refused 35 UnknownKey script.toml cycle\n",
-    ),
-    (
-        &ALONE,
-        "cycles = 1\n[[job]]\ntask = \"one\"\narrival = 0",
-        "refused 31 Missing script.toml job.0.release\n",
-    ),
-];
-
 // The script comes after the files and their code.
 #[test]
 fn refusals(rt: HostRuntime) -> Result<(), Fail> {
     let alloc = rt.alloc();
-    for (case, script, text) in REFUSED {
+    let cases: [(&Case, &str, &str); 8] = [
+        (&CUT, "", "refused 42 EntryOutside one 00001002\n"),
+        (&ALONE, "cycles", "refused 30 NotToml script.toml -\n"),
+        (&ALONE, "", "refused 31 Missing script.toml cycles\n"),
+        (
+            &ALONE,
+            "cycles = 0",
+            "refused 32 BadValue script.toml cycles\n",
+        ),
+        (
+            &ALONE,
+            "cycles = 1\n[[job]]\ntask = \"two\"",
+            "refused 33 UnknownTask script.toml job.0.task\n",
+        ),
+        (
+            &ALONE,
+            "cycles = 1099511627777",
+            "refused 34 TooLong script.toml cycles\n",
+        ),
+        (
+            &ALONE,
+            "cycle = 1",
+            "refused 35 UnknownKey script.toml cycle\n",
+        ),
+        (
+            &ALONE,
+            "cycles = 1\n[[job]]\ntask = \"one\"\narrival = 0",
+            "refused 31 Missing script.toml job.0.release\n",
+        ),
+    ];
+    for (case, script, text) in cases {
         let mut files = files_of(alloc, case)?;
         push_script(alloc, &mut files, script.as_bytes().to_vec(alloc)?)?;
         ends(&rt, alloc, files, (NEVER, NEVER), (Status::Refused, text))?;
@@ -378,21 +416,19 @@ fn refusals(rt: HostRuntime) -> Result<(), Fail> {
     )
 }
 
-// Which calls of the files and of the sink fail, and how the words end.
-const FAULTS: [((u64, u64), Status, &str); 5] = [
-    ((0, NEVER), Status::ReadFault, ""),
-    ((4, NEVER), Status::ReadFault, ""),
-    ((9, NEVER), Status::ReadFault, ""),
-    ((NEVER, 0), Status::WriteFault, ""),
-    ((NEVER, 2), Status::WriteFault, "job one 0 arri"),
-];
-
 // A call that fails comes before any text, and ends it where it is one of the sink's.
 #[test]
 fn faults(rt: HostRuntime) -> Result<(), Fail> {
     let alloc = rt.alloc();
     let case = &CASES[0];
-    for (failing, status, text) in FAULTS {
+    let cases = [
+        ((0, NEVER), Status::ReadFault, ""),
+        ((4, NEVER), Status::ReadFault, ""),
+        ((9, NEVER), Status::ReadFault, ""),
+        ((NEVER, 0), Status::WriteFault, ""),
+        ((NEVER, 2), Status::WriteFault, "job one 0 arri"),
+    ];
+    for (failing, status, text) in cases {
         let mut files = files_of(alloc, case)?;
         push_script(alloc, &mut files, script_text(alloc, case)?.into_bytes())?;
         ends(&rt, alloc, files, failing, (status, text))?;

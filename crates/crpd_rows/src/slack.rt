@@ -157,23 +157,21 @@ fn analysed_up_to_the_greatest_costs(rt: HostRuntime) -> Result<(), Fail> {
     Ok(())
 }
 
-// Words, which call fails, and what they end with.
-const ENDED: [(&[&str], u64, Status, &str); 3] = [
-    (&["slack"], NEVER, Status::BadWords, "bad words\n"),
-    (
-        &["slack", "set.toml", "one"],
-        NEVER,
-        Status::BadWords,
-        "bad words\n",
-    ),
-    (&["slack", "set.toml"], 3, Status::ReadFault, ""),
-];
-
 // Other numbers of words are no command, and a file that cannot be read is a fault.
 #[test]
 fn other_ends(rt: HostRuntime) -> Result<(), Fail> {
     let alloc = rt.alloc();
-    for (words, failing, status, text) in ENDED {
+    let cases: [(&[&str], u64, Status, &str); 3] = [
+        (&["slack"], NEVER, Status::BadWords, "bad words\n"),
+        (
+            &["slack", "set.toml", "one"],
+            NEVER,
+            Status::BadWords,
+            "bad words\n",
+        ),
+        (&["slack", "set.toml"], 3, Status::ReadFault, ""),
+    ];
+    for (words, failing, status, text) in cases {
         let files = files_with(alloc, &ROWS[0].case, 10, 5, b"")?;
         let (found, written) = ends(alloc, words, files, failing)?;
         assert_eq!(rt; written.as_slice(), text.as_bytes());

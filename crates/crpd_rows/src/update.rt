@@ -1,7 +1,7 @@
 // The command `update`, on worked examples.
+use crate::sets::file_of;
 use crpd_io::{MemFiles, MemSink};
 use crpd_tool::{Status, run};
-use fixtures::file_of;
 use std::alloc::{AllocError, Global};
 use std::process::Abort;
 use std::test::Fail;
@@ -484,47 +484,40 @@ fn updates_are_checked_and_analysed(rt: HostRuntime) -> Result<(), Fail> {
     Ok(())
 }
 
-// Words, which call fails, and what they end with.
-const ENDED: [(&[&str], u64, Status, &str); 6] = [
-    (
-        &["update", "old.toml", "cert.json"],
-        NEVER,
-        Status::BadWords,
-        "bad words\n",
-    ),
-    (
-        &["update", "old.toml", "cert.json", "new.toml", "new.toml"],
-        NEVER,
-        Status::BadWords,
-        "bad words\n",
-    ),
-    (
-        &["update", "none.toml", "none.json", "gone.toml"],
-        NEVER,
-        Status::Refused,
-        "refused 80 NoFile none.toml -\n",
-    ),
-    (
-        &["update", "old.toml", "none.json", "gone.toml"],
-        NEVER,
-        Status::Refused,
-        "refused 80 NoFile none.json -\n",
-    ),
-    (
-        &["update", "old.toml", "cert.json", "gone.toml"],
-        NEVER,
-        Status::Refused,
-        "refused 80 NoFile gone.toml -\n",
-    ),
-    (&WORDS, 3, Status::ReadFault, ""),
-];
-
 // Other numbers of words are no command, a set that is not there is refused first, and a file that cannot be read is a
 // fault.
 #[test]
 fn other_ends(rt: HostRuntime) -> Result<(), Fail> {
     let alloc = rt.alloc();
-    for (words, failing, status, text) in ENDED {
+    let cases: [(&[&str], u64, Status, &str); 6] = [
+        (&WORDS[..3], NEVER, Status::BadWords, "bad words\n"),
+        (
+            &["update", "old.toml", "cert.json", "new.toml", "new.toml"],
+            NEVER,
+            Status::BadWords,
+            "bad words\n",
+        ),
+        (
+            &["update", "none.toml", "none.json", "gone.toml"],
+            NEVER,
+            Status::Refused,
+            "refused 80 NoFile none.toml -\n",
+        ),
+        (
+            &["update", "old.toml", "none.json", "gone.toml"],
+            NEVER,
+            Status::Refused,
+            "refused 80 NoFile none.json -\n",
+        ),
+        (
+            &["update", "old.toml", "cert.json", "gone.toml"],
+            NEVER,
+            Status::Refused,
+            "refused 80 NoFile gone.toml -\n",
+        ),
+        (&WORDS, 3, Status::ReadFault, ""),
+    ];
+    for (words, failing, status, text) in cases {
         let (found, written) = ends(alloc, words, files_of(alloc, &SAME)?, failing)?;
         assert_eq!(rt; written.as_slice(), text.as_bytes());
         assert_eq!(rt; found, status);

@@ -197,7 +197,8 @@ fn pass(
 fn pass_all(rt: &impl Abort, machine: &mut Machine, code: &CodeMap) -> Result<(), Fail>
     requires { HasPlans code.now machine.old.state }
 {
-    for stretch in &STRETCHES {
+    let stretches = STRETCHES;
+    for stretch in &stretches {
         pass(rt, machine, code, stretch)?;
         assert_eq!(rt; machine.steps(), stretch.until);
     }

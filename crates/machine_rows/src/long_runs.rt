@@ -31,7 +31,7 @@ type Long = (
     &'static [End],
 );
 
-const LONG: [Long; 3] = [
+static LONG: [Long; 3] = [
     // stretches of cycles in which no job is ready, of a switch and of an instruction: the low job is switched to for 65,535
     // cycles, and 34,465 of its first fetch are used when the high job comes
     (
@@ -71,7 +71,7 @@ const LONG: [Long; 3] = [
 
 #[test]
 fn long_stretches(rt: HostRuntime) -> Result<(), Fail> {
-    for (programs, platform, cycles, jobs, ends) in LONG {
+    for &(programs, platform, cycles, jobs, ends) in &LONG {
         let loaded = load(rt.alloc(), platform, programs)?;
         let script = script_of(rt.alloc(), &loaded.set, cycles, &[], jobs)?;
         let (completions, kept) = run_fast(rt.alloc(), &loaded.code, &loaded.set, &script)?;

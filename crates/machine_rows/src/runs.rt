@@ -102,7 +102,7 @@ const LATE_ROUNDS: Case = Case {
 };
 
 // Scripts with what comes of them.
-const TOLD: [Case; 22] = [
+static TOLD: [Case; 22] = [
     Case {
         programs: &[TURNS],
         jobs: &[(0, 0, 0)],
@@ -253,7 +253,7 @@ const TOLD: [Case; 22] = [
 ];
 
 // Scripts of one task, in which both machines agree.
-const SINGLE: [Case; 8] = [
+static SINGLE: [Case; 8] = [
     FIRST,
     Case { jobs: &[], ..ALONE },
     Case { cycles: 0, ..FIRST },
@@ -272,7 +272,7 @@ const SINGLE: [Case; 8] = [
 ];
 
 // Scripts of several tasks.
-const SHARED: [Case; 20] = [
+static SHARED: [Case; 20] = [
     Case {
         programs: &BREAKER,
         jobs: &[(0, 0, 0), (1, 4, 4), (0, 30, 30)],
@@ -385,7 +385,7 @@ const SHARED: [Case; 20] = [
 ];
 
 // Watches that break and some that do not, also beside jobs that break in.
-const BROKEN: [Case; 11] = [
+static BROKEN: [Case; 11] = [
     Case {
         programs: &LEFT_ROUNDS,
         ..LATE_ROUNDS
@@ -481,11 +481,33 @@ pub(crate) fn compare_ends(rt: &impl Abort, completions: &[Completion], ends: &[
 }
 
 #[test]
-fn scripts(rt: HostRuntime) -> Result<(), Fail> {
-    for cases in [&TOLD[..], &SINGLE, &SHARED, &BROKEN] {
-        for case in cases {
-            compare_case(&rt, rt.alloc(), case)?;
-        }
+fn told_scripts(rt: HostRuntime) -> Result<(), Fail> {
+    for case in &TOLD {
+        compare_case(&rt, rt.alloc(), case)?;
+    }
+    Ok(())
+}
+
+#[test]
+fn single_scripts(rt: HostRuntime) -> Result<(), Fail> {
+    for case in &SINGLE {
+        compare_case(&rt, rt.alloc(), case)?;
+    }
+    Ok(())
+}
+
+#[test]
+fn shared_scripts(rt: HostRuntime) -> Result<(), Fail> {
+    for case in &SHARED {
+        compare_case(&rt, rt.alloc(), case)?;
+    }
+    Ok(())
+}
+
+#[test]
+fn broken_watches(rt: HostRuntime) -> Result<(), Fail> {
+    for case in &BROKEN {
+        compare_case(&rt, rt.alloc(), case)?;
     }
     Ok(())
 }

@@ -14,7 +14,7 @@ use std::alloc::{AllocError, Global};
 use std::test::Fail;
 
 // A refusal's number, name, subject and detail, and its text.
-const REFUSALS: [(u32, &str, &str, &str, &str); 2] = [
+static REFUSALS: [(u32, &str, &str, &str, &str); 2] = [
     (1, "Short", "one.elf", "-", "refused 1 Short one.elf -\n"),
     (
         41,
@@ -28,7 +28,7 @@ const REFUSALS: [(u32, &str, &str, &str, &str); 2] = [
 #[test]
 fn refusals(rt: HostRuntime) -> Result<(), Fail> {
     let alloc = rt.alloc();
-    for (number, name, subject, detail, text) in REFUSALS {
+    for &(number, name, subject, detail, text) in &REFUSALS {
         let Ok(line) = refusal_text(alloc, number, name, subject, detail) else {
             return Err(Fail::from("no memory"));
         };
@@ -88,7 +88,7 @@ fn completions_of(alloc: Global, jobs: &[Job]) -> Result<Vec<Completion>, AllocE
 }
 
 // The jobs of a run, whether it is kept, and its text.
-const RUNS: [(&[Job], bool, &str); 5] = [
+static RUNS: [(&[Job], bool, &str); 5] = [
     (&[], true, "run legal kept\n"),
     (
         &[
@@ -121,7 +121,7 @@ const RUNS: [(&[Job], bool, &str); 5] = [
 #[test]
 fn simulations(rt: HostRuntime) -> Result<(), Fail> {
     let alloc = rt.alloc();
-    for (jobs, kept, text) in RUNS {
+    for &(jobs, kept, text) in &RUNS {
         let set = two_tasks(alloc)?;
         let script = script_for(alloc, &set, jobs)?;
         let completions = completions_of(alloc, jobs)?;
@@ -175,7 +175,7 @@ fn part(alloc: Global, name: &str, method: Method, response: u64) -> Result<Task
 }
 
 // Jobs of which four are late.
-const LATE: [Job; 7] = [
+static LATE: [Job; 7] = [
     (0, 0, 0, 0, End::Answered(20)),
     (0, 100, 103, 1, End::Answered(151)),
     (0, 200, 200, 2, End::Answered(250)),

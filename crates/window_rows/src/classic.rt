@@ -9,7 +9,7 @@ use std::alloc::Global;
 use std::test::Fail;
 
 // How many jobs evict the sets 1 to 4, the useful sets of two affected tasks, and the delays by both methods.
-const DELAYS: [(u64, &[u16], &[u16], u128, u128); 6] = [
+static DELAYS: [(u64, &[u16], &[u16], u128, u128); 6] = [
     (1, &[1, 2], &[3, 4], 40, 20),
     (1, &[1, 2], &[2, 3, 4, 5], 40, 30),
     (3, &[1, 2], &[2, 3], 90, 60),
@@ -27,7 +27,7 @@ const DELAYS: [(u64, &[u16], &[u16], u128, u128); 6] = [
 #[test]
 fn delays_of_two_tasks(rt: HostRuntime) {
     let evicting = sets_of(&[1, 2, 3, 4]);
-    for (jobs, first, second, ucb, ecb) in DELAYS {
+    for &(jobs, first, second, ucb, ecb) in &DELAYS {
         let lower = [sets_of(first), sets_of(second)];
         assert_eq!(rt; classic_ucb(10, jobs, &evicting, &lower), ucb);
         assert_eq!(rt; classic_ecb(10, jobs, &evicting, &lower), ecb);
@@ -47,7 +47,7 @@ fn answer(alloc: Global, rows: &[Row], words: u16) -> Result<String, Fail>
 
 const LONG: u64 = 10_000;
 
-const WINDOWS: [(&[Row], &str); 3] = [
+static WINDOWS: [(&[Row], &str); 3] = [
     // two jobs of the highest task reload the middle one's sets, once each
     (
         &[
@@ -78,7 +78,7 @@ const WINDOWS: [(&[Row], &str); 3] = [
 
 #[test]
 fn windows_of_small_sets(rt: HostRuntime) -> Result<(), Fail> {
-    for (rows, want) in WINDOWS {
+    for &(rows, want) in &WINDOWS {
         let got = answer(rt.alloc(), rows, 1)?;
         assert_eq!(rt; got.as_str(), want);
     }

@@ -25,7 +25,7 @@ const FAST: u64 = 1_048_576;
 
 // Tasks that take all but ten cycles in 2^20, of which a sixth are reloads that the first brings the second, and a task
 // below them.
-const DELAYED: [Row; 17] = [
+static DELAYED: [Row; 17] = [
     (64, 64, 0, 22, 1, 0),
     (64, 64, 0, 2, 0, 1),
     (128, 128, 0, 0, 2, 0),
@@ -45,7 +45,7 @@ const DELAYED: [Row; 17] = [
     (LONGEST_TIME, LONGEST_TIME, 0, 655_355, 4, 0),
 ];
 
-const WINDOWS: [(Switching, &[Row], &str); 11] = [
+static WINDOWS: [(Switching, &[Row], &str); 11] = [
     (
         Switching::Cycle,
         &[(100, 17, 0, 12, 1, 1)],
@@ -126,7 +126,7 @@ const WINDOWS: [(Switching, &[Row], &str); 11] = [
 
 #[test]
 fn windows_of_small_sets(rt: HostRuntime) -> Result<(), Fail> {
-    for (switching, rows, want) in WINDOWS {
+    for &(switching, rows, want) in &WINDOWS {
         let got = answer(rt.alloc(), switching, rows, 1)?;
         assert_eq!(rt; got.as_str(), want);
     }
