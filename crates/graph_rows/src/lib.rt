@@ -1,9 +1,7 @@
-//! The worked rows of what is built of a task's code: code maps, flat graphs, regions, useful sets and bounds. This crate
-//! has tests alone.
+//! The worked rows of what is built of a task's code: code maps, flat graphs, regions and useful sets. This crate has
+//! tests alone.
 #![tactic(auto)]
 
-#[cfg(test)]
-mod bounds;
 #[cfg(test)]
 mod flows;
 #[cfg(test)]
