@@ -1,6 +1,6 @@
 // Texts and lists that a contract sees as a list. They are made of a `String` or a `Vec` and give it back
 // without taking memory.
-ghost use Rattle.std.specs.Prelude.{◌≡◌, List, ℕ, string_bytes, length};
+ghost use Rattle.std.specs.Prelude.{◌≡◌, List, ℕ, Some, string_bytes, length};
 
 use std::fmt;
 use std::marker::Model;
@@ -18,6 +18,8 @@ impl Model for Text {
 }
 
 impl fmt::Display for Text {
+    ghost output = { λ t. Some t };
+
     fn fmt<W: fmt::Write>(&self, f: &mut fmt::Formatter<W>) -> fmt::Result {
         write!(f, "{}", self.text)
     }
