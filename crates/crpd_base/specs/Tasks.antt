@@ -1,5 +1,6 @@
 -- The numbers of a task of a set, and their ranges.
-use Rattle.std.specs.Prelude.{ℕ, ◌<◌, ◌≤◌, ◌^◌, length, map, slice_index}
+use Rattle.std.specs.Prelude.{ℕ, ◌<◌, ◌≤◌, length, map, slice_index}
+use Rattle.crpd_base.specs.Limits.{most_tasks, longest_time}
 use Rattle.crpd_base.specs.declared.data.TaskSpec.{TaskSpec}
 use Rattle.crpd_base.specs.declared.data.TaskSet.{TaskSet}
 
@@ -15,8 +16,8 @@ deadline_of set t = slice_index (map (λ (k : TaskSpec). k.deadline) set.tasks) 
 
 -- the ranges of the times of a task set, and of the number of its tasks
 pub record HasTimes (set : TaskSet) : Type 0 where
-  pub tasks : length set.tasks ≤ 32
+  pub tasks : length set.tasks ≤ most_tasks
   pub period : (k : ℕ) → k < length set.tasks → 1 ≤ period_of set k
-  pub longest : (k : ℕ) → k < length set.tasks → period_of set k ≤ 2 ^ 40
+  pub longest : (k : ℕ) → k < length set.tasks → period_of set k ≤ longest_time
   pub deadline : (k : ℕ) → k < length set.tasks → deadline_of set k ≤ period_of set k
-  pub jitter : (k : ℕ) → k < length set.tasks → jitter_of set k ≤ 2 ^ 40
+  pub jitter : (k : ℕ) → k < length set.tasks → jitter_of set k ≤ longest_time

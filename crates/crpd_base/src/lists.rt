@@ -1,9 +1,14 @@
-// Texts and lists that a contract sees as a list. They are made of a `String` or a `Vec` and give it back
-// without taking memory.
-ghost use Rattle.std.specs.Prelude.{◌≡◌, List, ℕ, Some, string_bytes, length};
+// Texts and lists that a contract sees as a list. They are made of a `String` or a `Vec`
+// and give it back without taking memory.
+ghost use Rattle.std.specs.Prelude.{◌≡◌, ◌==◌, ◌<◌, ◌^◌, List, ℕ, Some, string_bytes, length, slice_index_or};
+ghost use Rattle.std.specs.Slice.{IsItemAt};
+ghost use Rattle.std.specs.Slice.Iter.{iter_rest, iter_steps};
+ghost use Rattle.std.specs.Iterator.Adapters.{IterYieldsInOrder};
+ghost use Rattle.std.specs.Iterator.Runs.{EveryRun, ItemsMapTo};
 
-use std::fmt;
 use std::marker::Model;
+use std::ops::Index;
+use std::{fmt, slice};
 
 /// A text. A contract sees the list of its UTF-8 bytes.
 #[derive(Debug, Drop)]
@@ -68,6 +73,36 @@ impl<T> Items<T> {
         Items { list }
     }
 
+    /// How many elements there are. In constant time.
+    pub fn len(&self) -> usize
+        ensures { result ≡ length self.now }
+    {
+        self.list.len()
+    }
+
+    /// Whether there is no element. In constant time.
+    pub fn is_empty(&self) -> bool
+        ensures { result ≡ (length self.now == 0) }
+    {
+        self.list.is_empty()
+    }
+
+    /// The element at a place counted from 0, None beyond the last one. In constant time.
+    pub fn get(&self, place: usize) -> Option<&T>
+        ensures { IsItemAt self.now place result }
+    {
+        self.list.get(place)
+    }
+
+    /// The elements one by one, in their order. In constant time; it takes no memory.
+    pub fn iter(&self) -> slice::Iter<'_, T>
+        ensures rest { iter_rest result ≡ self.now }
+        ensures len { length (iter_rest result) ≡ length self.now }
+        ensures runs { IterYieldsInOrder T }
+    {
+        self.list.iter()
+    }
+
     /// The elements as a slice. In constant time; it takes no memory.
     pub fn as_slice(&self) -> &[T]
         ensures { result.now ≡ self.now }
@@ -80,5 +115,32 @@ impl<T> Items<T> {
         ensures { result.items ≡ self }
     {
         self.list
+    }
+}
+
+impl<T> Index<usize> for Items<T> {
+    type Output = T;
+
+    ghost can_index = { λ l i. i < length l };
+
+    ghost index_gives = { λ l i x. x ≡ slice_index_or l i x };
+
+    /// The element at a place below the number of elements, counted from 0. In constant time.
+    fn index(&self, place: usize) -> &T {
+        &self.list[place]
+    }
+}
+
+impl<'a, T> IntoIterator for &'a Items<T> {
+    type Item = &'a T;
+
+    type IntoIter = slice::Iter<'a, T>;
+
+    ghost into_iter_gives = { λ l it. (iter_rest it ≡ l.now) × (length (iter_rest it) < 2 ^ 64)
+        × EveryRun (iter_steps {A = T}) (λ p. ItemsMapTo p (λ x. x.now) (iter_rest p.from)) };
+
+    /// The elements one by one, in their order. In constant time; it takes no memory.
+    fn into_iter(self) -> slice::Iter<'a, T> {
+        self.iter()
     }
 }
