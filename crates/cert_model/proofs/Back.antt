@@ -8,7 +8,7 @@ use Rattle.std.proofs.lemmas.List.{length-map}
 use Rattle.std.proofs.lemmas.List.Elements.{recursion_from_All}
 use Rattle.crpd_base.specs.Ranges.{IsPlatform}
 use Rattle.crpd_base.specs.Sets.{member, AreWords}
-use Rattle.crpd_base.proofs.Bits.{member_le_one, same_words}
+use Rattle.crpd_base.proofs.Bits.{member_le_one, same_words, zero_or_one}
 use Rattle.crpd_base.specs.declared.data.Certificate.{Certificate}
 use Rattle.crpd_base.specs.declared.data.Method.{Method}
 use Rattle.crpd_base.specs.declared.data.Method.TheVariants.{Ucb, Ecb}
@@ -71,11 +71,6 @@ rising_back low limit (n ∷ ns) h = rw (below_back low limit n h.0 h.1, rising_
 rise_last : (low k : ℕ) (xs : List ℕ) → low ≤ k → RiseFrom (λ (n : ℕ). n) low k xs → RiseFrom (λ (n : ℕ). n) low (suc k) (xs ++ k ∷ [])
 rise_last low k [] h r = (h, omega arith, tt)
 rise_last low k (x ∷ xs) h r = (r.0, omega (arith, r.1), rise_last (x + 1) k xs (omega (arith, r.1)) r.2)
-
-zero_or_one : (b : ℕ) → b < 2 → (b ≡ 0) ⊎ (b ≡ 1)
-zero_or_one zero h = inl refl
-zero_or_one (suc zero) h = inr refl
-zero_or_one (suc (suc b)) h = absurd (omega arith)
 
 pub below_rise : (words : List ℕ) (n : ℕ) → RiseFrom (λ (m : ℕ). m) 0 n (numbers_below words n)
 below_rise words zero = subst (λ (l : List ℕ). RiseFrom (λ (m : ℕ). m) 0 0 l) (sym (below_none words)) tt

@@ -5,3 +5,4 @@ pub mod Sets
 pub mod Sum
 pub mod Ranges
 pub mod Tasks
+pub mod Outcome

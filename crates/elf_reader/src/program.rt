@@ -26,7 +26,7 @@ const PT_INTERP: u32 = 3;
 const ADDRESSES: u64 = 1 << 32;
 
 /// So many headers of the table that begins at a place of the file.
-#[tactic(auto, using(crate::proofs::Tables::one_more))]
+#[tactic(auto, using(crpd_base::proofs::Elements::map_range_more))]
 fn table(
     alloc: Global,
     bytes: &[u8],

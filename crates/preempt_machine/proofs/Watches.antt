@@ -3,6 +3,7 @@ use Rattle.std.proofs.Common.{◌≡◌, ◌≢◌, ℕ, ◌<◌, Bool, true, fa
 use Rattle.std.specs.Prelude.{◌↔◌, nat_lt, IsTrue}
 use Rattle.std.proofs.lemmas.Bool.{cases_Bool, cases_eq, and_from, and_parts, false≢true, true≢false}
 use Rattle.std.proofs.lemmas.List.{get_or_default}
+use Rattle.crpd_base.proofs.Options.{some_injective}
 use Rattle.crpd_base.specs.declared.data.TaskPlan.{TaskPlan}
 use Rattle.rv_decode.specs.declared.Ins.{Ins}
 use Rattle.rv_core.specs.declared.Next.{Next}
@@ -13,7 +14,7 @@ use Rattle.preempt_machine.specs.Flags.{kept_at, owner_is_kept, ChangesOwner}
 use Rattle.preempt_machine.specs.Machine.{System, Job, Machine, ins_at, job_at, no_job, plan_of}
 use Rattle.preempt_machine.specs.Safe.{IsKept}
 use Rattle.preempt_machine.specs.Step.{Turn, candidate, executed, fetched, step, turned, turn_of, went, worked}
-use Rattle.preempt_machine.proofs.Steps.{some_injective, step_length, step_other, step_own}
+use Rattle.preempt_machine.proofs.Steps.{step_length, step_other, step_own}
 use Rattle.preempt_machine.proofs.TurnLaws.{fetched_watch}
 
 step_none : (plan : TaskPlan) (from : ℕ) (ins : Ins) (to : ℕ) → watch_step plan None from ins to ≡ None

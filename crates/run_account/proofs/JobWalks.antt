@@ -3,6 +3,7 @@ use Rattle.std.proofs.Common.{◌≡◌, ◌≢◌, ◌⊎◌, ℕ, zero, suc, �
 use Rattle.std.specs.Prelude.{◌==◌, map}
 use Rattle.std.proofs.lemmas.Bool.{cases_Bool, cases_eq, eq-eqb, eqb-true, false≢true, true≢false}
 use Rattle.std.proofs.lemmas.List.{get_or_default}
+use Rattle.crpd_base.proofs.Options.{some_injective, none_some}
 use Rattle.crpd_base.specs.declared.data.Certificate.{Certificate}
 use Rattle.crpd_base.specs.declared.data.ScriptJob.{ScriptJob}
 use Rattle.crpd_base.specs.declared.data.TaskPlan.{TaskPlan}
@@ -21,7 +22,7 @@ use Rattle.evict_sets.proofs.WalkLaws.{last_here, last_on, last_access_law, on_w
 use Rattle.preempt_machine.specs.Machine.{Job, plan_of, no_job}
 use Rattle.preempt_machine.specs.Safe.{IsKept}
 use Rattle.preempt_machine.specs.Step.{is_open, turn_of, makes_fetch, Fetch, Start, state, fetch_at}
-use Rattle.preempt_machine.proofs.Steps.{candidate_some, ready_open, step_own, step_other, fetch_says, fetch_left, some_injective, none_some, open_is_below}
+use Rattle.preempt_machine.proofs.Steps.{candidate_some, ready_open, step_own, step_other, fetch_says, fetch_left, open_is_below}
 use Rattle.preempt_machine.proofs.Runs.{state_line}
 use Rattle.preempt_machine.proofs.Watches.{turned_watch}
 use Rattle.run_account.specs.Fetches.{job_of, fetched_set}

@@ -4,6 +4,7 @@ use Rattle.std.proofs.Common.{◌≡◌, ℕ, zero, suc, ◌+◌, ◌<◌, ◌�
 use Rattle.std.specs.Prelude.{nat_lt, if◌then◌else◌}
 use Rattle.std.proofs.lemmas.Bool.{cases_Bool, cases_eq, cases_lt, ltb-true, ltb-false, lt-ltb, le-ltb, and_from}
 use Rattle.std.proofs.lemmas.List.{get_or_past}
+use Rattle.crpd_base.proofs.Options.{some_injective, none_some}
 use Rattle.crpd_base.specs.declared.data.Switching.TheVariants.{Cycle, Instruction}
 use Rattle.rv_decode.specs.declared.Ins.{Ins}
 use Rattle.rv_core.specs.declared.Next.{Next}
@@ -11,7 +12,7 @@ use Rattle.rv_core.specs.declared.Next.TheVariants.{Goto, Answer, Fault}
 use Rattle.rv_core.specs.Effect.{next_pc}
 use Rattle.preempt_machine.specs.Machine.{System, Job, Machine, ins_at, job_at, no_job}
 use Rattle.preempt_machine.specs.Step.{is_open, is_ready, candidate, keeps_core, Turn, turn_of, turned, executed, worked, went, fetched, Start, state}
-use Rattle.preempt_machine.proofs.Steps.{between, new_owner, any_cycle, fetch_says, fetch_left, candidate_some, ready_open, step_own, step_other, some_injective, none_some}
+use Rattle.preempt_machine.proofs.Steps.{between, new_owner, any_cycle, fetch_says, fetch_left, candidate_some, ready_open, step_own, step_other}
 use Rattle.preempt_machine.proofs.TurnLaws.{fetched_none, fetched_switch, went_switch}
 use Rattle.run_account.specs.Fetches.{job_of}
 use Rattle.run_account.proofs.Owners.{candidate_at, cases_some, owns_same, owner_after, owner_was, was_released, ready_at}

@@ -1,0 +1,22 @@
+-- A value, or the first refusal.
+use Rattle.std.specs.Prelude.{◌≡◌, ◌≢◌, ℕ, Bool, Option, Some, None, Result, Ok, Err, if◌then◌else◌}
+
+-- one step after another, up to the first refusal
+infixl 10 ◌>>=◌
+abbrev pub ◌>>=◌ : {A B E : Type 0} → Result A E → (A → Result B E) → Result B E
+(Ok x) >>= f = f x
+(Err e) >>= f = Err e
+
+-- what has to hold, with the refusal where it does not
+abbrev pub ensure : {E : Type 0} → Bool → E → Result (Unit {0}) E
+ensure holds e = if holds then Ok tt else Err e
+
+-- what no place may have, with the refusal of the first place that has it
+abbrev pub nowhere : {E : Type 0} → (ℕ → E) → Option ℕ → Result (Unit {0}) E
+nowhere refusal None = Ok tt
+nowhere refusal (Some place) = Err (refusal place)
+
+-- what a function returned, seen by view, is what reading gives, unless memory ran out
+abbrev pub Gives : {X Y E : Type 0} → E → (X → Y) → Result X E → Result Y E → Type 0
+Gives memory view (Ok x) read = read ≡ Ok (view x)
+Gives memory view (Err e) read = e ≢ memory → read ≡ Err e
