@@ -22,7 +22,8 @@ use Rattle.serde_json.specs.Find.{as_object, get_member}
 use Rattle.serde_json.specs.View.{items_of}
 use Rattle.cert_model.specs.declared.fault.CertError.{CertError}
 use Rattle.cert_model.specs.declared.version.Version.TheVariants.{Second}
-use Rattle.toml_keys.specs.Reading.{◌>>=◌, each, item_path}
+use Rattle.crpd_base.specs.Outcome.{◌>>=◌}
+use Rattle.toml_keys.specs.Reading.{each, item_path}
 use Rattle.cert_model.specs.Keys.{present, good, required}
 use Rattle.cert_model.specs.Kinds as kind
 use Rattle.crpd_base.specs.Names.{is_between, is_line, is_name}

@@ -22,7 +22,8 @@ use Rattle.cert_model.specs.declared.fault.CertError.TheVariants.{Memory, TooLon
 use Rattle.cert_model.specs.declared.version.Version.{Version}
 use Rattle.cert_model.specs.declared.version.Version.TheVariants.{First, Second}
 use Rattle.toml_keys.specs.Kinds.{only}
-use Rattle.toml_keys.specs.Reading.{Gives, item_path}
+use Rattle.crpd_base.specs.Outcome.{Gives}
+use Rattle.toml_keys.specs.Reading.{item_path}
 use Rattle.toml_keys.proofs.Laws.{guard_ok, each_all, each_length}
 use Rattle.toml_keys.proofs.Ranged.{IsBetween, between_ok, line_between, only_ok}
 use Rattle.cert_model.specs.Keys.{required, present, good}

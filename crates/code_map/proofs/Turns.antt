@@ -3,7 +3,7 @@ use Rattle.std.proofs.Common.{◌≡◌, ℕ, ◌+◌, ◌<◌, ◌≤◌, List,
 use Rattle.std.proofs.Math.ListN.{drop_of_length-le}
 use Rattle.std.proofs.lemmas.List.{drop_more, append-nil}
 use Rattle.crpd_base.proofs.Results.{with_front, with_front_pair}
-use Rattle.code_map.specs.Outcome.{each}
+use Rattle.crpd_base.specs.Outcome.{each}
 
 one_more : {X A E : Type 0} (read : X → Result A E) (front : List A) (t : X) (more : List X) (x : A) → read t ≡ Ok x → with_front front (each read (t ∷ more)) ≡ with_front (front ++ x ∷ []) (each read more)
 unfolding each

@@ -13,7 +13,7 @@ use Rattle.crpd_base.specs.declared.data.TaskPlan.{TaskPlan}
 use Rattle.crpd_base.specs.declared.data.TaskSet.{TaskSet}
 use Rattle.crpd_base.specs.declared.data.TaskSpec.{TaskSpec}
 use Rattle.rv_decode.specs.Flow.{Words}
-use Rattle.code_map.specs.Outcome.{◌>>=◌, each, ensure}
+use Rattle.crpd_base.specs.Outcome.{◌>>=◌, ensure, each}
 use Rattle.code_map.specs.Places as place
 use Rattle.code_map.specs.Places.{address_of, entry_of, loop_of, plans_of, range_of}
 use Rattle.code_map.specs.Reading.{code_of, files_of}

@@ -10,7 +10,7 @@ use Rattle.crpd_base.specs.declared.data.TaskSpec.{TaskSpec}
 use Rattle.code_map.specs.declared.fault.MapError.{MapError}
 use Rattle.code_map.specs.declared.fault.MapError.TheVariants.{CodeConflict}
 use Rattle.code_map.specs.Conflicts.{first_conflict}
-use Rattle.code_map.specs.Outcome.{◌>>=◌, nowhere}
+use Rattle.crpd_base.specs.Outcome.{◌>>=◌, nowhere}
 use Rattle.code_map.specs.Places.{plan_of, plans_of}
 use Rattle.code_map.specs.Reading.{code_of, files_of}
 use Rattle.code_map.specs.Words.{Code, code_byte, image_byte, little_endian, word_at}

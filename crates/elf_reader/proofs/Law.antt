@@ -16,7 +16,7 @@ use Rattle.elf_reader.specs.declared.fault.ElfError.{ElfError}
 use Rattle.elf_reader.specs.declared.fault.ElfError.TheVariants.{NotStatic, SegmentOutside, SegmentsOverlap, NoCode, Memory}
 use Rattle.elf_reader.specs.Fields.{e_entry}
 use Rattle.crpd_base.specs.Images.{AreDisjoint, IsImage}
-use Rattle.elf_reader.specs.Outcome.{Gives, ensure, nowhere}
+use Rattle.crpd_base.specs.Outcome.{ensure, nowhere, Gives}
 use Rattle.elf_reader.specs.Reading.{file_header, program_headers, reading}
 use Rattle.elf_reader.specs.Segments.{end_of, first_shared, is_code, is_dynamic, is_loaded, is_outside, segment, segments, shares}
 use Rattle.elf_reader.specs.Symbols.{symbols}

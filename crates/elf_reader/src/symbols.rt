@@ -2,7 +2,7 @@
 ghost use Rattle.std.specs.Prelude.{◌≡◌, ℕ, ◌+◌, ◌*◌, ◌/◌, ◌≤◌, drop, length, map, filter_map, option_map, option_copied, find, position, slice_get, ◌<◌, IfOk, IfSome, if◌then◌else◌};
 ghost use Rattle.std.specs.List.{range_with_len};
 ghost use Rattle.elf_reader.specs.Fields as fields;
-ghost use Rattle.elf_reader.specs.Outcome.{Gives};
+ghost use Rattle.crpd_base.specs.Outcome.{Gives};
 ghost use Rattle.elf_reader.specs.Symbols as spec;
 
 use crate::entries::{SectionHeader, SymbolEntry};

@@ -21,7 +21,8 @@ use Rattle.crpd_base.specs.Ranges.{IsPlatform, IsLoopSpec, IsTaskSpec, HaveOwnNa
 use Rattle.toml.specs.Data.{Data, integer, Members, as_table, as_str, get_member}
 use Rattle.toml.specs.Parse.{parse_document}
 use Rattle.toml_keys.specs.declared.fault.KeyError.{KeyError}
-use Rattle.toml_keys.specs.Reading.{Gives, all_known, required, optional, whole, listed, each, item_path, present, good, at_most}
+use Rattle.crpd_base.specs.Outcome.{Gives}
+use Rattle.toml_keys.specs.Reading.{all_known, required, optional, whole, listed, each, item_path, present, good, at_most}
 use Rattle.toml_keys.proofs.Laws.{guard_ok, each_all, each_length}
 use Rattle.toml_keys.proofs.Ranged.{IsBetween, only_ok, whole_between, required_ok, optional_ok, required_between, optional_within, at_most_ok}
 use Rattle.set_reader.specs.Kinds as kind

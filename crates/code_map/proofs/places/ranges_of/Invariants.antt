@@ -1,6 +1,6 @@
 use Rattle.std.proofs.Common.{◌≡◌, drop}
 use Rattle.crpd_base.proofs.Results.{with_front}
-use Rattle.code_map.specs.Outcome.{each}
+use Rattle.crpd_base.specs.Outcome.{each}
 use Rattle.code_map.specs.Places.{range_of}
 use Rattle.code_map.proofs.places.ranges_of.Given as goal
 
