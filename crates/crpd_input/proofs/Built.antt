@@ -7,11 +7,11 @@ use Rattle.crpd_base.proofs.Results.{ok_is, ok_not_err}
 use Rattle.crpd_base.specs.declared.data.TaskPlan.{TaskPlan}
 use Rattle.rv_decode.specs.Flow.{Words}
 use Rattle.code_map.specs.Words.{word_at}
-use Rattle.flat_graph.specs.CodeGraph.{CodeGraph, IsCodeGraph, graph_of, places_of}
+use Rattle.flat_graph.specs.CodeGraph.{CodeGraph, IsCodeGraph, graph_of, places_of, no_graph, graph_at}
 use Rattle.loop_regions.specs.CodeNest.{CodeNest, nest_of}
 use Rattle.loop_regions.specs.Stated.{IsAccepted, IsRegions, IsSameHead}
 use Rattle.cert_check.specs.Judge.{IsGraphOf}
-use Rattle.cert_check.specs.Shown.{graph_at, nest_at, no_graph, no_nest, shown, shown_at}
+use Rattle.cert_check.specs.Shown.{nest_at, no_nest, shown, shown_at}
 use Rattle.cert_check.proofs.Built.{graph_of_law}
 use Rattle.preempt_machine.specs.Machine.{plan_of}
 use Rattle.preempt_machine.specs.Safe.{system_of}

@@ -6,10 +6,10 @@ use Rattle.crpd_base.proofs.Elements.{some_at}
 use Rattle.crpd_base.specs.declared.data.TaskPlan.{TaskPlan}
 use Rattle.crpd_base.specs.declared.data.LoopAt.{LoopAt}
 use Rattle.code_map.specs.Words.{word_at}
-use Rattle.flat_graph.specs.CodeGraph.{CodeGraph, IsCodeGraph, graph_of, places_of}
+use Rattle.flat_graph.specs.CodeGraph.{CodeGraph, IsCodeGraph, graph_of, places_of, no_graph, graph_at}
 use Rattle.loop_regions.specs.CodeNest.{CodeNest, IsNestOf, nest_of}
 use Rattle.loop_regions.specs.Stated.{IsAccepted, IsRegions, IsSameHead}
-use Rattle.cert_check.specs.Shown.{AreShown, graph_at, no_graph, no_nest}
+use Rattle.cert_check.specs.Shown.{AreShown, no_nest}
 use Rattle.crpd_input.specs.declared.input.Input.{Input}
 use Rattle.crpd_input.specs.declared.shapes.Shapes.{Shapes}
 use Rattle.crpd_input.specs.Graphs.{GraphAt, GraphsIn, RegionsAt, RegionsIn}

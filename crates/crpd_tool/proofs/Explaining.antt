@@ -11,11 +11,11 @@ use Rattle.crpd_base.specs.declared.data.Task.{Task}
 use Rattle.crpd_base.specs.declared.data.TaskPlan.{TaskPlan}
 use Rattle.crpd_base.specs.declared.data.TaskSet.{TaskSet}
 use Rattle.crpd_base.specs.Ranges.{IsTaskSet}
-use Rattle.flat_graph.specs.CodeGraph.{IsCodeGraph}
+use Rattle.flat_graph.specs.CodeGraph.{IsCodeGraph, no_graph, graph_at}
 use Rattle.loop_regions.specs.TaskSteps.{words_of}
 use Rattle.evict_sets.specs.Certificate.{no_cert}
 use Rattle.evict_sets.specs.Listing.{HasLowSets}
-use Rattle.cert_check.specs.Shown.{graph_at, no_graph, shown_at}
+use Rattle.cert_check.specs.Shown.{shown_at}
 use Rattle.cert_check.specs.Answered.{answer_of}
 use Rattle.cert_check.specs.declared.outcome.Clause.TheVariants.{Deadline, HasTask, Last, Leaders, Response, States}
 use Rattle.cert_check.specs.Verdict.{IsJudged, Yes}

@@ -4,17 +4,18 @@ use Rattle.crpd_base.specs.declared.data.Platform.{Platform}
 use Rattle.crpd_base.specs.declared.data.Part.{Part}
 use Rattle.crpd_base.specs.Sets.{has, AreWords}
 use Rattle.icache.specs.Accesses.{accesses}
-use Rattle.flat_graph.specs.CodeGraph.{CodeGraph, graph_of, places_of}
+use Rattle.flat_graph.specs.CodeGraph.{CodeGraph, graph_of, places_of, graph_at}
 use Rattle.loop_regions.specs.Potentials.{item_potential}
 use Rattle.loop_regions.specs.CodeNest.{CodeNest, nest_of, IsNestOf}
 use Rattle.loop_regions.specs.TaskGraph.{TaskGraph}
 use Rattle.delay_count.specs.Gamma.{part_at}
 use Rattle.std.proofs.lemmas.List.{get_or_default}
 use Rattle.useful_sets.specs.Useful.{IsEcb, IsUcb}
-use Rattle.exec_bound.specs.Costs.{costs_of, counted, listed, greatest_bound, IsBound, IsTooLarge}
+use Rattle.evict_sets.specs.Listing.{counted}
+use Rattle.exec_bound.specs.Costs.{costs_of, listed, greatest_bound, IsBound, IsTooLarge}
 use Rattle.exec_bound.specs.Walks.{CountsSureHits}
 use Rattle.loop_regions.proofs.Beside.{nested}
-use Rattle.cert_check.specs.Shown.{shown, shown_at, graph_at, nest_at}
+use Rattle.cert_check.specs.Shown.{shown, shown_at, nest_at}
 use Rattle.sensitivity.specs.Accepted.{HasSets, IsLeastBound, IsPart}
 use Rattle.sensitivity.specs.Found.{IsLarge, TellsHits}
 use Rattle.sensitivity.proofs.Bounds.{one_potential}

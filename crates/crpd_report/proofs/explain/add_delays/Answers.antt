@@ -7,7 +7,7 @@ use Rattle.crpd_base.specs.declared.data.TaskPart.{TaskPart}
 use Rattle.crpd_base.proofs.Times.{has_times}
 use Rattle.evict_sets.specs.Certificate.{cert_at}
 use Rattle.crpd_report.specs.Explain.{delay_line, delay_lines, delay_of}
-use Rattle.crpd_report.specs.Simulate.{name_of}
+use Rattle.crpd_base.specs.Tasks.{name_of}
 use Rattle.crpd_report.proofs.CertifiedDelays.{delay_is, has_windows, small}
 use Rattle.crpd_report.proofs.Lines.{one_place_more}
 use Rattle.crpd_report.proofs.explain.add_delays.Goals as goal

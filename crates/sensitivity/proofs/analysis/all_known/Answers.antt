@@ -3,8 +3,8 @@ use Rattle.std.specs.Prelude.{if◌then◌else◌}
 use Rattle.crpd_base.proofs.Elements.{pushed_each}
 use Rattle.crpd_base.specs.declared.data.Part.{Part}
 use Rattle.loop_regions.specs.CodeNest.{CodeNest}
-use Rattle.flat_graph.specs.CodeGraph.{CodeGraph}
-use Rattle.cert_check.specs.Shown.{shown, graph_at, nest_at}
+use Rattle.flat_graph.specs.CodeGraph.{CodeGraph, graph_at}
+use Rattle.cert_check.specs.Shown.{shown, nest_at}
 use Rattle.cert_check.proofs.Tasks.{graph_is}
 use Rattle.sensitivity.specs.Accepted.{HasSets}
 use Rattle.sensitivity.specs.Found.{TellsHits}
