@@ -3,8 +3,6 @@ use Rattle.std.specs.Prelude.{ℕ, zero, suc, List, [], ◌∷◌, ◌++◌, map
 use Rattle.crpd_base.specs.Names.{method_name}
 use Rattle.crpd_base.specs.Sets.{has}
 use Rattle.crpd_base.specs.declared.data.Certificate.{Certificate}
-use Rattle.crpd_base.specs.declared.data.Method.{Method}
-use Rattle.crpd_base.specs.declared.data.Method.TheVariants.{Ucb, Ecb}
 use Rattle.crpd_base.specs.declared.data.NodeState.{NodeState}
 use Rattle.crpd_base.specs.declared.data.Platform.{Platform}
 use Rattle.crpd_base.specs.declared.data.Switching.{Switching}

@@ -42,6 +42,10 @@ has_segments a u (s ∷ ss) = ⊎_elim
     (λ (e : s.executable ≡ false). rw e (has_segments a u ss))
     (cases_Bool s.executable)
 
+-- an image with nothing in it, for what a look-up gives past the end of a list
+pub no_image : Image
+no_image = record { entry = 0; segments = []; symbols = [] }
+
 -- ---- the segments of an image do not meet
 
 blank : Segment

@@ -1,9 +1,10 @@
 -- A task set in its ranges has times in theirs.
-use Rattle.std.proofs.Common.{ℕ, zero, suc, ◌<◌, ◌≤◌, List, [], ◌∷◌, length, map, get_or, All, ◌≡◌, sym, ◌∙◌, ap, arith}
+use Rattle.std.proofs.Common.{ℕ, zero, suc, ◌<◌, ◌≤◌, List, [], ◌∷◌, length, map, get_or, All, ◌≡◌, sym, ◌∙◌, ap, None, arith}
 use Rattle.std.specs.Prelude.{◌^◌}
 use Rattle.std.proofs.lemmas.List.{get_or-map}
 use Rattle.crpd_base.specs.Ranges.{IsTaskSpec, IsTaskSet}
 use Rattle.crpd_base.specs.Tasks.{HasTimes, period_of, jitter_of, deadline_of}
+use Rattle.crpd_base.specs.declared.data.Place.TheVariants.{Number}
 use Rattle.crpd_base.specs.declared.data.TaskSpec.{TaskSpec}
 use Rattle.crpd_base.specs.declared.data.TaskSet.{TaskSet}
 
@@ -33,3 +34,7 @@ jitter_is set k x h e = get_or-map (λ (t : TaskSpec). t.jitter) set.tasks k x 0
 -- its deadline
 pub deadline_is : (set : TaskSet) (k : ℕ) (x : TaskSpec) → k < length set.tasks → x ≡ get_or set.tasks k x → deadline_of set k ≡ x.deadline
 deadline_is set k x h e = get_or-map (λ (t : TaskSpec). t.deadline) set.tasks k x 0 h ∙ ap (λ (t : TaskSpec). t.deadline) (sym e)
+
+-- a task with nothing in it, for what a look-up gives past the end of a set
+pub no_task : TaskSpec
+no_task = record { name = []; file = []; entry = None; period = 0; deadline = 0; jitter = 0; stack = Number 0; global = Number 0; loops = [] }

@@ -1,11 +1,9 @@
 -- The steps that read files: a set, the images of its tasks' files, its code, a certificate; and why each stops.
-use Rattle.std.specs.Prelude.{ℕ, List, [], slice_get, Result, Ok}
+use Rattle.std.specs.Prelude.{ℕ, List, Result, Ok}
 use Rattle.std.specs.Fmt.{decimal}
-use Rattle.std.specs.Option.{option_map_or}
 use Rattle.crpd_base.specs.Tasks.{name_of}
 use Rattle.crpd_base.specs.declared.data.Certificate.{Certificate}
 use Rattle.crpd_base.specs.declared.data.Image.{Image}
-use Rattle.crpd_base.specs.declared.data.Task.{Task}
 use Rattle.crpd_base.specs.declared.data.TaskSet.{TaskSet}
 use Rattle.crpd_base.specs.declared.data.TaskSpec.{TaskSpec}
 use Rattle.set_reader.specs.Reading as set

@@ -76,6 +76,11 @@ after (Some x) c a (Some (Some f)) m there = absurd (in_none m there)
 after (Some x) c a (Some None) m there = absurd (in_none m there)
 after (Some x) c a None m there = absurd (in_none m there)
 
+-- a node without an error is aligned, and its instruction has none
+pub aligned : (b : Bool) (o : Option NodeError) → (if b then o else Some flat.Misaligned) ≡ None → o ≡ None
+aligned true o e = e
+aligned false o e = cc
+
 -- ---- codes that are the same at a node and at the calls under way there
 
 module _ (code other : Flows) (entry : ℕ) where

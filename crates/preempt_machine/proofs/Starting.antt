@@ -50,12 +50,9 @@ number_other lines t k h ne =
     let b : ((line_at lines k).task.0 == t) ≡ false = ne_eqb _ _ (λ e. ne (sym e)) in
     number_next lines t k h ∙ rw b (omega arith)
 
-number_none : (lines : List ScriptJob) (t : ℕ) → number_of lines t 0 ≡ 0
-number_none [] t = refl
-number_none (l ∷ lines) t = refl
-
 pub number_start : (lines : List ScriptJob) (t : ℕ) → number_of lines t 0 ≡ 0
-number_start = number_none
+number_start [] t = refl
+number_start (l ∷ lines) t = refl
 
 pub number_bound : (lines : List ScriptJob) (t k : ℕ) → number_of lines t k ≤ k
 number_bound [] t k = omega arith

@@ -3,7 +3,7 @@
 use Rattle.std.proofs.Common.{◌≡◌, ◌≢◌, ℕ, zero, suc, ◌<◌, Bool, true, ◌∷◌, length, Some, refl, sym, ◌∙◌, ap, subst, inl, inr}
 use Rattle.std.proofs.lemmas.Bool.{cases_Bool, cases_eq, and_parts, eqb-true, not-true}
 use Rattle.std.proofs.lemmas.Option.{none-some}
-use Rattle.crpd_base.proofs.Options.{some_injective, none_some}
+use Rattle.crpd_base.proofs.Options.{some_injective, none_some, same_or_not}
 use Rattle.crpd_base.specs.declared.data.TaskSet.{TaskSet}
 use Rattle.icache.specs.Accesses.{Accesses, last_access}
 use Rattle.icache.specs.Cache.{block_of, set_of}
@@ -20,7 +20,7 @@ use Rattle.preempt_machine.specs.Step.{is_open, owns, Start, state, turn_of, mak
 use Rattle.preempt_machine.specs.Safe.{NamesTasks}
 use Rattle.run_account.specs.Fetches.{job_of, fetched_set}
 use Rattle.run_account.specs.Reloads.{FetchesAt, HasOwn}
-use Rattle.run_account.proofs.Owners.{candidate_at, cases_some, owns_true}
+use Rattle.run_account.proofs.Owners.{candidate_at, owns_true}
 use Rattle.run_account.proofs.OwnFetches.{own_keeps, own_new, own_candidate, fetch_made, fetch_not_made}
 use Rattle.run_account.specs.Nodes.{task_of, plan_at, node_of}
 use Rattle.run_account.specs.Walks.{fetched_nodes}
@@ -70,7 +70,7 @@ module _ (s : Start) (set : TaskSet) (graphs : ℕ → TaskGraph) (R : IsInRange
   own_of_nodes zero c b k e = absurd (none-some b e)
   own_of_nodes (suc n) c b k e =
       let kn = kept_before s graphs n x k in
-      elim (cases_some (candidate_at s n) x) [
+      elim (same_or_not (candidate_at s n) (Some x)) [
         | inl mine ↦
             let o = opened s graphs n x mine in
             let nodes = nodes_own s graphs n x mine in
