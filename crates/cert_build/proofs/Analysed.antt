@@ -7,7 +7,8 @@ use Rattle.flat_graph.specs.CodeGraph.{CodeGraph, graph_of, places_of}
 use Rattle.icache.specs.Accesses.{Accesses, accesses}
 use Rattle.useful_sets.specs.Useful.{IsUcb, IsEcb}
 use Rattle.loop_regions.specs.CodeNest.{CodeNest, nest_of}
-use Rattle.exec_bound.specs.Costs.{costs_of, counted, greatest_bound, IsBound}
+use Rattle.evict_sets.specs.Listing.{counted}
+use Rattle.exec_bound.specs.Costs.{costs_of, greatest_bound, IsBound}
 use Rattle.exec_bound.specs.Walks.{CountsSureHits}
 use Rattle.exec_bound.specs.Refused.{IsRefused}
 use Rattle.exec_bound.specs.declared.fault.BoundError.{BoundError}

@@ -3,6 +3,7 @@ use Rattle.std.proofs.Common.{◌≡◌, ◌≢◌, ℕ, zero, suc, ◌+◌, ◌
 use Rattle.std.specs.Prelude.{◌==◌, is_some, All, AllPairs}
 use Rattle.std.proofs.lemmas.Bool.{cases_Bool, cases_eq, cases_lt, eqb-true, eq-eqb, ne_eqb, false≢true}
 use Rattle.std.proofs.lemmas.List.Elements.{All-append}
+use Rattle.crpd_base.proofs.Options.{not_none}
 use Rattle.crpd_base.specs.declared.data.Platform.{Platform}
 use Rattle.crpd_base.specs.declared.data.NodeState.{NodeState}
 use Rattle.crpd_base.specs.declared.data.TaskPart.{TaskPart}
@@ -106,10 +107,10 @@ module _ (g : Graph) (a : Accesses) (y n : ℕ) where
 
 -- the sets that surely hold a block are the platform's
 last_set : (p : Platform) (address : ℕ → ℕ) (s m : ℕ) (before : List ℕ) → 0 < p.sets → last_access (accesses p address) s before ≡ Some m → s < p.sets
-last_set p address s m [] some e = absurd (none_some e)
+last_set p address s m [] some e = absurd (not_none e)
   where
-    none_some : None ≡ Some m → ⊥
-    none_some e = cc
+    not_none : None ≡ Some m → ⊥
+    not_none e = cc
 last_set p address s m (x ∷ before) some e =
     elim (cases_Bool ((accesses p address).set x == s)) [
       | inl b ↦ let same : (accesses p address).set x ≡ s = eqb-true ((accesses p address).set x) s b in omega (arith, same, some)
@@ -120,9 +121,6 @@ sure_set : (p : Platform) (g : Graph) (address : ℕ → ℕ) (y s m : ℕ) → 
 sure_set p g address y s m G some lt sure =
     let walk = G.reached y lt in last_set p address s m walk.0 some (sure walk.0 walk.1)
 
-none_some : (o : Option ℕ) (m : ℕ) → o ≡ None → o ≡ Some m → ⊥
-none_some o m n e = cc
-
 module _ (p : Platform) (g : Graph) (address : ℕ → ℕ) (useful : List (List ℕ)) (G : IsGraph g) (some : 0 < p.sets) (few : p.sets ≤ 512) (U : AreUseful g (accesses p address) useful) where
   abbrev a : Accesses
   a = accesses p address
@@ -132,7 +130,7 @@ module _ (p : Platform) (g : Graph) (address : ℕ → ℕ) (useful : List (List
       elim (cases_lt s p.sets) [
         | inl l ↦ L.each s m l
         | inr ge ↦ (
-          λ b. absurd (none_some (block_in pairs s) m (past 0 p.sets s pairs ge L.rise) b),
+          λ b. absurd (not_none (block_in pairs s) m (past 0 p.sets s pairs ge L.rise) b),
           λ sure. let l = sure_set p g address y s m G some lt sure in absurd (omega (arith, l, ge)),
         )
       ]

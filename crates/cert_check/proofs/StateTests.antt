@@ -1,24 +1,24 @@
 -- The tests of clause 3.
-use Rattle.std.proofs.Common.{◌≡◌, ◌↔◌, ℕ, ◌<◌, ◌≤◌, Bool, true, List, [], ◌∷◌, length, Option, Some, IsTrue, IsFalse, refl, sym, ◌∙◌, subst, ⊎_elim, arith, ne_eqb, eq-eqb}
+use Rattle.std.proofs.Common.{◌≡◌, ◌↔◌, ℕ, ◌<◌, ◌≤◌, Bool, true, List, [], ◌∷◌, length, Option, Some, IsTrue, IsFalse, refl, sym, ◌∙◌, subst, arith, ne_eqb, eq-eqb}
 use Rattle.std.specs.Prelude.{slice_get, ◌==◌}
-use Rattle.std.proofs.lemmas.Bool.{cases_Bool, both_ways, false≢true}
+use Rattle.std.proofs.lemmas.Bool.{false≢true}
+use Rattle.std.proofs.lemmas.Option.{same_Some, none-some}
 use Rattle.icache.specs.Accesses.{Accesses}
-use Rattle.flat_graph.specs.Graph.{Graph, Edge, IsGraph}
+use Rattle.flat_graph.specs.Graph.{Graph}
 use Rattle.evict_sets.specs.Full.{Listed, FullState, listed}
 use Rattle.evict_sets.specs.Clauses.{ListsLeaders, StateAfter, StatesMeet}
 use Rattle.evict_sets.specs.Certificate.{block_in}
 use Rattle.evict_sets.proofs.FullLaws.{unlisted_state_law}
 use Rattle.evict_sets.specs.Listing.{IsStateAfter}
-use Rattle.flat_graph.proofs.Nexts.{some_one, none_some, edge_at, at_edges}
+use Rattle.flat_graph.proofs.Nexts.{edge_at, at_edges}
 use Rattle.evict_sets.proofs.FullBlocks.{as_listed, AreHeld, held_at}
-use Rattle.evict_sets.proofs.Lines.{one_follows}
 
 module _ (g : Graph) (a : Accesses) (l : Listed) where
   -- a listed state is empty where it has no pairs
   pub starts : (y : ℕ) (sure : List (ℕ × ℕ)) (b : Bool) → IsTrue (l.is_listed y) → ((s : ℕ) → l.state y s ≡ block_in sure s) → b ≡ (length sure == 0) → y ≡ g.first
       → IsTrue b ↔ (y ≡ g.first → (s m : ℕ) → FullState g a l y s m → ⊥)
   starts y [] b t is e first = (
-    (λ h at s m st. none_some m (sym (is s) ∙ as_listed g a l y s m t st)),
+    (λ h at s m st. none-some m (sym (is s) ∙ as_listed g a l y s m t st)),
     (λ h. e ∙ eq-eqb 0 0 refl),
   )
   starts y (x ∷ sure) b t is e first = (
@@ -31,7 +31,7 @@ module _ (g : Graph) (a : Accesses) (l : Listed) where
       → IsTrue b ↔ AreHeld g a l after (l.state v) → IsTrue b ↔ ((w s m : ℕ) → slice_get (g.next u) k ≡ Some w → FullState g a l w s m → StateAfter g a l u s m)
   edge_listed u k v after b at t S test =
       let H = held_at g a l u v after t S in (
-        (λ h w s m e st. H.0 (test.0 h) s m (subst (λ x. FullState g a l x s m) (some_one w v (sym e ∙ at)) st)),
+        (λ h w s m e st. H.0 (test.0 h) s m (subst (λ x. FullState g a l x s m) (same_Some w v (sym e ∙ at)) st)),
         (λ h. test.1 (H.1 (λ s m st. h v s m at st))),
       )
 
@@ -39,7 +39,7 @@ module _ (g : Graph) (a : Accesses) (l : Listed) where
   pub edge_unlisted : (u k v : ℕ) → u < g.size → v < g.size → ListsLeaders g l → slice_get (g.next u) k ≡ Some v → IsFalse (l.is_listed v)
       → (w s m : ℕ) → slice_get (g.next u) k ≡ Some w → FullState g a l w s m → StateAfter g a l u s m
   edge_unlisted u k v u_lt v_lt leaders at out w s m e st =
-      unlisted_state_law g a l u v s m leaders v_lt (edge_at g u k v u_lt at) out (subst (λ x. FullState g a l x s m) (some_one w v (sym e ∙ at)) st)
+      unlisted_state_law g a l u v s m leaders v_lt (edge_at g u k v u_lt at) out (subst (λ x. FullState g a l x s m) (same_Some w v (sym e ∙ at)) st)
 
   -- the tests at both edges and at the first node
   pub meets : (u : ℕ) → length (g.next u) ≤ 2 → (u ≡ g.first → (s m : ℕ) → FullState g a l u s m → ⊥)
@@ -53,10 +53,3 @@ module _ (g : Graph) (a : Accesses) (l : Listed) where
   pub meets_at : (u k : ℕ) → u < g.size → StatesMeet g a l u → (v s m : ℕ) → slice_get (g.next u) k ≡ Some v → FullState g a l v s m → StateAfter g a l u s m
   meets_at u k lt M v s m at st = M.edges v s m (edge_at g u k v lt at) st
 
--- where a successor is listed, all are
-pub all_listed : (g : Graph) (l : Listed) (u w v : ℕ) → IsGraph g → ListsLeaders g l → Edge g u w → IsTrue (l.is_listed w) → Edge g u v → IsTrue (l.is_listed v)
-all_listed g l u w v G leaders e t f =
-    ⊎_elim
-    (λ h. h)
-    (λ out. let same = one_follows g l u v w leaders (G.edges u v f) out f e in absurd (both_ways (l.is_listed v) out (subst (λ x. IsTrue (l.is_listed x)) (sym same) t)))
-    (cases_Bool (l.is_listed v))

@@ -4,10 +4,10 @@ use Rattle.std.proofs.lemmas.List.{get_or_default}
 use Rattle.crpd_base.specs.declared.data.TaskSet.{TaskSet}
 use Rattle.crpd_base.specs.declared.data.TaskPart.{TaskPart}
 use Rattle.crpd_base.specs.declared.data.Certificate.{Certificate}
-use Rattle.flat_graph.specs.CodeGraph.{CodeGraph}
+use Rattle.flat_graph.specs.CodeGraph.{CodeGraph, no_graph, graph_at}
 use Rattle.loop_regions.specs.CodeNest.{CodeNest, IsNestOf}
 use Rattle.evict_sets.specs.Certificate.{cert_at, no_cert}
-use Rattle.cert_check.specs.Shown.{shown, shown_at, graph_at, nest_at, no_graph, no_nest, HasLowSets, AreShown, IsInRange}
+use Rattle.cert_check.specs.Shown.{shown, shown_at, nest_at, no_nest, HasLowSets, AreShown, IsInRange}
 use Rattle.crpd_base.specs.declared.data.NodeState.{NodeState}
 use Rattle.evict_sets.specs.Listing.{IsIndex}
 use Rattle.cert_check.specs.declared.outcome.Clause.{Clause}

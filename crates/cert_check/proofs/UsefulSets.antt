@@ -1,8 +1,9 @@
 -- Full useful sets kept as sets of cache sets.
 use Rattle.std.proofs.Common.{◌≡◌, ◌≢◌, ◌↔◌, ◌⊎◌, ℕ, ◌<◌, ◌≤◌, Bool, true, false, List, length, Some, None, IsTrue, IsFalse, max, refl, sym, ◌∙◌, subst, inl, inr, ⊎_elim, arith, ne_eqb, eq-eqb, eqb-true}
-use Rattle.std.specs.Prelude.{slice_get, slice_index, if◌then◌else◌, ◌==◌, ◌/◌, ◌%◌}
+use Rattle.std.specs.Prelude.{slice_get, if◌then◌else◌, ◌==◌}
 use Rattle.std.proofs.lemmas.Bool.{cases_eq, both_ways}
-use Rattle.std.proofs.lemmas.Nat.Bits.{bit_at-lt}
+use Rattle.std.proofs.lemmas.Option.{same_Some, none-some}
+use Rattle.crpd_base.proofs.Bits.{member_le_one}
 use Rattle.crpd_base.specs.Sets.{member, has}
 use Rattle.icache.specs.Accesses.{Accesses}
 use Rattle.flat_graph.specs.Graph.{Graph, Edge}
@@ -10,7 +11,7 @@ use Rattle.evict_sets.specs.Full.{Listed, FullUseful, listed_useful, used, used_
 use Rattle.evict_sets.specs.Clauses.{UsefulMeets, SetsMeet}
 use Rattle.evict_sets.proofs.FullLaws.{unlisted_useful_law}
 use Rattle.cert_check.specs.Case.{IsUsefulAt, IsUsefulBehind, IsUsefulBy}
-use Rattle.flat_graph.proofs.Nexts.{place_of, edge_at, some_one, none_some}
+use Rattle.flat_graph.proofs.Nexts.{place_of, edge_at}
 
 -- membership as a number and as a test
 pub is_member : (words : List ℕ) (t : ℕ) → IsTrue (has words t) → member words t ≡ 1
@@ -19,29 +20,26 @@ is_member words t h = eqb-true (member words t) 1 h
 pub has_member : (words : List ℕ) (t : ℕ) → member words t ≡ 1 → IsTrue (has words t)
 has_member words t e = eq-eqb (member words t) 1 e
 
-at_most_one : (words : List ℕ) (t : ℕ) → member words t < 2
-at_most_one words t = bit_at-lt (slice_index words (t / 64)) (t % 64)
-
 -- a union
 pub in_either : (old other new : List ℕ) (t : ℕ) → member new t ≡ max (member old t) (member other t) → IsTrue (has new t) → IsTrue (has old t) ⊎ IsTrue (has other t)
 in_either old other new t e h =
     let n = is_member new t h in
-    let a = at_most_one old t in
+    let a = member_le_one old t in
     ⊎_elim
     (λ (x : member old t ≡ 1). inl (has_member old t x))
-    (λ ne. inr (has_member other t (let b = at_most_one other t in omega (arith, e, n, a, ne, b))))
+    (λ ne. inr (has_member other t (let b = member_le_one other t in omega (arith, e, n, a, ne, b))))
     (cases_eq (member old t) 1)
 
 pub in_left : (old other new : List ℕ) (t : ℕ) → member new t ≡ max (member old t) (member other t) → IsTrue (has old t) → IsTrue (has new t)
 in_left old other new t e h =
     let x = is_member old t h in
-    let b = at_most_one other t in
+    let b = member_le_one other t in
     has_member new t (omega (arith, e, x, b))
 
 pub in_right : (old other new : List ℕ) (t : ℕ) → member new t ≡ max (member old t) (member other t) → IsTrue (has other t) → IsTrue (has new t)
 in_right old other new t e h =
     let x = is_member other t h in
-    let b = at_most_one old t in
+    let b = member_le_one old t in
     has_member new t (omega (arith, e, x, b))
 
 module _ (g : Graph) (a : Accesses) (l : Listed) where
@@ -101,13 +99,13 @@ module _ (g : Graph) (a : Accesses) (l : Listed) where
   -- at the end of one
   pub nothing_by : (y k : ℕ) (words : List ℕ) → slice_get (g.next y) k ≡ None → ((t : ℕ) → member words t ≡ 0) → IsUsefulBy g a l y k words
   nothing_by y k words none zero s = (
-    λ b. absurd (none_some b.0 (sym none ∙ b.1)),
+    λ b. absurd (none-some b.0 (sym none ∙ b.1)),
     λ h. absurd (let one = is_member words s h in let z = zero s in omega (arith, one, z)),
   )
 
   pub something_by : (y k v : ℕ) (words : List ℕ) → slice_get (g.next y) k ≡ Some v → IsUsefulAt g a l v words → IsUsefulBy g a l y k words
   something_by y k v words at U s = (
-    λ b. (U s).0 (subst (λ x. FullUseful g a l x s) (some_one b.0 v (sym b.1 ∙ at)) b.2),
+    λ b. (U s).0 (subst (λ x. FullUseful g a l x s) (same_Some b.0 v (sym b.1 ∙ at)) b.2),
     λ h. (v, at, (U s).1 h),
   )
 

@@ -3,7 +3,7 @@ use Rattle.std.specs.Prelude.{◌≡◌, ℕ, ◌<◌, ◌≤◌, ◌^◌, List,
 use Rattle.crpd_base.specs.declared.data.TaskSet.{TaskSet}
 use Rattle.crpd_base.specs.declared.data.TaskPart.{TaskPart}
 use Rattle.crpd_base.specs.declared.data.Certificate.{Certificate}
-use Rattle.flat_graph.specs.CodeGraph.{CodeGraph, graph_of, places_of, ins_of}
+use Rattle.flat_graph.specs.CodeGraph.{CodeGraph, graph_of, places_of, ins_of, graph_at}
 use Rattle.loop_regions.specs.CodeNest.{CodeNest, nest_of, IsNestOf}
 use Rattle.loop_regions.specs.TaskGraph.{TaskGraph}
 pub use Rattle.evict_sets.specs.Listing.{HasLowSets}
@@ -12,14 +12,8 @@ pub use Rattle.evict_sets.specs.Listing.{HasLowSets}
 abbrev pub shown : CodeGraph → CodeNest → TaskGraph
 shown g n = record { graph = graph_of g; places = places_of g; ins = ins_of g; nest = nest_of n }
 
-abbrev pub no_graph : CodeGraph
-no_graph = record { nodes = []; first = 0 }
-
 abbrev pub no_nest : CodeNest
 no_nest = record { heads = []; bounds = []; holders = [] }
-
-abbrev pub graph_at : List CodeGraph → ℕ → CodeGraph
-graph_at graphs i = slice_index_or graphs i no_graph
 
 abbrev pub nest_at : List CodeNest → ℕ → CodeNest
 nest_at nests i = slice_index_or nests i no_nest

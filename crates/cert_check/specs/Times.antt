@@ -3,12 +3,11 @@ use Rattle.std.specs.Prelude.{◌≡◌, ℕ, ◌+◌, ◌<◌, ◌≤◌, List,
 use Rattle.crpd_base.specs.Tasks.{jitter_of, deadline_of}
 use Rattle.crpd_base.specs.declared.data.TaskSet.{TaskSet}
 use Rattle.crpd_base.specs.declared.data.Certificate.{Certificate}
-use Rattle.flat_graph.specs.CodeGraph.{CodeGraph, graph_of, listing}
+use Rattle.flat_graph.specs.CodeGraph.{CodeGraph, graph_of, listing, graph_at}
 use Rattle.evict_sets.specs.Answering.{answers_of}
 use Rattle.evict_sets.specs.Longest.{longest}
 use Rattle.evict_sets.specs.Certificate.{cert_at}
 use Rattle.cert_check.specs.Judge.{window_at}
-use Rattle.cert_check.specs.Shown.{graph_at}
 
 -- the longest cost of one instruction of each task
 pub record AreLongest (set : TaskSet) (graphs : List CodeGraph) (costs : List ℕ) : Type 0 where

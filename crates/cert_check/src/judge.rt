@@ -10,8 +10,8 @@ ghost use Rattle.cert_check.specs.Times.{AreLongest};
 
 use crate::graphs::graph_failure;
 use crate::outcome::{Clause, Verdict};
-use crate::times::{name_failure, time_failure, times_law, write_longest};
-use crpd_base::{Certificate, MOST_TASKS, Task, TaskSet};
+use crate::times::{name_failure, time_failure, write_longest};
+use crpd_base::{Certificate, MOST_TASKS, Task, TaskSet, times_law};
 use delay_count::growth_law;
 use flat_graph::Graph;
 use loop_regions::Nest;

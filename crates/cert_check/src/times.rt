@@ -1,7 +1,6 @@
 // The clauses of what a task's part says beside its graph.
 ghost use Rattle.std.specs.Prelude.{◌≡◌, ◌↔◌, ◌<◌, ◌≤◌, ◌^◌, ◌+◌, ℕ, length, slice_index, IsTrue, All};
 ghost use Rattle.crpd_base.specs.Ranges.{IsTaskSet, IsPlatform};
-ghost use Rattle.crpd_base.specs.Tasks.{HasTimes};
 ghost use Rattle.crpd_base.specs.declared.data.TaskPart.{TaskPart};
 ghost use Rattle.flat_graph.specs.CodeGraph.{graph_of, listing};
 ghost use Rattle.loop_regions.specs.TaskGraph.{TaskGraph};
@@ -15,7 +14,7 @@ ghost use Rattle.cert_check.specs.Times.{AreLongest, HigherHold};
 
 use crate::least::at_most;
 use crate::outcome::Clause;
-use crpd_base::{Certificate, MOST_TASKS, Platform, Task, TaskSet, Text};
+use crpd_base::{Certificate, MOST_TASKS, Platform, Task, TaskSet, Text, times_law};
 use delay_count::demand;
 use evict_sets::{longest, longest_law};
 use flat_graph::Graph;
@@ -78,12 +77,6 @@ pub fn write_longest(set: &TaskSet, graphs: &[Graph], longest: &mut [u64])
         longest[k] = longest_cost(&graphs[k], &set.platform);
     }
 }
-
-/// The times of a task set are in their ranges. In constant time.
-pub fn times_law(set: &TaskSet)
-    requires { IsTaskSet set.now }
-    ensures { HasTimes set.now }
-{}
 
 /// Whether a task's window has room for the demand: it is at least 1, and the demand there is at most the window.
 fn has_room(set: &TaskSet, certificate: &Certificate, longest: &[u64], i: usize) -> bool

@@ -8,7 +8,7 @@ use Rattle.std.proofs.lemmas.List.{length-map}
 use Rattle.std.proofs.lemmas.List.Elements.{recursion_from_All}
 use Rattle.crpd_base.specs.Ranges.{IsPlatform}
 use Rattle.crpd_base.specs.Sets.{member, AreWords}
-use Rattle.crpd_base.proofs.Bits.{member_le_one, same_words}
+use Rattle.crpd_base.proofs.Bits.{member_le_one, same_words, zero_or_one}
 use Rattle.crpd_base.specs.declared.data.Certificate.{Certificate}
 use Rattle.crpd_base.specs.declared.data.Method.{Method}
 use Rattle.crpd_base.specs.declared.data.Method.TheVariants.{Ucb, Ecb}
@@ -22,10 +22,11 @@ use Rattle.serde_json.specs.Find.{as_object, get_member}
 use Rattle.serde_json.specs.View.{items_of}
 use Rattle.cert_model.specs.declared.fault.CertError.{CertError}
 use Rattle.cert_model.specs.declared.version.Version.TheVariants.{Second}
-use Rattle.toml_keys.specs.Reading.{◌>>=◌, each, item_path}
+use Rattle.crpd_base.specs.Outcome.{◌>>=◌}
+use Rattle.toml_keys.specs.Reading.{each, item_path}
 use Rattle.cert_model.specs.Keys.{present, good, required}
 use Rattle.cert_model.specs.Kinds as kind
-use Rattle.crpd_base.specs.Names.{is_between, is_line, is_name}
+use Rattle.crpd_base.specs.Names.{is_between, is_line, is_name, method_name}
 use Rattle.cert_model.specs.Kinds.{whole, below, all_of, listed, rising, words_of, is_in, pair, pairs_from, state_of, states_from}
 use Rattle.cert_model.specs.Ranges.{RiseFrom, IsState, ArePotentials, IsTaskPart, AreTasks, HasSets, IsCertificate}
 use Rattle.cert_model.specs.Reading.{cycles, version_at, second_platform, fields_at, task_at, tasks_at, entries, counted, certificate_at}
@@ -71,11 +72,6 @@ rising_back low limit (n ∷ ns) h = rw (below_back low limit n h.0 h.1, rising_
 rise_last : (low k : ℕ) (xs : List ℕ) → low ≤ k → RiseFrom (λ (n : ℕ). n) low k xs → RiseFrom (λ (n : ℕ). n) low (suc k) (xs ++ k ∷ [])
 rise_last low k [] h r = (h, omega arith, tt)
 rise_last low k (x ∷ xs) h r = (r.0, omega (arith, r.1), rise_last (x + 1) k xs (omega (arith, r.1)) r.2)
-
-zero_or_one : (b : ℕ) → b < 2 → (b ≡ 0) ⊎ (b ≡ 1)
-zero_or_one zero h = inl refl
-zero_or_one (suc zero) h = inr refl
-zero_or_one (suc (suc b)) h = absurd (omega arith)
 
 pub below_rise : (words : List ℕ) (n : ℕ) → RiseFrom (λ (m : ℕ). m) 0 n (numbers_below words n)
 below_rise words zero = subst (λ (l : List ℕ). RiseFrom (λ (m : ℕ). m) 0 0 l) (sym (below_none words)) tt
@@ -162,7 +158,7 @@ unfolding kind.switching
 switching_back Cycle = refl
 switching_back Instruction = refl
 
-method_back : (m : Method) → kind.method (string (write.method_name m)) ≡ Some m
+method_back : (m : Method) → kind.method (string (method_name m)) ≡ Some m
 unfolding kind.method
 method_back Ucb = refl
 method_back Ecb = refl
@@ -213,7 +209,7 @@ fields_back path t h w =
     bind_back _ _ t.part.bound t (number_back 0 (2 ^ 41) path (codes "bound") _ t.part.bound refl (omega arith, h.bound))
     (bind_back _ _ t.part.evicting t (required_back (kind.set_numbers 512) path (codes "evicting") _ (write.set_numbers t.part.evicting) t.part.evicting refl (set_back t.part.evicting w.evicting))
     (bind_back _ _ t.loops t (required_back (kind.potentials 16384) path (codes "loops") _ (write.numbers t.loops) t.loops refl (potentials_back t.loops h.loops))
-    (bind_back _ _ t.method t (required_back kind.method path (codes "method") _ (string (write.method_name t.method)) t.method refl (method_back t.method))
+    (bind_back _ _ t.method t (required_back kind.method path (codes "method") _ (string (method_name t.method)) t.method refl (method_back t.method))
     (bind_back _ _ t.name t (required_back kind.name path (codes "name") _ (string t.name) t.name refl (name_back t.name h.name))
     (bind_back _ _ t.potentials t (required_back (kind.potentials 16384) path (codes "potentials") _ (write.numbers t.potentials) t.potentials refl (potentials_back t.potentials h.potentials))
     (bind_back _ _ t.response t (number_back 0 (2 ^ 41) path (codes "response") _ t.response refl (omega arith, h.response))

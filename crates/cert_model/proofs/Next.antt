@@ -5,10 +5,10 @@ use Rattle.std.proofs.lemmas.List.Concat.{flat_map-append}
 use Rattle.std.proofs.Math.Nat.{div-div-eq-div-mul, div-le_self}
 use Rattle.std.proofs.lemmas.Nat.{pow-add}
 use Rattle.std.proofs.lemmas.Nat.Bits.{bit_at-trailing_zeros, bit_at-zero, bit_at_above}
+use Rattle.std.proofs.lemmas.Bool.{cases_lt}
 use mir.Syntax.{w64}
 use Rattle.json.specs.Written.{Written}
 use Rattle.crpd_base.specs.Sets.{member}
-use Rattle.crpd_base.proofs.Bits.{below-or}
 use Rattle.cert_model.specs.Tokens.{Adds, IsNext, NoneInWord, tokens_of, tokens_by}
 use Rattle.cert_model.specs.Writing.{whole_number, numbers_below}
 use Rattle.cert_model.proofs.Adds.{none, then}
@@ -29,7 +29,7 @@ below_same words n e = rw e
 below_far : (words : List ℕ) (from s : ℕ) → from ≤ s → ((t : ℕ) → from ≤ t → t < s → member words t ≡ 0) → numbers_below words s ≡ numbers_below words from
 below_far words from zero le h = ap (numbers_below words) (omega arith)
 below_far words from (suc s) le h =
-    elim (below-or (suc s) from) [
+    elim (cases_lt from (suc s)) [
       | inl near ↦ below_same words s (h s (omega arith) (omega arith)) ∙ below_far words from s (omega arith) (λ t a b. h t a (omega arith))
       | inr here ↦ ap (numbers_below words) (omega arith)
     ]
@@ -60,7 +60,7 @@ next words from word lt fits is some =
     let narrow : left < 2 ^ 64 = omega (arith, div-le_self word (2 ^ (from % 64))) in
     let low : (k < 64) × (bit_at left k ≡ 1) × ((i : ℕ) → i < k → bit_at left i ≡ 0) = bit_at-trailing_zeros w64 left (omega arith) narrow in
     let inside : from % 64 + k < 64 =
-    elim (below-or 64 (from % 64 + k)) [
+    elim (cases_lt (from % 64 + k) 64) [
       | inl h ↦ h
       | inr h ↦ absurd (omega (arith, high word (from % 64) fits k h, low.1))
     ] in

@@ -1,11 +1,14 @@
 -- What a certificate that was read keeps: the ranges of its numbers, and the order of its lists.
-use Rattle.std.proofs.Common.{◌≡◌, ℕ, ◌+◌, ◌≤◌, ◌<◌, ◌^◌, Bool, true, nat_lt, nat_le, List, [], ◌∷◌, length, get_or, codes, Option, Some, None, option_map, Result, Ok, Err, refl, sym, ap, subst, arith, inl, inr}
+use Rattle.std.proofs.Common.{◌≡◌, ℕ, ◌+◌, ◌≤◌, ◌<◌, ◌^◌, Bool, true, nat_lt, nat_le, List, [], ◌∷◌, length, get_or, codes, Option, Some, None, Result, Ok, Err, refl, sym, ap, subst, arith, inl, inr}
 use Rattle.std.specs.Prelude.{All, IfOk, option_and_then, ◌&&◌}
 use Rattle.std.specs.List.{AllByRecursion}
 use Rattle.std.specs.Str.{is_utf8}
 use Rattle.std.proofs.lemmas.Bool.{cases_Bool, ltb-false, ltb-true, leb-true}
 use Rattle.std.proofs.lemmas.Bool.Decides.{nat_tests}
 use Rattle.std.proofs.lemmas.List.Elements.{All-from_recursion}
+use Rattle.std.proofs.lemmas.Option.{same_Some}
+use Rattle.crpd_base.proofs.Results.{bind_ok, ok_is}
+use Rattle.crpd_base.proofs.Options.{mapped_some}
 use Rattle.crpd_base.specs.Ranges.{IsPlatform}
 use Rattle.crpd_base.specs.declared.data.Certificate.{Certificate}
 use Rattle.crpd_base.specs.declared.data.NodeState.{NodeState}
@@ -19,8 +22,9 @@ use Rattle.cert_model.specs.declared.fault.CertError.TheVariants.{Memory, TooLon
 use Rattle.cert_model.specs.declared.version.Version.{Version}
 use Rattle.cert_model.specs.declared.version.Version.TheVariants.{First, Second}
 use Rattle.toml_keys.specs.Kinds.{only}
-use Rattle.toml_keys.specs.Reading.{Gives, item_path}
-use Rattle.toml_keys.proofs.Laws.{bind_ok, guard_ok, ok_is, each_all, each_length}
+use Rattle.crpd_base.specs.Outcome.{Gives}
+use Rattle.toml_keys.specs.Reading.{item_path}
+use Rattle.toml_keys.proofs.Laws.{guard_ok, each_all, each_length}
 use Rattle.toml_keys.proofs.Ranged.{IsBetween, between_ok, line_between, only_ok}
 use Rattle.cert_model.specs.Keys.{required, present, good}
 use Rattle.cert_model.specs.Kinds as kind
@@ -31,16 +35,9 @@ use Rattle.cert_model.specs.Reading.{most_sets, most_nodes, most_tasks, cycles, 
 
 -- ---- options that gave something
 
-some_is : {A : Type 0} (x y : A) → ◌≡◌ {A = Option A} (Some x) (Some y) → x ≡ y
-some_is x y e = cc
-
 pub and_then_ok : {A B : Type 0} (o : Option A) (f : A → Option B) (y : B) → option_and_then f o ≡ Some y → (x : A) × (o ≡ Some x) × (f x ≡ Some y)
 and_then_ok None f y e = absurd cc
 and_then_ok (Some x) f y e = (x, refl, e)
-
-pub map_ok : {A B : Type 0} (o : Option A) (f : A → B) (y : B) → option_map f o ≡ Some y → (x : A) × (o ≡ Some x) × (f x ≡ y)
-map_ok None f y e = absurd cc
-map_ok (Some x) f y e = (x, refl, some_is (f x) y e)
 
 -- ---- numbers
 
@@ -66,10 +63,10 @@ below_from low limit d n e =
 -- ---- lists
 
 all_of_ok : {A : Type 0} (P : A → Type 0) (read : Data → Option A) → ((d : Data) (x : A) → read d ≡ Some x → P x) → (ds : Items) (xs : List A) → all_of read ds ≡ Some xs → AllByRecursion P xs
-all_of_ok P read one no_items xs e = subst (AllByRecursion P) (some_is [] xs e) tt
+all_of_ok P read one no_items xs e = subst (AllByRecursion P) (same_Some [] xs e) tt
 all_of_ok P read one (item d ds) xs e =
     let a = and_then_ok (read d) _ xs e in
-    let b = map_ok (all_of read ds) (λ ys. a.0 ∷ ys) xs a.2 in
+    let b = mapped_some (all_of read ds) (λ ys. a.0 ∷ ys) xs a.2 in
     subst (AllByRecursion P) b.2 (one d a.0 a.1, all_of_ok P read one ds b.0 b.1)
 
 pub rise_length : {A : Type 0} (number : A → ℕ) (low limit : ℕ) (xs : List A) → low ≤ limit → RiseFrom number low limit xs → length xs + low ≤ limit
@@ -91,7 +88,7 @@ unfolding pair
 pair_ok low limit s b p e =
     let set = and_then_ok (below low limit s) _ p e in
     let block = and_then_ok (below 0 (2 ^ 32) b) _ p set.2 in
-    subst (IsPair low limit) (some_is (set.0, block.0) p block.2)
+    subst (IsPair low limit) (same_Some (set.0, block.0) p block.2)
     (record { set = below_from low limit s set.0 set.1; block = (below_from 0 (2 ^ 32) b block.0 block.1).within })
 
 record ArePairs (low limit : ℕ) (ps : List (ℕ × ℕ)) : Type 0 where
@@ -99,11 +96,11 @@ record ArePairs (low limit : ℕ) (ps : List (ℕ × ℕ)) : Type 0 where
   blocks : AllByRecursion (λ (p : ℕ × ℕ). p.1 < 2 ^ 32) ps
 
 pairs_ok : (low limit : ℕ) (ds : Items) (ps : List (ℕ × ℕ)) → pairs_from low limit ds ≡ Some ps → ArePairs low limit ps
-pairs_ok low limit no_items ps e = subst (ArePairs low limit) (some_is [] ps e) (record { sets = tt; blocks = tt })
+pairs_ok low limit no_items ps e = subst (ArePairs low limit) (same_Some [] ps e) (record { sets = tt; blocks = tt })
 pairs_ok low limit (item s no_items) ps e = absurd cc
 pairs_ok low limit (item s (item b ds)) ps e =
     let a = and_then_ok (pair low limit s b) _ ps e in
-    let m = map_ok (pairs_from (a.0.0 + 1) limit ds) (λ more. a.0 ∷ more) ps a.2 in
+    let m = mapped_some (pairs_from (a.0.0 + 1) limit ds) (λ more. a.0 ∷ more) ps a.2 in
     let one = pair_ok low limit s b a.0 a.1 in
     let more = pairs_ok (a.0.0 + 1) limit ds m.0 m.1 in
     subst (ArePairs low limit) m.2 (record { sets = (one.set.reaches, one.set.within, more.sets); blocks = (one.block, more.blocks) })
@@ -125,7 +122,7 @@ state_of_ok sets nodes low a b c s h e =
     let sure = and_then_ok (kind.sure_pairs sets b) _ s node.2 in
     let useful = and_then_ok (kind.set_numbers sets c) _ s sure.2 in
     let pairs = sure_ok sets b sure.0 sure.1 in
-    subst (IsStateFrom low nodes) (some_is _ s useful.2)
+    subst (IsStateFrom low nodes) (same_Some _ s useful.2)
     (record {
       node = below_from low nodes a node.0 node.1;
       state = record { sets = rise_wider (λ (p : ℕ × ℕ). p.0) 0 sets 512 sure.0 h pairs.sets; blocks = All-from_recursion (λ (p : ℕ × ℕ). p.1 < 2 ^ 32) sure.0 pairs.blocks };
@@ -150,10 +147,10 @@ record AreStates (low limit : ℕ) (ss : List NodeState) : Type 0 where
   states : AllByRecursion IsState ss
 
 states_from_ok : (sets nodes low : ℕ) (ds : Items) (ss : List NodeState) → sets ≤ 512 → states_from sets nodes low ds ≡ Some ss → AreStates low nodes ss
-states_from_ok sets nodes low no_items ss h e = subst (AreStates low nodes) (some_is [] ss e) (record { nodes = tt; states = tt })
+states_from_ok sets nodes low no_items ss h e = subst (AreStates low nodes) (same_Some [] ss e) (record { nodes = tt; states = tt })
 states_from_ok sets nodes low (item d ds) ss h e =
     let a = and_then_ok (kind.state sets nodes low d) _ ss e in
-    let m = map_ok (states_from sets nodes (a.0.node + 1) ds) (λ more. a.0 ∷ more) ss a.2 in
+    let m = mapped_some (states_from sets nodes (a.0.node + 1) ds) (λ more. a.0 ∷ more) ss a.2 in
     let one = state_ok sets nodes low d a.0 h a.1 in
     let more = states_from_ok sets nodes (a.0.node + 1) ds m.0 h m.1 in
     subst (AreStates low nodes) m.2 (record { nodes = (one.node.reaches, one.node.within, more.nodes); states = (one.state, more.states) })

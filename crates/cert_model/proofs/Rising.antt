@@ -6,6 +6,7 @@ use Rattle.std.proofs.lemmas.Bool.Decides.{nat_tests}
 use Rattle.std.proofs.lemmas.List.{drop_more, append-nil}
 use Rattle.std.proofs.lemmas.List.Folds.{list_any-append}
 use Rattle.std.proofs.lemmas.Nat.Bits.{bit_at_lowest, bit_at-suc}
+use Rattle.crpd_base.proofs.Bools.{or_false}
 use native.Mathlib.Numerals.{unary_clauses}
 use Rattle.crpd_base.specs.Sets.{member, AreWords}
 use Rattle.crpd_base.proofs.Bits.{same_words}
@@ -104,10 +105,6 @@ flag_or true true = refl
 flag_or true false = refl
 flag_or false true = refl
 flag_or false false = refl
-
-or_false : (b : Bool) → (b || false) ≡ b
-or_false true = refl
-or_false false = refl
 
 equal_turned : (t n : ℕ) → (t == n) ≡ (n == t)
 equal_turned t n = grind (arith, nat_tests)

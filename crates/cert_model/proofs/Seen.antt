@@ -2,7 +2,7 @@
 use Rattle.std.proofs.Common.{◌≡◌, List, ℕ, Option, Some, None, option_map, Result, Ok, Err}
 use Rattle.cert_model.specs.declared.fault.CertError.{CertError}
 use Rattle.cert_model.specs.declared.fault.CertError.TheVariants.{Memory}
-use Rattle.toml_keys.specs.Reading.{Gives}
+use Rattle.crpd_base.specs.Outcome.{Gives}
 use Rattle.cert_model.specs.Keys.{good}
 
 pub good_seen : {X Y : Type 0} (view : X → Y) (path key : List ℕ) (read : Option X) (o : Option Y) (r : Result X CertError)

@@ -4,7 +4,7 @@ use Rattle.serde_json.specs.Data.{Data, Members}
 use Rattle.serde_json.specs.Find.{get_member}
 use Rattle.cert_model.specs.declared.fault.CertError.{CertError}
 use Rattle.cert_model.specs.declared.fault.CertError.TheVariants.{Missing, BadValue}
-use Rattle.toml_keys.specs.Reading.{◌>>=◌}
+use Rattle.crpd_base.specs.Outcome.{◌>>=◌}
 
 -- the value at a key, which is missing else
 abbrev pub present : List ℕ → List ℕ → Members → Result Data CertError

@@ -16,7 +16,8 @@ use Rattle.cert_model.specs.declared.version.Version.{Version}
 use Rattle.cert_model.specs.declared.version.Version.TheVariants.{First, Second}
 use Rattle.cert_model.specs.Kinds as kind
 use Rattle.cert_model.specs.Kinds.{whole, number_of}
-use Rattle.toml_keys.specs.Reading.{◌>>=◌, item_path, each}
+use Rattle.crpd_base.specs.Outcome.{◌>>=◌}
+use Rattle.toml_keys.specs.Reading.{item_path, each}
 use Rattle.cert_model.specs.Keys.{required}
 
 -- ---- what a version holds at most

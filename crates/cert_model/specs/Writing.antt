@@ -1,9 +1,8 @@
 -- The text of a certificate: version 2, on one line without spaces, with the keys of each object in byte order.
 use Rattle.std.specs.Prelude.{ℕ, zero, suc, List, [], ◌∷◌, ◌++◌, map, codes, if◌then◌else◌}
+use Rattle.crpd_base.specs.Names.{method_name}
 use Rattle.crpd_base.specs.Sets.{has}
 use Rattle.crpd_base.specs.declared.data.Certificate.{Certificate}
-use Rattle.crpd_base.specs.declared.data.Method.{Method}
-use Rattle.crpd_base.specs.declared.data.Method.TheVariants.{Ucb, Ecb}
 use Rattle.crpd_base.specs.declared.data.NodeState.{NodeState}
 use Rattle.crpd_base.specs.declared.data.Platform.{Platform}
 use Rattle.crpd_base.specs.declared.data.Switching.{Switching}
@@ -39,10 +38,6 @@ state s = array (item (whole_number s.node) (item (array (pairs s.sure)) (item (
 abbrev pub switching_name : Switching → List ℕ
 switching_name Cycle = codes "cycle"
 switching_name Instruction = codes "instruction"
-
-abbrev pub method_name : Method → List ℕ
-method_name Ucb = codes "ucb"
-method_name Ecb = codes "ecb"
 
 unfoldable pub platform_members : Platform → Members
 platform_members p =

@@ -4,7 +4,7 @@ ghost use Rattle.std.specs.Prelude.{◌≡◌, ◌≤◌, option_map, IfOk};
 ghost use Rattle.serde_json.specs.Find.{get_member};
 ghost use Rattle.serde_json.specs.View.{view, members_view};
 ghost use Rattle.cert_model.specs.Keys as spec;
-ghost use Rattle.toml_keys.specs.Reading.{Gives};
+ghost use Rattle.crpd_base.specs.Outcome.{Gives};
 ghost use Rattle.cert_model.specs.Kinds as kind;
 
 use crate::fault::CertError;

@@ -3,7 +3,7 @@
 ghost use Rattle.std.specs.Prelude.{◌≡◌, ◌≤◌, codes, length, All, IfOk, sum_by};
 ghost use Rattle.serde_json.specs.Find.{as_object};
 ghost use Rattle.serde_json.specs.View.{view, members_view};
-ghost use Rattle.toml_keys.specs.Reading.{Gives};
+ghost use Rattle.crpd_base.specs.Outcome.{Gives};
 ghost use Rattle.cert_model.specs.Keys.{required};
 ghost use Rattle.cert_model.specs.Kinds as kind;
 ghost use Rattle.cert_model.specs.Ranges.{AreTasks, HasFewPairs, IsCertificate};

@@ -1,6 +1,7 @@
 //! A certificate, written as JSON text of version 2.
 
 ghost use Rattle.std.specs.Prelude.{◌≡◌, ◌<◌, All, IfOk, IsUtf8, MatchOption, map};
+ghost use Rattle.crpd_base.specs.Names as names;
 ghost use Rattle.crpd_base.specs.Sets.{AreWords};
 ghost use Rattle.crpd_base.specs.declared.data.NodeState.{NodeState};
 ghost use Rattle.json.specs.Lex.{tokens};
@@ -99,7 +100,7 @@ fn switching_name(switching: Switching) -> &'static str
 }
 
 fn method_name(method: Method) -> &'static str
-    ensures { result.now ≡ spec.method_name method }
+    ensures { result.now ≡ names.method_name method }
 {
     match method {
         Method::Ucb => "ucb",

@@ -1,6 +1,6 @@
 // The greatest costs of small task sets.
 use crate::sides::side_of;
-use crpd_base::Platform;
+use crpd_base::{LONGEST_TIME, Platform};
 use fixtures::{NESTED, ONE, PLATFORM, Program};
 use sensitivity::{Slack, Stop, greatest_miss, greatest_switch};
 use std::alloc::{AllocError, Global};
@@ -27,8 +27,8 @@ const LOOPS: Program<'static> = Program {
         (0x1004, 500_000, (0x1004, 0x1010)),
         (0x1008, 400_000, (0, 0)),
     ],
-    period: 1_099_511_627_776,
-    deadline: 1_099_511_627_776,
+    period: LONGEST_TIME,
+    deadline: LONGEST_TIME,
     ..ONE
 };
 

@@ -8,13 +8,13 @@ use Rattle.crpd_base.specs.declared.data.TaskPart.{TaskPart}
 use Rattle.crpd_base.specs.declared.data.Certificate.{Certificate}
 use Rattle.crpd_base.specs.declared.data.Method.{Method}
 use Rattle.crpd_base.specs.declared.data.Part.{Part}
-use Rattle.flat_graph.specs.CodeGraph.{CodeGraph, HasCode}
+use Rattle.flat_graph.specs.CodeGraph.{CodeGraph, HasCode, no_graph}
 use Rattle.loop_regions.specs.CodeNest.{CodeNest}
 use Rattle.evict_sets.specs.Certificate.{cert_at}
 use Rattle.delay_count.specs.Demand.{demand}
 use Rattle.response.specs.Windows.{IsFirstWithout}
 use Rattle.cert_check.specs.Judge.{longest_at}
-use Rattle.cert_check.specs.Shown.{no_graph, AreShown}
+use Rattle.cert_check.specs.Shown.{AreShown}
 use Rattle.crpd_base.proofs.Times.{has_times}
 use Rattle.cert_model.specs.Ranges.{IsCertificate}
 use Rattle.cert_model.specs.Reading.{entries}

@@ -2,13 +2,13 @@
 use Rattle.std.proofs.Common.{ℕ, ◌<◌, List, length, inl, inr}
 use Rattle.crpd_base.specs.declared.data.TaskSet.{TaskSet}
 use Rattle.crpd_base.specs.declared.data.Certificate.{Certificate}
-use Rattle.flat_graph.specs.CodeGraph.{CodeGraph}
+use Rattle.flat_graph.specs.CodeGraph.{CodeGraph, graph_at}
 use Rattle.loop_regions.specs.CodeNest.{CodeNest}
 use Rattle.evict_sets.specs.Certificate.{cert_at}
 use Rattle.cert_check.specs.declared.outcome.Clause.{Clause}
 use Rattle.cert_check.specs.Judge.{window_at}
 use Rattle.cert_check.specs.Verdict.{GraphHolds, IsYes}
-use Rattle.cert_check.specs.Shown.{shown_at, graph_at, nest_at}
+use Rattle.cert_check.specs.Shown.{shown_at, nest_at}
 use Rattle.cert_check.proofs.Clauses.{all_hold, graph_part}
 use Rattle.cert_build.specs.Best.{IsBestPart, IsBest, demand_of}
 use Rattle.response.proofs.WindowLaws.{smaller_is_window}

@@ -6,11 +6,11 @@ use Rattle.crpd_base.specs.declared.data.TaskSet.{TaskSet}
 use Rattle.crpd_base.specs.declared.data.TaskPart.{TaskPart}
 use Rattle.crpd_base.specs.declared.data.Certificate.{Certificate}
 use Rattle.crpd_base.specs.declared.data.LoopAt.{LoopAt}
-use Rattle.flat_graph.specs.CodeGraph.{CodeGraph, HasCode, graph_of, places_of}
+use Rattle.flat_graph.specs.CodeGraph.{CodeGraph, HasCode, graph_of, places_of, graph_at}
 use Rattle.loop_regions.specs.CodeNest.{CodeNest, nest_of}
 use Rattle.loop_regions.specs.Stated.{IsAccepted, IsRegions}
 use Rattle.loop_regions.specs.TaskGraph.{TaskGraph}
-use Rattle.cert_check.specs.Shown.{shown, shown_at, graph_at, nest_at}
+use Rattle.cert_check.specs.Shown.{shown, shown_at, nest_at}
 use Rattle.cert_check.specs.declared.outcome.Clause.{Clause}
 use Rattle.cert_check.specs.Verdict.{IsJudged, Yes, GraphHolds}
 use Rattle.cert_build.specs.Best.{IsBest, IsBestPart}

@@ -1,10 +1,12 @@
 -- Runs to which a piece is added.
-use Rattle.std.proofs.Common.{◌≡◌, ℕ, ◌<◌, ◌≤◌, Bool, false, List, [], ◌∷◌, ◌++◌, length, get_or, Option, Some, None, refl, ap, sym, subst, ◌∙◌, ⊎_elim, arith, suc, zero, length-append}
+use Rattle.std.proofs.Common.{◌≡◌, ℕ, ◌<◌, ◌≤◌, Bool, false, List, [], ◌∷◌, ◌++◌, length, get_or, Option, Some, None, refl, ap, sym, subst, ◌∙◌, ⊎_elim, arith, length-append}
 use Rattle.std.specs.Prelude.{All, AllPairs}
 use Rattle.std.specs.Option.{option_or}
 use Rattle.std.proofs.lemmas.List.{get_or_append_left}
 use Rattle.std.proofs.Math.Seq.{get_or-append_seam}
 use Rattle.std.proofs.lemmas.List.Quantifiers.{all_pairs_push}
+use Rattle.std.proofs.lemmas.List.Elements.{All-push}
+use Rattle.std.proofs.lemmas.Bool.{cases_lt}
 use Rattle.code_map.specs.declared.pieces.Piece.{Piece}
 use Rattle.code_map.specs.declared.runs.Run.{Run}
 use Rattle.code_map.specs.Conflicts.{differ, IsFirst}
@@ -12,7 +14,7 @@ use Rattle.code_map.specs.Joined.{HasPiece, TakesPiece}
 use Rattle.code_map.specs.Pieces.{piece_byte}
 use Rattle.code_map.specs.Runs.{run_byte, runs_byte, end_of, IsBefore}
 use Rattle.code_map.proofs.First.{found_append, found_none, or_assoc, or_nothing}
-use Rattle.code_map.proofs.Found.{before_none, in_order, past_none}
+use Rattle.code_map.proofs.Found.{before_none, past_none}
 
 -- ---- lists with one element more
 
@@ -35,12 +37,6 @@ all_last : {X : Type 0} (P : X → Type 0) (xs : List X) (y : X) → All P (xs +
 all_last P xs y all =
     let long : length xs < length (xs ++ y ∷ []) = omega (arith, length-append xs (y ∷ [])) in
     subst P (get_or-append_seam xs y [] y) (all (length xs) y long)
-
-pub all_more : {X : Type 0} (P : X → Type 0) (xs : List X) (y : X) → All P xs → P y → All P (xs ++ y ∷ [])
-all_more P [] y all one zero d lt = one
-all_more P [] y all one (suc k) d lt = absurd (omega arith)
-all_more P (x ∷ xs) y all one zero d lt = all 0 d (omega arith)
-all_more P (x ∷ xs) y all one (suc k) d lt = all_more P xs y (λ j d lt. all (suc j) d (omega arith)) one k d (omega arith)
 
 -- ---- tests that are the same
 
@@ -71,13 +67,13 @@ module _ (front : List Run) (last : Run) (p : Piece) (takes : TakesPiece (front 
   same_test a = ⊎_elim
       (λ (less : a < p.start). rw (before_none p.start p.bytes.now a less) (differ_none (runs_byte (front ++ last ∷ []) a) ∙ sym (differ_none (run_byte last a))))
       (λ (le : p.start ≤ a). ap (λ o. differ o (piece_byte p a)) (old_is a le))
-      (in_order a p.start)
+      (cases_lt a p.start)
 
   pub joined_last : (longer : Run) (new : List Run) (o : Option ℕ) → longer.start ≡ last.start → ((a : ℕ) → run_byte longer a ≡ option_or (run_byte last a) (piece_byte p a))
       → IsFirst (λ a. differ (run_byte last a) (piece_byte p a)) o → new ≡ front ++ longer ∷ [] → HasPiece (front ++ last ∷ []) p new o
   joined_last longer new o same bytes conflict e = rw e (record {
     apart = all_pairs_push IsBefore front longer (pairs_front IsBefore front last takes.apart) (λ k d lt. let h : end_of (get_or front k d) < last.start = pairs_last IsBefore front last takes.apart k d lt in omega arith);
-    starts = all_more (λ (r : Run). r.start ≤ p.start) front longer (all_front (λ (r : Run). r.start ≤ p.start) front last takes.starts) (omega (arith, from));
+    starts = All-push (λ (r : Run). r.start ≤ p.start) front longer (all_front (λ (r : Run). r.start ≤ p.start) front last takes.starts) (omega (arith, from));
     bytes = λ a. runs_more front longer a ∙ (ap (option_or (runs_byte front a)) (bytes a) ∙ (sym (or_assoc (runs_byte front a) (run_byte last a) (piece_byte p a)) ∙ ap (λ o. option_or o (piece_byte p a)) (sym (runs_more front last a))));
     conflict = first_same (λ a. differ (runs_byte (front ++ last ∷ []) a) (piece_byte p a)) (λ a. differ (run_byte last a) (piece_byte p a)) o same_test conflict;
   })
@@ -86,20 +82,20 @@ module _ (front : List Run) (last : Run) (p : Piece) (takes : TakesPiece (front 
   pub begun : (next : Run) (new : List Run) → end_of last < p.start → next.start ≡ p.start → ((a : ℕ) → run_byte next a ≡ piece_byte p a)
       → new ≡ (front ++ last ∷ []) ++ next ∷ [] → HasPiece (front ++ last ∷ []) p new None
   begun next new gap same bytes e = rw e (record {
-    apart = all_pairs_push IsBefore (front ++ last ∷ []) next takes.apart (all_more (λ r. IsBefore r next) front last (λ k d lt. let h : end_of (get_or front k d) < last.start = pairs_last IsBefore front last takes.apart k d lt in omega (arith, from)) (omega arith));
-    starts = all_more (λ (r : Run). r.start ≤ p.start) (front ++ last ∷ []) next takes.starts (omega arith);
+    apart = all_pairs_push IsBefore (front ++ last ∷ []) next takes.apart (All-push (λ r. IsBefore r next) front last (λ k d lt. let h : end_of (get_or front k d) < last.start = pairs_last IsBefore front last takes.apart k d lt in omega (arith, from)) (omega arith));
+    starts = All-push (λ (r : Run). r.start ≤ p.start) (front ++ last ∷ []) next takes.starts (omega arith);
     bytes = λ a. runs_more (front ++ last ∷ []) next a ∙ ap (option_or (runs_byte (front ++ last ∷ []) a)) (bytes a);
     conflict = λ a. same_test a ∙ ⊎_elim
         (λ (less : a < p.start). rw (before_none p.start p.bytes.now a less) (differ_none (run_byte last a)))
         (λ (le : p.start ≤ a). rw (past_none last.start last.bytes a (omega arith)) refl)
-        (in_order a p.start);
+        (cases_lt a p.start);
   })
 
 -- the first piece
 pub first_run : (next : Run) (p : Piece) (new : List Run) → next.start ≡ p.start → ((a : ℕ) → run_byte next a ≡ piece_byte p a) → new ≡ next ∷ [] → HasPiece [] p new None
 first_run next p new same bytes e = rw e (record {
   apart = λ i j d lt in'. absurd (omega arith);
-  starts = all_more (λ (r : Run). r.start ≤ p.start) [] next (λ k d lt. absurd (omega arith)) (omega arith);
+  starts = All-push (λ (r : Run). r.start ≤ p.start) [] next (λ k d lt. absurd (omega arith)) (omega arith);
   bytes = λ a. or_nothing (run_byte next a) ∙ bytes a;
   conflict = λ a. refl;
 })

@@ -2,11 +2,8 @@
 use Rattle.std.proofs.Common.{◌≡◌, ℕ, ◌<◌, List, [], ◌∷◌, ◌++◌, ◌⊎◌, length, get_or, Option, Some, None, refl, ap, sym, ◌∙◌, inl, inr, ⊎_elim, arith, suc, zero}
 use Rattle.std.specs.Option.{option_or}
 use Rattle.std.proofs.lemmas.Option.{none-some}
+use Rattle.crpd_base.proofs.Options.{none_or_some}
 use Rattle.code_map.specs.Words.{find_map}
-
-pub option_cases : {Y : Type 0} (o : Option Y) → (o ≡ None) ⊎ ((y : Y) × (o ≡ Some y))
-option_cases None = inl refl
-option_cases (Some y) = inr (y, refl)
 
 or_some : {Y : Type 0} (o p : Option Y) (y : Y) → option_or o p ≡ Some y → (o ≡ Some y) ⊎ ((o ≡ None) × (p ≡ Some y))
 or_some None p y e = inr (refl, e)
@@ -48,7 +45,7 @@ pub found_at : {X Y : Type 0} (f : X → Option Y) (xs : List X) (k : ℕ) (d : 
 found_at f xs k d y lt e = ⊎_elim
     (λ (none : find_map f xs ≡ None). absurd (none-some y (sym (none_found f xs none k d lt) ∙ e)))
     (λ (some : (z : _) × (find_map f xs ≡ Some z)). some)
-    (option_cases (find_map f xs))
+    (none_or_some (find_map f xs))
 
 pub found_append : {X Y : Type 0} (f : X → Option Y) (xs ys : List X) → find_map f (xs ++ ys) ≡ option_or (find_map f xs) (find_map f ys)
 found_append f [] ys = refl

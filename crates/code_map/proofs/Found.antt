@@ -1,10 +1,10 @@
 -- Where runs have their bytes.
-use Rattle.std.proofs.Common.{◌≡◌, ℕ, ◌+◌, ◌-◌, ◌%◌, ◌<◌, ◌≤◌, leb, eq-eqb, true, false, List, [], ◌∷◌, ◌⊎◌, length, get_or, Option, Some, None, refl, ap, sym, subst, ◌∙◌, inl, inr, ⊎_elim, arith, suc, zero}
+use Rattle.std.proofs.Common.{◌≡◌, ℕ, ◌+◌, ◌-◌, ◌%◌, ◌<◌, ◌≤◌, eq-eqb, List, [], ◌∷◌, ◌⊎◌, length, get_or, Option, Some, None, refl, ap, sym, subst, ◌∙◌, inl, inr, ⊎_elim, arith, suc, zero}
 use Rattle.std.specs.Prelude.{AllPairs}
 use Rattle.std.specs.List.{AllWithin}
 use Rattle.std.specs.List.Sorted.{IsNonDecreasingBy}
 use Rattle.std.proofs.Math.Nat.{eq-or-lt_of_le}
-use Rattle.std.proofs.lemmas.Bool.{cases_Bool, leb-true, leb-false, le-leb, ne_eqb}
+use Rattle.std.proofs.lemmas.Bool.{le-leb, ne_eqb, cases_lt}
 use Rattle.std.proofs.lemmas.Option.{none-some, slice_get_past, slice_get_within}
 use Rattle.code_map.specs.declared.runs.Run.{Run}
 use Rattle.code_map.specs.Words.{byte_from, little_endian, word_by, end}
@@ -21,9 +21,6 @@ ascending rs apart i j d le lt = ⊎_elim
     (λ (e : i < j). let h : end_of (get_or rs i d) < (get_or rs j d).start = apart i j d e lt in omega arith)
     (eq-or-lt_of_le le)
 
-pub in_order : (a b : ℕ) → (a < b) ⊎ (b ≤ a)
-in_order a b = ⊎_elim (λ (e : leb b a ≡ true). inr (leb-true b a e)) (λ (e : leb b a ≡ false). inl (leb-false b a e)) (cases_Bool (leb b a))
-
 -- ---- where bytes stand from a start on
 
 pub past_none : (start : ℕ) (bytes : List ℕ) (a : ℕ) → start + length bytes ≤ a → byte_from start bytes a ≡ None
@@ -36,7 +33,7 @@ pub some_within : (start : ℕ) (bytes : List ℕ) (a x : ℕ) → byte_from sta
 some_within start bytes a x e = ⊎_elim
     (λ (le : start ≤ a). (le, omega (arith, slice_get_within bytes (a - start) x (rw (le-leb start a le) at e))))
     (λ (lt : a < start). absurd (none-some x (sym (before_none start bytes a lt) ∙ e)))
-    (⊎_elim (λ (lt : a < start). inr lt) (λ (le : start ≤ a). inl le) (in_order a start))
+    (⊎_elim (λ (lt : a < start). inr lt) (λ (le : start ≤ a). inl le) (cases_lt a start))
 
 -- ---- the run up to an address has its bytes
 
@@ -54,7 +51,7 @@ run_has rs n x apart lt from next = found_only (λ r. run_byte r x) rs n blank l
     let same : (get_or rs n d).start ≤ x = subst (λ (r : Run). r.start ≤ x) (get_or_same rs n blank d lt) from in
     past_none (get_or rs k d).start (get_or rs k d).bytes x (omega arith))
     (λ (more : n ≤ k). let gt : n < k = other n k more ne in before_none (get_or rs k d).start (get_or rs k d).bytes x (next k d gt in'))
-    (in_order k n))
+    (cases_lt k n))
   where
     other : (n k : ℕ) → n ≤ k → (k ≡ n → ⊥) → n < k
     other n k le ne = ⊎_elim (λ (e : n ≡ k). absurd (ne (sym e))) (λ (lt : n < k). lt) (eq-or-lt_of_le le)
@@ -77,12 +74,12 @@ same_number f g a e here same gone = ⊎_elim
     (λ (less : a + 2 < e). let three : f (a + 3) ≡ g (a + 3) = same (a + 3) (omega arith) (omega arith) in rw (here, one, two, three) refl)
     (λ (past : e ≤ a + 2). let none : g (a + 2) ≡ None = gone (a + 2) past in
     rw (here, one, two, none) refl)
-    (in_order (a + 2) e))
+    (cases_lt (a + 2) e))
     (λ (past : e ≤ a + 1). let none : g (a + 1) ≡ None = gone (a + 1) past in
     rw (here, one, none) (little_2 (g a) (f (a + 2)) (f (a + 3)) ∙ sym (little_2 (g a) (g (a + 2)) (g (a + 3)))))
-    (in_order (a + 1) e))
+    (cases_lt (a + 1) e))
     (λ (past : e ≤ a). let none : g a ≡ None = gone a past in rw (here, none) refl)
-    (in_order a e)
+    (cases_lt a e)
 
 -- the number at an address is that of the run up to it
 pub number_of_run : (rs : List Run) (n a : ℕ) → AllPairs IsBefore rs → n < length rs

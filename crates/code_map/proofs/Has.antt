@@ -1,12 +1,15 @@
 -- Which numbers a function has of the elements of a list, in any order.
-use Rattle.std.proofs.Common.{◌≡◌, ℕ, ◌<◌, eqb, eqb-true, eq-eqb, Bool, true, false, List, [], ◌∷◌, length, get_or, Option, Some, None, refl, ap, sym, ◌∙◌, ⊎_elim, arith, suc, zero}
+use Rattle.std.proofs.Common.{◌≡◌, ℕ, ◌<◌, eqb, eqb-true, eq-eqb, Bool, true, false, List, [], ◌∷◌, length, get_or, Option, Some, None, refl, ap, sym, ◌∙◌, ⊎_elim, arith, suc}
 use Rattle.std.specs.Prelude.{not}
 use Rattle.std.specs.List.{list_any}
 use Rattle.std.proofs.lemmas.Bool.{cases_Bool, ne_eqb}
 use Rattle.std.proofs.lemmas.Option.{none-some}
+use Rattle.std.proofs.lemmas.List.Folds.{list_any_at}
+use Rattle.std.specs.Cmp.{both_ways}
+use Rattle.crpd_base.proofs.Options.{none_or_some}
 use Rattle.code_map.specs.Conflicts.{differ, disagree}
 use Rattle.code_map.specs.Words.{find_map}
-use Rattle.code_map.proofs.First.{found_at, found_some, option_cases}
+use Rattle.code_map.proofs.First.{found_at, found_some}
 
 -- a number is this one
 abbrev pub equals : ℕ → Option ℕ → Bool
@@ -36,26 +39,13 @@ any_at p (x ∷ xs) e = ⊎_elim
     (λ (none : p x ≡ false). let r = any_at p xs (rw none at e) in (suc r.0, omega arith, r.2))
     (cases_Bool (p x))
 
-pub any_true : {X : Type 0} (p : X → Bool) (xs : List X) (k : ℕ) (d : X) → k < length xs → p (get_or xs k d) ≡ true → list_any p xs ≡ true
-any_true p [] k d lt e = absurd (omega arith)
-any_true p (x ∷ xs) zero d lt e = rw e refl
-any_true p (x ∷ xs) (suc k) d lt e = ⊎_elim
-    (λ (here : p x ≡ true). rw here refl)
-    (λ (none : p x ≡ false). rw none (any_true p xs k d (omega arith) e))
-    (cases_Bool (p x))
-
-pub both_ways : (b c : Bool) → (b ≡ true → c ≡ true) → (c ≡ true → b ≡ true) → b ≡ c
-both_ways true c f g = sym (f refl)
-both_ways false true f g = g refl
-both_ways false false f g = refl
-
 -- ---- what is found
 
 pub has_found : {X : Type 0} (f : X → Option ℕ) (xs : List X) (u : ℕ) → find_map f xs ≡ Some u → has f xs u ≡ true
 has_found f [] u e = absurd (none-some u e)
 has_found f (x ∷ xs) u e =
     let r = found_some f (x ∷ xs) u e in
-    any_true (λ x. equals u (f x)) (x ∷ xs) r.0 x r.1 (equals_some u (f (get_or (x ∷ xs) r.0 x)) (r.2 x))
+    list_any_at (λ x. equals u (f x)) (x ∷ xs) r.0 x r.1 (equals_some u (f (get_or (x ∷ xs) r.0 x)) (r.2 x))
 
 pub found_has : {X : Type 0} (f : X → Option ℕ) (xs : List X) (u : ℕ) → has f xs u ≡ true → (w : ℕ) × (find_map f xs ≡ Some w)
 found_has f [] u e = absurd cc
@@ -83,13 +73,13 @@ two f [] e = absurd cc
 two f (x ∷ xs) e =
     let r = any_at (λ z. differ (find_map f (x ∷ xs)) (f z)) (x ∷ xs) e in
     let d = differ_some (find_map f (x ∷ xs)) (f (get_or (x ∷ xs) r.0 x)) (r.2 x) in
-    (d.0, d.1, has_found f (x ∷ xs) d.0 d.2, any_true (λ z. equals d.1 (f z)) (x ∷ xs) r.0 x r.1 (equals_some d.1 (f (get_or (x ∷ xs) r.0 x)) d.3), d.4)
+    (d.0, d.1, has_found f (x ∷ xs) d.0 d.2, list_any_at (λ z. equals d.1 (f z)) (x ∷ xs) r.0 x r.1 (equals_some d.1 (f (get_or (x ∷ xs) r.0 x)) d.3), d.4)
 
 has_other : {X : Type 0} (f : X → Option ℕ) (xs : List X) (w v : ℕ) → find_map f xs ≡ Some w → has f xs v ≡ true → (w ≡ v → ⊥) → disagree f xs ≡ true
 has_other f [] w v found h ne = absurd cc
 has_other f (x ∷ xs) w v found h ne =
     let r = any_at (λ z. equals v (f z)) (x ∷ xs) h in
-    any_true (λ z. differ (find_map f (x ∷ xs)) (f z)) (x ∷ xs) r.0 x r.1 (differs_in (find_map f (x ∷ xs)) (f (get_or (x ∷ xs) r.0 x)) w v found (equals_true v (f (get_or (x ∷ xs) r.0 x)) (r.2 x)) ne)
+    list_any_at (λ z. differ (find_map f (x ∷ xs)) (f z)) (x ∷ xs) r.0 x r.1 (differs_in (find_map f (x ∷ xs)) (f (get_or (x ∷ xs) r.0 x)) w v found (equals_true v (f (get_or (x ∷ xs) r.0 x)) (r.2 x)) ne)
 
 -- of two numbers a function disagrees
 pub of_two : {X : Type 0} (f : X → Option ℕ) (xs : List X) (u v : ℕ) → has f xs u ≡ true → has f xs v ≡ true → (u ≡ v → ⊥) → disagree f xs ≡ true
@@ -116,7 +106,7 @@ module _ {X Y : Type 0} (f : X → Option ℕ) (xs : List X) (g : Y → Option �
       (λ (none : find_map f xs ≡ None). none ∙ ⊎_elim
       (λ (too : find_map g ys ≡ None). sym too)
       (λ (some : (w : ℕ) × (find_map g ys ≡ Some w)). let back = found_has f xs some.0 (same some.0 ∙ has_found g ys some.0 some.1) in absurd (none-some back.0 (sym none ∙ back.1)))
-      (option_cases (find_map g ys)))
+      (none_or_some (find_map g ys)))
       (λ (some : (w : ℕ) × (find_map f xs ≡ Some w)).
       let there : has g ys some.0 ≡ true = sym (same some.0) ∙ has_found f xs some.0 some.1 in
       let found = found_has g ys some.0 there in
@@ -124,7 +114,7 @@ module _ {X Y : Type 0} (f : X → Option ℕ) (xs : List X) (g : Y → Option �
       (λ (e : eqb found.0 some.0 ≡ true). ap Some (sym (eqb-true found.0 some.0 e)) ∙ sym found.1)
       (λ (e : eqb found.0 some.0 ≡ false). absurd (false_is_true (sym agree ∙ has_other g ys found.0 some.0 found.1 there (λ s. false_is_true (sym e ∙ eq-eqb found.0 some.0 s)))))
       (cases_Bool (eqb found.0 some.0)))
-      (option_cases (find_map f xs))
+      (none_or_some (find_map f xs))
     where
       false_is_true : false ≡ true → ⊥
       false_is_true e = cc

@@ -3,7 +3,7 @@ use Rattle.std.proofs.Common.{◌≡◌, ℕ, ◌+◌, ◌-◌, ◌^◌, ◌<◌
 use Rattle.std.specs.Prelude.{All, AllPairs, IfOk, OnOk, map, filter, slice_get}
 use Rattle.std.specs.List.Sorted.{IsPermutation}
 use Rattle.std.specs.declared.alloc.AllocError.{AllocError}
-use Rattle.std.proofs.lemmas.Bool.{cases_Bool, le-leb}
+use Rattle.std.proofs.lemmas.Bool.{cases_Bool, le-leb, cases_lt}
 use Rattle.std.proofs.lemmas.Option.{get_or_from_slice_get, none-some, same_Some, slice_get_within}
 use Rattle.std.proofs.lemmas.List.Elements.{All-append, All-filter, All-map, All-nil}
 use Rattle.std.proofs.lemmas.List.Folds.{list_any-append}
@@ -22,9 +22,10 @@ use Rattle.code_map.proofs.First.{found_some, or_nothing}
 use Rattle.code_map.proofs.Sweep.{no_piece, same_never}
 use Rattle.std.proofs.lemmas.List.{get_or_append_left}
 use Rattle.std.proofs.Math.Seq.{get_or-append_seam}
-use Rattle.code_map.proofs.Found.{before_none, in_order, some_within}
+use Rattle.std.specs.Cmp.{both_ways}
+use Rattle.code_map.proofs.Found.{before_none, some_within}
 use Rattle.code_map.proofs.Adding.{first_same}
-use Rattle.code_map.proofs.Has.{any_at, both_ways, equals, equals_itself, equals_true, found_has, has, has_found, two, same_disagree, same_found}
+use Rattle.code_map.proofs.Has.{any_at, equals, equals_itself, equals_true, found_has, has, has_found, two, same_disagree, same_found}
 
 -- the byte of a piece
 abbrev pub byte_at : ℕ → ℕ × List ℕ → Option ℕ
@@ -40,6 +41,10 @@ has_segments a u (s ∷ ss) = ⊎_elim
     (λ (e : s.executable ≡ true). rw e (ap (λ b. equals u (byte_from s.address s.bytes a) || b) (has_segments a u ss)))
     (λ (e : s.executable ≡ false). rw e (has_segments a u ss))
     (cases_Bool s.executable)
+
+-- an image with nothing in it, for what a look-up gives past the end of a list
+pub no_image : Image
+no_image = record { entry = 0; segments = []; symbols = [] }
 
 -- ---- the segments of an image do not meet
 
@@ -62,8 +67,8 @@ one_segment i a u w j k image inj ink one other =
     (λ (le : k ≤ j). ⊎_elim
     (λ (less : k < j). absurd (image.apart k j blank less inj a in_k in_j))
     (λ (ge : j ≤ k). let same : j ≡ k = omega arith in same_Some u w (sym one ∙ (ap (λ n. segment_byte (get_or i.segments n blank) a) same ∙ other)))
-    (in_order k j))
-    (in_order j k)
+    (cases_lt k j))
+    (cases_lt j k)
 
 has_image : (i : Image) (a u : ℕ) → IsImage i → has (λ s. segment_byte s a) i.segments u ≡ equals u (image_byte i a)
 has_image i a u image = both_ways (has (λ s. segment_byte s a) i.segments u) (equals u (image_byte i a))
@@ -101,7 +106,7 @@ least_is (suc n) p a least lt = ⊎_elim
     (λ (less : a < n). rw (least_is n p a least less) refl)
     (λ (le : n ≤ a). let same : n ≡ a = omega arith in
     rw (lower_none n p (λ b lt. least.least b (omega arith)), same, least.passes) refl)
-    (in_order a n)
+    (cases_lt a n)
 
 -- a code byte stands below 2 ^ 32
 pub byte_below : (is : List Image) (a u : ℕ) → All IsImage is → has (λ i. image_byte i a) is u ≡ true → a < 2 ^ 32
@@ -172,7 +177,7 @@ byte_in start bytes a b all e = ⊎_elim
     let at : slice_get bytes (a - start) ≡ Some b = rw (le-leb start a le) at e in
     let lt : a - start < length bytes = slice_get_within bytes (a - start) b at in
     subst (λ x. x < 256) (get_or_from_slice_get bytes (a - start) b 0 at) (all (a - start) 0 lt))
-    (in_order a start)
+    (cases_lt a start)
 
 pub code_bytes : (is : List Image) (ps : List Piece) → All IsImage is → IsPermutation (all_pieces is) (map told ps) → All HasBytes ps → (a b : ℕ) → code_byte is a ≡ Some b → b < 256
 code_bytes is ps all same bytes a b e =
@@ -218,7 +223,7 @@ indexes_more own is n rs i count lt item one all k r d below = ⊎_elim
     let at : k ≡ n = omega arith in
     let same : get_or is k d ≡ i = ap (λ m. get_or is m d) at ∙ (image_same is n d i lt ∙ sym item) in
     rw (same, seam, get_or-append_seam own rs [] r) one)
-    (in_order k n)
+    (cases_lt k n)
   where
     image_same : (xs : List Image) (n : ℕ) (c d : Image) → n < length xs → get_or xs n c ≡ get_or xs n d
     image_same [] n c d lt = absurd (omega arith)

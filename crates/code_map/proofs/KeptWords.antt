@@ -1,12 +1,12 @@
 -- What the indexes of files tell of words.
-use Rattle.std.proofs.Common.{◌≡◌, ℕ, ◌+◌, ◌*◌, ◌%◌, ◌^◌, ◌<◌, ◌≤◌, eqb, true, false, List, [], length, get_or, Option, Some, None, inl, inr, ⊎_elim, refl, ap, sym, subst, ◌∙◌, arith}
+use Rattle.std.proofs.Common.{◌≡◌, ℕ, ◌+◌, ◌*◌, ◌%◌, ◌^◌, ◌<◌, ◌≤◌, eqb, true, false, List, length, get_or, Option, Some, None, inl, inr, ⊎_elim, refl, ap, sym, subst, ◌∙◌, arith}
 use Rattle.std.specs.Prelude.{slice_get, option_map, is_some, All, AllPairs, IfSome}
 use Rattle.std.proofs.lemmas.Bool.{cases_Bool, eqb-true, eqb-false, ne_eqb}
 use Rattle.std.proofs.lemmas.Option.{none-some, same_Some, slice_get-get_or}
 use Rattle.crpd_base.specs.Images.{IsImage}
 use Rattle.crpd_base.specs.declared.data.Image.{Image}
 use Rattle.code_map.proofs.Has.{has_found}
-use Rattle.code_map.proofs.Indexed.{byte_below}
+use Rattle.code_map.proofs.Indexed.{byte_below, no_image}
 use Rattle.code_map.specs.declared.files.Files.TheInside.{Inside}
 use Rattle.code_map.specs.declared.runs.Run.{Run}
 use Rattle.code_map.specs.Kept.{IsKept}
@@ -27,24 +27,21 @@ kept_word m is rs a kept view e = rw (e, ← view) (word_same (runs_byte m.runs)
 pub runs_are : (all kept : List (List Run)) (n k : _) (r rs : List Run) → all ≡ kept → n ≡ k → r ≡ get_or all n r → rs ≡ r → rs ≡ get_or kept k rs
 runs_are all kept n k r rs a b c d = subst (λ x. rs ≡ get_or kept k x) (sym d) (d ∙ (c ∙ (ap (λ x. get_or x n r) a ∙ ap (λ i. get_or kept i r) b)))
 
-blank : Image
-blank = record { entry = 0; segments = []; symbols = [] }
-
 module _ (m : Inside) (is : List Image) (rs : List Run) (k : ℕ) (kept : IsKept m) (view : m.images ≡ is) (lt : k < length is) (e : rs ≡ get_or m.own k rs) where
   within : k < length m.images
   within = subst (λ (xs : List Image). k < length xs) (sym view) lt
 
   pub own_apart : AllPairs IsBefore rs
-  own_apart = rw e ((kept.each k rs blank within).apart)
+  own_apart = rw e ((kept.each k rs no_image within).apart)
 
   pub own_word : (a : ℕ) → option_map (λ i. owns i a) (slice_get is k) ≡ Some (is_some (word_by (runs_byte rs) a))
   unfolding owns
   own_word a =
-      let image : Image = get_or is k blank in
-      let same : get_or m.images k blank ≡ image = ap (λ (xs : List Image). get_or xs k blank) view in
-      let kept_is : IsIndex (get_or m.own k rs) (image_byte image) = subst (λ i. IsIndex (get_or m.own k rs) (image_byte i)) same (kept.each k rs blank within) in
+      let image : Image = get_or is k no_image in
+      let same : get_or m.images k no_image ≡ image = ap (λ (xs : List Image). get_or xs k no_image) view in
+      let kept_is : IsIndex (get_or m.own k rs) (image_byte image) = subst (λ i. IsIndex (get_or m.own k rs) (image_byte i)) same (kept.each k rs no_image within) in
       let at : IsIndex rs (image_byte image) = subst (λ r. IsIndex r (image_byte image)) (sym e) kept_is in
-      ap (option_map (λ i. owns i a)) (slice_get-get_or is k blank lt) ∙ ap (λ w. Some (is_some w)) (sym (word_same (runs_byte rs) (image_byte image) a at.is))
+      ap (option_map (λ i. owns i a)) (slice_get-get_or is k no_image lt) ∙ ap (λ w. Some (is_some w)) (sym (word_same (runs_byte rs) (image_byte image) a at.is))
 
 -- a word ends below the end
 pub within_end : (byte : ℕ → Option ℕ) (a : ℕ) (o : Option ℕ) → a < 2 ^ 32 → o ≡ word_by byte a → IfSome o (λ _. a + 4 ≤ end)

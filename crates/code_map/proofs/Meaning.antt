@@ -1,10 +1,12 @@
 -- What a conflict is: files of different names with different code bytes at an address.
-use Rattle.std.proofs.Common.{◌≡◌, ℕ, ◌<◌, true, List, [], length, get_or, Some, ap, sym, ◌∙◌}
+use Rattle.std.proofs.Common.{◌≡◌, ℕ, ◌<◌, true, List, length, get_or, Some, ap, sym, ◌∙◌}
 use Rattle.std.proofs.lemmas.Option.{same_Some}
+use Rattle.std.proofs.lemmas.List.Folds.{list_any_at}
+use Rattle.code_map.proofs.Indexed.{no_image}
 use Rattle.crpd_base.specs.declared.data.Image.{Image}
 use Rattle.code_map.specs.Conflicts.{is_conflict}
 use Rattle.code_map.specs.Words.{image_byte}
-use Rattle.code_map.proofs.Has.{any_at, any_true, equals, equals_some, equals_true, of_two, two}
+use Rattle.code_map.proofs.Has.{any_at, equals, equals_some, equals_true, of_two, two}
 
 -- tasks that name one file have one image
 abbrev pub HasOneImageAFile : (ℕ → List ℕ) → List Image → Type 0
@@ -23,9 +25,6 @@ pub record IsConflictOf (name : ℕ → List ℕ) (images : List Image) (a : ℕ
   pub differ : byte ≡ other_byte → ⊥
   pub names : name one ≡ name other → ⊥
 
-blank : Image
-blank = record { entry = 0; segments = []; symbols = [] }
-
 pub by_names : (name : ℕ → List ℕ) (images : List Image) (a : ℕ) → HasOneImageAFile name images → is_conflict images a ≡ true → IsConflictOf name images a
 by_names name images a one e =
     let t = two (λ i. image_byte i a) images e in
@@ -43,12 +42,12 @@ by_names name images a one e =
       has_one = at_x;
       has_other = at_y;
       differ = t.4;
-      names = λ same. t.4 (same_Some t.0 t.1 (sym (at_x blank) ∙ (ap (λ i. image_byte i a) (one x.0 y.0 blank x.1 y.1 same) ∙ at_y blank)));
+      names = λ same. t.4 (same_Some t.0 t.1 (sym (at_x no_image) ∙ (ap (λ i. image_byte i a) (one x.0 y.0 no_image x.1 y.1 same) ∙ at_y no_image)));
     }
 
 pub of_names : (name : ℕ → List ℕ) (images : List Image) (a : ℕ) → IsConflictOf name images a → is_conflict images a ≡ true
 of_names name images a c =
     of_two (λ i. image_byte i a) images c.byte c.other_byte
-    (any_true (λ i. equals c.byte (image_byte i a)) images c.one blank c.in_one (equals_some c.byte (image_byte (get_or images c.one blank) a) (c.has_one blank)))
-    (any_true (λ i. equals c.other_byte (image_byte i a)) images c.other blank c.in_other (equals_some c.other_byte (image_byte (get_or images c.other blank) a) (c.has_other blank)))
+    (list_any_at (λ i. equals c.byte (image_byte i a)) images c.one no_image c.in_one (equals_some c.byte (image_byte (get_or images c.one no_image) a) (c.has_one no_image)))
+    (list_any_at (λ i. equals c.other_byte (image_byte i a)) images c.other no_image c.in_other (equals_some c.other_byte (image_byte (get_or images c.other no_image) a) (c.has_other no_image)))
     c.differ

@@ -1,11 +1,12 @@
 -- The least address from one on at which a word stands in runs.
-use Rattle.std.proofs.Common.{◌≡◌, ℕ, ◌+◌, ◌-◌, ◌%◌, ◌^◌, ◌<◌, ◌≤◌, eqb, Bool, true, false, List, [], ◌∷◌, length, get_or, Option, Some, None, refl, ap, sym, subst, ◌∙◌, ⊎_elim, arith, suc, zero}
+use Rattle.std.proofs.Common.{◌≡◌, ℕ, ◌+◌, ◌-◌, ◌%◌, ◌^◌, ◌<◌, ◌≤◌, eqb, Bool, true, false, List, length, get_or, Option, Some, None, refl, ap, sym, subst, ◌∙◌, ⊎_elim, arith}
 use Rattle.std.specs.Prelude.{AllPairs, All, is_some, max, slice_get, if◌then◌else◌, ◌&&◌, not}
 use Rattle.std.proofs.Math.Nat.{eq-or-lt_of_le}
-use Rattle.std.proofs.lemmas.Bool.{le-leb}
+use Rattle.std.proofs.lemmas.Bool.{le-leb, false_from_ne_true, cases_lt}
 use Rattle.std.proofs.Common.{take, drop}
 use Rattle.std.proofs.lemmas.List.{get_or-drop, get_or-take, length-take, length-drop}
-use Rattle.std.proofs.lemmas.Option.{none-some, same_Some, slice_get-get_or}
+use Rattle.std.proofs.lemmas.Option.{none-some, slice_get-get_or, get_or_from_slice_get}
+use Rattle.std.proofs.lemmas.List.Folds.{list_any_at}
 use Rattle.crpd_base.specs.Images.{IsImage}
 use Rattle.crpd_base.specs.declared.data.Image.{Image}
 use Rattle.code_map.specs.declared.files.Files.TheInside.{Inside}
@@ -15,17 +16,13 @@ use Rattle.code_map.specs.Next.{IsNext, IsNextOf, IsNextAddress}
 use Rattle.code_map.specs.Words.{byte_from, image_byte, little_endian, owns, word_by, end}
 use Rattle.code_map.specs.Runs.{run_byte, runs_byte, has_word, have_word, end_of, IsBefore, IsIndex}
 use Rattle.code_map.proofs.First.{found_some}
-use Rattle.code_map.proofs.Found.{ascending, blank, in_order, get_or_same, number_of_run, some_within, word_there}
-use Rattle.code_map.proofs.Has.{any_true, equals_some, equals}
+use Rattle.code_map.proofs.Found.{ascending, blank, get_or_same, number_of_run, some_within, word_there}
+use Rattle.code_map.proofs.Has.{equals_some, equals}
 use Rattle.code_map.proofs.Indexed.{byte_below}
 use Rattle.code_map.proofs.KeptWords.{word_same, word_where}
 
 false_true : false ≡ true → ⊥
 false_true e = cc
-
-not_true : (b : Bool) → (b ≡ true → ⊥) → b ≡ false
-not_true true h = absurd (h refl)
-not_true false h = refl
 
 some_of : (o : Option ℕ) → is_some o ≡ true → (w : ℕ) × (o ≡ Some w)
 some_of None e = absurd (false_true e)
@@ -73,7 +70,7 @@ word_needs r a h =
     (t.0, t.1, first.0, omega arith)
 
 no_word : (r : Run) (a : ℕ) → ((a % 4) ≡ 0 → (a ≡ end → ⊥) → r.start ≤ a → a + 4 ≤ end_of r → ⊥) → has_word r a ≡ false
-no_word r a h = not_true (has_word r a) (λ e. let n = word_needs r a e in h n.0 n.1 n.2 n.3)
+no_word r a h = false_from_ne_true (has_word r a) (λ e. let n = word_needs r a e in h n.0 n.1 n.2 n.3)
 
 module _ (r : Run) (start low : ℕ) (is_low : low ≡ max r.start start) where
   -- no word stands behind the end of the addresses
@@ -119,7 +116,7 @@ module _ (rs : List Run) (apart : AllPairs IsBefore rs) where
       let same : end_of (get_or rs k d) ≡ end_of (get_or rs k blank) = ap end_of (get_or_same rs k d blank lt) in omega arith)))
 
   none_in_all : (a : ℕ) → ((k : ℕ) → k < length rs → has_word (get_or rs k blank) a ≡ false) → have_word rs a ≡ false
-  none_in_all a none = not_true (have_word rs a) (λ e.
+  none_in_all a none = false_from_ne_true (have_word rs a) (λ e.
       let w = some_of (word_by (runs_byte rs) a) e in
       let t = word_where (runs_byte rs) a w.0 w.1 in
       let ends = little_ends (runs_byte rs a) (runs_byte rs (a + 1)) (runs_byte rs (a + 2)) (runs_byte rs (a + 3)) w.0 t.2 in
@@ -159,16 +156,10 @@ module _ (rs : List Run) (apart : AllPairs IsBefore rs) where
             let h : end_of (get_or rs k blank) < (get_or rs j blank).start = apart k j blank gt in' in
             let fits : a + 4 ≤ end_of (get_or rs k blank) = n.3 in omega arith))
             (eq-or-lt_of_le more))
-            (in_order j k));
+            (cases_lt j k));
       }
 
 -- ---- a file
-
--- the element at a place of a list
-pub at_place : {X : Type 0} (xs : List X) (k : ℕ) (x d : X) → slice_get xs k ≡ Some x → get_or xs k d ≡ x
-at_place [] k x d e = absurd (none-some x e)
-at_place (y ∷ ys) zero x d e = same_Some y x e
-at_place (y ∷ ys) (suc k) x d e = at_place ys k x d e
 
 module _ (is : List Image) (images : All IsImage is) (k : ℕ) (i : Image) (lt : k < length is) (at : (d : Image) → get_or is k d ≡ i) (rs : List Run) (index : IsIndex rs (image_byte i)) where
   own_same : (a : ℕ) → owns i a ≡ have_word rs a
@@ -178,11 +169,11 @@ module _ (is : List Image) (images : All IsImage is) (k : ℕ) (i : Image) (lt :
   -- an address with a word is below 2 ^ 32
   own_below : (a : ℕ) → 2 ^ 32 ≤ a → owns i a ≡ false
   unfolding owns
-  own_below a past = not_true (owns i a) (λ e.
+  own_below a past = false_from_ne_true (owns i a) (λ e.
       let w = some_of (word_by (image_byte i) a) e in
       let t = word_where (image_byte i) a w.0 w.1 in
       let ends = little_ends (image_byte i a) (image_byte i (a + 1)) (image_byte i (a + 2)) (image_byte i (a + 3)) w.0 t.2 in
-      let below : a < 2 ^ 32 = byte_below is a ends.0.0 images (any_true (λ j. equals ends.0.0 (image_byte j a)) is k i lt
+      let below : a < 2 ^ 32 = byte_below is a ends.0.0 images (list_any_at (λ j. equals ends.0.0 (image_byte j a)) is k i lt
       (subst (λ j. equals ends.0.0 (image_byte j a) ≡ true) (sym (at i)) (equals_some ends.0.0 (image_byte i a) ends.0.1))) in
       omega arith)
 
@@ -190,7 +181,7 @@ module _ (is : List Image) (images : All IsImage is) (k : ℕ) (i : Image) (lt :
   own_next start None none = λ a from. ⊎_elim
       (λ (below : a < 2 ^ 32). own_same a ∙ none a from below)
       (λ (past : 2 ^ 32 ≤ a). own_below a past)
-      (in_order a (2 ^ 32))
+      (cases_lt a (2 ^ 32))
   own_next start (Some a) next = record {
     reached = next.reached;
     passes = own_same a ∙ next.passes;
@@ -203,7 +194,7 @@ module _ (m : Inside) (is : List Image) (rs : List Run) (k : ℕ) (kept : IsKept
   kept_next i at start o next =
       let images : All IsImage is = rw (← view) kept.images in
       let within : k < length m.images = subst (λ (xs : List Image). k < length xs) (sym view) lt in
-      let same : get_or m.images k i ≡ i = ap (λ (xs : List Image). get_or xs k i) view ∙ at_place is k i i at in
+      let same : get_or m.images k i ≡ i = ap (λ (xs : List Image). get_or xs k i) view ∙ get_or_from_slice_get is k i i at in
       let kept_is : IsIndex (get_or m.own k rs) (image_byte i) = subst (λ j. IsIndex (get_or m.own k rs) (image_byte j)) same (kept.each k rs i within) in
       let index : IsIndex rs (image_byte i) = subst (λ r. IsIndex r (image_byte i)) (sym e) kept_is in
-      own_next is images k i lt (λ d. at_place is k i d at) rs index start o next
+      own_next is images k i lt (λ d. get_or_from_slice_get is k i d at) rs index start o next

@@ -2,12 +2,12 @@
 use Rattle.std.proofs.Common.{◌≡◌, ℕ, ◌+◌, ◌<◌, ◌≤◌, List, [], ◌∷◌, ◌++◌, length, drop, get_or, Option, Result, Ok, Err, refl, ap, sym, ◌∙◌}
 use Rattle.std.proofs.Math.ListN.{drop_of_length-le}
 use Rattle.std.proofs.lemmas.List.{drop_more, append-nil}
+use Rattle.crpd_base.proofs.Results.{with_front, with_front_pair}
 use Rattle.crpd_base.specs.declared.data.Image.{Image}
 use Rattle.crpd_base.specs.declared.data.TaskPlan.{TaskPlan}
 use Rattle.crpd_base.specs.declared.data.TaskSpec.{TaskSpec}
 use Rattle.code_map.specs.declared.fault.MapError.{MapError}
 use Rattle.code_map.specs.Places.{plan_of, plans_of}
-use Rattle.code_map.proofs.Turns.{with_front, with_front_pair}
 
 module _ (word : ℕ → Option ℕ) (front : List TaskPlan) (ts : List TaskSpec) (is : List Image) (n : ℕ) (t : TaskSpec) (i : Image) (lt : n < length ts) (too : n < length is)
     (task : t ≡ get_or ts n t) (image : i ≡ get_or is n i) (all : Result (List TaskPlan) MapError) (so_far : with_front front (plans_of word n (drop n ts) (drop n is)) ≡ all) where

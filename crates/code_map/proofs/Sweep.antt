@@ -6,6 +6,8 @@ use Rattle.std.specs.List.{list_any}
 use Rattle.std.specs.List.Sorted.{IsNonDecreasingBy}
 use Rattle.std.proofs.lemmas.List.{take_more}
 use Rattle.std.proofs.lemmas.List.Folds.{list_any-append}
+use Rattle.std.proofs.lemmas.Bool.{cases_lt}
+use Rattle.crpd_base.proofs.Options.{none_or_some}
 use Rattle.code_map.specs.declared.pieces.Piece.{Piece}
 use Rattle.code_map.specs.declared.runs.Run.{Run}
 use Rattle.code_map.specs.Conflicts.{differ, disagree, IsFirst}
@@ -13,9 +15,8 @@ use Rattle.code_map.specs.Joined.{HasPiece, TakesPiece, lesser}
 use Rattle.code_map.specs.Pieces.{piece_byte}
 use Rattle.code_map.specs.Runs.{runs_byte, IsBefore}
 use Rattle.code_map.specs.Words.{find_map}
-use Rattle.code_map.proofs.First.{found_append, or_nothing, or_none, option_cases}
+use Rattle.code_map.proofs.First.{found_append, or_nothing, or_none}
 use Rattle.code_map.proofs.Adding.{differ_none, first_same}
-use Rattle.code_map.proofs.Found.{in_order}
 
 -- ---- one element more
 
@@ -31,7 +32,7 @@ none_differ f o (x ∷ xs) e =
     rw (parts.0, differ_none o) (none_differ f o xs parts.1)
 
 pub disagree_more : {X : Type 0} (f : X → Option ℕ) (xs : List X) (y : X) → disagree f (xs ++ y ∷ []) ≡ (disagree f xs || differ (find_map f xs) (f y))
-disagree_more f xs y = list_any-append (λ x. differ (find_map f (xs ++ y ∷ [])) (f x)) xs (y ∷ []) ∙ step (option_cases (find_map f xs))
+disagree_more f xs y = list_any-append (λ x. differ (find_map f (xs ++ y ∷ [])) (f x)) xs (y ∷ []) ∙ step (none_or_some (find_map f xs))
   where
     all : find_map f (xs ++ y ∷ []) ≡ option_or (find_map f xs) (f y)
     all = found_append f xs (y ∷ []) ∙ ap (option_or (find_map f xs)) (or_nothing (f y))
@@ -60,7 +61,7 @@ lesser_first p q r (Some x) (Some y) one other is = record {
   passes = ⊎_elim
       (λ (less : x < y). let m : min x y ≡ x = omega arith in rw m (is x ∙ rw (one.passes) refl))
       (λ (le : y ≤ x). let m : min x y ≡ y = omega arith in rw m (is y ∙ rw (other.passes) (or_true (p y))))
-      (in_order x y);
+      (cases_lt x y);
   least = λ b lt. is b ∙ rw (one.least b (omega arith), other.least b (omega arith)) refl;
 }
   where

@@ -1,16 +1,9 @@
 -- A loop that keeps what it read in front of what is left to read.
-use Rattle.std.proofs.Common.{◌≡◌, ℕ, ◌+◌, ◌<◌, ◌≤◌, List, [], ◌∷◌, ◌++◌, length, drop, get_or, Result, Ok, Err, refl, ap, sym, ◌∙◌, append_assoc}
+use Rattle.std.proofs.Common.{◌≡◌, ℕ, ◌+◌, ◌<◌, ◌≤◌, List, [], ◌∷◌, ◌++◌, length, drop, get_or, Result, Ok, Err, refl, ap, sym, ◌∙◌}
 use Rattle.std.proofs.Math.ListN.{drop_of_length-le}
 use Rattle.std.proofs.lemmas.List.{drop_more, append-nil}
-use Rattle.code_map.specs.Outcome.{◌>>=◌, each}
-
-abbrev pub with_front : {A E : Type 0} → List A → Result (List A) E → Result (List A) E
-with_front front (Ok xs) = Ok (front ++ xs)
-with_front front (Err e) = Err e
-
-pub with_front_pair : {A E : Type 0} (front : List A) (x : A) (rest : Result (List A) E) → with_front front (rest >>= (λ xs. Ok (x ∷ xs))) ≡ with_front (front ++ x ∷ []) rest
-with_front_pair front x (Ok xs) = ap (λ ys. Ok ys) (sym (append_assoc front (x ∷ []) xs))
-with_front_pair front x (Err e) = refl
+use Rattle.crpd_base.proofs.Results.{with_front, with_front_pair}
+use Rattle.crpd_base.specs.Outcome.{each}
 
 one_more : {X A E : Type 0} (read : X → Result A E) (front : List A) (t : X) (more : List X) (x : A) → read t ≡ Ok x → with_front front (each read (t ∷ more)) ≡ with_front (front ++ x ∷ []) (each read more)
 unfolding each

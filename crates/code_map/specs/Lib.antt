@@ -2,7 +2,6 @@ pub mod Conflicts
 pub mod Joined
 pub mod Kept
 pub mod Next
-pub mod Outcome
 pub mod Pieces
 pub mod Places
 pub mod Reading

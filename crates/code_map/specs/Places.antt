@@ -12,7 +12,7 @@ use Rattle.crpd_base.specs.declared.data.TaskPlan.{TaskPlan}
 use Rattle.crpd_base.specs.declared.data.TaskSpec.{TaskSpec}
 use Rattle.code_map.specs.declared.fault.MapError.{MapError}
 use Rattle.code_map.specs.declared.fault.MapError.TheVariants.{UnknownSymbol, EntryOutside}
-use Rattle.code_map.specs.Outcome.{◌>>=◌, ensure, each}
+use Rattle.crpd_base.specs.Outcome.{◌>>=◌, ensure, each}
 use Rattle.code_map.specs.Values.{value_of}
 
 -- how a place is told: its symbol, followed by `+` and the offset in decimal where the offset is not 0

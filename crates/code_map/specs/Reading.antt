@@ -5,7 +5,7 @@ use Rattle.crpd_base.specs.declared.data.TaskSet.{TaskSet}
 use Rattle.code_map.specs.declared.fault.MapError.{MapError}
 use Rattle.code_map.specs.declared.fault.MapError.TheVariants.{CodeConflict}
 use Rattle.code_map.specs.Conflicts.{first_conflict}
-use Rattle.code_map.specs.Outcome.{◌>>=◌, nowhere}
+use Rattle.crpd_base.specs.Outcome.{◌>>=◌, nowhere}
 use Rattle.code_map.specs.Places.{plans_of}
 use Rattle.code_map.specs.Words.{Code, word_at}
 

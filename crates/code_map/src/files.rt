@@ -3,7 +3,7 @@ ghost use Rattle.std.specs.Prelude.{◌≡◌, ℕ, ◌+◌, ◌^◌, ◌<◌, �
 ghost use Rattle.crpd_base.specs.Images.{IsImage};
 ghost use Rattle.crpd_base.specs.declared.data.Image.{Image};
 ghost use Rattle.code_map.specs.declared.runs.Run.{Run};
-ghost use Rattle.code_map.specs.Outcome.{Gives};
+ghost use Rattle.crpd_base.specs.Outcome.{Gives};
 ghost use Rattle.code_map.specs.Reading.{files_of};
 ghost use Rattle.code_map.specs.Next.{IsNextOf};
 ghost use Rattle.code_map.specs.Runs.{IsIndex};

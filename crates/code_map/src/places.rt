@@ -1,6 +1,6 @@
 // The addresses that the places of a task stand for in its file.
 ghost use Rattle.std.specs.Prelude.{◌≡◌, IfOk};
-ghost use Rattle.code_map.specs.Outcome.{Gives, each};
+ghost use Rattle.crpd_base.specs.Outcome.{Gives, each};
 ghost use Rattle.code_map.specs.Places as places;
 
 use crate::fault::MapError;
@@ -79,7 +79,7 @@ fn range_of(
 }
 
 /// The ranges of a loop.
-#[tactic(auto, unfolding(crate::specs::Outcome::each))]
+#[tactic(auto, unfolding(crpd_base::specs::Outcome::each))]
 fn ranges_of(
     alloc: Global,
     task: Task,
@@ -110,7 +110,7 @@ fn loop_of(alloc: Global, task: Task, names: &Names, spec: &LoopSpec) -> Result<
 }
 
 /// The stated loops of a task.
-#[tactic(auto, unfolding(crate::specs::Outcome::each))]
+#[tactic(auto, unfolding(crpd_base::specs::Outcome::each))]
 pub(crate) fn loops_of(
     alloc: Global,
     task: Task,

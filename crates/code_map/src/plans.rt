@@ -1,7 +1,7 @@
 // The plans of tasks.
 ghost use Rattle.std.specs.Prelude.{◌≡◌, ◌<◌, ◌≤◌, length, slice_index_or, IfOk, IsTrue, List, vec_len};
 ghost use Rattle.crpd_base.specs.declared.data.Symbol.{Symbol};
-ghost use Rattle.code_map.specs.Outcome.{Gives};
+ghost use Rattle.crpd_base.specs.Outcome.{Gives};
 ghost use Rattle.code_map.specs.Places as places;
 ghost use Rattle.code_map.specs.Words.{word_at};
 

@@ -1,8 +1,10 @@
 -- A task set in its ranges has times in theirs.
-use Rattle.std.proofs.Common.{ℕ, zero, suc, ◌<◌, ◌≤◌, List, [], ◌∷◌, length, map, get_or, All, arith}
+use Rattle.std.proofs.Common.{ℕ, zero, suc, ◌<◌, ◌≤◌, List, [], ◌∷◌, length, map, get_or, All, ◌≡◌, sym, ◌∙◌, ap, None, arith}
 use Rattle.std.specs.Prelude.{◌^◌}
+use Rattle.std.proofs.lemmas.List.{get_or-map}
 use Rattle.crpd_base.specs.Ranges.{IsTaskSpec, IsTaskSet}
-use Rattle.crpd_base.specs.Tasks.{HasTimes}
+use Rattle.crpd_base.specs.Tasks.{HasTimes, period_of, jitter_of, deadline_of}
+use Rattle.crpd_base.specs.declared.data.Place.TheVariants.{Number}
 use Rattle.crpd_base.specs.declared.data.TaskSpec.{TaskSpec}
 use Rattle.crpd_base.specs.declared.data.TaskSet.{TaskSet}
 
@@ -20,3 +22,19 @@ has_times set S = record {
   deadline = λ k lt. mapped IsTaskSpec (λ (t : TaskSpec). t.deadline) (λ (t : TaskSpec). t.period) (λ x y. x ≤ y) set.tasks S.each (λ t h. h.deadline.1) k lt;
   jitter = λ k lt. mapped IsTaskSpec (λ (t : TaskSpec). t.jitter) (λ (t : TaskSpec). t.jitter) (λ x y. x ≤ 2 ^ 40) set.tasks S.each (λ t h. h.jitter) k lt;
 }
+
+-- the period of a task that was read from the set
+pub period_is : (set : TaskSet) (k : ℕ) (x : TaskSpec) → k < length set.tasks → x ≡ get_or set.tasks k x → period_of set k ≡ x.period
+period_is set k x h e = get_or-map (λ (t : TaskSpec). t.period) set.tasks k x 0 h ∙ ap (λ (t : TaskSpec). t.period) (sym e)
+
+-- its jitter
+pub jitter_is : (set : TaskSet) (k : ℕ) (x : TaskSpec) → k < length set.tasks → x ≡ get_or set.tasks k x → jitter_of set k ≡ x.jitter
+jitter_is set k x h e = get_or-map (λ (t : TaskSpec). t.jitter) set.tasks k x 0 h ∙ ap (λ (t : TaskSpec). t.jitter) (sym e)
+
+-- its deadline
+pub deadline_is : (set : TaskSet) (k : ℕ) (x : TaskSpec) → k < length set.tasks → x ≡ get_or set.tasks k x → deadline_of set k ≡ x.deadline
+deadline_is set k x h e = get_or-map (λ (t : TaskSpec). t.deadline) set.tasks k x 0 h ∙ ap (λ (t : TaskSpec). t.deadline) (sym e)
+
+-- a task with nothing in it, for what a look-up gives past the end of a set
+pub no_task : TaskSpec
+no_task = record { name = []; file = []; entry = None; period = 0; deadline = 0; jitter = 0; stack = Number 0; global = Number 0; loops = [] }

@@ -6,3 +6,4 @@ pub mod Sets
 pub mod Sum
 pub mod Ranges
 pub mod Tasks
+pub mod Outcome

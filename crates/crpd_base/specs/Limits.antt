@@ -5,9 +5,9 @@ use Rattle.std.specs.Prelude.{ℕ, ◌^◌}
 abbrev pub most_sets : ℕ
 most_sets = 512
 
--- the most cycles of a cost of a platform
-abbrev pub most_cycles : ℕ
-most_cycles = 65535
+-- the greatest cost of a platform, in cycles
+abbrev pub most_cost : ℕ
+most_cost = 65535
 
 -- the most tasks of a set
 abbrev pub most_tasks : ℕ

@@ -1,6 +1,8 @@
 -- The kinds of a set's lines and texts: the lengths that a cache line may have, and what a task and its file may be called.
-use Rattle.std.specs.Prelude.{ℕ, List, length, Bool, ◌||◌, ◌&&◌, ◌==◌, nat_le, nat_lt}
+use Rattle.std.specs.Prelude.{ℕ, List, length, codes, Bool, ◌||◌, ◌&&◌, ◌==◌, nat_le, nat_lt}
 use Rattle.std.specs.List.{list_all}
+use Rattle.crpd_base.specs.declared.data.Method.{Method}
+use Rattle.crpd_base.specs.declared.data.Method.TheVariants.{Ucb, Ecb}
 
 -- a number between two others
 abbrev pub is_between : ℕ → ℕ → ℕ → Bool
@@ -25,3 +27,8 @@ is_file_byte b = nat_le 33 b && (nat_lt b 127 || nat_lt 127 b)
 -- the name of a file: 1 to 255 such bytes
 abbrev pub is_file : List ℕ → Bool
 is_file s = is_between 1 255 (length s) && list_all is_file_byte s
+
+-- a way of counting delays, by its name
+abbrev pub method_name : Method → List ℕ
+method_name Ucb = codes "ucb"
+method_name Ecb = codes "ecb"

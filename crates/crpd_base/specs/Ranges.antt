@@ -4,7 +4,7 @@ use Rattle.crpd_base.specs.declared.data.Platform.{Platform}
 use Rattle.crpd_base.specs.declared.data.LoopSpec.{LoopSpec}
 use Rattle.crpd_base.specs.declared.data.TaskSpec.{TaskSpec}
 use Rattle.crpd_base.specs.declared.data.TaskSet.{TaskSet}
-use Rattle.crpd_base.specs.Limits.{most_sets, most_cycles, most_tasks, most_loops, most_turns, longest_time}
+use Rattle.crpd_base.specs.Limits.{most_sets, most_cost, most_tasks, most_loops, most_turns, longest_time}
 use Rattle.crpd_base.specs.Names.{is_line, is_name, is_file}
 
 -- a platform: 4, 8, 16, 32 or 64 bytes a line, 1 to 512 sets, at least one cycle an instruction, and costs below 2^16
@@ -12,13 +12,13 @@ pub record IsPlatform (p : Platform) : Type 0 where
   pub line : (4 ≤ p.line) × (p.line ≤ 64)
   pub line_size : is_line p.line ≡ true
   pub sets : (1 ≤ p.sets) × (p.sets ≤ most_sets)
-  pub hit : (1 ≤ p.hit) × (p.hit ≤ most_cycles)
-  pub miss : p.miss ≤ most_cycles
-  pub memory : p.memory ≤ most_cycles
-  pub taken : p.taken ≤ most_cycles
-  pub switch : p.switch ≤ most_cycles
-  pub mul : p.mul ≤ most_cycles
-  pub div : p.div ≤ most_cycles
+  pub hit : (1 ≤ p.hit) × (p.hit ≤ most_cost)
+  pub miss : p.miss ≤ most_cost
+  pub memory : p.memory ≤ most_cost
+  pub taken : p.taken ≤ most_cost
+  pub switch : p.switch ≤ most_cost
+  pub mul : p.mul ≤ most_cost
+  pub div : p.div ≤ most_cost
 
 -- a stated loop: 1 to 1,000,000 turns
 abbrev pub IsLoopSpec : LoopSpec → Type 0

@@ -1,8 +1,14 @@
 -- The numbers of a task of a set, and their ranges.
-use Rattle.std.specs.Prelude.{ℕ, ◌<◌, ◌≤◌, length, map, slice_index}
+use Rattle.std.specs.Prelude.{ℕ, ◌<◌, ◌≤◌, List, [], length, map, slice_index, slice_get}
+use Rattle.std.specs.Option.{option_map_or}
+use Rattle.crpd_base.specs.declared.data.Task.{Task}
 use Rattle.crpd_base.specs.Limits.{most_tasks, longest_time}
 use Rattle.crpd_base.specs.declared.data.TaskSpec.{TaskSpec}
 use Rattle.crpd_base.specs.declared.data.TaskSet.{TaskSet}
+
+-- the name of a task
+abbrev pub name_of : TaskSet → Task → List ℕ
+name_of set task = option_map_or (λ (t : TaskSpec). t.name) (slice_get set.tasks task.0) []
 
 -- the period, the jitter and the deadline of the task at a place
 abbrev pub period_of : TaskSet → ℕ → ℕ

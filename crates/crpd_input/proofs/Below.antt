@@ -1,7 +1,7 @@
 -- A step for each number below one, up to the first stop.
 use Rattle.std.proofs.Common.{◌≡◌, ℕ, ◌<◌, ◌≤◌, List, [], ◌∷◌, ◌++◌, length, Some, Ok, Err, ap, sym, ◌∙◌, subst, inl, inr, arith}
 use Rattle.std.specs.Prelude.{Result, slice_get}
-use Rattle.flat_graph.proofs.Members.{at_more, some_at}
+use Rattle.crpd_base.proofs.Elements.{some_at, at_more}
 use Rattle.crpd_input.specs.declared.halt.Halt.{Halt}
 use Rattle.crpd_input.specs.declared.halt.Halt.TheVariants.{Refused, Memory, Fault}
 use Rattle.crpd_input.specs.Steps.{EachBelow, IsRefusal, StopsBy}

@@ -1,16 +1,17 @@
 -- The graphs and regions that a set's code gives are those that the judge and its laws speak of.
-use Rattle.std.proofs.Common.{◌≡◌, ℕ, ◌<◌, length, Some, Ok, Err, sym, subst, inl, inr, arith}
-use Rattle.std.specs.Prelude.{Result, slice_get}
+use Rattle.std.proofs.Common.{◌≡◌, ℕ, ◌<◌, length, Some, Ok, sym, subst, inl, inr, arith}
+use Rattle.std.specs.Prelude.{slice_get}
 use Rattle.std.proofs.lemmas.Option.{get_or_from_slice_get}
+use Rattle.crpd_base.proofs.Elements.{some_at}
+use Rattle.crpd_base.proofs.Results.{ok_is, ok_not_err}
 use Rattle.crpd_base.specs.declared.data.TaskPlan.{TaskPlan}
 use Rattle.rv_decode.specs.Flow.{Words}
 use Rattle.code_map.specs.Words.{word_at}
-use Rattle.flat_graph.specs.CodeGraph.{CodeGraph, IsCodeGraph, graph_of, places_of}
-use Rattle.flat_graph.proofs.Members.{some_at}
+use Rattle.flat_graph.specs.CodeGraph.{CodeGraph, IsCodeGraph, graph_of, places_of, no_graph, graph_at}
 use Rattle.loop_regions.specs.CodeNest.{CodeNest, nest_of}
 use Rattle.loop_regions.specs.Stated.{IsAccepted, IsRegions, IsSameHead}
 use Rattle.cert_check.specs.Judge.{IsGraphOf}
-use Rattle.cert_check.specs.Shown.{graph_at, nest_at, no_graph, no_nest, shown, shown_at}
+use Rattle.cert_check.specs.Shown.{nest_at, no_nest, shown, shown_at}
 use Rattle.cert_check.proofs.Built.{graph_of_law}
 use Rattle.preempt_machine.specs.Machine.{plan_of}
 use Rattle.preempt_machine.specs.Safe.{system_of}
@@ -19,11 +20,7 @@ use Rattle.crpd_input.specs.declared.halt.Halt.{Halt}
 use Rattle.crpd_input.specs.declared.shapes.Shapes.{Shapes}
 use Rattle.crpd_input.specs.Graphs.{GraphsIn, RegionsIn}
 use Rattle.crpd_input.specs.Shapes.{ShapesIn}
-use Rattle.crpd_input.proofs.Bounds.{value_is}
 use Rattle.crpd_input.proofs.Given.{IsInput}
-
-not_refused : {A : Type 0} (x : A) (r : Halt) → ◌≡◌ {A = Result A Halt} (Ok x) (Err r) → ⊥
-not_refused x r e = cc
 
 -- the graphs of all tasks, and their regions
 record AreMade (input : Input) (shapes : Shapes) : Type 0 where
@@ -34,10 +31,10 @@ made : (input : Input) (shapes : Shapes) → ShapesIn input (Ok shapes) → AreM
 made input shapes given =
     elim given [
       | inl x ↦ elim x.2 [
-        | inl y ↦ subst (AreMade input) (value_is {E = Halt} (record { graphs = x.0; nests = y.0 }) shapes y.2) (record { graphs = x.1; nests = y.1 })
-        | inr y ↦ absurd (not_refused shapes y.0 y.2)
+        | inl y ↦ subst (AreMade input) (ok_is {E = Halt} (record { graphs = x.0; nests = y.0 }) shapes y.2) (record { graphs = x.1; nests = y.1 })
+        | inr y ↦ absurd (ok_not_err shapes y.0 y.2)
       ]
-      | inr x ↦ absurd (not_refused shapes x.0 x.2)
+      | inr x ↦ absurd (ok_not_err shapes x.0 x.2)
     ]
 
 -- a plan's graph and the regions of its loops

@@ -1,15 +1,15 @@
 -- A step for each item of a list, up to the first stop.
-use Rattle.std.proofs.Common.{◌≡◌, ℕ, zero, suc, ◌+◌, ◌<◌, ◌≤◌, List, [], ◌∷◌, ◌++◌, length, get_or, take, drop, Some, None, Ok, Err, refl, ap, sym, ◌∙◌, arith}
+use Rattle.std.proofs.Common.{◌≡◌, ℕ, zero, suc, ◌+◌, ◌<◌, ◌≤◌, List, [], ◌∷◌, ◌++◌, length, get_or, take, drop, Some, Ok, Err, refl, ap, sym, ◌∙◌, arith}
 use Rattle.std.specs.Prelude.{All, Result, position}
 use Rattle.std.specs.Str.{bytes_eq}
 use Rattle.std.proofs.lemmas.List.{take_all, take_more, take-append-drop, drop_more}
 use Rattle.std.proofs.lemmas.List.Elements.{All-cons, All-nil}
 use Rattle.std.proofs.lemmas.List.Quantifiers.{position-Some}
 use Rattle.std.proofs.lemmas.Slice.Eq.{bytes_eq-Decides}
+use Rattle.crpd_base.proofs.Times.{no_task}
 use Rattle.crpd_base.specs.declared.data.Image.{Image}
 use Rattle.crpd_base.specs.declared.data.TaskSpec.{TaskSpec}
 use Rattle.crpd_input.specs.declared.halt.Halt.{Halt}
-use Rattle.crpd_base.specs.declared.data.Place.TheVariants.{Number}
 use Rattle.crpd_input.specs.declared.halt.Halt.TheVariants.{Refused, Memory, Fault}
 use Rattle.crpd_input.specs.Steps.{and_then, each, Stops}
 
@@ -89,15 +89,12 @@ module _ {A B : Type 0} (step : A → Result B Halt) where
 
 -- ---- the image of an earlier task's file
 
-blank : TaskSpec
-blank = record { name = []; file = []; entry = None; period = 0; deadline = 0; jitter = 0; stack = Number 0; global = Number 0; loops = [] }
-
 pub of_earlier : (step : List ℕ → Result Image Halt) (tasks : List TaskSpec) (images : List Image) (file : List ℕ) (k : ℕ) (d : Image)
     → each (λ (t : TaskSpec). step t.file) tasks ≡ Ok images → position (λ (t : TaskSpec). bytes_eq file t.file) tasks ≡ Some k → k < length tasks → step file ≡ Ok (get_or images k d)
 of_earlier step tasks images file k d e found lt =
-    let p = position-Some (λ (t : TaskSpec). bytes_eq file t.file) tasks k blank found in
-    let same : file ≡ (get_or tasks k blank).file = (bytes_eq-Decides file (get_or tasks k blank).file).0 p.1 in
-    ap step same ∙ at (λ (t : TaskSpec). step t.file) tasks images k blank d e lt
+    let p = position-Some (λ (t : TaskSpec). bytes_eq file t.file) tasks k no_task found in
+    let same : file ≡ (get_or tasks k no_task).file = (bytes_eq-Decides file (get_or tasks k no_task).file).0 p.1 in
+    ap step same ∙ at (λ (t : TaskSpec). step t.file) tasks images k no_task d e lt
 
 -- ---- the stop at one item
 

@@ -5,9 +5,9 @@ use Rattle.std.proofs.lemmas.Option.{get_or_from_slice_get, slice_get-get_or}
 use Rattle.crpd_base.specs.declared.data.TaskPlan.{TaskPlan}
 use Rattle.crpd_base.specs.declared.data.TaskSet.{TaskSet}
 use Rattle.code_map.specs.Words.{Code}
-use Rattle.flat_graph.specs.CodeGraph.{CodeGraph}
+use Rattle.flat_graph.specs.CodeGraph.{CodeGraph, graph_at}
 use Rattle.loop_regions.specs.CodeNest.{AreBounded, CodeNest, IsNestOf}
-use Rattle.cert_check.specs.Shown.{AreShown, graph_at, no_nest}
+use Rattle.cert_check.specs.Shown.{AreShown, no_nest}
 use Rattle.crpd_input.specs.declared.halt.Halt.{Halt}
 use Rattle.crpd_input.specs.Graphs.{HasBoundedLoops}
 use Rattle.crpd_input.proofs.Below.{HasValues}

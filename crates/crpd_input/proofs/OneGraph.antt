@@ -1,16 +1,17 @@
 -- A task has one flat graph at most, and either a graph or one refusal.
-use Rattle.std.proofs.Common.{◌≡◌, ◌≢◌, ℕ, zero, suc, ◌<◌, ◌≤◌, Bool, true, false, List, [], ◌∷◌, Option, Some, None, Result, Ok, Err, length, ◌%◌, refl, sym, ap, ◌∙◌, subst, inl, inr, arith, rules}
-use Rattle.std.specs.Prelude.{◌==◌, if◌then◌else◌, All, AllPairs, Contains, map, slice_get}
+use Rattle.std.proofs.Common.{◌≡◌, ◌≢◌, ℕ, zero, suc, ◌<◌, ◌≤◌, Bool, true, false, List, [], ◌∷◌, Option, Some, None, Result, Ok, Err, length, refl, sym, ap, ◌∙◌, subst, inl, inr, arith}
+use Rattle.std.specs.Prelude.{if◌then◌else◌, AllPairs, Contains, map, slice_get}
 use Rattle.std.specs.declared.cmp.Ordering.{Ordering}
 use Rattle.std.specs.declared.cmp.Ordering.TheVariants.{Less, Equal, Greater}
-use Rattle.std.specs.Ordering.{nat_cmp, ordering_reverse, ordering_then, then_cmp, on}
-use Rattle.std.specs.Cmp.{IsTotalOrder}
-use Rattle.std.specs.Cmp.Rules.{comparing}
+use Rattle.std.specs.Ordering.{nat_cmp, ordering_reverse, ordering_then}
 use Rattle.std.specs.Cmp.Lexicographic.{slice_cmp}
 use Rattle.std.proofs.lemmas.List.{ext_get_or}
 use Rattle.std.proofs.lemmas.List.Elements.{All-contains}
+use Rattle.flat_graph.proofs.SameCode.{some_word}
+use Rattle.crpd_base.proofs.Elements.{at_head, at_rest, head_or_rest, in_none, at_contains, some_at, pairs_head, pairs_tail}
+use Rattle.crpd_base.proofs.Options.{not_none}
 use Rattle.crpd_base.specs.declared.data.TaskPlan.{TaskPlan}
-use Rattle.rv_decode.specs.Flow.{Flow, Flows, Words, flows, flow_of_word}
+use Rattle.rv_decode.specs.Flow.{Flow, Flows, Words, flows}
 use Rattle.rv_decode.specs.Table.{row}
 use Rattle.code_map.specs.Words.{word_at}
 use Rattle.flat_graph.specs.CodeGraph.{CodeGraph, IsCodeGraph, graph_of, no_node, node_of, places_of}
@@ -20,19 +21,12 @@ use Rattle.flat_graph.specs.FlatGraph as flat
 use Rattle.flat_graph.specs.Refusals.{IsRefused, graph_error}
 use Rattle.flat_graph.specs.declared.fault.GraphError.{GraphError}
 use Rattle.flat_graph.specs.declared.fault.GraphError.TheVariants as graph
-use Rattle.flat_graph.proofs.Members.{at_contains, at_head, at_rest, head_or_rest, in_none, some_at}
 use Rattle.crpd_input.specs.declared.input.Input.{Input}
 use Rattle.crpd_input.specs.declared.halt.Halt.{Halt}
 use Rattle.crpd_input.specs.Graphs.{GraphAt, IsGraphOrNot, graph_halt, name_at}
-use Rattle.flat_graph.proofs.Order.{before_one_way, flat_equal, flat_less, not_before_same}
+use Rattle.flat_graph.proofs.Order.{before_one_way, flat_equal, flat_less, not_before_same, flat_total}
 
 -- ---- lists of nodes in order
-
-tail_pairs : {X : Type 0} (R : X → X → Type 0) (x : X) (xs : List X) → AllPairs R (x ∷ xs) → AllPairs R xs
-tail_pairs R x xs h = λ i j d l k. h (suc i) (suc j) d (omega (arith, l)) (omega (arith, k))
-
-head_pairs : {X : Type 0} (R : X → X → Type 0) (x : X) (xs : List X) → AllPairs R (x ∷ xs) → All (R x) xs
-head_pairs R x xs h = λ k d l. h 0 (suc k) d (omega arith) (omega (arith, l))
 
 abbrev Has : List FlatNode → List FlatNode → Type 0
 Has xs ys = (n : FlatNode) → Contains xs n → Contains ys n
@@ -44,7 +38,7 @@ not_later x y xs ys first second to back =
       | inl e ↦ sym e
       | inr later ↦ elim (head_or_rest xs y x back) [
         | inl e ↦ e
-        | inr after ↦ absurd (before_one_way x y (All-contains (IsBefore x) xs y (head_pairs IsBefore x xs first) after) (All-contains (IsBefore y) ys x (head_pairs IsBefore y ys second) later))
+        | inr after ↦ absurd (before_one_way x y (All-contains (IsBefore x) xs y (pairs_head IsBefore x xs first) after) (All-contains (IsBefore y) ys x (pairs_head IsBefore y ys second) later))
       ]
     ]
 
@@ -52,7 +46,7 @@ rest_has : (x y : FlatNode) (xs ys : List FlatNode) → x ≡ y → AllPairs IsB
 rest_has x y xs ys same first to = λ n in_rest.
     elim (head_or_rest ys n y (to n (at_rest xs n x in_rest))) [
       | inr later ↦ later
-      | inl e ↦ absurd (not_before_same x n (same ∙ e) (All-contains (IsBefore x) xs n (head_pairs IsBefore x xs first) in_rest))
+      | inl e ↦ absurd (not_before_same x n (same ∙ e) (All-contains (IsBefore x) xs n (pairs_head IsBefore x xs first) in_rest))
     ]
 
 one_order : (xs ys : List FlatNode) → AllPairs IsBefore xs → AllPairs IsBefore ys → Has xs ys → Has ys xs → xs ≡ ys
@@ -61,7 +55,7 @@ one_order [] (y ∷ ys) first second to back = absurd (in_none y (back y (at_hea
 one_order (x ∷ xs) [] first second to back = absurd (in_none x (to x (at_head xs x x refl)))
 one_order (x ∷ xs) (y ∷ ys) first second to back =
     let e = not_later x y xs ys first second (to x (at_head xs x x refl)) (back y (at_head ys y y refl)) in
-    let rest = one_order xs ys (tail_pairs IsBefore x xs first) (tail_pairs IsBefore y ys second) (rest_has x y xs ys e first to) (rest_has y x ys xs (sym e) second back) in
+    let rest = one_order xs ys (pairs_tail IsBefore x xs first) (pairs_tail IsBefore y ys second) (rest_has x y xs ys e first to) (rest_has y x ys xs (sym e) second back) in
     ap (λ n. n ∷ xs) e ∙ ap (λ l. y ∷ l) rest
 
 one_numbering : (code : Flows) (entry : ℕ) (xs ys : List FlatNode) → IsNumbering code entry xs → IsNumbering code entry ys → xs ≡ ys
@@ -74,18 +68,18 @@ fewer [] ys first second to = omega arith
 fewer (x ∷ xs) [] first second to = absurd (in_none x (to x (at_head xs x x refl)))
 fewer (x ∷ xs) (y ∷ ys) first second to =
     elim (head_or_rest ys x y (to x (at_head xs x x refl))) [
-      | inl e ↦ let r = fewer xs ys (tail_pairs IsBefore x xs first) (tail_pairs IsBefore y ys second) (rest_has x y xs ys (sym e) first to) in omega (arith, r)
+      | inl e ↦ let r = fewer xs ys (pairs_tail IsBefore x xs first) (pairs_tail IsBefore y ys second) (rest_has x y xs ys (sym e) first to) in omega (arith, r)
       | inr later ↦
-          let behind : IsBefore y x = All-contains (IsBefore y) ys x (head_pairs IsBefore y ys second) later in
+          let behind : IsBefore y x = All-contains (IsBefore y) ys x (pairs_head IsBefore y ys second) later in
           let rest : Has (x ∷ xs) ys = λ n in_first.
           elim (head_or_rest ys n y (to n in_first)) [
             | inr there ↦ there
             | inl e ↦ elim (head_or_rest xs n x in_first) [
               | inl same ↦ absurd (not_before_same y x (e ∙ sym same) behind)
-              | inr after ↦ absurd (before_one_way x y (subst (λ m. IsBefore x m) (sym e) (All-contains (IsBefore x) xs n (head_pairs IsBefore x xs first) after)) behind)
+              | inr after ↦ absurd (before_one_way x y (subst (λ m. IsBefore x m) (sym e) (All-contains (IsBefore x) xs n (pairs_head IsBefore x xs first) after)) behind)
             ]
           ] in
-          let r = fewer (x ∷ xs) ys first (tail_pairs IsBefore y ys second) rest in
+          let r = fewer (x ∷ xs) ys first (pairs_tail IsBefore y ys second) rest in
           omega (arith, r)
     ]
 
@@ -95,11 +89,11 @@ one_place [] i j n h a b = absurd cc
 one_place (x ∷ xs) zero zero n h a b = refl
 one_place (x ∷ xs) zero (suc j) n h a b =
     let e : x ≡ n = cc in
-    absurd (not_before_same x n e (All-contains (IsBefore x) xs n (head_pairs IsBefore x xs h) (at_contains xs j n b)))
+    absurd (not_before_same x n e (All-contains (IsBefore x) xs n (pairs_head IsBefore x xs h) (at_contains xs j n b)))
 one_place (x ∷ xs) (suc i) zero n h a b =
     let e : x ≡ n = cc in
-    absurd (not_before_same x n e (All-contains (IsBefore x) xs n (head_pairs IsBefore x xs h) (at_contains xs i n a)))
-one_place (x ∷ xs) (suc i) (suc j) n h a b = ap suc (one_place xs i j n (tail_pairs IsBefore x xs h) a b)
+    absurd (not_before_same x n e (All-contains (IsBefore x) xs n (pairs_head IsBefore x xs h) (at_contains xs i n a)))
+one_place (x ∷ xs) (suc i) (suc j) n h a b = ap suc (one_place xs i j n (pairs_tail IsBefore x xs h) a b)
 
 one_row : (xs : List FlatNode) (is js : List ℕ) (ns : List FlatNode) → AllPairs IsBefore xs → map (slice_get xs) is ≡ map Some ns → map (slice_get xs) js ≡ map Some ns → is ≡ js
 one_row xs [] [] ns h a b = refl
@@ -121,13 +115,6 @@ one_row xs (i ∷ is) (j ∷ js) (n ∷ ns) h a b =
 no_word : (code : Flows) (entry : ℕ) (c : List ℕ) (t : Bool) (o : Option (Option Flow)) → o ≡ None → (if t then ins_error code entry c o else Some flat.Misaligned) ≡ None → ⊥
 no_word code entry c true o none e = let f = rw none at e in cc
 no_word code entry c false o none e = cc
-
-some_word : (words : Words) (entry : ℕ) (n : FlatNode) → error_of (flows words) entry n ≡ None → (w : ℕ) × (words n.address ≡ Some w)
-some_word words entry n e = by_word (words n.address) refl
-  where
-    by_word : (o : Option ℕ) → words n.address ≡ o → (w : ℕ) × (words n.address ≡ Some w)
-    by_word (Some w) is = (w, is)
-    by_word None is = absurd (no_word (flows words) entry n.context (n.address % 4 == 0) (flows words n.address) (ap (flow_of_word n.address) is) e)
 
 module _ (words : Words) (entry : ℕ) (g h : CodeGraph) (X : IsCodeGraph words entry g) (Y : IsCodeGraph words entry h) where
   same_nodes : X.nodes ≡ Y.nodes
@@ -165,22 +152,16 @@ module _ (words : Words) (entry : ℕ) (g h : CodeGraph) (X : IsCodeGraph words 
 
 -- ---- refusals
 
-no_error : {A : Type 0} (o : Option A) (x : A) → o ≡ None → o ≡ Some x → ⊥
-no_error o x a b = cc
-
 -- a graph is not refused
 not_both : (words : Words) (entry : ℕ) (g : CodeGraph) (f : GraphRefusal) → IsCodeGraph words entry g → length g.nodes ≤ 16384 → IsGraphRefused (flows words) entry 16384 f → ⊥
 not_both words entry g TooManyNodes X few more =
     let le = fewer more.0 X.nodes more.1 X.flat.numbering.ordered (λ n c. (X.flat.numbering.all n).0 (All-contains (IsNode (flows words) entry) more.0 n more.2 c)) in
     absurd (omega (arith, le, X.flat.size, few, more.3))
-not_both words entry g (AtNode e a) X few at = no_error (error_of (flows words) entry at.1) e (X.no_errors at.1 at.2) at.3
+not_both words entry g (AtNode e a) X few at = not_none (error_of (flows words) entry at.1) e (X.no_errors at.1 at.2) at.3
 
 -- by context, then by address
 abbrev flat_cmp : FlatNode → FlatNode → Ordering
 flat_cmp n m = ordering_then (slice_cmp nat_cmp n.context m.context) (nat_cmp n.address m.address)
-
-flat_total : IsTotalOrder (then_cmp (on (λ (n : FlatNode). n.context) (slice_cmp nat_cmp)) (on (λ (n : FlatNode). n.address) nat_cmp))
-flat_total = search (comparing, rules)
 
 neither_before : (n m : FlatNode) → (IsBefore n m → ⊥) → (IsBefore m n → ⊥) → n ≡ m
 neither_before n m one other = by_order (flat_cmp n m) refl

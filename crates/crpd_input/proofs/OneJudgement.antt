@@ -4,7 +4,7 @@ use Rattle.std.proofs.lemmas.Bool.{cases_lt}
 use Rattle.crpd_base.specs.declared.data.Certificate.{Certificate}
 use Rattle.crpd_base.specs.declared.data.LoopAt.{LoopAt}
 use Rattle.crpd_base.specs.declared.data.TaskSet.{TaskSet}
-use Rattle.flat_graph.specs.CodeGraph.{CodeGraph, graph_of, places_of}
+use Rattle.flat_graph.specs.CodeGraph.{CodeGraph, graph_of, places_of, graph_at}
 use Rattle.flat_graph.specs.Graph.{Graph, Places}
 use Rattle.loop_regions.specs.CodeNest.{CodeNest, nest_of}
 use Rattle.loop_regions.specs.Nest.{Nest, Item, Node, Loop, IsItem, Leaves, LeavesLast}
@@ -12,7 +12,7 @@ use Rattle.loop_regions.specs.Potentials.{Costs, Potentials, Meets, MeetsAt, ite
 use Rattle.exec_bound.specs.Least.{IsLeast}
 use Rattle.loop_regions.specs.Stated.{IsRegions, IsSameHead}
 use Rattle.cert_check.specs.Clauses.{BoundMeets, PotentialsMeet}
-use Rattle.cert_check.specs.Shown.{graph_at, nest_at, shown_at}
+use Rattle.cert_check.specs.Shown.{nest_at, shown_at}
 use Rattle.cert_check.specs.declared.outcome.Clause.{Clause}
 use Rattle.cert_check.specs.declared.outcome.Clause.TheVariants.{Bound, Inequalities, LoopPotentials}
 use Rattle.cert_check.specs.Verdict.{Answer, Yes, No, Holds, IsJudged}

@@ -1,6 +1,7 @@
 -- The code of a set has a plan for each task, and its words end below the last address.
-use Rattle.std.proofs.Common.{◌≡◌, ◌∙◌, ap, refl, sym, subst, ℕ, suc, ◌+◌, ◌%◌, ◌&&◌, Bool, true, false, not, cond, List, [], ◌∷◌, length, Option, Some, None, Result, Ok, Err, arith}
+use Rattle.std.proofs.Common.{◌≡◌, ◌∙◌, ap, refl, sym, subst, ℕ, suc, ◌+◌, ◌%◌, ◌&&◌, Bool, true, false, not, cond, List, [], ◌∷◌, length, Option, Some, None, Result, Ok, arith}
 use Rattle.std.specs.Prelude.{All, ◌==◌}
+use Rattle.crpd_base.proofs.Results.{bind_ok}
 use Rattle.crpd_base.specs.Images.{IsImage}
 use Rattle.crpd_base.specs.declared.data.Image.{Image}
 use Rattle.crpd_base.specs.declared.data.TaskPlan.{TaskPlan}
@@ -9,7 +10,7 @@ use Rattle.crpd_base.specs.declared.data.TaskSpec.{TaskSpec}
 use Rattle.code_map.specs.declared.fault.MapError.{MapError}
 use Rattle.code_map.specs.declared.fault.MapError.TheVariants.{CodeConflict}
 use Rattle.code_map.specs.Conflicts.{first_conflict}
-use Rattle.code_map.specs.Outcome.{◌>>=◌, nowhere}
+use Rattle.crpd_base.specs.Outcome.{◌>>=◌, nowhere}
 use Rattle.code_map.specs.Places.{plan_of, plans_of}
 use Rattle.code_map.specs.Reading.{code_of, files_of}
 use Rattle.code_map.specs.Words.{Code, code_byte, image_byte, little_endian, word_at}
@@ -19,18 +20,13 @@ use Rattle.code_map.proofs.KeptWords.{within_end}
 use Rattle.rv_decode.specs.Address.{end}
 use Rattle.rv_decode.specs.Flow.{IsCodeMap}
 
--- the value on which a step went on
-pub then_ok : {A B E : Type 0} (r : Result A E) (f : A → Result B E) (y : B) → (r >>= f) ≡ Ok y → (x : A) × (r ≡ Ok x) × (f x ≡ Ok y)
-then_ok (Ok x) f y e = (x, refl, e)
-then_ok (Err x) f y e = absurd cc
-
 plans_length : (word : ℕ → Option ℕ) (n : ℕ) (ts : List TaskSpec) (is : List Image) (plans : List TaskPlan) → length is ≡ length ts → plans_of word n ts is ≡ Ok plans → length plans ≡ length ts
 unfolding plans_of
 plans_length word n [] is plans l e = let same : [] ≡ plans = cc in sym (ap length same)
 plans_length word n (t ∷ ts) [] plans l e = absurd (omega arith)
 plans_length word n (t ∷ ts) (i ∷ is) plans l e =
-    let first = then_ok (plan_of word (record { 0 = n }) t i) _ plans e in
-    let later = then_ok (plans_of word (n + 1) ts is) (λ ps. Ok (first.0 ∷ ps)) plans first.2 in
+    let first = bind_ok (plan_of word (record { 0 = n }) t i) _ plans e in
+    let later = bind_ok (plans_of word (n + 1) ts is) (λ ps. Ok (first.0 ∷ ps)) plans first.2 in
     let same : first.0 ∷ later.0 ≡ plans = cc in
     sym (ap length same) ∙ ap suc (plans_length word (n + 1) ts is later.0 (omega arith) later.1)
 
@@ -45,8 +41,8 @@ read_files images files e = files_are (first_conflict images) images files e
 pub code_parts : (set : TaskSet) (images : List Image) (code : Code) → code_of set images ≡ Ok code → (code.images ≡ images) × (plans_of (word_at images) 0 set.tasks images ≡ Ok code.plans)
 unfolding code_of
 code_parts set images code e =
-    let files = then_ok (files_of images) _ code e in
-    let plans = then_ok (plans_of (word_at files.0) 0 set.tasks files.0) _ code files.2 in
+    let files = bind_ok (files_of images) _ code e in
+    let plans = bind_ok (plans_of (word_at files.0) 0 set.tasks files.0) _ code files.2 in
     same files.0 plans.0 (read_files images files.0 files.1) plans.1 plans.2
   where
     same : (files : List Image) (plans : List TaskPlan) → images ≡ files → plans_of (word_at files) 0 set.tasks files ≡ Ok plans → ◌≡◌ {A = Result Code MapError} (Ok (record { images = files; plans = plans })) (Ok code)

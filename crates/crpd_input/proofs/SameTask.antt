@@ -1,15 +1,15 @@
 -- The graph and the regions of an old task are those of a new task that is the same.
 use Rattle.std.proofs.Common.{◌≡◌, ℕ, ◌<◌, ◌≤◌, List, length, Some, Ok, sym, ap, ◌∙◌, subst, inl, inr, arith}
 use Rattle.std.specs.Prelude.{slice_get}
-use Rattle.std.proofs.lemmas.Option.{get_or_from_slice_get, slice_get_within}
+use Rattle.std.proofs.lemmas.Option.{get_or_from_slice_get, slice_get_within, same_Some}
+use Rattle.crpd_base.proofs.Elements.{some_at}
 use Rattle.crpd_base.specs.declared.data.TaskPlan.{TaskPlan}
 use Rattle.crpd_base.specs.declared.data.LoopAt.{LoopAt}
 use Rattle.code_map.specs.Words.{word_at}
-use Rattle.flat_graph.specs.CodeGraph.{CodeGraph, IsCodeGraph, graph_of, places_of}
-use Rattle.flat_graph.proofs.Members.{some_at}
+use Rattle.flat_graph.specs.CodeGraph.{CodeGraph, IsCodeGraph, graph_of, places_of, no_graph, graph_at}
 use Rattle.loop_regions.specs.CodeNest.{CodeNest, IsNestOf, nest_of}
 use Rattle.loop_regions.specs.Stated.{IsAccepted, IsRegions, IsSameHead}
-use Rattle.cert_check.specs.Shown.{AreShown, graph_at, no_graph, no_nest}
+use Rattle.cert_check.specs.Shown.{AreShown, no_nest}
 use Rattle.crpd_input.specs.declared.input.Input.{Input}
 use Rattle.crpd_input.specs.declared.shapes.Shapes.{Shapes}
 use Rattle.crpd_input.specs.Graphs.{GraphAt, GraphsIn, RegionsAt, RegionsIn}
@@ -17,16 +17,13 @@ use Rattle.crpd_input.specs.SameTask.{IsSameTask}
 use Rattle.crpd_input.specs.Shapes.{ShapesIn}
 use Rattle.crpd_input.proofs.OneGraph.{one_graph_at}
 
-one : {X : Type 0} (a b : X) → Some a ≡ Some b → a ≡ b
-one a b e = cc
-
 -- the graphs and the regions of the old set
-pub graphs_of : (old : Input) (s : Shapes) → ShapesIn old (Ok s) → GraphsIn old (Ok s.graphs)
-graphs_of old s (inl (graphs, are, inl (nests, lie, e))) =
+pub graphs_in : (old : Input) (s : Shapes) → ShapesIn old (Ok s) → GraphsIn old (Ok s.graphs)
+graphs_in old s (inl (graphs, are, inl (nests, lie, e))) =
     let same : record { graphs = graphs; nests = nests } ≡ s = cc in
     subst (λ (x : Shapes). GraphsIn old (Ok x.graphs)) same are
-graphs_of old s (inl (graphs, are, inr (refusal, lie, e))) = absurd cc
-graphs_of old s (inr (refusal, are, e)) = absurd cc
+graphs_in old s (inl (graphs, are, inr (refusal, lie, e))) = absurd cc
+graphs_in old s (inr (refusal, are, e)) = absurd cc
 
 pub regions_of : (old : Input) (s : Shapes) → ShapesIn old (Ok s) → RegionsIn old s.graphs (Ok s.nests)
 regions_of old s (inl (graphs, are, inl (nests, lie, e))) =
@@ -53,7 +50,7 @@ module _ (old input : Input) (s : Shapes) (graphs : List CodeGraph) (j k : ℕ) 
       let o = some_at s.graphs j lt in
       let h = some_at graphs k there in
       let is : graph_at s.graphs j ≡ o.0 = get_or_from_slice_get s.graphs j o.0 no_graph o.1 in
-      let mine : GraphAt input k (Ok o.0) = graph_serves old input s.graphs j k o.0 S is ((graphs_of old s shapes).1 j o.0 o.1).2.1 in
+      let mine : GraphAt input k (Ok o.0) = graph_serves old input s.graphs j k o.0 S is ((graphs_in old s shapes).1 j o.0 o.1).2.1 in
       let same : Ok h.0 ≡ Ok o.0 = one_graph_at input k (Ok h.0) (Ok o.0) (all.1 k h.0 h.1) mine in
       let plain : h.0 ≡ o.0 = cc in
       get_or_from_slice_get graphs k h.0 no_graph h.1 ∙ plain ∙ sym is
@@ -64,7 +61,7 @@ module _ (old input : Input) (s : Shapes) (graphs : List CodeGraph) (j k : ℕ) 
       let R = (regions_of old s shapes).1 j n at in
       let lt : j < length s.graphs = slice_get_within s.graphs j R.1 R.3 in
       let h = some_at graphs k there in
-      let plan : R.0 ≡ S.old_plan = one R.0 S.old_plan (sym R.2 ∙ S.old_planned) in
+      let plan : R.0 ≡ S.old_plan = same_Some R.0 S.old_plan (sym R.2 ∙ S.old_planned) in
       let loops : R.0.loops ≡ S.plan.loops = ap (λ (p : TaskPlan). p.loops) plan ∙ S.loops in
       let graph : R.1 ≡ h.0 = sym (get_or_from_slice_get s.graphs j R.1 no_graph R.3) ∙ sym (same_graph lt) ∙ get_or_from_slice_get graphs k h.0 no_graph h.1 in
       (S.plan, h.0, S.planned, h.1, moved n R.1 h.0 R.0.loops S.plan.loops graph loops R.4)

@@ -18,7 +18,7 @@ use Rattle.crpd_input.specs.declared.cause.Cause.TheVariants as cause
 use Rattle.crpd_input.specs.declared.halt.Halt.{Halt}
 use Rattle.crpd_input.specs.declared.halt.Halt.TheVariants as halt
 use Rattle.crpd_input.specs.declared.input.Input.{Input}
-use Rattle.crpd_input.specs.Reading.{name_of}
+use Rattle.crpd_base.specs.Tasks.{name_of}
 use Rattle.crpd_input.specs.Steps.{EachBelow, refusal}
 
 -- the refusal of a task for this cause, with an address

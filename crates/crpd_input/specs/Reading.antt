@@ -1,10 +1,9 @@
 -- The steps that read files: a set, the images of its tasks' files, its code, a certificate; and why each stops.
-use Rattle.std.specs.Prelude.{ℕ, List, [], slice_get, Result, Ok}
+use Rattle.std.specs.Prelude.{ℕ, List, Result, Ok}
 use Rattle.std.specs.Fmt.{decimal}
-use Rattle.std.specs.Option.{option_map_or}
+use Rattle.crpd_base.specs.Tasks.{name_of}
 use Rattle.crpd_base.specs.declared.data.Certificate.{Certificate}
 use Rattle.crpd_base.specs.declared.data.Image.{Image}
-use Rattle.crpd_base.specs.declared.data.Task.{Task}
 use Rattle.crpd_base.specs.declared.data.TaskSet.{TaskSet}
 use Rattle.crpd_base.specs.declared.data.TaskSpec.{TaskSpec}
 use Rattle.set_reader.specs.Reading as set
@@ -53,10 +52,6 @@ elf_halt file (elf_fault.SegmentOutside place) = refusal cause.SegmentOutside fi
 elf_halt file (elf_fault.SegmentsOverlap place) = refusal cause.SegmentsOverlap file (decimal place)
 elf_halt file elf_fault.NoCode = plain_refusal cause.NoCode file
 elf_halt file elf_fault.SymbolsOutside = plain_refusal cause.SymbolsOutside file
-
--- the name of a task
-abbrev pub name_of : TaskSet → Task → List ℕ
-name_of set task = option_map_or (λ (t : TaskSpec). t.name) (slice_get set.tasks task.0) []
 
 -- of the code of a set: of the set's file, or of a task
 abbrev pub map_halt : List ℕ → TaskSet → MapError → Halt

@@ -4,8 +4,7 @@ use Rattle.std.specs.Str.{bytes_eq}
 use Rattle.crpd_base.specs.declared.data.TaskPlan.{TaskPlan}
 use Rattle.crpd_base.specs.declared.data.TaskSpec.{TaskSpec}
 use Rattle.code_map.specs.Words.{word_at}
-use Rattle.flat_graph.specs.CodeGraph.{CodeGraph, IsCodeGraph}
-use Rattle.cert_check.specs.Shown.{graph_at}
+use Rattle.flat_graph.specs.CodeGraph.{CodeGraph, IsCodeGraph, graph_at}
 use Rattle.crpd_input.specs.declared.input.Input.{Input}
 use Rattle.crpd_input.specs.Graphs.{name_at}
 

@@ -4,7 +4,8 @@ ghost use Rattle.crpd_base.specs.Ranges.{IsTaskSet};
 ghost use Rattle.crpd_io.specs.Outside.{Rose};
 ghost use Rattle.crpd_input.specs.Graphs.{HasBoundedLoops};
 ghost use Rattle.crpd_input.specs.Steps.{IsRefusal, Means, Told};
-ghost use Rattle.crpd_input.specs.Reading.{code_in, map_halt as map_stop, name_of as task_name_of};
+ghost use Rattle.crpd_base.specs.Tasks.{name_of as task_name_of};
+ghost use Rattle.crpd_input.specs.Reading.{code_in, map_halt as map_stop};
 
 use crate::cause::Cause;
 use crate::halt::Halt;

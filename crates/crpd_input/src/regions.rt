@@ -2,7 +2,8 @@
 ghost use Rattle.std.specs.Prelude.{◌≡◌, ◌≤◌, ◌<◌, length, IfOk, IsErrOf};
 ghost use Rattle.crpd_input.specs.Steps.{IsRefusal, MeansBy};
 ghost use Rattle.crpd_input.specs.Graphs.{HasBoundedLoops, RegionsAt, RegionsIn, loop_halt as loop_stop};
-ghost use Rattle.cert_check.specs.Shown.{AreShown, graph_at};
+ghost use Rattle.flat_graph.specs.CodeGraph.{graph_at};
+ghost use Rattle.cert_check.specs.Shown.{AreShown};
 ghost use Rattle.loop_regions.specs.CodeNest.{IsNestOf};
 
 use crate::cause::Cause;

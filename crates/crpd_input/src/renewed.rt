@@ -1,6 +1,7 @@
 // The graphs of the tasks with the regions of their loops, taken over from an old set where they are the same.
 ghost use Rattle.std.specs.Prelude.{◌≡◌, ◌≤◌, ◌<◌, length, None, Ok, slice_index_or, IfOk, IsErrOf};
-ghost use Rattle.cert_check.specs.Shown.{AreShown, graph_at};
+ghost use Rattle.flat_graph.specs.CodeGraph.{graph_at};
+ghost use Rattle.cert_check.specs.Shown.{AreShown};
 ghost use Rattle.loop_regions.specs.CodeNest.{IsNestOf};
 ghost use Rattle.crpd_input.specs.Graphs.{GraphAt, GraphsIn, HasBoundedLoops, RegionsAt, RegionsIn};
 ghost use Rattle.crpd_input.specs.SameTask.{AreSources, IsSource};

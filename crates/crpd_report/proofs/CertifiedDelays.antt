@@ -63,10 +63,3 @@ module _ (c : Certificate) (parts : List Part) (windows : List ℕ) (ps : parts 
     pub small : (i : ℕ) (t : TaskPart) → i < length set.tasks → cert_at c i ≡ t → t.window ≤ 2 ^ 40
     small i t h e = subst (λ (x : TaskPart). x.window ≤ 2 ^ 40) e (window_small i h)
 
-pub part_at_place : (c : Certificate) (i : ℕ) (t : TaskPart) → i < length c.tasks → t ≡ get_or c.tasks i t → cert_at c i ≡ t
-part_at_place c i t lt is = sym (is ∙ past c.tasks i t lt)
-  where
-    past : (xs : List TaskPart) (k : ℕ) (t : TaskPart) → k < length xs → get_or xs k t ≡ get_or xs k no_cert
-    past [] k t l = absurd (omega (arith, l))
-    past (x ∷ xs) zero t l = refl
-    past (x ∷ xs) (suc k) t l = past xs k t (omega (arith, l))

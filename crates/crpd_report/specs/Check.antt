@@ -2,19 +2,14 @@
 use Rattle.std.specs.Prelude.{ℕ, ◌<◌, List, length, [], ◌∷◌, ◌++◌, codes}
 use Rattle.std.specs.Fmt.{decimal}
 use Rattle.std.specs.List.{flat_map, zip}
+use Rattle.crpd_base.specs.Names.{method_name}
 use Rattle.crpd_base.specs.declared.data.Certificate.{Certificate}
-use Rattle.crpd_base.specs.declared.data.Method.{Method}
-use Rattle.crpd_base.specs.declared.data.Method.TheVariants.{Ucb, Ecb}
 use Rattle.crpd_base.specs.declared.data.TaskPart.{TaskPart}
 use Rattle.crpd_base.specs.declared.data.TaskSet.{TaskSet}
 use Rattle.crpd_base.specs.declared.data.TaskSpec.{TaskSpec}
 use Rattle.cert_check.specs.declared.outcome.Verdict.{Verdict}
 use Rattle.cert_check.specs.declared.outcome.Verdict.TheVariants.{Yes, No}
-use Rattle.crpd_report.specs.Simulate.{name_of}
-
-abbrev pub method_name : Method → List ℕ
-method_name Ucb = codes "ucb"
-method_name Ecb = codes "ecb"
+use Rattle.crpd_base.specs.Tasks.{name_of}
 
 -- the times that a certificate states for a task
 abbrev pub times_text : TaskPart → List ℕ

@@ -6,13 +6,13 @@ use Rattle.crpd_base.specs.declared.data.Certificate.{Certificate}
 use Rattle.crpd_base.specs.declared.data.JobId.{JobId}
 use Rattle.crpd_base.specs.declared.data.Script.{Script}
 use Rattle.crpd_base.specs.declared.data.TaskSet.{TaskSet}
-use Rattle.crpd_base.specs.Tasks.{jitter_of, deadline_of}
+use Rattle.crpd_base.specs.Tasks.{jitter_of, deadline_of, name_of}
 use Rattle.delay_count.specs.Demand.{charged_delays}
 use Rattle.evict_sets.specs.Certificate.{cert_at}
 use Rattle.cert_check.specs.Judge.{part_of, window_at}
 use Rattle.run_account.specs.declared.told.Account.{Account}
 use Rattle.run_account.specs.declared.told.Entry.{Entry}
-use Rattle.crpd_report.specs.Simulate.{name_of, is_legal, run_line}
+use Rattle.crpd_report.specs.Simulate.{is_legal, run_line}
 
 -- a job, by its task's name and its number
 abbrev pub job_name : TaskSet → JobId → List ℕ

@@ -1,21 +1,14 @@
 -- The text of a simulated run: a line for each job of the script, and one for the run.
-use Rattle.std.specs.Prelude.{ℕ, ◌+◌, Bool, true, not, ◌&&◌, ◌||◌, ◌==◌, nat_le, if◌then◌else◌, List, [], ◌∷◌, ◌++◌, codes, slice_get}
+use Rattle.std.specs.Prelude.{ℕ, ◌+◌, Bool, true, not, ◌&&◌, ◌||◌, ◌==◌, nat_le, if◌then◌else◌, List, [], ◌∷◌, ◌++◌, codes}
 use Rattle.std.specs.Fmt.{decimal}
 use Rattle.std.specs.List.{flat_map, list_all, zip}
-use Rattle.std.specs.Option.{option_map_or}
 use Rattle.crpd_base.specs.declared.data.Script.{Script}
 use Rattle.crpd_base.specs.declared.data.ScriptJob.{ScriptJob}
-use Rattle.crpd_base.specs.declared.data.Task.{Task}
 use Rattle.crpd_base.specs.declared.data.TaskSet.{TaskSet}
-use Rattle.crpd_base.specs.declared.data.TaskSpec.{TaskSpec}
-use Rattle.crpd_base.specs.Tasks.{period_of, jitter_of}
+use Rattle.crpd_base.specs.Tasks.{period_of, jitter_of, name_of}
 use Rattle.preempt_machine.specs.declared.Completion.{Completion}
 use Rattle.preempt_machine.specs.declared.End.{End}
 use Rattle.preempt_machine.specs.declared.End.TheVariants.{Unreleased, Open, Answered, Faulted}
-
--- the name of a task
-abbrev pub name_of : TaskSet → Task → List ℕ
-name_of set task = option_map_or (λ (t : TaskSpec). t.name) (slice_get set.tasks task.0) []
 
 -- how a job stands
 abbrev pub end_text : End → List ℕ

@@ -1,5 +1,6 @@
 // The text of a verdict on a certificate.
 ghost use Rattle.std.specs.Prelude.{◌≡◌, [], ◌∷◌, ◌++◌, codes, string_bytes, IfOk};
+ghost use Rattle.crpd_base.specs.Names as names;
 ghost use Rattle.crpd_report.specs.Check as spec;
 
 use crate::simulate::task_name;
@@ -8,7 +9,7 @@ use crpd_base::{Certificate, Memory, Method, TaskPart, TaskSet};
 use std::alloc::{AllocError, Global};
 
 fn method_name(method: Method) -> &'static str
-    ensures { result.now ≡ spec.method_name method }
+    ensures { result.now ≡ names.method_name method }
 {
     match method {
         Method::Ucb => "ucb",

@@ -2,12 +2,12 @@
 use Rattle.std.proofs.Common.{◌≡◌, ℕ, ◌<◌, List, Result, Ok, length, refl, ap, sym, ◌∙◌, subst, inl, inr}
 use Rattle.crpd_base.specs.declared.data.Certificate.{Certificate}
 use Rattle.crpd_base.specs.declared.data.TaskSet.{TaskSet}
-use Rattle.flat_graph.specs.CodeGraph.{graph_of}
+use Rattle.flat_graph.specs.CodeGraph.{graph_of, graph_at}
 use Rattle.flat_graph.specs.Graph.{IsGraph}
 use Rattle.cert_build.specs.declared.fault.BuildError.{BuildError}
 use Rattle.cert_build.specs.declared.fault.BuildError.TheVariants.{Memory, TooLarge, TooManyEntries, Unschedulable}
 use Rattle.cert_build.proofs.Judged.{best_is_judged}
-use Rattle.cert_check.specs.Shown.{graph_at, shown_at}
+use Rattle.cert_check.specs.Shown.{shown_at}
 use Rattle.cert_check.specs.Verdict.{IsJudged, Yes}
 use Rattle.cert_check.specs.declared.outcome.Verdict.TheVariants as verdict
 use Rattle.cert_model.specs.Writing.{text as certificate_text}

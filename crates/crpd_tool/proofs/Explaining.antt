@@ -1,20 +1,21 @@
 -- What the judge's yes gives an account of a script's run, and the text of one.
-use Rattle.std.proofs.Common.{◌≡◌, ℕ, ◌-◌, ◌<◌, ◌≤◌, length, Result, Ok, Err, Some, sym, ap, ◌∙◌, subst, inl, inr, arith}
+use Rattle.std.proofs.Common.{◌≡◌, ℕ, ◌-◌, ◌<◌, ◌≤◌, length, Result, Ok, Err, Some, sym, ap, ◌∙◌, subst, arith}
 use Rattle.std.specs.Prelude.{IfOk}
 use Rattle.std.proofs.lemmas.Option.{get_or_from_slice_get}
 use Rattle.std.proofs.lemmas.List.Elements.{All-get_or}
+use Rattle.crpd_input.proofs.SameTask.{graphs_in}
+use Rattle.crpd_base.proofs.Elements.{some_at}
 use Rattle.crpd_base.specs.declared.data.Certificate.{Certificate}
 use Rattle.crpd_base.specs.declared.data.Script.{Script}
 use Rattle.crpd_base.specs.declared.data.Task.{Task}
 use Rattle.crpd_base.specs.declared.data.TaskPlan.{TaskPlan}
 use Rattle.crpd_base.specs.declared.data.TaskSet.{TaskSet}
 use Rattle.crpd_base.specs.Ranges.{IsTaskSet}
-use Rattle.flat_graph.specs.CodeGraph.{IsCodeGraph}
-use Rattle.flat_graph.proofs.Members.{some_at}
+use Rattle.flat_graph.specs.CodeGraph.{IsCodeGraph, no_graph, graph_at}
 use Rattle.loop_regions.specs.TaskSteps.{words_of}
 use Rattle.evict_sets.specs.Certificate.{no_cert}
 use Rattle.evict_sets.specs.Listing.{HasLowSets}
-use Rattle.cert_check.specs.Shown.{graph_at, no_graph, shown_at}
+use Rattle.cert_check.specs.Shown.{shown_at}
 use Rattle.cert_check.specs.Answered.{answer_of}
 use Rattle.cert_check.specs.declared.outcome.Clause.TheVariants.{Deadline, HasTask, Last, Leaders, Response, States}
 use Rattle.cert_check.specs.Verdict.{IsJudged, Yes}
@@ -24,7 +25,6 @@ use Rattle.run_account.specs.Shown.{AreGraphsOf, StatesAreMet}
 use Rattle.crpd_input.specs.declared.input.Input.{Input}
 use Rattle.crpd_input.specs.declared.shapes.Shapes.{Shapes}
 use Rattle.crpd_input.specs.declared.halt.Halt.{Halt}
-use Rattle.crpd_input.specs.Graphs.{GraphsIn}
 use Rattle.crpd_input.specs.Shapes.{ShapesIn}
 use Rattle.cert_build.proofs.InRange.{in_range}
 use Rattle.crpd_report.specs.Explain.{HasWindowOfEach}
@@ -35,22 +35,13 @@ use Rattle.crpd_tool.specs.declared.answer.Answer.{Answer}
 same_plan : (p q : TaskPlan) → Some p ≡ Some q → p ≡ q
 same_plan p q e = cc
 
-same_shapes : (x y : Shapes) → ◌≡◌ {A = Result Shapes Halt} (Ok x) (Ok y) → x ≡ y
-same_shapes x y e = cc
-
 not_refused : (x : Shapes) (r : Halt) → ◌≡◌ {A = Result Shapes Halt} (Ok x) (Err r) → ⊥
 not_refused x r e = cc
-
-graphs_made : (input : Input) (shapes : Shapes) → ShapesIn input (Ok shapes) → GraphsIn input (Ok shapes.graphs)
-graphs_made input shapes (inl (graphs, found, inl (nests, regions, is))) =
-    subst (λ (s : Shapes). GraphsIn input (Ok s.graphs)) (same_shapes (record { graphs = graphs; nests = nests }) shapes is) found
-graphs_made input shapes (inl (graphs, found, inr (refusal, stops, is))) = absurd (not_refused shapes refusal is)
-graphs_made input shapes (inr (refusal, stops, is)) = absurd (not_refused shapes refusal is)
 
 -- the graphs of the step are the flat graphs of the tasks' code
 pub graphs_of : (input : Input) (shapes : Shapes) → ShapesIn input (Ok shapes) → AreGraphsOf input.code input.set shapes.graphs
 graphs_of input shapes shaped =
-    let found = graphs_made input shapes shaped in
+    let found = graphs_in input shapes shaped in
     record {
       all = found.0;
       each = λ i lt plan at.

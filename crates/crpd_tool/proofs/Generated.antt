@@ -13,8 +13,7 @@ use Rattle.cert_check.specs.Answered.{answer_of}
 use Rattle.cert_check.specs.Judge.{responses}
 use Rattle.cert_check.specs.Verdict.{IsJudged}
 use Rattle.cert_check.specs.Shown.{shown_at}
-use Rattle.cert_check.specs.declared.outcome.Verdict.{Verdict}
-use Rattle.cert_check.specs.declared.outcome.Verdict.TheVariants.{Yes, No}
+use Rattle.cert_check.specs.declared.outcome.Verdict.TheVariants.{Yes}
 use Rattle.preempt_machine.specs.Machine.{Job, no_job}
 use Rattle.preempt_machine.specs.Safe.{IsKept, IsSafeWith}
 use Rattle.preempt_machine.specs.Step.{Start, state}
@@ -37,15 +36,14 @@ use Rattle.crpd_input.proofs.Built.{shapes_built}
 use Rattle.crpd_tool.specs.declared.answer.Answer.{Answer}
 use Rattle.crpd_tool.specs.declared.status.Status.TheVariants.{Done}
 use Rattle.crpd_tool.specs.Analyze.{without_certificate}
-use Rattle.crpd_tool.specs.Check.{verdict_outcome}
 use Rattle.crpd_tool.specs.Generate.{GenerateEnds, GeneratedOf, IsRunJudged, behind, made_input, node_count}
 use Rattle.crpd_tool.specs.Generated.{DoneIsGenerated, IsGenerated}
-use Rattle.crpd_tool.specs.Out.{Output, settled, status_of}
+use Rattle.crpd_tool.specs.Out.{Output, settled}
 use Rattle.crpd_tool.specs.Simulate.{completions_of, run_of}
 use Rattle.crpd_tool.specs.Words.{generate}
 use Rattle.crpd_tool.proofs.Finish.{some-out}
 use Rattle.crpd_tool.proofs.MadeGood.{made_good, made_parts, made_planned, made_run}
-use Rattle.crpd_tool.proofs.Safety.{then_done}
+use Rattle.crpd_tool.proofs.Safety.{then_done, yes_only}
 
 -- ---- the last two bytes of a text
 
@@ -93,10 +91,6 @@ not_done line file set Memory is = cc
 not_done line file set (TooLarge task address) is = cc
 not_done line file set (TooManyEntries count) is = cc
 not_done line file set (Unschedulable task) is = cc
-
-yes_only : (v : Verdict) → status_of (verdict_outcome v) ≡ Done → v ≡ Yes
-yes_only Yes e = refl
-yes_only (No task clause place) e = absurd cc
 
 module _ (safe_law : CheckedCodeIsSafe) (none_law : NoneLateLaw) (n : ℕ) where
   abbrev script : Script

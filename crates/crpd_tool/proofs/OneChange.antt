@@ -8,7 +8,7 @@ use Rattle.crpd_base.specs.declared.data.Task.{Task}
 use Rattle.crpd_base.specs.declared.data.TaskPart.{TaskPart}
 use Rattle.crpd_base.specs.declared.data.TaskSet.{TaskSet}
 use Rattle.crpd_base.proofs.Times.{has_times}
-use Rattle.flat_graph.specs.CodeGraph.{CodeGraph, graph_of, places_of}
+use Rattle.flat_graph.specs.CodeGraph.{CodeGraph, graph_of, places_of, graph_at}
 use Rattle.flat_graph.specs.Graph.{IsGraph}
 use Rattle.loop_regions.specs.CodeNest.{CodeNest, nest_of}
 use Rattle.evict_sets.specs.Certificate.{cert_at}
@@ -17,7 +17,7 @@ use Rattle.response.specs.Windows.{IsFirstWithout, method_at, window_at as chose
 use Rattle.cert_check.specs.Answered.{answer_of}
 use Rattle.cert_check.specs.Judge.{accesses_of, longest_at, part_of, window_at}
 use Rattle.cert_check.specs.Verdict.{IsJudged}
-use Rattle.cert_check.specs.Shown.{graph_at, nest_at, shown, shown_at}
+use Rattle.cert_check.specs.Shown.{nest_at, shown, shown_at}
 use Rattle.cert_check.specs.declared.outcome.Verdict.{Verdict}
 use Rattle.cert_check.specs.declared.outcome.Verdict.TheVariants as verdict
 use Rattle.cert_model.specs.Reading.{entries}

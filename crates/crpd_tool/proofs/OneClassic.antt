@@ -6,7 +6,7 @@ use Rattle.crpd_base.specs.declared.data.Part.{Part}
 use Rattle.crpd_base.specs.declared.data.TaskPart.{TaskPart}
 use Rattle.crpd_base.specs.declared.data.TaskSet.{TaskSet}
 use Rattle.crpd_base.specs.Tasks.{HasTimes}
-use Rattle.flat_graph.specs.CodeGraph.{CodeGraph, graph_of}
+use Rattle.flat_graph.specs.CodeGraph.{CodeGraph, graph_of, graph_at}
 use Rattle.flat_graph.specs.Graph.{IsGraph}
 use Rattle.loop_regions.specs.CodeNest.{CodeNest}
 use Rattle.loop_regions.specs.TaskGraph.{TaskGraph}
@@ -15,7 +15,7 @@ use Rattle.response.proofs.Choices.{not_first}
 use Rattle.response.specs.Windows.{IsSmaller, IsFirstWithout, method_at, window_at as chosen_window}
 use Rattle.evict_sets.specs.Certificate.{cert_at}
 use Rattle.cert_check.specs.Judge.{longest_at, part_of, window_at}
-use Rattle.cert_check.specs.Shown.{graph_at, nest_at, shown_at}
+use Rattle.cert_check.specs.Shown.{nest_at, shown_at}
 use Rattle.cert_model.specs.Reading.{entries}
 use Rattle.cert_build.specs.Certify.{AreBestParts, needs_at}
 use Rattle.cert_build.specs.declared.fault.BuildError.{BuildError}

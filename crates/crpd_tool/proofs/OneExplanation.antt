@@ -3,10 +3,10 @@ use Rattle.std.proofs.Common.{◌≡◌, ℕ, ◌<◌, List, ◌++◌, length, g
 use Rattle.crpd_base.specs.declared.data.Certificate.{Certificate}
 use Rattle.crpd_base.specs.declared.data.Script.{Script}
 use Rattle.cert_check.specs.Answered.{answer_of}
-use Rattle.cert_check.specs.Shown.{graph_at, nest_at, shown_at}
+use Rattle.cert_check.specs.Shown.{nest_at, shown_at}
 use Rattle.cert_check.specs.declared.outcome.Verdict.{Verdict}
 use Rattle.cert_check.specs.declared.outcome.Verdict.TheVariants.{Yes, No}
-use Rattle.flat_graph.specs.CodeGraph.{CodeGraph}
+use Rattle.flat_graph.specs.CodeGraph.{CodeGraph, graph_at}
 use Rattle.loop_regions.specs.CodeNest.{CodeNest}
 use Rattle.preempt_machine.specs.Step.{Fetch, Start}
 use Rattle.run_account.specs.Account.{IsAccount, told}

@@ -4,12 +4,12 @@ use Rattle.std.proofs.lemmas.Bool.Decides.{same_from_decides}
 use Rattle.crpd_base.specs.declared.data.Certificate.{Certificate}
 use Rattle.crpd_base.specs.declared.data.Script.{Script}
 use Rattle.crpd_base.specs.Tasks.{HasTimes}
-use Rattle.flat_graph.specs.CodeGraph.{CodeGraph, graph_of}
+use Rattle.flat_graph.specs.CodeGraph.{CodeGraph, graph_of, graph_at}
 use Rattle.flat_graph.specs.Graph.{IsGraph}
 use Rattle.loop_regions.specs.CodeNest.{CodeNest}
 use Rattle.cert_build.proofs.OneBest.{one_best}
 use Rattle.cert_check.specs.Answered.{answer_of}
-use Rattle.cert_check.specs.Shown.{graph_at, shown_at}
+use Rattle.cert_check.specs.Shown.{shown_at}
 use Rattle.cert_check.specs.Verdict.{IsJudged}
 use Rattle.cert_check.specs.declared.outcome.Verdict.{Verdict}
 use Rattle.preempt_machine.specs.Safe.{IsKept}

@@ -5,11 +5,11 @@ use Rattle.crpd_base.specs.declared.data.Platform.{Platform}
 use Rattle.crpd_base.specs.declared.data.TaskPart.{TaskPart}
 use Rattle.crpd_base.specs.declared.data.TaskSet.{TaskSet}
 use Rattle.crpd_base.specs.Tasks.{HasTimes}
-use Rattle.flat_graph.specs.CodeGraph.{CodeGraph, graph_of, places_of}
+use Rattle.flat_graph.specs.CodeGraph.{CodeGraph, graph_of, places_of, graph_at}
 use Rattle.flat_graph.specs.Graph.{IsGraph}
 use Rattle.loop_regions.specs.CodeNest.{CodeNest, nest_of}
 use Rattle.evict_sets.specs.Certificate.{cert_at}
-use Rattle.cert_check.specs.Shown.{graph_at, nest_at, shown, shown_at}
+use Rattle.cert_check.specs.Shown.{nest_at, shown, shown_at}
 use Rattle.cert_build.specs.Analysis.{HasLargeBound}
 use Rattle.cert_build.specs.Best.{IsBest, IsBestPart}
 use Rattle.cert_build.specs.Certify.{AreBestParts, IsBuildRefused}

@@ -6,12 +6,12 @@ use Rattle.crpd_base.specs.declared.data.TaskPlan.{TaskPlan}
 use Rattle.crpd_base.specs.declared.data.TaskSet.{TaskSet}
 use Rattle.crpd_base.specs.Tasks.{HasTimes}
 use Rattle.rv_decode.specs.Flow.{Words}
-use Rattle.flat_graph.specs.CodeGraph.{CodeGraph, graph_of, places_of}
+use Rattle.flat_graph.specs.CodeGraph.{CodeGraph, graph_of, places_of, graph_at}
 use Rattle.loop_regions.specs.CodeNest.{CodeNest, nest_of}
 use Rattle.loop_regions.specs.TaskGraph.{TaskGraph}
 use Rattle.loop_regions.proofs.Stated.{regions_law}
 use Rattle.cert_check.specs.Judge.{IsGraphOf}
-use Rattle.cert_check.specs.Shown.{graph_at, nest_at, shown, shown_at}
+use Rattle.cert_check.specs.Shown.{nest_at, shown, shown_at}
 use Rattle.sensitivity.specs.Accepted.{AreParts, IsAccepted, IsLeastBound, IsPart, IsStop}
 use Rattle.sensitivity.specs.Costs.{with_miss, with_switch}
 use Rattle.sensitivity.specs.Laws.{IsLoopBounded}

@@ -7,7 +7,8 @@ use Rattle.crpd_base.specs.declared.data.TaskSet.{TaskSet}
 use Rattle.code_map.specs.Words.{word_at}
 use Rattle.preempt_machine.specs.Machine.{plan_of}
 use Rattle.preempt_machine.specs.Safe.{system_of}
-use Rattle.cert_check.specs.Shown.{graph_at, no_graph, shown_at}
+use Rattle.flat_graph.specs.CodeGraph.{no_graph, graph_at}
+use Rattle.cert_check.specs.Shown.{shown_at}
 use Rattle.cert_check.specs.Verdict.{IsJudged, Yes}
 use Rattle.cert_check.specs.declared.outcome.Verdict.TheVariants as verdict
 use Rattle.cert_model.specs.Writing.{text as certificate_text}

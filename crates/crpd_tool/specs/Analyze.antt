@@ -20,7 +20,8 @@ use Rattle.crpd_input.specs.declared.halt.Halt.{Halt}
 use Rattle.crpd_input.specs.declared.halt.Halt.TheVariants as halt
 use Rattle.crpd_input.specs.declared.shapes.Shapes.{Shapes}
 use Rattle.crpd_input.specs.Graphs.{refused_at}
-use Rattle.crpd_input.specs.Reading.{input_in, name_of}
+use Rattle.crpd_base.specs.Tasks.{name_of}
+use Rattle.crpd_input.specs.Reading.{input_in}
 use Rattle.crpd_input.specs.Shapes.{ShapesIn}
 use Rattle.crpd_input.specs.Steps.{Exactly, Then, refusal}
 use Rattle.crpd_tool.specs.Texts.{line, unschedulable_text}

@@ -5,7 +5,7 @@ use Rattle.crpd_base.specs.declared.data.TaskSet.{TaskSet}
 use Rattle.sensitivity.specs.declared.slack.Slack.{Slack}
 use Rattle.sensitivity.specs.declared.slack.Stop.{Stop}
 use Rattle.sensitivity.specs.declared.slack.Stop.TheVariants.{Limit, Window, Bound}
-use Rattle.crpd_input.specs.Reading.{name_of}
+use Rattle.crpd_base.specs.Tasks.{name_of}
 
 -- the greatest accepted cost, or that none is accepted
 abbrev pub cost_text : Option ℕ → List ℕ

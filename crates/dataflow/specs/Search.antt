@@ -1,6 +1,7 @@
 -- What the search for the solution keeps.
 use Rattle.std.specs.Prelude.{◌≡◌, ◌≢◌, ℕ, ◌+◌, ◌-◌, ◌<◌, ◌⊎◌, List, ◌∷◌, Option, Some, None, option_map, slice_index_or, slice_index, length, ◌*◌, Bool, true, false, IsTrue, suc, if◌then◌else◌}
 use Rattle.std.specs.List.{All, sum_by}
+use Rattle.crpd_base.specs.Sum.{one_if}
 use Rattle.dataflow.specs.Problem.{Problem, Brings, joined_all, IsAtLeast}
 
 -- one more than an edge's number, 0 where there is no edge
@@ -57,9 +58,6 @@ absorbed joined (Some v) u = joined v u
 abbrev pub rank : {V : Type 0} → (V → ℕ) → Option V → ℕ
 rank height None = 0
 rank height (Some v) = suc (height v)
-
-abbrev pub one_if : Bool → ℕ
-one_if b = if b then 1 else 0
 
 -- every number below `nodes`, and no other
 pub record IsOrder (nodes : ℕ) (order : List ℕ) : Type 0 where

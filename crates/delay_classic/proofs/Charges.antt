@@ -4,6 +4,7 @@ use Rattle.std.specs.Prelude.{Bool, if◌then◌else◌, slice_index}
 use Rattle.std.proofs.lemmas.Nat.{mul-le}
 use Rattle.std.proofs.lemmas.Bool.{cases_Bool, cases_eq, cases_lt}
 use Rattle.std.proofs.lemmas.List.{get_or-replicate, get_or_past, length-replicate, get_or-set_same, get_or-set_other}
+use Rattle.crpd_base.proofs.Sums.{sum_same}
 use Rattle.crpd_base.specs.declared.data.TaskSet.{TaskSet}
 use Rattle.crpd_base.specs.declared.data.Part.{Part}
 use Rattle.crpd_base.specs.declared.data.Method.{Method}
@@ -17,7 +18,6 @@ use Rattle.delay_count.specs.Demand.{gamma, own_demand, jobs_demand, higher_dema
 use Rattle.delay_classic.specs.Gamma.{useful_to_some, classic_gamma}
 use Rattle.delay_classic.specs.Charged.{classic_sets, IsCharged, AreCharged}
 use Rattle.delay_classic.specs.Demand.{classic_demand}
-use Rattle.delay_count.proofs.Sums.{sum_same}
 use Rattle.delay_count.proofs.Greatest.{greatest_none}
 use Rattle.delay_count.proofs.Choices.{choice_within}
 use Rattle.delay_classic.proofs.Useful.{some_none, shared_none}

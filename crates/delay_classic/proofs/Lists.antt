@@ -3,6 +3,8 @@ use Rattle.std.proofs.Common.{◌≡◌, ℕ, zero, suc, ◌+◌, ◌-◌, ◌*�
 use Rattle.std.specs.Prelude.{Bool, ◌||◌}
 use Rattle.std.proofs.lemmas.Bool.{cases_Bool, cases_eq, true≢false}
 use Rattle.std.proofs.lemmas.List.{get_or_read, get_or-take, get_or-drop, length-take-le, length-drop}
+use Rattle.std.specs.Cmp.{both_ways}
+use Rattle.crpd_base.proofs.Bools.{or_false}
 use Rattle.crpd_base.specs.declared.data.Part.{Part}
 use Rattle.crpd_base.specs.declared.data.Method.{Method}
 use Rattle.crpd_base.specs.declared.data.Method.TheVariants.{Ucb, Ecb}
@@ -42,16 +44,9 @@ to_some useful (suc n) c k l h =
           ]
     ]
 
-same_truth : (a b : Bool) → (a ≡ true → b ≡ true) → (b ≡ true → a ≡ true) → a ≡ b
-same_truth a b f g =
-    elim (cases_Bool a) [
-      | inl t ↦ t ∙ sym (f t)
-      | inr n ↦ elim (cases_Bool b) [ inl t ↦ g t ∙ sym t | inr m ↦ n ∙ sym m ]
-    ]
-
 pub union_has : (sets : List (List ℕ)) (union : List ℕ) (c : ℕ) → IsUnion sets union → has union c ≡ useful_to_some (useful_in sets) 0 (length sets) c
 union_has sets union c u =
-    same_truth (has union c) (useful_to_some (useful_in sets) 0 (length sets) c)
+    both_ways (has union c) (useful_to_some (useful_in sets) 0 (length sets) c)
     (λ t. let some = (u c).0 t in to_some (useful_in sets) (length sets) c some.0 some.1 some.2)
     (λ t. let some = some_of (useful_in sets) (length sets) c t in (u c).1 some)
 
@@ -65,9 +60,6 @@ pub sets_few : (parts : ℕ → Part) (method : Method) (i j : ℕ) → classic_
 sets_few parts Ucb i j = shared_most (useful_to_some (λ k. has (parts k).useful) (suc j) (suc i)) (has (parts j).evicting) 512
 sets_few parts Ecb i j = greatest_le (shared_sets parts j) (suc j) (suc i) 512 (λ k h. shared_most (has (parts k).useful) (evicted_from parts j) 512)
 
-or_none : (b : Bool) → (b || false) ≡ b
-or_none b = elim (cases_Bool b) [ inl t ↦ rw t refl | inr f ↦ rw f refl ]
-
 some_same : (f g : ℕ → ℕ → Bool) (n c : ℕ) → ((k : ℕ) → k < n → f k c ≡ g k c) → useful_to_some f 0 n c ≡ useful_to_some g 0 n c
 some_same f g zero c same = refl
 some_same f g (suc n) c same =
@@ -77,7 +69,7 @@ some_same f g (suc n) c same =
     ∙ sym (some_more g 0 n c (omega arith))
 
 evicted_is : (parts : ℕ → Part) (j c : ℕ) → useful_to_some (λ k. has (parts k).evicting) 0 (suc j) c ≡ evicted_from parts j c
-evicted_is parts zero c = some_more (λ k. has (parts k).evicting) 0 0 c (omega arith) ∙ or_none (has (parts 0).evicting c)
+evicted_is parts zero c = some_more (λ k. has (parts k).evicting) 0 0 c (omega arith) ∙ or_false (has (parts 0).evicting c)
 evicted_is parts (suc j) c = some_more (λ k. has (parts k).evicting) 0 (suc j) c (omega arith) ∙ ap (λ z. has (parts (suc j)).evicting c || z) (evicted_is parts j c)
 
 one : (a : ℕ) → a * 1 ≡ a

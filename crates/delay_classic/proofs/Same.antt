@@ -1,6 +1,7 @@
 -- The plain demands of the same parts and costs.
 use Rattle.std.proofs.Common.{◌≡◌, ℕ, zero, suc, ◌+◌, ◌*◌, ◌<◌, length, refl, sym, ◌∙◌, ap, arith}
 use Rattle.std.specs.Prelude.{Bool, nat_le, ◌&&◌, ◌||◌}
+use Rattle.crpd_base.proofs.Sums.{sum_same}
 use Rattle.crpd_base.specs.declared.data.TaskSet.{TaskSet}
 use Rattle.crpd_base.specs.declared.data.Part.{Part}
 use Rattle.crpd_base.specs.declared.data.Method.{Method}
@@ -14,7 +15,6 @@ use Rattle.delay_classic.specs.Demand.{classic_demand}
 use Rattle.delay_count.proofs.Delays.{shared_same}
 use Rattle.delay_count.proofs.Growth.{evicted_same}
 use Rattle.delay_count.proofs.Greatest.{greatest_same, blocking_same}
-use Rattle.delay_count.proofs.Sums.{sum_same}
 
 some_same : (f g : ℕ → ℕ → Bool) (first n c : ℕ) → ((k : ℕ) → k < n → f k c ≡ g k c) → useful_to_some f first n c ≡ useful_to_some g first n c
 some_same f g first zero c same = refl

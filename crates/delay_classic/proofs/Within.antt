@@ -3,6 +3,7 @@ use Rattle.std.proofs.Common.{◌≡◌, ℕ, zero, suc, ◌+◌, ◌-◌, ◌*�
 use Rattle.std.specs.Prelude.{Bool, nat_le, if◌then◌else◌, ◌&&◌}
 use Rattle.std.proofs.lemmas.Nat.{mul-le}
 use Rattle.std.proofs.lemmas.Bool.{cases_Bool, cases_lt, leb-false, true≢false}
+use Rattle.crpd_base.proofs.Sums.{sum_le, sum_times}
 use Rattle.crpd_base.specs.declared.data.TaskSet.{TaskSet}
 use Rattle.crpd_base.specs.declared.data.Part.{Part}
 use Rattle.crpd_base.specs.declared.data.Method.{Method}
@@ -14,7 +15,6 @@ use Rattle.delay_count.specs.Gamma.{set_share, union_count, shared_count, shared
 use Rattle.delay_count.specs.Demand.{gamma, jobs_demand, higher_demand}
 use Rattle.delay_classic.specs.Gamma.{useful_to_some, ucb_sets, ecb_sets, classic_gamma}
 use Rattle.delay_classic.specs.Laws.{UcbWithin, EcbWithin, DemandWithin}
-use Rattle.delay_count.proofs.Sums.{sum_le, sum_times}
 use Rattle.delay_count.proofs.Greatest.{greatest_ge}
 use Rattle.delay_count.proofs.Choices.{choice_within}
 use Rattle.delay_count.proofs.Times.{not_affected}

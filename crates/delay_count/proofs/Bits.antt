@@ -1,48 +1,24 @@
 -- Sums over the bits of a word.
-use Rattle.std.proofs.Common.{◌≡◌, ℕ, zero, suc, ◌+◌, ◌-◌, ◌*◌, ◌/◌, ◌%◌, ◌^◌, ◌<◌, ◌≤◌, ◌⊎◌, inl, inr, List, get_or, refl, sym, ◌∙◌, ap, subst, arith}
+use Rattle.std.proofs.Common.{◌≡◌, ℕ, zero, suc, ◌+◌, ◌-◌, ◌*◌, ◌/◌, ◌%◌, ◌^◌, ◌<◌, ◌≤◌, inl, inr, List, get_or, refl, sym, ◌∙◌, ap, arith}
 use Rattle.std.specs.Prelude.{◌&&◌, bit_and, min, if◌then◌else◌, ◌==◌, Bool, slice_index_or, [], map}
 use Rattle.std.specs.Int.{bit_at}
-use Rattle.std.proofs.lemmas.Nat.{mod-pow-add, ones_cat, pow_pos, mul-le}
+use Rattle.std.proofs.lemmas.Nat.{mul-le}
 use Rattle.std.proofs.lemmas.Nat.Bits.{bit_at_and, bit_at_not, bit_at-lt, bit_at-zero}
 use lib.Count.{ones}
 use mir.Syntax.{w64}
+use Rattle.crpd_base.proofs.Bits.{zero_or_one, ones_below, no_ones}
+use Rattle.crpd_base.proofs.Sums.{sum_same, sum_add, sum_zero, sum_most, sum_onto}
 use Rattle.crpd_base.specs.Sum.{sum_below}
 use Rattle.crpd_base.specs.Sets.{member, members_below, has}
 use Rattle.delay_count.specs.declared.share.Share.{Share}
 use Rattle.delay_count.specs.Gamma.{shared_count, set_share, union_count, count_at, useful_at}
 use Rattle.delay_count.specs.Words.{word_sum, word_share, useful_words}
 use Rattle.std.proofs.lemmas.Bool.{cases_Bool}
-use Rattle.delay_count.proofs.Sums.{sum_same, sum_zero, sum_add, sum_most, sum_onto}
-
--- a number below 2 is 0 or 1
-bit_cases : (b : ℕ) → b < 2 → (b ≡ 0) ⊎ (b ≡ 1)
-bit_cases zero h = inl refl
-bit_cases (suc zero) h = inr refl
-bit_cases (suc (suc b)) h = absurd (omega arith)
-
-one_bit : (b : ℕ) → b < 2 → ones b ≡ b
-unfolding ones
-one_bit zero h = refl
-one_bit (suc zero) h = refl
-one_bit (suc (suc b)) h = omega arith
-
-no_ones : ones 0 ≡ 0
-unfolding ones
-no_ones = refl
-
-ones_more : (w k : ℕ) → ones (w % 2 ^ suc k) ≡ bit_at w k + ones (w % 2 ^ k)
-ones_more w k =
-    let e : w % 2 ^ (1 + k) ≡ (w / 2 ^ k % 2 ^ 1) * 2 ^ k + w % 2 ^ k = mod-pow-add w 1 k in
-    let s : 1 + k ≡ suc k = omega arith in
-    let lt : w % 2 ^ k < 2 ^ k = omega (arith, pow_pos k) in
-    let cat : ones (bit_at w k * 2 ^ k + w % 2 ^ k) ≡ ones (bit_at w k) + ones (w % 2 ^ k) = ones_cat k (bit_at w k) (w % 2 ^ k) lt in
-    subst (λ (x : ℕ). ones (w % 2 ^ x) ≡ bit_at w k + ones (w % 2 ^ k)) s
-    (ap ones e ∙ cat ∙ ap (λ x. x + ones (w % 2 ^ k)) (one_bit (bit_at w k) (bit_at-lt w k)))
 
 -- the bits of a word, each as often as v
 ones_times : (w v k : ℕ) → sum_below (λ b. bit_at w b * v) k ≡ v * ones (w % 2 ^ k)
 ones_times w v zero = let m : w % 2 ^ 0 ≡ 0 = omega arith in rw m (omega (arith, ap (λ x. v * x) no_ones))
-ones_times w v (suc k) = omega (arith, ones_times w v k, ap (λ x. v * x) (ones_more w k))
+ones_times w v (suc k) = omega (arith, ones_times w v k, ap (λ x. v * x) (ones_below w k))
 
 pub word_all : (w v : ℕ) (f : ℕ → ℕ) → w < 2 ^ 64 → ((b : ℕ) → f b ≡ v) → word_sum w f ≡ v * ones w
 unfolding word_sum
@@ -64,7 +40,7 @@ word_split w u f g h fits inside outside =
     λ b l.
     let p : bit_at (bit_and w u) b ≡ min (bit_at w b) (bit_at u b) = bit_at_and w u b in
     let q : bit_at (bit_and w (2 ^ 64 - 1 - u)) b ≡ min (bit_at w b) (1 - bit_at u b) = bit_at_and w (2 ^ 64 - 1 - u) b ∙ ap (min (bit_at w b)) (bit_at_not w64 u b fits l) in
-    elim (bit_cases (bit_at u b) (bit_at-lt u b)) [
+    elim (zero_or_one (bit_at u b) (bit_at-lt u b)) [
       | inr one ↦
           let s = inside b l one in
           let x : bit_at (bit_and w u) b ≡ bit_at w b = omega (arith, bit_at-lt w b) in
@@ -84,7 +60,7 @@ pub word_most : (w m : ℕ) (f : ℕ → ℕ) → ((b : ℕ) → f b ≤ m) → 
 unfolding word_sum
 word_most w m f le =
     sum_most (λ b. bit_at w b * f b) m 64 (λ b l.
-    elim (bit_cases (bit_at w b) (bit_at-lt w b)) [
+    elim (zero_or_one (bit_at w b) (bit_at-lt w b)) [
       | inl z ↦ rw z (omega arith)
       | inr o ↦ rw o (omega (arith, le b))
     ])
@@ -130,7 +106,7 @@ module _ (jobs : ℕ) (useful count : ℕ → ℕ) where
 
 -- the shares of one word are the shares of its sets
 bit_if : (b x : ℕ) → b < 2 → (if b == 1 then x else 0) ≡ b * x
-bit_if b x h = elim (bit_cases b h) [ inl z ↦ rw z (omega arith) | inr o ↦ rw o (omega arith) ]
+bit_if b x h = elim (zero_or_one b h) [ inl z ↦ rw z (omega arith) | inr o ↦ rw o (omega arith) ]
 
 has_bit : (words : List ℕ) (place b : ℕ) → b < 64 → has words (64 * place + b) ≡ (bit_at (get_or words place 0) b == 1)
 has_bit words place b h =
@@ -191,9 +167,9 @@ shared_members met useful evicted (suc n) h =
   where
     both : (a b : ℕ) → a < 2 → b < 2 → min a b ≡ (if (a == 1) && (b == 1) then 1 else 0)
     both a b p q =
-        elim (bit_cases a p) [
-          | inl x ↦ elim (bit_cases b q) [ inl y ↦ rw (x, y) refl | inr y ↦ rw (x, y) refl ]
-          | inr x ↦ elim (bit_cases b q) [ inl y ↦ rw (x, y) refl | inr y ↦ rw (x, y) refl ]
+        elim (zero_or_one a p) [
+          | inl x ↦ elim (zero_or_one b q) [ inl y ↦ rw (x, y) refl | inr y ↦ rw (x, y) refl ]
+          | inr x ↦ elim (zero_or_one b q) [ inl y ↦ rw (x, y) refl | inr y ↦ rw (x, y) refl ]
         ]
 
 pub shared_most : (useful evicted : ℕ → Bool) (n : ℕ) → shared_count useful evicted n ≤ n

@@ -3,10 +3,10 @@ use Rattle.std.proofs.Common.{◌≡◌, ◌≢◌, ℕ, zero, suc, ◌+◌, ◌
 use Rattle.std.specs.Prelude.{min, ◌==◌, nat_le, if◌then◌else◌}
 use Rattle.std.proofs.lemmas.Nat.{mul-le}
 use Rattle.std.proofs.lemmas.Bool.{cases_Bool, cases_eq, cases_lt, eq-eqb, ne_eqb, le-leb, lt-leb, leb-true, leb-false}
+use Rattle.crpd_base.proofs.Sums.{sum_zero, sum_most}
 use Rattle.crpd_base.specs.Sum.{sum_below}
 use Rattle.delay_count.specs.Gamma.{greatest_choice}
 use Rattle.delay_count.specs.Filling.{IsNextValue, counted_at, counted_from, worth_from}
-use Rattle.delay_count.proofs.Sums.{sum_zero, sum_most}
 use Rattle.delay_count.proofs.Greatest.{to_ge, to_le}
 
 -- a greatest choice never falls as the values, the counts and the budget grow

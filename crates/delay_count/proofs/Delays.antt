@@ -3,6 +3,7 @@ use Rattle.std.proofs.Common.{◌≡◌, ℕ, suc, ◌+◌, ◌*◌, ◌<◌, �
 use Rattle.std.specs.Prelude.{min, ◌&&◌, if◌then◌else◌}
 use Rattle.std.proofs.lemmas.List.{length-take-le}
 use Rattle.std.proofs.lemmas.Nat.{mul-le}
+use Rattle.crpd_base.proofs.Sums.{sum_same}
 use Rattle.crpd_base.specs.Sum.{sum_below}
 use Rattle.crpd_base.specs.Sets.{has}
 use Rattle.crpd_base.specs.declared.data.TaskSet.{TaskSet}
@@ -14,7 +15,6 @@ use Rattle.delay_count.specs.Counts.{jobs_of, affected}
 use Rattle.delay_count.specs.Gamma.{union_count, shared_count, greatest_choice, set_share, count_at, useful_at, ucb_delay, ecb_delay, shared_sets, evicted_from}
 use Rattle.delay_count.specs.Demand.{gamma}
 use Rattle.delay_count.specs.Rates.{gamma_by}
-use Rattle.delay_count.proofs.Sums.{sum_same}
 use Rattle.delay_count.proofs.Bits.{union_fits, shared_most}
 use Rattle.delay_count.proofs.Choices.{choice_same, choice_le, choice_within}
 use Rattle.delay_count.proofs.Shares.{first_same}

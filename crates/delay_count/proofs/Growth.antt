@@ -3,6 +3,7 @@ use Rattle.std.proofs.Common.{◌≡◌, ℕ, zero, suc, ◌+◌, ◌*◌, ◌<�
 use Rattle.std.specs.Prelude.{map, min, nat_lt, slice_index, if◌then◌else◌}
 use Rattle.std.proofs.lemmas.Nat.{mul-le}
 use Rattle.std.proofs.lemmas.Bool.{cases_Bool, cases_eq, eq-eqb, ne_eqb}
+use Rattle.crpd_base.proofs.Sums.{sum_le}
 use Rattle.crpd_base.specs.declared.data.TaskSpec.{TaskSpec}
 use Rattle.crpd_base.specs.declared.data.Part.{Part}
 use Rattle.crpd_base.specs.declared.data.TaskSet.{TaskSet}
@@ -16,7 +17,6 @@ use Rattle.delay_count.specs.Counts.{jobs_in, jobs_of, affected}
 use Rattle.delay_count.specs.Gamma.{set_share, union_count, ucb_count, ecb_count, evicted_from, shared_sets}
 use Rattle.delay_count.specs.Demand.{blocking, gamma, demand}
 use Rattle.delay_count.specs.Laws.{Load, IsCostlier, DelayGrows, DemandGrows}
-use Rattle.delay_count.proofs.Sums.{sum_le}
 use Rattle.delay_count.proofs.Greatest.{blocking_grows}
 use Rattle.delay_count.proofs.Choices.{choice_le}
 use Rattle.delay_count.proofs.Delays.{shared_same}

@@ -1,22 +1,11 @@
 -- Numbers of tasks and counts of jobs.
-use Rattle.std.proofs.Common.{◌≡◌, ◌≢◌, ℕ, ◌+◌, ◌*◌, ◌<◌, ◌≤◌, ◌^◌, inl, inr, List, length, get_or, refl, sym, ◌∙◌, ap, arith, false}
+use Rattle.std.proofs.Common.{◌≡◌, ◌≢◌, ℕ, ◌+◌, ◌*◌, ◌<◌, ◌≤◌, ◌^◌, inl, inr, List, length, refl, arith, false}
 use Rattle.std.specs.Prelude.{slice_index, nat_lt}
-use Rattle.std.proofs.lemmas.List.{get_or-map}
 use Rattle.std.proofs.lemmas.Nat.{mul-le}
 use Rattle.std.proofs.lemmas.Bool.{cases_eq, cases_lt, eq-eqb, ne_eqb, lt-ltb, le-ltb}
-use Rattle.crpd_base.specs.declared.data.TaskSpec.{TaskSpec}
 use Rattle.crpd_base.specs.declared.data.TaskSet.{TaskSet}
-use Rattle.crpd_base.specs.Tasks.{period_of, jitter_of, deadline_of, HasTimes}
+use Rattle.crpd_base.specs.Tasks.{period_of, jitter_of, HasTimes}
 use Rattle.delay_count.specs.Counts.{jobs_in, jobs_of, affected, HasWindows}
-
-pub period_is : (set : TaskSet) (k : ℕ) (x : TaskSpec) → k < length set.tasks → x ≡ get_or set.tasks k x → period_of set k ≡ x.period
-period_is set k x h e = get_or-map (λ (t : TaskSpec). t.period) set.tasks k x 0 h ∙ ap (λ (t : TaskSpec). t.period) (sym e)
-
-pub jitter_is : (set : TaskSet) (k : ℕ) (x : TaskSpec) → k < length set.tasks → x ≡ get_or set.tasks k x → jitter_of set k ≡ x.jitter
-jitter_is set k x h e = get_or-map (λ (t : TaskSpec). t.jitter) set.tasks k x 0 h ∙ ap (λ (t : TaskSpec). t.jitter) (sym e)
-
-pub deadline_is : (set : TaskSet) (k : ℕ) (x : TaskSpec) → k < length set.tasks → x ≡ get_or set.tasks k x → deadline_of set k ≡ x.deadline
-deadline_is set k x h e = get_or-map (λ (t : TaskSpec). t.deadline) set.tasks k x 0 h ∙ ap (λ (t : TaskSpec). t.deadline) (sym e)
 
 -- at most one job more than cycles
 pub jobs_few : (period jitter window : ℕ) → 1 ≤ period → jitter ≤ period → jobs_in period jitter window ≤ window + 1

@@ -7,6 +7,7 @@ use Rattle.std.proofs.lemmas.Bool.Decides.{nat_tests}
 use Rattle.std.proofs.lemmas.List.{append-nil, append_assoc, length-take, map-append}
 use Rattle.std.proofs.lemmas.List.Elements.{All-from_recursion, All-get_or, filter-append, recursion_from_All}
 use Rattle.std.proofs.lemmas.List.Quantifiers.{all_pairs_push}
+use Rattle.crpd_base.proofs.Results.{bind_ok, ok_is}
 use Rattle.crpd_base.specs.declared.data.Image.{Image}
 use Rattle.crpd_base.specs.declared.data.Segment.{Segment}
 use Rattle.crpd_base.specs.declared.data.Symbol.{Symbol}
@@ -15,20 +16,13 @@ use Rattle.elf_reader.specs.declared.fault.ElfError.{ElfError}
 use Rattle.elf_reader.specs.declared.fault.ElfError.TheVariants.{NotStatic, SegmentOutside, SegmentsOverlap, NoCode, Memory}
 use Rattle.elf_reader.specs.Fields.{e_entry}
 use Rattle.crpd_base.specs.Images.{AreDisjoint, IsImage}
-use Rattle.elf_reader.specs.Outcome.{Gives, ◌>>=◌, ensure, nowhere}
+use Rattle.crpd_base.specs.Outcome.{ensure, nowhere, Gives}
 use Rattle.elf_reader.specs.Reading.{file_header, program_headers, reading}
 use Rattle.elf_reader.specs.Segments.{end_of, first_shared, is_code, is_dynamic, is_loaded, is_outside, segment, segments, shares}
 use Rattle.elf_reader.specs.Symbols.{symbols}
 use Rattle.elf_reader.proofs.Tables.{passes_nowhere}
 
 -- ---- steps that found no refusal
-
-bind_ok : {A B E : Type 0} (r : Result A E) (f : A → Result B E) (y : B) → (r >>= f) ≡ Ok y → (x : A) × (r ≡ Ok x) × (f x ≡ Ok y)
-bind_ok (Ok x) f y e = (x, refl, e)
-bind_ok (Err d) f y e = absurd cc
-
-ok_is : {A E : Type 0} (x y : A) → ◌≡◌ {A = Result A E} (Ok x) (Ok y) → x ≡ y
-ok_is x y e = cc
 
 nowhere_ok : {E : Type 0} (refusal : ℕ → E) (o : Option ℕ) (x : Unit {0}) → nowhere refusal o ≡ Ok x → o ≡ None
 nowhere_ok refusal None x e = refl

@@ -10,6 +10,7 @@ use Rattle.std.specs.declared.cmp.Ordering.TheVariants.{Less, Equal, Greater}
 use Rattle.std.proofs.lemmas.List.Elements.{filter_agree}
 use Rattle.std.proofs.lemmas.Bool.{eq-eqb, ne_eqb, cases_Bool, cases_lt, or_parts, ltb-true, ltb-false, lt-ltb, le-ltb}
 use Rattle.std.proofs.lemmas.Bool.Decides.{nat_tests}
+use Rattle.crpd_base.proofs.Bools.{or_false}
 use Rattle.elf_reader.specs.declared.entries.ProgramHeader.{ProgramHeader}
 use Rattle.elf_reader.specs.Segments.{AreApart, end_of, is_loaded, meets, occupies}
 
@@ -90,10 +91,6 @@ pub range_is : (to : ℕ) (rs : List (ℕ × ℕ)) → filter (λ r. range_conta
 range_is to rs = filter_agree (λ r. range_contains nat_cmp Unbounded (Excluded to) r.0) (starts_before to) (λ r. grind (arith, nat_tests)) rs
 
 -- ---- one range more
-
-or_false : (x : Bool) → (x || false) ≡ x
-or_false true = refl
-or_false false = refl
 
 or_comm : (x y : Bool) → (x || y) ≡ (y || x)
 or_comm true true = refl

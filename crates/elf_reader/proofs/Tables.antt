@@ -10,9 +10,6 @@ use Rattle.std.proofs.lemmas.List.Elements.{filter_map-append}
 use Rattle.std.proofs.lemmas.List.FromFn.{map-range_with_len_more}
 use Rattle.std.proofs.lemmas.List.Sums.{fails_before_first}
 
-pub one_more : {X : Type 0} (f : ℕ → X) (xs ys : List X) (i : ℕ) (x : X) → xs ≡ map f (range_with_len 0 i) → ys ≡ xs ++ x ∷ [] → x ≡ f i → ys ≡ map f (range_with_len 0 (i + 1))
-one_more f xs ys i x e h is = h ∙ ap (λ zs. zs ++ x ∷ []) e ∙ ap (λ z. map f (range_with_len 0 i) ++ z ∷ []) is ∙ sym (map-range_with_len_more f 0 i i (omega arith))
-
 pub one_kept : {X Y : Type 0} (h : X → Option Y) (f : ℕ → X) (xs ys : List Y) (i : ℕ) (y : Y) → xs ≡ filter_map h (map f (range_with_len 0 i)) → ys ≡ xs ++ y ∷ [] → h (f i) ≡ Some y → ys ≡ filter_map h (map f (range_with_len 0 (i + 1)))
 one_kept h f xs ys i y e g is = g ∙ ap (λ zs. zs ++ y ∷ []) e ∙ sym (ap (filter_map h) (map-range_with_len_more f 0 i i (omega arith)) ∙ filter_map-append h (map f (range_with_len 0 i)) (f i ∷ []) ∙ rw is refl)
 

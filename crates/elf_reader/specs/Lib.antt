@@ -1,5 +1,4 @@
 pub mod Fields
-pub mod Outcome
 pub mod Reading
 pub mod Segments
 pub mod Symbols

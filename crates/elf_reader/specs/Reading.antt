@@ -7,7 +7,7 @@ use Rattle.elf_reader.specs.declared.entries.ProgramHeader.{ProgramHeader}
 use Rattle.elf_reader.specs.declared.fault.ElfError.{ElfError}
 use Rattle.elf_reader.specs.declared.fault.ElfError.TheVariants.{Short, NotElf, NotElf32Little, NotRiscV, NotExecutable, NotStatic, HeaderOutside, SegmentOutside, SegmentsOverlap, NoCode}
 use Rattle.elf_reader.specs.Fields.{e_type, e_machine, e_entry, e_phoff, e_phentsize, e_phnum}
-use Rattle.elf_reader.specs.Outcome.{◌>>=◌, ensure, nowhere}
+use Rattle.crpd_base.specs.Outcome.{◌>>=◌, ensure, nowhere}
 use Rattle.elf_reader.specs.Segments.{program_table, is_dynamic, is_outside, first_shared, is_code, segments}
 use Rattle.elf_reader.specs.Symbols.{symbols}
 

@@ -7,7 +7,7 @@ use Rattle.elf_reader.specs.declared.entries.SymbolEntry.{SymbolEntry}
 use Rattle.elf_reader.specs.declared.fault.ElfError.{ElfError}
 use Rattle.elf_reader.specs.declared.fault.ElfError.TheVariants.{SymbolsOutside}
 use Rattle.elf_reader.specs.Fields.{e_shoff, e_shentsize, e_shnum, section_header, symbol_entry}
-use Rattle.elf_reader.specs.Outcome.{◌>>=◌, ensure}
+use Rattle.crpd_base.specs.Outcome.{◌>>=◌, ensure}
 
 -- ---- sections
 

@@ -2,7 +2,7 @@
 // compared with one of them alone.
 ghost use Rattle.std.specs.Prelude.{◌≡◌, ◌+◌, ◌<◌, ◌^◌, ℕ, [], ◌&&◌, ◌||◌, not, length, IfOk, IfSome, OnOk};
 ghost use Rattle.std.specs.List.{list_any};
-ghost use Rattle.elf_reader.specs.Outcome.{Gives, nowhere};
+ghost use Rattle.crpd_base.specs.Outcome.{nowhere, Gives};
 ghost use Rattle.elf_reader.specs.Segments as spec;
 ghost use Rattle.elf_reader.specs.Segments.{AreApart, meets};
 ghost use Rattle.elf_reader.specs.declared.fault.ElfError.TheVariants.{SegmentsOverlap};

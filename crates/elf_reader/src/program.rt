@@ -1,7 +1,7 @@
 // The program headers and the segments that they load.
 ghost use Rattle.std.specs.Prelude.{◌≡◌, ◌+◌, ◌≤◌, ◌<◌, ◌^◌, false, length, map, filter, All, position, None, IfOk, OnOk, ◌*◌, vec_len};
 ghost use Rattle.std.specs.List.{list_any, range_with_len};
-ghost use Rattle.elf_reader.specs.Outcome.{Gives, ensure, nowhere};
+ghost use Rattle.crpd_base.specs.Outcome.{ensure, nowhere, Gives};
 ghost use Rattle.elf_reader.specs.Fields as fields;
 ghost use Rattle.elf_reader.specs.Reading as reading;
 ghost use Rattle.elf_reader.specs.Segments as spec;
@@ -26,7 +26,7 @@ const PT_INTERP: u32 = 3;
 const ADDRESSES: u64 = 1 << 32;
 
 /// So many headers of the table that begins at a place of the file.
-#[tactic(auto, using(crate::proofs::Tables::one_more))]
+#[tactic(auto, using(crpd_base::proofs::Elements::map_range_more))]
 fn table(
     alloc: Global,
     bytes: &[u8],

@@ -1,7 +1,7 @@
 // The whole file.
 ghost use Rattle.std.specs.Prelude.{◌≡◌, ◌≤◌, length, IfOk, OnOk};
 ghost use Rattle.crpd_base.specs.Images.{IsImage};
-ghost use Rattle.elf_reader.specs.Outcome.{Gives};
+ghost use Rattle.crpd_base.specs.Outcome.{Gives};
 ghost use Rattle.elf_reader.specs.Reading as spec;
 
 use crate::fault::ElfError;

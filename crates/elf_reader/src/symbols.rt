@@ -2,7 +2,7 @@
 ghost use Rattle.std.specs.Prelude.{◌≡◌, ℕ, ◌+◌, ◌*◌, ◌/◌, ◌≤◌, drop, length, map, filter_map, option_map, option_copied, find, position, slice_get, ◌<◌, IfOk, IfSome, if◌then◌else◌};
 ghost use Rattle.std.specs.List.{range_with_len};
 ghost use Rattle.elf_reader.specs.Fields as fields;
-ghost use Rattle.elf_reader.specs.Outcome.{Gives};
+ghost use Rattle.crpd_base.specs.Outcome.{Gives};
 ghost use Rattle.elf_reader.specs.Symbols as spec;
 
 use crate::entries::{SectionHeader, SymbolEntry};
@@ -27,7 +27,7 @@ const SHN_UNDEF: u16 = 0;
 const STT_FILE: u8 = 4;
 
 /// So many headers of the table that begins at a place of the file.
-#[tactic(auto, using(crate::proofs::Tables::one_more))]
+#[tactic(auto, using(crpd_base::proofs::Elements::map_range_more))]
 fn table(
     alloc: Global,
     bytes: &[u8],

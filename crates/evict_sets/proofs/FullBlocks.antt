@@ -3,6 +3,7 @@ use Rattle.std.proofs.Common.{◌≡◌, ◌≢◌, ◌↔◌, ℕ, zero, suc, �
 use Rattle.std.specs.Prelude.{◌==◌}
 use Rattle.std.proofs.lemmas.List.{drop_all}
 use Rattle.std.proofs.lemmas.Bool.{cases_eq, both_ways}
+use Rattle.std.proofs.lemmas.Option.{same_Some}
 use Rattle.icache.specs.Cache.{held}
 use Rattle.icache.specs.Accesses.{Accesses}
 use Rattle.flat_graph.specs.Graph.{Graph, Edge}
@@ -11,7 +12,6 @@ use Rattle.evict_sets.specs.Clauses.{ListsLeaders, StateAfter}
 use Rattle.evict_sets.specs.Certificate.{block_in}
 use Rattle.evict_sets.proofs.FullLaws.{unlisted_state_law}
 use Rattle.evict_sets.specs.Listing.{IsStateAt, IsStateAfter}
-use Rattle.flat_graph.proofs.Nexts.{some_one}
 
 pub past : (blocks : List (Option ℕ)) (s : ℕ) → length blocks ≤ s → held blocks s ≡ None
 past [] s le = refl
@@ -63,7 +63,7 @@ module _ (g : Graph) (a : Accesses) (l : Listed) where
       (λ (same : a.set y ≡ s).
       let there : held (set blocks (a.set y) (Some (a.block y))) s ≡ Some (a.block y) = subst (λ z. held (set blocks (a.set y) (Some (a.block y))) z ≡ Some (a.block y)) same (get_or-set_same blocks (a.set y) (Some (a.block y)) None room) in (
         (λ h. ⊎_elim (λ h'. there ∙ ap Some h'.1) (λ h'. absurd (h'.0 same)) h),
-        (λ e. inl (same, some_one (a.block y) m (sym there ∙ e))),
+        (λ e. inl (same, same_Some (a.block y) m (sym there ∙ e))),
       ))
       (λ (ne : a.set y ≢ s).
       let there : held (set blocks (a.set y) (Some (a.block y))) s ≡ held blocks s = get_or-set_other blocks (a.set y) s (Some (a.block y)) None (λ e. ne (sym e)) in (

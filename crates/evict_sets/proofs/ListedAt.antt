@@ -2,11 +2,11 @@
 use Rattle.std.proofs.Common.{◌≡◌, ◌≢◌, ℕ, suc, ◌<◌, true, false, List, [], ◌∷◌, All, Some, None, IsTrue, IsFalse, refl, sym, ap, ◌∙◌, subst, ⊎_elim, arith, ne_eqb, eq-eqb}
 use Rattle.std.specs.Prelude.{is_some, ◌==◌}
 use Rattle.std.proofs.lemmas.Bool.{cases_eq}
+use Rattle.std.proofs.lemmas.Option.{same_Some, none-some}
 use Rattle.crpd_base.specs.Sets.{has}
 use Rattle.crpd_base.specs.declared.data.NodeState.{NodeState}
 use Rattle.crpd_base.specs.declared.data.TaskPart.{TaskPart}
 use Rattle.evict_sets.specs.Certificate.{entry_of, block_in, state_by, useful_by, listed_of}
-use Rattle.flat_graph.proofs.Nexts.{some_one, none_some}
 
 pub entry_listed : (t : TaskPart) (y : ℕ) (s : NodeState) → entry_of t.states y ≡ Some s → IsTrue ((listed_of t).is_listed y)
 entry_listed t y s e = ap is_some e
@@ -22,13 +22,13 @@ entry_useful t y s c e = ap (λ o. useful_by o c) e
 
 -- what holds of all states holds of a node's entry
 pub entry_in : (P : NodeState → Type 0) (states : List NodeState) (y : ℕ) (s : NodeState) → All P states → entry_of states y ≡ Some s → P s
-entry_in P [] y s all e = absurd (none_some s e)
+entry_in P [] y s all e = absurd (none-some s e)
 entry_in P (x ∷ states) y s all e =
     ⊎_elim
     (λ (same : x.node ≡ y).
     let t : (x.node == y) ≡ true = eq-eqb x.node y same in
     let here : entry_of (x ∷ states) y ≡ Some x = rw t refl in
-    subst P (some_one x s (sym here ∙ e)) (all 0 x (omega arith)))
+    subst P (same_Some x s (sym here ∙ e)) (all 0 x (omega arith)))
     (λ (ne : x.node ≢ y).
     let f : (x.node == y) ≡ false = ne_eqb x.node y ne in
     let there : entry_of (x ∷ states) y ≡ entry_of states y = rw f refl in

@@ -3,12 +3,13 @@ use Rattle.std.proofs.Common.{◌≡◌, ◌⊎◌, ℕ, zero, suc, ◌+◌, ◌
 use Rattle.std.specs.Prelude.{reverse, ◌==◌, ◌%◌, not}
 use Rattle.std.proofs.lemmas.Bool.{cases_eq, false≢true}
 use Rattle.std.proofs.lemmas.List.{length-reverse}
+use Rattle.flat_graph.proofs.SameCode.{aligned}
 use Rattle.crpd_base.specs.Ranges.{IsPlatform}
 use Rattle.crpd_base.specs.declared.data.Platform.{Platform}
 use Rattle.rv_decode.specs.declared.Ins.{Ins}
 use Rattle.rv_decode.specs.Cost.{cost}
 use Rattle.rv_decode.specs.Flow.{Flow, Plain, Branch, Jump, Call, Return, Exit, Break, OtherJalr, OtherJal, Flows, Words, flow, flows, flow_of_word, flow_of_row}
-use Rattle.flat_graph.specs.FlatGraph.{FlatNode, NodeError, Misaligned, ins_error, error_of, returns_to, goes_on, successors, answers_by}
+use Rattle.flat_graph.specs.FlatGraph.{FlatNode, ins_error, error_of, returns_to, goes_on, successors, answers_by}
 use Rattle.flat_graph.specs.Graph.{Graph, Edge}
 use Rattle.flat_graph.specs.Numbered.{node_at}
 use Rattle.flat_graph.specs.CodeGraph.{CodeGraph, graph_of, places_of, listing, IsCodeGraph, HasCode}
@@ -70,11 +71,6 @@ some_below p g l answers (suc n) u lt h =
     (λ (e : u ≡ n). let a : 1 ≤ longest_at p g l answers n = subst (λ x. 1 ≤ longest_at p g l answers x) e h in omega (arith, a))
     (λ ne. let a = some_below p g l answers n u (omega arith) h in omega (arith, a))
     (cases_eq u n)
-
--- a node without an error goes on or answers
-aligned : (b : Bool) (o : Option NodeError) → (if b then o else Some Misaligned) ≡ None → o ≡ None
-aligned true o e = e
-aligned false o e = cc
 
 goes : (code : Flows) (entry : ℕ) (c : List ℕ) (a : ℕ) (o : Option (Option Flow)) → ins_error code entry c o ≡ None → ((m : FlatNode) × Contains (goes_on None c a o) m) ⊎ IsTrue (answers_by c o)
 goes code entry c a None e = cc

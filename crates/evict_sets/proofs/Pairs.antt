@@ -2,10 +2,10 @@
 use Rattle.std.proofs.Common.{◌≡◌, ◌≢◌, ℕ, zero, suc, ◌+◌, ◌<◌, ◌≤◌, true, false, List, [], ◌∷◌, length, get_or, Option, Some, refl, sym, ap, ◌∙◌, subst, ⊎_elim, arith, ne_eqb, eq-eqb}
 use Rattle.std.specs.Prelude.{if◌then◌else◌, ◌==◌}
 use Rattle.std.proofs.lemmas.Bool.{cases_eq}
+use Rattle.std.proofs.lemmas.Option.{same_Some, none-some}
 use Rattle.crpd_base.specs.Sets.{member}
 use Rattle.icache.specs.Cache.{held}
 use Rattle.evict_sets.specs.Certificate.{block_in}
-use Rattle.flat_graph.proofs.Nexts.{some_one, none_some}
 
 abbrev pub set_at : List (ℕ × ℕ) → ℕ → ℕ
 set_at sure j = (get_or sure j (0, 0)).0
@@ -26,13 +26,13 @@ first_block (x ∷ sure) (suc k) lt first =
     rw f rest
 
 pub found_block : (sure : List (ℕ × ℕ)) (s m : ℕ) → block_in sure s ≡ Some m → (j : ℕ) × (j < length sure) × (set_at sure j ≡ s) × (block_at sure j ≡ m) × IsFirst sure j
-found_block [] s m e = absurd (none_some m e)
+found_block [] s m e = absurd (none-some m e)
 found_block (x ∷ sure) s m e =
     ⊎_elim
     (λ (same : x.0 ≡ s).
     let t : (x.0 == s) ≡ true = eq-eqb x.0 s same in
     let here : block_in (x ∷ sure) s ≡ Some x.1 = rw t refl in
-    (0, omega arith, same, some_one x.1 m (sym here ∙ e), λ i lt. absurd (omega arith)))
+    (0, omega arith, same, same_Some x.1 m (sym here ∙ e), λ i lt. absurd (omega arith)))
     (λ (ne : x.0 ≢ s).
     let f : (x.0 == s) ≡ false = ne_eqb x.0 s ne in
     let there : block_in (x ∷ sure) s ≡ block_in sure s = rw f refl in

@@ -3,6 +3,7 @@ use Rattle.std.proofs.Common.{◌≡◌, ◌≢◌, ℕ, ◌+◌, ◌<◌, Bool,
 use Rattle.std.proofs.lemmas.Bool.Decides.{nat_tests}
 use Rattle.std.proofs.lemmas.List.Elements.{All-nil, All-cons}
 use Rattle.std.proofs.lemmas.Option.{slice_get_within, slice_get-get_or}
+use Rattle.crpd_base.proofs.Elements.{some_at}
 use Rattle.rv_decode.specs.Flow.{Flow, Plain, Branch, Jump, Call, Return, Exit, Break, OtherJalr, OtherJal, Flows, Words, flows}
 use Rattle.flat_graph.specs.FlatGraph.{FlatNode, NodeError, successors, goes_on, goes_to, returns_to, error_of}
 use Rattle.flat_graph.specs.Kept.{onward}
@@ -11,7 +12,6 @@ use Rattle.flat_graph.specs.Leaders.{AreEnds, AreApart}
 use Rattle.flat_graph.specs.declared.graph.Onward.{Onward}
 use Rattle.flat_graph.specs.declared.graph.Onward.TheVariants.{Ends, To, Either}
 use Rattle.flat_graph.specs.declared.lines.Line.{Line}
-use Rattle.flat_graph.proofs.Members.{some_at}
 
 below : (nodes : List FlatNode) (numbers : List ℕ) (some : List FlatNode) → AreNumbers nodes numbers some → All (λ v. v < length nodes) numbers
 below nodes [] some e = All-nil (λ v. v < length nodes)

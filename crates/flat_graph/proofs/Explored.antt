@@ -4,12 +4,12 @@ use Rattle.std.proofs.lemmas.Bool.{cases_lt}
 use Rattle.std.proofs.lemmas.List.{get_or_append_left, length-append, reverse-reverse, reverse-append}
 use Rattle.std.proofs.lemmas.List.Elements.{Contains-append_left, Contains-append_cases, All-nil, All-push}
 use Rattle.std.proofs.lemmas.Option.{slice_get_within}
+use Rattle.crpd_base.proofs.Elements.{head_or_rest, in_none, in_one, contains_at, at_contains, slice_get_left}
 use Rattle.rv_decode.specs.Address.{end}
 use Rattle.rv_decode.specs.Flow.{Flow, Plain, Branch, Jump, Call, Return, Exit, Break, OtherJalr, OtherJal, Flows, Words, IsCodeMap, flows, flow_of_word}
 use Rattle.flat_graph.specs.FlatGraph.{FlatNode, NodeError, IsNode, the_first, a_successor, successors, returns_to, goes_to, goes_on, error_of}
 use Rattle.flat_graph.specs.Reach.{AreAdded, IsExplored}
 use Rattle.flat_graph.specs.Spots.{IsBelowEnd}
-use Rattle.flat_graph.proofs.Members.{in_none, in_one, head_or_rest, contains_at, at_contains, slice_get_left}
 
 pub explored_first : (code : Flows) (entry : ℕ) (nodes : List FlatNode) → AreAdded [] (record { context = []; address = entry } ∷ []) nodes → IsExplored code entry 0 nodes
 explored_first code entry nodes A = record {

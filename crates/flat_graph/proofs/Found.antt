@@ -11,12 +11,11 @@ use Rattle.std.specs.List.{list_any}
 use Rattle.std.specs.List.Sorted.{IsStrictlySortedBy}
 use Rattle.std.specs.BTreeMap.{is_at}
 use Rattle.std.specs.BTreeSet.{insert_key}
+use Rattle.crpd_base.proofs.Elements.{at_head, at_rest, head_or_rest, in_none, in_one, contains_map}
 use Rattle.flat_graph.specs.FlatGraph.{FlatNode}
 use Rattle.flat_graph.specs.Reach.{IsReached, AreAdded}
 use Rattle.flat_graph.specs.Spots.{flat, flats}
 use Rattle.flat_graph.specs.declared.spots.Spot.{Spot}
-use Rattle.flat_graph.proofs.Members.{at_head, at_rest, head_or_rest, in_none, in_one}
-use Rattle.flat_graph.proofs.Numbered.{contains_map}
 use Rattle.flat_graph.proofs.Order.{then_equal, nat_equal, nat_same}
 
 -- the order of numbers, then of addresses

@@ -6,17 +6,13 @@ use Rattle.std.specs.declared.cmp.Ordering.{Ordering}
 use Rattle.std.specs.declared.cmp.Ordering.TheVariants.{Less, Equal, Greater}
 use Rattle.std.specs.Ordering.{is_eq}
 use Rattle.std.specs.BTreeMap.{BTreeMap, get, is_at}
+use Rattle.crpd_base.proofs.Elements.{slice_get_left, some_at, at_more, at_end}
 use Rattle.flat_graph.specs.Compared.{list_cmp}
 use Rattle.flat_graph.specs.FlatGraph.{FlatNode}
 use Rattle.flat_graph.specs.Reach.{AreNumbered, HasMore, IsReached}
 use Rattle.flat_graph.specs.Spots.{flat, flats}
 use Rattle.flat_graph.specs.declared.spots.Spot.{Spot}
-use Rattle.flat_graph.proofs.Members.{some_at, at_more, slice_get_left}
 use Rattle.flat_graph.proofs.Order.{list_equal, list_same}
-
-pub at_end : {X : Type 0} (xs : List X) (y : X) → slice_get (xs ++ y ∷ []) (length xs) ≡ Some y
-at_end [] y = refl
-at_end (x ∷ xs) y = at_end xs y
 
 pub more_pushed : (lists : List (List ℕ)) (c : List ℕ) → HasMore lists (lists ++ c ∷ [])
 more_pushed lists c n d e = slice_get_left lists (c ∷ []) n (slice_get_within lists n d e) ∙ e

@@ -4,6 +4,7 @@ use Rattle.std.proofs.lemmas.Bool.{cases_lt, cases_eq}
 use Rattle.std.proofs.lemmas.Bool.Decides.{nat_tests}
 use Rattle.std.proofs.lemmas.List.{take_at}
 use Rattle.std.proofs.lemmas.Option.{slice_get_within}
+use Rattle.crpd_base.proofs.Elements.{at_head, at_rest, head_or_rest, in_none, in_one, some_at}
 use Rattle.flat_graph.specs.declared.lines.Line.{Line}
 use Rattle.flat_graph.specs.Graph.{Graph, Edge, Continues, IsLeader}
 use Rattle.flat_graph.specs.Kept.{onward}
@@ -12,7 +13,6 @@ use Rattle.flat_graph.specs.declared.graph.Onward.{Onward}
 use Rattle.flat_graph.specs.declared.graph.Onward.TheVariants.{Ends, To, Either}
 use Rattle.flat_graph.specs.declared.leaders.Mark.{Mark}
 use Rattle.flat_graph.specs.declared.leaders.Mark.TheVariants as mark
-use Rattle.flat_graph.proofs.Members.{some_at, in_none, in_one, head_or_rest, at_head, at_rest}
 
 module _ (g : Graph) (k : ℕ) (lt : k < g.size) where
   -- a node towards which no edge goes from node k

@@ -2,6 +2,7 @@
 use Rattle.std.proofs.Common.{◌≡◌, ℕ, ◌<◌, ◌≤◌, List, [], ◌∷◌, ◌++◌, length, Some, None, Contains, slice_get, get_or, sym, ap, ◌∙◌, subst, ⊎_elim, All, option_map}
 use Rattle.std.proofs.lemmas.Option.{slice_get-get_or, slice_get-map}
 use Rattle.std.proofs.lemmas.List.Elements.{All-contains_itself, All-weaker}
+use Rattle.crpd_base.proofs.Elements.{at_contains, some_at, at_more}
 use Rattle.rv_decode.specs.declared.Ins.{Ins}
 use Rattle.rv_decode.specs.Flow.{Flow, Flows, Words, flow, flows, flow_of_row, flow_of_word}
 use Rattle.flat_graph.specs.FlatGraph.{FlatNode, IsNode, a_successor, IsNumbering, error_of, successors, goes_to, goes_on}
@@ -11,7 +12,6 @@ use Rattle.flat_graph.specs.Spots.{flat, flats}
 use Rattle.flat_graph.specs.declared.fault.GraphError.{GraphError}
 use Rattle.flat_graph.specs.declared.lines.Line.{Line}
 use Rattle.flat_graph.specs.declared.spots.Spot.{Spot}
-use Rattle.flat_graph.proofs.Members.{at_contains, some_at, at_more}
 use Rattle.flat_graph.proofs.Numbers.{refused_at, refused_by}
 
 -- the spot at a place, as a node

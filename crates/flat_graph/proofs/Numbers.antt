@@ -7,6 +7,7 @@ use Rattle.std.proofs.lemmas.Option.{slice_get_within, slice_get-get_or, get_or_
 use Rattle.std.specs.declared.cmp.Ordering.TheVariants.{Equal}
 use Rattle.std.specs.Ordering.{ordering_index}
 use Rattle.std.specs.List.Sorted.{IsBinarySearchResult, IsSearchInRange, IsNonDecreasingBy}
+use Rattle.crpd_base.proofs.Elements.{contains_at, at_contains}
 use Rattle.rv_decode.specs.Flow.{Flows}
 use Rattle.flat_graph.specs.FlatGraph.{FlatNode, NodeError, IsBefore, IsNode, IsNumbering, HasMoreNodes, error_of, IsGraphRefused, AtNode}
 use Rattle.flat_graph.specs.FlatGraph as node
@@ -14,7 +15,6 @@ use Rattle.flat_graph.specs.Refusals.{graph_error, IsRefused}
 use Rattle.flat_graph.specs.Spots.{flat, flats}
 use Rattle.flat_graph.specs.declared.fault.GraphError.{GraphError}
 use Rattle.flat_graph.specs.declared.spots.Spot.{Spot}
-use Rattle.flat_graph.proofs.Members.{contains_at, at_contains}
 use Rattle.flat_graph.specs.Compared.{flat_cmp}
 use Rattle.flat_graph.proofs.Order.{flat_equal, flat_same, rises, before_one_way, not_before_same}
 

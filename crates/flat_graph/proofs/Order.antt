@@ -122,7 +122,7 @@ flat_below n m (inr b) =
     ap (λ o. ordering_then o (nat_cmp n.address m.address)) (ap (list_cmp n.context) (sym b.0) ∙ list_same n.context)
     ∙ sym (nat_cmp_is n.address m.address Less b.1)
 
-flat_total : IsTotalOrder (then_cmp (on (λ (n : FlatNode). n.context) (slice_cmp nat_cmp)) (on (λ (n : FlatNode). n.address) nat_cmp))
+pub flat_total : IsTotalOrder (then_cmp (on (λ (n : FlatNode). n.context) (slice_cmp nat_cmp)) (on (λ (n : FlatNode). n.address) nat_cmp))
 flat_total = search (comparing, rules)
 
 pub flat_order : IsTotalOrder flat_cmp

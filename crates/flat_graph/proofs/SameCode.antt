@@ -3,6 +3,7 @@ use Rattle.std.proofs.Common.{◌≡◌, ℕ, suc, ◌+◌, ◌-◌, ◌%◌, �
 use Rattle.std.specs.List.{list_any}
 use Rattle.std.proofs.lemmas.List.{get_or-reverse, length-reverse}
 use Rattle.std.proofs.lemmas.Option.{slice_get_within}
+use Rattle.crpd_base.proofs.Elements.{head_or_rest, in_none, in_one, contains_at, at_contains, some_at, at_more}
 use Rattle.rv_decode.specs.Flow.{Flow, Plain, Branch, Jump, Call, Return, Exit, Break, OtherJalr, OtherJal, Flows, Words, flow_of_row, flow_of_word, flows}
 use Rattle.rv_decode.specs.Table.{row}
 use Rattle.flat_graph.specs.CodeGraph.{CodeGraph, HasCode, IsCodeGraph, ins_of, places_of}
@@ -10,7 +11,6 @@ use Rattle.flat_graph.specs.FlatGraph.{FlatNode, IsNode, NodeError, the_first, a
 use Rattle.flat_graph.specs.FlatGraph as flat
 use Rattle.flat_graph.specs.Refusals.{Stands}
 use Rattle.flat_graph.specs.SameCode.{FitsCode}
-use Rattle.flat_graph.proofs.Members.{at_contains, at_more, contains_at, head_or_rest, in_none, in_one, some_at}
 
 -- ---- a node without an error has a word
 
@@ -18,7 +18,7 @@ no_word : (code : Flows) (entry : ℕ) (c : List ℕ) (t : Bool) (o : Option (Op
 no_word code entry c true o none e P = let f = rw none at e in cc
 no_word code entry c false o none e P = cc
 
-some_word : (words : Words) (entry : ℕ) (n : FlatNode) → error_of (flows words) entry n ≡ None → (w : ℕ) × (words n.address ≡ Some w)
+pub some_word : (words : Words) (entry : ℕ) (n : FlatNode) → error_of (flows words) entry n ≡ None → (w : ℕ) × (words n.address ≡ Some w)
 some_word words entry n e = by_word (words n.address) refl
   where
     by_word : (o : Option ℕ) → words n.address ≡ o → (w : ℕ) × (words n.address ≡ Some w)
@@ -75,6 +75,11 @@ after None c a None m there = absurd (in_none m there)
 after (Some x) c a (Some (Some f)) m there = absurd (in_none m there)
 after (Some x) c a (Some None) m there = absurd (in_none m there)
 after (Some x) c a None m there = absurd (in_none m there)
+
+-- a node without an error is aligned, and its instruction has none
+pub aligned : (b : Bool) (o : Option NodeError) → (if b then o else Some flat.Misaligned) ≡ None → o ≡ None
+aligned true o e = e
+aligned false o e = cc
 
 -- ---- codes that are the same at a node and at the calls under way there
 

@@ -11,13 +11,13 @@ use Rattle.std.specs.Ordering.{is_lt, ordering_reverse}
 use Rattle.std.specs.List.{swap}
 use Rattle.std.specs.List.Sorted.{IsPermutation, IsSortedBy}
 use Rattle.std.specs.BTreeMap.{BTreeMap}
+use Rattle.crpd_base.proofs.Elements.{contains_map, contains_mapped}
 use Rattle.rv_decode.specs.Flow.{Flows}
 use Rattle.flat_graph.specs.Compared.{flat_cmp}
 use Rattle.flat_graph.specs.FlatGraph.{FlatNode, IsBefore, IsNode, IsNumbering, HasMoreNodes}
 use Rattle.flat_graph.specs.Reach.{AreNumbered, IsReached, IsExplored}
 use Rattle.flat_graph.specs.Spots.{flat, flats}
 use Rattle.flat_graph.specs.declared.spots.Spot.{Spot}
-use Rattle.flat_graph.proofs.Numbered.{contains_map, contains_mapped}
 use Rattle.flat_graph.proofs.Order.{flat_less, flat_equal, flat_order}
 use Rattle.flat_graph.proofs.Explored.{explored_all}
 use Rattle.flat_graph.proofs.Listed.{one_spot}

@@ -2,6 +2,7 @@
 use Rattle.std.proofs.Common.{◌≡◌, ℕ, ◌<◌, ◌≤◌, ◌↔◌, Bool, List, [], length, map, Some, slice_get, refl, sym, ap, ◌∙◌, subst, arith, option_map, IsTrue, All}
 use Rattle.std.proofs.lemmas.List.{length-map}
 use Rattle.std.proofs.lemmas.Option.{slice_get_within, slice_get-map, get_or_from_slice_get}
+use Rattle.crpd_base.proofs.Elements.{contains_at, some_at}
 use Rattle.rv_decode.specs.Table.{row}
 use Rattle.rv_decode.specs.Flow.{Words, IsCodeMap, flows}
 use Rattle.flat_graph.specs.FlatGraph.{FlatNode, IsNumbering, error_of, successors}
@@ -15,7 +16,6 @@ use Rattle.flat_graph.specs.Spots.{flat, flats}
 use Rattle.flat_graph.specs.declared.graph.Stand.{Stand}
 use Rattle.flat_graph.specs.declared.lines.Line.{Line}
 use Rattle.flat_graph.specs.declared.spots.Spot.{Spot}
-use Rattle.flat_graph.proofs.Members.{some_at, contains_at}
 use Rattle.flat_graph.proofs.Numbered.{flat_graph_law}
 
 -- what stands at a place

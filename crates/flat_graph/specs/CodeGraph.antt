@@ -30,6 +30,13 @@ no_node = record { context = []; address = 0; ins = Ecall; next = [] }
 abbrev pub node_of : CodeGraph → ℕ → GraphNode
 node_of g u = slice_index_or g.nodes u no_node
 
+-- the graph of a task in a list; past the list's end one with no nodes
+abbrev pub no_graph : CodeGraph
+no_graph = record { nodes = []; first = 0 }
+
+abbrev pub graph_at : List CodeGraph → ℕ → CodeGraph
+graph_at graphs i = slice_index_or graphs i no_graph
+
 -- its graph of numbers, where its nodes stand, and their instructions
 abbrev pub graph_of : CodeGraph → Graph
 graph_of g = record { size = length g.nodes; first = g.first; next = λ u. (node_of g u).next }

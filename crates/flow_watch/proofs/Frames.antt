@@ -8,6 +8,7 @@ use Rattle.std.proofs.lemmas.List.Elements.{All-nil, All-cons, All-get_or}
 use Rattle.std.proofs.lemmas.Simd.{splat_is_map}
 use Rattle.std.specs.Prelude.{Vec}
 use Rattle.std.specs.Vec.{with_items_from}
+use Rattle.crpd_base.proofs.Rows.{row_ends}
 use Rattle.rv_decode.specs.Address.{after, address_before, end}
 use Rattle.crpd_base.specs.declared.data.TaskPlan.{TaskPlan}
 use Rattle.flow_watch.specs.Watch.{Frame, Watch, all_turns_after, within_bounds, arrive, context}
@@ -23,10 +24,6 @@ front a n l xs fits =
     let room : n ≤ l - a = omega arith in
     ap (λ (k : ℕ). take n (drop a (take k xs))) is
     ∙ (ap (λ (ys : List ℕ). take n ys) (drop-take a (l - a) xs) ∙ take-take n (l - a) (drop a xs) room)
-
--- a row ends where the next one begins
-pub row_ends : (n j k : ℕ) → j < k → j * n + n ≤ k * n
-row_ends n j k lt = let le : suc j * n ≤ k * n = mul-le-mul_right n lt in omega arith
 
 -- a row was written, and those below it stand
 pub record IsWritten (n k : ℕ) (old ws new : List ℕ) : Type 0 where

@@ -89,3 +89,8 @@ pub pushed_some : (plan : TaskPlan) (from : ℕ) (w : Watch) → option_and_then
 pushed_some plan from None e = cc
 pushed_some plan from (Some frames) e =
     not_empty (nat_lt (length frames) 17) (new_frame plan (after from)) frames e
+
+-- where there is no watch, none follows
+pub step_none : (plan : TaskPlan) (from : ℕ) (ins : Ins) (to : ℕ) → step plan None from ins to ≡ None
+unfolding step
+step_none plan from ins to = refl

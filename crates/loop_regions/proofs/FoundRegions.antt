@@ -1,7 +1,8 @@
 -- The regions of stated loops, from the heads and the holders that were found.
-use Rattle.std.proofs.Common.{◌≡◌, ◌↔◌, ℕ, zero, suc, ◌<◌, ◌≤◌, Bool, true, false, List, [], ◌∷◌, length, map, Some, slice_get, slice_index, get_or, IsTrue, IsFalse, refl, sym, ap, ◌∙◌, subst, ⊎_elim, arith}
+use Rattle.std.proofs.Common.{◌≡◌, ◌↔◌, ℕ, zero, suc, ◌<◌, ◌≤◌, List, [], ◌∷◌, length, map, Some, slice_get, slice_index, get_or, IsTrue, IsFalse, refl, sym, ap, ◌∙◌, subst, ⊎_elim, arith}
 use Rattle.std.proofs.lemmas.Bool.{cases_lt, both_ways}
 use Rattle.std.proofs.lemmas.Option.{slice_get_within, slice_get-get_or, get_or_from_slice_get}
+use Rattle.std.specs.Cmp.{both_ways as same_tests}
 use Rattle.crpd_base.specs.declared.data.LoopAt.{LoopAt}
 use Rattle.flat_graph.specs.Graph.{Graph, Places}
 use Rattle.loop_regions.specs.Stated.{holds_seen, region_holds, IsRegionOf, IsRegions}
@@ -10,11 +11,6 @@ use Rattle.loop_regions.specs.Heads.{AreHeads, IsHeldBy}
 use Rattle.loop_regions.specs.Sound.{IsSound}
 use Rattle.loop_regions.specs.declared.heads.Head.{Head}
 use Rattle.loop_regions.proofs.Stated.{seen_here, loop_holds_head}
-
-pub same_bool : (a b : Bool) → (IsTrue a → IsTrue b) → (IsTrue b → IsTrue a) → a ≡ b
-same_bool true b f g = sym (f refl)
-same_bool false true f g = g refl
-same_bool false false f g = refl
 
 pub past_end : (rows : List (List ℕ)) (y : ℕ) → length rows ≤ y → row rows y ≡ []
 past_end [] y le = refl
@@ -98,7 +94,7 @@ module _ (g : Graph) (p : Places) (loops : List LoopAt) (heads : List Head) (nod
     bound = C r o.h o.l o.here o.there;
     holds = λ y lt.
         subst (λ z. has (row holders y) r ≡ region_holds p o.l (p.context z) y) (sym o.node)
-        (same_bool (has (row holders y) r) (region_holds p o.l (p.context o.h.node) y) (holds_by y r lt o) (held y r lt o));
+        (same_tests (has (row holders y) r) (region_holds p o.l (p.context o.h.node) y) (holds_by y r lt o) (held y r lt o));
   }
 
   pub is_regions : IsRegions g p loops (nest_of (record { heads = nodes; bounds = bounds; holders = holders }))

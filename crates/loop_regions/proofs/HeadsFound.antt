@@ -1,7 +1,8 @@
 -- The heads of stated loops, node by node, and the regions that hold a node, head by head.
-use Rattle.std.proofs.Common.{◌≡◌, ◌⊎◌, ◌↔◌, ℕ, zero, suc, ◌+◌, ◌<◌, List, [], ◌∷◌, ◌++◌, length, Some, None, slice_get, IsTrue, refl, sym, ap, ◌∙◌, subst, inl, inr, ⊎_elim, arith, length-append, if◌then◌else◌}
+use Rattle.std.proofs.Common.{◌≡◌, ◌⊎◌, ◌↔◌, ℕ, ◌+◌, ◌<◌, List, [], ◌∷◌, ◌++◌, length, Some, None, slice_get, IsTrue, sym, ap, ◌∙◌, subst, ⊎_elim, arith, length-append, if◌then◌else◌}
 use Rattle.std.proofs.lemmas.Bool.{cases_eq}
 use Rattle.std.proofs.lemmas.Option.{slice_get_within}
+use Rattle.crpd_base.proofs.Elements.{at_more, at_end, at_kept}
 use Rattle.crpd_base.specs.declared.data.LoopAt.{LoopAt}
 use Rattle.flat_graph.specs.Graph.{Places}
 use Rattle.loop_regions.specs.Stated.{region_holds}
@@ -9,21 +10,6 @@ use Rattle.loop_regions.specs.CodeNest.{has}
 use Rattle.loop_regions.specs.Heads.{IsLoopAt, AreHeads, IsHeldBy}
 use Rattle.loop_regions.specs.declared.heads.Head.{Head}
 use Rattle.loop_regions.proofs.Has.{has_placed, placed_has, has_more}
-
-pub get_pushed : {X : Type 0} (xs : List X) (x : X) → slice_get (xs ++ x ∷ []) (length xs) ≡ Some x
-get_pushed [] x = refl
-get_pushed (y ∷ xs) x = get_pushed xs x
-
-pub get_kept : {X : Type 0} (xs : List X) (x : X) (k : ℕ) (y : X) → slice_get xs k ≡ Some y → slice_get (xs ++ x ∷ []) k ≡ Some y
-get_kept [] x k y e = absurd (let lt = slice_get_within [] k y e in omega arith)
-get_kept (z ∷ xs) x zero y e = e
-get_kept (z ∷ xs) x (suc k) y e = get_kept xs x k y e
-
-pub get_cases : {X : Type 0} (xs : List X) (x : X) (k : ℕ) (y : X) → slice_get (xs ++ x ∷ []) k ≡ Some y → (slice_get xs k ≡ Some y) ⊎ ((k ≡ length xs) × (x ≡ y))
-get_cases [] x zero y e = inr (refl, cc)
-get_cases [] x (suc k) y e = absurd (let lt = slice_get_within [] k y e in omega arith)
-get_cases (z ∷ xs) x zero y e = inl e
-get_cases (z ∷ xs) x (suc k) y e = ⊎_elim (λ t. inl t) (λ t. inr (omega (arith, t.0), t.1)) (get_cases xs x k y e)
 
 module _ (p : Places) (loops : List LoopAt) where
   pub no_head : (k : ℕ) (heads : List Head) → AreHeads p loops k heads → IsLoopAt loops (p.address k) None → AreHeads p loops (k + 1) heads
@@ -38,24 +24,24 @@ module _ (p : Places) (loops : List LoopAt) where
   pub one_head : (k i : ℕ) (heads : List Head) → AreHeads p loops k heads → IsLoopAt loops (p.address k) (Some i) → AreHeads p loops (k + 1) (heads ++ record { node = k; stated = i } ∷ [])
   one_head k i heads H some = record {
     few = let f = H.few in omega (arith, length-append heads (here ∷ []));
-    node = λ r h e. ⊎_elim (λ t. let lt = H.node r h t in omega arith) (λ t. let s = ap (λ (x : Head). x.node) t.1 in omega (arith, s)) (get_cases heads here r h e);
+    node = λ r h e. ⊎_elim (λ t. let lt = H.node r h t in omega arith) (λ t. let s = ap (λ (x : Head). x.node) t.1 in omega (arith, s)) (at_more heads here r h e);
     numbered = λ r s h j lt eh ej. ⊎_elim
         (λ u. ⊎_elim
         (λ t. H.numbered r s h j lt t u)
         (λ t. absurd (let w = slice_get_within heads s j u in omega (arith, t.0)))
-        (get_cases heads here r h eh))
+        (at_more heads here r h eh))
         (λ u. ⊎_elim
         (λ t. let w = H.node r h t in let n = ap (λ (x : Head). x.node) u.1 in omega (arith, n))
         (λ t. absurd (omega (arith, t.0, u.0)))
-        (get_cases heads here r h eh))
-        (get_cases heads here s j ej);
+        (at_more heads here r h eh))
+        (at_more heads here s j ej);
     stated = λ r h e. ⊎_elim
         (λ t. H.stated r h t)
         (λ t. subst (λ (x : Head). (l : LoopAt) × (slice_get loops x.stated ≡ Some l) × (p.address x.node ≡ l.head)) t.1 some)
-        (get_cases heads here r h e);
+        (at_more heads here r h e);
     all = λ l y c lt e. ⊎_elim
-        (λ is. (length heads, here, get_pushed heads here, sym is))
-        (λ ne. let a = H.all l y c (omega arith) e in (a.0, a.1, get_kept heads here a.0 a.1 a.2, a.3))
+        (λ is. (length heads, here, at_end heads here, sym is))
+        (λ ne. let a = H.all l y c (omega arith) e in (a.0, a.1, at_kept heads here a.0 a.1 a.2, a.3))
         (cases_eq y k);
   }
     where

@@ -10,9 +10,9 @@ use Rattle.std.proofs.lemmas.List.Folds.{list_any_at, list_any_none}
 use Rattle.std.proofs.lemmas.List.Sorted.{list_any-IsPermutation}
 use Rattle.std.specs.List.{list_any}
 use Rattle.std.specs.List.Sorted.{IsPartitionPoint}
+use Rattle.crpd_base.proofs.Elements.{at_end}
 use Rattle.flow_watch.specs.Watch.{in_range, holds}
 use Rattle.crpd_base.specs.declared.data.LoopAt.{LoopAt}
-use Rattle.loop_regions.proofs.HeadsFound.{get_pushed}
 use Rattle.loop_regions.specs.Ranges.{end_of, IsReach, AreReaches, AreRanges}
 
 -- one more range
@@ -44,7 +44,7 @@ reaches_more ranges reaches count reach R h = record {
 
     at_last : IsReach ranges (length reaches + 1) (slice_index (reaches ++ reach ∷ []) (length reaches))
     at_last =
-        subst (IsReach ranges (length reaches + 1)) (sym (get_or_from_slice_get (reaches ++ reach ∷ []) (length reaches) reach 0 (get_pushed reaches reach)))
+        subst (IsReach ranges (length reaches + 1)) (sym (get_or_from_slice_get (reaches ++ reach ∷ []) (length reaches) reach 0 (at_end reaches reach)))
         (subst (λ n. IsReach ranges (n + 1) reach) (sym R.count_is) h)
 
 in_false : (a : ℕ) (r : ℕ × ℕ) → (r.0 ≤ a → r.1 ≤ a) → in_range a r ≡ false

@@ -2,6 +2,7 @@
 use Rattle.std.proofs.Common.{◌≡◌, ℕ, true, false, List, [], ◌∷◌, ◌++◌, Some, None, refl, sym, ◌∙◌, ap, inl, inr, arith}
 use Rattle.std.specs.Prelude.{◌==◌, nat_lt, length}
 use Rattle.std.proofs.lemmas.Bool.{cases_Bool, false≢true}
+use Rattle.flow_watch.proofs.Steps.{step_none}
 use Rattle.crpd_base.specs.declared.data.TaskPlan.{TaskPlan}
 use Rattle.rv_decode.specs.declared.Ins.{Ins}
 use Rattle.rv_decode.specs.Address.{after, end}
@@ -11,7 +12,7 @@ use Rattle.flow_watch.specs.Watch.{Frame, Watch, all_turns_after, within_bounds,
 use Rattle.loop_regions.specs.Nest.{Nest}
 use Rattle.loop_regions.specs.Stated.{IsRegions}
 use Rattle.loop_regions.specs.Steps.{Step, place_after, watch_after, node_after, nodes_along, IsWalkOf, IsKeptWalkOf, IsGoingOn, IsAnswer, exits, returns, PathLaw, PathEndLaw, ReturnLaw}
-use Rattle.loop_regions.proofs.Steps.{step_some, step_none, kept_before, kept_walk_of, answering_walk, returned}
+use Rattle.loop_regions.proofs.Steps.{step_some, kept_before, kept_walk_of, answering_walk, returned}
 
 -- the plan, the nest and the frames without loops
 abbrev bare : TaskPlan → TaskPlan

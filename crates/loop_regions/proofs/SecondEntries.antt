@@ -1,9 +1,9 @@
 -- Regions that are entered elsewhere than at their heads.
-use Rattle.std.proofs.Common.{◌≡◌, ◌≢◌, ◌⊎◌, ℕ, zero, suc, ◌+◌, ◌<◌, ◌≤◌, Bool, false, not, ◌&&◌, List, length, Some, None, Contains, slice_get, slice_index, IsTrue, refl, sym, ap, ◌∙◌, subst, inl, inr, ⊎_elim, arith, ◌==◌, eq-eqb}
+use Rattle.std.proofs.Common.{◌≡◌, ◌≢◌, ◌⊎◌, ℕ, ◌+◌, ◌<◌, ◌≤◌, Bool, false, not, ◌&&◌, List, length, Some, None, slice_get, slice_index, IsTrue, refl, sym, ◌∙◌, subst, inl, inr, ⊎_elim, arith, ◌==◌, eq-eqb}
 use Rattle.std.specs.Prelude.{Option, nat_lt}
 use Rattle.std.specs.List.{list_any}
 use Rattle.std.proofs.lemmas.Bool.{cases_eq, both_ways, eqb-true, ltb-true, lt-ltb, and_parts, and_from, not-true, not_from_false, false_from_ne_true}
-use Rattle.std.proofs.lemmas.Option.{slice_get_within, get_or_from_slice_get, slice_get-get_or}
+use Rattle.crpd_base.proofs.Elements.{at_contains, first_or_second}
 use Rattle.flat_graph.specs.Graph.{Graph}
 use Rattle.loop_regions.specs.Nest.{Nest}
 use Rattle.loop_regions.specs.Stated.{IsSecondEntry}
@@ -25,15 +25,6 @@ no_head heads v r ne = not_from_false (is_head heads v r) (false_from_ne_true (i
 
 pub other_head : (heads : List ℕ) (v r : ℕ) → r < length heads → IsTrue (not (is_head heads v r)) → v ≢ slice_index heads r
 other_head heads v r lt h e = both_ways (is_head heads v r) (not-true (is_head heads v r) h) (is_the_head heads v r lt (sym e))
-
--- the successors of a node, where there are at most two
-second : (xs : List ℕ) (v : ℕ) → length xs ≤ 2 → Contains xs v → (slice_get xs 0 ≡ Some v) ⊎ (slice_get xs 1 ≡ Some v)
-second xs v le (zero, lt, e) = inl (slice_get-get_or xs 0 v lt ∙ ap Some e)
-second xs v le (suc zero, lt, e) = inr (slice_get-get_or xs 1 v lt ∙ ap Some e)
-second xs v le (suc (suc k), lt, e) = absurd (omega arith)
-
-at_place : (xs : List ℕ) (k v : ℕ) → slice_get xs k ≡ Some v → Contains xs v
-at_place xs k v e = (k, slice_get_within xs k v e, get_or_from_slice_get xs k v v e)
 
 module _ (g : Graph) (heads bounds : List ℕ) (holders : List (List ℕ)) (S : IsSound heads bounds holders) where
   abbrev test : ℕ → ℕ → ℕ → Bool
@@ -64,8 +55,8 @@ module _ (g : Graph) (heads bounds : List ℕ) (holders : List (List ℕ)) (S : 
   pub both_edges : (u : ℕ) (a b : Option ℕ) → u < g.size → length (g.next u) ≤ 2 → IsLeast (EntersBy g (nest_by heads bounds holders) u 0) a → IsLeast (EntersBy g (nest_by heads bounds holders) u 1) b → IsLeast (EntersFrom g (nest_by heads bounds holders) u) (lesser a b)
   both_edges u a b lt le h i =
       least_same (λ v. EntersBy g (nest_by heads bounds holders) u 0 v ⊎ EntersBy g (nest_by heads bounds holders) u 1 v) (EntersFrom g (nest_by heads bounds holders) u) (lesser a b)
-      (λ v s. ⊎_elim (λ p. ((lt, at_place (g.next u) 0 v p.0), p.1)) (λ p. ((lt, at_place (g.next u) 1 v p.0), p.1)) s)
-      (λ v e. ⊎_elim (λ p. inl (p, e.1)) (λ p. inr (p, e.1)) (second (g.next u) v le e.0.1))
+      (λ v s. ⊎_elim (λ p. ((lt, at_contains (g.next u) 0 v p.0), p.1)) (λ p. ((lt, at_contains (g.next u) 1 v p.0), p.1)) s)
+      (λ v e. ⊎_elim (λ p. inl (p, e.1)) (λ p. inr (p, e.1)) (first_or_second (g.next u) v le e.0.1))
       (least_or (EntersBy g (nest_by heads bounds holders) u 0) (EntersBy g (nest_by heads bounds holders) u 1) a b h i)
 
   pub start_inside : IsTrue (list_any (λ q. not (is_head heads g.first q)) (row holders g.first)) → IsLeast (IsInsideStart g (nest_by heads bounds holders)) (Some g.first)

@@ -2,6 +2,7 @@
 use Rattle.std.proofs.Common.{◌≡◌, ◌⊎◌, ℕ, true, List, [], ◌∷◌, map, Some, None, refl, sym, ◌∙◌, ap, subst, inl, inr, arith}
 use Rattle.std.specs.Prelude.{◌==◌, nat_lt, length}
 use Rattle.std.proofs.lemmas.Bool.{cases_Bool, eqb-true, false≢true}
+use Rattle.flow_watch.proofs.Steps.{step_none}
 use Rattle.crpd_base.specs.declared.data.TaskPlan.{TaskPlan}
 use Rattle.rv_decode.specs.declared.Ins.{Ins}
 use Rattle.rv_decode.specs.Address.{after, end}
@@ -59,10 +60,6 @@ bottom_return code plan (f ∷ fs) from OtherJal to are e = absurd (let r = e in
 pub step_some : (plan : TaskPlan) (frames : List Frame) (from : ℕ) (ins : Ins) (to : ℕ) → watch_step plan (Some frames) from ins to ≡ moved plan frames from (flow from ins) to
 unfolding watch_step
 step_some plan frames from ins to = refl
-
-pub step_none : (plan : TaskPlan) (from : ℕ) (ins : Ins) (to : ℕ) → watch_step plan None from ins to ≡ None
-unfolding watch_step
-step_none plan from ins to = refl
 
 -- what is kept after a step was kept before it
 pub kept_before : (plan : TaskPlan) (w : Watch) (from : ℕ) (ins : Ins) (to : ℕ) → is_kept (watch_step plan w from ins to) ≡ true → is_kept w ≡ true

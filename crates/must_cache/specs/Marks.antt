@@ -1,8 +1,7 @@
 -- Tests of the cache sets, and how they go along the edges.
 use Rattle.std.specs.Prelude.{ℕ, Bool, false, ◌||◌, ◌==◌, if◌then◌else◌, List, [], slice_index_or}
-use Rattle.crpd_base.specs.Sum.{sum_below}
+use Rattle.crpd_base.specs.Sum.{sum_below, one_if}
 use Rattle.icache.specs.Accesses.{Accesses}
-use Rattle.dataflow.specs.Search.{one_if}
 
 -- a test of the sets
 abbrev pub Marks : Type 0

@@ -4,6 +4,7 @@ use Rattle.std.specs.Prelude.{◌==◌, nat_lt, slice_set}
 use Rattle.std.proofs.lemmas.Bool.{and_from, and_parts, cases_Bool, cases_eq, eq-eqb, false≢true}
 use Rattle.std.proofs.lemmas.Bool.Decides.{nat_tests}
 use Rattle.std.proofs.lemmas.List.{set-get_or, set-set}
+use Rattle.crpd_base.proofs.Options.{some_injective}
 use Rattle.crpd_base.specs.declared.data.ScriptJob.{ScriptJob}
 use Rattle.crpd_base.specs.declared.data.Switching.{Switching}
 use Rattle.crpd_base.specs.declared.data.Switching.TheVariants.{Cycle, Instruction}
@@ -16,7 +17,7 @@ use Rattle.preempt_machine.proofs.Candidates.{none_candidate}
 use Rattle.preempt_machine.proofs.Firsts.{best_is}
 use Rattle.preempt_machine.proofs.Lefts.{turned_left}
 use Rattle.preempt_machine.proofs.Order.{IsBest, IsFirst, first_ready_is}
-use Rattle.preempt_machine.proofs.Steps.{candidate_some, ready_from, ready_open, ready_released, some_injective}
+use Rattle.preempt_machine.proofs.Steps.{candidate_some, ready_from, ready_open, ready_released}
 use Rattle.preempt_machine.proofs.Turned.{candidate_is}
 use Rattle.preempt_fast.specs.Stretch.{turned_by, placed_by, NoRelease, IdleLaw, SwitchLaw, CyclesLaw, EffectLaw}
 use Rattle.preempt_fast.proofs.Turnings.{counts, finishes, open_up_to, switches, turned_by_line}

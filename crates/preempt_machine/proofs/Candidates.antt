@@ -4,6 +4,7 @@ use Rattle.std.specs.Prelude.{slice_index_or, nat_lt}
 use Rattle.std.proofs.lemmas.Bool.{cases_Bool, cases_lt, false≢true, and_parts, and_from}
 use Rattle.std.proofs.lemmas.Bool.Decides.{nat_tests}
 use Rattle.std.proofs.lemmas.List.{get_or-map, length-map}
+use Rattle.crpd_base.proofs.Options.{some_injective, none_some}
 use Rattle.crpd_base.specs.declared.data.ScriptJob.{ScriptJob}
 use Rattle.crpd_base.specs.declared.data.Switching.{Switching}
 use Rattle.crpd_base.specs.declared.data.Switching.TheVariants.{Cycle, Instruction}
@@ -12,7 +13,7 @@ use Rattle.preempt_machine.specs.Step.{is_open, is_ready, comes_before, before, 
 use Rattle.preempt_machine.specs.Candidate.{task_of, job_number, IsReady, ComesBefore, higher, earlier, smaller, KeepsCore, IsCandidate, the_owner, the_first, CandidateLaw, NoCandidateLaw, OneCandidateLaw}
 use Rattle.preempt_machine.proofs.Order.{IsBest, first_ready_is}
 use Rattle.preempt_machine.proofs.Numbers.{number_grows}
-use Rattle.preempt_machine.proofs.Steps.{some_injective, none_some, ready_open, ready_released, ready_from, open_is_below}
+use Rattle.preempt_machine.proofs.Steps.{ready_open, ready_released, ready_from, open_is_below}
 
 pub open_is : (s : Standing) → is_open s ≡ true → s ≡ Open
 open_is Open o = refl

@@ -6,6 +6,7 @@ use Rattle.std.proofs.lemmas.Bool.Decides.{nat_tests}
 use Rattle.std.proofs.lemmas.List.{ext_get_or, get_or-map, length-map, map-append, take_more}
 use Rattle.std.proofs.Math.ListN.{get_or-append}
 use Rattle.std.proofs.Math.Seq.{get_or-append_seam}
+use Rattle.crpd_base.proofs.Options.{none_some}
 use Rattle.crpd_base.specs.declared.data.JobId.{JobId}
 use Rattle.crpd_base.specs.declared.data.ScriptJob.{ScriptJob}
 use Rattle.crpd_base.specs.declared.data.TaskPlan.{TaskPlan}
@@ -23,7 +24,6 @@ use Rattle.preempt_machine.specs.Running.{completion_at, job_id, HasPlan, IsAt}
 use Rattle.preempt_machine.specs.Kept.{line_at, lines_of, completion, place_at, task_at, IsDue, IsFirstFrom, IsKept, IsLinked, IsWaiting}
 use Rattle.preempt_machine.proofs.Firsts.{line_is, lines_long}
 use Rattle.preempt_machine.proofs.Numbers.{number_grows}
-use Rattle.preempt_machine.proofs.Steps.{none_some}
 
 -- the number of jobs of a task before a place, one place further
 pub number_next : (lines : List ScriptJob) (t k : ℕ) → k < length lines → number_of lines t (k + 1) ≡ number_of lines t k + (if (line_at lines k).task.0 == t then 1 else 0)
@@ -50,12 +50,9 @@ number_other lines t k h ne =
     let b : ((line_at lines k).task.0 == t) ≡ false = ne_eqb _ _ (λ e. ne (sym e)) in
     number_next lines t k h ∙ rw b (omega arith)
 
-number_none : (lines : List ScriptJob) (t : ℕ) → number_of lines t 0 ≡ 0
-number_none [] t = refl
-number_none (l ∷ lines) t = refl
-
 pub number_start : (lines : List ScriptJob) (t : ℕ) → number_of lines t 0 ≡ 0
-number_start = number_none
+number_start [] t = refl
+number_start (l ∷ lines) t = refl
 
 pub number_bound : (lines : List ScriptJob) (t k : ℕ) → number_of lines t k ≤ k
 number_bound [] t k = omega arith

@@ -4,6 +4,7 @@ use Rattle.std.specs.Prelude.{nat_le, slice_index, slice_set}
 use Rattle.std.proofs.Math.Seq.{map-set_same}
 use Rattle.std.proofs.lemmas.Bool.{cases_Bool, cases_eq, cases_lt, false≢true}
 use Rattle.std.proofs.lemmas.Bool.Decides.{nat_tests}
+use Rattle.crpd_base.proofs.Options.{some_injective}
 use Rattle.crpd_base.specs.declared.data.JobId.{JobId}
 use Rattle.crpd_base.specs.declared.data.ScriptJob.{ScriptJob}
 use Rattle.preempt_machine.specs.declared.Completion.{Completion}
@@ -17,7 +18,7 @@ use Rattle.preempt_machine.specs.Running.{job_id, completion_at}
 use Rattle.preempt_machine.specs.Kept.{line_at, task_at, place_at, release_at, lines_of, heads_after, completions_after, completion, opened, IsDue, IsFirstFrom, IsLinked, IsWaiting, IsKept, IsUpTo, IsHead, IsOwner, HasOpened, AreReleased}
 use Rattle.preempt_machine.proofs.Candidates.{open_is}
 use Rattle.preempt_machine.proofs.Firsts.{line_is, lines_long, release_le}
-use Rattle.preempt_machine.proofs.Steps.{cache_after, candidate_some, ready_open, ready_released, some_injective, step_length, step_line, step_other, step_time, turned_cache, turned_line}
+use Rattle.preempt_machine.proofs.Steps.{cache_after, candidate_some, ready_open, ready_released, step_length, step_line, step_other, step_time, turned_cache, turned_line}
 
 -- lines stay
 lines_by : (sys : System) (m : Machine) (c : Option ℕ) → lines_of (step_by sys m c).jobs ≡ lines_of m.jobs

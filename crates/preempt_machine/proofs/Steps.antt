@@ -4,6 +4,7 @@ use Rattle.std.specs.Prelude.{is_some, ◌==◌, nat_lt, if◌then◌else◌}
 use Rattle.std.proofs.lemmas.Bool.{cases_Bool, cases_lt, cases_eq, false≢true, and_parts, eqb-true, leb-true}
 use Rattle.std.proofs.lemmas.Bool.Decides.{nat_tests}
 use Rattle.std.proofs.lemmas.List.{get_or_past}
+use Rattle.crpd_base.proofs.Options.{some_injective, none_some}
 use Rattle.crpd_base.specs.declared.data.Switching.{Switching}
 use Rattle.crpd_base.specs.declared.data.Switching.TheVariants.{Cycle, Instruction}
 use Rattle.rv_decode.specs.declared.Ins.{Ins}
@@ -14,12 +15,6 @@ use Rattle.icache.specs.Cache.{accessed, block_of}
 use Rattle.preempt_machine.specs.Machine.{System, Job, Machine, ins_at, job_at, no_job}
 use Rattle.preempt_machine.specs.Step.{is_open, is_ready, before, keeps_core, candidate, candidate_by, Turn, turn_of, turned, executed, worked, went, fetched, step, step_by, makes_fetch, Fetch, fetch, fetch_by}
 use Rattle.preempt_machine.proofs.Order.{IsBest, first_ready_is}
-
-pub some_injective : {A : Type 0} {a b : A} → Some a ≡ Some b → a ≡ b
-some_injective h = cc
-
-pub none_some : {A : Type 0} {a : A} → None ≡ Some a → ⊥
-none_some h = cc
 
 pub ready_open : (time : ℕ) (job : Job) → is_ready time job ≡ true → is_open job.standing ≡ true
 unfolding is_ready

@@ -1,24 +1,21 @@
 -- A broken watch stays broken; so a flag that is looked at for the owner alone tells whether no watch is broken.
-use Rattle.std.proofs.Common.{◌≡◌, ◌≢◌, ℕ, ◌<◌, Bool, true, false, ◌&&◌, List, length, Option, Some, None, refl, sym, ◌∙◌, ap, subst, inl, inr, ◌⊎◌, arith}
+use Rattle.std.proofs.Common.{◌≡◌, ◌≢◌, ℕ, ◌<◌, Bool, true, false, ◌&&◌, List, length, Option, Some, None, refl, sym, ◌∙◌, ap, subst, inl, inr, arith}
 use Rattle.std.specs.Prelude.{◌↔◌, nat_lt, IsTrue}
 use Rattle.std.proofs.lemmas.Bool.{cases_Bool, cases_eq, and_from, and_parts, false≢true, true≢false}
 use Rattle.std.proofs.lemmas.List.{get_or_default}
-use Rattle.crpd_base.specs.declared.data.TaskPlan.{TaskPlan}
+use Rattle.flow_watch.proofs.Steps.{step_none}
+use Rattle.crpd_base.proofs.Options.{some_injective, same_or_not}
 use Rattle.rv_decode.specs.declared.Ins.{Ins}
 use Rattle.rv_core.specs.declared.Next.{Next}
 use Rattle.rv_core.specs.declared.Next.TheVariants.{Goto, Answer, Fault}
 use Rattle.rv_core.specs.Effect.{next_pc}
-use Rattle.flow_watch.specs.Watch.{Watch, is_kept, step as watch_step}
+use Rattle.flow_watch.specs.Watch.{Watch, is_kept}
 use Rattle.preempt_machine.specs.Flags.{kept_at, owner_is_kept, ChangesOwner}
 use Rattle.preempt_machine.specs.Machine.{System, Job, Machine, ins_at, job_at, no_job, plan_of}
 use Rattle.preempt_machine.specs.Safe.{IsKept}
 use Rattle.preempt_machine.specs.Step.{Turn, candidate, executed, fetched, step, turned, turn_of, went, worked}
-use Rattle.preempt_machine.proofs.Steps.{some_injective, step_length, step_other, step_own}
+use Rattle.preempt_machine.proofs.Steps.{step_length, step_other, step_own}
 use Rattle.preempt_machine.proofs.TurnLaws.{fetched_watch}
-
-step_none : (plan : TaskPlan) (from : ℕ) (ins : Ins) (to : ℕ) → watch_step plan None from ins to ≡ None
-unfolding watch_step
-step_none plan from ins to = refl
 
 went_watch : (sys : System) (n : ℕ) (ins : Ins) (t : Turn) (next : Next) → t.job.watch ≡ None → (went sys n ins t next).job.watch ≡ None
 went_watch sys n ins t (Goto to) e = rw e (step_none (plan_of sys t.job.line.task.0) t.job.pc ins to)
@@ -92,16 +89,12 @@ owner_kept : (jobs : List Job) (owner : Option ℕ) → ((x : ℕ) → owner ≡
 owner_kept jobs None below each = refl
 owner_kept jobs (Some o) below each = each o (below o refl)
 
-owner_is : (owner : Option ℕ) (x : ℕ) → (owner ≡ Some x) ⊎ (owner ≢ Some x)
-owner_is None x = inr (λ e. cc)
-owner_is (Some o) x = elim (cases_eq o x) [ inl e ↦ inl (ap Some e) | inr ne ↦ inr (λ e. ne (some_injective e)) ]
-
 -- so the flag holds on where the new owner's watch is not broken
 pub flag_goes_on : (old new : Machine) (flag : Bool) → ChangesOwner old new → ((x : ℕ) → new.owner ≡ Some x → x < length new.jobs) → (IsTrue flag ↔ IsKept old) → (IsTrue (flag && owner_is_kept new) ↔ IsKept new)
 flag_goes_on old new flag changes below was = (
   λ t.
       let parts = and_parts flag (owner_is_kept new) t in
-      by_places new (λ x h. elim (owner_is new.owner x) [
+      by_places new (λ x h. elim (same_or_not new.owner (Some x)) [
         | inl e ↦ owner_at new.jobs new.owner x e parts.1
         | inr ne ↦ ap (λ (j : Job). is_kept j.watch) (changes.others x ne) ∙ each_kept old x (omega (arith, changes.long)) (was.0 parts.0)
       ]),

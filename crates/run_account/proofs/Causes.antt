@@ -1,6 +1,7 @@
 -- The evictor and the preemptor of each entry, and the ledger of a run.
 use Rattle.std.proofs.Common.{◌≡◌, ◌⊎◌, ℕ, zero, suc, true, All, List, [], ◌∷◌, ◌++◌, Option, Some, None, refl, sym, ◌∙◌, ap, subst, inl, inr, arith}
 use Rattle.std.proofs.lemmas.Bool.{cases_Bool, false≢true}
+use Rattle.crpd_base.proofs.Options.{none_some}
 use Rattle.crpd_base.specs.declared.data.Certificate.{Certificate}
 use Rattle.flow_watch.specs.Watch.{is_kept}
 use Rattle.icache.specs.Accesses.{accesses}
@@ -10,7 +11,6 @@ use Rattle.evict_sets.specs.Certificate.{listed_of, cert_at}
 use Rattle.evict_sets.proofs.FullLaws.{hit_test_law}
 use Rattle.preempt_machine.specs.Machine.{Job}
 use Rattle.preempt_machine.specs.Step.{Fetch, Start, state, fetch_at}
-use Rattle.preempt_machine.proofs.Steps.{none_some}
 use Rattle.run_account.specs.Causes.{AreLeadersMet, EntryHasCauses, RunHasLedger}
 use Rattle.run_account.specs.Fetches.{job_of, fetched_set, HasCache}
 use Rattle.run_account.specs.Ledger.{IsEntry, LedgerEntry, IsLedger}

@@ -2,6 +2,7 @@
 use Rattle.std.proofs.Common.{◌≡◌, ◌≢◌, ◌⊎◌, ℕ, zero, suc, ◌<◌, ◌≤◌, true, List, [], ◌∷◌, ◌++◌, length, get_or, Some, None, refl, sym, ◌∙◌, ap, subst, inl, inr, arith}
 use Rattle.std.specs.Prelude.{IsTrue}
 use Rattle.std.proofs.lemmas.Bool.{cases_eq}
+use Rattle.crpd_base.proofs.Options.{none_some}
 use Rattle.crpd_base.specs.declared.data.Certificate.{Certificate}
 use Rattle.crpd_base.specs.declared.data.TaskPart.{TaskPart}
 use Rattle.crpd_base.specs.Sets.{has}
@@ -14,7 +15,6 @@ use Rattle.evict_sets.specs.Certificate.{listed_of, cert_at}
 use Rattle.evict_sets.proofs.WalkLaws.{first_here, first_on, walk_carry_law}
 use Rattle.preempt_machine.specs.Safe.{IsKept}
 use Rattle.preempt_machine.specs.Step.{before, Fetch, Start, state}
-use Rattle.preempt_machine.proofs.Steps.{none_some}
 use Rattle.run_account.specs.Facts.{MeetsSets, AreSetsMet, IsOfHigher, AreDistinct, LedgerFacts}
 use Rattle.run_account.specs.Fetches.{job_of, fetched_set, HasCache}
 use Rattle.run_account.specs.Ledger.{LedgerEntry, IsOfRun}

@@ -3,6 +3,7 @@ use Rattle.std.proofs.Common.{◌≡◌, ◌≢◌, ◌⊎◌, ℕ, zero, suc, �
 use Rattle.std.specs.Prelude.{◌==◌, map}
 use Rattle.std.proofs.lemmas.Bool.{cases_Bool, cases_eq, eq-eqb, eqb-true, false≢true, true≢false}
 use Rattle.std.proofs.lemmas.List.{get_or_default}
+use Rattle.crpd_base.proofs.Options.{some_injective, none_some, same_or_not}
 use Rattle.crpd_base.specs.declared.data.Certificate.{Certificate}
 use Rattle.crpd_base.specs.declared.data.ScriptJob.{ScriptJob}
 use Rattle.crpd_base.specs.declared.data.TaskPlan.{TaskPlan}
@@ -21,7 +22,7 @@ use Rattle.evict_sets.proofs.WalkLaws.{last_here, last_on, last_access_law, on_w
 use Rattle.preempt_machine.specs.Machine.{Job, plan_of, no_job}
 use Rattle.preempt_machine.specs.Safe.{IsKept}
 use Rattle.preempt_machine.specs.Step.{is_open, turn_of, makes_fetch, Fetch, Start, state, fetch_at}
-use Rattle.preempt_machine.proofs.Steps.{candidate_some, ready_open, step_own, step_other, fetch_says, fetch_left, some_injective, none_some, open_is_below}
+use Rattle.preempt_machine.proofs.Steps.{candidate_some, ready_open, step_own, step_other, fetch_says, fetch_left, open_is_below}
 use Rattle.preempt_machine.proofs.Runs.{state_line}
 use Rattle.preempt_machine.proofs.Watches.{turned_watch}
 use Rattle.run_account.specs.Fetches.{job_of, fetched_set}
@@ -29,7 +30,7 @@ use Rattle.run_account.specs.Nodes.{task_of, plan_at, node_of}
 use Rattle.run_account.specs.Reloads.{block_in, FetchesAt, HasOwn}
 use Rattle.run_account.specs.Walks.{fetched_by, fetched_nodes, IsGraphAt, HasGraphs, IsAtNode, FetchesAreWalk, EntryIsReload}
 use Rattle.run_account.proofs.Jobs.{jobs_length, line_is, new_at}
-use Rattle.run_account.proofs.Owners.{candidate_at, cases_some}
+use Rattle.run_account.proofs.Owners.{candidate_at}
 use Rattle.run_account.proofs.OwnFetches.{fetch_made, fetch_not_made, own_candidate, own_keeps, own_new}
 use Rattle.run_account.proofs.ReloadLaws.{fetcher_open, same_fetch}
 use Rattle.run_account.proofs.Stands.{StandsOn, nodes_after, stands_first, turn_stands, head_of}
@@ -88,7 +89,7 @@ module _ (s : Start) (graphs : ℕ → TaskGraph) where
 
   broken_step : (n x : ℕ) → (job_of s n x).watch ≡ None → (job_of s (suc n) x).watch ≡ None
   broken_step n x b =
-      elim (cases_some (candidate_at s n) x) [
+      elim (same_or_not (candidate_at s n) (Some x)) [
         | inl e ↦ ap (λ (j : Job). j.watch) (step_own s.system (state s n) x e) ∙ turned_watch s.system (state s n).time (turn_of s.system (state s n) x) b
         | inr ne ↦ ap (λ (j : Job). j.watch) (step_other s.system (state s n) x ne) ∙ b
       ]
@@ -141,7 +142,7 @@ module _ (s : Start) (graphs : ℕ → TaskGraph) where
     pub standing : (n : ℕ) → is_kept (job_of s n x).watch ≡ true → is_open (job_of s n x).standing ≡ true → Stands n
     standing zero k o = stands_first s.system (plan_at s x) tg ok.follows ok.no_errors A.code (job_of s 0 x) watch_is entry_is left_is
     standing (suc n) k o =
-        elim (cases_some (candidate_at s n) x) [
+        elim (same_or_not (candidate_at s n) (Some x)) [
           | inl e ↦ standing_own n e k o (standing n (kept_before n x k) (opened n x e))
           | inr ne ↦
               let same = step_other s.system (state s n) x ne in

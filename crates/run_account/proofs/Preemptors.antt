@@ -2,9 +2,9 @@
 use Rattle.std.proofs.Common.{◌≡◌, ℕ, zero, suc, ◌+◌, ◌-◌, ◌<◌, ◌≤◌, ◌≢◌, ◌⊎◌, Bool, true, false, Option, Some, None, refl, sym, ◌∙◌, ap, subst, inl, inr, arith}
 use Rattle.std.specs.Prelude.{◌==◌, nat_lt, if◌then◌else◌}
 use Rattle.std.proofs.lemmas.Bool.{cases_Bool, cases_eq, cases_lt, cases_order, false≢true, eqb-true, eq-eqb, lt-ltb, le-ltb}
+use Rattle.crpd_base.proofs.Options.{some_injective, none_some}
 use Rattle.preempt_machine.specs.Step.{before, Fetch, Start, state, fetch_at}
 use Rattle.preempt_machine.proofs.Order.{comes_before_trans, comes_before_total}
-use Rattle.preempt_machine.proofs.Steps.{some_injective, none_some}
 use Rattle.run_account.specs.Fetches.{fetched_set, IsLastFetchTo, HasCache}
 use Rattle.run_account.specs.Reloads.{FetchesAt, IsReload, IsPreemptor}
 use Rattle.run_account.proofs.ReloadLaws.{evictor_is_other, same_fetch, one_job_per_preemptor}

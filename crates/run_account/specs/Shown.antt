@@ -1,10 +1,10 @@
 -- The graphs of tasks as they are kept, and what an account asks of them and of a certificate.
-use Rattle.std.specs.Prelude.{◌≡◌, ℕ, ◌<◌, List, [], length, slice_index_or}
+use Rattle.std.specs.Prelude.{◌≡◌, ℕ, ◌<◌, List, length}
 use Rattle.crpd_base.specs.declared.data.Certificate.{Certificate}
 use Rattle.crpd_base.specs.declared.data.Script.{Script}
 use Rattle.crpd_base.specs.declared.data.TaskSet.{TaskSet}
 use Rattle.code_map.specs.Words.{Code}
-use Rattle.flat_graph.specs.CodeGraph.{CodeGraph, graph_of, places_of, ins_of}
+use Rattle.flat_graph.specs.CodeGraph.{CodeGraph, graph_of, places_of, ins_of, graph_at}
 use Rattle.loop_regions.specs.Nest.{Nest}
 use Rattle.loop_regions.specs.TaskGraph.{TaskGraph}
 use Rattle.loop_regions.specs.TaskSteps.{IsGraphOfTask}
@@ -13,12 +13,6 @@ use Rattle.evict_sets.specs.Listing.{MeetsStates, MeetsUseful}
 use Rattle.preempt_machine.specs.Safe.{system_of}
 use Rattle.preempt_machine.specs.Starts.{start_cache, start_memory}
 use Rattle.preempt_machine.specs.Step.{Start}
-
-abbrev pub no_graph : CodeGraph
-no_graph = record { nodes = []; first = 0 }
-
-abbrev pub graph_at : List CodeGraph → ℕ → CodeGraph
-graph_at graphs i = slice_index_or graphs i no_graph
 
 -- the task graph of each task; its regions play no part in a ledger, and may be any
 abbrev pub with_nests : List CodeGraph → (ℕ → Nest) → ℕ → TaskGraph

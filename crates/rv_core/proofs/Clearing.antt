@@ -1,7 +1,7 @@
 -- What a clearing leaves.
 use Rattle.std.proofs.Common.{◌≡◌, ℕ, zero, suc, ◌+◌, ◌*◌, ◌/◌, ◌^◌, ◌-◌, ◌<◌, ◌≤◌, true, false, nat_lt, if◌then◌else◌, [], ◌∷◌, arith, refl, sym, ap, ◌∙◌, inl, inr, ◌⊎◌, unwrap_or, None, filter}
 use Rattle.std.specs.Prelude.{nat_le}
-use Rattle.std.proofs.lemmas.Bool.{and_from, and_parts, cases_Bool, cases_lt, cases_eq, false≢true, lt-ltb, le-ltb}
+use Rattle.std.proofs.lemmas.Bool.{and_from, and_parts, cases_Bool, cases_lt, cases_eq, false≢true, lt-ltb, le-ltb, le-leb, leb-true, ltb-true, eq-eqb, ne_eqb}
 use Rattle.std.proofs.lemmas.Bool.Decides.{nat_tests}
 use Rattle.std.specs.BTreeMap.{is_at}
 use Rattle.std.specs.BTreeMap.Range.{entries_between, range_contains}
@@ -10,27 +10,15 @@ use Rattle.std.specs.Map.{lookup, remove_entry}
 use Rattle.std.specs.Ordering.{is_le, nat_cmp}
 use Rattle.rv_core.specs.Memory.{Memory, IsMemory, byte, put_byte, next_byte, put_bytes, is_within, clear_bytes}
 use Rattle.rv_core.specs.Pages.{Pages, memory_of, ArePages, byte_in, is_outside}
-use Rattle.rv_core.proofs.Memories.{byte_after_clear, byte_put, clear_from, is_equal, put_bytes_from, put_from, same_bytes, unequal}
+use Rattle.rv_core.proofs.Memories.{byte_after_clear, byte_put, clear_from, put_bytes_from, put_from, same_bytes}
 use Rattle.rv_core.proofs.Pages.{at_other, at_same, byte_of, pages_from}
-
-le_true : (a b : ℕ) → a ≤ b → nat_le a b ≡ true
-le_true a b h = grind (arith, nat_tests)
-
-lt_true : (a b : ℕ) → a < b → nat_lt a b ≡ true
-lt_true a b h = grind (arith, nat_tests)
-
-le_is : (a b : ℕ) → nat_le a b ≡ true → a ≤ b
-le_is a b h = grind (arith, nat_tests)
-
-lt_is : (a b : ℕ) → nat_lt a b ≡ true → a < b
-lt_is a b h = grind (arith, nat_tests)
 
 -- whether an address is among those of a clearing, by its bounds
 within_true : (a n c : ℕ) → a ≤ c → c < a + n → is_within a n c ≡ true
-within_true a n c l r = and_from _ _ (le_true a c l) (lt_true c (a + n) r)
+within_true a n c l r = and_from _ _ (le-leb a c l) (lt-ltb c (a + n) r)
 
 within_is : (a n c : ℕ) → is_within a n c ≡ true → (a ≤ c) × (c < a + n)
-within_is a n c h = let p = and_parts (nat_le a c) (nat_lt c (a + n)) h in (le_is a c p.0, lt_is c (a + n) p.1)
+within_is a n c h = let p = and_parts (nat_le a c) (nat_lt c (a + n)) h in (leb-true a c p.0, ltb-true c (a + n) p.1)
 
 within_false : (a n c : ℕ) → (c < a) ⊎ (a + n ≤ c) → is_within a n c ≡ false
 within_false a n c out = elim (cases_Bool (is_within a n c)) [
@@ -50,8 +38,8 @@ zeros_byte zero memory a c m below fits =
     let out : is_within a 0 c ≡ false = within_false a 0 c (elim (cases_lt c a) [ inl l ↦ inl l | inr g ↦ inr (omega arith) ]) in
     rw out refl
 zeros_byte (suc zero) memory a c m below fits = byte_put 0 memory a 0 c m ∙ elim (cases_eq a c) [
-  | inl e ↦ rw (is_equal a c e, within_true a (suc zero) c (omega arith) (omega arith)) refl
-  | inr ne ↦ rw (unequal a c ne, within_false a (suc zero) c (elim (cases_lt c a) [ inl l ↦ inl l | inr g ↦ inr (elim (cases_lt c (a + 1)) [ inl k ↦ absurd (ne (omega (arith, g, k))) | inr k ↦ omega (arith, k) ]) ])) refl
+  | inl e ↦ rw (eq-eqb a c e, within_true a (suc zero) c (omega arith) (omega arith)) refl
+  | inr ne ↦ rw (ne_eqb a c ne, within_false a (suc zero) c (elim (cases_lt c a) [ inl l ↦ inl l | inr g ↦ inr (elim (cases_lt c (a + 1)) [ inl k ↦ absurd (ne (omega (arith, g, k))) | inr k ↦ omega (arith, k) ]) ])) refl
 ]
 zeros_byte (suc (suc n)) memory a c m below fits =
     let next : next_byte a ≡ a + 1 = omega arith in
@@ -60,12 +48,12 @@ zeros_byte (suc (suc n)) memory a c m below fits =
     ∙ zeros_byte (suc n) (put_byte memory a 0) (a + 1) c put (omega arith) (omega arith)
     ∙ ap (λ x. if is_within (a + 1) (suc n) c then 0 else x) (byte_put 0 memory a 0 c m)
     ∙ elim (cases_eq a c) [
-      | inl e ↦ rw (is_equal a c e, within_false (a + 1) (suc n) c (inl (omega arith)), within_true a (suc (suc n)) c (omega arith) (omega arith)) refl
+      | inl e ↦ rw (eq-eqb a c e, within_false (a + 1) (suc n) c (inl (omega arith)), within_true a (suc (suc n)) c (omega arith) (omega arith)) refl
       | inr ne ↦ elim (cases_Bool (is_within (a + 1) (suc n) c)) [
         | inl t ↦ let w = within_is (a + 1) (suc n) c t in rw (t, within_true a (suc (suc n)) c (omega (arith, w.0)) (omega (arith, w.1))) refl
         | inr f ↦
             let out : (c < a) ⊎ (a + suc (suc n) ≤ c) = elim (within_not (a + 1) (suc n) c f) [ inl l ↦ inl (elim (cases_lt c a) [ inl k ↦ k | inr g ↦ absurd (ne (omega (arith, l, g))) ]) | inr g ↦ inr (omega (arith, g)) ] in
-            rw (f, unequal a c ne, within_false a (suc (suc n)) c out) refl
+            rw (f, ne_eqb a c ne, within_false a (suc (suc n)) c out) refl
       ]
     ]
 
@@ -75,8 +63,8 @@ zeros_clear n memory a m below fits =
 
 -- pages outside those from a number up to another
 outside_true : (first last k : ℕ) → (k < first) ⊎ (last ≤ k) → is_outside first last k ≡ true
-outside_true first last k (inl l) = rw (lt_true k first l) refl
-outside_true first last k (inr g) = elim (cases_Bool (nat_lt k first)) [ inl t ↦ rw t refl | inr f ↦ rw (f, le_true last k g) refl ]
+outside_true first last k (inl l) = rw (lt-ltb k first l) refl
+outside_true first last k (inr g) = elim (cases_Bool (nat_lt k first)) [ inl t ↦ rw t refl | inr f ↦ rw (f, le-leb last k g) refl ]
 
 outside_false : (first last k : ℕ) → first ≤ k → k < last → is_outside first last k ≡ false
 outside_false first last k l r =
@@ -119,9 +107,9 @@ inside_between : (first last q : ℕ) → is_outside first last q ≡ false → 
 inside_between first last q f =
     let low : first ≤ q = elim (cases_lt q first) [ inl l ↦ absurd (false≢true (sym f ∙ outside_true first last q (inl l))) | inr g ↦ g ] in
     let high : q < last = elim (cases_lt q last) [ inl l ↦ l | inr g ↦ absurd (false≢true (sym f ∙ outside_true first last q (inr g))) ] in
-    let end : is_le (nat_cmp last q) ≡ false = rw (le-ltb last q (omega (arith, high)), unequal last q (λ e. absurd (omega (arith, high, e)))) refl in
+    let end : is_le (nat_cmp last q) ≡ false = rw (le-ltb last q (omega (arith, high)), ne_eqb last q (λ e. absurd (omega (arith, high, e)))) refl in
     let start : is_le (nat_cmp first q) ≡ true = elim (cases_eq first q) [
-      | inl e ↦ rw (le-ltb first q (omega (arith, e)), is_equal first q e) refl
+      | inl e ↦ rw (le-ltb first q (omega (arith, e)), eq-eqb first q e) refl
       | inr ne ↦ rw (lt-ltb first q (elim (cases_lt first q) [ inl l ↦ l | inr g ↦ absurd (ne (omega (arith, g, low))) ])) refl
     ] in
     rw (start, end) refl

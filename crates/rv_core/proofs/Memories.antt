@@ -1,22 +1,13 @@
 -- The memory as a map: what a write changes, and that the bytes tell the memory.
 use Rattle.std.proofs.Common.{◌≡◌, ℕ, zero, suc, ◌+◌, ◌/◌, ◌%◌, ◌^◌, ◌-◌, ◌<◌, ◌≤◌, ◌==◌, true, false, nat_lt, if◌then◌else◌, List, [], ◌∷◌, arith, refl, sym, ap, ◌∙◌, inl, inr, ◌⊎◌, subst, ltb-true, ltb-false, Result, Ok, Err, OnOk, OnErr}
-use Rattle.std.proofs.lemmas.Bool.{cases_Bool}
+use Rattle.std.proofs.lemmas.Bool.{cases_Bool, eqb-true, ne_eqb}
 use Rattle.rv_core.specs.Memory.{Memory, IsFrom, IsMemory, byte, entry, put_byte, is_within, clear_bytes, next_byte, put_bytes, put_half, put_whole}
-
-same_numbers : (a b : ℕ) → (a == b) ≡ true → a ≡ b
-same_numbers a b h = grind arith
 
 other_numbers : (a b : ℕ) → (a == b) ≡ false → a ≡ b → ⊥
 other_numbers a b h = grind arith
 
-pub unequal : (a b : ℕ) → (a ≡ b → ⊥) → (a == b) ≡ false
-unequal a b h = grind arith
-
 not_both : true ≡ false → ⊥
 not_both e = cc
-
-pub is_equal : (a b : ℕ) → a ≡ b → (a == b) ≡ true
-is_equal a b h = grind arith
 
 pub equal : (a : ℕ) → (a == a) ≡ true
 equal a = grind arith
@@ -25,7 +16,7 @@ equal a = grind arith
 pub byte_below : (low : ℕ) (memory : Memory) (c : ℕ) → IsFrom low memory → c < low → byte memory c ≡ 0
 byte_below low [] c h lt = refl
 byte_below low (e ∷ memory) c h lt =
-    let apart : (e.0 == c) ≡ false = unequal e.0 c (λ same. absurd (omega (arith, h.0.above))) in
+    let apart : (e.0 == c) ≡ false = ne_eqb e.0 c (λ same. absurd (omega (arith, h.0.above))) in
     rw apart (byte_below (e.0 + 1) memory c h.1 (omega (arith, h.0.above)))
 
 pub from_lower : (low high : ℕ) (memory : Memory) → low ≤ high → IsFrom high memory → IsFrom low memory
@@ -34,13 +25,13 @@ from_lower low high (e ∷ memory) le h = (record { above = omega (arith, h.0.ab
 
 pub byte_entry : (a b c : ℕ) (memory : Memory) → byte memory a ≡ 0 → byte (entry a b memory) c ≡ (if a == c then b else byte memory c)
 byte_entry a b c memory h = elim (cases_Bool (b == 0)) [
-  | inl e ↦ rw e (zero_case (same_numbers b 0 e))
+  | inl e ↦ rw e (zero_case (eqb-true b 0 e))
   | inr e ↦ rw e refl
 ]
   where
     zero_case : b ≡ 0 → byte memory c ≡ (if a == c then b else byte memory c)
     zero_case z = elim (cases_Bool (a == c)) [
-      | inl e ↦ rw e (ap (byte memory) (sym (same_numbers a c e)) ∙ h ∙ sym z)
+      | inl e ↦ rw e (ap (byte memory) (sym (eqb-true a c e)) ∙ h ∙ sym z)
       | inr e ↦ rw e refl
     ]
 
@@ -50,14 +41,14 @@ byte_put low [] a b c h = byte_entry a b c [] refl
 byte_put low (e ∷ memory) a b c h = elim (cases_Bool (nat_lt e.0 a)) [
   | inl lt ↦ rw (lt, byte_put (e.0 + 1) memory a b c h.1) (later (ltb-true e.0 a lt))
   | inr ge ↦ rw ge (elim (cases_Bool (e.0 == a)) [
-    | inl same ↦ rw (same, byte_entry a b c memory (byte_below (e.0 + 1) memory a h.1 (omega (arith, same_numbers e.0 a same)))) (here (same_numbers e.0 a same))
+    | inl same ↦ rw (same, byte_entry a b c memory (byte_below (e.0 + 1) memory a h.1 (omega (arith, eqb-true e.0 a same)))) (here (eqb-true e.0 a same))
     | inr apart ↦ rw apart (byte_entry a b c (e ∷ memory) (rw apart (byte_below (e.0 + 1) memory a h.1 (omega (arith, ltb-false e.0 a ge, other_numbers e.0 a apart)))))
   ])
 ]
   where
     later : e.0 < a → (if e.0 == c then e.1 else (if a == c then b else byte memory c)) ≡ (if a == c then b else (if e.0 == c then e.1 else byte memory c))
     later lt = elim (cases_Bool (e.0 == c)) [
-      | inl same ↦ let apart : (a == c) ≡ false = unequal a c (λ q. absurd (omega (arith, lt, q, same_numbers e.0 c same))) in rw (same, apart) refl
+      | inl same ↦ let apart : (a == c) ≡ false = ne_eqb a c (λ q. absurd (omega (arith, lt, q, eqb-true e.0 c same))) in rw (same, apart) refl
       | inr other ↦ rw other refl
     ]
 
@@ -79,7 +70,7 @@ put_from low [] a b h le below small = from_entry low a b [] tt le below small
 put_from low (e ∷ memory) a b h le below small = elim (cases_Bool (nat_lt e.0 a)) [
   | inl lt ↦ rw lt (h.0, put_from (e.0 + 1) memory a b h.1 (omega (arith, ltb-true e.0 a lt)) below small)
   | inr ge ↦ rw ge (elim (cases_Bool (e.0 == a)) [
-    | inl same ↦ rw same (from_entry low a b memory (subst (λ n. IsFrom (n + 1) memory) (same_numbers e.0 a same) h.1) le below small)
+    | inl same ↦ rw same (from_entry low a b memory (subst (λ n. IsFrom (n + 1) memory) (eqb-true e.0 a same) h.1) le below small)
     | inr apart ↦ rw apart (from_entry low a b (e ∷ memory) (record { above = omega (arith, ltb-false e.0 a ge, other_numbers e.0 a apart); below = h.0.below; some = h.0.some; byte = h.0.byte }, h.1) le below small)
   ])
 ]
@@ -112,8 +103,8 @@ same_bytes low (e ∷ memory) (f ∷ other) h k same = elim (order_cases e.0 f.0
     tails : e.0 ≡ f.0 → (c : ℕ) → byte memory c ≡ byte other c
     tails q c = elim (cases_Bool (nat_lt e.0 c)) [
       | inl lt ↦
-          let first : (e.0 == c) ≡ false = unequal e.0 c (λ r. absurd (omega (arith, r, ltb-true e.0 c lt))) in
-          let second : (f.0 == c) ≡ false = unequal f.0 c (λ r. absurd (omega (arith, q, r, ltb-true e.0 c lt))) in
+          let first : (e.0 == c) ≡ false = ne_eqb e.0 c (λ r. absurd (omega (arith, r, ltb-true e.0 c lt))) in
+          let second : (f.0 == c) ≡ false = ne_eqb f.0 c (λ r. absurd (omega (arith, q, r, ltb-true e.0 c lt))) in
           rw (first, second) at (same c)
       | inr ge ↦ byte_below (e.0 + 1) memory c h.1 (omega (arith, ltb-false e.0 c ge)) ∙ sym (byte_below (f.0 + 1) other c k.1 (omega (arith, q, ltb-false e.0 c ge)))
     ]
@@ -143,7 +134,7 @@ put_back memory a b h below small =
   where
     each : (c : ℕ) → (if a == c then byte memory a else byte (put_byte memory a b) c) ≡ byte memory c
     each c = elim (cases_Bool (a == c)) [
-      | inl same ↦ rw same (ap (byte memory) (same_numbers a c same))
+      | inl same ↦ rw same (ap (byte memory) (eqb-true a c same))
       | inr apart ↦ rw (apart, byte_put 0 memory a b c h, apart) refl
     ]
 
@@ -156,7 +147,7 @@ put_other memory a b x y h ha hb hx hy apart =
   where
     each : (c : ℕ) → (if b == c then y else byte (put_byte memory a x) c) ≡ (if a == c then x else byte (put_byte memory b y) c)
     each c = rw (byte_put 0 memory a x c h, byte_put 0 memory b y c h) (elim (cases_Bool (b == c)) [
-      | inl same ↦ let other : (a == c) ≡ false = unequal a c (λ q. apart (q ∙ sym (same_numbers b c same))) in rw (same, other) refl
+      | inl same ↦ let other : (a == c) ≡ false = ne_eqb a c (λ q. apart (q ∙ sym (eqb-true b c same))) in rw (same, other) refl
       | inr differs ↦ rw differs refl
     ])
 
@@ -198,14 +189,14 @@ byte_after_clear (e ∷ memory) a length c = elim (cases_Bool (is_within a lengt
     dropped gone = elim (cases_Bool (is_within a length c)) [
       | inl w ↦ rw w refl
       | inr w ↦ elim (cases_Bool (e.0 == c)) [
-        | inl same ↦ absurd (not_both (sym gone ∙ ap (is_within a length) (same_numbers e.0 c same) ∙ w))
+        | inl same ↦ absurd (not_both (sym gone ∙ ap (is_within a length) (eqb-true e.0 c same) ∙ w))
         | inr apart ↦ rw (w, apart) refl
       ]
     ]
 
     kept : is_within a length e.0 ≡ false → (if e.0 == c then e.1 else (if is_within a length c then 0 else byte memory c)) ≡ (if is_within a length c then 0 else (if e.0 == c then e.1 else byte memory c))
     kept stays = elim (cases_Bool (e.0 == c)) [
-      | inl same ↦ let w : is_within a length c ≡ false = ap (is_within a length) (sym (same_numbers e.0 c same)) ∙ stays in rw (same, w) refl
+      | inl same ↦ let w : is_within a length c ≡ false = ap (is_within a length) (sym (eqb-true e.0 c same)) ∙ stays in rw (same, w) refl
       | inr apart ↦ rw apart refl
     ]
 
@@ -215,10 +206,6 @@ clear_from low (e ∷ memory) a length h = elim (cases_Bool (is_within a length 
   | inl gone ↦ rw gone (from_lower low (e.0 + 1) _ (omega (arith, h.0.above)) (clear_from (e.0 + 1) memory a length h.1))
   | inr stays ↦ rw stays (h.0, clear_from (e.0 + 1) memory a length h.1)
 ]
-
-pub on_ok : {A E P Q : Type 0} (r : Result A E) → (P → Q) → OnOk r P → OnOk r Q
-on_ok (Ok x) f p = f p
-on_ok (Err e) f p = tt
 
 -- a byte that becomes 0 after the bytes behind it
 pub store_zero : (count : ℕ) (memory : Memory) (a value : ℕ) → IsMemory memory → a < 2 ^ 32 → count ≤ 4 → (count ≡ 0 → ⊥) → value % 2 ^ 8 ≡ 0 → put_byte (put_bytes (count - 1) memory (next_byte a) (value / 2 ^ 8)) a 0 ≡ put_bytes count memory a value

@@ -2,13 +2,13 @@
 use Rattle.std.proofs.Common.{◌≡◌, ℕ, zero, suc, ◌+◌, ◌*◌, ◌/◌, ◌%◌, ◌^◌, ◌<◌, ◌≤◌, ◌==◌, true, false, if◌then◌else◌, cond, List, [], ◌∷◌, length, replicate, arith, refl, sym, ap, ◌∙◌, inl, inr, ◌⊎◌, subst, unwrap_or, Some, None, length-set, get_or-set_same, get_or-set_other}
 use Rattle.std.specs.Prelude.{slice_index, slice_set}
 use Rattle.std.proofs.lemmas.List.{get_or_past, get_or-replicate, length-replicate}
-use Rattle.std.proofs.lemmas.Bool.{cases_Bool, cases_lt, cases_eq, lt-ltb, le-ltb}
+use Rattle.std.proofs.lemmas.Bool.{cases_Bool, cases_lt, cases_eq, lt-ltb, le-ltb, eq-eqb, ne_eqb}
 use Rattle.std.specs.BTreeMap.{insert_entry, is_at}
 use Rattle.std.specs.Map.{lookup, set_value}
 use Rattle.std.specs.Ordering.{nat_cmp}
 use Rattle.rv_core.specs.Memory.{Memory, IsFrom, IsMemory, byte, put_byte, next_byte, put_bytes, whole}
 use Rattle.rv_core.specs.Pages.{Pages, bytes_before, memory_of, IsPage, ArePages, page_at, byte_in, word_in, written}
-use Rattle.rv_core.proofs.Memories.{byte_below, byte_entry, byte_put, from_entry, from_lower, is_equal, order_cases, put_bytes_from, put_from, same_bytes, unequal}
+use Rattle.rv_core.proofs.Memories.{byte_below, byte_entry, byte_put, from_entry, from_lower, order_cases, put_bytes_from, put_from, same_bytes}
 
 -- bytes in front of a memory of later addresses
 pub before_from : (a : ℕ) (bytes : List ℕ) (memory : Memory) → IsFrom (a + length bytes) memory → a + length bytes ≤ 2 ^ 32 → ((i : ℕ) → slice_index bytes i < 2 ^ 8) → IsFrom a (bytes_before a bytes memory)
@@ -25,10 +25,10 @@ before_next a b bytes memory c h below small =
 pub before_in : (a : ℕ) (bytes : List ℕ) (memory : Memory) (i : ℕ) → IsFrom (a + length bytes) memory → a + length bytes ≤ 2 ^ 32 → ((i : ℕ) → slice_index bytes i < 2 ^ 8) → i < length bytes → byte (bytes_before a bytes memory) (a + i) ≡ slice_index bytes i
 before_in a [] memory i h below small inside = absurd (omega arith)
 before_in a (b ∷ bytes) memory zero h below small inside =
-    let same : (a == (a + 0)) ≡ true = is_equal a (a + 0) (omega arith) in
+    let same : (a == (a + 0)) ≡ true = eq-eqb a (a + 0) (omega arith) in
     before_next a b bytes memory (a + 0) h below small ∙ rw same refl
 before_in a (b ∷ bytes) memory (suc i) h below small inside =
-    let apart : (a == (a + suc i)) ≡ false = unequal a (a + suc i) (λ e. absurd (omega (arith, e))) in
+    let apart : (a == (a + suc i)) ≡ false = ne_eqb a (a + suc i) (λ e. absurd (omega (arith, e))) in
     let at : a + suc i ≡ a + 1 + i = omega arith in
     before_next a b bytes memory (a + suc i) h below small
     ∙ rw apart (ap (byte (bytes_before (a + 1) bytes memory)) at
@@ -37,7 +37,7 @@ before_in a (b ∷ bytes) memory (suc i) h below small inside =
 pub before_out : (a : ℕ) (bytes : List ℕ) (memory : Memory) (c : ℕ) → IsFrom (a + length bytes) memory → a + length bytes ≤ 2 ^ 32 → ((i : ℕ) → slice_index bytes i < 2 ^ 8) → (c < a) ⊎ (a + length bytes ≤ c) → byte (bytes_before a bytes memory) c ≡ byte memory c
 before_out a [] memory c h below small out = refl
 before_out a (b ∷ bytes) memory c h below small out =
-    let apart : (a == c) ≡ false = unequal a c (λ e. elim out [ inl l ↦ absurd (omega (arith, e, l)) | inr g ↦ absurd (omega (arith, e, g)) ]) in
+    let apart : (a == c) ≡ false = ne_eqb a c (λ e. elim out [ inl l ↦ absurd (omega (arith, e, l)) | inr g ↦ absurd (omega (arith, e, g)) ]) in
     let rest : (c < a + 1) ⊎ (a + 1 + length bytes ≤ c) = elim out [ inl l ↦ inl (omega (arith, l)) | inr g ↦ inr (omega (arith, g)) ] in
     before_next a b bytes memory c h below small
     ∙ rw apart (before_out (a + 1) bytes memory c (subst (λ n. IsFrom n memory) (omega arith) h) (omega arith) (λ j. small (suc j)) rest)
@@ -50,12 +50,12 @@ pages_from low (p ∷ pages) h =
     from_lower (64 * low) (64 * p.0) _ (omega (arith, h.0.above)) (before_from (64 * p.0) p.1 (memory_of pages) rest (omega (arith, h.0.page.long, h.0.below)) h.0.page.small)
 
 pub at_same : (a b : ℕ) → a ≡ b → is_at (nat_cmp a) b ≡ true
-at_same a b e = rw (le-ltb a b (omega (arith, e)), is_equal a b e) refl
+at_same a b e = rw (le-ltb a b (omega (arith, e)), eq-eqb a b e) refl
 
 pub at_other : (a b : ℕ) → (a ≡ b → ⊥) → is_at (nat_cmp a) b ≡ false
 at_other a b ne = elim (order_cases a b) [
   | inl lt ↦ rw (lt-ltb a b lt) refl
-  | inr rest ↦ rw (le-ltb a b (elim rest [ inl gt ↦ omega (arith, gt) | inr e ↦ absurd (ne e) ]), unequal a b ne) refl
+  | inr rest ↦ rw (le-ltb a b (elim rest [ inl gt ↦ omega (arith, gt) | inr e ↦ absurd (ne e) ]), ne_eqb a b ne) refl
 ]
 
 -- a byte of the memory stands in its page
@@ -85,8 +85,8 @@ insert_pages low [] k page h le below is = (record { above = le; below = below; 
 insert_pages low (p ∷ pages) k page h le below is = elim (order_cases k p.0) [
   | inl lt ↦ rw (lt-ltb k p.0 lt) (record { above = le; below = below; page = is }, (record { above = omega (arith, lt); below = h.0.below; page = h.0.page }, h.1))
   | inr rest ↦ elim rest [
-    | inl gt ↦ rw (le-ltb k p.0 (omega (arith, gt)), unequal k p.0 (λ e. absurd (omega (arith, e, gt)))) (h.0, insert_pages (p.0 + 1) pages k page h.1 (omega (arith, gt)) below is)
-    | inr e ↦ rw (le-ltb k p.0 (omega (arith, e)), is_equal k p.0 e) (record { above = h.0.above; below = h.0.below; page = is }, h.1)
+    | inl gt ↦ rw (le-ltb k p.0 (omega (arith, gt)), ne_eqb k p.0 (λ e. absurd (omega (arith, e, gt)))) (h.0, insert_pages (p.0 + 1) pages k page h.1 (omega (arith, gt)) below is)
+    | inr e ↦ rw (le-ltb k p.0 (omega (arith, e)), eq-eqb k p.0 e) (record { above = h.0.above; below = h.0.below; page = is }, h.1)
   ]
 ]
 
@@ -131,10 +131,10 @@ one_shown memory page k at b m p same fits d f =
     byte_put 0 memory a b d m ∙ elim (cases_eq d a) [
       | inl q ↦
           let i : d % 64 ≡ at = omega (arith, q) in
-          rw (is_equal a d (sym q)) (sym (ap (slice_index (slice_set page at b)) i ∙ get_or-set_same page at b 0 inside))
+          rw (eq-eqb a d (sym q)) (sym (ap (slice_index (slice_set page at b)) i ∙ get_or-set_same page at b 0 inside))
       | inr ne ↦
           let other : d % 64 ≡ at → ⊥ = λ i. ne (omega (arith, i, f)) in
-          rw (unequal a d (λ q. ne (sym q))) (same d f ∙ sym (get_or-set_other page at (d % 64) b 0 other))
+          rw (ne_eqb a d (λ q. ne (sym q))) (same d f ∙ sym (get_or-set_other page at (d % 64) b 0 other))
     ]
 
 -- a store within a page is one to the page
@@ -152,7 +152,7 @@ stores_shown (suc (suc n)) memory page k at value m p same below fits =
 stores_beside : (n : ℕ) (memory : Memory) (k at value c : ℕ) → IsMemory memory → k < 2 ^ 26 → at + n ≤ 64 → (c / 64 ≡ k → ⊥) → byte (put_bytes n memory (64 * k + at) value) c ≡ byte memory c
 stores_beside zero memory k at value c m below fits out = refl
 stores_beside (suc zero) memory k at value c m below fits out =
-    byte_put 0 memory (64 * k + at) (value % 2 ^ 8) c m ∙ rw (unequal (64 * k + at) c (λ q. out (omega (arith, q)))) refl
+    byte_put 0 memory (64 * k + at) (value % 2 ^ 8) c m ∙ rw (ne_eqb (64 * k + at) c (λ q. out (omega (arith, q)))) refl
 stores_beside (suc (suc n)) memory k at value c m below fits out =
     let a = 64 * k + at in
     let b = value % 2 ^ 8 in
@@ -160,7 +160,7 @@ stores_beside (suc (suc n)) memory k at value c m below fits out =
     rw next
     (stores_beside (suc n) (put_byte memory a b) k (at + 1) (value / 2 ^ 8) c (put_from 0 memory a b m (omega arith) (omega arith) (omega arith)) below (omega arith) out
     ∙ byte_put 0 memory a b c m
-    ∙ rw (unequal a c (λ q. out (omega (arith, q)))) refl)
+    ∙ rw (ne_eqb a c (λ q. out (omega (arith, q)))) refl)
 
 -- pages of which one is another
 pub record HasPage (old new : Pages) (k : ℕ) (page : List ℕ) : Type 0 where
@@ -247,8 +247,8 @@ insert_here (e ∷ es) k w = elim (order_cases k e.0) [
   | inr rest ↦ elim rest [
     | inl gt ↦
         let ne : k ≡ e.0 → ⊥ = λ q. absurd (omega (arith, q, gt)) in
-        rw (le-ltb k e.0 (omega (arith, gt)), unequal k e.0 ne) (rw (at_other k e.0 ne) (insert_here es k w))
-    | inr q ↦ rw (le-ltb k e.0 (omega (arith, q)), is_equal k e.0 q) (rw (at_same k e.0 q) refl)
+        rw (le-ltb k e.0 (omega (arith, gt)), ne_eqb k e.0 ne) (rw (at_other k e.0 ne) (insert_here es k w))
+    | inr q ↦ rw (le-ltb k e.0 (omega (arith, q)), eq-eqb k e.0 q) (rw (at_same k e.0 q) refl)
   ]
 ]
 

@@ -1,7 +1,8 @@
 -- The word of each instruction, that it is decoded to it, and that no other word is.
-use Rattle.std.proofs.Common.{◌≡◌, ℕ, ◌+◌, ◌*◌, ◌/◌, ◌%◌, ◌^◌, ◌<◌, ℤ, true, List, [], ◌∷◌, Some, None, arith, refl, ap, sym, ◌∙◌, inl, inr, lit<, lit≤, to_z, of_z, w32, SFits}
+use Rattle.std.proofs.Common.{◌≡◌, ℕ, ◌+◌, ◌*◌, ◌/◌, ◌%◌, ◌^◌, ◌<◌, ℤ, true, List, [], ◌∷◌, Some, arith, refl, ap, sym, ◌∙◌, inl, inr, lit<, lit≤, to_z, of_z, w32, SFits}
 use Rattle.std.proofs.lemmas.Bool.{cases_Bool}
 use Rattle.std.proofs.lemmas.Int.{to_z-of_z}
+use Rattle.crpd_base.proofs.Options.{some_injective, none_some}
 use Rattle.rv_decode.specs.declared.Ins.{Ins}
 use Rattle.rv_decode.specs.declared.Ins.TheVariants.{Lui, Auipc, Jal, Jalr, Beq, Bne, Blt, Bge, Bltu, Bgeu, Lb, Lh, Lw, Lbu, Lhu, Sb, Sh, Sw, Addi, Slti, Sltiu, Xori, Ori, Andi, Slli, Srli, Srai, Add, Sub, Sll, Slt, Sltu, Xor, Srl, Sra, Or, And, Mul, Mulh, Mulhsu, Mulhu, Div, Divu, Rem, Remu, Fence, Ecall, Ebreak}
 use Rattle.rv_decode.specs.Table.{Key, bits, rd, rs1, rs2, i_imm, s_imm, b_imm, j_imm, signed, fits, table, row_of, row, r_form, i_form, s_form, b_form, u_form, j_form, fence_form}
@@ -61,12 +62,6 @@ encoding (Remu d a b) = assembled 0x33 d 7 a b 1
 encoding (Fence d a bits) = i_word 0x0F 0 d a bits
 encoding Ecall = 0x00000073
 encoding Ebreak = 0x00100073
-
-some_same : {A : Type 0} {x y : A} → Some x ≡ Some y → x ≡ y
-some_same e = cc
-
-none_some : {A : Type 0} {x : A} → None ≡ Some x → ⊥
-none_some e = cc
 
 three_same : {A B C : Type 0} (make : A → B → C → Ins) {x x' : A} {y y' : B} {z z' : C} → x ≡ x' → y ≡ y' → z ≡ z' → Some (make x y z) ≡ Some (make x' y' z')
 three_same make p q r = rw (p, q, r) refl
@@ -248,7 +243,7 @@ each_encoded = (u_encoded 0x37, (u_encoded 0x17, (j_encoded 0x6F, (i_encoded 0x6
 encoded_by : (rows : List (Key × (ℕ → Ins))) (w : ℕ) (ins : Ins) → AreEncoded rows → w < 2 ^ 32 → row_of rows w ≡ Some ins → encoding ins ≡ w
 encoded_by [] w ins h within found = absurd (none_some found)
 encoded_by (r ∷ rows) w ins h within found = elim (cases_Bool (fits r.0 w)) [
-  | inl e ↦ let g = rw e at found in ap encoding (sym (some_same g)) ∙ h.0 w within e
+  | inl e ↦ let g = rw e at found in ap encoding (sym (some_injective g)) ∙ h.0 w within e
   | inr e ↦ let g = rw e at found in encoded_by rows w ins h.1 within g
 ]
 

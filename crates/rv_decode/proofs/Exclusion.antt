@@ -1,8 +1,9 @@
 -- No word fits two rows: the keys of each two rows differ in a field that both of them name.
-use Rattle.std.proofs.Common.{◌≡◌, ℕ, ◌==◌, ◌&&◌, ◌||◌, not, Bool, true, false, List, [], ◌∷◌, Option, Some, None, arith, refl, sym, ap, ◌∙◌, inl, inr, ◌⊎◌, IsTrue}
+use Rattle.std.proofs.Common.{◌≡◌, ℕ, ◌==◌, ◌&&◌, ◌||◌, not, Bool, true, false, List, [], ◌∷◌, Option, Some, None, arith, refl, sym, ap, ◌∙◌, inl, inr, IsTrue}
 use Rattle.std.specs.List.{AllPairs, AllByRecursion}
 use Rattle.std.proofs.lemmas.List.Kept.{AllPairs-cons}
 use Rattle.std.proofs.lemmas.List.Elements.{All-from_recursion}
+use Rattle.std.proofs.lemmas.Bool.{or_cases, and_parts}
 use Rattle.rv_decode.specs.declared.Ins.{Ins}
 use Rattle.rv_decode.specs.Table.{Key, bits, fits, table}
 use Rattle.rv_decode.specs.Table.Key.{Opcode, Funct3, Funct7, Whole}
@@ -64,10 +65,6 @@ not_both n (Some x) (Some y) d p q = let e : x ≡ y = cc in grind arith
 abbrev excludes : Key → Key → Bool
 excludes k l = not (opcode_of k == opcode_of l) || (differ (funct3_of k) (funct3_of l) || (differ (funct7_of k) (funct7_of l) || differ (whole_of k) (whole_of l)))
 
-or_cases : (a b : Bool) → (a || b) ≡ true → (a ≡ true) ⊎ (b ≡ true)
-or_cases true b h = inl refl
-or_cases false b h = inr h
-
 excluded : (k l : Key) (w : ℕ) → excludes k l ≡ true → fits k w ≡ true → fits l w ≡ true → ⊥
 excluded k l w d p q =
     let a : Agreement k w = agreement k w p in
@@ -94,17 +91,13 @@ abbrev all_exclude : List (Key × (ℕ → Ins)) → Bool
 all_exclude [] = true
 all_exclude (r ∷ rows) = excludes_all r.0 rows && all_exclude rows
 
-and_both : (a b : Bool) → (a && b) ≡ true → (a ≡ true) × (b ≡ true)
-and_both true b h = (refl, h)
-and_both false b h = cc
-
 abbrev Apart : ℕ → Key × (ℕ → Ins) → Key × (ℕ → Ins) → Type 0
 Apart w r s = IsTrue (fits r.0 w) → IsTrue (fits s.0 w) → ⊥
 
 apart_from : (w : ℕ) (r : Key × (ℕ → Ins)) (rows : List (Key × (ℕ → Ins))) → excludes_all r.0 rows ≡ true → AllByRecursion (Apart w r) rows
 apart_from w r [] h = tt
 apart_from w r (s ∷ rows) h =
-    let p = and_both (excludes r.0 s.0) (excludes_all r.0 rows) h in
+    let p = and_parts (excludes r.0 s.0) (excludes_all r.0 rows) h in
     (λ a b. excluded r.0 s.0 w p.0 (true_of a) (true_of b), apart_from w r rows p.1)
   where
     true_of : {b : Bool} → IsTrue b → b ≡ true
@@ -113,7 +106,7 @@ apart_from w r (s ∷ rows) h =
 each_apart : (w : ℕ) (rows : List (Key × (ℕ → Ins))) → all_exclude rows ≡ true → AllPairs (Apart w) rows
 each_apart w [] h = λ i j d before within. absurd (omega arith)
 each_apart w (r ∷ rows) h =
-    let p = and_both (excludes_all r.0 rows) (all_exclude rows) h in
+    let p = and_parts (excludes_all r.0 rows) (all_exclude rows) h in
     AllPairs-cons (Apart w) r rows (All-from_recursion _ _ (apart_from w r rows p.0)) (each_apart w rows p.1)
 
 pub table_excludes : ExcludeEachOther table

@@ -1,16 +1,11 @@
 -- What a word is decoded to has its fields in range.
-use Rattle.std.proofs.Common.{◌≡◌, ℕ, ◌+◌, ◌*◌, ◌%◌, ◌^◌, ◌<◌, nat_lt, List, [], ◌∷◌, Some, None, arith, sym, inl, inr, lit≤, subst}
+use Rattle.std.proofs.Common.{◌≡◌, ℕ, ◌+◌, ◌*◌, ◌%◌, ◌^◌, ◌<◌, nat_lt, List, [], ◌∷◌, Some, arith, sym, inl, inr, lit≤, subst}
 use Rattle.std.proofs.lemmas.Bool.{cases_Bool}
+use Rattle.crpd_base.proofs.Options.{some_injective, none_some}
 use Rattle.rv_decode.specs.declared.Ins.{Ins}
 use Rattle.rv_decode.specs.Table.{Key, bits, rd, rs1, rs2, i_imm, s_imm, b_imm, j_imm, signed, fits, table, row_of, row}
 use Rattle.rv_decode.specs.Range.{IsInRange, IsEven, R, I, B, U, J}
 use Rattle.rv_decode.proofs.Pieces.{signed_within}
-
-some_same : {A : Type 0} {x y : A} → Some x ≡ Some y → x ≡ y
-some_same e = cc
-
-none_some : {A : Type 0} {x : A} → None ≡ Some x → ⊥
-none_some e = cc
 
 register_below : (low w : ℕ) → bits low 5 w < 32
 register_below low w = omega arith
@@ -59,7 +54,7 @@ each_in_range = (u_in, (u_in, (j_in, (i_in, (b_in, (b_in, (b_in, (b_in, (b_in, (
 in_range_by : (rows : List (Key × (ℕ → Ins))) (w : ℕ) (ins : Ins) → AreInRange rows → row_of rows w ≡ Some ins → IsInRange ins
 in_range_by [] w ins h found = absurd (none_some found)
 in_range_by (r ∷ rows) w ins h found = elim (cases_Bool (fits r.0 w)) [
-  | inl e ↦ let g = rw e at found in subst IsInRange (some_same g) (h.0 w)
+  | inl e ↦ let g = rw e at found in subst IsInRange (some_injective g) (h.0 w)
   | inr e ↦ let g = rw e at found in in_range_by rows w ins h.1 g
 ]
 

@@ -6,14 +6,16 @@ use Rattle.std.specs.Str.{bytes_eq, is_utf8}
 use Rattle.std.proofs.lemmas.Bool.{cases_Bool, ltb-false}
 use Rattle.std.proofs.lemmas.Option.{same_Some}
 use Rattle.std.proofs.lemmas.List.Elements.{All-from_recursion}
+use Rattle.crpd_base.proofs.Results.{bind_ok, ok_is}
 use Rattle.crpd_base.specs.declared.data.ScriptJob.{ScriptJob}
 use Rattle.crpd_base.specs.declared.data.Script.{Script}
 use Rattle.crpd_base.specs.declared.data.TaskSet.{TaskSet}
 use Rattle.crpd_base.specs.declared.data.TaskSpec.{TaskSpec}
 use Rattle.toml.specs.Data.{Members, as_str, as_table}
 use Rattle.toml.specs.Parse.{parse_document}
-use Rattle.toml_keys.specs.Reading.{Gives, all_known, required, optional, whole, listed, each}
-use Rattle.toml_keys.proofs.Laws.{bind_ok, guard_ok, ok_is, each_all, each_length}
+use Rattle.crpd_base.specs.Outcome.{Gives}
+use Rattle.toml_keys.specs.Reading.{all_known, required, optional, whole, listed, each}
+use Rattle.toml_keys.proofs.Laws.{guard_ok, each_all, each_length}
 use Rattle.script_reader.specs.declared.fault.ScriptError.{ScriptError}
 use Rattle.script_reader.specs.declared.fault.ScriptError.TheVariants.{Memory, TooLong}
 use Rattle.script_reader.specs.Reading.{of_script, job_keys, first_named, told, task_named, job_at, nth_job, jobs_at, script_keys, cycles_at, block, script_at, document, reading}

@@ -1,27 +1,20 @@
 -- Jobs of one task that arrive a period apart: by task, in any order, and by neighbours of the sorted arrivals.
-use Rattle.std.proofs.Common.{◌≡◌, ◌≢◌, ℕ, suc, ◌+◌, ◌-◌, ◌<◌, ◌≤◌, inl, inr, cond, nat_eq, List, [], ◌∷◌, length, map, take, drop, get_or, set, refl, sym, ap, ◌∙◌, subst, arith, get_or-set_same, get_or-set_other, length-set}
+use Rattle.std.proofs.Common.{◌≡◌, ◌≢◌, ℕ, ◌+◌, ◌-◌, ◌<◌, ◌≤◌, inl, inr, cond, nat_eq, List, [], ◌∷◌, length, take, drop, get_or, set, refl, sym, ap, ◌∙◌, subst, arith, get_or-set_same, get_or-set_other, length-set}
 use Rattle.std.specs.Prelude.{All, AllPairs}
 use Rattle.std.specs.List.{swap, AllByRecursion}
 use Rattle.std.specs.List.Sorted.{IsPermutation, IsNonDecreasing}
 use Rattle.std.proofs.lemmas.Bool.{cases_eq, cases_lt}
 use Rattle.std.proofs.lemmas.Bool.Decides.{nat_tests}
-use Rattle.std.proofs.Math.ListN.{get_or-map}
-use Rattle.std.proofs.lemmas.List.{get_or_default, length-map, length-drop, get_or-drop, take_all}
+use Rattle.std.proofs.lemmas.List.{get_or_default, length-drop, get_or-drop, take_all}
 use Rattle.std.proofs.lemmas.List.Elements.{All-from_recursion, recursion_from_All}
 use Rattle.std.proofs.lemmas.List.Kept.{AllPairs-cons}
 use Rattle.std.proofs.lemmas.List.Sorted.{IsPermutation-keeps}
+use Rattle.crpd_base.proofs.Elements.{pairs_head, pairs_tail}
 use Rattle.crpd_base.specs.declared.data.ScriptJob.{ScriptJob}
 use Rattle.crpd_base.specs.declared.data.TaskSet.{TaskSet}
-use Rattle.crpd_base.specs.declared.data.TaskSpec.{TaskSpec}
 use Rattle.script_reader.specs.Legal.{AreApart, AreAllApart, EachIsSpaced, AreSpacedPairs, AreSpaced, arrivals_of, period_of}
 
 -- ---- pairs
-
-pairs_head : {X : Type 0} (R : X → X → Type 0) (x : X) (xs : List X) → AllPairs R (x ∷ xs) → All (R x) xs
-pairs_head R x xs h k d lt = h 0 (suc k) d (omega arith) (omega arith)
-
-pairs_tail : {X : Type 0} (R : X → X → Type 0) (x : X) (xs : List X) → AllPairs R (x ∷ xs) → AllPairs R xs
-pairs_tail R x xs h i j d lt le = h (suc i) (suc j) d (omega arith) (omega arith)
 
 -- ---- by task
 
@@ -148,9 +141,6 @@ each_from_pairs s jobs h = record { tasks = λ t _. record { pairs = by_task s j
 
 pub pairs_from_each : (s : TaskSet) (jobs : List ScriptJob) → All (λ (j : ScriptJob). j.task.0 < length s.tasks) jobs → EachIsSpaced s jobs → AreSpacedPairs s jobs
 pairs_from_each s jobs ins each = record { pairs = from_tasks s jobs (recursion_from_All _ jobs ins) (λ t lt. (each.tasks t lt).pairs) }
-
-pub period_at : (s : TaskSet) (t : ℕ) (k : TaskSpec) → t < length s.tasks → k ≡ get_or s.tasks t k → period_of s t ≡ k.period
-period_at s t k lt is = get_or_default (map (λ (u : TaskSpec). u.period) s.tasks) t 0 k.period (rw length-map lt) ∙ get_or-map (λ (u : TaskSpec). u.period) s.tasks t k ∙ ap (λ (u : TaskSpec). u.period) (sym is)
 
 -- ---- by pairs
 

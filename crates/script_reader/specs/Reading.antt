@@ -9,7 +9,8 @@ use Rattle.toml.specs.Data.{Data, integer, Members, as_str, as_table}
 use Rattle.toml.specs.Parse.{parse_document}
 use Rattle.toml_keys.specs.declared.fault.KeyError.{KeyError}
 use Rattle.toml_keys.specs.declared.fault.KeyError.TheVariants as fault
-use Rattle.toml_keys.specs.Reading.{◌>>=◌, all_known, present, good, required, optional, whole, listed, each, item_path}
+use Rattle.crpd_base.specs.Outcome.{◌>>=◌}
+use Rattle.toml_keys.specs.Reading.{all_known, present, good, required, optional, whole, listed, each, item_path}
 use Rattle.script_reader.specs.declared.fault.ScriptError.{ScriptError}
 use Rattle.script_reader.specs.declared.fault.ScriptError.TheVariants.{Memory, NotToml, Missing, BadValue, UnknownTask, TooLong, UnknownKey}
 

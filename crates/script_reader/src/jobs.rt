@@ -1,7 +1,8 @@
 ghost use Rattle.std.specs.Prelude.{◌≡◌, ◌++◌, [], codes, length, map, option_map, IfOk, string_bytes};
 ghost use Rattle.toml.specs.Data.{as_str, as_table};
 ghost use Rattle.toml.specs.View.{view, table_view};
-ghost use Rattle.toml_keys.specs.Reading.{Gives, all_known, required, optional, each, listed};
+ghost use Rattle.crpd_base.specs.Outcome.{Gives};
+ghost use Rattle.toml_keys.specs.Reading.{all_known, required, optional, each, listed};
 ghost use Rattle.script_reader.specs.Reading as spec;
 
 use crate::fault::ScriptError;

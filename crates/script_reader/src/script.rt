@@ -1,6 +1,7 @@
 ghost use Rattle.std.specs.Prelude.{◌≡◌, ◌<◌, ◌≤◌, All, [], codes, length, map, option_map, IfOk};
 ghost use Rattle.toml.specs.View.{view, table_view};
-ghost use Rattle.toml_keys.specs.Reading.{Gives, all_known, optional, listed};
+ghost use Rattle.crpd_base.specs.Outcome.{Gives};
+ghost use Rattle.toml_keys.specs.Reading.{all_known, optional, listed};
 ghost use Rattle.script_reader.specs.Reading as spec;
 ghost use Rattle.script_reader.specs.Reading.{reading};
 

@@ -1,23 +1,21 @@
 -- The parts of the tasks, from what the analyses give.
-use Rattle.std.proofs.Common.{◌≡◌, ℕ, ◌+◌, ◌<◌, ◌≤◌, Bool, List, [], ◌∷◌, ◌++◌, length, get_or, IsTrue, ◌↔◌, sym, ◌∙◌, ap, subst, inl, inr, arith}
-use Rattle.std.proofs.lemmas.Bool.{cases_eq}
-use Rattle.std.proofs.Math.ListN.{get_or-append}
-use Rattle.std.proofs.Math.Seq.{get_or-append_seam}
+use Rattle.std.proofs.Common.{◌≡◌, ℕ, ◌<◌, ◌≤◌, Bool, List, [], length, get_or, IsTrue, ◌↔◌, sym, ◌∙◌, subst}
 use Rattle.crpd_base.specs.declared.data.Platform.{Platform}
 use Rattle.crpd_base.specs.declared.data.Part.{Part}
 use Rattle.crpd_base.specs.Sets.{has, AreWords}
 use Rattle.icache.specs.Accesses.{accesses}
-use Rattle.flat_graph.specs.CodeGraph.{CodeGraph, graph_of, places_of}
+use Rattle.flat_graph.specs.CodeGraph.{CodeGraph, graph_of, places_of, graph_at}
 use Rattle.loop_regions.specs.Potentials.{item_potential}
 use Rattle.loop_regions.specs.CodeNest.{CodeNest, nest_of, IsNestOf}
 use Rattle.loop_regions.specs.TaskGraph.{TaskGraph}
 use Rattle.delay_count.specs.Gamma.{part_at}
 use Rattle.std.proofs.lemmas.List.{get_or_default}
 use Rattle.useful_sets.specs.Useful.{IsEcb, IsUcb}
-use Rattle.exec_bound.specs.Costs.{costs_of, counted, listed, greatest_bound, IsBound, IsTooLarge}
+use Rattle.evict_sets.specs.Listing.{counted}
+use Rattle.exec_bound.specs.Costs.{costs_of, listed, greatest_bound, IsBound, IsTooLarge}
 use Rattle.exec_bound.specs.Walks.{CountsSureHits}
 use Rattle.loop_regions.proofs.Beside.{nested}
-use Rattle.cert_check.specs.Shown.{shown, shown_at, graph_at, nest_at}
+use Rattle.cert_check.specs.Shown.{shown, shown_at, nest_at}
 use Rattle.sensitivity.specs.Accepted.{HasSets, IsLeastBound, IsPart}
 use Rattle.sensitivity.specs.Found.{IsLarge, TellsHits}
 use Rattle.sensitivity.proofs.Bounds.{one_potential}
@@ -62,17 +60,6 @@ large_bound p g n is_hit B H T = (
 -- of the task at a place
 pub moved : (F : TaskGraph → Type 0) (g : CodeGraph) (n : CodeNest) (graphs : List CodeGraph) (nests : List CodeNest) (k : ℕ) → g ≡ graph_at graphs k → n ≡ nest_at nests k → F (shown g n) → F (shown_at graphs nests k)
 moved F g n graphs nests k e f h = subst (λ (x : CodeNest). F (shown (graph_at graphs k) x)) f (subst (λ (x : CodeGraph). F (shown x n)) e h)
-
--- one more of a list
-pub one_more : {X : Type 0} (P : ℕ → X → Type 0) (old new : List X) (x d : X) (k : ℕ) → new ≡ old ++ x ∷ [] → length old ≡ k
-    → ((j : ℕ) → j < k → P j (get_or old j d)) → P k x → (j : ℕ) → j < k + 1 → P j (get_or new j d)
-one_more {X = X} P old new x d k is size before here j lt =
-    elim (cases_eq j k) [
-      | inl e ↦ subst (λ (q : ℕ). P q (get_or new q d)) (sym e) (subst (λ (y : X). P k y) (sym (ap (λ xs. get_or xs k d) is ∙ ap (λ q. get_or (old ++ x ∷ []) q d) (sym size) ∙ get_or-append_seam old x [] d)) here)
-      | inr ne ↦
-          let l : j < k = omega arith in
-          subst (λ (y : X). P j y) (sym (ap (λ xs. get_or xs j d) is ∙ get_or-append old (x ∷ []) d j (omega (arith, l, size)))) (before j l)
-    ]
 
 -- a part with its bound
 pub with_bound : (p : Platform) (t : TaskGraph) (parts : List Part) (k : ℕ) (x : Part) (cycles : ℕ) → k < length parts → x ≡ get_or parts k x → HasSets p t (part_at parts k) → IsLeastBound p t cycles

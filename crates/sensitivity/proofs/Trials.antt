@@ -9,10 +9,10 @@ use Rattle.crpd_base.specs.declared.data.Task.{Task}
 use Rattle.crpd_base.specs.declared.data.TaskSet.{TaskSet}
 use Rattle.crpd_base.specs.Ranges.{IsTaskSet}
 use Rattle.flat_graph.specs.Graph.{IsGraph}
-use Rattle.flat_graph.specs.CodeGraph.{CodeGraph, graph_of}
+use Rattle.flat_graph.specs.CodeGraph.{CodeGraph, graph_of, graph_at}
 use Rattle.loop_regions.specs.CodeNest.{CodeNest}
 use Rattle.loop_regions.specs.TaskGraph.{TaskGraph}
-use Rattle.cert_check.specs.Shown.{shown_at, graph_at, nest_at, AreShown}
+use Rattle.cert_check.specs.Shown.{shown_at, nest_at, AreShown}
 use Rattle.sensitivity.specs.declared.cost.Cost.{Cost}
 use Rattle.sensitivity.specs.declared.cost.Cost.TheVariants.{Switch, Miss}
 use Rattle.sensitivity.specs.Costs.{priced, with_switch}

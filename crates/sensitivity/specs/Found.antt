@@ -4,7 +4,8 @@ use Rattle.crpd_base.specs.declared.data.Platform.{Platform}
 use Rattle.crpd_base.specs.declared.data.Part.{Part}
 use Rattle.crpd_base.specs.declared.data.TaskSet.{TaskSet}
 use Rattle.loop_regions.specs.TaskGraph.{TaskGraph}
-use Rattle.exec_bound.specs.Costs.{counted, greatest_bound}
+use Rattle.evict_sets.specs.Listing.{counted}
+use Rattle.exec_bound.specs.Costs.{greatest_bound}
 use Rattle.exec_bound.specs.Walks.{CountsSureHits}
 use Rattle.cert_check.specs.Judge.{accesses_of}
 use Rattle.delay_count.specs.Gamma.{part_at}

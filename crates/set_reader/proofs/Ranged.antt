@@ -9,6 +9,7 @@ use Rattle.std.proofs.lemmas.List.Elements.{All-from_recursion}
 use Rattle.std.proofs.lemmas.List.Folds.{list_any_at}
 use Rattle.std.proofs.lemmas.List.Quantifiers.{all_pairs_push}
 use Rattle.std.proofs.lemmas.Slice.Eq.{bytes_eq-Decides}
+use Rattle.crpd_base.proofs.Results.{bind_ok, ok_is}
 use Rattle.crpd_base.specs.declared.data.Platform.{Platform}
 use Rattle.crpd_base.specs.declared.data.LoopSpec.{LoopSpec}
 use Rattle.crpd_base.specs.declared.data.TaskSet.{TaskSet}
@@ -20,8 +21,9 @@ use Rattle.crpd_base.specs.Ranges.{IsPlatform, IsLoopSpec, IsTaskSpec, HaveOwnNa
 use Rattle.toml.specs.Data.{Data, integer, Members, as_table, as_str, get_member}
 use Rattle.toml.specs.Parse.{parse_document}
 use Rattle.toml_keys.specs.declared.fault.KeyError.{KeyError}
-use Rattle.toml_keys.specs.Reading.{Gives, all_known, required, optional, whole, listed, each, item_path, present, good, at_most}
-use Rattle.toml_keys.proofs.Laws.{bind_ok, guard_ok, ok_is, each_all, each_length}
+use Rattle.crpd_base.specs.Outcome.{Gives}
+use Rattle.toml_keys.specs.Reading.{all_known, required, optional, whole, listed, each, item_path, present, good, at_most}
+use Rattle.toml_keys.proofs.Laws.{guard_ok, each_all, each_length}
 use Rattle.toml_keys.proofs.Ranged.{IsBetween, only_ok, whole_between, required_ok, optional_ok, required_between, optional_within, at_most_ok}
 use Rattle.set_reader.specs.Kinds as kind
 use Rattle.set_reader.specs.declared.fault.SetError.{SetError}

@@ -14,7 +14,8 @@ use Rattle.toml.specs.Parse.{parse_document}
 use Rattle.toml_keys.specs.declared.fault.KeyError.{KeyError}
 use Rattle.toml_keys.specs.declared.fault.KeyError.TheVariants as fault
 use Rattle.toml_keys.specs.Kinds.{only}
-use Rattle.toml_keys.specs.Reading.{◌>>=◌, all_known, required, optional, whole, listed, at_most, each, item_path}
+use Rattle.crpd_base.specs.Outcome.{◌>>=◌}
+use Rattle.toml_keys.specs.Reading.{all_known, required, optional, whole, listed, at_most, each, item_path}
 use Rattle.set_reader.specs.declared.fault.SetError.{SetError}
 use Rattle.set_reader.specs.declared.fault.SetError.TheVariants.{Memory, NotToml, Missing, BadValue, TooManyTasks, SameName, DeadlineAfterPeriod, UnknownKey}
 use Rattle.set_reader.specs.Kinds as kind

@@ -1,7 +1,8 @@
 ghost use Rattle.std.specs.Prelude.{◌≡◌, ◌≤◌, All, [], ◌++◌, codes, string_bytes, length, map, option_map, IfOk};
 ghost use Rattle.toml.specs.Data.{as_table};
 ghost use Rattle.toml.specs.View.{view, table_view};
-ghost use Rattle.toml_keys.specs.Reading.{Gives, all_known, required, each};
+ghost use Rattle.crpd_base.specs.Outcome.{Gives};
+ghost use Rattle.toml_keys.specs.Reading.{all_known, required, each};
 ghost use Rattle.crpd_base.specs.Ranges.{IsTaskSet};
 ghost use Rattle.set_reader.specs.Reading as spec;
 ghost use Rattle.set_reader.specs.Reading.{reading};

@@ -1,6 +1,7 @@
 ghost use Rattle.std.specs.Prelude.{◌≡◌, codes, string_bytes, None};
 ghost use Rattle.toml.specs.View.{table_view};
-ghost use Rattle.toml_keys.specs.Reading.{Gives, all_known, required, optional};
+ghost use Rattle.crpd_base.specs.Outcome.{Gives};
+ghost use Rattle.toml_keys.specs.Reading.{all_known, required, optional};
 ghost use Rattle.crpd_base.specs.declared.data.Place.TheVariants.{Number};
 ghost use Rattle.set_reader.specs.Kinds as kind;
 ghost use Rattle.set_reader.specs.Reading as spec;

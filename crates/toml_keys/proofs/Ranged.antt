@@ -3,12 +3,12 @@ use Rattle.std.proofs.Common.{◌≡◌, ◌⊎◌, ℕ, ◌≤◌, Bool, true, 
 use Rattle.std.proofs.lemmas.Bool.{cases_Bool, leb-true}
 use Rattle.std.proofs.lemmas.Bool.Decides.{nat_tests}
 use Rattle.std.proofs.lemmas.Option.{same_Some}
+use Rattle.crpd_base.proofs.Results.{bind_ok, ok_is}
 use Rattle.crpd_base.specs.Names.{is_between, is_line}
 use Rattle.toml.specs.Data.{Data, integer, Members, get_member}
 use Rattle.toml_keys.specs.declared.fault.KeyError.{KeyError}
 use Rattle.toml_keys.specs.Kinds.{only}
 use Rattle.toml_keys.specs.Reading.{required, optional, whole, present, good, at_most}
-use Rattle.toml_keys.proofs.Laws.{bind_ok, ok_is}
 
 -- n lies between the two
 pub record IsBetween (low high n : ℕ) : Type 0 where

@@ -2,7 +2,7 @@ ghost use Rattle.std.specs.Prelude.{◌≡◌, ℕ, ◌++◌, ◌≤◌, length,
 ghost use Rattle.toml.specs.Data.{get_member};
 ghost use Rattle.toml.specs.View.{view, table_view};
 ghost use Rattle.toml_keys.specs.Reading as spec;
-ghost use Rattle.toml_keys.specs.Reading.{Gives};
+ghost use Rattle.crpd_base.specs.Outcome.{Gives};
 
 use crate::fault::KeyError;
 use crate::kinds::whole;

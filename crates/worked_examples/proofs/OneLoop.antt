@@ -2,6 +2,7 @@
 use Rattle.std.proofs.Common.{◌≡◌, ◌≢◌, ℕ, zero, suc, ◌+◌, ◌*◌, ◌<◌, ◌≤◌, List, [], ◌∷◌, Some, None, Contains, IsTrue, IsFalse, refl, sym, ◌∙◌, ap, subst, inl, inr, arith, length}
 use Rattle.std.specs.Prelude.{◌==◌, nat_lt, get_or}
 use Rattle.std.proofs.lemmas.Bool.{cases_Bool, eqb-true, false≢true, true≢false, ne_eqb, ltb-true, lt-ltb}
+use Rattle.std.proofs.lemmas.Option.{same_Some}
 use Rattle.crpd_base.specs.declared.data.LoopAt.{LoopAt}
 use Rattle.rv_decode.specs.Flow.{flow, flows}
 use Rattle.rv_decode.specs.Table.{row, table}
@@ -158,17 +159,14 @@ follows =
       numbers = λ u m l c. numbers m u l c;
     }
 
-some_same : (a b : ℕ) → Some a ≡ Some b → a ≡ b
-some_same a b e = cc
-
 instructions : (u w : ℕ) → u < 4 → words (address_of u) ≡ Some w → row w ≡ Some (ins_of u)
 unfolding row table
 instructions u w l =
     four (λ x. words (address_of x) ≡ Some w → row w ≡ Some (ins_of x))
-    (λ e. subst (λ z. row z ≡ Some (ins_of 0)) (some_same 0x00300293 w e) refl)
-    (λ e. subst (λ z. row z ≡ Some (ins_of 1)) (some_same 0xFFF28293 w e) refl)
-    (λ e. subst (λ z. row z ≡ Some (ins_of 2)) (some_same 0xFE029EE3 w e) refl)
-    (λ e. subst (λ z. row z ≡ Some (ins_of 3)) (some_same 0x00000073 w e) refl)
+    (λ e. subst (λ z. row z ≡ Some (ins_of 0)) (same_Some 0x00300293 w e) refl)
+    (λ e. subst (λ z. row z ≡ Some (ins_of 1)) (same_Some 0xFFF28293 w e) refl)
+    (λ e. subst (λ z. row z ≡ Some (ins_of 2)) (same_Some 0xFE029EE3 w e) refl)
+    (λ e. subst (λ z. row z ≡ Some (ins_of 3)) (same_Some 0x00000073 w e) refl)
     u l
 
 region : IsRegionOf graph.graph graph.places graph.nest 0 loop
@@ -270,7 +268,7 @@ Says y s m = (s ≡ 0) × (m ≡ 256) × (1 ≤ y)
 sure_says : (s m : ℕ) → block_in ((0, 256) ∷ []) s ≡ Some m → (s ≡ 0) × (m ≡ 256)
 sure_says s m e =
     elim (cases_Bool (0 == s)) [
-      | inl b ↦ (sym (eqb-true 0 s b), sym (some_same 256 m (rw b at e)))
+      | inl b ↦ (sym (eqb-true 0 s b), sym (same_Some 256 m (rw b at e)))
       | inr b ↦ absurd (let x = rw b at e in cc)
     ]
 

@@ -2,6 +2,7 @@
 use Rattle.std.proofs.Common.{◌≡◌, ◌≢◌, ◌⊎◌, ℕ, zero, suc, ◌+◌, ◌<◌, ◌≤◌, Bool, true, List, [], ◌∷◌, Option, Some, None, Contains, IsTrue, IsFalse, refl, sym, ◌∙◌, ap, subst, inl, inr, arith, length}
 use Rattle.std.specs.Prelude.{◌==◌, ◌&&◌, nat_le}
 use Rattle.std.proofs.lemmas.Bool.{cases_Bool, leb-true, and_parts, cases_eq, eqb-true, eq-eqb, ne_eqb, false≢true, true≢false}
+use Rattle.std.proofs.lemmas.Option.{same_Some}
 use Rattle.crpd_base.specs.Sets.{has as has_set}
 use Rattle.rv_decode.specs.declared.Ins.{Ins}
 use Rattle.rv_decode.specs.Flow.{Words, IsCodeMap, flows}
@@ -47,9 +48,6 @@ pub record IsLine (g : Graph) (before : ℕ → List ℕ) : Type 0 where
 
 heads : (x y : ℕ) (xs ys : List ℕ) → x ∷ xs ≡ y ∷ ys → x ≡ y
 heads x y xs ys e = cc
-
-some_same : (a b : ℕ) → Some a ≡ Some b → a ≡ b
-some_same a b e = cc
 
 not_empty : (x : ℕ) (xs : List ℕ) → x ∷ xs ≡ [] → ⊥
 not_empty x xs e = let l = ap (length {A = ℕ}) e in omega (arith, l)
@@ -227,7 +225,7 @@ pub state_made : (g : Graph) (before : ℕ → List ℕ) (a : Accesses) (l : Lis
 state_made g before a l line f [] y s m w e = absurd (let x = e in cc)
 state_made g before a l line f (u ∷ b) y s m w e =
     elim (cases_eq (a.set u) s) [
-      | inl here ↦ accessed u y s m (unlisted_after g before l u y line f w.0) w.0 here (some_same (a.block u) m (rw (eq-eqb (a.set u) s here) at e))
+      | inl here ↦ accessed u y s m (unlisted_after g before l u y line f w.0) w.0 here (same_Some (a.block u) m (rw (eq-eqb (a.set u) s here) at e))
       | inr there ↦ passed u y s m (unlisted_after g before l u y line f w.0) w.0 there (state_made g before a l line f b u s m w.1 (rw (ne_eqb (a.set u) s there) at e))
     ]
 

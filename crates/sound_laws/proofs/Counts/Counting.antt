@@ -2,8 +2,8 @@
 use Rattle.std.proofs.Common.{◌≡◌, ℕ, ◌*◌, ◌<◌, ◌≤◌, Bool, true, false, ◌&&◌, refl, sym, ◌∙◌, subst, inl, inr, arith}
 use Rattle.std.specs.Prelude.{◌==◌, if◌then◌else◌}
 use Rattle.std.proofs.lemmas.Bool.{cases_Bool, false≢true, and_parts, eq-eqb, eqb-true}
+use Rattle.crpd_base.proofs.Sums.{sum_le, sum_times, sum_ge, sum_swap}
 use Rattle.crpd_base.specs.Sum.{sum_below}
-use Rattle.delay_count.proofs.Sums.{sum_le, sum_times, sum_swap, sum_ge}
 use Rattle.sound_laws.proofs.Windows.Releases.{count, one_le, count_none, at_most_one}
 
 abbrev one_if : Bool → ℕ

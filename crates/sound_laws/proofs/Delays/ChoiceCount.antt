@@ -3,6 +3,7 @@ use Rattle.std.proofs.Common.{◌≡◌, ℕ, zero, suc, ◌+◌, ◌*◌, ◌<�
 use Rattle.std.specs.Prelude.{◌==◌, nat_lt, if◌then◌else◌}
 use Rattle.std.proofs.Math.Nat.{mul-le-mul_left}
 use Rattle.std.proofs.lemmas.Bool.{cases_Bool, cases_eq, false≢true, and_parts, and_from, or_left, or_right, eq-eqb, eqb-true, ne_eqb, lt-ltb}
+use Rattle.crpd_base.proofs.Sums.{sum_le, sum_times, sum_swap}
 use Rattle.crpd_base.specs.declared.data.TaskSet.{TaskSet}
 use Rattle.script_reader.specs.Legal.{period_of, jitter_of}
 use Rattle.preempt_machine.specs.Step.{Start}
@@ -14,7 +15,6 @@ use Rattle.crpd_base.specs.declared.data.Part.{Part}
 use Rattle.delay_count.specs.Counts.{jobs_in, preemptions}
 use Rattle.delay_count.specs.Gamma.{evicted_from, shared_count, shared_sets, ecb_count}
 use Rattle.sound_laws.proofs.Delays.Choices.{IsChoice, choice_le}
-use Rattle.delay_count.proofs.Sums.{sum_le, sum_swap, sum_times}
 use Rattle.sound_laws.proofs.Windows.Releases.{count, count_none, at_most_one, lies_in}
 use Rattle.sound_laws.proofs.Counts.Counting.{spread, inject, each_at_most, count_le}
 use Rattle.sound_laws.proofs.Windows.Busy.{line_at, task_at, in_window}

@@ -1,11 +1,12 @@
 -- Step 6, ledger_within_delays: the ledger's entries of a window, counted as the steps at which they are made, are within
 -- both delays.
 use Rattle.std.proofs.Common.{◌≡◌, ℕ, zero, suc, ◌+◌, ◌-◌, ◌*◌, ◌<◌, ◌≤◌, Bool, true, false, ◌&&◌, List, [], ◌∷◌, length, refl, sym, ◌∙◌, ap, subst, inl, inr, arith, nat_lt, nat_le, if◌then◌else◌, cond, mul-le-mul_left, mul_comm}
-use Rattle.std.specs.Prelude.{◌==◌, ◌||◌, All, AllPairs}
+use Rattle.std.specs.Prelude.{◌==◌, All, AllPairs}
 use Rattle.std.specs.List.{list_any, count_by}
-use Rattle.std.proofs.lemmas.Bool.{cases_Bool, false≢true, and_parts, or_cases, ltb-true, leb-true, eqb-true, eq-eqb}
+use Rattle.std.proofs.lemmas.Bool.{cases_Bool, false≢true, and_parts, or_cases, ltb-true, leb-true, eqb-true, eq-eqb, or_right}
 use Rattle.std.proofs.lemmas.List.{get_or_default}
 use Rattle.std.proofs.lemmas.List.Recursion.{is_count_by}
+use Rattle.crpd_base.proofs.Sums.{sum_change}
 use Rattle.crpd_base.specs.declared.data.TaskSet.{TaskSet}
 use Rattle.crpd_base.specs.declared.data.Certificate.{Certificate}
 use Rattle.flow_watch.specs.Watch.{is_kept}
@@ -21,7 +22,6 @@ use Rattle.run_account.proofs.Jobs.{jobs_length}
 use Rattle.run_account.proofs.AnswerTimes.{answered_by}
 use Rattle.sound_laws.specs.Windows.{HasWindow, EvictedBy, PreemptedBy}
 use Rattle.sound_laws.specs.Ledgers.{HasAnswered, is_in_window, evicted_by, preempted_by, LedgerWithinDelays}
-use Rattle.delay_count.proofs.Sums.{sum_change}
 use Rattle.sound_laws.proofs.Windows.Releases.{count, one_le}
 use Rattle.sound_laws.proofs.Counts.Counting.{count_le}
 use Rattle.run_account.proofs.JobWalks.{kept_before}
@@ -37,13 +37,6 @@ made_at p es n = list_any (λ (e : LedgerEntry). (e.time == n) && p e) es
 
 abbrev one_if : Bool → ℕ
 one_if b = if b then 1 else 0
-
-or_right : (b c : Bool) → c ≡ true → (b || c) ≡ true
-or_right true c h = refl
-or_right false c h = h
-
-or_left : (b c : Bool) → b ≡ true → (b || c) ≡ true
-or_left b c h = rw h refl
 
 -- the entry at a step
 pub record IsMade (P : LedgerEntry → Type 0) (p : LedgerEntry → Bool) (n : ℕ) : Type 0 where

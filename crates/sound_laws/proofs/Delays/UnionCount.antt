@@ -3,6 +3,7 @@ use Rattle.std.proofs.Common.{◌≡◌, ℕ, suc, ◌+◌, ◌*◌, ◌<◌, �
 use Rattle.std.specs.Prelude.{◌==◌, nat_lt, min, if◌then◌else◌}
 use Rattle.std.proofs.Math.Nat.{mul-le-mul_left}
 use Rattle.std.proofs.lemmas.Bool.{cases_Bool, cases_eq, false≢true, and_parts, and_from, or_cases, eq-eqb, eqb-true, ne_eqb, lt-ltb, ltb-true}
+use Rattle.crpd_base.proofs.Sums.{sum_le}
 use Rattle.crpd_base.specs.declared.data.TaskSet.{TaskSet}
 use Rattle.script_reader.specs.Legal.{period_of, jitter_of}
 use Rattle.preempt_machine.specs.Step.{Start}
@@ -12,7 +13,6 @@ use Rattle.crpd_base.specs.Sets.{has as has_set}
 use Rattle.crpd_base.specs.declared.data.Part.{Part}
 use Rattle.delay_count.specs.Counts.{jobs_in, preemptions, affected}
 use Rattle.delay_count.specs.Gamma.{union_count, ucb_count}
-use Rattle.delay_count.proofs.Sums.{sum_le}
 use Rattle.sound_laws.proofs.Windows.Releases.{count, count_none, lies_in}
 use Rattle.sound_laws.proofs.Counts.Counting.{spread, inject, each_at_most, count_le}
 use Rattle.sound_laws.proofs.Windows.Busy.{line_at, task_at, in_window}

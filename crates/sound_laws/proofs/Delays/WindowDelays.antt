@@ -3,6 +3,7 @@ use Rattle.std.proofs.Common.{◌≡◌, ℕ, ◌+◌, ◌<◌, ◌≤◌, ◌�
 use Rattle.std.specs.Prelude.{nat_lt, ◌==◌, if◌then◌else◌}
 use Rattle.std.proofs.Math.Nat.{mul-le-mul_left}
 use Rattle.std.proofs.lemmas.Bool.{cases_Bool, cases_lt, false≢true, and_parts, and_from, lt-ltb, ltb-true, eq-eqb}
+use Rattle.crpd_base.proofs.Sums.{sum_mono}
 use Rattle.script_reader.specs.Legal.{IsLegal}
 use Rattle.delay_count.specs.Gamma.{ucb_count, ecb_count}
 use Rattle.preempt_machine.specs.Step.{is_open, Fetch}
@@ -10,7 +11,6 @@ use Rattle.run_account.specs.Fetches.{job_of}
 use Rattle.run_account.specs.Reloads.{FetchesAt, IsEvictor, IsPreemptor}
 use Rattle.run_account.specs.Ledger.{IsWindowStart}
 use Rattle.sound_laws.specs.Windows.{EvictedBy, PreemptedBy, EntriesWithinDelays}
-use Rattle.delay_count.proofs.Sums.{sum_mono}
 use Rattle.sound_laws.proofs.Windows.Accounts.{Spends}
 use Rattle.sound_laws.proofs.Windows.Rooms.{Covers}
 use Rattle.sound_laws.proofs.Windows.Busy.{line_at, task_at, in_window, IsLastQuiet, is_busy_by, all_quiet, some_busy}

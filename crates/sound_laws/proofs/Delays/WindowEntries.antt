@@ -2,12 +2,12 @@
 use Rattle.std.proofs.Common.{◌≡◌, ℕ, ◌+◌, ◌<◌, ◌≤◌, Bool, true, ◌&&◌, length, refl, sym, ◌∙◌, ap, subst, inl, inr, arith}
 use Rattle.std.specs.Prelude.{nat_lt, nat_le, ◌==◌}
 use Rattle.std.proofs.lemmas.Bool.{cases_lt, false≢true, and_parts, and_from, or_cases, or_left, or_right, lt-ltb, ltb-true, le-leb}
+use Rattle.crpd_base.proofs.Options.{some_injective}
 use Rattle.crpd_base.specs.Sum.{sum_below}
 use Rattle.script_reader.specs.Legal.{IsLegal, period_of}
 use Rattle.delay_count.specs.Gamma.{ucb_count, ecb_count, evicted_from}
 use Rattle.crpd_base.specs.Sets.{has as has_set}
 use Rattle.preempt_machine.specs.Step.{is_open, Fetch}
-use Rattle.preempt_machine.proofs.Steps.{some_injective}
 use Rattle.run_account.specs.Fetches.{job_of}
 use Rattle.run_account.specs.Reloads.{FetchesAt, IsEvictor, IsPassing}
 use Rattle.run_account.proofs.Moves.{stays_over}

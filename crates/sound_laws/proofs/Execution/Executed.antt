@@ -2,6 +2,7 @@
 use Rattle.std.proofs.Common.{◌≡◌, ◌≢◌, ℕ, zero, suc, ◌+◌, ◌-◌, ◌*◌, ◌<◌, ◌≤◌, Bool, true, false, List, [], ◌∷◌, length, Some, refl, sym, ◌∙◌, ap, subst, inl, inr, arith}
 use Rattle.std.specs.Prelude.{◌==◌}
 use Rattle.std.proofs.lemmas.Bool.{cases_Bool, cases_eq, eq-eqb, ne_eqb, false≢true, or_parts}
+use Rattle.crpd_base.proofs.Options.{same_or_not}
 use Rattle.crpd_base.specs.declared.data.Platform.{Platform}
 use Rattle.crpd_base.specs.declared.data.TaskSet.{TaskSet}
 use Rattle.flow_watch.specs.Watch.{is_kept}
@@ -29,7 +30,7 @@ use Rattle.preempt_machine.specs.Safe.{NamesTasks}
 use Rattle.preempt_machine.proofs.Steps.{step_own, step_other}
 use Rattle.run_account.specs.Fetches.{job_of}
 use Rattle.run_account.proofs.Jobs.{new_at, owns_none}
-use Rattle.run_account.proofs.Owners.{candidate_at, was_owner, cases_some, owns_same}
+use Rattle.run_account.proofs.Owners.{candidate_at, was_owner, owns_same}
 use Rattle.run_account.proofs.Moves.{never_moved}
 use Rattle.run_account.specs.Nodes.{task_of, plan_at, node_of}
 use Rattle.run_account.specs.Walks.{fetched_nodes}
@@ -122,7 +123,7 @@ module _ (s : Start) (set : TaskSet) (graphs : ℕ → TaskGraph) (R : IsInRange
     short_at zero k o = let z = left_zero s set graphs R C T x h in omega (arith, z)
     short_at (suc n) k o =
         let kn = kept_before s graphs n x k in
-        elim (cases_some (candidate_at s n) x) [
+        elim (same_or_not (candidate_at s n) (Some x)) [
           | inl e ↦
               let op = opened s graphs n x e in
               let t = (spends_at n op kn).short (short_at n kn op) in
@@ -170,7 +171,7 @@ module _ (s : Start) (set : TaskSet) (graphs : ℕ → TaskGraph) (R : IsInRange
 
     execution_step : (n : ℕ) → is_kept (job_of s (suc n) x).watch ≡ true → count_below (executes s x) n + go n ≤ c.part.bound + s.system.platform.miss * count_below entered n → count_below (executes s x) (suc n) + go (suc n) ≤ c.part.bound + s.system.platform.miss * count_below entered (suc n)
     execution_step n k so_far =
-        elim (cases_some (candidate_at s n) x) [
+        elim (same_or_not (candidate_at s n) (Some x)) [
           | inl e ↦
               let mine : owns (candidate_at s n) x ≡ true = rw e (owns_same x) in
               elim (cases_eq (turn_now n).switch_left 0) [

@@ -1,8 +1,8 @@
 -- A task set in its ranges gives what the laws ask of one, so its checked code is safe.
-use Rattle.std.proofs.Common.{◌≡◌, ℕ, ◌<◌, List, [], None, length, get_or, refl, arith}
+use Rattle.std.proofs.Common.{◌≡◌, ℕ, ◌<◌, List, length, get_or, refl, arith}
 use Rattle.std.specs.Prelude.{map}
 use Rattle.std.proofs.lemmas.List.{get_or-map}
-use Rattle.crpd_base.specs.declared.data.Place.TheVariants.{Number}
+use Rattle.crpd_base.proofs.Times.{no_task}
 use Rattle.crpd_base.specs.declared.data.TaskSet.{TaskSet}
 use Rattle.crpd_base.specs.declared.data.TaskSpec.{TaskSpec}
 use Rattle.crpd_base.specs.Ranges.{IsTaskSpec, IsTaskSet}
@@ -11,9 +11,6 @@ use Rattle.preempt_machine.specs.Safe.{system_of}
 use Rattle.sound_laws.specs.Headline.{CheckedCodeIsSafe}
 use Rattle.sound_laws.specs.Walks.{IsInRange}
 use Rattle.sound_laws.proofs.Headline.YesIsSafe.{yes_is_safe}
-
-no_task : TaskSpec
-no_task = record { name = []; file = []; entry = None; period = 0; deadline = 0; jitter = 0; stack = Number 0; global = Number 0; loops = [] }
 
 -- a number of the task at a place
 at : (f : TaskSpec → ℕ) (tasks : List TaskSpec) (k : ℕ) → k < length tasks → get_or (map f tasks) k 0 ≡ f (get_or tasks k no_task)

@@ -1,10 +1,10 @@
 -- undisturbed_bound: after the judge's yes, an undisturbed job answers within its switch and its bound.
 use Rattle.std.proofs.Common.{◌≡◌, ℕ, zero, suc, ◌+◌, ◌-◌, ◌<◌, ◌≤◌, ◌≢◌, true, false, length, Some, refl, sym, ◌∙◌, ap, subst, inl, inr, arith}
 use Rattle.std.proofs.lemmas.Bool.{cases_Bool, cases_eq, cases_lt, false≢true, or_left, or_right}
+use Rattle.crpd_base.proofs.Options.{some_injective}
 use Rattle.preempt_machine.specs.Machine.{Job}
 use Rattle.preempt_machine.specs.Step.{is_open, turn_of, owns, state}
 use Rattle.preempt_machine.specs.Safe.{IsAnsweredBy}
-use Rattle.preempt_machine.proofs.Steps.{some_injective}
 use Rattle.preempt_machine.proofs.Runs.{over_stays}
 use Rattle.run_account.specs.Fetches.{job_of}
 use Rattle.run_account.proofs.Jobs.{owns_none}

@@ -2,11 +2,12 @@
 use Rattle.std.proofs.Common.{◌≡◌, ℕ, ◌<◌, ◌≤◌, ◌⊎◌, Bool, true, false, ◌&&◌, length, Option, Some, None, refl, sym, ◌∙◌, ap, subst, inl, inr, arith}
 use Rattle.std.specs.Prelude.{nat_lt, if◌then◌else◌, unwrap_or}
 use Rattle.std.proofs.lemmas.Bool.{cases_lt, false≢true, and_parts, and_from, lt-ltb, ltb-true}
+use Rattle.crpd_base.proofs.Options.{some_injective}
 use Rattle.icache.specs.Cache.{block_of, set_of, is_hit}
 use Rattle.crpd_base.specs.Sets.{has as has_set}
 use Rattle.evict_sets.specs.Certificate.{cert_at}
 use Rattle.preempt_machine.specs.Step.{turn_of, Fetch, state, makes_fetch}
-use Rattle.preempt_machine.proofs.Steps.{fetch_says, some_injective}
+use Rattle.preempt_machine.proofs.Steps.{fetch_says}
 use Rattle.run_account.specs.Fetches.{job_of, fetched_set}
 use Rattle.run_account.specs.Reloads.{FetchesAt, IsReload, IsEvictor}
 use Rattle.run_account.proofs.Owners.{candidate_at}

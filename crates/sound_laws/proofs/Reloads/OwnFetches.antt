@@ -1,7 +1,9 @@
 -- Step 4, own_fetches_agree and entries_are_reloads: a job's own last fetches are the last accesses of its walk, so they
 -- agree with the full states, and an entry is a reload.
-use Rattle.std.proofs.Common.{◌≡◌, ◌≢◌, ℕ, zero, suc, ◌<◌, Bool, true, ◌∷◌, length, Some, None, refl, sym, ◌∙◌, ap, subst, inl, inr}
+use Rattle.std.proofs.Common.{◌≡◌, ◌≢◌, ℕ, zero, suc, ◌<◌, Bool, true, ◌∷◌, length, Some, refl, sym, ◌∙◌, ap, subst, inl, inr}
 use Rattle.std.proofs.lemmas.Bool.{cases_Bool, cases_eq, and_parts, eqb-true, not-true}
+use Rattle.std.proofs.lemmas.Option.{none-some}
+use Rattle.crpd_base.proofs.Options.{some_injective, none_some, same_or_not}
 use Rattle.crpd_base.specs.declared.data.TaskSet.{TaskSet}
 use Rattle.icache.specs.Accesses.{Accesses, last_access}
 use Rattle.icache.specs.Cache.{block_of, set_of}
@@ -16,10 +18,9 @@ use Rattle.cert_check.specs.Judge.{accesses_of}
 use Rattle.evict_sets.specs.Certificate.{cert_at}
 use Rattle.preempt_machine.specs.Step.{is_open, owns, Start, state, turn_of, makes_fetch}
 use Rattle.preempt_machine.specs.Safe.{NamesTasks}
-use Rattle.preempt_machine.proofs.Steps.{some_injective, none_some}
 use Rattle.run_account.specs.Fetches.{job_of, fetched_set}
 use Rattle.run_account.specs.Reloads.{FetchesAt, HasOwn}
-use Rattle.run_account.proofs.Owners.{candidate_at, cases_some, owns_true}
+use Rattle.run_account.proofs.Owners.{candidate_at, owns_true}
 use Rattle.run_account.proofs.OwnFetches.{own_keeps, own_new, own_candidate, fetch_made, fetch_not_made}
 use Rattle.run_account.specs.Nodes.{task_of, plan_at, node_of}
 use Rattle.run_account.specs.Walks.{fetched_nodes}
@@ -31,9 +32,6 @@ use Rattle.run_account.proofs.JobWalks.{kept_before, nodes_other, nodes_own, ope
 use Rattle.sound_laws.proofs.Walks.KeptWalks.{task_below, ok, walking}
 use Rattle.sound_laws.proofs.Walks.Stands.{walk_node}
 use Rattle.sound_laws.proofs.Execution.Executed.{IsMet, is_met, hit_test}
-
-none_is_some : (b : ℕ) → None ≡ Some b → ⊥
-none_is_some b e = none_some e
 
 module _ (s : Start) (set : TaskSet) (graphs : ℕ → TaskGraph) (R : IsInRange set) (C : IsCodeOf s.system set graphs) (T : NamesTasks set s.lines) (x : ℕ) (h : x < length s.lines) where
   abbrev tg : TaskGraph
@@ -69,10 +67,10 @@ module _ (s : Start) (set : TaskSet) (graphs : ℕ → TaskGraph) (R : IsInRange
 
   -- the last access of the fetched nodes is the own last fetch
   pub own_of_nodes : (n c b : ℕ) → is_kept (job_of s n x).watch ≡ true → last_access acc c (fetched_nodes s graphs n x) ≡ Some b → HasOwn s x c n b
-  own_of_nodes zero c b k e = absurd (none_is_some b e)
+  own_of_nodes zero c b k e = absurd (none-some b e)
   own_of_nodes (suc n) c b k e =
       let kn = kept_before s graphs n x k in
-      elim (cases_some (candidate_at s n) x) [
+      elim (same_or_not (candidate_at s n) (Some x)) [
         | inl mine ↦
             let o = opened s graphs n x mine in
             let nodes = nodes_own s graphs n x mine in

@@ -2,6 +2,7 @@
 use Rattle.std.proofs.Common.{◌≡◌, ℕ, zero, suc, ◌<◌, ◌≤◌, true, [], length, Some, None, refl, sym, ◌∙◌, ap, subst, inl, inr, arith}
 use Rattle.std.specs.Prelude.{◌==◌}
 use Rattle.std.proofs.lemmas.Bool.{eq-eqb, false≢true}
+use Rattle.crpd_base.proofs.Options.{same_or_not}
 use Rattle.crpd_base.specs.declared.data.Platform.{Platform}
 use Rattle.crpd_base.specs.declared.data.ScriptJob.{ScriptJob}
 use Rattle.crpd_base.specs.declared.data.TaskSet.{TaskSet}
@@ -17,7 +18,7 @@ use Rattle.preempt_machine.specs.Safe.{NamesTasks}
 use Rattle.preempt_machine.proofs.Steps.{candidate_some, step_own, step_other}
 use Rattle.run_account.specs.Fetches.{job_of}
 use Rattle.run_account.proofs.Jobs.{jobs_length, line_is, new_at}
-use Rattle.run_account.proofs.Owners.{candidate_at, cases_some}
+use Rattle.run_account.proofs.Owners.{candidate_at}
 use Rattle.run_account.proofs.JobWalks.{kept_before, nodes_other, nodes_own, opened, same_plan}
 use Rattle.run_account.proofs.Stands.{nodes_after}
 use Rattle.run_account.specs.Nodes.{task_of, plan_at, node_of, node_number}
@@ -91,7 +92,7 @@ module _ (s : Start) (set : TaskSet) (graphs : ℕ → TaskGraph) (R : IsInRange
 
   walking_step : (n x : ℕ) → is_kept (job_of s (suc n) x).watch ≡ true → IsWalking n x → IsWalking (suc n) x
   walking_step n x k is =
-      elim (cases_some (candidate_at s n) x) [
+      elim (same_or_not (candidate_at s n) (Some x)) [
         | inl e ↦
             let t = turn_walks n x e is in
             let own = step_own s.system (state s n) x e in

@@ -2,14 +2,15 @@
 use Rattle.std.proofs.Common.{◌≡◌, ℕ, zero, suc, ◌+◌, ◌<◌, ◌≤◌, ◌≢◌, Bool, true, false, ◌||◌, length, Option, Some, None, refl, sym, ◌∙◌, ap, subst, inl, inr, arith}
 use Rattle.std.specs.Prelude.{◌==◌, if◌then◌else◌}
 use Rattle.std.proofs.lemmas.Bool.{cases_Bool, false≢true, ne_eqb, or_cases, or_left}
+use Rattle.crpd_base.proofs.Sums.{sum_change, sum_change_two}
+use Rattle.crpd_base.proofs.Options.{some_injective, none_some, same_or_not}
 use Rattle.preempt_machine.specs.Step.{is_open, is_ready, owns, turn_of, Start, state}
 use Rattle.preempt_machine.proofs.Order.{comes_before_asym}
-use Rattle.preempt_machine.proofs.Steps.{new_owner, candidate_some, ready_open, step_other, some_injective, none_some}
+use Rattle.preempt_machine.proofs.Steps.{new_owner, candidate_some, ready_open, step_other}
 use Rattle.run_account.specs.Fetches.{job_of}
 use Rattle.crpd_base.specs.Sum.{sum_below}
-use Rattle.delay_count.proofs.Sums.{sum_change, sum_change_two}
 use Rattle.run_account.proofs.Jobs.{jobs_length, owns_none}
-use Rattle.run_account.proofs.Owners.{candidate_at, was_owner, cases_some, owns_true, owns_same, owner_after, owner_stays, owner_was, was_released, ready_at, owner_is_first, first_at}
+use Rattle.run_account.proofs.Owners.{candidate_at, was_owner, owns_true, owns_same, owner_after, owner_stays, owner_was, was_released, ready_at, owner_is_first, first_at}
 
 -- the cycles that a job has to go, by a measure: up to a horizon a step of the job spends one, and gives it at most
 -- extra ones
@@ -191,7 +192,7 @@ module _ (s : Start) (rest : ℕ → ℕ → ℕ) (extra : ℕ → ℕ) (horizon
 
     pub account_step : (was_owner s n y ≡ true → (o : ℕ) → (state s n).owner ≡ Some o → inside o ≡ true) → account s rest inside i (suc n) + 1 ≤ account s rest inside i n + extra n
     account_step io =
-        elim (cases_some (state s n).owner y) [
+        elim (same_or_not (state s n).owner (Some y)) [
           | inl o ↦ step_same o
           | inr ne ↦ elim (cases_Bool (was_owner s n y)) [
             | inl w ↦ step_by_owner (state s n).owner refl ne w (io w)

@@ -4,9 +4,10 @@ use Rattle.std.proofs.Common.{◌≡◌, ℕ, zero, suc, ◌<◌, ◌≤◌, ◌
 use Rattle.std.specs.Prelude.{◌==◌, nat_lt, nat_le}
 use Rattle.std.proofs.lemmas.Bool.{cases_Bool, cases_eq, cases_lt, false≢true, or_cases, or_left, or_right, or_parts, and_parts, and_from, eq-eqb, eqb-true, ltb-true, leb-true, lt-ltb, le-ltb, le-leb}
 use Rattle.std.proofs.lemmas.Bool.Decides.{nat_tests}
+use Rattle.crpd_base.proofs.Options.{some_injective, none_some}
 use Rattle.crpd_base.specs.declared.data.ScriptJob.{ScriptJob}
 use Rattle.preempt_machine.specs.Step.{is_open, is_ready, comes_before, Start, state}
-use Rattle.preempt_machine.proofs.Steps.{WhyFirst, candidate_some, candidate_none, ready_open, ready_released, some_injective, none_some}
+use Rattle.preempt_machine.proofs.Steps.{WhyFirst, candidate_some, candidate_none, ready_open, ready_released}
 use Rattle.preempt_machine.proofs.Runs.{state_time, state_line}
 use Rattle.run_account.specs.Fetches.{job_of}
 use Rattle.run_account.proofs.Jobs.{jobs_length}

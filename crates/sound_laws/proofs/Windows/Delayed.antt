@@ -3,6 +3,7 @@ use Rattle.std.proofs.Common.{◌≡◌, ℕ, ◌+◌, ◌*◌, ◌<◌, ◌≤�
 use Rattle.std.specs.Prelude.{nat_lt, nat_le}
 use Rattle.std.proofs.Math.Nat.{mul-le-mul_left}
 use Rattle.std.proofs.lemmas.Bool.{and_parts, and_from, lt-ltb, ltb-true, leb-true}
+use Rattle.crpd_base.proofs.Sums.{sum_times}
 use Rattle.crpd_base.specs.declared.data.Platform.{Platform}
 use Rattle.crpd_base.specs.Sum.{sum_below}
 use Rattle.script_reader.specs.Legal.{IsLegal}
@@ -14,7 +15,6 @@ use Rattle.evict_sets.specs.Certificate.{cert_at}
 use Rattle.preempt_machine.specs.Step.{is_open}
 use Rattle.run_account.specs.Fetches.{job_of}
 use Rattle.run_account.proofs.Owners.{was_open}
-use Rattle.delay_count.proofs.Sums.{sum_times}
 use Rattle.sound_laws.proofs.Windows.Rooms.{Covers}
 use Rattle.sound_laws.proofs.Windows.Busy.{task_at, in_window}
 use Rattle.sound_laws.proofs.Windows.Releases.{count}

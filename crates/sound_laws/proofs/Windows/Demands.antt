@@ -3,6 +3,7 @@ use Rattle.std.proofs.Common.{◌≡◌, ℕ, ◌+◌, ◌*◌, ◌<◌, ◌≤�
 use Rattle.std.specs.Prelude.{◌==◌, nat_lt, nat_le, if◌then◌else◌}
 use Rattle.std.proofs.Math.Nat.{mul-le-mul_left}
 use Rattle.std.proofs.lemmas.Bool.{cases_Bool, cases_eq, or_cases, and_parts, and_from, eq-eqb, eqb-true, ne_eqb, ltb-true, leb-true, lt-ltb, le-leb}
+use Rattle.crpd_base.proofs.Sums.{sum_le, sum_add, sum_times, sum_ge, sum_swap, only, sum_only}
 use Rattle.crpd_base.specs.declared.data.ScriptJob.{ScriptJob}
 use Rattle.crpd_base.specs.declared.data.TaskSet.{TaskSet}
 use Rattle.script_reader.specs.Legal.{AreApart, AreSpaced, IsReleasedInTime, period_of, jitter_of}
@@ -12,7 +13,6 @@ use Rattle.sound_laws.specs.Walks.{RunsLegally}
 use Rattle.crpd_base.specs.Sum.{sum_below}
 use Rattle.delay_count.specs.Counts.{jobs_in}
 use Rattle.run_account.proofs.Jobs.{line_of, line_is}
-use Rattle.delay_count.proofs.Sums.{sum_le, sum_add, sum_times, sum_swap, sum_ge, only, sum_only}
 use Rattle.sound_laws.proofs.Windows.Rooms.{allowance}
 use Rattle.sound_laws.proofs.Windows.Busy.{line_at, task_at, in_window}
 use Rattle.sound_laws.proofs.Windows.Releases.{count, one_le, lies_in, few_in_periods, jobs_in_fits}

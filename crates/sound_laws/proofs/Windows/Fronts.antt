@@ -4,6 +4,7 @@ use Rattle.std.proofs.Common.{◌≡◌, ℕ, zero, suc, ◌+◌, ◌<◌, ◌�
 use Rattle.std.specs.Prelude.{nat_lt, if◌then◌else◌}
 use Rattle.std.proofs.lemmas.Bool.{cases_Bool, cases_eq, cases_lt, ltb-true, ltb-false, lt-ltb, le-ltb, and_from}
 use Rattle.std.proofs.lemmas.List.{get_or_past}
+use Rattle.crpd_base.proofs.Options.{some_injective, none_some, same_or_not}
 use Rattle.crpd_base.specs.declared.data.Switching.TheVariants.{Cycle, Instruction}
 use Rattle.rv_decode.specs.declared.Ins.{Ins}
 use Rattle.rv_core.specs.declared.Next.{Next}
@@ -11,10 +12,10 @@ use Rattle.rv_core.specs.declared.Next.TheVariants.{Goto, Answer, Fault}
 use Rattle.rv_core.specs.Effect.{next_pc}
 use Rattle.preempt_machine.specs.Machine.{System, Job, Machine, ins_at, job_at, no_job}
 use Rattle.preempt_machine.specs.Step.{is_open, is_ready, candidate, keeps_core, Turn, turn_of, turned, executed, worked, went, fetched, Start, state}
-use Rattle.preempt_machine.proofs.Steps.{between, new_owner, any_cycle, fetch_says, fetch_left, candidate_some, ready_open, step_own, step_other, some_injective, none_some}
+use Rattle.preempt_machine.proofs.Steps.{between, new_owner, any_cycle, fetch_says, fetch_left, candidate_some, ready_open, step_own, step_other}
 use Rattle.preempt_machine.proofs.TurnLaws.{fetched_none, fetched_switch, went_switch}
 use Rattle.run_account.specs.Fetches.{job_of}
-use Rattle.run_account.proofs.Owners.{candidate_at, cases_some, owns_same, owner_after, owner_was, was_released, ready_at}
+use Rattle.run_account.proofs.Owners.{candidate_at, owns_same, owner_after, owner_was, was_released, ready_at}
 use Rattle.run_account.proofs.Jobs.{new_at, jobs_length}
 use Rattle.sound_laws.proofs.Windows.Responses.{HasShortFront}
 
@@ -106,7 +107,7 @@ module _ (s : Start) (mode : s.system.platform.switching ≡ Instruction) where
 
   mid_step : (n x : ℕ) → (1 ≤ middle (job_of s n x) → IsMid n x) → 1 ≤ middle (job_of s (suc n) x) → IsMid (suc n) x
   mid_step n x before l =
-      elim (cases_some (candidate_at s n) x) [
+      elim (same_or_not (candidate_at s n) (Some x)) [
         | inl e ↦
             let own = step_own s.system (state s n) x e in
             let l' : 1 ≤ middle (turned s.system (state s n).time (turn_of s.system (state s n) x)).job = subst (λ (j : Job). 1 ≤ middle j) own l in
@@ -202,7 +203,7 @@ module _ (s : Start) (mode : s.system.platform.switching ≡ Instruction) where
             let opened = middle_open (job_of s n g.job) one in
             let is = middle_left (job_of s n g.job) opened in
             absurd (omega (arith, one, zero_left, is));
-        takes = λ n y g c. elim (cases_some (state s n).owner y) [
+        takes = λ n y g c. elim (same_or_not (state s n).owner (Some y)) [
           | inr ne ↦ inl (new_owner ne)
           | inl own ↦ elim (cases_eq f.from n) [
             | inl at ↦

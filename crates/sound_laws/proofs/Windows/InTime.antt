@@ -1,6 +1,7 @@
 -- Step 7: each job of a legal and checked run is over at the end of its window, and answered at its response.
 use Rattle.std.proofs.Common.{◌≡◌, ℕ, ◌+◌, ◌-◌, ◌*◌, ◌<◌, ◌≤◌, true, false, length, Some, refl, sym, ◌∙◌, ap, subst, inl, inr, arith}
 use Rattle.std.proofs.lemmas.Bool.{cases_Bool, cases_lt, false≢true, lt-ltb}
+use Rattle.crpd_base.proofs.Sums.{sum_add}
 use Rattle.crpd_base.specs.declared.data.Platform.{Platform}
 use Rattle.crpd_base.specs.declared.data.Switching.{Switching}
 use Rattle.crpd_base.specs.declared.data.Switching.TheVariants.{Cycle, Instruction}
@@ -17,7 +18,6 @@ use Rattle.preempt_machine.proofs.Runs.{over_stays}
 use Rattle.run_account.specs.Fetches.{job_of}
 use Rattle.run_account.proofs.Owners.{owner_was, was_released}
 use Rattle.run_account.specs.Nodes.{task_of}
-use Rattle.delay_count.proofs.Sums.{sum_add}
 use Rattle.sound_laws.proofs.Windows.Accounts.{was_below}
 use Rattle.sound_laws.proofs.Windows.Busy.{line_at, task_at, IsLastQuiet, is_busy_by, busy_none}
 use Rattle.sound_laws.proofs.Windows.Demands.{in_time_at, base_demand}

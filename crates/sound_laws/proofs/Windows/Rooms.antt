@@ -2,11 +2,11 @@
 use Rattle.std.proofs.Common.{◌≡◌, ℕ, zero, suc, ◌+◌, ◌<◌, ◌≤◌, Bool, true, false, ◌||◌, length, Option, Some, None, refl, sym, ◌∙◌, subst, inl, inr, arith}
 use Rattle.std.specs.Prelude.{◌==◌, if◌then◌else◌}
 use Rattle.std.proofs.lemmas.Bool.{cases_Bool, cases_lt, false≢true, or_cases}
+use Rattle.crpd_base.proofs.Sums.{sum_le, sum_ge}
+use Rattle.crpd_base.proofs.Options.{some_injective}
 use Rattle.preempt_machine.specs.Step.{is_open, owns, Start, state}
-use Rattle.preempt_machine.proofs.Steps.{some_injective}
 use Rattle.run_account.specs.Fetches.{job_of}
 use Rattle.crpd_base.specs.Sum.{sum_below}
-use Rattle.delay_count.proofs.Sums.{sum_le, sum_ge}
 use Rattle.run_account.proofs.Owners.{candidate_at, was_owner, owns_true, owner_after, owner_was, was_open}
 use Rattle.sound_laws.proofs.Windows.Accounts.{Spends, first_switch, weight, pending_of, pending, account, account_step}
 

@@ -3,7 +3,8 @@ use Rattle.std.specs.Prelude.{All, sum_by}
 use Rattle.std.proofs.lemmas.Result.{err_from_is_err_and}
 use Rattle.crpd_base.specs.declared.data.NodeState.{NodeState}
 use Rattle.loop_regions.specs.TaskGraph.{TaskGraph}
-use Rattle.cert_check.specs.Shown.{shown_at, no_graph}
+use Rattle.flat_graph.specs.CodeGraph.{no_graph}
+use Rattle.cert_check.specs.Shown.{shown_at}
 use Rattle.cert_model.specs.Reading.{state_entries}
 use Rattle.cert_model.specs.Ranges.{HasFewPairs}
 use Rattle.cert_build.specs.Analysis.{IsAnalysis}

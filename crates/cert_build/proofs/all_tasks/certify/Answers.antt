@@ -1,6 +1,7 @@
 use Rattle.std.proofs.Common.{arith}
 use Rattle.std.proofs.lemmas.Result.{err_from_is_err_and}
-use Rattle.cert_check.specs.Shown.{shown_at, no_graph}
+use Rattle.flat_graph.specs.CodeGraph.{no_graph}
+use Rattle.cert_check.specs.Shown.{shown_at}
 use Rattle.crpd_base.proofs.Times.{has_times}
 use Rattle.cert_build.proofs.OneBest.{one_best}
 use Rattle.cert_build.proofs.Judged.{best_is_judged}

@@ -1,13 +1,13 @@
 use Rattle.std.proofs.Common.{◌≡◌, List, Ok, Err, get_or, refl, sym, ap, ◌∙◌, subst, arith}
 use Rattle.std.specs.Prelude.{slice_index}
 use Rattle.std.proofs.lemmas.Bool.{false≢true}
+use Rattle.crpd_base.proofs.Times.{jitter_is, deadline_is}
 use Rattle.crpd_base.specs.declared.data.TaskPart.{TaskPart}
 use Rattle.crpd_base.specs.declared.data.TaskSpec.{TaskSpec}
 use Rattle.evict_sets.specs.Certificate.{cert_at}
 use Rattle.cert_check.specs.declared.outcome.Clause.TheVariants.{Window, Response, Deadline}
 use Rattle.cert_check.specs.Verdict.{TimesHold}
 use Rattle.cert_check.proofs.Found.{then_found, found_first, fails_first, fails_later, window_holds, response_holds, response_before}
-use Rattle.delay_count.proofs.Times.{jitter_is, deadline_is}
 use Rattle.cert_check.proofs.Names.{part_is}
 use Rattle.cert_check.proofs.times.time_failure.Goals as goal
 

@@ -1,10 +1,9 @@
 -- The costs of the tasks so far.
 use Rattle.std.proofs.Common.{◌≡◌, ℕ, ◌<◌, ◌≤◌}
 use Rattle.std.specs.Prelude.{slice_index}
-use Rattle.flat_graph.specs.CodeGraph.{graph_of, listing}
+use Rattle.flat_graph.specs.CodeGraph.{graph_of, listing, graph_at}
 use Rattle.evict_sets.specs.Answering.{answers_of}
 use Rattle.evict_sets.specs.Longest.{longest}
-use Rattle.cert_check.specs.Shown.{graph_at}
 use Rattle.cert_check.proofs.times.write_longest.Given as goal
 
 abbrev pub invariant-loop-k : goal.invariant-loop-k

@@ -1,7 +1,8 @@
 -- The graphs of the tasks so far.
 use Rattle.std.proofs.Common.{◌≡◌, ℕ, ◌<◌, length}
 use Rattle.loop_regions.specs.CodeNest.{IsNestOf}
-use Rattle.cert_check.specs.Shown.{graph_at, nest_at}
+use Rattle.flat_graph.specs.CodeGraph.{graph_at}
+use Rattle.cert_check.specs.Shown.{nest_at}
 use Rattle.cert_rows.proofs.sides.graphs_of.Given as goal
 
 abbrev pub invariant-loop-k : goal.invariant-loop-k

@@ -1,7 +1,7 @@
 use Rattle.std.proofs.Common.{◌≡◌, drop}
-use Rattle.code_map.specs.Outcome.{each}
+use Rattle.crpd_base.proofs.Results.{with_front}
+use Rattle.crpd_base.specs.Outcome.{each}
 use Rattle.code_map.specs.Places.{range_of}
-use Rattle.code_map.proofs.Turns.{with_front}
 use Rattle.code_map.proofs.places.ranges_of.Given as goal
 
 abbrev pub invariant-loop-range : goal.invariant-loop-range

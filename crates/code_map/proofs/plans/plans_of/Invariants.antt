@@ -1,7 +1,7 @@
 use Rattle.std.proofs.Common.{◌≡◌, drop, length}
+use Rattle.crpd_base.proofs.Results.{with_front}
 use Rattle.code_map.specs.Places.{plans_of}
 use Rattle.code_map.specs.Words.{word_at}
-use Rattle.code_map.proofs.Turns.{with_front}
 use Rattle.code_map.proofs.plans.plans_of.Given as goal
 
 abbrev pub invariant-loop-i : goal.invariant-loop-i

@@ -1,5 +1,5 @@
 use Rattle.std.proofs.Common.{arith, ◌≡◌, get_or}
-use Rattle.delay_count.proofs.Times.{period_is, jitter_is}
+use Rattle.crpd_base.proofs.Times.{period_is, jitter_is}
 use Rattle.delay_count.proofs.jobs.jobs.Goals as goal
 
 pub overflow_add-result : goal.overflow_add-result

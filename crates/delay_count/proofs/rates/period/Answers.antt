@@ -1,5 +1,5 @@
 use Rattle.std.proofs.Common.{arith, ◌≡◌, get_or}
-use Rattle.delay_count.proofs.Times.{period_is}
+use Rattle.crpd_base.proofs.Times.{period_is}
 use Rattle.delay_count.proofs.rates.period.Goals as goal
 
 pub returns-clause-some : goal.returns-clause-some

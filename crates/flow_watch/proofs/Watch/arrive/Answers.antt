@@ -1,10 +1,11 @@
 use Rattle.std.proofs.Common.{◌≡◌, ℕ, ◌-◌, ◌*◌, List, Option, length, true, false, sym, ap, subst, ◌∙◌, arith}
+use Rattle.crpd_base.proofs.Rows.{row_ends}
 use Rattle.crpd_base.specs.declared.data.LoopAt.{LoopAt}
 use Rattle.flow_watch.specs.Watch.{all_turns_after, within_bounds}
 use Rattle.flow_watch.specs.Rows.{row, watch_of}
 use Rattle.std.specs.Vec.{with_items_from}
 use Rattle.flow_watch.specs.Turns.{HasTurns}
-use Rattle.flow_watch.proofs.Frames.{in_use, loops_told, arrived, overran, vec-written, rows_fit, has_turns, length-row, row_ends, lent}
+use Rattle.flow_watch.proofs.Frames.{in_use, loops_told, arrived, overran, vec-written, rows_fit, has_turns, length-row, lent}
 use Rattle.flow_watch.proofs.Watch.arrive.Goals as goal
 
 pub count_arrival-requires : goal.count_arrival-requires

@@ -1,6 +1,7 @@
 use Rattle.std.proofs.Common.{◌≡◌, ℕ, ◌+◌, ◌-◌, ◌*◌, set, length, replicate, sym, ap, ◌∙◌, arith}
 use Rattle.std.specs.Vec.{with_items_from}
-use Rattle.flow_watch.proofs.Frames.{in_use, some_frames, loops_told, pushed_frames, vec-written, rows_fit, has_turns, row_ends, lent, length-row}
+use Rattle.crpd_base.proofs.Rows.{row_ends}
+use Rattle.flow_watch.proofs.Frames.{in_use, some_frames, loops_told, pushed_frames, vec-written, rows_fit, has_turns, lent, length-row}
 use Rattle.flow_watch.proofs.Watch.push.Goals as goal
 
 pub returns-then-frames-lt-MOST_FRAMES-clause-pushed : goal.returns-then-frames-lt-MOST_FRAMES-clause-pushed

@@ -1,8 +1,9 @@
 use Rattle.std.proofs.Common.{ℕ, ◌+◌, ◌-◌, ◌*◌, List, length, take, drop, ap, sym, subst, ◌∙◌, arith}
+use Rattle.crpd_base.proofs.Rows.{row_ends}
 use Rattle.crpd_base.specs.declared.data.LoopAt.{LoopAt}
 use Rattle.flow_watch.specs.Rows.{row}
 use Rattle.flow_watch.specs.Quiet.{AreStill}
-use Rattle.flow_watch.proofs.Frames.{in_use, loops_told, rows_fit, row_ends, lent, length-row, quiet_frames}
+use Rattle.flow_watch.proofs.Frames.{in_use, loops_told, rows_fit, lent, length-row, quiet_frames}
 use Rattle.flow_watch.proofs.Watch.quiet.Goals as goal
 
 pub all_still-requires : goal.all_still-requires

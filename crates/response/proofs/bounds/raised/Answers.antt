@@ -1,7 +1,7 @@
 use Rattle.std.proofs.Common.{arith, ap, add-one, ◌≡◌}
 use Rattle.std.specs.Prelude.{slice_index}
+use Rattle.crpd_base.proofs.Sums.{sum_part}
 use Rattle.crpd_base.specs.Sum.{sum_below}
-use Rattle.delay_count.proofs.Sums.{sum_part}
 use Rattle.response.proofs.Jumps.{sloped, taken, divided, too_steep}
 use Rattle.response.proofs.bounds.raised.Goals as goal
 use Rattle.response.proofs.bounds.raised.Goals.{then-higher-k, else-higher-k}

@@ -1,9 +1,9 @@
 use Rattle.std.proofs.Common.{◌≡◌, ℕ, ◌<◌, ◌∙◌, List, sym, refl, ap, subst, length, get_or, arith, below_more}
 use Rattle.std.proofs.lemmas.Bool.{false≢true}
+use Rattle.crpd_base.proofs.Times.{period_is}
 use Rattle.crpd_base.specs.declared.data.TaskSet.{TaskSet}
 use Rattle.crpd_base.specs.declared.data.TaskSpec.{TaskSpec}
 use Rattle.script_reader.specs.Legal.{AreAllApart, arrivals_of, period_of}
-use Rattle.script_reader.proofs.Spacing.{period_at}
 use Rattle.script_reader.proofs.legality.are_spaced.Goals as goal
 
 pub loop-t-preserved : goal.loop-t-preserved
@@ -13,7 +13,7 @@ loop-t-preserved c =
     let is : c.index-tasks-t.result ≡ get_or c.args.set.now.tasks c.loop-t.t c.index-tasks-t.result =
     c.index-tasks-t.is ∙ ap (λ (l : List TaskSpec). get_or l c.loop-t.t c.index-tasks-t.result) tasks in
     let p : period_of c.args.set.now c.loop-t.t ≡ c.index-tasks-t.result.period =
-    period_at c.args.set.now c.loop-t.t c.index-tasks-t.result lt is in
+    period_is c.args.set.now c.loop-t.t c.index-tasks-t.result lt is in
     below_more _ _ c.loop-t.invariant
     (subst (λ (q : ℕ). AreAllApart q (arrivals_of c.loop-t.t c.args.jobs.now)) (sym p) (c.is_spaced.ensures.0 c.if-not-is_spaced.false))
 
@@ -24,7 +24,7 @@ returns-then-not-is_spaced c =
     let is : c.index-tasks-t.result ≡ get_or c.args.set.now.tasks c.loop-t.t c.index-tasks-t.result =
     c.index-tasks-t.is ∙ ap (λ (l : List TaskSpec). get_or l c.loop-t.t c.index-tasks-t.result) tasks in
     let p : period_of c.args.set.now c.loop-t.t ≡ c.index-tasks-t.result.period =
-    period_at c.args.set.now c.loop-t.t c.index-tasks-t.result lt is in (
+    period_is c.args.set.now c.loop-t.t c.index-tasks-t.result lt is in (
       λ f. absurd (false≢true f),
       λ all. sym c.if-not-is_spaced.true ∙ c.is_spaced.ensures.1
           (subst (λ (q : ℕ). AreAllApart q (arrivals_of c.loop-t.t c.args.jobs.now)) p (all.tasks c.loop-t.t lt)),

@@ -2,11 +2,12 @@ use Rattle.std.proofs.Common.{◌≡◌, ℕ, ◌+◌, ◌<◌, ◌∙◌, List,
 use Rattle.std.specs.Prelude.{All}
 use Rattle.std.proofs.lemmas.Bool.{false≢true}
 use Rattle.std.proofs.lemmas.List.{get_or_default}
+use Rattle.crpd_base.proofs.Times.{period_is}
 use Rattle.crpd_base.specs.declared.data.ScriptJob.{ScriptJob}
 use Rattle.crpd_base.specs.declared.data.TaskSet.{TaskSet}
 use Rattle.crpd_base.specs.declared.data.TaskSpec.{TaskSpec}
 use Rattle.script_reader.specs.Legal.{IsSpacedBy, period_of}
-use Rattle.script_reader.proofs.Spacing.{period_at, below_all, below_next, pairs_at, rest_of}
+use Rattle.script_reader.proofs.Spacing.{below_all, below_next, pairs_at, rest_of}
 use Rattle.script_reader.proofs.legality.are_spaced_by_pairs.Goals as goal
 
 pub returns : goal.returns
@@ -23,7 +24,7 @@ loop-i-preserved c =
     let is2 : c.index-tasks-from.result ≡ get_or c.args.set.now.tasks c.from.result c.index-tasks-from.result =
     c.index-tasks-from.is ∙ ap (λ (l : List TaskSpec). get_or l c.from.result c.index-tasks-from.result) tasks in
     let p : c.index-tasks-from.result.period ≡ period_of c.args.set.now x.task.0 =
-    sym (period_at c.args.set.now c.from.result c.index-tasks-from.result lt2 is2) ∙ ap (λ n. period_of c.args.set.now n) c.from.ensures in
+    sym (period_is c.args.set.now c.from.result c.index-tasks-from.result lt2 is2) ∙ ap (λ n. period_of c.args.set.now n) c.from.ensures in
     let at_i : x ≡ get_or c.args.jobs.now c.loop-i.i x = get_or_default c.args.jobs.now c.loop-i.i d0 x lt in
     let rest = rest_of c.args.jobs.now c.loop-i.i in
     let here = subst (λ (l : List ScriptJob). All (IsSpacedBy c.index-tasks-from.result.period x) l) rest (c.is_spaced_from.ensures.0 c.if-not-is_spaced_from.false) in
@@ -41,7 +42,7 @@ returns-then-not-is_spaced_from c =
     let is2 : c.index-tasks-from.result ≡ get_or c.args.set.now.tasks c.from.result c.index-tasks-from.result =
     c.index-tasks-from.is ∙ ap (λ (l : List TaskSpec). get_or l c.from.result c.index-tasks-from.result) tasks in
     let p : c.index-tasks-from.result.period ≡ period_of c.args.set.now x.task.0 =
-    sym (period_at c.args.set.now c.from.result c.index-tasks-from.result lt2 is2) ∙ ap (λ n. period_of c.args.set.now n) c.from.ensures in
+    sym (period_is c.args.set.now c.from.result c.index-tasks-from.result lt2 is2) ∙ ap (λ n. period_of c.args.set.now n) c.from.ensures in
     let at_i : x ≡ get_or c.args.jobs.now c.loop-i.i x = get_or_default c.args.jobs.now c.loop-i.i d0 x lt in
     let rest = rest_of c.args.jobs.now c.loop-i.i in (
       λ f. absurd (false≢true f),

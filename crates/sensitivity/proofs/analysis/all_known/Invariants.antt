@@ -2,7 +2,8 @@
 use Rattle.std.proofs.Common.{◌≡◌, ℕ, ◌<◌, [], length, get_or}
 use Rattle.delay_count.specs.Gamma.{part_at}
 use Rattle.loop_regions.specs.CodeNest.{CodeNest}
-use Rattle.cert_check.specs.Shown.{shown, graph_at}
+use Rattle.flat_graph.specs.CodeGraph.{graph_at}
+use Rattle.cert_check.specs.Shown.{shown}
 use Rattle.sensitivity.specs.Accepted.{HasSets}
 use Rattle.sensitivity.specs.Found.{TellsHits}
 use Rattle.sensitivity.proofs.analysis.all_known.Given as goal

@@ -1,4 +1,4 @@
-use Rattle.exec_bound.specs.Costs.{counted}
+use Rattle.evict_sets.specs.Listing.{counted}
 use Rattle.sensitivity.proofs.Parts.{least_bound, large_bound}
 use Rattle.sensitivity.proofs.analysis.task_bound.Goals as goal
 

@@ -1,6 +1,7 @@
 use Rattle.std.proofs.Common.{◌≡◌, ◌≤◌, ◌<◌, Bool, List, length, get_or, ◌∷◌, [], ◌++◌, ◌∙◌, sym, ap, subst, length-append, not, arith}
 use Rattle.std.proofs.lemmas.List.{get_or_default}
 use Rattle.std.specs.Prelude.{if◌then◌else◌}
+use Rattle.crpd_base.proofs.Elements.{pushed_each}
 use Rattle.crpd_base.specs.declared.data.Part.{Part}
 use Rattle.delay_count.specs.Gamma.{part_at}
 use Rattle.loop_regions.specs.TaskGraph.{TaskGraph}
@@ -11,7 +12,7 @@ use Rattle.cert_check.proofs.Tasks.{graph_is, nest_is}
 use Rattle.exec_bound.specs.Costs.{greatest_bound}
 use Rattle.sensitivity.specs.Accepted.{IsLeastBound, IsPart}
 use Rattle.sensitivity.specs.Found.{IsLarge, TellsHits}
-use Rattle.sensitivity.proofs.Parts.{moved, one_more, with_bound}
+use Rattle.sensitivity.proofs.Parts.{moved, with_bound}
 use Rattle.sensitivity.proofs.analysis.with_bounds.Goals as goal
 
 -- the task's own list of hits
@@ -52,7 +53,7 @@ loop-k-preserved c =
     (rw c.in-Some.is at c.in_ok-cycles.ensures) in
     record {
       count = rw stored (simp length-append (omega (arith, c.loop-k.invariant.count)));
-      each = one_more (λ j (q : Part). IsPart c.args.set.now.platform (shown_at c.args.graphs.now c.args.nests.now j) q) c.loop-k.parts.items c.push.new.self.items part _ c.loop-k.k stored c.loop-k.invariant.count c.loop-k.invariant.each
+      each = pushed_each (λ j (q : Part). IsPart c.args.set.now.platform (shown_at c.args.graphs.now c.args.nests.now j) q) c.loop-k.parts.items c.push.new.self.items part _ c.loop-k.k stored c.loop-k.invariant.count c.loop-k.invariant.each
           (with_bound c.args.set.now.platform (shown_at c.args.graphs.now c.args.nests.now c.loop-k.k) c.args.sets.now c.loop-k.k c.index-sets-k.result c.in-Some.cycles (omega (arith, task, c.requires.sets.count)) c.index-sets-k.is (c.requires.sets.each c.loop-k.k task) found.0);
-      within = one_more (λ j (q : Part). q.bound ≤ greatest_bound) c.loop-k.parts.items c.push.new.self.items part _ c.loop-k.k stored c.loop-k.invariant.count c.loop-k.invariant.within found.1;
+      within = pushed_each (λ j (q : Part). q.bound ≤ greatest_bound) c.loop-k.parts.items c.push.new.self.items part _ c.loop-k.k stored c.loop-k.invariant.count c.loop-k.invariant.within found.1;
     }

@@ -1,6 +1,7 @@
 use Rattle.std.proofs.Common.{Bool, List, sym, subst}
 use Rattle.crpd_base.specs.declared.data.Part.{Part}
-use Rattle.cert_check.specs.Shown.{shown_at, no_graph}
+use Rattle.flat_graph.specs.CodeGraph.{no_graph}
+use Rattle.cert_check.specs.Shown.{shown_at}
 use Rattle.crpd_base.proofs.Times.{has_times}
 use Rattle.sensitivity.specs.Found.{HaveSets, HaveHits}
 use Rattle.sensitivity.proofs.Trials.{all_bounded, slack_none}

@@ -1,14 +1,11 @@
-use Rattle.std.proofs.Common.{refl, sym, ap, ◌∙◌, ◌+◌, false, not, true, ◌≡◌, Bool, subst, length, cond}
+use Rattle.std.proofs.Common.{refl, sym, ap, ◌∙◌, ◌+◌, subst, length, cond}
 use Rattle.std.specs.BTreeSet.{insert_key}
 use Rattle.std.specs.List.Sorted.{IsStrictlySortedBy}
+use Rattle.std.proofs.lemmas.Bool.{not-false}
 use Rattle.flat_graph.specs.contracts.spots.SpotOrd.TheImpl as order
 use Rattle.flat_graph.specs.Reach.{IsReached}
 use Rattle.flat_graph.proofs.Found.{reached_more, added_one, added_there, found_spot}
 use Rattle.flat_graph.proofs.reach.Found.add.Goals as goal
-
-not_not : (b : Bool) → not b ≡ false → b ≡ true
-not_not true h = refl
-not_not false h = cc
 
 pub returns-in_ok-push-clause-found : goal.returns-in_ok-push-clause-found
 returns-in_ok-push-clause-found c =
@@ -26,5 +23,5 @@ returns-in_ok-push-clause-added c =
 
 pub returns-else-branch-clause-added : goal.returns-else-branch-clause-added
 returns-else-branch-clause-added c =
-    let there = found_spot order.cmp-value.it (λ s t. refl) c.args.self.now.set.keys c.args.spot (not_not _ (sym c.in_ok-insert.ensures.added ∙ c.if-branch.false)) in
+    let there = found_spot order.cmp-value.it (λ s t. refl) c.args.self.now.set.keys c.args.spot (not-false _ (sym c.in_ok-insert.ensures.added ∙ c.if-branch.false)) in
     added_there c.args.self.now.contexts.lists.items c.args.self.now.list.items c.args.spot ((c.requires.found.same c.args.spot).0 there)

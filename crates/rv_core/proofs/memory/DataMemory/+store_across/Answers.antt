@@ -1,11 +1,12 @@
 use Rattle.std.proofs.Common.{◌^◌, ◌%◌, ap, ◌∙◌, arith}
+use Rattle.std.proofs.lemmas.Result.{on_ok_weaker}
 use Rattle.rv_core.specs.Memory.{Memory, put_byte}
-use Rattle.rv_core.proofs.Memories.{on_ok, store_zero, put_undone}
+use Rattle.rv_core.proofs.Memories.{store_zero, put_undone}
 use Rattle.rv_core.proofs.memory.DataMemory.+store_across.Goals as goal
 
 pub returns-then-low-eq0-clause-ok : goal.returns-then-low-eq0-clause-ok
 returns-then-low-eq0-clause-ok t c =
-    on_ok c.put.result
+    on_ok_weaker c.put.result
     (λ e. e ∙ ap (λ (m : Memory). put_byte m c.args.address 0) c.in_ok-store_across.ensures.ok ∙ store_zero c.args.count c.args.self.now c.args.address c.args.value c.byte-before.ensures.memory (omega arith) c.requires c.if-count-eq0.false (omega arith))
     c.put.ensures.ok
 

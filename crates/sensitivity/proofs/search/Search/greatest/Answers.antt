@@ -1,5 +1,6 @@
 use Rattle.std.proofs.Common.{◌∙◌, arith}
-use Rattle.cert_check.specs.Shown.{shown_at, no_graph}
+use Rattle.flat_graph.specs.CodeGraph.{no_graph}
+use Rattle.cert_check.specs.Shown.{shown_at}
 use Rattle.crpd_base.proofs.Times.{has_times}
 use Rattle.sensitivity.proofs.Trials.{all_bounded, stays_at, slack_at_limit, slack_below, below_by}
 use Rattle.sensitivity.proofs.search.Search.greatest.Goals as goal

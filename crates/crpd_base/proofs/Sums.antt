@@ -1,29 +1,44 @@
 -- Sums over the numbers below a bound.
-use Rattle.std.proofs.Common.{◌≡◌, ◌≢◌, ℕ, zero, suc, ◌+◌, ◌*◌, ◌<◌, ◌≤◌, inl, inr, refl, subst, sym, ◌∙◌, ap, arith}
+use Rattle.std.proofs.Common.{◌≡◌, ◌≢◌, ℕ, zero, suc, ◌+◌, ◌*◌, ◌<◌, ◌≤◌, inl, inr, ⊎_elim, refl, subst, sym, ◌∙◌, ap, arith}
 use Rattle.std.specs.Prelude.{◌==◌, if◌then◌else◌}
 use Rattle.std.proofs.lemmas.Bool.{cases_eq, cases_lt, eq-eqb, ne_eqb}
 use Rattle.crpd_base.specs.Sum.{sum_below}
 
+-- sums of the same terms
 pub sum_same : (f g : ℕ → ℕ) (n : ℕ) → ((k : ℕ) → k < n → f k ≡ g k) → sum_below f n ≡ sum_below g n
 sum_same f g zero same = refl
 sum_same f g (suc n) same = omega (arith, sum_same f g n (λ k h. same k (omega arith)), same n (omega arith))
 
+-- a sum of terms that are each at most another
 pub sum_le : (f g : ℕ → ℕ) (n : ℕ) → ((k : ℕ) → k < n → f k ≤ g k) → sum_below f n ≤ sum_below g n
 sum_le f g zero le = omega arith
 sum_le f g (suc n) le = omega (arith, sum_le f g n (λ k h. le k (omega arith)), le n (omega arith))
 
+-- terms that are at most those of another sum, and one of them less
+pub sum_lt : (f h : ℕ → ℕ) (n s : ℕ) → ((k : ℕ) → k < n → f k ≤ h k) → s < n → f s < h s → sum_below f n < sum_below h n
+sum_lt f h zero s le lt less = absurd (omega arith)
+sum_lt f h (suc n) s le lt less =
+    ⊎_elim
+    (λ (e : s ≡ n). let here : f n < h n = subst (λ k. f k < h k) e less in omega (arith, here, sum_le f h n (λ k below. le k (omega arith))))
+    (λ (ne : s ≢ n). omega (arith, sum_lt f h n s (λ k below. le k (omega arith)) (omega arith) less, le n (omega arith)))
+    (cases_eq s n)
+
+-- a sum of sums of two
 pub sum_add : (f g : ℕ → ℕ) (n : ℕ) → sum_below (λ k. f k + g k) n ≡ sum_below f n + sum_below g n
 sum_add f g zero = refl
 sum_add f g (suc n) = omega (arith, sum_add f g n)
 
+-- a sum of multiples
 pub sum_times : (a : ℕ) (f : ℕ → ℕ) (n : ℕ) → sum_below (λ k. a * f k) n ≡ a * sum_below f n
 sum_times a f zero = omega arith
 sum_times a f (suc n) = omega (arith, sum_times a f n)
 
+-- a sum of zeros
 pub sum_zero : (f : ℕ → ℕ) (n : ℕ) → ((k : ℕ) → k < n → f k ≡ 0) → sum_below f n ≡ 0
 sum_zero f zero none = refl
 sum_zero f (suc n) none = omega (arith, sum_zero f n (λ k h. none k (omega arith)), none n (omega arith))
 
+-- a sum of terms of at most m
 pub sum_most : (f : ℕ → ℕ) (m n : ℕ) → ((k : ℕ) → k < n → f k ≤ m) → sum_below f n ≤ n * m
 sum_most f m zero le = omega arith
 sum_most f m (suc n) le = omega (arith, sum_most f m n (λ k h. le k (omega arith)), le n (omega arith))
@@ -42,9 +57,11 @@ sum_part f (suc n) k h =
       | inr l ↦ let e : k ≡ n = omega arith in subst (λ q. sum_below f q + f q ≤ sum_below f n + f n) (sym e) (omega arith)
     ]
 
+-- a term is at most the sum
 pub sum_ge : (f : ℕ → ℕ) (n y : ℕ) → y < n → f y ≤ sum_below f n
 sum_ge f n y h = let p = sum_part f n y h in omega (arith, p)
 
+-- a longer sum is no less
 pub sum_mono : (f : ℕ → ℕ) (m n : ℕ) → m ≤ n → sum_below f m ≤ sum_below f n
 sum_mono f m zero h = let e : m ≡ 0 = omega arith in rw e (omega arith)
 sum_mono f m (suc n) h =
@@ -62,12 +79,15 @@ sum_swap g (suc n) m = ap (λ k. k + sum_below (g n) m) (sum_swap g n m) ∙ sym
 abbrev pub only : ℕ → ℕ → ℕ → ℕ
 only y c x = if x == y then c else 0
 
+-- the value at y
 pub only_same : (y c : ℕ) → only y c y ≡ c
 only_same y c = rw (eq-eqb y y refl)
 
+-- the value elsewhere
 pub only_other : (y c x : ℕ) → x ≢ y → only y c x ≡ 0
 only_other y c x ne = rw (ne_eqb x y ne)
 
+-- the sum of one value
 pub sum_only : (y c n : ℕ) → y < n → sum_below (only y c) n ≡ c
 sum_only y c zero h = absurd (omega arith)
 sum_only y c (suc n) h =

@@ -1,5 +1,5 @@
 -- A value, or the first refusal.
-use Rattle.std.specs.Prelude.{◌≡◌, ◌≢◌, ℕ, Bool, Option, Some, None, Result, Ok, Err, if◌then◌else◌}
+use Rattle.std.specs.Prelude.{◌≡◌, ◌≢◌, ℕ, Bool, Option, Some, None, List, [], ◌∷◌, Result, Ok, Err, if◌then◌else◌}
 
 -- one step after another, up to the first refusal
 infixl 10 ◌>>=◌
@@ -15,6 +15,14 @@ ensure holds e = if holds then Ok tt else Err e
 abbrev pub nowhere : {E : Type 0} → (ℕ → E) → Option ℕ → Result (Unit {0}) E
 nowhere refusal None = Ok tt
 nowhere refusal (Some place) = Err (refusal place)
+
+-- each in its turn, up to the first refusal
+unfoldable pub each : {A B E : Type 0} → (A → Result B E) → List A → Result (List B) E
+each read [] = Ok []
+each read (x ∷ xs) = do
+  y ← read x
+  ys ← each read xs
+  Ok (y ∷ ys)
 
 -- what a function returned, seen by view, is what reading gives, unless memory ran out
 abbrev pub Gives : {X Y E : Type 0} → E → (X → Y) → Result X E → Result Y E → Type 0

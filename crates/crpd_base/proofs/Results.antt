@@ -1,0 +1,26 @@
+-- Results: steps that found no refusal, and what was read in front of what is left to read.
+use Rattle.std.proofs.Common.{◌≡◌, List, ◌∷◌, [], ◌++◌, Result, Ok, Err, refl, ap, sym, append_assoc}
+use Rattle.crpd_base.specs.Outcome.{◌>>=◌}
+
+-- the value on which a step went on
+pub bind_ok : {A B E : Type 0} (r : Result A E) (f : A → Result B E) (y : B) → (r >>= f) ≡ Ok y → (x : A) × (r ≡ Ok x) × (f x ≡ Ok y)
+bind_ok (Ok x) f y e = (x, refl, e)
+bind_ok (Err d) f y e = absurd cc
+
+-- a result has one value
+pub ok_is : {A E : Type 0} (x y : A) → ◌≡◌ {A = Result A E} (Ok x) (Ok y) → x ≡ y
+ok_is x y e = cc
+
+-- a value is not a refusal
+pub ok_not_err : {A E : Type 0} (x : A) (r : E) → ◌≡◌ {A = Result A E} (Ok x) (Err r) → ⊥
+ok_not_err x r e = cc
+
+-- what was read, in front of what is left to read
+abbrev pub with_front : {A E : Type 0} → List A → Result (List A) E → Result (List A) E
+with_front front (Ok xs) = Ok (front ++ xs)
+with_front front (Err e) = Err e
+
+-- one more item was read
+pub with_front_pair : {A E : Type 0} (front : List A) (x : A) (rest : Result (List A) E) → with_front front (rest >>= (λ xs. Ok (x ∷ xs))) ≡ with_front (front ++ x ∷ []) rest
+with_front_pair front x (Ok xs) = ap (λ ys. Ok ys) (sym (append_assoc front (x ∷ []) xs))
+with_front_pair front x (Err e) = refl
