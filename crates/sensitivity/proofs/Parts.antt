@@ -15,7 +15,7 @@ use Rattle.delay_count.specs.Gamma.{part_at}
 use Rattle.std.proofs.lemmas.List.{get_or_default}
 use Rattle.useful_sets.specs.Useful.{IsEcb, IsUcb}
 use Rattle.exec_bound.specs.Costs.{costs_of, counted, listed, greatest_bound, IsBound, IsTooLarge}
-use Rattle.exec_bound.specs.Walks.{CountsSureHits}
+use Rattle.must_cache.specs.Sure.{CountsSureHits}
 use Rattle.loop_regions.proofs.Beside.{nested}
 use Rattle.cert_check.specs.Shown.{shown, shown_at, graph_at, nest_at}
 use Rattle.sensitivity.specs.Accepted.{HasSets, IsLeastBound, IsPart}

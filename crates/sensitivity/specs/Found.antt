@@ -5,7 +5,7 @@ use Rattle.crpd_base.specs.declared.data.Part.{Part}
 use Rattle.crpd_base.specs.declared.data.TaskSet.{TaskSet}
 use Rattle.loop_regions.specs.TaskGraph.{TaskGraph}
 use Rattle.exec_bound.specs.Costs.{counted, greatest_bound}
-use Rattle.exec_bound.specs.Walks.{CountsSureHits}
+use Rattle.must_cache.specs.Sure.{CountsSureHits}
 use Rattle.cert_check.specs.Judge.{accesses_of}
 use Rattle.delay_count.specs.Gamma.{part_at}
 use Rattle.sensitivity.specs.declared.analysis.Bounded.{Bounded}
