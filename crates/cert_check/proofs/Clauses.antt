@@ -53,7 +53,8 @@ same_meets p t pot one two u e m =
 -- the clauses of the nodes and the bound, with a test of the hits that are counted
 pub record GraphMeets (p : Platform) (t : TaskGraph) (c : TaskPart) : Type 0 where
   pub listing : MeetsListing t.graph (accesses_of p t) (listed_of c)
-  pub sets : MeetsSets t.graph (accesses_of p t) (listed_of c) (has c.part.evicting) (has c.part.useful)
+  pub sets : MeetsSets t.graph (accesses_of p t) (listed_of c)
+      (has c.part.evicting) (has c.part.useful)
   pub is_hit : ℕ → Bool
   pub hits : CountsHits t.graph (accesses_of p t) (listed_of c) is_hit
   pub potentials : (u : ℕ) → u < t.graph.size
@@ -61,11 +62,13 @@ pub record GraphMeets (p : Platform) (t : TaskGraph) (c : TaskPart) : Type 0 whe
   pub bound : BoundMeets t.graph t.nest (potentials_of c) c.part.bound
 
 module _ (p : Platform) (t : TaskGraph) (c : TaskPart) where
-  listing_meets : ((k : Clause) → GraphHolds p t c k) → MeetsListing t.graph (accesses_of p t) (listed_of c)
+  listing_meets : ((k : Clause) → GraphHolds p t c k)
+      → MeetsListing t.graph (accesses_of p t) (listed_of c)
   listing_meets h = record { leaders = (h Leaders).1; states = λ u l. h (States u) l }
 
   sets_meet : ((k : Clause) → GraphHolds p t c k)
-      → MeetsSets t.graph (accesses_of p t) (listed_of c) (has c.part.evicting) (has c.part.useful)
+      → MeetsSets t.graph (accesses_of p t) (listed_of c)
+      (has c.part.evicting) (has c.part.useful)
   sets_meet h = record { useful = λ u l. h (UsefulSets u) l; sets = λ u l. h (TaskSets u) l }
 
   pub meets_with : ((k : Clause) → GraphHolds p t c k) → (is_hit : ℕ → Bool)
@@ -85,7 +88,8 @@ module _ (p : Platform) (t : TaskGraph) (c : TaskPart) where
   graph_meets G h = let test = hit_test_law t.graph (accesses_of p t) (listed_of c) G (h Leaders).1 in meets_with h test.0 test.1
 
 -- what is listed, and these: the clauses of a graph
-pub clauses_of : (p : Platform) (t : TaskGraph) (c : TaskPart) → All (λ (s : NodeState). s.node < t.graph.size) c.states
+pub clauses_of : (p : Platform) (t : TaskGraph) (c : TaskPart)
+    → All (λ (s : NodeState). s.node < t.graph.size) c.states
     → length c.potentials ≡ t.graph.size → length c.loops ≡ t.nest.size → GraphMeets p t c
     → (k : Clause) → GraphHolds p t c k
 clauses_of p t c numbers nodes loops m Leaders = (numbers, m.listing.leaders)
@@ -129,7 +133,8 @@ graph_part set graphs c i Deadline h = tt
 graph_part set graphs c i k h = h
 
 -- after a yes those on which full states and useful sets rest hold together
-module _ (set : TaskSet) (graphs : ℕ → TaskGraph) (c : Certificate) (i : ℕ) (says : IsYes set graphs c) (lt : i < length set.tasks) where
+module _ (set : TaskSet) (graphs : ℕ → TaskGraph) (c : Certificate) (i : ℕ)
+    (says : IsYes set graphs c) (lt : i < length set.tasks) where
   graph_holds : (k : Clause) → GraphHolds set.platform (graphs i) (cert_at c i) k
   graph_holds k = graph_part set graphs c i k (says i k lt)
 

@@ -16,7 +16,8 @@ module _ (g : Graph) (a : Accesses) (l : Listed) where
     pub state : BlocksTo g a l order blocks k
     pub seen : IsLeastSeen (StatesMeet g a l) (SeenTo order k) g.size least
 
-  pub states_least : (order : List ℕ) (blocks : List (Option ℕ)) (least k : ℕ) → IsOrder g l order → g.size ≤ k
+  pub states_least : (order : List ℕ) (blocks : List (Option ℕ)) (least k : ℕ)
+      → IsOrder g l order → g.size ≤ k
       → StatesTo order blocks least k → IsLeast (StatesMeet g a l) g.size least
   states_least order blocks least k O le H =
       finished (StatesMeet g a l) (SeenTo order k) g.size least (λ u lt. let p = O.every u lt in (p.0, (let q = p.1 in omega (arith, q, le)), p.2)) H.seen

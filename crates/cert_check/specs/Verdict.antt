@@ -8,7 +8,8 @@ use Rattle.crpd_base.specs.declared.data.TaskPart.{TaskPart}
 use Rattle.crpd_base.specs.declared.data.TaskSet.{TaskSet}
 use Rattle.crpd_base.specs.declared.data.Certificate.{Certificate}
 use Rattle.loop_regions.specs.TaskGraph.{TaskGraph, listing_of, answering}
-use Rattle.evict_sets.specs.Clauses.{ListsLeaders, StatesMeet, UsefulMeets, SetsMeet, MeetsListing, MeetsSets}
+use Rattle.evict_sets.specs.Clauses.{ListsLeaders, StatesMeet, UsefulMeets, SetsMeet}
+use Rattle.evict_sets.specs.Clauses.{MeetsListing, MeetsSets}
 use Rattle.evict_sets.specs.Certificate.{listed_of, cert_at}
 use Rattle.delay_count.specs.Demand.{demand}
 use Rattle.cert_check.specs.Certificate.{potentials_of}
@@ -99,7 +100,7 @@ Holds set graphs c i clause = GraphHolds set.platform (graphs i) (cert_at c i) c
 abbrev pub IsYes : TaskSet → (ℕ → TaskGraph) → Certificate → Type 0
 IsYes set graphs c = (i : ℕ) (clause : Clause) → i < length set.tasks → Holds set graphs c i clause
 
--- then each task's listing meets the clauses on which full states rest, and its sets meet the others
+-- then each task's listing meets the clauses on which full states rest, and its sets the others
 abbrev pub YesMeetsListing : Type 0
 YesMeetsListing =
     (set : TaskSet) (graphs : ℕ → TaskGraph) (c : Certificate) (i : ℕ) →

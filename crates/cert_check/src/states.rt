@@ -60,8 +60,8 @@ fn state_holds(listing: &Listing<'_>, node: NodeId, after: &[Option<u32>]) -> bo
         && edge_state_holds(listing, node, 1, after)
 }
 
-/// The least node at which clause 3 fails, the number of nodes where there is none. Its time is that of the nodes and
-/// the listed states, and of each edge with the listed state that it leads to.
+/// The least node at which clause 3 fails, the number of nodes where there is none. Its time is that
+/// of the nodes and the listed states, and of each edge with the listed state that it leads to.
 pub(crate) fn judge_states(listing: &Listing<'_>, order: &[u32]) -> u32
     requires case { IsListing listing.now.platform.now listing.now.graph.now listing.now.part.now listing.now.places.now }
     requires order { IsOrder (graph_of listing.now.graph.now) (listed_of listing.now.part.now) order.now }

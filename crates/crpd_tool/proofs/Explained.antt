@@ -97,7 +97,8 @@ module _ (input : Input) (shapes : Shapes) (c : Certificate) (given : Script) (i
   below x h = task_below start input.set graphs (in_range input.set is.ranges) in_code named x h
 
   states_met : AreStatesMet start graphs c
-  states_met x h = (yes_meets_listing input.set graphs c (task_of start x) judged (below x h)).states
+  states_met x h =
+      (yes_meets_listing input.set graphs c (task_of start x) judged (below x h)).states
 
   sets_met : AreSetsMet start graphs c
   sets_met x h = yes_meets_sets input.set graphs c (task_of start x) judged (below x h)

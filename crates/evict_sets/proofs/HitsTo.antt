@@ -15,13 +15,17 @@ module _ (g : Graph) (a : Accesses) (l : Listed) where
     pub room : length blocks ≡ 512
     pub follows : k < g.size → IsFalse (l.is_listed (slice_index order k)) → IsStateAt g a l (slice_index order k) blocks
 
-  pub blocks_start : (order : List ℕ) (blocks : List (Option ℕ)) → IsOrder g l order → length blocks ≡ 512 → BlocksTo order blocks 0
-  blocks_start order blocks O room =
-      record { room = room; follows = λ lt out. absurd (both_ways (l.is_listed (slice_index order 0)) out (O.start lt)) }
+  pub blocks_start : (order : List ℕ) (blocks : List (Option ℕ))
+      → IsOrder g l order → length blocks ≡ 512 → BlocksTo order blocks 0
+  blocks_start order blocks O room = record {
+    room = room;
+    follows = λ lt out. absurd (both_ways (l.is_listed (slice_index order 0)) out (O.start lt));
+  }
 
   -- the state after a node is that of an unlisted one behind it
-  pub blocks_more : (order : List ℕ) (new : List (Option ℕ)) (k node : ℕ) → IsOrder g l order → ListsLeaders g l
-      → slice_index order k ≡ node → length new ≡ 512 → IsStateAfter g a l node new → BlocksTo order new (k + 1)
+  pub blocks_more : (order : List ℕ) (new : List (Option ℕ)) (k node : ℕ)
+      → IsOrder g l order → ListsLeaders g l → slice_index order k ≡ node
+      → length new ≡ 512 → IsStateAfter g a l node new → BlocksTo order new (k + 1)
   blocks_more order new k node O leaders at room S = record {
     room = room;
     follows = λ within out.
@@ -31,9 +35,11 @@ module _ (g : Graph) (a : Accesses) (l : Listed) where
   }
 
   -- and the nodes before place k are told to be hits or not
-  pub record HitsTo (order : List ℕ) (blocks : List (Option ℕ)) (hits : List Bool) (k : ℕ) : Type 0 where
+  pub record HitsTo (order : List ℕ) (blocks : List (Option ℕ)) (hits : List Bool) (k : ℕ)
+      : Type 0 where
     pub state : BlocksTo order blocks k
-    pub hit : (j : ℕ) → j < k → IsTrue (counted hits (slice_index order j)) ↔ IsHit g a l (slice_index order j)
+    pub hit : (j : ℕ) → j < k
+        → IsTrue (counted hits (slice_index order j)) ↔ IsHit g a l (slice_index order j)
 
   pub hits_more : (order : List ℕ) (blocks new : List (Option ℕ)) (hits : List Bool) (k node : ℕ) (b : Bool) → IsOrder g l order → ListsLeaders g l → k < g.size → slice_index order k ≡ node → length hits ≡ g.size
       → length new ≡ 512 → IsStateAfter g a l node new → IsTrue b ↔ IsHit g a l node

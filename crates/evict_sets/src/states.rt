@@ -42,9 +42,9 @@ impl Listing<'_> {
         access(blocks, self.cache_set(node), self.block(node))
     }
 
-    /// Writes which nodes are counted as hits by their full states, in one sweep along an order of the nodes, as
-    /// `write_order` writes one: those whose full state gives the node's cache set the node's block. Linear in the nodes
-    /// and the listed states. It takes no memory.
+    /// Writes which nodes are counted as hits: those whose full state gives the node's cache set the
+    /// node's block. It is one sweep along an order of the nodes, as `write_order` writes it. Linear
+    /// in the nodes and the listed states. It takes no memory.
     pub fn write_hits(&self, order: &[u32], hits: &mut [bool])
         requires case { IsListing self.now.platform.now self.now.graph.now self.now.part.now self.now.places.now }
         requires order { IsOrder (graph_of self.now.graph.now) (listed_of self.now.part.now) order.now }

@@ -113,7 +113,8 @@ module _ (s : Start) (graphs : ℕ → TaskGraph) (A : HasGraphs s graphs) (x : 
               walk_carry_law tg.graph acc (listed_of cert) (node_of tg (job_of s c x)) target (node_of tg (job_of s n x)) (fetched_nodes s graphs c x) (is.later ++ node_of tg (job_of s n x) ∷ []) G M.useful (subst (λ w. IsWalk tg.graph w) all N.walk) first hit
         ]
 
-module _ (s : Start) (graphs : ℕ → TaskGraph) (c : Certificate) (cached : HasCache s) (A : HasGraphs s graphs)
+module _ (s : Start) (graphs : ℕ → TaskGraph) (c : Certificate)
+    (cached : HasCache s) (A : HasGraphs s graphs)
     (S : AreStatesMet s graphs c) (M : AreSetsMet s graphs c) where
   -- an entry is a reload
   reload_of : (e : LedgerEntry) (r : IsOfRun s graphs c e) → IsReloaded s e.job e.time r.evicted.fetch

@@ -216,7 +216,8 @@ module _ (s : Start) (graphs : ℕ → TaskGraph) (A : HasGraphs s graphs) (x : 
       own_more n c b (fetch_at s n) refl kn (own_of_nodes n c b kn) e
 
   -- a fetch at a node that is counted as a hit, and that misses
-  module _ (c : Certificate) (M : AllStatesMeet own_graph.graph acc (listed_of (cert_at c (task_of s x)))) where
+  module _ (c : Certificate)
+      (M : AllStatesMeet own_graph.graph acc (listed_of (cert_at c (task_of s x)))) where
     pub own_block : (n : ℕ) (f : Fetch) → FetchesAt s x n f → is_kept (job_of s n x).watch ≡ true → IsHit own_graph.graph acc (listed_of (cert_at c (task_of s x))) (node_of own_graph (job_of s n x)) → HasOwn s x (fetched_set s f) n (block_in s f)
     own_block n f made k hit =
         let N = address_at n f made k in

@@ -14,8 +14,10 @@ use Rattle.run_account.specs.Walks.{HasGraphs}
 -- what is listed for the task of each job of the script meets the clauses on which full states rest
 abbrev pub AreListingsMet : Start → (ℕ → TaskGraph) → Certificate → Type 0
 AreListingsMet s graphs c =
-    (x : ℕ) → x < length s.lines → let t = graphs (task_of s x) in
-    MeetsListing t.graph (accesses s.system.platform t.places.address) (listed_of (cert_at c (task_of s x)))
+    (x : ℕ) → x < length s.lines →
+    let t = graphs (task_of s x) in
+    let p = cert_at c (task_of s x) in
+    MeetsListing t.graph (accesses s.system.platform t.places.address) (listed_of p)
 
 -- with an evictor and a preemptor an entry of job x at step n is one of the ledger
 pub record HasCauses (s : Start) (graphs : ℕ → TaskGraph) (c : Certificate) (n x : ℕ) (f : Fetch) : Type 0 where
@@ -27,10 +29,12 @@ pub record HasCauses (s : Start) (graphs : ℕ → TaskGraph) (c : Certificate) 
 abbrev pub EntryHasCauses : Type 0
 EntryHasCauses =
     (s : Start) (graphs : ℕ → TaskGraph) (c : Certificate) (n x : ℕ) (f : Fetch) →
-    HasCache s → HasGraphs s graphs → AreListingsMet s graphs c → IsEntry s graphs c n x f → HasCauses s graphs c n x f
+    HasCache s → HasGraphs s graphs → AreListingsMet s graphs c →
+    IsEntry s graphs c n x f → HasCauses s graphs c n x f
 
 -- so there is a ledger of the first n steps
 abbrev pub RunHasLedger : Type 0
 RunHasLedger =
     (s : Start) (graphs : ℕ → TaskGraph) (c : Certificate) (n : ℕ) →
-    HasCache s → HasGraphs s graphs → AreListingsMet s graphs c → (ledger : List LedgerEntry) × IsLedger s graphs c n ledger
+    HasCache s → HasGraphs s graphs → AreListingsMet s graphs c →
+    (ledger : List LedgerEntry) × IsLedger s graphs c n ledger

@@ -20,7 +20,8 @@ AreSetsMet s graphs c =
     (x : ℕ) → x < length s.lines →
     let t = graphs (task_of s x) in
     let p = cert_at c (task_of s x) in
-    MeetsSets t.graph (accesses s.system.platform t.places.address) (listed_of p) (has p.part.evicting) (has p.part.useful)
+    MeetsSets t.graph (accesses s.system.platform t.places.address) (listed_of p)
+    (has p.part.evicting) (has p.part.useful)
 
 -- an entry's evictor and preemptor are of higher tasks than its job, and the evictor does not come after the preemptor.
 -- Its set is in the evictor's evicting set, in its task's useful set, and in the useful set of the full state of the node
@@ -50,4 +51,5 @@ pub record HasFacts (s : Start) (graphs : ℕ → TaskGraph) (c : Certificate) (
 abbrev pub LedgerFacts : Type 0
 LedgerFacts =
     (s : Start) (graphs : ℕ → TaskGraph) (c : Certificate) (n : ℕ) (ledger : List LedgerEntry) →
-    HasCache s → HasGraphs s graphs → AreStatesMet s graphs c → AreSetsMet s graphs c → IsLedger s graphs c n ledger → HasFacts s graphs c ledger
+    HasCache s → HasGraphs s graphs → AreStatesMet s graphs c → AreSetsMet s graphs c →
+    IsLedger s graphs c n ledger → HasFacts s graphs c ledger

@@ -32,12 +32,13 @@ pub record AreGraphsOf (code : Code) (set : TaskSet) (graphs : List CodeGraph) :
   pub all : length graphs ≡ length set.tasks
   pub each : (i : ℕ) → i < length set.tasks → IsGraphOfTask code i (graph_at graphs i)
 
--- what a ledger rests on, at each task: the certificate has a part for it, which lists cache sets below 512 and meets the
--- clauses on which full states rest
+-- what a ledger rests on, at each task: the certificate has a part for it, which lists cache sets
+-- below 512 and meets the clauses on which full states rest
 pub record MeetsTask (set : TaskSet) (graphs : List CodeGraph) (c : Certificate) (i : ℕ) : Type 0 where
   pub has_task : i < length c.tasks
   pub low_sets : HasLowSets (cert_at c i)
-  pub listing : let g = graph_at graphs i in MeetsListing (graph_of g) (fetches set.platform g) (listed_of (cert_at c i))
+  pub listing : let g = graph_at graphs i in
+      MeetsListing (graph_of g) (fetches set.platform g) (listed_of (cert_at c i))
 
 abbrev pub TasksAreMet : TaskSet → List CodeGraph → Certificate → Type 0
 TasksAreMet set graphs c = (i : ℕ) → i < length set.tasks → MeetsTask set graphs c i
@@ -48,4 +49,5 @@ SetsAreMet set graphs c =
     (i : ℕ) → i < length set.tasks →
     let g = graph_at graphs i in
     let t = cert_at c i in
-    MeetsSets (graph_of g) (fetches set.platform g) (listed_of t) (has t.part.evicting) (has t.part.useful)
+    MeetsSets (graph_of g) (fetches set.platform g) (listed_of t)
+    (has t.part.evicting) (has t.part.useful)

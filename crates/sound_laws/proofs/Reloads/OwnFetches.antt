@@ -32,13 +32,15 @@ use Rattle.sound_laws.proofs.Walks.Stands.{walk_node}
 use Rattle.sound_laws.proofs.Execution.Executed.{IsMet, is_met, hit_test}
 
 -- what the laws on runs ask of such a run
-pub has_graphs : (s : Start) (set : TaskSet) (graphs : ℕ → TaskGraph) → IsInRange set → IsCodeOf s.system set graphs
-    → NamesTasks set s.lines → HasGraphs s graphs
+pub has_graphs : (s : Start) (set : TaskSet) (graphs : ℕ → TaskGraph)
+    → IsInRange set → IsCodeOf s.system set graphs → NamesTasks set s.lines → HasGraphs s graphs
 has_graphs s set graphs R C T =
     record {
       code = C.map;
       hit = hit_some s set graphs R C T;
-      graph = λ x h. let g = ok s set graphs R C T x h in record { follows = g.follows; no_errors = g.no_errors };
+      graph = λ x h.
+          let g = ok s set graphs R C T x h in
+          record { follows = g.follows; no_errors = g.no_errors };
     }
 
 module _ (s : Start) (set : TaskSet) (graphs : ℕ → TaskGraph) (R : IsInRange set) (C : IsCodeOf s.system set graphs) (T : NamesTasks set s.lines) (x : ℕ) (h : x < length s.lines) where
@@ -59,7 +61,8 @@ module _ (s : Start) (set : TaskSet) (graphs : ℕ → TaskGraph) (R : IsInRange
   set_is n k o = ap (set_of s.system.platform) (block_is n k o)
 
   -- the last access of the fetched nodes is the own last fetch
-  own_of : (n c b : ℕ) → is_kept (job_of s n x).watch ≡ true → last_access acc c (fetched_nodes s graphs n x) ≡ Some b → HasOwn s x c n b
+  own_of : (n c b : ℕ) → is_kept (job_of s n x).watch ≡ true
+      → last_access acc c (fetched_nodes s graphs n x) ≡ Some b → HasOwn s x c n b
   own_of n c b k e = own_of_nodes s graphs (has_graphs s set graphs R C T) x h n c b k e
 
   module _ (c : TaskPart) (counted : ℕ → Bool) (M : IsMet s.system.platform tg c counted) where
