@@ -5,6 +5,7 @@ use Rattle.crpd_base.specs.declared.data.NodeState.{NodeState}
 use Rattle.crpd_base.specs.Sets.{has, AreWords}
 use Rattle.flat_graph.specs.CodeGraph.{CodeGraph, graph_of, places_of}
 use Rattle.icache.specs.Accesses.{Accesses, accesses}
+use Rattle.must_cache.specs.Sure.{CountsSureHits}
 use Rattle.useful_sets.specs.Useful.{IsUcb, IsEcb}
 use Rattle.loop_regions.specs.CodeNest.{CodeNest, nest_of}
 use Rattle.evict_sets.specs.Listing.{counted}

@@ -16,9 +16,11 @@ use Rattle.loop_regions.specs.TaskGraph.{TaskGraph, listing_of, answering}
 use Rattle.loop_regions.specs.CodeNest.{CodeNest}
 use Rattle.flat_graph.specs.Graph.{IsGraph}
 use Rattle.flat_graph.specs.CodeGraph.{CodeGraph}
+use Rattle.must_cache.proofs.SureFacts.{sure_hits_agree}
 use Rattle.exec_bound.specs.Least.{IsLeast}
 use Rattle.cert_check.specs.Certificate.{potentials_of}
 use Rattle.cert_check.specs.Clauses.{costs}
+use Rattle.cert_check.specs.Judge.{accesses_of}
 use Rattle.cert_check.specs.Shown.{shown, shown_at, nest_at}
 use Rattle.cert_check.proofs.Tasks.{graph_is, nest_is}
 use Rattle.crpd_base.specs.Names.{is_name}
@@ -33,7 +35,7 @@ use Rattle.cert_build.specs.declared.one_task.Analysis.{Analysis}
 use Rattle.cert_build.specs.declared.fault.BuildError.{BuildError}
 use Rattle.cert_build.specs.declared.fault.BuildError.TheVariants.{Memory, TooLarge, TooManyEntries, Unschedulable}
 use Rattle.cert_build.proofs.Analysed.{bound_number}
-use Rattle.cert_build.proofs.OneBest.{meets_by, tests_same}
+use Rattle.cert_build.proofs.OneBest.{meets_by}
 
 -- what holds of the graph and the regions that are read holds of the task's
 pub at_task : (P : TaskGraph → Type 0) (graphs : List CodeGraph) (nests : List CodeNest) (k : ℕ) (g : CodeGraph) (n : CodeNest) → k < length graphs → k < length nests → g ≡ get_or graphs k g → n ≡ get_or nests k n → P (shown g n) → P (shown_at graphs nests k)
@@ -49,7 +51,7 @@ no_more t c p q (Loop r) lt L M is = L.loops q r M is.0
 pub not_large : (p : Platform) (t : TaskGraph) (c : TaskPart) → IsGraph t.graph → IsBestPart p t c → c.part.bound ≤ 2 ^ 40 → HasLargeBound p t → ⊥
 not_large p t c G B most H =
     let P = B.potentials in
-    let same = tests_same p t B.is_hit H.is_hit B.hits H.hits in
+    let same = sure_hits_agree t.graph (accesses_of p t) B.is_hit H.is_hit B.hits H.hits in
     let meets = meets_by p t B.is_hit H.is_hit (potentials_of c) same P.least.meets in
     let i = H.exceeds.1 in
     let le = no_more t (costs p (listing_of t) (answering t) H.is_hit) H.exceeds.0 (potentials_of c) i G.first H.exceeds.2 meets H.exceeds.3 in

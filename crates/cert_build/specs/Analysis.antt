@@ -4,6 +4,7 @@ use Rattle.crpd_base.specs.declared.data.Platform.{Platform}
 use Rattle.crpd_base.specs.declared.data.Method.{Method}
 use Rattle.crpd_base.specs.declared.data.Method.TheVariants.{Ucb}
 use Rattle.crpd_base.specs.declared.data.TaskPart.{TaskPart}
+use Rattle.must_cache.specs.Sure.{CountsSureHits}
 use Rattle.loop_regions.specs.TaskGraph.{TaskGraph, listing_of, answering}
 use Rattle.exec_bound.specs.Costs.{IsTooLarge}
 use Rattle.exec_bound.specs.declared.fault.BoundError.{BoundError}
@@ -12,7 +13,7 @@ use Rattle.cert_check.specs.Clauses.{costs}
 use Rattle.cert_check.specs.Judge.{accesses_of}
 use Rattle.crpd_base.specs.Names.{is_name}
 use Rattle.cert_model.specs.Ranges.{IsTaskPart}
-use Rattle.cert_build.specs.Best.{TellsSureHits, IsBestPart}
+use Rattle.cert_build.specs.Best.{IsBestPart}
 use Rattle.cert_build.specs.declared.one_task.Analysis.{Analysis}
 
 -- the task's part of a certificate that has an analysis, with what stands beside it
@@ -38,7 +39,7 @@ KeepsRanges a =
 -- the bound of a task's code, with the hits by Sure, exceeds 2^40
 pub record HasLargeBound (p : Platform) (t : TaskGraph) : Type 0 where
   pub is_hit : ℕ → Bool
-  pub hits : TellsSureHits t.graph (accesses_of p t) is_hit
+  pub hits : CountsSureHits t.graph (accesses_of p t) is_hit
   pub exceeds : IsTooLarge t.graph t.nest (costs p (listing_of t) (answering t) is_hit)
 
 -- no memory, which comes freely; or a bound that is too large, with the address of the task's entry

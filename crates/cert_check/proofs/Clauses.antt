@@ -1,7 +1,7 @@
 -- What the clauses of a graph say together.
-use Rattle.std.proofs.Common.{◌≡◌, ℕ, zero, suc, ◌+◌, ◌<◌, ◌≤◌, Bool, length, refl, sym, ◌∙◌, subst, inl, inr, arith}
+use Rattle.std.proofs.Common.{◌≡◌, ℕ, zero, suc, ◌+◌, ◌<◌, ◌≤◌, Bool, length, All, refl, sym, subst, arith}
 use Rattle.std.specs.Prelude.{not, ◌==◌}
-use Rattle.std.proofs.lemmas.Bool.{cases_Bool, false≢true}
+use Rattle.std.specs.Cmp.{both_ways}
 use Rattle.crpd_base.specs.declared.data.Platform.{Platform}
 use Rattle.crpd_base.specs.declared.data.TaskSet.{TaskSet}
 use Rattle.rv_decode.specs.Cost.{cost}
@@ -17,27 +17,22 @@ use Rattle.evict_sets.specs.Certificate.{listed_of, cert_at}
 use Rattle.cert_check.specs.Certificate.{potentials_of}
 use Rattle.cert_check.specs.Clauses.{CountsHits, costs, PotentialsMeet, BoundMeets}
 use Rattle.loop_regions.specs.TaskGraph.{TaskGraph, listing_of, answering}
-use Rattle.evict_sets.specs.Clauses.{StatesMeet, UsefulMeets, SetsMeet}
+use Rattle.evict_sets.specs.Clauses.{MeetsListing, MeetsSets}
 use Rattle.crpd_base.specs.Sets.{has}
+use Rattle.crpd_base.specs.declared.data.NodeState.{NodeState}
 use Rattle.crpd_base.specs.declared.data.TaskPart.{TaskPart}
 use Rattle.crpd_base.specs.Tasks.{jitter_of, deadline_of}
 use Rattle.delay_count.specs.Demand.{demand}
 use Rattle.cert_check.specs.Judge.{accesses_of, part_of, longest_at, window_at, name_of}
 use Rattle.cert_check.specs.declared.outcome.Clause.{Clause}
 use Rattle.cert_check.specs.declared.outcome.Clause.TheVariants.{Platforms, HasTask, Names, Last, Leaders, NodePotentials, LoopPotentials, States, UsefulSets, TaskSets, Inequalities, Bound, Window, Response, Deadline}
-use Rattle.cert_check.specs.Verdict.{GraphHolds, Holds, IsYes}
+use Rattle.cert_check.specs.Verdict.{GraphHolds, Holds, IsYes, YesMeetsListing, YesMeetsSets}
 
 -- two tests of hits agree at the nodes
 pub tests_agree : (g : Graph) (a : Accesses) (l : Listed) (one two : ℕ → Bool) (u : ℕ)
     → CountsHits g a l one → CountsHits g a l two → u < g.size → one u ≡ two u
 tests_agree g a l one two u p q h =
-    elim (cases_Bool (one u)) [
-      | inl b ↦ b ∙ sym ((q u h).1 ((p u h).0 b))
-      | inr b ↦ elim (cases_Bool (two u)) [
-        | inl d ↦ absurd (false≢true (sym b ∙ (p u h).1 ((q u h).0 d)))
-        | inr d ↦ b ∙ sym d
-      ]
-    ]
+    both_ways (one u) (two u) (λ t. (q u h).1 ((p u h).0 t)) (λ t. (p u h).1 ((q u h).0 t))
 
 -- the inequalities at a node see the test at that node only
 pub same_meets : (p : Platform) (t : TaskGraph) (pot : Potentials) (one two : ℕ → Bool) (u : ℕ)
@@ -57,10 +52,9 @@ same_meets p t pot one two u e m =
 
 -- the clauses of the nodes and the bound, with a test of the hits that are counted
 pub record GraphMeets (p : Platform) (t : TaskGraph) (c : TaskPart) : Type 0 where
-  pub states : (u : ℕ) → u < t.graph.size → StatesMeet t.graph (accesses_of p t) (listed_of c) u
-  pub useful : (u : ℕ) → u < t.graph.size → UsefulMeets t.graph (accesses_of p t) (listed_of c) u
-  pub sets : (u : ℕ) → u < t.graph.size
-      → SetsMeet t.graph (accesses_of p t) (listed_of c) (has c.part.evicting) (has c.part.useful) u
+  pub listing : MeetsListing t.graph (accesses_of p t) (listed_of c)
+  pub sets : MeetsSets t.graph (accesses_of p t) (listed_of c)
+      (has c.part.evicting) (has c.part.useful)
   pub is_hit : ℕ → Bool
   pub hits : CountsHits t.graph (accesses_of p t) (listed_of c) is_hit
   pub potentials : (u : ℕ) → u < t.graph.size
@@ -68,13 +62,21 @@ pub record GraphMeets (p : Platform) (t : TaskGraph) (c : TaskPart) : Type 0 whe
   pub bound : BoundMeets t.graph t.nest (potentials_of c) c.part.bound
 
 module _ (p : Platform) (t : TaskGraph) (c : TaskPart) where
+  listing_meets : ((k : Clause) → GraphHolds p t c k)
+      → MeetsListing t.graph (accesses_of p t) (listed_of c)
+  listing_meets h = record { leaders = (h Leaders).1; states = λ u l. h (States u) l }
+
+  sets_meet : ((k : Clause) → GraphHolds p t c k)
+      → MeetsSets t.graph (accesses_of p t) (listed_of c)
+      (has c.part.evicting) (has c.part.useful)
+  sets_meet h = record { useful = λ u l. h (UsefulSets u) l; sets = λ u l. h (TaskSets u) l }
+
   pub meets_with : ((k : Clause) → GraphHolds p t c k) → (is_hit : ℕ → Bool)
       → CountsHits t.graph (accesses_of p t) (listed_of c) is_hit → GraphMeets p t c
   meets_with h is_hit counts =
       record {
-        states = λ u l. h (States u) l;
-        useful = λ u l. h (UsefulSets u) l;
-        sets = λ u l. h (TaskSets u) l;
+        listing = listing_meets h;
+        sets = sets_meet h;
         is_hit = is_hit;
         hits = counts;
         potentials = λ u l. h (Inequalities u) is_hit counts l;
@@ -86,19 +88,20 @@ module _ (p : Platform) (t : TaskGraph) (c : TaskPart) where
   graph_meets G h = let test = hit_test_law t.graph (accesses_of p t) (listed_of c) G (h Leaders).1 in meets_with h test.0 test.1
 
 -- what is listed, and these: the clauses of a graph
-pub clauses_of : (p : Platform) (t : TaskGraph) (c : TaskPart) → GraphHolds p t c Leaders
+pub clauses_of : (p : Platform) (t : TaskGraph) (c : TaskPart)
+    → All (λ (s : NodeState). s.node < t.graph.size) c.states
     → length c.potentials ≡ t.graph.size → length c.loops ≡ t.nest.size → GraphMeets p t c
     → (k : Clause) → GraphHolds p t c k
-clauses_of p t c leaders nodes loops m Leaders = leaders
-clauses_of p t c leaders nodes loops m NodePotentials = nodes
-clauses_of p t c leaders nodes loops m LoopPotentials = loops
-clauses_of p t c leaders nodes loops m (States u) = λ l. m.states u l
-clauses_of p t c leaders nodes loops m (UsefulSets u) = λ l. m.useful u l
-clauses_of p t c leaders nodes loops m (TaskSets u) = λ l. m.sets u l
-clauses_of p t c leaders nodes loops m (Inequalities u) = λ is_hit counts l.
+clauses_of p t c numbers nodes loops m Leaders = (numbers, m.listing.leaders)
+clauses_of p t c numbers nodes loops m NodePotentials = nodes
+clauses_of p t c numbers nodes loops m LoopPotentials = loops
+clauses_of p t c numbers nodes loops m (States u) = λ l. m.listing.states u l
+clauses_of p t c numbers nodes loops m (UsefulSets u) = λ l. m.sets.useful u l
+clauses_of p t c numbers nodes loops m (TaskSets u) = λ l. m.sets.sets u l
+clauses_of p t c numbers nodes loops m (Inequalities u) = λ is_hit counts l.
     same_meets p t (potentials_of c) m.is_hit is_hit u (tests_agree t.graph (accesses_of p t) (listed_of c) m.is_hit is_hit u m.hits counts l) (m.potentials u l)
-clauses_of p t c leaders nodes loops m Bound = m.bound
-clauses_of p t c leaders nodes loops m _ = tt
+clauses_of p t c numbers nodes loops m Bound = m.bound
+clauses_of p t c numbers nodes loops m _ = tt
 
 -- with these of a task's part, and with what stands beside it, all clauses hold
 module _ (set : TaskSet) (graphs : ℕ → TaskGraph) (c : Certificate) (i : ℕ)
@@ -128,6 +131,20 @@ graph_part set graphs c i Window h = tt
 graph_part set graphs c i Response h = tt
 graph_part set graphs c i Deadline h = tt
 graph_part set graphs c i k h = h
+
+-- after a yes those on which full states and useful sets rest hold together
+module _ (set : TaskSet) (graphs : ℕ → TaskGraph) (c : Certificate) (i : ℕ)
+    (says : IsYes set graphs c) (lt : i < length set.tasks) where
+  graph_holds : (k : Clause) → GraphHolds set.platform (graphs i) (cert_at c i) k
+  graph_holds k = graph_part set graphs c i k (says i k lt)
+
+pub yes_meets_listing : YesMeetsListing
+yes_meets_listing set graphs c i says lt =
+    listing_meets set.platform (graphs i) (cert_at c i) (graph_holds set graphs c i says lt)
+
+pub yes_meets_sets : YesMeetsSets
+yes_meets_sets set graphs c i says lt =
+    sets_meet set.platform (graphs i) (cert_at c i) (graph_holds set graphs c i says lt)
 
 -- a yes says that the certificate has a part for each task
 pub as_many : (set : TaskSet) (graphs : ℕ → TaskGraph) (c : Certificate) → 1 ≤ length set.tasks

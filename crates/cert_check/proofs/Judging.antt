@@ -1,5 +1,5 @@
 -- Clauses 3 to 5 judged along an order of the nodes.
-use Rattle.std.proofs.Common.{◌≡◌, ℕ, ◌+◌, ◌<◌, ◌≤◌, Bool, List, Option, IsFalse, sym, ap, ◌∙◌, subst, arith}
+use Rattle.std.proofs.Common.{◌≡◌, ℕ, ◌+◌, ◌<◌, ◌≤◌, List, Option, IsFalse, sym, ap, ◌∙◌, subst, arith}
 use Rattle.std.specs.Prelude.{slice_index}
 use Rattle.icache.specs.Accesses.{Accesses}
 use Rattle.flat_graph.specs.Graph.{Graph, Edge}
@@ -8,16 +8,18 @@ use Rattle.evict_sets.specs.Clauses.{StatesMeet}
 use Rattle.evict_sets.specs.Listing.{IsOrder}
 use Rattle.cert_check.specs.Case.{IsUsefulAt, IsLeast}
 use Rattle.cert_check.proofs.LeastSeen.{IsLeastSeen, SeenTo, SeenFrom, none_seen, finished}
-use Rattle.evict_sets.proofs.HitsTo.{HitsTo}
+use Rattle.evict_sets.proofs.HitsTo.{BlocksTo}
 
 module _ (g : Graph) (a : Accesses) (l : Listed) where
-  -- the nodes before place k are told to be hits or not and are judged, and the blocks are the state of an unlisted node there
-  pub record StatesTo (order : List ℕ) (blocks : List (Option ℕ)) (hits : List Bool) (least k : ℕ) : Type 0 where
-    pub told : HitsTo g a l order blocks hits k
+  -- the nodes before place k are judged, and the blocks are the state of an unlisted node there
+  pub record StatesTo (order : List ℕ) (blocks : List (Option ℕ)) (least k : ℕ) : Type 0 where
+    pub state : BlocksTo g a l order blocks k
     pub seen : IsLeastSeen (StatesMeet g a l) (SeenTo order k) g.size least
 
-  pub states_least : (order : List ℕ) (blocks : List (Option ℕ)) (hits : List Bool) (least k : ℕ) → IsOrder g l order → g.size ≤ k → StatesTo order blocks hits least k → IsLeast (StatesMeet g a l) g.size least
-  states_least order blocks hits least k O le H =
+  pub states_least : (order : List ℕ) (blocks : List (Option ℕ)) (least k : ℕ)
+      → IsOrder g l order → g.size ≤ k
+      → StatesTo order blocks least k → IsLeast (StatesMeet g a l) g.size least
+  states_least order blocks least k O le H =
       finished (StatesMeet g a l) (SeenTo order k) g.size least (λ u lt. let p = O.every u lt in (p.0, (let q = p.1 in omega (arith, q, le)), p.2)) H.seen
 
   -- the nodes from place k on are judged by P, and the set is the full useful set of the one at place k

@@ -9,6 +9,7 @@ use Rattle.crpd_base.specs.declared.data.TaskSet.{TaskSet}
 use Rattle.crpd_base.specs.declared.data.Certificate.{Certificate}
 use Rattle.loop_regions.specs.TaskGraph.{TaskGraph, listing_of, answering}
 use Rattle.evict_sets.specs.Clauses.{ListsLeaders, StatesMeet, UsefulMeets, SetsMeet}
+use Rattle.evict_sets.specs.Clauses.{MeetsListing, MeetsSets}
 use Rattle.evict_sets.specs.Certificate.{listed_of, cert_at}
 use Rattle.delay_count.specs.Demand.{demand}
 use Rattle.cert_check.specs.Certificate.{potentials_of}
@@ -98,6 +99,20 @@ Holds set graphs c i clause = GraphHolds set.platform (graphs i) (cert_at c i) c
 -- the judge says yes: every clause holds for every task
 abbrev pub IsYes : TaskSet → (ℕ → TaskGraph) → Certificate → Type 0
 IsYes set graphs c = (i : ℕ) (clause : Clause) → i < length set.tasks → Holds set graphs c i clause
+
+-- then each task's listing meets the clauses on which full states rest, and its sets the others
+abbrev pub YesMeetsListing : Type 0
+YesMeetsListing =
+    (set : TaskSet) (graphs : ℕ → TaskGraph) (c : Certificate) (i : ℕ) →
+    IsYes set graphs c → i < length set.tasks →
+    MeetsListing (graphs i).graph (accesses_of set.platform (graphs i)) (listed_of (cert_at c i))
+
+abbrev pub YesMeetsSets : Type 0
+YesMeetsSets =
+    (set : TaskSet) (graphs : ℕ → TaskGraph) (c : Certificate) (i : ℕ) →
+    IsYes set graphs c → i < length set.tasks →
+    MeetsSets (graphs i).graph (accesses_of set.platform (graphs i)) (listed_of (cert_at c i))
+    (has (cert_at c i).part.evicting) (has (cert_at c i).part.useful)
 
 -- a clause is judged before another, of one task
 abbrev pub IsEarlier : Clause → Clause → Type 0

@@ -43,17 +43,16 @@ fn list_failure(listing: &Listing<'_>, nest: &Nest) -> Result<(), Clause>
     Ok(())
 }
 
-/// The first failure of the states and sets, as an error; writes which nodes are counted as hits.
-fn state_failure(listing: &Listing<'_>, order: &[u32], hits: &mut [bool]) -> Result<(), Clause>
+/// The first failure of the states and sets, as an error, from which nodes are counted as hits.
+fn state_failure(listing: &Listing<'_>, order: &[u32], hits: &[bool]) -> Result<(), Clause>
     requires case { IsListing listing.now.platform.now listing.now.graph.now listing.now.part.now listing.now.places.now }
     requires order { IsOrder (graph_of listing.now.graph.now) (listed_of listing.now.part.now) order.now }
-    requires count { length hits.old ≡ (graph_of listing.now.graph.now).size }
-    ensures count { length hits.new ≡ (graph_of listing.now.graph.now).size }
-    ensures hits { CountsHits (graph_of listing.now.graph.now) (fetches listing.now.platform.now listing.now.graph.now) (listed_of listing.now.part.now) (counted hits.new) }
-    ensures failure { (nest : CodeNest) → IsFound (GraphHolds listing.now.platform.now (shown listing.now.graph.now nest) listing.now.part.now) 3 5 result }
+    requires count { length hits.now ≡ (graph_of listing.now.graph.now).size }
+    requires hits { CountsHits (graph_of listing.now.graph.now) (fetches listing.now.platform.now listing.now.graph.now) (listed_of listing.now.part.now) (counted hits.now) }
+    ensures { (nest : CodeNest) → IsFound (GraphHolds listing.now.platform.now (shown listing.now.graph.now nest) listing.now.part.now) 3 5 result }
 {
     let size = listing.graph.len();
-    let node = judge_states(listing, order, hits);
+    let node = judge_states(listing, order);
     if node < size {
         return Err(Clause::States(node));
     }
@@ -98,6 +97,7 @@ pub(crate) fn graph_failure(
     listing.write_order(order);
     let mut flags = [false; MOST_NODES];
     let hits = &mut flags[..size];
+    listing.write_hits(order, hits);
     state_failure(&listing, order, hits)?;
     let paid = Paid {
         platform,

@@ -2,10 +2,10 @@
 ghost use Rattle.std.specs.Prelude.{◌≡◌, ◌↔◌, ◌<◌, ◌≤◌, ℕ, Some, length, slice_set, slice_get, slice_index_or, false, IsTrue, IsFalse, All};
 ghost use Rattle.icache.specs.Cache.{held};
 ghost use Rattle.flat_graph.specs.CodeGraph.{graph_of};
-ghost use Rattle.evict_sets.specs.Full.{FullState, IsHit};
+ghost use Rattle.evict_sets.specs.Full.{FullState};
 ghost use Rattle.evict_sets.specs.Clauses.{StateAfter, StatesMeet};
 ghost use Rattle.evict_sets.specs.Certificate.{block_in, listed_of};
-ghost use Rattle.evict_sets.specs.Listing.{CountsHits, IsListing, IsOrder, IsStateAfter, counted, fetches};
+ghost use Rattle.evict_sets.specs.Listing.{IsListing, IsOrder, IsStateAfter, fetches};
 ghost use Rattle.cert_check.specs.Case.{IsLeast};
 
 use crate::least::lowest;
@@ -60,22 +60,19 @@ fn state_holds(listing: &Listing<'_>, node: NodeId, after: &[Option<u32>]) -> bo
         && edge_state_holds(listing, node, 1, after)
 }
 
-/// Writes which nodes are counted as hits; gives the least node at which clause 3 fails, the number of nodes where
-/// there is none. Its time is that of the nodes and the listed states, and of each edge with the listed state that it
-/// leads to.
-pub(crate) fn judge_states(listing: &Listing<'_>, order: &[u32], hits: &mut [bool]) -> u32
+/// The least node at which clause 3 fails, the number of nodes where there is none. Its time is that
+/// of the nodes and the listed states, and of each edge with the listed state that it leads to.
+pub(crate) fn judge_states(listing: &Listing<'_>, order: &[u32]) -> u32
     requires case { IsListing listing.now.platform.now listing.now.graph.now listing.now.part.now listing.now.places.now }
     requires order { IsOrder (graph_of listing.now.graph.now) (listed_of listing.now.part.now) order.now }
-    requires count { length hits.old ≡ (graph_of listing.now.graph.now).size }
-    ensures hits { CountsHits (graph_of listing.now.graph.now) (fetches listing.now.platform.now listing.now.graph.now) (listed_of listing.now.part.now) (counted hits.new) }
-    ensures least { IsLeast (StatesMeet (graph_of listing.now.graph.now) (fetches listing.now.platform.now listing.now.graph.now) (listed_of listing.now.part.now)) (graph_of listing.now.graph.now).size result }
+    ensures { IsLeast (StatesMeet (graph_of listing.now.graph.now) (fetches listing.now.platform.now listing.now.graph.now) (listed_of listing.now.part.now)) (graph_of listing.now.graph.now).size result }
 {
     let mut blocks = [None; SETS];
     let mut least = listing.graph.len();
     for k in 0..order.len() {
         let node = NodeId(order[k]);
         listing.enter(&mut blocks, node);
-        hits[node.0 as usize] = listing.leave(&mut blocks, node);
+        listing.leave(&mut blocks, node);
         least = lowest(least, node.0, state_holds(listing, node, &blocks));
     }
     least

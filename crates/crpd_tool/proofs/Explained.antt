@@ -2,7 +2,6 @@
 use Rattle.std.proofs.Common.{◌≡◌, ℕ, ◌<◌, List, Result, Ok, length, ap, sym, subst, ◌∙◌, refl, arith}
 use Rattle.crpd_base.specs.declared.data.Certificate.{Certificate}
 use Rattle.crpd_base.specs.declared.data.Script.{Script}
-use Rattle.crpd_base.specs.declared.data.ScriptJob.{ScriptJob}
 use Rattle.crpd_base.specs.declared.data.TaskSet.{TaskSet}
 use Rattle.code_map.specs.Words.{word_at}
 use Rattle.script_reader.specs.Legal.{IsLegal}
@@ -10,25 +9,29 @@ use Rattle.script_reader.specs.Reading as script_reader
 use Rattle.script_reader.proofs.Found.{found_in}
 use Rattle.loop_regions.specs.TaskGraph.{TaskGraph}
 use Rattle.cert_check.specs.Answered.{answer_of}
-use Rattle.cert_check.specs.declared.outcome.Clause.TheVariants.{States, TaskSets, UsefulSets}
+use Rattle.cert_check.proofs.Clauses.{yes_meets_listing, yes_meets_sets}
 use Rattle.cert_check.specs.Judge.{IsGraphOf}
 use Rattle.cert_check.specs.Verdict.{IsJudged, Yes}
 use Rattle.cert_check.specs.Shown.{shown_at}
 use Rattle.cert_check.specs.declared.outcome.Verdict.{Verdict}
 use Rattle.cert_check.specs.declared.outcome.Verdict.TheVariants as verdict
-use Rattle.preempt_machine.specs.Machine.{no_job, plan_of}
+use Rattle.preempt_machine.specs.Machine.{plan_of}
 use Rattle.preempt_machine.specs.Safe.{IsKept, NamesTasks, system_of}
 use Rattle.preempt_machine.specs.Step.{Start}
 use Rattle.run_account.specs.Account.{HasAccountFacts, IsAccount}
 use Rattle.run_account.specs.Facts.{AreSetsMet, LedgerFacts}
 use Rattle.run_account.specs.Fetches.{HasCache}
 use Rattle.run_account.specs.Nodes.{task_of}
-use Rattle.run_account.specs.Walks.{HasGraphs}
+use Rattle.run_account.specs.Walks.{HasGraphs, AreStatesMet}
 use Rattle.preempt_machine.specs.Starts.{start_of_script}
 use Rattle.run_account.specs.declared.told.Account.{Account}
-use Rattle.run_account.proofs.Jobs.{line_is}
 use Rattle.preempt_machine.proofs.Loads.{start_cache_length}
+use Rattle.sound_laws.specs.Walks.{IsCodeOf}
 use Rattle.sound_laws.specs.Within.{CheckedAccountIsWithinDelays, IsChecked, IsWithinDelays}
+use Rattle.sound_laws.proofs.Headline.InRange.{in_range}
+use Rattle.sound_laws.proofs.Headline.Within.{code_of}
+use Rattle.sound_laws.proofs.Reloads.OwnFetches.{has_graphs}
+use Rattle.sound_laws.proofs.Walks.KeptWalks.{task_below}
 use Rattle.crpd_io.specs.Outside.{Contents}
 use Rattle.crpd_input.specs.declared.input.Input.{Input}
 use Rattle.crpd_input.specs.declared.halt.Halt.{Halt}
@@ -68,26 +71,6 @@ module _ (input : Input) (shapes : Shapes) (c : Certificate) (given : Script) (i
   built : (k : ℕ) → k < length input.set.tasks → IsGraphOf (word_at input.code.images) (plan_of (system_of input.set input.code) k) (graphs k)
   built = shapes_built input shapes is planned shaped
 
-  task_below : (x : ℕ) → x < length given.jobs → task_of start x < length input.set.tasks
-  task_below x h = subst (λ (l : ScriptJob). l.task.0 < length input.set.tasks) (sym (line_is start 0 x h)) (named x no_job.line h)
-
-  has_graphs : HasGraphs start graphs
-  has_graphs =
-      record {
-        code = is.words;
-        hit = is.ranges.platform.hit.0;
-        graph = λ x h. let g = built (task_of start x) (task_below x h) in record { follows = g.follows; no_errors = g.no_errors };
-      }
-
-  sets_met : AreSetsMet start graphs c
-  sets_met x h =
-      let lt = task_below x h in
-      record {
-        states = λ u l. judged (task_of start x) (States u) lt l;
-        useful = λ u l. judged (task_of start x) (UsefulSets u) lt l;
-        sets = λ u l. judged (task_of start x) (TaskSets u) lt l;
-      }
-
   cached : HasCache start
   cached =
       let sets = is.ranges.platform.sets in
@@ -103,13 +86,30 @@ module _ (input : Input) (shapes : Shapes) (c : Certificate) (given : Script) (i
         says = judged;
       }
 
+  -- what the laws on ledgers ask of the run
+  in_code : IsCodeOf start.system input.set graphs
+  in_code = code_of input.set input.code graphs c checked
+
+  graphs_here : HasGraphs start graphs
+  graphs_here = has_graphs start input.set graphs (in_range input.set is.ranges) in_code named
+
+  below : (x : ℕ) → x < length given.jobs → task_of start x < length input.set.tasks
+  below x h = task_below start input.set graphs (in_range input.set is.ranges) in_code named x h
+
+  states_met : AreStatesMet start graphs c
+  states_met x h =
+      (yes_meets_listing input.set graphs c (task_of start x) judged (below x h)).states
+
+  sets_met : AreSetsMet start graphs c
+  sets_met x h = yes_meets_sets input.set graphs c (task_of start x) judged (below x h)
+
   account_facts : LedgerFacts → (a : Account) → IsAccount start graphs c given.cycles a → HasAccountFacts start graphs c given.cycles a
   account_facts facts_law a I =
       record {
         ledger = I.ledger;
         is_ledger = I.is_ledger;
         entries = I.entries;
-        facts = facts_law start graphs c given.cycles I.ledger cached has_graphs sets_met I.is_ledger;
+        facts = facts_law start graphs c given.cycles I.ledger cached graphs_here states_met sets_met I.is_ledger;
       }
 
   within_delays : CheckedAccountIsWithinDelays → (a : Account) → IsAccount start graphs c given.cycles a → IsLegal input.set given.jobs → IsKept (run_of input given) → IsWithinDelays input.set input.code given c a

@@ -17,11 +17,12 @@ use Rattle.evict_sets.specs.Certificate.{no_cert}
 use Rattle.evict_sets.specs.Listing.{HasLowSets}
 use Rattle.cert_check.specs.Shown.{shown_at}
 use Rattle.cert_check.specs.Answered.{answer_of}
-use Rattle.cert_check.specs.declared.outcome.Clause.TheVariants.{Deadline, HasTask, Last, Leaders, Response, States}
+use Rattle.cert_check.specs.declared.outcome.Clause.TheVariants.{Deadline, HasTask, Last, Response}
 use Rattle.cert_check.specs.Verdict.{IsJudged, Yes}
+use Rattle.cert_check.proofs.Clauses.{yes_meets_listing}
 use Rattle.cert_check.specs.declared.outcome.Verdict.TheVariants as verdict
 use Rattle.cert_model.specs.Ranges.{IsCertificate}
-use Rattle.run_account.specs.Shown.{AreGraphsOf, StatesAreMet}
+use Rattle.run_account.specs.Shown.{AreGraphsOf, TasksAreMet}
 use Rattle.crpd_input.specs.declared.input.Input.{Input}
 use Rattle.crpd_input.specs.declared.shapes.Shapes.{Shapes}
 use Rattle.crpd_input.specs.declared.halt.Halt.{Halt}
@@ -53,17 +54,14 @@ graphs_of input shapes shaped =
     }
 
 module _ (set : TaskSet) (shapes : Shapes) (c : Certificate) (judged : IsJudged set (shown_at shapes.graphs shapes.nests) c Yes) where
-  -- every leader is listed, and clause 3 holds
-  pub states_met : IsCertificate c → StatesAreMet set shapes.graphs c
-  states_met is i lt =
+  -- what an account asks of each task
+  pub tasks_met : IsCertificate c → TasksAreMet set shapes.graphs c
+  tasks_met is i lt =
       let has : i < length c.tasks = judged i HasTask lt in
       record {
         has_task = has;
-        states = record {
-          low_sets = All-get_or HasLowSets c.tasks i no_cert has (in_range c is).sets;
-          leaders = (judged i Leaders lt).1;
-          states = λ u below. judged i (States u) lt below;
-        };
+        low_sets = All-get_or HasLowSets c.tasks i no_cert has (in_range c is).sets;
+        listing = yes_meets_listing set (shown_at shapes.graphs shapes.nests) c i judged lt;
       }
 
   -- there is a window for each task, within its deadline

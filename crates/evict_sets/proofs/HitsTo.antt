@@ -1,4 +1,4 @@
--- Which nodes are counted as hits, along an order of the nodes.
+-- Full states as blocks, and which nodes are counted as hits, along an order of the nodes.
 use Rattle.std.proofs.Common.{◌≡◌, ◌≢◌, ◌↔◌, ℕ, ◌+◌, ◌<◌, ◌≤◌, Bool, false, List, length, set, Option, IsTrue, IsFalse, sym, ap, ◌∙◌, subst, ⊎_elim, arith, get_or-set_same, get_or-set_other}
 use Rattle.std.specs.Prelude.{slice_index}
 use Rattle.std.proofs.lemmas.Bool.{cases_eq, both_ways}
@@ -10,27 +10,42 @@ use Rattle.evict_sets.specs.Listing.{IsStateAt, IsStateAfter, IsOrder, counted}
 use Rattle.evict_sets.proofs.FullBlocks.{state_behind}
 
 module _ (g : Graph) (a : Accesses) (l : Listed) where
-  -- the nodes before place k are told, and the blocks are the state of an unlisted node there
-  pub record HitsTo (order : List ℕ) (blocks : List (Option ℕ)) (hits : List Bool) (k : ℕ) : Type 0 where
+  -- the blocks are the state of an unlisted node at place k
+  pub record BlocksTo (order : List ℕ) (blocks : List (Option ℕ)) (k : ℕ) : Type 0 where
     pub room : length blocks ≡ 512
     pub follows : k < g.size → IsFalse (l.is_listed (slice_index order k)) → IsStateAt g a l (slice_index order k) blocks
-    pub hit : (j : ℕ) → j < k → IsTrue (counted hits (slice_index order j)) ↔ IsHit g a l (slice_index order j)
 
-  pub hits_start : (order : List ℕ) (blocks : List (Option ℕ)) (hits : List Bool) → IsOrder g l order → length blocks ≡ 512 → HitsTo order blocks hits 0
-  hits_start order blocks hits O room = record {
+  pub blocks_start : (order : List ℕ) (blocks : List (Option ℕ))
+      → IsOrder g l order → length blocks ≡ 512 → BlocksTo order blocks 0
+  blocks_start order blocks O room = record {
     room = room;
     follows = λ lt out. absurd (both_ways (l.is_listed (slice_index order 0)) out (O.start lt));
-    hit = λ j lt. absurd (omega arith);
   }
+
+  -- the state after a node is that of an unlisted one behind it
+  pub blocks_more : (order : List ℕ) (new : List (Option ℕ)) (k node : ℕ)
+      → IsOrder g l order → ListsLeaders g l → slice_index order k ≡ node
+      → length new ≡ 512 → IsStateAfter g a l node new → BlocksTo order new (k + 1)
+  blocks_more order new k node O leaders at room S = record {
+    room = room;
+    follows = λ within out.
+        let e = O.before k within out in
+        state_behind g a l node (slice_index order (k + 1)) new leaders (O.nodes (k + 1) within)
+        (subst (λ x. Edge g x (slice_index order (k + 1))) at e) out S;
+  }
+
+  -- and the nodes before place k are told to be hits or not
+  pub record HitsTo (order : List ℕ) (blocks : List (Option ℕ)) (hits : List Bool) (k : ℕ)
+      : Type 0 where
+    pub state : BlocksTo order blocks k
+    pub hit : (j : ℕ) → j < k
+        → IsTrue (counted hits (slice_index order j)) ↔ IsHit g a l (slice_index order j)
 
   pub hits_more : (order : List ℕ) (blocks new : List (Option ℕ)) (hits : List Bool) (k node : ℕ) (b : Bool) → IsOrder g l order → ListsLeaders g l → k < g.size → slice_index order k ≡ node → length hits ≡ g.size
       → length new ≡ 512 → IsStateAfter g a l node new → IsTrue b ↔ IsHit g a l node
       → HitsTo order blocks hits k → HitsTo order new (set hits node b) (k + 1)
   hits_more order blocks new hits k node b O leaders lt at count room S test H = record {
-    room = room;
-    follows = λ within out.
-        let e = O.before k within out in
-        state_behind g a l node (slice_index order (k + 1)) new leaders (O.nodes (k + 1) within) (subst (λ x. Edge g x (slice_index order (k + 1))) at e) out S;
+    state = blocks_more order new k node O leaders at room S;
     hit = λ j j_lt. ⊎_elim
         (λ (same : slice_index order j ≡ node). subst (λ x. IsTrue (counted (set hits node b) x) ↔ IsHit g a l x) (sym same) (here (get_or-set_same hits node b false inside)))
         (λ ne.

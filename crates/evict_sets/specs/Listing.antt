@@ -1,8 +1,7 @@
 -- A task's graph with what its part of a certificate lists: full states as the blocks of the cache sets, an order of the
--- nodes, which nodes are counted as hits, and what is asked of the listing.
+-- nodes, and which nodes are counted as hits.
 use Rattle.std.specs.Prelude.{◌≡◌, ◌↔◌, ℕ, ◌+◌, ◌<◌, Bool, false, List, length, All, Option, Some, slice_get, slice_index, slice_index_or, IsTrue, IsFalse}
 use Rattle.crpd_base.specs.Ranges.{IsPlatform}
-use Rattle.crpd_base.specs.Sets.{has}
 use Rattle.crpd_base.specs.declared.data.Platform.{Platform}
 use Rattle.crpd_base.specs.declared.data.NodeState.{NodeState}
 use Rattle.crpd_base.specs.declared.data.TaskPart.{TaskPart}
@@ -11,7 +10,7 @@ use Rattle.icache.specs.Accesses.{Accesses, accesses}
 use Rattle.flat_graph.specs.Graph.{Graph, Edge}
 use Rattle.flat_graph.specs.CodeGraph.{CodeGraph, graph_of, places_of}
 use Rattle.evict_sets.specs.Full.{Listed, FullState, IsHit}
-use Rattle.evict_sets.specs.Clauses.{ListsLeaders, StateAfter, StatesMeet, UsefulMeets, SetsMeet}
+use Rattle.evict_sets.specs.Clauses.{ListsLeaders, StateAfter}
 use Rattle.evict_sets.specs.Certificate.{entry_of, listed_of}
 
 -- the accesses of a graph's nodes
@@ -26,18 +25,6 @@ pub record IsIndex (states : List NodeState) (size : ℕ) (places : List ℕ) : 
 -- the cache sets of the listed states are below 512
 abbrev pub HasLowSets : TaskPart → Type 0
 HasLowSets t = All (λ (s : NodeState). All (λ (x : ℕ × ℕ). x.0 < 512) s.sure) t.states
-
--- of the clauses of a certificate those that the full states of a task's graph rest on: the cache sets of the listed states
--- are below 512, every leader is listed, and clause 3 holds at each node
-pub record MeetsStates (p : Platform) (g : CodeGraph) (t : TaskPart) : Type 0 where
-  pub low_sets : HasLowSets t
-  pub leaders : ListsLeaders (graph_of g) (listed_of t)
-  pub states : (u : ℕ) → u < length g.nodes → StatesMeet (graph_of g) (fetches p g) (listed_of t) u
-
--- and those that its useful sets and the task's sets rest on besides: clauses 4 and 5 hold at each node
-pub record MeetsUseful (p : Platform) (g : CodeGraph) (t : TaskPart) : Type 0 where
-  pub useful : (u : ℕ) → u < length g.nodes → UsefulMeets (graph_of g) (fetches p g) (listed_of t) u
-  pub sets : (u : ℕ) → u < length g.nodes → SetsMeet (graph_of g) (fetches p g) (listed_of t) (has t.part.evicting) (has t.part.useful) u
 
 -- the platform and the part are in their ranges, the places are those of the part's entries, and the leaders are listed
 pub record IsListing (p : Platform) (g : CodeGraph) (t : TaskPart) (places : List ℕ) : Type 0 where

@@ -42,8 +42,10 @@ impl Listing<'_> {
         access(blocks, self.cache_set(node), self.block(node))
     }
 
-    /// Writes which nodes are counted as hits. Linear in the nodes and the listed states.
-    fn write_hits(&self, order: &[u32], hits: &mut [bool])
+    /// Writes which nodes are counted as hits: those whose full state gives the node's cache set the
+    /// node's block. It is one sweep along an order of the nodes, as `write_order` writes it. Linear
+    /// in the nodes and the listed states. It takes no memory.
+    pub fn write_hits(&self, order: &[u32], hits: &mut [bool])
         requires case { IsListing self.now.platform.now self.now.graph.now self.now.part.now self.now.places.now }
         requires order { IsOrder (graph_of self.now.graph.now) (listed_of self.now.part.now) order.now }
         requires count { length hits.old ≡ (graph_of self.now.graph.now).size }

@@ -1,8 +1,8 @@
 // The nodes that are surely hits, from the nodes' states.
-ghost use Rattle.std.specs.Prelude.{◌≡◌, ◌≤◌, ◌<◌, ◌↔◌, ℕ, false, length, slice_index_or, IsTrue, IfOk};
+ghost use Rattle.std.specs.Prelude.{◌≡◌, ◌≤◌, false, length, slice_index_or, IfOk};
 ghost use Rattle.icache.specs.Accesses.{accesses};
 ghost use Rattle.flat_graph.specs.CodeGraph.{graph_of, places_of};
-ghost use Rattle.must_cache.specs.Sure.{IsSureHit};
+ghost use Rattle.must_cache.specs.Sure.{CountsSureHits};
 ghost use Rattle.must_cache.specs.States.{AreSure};
 
 use crate::state::{MustState, is_hit};
@@ -22,8 +22,9 @@ pub fn hits_of_states<const S: usize>(
     requires room { geometry.now.platform.sets ≤ S }
     requires sure { AreSure (graph_of graph.now) (accesses geometry.now.platform (places_of graph.now).address) must.now }
     ensures count { IfOk result (λ hits. length hits.items ≡ (graph_of graph.now).size) }
-    ensures each { IfOk result (λ hits. (y : ℕ) → y < (graph_of graph.now).size →
-        IsTrue (slice_index_or hits.items y false) ↔ IsSureHit (graph_of graph.now) (accesses geometry.now.platform (places_of graph.now).address) y) }
+    ensures each { IfOk result (λ hits. CountsSureHits (graph_of graph.now)
+        (accesses geometry.now.platform (places_of graph.now).address)
+        (λ y. slice_index_or hits.items y false)) }
 {
     let mut hits = Vec::with_capacity(alloc, must.len())?;
     for node in 0..graph.len() {

@@ -5,7 +5,7 @@ ghost use Rattle.icache.specs.Accesses.{accesses};
 ghost use Rattle.flat_graph.specs.Graph.{IsLeader};
 ghost use Rattle.flat_graph.specs.CodeGraph.{graph_of, places_of};
 ghost use Rattle.must_cache.specs.Marks.{sets_at};
-ghost use Rattle.must_cache.specs.Sure.{Sure, IsSureHit};
+ghost use Rattle.must_cache.specs.Sure.{Sure, CountsSureHits};
 ghost use Rattle.must_cache.specs.Walks.{AreSureParts};
 
 use crate::edge_pairs::edges;
@@ -169,8 +169,9 @@ pub fn sure_hits<const S: usize, const W: usize>(
     requires few { 64 * W ≤ 65536 }
     requires room_for_sets { S ≤ 64 * W }
     ensures count { IfOk result (λ hits. length hits.items ≡ (graph_of graph.now).size) }
-    ensures each { IfOk result (λ hits. (y : ℕ) → y < (graph_of graph.now).size →
-        IsTrue (slice_index_or hits.items y false) ↔ IsSureHit (graph_of graph.now) (accesses geometry.now.platform (places_of graph.now).address) y) }
+    ensures each { IfOk result (λ hits. CountsSureHits (graph_of graph.now)
+        (accesses geometry.now.platform (places_of graph.now).address)
+        (λ y. slice_index_or hits.items y false)) }
 {
     let parts = sure_parts::<S, W>(alloc, graph, geometry)?;
     Ok(parts.hits)

@@ -7,10 +7,10 @@ use Rattle.run_account.specs.Account.{IsAccount, HasAccountFacts}
 use Rattle.run_account.specs.Facts.{AreSetsMet}
 use Rattle.run_account.specs.Nodes.{task_of}
 use Rattle.run_account.specs.Runs.{start_in, certificate_in, IsReady}
-use Rattle.run_account.specs.Shown.{with_nests, UsefulIsMet}
+use Rattle.run_account.specs.Shown.{with_nests, SetsAreMet}
 use Rattle.run_account.specs.Walks.{HasGraphs}
 use Rattle.run_account.proofs.EntryFacts.{ledger_facts}
-use Rattle.run_account.proofs.Ready.{cached, task_below, has_graphs}
+use Rattle.run_account.proofs.Ready.{cached, task_below, has_graphs, states_met}
 
 module _ (r : Run) (R : IsReady r) (nests : ℕ → Nest) where
   -- regions play no part
@@ -19,18 +19,14 @@ module _ (r : Run) (R : IsReady r) (nests : ℕ → Nest) where
       let G = has_graphs r R in
       record { code = G.code; hit = G.hit; graph = λ x h. let g = G.graph x h in record { follows = g.follows; no_errors = g.no_errors } }
 
-  sets_met : UsefulIsMet r.set.now r.graphs.now r.certificate.now → AreSetsMet (start_in r) (with_nests r.graphs.now nests) (certificate_in r)
-  sets_met U x h =
-      let l = task_below r R x h in
-      let S = R.states (task_of (start_in r) x) l in
-      let M = U (task_of (start_in r) x) l in
-      record { states = S.states.states; useful = M.useful; sets = M.sets }
+  sets_met : SetsAreMet r.set.now r.graphs.now r.certificate.now → AreSetsMet (start_in r) (with_nests r.graphs.now nests) (certificate_in r)
+  sets_met U x h = U (task_of (start_in r) x) (task_below r R x h)
 
-  pub account_facts : UsefulIsMet r.set.now r.graphs.now r.certificate.now → (n : ℕ) (a : Account) → IsAccount (start_in r) (with_nests r.graphs.now nests) (certificate_in r) n a → HasAccountFacts (start_in r) (with_nests r.graphs.now nests) (certificate_in r) n a
+  pub account_facts : SetsAreMet r.set.now r.graphs.now r.certificate.now → (n : ℕ) (a : Account) → IsAccount (start_in r) (with_nests r.graphs.now nests) (certificate_in r) n a → HasAccountFacts (start_in r) (with_nests r.graphs.now nests) (certificate_in r) n a
   account_facts U n a I =
       record {
         ledger = I.ledger;
         is_ledger = I.is_ledger;
         entries = I.entries;
-        facts = ledger_facts (start_in r) (with_nests r.graphs.now nests) (certificate_in r) n I.ledger (cached r R) graphs_with (sets_met U) I.is_ledger;
+        facts = ledger_facts (start_in r) (with_nests r.graphs.now nests) (certificate_in r) n I.ledger (cached r R) graphs_with (states_met r R) (sets_met U) I.is_ledger;
       }

@@ -11,7 +11,8 @@ use Rattle.evict_sets.specs.Certificate.{listed_of, cert_at}
 use Rattle.evict_sets.proofs.FullLaws.{hit_test_law}
 use Rattle.preempt_machine.specs.Machine.{Job}
 use Rattle.preempt_machine.specs.Step.{Fetch, Start, state, fetch_at}
-use Rattle.run_account.specs.Causes.{AreLeadersMet, EntryHasCauses, RunHasLedger}
+use Rattle.run_account.specs.Causes.{EntryHasCauses, RunHasLedger, AreListingsMet}
+use Rattle.preempt_machine.proofs.Steps.{none_some}
 use Rattle.run_account.specs.Fetches.{job_of, fetched_set, HasCache}
 use Rattle.run_account.specs.Ledger.{IsEntry, LedgerEntry, IsLedger}
 use Rattle.run_account.specs.Nodes.{task_of, node_of}
@@ -54,7 +55,7 @@ kept_or_not (j ∷ jobs) =
       | inl b ↦ elim (kept_or_not jobs) [ inl h ↦ inl (kept_front j jobs b h) | inr never ↦ inr (λ h. never (λ k d l. h (suc k) d (omega (arith, l)))) ]
     ]
 
-module _ (s : Start) (graphs : ℕ → TaskGraph) (c : Certificate) (cached : HasCache s) (A : HasGraphs s graphs) (S : AreLeadersMet s graphs c) where
+module _ (s : Start) (graphs : ℕ → TaskGraph) (c : Certificate) (cached : HasCache s) (A : HasGraphs s graphs) (S : AreListingsMet s graphs c) where
   -- an entry of step n, and none
   abbrev SomeEntry : ℕ → Type 0
   SomeEntry n = (x : ℕ) × (f : Fetch) × IsEntry s graphs c n x f

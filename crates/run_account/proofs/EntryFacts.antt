@@ -11,16 +11,18 @@ use Rattle.icache.specs.Cache.{block_of, set_of}
 use Rattle.flat_graph.specs.Graph.{IsWalk, onto}
 use Rattle.loop_regions.specs.TaskGraph.{TaskGraph}
 use Rattle.evict_sets.specs.Full.{IsHit, FullUseful}
+use Rattle.evict_sets.specs.Clauses.{MeetsSets}
 use Rattle.evict_sets.specs.Certificate.{listed_of, cert_at}
 use Rattle.evict_sets.proofs.WalkLaws.{first_here, first_on, walk_carry_law}
 use Rattle.preempt_machine.specs.Safe.{IsKept}
 use Rattle.preempt_machine.specs.Step.{before, Fetch, Start, state}
 use Rattle.run_account.specs.Facts.{MeetsSets, AreSetsMet, IsOfHigher, AreDistinct, LedgerFacts}
+use Rattle.preempt_machine.proofs.Steps.{none_some}
 use Rattle.run_account.specs.Fetches.{job_of, fetched_set, HasCache}
 use Rattle.run_account.specs.Ledger.{LedgerEntry, IsOfRun}
 use Rattle.run_account.specs.Nodes.{task_of, node_of}
 use Rattle.run_account.specs.Reloads.{FetchesAt, IsReload, IsEvictor, IsPreemptor, IsPassing}
-use Rattle.run_account.specs.Walks.{fetched_nodes, HasGraphs, IsReloaded}
+use Rattle.run_account.specs.Walks.{fetched_nodes, HasGraphs, AreStatesMet, IsReloaded}
 use Rattle.run_account.proofs.Gaps.{one_gap_per_preemptor}
 use Rattle.run_account.proofs.JobWalks.{nodes_fetch, kept_one, each_kept, address_at, pc_of, fetcher_below, entry_is_reload, nodes_step}
 use Rattle.run_account.proofs.OneLedger.{last_job}
@@ -93,7 +95,7 @@ module _ (s : Start) (graphs : ℕ → TaskGraph) (A : HasGraphs s graphs) (x : 
         ]
 
     -- so the set is in the useful set of the node of the fetch at c, where the job hits it by its state at step n
-    pub carried_to : (cert : TaskPart) → MeetsSets s.system.platform tg cert → c ≤ n → (g : Fetch) → FetchesAt s x n g → fetched_set s g ≡ target → IsHit tg.graph acc (listed_of cert) (node_of tg (job_of s n x)) → FullUseful tg.graph acc (listed_of cert) (node_of tg (job_of s c x)) target
+    pub carried_to : (cert : TaskPart) → MeetsSets tg.graph acc (listed_of cert) (has cert.part.evicting) (has cert.part.useful) → c ≤ n → (g : Fetch) → FetchesAt s x n g → fetched_set s g ≡ target → IsHit tg.graph acc (listed_of cert) (node_of tg (job_of s n x)) → FullUseful tg.graph acc (listed_of cert) (node_of tg (job_of s c x)) target
     carried_to cert M l g ends to_set hit =
         let k = kept n (omega arith) in
         let N = address_at s graphs A x h n g ends (each_kept s graphs n x h k) in
@@ -112,10 +114,12 @@ module _ (s : Start) (graphs : ℕ → TaskGraph) (A : HasGraphs s graphs) (x : 
               walk_carry_law tg.graph acc (listed_of cert) (node_of tg (job_of s c x)) target (node_of tg (job_of s n x)) (fetched_nodes s graphs c x) (is.later ++ node_of tg (job_of s n x) ∷ []) G M.useful (subst (λ w. IsWalk tg.graph w) all N.walk) first hit
         ]
 
-module _ (s : Start) (graphs : ℕ → TaskGraph) (c : Certificate) (cached : HasCache s) (A : HasGraphs s graphs) (M : AreSetsMet s graphs c) where
+module _ (s : Start) (graphs : ℕ → TaskGraph) (c : Certificate)
+    (cached : HasCache s) (A : HasGraphs s graphs)
+    (S : AreStatesMet s graphs c) (M : AreSetsMet s graphs c) where
   -- an entry is a reload
   reload_of : (e : LedgerEntry) (r : IsOfRun s graphs c e) → IsReloaded s e.job e.time r.evicted.fetch
-  reload_of e r = entry_is_reload s graphs c e.time e.job r.evicted.fetch A (λ k h. (M k h).states) r.evicted.entry
+  reload_of e r = entry_is_reload s graphs c e.time e.job r.evicted.fetch A S r.evicted.entry
 
   fetch_of : (e : LedgerEntry) (r : IsOfRun s graphs c e) → r.preempted.fetch ≡ r.evicted.fetch
   fetch_of e r = same_fetch s e.time r.preempted.fetch r.evicted.fetch r.preempted.entry.fetches.is r.evicted.entry.fetches.is
@@ -248,10 +252,10 @@ module _ (s : Start) (graphs : ℕ → TaskGraph) (c : Certificate) (cached : Ha
       }
 
 pub ledger_facts : LedgerFacts
-ledger_facts s graphs c n ledger cached A M L =
+ledger_facts s graphs c n ledger cached A S M L =
     record {
-      of_higher = λ k e l r. of_higher s graphs c cached A M (get_or ledger k e) r;
+      of_higher = λ k e l r. of_higher s graphs c cached A S M (get_or ledger k e) r;
       distinct = λ i j d l m.
           let early : i < length ledger = omega arith in
-          distinct s graphs c cached A M (get_or ledger i d) (get_or ledger j d) (L.entries i d early).1 (L.entries j d m).1 (L.in_order i j d l m);
+          distinct s graphs c cached A S M (get_or ledger i d) (get_or ledger j d) (L.entries i d early).1 (L.entries j d m).1 (L.in_order i j d l m);
     }

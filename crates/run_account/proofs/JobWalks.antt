@@ -16,7 +16,7 @@ use Rattle.flat_graph.specs.Numbered.{node_at}
 use Rattle.loop_regions.specs.Steps.{Step, place_after, nodes_along}
 use Rattle.loop_regions.specs.TaskGraph.{TaskGraph}
 use Rattle.evict_sets.specs.Full.{IsHit}
-use Rattle.evict_sets.specs.Clauses.{StatesMeet}
+use Rattle.evict_sets.specs.Clauses.{AllStatesMeet}
 use Rattle.evict_sets.specs.Certificate.{listed_of, cert_at}
 use Rattle.evict_sets.proofs.WalkLaws.{last_here, last_on, last_access_law, on_walk}
 use Rattle.preempt_machine.specs.Machine.{Job, plan_of, no_job}
@@ -217,7 +217,8 @@ module _ (s : Start) (graphs : ℕ → TaskGraph) (A : HasGraphs s graphs) (x : 
       own_more n c b (fetch_at s n) refl kn (own_of_nodes n c b kn) e
 
   -- a fetch at a node that is counted as a hit, and that misses
-  module _ (c : Certificate) (M : (u : ℕ) → u < own_graph.graph.size → StatesMeet own_graph.graph acc (listed_of (cert_at c (task_of s x))) u) where
+  module _ (c : Certificate)
+      (M : AllStatesMeet own_graph.graph acc (listed_of (cert_at c (task_of s x)))) where
     pub own_block : (n : ℕ) (f : Fetch) → FetchesAt s x n f → is_kept (job_of s n x).watch ≡ true → IsHit own_graph.graph acc (listed_of (cert_at c (task_of s x))) (node_of own_graph (job_of s n x)) → HasOwn s x (fetched_set s f) n (block_in s f)
     own_block n f made k hit =
         let N = address_at n f made k in

@@ -1,11 +1,9 @@
 -- Every entry of a run has an evictor and a preemptor, so a run has a ledger.
 use Rattle.std.specs.Prelude.{ℕ, ◌<◌, List, length}
 use Rattle.crpd_base.specs.declared.data.Certificate.{Certificate}
-use Rattle.crpd_base.specs.declared.data.Platform.{Platform}
-use Rattle.crpd_base.specs.declared.data.TaskPart.{TaskPart}
 use Rattle.icache.specs.Accesses.{accesses}
 use Rattle.loop_regions.specs.TaskGraph.{TaskGraph}
-use Rattle.evict_sets.specs.Clauses.{ListsLeaders, StatesMeet}
+use Rattle.evict_sets.specs.Clauses.{MeetsListing}
 use Rattle.evict_sets.specs.Certificate.{listed_of, cert_at}
 use Rattle.preempt_machine.specs.Step.{Fetch, Start}
 use Rattle.run_account.specs.Fetches.{fetched_set, HasCache}
@@ -13,15 +11,13 @@ use Rattle.run_account.specs.Ledger.{IsEntry, LedgerEntry, IsOfRun, IsLedger}
 use Rattle.run_account.specs.Nodes.{task_of}
 use Rattle.run_account.specs.Walks.{HasGraphs}
 
--- every leader of a task's graph is listed, and clause 3 holds at each node
-pub record MeetsLeaders (p : Platform) (t : TaskGraph) (c : TaskPart) : Type 0 where
-  pub leaders : ListsLeaders t.graph (listed_of c)
-  pub states : (u : ℕ) → u < t.graph.size → StatesMeet t.graph (accesses p t.places.address) (listed_of c) u
-
--- and so it is for the task of each job of the script
-abbrev pub AreLeadersMet : Start → (ℕ → TaskGraph) → Certificate → Type 0
-AreLeadersMet s graphs c =
-    (x : ℕ) → x < length s.lines → MeetsLeaders s.system.platform (graphs (task_of s x)) (cert_at c (task_of s x))
+-- what is listed for the task of each job of the script meets the clauses on which full states rest
+abbrev pub AreListingsMet : Start → (ℕ → TaskGraph) → Certificate → Type 0
+AreListingsMet s graphs c =
+    (x : ℕ) → x < length s.lines →
+    let t = graphs (task_of s x) in
+    let p = cert_at c (task_of s x) in
+    MeetsListing t.graph (accesses s.system.platform t.places.address) (listed_of p)
 
 -- with an evictor and a preemptor an entry of job x at step n is one of the ledger
 pub record HasCauses (s : Start) (graphs : ℕ → TaskGraph) (c : Certificate) (n x : ℕ) (f : Fetch) : Type 0 where
@@ -33,10 +29,12 @@ pub record HasCauses (s : Start) (graphs : ℕ → TaskGraph) (c : Certificate) 
 abbrev pub EntryHasCauses : Type 0
 EntryHasCauses =
     (s : Start) (graphs : ℕ → TaskGraph) (c : Certificate) (n x : ℕ) (f : Fetch) →
-    HasCache s → HasGraphs s graphs → AreLeadersMet s graphs c → IsEntry s graphs c n x f → HasCauses s graphs c n x f
+    HasCache s → HasGraphs s graphs → AreListingsMet s graphs c →
+    IsEntry s graphs c n x f → HasCauses s graphs c n x f
 
 -- so there is a ledger of the first n steps
 abbrev pub RunHasLedger : Type 0
 RunHasLedger =
     (s : Start) (graphs : ℕ → TaskGraph) (c : Certificate) (n : ℕ) →
-    HasCache s → HasGraphs s graphs → AreLeadersMet s graphs c → (ledger : List LedgerEntry) × IsLedger s graphs c n ledger
+    HasCache s → HasGraphs s graphs → AreListingsMet s graphs c →
+    (ledger : List LedgerEntry) × IsLedger s graphs c n ledger

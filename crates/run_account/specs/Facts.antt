@@ -2,29 +2,26 @@
 -- preemptor.
 use Rattle.std.specs.Prelude.{◌≡◌, ◌≢◌, ◌⊎◌, ℕ, ◌<◌, true, IsTrue, List, length, All, AllPairs}
 use Rattle.crpd_base.specs.declared.data.Certificate.{Certificate}
-use Rattle.crpd_base.specs.declared.data.Platform.{Platform}
-use Rattle.crpd_base.specs.declared.data.TaskPart.{TaskPart}
 use Rattle.crpd_base.specs.Sets.{has}
 use Rattle.icache.specs.Accesses.{accesses}
 use Rattle.loop_regions.specs.TaskGraph.{TaskGraph}
 use Rattle.evict_sets.specs.Full.{FullUseful}
-use Rattle.evict_sets.specs.Clauses.{StatesMeet, UsefulMeets, SetsMeet}
+use Rattle.evict_sets.specs.Clauses.{MeetsSets}
 use Rattle.evict_sets.specs.Certificate.{listed_of, cert_at}
 use Rattle.preempt_machine.specs.Step.{before, Start, state}
 use Rattle.run_account.specs.Fetches.{job_of, HasCache}
 use Rattle.run_account.specs.Ledger.{LedgerEntry, IsOfRun, IsLedger}
 use Rattle.run_account.specs.Nodes.{task_of, node_of}
-use Rattle.run_account.specs.Walks.{HasGraphs}
+use Rattle.run_account.specs.Walks.{HasGraphs, AreStatesMet}
 
--- clauses 3 to 5 at each node of a task's graph
-pub record MeetsSets (p : Platform) (t : TaskGraph) (c : TaskPart) : Type 0 where
-  pub states : (u : ℕ) → u < t.graph.size → StatesMeet t.graph (accesses p t.places.address) (listed_of c) u
-  pub useful : (u : ℕ) → u < t.graph.size → UsefulMeets t.graph (accesses p t.places.address) (listed_of c) u
-  pub sets : (u : ℕ) → u < t.graph.size → SetsMeet t.graph (accesses p t.places.address) (listed_of c) (has c.part.evicting) (has c.part.useful) u
-
--- and of the task of each job of the script
+-- clauses 4 and 5 hold at each node of the graph of each job's task
 abbrev pub AreSetsMet : Start → (ℕ → TaskGraph) → Certificate → Type 0
-AreSetsMet s graphs c = (x : ℕ) → x < length s.lines → MeetsSets s.system.platform (graphs (task_of s x)) (cert_at c (task_of s x))
+AreSetsMet s graphs c =
+    (x : ℕ) → x < length s.lines →
+    let t = graphs (task_of s x) in
+    let p = cert_at c (task_of s x) in
+    MeetsSets t.graph (accesses s.system.platform t.places.address) (listed_of p)
+    (has p.part.evicting) (has p.part.useful)
 
 -- an entry's evictor and preemptor are of higher tasks than its job, and the evictor does not come after the preemptor.
 -- Its set is in the evictor's evicting set, in its task's useful set, and in the useful set of the full state of the node
@@ -54,4 +51,5 @@ pub record HasFacts (s : Start) (graphs : ℕ → TaskGraph) (c : Certificate) (
 abbrev pub LedgerFacts : Type 0
 LedgerFacts =
     (s : Start) (graphs : ℕ → TaskGraph) (c : Certificate) (n : ℕ) (ledger : List LedgerEntry) →
-    HasCache s → HasGraphs s graphs → AreSetsMet s graphs c → IsLedger s graphs c n ledger → HasFacts s graphs c ledger
+    HasCache s → HasGraphs s graphs → AreStatesMet s graphs c → AreSetsMet s graphs c →
+    IsLedger s graphs c n ledger → HasFacts s graphs c ledger

@@ -3,13 +3,15 @@ use Rattle.std.specs.Prelude.{◌≡◌, ℕ, ◌<◌, List, length}
 use Rattle.crpd_base.specs.declared.data.Certificate.{Certificate}
 use Rattle.crpd_base.specs.declared.data.Script.{Script}
 use Rattle.crpd_base.specs.declared.data.TaskSet.{TaskSet}
+use Rattle.crpd_base.specs.Sets.{has}
 use Rattle.code_map.specs.Words.{Code}
 use Rattle.flat_graph.specs.CodeGraph.{CodeGraph, graph_of, places_of, ins_of, graph_at}
 use Rattle.loop_regions.specs.Nest.{Nest}
 use Rattle.loop_regions.specs.TaskGraph.{TaskGraph}
 use Rattle.loop_regions.specs.TaskSteps.{IsGraphOfTask}
-use Rattle.evict_sets.specs.Certificate.{cert_at}
-use Rattle.evict_sets.specs.Listing.{MeetsStates, MeetsUseful}
+use Rattle.evict_sets.specs.Certificate.{listed_of, cert_at}
+use Rattle.evict_sets.specs.Clauses.{MeetsListing, MeetsSets}
+use Rattle.evict_sets.specs.Listing.{HasLowSets, fetches}
 use Rattle.preempt_machine.specs.Safe.{system_of}
 use Rattle.preempt_machine.specs.Starts.{start_cache, start_memory}
 use Rattle.preempt_machine.specs.Step.{Start}
@@ -24,15 +26,22 @@ pub record AreGraphsOf (code : Code) (set : TaskSet) (graphs : List CodeGraph) :
   pub all : length graphs ≡ length set.tasks
   pub each : (i : ℕ) → i < length set.tasks → IsGraphOfTask code i (graph_at graphs i)
 
--- of the clauses of a certificate those that a ledger rests on, at each task: the certificate has a part for it, which meets
--- the clauses on states
+-- what a ledger rests on, at each task: the certificate has a part for it, which lists cache sets
+-- below 512 and meets the clauses on which full states rest
 pub record MeetsTask (set : TaskSet) (graphs : List CodeGraph) (c : Certificate) (i : ℕ) : Type 0 where
   pub has_task : i < length c.tasks
-  pub states : MeetsStates set.platform (graph_at graphs i) (cert_at c i)
+  pub low_sets : HasLowSets (cert_at c i)
+  pub listing : let g = graph_at graphs i in
+      MeetsListing (graph_of g) (fetches set.platform g) (listed_of (cert_at c i))
 
-abbrev pub StatesAreMet : TaskSet → List CodeGraph → Certificate → Type 0
-StatesAreMet set graphs c = (i : ℕ) → i < length set.tasks → MeetsTask set graphs c i
+abbrev pub TasksAreMet : TaskSet → List CodeGraph → Certificate → Type 0
+TasksAreMet set graphs c = (i : ℕ) → i < length set.tasks → MeetsTask set graphs c i
 
--- of the other clauses those that the facts of its entries rest on besides, at each task
-abbrev pub UsefulIsMet : TaskSet → List CodeGraph → Certificate → Type 0
-UsefulIsMet set graphs c = (i : ℕ) → i < length set.tasks → MeetsUseful set.platform (graph_at graphs i) (cert_at c i)
+-- and what the facts of its entries rest on besides: the part meets the clauses on useful sets
+abbrev pub SetsAreMet : TaskSet → List CodeGraph → Certificate → Type 0
+SetsAreMet set graphs c =
+    (i : ℕ) → i < length set.tasks →
+    let g = graph_at graphs i in
+    let t = cert_at c i in
+    MeetsSets (graph_of g) (fetches set.platform g) (listed_of t)
+    (has t.part.evicting) (has t.part.useful)

@@ -11,7 +11,7 @@ ghost use Rattle.run_account.specs.Account.{told_by, IsAccount, HasAccountFacts}
 ghost use Rattle.run_account.specs.Ledger.{IsLedger};
 ghost use Rattle.run_account.specs.Runs.{graphs_in, start_in, certificate_in, AreHits, IsFetched, IsQuick, IsReady, IsRunning, IsSoFar};
 ghost use Rattle.preempt_machine.specs.Starts.{start_of_script};
-ghost use Rattle.run_account.specs.Shown.{with_nests, AreGraphsOf, StatesAreMet, UsefulIsMet};
+ghost use Rattle.run_account.specs.Shown.{with_nests, AreGraphsOf, TasksAreMet, SetsAreMet};
 ghost use Rattle.run_account.specs.Trails.{entry_of, IsNoted};
 
 use crate::told::{Account, Entry};
@@ -51,7 +51,7 @@ fn all_hits(
 ) -> Result<Vec<Hits>, Memory>
     requires set { IsTaskSet set.now }
     requires graphs { length graphs.now ≡ length set.now.tasks }
-    requires states { StatesAreMet set.now graphs.now certificate.now }
+    requires met { TasksAreMet set.now graphs.now certificate.now }
     ensures { IfOk result (λ all. AreHits set.now.platform graphs.now certificate.now all.items) }
 {
     let mut all = Vec::new(alloc);
@@ -304,11 +304,11 @@ pub fn account(
     requires set { IsTaskSet set.now }
     requires plans { length code.now.plans ≡ length set.now.tasks }
     requires graphs { AreGraphsOf code.now set.now graphs.now }
-    requires states { StatesAreMet set.now graphs.now certificate.now }
+    requires met { TasksAreMet set.now graphs.now certificate.now }
     requires tasks { NamesTasks set.now script.now.jobs }
     requires jobs { length script.now.jobs < 2 ^ 32 }
     ensures is { IfOk result (λ a. (nests : ℕ → Nest) → IsAccount (start_of_script set.now code.now script.now) (with_nests graphs.now nests) certificate.now script.now.cycles a) }
-    ensures facts { UsefulIsMet set.now graphs.now certificate.now → IfOk result (λ a. (nests : ℕ → Nest) → HasAccountFacts (start_of_script set.now code.now script.now) (with_nests graphs.now nests) certificate.now script.now.cycles a) }
+    ensures facts { SetsAreMet set.now graphs.now certificate.now → IfOk result (λ a. (nests : ℕ → Nest) → HasAccountFacts (start_of_script set.now code.now script.now) (with_nests graphs.now nests) certificate.now script.now.cycles a) }
 {
     code.words_law();
     let hits = all_hits(alloc, set, graphs, certificate)?;

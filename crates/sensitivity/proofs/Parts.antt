@@ -13,7 +13,7 @@ use Rattle.std.proofs.lemmas.List.{get_or_default}
 use Rattle.useful_sets.specs.Useful.{IsEcb, IsUcb}
 use Rattle.evict_sets.specs.Listing.{counted}
 use Rattle.exec_bound.specs.Costs.{costs_of, listed, greatest_bound, IsBound, IsTooLarge}
-use Rattle.exec_bound.specs.Walks.{CountsSureHits}
+use Rattle.must_cache.specs.Sure.{CountsSureHits}
 use Rattle.loop_regions.proofs.Beside.{nested}
 use Rattle.cert_check.specs.Shown.{shown, shown_at, nest_at}
 use Rattle.sensitivity.specs.Accepted.{HasSets, IsLeastBound, IsPart}

@@ -6,7 +6,7 @@ use Rattle.crpd_base.specs.declared.data.TaskSet.{TaskSet}
 use Rattle.loop_regions.specs.TaskGraph.{TaskGraph}
 use Rattle.evict_sets.specs.Listing.{counted}
 use Rattle.exec_bound.specs.Costs.{greatest_bound}
-use Rattle.exec_bound.specs.Walks.{CountsSureHits}
+use Rattle.must_cache.specs.Sure.{CountsSureHits}
 use Rattle.cert_check.specs.Judge.{accesses_of}
 use Rattle.delay_count.specs.Gamma.{part_at}
 use Rattle.sensitivity.specs.declared.analysis.Bounded.{Bounded}

@@ -1,9 +1,9 @@
 // Of which sets the next access is a hit, as a dataflow problem against the edges.
-ghost use Rattle.std.specs.Prelude.{◌≡◌, ℕ, ◌<◌, ◌≤◌, ◌*◌, ◌==◌, if◌then◌else◌, Some, None, IfOk, IsSome, IsTrue, ◌↔◌, length, slice_index_or, false};
+ghost use Rattle.std.specs.Prelude.{◌≡◌, ℕ, ◌<◌, ◌≤◌, ◌*◌, ◌==◌, if◌then◌else◌, Some, None, IfOk, IsSome, length, slice_index_or, false};
 ghost use Rattle.crpd_base.specs.Sets.{has};
 ghost use Rattle.icache.specs.Accesses.{accesses};
 ghost use Rattle.flat_graph.specs.CodeGraph.{graph_of, places_of};
-ghost use Rattle.must_cache.specs.Sure.{IsSureHit};
+ghost use Rattle.must_cache.specs.Sure.{CountsSureHits};
 ghost use Rattle.must_cache.specs.States.{AreSure};
 ghost use Rattle.useful_sets.specs.Sets.{AreUseful, sets_at};
 ghost use Rattle.must_cache.specs.Marks.{Marks, either, marks_below};
@@ -125,8 +125,9 @@ pub fn useful_by_hits<const W: usize>(
     requires few { 64 * W ≤ 65536 }
     requires room { geometry.now.platform.sets ≤ 64 * W }
     requires count { length hits.now ≡ (graph_of graph.now).size }
-    requires each { (y : ℕ) → y < (graph_of graph.now).size →
-        IsTrue (slice_index_or hits.now y false) ↔ IsSureHit (graph_of graph.now) (accesses geometry.now.platform (places_of graph.now).address) y }
+    requires each { CountsSureHits (graph_of graph.now)
+        (accesses geometry.now.platform (places_of graph.now).address)
+        (λ y. slice_index_or hits.now y false) }
     ensures { IfOk result (λ sets. AreUseful (graph_of graph.now) (accesses geometry.now.platform (places_of graph.now).address) sets.items) }
 {
     let edges = edges(alloc, graph)?;

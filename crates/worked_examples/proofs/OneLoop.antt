@@ -391,10 +391,17 @@ bound_meets (Node y) item = subst (λ z. pots z ≤ 24) (sym item.0) (omega arit
 bound_meets (Loop r) item = let q = item.1 in absurd (omega (arith, q))
 
 graph_meets : GraphMeets platform graph task_certificate
-graph_meets = record { states = states; useful = useful; sets = sets; is_hit = λ y. nat_lt 0 y; hits = hits; potentials = meets; bound = bound_meets }
+graph_meets = record {
+  listing = record { leaders = leaders; states = states };
+  sets = record { useful = useful; sets = sets };
+  is_hit = λ y. nat_lt 0 y;
+  hits = hits;
+  potentials = meets;
+  bound = bound_meets;
+}
 
 part_holds : (k : Clause) → GraphHolds platform graph task_certificate k
-part_holds = clauses_of platform graph task_certificate (λ k d l. three (λ i. (get_or task_certificate.states i d).node < 4) (omega arith) (omega arith) (omega arith) k l, leaders) refl refl graph_meets
+part_holds = clauses_of platform graph task_certificate (λ k d l. three (λ i. (get_or task_certificate.states i d).node < 4) (omega arith) (omega arith) (omega arith) k l) refl refl graph_meets
 
 is_yes : IsYes set (λ k. graph) certificate
 is_yes i k l =

@@ -196,13 +196,15 @@ graph_meets p w bound evicting useful_sets potentials window way is =
     let on = line w way in
     let pot = λ (y : ℕ). slice_index_or potentials y 0 in
     record {
-      states = law.states g (before w) a l on f;
-      useful = law.useful g (before w) a l on f;
-      sets = law.sets g (before w) a l evicting useful_sets on f
-          (λ y k. (
-            each_says (size w) (λ z. has_set evicting (set_at p w z)) is.evicts y k,
-            λ h. needed (hit_at p w y) (has_set useful_sets (set_at p w y)) (each_says (size w) (λ z. needs (hit_at p w z) (has_set useful_sets (set_at p w z))) is.reuses y k) h,
-          ));
+      listing = record { leaders = law.leaders g (before w) l on f; states = law.states g (before w) a l on f };
+      sets = record {
+        useful = law.useful g (before w) a l on f;
+        sets = law.sets g (before w) a l evicting useful_sets on f
+            (λ y k. (
+              each_says (size w) (λ z. has_set evicting (set_at p w z)) is.evicts y k,
+              λ h. needed (hit_at p w y) (has_set useful_sets (set_at p w y)) (each_says (size w) (λ z. needs (hit_at p w z) (has_set useful_sets (set_at p w z))) is.reuses y k) h,
+            ));
+      };
       is_hit = hit_at p w;
       hits = law.hits g (before w) a l on f;
       potentials = law.potentials g (costs p (listing_of (graph w)) (answering (graph w)) (hit_at p w)) (potentials_of c)
@@ -222,8 +224,7 @@ pub part_holds : (p : Platform) (w : Way) (bound : ℕ) (evicting useful_sets po
     → (k : Clause) → GraphHolds p (graph w) (first_alone bound evicting useful_sets potentials window) k
 part_holds p w bound evicting useful_sets potentials window way is =
     clauses_of p (graph w) (first_alone bound evicting useful_sets potentials window)
-    (numbers_below, law.leaders (graph w).graph (before w) (listed_of (first_alone bound evicting useful_sets potentials window)) (line w way) (law.lists_first (size w) (next w) bound evicting useful_sets potentials window))
-    is.count refl (graph_meets p w bound evicting useful_sets potentials window way is)
+    numbers_below is.count refl (graph_meets p w bound evicting useful_sets potentials window way is)
   where
     numbers_below : (k : ℕ) (d : NodeState) → k < 1 → (get_or (first_alone bound evicting useful_sets potentials window).states k d).node < size w
     numbers_below zero d l = way.some

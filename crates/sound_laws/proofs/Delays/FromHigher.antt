@@ -1,7 +1,6 @@
 -- Step 6, entry_from_higher and preemptor_within_useful: an entry comes from higher tasks, and those of a job with one
 -- preemptor are at most the useful sets of one node.
 use Rattle.std.proofs.Common.{◌≡◌, ℕ, ◌<◌, ◌≤◌, Bool, true, refl, sym, ◌∙◌, ap, subst, arith}
-use Rattle.crpd_base.specs.declared.data.Platform.{Platform}
 use Rattle.evict_sets.specs.Full.{FullUseful}
 use Rattle.evict_sets.specs.Certificate.{listed_of, cert_at}
 use Rattle.cert_check.specs.Judge.{accesses_of}
@@ -12,30 +11,30 @@ use Rattle.run_account.specs.Fetches.{job_of, fetched_set}
 use Rattle.run_account.specs.Ledger.{IsPreempted, IsOfRun, LedgerEntry}
 use Rattle.run_account.specs.Nodes.{task_of, node_of}
 use Rattle.run_account.specs.Reloads.{FetchesAt}
-use Rattle.run_account.specs.Walks.{HasGraphs}
+use Rattle.run_account.specs.Walks.{HasGraphs, AreStatesMet}
 use Rattle.run_account.proofs.EntryFacts.{of_higher}
 use Rattle.run_account.proofs.Gaps.{one_gap_per_preemptor}
+use Rattle.run_account.proofs.JobWalks.{entry_is_reload}
 use Rattle.run_account.proofs.ReloadLaws.{one_job_per_preemptor}
 use Rattle.sound_laws.specs.FromHigher.{IsFromHigher, EntryFromHigher, PreemptorWithinUseful}
 use Rattle.sound_laws.proofs.Windows.Releases.{count}
 use Rattle.sound_laws.proofs.Counts.Counting.{inject}
-use Rattle.sound_laws.proofs.Walks.CheckedRuns.{CheckedRun, below_tasks, cached_run, checked_run, runs_jobs, some_sets}
-use Rattle.sound_laws.proofs.Reloads.Entries.{met, set_at, ledger_reload}
+use Rattle.sound_laws.proofs.Walks.CheckedRuns.{CheckedRun, cached_run, checked_run, runs_jobs, some_sets}
+use Rattle.sound_laws.proofs.Reloads.Entries.{met, set_at}
+use Rattle.sound_laws.proofs.Reloads.OwnFetches.{has_graphs}
 
 module _ (K : CheckedRun) where
   open K use {start as s, set, graphs, certificate as c, horizon, in_range as R, code as C, says, run}
 
   -- what the laws on ledgers ask of such a run
-  has_graphs : HasGraphs s graphs
-  has_graphs =
-      record {
-        code = C.map;
-        hit = subst (λ (p : Platform). 1 ≤ p.hit) (sym C.platform) R.hit;
-        graph = λ x h. let g = C.graphs_of (task_of s x) (below_tasks K x h) in record { follows = g.follows; no_errors = g.no_errors };
-      }
+  graphs_here : HasGraphs s graphs
+  graphs_here = has_graphs s set graphs R C run.tasks
+
+  states_met : AreStatesMet s graphs c
+  states_met x h = (met K x h).all.listing.states
 
   sets_met : AreSetsMet s graphs c
-  sets_met x h = let M = (met K x h).all in record { states = M.states; useful = M.useful; sets = M.sets }
+  sets_met x h = (met K x h).all.sets
 
   -- an entry with its preemptor, and with its evictor
   abbrev of_run : (n x p : ℕ) (e : IsPreempted s graphs c n x p) → IsOfRun s graphs c (record { job = x; set = fetched_set s e.fetch; time = n; evictor = e.is.evictor.job; preemptor = p })
@@ -50,7 +49,7 @@ module _ (K : CheckedRun) where
   from_higher : (n x p : ℕ) (e : IsPreempted s graphs c n x p) → IsFromHigher s graphs c n x p e
   from_higher n x p e =
       let entry : LedgerEntry = record { job = x; set = fetched_set s e.fetch; time = n; evictor = e.is.evictor.job; preemptor = p } in
-      let h = of_higher s graphs c (cached_run K) has_graphs sets_met entry (of_run n x p e) in
+      let h = of_higher s graphs c (cached_run K) graphs_here states_met sets_met entry (of_run n x p e) in
       record { evictor = h.evictor; preemptor = h.preemptor; not_after = h.not_after; evicts = h.evicts; in_set = h.in_set; carried = h.carried }
 
 pub entry_from_higher : EntryFromHigher
@@ -72,9 +71,9 @@ module _ (K : CheckedRun) (x p first : ℕ) (test useful : ℕ → Bool) (e : Is
   different n m l k a b q =
       let E = (each n a).1 in
       let F = (each m b).1 in
-      let r = ledger_reload K n x E.fetch (each n a).0 E.entry in
-      let t = ledger_reload K m x F.fetch (each m b).0 F.entry in
-      let same = one_job_per_preemptor.one_reload s x n r.0 E.fetch r.1 m t.0 F.fetch t.1 p E.from E.time E.until F.from F.time F.until (cached_run K) r.2 t.2 (place_is n E.fetch E.entry.fetches ∙ q ∙ sym (place_is m F.fetch F.entry.fetches)) E.is F.is in
+      let r = entry_is_reload s graphs c n x E.fetch (graphs_here K) (states_met K) E.entry in
+      let t = entry_is_reload s graphs c m x F.fetch (graphs_here K) (states_met K) F.entry in
+      let same = one_job_per_preemptor.one_reload s x n r.time E.fetch r.own m t.time F.fetch t.own p E.from E.time E.until F.from F.time F.until (cached_run K) r.reload t.reload (place_is n E.fetch E.entry.fetches ∙ q ∙ sym (place_is m F.fetch F.entry.fetches)) E.is F.is in
       omega arith
 
   few_useful : ((z : ℕ) → FullUseful (graphs (task_of s x)).graph (accesses_of s.system.platform (graphs (task_of s x))) (listed_of (cert_at c (task_of s x))) (node_of (graphs (task_of s x)) (job_of s e.until x)) z → useful z ≡ true) → count test horizon ≤ count useful s.system.platform.sets

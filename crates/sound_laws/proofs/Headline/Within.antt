@@ -46,7 +46,7 @@ map_at f d (x ∷ xs) (suc k) e = map_at f d xs k e
 bound_is : (c : Certificate) (k : ℕ) → slice_index (bounds c) k ≡ (cert_at c k).part.bound
 bound_is c k = map_at (λ (t : TaskPart). t.part.bound) no_cert c.tasks k refl
 
-code_of : (set : TaskSet) (code : Code) (graphs : ℕ → TaskGraph) (c : Certificate) → IsChecked set code graphs c → IsCodeOf (system_of set code) set graphs
+pub code_of : (set : TaskSet) (code : Code) (graphs : ℕ → TaskGraph) (c : Certificate) → IsChecked set code graphs c → IsCodeOf (system_of set code) set graphs
 code_of set code graphs c K = record { platform = refl; map = K.words; graphs_of = K.graphs_of }
 
 pub checked_code_is_bounded : CheckedCodeIsBounded

@@ -136,7 +136,7 @@ module _ (K : CheckedRun) where
       let k = kept_at K m y early h in
       let W = (walking s set graphs R C run.tasks m y h k).on_walk o in
       let node = walk_node s.system (plan_at s y) (graphs (task_of s y)) (ok s set graphs R C run.tasks y h) C.map (node_of (graphs (task_of s y)) (job_of s m y)) (before_of (job_of s m y) (fetched_nodes s graphs m y)) W.walked.walk in
-      let own = ((met y h).all.sets (node_of (graphs (task_of s y)) (job_of s m y)) node).own in
+      let own = ((met y h).all.sets.sets (node_of (graphs (task_of s y)) (job_of s m y)) node).own in
       let at_pc : has_set (parts K (task_at s y)).evicting (set_at (job_of s m y).pc) ≡ true =
       subst (λ z. has_set (cert_at c (task_of s y)).part.evicting z ≡ true) (set_is s set graphs R C run.tasks y h m k o) own in
       let says_at = fetch_says s.system (state s m) f at.is in
@@ -165,10 +165,3 @@ module _ (K : CheckedRun) where
 
   pub victim_is : (n x : ℕ) (f : Fetch) → FetchesAt s x n f → x ≡ victim n
   victim_is n x f e = sym (ap (λ q. unwrap_or q 0) (own_candidate s x n f e))
-
-  -- an entry of the ledger is a reload
-  pub ledger_reload : (n x : ℕ) (f : Fetch) → n < horizon → Ledger.IsEntry s graphs c n x f → (u : ℕ) × (g : Fetch) × IsReload s x n u f g
-  ledger_reload n x f l e =
-      let r = entry_says n (ledger_test n x f l e) in
-      let same = fetch_same n (victim n) x r.fetch f r.reload.fetches e.fetches in
-      (r.own_time, r.own, subst (λ z. IsReload s z n r.own_time f r.own) (sym (victim_is n x f e.fetches)) (subst (λ z. IsReload s (victim n) n r.own_time z r.own) same r.reload))

@@ -1,9 +1,9 @@
 -- Step 4, own_fetches_agree and entries_are_reloads: a job's own last fetches are the last accesses of its walk, so they
 -- agree with the full states, and an entry is a reload.
 use Rattle.std.proofs.Common.{◌≡◌, ◌≢◌, ℕ, zero, suc, ◌<◌, Bool, true, ◌∷◌, length, Some, refl, sym, ◌∙◌, ap, subst, inl, inr}
-use Rattle.std.proofs.lemmas.Bool.{cases_Bool, cases_eq, and_parts, eqb-true, not-true}
+use Rattle.std.proofs.lemmas.Bool.{cases_Bool, and_parts, eqb-true, not-true}
 use Rattle.std.proofs.lemmas.Option.{none-some}
-use Rattle.crpd_base.proofs.Options.{some_injective, none_some, same_or_not}
+use Rattle.crpd_base.proofs.Options.{none_some, same_or_not}
 use Rattle.crpd_base.specs.declared.data.TaskSet.{TaskSet}
 use Rattle.icache.specs.Accesses.{Accesses, last_access}
 use Rattle.icache.specs.Cache.{block_of, set_of}
@@ -18,20 +18,32 @@ use Rattle.cert_check.specs.Judge.{accesses_of}
 use Rattle.evict_sets.specs.Certificate.{cert_at}
 use Rattle.preempt_machine.specs.Step.{is_open, owns, Start, state, turn_of, makes_fetch}
 use Rattle.preempt_machine.specs.Safe.{NamesTasks}
-use Rattle.run_account.specs.Fetches.{job_of, fetched_set}
-use Rattle.run_account.specs.Reloads.{FetchesAt, HasOwn}
+use Rattle.run_account.specs.Fetches.{job_of}
+use Rattle.run_account.specs.Reloads.{HasOwn}
 use Rattle.run_account.proofs.Owners.{candidate_at, owns_true}
-use Rattle.run_account.proofs.OwnFetches.{own_keeps, own_new, own_candidate, fetch_made, fetch_not_made}
+use Rattle.run_account.proofs.OwnFetches.{own_keeps, own_candidate, fetch_made, fetch_not_made}
 use Rattle.run_account.specs.Nodes.{task_of, plan_at, node_of}
-use Rattle.run_account.specs.Walks.{fetched_nodes}
+use Rattle.run_account.specs.Walks.{fetched_nodes, HasGraphs}
 use Rattle.sound_laws.specs.Walks.{IsInRange, IsCodeOf, before_of, IsOnWalk}
 use Rattle.sound_laws.specs.Rests.{is_entry}
 use Rattle.sound_laws.specs.Entries.{OwnFetchesAgreeLaw, IsReloadEntry, EntriesAreReloads}
 use Rattle.sound_laws.proofs.Walks.Walked.{before_fresh}
-use Rattle.run_account.proofs.JobWalks.{kept_before, nodes_other, nodes_own, opened}
-use Rattle.sound_laws.proofs.Walks.KeptWalks.{task_below, ok, walking}
+use Rattle.run_account.proofs.JobWalks.{opened, own_of_nodes}
+use Rattle.sound_laws.proofs.Walks.KeptWalks.{hit_some, task_below, ok, walking}
 use Rattle.sound_laws.proofs.Walks.Stands.{walk_node}
 use Rattle.sound_laws.proofs.Execution.Executed.{IsMet, is_met, hit_test}
+
+-- what the laws on runs ask of such a run
+pub has_graphs : (s : Start) (set : TaskSet) (graphs : ℕ → TaskGraph)
+    → IsInRange set → IsCodeOf s.system set graphs → NamesTasks set s.lines → HasGraphs s graphs
+has_graphs s set graphs R C T =
+    record {
+      code = C.map;
+      hit = hit_some s set graphs R C T;
+      graph = λ x h.
+          let g = ok s set graphs R C T x h in
+          record { follows = g.follows; no_errors = g.no_errors };
+    }
 
 module _ (s : Start) (set : TaskSet) (graphs : ℕ → TaskGraph) (R : IsInRange set) (C : IsCodeOf s.system set graphs) (T : NamesTasks set s.lines) (x : ℕ) (h : x < length s.lines) where
   abbrev tg : TaskGraph
@@ -50,55 +62,24 @@ module _ (s : Start) (set : TaskSet) (graphs : ℕ → TaskGraph) (R : IsInRange
   pub set_is : (n : ℕ) → is_kept (job_of s n x).watch ≡ true → is_open (job_of s n x).standing ≡ true → acc.set (node_of tg (job_of s n x)) ≡ set_of s.system.platform (block_of s.system.platform (job_of s n x).pc)
   set_is n k o = ap (set_of s.system.platform) (block_is n k o)
 
-  own_by_fetch : (n c b : ℕ) → is_kept (job_of s n x).watch ≡ true → is_open (job_of s n x).standing ≡ true → FetchesAt s x n (record { job = x; address = (job_of s n x).pc }) → (last_access acc c (fetched_nodes s graphs n x) ≡ Some b → HasOwn s x c n b) → last_access acc c (node_of tg (job_of s n x) ∷ fetched_nodes s graphs n x) ≡ Some b → HasOwn s x c (suc n) b
-  own_by_fetch n c b k o made before e =
-      elim (cases_eq (acc.set (node_of tg (job_of s n x))) c) [
-        | inl q ↦
-            let here = last_here acc c (node_of tg (job_of s n x)) (acc.block (node_of tg (job_of s n x))) (fetched_nodes s graphs n x) q refl in
-            let is : block_of s.system.platform (job_of s n x).pc ≡ b = sym (block_is n k o) ∙ some_injective (sym here ∙ e) in
-            subst (λ z. HasOwn s x z (suc n) b) (sym (set_is n k o) ∙ q)
-            (subst (λ z. HasOwn s x (set_of s.system.platform (block_of s.system.platform (job_of s n x).pc)) (suc n) z) is (own_new s x n (record { job = x; address = (job_of s n x).pc }) made))
-        | inr ne ↦
-            let on = last_on acc c (node_of tg (job_of s n x)) (fetched_nodes s graphs n x) ne in
-            own_keeps s x c n b (before (sym on ∙ e)) (λ g f z.
-            let same : record { job = x; address = (job_of s n x).pc } ≡ g = some_injective (sym made.is ∙ f.is) in
-            ne (set_is n k o ∙ ap (fetched_set s) same ∙ z))
-      ]
-
   -- the last access of the fetched nodes is the own last fetch
-  pub own_of_nodes : (n c b : ℕ) → is_kept (job_of s n x).watch ≡ true → last_access acc c (fetched_nodes s graphs n x) ≡ Some b → HasOwn s x c n b
-  own_of_nodes zero c b k e = absurd (none-some b e)
-  own_of_nodes (suc n) c b k e =
-      let kn = kept_before s graphs n x k in
-      elim (same_or_not (candidate_at s n) (Some x)) [
-        | inl mine ↦
-            let o = opened s graphs n x mine in
-            let nodes = nodes_own s graphs n x mine in
-            elim (cases_Bool (makes_fetch s.system (turn_of s.system (state s n) x))) [
-              | inl m ↦
-                  let more : fetched_nodes s graphs (suc n) x ≡ node_of tg (job_of s n x) ∷ fetched_nodes s graphs n x = nodes ∙ (rw m refl) in
-                  own_by_fetch n c b kn o (record { is = fetch_made s x n mine m; by = refl }) (own_of_nodes n c b kn) (ap (last_access acc c) (sym more) ∙ e)
-              | inr m ↦
-                  let same : fetched_nodes s graphs (suc n) x ≡ fetched_nodes s graphs n x = nodes ∙ (rw m refl) in
-                  own_keeps s x c n b (own_of_nodes n c b kn (ap (last_access acc c) (sym same) ∙ e)) (λ f q. absurd (none_some (sym (fetch_not_made s x n mine m) ∙ q.is)))
-            ]
-        | inr ne ↦
-            own_keeps s x c n b (own_of_nodes n c b kn (ap (last_access acc c) (sym (nodes_other s graphs n x ne)) ∙ e)) (λ f q. absurd (ne (own_candidate s x n f q)))
-      ]
+  own_of : (n c b : ℕ) → is_kept (job_of s n x).watch ≡ true
+      → last_access acc c (fetched_nodes s graphs n x) ≡ Some b → HasOwn s x c n b
+  own_of n c b k e = own_of_nodes s graphs (has_graphs s set graphs R C T) x h n c b k e
 
   module _ (c : TaskPart) (counted : ℕ → Bool) (M : IsMet s.system.platform tg c counted) where
     last_is : (n c' m : ℕ) (k : is_kept (job_of s n x).watch ≡ true) (o : is_open (job_of s n x).standing ≡ true) → FullState tg.graph acc (listed_of c) (node_of tg (job_of s n x)) c' m → last_access acc c' (before_of (job_of s n x) (fetched_nodes s graphs n x)) ≡ Some m
     last_is n c' m k o st =
-        last_access_law tg.graph acc (listed_of c) (node_of tg (job_of s n x)) c' m (before_of (job_of s n x) (fetched_nodes s graphs n x)) (ok s set graphs R C T x h).follows.graph M.all.states (on_walk n k o).walked.walk st
+        last_access_law tg.graph acc (listed_of c) (node_of tg (job_of s n x)) c' m (before_of (job_of s n x) (fetched_nodes s graphs n x)) (ok s set graphs R C T x h).follows.graph M.all.listing.states (on_walk n k o).walked.walk st
 
     pub own_between : (n : ℕ) (k : is_kept (job_of s n x).watch ≡ true) (o : is_open (job_of s n x).standing ≡ true) → (job_of s n x).left ≡ 0 → (c' m : ℕ) → FullState tg.graph acc (listed_of c) (node_of tg (job_of s n x)) c' m → HasOwn s x c' n m
     own_between n k o l c' m st =
-        own_of_nodes n c' m k (ap (last_access acc c') (sym (before_fresh (job_of s n x) (fetched_nodes s graphs n x) l)) ∙ last_is n c' m k o st)
+        own_of n c' m k (ap (last_access acc c') (sym (before_fresh (job_of s n x) (fetched_nodes s graphs n x) l)) ∙ last_is n c' m k o st)
 
     pub own_within : (n : ℕ) (k : is_kept (job_of s n x).watch ≡ true) (o : is_open (job_of s n x).standing ≡ true) → (job_of s n x).left ≢ 0 → (c' m : ℕ) → StateAfter tg.graph acc (listed_of c) (node_of tg (job_of s n x)) c' m → HasOwn s x c' n m
     own_within n k o l c' m after =
         let nodes = (on_walk n k o).under_way l in
-        own_of_nodes n c' m k (ap (last_access acc c') nodes ∙
+        own_of n c' m k (ap (last_access acc c') nodes ∙
         elim after [
           | inl here ↦ last_here acc c' (node_of tg (job_of s n x)) m (before_of (job_of s n x) (fetched_nodes s graphs n x)) here.0 here.1
           | inr on ↦ last_on acc c' (node_of tg (job_of s n x)) (before_of (job_of s n x) (fetched_nodes s graphs n x)) on.0 ∙ last_is n c' m k o on.1
@@ -116,13 +97,13 @@ module _ (s : Start) (set : TaskSet) (graphs : ℕ → TaskGraph) (R : IsInRange
         let own_pc : HasOwn s x (set_of s.system.platform (block_of s.system.platform (job_of s n x).pc)) n (block_of s.system.platform (job_of s n x).pc) =
         subst (λ z. HasOwn s x z n (block_of s.system.platform (job_of s n x).pc)) (set_is n k o)
         (subst (λ z. HasOwn s x (acc.set (node_of tg (job_of s n x))) n z) (block_is n k o) (own_between n k o l (acc.set (node_of tg (job_of s n x))) (acc.block (node_of tg (job_of s n x))) hit)) in
-        let useful = (M.all.useful (node_of tg (job_of s n x)) node).own hit in
+        let useful = (M.all.sets.useful (node_of tg (job_of s n x)) node).own hit in
         record {
           own_time = own_pc.time;
           own = own_pc.fetch;
           reload = record { fetches = record { is = fetch_made s x n e both.0; by = refl }; own = own_pc.last; same_block = own_pc.is; misses = not-true _ more.1 };
           useful = useful;
-          in_set = (M.all.sets (node_of tg (job_of s n x)) node).all _ useful;
+          in_set = (M.all.sets.sets (node_of tg (job_of s n x)) node).all _ useful;
         }
 
 pub own_fetches_agree : OwnFetchesAgreeLaw

@@ -6,7 +6,7 @@ use Rattle.crpd_base.specs.Sets.{has}
 use Rattle.flat_graph.specs.CodeGraph.{graph_of, places_of}
 use Rattle.icache.specs.Accesses.{accesses}
 use Rattle.evict_sets.specs.Listing.{counted}
-use Rattle.exec_bound.specs.Walks.{CountsSureHits}
+use Rattle.must_cache.specs.Sure.{CountsSureHits}
 use Rattle.useful_sets.specs.Useful.{IsEcb, IsUcb}
 use Rattle.cert_build.specs.Entries.{AreEntries}
 use Rattle.cert_build.proofs.Analysed.{analysed, refused, ranges}

@@ -27,22 +27,30 @@ state_failure-requires-clause-case c = record {
   leaders = (c.in_ok-list_failure.ensures Leaders (omega arith) (omega arith)).1;
 }
 
+pub write_hits-requires-clause-case : goal.write_hits-requires-clause-case
+write_hits-requires-clause-case c = record {
+  platform = c.requires.platform;
+  sets = c.requires.sets;
+  index = index_of c.as_slice.result.now c.args.part.now.states c.len-size.result (length c.args.graph.now.nodes) c.index.new.places c.as_slice.ensures c.len-size.ensures c.index.ensures;
+  leaders = (c.in_ok-list_failure.ensures Leaders (omega arith) (omega arith)).1;
+}
+
 pub returns-in_err-state_failure : goal.returns-in_err-state_failure
 returns-in_err-state_failure c =
     handed_on (GraphHolds c.args.platform.now (shown c.args.graph.now c.args.nest.now) c.args.part.now) 2 7 c.from_residual-in_err-state_failure.result c.in_err-state_failure.field-0.0 c.from_residual-in_err-state_failure.ensures.1
     (then_found (GraphHolds c.args.platform.now (shown c.args.graph.now c.args.nest.now) c.args.part.now) 2 2 7 (Err c.in_err-state_failure.field-0.0) (omega arith) (omega arith) c.in_ok-list_failure.ensures
-    (found_first (GraphHolds c.args.platform.now (shown c.args.graph.now c.args.nest.now) c.args.part.now) 3 5 7 c.in_err-state_failure.field-0.0 (omega arith) (c.in_err-state_failure.ensures.failure c.args.nest.now)))
+    (found_first (GraphHolds c.args.platform.now (shown c.args.graph.now c.args.nest.now) c.args.part.now) 3 5 7 c.in_err-state_failure.field-0.0 (omega arith) (c.in_err-state_failure.ensures c.args.nest.now)))
 
 pub potential_failure-requires-clause-paid : goal.potential_failure-requires-clause-paid
 potential_failure-requires-clause-paid c = record {
   beside = c.requires.nest;
   nodes = c.in_ok-list_failure.ensures NodePotentials (omega arith) (omega arith);
   loops = c.in_ok-list_failure.ensures LoopPotentials (omega arith) (omega arith);
-  all_hits = c.in_ok-state_failure.ensures.count;
+  all_hits = omega (arith, c.write_hits.auto.hits);
 }
 
 pub returns : goal.returns
 returns c =
     then_found (GraphHolds c.args.platform.now (shown c.args.graph.now c.args.nest.now) c.args.part.now) 2 5 7 c.potential_failure.result (omega arith) (omega arith)
-    (then_found (GraphHolds c.args.platform.now (shown c.args.graph.now c.args.nest.now) c.args.part.now) 2 2 5 (Ok tt) (omega arith) (omega arith) c.in_ok-list_failure.ensures (c.in_ok-state_failure.ensures.failure c.args.nest.now))
+    (then_found (GraphHolds c.args.platform.now (shown c.args.graph.now c.args.nest.now) c.args.part.now) 2 2 5 (Ok tt) (omega arith) (omega arith) c.in_ok-list_failure.ensures (c.in_ok-state_failure.ensures c.args.nest.now))
     c.potential_failure.ensures

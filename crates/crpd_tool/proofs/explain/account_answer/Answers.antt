@@ -6,20 +6,20 @@ use Rattle.loop_regions.specs.CodeNest.{nest_of}
 use Rattle.loop_regions.specs.Nest.{Nest}
 use Rattle.run_account.specs.Account.{IsAccount}
 use Rattle.preempt_machine.specs.Starts.{start_of_script}
-use Rattle.run_account.specs.Shown.{AreGraphsOf, StatesAreMet, with_nests}
+use Rattle.run_account.specs.Shown.{AreGraphsOf, TasksAreMet, with_nests}
 use Rattle.crpd_tool.specs.Simulate.{IsRunLine, run_of}
 use Rattle.crpd_tool.specs.declared.answer.Outcome.TheVariants.{Done}
-use Rattle.crpd_tool.proofs.Explaining.{graphs_of, states_met, windows_met}
+use Rattle.crpd_tool.proofs.Explaining.{graphs_of, tasks_met, windows_met}
 use Rattle.crpd_tool.proofs.explain.account_answer.Goals as goal
 
 pub account-requires-clause-graphs : goal.account-requires-clause-graphs
 account-requires-clause-graphs c =
     subst (AreGraphsOf c.args.input.now.code c.args.input.now.set) (sym c.as_slice-graphs.ensures) (graphs_of c.args.input.now c.args.shapes.now c.requires.shaped)
 
-pub account-requires-clause-states : goal.account-requires-clause-states
-account-requires-clause-states c =
-    subst (λ gs. StatesAreMet c.args.input.now.set gs c.args.certificate.now) (sym c.as_slice-graphs.ensures)
-    (states_met c.args.input.now.set c.args.shapes.now c.args.certificate.now c.requires.judged c.requires.ranges)
+pub account-requires-clause-met : goal.account-requires-clause-met
+account-requires-clause-met c =
+    subst (λ gs. TasksAreMet c.args.input.now.set gs c.args.certificate.now) (sym c.as_slice-graphs.ensures)
+    (tasks_met c.args.input.now.set c.args.shapes.now c.args.certificate.now c.requires.judged c.requires.ranges)
 
 pub explain_text-requires-clause-certificate : goal.explain_text-requires-clause-certificate
 explain_text-requires-clause-certificate c = windows_met c.args.input.now.set c.args.shapes.now c.args.certificate.now c.requires.judged c.requires.set

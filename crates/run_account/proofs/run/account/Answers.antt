@@ -80,7 +80,7 @@ returns-clause-facts c U nests =
       plans = c.requires.plans;
       words = c.words_law.ensures;
       graphs = c.requires.graphs;
-      states = c.requires.states;
+      met = c.requires.met;
       tasks = c.requires.tasks;
       hits = subst (λ hs. AreHits c.args.set.now.platform c.args.graphs.now c.args.certificate.now hs) (sym c.as_slice.ensures.value) c.in_ok-hits.ensures;
     } in
