@@ -1,18 +1,11 @@
 // Certificates of one task, and changes of them.
 use crate::sides::{certificate_of, side_of};
-use crate::texts::{LOOP_TOLD, ONE_TOLD, Told, text_of};
+use crate::texts::{LOOP_TOLD, LOOPING, ONE_TOLD, Told, text_of};
 use cert_check::{Verdict, verdict};
 use crpd_base::Task;
-use fixtures::{LOOP, ONE, PLATFORM, Program};
+use fixtures::{ONE, PLATFORM, Program};
 use std::alloc::{AllocError, Global};
 use std::test::Fail;
-
-// The loop of the second word and the third, of at most three turns.
-const LOOPING: Program<'static> = Program {
-    words: &LOOP,
-    loops: &[(0x1004, 3, (0x1004, 0x100C))],
-    ..ONE
-};
 
 // What a certificate says of a program, and the verdict.
 static VERDICTS: [(Program<'static>, Told, &str); 11] = [
@@ -93,7 +86,7 @@ static VERDICTS: [(Program<'static>, Told, &str); 11] = [
     ),
 ];
 
-fn told(alloc: Global, verdict: Verdict) -> Result<String, AllocError> {
+pub(crate) fn told(alloc: Global, verdict: Verdict) -> Result<String, AllocError> {
     match verdict {
         Verdict::Yes => String::from_str(alloc, "yes"),
         Verdict::No {

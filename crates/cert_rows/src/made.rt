@@ -1,19 +1,12 @@
 // Certificates of small programs as their texts, and refusals.
 use crate::sides::side_of;
-use crate::texts::{HIGH_TOLD, LOOP_TOLD, LOW_TOLD, ONE_TOLD, Told, text_of};
+use crate::texts::{HIGH_TOLD, LOOP_TOLD, LOOPING, LOW_TOLD, ONE_TOLD, Told, text_of};
 use cert_build::{BuildError, certify};
 use cert_model::write_certificate;
 use crpd_base::Platform;
-use fixtures::{LOOP, NESTED, ONE, PLATFORM, Program};
+use fixtures::{NESTED, ONE, PLATFORM, Program};
 use std::alloc::{AllocError, Global};
 use std::test::Fail;
-
-// The loop of the second word and the third.
-const LOOPING: Program<'static> = Program {
-    words: &LOOP,
-    loops: &[(0x1004, 3, (0x1004, 0x100C))],
-    ..ONE
-};
 
 const HIGH: Program<'static> = Program {
     name: "high",

@@ -1,4 +1,5 @@
-// The texts of certificates.
+// Small programs, and the texts of their certificates.
+use fixtures::{LOOP, ONE, Program};
 use std::alloc::{AllocError, Global};
 
 // What the text of a task says: its name, bound, states, potentials, loops, window and response. Its evicting sets are the
@@ -25,7 +26,14 @@ pub(crate) const ONE_TOLD: Told = Told {
     response: 17,
 };
 
-// The task `one` with a loop of three turns.
+// The task `one` with a loop of its second word and its third, of at most three turns.
+pub(crate) const LOOPING: Program<'static> = Program {
+    words: &LOOP,
+    loops: &[(0x1004, 3, (0x1004, 0x100C))],
+    ..ONE
+};
+
+// What is said of it.
 pub(crate) const LOOP_TOLD: Told = Told {
     name: "one",
     bound: 24,

@@ -2,6 +2,7 @@
 use crate::ending::Ending;
 use crpd_io::{Files, MemSink};
 use crpd_tool::{Status, run};
+use fixtures::{TWO_WORDS, file_of};
 use std::alloc::{AllocError, Global};
 use std::process::Abort;
 use std::test::Fail;
@@ -16,13 +17,10 @@ const CERTIFICATE: &str =
 
 const SCRIPT: &str = "cycles = 100\n[[job]]\ntask = \"one\"\narrival = 0\nrelease = 0\n";
 
-// An ELF header, one program header, and at 0x1000 `addi x5,x0,1` and `ecall`.
-pub(crate) const PROGRAM: [u8; 92] = [
-    127, 69, 76, 70, 1, 1, 1, 0, 0, 0, 0, 0, 0, 0, 0, 0, 2, 0, 243, 0, 1, 0, 0, 0, 0, 16, 0, 0, 52,
-    0, 0, 0, 0, 0, 0, 0, 0, 0, 0, 0, 52, 0, 32, 0, 1, 0, 0, 0, 0, 0, 0, 0, 1, 0, 0, 0, 84, 0, 0, 0,
-    0, 16, 0, 0, 0, 16, 0, 0, 8, 0, 0, 0, 8, 0, 0, 0, 5, 0, 0, 0, 4, 0, 0, 0, 147, 2, 16, 0, 115,
-    0, 0, 0,
-];
+// The file of `addi x5,x0,1` and `ecall` at 0x1000, of 92 bytes.
+pub(crate) fn program(alloc: Global) -> Result<Vec<u8>, AllocError> {
+    file_of(alloc, 0x1000, &TWO_WORDS)
+}
 
 // The set, the certificate, the script and this program.
 pub(crate) fn files_of(alloc: Global, program: Vec<u8>) -> Result<Held, AllocError> {
@@ -65,7 +63,7 @@ pub(crate) fn ends<F: Files>(
 
 const LIST: [&str; 3] = ["list", "set.toml", "one"];
 
-const TWO_WORDS: &str = "00001000 00100293 addi x5,x0,1\n00001004 00000073 ecall\n";
+const TWO_WORDS_TEXT: &str = "00001000 00100293 addi x5,x0,1\n00001004 00000073 ecall\n";
 
 // `list` over a program, of which reads give so many bytes alone.
 fn listed(
@@ -93,12 +91,12 @@ fn cut_and_ended(rt: HostRuntime) -> Result<(), Fail> {
             0..=51 => "refused 1 Short one.elf -\n",
             52..=83 => "refused 7 HeaderOutside one.elf -\n",
             84..=91 => "refused 8 SegmentOutside one.elf 0\n",
-            _ => TWO_WORDS,
+            _ => TWO_WORDS_TEXT,
         };
-        let mut cut = PROGRAM.to_vec(alloc)?;
+        let mut cut = program(alloc)?;
         cut.truncate(n);
         listed(&rt, alloc, cut, u64::MAX, text)?;
-        listed(&rt, alloc, PROGRAM.to_vec(alloc)?, n as u64, text)?;
+        listed(&rt, alloc, program(alloc)?, n as u64, text)?;
     }
     Ok(())
 }
@@ -126,19 +124,19 @@ fn turned_text(place: usize) -> &'static str {
         89 => "00001000 00100293 addi x5,x0,1\n00001004 00008073 .word\n",
         90 => "00001000 00100293 addi x5,x0,1\n00001004 00800073 .word\n",
         91 => "00001000 00100293 addi x5,x0,1\n00001004 80000073 .word\n",
-        _ => TWO_WORDS,
+        _ => TWO_WORDS_TEXT,
     }
 }
 
 #[test]
 fn each_byte_turned(rt: HostRuntime) -> Result<(), Fail> {
     let alloc = rt.alloc();
-    for place in 0..PROGRAM.len() {
-        let mut program = PROGRAM.to_vec(alloc)?;
-        if let Some(byte) = program.get_mut(place) {
+    for place in 0..program(alloc)?.len() {
+        let mut bytes = program(alloc)?;
+        if let Some(byte) = bytes.get_mut(place) {
             *byte ^= 0x80;
         }
-        listed(&rt, alloc, program, u64::MAX, turned_text(place))?;
+        listed(&rt, alloc, bytes, u64::MAX, turned_text(place))?;
     }
     Ok(())
 }
@@ -161,7 +159,7 @@ const CHANGES: [(usize, &[u8], &str); 11] = [
         &[9, 0, 0, 0, 9, 0, 0, 0],
         "refused 8 SegmentOutside one.elf 0\n",
     ),
-    (72, &[0, 240, 255, 255], TWO_WORDS),
+    (72, &[0, 240, 255, 255], TWO_WORDS_TEXT),
     (
         72,
         &[1, 240, 255, 255],
@@ -172,7 +170,7 @@ const CHANGES: [(usize, &[u8], &str); 11] = [
 
 // The program with these bytes from a place on.
 fn changed(alloc: Global, place: usize, bytes: &[u8]) -> Result<Vec<u8>, AllocError> {
-    let mut program = PROGRAM.to_vec(alloc)?;
+    let mut program = program(alloc)?;
     let mut at = place;
     for byte in bytes {
         if let Some(old) = program.get_mut(at) {
@@ -192,26 +190,28 @@ fn changes(rt: HostRuntime) -> Result<(), Fail> {
     Ok(())
 }
 
+// Words, and the text.
+static LARGE: [(&[&str], &str); 4] = [
+    (
+        &["check", "set.toml", "cert.json"],
+        "yes\none bound 12 window 17 response 17 method ucb\n",
+    ),
+    (&["analyze", "set.toml"], CERTIFICATE),
+    (
+        &["simulate", "set.toml", "script.toml"],
+        "job one 0 arrival 0 release 0 answer 17\nrun legal kept\n",
+    ),
+    (
+        &["explain", "set.toml", "cert.json", "script.toml"],
+        "delay one 0\nrun legal kept\n",
+    ),
+];
+
 // A segment as large as addresses go: its zero bytes are no code, and no run stores them.
 #[test]
 fn a_large_segment(rt: HostRuntime) -> Result<(), Fail> {
     let alloc = rt.alloc();
-    let cases: [(&[&str], &str); 4] = [
-        (
-            &["check", "set.toml", "cert.json"],
-            "yes\none bound 12 window 17 response 17 method ucb\n",
-        ),
-        (&["analyze", "set.toml"], CERTIFICATE),
-        (
-            &["simulate", "set.toml", "script.toml"],
-            "job one 0 arrival 0 release 0 answer 17\nrun legal kept\n",
-        ),
-        (
-            &["explain", "set.toml", "cert.json", "script.toml"],
-            "delay one 0\nrun legal kept\n",
-        ),
-    ];
-    for (words, text) in cases {
+    for &(words, text) in &LARGE {
         let program = changed(alloc, 72, &[0, 240, 255, 255])?;
         let mut files = Ending::new(files_of(alloc, program)?, "", u64::MAX);
         ends(&rt, alloc, words, &mut files, (Status::Done, text))?;

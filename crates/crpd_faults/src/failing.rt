@@ -1,6 +1,7 @@
 // Each call of the files and of the sink failing in turn, over three tasks that preempt each other.
 use crpd_io::{MemFiles, MemSink};
 use crpd_tool::{Status, run};
+use fixtures::{BACK, LINES, file_of};
 use std::alloc::{AllocError, Global};
 use std::process::Abort;
 use std::test::Fail;
@@ -14,66 +15,14 @@ const SCRIPT: &str =
 const CERTIFICATE: &str =
     "{\"platform\":{\"data\":3,\"div\":0,\"hit\":1,\"line\":16,\"miss\":10,\"mul\":0,\"sets\":8,\"switch\":5,\"switching\":\"cycle\",\"taken\":2},\"tasks\":[{\"bound\":50,\"evicting\":[1,2,3,4],\"loops\":[],\"method\":\"ucb\",\"name\":\"a\",\"potentials\":[50,37,24,11],\"response\":55,\"states\":[[0,[],[]]],\"useful\":[],\"window\":55},{\"bound\":30,\"evicting\":[1,2],\"loops\":[],\"method\":\"ucb\",\"name\":\"b\",\"potentials\":[30,4,17,1],\"response\":115,\"states\":[[0,[],[]]],\"useful\":[1,2],\"window\":115},{\"bound\":30,\"evicting\":[3,4],\"loops\":[],\"method\":\"ucb\",\"name\":\"c\",\"potentials\":[30,4,17,1],\"response\":175,\"states\":[[0,[],[]]],\"useful\":[3,4],\"window\":175}],\"version\":2}\n";
 
-// Jumps through four blocks, and through two there and back.
-const FOUR: [u32; 13] = [
-    0x0100_006F,
-    0,
-    0,
-    0,
-    0x0100_006F,
-    0,
-    0,
-    0,
-    0x0100_006F,
-    0,
-    0,
-    0,
-    0x0000_0073,
-];
-
-const TWO: [u32; 6] = [0x0100_006F, 0x0100_006F, 0, 0, 0xFF5F_F06F, 0x0000_0073];
-
-// The file of words from an address on, which are so many bytes.
-fn file_of(alloc: Global, start: u32, words: &[u32], size: u32) -> Result<Vec<u8>, AllocError> {
-    let headers = [
-        0x464C_457F,
-        0x0001_0101,
-        0,
-        0,
-        0x00F3_0002,
-        1,
-        start,
-        52,
-        0,
-        0,
-        0x0020_0034,
-        1,
-        0,
-        1,
-        84,
-        start,
-        start,
-        size,
-        size,
-        5,
-        4,
-    ];
-    let mut bytes = Vec::new(alloc);
-    for list in [headers.as_slice(), words] {
-        for word in list {
-            bytes.extend_from_slice(&word.to_le_bytes())?;
-        }
-    }
-    Ok(bytes)
-}
-
+// The set, its files, the certificate and the script.
 fn files_of(alloc: Global) -> Result<Vec<(String, Vec<u8>)>, AllocError> {
     let mut files = Vec::new(alloc);
     for (name, bytes) in [
         ("set.toml", SET.as_bytes().to_vec(alloc)?),
-        ("a.elf", file_of(alloc, 0x3010, &FOUR, 52)?),
-        ("b.elf", file_of(alloc, 0x2010, &TWO, 24)?),
-        ("c.elf", file_of(alloc, 0x1030, &TWO, 24)?),
+        ("a.elf", file_of(alloc, 0x3010, &LINES)?),
+        ("b.elf", file_of(alloc, 0x2010, &BACK)?),
+        ("c.elf", file_of(alloc, 0x1030, &BACK)?),
         ("cert.json", CERTIFICATE.as_bytes().to_vec(alloc)?),
         ("script.toml", SCRIPT.as_bytes().to_vec(alloc)?),
     ] {

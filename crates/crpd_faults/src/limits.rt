@@ -1,5 +1,5 @@
 // Certificates at the limits of what is read.
-use crate::damaged::{Held, PROGRAM, SET, ends};
+use crate::damaged::{Held, SET, ends, program};
 use crpd_io::SureFiles;
 use crpd_tool::Status;
 use std::alloc::{AllocError, Global};
@@ -47,7 +47,7 @@ fn files_with(alloc: Global, certificate: String) -> Result<Held, AllocError> {
     let mut files = Vec::new(alloc);
     for (name, bytes) in [
         ("set.toml", SET.as_bytes().to_vec(alloc)?),
-        ("one.elf", PROGRAM.to_vec(alloc)?),
+        ("one.elf", program(alloc)?),
         ("cert.json", certificate.into_bytes()),
     ] {
         files.push((String::from_str(alloc, name)?, bytes))?;
@@ -55,18 +55,20 @@ fn files_with(alloc: Global, certificate: String) -> Result<Held, AllocError> {
     Ok(files)
 }
 
+// The useful sets of the first node, and what `check` ends with.
+static ENTRIES: [(&str, Status, &str); 2] = [
+    ("", Status::No, "no one clause 1 place 3\n"),
+    (
+        "7",
+        Status::Refused,
+        "refused 73 TooLong cert.json 4000001\n",
+    ),
+];
+
 #[test]
 fn state_entries(rt: HostRuntime) -> Result<(), Fail> {
     let alloc = rt.alloc();
-    let cases = [
-        ("", Status::No, "no one clause 1 place 3\n"),
-        (
-            "7",
-            Status::Refused,
-            "refused 73 TooLong cert.json 4000001\n",
-        ),
-    ];
-    for (useful, status, text) in cases {
+    for &(useful, status, text) in &ENTRIES {
         let certificate = many_entries(alloc, useful)?;
         let mut files = SureFiles::new(files_with(alloc, certificate)?);
         let words = ["check", "set.toml", "cert.json"];

@@ -1,7 +1,7 @@
 // The command `analyze`, on worked examples, and `check` of what it wrote.
-use crate::sets::{FOUR, TWO, file_of};
 use crpd_io::{MemFiles, MemSink};
 use crpd_tool::{Status, run};
+use fixtures::{BACK, LINES, LOOP, NESTED, TWO_WORDS, file_of};
 use std::alloc::{AllocError, Global};
 use std::process::Abort;
 use std::test::Fail;
@@ -36,15 +36,6 @@ pub(crate) struct Case {
     pub checked: &'static str,
 }
 
-// `addi x5,x0,1` and `ecall`.
-pub(crate) const SHORT: [u32; 2] = [0x0010_0293, 0x0000_0073];
-
-// Counts down from 3.
-const COUNT: [u32; 4] = [0x0030_0293, 0xFFF2_8293, 0xFE02_9EE3, 0x0000_0073];
-
-// Two loops, one in the other.
-pub(crate) const NESTED: [u32; 4] = [0x0030_0293, 0x0002_9063, 0xFE02_9CE3, 0x0000_0073];
-
 pub(crate) const PLAIN: &str = "period = 100\ndeadline = 100\njitter = 0\n";
 
 pub(crate) const LONG: &str = "period = 10000\ndeadline = 10000\njitter = 0\n";
@@ -56,7 +47,7 @@ const CASES: [Case; 9] = [
         programs: &[Program {
             name: "one",
             start: 0x1000,
-            words: &SHORT,
+            words: &TWO_WORDS,
             stated: PLAIN,
         }],
         status: Status::Done,
@@ -69,7 +60,7 @@ const CASES: [Case; 9] = [
         programs: &[Program {
             name: "one",
             start: 0x1000,
-            words: &SHORT,
+            words: &TWO_WORDS,
             stated: "period = 100\ndeadline = 17\njitter = 0\n",
         }],
         status: Status::Done,
@@ -82,7 +73,7 @@ const CASES: [Case; 9] = [
         programs: &[Program {
             name: "one",
             start: 0x1000,
-            words: &SHORT,
+            words: &TWO_WORDS,
             stated: "period = 100\ndeadline = 16\njitter = 0\n",
         }],
         status: Status::No,
@@ -95,7 +86,7 @@ const CASES: [Case; 9] = [
         programs: &[Program {
             name: "one",
             start: 0x1000,
-            words: &COUNT,
+            words: &LOOP,
             stated: "period = 100\ndeadline = 100\njitter = 0\n[[task.loop]]\nhead = 0x1004\nbound = 3\nrange = [[0x1004, 0x100C]]\n",
         }],
         status: Status::Done,
@@ -109,13 +100,13 @@ const CASES: [Case; 9] = [
             Program {
                 name: "high",
                 start: 0x2000,
-                words: &SHORT,
+                words: &TWO_WORDS,
                 stated: PLAIN,
             },
             Program {
                 name: "low",
                 start: 0x1000,
-                words: &SHORT,
+                words: &TWO_WORDS,
                 stated: PLAIN,
             },
         ],
@@ -130,13 +121,13 @@ const CASES: [Case; 9] = [
             Program {
                 name: "high",
                 start: 0x2000,
-                words: &SHORT,
+                words: &TWO_WORDS,
                 stated: "period = 100\ndeadline = 100\njitter = 60\n",
             },
             Program {
                 name: "low",
                 start: 0x1000,
-                words: &SHORT,
+                words: &TWO_WORDS,
                 stated: PLAIN,
             },
         ],
@@ -151,19 +142,19 @@ const CASES: [Case; 9] = [
             Program {
                 name: "a",
                 start: 0x3010,
-                words: &FOUR,
+                words: &LINES,
                 stated: LONG,
             },
             Program {
                 name: "b",
                 start: 0x2010,
-                words: &TWO,
+                words: &BACK,
                 stated: LONG,
             },
             Program {
                 name: "c",
                 start: 0x1030,
-                words: &TWO,
+                words: &BACK,
                 stated: LONG,
             },
         ],
@@ -191,13 +182,13 @@ const CASES: [Case; 9] = [
             Program {
                 name: "high",
                 start: 0x2000,
-                words: &SHORT,
+                words: &TWO_WORDS,
                 stated: PLAIN,
             },
             Program {
                 name: "low",
                 start: 0x1000,
-                words: &SHORT,
+                words: &TWO_WORDS,
                 stated: PLAIN,
             },
         ],
@@ -305,27 +296,29 @@ fn analyses_of_programs(rt: HostRuntime) -> Result<(), Fail> {
     Ok(())
 }
 
+// Words, the call of the files that fails, and what `run` ends with.
+static OTHER_ENDS: [(&[&str], u64, Status, &str); 4] = [
+    (&["analyze"], NEVER, Status::BadWords, "bad words\n"),
+    (
+        &["analyze", "set.toml", "one"],
+        NEVER,
+        Status::BadWords,
+        "bad words\n",
+    ),
+    (
+        &["analyse", "set.toml"],
+        NEVER,
+        Status::BadWords,
+        "bad words\n",
+    ),
+    (&["analyze", "set.toml"], 3, Status::ReadFault, ""),
+];
+
 // Other numbers of words are no command, and a file that cannot be read is a fault.
 #[test]
 fn other_ends(rt: HostRuntime) -> Result<(), Fail> {
     let alloc = rt.alloc();
-    let cases: [(&[&str], u64, Status, &str); 4] = [
-        (&["analyze"], NEVER, Status::BadWords, "bad words\n"),
-        (
-            &["analyze", "set.toml", "one"],
-            NEVER,
-            Status::BadWords,
-            "bad words\n",
-        ),
-        (
-            &["analyse", "set.toml"],
-            NEVER,
-            Status::BadWords,
-            "bad words\n",
-        ),
-        (&["analyze", "set.toml"], 3, Status::ReadFault, ""),
-    ];
-    for (words, failing, status, text) in cases {
+    for &(words, failing, status, text) in &OTHER_ENDS {
         let (found, written) = ends(alloc, words, files_of(alloc, &CASES[0], b"")?, failing)?;
         assert_eq!(rt; written.as_slice(), text.as_bytes());
         assert_eq!(rt; found, status);

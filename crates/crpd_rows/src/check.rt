@@ -1,5 +1,6 @@
 use crpd_io::{MemFiles, MemSink};
 use crpd_tool::{Status, run};
+use fixtures::{ECALL, NEXT, file_of};
 use std::alloc::{AllocError, Global};
 use std::process::Abort;
 use std::test::Fail;
@@ -11,31 +12,18 @@ fn set_of(alloc: Global, deadline: u64) -> Result<String, AllocError> {
     )
 }
 
-// The first 84 bytes of the file of two words at 0x1000.
-const HEADERS: [u8; 84] = [
-    127, 69, 76, 70, 1, 1, 1, 0, 0, 0, 0, 0, 0, 0, 0, 0, 2, 0, 243, 0, 1, 0, 0, 0, 0, 16, 0, 0, 52,
-    0, 0, 0, 0, 0, 0, 0, 0, 0, 0, 0, 52, 0, 32, 0, 1, 0, 0, 0, 0, 0, 0, 0, 1, 0, 0, 0, 84, 0, 0, 0,
-    0, 16, 0, 0, 0, 16, 0, 0, 8, 0, 0, 0, 8, 0, 0, 0, 5, 0, 0, 0, 4, 0, 0, 0,
-];
+// `lw x5,0(x0)`, `addi x0,x0,0`, `jal x0,0` and `mul x5,x6,x7`.
+const LW: u32 = 0x0000_2283;
 
-// `addi x5,x0,1`, `lw x5,0(x0)`, `ecall`, `addi x0,x0,0`, `jal x0,0` and `mul x5,x6,x7`.
-const ADDI: [u8; 4] = [147, 2, 16, 0];
+const NOP: u32 = 0x0000_0013;
 
-const LW: [u8; 4] = [131, 34, 0, 0];
+const JAL: u32 = 0x0000_006F;
 
-const ECALL: [u8; 4] = [115, 0, 0, 0];
+const MUL: u32 = 0x0273_02B3;
 
-const NOP: [u8; 4] = [19, 0, 0, 0];
-
-const JAL: [u8; 4] = [111, 0, 0, 0];
-
-const MUL: [u8; 4] = [179, 2, 115, 2];
-
-fn program_of(alloc: Global, first: [u8; 4], second: [u8; 4]) -> Result<Vec<u8>, AllocError> {
-    let mut bytes = HEADERS.to_vec(alloc)?;
-    bytes.extend_from_slice(&first)?;
-    bytes.extend_from_slice(&second)?;
-    Ok(bytes)
+// The file of two words at 0x1000.
+fn program_of(alloc: Global, first: u32, second: u32) -> Result<Vec<u8>, AllocError> {
+    file_of(alloc, 0x1000, &[first, second])
 }
 
 // What a certificate states: the platform's sets, the first node's potential, bound, window and response.
@@ -103,7 +91,7 @@ const NEVER: u64 = u64::MAX;
 fn case_ends(
     rt: &impl Abort,
     alloc: Global,
-    first: [u8; 4],
+    first: u32,
     deadline: u64,
     numbers: Numbers,
     status: Status,
@@ -120,76 +108,78 @@ fn case_ends(
 
 const YES: &str = "yes\none bound 12 window 17 response 17 method ucb\n";
 
+// The first of two words, the deadline, what the certificate states, and what `check` ends with.
+static CLAUSES: [(u32, u64, Numbers, Status, &str); 11] = [
+    (NEXT, 100, (4, 12, 12, 17, 17), Status::Done, YES),
+    (NEXT, 17, (4, 12, 12, 17, 17), Status::Done, YES),
+    (
+        NEXT,
+        100,
+        (8, 12, 12, 17, 17),
+        Status::No,
+        "no one clause 1 place 0\n",
+    ),
+    (
+        NEXT,
+        100,
+        (4, 11, 12, 17, 17),
+        Status::No,
+        "no one clause 6 place 0\n",
+    ),
+    (
+        NEXT,
+        100,
+        (4, 12, 11, 17, 17),
+        Status::No,
+        "no one clause 7 place 0\n",
+    ),
+    (
+        NEXT,
+        100,
+        (4, 12, 12, 16, 16),
+        Status::No,
+        "no one clause 8 place 0\n",
+    ),
+    (
+        NEXT,
+        100,
+        (4, 12, 12, 17, 18),
+        Status::No,
+        "no one clause 9 place 0\n",
+    ),
+    (
+        NEXT,
+        16,
+        (4, 12, 12, 17, 17),
+        Status::No,
+        "no one clause 9 place 1\n",
+    ),
+    (
+        LW,
+        100,
+        (4, 14, 15, 20, 20),
+        Status::No,
+        "no one clause 6 place 0\n",
+    ),
+    (
+        LW,
+        100,
+        (4, 15, 14, 20, 20),
+        Status::No,
+        "no one clause 7 place 0\n",
+    ),
+    (
+        LW,
+        100,
+        (4, 15, 15, 20, 20),
+        Status::Done,
+        "yes\none bound 15 window 20 response 20 method ucb\n",
+    ),
+];
+
 #[test]
 fn the_clauses(rt: HostRuntime) -> Result<(), Fail> {
-    let cases = [
-        (ADDI, 100, (4, 12, 12, 17, 17), Status::Done, YES),
-        (ADDI, 17, (4, 12, 12, 17, 17), Status::Done, YES),
-        (
-            ADDI,
-            100,
-            (8, 12, 12, 17, 17),
-            Status::No,
-            "no one clause 1 place 0\n",
-        ),
-        (
-            ADDI,
-            100,
-            (4, 11, 12, 17, 17),
-            Status::No,
-            "no one clause 6 place 0\n",
-        ),
-        (
-            ADDI,
-            100,
-            (4, 12, 11, 17, 17),
-            Status::No,
-            "no one clause 7 place 0\n",
-        ),
-        (
-            ADDI,
-            100,
-            (4, 12, 12, 16, 16),
-            Status::No,
-            "no one clause 8 place 0\n",
-        ),
-        (
-            ADDI,
-            100,
-            (4, 12, 12, 17, 18),
-            Status::No,
-            "no one clause 9 place 0\n",
-        ),
-        (
-            ADDI,
-            16,
-            (4, 12, 12, 17, 17),
-            Status::No,
-            "no one clause 9 place 1\n",
-        ),
-        (
-            LW,
-            100,
-            (4, 14, 15, 20, 20),
-            Status::No,
-            "no one clause 6 place 0\n",
-        ),
-        (
-            LW,
-            100,
-            (4, 15, 14, 20, 20),
-            Status::No,
-            "no one clause 7 place 0\n",
-        ),
-        (
-            LW,
-            100,
-            (4, 15, 15, 20, 20),
-            Status::Done,
-            "yes\none bound 15 window 20 response 20 method ucb\n",
-        ),
-    ];
-    for (first, deadline, numbers, status, text) in cases {
+    for &(first, deadline, numbers, status, text) in &CLAUSES {
         case_ends(&rt, rt.alloc(), first, deadline, numbers, status, text)?;
     }
     Ok(())
@@ -199,7 +189,7 @@ fn the_clauses(rt: HostRuntime) -> Result<(), Fail> {
 fn the_refusals(rt: HostRuntime) -> Result<(), Fail> {
     let alloc = rt.alloc();
     let set = set_of(alloc, 100)?.into_bytes();
-    let program = program_of(alloc, ADDI, ECALL)?;
+    let program = program_of(alloc, NEXT, ECALL)?;
     let certificate = certificate_of(alloc, (4, 12, 12, 17, 17))?.into_bytes();
     let none = Vec::new(alloc);
     let long = vec![in alloc; 10u8; 16_777_217]?;
@@ -257,7 +247,7 @@ fn the_order_of_refusals(rt: HostRuntime) -> Result<(), Fail> {
         "{one}[[task]]\nname = \"two\"\nfile = \"one.elf\"\nperiod = 100\njitter = 0\ndeadline = 100\n"
     )?;
     let (one, two) = (one.into_bytes(), two.into_bytes());
-    let program = program_of(alloc, ADDI, ECALL)?;
+    let program = program_of(alloc, NEXT, ECALL)?;
     let mut short = program.clone()?;
     short.truncate(51);
     let mut longer = program.clone()?;
@@ -307,7 +297,7 @@ fn two_tasks(rt: HostRuntime) -> Result<(), Fail> {
         let set = format!(in alloc;
             "{one}[[task]]\nname = \"two\"\nfile = \"one.elf\"\nperiod = 100\njitter = 0\ndeadline = 100\n"
         )?;
-        let program = program_of(alloc, ADDI, ECALL)?;
+        let program = program_of(alloc, NEXT, ECALL)?;
         let files = files_of(alloc, set.into_bytes(), program, certificate.into_bytes())?;
         check_ends(&rt, alloc, files, (NEVER, NEVER), status, text)?;
     }
@@ -356,7 +346,7 @@ fn certificates(rt: HostRuntime) -> Result<(), Fail> {
         let files = files_of(
             alloc,
             set_of(alloc, 100)?.into_bytes(),
-            program_of(alloc, ADDI, ECALL)?,
+            program_of(alloc, NEXT, ECALL)?,
             certificate,
         )?;
         check_ends(&rt, alloc, files, (NEVER, NEVER), status, text)?;
@@ -370,7 +360,7 @@ fn multiplication(rt: HostRuntime) -> Result<(), Fail> {
     let alloc = rt.alloc();
     let first = certificate_of(alloc, (4, 12, 12, 17, 17))?;
     let cases = [
-        (ADDI, first, Status::No, "no one clause 1 place 0\n"),
+        (NEXT, first, Status::No, "no one clause 1 place 0\n"),
         (
             MUL,
             second_of(alloc, 4, 16, 21)?,
@@ -394,7 +384,7 @@ fn plain_files(alloc: Global) -> Result<Vec<(String, Vec<u8>)>, AllocError> {
     files_of(
         alloc,
         set_of(alloc, 100)?.into_bytes(),
-        program_of(alloc, ADDI, ECALL)?,
+        program_of(alloc, NEXT, ECALL)?,
         certificate_of(alloc, (4, 12, 12, 17, 17))?.into_bytes(),
     )
 }

@@ -1,9 +1,7 @@
 // The command `classic`, on worked examples, and `check` of what it wrote.
-use crate::analyze::{
-    Case, LONG, NESTED, NEVER, Program, SHORT, ends, files_with, make_then_check,
-};
-use crate::sets::{FOUR, TWO};
+use crate::analyze::{Case, LONG, NEVER, Program, ends, files_with, make_then_check};
 use crpd_tool::Status;
+use fixtures::{BACK, LINES, NESTED, TWO_WORDS};
 use std::test::Fail;
 
 const OFTEN: &str = "period = 120\ndeadline = 120\njitter = 0\n";
@@ -17,19 +15,19 @@ const CASES: [Case; 3] = [
             Program {
                 name: "a",
                 start: 0x3010,
-                words: &FOUR,
+                words: &LINES,
                 stated: OFTEN,
             },
             Program {
                 name: "b",
                 start: 0x2010,
-                words: &TWO,
+                words: &BACK,
                 stated: LONG,
             },
             Program {
                 name: "one",
                 start: 0x1000,
-                words: &SHORT,
+                words: &TWO_WORDS,
                 stated: LONG,
             },
         ],
@@ -44,19 +42,19 @@ const CASES: [Case; 3] = [
             Program {
                 name: "a",
                 start: 0x3010,
-                words: &FOUR,
+                words: &LINES,
                 stated: OFTEN,
             },
             Program {
                 name: "b",
                 start: 0x2010,
-                words: &TWO,
+                words: &BACK,
                 stated: LONG,
             },
             Program {
                 name: "one",
                 start: 0x1000,
-                words: &SHORT,
+                words: &TWO_WORDS,
                 stated: "period = 10000\ndeadline = 200\njitter = 0\n",
             },
         ],
@@ -105,21 +103,23 @@ fn analysed_where_plain_delays_are_too_long(rt: HostRuntime) -> Result<(), Fail>
     Ok(())
 }
 
+// Words, the call of the files that fails, and what `run` ends with.
+static OTHER_ENDS: [(&[&str], u64, Status, &str); 3] = [
+    (&["classic"], NEVER, Status::BadWords, "bad words\n"),
+    (
+        &["classic", "set.toml", "one"],
+        NEVER,
+        Status::BadWords,
+        "bad words\n",
+    ),
+    (&["classic", "set.toml"], 3, Status::ReadFault, ""),
+];
+
 // Other numbers of words are no command, and a file that cannot be read is a fault.
 #[test]
 fn other_ends(rt: HostRuntime) -> Result<(), Fail> {
     let alloc = rt.alloc();
-    let cases: [(&[&str], u64, Status, &str); 3] = [
-        (&["classic"], NEVER, Status::BadWords, "bad words\n"),
-        (
-            &["classic", "set.toml", "one"],
-            NEVER,
-            Status::BadWords,
-            "bad words\n",
-        ),
-        (&["classic", "set.toml"], 3, Status::ReadFault, ""),
-    ];
-    for (words, failing, status, text) in cases {
+    for &(words, failing, status, text) in &OTHER_ENDS {
         let files = files_with(alloc, &CASES[0], 10, 5, b"")?;
         let (found, written) = ends(alloc, words, files, failing)?;
         assert_eq!(rt; written.as_slice(), text.as_bytes());

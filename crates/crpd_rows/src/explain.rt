@@ -1,7 +1,8 @@
 // The command `explain`: a certificate and a script in, the reloads of the script's run and the certificate's delays out.
-use crate::simulate::{FOUR, Held, Job, NEVER, ONE, TURNS, TWO, file_of};
+use crate::simulate::{Held, Job, NEVER};
 use crpd_io::{MemFiles, MemSink};
 use crpd_tool::{Status, run};
+use fixtures::{BACK, LINES, LOOP, TWO_WORDS, file_of};
 use std::alloc::{AllocError, Global};
 use std::process::Abort;
 use std::test::Fail;
@@ -60,7 +61,10 @@ const OFTEN: &str = "period = 100\ndeadline = 100\njitter = 0\n";
 
 const LONG: &str = "period = 10000\ndeadline = 10000\njitter = 0\n";
 
-const PAIR: [Program; 2] = [("high", 0x2000, &ONE, OFTEN), ("low", 0x1000, &ONE, OFTEN)];
+const PAIR: [Program; 2] = [
+    ("high", 0x2000, &TWO_WORDS, OFTEN),
+    ("low", 0x1000, &TWO_WORDS, OFTEN),
+];
 
 const SHORT: &str =
     "\"bound\":12,\"evicting\":[0],\"loops\":[],\"potentials\":[12,1],\"states\":[[0,[],[]]],\"useful\":[0]";
@@ -91,13 +95,13 @@ const ALL_PARTS: [Part; 2] = [("high", ALL_HIGH, "ucb", 17), ("low", ALL_LOW, "u
 const BETWEEN_PARTS: [Part; 2] = [("high", SHORT, "ucb", 27), ("low", SHORT, "ucb", 59)];
 
 // Jumps through four blocks, and through two there and back.
-const A: Program = ("a", 0x3010, &FOUR, LONG);
+const A: Program = ("a", 0x3010, &LINES, LONG);
 
-const B: Program = ("b", 0x2010, &TWO, LONG);
+const B: Program = ("b", 0x2010, &BACK, LONG);
 
-const C: Program = ("c", 0x1030, &TWO, LONG);
+const C: Program = ("c", 0x1030, &BACK, LONG);
 
-const D: Program = ("d", 0x4010, &TWO, LONG);
+const D: Program = ("d", 0x4010, &BACK, LONG);
 
 const A_PART: &str =
     "\"bound\":50,\"evicting\":[1,2,3,4],\"loops\":[],\"potentials\":[50,37,24,11],\"states\":[[0,[],[]]],\"useful\":[]";
@@ -148,8 +152,8 @@ const EVERY_36: &str = "period = 36\ndeadline = 36\njitter = 0\n";
 const TURNED: Case = Case {
     platform: PLAIN,
     programs: &[
-        ("high", 0x2000, &ONE, EVERY_36),
-        ("low", 0x1000, &TURNS, THREE_TURNS),
+        ("high", 0x2000, &TWO_WORDS, EVERY_36),
+        ("low", 0x1000, &LOOP, THREE_TURNS),
     ],
     parts: &[
         ("high", SHORT, "ucb", 17),
@@ -168,8 +172,8 @@ const TURNED: Case = Case {
 // The watch breaks with the instruction of the first reload, some cycles after its fetch.
 const TURNED_TOO_OFTEN: Case = Case {
     programs: &[
-        ("high", 0x2000, &ONE, EVERY_36),
-        ("low", 0x1000, &TURNS, TWO_TURNS),
+        ("high", 0x2000, &TWO_WORDS, EVERY_36),
+        ("low", 0x1000, &LOOP, TWO_TURNS),
     ],
     parts: &[
         ("high", SHORT, "ucb", 17),
@@ -193,8 +197,8 @@ const QUICK_HIGH: &str =
 const QUICK_TURNS: Case = Case {
     platform: QUICK,
     programs: &[
-        ("high", 0x2000, &ONE, EVERY_3),
-        ("low", 0x1000, &TURNS, THREE_TURNS),
+        ("high", 0x2000, &TWO_WORDS, EVERY_3),
+        ("low", 0x1000, &LOOP, THREE_TURNS),
     ],
     parts: &[
         ("high", QUICK_HIGH, "ucb", 2),
@@ -212,8 +216,8 @@ const QUICK_TURNS: Case = Case {
 
 const QUICK_TURNS_TOO_OFTEN: Case = Case {
     programs: &[
-        ("high", 0x2000, &ONE, EVERY_3),
-        ("low", 0x1000, &TURNS, TWO_TURNS),
+        ("high", 0x2000, &TWO_WORDS, EVERY_3),
+        ("low", 0x1000, &LOOP, TWO_TURNS),
     ],
     parts: &[
         ("high", QUICK_HIGH, "ucb", 2),
@@ -438,18 +442,20 @@ fn refusals(rt: HostRuntime) -> Result<(), Fail> {
     Ok(())
 }
 
+// The calls of the files and of the sink that fail, and what `explain` ends with.
+static FAULTS: [((u64, u64), Status, &str); 5] = [
+    ((0, NEVER), Status::ReadFault, ""),
+    ((4, NEVER), Status::ReadFault, ""),
+    ((12, NEVER), Status::ReadFault, ""),
+    ((NEVER, 0), Status::WriteFault, ""),
+    ((NEVER, 2), Status::WriteFault, "reload low 0 s"),
+];
+
 // A call that fails comes before any text, and ends it where it is one of the sink's.
 #[test]
 fn faults(rt: HostRuntime) -> Result<(), Fail> {
     let alloc = rt.alloc();
-    let cases = [
-        ((0, NEVER), Status::ReadFault, ""),
-        ((4, NEVER), Status::ReadFault, ""),
-        ((12, NEVER), Status::ReadFault, ""),
-        ((NEVER, 0), Status::WriteFault, ""),
-        ((NEVER, 2), Status::WriteFault, "reload low 0 s"),
-    ];
-    for (failing, status, text) in cases {
+    for &(failing, status, text) in &FAULTS {
         let files = whole_files(alloc, &PAIRED)?;
         ends(&rt, alloc, files, failing, (status, text))?;
     }

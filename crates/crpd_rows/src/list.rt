@@ -1,6 +1,7 @@
 // The command `list`, on worked examples.
 use crpd_io::{MemFiles, MemSink};
 use crpd_tool::{Status, run};
+use fixtures::{TWO_WORDS, file_of, push_words};
 use std::alloc::{AllocError, Global};
 use std::process::Abort;
 use std::test::Fail;
@@ -23,73 +24,33 @@ pub(crate) fn set_of(alloc: Global, tasks: &[Task]) -> Result<Vec<u8>, AllocErro
     Ok(text.into_bytes())
 }
 
-// An ELF header with one program header, at 0x1000, and two words: `addi x5,x0,1` and `ecall`.
-const PROGRAM: [u32; 23] = [
-    0x464C_457F,
-    0x0001_0101,
-    0,
-    0,
-    0x00F3_0002,
-    1,
-    0x1000,
-    52,
-    0,
-    0,
-    0x0020_0034,
-    1,
-    0,
-    1,
-    84,
-    0x1000,
-    0x1000,
-    8,
-    8,
-    5,
-    4,
-    0x0010_0293,
-    0x0000_0073,
-];
-
-// A number as four bytes.
-pub(crate) fn push_word(bytes: &mut Vec<u8>, word: u32) -> Result<(), AllocError> {
-    bytes.extend_from_slice(&word.to_le_bytes())?;
-    Ok(())
-}
-
-// The program, with other numbers at some places of its words.
-pub(crate) fn program_with(alloc: Global, changes: &[(usize, u32)]) -> Result<Vec<u8>, AllocError> {
-    let mut words = PROGRAM.to_vec(alloc)?;
-    for (place, word) in changes {
-        if *place < words.len() {
-            words[*place] = *word;
+// Puts a word at a place of the bytes, where it lies in them.
+fn put_word(bytes: &mut Vec<u8>, place: usize, word: u32) {
+    if let Some(end) = place.checked_add(4) {
+        if end <= bytes.len() {
+            bytes[place..end].copy_from_slice(&word.to_le_bytes());
         }
     }
-    let mut bytes = Vec::new(alloc);
-    for word in &words {
-        push_word(&mut bytes, *word)?;
+}
+
+// The file of `addi x5,x0,1` and `ecall` at 0x1000, with other words at some places, counted in
+// words: 21 of the headers, and the two of the code.
+fn program_with(alloc: Global, changes: &[(usize, u32)]) -> Result<Vec<u8>, AllocError> {
+    let mut bytes = file_of(alloc, 0x1000, &TWO_WORDS)?;
+    for (place, word) in changes {
+        put_word(&mut bytes, place.saturating_mul(4), *word);
     }
     Ok(bytes)
 }
 
-// A file of two segments that adjoin at 0x1006, within a word, and a word that is none.
+// A file of two segments that adjoin at 0x1006, within a word, and a word that is none: the second
+// program header, and the words of both.
 fn straddling(alloc: Global) -> Result<Vec<u8>, AllocError> {
     let mut bytes = program_with(alloc, &[(11, 2), (14, 116), (17, 6), (18, 6)])?;
     bytes.truncate(84);
-    for word in [
-        1,
-        122,
-        0x1006,
-        0x1006,
-        6,
-        6,
-        5,
-        4,
-        0x0010_0293,
-        0x0000_0073,
-        0,
-    ] {
-        push_word(&mut bytes, word)?;
-    }
+    push_words(&mut bytes, &[1, 122, 0x1006, 0x1006, 6, 6, 5, 4])?;
+    push_words(&mut bytes, &TWO_WORDS)?;
+    push_words(&mut bytes, &[0])?;
     Ok(bytes)
 }
 
@@ -125,14 +86,14 @@ pub(crate) fn ends(
 
 pub(crate) const NEVER: u64 = u64::MAX;
 
-const TWO_WORDS: &str = "00001000 00100293 addi x5,x0,1\n00001004 00000073 ecall\n";
+const TWO_WORDS_TEXT: &str = "00001000 00100293 addi x5,x0,1\n00001004 00000073 ecall\n";
 
 // `list` of the task `one` alone, over its file.
 fn one_ends(rt: &impl Abort, alloc: Global, file: Vec<u8>, text: &str) -> Result<(), Fail> {
     let mut files: Vec<File> = Vec::new(alloc);
     files.push(("set.toml", set_of(alloc, &[("one", "one.elf", TIMES)])?))?;
     files.push(("one.elf", file))?;
-    let status = if text == TWO_WORDS {
+    let status = if text == TWO_WORDS_TEXT {
         Status::Done
     } else {
         Status::Refused
@@ -165,98 +126,103 @@ fn a_file_cut(rt: HostRuntime) -> Result<(), Fail> {
     Ok(())
 }
 
+// Words changed in the file, by their places, and what `list` writes.
+static CHANGES: [(&[(usize, u32)], &str); 14] = [
+    (&[], TWO_WORDS_TEXT),
+    (&[(0, 0x464C_4500)], "refused 2 NotElf one.elf -\n"),
+    (&[(1, 0x0001_0102)], "refused 3 NotElf32Little one.elf -\n"),
+    (&[(4, 0x003E_0002)], "refused 4 NotRiscV one.elf -\n"),
+    (&[(4, 0x00F3_0003)], "refused 5 NotExecutable one.elf -\n"),
+    (&[(13, 2)], "refused 6 NotStatic one.elf 0\n"),
+    (&[(19, 4)], "refused 10 NoCode one.elf -\n"),
+    (&[(17, 0xFFFF_FFFF)], "refused 8 SegmentOutside one.elf 0\n"),
+    (&[(17, 9), (18, 9)], "refused 8 SegmentOutside one.elf 0\n"),
+    (&[(18, 0xFFFF_F000)], TWO_WORDS_TEXT),
+    (&[(18, 0xFFFF_F001)], "refused 8 SegmentOutside one.elf 0\n"),
+    (&[(8, 92), (12, 1)], "refused 11 SymbolsOutside one.elf -\n"),
+    (&[(6, 0x1008)], "refused 42 EntryOutside one 00001008\n"),
+    (&[(6, 0x1002)], "refused 42 EntryOutside one 00001002\n"),
+];
+
 #[test]
 fn a_file_changed(rt: HostRuntime) -> Result<(), Fail> {
     let alloc = rt.alloc();
-    let cases: [(&[(usize, u32)], &str); 14] = [
-        (&[], TWO_WORDS),
-        (&[(0, 0x464C_4500)], "refused 2 NotElf one.elf -\n"),
-        (&[(1, 0x0001_0102)], "refused 3 NotElf32Little one.elf -\n"),
-        (&[(4, 0x003E_0002)], "refused 4 NotRiscV one.elf -\n"),
-        (&[(4, 0x00F3_0003)], "refused 5 NotExecutable one.elf -\n"),
-        (&[(13, 2)], "refused 6 NotStatic one.elf 0\n"),
-        (&[(19, 4)], "refused 10 NoCode one.elf -\n"),
-        (&[(17, 0xFFFF_FFFF)], "refused 8 SegmentOutside one.elf 0\n"),
-        (&[(17, 9), (18, 9)], "refused 8 SegmentOutside one.elf 0\n"),
-        (&[(18, 0xFFFF_F000)], TWO_WORDS),
-        (&[(18, 0xFFFF_F001)], "refused 8 SegmentOutside one.elf 0\n"),
-        (&[(8, 92), (12, 1)], "refused 11 SymbolsOutside one.elf -\n"),
-        (&[(6, 0x1008)], "refused 42 EntryOutside one 00001008\n"),
-        (&[(6, 0x1002)], "refused 42 EntryOutside one 00001002\n"),
-    ];
-    for (changes, text) in cases {
+    for &(changes, text) in &CHANGES {
         one_ends(&rt, alloc, program_with(alloc, changes)?, text)?;
     }
     Ok(())
 }
 
+const STACK: &str = "period = 100\ndeadline = 100\njitter = 0\nstack = \"s+4\"\n";
+
+// The tasks of a set, the one that is listed, and what `list` writes.
+static REFUSALS: [(&[Task], &str, &str); 11] = [
+    (
+        &[(
+            "one",
+            "one.elf",
+            "period = 100\ndeadline = 100\njitter = 0\njiter = 0\n",
+        )],
+        "one",
+        "refused 26 UnknownKey set.toml task.0.jiter\n",
+    ),
+    (
+        &[("one", "one.elf", "deadline = 100\njitter = 0\n")],
+        "one",
+        "refused 21 Missing set.toml task.0.period\n",
+    ),
+    (
+        &[(
+            "one",
+            "one.elf",
+            "period = 100\ndeadline = 101\njitter = 0\n",
+        )],
+        "one",
+        "refused 25 DeadlineAfterPeriod set.toml task.0.deadline\n",
+    ),
+    (
+        &[("one", "one.elf", "period = 0\ndeadline = 100\njitter = 0\n")],
+        "one",
+        "refused 22 BadValue set.toml task.0.period\n",
+    ),
+    (
+        &[("one", "one.elf", TIMES), ("one", "one.elf", TIMES)],
+        "one",
+        "refused 24 SameName set.toml task.1.name\n",
+    ),
+    (&[], "one", "refused 21 Missing set.toml task\n"),
+    (
+        &[("one", "none.elf", TIMES)],
+        "two",
+        "refused 82 NoSuchTask set.toml two\n",
+    ),
+    (
+        &[("one", "none.elf", TIMES)],
+        "one",
+        "refused 80 NoFile none.elf -\n",
+    ),
+    (
+        &[("one", "set.toml", TIMES), ("two", "none.elf", TIMES)],
+        "two",
+        "refused 2 NotElf set.toml -\n",
+    ),
+    (
+        &[("one", "one.elf", STACK), ("two", "two.elf", STACK)],
+        "two",
+        "refused 40 CodeConflict set.toml 00001002\n",
+    ),
+    (
+        &[("one", "one.elf", TIMES), ("two", "copy.elf", STACK)],
+        "one",
+        "refused 41 UnknownSymbol two s+4\n",
+    ),
+];
+
 // The keys of the set, the tasks' names, and the order of refusals: the set, the task, the files by task, the code.
 #[test]
 fn refusals_in_order(rt: HostRuntime) -> Result<(), Fail> {
     let alloc = rt.alloc();
-    let stack = "period = 100\ndeadline = 100\njitter = 0\nstack = \"s+4\"\n";
-    let cases: [(&[Task], &str, &str); 11] = [
-        (
-            &[(
-                "one",
-                "one.elf",
-                "period = 100\ndeadline = 100\njitter = 0\njiter = 0\n",
-            )],
-            "one",
-            "refused 26 UnknownKey set.toml task.0.jiter\n",
-        ),
-        (
-            &[("one", "one.elf", "deadline = 100\njitter = 0\n")],
-            "one",
-            "refused 21 Missing set.toml task.0.period\n",
-        ),
-        (
-            &[(
-                "one",
-                "one.elf",
-                "period = 100\ndeadline = 101\njitter = 0\n",
-            )],
-            "one",
-            "refused 25 DeadlineAfterPeriod set.toml task.0.deadline\n",
-        ),
-        (
-            &[("one", "one.elf", "period = 0\ndeadline = 100\njitter = 0\n")],
-            "one",
-            "refused 22 BadValue set.toml task.0.period\n",
-        ),
-        (
-            &[("one", "one.elf", TIMES), ("one", "one.elf", TIMES)],
-            "one",
-            "refused 24 SameName set.toml task.1.name\n",
-        ),
-        (&[], "one", "refused 21 Missing set.toml task\n"),
-        (
-            &[("one", "none.elf", TIMES)],
-            "two",
-            "refused 82 NoSuchTask set.toml two\n",
-        ),
-        (
-            &[("one", "none.elf", TIMES)],
-            "one",
-            "refused 80 NoFile none.elf -\n",
-        ),
-        (
-            &[("one", "set.toml", TIMES), ("two", "none.elf", TIMES)],
-            "two",
-            "refused 2 NotElf set.toml -\n",
-        ),
-        (
-            &[("one", "one.elf", stack), ("two", "two.elf", stack)],
-            "two",
-            "refused 40 CodeConflict set.toml 00001002\n",
-        ),
-        (
-            &[("one", "one.elf", TIMES), ("two", "copy.elf", stack)],
-            "one",
-            "refused 41 UnknownSymbol two s+4\n",
-        ),
-    ];
-    for (tasks, name, text) in cases {
+    for &(tasks, name, text) in &REFUSALS {
         let mut files: Vec<File> = Vec::new(alloc);
         files.push(("set.toml", set_of(alloc, tasks)?))?;
         files.push(("one.elf", program_with(alloc, &[])?))?;
@@ -285,6 +251,13 @@ fn three_files(alloc: Global) -> Result<Vec<File>, AllocError> {
 const STRADDLING: &str =
     "00001000 00100293 addi x5,x0,1\n00001004 00000073 ecall\n00001008 00000000 .word\n";
 
+// The tasks of that set, and what `list` writes of each.
+static LISTED: [(&str, &str); 3] = [
+    ("one", TWO_WORDS_TEXT),
+    ("again", TWO_WORDS_TEXT),
+    ("low", STRADDLING),
+];
+
 // Each file is measured once and read once: six calls in all.
 #[test]
 fn files_are_read_once(rt: HostRuntime) -> Result<(), Fail> {
@@ -294,12 +267,7 @@ fn files_are_read_once(rt: HostRuntime) -> Result<(), Fail> {
         let words = ["list", "set.toml", "low"];
         ends(&rt, alloc, &words, files, n, (Status::ReadFault, ""))?;
     }
-    let cases = [
-        ("one", TWO_WORDS),
-        ("again", TWO_WORDS),
-        ("low", STRADDLING),
-    ];
-    for (name, text) in cases {
+    for &(name, text) in &LISTED {
         let words = ["list", "set.toml", name];
         let files = three_files(alloc)?;
         ends(&rt, alloc, &words, files, 6, (Status::Done, text))?;
@@ -366,44 +334,35 @@ const LINKED: [(usize, u32); 53] = [
     (0x3110, 8),
 ];
 
-// Puts words at their places, where these lie in the bytes.
-fn put_words(bytes: &mut Vec<u8>, words: &[(usize, u32)]) {
-    for (place, word) in words {
-        let start = *place;
-        let Some(end) = start.checked_add(4) else {
-            return;
-        };
-        if end <= bytes.len() {
-            bytes[start..end].copy_from_slice(&word.to_le_bytes());
-        }
-    }
-}
-
 fn linked(alloc: Global) -> Result<Vec<u8>, AllocError> {
     let mut bytes = vec![in alloc; 0u8; 0x3124]?;
-    put_words(&mut bytes, &LINKED);
+    for (place, word) in &LINKED {
+        put_word(&mut bytes, *place, *word);
+    }
     Ok(bytes)
 }
+
+// The entry of the task of that image, and what `list` of another task ends with.
+static ENTRIES: [(&str, Status, &str); 5] = [
+    ("a", Status::Done, TWO_WORDS_TEXT),
+    ("d", Status::Refused, "refused 41 UnknownSymbol a d\n"),
+    ("a+8", Status::Done, TWO_WORDS_TEXT),
+    (
+        "a+4294967295",
+        Status::Refused,
+        "refused 41 UnknownSymbol a a+4294967295\n",
+    ),
+    (
+        "a+2",
+        Status::Refused,
+        "refused 42 EntryOutside a 00013012\n",
+    ),
+];
 
 #[test]
 fn a_linked_image(rt: HostRuntime) -> Result<(), Fail> {
     let alloc = rt.alloc();
-    let cases = [
-        ("a", Status::Done, TWO_WORDS),
-        ("d", Status::Refused, "refused 41 UnknownSymbol a d\n"),
-        ("a+8", Status::Done, TWO_WORDS),
-        (
-            "a+4294967295",
-            Status::Refused,
-            "refused 41 UnknownSymbol a a+4294967295\n",
-        ),
-        (
-            "a+2",
-            Status::Refused,
-            "refused 42 EntryOutside a 00013012\n",
-        ),
-    ];
-    for (entry, status, text) in cases {
+    for &(entry, status, text) in &ENTRIES {
         let entry = format!(in alloc; "{TIMES}entry = \"{entry}\"\n")?;
         let mut text_of_set = set_of(alloc, &[("one", "one.elf", TIMES)])?;
         for (name, keys) in [("a", entry.as_str()), ("b", TIMES), ("c", TIMES)] {

@@ -1,6 +1,7 @@
 // The command `sets`, on worked examples.
 use crpd_io::{MemFiles, MemSink};
 use crpd_tool::{Status, run};
+use fixtures::{BACK, CALLS, ECALL, LINES, file_of};
 use std::alloc::{AllocError, Global};
 use std::process::Abort;
 use std::test::Fail;
@@ -16,39 +17,8 @@ struct Case {
     text: &'static str,
 }
 
-// Jumps through four blocks, and through two there and back.
-pub(crate) const FOUR: [u32; 13] = [
-    0x0100_006F,
-    0,
-    0,
-    0,
-    0x0100_006F,
-    0,
-    0,
-    0,
-    0x0100_006F,
-    0,
-    0,
-    0,
-    0x0000_0073,
-];
-
-pub(crate) const TWO: [u32; 6] = [0x0100_006F, 0x0100_006F, 0, 0, 0xFF5F_F06F, 0x0000_0073];
-
-// Two calls of a function, which have nine nodes.
-const CALLS: [u32; 8] = [
-    0xFF01_0113,
-    0x0011_2623,
-    0x0140_00EF,
-    0x0100_00EF,
-    0x00C1_2083,
-    0x0101_0113,
-    0x0000_8067,
-    0x0000_8067,
-];
-
 // A branch to the same address, without a stated loop, and `ecall`.
-const TURNS: [u32; 2] = [0x0002_8063, 0x0000_0073];
+const TURNS: [u32; 2] = [0x0002_8063, ECALL];
 
 const BREAKPOINT: [u32; 1] = [0x0010_0073];
 
@@ -56,9 +26,9 @@ const CASES: [Case; 5] = [
     Case {
         cache_sets: 8,
         programs: &[
-            ("a", 0x3010, &FOUR),
-            ("b", 0x2010, &TWO),
-            ("c", 0x1030, &TWO),
+            ("a", 0x3010, &LINES),
+            ("b", 0x2010, &BACK),
+            ("c", 0x1030, &BACK),
         ],
         status: Status::Done,
         text: "a evicting 1 2 3 4\na useful\nb evicting 1 2\nb useful 1 2\nc evicting 3 4\nc useful 3 4\n",
@@ -101,47 +71,6 @@ fn set_text(alloc: Global, case: &Case) -> Result<String, AllocError> {
         text.push_str(table.as_str())?;
     }
     Ok(text)
-}
-
-fn push_words(bytes: &mut Vec<u8>, words: &[u32]) -> Result<(), AllocError> {
-    for word in words {
-        bytes.extend_from_slice(&word.to_le_bytes())?;
-    }
-    Ok(())
-}
-
-// The file of words from an address on.
-pub(crate) fn file_of(alloc: Global, start: u32, words: &[u32]) -> Result<Vec<u8>, AllocError> {
-    let mut code = Vec::new(alloc);
-    push_words(&mut code, words)?;
-    let size = u32::try_from(code.len()).unwrap_or(0);
-    let mut bytes = Vec::new(alloc);
-    let headers = [
-        0x464C_457F,
-        0x0001_0101,
-        0,
-        0,
-        0x00F3_0002,
-        1,
-        start,
-        52,
-        0,
-        0,
-        0x0020_0034,
-        1,
-        0,
-        1,
-        84,
-        start,
-        start,
-        size,
-        size,
-        5,
-        4,
-    ];
-    push_words(&mut bytes, &headers)?;
-    bytes.extend_from_slice(code.as_slice())?;
-    Ok(bytes)
 }
 
 // The set and the files of a case.
@@ -193,18 +122,21 @@ fn sets_of_programs(rt: HostRuntime) -> Result<(), Fail> {
     Ok(())
 }
 
+const BAD: (Status, &str) = (Status::BadWords, "bad words\n");
+
+// Words, the call of the files that fails, and what `run` ends with.
+static OTHER_ENDS: [(&[&str], u64, (Status, &str)); 4] = [
+    (&["sets"], NEVER, BAD),
+    (&["sets", "set.toml", "one"], NEVER, BAD),
+    (&["set", "set.toml"], NEVER, BAD),
+    (&["sets", "set.toml"], 0, (Status::ReadFault, "")),
+];
+
 // Other numbers of words are no command, and a file that cannot be read is a fault.
 #[test]
 fn other_ends(rt: HostRuntime) -> Result<(), Fail> {
     let alloc = rt.alloc();
-    let bad = (Status::BadWords, "bad words\n");
-    let cases: [(&[&str], u64, (Status, &str)); 4] = [
-        (&["sets"], NEVER, bad),
-        (&["sets", "set.toml", "one"], NEVER, bad),
-        (&["set", "set.toml"], NEVER, bad),
-        (&["sets", "set.toml"], 0, (Status::ReadFault, "")),
-    ];
-    for (words, failing, ended) in cases {
+    for &(words, failing, ended) in &OTHER_ENDS {
         ends(
             &rt,
             alloc,

@@ -1,5 +1,6 @@
 use crpd_io::{MemFiles, MemSink};
 use crpd_tool::{Status, run};
+use fixtures::{BACK, CALL_LOOP, CALLS, LINES, LOOP, LOST, TWO_WORDS, file_of};
 use std::alloc::{AllocError, Global};
 use std::process::Abort;
 use std::test::Fail;
@@ -21,97 +22,45 @@ struct Case {
     text: &'static str,
 }
 
-// `addi x5,x0,1` and `ecall`.
-pub(crate) const ONE: [u32; 2] = [0x0010_0293, 0x0000_0073];
+const LONE: [Program; 1] = [("one", 0x1000, &TWO_WORDS, "")];
 
-const LONE: [Program; 1] = [("one", 0x1000, &ONE, "")];
+const PAIR: [Program; 2] = [
+    ("high", 0x2000, &TWO_WORDS, ""),
+    ("low", 0x1000, &TWO_WORDS, ""),
+];
 
-const PAIR: [Program; 2] = [("high", 0x2000, &ONE, ""), ("low", 0x1000, &ONE, "")];
-
-// A loop of three turns.
-pub(crate) const TURNS: [u32; 4] = [0x0030_0293, 0xFFF2_8293, 0xFE02_9EE3, 0x0000_0073];
-
-const LOOP: [Program; 1] = [(
+// A loop of three turns, which may make three, and two.
+const TURNS: [Program; 1] = [(
     "one",
     0x1000,
-    &TURNS,
+    &LOOP,
     "[[task.loop]]\nhead = 0x1004\nbound = 3\nrange = [[0x1004, 0x100C]]\n",
 )];
 
-const SHORT_LOOP: [Program; 1] = [(
+const SHORT_TURNS: [Program; 1] = [(
     "one",
     0x1000,
-    &TURNS,
+    &LOOP,
     "[[task.loop]]\nhead = 0x1004\nbound = 2\nrange = [[0x1004, 0x100C]]\n",
 )];
 
 // Jumps through four blocks, and through two there and back.
-pub(crate) const FOUR: [u32; 13] = [
-    0x0100_006F,
-    0,
-    0,
-    0,
-    0x0100_006F,
-    0,
-    0,
-    0,
-    0x0100_006F,
-    0,
-    0,
-    0,
-    0x0000_0073,
-];
-
-pub(crate) const TWO: [u32; 6] = [0x0100_006F, 0x0100_006F, 0, 0, 0xFF5F_F06F, 0x0000_0073];
-
 const THREE: [Program; 3] = [
-    ("a", 0x3010, &FOUR, ""),
-    ("b", 0x2010, &TWO, ""),
-    ("c", 0x1030, &TWO, ""),
+    ("a", 0x3010, &LINES, ""),
+    ("b", 0x2010, &BACK, ""),
+    ("c", 0x1030, &BACK, ""),
 ];
 
 // Two calls of a function; the return address is kept on the stack, and then it is not.
-const CALLS: [u32; 8] = [
-    0xFF01_0113,
-    0x0011_2623,
-    0x0140_00EF,
-    0x0100_00EF,
-    0x00C1_2083,
-    0x0101_0113,
-    0x0000_8067,
-    0x0000_8067,
-];
-
-const LOST: [u32; 8] = [
-    0xFF01_0113,
-    0x0000_0013,
-    0x0140_00EF,
-    0x0100_00EF,
-    0x00C1_2083,
-    0x0101_0113,
-    0x0000_8067,
-    0x0000_8067,
-];
-
 const CALLER: [Program; 1] = [("one", 0x1000, &CALLS, "stack = 0x8000\n")];
 
 const LOSER: [Program; 1] = [("one", 0x1000, &LOST, "stack = 0x8000\n")];
 
 // A loop round a call.
-const CALL_TURNS: [u32; 7] = [
-    0x0020_0313,
-    0x0140_00EF,
-    0xFFF3_0313,
-    0xFE03_1CE3,
-    0x0000_0073,
-    0x0000_0013,
-    0x0000_8067,
-];
-
-const CALL_LOOP: [Program; 1] = [(
+const CALL_TURNS: [Program; 1] = [(
     "one",
     0x1000,
-    &CALL_TURNS,
+    &CALL_LOOP,
     "[[task.loop]]\nhead = 0x1004\nbound = 2\nrange = [[0x1004, 0x1010]]\n",
 )];
 
@@ -128,13 +77,13 @@ const BETWEEN: &str = "sets = 4\nswitching = \"instruction\"\n";
 
 const CASES: [Case; 18] = [
     Case {
-        programs: &LOOP,
+        programs: &TURNS,
         jobs: &[("one", 0)],
         text: "job one 0 arrival 0 release 0 answer 27\nrun legal kept\n",
         ..ALONE
     },
     Case {
-        programs: &SHORT_LOOP,
+        programs: &SHORT_TURNS,
         jobs: &[("one", 0)],
         text: "job one 0 arrival 0 release 0 answer 27\nrun legal broken\n",
         ..ALONE
@@ -172,7 +121,7 @@ const CASES: [Case; 18] = [
         ..ALONE
     },
     Case {
-        programs: &CALL_LOOP,
+        programs: &CALL_TURNS,
         jobs: &[("one", 0)],
         text: "job one 0 arrival 0 release 0 answer 45\nrun legal kept\n",
         ..ALONE
@@ -267,47 +216,6 @@ fn script_text(alloc: Global, case: &Case) -> Result<String, AllocError> {
     Ok(text)
 }
 
-fn push_words(bytes: &mut Vec<u8>, words: &[u32]) -> Result<(), AllocError> {
-    for word in words {
-        bytes.extend_from_slice(&word.to_le_bytes())?;
-    }
-    Ok(())
-}
-
-// The file of words from an address on.
-pub(crate) fn file_of(alloc: Global, start: u32, words: &[u32]) -> Result<Vec<u8>, AllocError> {
-    let mut code = Vec::new(alloc);
-    push_words(&mut code, words)?;
-    let size = u32::try_from(code.len()).unwrap_or(0);
-    let mut bytes = Vec::new(alloc);
-    let headers = [
-        0x464C_457F,
-        0x0001_0101,
-        0,
-        0,
-        0x00F3_0002,
-        1,
-        start,
-        52,
-        0,
-        0,
-        0x0020_0034,
-        1,
-        0,
-        1,
-        84,
-        start,
-        start,
-        size,
-        size,
-        5,
-        4,
-    ];
-    push_words(&mut bytes, &headers)?;
-    bytes.extend_from_slice(code.as_slice())?;
-    Ok(bytes)
-}
-
 pub(crate) type Held = Vec<(String, Vec<u8>)>;
 
 // The set and the files of a case, without its script.
@@ -364,45 +272,47 @@ fn runs(rt: HostRuntime) -> Result<(), Fail> {
 }
 
 const CUT: Case = Case {
-    programs: &[("one", 0x1002, &ONE, "")],
+    programs: &[("one", 0x1002, &TWO_WORDS, "")],
     ..ALONE
 };
+
+// A case, another script for it, and what `simulate` ends with.
+static REFUSALS: [(&Case, &str, &str); 8] = [
+    (&CUT, "", "refused 42 EntryOutside one 00001002\n"),
+    (&ALONE, "cycles", "refused 30 NotToml script.toml -\n"),
+    (&ALONE, "", "refused 31 Missing script.toml cycles\n"),
+    (
+        &ALONE,
+        "cycles = 0",
+        "refused 32 BadValue script.toml cycles\n",
+    ),
+    (
+        &ALONE,
+        "cycles = 1\n[[job]]\ntask = \"two\"",
+        "refused 33 UnknownTask script.toml job.0.task\n",
+    ),
+    (
+        &ALONE,
+        "cycles = 1099511627777",
+        "refused 34 TooLong script.toml cycles\n",
+    ),
+    (
+        &ALONE,
+        "cycle = 1",
+        "refused 35 UnknownKey script.toml cycle\n",
+    ),
+    (
+        &ALONE,
+        "cycles = 1\n[[job]]\ntask = \"one\"\narrival = 0",
+        "refused 31 Missing script.toml job.0.release\n",
+    ),
+];
 
 // The script comes after the files and their code.
 #[test]
 fn refusals(rt: HostRuntime) -> Result<(), Fail> {
     let alloc = rt.alloc();
-    let cases: [(&Case, &str, &str); 8] = [
-        (&CUT, "", "refused 42 EntryOutside one 00001002\n"),
-        (&ALONE, "cycles", "refused 30 NotToml script.toml -\n"),
-        (&ALONE, "", "refused 31 Missing script.toml cycles\n"),
-        (
-            &ALONE,
-            "cycles = 0",
-            "refused 32 BadValue script.toml cycles\n",
-        ),
-        (
-            &ALONE,
-            "cycles = 1\n[[job]]\ntask = \"two\"",
-            "refused 33 UnknownTask script.toml job.0.task\n",
-        ),
-        (
-            &ALONE,
-            "cycles = 1099511627777",
-            "refused 34 TooLong script.toml cycles\n",
-        ),
-        (
-            &ALONE,
-            "cycle = 1",
-            "refused 35 UnknownKey script.toml cycle\n",
-        ),
-        (
-            &ALONE,
-            "cycles = 1\n[[job]]\ntask = \"one\"\narrival = 0",
-            "refused 31 Missing script.toml job.0.release\n",
-        ),
-    ];
-    for (case, script, text) in cases {
+    for &(case, script, text) in &REFUSALS {
         let mut files = files_of(alloc, case)?;
         push_script(alloc, &mut files, script.as_bytes().to_vec(alloc)?)?;
         ends(&rt, alloc, files, (NEVER, NEVER), (Status::Refused, text))?;
@@ -416,19 +326,21 @@ fn refusals(rt: HostRuntime) -> Result<(), Fail> {
     )
 }
 
+// The calls of the files and of the sink that fail, and what `simulate` ends with.
+static FAULTS: [((u64, u64), Status, &str); 5] = [
+    ((0, NEVER), Status::ReadFault, ""),
+    ((4, NEVER), Status::ReadFault, ""),
+    ((9, NEVER), Status::ReadFault, ""),
+    ((NEVER, 0), Status::WriteFault, ""),
+    ((NEVER, 2), Status::WriteFault, "job one 0 arri"),
+];
+
 // A call that fails comes before any text, and ends it where it is one of the sink's.
 #[test]
 fn faults(rt: HostRuntime) -> Result<(), Fail> {
     let alloc = rt.alloc();
     let case = &CASES[0];
-    let cases = [
-        ((0, NEVER), Status::ReadFault, ""),
-        ((4, NEVER), Status::ReadFault, ""),
-        ((9, NEVER), Status::ReadFault, ""),
-        ((NEVER, 0), Status::WriteFault, ""),
-        ((NEVER, 2), Status::WriteFault, "job one 0 arri"),
-    ];
-    for (failing, status, text) in cases {
+    for &(failing, status, text) in &FAULTS {
         let mut files = files_of(alloc, case)?;
         push_script(alloc, &mut files, script_text(alloc, case)?.into_bytes())?;
         ends(&rt, alloc, files, failing, (status, text))?;

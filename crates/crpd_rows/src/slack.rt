@@ -1,6 +1,7 @@
 // The command `slack`, on worked examples, and `analyze` at each greatest cost and at the next one.
-use crate::analyze::{Case, NESTED, NEVER, PLAIN, Program, SHORT, ends, files_with};
+use crate::analyze::{Case, NEVER, PLAIN, Program, ends, files_with};
 use crpd_tool::Status;
+use fixtures::{NESTED, TWO_WORDS};
 use std::alloc::Global;
 use std::test::Fail;
 
@@ -20,13 +21,13 @@ const ROWS: [Row; 5] = [
                 Program {
                     name: "high",
                     start: 0x2000,
-                    words: &SHORT,
+                    words: &TWO_WORDS,
                     stated: PLAIN,
                 },
                 Program {
                     name: "low",
                     start: 0x1000,
-                    words: &SHORT,
+                    words: &TWO_WORDS,
                     stated: PLAIN,
                 },
             ],
@@ -44,7 +45,7 @@ const ROWS: [Row; 5] = [
             programs: &[Program {
                 name: "one",
                 start: 0x1000,
-                words: &SHORT,
+                words: &TWO_WORDS,
                 stated: "period = 100\ndeadline = 16\njitter = 0\n",
             }],
             status: Status::Done,
@@ -61,7 +62,7 @@ const ROWS: [Row; 5] = [
             programs: &[Program {
                 name: "one",
                 start: 0x1000,
-                words: &SHORT,
+                words: &TWO_WORDS,
                 stated: "period = 100\ndeadline = 5\njitter = 0\n",
             }],
             status: Status::Done,
@@ -78,7 +79,7 @@ const ROWS: [Row; 5] = [
             programs: &[Program {
                 name: "one",
                 start: 0x1000,
-                words: &SHORT,
+                words: &TWO_WORDS,
                 stated: "period = 1000000\ndeadline = 1000000\njitter = 0\n",
             }],
             status: Status::Done,
@@ -157,21 +158,23 @@ fn analysed_up_to_the_greatest_costs(rt: HostRuntime) -> Result<(), Fail> {
     Ok(())
 }
 
+// Words, the call of the files that fails, and what `run` ends with.
+static OTHER_ENDS: [(&[&str], u64, Status, &str); 3] = [
+    (&["slack"], NEVER, Status::BadWords, "bad words\n"),
+    (
+        &["slack", "set.toml", "one"],
+        NEVER,
+        Status::BadWords,
+        "bad words\n",
+    ),
+    (&["slack", "set.toml"], 3, Status::ReadFault, ""),
+];
+
 // Other numbers of words are no command, and a file that cannot be read is a fault.
 #[test]
 fn other_ends(rt: HostRuntime) -> Result<(), Fail> {
     let alloc = rt.alloc();
-    let cases: [(&[&str], u64, Status, &str); 3] = [
-        (&["slack"], NEVER, Status::BadWords, "bad words\n"),
-        (
-            &["slack", "set.toml", "one"],
-            NEVER,
-            Status::BadWords,
-            "bad words\n",
-        ),
-        (&["slack", "set.toml"], 3, Status::ReadFault, ""),
-    ];
-    for (words, failing, status, text) in cases {
+    for &(words, failing, status, text) in &OTHER_ENDS {
         let files = files_with(alloc, &ROWS[0].case, 10, 5, b"")?;
         let (found, written) = ends(alloc, words, files, failing)?;
         assert_eq!(rt; written.as_slice(), text.as_bytes());

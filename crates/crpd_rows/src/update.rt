@@ -1,7 +1,7 @@
 // The command `update`, on worked examples.
-use crate::sets::file_of;
 use crpd_io::{MemFiles, MemSink};
 use crpd_tool::{Status, run};
+use fixtures::{LOOP, NESTED, TWO_WORDS, file_of};
 use std::alloc::{AllocError, Global};
 use std::process::Abort;
 use std::test::Fail;
@@ -320,22 +320,14 @@ const CASES: [Case; 20] = [
     },
 ];
 
-const SHORT: [u32; 2] = [0x0010_0293, 0x0000_0073];
-
-// Counts down from 3.
-const COUNT: [u32; 4] = [0x0030_0293, 0xFFF2_8293, 0xFE02_9EE3, 0x0000_0073];
-
-// Two loops, one in the other.
-const NESTED: [u32; 4] = [0x0030_0293, 0x0002_9063, 0xFE02_9CE3, 0x0000_0073];
-
 const BREAKPOINT: [u32; 1] = [0x0010_0073];
 
 const PROGRAMS: [(&str, u32, &[u32]); 7] = [
-    ("high.elf", 0x2000, &SHORT),
-    ("low.elf", 0x1000, &SHORT),
-    ("again.elf", 0x1000, &SHORT),
-    ("third.elf", 0x3000, &SHORT),
-    ("count.elf", 0x1000, &COUNT),
+    ("high.elf", 0x2000, &TWO_WORDS),
+    ("low.elf", 0x1000, &TWO_WORDS),
+    ("again.elf", 0x1000, &TWO_WORDS),
+    ("third.elf", 0x3000, &TWO_WORDS),
+    ("count.elf", 0x1000, &LOOP),
     ("nested.elf", 0x1000, &NESTED),
     ("ends.elf", 0x1000, &BREAKPOINT),
 ];
@@ -484,40 +476,47 @@ fn updates_are_checked_and_analysed(rt: HostRuntime) -> Result<(), Fail> {
     Ok(())
 }
 
+// Words, the call of the files that fails, and what `run` ends with.
+static OTHER_ENDS: [(&[&str], u64, Status, &str); 6] = [
+    (
+        &["update", "old.toml", "cert.json"],
+        NEVER,
+        Status::BadWords,
+        "bad words\n",
+    ),
+    (
+        &["update", "old.toml", "cert.json", "new.toml", "new.toml"],
+        NEVER,
+        Status::BadWords,
+        "bad words\n",
+    ),
+    (
+        &["update", "none.toml", "none.json", "gone.toml"],
+        NEVER,
+        Status::Refused,
+        "refused 80 NoFile none.toml -\n",
+    ),
+    (
+        &["update", "old.toml", "none.json", "gone.toml"],
+        NEVER,
+        Status::Refused,
+        "refused 80 NoFile none.json -\n",
+    ),
+    (
+        &["update", "old.toml", "cert.json", "gone.toml"],
+        NEVER,
+        Status::Refused,
+        "refused 80 NoFile gone.toml -\n",
+    ),
+    (&WORDS, 3, Status::ReadFault, ""),
+];
+
 // Other numbers of words are no command, a set that is not there is refused first, and a file that cannot be read is a
 // fault.
 #[test]
 fn other_ends(rt: HostRuntime) -> Result<(), Fail> {
     let alloc = rt.alloc();
-    let cases: [(&[&str], u64, Status, &str); 6] = [
-        (&WORDS[..3], NEVER, Status::BadWords, "bad words\n"),
-        (
-            &["update", "old.toml", "cert.json", "new.toml", "new.toml"],
-            NEVER,
-            Status::BadWords,
-            "bad words\n",
-        ),
-        (
-            &["update", "none.toml", "none.json", "gone.toml"],
-            NEVER,
-            Status::Refused,
-            "refused 80 NoFile none.toml -\n",
-        ),
-        (
-            &["update", "old.toml", "none.json", "gone.toml"],
-            NEVER,
-            Status::Refused,
-            "refused 80 NoFile none.json -\n",
-        ),
-        (
-            &["update", "old.toml", "cert.json", "gone.toml"],
-            NEVER,
-            Status::Refused,
-            "refused 80 NoFile gone.toml -\n",
-        ),
-        (&WORDS, 3, Status::ReadFault, ""),
-    ];
-    for (words, failing, status, text) in cases {
+    for &(words, failing, status, text) in &OTHER_ENDS {
         let (found, written) = ends(alloc, words, files_of(alloc, &SAME)?, failing)?;
         assert_eq!(rt; written.as_slice(), text.as_bytes());
         assert_eq!(rt; found, status);

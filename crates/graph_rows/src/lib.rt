@@ -1,7 +1,13 @@
-//! The worked rows of what is built of a task's code: code maps, flat graphs, regions and useful sets. This crate has
-//! tests alone.
+//! The worked rows of what is built of a task's code: code maps, flat graphs, regions, useful sets
+//! and bounds. This crate has tests alone.
 #![tactic(auto)]
 
+#[cfg(test)]
+mod analysed;
+#[cfg(test)]
+mod bounds;
+#[cfg(test)]
+mod fixpoint;
 #[cfg(test)]
 mod flows;
 #[cfg(test)]
@@ -10,3 +16,5 @@ mod maps;
 mod nests;
 #[cfg(test)]
 mod useful;
+#[cfg(test)]
+mod ways;

@@ -1,0 +1,240 @@
+// The bounds of programs of several ways, as numbers and as the least potentials by a slow
+// fixpoint.
+ghost use Rattle.std.specs.Prelude.{◌≡◌, ◌<◌, ◌≤◌};
+
+use crate::analysed::analysed;
+use crate::bounds::{COSTS, told};
+use crate::fixpoint::Inequalities;
+use crpd_base::{Platform, Switching};
+use exec_bound::bound;
+use fixtures::{CALL_LOOP, CALLS, ECALL, LOOP, NESTED, RET, Stated};
+use icache::Geometry;
+use std::alloc::Global;
+use std::process::Abort;
+use std::test::Fail;
+
+// Three instructions in a row.
+const STRAIGHT: [u32; 3] = [0xFFF2_8293, 0x0273_02B3, ECALL];
+
+// An answer by a return.
+const RETURN: [u32; 2] = [0xFFF2_8293, RET];
+
+// Two ways that meet again.
+const DIAMOND: [u32; 5] = [0x0062_8663, 0x0273_02B3, 0x0080_006F, 0xFFF2_8293, ECALL];
+
+// A loop that is left at two places.
+const TWO_EXITS: [u32; 7] = [
+    0xFFF2_8293,
+    0x0002_8863,
+    0xFFF3_0313,
+    0x0003_0663,
+    0xFF5F_F06F,
+    0x0273_02B3,
+    ECALL,
+];
+
+// A loop with two ways that meet again.
+const LOOPED_DIAMOND: [u32; 7] = [
+    0xFFF2_8293,
+    0x0062_8663,
+    0x0273_02B3,
+    0x0080_006F,
+    0xFFF2_8293,
+    0xFE02_98E3,
+    ECALL,
+];
+
+// Two loops in a row.
+const ROW: [u32; 5] = [0xFFF2_8293, 0xFE02_9EE3, 0xFFF2_8293, 0xFE02_9EE3, ECALL];
+
+// A loop that holds the answer.
+const ANSWER_INSIDE: [u32; 4] = [0xFFF2_8293, 0x0002_8463, 0xFFDF_F06F, ECALL];
+
+// A loop round a loop that can leave both at once.
+const LEAVES_BOTH: [u32; 6] = [
+    0xFFF2_8293,
+    0x0002_8863,
+    0xFE03_1EE3,
+    0xFE03_9AE3,
+    0xFFF2_8293,
+    ECALL,
+];
+
+// A loop round a loop that can go on with the outer one's next turn.
+const NEXT_TURN: [u32; 6] = [
+    0xFFF2_8293,
+    0xFFF2_8293,
+    0xFE02_8CE3,
+    0xFE03_1CE3,
+    0xFE03_98E3,
+    ECALL,
+];
+
+// A function with a loop, called twice.
+const CALLED_LOOP: [u32; 7] = [
+    0x0100_00EF,
+    0x00C0_00EF,
+    ECALL,
+    0x0000_0013,
+    0xFFF2_8293,
+    0xFE02_9EE3,
+    RET,
+];
+
+// A loop round a call of a function with a loop.
+const LOOP_IN_CALL: [u32; 6] = [
+    0x00C0_00EF,
+    0xFE03_1EE3,
+    ECALL,
+    0xFFF2_8293,
+    0xFE02_9EE3,
+    RET,
+];
+
+// Three loops, one round the other.
+const THREE: [u32; 6] = [
+    0xFFF2_8293,
+    0xFFF2_8293,
+    0x0002_9063,
+    0xFE03_1CE3,
+    0xFE03_98E3,
+    ECALL,
+];
+
+// Two sets of two words each, and costs that differ from each other.
+const SMALL: Platform = Platform {
+    line: 8,
+    sets: 2,
+    hit: 2,
+    miss: 17,
+    memory: 5,
+    taken: 3,
+    switch: 0,
+    mul: 11,
+    div: 23,
+    switching: Switching::Cycle,
+};
+
+// Words, stated loops, and the bound with the potentials: ways that meet, loops with several exits,
+// and loops in loops and calls.
+static WAYS: [(&[u32], &[Stated], &str); 16] = [
+    (&STRAIGHT, &[], "51: 51 32 19;"),
+    (&RETURN, &[], "24: 24 5;"),
+    (&DIAMOND, &[], "73: 73 54 41 38 19;"),
+    (
+        &LOOP,
+        &[(0x1004, 3, (0x1004, 0x100C))],
+        "93: 93 24 22 2; 74",
+    ),
+    (
+        &NESTED,
+        &[(0x1000, 2, (0x1000, 0x100C)), (0x1004, 3, (0, 0))],
+        "114: 56 5 22 2; 114 37",
+    ),
+    (
+        &TWO_EXITS,
+        &[(0x1004, 5, (0x1004, 0x1014))],
+        "378: 378 62 43 24 22 49 19; 359",
+    ),
+    (
+        &LOOPED_DIAMOND,
+        &[(0x1004, 4, (0x1004, 0x1018))],
+        "342: 342 76 57 27 41 22 19; 323",
+    ),
+    (&CALLS, &[], "145: 145 126 119 75 31 7 5 97 53;"),
+    (
+        &CALL_LOOP,
+        &[(0x1004, 2, (0x1004, 0x1010))],
+        "140: 140 51 24 5 19 46; 121",
+    ),
+    (
+        &ROW,
+        &[(0x1000, 3, (0x1000, 0x1008)), (0x1008, 7, (0x1008, 0x1010))],
+        "259: 24 5 24 5 19; 259 187",
+    ),
+    (
+        &ANSWER_INSIDE,
+        &[(0x1004, 6, (0x1004, 0x1010))],
+        "163: 163 24 22 19; 144",
+    ),
+    (
+        &LEAVES_BOTH,
+        &[(0x1000, 3, (0x1000, 0x1010)), (0x1004, 4, (0x1004, 0x100C))],
+        "398: 120 24 22 5 38 19; 398 101",
+    ),
+    (
+        &NEXT_TURN,
+        &[(0x1000, 3, (0x1000, 0x1014)), (0x1004, 4, (0x1004, 0x1010))],
+        "437: 145 26 24 5 22 2; 437 126",
+    ),
+    (
+        &CALLED_LOOP,
+        &[(0x1010, 5, (0x1010, 0x1018))],
+        "330: 330 166 19 24 5 188 24 5 24; 308 144",
+    ),
+    (
+        &LOOP_IN_CALL,
+        &[(0x1000, 3, (0x1000, 0x1008)), (0x100C, 4, (0x100C, 0x1014))],
+        "641: 213 22 2 41 22 27; 641 191",
+    ),
+    (
+        &THREE,
+        &[
+            (0x1000, 2, (0x1000, 0x1014)),
+            (0x1004, 3, (0x1004, 0x1010)),
+            (0x1008, 1_000, (0, 0)),
+        ],
+        "132126: 66062 22007 22 5 22 2; 132126 66043 22005",
+    ),
+];
+
+#[test]
+fn bounds_of_ways(rt: HostRuntime) -> Result<(), Fail> {
+    for &(words, stated, want) in &WAYS {
+        let got = told(rt.alloc(), &SMALL, words, stated)?;
+        assert_eq!(rt; got.as_str(), want);
+    }
+    Ok(())
+}
+
+// Compares the bound of a program and all potentials with the fixpoint.
+fn compare<'a>(
+    rt: &impl Abort,
+    alloc: Global,
+    platform: &Platform,
+    words: &'a [u32],
+    stated: &'a [Stated],
+) -> Result<(), Fail>
+    requires line { 0 < platform.now.line }
+    requires sets { 0 < platform.now.sets }
+    requires room { platform.now.sets ≤ 4 }
+{
+    let of = analysed::<4>(alloc, platform, words, stated)?;
+    of.graph.graph_law();
+    let geometry = Geometry::new(platform);
+    let inequalities = Inequalities {
+        graph: &of.graph,
+        nest: &of.nest,
+        platform,
+        geometry: &geometry,
+        states: &of.states,
+    };
+    let least = inequalities.fixpoint(alloc)?;
+    let cycles = inequalities.item(&least, None, of.graph.first());
+    let Ok(found) = bound(alloc, &of.graph, &of.nest, platform, &of.states) else {
+        return Err(Fail::from("no bound"));
+    };
+    assert_eq!(rt; found.nodes.as_slice(), least.nodes.as_slice());
+    assert_eq!(rt; found.loops.as_slice(), least.loops.as_slice());
+    assert_eq!(rt; found.cycles, cycles);
+    Ok(())
+}
+
+#[test]
+fn bounds_are_least_potentials(rt: HostRuntime) -> Result<(), Fail> {
+    for &(words, stated, _) in &WAYS {
+        compare(&rt, rt.alloc(), &COSTS, words, stated)?;
+        compare(&rt, rt.alloc(), &SMALL, words, stated)?;
+    }
+    Ok(())
+}
