@@ -10,13 +10,13 @@ use Rattle.useful_sets.specs.Useful.{IsUcb, IsEcb}
 use Rattle.loop_regions.specs.CodeNest.{CodeNest, nest_of}
 use Rattle.evict_sets.specs.Listing.{counted}
 use Rattle.exec_bound.specs.Costs.{costs_of, greatest_bound, IsBound}
-use Rattle.exec_bound.specs.Walks.{CountsSureHits}
-use Rattle.exec_bound.specs.Refused.{IsRefused}
+use Rattle.exec_bound.specs.WalkCosts.{CountsSureHits}
+use Rattle.exec_bound.specs.BoundErrors.{IsBoundError}
 use Rattle.exec_bound.specs.declared.fault.BoundError.{BoundError}
 use Rattle.exec_bound.specs.declared.fault.BoundError.TheVariants.{Memory, TooLarge}
-use Rattle.cert_check.specs.Shown.{shown}
+use Rattle.cert_check.specs.TaskGraphs.{task_graph}
 use Rattle.cert_model.proofs.Ranged.{rise_wider}
-use Rattle.cert_build.specs.Entries.{AreEntries}
+use Rattle.cert_build.specs.Entries.{AreLeaderEntries}
 use Rattle.cert_build.specs.Analysis.{part_of_analysis, IsAnalysis, KeepsRanges, HasNoAnalysis}
 use Rattle.cert_build.specs.declared.one_task.Analysis.{Analysis}
 use Rattle.cert_build.proofs.EntryLaws.{all_entries}
@@ -29,9 +29,9 @@ module _ (p : Platform) (g : CodeGraph) (n : CodeNest) (hits : List Bool) where
   abbrev pub uses : Accesses
   uses = accesses p (places_of g).address
 
-  pub analysed : (a : Analysis) → CountsSureHits (graph_of g) uses (counted hits) → AreEntries (graph_of g) uses (graph_of g).size a.states
+  pub analysed : (a : Analysis) → CountsSureHits (graph_of g) uses (counted hits) → AreLeaderEntries (graph_of g) uses (graph_of g).size a.states
       → ((s : ℕ) → IsTrue (has a.part.evicting s) ↔ IsEcb (graph_of g) uses s) → AreWords 8 a.part.evicting → ((s : ℕ) → IsTrue (has a.part.useful s) ↔ IsUcb (graph_of g) uses s) → AreWords 8 a.part.useful
-      → IsBound (graph_of g) (nest_of n) (costs_of p g (counted hits)) a.part.bound a.potentials a.loops → IsAnalysis p (shown g n) a
+      → IsBound (graph_of g) (nest_of n) (costs_of p g (counted hits)) a.part.bound a.potentials a.loops → IsAnalysis p (task_graph g n) a
   analysed a H E ecb evicting ucb reused B =
       record {
         best = record {
@@ -45,12 +45,12 @@ module _ (p : Platform) (g : CodeGraph) (n : CodeNest) (hits : List Bool) where
         within = subst (λ k. a.part.bound ≤ k) bound_number B.within;
       }
 
-  pub refused : (e : BoundError) → CountsSureHits (graph_of g) uses (counted hits) → IsRefused g (nest_of n) (costs_of p g (counted hits)) e → HasNoAnalysis p (shown g n) e
+  pub refused : (e : BoundError) → CountsSureHits (graph_of g) uses (counted hits) → IsBoundError g (nest_of n) (costs_of p g (counted hits)) e → HasNoAnalysis p (task_graph g n) e
   refused Memory H R = tt
   refused (TooLarge address) H R = (record { is_hit = counted hits; hits = H; exceeds = R.1 }, R.0)
 
   -- the parts keep the ranges of a certificate
-  pub ranges : (graph_of g).size ≤ 16384 → (nest_of n).size ≤ 16384 → (a : Analysis) → AreEntries (graph_of g) uses (graph_of g).size a.states
+  pub ranges : (graph_of g).size ≤ 16384 → (nest_of n).size ≤ 16384 → (a : Analysis) → AreLeaderEntries (graph_of g) uses (graph_of g).size a.states
       → IsBound (graph_of g) (nest_of n) (costs_of p g (counted hits)) a.part.bound a.potentials a.loops → KeepsRanges a
   ranges few few_regions a E B name method window response is_name window_le response_le =
       record {

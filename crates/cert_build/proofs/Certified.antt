@@ -13,11 +13,11 @@ use Rattle.crpd_base.specs.declared.data.TaskPart.{TaskPart}
 use Rattle.crpd_base.specs.declared.data.Certificate.{Certificate}
 use Rattle.crpd_base.specs.declared.data.Method.{Method}
 use Rattle.loop_regions.specs.TaskGraph.{TaskGraph}
-use Rattle.evict_sets.specs.Certificate.{no_cert, cert_at}
+use Rattle.evict_sets.specs.ListedPart.{no_task_part, certified_task}
 use Rattle.delay_count.specs.Demand.{demand}
 use Rattle.response.specs.declared.choice.WindowError.{WindowError}
 use Rattle.response.specs.declared.choice.WindowError.TheVariants as window
-use Rattle.cert_check.specs.Judge.{window_at, longest_at, name_of}
+use Rattle.cert_check.specs.JudgeInput.{window_at, longest_at, task_name}
 use Rattle.crpd_base.proofs.Times.{has_times}
 use Rattle.crpd_base.specs.Names.{is_name}
 use Rattle.cert_model.specs.Reading.{task_entries, entries}
@@ -25,7 +25,7 @@ use Rattle.cert_model.specs.Ranges.{IsTaskPart, IsCertificate}
 use Rattle.cert_build.specs.Best.{IsBestPart, IsBest, demand_of}
 use Rattle.cert_build.specs.Analysis.{part_of_analysis, IsAnalysis, KeepsRanges}
 use Rattle.cert_build.specs.Assembly.{no_analysis, analysis_at, entries_of, AreAnalysed}
-use Rattle.cert_build.specs.Certify.{needs_at, HasParts, IsCompleted, HasNoWindows, IsBuildRefused, of_windows}
+use Rattle.cert_build.specs.Certify.{part_in, HasParts, IsCompleted, HasNoWindows, IsBuildError, window_build_error}
 use Rattle.cert_build.specs.declared.one_task.Analysis.{Analysis}
 use Rattle.cert_build.specs.declared.fault.BuildError.{BuildError}
 use Rattle.response.proofs.WindowLaws.{smaller_is_window}
@@ -52,7 +52,7 @@ beside p t c name method w response B =
       potentials = record { nodes = B.potentials.nodes; regions = B.potentials.regions; least = B.potentials.least; bound = B.potentials.bound };
     }
 
-sums_same : (xs : List TaskPart) (ys : List Analysis) → length xs ≡ length ys → ((k : ℕ) → k < length ys → task_entries (get_or xs k no_cert) ≡ entries_of (get_or ys k no_analysis)) → entries xs ≡ sum_by entries_of ys
+sums_same : (xs : List TaskPart) (ys : List Analysis) → length xs ≡ length ys → ((k : ℕ) → k < length ys → task_entries (get_or xs k no_task_part) ≡ entries_of (get_or ys k no_analysis)) → entries xs ≡ sum_by entries_of ys
 sums_same [] [] e h = refl
 sums_same [] (y ∷ ys) e h = absurd (omega (arith, e))
 sums_same (x ∷ xs) [] e h = absurd (omega (arith, e))
@@ -62,10 +62,10 @@ sums_same (x ∷ xs) (y ∷ ys) e h =
 
 -- a certificate with some analyses, whatever its windows
 module _ (set : TaskSet) (all : List Analysis) (c : Certificate) (H : HasParts set (analysis_at all) c) where
-  pub part_best : (graphs : ℕ → TaskGraph) (k : ℕ) → k < length set.tasks → IsAnalysis set.platform (graphs k) (analysis_at all k) → IsBestPart set.platform (graphs k) (cert_at c k)
+  pub part_best : (graphs : ℕ → TaskGraph) (k : ℕ) → k < length set.tasks → IsAnalysis set.platform (graphs k) (analysis_at all k) → IsBestPart set.platform (graphs k) (certified_task c k)
   part_best graphs k lt A =
       subst (λ (t : TaskPart). IsBestPart set.platform (graphs k) t) (sym (H.part k lt))
-      (beside set.platform (graphs k) (part_of_analysis (analysis_at all k)) (name_of set k) (cert_at c k).method (window_at c k) (window_at c k + jitter_of set k) A.best)
+      (beside set.platform (graphs k) (part_of_analysis (analysis_at all k)) (task_name set k) (certified_task c k).method (window_at c k) (window_at c k + jitter_of set k) A.best)
 
   pub entries_are : length all ≡ length set.tasks → entries c.tasks ≡ sum_by entries_of all
   entries_are tasks =
@@ -73,7 +73,7 @@ module _ (set : TaskSet) (all : List Analysis) (c : Certificate) (H : HasParts s
       (λ k l. ap (λ (t : TaskPart). task_entries t) (H.part k (omega (arith, tasks, l))))
 
   -- the names of the set's tasks
-  named : IsTaskSet set → (k : ℕ) → k < length set.tasks → is_name (name_of set k) ≡ true
+  named : IsTaskSet set → (k : ℕ) → k < length set.tasks → is_name (task_name set k) ≡ true
   named S k lt = name_in (λ (l : List ℕ). is_name l ≡ true) set.tasks k lt (λ j d l. (S.each j d l).name)
 
   pub in_ranges : HasTimes set → IsTaskSet set → ((k : ℕ) → k < length set.tasks → KeepsRanges (analysis_at all k)) → ((k : ℕ) → k < length set.tasks → window_at c k + jitter_of set k ≤ deadline_of set k)
@@ -89,8 +89,8 @@ module _ (set : TaskSet) (all : List Analysis) (c : Certificate) (H : HasParts s
               let dead = deadlines k lt in
               let period = times.deadline k lt in
               let longest = times.longest k lt in
-              subst (λ (t : TaskPart). IsTaskPart t) (sym (get_or_default c.tasks k d no_cert l ∙ H.part k lt))
-              (ranges k lt (name_of set k) (cert_at c k).method (window_at c k) (window_at c k + jitter_of set k) (named S k lt) (omega (arith, dead, period, longest)) (omega (arith, dead, period, longest)));
+              subst (λ (t : TaskPart). IsTaskPart t) (sym (get_or_default c.tasks k d no_task_part l ∙ H.part k lt))
+              (ranges k lt (task_name set k) (certified_task c k).method (window_at c k) (window_at c k + jitter_of set k) (named S k lt) (omega (arith, dead, period, longest)) (omega (arith, dead, period, longest)));
         };
         entries = few;
       }
@@ -98,7 +98,7 @@ module _ (set : TaskSet) (all : List Analysis) (c : Certificate) (H : HasParts s
 -- the smaller windows are in the deadlines
 pub in_deadlines : (set : TaskSet) (graphs : ℕ → TaskGraph) (analyses : ℕ → Analysis) (c : Certificate) → IsCompleted set graphs analyses c → (k : ℕ) → k < length set.tasks → window_at c k + jitter_of set k ≤ deadline_of set k
 in_deadlines set graphs analyses c C k lt =
-    (smaller_is_window set (demand_of set graphs c k) k (cert_at c k).method (window_at c k) (C.smaller k lt)).in_deadline
+    (smaller_is_window set (demand_of set graphs c k) k (certified_task c k).method (window_at c k) (C.smaller k lt)).in_deadline
 
 module _ (set : TaskSet) (graphs : ℕ → TaskGraph) (all : List Analysis) (c : Certificate) (A : AreAnalysed set graphs all) (C : IsCompleted set graphs (analysis_at all) c) where
   pub is_best : IsBest set graphs c
@@ -122,16 +122,16 @@ module _ (set : TaskSet) (graphs : ℕ → TaskGraph) (all : List Analysis) (c :
 
 -- a want of windows refuses the certificate
 module _ (set : TaskSet) (graphs : ℕ → TaskGraph) (all : List Analysis) (times : HasTimes set) (A : AreAnalysed set graphs all) where
-  no_windows : (e : WindowError) → HasNoWindows set graphs (analysis_at all) e → IsBuildRefused set graphs (of_windows e)
+  no_windows : (e : WindowError) → HasNoWindows set graphs (analysis_at all) e → IsBuildError set graphs (window_build_error e)
   no_windows window.Memory none = tt
   no_windows (window.Unschedulable t) none = (
     map part_of_analysis all,
     best_parts set graphs all A.tasks A.each,
     (let e = entries_map all in let few = A.entries in omega (arith, e, few)),
-    first_too set (demand set (λ k. (analysis_at all k).part) (longest_at set.platform graphs)) (demand set (needs_at (map part_of_analysis all)) (longest_at set.platform graphs))
-        (demands_agree set (λ k. (analysis_at all k).part) (needs_at (map part_of_analysis all)) (longest_at set.platform graphs) (longest_at set.platform graphs) (length set.tasks) times (omega arith)
+    first_too set (demand set (λ k. (analysis_at all k).part) (longest_at set.platform graphs)) (demand set (part_in (map part_of_analysis all)) (longest_at set.platform graphs))
+        (demands_agree set (λ k. (analysis_at all k).part) (part_in (map part_of_analysis all)) (longest_at set.platform graphs) (longest_at set.platform graphs) (length set.tasks) times (omega arith)
         (λ k lt. ap (λ (p : TaskPart). p.part) (sym (mapped part_of_analysis all k no_analysis))) (λ k lt. refl)) t.0 none,
   )
 
-  pub not_scheduled : (e : WindowError) (x : BuildError) → HasNoWindows set graphs (analysis_at all) e → x ≡ of_windows e → IsBuildRefused set graphs x
-  not_scheduled e x none is = subst (λ (y : BuildError). IsBuildRefused set graphs y) (sym is) (no_windows e none)
+  pub not_scheduled : (e : WindowError) (x : BuildError) → HasNoWindows set graphs (analysis_at all) e → x ≡ window_build_error e → IsBuildError set graphs x
+  not_scheduled e x none is = subst (λ (y : BuildError). IsBuildError set graphs y) (sym is) (no_windows e none)

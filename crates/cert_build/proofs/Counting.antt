@@ -12,16 +12,16 @@ use Rattle.crpd_base.specs.declared.data.TaskPart.{TaskPart}
 use Rattle.crpd_base.specs.declared.data.Method.TheVariants.{Ucb}
 use Rattle.loop_regions.specs.Nest.{Item, Node, Loop, IsItem}
 use Rattle.loop_regions.specs.Potentials.{Costs, Potentials, item_potential, Meets}
-use Rattle.loop_regions.specs.TaskGraph.{TaskGraph, listing_of, answering}
+use Rattle.loop_regions.specs.TaskGraph.{TaskGraph, node_code_of, answering}
 use Rattle.loop_regions.specs.CodeNest.{CodeNest}
 use Rattle.flat_graph.specs.Graph.{IsGraph}
 use Rattle.flat_graph.specs.CodeGraph.{CodeGraph}
 use Rattle.must_cache.proofs.SureFacts.{sure_hits_agree}
-use Rattle.exec_bound.specs.Least.{IsLeast}
-use Rattle.cert_check.specs.Certificate.{potentials_of}
-use Rattle.cert_check.specs.Clauses.{costs}
-use Rattle.cert_check.specs.Judge.{accesses_of}
-use Rattle.cert_check.specs.Shown.{shown, shown_at, nest_at}
+use Rattle.exec_bound.specs.Least.{AreLeastPotentials}
+use Rattle.cert_check.specs.ListedPotentials.{potentials_of}
+use Rattle.cert_check.specs.PotentialClauses.{edge_costs}
+use Rattle.cert_check.specs.JudgeInput.{accesses_of}
+use Rattle.cert_check.specs.TaskGraphs.{task_graph, task_graph_at, nest_at}
 use Rattle.cert_check.proofs.Tasks.{graph_is, nest_is}
 use Rattle.crpd_base.specs.Names.{is_name}
 use Rattle.cert_model.specs.Reading.{task_entries, state_entries, entries}
@@ -29,8 +29,8 @@ use Rattle.cert_model.specs.Ranges.{HasFewPairs, IsTaskPart}
 use Rattle.cert_model.proofs.Ranged.{rise_length}
 use Rattle.cert_build.specs.Best.{IsBestPart}
 use Rattle.cert_build.specs.Analysis.{part_with, part_of_analysis, IsAnalysis, KeepsRanges, HasLargeBound}
-use Rattle.cert_build.specs.Assembly.{no_analysis, analysis_at, entries_of, AreAnalysed, IsCounted, IsTaskRefused}
-use Rattle.cert_build.specs.Certify.{AreBestParts, AreRefused}
+use Rattle.cert_build.specs.Assembly.{no_analysis, analysis_at, entries_of, AreAnalysed, CountsEntries, IsTaskError}
+use Rattle.cert_build.specs.Certify.{AreBestParts, HaveNoAnalyses}
 use Rattle.cert_build.specs.declared.one_task.Analysis.{Analysis}
 use Rattle.cert_build.specs.declared.fault.BuildError.{BuildError}
 use Rattle.cert_build.specs.declared.fault.BuildError.TheVariants.{Memory, TooLarge, TooManyEntries, Unschedulable}
@@ -38,13 +38,13 @@ use Rattle.cert_build.proofs.Analysed.{bound_number}
 use Rattle.cert_build.proofs.OneBest.{meets_by}
 
 -- what holds of the graph and the regions that are read holds of the task's
-pub at_task : (P : TaskGraph → Type 0) (graphs : List CodeGraph) (nests : List CodeNest) (k : ℕ) (g : CodeGraph) (n : CodeNest) → k < length graphs → k < length nests → g ≡ get_or graphs k g → n ≡ get_or nests k n → P (shown g n) → P (shown_at graphs nests k)
+pub at_task : (P : TaskGraph → Type 0) (graphs : List CodeGraph) (nests : List CodeNest) (k : ℕ) (g : CodeGraph) (n : CodeNest) → k < length graphs → k < length nests → g ≡ get_or graphs k g → n ≡ get_or nests k n → P (task_graph g n) → P (task_graph_at graphs nests k)
 at_task P graphs nests k g n gl nl g_is n_is h =
-    subst (λ (x : CodeGraph). P (shown x (nest_at nests k))) (graph_is graphs k g gl g_is) (subst (λ (x : CodeNest). P (shown g x)) (nest_is nests k n nl n_is) h)
+    subst (λ (x : CodeGraph). P (task_graph x (nest_at nests k))) (graph_is graphs k g gl g_is) (subst (λ (x : CodeNest). P (task_graph g x)) (nest_is nests k n nl n_is) h)
 
 -- ---- a part of the analysis with a bound of at most 2^40 has no large bound
 
-no_more : (t : TaskGraph) (c : Costs) (p q : Potentials) (i : Item) → t.graph.first < t.graph.size → IsLeast t.graph t.nest c p → Meets t.graph t.nest c q → IsItem t.nest t.graph.first i → item_potential p i ≤ item_potential q i
+no_more : (t : TaskGraph) (c : Costs) (p q : Potentials) (i : Item) → t.graph.first < t.graph.size → AreLeastPotentials t.graph t.nest c p → Meets t.graph t.nest c q → IsItem t.nest t.graph.first i → item_potential p i ≤ item_potential q i
 no_more t c p q (Node y) lt L M is = L.nodes q y M (subst (λ x. x < t.graph.size) (sym is.0) lt)
 no_more t c p q (Loop r) lt L M is = L.loops q r M is.0
 
@@ -54,7 +54,7 @@ not_large p t c G B most H =
     let same = sure_hits_agree t.graph (accesses_of p t) B.is_hit H.is_hit B.hits H.hits in
     let meets = meets_by p t B.is_hit H.is_hit (potentials_of c) same P.least.meets in
     let i = H.exceeds.1 in
-    let le = no_more t (costs p (listing_of t) (answering t) H.is_hit) H.exceeds.0 (potentials_of c) i G.first H.exceeds.2 meets H.exceeds.3 in
+    let le = no_more t (edge_costs p (node_code_of t) (answering t) H.is_hit) H.exceeds.0 (potentials_of c) i G.first H.exceeds.2 meets H.exceeds.3 in
     let e = P.bound i H.exceeds.3 in
     let more = subst (λ k. k < item_potential H.exceeds.0 i) bound_number H.exceeds.4 in
     absurd (omega (arith, le, e, most, more))
@@ -89,7 +89,7 @@ module _ (set : TaskSet) (graphs : ℕ → TaskGraph) where
         within = λ k lt. subst (λ (t : TaskPart). t.part.bound ≤ 2 ^ 40) (sym (get_or-map part_of_analysis all k no_analysis)) (each k lt).within;
       }
 
-  pub none_counted : IsCounted set graphs 0 0 []
+  pub none_counted : CountsEntries set graphs 0 0 []
   none_counted =
       record {
         all = [];
@@ -109,7 +109,7 @@ module _ (set : TaskSet) (graphs : ℕ → TaskGraph) where
       (cases_eq k n)
 
   pub counted_more : (k found more : ℕ) (kept new : List Analysis) (a : Analysis) → IsAnalysis set.platform (graphs k) a → KeepsRanges a → more ≡ sum_by state_entries a.states → more ≤ 16777216
-      → (found + more ≤ 4000000 → new ≡ kept ++ a ∷ []) → IsCounted set graphs k found kept → IsCounted set graphs (k + 1) (found + more) new
+      → (found + more ≤ 4000000 → new ≡ kept ++ a ∷ []) → CountsEntries set graphs k found kept → CountsEntries set graphs (k + 1) (found + more) new
   counted_more k found more kept new a A R is small kept_is C =
       record {
         all = C.all ++ a ∷ [];
@@ -124,7 +124,7 @@ module _ (set : TaskSet) (graphs : ℕ → TaskGraph) where
       }
 
   -- where they are few enough, those kept are all
-  pub all_kept : (n found : ℕ) (kept : List Analysis) → n ≡ length set.tasks → found ≤ 4000000 → IsCounted set graphs n found kept → AreAnalysed set graphs kept
+  pub all_kept : (n found : ℕ) (kept : List Analysis) → n ≡ length set.tasks → found ≤ 4000000 → CountsEntries set graphs n found kept → AreAnalysed set graphs kept
   all_kept n found kept all le C =
       subst (λ (l : List Analysis). AreAnalysed set graphs l) (sym (C.same le))
       (record {
@@ -134,13 +134,13 @@ module _ (set : TaskSet) (graphs : ℕ → TaskGraph) where
         entries = let e = C.entries in omega (arith, e, le);
       })
 
-  pub too_many : (n found : ℕ) (kept : List Analysis) → n ≡ length set.tasks → 4000000 < found → IsCounted set graphs n found kept → AreRefused set graphs (TooManyEntries found)
+  pub too_many : (n found : ℕ) (kept : List Analysis) → n ≡ length set.tasks → 4000000 < found → CountsEntries set graphs n found kept → HaveNoAnalyses set graphs (TooManyEntries found)
   too_many n found kept all gt C =
       (map part_of_analysis C.all, best_parts C.all (C.analysed.tasks ∙ all) (λ k lt. C.analysed.each k (omega (arith, lt, all))), C.entries ∙ sym (entries_map C.all), gt)
 
   -- the first task without an analysis
-  pub task_refused : (k found : ℕ) (kept : List Analysis) (e : BuildError) → ((j : ℕ) → j < length set.tasks → IsGraph (graphs j).graph) → k < length set.tasks → IsCounted set graphs k found kept
-      → IsTaskRefused set.platform (graphs k) k e → AreRefused set graphs e
+  pub task_refused : (k found : ℕ) (kept : List Analysis) (e : BuildError) → ((j : ℕ) → j < length set.tasks → IsGraph (graphs j).graph) → k < length set.tasks → CountsEntries set graphs k found kept
+      → IsTaskError set.platform (graphs k) k e → HaveNoAnalyses set graphs e
   task_refused k found kept Memory G lt C R = tt
   task_refused k found kept (TooLarge t address) G lt C R = (
     record {

@@ -13,12 +13,12 @@ use Rattle.icache.specs.Accesses.{Accesses, accesses, last_access}
 use Rattle.must_cache.specs.Sure.{Sure}
 use Rattle.useful_sets.specs.Sets.{AreUseful, sets_at}
 use Rattle.useful_sets.specs.Useful.{Useful}
-use Rattle.evict_sets.specs.Certificate.{entry_of, block_in}
+use Rattle.evict_sets.specs.ListedPart.{state_entry_of, block_of_set}
 use Rattle.cert_check.proofs.Leaders.{continues_one}
 use Rattle.cert_model.specs.Ranges.{RiseFrom, IsState}
 use Rattle.cert_model.proofs.Ranged.{rise_wider}
 use Rattle.cert_build.specs.Best.{IsBestState, AreBestStates}
-use Rattle.cert_build.specs.Entries.{ListsSure, IsEntry, AreEntries}
+use Rattle.cert_build.specs.Entries.{ListsSure, IsStateEntry, AreLeaderEntries}
 
 all_one : {X : Type 0} (P : X → Type 0) (x : X) → P x → All P (x ∷ [])
 all_one P x h zero d l = h
@@ -49,18 +49,18 @@ rise_pairs number low limit (x ∷ xs) r (suc i) (suc j) d l m =
 -- ---- the pairs
 
 -- no pair is past those that rise below a limit
-past : (low n s : ℕ) (xs : List (ℕ × ℕ)) → n ≤ s → RiseFrom (λ (p : ℕ × ℕ). p.0) low n xs → block_in xs s ≡ None
+past : (low n s : ℕ) (xs : List (ℕ × ℕ)) → n ≤ s → RiseFrom (λ (p : ℕ × ℕ). p.0) low n xs → block_of_set xs s ≡ None
 past low n s [] le r = refl
 past low n s (x ∷ xs) le r =
     let b = r.1 in rw (ne_eqb x.0 s (λ e. absurd (omega (arith, e, b, le)))) (past (x.0 + 1) n s xs le r.2)
 
 -- a pair past them is found
-added : (low n m : ℕ) (xs : List (ℕ × ℕ)) → RiseFrom (λ (p : ℕ × ℕ). p.0) low n xs → block_in (xs ++ (n, m) ∷ []) n ≡ Some m
+added : (low n m : ℕ) (xs : List (ℕ × ℕ)) → RiseFrom (λ (p : ℕ × ℕ). p.0) low n xs → block_of_set (xs ++ (n, m) ∷ []) n ≡ Some m
 added low n m [] r = rw (eq-eqb n n refl) refl
 added low n m (x ∷ xs) r = let b = r.1 in rw (ne_eqb x.0 n (λ e. absurd (omega (arith, e, b)))) (added (x.0 + 1) n m xs r.2)
 
 -- and changes nothing at other sets
-elsewhere : (n m s : ℕ) (xs : List (ℕ × ℕ)) → n ≢ s → block_in (xs ++ (n, m) ∷ []) s ≡ block_in xs s
+elsewhere : (n m s : ℕ) (xs : List (ℕ × ℕ)) → n ≢ s → block_of_set (xs ++ (n, m) ∷ []) s ≡ block_of_set xs s
 elsewhere n m s [] ne = rw (ne_eqb n s ne) refl
 elsewhere n m s (x ∷ xs) ne =
     elim (cases_Bool (x.0 == s)) [
@@ -78,11 +78,11 @@ module _ (g : Graph) (a : Accesses) (y n : ℕ) where
       }
 
   -- one set more, which surely holds a block or none
-  next : (xs : List (ℕ × ℕ)) (o : Option ℕ) (s m : ℕ) → s < n + 1 → ((x : ℕ) → (o ≡ Some x) ↔ Sure g a y n x) → block_in xs n ≡ o → ((t x : ℕ) → t < n → (block_in xs t ≡ Some x) ↔ Sure g a y t x)
-      → (block_in xs s ≡ Some m) ↔ Sure g a y s m
+  next : (xs : List (ℕ × ℕ)) (o : Option ℕ) (s m : ℕ) → s < n + 1 → ((x : ℕ) → (o ≡ Some x) ↔ Sure g a y n x) → block_of_set xs n ≡ o → ((t x : ℕ) → t < n → (block_of_set xs t ≡ Some x) ↔ Sure g a y t x)
+      → (block_of_set xs s ≡ Some m) ↔ Sure g a y s m
   next xs o s m lt here is before =
       ⊎_elim
-      (λ (e : s ≡ n). subst (λ t. (block_in xs t ≡ Some m) ↔ Sure g a y t m) (sym e) (λ b. (here m).0 (sym is ∙ b), λ sure. is ∙ (here m).1 sure))
+      (λ (e : s ≡ n). subst (λ t. (block_of_set xs t ≡ Some m) ↔ Sure g a y t m) (sym e) (λ b. (here m).0 (sym is ∙ b), λ sure. is ∙ (here m).1 sure))
       (λ ne. before s m (omega (arith, lt, ne)))
       (cases_eq s n)
 
@@ -125,23 +125,23 @@ module _ (p : Platform) (g : Graph) (address : ℕ → ℕ) (useful : List (List
   abbrev a : Accesses
   a = accesses p address
 
-  sure_pairs : (y s m : ℕ) (pairs : List (ℕ × ℕ)) → y < g.size → ListsSure g a y p.sets pairs → (block_in pairs s ≡ Some m) ↔ Sure g a y s m
+  sure_pairs : (y s m : ℕ) (pairs : List (ℕ × ℕ)) → y < g.size → ListsSure g a y p.sets pairs → (block_of_set pairs s ≡ Some m) ↔ Sure g a y s m
   sure_pairs y s m pairs lt L =
       elim (cases_lt s p.sets) [
         | inl l ↦ L.each s m l
         | inr ge ↦ (
-          λ b. absurd (not_none (block_in pairs s) m (past 0 p.sets s pairs ge L.rise) b),
+          λ b. absurd (not_none (block_of_set pairs s) m (past 0 p.sets s pairs ge L.rise) b),
           λ sure. let l = sure_set p g address y s m G some lt sure in absurd (omega (arith, l, ge)),
         )
       ]
 
   -- the entry of a leader
-  pub best_entry : (y : ℕ) (words : List ℕ) (e : NodeState) → y < g.size → IsLeader g y → words ≡ sets_at useful y → IsEntry g a y words p.sets e → IsBestState g a e
+  pub best_entry : (y : ℕ) (words : List ℕ) (e : NodeState) → y < g.size → IsLeader g y → words ≡ sets_at useful y → IsStateEntry g a y words p.sets e → IsBestState g a e
   best_entry y words e lt leads words_is E =
       record {
         node = subst (λ n. n < g.size) (sym E.node) lt;
         leader = subst (λ n. IsLeader g n) (sym E.node) leads;
-        sure = λ s m. subst (λ n. (block_in e.sure s ≡ Some m) ↔ Sure g a n s m) (sym E.node) (sure_pairs y s m e.sure lt E.sure);
+        sure = λ s m. subst (λ n. (block_of_set e.sure s ≡ Some m) ↔ Sure g a n s m) (sym E.node) (sure_pairs y s m e.sure lt E.sure);
         ascending = rise_pairs (λ (x : ℕ × ℕ). x.0) 0 p.sets e.sure E.sure.rise;
         useful = record {
           size = subst (λ (l : List ℕ). AreWords 8 l) (sym E.useful) E.size;
@@ -150,7 +150,7 @@ module _ (p : Platform) (g : Graph) (address : ℕ → ℕ) (useful : List (List
         };
       }
 
-  pub entry_ranges : (y : ℕ) (words : List ℕ) (e : NodeState) → IsEntry g a y words p.sets e → IsState e
+  pub entry_ranges : (y : ℕ) (words : List ℕ) (e : NodeState) → IsStateEntry g a y words p.sets e → IsState e
   entry_ranges y words e E =
       record {
         sets = rise_wider (λ (x : ℕ × ℕ). x.0) 0 p.sets 512 e.sure few E.sure.rise;
@@ -160,7 +160,7 @@ module _ (p : Platform) (g : Graph) (address : ℕ → ℕ) (useful : List (List
 -- ---- the entries so far
 
 -- a list with one entry more lists no fewer nodes
-not_first : (states : List NodeState) (e : NodeState) (y : ℕ) → IsFalse (is_some (entry_of (states ++ e ∷ []) y)) → IsFalse (is_some (entry_of states y))
+not_first : (states : List NodeState) (e : NodeState) (y : ℕ) → IsFalse (is_some (state_entry_of (states ++ e ∷ []) y)) → IsFalse (is_some (state_entry_of states y))
 not_first [] e y out = refl
 not_first (s ∷ states) e y out =
     elim (cases_Bool (s.node == y)) [
@@ -168,7 +168,7 @@ not_first (s ∷ states) e y out =
       | inr b ↦ rw b (not_first states e y (rw b at out))
     ]
 
-not_last : (states : List NodeState) (e : NodeState) (y : ℕ) → IsFalse (is_some (entry_of (states ++ e ∷ []) y)) → e.node ≢ y
+not_last : (states : List NodeState) (e : NodeState) (y : ℕ) → IsFalse (is_some (state_entry_of (states ++ e ∷ []) y)) → e.node ≢ y
 not_last [] e y out = λ same. false≢true (sym (rw (eq-eqb e.node y same) at out))
 not_last (s ∷ states) e y out =
     elim (cases_Bool (s.node == y)) [
@@ -177,7 +177,7 @@ not_last (s ∷ states) e y out =
     ]
 
 module _ (g : Graph) (a : Accesses) where
-  pub no_entries : AreEntries g a 0 []
+  pub no_entries : AreLeaderEntries g a 0 []
   no_entries =
       record {
         leaders = λ y l out. absurd (omega (arith, l));
@@ -186,9 +186,9 @@ module _ (g : Graph) (a : Accesses) where
         ranges = λ k d l. absurd (omega (arith, l));
       }
 
-  pub entries_more : (n : ℕ) (states new : List NodeState) (e : NodeState) → new ≡ states ++ e ∷ [] → e.node ≡ n → IsBestState g a e → IsState e → AreEntries g a n states → AreEntries g a (n + 1) new
+  pub entries_more : (n : ℕ) (states new : List NodeState) (e : NodeState) → new ≡ states ++ e ∷ [] → e.node ≡ n → IsBestState g a e → IsState e → AreLeaderEntries g a n states → AreLeaderEntries g a (n + 1) new
   entries_more n states new e is node best ranges A =
-      subst (λ (l : List NodeState). AreEntries g a (n + 1) l) (sym is)
+      subst (λ (l : List NodeState). AreLeaderEntries g a (n + 1) l) (sym is)
       (record {
         leaders = λ y l out. A.leaders y (let ne = not_last states e y out in omega (arith, l, ne, node)) (not_first states e y out);
         each = All-append (IsBestState g a) states (e ∷ []) A.each (all_one (IsBestState g a) e best);
@@ -196,7 +196,7 @@ module _ (g : Graph) (a : Accesses) where
         ranges = All-append IsState states (e ∷ []) A.ranges (all_one IsState e ranges);
       })
 
-  pub entries_same : (n : ℕ) (states : List NodeState) → IsGraph g → (IsLeader g n → ⊥) → AreEntries g a n states → AreEntries g a (n + 1) states
+  pub entries_same : (n : ℕ) (states : List NodeState) → IsGraph g → (IsLeader g n → ⊥) → AreLeaderEntries g a n states → AreLeaderEntries g a (n + 1) states
   entries_same n states G h A =
       record {
         leaders = λ y l out. ⊎_elim (λ e. continues_one g G y (subst (λ x. IsLeader g x → ⊥) (sym e) h)) (λ ne. A.leaders y (omega (arith, l, ne)) out) (cases_eq y n);
@@ -206,7 +206,7 @@ module _ (g : Graph) (a : Accesses) where
       }
 
   -- the entries of all leaders
-  pub all_entries : (t : TaskPart) → AreEntries g a g.size t.states → AreBestStates g a t
+  pub all_entries : (t : TaskPart) → AreLeaderEntries g a g.size t.states → AreBestStates g a t
   all_entries t A =
       record {
         leaders = A.leaders;

@@ -5,12 +5,12 @@ use Rattle.crpd_base.specs.declared.data.Method.{Method}
 use Rattle.crpd_base.specs.declared.data.Method.TheVariants.{Ucb}
 use Rattle.crpd_base.specs.declared.data.TaskPart.{TaskPart}
 use Rattle.must_cache.specs.Sure.{CountsSureHits}
-use Rattle.loop_regions.specs.TaskGraph.{TaskGraph, listing_of, answering}
+use Rattle.loop_regions.specs.TaskGraph.{TaskGraph, node_code_of, answering}
 use Rattle.exec_bound.specs.Costs.{IsTooLarge}
 use Rattle.exec_bound.specs.declared.fault.BoundError.{BoundError}
 use Rattle.exec_bound.specs.declared.fault.BoundError.TheVariants.{Memory, TooLarge}
-use Rattle.cert_check.specs.Clauses.{costs}
-use Rattle.cert_check.specs.Judge.{accesses_of}
+use Rattle.cert_check.specs.PotentialClauses.{edge_costs}
+use Rattle.cert_check.specs.JudgeInput.{accesses_of}
 use Rattle.crpd_base.specs.Names.{is_name}
 use Rattle.cert_model.specs.Ranges.{IsTaskPart}
 use Rattle.cert_build.specs.Best.{IsBestPart}
@@ -40,7 +40,7 @@ KeepsRanges a =
 pub record HasLargeBound (p : Platform) (t : TaskGraph) : Type 0 where
   pub is_hit : ℕ → Bool
   pub hits : CountsSureHits t.graph (accesses_of p t) is_hit
-  pub exceeds : IsTooLarge t.graph t.nest (costs p (listing_of t) (answering t) is_hit)
+  pub exceeds : IsTooLarge t.graph t.nest (edge_costs p (node_code_of t) (answering t) is_hit)
 
 -- no memory, which comes freely; or a bound that is too large, with the address of the task's entry
 abbrev pub HasNoAnalysis : Platform → TaskGraph → BoundError → Type 0

@@ -6,12 +6,12 @@ use Rattle.crpd_base.specs.declared.data.TaskPart.{TaskPart}
 use Rattle.crpd_base.specs.declared.data.Certificate.{Certificate}
 use Rattle.crpd_base.specs.Tasks.{jitter_of}
 use Rattle.loop_regions.specs.TaskGraph.{TaskGraph}
-use Rattle.evict_sets.specs.Certificate.{no_cert, cert_at}
+use Rattle.evict_sets.specs.ListedPart.{no_task_part, certified_task}
 use Rattle.delay_count.specs.Demand.{demand}
-use Rattle.response.specs.Windows.{IsSmaller, IsFirstWithout}
+use Rattle.response.specs.Windows.{IsSmallerWindow, IsFirstWithoutWindow}
 use Rattle.response.specs.declared.choice.WindowError.{WindowError}
 use Rattle.response.specs.declared.choice.WindowError.TheVariants as window
-use Rattle.cert_check.specs.Judge.{window_at, longest_at, name_of}
+use Rattle.cert_check.specs.JudgeInput.{window_at, longest_at, task_name}
 use Rattle.cert_model.specs.Reading.{entries}
 use Rattle.cert_build.specs.Best.{IsBestPart, demand_of}
 use Rattle.cert_build.specs.Analysis.{part_with, HasLargeBound}
@@ -20,14 +20,14 @@ use Rattle.cert_build.specs.declared.fault.BuildError.{BuildError}
 use Rattle.cert_build.specs.declared.fault.BuildError.TheVariants.{Memory, TooLarge, TooManyEntries, Unschedulable}
 
 -- what a window needs of the k-th part
-abbrev pub needs_at : List TaskPart → ℕ → Part
-needs_at parts k = (slice_index_or parts k no_cert).part
+abbrev pub part_in : List TaskPart → ℕ → Part
+part_in parts k = (slice_index_or parts k no_task_part).part
 
 -- the parts of all tasks, but for what stands beside the analysis of each task's code, with bounds of at most 2^40
 pub record AreBestParts (set : TaskSet) (graphs : ℕ → TaskGraph) (parts : List TaskPart) : Type 0 where
   pub tasks : length parts ≡ length set.tasks
-  pub each : (k : ℕ) → k < length set.tasks → IsBestPart set.platform (graphs k) (slice_index_or parts k no_cert)
-  pub within : (k : ℕ) → k < length set.tasks → (needs_at parts k).bound ≤ 2 ^ 40
+  pub each : (k : ℕ) → k < length set.tasks → IsBestPart set.platform (graphs k) (slice_index_or parts k no_task_part)
+  pub within : (k : ℕ) → k < length set.tasks → (part_in parts k).bound ≤ 2 ^ 40
 
 -- the first task whose bound exceeds 2^40
 pub record IsFirstLarge (set : TaskSet) (graphs : ℕ → TaskGraph) (i : ℕ) : Type 0 where
@@ -37,39 +37,39 @@ pub record IsFirstLarge (set : TaskSet) (graphs : ℕ → TaskGraph) (i : ℕ) :
 
 -- when the analyses of all tasks are refused: want of memory, freely; a bound that is too large, for the first such task,
 -- with the address of its entry; else more than 4,000,000 state entries of all parts
-abbrev pub AreRefused : TaskSet → (ℕ → TaskGraph) → BuildError → Type 0
-AreRefused set graphs Memory = Unit {0}
-AreRefused set graphs (TooLarge t address) = IsFirstLarge set graphs t.0 × (address ≡ (graphs t.0).places.address (graphs t.0).graph.first)
-AreRefused set graphs (TooManyEntries n) = (parts : List TaskPart) × AreBestParts set graphs parts × (n ≡ entries parts) × (4000000 < n)
-AreRefused set graphs (Unschedulable t) = ⊥
+abbrev pub HaveNoAnalyses : TaskSet → (ℕ → TaskGraph) → BuildError → Type 0
+HaveNoAnalyses set graphs Memory = Unit {0}
+HaveNoAnalyses set graphs (TooLarge t address) = IsFirstLarge set graphs t.0 × (address ≡ (graphs t.0).places.address (graphs t.0).graph.first)
+HaveNoAnalyses set graphs (TooManyEntries n) = (parts : List TaskPart) × AreBestParts set graphs parts × (n ≡ entries parts) × (4000000 < n)
+HaveNoAnalyses set graphs (Unschedulable t) = ⊥
 
 -- when each refusal of a certificate comes: those of the analyses; else the first task without a window
-abbrev pub IsBuildRefused : TaskSet → (ℕ → TaskGraph) → BuildError → Type 0
-IsBuildRefused set graphs (Unschedulable t) =
+abbrev pub IsBuildError : TaskSet → (ℕ → TaskGraph) → BuildError → Type 0
+IsBuildError set graphs (Unschedulable t) =
     (parts : List TaskPart) × AreBestParts set graphs parts × (entries parts ≤ 4000000)
-    × IsFirstWithout set (demand set (needs_at parts) (longest_at set.platform graphs)) t.0
-IsBuildRefused set graphs e = AreRefused set graphs e
+    × IsFirstWithoutWindow set (demand set (part_in parts) (longest_at set.platform graphs)) t.0
+IsBuildError set graphs e = HaveNoAnalyses set graphs e
 
 -- the refusal of a certificate for want of windows
-abbrev pub of_windows : WindowError → BuildError
-of_windows window.Memory = Memory
-of_windows (window.Unschedulable t) = Unschedulable t
+abbrev pub window_build_error : WindowError → BuildError
+window_build_error window.Memory = Memory
+window_build_error (window.Unschedulable t) = Unschedulable t
 
 -- a certificate with these analyses, whatever its windows: each with its task's name, and as response its window and jitter
 pub record HasParts (set : TaskSet) (analyses : ℕ → Analysis) (c : Certificate) : Type 0 where
   pub platform : c.platform ≡ set.platform
   pub tasks : length c.tasks ≡ length set.tasks
   pub part : (k : ℕ) → k < length set.tasks →
-      cert_at c k ≡ part_with (analyses k) (name_of set k) (cert_at c k).method (window_at c k) (window_at c k + jitter_of set k)
+      certified_task c k ≡ part_with (analyses k) (task_name set k) (certified_task c k).method (window_at c k) (window_at c k + jitter_of set k)
 
 -- the certificate of these analyses, whose windows are the smaller of the least ones
 pub record IsCompleted (set : TaskSet) (graphs : ℕ → TaskGraph) (analyses : ℕ → Analysis) (c : Certificate) : Type 0 where
   pub parts : HasParts set analyses c
   pub smaller : (k : ℕ) → k < length set.tasks →
-      IsSmaller set (demand_of set graphs c k) k (cert_at c k).method (window_at c k)
+      IsSmallerWindow set (demand_of set graphs c k) k (certified_task c k).method (window_at c k)
 
 -- when there are no windows for these analyses
 abbrev pub HasNoWindows : TaskSet → (ℕ → TaskGraph) → (ℕ → Analysis) → WindowError → Type 0
 HasNoWindows set graphs analyses window.Memory = Unit {0}
 HasNoWindows set graphs analyses (window.Unschedulable t) =
-    IsFirstWithout set (demand set (λ k. (analyses k).part) (longest_at set.platform graphs)) t.0
+    IsFirstWithoutWindow set (demand set (λ k. (analyses k).part) (longest_at set.platform graphs)) t.0

@@ -6,15 +6,15 @@ ghost use Rattle.flat_graph.specs.CodeGraph.{CodeGraph, graph_of};
 ghost use Rattle.flat_graph.specs.Graph.{IsGraph};
 ghost use Rattle.crpd_base.specs.Ranges.{IsPlatform};
 ghost use Rattle.loop_regions.specs.CodeNest.{IsNestOf};
-ghost use Rattle.cert_check.specs.Shown.{shown, shown_at, AreShown};
+ghost use Rattle.cert_check.specs.TaskGraphs.{task_graph, task_graph_at, AreTaskGraphs};
 ghost use Rattle.cert_check.specs.Verdict.{IsJudged, Yes};
 ghost use Rattle.cert_model.specs.Reading.{entries};
 ghost use Rattle.cert_model.specs.Ranges.{IsCertificate};
 ghost use Rattle.cert_build.specs.Best.{IsBest};
 ghost use Rattle.cert_build.specs.declared.one_task.Analysis.{Analysis};
 ghost use Rattle.cert_build.specs.Analysis.{IsAnalysis, KeepsRanges};
-ghost use Rattle.cert_build.specs.Assembly.{AreAnalysed, IsTaskRefused};
-ghost use Rattle.cert_build.specs.Certify.{AreRefused, IsBuildRefused};
+ghost use Rattle.cert_build.specs.Assembly.{AreAnalysed, IsTaskError};
+ghost use Rattle.cert_build.specs.Certify.{HaveNoAnalyses, IsBuildError};
 
 use crate::completed::complete;
 use crate::fault::BuildError;
@@ -37,8 +37,8 @@ fn analyse_task(
     requires nest { IsNestOf graph.now nest.now }
     requires platform { IsPlatform platform.now }
     ensures exact { MatchResult result
-        (λ a. IsAnalysis platform.now (shown graph.now nest.now) a)
-        (λ e. IsTaskRefused platform.now (shown graph.now nest.now) task.0 e) }
+        (λ a. IsAnalysis platform.now (task_graph graph.now nest.now) a)
+        (λ e. IsTaskError platform.now (task_graph graph.now nest.now) task.0 e) }
     ensures ranges { IfOk result KeepsRanges }
 {
     match analyse(alloc, graph, nest, platform) {
@@ -61,10 +61,10 @@ pub fn analyse_all(
     nests: &[Nest],
 ) -> Result<Vec<Analysis>, BuildError>
     requires set { IsTaskSet set.now }
-    requires tasks { AreShown set.now graphs.now nests.now }
+    requires tasks { AreTaskGraphs set.now graphs.now nests.now }
     ensures { MatchResult result
-        (λ all. AreAnalysed set.now (shown_at graphs.now nests.now) all.items)
-        (λ e. AreRefused set.now (shown_at graphs.now nests.now) e) }
+        (λ all. AreAnalysed set.now (task_graph_at graphs.now nests.now) all.items)
+        (λ e. HaveNoAnalyses set.now (task_graph_at graphs.now nests.now) e) }
 {
     graphs_law(graphs);
     let mut kept = Vec::new(alloc);
@@ -110,14 +110,14 @@ pub fn certify(
     nests: &[Nest],
 ) -> Result<Certificate, BuildError>
     requires set { IsTaskSet set.now }
-    requires tasks { AreShown set.now graphs.now nests.now }
+    requires tasks { AreTaskGraphs set.now graphs.now nests.now }
     ensures exact { MatchResult result
-        (λ c. IsBest set.now (shown_at graphs.now nests.now) c)
-        (λ e. IsBuildRefused set.now (shown_at graphs.now nests.now) e) }
+        (λ c. IsBest set.now (task_graph_at graphs.now nests.now) c)
+        (λ e. IsBuildError set.now (task_graph_at graphs.now nests.now) e) }
     ensures few { IfOk result (λ c. entries c.tasks ≤ 4000000) }
     ensures ranges { IfOk result IsCertificate }
-    ensures judged { IfOk result (λ c. IsJudged set.now (shown_at graphs.now nests.now) c Yes) }
-    ensures one { IfOk result (λ c. (d : Certificate) → IsBest set.now (shown_at graphs.now nests.now) d → d ≡ c) }
+    ensures judged { IfOk result (λ c. IsJudged set.now (task_graph_at graphs.now nests.now) c Yes) }
+    ensures one { IfOk result (λ c. (d : Certificate) → IsBest set.now (task_graph_at graphs.now nests.now) d → d ≡ c) }
 {
     graphs_law(graphs);
     let analyses = analyse_all(alloc, set, graphs, nests)?;

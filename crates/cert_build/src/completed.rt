@@ -3,8 +3,8 @@ ghost use Rattle.std.specs.Prelude.{◌≡◌, ℕ, ◌+◌, ◌<◌, ◌≤◌,
 ghost use Rattle.crpd_base.specs.Ranges.{IsTaskSet};
 ghost use Rattle.loop_regions.specs.CodeNest.{CodeNest};
 ghost use Rattle.response.specs.declared.choice.Choice.{Choice};
-ghost use Rattle.response.specs.Windows.{IsAnswer};
-ghost use Rattle.cert_check.specs.Shown.{shown_at};
+ghost use Rattle.response.specs.Windows.{AreAllChoices};
+ghost use Rattle.cert_check.specs.TaskGraphs.{task_graph_at};
 ghost use Rattle.cert_build.specs.Analysis.{part_with};
 ghost use Rattle.cert_build.specs.Certify.{IsCompleted, HasNoWindows};
 ghost use Rattle.cert_build.specs.Assembly.{analysis_at, AreAssembled, HaveResponses, IsAssembled};
@@ -106,8 +106,8 @@ pub fn complete(
     requires graphs { length graphs.now ≡ length set.now.tasks }
     requires analyses { length analyses.items ≡ length set.now.tasks }
     ensures { (nests : List CodeNest) → MatchResult result
-        (λ c. IsCompleted set.now (shown_at graphs.now nests) (analysis_at analyses.items) c)
-        (λ e. HasNoWindows set.now (shown_at graphs.now nests) (analysis_at analyses.items) e) }
+        (λ c. IsCompleted set.now (task_graph_at graphs.now nests) (analysis_at analyses.items) c)
+        (λ e. HasNoWindows set.now (task_graph_at graphs.now nests) (analysis_at analyses.items) e) }
 {
     times_law(set);
     let mut longest = [0; MOST_TASKS];

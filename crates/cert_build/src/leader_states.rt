@@ -3,9 +3,9 @@ ghost use Rattle.std.specs.Prelude.{◌≡◌, ◌<◌, ◌≤◌, ◌^◌, [], 
 ghost use Rattle.icache.specs.Accesses.{accesses};
 ghost use Rattle.flat_graph.specs.Graph.{IsLeader};
 ghost use Rattle.flat_graph.specs.CodeGraph.{graph_of, places_of};
-ghost use Rattle.must_cache.specs.Walks.{AreSureParts};
+ghost use Rattle.must_cache.specs.FirstWalks.{AreSureParts};
 ghost use Rattle.useful_sets.specs.Sets.{AreUseful};
-ghost use Rattle.cert_build.specs.Entries.{ListsSure, IsEntry, AreEntries};
+ghost use Rattle.cert_build.specs.Entries.{ListsSure, IsStateEntry, AreLeaderEntries};
 
 use crpd_base::{Items, NodeId, NodeState, SETS, SetBits, WORDS};
 use flat_graph::Graph;
@@ -61,7 +61,7 @@ fn entry(
     requires leader { IsLeader (graph_of graph.now) leader.0 }
     requires parts { AreSureParts (graph_of graph.now) (accesses geometry.now.platform (places_of graph.now).address)
         parts.now.places.items parts.now.states.items parts.now.hits.items parts.now.unsure.items }
-    ensures { IfOk result (λ e. IsEntry (graph_of graph.now) (accesses geometry.now.platform (places_of graph.now).address)
+    ensures { IfOk result (λ e. IsStateEntry (graph_of graph.now) (accesses geometry.now.platform (places_of graph.now).address)
         leader.0 useful.now geometry.now.platform.sets e) }
 {
     useful.words_law();
@@ -87,7 +87,7 @@ pub(crate) fn leader_states(
     requires parts { AreSureParts (graph_of graph.now) (accesses geometry.now.platform (places_of graph.now).address)
         parts.now.places.items parts.now.states.items parts.now.hits.items parts.now.unsure.items }
     requires useful { AreUseful (graph_of graph.now) (accesses geometry.now.platform (places_of graph.now).address) useful.now }
-    ensures { IfOk result (λ states. AreEntries (graph_of graph.now) (accesses geometry.now.platform (places_of graph.now).address)
+    ensures { IfOk result (λ states. AreLeaderEntries (graph_of graph.now) (accesses geometry.now.platform (places_of graph.now).address)
         (graph_of graph.now).size states.items) }
 {
     graph.graph_law();

@@ -2,7 +2,7 @@
 ghost use Rattle.std.specs.Prelude.{MatchResult, IfOk};
 ghost use Rattle.crpd_base.specs.Ranges.{IsPlatform};
 ghost use Rattle.loop_regions.specs.CodeNest.{IsNestOf};
-ghost use Rattle.cert_check.specs.Shown.{shown};
+ghost use Rattle.cert_check.specs.TaskGraphs.{task_graph};
 ghost use Rattle.cert_build.specs.Analysis.{IsAnalysis, KeepsRanges, HasNoAnalysis};
 
 use crate::leader_states::leader_states;
@@ -14,7 +14,7 @@ use icache::Geometry;
 use loop_regions::Nest;
 use must_cache::sure_parts;
 use std::alloc::Global;
-use useful_sets::{reused, useful_by_hits};
+use useful_sets::{useful_of_hits, useful_by_hits};
 
 /// What is found of a task's code alone: its execution bound in cycles, its evicting and its useful cache sets, the
 /// entries of its leaders by ascending node, and the least potentials of its nodes and regions in cycles.
@@ -47,8 +47,8 @@ pub fn analyse(
     requires nest { IsNestOf graph.now nest.now }
     requires platform { IsPlatform platform.now }
     ensures exact { MatchResult result
-        (λ a. IsAnalysis platform.now (shown graph.now nest.now) a)
-        (λ e. HasNoAnalysis platform.now (shown graph.now nest.now) e) }
+        (λ a. IsAnalysis platform.now (task_graph graph.now nest.now) a)
+        (λ e. HasNoAnalysis platform.now (task_graph graph.now nest.now) e) }
     ensures ranges { IfOk result KeepsRanges }
 {
     graph.graph_law();
@@ -67,7 +67,7 @@ pub fn analyse(
     };
     let states = leader_states(alloc, graph, &geometry, &parts, &useful)?;
     let evicting = evicting::<WORDS>(graph, &geometry);
-    let useful = reused::<WORDS>(graph, &geometry, &parts.hits);
+    let useful = useful_of_hits::<WORDS>(graph, &geometry, &parts.hits);
     evicting.words_law();
     useful.words_law();
     Ok(Analysis {

@@ -13,20 +13,20 @@ use Rattle.icache.specs.Accesses.{Accesses}
 use Rattle.evict_sets.proofs.FullLaws.{hit_test_law}
 use Rattle.loop_regions.specs.Potentials.{Potentials, item_potential}
 use Rattle.crpd_base.specs.declared.data.Certificate.{Certificate}
-use Rattle.evict_sets.specs.Certificate.{listed_of, cert_at}
-use Rattle.cert_check.specs.Certificate.{potentials_of}
-use Rattle.cert_check.specs.Clauses.{CountsHits, costs, PotentialsMeet, BoundMeets}
-use Rattle.loop_regions.specs.TaskGraph.{TaskGraph, listing_of, answering}
-use Rattle.evict_sets.specs.Clauses.{MeetsListing, MeetsSets}
+use Rattle.evict_sets.specs.ListedPart.{listed_of, certified_task}
+use Rattle.cert_check.specs.ListedPotentials.{potentials_of}
+use Rattle.cert_check.specs.PotentialClauses.{CountsHits, edge_costs, PotentialsMeet, BoundMeets}
+use Rattle.loop_regions.specs.TaskGraph.{TaskGraph, node_code_of, answering}
+use Rattle.evict_sets.specs.CacheClauses.{MeetsListing, MeetsSets}
 use Rattle.crpd_base.specs.Sets.{has}
 use Rattle.crpd_base.specs.declared.data.NodeState.{NodeState}
 use Rattle.crpd_base.specs.declared.data.TaskPart.{TaskPart}
 use Rattle.crpd_base.specs.Tasks.{jitter_of, deadline_of}
 use Rattle.delay_count.specs.Demand.{demand}
-use Rattle.cert_check.specs.Judge.{accesses_of, part_of, longest_at, window_at, name_of}
+use Rattle.cert_check.specs.JudgeInput.{accesses_of, certified_part, longest_at, window_at, task_name}
 use Rattle.cert_check.specs.declared.outcome.Clause.{Clause}
 use Rattle.cert_check.specs.declared.outcome.Clause.TheVariants.{Platforms, HasTask, Names, Last, Leaders, NodePotentials, LoopPotentials, States, UsefulSets, TaskSets, Inequalities, Bound, Window, Response, Deadline}
-use Rattle.cert_check.specs.Verdict.{GraphHolds, Holds, IsYes, YesMeetsListing, YesMeetsSets}
+use Rattle.cert_check.specs.Verdict.{GraphHolds, ClauseHolds, IsYes, YesMeetsListing, YesMeetsSets}
 
 -- two tests of hits agree at the nodes
 pub tests_agree : (g : Graph) (a : Accesses) (l : Listed) (one two : ℕ → Bool) (u : ℕ)
@@ -36,8 +36,8 @@ tests_agree g a l one two u p q h =
 
 -- the inequalities at a node see the test at that node only
 pub same_meets : (p : Platform) (t : TaskGraph) (pot : Potentials) (one two : ℕ → Bool) (u : ℕ)
-    → one u ≡ two u → PotentialsMeet t.graph t.nest (costs p (listing_of t) (answering t) one) pot u
-    → PotentialsMeet t.graph t.nest (costs p (listing_of t) (answering t) two) pot u
+    → one u ≡ two u → PotentialsMeet t.graph t.nest (edge_costs p (node_code_of t) (answering t) one) pot u
+    → PotentialsMeet t.graph t.nest (edge_costs p (node_code_of t) (answering t) two) pot u
 same_meets p t pot one two u e m =
     record {
       edges = record {
@@ -58,7 +58,7 @@ pub record GraphMeets (p : Platform) (t : TaskGraph) (c : TaskPart) : Type 0 whe
   pub is_hit : ℕ → Bool
   pub hits : CountsHits t.graph (accesses_of p t) (listed_of c) is_hit
   pub potentials : (u : ℕ) → u < t.graph.size
-      → PotentialsMeet t.graph t.nest (costs p (listing_of t) (answering t) is_hit) (potentials_of c) u
+      → PotentialsMeet t.graph t.nest (edge_costs p (node_code_of t) (answering t) is_hit) (potentials_of c) u
   pub bound : BoundMeets t.graph t.nest (potentials_of c) c.part.bound
 
 module _ (p : Platform) (t : TaskGraph) (c : TaskPart) where
@@ -107,10 +107,10 @@ clauses_of p t c numbers nodes loops m _ = tt
 module _ (set : TaskSet) (graphs : ℕ → TaskGraph) (c : Certificate) (i : ℕ)
     (lt : i < length set.tasks) (platform : c.platform ≡ set.platform)
     (tasks : length c.tasks ≡ length set.tasks)
-    (name : (cert_at c i).name ≡ name_of set i) (part : (k : Clause) → GraphHolds set.platform (graphs i) (cert_at c i) k) (some : 1 ≤ window_at c i)
-    (enough : demand set (part_of c) (longest_at set.platform graphs) (window_at c) i (cert_at c i).method (window_at c i) ≤ window_at c i)
-    (response : (cert_at c i).response ≡ window_at c i + jitter_of set i) (in_deadline : window_at c i + jitter_of set i ≤ deadline_of set i) where
-  pub all_hold : (k : Clause) → Holds set graphs c i k
+    (name : (certified_task c i).name ≡ task_name set i) (part : (k : Clause) → GraphHolds set.platform (graphs i) (certified_task c i) k) (some : 1 ≤ window_at c i)
+    (enough : demand set (certified_part c) (longest_at set.platform graphs) (window_at c) i (certified_task c i).method (window_at c i) ≤ window_at c i)
+    (response : (certified_task c i).response ≡ window_at c i + jitter_of set i) (in_deadline : window_at c i + jitter_of set i ≤ deadline_of set i) where
+  pub all_hold : (k : Clause) → ClauseHolds set graphs c i k
   all_hold Platforms = platform
   all_hold HasTask = omega (arith, tasks, lt)
   all_hold Names = name
@@ -122,7 +122,7 @@ module _ (set : TaskSet) (graphs : ℕ → TaskGraph) (c : Certificate) (i : ℕ
 
 -- the clauses of a task say those of its graph
 pub graph_part : (set : TaskSet) (graphs : ℕ → TaskGraph) (c : Certificate) (i : ℕ) (k : Clause)
-    → Holds set graphs c i k → GraphHolds set.platform (graphs i) (cert_at c i) k
+    → ClauseHolds set graphs c i k → GraphHolds set.platform (graphs i) (certified_task c i) k
 graph_part set graphs c i Platforms h = tt
 graph_part set graphs c i HasTask h = tt
 graph_part set graphs c i Names h = tt
@@ -135,16 +135,16 @@ graph_part set graphs c i k h = h
 -- after a yes those on which full states and useful sets rest hold together
 module _ (set : TaskSet) (graphs : ℕ → TaskGraph) (c : Certificate) (i : ℕ)
     (says : IsYes set graphs c) (lt : i < length set.tasks) where
-  graph_holds : (k : Clause) → GraphHolds set.platform (graphs i) (cert_at c i) k
+  graph_holds : (k : Clause) → GraphHolds set.platform (graphs i) (certified_task c i) k
   graph_holds k = graph_part set graphs c i k (says i k lt)
 
 pub yes_meets_listing : YesMeetsListing
 yes_meets_listing set graphs c i says lt =
-    listing_meets set.platform (graphs i) (cert_at c i) (graph_holds set graphs c i says lt)
+    listing_meets set.platform (graphs i) (certified_task c i) (graph_holds set graphs c i says lt)
 
 pub yes_meets_sets : YesMeetsSets
 yes_meets_sets set graphs c i says lt =
-    sets_meet set.platform (graphs i) (cert_at c i) (graph_holds set graphs c i says lt)
+    sets_meet set.platform (graphs i) (certified_task c i) (graph_holds set graphs c i says lt)
 
 -- a yes says that the certificate has a part for each task
 pub as_many : (set : TaskSet) (graphs : ℕ → TaskGraph) (c : Certificate) → 1 ≤ length set.tasks

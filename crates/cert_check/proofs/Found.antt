@@ -4,38 +4,38 @@ use Rattle.std.specs.Prelude.{IsErrAnd}
 use Rattle.std.proofs.lemmas.Bool.{cases_lt}
 use Rattle.cert_check.specs.declared.outcome.Clause.{Clause}
 use Rattle.cert_check.specs.declared.outcome.Clause.TheVariants.{Platforms, HasTask, Names, Last, Leaders, NodePotentials, LoopPotentials, Bound, Window, Response, Deadline}
-use Rattle.cert_check.specs.Verdict.{number_of, place_of, IsEarlier}
-use Rattle.cert_check.specs.Answered.{IsFirstFailing, AllHold, IsFound}
-use Rattle.cert_check.specs.Case.{IsLeast}
+use Rattle.cert_check.specs.Verdict.{clause_number, clause_place, IsEarlierClause}
+use Rattle.cert_check.specs.FirstFailing.{IsFirstFailingWithin, AllHold, IsRangeJudged}
+use Rattle.cert_check.specs.JudgedNodes.{IsLeastFailing}
 
 module _ (H : Clause → Type 0) where
   -- first some clauses, which hold, then those of greater numbers
   pub then_found : (low mid high : ℕ) (r : Result (Unit {0}) Clause) → low ≤ mid + 1 → mid ≤ high
-      → AllHold H low mid → IsFound H (mid + 1) high r → IsFound H low high r
+      → AllHold H low mid → IsRangeJudged H (mid + 1) high r → IsRangeJudged H low high r
   then_found low mid high (Ok _) a b first rest = λ k from_low to_high.
-      ⊎_elim (λ lt. first k from_low (omega arith)) (λ le. rest k le to_high) (cases_lt (number_of k) (mid + 1))
+      ⊎_elim (λ lt. first k from_low (omega arith)) (λ le. rest k le to_high) (cases_lt (clause_number k) (mid + 1))
   then_found low mid high (Err k) a b first rest = record {
     from_low = (let le = rest.from_low in omega (arith, a, le));
     to_high = rest.to_high;
     fails = rest.fails;
-    before = λ l from_low earlier. ⊎_elim (λ lt. first l from_low (omega arith)) (λ le. rest.before l le earlier) (cases_lt (number_of l) (mid + 1));
+    before = λ l from_low earlier. ⊎_elim (λ lt. first l from_low (omega arith)) (λ le. rest.before l le earlier) (cases_lt (clause_number l) (mid + 1));
   }
 
   -- a failure among the first
-  pub found_first : (low mid high : ℕ) (k : Clause) → mid ≤ high → IsFirstFailing H low mid k
-      → IsFirstFailing H low high k
+  pub found_first : (low mid high : ℕ) (k : Clause) → mid ≤ high → IsFirstFailingWithin H low mid k
+      → IsFirstFailingWithin H low high k
   found_first low mid high k le F =
       record { from_low = F.from_low; to_high = (let to = F.to_high in omega (arith, to, le)); fails = F.fails; before = F.before }
 
   -- it is handed on
   pub handed_on : (low high : ℕ) (r : Result (Unit {0}) Clause) (k : Clause)
-      → IsErrAnd r (λ l. l ≡ k) → IsFirstFailing H low high k → IsFound H low high r
+      → IsErrAnd r (λ l. l ≡ k) → IsFirstFailingWithin H low high k → IsRangeJudged H low high r
   handed_on low high (Ok _) k h F = absurd h
-  handed_on low high (Err l) k h F = subst (IsFirstFailing H low high) (sym h) F
+  handed_on low high (Err l) k h F = subst (IsFirstFailingWithin H low high) (sym h) F
 
   -- the first of its number fails
-  pub fails_first : (k : Clause) → place_of k ≡ 0 → (H k → ⊥)
-      → IsFirstFailing H (number_of k) (number_of k) k
+  pub fails_first : (k : Clause) → clause_place k ≡ 0 → (H k → ⊥)
+      → IsFirstFailingWithin H (clause_number k) (clause_number k) k
   fails_first k zero_place fails = record {
     from_low = omega arith;
     to_high = omega arith;
@@ -45,8 +45,8 @@ module _ (H : Clause → Type 0) where
 
   -- a later one fails, and the earlier ones hold
   pub fails_later : (k : Clause)
-      → ((l : Clause) → number_of l ≡ number_of k → place_of l < place_of k → H l) → (H k → ⊥)
-      → IsFirstFailing H (number_of k) (number_of k) k
+      → ((l : Clause) → clause_number l ≡ clause_number k → clause_place l < clause_place k → H l) → (H k → ⊥)
+      → IsFirstFailingWithin H (clause_number k) (clause_number k) k
   fails_later k earlier_hold fails = record {
     from_low = omega arith;
     to_high = omega arith;
@@ -63,7 +63,7 @@ module _ (H : Clause → Type 0) where
   names_hold p t n z k low high = absurd (omega (arith, low, high))
 
   pub names_before : (n : ℕ) → (0 < n → H Platforms) → (1 < n → H HasTask) → (2 < n → H Names)
-      → n ≤ 3 → (l : Clause) → number_of l ≡ 1 → place_of l < n → H l
+      → n ≤ 3 → (l : Clause) → clause_number l ≡ 1 → clause_place l < n → H l
   names_before n p t m le Platforms e lt = p lt
   names_before n p t m le HasTask e lt = t lt
   names_before n p t m le Names e lt = m lt
@@ -78,7 +78,7 @@ module _ (H : Clause → Type 0) where
   lists_hold a b d k low high = absurd (omega (arith, low, high))
 
   pub lists_before : (n : ℕ) → (0 < n → H Leaders) → (1 < n → H NodePotentials) → n ≤ 2
-      → (l : Clause) → number_of l ≡ 2 → place_of l < n → H l
+      → (l : Clause) → clause_number l ≡ 2 → clause_place l < n → H l
   lists_before n a b le Leaders e lt = a lt
   lists_before n a b le NodePotentials e lt = b lt
   lists_before n a b le LoopPotentials e lt = absurd (omega (arith, le, lt))
@@ -98,24 +98,24 @@ module _ (H : Clause → Type 0) where
   response_holds h d Deadline low high = d
   response_holds h d k low high = absurd (omega (arith, low, high))
 
-  pub response_before : H Response → (l : Clause) → number_of l ≡ 9 → place_of l < 1 → H l
+  pub response_before : H Response → (l : Clause) → clause_number l ≡ 9 → clause_place l < 1 → H l
   response_before h Response e lt = h
   response_before h Deadline e lt = absurd (omega (arith, lt))
   response_before h k e lt = absurd (omega (arith, e))
 
 -- a fact of the nodes is what the clauses of a number say
 pub record IsOfNodes (H : Clause → Type 0) (P : ℕ → Type 0) (C : ℕ → Clause) (n size : ℕ) : Type 0 where
-  pub number : (u : ℕ) → number_of (C u) ≡ n
-  pub place : (u : ℕ) → place_of (C u) ≡ u
-  pub only : (l : Clause) → number_of l ≡ n → C (place_of l) ≡ l
+  pub number : (u : ℕ) → clause_number (C u) ≡ n
+  pub place : (u : ℕ) → clause_place (C u) ≡ u
+  pub only : (l : Clause) → clause_number l ≡ n → C (clause_place l) ≡ l
   pub to : (u : ℕ) → u < size → P u → H (C u)
   pub past : (u : ℕ) → size ≤ u → H (C u)
   pub back : (u : ℕ) → u < size → H (C u) → P u
 
 module _ (H : Clause → Type 0) (P : ℕ → Type 0) (C : ℕ → Clause) (n size least : ℕ)
-    (X : IsOfNodes H P C n size) (L : IsLeast P size least) where
+    (X : IsOfNodes H P C n size) (L : IsLeastFailing P size least) where
   -- it fails at the least node
-  pub node_fails : least < size → IsFirstFailing H n n (C least)
+  pub node_fails : least < size → IsFirstFailingWithin H n n (C least)
   node_fails lt = record {
     from_low = (let e = X.number least in omega (arith, e));
     to_high = (let e = X.number least in omega (arith, e));
@@ -125,8 +125,8 @@ module _ (H : Clause → Type 0) (P : ℕ → Type 0) (C : ℕ → Clause) (n si
         (λ same.
         let b = same.1 in
         let p = X.place least in
-        let before : place_of l < least = omega (arith, b, p) in
-        subst H (X.only l (same.0 ∙ X.number least)) (X.to (place_of l) (omega (arith, before, lt)) (L.holds (place_of l) before)))
+        let before : clause_place l < least = omega (arith, b, p) in
+        subst H (X.only l (same.0 ∙ X.number least)) (X.to (clause_place l) (omega (arith, before, lt)) (L.holds (clause_place l) before)))
         earlier;
   }
 
@@ -134,16 +134,16 @@ module _ (H : Clause → Type 0) (P : ℕ → Type 0) (C : ℕ → Clause) (n si
   pub nodes_hold : size ≤ least → AllHold H n n
   nodes_hold none k low high =
       subst H (X.only k (omega (arith, low, high)))
-      (⊎_elim (λ lt. X.to (place_of k) lt (L.holds (place_of k) (omega (arith, lt, none)))) (λ le. X.past (place_of k) le) (cases_lt (place_of k) size))
+      (⊎_elim (λ lt. X.to (clause_place k) lt (L.holds (clause_place k) (omega (arith, lt, none)))) (λ le. X.past (clause_place k) le) (cases_lt (clause_place k) size))
 
-not_later : (l k : Clause) → IsEarlier l k → number_of l ≤ number_of k
+not_later : (l k : Clause) → IsEarlierClause l k → clause_number l ≤ clause_number k
 not_later l k (inl lt) = omega (arith, lt)
 not_later l k (inr e) = (let same = e.0 in omega (arith, same))
 
 -- clauses that say the same
 pub found_as : (H K : Clause → Type 0) (low high : ℕ) (r : Result (Unit {0}) Clause)
-    → ((k : Clause) → low ≤ number_of k → number_of k ≤ high → H k ↔ K k) → IsFound H low high r
-    → IsFound K low high r
+    → ((k : Clause) → low ≤ clause_number k → clause_number k ≤ high → H k ↔ K k) → IsRangeJudged H low high r
+    → IsRangeJudged K low high r
 found_as H K low high (Ok _) same F = λ k a b. (same k a b).0 (F k a b)
 found_as H K low high (Err k) same F = record {
   from_low = F.from_low;
@@ -153,6 +153,6 @@ found_as H K low high (Err k) same F = record {
 }
 
 -- every clause has a number from 1 to 9
-pub numbers : (l : Clause) → (1 ≤ number_of l) × (number_of l ≤ 9)
+pub numbers : (l : Clause) → (1 ≤ clause_number l) × (clause_number l ≤ 9)
 numbers Platforms = (omega arith, omega arith)
 numbers l = (omega arith, omega arith)

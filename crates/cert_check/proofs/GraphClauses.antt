@@ -3,33 +3,33 @@ use Rattle.std.proofs.Common.{◌≡◌, ℕ, ◌<◌, ◌≤◌, Bool, Ok, Err,
 use Rattle.crpd_base.specs.Sets.{has}
 use Rattle.crpd_base.specs.declared.data.Platform.{Platform}
 use Rattle.crpd_base.specs.declared.data.TaskPart.{TaskPart}
-use Rattle.loop_regions.specs.TaskGraph.{TaskGraph, listing_of, answering}
-use Rattle.evict_sets.specs.Clauses.{StatesMeet, UsefulMeets, SetsMeet}
-use Rattle.evict_sets.specs.Certificate.{listed_of}
-use Rattle.cert_check.specs.Certificate.{potentials_of}
-use Rattle.cert_check.specs.Clauses.{CountsHits, costs, PotentialsMeet}
-use Rattle.cert_check.specs.Judge.{accesses_of}
+use Rattle.loop_regions.specs.TaskGraph.{TaskGraph, node_code_of, answering}
+use Rattle.evict_sets.specs.CacheClauses.{StatesMeet, UsefulMeets, SetsMeet}
+use Rattle.evict_sets.specs.ListedPart.{listed_of}
+use Rattle.cert_check.specs.ListedPotentials.{potentials_of}
+use Rattle.cert_check.specs.PotentialClauses.{CountsHits, edge_costs, PotentialsMeet}
+use Rattle.cert_check.specs.JudgeInput.{accesses_of}
 use Rattle.cert_check.specs.declared.outcome.Clause.{Clause}
 use Rattle.cert_check.specs.declared.outcome.Clause.TheVariants.{States, UsefulSets, TaskSets, Inequalities, Bound}
-use Rattle.cert_check.specs.Verdict.{number_of, place_of, GraphHolds}
-use Rattle.cert_check.specs.Answered.{IsFirstFailing, AllHold}
-use Rattle.cert_check.specs.Case.{IsLeast}
+use Rattle.cert_check.specs.Verdict.{clause_number, clause_place, GraphHolds}
+use Rattle.cert_check.specs.FirstFailing.{IsFirstFailingWithin, AllHold}
+use Rattle.cert_check.specs.JudgedNodes.{IsLeastFailing}
 use Rattle.cert_check.proofs.Found.{IsOfNodes, found_first, then_found, node_fails, nodes_hold, fails_first, bound_holds}
 use Rattle.cert_check.proofs.Clauses.{tests_agree, same_meets}
 
-only_states : (l : Clause) → number_of l ≡ 3 → States (place_of l) ≡ l
+only_states : (l : Clause) → clause_number l ≡ 3 → States (clause_place l) ≡ l
 only_states (States u) e = refl
 only_states l e = absurd (omega (arith, e))
 
-only_useful : (l : Clause) → number_of l ≡ 4 → UsefulSets (place_of l) ≡ l
+only_useful : (l : Clause) → clause_number l ≡ 4 → UsefulSets (clause_place l) ≡ l
 only_useful (UsefulSets u) e = refl
 only_useful l e = absurd (omega (arith, e))
 
-only_sets : (l : Clause) → number_of l ≡ 5 → TaskSets (place_of l) ≡ l
+only_sets : (l : Clause) → clause_number l ≡ 5 → TaskSets (clause_place l) ≡ l
 only_sets (TaskSets u) e = refl
 only_sets l e = absurd (omega (arith, e))
 
-only_inequalities : (l : Clause) → number_of l ≡ 6 → Inequalities (place_of l) ≡ l
+only_inequalities : (l : Clause) → clause_number l ≡ 6 → Inequalities (clause_place l) ≡ l
 only_inequalities (Inequalities u) e = refl
 only_inequalities l e = absurd (omega (arith, e))
 
@@ -69,7 +69,7 @@ module _ (p : Platform) (t : TaskGraph) (c : TaskPart) where
 
   pub of_inequalities : (is_hit : ℕ → Bool)
       → CountsHits t.graph (accesses_of p t) (listed_of c) is_hit
-      → IsOfNodes (GraphHolds p t c) (PotentialsMeet t.graph t.nest (costs p (listing_of t) (answering t) is_hit) (potentials_of c)) (λ u. Inequalities u) 6 t.graph.size
+      → IsOfNodes (GraphHolds p t c) (PotentialsMeet t.graph t.nest (edge_costs p (node_code_of t) (answering t) is_hit) (potentials_of c)) (λ u. Inequalities u) 6 t.graph.size
   of_inequalities is_hit counts =
       record {
         number = λ u. refl;
@@ -85,26 +85,26 @@ module _ (p : Platform) (t : TaskGraph) (c : TaskPart) where
 
   -- the states and sets, judged in their order
   module _ (states : ℕ)
-      (S : IsLeast (StatesMeet t.graph (accesses_of p t) (listed_of c)) t.graph.size states) where
-    pub states_fail : states < t.graph.size → IsFirstFailing H 3 5 (States states)
+      (S : IsLeastFailing (StatesMeet t.graph (accesses_of p t) (listed_of c)) t.graph.size states) where
+    pub states_fail : states < t.graph.size → IsFirstFailingWithin H 3 5 (States states)
     states_fail lt = found_first H 3 3 5 (States states) (omega arith) (node_fails H _ _ 3 t.graph.size states of_states S lt)
 
     module _ (le : t.graph.size ≤ states) (useful : ℕ)
-        (U : IsLeast (UsefulMeets t.graph (accesses_of p t) (listed_of c)) t.graph.size useful) where
+        (U : IsLeastFailing (UsefulMeets t.graph (accesses_of p t) (listed_of c)) t.graph.size useful) where
       states_hold : AllHold H 3 3
       states_hold = nodes_hold H _ _ 3 t.graph.size states of_states S le
 
-      pub useful_fail : useful < t.graph.size → IsFirstFailing H 3 5 (UsefulSets useful)
+      pub useful_fail : useful < t.graph.size → IsFirstFailingWithin H 3 5 (UsefulSets useful)
       useful_fail lt =
           then_found H 3 3 5 (Err (UsefulSets useful)) (omega arith) (omega arith) states_hold
           (found_first H 4 4 5 (UsefulSets useful) (omega arith) (node_fails H _ _ 4 t.graph.size useful of_useful U lt))
 
       module _ (more : t.graph.size ≤ useful) (sets : ℕ)
-          (T : IsLeast (SetsMeet t.graph (accesses_of p t) (listed_of c) (has c.part.evicting) (has c.part.useful)) t.graph.size sets) where
+          (T : IsLeastFailing (SetsMeet t.graph (accesses_of p t) (listed_of c) (has c.part.evicting) (has c.part.useful)) t.graph.size sets) where
         useful_hold : AllHold H 3 4
         useful_hold = then_found H 3 3 4 (Ok tt) (omega arith) (omega arith) states_hold (nodes_hold H _ _ 4 t.graph.size useful of_useful U more)
 
-        pub sets_fail : sets < t.graph.size → IsFirstFailing H 3 5 (TaskSets sets)
+        pub sets_fail : sets < t.graph.size → IsFirstFailingWithin H 3 5 (TaskSets sets)
         sets_fail lt = then_found H 3 4 5 (Err (TaskSets sets)) (omega arith) (omega arith) useful_hold (node_fails H _ _ 5 t.graph.size sets of_sets T lt)
 
         pub sets_hold : t.graph.size ≤ sets → AllHold H 3 5
@@ -113,15 +113,15 @@ module _ (p : Platform) (t : TaskGraph) (c : TaskPart) where
   -- and the potentials with the bound
   module _ (is_hit : ℕ → Bool) (counts : CountsHits t.graph (accesses_of p t) (listed_of c) is_hit)
       (least : ℕ)
-      (L : IsLeast (PotentialsMeet t.graph t.nest (costs p (listing_of t) (answering t) is_hit) (potentials_of c)) t.graph.size least) where
-    pub inequalities_fail : least < t.graph.size → IsFirstFailing H 6 7 (Inequalities least)
+      (L : IsLeastFailing (PotentialsMeet t.graph t.nest (edge_costs p (node_code_of t) (answering t) is_hit) (potentials_of c)) t.graph.size least) where
+    pub inequalities_fail : least < t.graph.size → IsFirstFailingWithin H 6 7 (Inequalities least)
     inequalities_fail lt =
         found_first H 6 6 7 (Inequalities least) (omega arith) (node_fails H _ _ 6 t.graph.size least (of_inequalities is_hit counts) L lt)
 
     inequalities_hold : t.graph.size ≤ least → AllHold H 6 6
     inequalities_hold le = nodes_hold H _ _ 6 t.graph.size least (of_inequalities is_hit counts) L le
 
-    pub bound_fails : t.graph.size ≤ least → (H Bound → ⊥) → IsFirstFailing H 6 7 Bound
+    pub bound_fails : t.graph.size ≤ least → (H Bound → ⊥) → IsFirstFailingWithin H 6 7 Bound
     bound_fails le none = then_found H 6 6 7 (Err Bound) (omega arith) (omega arith) (inequalities_hold le) (fails_first H Bound refl none)
 
     pub potentials_hold : t.graph.size ≤ least → H Bound → AllHold H 6 7

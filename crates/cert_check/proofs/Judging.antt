@@ -4,9 +4,9 @@ use Rattle.std.specs.Prelude.{slice_index}
 use Rattle.icache.specs.Accesses.{Accesses}
 use Rattle.flat_graph.specs.Graph.{Graph, Edge}
 use Rattle.evict_sets.specs.Full.{Listed}
-use Rattle.evict_sets.specs.Clauses.{StatesMeet}
-use Rattle.evict_sets.specs.Listing.{IsOrder}
-use Rattle.cert_check.specs.Case.{IsUsefulAt, IsLeast}
+use Rattle.evict_sets.specs.CacheClauses.{StatesMeet}
+use Rattle.evict_sets.specs.Listing.{IsChainOrder}
+use Rattle.cert_check.specs.JudgedNodes.{IsUsefulAt, IsLeastFailing}
 use Rattle.cert_check.proofs.LeastSeen.{IsLeastSeen, SeenTo, SeenFrom, none_seen, finished}
 use Rattle.evict_sets.proofs.HitsTo.{BlocksTo}
 
@@ -17,8 +17,8 @@ module _ (g : Graph) (a : Accesses) (l : Listed) where
     pub seen : IsLeastSeen (StatesMeet g a l) (SeenTo order k) g.size least
 
   pub states_least : (order : List ℕ) (blocks : List (Option ℕ)) (least k : ℕ)
-      → IsOrder g l order → g.size ≤ k
-      → StatesTo order blocks least k → IsLeast (StatesMeet g a l) g.size least
+      → IsChainOrder g l order → g.size ≤ k
+      → StatesTo order blocks least k → IsLeastFailing (StatesMeet g a l) g.size least
   states_least order blocks least k O le H =
       finished (StatesMeet g a l) (SeenTo order k) g.size least (λ u lt. let p = O.every u lt in (p.0, (let q = p.1 in omega (arith, q, le)), p.2)) H.seen
 
@@ -35,7 +35,7 @@ module _ (g : Graph) (a : Accesses) (l : Listed) where
     seen = none_seen P (SeenFrom order g.size k) g.size (λ u s. absurd (let a = s.1 in let b = s.2 in omega (arith, is, a, b)));
   }
 
-  pub useful_follows : (P : ℕ → Type 0) (order useful : List ℕ) (least k place node : ℕ) → IsOrder g l order → place + 1 ≡ k → slice_index order place ≡ node → UsefulFrom P order useful least k
+  pub useful_follows : (P : ℕ → Type 0) (order useful : List ℕ) (least k place node : ℕ) → IsChainOrder g l order → place + 1 ≡ k → slice_index order place ≡ node → UsefulFrom P order useful least k
       → (v : ℕ) → Edge g node v → IsFalse (l.is_listed v) → IsUsefulAt g a l v useful
   useful_follows P order useful least k place node O is at H v e out =
       let lt = H.within in
@@ -51,6 +51,6 @@ module _ (g : Graph) (a : Accesses) (l : Listed) where
     seen = L;
   }
 
-  pub useful_least : (P : ℕ → Type 0) (order useful : List ℕ) (least k : ℕ) → IsOrder g l order → k ≡ 0 → UsefulFrom P order useful least k → IsLeast P g.size least
+  pub useful_least : (P : ℕ → Type 0) (order useful : List ℕ) (least k : ℕ) → IsChainOrder g l order → k ≡ 0 → UsefulFrom P order useful least k → IsLeastFailing P g.size least
   useful_least P order useful least k O zero_k H =
       finished P (SeenFrom order g.size k) g.size least (λ u lt. let p = O.every u lt in (p.0, omega (arith, zero_k), p.1, p.2)) H.seen

@@ -4,7 +4,7 @@ use Rattle.std.proofs.lemmas.Bool.{cases_eq, both_ways}
 use Rattle.flat_graph.specs.Graph.{Graph, Edge, Continues, IsLeader, IsGraph}
 use Rattle.flat_graph.proofs.Decided.{Decided, is_below, «both», never, some_below, all_below, same_fact, implied}
 use Rattle.evict_sets.specs.Full.{Listed}
-use Rattle.evict_sets.specs.Clauses.{ListsLeaders}
+use Rattle.evict_sets.specs.CacheClauses.{ListsLeaders}
 
 not_in : (x : ℕ) (xs : List ℕ) (v : ℕ) → (x ≡ v → ⊥) → (Contains xs v → ⊥) → Contains (x ∷ xs) v → ⊥
 not_in x xs v ne none (zero, lt, e) = ne e

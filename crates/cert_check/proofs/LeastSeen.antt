@@ -1,7 +1,7 @@
 -- The least node at which a fact fails, found along an order of the nodes.
 use Rattle.std.proofs.Common.{◌≡◌, ◌≢◌, ◌↔◌, ℕ, ◌+◌, ◌<◌, ◌≤◌, min, Bool, true, false, if◌then◌else◌, IsTrue, refl, List, slice_index, sym, ap, ◌∙◌, subst, ⊎_elim, arith}
 use Rattle.std.proofs.lemmas.Bool.{cases_eq, cases_lt, false≢true}
-use Rattle.cert_check.specs.Case.{IsLeast}
+use Rattle.cert_check.specs.JudgedNodes.{IsLeastFailing}
 
 -- the least number of nodes seen at which the fact fails
 pub record IsLeastSeen (P : ℕ → Type 0) (seen : ℕ → Type 0) (size least : ℕ) : Type 0 where
@@ -45,7 +45,7 @@ lowest P seen more size least x false old test L =
     (λ le. subst (λ y. IsLeastSeen P more size y) (omega (arith, le)) (passes P seen more size least x old (λ lt. absurd (omega (arith, le, lt))) L))
     (cases_lt x least)
 
-pub finished : (P : ℕ → Type 0) (seen : ℕ → Type 0) (size least : ℕ) → ((u : ℕ) → u < size → seen u) → IsLeastSeen P seen size least → IsLeast P size least
+pub finished : (P : ℕ → Type 0) (seen : ℕ → Type 0) (size least : ℕ) → ((u : ℕ) → u < size → seen u) → IsLeastSeen P seen size least → IsLeastFailing P size least
 finished P seen size least all L = record {
   within = L.within;
   fails = L.fails;

@@ -6,8 +6,8 @@ use Rattle.loop_regions.specs.Nest.{Nest, IsNested, IsBackEdge, Leaves, LeavesLa
 use Rattle.loop_regions.specs.Potentials.{Costs, Potentials, item_potential}
 use Rattle.loop_regions.proofs.Potential.{item_law}
 use Rattle.loop_regions.proofs.Beside.{one_last}
-use Rattle.cert_check.specs.Clauses.{PotentialsMeet}
-use Rattle.cert_check.specs.Paid.{EdgePaid}
+use Rattle.cert_check.specs.PotentialClauses.{PotentialsMeet}
+use Rattle.cert_check.specs.JudgedPotentials.{EdgePaid}
 
 -- a region pays for its turns
 abbrev pub IsPaidTurns : Nest → Potentials → ℕ → Type 0

@@ -6,8 +6,8 @@ use Rattle.std.proofs.lemmas.Option.{same_Some, none-some}
 use Rattle.icache.specs.Accesses.{Accesses}
 use Rattle.flat_graph.specs.Graph.{Graph}
 use Rattle.evict_sets.specs.Full.{Listed, FullState, listed}
-use Rattle.evict_sets.specs.Clauses.{ListsLeaders, StateAfter, StatesMeet}
-use Rattle.evict_sets.specs.Certificate.{block_in}
+use Rattle.evict_sets.specs.CacheClauses.{ListsLeaders, StateAfter, StatesMeet}
+use Rattle.evict_sets.specs.ListedPart.{block_of_set}
 use Rattle.evict_sets.proofs.FullLaws.{unlisted_state_law}
 use Rattle.evict_sets.specs.Listing.{IsStateAfter}
 use Rattle.flat_graph.proofs.Nexts.{edge_at, at_edges}
@@ -15,7 +15,7 @@ use Rattle.evict_sets.proofs.FullBlocks.{as_listed, AreHeld, held_at}
 
 module _ (g : Graph) (a : Accesses) (l : Listed) where
   -- a listed state is empty where it has no pairs
-  pub starts : (y : ℕ) (sure : List (ℕ × ℕ)) (b : Bool) → IsTrue (l.is_listed y) → ((s : ℕ) → l.state y s ≡ block_in sure s) → b ≡ (length sure == 0) → y ≡ g.first
+  pub starts : (y : ℕ) (sure : List (ℕ × ℕ)) (b : Bool) → IsTrue (l.is_listed y) → ((s : ℕ) → l.state y s ≡ block_of_set sure s) → b ≡ (length sure == 0) → y ≡ g.first
       → IsTrue b ↔ (y ≡ g.first → (s m : ℕ) → FullState g a l y s m → ⊥)
   starts y [] b t is e first = (
     (λ h at s m st. none-some m (sym (is s) ∙ as_listed g a l y s m t st)),

@@ -6,13 +6,13 @@ use Rattle.crpd_base.specs.declared.data.TaskPart.{TaskPart}
 use Rattle.crpd_base.specs.declared.data.Certificate.{Certificate}
 use Rattle.flat_graph.specs.CodeGraph.{CodeGraph, no_graph, graph_at}
 use Rattle.loop_regions.specs.CodeNest.{CodeNest, IsNestOf}
-use Rattle.evict_sets.specs.Certificate.{cert_at, no_cert}
-use Rattle.cert_check.specs.Shown.{shown, shown_at, nest_at, no_nest, HasLowSets, AreShown, IsInRange}
+use Rattle.evict_sets.specs.ListedPart.{certified_task, no_task_part}
+use Rattle.cert_check.specs.TaskGraphs.{task_graph, task_graph_at, nest_at, no_nest, HasLowSets, AreTaskGraphs, IsCertificateInRange}
 use Rattle.crpd_base.specs.declared.data.NodeState.{NodeState}
-use Rattle.evict_sets.specs.Listing.{IsIndex}
+use Rattle.evict_sets.specs.Listing.{IsEntryIndex}
 use Rattle.cert_check.specs.declared.outcome.Clause.{Clause}
-use Rattle.cert_check.specs.Verdict.{GraphHolds, Holds}
-use Rattle.cert_check.specs.Answered.{IsFound}
+use Rattle.cert_check.specs.Verdict.{GraphHolds, ClauseHolds}
+use Rattle.cert_check.specs.FirstFailing.{IsRangeJudged}
 use Rattle.cert_check.proofs.Found.{found_as}
 use Rattle.cert_check.proofs.Judgements.{graph_same}
 
@@ -22,19 +22,19 @@ graph_is graphs i g lt is = is ∙ get_or_default graphs i g no_graph lt
 pub nest_is : (nests : List CodeNest) (i : ℕ) (n : CodeNest) → i < length nests → n ≡ get_or nests i n → n ≡ nest_at nests i
 nest_is nests i n lt is = is ∙ get_or_default nests i n no_nest lt
 
-pub beside : (set : TaskSet) (graphs : List CodeGraph) (nests : List CodeNest) (i : ℕ) (g : CodeGraph) (n : CodeNest) → AreShown set graphs nests → i < length set.tasks → g ≡ graph_at graphs i → n ≡ nest_at nests i → IsNestOf g n
+pub beside : (set : TaskSet) (graphs : List CodeGraph) (nests : List CodeNest) (i : ℕ) (g : CodeGraph) (n : CodeNest) → AreTaskGraphs set graphs nests → i < length set.tasks → g ≡ graph_at graphs i → n ≡ nest_at nests i → IsNestOf g n
 beside set graphs nests i g n A lt g_is n_is = subst (λ x. IsNestOf x n) (sym g_is) (subst (λ x. IsNestOf (graph_at graphs i) x) (sym n_is) (A.each i lt))
 
-pub low_sets : (c : Certificate) (i : ℕ) (t : TaskPart) → IsInRange c → i < length c.tasks → cert_at c i ≡ t → HasLowSets t
-low_sets c i t R lt at = subst HasLowSets at (R.sets i no_cert lt)
+pub low_sets : (c : Certificate) (i : ℕ) (t : TaskPart) → IsCertificateInRange c → i < length c.tasks → certified_task c i ≡ t → HasLowSets t
+low_sets c i t R lt at = subst HasLowSets at (R.sets i no_task_part lt)
 
-pub found_task : (set : TaskSet) (graphs : List CodeGraph) (nests : List CodeNest) (c : Certificate) (i : ℕ) (g : CodeGraph) (n : CodeNest) (t : TaskPart) (r : Result (Unit {0}) Clause) → g ≡ graph_at graphs i → n ≡ nest_at nests i → cert_at c i ≡ t
-    → IsFound (GraphHolds set.platform (shown g n) t) 2 7 r → IsFound (Holds set (shown_at graphs nests) c i) 2 7 r
+pub found_task : (set : TaskSet) (graphs : List CodeGraph) (nests : List CodeNest) (c : Certificate) (i : ℕ) (g : CodeGraph) (n : CodeNest) (t : TaskPart) (r : Result (Unit {0}) Clause) → g ≡ graph_at graphs i → n ≡ nest_at nests i → certified_task c i ≡ t
+    → IsRangeJudged (GraphHolds set.platform (task_graph g n) t) 2 7 r → IsRangeJudged (ClauseHolds set (task_graph_at graphs nests) c i) 2 7 r
 found_task set graphs nests c i g n t r g_is n_is at F =
-    found_as (GraphHolds set.platform (shown_at graphs nests i) (cert_at c i)) (Holds set (shown_at graphs nests) c i) 2 7 r (graph_same set (shown_at graphs nests) c i)
-    (subst (λ x. IsFound (GraphHolds set.platform (shown x (nest_at nests i)) (cert_at c i)) 2 7 r) g_is
-    (subst (λ x. IsFound (GraphHolds set.platform (shown g x) (cert_at c i)) 2 7 r) n_is
-    (subst (λ x. IsFound (GraphHolds set.platform (shown g n) x) 2 7 r) (sym at) F)))
+    found_as (GraphHolds set.platform (task_graph_at graphs nests i) (certified_task c i)) (ClauseHolds set (task_graph_at graphs nests) c i) 2 7 r (graph_same set (task_graph_at graphs nests) c i)
+    (subst (λ x. IsRangeJudged (GraphHolds set.platform (task_graph x (nest_at nests i)) (certified_task c i)) 2 7 r) g_is
+    (subst (λ x. IsRangeJudged (GraphHolds set.platform (task_graph g x) (certified_task c i)) 2 7 r) n_is
+    (subst (λ x. IsRangeJudged (GraphHolds set.platform (task_graph g n) x) 2 7 r) (sym at) F)))
 
-pub index_of : (xs ys : List NodeState) (n m : ℕ) (places : List ℕ) → xs ≡ ys → n ≡ m → IsIndex xs n places → IsIndex ys m places
-index_of xs ys n m places e f I = subst (λ zs. IsIndex zs m places) e (subst (λ k. IsIndex xs k places) f I)
+pub index_of : (xs ys : List NodeState) (n m : ℕ) (places : List ℕ) → xs ≡ ys → n ≡ m → IsEntryIndex xs n places → IsEntryIndex ys m places
+index_of xs ys n m places e f I = subst (λ zs. IsEntryIndex zs m places) e (subst (λ k. IsEntryIndex xs k places) f I)

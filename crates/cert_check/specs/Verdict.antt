@@ -7,52 +7,52 @@ use Rattle.crpd_base.specs.declared.data.NodeState.{NodeState}
 use Rattle.crpd_base.specs.declared.data.TaskPart.{TaskPart}
 use Rattle.crpd_base.specs.declared.data.TaskSet.{TaskSet}
 use Rattle.crpd_base.specs.declared.data.Certificate.{Certificate}
-use Rattle.loop_regions.specs.TaskGraph.{TaskGraph, listing_of, answering}
-use Rattle.evict_sets.specs.Clauses.{ListsLeaders, StatesMeet, UsefulMeets, SetsMeet}
-use Rattle.evict_sets.specs.Clauses.{MeetsListing, MeetsSets}
-use Rattle.evict_sets.specs.Certificate.{listed_of, cert_at}
+use Rattle.loop_regions.specs.TaskGraph.{TaskGraph, node_code_of, answering}
+use Rattle.evict_sets.specs.CacheClauses.{ListsLeaders, StatesMeet, UsefulMeets, SetsMeet}
+use Rattle.evict_sets.specs.CacheClauses.{MeetsListing, MeetsSets}
+use Rattle.evict_sets.specs.ListedPart.{listed_of, certified_task}
 use Rattle.delay_count.specs.Demand.{demand}
-use Rattle.cert_check.specs.Certificate.{potentials_of}
-use Rattle.cert_check.specs.Clauses.{CountsHits, costs, PotentialsMeet, BoundMeets}
-use Rattle.cert_check.specs.Judge.{accesses_of, window_at, part_of, longest_at, name_of}
+use Rattle.cert_check.specs.ListedPotentials.{potentials_of}
+use Rattle.cert_check.specs.PotentialClauses.{CountsHits, edge_costs, PotentialsMeet, BoundMeets}
+use Rattle.cert_check.specs.JudgeInput.{accesses_of, window_at, certified_part, longest_at, task_name}
 use Rattle.cert_check.specs.declared.outcome.Clause.{Clause}
 use Rattle.cert_check.specs.declared.outcome.Clause.TheVariants.{Platforms, HasTask, Names, Last, Leaders, NodePotentials, LoopPotentials, States, UsefulSets, TaskSets, Inequalities, Bound, Window, Response, Deadline}
 
 -- a clause's number
-abbrev pub number_of : Clause → ℕ
-number_of Platforms = 1
-number_of HasTask = 1
-number_of Names = 1
-number_of Last = 1
-number_of Leaders = 2
-number_of NodePotentials = 2
-number_of LoopPotentials = 2
-number_of (States u) = 3
-number_of (UsefulSets u) = 4
-number_of (TaskSets u) = 5
-number_of (Inequalities u) = 6
-number_of Bound = 7
-number_of Window = 8
-number_of Response = 9
-number_of Deadline = 9
+abbrev pub clause_number : Clause → ℕ
+clause_number Platforms = 1
+clause_number HasTask = 1
+clause_number Names = 1
+clause_number Last = 1
+clause_number Leaders = 2
+clause_number NodePotentials = 2
+clause_number LoopPotentials = 2
+clause_number (States u) = 3
+clause_number (UsefulSets u) = 4
+clause_number (TaskSets u) = 5
+clause_number (Inequalities u) = 6
+clause_number Bound = 7
+clause_number Window = 8
+clause_number Response = 9
+clause_number Deadline = 9
 
 -- and its place among those of its number: a node's number where it is of a node
-abbrev pub place_of : Clause → ℕ
-place_of Platforms = 0
-place_of HasTask = 1
-place_of Names = 2
-place_of Last = 3
-place_of Leaders = 0
-place_of NodePotentials = 1
-place_of LoopPotentials = 2
-place_of (States u) = u
-place_of (UsefulSets u) = u
-place_of (TaskSets u) = u
-place_of (Inequalities u) = u
-place_of Bound = 0
-place_of Window = 0
-place_of Response = 0
-place_of Deadline = 1
+abbrev pub clause_place : Clause → ℕ
+clause_place Platforms = 0
+clause_place HasTask = 1
+clause_place Names = 2
+clause_place Last = 3
+clause_place Leaders = 0
+clause_place NodePotentials = 1
+clause_place LoopPotentials = 2
+clause_place (States u) = u
+clause_place (UsefulSets u) = u
+clause_place (TaskSets u) = u
+clause_place (Inequalities u) = u
+clause_place Bound = 0
+clause_place Window = 0
+clause_place Response = 0
+clause_place Deadline = 1
 
 -- the clauses of a task's graph, with its part of the certificate; the others look at more
 abbrev pub GraphHolds : Platform → TaskGraph → TaskPart → Clause → Type 0
@@ -70,7 +70,7 @@ GraphHolds p t c (TaskSets u) =
 GraphHolds p t c (Inequalities u) =
     (is_hit : ℕ → Bool) → CountsHits t.graph (accesses_of p t) (listed_of c) is_hit →
     u < t.graph.size →
-    PotentialsMeet t.graph t.nest (costs p (listing_of t) (answering t) is_hit) (potentials_of c) u
+    PotentialsMeet t.graph t.nest (edge_costs p (node_code_of t) (answering t) is_hit) (potentials_of c) u
 GraphHolds p t c Bound = BoundMeets t.graph t.nest (potentials_of c) c.part.bound
 GraphHolds p t c _ = Unit {0}
 
@@ -79,54 +79,54 @@ GraphHolds p t c _ = Unit {0}
 abbrev pub TimesHold : TaskSet → (ℕ → ℕ) → Certificate → ℕ → Clause → Type 0
 TimesHold set longest c i Window =
     (1 ≤ window_at c i)
-    × (demand set (part_of c) longest (window_at c) i (cert_at c i).method (window_at c i)
+    × (demand set (certified_part c) longest (window_at c) i (certified_task c i).method (window_at c i)
     ≤ window_at c i)
-TimesHold set longest c i Response = (cert_at c i).response ≡ window_at c i + jitter_of set i
-TimesHold set longest c i Deadline = (cert_at c i).response ≤ deadline_of set i
+TimesHold set longest c i Response = (certified_task c i).response ≡ window_at c i + jitter_of set i
+TimesHold set longest c i Deadline = (certified_task c i).response ≤ deadline_of set i
 TimesHold set longest c i _ = Unit {0}
 
 -- the clause holds for task i
-abbrev pub Holds : TaskSet → (ℕ → TaskGraph) → Certificate → ℕ → Clause → Type 0
-Holds set graphs c i Platforms = c.platform ≡ set.platform
-Holds set graphs c i HasTask = i < length c.tasks
-Holds set graphs c i Names = (cert_at c i).name ≡ name_of set i
-Holds set graphs c i Last = suc i ≡ length set.tasks → length c.tasks ≡ length set.tasks
-Holds set graphs c i Window = TimesHold set (longest_at set.platform graphs) c i Window
-Holds set graphs c i Response = TimesHold set (longest_at set.platform graphs) c i Response
-Holds set graphs c i Deadline = TimesHold set (longest_at set.platform graphs) c i Deadline
-Holds set graphs c i clause = GraphHolds set.platform (graphs i) (cert_at c i) clause
+abbrev pub ClauseHolds : TaskSet → (ℕ → TaskGraph) → Certificate → ℕ → Clause → Type 0
+ClauseHolds set graphs c i Platforms = c.platform ≡ set.platform
+ClauseHolds set graphs c i HasTask = i < length c.tasks
+ClauseHolds set graphs c i Names = (certified_task c i).name ≡ task_name set i
+ClauseHolds set graphs c i Last = suc i ≡ length set.tasks → length c.tasks ≡ length set.tasks
+ClauseHolds set graphs c i Window = TimesHold set (longest_at set.platform graphs) c i Window
+ClauseHolds set graphs c i Response = TimesHold set (longest_at set.platform graphs) c i Response
+ClauseHolds set graphs c i Deadline = TimesHold set (longest_at set.platform graphs) c i Deadline
+ClauseHolds set graphs c i clause = GraphHolds set.platform (graphs i) (certified_task c i) clause
 
 -- the judge says yes: every clause holds for every task
 abbrev pub IsYes : TaskSet → (ℕ → TaskGraph) → Certificate → Type 0
-IsYes set graphs c = (i : ℕ) (clause : Clause) → i < length set.tasks → Holds set graphs c i clause
+IsYes set graphs c = (i : ℕ) (clause : Clause) → i < length set.tasks → ClauseHolds set graphs c i clause
 
 -- then each task's listing meets the clauses on which full states rest, and its sets the others
 abbrev pub YesMeetsListing : Type 0
 YesMeetsListing =
     (set : TaskSet) (graphs : ℕ → TaskGraph) (c : Certificate) (i : ℕ) →
     IsYes set graphs c → i < length set.tasks →
-    MeetsListing (graphs i).graph (accesses_of set.platform (graphs i)) (listed_of (cert_at c i))
+    MeetsListing (graphs i).graph (accesses_of set.platform (graphs i)) (listed_of (certified_task c i))
 
 abbrev pub YesMeetsSets : Type 0
 YesMeetsSets =
     (set : TaskSet) (graphs : ℕ → TaskGraph) (c : Certificate) (i : ℕ) →
     IsYes set graphs c → i < length set.tasks →
-    MeetsSets (graphs i).graph (accesses_of set.platform (graphs i)) (listed_of (cert_at c i))
-    (has (cert_at c i).part.evicting) (has (cert_at c i).part.useful)
+    MeetsSets (graphs i).graph (accesses_of set.platform (graphs i)) (listed_of (certified_task c i))
+    (has (certified_task c i).part.evicting) (has (certified_task c i).part.useful)
 
 -- a clause is judged before another, of one task
-abbrev pub IsEarlier : Clause → Clause → Type 0
-IsEarlier k l =
-    (number_of k < number_of l)
-    ⊎ ((number_of k ≡ number_of l) × (place_of k < place_of l))
+abbrev pub IsEarlierClause : Clause → Clause → Type 0
+IsEarlierClause k l =
+    (clause_number k < clause_number l)
+    ⊎ ((clause_number k ≡ clause_number l) × (clause_place k < clause_place l))
 
 -- the first clause that fails: those of the tasks before i hold, and those before it
 pub record IsFirstFailure (set : TaskSet) (graphs : ℕ → TaskGraph) (c : Certificate) (i : ℕ)
     (k : Clause) : Type 0 where
   pub task : i < length set.tasks
-  pub fails : Holds set graphs c i k → ⊥
-  pub tasks_before : (j : ℕ) (l : Clause) → j < i → Holds set graphs c j l
-  pub clauses_before : (l : Clause) → IsEarlier l k → Holds set graphs c i l
+  pub fails : ClauseHolds set graphs c i k → ⊥
+  pub tasks_before : (j : ℕ) (l : Clause) → j < i → ClauseHolds set graphs c j l
+  pub clauses_before : (l : Clause) → IsEarlierClause l k → ClauseHolds set graphs c i l
 
 pub data Answer : Type 0 where
   Yes : Answer
@@ -136,7 +136,7 @@ pub data Answer : Type 0 where
 abbrev pub IsJudged : TaskSet → (ℕ → TaskGraph) → Certificate → Answer → Type 0
 IsJudged set graphs c Yes = IsYes set graphs c
 IsJudged set graphs c (No i n p) =
-    (k : Clause) × (number_of k ≡ n) × (place_of k ≡ p) × IsFirstFailure set graphs c i k
+    (k : Clause) × (clause_number k ≡ n) × (clause_place k ≡ p) × IsFirstFailure set graphs c i k
 
 -- there is one such answer
 abbrev pub OneAnswerLaw : Type 0

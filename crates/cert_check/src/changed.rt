@@ -13,7 +13,7 @@ pub(crate) fn covers(sets: &SetBits<WORDS>, others: &SetBits<WORDS>) -> bool
 }
 
 /// The sets but one.
-fn without(sets: &SetBits<WORDS>, set: u16) -> SetBits<WORDS>
+fn without_member(sets: &SetBits<WORDS>, set: u16) -> SetBits<WORDS>
     requires { set < 512 }
     ensures { (t : ℕ) → member result t ≡ (if t == set then 0 else member sets.now t) }
 {
@@ -28,7 +28,7 @@ fn without(sets: &SetBits<WORDS>, set: u16) -> SetBits<WORDS>
 }
 
 /// The sets with or without one.
-pub(crate) fn with(sets: &SetBits<WORDS>, set: u16, is_there: bool) -> SetBits<WORDS>
+pub(crate) fn with_member(sets: &SetBits<WORDS>, set: u16, is_there: bool) -> SetBits<WORDS>
     requires { set < 512 }
     ensures { (t : ℕ) → has result t ≡ (if t == set then is_there else has sets.now t) }
 {
@@ -37,7 +37,7 @@ pub(crate) fn with(sets: &SetBits<WORDS>, set: u16, is_there: bool) -> SetBits<W
         changed.insert(set);
         changed
     } else if sets.has(set) {
-        without(sets, set)
+        without_member(sets, set)
     } else {
         changed
     }

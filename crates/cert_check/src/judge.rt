@@ -3,9 +3,9 @@ ghost use Rattle.std.specs.Prelude.{◌≡◌, ◌<◌, ◌≤◌, ℕ, length};
 ghost use Rattle.crpd_base.specs.Ranges.{IsTaskSet};
 ghost use Rattle.delay_count.specs.Demand.{HasLongest};
 ghost use Rattle.cert_check.specs.declared.outcome.Clause.{Clause};
-ghost use Rattle.cert_check.specs.Verdict.{Holds, IsJudged};
-ghost use Rattle.cert_check.specs.Shown.{shown_at, AreShown, IsInRange};
-ghost use Rattle.cert_check.specs.Answered.{answer_of, IsFound};
+ghost use Rattle.cert_check.specs.Verdict.{ClauseHolds, IsJudged};
+ghost use Rattle.cert_check.specs.TaskGraphs.{task_graph_at, AreTaskGraphs, IsCertificateInRange};
+ghost use Rattle.cert_check.specs.FirstFailing.{answer_of, IsRangeJudged};
 ghost use Rattle.cert_check.specs.Times.{AreLongest};
 
 use crate::graphs::graph_failure;
@@ -26,13 +26,13 @@ fn task_failure(
     i: usize,
 ) -> Result<(), Clause>
     requires set { IsTaskSet set.now }
-    requires tasks { AreShown set.now graphs.now nests.now }
-    requires certificate { IsInRange certificate.now }
+    requires tasks { AreTaskGraphs set.now graphs.now nests.now }
+    requires certificate { IsCertificateInRange certificate.now }
     requires longest { AreLongest set.now graphs.now longest.now }
     requires range { HasLongest set.now longest.now }
     requires task { i < length set.now.tasks }
-    requires higher { (j : ℕ) (k : Clause) → j < i → Holds set.now (shown_at graphs.now nests.now) certificate.now j k }
-    ensures { IsFound (Holds set.now (shown_at graphs.now nests.now) certificate.now i) 1 9 result }
+    requires higher { (j : ℕ) (k : Clause) → j < i → ClauseHolds set.now (task_graph_at graphs.now nests.now) certificate.now j k }
+    ensures { IsRangeJudged (ClauseHolds set.now (task_graph_at graphs.now nests.now) certificate.now i) 1 9 result }
 {
     growth_law();
     times_law(set);
@@ -70,9 +70,9 @@ pub fn verdict(
     certificate: &Certificate,
 ) -> Verdict
     requires set { IsTaskSet set.now }
-    requires tasks { AreShown set.now graphs.now nests.now }
-    requires certificate { IsInRange certificate.now }
-    ensures { IsJudged set.now (shown_at graphs.now nests.now) certificate.now (answer_of result) }
+    requires tasks { AreTaskGraphs set.now graphs.now nests.now }
+    requires certificate { IsCertificateInRange certificate.now }
+    ensures { IsJudged set.now (task_graph_at graphs.now nests.now) certificate.now (answer_of result) }
 {
     let mut longest = [0; MOST_TASKS];
     write_longest(set, graphs, &mut longest);

@@ -2,9 +2,9 @@
 ghost use Rattle.std.specs.Prelude.{◌≡◌, ◌↔◌, ◌<◌, ◌≤◌, length, IsTrue, All};
 ghost use Rattle.crpd_base.specs.declared.data.NodeState.{NodeState};
 ghost use Rattle.flat_graph.specs.CodeGraph.{graph_of};
-ghost use Rattle.evict_sets.specs.Certificate.{listed_of};
-ghost use Rattle.evict_sets.specs.Clauses.{ListsLeaders};
-ghost use Rattle.evict_sets.specs.Listing.{IsIndex};
+ghost use Rattle.evict_sets.specs.ListedPart.{listed_of};
+ghost use Rattle.evict_sets.specs.CacheClauses.{ListsLeaders};
+ghost use Rattle.evict_sets.specs.Listing.{IsEntryIndex};
 
 use crpd_base::{NodeId, NodeState};
 use evict_sets::Listing;
@@ -18,7 +18,7 @@ pub(crate) fn are_nodes(states: &[NodeState], size: u32) -> bool
 
 /// Whether every leader is listed.
 pub(crate) fn lists_leaders(listing: &Listing<'_>) -> bool
-    requires index { IsIndex listing.now.part.now.states (length listing.now.graph.now.nodes) listing.now.places.now }
+    requires index { IsEntryIndex listing.now.part.now.states (length listing.now.graph.now.nodes) listing.now.places.now }
     ensures { IsTrue result ↔ ListsLeaders (graph_of listing.now.graph.now) (listed_of listing.now.part.now) }
 {
     listing.graph.graph_law();

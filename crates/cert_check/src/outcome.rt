@@ -1,6 +1,6 @@
 // The clauses of a certificate, and what the judge answers.
 ghost use Rattle.std.specs.Prelude.{◌≡◌};
-ghost use Rattle.cert_check.specs.Verdict.{number_of, place_of};
+ghost use Rattle.cert_check.specs.Verdict.{clause_number, clause_place};
 
 use crpd_base::Task;
 
@@ -52,7 +52,7 @@ pub enum Clause {
 impl Clause {
     /// The clause's number, 1 to 9. In constant time.
     pub fn number(self) -> u8
-        ensures { result ≡ number_of self }
+        ensures { result ≡ clause_number self }
     {
         match self {
             Clause::Platforms | Clause::HasTask | Clause::Names | Clause::Last => 1,
@@ -69,7 +69,7 @@ impl Clause {
 
     /// The clause's place among those of its number: the node's number where it is of a node. In constant time.
     pub fn place(self) -> u32
-        ensures { result ≡ place_of self }
+        ensures { result ≡ clause_place self }
     {
         match self {
             Clause::HasTask | Clause::NodePotentials | Clause::Deadline => 1,

@@ -5,10 +5,10 @@ ghost use Rattle.flat_graph.specs.CodeGraph.{graph_of};
 ghost use Rattle.loop_regions.specs.CodeNest.{nest_of};
 ghost use Rattle.loop_regions.specs.Nest.{Item, IsItem, Leaves};
 ghost use Rattle.loop_regions.specs.Potentials.{item_potential};
-ghost use Rattle.cert_check.specs.Certificate.{potentials_of};
-ghost use Rattle.cert_check.specs.Clauses.{PotentialsMeet, BoundMeets};
-ghost use Rattle.cert_check.specs.Case.{IsLeast, counted};
-ghost use Rattle.cert_check.specs.Paid.{IsPaid, costs_at, EdgePaid};
+ghost use Rattle.cert_check.specs.ListedPotentials.{potentials_of};
+ghost use Rattle.cert_check.specs.PotentialClauses.{PotentialsMeet, BoundMeets};
+ghost use Rattle.cert_check.specs.JudgedNodes.{IsLeastFailing, counted};
+ghost use Rattle.cert_check.specs.JudgedPotentials.{HasAllPotentials, costs_at, EdgePaid};
 
 use crate::least::at_most;
 use crpd_base::{NodeId, Platform, TaskPart};
@@ -30,7 +30,7 @@ pub(crate) struct Paid<'a> {
 impl Paid<'_> {
     /// The potential of a node.
     fn at_node(&self, node: NodeId) -> u128
-        requires paid { IsPaid self.now.graph.now self.now.nest.now self.now.part.now self.now.hits.now }
+        requires paid { HasAllPotentials self.now.graph.now self.now.nest.now self.now.part.now self.now.hits.now }
         requires node { node.0 < (graph_of self.now.graph.now).size }
         ensures is { result ≡ (potentials_of self.now.part.now).node node.0 }
         ensures small { result < 18446744073709551616 }
@@ -40,7 +40,7 @@ impl Paid<'_> {
 
     /// The potential of a region.
     fn at_region(&self, region: u32) -> u128
-        requires paid { IsPaid self.now.graph.now self.now.nest.now self.now.part.now self.now.hits.now }
+        requires paid { HasAllPotentials self.now.graph.now self.now.nest.now self.now.part.now self.now.hits.now }
         requires region { region < (nest_of self.now.nest.now).size }
         ensures is { result ≡ (potentials_of self.now.part.now).loop region }
         ensures small { result < 18446744073709551616 }
@@ -50,7 +50,7 @@ impl Paid<'_> {
 
     /// The potential of a node's item: of the region that it heads, or its own.
     fn at_item(&self, node: NodeId) -> u128
-        requires paid { IsPaid self.now.graph.now self.now.nest.now self.now.part.now self.now.hits.now }
+        requires paid { HasAllPotentials self.now.graph.now self.now.nest.now self.now.part.now self.now.hits.now }
         requires node { node.0 < (graph_of self.now.graph.now).size }
         ensures is { (i : Item) → IsItem (nest_of self.now.nest.now) node.0 i → result ≡ item_potential (potentials_of self.now.part.now) i }
         ensures small { result < 18446744073709551616 }
@@ -63,7 +63,7 @@ impl Paid<'_> {
 
     /// What the turns of a region cost: its bound times the potential of its head.
     fn turns(&self, region: u32) -> u128
-        requires paid { IsPaid self.now.graph.now self.now.nest.now self.now.part.now self.now.hits.now }
+        requires paid { HasAllPotentials self.now.graph.now self.now.nest.now self.now.part.now self.now.hits.now }
         requires region { region < (nest_of self.now.nest.now).size }
         ensures is { result ≡ (nest_of self.now.nest.now).bound region * (potentials_of self.now.part.now).node ((nest_of self.now.nest.now).head region) }
         ensures small { result < 4294967296 * 18446744073709551616 }
@@ -73,7 +73,7 @@ impl Paid<'_> {
 
     /// Whether a region pays for its turns.
     fn region_pays(&self, region: u32) -> bool
-        requires paid { IsPaid self.now.graph.now self.now.nest.now self.now.part.now self.now.hits.now }
+        requires paid { HasAllPotentials self.now.graph.now self.now.nest.now self.now.part.now self.now.hits.now }
         requires region { region < (nest_of self.now.nest.now).size }
         ensures { IsTrue result ↔ ((nest_of self.now.nest.now).bound region * (potentials_of self.now.part.now).node ((nest_of self.now.nest.now).head region) ≤ (potentials_of self.now.part.now).loop region) }
     {
@@ -82,7 +82,7 @@ impl Paid<'_> {
 
     /// Whether each region that an edge leaves pays for its turns. Its time is linear in these regions.
     fn left_pay(&self, source: NodeId, target: NodeId) -> bool
-        requires paid { IsPaid self.now.graph.now self.now.nest.now self.now.part.now self.now.hits.now }
+        requires paid { HasAllPotentials self.now.graph.now self.now.nest.now self.now.part.now self.now.hits.now }
         requires source { source.0 < (graph_of self.now.graph.now).size }
         requires target { target.0 < (graph_of self.now.graph.now).size }
         ensures { IsTrue result ↔ ((r : ℕ) → Leaves (nest_of self.now.nest.now) source.0 target.0 r → (nest_of self.now.nest.now).bound r * (potentials_of self.now.part.now).node ((nest_of self.now.nest.now).head r) ≤ (potentials_of self.now.part.now).loop r) }
@@ -103,7 +103,7 @@ impl Paid<'_> {
 
     /// The cycles of an edge.
     fn edge_cost(&self, source: NodeId, target: NodeId) -> u128
-        requires paid { IsPaid self.now.graph.now self.now.nest.now self.now.part.now self.now.hits.now }
+        requires paid { HasAllPotentials self.now.graph.now self.now.nest.now self.now.part.now self.now.hits.now }
         requires source { source.0 < (graph_of self.now.graph.now).size }
         requires target { target.0 < (graph_of self.now.graph.now).size }
         ensures is { result ≡ (costs_at self.now.platform.now self.now.graph.now (counted self.now.hits.now)).edge source.0 target.0 }
@@ -115,7 +115,7 @@ impl Paid<'_> {
 
     /// Whether a node pays for its edge to the end, where it is an answering one.
     fn end_pays(&self, node: NodeId) -> bool
-        requires paid { IsPaid self.now.graph.now self.now.nest.now self.now.part.now self.now.hits.now }
+        requires paid { HasAllPotentials self.now.graph.now self.now.nest.now self.now.part.now self.now.hits.now }
         requires node { node.0 < (graph_of self.now.graph.now).size }
         ensures { IsTrue result ↔ (IsTrue ((costs_at self.now.platform.now self.now.graph.now (counted self.now.hits.now)).answers node.0) → (costs_at self.now.platform.now self.now.graph.now (counted self.now.hits.now)).end node.0 ≤ (potentials_of self.now.part.now).node node.0) }
     {
@@ -126,7 +126,7 @@ impl Paid<'_> {
 
     /// Whether the source of an edge pays for it.
     fn source_pays(&self, source: NodeId, target: NodeId) -> bool
-        requires paid { IsPaid self.now.graph.now self.now.nest.now self.now.part.now self.now.hits.now }
+        requires paid { HasAllPotentials self.now.graph.now self.now.nest.now self.now.part.now self.now.hits.now }
         requires source { source.0 < (graph_of self.now.graph.now).size }
         requires target { target.0 < (graph_of self.now.graph.now).size }
         ensures { IsTrue result ↔ ((costs_at self.now.platform.now self.now.graph.now (counted self.now.hits.now)).edge source.0 target.0 ≤ (potentials_of self.now.part.now).node source.0) }
@@ -136,7 +136,7 @@ impl Paid<'_> {
 
     /// Whether the source of an edge pays for it and for the item that it leads to.
     fn inside_pays(&self, source: NodeId, target: NodeId) -> bool
-        requires paid { IsPaid self.now.graph.now self.now.nest.now self.now.part.now self.now.hits.now }
+        requires paid { HasAllPotentials self.now.graph.now self.now.nest.now self.now.part.now self.now.hits.now }
         requires source { source.0 < (graph_of self.now.graph.now).size }
         requires target { target.0 < (graph_of self.now.graph.now).size }
         ensures { IsTrue result ↔ ((i : Item) → IsItem (nest_of self.now.nest.now) target.0 i → (costs_at self.now.platform.now self.now.graph.now (counted self.now.hits.now)).edge source.0 target.0 + item_potential (potentials_of self.now.part.now) i ≤ (potentials_of self.now.part.now).node source.0) }
@@ -148,7 +148,7 @@ impl Paid<'_> {
 
     /// Whether a region pays for its turns and for the item that an edge out of it leads to.
     fn exit_pays(&self, region: u32, target: NodeId) -> bool
-        requires paid { IsPaid self.now.graph.now self.now.nest.now self.now.part.now self.now.hits.now }
+        requires paid { HasAllPotentials self.now.graph.now self.now.nest.now self.now.part.now self.now.hits.now }
         requires region { region < (nest_of self.now.nest.now).size }
         requires target { target.0 < (graph_of self.now.graph.now).size }
         ensures { IsTrue result ↔ ((i : Item) → IsItem (nest_of self.now.nest.now) target.0 i → (nest_of self.now.nest.now).bound region * (potentials_of self.now.part.now).node ((nest_of self.now.nest.now).head region) + item_potential (potentials_of self.now.part.now) i ≤ (potentials_of self.now.part.now).loop region) }
@@ -159,7 +159,7 @@ impl Paid<'_> {
 
     /// Whether an edge, what comes after it, and the regions that it leaves are paid for.
     fn edge_pays(&self, source: NodeId, target: NodeId) -> bool
-        requires paid { IsPaid self.now.graph.now self.now.nest.now self.now.part.now self.now.hits.now }
+        requires paid { HasAllPotentials self.now.graph.now self.now.nest.now self.now.part.now self.now.hits.now }
         requires source { source.0 < (graph_of self.now.graph.now).size }
         requires target { target.0 < (graph_of self.now.graph.now).size }
         ensures { IsTrue result ↔ EdgePaid (nest_of self.now.nest.now) (costs_at self.now.platform.now self.now.graph.now (counted self.now.hits.now)) (potentials_of self.now.part.now) source.0 target.0 }
@@ -177,7 +177,7 @@ impl Paid<'_> {
 
     /// Whether the first (0) or second (1) edge of a node is paid for, where there is one.
     fn place_pays(&self, node: NodeId, k: u8) -> bool
-        requires paid { IsPaid self.now.graph.now self.now.nest.now self.now.part.now self.now.hits.now }
+        requires paid { HasAllPotentials self.now.graph.now self.now.nest.now self.now.part.now self.now.hits.now }
         requires node { node.0 < (graph_of self.now.graph.now).size }
         requires place { k < 2 }
         ensures { IsTrue result ↔ ((v : ℕ) → slice_get ((graph_of self.now.graph.now).next node.0) k ≡ Some v → EdgePaid (nest_of self.now.nest.now) (costs_at self.now.platform.now self.now.graph.now (counted self.now.hits.now)) (potentials_of self.now.part.now) node.0 v) }
@@ -190,7 +190,7 @@ impl Paid<'_> {
 
     /// Whether all edges of a node are paid for.
     fn edges_pay(&self, node: NodeId) -> bool
-        requires paid { IsPaid self.now.graph.now self.now.nest.now self.now.part.now self.now.hits.now }
+        requires paid { HasAllPotentials self.now.graph.now self.now.nest.now self.now.part.now self.now.hits.now }
         requires node { node.0 < (graph_of self.now.graph.now).size }
         ensures { IsTrue result ↔ ((v : ℕ) → Edge (graph_of self.now.graph.now) node.0 v → EdgePaid (nest_of self.now.nest.now) (costs_at self.now.platform.now self.now.graph.now (counted self.now.hits.now)) (potentials_of self.now.part.now) node.0 v) }
     {
@@ -203,7 +203,7 @@ impl Paid<'_> {
 
     /// Whether the region that a node heads, if any, pays for its turns.
     fn head_pays(&self, node: NodeId) -> bool
-        requires paid { IsPaid self.now.graph.now self.now.nest.now self.now.part.now self.now.hits.now }
+        requires paid { HasAllPotentials self.now.graph.now self.now.nest.now self.now.part.now self.now.hits.now }
         requires node { node.0 < (graph_of self.now.graph.now).size }
         ensures { IsTrue result ↔ ((r : ℕ) → r < (nest_of self.now.nest.now).size → (nest_of self.now.nest.now).head r ≡ node.0 → (nest_of self.now.nest.now).bound r * (potentials_of self.now.part.now).node node.0 ≤ (potentials_of self.now.part.now).loop r) }
     {
@@ -215,7 +215,7 @@ impl Paid<'_> {
 
     /// Whether clause 6 holds at a node.
     fn node_pays(&self, node: NodeId) -> bool
-        requires paid { IsPaid self.now.graph.now self.now.nest.now self.now.part.now self.now.hits.now }
+        requires paid { HasAllPotentials self.now.graph.now self.now.nest.now self.now.part.now self.now.hits.now }
         requires node { node.0 < (graph_of self.now.graph.now).size }
         ensures { IsTrue result ↔ PotentialsMeet (graph_of self.now.graph.now) (nest_of self.now.nest.now) (costs_at self.now.platform.now self.now.graph.now (counted self.now.hits.now)) (potentials_of self.now.part.now) node.0 }
     {
@@ -228,8 +228,8 @@ impl Paid<'_> {
     /// The least node at which clause 6 fails, the number of nodes where there is none. Its time is that of the nodes, and
     /// of each edge with the regions that it leaves.
     pub(crate) fn judge_potentials(&self) -> u32
-        requires paid { IsPaid self.now.graph.now self.now.nest.now self.now.part.now self.now.hits.now }
-        ensures { IsLeast (PotentialsMeet (graph_of self.now.graph.now) (nest_of self.now.nest.now) (costs_at self.now.platform.now self.now.graph.now (counted self.now.hits.now)) (potentials_of self.now.part.now)) (graph_of self.now.graph.now).size result }
+        requires paid { HasAllPotentials self.now.graph.now self.now.nest.now self.now.part.now self.now.hits.now }
+        ensures { IsLeastFailing (PotentialsMeet (graph_of self.now.graph.now) (nest_of self.now.nest.now) (costs_at self.now.platform.now self.now.graph.now (counted self.now.hits.now)) (potentials_of self.now.part.now)) (graph_of self.now.graph.now).size result }
     {
         for node in 0..self.graph.len() {
             if !self.node_pays(NodeId(node)) {
@@ -241,7 +241,7 @@ impl Paid<'_> {
 
     /// Whether clause 7 holds: the bound is at least the potential of the first node's item.
     pub(crate) fn bound_holds(&self) -> bool
-        requires paid { IsPaid self.now.graph.now self.now.nest.now self.now.part.now self.now.hits.now }
+        requires paid { HasAllPotentials self.now.graph.now self.now.nest.now self.now.part.now self.now.hits.now }
         ensures { IsTrue result ↔ BoundMeets (graph_of self.now.graph.now) (nest_of self.now.nest.now) (potentials_of self.now.part.now) self.now.part.now.part.bound }
     {
         self.graph.graph_law();

@@ -3,12 +3,12 @@ ghost use Rattle.std.specs.Prelude.{◌≡◌, ◌↔◌, ◌<◌, ◌≤◌, �
 ghost use Rattle.icache.specs.Cache.{held};
 ghost use Rattle.flat_graph.specs.CodeGraph.{graph_of};
 ghost use Rattle.evict_sets.specs.Full.{FullState};
-ghost use Rattle.evict_sets.specs.Clauses.{StateAfter, StatesMeet};
-ghost use Rattle.evict_sets.specs.Certificate.{block_in, listed_of};
-ghost use Rattle.evict_sets.specs.Listing.{IsListing, IsOrder, IsStateAfter, fetches};
-ghost use Rattle.cert_check.specs.Case.{IsLeast};
+ghost use Rattle.evict_sets.specs.CacheClauses.{StateAfter, StatesMeet};
+ghost use Rattle.evict_sets.specs.ListedPart.{block_of_set, listed_of};
+ghost use Rattle.evict_sets.specs.Listing.{IsListing, IsChainOrder, IsStateAfter, node_accesses};
+ghost use Rattle.cert_check.specs.JudgedNodes.{IsLeastFailing};
 
-use crate::least::lowest;
+use crate::least::least_failing;
 use crpd_base::{NodeId, SETS};
 use evict_sets::{Listing, are_held, successor};
 
@@ -16,7 +16,7 @@ use evict_sets::{Listing, are_held, successor};
 fn starts_empty(listing: &Listing<'_>, node: NodeId) -> bool
     requires case { IsListing listing.now.platform.now listing.now.graph.now listing.now.part.now listing.now.places.now }
     requires node { node.0 < (graph_of listing.now.graph.now).size }
-    ensures { IsTrue result ↔ (node.0 ≡ (graph_of listing.now.graph.now).first → (s m : ℕ) → FullState (graph_of listing.now.graph.now) (fetches listing.now.platform.now listing.now.graph.now) (listed_of listing.now.part.now) node.0 s m → ⊥) }
+    ensures { IsTrue result ↔ (node.0 ≡ (graph_of listing.now.graph.now).first → (s m : ℕ) → FullState (graph_of listing.now.graph.now) (node_accesses listing.now.platform.now listing.now.graph.now) (listed_of listing.now.part.now) node.0 s m → ⊥) }
 {
     if node.0 != listing.graph.first().0 {
         return true;
@@ -34,8 +34,8 @@ fn edge_state_holds(listing: &Listing<'_>, node: NodeId, k: u8, after: &[Option<
     requires node { node.0 < (graph_of listing.now.graph.now).size }
     requires place { k < 2 }
     requires room { length after.now ≡ 512 }
-    requires after { IsStateAfter (graph_of listing.now.graph.now) (fetches listing.now.platform.now listing.now.graph.now) (listed_of listing.now.part.now) node.0 after.now }
-    ensures { IsTrue result ↔ ((v s m : ℕ) → slice_get ((graph_of listing.now.graph.now).next node.0) k ≡ Some v → FullState (graph_of listing.now.graph.now) (fetches listing.now.platform.now listing.now.graph.now) (listed_of listing.now.part.now) v s m → StateAfter (graph_of listing.now.graph.now) (fetches listing.now.platform.now listing.now.graph.now) (listed_of listing.now.part.now) node.0 s m) }
+    requires after { IsStateAfter (graph_of listing.now.graph.now) (node_accesses listing.now.platform.now listing.now.graph.now) (listed_of listing.now.part.now) node.0 after.now }
+    ensures { IsTrue result ↔ ((v s m : ℕ) → slice_get ((graph_of listing.now.graph.now).next node.0) k ≡ Some v → FullState (graph_of listing.now.graph.now) (node_accesses listing.now.platform.now listing.now.graph.now) (listed_of listing.now.part.now) v s m → StateAfter (graph_of listing.now.graph.now) (node_accesses listing.now.platform.now listing.now.graph.now) (listed_of listing.now.part.now) node.0 s m) }
 {
     let Some(next) = successor(listing.graph, node, k) else {
         return true;
@@ -51,8 +51,8 @@ fn state_holds(listing: &Listing<'_>, node: NodeId, after: &[Option<u32>]) -> bo
     requires case { IsListing listing.now.platform.now listing.now.graph.now listing.now.part.now listing.now.places.now }
     requires node { node.0 < (graph_of listing.now.graph.now).size }
     requires room { length after.now ≡ 512 }
-    requires after { IsStateAfter (graph_of listing.now.graph.now) (fetches listing.now.platform.now listing.now.graph.now) (listed_of listing.now.part.now) node.0 after.now }
-    ensures { IsTrue result ↔ StatesMeet (graph_of listing.now.graph.now) (fetches listing.now.platform.now listing.now.graph.now) (listed_of listing.now.part.now) node.0 }
+    requires after { IsStateAfter (graph_of listing.now.graph.now) (node_accesses listing.now.platform.now listing.now.graph.now) (listed_of listing.now.part.now) node.0 after.now }
+    ensures { IsTrue result ↔ StatesMeet (graph_of listing.now.graph.now) (node_accesses listing.now.platform.now listing.now.graph.now) (listed_of listing.now.part.now) node.0 }
 {
     listing.graph.graph_law();
     starts_empty(listing, node)
@@ -64,8 +64,8 @@ fn state_holds(listing: &Listing<'_>, node: NodeId, after: &[Option<u32>]) -> bo
 /// of the nodes and the listed states, and of each edge with the listed state that it leads to.
 pub(crate) fn judge_states(listing: &Listing<'_>, order: &[u32]) -> u32
     requires case { IsListing listing.now.platform.now listing.now.graph.now listing.now.part.now listing.now.places.now }
-    requires order { IsOrder (graph_of listing.now.graph.now) (listed_of listing.now.part.now) order.now }
-    ensures { IsLeast (StatesMeet (graph_of listing.now.graph.now) (fetches listing.now.platform.now listing.now.graph.now) (listed_of listing.now.part.now)) (graph_of listing.now.graph.now).size result }
+    requires order { IsChainOrder (graph_of listing.now.graph.now) (listed_of listing.now.part.now) order.now }
+    ensures { IsLeastFailing (StatesMeet (graph_of listing.now.graph.now) (node_accesses listing.now.platform.now listing.now.graph.now) (listed_of listing.now.part.now)) (graph_of listing.now.graph.now).size result }
 {
     let mut blocks = [None; SETS];
     let mut least = listing.graph.len();
@@ -73,7 +73,7 @@ pub(crate) fn judge_states(listing: &Listing<'_>, order: &[u32]) -> u32
         let node = NodeId(order[k]);
         listing.enter(&mut blocks, node);
         listing.leave(&mut blocks, node);
-        least = lowest(least, node.0, state_holds(listing, node, &blocks));
+        least = least_failing(least, node.0, state_holds(listing, node, &blocks));
     }
     least
 }

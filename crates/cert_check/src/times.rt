@@ -2,14 +2,14 @@
 ghost use Rattle.std.specs.Prelude.{◌≡◌, ◌↔◌, ◌<◌, ◌≤◌, ◌^◌, ◌+◌, ℕ, length, slice_index, IsTrue, All};
 ghost use Rattle.crpd_base.specs.Ranges.{IsTaskSet, IsPlatform};
 ghost use Rattle.crpd_base.specs.declared.data.TaskPart.{TaskPart};
-ghost use Rattle.flat_graph.specs.CodeGraph.{graph_of, listing};
+ghost use Rattle.flat_graph.specs.CodeGraph.{graph_of, node_code};
 ghost use Rattle.loop_regions.specs.TaskGraph.{TaskGraph};
 ghost use Rattle.evict_sets.specs.Answering.{answers_of};
 ghost use Rattle.evict_sets.specs.Longest.{longest};
 ghost use Rattle.delay_count.specs.Demand.{HasLongest};
 ghost use Rattle.cert_check.specs.declared.outcome.Clause.TheVariants.{Window};
-ghost use Rattle.cert_check.specs.Verdict.{Holds, TimesHold};
-ghost use Rattle.cert_check.specs.Answered.{IsFound};
+ghost use Rattle.cert_check.specs.Verdict.{ClauseHolds, TimesHold};
+ghost use Rattle.cert_check.specs.FirstFailing.{IsRangeJudged};
 ghost use Rattle.cert_check.specs.Times.{AreLongest, HigherHold};
 
 use crate::least::at_most;
@@ -34,7 +34,7 @@ pub(crate) fn are_alike(a: &Platform, b: &Platform) -> bool
 /// The first failure of the platform, the tasks and the names at a task, as an error.
 pub(crate) fn name_failure(set: &TaskSet, certificate: &Certificate, i: usize) -> Result<(), Clause>
     requires { i < length set.now.tasks }
-    ensures { (graphs : ℕ → TaskGraph) → IsFound (Holds set.now graphs certificate.now i) 1 1 result }
+    ensures { (graphs : ℕ → TaskGraph) → IsRangeJudged (ClauseHolds set.now graphs certificate.now i) 1 1 result }
 {
     let tasks = set.tasks.as_slice();
     let parts = certificate.tasks.as_slice();
@@ -57,7 +57,7 @@ pub(crate) fn name_failure(set: &TaskSet, certificate: &Certificate, i: usize) -
 /// The longest cost of one instruction of a task, 1 to 2^18 cycles.
 fn longest_cost(graph: &Graph, platform: &Platform) -> u64
     requires { IsPlatform platform.now }
-    ensures is { result ≡ longest platform.now (graph_of graph.now) (listing graph.now) (answers_of graph.now) }
+    ensures is { result ≡ longest platform.now (graph_of graph.now) (node_code graph.now) (answers_of graph.now) }
     ensures some { 1 ≤ result }
     ensures small { result ≤ 262144 }
 {
@@ -118,7 +118,7 @@ pub(crate) fn time_failure(
     requires longest { HasLongest set.now longest.now }
     requires windows { All (λ (t : TaskPart). t.window ≤ 2 ^ 40) certificate.now.tasks }
     requires higher { HigherHold set.now certificate.now i }
-    ensures { IsFound (TimesHold set.now (slice_index longest.now) certificate.now i) 8 9 result }
+    ensures { IsRangeJudged (TimesHold set.now (slice_index longest.now) certificate.now i) 8 9 result }
 {
     let task = &set.tasks.as_slice()[i];
     let part = &certificate.tasks.as_slice()[i];

@@ -4,13 +4,13 @@ ghost use Rattle.crpd_base.specs.Sets.{has, member};
 ghost use Rattle.flat_graph.specs.Graph.{Edge};
 ghost use Rattle.flat_graph.specs.CodeGraph.{graph_of};
 ghost use Rattle.evict_sets.specs.Full.{IsHit};
-ghost use Rattle.evict_sets.specs.Clauses.{UsefulMeets, SetsMeet};
-ghost use Rattle.evict_sets.specs.Certificate.{listed_of};
-ghost use Rattle.evict_sets.specs.Listing.{CountsHits, IsListing, IsOrder, counted, fetches};
-ghost use Rattle.cert_check.specs.Case.{IsUsefulAt, IsUsefulBehind, IsUsefulBy, IsLeast};
+ghost use Rattle.evict_sets.specs.CacheClauses.{UsefulMeets, SetsMeet};
+ghost use Rattle.evict_sets.specs.ListedPart.{listed_of};
+ghost use Rattle.evict_sets.specs.Listing.{CountsHits, IsListing, IsChainOrder, counted, node_accesses};
+ghost use Rattle.cert_check.specs.JudgedNodes.{IsUsefulAt, IsUsefulBehind, IsUsefulBy, IsLeastFailing};
 
-use crate::changed::{covers, with};
-use crate::least::lowest;
+use crate::changed::{covers, with_member};
+use crate::least::least_failing;
 use crpd_base::{NodeId, SetBits, WORDS};
 use evict_sets::{Listing, successor};
 
@@ -18,8 +18,8 @@ use evict_sets::{Listing, successor};
 fn useful_behind(listing: &Listing<'_>, node: NodeId, follower: &SetBits<WORDS>) -> SetBits<WORDS>
     requires case { IsListing listing.now.platform.now listing.now.graph.now listing.now.part.now listing.now.places.now }
     requires node { node.0 < (graph_of listing.now.graph.now).size }
-    requires follower { (v : ℕ) → Edge (graph_of listing.now.graph.now) node.0 v → IsFalse ((listed_of listing.now.part.now).is_listed v) → IsUsefulAt (graph_of listing.now.graph.now) (fetches listing.now.platform.now listing.now.graph.now) (listed_of listing.now.part.now) v follower.now }
-    ensures { IsUsefulBehind (graph_of listing.now.graph.now) (fetches listing.now.platform.now listing.now.graph.now) (listed_of listing.now.part.now) node.0 result }
+    requires follower { (v : ℕ) → Edge (graph_of listing.now.graph.now) node.0 v → IsFalse ((listed_of listing.now.part.now).is_listed v) → IsUsefulAt (graph_of listing.now.graph.now) (node_accesses listing.now.platform.now listing.now.graph.now) (listed_of listing.now.part.now) v follower.now }
+    ensures { IsUsefulBehind (graph_of listing.now.graph.now) (node_accesses listing.now.platform.now listing.now.graph.now) (listed_of listing.now.part.now) node.0 result }
 {
     listing.graph.graph_law();
     let mut sets = useful_by(listing, node, 0, follower);
@@ -37,8 +37,8 @@ fn useful_by(
     requires case { IsListing listing.now.platform.now listing.now.graph.now listing.now.part.now listing.now.places.now }
     requires node { node.0 < (graph_of listing.now.graph.now).size }
     requires place { k < 2 }
-    requires follower { (v : ℕ) → Edge (graph_of listing.now.graph.now) node.0 v → IsFalse ((listed_of listing.now.part.now).is_listed v) → IsUsefulAt (graph_of listing.now.graph.now) (fetches listing.now.platform.now listing.now.graph.now) (listed_of listing.now.part.now) v follower.now }
-    ensures { IsUsefulBy (graph_of listing.now.graph.now) (fetches listing.now.platform.now listing.now.graph.now) (listed_of listing.now.part.now) node.0 k result }
+    requires follower { (v : ℕ) → Edge (graph_of listing.now.graph.now) node.0 v → IsFalse ((listed_of listing.now.part.now).is_listed v) → IsUsefulAt (graph_of listing.now.graph.now) (node_accesses listing.now.platform.now listing.now.graph.now) (listed_of listing.now.part.now) v follower.now }
+    ensures { IsUsefulBy (graph_of listing.now.graph.now) (node_accesses listing.now.platform.now listing.now.graph.now) (listed_of listing.now.part.now) node.0 k result }
 {
     let Some(next) = successor(listing.graph, node, k) else {
         return SetBits::new();
@@ -58,13 +58,13 @@ fn useful_at(
 ) -> SetBits<WORDS>
     requires case { IsListing listing.now.platform.now listing.now.graph.now listing.now.part.now listing.now.places.now }
     requires node { node.0 < (graph_of listing.now.graph.now).size }
-    requires hit { IsTrue hit ↔ IsHit (graph_of listing.now.graph.now) (fetches listing.now.platform.now listing.now.graph.now) (listed_of listing.now.part.now) node.0 }
-    requires behind { IsUsefulBehind (graph_of listing.now.graph.now) (fetches listing.now.platform.now listing.now.graph.now) (listed_of listing.now.part.now) node.0 behind.now }
-    ensures { IsUsefulAt (graph_of listing.now.graph.now) (fetches listing.now.platform.now listing.now.graph.now) (listed_of listing.now.part.now) node.0 result }
+    requires hit { IsTrue hit ↔ IsHit (graph_of listing.now.graph.now) (node_accesses listing.now.platform.now listing.now.graph.now) (listed_of listing.now.part.now) node.0 }
+    requires behind { IsUsefulBehind (graph_of listing.now.graph.now) (node_accesses listing.now.platform.now listing.now.graph.now) (listed_of listing.now.part.now) node.0 behind.now }
+    ensures { IsUsefulAt (graph_of listing.now.graph.now) (node_accesses listing.now.platform.now listing.now.graph.now) (listed_of listing.now.part.now) node.0 result }
 {
     match listing.entry(node) {
         Some(entry) => entry.useful,
-        None => with(behind, listing.cache_set(node), hit),
+        None => with_member(behind, listing.cache_set(node), hit),
     }
 }
 
@@ -72,9 +72,9 @@ fn useful_at(
 fn useful_holds(listing: &Listing<'_>, node: NodeId, hit: bool, behind: &SetBits<WORDS>) -> bool
     requires case { IsListing listing.now.platform.now listing.now.graph.now listing.now.part.now listing.now.places.now }
     requires node { node.0 < (graph_of listing.now.graph.now).size }
-    requires hit { IsTrue hit ↔ IsHit (graph_of listing.now.graph.now) (fetches listing.now.platform.now listing.now.graph.now) (listed_of listing.now.part.now) node.0 }
-    requires behind { IsUsefulBehind (graph_of listing.now.graph.now) (fetches listing.now.platform.now listing.now.graph.now) (listed_of listing.now.part.now) node.0 behind.now }
-    ensures { IsTrue result ↔ UsefulMeets (graph_of listing.now.graph.now) (fetches listing.now.platform.now listing.now.graph.now) (listed_of listing.now.part.now) node.0 }
+    requires hit { IsTrue hit ↔ IsHit (graph_of listing.now.graph.now) (node_accesses listing.now.platform.now listing.now.graph.now) (listed_of listing.now.part.now) node.0 }
+    requires behind { IsUsefulBehind (graph_of listing.now.graph.now) (node_accesses listing.now.platform.now listing.now.graph.now) (listed_of listing.now.part.now) node.0 behind.now }
+    ensures { IsTrue result ↔ UsefulMeets (graph_of listing.now.graph.now) (node_accesses listing.now.platform.now listing.now.graph.now) (listed_of listing.now.part.now) node.0 }
 {
     let Some(entry) = listing.entry(node) else {
         return true;
@@ -84,15 +84,15 @@ fn useful_holds(listing: &Listing<'_>, node: NodeId, hit: bool, behind: &SetBits
     if hit && !useful.has(own) {
         return false;
     }
-    covers(&with(&useful, own, true), behind)
+    covers(&with_member(&useful, own, true), behind)
 }
 
 /// Whether clause 5 holds at a node with this full useful set.
 fn sets_hold(listing: &Listing<'_>, node: NodeId, useful: &SetBits<WORDS>) -> bool
     requires case { IsListing listing.now.platform.now listing.now.graph.now listing.now.part.now listing.now.places.now }
     requires node { node.0 < (graph_of listing.now.graph.now).size }
-    requires useful { IsUsefulAt (graph_of listing.now.graph.now) (fetches listing.now.platform.now listing.now.graph.now) (listed_of listing.now.part.now) node.0 useful.now }
-    ensures { IsTrue result ↔ SetsMeet (graph_of listing.now.graph.now) (fetches listing.now.platform.now listing.now.graph.now) (listed_of listing.now.part.now) (has listing.now.part.now.part.evicting) (has listing.now.part.now.part.useful) node.0 }
+    requires useful { IsUsefulAt (graph_of listing.now.graph.now) (node_accesses listing.now.platform.now listing.now.graph.now) (listed_of listing.now.part.now) node.0 useful.now }
+    ensures { IsTrue result ↔ SetsMeet (graph_of listing.now.graph.now) (node_accesses listing.now.platform.now listing.now.graph.now) (listed_of listing.now.part.now) (has listing.now.part.now.part.evicting) (has listing.now.part.now.part.useful) node.0 }
 {
     let part = &listing.part.part;
     part.evicting.has(listing.cache_set(node)) && covers(&part.useful, useful)
@@ -101,10 +101,10 @@ fn sets_hold(listing: &Listing<'_>, node: NodeId, useful: &SetBits<WORDS>) -> bo
 /// The least node at which clause 4 fails, the number of nodes where there is none. Linear in the nodes and edges.
 pub(crate) fn judge_useful(listing: &Listing<'_>, order: &[u32], hits: &[bool]) -> u32
     requires case { IsListing listing.now.platform.now listing.now.graph.now listing.now.part.now listing.now.places.now }
-    requires order { IsOrder (graph_of listing.now.graph.now) (listed_of listing.now.part.now) order.now }
+    requires order { IsChainOrder (graph_of listing.now.graph.now) (listed_of listing.now.part.now) order.now }
     requires count { length hits.now ≡ (graph_of listing.now.graph.now).size }
-    requires hits { CountsHits (graph_of listing.now.graph.now) (fetches listing.now.platform.now listing.now.graph.now) (listed_of listing.now.part.now) (counted hits.now) }
-    ensures { IsLeast (UsefulMeets (graph_of listing.now.graph.now) (fetches listing.now.platform.now listing.now.graph.now) (listed_of listing.now.part.now)) (graph_of listing.now.graph.now).size result }
+    requires hits { CountsHits (graph_of listing.now.graph.now) (node_accesses listing.now.platform.now listing.now.graph.now) (listed_of listing.now.part.now) (counted hits.now) }
+    ensures { IsLeastFailing (UsefulMeets (graph_of listing.now.graph.now) (node_accesses listing.now.platform.now listing.now.graph.now) (listed_of listing.now.part.now)) (graph_of listing.now.graph.now).size result }
 {
     let mut least = listing.graph.len();
     let mut useful = SetBits::new();
@@ -112,7 +112,7 @@ pub(crate) fn judge_useful(listing: &Listing<'_>, order: &[u32], hits: &[bool]) 
         let node = NodeId(order[order.len() - 1 - done]);
         let hit = hits[node.0 as usize];
         let behind = useful_behind(listing, node, &useful);
-        least = lowest(least, node.0, useful_holds(listing, node, hit, &behind));
+        least = least_failing(least, node.0, useful_holds(listing, node, hit, &behind));
         useful = useful_at(listing, node, hit, &behind);
     }
     least
@@ -121,10 +121,10 @@ pub(crate) fn judge_useful(listing: &Listing<'_>, order: &[u32], hits: &[bool]) 
 /// The least node at which clause 5 fails, the number of nodes where there is none. Linear in the nodes and edges.
 pub(crate) fn judge_sets(listing: &Listing<'_>, order: &[u32], hits: &[bool]) -> u32
     requires case { IsListing listing.now.platform.now listing.now.graph.now listing.now.part.now listing.now.places.now }
-    requires order { IsOrder (graph_of listing.now.graph.now) (listed_of listing.now.part.now) order.now }
+    requires order { IsChainOrder (graph_of listing.now.graph.now) (listed_of listing.now.part.now) order.now }
     requires count { length hits.now ≡ (graph_of listing.now.graph.now).size }
-    requires hits { CountsHits (graph_of listing.now.graph.now) (fetches listing.now.platform.now listing.now.graph.now) (listed_of listing.now.part.now) (counted hits.now) }
-    ensures { IsLeast (SetsMeet (graph_of listing.now.graph.now) (fetches listing.now.platform.now listing.now.graph.now) (listed_of listing.now.part.now) (has listing.now.part.now.part.evicting) (has listing.now.part.now.part.useful)) (graph_of listing.now.graph.now).size result }
+    requires hits { CountsHits (graph_of listing.now.graph.now) (node_accesses listing.now.platform.now listing.now.graph.now) (listed_of listing.now.part.now) (counted hits.now) }
+    ensures { IsLeastFailing (SetsMeet (graph_of listing.now.graph.now) (node_accesses listing.now.platform.now listing.now.graph.now) (listed_of listing.now.part.now) (has listing.now.part.now.part.evicting) (has listing.now.part.now.part.useful)) (graph_of listing.now.graph.now).size result }
 {
     let mut least = listing.graph.len();
     let mut useful = SetBits::new();
@@ -133,7 +133,7 @@ pub(crate) fn judge_sets(listing: &Listing<'_>, order: &[u32], hits: &[bool]) ->
         let hit = hits[node.0 as usize];
         let behind = useful_behind(listing, node, &useful);
         useful = useful_at(listing, node, hit, &behind);
-        least = lowest(least, node.0, sets_hold(listing, node, &useful));
+        least = least_failing(least, node.0, sets_hold(listing, node, &useful));
     }
     least
 }

@@ -11,7 +11,7 @@ use Rattle.serde_json.specs.Data.{Data, array}
 use Rattle.serde_json.specs.View.{items_of}
 use Rattle.serde_json.specs.Written.{items_outline}
 use Rattle.cert_model.specs.Tokens.{Adds, tokens_of, tokens_by}
-use Rattle.cert_model.specs.Writing.{pairs}
+use Rattle.cert_model.specs.Writing.{pair_items}
 
 pub none : (a : Written) → Adds a a []
 none a = record { tokens = sym (append-nil a.tokens); before = refl }
@@ -53,7 +53,7 @@ within f (x ∷ xs) = append_assoc (tokens_of (f x)) (tokens_by f xs) (end_array
 abbrev pub pair_tokens : ℕ × ℕ → List Token
 pair_tokens p = number (decimal p.0) ∷ number (decimal p.1) ∷ []
 
-within_pairs : (ps : List (ℕ × ℕ)) → flat_map pair_tokens ps ++ end_array ∷ [] ≡ items_tokens (items_outline (pairs ps))
+within_pairs : (ps : List (ℕ × ℕ)) → flat_map pair_tokens ps ++ end_array ∷ [] ≡ items_tokens (items_outline (pair_items ps))
 within_pairs [] = refl
 within_pairs (p ∷ ps) = ap (λ l. number (decimal p.0) ∷ number (decimal p.1) ∷ l) (within_pairs ps)
 
@@ -62,5 +62,5 @@ pub list : {E X : Type 0} (r : Result (Unit {0}) E) {a b c d : Written} (f : X �
 list r {a} f xs h k w = closes r a (tokens_of (array (items_of (map f xs)))) (λ end. moved (λ l. begin_array ∷ l) (within f xs) (then h (then k end))) w
 
 pub list_of_pairs : {E : Type 0} (r : Result (Unit {0}) E) {a b c d : Written} (ps : List (ℕ × ℕ)) → Adds a b (begin_array ∷ []) → Adds b c (flat_map pair_tokens ps) → Writes r c d end_array
-    → OnOk r (Adds a d (tokens_of (array (pairs ps))))
-list_of_pairs r {a} ps h k w = closes r a (tokens_of (array (pairs ps))) (λ end. moved (λ l. begin_array ∷ l) (within_pairs ps) (then h (then k end))) w
+    → OnOk r (Adds a d (tokens_of (array (pair_items ps))))
+list_of_pairs r {a} ps h k w = closes r a (tokens_of (array (pair_items ps))) (λ end. moved (λ l. begin_array ∷ l) (within_pairs ps) (then h (then k end))) w

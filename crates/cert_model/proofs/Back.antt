@@ -24,12 +24,12 @@ use Rattle.cert_model.specs.declared.fault.CertError.{CertError}
 use Rattle.cert_model.specs.declared.version.Version.TheVariants.{Second}
 use Rattle.crpd_base.specs.Outcome.{◌>>=◌}
 use Rattle.toml_keys.specs.Reading.{each, item_path}
-use Rattle.cert_model.specs.Keys.{present, good, required}
+use Rattle.cert_model.specs.Keys.{value_at_key, value_or_bad, required}
 use Rattle.cert_model.specs.Kinds as kind
-use Rattle.crpd_base.specs.Names.{is_between, is_line, is_name, method_name}
+use Rattle.crpd_base.specs.Names.{is_between, is_line_length, is_name, method_name}
 use Rattle.cert_model.specs.Kinds.{whole, below, all_of, listed, rising, words_of, is_in, pair, pairs_from, state_of, states_from}
-use Rattle.cert_model.specs.Ranges.{RiseFrom, IsState, ArePotentials, IsTaskPart, AreTasks, HasSets, IsCertificate}
-use Rattle.cert_model.specs.Reading.{cycles, version_at, second_platform, fields_at, task_at, tasks_at, entries, counted, certificate_at}
+use Rattle.cert_model.specs.Ranges.{RiseFrom, IsState, ArePotentials, IsTaskPart, AreTasks, HasSetWords, IsCertificate}
+use Rattle.cert_model.specs.Reading.{cycles, version_at, second_platform, fields_at, task_at, tasks_at, entries, within_entry_limit, certificate_at}
 use Rattle.cert_model.specs.Writing as write
 use Rattle.cert_model.specs.Writing.{whole_number, numbers_below, platform_members, task_members, certificate_members}
 use Rattle.cert_model.proofs.Next.{below_none, below_more, below_same}
@@ -44,8 +44,8 @@ whole_back low high n a b = rw (le-leb low n a, le-leb n high b)
 below_back : (low limit n : ℕ) → low ≤ n → n < limit → below low limit (whole_number n) ≡ Some n
 below_back low limit n a b = rw (le-leb low n a, lt-ltb n limit b)
 
-line_back : (n : ℕ) → is_line n ≡ true → kind.line (whole_number n) ≡ Some n
-unfolding kind.line
+line_back : (n : ℕ) → is_line_length n ≡ true → kind.line_bytes (whole_number n) ≡ Some n
+unfolding kind.line_bytes
 line_back n h = rw h
 
 -- ---- lists
@@ -58,7 +58,7 @@ numbers_back : (ns : List ℕ) → AllByRecursion (λ n. n ≤ 2 ^ 40) ns → Al
 numbers_back [] h = tt
 numbers_back (n ∷ ns) h = (whole_back 0 (2 ^ 40) n (omega arith) h.0, numbers_back ns h.1)
 
-potentials_back : (ns : List ℕ) → ArePotentials ns → kind.potentials 16384 (write.numbers ns) ≡ Some ns
+potentials_back : (ns : List ℕ) → ArePotentials ns → kind.potentials 16384 (write.numbers_data ns) ≡ Some ns
 unfolding kind.potentials
 potentials_back ns h =
     rw (all_of_back whole_number (whole 0 (2 ^ 40)) ns (numbers_back ns (recursion_from_All (λ n. n ≤ 2 ^ 40) ns h.each)), le-leb (length ns) 16384 h.few)
@@ -119,8 +119,8 @@ words_back words h =
     same_words (words_of (numbers_below words 512)) words 8 (words_are (numbers_below words 512)) h
     (λ t lt. words_member (numbers_below words 512) t lt ∙ in_within words 512 t lt)
 
-set_back : (words : List ℕ) → AreWords 8 words → kind.set_numbers 512 (write.set_numbers words) ≡ Some words
-unfolding kind.set_numbers write.set_numbers
+set_back : (words : List ℕ) → AreWords 8 words → kind.set_numbers 512 (write.set_data words) ≡ Some words
+unfolding kind.set_numbers write.set_data
 set_back words h = ap (option_map words_of) (rising_back 0 512 (numbers_below words 512) (below_rise words 512)) ∙ ap (λ l. Some l) (words_back words h)
 
 -- ---- node states
@@ -129,25 +129,25 @@ pair_back : (low limit : ℕ) (p : ℕ × ℕ) → low ≤ p.0 → p.0 < limit �
 unfolding pair
 pair_back low limit p a b c = rw (below_back low limit p.0 a b, below_back 0 (2 ^ 32) p.1 (omega arith) c)
 
-pairs_back : (low limit : ℕ) (ps : List (ℕ × ℕ)) → RiseFrom (λ (p : ℕ × ℕ). p.0) low limit ps → AllByRecursion (λ (p : ℕ × ℕ). p.1 < 2 ^ 32) ps → pairs_from low limit (write.pairs ps) ≡ Some ps
+pairs_back : (low limit : ℕ) (ps : List (ℕ × ℕ)) → RiseFrom (λ (p : ℕ × ℕ). p.0) low limit ps → AllByRecursion (λ (p : ℕ × ℕ). p.1 < 2 ^ 32) ps → pairs_from low limit (write.pair_items ps) ≡ Some ps
 pairs_back low limit [] r h = refl
 pairs_back low limit (p ∷ ps) r h = rw (pair_back low limit p r.0 r.1 h.0, pairs_back (p.0 + 1) limit ps r.2 h.1)
 
-sure_back : (s : NodeState) → IsState s → kind.sure_pairs 512 (array (write.pairs s.sure)) ≡ Some s.sure
+sure_back : (s : NodeState) → IsState s → kind.sure_pairs 512 (array (write.pair_items s.sure)) ≡ Some s.sure
 unfolding kind.sure_pairs
 sure_back s h = pairs_back 0 512 s.sure h.sets (recursion_from_All (λ (p : ℕ × ℕ). p.1 < 2 ^ 32) s.sure h.blocks)
 
-state_back : (low : ℕ) (s : NodeState) → low ≤ s.node → s.node < 16384 → IsState s → AreWords 8 s.useful → kind.state 512 16384 low (write.state s) ≡ Some s
-unfolding kind.state state_of
+state_back : (low : ℕ) (s : NodeState) → low ≤ s.node → s.node < 16384 → IsState s → AreWords 8 s.useful → kind.state_value 512 16384 low (write.state_data s) ≡ Some s
+unfolding kind.state_value state_of
 state_back low s a b h w = rw (below_back low 16384 s.node a b, sure_back s h, set_back s.useful w)
 
 states_from_back : (low : ℕ) (ss : List NodeState) → RiseFrom (λ (s : NodeState). s.node) low 16384 ss → AllByRecursion IsState ss → AllByRecursion (λ (s : NodeState). AreWords 8 s.useful) ss
-    → states_from 512 16384 low (items_of (map write.state ss)) ≡ Some ss
+    → states_from 512 16384 low (items_of (map write.state_data ss)) ≡ Some ss
 states_from_back low [] r h w = refl
 states_from_back low (s ∷ ss) r h w = rw (state_back low s r.0 r.1 h.0 w.0, states_from_back (s.node + 1) ss r.2 h.1 w.1)
 
 states_back : (ss : List NodeState) → RiseFrom (λ (s : NodeState). s.node) 0 16384 ss → All IsState ss → All (λ (s : NodeState). AreWords 8 s.useful) ss
-    → kind.states 512 16384 (array (items_of (map write.state ss))) ≡ Some ss
+    → kind.states 512 16384 (array (items_of (map write.state_data ss))) ≡ Some ss
 unfolding kind.states
 states_back ss r h w = states_from_back 0 ss r (recursion_from_All IsState ss h) (recursion_from_All (λ (s : NodeState). AreWords 8 s.useful) ss w)
 
@@ -172,12 +172,12 @@ name_back s h = rw h
 bind_back : {A B : Type 0} (r : Result A CertError) (f : A → Result B CertError) (x : A) (y : B) → r ≡ Ok x → f x ≡ Ok y → (r >>= f) ≡ Ok y
 bind_back r f x y e g = ap (λ z. z >>= f) e ∙ g
 
-present_back : (path key : List ℕ) (ms : Members) (d : Data) → get_member key ms ≡ Some d → present path key ms ≡ Ok d
-present_back path key ms d e = rw (e, present)
+present_back : (path key : List ℕ) (ms : Members) (d : Data) → get_member key ms ≡ Some d → value_at_key path key ms ≡ Ok d
+present_back path key ms d e = rw (e, value_at_key)
 
 required_back : {A : Type 0} (read : Data → Option A) (path key : List ℕ) (ms : Members) (d : Data) (x : A) → get_member key ms ≡ Some d → read d ≡ Some x → required read path key ms ≡ Ok x
 unfolding required
-required_back read path key ms d x e k = bind_back (present path key ms) (λ v. good path key (read v)) d x (present_back path key ms d e) (ap (good path key) k)
+required_back read path key ms d x e k = bind_back (value_at_key path key ms) (λ v. value_or_bad path key (read v)) d x (present_back path key ms d e) (ap (value_or_bad path key) k)
 
 -- ---- the platform
 
@@ -193,7 +193,7 @@ platform_back path p h =
     bind_back _ _ p.memory p (cycles_back path (codes "data") _ p.memory refl h.memory)
     (bind_back _ _ p.div p (cycles_back path (codes "div") _ p.div refl h.div)
     (bind_back _ _ p.hit p (number_back 1 65535 path (codes "hit") _ p.hit refl h.hit)
-    (bind_back _ _ p.line p (required_back kind.line path (codes "line") _ (whole_number p.line) p.line refl (line_back p.line h.line_size))
+    (bind_back _ _ p.line p (required_back kind.line_bytes path (codes "line") _ (whole_number p.line) p.line refl (line_back p.line h.line_size))
     (bind_back _ _ p.miss p (cycles_back path (codes "miss") _ p.miss refl h.miss)
     (bind_back _ _ p.mul p (cycles_back path (codes "mul") _ p.mul refl h.mul)
     (bind_back _ _ p.sets p (number_back 1 512 path (codes "sets") _ p.sets refl h.sets)
@@ -203,38 +203,38 @@ platform_back path p h =
 
 -- ---- tasks
 
-fields_back : (path : List ℕ) (t : TaskPart) → IsTaskPart t → HasSets t → fields_at Second path (task_members t) ≡ Ok t
+fields_back : (path : List ℕ) (t : TaskPart) → IsTaskPart t → HasSetWords t → fields_at Second path (task_members t) ≡ Ok t
 unfolding fields_at task_members
 fields_back path t h w =
     bind_back _ _ t.part.bound t (number_back 0 (2 ^ 41) path (codes "bound") _ t.part.bound refl (omega arith, h.bound))
-    (bind_back _ _ t.part.evicting t (required_back (kind.set_numbers 512) path (codes "evicting") _ (write.set_numbers t.part.evicting) t.part.evicting refl (set_back t.part.evicting w.evicting))
-    (bind_back _ _ t.loops t (required_back (kind.potentials 16384) path (codes "loops") _ (write.numbers t.loops) t.loops refl (potentials_back t.loops h.loops))
+    (bind_back _ _ t.part.evicting t (required_back (kind.set_numbers 512) path (codes "evicting") _ (write.set_data t.part.evicting) t.part.evicting refl (set_back t.part.evicting w.evicting))
+    (bind_back _ _ t.loops t (required_back (kind.potentials 16384) path (codes "loops") _ (write.numbers_data t.loops) t.loops refl (potentials_back t.loops h.loops))
     (bind_back _ _ t.method t (required_back kind.method path (codes "method") _ (string (method_name t.method)) t.method refl (method_back t.method))
     (bind_back _ _ t.name t (required_back kind.name path (codes "name") _ (string t.name) t.name refl (name_back t.name h.name))
-    (bind_back _ _ t.potentials t (required_back (kind.potentials 16384) path (codes "potentials") _ (write.numbers t.potentials) t.potentials refl (potentials_back t.potentials h.potentials))
+    (bind_back _ _ t.potentials t (required_back (kind.potentials 16384) path (codes "potentials") _ (write.numbers_data t.potentials) t.potentials refl (potentials_back t.potentials h.potentials))
     (bind_back _ _ t.response t (number_back 0 (2 ^ 41) path (codes "response") _ t.response refl (omega arith, h.response))
-    (bind_back _ _ t.states t (required_back (kind.states 512 16384) path (codes "states") _ (array (items_of (map write.state t.states))) t.states refl (states_back t.states h.nodes h.states w.states))
-    (bind_back _ _ t.part.useful t (required_back (kind.set_numbers 512) path (codes "useful") _ (write.set_numbers t.part.useful) t.part.useful refl (set_back t.part.useful w.useful))
+    (bind_back _ _ t.states t (required_back (kind.states 512 16384) path (codes "states") _ (array (items_of (map write.state_data t.states))) t.states refl (states_back t.states h.nodes h.states w.states))
+    (bind_back _ _ t.part.useful t (required_back (kind.set_numbers 512) path (codes "useful") _ (write.set_data t.part.useful) t.part.useful refl (set_back t.part.useful w.useful))
     (bind_back _ _ t.window t (number_back 0 (2 ^ 40) path (codes "window") _ t.window refl (omega arith, h.window)) refl)))))))))
 
-each_back : (i : ℕ) (ts : List TaskPart) → AllByRecursion IsTaskPart ts → AllByRecursion HasSets ts → each (task_at Second) i (map task_members ts) ≡ Ok ts
+each_back : (i : ℕ) (ts : List TaskPart) → AllByRecursion IsTaskPart ts → AllByRecursion HasSetWords ts → each (task_at Second) i (map task_members ts) ≡ Ok ts
 unfolding each
 each_back i [] h w = refl
 each_back i (t ∷ ts) h w = rw (fields_back (item_path [] (codes "tasks") i) t h.0 w.0, each_back (i + 1) ts h.1 w.1)
 
-all_objects : (ts : List TaskPart) → all_of as_object (items_of (map write.task ts)) ≡ Some (map task_members ts)
+all_objects : (ts : List TaskPart) → all_of as_object (items_of (map write.task_data ts)) ≡ Some (map task_members ts)
 all_objects [] = refl
 all_objects (t ∷ ts) = rw (all_objects ts)
 
-objects_back : (ts : List TaskPart) → 1 ≤ length ts → length ts ≤ 32 → kind.objects 32 (array (items_of (map write.task ts))) ≡ Some (map task_members ts)
+objects_back : (ts : List TaskPart) → 1 ≤ length ts → length ts ≤ 32 → kind.objects 32 (array (items_of (map write.task_data ts))) ≡ Some (map task_members ts)
 unfolding kind.objects
 objects_back ts a b = rw (all_objects ts, length-map ts task_members, le-leb 1 (length ts) a, le-leb (length ts) 32 b)
 
-tasks_back : (ms : Members) (ts : List TaskPart) → get_member (codes "tasks") ms ≡ Some (array (items_of (map write.task ts))) → AreTasks ts → All HasSets ts → tasks_at Second ms ≡ Ok ts
+tasks_back : (ms : Members) (ts : List TaskPart) → get_member (codes "tasks") ms ≡ Some (array (items_of (map write.task_data ts))) → AreTasks ts → All HasSetWords ts → tasks_at Second ms ≡ Ok ts
 unfolding tasks_at
 tasks_back ms ts e h w =
-    bind_back _ _ (map task_members ts) ts (required_back (kind.objects 32) [] (codes "tasks") ms (array (items_of (map write.task ts))) (map task_members ts) e (objects_back ts h.some h.few))
-    (each_back 0 ts (recursion_from_All IsTaskPart ts h.each) (recursion_from_All HasSets ts w))
+    bind_back _ _ (map task_members ts) ts (required_back (kind.objects 32) [] (codes "tasks") ms (array (items_of (map write.task_data ts))) (map task_members ts) e (objects_back ts h.some h.few))
+    (each_back 0 ts (recursion_from_All IsTaskPart ts h.each) (recursion_from_All HasSetWords ts w))
 
 -- ---- the certificate
 
@@ -245,15 +245,15 @@ few_back n most h =
       | inr few ↦ few
     ]
 
-counted_back : (c : Certificate) → entries c.tasks ≤ 4000000 → counted c ≡ Ok c
-unfolding counted
+counted_back : (c : Certificate) → entries c.tasks ≤ 4000000 → within_entry_limit c ≡ Ok c
+unfolding within_entry_limit
 counted_back c h = rw (few_back (entries c.tasks) 4000000 h)
 
 version_back : (ms : Members) → get_member (codes "version") ms ≡ Some (whole_number 2) → version_at ms ≡ Ok Second
 unfolding version_at
-version_back ms e = bind_back _ _ 2 Second (required_back kind.number_of [] (codes "version") ms (whole_number 2) 2 e refl) refl
+version_back ms e = bind_back _ _ 2 Second (required_back kind.unsigned_number [] (codes "version") ms (whole_number 2) 2 e refl) refl
 
-pub certificate_back : (c : Certificate) → IsCertificate c → All HasSets c.tasks → certificate_at (certificate_members c) ≡ Ok c
+pub certificate_back : (c : Certificate) → IsCertificate c → All HasSetWords c.tasks → certificate_at (certificate_members c) ≡ Ok c
 unfolding certificate_at certificate_members
 certificate_back c h w =
     bind_back _ _ Second c (version_back _ refl)

@@ -9,7 +9,7 @@ use Rattle.std.proofs.lemmas.Bool.{cases_lt}
 use mir.Syntax.{w64}
 use Rattle.json.specs.Written.{Written}
 use Rattle.crpd_base.specs.Sets.{member}
-use Rattle.cert_model.specs.Tokens.{Adds, IsNext, NoneInWord, tokens_of, tokens_by}
+use Rattle.cert_model.specs.Tokens.{Adds, IsNextMember, NoneInWord, tokens_of, tokens_by}
 use Rattle.cert_model.specs.Writing.{whole_number, numbers_below}
 use Rattle.cert_model.proofs.Adds.{none, then}
 
@@ -53,7 +53,7 @@ none_next words from word is off = record { lacks = λ t le lt. in_word words fr
 high : (n k : ℕ) → n < 2 ^ 64 → (j : ℕ) → 64 ≤ k + j → bit_at (n / 2 ^ k) j ≡ 0
 high n k fits j le = shifted n k j ∙ bit_at_above n 64 (k + j) fits le
 
-pub next : (words : List ℕ) (from word : ℕ) → from < 512 → word < 2 ^ 64 → word ≡ get_or words (from / 64) 0 → word / 2 ^ (from % 64) ≢ 0 → IsNext words from (from + trailing_zeros w64 (word / 2 ^ (from % 64)))
+pub next : (words : List ℕ) (from word : ℕ) → from < 512 → word < 2 ^ 64 → word ≡ get_or words (from / 64) 0 → word / 2 ^ (from % 64) ≢ 0 → IsNextMember words from (from + trailing_zeros w64 (word / 2 ^ (from % 64)))
 next words from word lt fits is some =
     let left = word / 2 ^ (from % 64) in
     let k = trailing_zeros w64 left in
@@ -77,7 +77,7 @@ next words from word lt fits is some =
 pub start : (words : List ℕ) (a : Written) → Adds a a (tokens_by whole_number (numbers_below words 0))
 start words a = subst (λ ns. Adds a a (tokens_by whole_number ns)) (sym (below_none words)) (none a)
 
-pub wrote_next : (words : List ℕ) (from s : ℕ) {a b c : Written} → IsNext words from s → Adds a b (tokens_by whole_number (numbers_below words from)) → Adds b c (tokens_of (whole_number s))
+pub wrote_next : (words : List ℕ) (from s : ℕ) {a b c : Written} → IsNextMember words from s → Adds a b (tokens_by whole_number (numbers_below words from)) → Adds b c (tokens_of (whole_number s))
     → Adds a c (tokens_by whole_number (numbers_below words (s + 1)))
 wrote_next words from s {a} {c = c} is h k =
     let more : numbers_below words (s + 1) ≡ numbers_below words from ++ s ∷ [] =

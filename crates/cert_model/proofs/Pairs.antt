@@ -7,7 +7,7 @@ use Rattle.std.proofs.lemmas.List.{append-nil}
 use Rattle.serde_json.specs.Data.{Data, Items, item}
 use Rattle.serde_json.specs.View.{view, items_view}
 use Rattle.serde_json.specs.declared.value.Value.{Value}
-use Rattle.cert_model.specs.Kinds.{pair, pairs_from, three}
+use Rattle.cert_model.specs.Kinds.{pair, pairs_from, three_items}
 use Rattle.cert_model.proofs.Rising.{items_from}
 
 -- the two values at a place, and those behind them
@@ -56,14 +56,14 @@ pairs_all front low limit vs i all n read =
 
 -- a list of three values, and any other list
 pub three_of_three : {A : Type 0} (f : Data → Data → Data → Option A) (vs : List Value) (a b c : Value) → length vs ≡ 3 → a ≡ get_or vs 0 a → b ≡ get_or vs 1 b → c ≡ get_or vs 2 c
-    → three f (items_view vs) ≡ f (view a) (view b) (view c)
+    → three_items f (items_view vs) ≡ f (view a) (view b) (view c)
 three_of_three f [] a b c n p q r = absurd (omega arith)
 three_of_three f (u ∷ []) a b c n p q r = absurd (omega arith)
 three_of_three f (u ∷ v ∷ []) a b c n p q r = absurd (omega arith)
 three_of_three f (u ∷ v ∷ w ∷ []) a b c n p q r = rw (p, q, r)
 three_of_three f (u ∷ v ∷ w ∷ x ∷ more) a b c n p q r = absurd (omega arith)
 
-pub three_of_others : {A : Type 0} (f : Data → Data → Data → Option A) (vs : List Value) → length vs ≢ 3 → three f (items_view vs) ≡ None
+pub three_of_others : {A : Type 0} (f : Data → Data → Data → Option A) (vs : List Value) → length vs ≢ 3 → three_items f (items_view vs) ≡ None
 three_of_others f [] n = refl
 three_of_others f (u ∷ []) n = refl
 three_of_others f (u ∷ v ∷ []) n = refl

@@ -26,12 +26,12 @@ use Rattle.crpd_base.specs.Outcome.{Gives}
 use Rattle.toml_keys.specs.Reading.{item_path}
 use Rattle.toml_keys.proofs.Laws.{guard_ok, each_all, each_length}
 use Rattle.toml_keys.proofs.Ranged.{IsBetween, between_ok, line_between, only_ok}
-use Rattle.cert_model.specs.Keys.{required, present, good}
+use Rattle.cert_model.specs.Keys.{required, value_at_key, value_or_bad}
 use Rattle.cert_model.specs.Kinds as kind
-use Rattle.crpd_base.specs.Names.{is_between, is_line, is_name}
-use Rattle.cert_model.specs.Kinds.{whole, below, number_of, all_of, listed, pair, pairs_from, state_of, three, states_from}
+use Rattle.crpd_base.specs.Names.{is_between, is_line_length, is_name}
+use Rattle.cert_model.specs.Kinds.{whole, below, unsigned_number, all_of, listed, pair, pairs_from, state_of, three_items, states_from}
 use Rattle.cert_model.specs.Ranges.{RiseFrom, IsState, ArePotentials, IsTaskPart, AreTasks, HasFewPairs, IsCertificate}
-use Rattle.cert_model.specs.Reading.{most_sets, most_nodes, most_tasks, cycles, version_at, first_platform, second_platform, platform_at, fields_at, task_at, tasks_at, entries, counted, certificate_at, whole_text, document, reading}
+use Rattle.cert_model.specs.Reading.{most_sets, most_nodes, most_tasks, cycles, version_at, first_platform, second_platform, platform_at, fields_at, task_at, tasks_at, entries, within_entry_limit, certificate_at, whole_text, document, reading}
 
 -- ---- options that gave something
 
@@ -47,11 +47,11 @@ pub record IsFrom (low limit n : ℕ) : Type 0 where
   pub within : n < limit
 
 whole_between : (low high : ℕ) (d : Data) (n : ℕ) → whole low high d ≡ Some n → IsBetween low high n
-whole_between low high d n e = between_ok low high n (only_ok (is_between low high) (number_of d) n e).0
+whole_between low high d n e = between_ok low high n (only_ok (is_between low high) (unsigned_number d) n e).0
 
 below_from : (low limit : ℕ) (d : Data) (n : ℕ) → below low limit d ≡ Some n → IsFrom low limit n
 below_from low limit d n e =
-    let test = (only_ok (λ (m : ℕ). nat_le low m && nat_lt m limit) (number_of d) n e).0 in
+    let test = (only_ok (λ (m : ℕ). nat_le low m && nat_lt m limit) (unsigned_number d) n e).0 in
     elim (cases_Bool (nat_le low n)) [
       | inl a ↦ elim (cases_Bool (nat_lt n limit)) [
         | inl b ↦ record { reaches = leb-true _ _ a; within = ltb-true _ _ b }
@@ -128,17 +128,17 @@ state_of_ok sets nodes low a b c s h e =
       state = record { sets = rise_wider (λ (p : ℕ × ℕ). p.0) 0 sets 512 sure.0 h pairs.sets; blocks = All-from_recursion (λ (p : ℕ × ℕ). p.1 < 2 ^ 32) sure.0 pairs.blocks };
     })
 
-three_ok : {A : Type 0} (f : Data → Data → Data → Option A) (ds : Items) (x : A) → three f ds ≡ Some x → (a b c : Data) × (f a b c ≡ Some x)
+three_ok : {A : Type 0} (f : Data → Data → Data → Option A) (ds : Items) (x : A) → three_items f ds ≡ Some x → (a b c : Data) × (f a b c ≡ Some x)
 three_ok f no_items x e = absurd cc
 three_ok f (item a no_items) x e = absurd cc
 three_ok f (item a (item b no_items)) x e = absurd cc
 three_ok f (item a (item b (item c no_items))) x e = (a, b, c, e)
 three_ok f (item a (item b (item c (item d ds)))) x e = absurd cc
 
-state_ok : (sets nodes low : ℕ) (d : Data) (s : NodeState) → sets ≤ 512 → kind.state sets nodes low d ≡ Some s → IsStateFrom low nodes s
-unfolding kind.state
+state_ok : (sets nodes low : ℕ) (d : Data) (s : NodeState) → sets ≤ 512 → kind.state_value sets nodes low d ≡ Some s → IsStateFrom low nodes s
+unfolding kind.state_value
 state_ok sets nodes low d s h e =
-    let ds = and_then_ok (as_array d) (three (state_of sets nodes low)) s e in
+    let ds = and_then_ok (as_array d) (three_items (state_of sets nodes low)) s e in
     let parts = three_ok (state_of sets nodes low) ds.0 s ds.2 in
     state_of_ok sets nodes low parts.0 parts.1 parts.2 s h parts.3
 
@@ -149,7 +149,7 @@ record AreStates (low limit : ℕ) (ss : List NodeState) : Type 0 where
 states_from_ok : (sets nodes low : ℕ) (ds : Items) (ss : List NodeState) → sets ≤ 512 → states_from sets nodes low ds ≡ Some ss → AreStates low nodes ss
 states_from_ok sets nodes low no_items ss h e = subst (AreStates low nodes) (same_Some [] ss e) (record { nodes = tt; states = tt })
 states_from_ok sets nodes low (item d ds) ss h e =
-    let a = and_then_ok (kind.state sets nodes low d) _ ss e in
+    let a = and_then_ok (kind.state_value sets nodes low d) _ ss e in
     let m = mapped_some (states_from sets nodes (a.0.node + 1) ds) (λ more. a.0 ∷ more) ss a.2 in
     let one = state_ok sets nodes low d a.0 h a.1 in
     let more = states_from_ok sets nodes (a.0.node + 1) ds m.0 h m.1 in
@@ -174,9 +174,9 @@ potentials_ok most d ns h e =
       each = All-from_recursion (λ (n : ℕ). n ≤ 2 ^ 40) ns (all_of_ok (λ (n : ℕ). n ≤ 2 ^ 40) (whole 0 (2 ^ 40)) (λ x n k. (whole_between 0 (2 ^ 40) x n k).within) ds.0 ns ds.2);
     }
 
-line_ok : (d : Data) (n : ℕ) → kind.line d ≡ Some n → is_line n ≡ true
-unfolding kind.line
-line_ok d n e = (only_ok is_line (number_of d) n e).0
+line_ok : (d : Data) (n : ℕ) → kind.line_bytes d ≡ Some n → is_line_length n ≡ true
+unfolding kind.line_bytes
+line_ok d n e = (only_ok is_line_length (unsigned_number d) n e).0
 
 name_ok : (d : Data) (s : List ℕ) → kind.name d ≡ Some s → is_name s ≡ true
 unfolding kind.name
@@ -188,7 +188,7 @@ objects_ok most d ts e = between_ok 1 most (length ts) (only_ok (λ (us : List M
 
 -- ---- keys
 
-good_ok : {A : Type 0} (path key : List ℕ) (o : Option A) (x : A) → good path key o ≡ Ok x → o ≡ Some x
+good_ok : {A : Type 0} (path key : List ℕ) (o : Option A) (x : A) → value_or_bad path key o ≡ Ok x → o ≡ Some x
 good_ok path key None x e = absurd cc
 good_ok path key (Some y) x e = ap (λ v. Some v) (ok_is y x e)
 
@@ -196,7 +196,7 @@ good_ok path key (Some y) x e = ap (λ v. Some v) (ok_is y x e)
 required_ok : {A : Type 0} (read : Data → Option A) (path key : List ℕ) (ms : Members) (x : A) → required read path key ms ≡ Ok x → (d : Data) × (read d ≡ Some x)
 unfolding required
 required_ok read path key ms x e =
-    let d = bind_ok (present path key ms) _ x e in
+    let d = bind_ok (value_at_key path key ms) _ x e in
     (d.0, good_ok path key (read d.0) x d.2)
 
 required_between : (low high : ℕ) (path key : List ℕ) (ms : Members) (n : ℕ) → required (whole low high) path key ms ≡ Ok n → IsBetween low high n
@@ -204,9 +204,9 @@ required_between low high path key ms n e =
     let d = required_ok (whole low high) path key ms n e in
     whole_between low high d.0 n d.1
 
-required_line : (path key : List ℕ) (ms : Members) (n : ℕ) → required kind.line path key ms ≡ Ok n → is_line n ≡ true
+required_line : (path key : List ℕ) (ms : Members) (n : ℕ) → required kind.line_bytes path key ms ≡ Ok n → is_line_length n ≡ true
 required_line path key ms n e =
-    let d = required_ok kind.line path key ms n e in
+    let d = required_ok kind.line_bytes path key ms n e in
     line_ok d.0 n d.1
 
 required_potentials : (most : ℕ) (path key : List ℕ) (ms : Members) (ns : List ℕ) → most ≤ 16384 → required (kind.potentials most) path key ms ≡ Ok ns → ArePotentials ns
@@ -221,7 +221,7 @@ unfolding first_platform
 first_ranged path ms p e =
     let memory = bind_ok (required cycles path (codes "data") ms) _ p e in
     let hit = bind_ok (required (whole 1 65535) path (codes "hit") ms) _ p memory.2 in
-    let line = bind_ok (required kind.line path (codes "line") ms) _ p hit.2 in
+    let line = bind_ok (required kind.line_bytes path (codes "line") ms) _ p hit.2 in
     let miss = bind_ok (required cycles path (codes "miss") ms) _ p line.2 in
     let sets = bind_ok (required (whole 1 256) path (codes "sets") ms) _ p miss.2 in
     let switch = bind_ok (required cycles path (codes "switch") ms) _ p sets.2 in
@@ -250,7 +250,7 @@ second_ranged path ms p e =
     let memory = bind_ok (required cycles path (codes "data") ms) _ p e in
     let div = bind_ok (required cycles path (codes "div") ms) _ p memory.2 in
     let hit = bind_ok (required (whole 1 65535) path (codes "hit") ms) _ p div.2 in
-    let line = bind_ok (required kind.line path (codes "line") ms) _ p hit.2 in
+    let line = bind_ok (required kind.line_bytes path (codes "line") ms) _ p hit.2 in
     let miss = bind_ok (required cycles path (codes "miss") ms) _ p line.2 in
     let mul = bind_ok (required cycles path (codes "mul") ms) _ p miss.2 in
     let sets = bind_ok (required (whole 1 512) path (codes "sets") ms) _ p mul.2 in
@@ -357,8 +357,8 @@ few_pairs tasks i t are lt is = λ k d h. few_of _ ((task_of tasks i t are lt is
 
 -- ---- the certificate
 
-counted_ok : (c d : Certificate) → counted c ≡ Ok d → (c ≡ d) × (entries c.tasks ≤ 4000000)
-unfolding counted
+counted_ok : (c d : Certificate) → within_entry_limit c ≡ Ok d → (c ≡ d) × (entries c.tasks ≤ 4000000)
+unfolding within_entry_limit
 counted_ok c d e =
     let test = guard_ok (nat_lt 4000000 (entries c.tasks)) (TooLong (entries c.tasks)) (Ok c) d e in
     (ok_is c d test.1, ltb-false _ _ test.0)

@@ -19,7 +19,7 @@ use Rattle.crpd_base.specs.declared.data.Platform.{Platform}
 use Rattle.crpd_base.specs.declared.data.TaskPart.{TaskPart}
 use Rattle.cert_model.specs.Ranges.{RiseFrom, IsState, ArePotentials, IsTaskPart, IsCertificate}
 use Rattle.cert_model.specs.Tokens.{tokens_of}
-use Rattle.cert_model.specs.Writing.{whole_number, numbers, numbers_below, set_numbers, pairs, state, task, platform_members, task_members, certificate_members}
+use Rattle.cert_model.specs.Writing.{whole_number, numbers_data, numbers_below, set_data, pair_items, state_data, task_data, platform_members, task_members, certificate_members}
 use Rattle.cert_model.proofs.Back.{below_rise}
 
 -- ---- each part of the tree
@@ -38,33 +38,33 @@ each_number : (ns : List ℕ) → AllByRecursion (λ n. n ≤ 2 ^ 40) ns → All
 each_number [] h = tt
 each_number (n ∷ ns) h = (number_read n (omega (arith, h.0)), each_number ns h.1)
 
-potentials_read : (ns : List ℕ) → ArePotentials ns → IsRead (numbers ns)
+potentials_read : (ns : List ℕ) → ArePotentials ns → IsRead (numbers_data ns)
 potentials_read ns h = ap (option_map array) (items_read whole_number ns (each_number ns (recursion_from_All (λ n. n ≤ 2 ^ 40) ns h.each)))
 
 risen : (low : ℕ) (ns : List ℕ) → RiseFrom (λ (n : ℕ). n) low 512 ns → AllByRecursion (λ n. IsRead (whole_number n)) ns
 risen low [] h = tt
 risen low (n ∷ ns) h = (number_read n (omega (arith, h.1)), risen (n + 1) ns h.2)
 
-set_read : (words : List ℕ) → IsRead (set_numbers words)
-unfolding set_numbers
+set_read : (words : List ℕ) → IsRead (set_data words)
+unfolding set_data
 set_read words = ap (option_map array) (items_read whole_number (numbers_below words 512) (risen 0 (numbers_below words 512) (below_rise words 512)))
 
-pairs_read : (low : ℕ) (ps : List (ℕ × ℕ)) → RiseFrom (λ (p : ℕ × ℕ). p.0) low 512 ps → AllByRecursion (λ (p : ℕ × ℕ). p.1 < 2 ^ 32) ps → of_items (items_outline (pairs ps)) ≡ Some (pairs ps)
+pairs_read : (low : ℕ) (ps : List (ℕ × ℕ)) → RiseFrom (λ (p : ℕ × ℕ). p.0) low 512 ps → AllByRecursion (λ (p : ℕ × ℕ). p.1 < 2 ^ 32) ps → of_items (items_outline (pair_items ps)) ≡ Some (pair_items ps)
 pairs_read low [] r h = refl
 pairs_read low (p ∷ ps) r h = rw (number_of-decimal p.0 (omega (arith, r.1)), number_of-decimal p.1 (omega (arith, h.0)), pairs_read (p.0 + 1) ps r.2 h.1)
 
-sure_read : (s : NodeState) → IsState s → of_items (items_outline (pairs s.sure)) ≡ Some (pairs s.sure)
+sure_read : (s : NodeState) → IsState s → of_items (items_outline (pair_items s.sure)) ≡ Some (pair_items s.sure)
 sure_read s h = pairs_read 0 s.sure h.sets (recursion_from_All (λ (p : ℕ × ℕ). p.1 < 2 ^ 32) s.sure h.blocks)
 
-state_read : (s : NodeState) → s.node < 16384 → IsState s → IsRead (state s)
+state_read : (s : NodeState) → s.node < 16384 → IsState s → IsRead (state_data s)
 state_read s n h = rw (number_of-decimal s.node (omega arith), sure_read s h, set_read s.useful)
 
-each_state : (low : ℕ) (ss : List NodeState) → RiseFrom (λ (s : NodeState). s.node) low 16384 ss → AllByRecursion IsState ss → AllByRecursion (λ s. IsRead (state s)) ss
+each_state : (low : ℕ) (ss : List NodeState) → RiseFrom (λ (s : NodeState). s.node) low 16384 ss → AllByRecursion IsState ss → AllByRecursion (λ s. IsRead (state_data s)) ss
 each_state low [] r h = tt
 each_state low (s ∷ ss) r h = (state_read s r.1 h.0, each_state (s.node + 1) ss r.2 h.1)
 
-states_read : (t : TaskPart) → IsTaskPart t → IsRead (array (items_of (map state t.states)))
-states_read t h = ap (option_map array) (items_read state t.states (each_state 0 t.states h.nodes (recursion_from_All IsState t.states h.states)))
+states_read : (t : TaskPart) → IsTaskPart t → IsRead (array (items_of (map state_data t.states)))
+states_read t h = ap (option_map array) (items_read state_data t.states (each_state 0 t.states h.nodes (recursion_from_All IsState t.states h.states)))
 
 platform_read : (p : Platform) → IsPlatform p → IsRead (object (platform_members p))
 unfolding platform_members
@@ -81,7 +81,7 @@ platform_read p h =
       number_of-decimal p.taken (omega (arith, h.taken)),
     )
 
-task_read : (t : TaskPart) → IsTaskPart t → IsRead (task t)
+task_read : (t : TaskPart) → IsTaskPart t → IsRead (task_data t)
 unfolding task_members
 task_read t h =
     rw (
@@ -95,14 +95,14 @@ task_read t h =
       number_of-decimal t.window (omega (arith, h.window)),
     )
 
-each_task : (ts : List TaskPart) → AllByRecursion IsTaskPart ts → AllByRecursion (λ t. IsRead (task t)) ts
+each_task : (ts : List TaskPart) → AllByRecursion IsTaskPart ts → AllByRecursion (λ t. IsRead (task_data t)) ts
 each_task [] h = tt
 each_task (t ∷ ts) h = (task_read t h.0, each_task ts h.1)
 
 certificate_read : (c : Certificate) → IsCertificate c → IsRead (object (certificate_members c))
 unfolding certificate_members
 certificate_read c h =
-    rw (platform_read c.platform h.platform, items_read task c.tasks (each_task c.tasks (recursion_from_All IsTaskPart c.tasks h.tasks.each)), number_of-decimal 2 (omega arith))
+    rw (platform_read c.platform h.platform, items_read task_data c.tasks (each_task c.tasks (recursion_from_All IsTaskPart c.tasks h.tasks.each)), number_of-decimal 2 (omega arith))
 
 -- ---- it is not deep
 
@@ -130,29 +130,29 @@ items_low f k one (x ∷ xs) = omega (arith, one x, items_low f k one xs)
 number_low : (n : ℕ) → depth (whole_number n) ≤ 0
 number_low n = omega arith
 
-pairs_low : (ps : List (ℕ × ℕ)) → items_depth (pairs ps) ≤ 0
+pairs_low : (ps : List (ℕ × ℕ)) → items_depth (pair_items ps) ≤ 0
 pairs_low [] = omega arith
 pairs_low (p ∷ ps) = omega (arith, pairs_low ps)
 
-set_low : (words : List ℕ) → depth (set_numbers words) ≤ 1
-unfolding set_numbers
+set_low : (words : List ℕ) → depth (set_data words) ≤ 1
+unfolding set_data
 set_low words = omega (arith, items_low whole_number 0 number_low (numbers_below words 512))
 
-state_low : (s : NodeState) → depth (state s) ≤ 2
+state_low : (s : NodeState) → depth (state_data s) ≤ 2
 state_low s = omega (arith, pairs_low s.sure, set_low s.useful)
 
 platform_low : (p : Platform) → members_depth (platform_members p) ≤ 0
 unfolding platform_members
 platform_low p = omega arith
 
-task_low : (t : TaskPart) → depth (task t) ≤ 4
+task_low : (t : TaskPart) → depth (task_data t) ≤ 4
 unfolding task_members
 task_low t =
-    omega (arith, set_low t.part.evicting, items_low whole_number 0 number_low t.loops, items_low whole_number 0 number_low t.potentials, items_low state 2 state_low t.states, set_low t.part.useful)
+    omega (arith, set_low t.part.evicting, items_low whole_number 0 number_low t.loops, items_low whole_number 0 number_low t.potentials, items_low state_data 2 state_low t.states, set_low t.part.useful)
 
 certificate_low : (c : Certificate) → depth (object (certificate_members c)) ≤ max_depth
 unfolding certificate_members
-certificate_low c = omega (arith, platform_low c.platform, items_low task 4 task_low c.tasks)
+certificate_low c = omega (arith, platform_low c.platform, items_low task_data 4 task_low c.tasks)
 
 -- ---- the whole
 

@@ -7,16 +7,16 @@ use Rattle.cert_model.specs.declared.fault.CertError.TheVariants.{Missing, BadVa
 use Rattle.crpd_base.specs.Outcome.{◌>>=◌}
 
 -- the value at a key, which is missing else
-abbrev pub present : List ℕ → List ℕ → Members → Result Data CertError
-present path key ms = elim (get_member key ms) [ None ↦ Err (Missing (path ++ key)) | Some d ↦ Ok d ]
+abbrev pub value_at_key : List ℕ → List ℕ → Members → Result Data CertError
+value_at_key path key ms = elim (get_member key ms) [ None ↦ Err (Missing (path ++ key)) | Some d ↦ Ok d ]
 
 -- what a kind read from a value; where it read nothing, the value is bad
-abbrev pub good : {A : Type 0} → List ℕ → List ℕ → Option A → Result A CertError
-good path key None = Err (BadValue (path ++ key))
-good path key (Some x) = Ok x
+abbrev pub value_or_bad : {A : Type 0} → List ℕ → List ℕ → Option A → Result A CertError
+value_or_bad path key None = Err (BadValue (path ++ key))
+value_or_bad path key (Some x) = Ok x
 
 -- a key: missing comes before bad
 unfoldable pub required : {A : Type 0} → (Data → Option A) → List ℕ → List ℕ → Members → Result A CertError
 required kind path key ms = do
-  d ← present path key ms
-  good path key (kind d)
+  d ← value_at_key path key ms
+  value_or_bad path key (kind d)

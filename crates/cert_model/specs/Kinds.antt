@@ -4,7 +4,7 @@ use Rattle.std.specs.List.{list_all, list_any}
 use Rattle.std.specs.Str.{bytes_eq}
 use Rattle.serde_json.specs.Data.{Data, Items, no_items, item, Members}
 use Rattle.serde_json.specs.Find.{as_number, as_u64, as_str, as_array, as_object}
-use Rattle.crpd_base.specs.Names.{is_between, is_line, is_name}
+use Rattle.crpd_base.specs.Names.{is_between, is_line_length, is_name}
 use Rattle.crpd_base.specs.declared.data.Method.{Method}
 use Rattle.crpd_base.specs.declared.data.Method.TheVariants.{Ucb, Ecb}
 use Rattle.crpd_base.specs.declared.data.NodeState.{NodeState}
@@ -19,20 +19,20 @@ x >>= f = option_and_then f x
 -- ---- numbers
 
 -- a number that is kept as an unsigned one of 64 bits: none has a point, an exponent or a sign
-abbrev pub number_of : Data → Option ℕ
-number_of d = as_number d >>= as_u64
+abbrev pub unsigned_number : Data → Option ℕ
+unsigned_number d = as_number d >>= as_u64
 
 -- a number from low to high
 abbrev pub whole : ℕ → ℕ → Data → Option ℕ
-whole low high d = only (is_between low high) (number_of d)
+whole low high d = only (is_between low high) (unsigned_number d)
 
 -- a number from low on, below a limit
 abbrev pub below : ℕ → ℕ → Data → Option ℕ
-below low limit d = only (λ n. nat_le low n && nat_lt n limit) (number_of d)
+below low limit d = only (λ n. nat_le low n && nat_lt n limit) (unsigned_number d)
 
 -- the length of a cache line in bytes
-unfoldable pub line : Data → Option ℕ
-line d = only is_line (number_of d)
+unfoldable pub line_bytes : Data → Option ℕ
+line_bytes d = only is_line_length (unsigned_number d)
 
 -- ---- texts
 
@@ -119,17 +119,17 @@ state_of sets nodes low node sure useful = do
   words ← set_numbers sets useful
   Some (record { node = n; sure = pairs; useful = words })
 
-abbrev pub three : {A : Type 0} → (Data → Data → Data → Option A) → Items → Option A
-three f (item a (item b (item c no_items))) = f a b c
-three f _ = None
+abbrev pub three_items : {A : Type 0} → (Data → Data → Data → Option A) → Items → Option A
+three_items f (item a (item b (item c no_items))) = f a b c
+three_items f _ = None
 
-unfoldable pub state : ℕ → ℕ → ℕ → Data → Option NodeState
-state sets nodes low d = as_array d >>= three (state_of sets nodes low)
+unfoldable pub state_value : ℕ → ℕ → ℕ → Data → Option NodeState
+state_value sets nodes low d = as_array d >>= three_items (state_of sets nodes low)
 
 -- each node above the one before: so there are at most as many as the limit says
 abbrev pub states_from : ℕ → ℕ → ℕ → Items → Option (List NodeState)
 states_from sets nodes low no_items = Some []
-states_from sets nodes low (item d ds) = state sets nodes low d >>= (λ s. option_map (λ more. s ∷ more) (states_from sets nodes (s.node + 1) ds))
+states_from sets nodes low (item d ds) = state_value sets nodes low d >>= (λ s. option_map (λ more. s ∷ more) (states_from sets nodes (s.node + 1) ds))
 
 unfoldable pub states : ℕ → ℕ → Data → Option (List NodeState)
 states sets nodes d = as_array d >>= states_from sets nodes 0

@@ -39,7 +39,7 @@ pub record IsTaskPart (t : TaskPart) : Type 0 where
   pub window : t.window ≤ 2 ^ 40
 
 -- the sets of a task are sets of numbers below 512
-pub record HasSets (t : TaskPart) : Type 0 where
+pub record HasSetWords (t : TaskPart) : Type 0 where
   pub evicting : AreWords 8 t.part.evicting
   pub useful : AreWords 8 t.part.useful
   pub states : All (λ (s : NodeState). AreWords 8 s.useful) t.states

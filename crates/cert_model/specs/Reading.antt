@@ -15,7 +15,7 @@ use Rattle.cert_model.specs.declared.fault.CertError.TheVariants.{NotJson, BadVa
 use Rattle.cert_model.specs.declared.version.Version.{Version}
 use Rattle.cert_model.specs.declared.version.Version.TheVariants.{First, Second}
 use Rattle.cert_model.specs.Kinds as kind
-use Rattle.cert_model.specs.Kinds.{whole, number_of}
+use Rattle.cert_model.specs.Kinds.{whole, unsigned_number}
 use Rattle.crpd_base.specs.Outcome.{◌>>=◌}
 use Rattle.toml_keys.specs.Reading.{item_path, each}
 use Rattle.cert_model.specs.Keys.{required}
@@ -43,7 +43,7 @@ version_numbered n = if n == 1 then Ok First else if n == 2 then Ok Second else 
 
 unfoldable pub version_at : Members → Result Version CertError
 version_at ms = do
-  n ← required number_of [] (codes "version") ms
+  n ← required unsigned_number [] (codes "version") ms
   version_numbered n
 
 -- ---- the platform
@@ -57,7 +57,7 @@ unfoldable pub first_platform : List ℕ → Members → Result Platform CertErr
 first_platform path ms = do
   memory ← required cycles path (codes "data") ms
   hit ← required (whole 1 65535) path (codes "hit") ms
-  line ← required kind.line path (codes "line") ms
+  line ← required kind.line_bytes path (codes "line") ms
   miss ← required cycles path (codes "miss") ms
   sets ← required (whole 1 256) path (codes "sets") ms
   switch ← required cycles path (codes "switch") ms
@@ -69,7 +69,7 @@ second_platform path ms = do
   memory ← required cycles path (codes "data") ms
   div ← required cycles path (codes "div") ms
   hit ← required (whole 1 65535) path (codes "hit") ms
-  line ← required kind.line path (codes "line") ms
+  line ← required kind.line_bytes path (codes "line") ms
   miss ← required cycles path (codes "miss") ms
   mul ← required cycles path (codes "mul") ms
   sets ← required (whole 1 512) path (codes "sets") ms
@@ -119,8 +119,8 @@ task_entries t = sum_by state_entries t.states
 abbrev pub entries : List TaskPart → ℕ
 entries tasks = sum_by task_entries tasks
 
-unfoldable pub counted : Certificate → Result Certificate CertError
-counted c = if nat_lt 4000000 (entries c.tasks) then Err (TooLong (entries c.tasks)) else Ok c
+unfoldable pub within_entry_limit : Certificate → Result Certificate CertError
+within_entry_limit c = if nat_lt 4000000 (entries c.tasks) then Err (TooLong (entries c.tasks)) else Ok c
 
 unfoldable pub tasks_at : Version → Members → Result (List TaskPart) CertError
 tasks_at version ms = do
@@ -133,7 +133,7 @@ certificate_at ms = do
   object ← required as_object [] (codes "platform") ms
   platform ← platform_at version (codes "platform.") object
   tasks ← tasks_at version ms
-  counted (record { platform = platform; tasks = tasks })
+  within_entry_limit (record { platform = platform; tasks = tasks })
 
 abbrev pub whole_text : Option Members → Result Certificate CertError
 whole_text None = Err (BadValue (codes "-"))

@@ -30,7 +30,7 @@ abbrev pub AppendsAt : {E : Type 0} → Result (Unit {0}) E → Written → Writ
 AppendsAt r old new name d = OnOk r (Adds old new (key name ∷ tokens_of d))
 
 -- s is the least number of the set from one on
-pub record IsNext (words : List ℕ) (from s : ℕ) : Type 0 where
+pub record IsNextMember (words : List ℕ) (from s : ℕ) : Type 0 where
   pub above : from ≤ s
   pub below : s < 512
   pub there : member words s ≡ 1

@@ -15,25 +15,25 @@ use Rattle.serde_json.specs.Written.{compact_text}
 abbrev pub whole_number : ℕ → Data
 whole_number n = number (unsigned n)
 
-abbrev pub numbers : List ℕ → Data
-numbers ns = array (items_of (map whole_number ns))
+abbrev pub numbers_data : List ℕ → Data
+numbers_data ns = array (items_of (map whole_number ns))
 
 -- the numbers below n of a set, in order
 unfoldable pub numbers_below : List ℕ → ℕ → List ℕ
 numbers_below words zero = []
 numbers_below words (suc n) = if has words n then numbers_below words n ++ n ∷ [] else numbers_below words n
 
-unfoldable pub set_numbers : List ℕ → Data
-set_numbers words = numbers (numbers_below words 512)
+unfoldable pub set_data : List ℕ → Data
+set_data words = numbers_data (numbers_below words 512)
 
 -- set, block, set, block
-abbrev pub pairs : List (ℕ × ℕ) → Items
-pairs [] = no_items
-pairs (p ∷ ps) = item (whole_number p.0) (item (whole_number p.1) (pairs ps))
+abbrev pub pair_items : List (ℕ × ℕ) → Items
+pair_items [] = no_items
+pair_items (p ∷ ps) = item (whole_number p.0) (item (whole_number p.1) (pair_items ps))
 
 -- a list of three: the node, its sure pairs and its useful sets
-abbrev pub state : NodeState → Data
-state s = array (item (whole_number s.node) (item (array (pairs s.sure)) (item (set_numbers s.useful) no_items)))
+abbrev pub state_data : NodeState → Data
+state_data s = array (item (whole_number s.node) (item (array (pair_items s.sure)) (item (set_data s.useful) no_items)))
 
 abbrev pub switching_name : Switching → List ℕ
 switching_name Cycle = codes "cycle"
@@ -55,23 +55,23 @@ platform_members p =
 unfoldable pub task_members : TaskPart → Members
 task_members t =
     member (codes "bound") (whole_number t.part.bound) (
-    member (codes "evicting") (set_numbers t.part.evicting) (
-    member (codes "loops") (numbers t.loops) (
+    member (codes "evicting") (set_data t.part.evicting) (
+    member (codes "loops") (numbers_data t.loops) (
     member (codes "method") (string (method_name t.method)) (
     member (codes "name") (string t.name) (
-    member (codes "potentials") (numbers t.potentials) (
+    member (codes "potentials") (numbers_data t.potentials) (
     member (codes "response") (whole_number t.response) (
-    member (codes "states") (array (items_of (map state t.states))) (
-    member (codes "useful") (set_numbers t.part.useful) (
+    member (codes "states") (array (items_of (map state_data t.states))) (
+    member (codes "useful") (set_data t.part.useful) (
     member (codes "window") (whole_number t.window) no_members)))))))))
 
-abbrev pub task : TaskPart → Data
-task t = object (task_members t)
+abbrev pub task_data : TaskPart → Data
+task_data t = object (task_members t)
 
 unfoldable pub certificate_members : Certificate → Members
 certificate_members c =
     member (codes "platform") (object (platform_members c.platform)) (
-    member (codes "tasks") (array (items_of (map task c.tasks))) (
+    member (codes "tasks") (array (items_of (map task_data c.tasks))) (
     member (codes "version") (whole_number 2) no_members))
 
 -- The text of a certificate.

@@ -32,7 +32,7 @@ impl<'a> Keys<'a> {
 
     /// The value at a key that has to be there, else `Missing`. Memory is taken for the path of a refusal alone.
     pub fn present(&self, alloc: Global, key: &str) -> Result<&'a Value, CertError>
-        ensures { Gives CertError.Memory (λ v. view v.now) result (spec.present self.now.path.now key.now (members_view self.now.object.now.entries)) }
+        ensures { Gives CertError.Memory (λ v. view v.now) result (spec.value_at_key self.now.path.now key.now (members_view self.now.object.now.entries)) }
     {
         match self.get(key) {
             Some(value) => Ok(value),
@@ -42,7 +42,7 @@ impl<'a> Keys<'a> {
 
     /// What was read from the value at a key, else `BadValue`. Memory is taken for the path of a refusal alone.
     pub fn good<T: Drop>(&self, alloc: Global, key: &str, read: Option<T>) -> Result<T, CertError>
-        ensures { Gives CertError.Memory (λ x. x) result (spec.good self.now.path.now key.now read) }
+        ensures { Gives CertError.Memory (λ x. x) result (spec.value_or_bad self.now.path.now key.now read) }
     {
         match read {
             Some(x) => Ok(x),

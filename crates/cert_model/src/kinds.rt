@@ -37,9 +37,9 @@ pub fn below(value: &Value, low: u64, limit: u64) -> Option<u64>
 }
 
 /// The length of a cache line in bytes: 4, 8, 16, 32 or 64, None for any other value. In constant time.
-#[tactic(auto, unfolding(crate::specs::Kinds::line))]
+#[tactic(auto, unfolding(crate::specs::Kinds::line_bytes))]
 pub fn line(value: &Value) -> Option<u32>
-    ensures { result ≡ spec.line (view value.now) }
+    ensures { result ≡ spec.line_bytes (view value.now) }
 {
     line_length(value.as_u64()?)
 }

@@ -25,7 +25,7 @@ const FIRST_SETS: u32 = 256;
 
 #[tactic(auto, unfolding(crate::specs::Keys::required))]
 fn line_at(alloc: Global, keys: Keys) -> Result<u32, CertError>
-    ensures { Gives CertError.Memory (λ x. x) result (required kind.line keys.entry.path.now (codes "line") (members_view keys.entry.object.now.entries)) }
+    ensures { Gives CertError.Memory (λ x. x) result (required kind.line_bytes keys.entry.path.now (codes "line") (members_view keys.entry.object.now.entries)) }
 {
     keys.good(alloc, "line", line(keys.present(alloc, "line")?))
 }

@@ -85,10 +85,10 @@ fn entries(tasks: &[TaskPart]) -> u64
 }
 
 /// The certificate, where it has few enough state entries.
-#[tactic(auto, unfolding(crate::specs::Reading::counted))]
+#[tactic(auto, unfolding(crate::specs::Reading::within_entry_limit))]
 fn counted(certificate: Certificate) -> Result<Certificate, CertError>
     requires { AreTasks certificate.tasks }
-    ensures { result ≡ spec.counted certificate }
+    ensures { result ≡ spec.within_entry_limit certificate }
 {
     let entries = entries(certificate.tasks.as_slice());
     if entries > MOST_ENTRIES {

@@ -86,7 +86,7 @@ fn state_of(
 }
 
 /// A list of three: the node, its sure pairs and its useful sets.
-#[tactic(auto, using(crate::proofs::Pairs::three_of_three, crate::proofs::Pairs::three_of_others), unfolding(crate::specs::Kinds::state))]
+#[tactic(auto, using(crate::proofs::Pairs::three_of_three, crate::proofs::Pairs::three_of_others), unfolding(crate::specs::Kinds::state_value))]
 fn state(
     alloc: Global,
     sets: u64,
@@ -96,7 +96,7 @@ fn state(
 ) -> Result<Option<NodeState>, AllocError>
     requires sets { sets ≤ 512 }
     requires nodes { nodes ≤ 16384 }
-    ensures is { IfOk result (λ s. s ≡ spec.state sets nodes low (view value.now)) }
+    ensures is { IfOk result (λ s. s ≡ spec.state_value sets nodes low (view value.now)) }
     ensures bound { IfOk result (λ s. IfSome s (λ s. s.node < nodes)) }
 {
     match value.as_array() {

@@ -7,9 +7,9 @@ ghost use Rattle.crpd_base.specs.declared.data.NodeState.{NodeState};
 ghost use Rattle.json.specs.Lex.{tokens};
 ghost use Rattle.serde_json.specs.Data.{array, object, string};
 ghost use Rattle.serde_json.specs.View.{items_of};
-ghost use Rattle.cert_model.specs.Ranges.{HasSets, IsCertificate};
+ghost use Rattle.cert_model.specs.Ranges.{HasSetWords, IsCertificate};
 ghost use Rattle.cert_model.specs.Reading.{reading};
-ghost use Rattle.cert_model.specs.Tokens.{Appends, AppendsAt, IsNext, NoneInWord, tokens_of};
+ghost use Rattle.cert_model.specs.Tokens.{Appends, AppendsAt, IsNextMember, NoneInWord, tokens_of};
 ghost use Rattle.cert_model.specs.Writing as spec;
 
 use crpd_base::{
@@ -19,7 +19,7 @@ use json::Writer;
 use std::alloc::{AllocError, Global};
 
 fn numbers(out: &mut Writer, list: &[u64]) -> Result<(), AllocError>
-    ensures { Appends result out.old out.new (spec.numbers list.now) }
+    ensures { Appends result out.old out.new (spec.numbers_data list.now) }
 {
     out.begin_array()?;
     for number in list {
@@ -31,7 +31,7 @@ fn numbers(out: &mut Writer, list: &[u64]) -> Result<(), AllocError>
 /// The least number of a set from one on, which is below 512, within its word of 64. In constant time.
 fn next_number(set: &SetBits<WORDS>, from: u16) -> Option<u16>
     requires { from < 512 }
-    ensures { MatchOption result (NoneInWord set.now from) (IsNext set.now from) }
+    ensures { MatchOption result (NoneInWord set.now from) (IsNextMember set.now from) }
 {
     let left = set.word(from as usize / 64) >> (from % 64);
     if left == 0 {
@@ -42,7 +42,7 @@ fn next_number(set: &SetBits<WORDS>, from: u16) -> Option<u16>
 
 /// The numbers of a set, in order.
 fn set_numbers(out: &mut Writer, set: &SetBits<WORDS>) -> Result<(), AllocError>
-    ensures { Appends result out.old out.new (spec.set_numbers set.now) }
+    ensures { Appends result out.old out.new (spec.set_data set.now) }
 {
     out.begin_array()?;
     let mut from = 0;
@@ -59,7 +59,7 @@ fn set_numbers(out: &mut Writer, set: &SetBits<WORDS>) -> Result<(), AllocError>
 }
 
 fn pairs(out: &mut Writer, sure: &[(u16, u32)]) -> Result<(), AllocError>
-    ensures { Appends result out.old out.new (array (spec.pairs sure.now)) }
+    ensures { Appends result out.old out.new (array (spec.pair_items sure.now)) }
 {
     out.begin_array()?;
     for (set, block) in sure {
@@ -71,7 +71,7 @@ fn pairs(out: &mut Writer, sure: &[(u16, u32)]) -> Result<(), AllocError>
 
 /// A node, its sure pairs and its useful sets.
 fn state(out: &mut Writer, state: &NodeState) -> Result<(), AllocError>
-    ensures { Appends result out.old out.new (spec.state state.now) }
+    ensures { Appends result out.old out.new (spec.state_data state.now) }
 {
     out.begin_array()?;
     out.u64(u64::from(state.node))?;
@@ -81,7 +81,7 @@ fn state(out: &mut Writer, state: &NodeState) -> Result<(), AllocError>
 }
 
 fn states(out: &mut Writer, list: &[NodeState]) -> Result<(), AllocError>
-    ensures { Appends result out.old out.new (array (items_of (map spec.state list.now))) }
+    ensures { Appends result out.old out.new (array (items_of (map spec.state_data list.now))) }
 {
     out.begin_array()?;
     for node in list {
@@ -129,14 +129,14 @@ fn text_at(out: &mut Writer, name: &str, value: &str) -> Result<(), AllocError>
 }
 
 fn numbers_at(out: &mut Writer, name: &str, list: &[u64]) -> Result<(), AllocError>
-    ensures { AppendsAt result out.old out.new name.now (spec.numbers list.now) }
+    ensures { AppendsAt result out.old out.new name.now (spec.numbers_data list.now) }
 {
     out.key(name)?;
     numbers(out, list)
 }
 
 fn set_at(out: &mut Writer, name: &str, set: &SetBits<WORDS>) -> Result<(), AllocError>
-    ensures { AppendsAt result out.old out.new name.now (spec.set_numbers set.now) }
+    ensures { AppendsAt result out.old out.new name.now (spec.set_data set.now) }
 {
     out.key(name)?;
     set_numbers(out, set)
@@ -144,7 +144,7 @@ fn set_at(out: &mut Writer, name: &str, set: &SetBits<WORDS>) -> Result<(), Allo
 
 fn states_at(out: &mut Writer, name: &str, list: &[NodeState]) -> Result<(), AllocError>
     ensures { AppendsAt result out.old out.new name.now
-        (array (items_of (map spec.state list.now))) }
+        (array (items_of (map spec.state_data list.now))) }
 {
     out.key(name)?;
     states(out, list)
@@ -168,7 +168,7 @@ fn platform(out: &mut Writer, platform: &Platform) -> Result<(), AllocError>
 }
 
 fn task(out: &mut Writer, task: &TaskPart) -> Result<(), AllocError>
-    ensures { Appends result out.old out.new (spec.task task.now) }
+    ensures { Appends result out.old out.new (spec.task_data task.now) }
 {
     out.begin_object()?;
     number_at(out, "bound", task.part.bound)?;
@@ -185,7 +185,7 @@ fn task(out: &mut Writer, task: &TaskPart) -> Result<(), AllocError>
 }
 
 fn tasks(out: &mut Writer, list: &[TaskPart]) -> Result<(), AllocError>
-    ensures { Appends result out.old out.new (array (items_of (map spec.task list.now))) }
+    ensures { Appends result out.old out.new (array (items_of (map spec.task_data list.now))) }
 {
     out.begin_array()?;
     for part in list {
@@ -228,7 +228,7 @@ fn state_sets(states: &[NodeState])
 
 /// The sets of tasks have 8 words each.
 fn task_sets(tasks: &[TaskPart])
-    ensures { All HasSets tasks.now }
+    ensures { All HasSetWords tasks.now }
 {
     for task in tasks {
         task.part.evicting.words_law();

@@ -3,7 +3,7 @@
 ghost use Rattle.std.specs.Prelude.{◌<◌, ◌↔◌, ℕ, IfOk, All, IsTrue};
 ghost use Rattle.crpd_base.specs.declared.data.NodeState.{NodeState};
 ghost use Rattle.crpd_base.specs.declared.data.TaskPart.{TaskPart};
-ghost use Rattle.cert_check.specs.Shown.{HasLowSets, IsInRange};
+ghost use Rattle.cert_check.specs.TaskGraphs.{HasLowSets, IsCertificateInRange};
 
 use crate::judged::told;
 use crate::sides::{certificate_of, side_of};
@@ -88,7 +88,7 @@ fn has_low_sets(part: &TaskPart) -> bool
 }
 
 fn is_in_range(certificate: &Certificate) -> bool
-    ensures { IsTrue result → IsInRange certificate.now }
+    ensures { IsTrue result → IsCertificateInRange certificate.now }
 {
     let parts = certificate.tasks.as_slice();
     let low = parts.iter().all(|part| has_low_sets(part));
@@ -98,7 +98,7 @@ fn is_in_range(certificate: &Certificate) -> bool
 
 // The certificate of one task with these states.
 fn listed(alloc: Global, told: Told, entries: &[Entry]) -> Result<Certificate, Fail>
-    ensures { IfOk result IsInRange }
+    ensures { IfOk result IsCertificateInRange }
 {
     let certificate = certificate_of(alloc, text_of(alloc, &[told])?.as_str())?;
     let mut tasks = Vec::new(alloc);

@@ -2,12 +2,12 @@
 ghost use Rattle.std.specs.Prelude.{◌≡◌, IfOk, length};
 ghost use Rattle.crpd_base.specs.Ranges.{IsTaskSet};
 ghost use Rattle.cert_model.specs.Ranges.{IsCertificate};
-ghost use Rattle.cert_check.specs.Shown.{AreShown, IsInRange};
+ghost use Rattle.cert_check.specs.TaskGraphs.{AreTaskGraphs, IsCertificateInRange};
 
 use cert_model::read_certificate;
 use code_map::CodeMap;
 use crpd_base::{Certificate, Platform, Task, TaskSet};
-use fixtures::{Program, built, load};
+use fixtures::{Program, graph_and_nest, load};
 use flat_graph::Graph;
 use loop_regions::Nest;
 use std::alloc::Global;
@@ -25,11 +25,11 @@ pub(crate) struct Side {
 fn graphs_of(alloc: Global, code: &CodeMap, set: &TaskSet) -> Result<(Vec<Graph>, Vec<Nest>), Fail>
     requires set { IsTaskSet set.now }
     requires plans { length code.now.plans ≡ length set.now.tasks }
-    ensures { IfOk result (λ all. AreShown set.now all.0.items all.1.items) }
+    ensures { IfOk result (λ all. AreTaskGraphs set.now all.0.items all.1.items) }
 {
     let (mut graphs, mut nests) = (Vec::new(alloc), Vec::new(alloc));
     for k in 0..set.tasks.as_slice().len() {
-        let (graph, nest) = built(alloc, code, Task(k as u8))?;
+        let (graph, nest) = graph_and_nest(alloc, code, Task(k as u8))?;
         graphs.push(graph)?;
         nests.push(nest)?;
     }
@@ -39,7 +39,7 @@ fn graphs_of(alloc: Global, code: &CodeMap, set: &TaskSet) -> Result<(Vec<Graph>
 // The set of these programs, with all that is built for it.
 pub(crate) fn side_of(alloc: Global, platform: Platform, programs: &[Program]) -> Result<Side, Fail>
     ensures range { IfOk result (λ s. IsTaskSet s.set) }
-    ensures shown { IfOk result (λ s. AreShown s.set s.graphs.items s.nests.items) }
+    ensures shown { IfOk result (λ s. AreTaskGraphs s.set s.graphs.items s.nests.items) }
 {
     let loaded = load(alloc, platform, programs)?;
     let (graphs, nests) = graphs_of(alloc, &loaded.code, &loaded.set)?;
@@ -52,13 +52,13 @@ pub(crate) fn side_of(alloc: Global, platform: Platform, programs: &[Program]) -
 
 fn in_range_law(certificate: &Certificate)
     requires { IsCertificate certificate.now }
-    ensures { IsInRange certificate.now }
+    ensures { IsCertificateInRange certificate.now }
 {}
 
 // The certificate of a text.
 pub(crate) fn certificate_of(alloc: Global, text: &str) -> Result<Certificate, Fail>
     ensures certificate { IfOk result IsCertificate }
-    ensures range { IfOk result IsInRange }
+    ensures range { IfOk result IsCertificateInRange }
 {
     let certificate = read_certificate(alloc, text.as_bytes()).map_err(|_| "no certificate")?;
     in_range_law(&certificate);

@@ -1,7 +1,7 @@
 // Certificates of two small programs, updated to changed sets.
 ghost use Rattle.std.specs.Prelude.{◌≡◌};
 ghost use Rattle.crpd_base.specs.Ranges.{IsTaskSet};
-ghost use Rattle.cert_check.specs.Shown.{AreShown};
+ghost use Rattle.cert_check.specs.TaskGraphs.{AreTaskGraphs};
 
 use crate::sides::{Side, certificate_of, side_of};
 use crate::texts::{HIGH_TOLD, LOOP_TOLD, LOW_TOLD, Told, text_of};
@@ -199,9 +199,9 @@ fn refusal(alloc: Global, e: UpdateError) -> Result<String, AllocError> {
 // The text of the updated certificate and the tasks that were analysed, or the refusal; or the judge's no.
 fn updated(alloc: Global, old: &Side, text: &str, new: &Side) -> Result<String, Fail>
     requires old { IsTaskSet old.now.set }
-    requires old_tasks { AreShown old.now.set old.now.graphs.items old.now.nests.items }
+    requires old_tasks { AreTaskGraphs old.now.set old.now.graphs.items old.now.nests.items }
     requires new { IsTaskSet new.now.set }
-    requires new_tasks { AreShown new.now.set new.now.graphs.items new.now.nests.items }
+    requires new_tasks { AreTaskGraphs new.now.set new.now.graphs.items new.now.nests.items }
 {
     let certificate = certificate_of(alloc, text)?;
     let (graphs, nests) = (old.graphs.as_slice(), old.nests.as_slice());
@@ -239,7 +239,7 @@ fn updated(alloc: Global, old: &Side, text: &str, new: &Side) -> Result<String, 
 // Updates the old certificate of a case, and compares what comes of it.
 fn compare(rt: &impl Abort, alloc: Global, old: &Side, case: &Case) -> Result<(), Fail>
     requires old { IsTaskSet old.now.set }
-    requires old_tasks { AreShown old.now.set old.now.graphs.items old.now.nests.items }
+    requires old_tasks { AreTaskGraphs old.now.set old.now.graphs.items old.now.nests.items }
 {
     let text = text_of(alloc, &[HIGH_TOLD, case.low])?;
     let new = side_of(alloc, case.platform, case.programs)?;

@@ -10,11 +10,11 @@ use Rattle.crpd_base.specs.declared.data.Method.{Method}
 use Rattle.crpd_base.specs.declared.data.Part.{Part}
 use Rattle.flat_graph.specs.CodeGraph.{CodeGraph, HasCode, no_graph}
 use Rattle.loop_regions.specs.CodeNest.{CodeNest}
-use Rattle.evict_sets.specs.Certificate.{cert_at}
+use Rattle.evict_sets.specs.ListedPart.{certified_task}
 use Rattle.delay_count.specs.Demand.{demand}
-use Rattle.response.specs.Windows.{IsFirstWithout}
-use Rattle.cert_check.specs.Judge.{longest_at}
-use Rattle.cert_check.specs.Shown.{AreShown}
+use Rattle.response.specs.Windows.{IsFirstWithoutWindow}
+use Rattle.cert_check.specs.JudgeInput.{longest_at}
+use Rattle.cert_check.specs.TaskGraphs.{AreTaskGraphs}
 use Rattle.crpd_base.proofs.Times.{has_times}
 use Rattle.cert_model.specs.Ranges.{IsCertificate}
 use Rattle.cert_model.specs.Reading.{entries}
@@ -25,13 +25,13 @@ use Rattle.cert_build.specs.declared.one_task.Analysis.{Analysis}
 use Rattle.cert_build.proofs.Counting.{entries_map}
 use Rattle.cert_build.proofs.Certified.{beside as with_others, entries_are, in_ranges, in_deadlines}
 use Rattle.cert_update.specs.Unchanged.{Side}
-use Rattle.cert_update.specs.Update.{IsUpdate, IsUpdatedPart, AreAnalysed, AreParts}
+use Rattle.cert_update.specs.Update.{IsUpdate, IsUpdatedPart, AreChangedTasks, AreUpdatedParts}
 use Rattle.cert_update.specs.Parts.{AreNewParts}
 use Rattle.cert_update.specs.Laws.{HasCodes}
 use Rattle.cert_update.specs.Answer.{IsUpdated, HasNoWindowAt}
 use Rattle.cert_update.proofs.NewParts.{bare, at_bare, bare_parts}
 
-pub has_codes : (set : TaskSet) (graphs : List CodeGraph) (nests : List CodeNest) → IsTaskSet set → AreShown set graphs nests → All HasCode graphs → HasCodes set graphs nests
+pub has_codes : (set : TaskSet) (graphs : List CodeGraph) (nests : List CodeNest) → IsTaskSet set → AreTaskGraphs set graphs nests → All HasCode graphs → HasCodes set graphs nests
 has_codes set graphs nests S A H =
     record {
       range = S;
@@ -47,7 +47,7 @@ module _ (old : Side) (c : Certificate) (new : Side) (i : ℕ) where
   beside a name method window response (inr x) = inr (x.0, with_others new.set.platform (new.graphs i) (part_of_analysis a) name method window response x.1)
 
 module _ (old : Side) (c : Certificate) (new : Side) (parts : List Analysis) (d : Certificate) (A : AreNewParts old c new (length new.set.tasks) parts) (few : sum_by entries_of parts ≤ 4000000) (K : IsCompleted new.set new.graphs (analysis_at parts) d) where
-  part_at : (i : ℕ) → i < length new.set.tasks → IsUpdatedPart old c new i (cert_at d i)
+  part_at : (i : ℕ) → i < length new.set.tasks → IsUpdatedPart old c new i (certified_task d i)
   part_at i lt = subst (IsUpdatedPart old c new i) (sym (K.parts.part i lt)) (beside old c new i (analysis_at parts i) _ _ _ _ (A.each i lt).part)
 
   pub is_update : IsUpdate old c new d
@@ -63,7 +63,7 @@ module _ (old : Side) (c : Certificate) (new : Side) (parts : List Analysis) (d 
         };
       }
 
-  are_parts : AreParts old c new d.tasks
+  are_parts : AreUpdatedParts old c new d.tasks
   are_parts =
       record {
         tasks = K.parts.tasks;
@@ -74,7 +74,7 @@ module _ (old : Side) (c : Certificate) (new : Side) (parts : List Analysis) (d 
   few_entries : entries d.tasks ≤ 4000000
   few_entries = let same = entries_are new.set parts d K.parts A.tasks in omega (arith, same, few)
 
-  pub is_updated : (tasks : List Task) → AreAnalysed old new tasks → IsUpdated old c new (record { certificate = d; analysed = tasks })
+  pub is_updated : (tasks : List Task) → AreChangedTasks old new tasks → IsUpdated old c new (record { certificate = d; analysed = tasks })
   is_updated tasks analysed = record { certificate = is_update; analysed = analysed; within = are_parts; few = few_entries }
 
   pub update_in_ranges : IsTaskSet new.set → IsCertificate d
@@ -83,13 +83,13 @@ module _ (old : Side) (c : Certificate) (new : Side) (parts : List Analysis) (d 
 
 -- no windows for the new parts
 pub no_windows : (old : Side) (c : Certificate) (new : Side) (parts : List Analysis) (i : ℕ) → AreNewParts old c new (length new.set.tasks) parts → sum_by entries_of parts ≤ 4000000
-    → IsFirstWithout new.set (demand new.set (λ k. (analysis_at parts k).part) (longest_at new.set.platform new.graphs)) i → HasNoWindowAt old c new i
+    → IsFirstWithoutWindow new.set (demand new.set (λ k. (analysis_at parts k).part) (longest_at new.set.platform new.graphs)) i → HasNoWindowAt old c new i
 no_windows old c new parts i A few W =
     record {
       parts = bare old c new parts;
       are = bare_parts old c new parts A;
       few = let e = entries_map parts in omega (arith, e, few);
       without =
-          subst (λ (f : ℕ → Part). IsFirstWithout new.set (demand new.set f (longest_at new.set.platform new.graphs)) i)
+          subst (λ (f : ℕ → Part). IsFirstWithoutWindow new.set (demand new.set f (longest_at new.set.platform new.graphs)) i)
           (λ x k. ((sym (at_bare old c new parts k)) x).part) W;
     }

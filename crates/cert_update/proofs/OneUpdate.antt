@@ -11,29 +11,29 @@ use Rattle.crpd_base.specs.declared.data.NodeState.{NodeState}
 use Rattle.crpd_base.specs.declared.data.Certificate.{Certificate}
 use Rattle.crpd_base.specs.declared.data.Part.{Part}
 use Rattle.crpd_base.specs.declared.data.Method.{Method}
-use Rattle.evict_sets.specs.Certificate.{no_cert, cert_at}
+use Rattle.evict_sets.specs.ListedPart.{no_task_part, certified_task}
 use Rattle.response.proofs.WindowLaws.{one_choice}
 use Rattle.response.proofs.Least.{demands_agree}
-use Rattle.cert_check.specs.Judge.{window_at, part_of, longest_at, name_of}
+use Rattle.cert_check.specs.JudgeInput.{window_at, certified_part, longest_at, task_name}
 use Rattle.crpd_base.proofs.Times.{has_times}
 use Rattle.cert_build.specs.Best.{demand_of}
 use Rattle.cert_build.proofs.OneBest.{same_task}
 use Rattle.cert_build.proofs.Certified.{beside as with_others}
 use Rattle.cert_update.specs.Unchanged.{Side, IsUnchanged}
-use Rattle.cert_update.specs.Update.{IsUpdate, IsUpdatedPart, IsKept}
+use Rattle.cert_update.specs.Update.{IsUpdate, IsUpdatedPart, HasSameAnalysis}
 use Rattle.cert_update.specs.Laws.{OneUpdateLaw}
 
 -- tasks of a set with one name are one task
 module _ (set : TaskSet) (S : IsTaskSet set) where
-  named : (i : ℕ) (d : TaskSpec) → i < length set.tasks → name_of set i ≡ (get_or set.tasks i d).name
+  named : (i : ℕ) (d : TaskSpec) → i < length set.tasks → task_name set i ≡ (get_or set.tasks i d).name
   named i d lt = get_or-map (λ (k : TaskSpec). k.name) set.tasks i d [] lt
 
-  apart : (i j : ℕ) → i < j → j < length set.tasks → name_of set i ≢ name_of set j
+  apart : (i j : ℕ) → i < j → j < length set.tasks → task_name set i ≢ task_name set j
   apart i j lt within e =
       let d = some_at set.tasks j within in
       S.names i j d.0 lt within (sym (named i d.0 (omega (arith, lt, within))) ∙ e ∙ named j d.0 within)
 
-  pub one_name : (i j : ℕ) → i < length set.tasks → j < length set.tasks → name_of set i ≡ name_of set j → i ≡ j
+  pub one_name : (i j : ℕ) → i < length set.tasks → j < length set.tasks → task_name set i ≡ task_name set j → i ≡ j
   one_name i j i_lt j_lt e =
       ⊎_elim
       (λ same. same)
@@ -45,7 +45,7 @@ abbrev made : List ℕ → Part → List NodeState → List ℕ → List ℕ →
 made name part states potentials loops method window response =
     record { name = name; part = part; states = states; potentials = potentials; loops = loops; method = method; window = window; response = response }
 
-kept_task : (c d e : TaskPart) → IsKept c d → IsKept c e → d.name ≡ e.name → d.method ≡ e.method → d.window ≡ e.window → d.response ≡ e.response → d ≡ e
+kept_task : (c d e : TaskPart) → HasSameAnalysis c d → HasSameAnalysis c e → d.name ≡ e.name → d.method ≡ e.method → d.window ≡ e.window → d.response ≡ e.response → d ≡ e
 kept_task c d e D E names methods windows responses =
     let part = D.part ∙ sym E.part in
     let states = D.states ∙ sym E.states in
@@ -63,7 +63,7 @@ module _ (old new : Side) (c d e : Certificate) (O : IsTaskSet old.set) (S : IsT
 
   same_whole : (i : ℕ) (x y : TaskPart) → IsUpdatedPart old c new i x → IsUpdatedPart old c new i y → Beside x y → x ≡ y
   same_whole i x y (inl a) (inl b) z =
-      kept_task (cert_at c a.0) x y a.2 (subst (λ k. IsKept (cert_at c k) y) (one_source i b.0 a.0 b.1 a.1) b.2) z.0 z.1 z.2 z.3
+      kept_task (certified_task c a.0) x y a.2 (subst (λ k. HasSameAnalysis (certified_task c k) y) (one_source i b.0 a.0 b.1 a.1) b.2) z.0 z.1 z.2 z.3
   same_whole i x y (inl a) (inr b) z = absurd (b.0 a.0 a.1)
   same_whole i x y (inr a) (inl b) z = absurd (a.0 b.0 b.1)
   same_whole i x y (inr a) (inr b) z = same_task new.set.platform (new.graphs i) x y a.1 b.1 z.0 z.1 z.2 z.3
@@ -76,23 +76,23 @@ module _ (old new : Side) (c d e : Certificate) (O : IsTaskSet old.set) (S : IsT
   moved i x y (inl a) = inl (a.0, a.1, record { states = a.2.states; part = a.2.part; potentials = a.2.potentials; loops = a.2.loops })
   moved i x y (inr a) = inr (a.0, with_others new.set.platform (new.graphs i) y x.name x.method x.window x.response a.1)
 
-  parts_at : (k : ℕ) → k < length new.set.tasks → part_of d k ≡ part_of e k
+  parts_at : (k : ℕ) → k < length new.set.tasks → certified_part d k ≡ certified_part e k
   parts_at k l =
       ap (λ (x : TaskPart). x.part)
-      (same_whole k (cert_at d k) (beside (cert_at d k) (cert_at e k)) (D.each k l).part (moved k (cert_at d k) (cert_at e k) (E.each k l).part) (refl, refl, refl, refl))
+      (same_whole k (certified_task d k) (beside (certified_task d k) (certified_task e k)) (D.each k l).part (moved k (certified_task d k) (certified_task e k) (E.each k l).part) (refl, refl, refl, refl))
 
-  same_choice : (i : ℕ) → i < length new.set.tasks → ((cert_at d i).method ≡ (cert_at e i).method) × (window_at d i ≡ window_at e i)
+  same_choice : (i : ℕ) → i < length new.set.tasks → ((certified_task d i).method ≡ (certified_task e i).method) × (window_at d i ≡ window_at e i)
   same_choice =
-      one_choice new.set (demand_of new.set new.graphs d) (demand_of new.set new.graphs e) (window_at d) (window_at e) (λ i. (cert_at d i).method) (λ i. (cert_at e i).method) (length new.set.tasks)
-      (demands_agree new.set (part_of d) (part_of e) (longest_at new.set.platform new.graphs) (longest_at new.set.platform new.graphs) (length new.set.tasks) (has_times new.set S) (omega arith) parts_at (λ k m. refl) (window_at d) (window_at e))
+      one_choice new.set (demand_of new.set new.graphs d) (demand_of new.set new.graphs e) (window_at d) (window_at e) (λ i. (certified_task d i).method) (λ i. (certified_task e i).method) (length new.set.tasks)
+      (demands_agree new.set (certified_part d) (certified_part e) (longest_at new.set.platform new.graphs) (longest_at new.set.platform new.graphs) (length new.set.tasks) (has_times new.set S) (omega arith) parts_at (λ k m. refl) (window_at d) (window_at e))
       (λ i l. (D.each i l).window) (λ i l. (E.each i l).window)
 
-  same_at : (i : ℕ) → i < length new.set.tasks → cert_at d i ≡ cert_at e i
+  same_at : (i : ℕ) → i < length new.set.tasks → certified_task d i ≡ certified_task e i
   same_at i l =
       let X = D.each i l in
       let Y = E.each i l in
       let choice = same_choice i l in
-      same_whole i (cert_at d i) (cert_at e i) X.part Y.part (
+      same_whole i (certified_task d i) (certified_task e i) X.part Y.part (
         X.name ∙ sym Y.name,
         choice.0,
         choice.1,
@@ -100,7 +100,7 @@ module _ (old new : Side) (c d e : Certificate) (O : IsTaskSet old.set) (S : IsT
       )
 
   same_tasks : d.tasks ≡ e.tasks
-  same_tasks = ext_get_or no_cert d.tasks e.tasks (D.tasks ∙ sym E.tasks) (λ i l. same_at i (let q = D.tasks in omega (arith, l, q)))
+  same_tasks = ext_get_or no_task_part d.tasks e.tasks (D.tasks ∙ sym E.tasks) (λ i l. same_at i (let q = D.tasks in omega (arith, l, q)))
 
   pub one_update : d ≡ e
   one_update = let p = D.platform ∙ sym E.platform in λ i. record { platform = p i; tasks = same_tasks i }

@@ -8,22 +8,22 @@ use Rattle.rv_decode.specs.declared.Ins.TheVariants.{Lb, Lh, Lw, Lbu, Lhu, Sb, S
 use Rattle.rv_decode.specs.Cost.{cost, work_cost, changes_flow}
 use Rattle.rv_decode.specs.Flow.{flow}
 use Rattle.flat_graph.specs.Graph.{IsGraph}
-use Rattle.flat_graph.specs.EdgeCost.{Listing, is_return}
+use Rattle.flat_graph.specs.EdgeCost.{NodeCode, is_return}
 use Rattle.flat_graph.specs.CodeGraph.{CodeGraph, graph_of, HasCode}
 use Rattle.loop_regions.specs.Nest.{IsNested}
 use Rattle.loop_regions.specs.CodeNest.{CodeNest, nest_of}
-use Rattle.loop_regions.specs.TaskGraph.{TaskGraph, listing_of, answering}
+use Rattle.loop_regions.specs.TaskGraph.{TaskGraph, node_code_of, answering}
 use Rattle.loop_regions.specs.Potentials.{Costs}
-use Rattle.cert_check.specs.Certificate.{potentials_of}
-use Rattle.cert_check.specs.Clauses.{costs, PotentialsMeet}
-use Rattle.cert_check.specs.Shown.{shown}
+use Rattle.cert_check.specs.ListedPotentials.{potentials_of}
+use Rattle.cert_check.specs.PotentialClauses.{edge_costs, PotentialsMeet}
+use Rattle.cert_check.specs.TaskGraphs.{task_graph}
 use Rattle.cert_check.specs.declared.outcome.Clause.{Clause}
 use Rattle.cert_check.specs.declared.outcome.Clause.TheVariants.{Leaders, LoopPotentials, Inequalities, Bound}
 use Rattle.cert_check.specs.Verdict.{GraphHolds}
 use Rattle.loop_regions.proofs.Stated.{regions_law}
 use Rattle.cert_build.specs.Best.{IsBestPart, AreBestPotentials}
 use Rattle.cert_update.specs.Unchanged.{AreAlike, HasSameNodes, HasSameRegions}
-use Rattle.cert_update.specs.Update.{IsKept}
+use Rattle.cert_update.specs.Update.{HasSameAnalysis}
 use Rattle.cert_update.specs.Laws.{HasRegions, SameGraphLaw, PassLaw, BestPassLaw}
 use Rattle.cert_update.proofs.SameNodes.{AreSameNodes, same_lists, code_follows}
 use Rattle.cert_update.proofs.FirstNodes.{IsAhead, reached_ahead, one_first}
@@ -37,16 +37,16 @@ is_graph g H = (code_follows g H.words H.entry H.of_code).graph
 nested : (g : CodeGraph) (n : CodeNest) → HasRegions g n → IsNested (graph_of g) (nest_of n)
 nested g n N = regions_law (graph_of g) _ N.loops (nest_of n) N.regions N.accepted
 
-pub alike : (g h : CodeGraph) (n m : CodeNest) → HasSameRegions (shown g n) (shown h m) → Alike (length g.nodes) (nest_of n) (nest_of m)
+pub alike : (g h : CodeGraph) (n m : CodeNest) → HasSameRegions (task_graph g n) (task_graph h m) → Alike (length g.nodes) (nest_of n) (nest_of m)
 alike g h n m R = record { size = R.size; head = R.head; bound = R.bound; holds = R.holds }
 
-same_nodes : (g h : CodeGraph) (n m : CodeNest) → HasSameNodes (shown g n) (shown h m) → AreSameNodes g h
+same_nodes : (g h : CodeGraph) (n m : CodeNest) → HasSameNodes (task_graph g n) (task_graph h m) → AreSameNodes g h
 same_nodes g h n m S = λ u lt. (
   (let c = S.context u lt in let a = S.address u lt in λ i. record { context = c i; address = a i }),
   S.instruction u lt,
 )
 
-module _ (g h : CodeGraph) (n m : CodeNest) (G : HasCode g) (H : HasCode h) (N : HasRegions g n) (M : HasRegions h m) (S : HasSameNodes (shown g n) (shown h m)) (R : HasSameRegions (shown g n) (shown h m)) where
+module _ (g h : CodeGraph) (n m : CodeNest) (G : HasCode g) (H : HasCode h) (N : HasRegions g n) (M : HasRegions h m) (S : HasSameNodes (task_graph g n) (task_graph h m)) (R : HasSameRegions (task_graph g n) (task_graph h m)) where
   nodes_same : g.nodes ≡ h.nodes
   nodes_same = same_lists g h G.words H.words G.entry H.entry G.of_code H.of_code S.size (same_nodes g h n m S)
 
@@ -111,7 +111,7 @@ cost_same : (p q : Platform) (ins : Ins) (missed taken : Bool) → cost p ins mi
 cost_same p q ins missed taken =
     ap (λ w. p.hit + (if missed then p.miss else 0) + w + (if taken && changes_flow ins then p.taken else 0)) (sym (work_same p q ins))
 
-costs_same : (p q : Platform) (l : Listing) (answers is_hit : ℕ → Bool) → costs p l answers is_hit ≡ costs (seen p q) l answers is_hit
+costs_same : (p q : Platform) (l : NodeCode) (answers is_hit : ℕ → Bool) → edge_costs p l answers is_hit ≡ edge_costs (seen p q) l answers is_hit
 costs_same p q l answers is_hit = λ i. record {
   edge = λ u v. (cost_same p q (l.ins u) (not (is_hit u)) (not (l.address v == l.address u + 4))) i;
   answers = answers;
@@ -121,7 +121,7 @@ costs_same p q l answers is_hit = λ i. record {
 module _ (p q : Platform) (same : AreAlike p q) (t : TaskGraph) (c : TaskPart) where
   seen_holds : (k : Clause) → GraphHolds p t c k → GraphHolds (seen p q) t c k
   seen_holds (Inequalities u) h = λ is_hit hits below.
-      subst (λ (x : Costs). PotentialsMeet t.graph t.nest x (potentials_of c) u) (costs_same p q (listing_of t) (answering t) is_hit) (h is_hit hits below)
+      subst (λ (x : Costs). PotentialsMeet t.graph t.nest x (potentials_of c) u) (costs_same p q (node_code_of t) (answering t) is_hit) (h is_hit hits below)
   seen_holds k h = h
 
   pub platform_holds : (k : Clause) → GraphHolds p t c k → GraphHolds q t c k
@@ -135,7 +135,7 @@ module _ (p q : Platform) (same : AreAlike p q) (t : TaskGraph) (c : TaskPart) w
         useful = B.useful;
         is_hit = B.is_hit;
         hits = B.hits;
-        potentials = subst (λ (x : Costs). AreBestPotentials t.graph t.nest x c) (costs_same p q (listing_of t) (answering t) B.is_hit) B.potentials;
+        potentials = subst (λ (x : Costs). AreBestPotentials t.graph t.nest x c) (costs_same p q (node_code_of t) (answering t) B.is_hit) B.potentials;
       }
 
   pub platform_best : IsBestPart p t c → IsBestPart q t c
@@ -144,13 +144,13 @@ module _ (p q : Platform) (same : AreAlike p q) (t : TaskGraph) (c : TaskPart) w
 -- ---- the regions are the same
 
 module _ (p : Platform) (g : CodeGraph) (n m : CodeNest) (G : IsGraph (graph_of g)) (N : IsNested (graph_of g) (nest_of n)) (A : Alike (length g.nodes) (nest_of n) (nest_of m)) (c : TaskPart) where
-  pub nest_holds : (k : Clause) → GraphHolds p (shown g n) c k → GraphHolds p (shown g m) c k
+  pub nest_holds : (k : Clause) → GraphHolds p (task_graph g n) c k → GraphHolds p (task_graph g m) c k
   nest_holds LoopPotentials h = h ∙ A.size
   nest_holds (Inequalities u) h = λ is_hit hits below. potentials_too (graph_of g) G (nest_of n) (nest_of m) N A _ _ u below (h is_hit hits below)
   nest_holds Bound h = bound_too (graph_of g) G (nest_of n) (nest_of m) N A _ _ h
   nest_holds k h = h
 
-  pub nest_best : IsNested (graph_of g) (nest_of m) → IsBestPart p (shown g n) c → IsBestPart p (shown g m) c
+  pub nest_best : IsNested (graph_of g) (nest_of m) → IsBestPart p (task_graph g n) c → IsBestPart p (task_graph g m) c
   nest_best M B =
       record {
         states = record { leaders = B.states.leaders; each = B.states.each; ascending = B.states.ascending };
@@ -168,7 +168,7 @@ module _ (p : Platform) (g : CodeGraph) (n m : CodeNest) (G : IsGraph (graph_of 
 
 -- ---- the parts say the same
 
-module _ (p : Platform) (t : TaskGraph) (c d : TaskPart) (K : IsKept c d) where
+module _ (p : Platform) (t : TaskGraph) (c d : TaskPart) (K : HasSameAnalysis c d) where
   abbrev kept : TaskPart
   kept =
       record {
@@ -220,8 +220,8 @@ pass_law p q g h n m c d k G H N M S K holds =
     let e = same_graph g h n m G H N M S.nodes S.regions in
     let A = alike g h n m S.regions in
     let here = nest_holds p g n m (is_graph g G) (nested g n N) A c k holds in
-    let there = subst (λ (x : CodeGraph). GraphHolds p (shown x m) c k) e here in
-    part_holds q (shown h m) c d K k (platform_holds p q S.platform (shown h m) c k there)
+    let there = subst (λ (x : CodeGraph). GraphHolds p (task_graph x m) c k) e here in
+    part_holds q (task_graph h m) c d K k (platform_holds p q S.platform (task_graph h m) c k there)
 
 pub best_pass_law : BestPassLaw
 best_pass_law p q g h n m c d G H N M S K best =
@@ -229,5 +229,5 @@ best_pass_law p q g h n m c d G H N M S K best =
     let A = alike g h n m S.regions in
     let M1 : IsNested (graph_of g) (nest_of m) = subst (λ (x : CodeGraph). IsNested (graph_of x) (nest_of m)) (sym e) (nested h m M) in
     let here = nest_best p g n m (is_graph g G) (nested g n N) A c M1 best in
-    let there = subst (λ (x : CodeGraph). IsBestPart p (shown x m) c) e here in
-    part_best q (shown h m) c d K (platform_best p q S.platform (shown h m) c there)
+    let there = subst (λ (x : CodeGraph). IsBestPart p (task_graph x m) c) e here in
+    part_best q (task_graph h m) c d K (platform_best p q S.platform (task_graph h m) c there)

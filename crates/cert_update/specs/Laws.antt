@@ -8,24 +8,24 @@ use Rattle.crpd_base.specs.declared.data.Certificate.{Certificate}
 use Rattle.crpd_base.specs.declared.data.LoopAt.{LoopAt}
 use Rattle.flat_graph.specs.CodeGraph.{CodeGraph, HasCode, graph_of, places_of, graph_at}
 use Rattle.loop_regions.specs.CodeNest.{CodeNest, nest_of}
-use Rattle.loop_regions.specs.Stated.{IsAccepted, IsRegions}
+use Rattle.loop_regions.specs.Stated.{HasNoLoopRefusals, IsRegions}
 use Rattle.loop_regions.specs.TaskGraph.{TaskGraph}
-use Rattle.cert_check.specs.Shown.{shown, shown_at, nest_at}
+use Rattle.cert_check.specs.TaskGraphs.{task_graph, task_graph_at, nest_at}
 use Rattle.cert_check.specs.declared.outcome.Clause.{Clause}
 use Rattle.cert_check.specs.Verdict.{IsJudged, Yes, GraphHolds}
 use Rattle.cert_build.specs.Best.{IsBest, IsBestPart}
 use Rattle.cert_update.specs.Unchanged.{Side, IsSameCode}
-use Rattle.cert_update.specs.Update.{IsKept, IsUpdate}
+use Rattle.cert_update.specs.Update.{HasSameAnalysis, IsUpdate}
 
 -- a task set with kept graphs and their regions
 abbrev pub side : TaskSet → List CodeGraph → List CodeNest → Side
-side set graphs nests = record { set = set; graphs = shown_at graphs nests }
+side set graphs nests = record { set = set; graphs = task_graph_at graphs nests }
 
 -- the nest has the regions of some stated loops in the graph, with none of the refusals of loops
 pub record HasRegions (g : CodeGraph) (n : CodeNest) : Type 0 where
   pub loops : List LoopAt
   pub regions : IsRegions (graph_of g) (places_of g) loops (nest_of n)
-  pub accepted : IsAccepted (graph_of g) (nest_of n)
+  pub accepted : HasNoLoopRefusals (graph_of g) (nest_of n)
 
 -- each graph is that of some code, and each nest has its regions
 pub record HasCodes (set : TaskSet) (graphs : List CodeGraph) (nests : List CodeNest) : Type 0 where
@@ -41,38 +41,38 @@ pub record AreSameGraphs (t u : TaskGraph) : Type 0 where
 abbrev pub SameGraphLaw : Type 0
 SameGraphLaw =
     (p q : Platform) (g h : CodeGraph) (n m : CodeNest) →
-    HasCode g → HasCode h → HasRegions g n → HasRegions h m → IsSameCode p (shown g n) q (shown h m) →
-    AreSameGraphs (shown g n) (shown h m)
+    HasCode g → HasCode h → HasRegions g n → HasRegions h m → IsSameCode p (task_graph g n) q (task_graph h m) →
+    AreSameGraphs (task_graph g n) (task_graph h m)
 
 -- the clauses of a task's graph pass with its part from an old task to the unchanged new one
 abbrev pub PassLaw : Type 0
 PassLaw =
     (p q : Platform) (g h : CodeGraph) (n m : CodeNest) (c d : TaskPart) (k : Clause) →
-    HasCode g → HasCode h → HasRegions g n → HasRegions h m → IsSameCode p (shown g n) q (shown h m) → IsKept c d →
-    GraphHolds p (shown g n) c k → GraphHolds q (shown h m) d k
+    HasCode g → HasCode h → HasRegions g n → HasRegions h m → IsSameCode p (task_graph g n) q (task_graph h m) → HasSameAnalysis c d →
+    GraphHolds p (task_graph g n) c k → GraphHolds q (task_graph h m) d k
 
 -- and a part that the analysis found for the old task is the one that it finds for the new one
 abbrev pub BestPassLaw : Type 0
 BestPassLaw =
     (p q : Platform) (g h : CodeGraph) (n m : CodeNest) (c d : TaskPart) →
-    HasCode g → HasCode h → HasRegions g n → HasRegions h m → IsSameCode p (shown g n) q (shown h m) → IsKept c d →
-    IsBestPart p (shown g n) c → IsBestPart q (shown h m) d
+    HasCode g → HasCode h → HasRegions g n → HasRegions h m → IsSameCode p (task_graph g n) q (task_graph h m) → HasSameAnalysis c d →
+    IsBestPart p (task_graph g n) c → IsBestPart q (task_graph h m) d
 
 -- the judge says yes to an update of a certificate to which it says yes
 abbrev pub UpdateIsJudgedLaw : Type 0
 UpdateIsJudgedLaw =
     (old set : TaskSet) (old_graphs graphs : List CodeGraph) (old_nests nests : List CodeNest) (c d : Certificate) →
     HasCodes old old_graphs old_nests → HasCodes set graphs nests →
-    IsJudged old (shown_at old_graphs old_nests) c Yes → IsUpdate (side old old_graphs old_nests) c (side set graphs nests) d →
-    IsJudged set (shown_at graphs nests) d Yes
+    IsJudged old (task_graph_at old_graphs old_nests) c Yes → IsUpdate (side old old_graphs old_nests) c (side set graphs nests) d →
+    IsJudged set (task_graph_at graphs nests) d Yes
 
 -- an update of the analysis' certificate is the analysis' certificate of the new set
 abbrev pub UpdateIsBestLaw : Type 0
 UpdateIsBestLaw =
     (old set : TaskSet) (old_graphs graphs : List CodeGraph) (old_nests nests : List CodeNest) (c d : Certificate) →
     HasCodes old old_graphs old_nests → HasCodes set graphs nests →
-    IsBest old (shown_at old_graphs old_nests) c → IsUpdate (side old old_graphs old_nests) c (side set graphs nests) d →
-    IsBest set (shown_at graphs nests) d
+    IsBest old (task_graph_at old_graphs old_nests) c → IsUpdate (side old old_graphs old_nests) c (side set graphs nests) d →
+    IsBest set (task_graph_at graphs nests) d
 
 -- there is one update at most
 abbrev pub OneUpdateLaw : Type 0

@@ -1,18 +1,18 @@
 // The new part of each task: what is kept, or what the analysis finds.
 ghost use Rattle.std.specs.Prelude.{◌≡◌, ◌<◌, ◌≤◌, ℕ, None, length, slice_index_or, sum_by, All, IfOk, MatchResult};
 ghost use Rattle.crpd_base.specs.Ranges.{IsTaskSet};
-ghost use Rattle.cert_check.specs.Shown.{AreShown};
+ghost use Rattle.cert_check.specs.TaskGraphs.{AreTaskGraphs};
 ghost use Rattle.cert_model.specs.Ranges.{IsCertificate};
 ghost use Rattle.cert_build.specs.Assembly.{entries_of};
 ghost use Rattle.cert_update.specs.Laws.{HasCodes};
-ghost use Rattle.cert_update.specs.Coded.{side_of};
-ghost use Rattle.cert_update.specs.Sources.{IsSource, AreSources};
-ghost use Rattle.cert_update.specs.Parts.{IsNewPart, AreNewParts, IsPartRefused};
-ghost use Rattle.cert_update.specs.Answer.{IsRefused};
+ghost use Rattle.cert_update.specs.Coded.{coded_side};
+ghost use Rattle.cert_update.specs.Sources.{IsSourceTask, AreSourceTasks};
+ghost use Rattle.cert_update.specs.Parts.{IsNewPart, AreNewParts, IsPartError};
+ghost use Rattle.cert_update.specs.Answer.{IsUpdateError};
 
 use crate::coded::Change;
 use crate::fault::UpdateError;
-use crate::kept::keep;
+use crate::kept::copy_analysis;
 use cert_build::{Analysis, analyse};
 use cert_model::task_entries;
 use crpd_base::{MOST_ENTRIES, Task};
@@ -26,18 +26,18 @@ fn part(
     source: Option<usize>,
     task: Task,
 ) -> Result<Analysis, UpdateError>
-    requires source { IsSource (side_of change.now.old) (side_of change.now.new) task.0 source }
+    requires source { IsSourceTask (coded_side change.now.old) (coded_side change.now.new) task.0 source }
     requires tasks { length change.now.certificate.now.tasks ≡ length change.now.old.set.now.tasks }
     requires certificate { IsCertificate change.now.certificate.now }
     requires range { IsTaskSet change.now.new.set.now }
-    requires new { AreShown change.now.new.set.now change.now.new.graphs.now change.now.new.nests.now }
+    requires new { AreTaskGraphs change.now.new.set.now change.now.new.graphs.now change.now.new.nests.now }
     requires task { task.0 < length change.now.new.set.now.tasks }
     ensures { MatchResult result
-        (λ a. IsNewPart (side_of change.now.old) change.now.certificate.now (side_of change.now.new) task.0 a)
-        (λ e. IsPartRefused (side_of change.now.old) (side_of change.now.new) task.0 e) }
+        (λ a. IsNewPart (coded_side change.now.old) change.now.certificate.now (coded_side change.now.new) task.0 a)
+        (λ e. IsPartError (coded_side change.now.old) (coded_side change.now.new) task.0 e) }
 {
     if let Some(k) = source {
-        return Ok(keep(alloc, &change.certificate.tasks.as_slice()[k])?);
+        return Ok(copy_analysis(alloc, &change.certificate.tasks.as_slice()[k])?);
     }
     let code = change.new.code(task.0 as usize);
     match analyse(alloc, code.graph, code.nest, code.platform) {
@@ -54,14 +54,14 @@ pub(crate) fn new_parts(
     change: &Change,
     sources: &[Option<usize>],
 ) -> Result<Vec<Analysis>, UpdateError>
-    requires sources { AreSources (side_of change.now.old) (side_of change.now.new) (length change.now.new.set.now.tasks) sources.now }
+    requires sources { AreSourceTasks (coded_side change.now.old) (coded_side change.now.new) (length change.now.new.set.now.tasks) sources.now }
     requires tasks { length change.now.certificate.now.tasks ≡ length change.now.old.set.now.tasks }
     requires certificate { IsCertificate change.now.certificate.now }
     requires codes { HasCodes change.now.new.set.now change.now.new.graphs.now change.now.new.nests.now }
-    requires shown { AreShown change.now.new.set.now change.now.new.graphs.now change.now.new.nests.now }
+    requires shown { AreTaskGraphs change.now.new.set.now change.now.new.graphs.now change.now.new.nests.now }
     ensures parts { MatchResult result
-        (λ all. AreNewParts (side_of change.now.old) change.now.certificate.now (side_of change.now.new) (length change.now.new.set.now.tasks) all.items)
-        (λ e. IsRefused (side_of change.now.old) change.now.certificate.now (side_of change.now.new) e) }
+        (λ all. AreNewParts (coded_side change.now.old) change.now.certificate.now (coded_side change.now.new) (length change.now.new.set.now.tasks) all.items)
+        (λ e. IsUpdateError (coded_side change.now.old) change.now.certificate.now (coded_side change.now.new) e) }
     ensures few { IfOk result (λ all. sum_by entries_of all.items ≤ 4000000) }
 {
     let mut parts = Vec::new(alloc);

@@ -3,13 +3,13 @@ ghost use Rattle.std.specs.Prelude.{◌≡◌, ◌<◌, ℕ, List, length, IfOk,
 ghost use Rattle.crpd_base.specs.Ranges.{IsTaskSet};
 ghost use Rattle.crpd_base.specs.declared.data.Certificate.{Certificate};
 ghost use Rattle.flat_graph.specs.CodeGraph.{CodeGraph, HasCode};
-ghost use Rattle.cert_check.specs.Shown.{shown_at, AreShown};
+ghost use Rattle.cert_check.specs.TaskGraphs.{task_graph_at, AreTaskGraphs};
 ghost use Rattle.cert_check.specs.Verdict.{IsJudged, Yes};
 ghost use Rattle.cert_model.specs.Ranges.{IsCertificate};
 ghost use Rattle.cert_build.specs.Best.{IsBest};
 ghost use Rattle.cert_update.specs.Laws.{side, HasCodes};
 ghost use Rattle.cert_update.specs.Update.{IsUpdate};
-ghost use Rattle.cert_update.specs.Answer.{IsUpdated, IsRefused};
+ghost use Rattle.cert_update.specs.Answer.{IsUpdated, IsUpdateError};
 
 use crate::analysed::without_source;
 use crate::answer::Updated;
@@ -61,17 +61,17 @@ pub fn update(
     nests: &[Nest],
 ) -> Result<Updated, UpdateError>
     requires old { IsTaskSet old.now }
-    requires old_tasks { AreShown old.now old_graphs.now old_nests.now }
+    requires old_tasks { AreTaskGraphs old.now old_graphs.now old_nests.now }
     requires certificate { IsCertificate certificate.now }
-    requires judged { IsJudged old.now (shown_at old_graphs.now old_nests.now) certificate.now Yes }
+    requires judged { IsJudged old.now (task_graph_at old_graphs.now old_nests.now) certificate.now Yes }
     requires set { IsTaskSet set.now }
-    requires tasks { AreShown set.now graphs.now nests.now }
+    requires tasks { AreTaskGraphs set.now graphs.now nests.now }
     ensures exact { MatchResult result
         (λ u. IsUpdated (side old.now old_graphs.now old_nests.now) certificate.now (side set.now graphs.now nests.now) u)
-        (λ e. IsRefused (side old.now old_graphs.now old_nests.now) certificate.now (side set.now graphs.now nests.now) e) }
-    ensures judged { IfOk result (λ u. IsJudged set.now (shown_at graphs.now nests.now) u.certificate Yes) }
-    ensures best { IfOk result (λ u. IsBest old.now (shown_at old_graphs.now old_nests.now) certificate.now →
-        IsBest set.now (shown_at graphs.now nests.now) u.certificate) }
+        (λ e. IsUpdateError (side old.now old_graphs.now old_nests.now) certificate.now (side set.now graphs.now nests.now) e) }
+    ensures judged { IfOk result (λ u. IsJudged set.now (task_graph_at graphs.now nests.now) u.certificate Yes) }
+    ensures best { IfOk result (λ u. IsBest old.now (task_graph_at old_graphs.now old_nests.now) certificate.now →
+        IsBest set.now (task_graph_at graphs.now nests.now) u.certificate) }
     ensures one { IfOk result (λ u. (d : Certificate) →
         IsUpdate (side old.now old_graphs.now old_nests.now) certificate.now (side set.now graphs.now nests.now) d → d ≡ u.certificate) }
     ensures ranges { IfOk result (λ u. IsCertificate u.certificate) }

@@ -9,10 +9,10 @@ use Rattle.std.proofs.lemmas.List.Elements.{All-push}
 use Rattle.std.proofs.lemmas.Bool.{cases_lt}
 use Rattle.code_map.specs.declared.pieces.Piece.{Piece}
 use Rattle.code_map.specs.declared.runs.Run.{Run}
-use Rattle.code_map.specs.Conflicts.{differ, IsFirst}
+use Rattle.code_map.specs.Conflicts.{differ, IsFirstPassing}
 use Rattle.code_map.specs.Joined.{HasPiece, TakesPiece}
 use Rattle.code_map.specs.Pieces.{piece_byte}
-use Rattle.code_map.specs.Runs.{run_byte, runs_byte, end_of, IsBefore}
+use Rattle.code_map.specs.Runs.{run_byte, runs_byte, run_end, IsRunBefore}
 use Rattle.code_map.proofs.First.{found_append, found_none, or_assoc, or_nothing}
 use Rattle.code_map.proofs.Found.{before_none, past_none}
 
@@ -40,7 +40,7 @@ all_last P xs y all =
 
 -- ---- tests that are the same
 
-pub first_same : (p q : ℕ → Bool) (o : Option ℕ) → ((a : ℕ) → p a ≡ q a) → IsFirst q o → IsFirst p o
+pub first_same : (p q : ℕ → Bool) (o : Option ℕ) → ((a : ℕ) → p a ≡ q a) → IsFirstPassing q o → IsFirstPassing p o
 first_same p q None same none = λ a. same a ∙ none a
 first_same p q (Some n) same least = record { passes = same n ∙ least.passes; least = λ b lt. same b ∙ least.least b lt }
 
@@ -60,7 +60,7 @@ module _ (front : List Run) (last : Run) (p : Piece) (takes : TakesPiece (front 
   -- behind the start of the piece the runs have what the last one has
   old_is : (a : ℕ) → p.start ≤ a → runs_byte (front ++ last ∷ []) a ≡ run_byte last a
   old_is a le = runs_more front last a ∙ rw (found_none (λ r. run_byte r a) front (λ k d lt.
-      let h : end_of (get_or front k d) < last.start = pairs_last IsBefore front last takes.apart k d lt in
+      let h : run_end (get_or front k d) < last.start = pairs_last IsRunBefore front last takes.apart k d lt in
       past_none (get_or front k d).start (get_or front k d).bytes a (omega (arith, from)))) refl
 
   same_test : (a : ℕ) → differ (runs_byte (front ++ last ∷ []) a) (piece_byte p a) ≡ differ (run_byte last a) (piece_byte p a)
@@ -70,19 +70,19 @@ module _ (front : List Run) (last : Run) (p : Piece) (takes : TakesPiece (front 
       (cases_lt a p.start)
 
   pub joined_last : (longer : Run) (new : List Run) (o : Option ℕ) → longer.start ≡ last.start → ((a : ℕ) → run_byte longer a ≡ option_or (run_byte last a) (piece_byte p a))
-      → IsFirst (λ a. differ (run_byte last a) (piece_byte p a)) o → new ≡ front ++ longer ∷ [] → HasPiece (front ++ last ∷ []) p new o
+      → IsFirstPassing (λ a. differ (run_byte last a) (piece_byte p a)) o → new ≡ front ++ longer ∷ [] → HasPiece (front ++ last ∷ []) p new o
   joined_last longer new o same bytes conflict e = rw e (record {
-    apart = all_pairs_push IsBefore front longer (pairs_front IsBefore front last takes.apart) (λ k d lt. let h : end_of (get_or front k d) < last.start = pairs_last IsBefore front last takes.apart k d lt in omega arith);
+    apart = all_pairs_push IsRunBefore front longer (pairs_front IsRunBefore front last takes.apart) (λ k d lt. let h : run_end (get_or front k d) < last.start = pairs_last IsRunBefore front last takes.apart k d lt in omega arith);
     starts = All-push (λ (r : Run). r.start ≤ p.start) front longer (all_front (λ (r : Run). r.start ≤ p.start) front last takes.starts) (omega (arith, from));
     bytes = λ a. runs_more front longer a ∙ (ap (option_or (runs_byte front a)) (bytes a) ∙ (sym (or_assoc (runs_byte front a) (run_byte last a) (piece_byte p a)) ∙ ap (λ o. option_or o (piece_byte p a)) (sym (runs_more front last a))));
     conflict = first_same (λ a. differ (runs_byte (front ++ last ∷ []) a) (piece_byte p a)) (λ a. differ (run_byte last a) (piece_byte p a)) o same_test conflict;
   })
 
   -- a piece that begins behind the last run
-  pub begun : (next : Run) (new : List Run) → end_of last < p.start → next.start ≡ p.start → ((a : ℕ) → run_byte next a ≡ piece_byte p a)
+  pub begun : (next : Run) (new : List Run) → run_end last < p.start → next.start ≡ p.start → ((a : ℕ) → run_byte next a ≡ piece_byte p a)
       → new ≡ (front ++ last ∷ []) ++ next ∷ [] → HasPiece (front ++ last ∷ []) p new None
   begun next new gap same bytes e = rw e (record {
-    apart = all_pairs_push IsBefore (front ++ last ∷ []) next takes.apart (All-push (λ r. IsBefore r next) front last (λ k d lt. let h : end_of (get_or front k d) < last.start = pairs_last IsBefore front last takes.apart k d lt in omega (arith, from)) (omega arith));
+    apart = all_pairs_push IsRunBefore (front ++ last ∷ []) next takes.apart (All-push (λ r. IsRunBefore r next) front last (λ k d lt. let h : run_end (get_or front k d) < last.start = pairs_last IsRunBefore front last takes.apart k d lt in omega (arith, from)) (omega arith));
     starts = All-push (λ (r : Run). r.start ≤ p.start) (front ++ last ∷ []) next takes.starts (omega arith);
     bytes = λ a. runs_more (front ++ last ∷ []) next a ∙ ap (option_or (runs_byte (front ++ last ∷ []) a)) (bytes a);
     conflict = λ a. same_test a ∙ ⊎_elim

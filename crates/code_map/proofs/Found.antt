@@ -8,17 +8,17 @@ use Rattle.std.proofs.lemmas.Bool.{le-leb, ne_eqb, cases_lt}
 use Rattle.std.proofs.lemmas.Option.{none-some, slice_get_past, slice_get_within}
 use Rattle.code_map.specs.declared.runs.Run.{Run}
 use Rattle.code_map.specs.Words.{byte_from, little_endian, word_by, end}
-use Rattle.code_map.specs.Runs.{run_byte, runs_byte, end_of, IsBefore}
+use Rattle.code_map.specs.Runs.{run_byte, runs_byte, run_end, IsRunBefore}
 use Rattle.code_map.proofs.First.{found_none, found_only}
 
 abbrev pub blank : Run
 blank = record { start = 0; bytes = [] }
 
 -- runs that are apart ascend
-pub ascending : (rs : List Run) → AllPairs IsBefore rs → IsNonDecreasingBy (λ (r : Run). r.start) rs
+pub ascending : (rs : List Run) → AllPairs IsRunBefore rs → IsNonDecreasingBy (λ (r : Run). r.start) rs
 ascending rs apart i j d le lt = ⊎_elim
     (λ (e : i ≡ j). subst (λ k. (get_or rs i d).start ≤ (get_or rs k d).start) e (omega arith))
-    (λ (e : i < j). let h : end_of (get_or rs i d) < (get_or rs j d).start = apart i j d e lt in omega arith)
+    (λ (e : i < j). let h : run_end (get_or rs i d) < (get_or rs j d).start = apart i j d e lt in omega arith)
     (eq-or-lt_of_le le)
 
 -- ---- where bytes stand from a start on
@@ -43,11 +43,11 @@ get_or_same (r ∷ rs) zero c d lt = refl
 get_or_same (r ∷ rs) (suc n) c d lt = get_or_same rs n c d (omega arith)
 
 -- the run at a place has the bytes of all, from its start up to its end, and on to where the next run starts
-pub run_has : (rs : List Run) (n x : ℕ) → AllPairs IsBefore rs → n < length rs → (get_or rs n blank).start ≤ x
+pub run_has : (rs : List Run) (n x : ℕ) → AllPairs IsRunBefore rs → n < length rs → (get_or rs n blank).start ≤ x
     → ((k : ℕ) (d : Run) → n < k → k < length rs → x < (get_or rs k d).start)
     → runs_byte rs x ≡ run_byte (get_or rs n blank) x
 run_has rs n x apart lt from next = found_only (λ r. run_byte r x) rs n blank lt (λ k d in' ne. ⊎_elim
-    (λ (less : k < n). let h : end_of (get_or rs k d) < (get_or rs n d).start = apart k n d less lt in
+    (λ (less : k < n). let h : run_end (get_or rs k d) < (get_or rs n d).start = apart k n d less lt in
     let same : (get_or rs n d).start ≤ x = subst (λ (r : Run). r.start ≤ x) (get_or_same rs n blank d lt) from in
     past_none (get_or rs k d).start (get_or rs k d).bytes x (omega arith))
     (λ (more : n ≤ k). let gt : n < k = other n k more ne in before_none (get_or rs k d).start (get_or rs k d).bytes x (next k d gt in'))
@@ -82,7 +82,7 @@ same_number f g a e here same gone = ⊎_elim
     (cases_lt a e)
 
 -- the number at an address is that of the run up to it
-pub number_of_run : (rs : List Run) (n a : ℕ) → AllPairs IsBefore rs → n < length rs
+pub number_of_run : (rs : List Run) (n a : ℕ) → AllPairs IsRunBefore rs → n < length rs
     → AllWithin (λ r. r.start ≤ a) rs 0 (n + 1) → AllWithin (λ r. a < r.start) rs (n + 1) (length rs)
     → let r : Run = get_or rs n blank in
     little_endian (run_byte r a) (run_byte r (a + 1)) (run_byte r (a + 2)) (run_byte r (a + 3))
@@ -90,9 +90,9 @@ pub number_of_run : (rs : List Run) (n a : ℕ) → AllPairs IsBefore rs → n <
 number_of_run rs n a apart lt before after =
     let r : Run = get_or rs n blank in
     let from : (get_or rs n blank).start ≤ a = before n blank (omega arith) (omega arith) in
-    sym (same_number (runs_byte rs) (run_byte r) a (end_of r)
+    sym (same_number (runs_byte rs) (run_byte r) a (run_end r)
     (run_has rs n a apart lt from (λ k d more in'. after k d (omega arith) in'))
-    (λ x low high. run_has rs n x apart lt (omega arith) (λ k d more in'. let h : end_of (get_or rs n d) < (get_or rs k d).start = apart n k d more in' in omega (arith, ap end_of (get_or_same rs n blank d lt))))
+    (λ x low high. run_has rs n x apart lt (omega arith) (λ k d more in'. let h : run_end (get_or rs n d) < (get_or rs k d).start = apart n k d more in' in omega (arith, ap run_end (get_or_same rs n blank d lt))))
     (λ x past. past_none r.start r.bytes x past))
 
 -- no number where no run starts at or below the address

@@ -14,9 +14,9 @@ use Rattle.crpd_base.specs.declared.data.Segment.{Segment}
 use Rattle.code_map.specs.declared.joined.Joined.{Joined}
 use Rattle.code_map.specs.declared.pieces.Piece.{Piece}
 use Rattle.code_map.specs.declared.runs.Run.{Run}
-use Rattle.code_map.specs.Conflicts.{disagree, first_conflict, is_conflict, IsFirst, IsLeast, least_below}
-use Rattle.code_map.specs.Pieces.{HasBytes, all_pieces, piece_byte, piece_of, pieces_of, told}
-use Rattle.code_map.specs.Runs.{runs_byte, IsBefore, IsIndex}
+use Rattle.code_map.specs.Conflicts.{disagree, first_conflict, is_conflict, IsFirstPassing, IsLeastPassing, least_below}
+use Rattle.code_map.specs.Pieces.{HasBytes, all_pieces, piece_byte, piece_of, pieces_of, piece_content}
+use Rattle.code_map.specs.Runs.{runs_byte, IsRunBefore, IsByteIndex}
 use Rattle.code_map.specs.Words.{byte_from, code_byte, find_map, image_byte, segment_byte}
 use Rattle.code_map.proofs.First.{found_some, or_nothing}
 use Rattle.code_map.proofs.Sweep.{no_piece, same_never}
@@ -99,7 +99,7 @@ unfolding least_below
 lower_none zero p none = refl
 lower_none (suc n) p none = rw (lower_none n p (λ a lt. none a (omega arith)), none n (omega arith)) refl
 
-pub least_is : (n : ℕ) (p : ℕ → Bool) (a : ℕ) → IsLeast p a → a < n → least_below n p ≡ Some a
+pub least_is : (n : ℕ) (p : ℕ → Bool) (a : ℕ) → IsLeastPassing p a → a < n → least_below n p ≡ Some a
 unfolding least_below
 least_is zero p a least lt = absurd (omega arith)
 least_is (suc n) p a least lt = ⊎_elim
@@ -133,33 +133,33 @@ pieces_fit (i ∷ is) all =
     (All-filter (λ s. s.executable) (λ s. Fits (piece_of s)) i.segments (λ k d lt. omega (arith, image.sized k d lt, image.below k d lt))))
     (pieces_fit is (λ k d lt. all (suc k) d (omega arith)))
 
-told_at : (ps : List Piece) (k : ℕ) (d : Piece) → k < length ps → All Fits (map told ps) → Fits (told (get_or ps k d))
+told_at : (ps : List Piece) (k : ℕ) (d : Piece) → k < length ps → All Fits (map piece_content ps) → Fits (piece_content (get_or ps k d))
 told_at [] k d lt all = absurd (omega arith)
-told_at (p ∷ ps) zero d lt all = all 0 (told d) (omega arith)
+told_at (p ∷ ps) zero d lt all = all 0 (piece_content d) (omega arith)
 told_at (p ∷ ps) (suc k) d lt all = told_at ps k d (omega arith) (λ j c in'. all (suc j) c (omega arith))
 
 -- ---- the index of files
 
-module _ (is : List Image) (ps : List Piece) (all : All IsImage is) (same : IsPermutation (all_pieces is) (map told ps)) where
+module _ (is : List Image) (ps : List Piece) (all : All IsImage is) (same : IsPermutation (all_pieces is) (map piece_content ps)) where
   pub same_bytes : (a u : ℕ) → has (λ p. piece_byte p a) ps u ≡ has (λ i. image_byte i a) is u
   same_bytes a u =
-      sym (has_map (byte_at a) told ps u)
-      ∙ (sym (list_any-IsPermutation (λ c. equals u (byte_at a c)) (all_pieces is) (map told ps) same)
+      sym (has_map (byte_at a) piece_content ps u)
+      ∙ (sym (list_any-IsPermutation (λ c. equals u (byte_at a c)) (all_pieces is) (map piece_content ps) same)
       ∙ has_pieces is a u all)
 
   conflicts_are : (a : ℕ) → is_conflict is a ≡ disagree (λ p. piece_byte p a) ps
   conflicts_are a = sym (same_disagree (λ p. piece_byte p a) ps (λ i. image_byte i a) is (same_bytes a))
 
-  pub conflict_is : (o : Option ℕ) → IsFirst (λ a. disagree (λ p. piece_byte p a) ps) o → o ≡ first_conflict is
+  pub conflict_is : (o : Option ℕ) → IsFirstPassing (λ a. disagree (λ p. piece_byte p a) ps) o → o ≡ first_conflict is
   unfolding first_conflict
   conflict_is None none = sym (none_below (2 ^ 32) (is_conflict is) (λ a. conflicts_are a ∙ none a))
   conflict_is (Some a) least =
-      let here : IsLeast (is_conflict is) a = first_same (is_conflict is) (λ a. disagree (λ p. piece_byte p a) ps) (Some a) conflicts_are least in
+      let here : IsLeastPassing (is_conflict is) a = first_same (is_conflict is) (λ a. disagree (λ p. piece_byte p a) ps) (Some a) conflicts_are least in
       let one = two (λ i. image_byte i a) is here.passes in
       sym (least_is (2 ^ 32) (is_conflict is) a here (byte_below is a one.0 all one.2))
 
-  pub index_is : (rs : List Run) (o : Option ℕ) → AllPairs IsBefore rs → ((a : ℕ) → runs_byte rs a ≡ find_map (λ p. piece_byte p a) ps)
-      → IsFirst (λ a. disagree (λ p. piece_byte p a) ps) o → o ≡ None → IsIndex rs (code_byte is)
+  pub index_is : (rs : List Run) (o : Option ℕ) → AllPairs IsRunBefore rs → ((a : ℕ) → runs_byte rs a ≡ find_map (λ p. piece_byte p a) ps)
+      → IsFirstPassing (λ a. disagree (λ p. piece_byte p a) ps) o → o ≡ None → IsByteIndex rs (code_byte is)
   index_is rs None apart bytes none e = record {
     apart = apart;
     is = λ a. bytes a ∙ same_found (λ p. piece_byte p a) ps (λ i. image_byte i a) is (same_bytes a) (conflicts_are a ∙ none a);
@@ -167,7 +167,7 @@ module _ (is : List Image) (ps : List Piece) (all : All IsImage is) (same : IsPe
   index_is rs (Some c) apart bytes least e = absurd (none-some c (sym e))
 
   pub all_below : All (λ p. p.start + length p.bytes.now ≤ 2 ^ 32) ps
-  all_below k d lt = told_at ps k d lt (All-permutation Fits (all_pieces is) (map told ps) same (pieces_fit is all))
+  all_below k d lt = told_at ps k d lt (All-permutation Fits (all_pieces is) (map piece_content ps) same (pieces_fit is all))
 
 -- a byte of a piece is a byte
 byte_in : (start : ℕ) (bytes : List ℕ) (a b : ℕ) → All (λ x. x < 256) bytes → byte_from start bytes a ≡ Some b → b < 256
@@ -179,24 +179,24 @@ byte_in start bytes a b all e = ⊎_elim
     subst (λ x. x < 256) (get_or_from_slice_get bytes (a - start) b 0 at) (all (a - start) 0 lt))
     (cases_lt a start)
 
-pub code_bytes : (is : List Image) (ps : List Piece) → All IsImage is → IsPermutation (all_pieces is) (map told ps) → All HasBytes ps → (a b : ℕ) → code_byte is a ≡ Some b → b < 256
+pub code_bytes : (is : List Image) (ps : List Piece) → All IsImage is → IsPermutation (all_pieces is) (map piece_content ps) → All HasBytes ps → (a b : ℕ) → code_byte is a ≡ Some b → b < 256
 code_bytes is ps all same bytes a b e =
     let there = any_at (λ p. equals b (piece_byte p a)) ps (same_bytes is ps all same a b ∙ has_found (λ i. image_byte i a) is b e) in
     let p : Piece = get_or ps there.0 no_piece in
     byte_in p.start p.bytes.now a b (bytes there.0 no_piece there.1) (equals_true b (piece_byte p a) (there.2 no_piece))
 
-pub bytes_of : (is : List Image) (ps : List Piece) (r : Result Joined AllocError) → All IsImage is → IsPermutation (all_pieces is) (map told ps) → All HasBytes ps → OnOk r ((a b : ℕ) → code_byte is a ≡ Some b → b < 256)
+pub bytes_of : (is : List Image) (ps : List Piece) (r : Result Joined AllocError) → All IsImage is → IsPermutation (all_pieces is) (map piece_content ps) → All HasBytes ps → OnOk r ((a b : ℕ) → code_byte is a ≡ Some b → b < 256)
 bytes_of is ps (Ok j) all same bytes = code_bytes is ps all same bytes
 bytes_of is ps (Err e) all same bytes = tt
 
-pub conflict_of : (is : List Image) (ps : List Piece) (r : Result Joined AllocError) → All IsImage is → IsPermutation (all_pieces is) (map told ps)
-    → IfOk r (λ j. IsFirst (λ a. disagree (λ p. piece_byte p a) ps) j.conflict) → IfOk r (λ j. j.conflict ≡ first_conflict is)
+pub conflict_of : (is : List Image) (ps : List Piece) (r : Result Joined AllocError) → All IsImage is → IsPermutation (all_pieces is) (map piece_content ps)
+    → IfOk r (λ j. IsFirstPassing (λ a. disagree (λ p. piece_byte p a) ps) j.conflict) → IfOk r (λ j. j.conflict ≡ first_conflict is)
 conflict_of is ps (Ok j) all same least = conflict_is is ps all same j.conflict least
 conflict_of is ps (Err e) all same least = tt
 
-pub index_of : (is : List Image) (ps : List Piece) (r : Result Joined AllocError) → All IsImage is → IsPermutation (all_pieces is) (map told ps)
-    → IfOk r (λ j. AllPairs IsBefore j.runs.items) → IfOk r (λ j. (a : ℕ) → runs_byte j.runs.items a ≡ find_map (λ p. piece_byte p a) ps)
-    → IfOk r (λ j. IsFirst (λ a. disagree (λ p. piece_byte p a) ps) j.conflict) → IfOk r (λ j. j.conflict ≡ None → IsIndex j.runs.items (code_byte is))
+pub index_of : (is : List Image) (ps : List Piece) (r : Result Joined AllocError) → All IsImage is → IsPermutation (all_pieces is) (map piece_content ps)
+    → IfOk r (λ j. AllPairs IsRunBefore j.runs.items) → IfOk r (λ j. (a : ℕ) → runs_byte j.runs.items a ≡ find_map (λ p. piece_byte p a) ps)
+    → IfOk r (λ j. IsFirstPassing (λ a. disagree (λ p. piece_byte p a) ps) j.conflict) → IfOk r (λ j. j.conflict ≡ None → IsByteIndex j.runs.items (code_byte is))
 index_of is ps (Ok j) all same apart bytes least = index_is is ps all same j.runs.items j.conflict apart bytes least
 index_of is ps (Err e) all same apart bytes least = tt
 
@@ -207,15 +207,15 @@ alone : (i : Image) → first_conflict (i ∷ []) ≡ None
 unfolding first_conflict
 alone i = none_below (2 ^ 32) (is_conflict (i ∷ [])) (λ a. rw (or_nothing (image_byte i a), same_never (image_byte i a)) refl)
 
-pub alone_index : (i : Image) (is : List Image) (rs : List Run) (o : Option ℕ) → is ≡ i ∷ [] → o ≡ first_conflict is → (o ≡ None → IsIndex rs (code_byte is)) → IsIndex rs (image_byte i)
+pub alone_index : (i : Image) (is : List Image) (rs : List Run) (o : Option ℕ) → is ≡ i ∷ [] → o ≡ first_conflict is → (o ≡ None → IsByteIndex rs (code_byte is)) → IsByteIndex rs (image_byte i)
 alone_index i is rs o one conflict index =
-    let found : IsIndex rs (code_byte is) = index (conflict ∙ (ap first_conflict one ∙ alone i)) in
+    let found : IsByteIndex rs (code_byte is) = index (conflict ∙ (ap first_conflict one ∙ alone i)) in
     record { apart = found.apart; is = λ a. found.is a ∙ (ap (λ xs. code_byte xs a) one ∙ or_nothing (image_byte i a)) }
 
 -- an index more
-pub indexes_more : (own : List (List Run)) (is : List Image) (n : ℕ) (rs : List Run) (i : Image) → length own ≡ n → n < length is → i ≡ get_or is n i → IsIndex rs (image_byte i)
-    → ((k : ℕ) (r : List Run) (d : Image) → k < n → IsIndex (get_or own k r) (image_byte (get_or is k d)))
-    → (k : ℕ) (r : List Run) (d : Image) → k < n + 1 → IsIndex (get_or (own ++ rs ∷ []) k r) (image_byte (get_or is k d))
+pub indexes_more : (own : List (List Run)) (is : List Image) (n : ℕ) (rs : List Run) (i : Image) → length own ≡ n → n < length is → i ≡ get_or is n i → IsByteIndex rs (image_byte i)
+    → ((k : ℕ) (r : List Run) (d : Image) → k < n → IsByteIndex (get_or own k r) (image_byte (get_or is k d)))
+    → (k : ℕ) (r : List Run) (d : Image) → k < n + 1 → IsByteIndex (get_or (own ++ rs ∷ []) k r) (image_byte (get_or is k d))
 indexes_more own is n rs i count lt item one all k r d below = ⊎_elim
     (λ (less : k < n). let inside : k < length own = omega arith in rw (get_or_append_left own (rs ∷ []) r k inside) (all k r d less))
     (λ (le : n ≤ k).

@@ -9,17 +9,17 @@ use Rattle.code_map.proofs.Has.{has_found}
 use Rattle.code_map.proofs.Indexed.{byte_below, no_image}
 use Rattle.code_map.specs.declared.files.Files.TheInside.{Inside}
 use Rattle.code_map.specs.declared.runs.Run.{Run}
-use Rattle.code_map.specs.Kept.{IsKept}
-use Rattle.code_map.specs.Runs.{runs_byte, IsBefore, IsIndex}
+use Rattle.code_map.specs.StoredFiles.{AreStoredFiles}
+use Rattle.code_map.specs.Runs.{runs_byte, IsRunBefore, IsByteIndex}
 use Rattle.code_map.specs.Words.{code_byte, image_byte, little_endian, owns, word_at, word_by, end}
 
 pub word_same : (f g : ℕ → Option ℕ) (a : ℕ) → ((x : ℕ) → f x ≡ g x) → word_by f a ≡ word_by g a
 word_same f g a h = rw (h a, h (a + 1), h (a + 2), h (a + 3)) refl
 
-pub index_apart : (m : Inside) (rs : List Run) → IsKept m → rs ≡ m.runs → AllPairs IsBefore rs
+pub index_apart : (m : Inside) (rs : List Run) → AreStoredFiles m → rs ≡ m.runs → AllPairs IsRunBefore rs
 index_apart m rs kept e = rw e (kept.all.apart)
 
-pub kept_word : (m : Inside) (is : List Image) (rs : List Run) (a : ℕ) → IsKept m → m.images ≡ is → rs ≡ m.runs → word_by (runs_byte rs) a ≡ word_at is a
+pub kept_word : (m : Inside) (is : List Image) (rs : List Run) (a : ℕ) → AreStoredFiles m → m.images ≡ is → rs ≡ m.runs → word_by (runs_byte rs) a ≡ word_at is a
 unfolding word_at
 kept_word m is rs a kept view e = rw (e, ← view) (word_same (runs_byte m.runs) _ a kept.all.is)
 
@@ -27,11 +27,11 @@ kept_word m is rs a kept view e = rw (e, ← view) (word_same (runs_byte m.runs)
 pub runs_are : (all kept : List (List Run)) (n k : _) (r rs : List Run) → all ≡ kept → n ≡ k → r ≡ get_or all n r → rs ≡ r → rs ≡ get_or kept k rs
 runs_are all kept n k r rs a b c d = subst (λ x. rs ≡ get_or kept k x) (sym d) (d ∙ (c ∙ (ap (λ x. get_or x n r) a ∙ ap (λ i. get_or kept i r) b)))
 
-module _ (m : Inside) (is : List Image) (rs : List Run) (k : ℕ) (kept : IsKept m) (view : m.images ≡ is) (lt : k < length is) (e : rs ≡ get_or m.own k rs) where
+module _ (m : Inside) (is : List Image) (rs : List Run) (k : ℕ) (kept : AreStoredFiles m) (view : m.images ≡ is) (lt : k < length is) (e : rs ≡ get_or m.own k rs) where
   within : k < length m.images
   within = subst (λ (xs : List Image). k < length xs) (sym view) lt
 
-  pub own_apart : AllPairs IsBefore rs
+  pub own_apart : AllPairs IsRunBefore rs
   own_apart = rw e ((kept.each k rs no_image within).apart)
 
   pub own_word : (a : ℕ) → option_map (λ i. owns i a) (slice_get is k) ≡ Some (is_some (word_by (runs_byte rs) a))
@@ -39,8 +39,8 @@ module _ (m : Inside) (is : List Image) (rs : List Run) (k : ℕ) (kept : IsKept
   own_word a =
       let image : Image = get_or is k no_image in
       let same : get_or m.images k no_image ≡ image = ap (λ (xs : List Image). get_or xs k no_image) view in
-      let kept_is : IsIndex (get_or m.own k rs) (image_byte image) = subst (λ i. IsIndex (get_or m.own k rs) (image_byte i)) same (kept.each k rs no_image within) in
-      let at : IsIndex rs (image_byte image) = subst (λ r. IsIndex r (image_byte image)) (sym e) kept_is in
+      let kept_is : IsByteIndex (get_or m.own k rs) (image_byte image) = subst (λ i. IsByteIndex (get_or m.own k rs) (image_byte i)) same (kept.each k rs no_image within) in
+      let at : IsByteIndex rs (image_byte image) = subst (λ r. IsByteIndex r (image_byte image)) (sym e) kept_is in
       ap (option_map (λ i. owns i a)) (slice_get-get_or is k no_image lt) ∙ ap (λ w. Some (is_some w)) (sym (word_same (runs_byte rs) (image_byte image) a at.is))
 
 -- a word ends below the end
@@ -56,8 +56,8 @@ within_end byte a (Some w) below e = ⊎_elim
 
 -- the files that are made
 pub is_kept : (m : Inside) (is js : List Image) (rs : List Run) (own : List (List Run)) → is ≡ m.images → js ≡ m.images → m.runs ≡ rs → m.own ≡ own
-    → IsIndex rs (code_byte is) → ((k : ℕ) (r : List Run) (i : Image) → k < length js → IsIndex (get_or own k r) (image_byte (get_or js k i))) → length own ≡ length js
-    → All IsImage is → ((a b : ℕ) → code_byte is a ≡ Some b → b < 256) → IsKept m
+    → IsByteIndex rs (code_byte is) → ((k : ℕ) (r : List Run) (i : Image) → k < length js → IsByteIndex (get_or own k r) (image_byte (get_or js k i))) → length own ≡ length js
+    → All IsImage is → ((a b : ℕ) → code_byte is a ≡ Some b → b < 256) → AreStoredFiles m
 is_kept m is js rs own a b c d all each count images bytes = record {
   all = rw (c, ← a) all;
   each = λ k r i lt. rw (d, ← b) (each k r i (rw b lt));
@@ -90,7 +90,7 @@ word_where byte a w e = ⊎_elim
     (cases_Bool (eqb (a % 4) 0))
 
 -- a word ends below the end, and is below 2 ^ 32
-pub words_are : (m : Inside) (is : List Image) → IsKept m → m.images ≡ is → (a w : ℕ) → word_at is a ≡ Some w → (a + 4 ≤ end) × (w < 2 ^ 32)
+pub words_are : (m : Inside) (is : List Image) → AreStoredFiles m → m.images ≡ is → (a w : ℕ) → word_at is a ≡ Some w → (a + 4 ≤ end) × (w < 2 ^ 32)
 unfolding word_at
 words_are m is kept view a w e =
     let bytes : (x b : ℕ) → code_byte is x ≡ Some b → b < 256 = rw (← view) kept.bytes in

@@ -10,10 +10,10 @@ use Rattle.std.proofs.lemmas.Bool.{cases_lt}
 use Rattle.crpd_base.proofs.Options.{none_or_some}
 use Rattle.code_map.specs.declared.pieces.Piece.{Piece}
 use Rattle.code_map.specs.declared.runs.Run.{Run}
-use Rattle.code_map.specs.Conflicts.{differ, disagree, IsFirst}
+use Rattle.code_map.specs.Conflicts.{differ, disagree, IsFirstPassing}
 use Rattle.code_map.specs.Joined.{HasPiece, TakesPiece, lesser}
 use Rattle.code_map.specs.Pieces.{piece_byte}
-use Rattle.code_map.specs.Runs.{runs_byte, IsBefore}
+use Rattle.code_map.specs.Runs.{runs_byte, IsRunBefore}
 use Rattle.code_map.specs.Words.{find_map}
 use Rattle.code_map.proofs.First.{found_append, or_nothing, or_none}
 use Rattle.code_map.proofs.Adding.{differ_none, first_same}
@@ -50,7 +50,7 @@ disagree_more f xs y = list_any-append (λ x. differ (find_map f (xs ++ y ∷ []
         let now : find_map f (xs ++ y ∷ []) ≡ Some z = all ∙ rw some refl in
         rw (now, some, or_last (differ (Some z) (f y))) refl
 
-pub lesser_first : (p q r : ℕ → Bool) (a b : Option ℕ) → IsFirst p a → IsFirst q b → ((n : ℕ) → r n ≡ (p n || q n)) → IsFirst r (lesser a b)
+pub lesser_first : (p q r : ℕ → Bool) (a b : Option ℕ) → IsFirstPassing p a → IsFirstPassing q b → ((n : ℕ) → r n ≡ (p n || q n)) → IsFirstPassing r (lesser a b)
 lesser_first p q r None b none other is = first_same r q b (λ n. is n ∙ rw (none n) refl) other
 lesser_first p q r (Some x) None one none is = first_same r p (Some x) (λ n. is n ∙ rw (none n) (or_last (p n))) one
   where
@@ -77,10 +77,10 @@ no_piece = record { start = 0; bytes = record { ref_ptr = (0, 0); now = [] } }
 
 -- what holds after the first i pieces
 pub record IsSwept (pieces : List Piece) (i : ℕ) (runs : List Run) (o : Option ℕ) : Type 0 where
-  pub apart : AllPairs IsBefore runs
+  pub apart : AllPairs IsRunBefore runs
   pub starts : (k : ℕ) (d : Piece) → i ≤ k → k < length pieces → All (λ (r : Run). r.start ≤ (get_or pieces k d).start) runs
   pub bytes : (a : ℕ) → runs_byte runs a ≡ find_map (λ p. piece_byte p a) (take i pieces)
-  pub conflict : IsFirst (λ a. disagree (λ p. piece_byte p a) (take i pieces)) o
+  pub conflict : IsFirstPassing (λ a. disagree (λ p. piece_byte p a) (take i pieces)) o
 
 pub swept_none : (pieces : List Piece) → IsSwept pieces 0 [] None
 swept_none pieces = record {

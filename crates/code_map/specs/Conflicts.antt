@@ -29,10 +29,10 @@ unfoldable pub first_conflict : List Image → Option ℕ
 first_conflict images = least_below (2 ^ 32) (is_conflict images)
 
 -- a is the least number that passes a test
-pub record IsLeast (p : ℕ → Bool) (a : ℕ) : Type 0 where
+pub record IsLeastPassing (p : ℕ → Bool) (a : ℕ) : Type 0 where
   pub passes : p a ≡ true
   pub least : (b : ℕ) → b < a → p b ≡ false
 
 -- the least number that passes a test, where one does
-abbrev pub IsFirst : (ℕ → Bool) → Option ℕ → Type 0
-IsFirst p o = MatchOption o ((a : ℕ) → p a ≡ false) (IsLeast p)
+abbrev pub IsFirstPassing : (ℕ → Bool) → Option ℕ → Type 0
+IsFirstPassing p o = MatchOption o ((a : ℕ) → p a ≡ false) (IsLeastPassing p)

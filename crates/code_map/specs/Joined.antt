@@ -3,9 +3,9 @@ use Rattle.std.specs.Prelude.{◌≡◌, ◌≢◌, ℕ, ◌+◌, ◌<◌, ◌�
 use Rattle.std.specs.Option.{option_or}
 use Rattle.code_map.specs.declared.pieces.Piece.{Piece}
 use Rattle.code_map.specs.declared.runs.Run.{Run}
-use Rattle.code_map.specs.Conflicts.{differ, IsFirst}
+use Rattle.code_map.specs.Conflicts.{differ, IsFirstPassing}
 use Rattle.code_map.specs.Pieces.{piece_byte}
-use Rattle.code_map.specs.Runs.{runs_byte, IsBefore}
+use Rattle.code_map.specs.Runs.{runs_byte, IsRunBefore}
 
 -- the lists differ at i, and at no place before
 pub record IsFirstDifference (bytes others : List ℕ) (i : ℕ) : Type 0 where
@@ -22,13 +22,13 @@ lesser (Some x) (Some y) = Some (min x y)
 
 -- a piece may be added to runs: none starts behind it
 pub record TakesPiece (rs : List Run) (p : Piece) : Type 0 where
-  pub apart : AllPairs IsBefore rs
+  pub apart : AllPairs IsRunBefore rs
   pub starts : All (λ (r : Run). r.start ≤ p.start) rs
   pub below : p.start + length p.bytes.now ≤ 2 ^ 32
 
 -- runs with a piece added, and the least address at which it differs from them
 pub record HasPiece (rs : List Run) (p : Piece) (new : List Run) (least : Option ℕ) : Type 0 where
-  pub apart : AllPairs IsBefore new
+  pub apart : AllPairs IsRunBefore new
   pub starts : All (λ (r : Run). r.start ≤ p.start) new
   pub bytes : (a : ℕ) → runs_byte new a ≡ option_or (runs_byte rs a) (piece_byte p a)
-  pub conflict : IsFirst (λ a. differ (runs_byte rs a) (piece_byte p a)) least
+  pub conflict : IsFirstPassing (λ a. differ (runs_byte rs a) (piece_byte p a)) least

@@ -1,7 +1,7 @@
 pub mod Conflicts
 pub mod Joined
-pub mod Kept
-pub mod Next
+pub mod StoredFiles
+pub mod NextPassing
 pub mod Pieces
 pub mod Places
 pub mod Reading

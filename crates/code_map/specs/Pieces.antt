@@ -19,8 +19,8 @@ all_pieces [] = []
 all_pieces (i ∷ is) = pieces_of i ++ all_pieces is
 
 -- what a piece of the program stands for
-abbrev pub told : Piece → ℕ × List ℕ
-told p = (p.start, p.bytes.now)
+abbrev pub piece_content : Piece → ℕ × List ℕ
+piece_content p = (p.start, p.bytes.now)
 
 abbrev pub piece_byte : Piece → ℕ → Option ℕ
 piece_byte p a = byte_from p.start p.bytes.now a

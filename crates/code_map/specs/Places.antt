@@ -20,12 +20,12 @@ unfoldable pub place_text : List ℕ → ℕ → List ℕ
 place_text name offset = if offset == 0 then name else name ++ codes "+" ++ decimal offset
 
 -- a value with an offset, where the sum is below 2 ^ 32
-abbrev pub shifted : ℕ → ℕ → Option ℕ
-shifted offset value = if nat_lt (value + offset) (2 ^ 32) then Some (value + offset) else None
+abbrev pub value_with_offset : ℕ → ℕ → Option ℕ
+value_with_offset offset value = if nat_lt (value + offset) (2 ^ 32) then Some (value + offset) else None
 
 -- a symbol's value with an offset, where the file has the symbol and the sum is below 2 ^ 32
 abbrev pub symbol_address : List Symbol → List ℕ → ℕ → Option ℕ
-symbol_address symbols name offset = option_and_then (shifted offset) (value_of symbols name)
+symbol_address symbols name offset = option_and_then (value_with_offset offset) (value_of symbols name)
 
 -- the address that a place of a task stands for
 unfoldable pub address_of : Task → List Symbol → Place → Result ℕ MapError

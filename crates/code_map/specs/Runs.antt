@@ -18,14 +18,14 @@ abbrev pub have_word : List Run → ℕ → Bool
 have_word rs a = is_some (word_by (runs_byte rs) a)
 
 -- the address after the last of a run's
-abbrev pub end_of : Run → ℕ
-end_of r = r.start + length r.bytes
+abbrev pub run_end : Run → ℕ
+run_end r = r.start + length r.bytes
 
 -- an address lies between the two runs, which neither has
-abbrev pub IsBefore : Run → Run → Type 0
-IsBefore r s = end_of r < s.start
+abbrev pub IsRunBefore : Run → Run → Type 0
+IsRunBefore r s = run_end r < s.start
 
 -- runs that ascend with an address between any two, and have these bytes
-pub record IsIndex (runs : List Run) (byte : ℕ → Option ℕ) : Type 0 where
-  pub apart : AllPairs IsBefore runs
+pub record IsByteIndex (runs : List Run) (byte : ℕ → Option ℕ) : Type 0 where
+  pub apart : AllPairs IsRunBefore runs
   pub is : (a : ℕ) → runs_byte runs a ≡ byte a

@@ -5,8 +5,8 @@ ghost use Rattle.crpd_base.specs.declared.data.Image.{Image};
 ghost use Rattle.code_map.specs.declared.runs.Run.{Run};
 ghost use Rattle.crpd_base.specs.Outcome.{Gives};
 ghost use Rattle.code_map.specs.Reading.{files_of};
-ghost use Rattle.code_map.specs.Next.{IsNextOf};
-ghost use Rattle.code_map.specs.Runs.{IsIndex};
+ghost use Rattle.code_map.specs.NextPassing.{IsNextOf};
+ghost use Rattle.code_map.specs.Runs.{IsByteIndex};
 ghost use Rattle.code_map.specs.Words.{image_byte, word_at, owns, end};
 
 use crate::fault::MapError;
@@ -31,17 +31,17 @@ impl Model for Files {
 
     ghost Value = { List Image };
 
-    ghost use Rattle.code_map.specs.Kept.{IsKept};
+    ghost use Rattle.code_map.specs.StoredFiles.{AreStoredFiles};
 
     ghost view = { λ f. f.images };
 
-    ghost invariant = { IsKept };
+    ghost invariant = { AreStoredFiles };
 }
 
 /// The index of one file.
 fn own_index(alloc: Global, image: &Image) -> Result<Items<Run>, AllocError>
     requires { IsImage image.now }
-    ensures { IfOk result (λ rs. IsIndex rs (image_byte image.now)) }
+    ensures { IfOk result (λ rs. IsByteIndex rs (image_byte image.now)) }
 {
     let joined = index(alloc, slice::from_ref(image))?;
     Ok(Items::new(joined.runs))
@@ -51,7 +51,7 @@ fn own_index(alloc: Global, image: &Image) -> Result<Items<Run>, AllocError>
 fn own_indexes(alloc: Global, images: &[Image]) -> Result<Vec<Items<Run>>, AllocError>
     requires { All IsImage images.now }
     ensures count { IfOk result (λ v. length v.items ≡ length images.now) }
-    ensures each { IfOk result (λ v. (k : ℕ) (r : List Run) (i : Image) → k < length images.now → IsIndex (slice_index_or v.items k r) (image_byte (slice_index_or images.now k i))) }
+    ensures each { IfOk result (λ v. (k : ℕ) (r : List Run) (i : Image) → k < length images.now → IsByteIndex (slice_index_or v.items k r) (image_byte (slice_index_or images.now k i))) }
 {
     let mut own = Vec::new(alloc);
     for image in images {

@@ -2,7 +2,7 @@
 ghost use Rattle.std.specs.Prelude.{◌≡◌, ◌<◌, ℕ, All, AllPairs, None, Some, IfOk, OnOk};
 ghost use Rattle.crpd_base.specs.Images.{IsImage};
 ghost use Rattle.code_map.specs.Conflicts.{first_conflict};
-ghost use Rattle.code_map.specs.Runs.{IsBefore, IsIndex};
+ghost use Rattle.code_map.specs.Runs.{IsRunBefore, IsByteIndex};
 ghost use Rattle.code_map.specs.Words.{code_byte};
 
 use crate::joined::{Joined, join};
@@ -15,7 +15,7 @@ pub(crate) fn index(alloc: Global, images: &[Image]) -> Result<Joined, AllocErro
     requires { All IsImage images.now }
     ensures conflict { IfOk result (λ j. j.conflict ≡ first_conflict images.now) }
     ensures bytes { OnOk result ((a b : ℕ) → code_byte images.now a ≡ Some b → b < 256) }
-    ensures is { IfOk result (λ j. j.conflict ≡ None → IsIndex j.runs.items (code_byte images.now)) }
+    ensures is { IfOk result (λ j. j.conflict ≡ None → IsByteIndex j.runs.items (code_byte images.now)) }
 {
     let pieces = pieces(alloc, images)?;
     join(alloc, &pieces)

@@ -2,11 +2,11 @@
 ghost use Rattle.std.specs.Prelude.{◌≡◌, ◌≢◌, ℕ, ◌+◌, ◌<◌, ◌≤◌, ◌^◌, ◌++◌, ◌∷◌, [], length, slice_index, All, AllPairs, IfOk, OnOk, MatchOption, nat_le};
 ghost use Rattle.std.specs.Option.{option_or};
 ghost use Rattle.std.specs.List.Sorted.{IsNonDecreasingBy};
-ghost use Rattle.code_map.specs.Conflicts.{differ, disagree, IsFirst};
+ghost use Rattle.code_map.specs.Conflicts.{differ, disagree, IsFirstPassing};
 ghost use Rattle.code_map.specs.Joined as spec;
 ghost use Rattle.code_map.specs.Joined.{HasPiece, IsFirstDifference, TakesPiece};
 ghost use Rattle.code_map.specs.Pieces.{piece_byte};
-ghost use Rattle.code_map.specs.Runs.{run_byte, runs_byte, end_of, IsBefore};
+ghost use Rattle.code_map.specs.Runs.{run_byte, runs_byte, run_end, IsRunBefore};
 ghost use Rattle.code_map.specs.Words.{find_map};
 
 use crate::pieces::Piece;
@@ -38,9 +38,9 @@ fn first_difference(bytes: &[u8], others: &[u8]) -> Option<usize>
 /// The least address at which a run and a piece that begins in it, or where it ends, have different bytes.
 fn conflict_with(run: &Run, piece: &Piece) -> Option<u32>
     requires from { run.now.start ≤ piece.now.start }
-    requires to { piece.now.start ≤ end_of run.now }
+    requires to { piece.now.start ≤ run_end run.now }
     requires below { piece.now.start + length piece.now.bytes.now ≤ 2 ^ 32 }
-    ensures { IsFirst (λ a. differ (run_byte run.now a) (piece_byte piece.now a)) result }
+    ensures { IsFirstPassing (λ a. differ (run_byte run.now a) (piece_byte piece.now a)) result }
 {
     let from = (piece.start - run.start) as usize;
     match first_difference(&run.bytes.as_slice()[from..], piece.bytes) {
@@ -50,9 +50,9 @@ fn conflict_with(run: &Run, piece: &Piece) -> Option<u32>
 }
 
 /// A run with the bytes of a piece that begins in it, or where it ends.
-fn extended(run: Run, piece: &Piece) -> Result<Run, AllocError>
+fn extended_run(run: Run, piece: &Piece) -> Result<Run, AllocError>
     requires from { run.start ≤ piece.now.start }
-    requires to { piece.now.start ≤ end_of run }
+    requires to { piece.now.start ≤ run_end run }
     ensures start { IfOk result (λ r. r.start ≡ run.start) }
     ensures bytes { IfOk result (λ r. (a : ℕ) → run_byte r a ≡ option_or (run_byte run a) (piece_byte piece.now a)) }
 {
@@ -81,7 +81,7 @@ fn run_of(alloc: Global, piece: &Piece) -> Result<Run, AllocError>
 /// Whether a piece begins in a run or where it ends.
 fn is_reached(run: &Run, piece: &Piece) -> bool
     requires { run.now.start ≤ piece.now.start }
-    ensures { result ≡ nat_le piece.now.start (end_of run.now) }
+    ensures { result ≡ nat_le piece.now.start (run_end run.now) }
 {
     (piece.start - run.start) as usize <= run.bytes.as_slice().len()
 }
@@ -98,7 +98,7 @@ fn add_to_last(
 {
     if is_reached(&last, piece) {
         let conflict = conflict_with(&last, piece);
-        let longer = extended(last, piece)?;
+        let longer = extended_run(last, piece)?;
         front.push(longer)?;
         return Ok(conflict);
     }
@@ -137,9 +137,9 @@ fn lesser(a: Option<u32>, b: Option<u32>) -> Option<u32>
 pub(crate) fn join(alloc: Global, pieces: &[Piece]) -> Result<Joined, AllocError>
     requires ascending { IsNonDecreasingBy (λ p. p.start) pieces.now }
     requires below { All (λ p. p.start + length p.bytes.now ≤ 2 ^ 32) pieces.now }
-    ensures apart { IfOk result (λ j. AllPairs IsBefore j.runs.items) }
+    ensures apart { IfOk result (λ j. AllPairs IsRunBefore j.runs.items) }
     ensures bytes { IfOk result (λ j. (a : ℕ) → runs_byte j.runs.items a ≡ find_map (λ p. piece_byte p a) pieces.now) }
-    ensures conflict { IfOk result (λ j. IsFirst (λ a. disagree (λ p. piece_byte p a) pieces.now) j.conflict) }
+    ensures conflict { IfOk result (λ j. IsFirstPassing (λ a. disagree (λ p. piece_byte p a) pieces.now) j.conflict) }
 {
     let mut runs = Vec::new(alloc);
     let mut conflict = None;

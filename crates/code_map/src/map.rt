@@ -2,7 +2,7 @@
 ghost use Rattle.std.specs.Prelude.{◌≡◌, ℕ, ◌+◌, ◌^◌, ◌<◌, ◌≤◌, length, slice_get, option_map, All, Some, IfSome};
 ghost use Rattle.crpd_base.specs.Images.{IsImage};
 ghost use Rattle.crpd_base.specs.declared.data.Image.{Image};
-ghost use Rattle.code_map.specs.Next.{IsNextOf};
+ghost use Rattle.code_map.specs.NextPassing.{IsNextOf};
 ghost use Rattle.crpd_base.specs.Outcome.{Gives};
 ghost use Rattle.code_map.specs.Reading.{code_of};
 ghost use Rattle.code_map.specs.Words.{word_at, owns, end};

@@ -2,7 +2,7 @@
 ghost use Rattle.std.specs.Prelude.{◌≡◌, ◌+◌, ◌≤◌, ◌^◌, ◌++◌, length, map, All, IfOk, OnOk};
 ghost use Rattle.std.specs.List.Sorted.{IsNonDecreasingBy, IsPermutation};
 ghost use Rattle.crpd_base.specs.Images.{IsImage};
-ghost use Rattle.code_map.specs.Pieces.{pieces_of, all_pieces, told, HasBytes};
+ghost use Rattle.code_map.specs.Pieces.{pieces_of, all_pieces, piece_content, HasBytes};
 
 use crpd_base::Image;
 use std::alloc::{AllocError, Global};
@@ -17,7 +17,7 @@ pub(crate) struct Piece<'a> {
 /// Adds the pieces of a file.
 fn add_pieces<'a>(pieces: &mut Vec<Piece<'a>>, image: &'a Image) -> Result<(), AllocError>
     requires { All HasBytes pieces.old.items }
-    ensures same { IfOk result (λ _. map told pieces.new.items ≡ map told pieces.old.items ++ pieces_of image.now) }
+    ensures same { IfOk result (λ _. map piece_content pieces.new.items ≡ map piece_content pieces.old.items ++ pieces_of image.now) }
     ensures bytes { OnOk result (All HasBytes pieces.new.items) }
 {
     for segment in image.segments.as_slice() {
@@ -34,7 +34,7 @@ fn add_pieces<'a>(pieces: &mut Vec<Piece<'a>>, image: &'a Image) -> Result<(), A
 
 /// The pieces of files, one file after another.
 fn all_pieces(alloc: Global, images: &[Image]) -> Result<Vec<Piece<'_>>, AllocError>
-    ensures same { IfOk result (λ v. map told v.items ≡ all_pieces images.now) }
+    ensures same { IfOk result (λ v. map piece_content v.items ≡ all_pieces images.now) }
     ensures bytes { IfOk result (λ v. All HasBytes v.items) }
 {
     let mut pieces = Vec::new(alloc);
@@ -46,7 +46,7 @@ fn all_pieces(alloc: Global, images: &[Image]) -> Result<Vec<Piece<'_>>, AllocEr
 
 /// The pieces of files, ascending by their starts.
 pub(crate) fn pieces(alloc: Global, images: &[Image]) -> Result<Vec<Piece<'_>>, AllocError>
-    ensures same { IfOk result (λ v. IsPermutation (all_pieces images.now) (map told v.items)) }
+    ensures same { IfOk result (λ v. IsPermutation (all_pieces images.now) (map piece_content v.items)) }
     ensures bytes { IfOk result (λ v. All HasBytes v.items) }
     ensures ascending { IfOk result (λ v. IsNonDecreasingBy (λ p. p.start) v.items) }
 {

@@ -2,8 +2,8 @@
 ghost use Rattle.std.specs.Prelude.{◌≡◌, ℕ, ◌+◌, ◌*◌, ◌<◌, ◌≤◌, length, slice_index, AllPairs, Some, IfSome};
 ghost use Rattle.std.specs.List.{AllWithin};
 ghost use Rattle.code_map.specs.Words.{little_endian, word_by, end};
-ghost use Rattle.code_map.specs.Next.{IsNextAddress};
-ghost use Rattle.code_map.specs.Runs.{run_byte, runs_byte, has_word, have_word, IsBefore};
+ghost use Rattle.code_map.specs.NextPassing.{IsNextAddress};
+ghost use Rattle.code_map.specs.Runs.{run_byte, runs_byte, has_word, have_word, IsRunBefore};
 
 use crpd_base::Items;
 
@@ -19,7 +19,7 @@ pub(crate) struct Run {
 
 /// How many runs start at or below an address.
 fn runs_up_to(runs: &[Run], address: u32) -> usize
-    requires { AllPairs IsBefore runs.now }
+    requires { AllPairs IsRunBefore runs.now }
     ensures bound { result ≤ length runs.now }
     ensures before { AllWithin (λ r. r.start ≤ address) runs.now 0 result }
     ensures after { AllWithin (λ r. address < r.start) runs.now result (length runs.now) }
@@ -52,7 +52,7 @@ fn number_in(run: &Run, address: u32) -> Option<u32>
 
 /// The word at an address.
 pub(crate) fn word(runs: &[Run], address: u32) -> Option<u32>
-    requires { AllPairs IsBefore runs.now }
+    requires { AllPairs IsRunBefore runs.now }
     ensures { result ≡ word_by (runs_byte runs.now) address }
 {
     if address % 4 != 0 || address == END {
@@ -83,7 +83,7 @@ fn next_in(run: &Run, from: u32) -> Option<u32>
 
 /// The least address at or after one at which a word stands in runs.
 pub(crate) fn next_word(runs: &[Run], from: u32) -> Option<u32>
-    requires { AllPairs IsBefore runs.now }
+    requires { AllPairs IsRunBefore runs.now }
     ensures is { IsNextAddress (have_word runs.now) from result }
     ensures within { IfSome result (λ a. a + 4 ≤ end) }
 {

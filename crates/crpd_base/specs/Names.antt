@@ -9,8 +9,8 @@ abbrev pub is_between : ℕ → ℕ → ℕ → Bool
 is_between low high n = nat_le low n && nat_le n high
 
 -- the length of a cache line in bytes: 4, 8, 16, 32 or 64
-abbrev pub is_line : ℕ → Bool
-is_line n = n == 4 || n == 8 || n == 16 || n == 32 || n == 64
+abbrev pub is_line_length : ℕ → Bool
+is_line_length n = n == 4 || n == 8 || n == 16 || n == 32 || n == 64
 
 -- a letter, a digit, or one of `_`, `.` and `-`
 abbrev pub is_name_byte : ℕ → Bool

@@ -5,12 +5,12 @@ use Rattle.crpd_base.specs.declared.data.LoopSpec.{LoopSpec}
 use Rattle.crpd_base.specs.declared.data.TaskSpec.{TaskSpec}
 use Rattle.crpd_base.specs.declared.data.TaskSet.{TaskSet}
 use Rattle.crpd_base.specs.Limits.{most_sets, most_cost, most_tasks, most_loops, most_turns, longest_time}
-use Rattle.crpd_base.specs.Names.{is_line, is_name, is_file}
+use Rattle.crpd_base.specs.Names.{is_line_length, is_name, is_file}
 
 -- a platform: 4, 8, 16, 32 or 64 bytes a line, 1 to 512 sets, at least one cycle an instruction, and costs below 2^16
 pub record IsPlatform (p : Platform) : Type 0 where
   pub line : (4 ≤ p.line) × (p.line ≤ 64)
-  pub line_size : is_line p.line ≡ true
+  pub line_size : is_line_length p.line ≡ true
   pub sets : (1 ≤ p.sets) × (p.sets ≤ most_sets)
   pub hit : (1 ≤ p.hit) × (p.hit ≤ most_cost)
   pub miss : p.miss ≤ most_cost

@@ -9,9 +9,9 @@ use Rattle.rv_decode.specs.Flow.{Words}
 use Rattle.code_map.specs.Words.{word_at}
 use Rattle.flat_graph.specs.CodeGraph.{CodeGraph, IsCodeGraph, graph_of, places_of, no_graph, graph_at}
 use Rattle.loop_regions.specs.CodeNest.{CodeNest, nest_of}
-use Rattle.loop_regions.specs.Stated.{IsAccepted, IsRegions, IsSameHead}
-use Rattle.cert_check.specs.Judge.{IsGraphOf}
-use Rattle.cert_check.specs.Shown.{nest_at, no_nest, shown, shown_at}
+use Rattle.loop_regions.specs.Stated.{HasNoLoopRefusals, IsRegions, IsSameHead}
+use Rattle.cert_check.specs.JudgeInput.{IsGraphOf}
+use Rattle.cert_check.specs.TaskGraphs.{nest_at, no_nest, task_graph, task_graph_at}
 use Rattle.cert_check.proofs.Built.{graph_of_law}
 use Rattle.preempt_machine.specs.Machine.{plan_of}
 use Rattle.preempt_machine.specs.Safe.{system_of}
@@ -42,11 +42,11 @@ record IsMade (words : Words) (plan : TaskPlan) (g : CodeGraph) (n : CodeNest) :
   graph : IsCodeGraph words plan.entry g
   one_head : (a : ℕ) → IsSameHead plan.loops a → ⊥
   regions : IsRegions (graph_of g) (places_of g) plan.loops (nest_of n)
-  accepted : IsAccepted (graph_of g) (nest_of n)
+  accepted : HasNoLoopRefusals (graph_of g) (nest_of n)
 
-made_graph : (words : Words) (plan : TaskPlan) (g : CodeGraph) (n : CodeNest) → IsMade words plan g n → IsGraphOf words plan (shown g n)
+made_graph : (words : Words) (plan : TaskPlan) (g : CodeGraph) (n : CodeNest) → IsMade words plan g n → IsGraphOf words plan (task_graph g n)
 made_graph words plan g n M =
-    graph_of_law words plan M.graph.nodes (shown g n)
+    graph_of_law words plan M.graph.nodes (task_graph g n)
     (record { flat = M.graph.flat; places = M.graph.places; no_errors = M.graph.no_errors; instructions = M.graph.instructions; regions = M.regions; accepted = M.accepted })
 
 module _ (input : Input) (shapes : Shapes) (all : AreMade input shapes) where
@@ -73,12 +73,12 @@ module _ (input : Input) (shapes : Shapes) (all : AreMade input shapes) where
       let regions = subst (λ p. IsRegions (graph_of (graph_at shapes.graphs k)) (places_of (graph_at shapes.graphs k)) p.loops (nest_of (nest_at shapes.nests k))) (sym second)
       (subst (λ x. IsRegions (graph_of x) (places_of x) of_nest.0.loops (nest_of (nest_at shapes.nests k))) (sym seen_is)
       (subst (λ x. IsRegions (graph_of of_nest.1) (places_of of_nest.1) of_nest.0.loops (nest_of x)) (sym nest_is) of_nest.4.1)) in
-      let accepted = subst (λ x. IsAccepted (graph_of x) (nest_of (nest_at shapes.nests k))) (sym seen_is)
-      (subst (λ x. IsAccepted (graph_of of_nest.1) (nest_of x)) (sym nest_is) of_nest.4.2) in
+      let accepted = subst (λ x. HasNoLoopRefusals (graph_of x) (nest_of (nest_at shapes.nests k))) (sym seen_is)
+      (subst (λ x. HasNoLoopRefusals (graph_of of_nest.1) (nest_of x)) (sym nest_is) of_nest.4.2) in
       record { graph = graph; one_head = one_head; regions = regions; accepted = accepted }
 
 -- what the analysis of a set's code gives are the graphs of the set's plans
 pub shapes_built : (input : Input) (shapes : Shapes) → IsInput input → length input.code.plans ≡ length input.set.tasks → ShapesIn input (Ok shapes)
-    → (k : ℕ) → k < length input.set.tasks → IsGraphOf (word_at input.code.images) (plan_of (system_of input.set input.code) k) (shown_at shapes.graphs shapes.nests k)
+    → (k : ℕ) → k < length input.set.tasks → IsGraphOf (word_at input.code.images) (plan_of (system_of input.set input.code) k) (task_graph_at shapes.graphs shapes.nests k)
 shapes_built input shapes is count given k lt =
     made_graph (word_at input.code.images) (plan_of (system_of input.set input.code) k) (graph_at shapes.graphs k) (nest_at shapes.nests k) (made_at input shapes (made input shapes given) k lt)

@@ -7,7 +7,7 @@ use Rattle.crpd_base.specs.declared.data.TaskSet.{TaskSet}
 use Rattle.code_map.specs.Words.{Code}
 use Rattle.flat_graph.specs.CodeGraph.{CodeGraph, graph_at}
 use Rattle.loop_regions.specs.CodeNest.{AreBounded, CodeNest, IsNestOf}
-use Rattle.cert_check.specs.Shown.{AreShown, no_nest}
+use Rattle.cert_check.specs.TaskGraphs.{AreTaskGraphs, no_nest}
 use Rattle.crpd_input.specs.declared.halt.Halt.{Halt}
 use Rattle.crpd_input.specs.Graphs.{HasBoundedLoops}
 use Rattle.crpd_input.proofs.Below.{HasValues}
@@ -17,7 +17,7 @@ abbrev pub ShownAt : List CodeGraph → ℕ → Result CodeNest Halt → Type 0
 ShownAt graphs k (Ok nest) = IsNestOf (graph_at graphs k) nest
 ShownAt graphs k (Err refusal) = Unit {0}
 
-pub all_shown : (set : TaskSet) (graphs : List CodeGraph) (nests : List CodeNest) → length graphs ≡ length set.tasks → length nests ≡ length set.tasks → HasValues (ShownAt graphs) nests → AreShown set graphs nests
+pub all_shown : (set : TaskSet) (graphs : List CodeGraph) (nests : List CodeNest) → length graphs ≡ length set.tasks → length nests ≡ length set.tasks → HasValues (ShownAt graphs) nests → AreTaskGraphs set graphs nests
 all_shown set graphs nests one two has = record {
   all_graphs = one;
   all_nests = two;

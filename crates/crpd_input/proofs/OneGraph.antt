@@ -12,13 +12,13 @@ use Rattle.crpd_base.proofs.Elements.{at_head, at_rest, head_or_rest, in_none, a
 use Rattle.crpd_base.proofs.Options.{not_none}
 use Rattle.crpd_base.specs.declared.data.TaskPlan.{TaskPlan}
 use Rattle.rv_decode.specs.Flow.{Flow, Flows, Words, flows}
-use Rattle.rv_decode.specs.Table.{row}
+use Rattle.rv_decode.specs.Table.{ins_of_word}
 use Rattle.code_map.specs.Words.{word_at}
 use Rattle.flat_graph.specs.CodeGraph.{CodeGraph, IsCodeGraph, graph_of, no_node, node_of, places_of}
 use Rattle.flat_graph.specs.Numbered.{ArePlaces, IsFlatGraph}
-use Rattle.flat_graph.specs.FlatGraph.{FlatNode, NodeError, IsNode, IsBefore, IsNumbering, IsGraphRefused, GraphRefusal, TooManyNodes, AtNode, ins_error, error_of, successors}
+use Rattle.flat_graph.specs.FlatGraph.{FlatNode, NodeError, IsNode, IsNumberedBefore, IsNumbering, IsGraphRefused, GraphRefusal, TooManyNodes, AtNode, ins_error, error_of, successors}
 use Rattle.flat_graph.specs.FlatGraph as flat
-use Rattle.flat_graph.specs.Refusals.{IsRefused, graph_error}
+use Rattle.flat_graph.specs.GraphErrors.{IsGraphError, graph_error}
 use Rattle.flat_graph.specs.declared.fault.GraphError.{GraphError}
 use Rattle.flat_graph.specs.declared.fault.GraphError.TheVariants as graph
 use Rattle.crpd_input.specs.declared.input.Input.{Input}
@@ -32,30 +32,30 @@ abbrev Has : List FlatNode → List FlatNode → Type 0
 Has xs ys = (n : FlatNode) → Contains xs n → Contains ys n
 
 -- the first of a list is before all others
-not_later : (x y : FlatNode) (xs ys : List FlatNode) → AllPairs IsBefore (x ∷ xs) → AllPairs IsBefore (y ∷ ys) → Contains (y ∷ ys) x → Contains (x ∷ xs) y → x ≡ y
+not_later : (x y : FlatNode) (xs ys : List FlatNode) → AllPairs IsNumberedBefore (x ∷ xs) → AllPairs IsNumberedBefore (y ∷ ys) → Contains (y ∷ ys) x → Contains (x ∷ xs) y → x ≡ y
 not_later x y xs ys first second to back =
     elim (head_or_rest ys x y to) [
       | inl e ↦ sym e
       | inr later ↦ elim (head_or_rest xs y x back) [
         | inl e ↦ e
-        | inr after ↦ absurd (before_one_way x y (All-contains (IsBefore x) xs y (pairs_head IsBefore x xs first) after) (All-contains (IsBefore y) ys x (pairs_head IsBefore y ys second) later))
+        | inr after ↦ absurd (before_one_way x y (All-contains (IsNumberedBefore x) xs y (pairs_head IsNumberedBefore x xs first) after) (All-contains (IsNumberedBefore y) ys x (pairs_head IsNumberedBefore y ys second) later))
       ]
     ]
 
-rest_has : (x y : FlatNode) (xs ys : List FlatNode) → x ≡ y → AllPairs IsBefore (x ∷ xs) → Has (x ∷ xs) (y ∷ ys) → Has xs ys
+rest_has : (x y : FlatNode) (xs ys : List FlatNode) → x ≡ y → AllPairs IsNumberedBefore (x ∷ xs) → Has (x ∷ xs) (y ∷ ys) → Has xs ys
 rest_has x y xs ys same first to = λ n in_rest.
     elim (head_or_rest ys n y (to n (at_rest xs n x in_rest))) [
       | inr later ↦ later
-      | inl e ↦ absurd (not_before_same x n (same ∙ e) (All-contains (IsBefore x) xs n (pairs_head IsBefore x xs first) in_rest))
+      | inl e ↦ absurd (not_before_same x n (same ∙ e) (All-contains (IsNumberedBefore x) xs n (pairs_head IsNumberedBefore x xs first) in_rest))
     ]
 
-one_order : (xs ys : List FlatNode) → AllPairs IsBefore xs → AllPairs IsBefore ys → Has xs ys → Has ys xs → xs ≡ ys
+one_order : (xs ys : List FlatNode) → AllPairs IsNumberedBefore xs → AllPairs IsNumberedBefore ys → Has xs ys → Has ys xs → xs ≡ ys
 one_order [] [] first second to back = refl
 one_order [] (y ∷ ys) first second to back = absurd (in_none y (back y (at_head ys y y refl)))
 one_order (x ∷ xs) [] first second to back = absurd (in_none x (to x (at_head xs x x refl)))
 one_order (x ∷ xs) (y ∷ ys) first second to back =
     let e = not_later x y xs ys first second (to x (at_head xs x x refl)) (back y (at_head ys y y refl)) in
-    let rest = one_order xs ys (pairs_tail IsBefore x xs first) (pairs_tail IsBefore y ys second) (rest_has x y xs ys e first to) (rest_has y x ys xs (sym e) second back) in
+    let rest = one_order xs ys (pairs_tail IsNumberedBefore x xs first) (pairs_tail IsNumberedBefore y ys second) (rest_has x y xs ys e first to) (rest_has y x ys xs (sym e) second back) in
     ap (λ n. n ∷ xs) e ∙ ap (λ l. y ∷ l) rest
 
 one_numbering : (code : Flows) (entry : ℕ) (xs ys : List FlatNode) → IsNumbering code entry xs → IsNumbering code entry ys → xs ≡ ys
@@ -63,39 +63,39 @@ one_numbering code entry xs ys X Y =
     one_order xs ys X.ordered Y.ordered (λ n h. (Y.all n).0 ((X.all n).1 h)) (λ n h. (X.all n).0 ((Y.all n).1 h))
 
 -- at most as many, where all are members
-fewer : (xs ys : List FlatNode) → AllPairs IsBefore xs → AllPairs IsBefore ys → Has xs ys → length xs ≤ length ys
+fewer : (xs ys : List FlatNode) → AllPairs IsNumberedBefore xs → AllPairs IsNumberedBefore ys → Has xs ys → length xs ≤ length ys
 fewer [] ys first second to = omega arith
 fewer (x ∷ xs) [] first second to = absurd (in_none x (to x (at_head xs x x refl)))
 fewer (x ∷ xs) (y ∷ ys) first second to =
     elim (head_or_rest ys x y (to x (at_head xs x x refl))) [
-      | inl e ↦ let r = fewer xs ys (pairs_tail IsBefore x xs first) (pairs_tail IsBefore y ys second) (rest_has x y xs ys (sym e) first to) in omega (arith, r)
+      | inl e ↦ let r = fewer xs ys (pairs_tail IsNumberedBefore x xs first) (pairs_tail IsNumberedBefore y ys second) (rest_has x y xs ys (sym e) first to) in omega (arith, r)
       | inr later ↦
-          let behind : IsBefore y x = All-contains (IsBefore y) ys x (pairs_head IsBefore y ys second) later in
+          let behind : IsNumberedBefore y x = All-contains (IsNumberedBefore y) ys x (pairs_head IsNumberedBefore y ys second) later in
           let rest : Has (x ∷ xs) ys = λ n in_first.
           elim (head_or_rest ys n y (to n in_first)) [
             | inr there ↦ there
             | inl e ↦ elim (head_or_rest xs n x in_first) [
               | inl same ↦ absurd (not_before_same y x (e ∙ sym same) behind)
-              | inr after ↦ absurd (before_one_way x y (subst (λ m. IsBefore x m) (sym e) (All-contains (IsBefore x) xs n (pairs_head IsBefore x xs first) after)) behind)
+              | inr after ↦ absurd (before_one_way x y (subst (λ m. IsNumberedBefore x m) (sym e) (All-contains (IsNumberedBefore x) xs n (pairs_head IsNumberedBefore x xs first) after)) behind)
             ]
           ] in
-          let r = fewer (x ∷ xs) ys first (pairs_tail IsBefore y ys second) rest in
+          let r = fewer (x ∷ xs) ys first (pairs_tail IsNumberedBefore y ys second) rest in
           omega (arith, r)
     ]
 
 -- a place for each node
-one_place : (xs : List FlatNode) (i j : ℕ) (n : FlatNode) → AllPairs IsBefore xs → slice_get xs i ≡ Some n → slice_get xs j ≡ Some n → i ≡ j
+one_place : (xs : List FlatNode) (i j : ℕ) (n : FlatNode) → AllPairs IsNumberedBefore xs → slice_get xs i ≡ Some n → slice_get xs j ≡ Some n → i ≡ j
 one_place [] i j n h a b = absurd cc
 one_place (x ∷ xs) zero zero n h a b = refl
 one_place (x ∷ xs) zero (suc j) n h a b =
     let e : x ≡ n = cc in
-    absurd (not_before_same x n e (All-contains (IsBefore x) xs n (pairs_head IsBefore x xs h) (at_contains xs j n b)))
+    absurd (not_before_same x n e (All-contains (IsNumberedBefore x) xs n (pairs_head IsNumberedBefore x xs h) (at_contains xs j n b)))
 one_place (x ∷ xs) (suc i) zero n h a b =
     let e : x ≡ n = cc in
-    absurd (not_before_same x n e (All-contains (IsBefore x) xs n (pairs_head IsBefore x xs h) (at_contains xs i n a)))
-one_place (x ∷ xs) (suc i) (suc j) n h a b = ap suc (one_place xs i j n (pairs_tail IsBefore x xs h) a b)
+    absurd (not_before_same x n e (All-contains (IsNumberedBefore x) xs n (pairs_head IsNumberedBefore x xs h) (at_contains xs i n a)))
+one_place (x ∷ xs) (suc i) (suc j) n h a b = ap suc (one_place xs i j n (pairs_tail IsNumberedBefore x xs h) a b)
 
-one_row : (xs : List FlatNode) (is js : List ℕ) (ns : List FlatNode) → AllPairs IsBefore xs → map (slice_get xs) is ≡ map Some ns → map (slice_get xs) js ≡ map Some ns → is ≡ js
+one_row : (xs : List FlatNode) (is js : List ℕ) (ns : List FlatNode) → AllPairs IsNumberedBefore xs → map (slice_get xs) is ≡ map Some ns → map (slice_get xs) js ≡ map Some ns → is ≡ js
 one_row xs [] [] ns h a b = refl
 one_row xs [] (j ∷ js) [] h a b = absurd cc
 one_row xs [] (j ∷ js) (n ∷ ns) h a b = absurd cc
@@ -126,7 +126,7 @@ module _ (words : Words) (entry : ℕ) (g h : CodeGraph) (X : IsCodeGraph words 
   other_places : ArePlaces X.nodes (places_of h)
   other_places = subst (λ ns. ArePlaces ns (places_of h)) (sym same_nodes) Y.places
 
-  same_ins : (u w : ℕ) → row w ≡ Some (node_of g u).ins → row w ≡ Some (node_of h u).ins → (node_of g u).ins ≡ (node_of h u).ins
+  same_ins : (u w : ℕ) → ins_of_word w ≡ Some (node_of g u).ins → ins_of_word w ≡ Some (node_of h u).ins → (node_of g u).ins ≡ (node_of h u).ins
   same_ins u w a b = cc
 
   same_node : (u : ℕ) → u < length g.nodes → node_of g u ≡ node_of h u
@@ -163,7 +163,7 @@ not_both words entry g (AtNode e a) X few at = not_none (error_of (flows words) 
 abbrev flat_cmp : FlatNode → FlatNode → Ordering
 flat_cmp n m = ordering_then (slice_cmp nat_cmp n.context m.context) (nat_cmp n.address m.address)
 
-neither_before : (n m : FlatNode) → (IsBefore n m → ⊥) → (IsBefore m n → ⊥) → n ≡ m
+neither_before : (n m : FlatNode) → (IsNumberedBefore n m → ⊥) → (IsNumberedBefore m n → ⊥) → n ≡ m
 neither_before n m one other = by_order (flat_cmp n m) refl
   where
     by_order : (o : Ordering) → flat_cmp n m ≡ o → n ≡ m
@@ -196,7 +196,7 @@ error_for entry (AtNode e a) = graph_error e a
 abbrev Meant : Flows → ℕ → GraphError → Type 0
 Meant code entry e = (f : GraphRefusal) × IsGraphRefused code entry 16384 f × (e ≡ error_for entry f)
 
-meant : (code : Flows) (entry : ℕ) (e : GraphError) → e ≢ graph.Memory → IsRefused code entry e → Meant code entry e
+meant : (code : Flows) (entry : ℕ) (e : GraphError) → e ≢ graph.Memory → IsGraphError code entry e → Meant code entry e
 meant code entry graph.Memory not_memory x = absurd (not_memory refl)
 meant code entry (graph.TooManyNodes a) not_memory x = (TooManyNodes, x.1, ap (λ n. graph.TooManyNodes n) x.0)
 meant code entry (graph.Misaligned a) not_memory x = (AtNode flat.Misaligned a, x, refl)

@@ -9,13 +9,13 @@ use Rattle.flat_graph.specs.Graph.{Graph, Places}
 use Rattle.loop_regions.specs.CodeNest.{CodeNest, nest_of}
 use Rattle.loop_regions.specs.Nest.{Nest, Item, Node, Loop, IsItem, Leaves, LeavesLast}
 use Rattle.loop_regions.specs.Potentials.{Costs, Potentials, Meets, MeetsAt, item_potential}
-use Rattle.exec_bound.specs.Least.{IsLeast}
+use Rattle.exec_bound.specs.Least.{AreLeastPotentials}
 use Rattle.loop_regions.specs.Stated.{IsRegions, IsSameHead}
-use Rattle.cert_check.specs.Clauses.{BoundMeets, PotentialsMeet}
-use Rattle.cert_check.specs.Shown.{nest_at, shown_at}
+use Rattle.cert_check.specs.PotentialClauses.{BoundMeets, PotentialsMeet}
+use Rattle.cert_check.specs.TaskGraphs.{nest_at, task_graph_at}
 use Rattle.cert_check.specs.declared.outcome.Clause.{Clause}
 use Rattle.cert_check.specs.declared.outcome.Clause.TheVariants.{Bound, Inequalities, LoopPotentials}
-use Rattle.cert_check.specs.Verdict.{Answer, Yes, No, Holds, IsJudged}
+use Rattle.cert_check.specs.Verdict.{Answer, Yes, No, ClauseHolds, IsJudged}
 use Rattle.crpd_input.proofs.OneNest.{alike, back_too, false_too, true_too}
 
 -- ---- two nests of the same loops
@@ -106,7 +106,7 @@ module _ (g : Graph) (p : Places) (loops : List LoopAt) (no_same : (a : ℕ) →
     }
 
   module _ (n m : Nest) (N : IsRegions g p loops n) (M : IsRegions g p loops m) where
-    pub least_too : (c : Costs) (q : Potentials) → IsLeast g n c q → IsLeast g m c q
+    pub least_too : (c : Costs) (q : Potentials) → AreLeastPotentials g n c q → AreLeastPotentials g m c q
     least_too c q e = record {
       meets = all_too n m N M c q e.meets;
       nodes = λ other u meets lt. e.nodes other u (all_too m n M N c other meets) lt;
@@ -129,7 +129,7 @@ module _ (set : TaskSet) (graphs : List CodeGraph) (c : Certificate) where
   AllSame ns ms = (i : ℕ) → i < length set.tasks → AreSame (graph_at graphs i) (nest_at ns i) (nest_at ms i)
 
   module _ (ns ms : List CodeNest) (same : AllSame ns ms) where
-    holds_too : (i : ℕ) (k : Clause) → i < length set.tasks → Holds set (shown_at graphs ns) c i k → Holds set (shown_at graphs ms) c i k
+    holds_too : (i : ℕ) (k : Clause) → i < length set.tasks → ClauseHolds set (task_graph_at graphs ns) c i k → ClauseHolds set (task_graph_at graphs ms) c i k
     holds_too i LoopPotentials lt h =
         let s = same i lt in
         h ∙ size_same (graph_of (graph_at graphs i)) (places_of (graph_at graphs i)) s.loops s.one_head (nest_of (nest_at ns i)) (nest_of (nest_at ms i)) s.first s.second
@@ -142,7 +142,7 @@ module _ (set : TaskSet) (graphs : List CodeGraph) (c : Certificate) where
         bound_too (graph_of (graph_at graphs i)) (places_of (graph_at graphs i)) s.loops s.one_head (nest_of (nest_at ns i)) (nest_of (nest_at ms i)) s.first s.second _ _ h
     holds_too i k lt h = h
 
-  pub judged_too : (ns ms : List CodeNest) → AllSame ns ms → (a : Answer) → IsJudged set (shown_at graphs ns) c a → IsJudged set (shown_at graphs ms) c a
+  pub judged_too : (ns ms : List CodeNest) → AllSame ns ms → (a : Answer) → IsJudged set (task_graph_at graphs ns) c a → IsJudged set (task_graph_at graphs ms) c a
   judged_too ns ms same Yes h = λ i k lt. holds_too ns ms same i k lt (h i k lt)
   judged_too ns ms same (No i clause place) h =
       let failure = h.3 in (

@@ -17,7 +17,7 @@ use Rattle.code_map.specs.Words.{Code, code_byte, image_byte, little_endian, wor
 use Rattle.code_map.proofs.Has.{has_found}
 use Rattle.code_map.proofs.Indexed.{byte_below}
 use Rattle.code_map.proofs.KeptWords.{within_end}
-use Rattle.rv_decode.specs.Address.{end}
+use Rattle.rv_decode.specs.Address.{end_address}
 use Rattle.rv_decode.specs.Flow.{IsCodeMap}
 
 plans_length : (word : ℕ → Option ℕ) (n : ℕ) (ts : List TaskSpec) (is : List Image) (plans : List TaskPlan) → length is ≡ length ts → plans_of word n ts is ≡ Ok plans → length plans ≡ length ts
@@ -68,7 +68,7 @@ word_there false o w e = absurd cc
 pub words_end : (images : List Image) → All IsImage images → IsCodeMap (word_at images)
 unfolding word_at
 words_end images are a w e =
-    let bytes = word_there (a % 4 == 0 && not (a == end)) (little_endian (code_byte images a) (code_byte images (a + 1)) (code_byte images (a + 2)) (code_byte images (a + 3))) w e in
+    let bytes = word_there (a % 4 == 0 && not (a == end_address)) (little_endian (code_byte images a) (code_byte images (a + 1)) (code_byte images (a + 2)) (code_byte images (a + 3))) w e in
     let first = byte_there (code_byte images a) (code_byte images (a + 1)) (code_byte images (a + 2)) (code_byte images (a + 3)) w bytes in
     within_end (code_byte images) a (Some w) (byte_below images a first.0 are (has_found (λ i. image_byte i a) images first.0 first.1)) (sym e)
 

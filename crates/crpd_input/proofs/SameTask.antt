@@ -8,8 +8,8 @@ use Rattle.crpd_base.specs.declared.data.LoopAt.{LoopAt}
 use Rattle.code_map.specs.Words.{word_at}
 use Rattle.flat_graph.specs.CodeGraph.{CodeGraph, IsCodeGraph, graph_of, places_of, no_graph, graph_at}
 use Rattle.loop_regions.specs.CodeNest.{CodeNest, IsNestOf, nest_of}
-use Rattle.loop_regions.specs.Stated.{IsAccepted, IsRegions, IsSameHead}
-use Rattle.cert_check.specs.Shown.{AreShown, no_nest}
+use Rattle.loop_regions.specs.Stated.{HasNoLoopRefusals, IsRegions, IsSameHead}
+use Rattle.cert_check.specs.TaskGraphs.{AreTaskGraphs, no_nest}
 use Rattle.crpd_input.specs.declared.input.Input.{Input}
 use Rattle.crpd_input.specs.declared.shapes.Shapes.{Shapes}
 use Rattle.crpd_input.specs.Graphs.{GraphAt, GraphsIn, RegionsAt, RegionsIn}
@@ -38,7 +38,7 @@ graph_serves old input graphs j k g S is few = (S.plan, S.planned, (subst (IsCod
 
 -- the regions of the same loops in the same graph
 abbrev AreRegions : CodeGraph → List LoopAt → CodeNest → Type 0
-AreRegions g loops n = ((a : ℕ) → IsSameHead loops a → ⊥) × IsRegions (graph_of g) (places_of g) loops (nest_of n) × IsAccepted (graph_of g) (nest_of n)
+AreRegions g loops n = ((a : ℕ) → IsSameHead loops a → ⊥) × IsRegions (graph_of g) (places_of g) loops (nest_of n) × HasNoLoopRefusals (graph_of g) (nest_of n)
 
 moved : (n : CodeNest) (g h : CodeGraph) (old new : List LoopAt) → g ≡ h → old ≡ new → AreRegions g old n → AreRegions h new n
 moved n g h old new same loops are = subst (λ (x : CodeGraph). AreRegions x new n) same (subst (λ (l : List LoopAt). AreRegions g l n) loops are)
@@ -66,7 +66,7 @@ module _ (old input : Input) (s : Shapes) (graphs : List CodeGraph) (j k : ℕ) 
       let graph : R.1 ≡ h.0 = sym (get_or_from_slice_get s.graphs j R.1 no_graph R.3) ∙ sym (same_graph lt) ∙ get_or_from_slice_get graphs k h.0 no_graph h.1 in
       (S.plan, h.0, S.planned, h.1, moved n R.1 h.0 R.0.loops S.plan.loops graph loops R.4)
 
-  pub nest_serves : AreShown old.set s.graphs s.nests → j < length old.set.tasks → (n : CodeNest) → slice_get s.nests j ≡ Some n → IsNestOf (graph_at graphs k) n
+  pub nest_serves : AreTaskGraphs old.set s.graphs s.nests → j < length old.set.tasks → (n : CodeNest) → slice_get s.nests j ≡ Some n → IsNestOf (graph_at graphs k) n
   nest_serves shown lt n at =
       subst (λ (g : CodeGraph). IsNestOf g n) (sym (same_graph (omega (arith, shown.all_graphs, lt))))
       (subst (IsNestOf (graph_at s.graphs j)) (get_or_from_slice_get s.nests j n no_nest at) (shown.each j lt))

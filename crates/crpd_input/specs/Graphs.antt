@@ -4,12 +4,12 @@ use Rattle.crpd_base.specs.declared.data.TaskPlan.{TaskPlan}
 use Rattle.rv_decode.specs.Flow.{flows}
 use Rattle.code_map.specs.Words.{Code, word_at}
 use Rattle.flat_graph.specs.CodeGraph.{CodeGraph, IsCodeGraph, graph_of, places_of}
-use Rattle.flat_graph.specs.Refusals.{IsRefused}
+use Rattle.flat_graph.specs.GraphErrors.{IsGraphError}
 use Rattle.flat_graph.specs.declared.fault.GraphError.{GraphError}
 use Rattle.flat_graph.specs.declared.fault.GraphError.TheVariants as graph_fault
 use Rattle.loop_regions.specs.CodeNest.{AreBounded, CodeNest, nest_of}
-use Rattle.loop_regions.specs.Refused.{IsLoopError}
-use Rattle.loop_regions.specs.Stated.{IsAccepted, IsRegions, IsSameHead}
+use Rattle.loop_regions.specs.LoopErrors.{IsLoopError}
+use Rattle.loop_regions.specs.Stated.{HasNoLoopRefusals, IsRegions, IsSameHead}
 use Rattle.loop_regions.specs.declared.fault.LoopError.{LoopError}
 use Rattle.loop_regions.specs.declared.fault.LoopError.TheVariants as loop_fault
 use Rattle.crpd_report.specs.Texts.{hexadecimal}
@@ -58,12 +58,12 @@ name_at input k = name_of input.set (record { 0 = k })
 abbrev pub IsGraphOrNot : Input → ℕ → TaskPlan → Result CodeGraph Halt → Type 0
 IsGraphOrNot input k plan (Ok graph) = IsCodeGraph (word_at input.code.images) plan.entry graph × (length graph.nodes ≤ 16384)
 IsGraphOrNot input k plan (Err r) =
-    (e : GraphError) × (e ≢ graph_fault.Memory) × IsRefused (flows (word_at input.code.images)) plan.entry e × (r ≡ graph_halt (name_at input k) e)
+    (e : GraphError) × (e ≢ graph_fault.Memory) × IsGraphError (flows (word_at input.code.images)) plan.entry e × (r ≡ graph_halt (name_at input k) e)
 
 -- the regions of a plan's loops in its graph, or why there are none
 abbrev pub AreRegionsOrNot : Input → ℕ → TaskPlan → CodeGraph → Result CodeNest Halt → Type 0
 AreRegionsOrNot input k plan g (Ok nest) =
-    ((a : ℕ) → IsSameHead plan.loops a → ⊥) × IsRegions (graph_of g) (places_of g) plan.loops (nest_of nest) × IsAccepted (graph_of g) (nest_of nest)
+    ((a : ℕ) → IsSameHead plan.loops a → ⊥) × IsRegions (graph_of g) (places_of g) plan.loops (nest_of nest) × HasNoLoopRefusals (graph_of g) (nest_of nest)
 AreRegionsOrNot input k plan g (Err r) =
     (e : LoopError) × (e ≢ loop_fault.Memory) × IsLoopError (graph_of g) (places_of g) plan.loops e × (r ≡ loop_halt (name_at input k) e)
 

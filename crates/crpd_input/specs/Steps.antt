@@ -46,8 +46,8 @@ abbrev pub bytes_in : ℕ → Contents → List ℕ → Result (List ℕ) Halt
 bytes_in most contents name = refused_file name (file_within most (contents name))
 
 -- a fact about the contents, where they are told
-abbrev pub Told : Option Contents → (Contents → Type 0) → Type 0
-Told told P = (c : Contents) → told ≡ Some c → P c
+abbrev pub HoldsWhereTold : Option Contents → (Contents → Type 0) → Type 0
+HoldsWhereTold told P = (c : Contents) → told ≡ Some c → P c
 
 -- the stop is the one that is meant, want of memory and faults aside
 abbrev pub Stops : {A : Type 0} → Result A Halt → Halt → Type 0

@@ -1,6 +1,6 @@
 // Why something is refused.
 ghost use Rattle.std.specs.Prelude.{◌≡◌};
-ghost use Rattle.crpd_input.specs.Causes.{row as row_of};
+ghost use Rattle.crpd_input.specs.Causes.{cause_row as row_of};
 
 /// Why something is refused. Where nothing else is said, the refusal has no detail.
 #[derive(Clone, Copy, Debug, PartialEq, Eq)]

@@ -2,7 +2,7 @@
 ghost use Rattle.std.specs.Prelude.{◌≡◌, ◌≤◌, IsErrOf, IfOk};
 ghost use Rattle.cert_model.specs.Ranges.{IsCertificate};
 ghost use Rattle.crpd_io.specs.Outside.{Rose};
-ghost use Rattle.crpd_input.specs.Steps.{IsRefusal, Means, Told};
+ghost use Rattle.crpd_input.specs.Steps.{IsRefusal, Means, HoldsWhereTold};
 ghost use Rattle.crpd_input.specs.Reading.{certificate_in, certificate_halt as certificate_stop};
 
 use crate::cause::Cause;
@@ -38,7 +38,7 @@ pub fn load_certificate<F: Files>(
     files: &mut F,
     name: &str,
 ) -> Result<Certificate, Halt>
-    ensures exact { Told (F.contents files.old) (λ c. Means (certificate_in c name.now) result) }
+    ensures exact { HoldsWhereTold (F.contents files.old) (λ c. Means (certificate_in c name.now) result) }
     ensures ranges { IfOk result IsCertificate }
     ensures same { F.contents files.new ≡ F.contents files.old }
     ensures later { F.faults files.old ≤ F.faults files.new }

@@ -3,7 +3,7 @@ ghost use Rattle.std.specs.Prelude.{◌≡◌, ◌≤◌, length, IsErrOf, IfOk}
 ghost use Rattle.crpd_base.specs.Ranges.{IsTaskSet};
 ghost use Rattle.crpd_io.specs.Outside.{Rose};
 ghost use Rattle.crpd_input.specs.Graphs.{HasBoundedLoops};
-ghost use Rattle.crpd_input.specs.Steps.{IsRefusal, Means, Told};
+ghost use Rattle.crpd_input.specs.Steps.{IsRefusal, Means, HoldsWhereTold};
 ghost use Rattle.crpd_base.specs.Tasks.{name_of as task_name_of};
 ghost use Rattle.crpd_input.specs.Reading.{code_in, map_halt as map_stop};
 
@@ -65,7 +65,7 @@ pub fn load_code<F: Files>(
 ) -> Result<CodeMap, Halt>
     requires ranges { IsTaskSet set.now }
     requires few { length set.now.tasks ≤ 256 }
-    ensures exact { Told (F.contents files.old) (λ c. Means (code_in c name.now set.now) result) }
+    ensures exact { HoldsWhereTold (F.contents files.old) (λ c. Means (code_in c name.now set.now) result) }
     ensures count { IfOk result (λ code. length code.images ≡ length set.now.tasks) }
     ensures bounded { IfOk result HasBoundedLoops }
     ensures same { F.contents files.new ≡ F.contents files.old }

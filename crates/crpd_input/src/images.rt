@@ -3,7 +3,7 @@ ghost use Rattle.std.specs.Prelude.{◌≡◌, ◌≤◌, ◌<◌, length, posit
 ghost use Rattle.std.specs.Str.{bytes_eq};
 ghost use Rattle.crpd_base.specs.Images.{IsImage};
 ghost use Rattle.crpd_io.specs.Outside.{Rose};
-ghost use Rattle.crpd_input.specs.Steps.{IsRefusal, Means, Told};
+ghost use Rattle.crpd_input.specs.Steps.{IsRefusal, Means, HoldsWhereTold};
 ghost use Rattle.crpd_input.specs.Reading.{elf_halt as elf_stop, image_in, images_in};
 
 use crate::cause::Cause;
@@ -48,7 +48,7 @@ fn elf_halt(alloc: Global, file: &str, error: ElfError) -> Halt
 
 /// The image of an ELF file.
 fn load_image<F: Files>(alloc: Global, files: &mut F, name: &str) -> Result<Image, Halt>
-    ensures exact { Told (F.contents files.old) (λ c. Means (image_in c name.now) result) }
+    ensures exact { HoldsWhereTold (F.contents files.old) (λ c. Means (image_in c name.now) result) }
     ensures image { IfOk result IsImage }
     ensures same { F.contents files.new ≡ F.contents files.old }
     ensures later { F.faults files.old ≤ F.faults files.new }
@@ -80,9 +80,9 @@ fn image_of<F: Files>(
     file: &str,
 ) -> Result<Image, Halt>
     requires count { length images.now ≡ length earlier.now }
-    requires are { Told (F.contents files.old) (λ c. images_in c earlier.now ≡ Ok images.now) }
+    requires are { HoldsWhereTold (F.contents files.old) (λ c. images_in c earlier.now ≡ Ok images.now) }
     requires images { All IsImage images.now }
-    ensures exact { Told (F.contents files.old) (λ c. Means (image_in c file.now) result) }
+    ensures exact { HoldsWhereTold (F.contents files.old) (λ c. Means (image_in c file.now) result) }
     ensures image { IfOk result IsImage }
     ensures same { F.contents files.new ≡ F.contents files.old }
     ensures later { F.faults files.old ≤ F.faults files.new }
@@ -102,7 +102,7 @@ pub fn load_images<F: Files>(
     files: &mut F,
     tasks: &[TaskSpec],
 ) -> Result<Items<Image>, Halt>
-    ensures exact { Told (F.contents files.old) (λ c. Means (images_in c tasks.now) result) }
+    ensures exact { HoldsWhereTold (F.contents files.old) (λ c. Means (images_in c tasks.now) result) }
     ensures count { IfOk result (λ images. length images ≡ length tasks.now) }
     ensures images { IfOk result (λ images. All IsImage images) }
     ensures same { F.contents files.new ≡ F.contents files.old }

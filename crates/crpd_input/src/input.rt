@@ -2,7 +2,7 @@
 ghost use Rattle.std.specs.Prelude.{◌≡◌, ◌≤◌, length, IsErrOf, IfOk};
 ghost use Rattle.crpd_base.specs.Ranges.{IsTaskSet};
 ghost use Rattle.crpd_io.specs.Outside.{Rose};
-ghost use Rattle.crpd_input.specs.Steps.{Means, Told};
+ghost use Rattle.crpd_input.specs.Steps.{Means, HoldsWhereTold};
 ghost use Rattle.crpd_input.specs.Graphs.{HasBoundedLoops};
 ghost use Rattle.crpd_input.specs.Reading.{input_in};
 
@@ -26,7 +26,7 @@ pub struct Input {
 /// The set of a file with its code, as `load_task_set` and then `load_code` give them.
 /// Refused as these two say; a fault comes only where the files counted one. Cost: that of both.
 pub fn load_input<F: Files>(alloc: Global, files: &mut F, name: &str) -> Result<Input, Halt>
-    ensures exact { Told (F.contents files.old) (λ c. Means (input_in c name.now) result) }
+    ensures exact { HoldsWhereTold (F.contents files.old) (λ c. Means (input_in c name.now) result) }
     ensures ranges { IfOk result (λ input. IsTaskSet input.set) }
     ensures count { IfOk result (λ input. length input.code.images ≡ length input.set.tasks) }
     ensures bounded { IfOk result (λ input. HasBoundedLoops input.code) }

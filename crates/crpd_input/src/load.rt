@@ -1,7 +1,7 @@
 // The bytes of a file.
 ghost use Rattle.std.specs.Prelude.{◌≡◌, ◌≤◌, IsErrOf};
 ghost use Rattle.crpd_io.specs.Outside.{Rose};
-ghost use Rattle.crpd_input.specs.Steps.{Means, Told, bytes_in};
+ghost use Rattle.crpd_input.specs.Steps.{Means, HoldsWhereTold, bytes_in};
 
 use crate::cause::Cause;
 use crate::halt::Halt;
@@ -19,7 +19,7 @@ pub fn load<F: Files>(
     name: &str,
     most: u64,
 ) -> Result<Items<u8>, Halt>
-    ensures exact { Told (F.contents files.old) (λ c. Means (bytes_in most c name.now) result) }
+    ensures exact { HoldsWhereTold (F.contents files.old) (λ c. Means (bytes_in most c name.now) result) }
     ensures same { F.contents files.new ≡ F.contents files.old }
     ensures later { F.faults files.old ≤ F.faults files.new }
     ensures fault { IsErrOf result Halt.Fault → Rose (F.faults files.old) (F.faults files.new) }

@@ -3,7 +3,7 @@ ghost use Rattle.std.specs.Prelude.{◌≡◌, ◌≤◌, ◌<◌, length, IfOk,
 ghost use Rattle.crpd_input.specs.Steps.{IsRefusal, MeansBy};
 ghost use Rattle.crpd_input.specs.Graphs.{HasBoundedLoops, RegionsAt, RegionsIn, loop_halt as loop_stop};
 ghost use Rattle.flat_graph.specs.CodeGraph.{graph_at};
-ghost use Rattle.cert_check.specs.Shown.{AreShown};
+ghost use Rattle.cert_check.specs.TaskGraphs.{AreTaskGraphs};
 ghost use Rattle.loop_regions.specs.CodeNest.{IsNestOf};
 
 use crate::cause::Cause;
@@ -66,7 +66,7 @@ pub fn all_regions(alloc: Global, input: &Input, graphs: &[Graph]) -> Result<Ite
     requires bounded { HasBoundedLoops input.now.code }
     ensures exact { MeansBy (RegionsIn input.now graphs.now) result }
     ensures no_fault { ¬ IsErrOf result Halt.Fault }
-    ensures shown { IfOk result (AreShown input.now.set graphs.now) }
+    ensures shown { IfOk result (AreTaskGraphs input.now.set graphs.now) }
 {
     let mut nests = Vec::new(alloc);
     for place in 0..graphs.len() {

@@ -1,7 +1,7 @@
 // The graphs of the tasks with the regions of their loops, taken over from an old set where they are the same.
 ghost use Rattle.std.specs.Prelude.{◌≡◌, ◌≤◌, ◌<◌, length, None, Ok, slice_index_or, IfOk, IsErrOf};
 ghost use Rattle.flat_graph.specs.CodeGraph.{graph_at};
-ghost use Rattle.cert_check.specs.Shown.{AreShown};
+ghost use Rattle.cert_check.specs.TaskGraphs.{AreTaskGraphs};
 ghost use Rattle.loop_regions.specs.CodeNest.{IsNestOf};
 ghost use Rattle.crpd_input.specs.Graphs.{GraphAt, GraphsIn, HasBoundedLoops, RegionsAt, RegionsIn};
 ghost use Rattle.crpd_input.specs.SameTask.{AreSources, IsSource};
@@ -83,7 +83,7 @@ fn renewed_regions(
     task: Task,
 ) -> Result<Nest, Halt>
     requires old_shapes { ShapesIn old.now (Ok old_shapes.now) }
-    requires old_shown { AreShown old.now.set old_shapes.now.graphs old_shapes.now.nests }
+    requires old_shown { AreTaskGraphs old.now.set old_shapes.now.graphs old_shapes.now.nests }
     requires source { IsSource old.now old_shapes.now.graphs input.now task.0 source }
     requires graphs { GraphsIn input.now (Ok graphs.now) }
     requires planned { task.0 < length input.now.code.plans }
@@ -112,7 +112,7 @@ fn renewed_nests(
     graphs: &[Graph],
 ) -> Result<Items<Nest>, Halt>
     requires old_shapes { ShapesIn old.now (Ok old_shapes.now) }
-    requires old_shown { AreShown old.now.set old_shapes.now.graphs old_shapes.now.nests }
+    requires old_shown { AreTaskGraphs old.now.set old_shapes.now.graphs old_shapes.now.nests }
     requires sources { AreSources old.now old_shapes.now.graphs input.now (length input.now.set.tasks) sources.now }
     requires few { length input.now.set.tasks ≤ 256 }
     requires plans { length input.now.code.plans ≡ length input.now.set.tasks }
@@ -120,7 +120,7 @@ fn renewed_nests(
     requires bounded { HasBoundedLoops input.now.code }
     ensures exact { MeansBy (RegionsIn input.now graphs.now) result }
     ensures no_fault { ¬ IsErrOf result Halt.Fault }
-    ensures shown { IfOk result (AreShown input.now.set graphs.now) }
+    ensures shown { IfOk result (AreTaskGraphs input.now.set graphs.now) }
 {
     let mut nests = Vec::new(alloc);
     for place in 0..sources.len() {
@@ -148,13 +148,13 @@ pub fn renewed_shapes(
     requires old_few { length old.now.set.tasks ≤ 256 }
     requires old_plans { length old.now.code.plans ≡ length old.now.set.tasks }
     requires old_shapes { ShapesIn old.now (Ok old_shapes.now) }
-    requires old_shown { AreShown old.now.set old_shapes.now.graphs old_shapes.now.nests }
+    requires old_shown { AreTaskGraphs old.now.set old_shapes.now.graphs old_shapes.now.nests }
     requires few { length input.now.set.tasks ≤ 256 }
     requires plans { length input.now.code.plans ≡ length input.now.set.tasks }
     requires bounded { HasBoundedLoops input.now.code }
     ensures exact { MeansBy (ShapesIn input.now) result }
     ensures no_fault { ¬ IsErrOf result Halt.Fault }
-    ensures shown { IfOk result (λ shapes. AreShown input.now.set shapes.graphs shapes.nests) }
+    ensures shown { IfOk result (λ shapes. AreTaskGraphs input.now.set shapes.graphs shapes.nests) }
 {
     let old_graphs = old_shapes.graphs.as_slice();
     let sources = sources(alloc, old, old_graphs, input)?;

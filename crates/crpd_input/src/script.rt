@@ -2,7 +2,7 @@
 ghost use Rattle.std.specs.Prelude.{◌≡◌, ◌≤◌, length, IsErrOf, IfOk};
 ghost use Rattle.preempt_machine.specs.Safe.{NamesTasks};
 ghost use Rattle.crpd_io.specs.Outside.{Rose};
-ghost use Rattle.crpd_input.specs.Steps.{IsRefusal, Means, Told};
+ghost use Rattle.crpd_input.specs.Steps.{IsRefusal, Means, HoldsWhereTold};
 ghost use Rattle.crpd_input.specs.Script.{script_in, script_halt as script_stop};
 
 use crate::cause::Cause;
@@ -39,7 +39,7 @@ pub fn load_script<F: Files>(
     name: &str,
     set: &TaskSet,
 ) -> Result<Script, Halt>
-    ensures exact { Told (F.contents files.old) (λ c. Means (script_in c name.now set.now) result) }
+    ensures exact { HoldsWhereTold (F.contents files.old) (λ c. Means (script_in c name.now set.now) result) }
     ensures tasks { IfOk result (λ script. NamesTasks set.now script.jobs) }
     ensures few { IfOk result (λ script. length script.jobs ≤ 10000) }
     ensures same { F.contents files.new ≡ F.contents files.old }

@@ -2,7 +2,7 @@
 ghost use Rattle.std.specs.Prelude.{◌≡◌, ◌≤◌, IsErrOf, IfOk};
 ghost use Rattle.crpd_base.specs.Ranges.{IsTaskSet};
 ghost use Rattle.crpd_io.specs.Outside.{Rose};
-ghost use Rattle.crpd_input.specs.Steps.{IsRefusal, Means, Told};
+ghost use Rattle.crpd_input.specs.Steps.{IsRefusal, Means, HoldsWhereTold};
 ghost use Rattle.crpd_input.specs.Reading.{set_in, set_halt as set_stop};
 
 use crate::cause::Cause;
@@ -36,7 +36,7 @@ fn set_halt(alloc: Global, file: &str, error: SetError) -> Halt
 /// subject is the file. A fault comes only where the files counted one. Cost: that of reading
 /// the TOML text.
 pub fn load_task_set<F: Files>(alloc: Global, files: &mut F, name: &str) -> Result<TaskSet, Halt>
-    ensures exact { Told (F.contents files.old) (λ c. Means (set_in c name.now) result) }
+    ensures exact { HoldsWhereTold (F.contents files.old) (λ c. Means (set_in c name.now) result) }
     ensures ranges { IfOk result IsTaskSet }
     ensures same { F.contents files.new ≡ F.contents files.old }
     ensures later { F.faults files.old ≤ F.faults files.new }

@@ -1,6 +1,6 @@
 // The graphs of the tasks with the regions of their loops.
 ghost use Rattle.std.specs.Prelude.{◌≡◌, ◌≤◌, length, IfOk, IsErrOf};
-ghost use Rattle.cert_check.specs.Shown.{AreShown};
+ghost use Rattle.cert_check.specs.TaskGraphs.{AreTaskGraphs};
 ghost use Rattle.crpd_input.specs.Steps.{MeansBy};
 ghost use Rattle.crpd_input.specs.Graphs.{HasBoundedLoops};
 ghost use Rattle.crpd_input.specs.Shapes.{ShapesIn};
@@ -33,7 +33,7 @@ pub fn task_shapes(alloc: Global, input: &Input) -> Result<Shapes, Halt>
     requires bounded { HasBoundedLoops input.now.code }
     ensures exact { MeansBy (ShapesIn input.now) result }
     ensures no_fault { ¬ IsErrOf result Halt.Fault }
-    ensures shown { IfOk result (λ shapes. AreShown input.now.set shapes.graphs shapes.nests) }
+    ensures shown { IfOk result (λ shapes. AreTaskGraphs input.now.set shapes.graphs shapes.nests) }
 {
     let graphs = task_graphs(alloc, input)?;
     match all_regions(alloc, input, graphs.as_slice()) {

@@ -6,9 +6,9 @@ use Rattle.std.proofs.lemmas.List.{append-nil}
 use Rattle.std.proofs.lemmas.Grind.{flat_map-append}
 use Rattle.crpd_base.specs.declared.data.Task.{Task}
 use Rattle.crpd_base.specs.declared.data.Image.{Image}
-use Rattle.code_map.specs.Next.{IsNext}
+use Rattle.code_map.specs.NextPassing.{IsNextPassing}
 use Rattle.code_map.specs.Words.{Code, word_at, owns}
-use Rattle.crpd_report.specs.List.{those_below, own_addresses, line_of, lines_of, list_text}
+use Rattle.crpd_report.specs.List.{those_below, own_addresses, line_of, word_lines, list_text}
 
 -- one number more, which passes the test or does not
 pub one_more : (p : ℕ → Bool) (n : ℕ) → p n ≡ true → those_below (suc n) p ≡ those_below n p ++ n ∷ []
@@ -33,7 +33,7 @@ up_to p m n le none =
     ap (λ k. those_below k p) e ∙ none_between p m (n - m) (λ a low high. none a low (omega arith))
 
 -- the next number that passes the test
-pub next_more : (p : ℕ → Bool) (m a : ℕ) → IsNext p m a → those_below (a + 1) p ≡ those_below m p ++ a ∷ []
+pub next_more : (p : ℕ → Bool) (m a : ℕ) → IsNextPassing p m a → those_below (a + 1) p ≡ those_below m p ++ a ∷ []
 next_more p m a next =
     ap (λ n. those_below n p) (let e : a + 1 ≡ suc a = omega arith in e)
     ∙ one_more p a next.passes
@@ -42,21 +42,21 @@ next_more p m a next =
 -- ---- the list
 
 module _ (code : Code) (task : Task) (image : Image) (here : slice_get code.images task.0 ≡ Some image) where
-  pub more_lines : (text : List ℕ) (m a : ℕ) (line : List ℕ) → text ≡ lines_of code (those_below m (owns image)) → IsNext (owns image) m a → line ≡ line_of a (word_at code.images a)
-      → text ++ line ≡ lines_of code (those_below (a + 1) (owns image))
+  pub more_lines : (text : List ℕ) (m a : ℕ) (line : List ℕ) → text ≡ word_lines code (those_below m (owns image)) → IsNextPassing (owns image) m a → line ≡ line_of a (word_at code.images a)
+      → text ++ line ≡ word_lines code (those_below (a + 1) (owns image))
   more_lines text m a line is next e =
-      ap (λ t. t ++ line) is ∙ ap (λ l. lines_of code (those_below m (owns image)) ++ l) (e ∙ sym (append-nil (line_of a (word_at code.images a))))
+      ap (λ t. t ++ line) is ∙ ap (λ l. word_lines code (those_below m (owns image)) ++ l) (e ∙ sym (append-nil (line_of a (word_at code.images a))))
       ∙ sym (flat_map-append (λ b. line_of b (word_at code.images b)) (those_below m (owns image)) (a ∷ []))
-      ∙ ap (lines_of code) (sym (next_more (owns image) m a next))
+      ∙ ap (word_lines code) (sym (next_more (owns image) m a next))
 
-  pub all_lines : (text : List ℕ) (m top : ℕ) → m ≤ top → text ≡ lines_of code (those_below m (owns image)) → ((a : ℕ) → m ≤ a → owns image a ≡ false) → text ≡ lines_of code (those_below top (owns image))
-  all_lines text m top le is none = is ∙ ap (lines_of code) (sym (up_to (owns image) m top le (λ a low high. none a low)))
+  pub all_lines : (text : List ℕ) (m top : ℕ) → m ≤ top → text ≡ word_lines code (those_below m (owns image)) → ((a : ℕ) → m ≤ a → owns image a ≡ false) → text ≡ word_lines code (those_below top (owns image))
+  all_lines text m top le is none = is ∙ ap (word_lines code) (sym (up_to (owns image) m top le (λ a low high. none a low)))
 
-  pub whole_list : (text : List ℕ) → text ≡ lines_of code (those_below (2 ^ 32) (owns image)) → text ≡ list_text code task
+  pub whole_list : (text : List ℕ) → text ≡ word_lines code (those_below (2 ^ 32) (owns image)) → text ≡ list_text code task
   unfolding list_text own_addresses
-  whole_list text e = e ∙ sym (ap (λ o. lines_of code (option_map_or own_addresses o [])) here)
+  whole_list text e = e ∙ sym (ap (λ o. word_lines code (option_map_or own_addresses o [])) here)
 
-pub no_lines : (code : Code) (p : ℕ → Bool) → [] ≡ lines_of code (those_below 0 p)
+pub no_lines : (code : Code) (p : ℕ → Bool) → [] ≡ word_lines code (those_below 0 p)
 unfolding those_below
 no_lines code p = refl
 

@@ -8,8 +8,8 @@ use Rattle.crpd_base.specs.declared.data.Script.{Script}
 use Rattle.crpd_base.specs.declared.data.TaskSet.{TaskSet}
 use Rattle.crpd_base.specs.Tasks.{jitter_of, deadline_of, name_of}
 use Rattle.delay_count.specs.Demand.{charged_delays}
-use Rattle.evict_sets.specs.Certificate.{cert_at}
-use Rattle.cert_check.specs.Judge.{part_of, window_at}
+use Rattle.evict_sets.specs.ListedPart.{certified_task}
+use Rattle.cert_check.specs.JudgeInput.{certified_part, window_at}
 use Rattle.run_account.specs.declared.told.Account.{Account}
 use Rattle.run_account.specs.declared.told.Entry.{Entry}
 use Rattle.crpd_report.specs.Simulate.{is_legal, run_line}
@@ -36,7 +36,7 @@ reload_lines set entries = flat_map (reload_line set) entries
 -- method, with the certificate's parts and windows
 abbrev pub delay_of : TaskSet → Certificate → ℕ → ℕ
 delay_of set certificate i =
-    charged_delays set (part_of certificate) (window_at certificate) i (cert_at certificate i).method (window_at certificate i)
+    charged_delays set (certified_part certificate) (window_at certificate) i (certified_task certificate i).method (window_at certificate i)
 
 abbrev pub delay_line : TaskSet → Certificate → ℕ → List ℕ
 delay_line set certificate i = codes "delay " ++ name_of set (record { 0 = i }) ++ codes " " ++ decimal (delay_of set certificate i) ++ 10 ∷ []

@@ -3,5 +3,5 @@ pub mod List
 pub mod Check
 pub mod Sets
 pub mod Simulate
-pub mod Made
+pub mod Generate
 pub mod Explain

@@ -5,7 +5,7 @@ use Rattle.std.specs.Option.{option_map_or}
 use Rattle.crpd_base.specs.declared.data.Task.{Task}
 use Rattle.crpd_base.specs.declared.data.Image.{Image}
 use Rattle.rv_decode.specs.declared.Ins.{Ins}
-use Rattle.rv_decode.specs.Table.{row}
+use Rattle.rv_decode.specs.Table.{ins_of_word}
 use Rattle.rv_decode.specs.Text.{text}
 use Rattle.code_map.specs.Words.{Code, word_at, owns}
 use Rattle.crpd_report.specs.Texts.{hexadecimal}
@@ -25,15 +25,15 @@ word_text (Some ins) = text ins
 word_text None = codes ".word"
 
 abbrev pub word_line : ℕ → ℕ → List ℕ
-word_line address word = hexadecimal address ++ codes " " ++ hexadecimal word ++ codes " " ++ word_text (row word) ++ 10 ∷ []
+word_line address word = hexadecimal address ++ codes " " ++ hexadecimal word ++ codes " " ++ word_text (ins_of_word word) ++ 10 ∷ []
 
 -- the line of the word at an address, where there is one
 abbrev pub line_of : ℕ → Option ℕ → List ℕ
 line_of address word = option_map_or (word_line address) word []
 
 -- the lines of these addresses
-abbrev pub lines_of : Code → List ℕ → List ℕ
-lines_of code addresses = flat_map (λ a. line_of a (word_at code.images a)) addresses
+abbrev pub word_lines : Code → List ℕ → List ℕ
+word_lines code addresses = flat_map (λ a. line_of a (word_at code.images a)) addresses
 
 unfoldable pub list_text : Code → Task → List ℕ
-list_text code task = lines_of code (option_map_or own_addresses (slice_get code.images task.0) [])
+list_text code task = word_lines code (option_map_or own_addresses (slice_get code.images task.0) [])

@@ -17,11 +17,11 @@ unfoldable pub numbers_text : List ℕ → List ℕ
 numbers_text words = flat_map number_text (those_below 512 (has words))
 
 -- the two lines of a task of this name
-abbrev pub lines_of : List ℕ → Part → List ℕ
-lines_of name part = (name ++ codes " evicting" ++ numbers_text part.evicting ++ 10 ∷ []) ++ (name ++ codes " useful" ++ numbers_text part.useful ++ 10 ∷ [])
+abbrev pub part_lines : List ℕ → Part → List ℕ
+part_lines name part = (name ++ codes " evicting" ++ numbers_text part.evicting ++ 10 ∷ []) ++ (name ++ codes " useful" ++ numbers_text part.useful ++ 10 ∷ [])
 
 abbrev pub task_lines : TaskSpec × Part → List ℕ
-task_lines pair = lines_of pair.0.name pair.1
+task_lines pair = part_lines pair.0.name pair.1
 
 -- the lines of each task with the part at its place
 unfoldable pub sets_text : TaskSet → List Part → List ℕ

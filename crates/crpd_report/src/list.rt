@@ -1,6 +1,6 @@
 // The list of a task's own words.
 ghost use Rattle.std.specs.Prelude.{◌≡◌, ◌+◌, ◌<◌, ◌++◌, length, string_bytes, IfOk};
-ghost use Rattle.rv_decode.specs.Table.{row};
+ghost use Rattle.rv_decode.specs.Table.{ins_of_word};
 ghost use Rattle.crpd_report.specs.List as spec;
 
 use crate::address::address_text;
@@ -11,7 +11,7 @@ use std::alloc::Global;
 
 /// The text of a word: that of its instruction, or `.word`.
 fn word_text(alloc: Global, word: u32) -> Result<String, Memory>
-    ensures { IfOk result (λ text. string_bytes text ≡ spec.word_text (row word)) }
+    ensures { IfOk result (λ text. string_bytes text ≡ spec.word_text (ins_of_word word)) }
 {
     match decode(word) {
         Some(ins) => ins.text(alloc),

@@ -46,7 +46,7 @@ fn add_line(
 
 /// Adds the two lines of a task of this name.
 fn add_task(alloc: Global, text: &mut Vec<u8>, name: &str, part: &Part) -> Result<(), AllocError>
-    ensures { IfOk result (λ _. text.new.items ≡ text.old.items ++ spec.lines_of name.now part.now) }
+    ensures { IfOk result (λ _. text.new.items ≡ text.old.items ++ spec.part_lines name.now part.now) }
 {
     add_line(alloc, text, name, "evicting", &part.evicting)?;
     add_line(alloc, text, name, "useful", &part.useful)?;

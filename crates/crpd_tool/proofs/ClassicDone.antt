@@ -2,9 +2,9 @@
 use Rattle.std.proofs.Common.{◌≡◌, ℕ, ◌<◌, List, Result, Ok, length, refl, ap, sym, ◌∙◌, subst, inl, inr}
 use Rattle.crpd_base.specs.declared.data.Certificate.{Certificate}
 use Rattle.code_map.specs.Words.{word_at}
-use Rattle.cert_check.specs.Judge.{IsGraphOf}
+use Rattle.cert_check.specs.JudgeInput.{IsGraphOf}
 use Rattle.cert_check.specs.Verdict.{IsJudged, Yes}
-use Rattle.cert_check.specs.Shown.{shown_at}
+use Rattle.cert_check.specs.TaskGraphs.{task_graph_at}
 use Rattle.cert_check.specs.declared.outcome.Verdict.TheVariants as verdict
 use Rattle.cert_model.specs.Writing.{text as certificate_text}
 use Rattle.delay_classic.specs.Classic.{ClassicHasBest, ClassicIsJudged, OneClassic}
@@ -26,25 +26,25 @@ use Rattle.crpd_input.proofs.Given.{input_good, input_planned}
 use Rattle.crpd_tool.specs.Analyze.{certificate_answer}
 use Rattle.crpd_tool.specs.Classic.{ClassicEnds, ClassicOf, IsMadeClassic}
 use Rattle.crpd_tool.specs.ClassicSound.{DoneIsClassic, IsSoundClassic}
-use Rattle.crpd_tool.specs.Out.{Output, settled}
-use Rattle.crpd_tool.specs.Words.{classic}
+use Rattle.crpd_tool.specs.Output.{Output, ending_output}
+use Rattle.crpd_tool.specs.Commands.{classic}
 use Rattle.crpd_tool.proofs.Analyzed.{not_done}
 use Rattle.crpd_tool.proofs.Finish.{some-out}
 use Rattle.crpd_tool.proofs.Safety.{then_done}
 
 module _ (safe_law : CheckedCodeIsSafe) (judged_law : ClassicIsJudged) (one_law : OneClassic) (best_law : ClassicHasBest) (contents : Contents) (set : List ℕ) where
-  made : (input : Input) (shapes : Shapes) (ending : Result Answer Halt) → ClassicOf set input shapes ending → (settled ending).status ≡ Done
-      → (c : Certificate) × IsMadeClassic input.set (shown_at shapes.graphs shapes.nests) c × (ending ≡ Ok (certificate_answer c))
+  made : (input : Input) (shapes : Shapes) (ending : Result Answer Halt) → ClassicOf set input shapes ending → (ending_output ending).status ≡ Done
+      → (c : Certificate) × IsMadeClassic input.set (task_graph_at shapes.graphs shapes.nests) c × (ending ≡ Ok (certificate_answer c))
   made input shapes ending (inl found) e = found
-  made input shapes ending (inr none) e = absurd (not_done set input.set none.0 (ap (λ (r : Result Answer Halt). (settled r).status) (sym none.3) ∙ e))
+  made input shapes ending (inr none) e = absurd (not_done set input.set none.0 (ap (λ (r : Result Answer Halt). (ending_output r).status) (sym none.3) ∙ e))
 
   sound : (input : Input) (shapes : Shapes) (c : Certificate) (ending : Result Answer Halt) → input_in contents set ≡ Ok input → ShapesIn input (Ok shapes)
-      → IsMadeClassic input.set (shown_at shapes.graphs shapes.nests) c → ending ≡ Ok (certificate_answer c) → IsSoundClassic contents set (settled ending).text
+      → IsMadeClassic input.set (task_graph_at shapes.graphs shapes.nests) c → ending ≡ Ok (certificate_answer c) → IsSoundClassic contents set (ending_output ending).text
   sound input shapes c ending is shaped M end =
       let good = input_good contents set input is in
-      let built : (k : ℕ) → k < length input.set.tasks → IsGraphOf (word_at input.code.images) (plan_of (system_of input.set input.code) k) (shown_at shapes.graphs shapes.nests k) =
+      let built : (k : ℕ) → k < length input.set.tasks → IsGraphOf (word_at input.code.images) (plan_of (system_of input.set input.code) k) (task_graph_at shapes.graphs shapes.nests k) =
       shapes_built input shapes good (input_planned contents set input is) shaped in
-      let yes : IsJudged input.set (shown_at shapes.graphs shapes.nests) c Yes = judged_law input.set (shown_at shapes.graphs shapes.nests) c (λ k lt. (built k lt).follows.graph) M.classic in
+      let yes : IsJudged input.set (task_graph_at shapes.graphs shapes.nests) c Yes = judged_law input.set (task_graph_at shapes.graphs shapes.nests) c (λ k lt. (built k lt).follows.graph) M.classic in
       record {
         input = input;
         shapes = shapes;
@@ -52,17 +52,17 @@ module _ (safe_law : CheckedCodeIsSafe) (judged_law : ClassicIsJudged) (one_law 
         written = certificate_text c;
         input_is = is;
         shapes_are = shaped;
-        text_is = ap (λ (r : Result Answer Halt). (settled r).text) end;
+        text_is = ap (λ (r : Result Answer Halt). (ending_output r).text) end;
         reads = M.reads;
         is = M.classic;
-        only = λ d D. one_law input.set (shown_at shapes.graphs shapes.nests) d c D M.classic;
+        only = λ d D. one_law input.set (task_graph_at shapes.graphs shapes.nests) d c D M.classic;
         judged = yes;
-        safe = safe_law input.set input.code (shown_at shapes.graphs shapes.nests) c good.ranges good.words built yes;
-        best = best_law input.set (shown_at shapes.graphs shapes.nests) c (has_times input.set good.ranges) M.classic;
+        safe = safe_law input.set input.code (task_graph_at shapes.graphs shapes.nests) c good.ranges good.words built yes;
+        best = best_law input.set (task_graph_at shapes.graphs shapes.nests) c (has_times input.set good.ranges) M.classic;
         checks = λ others file name same read. inl (input, same, inl (shapes, shaped, inl (c, read, (verdict.Yes, yes, refl))));
       }
 
-  ended : (ending : Result Answer Halt) → ClassicEnds contents set ending → (settled ending).status ≡ Done → IsSoundClassic contents set (settled ending).text
+  ended : (ending : Result Answer Halt) → ClassicEnds contents set ending → (ending_output ending).status ≡ Done → IsSoundClassic contents set (ending_output ending).text
   ended ending is e =
       let input = then_done (Exactly (input_in contents set)) (λ input. Then (ShapesIn input) (ClassicOf set input)) ending is e in
       let shapes = then_done (ShapesIn input.0) (ClassicOf set input.0) ending input.2 e in

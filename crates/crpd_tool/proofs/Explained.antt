@@ -8,11 +8,11 @@ use Rattle.script_reader.specs.Legal.{IsLegal}
 use Rattle.script_reader.specs.Reading as script_reader
 use Rattle.script_reader.proofs.Found.{found_in}
 use Rattle.loop_regions.specs.TaskGraph.{TaskGraph}
-use Rattle.cert_check.specs.Answered.{answer_of}
+use Rattle.cert_check.specs.FirstFailing.{answer_of}
 use Rattle.cert_check.proofs.Clauses.{yes_meets_listing, yes_meets_sets}
-use Rattle.cert_check.specs.Judge.{IsGraphOf}
+use Rattle.cert_check.specs.JudgeInput.{IsGraphOf}
 use Rattle.cert_check.specs.Verdict.{IsJudged, Yes}
-use Rattle.cert_check.specs.Shown.{shown_at}
+use Rattle.cert_check.specs.TaskGraphs.{task_graph_at}
 use Rattle.cert_check.specs.declared.outcome.Verdict.{Verdict}
 use Rattle.cert_check.specs.declared.outcome.Verdict.TheVariants as verdict
 use Rattle.preempt_machine.specs.Machine.{plan_of}
@@ -21,13 +21,13 @@ use Rattle.preempt_machine.specs.Step.{Start}
 use Rattle.run_account.specs.Account.{HasAccountFacts, IsAccount}
 use Rattle.run_account.specs.Facts.{AreSetsMet, LedgerFacts}
 use Rattle.run_account.specs.Fetches.{HasCache}
-use Rattle.run_account.specs.Nodes.{task_of}
+use Rattle.run_account.specs.Nodes.{job_task}
 use Rattle.run_account.specs.Walks.{HasGraphs, AreStatesMet}
 use Rattle.preempt_machine.specs.Starts.{start_of_script}
 use Rattle.run_account.specs.declared.told.Account.{Account}
 use Rattle.preempt_machine.proofs.Loads.{start_cache_length}
 use Rattle.sound_laws.specs.Walks.{IsCodeOf}
-use Rattle.sound_laws.specs.Within.{CheckedAccountIsWithinDelays, IsChecked, IsWithinDelays}
+use Rattle.sound_laws.specs.CheckedCode.{CheckedAccountIsWithinDelays, IsChecked, IsWithinDelays}
 use Rattle.sound_laws.proofs.Headline.InRange.{in_range}
 use Rattle.sound_laws.proofs.Headline.Within.{code_of}
 use Rattle.sound_laws.proofs.Reloads.OwnFetches.{has_graphs}
@@ -45,9 +45,9 @@ use Rattle.crpd_input.proofs.Given.{IsInput, input_good, input_planned, read_ok,
 use Rattle.crpd_tool.specs.Check.{verdict_answer}
 use Rattle.crpd_tool.specs.Explain.{AccountOf, ExplainEnds, ExplainedBy, ExplanationOf}
 use Rattle.crpd_tool.specs.Explained.{DoneIsExplained, IsExplained}
-use Rattle.crpd_tool.specs.Out.{Output, settled}
+use Rattle.crpd_tool.specs.Output.{Output, ending_output}
 use Rattle.crpd_tool.specs.Simulate.{run_of}
-use Rattle.crpd_tool.specs.Words.{explain}
+use Rattle.crpd_tool.specs.Commands.{explain}
 use Rattle.crpd_tool.specs.declared.answer.Answer.{Answer}
 use Rattle.crpd_tool.specs.declared.status.Status.TheVariants.{Done}
 use Rattle.crpd_tool.proofs.Finish.{some-out}
@@ -61,12 +61,12 @@ script_named contents name set given e =
 
 -- what a yes gives the laws on a script's run
 module _ (input : Input) (shapes : Shapes) (c : Certificate) (given : Script) (is : IsInput input) (planned : length input.code.plans ≡ length input.set.tasks) (shaped : ShapesIn input (Ok shapes))
-    (named : NamesTasks input.set given.jobs) (judged : IsJudged input.set (shown_at shapes.graphs shapes.nests) c Yes) where
+    (named : NamesTasks input.set given.jobs) (judged : IsJudged input.set (task_graph_at shapes.graphs shapes.nests) c Yes) where
   abbrev start : Start
   start = start_of_script input.set input.code given
 
   abbrev graphs : ℕ → TaskGraph
-  graphs = shown_at shapes.graphs shapes.nests
+  graphs = task_graph_at shapes.graphs shapes.nests
 
   built : (k : ℕ) → k < length input.set.tasks → IsGraphOf (word_at input.code.images) (plan_of (system_of input.set input.code) k) (graphs k)
   built = shapes_built input shapes is planned shaped
@@ -93,15 +93,15 @@ module _ (input : Input) (shapes : Shapes) (c : Certificate) (given : Script) (i
   graphs_here : HasGraphs start graphs
   graphs_here = has_graphs start input.set graphs (in_range input.set is.ranges) in_code named
 
-  below : (x : ℕ) → x < length given.jobs → task_of start x < length input.set.tasks
+  below : (x : ℕ) → x < length given.jobs → job_task start x < length input.set.tasks
   below x h = task_below start input.set graphs (in_range input.set is.ranges) in_code named x h
 
   states_met : AreStatesMet start graphs c
   states_met x h =
-      (yes_meets_listing input.set graphs c (task_of start x) judged (below x h)).states
+      (yes_meets_listing input.set graphs c (job_task start x) judged (below x h)).states
 
   sets_met : AreSetsMet start graphs c
-  sets_met x h = yes_meets_sets input.set graphs c (task_of start x) judged (below x h)
+  sets_met x h = yes_meets_sets input.set graphs c (job_task start x) judged (below x h)
 
   account_facts : LedgerFacts → (a : Account) → IsAccount start graphs c given.cycles a → HasAccountFacts start graphs c given.cycles a
   account_facts facts_law a I =
@@ -115,26 +115,26 @@ module _ (input : Input) (shapes : Shapes) (c : Certificate) (given : Script) (i
   within_delays : CheckedAccountIsWithinDelays → (a : Account) → IsAccount start graphs c given.cycles a → IsLegal input.set given.jobs → IsKept (run_of input given) → IsWithinDelays input.set input.code given c a
   within_delays within_law a I legal kept = within_law input.set input.code graphs c given a checked named legal I (I.kept.1 kept)
 
-denied : (set : TaskSet) (c : Certificate) (task clause place : ℕ) → (settled (Ok (verdict_answer set c (verdict.No (record { 0 = task }) clause place)))).status ≡ Done → ⊥
+denied : (set : TaskSet) (c : Certificate) (task clause place : ℕ) → (ending_output (Ok (verdict_answer set c (verdict.No (record { 0 = task }) clause place)))).status ≡ Done → ⊥
 denied set c task clause place e = cc
 
 -- with the status Done the verdict was yes
-account_of : (input : Input) (shapes : Shapes) (c : Certificate) (given : Script) (v : Verdict) (ending : Result Answer Halt) → ExplainedBy input shapes c given v ending → (settled ending).status ≡ Done
+account_of : (input : Input) (shapes : Shapes) (c : Certificate) (given : Script) (v : Verdict) (ending : Result Answer Halt) → ExplainedBy input shapes c given v ending → (ending_output ending).status ≡ Done
     → (answer_of v ≡ Yes) × AccountOf input shapes c given ending
 account_of input shapes c given verdict.Yes ending a e = (refl, a)
 account_of input shapes c given (verdict.No task clause place) ending a e =
-    absurd (denied input.set c task.0 clause place (ap (λ (r : Result Answer Halt). (settled r).status) (sym a) ∙ e))
+    absurd (denied input.set c task.0 clause place (ap (λ (r : Result Answer Halt). (ending_output r).status) (sym a) ∙ e))
 
 module _ (facts_law : LedgerFacts) (within_law : CheckedAccountIsWithinDelays) (contents : Contents) (set certificate script : List ℕ) where
   explained : (input : Input) (shapes : Shapes) (c : Certificate) (given : Script) (ending : Result Answer Halt) → input_in contents set ≡ Ok input → ShapesIn input (Ok shapes)
-      → certificate_in contents certificate ≡ Ok c → script_in contents script input.set ≡ Ok given → ExplanationOf input shapes c given ending → (settled ending).status ≡ Done
-      → IsExplained contents set certificate script (settled ending).text
+      → certificate_in contents certificate ≡ Ok c → script_in contents script input.set ≡ Ok given → ExplanationOf input shapes c given ending → (ending_output ending).status ≡ Done
+      → IsExplained contents set certificate script (ending_output ending).text
   explained input shapes c given ending input_is shaped stated scripted found e =
       let is = input_good contents set input input_is in
       let planned = input_planned contents set input input_is in
       let named = script_named contents script input.set given scripted in
       let told = account_of input shapes c given found.0 ending found.2 e in
-      let judged : IsJudged input.set (shown_at shapes.graphs shapes.nests) c Yes = subst (λ a. IsJudged input.set (shown_at shapes.graphs shapes.nests) c a) told.0 found.1 in
+      let judged : IsJudged input.set (task_graph_at shapes.graphs shapes.nests) c Yes = subst (λ a. IsJudged input.set (task_graph_at shapes.graphs shapes.nests) c a) told.0 found.1 in
       let account = told.1 in
       record {
         input = input;
@@ -150,7 +150,7 @@ module _ (facts_law : LedgerFacts) (within_law : CheckedAccountIsWithinDelays) (
         judged = judged;
         is_account = account.2;
         line = account.3;
-        text_is = ap (λ (r : Result Answer Halt). (settled r).text) account.4;
+        text_is = ap (λ (r : Result Answer Halt). (ending_output r).text) account.4;
         facts = account_facts input shapes c given is planned shaped named judged facts_law account.0 account.2;
         within = within_delays input shapes c given is planned shaped named judged within_law account.0 account.2;
       }
@@ -161,7 +161,7 @@ module _ (facts_law : LedgerFacts) (within_law : CheckedAccountIsWithinDelays) (
   abbrev Certificates : Input → Shapes → Result Answer Halt → Type 0
   Certificates input shapes = Then (Exactly (certificate_in contents certificate)) (Scripts input shapes)
 
-  ended : (ending : Result Answer Halt) → ExplainEnds contents set certificate script ending → (settled ending).status ≡ Done → IsExplained contents set certificate script (settled ending).text
+  ended : (ending : Result Answer Halt) → ExplainEnds contents set certificate script ending → (ending_output ending).status ≡ Done → IsExplained contents set certificate script (ending_output ending).text
   ended ending is e =
       let input = then_done (Exactly (input_in contents set)) (λ input. Then (ShapesIn input) (Certificates input)) ending is e in
       let shapes = then_done (ShapesIn input.0) (Certificates input.0) ending input.2 e in

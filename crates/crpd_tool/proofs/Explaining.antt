@@ -13,16 +13,16 @@ use Rattle.crpd_base.specs.declared.data.TaskSet.{TaskSet}
 use Rattle.crpd_base.specs.Ranges.{IsTaskSet}
 use Rattle.flat_graph.specs.CodeGraph.{IsCodeGraph, no_graph, graph_at}
 use Rattle.loop_regions.specs.TaskSteps.{words_of}
-use Rattle.evict_sets.specs.Certificate.{no_cert}
+use Rattle.evict_sets.specs.ListedPart.{no_task_part}
 use Rattle.evict_sets.specs.Listing.{HasLowSets}
-use Rattle.cert_check.specs.Shown.{shown_at}
-use Rattle.cert_check.specs.Answered.{answer_of}
+use Rattle.cert_check.specs.TaskGraphs.{task_graph_at}
+use Rattle.cert_check.specs.FirstFailing.{answer_of}
 use Rattle.cert_check.specs.declared.outcome.Clause.TheVariants.{Deadline, HasTask, Last, Response}
 use Rattle.cert_check.specs.Verdict.{IsJudged, Yes}
 use Rattle.cert_check.proofs.Clauses.{yes_meets_listing}
 use Rattle.cert_check.specs.declared.outcome.Verdict.TheVariants as verdict
 use Rattle.cert_model.specs.Ranges.{IsCertificate}
-use Rattle.run_account.specs.Shown.{AreGraphsOf, TasksAreMet}
+use Rattle.run_account.specs.AccountGraphs.{AreGraphsOf, TasksAreMet}
 use Rattle.crpd_input.specs.declared.input.Input.{Input}
 use Rattle.crpd_input.specs.declared.shapes.Shapes.{Shapes}
 use Rattle.crpd_input.specs.declared.halt.Halt.{Halt}
@@ -53,15 +53,15 @@ graphs_of input shapes shaped =
           subst (λ (p : TaskPlan). IsCodeGraph (words_of input.code) p.entry (graph_at shapes.graphs i)) (same_plan made.0 plan (sym made.1 ∙ at)) of_code;
     }
 
-module _ (set : TaskSet) (shapes : Shapes) (c : Certificate) (judged : IsJudged set (shown_at shapes.graphs shapes.nests) c Yes) where
+module _ (set : TaskSet) (shapes : Shapes) (c : Certificate) (judged : IsJudged set (task_graph_at shapes.graphs shapes.nests) c Yes) where
   -- what an account asks of each task
   pub tasks_met : IsCertificate c → TasksAreMet set shapes.graphs c
   tasks_met is i lt =
       let has : i < length c.tasks = judged i HasTask lt in
       record {
         has_task = has;
-        low_sets = All-get_or HasLowSets c.tasks i no_cert has (in_range c is).sets;
-        listing = yes_meets_listing set (shown_at shapes.graphs shapes.nests) c i judged lt;
+        low_sets = All-get_or HasLowSets c.tasks i no_task_part has (in_range c is).sets;
+        listing = yes_meets_listing set (task_graph_at shapes.graphs shapes.nests) c i judged lt;
       }
 
   -- there is a window for each task, within its deadline
@@ -78,11 +78,11 @@ module _ (set : TaskSet) (shapes : Shapes) (c : Certificate) (judged : IsJudged 
 
 module _ {E : Type 0} (input : Input) (shapes : Shapes) (c : Certificate) (script : Script) where
   -- what follows a yes, and what follows a no
-  pub after_yes : (r : Result Answer E) → IsJudged input.set (shown_at shapes.graphs shapes.nests) c Yes → IfOk r (λ answer. AccountOf input shapes c script (Ok answer)) → IfOk r (λ answer. ExplanationOf input shapes c script (Ok answer))
+  pub after_yes : (r : Result Answer E) → IsJudged input.set (task_graph_at shapes.graphs shapes.nests) c Yes → IfOk r (λ answer. AccountOf input shapes c script (Ok answer)) → IfOk r (λ answer. ExplanationOf input shapes c script (Ok answer))
   after_yes (Ok answer) judged account = (verdict.Yes, judged, account)
   after_yes (Err e) judged account = tt
 
-  pub after_no : (task : Task) (clause place : ℕ) (r : Result Answer E) → IsJudged input.set (shown_at shapes.graphs shapes.nests) c (answer_of (verdict.No task clause place)) → IfOk r (λ answer. answer ≡ verdict_answer input.set c (verdict.No task clause place))
+  pub after_no : (task : Task) (clause place : ℕ) (r : Result Answer E) → IsJudged input.set (task_graph_at shapes.graphs shapes.nests) c (answer_of (verdict.No task clause place)) → IfOk r (λ answer. answer ≡ verdict_answer input.set c (verdict.No task clause place))
       → IfOk r (λ answer. ExplanationOf input shapes c script (Ok answer))
   after_no task clause place (Ok answer) judged is = (verdict.No task clause place, judged, ap (λ a. Ok a) is)
   after_no task clause place (Err e) judged is = tt

@@ -9,10 +9,10 @@ use Rattle.crpd_base.specs.declared.data.TaskSet.{TaskSet}
 use Rattle.script_reader.specs.Legal.{IsLegal}
 use Rattle.cert_build.specs.declared.fault.BuildError.{BuildError}
 use Rattle.cert_build.specs.declared.fault.BuildError.TheVariants.{Memory, TooLarge, TooManyEntries, Unschedulable}
-use Rattle.cert_check.specs.Answered.{answer_of}
-use Rattle.cert_check.specs.Judge.{responses}
+use Rattle.cert_check.specs.FirstFailing.{answer_of}
+use Rattle.cert_check.specs.JudgeInput.{responses}
 use Rattle.cert_check.specs.Verdict.{IsJudged}
-use Rattle.cert_check.specs.Shown.{shown_at}
+use Rattle.cert_check.specs.TaskGraphs.{task_graph_at}
 use Rattle.cert_check.specs.declared.outcome.Verdict.TheVariants.{Yes}
 use Rattle.preempt_machine.specs.Machine.{Job, no_job}
 use Rattle.preempt_machine.specs.Safe.{IsKept, IsSafeWith}
@@ -22,10 +22,10 @@ use Rattle.run_account.proofs.Jobs.{jobs_length, line_is}
 use Rattle.sound_laws.specs.Headline.{CheckedCodeIsSafe}
 use Rattle.crpd_io.specs.Outside.{Contents}
 use Rattle.crpd_report.specs.Check.{check_text}
-use Rattle.crpd_report.specs.Made.{NoneLateLaw, answered_count, generate_text, jobs_line, late_count, made_line}
+use Rattle.crpd_report.specs.Generate.{NoneLateLaw, answered_count, generate_text, jobs_line, late_count, made_line}
 use Rattle.crpd_report.specs.Simulate.{is_legal, run_line}
 use Rattle.crpd_report.proofs.Legality.{legal_decides}
-use Rattle.gen_tasks.specs.Made.{made}
+use Rattle.gen_tasks.specs.GeneratedInput.{made}
 use Rattle.gen_tasks.proofs.MadeLaw.{made_legal}
 use Rattle.crpd_input.specs.declared.input.Input.{Input}
 use Rattle.crpd_input.specs.declared.halt.Halt.{Halt}
@@ -36,11 +36,11 @@ use Rattle.crpd_input.proofs.Built.{shapes_built}
 use Rattle.crpd_tool.specs.declared.answer.Answer.{Answer}
 use Rattle.crpd_tool.specs.declared.status.Status.TheVariants.{Done}
 use Rattle.crpd_tool.specs.Analyze.{without_certificate}
-use Rattle.crpd_tool.specs.Generate.{GenerateEnds, GeneratedOf, IsRunJudged, behind, made_input, node_count}
+use Rattle.crpd_tool.specs.Generate.{GenerateEnds, GeneratedOf, IsRunJudged, answer_behind_line, made_input, node_count}
 use Rattle.crpd_tool.specs.Generated.{DoneIsGenerated, IsGenerated}
-use Rattle.crpd_tool.specs.Out.{Output, settled}
+use Rattle.crpd_tool.specs.Output.{Output, ending_output}
 use Rattle.crpd_tool.specs.Simulate.{completions_of, run_of}
-use Rattle.crpd_tool.specs.Words.{generate}
+use Rattle.crpd_tool.specs.Commands.{generate}
 use Rattle.crpd_tool.proofs.Finish.{some-out}
 use Rattle.crpd_tool.proofs.MadeGood.{made_good, made_parts, made_planned, made_run}
 use Rattle.crpd_tool.proofs.Safety.{then_done, yes_only}
@@ -86,7 +86,7 @@ lines_are s n =
 
 -- ---- Done comes of a yes
 
-not_done : (line file : List ℕ) (set : TaskSet) (e : BuildError) → (settled (behind line (without_certificate file set e))).status ≡ Done → ⊥
+not_done : (line file : List ℕ) (set : TaskSet) (e : BuildError) → (ending_output (answer_behind_line line (without_certificate file set e))).status ≡ Done → ⊥
 not_done line file set Memory is = cc
 not_done line file set (TooLarge task address) is = cc
 not_done line file set (TooManyEntries count) is = cc
@@ -97,10 +97,10 @@ module _ (safe_law : CheckedCodeIsSafe) (none_law : NoneLateLaw) (n : ℕ) where
   script = (made n).script
 
   safe : (input : Input) (shapes : Shapes) (c : Certificate) → made_input n ≡ Ok input → ShapesIn input (Ok shapes)
-      → IsJudged input.set (shown_at shapes.graphs shapes.nests) c (answer_of Yes) → IsSafeWith input.set input.code (responses c)
+      → IsJudged input.set (task_graph_at shapes.graphs shapes.nests) c (answer_of Yes) → IsSafeWith input.set input.code (responses c)
   safe input shapes c is shaped judged =
       let good = made_good n input is in
-      safe_law input.set input.code (shown_at shapes.graphs shapes.nests) c good.ranges good.words
+      safe_law input.set input.code (task_graph_at shapes.graphs shapes.nests) c good.ranges good.words
       (shapes_built input shapes good (made_planned n input is) shaped) judged
 
   none_late : (input : Input) (c : Certificate) → made_input n ≡ Ok input → IsSafeWith input.set input.code (responses c) → IsKept (run_of input script)
@@ -143,17 +143,17 @@ module _ (safe_law : CheckedCodeIsSafe) (none_law : NoneLateLaw) (n : ℕ) where
         late_0 = said input shapes c kept text legal_said none text_is;
       }
 
-  answered : (input : Input) (shapes : Shapes) (ending : Result Answer Halt) → made_input n ≡ Ok input → ShapesIn input (Ok shapes) → GeneratedOf n script input shapes ending → (settled ending).status ≡ Done
-      → IsGenerated n (settled ending).text
+  answered : (input : Input) (shapes : Shapes) (ending : Result Answer Halt) → made_input n ≡ Ok input → ShapesIn input (Ok shapes) → GeneratedOf n script input shapes ending → (ending_output ending).status ≡ Done
+      → IsGenerated n (ending_output ending).text
   answered input shapes ending is shaped (inl (c, v, kept, J, end)) e =
-      let yes : v ≡ Yes = yes_only v (ap (λ (r : Result Answer Halt). (settled r).status) (sym end) ∙ e) in
-      let text : (settled ending).text ≡ generate_text n (node_count shapes.graphs) input.set c v script (completions_of (run_of input script)) kept = ap (λ (r : Result Answer Halt). (settled r).text) end in
-      generated input shapes c kept (settled ending).text is shaped (subst (λ x. IsRunJudged script input shapes c x kept) yes J)
+      let yes : v ≡ Yes = yes_only v (ap (λ (r : Result Answer Halt). (ending_output r).status) (sym end) ∙ e) in
+      let text : (ending_output ending).text ≡ generate_text n (node_count shapes.graphs) input.set c v script (completions_of (run_of input script)) kept = ap (λ (r : Result Answer Halt). (ending_output r).text) end in
+      generated input shapes c kept (ending_output ending).text is shaped (subst (λ x. IsRunJudged script input shapes c x kept) yes J)
       (text ∙ ap (λ x. generate_text n (node_count shapes.graphs) input.set c x script (completions_of (run_of input script)) kept) yes)
   answered input shapes ending is shaped (inr none) e =
-      absurd (not_done (made_line n (node_count shapes.graphs)) (codes "generate") input.set none.0 (ap (λ (r : Result Answer Halt). (settled r).status) (sym none.3) ∙ e))
+      absurd (not_done (made_line n (node_count shapes.graphs)) (codes "generate") input.set none.0 (ap (λ (r : Result Answer Halt). (ending_output r).status) (sym none.3) ∙ e))
 
-  ended : (ending : Result Answer Halt) → GenerateEnds n ending → (settled ending).status ≡ Done → IsGenerated n (settled ending).text
+  ended : (ending : Result Answer Halt) → GenerateEnds n ending → (ending_output ending).status ≡ Done → IsGenerated n (ending_output ending).text
   ended ending is e =
       let input = then_done (Exactly (made_input n)) (λ input. Then (ShapesIn input) (GeneratedOf n script input)) ending is e in
       let shapes = then_done (ShapesIn input.0) (GeneratedOf n script input.0) ending input.2 e in

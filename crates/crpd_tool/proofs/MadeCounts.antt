@@ -6,9 +6,9 @@ use Rattle.std.proofs.lemmas.List.FromFn.{length-map-range_with_len}
 use Rattle.crpd_base.specs.Tasks.{jitter_of, period_of}
 use Rattle.crpd_base.specs.declared.data.TaskSet.{TaskSet}
 use Rattle.gen_tasks.specs.Draws.{state_after}
-use Rattle.gen_tasks.specs.Jobs.{job, jobs, jobs_at, jobs_before, jobs_of, turns_of}
-use Rattle.gen_tasks.specs.Made.{made, set_of}
-use Rattle.gen_tasks.specs.Programs.{file_at, task_at}
+use Rattle.gen_tasks.specs.Jobs.{generated_job, jobs, jobs_at, jobs_before, jobs_of, job_count}
+use Rattle.gen_tasks.specs.GeneratedInput.{made, generated_set}
+use Rattle.gen_tasks.specs.Programs.{generated_file_at, generated_task_at}
 
 -- lists of at most 400,000 items each, one behind the other
 flat_few : {X : Type 0} (f : ℕ → List X) (a n : ℕ) → ((k : ℕ) → length (f k) ≤ 400000) → length (flat_map f (range_with_len a n)) ≤ n * 400000
@@ -21,13 +21,13 @@ flat_few f a (suc n) each =
 few_of : (x i period jitter : ℕ) → length (jobs_of x i period jitter) ≤ 400000
 unfolding jobs_of
 few_of x i period jitter =
-    let count : length (map (job x i period jitter) (range_with_len 0 (turns_of period))) ≡ turns_of period = length-map-range_with_len (job x i period jitter) 0 (turns_of period) in
+    let count : length (map (generated_job x i period jitter) (range_with_len 0 (job_count period))) ≡ job_count period = length-map-range_with_len (generated_job x i period jitter) 0 (job_count period) in
     let small : 399999 / period ≤ 399999 = div-le_self 399999 period in
     omega arith
 
-tasks_of : (n : ℕ) → length (set_of n).tasks ≡ 16
-unfolding set_of
-tasks_of n = length-map-range_with_len (task_at n) 0 16
+tasks_of : (n : ℕ) → length (generated_set n).tasks ≡ 16
+unfolding generated_set
+tasks_of n = length-map-range_with_len (generated_task_at n) 0 16
 
 jobs_few : (x : ℕ) (set : TaskSet) → length (jobs x set) ≤ length set.tasks * 400000
 unfolding jobs
@@ -35,12 +35,12 @@ jobs_few x set = flat_few (jobs_at x set) 0 (length set.tasks) (λ i. few_of (st
 
 pub made_files_count : (n : ℕ) → length (made n).files ≡ length (made n).set.tasks
 unfolding made
-made_files_count n = length-map-range_with_len (file_at n) 0 16 ∙ sym (tasks_of n)
+made_files_count n = length-map-range_with_len (generated_file_at n) 0 16 ∙ sym (tasks_of n)
 
 pub made_jobs_few : (n : ℕ) → length (made n).script.jobs < 2 ^ 32
 unfolding made
 made_jobs_few n =
-    let few : length (jobs (state_after n 64) (set_of n)) ≤ length (set_of n).tasks * 400000 = jobs_few (state_after n 64) (set_of n) in
-    let count : length (set_of n).tasks ≡ 16 = tasks_of n in
-    let all : length (jobs (state_after n 64) (set_of n)) ≤ 16 * 400000 = rw count at few in
+    let few : length (jobs (state_after n 64) (generated_set n)) ≤ length (generated_set n).tasks * 400000 = jobs_few (state_after n 64) (generated_set n) in
+    let count : length (generated_set n).tasks ≡ 16 = tasks_of n in
+    let all : length (jobs (state_after n 64) (generated_set n)) ≤ 16 * 400000 = rw count at few in
     omega arith

@@ -5,19 +5,19 @@ use Rattle.std.specs.Prelude.{String, Vec, string_bytes, if◌then◌else◌}
 use Rattle.std.specs.List.{zip}
 use Rattle.std.specs.Str.{bytes_eq}
 use Rattle.crpd_base.specs.declared.data.TaskSpec.{TaskSpec}
-use Rattle.crpd_io.specs.Held.{file_at}
-use Rattle.crpd_tool.specs.Generate.{held}
+use Rattle.crpd_io.specs.FilesInMemory.{file_named}
+use Rattle.crpd_tool.specs.Generate.{contents_of_files}
 
 -- the name and the bytes of a file in memory
 abbrev pub seen : {Y Z : Type 0} → String Y × Vec ℕ Z → List ℕ × List ℕ
 seen file = (string_bytes file.0, file.1.items)
 
-pub found_by : {Y Z : Type 0} (files : List (String Y × Vec ℕ Z)) (name : List ℕ) → file_at files name ≡ held (map seen files) name
+pub found_by : {Y Z : Type 0} (files : List (String Y × Vec ℕ Z)) (name : List ℕ) → file_named files name ≡ contents_of_files (map seen files) name
 found_by [] name = refl
 found_by (file ∷ files) name = ap (λ (o : Option (List ℕ)). if bytes_eq name (string_bytes file.0) then Some file.1.items else o) (found_by files name)
 
 -- the contents are one function of names
-pub contents_are : {Y Z : Type 0} (files : List (String Y × Vec ℕ Z)) → file_at files ≡ held (map seen files)
+pub contents_are : {Y Z : Type 0} (files : List (String Y × Vec ℕ Z)) → file_named files ≡ contents_of_files (map seen files)
 contents_are files = λ i name. found_by files name i
 
 -- one pair more

@@ -21,7 +21,7 @@ use Rattle.preempt_machine.specs.Starts.{start_memory, with_bytes, with_images, 
 use Rattle.crpd_io.specs.Outside.{Contents}
 use Rattle.crpd_io.specs.Whole.{FileRefusal, file_within}
 use Rattle.gen_tasks.specs.Files.{words}
-use Rattle.gen_tasks.specs.Made.{made}
+use Rattle.gen_tasks.specs.GeneratedInput.{made}
 use Rattle.gen_tasks.specs.Programs.{image_at}
 use Rattle.gen_tasks.proofs.ElfLaw.{files_read}
 use Rattle.crpd_input.specs.Reading.{code_in, elf_halt, image_in, images_in, map_halt}
@@ -29,7 +29,7 @@ use Rattle.crpd_input.specs.Steps.{bytes_in, file_bytes, or_refused, refused_fil
 use Rattle.crpd_input.proofs.Each.{all_given}
 use Rattle.crpd_input.proofs.Given.{image_good, read_ok, step_ok}
 use Rattle.crpd_input.proofs.Plans.{code_parts}
-use Rattle.crpd_tool.specs.Generate.{held, made_name, named_files}
+use Rattle.crpd_tool.specs.Generate.{contents_of_files, made_name, named_files}
 
 -- a byte
 abbrev IsByte : ℕ → Type 0
@@ -125,11 +125,11 @@ held_head : (P : List ℕ → Type 0) (b : Bool) (file bytes : List ℕ) (rest :
 held_head P true file bytes rest here later e = let same : file ≡ bytes = cc in subst P same here
 held_head P false file bytes rest here later e = later e
 
-held_means : (P : List ℕ → Type 0) (names files : List (List ℕ)) (name bytes : List ℕ) → All P files → held (zip names files) name ≡ Some bytes → P bytes
+held_means : (P : List ℕ → Type 0) (names files : List (List ℕ)) (name bytes : List ℕ) → All P files → contents_of_files (zip names files) name ≡ Some bytes → P bytes
 held_means P [] files name bytes all e = absurd cc
 held_means P (x ∷ names) [] name bytes all e = absurd cc
 held_means P (x ∷ names) (file ∷ files) name bytes all e =
-    held_head P (bytes_eq name x) file bytes (held (zip names files) name) (All-head P file files all) (held_means P names files name bytes (All-tail P file files all)) e
+    held_head P (bytes_eq name x) file bytes (contents_of_files (zip names files) name) (All-head P file files all) (held_means P names files name bytes (All-tail P file files all)) e
 
 within_some : (most : ℕ) (name : List ℕ) (o : Option (List ℕ)) (bytes : List ℕ) → refused_file name (file_within most o) ≡ Ok bytes → o ≡ Some bytes
 within_some most name None bytes e = absurd cc
@@ -141,7 +141,7 @@ within_some most name (Some file) bytes e = here (nat_lt most (length file)) e
 
 module _ (n : ℕ) where
   abbrev files_of : Contents
-  files_of = held (named_files (made n).set (made n).files)
+  files_of = contents_of_files (named_files (made n).set (made n).files)
 
   image_means : (name : List ℕ) (image : Image) → image_in files_of name ≡ Ok image → HasBytes image
   image_means name image e =

@@ -11,23 +11,23 @@ use Rattle.crpd_base.proofs.Times.{has_times}
 use Rattle.flat_graph.specs.CodeGraph.{CodeGraph, graph_of, places_of, graph_at}
 use Rattle.flat_graph.specs.Graph.{IsGraph}
 use Rattle.loop_regions.specs.CodeNest.{CodeNest, nest_of}
-use Rattle.evict_sets.specs.Certificate.{cert_at}
+use Rattle.evict_sets.specs.ListedPart.{certified_task}
 use Rattle.delay_count.specs.Demand.{demand}
-use Rattle.response.specs.Windows.{IsFirstWithout, method_at, window_at as chosen_window}
-use Rattle.cert_check.specs.Answered.{answer_of}
-use Rattle.cert_check.specs.Judge.{accesses_of, longest_at, part_of, window_at}
+use Rattle.response.specs.Windows.{IsFirstWithoutWindow, method_at, window_at as chosen_window}
+use Rattle.cert_check.specs.FirstFailing.{answer_of}
+use Rattle.cert_check.specs.JudgeInput.{accesses_of, longest_at, certified_part, window_at}
 use Rattle.cert_check.specs.Verdict.{IsJudged}
-use Rattle.cert_check.specs.Shown.{nest_at, shown, shown_at}
+use Rattle.cert_check.specs.TaskGraphs.{nest_at, task_graph, task_graph_at}
 use Rattle.cert_check.specs.declared.outcome.Verdict.{Verdict}
 use Rattle.cert_check.specs.declared.outcome.Verdict.TheVariants as verdict
 use Rattle.cert_model.specs.Reading.{entries}
-use Rattle.cert_build.specs.Certify.{needs_at}
+use Rattle.cert_build.specs.Certify.{part_in}
 use Rattle.cert_build.proofs.Counting.{not_large}
 use Rattle.cert_build.proofs.OneBest.{same_part, same_states}
-use Rattle.cert_update.specs.Answer.{IsFirstLarge, IsLargeAt, IsRefused}
+use Rattle.cert_update.specs.Answer.{IsFirstChangedLarge, IsLargeAt, IsUpdateError}
 use Rattle.cert_update.specs.Laws.{side}
 use Rattle.cert_update.specs.Unchanged.{IsChanged, IsSameCode, IsUnchanged, Side}
-use Rattle.cert_update.specs.Update.{AreParts, IsUpdate, IsUpdatedPart, task_at}
+use Rattle.cert_update.specs.Update.{AreUpdatedParts, IsUpdate, IsUpdatedPart, task_part_at}
 use Rattle.cert_update.specs.declared.fault.UpdateError.{UpdateError}
 use Rattle.cert_update.specs.declared.fault.UpdateError.TheVariants.{Memory, TooLarge, TooManyEntries, Unschedulable}
 use Rattle.cert_update.proofs.OneUpdate.{one_name, one_update_by}
@@ -46,7 +46,7 @@ use Rattle.crpd_tool.proofs.OneMade.{Same, back, large_too, part_too}
 -- ---- by other regions of the same loops
 
 module _ (p q : Platform) (g h : CodeGraph) (n v m w : CodeNest) (s : AreSame g n v) (t : AreSame h m w) where
-  code_too : IsSameCode p (shown g n) q (shown h m) → IsSameCode p (shown g v) q (shown h w)
+  code_too : IsSameCode p (task_graph g n) q (task_graph h m) → IsSameCode p (task_graph g v) q (task_graph h w)
   code_too C =
       let S = C.nodes in
       let R = C.regions in
@@ -88,21 +88,21 @@ module _ (old_set set : TaskSet) (gs hs : List CodeGraph) where
       tasks = U.tasks;
       each = λ i lt.
           let t = U.each i lt in
-          record { name = t.name; part = updated_too c i lt (cert_at d i) t.part; window = t.window; response = t.response };
+          record { name = t.name; part = updated_too c i lt (certified_task d i) t.part; window = t.window; response = t.response };
     }
 
     large_at : (i : ℕ) → i < length set.tasks → IsLargeAt (side old_set gs ns) (side set hs ms) i → IsLargeAt (side old_set gs vs) (side set hs ws) i
     large_at i lt L = (changed_too i lt L.0, large_too set.platform (graph_at hs i) (nest_at ms i) (nest_at ws i) (after i lt) L.1)
 
   module _ (ns vs ms ws : List CodeNest) (before : Same old_set gs ns vs) (after : Same set hs ms ws) (c : Certificate) where
-    parts_too : (parts : List TaskPart) → AreParts (side old_set gs ns) c (side set hs ms) parts → AreParts (side old_set gs vs) c (side set hs ws) parts
+    parts_too : (parts : List TaskPart) → AreUpdatedParts (side old_set gs ns) c (side set hs ms) parts → AreUpdatedParts (side old_set gs vs) c (side set hs ws) parts
     parts_too parts P = record {
       tasks = P.tasks;
-      each = λ i lt. updated_too ns vs ms ws before after c i lt (task_at parts i) (P.each i lt);
+      each = λ i lt. updated_too ns vs ms ws before after c i lt (task_part_at parts i) (P.each i lt);
       within = λ i lt changed. P.within i lt (changed_too vs ns ws ms (back old_set gs ns vs before) (back set hs ms ws after) i lt changed);
     }
 
-    refused_too : (e : UpdateError) → IsRefused (side old_set gs ns) c (side set hs ms) e → IsRefused (side old_set gs vs) c (side set hs ws) e
+    refused_too : (e : UpdateError) → IsUpdateError (side old_set gs ns) c (side set hs ms) e → IsUpdateError (side old_set gs vs) c (side set hs ws) e
     refused_too Memory R = tt
     refused_too (TooLarge t address) R = record {
       task = R.task;
@@ -124,7 +124,7 @@ module _ (old new : Side) (c : Certificate) (O : IsTaskSet old.set) (S : IsTaskS
   alike_parts : (i : ℕ) (x y : TaskPart) → IsUpdatedPart old c new i x → IsUpdatedPart old c new i y → (x.part ≡ y.part) × (x.states ≡ y.states)
   alike_parts i x y (inl a) (inl b) =
       let from = one_name old.set O a.0 b.0 a.1.task b.1.task (a.1.name ∙ sym b.1.name) in
-      (a.2.part ∙ ap (λ k. (cert_at c k).part) from ∙ sym b.2.part, a.2.states ∙ ap (λ k. (cert_at c k).states) from ∙ sym b.2.states)
+      (a.2.part ∙ ap (λ k. (certified_task c k).part) from ∙ sym b.2.part, a.2.states ∙ ap (λ k. (certified_task c k).states) from ∙ sym b.2.states)
   alike_parts i x y (inl a) (inr b) = absurd (b.0 a.0 a.1)
   alike_parts i x y (inr a) (inl b) = absurd (a.0 b.0 b.1)
   alike_parts i x y (inr a) (inr b) = (
@@ -132,41 +132,41 @@ module _ (old new : Side) (c : Certificate) (O : IsTaskSet old.set) (S : IsTaskS
     same_states (new.graphs i).graph (accesses_of new.set.platform (new.graphs i)) x y a.1.states b.1.states,
   )
 
-  module _ (xs ys : List TaskPart) (X : AreParts old c new xs) (Y : AreParts old c new ys) where
-    same_needs : (k : ℕ) → k < length new.set.tasks → needs_at xs k ≡ needs_at ys k
-    same_needs k lt = (alike_parts k (task_at xs k) (task_at ys k) (X.each k lt) (Y.each k lt)).0
+  module _ (xs ys : List TaskPart) (X : AreUpdatedParts old c new xs) (Y : AreUpdatedParts old c new ys) where
+    same_needs : (k : ℕ) → k < length new.set.tasks → part_in xs k ≡ part_in ys k
+    same_needs k lt = (alike_parts k (task_part_at xs k) (task_part_at ys k) (X.each k lt) (Y.each k lt)).0
 
     same_entries : entries xs ≡ entries ys
     same_entries =
         entries_same xs ys (X.tasks ∙ sym Y.tasks)
         (λ k l.
         let lt : k < length new.set.tasks = let e = X.tasks in omega (arith, e, l) in
-        (alike_parts k (task_at xs k) (task_at ys k) (X.each k lt) (Y.each k lt)).1)
+        (alike_parts k (task_part_at xs k) (task_part_at ys k) (X.each k lt) (Y.each k lt)).1)
 
     -- the first task without a window by one of them is not before that by the other
-    not_before : (i j : ℕ) → IsFirstWithout new.set (demand new.set (needs_at xs) (longest_at new.set.platform new.graphs)) i → IsFirstWithout new.set (demand new.set (needs_at ys) (longest_at new.set.platform new.graphs)) j → i < j → ⊥
+    not_before : (i j : ℕ) → IsFirstWithoutWindow new.set (demand new.set (part_in xs) (longest_at new.set.platform new.graphs)) i → IsFirstWithoutWindow new.set (demand new.set (part_in ys) (longest_at new.set.platform new.graphs)) j → i < j → ⊥
     not_before i j F H lt =
-        has_window new.set (longest_at new.set.platform new.graphs) times (needs_at xs) (needs_at ys) same_needs i F
+        has_window new.set (longest_at new.set.platform new.graphs) times (part_in xs) (part_in ys) same_needs i F
         (chosen_window H.higher) (method_at H.higher) (λ k l. H.each k (omega (arith, l, lt)))
 
   -- no bound of the parts is too large
-  none_large : (parts : List TaskPart) (i address : ℕ) → AreParts old c new parts → IsFirstLarge old new i address → ⊥
+  none_large : (parts : List TaskPart) (i address : ℕ) → AreUpdatedParts old c new parts → IsFirstChangedLarge old new i address → ⊥
   none_large parts i address P L = by (P.each i L.task)
     where
-      by : IsUpdatedPart old c new i (task_at parts i) → ⊥
+      by : IsUpdatedPart old c new i (task_part_at parts i) → ⊥
       by (inl x) = L.large.0 x.0 x.1
-      by (inr x) = not_large new.set.platform (new.graphs i) (task_at parts i) (G i L.task) x.1 (P.within i L.task L.large.0) L.large.1
+      by (inr x) = not_large new.set.platform (new.graphs i) (task_part_at parts i) (G i L.task) x.1 (P.within i L.task L.large.0) L.large.1
 
   -- the certificate's parts are new parts
-  of_update : (d : Certificate) → IsUpdate old c new d → AreParts old c new d.tasks
+  of_update : (d : Certificate) → IsUpdate old c new d → AreUpdatedParts old c new d.tasks
   of_update d U = record {
     tasks = U.tasks;
     each = λ i lt. (U.each i lt).part;
-    within = λ i lt changed. bound_in new.set new.graphs times G d i (cert_at d i).method (window_at d i) lt (U.each i lt).window;
+    within = λ i lt changed. bound_in new.set new.graphs times G d i (certified_task d i).method (window_at d i) lt (U.each i lt).window;
   }
 
   -- where the certificate is, nothing is refused but want of memory
-  not_refused : (d : Certificate) (e : UpdateError) → IsUpdate old c new d → entries d.tasks ≤ 4000000 → e ≢ Memory → IsRefused old c new e → ⊥
+  not_refused : (d : Certificate) (e : UpdateError) → IsUpdate old c new d → entries d.tasks ≤ 4000000 → e ≢ Memory → IsUpdateError old c new e → ⊥
   not_refused d Memory U few free R = absurd (free refl)
   not_refused d (TooLarge t address) U few free R = none_large d.tasks t.0 address (of_update d U) R
   not_refused d (TooManyEntries n) U few free R =
@@ -176,11 +176,11 @@ module _ (old new : Side) (c : Certificate) (O : IsTaskSet old.set) (S : IsTaskS
       absurd (omega (arith, same, is, many, few))
   not_refused d (Unschedulable t) U few free R =
       let first = R.without in
-      has_window new.set (longest_at new.set.platform new.graphs) times (needs_at R.parts) (part_of d) (same_needs R.parts d.tasks R.are (of_update d U)) t.0 first
-      (window_at d) (λ k. (cert_at d k).method) (λ k l. (U.each k (let f = first.task in omega (arith, f, l))).window)
+      has_window new.set (longest_at new.set.platform new.graphs) times (part_in R.parts) (certified_part d) (same_needs R.parts d.tasks R.are (of_update d U)) t.0 first
+      (window_at d) (λ k. (certified_task d k).method) (λ k l. (U.each k (let f = first.task in omega (arith, f, l))).window)
 
   -- and there is one refusal beside want of memory
-  one_refusal : (e d : UpdateError) → e ≢ Memory → d ≢ Memory → IsRefused old c new e → IsRefused old c new d → e ≡ d
+  one_refusal : (e d : UpdateError) → e ≢ Memory → d ≢ Memory → IsUpdateError old c new e → IsUpdateError old c new d → e ≡ d
   one_refusal Memory d free other E D = absurd (free refl)
   one_refusal e Memory free other E D = absurd (other refl)
   one_refusal (TooLarge t a) (TooLarge u b) free other E D =
@@ -230,8 +230,8 @@ module _ (file : List ℕ) (old input : Input) (c : Certificate) (gs hs : List C
       a.3 ∙ ap (λ x. without_certificate file input.set (as_of_analysis x)) e ∙ sym b.3
 
   -- the judge's answers to the old certificate are one
-  one_answer : (v w : Verdict) → IsJudged old.set (shown_at gs ns) c (answer_of v) → IsJudged old.set (shown_at gs vs) c (answer_of w) → v ≡ w
-  one_answer v w a b = one_verdict old.set (shown_at gs vs) c v w (judged_too old.set gs c ns vs before (answer_of v) a) b
+  one_answer : (v w : Verdict) → IsJudged old.set (task_graph_at gs ns) c (answer_of v) → IsJudged old.set (task_graph_at gs vs) c (answer_of w) → v ≡ w
+  one_answer v w a b = one_verdict old.set (task_graph_at gs vs) c v w (judged_too old.set gs c ns vs before (answer_of v) a) b
 
   pub one_change : (r s : Result Answer Halt) → UpdateOf file old (record { graphs = gs; nests = ns }) c input (record { graphs = hs; nests = ms }) r
       → UpdateOf file old (record { graphs = gs; nests = vs }) c input (record { graphs = hs; nests = ws }) s → r ≡ s

@@ -12,17 +12,17 @@ use Rattle.loop_regions.specs.CodeNest.{CodeNest}
 use Rattle.loop_regions.specs.TaskGraph.{TaskGraph}
 use Rattle.response.proofs.WindowLaws.{smaller_is_window}
 use Rattle.response.proofs.Choices.{not_first}
-use Rattle.response.specs.Windows.{IsSmaller, IsFirstWithout, method_at, window_at as chosen_window}
-use Rattle.evict_sets.specs.Certificate.{cert_at}
-use Rattle.cert_check.specs.Judge.{longest_at, part_of, window_at}
-use Rattle.cert_check.specs.Shown.{nest_at, shown_at}
+use Rattle.response.specs.Windows.{IsSmallerWindow, IsFirstWithoutWindow, method_at, window_at as chosen_window}
+use Rattle.evict_sets.specs.ListedPart.{certified_task}
+use Rattle.cert_check.specs.JudgeInput.{longest_at, certified_part, window_at}
+use Rattle.cert_check.specs.TaskGraphs.{nest_at, task_graph_at}
 use Rattle.cert_model.specs.Reading.{entries}
-use Rattle.cert_build.specs.Certify.{AreBestParts, needs_at}
+use Rattle.cert_build.specs.Certify.{AreBestParts, part_in}
 use Rattle.cert_build.specs.declared.fault.BuildError.{BuildError}
 use Rattle.cert_build.specs.declared.fault.BuildError.TheVariants.{Memory, TooLarge, TooManyEntries, Unschedulable}
 use Rattle.delay_classic.specs.Classic.{IsClassic}
 use Rattle.delay_classic.specs.Demand.{classic_demand, classic_demands}
-use Rattle.delay_classic.specs.Refused.{IsClassicRefused}
+use Rattle.delay_classic.specs.ClassicErrors.{IsClassicError}
 use Rattle.delay_classic.proofs.OneClassic.{one_classic}
 use Rattle.delay_classic.proofs.Choices.{demands_agree}
 use Rattle.crpd_tool.specs.declared.answer.Answer.{Answer}
@@ -35,8 +35,8 @@ use Rattle.crpd_tool.proofs.OneMade.{Same, part_too, parts_too, refused_too as a
 
 -- a task with a window is not the first without one, by parts that are the same
 has_window : (set : TaskSet) (longest : ℕ → ℕ) (parts others : ℕ → Part) → ((k : ℕ) → k < length set.tasks → parts k ≡ others k)
-    → (i : ℕ) → IsFirstWithout set (classic_demands set parts longest) i → (window : ℕ → ℕ) (method : ℕ → Method)
-    → ((k : ℕ) → k < suc i → IsSmaller set (classic_demand set others longest k) k (method k) (window k)) → ⊥
+    → (i : ℕ) → IsFirstWithoutWindow set (classic_demands set parts longest) i → (window : ℕ → ℕ) (method : ℕ → Method)
+    → ((k : ℕ) → k < suc i → IsSmallerWindow set (classic_demand set others longest k) k (method k) (window k)) → ⊥
 has_window set longest parts others P =
     not_first set (classic_demands set parts longest) (classic_demands set others longest) (demands_agree set parts others longest longest P (λ k l. refl))
 
@@ -44,9 +44,9 @@ has_window set longest parts others P =
 
 module _ (set : TaskSet) (graphs : ℕ → TaskGraph) (times : HasTimes set) (G : (k : ℕ) → k < length set.tasks → IsGraph (graphs k).graph) where
   -- no bound of the certificate is too large, since its windows are in the deadlines
-  bound_in : (c : Certificate) (i : ℕ) (method : Method) (w : ℕ) → i < length set.tasks → IsSmaller set (classic_demand set (part_of c) (longest_at set.platform graphs) i) i method w → (part_of c i).bound ≤ 2 ^ 40
+  bound_in : (c : Certificate) (i : ℕ) (method : Method) (w : ℕ) → i < length set.tasks → IsSmallerWindow set (classic_demand set (certified_part c) (longest_at set.platform graphs) i) i method w → (certified_part c i).bound ≤ 2 ^ 40
   bound_in c i method w lt S =
-      let W = smaller_is_window set (classic_demand set (part_of c) (longest_at set.platform graphs) i) i method w S in
+      let W = smaller_is_window set (classic_demand set (certified_part c) (longest_at set.platform graphs) i) i method w S in
       let enough = W.enough in let dead = W.in_deadline in let d = times.deadline i lt in let p = times.longest i lt in omega (arith, enough, dead, d, p)
 
   -- its parts are best parts
@@ -54,17 +54,17 @@ module _ (set : TaskSet) (graphs : ℕ → TaskGraph) (times : HasTimes set) (G 
   of_classic c C = record {
     tasks = C.tasks;
     each = λ k lt. (C.each k lt).part;
-    within = λ k lt. bound_in c k (cert_at c k).method (window_at c k) lt (C.each k lt).window;
+    within = λ k lt. bound_in c k (certified_task c k).method (window_at c k) lt (C.each k lt).window;
   }
 
   first_is : (xs ys : List TaskPart) (i j : ℕ) → AreBestParts set graphs xs → AreBestParts set graphs ys
-      → IsFirstWithout set (classic_demands set (needs_at xs) (longest_at set.platform graphs)) i → IsFirstWithout set (classic_demands set (needs_at ys) (longest_at set.platform graphs)) j → i < j → ⊥
+      → IsFirstWithoutWindow set (classic_demands set (part_in xs) (longest_at set.platform graphs)) i → IsFirstWithoutWindow set (classic_demands set (part_in ys) (longest_at set.platform graphs)) j → i < j → ⊥
   first_is xs ys i j X Y F H lt =
-      has_window set (longest_at set.platform graphs) (needs_at xs) (needs_at ys) (same_parts set graphs times G xs ys X Y) i F
+      has_window set (longest_at set.platform graphs) (part_in xs) (part_in ys) (same_parts set graphs times G xs ys X Y) i F
       (chosen_window H.higher) (method_at H.higher) (λ k l. H.each k (omega (arith, l, lt)))
 
   -- where the certificate is, nothing is refused but want of memory
-  not_refused : (c : Certificate) (e : BuildError) → IsClassic set graphs c → entries c.tasks ≤ 4000000 → e ≢ Memory → IsClassicRefused set graphs e → ⊥
+  not_refused : (c : Certificate) (e : BuildError) → IsClassic set graphs c → entries c.tasks ≤ 4000000 → e ≢ Memory → IsClassicError set graphs e → ⊥
   not_refused c Memory C few free R = absurd (free refl)
   not_refused c (TooLarge t address) C few free R = none_large set graphs times G c.tasks t (of_classic c C) R.0
   not_refused c (TooManyEntries n) C few free R =
@@ -74,11 +74,11 @@ module _ (set : TaskSet) (graphs : ℕ → TaskGraph) (times : HasTimes set) (G 
       absurd (omega (arith, same, is, many, few))
   not_refused c (Unschedulable t) C few free R =
       let first = R.3 in
-      has_window set (longest_at set.platform graphs) (needs_at R.0) (part_of c) (same_parts set graphs times G R.0 c.tasks R.1 (of_classic c C)) t.0 first
-      (window_at c) (λ k. (cert_at c k).method) (λ k l. (C.each k (let f = first.task in omega (arith, f, l))).window)
+      has_window set (longest_at set.platform graphs) (part_in R.0) (certified_part c) (same_parts set graphs times G R.0 c.tasks R.1 (of_classic c C)) t.0 first
+      (window_at c) (λ k. (certified_task c k).method) (λ k l. (C.each k (let f = first.task in omega (arith, f, l))).window)
 
   -- and there is one refusal beside want of memory
-  one_refusal : (e d : BuildError) → e ≢ Memory → d ≢ Memory → IsClassicRefused set graphs e → IsClassicRefused set graphs d → e ≡ d
+  one_refusal : (e d : BuildError) → e ≢ Memory → d ≢ Memory → IsClassicError set graphs e → IsClassicError set graphs d → e ≡ d
   one_refusal Memory d free other E D = absurd (free refl)
   one_refusal e Memory free other E D = absurd (other refl)
   one_refusal (TooLarge t a) (TooLarge u b) free other E D = one_analysis_refusal set graphs times G (TooLarge t a) (TooLarge u b) free other E D
@@ -98,7 +98,7 @@ module _ (set : TaskSet) (graphs : ℕ → TaskGraph) (times : HasTimes set) (G 
 -- ---- other regions of the same loops
 
 module _ (set : TaskSet) (graphs : List CodeGraph) (ns ms : List CodeNest) (same : Same set graphs ns ms) where
-  classic_too : (c : Certificate) → IsClassic set (shown_at graphs ns) c → IsClassic set (shown_at graphs ms) c
+  classic_too : (c : Certificate) → IsClassic set (task_graph_at graphs ns) c → IsClassic set (task_graph_at graphs ms) c
   classic_too c C = record {
     platform = C.platform;
     tasks = C.tasks;
@@ -106,13 +106,13 @@ module _ (set : TaskSet) (graphs : List CodeGraph) (ns ms : List CodeNest) (same
         let t = C.each i lt in
         record {
           name = t.name;
-          part = part_too set.platform (graph_at graphs i) (nest_at ns i) (nest_at ms i) (same i lt) (cert_at c i) t.part;
+          part = part_too set.platform (graph_at graphs i) (nest_at ns i) (nest_at ms i) (same i lt) (certified_task c i) t.part;
           window = t.window;
           response = t.response;
         };
   }
 
-  refused_too : (e : BuildError) → IsClassicRefused set (shown_at graphs ns) e → IsClassicRefused set (shown_at graphs ms) e
+  refused_too : (e : BuildError) → IsClassicError set (task_graph_at graphs ns) e → IsClassicError set (task_graph_at graphs ms) e
   refused_too Memory R = tt
   refused_too (TooLarge t address) R = analysis_refused_too set graphs ns ms same (TooLarge t address) R
   refused_too (TooManyEntries n) R = analysis_refused_too set graphs ns ms same (TooManyEntries n) R
@@ -124,12 +124,12 @@ module _ (file : List ℕ) (input : Input) (graphs : List CodeGraph) (ns ms : Li
     (G : (k : ℕ) → k < length input.set.tasks → IsGraph (graph_of (graph_at graphs k))) (same : Same input.set graphs ns ms) where
   pub one_classic_end : (r s : Result Answer Halt) → ClassicOf file input (record { graphs = graphs; nests = ns }) r → ClassicOf file input (record { graphs = graphs; nests = ms }) s → r ≡ s
   one_classic_end r s (inl a) (inl b) =
-      let c : a.0 ≡ b.0 = one_classic input.set (shown_at graphs ms) a.0 b.0 (classic_too input.set graphs ns ms same a.0 a.1.classic) b.1.classic in
+      let c : a.0 ≡ b.0 = one_classic input.set (task_graph_at graphs ms) a.0 b.0 (classic_too input.set graphs ns ms same a.0 a.1.classic) b.1.classic in
       a.2 ∙ ap (λ x. Ok (certificate_answer x)) c ∙ sym b.2
   one_classic_end r s (inl a) (inr b) =
-      absurd (not_refused input.set (shown_at graphs ms) times G a.0 b.0 (classic_too input.set graphs ns ms same a.0 a.1.classic) a.1.few b.1 b.2)
+      absurd (not_refused input.set (task_graph_at graphs ms) times G a.0 b.0 (classic_too input.set graphs ns ms same a.0 a.1.classic) a.1.few b.1 b.2)
   one_classic_end r s (inr a) (inl b) =
-      absurd (not_refused input.set (shown_at graphs ms) times G b.0 a.0 b.1.classic b.1.few a.1 (refused_too input.set graphs ns ms same a.0 a.2))
+      absurd (not_refused input.set (task_graph_at graphs ms) times G b.0 a.0 b.1.classic b.1.few a.1 (refused_too input.set graphs ns ms same a.0 a.2))
   one_classic_end r s (inr a) (inr b) =
-      let e : a.0 ≡ b.0 = one_refusal input.set (shown_at graphs ms) times G a.0 b.0 a.1 b.1 (refused_too input.set graphs ns ms same a.0 a.2) b.2 in
+      let e : a.0 ≡ b.0 = one_refusal input.set (task_graph_at graphs ms) times G a.0 b.0 a.1 b.1 (refused_too input.set graphs ns ms same a.0 a.2) b.2 in
       a.3 ∙ ap (without_certificate file input.set) e ∙ sym b.3

@@ -2,15 +2,15 @@
 use Rattle.std.proofs.Common.{◌≡◌, ℕ, ◌<◌, List, ◌++◌, length, get_or, map, Result, Ok, sym, ap, ◌∙◌, subst}
 use Rattle.crpd_base.specs.declared.data.Certificate.{Certificate}
 use Rattle.crpd_base.specs.declared.data.Script.{Script}
-use Rattle.cert_check.specs.Answered.{answer_of}
-use Rattle.cert_check.specs.Shown.{nest_at, shown_at}
+use Rattle.cert_check.specs.FirstFailing.{answer_of}
+use Rattle.cert_check.specs.TaskGraphs.{nest_at, task_graph_at}
 use Rattle.cert_check.specs.declared.outcome.Verdict.{Verdict}
 use Rattle.cert_check.specs.declared.outcome.Verdict.TheVariants.{Yes, No}
 use Rattle.flat_graph.specs.CodeGraph.{CodeGraph, graph_at}
 use Rattle.loop_regions.specs.CodeNest.{CodeNest}
 use Rattle.preempt_machine.specs.Step.{Fetch, Start}
-use Rattle.run_account.specs.Account.{IsAccount, told}
-use Rattle.run_account.specs.Ledger.{IsEntry, IsEvicted, IsLedger, IsOfRun, IsPreempted, LedgerEntry}
+use Rattle.run_account.specs.Account.{IsAccount, account_entry}
+use Rattle.run_account.specs.Ledger.{IsLedgerReload, IsEvicted, IsLedger, IsOfRun, IsPreempted, LedgerReload}
 use Rattle.preempt_machine.specs.Starts.{start_of_script}
 use Rattle.run_account.specs.declared.told.Account.{Account}
 use Rattle.run_account.specs.declared.told.Entry.{Entry}
@@ -29,17 +29,17 @@ use Rattle.crpd_tool.proofs.Reported.{one_line}
 
 -- regions play no part in a ledger
 module _ (s : Start) (graphs : List CodeGraph) (c : Certificate) where
-  entry_too : (ns ms : List CodeNest) (n x : ℕ) (f : Fetch) → IsEntry s (shown_at graphs ns) c n x f → IsEntry s (shown_at graphs ms) c n x f
+  entry_too : (ns ms : List CodeNest) (n x : ℕ) (f : Fetch) → IsLedgerReload s (task_graph_at graphs ns) c n x f → IsLedgerReload s (task_graph_at graphs ms) c n x f
   entry_too ns ms n x f e = record { kept = e.kept; fetches = e.fetches; counted = e.counted; misses = e.misses }
 
-  evicted_too : (ns ms : List CodeNest) (n x y : ℕ) → IsEvicted s (shown_at graphs ns) c n x y → IsEvicted s (shown_at graphs ms) c n x y
+  evicted_too : (ns ms : List CodeNest) (n x y : ℕ) → IsEvicted s (task_graph_at graphs ns) c n x y → IsEvicted s (task_graph_at graphs ms) c n x y
   evicted_too ns ms n x y e = record { fetch = e.fetch; entry = entry_too ns ms n x e.fetch e.entry; time = e.time; last = e.last; is = e.is }
 
-  preempted_too : (ns ms : List CodeNest) (n x p : ℕ) → IsPreempted s (shown_at graphs ns) c n x p → IsPreempted s (shown_at graphs ms) c n x p
+  preempted_too : (ns ms : List CodeNest) (n x p : ℕ) → IsPreempted s (task_graph_at graphs ns) c n x p → IsPreempted s (task_graph_at graphs ms) c n x p
   preempted_too ns ms n x p e =
       record { fetch = e.fetch; entry = entry_too ns ms n x e.fetch e.entry; from = e.from; time = e.time; until = e.until; is = e.is }
 
-  of_run_too : (ns ms : List CodeNest) (e : LedgerEntry) → IsOfRun s (shown_at graphs ns) c e → IsOfRun s (shown_at graphs ms) c e
+  of_run_too : (ns ms : List CodeNest) (e : LedgerReload) → IsOfRun s (task_graph_at graphs ns) c e → IsOfRun s (task_graph_at graphs ms) c e
   unfolding evicted_too
   of_run_too ns ms e r =
       record {
@@ -48,7 +48,7 @@ module _ (s : Start) (graphs : List CodeGraph) (c : Certificate) where
         to_set = r.to_set;
       }
 
-  ledger_too : (ns ms : List CodeNest) (n : ℕ) (es : List LedgerEntry) → IsLedger s (shown_at graphs ns) c n es → IsLedger s (shown_at graphs ms) c n es
+  ledger_too : (ns ms : List CodeNest) (n : ℕ) (es : List LedgerReload) → IsLedger s (task_graph_at graphs ns) c n es → IsLedger s (task_graph_at graphs ms) c n es
   ledger_too ns ms n es L =
       record {
         entries = λ k d lt. let e = L.entries k d lt in (e.0, of_run_too ns ms (get_or es k d) e.1);
@@ -57,10 +57,10 @@ module _ (s : Start) (graphs : List CodeGraph) (c : Certificate) where
       }
 
   -- so two accounts of a run have the same entries
-  same_entries : (ns ms : List CodeNest) (n : ℕ) (a b : Account) → IsAccount s (shown_at graphs ns) c n a → IsAccount s (shown_at graphs ms) c n b → a.entries ≡ b.entries
+  same_entries : (ns ms : List CodeNest) (n : ℕ) (a b : Account) → IsAccount s (task_graph_at graphs ns) c n a → IsAccount s (task_graph_at graphs ms) c n b → a.entries ≡ b.entries
   same_entries ns ms n a b A B =
       A.entries
-      ∙ ap (map (told s)) (one_ledger s (shown_at graphs ms) c n A.ledger B.ledger (ledger_too ns ms n A.ledger A.is_ledger) B.is_ledger)
+      ∙ ap (map (account_entry s)) (one_ledger s (task_graph_at graphs ms) c n A.ledger B.ledger (ledger_too ns ms n A.ledger A.is_ledger) B.is_ledger)
       ∙ sym B.entries
 
 module _ (input : Input) (graphs : List CodeGraph) (c : Certificate) (script : Script) (ns ms : List CodeNest) where
@@ -85,5 +85,5 @@ module _ (input : Input) (graphs : List CodeGraph) (c : Certificate) (script : S
       → ExplanationOf input first c script r → ExplanationOf input second c script s → r ≡ s
   one_explanation same r s a b =
       let judged = judged_too input.set graphs c ms ns same (answer_of b.0) b.1 in
-      let verdict : a.0 ≡ b.0 = one_verdict input.set (shown_at graphs ns) c a.0 b.0 a.1 judged in
+      let verdict : a.0 ≡ b.0 = one_verdict input.set (task_graph_at graphs ns) c a.0 b.0 a.1 judged in
       one_by b.0 r s (subst (λ v. ExplainedBy input first c script v r) verdict a.2) b.2

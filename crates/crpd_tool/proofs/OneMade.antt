@@ -8,11 +8,11 @@ use Rattle.crpd_base.specs.Tasks.{HasTimes}
 use Rattle.flat_graph.specs.CodeGraph.{CodeGraph, graph_of, places_of, graph_at}
 use Rattle.flat_graph.specs.Graph.{IsGraph}
 use Rattle.loop_regions.specs.CodeNest.{CodeNest, nest_of}
-use Rattle.evict_sets.specs.Certificate.{cert_at}
-use Rattle.cert_check.specs.Shown.{nest_at, shown, shown_at}
+use Rattle.evict_sets.specs.ListedPart.{certified_task}
+use Rattle.cert_check.specs.TaskGraphs.{nest_at, task_graph, task_graph_at}
 use Rattle.cert_build.specs.Analysis.{HasLargeBound}
 use Rattle.cert_build.specs.Best.{IsBest, IsBestPart}
-use Rattle.cert_build.specs.Certify.{AreBestParts, IsBuildRefused}
+use Rattle.cert_build.specs.Certify.{AreBestParts, IsBuildError}
 use Rattle.cert_build.specs.declared.fault.BuildError.{BuildError}
 use Rattle.cert_build.specs.declared.fault.BuildError.TheVariants.{Memory, TooLarge, TooManyEntries, Unschedulable}
 use Rattle.cert_build.proofs.OneBest.{one_best}
@@ -26,7 +26,7 @@ use Rattle.crpd_input.proofs.OneJudgement.{AreSame, item_too, least_too, size_sa
 -- ---- one task
 
 module _ (p : Platform) (g : CodeGraph) (n m : CodeNest) (s : AreSame g n m) where
-  pub part_too : (c : TaskPart) → IsBestPart p (shown g n) c → IsBestPart p (shown g m) c
+  pub part_too : (c : TaskPart) → IsBestPart p (task_graph g n) c → IsBestPart p (task_graph g m) c
   part_too c B = record {
     states = B.states;
     evicting = B.evicting;
@@ -41,7 +41,7 @@ module _ (p : Platform) (g : CodeGraph) (n m : CodeNest) (s : AreSame g n m) whe
     };
   }
 
-  pub large_too : HasLargeBound p (shown g n) → HasLargeBound p (shown g m)
+  pub large_too : HasLargeBound p (task_graph g n) → HasLargeBound p (task_graph g m)
   large_too L =
       let e = L.exceeds in
       record {
@@ -66,7 +66,7 @@ module _ (set : TaskSet) (graphs : List CodeGraph) where
   back ns ms same = λ i lt. turned (graph_at graphs i) (nest_at ns i) (nest_at ms i) (same i lt)
 
   module _ (ns ms : List CodeNest) (same : Same ns ms) where
-    pub best_too : (c : Certificate) → IsBest set (shown_at graphs ns) c → IsBest set (shown_at graphs ms) c
+    pub best_too : (c : Certificate) → IsBest set (task_graph_at graphs ns) c → IsBest set (task_graph_at graphs ms) c
     best_too c B = record {
       platform = B.platform;
       tasks = B.tasks;
@@ -74,23 +74,23 @@ module _ (set : TaskSet) (graphs : List CodeGraph) where
           let t = B.each i lt in
           record {
             name = t.name;
-            part = part_too set.platform (graph_at graphs i) (nest_at ns i) (nest_at ms i) (same i lt) (cert_at c i) t.part;
+            part = part_too set.platform (graph_at graphs i) (nest_at ns i) (nest_at ms i) (same i lt) (certified_task c i) t.part;
             window = t.window;
             response = t.response;
           };
     }
 
-    pub parts_too : (parts : List TaskPart) → AreBestParts set (shown_at graphs ns) parts → AreBestParts set (shown_at graphs ms) parts
+    pub parts_too : (parts : List TaskPart) → AreBestParts set (task_graph_at graphs ns) parts → AreBestParts set (task_graph_at graphs ms) parts
     parts_too parts B = record {
       tasks = B.tasks;
       each = λ i lt. part_too set.platform (graph_at graphs i) (nest_at ns i) (nest_at ms i) (same i lt) _ (B.each i lt);
       within = B.within;
     }
 
-    large_at : (i : ℕ) → i < length set.tasks → HasLargeBound set.platform (shown_at graphs ns i) → HasLargeBound set.platform (shown_at graphs ms i)
+    large_at : (i : ℕ) → i < length set.tasks → HasLargeBound set.platform (task_graph_at graphs ns i) → HasLargeBound set.platform (task_graph_at graphs ms i)
     large_at i lt = large_too set.platform (graph_at graphs i) (nest_at ns i) (nest_at ms i) (same i lt)
 
-  pub refused_too : (ns ms : List CodeNest) → Same ns ms → (e : BuildError) → IsBuildRefused set (shown_at graphs ns) e → IsBuildRefused set (shown_at graphs ms) e
+  pub refused_too : (ns ms : List CodeNest) → Same ns ms → (e : BuildError) → IsBuildError set (task_graph_at graphs ns) e → IsBuildError set (task_graph_at graphs ms) e
   refused_too ns ms same Memory R = tt
   refused_too ns ms same (TooLarge t address) R = (
     record {
@@ -109,12 +109,12 @@ module _ (file : List ℕ) (input : Input) (graphs : List CodeGraph) (ns ms : Li
     (G : (k : ℕ) → k < length input.set.tasks → IsGraph (graph_of (graph_at graphs k))) (same : Same input.set graphs ns ms) where
   pub one_analysis : (r s : Result Answer Halt) → AnalysisOf file input (record { graphs = graphs; nests = ns }) r → AnalysisOf file input (record { graphs = graphs; nests = ms }) s → r ≡ s
   one_analysis r s (inl a) (inl b) =
-      let c : a.0 ≡ b.0 = one_best input.set (shown_at graphs ms) a.0 b.0 times (best_too input.set graphs ns ms same a.0 a.1.best) b.1.best in
+      let c : a.0 ≡ b.0 = one_best input.set (task_graph_at graphs ms) a.0 b.0 times (best_too input.set graphs ns ms same a.0 a.1.best) b.1.best in
       a.2 ∙ ap (λ x. Ok (certificate_answer x)) c ∙ sym b.2
   one_analysis r s (inl a) (inr b) =
-      absurd (not_refused input.set (shown_at graphs ms) times G a.0 b.0 (best_too input.set graphs ns ms same a.0 a.1.best) a.1.few b.1 b.2)
+      absurd (not_refused input.set (task_graph_at graphs ms) times G a.0 b.0 (best_too input.set graphs ns ms same a.0 a.1.best) a.1.few b.1 b.2)
   one_analysis r s (inr a) (inl b) =
-      absurd (not_refused input.set (shown_at graphs ms) times G b.0 a.0 b.1.best b.1.few a.1 (refused_too input.set graphs ns ms same a.0 a.2))
+      absurd (not_refused input.set (task_graph_at graphs ms) times G b.0 a.0 b.1.best b.1.few a.1 (refused_too input.set graphs ns ms same a.0 a.2))
   one_analysis r s (inr a) (inr b) =
-      let e : a.0 ≡ b.0 = one_refusal input.set (shown_at graphs ms) times G a.0 b.0 a.1 b.1 (refused_too input.set graphs ns ms same a.0 a.2) b.2 in
+      let e : a.0 ≡ b.0 = one_refusal input.set (task_graph_at graphs ms) times G a.0 b.0 a.1 b.1 (refused_too input.set graphs ns ms same a.0 a.2) b.2 in
       a.3 ∙ ap (without_certificate file input.set) e ∙ sym b.3

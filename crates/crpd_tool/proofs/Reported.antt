@@ -13,10 +13,10 @@ use Rattle.crpd_input.specs.declared.halt.Halt.{Halt}
 use Rattle.crpd_input.specs.Reading.{input_in}
 use Rattle.crpd_input.specs.Script.{script_in}
 use Rattle.crpd_input.specs.Steps.{Exactly, Then}
-use Rattle.crpd_tool.specs.Out.{Output, settled}
+use Rattle.crpd_tool.specs.Output.{Output, ending_output}
 use Rattle.crpd_tool.specs.Reported.{DoneIsReported, IsReported}
 use Rattle.crpd_tool.specs.Simulate.{IsRunLine, ReportOf, SimulateEnds, completions_of, run_of}
-use Rattle.crpd_tool.specs.Words.{simulate}
+use Rattle.crpd_tool.specs.Commands.{simulate}
 use Rattle.crpd_tool.specs.declared.answer.Answer.{Answer}
 use Rattle.crpd_tool.specs.declared.answer.Outcome.TheVariants as outcome
 use Rattle.crpd_tool.specs.declared.status.Status.TheVariants.{Done}
@@ -38,7 +38,7 @@ one_report input script r s a b =
     ∙ sym b.2
 
 module _ (contents : Contents) (set script : List ℕ) where
-  ended : (ending : Result Answer Halt) → SimulateEnds contents set script ending → (settled ending).status ≡ Done → IsReported contents set script (settled ending).text
+  ended : (ending : Result Answer Halt) → SimulateEnds contents set script ending → (ending_output ending).status ≡ Done → IsReported contents set script (ending_output ending).text
   ended ending is e =
       let input = then_done (Exactly (input_in contents set)) (λ input. Then (Exactly (script_in contents script input.set)) (ReportOf input)) ending is e in
       let stated = then_done (Exactly (script_in contents script input.0.set)) (ReportOf input.0) ending input.2 e in
@@ -50,7 +50,7 @@ module _ (contents : Contents) (set script : List ℕ) where
         input_is = input.1;
         script_is = stated.1;
         line = report.1;
-        text_is = ap (λ (r : Result Answer Halt). (settled r).text) report.2;
+        text_is = ap (λ (r : Result Answer Halt). (ending_output r).text) report.2;
       }
 
 pub done_is_reported : (words : List (List ℕ)) (contents : Contents) → DoneIsReported words contents

@@ -1,7 +1,7 @@
 -- A whole text with the status Done on `slack` is that of the greatest accepted costs.
 use Rattle.std.proofs.Common.{◌≡◌, ℕ, ◌<◌, List, Result, Ok, length, ap, sym, ◌∙◌, subst}
 use Rattle.code_map.specs.Words.{word_at}
-use Rattle.cert_check.specs.Shown.{shown_at}
+use Rattle.cert_check.specs.TaskGraphs.{task_graph_at}
 use Rattle.preempt_machine.specs.Machine.{plan_of}
 use Rattle.preempt_machine.specs.Safe.{system_of}
 use Rattle.sensitivity.specs.Laws.{IsLoopBounded, StaysAccepted}
@@ -17,22 +17,22 @@ use Rattle.crpd_input.specs.Shapes.{ShapesIn}
 use Rattle.crpd_input.specs.Steps.{Exactly, Then}
 use Rattle.crpd_input.proofs.Built.{shapes_built}
 use Rattle.crpd_input.proofs.Given.{input_good, input_planned}
-use Rattle.crpd_tool.specs.Out.{Output, settled}
+use Rattle.crpd_tool.specs.Output.{Output, ending_output}
 use Rattle.crpd_tool.specs.Slack.{SlackEnds, SlackOf}
 use Rattle.crpd_tool.specs.SlackExact.{DoneIsSlack, HasGreatestCosts}
-use Rattle.crpd_tool.specs.Words.{slack}
+use Rattle.crpd_tool.specs.Commands.{slack}
 use Rattle.crpd_tool.proofs.Finish.{some-out}
 use Rattle.crpd_tool.proofs.OneSlack.{loop_bounded, one_pair}
 use Rattle.crpd_tool.proofs.Safety.{then_done}
 
 module _ (stays_law : StaysAccepted) (contents : Contents) (set : List ℕ) where
   greatest : (input : Input) (shapes : Shapes) (ending : Result Answer Halt) → input_in contents set ≡ Ok input → ShapesIn input (Ok shapes)
-      → SlackOf input shapes ending → HasGreatestCosts contents set (settled ending).text
+      → SlackOf input shapes ending → HasGreatestCosts contents set (ending_output ending).text
   greatest input shapes ending is shaped S =
       let good = input_good contents set input is in
-      let bounded : (k : ℕ) → k < length input.set.tasks → IsLoopBounded (shown_at shapes.graphs shapes.nests k) =
+      let bounded : (k : ℕ) → k < length input.set.tasks → IsLoopBounded (task_graph_at shapes.graphs shapes.nests k) =
       λ k lt.
-      loop_bounded (word_at input.code.images) (plan_of (system_of input.set input.code) k) (shown_at shapes.graphs shapes.nests k)
+      loop_bounded (word_at input.code.images) (plan_of (system_of input.set input.code) k) (task_graph_at shapes.graphs shapes.nests k)
       (shapes_built input shapes good (input_planned contents set input is) shaped k lt) in
       record {
         input = input;
@@ -41,15 +41,15 @@ module _ (stays_law : StaysAccepted) (contents : Contents) (set : List ℕ) wher
         second = S.1;
         input_is = is;
         shapes_are = shaped;
-        text_is = ap (λ (r : Result Answer Halt). (settled r).text) S.3;
+        text_is = ap (λ (r : Result Answer Halt). (ending_output r).text) S.3;
         are = S.2;
-        only = λ one two A. one_pair input.set (shown_at shapes.graphs shapes.nests) (has_times input.set good.ranges) bounded one two S.0 S.1 A S.2;
+        only = λ one two A. one_pair input.set (task_graph_at shapes.graphs shapes.nests) (has_times input.set good.ranges) bounded one two S.0 S.1 A S.2;
         stays = λ s m k d switch miss A.
-            stays_law input.set (shown_at shapes.graphs shapes.nests) s m k d
+            stays_law input.set (task_graph_at shapes.graphs shapes.nests) s m k d
             (record { times = has_times input.set good.ranges; bounded = bounded; switch = switch; miss = miss }) A;
       }
 
-  ended : (ending : Result Answer Halt) → SlackEnds contents set ending → (settled ending).status ≡ Done → HasGreatestCosts contents set (settled ending).text
+  ended : (ending : Result Answer Halt) → SlackEnds contents set ending → (ending_output ending).status ≡ Done → HasGreatestCosts contents set (ending_output ending).text
   ended ending is e =
       let input = then_done (Exactly (input_in contents set)) (λ input. Then (ShapesIn input) (SlackOf input)) ending is e in
       let shapes = then_done (ShapesIn input.0) (SlackOf input.0) ending input.2 e in

@@ -2,9 +2,9 @@
 use Rattle.std.proofs.Common.{ℕ, List, ◌∙◌}
 use Rattle.std.proofs.lemmas.List.{length-map}
 use Rattle.crpd_base.specs.declared.data.TaskPart.{TaskPart}
-use Rattle.cert_check.specs.Shown.{shown_at}
+use Rattle.cert_check.specs.TaskGraphs.{task_graph_at}
 use Rattle.cert_check.proofs.Clauses.{as_many}
-use Rattle.sound_laws.specs.Within.{CheckedCodeIsBounded}
+use Rattle.sound_laws.specs.CheckedCode.{CheckedCodeIsBounded}
 use Rattle.crpd_io.specs.Outside.{Contents}
 use Rattle.crpd_tool.specs.Undisturbed.{DoneIsBounded}
 use Rattle.crpd_tool.proofs.Safety.{done_is_checked}
@@ -12,7 +12,7 @@ use Rattle.crpd_tool.proofs.Safety.{done_is_checked}
 pub done_is_bounded : CheckedCodeIsBounded → (words : List (List ℕ)) (contents : Contents) → DoneIsBounded words contents
 done_is_bounded bounded_law words contents set certificate output is out e =
     let found = done_is_checked words contents set certificate output is out e in
-    let graphs = shown_at found.shapes.graphs found.shapes.nests in
+    let graphs = task_graph_at found.shapes.graphs found.shapes.nests in
     record {
       input = found.input;
       stated = found.stated;

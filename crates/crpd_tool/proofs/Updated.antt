@@ -8,7 +8,7 @@ use Rattle.code_map.specs.Words.{word_at}
 use Rattle.preempt_machine.specs.Machine.{plan_of}
 use Rattle.preempt_machine.specs.Safe.{system_of}
 use Rattle.flat_graph.specs.CodeGraph.{no_graph, graph_at}
-use Rattle.cert_check.specs.Shown.{shown_at}
+use Rattle.cert_check.specs.TaskGraphs.{task_graph_at}
 use Rattle.cert_check.specs.Verdict.{IsJudged, Yes}
 use Rattle.cert_check.specs.declared.outcome.Verdict.TheVariants as verdict
 use Rattle.cert_model.specs.Writing.{text as certificate_text}
@@ -27,17 +27,17 @@ use Rattle.crpd_tool.specs.declared.answer.Outcome.TheVariants as ended
 use Rattle.crpd_tool.specs.declared.status.Status.TheVariants.{Done}
 use Rattle.crpd_tool.specs.Analyze.{certificate_answer}
 use Rattle.crpd_tool.specs.Check.{verdict_answer}
-use Rattle.crpd_tool.specs.Out.{Output, settled}
-use Rattle.crpd_tool.specs.Update.{IsMadeAnew, UpdateEnds, UpdateOf, as_of_analysis, side_of}
-use Rattle.crpd_tool.specs.Updated.{DoneIsUpdate, IsUpdated}
-use Rattle.crpd_tool.specs.Words.{update}
+use Rattle.crpd_tool.specs.Output.{Output, ending_output}
+use Rattle.crpd_tool.specs.Update.{IsMadeAnew, UpdateEnds, UpdateOf, as_of_analysis, input_side}
+use Rattle.crpd_tool.specs.Updated.{DoneIsUpdate, IsUpdateWritten}
+use Rattle.crpd_tool.specs.Commands.{update}
 use Rattle.crpd_tool.proofs.Analyzed.{not_done}
 use Rattle.crpd_tool.proofs.Finish.{some-out}
 use Rattle.crpd_tool.proofs.OneAnswer.{shapes_parts}
 use Rattle.crpd_tool.proofs.Safety.{then_done}
 
 -- a no has another status
-no_done : (set : TaskSet) (c : Certificate) (task : Task) (clause place : ℕ) → (settled (Ok (verdict_answer set c (verdict.No task clause place)))).status ≡ Done → ⊥
+no_done : (set : TaskSet) (c : Certificate) (task : Task) (clause place : ℕ) → (ending_output (Ok (verdict_answer set c (verdict.No task clause place)))).status ≡ Done → ⊥
 no_done set c task clause place is = cc
 
 -- the graphs that the steps give are those of the set's code, and the nests have their regions
@@ -58,23 +58,23 @@ coded contents set input shapes is shaped =
 module _ (judges : UpdateIsJudgedLaw) (bests : UpdateIsBestLaw) (contents : Contents) (old_set old_certificate new_set : List ℕ) where
   -- the update with which the command ended
   made : (old : Input) (old_shapes : Shapes) (stated : Certificate) (input : Input) (shapes : Shapes) (ending : Result Answer Halt) → UpdateOf new_set old old_shapes stated input shapes ending
-      → (settled ending).status ≡ Done
-      → IsJudged old.set (shown_at old_shapes.graphs old_shapes.nests) stated Yes × ((c : Certificate) × IsMadeAnew (side_of old old_shapes) stated (side_of input shapes) c × (ending ≡ Ok (certificate_answer c)))
+      → (ending_output ending).status ≡ Done
+      → IsJudged old.set (task_graph_at old_shapes.graphs old_shapes.nests) stated Yes × ((c : Certificate) × IsMadeAnew (input_side old old_shapes) stated (input_side input shapes) c × (ending ≡ Ok (certificate_answer c)))
   made old old_shapes stated input shapes ending (inl denied) e =
-      absurd (no_done old.set stated denied.0 denied.1 denied.2 (ap (λ (r : Result Answer Halt). (settled r).status) (sym denied.4) ∙ e))
+      absurd (no_done old.set stated denied.0 denied.1 denied.2 (ap (λ (r : Result Answer Halt). (ending_output r).status) (sym denied.4) ∙ e))
   made old old_shapes stated input shapes ending (inr (judged, inl found)) e = (judged, found)
   made old old_shapes stated input shapes ending (inr (judged, inr none)) e =
-      absurd (not_done new_set input.set (as_of_analysis none.0) (ap (λ (r : Result Answer Halt). (settled r).status) (sym none.3) ∙ e))
+      absurd (not_done new_set input.set (as_of_analysis none.0) (ap (λ (r : Result Answer Halt). (ending_output r).status) (sym none.3) ∙ e))
 
   module _ (old : Input) (old_shapes : Shapes) (stated : Certificate) (input : Input) (shapes : Shapes) (old_is : input_in contents old_set ≡ Ok old) (old_shaped : ShapesIn old (Ok old_shapes))
       (stated_is : certificate_in contents old_certificate ≡ Ok stated) (is : input_in contents new_set ≡ Ok input) (shaped : ShapesIn input (Ok shapes)) where
-    updated : (c : Certificate) (ending : Result Answer Halt) → IsJudged old.set (shown_at old_shapes.graphs old_shapes.nests) stated Yes → IsMadeAnew (side_of old old_shapes) stated (side_of input shapes) c
-        → ending ≡ Ok (certificate_answer c) → IsUpdated contents old_set old_certificate new_set (settled ending).text
+    updated : (c : Certificate) (ending : Result Answer Halt) → IsJudged old.set (task_graph_at old_shapes.graphs old_shapes.nests) stated Yes → IsMadeAnew (input_side old old_shapes) stated (input_side input shapes) c
+        → ending ≡ Ok (certificate_answer c) → IsUpdateWritten contents old_set old_certificate new_set (ending_output ending).text
     updated c ending judged M end =
         let O = coded contents old_set old old_shapes old_is old_shaped in
         let N = coded contents new_set input shapes is shaped in
         let yes = judges old.set input.set old_shapes.graphs shapes.graphs old_shapes.nests shapes.nests stated c O N judged M.update in
-        let text = ap (λ (r : Result Answer Halt). (settled r).text) end in
+        let text = ap (λ (r : Result Answer Halt). (ending_output r).text) end in
         record {
           old = old;
           old_shapes = old_shapes;
@@ -99,7 +99,7 @@ module _ (judges : UpdateIsJudgedLaw) (bests : UpdateIsBestLaw) (contents : Cont
               inl (input, same, inl (shapes, shaped, inl (c, record { best = B; few = M.few; reads = M.reads }, ap (λ t. Ok (record { text = t; outcome = ended.Done })) text)));
         }
 
-  ending_done : (ending : Result Answer Halt) → UpdateEnds contents old_set old_certificate new_set ending → (settled ending).status ≡ Done → IsUpdated contents old_set old_certificate new_set (settled ending).text
+  ending_done : (ending : Result Answer Halt) → UpdateEnds contents old_set old_certificate new_set ending → (ending_output ending).status ≡ Done → IsUpdateWritten contents old_set old_certificate new_set (ending_output ending).text
   ending_done ending is e =
       let old = then_done (Exactly (input_in contents old_set)) (λ old. Then (ShapesIn old) (λ x. Then (Exactly (certificate_in contents old_certificate)) (λ c. Then (Exactly (input_in contents new_set)) (λ input. Then (ShapesIn input) (UpdateOf new_set old x c input))))) ending is e in
       let x = then_done (ShapesIn old.0) (λ x. Then (Exactly (certificate_in contents old_certificate)) (λ c. Then (Exactly (input_in contents new_set)) (λ input. Then (ShapesIn input) (UpdateOf new_set old.0 x c input)))) ending old.2 e in
@@ -113,5 +113,5 @@ pub done_is_update : UpdateIsJudgedLaw → UpdateIsBestLaw → (words : List (Li
 done_is_update judges bests words contents old_set old_certificate new_set output is out e =
     let given = some-out words contents (update old_set old_certificate new_set) output is out in
     let text = ap (λ (o : Output). o.text) given.2 in
-    subst (λ t. IsUpdated contents old_set old_certificate new_set t) (sym text)
+    subst (λ t. IsUpdateWritten contents old_set old_certificate new_set t) (sym text)
     (ending_done judges bests contents old_set old_certificate new_set given.0 given.1 (ap (λ (o : Output). o.status) (sym given.2) ∙ e))

@@ -5,10 +5,10 @@ use Rattle.crpd_base.specs.declared.data.Certificate.{Certificate}
 use Rattle.crpd_base.specs.declared.data.TaskSet.{TaskSet}
 use Rattle.loop_regions.specs.TaskGraph.{TaskGraph}
 use Rattle.cert_build.specs.Best.{IsBest}
-use Rattle.cert_build.specs.Certify.{IsBuildRefused}
+use Rattle.cert_build.specs.Certify.{IsBuildError}
 use Rattle.cert_build.specs.declared.fault.BuildError.{BuildError}
 use Rattle.cert_build.specs.declared.fault.BuildError.TheVariants as build
-use Rattle.cert_check.specs.Shown.{shown_at}
+use Rattle.cert_check.specs.TaskGraphs.{task_graph_at}
 use Rattle.cert_model.specs.Reading.{entries, reading}
 use Rattle.cert_model.specs.Writing.{text as certificate_text}
 use Rattle.crpd_io.specs.Outside.{Contents}
@@ -24,7 +24,7 @@ use Rattle.crpd_base.specs.Tasks.{name_of}
 use Rattle.crpd_input.specs.Reading.{input_in}
 use Rattle.crpd_input.specs.Shapes.{ShapesIn}
 use Rattle.crpd_input.specs.Steps.{Exactly, Then, refusal}
-use Rattle.crpd_tool.specs.Texts.{line, unschedulable_text}
+use Rattle.crpd_tool.specs.Texts.{with_line_feed, unschedulable_text}
 
 -- the certificate of the analysis, with at most 4,000,000 state entries; its text is read as this certificate
 pub record IsMade (set : TaskSet) (graphs : ℕ → TaskGraph) (c : Certificate) : Type 0 where
@@ -34,7 +34,7 @@ pub record IsMade (set : TaskSet) (graphs : ℕ → TaskGraph) (c : Certificate)
 
 -- the answer with a certificate
 abbrev pub certificate_answer : Certificate → Answer
-certificate_answer c = record { text = line (certificate_text c); outcome = Done }
+certificate_answer c = record { text = with_line_feed (certificate_text c); outcome = Done }
 
 -- how the command ends where there is no certificate: a bound that is too large is a refusal of the task, and too many
 -- state entries one of the set's file; a task without a window is an answer. Want of memory is none.
@@ -47,8 +47,8 @@ without_certificate file set (build.Unschedulable task) = Ok (record { text = un
 -- the analysis of all tasks, over their graphs and the regions of their loops: its certificate, or why there is none
 abbrev pub AnalysisOf : List ℕ → Input → Shapes → Result Answer Halt → Type 0
 AnalysisOf file input shapes r =
-    ((c : Certificate) × IsMade input.set (shown_at shapes.graphs shapes.nests) c × (r ≡ Ok (certificate_answer c)))
-    ⊎ ((e : BuildError) × (e ≢ build.Memory) × IsBuildRefused input.set (shown_at shapes.graphs shapes.nests) e × (r ≡ without_certificate file input.set e))
+    ((c : Certificate) × IsMade input.set (task_graph_at shapes.graphs shapes.nests) c × (r ≡ Ok (certificate_answer c)))
+    ⊎ ((e : BuildError) × (e ≢ build.Memory) × IsBuildError input.set (task_graph_at shapes.graphs shapes.nests) e × (r ≡ without_certificate file input.set e))
 
 -- the whole command: the set with its code, the graphs of all tasks and the regions of their loops, and then the analysis
 abbrev pub AnalyzeEnds : Contents → List ℕ → Result Answer Halt → Type 0

@@ -5,11 +5,11 @@ use Rattle.crpd_base.specs.declared.data.TaskSet.{TaskSet}
 use Rattle.loop_regions.specs.TaskGraph.{TaskGraph}
 use Rattle.cert_build.specs.declared.fault.BuildError.{BuildError}
 use Rattle.cert_build.specs.declared.fault.BuildError.TheVariants.{Memory}
-use Rattle.cert_check.specs.Shown.{shown_at}
+use Rattle.cert_check.specs.TaskGraphs.{task_graph_at}
 use Rattle.cert_model.specs.Reading.{entries, reading}
 use Rattle.cert_model.specs.Writing.{text as certificate_text}
 use Rattle.delay_classic.specs.Classic.{IsClassic}
-use Rattle.delay_classic.specs.Refused.{IsClassicRefused}
+use Rattle.delay_classic.specs.ClassicErrors.{IsClassicError}
 use Rattle.crpd_io.specs.Outside.{Contents}
 use Rattle.crpd_tool.specs.declared.answer.Answer.{Answer}
 use Rattle.crpd_input.specs.declared.input.Input.{Input}
@@ -30,8 +30,8 @@ pub record IsMadeClassic (set : TaskSet) (graphs : ℕ → TaskGraph) (c : Certi
 -- or why there is none
 abbrev pub ClassicOf : List ℕ → Input → Shapes → Result Answer Halt → Type 0
 ClassicOf file input shapes r =
-    ((c : Certificate) × IsMadeClassic input.set (shown_at shapes.graphs shapes.nests) c × (r ≡ Ok (certificate_answer c)))
-    ⊎ ((e : BuildError) × (e ≢ Memory) × IsClassicRefused input.set (shown_at shapes.graphs shapes.nests) e × (r ≡ without_certificate file input.set e))
+    ((c : Certificate) × IsMadeClassic input.set (task_graph_at shapes.graphs shapes.nests) c × (r ≡ Ok (certificate_answer c)))
+    ⊎ ((e : BuildError) × (e ≢ Memory) × IsClassicError input.set (task_graph_at shapes.graphs shapes.nests) e × (r ≡ without_certificate file input.set e))
 
 -- the whole command: the set with its code, the graphs of all tasks and the regions of their loops, and then the analysis
 abbrev pub ClassicEnds : Contents → List ℕ → Result Answer Halt → Type 0

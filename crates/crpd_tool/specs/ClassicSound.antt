@@ -1,9 +1,9 @@
 -- What `classic` writes is the certificate with the plain union delays, which the judge says yes to.
 use Rattle.std.specs.Prelude.{◌≡◌, ℕ, List, Some, Ok}
 use Rattle.crpd_base.specs.declared.data.Certificate.{Certificate}
-use Rattle.cert_check.specs.Judge.{responses}
+use Rattle.cert_check.specs.JudgeInput.{responses}
 use Rattle.cert_check.specs.Verdict.{IsJudged, Yes}
-use Rattle.cert_check.specs.Shown.{shown_at}
+use Rattle.cert_check.specs.TaskGraphs.{task_graph_at}
 use Rattle.cert_check.specs.declared.outcome.Verdict.TheVariants as verdict
 use Rattle.cert_model.specs.Reading.{reading}
 use Rattle.delay_classic.specs.Classic.{HasBest, IsClassic}
@@ -13,11 +13,11 @@ use Rattle.crpd_tool.specs.declared.status.Status.TheVariants.{Done}
 use Rattle.crpd_input.specs.declared.input.Input.{Input}
 use Rattle.crpd_input.specs.declared.shapes.Shapes.{Shapes}
 use Rattle.crpd_tool.specs.Check.{CheckEnds, verdict_answer}
-use Rattle.crpd_tool.specs.Out.{IsOut, Output}
+use Rattle.crpd_tool.specs.Output.{IsOut, Output}
 use Rattle.crpd_input.specs.Reading.{certificate_in, input_in}
 use Rattle.crpd_input.specs.Shapes.{ShapesIn}
-use Rattle.crpd_tool.specs.Texts.{line}
-use Rattle.crpd_tool.specs.Words.{classic, command_of}
+use Rattle.crpd_tool.specs.Texts.{with_line_feed}
+use Rattle.crpd_tool.specs.Commands.{classic, command_of}
 
 -- the files mean a set with its code, which has graphs and regions; the text, but for its line feed, is read as the one
 -- certificate with the plain union delays of these
@@ -28,15 +28,15 @@ pub record IsSoundClassic (contents : Contents) (set text : List ℕ) : Type 0 w
   pub written : List ℕ
   pub input_is : input_in contents set ≡ Ok input
   pub shapes_are : ShapesIn input (Ok shapes)
-  pub text_is : text ≡ line written
+  pub text_is : text ≡ with_line_feed written
   pub reads : reading written ≡ Ok made
-  pub is : IsClassic input.set (shown_at shapes.graphs shapes.nests) made
-  pub only : (c : Certificate) → IsClassic input.set (shown_at shapes.graphs shapes.nests) c → c ≡ made
+  pub is : IsClassic input.set (task_graph_at shapes.graphs shapes.nests) made
+  pub only : (c : Certificate) → IsClassic input.set (task_graph_at shapes.graphs shapes.nests) c → c ≡ made
   -- the judge says yes to it, so no job is later than its response
-  pub judged : IsJudged input.set (shown_at shapes.graphs shapes.nests) made Yes
+  pub judged : IsJudged input.set (task_graph_at shapes.graphs shapes.nests) made Yes
   pub safe : IsSafeWith input.set input.code (responses made)
   -- there is the analysis' certificate too, and none of its windows is longer
-  pub best : HasBest input.set (shown_at shapes.graphs shapes.nests) made
+  pub best : HasBest input.set (task_graph_at shapes.graphs shapes.nests) made
   -- `check` answers yes wherever the set is the same and a file is read as this certificate
   pub checks : (others : Contents) (file name : List ℕ) →
       input_in others file ≡ Ok input → certificate_in others name ≡ Ok made → CheckEnds others file name (Ok (verdict_answer input.set made verdict.Yes))

@@ -3,8 +3,8 @@ use Rattle.std.specs.Prelude.{◌≡◌, ℕ, List, ◌++◌, Result, Ok}
 use Rattle.crpd_base.specs.declared.data.Certificate.{Certificate}
 use Rattle.crpd_base.specs.declared.data.Script.{Script}
 use Rattle.crpd_base.specs.declared.data.TaskSet.{TaskSet}
-use Rattle.cert_check.specs.Answered.{answer_of}
-use Rattle.cert_check.specs.Shown.{shown_at}
+use Rattle.cert_check.specs.FirstFailing.{answer_of}
+use Rattle.cert_check.specs.TaskGraphs.{task_graph_at}
 use Rattle.cert_check.specs.Verdict.{IsJudged}
 use Rattle.cert_check.specs.declared.outcome.Verdict.{Verdict}
 use Rattle.cert_check.specs.declared.outcome.Verdict.TheVariants.{Yes, No}
@@ -35,7 +35,7 @@ account_answer set certificate account last =
 abbrev pub AccountOf : Input → Shapes → Certificate → Script → Result Answer Halt → Type 0
 AccountOf input shapes certificate script r =
     (account : Account) × (last : List ℕ)
-    × IsAccount (start_of_script input.set input.code script) (shown_at shapes.graphs shapes.nests) certificate script.cycles account
+    × IsAccount (start_of_script input.set input.code script) (task_graph_at shapes.graphs shapes.nests) certificate script.cycles account
     × IsRunLine input.set script (run_of input script) last
     × (r ≡ Ok (account_answer input.set certificate account last))
 
@@ -47,7 +47,7 @@ ExplainedBy input shapes certificate script (No task clause place) r = r ≡ Ok 
 -- what follows the judge's verdict on a certificate, over the graphs of all tasks with the regions of their loops
 abbrev pub ExplanationOf : Input → Shapes → Certificate → Script → Result Answer Halt → Type 0
 ExplanationOf input shapes certificate script r =
-    (verdict : Verdict) × IsJudged input.set (shown_at shapes.graphs shapes.nests) certificate (answer_of verdict)
+    (verdict : Verdict) × IsJudged input.set (task_graph_at shapes.graphs shapes.nests) certificate (answer_of verdict)
     × ExplainedBy input shapes certificate script verdict r
 
 -- the whole command: the set with its code, the graphs of all tasks and the regions of their loops, the certificate, the

@@ -3,13 +3,13 @@ use Rattle.std.specs.Prelude.{◌≡◌, ℕ, List, ◌++◌, Some, Ok}
 use Rattle.crpd_base.specs.declared.data.Certificate.{Certificate}
 use Rattle.crpd_base.specs.declared.data.Script.{Script}
 use Rattle.script_reader.specs.Legal.{IsLegal}
-use Rattle.cert_check.specs.Shown.{shown_at}
+use Rattle.cert_check.specs.TaskGraphs.{task_graph_at}
 use Rattle.cert_check.specs.Verdict.{IsJudged, Yes}
 use Rattle.preempt_machine.specs.Safe.{IsKept}
 use Rattle.run_account.specs.Account.{HasAccountFacts, IsAccount}
 use Rattle.preempt_machine.specs.Starts.{start_of_script}
 use Rattle.run_account.specs.declared.told.Account.{Account}
-use Rattle.sound_laws.specs.Within.{IsWithinDelays}
+use Rattle.sound_laws.specs.CheckedCode.{IsWithinDelays}
 use Rattle.crpd_io.specs.Outside.{Contents}
 use Rattle.crpd_report.specs.Explain.{delay_lines, reload_lines}
 use Rattle.crpd_input.specs.declared.input.Input.{Input}
@@ -17,9 +17,9 @@ use Rattle.crpd_input.specs.declared.shapes.Shapes.{Shapes}
 use Rattle.crpd_input.specs.Reading.{certificate_in, input_in}
 use Rattle.crpd_input.specs.Script.{script_in}
 use Rattle.crpd_input.specs.Shapes.{ShapesIn}
-use Rattle.crpd_tool.specs.Out.{IsOut, Output}
+use Rattle.crpd_tool.specs.Output.{IsOut, Output}
 use Rattle.crpd_tool.specs.Simulate.{IsRunLine, run_of}
-use Rattle.crpd_tool.specs.Words.{command_of, explain}
+use Rattle.crpd_tool.specs.Commands.{command_of, explain}
 use Rattle.crpd_tool.specs.declared.status.Status.TheVariants.{Done}
 
 -- the files mean a set with its code, which has graphs and regions, a certificate that the judge says yes to, and a script;
@@ -36,14 +36,14 @@ pub record IsExplained (contents : Contents) (set certificate script text : List
   pub shapes_are : ShapesIn input (Ok shapes)
   pub certificate_is : certificate_in contents certificate ≡ Ok stated
   pub script_is : script_in contents script input.set ≡ Ok given
-  pub judged : IsJudged input.set (shown_at shapes.graphs shapes.nests) stated Yes
-  pub is_account : IsAccount (start_of_script input.set input.code given) (shown_at shapes.graphs shapes.nests) stated given.cycles account
+  pub judged : IsJudged input.set (task_graph_at shapes.graphs shapes.nests) stated Yes
+  pub is_account : IsAccount (start_of_script input.set input.code given) (task_graph_at shapes.graphs shapes.nests) stated given.cycles account
   pub line : IsRunLine input.set given (run_of input given) last
   pub text_is : text ≡ reload_lines input.set account.entries ++ delay_lines input.set stated ++ last
   -- whatever the script is, an entry's evictor and preemptor are of higher tasks, and its set is in the evictor's evicting
   -- set and in the useful set of the node to which the job went on. No two entries have one evictor and one set, and those
   -- of one preemptor are of one job and one node, and of different sets
-  pub facts : HasAccountFacts (start_of_script input.set input.code given) (shown_at shapes.graphs shapes.nests) stated given.cycles account
+  pub facts : HasAccountFacts (start_of_script input.set input.code given) (task_graph_at shapes.graphs shapes.nests) stated given.cycles account
   -- after a legal and kept run, of the entries of a job's window those with an evictor of a higher task take at most its
   -- UCB-union delay, and those with a preemptor of it at most its ECB-union delay, whichever method the certificate names
   pub within : IsLegal input.set given.jobs → IsKept (run_of input given) → IsWithinDelays input.set input.code given stated account

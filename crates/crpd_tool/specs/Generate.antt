@@ -8,18 +8,18 @@ use Rattle.crpd_base.specs.declared.data.TaskSet.{TaskSet}
 use Rattle.crpd_base.specs.declared.data.TaskSpec.{TaskSpec}
 use Rattle.flat_graph.specs.CodeGraph.{CodeGraph}
 use Rattle.cert_build.specs.Best.{IsBest}
-use Rattle.cert_build.specs.Certify.{IsBuildRefused}
+use Rattle.cert_build.specs.Certify.{IsBuildError}
 use Rattle.cert_build.specs.declared.fault.BuildError.{BuildError}
 use Rattle.cert_build.specs.declared.fault.BuildError.TheVariants as build
-use Rattle.cert_check.specs.Answered.{answer_of}
-use Rattle.cert_check.specs.Shown.{shown_at}
+use Rattle.cert_check.specs.FirstFailing.{answer_of}
+use Rattle.cert_check.specs.TaskGraphs.{task_graph_at}
 use Rattle.cert_check.specs.Verdict.{IsJudged}
 use Rattle.cert_check.specs.declared.outcome.Verdict.{Verdict}
 use Rattle.cert_model.specs.Reading.{entries}
 use Rattle.preempt_machine.specs.Safe.{IsKept}
 use Rattle.crpd_io.specs.Outside.{Contents}
-use Rattle.crpd_report.specs.Made.{generate_text, made_line}
-use Rattle.gen_tasks.specs.Made.{made}
+use Rattle.crpd_report.specs.Generate.{generate_text, made_line}
+use Rattle.gen_tasks.specs.GeneratedInput.{made}
 use Rattle.gen_tasks.specs.declared.Generated.{Generated}
 use Rattle.crpd_input.specs.declared.input.Input.{Input}
 use Rattle.crpd_input.specs.declared.halt.Halt.{Halt}
@@ -35,9 +35,9 @@ use Rattle.crpd_tool.specs.Simulate.{completions_of, run_of}
 -- ---- the made input
 
 -- the bytes of the first file of a name
-abbrev pub held : List (List ℕ × List ℕ) → Contents
-held [] name = None
-held (file ∷ files) name = if bytes_eq name file.0 then Some file.1 else held files name
+abbrev pub contents_of_files : List (List ℕ × List ℕ) → Contents
+contents_of_files [] name = None
+contents_of_files (file ∷ files) name = if bytes_eq name file.0 then Some file.1 else contents_of_files files name
 
 -- the files of a set's tasks, under the names that the tasks have for them
 abbrev pub named_files : TaskSet → List (List ℕ) → List (List ℕ × List ℕ)
@@ -49,7 +49,7 @@ made_name = codes "generate"
 
 -- a set with the code that these files mean, as for a set that was read
 abbrev pub input_of : TaskSet → List (List ℕ) → Result Input Halt
-input_of set files = and_then (code_in (held (named_files set files)) made_name set) (λ code. Ok (record { set = set; code = code }))
+input_of set files = and_then (code_in (contents_of_files (named_files set files)) made_name set) (λ code. Ok (record { set = set; code = code }))
 
 -- the made set with its code
 abbrev pub made_input : ℕ → Result Input Halt
@@ -64,9 +64,9 @@ node_count graphs = sum_by (λ (g : CodeGraph). length g.nodes) graphs
 -- the analysis' certificate, with at most 4,000,000 state entries; the judge's verdict on it; and whether the state after
 -- the script's cycles is kept
 pub record IsRunJudged (script : Script) (input : Input) (shapes : Shapes) (c : Certificate) (verdict : Verdict) (kept : Bool) : Type 0 where
-  pub best : IsBest input.set (shown_at shapes.graphs shapes.nests) c
+  pub best : IsBest input.set (task_graph_at shapes.graphs shapes.nests) c
   pub few : entries c.tasks ≤ 4000000
-  pub judged : IsJudged input.set (shown_at shapes.graphs shapes.nests) c (answer_of verdict)
+  pub judged : IsJudged input.set (task_graph_at shapes.graphs shapes.nests) c (answer_of verdict)
   pub kept_so : IsTrue kept ↔ IsKept (run_of input script)
 
 -- the answer with a certificate
@@ -77,19 +77,19 @@ made_answer n script input shapes c verdict kept = record {
 }
 
 -- an answer behind a line; a stop stands alone
-abbrev pub behind : List ℕ → Result Answer Halt → Result Answer Halt
-behind line (Ok answer) = Ok (record { text = line ++ answer.text; outcome = answer.outcome })
-behind line (Err halt) = Err halt
+abbrev pub answer_behind_line : List ℕ → Result Answer Halt → Result Answer Halt
+answer_behind_line line (Ok answer) = Ok (record { text = line ++ answer.text; outcome = answer.outcome })
+answer_behind_line line (Err halt) = Err halt
 
 -- where there is no certificate, the analysis' end, with the first line before the line of a task without a window
 abbrev pub without_made : ℕ → Input → Shapes → BuildError → Result Answer Halt
-without_made n input shapes e = behind (made_line n (node_count shapes.graphs)) (without_certificate made_name input.set e)
+without_made n input shapes e = answer_behind_line (made_line n (node_count shapes.graphs)) (without_certificate made_name input.set e)
 
 -- the analysis of all tasks, and with its certificate the verdict and the script's run
 abbrev pub GeneratedOf : ℕ → Script → Input → Shapes → Result Answer Halt → Type 0
 GeneratedOf n script input shapes r =
     ((c : Certificate) × (verdict : Verdict) × (kept : Bool) × IsRunJudged script input shapes c verdict kept × (r ≡ Ok (made_answer n script input shapes c verdict kept)))
-    ⊎ ((e : BuildError) × (e ≢ build.Memory) × IsBuildRefused input.set (shown_at shapes.graphs shapes.nests) e × (r ≡ without_made n input shapes e))
+    ⊎ ((e : BuildError) × (e ≢ build.Memory) × IsBuildError input.set (task_graph_at shapes.graphs shapes.nests) e × (r ≡ without_made n input shapes e))
 
 -- over an input that was made of a number: the set with its code, the graphs of all tasks and the regions of their loops,
 -- and then the analysis, the verdict and the run

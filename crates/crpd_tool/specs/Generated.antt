@@ -3,22 +3,22 @@ use Rattle.std.specs.Prelude.{◌≡◌, ◌↔◌, IsTrue, ℕ, Bool, true, Lis
 use Rattle.crpd_base.specs.declared.data.Certificate.{Certificate}
 use Rattle.script_reader.specs.Legal.{IsLegal}
 use Rattle.cert_build.specs.Best.{IsBest}
-use Rattle.cert_check.specs.Judge.{responses}
+use Rattle.cert_check.specs.JudgeInput.{responses}
 use Rattle.cert_check.specs.Verdict.{IsJudged, Yes}
-use Rattle.cert_check.specs.Shown.{shown_at}
+use Rattle.cert_check.specs.TaskGraphs.{task_graph_at}
 use Rattle.cert_check.specs.declared.outcome.Verdict.TheVariants as verdict
 use Rattle.preempt_machine.specs.Safe.{IsKept, IsSafeWith}
 use Rattle.crpd_io.specs.Outside.{Contents}
-use Rattle.crpd_report.specs.Made.{generate_text, jobs_line, late_count}
+use Rattle.crpd_report.specs.Generate.{generate_text, jobs_line, late_count}
 use Rattle.crpd_report.specs.Simulate.{is_legal, run_line}
-use Rattle.gen_tasks.specs.Made.{made}
+use Rattle.gen_tasks.specs.GeneratedInput.{made}
 use Rattle.crpd_input.specs.declared.input.Input.{Input}
 use Rattle.crpd_input.specs.declared.shapes.Shapes.{Shapes}
 use Rattle.crpd_input.specs.Shapes.{ShapesIn}
 use Rattle.crpd_tool.specs.Generate.{made_input, node_count}
-use Rattle.crpd_tool.specs.Out.{IsOut, Output}
+use Rattle.crpd_tool.specs.Output.{IsOut, Output}
 use Rattle.crpd_tool.specs.Simulate.{completions_of, run_of}
-use Rattle.crpd_tool.specs.Words.{command_of, generate}
+use Rattle.crpd_tool.specs.Commands.{command_of, generate}
 use Rattle.crpd_tool.specs.declared.status.Status.TheVariants.{Done}
 
 -- the made input has a certificate of the analysis, which the judge says yes to, so the set is safe with its responses; the
@@ -31,8 +31,8 @@ pub record IsGenerated (n : ℕ) (text : List ℕ) : Type 0 where
   pub kept : Bool
   pub input_is : made_input n ≡ Ok input
   pub shapes_are : ShapesIn input (Ok shapes)
-  pub best : IsBest input.set (shown_at shapes.graphs shapes.nests) found
-  pub judged : IsJudged input.set (shown_at shapes.graphs shapes.nests) found Yes
+  pub best : IsBest input.set (task_graph_at shapes.graphs shapes.nests) found
+  pub judged : IsJudged input.set (task_graph_at shapes.graphs shapes.nests) found Yes
   pub safe : IsSafeWith input.set input.code (responses found)
   pub legal : IsLegal input.set (made n).script.jobs
   pub legal_said : is_legal input.set (made n).script.jobs ≡ true

@@ -25,5 +25,5 @@ value_after n [] = n
 value_after n (digit ∷ digits) = value_after (10 * n + (digit - 48)) digits
 
 -- the number that a word writes: 0, or 1 to 10 decimal digits without a leading 0; below 2^31
-abbrev pub number_of : List ℕ → Option ℕ
-number_of word = if is_number word && nat_lt (value_after 0 word) (2 ^ 31) then Some (value_after 0 word) else None
+abbrev pub command_number : List ℕ → Option ℕ
+command_number word = if is_number word && nat_lt (value_after 0 word) (2 ^ 31) then Some (value_after 0 word) else None

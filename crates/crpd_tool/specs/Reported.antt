@@ -6,9 +6,9 @@ use Rattle.crpd_report.specs.Simulate.{job_lines}
 use Rattle.crpd_input.specs.declared.input.Input.{Input}
 use Rattle.crpd_input.specs.Reading.{input_in}
 use Rattle.crpd_input.specs.Script.{script_in}
-use Rattle.crpd_tool.specs.Out.{IsOut, Output}
+use Rattle.crpd_tool.specs.Output.{IsOut, Output}
 use Rattle.crpd_tool.specs.Simulate.{IsRunLine, completions_of, run_of}
-use Rattle.crpd_tool.specs.Words.{command_of, simulate}
+use Rattle.crpd_tool.specs.Commands.{command_of, simulate}
 use Rattle.crpd_tool.specs.declared.status.Status.TheVariants.{Done}
 
 -- the files mean a set with its code, and a script; the text is a line for each job, as it stands after the script's cycles,

@@ -2,7 +2,7 @@
 use Rattle.std.specs.Prelude.{◌≡◌, ℕ, List, Result, Ok}
 use Rattle.crpd_base.specs.declared.data.TaskSet.{TaskSet}
 use Rattle.loop_regions.specs.TaskGraph.{TaskGraph}
-use Rattle.cert_check.specs.Shown.{shown_at}
+use Rattle.cert_check.specs.TaskGraphs.{task_graph_at}
 use Rattle.sensitivity.specs.Costs.{with_miss, with_switch}
 use Rattle.sensitivity.specs.Slack.{IsSlack}
 use Rattle.sensitivity.specs.declared.slack.Slack.{Slack}
@@ -28,7 +28,7 @@ slack_answer set first second = record { text = slack_text set first second; out
 -- the text of these, over the graphs of the tasks and the regions of their loops
 abbrev pub SlackOf : Input → Shapes → Result Answer Halt → Type 0
 SlackOf input shapes r =
-    (first : Slack) × (second : Slack) × AreSlacks input.set (shown_at shapes.graphs shapes.nests) first second × (r ≡ Ok (slack_answer input.set first second))
+    (first : Slack) × (second : Slack) × AreSlacks input.set (task_graph_at shapes.graphs shapes.nests) first second × (r ≡ Ok (slack_answer input.set first second))
 
 -- the whole command: the set with its code, the graphs of all tasks and the regions of their loops, and then the text
 abbrev pub SlackEnds : Contents → List ℕ → Result Answer Halt → Type 0

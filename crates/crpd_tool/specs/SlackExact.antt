@@ -1,6 +1,6 @@
 -- What `slack` writes are the greatest accepted costs, and acceptance never comes back above them.
 use Rattle.std.specs.Prelude.{◌≡◌, ℕ, ◌≤◌, List, Some, Ok}
-use Rattle.cert_check.specs.Shown.{shown_at}
+use Rattle.cert_check.specs.TaskGraphs.{task_graph_at}
 use Rattle.delay_count.specs.Laws.{DelayGrows, DemandGrows}
 use Rattle.sensitivity.specs.Accepted.{IsAccepted}
 use Rattle.sensitivity.specs.Costs.{with_costs}
@@ -10,12 +10,12 @@ use Rattle.crpd_io.specs.Outside.{Contents}
 use Rattle.crpd_tool.specs.declared.status.Status.TheVariants.{Done}
 use Rattle.crpd_input.specs.declared.input.Input.{Input}
 use Rattle.crpd_input.specs.declared.shapes.Shapes.{Shapes}
-use Rattle.crpd_tool.specs.Out.{IsOut, Output}
+use Rattle.crpd_tool.specs.Output.{IsOut, Output}
 use Rattle.crpd_input.specs.Reading.{input_in}
 use Rattle.crpd_input.specs.Shapes.{ShapesIn}
 use Rattle.crpd_tool.specs.Slack.{AreSlacks}
 use Rattle.crpd_tool.specs.SlackText.{slack_text}
-use Rattle.crpd_tool.specs.Words.{slack, command_of}
+use Rattle.crpd_tool.specs.Commands.{slack, command_of}
 
 -- the files mean a set with its code, which has graphs and regions; the text is that of the one greatest cost of a switch
 -- and the one of a reload
@@ -27,11 +27,11 @@ pub record HasGreatestCosts (contents : Contents) (set text : List ℕ) : Type 0
   pub input_is : input_in contents set ≡ Ok input
   pub shapes_are : ShapesIn input (Ok shapes)
   pub text_is : text ≡ slack_text input.set first second
-  pub are : AreSlacks input.set (shown_at shapes.graphs shapes.nests) first second
-  pub only : (one two : Slack) → AreSlacks input.set (shown_at shapes.graphs shapes.nests) one two → (one ≡ first) × (two ≡ second)
+  pub are : AreSlacks input.set (task_graph_at shapes.graphs shapes.nests) first second
+  pub only : (one two : Slack) → AreSlacks input.set (task_graph_at shapes.graphs shapes.nests) one two → (one ≡ first) × (two ≡ second)
   -- the set is accepted with all smaller costs of a switch and of a reload than those with which it is accepted
   pub stays : (s m k d : ℕ) → s ≤ k → m ≤ d →
-      IsAccepted (with_costs input.set k d) (shown_at shapes.graphs shapes.nests) → IsAccepted (with_costs input.set s m) (shown_at shapes.graphs shapes.nests)
+      IsAccepted (with_costs input.set k d) (task_graph_at shapes.graphs shapes.nests) → IsAccepted (with_costs input.set s m) (task_graph_at shapes.graphs shapes.nests)
 
 -- with the status Done on `slack SET`
 abbrev pub DoneIsSlack : List (List ℕ) → Contents → Type 0

@@ -3,17 +3,17 @@ use Rattle.std.specs.Prelude.{◌≡◌, ℕ, List, length, Some, Ok}
 use Rattle.crpd_base.specs.declared.data.Certificate.{Certificate}
 use Rattle.crpd_io.specs.Outside.{Contents}
 use Rattle.crpd_report.specs.Check.{yes_text}
-use Rattle.sound_laws.specs.Within.{IsBoundedWith, bounds}
+use Rattle.sound_laws.specs.CheckedCode.{IsBoundedWith, bounds}
 use Rattle.crpd_input.specs.declared.input.Input.{Input}
 use Rattle.crpd_input.specs.Reading.{certificate_in, input_in}
-use Rattle.crpd_tool.specs.Out.{IsOut, Output}
-use Rattle.crpd_tool.specs.Words.{check, command_of}
+use Rattle.crpd_tool.specs.Output.{IsOut, Output}
+use Rattle.crpd_tool.specs.Commands.{check, command_of}
 use Rattle.crpd_tool.specs.declared.status.Status.TheVariants.{Done}
 
 -- the files mean a set with its code, and a certificate; the text has the certificate's bounds, one line a task; from every
 -- cache and memory, in every kept run of any jobs, legal or not: a job that is the candidate, from the first step in which it
 -- is, for as many steps as a switch and its task's bound take, or is over sooner, has answered when they end
-pub record IsBounded (contents : Contents) (set certificate text : List ℕ) : Type 0 where
+pub record HasUndisturbedBounds (contents : Contents) (set certificate text : List ℕ) : Type 0 where
   pub input : Input
   pub stated : Certificate
   pub input_is : input_in contents set ≡ Ok input
@@ -26,4 +26,4 @@ pub record IsBounded (contents : Contents) (set certificate text : List ℕ) : T
 abbrev pub DoneIsBounded : List (List ℕ) → Contents → Type 0
 DoneIsBounded words contents =
     (set certificate : List ℕ) (output : Output) →
-    command_of words ≡ Some (check set certificate) → IsOut words contents output → output.status ≡ Done → IsBounded contents set certificate output.text
+    command_of words ≡ Some (check set certificate) → IsOut words contents output → output.status ≡ Done → HasUndisturbedBounds contents set certificate output.text

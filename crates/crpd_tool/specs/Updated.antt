@@ -3,7 +3,7 @@
 use Rattle.std.specs.Prelude.{◌≡◌, ℕ, List, Some, Ok}
 use Rattle.crpd_base.specs.declared.data.Certificate.{Certificate}
 use Rattle.cert_build.specs.Best.{IsBest}
-use Rattle.cert_check.specs.Shown.{shown_at}
+use Rattle.cert_check.specs.TaskGraphs.{task_graph_at}
 use Rattle.cert_check.specs.Verdict.{IsJudged, Yes}
 use Rattle.cert_check.specs.declared.outcome.Verdict.TheVariants as verdict
 use Rattle.cert_model.specs.Reading.{reading}
@@ -17,14 +17,14 @@ use Rattle.crpd_tool.specs.declared.answer.Outcome.TheVariants as ended
 use Rattle.crpd_tool.specs.declared.status.Status.TheVariants.{Done}
 use Rattle.crpd_tool.specs.Analyze.{AnalyzeEnds}
 use Rattle.crpd_tool.specs.Check.{CheckEnds, verdict_answer}
-use Rattle.crpd_tool.specs.Out.{IsOut, Output}
-use Rattle.crpd_tool.specs.Texts.{line}
-use Rattle.crpd_tool.specs.Update.{side_of}
-use Rattle.crpd_tool.specs.Words.{command_of, update}
+use Rattle.crpd_tool.specs.Output.{IsOut, Output}
+use Rattle.crpd_tool.specs.Texts.{with_line_feed}
+use Rattle.crpd_tool.specs.Update.{input_side}
+use Rattle.crpd_tool.specs.Commands.{command_of, update}
 
 -- the files mean an old set, its certificate and a new set, with graphs and regions; the text, but for its line feed, is
 -- read as the update of the old certificate to the new set, and the judge says yes to it
-pub record IsUpdated (contents : Contents) (old_set old_certificate new_set text : List ℕ) : Type 0 where
+pub record IsUpdateWritten (contents : Contents) (old_set old_certificate new_set text : List ℕ) : Type 0 where
   pub old : Input
   pub old_shapes : Shapes
   pub stated : Certificate
@@ -37,17 +37,17 @@ pub record IsUpdated (contents : Contents) (old_set old_certificate new_set text
   pub stated_is : certificate_in contents old_certificate ≡ Ok stated
   pub input_is : input_in contents new_set ≡ Ok input
   pub shapes_are : ShapesIn input (Ok shapes)
-  pub text_is : text ≡ line written
+  pub text_is : text ≡ with_line_feed written
   pub reads : reading written ≡ Ok made
-  pub update : IsUpdate (side_of old old_shapes) stated (side_of input shapes) made
-  pub judged : IsJudged input.set (shown_at shapes.graphs shapes.nests) made Yes
+  pub update : IsUpdate (input_side old old_shapes) stated (input_side input shapes) made
+  pub judged : IsJudged input.set (task_graph_at shapes.graphs shapes.nests) made Yes
   -- so `check` answers yes wherever the new set is the same and a file is read as this certificate
   pub checks : (others : Contents) (file name : List ℕ) →
       input_in others file ≡ Ok input → certificate_in others name ≡ Ok made → CheckEnds others file name (Ok (verdict_answer input.set made verdict.Yes))
   -- an update of the analysis' certificate is the analysis' certificate of the new set
-  pub best : IsBest old.set (shown_at old_shapes.graphs old_shapes.nests) stated → IsBest input.set (shown_at shapes.graphs shapes.nests) made
+  pub best : IsBest old.set (task_graph_at old_shapes.graphs old_shapes.nests) stated → IsBest input.set (task_graph_at shapes.graphs shapes.nests) made
   -- and then `analyze` writes this text wherever the new set is the same
-  pub analyzes : IsBest old.set (shown_at old_shapes.graphs old_shapes.nests) stated → (others : Contents) (file : List ℕ) →
+  pub analyzes : IsBest old.set (task_graph_at old_shapes.graphs old_shapes.nests) stated → (others : Contents) (file : List ℕ) →
       input_in others file ≡ Ok input → AnalyzeEnds others file (Ok (record { text = text; outcome = ended.Done }))
 
 -- with the status Done on `update OLDSET OLDCERT NEWSET`
@@ -55,4 +55,4 @@ abbrev pub DoneIsUpdate : List (List ℕ) → Contents → Type 0
 DoneIsUpdate words contents =
     (old_set old_certificate new_set : List ℕ) (output : Output) →
     command_of words ≡ Some (update old_set old_certificate new_set) → IsOut words contents output → output.status ≡ Done →
-    IsUpdated contents old_set old_certificate new_set output.text
+    IsUpdateWritten contents old_set old_certificate new_set output.text

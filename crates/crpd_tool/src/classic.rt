@@ -1,9 +1,9 @@
 // The command `classic`.
 ghost use Rattle.std.specs.Prelude.{◌≡◌, ◌≤◌, IsErrOf};
-ghost use Rattle.cert_check.specs.Shown.{AreShown};
+ghost use Rattle.cert_check.specs.TaskGraphs.{AreTaskGraphs};
 ghost use Rattle.crpd_base.specs.Ranges.{IsTaskSet};
 ghost use Rattle.crpd_io.specs.Outside.{Rose};
-ghost use Rattle.crpd_input.specs.Steps.{MeansBy, Told};
+ghost use Rattle.crpd_input.specs.Steps.{MeansBy, HoldsWhereTold};
 ghost use Rattle.crpd_tool.specs.Classic.{ClassicEnds, ClassicOf};
 
 use crate::answer::Answer;
@@ -16,7 +16,7 @@ use std::alloc::Global;
 /// The answer of the analysis with the plain union delays of a set that was read from this file.
 fn plain_analysis(alloc: Global, file: &str, input: &Input, shapes: &Shapes) -> Result<Answer, Halt>
     requires set { IsTaskSet input.now.set }
-    requires shown { AreShown input.now.set shapes.now.graphs shapes.now.nests }
+    requires shown { AreTaskGraphs input.now.set shapes.now.graphs shapes.now.nests }
     ensures exact { MeansBy (ClassicOf file.now input.now shapes.now) result }
     ensures no_fault { ¬ IsErrOf result Halt.Fault }
 {
@@ -31,7 +31,7 @@ fn plain_analysis(alloc: Global, file: &str, input: &Input, shapes: &Shapes) -> 
 
 /// Analyses a set with its code by the plain union delays, after the graphs of all tasks and the regions of their loops.
 pub(crate) fn classic<F: Files>(alloc: Global, files: &mut F, set: &str) -> Result<Answer, Halt>
-    ensures exact { Told (F.contents files.old) (λ c. MeansBy (ClassicEnds c set.now) result) }
+    ensures exact { HoldsWhereTold (F.contents files.old) (λ c. MeansBy (ClassicEnds c set.now) result) }
     ensures same { F.contents files.new ≡ F.contents files.old }
     ensures later { F.faults files.old ≤ F.faults files.new }
     ensures fault { IsErrOf result Halt.Fault → Rose (F.faults files.old) (F.faults files.new) }

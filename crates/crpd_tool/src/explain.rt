@@ -1,12 +1,12 @@
 // The command `explain`.
 ghost use Rattle.std.specs.Prelude.{◌≡◌, ◌≤◌, length, IfOk, IsErrOf, Ok};
-ghost use Rattle.cert_check.specs.Shown.{AreShown, shown_at};
+ghost use Rattle.cert_check.specs.TaskGraphs.{AreTaskGraphs, task_graph_at};
 ghost use Rattle.cert_check.specs.Verdict.{IsJudged, Yes};
 ghost use Rattle.cert_model.specs.Ranges.{IsCertificate};
 ghost use Rattle.crpd_base.specs.Ranges.{IsTaskSet};
 ghost use Rattle.crpd_io.specs.Outside.{Rose};
 ghost use Rattle.crpd_input.specs.Shapes.{ShapesIn};
-ghost use Rattle.crpd_input.specs.Steps.{MeansBy, Told};
+ghost use Rattle.crpd_input.specs.Steps.{MeansBy, HoldsWhereTold};
 ghost use Rattle.preempt_machine.specs.Safe.{NamesTasks};
 ghost use Rattle.crpd_tool.specs.Explain.{AccountOf, ExplainEnds, ExplanationOf};
 
@@ -33,7 +33,7 @@ fn account_answer(
     requires ranges { IsCertificate certificate.now }
     requires tasks { NamesTasks input.now.set script.now.jobs }
     requires few { length script.now.jobs ≤ 10000 }
-    requires judged { IsJudged input.now.set (shown_at shapes.now.graphs shapes.now.nests) certificate.now Yes }
+    requires judged { IsJudged input.now.set (task_graph_at shapes.now.graphs shapes.now.nests) certificate.now Yes }
     ensures { IfOk result (λ answer. AccountOf input.now shapes.now certificate.now script.now (Ok answer)) }
 {
     input.code.plans_law();
@@ -64,7 +64,7 @@ fn explanation(
     requires set { IsTaskSet input.now.set }
     requires count { length input.now.code.images ≡ length input.now.set.tasks }
     requires shaped { ShapesIn input.now (Ok shapes.now) }
-    requires shown { AreShown input.now.set shapes.now.graphs shapes.now.nests }
+    requires shown { AreTaskGraphs input.now.set shapes.now.graphs shapes.now.nests }
     requires ranges { IsCertificate certificate.now }
     requires tasks { NamesTasks input.now.set script.now.jobs }
     requires few { length script.now.jobs ≤ 10000 }
@@ -88,7 +88,7 @@ pub(crate) fn explain<F: Files>(
     certificate: &str,
     script: &str,
 ) -> Result<Answer, Halt>
-    ensures exact { Told (F.contents files.old) (λ c. MeansBy (ExplainEnds c set.now certificate.now script.now) result) }
+    ensures exact { HoldsWhereTold (F.contents files.old) (λ c. MeansBy (ExplainEnds c set.now certificate.now script.now) result) }
     ensures same { F.contents files.new ≡ F.contents files.old }
     ensures later { F.faults files.old ≤ F.faults files.new }
     ensures fault { IsErrOf result Halt.Fault → Rose (F.faults files.old) (F.faults files.new) }

@@ -1,16 +1,16 @@
 // The command `generate`.
 ghost use Rattle.std.specs.Prelude.{◌≡◌, ◌^◌, ◌<◌, ◌≤◌, length, map, string_bytes, IfOk, IsErrOf, Ok};
 ghost use Rattle.cert_build.specs.Best.{IsBest};
-ghost use Rattle.cert_check.specs.Shown.{AreShown, shown_at};
+ghost use Rattle.cert_check.specs.TaskGraphs.{AreTaskGraphs, task_graph_at};
 ghost use Rattle.cert_model.specs.Ranges.{IsCertificate};
 ghost use Rattle.crpd_base.specs.Ranges.{IsTaskSet};
 ghost use Rattle.preempt_machine.specs.Safe.{NamesTasks};
-ghost use Rattle.crpd_report.specs.Made.{made_line};
+ghost use Rattle.crpd_report.specs.Generate.{made_line};
 ghost use Rattle.crpd_input.specs.Graphs.{HasBoundedLoops};
 ghost use Rattle.crpd_input.specs.Reading.{code_in};
 ghost use Rattle.crpd_input.specs.Steps.{Means, MeansBy};
 ghost use Rattle.crpd_tool.specs.Generate as spec;
-ghost use Rattle.crpd_tool.specs.Generate.{EndsFrom, GenerateEnds, GeneratedOf, held, made_name, named_files};
+ghost use Rattle.crpd_tool.specs.Generate.{EndsFrom, GenerateEnds, GeneratedOf, contents_of_files, made_name, named_files};
 
 use crate::answer::Answer;
 use crate::ending::without_certificate;
@@ -47,7 +47,7 @@ fn hold(alloc: Global, set: &TaskSet, files: &[Items<u8>]) -> Result<SureFiles, 
 fn code_of(alloc: Global, set: &TaskSet, files: &[Items<u8>]) -> Result<CodeMap, Halt>
     requires ranges { IsTaskSet set.now }
     requires count { length files.now ≡ length set.now.tasks }
-    ensures exact { Means (code_in (held (named_files set.now files.now)) made_name set.now) result }
+    ensures exact { Means (code_in (contents_of_files (named_files set.now files.now)) made_name set.now) result }
     ensures count { IfOk result (λ code. length code.images ≡ length set.now.tasks) }
     ensures bounded { IfOk result HasBoundedLoops }
     ensures no_fault { ¬ IsErrOf result Halt.Fault }
@@ -72,7 +72,7 @@ fn node_count(graphs: &[Graph]) -> u64
 }
 
 /// The answer with a certificate: the judge's verdict on it, and the script's run.
-fn certified(
+fn certified_answer(
     alloc: Global,
     number: u32,
     script: &Script,
@@ -81,12 +81,12 @@ fn certified(
     certificate: &Certificate,
 ) -> Result<Answer, Memory>
     requires set { IsTaskSet input.now.set }
-    requires shown { AreShown input.now.set shapes.now.graphs shapes.now.nests }
+    requires shown { AreTaskGraphs input.now.set shapes.now.graphs shapes.now.nests }
     requires count { length input.now.code.images ≡ length input.now.set.tasks }
     requires tasks { NamesTasks input.now.set script.now.jobs }
     requires jobs { length script.now.jobs < 2 ^ 32 }
     requires ranges { IsCertificate certificate.now }
-    requires best { IsBest input.now.set (shown_at shapes.now.graphs shapes.now.nests) certificate.now }
+    requires best { IsBest input.now.set (task_graph_at shapes.now.graphs shapes.now.nests) certificate.now }
     ensures { IfOk result (λ answer. GeneratedOf number script.now input.now shapes.now (Ok answer)) }
 {
     let graphs = shapes.graphs.as_slice();
@@ -114,8 +114,8 @@ fn certified(
 }
 
 /// An answer behind the line of the made input.
-fn behind(alloc: Global, number: u32, nodes: u64, answer: Answer) -> Result<Answer, AllocError>
-    ensures { IfOk result (λ whole. Ok whole ≡ spec.behind (made_line number nodes) (Ok answer)) }
+fn answer_behind_line(alloc: Global, number: u32, nodes: u64, answer: Answer) -> Result<Answer, AllocError>
+    ensures { IfOk result (λ whole. Ok whole ≡ spec.answer_behind_line (made_line number nodes) (Ok answer)) }
 {
     let line = format!(in alloc; "generated {number} tasks 16 nodes {nodes}\n")?;
     let mut text = line.into_bytes();
@@ -127,7 +127,7 @@ fn behind(alloc: Global, number: u32, nodes: u64, answer: Answer) -> Result<Answ
 }
 
 /// The answer of the analysis of a made set.
-fn analysed(
+fn analysis_answer(
     alloc: Global,
     number: u32,
     script: &Script,
@@ -135,7 +135,7 @@ fn analysed(
     shapes: &Shapes,
 ) -> Result<Answer, Halt>
     requires set { IsTaskSet input.now.set }
-    requires shown { AreShown input.now.set shapes.now.graphs shapes.now.nests }
+    requires shown { AreTaskGraphs input.now.set shapes.now.graphs shapes.now.nests }
     requires count { length input.now.code.images ≡ length input.now.set.tasks }
     requires tasks { NamesTasks input.now.set script.now.jobs }
     requires jobs { length script.now.jobs < 2 ^ 32 }
@@ -144,11 +144,11 @@ fn analysed(
 {
     let graphs = shapes.graphs.as_slice();
     match certify(alloc, &input.set, graphs, shapes.nests.as_slice()) {
-        Ok(certificate) => Ok(certified(alloc, number, script, input, shapes, &certificate)?),
+        Ok(certificate) => Ok(certified_answer(alloc, number, script, input, shapes, &certificate)?),
         Err(BuildError::Memory) => Err(Halt::Memory),
         Err(error) => {
             let ending = without_certificate(alloc, NAME, &input.set, error)?;
-            Ok(behind(alloc, number, node_count(graphs), ending)?)
+            Ok(answer_behind_line(alloc, number, node_count(graphs), ending)?)
         }
     }
 }
@@ -185,7 +185,7 @@ fn answer_of(
 {
     let input = input_of(alloc, set, files)?;
     let shapes = task_shapes(alloc, &input)?;
-    match analysed(alloc, number, script, &input, &shapes) {
+    match analysis_answer(alloc, number, script, &input, &shapes) {
         Ok(answer) => Ok(answer),
         Err(halt) => Err(halt),
     }

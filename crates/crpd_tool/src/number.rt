@@ -2,7 +2,7 @@
 ghost use Rattle.std.specs.Prelude.{◌≡◌, ◌^◌, ◌<◌, ◌≤◌, true, length, option_map};
 ghost use Rattle.std.specs.List.{list_all};
 ghost use Rattle.crpd_tool.specs.Numbers as spec;
-ghost use Rattle.crpd_tool.specs.Numbers.{number_of};
+ghost use Rattle.crpd_tool.specs.Numbers.{command_number};
 
 /// The number of a made input, below 2^31.
 #[derive(Clone, Copy)]
@@ -59,7 +59,7 @@ fn value(digits: &[u8]) -> u64
 
 /// The number that a word writes: 0, or 1 to 10 decimal digits without a leading 0; below 2^31.
 pub fn read_number(word: &str) -> Option<Seed>
-    ensures { option_map (λ seed. seed.number) result ≡ number_of word.now }
+    ensures { option_map (λ seed. seed.number) result ≡ command_number word.now }
 {
     if !is_number(word.as_bytes()) {
         return None;

@@ -1,9 +1,9 @@
 // The command `slack`.
 ghost use Rattle.std.specs.Prelude.{◌≡◌, ◌≤◌, IfOk, IsErrOf, Ok};
-ghost use Rattle.cert_check.specs.Shown.{AreShown};
+ghost use Rattle.cert_check.specs.TaskGraphs.{AreTaskGraphs};
 ghost use Rattle.crpd_base.specs.Ranges.{IsTaskSet};
 ghost use Rattle.crpd_io.specs.Outside.{Rose};
-ghost use Rattle.crpd_input.specs.Steps.{MeansBy, Told};
+ghost use Rattle.crpd_input.specs.Steps.{MeansBy, HoldsWhereTold};
 ghost use Rattle.crpd_tool.specs.Slack.{SlackEnds, SlackOf};
 
 use crate::answer::{Answer, Outcome};
@@ -17,7 +17,7 @@ use std::alloc::Global;
 /// The answer with the greatest costs of a set.
 fn greatest_costs(alloc: Global, input: &Input, shapes: &Shapes) -> Result<Answer, Memory>
     requires set { IsTaskSet input.now.set }
-    requires shown { AreShown input.now.set shapes.now.graphs shapes.now.nests }
+    requires shown { AreTaskGraphs input.now.set shapes.now.graphs shapes.now.nests }
     ensures { IfOk result (λ answer. SlackOf input.now shapes.now (Ok answer)) }
 {
     let graphs = shapes.graphs.as_slice();
@@ -36,7 +36,7 @@ fn greatest_costs(alloc: Global, input: &Input, shapes: &Shapes) -> Result<Answe
 /// Finds the greatest costs of a switch and of a reload with which a set with its code is accepted, after the graphs of all
 /// tasks and the regions of their loops.
 pub(crate) fn slack<F: Files>(alloc: Global, files: &mut F, set: &str) -> Result<Answer, Halt>
-    ensures exact { Told (F.contents files.old) (λ c. MeansBy (SlackEnds c set.now) result) }
+    ensures exact { HoldsWhereTold (F.contents files.old) (λ c. MeansBy (SlackEnds c set.now) result) }
     ensures same { F.contents files.new ≡ F.contents files.old }
     ensures later { F.faults files.old ≤ F.faults files.new }
     ensures fault { IsErrOf result Halt.Fault → Rose (F.faults files.old) (F.faults files.new) }

@@ -1,11 +1,11 @@
 // The command `update`.
 ghost use Rattle.std.specs.Prelude.{◌≡◌, ◌≤◌, IsErrOf};
-ghost use Rattle.cert_check.specs.Shown.{AreShown, shown_at};
+ghost use Rattle.cert_check.specs.TaskGraphs.{AreTaskGraphs, task_graph_at};
 ghost use Rattle.cert_check.specs.Verdict.{IsJudged, Yes};
 ghost use Rattle.cert_model.specs.Ranges.{IsCertificate};
 ghost use Rattle.crpd_base.specs.Ranges.{IsTaskSet};
 ghost use Rattle.crpd_io.specs.Outside.{Rose};
-ghost use Rattle.crpd_input.specs.Steps.{MeansBy, Told};
+ghost use Rattle.crpd_input.specs.Steps.{MeansBy, HoldsWhereTold};
 ghost use Rattle.crpd_tool.specs.Update.{ChangeOf, UpdateEnds, UpdateOf, as_of_analysis};
 
 use crate::answer::Answer;
@@ -42,11 +42,11 @@ fn change(
     shapes: &Shapes,
 ) -> Result<Answer, Halt>
     requires old { IsTaskSet old.now.set }
-    requires old_shown { AreShown old.now.set old_shapes.now.graphs old_shapes.now.nests }
+    requires old_shown { AreTaskGraphs old.now.set old_shapes.now.graphs old_shapes.now.nests }
     requires stated { IsCertificate stated.now }
-    requires judged { IsJudged old.now.set (shown_at old_shapes.now.graphs old_shapes.now.nests) stated.now Yes }
+    requires judged { IsJudged old.now.set (task_graph_at old_shapes.now.graphs old_shapes.now.nests) stated.now Yes }
     requires set { IsTaskSet input.now.set }
-    requires shown { AreShown input.now.set shapes.now.graphs shapes.now.nests }
+    requires shown { AreTaskGraphs input.now.set shapes.now.graphs shapes.now.nests }
     ensures exact { MeansBy (ChangeOf file.now old.now old_shapes.now stated.now input.now shapes.now) result }
     ensures no_fault { ¬ IsErrOf result Halt.Fault }
 {
@@ -74,10 +74,10 @@ fn judge_and_change(
     shapes: &Shapes,
 ) -> Result<Answer, Halt>
     requires old { IsTaskSet old.now.set }
-    requires old_shown { AreShown old.now.set old_shapes.now.graphs old_shapes.now.nests }
+    requires old_shown { AreTaskGraphs old.now.set old_shapes.now.graphs old_shapes.now.nests }
     requires stated { IsCertificate stated.now }
     requires set { IsTaskSet input.now.set }
-    requires shown { AreShown input.now.set shapes.now.graphs shapes.now.nests }
+    requires shown { AreTaskGraphs input.now.set shapes.now.graphs shapes.now.nests }
     ensures exact { MeansBy (UpdateOf file.now old.now old_shapes.now stated.now input.now shapes.now) result }
     ensures no_fault { ¬ IsErrOf result Halt.Fault }
 {
@@ -99,7 +99,7 @@ pub(crate) fn update<F: Files>(
     old_certificate: &str,
     new_set: &str,
 ) -> Result<Answer, Halt>
-    ensures exact { Told (F.contents files.old) (λ c. MeansBy (UpdateEnds c old_set.now old_certificate.now new_set.now) result) }
+    ensures exact { HoldsWhereTold (F.contents files.old) (λ c. MeansBy (UpdateEnds c old_set.now old_certificate.now new_set.now) result) }
     ensures same { F.contents files.new ≡ F.contents files.old }
     ensures later { F.faults files.old ≤ F.faults files.new }
     ensures fault { IsErrOf result Halt.Fault → Rose (F.faults files.old) (F.faults files.new) }

@@ -4,7 +4,7 @@ use Rattle.std.proofs.lemmas.Bool.{cases_eq}
 use Rattle.std.proofs.lemmas.List.{get_or_append_left}
 use Rattle.std.proofs.Math.Seq.{get_or-append_seam}
 use Rattle.std.proofs.lemmas.List.{length-set, get_or_default}
-use Rattle.dataflow.specs.Search.{past, IsLastEdge, IsChained}
+use Rattle.dataflow.specs.Search.{past_edge, IsLastEdge, IsChained}
 
 no_edge : (ends : ℕ → ℕ × ℕ) (m : ℕ) → IsLastEdge ends 0 m None
 no_edge ends m = record { edge = λ k e. cc; last = λ j lt s. absurd (omega arith) }
@@ -78,6 +78,6 @@ read_before nodes edges k m ends last before o h lt s e =
     subst (λ i. IsLastEdge ends k i o) s
     (subst (λ q. IsLastEdge ends k (ends k).0 q) (sym (e ∙ get_or_default before k o None (omega (arith, h.all_edges)))) (h.of_edge k lt))
 
-pub falls_back : (ends : ℕ → ℕ × ℕ) (k m : ℕ) (o next : Option ℕ) → IsLastEdge ends k m o → next ≡ Some k → past o < past next
-falls_back ends k m None next h e = let n = ap past e in omega arith
-falls_back ends k m (Some i) next h e = let n = ap past e in let lower = (h.edge i refl).0 in omega arith
+pub falls_back : (ends : ℕ → ℕ × ℕ) (k m : ℕ) (o next : Option ℕ) → IsLastEdge ends k m o → next ≡ Some k → past_edge o < past_edge next
+falls_back ends k m None next h e = let n = ap past_edge e in omega arith
+falls_back ends k m (Some i) next h e = let n = ap past_edge e in let lower = (h.edge i refl).0 in omega arith

@@ -5,15 +5,15 @@ use Rattle.std.proofs.lemmas.Bool.{cases_eq, cases_lt}
 use Rattle.std.proofs.lemmas.List.{get_or_append_left, length-set, get_or_past, get_or_default, get_or-reverse, length-reverse}
 use Rattle.std.proofs.lemmas.List.Sums.{sum_by-set}
 use Rattle.std.proofs.Math.Seq.{get_or-append_seam, get_or-append_right}
-use Rattle.dataflow.specs.Search.{IsChained, IsAt, IsInDepth, IsOrder, root_at, to_follow, past}
+use Rattle.dataflow.specs.Search.{IsChained, IsInList, IsInDepth, IsVisitOrder, root_at, to_follow, past_edge}
 
-at_front : (n m : ℕ) (xs : List ℕ) → IsAt n xs → IsAt n (xs ++ m ∷ [])
+at_front : (n m : ℕ) (xs : List ℕ) → IsInList n xs → IsInList n (xs ++ m ∷ [])
 at_front n m xs h = (h.0, omega (arith, h.1, length-append xs (m ∷ [])), get_or_append_left xs (m ∷ []) 0 h.0 h.1 ∙ h.2)
 
-at_end : (n : ℕ) (xs : List ℕ) → IsAt n (xs ++ n ∷ [])
+at_end : (n : ℕ) (xs : List ℕ) → IsInList n (xs ++ n ∷ [])
 at_end n xs = (length xs, omega (arith, length-append xs (n ∷ [])), get_or-append_seam xs n [] 0)
 
-at_either : (n m : ℕ) (xs : List ℕ) → IsAt n (xs ++ m ∷ []) → IsAt n xs ⊎ (n ≡ m)
+at_either : (n m : ℕ) (xs : List ℕ) → IsInList n (xs ++ m ∷ []) → IsInList n xs ⊎ (n ≡ m)
 at_either n m xs h = ⊎_elim
     (λ (lt : h.0 < length xs). inl (h.0, lt, sym (get_or_append_left xs (m ∷ []) 0 h.0 lt) ∙ h.2))
     (λ (ge : length xs ≤ h.0).
@@ -40,10 +40,10 @@ module _ (nodes edges : ℕ) where
     on_path = all_below_more nodes n path h.on_path lt;
     own = h.own;
     found = λ m was. ⊎_elim
-        (λ (e : m ≡ n). inl (subst (λ i. IsAt i (path ++ n ∷ [])) (sym e) (at_end n path)))
+        (λ (e : m ≡ n). inl (subst (λ i. IsInList i (path ++ n ∷ [])) (sym e) (at_end n path)))
         (λ (ne : m ≢ n). ⊎_elim
-        (λ (on : IsAt m path). inl (at_front m n path on))
-        (λ (out : IsAt m left). inr out)
+        (λ (on : IsInList m path). inl (at_front m n path on))
+        (λ (out : IsInList m left). inr out)
         (h.found m (sym (get_or-set_other seen n m true false ne) ∙ was)))
         (cases_eq m n);
   }
@@ -74,31 +74,31 @@ module _ (nodes edges : ℕ) where
     on_path = λ i below. subst (λ x. x < nodes) (get_or_append_left path (n ∷ []) 0 i below) (h.on_path i (omega (arith, length-append path (n ∷ []))));
     own = all_below_more nodes n left h.own lt;
     found = λ m was. ⊎_elim
-        (λ (on : IsAt m (path ++ n ∷ [])). ⊎_elim
-        (λ (still : IsAt m path). inl still)
-        (λ (e : m ≡ n). inr (subst (λ i. IsAt i (left ++ n ∷ [])) (sym e) (at_end n left)))
+        (λ (on : IsInList m (path ++ n ∷ [])). ⊎_elim
+        (λ (still : IsInList m path). inl still)
+        (λ (e : m ≡ n). inr (subst (λ i. IsInList i (left ++ n ∷ [])) (sym e) (at_end n left)))
         (at_either m n path on))
-        (λ (out : IsAt m left). inr (at_front m n left out))
+        (λ (out : IsInList m left). inr (at_front m n left out))
         (h.found m was);
   }
 
   pub all_left : (seen : List Bool) (next : List (Option ℕ)) (path left : List ℕ) → length path ≡ 0
       → ((n : ℕ) → n < nodes → get_or seen n false ≡ true)
-      → IsInDepth nodes edges seen next path left → IsOrder nodes left
+      → IsInDepth nodes edges seen next path left → IsVisitOrder nodes left
   all_left seen next path left none all h = record {
     own = h.own;
     each = λ n lt. ⊎_elim
-        (λ (on : IsAt n path). let below = on.1 in absurd (omega arith))
-        (λ (out : IsAt n left). out)
+        (λ (on : IsInList n path). let below = on.1 in absurd (omega arith))
+        (λ (out : IsInList n left). out)
         (h.found n (all n lt));
   }
 
 -- an edge is followed
-pub follows : (next : List (Option ℕ)) (n k : ℕ) (o : Option ℕ) → n < length next → get_or next n None ≡ Some k → past o < suc k
-    → sum_by past (set next n o) < sum_by past next
+pub follows : (next : List (Option ℕ)) (n k : ℕ) (o : Option ℕ) → n < length next → get_or next n None ≡ Some k → past_edge o < suc k
+    → sum_by past_edge (set next n o) < sum_by past_edge next
 follows next n k o lt was falls =
-    let a = sum_by-set past next n o None lt in
-    let b : past (get_or next n None) ≡ suc k = ap past was in
+    let a = sum_by-set past_edge next n o None lt in
+    let b : past_edge (get_or next n None) ≡ suc k = ap past_edge was in
     omega arith
 
 -- the next edge of a node
@@ -117,19 +117,19 @@ same_search nodes edges seen seen2 next next2 path path2 left left2 a b c d h =
     (subst (λ p. IsInDepth nodes edges seen next p left2) (sym c)
     (subst (λ l. IsInDepth nodes edges seen next path l) (sym d) h)))
 
-pub falls_once : (next next2 : List (Option ℕ)) (path path2 : List ℕ) (n k : ℕ) (o : Option ℕ) → n < length next → get_or next n None ≡ Some k → past o < suc k
+pub falls_once : (next next2 : List (Option ℕ)) (path path2 : List ℕ) (n k : ℕ) (o : Option ℕ) → n < length next → get_or next n None ≡ Some k → past_edge o < suc k
     → next2 ≡ set next n o → path2 ≡ path ++ n ∷ [] → to_follow next2 path2 ≤ to_follow next path
 falls_once next next2 path path2 n k o lt was low e f =
     let a = follows next n k o lt was low in
-    let b : sum_by past next2 ≡ sum_by past (set next n o) = ap (sum_by past) e in
+    let b : sum_by past_edge next2 ≡ sum_by past_edge (set next n o) = ap (sum_by past_edge) e in
     let d : length path2 ≡ length path + 1 = ap length f ∙ length-append path (n ∷ []) in
     omega arith
 
-pub falls_twice : (next next2 : List (Option ℕ)) (path path1 path2 : List ℕ) (n t k : ℕ) (o : Option ℕ) → n < length next → get_or next n None ≡ Some k → past o < suc k
+pub falls_twice : (next next2 : List (Option ℕ)) (path path1 path2 : List ℕ) (n t k : ℕ) (o : Option ℕ) → n < length next → get_or next n None ≡ Some k → past_edge o < suc k
     → next2 ≡ set next n o → path1 ≡ path ++ n ∷ [] → path2 ≡ path1 ++ t ∷ [] → to_follow next2 path2 ≤ to_follow next path
 falls_twice next next2 path path1 path2 n t k o lt was low e f h =
     let a = follows next n k o lt was low in
-    let b : sum_by past next2 ≡ sum_by past (set next n o) = ap (sum_by past) e in
+    let b : sum_by past_edge next2 ≡ sum_by past_edge (set next n o) = ap (sum_by past_edge) e in
     let d : length path1 ≡ length path + 1 = ap length f ∙ length-append path (n ∷ []) in
     let d2 : length path2 ≡ length path1 + 1 = ap length h ∙ length-append path1 (t ∷ []) in
     omega arith
@@ -152,7 +152,7 @@ none_found nodes edges ends last before next seen path left h e len none p l = r
   found = λ n was. let not_yet = none n in let absent : ⊥ = cc in absurd absent;
 }
 
-pub backwards : (nodes : ℕ) (xs : List ℕ) → IsOrder nodes xs → IsOrder nodes (reverse xs)
+pub backwards : (nodes : ℕ) (xs : List ℕ) → IsVisitOrder nodes xs → IsVisitOrder nodes (reverse xs)
 backwards nodes xs h = record {
   own = λ i lt.
       let within : i < length xs = omega (arith, length-reverse xs) in
@@ -169,7 +169,7 @@ backwards nodes xs h = record {
 }
 
 -- two orders, one after the other
-pub both_orders : (nodes : ℕ) (xs ys : List ℕ) → IsOrder nodes xs → IsOrder nodes ys → IsOrder nodes (xs ++ ys)
+pub both_orders : (nodes : ℕ) (xs ys : List ℕ) → IsVisitOrder nodes xs → IsVisitOrder nodes ys → IsVisitOrder nodes (xs ++ ys)
 both_orders nodes xs ys h k = record {
   own = λ i lt. ⊎_elim
       (λ (front : i < length xs). subst (λ x. x < nodes) (sym (get_or_append_left xs ys 0 i front)) (h.own i front))

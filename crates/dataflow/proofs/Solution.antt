@@ -2,7 +2,7 @@
 use Rattle.std.proofs.Common.{◌≡◌, ℕ, List, [], ◌∷◌, ◌++◌, Option, Some, None, option_map, map, get_or, suc, zero, refl, sym, ap, ◌∙◌, subst, arith}
 use Rattle.std.specs.List.{All}
 use Rattle.std.proofs.lemmas.List.Elements.{All-append, All-map}
-use Rattle.dataflow.specs.Problem.{Problem, IsSemilattice, IsBelow, HasEdge, IsPath, value, Brings, joined_all, IsFact, IsAtLeast, Solves}
+use Rattle.dataflow.specs.Problem.{Problem, IsSemilattice, IsBelow, HasEdge, IsPath, path_value, Brings, joined_all, IsFact, IsAtLeast, Solves}
 use Rattle.dataflow.specs.Search.{IsJoinOfPaths}
 
 pub record HasLaws (V : Type 0) (p : Problem V) : Type 0 where
@@ -77,13 +77,13 @@ module _ (V : Type 0) (p : Problem V) (laws : HasLaws V p) where
 
   -- a solution is at least what each path brings
   pub above_path : (facts : ℕ → Option V) → Solves V p facts
-      → (n : ℕ) (before : List ℕ) (v : V) → IsPath p (n ∷ before) → value p (n ∷ before) ≡ Some v → IsAtLeast p (facts n) v
+      → (n : ℕ) (before : List ℕ) (v : V) → IsPath p (n ∷ before) → path_value p (n ∷ before) ≡ Some v → IsAtLeast p (facts n) v
   above_path facts s n [] v path e = s.begun n v path e
   above_path facts s n (m ∷ before) v path e =
-      passed_on (λ w b. above_path facts s m before w path.1 b) (value p (m ∷ before)) refl e
+      passed_on (λ w b. above_path facts s m before w path.1 b) (path_value p (m ∷ before)) refl e
     where
-      passed_on : ((w : V) → value p (m ∷ before) ≡ Some w → IsAtLeast p (facts m) w)
-          → (o : Option V) → value p (m ∷ before) ≡ o → option_map (p.passed m) o ≡ Some v → IsAtLeast p (facts n) v
+      passed_on : ((w : V) → path_value p (m ∷ before) ≡ Some w → IsAtLeast p (facts m) w)
+          → (o : Option V) → path_value p (m ∷ before) ≡ o → option_map (p.passed m) o ≡ Some v → IsAtLeast p (facts n) v
       passed_on above None b q = cc
       passed_on above (Some w) b q =
           let had = above w b in

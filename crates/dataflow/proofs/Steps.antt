@@ -2,14 +2,14 @@
 use Rattle.std.proofs.Common.{◌≡◌, ◌≢◌, ℕ, ◌<◌, ◌≤◌, ◌⊎◌, [], Option, Some, None, suc, Bool, false, IsTrue, refl, sym, ap, ◌∙◌, subst, inl, inr, ⊎_elim, arith}
 use Rattle.std.proofs.lemmas.Bool.{cases_eq, cases_lt}
 use Rattle.dataflow.specs.Problem.{Problem, IsBelow, HasEdge, IsAtLeast, Solves}
-use Rattle.dataflow.specs.Search.{past, IsLastEdge, IsJoinOfPaths, IsCarried, IsUnderWay, IsSource, IsStep, absorbed}
+use Rattle.dataflow.specs.Search.{past_edge, IsLastEdge, IsJoinOfPaths, IsCarried, IsPartialSolution, IsPassedOn, AbsorbsAt, absorbed}
 use Rattle.dataflow.proofs.Solution.{HasLaws, below_self, below_trans, below_join_left, below_join_right, of_one, of_join, of_passed}
 
 module _ (V : Type 0) (p : Problem V) (laws : HasLaws V p) where
   -- the facts where paths begin, and all nodes wait
   pub at_start : (facts : ℕ → Option V) (waiting : ℕ → Bool)
       → ((n : ℕ) → n < p.nodes → facts n ≡ p.begins n) → ((n : ℕ) → p.nodes ≤ n → facts n ≡ None)
-      → ((n : ℕ) → n < p.nodes → IsTrue (waiting n)) → IsUnderWay V p facts waiting (λ k. Unit {0})
+      → ((n : ℕ) → n < p.nodes → IsTrue (waiting n)) → IsPartialSolution V p facts waiting (λ k. Unit {0})
   at_start facts waiting begin none all = record {
     sound = λ n v e. ⊎_elim
         (λ (lt : n < p.nodes). of_one V p laws n v ([], lt, sym (begin n lt) ∙ e))
@@ -22,7 +22,7 @@ module _ (V : Type 0) (p : Problem V) (laws : HasLaws V p) where
         (cases_lt (p.ends k).0 p.nodes);
   }
 
-  module _ (facts new : ℕ → Option V) (waiting woken : ℕ → Bool) (t : ℕ) (u : V) (step : IsStep V p facts new waiting woken t u) where
+  module _ (facts new : ℕ → Option V) (waiting woken : ℕ → Bool) (t : ℕ) (u : V) (step : AbsorbsAt V p facts new waiting woken t u) where
     absorbed_over : (o : Option V) (v w : V) → o ≡ Some w → IsBelow p v w → IsBelow p v (absorbed p.joined o u)
     absorbed_over None v w e h = cc
     absorbed_over (Some x) v w e h =
@@ -53,7 +53,7 @@ module _ (V : Type 0) (p : Problem V) (laws : HasLaws V p) where
         (λ (e : new (p.ends k).0 ≡ facts (p.ends k).0). inr (λ v is. grows (p.ends k).1 (p.passed (p.ends k).0 v) (c v (sym e ∙ is))))
         (woken_or_same (p.ends k).0)
 
-    pub still_source : (m : ℕ) (x : V) → IsSource V p facts waiting m x → IsSource V p new woken m x
+    pub still_source : (m : ℕ) (x : V) → IsPassedOn V p facts waiting m x → IsPassedOn V p new woken m x
     still_source m x s = record {
       from = s.from;
       passed = s.passed;
@@ -67,7 +67,7 @@ module _ (V : Type 0) (p : Problem V) (laws : HasLaws V p) where
           s.fresh;
     }
 
-    pub now_carried : (m k : ℕ) → p.ends k ≡ (m, t) → IsSource V p facts waiting m u → IsTrue (woken (p.ends k).0) ⊎ IsCarried p new k
+    pub now_carried : (m k : ℕ) → p.ends k ≡ (m, t) → IsPassedOn V p facts waiting m u → IsTrue (woken (p.ends k).0) ⊎ IsCarried p new k
     unfolding still_source
     now_carried m k e s =
         let source : (p.ends k).0 ≡ m = ap (λ q. q.0) e in
@@ -86,7 +86,7 @@ module _ (V : Type 0) (p : Problem V) (laws : HasLaws V p) where
     absorbed_sound None sound has = has
     absorbed_sound (Some x) sound has = of_join V p laws t x u (sound x refl) has
 
-    pub still_sound : (m : ℕ) → HasEdge p m t → IsSource V p facts waiting m u
+    pub still_sound : (m : ℕ) → HasEdge p m t → IsPassedOn V p facts waiting m u
         → ((n : ℕ) (v : V) → facts n ≡ Some v → IsJoinOfPaths V p n v)
         → (n : ℕ) (v : V) → new n ≡ Some v → IsJoinOfPaths V p n v
     still_sound m e s sound n v is = ⊎_elim
@@ -99,9 +99,9 @@ module _ (V : Type 0) (p : Problem V) (laws : HasLaws V p) where
         (cases_eq n t)
 
     -- an edge from m is passed, and the one before it is next
-    pub stepped : (m k : ℕ) (o : Option ℕ) → k < p.edges → p.ends k ≡ (m, t) → IsLastEdge p.ends k m o → IsSource V p facts waiting m u
-        → IsUnderWay V p facts waiting (λ j. (p.ends j).0 ≡ m → suc k ≤ j)
-        → IsUnderWay V p new woken (λ j. (p.ends j).0 ≡ m → past o ≤ j)
+    pub stepped : (m k : ℕ) (o : Option ℕ) → k < p.edges → p.ends k ≡ (m, t) → IsLastEdge p.ends k m o → IsPassedOn V p facts waiting m u
+        → IsPartialSolution V p facts waiting (λ j. (p.ends j).0 ≡ m → suc k ≤ j)
+        → IsPartialSolution V p new woken (λ j. (p.ends j).0 ≡ m → past_edge o ≤ j)
     stepped m k o lt e last s way = record {
       sound = still_sound m (k, lt, e) s way.sound;
       begun = λ n v in_nodes is. grows n v (way.begun n v in_nodes is);
@@ -116,7 +116,7 @@ module _ (V : Type 0) (p : Problem V) (laws : HasLaws V p) where
 
   -- all edges from m are still to be passed
   pub none_passed : (facts : ℕ → Option V) (waiting : ℕ → Bool) (m : ℕ) (o : Option ℕ) → IsLastEdge p.ends p.edges m o
-      → IsUnderWay V p facts waiting (λ j. (p.ends j).0 ≢ m) → IsUnderWay V p facts waiting (λ j. (p.ends j).0 ≡ m → past o ≤ j)
+      → IsPartialSolution V p facts waiting (λ j. (p.ends j).0 ≢ m) → IsPartialSolution V p facts waiting (λ j. (p.ends j).0 ≡ m → past_edge o ≤ j)
   none_passed facts waiting m o last way = record {
     sound = way.sound;
     begun = way.begun;
@@ -126,7 +126,7 @@ module _ (V : Type 0) (p : Problem V) (laws : HasLaws V p) where
 
   -- and all are passed
   pub all_passed_on : (facts : ℕ → Option V) (waiting : ℕ → Bool) (m : ℕ)
-      → IsUnderWay V p facts waiting (λ j. (p.ends j).0 ≡ m → 0 ≤ j) → IsUnderWay V p facts waiting (λ j. Unit {0})
+      → IsPartialSolution V p facts waiting (λ j. (p.ends j).0 ≡ m → 0 ≤ j) → IsPartialSolution V p facts waiting (λ j. Unit {0})
   all_passed_on facts waiting m way = record {
     sound = way.sound;
     begun = way.begun;
@@ -135,7 +135,7 @@ module _ (V : Type 0) (p : Problem V) (laws : HasLaws V p) where
 
   -- a node is taken that waits
   pub taken : (facts : ℕ → Option V) (waiting now : ℕ → Bool) (m : ℕ) → ((n : ℕ) → n ≢ m → now n ≡ waiting n)
-      → IsUnderWay V p facts waiting (λ j. Unit {0}) → IsUnderWay V p facts now (λ j. (p.ends j).0 ≢ m)
+      → IsPartialSolution V p facts waiting (λ j. Unit {0}) → IsPartialSolution V p facts now (λ j. (p.ends j).0 ≢ m)
   taken facts waiting now m others way = record {
     sound = way.sound;
     begun = way.begun;
@@ -144,7 +144,7 @@ module _ (V : Type 0) (p : Problem V) (laws : HasLaws V p) where
 
   -- and has no fact
   pub taken_empty : (facts : ℕ → Option V) (waiting now : ℕ → Bool) (m : ℕ) → ((n : ℕ) → n ≢ m → now n ≡ waiting n) → facts m ≡ None
-      → IsUnderWay V p facts waiting (λ j. Unit {0}) → IsUnderWay V p facts now (λ j. Unit {0})
+      → IsPartialSolution V p facts waiting (λ j. Unit {0}) → IsPartialSolution V p facts now (λ j. Unit {0})
   taken_empty facts waiting now m others none way = record {
     sound = way.sound;
     begun = way.begun;
@@ -155,12 +155,12 @@ module _ (V : Type 0) (p : Problem V) (laws : HasLaws V p) where
   }
 
   pub its_source : (facts : ℕ → Option V) (waiting now : ℕ → Bool) (m : ℕ) (v : V) → facts m ≡ Some v
-      → IsUnderWay V p facts waiting (λ j. Unit {0}) → IsSource V p facts now m (p.passed m v)
+      → IsPartialSolution V p facts waiting (λ j. Unit {0}) → IsPassedOn V p facts now m (p.passed m v)
   its_source facts waiting now m v e way = record { from = v; passed = refl; brought = way.sound m v e; fresh = inr e }
 
   -- nobody waits
   pub solved : (facts : ℕ → Option V) (waiting : ℕ → Bool) → ((n : ℕ) → waiting n ≡ false)
-      → IsUnderWay V p facts waiting (λ j. Unit {0}) → Solves V p facts
+      → IsPartialSolution V p facts waiting (λ j. Unit {0}) → Solves V p facts
   solved facts waiting none way = record {
     begun = way.begun;
     carried = λ m n v e is.

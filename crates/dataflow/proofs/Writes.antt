@@ -2,7 +2,7 @@
 use Rattle.std.proofs.Common.{◌≡◌, ◌≢◌, ℕ, ◌<◌, List, Option, Some, None, option_map, length, get_or, set, Bool, true, false, IsTrue, MatchBool, cond, ◌≤◌, refl, sym, ap, ◌∙◌, subst, inl, inr, ⊎_elim, get_or-set_same, get_or-set_other}
 use Rattle.std.proofs.lemmas.Bool.{cases_eq}
 use Rattle.dataflow.specs.Problem.{Problem, fact_at}
-use Rattle.dataflow.specs.Search.{waits, absorbed, IsStep, rank, left}
+use Rattle.dataflow.specs.Search.{waits, absorbed, AbsorbsAt, rank, work_left}
 use Rattle.dataflow.proofs.Left.{left_risen, left_same}
 use Rattle.std.proofs.lemmas.List.{get_or_default, length-set}
 
@@ -34,12 +34,12 @@ woken_length F V view height facts waiting woken t o (stayed e s) = ap length e
 pub left_falls : (F V : Type 0) (view : F → V) (height : V → ℕ) (tallest : ℕ) → ((v : V) → height v ≤ tallest)
     → (facts : List (Option F)) (waiting woken : List Bool) (t : ℕ) (o : Option F) → t < length facts → t < length waiting
     → Outcome F V view height facts waiting woken t o
-    → left view height tallest (set facts t o) woken ≤ left view height tallest facts waiting
+    → work_left view height tallest (set facts t o) woken ≤ work_left view height tallest facts waiting
 left_falls F V view height tallest bounded facts waiting woken t o lt ltw (risen e r) =
-    subst (λ w. left view height tallest (set facts t o) w ≤ left view height tallest facts waiting) (sym e)
+    subst (λ w. work_left view height tallest (set facts t o) w ≤ work_left view height tallest facts waiting) (sym e)
     (left_risen F V view height tallest bounded facts waiting t o lt ltw r)
 left_falls F V view height tallest bounded facts waiting woken t o lt ltw (stayed e s) =
-    subst (λ w. left view height tallest (set facts t o) w ≤ left view height tallest facts waiting) (sym e)
+    subst (λ w. work_left view height tallest (set facts t o) w ≤ work_left view height tallest facts waiting) (sym e)
     (left_same F V view height tallest bounded facts waiting t o lt s)
 
 module _ (F V : Type 0) (view : F → V) (p : Problem V) (facts : List (Option F)) (waiting : List Bool) (t : ℕ) (u : V) (o : Option F) (in_facts : t < length facts)
@@ -56,7 +56,7 @@ module _ (F V : Type 0) (view : F → V) (p : Problem V) (facts : List (Option F
       (λ (ne : n ≢ t). subst (λ b. IsTrue b) (sym (get_or-set_other waiting t n true false ne)) w)
       (cases_eq n t)
 
-  pub step_risen : t < length waiting → IsStep V p (fact_at view facts) (fact_at view (set facts t o)) (waits waiting) (waits (set waiting t true)) t u
+  pub step_risen : t < length waiting → AbsorbsAt V p (fact_at view facts) (fact_at view (set facts t o)) (waits waiting) (waits (set waiting t true)) t u
   step_risen lt = record {
     others = fact_other;
     here = fact_here ∙ comes;
@@ -64,7 +64,7 @@ module _ (F V : Type 0) (view : F → V) (p : Problem V) (facts : List (Option F
     changed = inl (subst (λ b. IsTrue b) (sym (get_or-set_same waiting t true false lt)) refl);
   }
 
-  pub step_same : option_map view o ≡ fact_at view facts t → IsStep V p (fact_at view facts) (fact_at view (set facts t o)) (waits waiting) (waits waiting) t u
+  pub step_same : option_map view o ≡ fact_at view facts t → AbsorbsAt V p (fact_at view facts) (fact_at view (set facts t o)) (waits waiting) (waits waiting) t u
   step_same same = record {
     others = fact_other;
     here = fact_here ∙ comes;
@@ -73,6 +73,6 @@ module _ (F V : Type 0) (view : F → V) (p : Problem V) (facts : List (Option F
   }
 
   pub step_of : (height : V → ℕ) (woken : List Bool) → t < length waiting → Outcome F V view height facts waiting woken t o
-      → IsStep V p (fact_at view facts) (fact_at view (set facts t o)) (waits waiting) (waits woken) t u
-  step_of height woken lt (risen e r) = subst (λ w. IsStep V p (fact_at view facts) (fact_at view (set facts t o)) (waits waiting) (waits w) t u) (sym e) (step_risen lt)
-  step_of height woken lt (stayed e s) = subst (λ w. IsStep V p (fact_at view facts) (fact_at view (set facts t o)) (waits waiting) (waits w) t u) (sym e) (step_same s)
+      → AbsorbsAt V p (fact_at view facts) (fact_at view (set facts t o)) (waits waiting) (waits woken) t u
+  step_of height woken lt (risen e r) = subst (λ w. AbsorbsAt V p (fact_at view facts) (fact_at view (set facts t o)) (waits waiting) (waits w) t u) (sym e) (step_risen lt)
+  step_of height woken lt (stayed e s) = subst (λ w. AbsorbsAt V p (fact_at view facts) (fact_at view (set facts t o)) (waits waiting) (waits w) t u) (sym e) (step_same s)

@@ -36,14 +36,14 @@ IsPath p (n ∷ []) = n < p.nodes
 IsPath p (n ∷ (m ∷ before)) = HasEdge p m n × IsPath p (m ∷ before)
 
 -- the value before a path's last node, where the path begins with one
-abbrev pub value : {V : Type 0} → Problem V → List ℕ → Option V
-value p [] = None
-value p (n ∷ []) = p.begins n
-value p (n ∷ (m ∷ before)) = option_map (p.passed m) (value p (m ∷ before))
+abbrev pub path_value : {V : Type 0} → Problem V → List ℕ → Option V
+path_value p [] = None
+path_value p (n ∷ []) = p.begins n
+path_value p (n ∷ (m ∷ before)) = option_map (p.passed m) (path_value p (m ∷ before))
 
 -- some path brings the value to node n
 abbrev pub Brings : {V : Type 0} → Problem V → ℕ → V → Type 0
-Brings p n v = (before : List ℕ) × IsPath p (n ∷ before) × (value p (n ∷ before) ≡ Some v)
+Brings p n v = (before : List ℕ) × IsPath p (n ∷ before) × (path_value p (n ∷ before) ≡ Some v)
 
 -- the join of a first value and the rest of a list
 abbrev pub joined_all : {V : Type 0} → (V → V → V) → V → List V → V

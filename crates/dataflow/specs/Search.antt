@@ -5,14 +5,14 @@ use Rattle.crpd_base.specs.Sum.{one_if}
 use Rattle.dataflow.specs.Problem.{Problem, Brings, joined_all, IsAtLeast}
 
 -- one more than an edge's number, 0 where there is no edge
-abbrev pub past : Option ℕ → ℕ
-past None = 0
-past (Some k) = suc k
+abbrev pub past_edge : Option ℕ → ℕ
+past_edge None = 0
+past_edge (Some k) = suc k
 
 -- the last edge below `bound` whose source is m
 pub record IsLastEdge (ends : ℕ → ℕ × ℕ) (bound m : ℕ) (o : Option ℕ) : Type 0 where
   pub edge : (k : ℕ) → o ≡ Some k → (k < bound) × ((ends k).0 ≡ m)
-  pub last : (j : ℕ) → j < bound → (ends j).0 ≡ m → j < past o
+  pub last : (j : ℕ) → j < bound → (ends j).0 ≡ m → j < past_edge o
 
 -- the last edge of each node, and the last edge of each edge's source before it
 pub record IsChained (nodes edges : ℕ) (ends : ℕ → ℕ × ℕ) (last before : List (Option ℕ)) : Type 0 where
@@ -37,13 +37,13 @@ abbrev pub IsCarried : {V : Type 0} → Problem V → (ℕ → Option V) → ℕ
 IsCarried {V} p facts k = (v : V) → facts (p.ends k).0 ≡ Some v → IsAtLeast p (facts (p.ends k).1) (p.passed (p.ends k).0 v)
 
 -- facts that paths bring and that hold what begins; each edge that is done is carried, or its source waits
-pub record IsUnderWay (V : Type 0) (p : Problem V) (facts : ℕ → Option V) (waiting : ℕ → Bool) (done : ℕ → Type 0) : Type 0 where
+pub record IsPartialSolution (V : Type 0) (p : Problem V) (facts : ℕ → Option V) (waiting : ℕ → Bool) (done : ℕ → Type 0) : Type 0 where
   pub sound : (n : ℕ) (v : V) → facts n ≡ Some v → IsJoinOfPaths V p n v
   pub begun : (n : ℕ) (v : V) → n < p.nodes → p.begins n ≡ Some v → IsAtLeast p (facts n) v
   pub carried : (k : ℕ) → k < p.edges → done k → IsTrue (waiting (p.ends k).0) ⊎ IsCarried p facts k
 
 -- the value u of node m is being passed on: it is that of the fact at m, or m waits again
-pub record IsSource (V : Type 0) (p : Problem V) (facts : ℕ → Option V) (waiting : ℕ → Bool) (m : ℕ) (u : V) : Type 0 where
+pub record IsPassedOn (V : Type 0) (p : Problem V) (facts : ℕ → Option V) (waiting : ℕ → Bool) (m : ℕ) (u : V) : Type 0 where
   pub from : V
   pub passed : p.passed m from ≡ u
   pub brought : IsJoinOfPaths V p m from
@@ -60,33 +60,33 @@ rank height None = 0
 rank height (Some v) = suc (height v)
 
 -- every number below `nodes`, and no other
-pub record IsOrder (nodes : ℕ) (order : List ℕ) : Type 0 where
+pub record IsVisitOrder (nodes : ℕ) (order : List ℕ) : Type 0 where
   pub own : (i : ℕ) → i < length order → slice_index order i < nodes
   pub each : (n : ℕ) → n < nodes → (i : ℕ) × (i < length order) × (slice_index order i ≡ n)
 
 -- how much there is left to do: twice what facts can rise, and who waits
-abbrev pub left : {F V : Type 0} → (F → V) → (V → ℕ) → ℕ → List (Option F) → List Bool → ℕ
-left view height tallest facts pending =
+abbrev pub work_left : {F V : Type 0} → (F → V) → (V → ℕ) → ℕ → List (Option F) → List Bool → ℕ
+work_left view height tallest facts pending =
     2 * sum_by (λ o. suc tallest - rank height (option_map view o)) facts + sum_by one_if pending
 
 -- a value u has come in at node t, whose fact is as before or which waits; all others are as before
-pub record IsStep (V : Type 0) (p : Problem V) (facts new : ℕ → Option V) (waiting woken : ℕ → Bool) (t : ℕ) (u : V) : Type 0 where
+pub record AbsorbsAt (V : Type 0) (p : Problem V) (facts new : ℕ → Option V) (waiting woken : ℕ → Bool) (t : ℕ) (u : V) : Type 0 where
   pub others : (n : ℕ) → n ≢ t → new n ≡ facts n
   pub here : new t ≡ Some (absorbed p.joined (facts t) u)
   pub kept : (n : ℕ) → IsTrue (waiting n) → IsTrue (woken n)
   pub changed : IsTrue (woken t) ⊎ (new t ≡ facts t)
 
-abbrev pub IsAt : ℕ → List ℕ → Type 0
-IsAt n xs = (i : ℕ) × (i < length xs) × (slice_index xs i ≡ n)
+abbrev pub IsInList : ℕ → List ℕ → Type 0
+IsInList n xs = (i : ℕ) × (i < length xs) × (slice_index xs i ≡ n)
 
 -- a search in depth: each node found is on the path or left behind
-pub record IsInDepth (nodes edges : ℕ) (seen : List Bool) (next : List (Option ℕ)) (path left : List ℕ) : Type 0 where
+pub record IsInDepth (nodes edges : ℕ) (seen : List Bool) (next : List (Option ℕ)) (path work_left : List ℕ) : Type 0 where
   pub seen_nodes : length seen ≡ nodes
   pub next_nodes : length next ≡ nodes
   pub next_edges : (m k : ℕ) → slice_index_or next m None ≡ Some k → k < edges
   pub on_path : (i : ℕ) → i < length path → slice_index path i < nodes
-  pub own : (i : ℕ) → i < length left → slice_index left i < nodes
-  pub found : (n : ℕ) → slice_index_or seen n false ≡ true → IsAt n path ⊎ IsAt n left
+  pub own : (i : ℕ) → i < length work_left → slice_index work_left i < nodes
+  pub found : (n : ℕ) → slice_index_or seen n false ≡ true → IsInList n path ⊎ IsInList n work_left
 
 -- node k, or the k-th node from the last one back
 abbrev pub root_at : Bool → ℕ → ℕ → ℕ
@@ -94,4 +94,4 @@ root_at from_last nodes k = if from_last then nodes - 1 - k else k
 
 -- twice the edges still to follow, and the path
 abbrev pub to_follow : List (Option ℕ) → List ℕ → ℕ
-to_follow next path = 2 * sum_by past next + length path
+to_follow next path = 2 * sum_by past_edge next + length path

@@ -16,14 +16,14 @@ known_after (Writes k) before = Some k
 known_after Neither before = before
 
 -- the constant that both hold
-abbrev pub both : Option ℕ → Option ℕ → Option ℕ
-both None o = None
-both (Some j) None = None
-both (Some j) (Some k) = if j == k then Some j else None
+abbrev pub common_value : Option ℕ → Option ℕ → Option ℕ
+common_value None o = None
+common_value (Some j) None = None
+common_value (Some j) (Some k) = if j == k then Some j else None
 
-abbrev pub unknown : Option ℕ → ℕ
-unknown None = 1
-unknown (Some k) = 0
+abbrev pub one_if_unknown : Option ℕ → ℕ
+one_if_unknown None = 1
+one_if_unknown (Some k) = 0
 
 abbrev pub one_if_live : Bool → ℕ
 one_if_live true = 1

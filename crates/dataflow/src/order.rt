@@ -1,6 +1,6 @@
 // The orders in which nodes are visited: each node before those that its edges lead to, but for cycles.
 ghost use Rattle.std.specs.Prelude.{◌≡◌, ◌<◌, ◌≤◌, ℕ, IfOk, OnOk, None, [], ◌∷◌, ◌++◌, length, vec_len, slice_index_or, slice_set, true, false};
-ghost use Rattle.dataflow.specs.Search.{IsChained, IsOrder, IsInDepth, root_at, to_follow};
+ghost use Rattle.dataflow.specs.Search.{IsChained, IsVisitOrder, IsInDepth, root_at, to_follow};
 
 use crate::outgoing::Outgoing;
 use crate::problem::Flow;
@@ -111,7 +111,7 @@ fn depth_order<G: Flow>(
     from_last: bool,
 ) -> Result<Vec<u32>, AllocError>
     requires { IsChained (G.node_count flow.now) (G.edge_count flow.now) (G.ends flow.now) outgoing.now.last.items outgoing.now.before.items }
-    ensures { IfOk result (λ order. IsOrder (G.node_count flow.now) order.items) }
+    ensures { IfOk result (λ order. IsVisitOrder (G.node_count flow.now) order.items) }
 {
     let mut search = DepthFirst::new(alloc, outgoing)?;
     for k in 0..flow.nodes() {
@@ -134,7 +134,7 @@ pub(crate) fn visit_order<G: Flow>(
     outgoing: &Outgoing,
 ) -> Result<Vec<u32>, AllocError>
     requires { IsChained (G.node_count flow.now) (G.edge_count flow.now) (G.ends flow.now) outgoing.now.last.items outgoing.now.before.items }
-    ensures { IfOk result (λ order. IsOrder (G.node_count flow.now) order.items) }
+    ensures { IfOk result (λ order. IsVisitOrder (G.node_count flow.now) order.items) }
 {
     let mut order = depth_order(alloc, flow, outgoing, false)?;
     let second = depth_order(alloc, flow, outgoing, true)?;

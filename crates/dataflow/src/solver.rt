@@ -1,7 +1,7 @@
 // The search for the least solution.
 ghost use Rattle.std.specs.Prelude.{◌≡◌, ◌≢◌, ℕ, ◌+◌, ◌<◌, ◌≤◌, Option, IfOk, Some, MatchBool, length, vec_len, option_map, slice_index_or};
 ghost use Rattle.dataflow.specs.Problem.{problem, IsFact, IsLeastSolution, fact_at};
-ghost use Rattle.dataflow.specs.Search.{IsChained, IsUnderWay, IsSource, absorbed, rank, waits, left};
+ghost use Rattle.dataflow.specs.Search.{IsChained, IsPartialSolution, IsPassedOn, absorbed, rank, waits, work_left};
 
 use crate::order::visit_order;
 use crate::outgoing::{Outgoing, chain};
@@ -27,7 +27,7 @@ fn absorb<D: Domain>(domain: &D, fact: &mut Option<D::Fact>, value: &D::Fact) ->
 }
 
 /// The facts where paths begin.
-fn starts<G: Flow, D: Domain>(
+fn first_facts<G: Flow, D: Domain>(
     alloc: Global,
     flow: &G,
     domain: &D,
@@ -58,15 +58,15 @@ fn pass_on<G: Flow, D: Domain>(
     requires node { node < G.node_count flow.now }
     requires facts { length facts.old ≡ G.node_count flow.now }
     requires waiting { length waiting.old ≡ G.node_count flow.now }
-    requires source { IsSource D.Value (problem D.joined (D.passed domain.now) (D.begins domain.now) (G.node_count flow.now) (G.edge_count flow.now) (G.ends flow.now))
+    requires source { IsPassedOn D.Value (problem D.joined (D.passed domain.now) (D.begins domain.now) (G.node_count flow.now) (G.edge_count flow.now) (G.ends flow.now))
         (fact_at D.view facts.old) (waits waiting.old) node (D.view value.now) }
-    requires under_way { IsUnderWay D.Value (problem D.joined (D.passed domain.now) (D.begins domain.now) (G.node_count flow.now) (G.edge_count flow.now) (G.ends flow.now))
+    requires under_way { IsPartialSolution D.Value (problem D.joined (D.passed domain.now) (D.begins domain.now) (G.node_count flow.now) (G.edge_count flow.now) (G.ends flow.now))
         (fact_at D.view facts.old) (waits waiting.old) (λ k. (G.ends flow.now k).0 ≢ node) }
     ensures waiting { length waiting.new ≡ G.node_count flow.now }
-    ensures under_way { IsUnderWay D.Value (problem D.joined (D.passed domain.now) (D.begins domain.now) (G.node_count flow.now) (G.edge_count flow.now) (G.ends flow.now))
+    ensures under_way { IsPartialSolution D.Value (problem D.joined (D.passed domain.now) (D.begins domain.now) (G.node_count flow.now) (G.edge_count flow.now) (G.ends flow.now))
         (fact_at D.view facts.new) (waits waiting.new) (λ k. Unit {0}) }
-    ensures left { left D.view (D.height domain.now) (D.tallest domain.now) facts.new waiting.new
-        ≤ left D.view (D.height domain.now) (D.tallest domain.now) facts.old waiting.old }
+    ensures left { work_left D.view (D.height domain.now) (D.tallest domain.now) facts.new waiting.new
+        ≤ work_left D.view (D.height domain.now) (D.tallest domain.now) facts.old waiting.old }
 {
     let mut next = outgoing.last[node as usize];
     while let Some(k) = next {
@@ -96,7 +96,7 @@ fn search<G: Flow, D: Domain>(
     let outgoing = chain(alloc, flow)?;
     let order = visit_order(alloc, flow, &outgoing)?;
     let mut waiting = Worklist::new(alloc, order, flow.nodes() as usize)?;
-    let mut facts = starts(alloc, flow, domain)?;
+    let mut facts = first_facts(alloc, flow, domain)?;
     while let Some(node) = waiting.take() {
         if let Some(before) = &facts[node as usize] {
             let mut value = *before;

@@ -1,7 +1,7 @@
 // Facts of small graphs, along the edges and against them, and how often nodes are visited. Against the edges
 // the fact before a node is what holds after it.
 ghost use Rattle.std.specs.Prelude.{ℕ, ◌<◌, Option, length, slice_index_or};
-ghost use Rattle.dataflow.specs.Variable.{both, first_unknown, known_after, unknown};
+ghost use Rattle.dataflow.specs.Variable.{common_value, first_unknown, known_after, one_if_unknown};
 ghost use Rattle.dataflow.specs.VariableLaws.{both_joins, known_distributes, unknown_bounded};
 ghost use Rattle.dataflow.specs.declared.variable.Use.{Use};
 
@@ -152,13 +152,13 @@ impl Domain for Counted<'_> {
 
     ghost view = { λ known. known };
 
-    ghost joined = { both };
+    ghost joined = { common_value };
 
     ghost passed = { λ d n known. known_after (slice_index_or d.uses.now n Use.Neither) known };
 
     ghost begins = { λ d n. first_unknown n };
 
-    ghost height = { λ d known. unknown known };
+    ghost height = { λ d known. one_if_unknown known };
 
     ghost tallest = { λ d. 1 };
 

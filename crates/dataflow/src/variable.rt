@@ -1,6 +1,6 @@
 // Two analyses of one variable that nodes read and write, one along the edges and one against them.
 ghost use Rattle.std.specs.Prelude.{◌≡◌, ◌<◌, ◌||◌, ℕ, Option, Some, None, Bool, false, length, slice_index_or};
-ghost use Rattle.dataflow.specs.Variable.{both, first_unknown, known_after, live_before, unknown, one_if_live};
+ghost use Rattle.dataflow.specs.Variable.{common_value, first_unknown, known_after, live_before, one_if_unknown, one_if_live};
 ghost use Rattle.dataflow.specs.declared.variable.Use.{Use};
 ghost use Rattle.dataflow.specs.VariableLaws.{or_joins, live_distributes, both_joins, known_distributes, live_bounded, unknown_bounded};
 
@@ -87,13 +87,13 @@ impl Domain for Known<'_> {
 
     ghost view = { λ known. known };
 
-    ghost joined = { both };
+    ghost joined = { common_value };
 
     ghost passed = { λ d n known. known_after (slice_index_or d.uses.now n Use.Neither) known };
 
     ghost begins = { λ d n. first_unknown n };
 
-    ghost height = { λ d known. unknown known };
+    ghost height = { λ d known. one_if_unknown known };
 
     ghost tallest = { λ d. 1 };
 

@@ -1,6 +1,6 @@
 // The nodes that wait to be visited.
 ghost use Rattle.std.specs.Prelude.{◌≡◌, ℕ, ◌<◌, ◌≤◌, List, Bool, length, IfOk, MatchOption, IsTrue, slice_index, slice_set, true, false};
-ghost use Rattle.dataflow.specs.Search.{IsOrder, waits};
+ghost use Rattle.dataflow.specs.Search.{IsVisitOrder, waits};
 
 use std::alloc::{AllocError, Global};
 use std::marker::Model;
@@ -18,12 +18,12 @@ impl Model for Worklist {
 
     ghost view = { λ w. w.waiting.items };
 
-    ghost invariant = { λ w. IsOrder (length w.waiting.items) w.order.items × (w.place ≤ length w.order.items) };
+    ghost invariant = { λ w. IsVisitOrder (length w.waiting.items) w.order.items × (w.place ≤ length w.order.items) };
 }
 
 /// The first place from `from` on and before `to` whose node waits.
 fn first_waiting(order: &[u32], waiting: &[bool], from: usize, to: usize) -> Option<usize>
-    requires order { IsOrder (length waiting.now) order.now }
+    requires order { IsVisitOrder (length waiting.now) order.now }
     requires from { from ≤ to }
     requires to { to ≤ length order.now }
     ensures { MatchOption result
@@ -40,7 +40,7 @@ fn first_waiting(order: &[u32], waiting: &[bool], from: usize, to: usize) -> Opt
 
 /// The next place whose node waits, from `place` on and round to it again.
 fn next_waiting(order: &[u32], waiting: &[bool], place: usize) -> Option<usize>
-    requires order { IsOrder (length waiting.now) order.now }
+    requires order { IsVisitOrder (length waiting.now) order.now }
     requires place { place ≤ length order.now }
     ensures { MatchOption result
         ((n : ℕ) → waits waiting.now n ≡ false)
@@ -55,7 +55,7 @@ fn next_waiting(order: &[u32], waiting: &[bool], place: usize) -> Option<usize>
 impl Worklist {
     /// All nodes of the order wait.
     pub(crate) fn new(alloc: Global, order: Vec<u32>, nodes: usize) -> Result<Self, AllocError>
-        requires { IsOrder nodes order.items }
+        requires { IsVisitOrder nodes order.items }
         ensures nodes { IfOk result (λ w. length w ≡ nodes) }
         ensures all { IfOk result (λ w. (n : ℕ) → n < nodes → waits w n ≡ true) }
     {

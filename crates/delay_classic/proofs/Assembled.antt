@@ -10,20 +10,20 @@ use Rattle.crpd_base.specs.declared.data.Certificate.{Certificate}
 use Rattle.crpd_base.specs.declared.data.Method.{Method}
 use Rattle.crpd_base.specs.Tasks.{HasTimes, jitter_of, deadline_of}
 use Rattle.loop_regions.specs.TaskGraph.{TaskGraph}
-use Rattle.evict_sets.specs.Certificate.{cert_at}
+use Rattle.evict_sets.specs.ListedPart.{certified_task}
 use Rattle.delay_count.specs.Gamma.{part_at}
 use Rattle.response.specs.declared.choice.Choice.{Choice}
 use Rattle.response.specs.declared.choice.WindowError.{WindowError}
 use Rattle.response.specs.declared.choice.WindowError.TheVariants as window
-use Rattle.response.specs.Windows.{IsSmaller, IsRefused, IsAnswer, IsFirstWithout, method_at, window_at as chosen_window}
+use Rattle.response.specs.Windows.{IsSmallerWindow, IsWindowError, AreAllChoices, IsFirstWithoutWindow, method_at, window_at as chosen_window}
 use Rattle.response.proofs.WindowLaws.{smaller_is_window, smaller_too}
 use Rattle.response.proofs.Choices.{first_too}
-use Rattle.cert_check.specs.Judge.{window_at, part_of, longest_at, name_of}
+use Rattle.cert_check.specs.JudgeInput.{window_at, certified_part, longest_at, task_name}
 use Rattle.cert_model.specs.Ranges.{IsCertificate}
 use Rattle.cert_model.specs.Reading.{entries}
 use Rattle.cert_build.specs.Analysis.{part_with, part_of_analysis}
 use Rattle.cert_build.specs.Assembly.{no_analysis, analysis_at, HaveResponses, IsAssembled, AreAnalysed}
-use Rattle.cert_build.specs.Certify.{needs_at, of_windows}
+use Rattle.cert_build.specs.Certify.{part_in, window_build_error}
 use Rattle.cert_build.specs.declared.one_task.Analysis.{Analysis}
 use Rattle.cert_build.specs.declared.fault.BuildError.{BuildError}
 use Rattle.cert_build.proofs.Assembly.{has_parts}
@@ -31,7 +31,7 @@ use Rattle.cert_build.proofs.Counting.{best_parts, entries_map}
 use Rattle.cert_build.proofs.FoundWindows.{part_of_list, responses}
 use Rattle.cert_build.proofs.Certified.{part_best, entries_are, in_ranges}
 use Rattle.delay_classic.specs.Demand.{classic_demand, classic_demands}
-use Rattle.delay_classic.specs.Refused.{IsClassicRefused}
+use Rattle.delay_classic.specs.ClassicErrors.{IsClassicError}
 use Rattle.delay_classic.specs.Classic.{IsClassicTask, IsClassic}
 use Rattle.delay_classic.proofs.Choices.{demands_agree}
 use Rattle.delay_classic.proofs.Same.{classic_same}
@@ -48,15 +48,15 @@ module _ (set : TaskSet) (graphs : ℕ → TaskGraph) (analyses : List Analysis)
   abbrev bare : List TaskPart
   bare = map part_of_analysis analyses
 
-  bare_is : (k : ℕ) → part_at parts k ≡ needs_at (map part_of_analysis analyses) k
+  bare_is : (k : ℕ) → part_at parts k ≡ part_in (map part_of_analysis analyses) k
   bare_is k = part_is k ∙ sym (ap (λ (t : TaskPart). t.part) (mapped part_of_analysis analyses k no_analysis))
 
-  first_without : (i : ℕ) → IsFirstWithout set (classic_demands set (part_at parts) (slice_index longest)) i → IsFirstWithout set (classic_demands set (needs_at (map part_of_analysis analyses)) (longest_at set.platform graphs)) i
+  first_without : (i : ℕ) → IsFirstWithoutWindow set (classic_demands set (part_at parts) (slice_index longest)) i → IsFirstWithoutWindow set (classic_demands set (part_in (map part_of_analysis analyses)) (longest_at set.platform graphs)) i
   first_without =
-      first_too set (classic_demands set (part_at parts) (slice_index longest)) (classic_demands set (needs_at (map part_of_analysis analyses)) (longest_at set.platform graphs))
-      (demands_agree set (part_at parts) (needs_at (map part_of_analysis analyses)) (slice_index longest) (longest_at set.platform graphs) (λ k l. bare_is k) L)
+      first_too set (classic_demands set (part_at parts) (slice_index longest)) (classic_demands set (part_in (map part_of_analysis analyses)) (longest_at set.platform graphs))
+      (demands_agree set (part_at parts) (part_in (map part_of_analysis analyses)) (slice_index longest) (longest_at set.platform graphs) (λ k l. bare_is k) L)
 
-  refused_by : (e : WindowError) → IsRefused set (classic_demands set (part_at parts) (slice_index longest)) e → IsClassicRefused set graphs (of_windows e)
+  refused_by : (e : WindowError) → IsWindowError set (classic_demands set (part_at parts) (slice_index longest)) e → IsClassicError set graphs (window_build_error e)
   refused_by window.Memory h = tt
   refused_by (window.Unschedulable t) h = (
     map part_of_analysis analyses,
@@ -65,10 +65,10 @@ module _ (set : TaskSet) (graphs : ℕ → TaskGraph) (analyses : List Analysis)
     first_without t.0 h,
   )
 
-  pub refused : (e : WindowError) (x : BuildError) → IsRefused set (classic_demands set (part_at parts) (slice_index longest)) e → x ≡ of_windows e → IsClassicRefused set graphs x
-  refused e x h is = subst (IsClassicRefused set graphs) (sym is) (refused_by e h)
+  pub refused : (e : WindowError) (x : BuildError) → IsWindowError set (classic_demands set (part_at parts) (slice_index longest)) e → x ≡ window_build_error e → IsClassicError set graphs x
+  refused e x h is = subst (IsClassicError set graphs) (sym is) (refused_by e h)
 
-  module _ (choices : List Choice) (answer : IsAnswer set (classic_demands set (part_at parts) (slice_index longest)) choices) where
+  module _ (choices : List Choice) (answer : AreAllChoices set (classic_demands set (part_at parts) (slice_index longest)) choices) where
     in_deadlines : (k : ℕ) → k < length set.tasks → chosen_window choices k + jitter_of set k ≤ deadline_of set k
     in_deadlines k l = (smaller_is_window set (classic_demand set (part_at parts) (slice_index longest) k) k (method_at choices k) (chosen_window choices k) (answer.each k l)).in_deadline
 
@@ -76,14 +76,14 @@ module _ (set : TaskSet) (graphs : ℕ → TaskGraph) (analyses : List Analysis)
     have_responses times = responses set (classic_demands set (part_at parts) (slice_index longest)) choices times answer
 
     module _ (c : Certificate) (C : IsAssembled set analyses choices c) where
-      at : (k : ℕ) → k < length set.tasks → cert_at c k ≡ part_with (analysis_at analyses k) (name_of set k) (method_at choices k) (chosen_window choices k) (chosen_window choices k + jitter_of set k)
+      at : (k : ℕ) → k < length set.tasks → certified_task c k ≡ part_with (analysis_at analyses k) (task_name set k) (method_at choices k) (chosen_window choices k) (chosen_window choices k + jitter_of set k)
       at k l = C.parts.each k l
 
       window_is : (k : ℕ) → k < length set.tasks → window_at c k ≡ chosen_window choices k
       window_is k l = ap (λ (t : TaskPart). t.window) (at k l)
 
-      same : (k : ℕ) → k < length set.tasks → (method : Method) (v : ℕ) → classic_demand set (part_at parts) (slice_index longest) k method v ≡ classic_demand set (part_of c) (longest_at set.platform graphs) k method v
-      same k l = classic_same set (part_at parts) (part_of c) (slice_index longest) (longest_at set.platform graphs) k l (λ q m. part_is q ∙ sym (ap (λ (t : TaskPart). t.part) (at q m))) L
+      same : (k : ℕ) → k < length set.tasks → (method : Method) (v : ℕ) → classic_demand set (part_at parts) (slice_index longest) k method v ≡ classic_demand set (certified_part c) (longest_at set.platform graphs) k method v
+      same k l = classic_same set (part_at parts) (certified_part c) (slice_index longest) (longest_at set.platform graphs) k l (λ q m. part_is q ∙ sym (ap (λ (t : TaskPart). t.part) (at q m))) L
 
       task : (k : ℕ) → k < length set.tasks → IsClassicTask set graphs c k
       task k l =
@@ -92,9 +92,9 @@ module _ (set : TaskSet) (graphs : ℕ → TaskGraph) (analyses : List Analysis)
             name = ap (λ (t : TaskPart). t.name) (at k l);
             part = part_best set analyses c (has_parts set analyses choices c C) graphs k l (A.each k l);
             window =
-                subst (λ m. IsSmaller set (classic_demand set (part_of c) (longest_at set.platform graphs) k) k m (window_at c k)) (sym method)
-                (subst (λ w. IsSmaller set (classic_demand set (part_of c) (longest_at set.platform graphs) k) k (method_at choices k) w) (sym (window_is k l))
-                (smaller_too set (classic_demand set (part_at parts) (slice_index longest) k) (classic_demand set (part_of c) (longest_at set.platform graphs) k) k (same k l) (method_at choices k) (chosen_window choices k) (answer.each k l)));
+                subst (λ m. IsSmallerWindow set (classic_demand set (certified_part c) (longest_at set.platform graphs) k) k m (window_at c k)) (sym method)
+                (subst (λ w. IsSmallerWindow set (classic_demand set (certified_part c) (longest_at set.platform graphs) k) k (method_at choices k) w) (sym (window_is k l))
+                (smaller_too set (classic_demand set (part_at parts) (slice_index longest) k) (classic_demand set (certified_part c) (longest_at set.platform graphs) k) k (same k l) (method_at choices k) (chosen_window choices k) (answer.each k l)));
             response = ap (λ (t : TaskPart). t.response) (at k l) ∙ ap (λ w. w + jitter_of set k) (sym (window_is k l));
           }
 

@@ -12,7 +12,7 @@ use Rattle.crpd_base.specs.declared.data.Method.TheVariants.{Ucb, Ecb}
 use Rattle.crpd_base.specs.Sets.{member, has}
 use Rattle.crpd_base.specs.Sum.{sum_below}
 use Rattle.crpd_base.specs.Tasks.{jitter_of, deadline_of}
-use Rattle.delay_count.specs.Counts.{jobs_of, affected, HasWindows}
+use Rattle.delay_count.specs.Counts.{jobs_of, affected_preemptions, HasWindows}
 use Rattle.delay_count.specs.Gamma.{part_at, union_count, shared_sets, evicted_from, ucb_count, ecb_count}
 use Rattle.delay_count.specs.Demand.{gamma, own_demand, jobs_demand, higher_demand, demand}
 use Rattle.delay_classic.specs.Gamma.{useful_to_some, classic_gamma}
@@ -41,10 +41,10 @@ no_union jobs evicts useful count n (suc c) h =
 
 no_gamma : (set : TaskSet) (parts : ℕ → Part) (window : ℕ → ℕ) (w : ℕ) (method : Method) (i j : ℕ) → ((k c : ℕ) → k ≤ i → has (parts k).useful c ≡ false) → gamma set parts window w method i j ≡ 0
 no_gamma set parts window w Ucb i j h =
-    let z : ucb_count set parts window w i j ≡ 0 = no_union (jobs_of set j w) (has (parts j).evicting) (λ k. has (parts k).useful) (affected set window w i j) (suc i) 512 (λ k c l. h k c (omega arith)) in
+    let z : ucb_count set parts window w i j ≡ 0 = no_union (jobs_of set j w) (has (parts j).evicting) (λ k. has (parts k).useful) (affected_preemptions set window w i j) (suc i) 512 (λ k c l. h k c (omega arith)) in
     ap (λ x. set.platform.miss * x) z ∙ omega arith
 no_gamma set parts window w Ecb i j h =
-    let most = choice_within (shared_sets parts j) (affected set window w i j) 0 (suc i) (jobs_of set j w) (λ k l.
+    let most = choice_within (shared_sets parts j) (affected_preemptions set window w i j) 0 (suc i) (jobs_of set j w) (λ k l.
     let z = shared_none (has (parts k).useful) (evicted_from parts j) 512 (λ c. h k c (omega arith)) in inr (omega (arith, z))) in
     let z : ecb_count set parts window w i j ≡ 0 = omega (arith, most) in
     ap (λ x. set.platform.miss * x) z ∙ omega arith

@@ -9,7 +9,7 @@ use Rattle.crpd_base.specs.declared.data.Part.{Part}
 use Rattle.crpd_base.specs.declared.data.Method.{Method}
 use Rattle.crpd_base.specs.declared.data.Method.TheVariants.{Ucb, Ecb}
 use Rattle.crpd_base.specs.Sets.{has}
-use Rattle.useful_sets.specs.Sets.{IsUnion}
+use Rattle.useful_sets.specs.Sets.{IsUnionOfSets}
 use Rattle.delay_count.specs.Gamma.{shared_count, shared_sets, evicted_from}
 use Rattle.delay_count.specs.Demand.{greatest_from}
 use Rattle.delay_classic.specs.Gamma.{useful_to_some, useful_in, classic_ucb_delay, classic_ecb_delay, ucb_sets, ecb_sets}
@@ -44,13 +44,13 @@ to_some useful (suc n) c k l h =
           ]
     ]
 
-pub union_has : (sets : List (List ℕ)) (union : List ℕ) (c : ℕ) → IsUnion sets union → has union c ≡ useful_to_some (useful_in sets) 0 (length sets) c
+pub union_has : (sets : List (List ℕ)) (union : List ℕ) (c : ℕ) → IsUnionOfSets sets union → has union c ≡ useful_to_some (useful_in sets) 0 (length sets) c
 union_has sets union c u =
     both_ways (has union c) (useful_to_some (useful_in sets) 0 (length sets) c)
     (λ t. let some = (u c).0 t in to_some (useful_in sets) (length sets) c some.0 some.1 some.2)
     (λ t. let some = some_of (useful_in sets) (length sets) c t in (u c).1 some)
 
-pub union_shared : (sets : List (List ℕ)) (union evicted : List ℕ) (n : ℕ) → IsUnion sets union
+pub union_shared : (sets : List (List ℕ)) (union evicted : List ℕ) (n : ℕ) → IsUnionOfSets sets union
     → shared_count (has union) (has evicted) n ≡ shared_count (useful_to_some (useful_in sets) 0 (length sets)) (has evicted) n
 union_shared sets union evicted n u =
     shared_same (has union) (useful_to_some (useful_in sets) 0 (length sets)) (has evicted) (has evicted) n (λ c. union_has sets union c u) (λ c. refl)
@@ -112,7 +112,7 @@ module _ (parts : ℕ → Part) (useful evicting : List (List ℕ)) (i j n : ℕ
       let same = shared_same (useful_to_some (useful_in lower) 0 (length lower)) (useful_to_some (λ k. has (parts k).useful) (suc j) (suc i)) (has own) (has (parts j).evicting) 512 useful_is (λ c. ap (λ x. has x c) at) in
       is ∙ product (miss * 1) (shared_count (useful_to_some (useful_in lower) 0 (length lower)) (has own) 512) miss (ucb_sets parts i j) (one miss) same
 
-  up_is : (up : List ℕ) (c : ℕ) → IsUnion above up → has up c ≡ evicted_from parts j c
+  up_is : (up : List ℕ) (c : ℕ) → IsUnionOfSets above up → has up c ≡ evicted_from parts j c
   up_is up c u =
       let l : length above ≡ suc j = length-take-le (j + 1) evicting (omega arith) ∙ omega arith in
       union_has above up c u
@@ -120,7 +120,7 @@ module _ (parts : ℕ → Part) (useful evicting : List (List ℕ)) (i j n : ℕ
       ∙ some_same (useful_in above) (λ k. has (parts k).evicting) (suc j) c (λ k h. ap (λ x. has x c) (get_or-take (j + 1) evicting k [] (omega arith) ∙ evicts k (omega arith)))
       ∙ evicted_is parts j c
 
-  pub ecb_reloads : (miss result : ℕ) (up : List ℕ) → IsUnion above up → result ≡ classic_ecb_delay miss 1 up lower 512 → result ≡ miss * ecb_sets parts i j
+  pub ecb_reloads : (miss result : ℕ) (up : List ℕ) → IsUnionOfSets above up → result ≡ classic_ecb_delay miss 1 up lower 512 → result ≡ miss * ecb_sets parts i j
   ecb_reloads miss result up u is =
       let same : greatest_from (λ k. shared_count (useful_in lower k) (has up) 512) 0 (length lower) ≡ ecb_sets parts i j =
       ap (λ x. greatest_from (λ k. shared_count (useful_in lower k) (has up) 512) 0 x) lower_length

@@ -8,7 +8,7 @@ use Rattle.crpd_base.specs.declared.data.Method.TheVariants.{Ucb, Ecb}
 use Rattle.crpd_base.specs.Tasks.{HasTimes}
 use Rattle.delay_count.specs.Demand.{demand}
 use Rattle.response.specs.declared.choice.Choice.{Choice}
-use Rattle.response.specs.Windows.{HasNoWindow, IsSmaller, IsAnswer, window_at, method_at, AreChoices}
+use Rattle.response.specs.Windows.{HasNoWindow, IsSmallerWindow, AreAllChoices, window_at, method_at, AreChoices}
 use Rattle.response.proofs.WindowLaws.{smaller_is_window, smaller_or_none, smaller_within}
 use Rattle.response.proofs.Choices.{choices_more, window_before, window_last}
 use Rattle.response.proofs.Least.{looks_above}
@@ -19,11 +19,11 @@ use Rattle.delay_classic.proofs.Within.{demand_within}
 -- a smaller window, which is at most v
 record HasSmaller (set : TaskSet) (parts : ℕ → Part) (longest window : ℕ → ℕ) (i v : ℕ) : Type 0 where
   choice : Choice
-  is : IsSmaller set (demand set parts longest window i) i choice.method choice.window
+  is : IsSmallerWindow set (demand set parts longest window i) i choice.method choice.window
   within : choice.window ≤ v
 
 -- by a window of the plain delays
-has_smaller : (set : TaskSet) (parts : ℕ → Part) (longest window : ℕ → ℕ) (i : ℕ) (method : Method) (v : ℕ) → IsSmaller set (classic_demand set parts longest i) i method v → HasSmaller set parts longest window i v
+has_smaller : (set : TaskSet) (parts : ℕ → Part) (longest window : ℕ → ℕ) (i : ℕ) (method : Method) (v : ℕ) → IsSmallerWindow set (classic_demand set parts longest i) i method v → HasSmaller set parts longest window i v
 has_smaller set parts longest window i method v S =
     let W = smaller_is_window set (classic_demand set parts longest i) i method v S in
     let some = W.some in
@@ -44,7 +44,7 @@ has_smaller set parts longest window i method v S =
     by_method u e Ucb = u
     by_method u e Ecb = e
 
-module _ (set : TaskSet) (parts : ℕ → Part) (longest : ℕ → ℕ) (classic : List Choice) (times : HasTimes set) (answer : IsAnswer set (classic_demands set parts longest) classic) where
+module _ (set : TaskSet) (parts : ℕ → Part) (longest : ℕ → ℕ) (classic : List Choice) (times : HasTimes set) (answer : AreAllChoices set (classic_demands set parts longest) classic) where
   -- the choices of the first tasks
   record HasFirst (n : ℕ) : Type 0 where
     choices : List Choice

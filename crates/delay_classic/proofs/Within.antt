@@ -10,7 +10,7 @@ use Rattle.crpd_base.specs.declared.data.Method.{Method}
 use Rattle.crpd_base.specs.declared.data.Method.TheVariants.{Ucb, Ecb}
 use Rattle.crpd_base.specs.Sets.{has}
 use Rattle.crpd_base.specs.Sum.{sum_below}
-use Rattle.delay_count.specs.Counts.{jobs_of, affected}
+use Rattle.delay_count.specs.Counts.{jobs_of, affected_preemptions}
 use Rattle.delay_count.specs.Gamma.{set_share, union_count, shared_count, shared_sets, ucb_count, ecb_count}
 use Rattle.delay_count.specs.Demand.{gamma, jobs_demand, higher_demand}
 use Rattle.delay_classic.specs.Gamma.{useful_to_some, ucb_sets, ecb_sets, classic_gamma}
@@ -59,13 +59,13 @@ union_within jobs evicts useful count first n sets none =
 
 pub ucb_within : UcbWithin
 ucb_within set parts window w i j =
-    let l = union_within (jobs_of set j w) (has (parts j).evicting) (λ k. has (parts k).useful) (affected set window w i j) (suc j) (suc i) 512 (λ k h. sym (not_affected set window w i j k (omega arith))) in
+    let l = union_within (jobs_of set j w) (has (parts j).evicting) (λ k. has (parts k).useful) (affected_preemptions set window w i j) (suc j) (suc i) 512 (λ k h. sym (not_affected set window w i j k (omega arith))) in
     let m = mul-le set.platform.miss (ucb_count set parts window w i j) set.platform.miss (jobs_of set j w * ucb_sets parts i j) (omega arith) l in
     omega (arith, m)
 
 pub ecb_within : EcbWithin
 ecb_within set parts window w i j =
-    let l = choice_within (shared_sets parts j) (affected set window w i j) (ecb_sets parts i j) (suc i) (jobs_of set j w) (λ k h.
+    let l = choice_within (shared_sets parts j) (affected_preemptions set window w i j) (ecb_sets parts i j) (suc i) (jobs_of set j w) (λ k h.
     elim (cases_lt j k) [
       | inr le ↦ inl (sym (not_affected set window w i j k le))
       | inl lt ↦ inr (greatest_ge (shared_sets parts j) (suc j) (suc i) k (omega arith) h)

@@ -2,12 +2,12 @@
 ghost use Rattle.std.specs.Prelude.{◌≡◌, ◌≤◌, length, IfOk, MatchResult};
 ghost use Rattle.crpd_base.specs.Ranges.{IsTaskSet};
 ghost use Rattle.crpd_base.specs.declared.data.Certificate.{Certificate};
-ghost use Rattle.cert_check.specs.Shown.{shown_at, AreShown};
+ghost use Rattle.cert_check.specs.TaskGraphs.{task_graph_at, AreTaskGraphs};
 ghost use Rattle.cert_check.specs.Verdict.{IsJudged, Yes};
 ghost use Rattle.cert_model.specs.Ranges.{IsCertificate};
 ghost use Rattle.cert_model.specs.Reading.{entries};
 ghost use Rattle.delay_classic.specs.Classic.{IsClassic, HasBest};
-ghost use Rattle.delay_classic.specs.Refused.{IsClassicRefused};
+ghost use Rattle.delay_classic.specs.ClassicErrors.{IsClassicError};
 
 use crate::laws::certificate_law;
 use crate::windows::classic_windows;
@@ -36,15 +36,15 @@ pub fn classic(
     nests: &[Nest],
 ) -> Result<Certificate, ClassicError>
     requires set { IsTaskSet set.now }
-    requires tasks { AreShown set.now graphs.now nests.now }
+    requires tasks { AreTaskGraphs set.now graphs.now nests.now }
     ensures exact { MatchResult result
-        (λ c. IsClassic set.now (shown_at graphs.now nests.now) c)
-        (λ e. IsClassicRefused set.now (shown_at graphs.now nests.now) e) }
+        (λ c. IsClassic set.now (task_graph_at graphs.now nests.now) c)
+        (λ e. IsClassicError set.now (task_graph_at graphs.now nests.now) e) }
     ensures few { IfOk result (λ c. entries c.tasks ≤ 4000000) }
     ensures ranges { IfOk result IsCertificate }
-    ensures judged { IfOk result (λ c. IsJudged set.now (shown_at graphs.now nests.now) c Yes) }
-    ensures one { IfOk result (λ c. (d : Certificate) → IsClassic set.now (shown_at graphs.now nests.now) d → d ≡ c) }
-    ensures best { IfOk result (λ c. HasBest set.now (shown_at graphs.now nests.now) c) }
+    ensures judged { IfOk result (λ c. IsJudged set.now (task_graph_at graphs.now nests.now) c Yes) }
+    ensures one { IfOk result (λ c. (d : Certificate) → IsClassic set.now (task_graph_at graphs.now nests.now) d → d ≡ c) }
+    ensures best { IfOk result (λ c. HasBest set.now (task_graph_at graphs.now nests.now) c) }
 {
     certificate_law();
     times_law(set);

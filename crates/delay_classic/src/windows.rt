@@ -4,10 +4,10 @@ ghost use Rattle.crpd_base.specs.declared.data.Method.TheVariants.{Ucb, Ecb};
 ghost use Rattle.crpd_base.specs.Tasks.{HasTimes, deadline_of, jitter_of};
 ghost use Rattle.delay_count.specs.Gamma.{part_at};
 ghost use Rattle.delay_count.specs.Demand.{HasLongest};
-ghost use Rattle.response.specs.Windows.{IsWindow, HasNoWindow, IsSmaller, IsAnswer, IsRefused};
+ghost use Rattle.response.specs.Windows.{IsWindow, HasNoWindow, IsSmallerWindow, AreAllChoices, IsWindowError};
 ghost use Rattle.delay_classic.specs.Demand.{classic_demand, classic_demands};
 
-use crate::charged::charged;
+use crate::charged::charged_parts;
 use crpd_base::{MOST_TASKS, Method, Part, Task, TaskSet};
 use response::{Choice, WindowError, smaller, window};
 use std::alloc::Global;
@@ -31,8 +31,8 @@ pub fn classic_windows(
     requires bounds { (k : ℕ) → k < length set.now.tasks → (part_at parts.now k).bound ≤ 2 ^ 40 }
     requires longest { HasLongest set.now longest.now }
     ensures { MatchResult result
-        (λ choices. IsAnswer set.now (classic_demands set.now (part_at parts.now) (slice_index longest.now)) choices.items)
-        (λ e. IsRefused set.now (classic_demands set.now (part_at parts.now) (slice_index longest.now)) e) }
+        (λ choices. AreAllChoices set.now (classic_demands set.now (part_at parts.now) (slice_index longest.now)) choices.items)
+        (λ e. IsWindowError set.now (classic_demands set.now (part_at parts.now) (slice_index longest.now)) e) }
 {
     let mut choices = Vec::new(alloc);
     for i in 0..set.tasks.as_slice().len() {
@@ -60,7 +60,7 @@ fn choice(set: &TaskSet, parts: &[Part], longest: &[u64], task: Task) -> Option<
     ensures { let needs = classic_demand set.now (part_at parts.now) (slice_index longest.now) task.0 in
         MatchOption result
         (HasNoWindow set.now (needs Ucb) task.0 × HasNoWindow set.now (needs Ecb) task.0)
-        (λ c. IsSmaller set.now needs task.0 c.method c.window) }
+        (λ c. IsSmallerWindow set.now needs task.0 c.method c.window) }
 {
     let ucb = classic_window(set, parts, longest, task, Method::Ucb);
     let ecb = classic_window(set, parts, longest, task, Method::Ecb);
@@ -86,6 +86,6 @@ fn classic_window(
         MatchOption result (HasNoWindow set.now needs task.0) (λ w. IsWindow set.now needs task.0 w) }
 {
     let platform = &set.platform;
-    let charged = charged(platform.miss, parts, task, method);
+    let charged = charged_parts(platform.miss, parts, task, method);
     window(set, &charged, longest, &[0; MOST_TASKS], task, method)
 }

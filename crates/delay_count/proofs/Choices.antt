@@ -6,7 +6,7 @@ use Rattle.std.proofs.lemmas.Bool.{cases_Bool, cases_eq, cases_lt, eq-eqb, ne_eq
 use Rattle.crpd_base.proofs.Sums.{sum_zero, sum_most}
 use Rattle.crpd_base.specs.Sum.{sum_below}
 use Rattle.delay_count.specs.Gamma.{greatest_choice}
-use Rattle.delay_count.specs.Filling.{IsNextValue, counted_at, counted_from, worth_from}
+use Rattle.delay_count.specs.Filling.{IsNextValue, sum_at_value, sum_from_value, worth_from}
 use Rattle.delay_count.proofs.Greatest.{to_ge, to_le}
 
 -- a greatest choice never falls as the values, the counts and the budget grow
@@ -48,7 +48,7 @@ choice_priced value count price (suc n) budget =
 
 -- what the counts bring above a price that is the greatest value below a level
 pub priced_worth : (value count : ℕ → ℕ) (level price n : ℕ) → price < level → ((k : ℕ) → k < n → value k < level → value k ≤ price)
-    → sum_below (λ k. count k * (value k - price)) n + price * counted_from value count level n ≡ worth_from value count level n
+    → sum_below (λ k. count k * (value k - price)) n + price * sum_from_value value count level n ≡ worth_from value count level n
 priced_worth value count level price zero h g = omega arith
 priced_worth value count level price (suc n) h g =
     let rest = priced_worth value count level price n h (λ k l. g k (omega arith)) in
@@ -67,28 +67,28 @@ priced_worth value count level price (suc n) h g =
 
 -- one task more, in its three cases
 at_level : (value count : ℕ → ℕ) (level next n : ℕ) → next < level → level ≤ value n
-    → (counted_from value count level (suc n) ≡ counted_from value count level n + count n) × (worth_from value count level (suc n) ≡ worth_from value count level n + count n * value n) × (counted_at value count (suc n) next ≡ counted_at value count n next)
+    → (sum_from_value value count level (suc n) ≡ sum_from_value value count level n + count n) × (worth_from value count level (suc n) ≡ worth_from value count level n + count n * value n) × (sum_at_value value count (suc n) next ≡ sum_at_value value count n next)
 at_level value count level next n h l =
     let b : nat_le level (value n) ≡ true = le-leb level (value n) l in
     let d : (value n == next) ≡ false = ne_eqb (value n) next (omega arith) in
     (rw b refl, rw b refl, rw d (omega arith))
 
 at_next : (value count : ℕ → ℕ) (level next n : ℕ) → next < level → value n ≡ next
-    → (counted_from value count level (suc n) ≡ counted_from value count level n) × (worth_from value count level (suc n) ≡ worth_from value count level n) × (counted_at value count (suc n) next ≡ counted_at value count n next + count n)
+    → (sum_from_value value count level (suc n) ≡ sum_from_value value count level n) × (worth_from value count level (suc n) ≡ worth_from value count level n) × (sum_at_value value count (suc n) next ≡ sum_at_value value count n next + count n)
 at_next value count level next n h e =
     let b : nat_le level (value n) ≡ false = lt-leb level (value n) (omega arith) in
     let d : (value n == next) ≡ true = eq-eqb (value n) next e in
     (rw b (omega arith), rw b (omega arith), rw d refl)
 
 at_none : (value count : ℕ → ℕ) (level next n : ℕ) → value n < level → value n ≢ next
-    → (counted_from value count level (suc n) ≡ counted_from value count level n) × (worth_from value count level (suc n) ≡ worth_from value count level n) × (counted_at value count (suc n) next ≡ counted_at value count n next)
+    → (sum_from_value value count level (suc n) ≡ sum_from_value value count level n) × (worth_from value count level (suc n) ≡ worth_from value count level n) × (sum_at_value value count (suc n) next ≡ sum_at_value value count n next)
 at_none value count level next n h ne =
     let b : nat_le level (value n) ≡ false = lt-leb level (value n) h in
     let d : (value n == next) ≡ false = ne_eqb (value n) next ne in
     (rw b (omega arith), rw b (omega arith), rw d (omega arith))
 
 -- the filling is a choice
-filled : (value count : ℕ → ℕ) (level next n budget r : ℕ) → next < level → r ≤ counted_at value count n next → counted_from value count level n + r ≤ budget
+filled : (value count : ℕ → ℕ) (level next n budget r : ℕ) → next < level → r ≤ sum_at_value value count n next → sum_from_value value count level n + r ≤ budget
     → worth_from value count level n + next * r ≤ greatest_choice value count n budget
 filled value count level next zero budget r h few room = let z : r ≡ 0 = omega arith in let nz : next * r ≡ next * 0 = ap (λ x. next * x) z in omega (arith, nz)
 filled value count level next (suc n) budget r h few room =
@@ -117,30 +117,30 @@ filled value count level next (suc n) budget r h few room =
 
 -- the greatest choice, where what is left goes to the next value
 pub full : (value count : ℕ → ℕ) (level next n jobs charged room : ℕ) → IsNextValue value n level next
-    → charged ≡ worth_from value count level n → counted_from value count level n + room ≡ jobs → room ≤ counted_at value count n next
+    → charged ≡ worth_from value count level n → sum_from_value value count level n + room ≡ jobs → room ≤ sum_at_value value count n next
     → charged + room * next ≡ greatest_choice value count n jobs
 full value count level next n jobs charged room is worth left few =
     let up = choice_priced value count next n jobs in
     let even = priced_worth value count level next n is.below is.greatest in
-    let all : next * (counted_from value count level n + room) ≡ next * jobs = ap (λ z. next * z) left in
+    let all : next * (sum_from_value value count level n + room) ≡ next * jobs = ap (λ z. next * z) left in
     let down = filled value count level next n jobs room is.below few (omega arith) in
     omega (arith, up, even, all, down)
 
 -- and where no value is left
 pub finished : (value count : ℕ → ℕ) (level next n jobs charged room : ℕ) → IsNextValue value n level next → next ≡ 0
-    → charged ≡ worth_from value count level n → counted_from value count level n + room ≡ jobs
+    → charged ≡ worth_from value count level n → sum_from_value value count level n + room ≡ jobs
     → charged ≡ greatest_choice value count n jobs
 finished value count level next n jobs charged room is none worth left =
     let up = choice_priced value count next n jobs in
     let even = priced_worth value count level next n is.below is.greatest in
     let zero_all : next * jobs ≡ 0 * jobs = ap (λ z. z * jobs) none in
-    let zero_from : next * counted_from value count level n ≡ 0 * counted_from value count level n = ap (λ z. z * counted_from value count level n) none in
+    let zero_from : next * sum_from_value value count level n ≡ 0 * sum_from_value value count level n = ap (λ z. z * sum_from_value value count level n) none in
     let down = filled value count level next n jobs 0 is.below (omega arith) (omega arith) in
     omega (arith, up, even, zero_all, zero_from, down)
 
 -- the next value joins those from the level on
 pub joined : (value count : ℕ → ℕ) (level next n : ℕ) → next < level → ((k : ℕ) → k < n → value k < level → value k ≤ next)
-    → (counted_from value count next n ≡ counted_from value count level n + counted_at value count n next) × (worth_from value count next n ≡ worth_from value count level n + counted_at value count n next * next)
+    → (sum_from_value value count next n ≡ sum_from_value value count level n + sum_at_value value count n next) × (worth_from value count next n ≡ worth_from value count level n + sum_at_value value count n next * next)
 joined value count level next zero h g = (refl, omega arith)
 joined value count level next (suc n) h g =
     let rest = joined value count level next n h (λ k l. g k (omega arith)) in
@@ -148,48 +148,48 @@ joined value count level next (suc n) h g =
       | inr l ↦
           let s = at_level value count level next n h l in
           let b : nat_le next (value n) ≡ true = le-leb next (value n) (omega arith) in
-          let c : counted_from value count next (suc n) ≡ counted_from value count next n + count n = rw b refl in
+          let c : sum_from_value value count next (suc n) ≡ sum_from_value value count next n + count n = rw b refl in
           let w : worth_from value count next (suc n) ≡ worth_from value count next n + count n * value n = rw b refl in
-          let m : counted_at value count (suc n) next * next ≡ counted_at value count n next * next = ap (λ z. z * next) s.2 in
+          let m : sum_at_value value count (suc n) next * next ≡ sum_at_value value count n next * next = ap (λ z. z * next) s.2 in
           (omega (arith, rest.0, s.0, s.2, c), omega (arith, rest.1, s.1, m, w))
       | inl l ↦
           elim (cases_eq (value n) next) [
             | inl e ↦
                 let s = at_next value count level next n h e in
                 let b : nat_le next (value n) ≡ true = le-leb next (value n) (omega arith) in
-                let c : counted_from value count next (suc n) ≡ counted_from value count next n + count n = rw b refl in
+                let c : sum_from_value value count next (suc n) ≡ sum_from_value value count next n + count n = rw b refl in
                 let w : worth_from value count next (suc n) ≡ worth_from value count next n + count n * value n = rw b refl in
                 let v : count n * value n ≡ count n * next = ap (λ z. count n * z) e in
-                let m : counted_at value count (suc n) next * next ≡ (counted_at value count n next + count n) * next = ap (λ z. z * next) s.2 in
+                let m : sum_at_value value count (suc n) next * next ≡ (sum_at_value value count n next + count n) * next = ap (λ z. z * next) s.2 in
                 (omega (arith, rest.0, s.0, s.2, c), omega (arith, rest.1, s.1, m, w, v))
             | inr ne ↦
                 let s = at_none value count level next n l ne in
                 let lt : value n < next = let le = g n (omega arith) l in omega arith in
                 let s' = at_none value count next next n lt ne in
-                let m : counted_at value count (suc n) next * next ≡ counted_at value count n next * next = ap (λ z. z * next) s.2 in
+                let m : sum_at_value value count (suc n) next * next ≡ sum_at_value value count n next * next = ap (λ z. z * next) s.2 in
                 (omega (arith, rest.0, s.0, s.2, s'.0), omega (arith, rest.1, s.1, m, s'.1))
           ]
     ]
 
 -- no value is at least a level above all
-pub none_from : (value count : ℕ → ℕ) (level n : ℕ) → ((k : ℕ) → k < n → value k < level) → (counted_from value count level n ≡ 0) × (worth_from value count level n ≡ 0)
+pub none_from : (value count : ℕ → ℕ) (level n : ℕ) → ((k : ℕ) → k < n → value k < level) → (sum_from_value value count level n ≡ 0) × (worth_from value count level n ≡ 0)
 none_from value count level zero h = (refl, refl)
 none_from value count level (suc n) h =
     let rest = none_from value count level n (λ k l. h k (omega arith)) in
     let s = at_none value count level level n (h n (omega arith)) (let l = h n (omega arith) in omega arith) in
     (omega (arith, rest.0, s.0), omega (arith, rest.1, s.1))
 
-pub counted_most : (value count : ℕ → ℕ) (v m n : ℕ) → ((k : ℕ) → k < n → count k ≤ m) → counted_at value count n v ≤ n * m
+pub counted_most : (value count : ℕ → ℕ) (v m n : ℕ) → ((k : ℕ) → k < n → count k ≤ m) → sum_at_value value count n v ≤ n * m
 counted_most value count v m n h =
     sum_most (λ k. if value k == v then count k else 0) m n (λ k l. elim (cases_Bool (value k == v)) [ inl b ↦ rw b (h k l) | inr b ↦ rw b (omega arith) ])
 
 -- one count more, of the value or of another
-pub counted_more : (value count : ℕ → ℕ) (n v found all : ℕ) {here : ℕ} → found ≡ counted_at value count n v → value n ≡ v → all ≡ found + here → count n ≡ here → all ≡ counted_at value count (n + 1) v
+pub counted_more : (value count : ℕ → ℕ) (n v found all : ℕ) {here : ℕ} → found ≡ sum_at_value value count n v → value n ≡ v → all ≡ found + here → count n ≡ here → all ≡ sum_at_value value count (n + 1) v
 counted_more value count n v found all before e sum is =
     let b : (value n == v) ≡ true = eq-eqb (value n) v e in
     rw (add-one n, b) (omega arith)
 
-pub counted_other : (value count : ℕ → ℕ) (n v found all : ℕ) → found ≡ counted_at value count n v → value n ≢ v → all ≡ found → all ≡ counted_at value count (n + 1) v
+pub counted_other : (value count : ℕ → ℕ) (n v found all : ℕ) → found ≡ sum_at_value value count n v → value n ≢ v → all ≡ found → all ≡ sum_at_value value count (n + 1) v
 counted_other value count n v found all before ne same =
     let b : (value n == v) ≡ false = ne_eqb (value n) v ne in
     rw (add-one n, b) (omega arith)

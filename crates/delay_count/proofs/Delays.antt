@@ -11,7 +11,7 @@ use Rattle.crpd_base.specs.declared.data.Part.{Part}
 use Rattle.crpd_base.specs.declared.data.Method.{Method}
 use Rattle.crpd_base.specs.declared.data.Method.TheVariants.{Ucb, Ecb}
 use Rattle.delay_count.specs.declared.share.Share.{Share}
-use Rattle.delay_count.specs.Counts.{jobs_of, affected}
+use Rattle.delay_count.specs.Counts.{jobs_of, affected_preemptions}
 use Rattle.delay_count.specs.Gamma.{union_count, shared_count, greatest_choice, set_share, count_at, useful_at, ucb_delay, ecb_delay, shared_sets, evicted_from}
 use Rattle.delay_count.specs.Demand.{gamma}
 use Rattle.delay_count.specs.Rates.{gamma_by}
@@ -78,14 +78,14 @@ module _ (parts : ℕ → Part) (i j : ℕ) (shares : List (Share 8)) (size : le
       ∙ ap (λ z. miss * z) same
 
 -- the delay of a window is one by counts of jobs
-pub gamma_from : (set : TaskSet) (parts : ℕ → Part) (window count : ℕ → ℕ) (w i j jobs : ℕ) (method : Method) → jobs ≡ jobs_of set j w → ((k : ℕ) → k ≤ i → count k ≡ affected set window w i j k)
+pub gamma_from : (set : TaskSet) (parts : ℕ → Part) (window count : ℕ → ℕ) (w i j jobs : ℕ) (method : Method) → jobs ≡ jobs_of set j w → ((k : ℕ) → k ≤ i → count k ≡ affected_preemptions set window w i j k)
     → gamma_by method set.platform.miss parts count jobs i j ≡ gamma set parts window w method i j
 gamma_from set parts window count w i j jobs Ucb e same =
     ap (λ z. set.platform.miss * union_count z (has (parts j).evicting) (λ k. has (parts k).useful) count (suc i) 512) e
-    ∙ ap (λ z. set.platform.miss * z) (union_same (jobs_of set j w) (has (parts j).evicting) (λ k. has (parts k).useful) (λ k. has (parts k).useful) count (affected set window w i j) (suc i) 512 (λ k c h. refl) (λ k h. same k (omega arith)))
+    ∙ ap (λ z. set.platform.miss * z) (union_same (jobs_of set j w) (has (parts j).evicting) (λ k. has (parts k).useful) (λ k. has (parts k).useful) count (affected_preemptions set window w i j) (suc i) 512 (λ k c h. refl) (λ k h. same k (omega arith)))
 gamma_from set parts window count w i j jobs Ecb e same =
     ap (λ z. set.platform.miss * greatest_choice (shared_sets parts j) count (suc i) z) e
-    ∙ ap (λ z. set.platform.miss * z) (counts_same (shared_sets parts j) count (affected set window w i j) (suc i) (jobs_of set j w) (λ k h. same k (omega arith)))
+    ∙ ap (λ z. set.platform.miss * z) (counts_same (shared_sets parts j) count (affected_preemptions set window w i j) (suc i) (jobs_of set j w) (λ k h. same k (omega arith)))
 
 -- neither delay is out of range
 pub ucb_fits : (miss jobs result : ℕ) (evicting : List ℕ) (lower : List (Share 8)) → miss < 2 ^ 32 → jobs < 2 ^ 64 → result ≡ ucb_delay miss jobs evicting lower 512 → result ≤ 2 ^ 112

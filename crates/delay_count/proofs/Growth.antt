@@ -13,7 +13,7 @@ use Rattle.crpd_base.specs.declared.data.Switching.{Switching}
 use Rattle.crpd_base.specs.Sets.{has}
 use Rattle.crpd_base.specs.Sum.{sum_below}
 use Rattle.crpd_base.specs.Tasks.{period_of, jitter_of, HasTimes}
-use Rattle.delay_count.specs.Counts.{jobs_in, jobs_of, affected}
+use Rattle.delay_count.specs.Counts.{jobs_in, jobs_of, affected_preemptions}
 use Rattle.delay_count.specs.Gamma.{set_share, union_count, ucb_count, ecb_count, evicted_from, shared_sets}
 use Rattle.delay_count.specs.Demand.{blocking, gamma, demand}
 use Rattle.delay_count.specs.Laws.{Load, IsCostlier, DelayGrows, DemandGrows}
@@ -54,7 +54,7 @@ module _ (a b : Load) (i w longer : ℕ) (times : HasTimes a.set) (is : i < leng
   jobs_le : (j x y : ℕ) → j < length a.set.tasks → x ≤ y → jobs_of a.set j x ≤ jobs_of b.set j y
   jobs_le j x y h l = omega (arith, jobs_same j y, jobs_grow (period_of a.set j) (jitter_of a.set j) x y (times.period j h) l)
 
-  affected_le : (j k : ℕ) → j < i → k ≤ i → affected a.set a.window w i j k ≤ affected b.set b.window longer i j k
+  affected_le : (j k : ℕ) → j < i → k ≤ i → affected_preemptions a.set a.window w i j k ≤ affected_preemptions b.set b.window longer i j k
   affected_le j k h l =
       elim (cases_Bool (nat_lt j k)) [
         | inr t ↦ rw t (omega arith)
@@ -71,7 +71,7 @@ module _ (a b : Load) (i w longer : ℕ) (times : HasTimes a.set) (is : i < leng
   ucb_le : (j : ℕ) → j < i → ucb_count a.set a.parts a.window w i j ≤ ucb_count b.set b.parts b.window longer i j
   ucb_le j h =
       union_le (jobs_of a.set j w) (jobs_of b.set j longer) (has (a.parts j).evicting) (has (b.parts j).evicting) (λ k. has (a.parts k).useful) (λ k. has (b.parts k).useful)
-      (affected a.set a.window w i j) (affected b.set b.window longer i j) (suc i) 512
+      (affected_preemptions a.set a.window w i j) (affected_preemptions b.set b.window longer i j) (suc i) 512
       (jobs_le j w longer (omega arith) less)
       (λ c. ap (λ z. has z c) (sym (costlier.evicting j (omega arith))))
       (λ k c l. ap (λ z. has z c) (sym (costlier.useful k (omega arith))))
@@ -79,7 +79,7 @@ module _ (a b : Load) (i w longer : ℕ) (times : HasTimes a.set) (is : i < leng
 
   ecb_le : (j : ℕ) → j < i → ecb_count a.set a.parts a.window w i j ≤ ecb_count b.set b.parts b.window longer i j
   ecb_le j h =
-      choice_le (shared_sets a.parts j) (shared_sets b.parts j) (affected a.set a.window w i j) (affected b.set b.window longer i j) (suc i) (jobs_of a.set j w) (jobs_of b.set j longer)
+      choice_le (shared_sets a.parts j) (shared_sets b.parts j) (affected_preemptions a.set a.window w i j) (affected_preemptions b.set b.window longer i j) (suc i) (jobs_of a.set j w) (jobs_of b.set j longer)
       (λ k l.
       let same : shared_sets a.parts j k ≡ shared_sets b.parts j k =
       shared_same (has (a.parts k).useful) (has (b.parts k).useful) (evicted_from a.parts j) (evicted_from b.parts j) 512

@@ -10,9 +10,9 @@ use Rattle.crpd_base.specs.declared.data.Method.TheVariants.{Ucb, Ecb}
 use Rattle.crpd_base.specs.Sets.{has}
 use Rattle.crpd_base.specs.Sum.{sum_below}
 use Rattle.crpd_base.specs.Tasks.{period_of, jitter_of, HasTimes}
-use Rattle.delay_count.specs.Counts.{jobs_in, jobs_of, affected}
+use Rattle.delay_count.specs.Counts.{jobs_in, jobs_of, affected_preemptions}
 use Rattle.delay_count.specs.Gamma.{set_share, union_count, greatest_choice, shared_sets, evicted_from}
-use Rattle.delay_count.specs.Filling.{IsNextValue, counted_at, counted_from, worth_from}
+use Rattle.delay_count.specs.Filling.{IsNextValue, sum_at_value, sum_from_value, worth_from}
 use Rattle.delay_count.specs.Demand.{gamma}
 use Rattle.delay_count.specs.Rates.{gamma_by, release_rate, affected_rate}
 use Rattle.delay_count.proofs.Bits.{shared_most}
@@ -60,27 +60,27 @@ union_scaled jobs jobs' evicts useful count count' n sets w one j c =
 abbrev at_price : (ℕ → ℕ) → (ℕ → ℕ) → ℕ → ℕ → ℕ → ℕ
 at_price value count price n budget = price * budget + sum_below (λ k. count k * (value k - price)) n
 
-filled_at : (value count : ℕ → ℕ) (n budget next : ℕ) → counted_from value count (suc next) n ≤ budget → budget ≤ counted_from value count (suc next) n + counted_at value count n next
+filled_at : (value count : ℕ → ℕ) (n budget next : ℕ) → sum_from_value value count (suc next) n ≤ budget → budget ≤ sum_from_value value count (suc next) n + sum_at_value value count n next
     → at_price value count next n budget ≤ greatest_choice value count n budget
 filled_at value count n budget next room few =
     let is : IsNextValue value n (suc next) next = record { below = omega arith; greatest = λ k h l. omega arith } in
-    let all = full value count (suc next) next n budget (worth_from value count (suc next) n) (budget - counted_from value count (suc next) n) is refl (omega arith) (omega arith) in
+    let all = full value count (suc next) next n budget (worth_from value count (suc next) n) (budget - sum_from_value value count (suc next) n) is refl (omega arith) (omega arith) in
     let even = priced_worth value count (suc next) next n is.below is.greatest in
-    let parts : next * (counted_from value count (suc next) n + (budget - counted_from value count (suc next) n)) ≡ next * budget = ap (λ z. next * z) (omega arith) in
+    let parts : next * (sum_from_value value count (suc next) n + (budget - sum_from_value value count (suc next) n)) ≡ next * budget = ap (λ z. next * z) (omega arith) in
     omega (arith, all, even, parts)
 
-finished_at : (value count : ℕ → ℕ) (n budget : ℕ) → counted_from value count 1 n ≤ budget → at_price value count 0 n budget ≤ greatest_choice value count n budget
+finished_at : (value count : ℕ → ℕ) (n budget : ℕ) → sum_from_value value count 1 n ≤ budget → at_price value count 0 n budget ≤ greatest_choice value count n budget
 finished_at value count n budget room =
     let is : IsNextValue value n 1 0 = record { below = omega arith; greatest = λ k h l. omega arith } in
-    let all = finished value count 1 0 n budget (worth_from value count 1 n) (budget - counted_from value count 1 n) is refl refl (omega arith) in
+    let all = finished value count 1 0 n budget (worth_from value count 1 n) (budget - sum_from_value value count 1 n) is refl refl (omega arith) in
     let even = priced_worth value count 1 0 n is.below is.greatest in
     omega (arith, all, even)
 
-priced_below : (value count : ℕ → ℕ) (n budget next : ℕ) → counted_from value count (suc next) n ≤ budget → (price : ℕ) × (at_price value count price n budget ≤ greatest_choice value count n budget)
+priced_below : (value count : ℕ → ℕ) (n budget next : ℕ) → sum_from_value value count (suc next) n ≤ budget → (price : ℕ) × (at_price value count price n budget ≤ greatest_choice value count n budget)
 priced_below value count n budget zero room = (0, finished_at value count n budget room)
 priced_below value count n budget (suc next) room =
     let more = (joined value count (suc (suc next)) (suc next) n (omega arith) (λ k h l. omega arith)).0 in
-    elim (cases_lt (counted_from value count (suc next) n) budget) [
+    elim (cases_lt (sum_from_value value count (suc next) n) budget) [
       | inr l ↦ (suc next, filled_at value count n budget (suc next) room (omega (arith, more, l)))
       | inl l ↦ priced_below value count n budget next (omega arith)
     ]
@@ -118,7 +118,7 @@ gamma_scaled Ecb miss parts count count' jobs jobs' i j w one h c =
 release_low : (set : TaskSet) (k w : ℕ) → 1 ≤ period_of set k → release_rate set k * w ≤ jobs_of set k w * 2 ^ 63
 release_low set k w some = omega (arith, released set k 1 (2 ^ 63) (release_rate set k) w some refl)
 
-affected_low : (set : TaskSet) (window : ℕ → ℕ) (w i j k : ℕ) → HasTimes set → i < length set.tasks → j < i → k ≤ i → affected_rate set window i j k * w ≤ affected set window w i j k * 2 ^ 63
+affected_low : (set : TaskSet) (window : ℕ → ℕ) (w i j k : ℕ) → HasTimes set → i < length set.tasks → j < i → k ≤ i → affected_rate set window i j k * w ≤ affected_preemptions set window w i j k * 2 ^ 63
 affected_low set window w i j k times is l lk =
     elim (cases_Bool (nat_lt j k)) [
       | inr t ↦ rw t (omega arith)
@@ -139,13 +139,13 @@ pub delay_low : (set : TaskSet) (parts : ℕ → Part) (window count : ℕ → �
     → delay ≡ gamma_by method set.platform.miss parts count jobs i j → jobs ≡ release_rate set j → ((k : ℕ) → k ≤ i → count k ≡ affected_rate set window i j k)
     → (w : ℕ) → delay * w ≤ gamma set parts window w method i j * 2 ^ 63
 delay_low set parts window count i j jobs delay method times is l d e same w =
-    let all = gamma_scaled method set.platform.miss parts count (affected set window w i j) jobs (jobs_of set j w) i j w (2 ^ 63)
+    let all = gamma_scaled method set.platform.miss parts count (affected_preemptions set window w i j) jobs (jobs_of set j w) i j w (2 ^ 63)
     (let r = release_low set j w (times.period j (omega arith)) in subst (λ (x : ℕ). x * w ≤ jobs_of set j w * 2 ^ 63) (sym e) r)
-    (λ k h. let r = affected_low set window w i j k times is l h in subst (λ (x : ℕ). x * w ≤ affected set window w i j k * 2 ^ 63) (sym (same k h)) r) in
-    let g : gamma_by method set.platform.miss parts (affected set window w i j) (jobs_of set j w) i j ≡ gamma set parts window w method i j = by_method method in
+    (λ k h. let r = affected_low set window w i j k times is l h in subst (λ (x : ℕ). x * w ≤ affected_preemptions set window w i j k * 2 ^ 63) (sym (same k h)) r) in
+    let g : gamma_by method set.platform.miss parts (affected_preemptions set window w i j) (jobs_of set j w) i j ≡ gamma set parts window w method i j = by_method method in
     let dw : delay * w ≡ gamma_by method set.platform.miss parts count jobs i j * w = ap (λ z. z * w) d in
     omega (arith, all, g, dw)
   where
-    by_method : (method : Method) → gamma_by method set.platform.miss parts (affected set window w i j) (jobs_of set j w) i j ≡ gamma set parts window w method i j
+    by_method : (method : Method) → gamma_by method set.platform.miss parts (affected_preemptions set window w i j) (jobs_of set j w) i j ≡ gamma set parts window w method i j
     by_method Ucb = refl
     by_method Ecb = refl

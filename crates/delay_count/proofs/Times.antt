@@ -5,7 +5,7 @@ use Rattle.std.proofs.lemmas.Nat.{mul-le}
 use Rattle.std.proofs.lemmas.Bool.{cases_eq, cases_lt, eq-eqb, ne_eqb, lt-ltb, le-ltb}
 use Rattle.crpd_base.specs.declared.data.TaskSet.{TaskSet}
 use Rattle.crpd_base.specs.Tasks.{period_of, jitter_of, HasTimes}
-use Rattle.delay_count.specs.Counts.{jobs_in, jobs_of, affected, HasWindows}
+use Rattle.delay_count.specs.Counts.{jobs_in, jobs_of, affected_preemptions, HasWindows}
 
 -- at most one job more than cycles
 pub jobs_few : (period jitter window : ℕ) → 1 ≤ period → jitter ≤ period → jobs_in period jitter window ≤ window + 1
@@ -34,17 +34,17 @@ jobs_of_few set windows i j w times has h l =
     jobs_few (period_of set j) (jitter_of set j) w (times.period j (omega arith))
     (omega (arith, has.in_deadline j l, times.deadline j (omega arith)))
 
-pub not_affected : (set : TaskSet) (window : ℕ → ℕ) (w i j k : ℕ) → k ≤ j → 0 ≡ affected set window w i j k
+pub not_affected : (set : TaskSet) (window : ℕ → ℕ) (w i j k : ℕ) → k ≤ j → 0 ≡ affected_preemptions set window w i j k
 not_affected set window w i j k h = let b : nat_lt j k ≡ false = le-ltb j k h in rw b refl
 
-pub affected_self : (set : TaskSet) (window : ℕ → ℕ) (w i j k : ℕ) → j < k → k ≡ i → affected set window w i j k ≡ jobs_of set j w
+pub affected_self : (set : TaskSet) (window : ℕ → ℕ) (w i j k : ℕ) → j < k → k ≡ i → affected_preemptions set window w i j k ≡ jobs_of set j w
 affected_self set window w i j k h e = rw (lt-ltb j k h, eq-eqb k i e) refl
 
-pub affected_other : (set : TaskSet) (window : ℕ → ℕ) (w i j k : ℕ) → j < k → k ≢ i → affected set window w i j k ≡ jobs_of set j (window k) * jobs_of set k w
+pub affected_other : (set : TaskSet) (window : ℕ → ℕ) (w i j k : ℕ) → j < k → k ≢ i → affected_preemptions set window w i j k ≡ jobs_of set j (window k) * jobs_of set k w
 affected_other set window w i j k h ne = rw (lt-ltb j k h, ne_eqb k i ne) refl
 
 pub affected_few : (set : TaskSet) (windows : List ℕ) (w i j k : ℕ) → HasTimes set → HasWindows set windows i → i < length set.tasks → j < i → k ≤ i → w ≤ 2 ^ 40
-    → affected set (slice_index windows) w i j k < 2 ^ 81
+    → affected_preemptions set (slice_index windows) w i j k < 2 ^ 81
 affected_few set windows w i j k times has h l lk room =
     elim (cases_lt j k) [
       | inr le ↦ omega (arith, not_affected set (slice_index windows) w i j k le)

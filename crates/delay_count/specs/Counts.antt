@@ -16,8 +16,8 @@ abbrev pub preemptions : TaskSet → (ℕ → ℕ) → ℕ → ℕ → ℕ → �
 preemptions set window w i j k = if k == i then jobs_of set j w else jobs_of set j (window k) * jobs_of set k w
 
 -- the same of the tasks that j can affect in a window of i: below j's priority, and at least i's
-abbrev pub affected : TaskSet → (ℕ → ℕ) → ℕ → ℕ → ℕ → ℕ → ℕ
-affected set window w i j k = if nat_lt j k then preemptions set window w i j k else 0
+abbrev pub affected_preemptions : TaskSet → (ℕ → ℕ) → ℕ → ℕ → ℕ → ℕ → ℕ
+affected_preemptions set window w i j k = if nat_lt j k then preemptions set window w i j k else 0
 
 -- a window of each task above task i, in its deadline with its jitter
 pub record HasWindows (set : TaskSet) (windows : List ℕ) (i : ℕ) : Type 0 where

@@ -8,12 +8,12 @@ pub record IsNextValue (value : ℕ → ℕ) (tasks level next : ℕ) : Type 0 w
   pub greatest : (k : ℕ) → k < tasks → value k < level → value k ≤ next
 
 -- the counts of the first tasks that have a value
-abbrev pub counted_at : (ℕ → ℕ) → (ℕ → ℕ) → ℕ → ℕ → ℕ
-counted_at value count tasks v = sum_below (λ k. if value k == v then count k else 0) tasks
+abbrev pub sum_at_value : (ℕ → ℕ) → (ℕ → ℕ) → ℕ → ℕ → ℕ
+sum_at_value value count tasks v = sum_below (λ k. if value k == v then count k else 0) tasks
 
 -- the counts of the first tasks that have at least a value, and what they bring
-abbrev pub counted_from : (ℕ → ℕ) → (ℕ → ℕ) → ℕ → ℕ → ℕ
-counted_from value count level tasks = sum_below (λ k. if nat_le level (value k) then count k else 0) tasks
+abbrev pub sum_from_value : (ℕ → ℕ) → (ℕ → ℕ) → ℕ → ℕ → ℕ
+sum_from_value value count level tasks = sum_below (λ k. if nat_le level (value k) then count k else 0) tasks
 
 abbrev pub worth_from : (ℕ → ℕ) → (ℕ → ℕ) → ℕ → ℕ → ℕ
 worth_from value count level tasks = sum_below (λ k. if nat_le level (value k) then count k * value k else 0) tasks

@@ -5,7 +5,7 @@ use Rattle.crpd_base.specs.declared.data.TaskSet.{TaskSet}
 use Rattle.crpd_base.specs.Sets.{has}
 use Rattle.crpd_base.specs.Sum.{sum_below}
 use Rattle.delay_count.specs.declared.share.Share.{Share}
-use Rattle.delay_count.specs.Counts.{jobs_of, affected}
+use Rattle.delay_count.specs.Counts.{jobs_of, affected_preemptions}
 
 -- of one cache set: the smaller of the jobs and of the preemptions of those of some tasks that find the set useful
 abbrev pub set_share : ℕ → (ℕ → ℕ → Bool) → (ℕ → ℕ) → ℕ → ℕ → ℕ
@@ -55,7 +55,7 @@ part_at parts k = slice_index_or parts k (record { bound = 0; evicting = []; use
 -- the UCB-union multiset count of task j in a window w of task i
 abbrev pub ucb_count : TaskSet → (ℕ → Part) → (ℕ → ℕ) → ℕ → ℕ → ℕ → ℕ
 ucb_count set parts window w i j =
-    union_count (jobs_of set j w) (has (parts j).evicting) (λ k. has (parts k).useful) (affected set window w i j) (suc i) 512
+    union_count (jobs_of set j w) (has (parts j).evicting) (λ k. has (parts k).useful) (affected_preemptions set window w i j) (suc i) 512
 
 abbrev pub gamma_ucb : TaskSet → (ℕ → Part) → (ℕ → ℕ) → ℕ → ℕ → ℕ → ℕ
 gamma_ucb set parts window w i j = set.platform.miss * ucb_count set parts window w i j
@@ -72,7 +72,7 @@ shared_sets parts j k = shared_count (has (parts k).useful) (evicted_from parts 
 -- the ECB-union multiset count of task j in a window w of task i: of its jobs that preempt each affected task, at most that
 -- task's preemptions, and in all its jobs in the window, each evicting the shared sets of that task
 abbrev pub ecb_count : TaskSet → (ℕ → Part) → (ℕ → ℕ) → ℕ → ℕ → ℕ → ℕ
-ecb_count set parts window w i j = greatest_choice (shared_sets parts j) (affected set window w i j) (suc i) (jobs_of set j w)
+ecb_count set parts window w i j = greatest_choice (shared_sets parts j) (affected_preemptions set window w i j) (suc i) (jobs_of set j w)
 
 abbrev pub gamma_ecb : TaskSet → (ℕ → Part) → (ℕ → ℕ) → ℕ → ℕ → ℕ → ℕ
 gamma_ecb set parts window w i j = set.platform.miss * ecb_count set parts window w i j

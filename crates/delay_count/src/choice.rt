@@ -2,7 +2,7 @@
 ghost use Rattle.std.specs.Prelude.{◌≡◌, ℕ, ◌+◌, ◌*◌, ◌^◌, ◌<◌, ◌≤◌, ◌↔◌, length, slice_index};
 ghost use Rattle.crpd_base.specs.Sets.{has};
 ghost use Rattle.delay_count.specs.Gamma.{count_at, useful_at, shared_count, ecb_delay};
-ghost use Rattle.delay_count.specs.Filling.{IsNextValue, counted_at};
+ghost use Rattle.delay_count.specs.Filling.{IsNextValue, sum_at_value};
 
 use crate::share::Share;
 use crpd_base::{MOST_TASKS, SetBits};
@@ -85,7 +85,7 @@ fn count_of_value<const W: usize>(values: &[u32], lower: &[Share<W>], value: u32
     requires values { length lower.now ≤ length values.now }
     requires shares { length lower.now ≤ 32 }
     requires counts { (k : ℕ) → k < length lower.now → count_at lower.now k < 2 ^ 81 }
-    ensures { result ≡ counted_at (slice_index values.now) (count_at lower.now) (length lower.now) value }
+    ensures { result ≡ sum_at_value (slice_index values.now) (count_at lower.now) (length lower.now) value }
 {
     let mut count = 0;
     for k in 0..lower.len() {

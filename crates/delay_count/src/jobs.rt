@@ -2,7 +2,7 @@
 ghost use Rattle.std.specs.Prelude.{◌≡◌, ℕ, suc, ◌+◌, ◌*◌, ◌^◌, ◌<◌, ◌≤◌, length, slice_index};
 ghost use Rattle.crpd_base.specs.Sets.{has};
 ghost use Rattle.crpd_base.specs.Tasks.{HasTimes};
-ghost use Rattle.delay_count.specs.Counts.{jobs_of, affected, HasWindows};
+ghost use Rattle.delay_count.specs.Counts.{jobs_of, affected_preemptions, HasWindows};
 ghost use Rattle.delay_count.specs.Gamma.{count_at, useful_at, part_at};
 
 use crate::share::Share;
@@ -38,7 +38,7 @@ pub fn affected_shares(
     requires windows { HasWindows set.now windows.now i }
     requires window { window ≤ 2 ^ 40 }
     ensures size { length result ≡ 32 }
-    ensures counts { (k : ℕ) → k ≤ i → count_at result k ≡ affected set.now (slice_index windows.now) window i j k }
+    ensures counts { (k : ℕ) → k ≤ i → count_at result k ≡ affected_preemptions set.now (slice_index windows.now) window i j k }
     ensures useful { (k c : ℕ) → k ≤ i → useful_at result k c ≡ has (part_at parts.now k).useful c }
 {
     let none = Share {
@@ -64,7 +64,7 @@ fn preemptions(set: &TaskSet, windows: &[u64], i: usize, j: usize, k: usize, win
     requires k { k ≤ i }
     requires windows { HasWindows set.now windows.now i }
     requires window { window ≤ 2 ^ 40 }
-    ensures { result ≡ affected set.now (slice_index windows.now) window i j k }
+    ensures { result ≡ affected_preemptions set.now (slice_index windows.now) window i j k }
 {
     if k <= j {
         return 0;

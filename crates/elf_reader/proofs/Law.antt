@@ -18,7 +18,7 @@ use Rattle.elf_reader.specs.Fields.{e_entry}
 use Rattle.crpd_base.specs.Images.{AreDisjoint, IsImage}
 use Rattle.crpd_base.specs.Outcome.{ensure, nowhere, Gives}
 use Rattle.elf_reader.specs.Reading.{file_header, program_headers, reading}
-use Rattle.elf_reader.specs.Segments.{end_of, first_shared, is_code, is_dynamic, is_loaded, is_outside, segment, segments, shares}
+use Rattle.elf_reader.specs.Segments.{header_end, first_shared, is_code, is_dynamic, is_loaded, is_outside, segment, segments, shares}
 use Rattle.elf_reader.specs.Symbols.{symbols}
 use Rattle.elf_reader.proofs.Tables.{passes_nowhere}
 
@@ -67,8 +67,8 @@ range_short file start len = rw (length-take (start + len - start) (drop start f
 
 apart : (file : List ℕ) (h other : ProgramHeader) → is_loaded h ≡ true → is_loaded other ≡ true → shares h other ≡ false → AreDisjoint (segment file other) (segment file h)
 apart file h other loaded too none a in_other in_h =
-    let test : ltb (max h.p_vaddr other.p_vaddr) (min (end_of h) (end_of other)) ≡ false = rw (loaded, too) at none in
-    let le : min (end_of h) (end_of other) ≤ max h.p_vaddr other.p_vaddr = ltb-false (max h.p_vaddr other.p_vaddr) (min (end_of h) (end_of other)) test in
+    let test : ltb (max h.p_vaddr other.p_vaddr) (min (header_end h) (header_end other)) ≡ false = rw (loaded, too) at none in
+    let le : min (header_end h) (header_end other) ≤ max h.p_vaddr other.p_vaddr = ltb-false (max h.p_vaddr other.p_vaddr) (min (header_end h) (header_end other)) test in
     omega (arith, in_other.0, in_other.1, in_h.0, in_h.1)
 
 apart_all : (file : List ℕ) (h : ProgramHeader) → is_loaded h ≡ true → (earlier : List ProgramHeader) → list_any (shares h) earlier ≡ false

@@ -8,23 +8,23 @@ use Rattle.std.proofs.lemmas.List.{drop_all, take_more, take-append-le, drop-app
 use Rattle.std.proofs.lemmas.List.Folds.{position_or_len_push}
 use Rattle.std.proofs.lemmas.List.Quantifiers.{position-Some}
 use Rattle.elf_reader.specs.declared.entries.SymbolEntry.{SymbolEntry}
-use Rattle.elf_reader.specs.Symbols.{is_zero, symbol, text}
+use Rattle.elf_reader.specs.Symbols.{is_zero, symbol, symbol_text}
 
 -- past the end there is no text
-pub text_past : (bytes : List ℕ) (place : ℕ) → length bytes ≤ place → text (drop place bytes) ≡ None
-unfolding text
+pub text_past : (bytes : List ℕ) (place : ℕ) → length bytes ≤ place → symbol_text (drop place bytes) ≡ None
+unfolding symbol_text
 text_past bytes place h = rw (drop_all place bytes h) refl
 
 pub position_push : {X : Type 0} (p : X → Bool) (xs : List X) (x : X) → p x ≡ false → position p (xs ++ x ∷ []) ≡ position p xs
 position_push p xs x h = rw (position_or_len_push p xs x, h) (grind (arith, common_steps, nat_tests))
 
-pub text_push : (bytes : List ℕ) (b : ℕ) → is_zero b ≡ false → text (bytes ++ b ∷ []) ≡ text bytes
-unfolding text
+pub text_push : (bytes : List ℕ) (b : ℕ) → is_zero b ≡ false → symbol_text (bytes ++ b ∷ []) ≡ symbol_text bytes
+unfolding symbol_text
 text_push bytes b h = rw (position_push is_zero bytes b h) (elim (position is_zero bytes) as (λ o. position is_zero bytes ≡ o → option_and_then (λ n. if n == 0 then None else Some (take n (bytes ++ b ∷ []))) o ≡ option_and_then (λ n. if n == 0 then None else Some (take n bytes)) o) [ None ↦ λ _. refl | Some n ↦ λ e. let lt = (position-Some is_zero bytes n 0 e).0 in ap (λ t. if n == 0 then None else Some t) (take-append-le n bytes (b ∷ []) (omega (arith, lt))) ] refl)
 
 -- a last byte that is not zero changes no text
 pub text_shorter : (bytes : List ℕ) (end : ℕ) → 0 < end → end ≤ length bytes → is_zero (get_or bytes (end - 1) 0) ≡ false
-    → (place : ℕ) → text (drop place (take (end - 1) bytes)) ≡ text (drop place (take end bytes))
+    → (place : ℕ) → symbol_text (drop place (take (end - 1) bytes)) ≡ symbol_text (drop place (take end bytes))
 text_shorter bytes end some within last place =
     let front : List ℕ = take (end - 1) bytes in
     let is : take end bytes ≡ front ++ get_or bytes (end - 1) 0 ∷ [] = subst (λ n. take n bytes ≡ front ++ get_or bytes (end - 1) 0 ∷ []) (omega arith) (take_more bytes (end - 1) 0 (omega arith)) in
@@ -35,10 +35,10 @@ text_shorter bytes end some within last place =
     (cases_lt (end - 1) place))
 
 -- the symbols of an entry by two string sections with the same texts
-same_symbol : (a b : List ℕ) → ((place : ℕ) → text (drop place a) ≡ text (drop place b)) → (entry : SymbolEntry) → symbol a entry ≡ symbol b entry
+same_symbol : (a b : List ℕ) → ((place : ℕ) → symbol_text (drop place a) ≡ symbol_text (drop place b)) → (entry : SymbolEntry) → symbol a entry ≡ symbol b entry
 unfolding symbol
 same_symbol a b same entry = rw (same entry.st_name) refl
 
-pub same_symbols : (a b : List ℕ) → ((place : ℕ) → text (drop place a) ≡ text (drop place b)) → (entries : List SymbolEntry) → filter_map (symbol a) entries ≡ filter_map (symbol b) entries
+pub same_symbols : (a b : List ℕ) → ((place : ℕ) → symbol_text (drop place a) ≡ symbol_text (drop place b)) → (entries : List SymbolEntry) → filter_map (symbol a) entries ≡ filter_map (symbol b) entries
 same_symbols a b same [] = refl
 same_symbols a b same (entry ∷ entries) = rw (same_symbol a b same entry, same_symbols a b same entries) refl

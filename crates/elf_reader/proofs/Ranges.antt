@@ -12,7 +12,7 @@ use Rattle.std.proofs.lemmas.Bool.{eq-eqb, ne_eqb, cases_Bool, cases_lt, or_part
 use Rattle.std.proofs.lemmas.Bool.Decides.{nat_tests}
 use Rattle.crpd_base.proofs.Bools.{or_false}
 use Rattle.elf_reader.specs.declared.entries.ProgramHeader.{ProgramHeader}
-use Rattle.elf_reader.specs.Segments.{AreApart, end_of, is_loaded, meets, occupies}
+use Rattle.elf_reader.specs.Segments.{AreDisjointRanges, header_end, is_loaded, meets, occupies}
 
 -- a range that starts before the end
 abbrev pub starts_before : ℕ → ℕ × ℕ → Bool
@@ -38,7 +38,7 @@ pub last_has : {X : Type 0} (P : X → Type 0) (xs : List X) (x : X) → AllByRe
 last_has P [] x h = h.0
 last_has P (y ∷ xs) x h = last_has P xs x h.1
 
-pub all_some : (rs : List (ℕ × ℕ)) → AreApart rs → AllByRecursion (λ r. r.0 < r.1) rs
+pub all_some : (rs : List (ℕ × ℕ)) → AreDisjointRanges rs → AllByRecursion (λ r. r.0 < r.1) rs
 all_some [] h = tt
 all_some (r ∷ rs) h = (h.0, all_some rs h.2)
 
@@ -55,7 +55,7 @@ absorbed from to r last le = ⊎_elim
     (cases_lt from r.1)
 
 -- that step where the first range starts before the end: it is the last one, or the last one ends later
-last_met_here : (from to : ℕ) → from < to → (r : ℕ × ℕ) (rs front : List (ℕ × ℕ)) (last : ℕ × ℕ) → AreApart (r ∷ rs) → r.0 < to → (r ∷ filter (starts_before to) rs) ≡ front ++ last ∷ []
+last_met_here : (from to : ℕ) → from < to → (r : ℕ × ℕ) (rs front : List (ℕ × ℕ)) (last : ℕ × ℕ) → AreDisjointRanges (r ∷ rs) → r.0 < to → (r ∷ filter (starts_before to) rs) ≡ front ++ last ∷ []
     → ((more : List (ℕ × ℕ)) → filter (starts_before to) rs ≡ more ++ last ∷ [] → list_any (meets from to) rs ≡ ltb from last.1)
     → list_any (meets from to) (r ∷ rs) ≡ ltb from last.1
 last_met_here from to some r rs [] last apart lt e step =
@@ -70,7 +70,7 @@ last_met_here from to some r rs (f ∷ front) last apart lt e step =
     rw (step front rest) (absorbed from to r last (omega arith))
 
 -- the last range that starts before the end is met if any is
-pub last_met : (from to : ℕ) → from < to → (rs front : List (ℕ × ℕ)) (last : ℕ × ℕ) → AreApart rs → filter (starts_before to) rs ≡ front ++ last ∷ []
+pub last_met : (from to : ℕ) → from < to → (rs front : List (ℕ × ℕ)) (last : ℕ × ℕ) → AreDisjointRanges rs → filter (starts_before to) rs ≡ front ++ last ∷ []
     → list_any (meets from to) rs ≡ ltb from last.1
 last_met from to some [] [] last apart e = absurd cc
 last_met from to some [] (f ∷ front) last apart e = absurd cc
@@ -125,7 +125,7 @@ all_later a from to (r ∷ rs) h le =
     elim (nat_cmp from r.0) as (λ o. AllByRecursion (λ s. a ≤ s.0) (match_ordering o ((from, to) ∷ r ∷ rs) ((r.0, to) ∷ rs) (r ∷ insert_entry nat_cmp rs from to)))
     [ Less ↦ (le, (h.0, h.1)) | Equal ↦ (h.0, h.1) | Greater ↦ (h.0, all_later a from to rs h.1 le) ]
 
-pub insert_apart : (from to : ℕ) → from < to → (rs : List (ℕ × ℕ)) → AreApart rs → list_any (meets from to) rs ≡ false → AreApart (insert_entry nat_cmp rs from to)
+pub insert_apart : (from to : ℕ) → from < to → (rs : List (ℕ × ℕ)) → AreDisjointRanges rs → list_any (meets from to) rs ≡ false → AreDisjointRanges (insert_entry nat_cmp rs from to)
 insert_apart from to some [] apart m = (some, tt, tt)
 insert_apart from to some (r ∷ rs) apart m =
     let parts = or_parts (meets from to r) (list_any (meets from to) rs) m in
@@ -134,7 +134,7 @@ insert_apart from to some (r ∷ rs) apart m =
     (λ (h : r.1 ≤ from). let long : r.0 < r.1 = apart.0 in rw (insert_after from to r rs (omega arith)) (apart.0, all_later r.1 from to rs apart.1 h, insert_apart from to some rs apart.2 parts.1))
     (apart_cases from to r some apart.0 parts.0)
 
-pub insert_any : (a b from to : ℕ) → from < to → (rs : List (ℕ × ℕ)) → AreApart rs → list_any (meets from to) rs ≡ false → list_any (meets a b) (insert_entry nat_cmp rs from to) ≡ (list_any (meets a b) rs || meets a b (from, to))
+pub insert_any : (a b from to : ℕ) → from < to → (rs : List (ℕ × ℕ)) → AreDisjointRanges rs → list_any (meets from to) rs ≡ false → list_any (meets a b) (insert_entry nat_cmp rs from to) ≡ (list_any (meets a b) rs || meets a b (from, to))
 insert_any a b from to some [] apart m = or_false (meets a b (from, to))
 insert_any a b from to some (r ∷ rs) apart m =
     let parts = or_parts (meets from to r) (list_any (meets from to) rs) m in
@@ -156,7 +156,7 @@ nothing_more x = sym (or_false x)
 pub free_empty : (b : Bool) (at size : ℕ) (rs : List (ℕ × ℕ)) → at ≡ at + size → true ≡ not (b && list_any (meets at (at + size)) rs)
 free_empty b at size rs e = subst (λ n. true ≡ not (b && list_any (meets at n) rs)) e (rw (empty_meets at rs) (elim b as (λ t. true ≡ not (t && false)) [ true ↦ refl | false ↦ refl ]))
 
-pub occupied : (from to start end : ℕ) (h : ProgramHeader) (x : Bool) → h.p_type ≡ 1 → start ≡ h.p_vaddr → end ≡ end_of h → (x || meets from to (start, end)) ≡ (x || occupies from to h)
+pub occupied : (from to start end : ℕ) (h : ProgramHeader) (x : Bool) → h.p_type ≡ 1 → start ≡ h.p_vaddr → end ≡ header_end h → (x || meets from to (start, end)) ≡ (x || occupies from to h)
 occupied from to start end h x loaded s e = rw (s, e, eq-eqb h.p_type 1 loaded) refl
 
 pub not_loaded : (h : ProgramHeader) (x : Bool) → (h.p_type ≡ 1 → ⊥) → true ≡ not (is_loaded h && x)

@@ -5,7 +5,7 @@ use Rattle.std.specs.List.{list_any}
 use Rattle.std.proofs.lemmas.Bool.{and_parts, ltb-true}
 use Rattle.std.proofs.lemmas.List.{drop_more, take_more, length-take-le}
 use Rattle.elf_reader.specs.declared.entries.ProgramHeader.{ProgramHeader}
-use Rattle.elf_reader.specs.Segments.{end_of, first_shared, is_loaded, occupies, shares}
+use Rattle.elf_reader.specs.Segments.{header_end, first_shared, is_loaded, occupies, shares}
 
 and_any : (b : Bool) (q : ProgramHeader → Bool) (hs : List ProgramHeader) → list_any (λ h. b && q h) hs ≡ (b && list_any q hs)
 and_any true q [] = refl
@@ -14,8 +14,8 @@ and_any true q (h ∷ hs) = ap (λ t. q h || t) (and_any true q hs)
 and_any false q (h ∷ hs) = and_any false q hs
 
 -- a header shares an address with one of some headers
-pub any_shares : (h : ProgramHeader) (hs : List ProgramHeader) → list_any (shares h) hs ≡ (is_loaded h && list_any (occupies h.p_vaddr (end_of h)) hs)
-any_shares h hs = and_any (is_loaded h) (occupies h.p_vaddr (end_of h)) hs
+pub any_shares : (h : ProgramHeader) (hs : List ProgramHeader) → list_any (shares h) hs ≡ (is_loaded h && list_any (occupies h.p_vaddr (header_end h)) hs)
+any_shares h hs = and_any (is_loaded h) (occupies h.p_vaddr (header_end h)) hs
 
 any_push : (q : ProgramHeader → Bool) (hs : List ProgramHeader) (h : ProgramHeader) → list_any q (hs ++ h ∷ []) ≡ (list_any q hs || q h)
 any_push q [] h = elim (q h) as (λ b. (b || false) ≡ (false || b)) [ true ↦ refl | false ↦ refl ]
@@ -52,13 +52,13 @@ pub occupied_more : (from to : ℕ) (hs : List ProgramHeader) (i : ℕ) → i < 
 occupied_more from to hs i lt = rw (take_more hs i blank lt) (any_push (occupies from to) (take i hs) (get_or hs i blank))
 
 -- what adding a header told
-pub told : (hs : List ProgramHeader) (h : ProgramHeader) (free x : Bool) → x ≡ list_any (occupies h.p_vaddr (end_of h)) hs → free ≡ not (is_loaded h && x) → list_any (shares h) hs ≡ not free
+pub told : (hs : List ProgramHeader) (h : ProgramHeader) (free x : Bool) → x ≡ list_any (occupies h.p_vaddr (header_end h)) hs → free ≡ not (is_loaded h && x) → list_any (shares h) hs ≡ not free
 told hs h free x same is = any_shares h hs ∙ (ap (λ t. is_loaded h && t) (sym same) ∙ (not_not (is_loaded h && x) ∙ ap not (sym is)))
 
 -- `shares` is what its name says: both are loaded, and some address is one of both
-pub shares_means : (h other : ProgramHeader) → shares h other ≡ true → (a : ℕ) × (h.p_vaddr ≤ a) × (a < end_of h) × (other.p_vaddr ≤ a) × (a < end_of other)
+pub shares_means : (h other : ProgramHeader) → shares h other ≡ true → (a : ℕ) × (h.p_vaddr ≤ a) × (a < header_end h) × (other.p_vaddr ≤ a) × (a < header_end other)
 shares_means h other e =
-    let parts = and_parts (is_loaded h) (occupies h.p_vaddr (end_of h) other) e in
-    let test = and_parts (is_loaded other) (ltb (max h.p_vaddr other.p_vaddr) (min (end_of h) (end_of other))) parts.1 in
-    let lt : max h.p_vaddr other.p_vaddr < min (end_of h) (end_of other) = ltb-true (max h.p_vaddr other.p_vaddr) (min (end_of h) (end_of other)) test.1 in
+    let parts = and_parts (is_loaded h) (occupies h.p_vaddr (header_end h) other) e in
+    let test = and_parts (is_loaded other) (ltb (max h.p_vaddr other.p_vaddr) (min (header_end h) (header_end other))) parts.1 in
+    let lt : max h.p_vaddr other.p_vaddr < min (header_end h) (header_end other) = ltb-true (max h.p_vaddr other.p_vaddr) (min (header_end h) (header_end other)) test.1 in
     (max h.p_vaddr other.p_vaddr, omega arith, omega arith, omega arith, omega arith)

@@ -22,24 +22,24 @@ abbrev pub is_executable : ProgramHeader → Bool
 is_executable h = h.p_flags % 2 == 1
 
 -- the address after the last of a header's
-abbrev pub end_of : ProgramHeader → ℕ
-end_of h = h.p_vaddr + h.p_memsz
+abbrev pub header_end : ProgramHeader → ℕ
+header_end h = h.p_vaddr + h.p_memsz
 
 -- its bytes lie in a file of this length, they fit its addresses, and these lie below 2 ^ 32
-abbrev pub fits : ℕ → ProgramHeader → Bool
-fits len h = nat_le (h.p_offset + h.p_filesz) len && nat_le h.p_filesz h.p_memsz && nat_le (end_of h) (2 ^ 32)
+abbrev pub lies_in_file : ℕ → ProgramHeader → Bool
+lies_in_file len h = nat_le (h.p_offset + h.p_filesz) len && nat_le h.p_filesz h.p_memsz && nat_le (header_end h) (2 ^ 32)
 
 -- a header that is loaded and does not fit
 abbrev pub is_outside : ℕ → ProgramHeader → Bool
-is_outside len h = is_loaded h && not (fits len h)
+is_outside len h = is_loaded h && not (lies_in_file len h)
 
 -- the addresses from one up to another have one in common with those of a header that is loaded
 abbrev pub occupies : ℕ → ℕ → ProgramHeader → Bool
-occupies from to h = is_loaded h && nat_lt (max from h.p_vaddr) (min to (end_of h))
+occupies from to h = is_loaded h && nat_lt (max from h.p_vaddr) (min to (header_end h))
 
 -- two headers that are loaded have an address in common
 abbrev pub shares : ProgramHeader → ProgramHeader → Bool
-shares h other = is_loaded h && occupies h.p_vaddr (end_of h) other
+shares h other = is_loaded h && occupies h.p_vaddr (header_end h) other
 
 -- the place of the first header that shares an address with an earlier one
 abbrev pub first_shared : List ProgramHeader → List ProgramHeader → Option ℕ
@@ -70,6 +70,6 @@ abbrev pub meets : ℕ → ℕ → ℕ × ℕ → Bool
 meets from to range = nat_lt (max from range.0) (min to range.1)
 
 -- the ranges are not empty, ascend, and have no address in common
-abbrev pub AreApart : List (ℕ × ℕ) → Type 0
-AreApart [] = Unit {0}
-AreApart (r ∷ rs) = (r.0 < r.1) × AllByRecursion (λ s. r.1 ≤ s.0) rs × AreApart rs
+abbrev pub AreDisjointRanges : List (ℕ × ℕ) → Type 0
+AreDisjointRanges [] = Unit {0}
+AreDisjointRanges (r ∷ rs) = (r.0 < r.1) × AllByRecursion (λ s. r.1 ≤ s.0) rs × AreDisjointRanges rs

@@ -44,8 +44,8 @@ abbrev pub is_zero : ℕ → Bool
 is_zero b = b == 0
 
 -- the bytes up to the first zero byte, unless there is none or it is the first byte
-unfoldable pub text : List ℕ → Option (List ℕ)
-text bytes = option_and_then (λ n. if n == 0 then None else Some (take n bytes)) (position is_zero bytes)
+unfoldable pub symbol_text : List ℕ → Option (List ℕ)
+symbol_text bytes = option_and_then (λ n. if n == 0 then None else Some (take n bytes)) (position is_zero bytes)
 
 -- an undefined symbol (SHN_UNDEF), or the name of a source file (STT_FILE)
 abbrev pub is_passed_over : SymbolEntry → Bool
@@ -55,7 +55,7 @@ is_passed_over entry = entry.st_shndx == 0 || entry.st_info % 16 == 4
 unfoldable pub symbol : List ℕ → SymbolEntry → Option Symbol
 symbol strings entry =
     if is_passed_over entry then None
-    else option_map (λ name. record { name = name; value = entry.st_value }) (text (drop entry.st_name strings))
+    else option_map (λ name. record { name = name; value = entry.st_value }) (symbol_text (drop entry.st_name strings))
 
 -- the whole entries of a symbol section
 abbrev pub symbol_table : List ℕ → SectionHeader → List SymbolEntry

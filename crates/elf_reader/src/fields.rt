@@ -37,19 +37,19 @@ pub(crate) const SECTION_HEADER: usize = 40;
 pub(crate) const SYMBOL_ENTRY: usize = 16;
 
 /// The number in the two bytes at a place.
-#[tactic(auto, unfolding(crate::specs::Fields::half))]
+#[tactic(auto, unfolding(crate::specs::Fields::file_half))]
 pub(crate) fn half(bytes: &[u8], place: usize) -> u16
     requires { place + 2 ≤ length bytes.now }
-    ensures { result ≡ spec.half bytes.now place }
+    ensures { result ≡ spec.file_half bytes.now place }
 {
     LittleEndian::read_u16(&bytes[place..])
 }
 
 /// The number in the four bytes at a place.
-#[tactic(auto, unfolding(crate::specs::Fields::word))]
+#[tactic(auto, unfolding(crate::specs::Fields::file_word))]
 pub(crate) fn word(bytes: &[u8], place: usize) -> u32
     requires { place + 4 ≤ length bytes.now }
-    ensures { result ≡ spec.word bytes.now place }
+    ensures { result ≡ spec.file_word bytes.now place }
 {
     LittleEndian::read_u32(&bytes[place..])
 }

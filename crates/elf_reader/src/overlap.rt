@@ -4,7 +4,7 @@ ghost use Rattle.std.specs.Prelude.{◌≡◌, ◌+◌, ◌<◌, ◌^◌, ℕ, [
 ghost use Rattle.std.specs.List.{list_any};
 ghost use Rattle.crpd_base.specs.Outcome.{nowhere, Gives};
 ghost use Rattle.elf_reader.specs.Segments as spec;
-ghost use Rattle.elf_reader.specs.Segments.{AreApart, meets};
+ghost use Rattle.elf_reader.specs.Segments.{AreDisjointRanges, meets};
 ghost use Rattle.elf_reader.specs.declared.fault.ElfError.TheVariants.{SegmentsOverlap};
 
 use crate::entries::ProgramHeader;
@@ -19,7 +19,7 @@ type Ranges = BTreeMap<u64, u64>;
 /// Whether a range from one address up to another has one in common with the ranges.
 fn is_met(ranges: &Ranges, from: u64, to: u64) -> bool
     requires some { from < to }
-    requires apart { AreApart ranges.now.entries }
+    requires apart { AreDisjointRanges ranges.now.entries }
     ensures { result ≡ list_any (meets from to) ranges.now.entries }
 {
     match ranges.range(..to).next_back() {
@@ -30,9 +30,9 @@ fn is_met(ranges: &Ranges, from: u64, to: u64) -> bool
 
 /// Adds the addresses of a header that is loaded and has some, unless one of them is in a range. Whether none is.
 fn add(ranges: &mut Ranges, header: &ProgramHeader) -> Result<bool, AllocError>
-    requires { AreApart ranges.old.entries }
-    ensures free { IfOk result (λ free. free ≡ not (spec.is_loaded header.now && list_any (meets header.now.p_vaddr (spec.end_of header.now)) ranges.old.entries)) }
-    ensures apart { OnOk result (AreApart ranges.new.entries) }
+    requires { AreDisjointRanges ranges.old.entries }
+    ensures free { IfOk result (λ free. free ≡ not (spec.is_loaded header.now && list_any (meets header.now.p_vaddr (spec.header_end header.now)) ranges.old.entries)) }
+    ensures apart { OnOk result (AreDisjointRanges ranges.new.entries) }
     ensures more { IfOk result (λ free. (from to : ℕ) → list_any (meets from to) ranges.new.entries ≡ (list_any (meets from to) ranges.old.entries || (free && spec.occupies from to header.now))) }
 {
     let start = u64::from(header.p_vaddr);

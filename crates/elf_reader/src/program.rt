@@ -89,7 +89,7 @@ pub(crate) fn check_static(headers: &[ProgramHeader]) -> Result<(), ElfError>
 
 /// Whether a header's bytes lie in a file of this length, fit its addresses, and these lie below 2^32.
 fn fits(len: usize, header: &ProgramHeader) -> bool
-    ensures { result ≡ spec.fits len header.now }
+    ensures { result ≡ spec.lies_in_file len header.now }
 {
     let stored = u64::from(header.p_offset) + u64::from(header.p_filesz);
     let end = u64::from(header.p_vaddr) + u64::from(header.p_memsz);

@@ -89,7 +89,7 @@ fn strings_at(bytes: &[u8], section: Option<SectionHeader>) -> Result<&[u8], Elf
 /// The part up to the last zero byte. Each text in it has an end, so that a look for the end passes over the
 /// text alone.
 fn terminated(strings: &[u8]) -> &[u8]
-    ensures { (place : ℕ) → spec.text (drop place result.now) ≡ spec.text (drop place strings.entry.now) }
+    ensures { (place : ℕ) → spec.symbol_text (drop place result.now) ≡ spec.symbol_text (drop place strings.entry.now) }
 {
     let mut end = strings.len();
     while end > 0 && strings[end - 1] != 0 {
@@ -107,9 +107,9 @@ fn first_zero(bytes: &[u8]) -> Option<usize>
 }
 
 /// The bytes up to the first zero byte, unless there is none or it is the first byte.
-#[tactic(auto, unfolding(crate::specs::Symbols::text))]
+#[tactic(auto, unfolding(crate::specs::Symbols::symbol_text))]
 fn text(bytes: &[u8]) -> Option<&[u8]>
-    ensures { option_map (λ t. t.now) result ≡ spec.text bytes.entry.now }
+    ensures { option_map (λ t. t.now) result ≡ spec.symbol_text bytes.entry.now }
 {
     match first_zero(bytes) {
         None | Some(0) => None,
@@ -119,7 +119,7 @@ fn text(bytes: &[u8]) -> Option<&[u8]>
 
 /// The text at a place of the string section.
 fn name(strings: &[u8], place: u32) -> Option<&[u8]>
-    ensures { option_map (λ t. t.now) result ≡ spec.text (drop place strings.entry.now) }
+    ensures { option_map (λ t. t.now) result ≡ spec.symbol_text (drop place strings.entry.now) }
 {
     let place = place as usize;
     if place < strings.len() {

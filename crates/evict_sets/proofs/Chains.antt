@@ -5,8 +5,8 @@ use Rattle.std.proofs.lemmas.Bool.{both_ways}
 use Rattle.crpd_base.specs.declared.data.NodeId.{NodeId}
 use Rattle.flat_graph.specs.Graph.{Graph, Edge, IsGraph}
 use Rattle.evict_sets.specs.Full.{Listed}
-use Rattle.evict_sets.specs.Clauses.{ListsLeaders}
-use Rattle.evict_sets.specs.Ordered.{IsLine, IsClosed, HasListed}
+use Rattle.evict_sets.specs.CacheClauses.{ListsLeaders}
+use Rattle.evict_sets.specs.OrderPrefix.{IsOrderPrefix, IsChainComplete, HasListedBelow}
 use Rattle.evict_sets.proofs.Lines.{has_room, at_new, line_more, listed_more, unlisted_more, fresh_listed, fresh_unlisted, one_follows}
 
 -- what continues a node
@@ -17,15 +17,15 @@ IsFollower g l u r = MatchOption r ((v : ℕ) → Edge g u v → IsTrue (l.is_li
 pub record ChainTo (g : Graph) (l : Listed) (order : List ℕ) (count below : ℕ) (next : Option NodeId) : Type 0 where
   pub size : length order ≡ g.size
   pub some : 1 ≤ count
-  pub line : IsLine g l order count
-  pub listed : HasListed g l order count below
+  pub line : IsOrderPrefix g l order count
+  pub listed : HasListedBelow g l order count below
   pub pending : (k : ℕ) → k + 1 ≡ count → IsFollower g l (slice_index order k) next
 
 module _ (g : Graph) (l : Listed) (G : IsGraph g) (leaders : ListsLeaders g l) where
-  pub start_room : (order : List ℕ) (count v : ℕ) → length order ≡ g.size → IsLine g l order count → HasListed g l order count v → v < g.size → IsTrue (l.is_listed v) → count < length order
+  pub start_room : (order : List ℕ) (count v : ℕ) → length order ≡ g.size → IsOrderPrefix g l order count → HasListedBelow g l order count v → v < g.size → IsTrue (l.is_listed v) → count < length order
   start_room order count v size L H lt t = let r = has_room g l order count v L lt (fresh_listed g l order count v t H) in omega (arith, r, size)
 
-  pub chain_start : (order : List ℕ) (count v : ℕ) (next : Option NodeId) → length order ≡ g.size → IsLine g l order count → IsClosed g l order count → HasListed g l order count v → v < g.size → IsTrue (l.is_listed v)
+  pub chain_start : (order : List ℕ) (count v : ℕ) (next : Option NodeId) → length order ≡ g.size → IsOrderPrefix g l order count → IsChainComplete g l order count → HasListedBelow g l order count v → v < g.size → IsTrue (l.is_listed v)
       → IsFollower g l v next → ChainTo g l (set order count v) (count + 1) (v + 1) next
   chain_start order count v next size L C H lt t F =
       let fresh = fresh_listed g l order count v t H in
@@ -66,11 +66,11 @@ module _ (g : Graph) (l : Listed) (G : IsGraph g) (leaders : ListsLeaders g l) w
         pending = λ k e. subst (λ x. IsFollower g l x next) (sym (ap (slice_index (set order count v.0)) (omega arith) ∙ at_new g l order count v.0 room)) F;
       }
 
-pub chain_closed : (g : Graph) (l : Listed) (order : List ℕ) (count below : ℕ) → ChainTo g l order count below None → IsClosed g l order count
+pub chain_closed : (g : Graph) (l : Listed) (order : List ℕ) (count below : ℕ) → ChainTo g l order count below None → IsChainComplete g l order count
 chain_closed g l order count below C k v e f = C.pending k e v f
 
 -- the listed nodes below a number are written, with the unlisted ones that continue them
 pub record OrderTo (g : Graph) (l : Listed) (order : List ℕ) (count below : ℕ) : Type 0 where
-  pub line : IsLine g l order count
-  pub closed : IsClosed g l order count
-  pub all : HasListed g l order count below
+  pub line : IsOrderPrefix g l order count
+  pub closed : IsChainComplete g l order count
+  pub all : HasListedBelow g l order count below

@@ -13,7 +13,7 @@ use Rattle.flat_graph.specs.EdgeCost.{is_return}
 use Rattle.flat_graph.specs.CodeGraph.{kind_of}
 use Rattle.flat_graph.specs.declared.node.Kind.TheVariants as kind
 use Rattle.evict_sets.specs.Longest.{greatest_of}
-use Rattle.evict_sets.specs.Greatest.{of_one}
+use Rattle.evict_sets.specs.OptionalCost.{cost_or_zero}
 
 -- a successor is a node
 pub succ_within : (g : Graph) (u k v : ℕ) → IsGraph g → u < g.size → Some v ≡ slice_get (g.next u) k → v < g.size
@@ -21,7 +21,7 @@ succ_within g u k v G lt e =
     G.edges u v (lt, (k, slice_get_within (g.next u) k v (sym e), get_or_from_slice_get (g.next u) k v v (sym e)))
 
 -- of at most two successors
-pub of_two : (f : ℕ → ℕ) (next : List ℕ) → length next ≤ 2 → max (of_one f (slice_get next 0)) (of_one f (slice_get next 1)) ≡ greatest_of f next
+pub of_two : (f : ℕ → ℕ) (next : List ℕ) → length next ≤ 2 → max (cost_or_zero f (slice_get next 0)) (cost_or_zero f (slice_get next 1)) ≡ greatest_of f next
 of_two f [] le = omega arith
 of_two f (v ∷ []) le = omega arith
 of_two f (v ∷ w ∷ []) le = omega arith

@@ -8,8 +8,8 @@ use Rattle.icache.specs.Cache.{held}
 use Rattle.icache.specs.Accesses.{Accesses}
 use Rattle.flat_graph.specs.Graph.{Graph, Edge}
 use Rattle.evict_sets.specs.Full.{Listed, FullState, listed, accessed, passed}
-use Rattle.evict_sets.specs.Clauses.{ListsLeaders, StateAfter}
-use Rattle.evict_sets.specs.Certificate.{block_in}
+use Rattle.evict_sets.specs.CacheClauses.{ListsLeaders, StateAfter}
+use Rattle.evict_sets.specs.ListedPart.{block_of_set}
 use Rattle.evict_sets.proofs.FullLaws.{unlisted_state_law}
 use Rattle.evict_sets.specs.Listing.{IsStateAt, IsStateAfter}
 
@@ -19,14 +19,14 @@ past (x ∷ blocks) zero le = absurd (omega arith)
 past (x ∷ blocks) (suc s) le = past blocks s (omega arith)
 
 -- no block at first
-pub none_held : (blocks : List (Option ℕ)) (sure : List (ℕ × ℕ)) → ((s : ℕ) → held blocks s ≡ None) → (s : ℕ) → held blocks s ≡ block_in (drop (length sure - 0) sure) s
+pub none_held : (blocks : List (Option ℕ)) (sure : List (ℕ × ℕ)) → ((s : ℕ) → held blocks s ≡ None) → (s : ℕ) → held blocks s ≡ block_of_set (drop (length sure - 0) sure) s
 none_held blocks sure none s =
     let empty : drop (length sure - 0) sure ≡ [] = drop_all (length sure - 0) sure (omega arith) in
-    none s ∙ sym (ap (λ xs. block_in xs s) empty)
+    none s ∙ sym (ap (λ xs. block_of_set xs s) empty)
 
 -- one more block, in front of those so far
 pub block_more : (blocks : List (Option ℕ)) (sure : List (ℕ × ℕ)) (j k place : ℕ) (x : ℕ × ℕ) → j ≡ suc k → place ≡ k → k < length sure → x ≡ get_or sure place (0, 0) → x.0 < length blocks
-    → ((s : ℕ) → held blocks s ≡ block_in (drop j sure) s) → (s : ℕ) → held (set blocks x.0 (Some x.1)) s ≡ block_in (drop k sure) s
+    → ((s : ℕ) → held blocks s ≡ block_of_set (drop j sure) s) → (s : ℕ) → held (set blocks x.0 (Some x.1)) s ≡ block_of_set (drop k sure) s
 block_more blocks sure j k place x after at lt is room before s =
     let rest : drop (suc k) sure ≡ drop j sure = ap (λ i. drop i sure) (sym after) in
     let here : get_or sure k (0, 0) ≡ x = ap (λ i. get_or sure i (0, 0)) (sym at) ∙ sym is in
@@ -35,12 +35,12 @@ block_more blocks sure j k place x after at lt is room before s =
     (λ (same : x.0 ≡ s).
     let t : (x.0 == s) ≡ true = eq-eqb x.0 s same in
     let there : held (set blocks x.0 (Some x.1)) s ≡ Some x.1 = subst (λ z. held (set blocks x.0 (Some x.1)) z ≡ Some x.1) same (get_or-set_same blocks x.0 (Some x.1) None room) in
-    let listed : block_in (x ∷ drop (suc k) sure) s ≡ Some x.1 = rw t refl in
-    there ∙ sym (ap (λ xs. block_in xs s) parts ∙ listed))
+    let listed : block_of_set (x ∷ drop (suc k) sure) s ≡ Some x.1 = rw t refl in
+    there ∙ sym (ap (λ xs. block_of_set xs s) parts ∙ listed))
     (λ (ne : x.0 ≢ s).
     let f : (x.0 == s) ≡ false = ne_eqb x.0 s ne in
-    let listed : block_in (x ∷ drop (suc k) sure) s ≡ block_in (drop (suc k) sure) s = rw f refl in
-    get_or-set_other blocks x.0 s (Some x.1) None (λ e. ne (sym e)) ∙ before s ∙ sym (ap (λ xs. block_in xs s) parts ∙ listed ∙ ap (λ xs. block_in xs s) rest))
+    let listed : block_of_set (x ∷ drop (suc k) sure) s ≡ block_of_set (drop (suc k) sure) s = rw f refl in
+    get_or-set_other blocks x.0 s (Some x.1) None (λ e. ne (sym e)) ∙ before s ∙ sym (ap (λ xs. block_of_set xs s) parts ∙ listed ∙ ap (λ xs. block_of_set xs s) rest))
     (cases_eq x.0 s)
 
 module _ (g : Graph) (a : Accesses) (l : Listed) where

@@ -5,8 +5,8 @@ use Rattle.std.proofs.lemmas.Bool.{cases_eq, both_ways}
 use Rattle.icache.specs.Accesses.{Accesses}
 use Rattle.flat_graph.specs.Graph.{Graph, Edge}
 use Rattle.evict_sets.specs.Full.{Listed, IsHit}
-use Rattle.evict_sets.specs.Clauses.{ListsLeaders}
-use Rattle.evict_sets.specs.Listing.{IsStateAt, IsStateAfter, IsOrder, counted}
+use Rattle.evict_sets.specs.CacheClauses.{ListsLeaders}
+use Rattle.evict_sets.specs.Listing.{IsStateAt, IsStateAfter, IsChainOrder, counted}
 use Rattle.evict_sets.proofs.FullBlocks.{state_behind}
 
 module _ (g : Graph) (a : Accesses) (l : Listed) where
@@ -16,7 +16,7 @@ module _ (g : Graph) (a : Accesses) (l : Listed) where
     pub follows : k < g.size → IsFalse (l.is_listed (slice_index order k)) → IsStateAt g a l (slice_index order k) blocks
 
   pub blocks_start : (order : List ℕ) (blocks : List (Option ℕ))
-      → IsOrder g l order → length blocks ≡ 512 → BlocksTo order blocks 0
+      → IsChainOrder g l order → length blocks ≡ 512 → BlocksTo order blocks 0
   blocks_start order blocks O room = record {
     room = room;
     follows = λ lt out. absurd (both_ways (l.is_listed (slice_index order 0)) out (O.start lt));
@@ -24,7 +24,7 @@ module _ (g : Graph) (a : Accesses) (l : Listed) where
 
   -- the state after a node is that of an unlisted one behind it
   pub blocks_more : (order : List ℕ) (new : List (Option ℕ)) (k node : ℕ)
-      → IsOrder g l order → ListsLeaders g l → slice_index order k ≡ node
+      → IsChainOrder g l order → ListsLeaders g l → slice_index order k ≡ node
       → length new ≡ 512 → IsStateAfter g a l node new → BlocksTo order new (k + 1)
   blocks_more order new k node O leaders at room S = record {
     room = room;
@@ -41,7 +41,7 @@ module _ (g : Graph) (a : Accesses) (l : Listed) where
     pub hit : (j : ℕ) → j < k
         → IsTrue (counted hits (slice_index order j)) ↔ IsHit g a l (slice_index order j)
 
-  pub hits_more : (order : List ℕ) (blocks new : List (Option ℕ)) (hits : List Bool) (k node : ℕ) (b : Bool) → IsOrder g l order → ListsLeaders g l → k < g.size → slice_index order k ≡ node → length hits ≡ g.size
+  pub hits_more : (order : List ℕ) (blocks new : List (Option ℕ)) (hits : List Bool) (k node : ℕ) (b : Bool) → IsChainOrder g l order → ListsLeaders g l → k < g.size → slice_index order k ≡ node → length hits ≡ g.size
       → length new ≡ 512 → IsStateAfter g a l node new → IsTrue b ↔ IsHit g a l node
       → HitsTo order blocks hits k → HitsTo order new (set hits node b) (k + 1)
   hits_more order blocks new hits k node b O leaders lt at count room S test H = record {
@@ -63,7 +63,7 @@ module _ (g : Graph) (a : Accesses) (l : Listed) where
     before : (j : ℕ) → j < k + 1 → slice_index order j ≢ node → j < k
     before j j_lt ne = ⊎_elim (λ (e : j ≡ k). absurd (ne (ap (slice_index order) e ∙ at))) (λ other. omega arith) (cases_eq j k)
 
-  pub hits_all : (order : List ℕ) (blocks : List (Option ℕ)) (hits : List Bool) (k : ℕ) → IsOrder g l order → g.size ≤ k → HitsTo order blocks hits k
+  pub hits_all : (order : List ℕ) (blocks : List (Option ℕ)) (hits : List Bool) (k : ℕ) → IsChainOrder g l order → g.size ≤ k → HitsTo order blocks hits k
       → (y : ℕ) → y < g.size → IsTrue (counted hits y) ↔ IsHit g a l y
   hits_all order blocks hits k O le H y lt =
       let p = O.every y lt in

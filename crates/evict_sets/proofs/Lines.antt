@@ -5,9 +5,9 @@ use Rattle.std.proofs.lemmas.Bool.{cases_eq, cases_Bool, both_ways, or_cases, fa
 use Rattle.std.proofs.lemmas.Map.Steps.{length-le_from_distinct_below, le-length_from_below}
 use Rattle.flat_graph.specs.Graph.{Graph, Edge, IsWalk, IsGraph}
 use Rattle.evict_sets.specs.Full.{Listed}
-use Rattle.evict_sets.specs.Clauses.{ListsLeaders}
-use Rattle.evict_sets.specs.Listing.{IsOrder}
-use Rattle.evict_sets.specs.Ordered.{IsLine, IsClosed, HasListed}
+use Rattle.evict_sets.specs.CacheClauses.{ListsLeaders}
+use Rattle.evict_sets.specs.Listing.{IsChainOrder}
+use Rattle.evict_sets.specs.OrderPrefix.{IsOrderPrefix, IsChainComplete, HasListedBelow}
 
 -- the values below a number, the last first
 values : (ℕ → ℕ) → ℕ → List ℕ
@@ -84,7 +84,7 @@ module _ (g : Graph) (l : Listed) where
   abbrev pub IsFresh : List ℕ → ℕ → ℕ → Type 0
   IsFresh order count v = (j : ℕ) → j < count → slice_index order j ≢ v
 
-  pub has_room : (order : List ℕ) (count v : ℕ) → IsLine g l order count → v < g.size → IsFresh order count v → count < g.size
+  pub has_room : (order : List ℕ) (count v : ℕ) → IsOrderPrefix g l order count → v < g.size → IsFresh order count v → count < g.size
   has_room order count v L lt fresh = few_more (slice_index order) count g.size v L.nodes L.apart lt fresh
 
   pub at_new : (order : List ℕ) (count v : ℕ) → count < length order → slice_index (set order count v) count ≡ v
@@ -94,11 +94,11 @@ module _ (g : Graph) (l : Listed) where
   at_old order count v k lt = get_or-set_other order count k v 0 (λ e. absurd (omega arith))
 
   -- one more node
-  pub line_more : (order : List ℕ) (count v : ℕ) → length order ≡ g.size → IsLine g l order count → v < g.size → IsFresh order count v
+  pub line_more : (order : List ℕ) (count v : ℕ) → length order ≡ g.size → IsOrderPrefix g l order count → v < g.size → IsFresh order count v
       → (count ≡ 0 → IsTrue (l.is_listed v))
       → ((k : ℕ) → k + 1 ≡ count → IsFalse (l.is_listed v) → Edge g (slice_index order k) v)
       → ((k w : ℕ) → k + 1 ≡ count → Edge g (slice_index order k) w → IsFalse (l.is_listed w) → v ≡ w)
-      → IsLine g l (set order count v) (count + 1)
+      → IsOrderPrefix g l (set order count v) (count + 1)
   line_more order count v size L lt fresh listed edge one =
       let room : count < length order = (let r = has_room order count v L lt fresh in omega (arith, r, size)) in
       let new = at_new order count v room in
@@ -138,10 +138,10 @@ module _ (g : Graph) (l : Listed) where
             (cases_eq (k + 1) count);
       }
 
-  pub none_listed : (order : List ℕ) → HasListed g l order 0 0
+  pub none_listed : (order : List ℕ) → HasListedBelow g l order 0 0
   none_listed order = record { only = λ k lt t. absurd (omega arith); all = λ y lt. absurd (omega arith) }
 
-  pub no_line : (order : List ℕ) → IsLine g l order 0
+  pub no_line : (order : List ℕ) → IsOrderPrefix g l order 0
   no_line order = record {
     room = omega arith;
     nodes = λ k lt. absurd (omega arith);
@@ -151,11 +151,11 @@ module _ (g : Graph) (l : Listed) where
     behind = λ k w lt. absurd (omega arith);
   }
 
-  pub no_last : (order : List ℕ) → IsClosed g l order 0
+  pub no_last : (order : List ℕ) → IsChainComplete g l order 0
   no_last order k v e = absurd (omega arith)
 
   -- with a listed node of that number
-  pub listed_more : (order : List ℕ) (count v : ℕ) → count < length order → IsTrue (l.is_listed v) → HasListed g l order count v → HasListed g l (set order count v) (count + 1) (v + 1)
+  pub listed_more : (order : List ℕ) (count v : ℕ) → count < length order → IsTrue (l.is_listed v) → HasListedBelow g l order count v → HasListedBelow g l (set order count v) (count + 1) (v + 1)
   listed_more order count v room t H = record {
     only = λ k lt listed. ⊎_elim
         (λ (e : k ≡ count). let here : slice_index (set order count v) k ≡ v = ap (slice_index (set order count v)) e ∙ at_new order count v room in omega (arith, here))
@@ -169,7 +169,7 @@ module _ (g : Graph) (l : Listed) where
   }
 
   -- with an unlisted node
-  pub unlisted_more : (order : List ℕ) (count v n : ℕ) → count < length order → IsFalse (l.is_listed v) → HasListed g l order count n → HasListed g l (set order count v) (count + 1) n
+  pub unlisted_more : (order : List ℕ) (count v n : ℕ) → count < length order → IsFalse (l.is_listed v) → HasListedBelow g l order count n → HasListedBelow g l (set order count v) (count + 1) n
   unlisted_more order count v n room out H = record {
     only = λ k lt listed. ⊎_elim
         (λ (e : k ≡ count). absurd (both_ways (l.is_listed v) out (subst (λ x. IsTrue (l.is_listed x)) (ap (slice_index (set order count v)) e ∙ at_new order count v room) listed)))
@@ -180,7 +180,7 @@ module _ (g : Graph) (l : Listed) where
   }
 
   -- past an unlisted node of that number
-  pub listed_past : (order : List ℕ) (count n : ℕ) → IsFalse (l.is_listed n) → HasListed g l order count n → HasListed g l order count (n + 1)
+  pub listed_past : (order : List ℕ) (count n : ℕ) → IsFalse (l.is_listed n) → HasListedBelow g l order count n → HasListedBelow g l order count (n + 1)
   listed_past order count n out H = record {
     only = λ k lt listed. let below = H.only k lt listed in omega (arith, below);
     all = λ y lt y_lt listed. ⊎_elim
@@ -190,12 +190,12 @@ module _ (g : Graph) (l : Listed) where
   }
 
   -- a listed node whose number is past those of the listed ones
-  pub fresh_listed : (order : List ℕ) (count v : ℕ) → IsTrue (l.is_listed v) → HasListed g l order count v → IsFresh order count v
+  pub fresh_listed : (order : List ℕ) (count v : ℕ) → IsTrue (l.is_listed v) → HasListedBelow g l order count v → IsFresh order count v
   fresh_listed order count v t H j lt e =
       let below = H.only j lt (subst (λ x. IsTrue (l.is_listed x)) (sym e) t) in omega (arith, below, e)
 
   -- an unlisted node that continues the last one
-  pub fresh_unlisted : (order : List ℕ) (count v last : ℕ) → ListsLeaders g l → IsLine g l order count → last + 1 ≡ count → v < g.size → IsFalse (l.is_listed v) → Edge g (slice_index order last) v → IsFresh order count v
+  pub fresh_unlisted : (order : List ℕ) (count v last : ℕ) → ListsLeaders g l → IsOrderPrefix g l order count → last + 1 ≡ count → v < g.size → IsFalse (l.is_listed v) → Edge g (slice_index order last) v → IsFresh order count v
   fresh_unlisted order count v last leaders L is v_lt out f zero lt e =
       both_ways (l.is_listed v) out (subst (λ x. IsTrue (l.is_listed x)) e (L.start lt))
   fresh_unlisted order count v last leaders L is v_lt out f (suc j) lt e =
@@ -213,7 +213,7 @@ module _ (g : Graph) (l : Listed) where
       sym (c.one_successor w (subst (λ x. Edge g x w) here f))
 
   -- in the end all nodes are there
-  reached : (order : List ℕ) (count : ℕ) → ListsLeaders g l → IsLine g l order count → IsClosed g l order count → HasListed g l order count g.size
+  reached : (order : List ℕ) (count : ℕ) → ListsLeaders g l → IsOrderPrefix g l order count → IsChainComplete g l order count → HasListedBelow g l order count g.size
       → (before : List ℕ) (y : ℕ) → IsWalk g (y ∷ before) → y < g.size → (k : ℕ) × (k < count) × (slice_index order k ≡ y)
   reached order count leaders L C H [] y walk lt =
       ⊎_elim (λ t. H.all y lt lt t) (λ out. absurd ((leaders y lt out).1.not_first walk)) (cases_Bool (l.is_listed y))
@@ -229,7 +229,7 @@ module _ (g : Graph) (l : Listed) where
       (cases_eq (h.0 + 1) count))
       (cases_Bool (l.is_listed y))
 
-  pub whole : (order : List ℕ) (count : ℕ) → IsGraph g → ListsLeaders g l → length order ≡ g.size → IsLine g l order count → IsClosed g l order count → HasListed g l order count g.size → IsOrder g l order
+  pub whole : (order : List ℕ) (count : ℕ) → IsGraph g → ListsLeaders g l → length order ≡ g.size → IsOrderPrefix g l order count → IsChainComplete g l order count → HasListedBelow g l order count g.size → IsChainOrder g l order
   whole order count G leaders size L C H =
       let every : (y : ℕ) → y < g.size → (k : ℕ) × (k < count) × (slice_index order k ≡ y) = λ y lt. let w = G.reached y lt in reached order count leaders L C H w.0 y w.1 lt in
       let least = all_values (slice_index order) count g.size every in

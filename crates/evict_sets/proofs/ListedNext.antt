@@ -3,7 +3,7 @@ use Rattle.std.proofs.Common.{ℕ, IsTrue, sym, subst, ⊎_elim}
 use Rattle.std.proofs.lemmas.Bool.{cases_Bool, both_ways}
 use Rattle.flat_graph.specs.Graph.{Graph, Edge, IsGraph}
 use Rattle.evict_sets.specs.Full.{Listed}
-use Rattle.evict_sets.specs.Clauses.{ListsLeaders}
+use Rattle.evict_sets.specs.CacheClauses.{ListsLeaders}
 use Rattle.evict_sets.proofs.Lines.{one_follows}
 
 -- where a successor is listed, all are

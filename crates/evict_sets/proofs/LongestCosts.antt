@@ -9,14 +9,14 @@ use Rattle.crpd_base.specs.declared.data.Platform.{Platform}
 use Rattle.rv_decode.specs.declared.Ins.{Ins}
 use Rattle.rv_decode.specs.Cost.{cost}
 use Rattle.rv_decode.specs.Flow.{Flow, Plain, Branch, Jump, Call, Return, Exit, Break, OtherJalr, OtherJal, Flows, Words, flow, flows, flow_of_word, flow_of_row}
-use Rattle.flat_graph.specs.FlatGraph.{FlatNode, ins_error, error_of, returns_to, goes_on, successors, answers_by}
+use Rattle.flat_graph.specs.FlatGraph.{FlatNode, ins_error, error_of, returns_to, successors_by, successors, answers_by}
 use Rattle.flat_graph.specs.Graph.{Graph, Edge}
 use Rattle.flat_graph.specs.Numbered.{node_at}
-use Rattle.flat_graph.specs.CodeGraph.{CodeGraph, graph_of, places_of, listing, IsCodeGraph, HasCode}
-use Rattle.flat_graph.specs.EdgeCost.{Listing, edge_cost, end_cost, is_return}
+use Rattle.flat_graph.specs.CodeGraph.{CodeGraph, graph_of, places_of, node_code, IsCodeGraph, HasCode}
+use Rattle.flat_graph.specs.EdgeCost.{NodeCode, edge_cost, end_cost, is_return}
 use Rattle.flat_graph.proofs.Numbered.{follows_law}
 use Rattle.evict_sets.specs.Answering.{answers_of}
-use Rattle.evict_sets.specs.Longest.{greatest_of, longest_at, longest_below, longest}
+use Rattle.evict_sets.specs.Longest.{greatest_of, longest_at_node, longest_below, longest}
 use Rattle.evict_sets.proofs.Amounts.{small_cost, small_work}
 
 -- four parts that are each below 2^16
@@ -34,17 +34,17 @@ if_at_most : (b : Bool) (x k : ℕ) → x ≤ k → (if b then x else 0) ≤ k
 if_at_most true x k le = le
 if_at_most false x k le = omega arith
 
-small_at : (p : Platform) (g : Graph) (l : Listing) (answers : ℕ → Bool) (u : ℕ) → IsPlatform p → longest_at p g l answers u ≤ 262144
+small_at : (p : Platform) (g : Graph) (l : NodeCode) (answers : ℕ → Bool) (u : ℕ) → IsPlatform p → longest_at_node p g l answers u ≤ 262144
 small_at p g l answers u P =
     let a = small_list (edge_cost p l (λ y. false) u) (g.next u) 262144 (λ v. small p (l.ins u) true (not (l.address v == l.address u + 4)) P) in
     let b = if_at_most (answers u) (end_cost p l (λ y. false) u) 262144 (small p (l.ins u) true (is_return (flow (l.address u) (l.ins u))) P) in
     omega (arith, a, b)
 
-small_below : (p : Platform) (g : Graph) (l : Listing) (answers : ℕ → Bool) (n : ℕ) → IsPlatform p → longest_below p g l answers n ≤ 262144
+small_below : (p : Platform) (g : Graph) (l : NodeCode) (answers : ℕ → Bool) (n : ℕ) → IsPlatform p → longest_below p g l answers n ≤ 262144
 small_below p g l answers zero P = omega arith
 small_below p g l answers (suc n) P = let a = small_at p g l answers n P in let b = small_below p g l answers n P in omega (arith, a, b)
 
-pub small_longest : (p : Platform) (g : Graph) (l : Listing) (answers : ℕ → Bool) → IsPlatform p → longest p g l answers ≤ 262144
+pub small_longest : (p : Platform) (g : Graph) (l : NodeCode) (answers : ℕ → Bool) → IsPlatform p → longest p g l answers ≤ 262144
 small_longest p g l answers P = small_below p g l answers g.size P
 
 -- each instruction costs a cycle
@@ -55,7 +55,7 @@ some_list : (f : ℕ → ℕ) (xs : List ℕ) (v : ℕ) → Contains xs v → ((
 some_list f [] v (k, lt, e) h = absurd (omega arith)
 some_list f (x ∷ xs) v c h = let a = h x in omega (arith, a)
 
-some_at : (p : Platform) (g : Graph) (l : Listing) (answers : ℕ → Bool) (u : ℕ) → IsPlatform p → ((v : ℕ) × Edge g u v) ⊎ IsTrue (answers u) → 1 ≤ longest_at p g l answers u
+some_at : (p : Platform) (g : Graph) (l : NodeCode) (answers : ℕ → Bool) (u : ℕ) → IsPlatform p → ((v : ℕ) × Edge g u v) ⊎ IsTrue (answers u) → 1 ≤ longest_at_node p g l answers u
 some_at p g l answers u P (inl e) =
     let a = some_list (edge_cost p l (λ y. false) u) (g.next u) e.0 e.1.1 (λ v. some_cost p (l.ins u) true (not (l.address v == l.address u + 4)) P) in
     omega (arith, a)
@@ -64,15 +64,15 @@ some_at p g l answers u P (inr t) =
     let here : 1 ≤ (if answers u then end_cost p l (λ y. false) u else 0) = rw t a in
     omega (arith, here)
 
-some_below : (p : Platform) (g : Graph) (l : Listing) (answers : ℕ → Bool) (n u : ℕ) → u < n → 1 ≤ longest_at p g l answers u → 1 ≤ longest_below p g l answers n
+some_below : (p : Platform) (g : Graph) (l : NodeCode) (answers : ℕ → Bool) (n u : ℕ) → u < n → 1 ≤ longest_at_node p g l answers u → 1 ≤ longest_below p g l answers n
 some_below p g l answers zero u lt h = absurd (omega arith)
 some_below p g l answers (suc n) u lt h =
     ⊎_elim
-    (λ (e : u ≡ n). let a : 1 ≤ longest_at p g l answers n = subst (λ x. 1 ≤ longest_at p g l answers x) e h in omega (arith, a))
+    (λ (e : u ≡ n). let a : 1 ≤ longest_at_node p g l answers n = subst (λ x. 1 ≤ longest_at_node p g l answers x) e h in omega (arith, a))
     (λ ne. let a = some_below p g l answers n u (omega arith) h in omega (arith, a))
     (cases_eq u n)
 
-goes : (code : Flows) (entry : ℕ) (c : List ℕ) (a : ℕ) (o : Option (Option Flow)) → ins_error code entry c o ≡ None → ((m : FlatNode) × Contains (goes_on None c a o) m) ⊎ IsTrue (answers_by c o)
+goes : (code : Flows) (entry : ℕ) (c : List ℕ) (a : ℕ) (o : Option (Option Flow)) → ins_error code entry c o ≡ None → ((m : FlatNode) × Contains (successors_by None c a o) m) ⊎ IsTrue (answers_by c o)
 goes code entry c a None e = cc
 goes code entry c a (Some None) e = cc
 goes code entry c a (Some (Some Plain)) e = inl (record { context = c; address = a + 4 }, (0, omega arith, refl))
@@ -93,7 +93,7 @@ goes code entry c a (Some (Some OtherJal)) e = cc
 goes_by : (code : Flows) (entry : ℕ) (n : FlatNode) → error_of code entry n ≡ None → ((m : FlatNode) × Contains (successors code entry n) m) ⊎ IsTrue (answers_by n.context (code n.address))
 goes_by code entry n e =
     ⊎_elim
-    (λ h. inl (h.0, subst (λ o. Contains (goes_on o n.context n.address (code n.address)) h.0) (sym e) h.1))
+    (λ h. inl (h.0, subst (λ o. Contains (successors_by o n.context n.address (code n.address)) h.0) (sym e) h.1))
     (λ t. inr t)
     (goes code entry n.context n.address (code n.address) (aligned (n.address % 4 == 0) (ins_error code entry n.context (code n.address)) e))
 
@@ -108,15 +108,15 @@ answers_here g words entry u C lt (Some w) e t =
     subst (λ x. IsTrue (answers_by ((places_of g).context u) (Some (flow_of_row ((places_of g).address u) x)))) (C.instructions u w lt e) t
 
 -- so the first node of a graph of some code does
-pub some_longest : (p : Platform) (g : CodeGraph) → IsPlatform p → HasCode g → 1 ≤ longest p (graph_of g) (listing g) (answers_of g)
+pub some_longest : (p : Platform) (g : CodeGraph) → IsPlatform p → HasCode g → 1 ≤ longest p (graph_of g) (node_code g) (answers_of g)
 some_longest p g P H =
     let C = H.of_code in
     let F = follows_law (flows H.words) H.entry C.nodes (graph_of g) (places_of g) C.flat C.places in
     let n : FlatNode = node_at (places_of g) g.first in
     let lt = F.graph.first in
     let there = goes_by (flows H.words) H.entry n (C.no_errors n (F.nodes g.first lt)) in
-    some_below p (graph_of g) (listing g) (answers_of g) (length g.nodes) g.first lt
-    (some_at p (graph_of g) (listing g) (answers_of g) g.first P
+    some_below p (graph_of g) (node_code g) (answers_of g) (length g.nodes) g.first lt
+    (some_at p (graph_of g) (node_code g) (answers_of g) g.first P
     (⊎_elim
     (λ h. inl (let e = F.numbers g.first h.0 lt h.1 in (e.0, e.1)))
     (λ t. inr (answers_here g H.words H.entry g.first C lt (H.words n.address) refl t))

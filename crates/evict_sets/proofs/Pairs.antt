@@ -5,7 +5,7 @@ use Rattle.std.proofs.lemmas.Bool.{cases_eq}
 use Rattle.std.proofs.lemmas.Option.{same_Some, none-some}
 use Rattle.crpd_base.specs.Sets.{member}
 use Rattle.icache.specs.Cache.{held}
-use Rattle.evict_sets.specs.Certificate.{block_in}
+use Rattle.evict_sets.specs.ListedPart.{block_of_set}
 
 abbrev pub set_at : List (ℕ × ℕ) → ℕ → ℕ
 set_at sure j = (get_or sure j (0, 0)).0
@@ -17,7 +17,7 @@ abbrev pub IsFirst : List (ℕ × ℕ) → ℕ → Type 0
 IsFirst sure j = (i : ℕ) → i < j → set_at sure i ≢ set_at sure j
 
 -- what the first pair of a set gives it
-pub first_block : (sure : List (ℕ × ℕ)) (k : ℕ) → k < length sure → IsFirst sure k → block_in sure (set_at sure k) ≡ Some (block_at sure k)
+pub first_block : (sure : List (ℕ × ℕ)) (k : ℕ) → k < length sure → IsFirst sure k → block_of_set sure (set_at sure k) ≡ Some (block_at sure k)
 first_block [] k lt first = absurd (omega arith)
 first_block (x ∷ sure) zero lt first = (let t : (x.0 == x.0) ≡ true = eq-eqb x.0 x.0 refl in rw t refl)
 first_block (x ∷ sure) (suc k) lt first =
@@ -25,17 +25,17 @@ first_block (x ∷ sure) (suc k) lt first =
     let rest = first_block sure k (omega arith) (λ i i_lt. first (suc i) (omega arith)) in
     rw f rest
 
-pub found_block : (sure : List (ℕ × ℕ)) (s m : ℕ) → block_in sure s ≡ Some m → (j : ℕ) × (j < length sure) × (set_at sure j ≡ s) × (block_at sure j ≡ m) × IsFirst sure j
+pub found_block : (sure : List (ℕ × ℕ)) (s m : ℕ) → block_of_set sure s ≡ Some m → (j : ℕ) × (j < length sure) × (set_at sure j ≡ s) × (block_at sure j ≡ m) × IsFirst sure j
 found_block [] s m e = absurd (none-some m e)
 found_block (x ∷ sure) s m e =
     ⊎_elim
     (λ (same : x.0 ≡ s).
     let t : (x.0 == s) ≡ true = eq-eqb x.0 s same in
-    let here : block_in (x ∷ sure) s ≡ Some x.1 = rw t refl in
+    let here : block_of_set (x ∷ sure) s ≡ Some x.1 = rw t refl in
     (0, omega arith, same, same_Some x.1 m (sym here ∙ e), λ i lt. absurd (omega arith)))
     (λ (ne : x.0 ≢ s).
     let f : (x.0 == s) ≡ false = ne_eqb x.0 s ne in
-    let there : block_in (x ∷ sure) s ≡ block_in sure s = rw f refl in
+    let there : block_of_set (x ∷ sure) s ≡ block_of_set sure s = rw f refl in
     let h = found_block sure s m (sym there ∙ e) in
     (suc h.0, omega (arith, h.1), h.2, h.3, later h.0 ne h.2 h.4))
     (cases_eq x.0 s)
@@ -92,7 +92,7 @@ pairs_more blocks sure seen new k here is P = record {
   below : (j : ℕ) → j < k + 1 → set_at sure j ≢ set_at sure k → j < k
   below j lt ne = ⊎_elim (λ (e : j ≡ k). absurd (ne (ap (set_at sure) e))) (λ other. omega arith) (cases_eq j k)
 
-pub all_held : (blocks : List (Option ℕ)) (sure : List (ℕ × ℕ)) (seen : List ℕ) (k : ℕ) → length sure ≤ k → PairsTo blocks sure seen k → (s m : ℕ) → block_in sure s ≡ Some m → held blocks s ≡ Some m
+pub all_held : (blocks : List (Option ℕ)) (sure : List (ℕ × ℕ)) (seen : List ℕ) (k : ℕ) → length sure ≤ k → PairsTo blocks sure seen k → (s m : ℕ) → block_of_set sure s ≡ Some m → held blocks s ≡ Some m
 all_held blocks sure seen k le P s m e =
     let h = found_block sure s m e in
     let at = P.firsts h.0 (omega (arith, h.1, le)) h.4 in
@@ -100,6 +100,6 @@ all_held blocks sure seen k le P s m e =
 
 -- a first pair that is not held
 pub not_held : (blocks : List (Option ℕ)) (sure : List (ℕ × ℕ)) (seen : List ℕ) (k : ℕ) → k < length sure → member seen (set_at sure k) ≢ 1 → PairsTo blocks sure seen k
-    → (held blocks (set_at sure k) ≡ Some (block_at sure k) → ⊥) → ((s m : ℕ) → block_in sure s ≡ Some m → held blocks s ≡ Some m) → ⊥
+    → (held blocks (set_at sure k) ≡ Some (block_at sure k) → ⊥) → ((s m : ℕ) → block_of_set sure s ≡ Some m → held blocks s ≡ Some m) → ⊥
 not_held blocks sure seen k lt fresh P ne all =
     ne (all (set_at sure k) (block_at sure k) (first_block sure k lt (λ i i_lt same. fresh (subst (λ x. member seen x ≡ 1) same (P.seen_is i i_lt)))))

@@ -10,17 +10,17 @@ use Rattle.icache.specs.Accesses.{Accesses, accesses}
 use Rattle.flat_graph.specs.Graph.{Graph, Edge}
 use Rattle.flat_graph.specs.CodeGraph.{CodeGraph, graph_of, places_of}
 use Rattle.evict_sets.specs.Full.{Listed, FullState, IsHit}
-use Rattle.evict_sets.specs.Clauses.{ListsLeaders, StateAfter}
-use Rattle.evict_sets.specs.Certificate.{entry_of, listed_of}
+use Rattle.evict_sets.specs.CacheClauses.{ListsLeaders, StateAfter}
+use Rattle.evict_sets.specs.ListedPart.{state_entry_of, listed_of}
 
 -- the accesses of a graph's nodes
-abbrev pub fetches : Platform → CodeGraph → Accesses
-fetches p g = accesses p (places_of g).address
+abbrev pub node_accesses : Platform → CodeGraph → Accesses
+node_accesses p g = accesses p (places_of g).address
 
 -- each node has the place of its entry among the listed states; a node that is not listed has a place past them
-pub record IsIndex (states : List NodeState) (size : ℕ) (places : List ℕ) : Type 0 where
+pub record IsEntryIndex (states : List NodeState) (size : ℕ) (places : List ℕ) : Type 0 where
   pub count : length places ≡ size
-  pub each : (y : ℕ) → y < size → slice_get states (slice_index places y) ≡ entry_of states y
+  pub each : (y : ℕ) → y < size → slice_get states (slice_index places y) ≡ state_entry_of states y
 
 -- the cache sets of the listed states are below 512
 abbrev pub HasLowSets : TaskPart → Type 0
@@ -30,7 +30,7 @@ HasLowSets t = All (λ (s : NodeState). All (λ (x : ℕ × ℕ). x.0 < 512) s.s
 pub record IsListing (p : Platform) (g : CodeGraph) (t : TaskPart) (places : List ℕ) : Type 0 where
   pub platform : IsPlatform p
   pub sets : HasLowSets t
-  pub index : IsIndex t.states (length g.nodes) places
+  pub index : IsEntryIndex t.states (length g.nodes) places
   pub leaders : ListsLeaders (graph_of g) (listed_of t)
 
 -- the blocks of the cache sets are the full state of node y
@@ -42,7 +42,7 @@ abbrev pub IsStateAfter : Graph → Accesses → Listed → ℕ → List (Option
 IsStateAfter g a l u blocks = (s m : ℕ) → StateAfter g a l u s m ↔ (held blocks s ≡ Some m)
 
 -- all nodes in an order in which an unlisted node stands behind the node that it continues
-pub record IsOrder (g : Graph) (l : Listed) (order : List ℕ) : Type 0 where
+pub record IsChainOrder (g : Graph) (l : Listed) (order : List ℕ) : Type 0 where
   pub count : length order ≡ g.size
   pub nodes : (k : ℕ) → k < g.size → slice_index order k < g.size
   pub every : (y : ℕ) → y < g.size → (k : ℕ) × (k < g.size) × (slice_index order k ≡ y)

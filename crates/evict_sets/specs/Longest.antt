@@ -2,7 +2,7 @@
 use Rattle.std.specs.Prelude.{ℕ, zero, suc, max, Bool, false, if◌then◌else◌, List, [], ◌∷◌}
 use Rattle.crpd_base.specs.declared.data.Platform.{Platform}
 use Rattle.flat_graph.specs.Graph.{Graph}
-use Rattle.flat_graph.specs.EdgeCost.{Listing, edge_cost, end_cost}
+use Rattle.flat_graph.specs.EdgeCost.{NodeCode, edge_cost, end_cost}
 
 -- the greatest of f over a list, or 0
 abbrev pub greatest_of : (ℕ → ℕ) → List ℕ → ℕ
@@ -10,14 +10,14 @@ greatest_of f [] = 0
 greatest_of f (x ∷ xs) = max (f x) (greatest_of f xs)
 
 -- the greatest cost of a node's edges, the one to the end included, with a miss
-abbrev pub longest_at : Platform → Graph → Listing → (ℕ → Bool) → ℕ → ℕ
-longest_at p g l answers u =
+abbrev pub longest_at_node : Platform → Graph → NodeCode → (ℕ → Bool) → ℕ → ℕ
+longest_at_node p g l answers u =
     max (greatest_of (edge_cost p l (λ y. false) u) (g.next u)) (if answers u then end_cost p l (λ y. false) u else 0)
 
-abbrev pub longest_below : Platform → Graph → Listing → (ℕ → Bool) → ℕ → ℕ
+abbrev pub longest_below : Platform → Graph → NodeCode → (ℕ → Bool) → ℕ → ℕ
 longest_below p g l answers zero = 0
-longest_below p g l answers (suc n) = max (longest_at p g l answers n) (longest_below p g l answers n)
+longest_below p g l answers (suc n) = max (longest_at_node p g l answers n) (longest_below p g l answers n)
 
 -- the greatest cost of any edge
-abbrev pub longest : Platform → Graph → Listing → (ℕ → Bool) → ℕ
+abbrev pub longest : Platform → Graph → NodeCode → (ℕ → Bool) → ℕ
 longest p g l answers = longest_below p g l answers g.size

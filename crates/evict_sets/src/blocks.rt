@@ -1,7 +1,7 @@
 // A state as the blocks of the cache sets.
 ghost use Rattle.std.specs.Prelude.{◌≡◌, ◌↔◌, ◌<◌, ℕ, Some, None, length, slice_set, IsTrue, All};
 ghost use Rattle.icache.specs.Cache.{held};
-ghost use Rattle.evict_sets.specs.Certificate.{block_in};
+ghost use Rattle.evict_sets.specs.ListedPart.{block_of_set};
 
 use crpd_base::{SetBits, WORDS};
 
@@ -18,7 +18,7 @@ fn clear(blocks: &mut [Option<u32>])
 pub(crate) fn load(blocks: &mut [Option<u32>], sure: &[(u16, u32)])
     requires low { All (λ (x : ℕ × ℕ). x.0 < 512) sure.now }
     requires room { length blocks.old ≡ 512 }
-    ensures { (s : ℕ) → held blocks.new s ≡ block_in sure.now s }
+    ensures { (s : ℕ) → held blocks.new s ≡ block_of_set sure.now s }
 {
     clear(blocks);
     for done in 0..sure.len() {
@@ -40,7 +40,7 @@ fn is_held(blocks: &[Option<u32>], set: u16, block: u32) -> bool
 pub fn are_held(blocks: &[Option<u32>], sure: &[(u16, u32)]) -> bool
     requires low { All (λ (x : ℕ × ℕ). x.0 < 512) sure.now }
     requires room { length blocks.now ≡ 512 }
-    ensures { IsTrue result ↔ ((s m : ℕ) → block_in sure.now s ≡ Some m → held blocks.now s ≡ Some m) }
+    ensures { IsTrue result ↔ ((s m : ℕ) → block_of_set sure.now s ≡ Some m → held blocks.now s ≡ Some m) }
 {
     let mut seen = SetBits::<WORDS>::new();
     for k in 0..sure.len() {

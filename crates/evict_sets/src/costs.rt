@@ -2,12 +2,12 @@
 ghost use Rattle.std.specs.Prelude.{◌≡◌, ℕ, ◌<◌, ◌≤◌, ◌^◌, false, if◌then◌else◌, slice_get};
 ghost use Rattle.crpd_base.specs.Ranges.{IsPlatform};
 ghost use Rattle.rv_decode.specs.Cost.{cost};
-ghost use Rattle.flat_graph.specs.CodeGraph.{graph_of, listing};
+ghost use Rattle.flat_graph.specs.CodeGraph.{graph_of, node_code};
 ghost use Rattle.flat_graph.specs.EdgeCost.{edge_cost, end_cost};
-ghost use Rattle.evict_sets.specs.Longest.{longest_at, longest};
+ghost use Rattle.evict_sets.specs.Longest.{longest_at_node, longest};
 ghost use Rattle.evict_sets.specs.Answering.{answers_of};
-ghost use Rattle.evict_sets.specs.Greatest.{of_one};
-ghost use Rattle.evict_sets.specs.Amounts.{AreWords};
+ghost use Rattle.evict_sets.specs.OptionalCost.{cost_or_zero};
+ghost use Rattle.evict_sets.specs.CostRange.{HasWordCosts};
 
 use crpd_base::{NodeId, Platform};
 use flat_graph::{Graph, Kind};
@@ -15,7 +15,7 @@ use rv_decode::{Ins, cost};
 
 /// The costs of a platform are numbers of 32 bits.
 fn costs_law(platform: &Platform)
-    ensures { AreWords platform.now }
+    ensures { HasWordCosts platform.now }
 {
     prove!(platform.hit <= u32::MAX);
     prove!(platform.miss <= u32::MAX);
@@ -45,7 +45,7 @@ pub fn edge_cost(
 ) -> u64
     requires source { source.0 < (graph_of graph.now).size }
     requires target { target.0 < (graph_of graph.now).size }
-    ensures cost { result ≡ edge_cost platform.now (listing graph.now) (λ y. hit) source.0 target.0 }
+    ensures cost { result ≡ edge_cost platform.now (node_code graph.now) (λ y. hit) source.0 target.0 }
     ensures small { result < 2 ^ 34 }
 {
     let straight = u64::from(graph.address(source)) + 4;
@@ -57,7 +57,7 @@ pub fn edge_cost(
 /// It is a change of flow but for an ECALL, which never costs one. In constant time.
 pub fn end_cost(graph: &Graph, platform: &Platform, id: NodeId, hit: bool) -> u64
     requires { id.0 < (graph_of graph.now).size }
-    ensures { result ≡ (if answers_of graph.now id.0 then end_cost platform.now (listing graph.now) (λ y. hit) id.0 else 0) }
+    ensures { result ≡ (if answers_of graph.now id.0 then end_cost platform.now (node_code graph.now) (λ y. hit) id.0 else 0) }
 {
     let node = graph.node(id);
     match node.kind {
@@ -70,7 +70,7 @@ pub fn end_cost(graph: &Graph, platform: &Platform, id: NodeId, hit: bool) -> u6
 fn edge_longest(graph: &Graph, platform: &Platform, id: NodeId, k: u8) -> u64
     requires node { id.0 < (graph_of graph.now).size }
     requires place { k < 2 }
-    ensures { result ≡ of_one (edge_cost platform.now (listing graph.now) (λ y. false) id.0) (slice_get ((graph_of graph.now).next id.0) k) }
+    ensures { result ≡ cost_or_zero (edge_cost platform.now (node_code graph.now) (λ y. false) id.0) (slice_get ((graph_of graph.now).next id.0) k) }
 {
     graph.graph_law();
     match graph.succ(id, k) {
@@ -82,7 +82,7 @@ fn edge_longest(graph: &Graph, platform: &Platform, id: NodeId, k: u8) -> u64
 /// The greatest cost of a node's edges, with a miss.
 fn node_longest(graph: &Graph, platform: &Platform, id: NodeId) -> u64
     requires { id.0 < (graph_of graph.now).size }
-    ensures { result ≡ longest_at platform.now (graph_of graph.now) (listing graph.now) (answers_of graph.now) id.0 }
+    ensures { result ≡ longest_at_node platform.now (graph_of graph.now) (node_code graph.now) (answers_of graph.now) id.0 }
 {
     graph.graph_law();
     let first = edge_longest(graph, platform, id, 0);
@@ -93,7 +93,7 @@ fn node_longest(graph: &Graph, platform: &Platform, id: NodeId) -> u64
 /// The longest cost in cycles of one instruction of a task: the greatest cost of any edge of its graph, those to the
 /// end included, where each fetch misses. It looks at each node once. It takes no memory.
 pub fn longest(graph: &Graph, platform: &Platform) -> u64
-    ensures { result ≡ longest platform.now (graph_of graph.now) (listing graph.now) (answers_of graph.now) }
+    ensures { result ≡ longest platform.now (graph_of graph.now) (node_code graph.now) (answers_of graph.now) }
 {
     let mut greatest = 0;
     for node in 0..graph.len() {
@@ -106,8 +106,8 @@ pub fn longest(graph: &Graph, platform: &Platform) -> u64
 /// time.
 pub fn longest_law(graph: &Graph, platform: &Platform)
     requires { IsPlatform platform.now }
-    ensures some { 1 ≤ longest platform.now (graph_of graph.now) (listing graph.now) (answers_of graph.now) }
-    ensures small { longest platform.now (graph_of graph.now) (listing graph.now) (answers_of graph.now) ≤ 2 ^ 18 }
+    ensures some { 1 ≤ longest platform.now (graph_of graph.now) (node_code graph.now) (answers_of graph.now) }
+    ensures small { longest platform.now (graph_of graph.now) (node_code graph.now) (answers_of graph.now) ≤ 2 ^ 18 }
 {
     graph.graph_law();
 }

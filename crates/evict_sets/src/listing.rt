@@ -2,8 +2,8 @@
 ghost use Rattle.std.specs.Prelude.{◌≡◌, ◌↔◌, ◌<◌, ◌≤◌, Some, None, length, IsTrue, MatchOption};
 ghost use Rattle.crpd_base.specs.Ranges.{IsPlatform};
 ghost use Rattle.flat_graph.specs.CodeGraph.{graph_of};
-ghost use Rattle.evict_sets.specs.Certificate.{entry_of, listed_of};
-ghost use Rattle.evict_sets.specs.Listing.{IsIndex, fetches};
+ghost use Rattle.evict_sets.specs.ListedPart.{state_entry_of, listed_of};
+ghost use Rattle.evict_sets.specs.Listing.{IsEntryIndex, node_accesses};
 
 use crpd_base::{NodeId, NodeState, Platform, TaskPart};
 use flat_graph::Graph;
@@ -26,11 +26,11 @@ pub struct Listing<'a> {
 impl Listing<'_> {
     /// The entry of a node, None where the node is not listed. In constant time.
     pub fn entry(&self, node: NodeId) -> Option<&NodeState>
-        requires index { IsIndex self.now.part.now.states (length self.now.graph.now.nodes) self.now.places.now }
+        requires index { IsEntryIndex self.now.part.now.states (length self.now.graph.now.nodes) self.now.places.now }
         requires node { node.0 < (graph_of self.now.graph.now).size }
         ensures { MatchOption result
-            (entry_of self.now.part.now.states node.0 ≡ None)
-            (λ s. entry_of self.now.part.now.states node.0 ≡ Some s.now) }
+            (state_entry_of self.now.part.now.states node.0 ≡ None)
+            (λ s. state_entry_of self.now.part.now.states node.0 ≡ Some s.now) }
     {
         self.part
             .states
@@ -40,7 +40,7 @@ impl Listing<'_> {
 
     /// Whether a node is listed. In constant time.
     pub fn is_listed(&self, node: NodeId) -> bool
-        requires index { IsIndex self.now.part.now.states (length self.now.graph.now.nodes) self.now.places.now }
+        requires index { IsEntryIndex self.now.part.now.states (length self.now.graph.now.nodes) self.now.places.now }
         requires node { node.0 < (graph_of self.now.graph.now).size }
         ensures { result ≡ (listed_of self.now.part.now).is_listed node.0 }
     {
@@ -51,7 +51,7 @@ impl Listing<'_> {
     pub fn block(&self, node: NodeId) -> u32
         requires platform { IsPlatform self.now.platform.now }
         requires node { node.0 < (graph_of self.now.graph.now).size }
-        ensures { result ≡ (fetches self.now.platform.now self.now.graph.now).block node.0 }
+        ensures { result ≡ (node_accesses self.now.platform.now self.now.graph.now).block node.0 }
     {
         Geometry::new(self.platform).block(self.graph.address(node))
     }
@@ -60,7 +60,7 @@ impl Listing<'_> {
     pub fn cache_set(&self, node: NodeId) -> u16
         requires platform { IsPlatform self.now.platform.now }
         requires node { node.0 < (graph_of self.now.graph.now).size }
-        ensures set { result ≡ (fetches self.now.platform.now self.now.graph.now).set node.0 }
+        ensures set { result ≡ (node_accesses self.now.platform.now self.now.graph.now).set node.0 }
         ensures low { result < 512 }
     {
         Geometry::new(self.platform).set(self.block(node))

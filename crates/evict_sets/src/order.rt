@@ -2,9 +2,9 @@
 ghost use Rattle.std.specs.Prelude.{◌≡◌, ◌+◌, ◌<◌, ◌≤◌, ℕ, length, slice_index, IsTrue, IsFalse, MatchOption};
 ghost use Rattle.flat_graph.specs.Graph.{Edge};
 ghost use Rattle.flat_graph.specs.CodeGraph.{graph_of};
-ghost use Rattle.evict_sets.specs.Certificate.{listed_of};
-ghost use Rattle.evict_sets.specs.Listing.{IsListing, IsOrder};
-ghost use Rattle.evict_sets.specs.Ordered.{IsLine, IsClosed, HasListed};
+ghost use Rattle.evict_sets.specs.ListedPart.{listed_of};
+ghost use Rattle.evict_sets.specs.Listing.{IsListing, IsChainOrder};
+ghost use Rattle.evict_sets.specs.OrderPrefix.{IsOrderPrefix, IsChainComplete, HasListedBelow};
 
 use crate::listing::Listing;
 use crate::steps::successor;
@@ -39,12 +39,12 @@ impl Listing<'_> {
         requires node { node.0 < (graph_of self.now.graph.now).size }
         requires listed { IsTrue ((listed_of self.now.part.now).is_listed node.0) }
         requires size { length order.old ≡ (graph_of self.now.graph.now).size }
-        requires line { IsLine (graph_of self.now.graph.now) (listed_of self.now.part.now) order.old start }
-        requires closed { IsClosed (graph_of self.now.graph.now) (listed_of self.now.part.now) order.old start }
-        requires all { HasListed (graph_of self.now.graph.now) (listed_of self.now.part.now) order.old start node.0 }
-        ensures line { IsLine (graph_of self.now.graph.now) (listed_of self.now.part.now) order.new result }
-        ensures closed { IsClosed (graph_of self.now.graph.now) (listed_of self.now.part.now) order.new result }
-        ensures all { HasListed (graph_of self.now.graph.now) (listed_of self.now.part.now) order.new result (node.0 + 1) }
+        requires line { IsOrderPrefix (graph_of self.now.graph.now) (listed_of self.now.part.now) order.old start }
+        requires closed { IsChainComplete (graph_of self.now.graph.now) (listed_of self.now.part.now) order.old start }
+        requires all { HasListedBelow (graph_of self.now.graph.now) (listed_of self.now.part.now) order.old start node.0 }
+        ensures line { IsOrderPrefix (graph_of self.now.graph.now) (listed_of self.now.part.now) order.new result }
+        ensures closed { IsChainComplete (graph_of self.now.graph.now) (listed_of self.now.part.now) order.new result }
+        ensures all { HasListedBelow (graph_of self.now.graph.now) (listed_of self.now.part.now) order.new result (node.0 + 1) }
     {
         self.graph.graph_law();
         order[start] = node.0;
@@ -63,7 +63,7 @@ impl Listing<'_> {
     pub fn write_order(&self, order: &mut [u32])
         requires case { IsListing self.now.platform.now self.now.graph.now self.now.part.now self.now.places.now }
         requires count { length order.old ≡ (graph_of self.now.graph.now).size }
-        ensures { IsOrder (graph_of self.now.graph.now) (listed_of self.now.part.now) order.new }
+        ensures { IsChainOrder (graph_of self.now.graph.now) (listed_of self.now.part.now) order.new }
     {
         self.graph.graph_law();
         let mut count = 0;

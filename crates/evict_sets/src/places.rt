@@ -1,6 +1,6 @@
 // Where the entries of nodes stand in a list of states.
 ghost use Rattle.std.specs.Prelude.{◌≡◌, length};
-ghost use Rattle.evict_sets.specs.Listing.{IsIndex};
+ghost use Rattle.evict_sets.specs.Listing.{IsEntryIndex};
 
 use crpd_base::NodeState;
 
@@ -8,7 +8,7 @@ use crpd_base::NodeState;
 /// number of states where it has none. It looks at each node and state once. It takes no memory.
 pub fn index(states: &[NodeState], nodes: usize, places: &mut [usize])
     requires { length places.old ≡ nodes }
-    ensures { IsIndex states.now nodes places.new }
+    ensures { IsEntryIndex states.now nodes places.new }
 {
     places.fill(states.len());
     for done in 0..states.len() {

@@ -3,9 +3,9 @@ ghost use Rattle.std.specs.Prelude.{◌≡◌, ◌↔◌, ◌<◌, length, IfOk,
 ghost use Rattle.crpd_base.specs.Ranges.{IsPlatform};
 ghost use Rattle.flat_graph.specs.CodeGraph.{graph_of};
 ghost use Rattle.evict_sets.specs.Full.{IsHit};
-ghost use Rattle.evict_sets.specs.Clauses.{ListsLeaders};
-ghost use Rattle.evict_sets.specs.Certificate.{listed_of};
-ghost use Rattle.evict_sets.specs.Listing.{IsListing, IsOrder, IsStateAt, IsStateAfter, HasLowSets, CountsHits, fetches, counted};
+ghost use Rattle.evict_sets.specs.CacheClauses.{ListsLeaders};
+ghost use Rattle.evict_sets.specs.ListedPart.{listed_of};
+ghost use Rattle.evict_sets.specs.Listing.{IsListing, IsChainOrder, IsStateAt, IsStateAfter, HasLowSets, CountsHits, node_accesses, counted};
 
 use crate::blocks::{access, load};
 use crate::listing::Listing;
@@ -21,8 +21,8 @@ impl Listing<'_> {
         requires case { IsListing self.now.platform.now self.now.graph.now self.now.part.now self.now.places.now }
         requires node { node.0 < (graph_of self.now.graph.now).size }
         requires room { length blocks.old ≡ 512 }
-        requires follows { IsFalse ((listed_of self.now.part.now).is_listed node.0) → IsStateAt (graph_of self.now.graph.now) (fetches self.now.platform.now self.now.graph.now) (listed_of self.now.part.now) node.0 blocks.old }
-        ensures { IsStateAt (graph_of self.now.graph.now) (fetches self.now.platform.now self.now.graph.now) (listed_of self.now.part.now) node.0 blocks.new }
+        requires follows { IsFalse ((listed_of self.now.part.now).is_listed node.0) → IsStateAt (graph_of self.now.graph.now) (node_accesses self.now.platform.now self.now.graph.now) (listed_of self.now.part.now) node.0 blocks.old }
+        ensures { IsStateAt (graph_of self.now.graph.now) (node_accesses self.now.platform.now self.now.graph.now) (listed_of self.now.part.now) node.0 blocks.new }
     {
         if let Some(entry) = self.entry(node) {
             load(blocks, entry.sure.as_slice());
@@ -35,9 +35,9 @@ impl Listing<'_> {
         requires case { IsListing self.now.platform.now self.now.graph.now self.now.part.now self.now.places.now }
         requires node { node.0 < (graph_of self.now.graph.now).size }
         requires room { length blocks.old ≡ 512 }
-        requires state { IsStateAt (graph_of self.now.graph.now) (fetches self.now.platform.now self.now.graph.now) (listed_of self.now.part.now) node.0 blocks.old }
-        ensures hit { IsTrue result ↔ IsHit (graph_of self.now.graph.now) (fetches self.now.platform.now self.now.graph.now) (listed_of self.now.part.now) node.0 }
-        ensures after { IsStateAfter (graph_of self.now.graph.now) (fetches self.now.platform.now self.now.graph.now) (listed_of self.now.part.now) node.0 blocks.new }
+        requires state { IsStateAt (graph_of self.now.graph.now) (node_accesses self.now.platform.now self.now.graph.now) (listed_of self.now.part.now) node.0 blocks.old }
+        ensures hit { IsTrue result ↔ IsHit (graph_of self.now.graph.now) (node_accesses self.now.platform.now self.now.graph.now) (listed_of self.now.part.now) node.0 }
+        ensures after { IsStateAfter (graph_of self.now.graph.now) (node_accesses self.now.platform.now self.now.graph.now) (listed_of self.now.part.now) node.0 blocks.new }
     {
         access(blocks, self.cache_set(node), self.block(node))
     }
@@ -47,9 +47,9 @@ impl Listing<'_> {
     /// in the nodes and the listed states. It takes no memory.
     pub fn write_hits(&self, order: &[u32], hits: &mut [bool])
         requires case { IsListing self.now.platform.now self.now.graph.now self.now.part.now self.now.places.now }
-        requires order { IsOrder (graph_of self.now.graph.now) (listed_of self.now.part.now) order.now }
+        requires order { IsChainOrder (graph_of self.now.graph.now) (listed_of self.now.part.now) order.now }
         requires count { length hits.old ≡ (graph_of self.now.graph.now).size }
-        ensures { CountsHits (graph_of self.now.graph.now) (fetches self.now.platform.now self.now.graph.now) (listed_of self.now.part.now) (counted hits.new) }
+        ensures { CountsHits (graph_of self.now.graph.now) (node_accesses self.now.platform.now self.now.graph.now) (listed_of self.now.part.now) (counted hits.new) }
     {
         let mut blocks = [None; SETS];
         for k in 0..order.len() {
@@ -75,7 +75,7 @@ pub fn hits(
     requires platform { IsPlatform platform.now }
     requires sets { HasLowSets part.now }
     requires leaders { ListsLeaders (graph_of graph.now) (listed_of part.now) }
-    ensures hits { IfOk result (λ hits. CountsHits (graph_of graph.now) (fetches platform.now graph.now) (listed_of part.now) (counted hits.items)) }
+    ensures hits { IfOk result (λ hits. CountsHits (graph_of graph.now) (node_accesses platform.now graph.now) (listed_of part.now) (counted hits.items)) }
     ensures count { IfOk result (λ hits. length hits.items ≡ (graph_of graph.now).size) }
 {
     graph.graph_law();

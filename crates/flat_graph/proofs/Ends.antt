@@ -5,10 +5,10 @@ use Rattle.std.proofs.lemmas.List.Elements.{All-nil, All-cons}
 use Rattle.std.proofs.lemmas.Option.{slice_get_within, slice_get-get_or}
 use Rattle.crpd_base.proofs.Elements.{some_at}
 use Rattle.rv_decode.specs.Flow.{Flow, Plain, Branch, Jump, Call, Return, Exit, Break, OtherJalr, OtherJal, Flows, Words, flows}
-use Rattle.flat_graph.specs.FlatGraph.{FlatNode, NodeError, successors, goes_on, goes_to, returns_to, error_of}
-use Rattle.flat_graph.specs.Kept.{onward}
-use Rattle.flat_graph.specs.Built.{AreNumbers, AreLines}
-use Rattle.flat_graph.specs.Leaders.{AreEnds, AreApart}
+use Rattle.flat_graph.specs.FlatGraph.{FlatNode, NodeError, successors, successors_by, goes_to, returns_to, error_of}
+use Rattle.flat_graph.specs.StoredGraph.{onward}
+use Rattle.flat_graph.specs.GraphParts.{AreNumbers, AreNodeLines}
+use Rattle.flat_graph.specs.Leaders.{AreEnds, HasDifferentEnds}
 use Rattle.flat_graph.specs.declared.graph.Onward.{Onward}
 use Rattle.flat_graph.specs.declared.graph.Onward.TheVariants.{Ends, To, Either}
 use Rattle.flat_graph.specs.declared.lines.Line.{Line}
@@ -49,7 +49,7 @@ two_of_flow c a Break m k e = cc
 two_of_flow c a OtherJalr m k e = cc
 two_of_flow c a OtherJal m k e = cc
 
-two_of : (x : Option NodeError) (c : List ℕ) (a : ℕ) (f : Option (Option Flow)) (m k : FlatNode) → goes_on x c a f ≡ m ∷ k ∷ [] → m ≢ k
+two_of : (x : Option NodeError) (c : List ℕ) (a : ℕ) (f : Option (Option Flow)) (m k : FlatNode) → successors_by x c a f ≡ m ∷ k ∷ [] → m ≢ k
 two_of None c a (Some (Some f)) m k e = two_of_flow c a f m k e
 two_of None c a (Some None) m k e = cc
 two_of None c a None m k e = cc
@@ -74,12 +74,12 @@ module _ (nodes : List FlatNode) (code : Flows) (entry : ℕ) (n : FlatNode) whe
   pub line_ends : (next : Onward) → AreNumbers nodes (onward next) (successors code entry n) → AreEnds (length nodes) next
   line_ends next e = record { below = below nodes (onward next) (successors code entry n) e; apart = by next e }
     where
-      by : (next : Onward) → AreNumbers nodes (onward next) (successors code entry n) → AreApart next
+      by : (next : Onward) → AreNumbers nodes (onward next) (successors code entry n) → HasDifferentEnds next
       by Ends e = tt
       by (To v) e = tt
       by (Either v w) e = two_numbers v w (successors code entry n) refl e
 
-pub all_ends : (words : Words) (entry : ℕ) (nodes : List FlatNode) (lines : List Line) → AreLines words entry nodes lines → length lines ≡ length nodes → All (λ l. AreEnds (length lines) l.next) lines
+pub all_ends : (words : Words) (entry : ℕ) (nodes : List FlatNode) (lines : List Line) → AreNodeLines words entry nodes lines → length lines ≡ length nodes → All (λ l. AreEnds (length lines) l.next) lines
 all_ends words entry nodes lines L same k d lt =
     let n = some_at nodes k (omega arith) in
     subst (λ s. AreEnds s (get_or lines k d).next) (sym same)

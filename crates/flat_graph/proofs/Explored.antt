@@ -5,9 +5,9 @@ use Rattle.std.proofs.lemmas.List.{get_or_append_left, length-append, reverse-re
 use Rattle.std.proofs.lemmas.List.Elements.{Contains-append_left, Contains-append_cases, All-nil, All-push}
 use Rattle.std.proofs.lemmas.Option.{slice_get_within}
 use Rattle.crpd_base.proofs.Elements.{head_or_rest, in_none, in_one, contains_at, at_contains, slice_get_left}
-use Rattle.rv_decode.specs.Address.{end}
+use Rattle.rv_decode.specs.Address.{end_address}
 use Rattle.rv_decode.specs.Flow.{Flow, Plain, Branch, Jump, Call, Return, Exit, Break, OtherJalr, OtherJal, Flows, Words, IsCodeMap, flows, flow_of_word}
-use Rattle.flat_graph.specs.FlatGraph.{FlatNode, NodeError, IsNode, the_first, a_successor, successors, returns_to, goes_to, goes_on, error_of}
+use Rattle.flat_graph.specs.FlatGraph.{FlatNode, NodeError, IsNode, the_first, a_successor, successors, returns_to, goes_to, successors_by, error_of}
 use Rattle.flat_graph.specs.Reach.{AreAdded, IsExplored}
 use Rattle.flat_graph.specs.Spots.{IsBelowEnd}
 
@@ -62,7 +62,7 @@ All-left P xs ys h k d lt = subst P (get_or_append_left xs ys d k lt) (h k d (si
 
 -- a word stands at each call under way
 module _ (words : Words) (W : IsCodeMap words) (entry : ℕ) where
-  below : (o : Option ℕ) (a : ℕ) (f : Flow) → words a ≡ o → flow_of_word a o ≡ Some (Some f) → a + 4 ≤ end
+  below : (o : Option ℕ) (a : ℕ) (f : Flow) → words a ≡ o → flow_of_word a o ≡ Some (Some f) → a + 4 ≤ end_address
   below None a f e h = cc
   below (Some w) a f e h = W a w e
 
@@ -70,13 +70,13 @@ module _ (words : Words) (W : IsCodeMap words) (entry : ℕ) where
   after_return [] c e h m k = absurd (in_none m k)
   after_return (b ∷ d) c e h m k =
       let split = sym (reverse-reverse c) ∙ ap reverse e ∙ reverse-append (b ∷ []) d in
-      subst (λ n. IsBelowEnd n.context) (in_one m _ k) (All-left (λ a. a + 4 ≤ end) (reverse d) (b ∷ []) (subst IsBelowEnd split h))
+      subst (λ n. IsBelowEnd n.context) (in_one m _ k) (All-left (λ a. a + 4 ≤ end_address) (reverse d) (b ∷ []) (subst IsBelowEnd split h))
 
   one_other : (b : Bool) (x m : FlatNode) → Contains (if b then [] else x ∷ []) m → x ≡ m
   one_other true x m k = absurd (in_none m k)
   one_other false x m k = in_one m x k
 
-  by_flow : (c : List ℕ) (a : ℕ) (f : Flow) → IsBelowEnd c → a + 4 ≤ end → (m : FlatNode) → Contains (goes_to c a f) m → IsBelowEnd m.context
+  by_flow : (c : List ℕ) (a : ℕ) (f : Flow) → IsBelowEnd c → a + 4 ≤ end_address → (m : FlatNode) → Contains (goes_to c a f) m → IsBelowEnd m.context
   by_flow c a Plain h le m k = subst (λ n. IsBelowEnd n.context) (in_one m _ k) h
   by_flow c a (Branch t) h le m k =
       ⊎_elim
@@ -84,15 +84,15 @@ module _ (words : Words) (W : IsCodeMap words) (entry : ℕ) where
       (λ r. subst (λ n. IsBelowEnd n.context) (one_other (t == a + 4) (record { context = c; address = t }) m r) h)
       (head_or_rest _ m _ k)
   by_flow c a (Jump t) h le m k = subst (λ n. IsBelowEnd n.context) (in_one m _ k) h
-  by_flow c a (Call t) h le m k = subst (λ n. IsBelowEnd n.context) (in_one m _ k) (All-push (λ b. b + 4 ≤ end) c a h le)
+  by_flow c a (Call t) h le m k = subst (λ n. IsBelowEnd n.context) (in_one m _ k) (All-push (λ b. b + 4 ≤ end_address) c a h le)
   by_flow c a Return h le m k = after_return (reverse c) c refl h m k
   by_flow c a Exit h le m k = absurd (in_none m k)
   by_flow c a Break h le m k = absurd (in_none m k)
   by_flow c a OtherJalr h le m k = absurd (in_none m k)
   by_flow c a OtherJal h le m k = absurd (in_none m k)
 
-  by_error : (e : Option NodeError) (c : List ℕ) (a : ℕ) (f : Option (Option Flow)) → IsBelowEnd c → ((g : Flow) → f ≡ Some (Some g) → a + 4 ≤ end) →
-      (m : FlatNode) → Contains (goes_on e c a f) m → IsBelowEnd m.context
+  by_error : (e : Option NodeError) (c : List ℕ) (a : ℕ) (f : Option (Option Flow)) → IsBelowEnd c → ((g : Flow) → f ≡ Some (Some g) → a + 4 ≤ end_address) →
+      (m : FlatNode) → Contains (successors_by e c a f) m → IsBelowEnd m.context
   by_error None c a (Some (Some g)) h le m k = by_flow c a g h (le g refl) m k
   by_error None c a (Some None) h le m k = absurd (in_none m k)
   by_error None c a None h le m k = absurd (in_none m k)
@@ -101,7 +101,7 @@ module _ (words : Words) (W : IsCodeMap words) (entry : ℕ) where
   by_error (Some x) c a None h le m k = absurd (in_none m k)
 
   pub below_end : (n : FlatNode) → IsNode (flows words) entry n → IsBelowEnd n.context
-  below_end n (the_first) = All-nil (λ b. b + 4 ≤ end)
+  below_end n (the_first) = All-nil (λ b. b + 4 ≤ end_address)
   below_end m (a_successor n m' h c) =
       by_error (error_of (flows words) entry n) n.context n.address (flows words n.address) (below_end n h)
       (λ g e. below (words n.address) n.address g refl e) m c

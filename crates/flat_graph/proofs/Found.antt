@@ -13,8 +13,8 @@ use Rattle.std.specs.BTreeMap.{is_at}
 use Rattle.std.specs.BTreeSet.{insert_key}
 use Rattle.crpd_base.proofs.Elements.{at_head, at_rest, head_or_rest, in_none, in_one, contains_map}
 use Rattle.flat_graph.specs.FlatGraph.{FlatNode}
-use Rattle.flat_graph.specs.Reach.{IsReached, AreAdded}
-use Rattle.flat_graph.specs.Spots.{flat, flats}
+use Rattle.flat_graph.specs.Reach.{AreSameSpots, AreAdded}
+use Rattle.flat_graph.specs.Spots.{spot_node, spot_nodes}
 use Rattle.flat_graph.specs.declared.spots.Spot.{Spot}
 use Rattle.flat_graph.proofs.Order.{then_equal, nat_equal, nat_same}
 
@@ -98,8 +98,8 @@ module _ (cmp : Spot → Spot → Ordering) (is : (s t : Spot) → cmp s t ≡ s
   found_spot (x ∷ xs) s h = found_by (is_at (cmp s) x) s x xs refl (found_spot xs s) h
 
   -- one more spot that was not there
-  pub reached_more : (lists : List (List ℕ)) (set list : List Spot) (s : Spot) → IsReached lists set list → IsStrictlySortedBy cmp (insert_key cmp set s) →
-      length (insert_key cmp set s) ≡ length set + 1 → s.context < length lists → IsReached lists (insert_key cmp set s) (list ++ s ∷ [])
+  pub reached_more : (lists : List (List ℕ)) (set list : List Spot) (s : Spot) → AreSameSpots lists set list → IsStrictlySortedBy cmp (insert_key cmp set s) →
+      length (insert_key cmp set s) ≡ length set + 1 → s.context < length lists → AreSameSpots lists (insert_key cmp set s) (list ++ s ∷ [])
   reached_more lists set list s R sorted count lt = record {
     apart = apart_keys (insert_key cmp set s) sorted;
     same = λ n. (into n, from n);
@@ -139,20 +139,20 @@ added_none old some f = record { more = []; behind = sym (append_nil old); among
     append_nil [] = refl
     append_nil (x ∷ l) = ap (λ r. x ∷ r) (append_nil l)
 
-pub added_there : (lists : List (List ℕ)) (old : List Spot) (s : Spot) → Contains old s → AreAdded (flats lists old) (flat lists s ∷ []) (flats lists old)
+pub added_there : (lists : List (List ℕ)) (old : List Spot) (s : Spot) → Contains old s → AreAdded (spot_nodes lists old) (spot_node lists s ∷ []) (spot_nodes lists old)
 added_there lists old s there =
-    added_none (flats lists old) (flat lists s ∷ []) (λ n m. subst (Contains (flats lists old)) (in_one n _ m) (contains_map (flat lists) old s there))
+    added_none (spot_nodes lists old) (spot_node lists s ∷ []) (λ n m. subst (Contains (spot_nodes lists old)) (in_one n _ m) (contains_map (spot_node lists) old s there))
 
-pub added_one : (lists : List (List ℕ)) (old new : List Spot) (s : Spot) → new ≡ old ++ s ∷ [] → AreAdded (flats lists old) (flat lists s ∷ []) (flats lists new)
+pub added_one : (lists : List (List ℕ)) (old new : List Spot) (s : Spot) → new ≡ old ++ s ∷ [] → AreAdded (spot_nodes lists old) (spot_node lists s ∷ []) (spot_nodes lists new)
 added_one lists old new s e = record {
-  more = flat lists s ∷ [];
+  more = spot_node lists s ∷ [];
   behind = split;
   among = λ n c. c;
-  has = λ n c. subst (λ l. Contains l n) (sym split) (Contains-append_right (flats lists old) (flat lists s ∷ []) n c);
+  has = λ n c. subst (λ l. Contains l n) (sym split) (Contains-append_right (spot_nodes lists old) (spot_node lists s ∷ []) n c);
 }
   where
-    split : flats lists new ≡ flats lists old ++ flat lists s ∷ []
-    split = ap (flats lists) e ∙ map-append (flat lists) old (s ∷ [])
+    split : spot_nodes lists new ≡ spot_nodes lists old ++ spot_node lists s ∷ []
+    split = ap (spot_nodes lists) e ∙ map-append (spot_node lists) old (s ∷ [])
 
 pub added_then : (old mid new : List FlatNode) (a b : FlatNode) → AreAdded old (a ∷ []) mid → AreAdded mid (b ∷ []) new → AreAdded old (a ∷ b ∷ []) new
 added_then old mid new a b A B = record {

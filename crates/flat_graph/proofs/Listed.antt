@@ -7,14 +7,14 @@ use Rattle.std.specs.declared.cmp.Ordering.TheVariants.{Less, Equal, Greater}
 use Rattle.std.specs.Ordering.{is_eq}
 use Rattle.std.specs.BTreeMap.{BTreeMap, get, is_at}
 use Rattle.crpd_base.proofs.Elements.{slice_get_left, some_at, at_more, at_end}
-use Rattle.flat_graph.specs.Compared.{list_cmp}
+use Rattle.flat_graph.specs.NumberingOrder.{list_cmp}
 use Rattle.flat_graph.specs.FlatGraph.{FlatNode}
-use Rattle.flat_graph.specs.Reach.{AreNumbered, HasMore, IsReached}
-use Rattle.flat_graph.specs.Spots.{flat, flats}
+use Rattle.flat_graph.specs.Reach.{AreNumbered, ExtendsLists, AreSameSpots}
+use Rattle.flat_graph.specs.Spots.{spot_node, spot_nodes}
 use Rattle.flat_graph.specs.declared.spots.Spot.{Spot}
 use Rattle.flat_graph.proofs.Order.{list_equal, list_same}
 
-pub more_pushed : (lists : List (List ℕ)) (c : List ℕ) → HasMore lists (lists ++ c ∷ [])
+pub more_pushed : (lists : List (List ℕ)) (c : List ℕ) → ExtendsLists lists (lists ++ c ∷ [])
 more_pushed lists c n d e = slice_get_left lists (c ∷ []) n (slice_get_within lists n d e) ∙ e
 
 equal_at : (o : Ordering) → is_eq o ≡ true → o ≡ Equal
@@ -54,24 +54,24 @@ module _ (m m' : BTreeMap (List ℕ) ℕ) (lists : List (List ℕ)) (c : List �
   )
 
 -- where lists stand as they stood, spots are the nodes that they were
-module _ (old new : List (List ℕ)) (more : HasMore old new) where
+module _ (old new : List (List ℕ)) (more : ExtendsLists old new) where
   pub within_more : (n : ℕ) → n < length old → n < length new
   within_more n lt = let c = some_at old n lt in slice_get_within new n c.0 (more n c.0 c.1)
 
-  flat_more : (s : Spot) → s.context < length old → flat new s ≡ flat old s
+  flat_more : (s : Spot) → s.context < length old → spot_node new s ≡ spot_node old s
   flat_more s lt =
       let c = some_at old s.context lt in
       let same = get_or_from_slice_get new s.context c.0 [] (more s.context c.0 c.1) ∙ sym (get_or_from_slice_get old s.context c.0 [] c.1) in
       λ i. record { context = same i; address = s.address }
 
-  pub flats_more : (spots : List Spot) → All (λ s. s.context < length old) spots → flats new spots ≡ flats old spots
+  pub flats_more : (spots : List Spot) → All (λ s. s.context < length old) spots → spot_nodes new spots ≡ spot_nodes old spots
   flats_more [] h = refl
   flats_more (s ∷ spots) h =
       let here = flat_more s (h 0 s (omega arith)) in
       let rest = flats_more spots (λ k d lt. h (suc k) d (omega arith)) in
       λ i. here i ∷ rest i
 
-  pub reached_lists : (set list : List Spot) → IsReached old set list → IsReached new set list
+  pub reached_lists : (set list : List Spot) → AreSameSpots old set list → AreSameSpots new set list
   reached_lists set list R = record {
     apart = R.apart;
     same = R.same;
@@ -80,11 +80,11 @@ module _ (old new : List (List ℕ)) (more : HasMore old new) where
   }
 
 -- the node of a spot whose list is known
-pub flat_listed : (lists : List (List ℕ)) (n a : ℕ) (c : List ℕ) → slice_get lists n ≡ Some c → flat lists (record { context = n; address = a }) ≡ record { context = c; address = a }
+pub flat_listed : (lists : List (List ℕ)) (n a : ℕ) (c : List ℕ) → slice_get lists n ≡ Some c → spot_node lists (record { context = n; address = a }) ≡ record { context = c; address = a }
 flat_listed lists n a c e = let same = get_or_from_slice_get lists n c [] e in λ i. record { context = same i; address = a }
 
 -- two spots with lists of calls are one node only if they are one spot
-pub one_spot : (m : BTreeMap (List ℕ) ℕ) (lists : List (List ℕ)) → AreNumbered m lists → (s t : Spot) → s.context < length lists → t.context < length lists → flat lists s ≡ flat lists t → s ≡ t
+pub one_spot : (m : BTreeMap (List ℕ) ℕ) (lists : List (List ℕ)) → AreNumbered m lists → (s t : Spot) → s.context < length lists → t.context < length lists → spot_node lists s ≡ spot_node lists t → s ≡ t
 one_spot m lists N s t s_lt t_lt e =
     let c = some_at lists s.context s_lt in
     let d = some_at lists t.context t_lt in

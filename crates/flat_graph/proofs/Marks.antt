@@ -7,8 +7,8 @@ use Rattle.std.proofs.lemmas.Option.{slice_get_within}
 use Rattle.crpd_base.proofs.Elements.{at_head, at_rest, head_or_rest, in_none, in_one, some_at}
 use Rattle.flat_graph.specs.declared.lines.Line.{Line}
 use Rattle.flat_graph.specs.Graph.{Graph, Edge, Continues, IsLeader}
-use Rattle.flat_graph.specs.Kept.{onward}
-use Rattle.flat_graph.specs.Leaders.{AreEnds, IsMarked, AreMarked, HasLeaders, leads, marked, met}
+use Rattle.flat_graph.specs.StoredGraph.{onward}
+use Rattle.flat_graph.specs.Leaders.{AreEnds, IsMarked, AreMarked, HasLeaders, is_leading, mark_after_edges, mark_after_edge}
 use Rattle.flat_graph.specs.declared.graph.Onward.{Onward}
 use Rattle.flat_graph.specs.declared.graph.Onward.TheVariants.{Ends, To, Either}
 use Rattle.flat_graph.specs.declared.leaders.Mark.{Mark}
@@ -34,7 +34,7 @@ module _ (g : Graph) (k : ℕ) (lt : k < g.size) where
   stays v mark.Leads none h = h
 
   -- the one edge from node k goes to v
-  met_once : (v : ℕ) (m : Mark) → g.next k ≡ v ∷ [] → IsMarked g k v m → IsMarked g (k + 1) v (met m)
+  met_once : (v : ℕ) (m : Mark) → g.next k ≡ v ∷ [] → IsMarked g k v m → IsMarked g (k + 1) v (mark_after_edge m)
   met_once v mark.Unmet e h =
       (h.0, k, omega arith, e, λ w below c. ⊎_elim (λ old. absurd (h.1 w old c)) (λ new. omega (arith, new, below)) (cases_lt w k))
   met_once v mark.Continues e h = λ c.
@@ -64,11 +64,11 @@ module _ (g : Graph) (k : ℕ) (lt : k < g.size) where
       (λ r. let same = in_one v b r in absurd (grind (arith, nat_tests)))
       (head_or_rest (b ∷ []) v a (subst (λ l. Contains l v) e c))
 
-  pub marked_more : (next : Onward) → AreEnds g.size next → g.next k ≡ onward next → (v : ℕ) (m : Mark) → IsMarked g k v m → IsMarked g (k + 1) v (marked next v m)
+  pub marked_more : (next : Onward) → AreEnds g.size next → g.next k ≡ onward next → (v : ℕ) (m : Mark) → IsMarked g k v m → IsMarked g (k + 1) v (mark_after_edges next v m)
   marked_more Ends E e v m h = stays v m (λ c. in_none v (subst (λ l. Contains l v) e c)) h
   marked_more (To a) E e v m h = by (v == a) refl
     where
-      by : (b : Bool) → (v == a) ≡ b → IsMarked g (k + 1) v (if b then met m else m)
+      by : (b : Bool) → (v == a) ≡ b → IsMarked g (k + 1) v (if b then mark_after_edge m else m)
       by true t = let same : v ≡ a = grind (arith, nat_tests) in met_once v m (subst (λ x. g.next k ≡ x ∷ []) (sym same) e) h
       by false f = stays v m (other_one v a e f) h
   marked_more (Either a b) E e v m h = by ((v == a) || (v == b)) refl
@@ -84,7 +84,7 @@ module _ (g : Graph) (k : ℕ) (lt : k < g.size) where
       by false f = stays v m (other_two v a b e f) h
 
 -- where all edges were met, the mark tells whether the node is a leader
-pub marks_tell : (g : Graph) (v : ℕ) (m : Mark) → IsMarked g g.size v m → IsTrue (leads m) ↔ IsLeader g v
+pub marks_tell : (g : Graph) (v : ℕ) (m : Mark) → IsMarked g g.size v m → IsTrue (is_leading m) ↔ IsLeader g v
 marks_tell g v mark.Unmet h = (λ n c. h.1 c.0 c.1.edge.0 c.1.edge.1, λ l. refl)
 marks_tell g v mark.Continues h = (λ n. cc, λ l. absurd (l (h.1, goes_on)))
   where
@@ -97,20 +97,20 @@ marks_tell g v mark.Continues h = (λ n. cc, λ l. absurd (l (h.1, goes_on)))
     }
 marks_tell g v mark.Leads h = (λ n. h, λ l. refl)
 
-pub all_met : (lines : List Line) (first : ℕ) (marks : List Mark) → AreMarked lines first (length lines) marks → HasLeaders lines first (map leads marks)
+pub all_met : (lines : List Line) (first : ℕ) (marks : List Mark) → AreMarked lines first (length lines) marks → HasLeaders lines first (map is_leading marks)
 all_met lines first marks M g E v b e =
     let m = some_mark marks v b e in
     let tell = marks_tell g v m.0 (subst (λ n. IsMarked g n v m.0) (sym E.size) (M g E v m.0 m.1)) in
     subst (λ x. IsTrue x ↔ IsLeader g v) m.2 tell
   where
-    some_mark : (ms : List Mark) (k : ℕ) (x : Bool) → slice_get (map leads ms) k ≡ Some x → (m : Mark) × (slice_get ms k ≡ Some m) × (leads m ≡ x)
+    some_mark : (ms : List Mark) (k : ℕ) (x : Bool) → slice_get (map is_leading ms) k ≡ Some x → (m : Mark) × (slice_get ms k ≡ Some m) × (is_leading m ≡ x)
     some_mark [] k x s = cc
     some_mark (m ∷ ms) zero x s = (m, refl, cc)
     some_mark (m ∷ ms) (suc k) x s = some_mark ms k x s
 
 -- marks after the edges of one more line
 pub all_more : (lines : List Line) (first k : ℕ) (l : Line) (old new : List Mark) → AreMarked lines first k old → slice_get lines k ≡ Some l → AreEnds (length lines) l.next →
-    length new ≡ length old → ((v : ℕ) (m n : Mark) → slice_get old v ≡ Some m → slice_get new v ≡ Some n → n ≡ marked l.next v m) → AreMarked lines first (k + 1) new
+    length new ≡ length old → ((v : ℕ) (m n : Mark) → slice_get old v ≡ Some m → slice_get new v ≡ Some n → n ≡ mark_after_edges l.next v m) → AreMarked lines first (k + 1) new
 all_more lines first k l old new M at ends same after g E v n e =
     let m = some_at old v (omega (arith, same, slice_get_within new v n e)) in
     let below : k < g.size = omega (arith, E.size, slice_get_within lines k l at) in

@@ -9,20 +9,20 @@ use Rattle.std.specs.Ordering.{ordering_index}
 use Rattle.std.specs.List.Sorted.{IsBinarySearchResult, IsSearchInRange, IsNonDecreasingBy}
 use Rattle.crpd_base.proofs.Elements.{contains_at, at_contains}
 use Rattle.rv_decode.specs.Flow.{Flows}
-use Rattle.flat_graph.specs.FlatGraph.{FlatNode, NodeError, IsBefore, IsNode, IsNumbering, HasMoreNodes, error_of, IsGraphRefused, AtNode}
+use Rattle.flat_graph.specs.FlatGraph.{FlatNode, NodeError, IsNumberedBefore, IsNode, IsNumbering, HasMoreNodes, error_of, IsGraphRefused, AtNode}
 use Rattle.flat_graph.specs.FlatGraph as node
-use Rattle.flat_graph.specs.Refusals.{graph_error, IsRefused}
-use Rattle.flat_graph.specs.Spots.{flat, flats}
+use Rattle.flat_graph.specs.GraphErrors.{graph_error, IsGraphError}
+use Rattle.flat_graph.specs.Spots.{spot_node, spot_nodes}
 use Rattle.flat_graph.specs.declared.fault.GraphError.{GraphError}
 use Rattle.flat_graph.specs.declared.spots.Spot.{Spot}
-use Rattle.flat_graph.specs.Compared.{flat_cmp}
+use Rattle.flat_graph.specs.NumberingOrder.{flat_cmp}
 use Rattle.flat_graph.proofs.Order.{flat_equal, flat_same, rises, before_one_way, not_before_same}
 
 module _ (lists : List (List ℕ)) where
   abbrev node_in : Spot → FlatNode
-  node_in = flat lists
+  node_in = spot_node lists
 
-  rising : (xs : List Spot) (x : FlatNode) → AllPairs IsBefore (flats lists xs) → IsNonDecreasingBy (λ y. ordering_index (flat_cmp (node_in y) x)) xs
+  rising : (xs : List Spot) (x : FlatNode) → AllPairs IsNumberedBefore (spot_nodes lists xs) → IsNonDecreasingBy (λ y. ordering_index (flat_cmp (node_in y) x)) xs
   rising xs x h i j d le within =
       ⊎_elim
       (λ lt. rises (node_in (get_or xs i d)) (node_in (get_or xs j d)) x (before lt))
@@ -32,20 +32,20 @@ module _ (lists : List (List ℕ)) where
       the : (a b : ℕ) → a ≡ b → a ≡ b
       the a b e = e
 
-      before : i < j → IsBefore (node_in (get_or xs i d)) (node_in (get_or xs j d))
+      before : i < j → IsNumberedBefore (node_in (get_or xs i d)) (node_in (get_or xs j d))
       before lt =
-          subst (λ n. IsBefore n (node_in (get_or xs j d))) (get_or-map node_in xs i d (node_in d) (omega arith))
-          (subst (λ n. IsBefore (get_or (flats lists xs) i (node_in d)) n) (get_or-map node_in xs j d (node_in d) within)
+          subst (λ n. IsNumberedBefore n (node_in (get_or xs j d))) (get_or-map node_in xs i d (node_in d) (omega arith))
+          (subst (λ n. IsNumberedBefore (get_or (spot_nodes lists xs) i (node_in d)) n) (get_or-map node_in xs j d (node_in d) within)
           (h i j (node_in d) lt (simp length-map (omega arith))))
 
   -- a search for a node that is there finds it
   pub searched : (xs : List Spot) (x : FlatNode) (r : Result ℕ ℕ) → IsSearchInRange r (length xs) → IsBinarySearchResult (λ y. flat_cmp (node_in y) x) xs r →
-      AllPairs IsBefore (flats lists xs) → Contains (flats lists xs) x → (i : ℕ) × (r ≡ Ok i) × (slice_get (flats lists xs) i ≡ Some x)
+      AllPairs IsNumberedBefore (spot_nodes lists xs) → Contains (spot_nodes lists xs) x → (i : ℕ) × (r ≡ Ok i) × (slice_get (spot_nodes lists xs) i ≡ Some x)
   searched xs x (Ok i) within found h c =
       let d : Spot = record { context = 0; address = 0 } in (
         i,
         refl,
-        slice_get-get_or (flats lists xs) i x (simp length-map within)
+        slice_get-get_or (spot_nodes lists xs) i x (simp length-map within)
             ∙ ap Some (get_or-map node_in xs i d x within ∙ flat_equal (node_in (get_or xs i d)) x (found d)),
       )
   searched xs x (Err i) within parts h (k, lt, e) =
@@ -63,8 +63,8 @@ pub found_ok : (r : Result ℕ ℕ) (i : ℕ) → r ≡ Ok i → is_ok r ≡ tru
 found_ok r i e = ap is_ok e
 
 -- ordered nodes are at most as many as those among which they are, in the same order
-module _ (nodes some : List FlatNode) (N : AllPairs IsBefore nodes) (S : AllPairs IsBefore some) (among : (n : FlatNode) → Contains some n → Contains nodes n) where
-  later : (p q : ℕ) (n m : FlatNode) → slice_get nodes p ≡ Some n → slice_get nodes q ≡ Some m → IsBefore n m → p < q
+module _ (nodes some : List FlatNode) (N : AllPairs IsNumberedBefore nodes) (S : AllPairs IsNumberedBefore some) (among : (n : FlatNode) → Contains some n → Contains nodes n) where
+  later : (p q : ℕ) (n m : FlatNode) → slice_get nodes p ≡ Some n → slice_get nodes q ≡ Some m → IsNumberedBefore n m → p < q
   later p q n m a b h =
       ⊎_elim
       (λ e. absurd (not_before_same n m (same e) h))
@@ -74,10 +74,10 @@ module _ (nodes some : List FlatNode) (N : AllPairs IsBefore nodes) (S : AllPair
       same : p ≡ q → n ≡ m
       same e = let c = subst (λ k. slice_get nodes k ≡ Some n) e a in cc (c, b)
 
-      pair : q < p → IsBefore m n
+      pair : q < p → IsNumberedBefore m n
       pair lt =
-          subst (λ x. IsBefore x n) (get_or_from_slice_get nodes q m m b)
-          (subst (λ x. IsBefore (get_or nodes q m) x) (get_or_from_slice_get nodes p n m a)
+          subst (λ x. IsNumberedBefore x n) (get_or_from_slice_get nodes q m m b)
+          (subst (λ x. IsNumberedBefore (get_or nodes q m) x) (get_or_from_slice_get nodes p n m a)
           (N q p m lt (slice_get_within nodes p n a)))
 
   at_least : (d : FlatNode) (i : ℕ) → i < length some → (p : ℕ) × (slice_get nodes p ≡ Some (get_or some i d)) × (i ≤ p)
@@ -114,7 +114,7 @@ pub refused_at : (code : Flows) (entry limit : ℕ) (nodes : List FlatNode) (k :
 refused_at code entry limit nodes k n x N le at e none =
     (not_too_many code entry limit nodes N le, n, (N.all n).1 (at_contains nodes k n at), e, refl, least)
   where
-    least : (m : FlatNode) (y : NodeError) → IsNode code entry m → error_of code entry m ≡ Some y → IsBefore m n → ⊥
+    least : (m : FlatNode) (y : NodeError) → IsNode code entry m → error_of code entry m ≡ Some y → IsNumberedBefore m n → ⊥
     least m y h f b =
         let c = contains_at nodes m ((N.all m).0 h) in
         let lt = later nodes nodes N.ordered N.ordered (λ z i. i) c.0 k m n c.1 at b in
@@ -122,14 +122,14 @@ refused_at code entry limit nodes k n x N le at e none =
         cc
 
 pub refused_by : (code : Flows) (entry : ℕ) (o : Option NodeError) (a : ℕ) (e : GraphError) → option_map (λ x. graph_error x a) o ≡ Some e →
-    ((x : NodeError) → o ≡ Some x → IsGraphRefused code entry 16384 (AtNode x a)) → IsRefused code entry e
+    ((x : NodeError) → o ≡ Some x → IsGraphRefused code entry 16384 (AtNode x a)) → IsGraphError code entry e
 refused_by code entry None a e h f = cc
-refused_by code entry (Some x) a e h f = subst (IsRefused code entry) (inner (graph_error x a) e h) (by x (f x refl))
+refused_by code entry (Some x) a e h f = subst (IsGraphError code entry) (inner (graph_error x a) e h) (by x (f x refl))
   where
     inner : (p q : GraphError) → (Some p ≡ Some q) → p ≡ q
     inner p q s = cc
 
-    by : (y : NodeError) → IsGraphRefused code entry 16384 (AtNode y a) → IsRefused code entry (graph_error y a)
+    by : (y : NodeError) → IsGraphRefused code entry 16384 (AtNode y a) → IsGraphError code entry (graph_error y a)
     by node.Misaligned r = r
     by node.OutsideCode r = r
     by node.Undecodable r = r

@@ -9,8 +9,8 @@ use Rattle.std.specs.Ordering.{nat_cmp, ordering_then, ordering_reverse, orderin
 use Rattle.std.specs.Cmp.{IsTotalOrder, nat_cmp_is}
 use Rattle.std.specs.Cmp.Rules.{comparing}
 use Rattle.std.specs.Cmp.Lexicographic.{slice_cmp}
-use Rattle.flat_graph.specs.Compared.{list_cmp, flat_cmp}
-use Rattle.flat_graph.specs.FlatGraph.{FlatNode, list_lt, IsBefore}
+use Rattle.flat_graph.specs.NumberingOrder.{list_cmp, flat_cmp}
+use Rattle.flat_graph.specs.FlatGraph.{FlatNode, list_lt, IsNumberedBefore}
 
 then_less : (o rest : Ordering) → ordering_then o rest ≡ Less → (o ≡ Less) ⊎ ((o ≡ Equal) × (rest ≡ Less))
 then_less Less rest e = inl refl
@@ -59,7 +59,7 @@ pub list_same : (xs : List ℕ) → list_cmp xs xs ≡ Equal
 list_same [] = refl
 list_same (x ∷ xs) = ap (λ o. ordering_then o (list_cmp xs xs)) (nat_same x) ∙ list_same xs
 
-pub flat_less : (n m : FlatNode) → flat_cmp n m ≡ Less → IsBefore n m
+pub flat_less : (n m : FlatNode) → flat_cmp n m ≡ Less → IsNumberedBefore n m
 flat_less n m e =
     ⊎_elim
     (λ l. inl (list_less n.context m.context l))
@@ -97,14 +97,14 @@ lt_self : (xs ys : List ℕ) → xs ≡ ys → list_lt xs ys ≡ true → ⊥
 lt_self xs ys same e = lt_one_way xs ys e (subst (λ l. list_lt l xs ≡ true) same (subst (λ l. list_lt xs l ≡ true) (sym same) e))
 
 -- the order goes one way
-pub before_one_way : (n m : FlatNode) → IsBefore n m → IsBefore m n → ⊥
+pub before_one_way : (n m : FlatNode) → IsNumberedBefore n m → IsNumberedBefore m n → ⊥
 before_one_way n m (inl a) (inl b) = lt_one_way n.context m.context a b
 before_one_way n m (inl a) (inr b) = lt_self n.context m.context (sym b.0) a
 before_one_way n m (inr a) (inl b) = lt_self m.context n.context (sym a.0) b
 before_one_way n m (inr a) (inr b) = absurd (omega (arith, a.1, b.1))
 
-pub not_before_same : (n m : FlatNode) → n ≡ m → IsBefore n m → ⊥
-not_before_same n m e b = before_one_way n m b (subst (λ x. IsBefore x n) e (subst (λ x. IsBefore n x) (sym e) b))
+pub not_before_same : (n m : FlatNode) → n ≡ m → IsNumberedBefore n m → ⊥
+not_before_same n m e b = before_one_way n m b (subst (λ x. IsNumberedBefore x n) e (subst (λ x. IsNumberedBefore n x) (sym e) b))
 
 pub list_below : (xs ys : List ℕ) → list_lt xs ys ≡ true → list_cmp xs ys ≡ Less
 list_below [] [] e = absurd (false≢true e)
@@ -116,7 +116,7 @@ list_below (x ∷ xs) (y ∷ ys) e =
     (λ b. ap (λ o. ordering_then o (list_cmp xs ys)) (sym (nat_cmp_is x y Equal b.0)) ∙ list_below xs ys b.1)
     (unlike_heads x y xs ys e)
 
-pub flat_below : (n m : FlatNode) → IsBefore n m → flat_cmp n m ≡ Less
+pub flat_below : (n m : FlatNode) → IsNumberedBefore n m → flat_cmp n m ≡ Less
 flat_below n m (inl a) = ap (λ o. ordering_then o (nat_cmp n.address m.address)) (list_below n.context m.context a)
 flat_below n m (inr b) =
     ap (λ o. ordering_then o (nat_cmp n.address m.address)) (ap (list_cmp n.context) (sym b.0) ∙ list_same n.context)
@@ -140,5 +140,5 @@ by_order a b x Greater e h = most (flat_cmp a x)
     most Greater = omega arith
 
 -- along the order, the comparison with a node does not fall
-pub rises : (a b x : FlatNode) → IsBefore a b → ordering_index (flat_cmp a x) ≤ ordering_index (flat_cmp b x)
+pub rises : (a b x : FlatNode) → IsNumberedBefore a b → ordering_index (flat_cmp a x) ≤ ordering_index (flat_cmp b x)
 rises a b x h = by_order a b x (flat_cmp b x) refl (flat_below a b h)

@@ -5,11 +5,11 @@ use Rattle.std.proofs.lemmas.List.{get_or-reverse, length-reverse}
 use Rattle.std.proofs.lemmas.Option.{slice_get_within}
 use Rattle.crpd_base.proofs.Elements.{head_or_rest, in_none, in_one, contains_at, at_contains, some_at, at_more}
 use Rattle.rv_decode.specs.Flow.{Flow, Plain, Branch, Jump, Call, Return, Exit, Break, OtherJalr, OtherJal, Flows, Words, flow_of_row, flow_of_word, flows}
-use Rattle.rv_decode.specs.Table.{row}
+use Rattle.rv_decode.specs.Table.{ins_of_word}
 use Rattle.flat_graph.specs.CodeGraph.{CodeGraph, HasCode, IsCodeGraph, ins_of, places_of}
-use Rattle.flat_graph.specs.FlatGraph.{FlatNode, IsNode, NodeError, the_first, a_successor, call_error, error_of, goes_on, goes_to, ins_error, returns_to, successors, calls}
+use Rattle.flat_graph.specs.FlatGraph.{FlatNode, IsNode, NodeError, the_first, a_successor, call_error, error_of, successors_by, goes_to, ins_error, returns_to, successors, calls}
 use Rattle.flat_graph.specs.FlatGraph as flat
-use Rattle.flat_graph.specs.Refusals.{Stands}
+use Rattle.flat_graph.specs.GraphErrors.{HasInstructionAt}
 use Rattle.flat_graph.specs.SameCode.{FitsCode}
 
 -- ---- a node without an error has a word
@@ -68,7 +68,7 @@ after_flow c a Break m there = absurd (in_none m there)
 after_flow c a OtherJalr m there = absurd (in_none m there)
 after_flow c a OtherJal m there = absurd (in_none m there)
 
-after : (x : Option NodeError) (c : List ℕ) (a : ℕ) (f : Option (Option Flow)) (m : FlatNode) → Contains (goes_on x c a f) m → IsKnown c a m
+after : (x : Option NodeError) (c : List ℕ) (a : ℕ) (f : Option (Option Flow)) (m : FlatNode) → Contains (successors_by x c a f) m → IsKnown c a m
 after None c a (Some (Some f)) m there = after_flow c a f m there
 after None c a (Some None) m there = absurd (in_none m there)
 after None c a None m there = absurd (in_none m there)
@@ -114,7 +114,7 @@ module _ (code other : Flows) (entry : ℕ) where
   same_successors : (n : FlatNode) → other n.address ≡ code n.address → Agree n.context → successors other entry n ≡ successors code entry n
   same_successors n here known =
       let e = same_error n here known in
-      λ i. goes_on (e i) n.context n.address (here i)
+      λ i. successors_by (e i) n.context n.address (here i)
 
 -- ---- the graph in the other code
 
@@ -125,14 +125,14 @@ module _ (words others : Words) (entry : ℕ) (g : CodeGraph) (X : IsCodeGraph w
       (k.0, subst (λ l. k.0 < l) (sym X.flat.size) (slice_get_within X.nodes k.0 n k.1), k.1)
 
   -- in its own code the instructions stand at their nodes
-  own : (u : ℕ) → u < length g.nodes → Stands words ((places_of g).address u) (ins_of g u)
+  own : (u : ℕ) → u < length g.nodes → HasInstructionAt words ((places_of g).address u) (ins_of g u)
   own u lt =
       let n = some_at X.nodes u (subst (λ l. u < l) X.flat.size lt) in
       let w = some_word words entry n.0 (X.no_errors n.0 ((X.flat.numbering.all n.0).1 (at_contains X.nodes u n.0 n.1))) in
       let at : words ((places_of g).address u) ≡ Some w.0 = ap words (X.places.node u n.0 n.1).1 ∙ w.1 in
       (w.0, at, X.instructions u w.0 lt at)
 
-  module _ (S : (u : ℕ) → u < length g.nodes → Stands others ((places_of g).address u) (ins_of g u)) where
+  module _ (S : (u : ℕ) → u < length g.nodes → HasInstructionAt others ((places_of g).address u) (ins_of g u)) where
     same_at : (n : FlatNode) → IsNode (flows words) entry n → flows others n.address ≡ flows words n.address
     same_at n h =
         let u = number n h in
@@ -178,7 +178,7 @@ module _ (words others : Words) (entry : ℕ) (g : CodeGraph) (X : IsCodeGraph w
       instructions = λ u w lt e.
           let s = S u lt in
           let same : s.0 ≡ w = cc in
-          subst (λ v. row v ≡ Some (ins_of g u)) same s.2;
+          subst (λ v. ins_of_word v ≡ Some (ins_of g u)) same s.2;
     }
 
 -- the first node stands at the entry

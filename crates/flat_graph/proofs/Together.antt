@@ -3,16 +3,16 @@ use Rattle.std.proofs.Common.{◌≡◌, ℕ, ◌<◌, ◌≤◌, ◌↔◌, Boo
 use Rattle.std.proofs.lemmas.List.{length-map}
 use Rattle.std.proofs.lemmas.Option.{slice_get_within, slice_get-map, get_or_from_slice_get}
 use Rattle.crpd_base.proofs.Elements.{contains_at, some_at}
-use Rattle.rv_decode.specs.Table.{row}
+use Rattle.rv_decode.specs.Table.{ins_of_word}
 use Rattle.rv_decode.specs.Flow.{Words, IsCodeMap, flows}
 use Rattle.flat_graph.specs.FlatGraph.{FlatNode, IsNumbering, error_of, successors}
 use Rattle.flat_graph.specs.Graph.{IsLeader}
 use Rattle.flat_graph.specs.Numbered.{IsFlatGraph}
 use Rattle.flat_graph.specs.CodeGraph.{GraphNode, CodeGraph, IsCodeGraph, node_of, no_node, graph_of}
-use Rattle.flat_graph.specs.Kept.{IsKept, kept_graph, node_by, onward}
-use Rattle.flat_graph.specs.Built.{AreLines, IsLine, AreStands}
-use Rattle.flat_graph.specs.Leaders.{AreEdges, HasLeaders}
-use Rattle.flat_graph.specs.Spots.{flat, flats}
+use Rattle.flat_graph.specs.StoredGraph.{IsStoredGraph, stored_graph, stored_node, onward}
+use Rattle.flat_graph.specs.GraphParts.{AreNodeLines, IsNodeLine, AreStoredNodes}
+use Rattle.flat_graph.specs.Leaders.{IsGraphOfLines, HasLeaders}
+use Rattle.flat_graph.specs.Spots.{spot_node, spot_nodes}
 use Rattle.flat_graph.specs.declared.graph.Stand.{Stand}
 use Rattle.flat_graph.specs.declared.lines.Line.{Line}
 use Rattle.flat_graph.specs.declared.spots.Spot.{Spot}
@@ -29,21 +29,21 @@ record Part (spots : List Spot) (lines : List Line) (leaders : List Bool) (k : �
 
 pub record AreParts (words : Words) (entry : ℕ) (spots : List Spot) (lines : List Line) (first : ℕ) (leaders : List Bool) (lists : List (List ℕ)) (stands : List Stand) : Type 0 where
   pub word_places : IsCodeMap words
-  pub numbering : IsNumbering (flows words) entry (flats lists spots)
+  pub numbering : IsNumbering (flows words) entry (spot_nodes lists spots)
   pub few : length spots ≤ 16384
-  pub line_of : AreLines words entry (flats lists spots) lines
+  pub line_of : AreNodeLines words entry (spot_nodes lists spots) lines
   pub line_count : length lines ≡ length spots
-  pub first_at : slice_get (flats lists spots) first ≡ Some (record { context = []; address = entry })
+  pub first_at : slice_get (spot_nodes lists spots) first ≡ Some (record { context = []; address = entry })
   pub leader_of : HasLeaders lines first leaders
   pub leader_count : length leaders ≡ length lines
   pub context_of : All (λ s. s.context < length lists) spots
-  pub stand_of : AreStands spots lines leaders stands
+  pub stand_of : AreStoredNodes spots lines leaders stands
   pub stand_count : length stands ≡ length spots
 
 module _ (words : Words) (entry : ℕ) (spots : List Spot) (lines : List Line) (first : ℕ) (leaders : List Bool) (lists : List (List ℕ)) (stands : List Stand)
     (P : AreParts words entry spots lines first leaders lists stands) where
   abbrev graph : CodeGraph
-  graph = kept_graph lists stands first
+  graph = stored_graph lists stands first
 
   one : {X : Type 0} (a b : X) → Some a ≡ Some b → a ≡ b
   one a b h = cc
@@ -62,43 +62,43 @@ module _ (words : Words) (entry : ℕ) (spots : List Spot) (lines : List Line) (
   stand_at k p = P.stand_of k p.spot p.line p.leader p.spot_at p.line_at p.leader_at
 
   -- the graph's node at a place
-  node_is : (k : ℕ) (p : Part spots lines leaders k) → node_of graph k ≡ node_by lists (stand k p)
-  node_is k p = get_or_from_slice_get graph.nodes k (node_by lists (stand k p)) no_node (slice_get-map (node_by lists) stands k ∙ ap (option_map (node_by lists)) (stand_at k p))
+  node_is : (k : ℕ) (p : Part spots lines leaders k) → node_of graph k ≡ stored_node lists (stand k p)
+  node_is k p = get_or_from_slice_get graph.nodes k (stored_node lists (stand k p)) no_node (slice_get-map (stored_node lists) stands k ∙ ap (option_map (stored_node lists)) (stand_at k p))
 
-  context_is : (k : ℕ) (p : Part spots lines leaders k) → (node_of graph k).context ≡ (flat lists p.spot).context
+  context_is : (k : ℕ) (p : Part spots lines leaders k) → (node_of graph k).context ≡ (spot_node lists p.spot).context
   context_is k p = ap (λ (n : GraphNode). n.context) (node_is k p)
 
   address_is : (k : ℕ) (p : Part spots lines leaders k) → (node_of graph k).address ≡ p.spot.address
   address_is k p = ap (λ (n : GraphNode). n.address) (node_is k p)
 
-  flat_is : (k : ℕ) (p : Part spots lines leaders k) → slice_get (flats lists spots) k ≡ Some (flat lists p.spot)
-  flat_is k p = slice_get-map (flat lists) spots k ∙ ap (option_map (flat lists)) p.spot_at
+  flat_is : (k : ℕ) (p : Part spots lines leaders k) → slice_get (spot_nodes lists spots) k ≡ Some (spot_node lists p.spot)
+  flat_is k p = slice_get-map (spot_node lists) spots k ∙ ap (option_map (spot_node lists)) p.spot_at
 
-  line_is : (k : ℕ) (p : Part spots lines leaders k) → IsLine words entry (flats lists spots) (flat lists p.spot) p.line
-  line_is k p = P.line_of k (flat lists p.spot) p.line (flat_is k p) p.line_at
+  line_is : (k : ℕ) (p : Part spots lines leaders k) → IsNodeLine words entry (spot_nodes lists spots) (spot_node lists p.spot) p.line
+  line_is k p = P.line_of k (spot_node lists p.spot) p.line (flat_is k p) p.line_at
 
-  part_of : (k : ℕ) (n : FlatNode) → slice_get (flats lists spots) k ≡ Some n → (p : Part spots lines leaders k) × (flat lists p.spot ≡ n)
+  part_of : (k : ℕ) (n : FlatNode) → slice_get (spot_nodes lists spots) k ≡ Some n → (p : Part spots lines leaders k) × (spot_node lists p.spot ≡ n)
   part_of k n e =
-      let p = part k (subst (λ l. k < l) (length-map spots (flat lists)) (slice_get_within (flats lists spots) k n e)) in
-      (p, one (flat lists p.spot) n (sym (flat_is k p) ∙ e))
+      let p = part k (subst (λ l. k < l) (length-map spots (spot_node lists)) (slice_get_within (spot_nodes lists spots) k n e)) in
+      (p, one (spot_node lists p.spot) n (sym (flat_is k p) ∙ e))
 
   size_is : length graph.nodes ≡ length spots
-  size_is = length-map stands (node_by lists) ∙ P.stand_count
+  size_is = length-map stands (stored_node lists) ∙ P.stand_count
 
-  flat_graph : IsFlatGraph (flows words) entry (flats lists spots) (graph_of graph)
+  flat_graph : IsFlatGraph (flows words) entry (spot_nodes lists spots) (graph_of graph)
   flat_graph = record {
     numbering = P.numbering;
-    size = size_is ∙ sym (length-map spots (flat lists));
+    size = size_is ∙ sym (length-map spots (spot_node lists));
     first = P.first_at;
     next = λ u n e.
         let q = part_of u n e in
-        ap (map (slice_get (flats lists spots))) (ap (λ (x : GraphNode). x.next) (node_is u q.0))
+        ap (map (slice_get (spot_nodes lists spots))) (ap (λ (x : GraphNode). x.next) (node_is u q.0))
         ∙ (line_is u q.0).next ∙ ap (λ x. map Some (successors (flows words) entry x)) q.1;
   }
 
   pub code_graph : IsCodeGraph words entry graph
   code_graph = record {
-    nodes = flats lists spots;
+    nodes = spot_nodes lists spots;
     flat = flat_graph;
     places = record {
       node = λ u n e.
@@ -106,20 +106,20 @@ module _ (words : Words) (entry : ℕ) (spots : List Spot) (lines : List Line) (
           (context_is u q.0 ∙ ap (λ (x : FlatNode). x.context) q.1, address_is u q.0 ∙ ap (λ (x : FlatNode). x.address) q.1);
     };
     no_errors = λ m h.
-        let c = contains_at (flats lists spots) m ((P.numbering.all m).0 h) in
+        let c = contains_at (spot_nodes lists spots) m ((P.numbering.all m).0 h) in
         let q = part_of c.0 m c.1 in
         ap (error_of (flows words) entry) (sym q.1) ∙ (line_is c.0 q.0).no_error;
     instructions = λ u w lt e.
         let p = part u (subst (λ l. u < l) size_is lt) in
         let s = (line_is u p).stands in
         let same : s.0 ≡ w = one s.0 w (sym s.1 ∙ ap words (sym (address_is u p)) ∙ e) in
-        ap row (sym same) ∙ s.2 ∙ ap (λ (x : GraphNode). Some x.ins) (sym (node_is u p));
+        ap ins_of_word (sym same) ∙ s.2 ∙ ap (λ (x : GraphNode). Some x.ins) (sym (node_is u p));
   }
 
-  pub is_kept : IsKept lists stands first
+  pub is_kept : IsStoredGraph lists stands first
   is_kept = record {
     of_code = record { words = words; entry = entry; word_places = P.word_places; of_code = code_graph };
-    graph = flat_graph_law (flows words) entry (flats lists spots) (graph_of graph) flat_graph;
+    graph = flat_graph_law (flows words) entry (spot_nodes lists spots) (graph_of graph) flat_graph;
     contexts_there = λ k d lt.
         let p = part k (subst (λ l. k < l) P.stand_count lt) in
         subst (λ (s : Stand). s.context < length lists) (sym (get_or_from_slice_get stands k (stand k p) d (stand_at k p)))
@@ -131,7 +131,7 @@ module _ (words : Words) (entry : ℕ) (spots : List Spot) (lines : List Line) (
         subst (λ b. IsTrue b ↔ IsLeader (graph_of graph) u) (ap (λ (s : Stand). s.leader) same) (P.leader_of (graph_of graph) edges u p.leader p.leader_at);
   }
     where
-      edges : AreEdges (graph_of graph) lines first
+      edges : IsGraphOfLines (graph_of graph) lines first
       edges = record {
         size = size_is ∙ sym P.line_count;
         start = refl;

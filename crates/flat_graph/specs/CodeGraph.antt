@@ -2,13 +2,13 @@
 use Rattle.std.specs.Prelude.{◌≡◌, ℕ, ◌<◌, List, [], ◌∷◌, length, slice_index_or}
 use Rattle.rv_decode.specs.declared.Ins.{Ins}
 use Rattle.rv_decode.specs.declared.Ins.TheVariants.{Ecall}
-use Rattle.rv_decode.specs.Table.{row}
+use Rattle.rv_decode.specs.Table.{ins_of_word}
 use Rattle.std.specs.Prelude.{Some}
 use Rattle.rv_decode.specs.Flow.{Flow, Call, Return, Exit, Words, IsCodeMap, flows}
 use Rattle.flat_graph.specs.FlatGraph.{FlatNode, HasNoErrors}
 use Rattle.flat_graph.specs.Graph.{Graph, Places}
 use Rattle.flat_graph.specs.Numbered.{IsFlatGraph, ArePlaces}
-use Rattle.flat_graph.specs.EdgeCost.{Listing}
+use Rattle.flat_graph.specs.EdgeCost.{NodeCode}
 use Rattle.flat_graph.specs.declared.node.Kind.{Kind}
 use Rattle.flat_graph.specs.declared.node.Kind.TheVariants as kind
 
@@ -48,8 +48,8 @@ abbrev pub ins_of : CodeGraph → ℕ → Ins
 ins_of g u = (node_of g u).ins
 
 -- what stands at the nodes
-abbrev pub listing : CodeGraph → Listing
-listing g = record { address = (places_of g).address; ins = ins_of g }
+abbrev pub node_code : CodeGraph → NodeCode
+node_code g = record { address = (places_of g).address; ins = ins_of g }
 
 -- it is the flat graph of the code from this entry, no node has an error, and the instructions are those of the code
 pub record IsCodeGraph (words : Words) (entry : ℕ) (g : CodeGraph) : Type 0 where
@@ -57,7 +57,7 @@ pub record IsCodeGraph (words : Words) (entry : ℕ) (g : CodeGraph) : Type 0 wh
   pub flat : IsFlatGraph (flows words) entry nodes (graph_of g)
   pub places : ArePlaces nodes (places_of g)
   pub no_errors : HasNoErrors (flows words) entry
-  pub instructions : (u w : ℕ) → u < length g.nodes → words ((places_of g).address u) ≡ Some w → row w ≡ Some (ins_of g u)
+  pub instructions : (u w : ℕ) → u < length g.nodes → words ((places_of g).address u) ≡ Some w → ins_of_word w ≡ Some (ins_of g u)
 
 -- it is the graph of some code
 pub record HasCode (g : CodeGraph) : Type 0 where

@@ -6,12 +6,12 @@ use Rattle.rv_decode.specs.Cost.{cost}
 use Rattle.rv_decode.specs.Flow.{Flow, Return, flow}
 
 -- what stands at each node
-pub record Listing : Type 0 where
+pub record NodeCode : Type 0 where
   pub address : ℕ → ℕ
   pub ins : ℕ → Ins
 
 -- the cost of the edge from u to v
-abbrev pub edge_cost : Platform → Listing → (ℕ → Bool) → ℕ → ℕ → ℕ
+abbrev pub edge_cost : Platform → NodeCode → (ℕ → Bool) → ℕ → ℕ → ℕ
 edge_cost p l is_hit u v = cost p (l.ins u) (not (is_hit u)) (not (l.address v == l.address u + 4))
 
 abbrev pub is_return : Flow → Bool
@@ -19,5 +19,5 @@ is_return Return = true
 is_return _ = false
 
 -- the cost of the edge from an answering node to the end: a return is a change of flow, an ECALL is none
-abbrev pub end_cost : Platform → Listing → (ℕ → Bool) → ℕ → ℕ
+abbrev pub end_cost : Platform → NodeCode → (ℕ → Bool) → ℕ → ℕ
 end_cost p l is_hit u = cost p (l.ins u) (not (is_hit u)) (is_return (flow (l.address u) (l.ins u)))

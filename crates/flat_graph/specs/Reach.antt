@@ -2,7 +2,7 @@
 use Rattle.std.specs.Prelude.{◌≡◌, ℕ, ◌<◌, List, [], ◌++◌, length, Contains, ◌↔◌, All, AllPairs, slice_get, Some}
 use Rattle.std.specs.BTreeMap.{BTreeMap, get}
 use Rattle.rv_decode.specs.Flow.{Flows}
-use Rattle.flat_graph.specs.Compared.{list_cmp}
+use Rattle.flat_graph.specs.NumberingOrder.{list_cmp}
 use Rattle.flat_graph.specs.FlatGraph.{FlatNode, IsNode, successors}
 use Rattle.flat_graph.specs.declared.spots.Spot.{Spot}
 
@@ -11,11 +11,11 @@ abbrev pub AreNumbered : BTreeMap (List ℕ) ℕ → List (List ℕ) → Type 0
 AreNumbered numbers lists = (c : List ℕ) (n : ℕ) → (get list_cmp numbers c ≡ Some n) ↔ (slice_get lists n ≡ Some c)
 
 -- the lists stand where they stood
-abbrev pub HasMore : List (List ℕ) → List (List ℕ) → Type 0
-HasMore old new = (n : ℕ) (c : List ℕ) → slice_get old n ≡ Some c → slice_get new n ≡ Some c
+abbrev pub ExtendsLists : List (List ℕ) → List (List ℕ) → Type 0
+ExtendsLists old new = (n : ℕ) (c : List ℕ) → slice_get old n ≡ Some c → slice_get new n ≡ Some c
 
 -- a set and a list have the same spots, each once, and each has a list of calls
-pub record IsReached (lists : List (List ℕ)) (set list : List Spot) : Type 0 where
+pub record AreSameSpots (lists : List (List ℕ)) (set list : List Spot) : Type 0 where
   pub apart : AllPairs (λ s t. s ≡ t → ⊥) set
   pub same : (s : Spot) → Contains set s ↔ Contains list s
   pub count : length set ≡ length list

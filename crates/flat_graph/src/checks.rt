@@ -2,11 +2,11 @@
 ghost use Rattle.std.specs.Prelude.{◌≡◌, ℕ, ◌≤◌, ◌+◌, Some, None, IfOk, MatchResult, IsTrue, option_map};
 ghost use Rattle.std.specs.List.{list_any};
 ghost use Rattle.code_map.specs.Words.{word_at};
-ghost use Rattle.rv_decode.specs.Address.{end};
+ghost use Rattle.rv_decode.specs.Address.{end_address};
 ghost use Rattle.rv_decode.specs.Flow.{flows, flow};
-ghost use Rattle.rv_decode.specs.Table.{row};
+ghost use Rattle.rv_decode.specs.Table.{ins_of_word};
 ghost use Rattle.flat_graph.specs.FlatGraph.{calls, call_error, error_of};
-ghost use Rattle.flat_graph.specs.Refusals.{graph_error, Stands};
+ghost use Rattle.flat_graph.specs.GraphErrors.{graph_error, HasInstructionAt};
 
 use crate::fault::GraphError;
 use crate::ways::{Way, way_of};
@@ -66,8 +66,8 @@ pub(crate) fn check(
 ) -> Result<Ins, GraphError>
     ensures error { let error = error_of (flows (word_at code.now.images)) entry (record { context = under_way.now; address = address }) in
         MatchResult result (λ _. error ≡ None) (λ e. option_map (λ x. graph_error x address) error ≡ Some e) }
-    ensures stands { IfOk result (Stands (word_at code.now.images) address) }
-    ensures within { IfOk result (λ _. address + 4 ≤ end) }
+    ensures stands { IfOk result (HasInstructionAt (word_at code.now.images) address) }
+    ensures within { IfOk result (λ _. address + 4 ≤ end_address) }
 {
     if address % 4 != 0 {
         return Err(GraphError::Misaligned(address));

@@ -1,8 +1,8 @@
 // Lists of calls under way, each kept once and numbered as it is met.
 ghost use Rattle.std.specs.Prelude.{◌≡◌, ◌<◌, ◌≤◌, ◌+◌, ◌^◌, ◌++◌, ◌∷◌, Some, None, IfOk, OnOk, length, slice_get, slice_index_or, []};
 ghost use Rattle.std.specs.BTreeMap.{get};
-ghost use Rattle.flat_graph.specs.Compared.{list_cmp};
-ghost use Rattle.flat_graph.specs.Reach.{AreNumbered, HasMore};
+ghost use Rattle.flat_graph.specs.NumberingOrder.{list_cmp};
+ghost use Rattle.flat_graph.specs.Reach.{AreNumbered, ExtendsLists};
 
 use crate::graph::Context;
 use smallvec::SmallVec;
@@ -33,7 +33,7 @@ impl Contexts {
         requires few { length self.old.lists.items < 2 ^ 32 }
         ensures numbered { OnOk result (AreNumbered self.new.numbers self.new.lists.items) }
         ensures number { IfOk result (λ n. slice_get self.new.lists.items n ≡ Some calls) }
-        ensures more { OnOk result (HasMore self.old.lists.items self.new.lists.items) }
+        ensures more { OnOk result (ExtendsLists self.old.lists.items self.new.lists.items) }
         ensures count { OnOk result (length self.new.lists.items ≤ length self.old.lists.items + 1) }
     {
         match self.numbers.get(&calls) {

@@ -1,7 +1,7 @@
 // The leaders of a graph.
 ghost use Rattle.std.specs.Prelude.{◌≡◌, ◌<◌, ℕ, Some, IfOk, length, map, slice_get, All};
 ghost use Rattle.flat_graph.specs.declared.leaders.Mark.{Mark};
-ghost use Rattle.flat_graph.specs.Leaders.{AreEnds, AreMarked, HasLeaders, marked, leads};
+ghost use Rattle.flat_graph.specs.Leaders.{AreEnds, AreMarked, HasLeaders, mark_after_edges, is_leading};
 
 use crate::graph::Onward;
 use crate::lines::Line;
@@ -20,7 +20,7 @@ enum Mark {
 fn mark_ends(marks: &mut [Mark], next: Onward)
     requires { AreEnds (length marks.old) next }
     ensures count { length marks.new ≡ length marks.old }
-    ensures marked { (v : ℕ) (m : Mark) (n : Mark) → slice_get marks.old v ≡ Some m → slice_get marks.new v ≡ Some n → n ≡ marked next v m }
+    ensures marked { (v : ℕ) (m : Mark) (n : Mark) → slice_get marks.old v ≡ Some m → slice_get marks.new v ≡ Some n → n ≡ mark_after_edges next v m }
 {
     match next {
         Onward::Ends => {}
@@ -54,7 +54,7 @@ fn all_marks(alloc: Global, lines: &[Line], first: u32) -> Result<Vec<Mark>, All
 
 /// Whether a node with a mark is a leader, once all edges were met.
 fn is_leader(mark: Mark) -> bool
-    ensures { result ≡ leads mark }
+    ensures { result ≡ is_leading mark }
 {
     match mark {
         Mark::Continues => false,
@@ -63,8 +63,8 @@ fn is_leader(mark: Mark) -> bool
 }
 
 /// Which of the nodes with these marks are leaders.
-fn leading(alloc: Global, marks: &[Mark]) -> Result<Vec<bool>, AllocError>
-    ensures { IfOk result (λ v. v.items ≡ map leads marks.now) }
+fn leader_flags(alloc: Global, marks: &[Mark]) -> Result<Vec<bool>, AllocError>
+    ensures { IfOk result (λ v. v.items ≡ map is_leading marks.now) }
 {
     marks.iter().map(|mark| is_leader(*mark)).collect(alloc)
 }
@@ -78,5 +78,5 @@ pub(crate) fn leaders(alloc: Global, lines: &[Line], first: u32) -> Result<Vec<b
     ensures leaders { IfOk result (λ v. HasLeaders lines.now first v.items) }
 {
     let marks = all_marks(alloc, lines, first)?;
-    leading(alloc, &marks)
+    leader_flags(alloc, &marks)
 }

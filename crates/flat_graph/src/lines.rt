@@ -2,12 +2,12 @@
 ghost use Rattle.std.specs.Prelude.{◌≡◌, ◌≤◌, ◌<◌, ◌⊎◌, ℕ, Some, IfOk, IfErr, length, slice_get, slice_index_or, [], All, AllPairs, Contains, IsTrue};
 ghost use Rattle.code_map.specs.Words.{word_at};
 ghost use Rattle.rv_decode.specs.Flow.{flows};
-ghost use Rattle.flat_graph.specs.Compared.{flat_cmp};
-ghost use Rattle.flat_graph.specs.FlatGraph.{IsNumbering, IsBefore};
-ghost use Rattle.flat_graph.specs.Kept.{onward};
-ghost use Rattle.flat_graph.specs.Spots.{flat, flats, flat_steps};
-ghost use Rattle.flat_graph.specs.Refusals.{IsRefused};
-ghost use Rattle.flat_graph.specs.Built.{IsLine, AreLines, AreNumbers};
+ghost use Rattle.flat_graph.specs.NumberingOrder.{flat_cmp};
+ghost use Rattle.flat_graph.specs.FlatGraph.{IsNumbering, IsNumberedBefore};
+ghost use Rattle.flat_graph.specs.StoredGraph.{onward};
+ghost use Rattle.flat_graph.specs.Spots.{spot_node, spot_nodes, flat_steps};
+ghost use Rattle.flat_graph.specs.GraphErrors.{IsGraphError};
+ghost use Rattle.flat_graph.specs.GraphParts.{IsNodeLine, AreNodeLines, AreNumbers};
 
 use crate::checks::check;
 use crate::contexts::calls_of;
@@ -31,13 +31,13 @@ pub(crate) struct Line {
 /// Logarithmic in the number of spots.
 pub(crate) fn number_of(lists: &[Context], spots: &[Spot], calls: &[u32], address: u32) -> u32
     requires few { length spots.now ≤ 16384 }
-    requires ordered { AllPairs IsBefore (flats lists.now spots.now) }
-    requires there { Contains (flats lists.now spots.now) (record { context = calls.now; address = address }) }
-    ensures { slice_get (flats lists.now spots.now) result ≡ Some (record { context = calls.now; address = address }) }
+    requires ordered { AllPairs IsNumberedBefore (spot_nodes lists.now spots.now) }
+    requires there { Contains (spot_nodes lists.now spots.now) (record { context = calls.now; address = address }) }
+    ensures { slice_get (spot_nodes lists.now spots.now) result ≡ Some (record { context = calls.now; address = address }) }
 {
     let found = spots.binary_search_by(
         |spot: &Spot| -> Ordering
-            ensures { result ≡ flat_cmp (flat lists.entry.now spot.now) (record { context = calls.entry.now; address = address }) }
+            ensures { result ≡ flat_cmp (spot_node lists.entry.now spot.now) (record { context = calls.entry.now; address = address }) }
         {
             calls_of(lists, spot.context)
                 .cmp(calls)
@@ -51,13 +51,13 @@ pub(crate) fn number_of(lists: &[Context], spots: &[Spot], calls: &[u32], addres
 /// Logarithmic in the number of spots.
 fn number_at(lists: &[Context], spots: &[Spot], spot: &Spot) -> u32
     requires few { length spots.now ≤ 16384 }
-    requires ordered { AllPairs IsBefore (flats lists.now spots.now) }
-    requires there { Contains (flats lists.now spots.now) (flat lists.now spot.now) }
-    ensures { slice_get (flats lists.now spots.now) result ≡ Some (flat lists.now spot.now) }
+    requires ordered { AllPairs IsNumberedBefore (spot_nodes lists.now spots.now) }
+    requires there { Contains (spot_nodes lists.now spots.now) (spot_node lists.now spot.now) }
+    ensures { slice_get (spot_nodes lists.now spots.now) result ≡ Some (spot_node lists.now spot.now) }
 {
     let found = spots.binary_search_by(
         |other: &Spot| -> Ordering
-            ensures { result ≡ flat_cmp (flat lists.entry.now other.now) (flat lists.entry.now spot.entry.now) }
+            ensures { result ≡ flat_cmp (spot_node lists.entry.now other.now) (spot_node lists.entry.now spot.entry.now) }
         { compare(lists, other, spot) },
     );
     found.unwrap() as u32
@@ -76,10 +76,10 @@ fn is_at(spots: &[Spot], place: usize, spot: &Spot) -> bool
 /// The number of a spot, which mostly stands at the place where it is sought first.
 fn number_from(lists: &[Context], spots: &[Spot], place: usize, spot: &Spot) -> u32
     requires few { length spots.now ≤ 16384 }
-    requires ordered { AllPairs IsBefore (flats lists.now spots.now) }
-    requires there { Contains (flats lists.now spots.now) (flat lists.now spot.now) }
+    requires ordered { AllPairs IsNumberedBefore (spot_nodes lists.now spots.now) }
+    requires there { Contains (spot_nodes lists.now spots.now) (spot_node lists.now spot.now) }
     requires place { place ≤ length spots.now }
-    ensures { slice_get (flats lists.now spots.now) result ≡ Some (flat lists.now spot.now) }
+    ensures { slice_get (spot_nodes lists.now spots.now) result ≡ Some (spot_node lists.now spot.now) }
 {
     if is_at(spots, place, spot) {
         return place as u32;
@@ -89,12 +89,12 @@ fn number_from(lists: &[Context], spots: &[Spot], place: usize, spot: &Spot) -> 
 
 /// The numbers of the spots to which a spot leads whose calls have the number `from`. The first of them mostly stands at the
 /// place after the spot's own.
-fn numbered(lists: &[Context], spots: &[Spot], next: usize, from: u32, steps: &Steps) -> Onward
+fn successor_numbers(lists: &[Context], spots: &[Spot], next: usize, from: u32, steps: &Steps) -> Onward
     requires few { length spots.now ≤ 16384 }
-    requires ordered { AllPairs IsBefore (flats lists.now spots.now) }
-    requires there { All (Contains (flats lists.now spots.now)) (flat_steps (slice_index_or lists.now from []) steps.now) }
+    requires ordered { AllPairs IsNumberedBefore (spot_nodes lists.now spots.now) }
+    requires there { All (Contains (spot_nodes lists.now spots.now)) (flat_steps (slice_index_or lists.now from []) steps.now) }
     requires next { next ≤ length spots.now }
-    ensures { AreNumbers (flats lists.now spots.now) (onward result) (flat_steps (slice_index_or lists.now from []) steps.now) }
+    ensures { AreNumbers (spot_nodes lists.now spots.now) (onward result) (flat_steps (slice_index_or lists.now from []) steps.now) }
 {
     match steps {
         Steps::Ends => Onward::Ends,
@@ -137,10 +137,10 @@ pub(crate) fn lines(
     spots: &[Spot],
 ) -> Result<Vec<Line>, GraphError>
     requires few { length spots.now ≤ 16384 }
-    requires numbering { IsNumbering (flows (word_at code.now.images)) entry (flats lists.now spots.now) }
-    ensures lines { IfOk result (λ v. AreLines (word_at code.now.images) entry (flats lists.now spots.now) v.items) }
+    requires numbering { IsNumbering (flows (word_at code.now.images)) entry (spot_nodes lists.now spots.now) }
+    ensures lines { IfOk result (λ v. AreNodeLines (word_at code.now.images) entry (spot_nodes lists.now spots.now) v.items) }
     ensures count { IfOk result (λ v. length v.items ≡ length spots.now) }
-    ensures refused { IfErr result (IsRefused (flows (word_at code.now.images)) entry) }
+    ensures refused { IfErr result (IsGraphError (flows (word_at code.now.images)) entry) }
 {
     code.words_law();
     let mut lines = Vec::new(alloc);
@@ -149,7 +149,7 @@ pub(crate) fn lines(
         let calls = calls_of(lists, context);
         let ins = check(code, entry, calls, address)?;
         let steps = steps_of(alloc, calls, address, way_of(address, &ins))?;
-        let next = numbered(lists, spots, lines.len() + 1, context, &steps);
+        let next = successor_numbers(lists, spots, lines.len() + 1, context, &steps);
         lines.push(Line { ins, next })?;
     }
     Ok(lines)

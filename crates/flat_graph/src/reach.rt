@@ -4,10 +4,10 @@ ghost use Rattle.code_map.specs.Words.{word_at};
 ghost use Rattle.rv_decode.specs.Flow.{flows};
 ghost use Rattle.std.specs.List.Sorted.{IsPermutation, IsSortedBy};
 ghost use Rattle.std.specs.Ordering.{is_lt};
-ghost use Rattle.flat_graph.specs.Compared.{flat_cmp};
+ghost use Rattle.flat_graph.specs.NumberingOrder.{flat_cmp};
 ghost use Rattle.flat_graph.specs.FlatGraph.{IsNode, IsNumbering, successors, HasMoreNodes};
-ghost use Rattle.flat_graph.specs.Reach.{AreNumbered, HasMore, IsReached, AreAdded};
-ghost use Rattle.flat_graph.specs.Spots.{flat, flats, flat_steps};
+ghost use Rattle.flat_graph.specs.Reach.{AreNumbered, ExtendsLists, AreSameSpots, AreAdded};
+ghost use Rattle.flat_graph.specs.Spots.{spot_node, spot_nodes, flat_steps};
 ghost use Rattle.flat_graph.specs.declared.fault.GraphError.TheVariants.{Memory, TooManyNodes};
 
 use crate::checks::check;
@@ -40,7 +40,7 @@ pub(crate) struct Ordered {
 impl Found {
     fn new(alloc: Global) -> Self
         ensures numbered { AreNumbered result.contexts.numbers result.contexts.lists.items }
-        ensures found { IsReached result.contexts.lists.items result.set.keys result.list.items }
+        ensures found { AreSameSpots result.contexts.lists.items result.set.keys result.list.items }
         ensures none { result.list.items ≡ [] }
         ensures no_lists { result.contexts.lists.items ≡ [] }
     {
@@ -53,11 +53,11 @@ impl Found {
 
     /// Adds a spot that is not found yet.
     fn add(&mut self, spot: Spot) -> Result<(), AllocError>
-        requires found { IsReached self.old.contexts.lists.items self.old.set.keys self.old.list.items }
+        requires found { AreSameSpots self.old.contexts.lists.items self.old.set.keys self.old.list.items }
         requires list { spot.context < length self.old.contexts.lists.items }
-        ensures found { OnOk result (IsReached self.new.contexts.lists.items self.new.set.keys self.new.list.items) }
+        ensures found { OnOk result (AreSameSpots self.new.contexts.lists.items self.new.set.keys self.new.list.items) }
         ensures added { let lists = self.old.contexts.lists.items in
-            OnOk result (AreAdded (flats lists self.old.list.items) (flat lists spot ∷ []) (flats lists self.new.list.items)) }
+            OnOk result (AreAdded (spot_nodes lists self.old.list.items) (spot_node lists spot ∷ []) (spot_nodes lists self.new.list.items)) }
         ensures same { self.new.contexts ≡ self.old.contexts }
     {
         if self.set.insert(spot)? {
@@ -70,12 +70,12 @@ impl Found {
     fn add_away(&mut self, alloc: Global, calls: Context, address: u32) -> Result<(), AllocError>
         requires numbered { AreNumbered self.old.contexts.numbers self.old.contexts.lists.items }
         requires few { length self.old.contexts.lists.items < 2 ^ 32 }
-        requires found { IsReached self.old.contexts.lists.items self.old.set.keys self.old.list.items }
+        requires found { AreSameSpots self.old.contexts.lists.items self.old.set.keys self.old.list.items }
         ensures numbered { OnOk result (AreNumbered self.new.contexts.numbers self.new.contexts.lists.items) }
-        ensures found { OnOk result (IsReached self.new.contexts.lists.items self.new.set.keys self.new.list.items) }
-        ensures added { OnOk result (AreAdded (flats self.old.contexts.lists.items self.old.list.items) (record { context = calls; address = address } ∷ [])
-            (flats self.new.contexts.lists.items self.new.list.items)) }
-        ensures more { OnOk result (HasMore self.old.contexts.lists.items self.new.contexts.lists.items) }
+        ensures found { OnOk result (AreSameSpots self.new.contexts.lists.items self.new.set.keys self.new.list.items) }
+        ensures added { OnOk result (AreAdded (spot_nodes self.old.contexts.lists.items self.old.list.items) (record { context = calls; address = address } ∷ [])
+            (spot_nodes self.new.contexts.lists.items self.new.list.items)) }
+        ensures more { OnOk result (ExtendsLists self.old.contexts.lists.items self.new.contexts.lists.items) }
         ensures count { OnOk result (length self.new.contexts.lists.items ≤ length self.old.contexts.lists.items + 1) }
     {
         let context = self.contexts.number(alloc, calls)?;
@@ -86,12 +86,12 @@ impl Found {
     fn add_steps(&mut self, alloc: Global, from: u32, steps: Steps) -> Result<(), AllocError>
         requires numbered { AreNumbered self.old.contexts.numbers self.old.contexts.lists.items }
         requires few { length self.old.contexts.lists.items < 2 ^ 32 }
-        requires found { IsReached self.old.contexts.lists.items self.old.set.keys self.old.list.items }
+        requires found { AreSameSpots self.old.contexts.lists.items self.old.set.keys self.old.list.items }
         requires from { from < length self.old.contexts.lists.items }
         ensures numbered { OnOk result (AreNumbered self.new.contexts.numbers self.new.contexts.lists.items) }
-        ensures found { OnOk result (IsReached self.new.contexts.lists.items self.new.set.keys self.new.list.items) }
-        ensures added { OnOk result (AreAdded (flats self.old.contexts.lists.items self.old.list.items)
-            (flat_steps (slice_index_or self.old.contexts.lists.items from []) steps) (flats self.new.contexts.lists.items self.new.list.items)) }
+        ensures found { OnOk result (AreSameSpots self.new.contexts.lists.items self.new.set.keys self.new.list.items) }
+        ensures added { OnOk result (AreAdded (spot_nodes self.old.contexts.lists.items self.old.list.items)
+            (flat_steps (slice_index_or self.old.contexts.lists.items from []) steps) (spot_nodes self.new.contexts.lists.items self.new.list.items)) }
         ensures count { OnOk result (length self.new.contexts.lists.items ≤ length self.old.contexts.lists.items + 1) }
     {
         match steps {
@@ -118,7 +118,7 @@ impl Found {
     fn ordered(self, alloc: Global) -> Result<Ordered, AllocError>
         ensures lists { IfOk result (λ o. o.lists.items ≡ self.contexts.lists.items) }
         ensures same { IfOk result (λ o. IsPermutation self.set.keys o.spots.items) }
-        ensures sorted { IfOk result (λ o. IsSortedBy (λ s t. is_lt (flat_cmp (flat self.contexts.lists.items s) (flat self.contexts.lists.items t))) o.spots.items) }
+        ensures sorted { IfOk result (λ o. IsSortedBy (λ s t. is_lt (flat_cmp (spot_node self.contexts.lists.items s) (spot_node self.contexts.lists.items t))) o.spots.items) }
     {
         let set = self.set;
         let contexts = self.contexts;
@@ -156,7 +156,7 @@ pub(crate) fn reach(
     most: usize,
 ) -> Result<Ordered, GraphError>
     requires { most ≤ 16384 }
-    ensures reached { IfOk result (λ o. IsNumbering (flows (word_at code.now.images)) entry (flats o.lists.items o.spots.items)) }
+    ensures reached { IfOk result (λ o. IsNumbering (flows (word_at code.now.images)) entry (spot_nodes o.lists.items o.spots.items)) }
     ensures few { IfOk result (λ o. length o.spots.items ≤ most) }
     ensures inside { IfOk result (λ o. All (λ s. s.context < length o.lists.items) o.spots.items) }
     ensures too_many { IfErr result (λ e. (e ≡ Memory) ⊎ ((e ≡ TooManyNodes entry) × HasMoreNodes (flows (word_at code.now.images)) entry most)) }

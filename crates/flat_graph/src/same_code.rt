@@ -2,7 +2,7 @@
 ghost use Rattle.std.specs.Prelude.{◌≡◌, ◌↔◌, IsTrue};
 ghost use Rattle.code_map.specs.Words.{word_at};
 ghost use Rattle.flat_graph.specs.CodeGraph.{IsCodeGraph};
-ghost use Rattle.flat_graph.specs.Refusals.{Stands};
+ghost use Rattle.flat_graph.specs.GraphErrors.{HasInstructionAt};
 ghost use Rattle.flat_graph.specs.SameCode.{FitsCode};
 
 use crate::graph::Graph;
@@ -12,7 +12,7 @@ use rv_decode::{Ins, decode};
 
 /// Whether an instruction stands at an address.
 fn stands(code: &CodeMap, address: u32, ins: &Ins) -> bool
-    ensures { IsTrue result ↔ Stands (word_at code.now.images) address ins.now }
+    ensures { IsTrue result ↔ HasInstructionAt (word_at code.now.images) address ins.now }
 {
     let Some(word) = code.word(address) else {
         return false;

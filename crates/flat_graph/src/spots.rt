@@ -5,10 +5,10 @@ ghost use Rattle.std.specs.Cmp.{partial_order_from_own_ties};
 ghost use Rattle.std.specs.Cmp.Rules.{comparing};
 ghost use Rattle.std.specs.List.Sorted.{IsPermutation, IsSortedBy};
 ghost use Rattle.std.specs.Ordering.{nat_cmp, on, then_cmp, as_partial_cmp, is_lt};
-ghost use Rattle.rv_decode.specs.Address.{end};
-ghost use Rattle.flat_graph.specs.Compared.{flat_cmp};
+ghost use Rattle.rv_decode.specs.Address.{end_address};
+ghost use Rattle.flat_graph.specs.NumberingOrder.{flat_cmp};
 ghost use Rattle.flat_graph.specs.FlatGraph.{goes_to, returns_to};
-ghost use Rattle.flat_graph.specs.Spots.{flat, flat_steps, IsBelowEnd};
+ghost use Rattle.flat_graph.specs.Spots.{spot_node, flat_steps, IsBelowEnd};
 ghost use Rattle.flat_graph.specs.Ways.{flow_by};
 
 use crate::contexts::calls_of;
@@ -54,7 +54,7 @@ impl PartialOrd for Spot {
 /// How spots stand to each other in the order of numbering: their calls are compared as lists, item by item, and then their
 /// addresses. Spots of one list are compared by their addresses alone.
 pub(crate) fn compare(lists: &[Context], spot: &Spot, other: &Spot) -> Ordering
-    ensures { result ≡ flat_cmp (flat lists.now spot.now) (flat lists.now other.now) }
+    ensures { result ≡ flat_cmp (spot_node lists.now spot.now) (spot_node lists.now other.now) }
 {
     if spot.context == other.context {
         return spot.address.cmp(&other.address);
@@ -67,11 +67,11 @@ pub(crate) fn compare(lists: &[Context], spot: &Spot, other: &Spot) -> Ordering
 /// Puts spots in the order of numbering.
 pub(crate) fn sort(lists: &[Context], spots: &mut Vec<Spot>) -> Result<(), AllocError>
     ensures same { IsPermutation spots.old.items spots.new.items }
-    ensures sorted { OnOk result (IsSortedBy (λ s t. is_lt (flat_cmp (flat lists.now s) (flat lists.now t))) spots.new.items) }
+    ensures sorted { OnOk result (IsSortedBy (λ s t. is_lt (flat_cmp (spot_node lists.now s) (spot_node lists.now t))) spots.new.items) }
 {
     spots.sort_by(
         |spot: &Spot, other: &Spot| -> Ordering
-            ensures { result ≡ flat_cmp (flat lists.entry.now spot.now) (flat lists.entry.now other.now) }
+            ensures { result ≡ flat_cmp (spot_node lists.entry.now spot.now) (spot_node lists.entry.now other.now) }
         { compare(lists, spot, other) },
     )
 }
@@ -113,7 +113,7 @@ pub(crate) fn steps_of(
     address: u32,
     way: Way,
 ) -> Result<Steps, AllocError>
-    requires word { address + 4 ≤ end }
+    requires word { address + 4 ≤ end_address }
     requires calls { IsBelowEnd calls.now }
     ensures { IfOk result (λ s. flat_steps calls.now s ≡ goes_to calls.now address (flow_by way)) }
 {

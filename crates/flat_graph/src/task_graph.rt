@@ -2,9 +2,9 @@
 ghost use Rattle.std.specs.Prelude.{◌≡◌, ◌≤◌, ◌<◌, ℕ, Bool, Some, IfOk, IfErr, IfSome, length, slice_get, slice_index};
 ghost use Rattle.code_map.specs.Words.{word_at};
 ghost use Rattle.rv_decode.specs.Flow.{flows};
-ghost use Rattle.flat_graph.specs.Built.{AreStands};
+ghost use Rattle.flat_graph.specs.GraphParts.{AreStoredNodes};
 ghost use Rattle.flat_graph.specs.CodeGraph.{IsCodeGraph};
-ghost use Rattle.flat_graph.specs.Refusals.{IsRefused};
+ghost use Rattle.flat_graph.specs.GraphErrors.{IsGraphError};
 
 use crate::fault::GraphError;
 use crate::graph::{Graph, Stand};
@@ -26,7 +26,7 @@ fn stands(
     requires lines { length lines.now ≡ length spots.now }
     requires leaders { length leaders.now ≡ length spots.now }
     ensures count { IfOk result (λ v. length v.items ≡ length spots.now) }
-    ensures stands { IfOk result (λ v. AreStands spots.now lines.now leaders.now v.items) }
+    ensures stands { IfOk result (λ v. AreStoredNodes spots.now lines.now leaders.now v.items) }
 {
     let mut stands = Vec::new(alloc);
     for (place, spot) in spots.iter().enumerate() {
@@ -59,7 +59,7 @@ pub fn build(alloc: Global, code: &CodeMap, task: Task) -> Result<Graph, GraphEr
     requires { task.0 < length code.now.plans }
     ensures graph { IfOk result (λ g. IfSome (slice_get code.now.plans task.0) (λ p. IsCodeGraph (word_at code.now.images) p.entry g)) }
     ensures few { IfOk result (λ g. length g.nodes ≤ 16384) }
-    ensures refused { IfErr result (λ e. IfSome (slice_get code.now.plans task.0) (λ p. IsRefused (flows (word_at code.now.images)) p.entry e)) }
+    ensures refused { IfErr result (λ e. IfSome (slice_get code.now.plans task.0) (λ p. IsGraphError (flows (word_at code.now.images)) p.entry e)) }
 {
     graph_from(alloc, code, code.plan(task).entry)
 }
@@ -68,7 +68,7 @@ pub fn build(alloc: Global, code: &CodeMap, task: Task) -> Result<Graph, GraphEr
 fn graph_from(alloc: Global, code: &CodeMap, entry: u32) -> Result<Graph, GraphError>
     ensures graph { IfOk result (IsCodeGraph (word_at code.now.images) entry) }
     ensures few { IfOk result (λ g. length g.nodes ≤ 16384) }
-    ensures refused { IfErr result (IsRefused (flows (word_at code.now.images)) entry) }
+    ensures refused { IfErr result (IsGraphError (flows (word_at code.now.images)) entry) }
 {
     code.words_law();
     let ordered = reach(alloc, code, entry, MOST_NODES)?;

@@ -9,13 +9,13 @@ use Rattle.std.proofs.lemmas.Simd.{splat_is_map}
 use Rattle.std.specs.Prelude.{Vec}
 use Rattle.std.specs.Vec.{with_items_from}
 use Rattle.crpd_base.proofs.Rows.{row_ends}
-use Rattle.rv_decode.specs.Address.{after, address_before, end}
+use Rattle.rv_decode.specs.Address.{next_address, address_before, end_address}
 use Rattle.crpd_base.specs.declared.data.TaskPlan.{TaskPlan}
-use Rattle.flow_watch.specs.Watch.{Frame, Watch, all_turns_after, within_bounds, arrive, context}
-use Rattle.flow_watch.specs.Turns.{HasTurns}
-use Rattle.flow_watch.specs.Quiet.{AreStill, IsQuiet}
-use Rattle.flow_watch.specs.Changes.{pushed, popped}
-use Rattle.flow_watch.specs.Rows.{row, back, frames_of, watch_of, IsRoom}
+use Rattle.flow_watch.specs.Watch.{Frame, Watch, all_iterations_after, within_bounds, arrive, context}
+use Rattle.flow_watch.specs.Iterations.{HasIterations}
+use Rattle.flow_watch.specs.Quiet.{KeepsAllIterations, IsQuiet}
+use Rattle.flow_watch.specs.Changes.{frames_after_call, frames_after_return}
+use Rattle.flow_watch.specs.Rows.{frame_row, back, frames_of, watch_of, IsRoom}
 
 -- a part of the front of a list is that part of the list
 front : (a n l : ℕ) (xs : List ℕ) → a + n ≤ l → take n (drop a (take l xs)) ≡ take n (drop a xs)
@@ -28,8 +28,8 @@ front a n l xs fits =
 -- a row was written, and those below it stand
 pub record IsWritten (n k : ℕ) (old ws new : List ℕ) : Type 0 where
   pub same : length new ≡ length old
-  pub here : row n new k ≡ ws
-  pub below : (j : ℕ) → j < k → row n new j ≡ row n old j
+  pub here : frame_row n new k ≡ ws
+  pub below : (j : ℕ) → j < k → frame_row n new j ≡ frame_row n old j
 
 pub written :
     (n k : ℕ) (old ws new : List ℕ) → length ws ≡ n → k * n + n ≤ length old →
@@ -63,16 +63,16 @@ written n k old ws new len fits is =
 -- frames with the same rows and the same return addresses
 pub frames-same :
     (n : ℕ) (calls' calls turns' turns : List ℕ) (d : ℕ) → ((k : ℕ) → k < d → back calls' k ≡ back calls k) →
-    ((k : ℕ) → k < d → row n turns' k ≡ row n turns k) → frames_of n calls' turns' d ≡ frames_of n calls turns d
+    ((k : ℕ) → k < d → frame_row n turns' k ≡ frame_row n turns k) → frames_of n calls' turns' d ≡ frames_of n calls turns d
 frames-same n calls' calls turns' turns zero backs rows = refl
 frames-same n calls' calls turns' turns (suc d) backs rows =
     let b : back calls' d ≡ back calls d = backs d (omega arith) in
-    let r : row n turns' d ≡ row n turns d = rows d (omega arith) in
+    let r : frame_row n turns' d ≡ frame_row n turns d = rows d (omega arith) in
     let fs : frames_of n calls' turns' d ≡ frames_of n calls turns d =
     frames-same n calls' calls turns' turns d (λ k lt. backs k (omega arith)) (λ k lt. rows k (omega arith)) in
     rw (b, r, fs) refl
 
-pub length-row : (n : ℕ) (turns : List ℕ) (d : ℕ) → d * n + n ≤ length turns → length (row n turns d) ≡ n
+pub length-row : (n : ℕ) (turns : List ℕ) (d : ℕ) → d * n + n ≤ length turns → length (frame_row n turns d) ≡ n
 length-row n turns d room =
     length-take-le n (drop (d * n) turns) (omega (arith, length-drop (d * n) turns))
 
@@ -85,28 +85,28 @@ pub frames-written :
     (n k : ℕ) (calls old ws new : List ℕ) → IsWritten n k old ws new →
     frames_of n calls new (suc k) ≡ record { back = back calls k; turns = ws } ∷ frames_of n calls old k
 frames-written n k calls old ws new w =
-    let h : row n new k ≡ ws = w.here in
+    let h : frame_row n new k ≡ ws = w.here in
     let fs : frames_of n calls new k ≡ frames_of n calls old k =
     frames-same n calls calls new old k (λ j lt. refl) w.below in
     rw (h, fs) refl
 
 -- each of the frames has its turns
 pub turns_of :
-    (n : ℕ) (calls turns : List ℕ) (d : ℕ) → d * n ≤ length turns → HasTurns n (Some (frames_of n calls turns d))
+    (n : ℕ) (calls turns : List ℕ) (d : ℕ) → d * n ≤ length turns → HasIterations n (Some (frames_of n calls turns d))
 turns_of n calls turns zero room = All-nil (λ (f : Frame). length f.turns ≡ n)
 turns_of n calls turns (suc d) room =
-    All-cons (λ (f : Frame). length f.turns ≡ n) (record { back = back calls d; turns = row n turns d })
+    All-cons (λ (f : Frame). length f.turns ≡ n) (record { back = back calls d; turns = frame_row n turns d })
     (frames_of n calls turns d)
     (length-row n turns d (omega arith)) (turns_of n calls turns d (omega arith))
 
 -- so it tells how many loops there are
 pub loops_are :
     (m n : ℕ) (calls turns : List ℕ) (d : ℕ) → 0 < d → d * n ≤ length turns →
-    HasTurns m (Some (frames_of n calls turns d)) → n ≡ m
+    HasIterations m (Some (frames_of n calls turns d)) → n ≡ m
 loops_are m n calls turns zero some room has = absurd (omega arith)
 loops_are m n calls turns (suc d) some room has =
-    let f : Frame = record { back = back calls d; turns = row n turns d } in
-    let here : length (row n turns d) ≡ m =
+    let f : Frame = record { back = back calls d; turns = frame_row n turns d } in
+    let here : length (frame_row n turns d) ≡ m =
     All-get_or (λ (f : Frame). length f.turns ≡ m) (f ∷ frames_of n calls turns d) 0 f (omega arith) has in
     sym (length-row n turns d (omega arith)) ∙ here
 
@@ -154,47 +154,47 @@ rows_fit n k turns rows few = let le : k * n ≤ 17 * n = mul-le-mul_right n few
 
 pub loops_told :
     (n : ℕ) (calls turns : List ℕ) (frames : ℕ) (w : Watch) (m : ℕ) → IsInUse n calls turns frames w → 0 < frames →
-    HasTurns m w → n ≡ m
+    HasIterations m w → n ≡ m
 loops_told n calls turns frames w m u some has =
     loops_are m n calls turns frames some (rows_fit n frames turns u.rows u.few)
-    (subst (HasTurns m) (sym u.is) has)
+    (subst (HasIterations m) (sym u.is) has)
 
 -- the arrival at an address, with and without a loop that has too many turns
 pub arrived :
     (plan : TaskPlan) (a n : ℕ) (calls turns : List ℕ) (frames : ℕ) (w : Watch) (ws new : List ℕ) →
     IsInUse n calls turns frames w → 0 < frames → IsWritten n (frames - 1) turns ws new →
-    ws ≡ all_turns_after a plan.loops (row n turns (frames - 1)) →
-    true ≡ within_bounds plan.loops (all_turns_after a plan.loops (row n turns (frames - 1))) →
+    ws ≡ all_iterations_after a plan.loops (frame_row n turns (frames - 1)) →
+    true ≡ within_bounds plan.loops (all_iterations_after a plan.loops (frame_row n turns (frames - 1))) →
     Some (frames_of n calls new frames) ≡ option_and_then (arrive plan a) w
 arrived plan a n calls turns zero w ws new u some written_row counted within = absurd (omega arith)
 arrived plan a n calls turns (suc k) w ws new u some written_row counted within =
     let at_k : suc k - 1 ≡ k = omega arith in
     let wrote : IsWritten n k turns ws new = subst (λ (j : ℕ). IsWritten n j turns ws new) at_k written_row in
-    let counted_k : ws ≡ all_turns_after a plan.loops (row n turns k) =
-    subst (λ (j : ℕ). ws ≡ all_turns_after a plan.loops (row n turns j)) at_k counted in
-    let within_k : true ≡ within_bounds plan.loops (all_turns_after a plan.loops (row n turns k)) =
-    subst (λ (j : ℕ). true ≡ within_bounds plan.loops (all_turns_after a plan.loops (row n turns j))) at_k within in
+    let counted_k : ws ≡ all_iterations_after a plan.loops (frame_row n turns k) =
+    subst (λ (j : ℕ). ws ≡ all_iterations_after a plan.loops (frame_row n turns j)) at_k counted in
+    let within_k : true ≡ within_bounds plan.loops (all_iterations_after a plan.loops (frame_row n turns k)) =
+    subst (λ (j : ℕ). true ≡ within_bounds plan.loops (all_iterations_after a plan.loops (frame_row n turns j))) at_k within in
     let new_frames = frames-written n k calls turns ws new wrote in
     rw (new_frames, counted_k, ← u.is, ← within_k) refl
 
 pub overran :
     (plan : TaskPlan) (a n : ℕ) (calls turns : List ℕ) (frames : ℕ) (w : Watch) →
     IsInUse n calls turns frames w → 0 < frames →
-    false ≡ within_bounds plan.loops (all_turns_after a plan.loops (row n turns (frames - 1))) →
+    false ≡ within_bounds plan.loops (all_iterations_after a plan.loops (frame_row n turns (frames - 1))) →
     None ≡ option_and_then (arrive plan a) w
 overran plan a n calls turns zero w u some within = absurd (omega arith)
 overran plan a n calls turns (suc k) w u some within =
     let at_k : suc k - 1 ≡ k = omega arith in
-    let within_k : false ≡ within_bounds plan.loops (all_turns_after a plan.loops (row n turns k)) =
-    subst (λ (j : ℕ). false ≡ within_bounds plan.loops (all_turns_after a plan.loops (row n turns j))) at_k within in
+    let within_k : false ≡ within_bounds plan.loops (all_iterations_after a plan.loops (frame_row n turns k)) =
+    subst (λ (j : ℕ). false ≡ within_bounds plan.loops (all_iterations_after a plan.loops (frame_row n turns j))) at_k within in
     rw (← u.is, ← within_k) refl
 
 -- so many frames in the room have the turns of so many loops
 pub has_turns :
     (n m : ℕ) (calls turns : List ℕ) (frames : ℕ) → n ≡ m → frames ≤ 17 → length turns ≡ 17 * n →
-    HasTurns m (Some (frames_of n calls turns frames))
+    HasIterations m (Some (frames_of n calls turns frames))
 has_turns n m calls turns frames loops few rows =
-    subst (λ (j : ℕ). HasTurns j (Some (frames_of n calls turns frames))) loops
+    subst (λ (j : ℕ). HasIterations j (Some (frames_of n calls turns frames))) loops
     (turns_of n calls turns frames (rows_fit n frames turns rows few))
 
 -- the return addresses up to that of the call below stand
@@ -202,14 +202,14 @@ backs-same : (calls : List ℕ) (k from j : ℕ) → j < suc k → back (set cal
 backs-same calls k from zero lt = refl
 backs-same calls k from (suc j) lt =
     let ne : j ≢ k = omega arith in
-    ap after (get_or-set_other calls k j from 0 ne)
+    ap next_address (get_or-set_other calls k j from 0 ne)
 
 -- a call, where there is room for its frame: its row is cleared, and its address stands behind those below it
 pub pushed_frames :
     (plan : TaskPlan) (n from : ℕ) (calls turns : List ℕ) (frames : ℕ) (w : Watch) (ws new : List ℕ) →
     IsInUse n calls turns frames w → 0 < frames → frames < 17 → n ≡ length plan.loops → ws ≡ replicate n 0 →
     IsWritten n frames turns ws new →
-    Some (frames_of n (set calls (frames - 1) from) new (frames + 1)) ≡ option_and_then (pushed plan from) w
+    Some (frames_of n (set calls (frames - 1) from) new (frames + 1)) ≡ option_and_then (frames_after_call plan from) w
 pushed_frames plan n from calls turns zero w ws new u some room loops clear wrote = absurd (omega arith)
 pushed_frames plan n from calls turns (suc k) w ws new u some room loops clear wrote =
     let calls' : List ℕ = set calls k from in
@@ -223,7 +223,7 @@ pushed_frames plan n from calls turns (suc k) w ws new u some room loops clear w
     clear ∙ splat_is_map plan.loops n 0 (sym loops) in
     let count : length (frames_of n calls turns (suc k)) ≡ suc k = length-frames_of n calls turns (suc k) in
     let few : nat_lt (length (frames_of n calls turns (suc k))) 17 ≡ true = lt-ltb (length (frames_of n calls turns (suc k))) 17 (omega arith) in
-    let top : row n new (suc k) ≡ ws = wrote.here in
+    let top : frame_row n new (suc k) ≡ ws = wrote.here in
     rw (at_k, at_top, top, here, below, zeros, ← u.is, few) refl
 
 -- a watch whose bottom frame was not popped has a frame in use
@@ -234,13 +234,13 @@ some_frames n calls turns zero w u open_still = absurd (open_still (sym u.is))
 some_frames n calls turns (suc k) w u open_still = omega arith
 
 -- a row as it is lent
-pub lent : (n k : ℕ) (turns : List ℕ) → take ((k * n + n) - k * n) (drop (k * n) turns) ≡ row n turns k
+pub lent : (n k : ℕ) (turns : List ℕ) → take ((k * n + n) - k * n) (drop (k * n) turns) ≡ frame_row n turns k
 lent n k turns = let e : (k * n + n) - k * n ≡ n = omega arith in ap (λ (m : ℕ). take m (drop (k * n) turns)) e
 
 -- a return to the top frame's return address, and to another
 pub popped_frames :
     (n to : ℕ) (calls turns : List ℕ) (frames : ℕ) (w : Watch) → Some (frames_of n calls turns frames) ≡ w → 0 < frames →
-    to ≡ back calls (frames - 1) → Some (frames_of n calls turns (frames - 1)) ≡ option_and_then (popped to) w
+    to ≡ back calls (frames - 1) → Some (frames_of n calls turns (frames - 1)) ≡ option_and_then (frames_after_return to) w
 popped_frames n to calls turns zero w is some goes = absurd (omega arith)
 popped_frames n to calls turns (suc k) w is some goes =
     let at_k : suc k - 1 ≡ k = omega arith in
@@ -250,7 +250,7 @@ popped_frames n to calls turns (suc k) w is some goes =
 
 pub strayed :
     (n to : ℕ) (calls turns : List ℕ) (frames : ℕ) (w : Watch) → Some (frames_of n calls turns frames) ≡ w → 0 < frames →
-    to ≢ back calls (frames - 1) → None ≡ option_and_then (popped to) w
+    to ≢ back calls (frames - 1) → None ≡ option_and_then (frames_after_return to) w
 strayed n to calls turns zero w is some goes = absurd (omega arith)
 strayed n to calls turns (suc k) w is some goes =
     let at_k : suc k - 1 ≡ k = omega arith in
@@ -260,12 +260,12 @@ strayed n to calls turns (suc k) w is some goes =
 
 pub nowhere :
     (n to : ℕ) (calls turns : List ℕ) (frames : ℕ) (w : Watch) → Some (frames_of n calls turns frames) ≡ w → frames ≤ 0 →
-    None ≡ option_and_then (popped to) w
+    None ≡ option_and_then (frames_after_return to) w
 nowhere n to calls turns zero w is none = rw (← is) refl
 nowhere n to calls turns (suc k) w is none = absurd (omega arith)
 
 -- the call before a return address
-call_before : (a : ℕ) → a < 2 ^ 32 → address_before (after a) ≡ a
+call_before : (a : ℕ) → a < 2 ^ 32 → address_before (next_address a) ≡ a
 call_before a small = omega arith
 
 -- the addresses of the calls, the outermost first
@@ -276,12 +276,12 @@ calls_are n calls turns zero words few = refl
 calls_are n calls turns (suc d) words few =
     let below : context (Some (frames_of n calls turns (suc d))) ≡ take d calls =
     calls_are n calls turns d words (omega arith) in
-    let here : address_before (after (slice_index calls d)) ≡ slice_index calls d = call_before (slice_index calls d) (words d) in
+    let here : address_before (next_address (slice_index calls d)) ≡ slice_index calls d = call_before (slice_index calls d) (words d) in
     rw (below, here, take-suc calls d 0) refl
 
 -- where no frame is left, the one that was popped was the bottom one
 pub ended_frames :
-    (n : ℕ) (calls turns : List ℕ) (k : ℕ) → Some (frames_of n calls turns k) ≡ Some [] → back calls k ≡ end
+    (n : ℕ) (calls turns : List ℕ) (k : ℕ) → Some (frames_of n calls turns k) ≡ Some [] → back calls k ≡ end_address
 ended_frames n calls turns zero none = refl
 ended_frames n calls turns (suc k) none = cc
 
@@ -291,7 +291,7 @@ broken_is_not_empty e = cc
 -- at the start the bottom row has no loop open
 pub closed :
     {L : Type 0} (loops : List L) (n : ℕ) (rows : List ℕ) → rows ≡ replicate (17 * n) 0 → n ≡ length loops →
-    row n rows 0 ≡ map (λ (l : L). 0) loops
+    frame_row n rows 0 ≡ map (λ (l : L). 0) loops
 closed loops n rows is len =
     let none : 0 * n ≡ 0 = omega arith in
     let few : n ≤ 17 * n = omega arith in
@@ -302,11 +302,11 @@ closed loops n rows is len =
 pub quiet_frames :
     (plan : TaskPlan) (a n : ℕ) (calls turns : List ℕ) (frames : ℕ) (w : Watch) →
     Some (frames_of n calls turns frames) ≡ w → 0 < frames →
-    AreStill a plan.loops (row n turns (frames - 1)) → IsQuiet plan w a
+    KeepsAllIterations a plan.loops (frame_row n turns (frames - 1)) → IsQuiet plan w a
 quiet_frames plan a n calls turns zero w is some still = absurd (omega arith)
 quiet_frames plan a n calls turns (suc k) w is some still =
     let at_k : suc k - 1 ≡ k = omega arith in
-    let stands : AreStill a plan.loops (row n turns k) = subst (λ (j : ℕ). AreStill a plan.loops (row n turns j)) at_k still in
+    let stands : KeepsAllIterations a plan.loops (frame_row n turns k) = subst (λ (j : ℕ). KeepsAllIterations a plan.loops (frame_row n turns j)) at_k still in
     let same = stands.same in
     let within = stands.within in
     rw (← is, same, within) refl

@@ -4,19 +4,19 @@ use Rattle.std.proofs.lemmas.Bool.{cases_Bool}
 use Rattle.std.proofs.lemmas.List.Elements.{All-tail}
 use Rattle.crpd_base.specs.declared.data.TaskPlan.{TaskPlan}
 use Rattle.rv_decode.specs.declared.Ins.{Ins}
-use Rattle.rv_decode.specs.Address.{after}
+use Rattle.rv_decode.specs.Address.{next_address}
 use Rattle.rv_decode.specs.Flow.{Flow, Plain, Branch, Jump, Call, Return, Exit, Break, OtherJalr, OtherJal, flow}
 use Rattle.flow_watch.specs.declared.changes.Change.{Change}
 use Rattle.flow_watch.specs.declared.changes.Change.TheVariants.{Stay, Push, Pop, Unfollowed}
-use Rattle.flow_watch.specs.Watch.{Frame, Watch, all_turns_after, within_bounds, arrive, new_frame, moved, step}
-use Rattle.flow_watch.specs.Turns.{HasTurns}
-use Rattle.flow_watch.specs.Changes.{change_of, pushed, popped}
+use Rattle.flow_watch.specs.Watch.{Frame, Watch, all_iterations_after, within_bounds, arrive, new_frame, step_by_flow, step}
+use Rattle.flow_watch.specs.Iterations.{HasIterations}
+use Rattle.flow_watch.specs.Changes.{change_of, frames_after_call, frames_after_return}
 
 -- what a change does to the frames
 abbrev pub changed : TaskPlan → ℕ → ℕ → Change → List Frame → Watch
 changed plan from to Stay frames = Some frames
-changed plan from to Push frames = pushed plan from frames
-changed plan from to Pop frames = popped to frames
+changed plan from to Push frames = frames_after_call plan from frames
+changed plan from to Pop frames = frames_after_return to frames
 changed plan from to Unfollowed frames = None
 
 -- a choice between frames and none
@@ -28,12 +28,12 @@ then_arrives plan to frames false = refl
 
 moved_by :
     (plan : TaskPlan) (from to : ℕ) (frames : List Frame) (f : Flow) →
-    moved plan frames from f to ≡ option_and_then (arrive plan to) (changed plan from to (change_of f) frames)
+    step_by_flow plan frames from f to ≡ option_and_then (arrive plan to) (changed plan from to (change_of f) frames)
 moved_by plan from to frames Plain = refl
 moved_by plan from to frames (Branch t) = refl
 moved_by plan from to frames (Jump t) = refl
 moved_by plan from to frames (Call t) =
-    then_arrives plan to (new_frame plan (after from) ∷ frames) (nat_lt (length frames) 17)
+    then_arrives plan to (new_frame plan (next_address from) ∷ frames) (nat_lt (length frames) 17)
 moved_by plan from to [] Return = refl
 moved_by plan from to (f ∷ frames) Return = then_arrives plan to frames (to == f.back)
 moved_by plan from to frames Exit = refl
@@ -53,11 +53,11 @@ stepped plan from ins to (Some frames) c is =
 
 -- a return keeps the turns of the frames below
 pub has_turns-popped :
-    (m to : ℕ) (w : Watch) → HasTurns m w → HasTurns m (option_and_then (popped to) w)
+    (m to : ℕ) (w : Watch) → HasIterations m w → HasIterations m (option_and_then (frames_after_return to) w)
 has_turns-popped m to None has = tt
 has_turns-popped m to (Some []) has = tt
 has_turns-popped m to (Some (f ∷ frames)) has =
-    let below : HasTurns m (Some frames) = All-tail (λ (g : Frame). length g.turns ≡ m) f frames has in
+    let below : HasIterations m (Some frames) = All-tail (λ (g : Frame). length g.turns ≡ m) f frames has in
     elim (cases_Bool (to == f.back)) [ inl e ↦ rw e below | inr e ↦ rw e tt ]
 
 -- a watch that stays as it is, and one that is broken
@@ -81,14 +81,14 @@ pub arrived_from :
 arrived_from plan a None e = e
 arrived_from plan a (Some []) e = refl
 arrived_from plan a (Some (f ∷ frames)) e =
-    let turns : List ℕ = all_turns_after a plan.loops f.turns in
+    let turns : List ℕ = all_iterations_after a plan.loops f.turns in
     not_empty (within_bounds plan.loops turns) (record { back = f.back; turns = turns }) frames e
 
 -- nor does a call
-pub pushed_some : (plan : TaskPlan) (from : ℕ) (w : Watch) → option_and_then (pushed plan from) w ≡ Some [] → ⊥
+pub pushed_some : (plan : TaskPlan) (from : ℕ) (w : Watch) → option_and_then (frames_after_call plan from) w ≡ Some [] → ⊥
 pushed_some plan from None e = cc
 pushed_some plan from (Some frames) e =
-    not_empty (nat_lt (length frames) 17) (new_frame plan (after from)) frames e
+    not_empty (nat_lt (length frames) 17) (new_frame plan (next_address from)) frames e
 
 -- where there is no watch, none follows
 pub step_none : (plan : TaskPlan) (from : ℕ) (ins : Ins) (to : ℕ) → step plan None from ins to ≡ None

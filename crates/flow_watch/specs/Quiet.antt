@@ -4,7 +4,7 @@ use Rattle.crpd_base.specs.declared.data.LoopAt.{LoopAt}
 use Rattle.crpd_base.specs.declared.data.TaskPlan.{TaskPlan}
 use Rattle.rv_decode.specs.declared.Ins.{Ins}
 use Rattle.rv_decode.specs.Flow.{Flow, Call, Return, OtherJalr, OtherJal}
-use Rattle.flow_watch.specs.Watch.{Watch, arrive, step, turns_after, all_turns_after, within_bounds}
+use Rattle.flow_watch.specs.Watch.{Watch, arrive, step, iterations_after, all_iterations_after, within_bounds}
 
 -- whether an instruction of this flow stays in its frame: it is followed, and neither calls nor returns
 abbrev pub stays : Flow → Bool
@@ -27,11 +27,11 @@ abbrev pub AreQuiet : TaskPlan → Watch → ℕ × ℕ → Type 0
 AreQuiet plan w r = (a : ℕ) → r.0 ≤ a → a < r.1 → IsQuiet plan w a
 
 -- an arrival at the address leaves a loop's turns as they are, and they are within its bound
-pub record KeepsTurns (a : ℕ) (loop : LoopAt) (turns : ℕ) : Type 0 where
-  pub same : turns_after a loop turns ≡ turns
+pub record KeepsIterations (a : ℕ) (loop : LoopAt) (turns : ℕ) : Type 0 where
+  pub same : iterations_after a loop turns ≡ turns
   pub within : turns ≤ loop.bound
 
 -- an arrival leaves the turns of all loops as they are, within their bounds
-pub record AreStill (a : ℕ) (loops : List LoopAt) (turns : List ℕ) : Type 0 where
-  pub same : all_turns_after a loops turns ≡ turns
+pub record KeepsAllIterations (a : ℕ) (loops : List LoopAt) (turns : List ℕ) : Type 0 where
+  pub same : all_iterations_after a loops turns ≡ turns
   pub within : within_bounds loops turns ≡ true

@@ -1,22 +1,22 @@
 -- The fields of a watch: rows of turns, and the addresses of the calls.
 use Rattle.std.specs.Prelude.{◌≡◌, ℕ, zero, suc, ◌*◌, ◌^◌, ◌<◌, ◌≤◌, List, [], ◌∷◌, length, take, drop, slice_index, Option, option_map, IfSome}
-use Rattle.rv_decode.specs.Address.{after, end}
+use Rattle.rv_decode.specs.Address.{next_address, end_address}
 use Rattle.flow_watch.specs.Watch.{Frame, Watch}
 
 -- the turns of a frame, of the bottom one at 0: a row with a turn per stated loop
-abbrev pub row : ℕ → List ℕ → ℕ → List ℕ
-row loops turns k = take loops (drop (k * loops) turns)
+abbrev pub frame_row : ℕ → List ℕ → ℕ → List ℕ
+frame_row loops turns k = take loops (drop (k * loops) turns)
 
 -- the return address of a frame: the end for the bottom one, else the address after its call
 abbrev pub back : List ℕ → ℕ → ℕ
-back calls zero = end
-back calls (suc k) = after (slice_index calls k)
+back calls zero = end_address
+back calls (suc k) = next_address (slice_index calls k)
 
 -- so many frames, the innermost first
 abbrev pub frames_of : ℕ → List ℕ → List ℕ → ℕ → List Frame
 frames_of loops calls turns zero = []
 frames_of loops calls turns (suc k) =
-    record { back = back calls k; turns = row loops turns k } ∷ frames_of loops calls turns k
+    record { back = back calls k; turns = frame_row loops turns k } ∷ frames_of loops calls turns k
 
 abbrev pub watch_of : ℕ → List ℕ → List ℕ → Option ℕ → Watch
 watch_of loops calls turns frames = option_map (frames_of loops calls turns) frames

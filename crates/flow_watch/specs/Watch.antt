@@ -4,7 +4,7 @@ use Rattle.std.specs.List.{list_any}
 use Rattle.crpd_base.specs.declared.data.LoopAt.{LoopAt}
 use Rattle.crpd_base.specs.declared.data.TaskPlan.{TaskPlan}
 use Rattle.rv_decode.specs.declared.Ins.{Ins}
-use Rattle.rv_decode.specs.Address.{after, address_before, end}
+use Rattle.rv_decode.specs.Address.{next_address, address_before, end_address}
 use Rattle.rv_decode.specs.Flow.{Flow, Call, Return, OtherJalr, OtherJal, flow}
 
 -- a function's run: where it returns to, and how often the head of each stated loop was met since the loop was
@@ -25,13 +25,13 @@ abbrev pub holds : LoopAt → ℕ → Bool
 holds loop a = (a == loop.head) || list_any (in_range a) loop.ranges
 
 -- a loop's turns after an arrival at the address
-abbrev pub turns_after : ℕ → LoopAt → ℕ → ℕ
-turns_after a loop turns = if a == loop.head then suc turns else (if holds loop a then turns else 0)
+abbrev pub iterations_after : ℕ → LoopAt → ℕ → ℕ
+iterations_after a loop turns = if a == loop.head then suc turns else (if holds loop a then turns else 0)
 
-abbrev pub all_turns_after : ℕ → List LoopAt → List ℕ → List ℕ
-all_turns_after a (loop ∷ loops) (t ∷ turns) = turns_after a loop t ∷ all_turns_after a loops turns
-all_turns_after a [] turns = []
-all_turns_after a (loop ∷ loops) [] = []
+abbrev pub all_iterations_after : ℕ → List LoopAt → List ℕ → List ℕ
+all_iterations_after a (loop ∷ loops) (t ∷ turns) = iterations_after a loop t ∷ all_iterations_after a loops turns
+all_iterations_after a [] turns = []
+all_iterations_after a (loop ∷ loops) [] = []
 
 -- whether no loop has more turns than its bound
 abbrev pub within_bounds : List LoopAt → List ℕ → Bool
@@ -43,7 +43,7 @@ within_bounds (loop ∷ loops) [] = true
 abbrev pub arrive : TaskPlan → ℕ → List Frame → Watch
 arrive plan a [] = Some []
 arrive plan a (f ∷ frames) =
-    let turns = all_turns_after a plan.loops f.turns in
+    let turns = all_iterations_after a plan.loops f.turns in
     if within_bounds plan.loops turns then Some (record { back = f.back; turns = turns } ∷ frames) else None
 
 -- a frame with no loop open
@@ -52,46 +52,46 @@ new_frame plan back = record { back = back; turns = map (λ l. 0) plan.loops }
 
 -- the watch at the start of a job
 abbrev pub start : TaskPlan → Watch
-start plan = arrive plan plan.entry (new_frame plan end ∷ [])
+start plan = arrive plan plan.entry (new_frame plan end_address ∷ [])
 
 -- a call, with at most sixteen frames above the bottom
-abbrev pub call : TaskPlan → ℕ → ℕ → List Frame → Watch
-call plan from to frames =
-    if nat_lt (length frames) 17 then arrive plan to (new_frame plan (after from) ∷ frames) else None
+abbrev pub call_step : TaskPlan → ℕ → ℕ → List Frame → Watch
+call_step plan from to frames =
+    if nat_lt (length frames) 17 then arrive plan to (new_frame plan (next_address from) ∷ frames) else None
 
 -- a return, which goes to the top frame's return address
-abbrev pub return : TaskPlan → ℕ → List Frame → Watch
-return plan to [] = None
-return plan to (f ∷ frames) = if to == f.back then arrive plan to frames else None
+abbrev pub return_step : TaskPlan → ℕ → List Frame → Watch
+return_step plan to [] = None
+return_step plan to (f ∷ frames) = if to == f.back then arrive plan to frames else None
 
 -- a step of a watch that is not broken, by the flow of the instruction: from an address to an address
-abbrev pub moved : TaskPlan → List Frame → ℕ → Flow → ℕ → Watch
-moved plan frames from (Call t) to = call plan from to frames
-moved plan frames from Return to = return plan to frames
-moved plan frames from OtherJalr to = None
-moved plan frames from OtherJal to = None
-moved plan frames from _ to = arrive plan to frames
+abbrev pub step_by_flow : TaskPlan → List Frame → ℕ → Flow → ℕ → Watch
+step_by_flow plan frames from (Call t) to = call_step plan from to frames
+step_by_flow plan frames from Return to = return_step plan to frames
+step_by_flow plan frames from OtherJalr to = None
+step_by_flow plan frames from OtherJal to = None
+step_by_flow plan frames from _ to = arrive plan to frames
 
 -- a step of a watch, by an instruction
 unfoldable pub step : TaskPlan → Watch → ℕ → Ins → ℕ → Watch
 step plan None from ins to = None
-step plan (Some frames) from ins to = moved plan frames from (flow from ins) to
+step plan (Some frames) from ins to = step_by_flow plan frames from (flow from ins) to
 
 -- whether a watch is not broken
-abbrev pub is_kept : Watch → Bool
-is_kept None = false
-is_kept (Some frames) = true
+abbrev pub is_unbroken : Watch → Bool
+is_unbroken None = false
+is_unbroken (Some frames) = true
 
 -- the address of the call to which a frame returns
 abbrev pub call_of : Frame → ℕ
 call_of f = address_before f.back
 
 -- the addresses of the calls under way, the outermost first
-abbrev pub calls : List Frame → List ℕ
-calls [] = []
-calls (f ∷ []) = []
-calls (f ∷ frames) = calls frames ++ call_of f ∷ []
+abbrev pub calls_under_way : List Frame → List ℕ
+calls_under_way [] = []
+calls_under_way (f ∷ []) = []
+calls_under_way (f ∷ frames) = calls_under_way frames ++ call_of f ∷ []
 
 abbrev pub context : Watch → List ℕ
 context None = []
-context (Some frames) = calls frames
+context (Some frames) = calls_under_way frames

@@ -2,8 +2,8 @@
 ghost use Rattle.std.specs.Prelude.{◌≡◌, ◌≢◌, ℕ, ◌<◌, ◌≤◌, Some, None, length, nat_le, if◌then◌else◌};
 ghost use Rattle.std.specs.Bool.{OnTrue};
 ghost use Rattle.std.specs.List.{find, list_any};
-ghost use Rattle.flow_watch.specs.Watch.{in_range, turns_after, all_turns_after, within_bounds};
-ghost use Rattle.flow_watch.specs.Quiet.{AreStill, KeepsTurns};
+ghost use Rattle.flow_watch.specs.Watch.{in_range, iterations_after, all_iterations_after, within_bounds};
+ghost use Rattle.flow_watch.specs.Quiet.{KeepsAllIterations, KeepsIterations};
 
 use crpd_base::LoopAt;
 
@@ -30,8 +30,8 @@ fn is_in_ranges(stated: &LoopAt, address: u32) -> bool
 
 /// The turns of a stated loop after an arrival at an address, or None where they are more than its bound. Turns at the
 /// bound are not raised, so no sum wraps. Only of a loop that is open its ranges are looked through.
-fn turns_after(stated: &LoopAt, turns: u32, address: u32) -> Option<u32>
-    ensures { let after = turns_after address stated.now turns in
+fn iterations_after(stated: &LoopAt, turns: u32, address: u32) -> Option<u32>
+    ensures { let after = iterations_after address stated.now turns in
         result ≡ (if nat_le after stated.now.bound then Some after else None) }
 {
     let bound = stated.bound;
@@ -50,11 +50,11 @@ fn turns_after(stated: &LoopAt, turns: u32, address: u32) -> Option<u32>
 /// not, the turns may be left halfway.
 pub(crate) fn count_arrival(turns: &mut [u32], loops: &[LoopAt], address: u32) -> bool
     requires { length turns.old ≡ length loops.now }
-    ensures within { result ≡ within_bounds loops.now (all_turns_after address loops.now turns.old) }
-    ensures counted { OnTrue result (turns.new ≡ all_turns_after address loops.now turns.old) }
+    ensures within { result ≡ within_bounds loops.now (all_iterations_after address loops.now turns.old) }
+    ensures counted { OnTrue result (turns.new ≡ all_iterations_after address loops.now turns.old) }
 {
     for (i, stated) in loops.iter().enumerate() {
-        match turns_after(stated, turns[i], address) {
+        match iterations_after(stated, turns[i], address) {
             Some(after) => turns[i] = after,
             None => return false,
         }
@@ -88,8 +88,8 @@ fn beside_head(range: (u32, u32), head: u32, near: u32) -> (u32, u32)
 }
 
 /// The addresses of a range at which an arrival leaves a stated loop's turns as they are, of those around an address.
-fn still(range: (u32, u32), stated: &LoopAt, turns: u32, near: u32) -> (u32, u32)
-    ensures { (a : ℕ) → result.0 ≤ a → a < result.1 → (range.0 ≤ a) × (a < range.1) × KeepsTurns a stated.now turns }
+fn still_range(range: (u32, u32), stated: &LoopAt, turns: u32, near: u32) -> (u32, u32)
+    ensures { (a : ℕ) → result.0 ≤ a → a < result.1 → (range.0 ≤ a) × (a < range.1) × KeepsIterations a stated.now turns }
 {
     let around = beside_head(range, stated.head, near);
     if turns == 0 {
@@ -105,13 +105,13 @@ fn still(range: (u32, u32), stated: &LoopAt, turns: u32, near: u32) -> (u32, u32
 }
 
 /// A range of addresses around one, at which an arrival leaves a frame's turns as they are.
-pub(crate) fn all_still(turns: &[u32], loops: &[LoopAt], near: u32) -> (u32, u32)
+pub(crate) fn quiet_range(turns: &[u32], loops: &[LoopAt], near: u32) -> (u32, u32)
     requires { length turns.now ≡ length loops.now }
-    ensures { (a : ℕ) → result.0 ≤ a → a < result.1 → AreStill a loops.now turns.now }
+    ensures { (a : ℕ) → result.0 ≤ a → a < result.1 → KeepsAllIterations a loops.now turns.now }
 {
     let mut range = (0, u32::MAX);
     for (i, stated) in loops.iter().enumerate() {
-        range = still(range, stated, turns[i], near);
+        range = still_range(range, stated, turns[i], near);
     }
     range
 }

@@ -1,6 +1,6 @@
 // Watches over short lists of instructions.
 ghost use Rattle.std.specs.Prelude.{length, IfOk};
-ghost use Rattle.flow_watch.specs.Turns.{HasTurns};
+ghost use Rattle.flow_watch.specs.Iterations.{HasIterations};
 
 use super::*;
 use crpd_base::{Items, LoopAt};
@@ -49,7 +49,7 @@ fn plan(alloc: Global, loops: &[Stated]) -> Result<TaskPlan, AllocError> {
 
 // The watch after the steps, each an instruction and the address after it, up to the end of the job.
 fn watch_after(alloc: Global, plan: &TaskPlan, steps: &[(Ins, u32)]) -> Result<Watch, Fail>
-    ensures { IfOk result (HasTurns (length plan.now.loops)) }
+    ensures { IfOk result (HasIterations (length plan.now.loops)) }
 {
     let mut watch = Watch::start(alloc, plan)?;
     let mut from = plan.entry;

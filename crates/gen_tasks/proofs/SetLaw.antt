@@ -12,8 +12,8 @@ use Rattle.std.proofs.lemmas.List.FromFn.{get_or-map-range_with_len, get_or-rang
 use Rattle.crpd_base.specs.declared.data.TaskSpec.{TaskSpec}
 use Rattle.crpd_base.specs.Names.{is_file, is_name}
 use Rattle.crpd_base.specs.Ranges.{IsLoopSpec, IsTaskSpec, HaveOwnNames, IsTaskSet}
-use Rattle.gen_tasks.specs.Programs.{draft_at, stated_loop, task_at}
-use Rattle.gen_tasks.specs.Made.{set_of}
+use Rattle.gen_tasks.specs.Programs.{draft_at, stated_loop, generated_task_at}
+use Rattle.gen_tasks.specs.GeneratedInput.{generated_set}
 
 pub jitter_below : (n i : ℕ) → (draft_at n i).jitter ≤ 3000
 unfolding draft_at
@@ -41,7 +41,7 @@ files_good : (i : ℕ) → i < 16 → is_file (codes "t" ++ decimal i ++ codes "
 unfolding digits
 files_good = passes_below (λ i. is_file (codes "t" ++ decimal i ++ codes ".elf")) 16 refl
 
-task_is : (n i : ℕ) → i < 16 → IsTaskSpec (task_at n i)
+task_is : (n i : ℕ) → i < 16 → IsTaskSpec (generated_task_at n i)
 task_is n i h =
     let bound = bound_within n i in
     let jitter = jitter_below n i in
@@ -55,19 +55,19 @@ task_is n i h =
       loops = All-from_recursion IsLoopSpec (stated_loop (draft_at n i) ∷ []) ((omega arith, omega arith), tt);
     }
 
-names_differ : (n i j : ℕ) → i < j → j < 16 → HaveOwnNames (task_at n i) (task_at n j)
+names_differ : (n i j : ℕ) → i < j → j < 16 → HaveOwnNames (generated_task_at n i) (generated_task_at n j)
 names_differ n i j h within e =
     let same : decimal i ≡ decimal j = cc in
     let is : i ≡ j = decimal_injective i j (omega arith) (omega arith) same in
     omega arith
 
-pub tasks_at : (n k : ℕ) (d : TaskSpec) → k < 16 → get_or (map (task_at n) (range_with_len 0 16)) k d ≡ task_at n k
-tasks_at n k d h = get_or-map-range_with_len (task_at n) 0 16 k k d h (omega arith)
+pub tasks_at : (n k : ℕ) (d : TaskSpec) → k < 16 → get_or (map (generated_task_at n) (range_with_len 0 16)) k d ≡ generated_task_at n k
+tasks_at n k d h = get_or-map-range_with_len (generated_task_at n) 0 16 k k d h (omega arith)
 
-pub set_is : (n : ℕ) → IsTaskSet (set_of n)
-unfolding set_of
+pub set_is : (n : ℕ) → IsTaskSet (generated_set n)
+unfolding generated_set
 set_is n =
-    let count : length (map (task_at n) (range_with_len 0 16)) ≡ 16 = length-map-range_with_len (task_at n) 0 16 in
+    let count : length (map (generated_task_at n) (range_with_len 0 16)) ≡ 16 = length-map-range_with_len (generated_task_at n) 0 16 in
     record {
       platform = record { line = (lit≤ tt, lit≤ tt); line_size = refl; sets = (lit≤ tt, lit≤ tt); hit = (lit≤ tt, lit≤ tt); miss = lit≤ tt; memory = lit≤ tt; taken = lit≤ tt; switch = lit≤ tt; mul = lit≤ tt; div = lit≤ tt };
       some = omega arith;

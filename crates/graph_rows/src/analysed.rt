@@ -6,7 +6,7 @@ ghost use Rattle.loop_regions.specs.CodeNest.{IsNestOf};
 ghost use Rattle.must_cache.specs.States.{AreSure};
 
 use crpd_base::{Platform, Task};
-use fixtures::{ONE, Program, Stated, built, load};
+use fixtures::{ONE, Program, Stated, graph_and_nest, load};
 use flat_graph::Graph;
 use icache::Geometry;
 use loop_regions::Nest;
@@ -62,7 +62,7 @@ pub(crate) fn analysed<'a, const S: usize>(
         ..ONE
     };
     let loaded = load(alloc, *platform, &[program])?;
-    let (graph, nest) = built(alloc, &loaded.code, Task(0))?;
+    let (graph, nest) = graph_and_nest(alloc, &loaded.code, Task(0))?;
     let states = states_of::<S>(alloc, platform, &graph)?;
     Ok(Parts {
         graph,

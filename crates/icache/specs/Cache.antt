@@ -26,5 +26,5 @@ abbrev pub is_hit : Platform → Cache → ℕ → Bool
 is_hit p cache block = is_block (held cache (set_of p block)) block
 
 -- the cache after an access to the block
-abbrev pub accessed : Platform → Cache → ℕ → Cache
-accessed p cache block = slice_set cache (set_of p block) (Some block)
+abbrev pub cache_after_access : Platform → Cache → ℕ → Cache
+cache_after_access p cache block = slice_set cache (set_of p block) (Some block)

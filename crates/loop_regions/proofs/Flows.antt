@@ -3,7 +3,7 @@ use Rattle.std.proofs.Common.{◌≡◌, ◌⊎◌, ℕ, zero, suc, Bool, true, 
 use Rattle.std.specs.Prelude.{ℤ, pos}
 use Rattle.rv_decode.specs.declared.Ins.{Ins}
 use Rattle.rv_decode.specs.declared.Ins.TheVariants.{Jal, Jalr, Beq, Bne, Blt, Bge, Bltu, Bgeu, Ecall, Ebreak}
-use Rattle.rv_decode.specs.Address.{after, plus}
+use Rattle.rv_decode.specs.Address.{next_address, plus}
 use Rattle.rv_decode.specs.Flow.{Flow, Plain, Branch, Jump, Call, Return, Exit, Break, OtherJalr, OtherJal, flow}
 use Rattle.rv_core.specs.declared.Next.{Next}
 use Rattle.rv_core.specs.declared.Next.TheVariants.{Goto, Answer, Fault}
@@ -12,8 +12,8 @@ use Rattle.loop_regions.specs.Watched.{CanGo}
 
 -- where a flow goes
 abbrev pub GoesBy : Flow → ℕ → Next → Type 0
-GoesBy Plain a next = next ≡ Goto (after a)
-GoesBy (Branch t) a next = (next ≡ Goto (after a)) ⊎ (next ≡ Goto t)
+GoesBy Plain a next = next ≡ Goto (next_address a)
+GoesBy (Branch t) a next = (next ≡ Goto (next_address a)) ⊎ (next ≡ Goto t)
 GoesBy (Jump t) a next = next ≡ Goto t
 GoesBy (Call t) a next = next ≡ Goto t
 GoesBy Return a next = (to : ℕ) × (next ≡ Goto to)
@@ -22,7 +22,7 @@ GoesBy Break a next = next ≡ Fault
 GoesBy OtherJalr a next = (to : ℕ) × (next ≡ Goto to)
 GoesBy OtherJal a next = (to : ℕ) × (next ≡ Goto to)
 
-branch_goes : (b : Bool) (a : ℕ) (imm : ℤ) → (branch b a imm ≡ Goto (after a)) ⊎ (branch b a imm ≡ Goto (plus a imm))
+branch_goes : (b : Bool) (a : ℕ) (imm : ℤ) → (branch b a imm ≡ Goto (next_address a)) ⊎ (branch b a imm ≡ Goto (plus a imm))
 branch_goes true a imm = inr refl
 branch_goes false a imm = inl refl
 
@@ -54,8 +54,8 @@ goto_same a b e = ap to_of e
 
 -- the next address is one to which the flow can go
 pub can_go : (f : Flow) (a : ℕ) (next : Next) (to : ℕ) → GoesBy f a next → next ≡ Goto to → CanGo a f to
-can_go Plain a next to g e = goto_same to (after a) (sym e ∙ g)
-can_go (Branch t) a next to (inl g) e = inl (goto_same to (after a) (sym e ∙ g))
+can_go Plain a next to g e = goto_same to (next_address a) (sym e ∙ g)
+can_go (Branch t) a next to (inl g) e = inl (goto_same to (next_address a) (sym e ∙ g))
 can_go (Branch t) a next to (inr g) e = inr (goto_same to t (sym e ∙ g))
 can_go (Jump t) a next to g e = goto_same to t (sym e ∙ g)
 can_go (Call t) a next to g e = goto_same to t (sym e ∙ g)

@@ -8,7 +8,7 @@ use Rattle.flat_graph.specs.Graph.{Graph, Places}
 use Rattle.loop_regions.specs.Stated.{holds_seen, region_holds, IsRegionOf, IsRegions}
 use Rattle.loop_regions.specs.CodeNest.{has, row, nest_of}
 use Rattle.loop_regions.specs.Heads.{AreHeads, IsHeldBy}
-use Rattle.loop_regions.specs.Sound.{IsSound}
+use Rattle.loop_regions.specs.RegionLists.{AreRegionLists}
 use Rattle.loop_regions.specs.declared.heads.Head.{Head}
 use Rattle.loop_regions.proofs.Stated.{seen_here, loop_holds_head}
 
@@ -70,7 +70,7 @@ module _ (g : Graph) (p : Places) (loops : List LoopAt) (heads : List Head) (nod
       subst (λ (x : LoopAt). IsTrue (region_holds p x (p.context o.h.node) y)) same_loop
       (subst (λ (x : Head). IsTrue (region_holds p by.1 (p.context x.node) y)) same by.4)
 
-  pub is_sound : IsSound nodes bounds holders
+  pub is_sound : AreRegionLists nodes bounds holders
   is_sound = record {
     few = let f = H.few in omega (arith, all_nodes);
     few_nodes = omega arith;
@@ -125,7 +125,7 @@ pub found : (g : Graph) (p : Places) (loops : List LoopAt) (heads a b d : List H
     → ((r : ℕ) (h : Head) (l : LoopAt) → slice_get d r ≡ Some h → slice_get loops h.stated ≡ Some l → slice_index bounds' r ≡ l.bound)
     → holders ≡ holders' → length holders' ≡ g.size
     → ((y r : ℕ) → y < g.size → IsTrue (has (row holders' y) r) ↔ IsHeldBy p loops a y r)
-    → IsSound nodes bounds holders × IsRegions g p loops (nest_of (record { heads = nodes; bounds = bounds; holders = holders }))
+    → AreRegionLists nodes bounds holders × IsRegions g p loops (nest_of (record { heads = nodes; bounds = bounds; holders = holders }))
 found g p loops heads a b d nodes nodes' bounds bounds' holders holders' few H ea eb ed n N e B C h S K =
     let mapped = n ∙ N ∙ ap (map (λ (x : Head). x.node)) eb in
     let all = ap length e ∙ B ∙ ap length ed in

@@ -13,7 +13,7 @@ use Rattle.std.specs.List.Sorted.{IsPartitionPoint}
 use Rattle.crpd_base.proofs.Elements.{at_end}
 use Rattle.flow_watch.specs.Watch.{in_range, holds}
 use Rattle.crpd_base.specs.declared.data.LoopAt.{LoopAt}
-use Rattle.loop_regions.specs.Ranges.{end_of, IsReach, AreReaches, AreRanges}
+use Rattle.loop_regions.specs.Ranges.{range_end, IsReach, AreReaches, AreRanges}
 
 -- one more range
 pub reach_more : (ranges : List (ℕ × ℕ)) (count reach : ℕ) (r : ℕ × ℕ) → IsReach ranges count reach → slice_index_or ranges count (0, 0) ≡ r → IsReach ranges (count + 1) (max reach r.1)
@@ -25,8 +25,8 @@ reach_more ranges count reach r R at = record {
       (cases_lt a reach);
 }
   where
-    here : (k : ℕ) → k ≡ count → end_of ranges k ≡ r.1
-    here k e = ap (end_of ranges) e ∙ ap (λ (x : ℕ × ℕ). x.1) at
+    here : (k : ℕ) → k ≡ count → range_end ranges k ≡ r.1
+    here k e = ap (range_end ranges) e ∙ ap (λ (x : ℕ × ℕ). x.1) at
 
 -- one more reach
 pub reaches_more : (ranges : List (ℕ × ℕ)) (reaches : List ℕ) (count reach : ℕ) → AreReaches ranges reaches count → IsReach ranges (count + 1) reach → AreReaches ranges (reaches ++ reach ∷ []) (count + 1)
@@ -76,7 +76,7 @@ module _ (stated ranges : List (ℕ × ℕ)) (reaches : List ℕ) (R : AreRanges
       list_any-IsPermutation (in_range a) stated ranges R.same
       ∙ list_any_none (in_range a) ranges each
     where
-      ends : (k : ℕ) → k < length ranges → (slice_index_or ranges k (0, 0)).0 ≤ a → end_of ranges k ≤ a
+      ends : (k : ℕ) → k < length ranges → (slice_index_or ranges k (0, 0)).0 ≤ a → range_end ranges k ≤ a
       ends k lt le =
           ⊎_elim
           (λ before. let m = (R.reach.each (begun - 1) (omega arith)).most k (omega arith) in let f = far (omega arith) in omega arith)

@@ -6,8 +6,8 @@ use Rattle.std.proofs.lemmas.Bool.{cases_eq, cases_lt, cases_Bool, both_ways, eq
 use Rattle.loop_regions.specs.Levels.{IsLevel, IsParent}
 use Rattle.loop_regions.specs.Stated.{HoldsMore, IsNotNested}
 use Rattle.loop_regions.specs.CodeNest.{has, row}
-use Rattle.loop_regions.specs.Sound.{IsSound}
-use Rattle.loop_regions.specs.Found.{AreAround, lie_across, are_across, is_other, is_better, better, IsInnermost, AreInLine}
+use Rattle.loop_regions.specs.RegionLists.{AreRegionLists}
+use Rattle.loop_regions.specs.FoundRegions.{AreAround, lie_across, are_across, is_other, is_better, better, IsInnermost, AreInLine}
 use Rattle.loop_regions.proofs.Has.{has_any, any_has, has_at, has_taken}
 use Rattle.loop_regions.proofs.FoundRegions.{none_past}
 use Rattle.loop_regions.proofs.Stated.{inside_below}
@@ -120,7 +120,7 @@ answer_more P xs new x k e len here all = (
       (cases_eq z k)),
 )
 
-module _ (heads bounds : List ℕ) (holders rows : List (List ℕ)) (S : IsSound heads bounds holders) (A : AreAround (nest_by heads bounds holders) rows) where
+module _ (heads bounds : List ℕ) (holders rows : List (List ℕ)) (S : AreRegionLists heads bounds holders) (A : AreAround (nest_by heads bounds holders) rows) where
   node_within : (y r : ℕ) → IsTrue (has (row holders y) r) → y < length holders
   node_within y r h = ⊎_elim (λ lt. lt) (λ past. absurd (both_ways (has (row holders y) r) (none_past holders y r past) h)) (cases_lt y (length holders))
 

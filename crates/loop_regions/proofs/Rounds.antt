@@ -3,8 +3,8 @@ use Rattle.std.proofs.Common.{◌≡◌, ◌↔◌, ℕ, ◌+◌, ◌<◌, ◌�
 use Rattle.std.specs.List.{filter}
 use Rattle.std.proofs.lemmas.Bool.{cases_eq, cases_lt, both_ways}
 use Rattle.loop_regions.specs.CodeNest.{has, row}
-use Rattle.loop_regions.specs.Sound.{IsSound}
-use Rattle.loop_regions.specs.Found.{AreAround}
+use Rattle.loop_regions.specs.RegionLists.{AreRegionLists}
+use Rattle.loop_regions.specs.FoundRegions.{AreAround}
 use Rattle.loop_regions.proofs.Has.{has_filter, filter_has, has_taken, taken_has}
 use Rattle.loop_regions.proofs.FoundRegions.{none_past}
 use Rattle.loop_regions.proofs.LeastOf.{nest_by}
@@ -59,7 +59,7 @@ round_more heads holders now new k r s N R = (
   (λ p. N.1 (R.1 (p.0, λ y lt. p.1 y (omega arith)), p.1 k (omega arith))),
 )
 
-pub all_round : (heads bounds : List ℕ) (holders rows : List (List ℕ)) (k : ℕ) → IsSound heads bounds holders → length holders ≤ k → length rows ≡ length heads
+pub all_round : (heads bounds : List ℕ) (holders rows : List (List ℕ)) (k : ℕ) → AreRegionLists heads bounds holders → length holders ≤ k → length rows ≡ length heads
     → ((r s : ℕ) → r < length heads → IsRoundBelow heads holders rows k r s) → AreAround (nest_by heads bounds holders) rows
 all_round heads bounds holders rows k S le all R = record {
   regions = all;

@@ -4,12 +4,12 @@ use Rattle.std.specs.Prelude.{◌==◌, if◌then◌else◌, pos, replicate}
 use Rattle.crpd_base.specs.declared.data.TaskPlan.{TaskPlan}
 use Rattle.rv_decode.specs.declared.Ins.{Ins}
 use Rattle.rv_decode.specs.declared.Ins.TheVariants.{Jal, Jalr, Ecall}
-use Rattle.rv_decode.specs.Table.{row, table}
+use Rattle.rv_decode.specs.Table.{ins_of_word, table}
 use Rattle.rv_decode.specs.Flow.{flow}
 use Rattle.rv_core.specs.Effect.{next_pc}
 use Rattle.flat_graph.specs.FlatGraph.{FlatNode}
 use Rattle.flow_watch.specs.Watch.{step as watch_step}
-use Rattle.loop_regions.specs.Steps.{Step, AreSteps, IsAnswer, exits, returns, nodes_along}
+use Rattle.loop_regions.specs.Steps.{Step, AreSteps, AnswersAfter, exits, returns, nodes_along}
 
 abbrev words : ℕ → Option ℕ
 words a = if a == 0x1000 then Some 0x008000EF else (if a == 0x1004 then Some 0x00000073 else (if a == 0x1008 then Some 0x00008067 else None))
@@ -28,7 +28,7 @@ abbrev steps : List Step
 steps = step 0x1008 (Jalr 0 1 (pos 0)) 0x1004 ∷ step 0x1000 (Jal 1 (pos 8)) 0x1008 ∷ []
 
 are_steps : AreSteps words 0x1000 steps
-unfolding row table next_pc
+unfolding ins_of_word table next_pc
 are_steps = (
   record { stands = record { word = 0x00008067; here = refl; reads = refl }; registers = linked 0x1004; goes = refl },
   refl,
@@ -42,16 +42,16 @@ along : nodes_along plan steps ≡ at [] 0x1004 ∷ at (0x1000 ∷ []) 0x1008 �
 unfolding watch_step flow
 along = refl
 
-answer : IsAnswer words plan steps
-unfolding row table next_pc watch_step flow
+answer : AnswersAfter words plan steps
+unfolding ins_of_word table next_pc watch_step flow
 answer = exits Ecall (linked 0) (record { word = 0x00000073; here = refl; reads = refl }) refl refl
 
 -- a return of the bottom frame
 abbrev leaf : TaskPlan
 leaf = record plan { entry = 0x1008 }
 
-leaf_answer : IsAnswer words leaf []
-unfolding row table next_pc watch_step flow
+leaf_answer : AnswersAfter words leaf []
+unfolding ins_of_word table next_pc watch_step flow
 leaf_answer =
     returns (step 0x1008 (Jalr 0 1 (pos 0)) 0xFFFFFFFC)
     (record { stands = record { word = 0x00008067; here = refl; reads = refl }; registers = linked 0xFFFFFFFC; goes = refl })

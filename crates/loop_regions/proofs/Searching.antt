@@ -6,16 +6,16 @@ use Rattle.std.proofs.lemmas.List.{length-set}
 use Rattle.std.proofs.lemmas.Option.{slice_get_within, slice_get-get_or, get_or_from_slice_get}
 use Rattle.flat_graph.specs.Graph.{Graph}
 use Rattle.loop_regions.specs.Nest.{Nest, IsBackEdge}
-use Rattle.loop_regions.specs.Stated.{IsForward, IsForwardWay, IsOnCycle}
+use Rattle.loop_regions.specs.Stated.{IsForward, IsForwardPath, IsOnCycle}
 use Rattle.loop_regions.specs.CodeNest.{has, row}
-use Rattle.loop_regions.specs.Sound.{IsSound}
-use Rattle.loop_regions.specs.Found.{is_head}
-use Rattle.loop_regions.specs.Cycles.{IsForwardBy, Reaches, was_seen, IsMet, IsSearch, EdgesFrom, NoEdges, unseen, to_search}
+use Rattle.loop_regions.specs.RegionLists.{AreRegionLists}
+use Rattle.loop_regions.specs.FoundRegions.{is_head}
+use Rattle.loop_regions.specs.ForwardPaths.{IsForwardBy, Reaches, was_seen, IsStartOrSeen, IsSearch, EdgesFrom, NoEdges, unseen, to_search}
 use Rattle.loop_regions.proofs.Has.{has_any, any_has, has_more, has_pushed, has_push_cases}
 use Rattle.loop_regions.proofs.SecondEntries.{head_is, is_the_head}
 use Rattle.loop_regions.proofs.LeastOf.{nest_by}
 
-module _ (g : Graph) (heads bounds : List ℕ) (holders : List (List ℕ)) (S : IsSound heads bounds holders) where
+module _ (g : Graph) (heads bounds : List ℕ) (holders : List (List ℕ)) (S : AreRegionLists heads bounds holders) where
   back_from : (u v : ℕ) → IsTrue (list_any (is_head heads v) (row holders u)) → IsBackEdge (nest_by heads bounds holders) u v
   back_from u v h = let f = has_any (is_head heads v) (row holders u) h in let i = head_is heads v f.0 f.2 in (f.0, i.0, f.1, sym i.1)
 
@@ -39,7 +39,7 @@ module _ (g : Graph) (heads bounds : List ℕ) (holders : List (List ℕ)) (S : 
 
 -- ranks that fall along forward edges leave no cycle
 module _ (g : Graph) (n : Nest) (ranks : List ℕ) (F : (u v : ℕ) → IsForward g n u v → slice_index ranks v < slice_index ranks u) where
-  lower : (y : ℕ) (between : List ℕ) (z : ℕ) → IsForwardWay g n y between z → slice_index ranks z < slice_index ranks y
+  lower : (y : ℕ) (between : List ℕ) (z : ℕ) → IsForwardPath g n y between z → slice_index ranks z < slice_index ranks y
   lower y [] z way = F y z way
   lower y (x ∷ before) z way = let a = lower y before x way.0 in let b = F x z way.1 in omega arith
 
@@ -107,11 +107,11 @@ module _ (g : Graph) (n : Nest) (y : ℕ) where
   seen_before : (seen : List Bool) (v w : ℕ) → IsTrue (was_seen (set seen v true) w) → (w ≡ v) ⊎ IsTrue (was_seen seen w)
   seen_before seen v w h = ⊎_elim (λ is. inl is) (λ ne. inr (sym (get_or-set_other seen v w true false ne) ∙ h)) (cases_eq w v)
 
-  pub met_stays : (seen : List Bool) (v w : ℕ) → v < length seen → IsMet y seen w → IsMet y (set seen v true) w
+  pub met_stays : (seen : List Bool) (v w : ℕ) → v < length seen → IsStartOrSeen y seen w → IsStartOrSeen y (set seen v true) w
   met_stays seen v w lt m = ⊎_elim (λ e. inl e) (λ h. inr (seen_stays seen v w lt h)) m
 
   -- the target of a forward edge is found
-  pub edge_found : (seen : List Bool) (waiting : List ℕ) (u k v : ℕ) → v < g.size → slice_get (g.next u) k ≡ Some v → IsForward g n u v → IsMet y seen u
+  pub edge_found : (seen : List Bool) (waiting : List ℕ) (u k v : ℕ) → v < g.size → slice_get (g.next u) k ≡ Some v → IsForward g n u v → IsStartOrSeen y seen u
       → IsSearch g n y seen waiting (EdgesFrom u k) → IsSearch g n y (set seen v true) (waiting ++ v ∷ []) (EdgesFrom u (k + 1))
   edge_found seen waiting u k v lt e f met R = record {
     nodes = length-set seen v true ∙ R.nodes;
@@ -125,7 +125,7 @@ module _ (g : Graph) (n : Nest) (y : ℕ) where
         (λ is. (subst (λ x. x < g.size) is lt, inr (subst (λ x. IsTrue (was_seen (set seen v true) x)) is (get_or-set_same seen v true false here))))
         (has_push_cases waiting v w h);
     followed = λ w x j m ex fx. ⊎_elim
-        (λ (o : IsMet y seen w). lifted w x j ex fx (R.followed w x j o ex fx))
+        (λ (o : IsStartOrSeen y seen w). lifted w x j ex fx (R.followed w x j o ex fx))
         (λ is. inr (inl (subst (λ z. IsTrue (has (waiting ++ v ∷ []) z)) (sym is) (has_pushed waiting v))))
         (met_before w m);
   }
@@ -139,7 +139,7 @@ module _ (g : Graph) (n : Nest) (y : ℕ) where
           (λ h. let r = R.sound u h in (u ∷ r.0, (r.1, f)))
           met
 
-      met_before : (w : ℕ) → IsMet y (set seen v true) w → IsMet y seen w ⊎ (w ≡ v)
+      met_before : (w : ℕ) → IsStartOrSeen y (set seen v true) w → IsStartOrSeen y seen w ⊎ (w ≡ v)
       met_before w m = ⊎_elim (λ is. inl (inl is)) (λ h. ⊎_elim (λ is. inr is) (λ t. inl (inr t)) (seen_before seen v w h)) m
 
       lifted : (w x j : ℕ) → slice_get (g.next w) j ≡ Some x → IsForward g n w x → IsTrue (was_seen seen x) ⊎ IsTrue (has waiting w) ⊎ EdgesFrom u k w j
@@ -159,7 +159,7 @@ module _ (g : Graph) (n : Nest) (y : ℕ) where
           s
 
   -- a node that waits is taken
-  pub taken : (seen : List Bool) (old waiting : List ℕ) (u : ℕ) → old ≡ waiting ++ u ∷ [] → IsSearch g n y seen old NoEdges → (u < g.size) × IsMet y seen u × IsSearch g n y seen waiting (EdgesFrom u 0)
+  pub taken : (seen : List Bool) (old waiting : List ℕ) (u : ℕ) → old ≡ waiting ++ u ∷ [] → IsSearch g n y seen old NoEdges → (u < g.size) × IsStartOrSeen y seen u × IsSearch g n y seen waiting (EdgesFrom u 0)
   taken seen old waiting u e R =
       let all = subst (λ xs. IsSearch g n y seen xs NoEdges) e R in
       let o = all.own u (has_pushed waiting u) in (
@@ -197,7 +197,7 @@ module _ (g : Graph) (n : Nest) (y : ℕ) where
   }
 
   -- where no node waits, a node on a way was seen
-  edge_seen : (seen : List Bool) (u v : ℕ) → IsSearch g n y seen [] NoEdges → IsMet y seen u → IsForward g n u v → IsTrue (was_seen seen v)
+  edge_seen : (seen : List Bool) (u v : ℕ) → IsSearch g n y seen [] NoEdges → IsStartOrSeen y seen u → IsForward g n u v → IsTrue (was_seen seen v)
   edge_seen seen u v R m f =
       let c = f.0.1 in
       ⊎_elim
@@ -205,7 +205,7 @@ module _ (g : Graph) (n : Nest) (y : ℕ) where
       (λ t. ⊎_elim (λ h. absurd (both_ways (has [] u) refl h)) (λ (l : NoEdges u c.0). absurd l) t)
       (R.followed u v c.0 m (slice_get-get_or (g.next u) c.0 v c.1 ∙ ap Some c.2) f)
 
-  along : (seen : List Bool) (between : List ℕ) (z : ℕ) → IsSearch g n y seen [] NoEdges → IsForwardWay g n y between z → IsTrue (was_seen seen z)
+  along : (seen : List Bool) (between : List ℕ) (z : ℕ) → IsSearch g n y seen [] NoEdges → IsForwardPath g n y between z → IsTrue (was_seen seen z)
   along seen [] z R way = edge_seen seen y z R (inl refl) way
   along seen (x ∷ before) z R way = edge_seen seen x z R (inr (along seen before x R way.0)) way.1
 
@@ -217,7 +217,7 @@ module _ (g : Graph) (n : Nest) (y : ℕ) where
 pub cycle_within : (g : Graph) (n : Nest) (y : ℕ) → IsOnCycle g n y → y < g.size
 cycle_within g n y c = first c.0 y c.1
   where
-    first : (between : List ℕ) (z : ℕ) → IsForwardWay g n y between z → y < g.size
+    first : (between : List ℕ) (z : ℕ) → IsForwardPath g n y between z → y < g.size
     first [] z way = way.0.0
     first (x ∷ before) z way = first before x way.0
 

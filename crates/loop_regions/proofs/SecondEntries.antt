@@ -8,9 +8,9 @@ use Rattle.flat_graph.specs.Graph.{Graph}
 use Rattle.loop_regions.specs.Nest.{Nest}
 use Rattle.loop_regions.specs.Stated.{IsSecondEntry}
 use Rattle.loop_regions.specs.CodeNest.{has, row}
-use Rattle.loop_regions.specs.Sound.{IsSound}
-use Rattle.loop_regions.specs.Least.{IsLeast, lesser}
-use Rattle.loop_regions.specs.Found.{is_head, Enters, EntersFrom, EntersBy, IsInsideStart}
+use Rattle.loop_regions.specs.RegionLists.{AreRegionLists}
+use Rattle.loop_regions.specs.Least.{IsLeastNumber, lesser}
+use Rattle.loop_regions.specs.FoundRegions.{is_head, Enters, EntersFrom, EntersBy, IsInsideStart}
 use Rattle.loop_regions.proofs.Has.{has_any, any_has}
 use Rattle.loop_regions.proofs.LeastOf.{nest_by, least_same, least_or}
 
@@ -26,7 +26,7 @@ no_head heads v r ne = not_from_false (is_head heads v r) (false_from_ne_true (i
 pub other_head : (heads : List ℕ) (v r : ℕ) → r < length heads → IsTrue (not (is_head heads v r)) → v ≢ slice_index heads r
 other_head heads v r lt h e = both_ways (is_head heads v r) (not-true (is_head heads v r) h) (is_the_head heads v r lt (sym e))
 
-module _ (g : Graph) (heads bounds : List ℕ) (holders : List (List ℕ)) (S : IsSound heads bounds holders) where
+module _ (g : Graph) (heads bounds : List ℕ) (holders : List (List ℕ)) (S : AreRegionLists heads bounds holders) where
   abbrev test : ℕ → ℕ → ℕ → Bool
   test u v q = not (is_head heads v q) && not (has (row holders u) q)
 
@@ -42,30 +42,30 @@ module _ (g : Graph) (heads bounds : List ℕ) (holders : List (List ℕ)) (S : 
       any_has (λ q. not (is_head heads v q) && not (has (row holders u) q)) (row holders v) e.0 e.2
       (and_from (not (is_head heads v e.0)) (not (has (row holders u) e.0)) (no_head heads v e.0 e.3) (not_from_false (has (row holders u) e.0) e.4))
 
-  pub entered_here : (u k v : ℕ) → slice_get (g.next u) k ≡ Some v → IsTrue (list_any (λ q. not (is_head heads v q) && not (has (row holders u) q)) (row holders v)) → IsLeast (EntersBy g (nest_by heads bounds holders) u k) (Some v)
+  pub entered_here : (u k v : ℕ) → slice_get (g.next u) k ≡ Some v → IsTrue (list_any (λ q. not (is_head heads v q) && not (has (row holders u) q)) (row holders v)) → IsLeastNumber (EntersBy g (nest_by heads bounds holders) u k) (Some v)
   entered_here u k v e h = ((e, enters_from u v h), λ b s. let q : Some v ≡ Some b = sym e ∙ s.0 in let same : v ≡ b = cc in omega arith)
 
-  pub not_entered : (u k v : ℕ) → slice_get (g.next u) k ≡ Some v → list_any (λ q. not (is_head heads v q) && not (has (row holders u) q)) (row holders v) ≡ false → IsLeast (EntersBy g (nest_by heads bounds holders) u k) None
+  pub not_entered : (u k v : ℕ) → slice_get (g.next u) k ≡ Some v → list_any (λ q. not (is_head heads v q) && not (has (row holders u) q)) (row holders v) ≡ false → IsLeastNumber (EntersBy g (nest_by heads bounds holders) u k) None
   not_entered u k v e h b s =
       let q : Some v ≡ Some b = sym e ∙ s.0 in
       let same : v ≡ b = cc in
       both_ways (list_any (λ q. not (is_head heads v q) && not (has (row holders u) q)) (row holders v)) h
       (entered u v (subst (λ w. Enters (nest_by heads bounds holders) u w) (sym same) s.1))
 
-  pub both_edges : (u : ℕ) (a b : Option ℕ) → u < g.size → length (g.next u) ≤ 2 → IsLeast (EntersBy g (nest_by heads bounds holders) u 0) a → IsLeast (EntersBy g (nest_by heads bounds holders) u 1) b → IsLeast (EntersFrom g (nest_by heads bounds holders) u) (lesser a b)
+  pub both_edges : (u : ℕ) (a b : Option ℕ) → u < g.size → length (g.next u) ≤ 2 → IsLeastNumber (EntersBy g (nest_by heads bounds holders) u 0) a → IsLeastNumber (EntersBy g (nest_by heads bounds holders) u 1) b → IsLeastNumber (EntersFrom g (nest_by heads bounds holders) u) (lesser a b)
   both_edges u a b lt le h i =
       least_same (λ v. EntersBy g (nest_by heads bounds holders) u 0 v ⊎ EntersBy g (nest_by heads bounds holders) u 1 v) (EntersFrom g (nest_by heads bounds holders) u) (lesser a b)
       (λ v s. ⊎_elim (λ p. ((lt, at_contains (g.next u) 0 v p.0), p.1)) (λ p. ((lt, at_contains (g.next u) 1 v p.0), p.1)) s)
       (λ v e. ⊎_elim (λ p. inl (p, e.1)) (λ p. inr (p, e.1)) (first_or_second (g.next u) v le e.0.1))
       (least_or (EntersBy g (nest_by heads bounds holders) u 0) (EntersBy g (nest_by heads bounds holders) u 1) a b h i)
 
-  pub start_inside : IsTrue (list_any (λ q. not (is_head heads g.first q)) (row holders g.first)) → IsLeast (IsInsideStart g (nest_by heads bounds holders)) (Some g.first)
+  pub start_inside : IsTrue (list_any (λ q. not (is_head heads g.first q)) (row holders g.first)) → IsLeastNumber (IsInsideStart g (nest_by heads bounds holders)) (Some g.first)
   start_inside h =
       let f = has_any (λ q. not (is_head heads g.first q)) (row holders g.first) h in
       let lt = S.within g.first f.0 f.1 in
       ((refl, f.0, lt, f.1, other_head heads g.first f.0 lt f.2), λ b s. let e = s.0 in omega arith)
 
-  pub start_not_inside : list_any (λ q. not (is_head heads g.first q)) (row holders g.first) ≡ false → IsLeast (IsInsideStart g (nest_by heads bounds holders)) None
+  pub start_not_inside : list_any (λ q. not (is_head heads g.first q)) (row holders g.first) ≡ false → IsLeastNumber (IsInsideStart g (nest_by heads bounds holders)) None
   start_not_inside h b s =
       both_ways (list_any (λ q. not (is_head heads g.first q)) (row holders g.first)) h
       (any_has (λ q. not (is_head heads g.first q)) (row holders g.first) s.1 (subst (λ v. IsTrue (has (row holders v) s.1)) s.0 s.3) (no_head heads g.first s.1 (subst (λ v. v ≢ slice_index heads s.1) s.0 s.4)))
@@ -74,17 +74,17 @@ module _ (g : Graph) (heads bounds : List ℕ) (holders : List (List ℕ)) (S : 
 abbrev pub IsEntryBelow : Graph → Nest → ℕ → ℕ → Type 0
 IsEntryBelow g n k v = IsInsideStart g n v ⊎ ((u : ℕ) × (u < k) × EntersFrom g n u v)
 
-pub first_entry : (g : Graph) (n : Nest) (o : Option ℕ) → IsLeast (IsInsideStart g n) o → IsLeast (IsEntryBelow g n 0) o
+pub first_entry : (g : Graph) (n : Nest) (o : Option ℕ) → IsLeastNumber (IsInsideStart g n) o → IsLeastNumber (IsEntryBelow g n 0) o
 first_entry g n o h = least_same (IsInsideStart g n) (IsEntryBelow g n 0) o (λ v s. inl s) (λ v s. ⊎_elim (λ t. t) (λ t. absurd (omega (arith, t.1))) s) h
 
-pub next_entry : (g : Graph) (n : Nest) (k : ℕ) (a b : Option ℕ) → IsLeast (IsEntryBelow g n k) a → IsLeast (EntersFrom g n k) b → IsLeast (IsEntryBelow g n (k + 1)) (lesser a b)
+pub next_entry : (g : Graph) (n : Nest) (k : ℕ) (a b : Option ℕ) → IsLeastNumber (IsEntryBelow g n k) a → IsLeastNumber (EntersFrom g n k) b → IsLeastNumber (IsEntryBelow g n (k + 1)) (lesser a b)
 next_entry g n k a b h i =
     least_same (λ v. IsEntryBelow g n k v ⊎ EntersFrom g n k v) (IsEntryBelow g n (k + 1)) (lesser a b)
     (λ v s. ⊎_elim (λ p. ⊎_elim (λ t. inl t) (λ t. inr (t.0, omega (arith, t.1), t.2)) p) (λ q. inr (k, omega arith, q)) s)
     (λ v s. ⊎_elim (λ t. inl (inl t)) (λ t. ⊎_elim (λ e. inr (subst (λ u. EntersFrom g n u v) e t.2)) (λ ne. inl (inr (t.0, omega (arith, t.1), t.2))) (cases_eq t.0 k)) s)
     (least_or (IsEntryBelow g n k) (EntersFrom g n k) a b h i)
 
-pub all_entries : (g : Graph) (n : Nest) (k : ℕ) (o : Option ℕ) → g.size ≤ k → IsLeast (IsEntryBelow g n k) o → IsLeast (IsSecondEntry g n) o
+pub all_entries : (g : Graph) (n : Nest) (k : ℕ) (o : Option ℕ) → g.size ≤ k → IsLeastNumber (IsEntryBelow g n k) o → IsLeastNumber (IsSecondEntry g n) o
 all_entries g n k o le h =
     least_same (IsEntryBelow g n k) (IsSecondEntry g n) o
     (λ v s. ⊎_elim (λ t. (t.1, t.2, t.3, t.4, inl t.0)) (λ t. let e = t.2.1 in (e.0, e.1, e.2, e.3, inr (t.0, t.2.0, e.4))) s)

@@ -4,11 +4,11 @@ use Rattle.std.specs.Prelude.{is_some}
 use Rattle.std.specs.List.{starts_with}
 use Rattle.std.proofs.lemmas.Bool.{cases_eq, cases_Bool, both_ways, false≢true, eqb-true, ltb-true}
 use Rattle.std.proofs.lemmas.Option.{slice_get_within, get_or_from_slice_get}
-use Rattle.flat_graph.specs.FlatGraph.{FlatNode, list_lt, IsBefore}
+use Rattle.flat_graph.specs.FlatGraph.{FlatNode, list_lt, IsNumberedBefore}
 use Rattle.flat_graph.specs.Numbered.{ArePlaces, node_at}
 use Rattle.flat_graph.specs.CodeGraph.{CodeGraph, graph_of, places_of, HasCode}
 use Rattle.loop_regions.specs.Stated.{seen_from}
-use Rattle.loop_regions.specs.Heads.{sees}
+use Rattle.loop_regions.specs.Heads.{is_seen_from}
 
 pub seen_none : (c d : List ℕ) (a : ℕ) → starts_with nat_eq d c ≡ false → seen_from c d a ≡ None
 seen_none [] [] a e = absurd (both_ways true e refl)
@@ -91,7 +91,7 @@ between (x ∷ c) (y ∷ d) (w ∷ e) (z ∷ f) a b k de ef h i =
     (lt_heads w z e f ef)))
     (lt_heads y w d e de)
 
-node_between : (c : List ℕ) (n m k : FlatNode) → IsBefore n m → IsBefore m k → IsTrue (is_some (seen_from c n.context n.address)) → IsTrue (is_some (seen_from c k.context k.address)) → IsTrue (is_some (seen_from c m.context m.address))
+node_between : (c : List ℕ) (n m k : FlatNode) → IsNumberedBefore n m → IsNumberedBefore m k → IsTrue (is_some (seen_from c n.context n.address)) → IsTrue (is_some (seen_from c k.context k.address)) → IsTrue (is_some (seen_from c m.context m.address))
 node_between c n m k (inl nm) (inl mk) h i = between c n.context m.context k.context n.address k.address m.address nm mk h i
 node_between c n m k (inr nm) mk h i = any_address c m.context m.address n.address ∙ subst (λ d. IsTrue (is_some (seen_from c d n.address))) nm.0 h
 node_between c n m k (inl nm) (inr mk) h i = any_address c m.context m.address k.address ∙ subst (λ d. IsTrue (is_some (seen_from c d k.address))) (sym mk.0) i
@@ -113,39 +113,39 @@ module _ (g : CodeGraph) (H : HasCode g) where
       by_length : (xs : List FlatNode) (k : ℕ) → k < length xs → ArePlaces xs (places_of g) → (n : FlatNode) × (slice_get xs k ≡ Some n) × (node_at (places_of g) k ≡ n)
       by_length xs k l P = let n = get xs k l in let h = P.node k n.0 n.1 in (n.0, n.1, λ i. record { context = h.0 i; address = h.1 i })
 
-  before : (u v : ℕ) → u < v → v < (graph_of g).size → IsBefore (node_at (places_of g) u) (node_at (places_of g) v)
+  before : (u v : ℕ) → u < v → v < (graph_of g).size → IsNumberedBefore (node_at (places_of g) u) (node_at (places_of g) v)
   before u v lt v_lt =
       let n = there u (omega arith) in
       let m = there v v_lt in
       let nodes = H.of_code.nodes in
-      subst (λ x. IsBefore x (node_at (places_of g) v)) (get_or_from_slice_get nodes u n.0 m.0 n.1 ∙ sym n.2)
-      (subst (λ x. IsBefore (get_or nodes u m.0) x) (get_or_from_slice_get nodes v m.0 m.0 m.1 ∙ sym m.2)
+      subst (λ x. IsNumberedBefore x (node_at (places_of g) v)) (get_or_from_slice_get nodes u n.0 m.0 n.1 ∙ sym n.2)
+      (subst (λ x. IsNumberedBefore (get_or nodes u m.0) x) (get_or_from_slice_get nodes v m.0 m.0 m.1 ∙ sym m.2)
       (H.of_code.flat.numbering.ordered u v m.0 lt (slice_get_within nodes v m.0 m.1)))
 
   -- a node between two that are seen is seen
-  pub sees_between : (c : List ℕ) (u v w : ℕ) → u < v → v < w → w < (graph_of g).size → IsTrue (sees (places_of g) c u) → IsTrue (sees (places_of g) c w) → IsTrue (sees (places_of g) c v)
+  pub sees_between : (c : List ℕ) (u v w : ℕ) → u < v → v < w → w < (graph_of g).size → IsTrue (is_seen_from (places_of g) c u) → IsTrue (is_seen_from (places_of g) c w) → IsTrue (is_seen_from (places_of g) c v)
   sees_between c u v w uv vw w_lt h i =
       node_between c (node_at (places_of g) u) (node_at (places_of g) v) (node_at (places_of g) w) (before u v uv (omega arith)) (before v w vw w_lt) h i
 
   -- from a head down: below a node that is not seen there is none
-  pub none_before : (head v y : ℕ) → head < (graph_of g).size → v < head → IsFalse (sees (places_of g) ((places_of g).context head) v) → y ≤ v → IsFalse (sees (places_of g) ((places_of g).context head) y)
+  pub none_before : (head v y : ℕ) → head < (graph_of g).size → v < head → IsFalse (is_seen_from (places_of g) ((places_of g).context head) v) → y ≤ v → IsFalse (is_seen_from (places_of g) ((places_of g).context head) y)
   none_before head v y head_lt v_lt out le =
       let c = (places_of g).context head in
       ⊎_elim
-      (λ e. subst (λ z. IsFalse (sees (places_of g) c z)) (sym e) out)
+      (λ e. subst (λ z. IsFalse (is_seen_from (places_of g) c z)) (sym e) out)
       (λ ne. ⊎_elim
-      (λ h. absurd (both_ways (sees (places_of g) c v) out (sees_between c y v head (omega arith) v_lt head_lt h (seen_own c ((places_of g).address head)))))
+      (λ h. absurd (both_ways (is_seen_from (places_of g) c v) out (sees_between c y v head (omega arith) v_lt head_lt h (seen_own c ((places_of g).address head)))))
       (λ f. f)
-      (cases_Bool (sees (places_of g) c y)))
+      (cases_Bool (is_seen_from (places_of g) c y)))
       (cases_eq y v)
 
-  pub none_after : (head v y : ℕ) → head < v → v ≤ y → y < (graph_of g).size → IsFalse (sees (places_of g) ((places_of g).context head) v) → IsFalse (sees (places_of g) ((places_of g).context head) y)
+  pub none_after : (head v y : ℕ) → head < v → v ≤ y → y < (graph_of g).size → IsFalse (is_seen_from (places_of g) ((places_of g).context head) v) → IsFalse (is_seen_from (places_of g) ((places_of g).context head) y)
   none_after head v y v_lt le y_lt out =
       let c = (places_of g).context head in
       ⊎_elim
-      (λ e. subst (λ z. IsFalse (sees (places_of g) c z)) (sym e) out)
+      (λ e. subst (λ z. IsFalse (is_seen_from (places_of g) c z)) (sym e) out)
       (λ ne. ⊎_elim
-      (λ h. absurd (both_ways (sees (places_of g) c v) out (sees_between c head v y v_lt (omega arith) y_lt (seen_own c ((places_of g).address head)) h)))
+      (λ h. absurd (both_ways (is_seen_from (places_of g) c v) out (sees_between c head v y v_lt (omega arith) y_lt (seen_own c ((places_of g).address head)) h)))
       (λ f. f)
-      (cases_Bool (sees (places_of g) c y)))
+      (cases_Bool (is_seen_from (places_of g) c y)))
       (cases_eq y v)

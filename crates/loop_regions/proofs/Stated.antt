@@ -5,7 +5,7 @@ use Rattle.flat_graph.specs.Graph.{Graph, Places}
 use Rattle.crpd_base.specs.declared.data.LoopAt.{LoopAt}
 use Rattle.flow_watch.specs.Watch.{holds}
 use Rattle.loop_regions.specs.Nest.{Nest, IsInside, IsNested}
-use Rattle.loop_regions.specs.Stated.{seen_from, holds_seen, IsRegions, HoldsMore, IsAccepted, RegionsLaw}
+use Rattle.loop_regions.specs.Stated.{seen_from, holds_seen, IsRegions, HoldsMore, HasNoLoopRefusals, RegionsLaw}
 
 -- a node seen from its own context
 pub seen_here : (c : List ℕ) (a : ℕ) → seen_from c c a ≡ Some a
@@ -30,7 +30,7 @@ inside_below n r s (suc k) =
     (λ more. inr more)
     (inside_below n r s k)
 
-module _ (g : Graph) (p : Places) (loops : List LoopAt) (n : Nest) (R : IsRegions g p loops n) (A : IsAccepted g n) where
+module _ (g : Graph) (p : Places) (loops : List LoopAt) (n : Nest) (R : IsRegions g p loops n) (A : HasNoLoopRefusals g n) where
   holds_nodes : (r y : ℕ) → IsTrue (n.holds r y) → y < g.size
   holds_nodes r y h = ⊎_elim (λ lt. lt) (λ le. absurd (both_ways (n.holds r y) (R.nodes_only r y le) h)) (cases_lt y g.size)
 

@@ -1,7 +1,7 @@
 -- The laws on steps at one task.
 use Rattle.std.proofs.Common.{◌≡◌, ℕ, ◌+◌, ◌≤◌, ◌<◌, ◌^◌, Some}
 use Rattle.rv_decode.specs.Flow.{IsCodeMap, flows}
-use Rattle.rv_decode.specs.Address.{end}
+use Rattle.rv_decode.specs.Address.{end_address}
 use Rattle.crpd_base.specs.declared.data.TaskPlan.{TaskPlan}
 use Rattle.code_map.specs.Words.{Code, word_at}
 use Rattle.flat_graph.specs.CodeGraph.{CodeGraph, graph_of, places_of}
@@ -11,7 +11,7 @@ use Rattle.loop_regions.specs.TaskSteps.{words_of, IsPlanOf, IsGraphOfTask, IsNe
 use Rattle.loop_regions.proofs.Paths.{path_law, path_end_law, return_law}
 use Rattle.loop_regions.proofs.Steps.{walk_law, walk_end_law}
 
-module _ (code : Code) (task : ℕ) (g : CodeGraph) (W : (a w : ℕ) → word_at code.images a ≡ Some w → (a + 4 ≤ end) × (w < 2 ^ 32)) (F : FollowsLaw) (G : IsGraphOfTask code task g) where
+module _ (code : Code) (task : ℕ) (g : CodeGraph) (W : (a w : ℕ) → word_at code.images a ≡ Some w → (a + 4 ≤ end_address) × (w < 2 ^ 32)) (F : FollowsLaw) (G : IsGraphOfTask code task g) where
   is_code : IsCodeMap (words_of code)
   is_code a w e = (W a w e).0
 

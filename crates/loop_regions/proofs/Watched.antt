@@ -5,16 +5,16 @@ use Rattle.std.proofs.lemmas.Bool.{cases_eq, cases_Bool, and_parts, leb-true, eq
 use Rattle.std.proofs.lemmas.List.{reverse-append, reverse-reverse}
 use Rattle.crpd_base.specs.declared.data.LoopAt.{LoopAt}
 use Rattle.crpd_base.specs.declared.data.TaskPlan.{TaskPlan}
-use Rattle.rv_decode.specs.Address.{after, address_before, end}
+use Rattle.rv_decode.specs.Address.{next_address, address_before, end_address}
 use Rattle.rv_decode.specs.Flow.{Flow, Plain, Branch, Jump, Call, Return, Exit, Break, OtherJalr, OtherJal, Flows}
 use Rattle.rv_decode.proofs.Addresses.{after_is, before_is, before_after}
-use Rattle.flat_graph.specs.FlatGraph.{FlatNode, returns_to, goes_to, goes_on, successors, HasNoErrors}
+use Rattle.flat_graph.specs.FlatGraph.{FlatNode, returns_to, goes_to, successors_by, successors, HasNoErrors}
 use Rattle.flat_graph.specs.Graph.{Graph, Edge, IsWalk, Places}
 use Rattle.flat_graph.specs.Numbered.{node_at, FollowsCode}
-use Rattle.flow_watch.specs.Watch.{Frame, call_of, holds, turns_after, all_turns_after, within_bounds, arrive, new_frame, moved, start, calls}
-use Rattle.loop_regions.specs.Nest.{Nest, count, IsKept}
+use Rattle.flow_watch.specs.Watch.{Frame, call_of, holds, iterations_after, all_iterations_after, within_bounds, arrive, new_frame, step_by_flow, start, calls_under_way}
+use Rattle.loop_regions.specs.Nest.{Nest, head_count, IsKeptWalk}
 use Rattle.loop_regions.specs.Stated.{seen_from, holds_seen, IsRegionOf, IsRegions}
-use Rattle.loop_regions.specs.Watched.{CanGo, turns_of, IsBehindCall, AreFrames, CountsAgree, IsWatchedWalk, GoesTo, WatchStartLaw, WatchStepLaw}
+use Rattle.loop_regions.specs.Watched.{CanGo, iterations_of, IsBehindCall, AreFrames, CountsAgree, IsWatchedWalk, GoesTo, WatchStartLaw, WatchStepLaw}
 use Rattle.loop_regions.proofs.Stated.{seen_here}
 
 -- a node further in, seen from a context
@@ -54,13 +54,13 @@ bounded (m ∷ loops) (k ∷ turns) (suc i) l len h e =
     bounded loops turns i l (omega arith) (and_parts (leb k m.bound) (within_bounds loops turns) h).1 e
 
 -- the turns of one loop after an arrival
-turn_at : (a : ℕ) (loops : List LoopAt) (turns : List ℕ) (i : ℕ) (l : LoopAt) → length turns ≡ length loops → slice_get loops i ≡ Some l → slice_index_or (all_turns_after a loops turns) i 0 ≡ turns_after a l (slice_index_or turns i 0)
+turn_at : (a : ℕ) (loops : List LoopAt) (turns : List ℕ) (i : ℕ) (l : LoopAt) → length turns ≡ length loops → slice_get loops i ≡ Some l → slice_index_or (all_iterations_after a loops turns) i 0 ≡ iterations_after a l (slice_index_or turns i 0)
 turn_at a [] turns i l len e = cc
 turn_at a (m ∷ loops) [] i l len e = absurd (omega arith)
-turn_at a (m ∷ loops) (k ∷ turns) zero l len e = let same : m ≡ l = cc in ap (λ x. turns_after a x k) same
+turn_at a (m ∷ loops) (k ∷ turns) zero l len e = let same : m ≡ l = cc in ap (λ x. iterations_after a x k) same
 turn_at a (m ∷ loops) (k ∷ turns) (suc i) l len e = turn_at a loops turns i l (omega arith) e
 
-turns_length : (a : ℕ) (loops : List LoopAt) (turns : List ℕ) → length turns ≡ length loops → length (all_turns_after a loops turns) ≡ length loops
+turns_length : (a : ℕ) (loops : List LoopAt) (turns : List ℕ) → length turns ≡ length loops → length (all_iterations_after a loops turns) ≡ length loops
 turns_length a [] turns len = refl
 turns_length a (m ∷ loops) [] len = absurd (omega arith)
 turns_length a (m ∷ loops) (k ∷ turns) len = omega (arith, turns_length a loops turns (omega arith))
@@ -79,14 +79,14 @@ no_turns_length (m ∷ loops) = omega (arith, no_turns_length loops)
 
 -- a frame after the arrival at an address
 abbrev arrived : TaskPlan → ℕ → Frame → Frame
-arrived plan to f = record { back = f.back; turns = all_turns_after to plan.loops f.turns }
+arrived plan to f = record { back = f.back; turns = all_iterations_after to plan.loops f.turns }
 
 contained_at : (xs : List LoopAt) (x : LoopAt) → Contains xs x → (i : ℕ) × (slice_get xs i ≡ Some x)
 contained_at [] x (k, lt, e) = absurd (omega arith)
 contained_at (y ∷ xs) x (zero, lt, e) = (0, ap Some e)
 contained_at (y ∷ xs) x (suc k, lt, e) = let r = contained_at xs x (k, omega arith, e) in (suc r.0, r.1)
 
-context_arrive : (plan : TaskPlan) (to : ℕ) (f : Frame) (fs : List Frame) → calls (arrived plan to f ∷ fs) ≡ calls (f ∷ fs)
+context_arrive : (plan : TaskPlan) (to : ℕ) (f : Frame) (fs : List Frame) → calls_under_way (arrived plan to f ∷ fs) ≡ calls_under_way (f ∷ fs)
 context_arrive plan to f [] = refl
 context_arrive plan to f (g ∷ fs) = refl
 
@@ -130,13 +130,13 @@ module _ (code : Flows) (plan : TaskPlan) (g : Graph) (p : Places) (n : Nest) (F
   abbrev loops : List LoopAt
   loops = plan.loops
 
-  outside : (r y : ℕ) (before : List ℕ) → IsFalse (n.holds r y) → count n r (y ∷ before) ≡ 0
+  outside : (r y : ℕ) (before : List ℕ) → IsFalse (n.holds r y) → head_count n r (y ∷ before) ≡ 0
   outside r y before h = rw h
 
-  inside : (r y : ℕ) (before : List ℕ) → IsTrue (n.holds r y) → y ≢ n.head r → count n r (y ∷ before) ≡ count n r before
+  inside : (r y : ℕ) (before : List ℕ) → IsTrue (n.holds r y) → y ≢ n.head r → head_count n r (y ∷ before) ≡ head_count n r before
   inside r y before h ne = rw (h, ne_eqb y (n.head r) ne)
 
-  kept_so_far : (w : List ℕ) (r : ℕ) → r < n.size → IsKept n w → count n r w ≤ n.bound r
+  kept_so_far : (w : List ℕ) (r : ℕ) → r < n.size → IsKeptWalk n w → head_count n r w ≤ n.bound r
   kept_so_far [] r lt k = omega arith
   kept_so_far (x ∷ w) r lt k = k.0 r lt
 
@@ -144,7 +144,7 @@ module _ (code : Flows) (plan : TaskPlan) (g : Graph) (p : Places) (n : Nest) (F
   same_place u v c a = λ i. record { context = c i; address = a i }
 
   -- in the node's own context the count is that of the watch
-  top_count : (v : ℕ) (w : List ℕ) (r : ℕ) (l : LoopAt) → v < g.size → r < n.size → IsRegionOf g p n r l → p.context (n.head r) ≡ p.context v → count n r (v ∷ w) ≡ turns_after (p.address v) l (count n r w)
+  top_count : (v : ℕ) (w : List ℕ) (r : ℕ) (l : LoopAt) → v < g.size → r < n.size → IsRegionOf g p n r l → p.context (n.head r) ≡ p.context v → head_count n r (v ∷ w) ≡ iterations_after (p.address v) l (head_count n r w)
   top_count v w r l v_lt r_lt O e =
       let held : n.holds r v ≡ holds l (p.address v) =
       O.holds v v_lt ∙ ap (λ c. holds_seen l (seen_from c (p.context v) (p.address v))) e ∙ ap (holds_seen l) (seen_here (p.context v) (p.address v)) in
@@ -159,7 +159,7 @@ module _ (code : Flows) (plan : TaskPlan) (g : Graph) (p : Places) (n : Nest) (F
       (cases_Bool (eqb (p.address v) l.head))
 
   -- in a context further out it stays
-  same_count : (v y : ℕ) (before : List ℕ) (r : ℕ) (l : LoopAt) → v < g.size → y < g.size → IsRegionOf g p n r l → v ≢ n.head r → seen_from (p.context (n.head r)) (p.context v) (p.address v) ≡ seen_from (p.context (n.head r)) (p.context y) (p.address y) → count n r (v ∷ y ∷ before) ≡ count n r (y ∷ before)
+  same_count : (v y : ℕ) (before : List ℕ) (r : ℕ) (l : LoopAt) → v < g.size → y < g.size → IsRegionOf g p n r l → v ≢ n.head r → seen_from (p.context (n.head r)) (p.context v) (p.address v) ≡ seen_from (p.context (n.head r)) (p.context y) (p.address y) → head_count n r (v ∷ y ∷ before) ≡ head_count n r (y ∷ before)
   same_count v y before r l v_lt y_lt O ne seen =
       let same : n.holds r v ≡ n.holds r y = O.holds v v_lt ∙ ap (holds_seen l) seen ∙ sym (O.holds y y_lt) in
       ⊎_elim
@@ -169,7 +169,7 @@ module _ (code : Flows) (plan : TaskPlan) (g : Graph) (p : Places) (n : Nest) (F
 
   -- the frames below
   module _ (v y : ℕ) (before : List ℕ) (v_lt : v < g.size) (y_lt : y < g.size) where
-    frame_same : (c mv my : List ℕ) → 0 < length mv → p.context v ≡ c ++ mv → p.context y ≡ c ++ my → seen_from [] mv (p.address v) ≡ seen_from [] my (p.address y) → (r : ℕ) (l : LoopAt) → IsRegionOf g p n r l → p.context (n.head r) ≡ c → count n r (v ∷ y ∷ before) ≡ count n r (y ∷ before)
+    frame_same : (c mv my : List ℕ) → 0 < length mv → p.context v ≡ c ++ mv → p.context y ≡ c ++ my → seen_from [] mv (p.address v) ≡ seen_from [] my (p.address y) → (r : ℕ) (l : LoopAt) → IsRegionOf g p n r l → p.context (n.head r) ≡ c → head_count n r (v ∷ y ∷ before) ≡ head_count n r (y ∷ before)
     frame_same c mv my pos cv cy seen r l O e =
         same_count v y before r l v_lt y_lt O
         (λ here. let shorter : c ≡ c ++ mv = sym e ∙ ap p.context (sym here) ∙ cv in absurd (omega (arith, ap length shorter, length-append c mv, pos)))
@@ -181,28 +181,28 @@ module _ (code : Flows) (plan : TaskPlan) (g : Graph) (p : Places) (n : Nest) (F
         ∙ sym (ap (λ d. seen_from c d (p.address y)) cy)
         ∙ sym (ap (λ x. seen_from x (p.context y) (p.address y)) e))
 
-    lower : (fs : List Frame) (mv my : List ℕ) → 0 < length mv → p.context v ≡ calls fs ++ mv → p.context y ≡ calls fs ++ my → seen_from [] mv (p.address v) ≡ seen_from [] my (p.address y) → CountsAgree g p loops n fs (y ∷ before) → CountsAgree g p loops n fs (v ∷ y ∷ before)
+    lower : (fs : List Frame) (mv my : List ℕ) → 0 < length mv → p.context v ≡ calls_under_way fs ++ mv → p.context y ≡ calls_under_way fs ++ my → seen_from [] mv (p.address v) ≡ seen_from [] my (p.address y) → CountsAgree g p loops n fs (y ∷ before) → CountsAgree g p loops n fs (v ∷ y ∷ before)
     lower [] mv my pos cv cy seen old = tt
     lower (f ∷ []) mv my pos cv cy seen old =
         ((λ r i l lt at O e. frame_same [] mv my pos cv cy seen r l O e ∙ old.0 r i l lt at O e), tt)
     lower (f ∷ h ∷ fs) mv my pos cv cy seen old =
         let b : ℕ = call_of f in (
-          (λ r i l lt at O e. frame_same (calls (f ∷ h ∷ fs)) mv my pos cv cy seen r l O e ∙ old.0 r i l lt at O e),
-          lower (h ∷ fs) (b ∷ mv) (b ∷ my) (omega arith) (cv ∙ append_assoc (calls (h ∷ fs)) (b ∷ []) mv) (cy ∙ append_assoc (calls (h ∷ fs)) (b ∷ []) my) refl old.1,
+          (λ r i l lt at O e. frame_same (calls_under_way (f ∷ h ∷ fs)) mv my pos cv cy seen r l O e ∙ old.0 r i l lt at O e),
+          lower (h ∷ fs) (b ∷ mv) (b ∷ my) (omega arith) (cv ∙ append_assoc (calls_under_way (h ∷ fs)) (b ∷ []) mv) (cy ∙ append_assoc (calls_under_way (h ∷ fs)) (b ∷ []) my) refl old.1,
         )
 
   -- the arrival at a node
-  module _ (v : ℕ) (w : List ℕ) (f : Frame) (fs : List Frame) (v_lt : v < g.size) (walk : IsWalk g (v ∷ w)) (kept : IsKept n w) (context : p.context v ≡ calls (f ∷ fs)) (are : AreFrames code plan (f ∷ fs)) (old : (r i : ℕ) (l : LoopAt) → r < n.size → slice_get loops i ≡ Some l → IsRegionOf g p n r l → p.context (n.head r) ≡ p.context v → count n r w ≡ turns_of f i) (below : CountsAgree g p loops n fs (v ∷ w)) where
-    top : (r i : ℕ) (l : LoopAt) → r < n.size → slice_get loops i ≡ Some l → IsRegionOf g p n r l → p.context (n.head r) ≡ p.context v → count n r (v ∷ w) ≡ turns_of (arrived plan (p.address v) f) i
+  module _ (v : ℕ) (w : List ℕ) (f : Frame) (fs : List Frame) (v_lt : v < g.size) (walk : IsWalk g (v ∷ w)) (kept : IsKeptWalk n w) (context : p.context v ≡ calls_under_way (f ∷ fs)) (are : AreFrames code plan (f ∷ fs)) (old : (r i : ℕ) (l : LoopAt) → r < n.size → slice_get loops i ≡ Some l → IsRegionOf g p n r l → p.context (n.head r) ≡ p.context v → head_count n r w ≡ iterations_of f i) (below : CountsAgree g p loops n fs (v ∷ w)) where
+    top : (r i : ℕ) (l : LoopAt) → r < n.size → slice_get loops i ≡ Some l → IsRegionOf g p n r l → p.context (n.head r) ≡ p.context v → head_count n r (v ∷ w) ≡ iterations_of (arrived plan (p.address v) f) i
     top r i l lt at O e =
         top_count v w r l v_lt lt O e
-        ∙ ap (turns_after (p.address v) l) (old r i l lt at O e)
+        ∙ ap (iterations_after (p.address v) l) (old r i l lt at O e)
         ∙ sym (turn_at (p.address v) loops f.turns i l (top_length code plan f fs are) at)
 
     abbrev fits_now : Type 0
-    fits_now = IsTrue (within_bounds loops (all_turns_after (p.address v) loops f.turns))
+    fits_now = IsTrue (within_bounds loops (all_iterations_after (p.address v) loops f.turns))
 
-    kept_now : fits_now → (r : ℕ) → r < n.size → count n r (v ∷ w) ≤ n.bound r
+    kept_now : fits_now → (r : ℕ) → r < n.size → head_count n r (v ∷ w) ≤ n.bound r
     kept_now fits r lt =
         let s = R.stated r lt in
         let at = contained_at loops s.0 s.1 in
@@ -213,10 +213,10 @@ module _ (code : Flows) (plan : TaskPlan) (g : Graph) (p : Places) (n : Nest) (F
         (λ (h : IsFalse (n.holds r v)). omega (arith, outside r v w h))
         (cases_Bool (n.holds r v))
       where
-        further : (r : ℕ) → r < n.size → (l : LoopAt) → IsRegionOf g p n r l → (i : ℕ) → slice_get loops i ≡ Some l → fits_now → IsTrue (n.holds r v) → (ext : List ℕ) → p.context v ≡ p.context (n.head r) ++ ext → count n r (v ∷ w) ≤ n.bound r
+        further : (r : ℕ) → r < n.size → (l : LoopAt) → IsRegionOf g p n r l → (i : ℕ) → slice_get loops i ≡ Some l → fits_now → IsTrue (n.holds r v) → (ext : List ℕ) → p.context v ≡ p.context (n.head r) ++ ext → head_count n r (v ∷ w) ≤ n.bound r
         further r lt l O i at fits h [] e =
             let now = top r i l lt at O (sym (e ∙ append-nil (p.context (n.head r)))) in
-            let ok = bounded loops (all_turns_after (p.address v) loops f.turns) i l (turns_length (p.address v) loops f.turns (top_length code plan f fs are)) fits at in
+            let ok = bounded loops (all_iterations_after (p.address v) loops f.turns) i l (turns_length (p.address v) loops f.turns (top_length code plan f fs are)) fits at in
             omega (arith, now, ok, O.bound)
         further r lt l O i at fits h (x ∷ ext) e =
             let on = inside r v w h (λ here. longer (p.context (n.head r)) ext x (ap p.context (sym here) ∙ e)) in
@@ -241,8 +241,8 @@ module _ (code : Flows) (plan : TaskPlan) (g : Graph) (p : Places) (n : Nest) (F
         (λ (fits : fits_now).
         let same : arrived plan (p.address v) f ∷ fs ≡ frames = let r = rw fits at e' in cc in
         subst (λ z. IsWatchedWalk code plan g p n v w (p.address v) z) same (arrives fits))
-        (λ (breaks : IsFalse (within_bounds loops (all_turns_after (p.address v) loops f.turns))). absurd (let r = rw breaks at e' in cc))
-        (cases_Bool (within_bounds loops (all_turns_after (p.address v) loops f.turns))))
+        (λ (breaks : IsFalse (within_bounds loops (all_iterations_after (p.address v) loops f.turns))). absurd (let r = rw breaks at e' in cc))
+        (cases_Bool (within_bounds loops (all_iterations_after (p.address v) loops f.turns))))
         e
 
   -- one step from y
@@ -256,14 +256,14 @@ module _ (code : Flows) (plan : TaskPlan) (g : Graph) (p : Places) (n : Nest) (F
 
     goes : successors code plan.entry (node_at p y) ≡ goes_to (p.context y) (p.address y) ins
     goes =
-        ap (λ o. goes_on o (p.context y) (p.address y) (code (p.address y))) (no_error (node_at p y) (F.nodes y y_lt))
-        ∙ ap (λ c. goes_on None (p.context y) (p.address y) c) (ap code W.address ∙ there)
+        ap (λ o. successors_by o (p.context y) (p.address y) (code (p.address y))) (no_error (node_at p y) (F.nodes y y_lt))
+        ∙ ap (λ c. successors_by None (p.context y) (p.address y) c) (ap code W.address ∙ there)
 
     pub next : (m : FlatNode) → Contains (goes_to (p.context y) (p.address y) ins) m → (v : ℕ) × Edge g y v × (node_at p v ≡ m)
     next m c = F.numbers y m y_lt (subst (λ l. Contains l m) (sym goes) c)
 
     -- the frames below the top one, at a node in the same context
-    below_top : (hs : List Frame) (v : ℕ) → v < g.size → p.context y ≡ calls (f ∷ hs) → p.context v ≡ calls (f ∷ hs) → CountsAgree g p loops n hs (y ∷ before) → CountsAgree g p loops n hs (v ∷ y ∷ before)
+    below_top : (hs : List Frame) (v : ℕ) → v < g.size → p.context y ≡ calls_under_way (f ∷ hs) → p.context v ≡ calls_under_way (f ∷ hs) → CountsAgree g p loops n hs (y ∷ before) → CountsAgree g p loops n hs (v ∷ y ∷ before)
     below_top [] v v_lt cy cv old = tt
     below_top (h ∷ hs) v v_lt cy cv old =
         let b : ℕ = call_of f in
@@ -285,57 +285,57 @@ module _ (code : Flows) (plan : TaskPlan) (g : Graph) (p : Places) (n : Nest) (F
         }
 
     -- a call: no region of the new context holds the caller
-    none_yet : (v : ℕ) → p.context v ≡ p.context y ++ p.address y ∷ [] → (r : ℕ) (l : LoopAt) → IsRegionOf g p n r l → p.context (n.head r) ≡ p.context v → count n r (y ∷ before) ≡ 0
+    none_yet : (v : ℕ) → p.context v ≡ p.context y ++ p.address y ∷ [] → (r : ℕ) (l : LoopAt) → IsRegionOf g p n r l → p.context (n.head r) ≡ p.context v → head_count n r (y ∷ before) ≡ 0
     none_yet v cv r l O e =
         outside r y before
         (O.holds y y_lt
         ∙ ap (λ c. holds_seen l (seen_from c (p.context y) (p.address y))) (e ∙ cv)
         ∙ ap (holds_seen l) (seen_out (p.context y) [] (p.address y) (p.address y)))
 
-    call : (t : ℕ) → ins ≡ Call t → (frames : List Frame) → Contains (goes_to (p.context y) (p.address y) ins) (record { context = p.context y ++ p.address y ∷ []; address = to }) → arrive plan to (new_frame plan (after from) ∷ f ∷ fs) ≡ Some frames → from + 4 ≤ end → GoesTo code plan g p n y before to frames
+    call : (t : ℕ) → ins ≡ Call t → (frames : List Frame) → Contains (goes_to (p.context y) (p.address y) ins) (record { context = p.context y ++ p.address y ∷ []; address = to }) → arrive plan to (new_frame plan (next_address from) ∷ f ∷ fs) ≡ Some frames → from + 4 ≤ end_address → GoesTo code plan g p n y before to frames
     call t is frames c e room =
         let v = next (record { context = p.context y ++ p.address y ∷ []; address = to }) c in
         let v_lt = F.graph.edges y v.0 v.1 in
         let cv : p.context v.0 ≡ p.context y ++ p.address y ∷ [] = ap (λ m. m.context) v.2 in
-        let back : p.address y ≡ call_of (new_frame plan (after from)) = W.address ∙ sym (before_after from room) in
-        let frame_context : p.context v.0 ≡ calls (f ∷ fs) ++ call_of (new_frame plan (after from)) ∷ [] = cv ∙ ap (λ x. x ++ p.address y ∷ []) W.context ∙ ap (λ x. calls (f ∷ fs) ++ x ∷ []) back in
-        let behind : IsBehindCall code (after from) = (from, t, room, after_is from room, there ∙ ap (λ k. Some (Some k)) is) in
+        let back : p.address y ≡ call_of (new_frame plan (next_address from)) = W.address ∙ sym (before_after from room) in
+        let frame_context : p.context v.0 ≡ calls_under_way (f ∷ fs) ++ call_of (new_frame plan (next_address from)) ∷ [] = cv ∙ ap (λ x. x ++ p.address y ∷ []) W.context ∙ ap (λ x. calls_under_way (f ∷ fs) ++ x ∷ []) back in
+        let behind : IsBehindCall code (next_address from) = (from, t, room, after_is from room, there ∙ ap (λ k. Some (Some k)) is) in
         record {
           node = v.0;
           edge = v.1;
-          walked = arrived_at v.0 (y ∷ before) (new_frame plan (after from)) (f ∷ fs) v_lt (v.1, W.walk) W.kept frame_context
+          walked = arrived_at v.0 (y ∷ before) (new_frame plan (next_address from)) (f ∷ fs) v_lt (v.1, W.walk) W.kept frame_context
               (no_turns_length loops, behind, W.are_frames)
               (λ r i l lt at O e'. none_yet v.0 cv r l O e' ∙ sym (zero_turns loops i))
               (lower v.0 y before v_lt y_lt (f ∷ fs) (p.address y ∷ []) [] (omega arith)
-              (cv ∙ ap (λ x. x ++ p.address y ∷ []) W.context) (W.context ∙ sym (append-nil (calls (f ∷ fs)))) refl W.counts)
+              (cv ∙ ap (λ x. x ++ p.address y ∷ []) W.context) (W.context ∙ sym (append-nil (calls_under_way (f ∷ fs)))) refl W.counts)
               to frames (ap (λ m. m.address) v.2) e;
         }
 
   -- a return to the frame below
   module _ (no_error : HasNoErrors code plan.entry) (y : ℕ) (before : List ℕ) (from to : ℕ) (f h : Frame) (hs : List Frame) (W : IsWatchedWalk code plan g p n y before from (f ∷ h ∷ hs)) (there : code from ≡ Some (Some Return)) where
     landing : FlatNode
-    landing = record { context = calls (h ∷ hs); address = call_of f + 4 }
+    landing = record { context = calls_under_way (h ∷ hs); address = call_of f + 4 }
 
     lands : Contains (goes_to (p.context y) (p.address y) Return) landing
     unfolding landing
     lands =
-        subst (λ l. Contains l (record { context = calls (h ∷ hs); address = call_of f + 4 }))
-        (sym (ap (λ c. returns_to (reverse c)) W.context ∙ returns_from (calls (h ∷ hs)) (call_of f)))
-        (in_one (record { context = calls (h ∷ hs); address = call_of f + 4 }) (record { context = calls (h ∷ hs); address = call_of f + 4 }) refl)
+        subst (λ l. Contains l (record { context = calls_under_way (h ∷ hs); address = call_of f + 4 }))
+        (sym (ap (λ c. returns_to (reverse c)) W.context ∙ returns_from (calls_under_way (h ∷ hs)) (call_of f)))
+        (in_one (record { context = calls_under_way (h ∷ hs); address = call_of f + 4 }) (record { context = calls_under_way (h ∷ hs); address = call_of f + 4 }) refl)
 
-    below_lower : (ks : List Frame) (v : ℕ) → v < g.size → y < g.size → p.context y ≡ calls (h ∷ ks) ++ (call_of f) ∷ [] → p.context v ≡ calls (h ∷ ks) → CountsAgree g p loops n ks (y ∷ before) → CountsAgree g p loops n ks (v ∷ y ∷ before)
+    below_lower : (ks : List Frame) (v : ℕ) → v < g.size → y < g.size → p.context y ≡ calls_under_way (h ∷ ks) ++ (call_of f) ∷ [] → p.context v ≡ calls_under_way (h ∷ ks) → CountsAgree g p loops n ks (y ∷ before) → CountsAgree g p loops n ks (v ∷ y ∷ before)
     below_lower [] v v_lt y_lt cy cv old = tt
     below_lower (k ∷ ks) v v_lt y_lt cy cv old =
         let b : ℕ = call_of h in
         let d : ℕ = call_of f in
-        lower v y before v_lt y_lt (k ∷ ks) (b ∷ []) (b ∷ d ∷ []) (omega arith) cv (cy ∙ append_assoc (calls (k ∷ ks)) (b ∷ []) (d ∷ [])) refl old
+        lower v y before v_lt y_lt (k ∷ ks) (b ∷ []) (b ∷ d ∷ []) (omega arith) cv (cy ∙ append_assoc (calls_under_way (k ∷ ks)) (b ∷ []) (d ∷ [])) refl old
 
     back : (frames : List Frame) → to ≡ f.back → arrive plan to (h ∷ hs) ≡ Some frames → GoesTo code plan g p n y before to frames
     unfolding landing
     back frames here e =
         let v = next no_error y before from Return to f (h ∷ hs) W there landing lands in
         let v_lt = F.graph.edges y v.0 v.1 in
-        let cv : p.context v.0 ≡ calls (h ∷ hs) = ap (λ m. m.context) v.2 in
+        let cv : p.context v.0 ≡ calls_under_way (h ∷ hs) = ap (λ m. m.context) v.2 in
         let av : p.address v.0 ≡ call_of f + 4 = ap (λ m. m.address) v.2 in
         let four = behind_is code f.back W.are_frames.1 in
         record {
@@ -348,13 +348,13 @@ module _ (code : Flows) (plan : TaskPlan) (g : Graph) (p : Places) (n : Nest) (F
         }
 
   -- any step
-  pub one_step : (no_error : HasNoErrors code plan.entry) (y : ℕ) (before : List ℕ) (from : ℕ) (ins : Flow) (to : ℕ) (f : Frame) (fs : List Frame) (W : IsWatchedWalk code plan g p n y before from (f ∷ fs)) → code from ≡ Some (Some ins) → from + 4 ≤ end → CanGo from ins to → (h : Frame) (hs : List Frame) → moved plan (f ∷ fs) from ins to ≡ Some (h ∷ hs) → GoesTo code plan g p n y before to (h ∷ hs)
+  pub one_step : (no_error : HasNoErrors code plan.entry) (y : ℕ) (before : List ℕ) (from : ℕ) (ins : Flow) (to : ℕ) (f : Frame) (fs : List Frame) (W : IsWatchedWalk code plan g p n y before from (f ∷ fs)) → code from ≡ Some (Some ins) → from + 4 ≤ end_address → CanGo from ins to → (h : Frame) (hs : List Frame) → step_by_flow plan (f ∷ fs) from ins to ≡ Some (h ∷ hs) → GoesTo code plan g p n y before to (h ∷ hs)
   one_step no_error y before from Plain to f fs W there room can h hs e =
       straight no_error y before from Plain to f fs W there (h ∷ hs) (in_one _ _ (λ i. record { context = p.context y; address = (ap (λ a. a + 4) W.address ∙ sym (can ∙ after_is from room)) i })) e
   one_step no_error y before from (Branch t) to f fs W there room can h hs e =
       straight no_error y before from (Branch t) to f fs W there (h ∷ hs)
       (⊎_elim
-      (λ (on : to ≡ after from). to_next (p.context y) (p.address y) t to (ap (λ a. a + 4) W.address ∙ sym (on ∙ after_is from room)))
+      (λ (on : to ≡ next_address from). to_next (p.context y) (p.address y) t to (ap (λ a. a + 4) W.address ∙ sym (on ∙ after_is from room)))
       (λ (there : to ≡ t). to_target (p.context y) (p.address y) t to (sym there))
       can)
       e
@@ -384,7 +384,7 @@ module _ (code : Flows) (plan : TaskPlan) (g : Graph) (p : Places) (n : Nest) (F
   -- the start
   pub at_start : (frames : List Frame) → start plan ≡ Some frames → IsWatchedWalk code plan g p n g.first [] plan.entry frames
   at_start frames e =
-      arrived_at g.first [] (new_frame plan end) [] F.graph.first refl tt (ap (λ m. m.context) F.first) (no_turns_length loops, refl)
+      arrived_at g.first [] (new_frame plan end_address) [] F.graph.first refl tt (ap (λ m. m.context) F.first) (no_turns_length loops, refl)
       (λ r i l lt at O e'. sym (zero_turns loops i)) tt plan.entry frames (ap (λ m. m.address) F.first) e
 
 pub watch_start_law : WatchStartLaw

@@ -4,7 +4,7 @@ use Rattle.std.specs.List.{All, list_any}
 use Rattle.crpd_base.specs.declared.data.LoopAt.{LoopAt}
 use Rattle.flat_graph.specs.CodeGraph.{CodeGraph, graph_of, places_of}
 use Rattle.loop_regions.specs.Nest.{Nest}
-use Rattle.loop_regions.specs.Stated.{IsRegions, IsAccepted, IsSameHead}
+use Rattle.loop_regions.specs.Stated.{IsRegions, HasNoLoopRefusals, IsSameHead}
 
 -- whether a number is in a list
 abbrev pub has : List ℕ → ℕ → Bool
@@ -39,5 +39,5 @@ pub record IsNestOf (g : CodeGraph) (n : CodeNest) : Type 0 where
   pub bounded : AreBounded loops
   pub one_head : (a : ℕ) → IsSameHead loops a → ⊥
   pub is_regions : IsRegions (graph_of g) (places_of g) loops (nest_of n)
-  pub accepted : IsAccepted (graph_of g) (nest_of n)
+  pub accepted : HasNoLoopRefusals (graph_of g) (nest_of n)
   pub nodes : length n.holders ≡ length g.nodes

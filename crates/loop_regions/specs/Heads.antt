@@ -19,8 +19,8 @@ pub record AreHeads (p : Places) (loops : List LoopAt) (bound : ℕ) (heads : Li
   pub all : (l : LoopAt) (y : ℕ) → Contains loops l → y < bound → p.address y ≡ l.head → (r : ℕ) × (h : Head) × (slice_get heads r ≡ Some h) × (h.node ≡ y)
 
 -- whether a node is seen from a context
-abbrev pub sees : Places → List ℕ → ℕ → Bool
-sees p c y = is_some (seen_from c (p.context y) (p.address y))
+abbrev pub is_seen_from : Places → List ℕ → ℕ → Bool
+is_seen_from p c y = is_some (seen_from c (p.context y) (p.address y))
 
 -- the region of this number holds the node
 abbrev pub IsHeldBy : Places → List LoopAt → List Head → ℕ → ℕ → Type 0

@@ -3,9 +3,9 @@ use Rattle.std.specs.Prelude.{◌≡◌, ℕ, ◌<◌, ◌≤◌, List, Option, 
 use Rattle.crpd_base.specs.declared.data.LoopAt.{LoopAt}
 
 -- the least number with a property, None where no number has it
-abbrev pub IsLeast : (ℕ → Type 0) → Option ℕ → Type 0
-IsLeast P None = (a : ℕ) → P a → ⊥
-IsLeast P (Some a) = P a × ((b : ℕ) → P b → a ≤ b)
+abbrev pub IsLeastNumber : (ℕ → Type 0) → Option ℕ → Type 0
+IsLeastNumber P None = (a : ℕ) → P a → ⊥
+IsLeastNumber P (Some a) = P a × ((b : ℕ) → P b → a ≤ b)
 
 -- the lesser of two numbers, where they are there
 abbrev pub lesser : Option ℕ → Option ℕ → Option ℕ

@@ -3,13 +3,13 @@ use Rattle.std.specs.Prelude.{◌≡◌, ℕ, ◌+◌, ◌<◌, ◌≤◌, List,
 use Rattle.std.specs.List.Sorted.{IsNonDecreasingBy, IsPermutation}
 
 -- where the range at a place ends
-abbrev pub end_of : List (ℕ × ℕ) → ℕ → ℕ
-end_of ranges k = (slice_index_or ranges k (0, 0)).1
+abbrev pub range_end : List (ℕ × ℕ) → ℕ → ℕ
+range_end ranges k = (slice_index_or ranges k (0, 0)).1
 
 -- no end of the first ranges is above the number, and each number below it is below such an end
 pub record IsReach (ranges : List (ℕ × ℕ)) (count : ℕ) (reach : ℕ) : Type 0 where
-  pub most : (k : ℕ) → k < count → end_of ranges k ≤ reach
-  pub met : (a : ℕ) → a < reach → (k : ℕ) × (k < count) × (a < end_of ranges k)
+  pub most : (k : ℕ) → k < count → range_end ranges k ≤ reach
+  pub met : (a : ℕ) → a < reach → (k : ℕ) × (k < count) × (a < range_end ranges k)
 
 -- the reach at each of the first places, with the range there
 pub record AreReaches (ranges : List (ℕ × ℕ)) (reaches : List ℕ) (count : ℕ) : Type 0 where

@@ -54,16 +54,16 @@ abbrev pub IsForward : Graph → Nest → ℕ → ℕ → Type 0
 IsForward g n u v = Edge g u v × (IsBackEdge n u v → ⊥)
 
 -- a way from y to z by such edges, with these nodes between, the last one first
-abbrev pub IsForwardWay : Graph → Nest → ℕ → List ℕ → ℕ → Type 0
-IsForwardWay g n y [] z = IsForward g n y z
-IsForwardWay g n y (x ∷ before) z = IsForwardWay g n y before x × IsForward g n x z
+abbrev pub IsForwardPath : Graph → Nest → ℕ → List ℕ → ℕ → Type 0
+IsForwardPath g n y [] z = IsForward g n y z
+IsForwardPath g n y (x ∷ before) z = IsForwardPath g n y before x × IsForward g n x z
 
 -- refusal: the node is on a cycle without back edges
 abbrev pub IsOnCycle : Graph → Nest → ℕ → Type 0
-IsOnCycle g n y = (between : List ℕ) × IsForwardWay g n y between y
+IsOnCycle g n y = (between : List ℕ) × IsForwardPath g n y between y
 
 -- none of these refusals
-pub record IsAccepted (g : Graph) (n : Nest) : Type 0 where
+pub record HasNoLoopRefusals (g : Graph) (n : Nest) : Type 0 where
   pub one_entry : (v : ℕ) → IsSecondEntry g n v → ⊥
   pub nested : (y : ℕ) → IsNotNested n y → ⊥
   pub no_cycle : (y : ℕ) → IsOnCycle g n y → ⊥
@@ -72,7 +72,7 @@ pub record IsAccepted (g : Graph) (n : Nest) : Type 0 where
 abbrev pub RegionsLaw : Type 0
 RegionsLaw =
     (g : Graph) (p : Places) (loops : List LoopAt) (n : Nest) →
-    IsRegions g p loops n → IsAccepted g n → IsNested g n
+    IsRegions g p loops n → HasNoLoopRefusals g n → IsNested g n
 
 -- refusal: two stated loops have this head
 abbrev pub IsSameHead : List LoopAt → ℕ → Type 0

@@ -2,16 +2,16 @@
 use Rattle.std.specs.Prelude.{◌≡◌, ◌≢◌, ℕ, true, List, [], ◌∷◌, map, Some}
 use Rattle.crpd_base.specs.declared.data.TaskPlan.{TaskPlan}
 use Rattle.rv_decode.specs.declared.Ins.{Ins}
-use Rattle.rv_decode.specs.Address.{end}
-use Rattle.rv_decode.specs.Table.{row}
+use Rattle.rv_decode.specs.Address.{end_address}
+use Rattle.rv_decode.specs.Table.{ins_of_word}
 use Rattle.rv_decode.specs.Flow.{Return, flow, Words, IsCodeMap, Flows, flows}
 use Rattle.rv_core.specs.declared.Next.TheVariants.{Goto, Answer}
 use Rattle.rv_core.specs.Effect.{next_pc}
 use Rattle.flat_graph.specs.FlatGraph.{FlatNode, answers, HasNoErrors}
 use Rattle.flat_graph.specs.Graph.{Graph, IsWalk, Places}
 use Rattle.flat_graph.specs.Numbered.{node_at, FollowsCode}
-use Rattle.flow_watch.specs.Watch.{Frame, Watch, start, step as watch_step, is_kept, context}
-use Rattle.loop_regions.specs.Nest.{Nest, IsKept}
+use Rattle.flow_watch.specs.Watch.{Frame, Watch, start, step as watch_step, is_unbroken, context}
+use Rattle.loop_regions.specs.Nest.{Nest, IsKeptWalk}
 use Rattle.loop_regions.specs.Stated.{IsRegions}
 use Rattle.loop_regions.specs.Watched.{CountsAgree}
 
@@ -25,7 +25,7 @@ pub record Step : Type 0 where
 pub record StandsAt (words : Words) (a : ℕ) (ins : Ins) : Type 0 where
   pub word : ℕ
   pub here : words a ≡ Some word
-  pub reads : row word ≡ Some ins
+  pub reads : ins_of_word word ≡ Some ins
 
 -- the instruction is that of the word there, and it goes to this address for some registers
 pub record IsStep (words : Words) (s : Step) : Type 0 where
@@ -34,14 +34,14 @@ pub record IsStep (words : Words) (s : Step) : Type 0 where
   pub goes : next_pc s.ins s.from registers ≡ Goto s.to
 
 -- where a job is after steps from the entry, of which the last one is written first
-abbrev pub place_after : ℕ → List Step → ℕ
-place_after entry [] = entry
-place_after entry (s ∷ earlier) = s.to
+abbrev pub address_after : ℕ → List Step → ℕ
+address_after entry [] = entry
+address_after entry (s ∷ earlier) = s.to
 
 -- steps from the entry, each of which begins where the one before it ended
 abbrev pub AreSteps : Words → ℕ → List Step → Type 0
 AreSteps words entry [] = Unit {0}
-AreSteps words entry (s ∷ earlier) = IsStep words s × (s.from ≡ place_after entry earlier) × AreSteps words entry earlier
+AreSteps words entry (s ∷ earlier) = IsStep words s × (s.from ≡ address_after entry earlier) × AreSteps words entry earlier
 
 -- the watch after steps
 abbrev pub watch_after : TaskPlan → List Step → Watch
@@ -50,7 +50,7 @@ watch_after plan (s ∷ earlier) = watch_step plan (watch_after plan earlier) s.
 
 -- the context and the address of a job after steps, and of all moments up to then, the last one first
 abbrev pub node_after : TaskPlan → List Step → FlatNode
-node_after plan steps = record { context = context (watch_after plan steps); address = place_after plan.entry steps }
+node_after plan steps = record { context = context (watch_after plan steps); address = address_after plan.entry steps }
 
 abbrev pub nodes_along : TaskPlan → List Step → List FlatNode
 nodes_along plan [] = node_after plan [] ∷ []
@@ -64,7 +64,7 @@ pub record IsWalkOf (plan : TaskPlan) (g : Graph) (p : Places) (steps : List Ste
 -- they are a kept walk, with the counts of the watch's open loops
 pub record IsKeptWalkOf (plan : TaskPlan) (g : Graph) (p : Places) (n : Nest) (steps : List Step) (walk : List ℕ) : Type 0 where
   pub of_steps : IsWalkOf plan g p steps walk
-  pub kept : IsKept n walk
+  pub kept : IsKeptWalk n walk
   pub counts : (frames : List Frame) → watch_after plan steps ≡ Some frames → CountsAgree g p plan.loops n frames walk
 
 -- the last node of a walk is an answering node
@@ -74,14 +74,14 @@ EndsAnswering code p (y ∷ before) = answers code (node_at p y) ≡ true
 
 -- the watch is not broken, and the bottom frame has not returned
 pub record IsGoingOn (plan : TaskPlan) (steps : List Step) : Type 0 where
-  pub kept : is_kept (watch_after plan steps) ≡ true
+  pub kept : is_unbroken (watch_after plan steps) ≡ true
   pub has_frame : watch_after plan steps ≢ Some []
 
 -- after these steps the job answers: by an instruction that does, or by one step more with which the bottom frame
 -- returns, and the watch is not broken
-pub data IsAnswer (words : Words) (plan : TaskPlan) (steps : List Step) : Type 0 where
-  exits : (ins : Ins) (registers : List ℕ) → StandsAt words (place_after plan.entry steps) ins → next_pc ins (place_after plan.entry steps) registers ≡ Answer → is_kept (watch_after plan steps) ≡ true → IsAnswer words plan steps
-  returns : (last : Step) → IsStep words last → last.from ≡ place_after plan.entry steps → watch_after plan (last ∷ steps) ≡ Some [] → IsAnswer words plan steps
+pub data AnswersAfter (words : Words) (plan : TaskPlan) (steps : List Step) : Type 0 where
+  exits : (ins : Ins) (registers : List ℕ) → StandsAt words (address_after plan.entry steps) ins → next_pc ins (address_after plan.entry steps) registers ≡ Answer → is_unbroken (watch_after plan steps) ≡ true → AnswersAfter words plan steps
+  returns : (last : Step) → IsStep words last → last.from ≡ address_after plan.entry steps → watch_after plan (last ∷ steps) ≡ Some [] → AnswersAfter words plan steps
 
 -- the law without loops: the contexts and addresses of all steps are a walk of the graph
 abbrev pub PathLaw : Type 0
@@ -95,7 +95,7 @@ abbrev pub PathEndLaw : Type 0
 PathEndLaw =
     (words : Words) (plan : TaskPlan) (g : Graph) (p : Places) (steps : List Step) →
     IsCodeMap words → FollowsCode (flows words) plan.entry g p → HasNoErrors (flows words) plan.entry →
-    AreSteps words plan.entry steps → IsAnswer words plan steps →
+    AreSteps words plan.entry steps → AnswersAfter words plan steps →
     (walk : List ℕ) × IsWalkOf plan g p steps walk × EndsAnswering (flows words) p walk
 
 -- with the regions of the plan's loops it is a kept walk, and has the watch's counts
@@ -109,7 +109,7 @@ abbrev pub WalkEndLaw : Type 0
 WalkEndLaw =
     (words : Words) (plan : TaskPlan) (g : Graph) (p : Places) (n : Nest) (steps : List Step) →
     IsCodeMap words → FollowsCode (flows words) plan.entry g p → HasNoErrors (flows words) plan.entry → IsRegions g p plan.loops n →
-    AreSteps words plan.entry steps → IsAnswer words plan steps →
+    AreSteps words plan.entry steps → AnswersAfter words plan steps →
     (walk : List ℕ) × IsKeptWalkOf plan g p n steps walk × EndsAnswering (flows words) p walk
 
 -- a return of the bottom frame is the only step after which no frame is left, and it goes to the end
@@ -118,4 +118,4 @@ ReturnLaw =
     (words : Words) (plan : TaskPlan) (g : Graph) (p : Places) (last : Step) (steps : List Step) →
     IsCodeMap words → FollowsCode (flows words) plan.entry g p → HasNoErrors (flows words) plan.entry →
     AreSteps words plan.entry (last ∷ steps) → watch_after plan (last ∷ steps) ≡ Some [] →
-    (flow last.from last.ins ≡ Return) × (last.to ≡ end) × (context (watch_after plan steps) ≡ [])
+    (flow last.from last.ins ≡ Return) × (last.to ≡ end_address) × (context (watch_after plan steps) ≡ [])

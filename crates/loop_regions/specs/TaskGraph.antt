@@ -4,7 +4,7 @@ use Rattle.rv_decode.specs.declared.Ins.{Ins}
 use Rattle.rv_decode.specs.Flow.{flow}
 use Rattle.flat_graph.specs.FlatGraph.{answers_by}
 use Rattle.flat_graph.specs.Graph.{Graph, Places}
-use Rattle.flat_graph.specs.EdgeCost.{Listing}
+use Rattle.flat_graph.specs.EdgeCost.{NodeCode}
 use Rattle.loop_regions.specs.Nest.{Nest}
 
 -- the graph and the nest of a task, with the place and the instruction of each node
@@ -14,8 +14,8 @@ pub record TaskGraph : Type 0 where
   pub ins : ℕ → Ins
   pub nest : Nest
 
-abbrev pub listing_of : TaskGraph → Listing
-listing_of t = record { address = t.places.address; ins = t.ins }
+abbrev pub node_code_of : TaskGraph → NodeCode
+node_code_of t = record { address = t.places.address; ins = t.ins }
 
 -- the answering nodes
 abbrev pub answering : TaskGraph → ℕ → Bool

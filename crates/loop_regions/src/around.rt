@@ -1,7 +1,7 @@
 // For each region the regions round it.
 ghost use Rattle.std.specs.Prelude.{◌≡◌, ◌↔◌, ◌<◌, ℕ, IfOk, IsTrue, length, slice_index};
 ghost use Rattle.loop_regions.specs.CodeNest.{has, row};
-ghost use Rattle.loop_regions.specs.Found.{nest_in, AreAround};
+ghost use Rattle.loop_regions.specs.FoundRegions.{nest_in, AreAround};
 
 use crate::found::Regions;
 use crate::holders::Holders;
@@ -22,7 +22,7 @@ fn at_heads(alloc: Global, regions: &Regions) -> Result<Vec<Holders>, AllocError
 }
 
 /// Keeps in the rows of a node's regions what holds the node.
-fn narrow(rows: &mut Vec<Holders>, holders: &[u32])
+fn narrow_rows(rows: &mut Vec<Holders>, holders: &[u32])
     requires { (r : ℕ) → IsTrue (has holders.now r) → r < length rows.old.items }
     ensures regions { length rows.new.items ≡ length rows.old.items }
     ensures narrowed { (r s : ℕ) → r < length rows.old.items → IsTrue (has (row rows.new.items r) s)
@@ -52,7 +52,7 @@ pub(crate) fn regions_around(alloc: Global, regions: &Regions) -> Result<Vec<Hol
         if is_like_before(regions, y) {
             continue;
         }
-        narrow(&mut rows, regions.holders(y));
+        narrow_rows(&mut rows, regions.holders(y));
     }
     Ok(rows)
 }

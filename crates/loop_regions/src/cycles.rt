@@ -1,13 +1,13 @@
 // Cycles without back edges.
 ghost use Rattle.std.specs.Prelude.{◌≡◌, ◌+◌, ◌≤◌, ◌↔◌, ◌<◌, IfOk, OnOk, IsTrue, length};
 ghost use Rattle.flat_graph.specs.CodeGraph.{graph_of};
-ghost use Rattle.loop_regions.specs.Least.{IsLeast};
+ghost use Rattle.loop_regions.specs.Least.{IsLeastNumber};
 ghost use Rattle.loop_regions.specs.Stated.{IsOnCycle};
-ghost use Rattle.loop_regions.specs.Found.{nest_in};
-ghost use Rattle.loop_regions.specs.Cycles.{IsSearch, IsMet, EdgesFrom, to_search};
+ghost use Rattle.loop_regions.specs.FoundRegions.{nest_in};
+ghost use Rattle.loop_regions.specs.ForwardPaths.{IsSearch, IsStartOrSeen, EdgesFrom, to_search};
 
 use crate::found::Regions;
-use crate::ranks::{fall, forward, ranks};
+use crate::ranks::{all_fall, forward, ranks};
 use flat_graph::Graph;
 use std::alloc::{AllocError, Global};
 
@@ -25,12 +25,12 @@ impl Search {
         requires nodes { length regions.now.holders ≡ (graph_of graph.now).size }
         requires node { u < (graph_of graph.now).size }
         requires place { k < 2 }
-        requires met { IsMet self.old.start self.old.seen.items u }
+        requires met { IsStartOrSeen self.old.start self.old.seen.items u }
         requires search { IsSearch (graph_of graph.now) (nest_in regions.now) self.old.start self.old.seen.items self.old.waiting.items (EdgesFrom u k) }
         ensures search { OnOk result (IsSearch (graph_of graph.now) (nest_in regions.now) self.new.start self.new.seen.items self.new.waiting.items (EdgesFrom u (k + 1))) }
         ensures falls { OnOk result (to_search self.new.seen.items self.new.waiting.items ≤ to_search self.old.seen.items self.old.waiting.items) }
         ensures start { self.new.start ≡ self.old.start }
-        ensures met { OnOk result (IsMet self.new.start self.new.seen.items u) }
+        ensures met { OnOk result (IsStartOrSeen self.new.start self.new.seen.items u) }
     {
         let Some(v) = forward(graph, regions, u, k) else {
             return Ok(());
@@ -71,10 +71,10 @@ pub(crate) fn least_on_cycle(
     regions: &Regions,
 ) -> Result<Option<u32>, AllocError>
     requires { length regions.now.holders ≡ (graph_of graph.now).size }
-    ensures { IfOk result (IsLeast (IsOnCycle (graph_of graph.now) (nest_in regions.now))) }
+    ensures { IfOk result (IsLeastNumber (IsOnCycle (graph_of graph.now) (nest_in regions.now))) }
 {
     let ranks = ranks(alloc, graph, regions)?;
-    if fall(graph, regions, &ranks) {
+    if all_fall(graph, regions, &ranks) {
         return Ok(None);
     }
     for y in 0..graph.len() {

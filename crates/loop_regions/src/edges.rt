@@ -3,7 +3,7 @@ ghost use Rattle.std.specs.Prelude.{◌≡◌, ◌<◌, ◌≤◌, ◌↔◌, �
 ghost use Rattle.flat_graph.specs.CodeGraph.{graph_of};
 ghost use Rattle.loop_regions.specs.CodeNest.{nest_of, IsNestOf};
 ghost use Rattle.loop_regions.specs.Nest.{IsItem, IsBackEdge, Leaves, LeavesLast};
-ghost use Rattle.loop_regions.specs.Ways.{item_by, IsWay};
+ghost use Rattle.loop_regions.specs.EdgeKinds.{item_by, IsEdgeKind};
 
 use crate::nest::Nest;
 use crate::way::Way;
@@ -72,7 +72,7 @@ impl Nest {
         requires nest { IsNestOf graph.now self.now }
         requires source { source.0 < (graph_of graph.now).size }
         requires target { target.0 < (graph_of graph.now).size }
-        ensures { IsWay (nest_of self.now) source.0 target.0 result }
+        ensures { IsEdgeKind (nest_of self.now) source.0 target.0 result }
     {
         if self.is_back(graph, source, target) {
             return Way::Back;

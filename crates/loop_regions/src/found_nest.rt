@@ -2,9 +2,9 @@
 ghost use Rattle.std.specs.Prelude.{◌≡◌, ℕ, IfOk, IfErr, length};
 ghost use Rattle.flat_graph.specs.CodeGraph.{graph_of, places_of};
 ghost use Rattle.loop_regions.specs.CodeNest.{nest_of, AreBounded, IsNestOf};
-ghost use Rattle.loop_regions.specs.Stated.{IsRegions, IsAccepted, IsSameHead};
-ghost use Rattle.loop_regions.specs.Found.{nest_in};
-ghost use Rattle.loop_regions.specs.Refused.{IsLoopError};
+ghost use Rattle.loop_regions.specs.Stated.{IsRegions, HasNoLoopRefusals, IsSameHead};
+ghost use Rattle.loop_regions.specs.FoundRegions.{nest_in};
+ghost use Rattle.loop_regions.specs.LoopErrors.{IsLoopError};
 
 use crate::around::regions_around;
 use crate::cycles::least_on_cycle;
@@ -29,7 +29,7 @@ fn nest_of_found(
     requires one_head { (a : ℕ) → ¬ IsSameHead loops.now a }
     requires regions { IsRegions (graph_of graph.now) (places_of graph.now) loops.now (nest_in found) }
     ensures regions { IfOk result (λ nest. IsRegions (graph_of graph.now) (places_of graph.now) loops.now (nest_of nest)) }
-    ensures accepted { IfOk result (λ nest. IsAccepted (graph_of graph.now) (nest_of nest)) }
+    ensures accepted { IfOk result (λ nest. HasNoLoopRefusals (graph_of graph.now) (nest_of nest)) }
     ensures nodes { IfOk result (λ nest. length nest.holders ≡ (graph_of graph.now).size) }
     ensures refused { IfErr result (IsLoopError (graph_of graph.now) (places_of graph.now) loops.now) }
 {
@@ -60,7 +60,7 @@ fn nest_of_found(
 /// up to the least such node is searched from. The ranges are kept twice while the regions are found.
 pub fn regions(alloc: Global, graph: &Graph, plan: &TaskPlan) -> Result<Nest, LoopError>
     ensures regions { IfOk result (λ nest. IsRegions (graph_of graph.now) (places_of graph.now) plan.now.loops (nest_of nest)) }
-    ensures accepted { IfOk result (λ nest. IsAccepted (graph_of graph.now) (nest_of nest)) }
+    ensures accepted { IfOk result (λ nest. HasNoLoopRefusals (graph_of graph.now) (nest_of nest)) }
     ensures one_head { IfOk result (λ _. (a : ℕ) → ¬ IsSameHead plan.now.loops a) }
     ensures nodes { IfOk result (λ nest. length nest.holders ≡ (graph_of graph.now).size) }
     ensures nest { IfOk result (λ nest. AreBounded plan.now.loops → IsNestOf graph.now nest) }

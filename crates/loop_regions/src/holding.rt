@@ -3,7 +3,7 @@ ghost use Rattle.std.specs.Prelude.{◌≡◌, ◌<◌, ◌≤◌, ◌↔◌, �
 ghost use Rattle.flat_graph.specs.CodeGraph.{graph_of, places_of};
 ghost use Rattle.loop_regions.specs.CodeNest.{has, row};
 ghost use Rattle.loop_regions.specs.Stated.{seen_from, region_holds};
-ghost use Rattle.loop_regions.specs.Heads.{AreHeads, IsHeldBy, sees};
+ghost use Rattle.loop_regions.specs.Heads.{AreHeads, IsHeldBy, is_seen_from};
 
 use crate::heads::Head;
 use crate::holders::Holders;
@@ -50,7 +50,7 @@ fn region_holds(graph: &Graph, stated: &RangedLoop, from: &[u32], y: u32) -> boo
 fn first_seen(graph: &Graph, head: u32) -> u32
     requires { head < (graph_of graph.now).size }
     ensures below { result ≤ head }
-    ensures before { (y : ℕ) → y < result → IsFalse (sees (places_of graph.now) ((places_of graph.now).context head) y) }
+    ensures before { (y : ℕ) → y < result → IsFalse (is_seen_from (places_of graph.now) ((places_of graph.now).context head) y) }
 {
     graph.graph_law();
     let from = graph.context(NodeId(head));
@@ -71,7 +71,7 @@ fn first_seen(graph: &Graph, head: u32) -> u32
 fn past_seen(graph: &Graph, head: u32) -> u32
     requires { head < (graph_of graph.now).size }
     ensures within { result ≤ (graph_of graph.now).size }
-    ensures after { (y : ℕ) → result ≤ y → y < (graph_of graph.now).size → IsFalse (sees (places_of graph.now) ((places_of graph.now).context head) y) }
+    ensures after { (y : ℕ) → result ≤ y → y < (graph_of graph.now).size → IsFalse (is_seen_from (places_of graph.now) ((places_of graph.now).context head) y) }
 {
     graph.graph_law();
     let from = graph.context(NodeId(head));

@@ -24,18 +24,18 @@ impl Model for Nest {
 
     ghost Value = { CodeNest };
 
-    ghost use Rattle.loop_regions.specs.KeptNest.{IsKept};
+    ghost use Rattle.loop_regions.specs.StoredNest.{IsStoredNest};
 
     ghost view = { λ n. record { heads = n.heads; bounds = n.bounds; holders = n.holders } };
 
-    ghost invariant = { λ n. IsKept (record { heads = n.heads; bounds = n.bounds; holders = n.holders }) n.parents n.innermost };
+    ghost invariant = { λ n. IsStoredNest (record { heads = n.heads; bounds = n.bounds; holders = n.holders }) n.parents n.innermost };
 }
 
 impl Nest {
     ghost use Rattle.std.specs.Prelude.{◌≡◌, ◌<◌, ◌≤◌, length, IfOk};
     ghost use Rattle.loop_regions.specs.CodeNest.{nest_of};
-    ghost use Rattle.loop_regions.specs.Found.{code_nest};
-    ghost use Rattle.loop_regions.specs.KeptNest.{IsKept};
+    ghost use Rattle.loop_regions.specs.FoundRegions.{code_nest};
+    ghost use Rattle.loop_regions.specs.StoredNest.{IsStoredNest};
     ghost use Rattle.loop_regions.specs.Levels.{IsLevel, IsParent};
 
     /// The nest of regions, with the parent of each region and the innermost region of each node.
@@ -44,7 +44,7 @@ impl Nest {
         parents: Vec<Option<u32>>,
         innermost: Vec<Option<u32>>,
     ) -> Self
-        requires { IsKept (code_nest regions) parents.items innermost.items }
+        requires { IsStoredNest (code_nest regions) parents.items innermost.items }
         ensures { result ≡ code_nest regions }
     {
         let Regions {

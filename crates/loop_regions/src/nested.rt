@@ -2,10 +2,10 @@
 ghost use Rattle.std.specs.Prelude.{◌≡◌, ◌<◌, ℕ, IfOk, IsTrue, None, length, slice_index_or};
 ghost use Rattle.std.specs.List.{list_any};
 ghost use Rattle.loop_regions.specs.CodeNest.{has, row};
-ghost use Rattle.loop_regions.specs.Least.{IsLeast};
+ghost use Rattle.loop_regions.specs.Least.{IsLeastNumber};
 ghost use Rattle.loop_regions.specs.Levels.{IsLevel, IsParent};
 ghost use Rattle.loop_regions.specs.Stated.{IsNotNested};
-ghost use Rattle.loop_regions.specs.Found.{nest_in, AreAround, lie_across, are_across, is_other, is_better, better, IsInnermost, AreInLine};
+ghost use Rattle.loop_regions.specs.FoundRegions.{nest_in, AreAround, lie_across, are_across, is_other, is_better, better, IsInnermost, AreInLine};
 
 use crate::around::is_like_before;
 use crate::found::Regions;
@@ -37,7 +37,7 @@ fn are_across(around: &[Holders], among: &[u32]) -> bool
 /// the node before it has other regions.
 pub(crate) fn not_nested(regions: &Regions, around: &[Holders]) -> Option<u32>
     requires { AreAround (nest_in regions.now) around.now }
-    ensures { IsLeast (IsNotNested (nest_in regions.now)) result }
+    ensures { IsLeastNumber (IsNotNested (nest_in regions.now)) result }
 {
     for y in 0..regions.nodes() {
         if is_like_before(regions, y) {

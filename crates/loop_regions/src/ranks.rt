@@ -2,8 +2,8 @@
 ghost use Rattle.std.specs.Prelude.{◌≡◌, ◌<◌, ◌^◌, ℕ, All, IfOk, IfSome, OnOk, IsTrue, Some, length, slice_get, slice_index};
 ghost use Rattle.flat_graph.specs.CodeGraph.{graph_of};
 ghost use Rattle.loop_regions.specs.Stated.{IsForward};
-ghost use Rattle.loop_regions.specs.Found.{nest_in, is_back};
-ghost use Rattle.loop_regions.specs.Cycles.{IsForwardBy};
+ghost use Rattle.loop_regions.specs.FoundRegions.{nest_in, is_back};
+ghost use Rattle.loop_regions.specs.ForwardPaths.{IsForwardBy};
 
 use crate::found::Regions;
 use crate::second_entry::next;
@@ -140,7 +140,7 @@ fn falls_along(graph: &Graph, regions: &Regions, ranks: &[u32], u: u32, k: u8) -
 }
 
 /// Whether ranks fall along all forward edges. Then no cycle is left without back edges.
-pub(crate) fn fall(graph: &Graph, regions: &Regions, ranks: &[u32]) -> bool
+pub(crate) fn all_fall(graph: &Graph, regions: &Regions, ranks: &[u32]) -> bool
     requires nodes { length regions.now.holders ≡ (graph_of graph.now).size }
     requires all { length ranks.now ≡ (graph_of graph.now).size }
     ensures { IsTrue result → (u v : ℕ) → IsForward (graph_of graph.now) (nest_in regions.now) u v → slice_index ranks.now v < slice_index ranks.now u }

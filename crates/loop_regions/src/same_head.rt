@@ -1,7 +1,7 @@
 // Stated loops with one head.
 ghost use Rattle.std.specs.Prelude.{◌≡◌, ◌<◌, ◌==◌, length};
 ghost use Rattle.std.specs.List.{list_any};
-ghost use Rattle.loop_regions.specs.Least.{IsLeast, IsHeadBefore};
+ghost use Rattle.loop_regions.specs.Least.{IsLeastNumber, IsHeadBefore};
 ghost use Rattle.loop_regions.specs.Stated.{IsSameHead};
 
 use crate::least::lesser;
@@ -15,9 +15,9 @@ fn has_head(loops: &[LoopAt], address: u32) -> bool
 }
 
 /// The head of a stated loop, where one before it has this head too.
-fn repeated(loops: &[LoopAt], j: usize) -> Option<u32>
+fn repeated_head(loops: &[LoopAt], j: usize) -> Option<u32>
     requires { j < length loops.now }
-    ensures { IsLeast (IsHeadBefore loops.now j) result }
+    ensures { IsLeastNumber (IsHeadBefore loops.now j) result }
 {
     let head = loops[j].head;
     if has_head(&loops[..j], head) {
@@ -29,11 +29,11 @@ fn repeated(loops: &[LoopAt], j: usize) -> Option<u32>
 
 /// The least address at which two stated loops have their heads. Pairs of loops are compared; there are at most 64 loops.
 pub(crate) fn least_same_head(loops: &[LoopAt]) -> Option<u32>
-    ensures { IsLeast (IsSameHead loops.now) result }
+    ensures { IsLeastNumber (IsSameHead loops.now) result }
 {
     let mut least = None;
     for j in 0..loops.len() {
-        least = lesser(least, repeated(loops, j));
+        least = lesser(least, repeated_head(loops, j));
     }
     least
 }

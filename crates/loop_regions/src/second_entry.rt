@@ -1,9 +1,9 @@
 // Regions that are entered elsewhere than at their heads.
 ghost use Rattle.std.specs.Prelude.{◌≡◌, ◌<◌, length, slice_get};
 ghost use Rattle.flat_graph.specs.CodeGraph.{graph_of};
-ghost use Rattle.loop_regions.specs.Least.{IsLeast};
+ghost use Rattle.loop_regions.specs.Least.{IsLeastNumber};
 ghost use Rattle.loop_regions.specs.Stated.{IsSecondEntry};
-ghost use Rattle.loop_regions.specs.Found.{nest_in, is_inside_some, enters, EntersFrom, EntersBy, IsInsideStart};
+ghost use Rattle.loop_regions.specs.FoundRegions.{nest_in, is_inside_some, enters, EntersFrom, EntersBy, IsInsideStart};
 
 use crate::found::Regions;
 use crate::least::lesser;
@@ -43,7 +43,7 @@ fn entered_by(graph: &Graph, regions: &Regions, u: u32, k: u8) -> Option<u32>
     requires nodes { length regions.now.holders ≡ (graph_of graph.now).size }
     requires node { u < (graph_of graph.now).size }
     requires place { k < 2 }
-    ensures { IsLeast (EntersBy (graph_of graph.now) (nest_in regions.now) u k) result }
+    ensures { IsLeastNumber (EntersBy (graph_of graph.now) (nest_in regions.now) u k) result }
 {
     graph.graph_law();
     let v = next(graph, u, k)?;
@@ -54,7 +54,7 @@ fn entered_by(graph: &Graph, regions: &Regions, u: u32, k: u8) -> Option<u32>
 fn entered_from(graph: &Graph, regions: &Regions, u: u32) -> Option<u32>
     requires nodes { length regions.now.holders ≡ (graph_of graph.now).size }
     requires node { u < (graph_of graph.now).size }
-    ensures { IsLeast (EntersFrom (graph_of graph.now) (nest_in regions.now) u) result }
+    ensures { IsLeastNumber (EntersFrom (graph_of graph.now) (nest_in regions.now) u) result }
 {
     graph.graph_law();
     lesser(
@@ -66,7 +66,7 @@ fn entered_from(graph: &Graph, regions: &Regions, u: u32) -> Option<u32>
 /// The first node, where a region holds it of which it is not the head.
 fn inside_start(graph: &Graph, regions: &Regions) -> Option<u32>
     requires { length regions.now.holders ≡ (graph_of graph.now).size }
-    ensures { IsLeast (IsInsideStart (graph_of graph.now) (nest_in regions.now)) result }
+    ensures { IsLeastNumber (IsInsideStart (graph_of graph.now) (nest_in regions.now)) result }
 {
     graph.graph_law();
     let first = graph.first().0;
@@ -80,7 +80,7 @@ fn inside_start(graph: &Graph, regions: &Regions) -> Option<u32>
 /// The least node at which a region is entered of which it is not the head. Each edge is looked at once.
 pub(crate) fn least_second_entry(graph: &Graph, regions: &Regions) -> Option<u32>
     requires { length regions.now.holders ≡ (graph_of graph.now).size }
-    ensures { IsLeast (IsSecondEntry (graph_of graph.now) (nest_in regions.now)) result }
+    ensures { IsLeastNumber (IsSecondEntry (graph_of graph.now) (nest_in regions.now)) result }
 {
     let mut least = inside_start(graph, regions);
     for u in 0..graph.len() {

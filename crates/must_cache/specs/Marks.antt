@@ -7,12 +7,12 @@ use Rattle.icache.specs.Accesses.{Accesses}
 abbrev pub Marks : Type 0
 Marks = ℕ → Bool
 
-abbrev pub either : Marks → Marks → Marks
-either x y s = x s || y s
+abbrev pub either_marks : Marks → Marks → Marks
+either_marks x y s = x s || y s
 
 -- after node n its own set is not marked, the others as before it
-abbrev pub unmarked : Accesses → ℕ → Marks → Marks
-unmarked a n before s = if a.set n == s then false else before s
+abbrev pub marks_after_access : Accesses → ℕ → Marks → Marks
+marks_after_access a n before s = if a.set n == s then false else before s
 
 -- how many of the sets below n are marked
 abbrev pub marks_below : Marks → ℕ → ℕ

@@ -6,7 +6,7 @@ ghost use Rattle.flat_graph.specs.Graph.{IsLeader};
 ghost use Rattle.flat_graph.specs.CodeGraph.{graph_of, places_of};
 ghost use Rattle.must_cache.specs.Marks.{sets_at};
 ghost use Rattle.must_cache.specs.Sure.{Sure, CountsSureHits};
-ghost use Rattle.must_cache.specs.Walks.{AreSureParts};
+ghost use Rattle.must_cache.specs.FirstWalks.{AreSureParts};
 
 use crate::edge_pairs::edges;
 use crate::first_walks::first_walks;

@@ -3,7 +3,7 @@ ghost use Rattle.std.specs.Prelude.{◌≡◌, ℕ, ◌<◌, ◌≤◌, ◌*◌,
 ghost use Rattle.crpd_base.specs.Sets.{has};
 ghost use Rattle.icache.specs.Accesses.{accesses};
 ghost use Rattle.flat_graph.specs.CodeGraph.{graph_of, places_of};
-ghost use Rattle.must_cache.specs.Marks.{Marks, either, unmarked, marks_below, sets_at};
+ghost use Rattle.must_cache.specs.Marks.{Marks, either_marks, marks_after_access, marks_below, sets_at};
 ghost use Rattle.must_cache.specs.MarkLaws.{either_joins, unmarked_distributes, few_marked};
 
 use crpd_base::{NodeId, SetBits};
@@ -12,7 +12,7 @@ use flat_graph::Graph;
 use icache::Geometry;
 
 /// Without a set, and else as before.
-fn without<const W: usize>(sets: &mut SetBits<W>, set: u16)
+fn remove_set<const W: usize>(sets: &mut SetBits<W>, set: u16)
     requires { set < 64 * W }
     ensures { (t : ℕ) → has sets.new t ≡ (if set == t then false else has sets.old t) }
 {
@@ -37,9 +37,9 @@ impl<const W: usize> Domain for Unsure<'_, W> {
 
     ghost view = { λ sets s. has sets s };
 
-    ghost joined = { either };
+    ghost joined = { either_marks };
 
-    ghost passed = { λ d n before. unmarked (accesses d.geometry.now.platform (places_of d.graph.now).address) n before };
+    ghost passed = { λ d n before. marks_after_access (accesses d.geometry.now.platform (places_of d.graph.now).address) n before };
 
     ghost begins = { λ d n. Some (λ s. has (sets_at d.apart.now n) s) };
 
@@ -67,7 +67,7 @@ impl<const W: usize> Domain for Unsure<'_, W> {
     fn transfer(&self, node: u32, sets: &mut SetBits<W>) {
         let address = self.graph.address(NodeId(node));
         let set = self.geometry.set(self.geometry.block(address));
-        without(sets, set);
+        remove_set(sets, set);
     }
 
     ghost joins = { either_joins };

@@ -7,23 +7,23 @@ use Rattle.preempt_machine.specs.declared.Completion.{Completion}
 use Rattle.preempt_machine.specs.Machine.{System, Job, Machine, job_at}
 use Rattle.preempt_machine.specs.Step.{candidate, is_open, run}
 use Rattle.preempt_machine.specs.Candidate.{release_of}
-use Rattle.preempt_machine.specs.Kept.{line_at, lines_of, place_at, release_at, heads_after, completions_after, AreReleased, IsHead, IsKept}
-use Rattle.preempt_machine.proofs.Dues.{opened_none}
+use Rattle.preempt_machine.specs.Schedule.{script_line, script_lines, due_place, due_release, heads_after, completions_after, AreReleased, IsHead, IsRepresented}
+use Rattle.preempt_machine.proofs.ReleaseOrder.{opened_none}
 use Rattle.preempt_machine.proofs.Firsts.{line_is, lines_long, release_le}
 use Rattle.preempt_machine.proofs.Runs.{run_length, run_line, run_time}
 use Rattle.preempt_machine.proofs.Stepping.{kept_some}
 use Rattle.preempt_fast.specs.Stretch.{NoRelease}
 
 -- no job is released between the releases that are told and the next one
-pub no_release : (sets : ℕ) (m : Machine) (due : List (ℕ × ℕ)) (later heads : List ℕ) (from to : ℕ) (cs new : List Completion) (k : ℕ) → IsKept sets m due later heads from cs → AreReleased due m.time from to cs new → (to < length due → m.time + k ≤ release_at due to) → NoRelease m k
+pub no_release : (sets : ℕ) (m : Machine) (due : List (ℕ × ℕ)) (later heads : List ℕ) (from to : ℕ) (cs new : List Completion) (k : ℕ) → IsRepresented sets m due later heads from cs → AreReleased due m.time from to cs new → (to < length due → m.time + k ≤ due_release due to) → NoRelease m k
 no_release sets m due later heads from to cs new k kept r next x below =
     let (p, inside, place) = kept.due.every x (omega (arith, lines_long m.jobs)) in
-    let release : release_at due p ≡ release_of m x = kept.due.releases p inside ∙ ap (λ (l : ScriptJob). l.release) (ap (line_at (lines_of m.jobs)) place ∙ line_is m.jobs x) in
+    let release : due_release due p ≡ release_of m x = kept.due.releases p inside ∙ ap (λ (l : ScriptJob). l.release) (ap (script_line (script_lines m.jobs)) place ∙ line_is m.jobs x) in
     elim (cases_lt p from) [
       | inl l ↦ inl (omega (arith, kept.released.before p l, release))
       | inr g ↦ elim (cases_lt p to) [
         | inl l ↦ inl (omega (arith, r.come p g l, release))
-        | inr h ↦ inr (omega (arith, next (omega arith), release_le (lines_of m.jobs) due to p kept.due h inside, release))
+        | inr h ↦ inr (omega (arith, next (omega arith), release_le (script_lines m.jobs) due to p kept.due h inside, release))
       ]
     ]
 
@@ -40,11 +40,11 @@ head_stays sys m due heads i j h =
     record {
       below = omega (arith, h.below, run_length sys m j);
       inside = subst (λ (l : ScriptJob). slice_index heads l.task.0 < length due) (sym line) h.inside;
-      first = ap (λ (l : ScriptJob). place_at due (slice_index heads l.task.0)) line ∙ h.first;
+      first = ap (λ (l : ScriptJob). due_place due (slice_index heads l.task.0)) line ∙ h.first;
     }
 
 -- a state is kept after each of the steps of one candidate
-pub kept_by : (sys : System) (sets : ℕ) (m : Machine) (due : List (ℕ × ℕ)) (later heads : List ℕ) (from to : ℕ) (cs new : List Completion) (i k : ℕ) → IsKept sets m due later heads from cs → IsHead m.jobs due heads i → AreReleased due m.time from to cs new → (to < length due → m.time + k ≤ release_at due to) → ((j : ℕ) → j < k → candidate sys (run sys m j) ≡ Some i) → ((j : ℕ) → 1 ≤ j → j < k → is_open (job_at (run sys m j).jobs i).standing ≡ true) → (j : ℕ) → 1 ≤ j → j ≤ k → IsKept sets (run sys m j) due later (heads_after (run sys m j).jobs later heads i) to (completions_after (run sys m j).jobs new i)
+pub kept_by : (sys : System) (sets : ℕ) (m : Machine) (due : List (ℕ × ℕ)) (later heads : List ℕ) (from to : ℕ) (cs new : List Completion) (i k : ℕ) → IsRepresented sets m due later heads from cs → IsHead m.jobs due heads i → AreReleased due m.time from to cs new → (to < length due → m.time + k ≤ due_release due to) → ((j : ℕ) → j < k → candidate sys (run sys m j) ≡ Some i) → ((j : ℕ) → 1 ≤ j → j < k → is_open (job_at (run sys m j).jobs i).standing ≡ true) → (j : ℕ) → 1 ≤ j → j ≤ k → IsRepresented sets (run sys m j) due later (heads_after (run sys m j).jobs later heads i) to (completions_after (run sys m j).jobs new i)
 kept_by sys sets m due later heads from to cs new i k kept h r next c o zero a b = absurd (omega arith)
 kept_by sys sets m due later heads from to cs new i k kept h r next c o (suc zero) a b =
     kept_some sys sets m due later heads from to cs new i kept (c 0 (omega arith)) h r
@@ -52,8 +52,8 @@ kept_by sys sets m due later heads from to cs new i k kept h r next c o (suc (su
     let n = run sys m (suc j) in
     let opening = o (suc j) (omega arith) (omega arith) in
     let one = kept_by sys sets m due later heads from to cs new i k kept h r next c o (suc j) (omega arith) (omega arith) in
-    let two = subst (λ hs. IsKept sets n due later hs to (completions_after n.jobs new i)) (heads_stay n.jobs later heads i opening) one in
-    let three = subst (λ ds. IsKept sets n due later heads to ds) (completions_stay n.jobs new i opening) two in
+    let two = subst (λ hs. IsRepresented sets n due later hs to (completions_after n.jobs new i)) (heads_stay n.jobs later heads i opening) one in
+    let three = subst (λ ds. IsRepresented sets n due later heads to ds) (completions_stay n.jobs new i opening) two in
     kept_some sys sets n due later heads to to new new i three (c (suc j) (omega arith)) (head_stays sys m due heads i (suc j) h)
     (record {
       opens = opened_none due to new;

@@ -1,4 +1,4 @@
-pub mod Turnings
+pub mod TurnsInARow
 pub mod Stretches
 pub mod Keeping
 pub mod Taking

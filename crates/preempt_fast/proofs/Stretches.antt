@@ -10,17 +10,17 @@ use Rattle.crpd_base.specs.declared.data.Switching.{Switching}
 use Rattle.crpd_base.specs.declared.data.Switching.TheVariants.{Cycle, Instruction}
 use Rattle.rv_decode.specs.declared.Ins.{Ins}
 use Rattle.preempt_machine.specs.Machine.{System, Job, Machine, ins_at, job_at, no_job}
-use Rattle.preempt_machine.specs.Step.{is_open, is_ready, comes_before, keeps_core, candidate, first_ready, Turn, turn_of, turned, fetched, placed, step, step_by, run}
+use Rattle.preempt_machine.specs.Step.{is_open, is_ready, comes_before, keeps_core, candidate, first_ready, Turn, turn_of, turn_after_step, turn_after_fetch, machine_after_turn, step, step_by, run}
 use Rattle.preempt_machine.specs.Candidate.{release_of}
-use Rattle.preempt_machine.specs.Kept.{owner_keeps}
+use Rattle.preempt_machine.specs.Schedule.{owner_keeps}
 use Rattle.preempt_machine.proofs.Candidates.{none_candidate}
 use Rattle.preempt_machine.proofs.Firsts.{best_is}
-use Rattle.preempt_machine.proofs.Lefts.{turned_left}
+use Rattle.preempt_machine.proofs.CyclesLeft.{turned_left}
 use Rattle.preempt_machine.proofs.Order.{IsBest, IsFirst, first_ready_is}
 use Rattle.preempt_machine.proofs.Steps.{candidate_some, ready_from, ready_open, ready_released}
-use Rattle.preempt_machine.proofs.Turned.{candidate_is}
-use Rattle.preempt_fast.specs.Stretch.{turned_by, placed_by, NoRelease, IdleLaw, SwitchLaw, CyclesLaw, EffectLaw}
-use Rattle.preempt_fast.proofs.Turnings.{counts, finishes, open_up_to, switches, turned_by_line}
+use Rattle.preempt_machine.proofs.CandidateTurns.{candidate_is}
+use Rattle.preempt_fast.specs.Stretch.{turn_after_steps, machine_after_turns, NoRelease, IdleLaw, SwitchLaw, CyclesLaw, EffectLaw}
+use Rattle.preempt_fast.proofs.TurnsInARow.{counts, finishes, open_up_to, switches, turned_by_line}
 
 -- the first ready job stays the first where no job is released
 first_stays : (m : Machine) (i k j : ℕ) (job : Job) → NoRelease m k → j < k → first_ready m.time m.jobs (length m.jobs) ≡ Some i → job.line ≡ (job_at m.jobs i).line → is_open job.standing ≡ true → first_ready (m.time + j) (slice_set m.jobs i job) (length (slice_set m.jobs i job)) ≡ Some i
@@ -78,9 +78,9 @@ keeping_left sys m i c b =
 
 -- the candidate stays the same while it is open and no job is released, where it keeps the core up to the end of its
 -- instruction
-stays : (sys : System) (m : Machine) (i k j : ℕ) (t : Turn) → candidate sys m ≡ Some i → NoRelease m k → j < k → t.job.line ≡ (job_at m.jobs i).line → is_open t.job.standing ≡ true → (owner_keeps_in sys m ≡ true → 0 < t.job.left) → candidate sys (placed_by m j i t) ≡ Some i
+stays : (sys : System) (m : Machine) (i k j : ℕ) (t : Turn) → candidate sys m ≡ Some i → NoRelease m k → j < k → t.job.line ≡ (job_at m.jobs i).line → is_open t.job.standing ≡ true → (owner_keeps_in sys m ≡ true → 0 < t.job.left) → candidate sys (machine_after_turns m j i t) ≡ Some i
 stays sys m i k j t c none less line o keep =
-    let n = placed_by m j i t in
+    let n = machine_after_turns m j i t in
     let facts = candidate_some sys m i c in
     let own : job_at n.jobs i ≡ t.job = get_or-set_same m.jobs i t.job no_job facts.below in
     elim (cases_Bool (owner_keeps_in sys m)) [
@@ -95,13 +95,13 @@ stays sys m i k j t c none less line o keep =
     ]
 
 -- the turn of the job that had the last one
-turn_again : (sys : System) (m : Machine) (i j : ℕ) (t : Turn) → i < length m.jobs → turn_of sys (placed_by m j i t) i ≡ t
+turn_again : (sys : System) (m : Machine) (i j : ℕ) (t : Turn) → i < length m.jobs → turn_of sys (machine_after_turns m j i t) i ≡ t
 turn_again sys m i j t below =
     let same : (i == i) ≡ true = eq-eqb i i refl in
     let own : job_at (slice_set m.jobs i t.job) i ≡ t.job = get_or-set_same m.jobs i t.job no_job below in
     rw (same, own) refl
 
-placed_again : (m : Machine) (i j : ℕ) (t u : Turn) → placed (placed_by m j i t) i u ≡ placed_by m (suc j) i u
+placed_again : (m : Machine) (i j : ℕ) (t u : Turn) → machine_after_turn (machine_after_turns m j i t) i u ≡ machine_after_turns m (suc j) i u
 placed_again m i j t u =
     let time : suc (m.time + j) ≡ m.time + suc j = omega arith in
     ap (λ n. record { time = n; cache = u.cache; memory = u.memory; owner = Some i; switch_left = u.switch_left; jobs = slice_set (slice_set m.jobs i t.job) i u.job }) time
@@ -112,40 +112,40 @@ placed_again m i j t u =
 pub record IsStretch (sys : System) (m : Machine) (i k : ℕ) : Type 0 where
   pub is_candidate : candidate sys m ≡ Some i
   pub none : NoRelease m k
-  pub open_before : (j : ℕ) → j < k → is_open (turned_by sys m.time (turn_of sys m i) j).job.standing ≡ true
-  pub under_way : owner_keeps_in sys m ≡ true → (j : ℕ) → j < k → 0 < (turned_by sys m.time (turn_of sys m i) j).job.left
+  pub open_before : (j : ℕ) → j < k → is_open (turn_after_steps sys m.time (turn_of sys m i) j).job.standing ≡ true
+  pub under_way : owner_keeps_in sys m ≡ true → (j : ℕ) → j < k → 0 < (turn_after_steps sys m.time (turn_of sys m i) j).job.left
 
-pub run_by : (sys : System) (m : Machine) (i k : ℕ) → IsStretch sys m i k → (j : ℕ) → 1 ≤ j → j ≤ k → run sys m j ≡ placed_by m j i (turned_by sys m.time (turn_of sys m i) j)
+pub run_by : (sys : System) (m : Machine) (i k : ℕ) → IsStretch sys m i k → (j : ℕ) → 1 ≤ j → j ≤ k → run sys m j ≡ machine_after_turns m j i (turn_after_steps sys m.time (turn_of sys m i) j)
 run_by sys m i k s zero a b = absurd (omega arith)
 run_by sys m i k s (suc zero) a b =
     let t = turn_of sys m i in
     let z : m.time ≡ m.time + 0 = omega arith in
     let one : suc m.time ≡ m.time + suc zero = omega arith in
     ap (step_by sys m) s.is_candidate
-    ∙ ap (λ n. placed m i (turned sys n t)) z
-    ∙ ap (λ n. record (placed m i (turned sys (m.time + 0) t)) { time = n }) one
+    ∙ ap (λ n. machine_after_turn m i (turn_after_step sys n t)) z
+    ∙ ap (λ n. record (machine_after_turn m i (turn_after_step sys (m.time + 0) t)) { time = n }) one
 run_by sys m i k s (suc (suc j)) a b =
-    let t = turned_by sys m.time (turn_of sys m i) (suc j) in
-    let n = placed_by m (suc j) i t in
+    let t = turn_after_steps sys m.time (turn_of sys m i) (suc j) in
+    let n = machine_after_turns m (suc j) i t in
     let line : t.job.line ≡ (job_at m.jobs i).line = turned_by_line sys m.time (turn_of sys m i) (suc j) in
     let c : candidate sys n ≡ Some i = stays sys m i k (suc j) t s.is_candidate s.none (omega arith) line (s.open_before (suc j) (omega arith)) (λ keep. s.under_way keep (suc j) (omega arith)) in
     ap (step sys) (run_by sys m i k s (suc j) (omega arith) (omega arith))
     ∙ ap (step_by sys n) c
-    ∙ ap (λ u. placed n i (turned sys n.time u)) (turn_again sys m i (suc j) t (candidate_some sys m i s.is_candidate).below)
-    ∙ placed_again m i (suc j) t (turned sys (m.time + suc j) t)
+    ∙ ap (λ u. machine_after_turn n i (turn_after_step sys n.time u)) (turn_again sys m i (suc j) t (candidate_some sys m i s.is_candidate).below)
+    ∙ placed_again m i (suc j) t (turn_after_step sys (m.time + suc j) t)
 
 -- and its candidate is the same before each of them
 pub stays_by : (sys : System) (m : Machine) (i k : ℕ) → IsStretch sys m i k → (j : ℕ) → j < k → candidate sys (run sys m j) ≡ Some i
 stays_by sys m i k s zero b = s.is_candidate
 stays_by sys m i k s (suc j) b =
-    let t = turned_by sys m.time (turn_of sys m i) (suc j) in
+    let t = turn_after_steps sys m.time (turn_of sys m i) (suc j) in
     ap (candidate sys) (run_by sys m i k s (suc j) (omega arith) (omega arith))
     ∙ stays sys m i k (suc j) t s.is_candidate s.none b (turned_by_line sys m.time (turn_of sys m i) (suc j)) (s.open_before (suc j) b) (λ keep. s.under_way keep (suc j) b)
 
 -- so many turns use at most as many of the cycles left of an instruction
-pub left_by : (sys : System) (n : ℕ) (t : Turn) (j : ℕ) → t.job.left ≤ (turned_by sys n t j).job.left + j
+pub left_by : (sys : System) (n : ℕ) (t : Turn) (j : ℕ) → t.job.left ≤ (turn_after_steps sys n t j).job.left + j
 left_by sys n t zero = omega arith
-left_by sys n t (suc j) = omega (arith, turned_left sys (n + j) (turned_by sys n t j), left_by sys n t j)
+left_by sys n t (suc j) = omega (arith, turned_left sys (n + j) (turn_after_steps sys n t j), left_by sys n t j)
 
 -- the laws
 pub idle_law : IdleLaw
@@ -162,7 +162,7 @@ candidate_open sys m i c = ready_open m.time (job_at m.jobs i) (candidate_some s
 pub switch_law : SwitchLaw
 switch_law sys m i k c some none less =
     let t = turn_of sys m i in
-    let at : (j : ℕ) → j < k → turned_by sys m.time t j ≡ record t { switch_left = t.switch_left - j } = λ j l. switches sys m.time t j (omega arith) in
+    let at : (j : ℕ) → j < k → turn_after_steps sys m.time t j ≡ record t { switch_left = t.switch_left - j } = λ j l. switches sys m.time t j (omega arith) in
     let s : IsStretch sys m i k = record {
       is_candidate = c;
       none = none;
@@ -170,11 +170,11 @@ switch_law sys m i k c some none less =
       under_way = λ keep j l. subst (λ (u : Turn). 0 < u.job.left) (sym (at j l)) (keeping_left sys m i c keep);
     } in
     run_by sys m i k s k some (omega arith)
-    ∙ ap (placed_by m k i) (switches sys m.time t k less)
+    ∙ ap (machine_after_turns m k i) (switches sys m.time t k less)
     ∙ ap (λ js. record { time = m.time + k; cache = m.cache; memory = m.memory; owner = Some i; switch_left = t.switch_left - k; jobs = js }) (set-get_or m.jobs i no_job)
 
 -- cycles of an instruction up to its last one are a stretch
-of_instruction : (sys : System) (m : Machine) (i k : ℕ) (ins : Ins) → candidate sys m ≡ Some i → NoRelease m k → (turn_of sys m i).switch_left ≡ 0 → ins_at sys (job_at m.jobs i).pc ≡ Some ins → (k ≡ 1) ⊎ (k ≤ (fetched sys ins (turn_of sys m i)).job.left) → IsStretch sys m i k
+of_instruction : (sys : System) (m : Machine) (i k : ℕ) (ins : Ins) → candidate sys m ≡ Some i → NoRelease m k → (turn_of sys m i).switch_left ≡ 0 → ins_at sys (job_at m.jobs i).pc ≡ Some ins → (k ≡ 1) ⊎ (k ≤ (turn_after_fetch sys ins (turn_of sys m i)).job.left) → IsStretch sys m i k
 of_instruction sys m i k ins c none e found h =
     let t = turn_of sys m i in
     record {
@@ -184,20 +184,20 @@ of_instruction sys m i k ins c none e found h =
       under_way = λ keep j l. way keep j l;
     }
   where
-    way : owner_keeps_in sys m ≡ true → (j : ℕ) → j < k → 0 < (turned_by sys m.time (turn_of sys m i) j).job.left
+    way : owner_keeps_in sys m ≡ true → (j : ℕ) → j < k → 0 < (turn_after_steps sys m.time (turn_of sys m i) j).job.left
     way keep zero l = keeping_left sys m i c keep
     way keep (suc j) l =
         let t = turn_of sys m i in
-        let more : suc j < (fetched sys ins t).job.left = elim h [ inl one ↦ absurd (omega (arith, one)) | inr all ↦ omega (arith, all) ] in
+        let more : suc j < (turn_after_fetch sys ins t).job.left = elim h [ inl one ↦ absurd (omega (arith, one)) | inr all ↦ omega (arith, all) ] in
         subst (λ (u : Turn). 0 < u.job.left) (sym (counts sys m.time t ins (suc j) e found (omega arith) more)) (omega arith)
 
 pub cycles_law : CyclesLaw
 cycles_law sys m i k ins c some none e found less =
     let s = of_instruction sys m i k ins c none e found (inr (omega arith)) in
-    run_by sys m i k s k some (omega arith) ∙ ap (placed_by m k i) (counts sys m.time (turn_of sys m i) ins k e found some less)
+    run_by sys m i k s k some (omega arith) ∙ ap (machine_after_turns m k i) (counts sys m.time (turn_of sys m i) ins k e found some less)
 
 pub effect_law : EffectLaw
 effect_law sys m i k ins c none e found last =
-    let h : (k ≡ 1) ⊎ (k ≤ (fetched sys ins (turn_of sys m i)).job.left) = elim last.no_more [ inl one ↦ inl one | inr all ↦ inr (omega (arith, all)) ] in
+    let h : (k ≡ 1) ⊎ (k ≤ (turn_after_fetch sys ins (turn_of sys m i)).job.left) = elim last.no_more [ inl one ↦ inl one | inr all ↦ inr (omega (arith, all)) ] in
     let s = of_instruction sys m i k ins c none e found h in
-    run_by sys m i k s k last.some (omega arith) ∙ ap (placed_by m k i) (finishes sys m.time (turn_of sys m i) ins k e found last)
+    run_by sys m i k s k last.some (omega arith) ∙ ap (machine_after_turns m k i) (finishes sys m.time (turn_of sys m i) ins k e found last)

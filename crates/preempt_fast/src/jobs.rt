@@ -1,15 +1,15 @@
 // The core, and what a job does with it while it has it.
 ghost use Rattle.std.specs.Prelude.{◌≡◌, ℕ, suc, ◌<◌, ◌≤◌, not, length, Some, IfOk, IfSome, IsTrue, OnOk};
-ghost use Rattle.rv_decode.specs.Range.{IsInRange};
+ghost use Rattle.rv_decode.specs.Range.{HasFieldsInRange};
 ghost use Rattle.rv_core.specs.Effect.{next_pc};
-ghost use Rattle.icache.specs.Cache.{accessed, block_of, is_hit, set_of};
-ghost use Rattle.flow_watch.specs.Turns.{HasTurns};
+ghost use Rattle.icache.specs.Cache.{cache_after_access, block_of, is_hit, set_of};
+ghost use Rattle.flow_watch.specs.Iterations.{HasIterations};
 ghost use Rattle.flow_watch.specs.Quiet.{AreQuiet, IsArrival};
 ghost use Rattle.preempt_machine.specs.Machine.{System, Open, plan_of};
-ghost use Rattle.preempt_machine.specs.Step.{fetch_cost, fetched, went};
+ghost use Rattle.preempt_machine.specs.Step.{fetch_cost, turn_after_fetch, turn_after_effect};
 ghost use Rattle.preempt_machine.specs.Running.{system_by, HasPlan};
 ghost use Rattle.preempt_machine.specs.Jobs.{turn_by};
-ghost use Rattle.preempt_fast.specs.Decodings.{AreCosts, AreDecoded};
+ghost use Rattle.preempt_fast.specs.Decodings.{AreCosts, AreDecodedAddresses};
 ghost use Rattle.preempt_fast.specs.Stretch.{HasMoved};
 
 use crate::decoded::{Decoded, Decoding};
@@ -35,7 +35,7 @@ impl Core {
         requires room { self.old.geometry.platform.sets ≤ length self.old.cache }
         requires set { set ≡ set_of self.old.geometry.platform block }
         ensures missed { result ≡ not (is_hit self.old.geometry.platform self.old.cache block) }
-        ensures cache { self.new.cache ≡ accessed self.old.geometry.platform self.old.cache block }
+        ensures cache { self.new.cache ≡ cache_after_access self.old.geometry.platform self.old.cache block }
         ensures memory { self.new.memory ≡ self.old.memory }
         ensures geometry { self.new.geometry ≡ self.old.geometry }
         ensures decoded { self.new.decoded ≡ self.old.decoded }
@@ -51,7 +51,7 @@ impl Core {
         requires block { found.now.block ≡ block_of self.old.geometry.platform job.now.pc }
         requires set { found.now.set ≡ set_of self.old.geometry.platform found.now.block }
         ensures cost { (sys : System) (k : ℕ) (ins : Ins) → sys.platform ≡ self.old.geometry.platform → found.now.meaning ≡ Some ins → result ≡ fetch_cost sys ins (turn_by self.old.cache self.old.memory k job.now) }
-        ensures cache { self.new.cache ≡ accessed self.old.geometry.platform self.old.cache (block_of self.old.geometry.platform job.now.pc) }
+        ensures cache { self.new.cache ≡ cache_after_access self.old.geometry.platform self.old.cache (block_of self.old.geometry.platform job.now.pc) }
         ensures memory { self.new.memory ≡ self.old.memory }
         ensures geometry { self.new.geometry ≡ self.old.geometry }
         ensures decoded { self.new.decoded ≡ self.old.decoded }
@@ -67,7 +67,7 @@ impl Core {
         requires room { self.old.geometry.platform.sets ≤ length self.old.cache }
         requires block { found.now.block ≡ block_of self.old.geometry.platform job.old.pc }
         requires set { found.now.set ≡ set_of self.old.geometry.platform found.now.block }
-        ensures fetched { (sys : System) (k : ℕ) (ins : Ins) → sys.platform ≡ self.old.geometry.platform → found.now.meaning ≡ Some ins → turn_by self.new.cache self.new.memory k job.new ≡ fetched sys ins (turn_by self.old.cache self.old.memory k job.old) }
+        ensures fetched { (sys : System) (k : ℕ) (ins : Ins) → sys.platform ≡ self.old.geometry.platform → found.now.meaning ≡ Some ins → turn_by self.new.cache self.new.memory k job.new ≡ turn_after_fetch sys ins (turn_by self.old.cache self.old.memory k job.old) }
         ensures job { job.new ≡ record job.old { left = job.new.left } }
         ensures geometry { self.new.geometry ≡ self.old.geometry }
         ensures decoded { self.new.decoded ≡ self.old.decoded }
@@ -90,13 +90,13 @@ impl Core {
         time: u64,
         quiet: &mut (u32, u32),
     ) -> Result<(), Memory>
-        requires in_range { IsInRange ins.now }
+        requires in_range { HasFieldsInRange ins.now }
         requires stays { IsTrue found.now.stays → IsArrival ins.now }
-        requires turns { HasTurns (length plan.now.loops) job.old.watch }
+        requires turns { HasIterations (length plan.now.loops) job.old.watch }
         requires open { job.old.standing ≡ Open }
         requires quiet { AreQuiet plan.now job.old.watch quiet.old }
-        ensures ok { OnOk result ((sys : System) (k n : ℕ) → suc n ≡ time → plan_of sys job.old.line.task.0 ≡ plan.now → turn_by self.new.cache self.new.memory k job.new ≡ went sys n ins.now (turn_by self.old.cache self.old.memory k job.old) next) }
-        ensures turns { OnOk result (HasTurns (length plan.now.loops) job.new.watch) }
+        ensures ok { OnOk result ((sys : System) (k n : ℕ) → suc n ≡ time → plan_of sys job.old.line.task.0 ≡ plan.now → turn_by self.new.cache self.new.memory k job.new ≡ turn_after_effect sys n ins.now (turn_by self.old.cache self.old.memory k job.old) next) }
+        ensures turns { OnOk result (HasIterations (length plan.now.loops) job.new.watch) }
         ensures quiet { OnOk result (AreQuiet plan.now job.new.watch quiet.new) }
         ensures geometry { self.new.geometry ≡ self.old.geometry }
         ensures decoded { self.new.decoded ≡ self.old.decoded }
@@ -128,18 +128,18 @@ impl Core {
     ) -> Result<u64, Memory>
         requires before { now < until }
         requires room { self.old.geometry.platform.sets ≤ length self.old.cache }
-        requires decoded { AreDecoded self.old.geometry.platform code.now self.old.decoded.places.items }
+        requires decoded { AreDecodedAddresses self.old.geometry.platform code.now self.old.decoded.places.items }
         requires plan { plan_of (system_by self.old.geometry.platform code.now) job.old.line.task.0 ≡ plan.now }
-        requires turns { HasTurns (length plan.now.loops) job.old.watch }
+        requires turns { HasIterations (length plan.now.loops) job.old.watch }
         requires open { job.old.standing ≡ Open }
         requires quiet { AreQuiet plan.now job.old.watch quiet.old }
         ensures moved { IfOk result (λ time. HasMoved (system_by self.old.geometry.platform code.now) now time (turn_by self.old.cache self.old.memory 0 job.old) (turn_by self.new.cache self.new.memory 0 job.new)) }
         ensures later { IfOk result (λ time. now < time) }
         ensures within { IfOk result (λ time. time ≤ until) }
-        ensures turns { OnOk result (HasTurns (length plan.now.loops) job.new.watch) }
+        ensures turns { OnOk result (HasIterations (length plan.now.loops) job.new.watch) }
         ensures quiet { OnOk result (AreQuiet plan.now job.new.watch quiet.new) }
         ensures geometry { OnOk result (self.new.geometry ≡ self.old.geometry) }
-        ensures decoded { OnOk result (AreDecoded self.old.geometry.platform code.now self.new.decoded.places.items) }
+        ensures decoded { OnOk result (AreDecodedAddresses self.old.geometry.platform code.now self.new.decoded.places.items) }
     {
         let found = self.decoded.find(code, &self.geometry, job.pc());
         let Some(ins) = found.meaning else {
@@ -169,7 +169,7 @@ impl Core {
     ) -> Result<u64, Memory>
         requires before { from < until }
         requires room { self.old.geometry.platform.sets ≤ length self.old.cache }
-        requires decoded { AreDecoded self.old.geometry.platform code.now self.old.decoded.places.items }
+        requires decoded { AreDecodedAddresses self.old.geometry.platform code.now self.old.decoded.places.items }
         requires plan { HasPlan code.now.plans job.old }
         requires open { job.old.standing ≡ Open }
         ensures moved { IfOk result (λ time. HasMoved (system_by self.old.geometry.platform code.now) from time (turn_by self.old.cache self.old.memory 0 job.old) (turn_by self.new.cache self.new.memory 0 job.new)) }
@@ -177,7 +177,7 @@ impl Core {
         ensures within { IfOk result (λ time. time ≤ until) }
         ensures plan { OnOk result (HasPlan code.now.plans job.new) }
         ensures geometry { OnOk result (self.new.geometry ≡ self.old.geometry) }
-        ensures decoded { OnOk result (AreDecoded self.old.geometry.platform code.now self.new.decoded.places.items) }
+        ensures decoded { OnOk result (AreDecodedAddresses self.old.geometry.platform code.now self.new.decoded.places.items) }
     {
         let plan = code.plan(job.task());
         let mut now = from;

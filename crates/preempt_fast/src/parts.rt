@@ -3,9 +3,9 @@ ghost use Rattle.std.specs.Prelude.{◌≡◌, ℕ, ◌+◌, ◌<◌, ◌≤◌,
 ghost use Rattle.preempt_machine.specs.Machine.{Open, job_at};
 ghost use Rattle.preempt_machine.specs.Step.{candidate};
 ghost use Rattle.preempt_machine.specs.Running.{system_by, HasPlan};
-ghost use Rattle.preempt_machine.specs.Kept.{owner_keeps, IsHead, NoneIsReady};
-ghost use Rattle.preempt_fast.specs.Decodings.{AreDecoded};
-ghost use Rattle.preempt_fast.specs.Parts.{machine_of, HasMade, HasTurned, IsMachine, IsRunOf};
+ghost use Rattle.preempt_machine.specs.Schedule.{owner_keeps, IsHead, NoneIsReady};
+ghost use Rattle.preempt_fast.specs.Decodings.{AreDecodedAddresses};
+ghost use Rattle.preempt_fast.specs.Parts.{fast_machine_of, HasMadeFastSteps, HasTakenTurns, IsFastMachine, RunsCode};
 
 use crate::jobs::Core;
 use code_map::CodeMap;
@@ -45,14 +45,14 @@ impl Parts {
     /// moves.
     fn turn(&mut self, code: &CodeMap, place: usize, until: u64) -> Result<(), Memory>
         requires room { self.old.core.geometry.platform.sets ≤ length self.old.core.cache }
-        requires decoded { AreDecoded self.old.core.geometry.platform code.now self.old.core.decoded.places.items }
+        requires decoded { AreDecodedAddresses self.old.core.geometry.platform code.now self.old.core.decoded.places.items }
         requires plan { HasPlan code.now.plans (job_at self.old.schedule.jobs.items place) }
         requires below { place < length self.old.schedule.jobs.items }
         requires open { (job_at self.old.schedule.jobs.items place).standing ≡ Open }
         requires before { self.old.schedule.steps < until }
-        ensures turned { OnOk result (HasTurned (system_by self.old.core.geometry.platform code.now) until self.old self.new place) }
+        ensures turned { OnOk result (HasTakenTurns (system_by self.old.core.geometry.platform code.now) until self.old self.new place) }
         ensures plan { OnOk result (HasPlan code.now.plans (job_at self.new.schedule.jobs.items place)) }
-        ensures decoded { OnOk result (AreDecoded self.old.core.geometry.platform code.now self.new.core.decoded.places.items) }
+        ensures decoded { OnOk result (AreDecodedAddresses self.old.core.geometry.platform code.now self.new.core.decoded.places.items) }
     {
         let whole = self.core.geometry.platform.switch;
         let cycles = self.schedule.switch_cycles(whole, place);
@@ -72,28 +72,28 @@ impl Parts {
 
     /// The steps up to the next release where no job is ready, none of them past a cycle.
     fn idle(&mut self, code: &CodeMap, until: u64)
-        requires machine { IsMachine self.old }
-        requires run { IsRunOf code.now self.old }
+        requires machine { IsFastMachine self.old }
+        requires run { RunsCode code.now self.old }
         requires idle { NoneIsReady self.old.schedule.steps self.old.schedule.jobs.items }
         requires before { self.old.schedule.steps < until }
-        ensures made { HasMade (system_by self.old.core.geometry.platform code.now) until self.old self.new }
-        ensures machine { IsMachine self.new }
-        ensures run { IsRunOf code.now self.new }
+        ensures made { HasMadeFastSteps (system_by self.old.core.geometry.platform code.now) until self.old self.new }
+        ensures machine { IsFastMachine self.new }
+        ensures run { RunsCode code.now self.new }
     {
         self.schedule.steps = self.schedule.queue.next_release(until);
     }
 
     /// The steps of the candidate up to the next release, or until it has answered or faulted, none of them past a cycle.
     fn take(&mut self, code: &CodeMap, place: usize, until: u64) -> Result<(), Memory>
-        requires machine { IsMachine self.old }
-        requires run { IsRunOf code.now self.old }
-        requires candidate { candidate (system_by self.old.core.geometry.platform code.now) (machine_of self.old) ≡ Some place }
+        requires machine { IsFastMachine self.old }
+        requires run { RunsCode code.now self.old }
+        requires candidate { candidate (system_by self.old.core.geometry.platform code.now) (fast_machine_of self.old) ≡ Some place }
         requires head { IsHead self.old.schedule.jobs.items self.old.schedule.queue.due.items self.old.schedule.queue.heads.items place }
         requires before { self.old.schedule.steps < until }
         requires reach { owner_keeps self.old.core.geometry.platform.switching self.old.schedule.steps self.old.schedule.jobs.items self.old.schedule.owner ≡ true → until ≤ self.old.schedule.steps + (job_at self.old.schedule.jobs.items place).left }
-        ensures made { OnOk result (HasMade (system_by self.old.core.geometry.platform code.now) until self.old self.new) }
-        ensures machine { OnOk result (IsMachine self.new) }
-        ensures run { OnOk result (IsRunOf code.now self.new) }
+        ensures made { OnOk result (HasMadeFastSteps (system_by self.old.core.geometry.platform code.now) until self.old self.new) }
+        ensures machine { OnOk result (IsFastMachine self.new) }
+        ensures run { OnOk result (RunsCode code.now self.new) }
     {
         self.schedule.tell();
         let until = self.schedule.queue.next_release(until);
@@ -105,12 +105,12 @@ impl Parts {
     /// The steps of the candidate as long as it surely stays the same, or where no job is ready the steps up to the next
     /// release, none of them past a cycle.
     pub(crate) fn leap(&mut self, code: &CodeMap, until: u64) -> Result<(), Memory>
-        requires machine { IsMachine self.old }
-        requires run { IsRunOf code.now self.old }
+        requires machine { IsFastMachine self.old }
+        requires run { RunsCode code.now self.old }
         requires before { self.old.schedule.steps < until }
-        ensures made { OnOk result (HasMade (system_by self.old.core.geometry.platform code.now) until self.old self.new) }
-        ensures machine { OnOk result (IsMachine self.new) }
-        ensures run { OnOk result (IsRunOf code.now self.new) }
+        ensures made { OnOk result (HasMadeFastSteps (system_by self.old.core.geometry.platform code.now) until self.old self.new) }
+        ensures machine { OnOk result (IsFastMachine self.new) }
+        ensures run { OnOk result (RunsCode code.now self.new) }
     {
         let switching = self.core.geometry.platform.switching;
         match self.schedule.candidate(switching) {

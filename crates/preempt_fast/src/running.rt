@@ -1,10 +1,10 @@
 // The run of a script.
 ghost use Rattle.std.specs.Prelude.{◌≡◌, ◌<◌, ◌≤◌, ◌^◌, length, IfOk};
-ghost use Rattle.preempt_machine.specs.Machine.{started};
+ghost use Rattle.preempt_machine.specs.Machine.{start_machine};
 ghost use Rattle.preempt_machine.specs.Safe.{system_of, NamesTasks};
-ghost use Rattle.preempt_machine.specs.Starts.{start_cache, start_memory, state_after};
+ghost use Rattle.preempt_machine.specs.Starts.{start_cache, start_memory, script_end_state};
 ghost use Rattle.preempt_fast.specs.Fast.{IsOutcome};
-ghost use Rattle.preempt_fast.specs.Parts.{machine_of, IsMachine, IsRunOf};
+ghost use Rattle.preempt_fast.specs.Parts.{fast_machine_of, IsFastMachine, RunsCode};
 
 use crate::decoded::Decoded;
 use crate::jobs::Core;
@@ -24,9 +24,9 @@ fn load(alloc: Global, code: &CodeMap, set: &TaskSet, script: &Script) -> Result
     requires plans { length code.now.plans ≡ length set.now.tasks }
     requires tasks { NamesTasks set.now script.now.jobs }
     requires jobs { length script.now.jobs < 2 ^ 32 }
-    ensures started { IfOk result (λ parts. machine_of parts ≡ started (system_of set.now code.now) (start_cache set.now.platform script.now.cache) (start_memory code.now.images) script.now.jobs) }
-    ensures machine { IfOk result IsMachine }
-    ensures run { IfOk result (IsRunOf code.now) }
+    ensures started { IfOk result (λ parts. fast_machine_of parts ≡ start_machine (system_of set.now code.now) (start_cache set.now.platform script.now.cache) (start_memory code.now.images) script.now.jobs) }
+    ensures machine { IfOk result IsFastMachine }
+    ensures run { IfOk result (RunsCode code.now) }
     ensures platform { IfOk result (λ parts. parts.core.geometry.platform ≡ set.now.platform) }
 {
     let memory = start_memory(alloc, code)?;
@@ -64,7 +64,7 @@ pub fn run_fast(
     requires plans { length code.now.plans ≡ length set.now.tasks }
     requires tasks { NamesTasks set.now script.now.jobs }
     requires jobs { length script.now.jobs < 2 ^ 32 }
-    ensures { IfOk result (λ outcome. IsOutcome (state_after set.now code.now script.now) outcome.0.items outcome.1) }
+    ensures { IfOk result (λ outcome. IsOutcome (script_end_state set.now code.now script.now) outcome.0.items outcome.1) }
 {
     let mut parts = load(alloc, code, set, script)?;
     while parts.schedule.steps < script.cycles {

@@ -8,7 +8,7 @@ use Rattle.crpd_base.proofs.Options.{some_injective, none_some}
 use Rattle.crpd_base.specs.declared.data.ScriptJob.{ScriptJob}
 use Rattle.crpd_base.specs.declared.data.Switching.{Switching}
 use Rattle.crpd_base.specs.declared.data.Switching.TheVariants.{Cycle, Instruction}
-use Rattle.preempt_machine.specs.Machine.{System, Standing, Open, Answered, Faulted, Job, Machine, job_at, no_job, number_of}
+use Rattle.preempt_machine.specs.Machine.{System, Standing, Open, Answered, Faulted, Job, Machine, job_at, no_job, number_in_script}
 use Rattle.preempt_machine.specs.Step.{is_open, is_ready, comes_before, before, keeps_core, candidate, candidate_by}
 use Rattle.preempt_machine.specs.Candidate.{task_of, job_number, IsReady, ComesBefore, higher, earlier, smaller, KeepsCore, IsCandidate, the_owner, the_first, CandidateLaw, NoCandidateLaw, OneCandidateLaw}
 use Rattle.preempt_machine.proofs.Order.{IsBest, first_ready_is}
@@ -59,7 +59,7 @@ place_number m x y same l below =
     subst (λ t. job_number m x < number_of_lines m t y) same grows
   where
     number_of_lines : Machine → ℕ → ℕ → ℕ
-    number_of_lines m t y = number_of (map (λ (job : Job). job.line) m.jobs) t y
+    number_of_lines m t y = number_in_script (map (λ (job : Job). job.line) m.jobs) t y
 
 comes_first : (m : Machine) (x y : ℕ) → y < length m.jobs → before m.jobs x y ≡ true → ComesBefore m x y
 comes_first m x y below b =

@@ -7,13 +7,13 @@ use Rattle.crpd_base.specs.declared.data.Switching.TheVariants.{Cycle, Instructi
 use Rattle.crpd_base.specs.declared.data.ScriptJob.{ScriptJob}
 use Rattle.crpd_base.specs.declared.data.TaskPlan.{TaskPlan}
 use Rattle.rv_decode.specs.Flow.{flow}
-use Rattle.rv_decode.specs.Table.{row, table}
+use Rattle.rv_decode.specs.Table.{ins_of_word, table}
 use Rattle.rv_decode.specs.Cost.{work_cost}
-use Rattle.rv_core.specs.Effect.{next_pc, written, stored}
-use Rattle.flow_watch.specs.Watch.{step as watch_step, is_kept}
+use Rattle.rv_core.specs.Effect.{next_pc, written, memory_after}
+use Rattle.flow_watch.specs.Watch.{step as watch_step, is_unbroken}
 use Rattle.preempt_machine.specs.declared.End.TheVariants.{Unreleased, Open, Answered, Faulted}
-use Rattle.preempt_machine.specs.Machine.{System, Machine, Job, ins_at, started}
-use Rattle.preempt_machine.specs.Step.{run, candidate, turned, fetch, is_ready, comes_before}
+use Rattle.preempt_machine.specs.Machine.{System, Machine, Job, ins_at, start_machine}
+use Rattle.preempt_machine.specs.Step.{run, candidate, turn_after_step, fetch, is_ready, comes_before}
 use Rattle.preempt_machine.specs.Candidate.{IsReady, ComesBefore, higher, IsCandidate, the_owner, the_first}
 use Rattle.preempt_machine.specs.Safe.{completions}
 
@@ -42,25 +42,25 @@ empty = None ∷ None ∷ None ∷ None ∷ []
 abbrev alone : System
 alone = record { platform = platform Cycle; plans = plan 0x1000 ∷ []; word = words 0x1000 (0x00100293 ∷ 0x00000073 ∷ []) }
 
-alone_at_16 : completions (run alone (started alone empty [] (line 0 0 ∷ [])) 16) ≡ Open ∷ []
-unfolding row table work_cost next_pc written stored watch_step flow ins_at candidate turned is_ready comes_before
+alone_at_16 : completions (run alone (start_machine alone empty [] (line 0 0 ∷ [])) 16) ≡ Open ∷ []
+unfolding ins_of_word table work_cost next_pc written memory_after watch_step flow ins_at candidate turn_after_step is_ready comes_before
 alone_at_16 = refl
 
-alone_at_17 : completions (run alone (started alone empty [] (line 0 0 ∷ [])) 17) ≡ Answered 17 ∷ []
-unfolding row table work_cost next_pc written stored watch_step flow ins_at candidate turned is_ready comes_before
+alone_at_17 : completions (run alone (start_machine alone empty [] (line 0 0 ∷ [])) 17) ≡ Answered 17 ∷ []
+unfolding ins_of_word table work_cost next_pc written memory_after watch_step flow ins_at candidate turn_after_step is_ready comes_before
 alone_at_17 = refl
 
 -- a warm cache; alone jobs of which the second comes too early; an unreleased job
-alone_warm : completions (run alone (started alone (Some 256 ∷ None ∷ None ∷ None ∷ []) [] (line 0 0 ∷ [])) 7) ≡ Answered 7 ∷ []
-unfolding row table work_cost next_pc written stored watch_step flow ins_at candidate turned is_ready comes_before
+alone_warm : completions (run alone (start_machine alone (Some 256 ∷ None ∷ None ∷ None ∷ []) [] (line 0 0 ∷ [])) 7) ≡ Answered 7 ∷ []
+unfolding ins_of_word table work_cost next_pc written memory_after watch_step flow ins_at candidate turn_after_step is_ready comes_before
 alone_warm = refl
 
-alone_twice : completions (run alone (started alone empty [] (line 0 0 ∷ line 0 99 ∷ [])) 200) ≡ Answered 17 ∷ Answered 106 ∷ []
-unfolding row table work_cost next_pc written stored watch_step flow ins_at candidate turned is_ready comes_before
+alone_twice : completions (run alone (start_machine alone empty [] (line 0 0 ∷ line 0 99 ∷ [])) 200) ≡ Answered 17 ∷ Answered 106 ∷ []
+unfolding ins_of_word table work_cost next_pc written memory_after watch_step flow ins_at candidate turn_after_step is_ready comes_before
 alone_twice = refl
 
-alone_unreleased : completions (run alone (started alone empty [] (line 0 300 ∷ [])) 200) ≡ Unreleased ∷ []
-unfolding row table work_cost next_pc written stored watch_step flow ins_at candidate turned is_ready comes_before
+alone_unreleased : completions (run alone (start_machine alone empty [] (line 0 300 ∷ [])) 200) ≡ Unreleased ∷ []
+unfolding ins_of_word table work_cost next_pc written memory_after watch_step flow ins_at candidate turn_after_step is_ready comes_before
 alone_unreleased = refl
 
 -- a loop. With bound 2 the watch is broken
@@ -72,26 +72,26 @@ abbrev looped : ℕ → System
 looped bound = record { platform = platform Cycle; plans = loop_plan bound ∷ []; word = words 0x1000 (0x00300293 ∷ 0xFFF28293 ∷ 0xFE029EE3 ∷ 0x00000073 ∷ []) }
 
 abbrev kept_of : Machine → List Bool
-kept_of m = map (λ (job : Job). is_kept job.watch) m.jobs
+kept_of m = map (λ (job : Job). is_unbroken job.watch) m.jobs
 
-loop_open : completions (run (looped 3) (started (looped 3) empty [] (line 0 0 ∷ [])) 26) ≡ Open ∷ []
-unfolding row table work_cost next_pc written stored watch_step flow ins_at candidate turned is_ready comes_before
+loop_open : completions (run (looped 3) (start_machine (looped 3) empty [] (line 0 0 ∷ [])) 26) ≡ Open ∷ []
+unfolding ins_of_word table work_cost next_pc written memory_after watch_step flow ins_at candidate turn_after_step is_ready comes_before
 loop_open = refl
 
-loop_answer : completions (run (looped 3) (started (looped 3) empty [] (line 0 0 ∷ [])) 27) ≡ Answered 27 ∷ []
-unfolding row table work_cost next_pc written stored watch_step flow ins_at candidate turned is_ready comes_before
+loop_answer : completions (run (looped 3) (start_machine (looped 3) empty [] (line 0 0 ∷ [])) 27) ≡ Answered 27 ∷ []
+unfolding ins_of_word table work_cost next_pc written memory_after watch_step flow ins_at candidate turn_after_step is_ready comes_before
 loop_answer = refl
 
-loop_kept : kept_of (run (looped 3) (started (looped 3) empty [] (line 0 0 ∷ [])) 100) ≡ true ∷ []
-unfolding row table work_cost next_pc written stored watch_step flow ins_at candidate turned is_ready comes_before
+loop_kept : kept_of (run (looped 3) (start_machine (looped 3) empty [] (line 0 0 ∷ [])) 100) ≡ true ∷ []
+unfolding ins_of_word table work_cost next_pc written memory_after watch_step flow ins_at candidate turn_after_step is_ready comes_before
 loop_kept = refl
 
-loop_broken : kept_of (run (looped 2) (started (looped 2) empty [] (line 0 0 ∷ [])) 100) ≡ false ∷ []
-unfolding row table work_cost next_pc written stored watch_step flow ins_at candidate turned is_ready comes_before
+loop_broken : kept_of (run (looped 2) (start_machine (looped 2) empty [] (line 0 0 ∷ [])) 100) ≡ false ∷ []
+unfolding ins_of_word table work_cost next_pc written memory_after watch_step flow ins_at candidate turn_after_step is_ready comes_before
 loop_broken = refl
 
-loop_broken_answer : completions (run (looped 2) (started (looped 2) empty [] (line 0 0 ∷ [])) 100) ≡ Answered 27 ∷ []
-unfolding row table work_cost next_pc written stored watch_step flow ins_at candidate turned is_ready comes_before
+loop_broken_answer : completions (run (looped 2) (start_machine (looped 2) empty [] (line 0 0 ∷ [])) 100) ≡ Answered 27 ∷ []
+unfolding ins_of_word table work_cost next_pc written memory_after watch_step flow ins_at candidate turn_after_step is_ready comes_before
 loop_broken_answer = refl
 
 -- a preemption
@@ -103,40 +103,40 @@ pair switching =
       word = λ a. if nat_lt a 0x2000 then words 0x1000 (0x00100293 ∷ 0x00000073 ∷ []) a else words 0x2000 (0x00100293 ∷ 0x00000073 ∷ []) a;
     }
 
-pair_run : completions (run (pair Cycle) (started (pair Cycle) empty [] (line 1 0 ∷ line 0 16 ∷ [])) 100) ≡ Answered 49 ∷ Answered 33 ∷ []
-unfolding row table work_cost next_pc written stored watch_step flow ins_at candidate turned is_ready comes_before
+pair_run : completions (run (pair Cycle) (start_machine (pair Cycle) empty [] (line 1 0 ∷ line 0 16 ∷ [])) 100) ≡ Answered 49 ∷ Answered 33 ∷ []
+unfolding ins_of_word table work_cost next_pc written memory_after watch_step flow ins_at candidate turn_after_step is_ready comes_before
 pair_run = refl
 
-pair_inside_an_instruction : completions (run (pair Cycle) (started (pair Cycle) empty [] (line 1 0 ∷ line 0 15 ∷ [])) 100) ≡ Answered 49 ∷ Answered 32 ∷ []
-unfolding row table work_cost next_pc written stored watch_step flow ins_at candidate turned is_ready comes_before
+pair_inside_an_instruction : completions (run (pair Cycle) (start_machine (pair Cycle) empty [] (line 1 0 ∷ line 0 15 ∷ [])) 100) ≡ Answered 49 ∷ Answered 32 ∷ []
+unfolding ins_of_word table work_cost next_pc written memory_after watch_step flow ins_at candidate turn_after_step is_ready comes_before
 pair_inside_an_instruction = refl
 
-pair_released_together : completions (run (pair Cycle) (started (pair Cycle) empty [] (line 1 0 ∷ line 0 0 ∷ [])) 100) ≡ Answered 34 ∷ Answered 17 ∷ []
-unfolding row table work_cost next_pc written stored watch_step flow ins_at candidate turned is_ready comes_before
+pair_released_together : completions (run (pair Cycle) (start_machine (pair Cycle) empty [] (line 1 0 ∷ line 0 0 ∷ [])) 100) ≡ Answered 34 ∷ Answered 17 ∷ []
+unfolding ins_of_word table work_cost next_pc written memory_after watch_step flow ins_at candidate turn_after_step is_ready comes_before
 pair_released_together = refl
 
-between_instructions_at_6 : completions (run (pair Instruction) (started (pair Instruction) empty [] (line 1 0 ∷ line 0 6 ∷ [])) 100) ≡ Answered 49 ∷ Answered 33 ∷ []
-unfolding row table work_cost next_pc written stored watch_step flow ins_at candidate turned is_ready comes_before
+between_instructions_at_6 : completions (run (pair Instruction) (start_machine (pair Instruction) empty [] (line 1 0 ∷ line 0 6 ∷ [])) 100) ≡ Answered 49 ∷ Answered 33 ∷ []
+unfolding ins_of_word table work_cost next_pc written memory_after watch_step flow ins_at candidate turn_after_step is_ready comes_before
 between_instructions_at_6 = refl
 
-between_instructions_at_15 : completions (run (pair Instruction) (started (pair Instruction) empty [] (line 1 0 ∷ line 0 15 ∷ [])) 100) ≡ Answered 49 ∷ Answered 33 ∷ []
-unfolding row table work_cost next_pc written stored watch_step flow ins_at candidate turned is_ready comes_before
+between_instructions_at_15 : completions (run (pair Instruction) (start_machine (pair Instruction) empty [] (line 1 0 ∷ line 0 15 ∷ [])) 100) ≡ Answered 49 ∷ Answered 33 ∷ []
+unfolding ins_of_word table work_cost next_pc written memory_after watch_step flow ins_at candidate turn_after_step is_ready comes_before
 between_instructions_at_15 = refl
 
-pair_at_every_cycle : completions (run (pair Cycle) (started (pair Cycle) empty [] (line 1 0 ∷ line 0 6 ∷ [])) 100) ≡ Answered 49 ∷ Answered 23 ∷ []
-unfolding row table work_cost next_pc written stored watch_step flow ins_at candidate turned is_ready comes_before
+pair_at_every_cycle : completions (run (pair Cycle) (start_machine (pair Cycle) empty [] (line 1 0 ∷ line 0 6 ∷ [])) 100) ≡ Answered 49 ∷ Answered 23 ∷ []
+unfolding ins_of_word table work_cost next_pc written memory_after watch_step flow ins_at candidate turn_after_step is_ready comes_before
 pair_at_every_cycle = refl
 
 -- in the middle of an instruction the owner keeps the core where switches wait, and the higher job is first elsewhere
 abbrev after_7 : Switching → Machine
-after_7 switching = run (pair switching) (started (pair switching) empty [] (line 1 0 ∷ line 0 6 ∷ [])) 7
+after_7 switching = run (pair switching) (start_machine (pair switching) empty [] (line 1 0 ∷ line 0 6 ∷ [])) 7
 
 owner_keeps : IsCandidate (pair Instruction) (after_7 Instruction) 0
-unfolding row table work_cost next_pc written stored watch_step flow ins_at candidate turned is_ready comes_before
+unfolding ins_of_word table work_cost next_pc written memory_after watch_step flow ins_at candidate turn_after_step is_ready comes_before
 owner_keeps = the_owner (record { waits = refl; owner = refl; ready = record { job = lit< tt; released = lit≤ tt; open_still = refl }; under_way = lit≤ tt })
 
 higher_first : IsCandidate (pair Cycle) (after_7 Cycle) 1
-unfolding row table work_cost next_pc written stored watch_step flow ins_at candidate turned is_ready comes_before
+unfolding ins_of_word table work_cost next_pc written memory_after watch_step flow ins_at candidate turn_after_step is_ready comes_before
 higher_first =
     the_first (λ y k. let w : Cycle ≡ Instruction = k.waits in cc)
     (record { ready = record { job = lit< tt; released = lit≤ tt; open_still = refl }; first = first_of_two })
@@ -146,8 +146,8 @@ higher_first =
     first_of_two (suc zero) r = inl refl
     first_of_two (suc (suc y)) r = absurd (let l : suc (suc y) < 2 = r.job in omega arith)
 
-pair_fetch : fetch (pair Cycle) (run (pair Cycle) (started (pair Cycle) empty [] (line 1 0 ∷ line 0 16 ∷ [])) 38) ≡ Some (record { job = 0; address = 0x1004 })
-unfolding row table work_cost next_pc written stored watch_step flow ins_at candidate turned is_ready comes_before
+pair_fetch : fetch (pair Cycle) (run (pair Cycle) (start_machine (pair Cycle) empty [] (line 1 0 ∷ line 0 16 ∷ [])) 38) ≡ Some (record { job = 0; address = 0x1004 })
+unfolding ins_of_word table work_cost next_pc written memory_after watch_step flow ins_at candidate turn_after_step is_ready comes_before
 pair_fetch = refl
 
 -- calls. Without the store of x1 the second return goes to 0, where no word is
@@ -159,20 +159,20 @@ calls second =
       word = words 0x1000 (0xFF010113 ∷ second ∷ 0x014000EF ∷ 0x010000EF ∷ 0x00C12083 ∷ 0x01010113 ∷ 0x00008067 ∷ 0x00008067 ∷ []);
     }
 
-calls_run : completions (run (calls 0x00112623) (started (calls 0x00112623) empty [] (line 0 0 ∷ [])) 100) ≡ Answered 50 ∷ []
-unfolding row table work_cost next_pc written stored watch_step flow ins_at candidate turned is_ready comes_before
+calls_run : completions (run (calls 0x00112623) (start_machine (calls 0x00112623) empty [] (line 0 0 ∷ [])) 100) ≡ Answered 50 ∷ []
+unfolding ins_of_word table work_cost next_pc written memory_after watch_step flow ins_at candidate turn_after_step is_ready comes_before
 calls_run = refl
 
-calls_kept : kept_of (run (calls 0x00112623) (started (calls 0x00112623) empty [] (line 0 0 ∷ [])) 100) ≡ true ∷ []
-unfolding row table work_cost next_pc written stored watch_step flow ins_at candidate turned is_ready comes_before
+calls_kept : kept_of (run (calls 0x00112623) (start_machine (calls 0x00112623) empty [] (line 0 0 ∷ [])) 100) ≡ true ∷ []
+unfolding ins_of_word table work_cost next_pc written memory_after watch_step flow ins_at candidate turn_after_step is_ready comes_before
 calls_kept = refl
 
-calls_fault : completions (run (calls 0x00000013) (started (calls 0x00000013) empty [] (line 0 0 ∷ [])) 100) ≡ Faulted ∷ []
-unfolding row table work_cost next_pc written stored watch_step flow ins_at candidate turned is_ready comes_before
+calls_fault : completions (run (calls 0x00000013) (start_machine (calls 0x00000013) empty [] (line 0 0 ∷ [])) 100) ≡ Faulted ∷ []
+unfolding ins_of_word table work_cost next_pc written memory_after watch_step flow ins_at candidate turn_after_step is_ready comes_before
 calls_fault = refl
 
-calls_broken : kept_of (run (calls 0x00000013) (started (calls 0x00000013) empty [] (line 0 0 ∷ [])) 100) ≡ false ∷ []
-unfolding row table work_cost next_pc written stored watch_step flow ins_at candidate turned is_ready comes_before
+calls_broken : kept_of (run (calls 0x00000013) (start_machine (calls 0x00000013) empty [] (line 0 0 ∷ [])) 100) ≡ false ∷ []
+unfolding ins_of_word table work_cost next_pc written memory_after watch_step flow ins_at candidate turn_after_step is_ready comes_before
 calls_broken = refl
 
 -- three tasks, nested preemptions
@@ -190,6 +190,6 @@ nested =
       word = nested_word;
     }
 
-nested_run : completions (run nested (started nested (None ∷ None ∷ None ∷ None ∷ empty) [] (line 2 0 ∷ line 1 31 ∷ line 0 62 ∷ [])) 180) ≡ Answered 175 ∷ Answered 146 ∷ Answered 117 ∷ []
-unfolding row table work_cost next_pc written stored watch_step flow ins_at candidate turned is_ready comes_before
+nested_run : completions (run nested (start_machine nested (None ∷ None ∷ None ∷ None ∷ empty) [] (line 2 0 ∷ line 1 31 ∷ line 0 62 ∷ [])) 180) ≡ Answered 175 ∷ Answered 146 ∷ Answered 117 ∷ []
+unfolding ins_of_word table work_cost next_pc written memory_after watch_step flow ins_at candidate turn_after_step is_ready comes_before
 nested_run = refl

@@ -8,7 +8,7 @@ use Rattle.std.proofs.lemmas.List.{length-map}
 use Rattle.crpd_base.specs.declared.data.ScriptJob.{ScriptJob}
 use Rattle.preempt_machine.specs.Machine.{Job, job_at, no_job}
 use Rattle.preempt_machine.specs.Step.{is_open, is_ready, comes_before, before, first_ready}
-use Rattle.preempt_machine.specs.Kept.{line_at, task_at, place_at, release_at, lines_of, IsEarlier, IsDue, IsWaiting, HasCome, IsFirstCome, NoneHasCome}
+use Rattle.preempt_machine.specs.Schedule.{script_line, due_task, due_place, due_release, script_lines, IsDueBefore, IsReleaseOrder, HasTaskHeads, IsReleasedBy, IsFirstReleased, NoneIsReleased}
 use Rattle.preempt_machine.proofs.Order.{IsFirst, IsBest, comes_before_asym, first_ready_is}
 use Rattle.preempt_machine.proofs.Steps.{ready_open, ready_released, ready_from}
 
@@ -19,41 +19,41 @@ comes a x b y (inr (e, inl h)) = grind (arith, nat_tests)
 comes a x b y (inr (e, inr (f, h))) = grind (arith, nat_tests)
 
 -- the lines of jobs
-pub line_is : (jobs : List Job) (x : ℕ) → line_at (lines_of jobs) x ≡ (job_at jobs x).line
+pub line_is : (jobs : List Job) (x : ℕ) → script_line (script_lines jobs) x ≡ (job_at jobs x).line
 line_is jobs x = get_or-map (λ (job : Job). job.line) jobs x no_job
 
-pub lines_long : (jobs : List Job) → length (lines_of jobs) ≡ length jobs
+pub lines_long : (jobs : List Job) → length (script_lines jobs) ≡ length jobs
 lines_long jobs = length-map jobs (λ (job : Job). job.line)
 
 -- a position that waits is that of an open job
-ready_at : (due : List (ℕ × ℕ)) (heads : List ℕ) (jobs : List Job) (now p : ℕ) → IsDue (lines_of jobs) due → IsWaiting (lines_of jobs) due heads jobs → slice_index heads (task_at (lines_of jobs) due p) ≤ p → HasCome due now p → is_ready now (job_at jobs (place_at due p)) ≡ true
+ready_at : (due : List (ℕ × ℕ)) (heads : List ℕ) (jobs : List Job) (now p : ℕ) → IsReleaseOrder (script_lines jobs) due → HasTaskHeads (script_lines jobs) due heads jobs → slice_index heads (due_task (script_lines jobs) due p) ≤ p → IsReleasedBy due now p → is_ready now (job_at jobs (due_place due p)) ≡ true
 ready_at due heads jobs now p d w le come =
-    let release : release_at due p ≡ (job_at jobs (place_at due p)).line.release = d.releases p come.0 ∙ ap (λ (l : ScriptJob). l.release) (line_is jobs (place_at due p)) in
-    ready_from now (job_at jobs (place_at due p)) (w.open_still p come.0 le) (omega (arith, come.1))
+    let release : due_release due p ≡ (job_at jobs (due_place due p)).line.release = d.releases p come.0 ∙ ap (λ (l : ScriptJob). l.release) (line_is jobs (due_place due p)) in
+    ready_from now (job_at jobs (due_place due p)) (w.open_still p come.0 le) (omega (arith, come.1))
 
 -- where a ready job stands: not before the first one of its task that waits, which has come too
 record StandsAt (due : List (ℕ × ℕ)) (heads : List ℕ) (lines : List ScriptJob) (now x r : ℕ) : Type 0 where
-  place : place_at due r ≡ x
+  place : due_place due r ≡ x
   inside : r < length due
-  waits : slice_index heads (task_at lines due r) ≤ r
-  come : HasCome due now (slice_index heads (task_at lines due r))
+  waits : slice_index heads (due_task lines due r) ≤ r
+  come : IsReleasedBy due now (slice_index heads (due_task lines due r))
 
-earlier_release : (a b : ℕ × ℕ) → IsEarlier a b → a.0 ≤ b.0
+earlier_release : (a b : ℕ × ℕ) → IsDueBefore a b → a.0 ≤ b.0
 earlier_release a b (inl h) = omega arith
 earlier_release a b (inr h) = omega (arith, h.0)
 
-pub release_le : (lines : List ScriptJob) (due : List (ℕ × ℕ)) (p r : ℕ) → IsDue lines due → p ≤ r → r < length due → release_at due p ≤ release_at due r
+pub release_le : (lines : List ScriptJob) (due : List (ℕ × ℕ)) (p r : ℕ) → IsReleaseOrder lines due → p ≤ r → r < length due → due_release due p ≤ due_release due r
 release_le lines due p r d le b =
     elim (cases_eq p r) [
-      | inl e ↦ let f = ap (release_at due) e in omega (arith, f)
+      | inl e ↦ let f = ap (due_release due) e in omega (arith, f)
       | inr ne ↦ earlier_release (slice_index_or due p (0, 0)) (slice_index_or due r (0, 0)) (d.ordered p r (omega arith) b)
     ]
 
-stands : (due : List (ℕ × ℕ)) (heads : List ℕ) (jobs : List Job) (now x : ℕ) → IsDue (lines_of jobs) due → IsWaiting (lines_of jobs) due heads jobs → x < length jobs → is_ready now (job_at jobs x) ≡ true → (r : ℕ) × StandsAt due heads (lines_of jobs) now x r
+stands : (due : List (ℕ × ℕ)) (heads : List ℕ) (jobs : List Job) (now x : ℕ) → IsReleaseOrder (script_lines jobs) due → HasTaskHeads (script_lines jobs) due heads jobs → x < length jobs → is_ready now (job_at jobs x) ≡ true → (r : ℕ) × StandsAt due heads (script_lines jobs) now x r
 stands due heads jobs now x d w below ready =
     let (r, inside, place) = d.every x (omega (arith, lines_long jobs)) in
-    let head = slice_index heads (task_at (lines_of jobs) due r) in
-    let release : release_at due r ≡ (job_at jobs x).line.release = d.releases r inside ∙ ap (λ (l : ScriptJob). l.release) (ap (line_at (lines_of jobs)) place ∙ line_is jobs x) in
+    let head = slice_index heads (due_task (script_lines jobs) due r) in
+    let release : due_release due r ≡ (job_at jobs x).line.release = d.releases r inside ∙ ap (λ (l : ScriptJob). l.release) (ap (script_line (script_lines jobs)) place ∙ line_is jobs x) in
     let waits : head ≤ r = elim (cases_lt r head) [
       | inl l ↦ absurd (false≢true (sym (ap (λ k. is_open (job_at jobs k).standing) (sym place) ∙ w.over r inside l) ∙ ready_open now (job_at jobs x) ready))
       | inr g ↦ g
@@ -63,16 +63,16 @@ stands due heads jobs now x d w below ready =
         place = place;
         inside = inside;
         waits = waits;
-        come = (omega arith, omega (arith, release_le (lines_of jobs) due head r d waits inside, release, ready_released now (job_at jobs x) ready));
+        come = (omega arith, omega (arith, release_le (script_lines jobs) due head r d waits inside, release, ready_released now (job_at jobs x) ready));
       },
     )
 
 -- an earlier position, or one of a higher task, is that of a job that comes before
-ahead : (due : List (ℕ × ℕ)) (jobs : List Job) (p r : ℕ) → IsDue (lines_of jobs) due → p < length due → r < length due → (task_at (lines_of jobs) due p < task_at (lines_of jobs) due r) ⊎ ((task_at (lines_of jobs) due p ≡ task_at (lines_of jobs) due r) × IsEarlier (slice_index_or due p (0, 0)) (slice_index_or due r (0, 0))) → before jobs (place_at due p) (place_at due r) ≡ true
+ahead : (due : List (ℕ × ℕ)) (jobs : List Job) (p r : ℕ) → IsReleaseOrder (script_lines jobs) due → p < length due → r < length due → (due_task (script_lines jobs) due p < due_task (script_lines jobs) due r) ⊎ ((due_task (script_lines jobs) due p ≡ due_task (script_lines jobs) due r) × IsDueBefore (slice_index_or due p (0, 0)) (slice_index_or due r (0, 0))) → before jobs (due_place due p) (due_place due r) ≡ true
 ahead due jobs p r d a b h =
-    let task : (q : ℕ) → task_at (lines_of jobs) due q ≡ (job_at jobs (place_at due q)).line.task.0 = λ q. ap (λ (l : ScriptJob). l.task.0) (line_is jobs (place_at due q)) in
-    let release : (q : ℕ) → q < length due → release_at due q ≡ (job_at jobs (place_at due q)).line.release = λ q c. d.releases q c ∙ ap (λ (l : ScriptJob). l.release) (line_is jobs (place_at due q)) in
-    comes (job_at jobs (place_at due p)).line (place_at due p) (job_at jobs (place_at due r)).line (place_at due r)
+    let task : (q : ℕ) → due_task (script_lines jobs) due q ≡ (job_at jobs (due_place due q)).line.task.0 = λ q. ap (λ (l : ScriptJob). l.task.0) (line_is jobs (due_place due q)) in
+    let release : (q : ℕ) → q < length due → due_release due q ≡ (job_at jobs (due_place due q)).line.release = λ q c. d.releases q c ∙ ap (λ (l : ScriptJob). l.release) (line_is jobs (due_place due q)) in
+    comes (job_at jobs (due_place due p)).line (due_place due p) (job_at jobs (due_place due r)).line (due_place due r)
     (elim h [
       | inl l ↦ inl (omega (arith, task p, task r))
       | inr (e, inl l) ↦ inr (sym (task p) ∙ e ∙ task r, inl (omega (arith, release p a, release r b)))
@@ -80,26 +80,26 @@ ahead due jobs p r d a b h =
     ])
 
 -- the first job of the first task of which it has come
-pub come_is_first : (due : List (ℕ × ℕ)) (heads : List ℕ) (jobs : List Job) (now place : ℕ) → IsDue (lines_of jobs) due → IsWaiting (lines_of jobs) due heads jobs → IsFirstCome due heads now place → IsFirst now jobs (length jobs) place
+pub come_is_first : (due : List (ℕ × ℕ)) (heads : List ℕ) (jobs : List Job) (now place : ℕ) → IsReleaseOrder (script_lines jobs) due → HasTaskHeads (script_lines jobs) due heads jobs → IsFirstReleased due heads now place → IsFirst now jobs (length jobs) place
 come_is_first due heads jobs now place d w f =
-    let lines = lines_of jobs in
+    let lines = script_lines jobs in
     let head = slice_index heads f.task in
-    let task : task_at lines due head ≡ f.task = w.head f.task f.below f.come.0 in
-    let same : slice_index heads (task_at lines due head) ≡ head = ap (slice_index heads) task in
+    let task : due_task lines due head ≡ f.task = w.head f.task f.below f.come.0 in
+    let same : slice_index heads (due_task lines due head) ≡ head = ap (slice_index heads) task in
     record {
       below = subst (λ x. x < length jobs) (sym f.is) (omega (arith, d.places head f.come.0, lines_long jobs));
       ready = subst (λ x. is_ready now (job_at jobs x) ≡ true) (sym f.is) (ready_at due heads jobs now head d w (omega (arith, same)) f.come);
       first = λ y b ready.
           let (r, s) = stands due heads jobs now y d w b ready in
-          elim (cases_lt (task_at lines due r) f.task) [
-            | inl l ↦ absurd (f.before (task_at lines due r) l s.come)
-            | inr g ↦ elim (cases_lt f.task (task_at lines due r)) [
+          elim (cases_lt (due_task lines due r) f.task) [
+            | inl l ↦ absurd (f.before (due_task lines due r) l s.come)
+            | inr g ↦ elim (cases_lt f.task (due_task lines due r)) [
               | inl l ↦ inr (rw (f.is, sym s.place) (ahead due jobs head r d f.come.0 s.inside (inl (omega (arith, task)))))
               | inr k ↦
-                  let even : task_at lines due r ≡ f.task = omega arith in
-                  let at : slice_index heads (task_at lines due r) ≡ head = ap (slice_index heads) even in
+                  let even : due_task lines due r ≡ f.task = omega arith in
+                  let at : slice_index heads (due_task lines due r) ≡ head = ap (slice_index heads) even in
                   elim (cases_eq head r) [
-                    | inl e ↦ inl (sym s.place ∙ ap (place_at due) (sym e) ∙ sym f.is)
+                    | inl e ↦ inl (sym s.place ∙ ap (due_place due) (sym e) ∙ sym f.is)
                     | inr ne ↦ inr (rw (f.is, sym s.place) (ahead due jobs head r d f.come.0 s.inside (inr (task ∙ sym even, d.ordered head r (omega (arith, s.waits)) s.inside))))
                   ]
             ]
@@ -107,12 +107,12 @@ come_is_first due heads jobs now place d w f =
     }
 
 -- and where none has come no job is ready
-pub none_come : (due : List (ℕ × ℕ)) (heads : List ℕ) (jobs : List Job) (now : ℕ) → IsDue (lines_of jobs) due → IsWaiting (lines_of jobs) due heads jobs → NoneHasCome due heads now → (x : ℕ) → x < length jobs → is_ready now (job_at jobs x) ≡ false
+pub none_come : (due : List (ℕ × ℕ)) (heads : List ℕ) (jobs : List Job) (now : ℕ) → IsReleaseOrder (script_lines jobs) due → HasTaskHeads (script_lines jobs) due heads jobs → NoneIsReleased due heads now → (x : ℕ) → x < length jobs → is_ready now (job_at jobs x) ≡ false
 none_come due heads jobs now d w none x below =
     elim (cases_Bool (is_ready now (job_at jobs x))) [
       | inl t ↦
           let (r, s) = stands due heads jobs now x d w below t in
-          absurd (none (task_at (lines_of jobs) due r) (w.tasks (place_at due r) (d.places r s.inside)) s.come)
+          absurd (none (due_task (script_lines jobs) due r) (w.tasks (due_place due r) (d.places r s.inside)) s.come)
       | inr f ↦ f
     ]
 
@@ -133,6 +133,6 @@ best_none now jobs none None h = refl
 best_none now jobs none (Some i) h = absurd (false≢true (sym (none i h.below) ∙ h.ready))
 
 -- what the order's first job is
-pub first_is : (due : List (ℕ × ℕ)) (heads : List ℕ) (jobs : List Job) (now : ℕ) (found : Option ℕ) → IsDue (lines_of jobs) due → IsWaiting (lines_of jobs) due heads jobs → MatchOption found (NoneHasCome due heads now) (IsFirstCome due heads now) → first_ready now jobs (length jobs) ≡ found
+pub first_is : (due : List (ℕ × ℕ)) (heads : List ℕ) (jobs : List Job) (now : ℕ) (found : Option ℕ) → IsReleaseOrder (script_lines jobs) due → HasTaskHeads (script_lines jobs) due heads jobs → MatchOption found (NoneIsReleased due heads now) (IsFirstReleased due heads now) → first_ready now jobs (length jobs) ≡ found
 first_is due heads jobs now None d w h = best_none now jobs (none_come due heads jobs now d w h) _ (first_ready_is now jobs (length jobs))
 first_is due heads jobs now (Some place) d w h = best_is now jobs place (come_is_first due heads jobs now place d w h) _ (first_ready_is now jobs (length jobs))

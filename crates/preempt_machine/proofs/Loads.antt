@@ -5,14 +5,14 @@ use Rattle.std.proofs.lemmas.List.{ext_get_or, get_or-replicate, length-replicat
 use Rattle.crpd_base.specs.declared.data.Image.{Image}
 use Rattle.crpd_base.specs.declared.data.Platform.{Platform}
 use Rattle.crpd_base.specs.declared.data.Segment.{Segment}
-use Rattle.icache.specs.Cache.{Cache, accessed, held, set_of}
+use Rattle.icache.specs.Cache.{Cache, cache_after_access, held, set_of}
 use Rattle.rv_core.specs.Memory.{Memory, put_all, put_byte}
 use Rattle.preempt_machine.specs.Starts.{start_cache, with_blocks, with_bytes, with_images, with_segment, with_segments}
 
 -- one more at the end
-blocks_more : (p : Platform) (cache : Cache) (xs : List ℕ) (b : ℕ) → with_blocks p cache (xs ++ b ∷ []) ≡ accessed p (with_blocks p cache xs) b
+blocks_more : (p : Platform) (cache : Cache) (xs : List ℕ) (b : ℕ) → with_blocks p cache (xs ++ b ∷ []) ≡ cache_after_access p (with_blocks p cache xs) b
 blocks_more p cache [] b = refl
-blocks_more p cache (x ∷ xs) b = blocks_more p (accessed p cache x) xs b
+blocks_more p cache (x ∷ xs) b = blocks_more p (cache_after_access p cache x) xs b
 
 -- the bytes of a segment
 pub bytes_are : (memory : Memory) (a : ℕ) (bytes : List ℕ) → put_all memory a bytes ≡ with_bytes memory a bytes
@@ -28,7 +28,7 @@ images_more memory [] i = refl
 images_more memory (x ∷ xs) i = images_more (with_segments memory x.segments) xs i
 
 -- up to one more
-pub next_block : (p : Platform) (cache : Cache) (xs : List ℕ) (i : ℕ) → i < length xs → with_blocks p cache (take (i + 1) xs) ≡ accessed p (with_blocks p cache (take i xs)) (get_or xs i 0)
+pub next_block : (p : Platform) (cache : Cache) (xs : List ℕ) (i : ℕ) → i < length xs → with_blocks p cache (take (i + 1) xs) ≡ cache_after_access p (with_blocks p cache (take i xs)) (get_or xs i 0)
 next_block p cache xs i h = ap (with_blocks p cache) (take_more xs i 0 h) ∙ blocks_more p cache (take i xs) (get_or xs i 0)
 
 pub next_segment : (memory : Memory) (xs : List Segment) (i : ℕ) (d : Segment) → i < length xs → with_segments memory (take (i + 1) xs) ≡ with_segment (with_segments memory (take i xs)) (get_or xs i d)
@@ -45,7 +45,7 @@ empty_is n cache long none =
 -- the cache at the start of a script has room for 512 sets
 blocks_length : (p : Platform) (cache : Cache) (blocks : List ℕ) → length (with_blocks p cache blocks) ≡ length cache
 blocks_length p cache [] = refl
-blocks_length p cache (b ∷ blocks) = blocks_length p (accessed p cache b) blocks ∙ length-set cache (set_of p b) (Some b)
+blocks_length p cache (b ∷ blocks) = blocks_length p (cache_after_access p cache b) blocks ∙ length-set cache (set_of p b) (Some b)
 
 pub start_cache_length : (p : Platform) (blocks : List ℕ) → length (start_cache p blocks) ≡ 512
 unfolding start_cache

@@ -4,7 +4,7 @@ use Rattle.std.proofs.lemmas.Bool.{cases_Bool, cases_lt, false≢true}
 use Rattle.std.proofs.lemmas.Bool.Decides.{nat_tests}
 use Rattle.crpd_base.specs.declared.data.ScriptJob.{ScriptJob}
 use Rattle.preempt_machine.specs.Machine.{Job, job_at}
-use Rattle.preempt_machine.specs.Step.{is_ready, comes_before, before, better, first_ready}
+use Rattle.preempt_machine.specs.Step.{is_ready, comes_before, before, better_candidate, first_ready}
 
 pub comes_before_trans : (a : ScriptJob) (x : ℕ) (b : ScriptJob) (y : ℕ) (c : ScriptJob) (z : ℕ) → comes_before a x b y ≡ true → comes_before b y c z ≡ true → comes_before a x c z ≡ true
 unfolding comes_before
@@ -33,7 +33,7 @@ IsBest time jobs n (Some i) = IsFirst time jobs n i
 one_more : (P : ℕ → Type 0) (n : ℕ) → ((j : ℕ) → j < n → P j) → P n → (j : ℕ) → j < suc n → P j
 one_more P n below here j h = elim (cases_lt j n) [ inl l ↦ below j l | inr g ↦ let e : n ≡ j = omega arith in subst P e here ]
 
-better_is : (time : ℕ) (jobs : List Job) (n : ℕ) (best : Option ℕ) → IsBest time jobs n best → IsBest time jobs (suc n) (better time jobs n best)
+better_is : (time : ℕ) (jobs : List Job) (n : ℕ) (best : Option ℕ) → IsBest time jobs n best → IsBest time jobs (suc n) (better_candidate time jobs n best)
 better_is time jobs n None h =
     elim (cases_Bool (is_ready time (job_at jobs n))) [
       | inl r ↦ rw r (record {

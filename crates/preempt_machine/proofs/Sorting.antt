@@ -9,14 +9,14 @@ use Rattle.std.proofs.lemmas.Bool.Decides.{nat_tests}
 use Rattle.std.proofs.lemmas.List.Edits.{length-swap, swapped_from_swap}
 use Rattle.std.proofs.lemmas.List.Sorted.{IsPermutation-keeps}
 use Rattle.crpd_base.specs.declared.data.ScriptJob.{ScriptJob}
-use Rattle.preempt_machine.specs.Kept.{line_at, place_at, release_at, IsEarlier, IsDue, AreListed}
+use Rattle.preempt_machine.specs.Schedule.{script_line, due_place, due_release, IsDueBefore, IsReleaseOrder, AreListed}
 
 -- the entries are those of the lines, each at one position
 record AreEntries (lines : List ScriptJob) (l : List (ℕ × ℕ)) : Type 0 where
-  places : (p : ℕ) → p < length l → place_at l p < length lines
-  releases : (p : ℕ) → p < length l → release_at l p ≡ (line_at lines (place_at l p)).release
-  one : (p r : ℕ) → p < length l → r < length l → place_at l p ≡ place_at l r → p ≡ r
-  every : (x : ℕ) → x < length lines → (p : ℕ) × (p < length l) × (place_at l p ≡ x)
+  places : (p : ℕ) → p < length l → due_place l p < length lines
+  releases : (p : ℕ) → p < length l → due_release l p ≡ (script_line lines (due_place l p)).release
+  one : (p r : ℕ) → p < length l → r < length l → due_place l p ≡ due_place l r → p ≡ r
+  every : (x : ℕ) → x < length lines → (p : ℕ) × (p < length l) × (due_place l p ≡ x)
 
 listed_entries : (lines : List ScriptJob) (l : List (ℕ × ℕ)) → AreListed lines l → AreEntries lines l
 listed_entries lines l h =
@@ -24,7 +24,7 @@ listed_entries lines l h =
       places = λ p b. let e = ap (λ (x : ℕ × ℕ). x.1) (h.each p (omega (arith, h.long))) in omega (arith, e, h.long);
       releases = λ p b.
           let is = h.each p (omega (arith, h.long)) in
-          ap (λ (x : ℕ × ℕ). x.0) is ∙ ap (λ k. (line_at lines k).release) (sym (ap (λ (x : ℕ × ℕ). x.1) is));
+          ap (λ (x : ℕ × ℕ). x.0) is ∙ ap (λ k. (script_line lines k).release) (sym (ap (λ (x : ℕ × ℕ). x.1) is));
       one = λ p r a b e. sym (ap (λ (x : ℕ × ℕ). x.1) (h.each p (omega (arith, h.long)))) ∙ e ∙ ap (λ (x : ℕ × ℕ). x.1) (h.each r (omega (arith, h.long)));
       every = λ x b. (x, omega (arith, h.long), ap (λ (y : ℕ × ℕ). y.1) (h.each x b));
     }
@@ -79,8 +79,8 @@ swap_at l i j p a b =
 swapped_entries : (lines : List ScriptJob) (l : List (ℕ × ℕ)) (i j : ℕ) → i < length l → j < length l → AreEntries lines l → AreEntries lines (swap l i j)
 swapped_entries lines l i j a b h =
     let long = length-swap l i j in
-    let place : (p : ℕ) → place_at (swap l i j) p ≡ place_at l (other i j p) = λ p. ap (λ (x : ℕ × ℕ). x.1) (swap_at l i j p a b) in
-    let release : (p : ℕ) → release_at (swap l i j) p ≡ release_at l (other i j p) = λ p. ap (λ (x : ℕ × ℕ). x.0) (swap_at l i j p a b) in
+    let place : (p : ℕ) → due_place (swap l i j) p ≡ due_place l (other i j p) = λ p. ap (λ (x : ℕ × ℕ). x.1) (swap_at l i j p a b) in
+    let release : (p : ℕ) → due_release (swap l i j) p ≡ due_release l (other i j p) = λ p. ap (λ (x : ℕ × ℕ). x.0) (swap_at l i j p a b) in
     let below : (p : ℕ) → p < length (swap l i j) → other i j p < length l = λ p c. other_below i j p (length l) a b (omega (arith, long)) in
     record {
       places = λ p c. rw (place p) (h.places (other i j p) (below p c));
@@ -90,7 +90,7 @@ swapped_entries lines l i j a b h =
           sym (other_back i j p) ∙ ap (other i j) same ∙ other_back i j r;
       every = λ x c.
           let (p, d, e) = h.every x c in
-          (other i j p, subst (λ n. other i j p < n) (sym long) (other_below i j p (length l) a b d), place (other i j p) ∙ ap (place_at l) (other_back i j p) ∙ e);
+          (other i j p, subst (λ n. other i j p < n) (sym long) (other_below i j p (length l) a b d), place (other i j p) ∙ ap (due_place l) (other_back i j p) ∙ e);
     }
 
 -- one entry stands before another, or is equal to it
@@ -127,16 +127,16 @@ far l next p (suc r) a b =
           (subst (λ n. IsAtMost (get_or l r (0, 0)) (get_or l n (0, 0))) k (next r (omega arith)))
     ]
 
-strictly : (lines : List ScriptJob) (l : List (ℕ × ℕ)) (p r : ℕ) → AreEntries lines l → p < r → r < length l → IsAtMost (get_or l p (0, 0)) (get_or l r (0, 0)) → IsEarlier (get_or l p (0, 0)) (get_or l r (0, 0))
+strictly : (lines : List ScriptJob) (l : List (ℕ × ℕ)) (p r : ℕ) → AreEntries lines l → p < r → r < length l → IsAtMost (get_or l p (0, 0)) (get_or l r (0, 0)) → IsDueBefore (get_or l p (0, 0)) (get_or l r (0, 0))
 strictly lines l p r h a b (inl x) = inl x
 strictly lines l p r h a b (inr (e, x)) =
-    elim (cases_lt (place_at l p) (place_at l r)) [
+    elim (cases_lt (due_place l p) (due_place l r)) [
       | inl y ↦ inr (e, y)
       | inr g ↦ let same = h.one p r (omega arith) b (omega arith) in absurd (omega arith)
     ]
 
 -- a sorted list of the entries is the order by release
-pub sorted_due : (lines : List ScriptJob) (l m : List (ℕ × ℕ)) → AreListed lines l → IsPermutation l m → IsSortedBy (λ (x y : ℕ × ℕ). is_lt (ordering_then (nat_cmp x.0 y.0) (nat_cmp x.1 y.1))) m → IsDue lines m
+pub sorted_due : (lines : List ScriptJob) (l m : List (ℕ × ℕ)) → AreListed lines l → IsPermutation l m → IsSortedBy (λ (x y : ℕ × ℕ). is_lt (ordering_then (nat_cmp x.0 y.0) (nat_cmp x.1 y.1))) m → IsReleaseOrder lines m
 sorted_due lines l m h moved up =
     let entries = IsPermutation-keeps l (AreEntries lines) (listed_entries lines l h) (λ k i j a b e. swapped_entries lines k i j a b e) m moved in
     record {

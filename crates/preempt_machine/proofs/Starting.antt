@@ -13,48 +13,48 @@ use Rattle.crpd_base.specs.declared.data.TaskPlan.{TaskPlan}
 use Rattle.preempt_machine.specs.declared.Completion.{Completion}
 use Rattle.preempt_machine.specs.declared.End.TheVariants as «end»
 use Rattle.std.proofs.lemmas.Option.{get_or_from_slice_get}
-use Rattle.flow_watch.specs.Turns.{HasTurns}
+use Rattle.flow_watch.specs.Iterations.{HasIterations}
 use Rattle.icache.specs.Cache.{Cache}
 use Rattle.rv_core.specs.Memory.{Memory}
-use Rattle.preempt_machine.specs.Machine.{System, Job, Machine, Open, job_at, new_job, no_job, number_of, started}
+use Rattle.preempt_machine.specs.Machine.{System, Job, Machine, Open, job_at, new_job, no_job, number_in_script, start_machine}
 use Rattle.preempt_machine.specs.Step.{is_open}
 use Rattle.preempt_machine.specs.Candidate.{job_number, task_of}
 use Rattle.preempt_machine.specs.Safe.{completions, end_by}
-use Rattle.preempt_machine.specs.Running.{completion_at, job_id, HasPlan, IsAt}
-use Rattle.preempt_machine.specs.Kept.{line_at, lines_of, completion, place_at, task_at, IsDue, IsFirstFrom, IsKept, IsLinked, IsWaiting}
+use Rattle.preempt_machine.specs.Running.{completion_at, job_id, HasPlan, IsJobAt}
+use Rattle.preempt_machine.specs.Schedule.{script_line, script_lines, completion, due_place, due_task, IsReleaseOrder, IsFirstFrom, IsRepresented, IsLinked, HasTaskHeads}
 use Rattle.preempt_machine.proofs.Firsts.{line_is, lines_long}
 use Rattle.preempt_machine.proofs.Numbers.{number_grows}
 
 -- the number of jobs of a task before a place, one place further
-pub number_next : (lines : List ScriptJob) (t k : ℕ) → k < length lines → number_of lines t (k + 1) ≡ number_of lines t k + (if (line_at lines k).task.0 == t then 1 else 0)
+pub number_next : (lines : List ScriptJob) (t k : ℕ) → k < length lines → number_in_script lines t (k + 1) ≡ number_in_script lines t k + (if (script_line lines k).task.0 == t then 1 else 0)
 number_next [] t k h = absurd (omega arith)
 number_next (l ∷ lines) t zero h = none lines where
-  none : (ls : List ScriptJob) → (if l.task.0 == t then 1 else 0) + number_of ls t 0 ≡ 0 + (if l.task.0 == t then 1 else 0)
+  none : (ls : List ScriptJob) → (if l.task.0 == t then 1 else 0) + number_in_script ls t 0 ≡ 0 + (if l.task.0 == t then 1 else 0)
   none [] = omega arith
   none (x ∷ xs) = omega arith
 number_next (l ∷ lines) t (suc k) h =
     let e : suc k + 1 ≡ suc (k + 1) = omega arith in
     let rest = number_next lines t k (omega arith) in
-    ap (number_of (l ∷ lines) t) e ∙ add (if l.task.0 == t then 1 else 0) (number_of lines t (k + 1)) (number_of lines t k) (if (line_at lines k).task.0 == t then 1 else 0) rest
+    ap (number_in_script (l ∷ lines) t) e ∙ add (if l.task.0 == t then 1 else 0) (number_in_script lines t (k + 1)) (number_in_script lines t k) (if (script_line lines k).task.0 == t then 1 else 0) rest
   where
     add : (a b c d : ℕ) → b ≡ c + d → a + b ≡ a + c + d
     add a b c d e = omega arith
 
-pub number_same : (lines : List ScriptJob) (k : ℕ) → k < length lines → number_of lines (line_at lines k).task.0 (k + 1) ≡ number_of lines (line_at lines k).task.0 k + 1
+pub number_same : (lines : List ScriptJob) (k : ℕ) → k < length lines → number_in_script lines (script_line lines k).task.0 (k + 1) ≡ number_in_script lines (script_line lines k).task.0 k + 1
 number_same lines k h =
-    let b : ((line_at lines k).task.0 == (line_at lines k).task.0) ≡ true = eq-eqb _ _ refl in
-    number_next lines (line_at lines k).task.0 k h ∙ rw b refl
+    let b : ((script_line lines k).task.0 == (script_line lines k).task.0) ≡ true = eq-eqb _ _ refl in
+    number_next lines (script_line lines k).task.0 k h ∙ rw b refl
 
-pub number_other : (lines : List ScriptJob) (t k : ℕ) → k < length lines → t ≢ (line_at lines k).task.0 → number_of lines t (k + 1) ≡ number_of lines t k
+pub number_other : (lines : List ScriptJob) (t k : ℕ) → k < length lines → t ≢ (script_line lines k).task.0 → number_in_script lines t (k + 1) ≡ number_in_script lines t k
 number_other lines t k h ne =
-    let b : ((line_at lines k).task.0 == t) ≡ false = ne_eqb _ _ (λ e. ne (sym e)) in
+    let b : ((script_line lines k).task.0 == t) ≡ false = ne_eqb _ _ (λ e. ne (sym e)) in
     number_next lines t k h ∙ rw b (omega arith)
 
-pub number_start : (lines : List ScriptJob) (t : ℕ) → number_of lines t 0 ≡ 0
+pub number_start : (lines : List ScriptJob) (t : ℕ) → number_in_script lines t 0 ≡ 0
 number_start [] t = refl
 number_start (l ∷ lines) t = refl
 
-pub number_bound : (lines : List ScriptJob) (t k : ℕ) → number_of lines t k ≤ k
+pub number_bound : (lines : List ScriptJob) (t k : ℕ) → number_in_script lines t k ≤ k
 number_bound [] t k = omega arith
 number_bound (l ∷ lines) t zero = omega arith
 number_bound (l ∷ lines) t (suc k) =
@@ -64,15 +64,15 @@ number_bound (l ∷ lines) t (suc k) =
     ]
 
 -- the lines of new jobs
-new_lines : (sys : System) (lines : List ScriptJob) → lines_of (map (new_job sys) lines) ≡ lines
+new_lines : (sys : System) (lines : List ScriptJob) → script_lines (map (new_job sys) lines) ≡ lines
 new_lines sys [] = refl
 new_lines sys (l ∷ lines) = ap (λ ls. l ∷ ls) (new_lines sys lines)
 
-new_open : (sys : System) (lines : List ScriptJob) (x : ℕ) → x < length lines → job_at (map (new_job sys) lines) x ≡ new_job sys (line_at lines x)
+new_open : (sys : System) (lines : List ScriptJob) (x : ℕ) → x < length lines → job_at (map (new_job sys) lines) x ≡ new_job sys (script_line lines x)
 new_open sys lines x h = get_or-map (new_job sys) lines x no_job.line no_job h
 
 -- the start of a run is kept
-pub start_kept : (sets : ℕ) (sys : System) (cache : Cache) (memory : Memory) (lines : List ScriptJob) (due : List (ℕ × ℕ)) (later heads : List ℕ) (cs : List Completion) → sets ≤ length cache → IsDue lines due → IsLinked lines due later → ((x : ℕ) → x < length lines → (line_at lines x).task.0 < length heads) → ((t : ℕ) → t < length heads → IsFirstFrom lines due t 0 (slice_index heads t)) → length cs ≡ length lines → ((x : ℕ) → x < length lines → completion cs x ≡ record { job = record { task = (line_at lines x).task; number = number_of lines (line_at lines x).task.0 x }; «end» = «end».Unreleased }) → IsKept sets (started sys cache memory lines) due later heads 0 cs
+pub start_kept : (sets : ℕ) (sys : System) (cache : Cache) (memory : Memory) (lines : List ScriptJob) (due : List (ℕ × ℕ)) (later heads : List ℕ) (cs : List Completion) → sets ≤ length cache → IsReleaseOrder lines due → IsLinked lines due later → ((x : ℕ) → x < length lines → (script_line lines x).task.0 < length heads) → ((t : ℕ) → t < length heads → IsFirstFrom lines due t 0 (slice_index heads t)) → length cs ≡ length lines → ((x : ℕ) → x < length lines → completion cs x ≡ record { job = record { task = (script_line lines x).task; number = number_in_script lines (script_line lines x).task.0 x }; «end» = «end».Unreleased }) → IsRepresented sets (start_machine sys cache memory lines) due later heads 0 cs
 start_kept sets sys cache memory lines due later heads cs room d k tasks first long told =
     let jobs = map (new_job sys) lines in
     let same = new_lines sys lines in
@@ -80,13 +80,13 @@ start_kept sets sys cache memory lines due later heads cs room d k tasks first l
     let opening : (x : ℕ) → x < length lines → is_open (job_at jobs x).standing ≡ true = λ x h. ap (λ (j : Job). is_open j.standing) (new_open sys lines x h) in
     record {
       room = room;
-      due = subst (λ ls. IsDue ls due) (sym same) d;
+      due = subst (λ ls. IsReleaseOrder ls due) (sym same) d;
       linked = subst (λ ls. IsLinked ls due later) (sym same) k;
-      waiting = subst (λ ls. IsWaiting ls due heads jobs) (sym same) (record {
+      waiting = subst (λ ls. HasTaskHeads ls due heads jobs) (sym same) (record {
         tasks = tasks;
         head = λ t a b. (first t a).here b;
-        over = λ p a b. absurd ((first (task_at lines due p) (tasks (place_at due p) (d.places p a))).none p (omega arith) b a refl);
-        open_still = λ p a b. opening (place_at due p) (d.places p a);
+        over = λ p a b. absurd ((first (due_task lines due p) (tasks (due_place due p) (d.places p a))).none p (omega arith) b a refl);
+        open_still = λ p a b. opening (due_place due p) (d.places p a);
       });
       released = record { within = omega arith; before = λ p a. absurd (omega arith); after = λ p a b. omega arith };
       over = λ x a b. absurd (false≢true (sym b ∙ opening x (omega (arith, count))));
@@ -95,9 +95,9 @@ start_kept sets sys cache memory lines due later heads cs room d k tasks first l
           let inside : x < length lines = omega (arith, count) in
           let is = new_open sys lines x inside in
           told x inside
-          ∙ ap (λ (ls : List ScriptJob). record { job = record { task = (line_at lines x).task; number = number_of ls (line_at lines x).task.0 x }; «end» = «end».Unreleased }) (sym same)
-          ∙ ap (λ (l : ScriptJob). record { job = record { task = record { 0 = l.task.0 }; number = number_of (lines_of jobs) l.task.0 x }; «end» = «end».Unreleased }) (sym (ap (λ (j : Job). j.line) is))
-          ∙ ap (λ e. record { job = job_id (started sys cache memory lines) x; «end» = e }) (waits (job_at jobs x).line.release ∙ ap (end_by 0 (job_at jobs x).line.release) (sym (ap (λ (j : Job). j.standing) is)));
+          ∙ ap (λ (ls : List ScriptJob). record { job = record { task = (script_line lines x).task; number = number_in_script ls (script_line lines x).task.0 x }; «end» = «end».Unreleased }) (sym same)
+          ∙ ap (λ (l : ScriptJob). record { job = record { task = record { 0 = l.task.0 }; number = number_in_script (script_lines jobs) l.task.0 x }; «end» = «end».Unreleased }) (sym (ap (λ (j : Job). j.line) is))
+          ∙ ap (λ e. record { job = job_id (start_machine sys cache memory lines) x; «end» = e }) (waits (job_at jobs x).line.release ∙ ap (end_by 0 (job_at jobs x).line.release) (sym (ap (λ (j : Job). j.standing) is)));
       owner = λ o e. absurd (none_some e);
     }
   where
@@ -105,7 +105,7 @@ start_kept sets sys cache memory lines due later heads cs room d k tasks first l
     waits release = let b : nat_le 0 release ≡ true = grind (arith, nat_tests) in rw b refl
 
 -- and so are parts that hold it
-pub starts_kept : (sets : ℕ) (sys : System) (cache : Cache) (memory : Memory) (lines : List ScriptJob) (jobs : List Job) (count : ℕ) (due : List (ℕ × ℕ)) (later heads : List ℕ) (cs : List Completion) → jobs ≡ map (new_job sys) lines → count ≡ 0 → sets ≤ length cache → IsDue lines due → IsLinked lines due later → ((x : ℕ) → x < length lines → (line_at lines x).task.0 < length heads) → ((t : ℕ) → t < length heads → IsFirstFrom lines due t 0 (slice_index heads t)) → length cs ≡ length lines → ((x : ℕ) → x < length lines → completion cs x ≡ record { job = record { task = (line_at lines x).task; number = number_of lines (line_at lines x).task.0 x }; «end» = «end».Unreleased }) → IsKept sets (record { time = 0; cache = cache; memory = memory; owner = None; switch_left = 0; jobs = jobs }) due later heads count cs
+pub starts_kept : (sets : ℕ) (sys : System) (cache : Cache) (memory : Memory) (lines : List ScriptJob) (jobs : List Job) (count : ℕ) (due : List (ℕ × ℕ)) (later heads : List ℕ) (cs : List Completion) → jobs ≡ map (new_job sys) lines → count ≡ 0 → sets ≤ length cache → IsReleaseOrder lines due → IsLinked lines due later → ((x : ℕ) → x < length lines → (script_line lines x).task.0 < length heads) → ((t : ℕ) → t < length heads → IsFirstFrom lines due t 0 (slice_index heads t)) → length cs ≡ length lines → ((x : ℕ) → x < length lines → completion cs x ≡ record { job = record { task = (script_line lines x).task; number = number_in_script lines (script_line lines x).task.0 x }; «end» = «end».Unreleased }) → IsRepresented sets (record { time = 0; cache = cache; memory = memory; owner = None; switch_left = 0; jobs = jobs }) due later heads count cs
 starts_kept sets sys cache memory lines jobs count due later heads cs e f room d k tasks first long told =
     rw (e, f) (start_kept sets sys cache memory lines due later heads cs room d k tasks first long told)
 
@@ -120,9 +120,9 @@ plans_more plans jobs job all one x h =
     ]
 
 -- one more job of those that a script starts with
-pub jobs_more : (sys : System) (lines : List ScriptJob) (jobs : List Job) (job : Job) (i : ℕ) → i < length lines → jobs ≡ map (new_job sys) (take i lines) → job ≡ new_job sys (line_at lines i) → jobs ++ job ∷ [] ≡ map (new_job sys) (take (i + 1) lines)
+pub jobs_more : (sys : System) (lines : List ScriptJob) (jobs : List Job) (job : Job) (i : ℕ) → i < length lines → jobs ≡ map (new_job sys) (take i lines) → job ≡ new_job sys (script_line lines i) → jobs ++ job ∷ [] ≡ map (new_job sys) (take (i + 1) lines)
 jobs_more sys lines jobs job i h e f =
-    rw (e, f) (sym (ap (map (new_job sys)) (take_more lines i no_job.line h) ∙ map-append (new_job sys) (take i lines) (line_at lines i ∷ [])))
+    rw (e, f) (sym (ap (map (new_job sys)) (take_more lines i no_job.line h) ∙ map-append (new_job sys) (take i lines) (script_line lines i ∷ [])))
 
 -- one more completion
 pub completions_more : (cs : List Completion) (c : Completion) (give : ℕ → Completion) (i : ℕ) → length cs ≡ i → ((x : ℕ) → x < i → completion cs x ≡ give x) → c ≡ give i → (x : ℕ) → x < i + 1 → completion (cs ++ c ∷ []) x ≡ give x
@@ -148,34 +148,34 @@ ends_are m cs long each =
     ∙ sym (get_or-map tell m.jobs i no_job none.«end» (omega (arith, long))))
 
 -- a job stands at one place
-pub one_place : (m : Machine) (job : JobId) (x y : ℕ) → IsAt m job x → IsAt m job y → x ≡ y
+pub one_place : (m : Machine) (job : JobId) (x y : ℕ) → IsJobAt m job x → IsJobAt m job y → x ≡ y
 one_place m job x y a b =
     elim (cases_lt x y) [
       | inl l ↦ absurd (apart x y a b l)
       | inr g ↦ elim (cases_lt y x) [ inl l ↦ absurd (apart y x b a l) | inr k ↦ omega arith ]
     ]
   where
-    apart : (p q : ℕ) → IsAt m job p → IsAt m job q → p < q → ⊥
+    apart : (p q : ℕ) → IsJobAt m job p → IsJobAt m job q → p < q → ⊥
     apart p q c d l =
         let task = ap (λ (line : ScriptJob). line.task.0) (line_is m.jobs p) in
-        let grows = number_grows (lines_of m.jobs) p q (task_of m p) no_job.line l (omega (arith, d.below, lines_long m.jobs)) task in
-        let same : number_of (lines_of m.jobs) (task_of m p) q ≡ job_number m q = ap (λ t. number_of (lines_of m.jobs) t q) (sym c.task ∙ d.task) in
+        let grows = number_grows (script_lines m.jobs) p q (task_of m p) no_job.line l (omega (arith, d.below, lines_long m.jobs)) task in
+        let same : number_in_script (script_lines m.jobs) (task_of m p) q ≡ job_number m q = ap (λ t. number_in_script (script_lines m.jobs) t q) (sym c.task ∙ d.task) in
         omega (arith, c.number, d.number)
 
-pub at_place : (m : Machine) (job : JobId) (x : ℕ) → x < length m.jobs → job_id m x ≡ job → IsAt m job x
+pub at_place : (m : Machine) (job : JobId) (x : ℕ) → x < length m.jobs → job_id m x ≡ job → IsJobAt m job x
 at_place m job x h e =
     record { below = h; task = sym (ap (λ (j : JobId). j.task.0) e); number = sym (ap (λ (j : JobId). j.number) e) }
 
-pub id_at : (m : Machine) (job : JobId) (x : ℕ) → IsAt m job x → job_id m x ≡ job
+pub id_at : (m : Machine) (job : JobId) (x : ℕ) → IsJobAt m job x → job_id m x ≡ job
 id_at m job x h = by_parts job (job_id m x) h.task h.number where
   by_parts : (a b : JobId) → a.task.0 ≡ b.task.0 → a.number ≡ b.number → b ≡ a
   by_parts a b e f = ap (λ n. record { task = record { 0 = n }; number = b.number }) (sym e) ∙ ap (λ n. record { task = a.task; number = n }) (sym f)
 
-pub has_plan : (plans : List TaskPlan) (line : ScriptJob) (plan : TaskPlan) (job : Job) → job.line ≡ line → line.task.0 < length plans → slice_get plans line.task.0 ≡ Some plan → HasTurns (length plan.loops) job.watch → HasPlan plans job
+pub has_plan : (plans : List TaskPlan) (line : ScriptJob) (plan : TaskPlan) (job : Job) → job.line ≡ line → line.task.0 < length plans → slice_get plans line.task.0 ≡ Some plan → HasIterations (length plan.loops) job.watch → HasPlan plans job
 has_plan plans line plan job e below there turns =
     let found = get_or_from_slice_get plans line.task.0 plan (record { entry = 0; stack = 0; global = 0; loops = [] }) there in
     rw e
     (record {
       task = below;
-      loops = subst (λ (p : TaskPlan). HasTurns (length p.loops) job.watch) (sym found) turns;
+      loops = subst (λ (p : TaskPlan). HasIterations (length p.loops) job.watch) (sym found) turns;
     })

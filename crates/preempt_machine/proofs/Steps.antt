@@ -11,9 +11,9 @@ use Rattle.rv_decode.specs.declared.Ins.{Ins}
 use Rattle.rv_core.specs.declared.Next.{Next}
 use Rattle.rv_core.specs.declared.Next.TheVariants.{Goto, Answer, Fault}
 use Rattle.rv_core.specs.Effect.{next_pc}
-use Rattle.icache.specs.Cache.{accessed, block_of}
+use Rattle.icache.specs.Cache.{cache_after_access, block_of}
 use Rattle.preempt_machine.specs.Machine.{System, Job, Machine, ins_at, job_at, no_job}
-use Rattle.preempt_machine.specs.Step.{is_open, is_ready, before, keeps_core, candidate, candidate_by, Turn, turn_of, turned, executed, worked, went, fetched, step, step_by, makes_fetch, Fetch, fetch, fetch_by}
+use Rattle.preempt_machine.specs.Step.{is_open, is_ready, before, keeps_core, candidate, candidate_by, Turn, turn_of, turn_after_step, turn_after_execution, turn_after_cycle, turn_after_effect, turn_after_fetch, step, step_by, makes_fetch, Fetch, fetch, fetch_by}
 use Rattle.preempt_machine.proofs.Order.{IsBest, first_ready_is}
 
 pub ready_open : (time : ℕ) (job : Job) → is_ready time job ≡ true → is_open job.standing ≡ true
@@ -93,37 +93,37 @@ pub candidate_none : (sys : System) (m : Machine) → candidate sys m ≡ None �
 candidate_none sys m e = subst (λ c. SaysCandidate sys m c) e (candidate_says sys m)
 
 -- a turn keeps the job's line of the script
-went_line : (sys : System) (n : ℕ) (ins : Ins) (t : Turn) (next : Next) → (went sys n ins t next).job.line ≡ t.job.line
+went_line : (sys : System) (n : ℕ) (ins : Ins) (t : Turn) (next : Next) → (turn_after_effect sys n ins t next).job.line ≡ t.job.line
 went_line sys n ins t (Goto to) = refl
 went_line sys n ins t Answer = refl
 went_line sys n ins t Fault = refl
 
-worked_line : (sys : System) (n : ℕ) (ins : Ins) (t : Turn) → (worked sys n ins t).job.line ≡ t.job.line
+worked_line : (sys : System) (n : ℕ) (ins : Ins) (t : Turn) → (turn_after_cycle sys n ins t).job.line ≡ t.job.line
 worked_line sys n ins t =
     elim (cases_Bool (nat_lt 1 t.job.left)) [
       | inl b ↦ rw b
       | inr b ↦ rw b (went_line sys n ins t (next_pc ins t.job.pc t.job.registers))
     ]
 
-fetched_line : (sys : System) (ins : Ins) (t : Turn) → (fetched sys ins t).job.line ≡ t.job.line
+fetched_line : (sys : System) (ins : Ins) (t : Turn) → (turn_after_fetch sys ins t).job.line ≡ t.job.line
 fetched_line sys ins t = elim (cases_Bool (t.job.left == 0)) [ inl b ↦ rw b | inr b ↦ rw b ]
 
-pub executed_line : (sys : System) (n : ℕ) (t : Turn) (ins : Option Ins) → (executed sys n t ins).job.line ≡ t.job.line
+pub executed_line : (sys : System) (n : ℕ) (t : Turn) (ins : Option Ins) → (turn_after_execution sys n t ins).job.line ≡ t.job.line
 executed_line sys n t None = refl
-executed_line sys n t (Some ins) = worked_line sys n ins (fetched sys ins t) ∙ fetched_line sys ins t
+executed_line sys n t (Some ins) = worked_line sys n ins (turn_after_fetch sys ins t) ∙ fetched_line sys ins t
 
-pub turned_line : (sys : System) (n : ℕ) (t : Turn) → (turned sys n t).job.line ≡ t.job.line
-unfolding turned
+pub turned_line : (sys : System) (n : ℕ) (t : Turn) → (turn_after_step sys n t).job.line ≡ t.job.line
+unfolding turn_after_step
 turned_line sys n t =
     elim (cases_Bool (nat_lt 0 t.switch_left)) [ inl b ↦ rw b | inr b ↦ rw b (executed_line sys n t (ins_at sys t.job.pc)) ]
 
 -- a turn accesses the cache where it makes a fetch, and nowhere else
-went_cache : (sys : System) (n : ℕ) (ins : Ins) (t : Turn) (next : Next) → (went sys n ins t next).cache ≡ t.cache
+went_cache : (sys : System) (n : ℕ) (ins : Ins) (t : Turn) (next : Next) → (turn_after_effect sys n ins t next).cache ≡ t.cache
 went_cache sys n ins t (Goto to) = refl
 went_cache sys n ins t Answer = refl
 went_cache sys n ins t Fault = refl
 
-worked_cache : (sys : System) (n : ℕ) (ins : Ins) (t : Turn) → (worked sys n ins t).cache ≡ t.cache
+worked_cache : (sys : System) (n : ℕ) (ins : Ins) (t : Turn) → (turn_after_cycle sys n ins t).cache ≡ t.cache
 worked_cache sys n ins t =
     elim (cases_Bool (nat_lt 1 t.job.left)) [
       | inl b ↦ rw b
@@ -131,19 +131,19 @@ worked_cache sys n ins t =
     ]
 
 abbrev pub cache_after : System → Turn → Bool → List (Option ℕ)
-cache_after sys t fetches = if fetches then accessed sys.platform t.cache (block_of sys.platform t.job.pc) else t.cache
+cache_after sys t fetches = if fetches then cache_after_access sys.platform t.cache (block_of sys.platform t.job.pc) else t.cache
 
-fetched_cache : (sys : System) (ins : Ins) (t : Turn) → (fetched sys ins t).cache ≡ cache_after sys t (t.job.left == 0)
+fetched_cache : (sys : System) (ins : Ins) (t : Turn) → (turn_after_fetch sys ins t).cache ≡ cache_after sys t (t.job.left == 0)
 fetched_cache sys ins t = elim (cases_Bool (t.job.left == 0)) [ inl b ↦ rw b | inr b ↦ rw b ]
 
-executed_cache : (sys : System) (n : ℕ) (t : Turn) (ins : Option Ins) → (executed sys n t ins).cache ≡ cache_after sys t ((t.job.left == 0) && is_some ins)
+executed_cache : (sys : System) (n : ℕ) (t : Turn) (ins : Option Ins) → (turn_after_execution sys n t ins).cache ≡ cache_after sys t ((t.job.left == 0) && is_some ins)
 executed_cache sys n t None = elim (cases_Bool (t.job.left == 0)) [ inl b ↦ rw b | inr b ↦ rw b ]
 executed_cache sys n t (Some ins) =
-    worked_cache sys n ins (fetched sys ins t) ∙ fetched_cache sys ins t
+    worked_cache sys n ins (turn_after_fetch sys ins t) ∙ fetched_cache sys ins t
     ∙ (elim (cases_Bool (t.job.left == 0)) [ inl b ↦ rw b | inr b ↦ rw b ])
 
-pub turned_cache : (sys : System) (n : ℕ) (t : Turn) → (turned sys n t).cache ≡ cache_after sys t (makes_fetch sys t)
-unfolding turned
+pub turned_cache : (sys : System) (n : ℕ) (t : Turn) → (turn_after_step sys n t).cache ≡ cache_after sys t (makes_fetch sys t)
+unfolding turn_after_step
 turned_cache sys n t =
     elim (cases_Bool (nat_lt 0 t.switch_left)) [
       | inl b ↦ let z : (t.switch_left == 0) ≡ false = grind (arith, nat_tests) in rw (b, z)
@@ -166,7 +166,7 @@ pub step_other : (sys : System) (m : Machine) (j : ℕ) → candidate sys m ≢ 
 step_other sys m j ne = others_by sys m (candidate sys m) j ne
 
 -- the candidate's job is what its turn leaves
-pub step_own : (sys : System) (m : Machine) (i : ℕ) → candidate sys m ≡ Some i → job_at (step sys m).jobs i ≡ (turned sys m.time (turn_of sys m i)).job
+pub step_own : (sys : System) (m : Machine) (i : ℕ) → candidate sys m ≡ Some i → job_at (step sys m).jobs i ≡ (turn_after_step sys m.time (turn_of sys m i)).job
 step_own sys m i e = rw e (get_or-set_same m.jobs i _ no_job (candidate_some sys m i e).below)
 
 -- a job that is not open stays as it is
@@ -225,7 +225,7 @@ no_fetch_by sys m (Some i) h =
 pub no_fetch_cache : (sys : System) (m : Machine) → fetch sys m ≡ None → (step sys m).cache ≡ m.cache
 no_fetch_cache sys m h = no_fetch_by sys m (candidate sys m) h
 
-pub fetch_cache : (sys : System) (m : Machine) (f : Fetch) → fetch sys m ≡ Some f → (step sys m).cache ≡ accessed sys.platform m.cache (block_of sys.platform f.address)
+pub fetch_cache : (sys : System) (m : Machine) (f : Fetch) → fetch sys m ≡ Some f → (step sys m).cache ≡ cache_after_access sys.platform m.cache (block_of sys.platform f.address)
 fetch_cache sys m f h =
     let says = fetch_says sys m f h in
     rw (says.by, says.at) (turned_cache sys m.time (turn_of sys m f.job) ∙ rw says.makes)

@@ -10,12 +10,12 @@ use Rattle.preempt_machine.specs.declared.schedule.Schedule.{Schedule}
 use Rattle.preempt_machine.specs.Machine.{System, Job, Machine, job_at}
 use Rattle.preempt_machine.specs.Step.{candidate, fetch_by, step, step_by}
 use Rattle.preempt_machine.specs.Running.{fetch_told}
-use Rattle.preempt_machine.specs.Kept.{machine_by, machine_of, place_at, heads_after, completions_after, AreReleased, HasPassed, HasSettled, HasStepped, HasTurned, IsHead, IsKept, IsMachine, IsScheduled}
+use Rattle.preempt_machine.specs.Schedule.{machine_by, machine_of, due_place, heads_after, completions_after, AreReleased, HasPassed, HasSettled, HasStepped, HasTurned, IsHead, IsRepresented, IsMachine, IsScheduled}
 use Rattle.preempt_machine.proofs.Stepping.{kept_some}
 use Rattle.preempt_machine.proofs.Steps.{step_length, step_line}
 
 -- equal parts are kept alike
-pub kept_along : (sets other_sets : ℕ) (m n : Machine) (due order : List (ℕ × ℕ)) (later links heads firsts : List ℕ) (count number : ℕ) (cs ds : List Completion) → other_sets ≡ sets → n ≡ m → order ≡ due → links ≡ later → firsts ≡ heads → number ≡ count → ds ≡ cs → IsKept sets m due later heads count cs → IsKept other_sets n order links firsts number ds
+pub kept_along : (sets other_sets : ℕ) (m n : Machine) (due order : List (ℕ × ℕ)) (later links heads firsts : List ℕ) (count number : ℕ) (cs ds : List Completion) → other_sets ≡ sets → n ≡ m → order ≡ due → links ≡ later → firsts ≡ heads → number ≡ count → ds ≡ cs → IsRepresented sets m due later heads count cs → IsRepresented other_sets n order links firsts number ds
 kept_along sets other_sets m n due order later links heads firsts count number cs ds a b c d e f g k = rw (a, b, c, d, e, f, g) k
 
 -- the state after a turn and the cycle of it
@@ -43,7 +43,7 @@ taken_head sys old turn pass place e h t p =
         record {
           below = omega (arith, k.below);
           inside = subst (λ (l : ScriptJob). slice_index heads l.task.0 < length due) (sym line) k.inside;
-          first = ap (λ (l : ScriptJob). place_at due (slice_index heads l.task.0)) line ∙ k.first;
+          first = ap (λ (l : ScriptJob). due_place due (slice_index heads l.task.0)) line ∙ k.first;
         }
 
 pub taken_kept : (sys : System) (old turn : Parts) (pass settle : Schedule) (place : ℕ) → IsMachine old → candidate sys (machine_of old) ≡ Some place → IsHead old.schedule.jobs.items old.schedule.queue.due.items old.schedule.queue.heads.items place → HasTurned sys old turn place → HasPassed turn.schedule pass → HasSettled pass settle place → IsScheduled turn.core.geometry.platform.sets turn.core.cache turn.core.memory settle

@@ -1,7 +1,7 @@
 -- Which job a step takes: its candidate, and that the step's function finds it.
 use Rattle.std.specs.Prelude.{◌≡◌, ◌↔◌, ◌⊎◌, ℕ, ◌<◌, ◌≤◌, length, map, Some, None}
 use Rattle.crpd_base.specs.declared.data.Switching.TheVariants.{Instruction}
-use Rattle.preempt_machine.specs.Machine.{System, Open, Job, Machine, job_at, number_of}
+use Rattle.preempt_machine.specs.Machine.{System, Open, Job, Machine, job_at, number_in_script}
 use Rattle.preempt_machine.specs.Step.{candidate}
 
 -- the task, the release and the number of the job at a place of the script
@@ -12,7 +12,7 @@ abbrev pub release_of : Machine → ℕ → ℕ
 release_of m x = (job_at m.jobs x).line.release
 
 abbrev pub job_number : Machine → ℕ → ℕ
-job_number m x = number_of (map (λ (job : Job). job.line) m.jobs) (task_of m x) x
+job_number m x = number_in_script (map (λ (job : Job). job.line) m.jobs) (task_of m x) x
 
 -- a job is ready from its release until it answers or faults
 pub record IsReady (m : Machine) (x : ℕ) : Type 0 where

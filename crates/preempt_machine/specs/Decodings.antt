@@ -1,6 +1,6 @@
 -- The words that are kept decoded.
 use Rattle.std.specs.Prelude.{◌≡◌, ◌<◌, List, length, All}
-use Rattle.rv_decode.specs.Table.{row}
+use Rattle.rv_decode.specs.Table.{ins_of_word}
 use Rattle.preempt_machine.specs.declared.decoded.Decoding.{Decoding}
 
 -- what contracts see of them
@@ -13,4 +13,4 @@ nothing = tt
 -- there is a place, and at each a word with the instruction that it means
 pub record AreDecoded (places : List Decoding) : Type 0 where
   pub some : 0 < length places
-  pub each : All (λ (d : Decoding). d.meaning ≡ row d.word) places
+  pub each : All (λ (d : Decoding). d.meaning ≡ ins_of_word d.word) places

@@ -31,14 +31,14 @@ job_of j =
     }
 
 -- the watch of an open job still has its bottom frame
-abbrev pub IsUnderWay : Inside → Type 0
-IsUnderWay j = standing_of j.standing ≡ Open → j.watch ≢ Some []
+abbrev pub HasBottomFrame : Inside → Type 0
+HasBottomFrame j = standing_of j.standing ≡ Open → j.watch ≢ Some []
 
 -- how a released job is told to stand
-abbrev pub shown : Standing → End
-shown Open = «end».Open
-shown (Answered t) = «end».Answered t
-shown Faulted = «end».Faulted
+abbrev pub end_of_standing : Standing → End
+end_of_standing Open = «end».Open
+end_of_standing (Answered t) = «end».Answered t
+end_of_standing Faulted = «end».Faulted
 
 -- a turn of a job, with the switch cycles left
 abbrev pub turn_by : Cache → Memory → ℕ → Job → Turn

@@ -5,11 +5,11 @@ use Rattle.crpd_base.specs.declared.data.ScriptJob.{ScriptJob}
 use Rattle.crpd_base.specs.declared.data.TaskPlan.{TaskPlan}
 use Rattle.rv_decode.specs.declared.Ins.{Ins}
 use Rattle.rv_decode.specs.declared.Ins.TheVariants.{Ebreak}
-use Rattle.rv_decode.specs.Table.{row}
+use Rattle.rv_decode.specs.Table.{ins_of_word}
 use Rattle.rv_core.specs.Memory.{Memory}
 use Rattle.icache.specs.Cache.{Cache}
 use Rattle.flow_watch.specs.Watch.{Watch, start}
-use Rattle.rv_decode.specs.Address.{end}
+use Rattle.rv_decode.specs.Address.{end_address}
 
 -- what a run stands on: the platform, a plan per task, and the word at each address that has one
 pub record System : Type 0 where
@@ -24,7 +24,7 @@ runnable ins = Some ins
 
 -- the instruction at an address, or None where a fetch faults
 unfoldable pub ins_at : System → ℕ → Option Ins
-ins_at sys a = option_and_then (λ w. option_and_then runnable (row w)) (sys.word a)
+ins_at sys a = option_and_then (λ w. option_and_then runnable (ins_of_word w)) (sys.word a)
 
 -- an open job has not answered and not faulted
 pub data Standing : Type 0 where
@@ -62,7 +62,7 @@ new_job sys line =
     let plan = plan_of sys line.task.0 in
     record {
       line = line;
-      registers = 0 ∷ end ∷ plan.stack ∷ plan.global ∷ replicate 28 0;
+      registers = 0 ∷ end_address ∷ plan.stack ∷ plan.global ∷ replicate 28 0;
       pc = plan.entry;
       left = 0;
       watch = start plan;
@@ -70,15 +70,15 @@ new_job sys line =
     }
 
 -- the state at the start of a run
-abbrev pub started : System → Cache → Memory → List ScriptJob → Machine
-started sys cache memory lines =
+abbrev pub start_machine : System → Cache → Memory → List ScriptJob → Machine
+start_machine sys cache memory lines =
     record { time = 0; cache = cache; memory = memory; owner = None; switch_left = 0; jobs = map (new_job sys) lines }
 
 -- a job's number: how many jobs of its task stand before it in the script
-abbrev pub number_of : List ScriptJob → ℕ → ℕ → ℕ
-number_of [] task place = 0
-number_of (l ∷ lines) task zero = 0
-number_of (l ∷ lines) task (suc place) = (if l.task.0 == task then 1 else 0) + number_of lines task place
+abbrev pub number_in_script : List ScriptJob → ℕ → ℕ → ℕ
+number_in_script [] task place = 0
+number_in_script (l ∷ lines) task zero = 0
+number_in_script (l ∷ lines) task (suc place) = (if l.task.0 == task then 1 else 0) + number_in_script lines task place
 
 -- the job at a place; past the end one that has faulted
 abbrev pub no_job : Job

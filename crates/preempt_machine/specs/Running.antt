@@ -12,12 +12,12 @@ use Rattle.icache.specs.Cache.{Cache, block_of, is_hit}
 use Rattle.icache.specs.declared.Access.{Access}
 use Rattle.icache.specs.declared.Access.TheVariants.{Hit, Miss}
 use Rattle.code_map.specs.Words.{Code, word_at}
-use Rattle.flow_watch.specs.Turns.{HasTurns}
+use Rattle.flow_watch.specs.Iterations.{HasIterations}
 use Rattle.preempt_machine.specs.declared.Completion.{Completion}
 use Rattle.preempt_machine.specs.declared.Fetch as told
-use Rattle.preempt_machine.specs.Machine.{System, Job, Machine, ins_at, job_at, started}
+use Rattle.preempt_machine.specs.Machine.{System, Job, Machine, ins_at, job_at, start_machine}
 use Rattle.preempt_machine.specs.Step as step
-use Rattle.preempt_machine.specs.Step.{candidate, Turn, turn_of, fetched}
+use Rattle.preempt_machine.specs.Step.{candidate, Turn, turn_of, turn_after_fetch}
 use Rattle.preempt_machine.specs.Candidate.{task_of, release_of, job_number}
 use Rattle.preempt_machine.specs.Safe.{end_by, system_of}
 
@@ -51,11 +51,11 @@ fetch_told sys m f =
 -- the machine at the start of a run
 abbrev pub start_of : TaskSet → Code → Cache → Memory → List ScriptJob → Running
 start_of set code cache memory lines =
-    record { platform = set.platform; state = started (system_of set code) cache memory lines; fetch = None }
+    record { platform = set.platform; state = start_machine (system_of set code) cache memory lines; fetch = None }
 
 -- after one step, and after n steps
-abbrev pub stepped : Code → Running → Running
-stepped code r =
+abbrev pub running_after_step : Code → Running → Running
+running_after_step code r =
     let sys = system_by r.platform code in
     record {
       platform = r.platform;
@@ -63,14 +63,14 @@ stepped code r =
       fetch = option_map (fetch_told sys r.state) (step.fetch sys r.state);
     }
 
-abbrev pub stepped_by : ℕ → Code → Running → Running
-stepped_by zero code r = r
-stepped_by (suc n) code r = stepped code (stepped_by n code r)
+abbrev pub running_after_steps : ℕ → Code → Running → Running
+running_after_steps zero code r = r
+running_after_steps (suc n) code r = running_after_step code (running_after_steps n code r)
 
 -- a job's task has a plan, with as many stated loops as the job's watch follows
 pub record HasPlan (plans : List TaskPlan) (job : Job) : Type 0 where
   pub task : job.line.task.0 < length plans
-  pub loops : HasTurns (length (slice_index_or plans job.line.task.0 (record { entry = 0; stack = 0; global = 0; loops = [] })).loops) job.watch
+  pub loops : HasIterations (length (slice_index_or plans job.line.task.0 (record { entry = 0; stack = 0; global = 0; loops = [] })).loops) job.watch
 
 -- each job's task has one
 abbrev pub HasPlans : Code → Machine → Type 0
@@ -80,7 +80,7 @@ HasPlans code m = (x : ℕ) → x < length m.jobs → HasPlan code.plans (job_at
 pub record IsStoreNow (sys : System) (t : Turn) : Type 0 where
   pub ins : Ins
   pub instruction : ins_at sys t.job.pc ≡ Some ins
-  pub last : (fetched sys ins t).job.left ≤ 1
+  pub last : (turn_after_fetch sys ins t).job.left ≤ 1
   pub store : IsStore ins
 
 -- the step gives a store its effect: the last cycle of a store of the candidate, with no switch cycle left
@@ -94,7 +94,7 @@ pub record GivesStore (sys : System) (m : Machine) : Type 0 where
 pub record StopsAtStore (code : Code) (n : ℕ) (old new : Running) : Type 0 where
   pub made : ℕ
   pub fewer : made < n
-  pub state : new ≡ stepped_by made code old
+  pub state : new ≡ running_after_steps made code old
   pub store : GivesStore (system_by old.platform code) new.state
 
 -- the completion of the job at a place
@@ -102,7 +102,7 @@ abbrev pub completion_at : Machine → ℕ → Completion
 completion_at m x = record { job = job_id m x; «end» = end_by m.time (release_of m x) (job_at m.jobs x).standing }
 
 -- the job of this task and number stands at a place of the script
-pub record IsAt (m : Machine) (job : JobId) (x : ℕ) : Type 0 where
+pub record IsJobAt (m : Machine) (job : JobId) (x : ℕ) : Type 0 where
   pub below : x < length m.jobs
   pub task : job.task.0 ≡ task_of m x
   pub number : job.number ≡ job_number m x

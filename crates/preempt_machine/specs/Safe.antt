@@ -4,7 +4,7 @@ use Rattle.crpd_base.specs.declared.data.ScriptJob.{ScriptJob}
 use Rattle.crpd_base.specs.declared.data.TaskSet.{TaskSet}
 use Rattle.rv_core.specs.Memory.{IsMemory}
 use Rattle.code_map.specs.Words.{Code, word_at}
-use Rattle.flow_watch.specs.Watch.{is_kept}
+use Rattle.flow_watch.specs.Watch.{is_unbroken}
 use Rattle.script_reader.specs.Legal.{IsLegal}
 use Rattle.preempt_machine.specs.declared.End.{End}
 use Rattle.preempt_machine.specs.declared.End.TheVariants as «end»
@@ -23,7 +23,7 @@ completions m = map (λ (job : Job). end_by m.time job.line.release job.standing
 
 -- no watch is broken
 abbrev pub IsKept : Machine → Type 0
-IsKept m = All (λ (job : Job). is_kept job.watch ≡ true) m.jobs
+IsKept m = All (λ (job : Job). is_unbroken job.watch ≡ true) m.jobs
 
 -- answered at this time or earlier
 abbrev pub IsAnsweredBy : ℕ → Standing → Type 0

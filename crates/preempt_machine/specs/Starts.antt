@@ -5,7 +5,7 @@ use Rattle.crpd_base.specs.declared.data.Platform.{Platform}
 use Rattle.crpd_base.specs.declared.data.Script.{Script}
 use Rattle.crpd_base.specs.declared.data.Segment.{Segment}
 use Rattle.crpd_base.specs.declared.data.TaskSet.{TaskSet}
-use Rattle.icache.specs.Cache.{Cache, accessed}
+use Rattle.icache.specs.Cache.{Cache, cache_after_access}
 use Rattle.rv_core.specs.Memory.{Memory, put_byte, clear_bytes}
 use Rattle.code_map.specs.Words.{Code}
 use Rattle.preempt_machine.specs.Machine.{Machine}
@@ -15,7 +15,7 @@ use Rattle.preempt_machine.specs.Step.{Start, state}
 -- each block stands in its cache set, a later one over an earlier one
 abbrev pub with_blocks : Platform → Cache → List ℕ → Cache
 with_blocks p cache [] = cache
-with_blocks p cache (b ∷ blocks) = with_blocks p (accessed p cache b) blocks
+with_blocks p cache (b ∷ blocks) = with_blocks p (cache_after_access p cache b) blocks
 
 -- the cache at the start of a script, with room for 512 sets
 unfoldable pub start_cache : Platform → List ℕ → Cache
@@ -54,5 +54,5 @@ start_of_script set code script =
     }
 
 -- the state after the script's cycles
-abbrev pub state_after : TaskSet → Code → Script → Machine
-state_after set code script = state (start_of_script set code script) script.cycles
+abbrev pub script_end_state : TaskSet → Code → Script → Machine
+script_end_state set code script = state (start_of_script set code script) script.cycles

@@ -7,12 +7,12 @@ use Rattle.rv_decode.specs.declared.Ins.{Ins}
 use Rattle.rv_decode.specs.Cost.{cost}
 use Rattle.rv_core.specs.declared.Next.{Next}
 use Rattle.rv_core.specs.declared.Next.TheVariants.{Goto, Answer, Fault}
-use Rattle.rv_core.specs.Effect.{next_pc, registers_after, stored}
-use Rattle.rv_decode.specs.Address.{after, end}
+use Rattle.rv_core.specs.Effect.{next_pc, registers_after, memory_after}
+use Rattle.rv_decode.specs.Address.{next_address, end_address}
 use Rattle.rv_core.specs.Memory.{Memory}
-use Rattle.icache.specs.Cache.{Cache, block_of, is_hit, accessed}
+use Rattle.icache.specs.Cache.{Cache, block_of, is_hit, cache_after_access}
 use Rattle.flow_watch.specs.Watch.{step as watch_step}
-use Rattle.preempt_machine.specs.Machine.{System, ins_at, Standing, Open, Answered, Faulted, Job, Machine, plan_of, started, job_at}
+use Rattle.preempt_machine.specs.Machine.{System, ins_at, Standing, Open, Answered, Faulted, Job, Machine, plan_of, start_machine, job_at}
 
 -- a job is ready from its release until it answers or faults
 abbrev pub is_open : Standing → Bool
@@ -34,12 +34,12 @@ abbrev pub before : List Job → ℕ → ℕ → Bool
 before jobs x y = comes_before (job_at jobs x).line x (job_at jobs y).line y
 
 -- the first in that order of the ready jobs below a place
-abbrev pub better : ℕ → List Job → ℕ → Option ℕ → Option ℕ
-better time jobs x best = if is_ready time (job_at jobs x) then (elim best [ None ↦ Some x | Some y ↦ if before jobs x y then Some x else Some y ]) else best
+abbrev pub better_candidate : ℕ → List Job → ℕ → Option ℕ → Option ℕ
+better_candidate time jobs x best = if is_ready time (job_at jobs x) then (elim best [ None ↦ Some x | Some y ↦ if before jobs x y then Some x else Some y ]) else best
 
 abbrev pub first_ready : ℕ → List Job → ℕ → Option ℕ
 first_ready time jobs zero = None
-first_ready time jobs (suc n) = better time jobs n (first_ready time jobs n)
+first_ready time jobs (suc n) = better_candidate time jobs n (first_ready time jobs n)
 
 -- whether a job keeps the core: a ready one in the middle of an instruction, where switches wait for its end
 abbrev pub keeps_core : Switching → ℕ → Job → Bool
@@ -65,77 +65,77 @@ pub record Turn : Type 0 where
   pub job : Job
 
 -- a candidate that is not the owner has all switch cycles before it
-abbrev pub owns : Option ℕ → ℕ → Bool
-owns None i = false
-owns (Some o) i = o == i
+abbrev pub is_owner : Option ℕ → ℕ → Bool
+is_owner None i = false
+is_owner (Some o) i = o == i
 
 abbrev pub turn_of : System → Machine → ℕ → Turn
 turn_of sys m i =
     record {
       cache = m.cache;
       memory = m.memory;
-      switch_left = if owns m.owner i then m.switch_left else sys.platform.switch;
+      switch_left = if is_owner m.owner i then m.switch_left else sys.platform.switch;
       job = job_at m.jobs i;
     }
 
 -- the fetch: the cache is accessed, and the instruction's cost is what is left of it
-abbrev pub goes_on : Next → ℕ → Bool
-goes_on (Goto to) pc = to == after pc
-goes_on Answer pc = true
-goes_on Fault pc = true
+abbrev pub goes_to_next : Next → ℕ → Bool
+goes_to_next (Goto to) pc = to == next_address pc
+goes_to_next Answer pc = true
+goes_to_next Fault pc = true
 
 abbrev pub fetch_cost : System → Ins → Turn → ℕ
 fetch_cost sys ins t =
     let p = sys.platform in
     let pc = t.job.pc in
-    cost p ins (not (is_hit p t.cache (block_of p pc))) (not (goes_on (next_pc ins pc t.job.registers) pc))
+    cost p ins (not (is_hit p t.cache (block_of p pc))) (not (goes_to_next (next_pc ins pc t.job.registers) pc))
 
-abbrev pub fetched : System → Ins → Turn → Turn
-fetched sys ins t =
+abbrev pub turn_after_fetch : System → Ins → Turn → Turn
+turn_after_fetch sys ins t =
     if t.job.left == 0 then
     record t {
-      cache = accessed sys.platform t.cache (block_of sys.platform t.job.pc);
+      cache = cache_after_access sys.platform t.cache (block_of sys.platform t.job.pc);
       job = record t.job { left = fetch_cost sys ins t };
     }
     else t
 
 -- the instruction has its effect: an ECALL answers, and any other goes on, under the watch
-abbrev pub went : System → ℕ → Ins → Turn → Next → Turn
-went sys n ins t (Goto to) =
+abbrev pub turn_after_effect : System → ℕ → Ins → Turn → Next → Turn
+turn_after_effect sys n ins t (Goto to) =
     let job = t.job in
     record t {
-      memory = stored ins job.registers t.memory;
+      memory = memory_after ins job.registers t.memory;
       job = record {
         line = job.line;
         registers = registers_after ins job.pc job.registers t.memory;
         pc = to;
         left = 0;
         watch = watch_step (plan_of sys job.line.task.0) job.watch job.pc ins to;
-        standing = if to == end then Answered (suc n) else Open;
+        standing = if to == end_address then Answered (suc n) else Open;
       };
     }
-went sys n ins t Answer = record t { job = record t.job { left = 0; standing = Answered (suc n) } }
-went sys n ins t Fault = record t { job = record t.job { left = 0; standing = Faulted } }
+turn_after_effect sys n ins t Answer = record t { job = record t.job { left = 0; standing = Answered (suc n) } }
+turn_after_effect sys n ins t Fault = record t { job = record t.job { left = 0; standing = Faulted } }
 
 -- one cycle of the instruction is used, and with the last one it has its effect
-abbrev pub worked : System → ℕ → Ins → Turn → Turn
-worked sys n ins t =
+abbrev pub turn_after_cycle : System → ℕ → Ins → Turn → Turn
+turn_after_cycle sys n ins t =
     if nat_lt 1 t.job.left then record t { job = record t.job { left = t.job.left - 1 } }
-    else went sys n ins t (next_pc ins t.job.pc t.job.registers)
+    else turn_after_effect sys n ins t (next_pc ins t.job.pc t.job.registers)
 
-abbrev pub executed : System → ℕ → Turn → Option Ins → Turn
-executed sys n t None = record t { job = record t.job { standing = Faulted } }
-executed sys n t (Some ins) = worked sys n ins (fetched sys ins t)
+abbrev pub turn_after_execution : System → ℕ → Turn → Option Ins → Turn
+turn_after_execution sys n t None = record t { job = record t.job { standing = Faulted } }
+turn_after_execution sys n t (Some ins) = turn_after_cycle sys n ins (turn_after_fetch sys ins t)
 
 -- a switch cycle that is left is used, and only without one the job's instruction
-unfoldable pub turned : System → ℕ → Turn → Turn
-turned sys n t =
+unfoldable pub turn_after_step : System → ℕ → Turn → Turn
+turn_after_step sys n t =
     if nat_lt 0 t.switch_left then record t { switch_left = t.switch_left - 1 }
-    else executed sys n t (ins_at sys t.job.pc)
+    else turn_after_execution sys n t (ins_at sys t.job.pc)
 
 -- the state after the turn of the job at a place
-abbrev pub placed : Machine → ℕ → Turn → Machine
-placed m i t =
+abbrev pub machine_after_turn : Machine → ℕ → Turn → Machine
+machine_after_turn m i t =
     record {
       time = suc m.time;
       cache = t.cache;
@@ -147,7 +147,7 @@ placed m i t =
 
 abbrev pub step_by : System → Machine → Option ℕ → Machine
 step_by sys m None = record m { time = suc m.time }
-step_by sys m (Some i) = placed m i (turned sys m.time (turn_of sys m i))
+step_by sys m (Some i) = machine_after_turn m i (turn_after_step sys m.time (turn_of sys m i))
 
 -- the state after a step
 abbrev pub step : System → Machine → Machine
@@ -167,7 +167,7 @@ pub record Start : Type 0 where
 
 -- the state of a run after n steps
 abbrev pub state : Start → ℕ → Machine
-state s n = run s.system (started s.system s.cache s.memory s.lines) n
+state s n = run s.system (start_machine s.system s.cache s.memory s.lines) n
 
 -- a fetch: the job's place, and the address
 pub record Fetch : Type 0 where

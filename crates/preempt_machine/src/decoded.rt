@@ -1,7 +1,7 @@
 // The instructions of words that were met, so that a loop's words are decoded once.
 ghost use Rattle.std.specs.Prelude.{◌≡◌, IfSome};
-ghost use Rattle.rv_decode.specs.Range.{IsInRange};
-ghost use Rattle.rv_decode.specs.Table.{row};
+ghost use Rattle.rv_decode.specs.Range.{HasFieldsInRange};
+ghost use Rattle.rv_decode.specs.Table.{ins_of_word};
 
 use crpd_base::Memory;
 use rv_decode::{Ins, decode};
@@ -51,8 +51,8 @@ impl Decoded {
     /// The instruction that a word means, which stands at an address. Where the word was met last at its place it is not
     /// decoded again.
     pub(crate) fn meaning(&mut self, word: u32, address: u32) -> Option<Ins>
-        ensures row { result ≡ row word }
-        ensures in_range { IfSome result IsInRange }
+        ensures row { result ≡ ins_of_word word }
+        ensures in_range { IfSome result HasFieldsInRange }
     {
         let at = (address / 4) as usize % self.places.len();
         let kept = self.places[at];

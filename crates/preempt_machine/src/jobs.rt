@@ -1,16 +1,16 @@
 // The jobs, and what a job does with the core while it has it.
 ghost use Rattle.std.specs.Prelude.{◌≡◌, ℕ, suc, ◌+◌, ◌<◌, ◌≤◌, ◌^◌, ◌⊎◌, ◌∷◌, ◌==◌, if◌then◌else◌, not, replicate, length, Some, None, IfSome, IfOk, IsOk, OnOk, OnErr};
 ghost use Rattle.crpd_base.specs.declared.data.Platform.{Platform};
-ghost use Rattle.rv_decode.specs.Address.{end};
-ghost use Rattle.rv_decode.specs.Range.{IsInRange};
+ghost use Rattle.rv_decode.specs.Address.{end_address};
+ghost use Rattle.rv_decode.specs.Range.{HasFieldsInRange};
 ghost use Rattle.rv_core.specs.Effect.{IsStore, next_pc};
 ghost use Rattle.icache.specs.Cache.{Cache as Blocks};
-ghost use Rattle.flow_watch.specs.Turns.{HasTurns};
+ghost use Rattle.flow_watch.specs.Iterations.{HasIterations};
 ghost use Rattle.flow_watch.specs.Watch.{step as watch_step};
 ghost use Rattle.preempt_machine.specs.Machine.{System, Open, Faulted, Answered, ins_at, new_job, plan_of};
-ghost use Rattle.preempt_machine.specs.Step.{executed, fetch_cost, fetched, goes_on, is_open, is_ready, went, worked};
+ghost use Rattle.preempt_machine.specs.Step.{turn_after_execution, fetch_cost, turn_after_fetch, goes_to_next, is_open, is_ready, turn_after_effect, turn_after_cycle};
 ghost use Rattle.preempt_machine.specs.Running.{access_by, system_by, HasPlan, IsStoreNow};
-ghost use Rattle.preempt_machine.specs.Jobs.{found_by, shown, turn_by};
+ghost use Rattle.preempt_machine.specs.Jobs.{found_by, end_of_standing, turn_by};
 
 use crate::End;
 use crate::decoded::Decoded;
@@ -61,16 +61,16 @@ impl Model for Job {
 
     ghost Value = { Job_of };
 
-    ghost use Rattle.preempt_machine.specs.Jobs.{job_of, IsUnderWay};
+    ghost use Rattle.preempt_machine.specs.Jobs.{job_of, HasBottomFrame};
 
     ghost view = { job_of };
 
-    ghost invariant = { IsUnderWay };
+    ghost invariant = { HasBottomFrame };
 }
 
 /// The registers of a job at its start: x1 is the address at which it ends, x2 the stack, x3 the global pointer.
 fn start_registers(plan: &TaskPlan) -> Regs
-    ensures { result ≡ 0 ∷ end ∷ plan.now.stack ∷ plan.now.global ∷ replicate 28 0 }
+    ensures { result ≡ 0 ∷ end_address ∷ plan.now.stack ∷ plan.now.global ∷ replicate 28 0 }
 {
     let mut registers = Regs::new();
     registers.put(1, END);
@@ -83,7 +83,7 @@ fn start_registers(plan: &TaskPlan) -> Regs
 /// In constant time.
 #[inline(always)]
 pub fn is_taken(next: Next, pc: u32) -> bool
-    ensures { result ≡ not (goes_on next pc) }
+    ensures { result ≡ not (goes_to_next next pc) }
 {
     match next {
         Next::Goto(to) => to != pc.wrapping_add(4),
@@ -97,7 +97,7 @@ impl Job {
     pub fn start(alloc: Global, line: ScriptJob, plan: &TaskPlan) -> Result<Self, Memory>
         ensures is { IfOk result (λ job. (sys : System) → plan_of sys line.task.0 ≡ plan.now → job ≡ new_job sys line) }
         ensures line { IfOk result (λ job. job.line ≡ line) }
-        ensures turns { IfOk result (λ job. HasTurns (length plan.now.loops) job.watch) }
+        ensures turns { IfOk result (λ job. HasIterations (length plan.now.loops) job.watch) }
     {
         Ok(Job {
             line,
@@ -154,7 +154,7 @@ impl Job {
 
     /// How the job stands, if it has been released.
     pub fn end(&self) -> End
-        ensures { result ≡ shown self.now.standing }
+        ensures { result ≡ end_of_standing self.now.standing }
     {
         match self.standing {
             Standing::Open => End::Open,
@@ -167,7 +167,7 @@ impl Job {
     /// In constant time.
     #[inline(always)]
     pub fn next(&self, ins: &Ins) -> Next
-        requires { IsInRange ins.now }
+        requires { HasFieldsInRange ins.now }
         ensures { result ≡ next_pc ins.now self.now.pc self.now.registers }
     {
         next_pc(ins, self.pc, &self.registers)
@@ -196,7 +196,7 @@ impl Job {
 
     /// It is at an address from a time on, with no instruction under way. At the end it has answered then.
     fn reach(&mut self, to: u32, time: u64)
-        ensures { self.new ≡ record self.old { pc = to; left = 0; standing = if to == end then Answered time else self.old.standing } }
+        ensures { self.new ≡ record self.old { pc = to; left = 0; standing = if to == end_address then Answered time else self.old.standing } }
     {
         self.pc = to;
         self.left = 0;
@@ -214,11 +214,11 @@ impl Job {
         to: u32,
         time: u64,
     ) -> Result<(), Memory>
-        requires in_range { IsInRange ins.now }
-        requires turns { HasTurns (length plan.now.loops) self.old.watch }
+        requires in_range { HasFieldsInRange ins.now }
+        requires turns { HasIterations (length plan.now.loops) self.old.watch }
         requires open { self.old.standing ≡ Open }
-        ensures ok { OnOk result ((sys : System) (cache : Blocks) (k n : ℕ) → suc n ≡ time → plan_of sys self.old.line.task.0 ≡ plan.now → turn_by cache memory.new k self.new ≡ went sys n ins.now (turn_by cache memory.old k self.old) (Next.Goto to)) }
-        ensures turns { OnOk result (HasTurns (length plan.now.loops) self.new.watch) }
+        ensures ok { OnOk result ((sys : System) (cache : Blocks) (k n : ℕ) → suc n ≡ time → plan_of sys self.old.line.task.0 ≡ plan.now → turn_by cache memory.new k self.new ≡ turn_after_effect sys n ins.now (turn_by cache memory.old k self.old) (Next.Goto to)) }
+        ensures turns { OnOk result (HasIterations (length plan.now.loops) self.new.watch) }
         ensures err { OnErr result ((self.new ≡ self.old) × (memory.new ≡ memory.old)) }
         ensures only { IsStore ins.now ⊎ IsOk result }
     {
@@ -240,9 +240,9 @@ impl Job {
         to: u32,
         time: u64,
     ) -> Result<(), Memory>
-        requires in_range { IsInRange ins.now }
+        requires in_range { HasFieldsInRange ins.now }
         requires open { self.old.standing ≡ Open }
-        ensures ok { OnOk result ((sys : System) (cache : Blocks) (k n : ℕ) → suc n ≡ time → watch_step (plan_of sys self.old.line.task.0) self.old.watch self.old.pc ins.now to ≡ self.old.watch → turn_by cache memory.new k self.new ≡ went sys n ins.now (turn_by cache memory.old k self.old) (Next.Goto to)) }
+        ensures ok { OnOk result ((sys : System) (cache : Blocks) (k n : ℕ) → suc n ≡ time → watch_step (plan_of sys self.old.line.task.0) self.old.watch self.old.pc ins.now to ≡ self.old.watch → turn_by cache memory.new k self.new ≡ turn_after_effect sys n ins.now (turn_by cache memory.old k self.old) (Next.Goto to)) }
         ensures watch { self.new.watch ≡ self.old.watch }
         ensures err { OnErr result ((self.new ≡ self.old) × (memory.new ≡ memory.old)) }
         ensures only { IsStore ins.now ⊎ IsOk result }
@@ -263,11 +263,11 @@ impl Job {
         next: Next,
         time: u64,
     ) -> Result<(), Memory>
-        requires in_range { IsInRange ins.now }
-        requires turns { HasTurns (length plan.now.loops) self.old.watch }
+        requires in_range { HasFieldsInRange ins.now }
+        requires turns { HasIterations (length plan.now.loops) self.old.watch }
         requires open { self.old.standing ≡ Open }
-        ensures ok { OnOk result ((sys : System) (cache : Blocks) (k n : ℕ) → suc n ≡ time → plan_of sys self.old.line.task.0 ≡ plan.now → turn_by cache memory.new k self.new ≡ went sys n ins.now (turn_by cache memory.old k self.old) next) }
-        ensures turns { OnOk result (HasTurns (length plan.now.loops) self.new.watch) }
+        ensures ok { OnOk result ((sys : System) (cache : Blocks) (k n : ℕ) → suc n ≡ time → plan_of sys self.old.line.task.0 ≡ plan.now → turn_by cache memory.new k self.new ≡ turn_after_effect sys n ins.now (turn_by cache memory.old k self.old) next) }
+        ensures turns { OnOk result (HasIterations (length plan.now.loops) self.new.watch) }
         ensures err { OnErr result ((self.new ≡ self.old) × (memory.new ≡ memory.old)) }
         ensures only { IsStore ins.now ⊎ IsOk result }
     {
@@ -291,12 +291,12 @@ impl Job {
         left: u64,
         now: u64,
     ) -> Result<(), Memory>
-        requires in_range { IsInRange ins.now }
-        requires turns { HasTurns (length plan.now.loops) self.old.watch }
+        requires in_range { HasFieldsInRange ins.now }
+        requires turns { HasIterations (length plan.now.loops) self.old.watch }
         requires open { self.old.standing ≡ Open }
         requires later { now + 1 < 2 ^ 64 }
-        ensures ok { OnOk result ((sys : System) (cache : Blocks) (k : ℕ) → plan_of sys self.old.line.task.0 ≡ plan.now → turn_by cache memory.new k self.new ≡ worked sys now ins.now (turn_by cache memory.old k (record self.old { left = left }))) }
-        ensures turns { OnOk result (HasTurns (length plan.now.loops) self.new.watch) }
+        ensures ok { OnOk result ((sys : System) (cache : Blocks) (k : ℕ) → plan_of sys self.old.line.task.0 ≡ plan.now → turn_by cache memory.new k self.new ≡ turn_after_cycle sys now ins.now (turn_by cache memory.old k (record self.old { left = left }))) }
+        ensures turns { OnOk result (HasIterations (length plan.now.loops) self.new.watch) }
         ensures err { OnErr result ((self.new ≡ self.old) × (memory.new ≡ memory.old)) }
         ensures store { OnErr result (IsStore ins.now) }
         ensures last { OnErr result (left ≤ 1) }
@@ -313,7 +313,7 @@ impl Job {
 #[tactic(auto, unfolding(crate::specs::Machine::ins_at))]
 fn instruction(decoded: &mut Decoded, code: &CodeMap, address: u32) -> Option<Ins>
     ensures is { (platform : Platform) → result ≡ ins_at (system_by platform code.now) address }
-    ensures in_range { IfSome result IsInRange }
+    ensures in_range { IfSome result HasFieldsInRange }
 {
     match decoded.meaning(code.word(address)?, address) {
         Some(Ins::Ebreak) => None,
@@ -324,7 +324,7 @@ fn instruction(decoded: &mut Decoded, code: &CodeMap, address: u32) -> Option<In
 impl Core {
     /// The cycles of an instruction that a job fetches now.
     fn cost(&self, job: &Job, ins: &Ins) -> u64
-        requires in_range { IsInRange ins.now }
+        requires in_range { HasFieldsInRange ins.now }
         requires room { self.now.geometry.platform.sets ≤ length self.now.cache }
         ensures { (sys : System) (k : ℕ) → sys.platform ≡ self.now.geometry.platform → result ≡ fetch_cost sys ins.now (turn_by self.now.cache self.now.memory k job.now) }
     {
@@ -346,18 +346,18 @@ impl Core {
         ins: &Ins,
         now: u64,
     ) -> Result<Option<Access>, Memory>
-        requires in_range { IsInRange ins.now }
-        requires turns { HasTurns (length plan.now.loops) job.old.watch }
+        requires in_range { HasFieldsInRange ins.now }
+        requires turns { HasIterations (length plan.now.loops) job.old.watch }
         requires open { job.old.standing ≡ Open }
         requires later { now + 1 < 2 ^ 64 }
         requires room { self.old.geometry.platform.sets ≤ length self.old.cache }
-        ensures ok { OnOk result ((sys : System) (k : ℕ) → sys.platform ≡ self.old.geometry.platform → plan_of sys job.old.line.task.0 ≡ plan.now → turn_by self.new.cache self.new.memory k job.new ≡ worked sys now ins.now (fetched sys ins.now (turn_by self.old.cache self.old.memory k job.old))) }
+        ensures ok { OnOk result ((sys : System) (k : ℕ) → sys.platform ≡ self.old.geometry.platform → plan_of sys job.old.line.task.0 ≡ plan.now → turn_by self.new.cache self.new.memory k job.new ≡ turn_after_cycle sys now ins.now (turn_after_fetch sys ins.now (turn_by self.old.cache self.old.memory k job.old))) }
         ensures found { IfOk result (λ found. found ≡ (if job.old.left == 0 then Some (access_by self.old.geometry.platform self.old.cache job.old.pc) else None)) }
-        ensures turns { OnOk result (HasTurns (length plan.now.loops) job.new.watch) }
+        ensures turns { OnOk result (HasIterations (length plan.now.loops) job.new.watch) }
         ensures geometry { self.new.geometry ≡ self.old.geometry }
         ensures err { OnErr result ((job.new ≡ job.old) × (self.new ≡ self.old)) }
         ensures store { OnErr result (IsStore ins.now) }
-        ensures last { OnErr result ((sys : System) (k : ℕ) → sys.platform ≡ self.old.geometry.platform → (fetched sys ins.now (turn_by self.old.cache self.old.memory k job.old)).job.left ≤ 1) }
+        ensures last { OnErr result ((sys : System) (k : ℕ) → sys.platform ≡ self.old.geometry.platform → (turn_after_fetch sys ins.now (turn_by self.old.cache self.old.memory k job.old)).job.left ≤ 1) }
     {
         let left = job.left();
         if left > 0 {
@@ -382,7 +382,7 @@ impl Core {
         requires open { job.old.standing ≡ Open }
         requires later { now + 1 < 2 ^ 64 }
         requires room { self.old.geometry.platform.sets ≤ length self.old.cache }
-        ensures ok { OnOk result (let sys = system_by self.old.geometry.platform code.now in turn_by self.new.cache self.new.memory 0 job.new ≡ executed sys now (turn_by self.old.cache self.old.memory 0 job.old) (ins_at sys job.old.pc)) }
+        ensures ok { OnOk result (let sys = system_by self.old.geometry.platform code.now in turn_by self.new.cache self.new.memory 0 job.new ≡ turn_after_execution sys now (turn_by self.old.cache self.old.memory 0 job.old) (ins_at sys job.old.pc)) }
         ensures found { IfOk result (λ found. found ≡ found_by (system_by self.old.geometry.platform code.now) (turn_by self.old.cache self.old.memory 0 job.old)) }
         ensures plan { OnOk result (HasPlan code.now.plans job.new) }
         ensures geometry { self.new.geometry ≡ self.old.geometry }

@@ -1,6 +1,6 @@
 // The machine that runs.
 ghost use Rattle.std.specs.Prelude.{◌≡◌, ℕ, ◌<◌, length};
-ghost use Rattle.preempt_machine.specs.Kept.{completion};
+ghost use Rattle.preempt_machine.specs.Schedule.{completion};
 
 use crate::decoded::Decoded;
 use crate::jobs::Core;
@@ -32,8 +32,8 @@ impl Model for Machine {
 
     ghost Value = { Running };
 
-    ghost use Rattle.preempt_machine.specs.Kept.{running_of};
-    ghost use Rattle.preempt_machine.specs.Flags.{IsFlagged};
+    ghost use Rattle.preempt_machine.specs.Schedule.{running_of};
+    ghost use Rattle.preempt_machine.specs.KeptFlag.{IsFlagged};
 
     ghost view = { λ m. running_of m.parts };
 
@@ -58,9 +58,9 @@ impl Machine {
     ghost use Rattle.std.specs.Prelude.{◌≡◌, ◌≢◌, ℕ, ◌+◌, ◌-◌, ◌<◌, ◌≤◌, ◌^◌, length, map, All, IsTrue, ◌↔◌, Some, None, option_map, IfOk, OnOk, OnErr};
     ghost use Rattle.preempt_machine.specs.Safe.{completions, IsKept, NamesTasks};
     ghost use Rattle.preempt_machine.specs.Starts.{start_cache, start_memory};
-    ghost use Rattle.preempt_machine.specs.Running.{completion_at, job_id, start_of, stepped, stepped_by, system_by, GivesStore, HasPlans, IsAt, StopsAtStore};
+    ghost use Rattle.preempt_machine.specs.Running.{completion_at, job_id, start_of, running_after_step, running_after_steps, system_by, GivesStore, HasPlans, IsJobAt, StopsAtStore};
     ghost use Rattle.preempt_machine.specs.Machine.{job_at};
-    ghost use Rattle.preempt_machine.specs.Kept.{completion, HasMade};
+    ghost use Rattle.preempt_machine.specs.Schedule.{completion, HasMade};
 
     /// The machine at the start of a run of a script, from any cache and data memory: no owner, and all jobs
     /// unreleased. It makes all the room that steps fill, but that of the data memory.
@@ -149,7 +149,7 @@ impl Machine {
     pub fn cycle(&mut self, code: &CodeMap) -> Result<(), Memory>
         requires later { self.old.state.time + 1 < 2 ^ 64 }
         requires plans { HasPlans code.now self.old.state }
-        ensures ok { OnOk result (self.new ≡ stepped code.now self.old) }
+        ensures ok { OnOk result (self.new ≡ running_after_step code.now self.old) }
         ensures plans { HasPlans code.now self.new.state }
         ensures err { OnErr result (self.new ≡ self.old) }
         ensures only { OnErr result (GivesStore (system_by self.old.platform code.now) self.old.state) }
@@ -165,7 +165,7 @@ impl Machine {
     /// is ready, and once a look at each task's first waiting job for each stretch of cycles in which none is.
     pub fn run_until(&mut self, code: &CodeMap, cycle: u64) -> Result<(), Memory>
         requires plans { HasPlans code.now self.old.state }
-        ensures ok { OnOk result (self.new ≡ stepped_by (cycle - self.old.state.time) code.now self.old) }
+        ensures ok { OnOk result (self.new ≡ running_after_steps (cycle - self.old.state.time) code.now self.old) }
         ensures plans { HasPlans code.now self.new.state }
         ensures err { OnErr result (StopsAtStore code.now (cycle - self.old.state.time) self.old self.new) }
     {
@@ -222,17 +222,17 @@ impl Machine {
 
     /// The place of a job in the script.
     fn place(&self, job: JobId) -> usize
-        requires { (x : ℕ) × IsAt self.now.state job x }
+        requires { (x : ℕ) × IsJobAt self.now.state job x }
         ensures below { result < length self.now.state.jobs }
-        ensures is { (x : ℕ) → IsAt self.now.state job x → result ≡ x }
+        ensures is { (x : ℕ) → IsJobAt self.now.state job x → result ≡ x }
     {
         place_of(self.parts.schedule.completions.as_slice(), job)
     }
 
     /// The pc of a job of the script, by a look through the jobs.
     pub fn pc(&self, job: JobId) -> u32
-        requires { (x : ℕ) × IsAt self.now.state job x }
-        ensures { (x : ℕ) → IsAt self.now.state job x → result ≡ (job_at self.now.state.jobs x).pc }
+        requires { (x : ℕ) × IsJobAt self.now.state job x }
+        ensures { (x : ℕ) → IsJobAt self.now.state job x → result ≡ (job_at self.now.state.jobs x).pc }
     {
         let place = self.place(job);
         self.parts.schedule.jobs[place].pc()
@@ -240,8 +240,8 @@ impl Machine {
 
     /// The watch of a job of the script, by a look through the jobs.
     pub fn watch(&self, job: JobId) -> &Watch
-        requires { (x : ℕ) × IsAt self.now.state job x }
-        ensures { (x : ℕ) → IsAt self.now.state job x → result.now ≡ (job_at self.now.state.jobs x).watch }
+        requires { (x : ℕ) × IsJobAt self.now.state job x }
+        ensures { (x : ℕ) → IsJobAt self.now.state job x → result.now ≡ (job_at self.now.state.jobs x).watch }
     {
         let place = self.place(job);
         self.parts.schedule.jobs[place].watch()

@@ -4,8 +4,8 @@ ghost use Rattle.code_map.specs.Words.{Code};
 ghost use Rattle.preempt_machine.specs.Machine.{System, Open, job_at};
 ghost use Rattle.preempt_machine.specs.Step.{candidate, turn_of};
 ghost use Rattle.preempt_machine.specs.Running.{system_by, GivesStore, HasPlan, HasPlans, IsStoreNow};
-ghost use Rattle.preempt_machine.specs.Flags.{ChangesOwner};
-ghost use Rattle.preempt_machine.specs.Kept.{machine_of, running_of, HasMade, HasStepped, HasTurned, IsHead, IsMachine, IsSame, NoneIsReady};
+ghost use Rattle.preempt_machine.specs.KeptFlag.{ChangesOwner};
+ghost use Rattle.preempt_machine.specs.Schedule.{machine_of, running_of, HasMade, HasStepped, HasTurned, IsHead, IsMachine, HasSameState, NoneIsReady};
 
 use crate::Fetch;
 use crate::jobs::Core;
@@ -59,7 +59,7 @@ impl Parts {
         requires later { self.old.schedule.steps + 1 < 2 ^ 64 }
         ensures ok { OnOk result (HasTurned (system_by self.old.core.geometry.platform code.now) self.old self.new place) }
         ensures plan { OnOk result (HasPlan code.now.plans (job_at self.new.schedule.jobs.items place)) }
-        ensures err { OnErr result (IsSame self.old self.new) }
+        ensures err { OnErr result (HasSameState self.old self.new) }
         ensures only { OnErr result (IsStoreNow (system_by self.old.core.geometry.platform code.now) (turn_of (system_by self.old.core.geometry.platform code.now) (machine_of self.old) place)) }
     {
         let job = &mut self.schedule.jobs[place];
@@ -79,7 +79,7 @@ impl Parts {
         requires later { self.old.schedule.steps + 1 < 2 ^ 64 }
         ensures ok { OnOk result (HasTurned (system_by self.old.core.geometry.platform code.now) self.old self.new place) }
         ensures plans { OnOk result (HasPlans code.now (machine_of self.new)) }
-        ensures err { OnErr result (IsSame self.old self.new) }
+        ensures err { OnErr result (HasSameState self.old self.new) }
         ensures only { OnErr result (GivesStore (system_by self.old.core.geometry.platform code.now) (machine_of self.old)) }
     {
         let whole = self.core.geometry.platform.switch;
@@ -114,7 +114,7 @@ impl Parts {
         ensures ok { OnOk result (HasStepped (system_by self.old.core.geometry.platform code.now) self.old self.new) }
         ensures machine { OnOk result (IsMachine self.new) }
         ensures plans { OnOk result (HasPlans code.now (machine_of self.new)) }
-        ensures err { OnErr result (IsSame self.old self.new) }
+        ensures err { OnErr result (HasSameState self.old self.new) }
         ensures only { OnErr result (GivesStore (system_by self.old.core.geometry.platform code.now) (machine_of self.old)) }
     {
         self.turn(code, place)?;
@@ -133,7 +133,7 @@ impl Parts {
         ensures machine { OnOk result (IsMachine self.new) }
         ensures plans { OnOk result (HasPlans code.now (machine_of self.new)) }
         ensures owner { OnOk result (ChangesOwner (machine_of self.old) (machine_of self.new)) }
-        ensures err { OnErr result (IsSame self.old self.new) }
+        ensures err { OnErr result (HasSameState self.old self.new) }
         ensures only { OnErr result (GivesStore (system_by self.old.core.geometry.platform code.now) (machine_of self.old)) }
     {
         let switching = self.core.geometry.platform.switching;

@@ -1,7 +1,7 @@
 // The order in which the jobs of a script come to the core.
 
 ghost use Rattle.std.specs.Prelude.{◌≡◌, ℕ, ◌+◌, ◌<◌, ◌≤◌, length, replicate, slice_index, slice_set, IfOk, MatchOption};
-ghost use Rattle.preempt_machine.specs.Kept.{line_at, release_at, place_at, AreListed, IsDue, IsLinked, IsFirstFrom, IsFirstCome, NoneHasCome, HasOpened, IsNextRelease};
+ghost use Rattle.preempt_machine.specs.Schedule.{script_line, due_release, due_place, AreListed, IsReleaseOrder, IsLinked, IsFirstFrom, IsFirstReleased, NoneIsReleased, HasOpened, IsNextRelease};
 
 use crate::{Completion, End};
 use crpd_base::{Memory, ScriptJob, Task};
@@ -22,7 +22,7 @@ pub struct Queue {
 }
 
 /// The releases and places of jobs, by place.
-fn listed(alloc: Global, lines: &[ScriptJob]) -> Result<Vec<(u64, usize)>, Memory>
+fn releases_by_place(alloc: Global, lines: &[ScriptJob]) -> Result<Vec<(u64, usize)>, Memory>
     ensures { IfOk result (λ due. AreListed lines.now due.items) }
 {
     let mut due = Vec::new(alloc);
@@ -35,18 +35,18 @@ fn listed(alloc: Global, lines: &[ScriptJob]) -> Result<Vec<(u64, usize)>, Memor
 }
 
 /// The releases and places of jobs, in ascending order.
-fn due(alloc: Global, lines: &[ScriptJob]) -> Result<Vec<(u64, usize)>, Memory>
-    ensures { IfOk result (λ due. IsDue lines.now due.items) }
+fn release_order(alloc: Global, lines: &[ScriptJob]) -> Result<Vec<(u64, usize)>, Memory>
+    ensures { IfOk result (λ due. IsReleaseOrder lines.now due.items) }
 {
-    let mut due = listed(alloc, lines)?;
+    let mut due = releases_by_place(alloc, lines)?;
     due.sort_unstable();
     Ok(due)
 }
 
 /// The next job of the same task for each job, and the first one for each task.
 fn link(lines: &[ScriptJob], due: &[(u64, usize)], later: &mut [usize], heads: &mut [usize])
-    requires due { IsDue lines.now due.now }
-    requires tasks { (x : ℕ) → x < length lines.now → (line_at lines.now x).task.0 < length heads.old }
+    requires due { IsReleaseOrder lines.now due.now }
+    requires tasks { (x : ℕ) → x < length lines.now → (script_line lines.now x).task.0 < length heads.old }
     requires later { length later.old ≡ length due.now }
     requires heads { (t : ℕ) → t < length heads.old → slice_index heads.old t ≡ length due.now }
     ensures linked { IsLinked lines.now due.now later.new }
@@ -75,15 +75,15 @@ impl Queue {
     /// The jobs of a script, all of them unreleased, with room for so many tasks. Want of memory is the only error. Time
     /// is n log n in the jobs.
     pub fn new(alloc: Global, lines: &[ScriptJob], tasks: usize) -> Result<Self, Memory>
-        requires { (x : ℕ) → x < length lines.now → (line_at lines.now x).task.0 < tasks }
-        ensures due { IfOk result (λ queue. IsDue lines.now queue.due.items) }
+        requires { (x : ℕ) → x < length lines.now → (script_line lines.now x).task.0 < tasks }
+        ensures due { IfOk result (λ queue. IsReleaseOrder lines.now queue.due.items) }
         ensures linked { IfOk result (λ queue. IsLinked lines.now queue.due.items queue.later.items) }
         ensures tasks { IfOk result (λ queue. length queue.heads.items ≡ tasks) }
-        ensures each { IfOk result (λ queue. (x : ℕ) → x < length lines.now → (line_at lines.now x).task.0 < length queue.heads.items) }
+        ensures each { IfOk result (λ queue. (x : ℕ) → x < length lines.now → (script_line lines.now x).task.0 < length queue.heads.items) }
         ensures heads { IfOk result (λ queue. (t : ℕ) → t < tasks → IsFirstFrom lines.now queue.due.items t 0 (slice_index queue.heads.items t)) }
         ensures released { IfOk result (λ queue. queue.released ≡ 0) }
     {
-        let due = due(alloc, lines)?;
+        let due = release_order(alloc, lines)?;
         let mut later = numbers(alloc, due.len(), due.len())?;
         let mut heads = numbers(alloc, due.len(), tasks)?;
         link(lines, &due, later.as_mut_slice(), heads.as_mut_slice());
@@ -97,7 +97,7 @@ impl Queue {
 
     /// The place of the first ready job, by task, release and place, by a look at each task's first waiting job.
     pub fn first(&self, now: u64) -> Option<usize>
-        ensures { MatchOption result (NoneHasCome self.now.due.items self.now.heads.items now) (IsFirstCome self.now.due.items self.now.heads.items now) }
+        ensures { MatchOption result (NoneIsReleased self.now.due.items self.now.heads.items now) (IsFirstReleased self.now.due.items self.now.heads.items now) }
     {
         for head in &self.heads {
             if *head < self.due.len() && self.due[*head].0 <= now {
@@ -136,12 +136,12 @@ impl Queue {
     /// Tells of the jobs that are released in this cycle that they are open.
     /// Linear in these; it takes no memory.
     pub fn release(&mut self, completions: &mut [Completion], now: u64)
-        requires { (p : ℕ) → p < length self.old.due.items → place_at self.old.due.items p < length completions.old }
+        requires { (p : ℕ) → p < length self.old.due.items → due_place self.old.due.items p < length completions.old }
         ensures opened { HasOpened self.old.due.items self.old.released self.new.released completions.old completions.new }
         ensures from { self.old.released ≤ self.new.released }
         ensures to { self.old.released ≤ length self.old.due.items → self.new.released ≤ length self.old.due.items }
-        ensures come { (p : ℕ) → self.old.released ≤ p → p < self.new.released → release_at self.old.due.items p ≤ now }
-        ensures wait { self.new.released < length self.old.due.items → now < release_at self.old.due.items self.new.released }
+        ensures come { (p : ℕ) → self.old.released ≤ p → p < self.new.released → due_release self.old.due.items p ≤ now }
+        ensures wait { self.new.released < length self.old.due.items → now < due_release self.old.due.items self.new.released }
         ensures due { self.new.due.items ≡ self.old.due.items }
         ensures later { self.new.later.items ≡ self.old.later.items }
         ensures heads { self.new.heads.items ≡ self.old.heads.items }

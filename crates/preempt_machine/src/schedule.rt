@@ -2,13 +2,13 @@
 ghost use Rattle.std.specs.Prelude.{◌≡◌, ℕ, ◌+◌, ◌<◌, ◌≤◌, ◌^◌, ◌↔◌, ◌++◌, ◌∷◌, [], true, map, length, replicate, All, IfOk, IfSome, OnOk, IsTrue};
 ghost use Rattle.rv_core.specs.Memory.{Memory as Bytes};
 ghost use Rattle.icache.specs.Cache.{Cache};
-ghost use Rattle.flow_watch.specs.Watch.{is_kept};
-ghost use Rattle.preempt_machine.specs.Machine.{System, job_at, new_job, number_of, started};
+ghost use Rattle.flow_watch.specs.Watch.{is_unbroken};
+ghost use Rattle.preempt_machine.specs.Machine.{System, job_at, new_job, number_in_script, start_machine};
 ghost use Rattle.preempt_machine.specs.Step.{candidate, keeps_core, turn_of};
 ghost use Rattle.preempt_machine.specs.Safe.{system_of, NamesTasks};
 ghost use Rattle.preempt_machine.specs.Running.{HasPlan};
-ghost use Rattle.preempt_machine.specs.Flags.{kept_at};
-ghost use Rattle.preempt_machine.specs.Kept.{completion, line_at, lines_of, machine_by, owner_keeps, place_at, HasPassed, HasSettled, HasTold, IsDue, IsHead, IsOwner, IsScheduled, IsWaiting};
+ghost use Rattle.preempt_machine.specs.KeptFlag.{kept_at};
+ghost use Rattle.preempt_machine.specs.Schedule.{completion, script_line, script_lines, machine_by, owner_keeps, due_place, HasPassed, HasSettled, HasToldReleases, IsReleaseOrder, IsHead, IsOwner, IsScheduled, HasTaskHeads};
 
 use crate::jobs::Job;
 use crate::queue::Queue;
@@ -49,7 +49,7 @@ pub fn push<T: Drop>(list: &mut Vec<T>, item: T) -> Result<(), Memory>
 /// is the only error.
 /// Linear in the jobs, each with its watch.
 fn start_jobs(alloc: Global, code: &CodeMap, lines: &[ScriptJob]) -> Result<Vec<Job>, Memory>
-    requires { (x : ℕ) → x < length lines.now → (line_at lines.now x).task.0 < length code.now.plans }
+    requires { (x : ℕ) → x < length lines.now → (script_line lines.now x).task.0 < length code.now.plans }
     ensures jobs { IfOk result (λ jobs. (sys : System) → sys.plans ≡ code.now.plans → jobs.items ≡ map (new_job sys) lines.now) }
     ensures plans { IfOk result (λ jobs. (x : ℕ) → x < length jobs.items → HasPlan code.now.plans (job_at jobs.items x)) }
 {
@@ -80,9 +80,9 @@ fn start_completions(
     tasks: usize,
 ) -> Result<Vec<Completion>, Memory>
     requires few { length lines.now < 2 ^ 32 }
-    requires tasks { (x : ℕ) → x < length lines.now → (line_at lines.now x).task.0 < tasks }
+    requires tasks { (x : ℕ) → x < length lines.now → (script_line lines.now x).task.0 < tasks }
     ensures long { IfOk result (λ cs. length cs.items ≡ length lines.now) }
-    ensures each { IfOk result (λ cs. (x : ℕ) → x < length lines.now → completion cs.items x ≡ record { job = record { task = (line_at lines.now x).task; number = number_of lines.now (line_at lines.now x).task.0 x }; «end» = End.Unreleased }) }
+    ensures each { IfOk result (λ cs. (x : ℕ) → x < length lines.now → completion cs.items x ≡ record { job = record { task = (script_line lines.now x).task; number = number_in_script lines.now (script_line lines.now x).task.0 x }; «end» = End.Unreleased }) }
 {
     let mut counts = zeros(alloc, tasks)?;
     let mut completions = Vec::new(alloc);
@@ -113,7 +113,7 @@ impl Schedule {
         requires plans { length code.now.plans ≡ length set.now.tasks }
         requires tasks { NamesTasks set.now script.now.jobs }
         requires jobs { length script.now.jobs < 2 ^ 32 }
-        ensures started { IfOk result (λ s. (cache : Cache) (memory : Bytes) → machine_by cache memory s ≡ started (system_of set.now code.now) cache memory script.now.jobs) }
+        ensures started { IfOk result (λ s. (cache : Cache) (memory : Bytes) → machine_by cache memory s ≡ start_machine (system_of set.now code.now) cache memory script.now.jobs) }
         ensures scheduled { IfOk result (λ s. (sets : ℕ) (cache : Cache) (memory : Bytes) → sets ≤ length cache → IsScheduled sets cache memory s) }
         ensures plans { IfOk result (λ s. (x : ℕ) → x < length s.jobs.items → HasPlan code.now.plans (job_at s.jobs.items x)) }
     {
@@ -168,8 +168,8 @@ impl Schedule {
     /// the data memory hold. It is the first job of its task that is open.
     /// By a look at each task's first waiting job.
     pub fn candidate(&self, switching: Switching) -> Option<usize>
-        requires due { IsDue (lines_of self.now.jobs.items) self.now.queue.due.items }
-        requires waiting { IsWaiting (lines_of self.now.jobs.items) self.now.queue.due.items self.now.queue.heads.items self.now.jobs.items }
+        requires due { IsReleaseOrder (script_lines self.now.jobs.items) self.now.queue.due.items }
+        requires waiting { HasTaskHeads (script_lines self.now.jobs.items) self.now.queue.due.items self.now.queue.heads.items self.now.jobs.items }
         requires owner { (o : ℕ) → self.now.owner ≡ Some o → IsOwner self.now.jobs.items self.now.queue.due.items self.now.queue.heads.items o }
         ensures is { (sys : System) (cache : Cache) (memory : Bytes) → sys.platform.switching ≡ switching → result ≡ candidate sys (machine_by cache memory self.now) }
         ensures head { IfSome result (IsHead self.now.jobs.items self.now.queue.due.items self.now.queue.heads.items) }
@@ -196,8 +196,8 @@ impl Schedule {
     /// Tells of the jobs that are released in this cycle that they are open.
     /// Linear in these; it takes no memory.
     pub fn tell(&mut self)
-        requires { (p : ℕ) → p < length self.old.queue.due.items → place_at self.old.queue.due.items p < length self.old.completions.items }
-        ensures { HasTold self.old self.new }
+        requires { (p : ℕ) → p < length self.old.queue.due.items → due_place self.old.queue.due.items p < length self.old.completions.items }
+        ensures { HasToldReleases self.old self.new }
     {
         self.queue
             .release(self.completions.as_mut_slice(), self.steps);
@@ -205,7 +205,7 @@ impl Schedule {
 
     /// The cycle passes: tells of the jobs that it releases that they are open, and counts it.
     pub(crate) fn pass(&mut self)
-        requires places { (p : ℕ) → p < length self.old.queue.due.items → place_at self.old.queue.due.items p < length self.old.completions.items }
+        requires places { (p : ℕ) → p < length self.old.queue.due.items → due_place self.old.queue.due.items p < length self.old.completions.items }
         requires later { self.old.steps + 1 < 2 ^ 64 }
         ensures { HasPassed self.old self.new }
     {
@@ -233,7 +233,7 @@ impl Schedule {
     /// Whether no job's watch is broken.
     /// Linear in the jobs; it takes no memory.
     pub fn are_kept(&self) -> bool
-        ensures { IsTrue result ↔ All (λ job. is_kept job.watch ≡ true) self.now.jobs.items }
+        ensures { IsTrue result ↔ All (λ job. is_unbroken job.watch ≡ true) self.now.jobs.items }
     {
         for job in &self.jobs {
             if job.watch().broken() {

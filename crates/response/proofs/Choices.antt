@@ -9,7 +9,7 @@ use Rattle.crpd_base.specs.declared.data.Method.{Method}
 use Rattle.crpd_base.specs.declared.data.Method.TheVariants.{Ucb, Ecb}
 use Rattle.crpd_base.specs.Tasks.{jitter_of, deadline_of}
 use Rattle.response.specs.declared.choice.Choice.{Choice}
-use Rattle.response.specs.Windows.{Demand, IsSmaller, window_at, method_at, AreChoices, IsAnswer, IsFirstWithout}
+use Rattle.response.specs.Windows.{Demand, IsSmallerWindow, window_at, method_at, AreChoices, AreAllChoices, IsFirstWithoutWindow}
 use Rattle.response.proofs.WindowLaws.{smaller_too, none_too, never_smaller, one_choice}
 
 -- two demands are the same of the first tasks, where the windows of the higher ones are
@@ -23,10 +23,10 @@ module _ (set : TaskSet) (demand further : Demand) (agree : Agree demand further
   choices_too choices n le A k l =
       smaller_too set (demand (window_at choices) k) (further (window_at choices) k) k (agree (window_at choices) (window_at choices) k (omega (arith, le, l)) (λ j h. refl)) (method_at choices k) (window_at choices k) (A k l)
 
-  pub answer_too : (choices : List Choice) → IsAnswer set demand choices → IsAnswer set further choices
+  pub answer_too : (choices : List Choice) → AreAllChoices set demand choices → AreAllChoices set further choices
   answer_too choices A = record { tasks = A.tasks; each = choices_too choices (length set.tasks) (omega arith) A.each }
 
-  pub first_too : (i : ℕ) → IsFirstWithout set demand i → IsFirstWithout set further i
+  pub first_too : (i : ℕ) → IsFirstWithoutWindow set demand i → IsFirstWithoutWindow set further i
   first_too i F =
       let same = agree (window_at F.higher) (window_at F.higher) i F.task (λ j h. refl) in
       record {
@@ -39,7 +39,7 @@ module _ (set : TaskSet) (demand further : Demand) (agree : Agree demand further
       }
 
   -- a task that has a window, as all higher ones, is not the first without
-  pub not_first : (i : ℕ) → IsFirstWithout set demand i → (window : ℕ → ℕ) (method : ℕ → Method) → ((k : ℕ) → k < suc i → IsSmaller set (further window k) k (method k) (window k)) → ⊥
+  pub not_first : (i : ℕ) → IsFirstWithoutWindow set demand i → (window : ℕ → ℕ) (method : ℕ → Method) → ((k : ℕ) → k < suc i → IsSmallerWindow set (further window k) k (method k) (window k)) → ⊥
   not_first i F window method S =
       let lt = F.task in
       let above : (k : ℕ) → k < i → window_at F.higher k ≡ window k =
@@ -75,19 +75,19 @@ module _ (choices : List Choice) (c : Choice) (i : ℕ) (size : length choices �
   -- all choices with it
   pub choices_more : (set : TaskSet) (demand : Demand) (found : ℕ → ℕ) → Agree demand demand (i + 1)
       → ((k : ℕ) → k < i → found k ≡ window_at choices k)
-      → AreChoices set demand choices i → IsSmaller set (demand found i) i c.method c.window
+      → AreChoices set demand choices i → IsSmallerWindow set (demand found i) i c.method c.window
       → AreChoices set demand more (i + 1)
   choices_more set demand found agree same before here k h =
       elim (cases_eq k i) [
         | inl e ↦
-            subst (λ (q : ℕ). IsSmaller set (demand (window_at more) q) q (method_at more q) (window_at more q)) (sym e)
-            (subst (λ (m : Method). IsSmaller set (demand (window_at more) i) i m (window_at more i)) (sym method_last)
-            (subst (λ (w : ℕ). IsSmaller set (demand (window_at more) i) i c.method w) (sym window_last)
+            subst (λ (q : ℕ). IsSmallerWindow set (demand (window_at more) q) q (method_at more q) (window_at more q)) (sym e)
+            (subst (λ (m : Method). IsSmallerWindow set (demand (window_at more) i) i m (window_at more i)) (sym method_last)
+            (subst (λ (w : ℕ). IsSmallerWindow set (demand (window_at more) i) i c.method w) (sym window_last)
             (smaller_too set (demand found i) (demand (window_at more) i) i (agree found (window_at more) i (omega arith) (λ q l. same q l ∙ sym (window_before q l))) c.method c.window here)))
         | inr ne ↦
             let l : k < i = omega arith in
-            subst (λ (m : Method). IsSmaller set (demand (window_at more) k) k m (window_at more k)) (sym (method_before k l))
-            (subst (λ (w : ℕ). IsSmaller set (demand (window_at more) k) k (method_at choices k) w) (sym (window_before k l))
+            subst (λ (m : Method). IsSmallerWindow set (demand (window_at more) k) k m (window_at more k)) (sym (method_before k l))
+            (subst (λ (w : ℕ). IsSmallerWindow set (demand (window_at more) k) k (method_at choices k) w) (sym (window_before k l))
             (smaller_too set (demand (window_at choices) k) (demand (window_at more) k) k (agree (window_at choices) (window_at more) k (omega arith) (λ q m. sym (window_before q (omega arith)))) (method_at choices k) (window_at choices k) (before k l)))
       ]
 

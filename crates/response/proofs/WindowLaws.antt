@@ -7,7 +7,7 @@ use Rattle.crpd_base.specs.declared.data.Method.{Method}
 use Rattle.crpd_base.specs.declared.data.Method.TheVariants.{Ucb, Ecb}
 use Rattle.crpd_base.specs.Tasks.{jitter_of, deadline_of}
 use Rattle.response.specs.declared.choice.Choice.{Choice}
-use Rattle.response.specs.Windows.{IsWindow, HasNoWindow, IsSmaller, smaller_of}
+use Rattle.response.specs.Windows.{IsWindow, HasNoWindow, IsSmallerWindow, smaller_of}
 
 -- ---- equal needs
 
@@ -41,25 +41,25 @@ module _ (set : TaskSet) (needs others : Method → ℕ → ℕ) (i : ℕ) (same
   back : (method : Method) (w : ℕ) → IsWindow set (others method) i w → IsWindow set (needs method) i w
   back method w h = window_too set (others method) (needs method) i (λ v. sym (same method v)) w h
 
-  pub smaller_too : (method : Method) (w : ℕ) → IsSmaller set needs i method w → IsSmaller set others i method w
+  pub smaller_too : (method : Method) (w : ℕ) → IsSmallerWindow set needs i method w → IsSmallerWindow set others i method w
   smaller_too Ucb w h = (window_too set (needs Ucb) (others Ucb) i (same Ucb) w h.0, λ v V. h.1 v (back Ecb v V))
   smaller_too Ecb w h = (window_too set (needs Ecb) (others Ecb) i (same Ecb) w h.0, λ v V. h.1 v (back Ucb v V))
 
 -- there is one smaller window, and one method
-one_of : (set : TaskSet) (needs : Method → ℕ → ℕ) (i : ℕ) (method by : Method) (w v : ℕ) → IsSmaller set needs i method w → IsSmaller set needs i by v → (method ≡ by) × (w ≡ v)
+one_of : (set : TaskSet) (needs : Method → ℕ → ℕ) (i : ℕ) (method by : Method) (w v : ℕ) → IsSmallerWindow set needs i method w → IsSmallerWindow set needs i by v → (method ≡ by) × (w ≡ v)
 one_of set needs i Ucb Ucb w v S T = (refl, one_window set (needs Ucb) i w v S.0 T.0)
 one_of set needs i Ecb Ecb w v S T = (refl, one_window set (needs Ecb) i w v S.0 T.0)
 one_of set needs i Ucb Ecb w v S T = let le = S.1 v T.0 in let lt = T.1 w S.0 in absurd (omega (arith, le, lt))
 one_of set needs i Ecb Ucb w v S T = let lt = S.1 v T.0 in let le = T.1 w S.0 in absurd (omega (arith, le, lt))
 
 pub one_smaller : (set : TaskSet) (needs others : Method → ℕ → ℕ) (i : ℕ) → ((method : Method) (v : ℕ) → needs method v ≡ others method v)
-    → (method by : Method) (w v : ℕ) → IsSmaller set needs i method w → IsSmaller set others i by v → (method ≡ by) × (w ≡ v)
+    → (method by : Method) (w v : ℕ) → IsSmallerWindow set needs i method w → IsSmallerWindow set others i by v → (method ≡ by) × (w ≡ v)
 one_smaller set needs others i same method by w v S T = one_of set others i method by w v (smaller_too set needs others i same method w S) T
 
 -- the smaller windows of the first tasks, where what a task needs is the same if the windows of the higher ones are
 module _ (set : TaskSet) (needs others : ℕ → Method → ℕ → ℕ) (window other : ℕ → ℕ) (method by : ℕ → Method) (n : ℕ)
     (same : (i : ℕ) → i < n → ((k : ℕ) → k < i → window k ≡ other k) → (m : Method) (v : ℕ) → needs i m v ≡ others i m v)
-    (W : (i : ℕ) → i < n → IsSmaller set (needs i) i (method i) (window i)) (V : (i : ℕ) → i < n → IsSmaller set (others i) i (by i) (other i)) where
+    (W : (i : ℕ) → i < n → IsSmallerWindow set (needs i) i (method i) (window i)) (V : (i : ℕ) → i < n → IsSmallerWindow set (others i) i (by i) (other i)) where
   choice_by : (i : ℕ) → i < n → ((k : ℕ) → k < i → window k ≡ other k) → (method i ≡ by i) × (window i ≡ other i)
   choice_by i l below = one_smaller set (needs i) (others i) i (same i l below) (method i) (by i) (window i) (other i) (W i l) (V i l)
 
@@ -77,7 +77,7 @@ module _ (set : TaskSet) (needs others : ℕ → Method → ℕ → ℕ) (window
 -- ---- a window or none
 
 module _ (set : TaskSet) (needs : Method → ℕ → ℕ) (i : ℕ) where
-  pub smaller_is_window : (method : Method) (w : ℕ) → IsSmaller set needs i method w → IsWindow set (needs method) i w
+  pub smaller_is_window : (method : Method) (w : ℕ) → IsSmallerWindow set needs i method w → IsWindow set (needs method) i w
   smaller_is_window Ucb w h = h.0
   smaller_is_window Ecb w h = h.0
 
@@ -88,12 +88,12 @@ module _ (set : TaskSet) (needs : Method → ℕ → ℕ) (i : ℕ) where
   never method v none is = let over = none v is.some is.in_deadline in let fits = is.enough in absurd (omega (arith, over, fits))
 
   -- a task without windows has no smaller one
-  pub never_smaller : (method : Method) (v : ℕ) → HasNoWindow set (needs Ucb) i → HasNoWindow set (needs Ecb) i → IsSmaller set needs i method v → ⊥
+  pub never_smaller : (method : Method) (v : ℕ) → HasNoWindow set (needs Ucb) i → HasNoWindow set (needs Ecb) i → IsSmallerWindow set needs i method v → ⊥
   never_smaller Ucb v u e h = never Ucb v u h.0
   never_smaller Ecb v u e h = never Ecb v e h.0
 
   abbrev Chosen : Option Choice → Type 0
-  Chosen c = MatchOption c (HasNoWindow set (needs Ucb) i × HasNoWindow set (needs Ecb) i) (λ (x : Choice). IsSmaller set needs i x.method x.window)
+  Chosen c = MatchOption c (HasNoWindow set (needs Ucb) i × HasNoWindow set (needs Ecb) i) (λ (x : Choice). IsSmallerWindow set needs i x.method x.window)
 
   -- the smaller of two that there may be is chosen
   pub chosen : (ucb ecb : Option ℕ) → Found Ucb ucb → Found Ecb ecb → Chosen (smaller_of ucb ecb)
@@ -112,7 +112,7 @@ module _ (set : TaskSet) (needs : Method → ℕ → ℕ) (i : ℕ) where
   pub chosen_none : (ucb ecb : Option ℕ) (c : Option Choice) → Found Ucb ucb → Found Ecb ecb → c ≡ smaller_of ucb ecb → c ≡ None → HasNoWindow set (needs Ucb) i × HasNoWindow set (needs Ecb) i
   chosen_none ucb ecb c u e is none = subst Chosen (sym is ∙ none) (chosen ucb ecb u e)
 
-  pub chosen_some : (ucb ecb : Option ℕ) (c : Option Choice) (x : Choice) → Found Ucb ucb → Found Ecb ecb → c ≡ smaller_of ucb ecb → c ≡ Some x → IsSmaller set needs i x.method x.window
+  pub chosen_some : (ucb ecb : Option ℕ) (c : Option Choice) (x : Choice) → Found Ucb ucb → Found Ecb ecb → c ≡ smaller_of ucb ecb → c ≡ Some x → IsSmallerWindow set needs i x.method x.window
   chosen_some ucb ecb c x u e is some = subst Chosen (sym is ∙ some) (chosen ucb ecb u e)
 
 -- the least number from 1 to n that a need does not exceed, or none
@@ -158,24 +158,24 @@ window_or_none set needs i =
 
 -- so a task has a smaller window, or none by either method
 pub smaller_or_none : (set : TaskSet) (needs : Method → ℕ → ℕ) (i : ℕ)
-    → ((c : Choice) × IsSmaller set needs i c.method c.window) ⊎ (HasNoWindow set (needs Ucb) i × HasNoWindow set (needs Ecb) i)
+    → ((c : Choice) × IsSmallerWindow set needs i c.method c.window) ⊎ (HasNoWindow set (needs Ucb) i × HasNoWindow set (needs Ecb) i)
 smaller_or_none set needs i =
     let u = window_or_none set (needs Ucb) i in
     let e = window_or_none set (needs Ecb) i in
     by_choice (smaller_of u.0 e.0) (chosen set needs i u.0 e.0 u.1 e.1)
   where
-    by_choice : (c : Option Choice) → Chosen set needs i c → ((c : Choice) × IsSmaller set needs i c.method c.window) ⊎ (HasNoWindow set (needs Ucb) i × HasNoWindow set (needs Ecb) i)
+    by_choice : (c : Option Choice) → Chosen set needs i c → ((c : Choice) × IsSmallerWindow set needs i c.method c.window) ⊎ (HasNoWindow set (needs Ucb) i × HasNoWindow set (needs Ecb) i)
     by_choice None h = inr h
     by_choice (Some c) h = inl (c, h)
 
 -- and the smaller window is at most each in the deadline that one of the needs does not exceed
-pub smaller_within : (set : TaskSet) (needs : Method → ℕ → ℕ) (i : ℕ) (by method : Method) (w v : ℕ) → IsSmaller set needs i by v
+pub smaller_within : (set : TaskSet) (needs : Method → ℕ → ℕ) (i : ℕ) (by method : Method) (w v : ℕ) → IsSmallerWindow set needs i by v
     → 1 ≤ w → needs method w ≤ w → w + jitter_of set i ≤ deadline_of set i → v ≤ w
 smaller_within set needs i by method w v S some fits within =
     let found = window_or_none set (needs method) i in
     by_window found.0 found.1
   where
-    no_longer : (by method : Method) (x : ℕ) → IsSmaller set needs i by v → IsWindow set (needs method) i x → v ≤ x
+    no_longer : (by method : Method) (x : ℕ) → IsSmallerWindow set needs i by v → IsWindow set (needs method) i x → v ≤ x
     no_longer Ucb Ucb x S W = S.0.least x W.some W.enough
     no_longer Ucb Ecb x S W = S.1 x W
     no_longer Ecb Ucb x S W = let l = S.1 x W in omega (arith, l)

@@ -25,9 +25,9 @@ abbrev pub HasNoWindow : TaskSet → (ℕ → ℕ) → ℕ → Type 0
 HasNoWindow set needs i = (w : ℕ) → 1 ≤ w → w + jitter_of set i ≤ deadline_of set i → w < needs w
 
 -- the smaller of the windows by the two methods that there are, and by which method, the UCB-union one where they are equal
-abbrev pub IsSmaller : TaskSet → (Method → ℕ → ℕ) → ℕ → Method → ℕ → Type 0
-IsSmaller set needs i Ucb w = IsWindow set (needs Ucb) i w × ((v : ℕ) → IsWindow set (needs Ecb) i v → w ≤ v)
-IsSmaller set needs i Ecb w = IsWindow set (needs Ecb) i w × ((v : ℕ) → IsWindow set (needs Ucb) i v → w < v)
+abbrev pub IsSmallerWindow : TaskSet → (Method → ℕ → ℕ) → ℕ → Method → ℕ → Type 0
+IsSmallerWindow set needs i Ucb w = IsWindow set (needs Ucb) i w × ((v : ℕ) → IsWindow set (needs Ecb) i v → w ≤ v)
+IsSmallerWindow set needs i Ecb w = IsWindow set (needs Ecb) i w × ((v : ℕ) → IsWindow set (needs Ucb) i v → w < v)
 
 -- the same of two windows that there may be
 abbrev pub smaller_of : Option ℕ → Option ℕ → Option Choice
@@ -46,15 +46,15 @@ method_at choices k = slice_index_or (map (λ (c : Choice). c.method) choices) k
 -- the choices of the first tasks, each with the windows of the higher ones
 abbrev pub AreChoices : TaskSet → Demand → List Choice → ℕ → Type 0
 AreChoices set demand choices n =
-    (k : ℕ) → k < n → IsSmaller set (demand (window_at choices) k) k (method_at choices k) (window_at choices k)
+    (k : ℕ) → k < n → IsSmallerWindow set (demand (window_at choices) k) k (method_at choices k) (window_at choices k)
 
 -- the choices of all tasks
-pub record IsAnswer (set : TaskSet) (demand : Demand) (choices : List Choice) : Type 0 where
+pub record AreAllChoices (set : TaskSet) (demand : Demand) (choices : List Choice) : Type 0 where
   pub tasks : length choices ≡ length set.tasks
   pub each : AreChoices set demand choices (length set.tasks)
 
 -- a task has no window by either method, and each higher one has its choice
-pub record IsFirstWithout (set : TaskSet) (demand : Demand) (i : ℕ) : Type 0 where
+pub record IsFirstWithoutWindow (set : TaskSet) (demand : Demand) (i : ℕ) : Type 0 where
   pub task : i < length set.tasks
   pub higher : List Choice
   pub size : length higher ≡ i
@@ -63,6 +63,6 @@ pub record IsFirstWithout (set : TaskSet) (demand : Demand) (i : ℕ) : Type 0 w
   pub no_ecb : HasNoWindow set (demand (window_at higher) i Ecb) i
 
 -- when each error comes
-abbrev pub IsRefused : TaskSet → Demand → WindowError → Type 0
-IsRefused set demand Memory = Unit {0}
-IsRefused set demand (Unschedulable t) = IsFirstWithout set demand t.0
+abbrev pub IsWindowError : TaskSet → Demand → WindowError → Type 0
+IsWindowError set demand Memory = Unit {0}
+IsWindowError set demand (Unschedulable t) = IsFirstWithoutWindow set demand t.0

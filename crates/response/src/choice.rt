@@ -3,7 +3,7 @@ ghost use Rattle.std.specs.Prelude.{◌≡◌, ℕ, ◌<◌, ◌≤◌, length, 
 ghost use Rattle.crpd_base.specs.Tasks.{HasTimes};
 ghost use Rattle.delay_count.specs.Gamma.{part_at};
 ghost use Rattle.delay_count.specs.Demand.{HasLongest, demand};
-ghost use Rattle.response.specs.Windows.{smaller_of, IsAnswer, IsRefused};
+ghost use Rattle.response.specs.Windows.{smaller_of, AreAllChoices, IsWindowError};
 
 use crate::search::window;
 use crpd_base::{MOST_TASKS, Method, Part, Task, TaskSet};
@@ -45,8 +45,8 @@ pub fn windows(
     requires parts { length parts.now ≡ length set.now.tasks }
     requires longest { HasLongest set.now longest.now }
     ensures { MatchResult result
-        (λ choices. IsAnswer set.now (demand set.now (part_at parts.now) (slice_index longest.now)) choices.items)
-        (λ e. IsRefused set.now (demand set.now (part_at parts.now) (slice_index longest.now)) e) }
+        (λ choices. AreAllChoices set.now (demand set.now (part_at parts.now) (slice_index longest.now)) choices.items)
+        (λ e. IsWindowError set.now (demand set.now (part_at parts.now) (slice_index longest.now)) e) }
 {
     let mut choices = Vec::new(alloc);
     let mut found = [0; MOST_TASKS];

@@ -5,28 +5,28 @@ use Rattle.run_account.specs.declared.run.Run.{Run}
 use Rattle.run_account.specs.declared.told.Account.{Account}
 use Rattle.run_account.specs.Account.{IsAccount, HasAccountFacts}
 use Rattle.run_account.specs.Facts.{AreSetsMet}
-use Rattle.run_account.specs.Nodes.{task_of}
-use Rattle.run_account.specs.Runs.{start_in, certificate_in, IsReady}
-use Rattle.run_account.specs.Shown.{with_nests, SetsAreMet}
+use Rattle.run_account.specs.Nodes.{job_task}
+use Rattle.run_account.specs.Runs.{run_start, run_certificate, HasAccountInput}
+use Rattle.run_account.specs.AccountGraphs.{with_nests, SetsAreMet}
 use Rattle.run_account.specs.Walks.{HasGraphs}
 use Rattle.run_account.proofs.EntryFacts.{ledger_facts}
 use Rattle.run_account.proofs.Ready.{cached, task_below, has_graphs, states_met}
 
-module _ (r : Run) (R : IsReady r) (nests : ℕ → Nest) where
+module _ (r : Run) (R : HasAccountInput r) (nests : ℕ → Nest) where
   -- regions play no part
-  graphs_with : HasGraphs (start_in r) (with_nests r.graphs.now nests)
+  graphs_with : HasGraphs (run_start r) (with_nests r.graphs.now nests)
   graphs_with =
       let G = has_graphs r R in
       record { code = G.code; hit = G.hit; graph = λ x h. let g = G.graph x h in record { follows = g.follows; no_errors = g.no_errors } }
 
-  sets_met : SetsAreMet r.set.now r.graphs.now r.certificate.now → AreSetsMet (start_in r) (with_nests r.graphs.now nests) (certificate_in r)
-  sets_met U x h = U (task_of (start_in r) x) (task_below r R x h)
+  sets_met : SetsAreMet r.set.now r.graphs.now r.certificate.now → AreSetsMet (run_start r) (with_nests r.graphs.now nests) (run_certificate r)
+  sets_met U x h = U (job_task (run_start r) x) (task_below r R x h)
 
-  pub account_facts : SetsAreMet r.set.now r.graphs.now r.certificate.now → (n : ℕ) (a : Account) → IsAccount (start_in r) (with_nests r.graphs.now nests) (certificate_in r) n a → HasAccountFacts (start_in r) (with_nests r.graphs.now nests) (certificate_in r) n a
+  pub account_facts : SetsAreMet r.set.now r.graphs.now r.certificate.now → (n : ℕ) (a : Account) → IsAccount (run_start r) (with_nests r.graphs.now nests) (run_certificate r) n a → HasAccountFacts (run_start r) (with_nests r.graphs.now nests) (run_certificate r) n a
   account_facts U n a I =
       record {
         ledger = I.ledger;
         is_ledger = I.is_ledger;
         entries = I.entries;
-        facts = ledger_facts (start_in r) (with_nests r.graphs.now nests) (certificate_in r) n I.ledger (cached r R) graphs_with (states_met r R) (sets_met U) I.is_ledger;
+        facts = ledger_facts (run_start r) (with_nests r.graphs.now nests) (run_certificate r) n I.ledger (cached r R) graphs_with (states_met r R) (sets_met U) I.is_ledger;
       }

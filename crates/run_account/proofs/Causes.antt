@@ -3,20 +3,20 @@ use Rattle.std.proofs.Common.{◌≡◌, ◌⊎◌, ℕ, zero, suc, true, All, L
 use Rattle.std.proofs.lemmas.Bool.{cases_Bool, false≢true}
 use Rattle.crpd_base.proofs.Options.{none_some}
 use Rattle.crpd_base.specs.declared.data.Certificate.{Certificate}
-use Rattle.flow_watch.specs.Watch.{is_kept}
+use Rattle.flow_watch.specs.Watch.{is_unbroken}
 use Rattle.icache.specs.Accesses.{accesses}
 use Rattle.icache.specs.Cache.{is_hit}
 use Rattle.loop_regions.specs.TaskGraph.{TaskGraph}
-use Rattle.evict_sets.specs.Certificate.{listed_of, cert_at}
+use Rattle.evict_sets.specs.ListedPart.{listed_of, certified_task}
 use Rattle.evict_sets.proofs.FullLaws.{hit_test_law}
 use Rattle.preempt_machine.specs.Machine.{Job}
 use Rattle.preempt_machine.specs.Step.{Fetch, Start, state, fetch_at}
-use Rattle.run_account.specs.Causes.{EntryHasCauses, RunHasLedger, AreListingsMet}
+use Rattle.run_account.specs.Causes.{ReloadHasCauses, RunHasLedger, AreListingsMet}
 use Rattle.preempt_machine.proofs.Steps.{none_some}
-use Rattle.run_account.specs.Fetches.{job_of, fetched_set, HasCache}
-use Rattle.run_account.specs.Ledger.{IsEntry, LedgerEntry, IsLedger}
-use Rattle.run_account.specs.Nodes.{task_of, node_of}
-use Rattle.run_account.specs.Reloads.{block_in, FetchesAt}
+use Rattle.run_account.specs.Fetches.{job_after, fetched_set, HasCache}
+use Rattle.run_account.specs.Ledger.{IsLedgerReload, LedgerReload, IsLedger}
+use Rattle.run_account.specs.Nodes.{job_task, node_of_job}
+use Rattle.run_account.specs.Reloads.{fetched_block, FetchesAt}
 use Rattle.run_account.specs.Walks.{HasGraphs}
 use Rattle.run_account.proofs.JobWalks.{address_at, each_kept, fetcher_below, entry_is_reload}
 use Rattle.run_account.proofs.Ledgers.{no_ledger, ledger_same, ledger_more}
@@ -24,7 +24,7 @@ use Rattle.run_account.proofs.OwnFetches.{last_fetcher, last_fetcher_is}
 use Rattle.run_account.proofs.Preemptors.{preemptor_of, preemptor_is}
 use Rattle.run_account.proofs.ReloadLaws.{same_fetch}
 
-pub entry_has_causes : EntryHasCauses
+pub entry_has_causes : ReloadHasCauses
 entry_has_causes s graphs c n x f cached A S E =
     let R = entry_is_reload s graphs c n x f A (λ k h. (S k h).states) E in
     let last = last_fetcher_is s (fetched_set s f) n R.time R.own R.reload.own.earlier R.reload.own.own.is R.reload.own.to_set in
@@ -41,16 +41,16 @@ entry_has_causes s graphs c n x f cached A S E =
 
 -- whether no watch of these jobs is broken
 abbrev AreKept : List Job → Type 0
-AreKept jobs = All (λ (job : Job). is_kept job.watch ≡ true) jobs
+AreKept jobs = All (λ (job : Job). is_unbroken job.watch ≡ true) jobs
 
-kept_front : (j : Job) (jobs : List Job) → is_kept j.watch ≡ true → AreKept jobs → AreKept (j ∷ jobs)
+kept_front : (j : Job) (jobs : List Job) → is_unbroken j.watch ≡ true → AreKept jobs → AreKept (j ∷ jobs)
 kept_front j jobs b h zero d l = b
 kept_front j jobs b h (suc k) d l = h k d (omega (arith, l))
 
 kept_or_not : (jobs : List Job) → AreKept jobs ⊎ (AreKept jobs → ⊥)
 kept_or_not [] = inl (λ k d l. absurd (omega (arith, l)))
 kept_or_not (j ∷ jobs) =
-    elim (cases_Bool (is_kept j.watch)) [
+    elim (cases_Bool (is_unbroken j.watch)) [
       | inr b ↦ inr (λ h. false≢true (sym b ∙ h 0 j (omega arith)))
       | inl b ↦ elim (kept_or_not jobs) [ inl h ↦ inl (kept_front j jobs b h) | inr never ↦ inr (λ h. never (λ k d l. h (suc k) d (omega (arith, l)))) ]
     ]
@@ -58,17 +58,17 @@ kept_or_not (j ∷ jobs) =
 module _ (s : Start) (graphs : ℕ → TaskGraph) (c : Certificate) (cached : HasCache s) (A : HasGraphs s graphs) (S : AreListingsMet s graphs c) where
   -- an entry of step n, and none
   abbrev SomeEntry : ℕ → Type 0
-  SomeEntry n = (x : ℕ) × (f : Fetch) × IsEntry s graphs c n x f
+  SomeEntry n = (x : ℕ) × (f : Fetch) × IsLedgerReload s graphs c n x f
 
   abbrev NoEntry : ℕ → Type 0
-  NoEntry n = (x : ℕ) (f : Fetch) → IsEntry s graphs c n x f → ⊥
+  NoEntry n = (x : ℕ) (f : Fetch) → IsLedgerReload s graphs c n x f → ⊥
 
   -- an entry of a step is of the job that fetches there
-  as_fetched : (n : ℕ) (f : Fetch) → fetch_at s n ≡ Some f → (x : ℕ) (g : Fetch) → IsEntry s graphs c n x g → IsEntry s graphs c n f.job f
+  as_fetched : (n : ℕ) (f : Fetch) → fetch_at s n ≡ Some f → (x : ℕ) (g : Fetch) → IsLedgerReload s graphs c n x g → IsLedgerReload s graphs c n f.job f
   as_fetched n f at x g E =
       let same : g ≡ f = same_fetch s n g f E.fetches.is at in
       let who : x ≡ f.job = sym E.fetches.by ∙ ap (λ (k : Fetch). k.job) same in
-      subst (λ k. IsEntry s graphs c n f.job k) same (subst (λ k. IsEntry s graphs c n k g) who E)
+      subst (λ k. IsLedgerReload s graphs c n f.job k) same (subst (λ k. IsLedgerReload s graphs c n k g) who E)
 
   by_fetch : (n : ℕ) (o : Option Fetch) → fetch_at s n ≡ o → SomeEntry n ⊎ NoEntry n
   by_fetch n None at = inr (λ x f E. none_some (sym at ∙ E.fetches.is))
@@ -78,20 +78,20 @@ module _ (s : Start) (graphs : ℕ → TaskGraph) (c : Certificate) (cached : Ha
         | inl kept ↦
             let made : FetchesAt s f.job n f = record { is = at; by = refl } in
             let h = fetcher_below s f.job n f made in
-            let t = graphs (task_of s f.job) in
+            let t = graphs (job_task s f.job) in
             let N = address_at s graphs A f.job h n f made (each_kept s graphs n f.job h kept) in
-            let T = hit_test_law t.graph (accesses s.system.platform t.places.address) (listed_of (cert_at c (task_of s f.job))) (A.graph f.job h).follows.graph (S f.job h).leaders in
-            let test = T.1 (node_of t (job_of s n f.job)) N.below in
-            elim (cases_Bool (T.0 (node_of t (job_of s n f.job)))) [
+            let T = hit_test_law t.graph (accesses s.system.platform t.places.address) (listed_of (certified_task c (job_task s f.job))) (A.graph f.job h).follows.graph (S f.job h).leaders in
+            let test = T.1 (node_of_job t (job_after s n f.job)) N.below in
+            elim (cases_Bool (T.0 (node_of_job t (job_after s n f.job)))) [
               | inr b ↦ inr (λ x g E. false≢true (sym b ∙ test.1 (as_fetched n f at x g E).counted))
-              | inl b ↦ elim (cases_Bool (is_hit s.system.platform (state s n).cache (block_in s f))) [
+              | inl b ↦ elim (cases_Bool (is_hit s.system.platform (state s n).cache (fetched_block s f))) [
                 | inl hit ↦ inr (λ x g E. false≢true (sym (as_fetched n f at x g E).misses ∙ hit))
                 | inr miss ↦ inl (f.job, f, record { kept = kept; fetches = made; counted = test.0 b; misses = miss })
               ]
             ]
       ]
 
-  has_ledger : (n : ℕ) → (ledger : List LedgerEntry) × IsLedger s graphs c n ledger
+  has_ledger : (n : ℕ) → (ledger : List LedgerReload) × IsLedger s graphs c n ledger
   has_ledger zero = ([], no_ledger s graphs c)
   has_ledger (suc n) =
       let L = has_ledger n in
@@ -99,7 +99,7 @@ module _ (s : Start) (graphs : ℕ → TaskGraph) (c : Certificate) (cached : Ha
         | inr none ↦ (L.0, ledger_same s graphs c n L.0 none L.1)
         | inl E ↦
             let C = entry_has_causes s graphs c n E.0 E.1 cached A S E.2 in
-            let e : LedgerEntry = record { job = E.0; set = fetched_set s E.1; time = n; evictor = C.evictor; preemptor = C.preemptor } in
+            let e : LedgerReload = record { job = E.0; set = fetched_set s E.1; time = n; evictor = C.evictor; preemptor = C.preemptor } in
             (L.0 ++ e ∷ [], ledger_more s graphs c n L.0 e refl C.is L.1)
       ]
 

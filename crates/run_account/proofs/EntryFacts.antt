@@ -11,17 +11,17 @@ use Rattle.icache.specs.Cache.{block_of, set_of}
 use Rattle.flat_graph.specs.Graph.{IsWalk, onto}
 use Rattle.loop_regions.specs.TaskGraph.{TaskGraph}
 use Rattle.evict_sets.specs.Full.{IsHit, FullUseful}
-use Rattle.evict_sets.specs.Clauses.{MeetsSets}
-use Rattle.evict_sets.specs.Certificate.{listed_of, cert_at}
+use Rattle.evict_sets.specs.CacheClauses.{MeetsSets}
+use Rattle.evict_sets.specs.ListedPart.{listed_of, certified_task}
 use Rattle.evict_sets.proofs.WalkLaws.{first_here, first_on, walk_carry_law}
 use Rattle.preempt_machine.specs.Safe.{IsKept}
 use Rattle.preempt_machine.specs.Step.{before, Fetch, Start, state}
 use Rattle.run_account.specs.Facts.{MeetsSets, AreSetsMet, IsOfHigher, AreDistinct, LedgerFacts}
 use Rattle.preempt_machine.proofs.Steps.{none_some}
-use Rattle.run_account.specs.Fetches.{job_of, fetched_set, HasCache}
-use Rattle.run_account.specs.Ledger.{LedgerEntry, IsOfRun}
-use Rattle.run_account.specs.Nodes.{task_of, node_of}
-use Rattle.run_account.specs.Reloads.{FetchesAt, IsReload, IsEvictor, IsPreemptor, IsPassing}
+use Rattle.run_account.specs.Fetches.{job_after, fetched_set, HasCache}
+use Rattle.run_account.specs.Ledger.{LedgerReload, IsOfRun}
+use Rattle.run_account.specs.Nodes.{job_task, node_of_job}
+use Rattle.run_account.specs.Reloads.{FetchesAt, IsOwnReload, IsEvictor, IsPreemptor, RunsInGap}
 use Rattle.run_account.specs.Walks.{fetched_nodes, HasGraphs, AreStatesMet, IsReloaded}
 use Rattle.run_account.proofs.Gaps.{one_gap_per_preemptor}
 use Rattle.run_account.proofs.JobWalks.{nodes_fetch, kept_one, each_kept, address_at, pc_of, fetcher_below, entry_is_reload, nodes_step}
@@ -52,13 +52,13 @@ kept_at s graphs m (suc n) l k =
 
 module _ (s : Start) (graphs : ℕ → TaskGraph) (A : HasGraphs s graphs) (x : ℕ) (h : x < length s.lines) where
   abbrev tg : TaskGraph
-  tg = graphs (task_of s x)
+  tg = graphs (job_task s x)
 
   abbrev acc : Accesses
-  acc = accesses s.system.platform (graphs (task_of s x)).places.address
+  acc = accesses s.system.platform (graphs (job_task s x)).places.address
 
   -- the node of a fetch accesses its set
-  pub set_fetched : (m : ℕ) (g : Fetch) → IsKept (state s m) → FetchesAt s x m g → acc.set (node_of tg (job_of s m x)) ≡ fetched_set s g
+  pub set_fetched : (m : ℕ) (g : Fetch) → IsKept (state s m) → FetchesAt s x m g → acc.set (node_of_job tg (job_after s m x)) ≡ fetched_set s g
   set_fetched m g k f =
       let N = address_at s graphs A x h m g f (each_kept s graphs m x h k) in
       ap (λ a. set_of s.system.platform (block_of s.system.platform a)) (N.address ∙ pc_of s graphs A x h m g f)
@@ -66,19 +66,19 @@ module _ (s : Start) (graphs : ℕ → TaskGraph) (A : HasGraphs s graphs) (x : 
   -- the nodes fetched from step c on, none of which accesses the set
   record IsCarried (c target m : ℕ) : Type 0 where
     later : List ℕ
-    nodes : fetched_nodes s graphs m x ≡ onto later (node_of tg (job_of s c x) ∷ fetched_nodes s graphs c x)
-    none : first_access acc target (node_of tg (job_of s c x) ∷ later) ≡ None
+    nodes : fetched_nodes s graphs m x ≡ onto later (node_of_job tg (job_after s c x) ∷ fetched_nodes s graphs c x)
+    none : first_access acc target (node_of_job tg (job_after s c x) ∷ later) ≡ None
 
   module _ (c n target : ℕ) (f : Fetch) (begins : FetchesAt s x c f) (kept : (m : ℕ) → m ≤ n → IsKept (state s m)) (away : (m : ℕ) (g : Fetch) → c ≤ m → m < n → FetchesAt s x m g → fetched_set s g ≢ target) where
     carry_step : (m : ℕ) → c < m → m < n → IsCarried c target m → IsCarried c target (suc m)
     carry_step m l k is =
         elim (nodes_step s graphs m x) [
           | inl g ↦
-              let ne : acc.set (node_of tg (job_of s m x)) ≢ target = λ q. away m g.0 (omega arith) k g.1 (sym (set_fetched m g.0 (kept m (omega arith)) g.1) ∙ q) in
+              let ne : acc.set (node_of_job tg (job_after s m x)) ≢ target = λ q. away m g.0 (omega arith) k g.1 (sym (set_fetched m g.0 (kept m (omega arith)) g.1) ∙ q) in
               record {
-                later = is.later ++ node_of tg (job_of s m x) ∷ [];
-                nodes = nodes_fetch s graphs m x g.0 g.1 ∙ ap (λ w. node_of tg (job_of s m x) ∷ w) is.nodes ∙ sym (onto_last is.later (node_of tg (job_of s m x)) (node_of tg (job_of s c x) ∷ fetched_nodes s graphs c x));
-                none = none_then acc target (node_of tg (job_of s c x) ∷ is.later) (node_of tg (job_of s m x)) is.none ∙ first_on acc target (node_of tg (job_of s m x)) [] ne;
+                later = is.later ++ node_of_job tg (job_after s m x) ∷ [];
+                nodes = nodes_fetch s graphs m x g.0 g.1 ∙ ap (λ w. node_of_job tg (job_after s m x) ∷ w) is.nodes ∙ sym (onto_last is.later (node_of_job tg (job_after s m x)) (node_of_job tg (job_after s c x) ∷ fetched_nodes s graphs c x));
+                none = none_then acc target (node_of_job tg (job_after s c x) ∷ is.later) (node_of_job tg (job_after s m x)) is.none ∙ first_on acc target (node_of_job tg (job_after s m x)) [] ne;
               }
           | inr same ↦ record { later = is.later; nodes = same ∙ is.nodes; none = is.none }
         ]
@@ -88,48 +88,48 @@ module _ (s : Start) (graphs : ℕ → TaskGraph) (A : HasGraphs s graphs) (x : 
     carry (suc m) l k =
         elim (cases_eq m c) [
           | inl e ↦
-              let ne : acc.set (node_of tg (job_of s c x)) ≢ target = λ q. away c f (omega arith) (omega arith) begins (sym (set_fetched c f (kept c (omega arith)) begins) ∙ q) in
-              let first : IsCarried c target (suc c) = record { later = []; nodes = nodes_fetch s graphs c x f begins; none = first_on acc target (node_of tg (job_of s c x)) [] ne } in
+              let ne : acc.set (node_of_job tg (job_after s c x)) ≢ target = λ q. away c f (omega arith) (omega arith) begins (sym (set_fetched c f (kept c (omega arith)) begins) ∙ q) in
+              let first : IsCarried c target (suc c) = record { later = []; nodes = nodes_fetch s graphs c x f begins; none = first_on acc target (node_of_job tg (job_after s c x)) [] ne } in
               subst (λ z. IsCarried c target (suc z)) (sym e) first
           | inr ne ↦ carry_step m (omega arith) (omega arith) (carry m (omega arith) (omega arith))
         ]
 
     -- so the set is in the useful set of the node of the fetch at c, where the job hits it by its state at step n
-    pub carried_to : (cert : TaskPart) → MeetsSets tg.graph acc (listed_of cert) (has cert.part.evicting) (has cert.part.useful) → c ≤ n → (g : Fetch) → FetchesAt s x n g → fetched_set s g ≡ target → IsHit tg.graph acc (listed_of cert) (node_of tg (job_of s n x)) → FullUseful tg.graph acc (listed_of cert) (node_of tg (job_of s c x)) target
+    pub carried_to : (cert : TaskPart) → MeetsSets tg.graph acc (listed_of cert) (has cert.part.evicting) (has cert.part.useful) → c ≤ n → (g : Fetch) → FetchesAt s x n g → fetched_set s g ≡ target → IsHit tg.graph acc (listed_of cert) (node_of_job tg (job_after s n x)) → FullUseful tg.graph acc (listed_of cert) (node_of_job tg (job_after s c x)) target
     carried_to cert M l g ends to_set hit =
         let k = kept n (omega arith) in
         let N = address_at s graphs A x h n g ends (each_kept s graphs n x h k) in
         let G = (A.graph x h).follows.graph in
-        let z_set : acc.set (node_of tg (job_of s n x)) ≡ target = set_fetched n g k ends ∙ to_set in
+        let z_set : acc.set (node_of_job tg (job_after s n x)) ≡ target = set_fetched n g k ends ∙ to_set in
         elim (cases_eq c n) [
           | inl e ↦
-              subst (λ m. FullUseful tg.graph acc (listed_of cert) (node_of tg (job_of s m x)) target) (sym e)
-              (walk_carry_law tg.graph acc (listed_of cert) (node_of tg (job_of s n x)) target (node_of tg (job_of s n x)) (fetched_nodes s graphs n x) [] G M.useful N.walk (first_here acc target (node_of tg (job_of s n x)) [] z_set) hit)
+              subst (λ m. FullUseful tg.graph acc (listed_of cert) (node_of_job tg (job_after s m x)) target) (sym e)
+              (walk_carry_law tg.graph acc (listed_of cert) (node_of_job tg (job_after s n x)) target (node_of_job tg (job_after s n x)) (fetched_nodes s graphs n x) [] G M.useful N.walk (first_here acc target (node_of_job tg (job_after s n x)) [] z_set) hit)
           | inr ne ↦
               let is = carry n (omega arith) (omega arith) in
-              let all : node_of tg (job_of s n x) ∷ fetched_nodes s graphs n x ≡ onto (is.later ++ node_of tg (job_of s n x) ∷ []) (node_of tg (job_of s c x) ∷ fetched_nodes s graphs c x) =
-              ap (λ w. node_of tg (job_of s n x) ∷ w) is.nodes ∙ sym (onto_last is.later (node_of tg (job_of s n x)) (node_of tg (job_of s c x) ∷ fetched_nodes s graphs c x)) in
-              let first : first_access acc target (node_of tg (job_of s c x) ∷ (is.later ++ node_of tg (job_of s n x) ∷ [])) ≡ Some (node_of tg (job_of s n x)) =
-              none_then acc target (node_of tg (job_of s c x) ∷ is.later) (node_of tg (job_of s n x)) is.none ∙ first_here acc target (node_of tg (job_of s n x)) [] z_set in
-              walk_carry_law tg.graph acc (listed_of cert) (node_of tg (job_of s c x)) target (node_of tg (job_of s n x)) (fetched_nodes s graphs c x) (is.later ++ node_of tg (job_of s n x) ∷ []) G M.useful (subst (λ w. IsWalk tg.graph w) all N.walk) first hit
+              let all : node_of_job tg (job_after s n x) ∷ fetched_nodes s graphs n x ≡ onto (is.later ++ node_of_job tg (job_after s n x) ∷ []) (node_of_job tg (job_after s c x) ∷ fetched_nodes s graphs c x) =
+              ap (λ w. node_of_job tg (job_after s n x) ∷ w) is.nodes ∙ sym (onto_last is.later (node_of_job tg (job_after s n x)) (node_of_job tg (job_after s c x) ∷ fetched_nodes s graphs c x)) in
+              let first : first_access acc target (node_of_job tg (job_after s c x) ∷ (is.later ++ node_of_job tg (job_after s n x) ∷ [])) ≡ Some (node_of_job tg (job_after s n x)) =
+              none_then acc target (node_of_job tg (job_after s c x) ∷ is.later) (node_of_job tg (job_after s n x)) is.none ∙ first_here acc target (node_of_job tg (job_after s n x)) [] z_set in
+              walk_carry_law tg.graph acc (listed_of cert) (node_of_job tg (job_after s c x)) target (node_of_job tg (job_after s n x)) (fetched_nodes s graphs c x) (is.later ++ node_of_job tg (job_after s n x) ∷ []) G M.useful (subst (λ w. IsWalk tg.graph w) all N.walk) first hit
         ]
 
 module _ (s : Start) (graphs : ℕ → TaskGraph) (c : Certificate)
     (cached : HasCache s) (A : HasGraphs s graphs)
     (S : AreStatesMet s graphs c) (M : AreSetsMet s graphs c) where
   -- an entry is a reload
-  reload_of : (e : LedgerEntry) (r : IsOfRun s graphs c e) → IsReloaded s e.job e.time r.evicted.fetch
+  reload_of : (e : LedgerReload) (r : IsOfRun s graphs c e) → IsReloaded s e.job e.time r.evicted.fetch
   reload_of e r = entry_is_reload s graphs c e.time e.job r.evicted.fetch A S r.evicted.entry
 
-  fetch_of : (e : LedgerEntry) (r : IsOfRun s graphs c e) → r.preempted.fetch ≡ r.evicted.fetch
+  fetch_of : (e : LedgerReload) (r : IsOfRun s graphs c e) → r.preempted.fetch ≡ r.evicted.fetch
   fetch_of e r = same_fetch s e.time r.preempted.fetch r.evicted.fetch r.preempted.entry.fetches.is r.evicted.entry.fetches.is
 
   -- its preemptor, by the fetch of its evictor
-  preemptor_of : (e : LedgerEntry) (r : IsOfRun s graphs c e) → IsPreemptor s e.job e.preemptor e.time r.preempted.from r.preempted.time r.preempted.until r.evicted.fetch
+  preemptor_of : (e : LedgerReload) (r : IsOfRun s graphs c e) → IsPreemptor s e.job e.preemptor e.time r.preempted.from r.preempted.time r.preempted.until r.evicted.fetch
   preemptor_of e r = subst (λ f. IsPreemptor s e.job e.preemptor e.time r.preempted.from r.preempted.time r.preempted.until f) (fetch_of e r) r.preempted.is
 
   -- where it comes from
-  module _ (e : LedgerEntry) (r : IsOfRun s graphs c e) where
+  module _ (e : LedgerReload) (r : IsOfRun s graphs c e) where
     abbrev E : IsReloaded s e.job e.time r.evicted.fetch
     E = reload_of e r
 
@@ -142,13 +142,13 @@ module _ (s : Start) (graphs : ℕ → TaskGraph) (c : Certificate)
     kept : (m : ℕ) → m ≤ e.time → IsKept (state s m)
     kept m l = kept_at s graphs m e.time l r.evicted.entry.kept
 
-    evictor_passes : IsPassing s e.job e.evictor E.time e.time
+    evictor_passes : RunsInGap s e.job e.evictor E.time e.time
     evictor_passes =
         let O = evictor_is_other s e.job e.time E.time r.evicted.fetch E.own e.evictor r.evicted.time r.evicted.last cached E.reload r.evicted.is in
         gap_is_of_higher s e.job e.evictor E.time r.evicted.time e.time E.own r.evicted.last r.evicted.fetch O.since r.evicted.is.last.earlier E.reload.own.own
         (record { is = r.evicted.is.last.is; by = r.evicted.is.by }) E.reload.fetches O.other
 
-    preemptor_passes : IsPassing s e.job e.preemptor r.preempted.from r.preempted.until
+    preemptor_passes : RunsInGap s e.job e.preemptor r.preempted.from r.preempted.until
     preemptor_passes = gap_is_of_higher s e.job e.preemptor r.preempted.from P.at r.preempted.until P.from P.fetch P.to P.after P.until P.gap.begins P.by P.gap.ends P.other
 
     -- the last fetch of the one is that of the other
@@ -161,7 +161,7 @@ module _ (s : Start) (graphs : ℕ → TaskGraph) (c : Certificate)
         subst (λ y. (y ≡ e.preemptor) ⊎ (before (state s 0).jobs y e.preemptor ≡ true)) same_evictor
         (P.latest r.preempted.time P.evictor P.gap.after P.gap.until P.last.is)
 
-    evicts : IsTrue (has (cert_at c (task_of s e.evictor)).part.evicting e.set)
+    evicts : IsTrue (has (certified_task c (job_task s e.evictor)).part.evicting e.set)
     evicts =
         let y = e.evictor in
         let v = r.evicted.time in
@@ -170,19 +170,19 @@ module _ (s : Start) (graphs : ℕ → TaskGraph) (c : Certificate)
         let early = r.evicted.is.last.earlier in
         let k = kept r.evicted.time (omega arith) in
         let N = address_at s graphs A e.evictor hy r.evicted.time r.evicted.last made (each_kept s graphs r.evicted.time e.evictor hy k) in
-        let own = ((M e.evictor hy).sets (node_of (graphs (task_of s e.evictor)) (job_of s r.evicted.time e.evictor)) N.below).own in
-        subst (λ z. IsTrue (has (cert_at c (task_of s e.evictor)).part.evicting z))
+        let own = ((M e.evictor hy).sets (node_of_job (graphs (job_task s e.evictor)) (job_after s r.evicted.time e.evictor)) N.below).own in
+        subst (λ z. IsTrue (has (certified_task c (job_task s e.evictor)).part.evicting z))
         (set_fetched s graphs A e.evictor hy r.evicted.time r.evicted.last k made ∙ r.evicted.is.last.to_set ∙ r.to_set) own
 
     -- the job does not fetch to the set from the gap's end until the entry: so its end comes by the entry's step
     away : (m : ℕ) (g : Fetch) → r.preempted.until ≤ m → m < e.time → FetchesAt s e.job m g → fetched_set s g ≢ e.set
     away m g l k f q = let u = P.gap.until in P.last.last m g (omega arith) k f.is (q ∙ sym r.to_set)
 
-    carried : FullUseful (graphs (task_of s e.job)).graph (accesses s.system.platform (graphs (task_of s e.job)).places.address) (listed_of (cert_at c (task_of s e.job))) (node_of (graphs (task_of s e.job)) (job_of s r.preempted.until e.job)) e.set
+    carried : FullUseful (graphs (job_task s e.job)).graph (accesses s.system.platform (graphs (job_task s e.job)).places.address) (listed_of (certified_task c (job_task s e.job))) (node_of_job (graphs (job_task s e.job)) (job_after s r.preempted.until e.job)) e.set
     carried =
-        carried_to s graphs A e.job below r.preempted.until e.time e.set P.to P.gap.ends kept away (cert_at c (task_of s e.job)) (M e.job below) P.in_time r.evicted.fetch r.evicted.entry.fetches r.to_set r.evicted.entry.counted
+        carried_to s graphs A e.job below r.preempted.until e.time e.set P.to P.gap.ends kept away (certified_task c (job_task s e.job)) (M e.job below) P.in_time r.evicted.fetch r.evicted.entry.fetches r.to_set r.evicted.entry.counted
 
-    node_below : node_of (graphs (task_of s e.job)) (job_of s r.preempted.until e.job) < (graphs (task_of s e.job)).graph.size
+    node_below : node_of_job (graphs (job_task s e.job)) (job_after s r.preempted.until e.job) < (graphs (job_task s e.job)).graph.size
     node_below =
         let k = kept r.preempted.until P.in_time in
         (address_at s graphs A e.job below r.preempted.until P.to P.gap.ends (each_kept s graphs r.preempted.until e.job below k)).below
@@ -194,12 +194,12 @@ module _ (s : Start) (graphs : ℕ → TaskGraph) (c : Certificate)
           preemptor = preemptor_passes.higher;
           not_after = not_after;
           evicts = evicts;
-          in_set = ((M e.job below).sets (node_of (graphs (task_of s e.job)) (job_of s r.preempted.until e.job)) node_below).all e.set carried;
+          in_set = ((M e.job below).sets (node_of_job (graphs (job_task s e.job)) (job_after s r.preempted.until e.job)) node_below).all e.set carried;
           carried = carried;
         }
 
   -- of two entries
-  module _ (d e : LedgerEntry) (q : IsOfRun s graphs c d) (r : IsOfRun s graphs c e) (earlier : d.time < e.time) where
+  module _ (d e : LedgerReload) (q : IsOfRun s graphs c d) (r : IsOfRun s graphs c e) (earlier : d.time < e.time) where
     same_set : d.set ≡ e.set → fetched_set s q.evicted.fetch ≡ fetched_set s r.evicted.fetch
     same_set k = q.to_set ∙ k ∙ sym r.to_set
 
@@ -228,7 +228,7 @@ module _ (s : Start) (graphs : ℕ → TaskGraph) (c : Certificate)
         let D = reload_of d q in
         let E = reload_of e r in
         let job = one_job p in
-        let again : IsReload s d.job e.time E.time r.evicted.fetch E.own = subst (λ i. IsReload s i e.time E.time r.evicted.fetch E.own) (sym job) E.reload in
+        let again : IsOwnReload s d.job e.time E.time r.evicted.fetch E.own = subst (λ i. IsOwnReload s i e.time E.time r.evicted.fetch E.own) (sym job) E.reload in
         let preemptor : IsPreemptor s d.job d.preemptor e.time r.preempted.from r.preempted.time r.preempted.until r.evicted.fetch =
         subst (λ i. IsPreemptor s i d.preemptor e.time r.preempted.from r.preempted.time r.preempted.until r.evicted.fetch) (sym job) (by_first p) in
         let same = one_job_per_preemptor.one_reload s d.job d.time D.time q.evicted.fetch D.own e.time E.time r.evicted.fetch E.own d.preemptor
@@ -242,7 +242,7 @@ module _ (s : Start) (graphs : ℕ → TaskGraph) (c : Certificate)
         subst (λ i. IsPreemptor s i d.preemptor e.time r.preempted.from r.preempted.time r.preempted.until r.evicted.fetch) (sym job) (by_first p) in
         (one_gap_per_preemptor s d.job d.preemptor d.time q.preempted.from q.preempted.time q.preempted.until e.time r.preempted.from r.preempted.time r.preempted.until q.evicted.fetch r.evicted.fetch (preemptor_of d q) preemptor).1
 
-  pub distinct : (d e : LedgerEntry) → IsOfRun s graphs c d → IsOfRun s graphs c e → d.time < e.time → AreDistinct s graphs c d e
+  pub distinct : (d e : LedgerReload) → IsOfRun s graphs c d → IsOfRun s graphs c e → d.time < e.time → AreDistinct s graphs c d e
   distinct d e q r l =
       record {
         evictor = distinct_evictor d e q r l;

@@ -6,7 +6,7 @@ use Rattle.crpd_base.proofs.Options.{some_injective, none_some}
 use Rattle.preempt_machine.specs.Step.{before, Fetch, Start, state, fetch_at}
 use Rattle.preempt_machine.proofs.Order.{comes_before_trans, comes_before_total}
 use Rattle.run_account.specs.Fetches.{fetched_set, IsLastFetchTo, HasCache}
-use Rattle.run_account.specs.Reloads.{FetchesAt, IsReload, IsPreemptor}
+use Rattle.run_account.specs.Reloads.{FetchesAt, IsOwnReload, IsPreemptor}
 use Rattle.run_account.proofs.ReloadLaws.{evictor_is_other, same_fetch, one_job_per_preemptor}
 use Rattle.run_account.proofs.LastBelow.{found_below, found_is, found_last, some_from}
 
@@ -163,7 +163,7 @@ pub record HasPreemptor (s : Start) (x t p : ℕ) (f : Fetch) : Type 0 where
   pub is : IsPreemptor s x p t a v c f
   pub up : IsUpTo s is.evictor.job p
 
-pub preemptor_is : (s : Start) (x t u : ℕ) (f g : Fetch) → HasCache s → IsReload s x t u f g → HasPreemptor s x t (preemptor_of s x (fetched_set s f) t) f
+pub preemptor_is : (s : Start) (x t u : ℕ) (f g : Fetch) → HasCache s → IsOwnReload s x t u f g → HasPreemptor s x t (preemptor_of s x (fetched_set s f) t) f
 preemptor_is s x t u f g cached reload =
     let set = fetched_set s f in
     let v = last_time s (fetched_set s f) t in
@@ -179,7 +179,7 @@ preemptor_is s x t u f g cached reload =
     })
     (ap job_in e.is)
   where
-    with_last : (s : Start) (x t u : ℕ) (f g : Fetch) → HasCache s → IsReload s x t u f g → (v : ℕ) (e : Fetch) → IsLastFetchTo s (fetched_set s f) t v e → job_in (fetch_at s v) ≡ e.job → HasPreemptor s x t (latest s (own_before s x v) (job_in (fetch_at s v)) (own_after s x v t)) f
+    with_last : (s : Start) (x t u : ℕ) (f g : Fetch) → HasCache s → IsOwnReload s x t u f g → (v : ℕ) (e : Fetch) → IsLastFetchTo s (fetched_set s f) t v e → job_in (fetch_at s v) ≡ e.job → HasPreemptor s x t (latest s (own_before s x v) (job_in (fetch_at s v)) (own_after s x v t)) f
     with_last s x t u f g cached reload v e last job =
         let others = evictor_is_other s x t u f g e.job v e cached reload (record { last = last; by = refl }) in
         let some = some_from (λ m. has_job x (fetch_at s m)) v u others.since (job_passes s u x g reload.own.own.is reload.own.own.by) in
@@ -225,17 +225,17 @@ preemptor_is s x t u f g cached reload =
 
 -- two reloads of one preemptor and one set are one
 pub same_reload : (s : Start) (x t u : ℕ) (f g : Fetch) (x' t' u' : ℕ) (f' g' : Fetch) (p p' a v c a' v' c' : ℕ) → HasCache s →
-    IsReload s x t u f g → IsReload s x' t' u' f' g' → fetched_set s f ≡ fetched_set s f' →
+    IsOwnReload s x t u f g → IsOwnReload s x' t' u' f' g' → fetched_set s f ≡ fetched_set s f' →
     IsPreemptor s x p t a v c f → IsPreemptor s x' p' t' a' v' c' f' → p ≡ p' → (x ≡ x') × (t ≡ t')
 same_reload s x t u f g x' t' u' f' g' p p' a v c a' v' c' cached r r' same q q' e =
     let q2 : IsPreemptor s x' p t' a' v' c' f' = subst (λ k. IsPreemptor s x' k t' a' v' c' f') (sym e) q' in
     let job = one_job_per_preemptor.one_job s x t u f g x' t' u' f' g' p a v c a' v' c' cached r r' q q2 in
-    let r3 : IsReload s x t' u' f' g' = subst (λ k. IsReload s k t' u' f' g') (sym job) r' in
+    let r3 : IsOwnReload s x t' u' f' g' = subst (λ k. IsOwnReload s k t' u' f' g') (sym job) r' in
     let q3 : IsPreemptor s x p t' a' v' c' f' = subst (λ k. IsPreemptor s k p t' a' v' c' f') (sym job) q2 in
     (job, one_job_per_preemptor.one_reload s x t u f g t' u' f' g' p a v c a' v' c' cached r r3 same q q3)
 
 -- two reloads of one preemptor are one job's
 pub same_job : (s : Start) (x t u : ℕ) (f g : Fetch) (x' t' u' : ℕ) (f' g' : Fetch) (p p' a v c a' v' c' : ℕ) → HasCache s →
-    IsReload s x t u f g → IsReload s x' t' u' f' g' → IsPreemptor s x p t a v c f → IsPreemptor s x' p' t' a' v' c' f' → p ≡ p' → x ≡ x'
+    IsOwnReload s x t u f g → IsOwnReload s x' t' u' f' g' → IsPreemptor s x p t a v c f → IsPreemptor s x' p' t' a' v' c' f' → p ≡ p' → x ≡ x'
 same_job s x t u f g x' t' u' f' g' p p' a v c a' v' c' cached r r' q q' e =
     one_job_per_preemptor.one_job s x t u f g x' t' u' f' g' p a v c a' v' c' cached r r' q (subst (λ k. IsPreemptor s x' k t' a' v' c' f') (sym e) q')

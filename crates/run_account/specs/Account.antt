@@ -5,17 +5,17 @@ use Rattle.loop_regions.specs.TaskGraph.{TaskGraph}
 use Rattle.preempt_machine.specs.declared.Completion.{Completion}
 use Rattle.preempt_machine.specs.Running.{job_id, completion_at}
 use Rattle.preempt_machine.specs.Safe.{IsKept}
-use Rattle.preempt_machine.specs.Kept.{completion}
+use Rattle.preempt_machine.specs.Schedule.{completion}
 use Rattle.preempt_machine.specs.Step.{Start, state}
 use Rattle.run_account.specs.declared.told.Account.{Account}
 use Rattle.run_account.specs.declared.told.Entry.{Entry}
 use Rattle.run_account.specs.declared.trails.Reload.{Reload}
-use Rattle.run_account.specs.Ledger.{LedgerEntry, IsLedger}
+use Rattle.run_account.specs.Ledger.{LedgerReload, IsLedger}
 use Rattle.run_account.specs.Facts.{HasFacts}
 
 -- an entry of the ledger with its jobs by task and number
-abbrev pub told : Start → LedgerEntry → Entry
-told s e =
+abbrev pub account_entry : Start → LedgerReload → Entry
+account_entry s e =
     record {
       job = job_id (state s 0) e.job;
       set = e.set;
@@ -25,8 +25,8 @@ told s e =
     }
 
 -- the same from the completions
-abbrev pub told_by : List Completion → Reload → Entry
-told_by cs r =
+abbrev pub entry_from_completions : List Completion → Reload → Entry
+entry_from_completions cs r =
     record {
       job = (completion cs r.job).job;
       set = r.set;
@@ -37,16 +37,16 @@ told_by cs r =
 
 -- the ledger of the first n steps of a run, how the jobs then stand, in the script's order, and whether no watch is broken
 pub record IsAccount (s : Start) (graphs : ℕ → TaskGraph) (c : Certificate) (n : ℕ) (a : Account) : Type 0 where
-  pub ledger : List LedgerEntry
+  pub ledger : List LedgerReload
   pub is_ledger : IsLedger s graphs c n ledger
-  pub entries : a.entries ≡ map (told s) ledger
+  pub entries : a.entries ≡ map (account_entry s) ledger
   pub all_jobs : length a.completions ≡ length s.lines
   pub completions : (x : ℕ) → x < length s.lines → completion a.completions x ≡ completion_at (state s n) x
   pub kept : IsTrue a.kept ↔ IsKept (state s n)
 
 -- and the facts of its entries that hold of every run
 pub record HasAccountFacts (s : Start) (graphs : ℕ → TaskGraph) (c : Certificate) (n : ℕ) (a : Account) : Type 0 where
-  pub ledger : List LedgerEntry
+  pub ledger : List LedgerReload
   pub is_ledger : IsLedger s graphs c n ledger
-  pub entries : a.entries ≡ map (told s) ledger
+  pub entries : a.entries ≡ map (account_entry s) ledger
   pub facts : HasFacts s graphs c ledger

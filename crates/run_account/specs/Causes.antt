@@ -3,20 +3,20 @@ use Rattle.std.specs.Prelude.{ℕ, ◌<◌, List, length}
 use Rattle.crpd_base.specs.declared.data.Certificate.{Certificate}
 use Rattle.icache.specs.Accesses.{accesses}
 use Rattle.loop_regions.specs.TaskGraph.{TaskGraph}
-use Rattle.evict_sets.specs.Clauses.{MeetsListing}
-use Rattle.evict_sets.specs.Certificate.{listed_of, cert_at}
+use Rattle.evict_sets.specs.CacheClauses.{MeetsListing}
+use Rattle.evict_sets.specs.ListedPart.{listed_of, certified_task}
 use Rattle.preempt_machine.specs.Step.{Fetch, Start}
 use Rattle.run_account.specs.Fetches.{fetched_set, HasCache}
-use Rattle.run_account.specs.Ledger.{IsEntry, LedgerEntry, IsOfRun, IsLedger}
-use Rattle.run_account.specs.Nodes.{task_of}
+use Rattle.run_account.specs.Ledger.{IsLedgerReload, LedgerReload, IsOfRun, IsLedger}
+use Rattle.run_account.specs.Nodes.{job_task}
 use Rattle.run_account.specs.Walks.{HasGraphs}
 
 -- what is listed for the task of each job of the script meets the clauses on which full states rest
 abbrev pub AreListingsMet : Start → (ℕ → TaskGraph) → Certificate → Type 0
 AreListingsMet s graphs c =
     (x : ℕ) → x < length s.lines →
-    let t = graphs (task_of s x) in
-    let p = cert_at c (task_of s x) in
+    let t = graphs (job_task s x) in
+    let p = certified_task c (job_task s x) in
     MeetsListing t.graph (accesses s.system.platform t.places.address) (listed_of p)
 
 -- with an evictor and a preemptor an entry of job x at step n is one of the ledger
@@ -26,15 +26,15 @@ pub record HasCauses (s : Start) (graphs : ℕ → TaskGraph) (c : Certificate) 
   pub is : IsOfRun s graphs c (record { job = x; set = fetched_set s f; time = n; evictor = evictor; preemptor = preemptor })
 
 -- each entry has both, in every run, legal or not, kept or not
-abbrev pub EntryHasCauses : Type 0
-EntryHasCauses =
+abbrev pub ReloadHasCauses : Type 0
+ReloadHasCauses =
     (s : Start) (graphs : ℕ → TaskGraph) (c : Certificate) (n x : ℕ) (f : Fetch) →
     HasCache s → HasGraphs s graphs → AreListingsMet s graphs c →
-    IsEntry s graphs c n x f → HasCauses s graphs c n x f
+    IsLedgerReload s graphs c n x f → HasCauses s graphs c n x f
 
 -- so there is a ledger of the first n steps
 abbrev pub RunHasLedger : Type 0
 RunHasLedger =
     (s : Start) (graphs : ℕ → TaskGraph) (c : Certificate) (n : ℕ) →
     HasCache s → HasGraphs s graphs → AreListingsMet s graphs c →
-    (ledger : List LedgerEntry) × IsLedger s graphs c n ledger
+    (ledger : List LedgerReload) × IsLedger s graphs c n ledger

@@ -2,17 +2,17 @@
 ghost use Rattle.std.specs.Prelude.{◌≡◌, ◌<◌, ◌≤◌, ◌+◌, ◌^◌, ℕ, ◌↔◌, ◌⊎◌, Some, length, map, slice_get, IfOk, OnOk, IsTrue};
 ghost use Rattle.crpd_base.specs.Ranges.{IsTaskSet};
 ghost use Rattle.loop_regions.specs.Nest.{Nest};
-ghost use Rattle.preempt_machine.specs.Kept.{completion, line_at};
+ghost use Rattle.preempt_machine.specs.Schedule.{completion, script_line};
 ghost use Rattle.run_account.specs.Idle.{IsIdle, IsIdleUntil};
 ghost use Rattle.preempt_machine.specs.Running.{HasPlans};
 ghost use Rattle.preempt_machine.specs.Safe.{IsKept, NamesTasks};
 ghost use Rattle.preempt_machine.specs.Step.{state};
-ghost use Rattle.run_account.specs.Account.{told_by, IsAccount, HasAccountFacts};
+ghost use Rattle.run_account.specs.Account.{entry_from_completions, IsAccount, HasAccountFacts};
 ghost use Rattle.run_account.specs.Ledger.{IsLedger};
-ghost use Rattle.run_account.specs.Runs.{graphs_in, start_in, certificate_in, AreHits, IsFetched, IsQuick, IsReady, IsRunning, IsSoFar};
+ghost use Rattle.run_account.specs.Runs.{run_graphs, run_start, run_certificate, AreHits, IsFetched, IsQuick, HasAccountInput, IsRunning, IsSoFar};
 ghost use Rattle.preempt_machine.specs.Starts.{start_of_script};
-ghost use Rattle.run_account.specs.Shown.{with_nests, AreGraphsOf, TasksAreMet, SetsAreMet};
-ghost use Rattle.run_account.specs.Trails.{entry_of, IsNoted};
+ghost use Rattle.run_account.specs.AccountGraphs.{with_nests, AreGraphsOf, TasksAreMet, SetsAreMet};
+ghost use Rattle.run_account.specs.Trails.{ledger_reload_of, AreTrailsOf};
 
 use crate::told::{Account, Entry};
 use crate::trails::{Reload, Trails};
@@ -66,7 +66,7 @@ fn all_hits(
 impl Run<'_> {
     /// Whether an instruction that misses may end in the cycle of its fetch.
     fn is_quick(&self) -> bool
-        requires { IsReady self.now }
+        requires { HasAccountInput self.now }
         ensures { IsTrue result ↔ IsQuick self.now.set.now.platform }
     {
         self.set.platform.hit + self.set.platform.miss < 2
@@ -78,7 +78,7 @@ fn idle_until(lines: &[ScriptJob], completions: &[Completion], now: u64, cycles:
     requires jobs { length lines.now ≡ length completions.now }
     requires later { now ≤ cycles }
     ensures within { result ≤ cycles }
-    ensures idle { now < result → (x : ℕ) → x < length completions.now → IsIdleUntil (completion completions.now x).«end» (line_at lines.now x).release result }
+    ensures idle { now < result → (x : ℕ) → x < length completions.now → IsIdleUntil (completion completions.now x).«end» (script_line lines.now x).release result }
 {
     let mut until = cycles;
     for place in 0..completions.len() {
@@ -108,7 +108,7 @@ fn is_reload(counted: bool, access: Access) -> bool
 
 /// Whether no watch was broken before a fetch that missed, as far as it has to be looked at after the fetch.
 fn was_kept(run: &Run<'_>, machine: &Machine) -> bool
-    requires { IsReady run.now }
+    requires { HasAccountInput run.now }
     ensures { IsTrue result ↔ (IsQuick run.now.set.now.platform ⊎ IsKept machine.now.state) }
 {
     run.is_quick() || machine.kept()
@@ -116,7 +116,7 @@ fn was_kept(run: &Run<'_>, machine: &Machine) -> bool
 
 /// Whether no watch is broken, as far as it has to be looked at before a fetch.
 fn is_kept_so_far(run: &Run<'_>, machine: &Machine) -> bool
-    requires { IsReady run.now }
+    requires { HasAccountInput run.now }
     ensures { IsTrue result ↔ (IsQuick run.now.set.now.platform → IsKept machine.now.state) }
 {
     !run.is_quick() || machine.kept()
@@ -133,11 +133,11 @@ impl Trails {
         place: usize,
         now: u64,
     ) -> Result<bool, Memory>
-        requires ready { IsReady run.now }
+        requires ready { HasAccountInput run.now }
         requires running { IsRunning run.now (now + 1) machine.now }
-        requires quick { IsQuick run.now.set.now.platform → IsKept (state (start_in run.now) now) }
+        requires quick { IsQuick run.now.set.now.platform → IsKept (state (run_start run.now) now) }
         requires fetched { IsFetched run.now now place fetch.now }
-        requires noted { IsNoted (start_in run.now) (graphs_in run.now) (certificate_in run.now) now self.old }
+        requires noted { AreTrailsOf (run_start run.now) (run_graphs run.now) (run_certificate run.now) now self.old }
         ensures { IfOk result (λ on. IsSoFar run.now (now + 1) on self.new) }
     {
         let task = usize::from(fetch.job.task.0);
@@ -159,12 +159,12 @@ impl Trails {
 
     /// Makes a cycle of a run, and notes its fetch. False where it finds that a watch was broken before it.
     fn make_cycle(&mut self, machine: &mut Machine, run: &Run<'_>) -> Result<bool, Memory>
-        requires ready { IsReady run.now }
+        requires ready { HasAccountInput run.now }
         requires running { IsRunning run.now machine.old.state.time machine.old }
         requires within { machine.old.state.time < run.now.script.now.cycles }
         requires later { machine.old.state.time + 1 < 2 ^ 64 }
         requires quick { IsQuick run.now.set.now.platform → IsKept machine.old.state }
-        requires noted { IsNoted (start_in run.now) (graphs_in run.now) (certificate_in run.now) machine.old.state.time self.old }
+        requires noted { AreTrailsOf (run_start run.now) (run_graphs run.now) (run_certificate run.now) machine.old.state.time self.old }
         ensures running { OnOk result (IsRunning run.now machine.new.state.time machine.new) }
         ensures within { OnOk result (machine.new.state.time ≤ run.now.script.now.cycles) }
         ensures so_far { IfOk result (λ on. IsSoFar run.now machine.new.state.time on self.new) }
@@ -189,7 +189,7 @@ impl Trails {
         requires running { IsRunning run.now machine.now.state.time machine.now }
         requires within { machine.now.state.time < run.now.script.now.cycles }
         ensures within { result ≤ run.now.script.now.cycles }
-        ensures idle { IsIdle (start_in run.now) machine.now.state.time result }
+        ensures idle { IsIdle (run_start run.now) machine.now.state.time result }
     {
         let now = machine.steps();
         let completions = machine.completions();
@@ -216,11 +216,11 @@ impl Trails {
     /// The steps up to the first one in which a job may be ready, where there are such, and else a cycle. False
     /// without a step where a watch is found to be broken before it.
     fn step(&mut self, machine: &mut Machine, run: &Run<'_>) -> Result<bool, Memory>
-        requires ready { IsReady run.now }
+        requires ready { HasAccountInput run.now }
         requires running { IsRunning run.now machine.old.state.time machine.old }
         requires within { machine.old.state.time < run.now.script.now.cycles }
         requires later { machine.old.state.time + 1 < 2 ^ 64 }
-        requires noted { IsNoted (start_in run.now) (graphs_in run.now) (certificate_in run.now) machine.old.state.time self.old }
+        requires noted { AreTrailsOf (run_start run.now) (run_graphs run.now) (run_certificate run.now) machine.old.state.time self.old }
         ensures running { OnOk result (IsRunning run.now machine.new.state.time machine.new) }
         ensures within { OnOk result (machine.new.state.time ≤ run.now.script.now.cycles) }
         ensures so_far { IfOk result (λ on. IsSoFar run.now machine.new.state.time on self.new) }
@@ -242,11 +242,11 @@ impl Trails {
     /// Makes the cycles of a run from its start, and notes its fetches up to and including the first cycle in which a
     /// watch breaks.
     fn follow_run(&mut self, machine: &mut Machine, run: &Run<'_>) -> Result<(), Memory>
-        requires ready { IsReady run.now }
+        requires ready { HasAccountInput run.now }
         requires started { IsRunning run.now 0 machine.old }
-        requires noted { IsNoted (start_in run.now) (graphs_in run.now) (certificate_in run.now) 0 self.old }
-        ensures ledger { OnOk result (IsLedger (start_in run.now) (graphs_in run.now) (certificate_in run.now) run.now.script.now.cycles (map entry_of self.new.reloads.items)) }
-        ensures state { OnOk result (machine.new.state ≡ state (start_in run.now) run.now.script.now.cycles) }
+        requires noted { AreTrailsOf (run_start run.now) (run_graphs run.now) (run_certificate run.now) 0 self.old }
+        ensures ledger { OnOk result (IsLedger (run_start run.now) (run_graphs run.now) (run_certificate run.now) run.now.script.now.cycles (map ledger_reload_of self.new.reloads.items)) }
+        ensures state { OnOk result (machine.new.state ≡ state (run_start run.now) run.now.script.now.cycles) }
     {
         let mut on = true;
         while on && machine.steps() < run.script.cycles {
@@ -261,7 +261,7 @@ fn told(alloc: Global, completions: &[Completion], reloads: &[Reload]) -> Result
     requires jobs { (k : ℕ) (r : Reload) → slice_get reloads.now k ≡ Some r → r.job < length completions.now }
     requires evictors { (k : ℕ) (r : Reload) → slice_get reloads.now k ≡ Some r → r.evictor < length completions.now }
     requires preemptors { (k : ℕ) (r : Reload) → slice_get reloads.now k ≡ Some r → r.preemptor < length completions.now }
-    ensures { IfOk result (λ entries. entries.items ≡ map (told_by completions.now) reloads.now) }
+    ensures { IfOk result (λ entries. entries.items ≡ map (entry_from_completions completions.now) reloads.now) }
 {
     let mut entries = Vec::new(alloc);
     for reload in reloads {

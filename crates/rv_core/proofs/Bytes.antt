@@ -5,7 +5,7 @@ use Rattle.std.proofs.lemmas.Slice.{between_is}
 use Rattle.std.proofs.lemmas.List.{drop-drop, drop-set-lt, length-set, length-take-le, take-take, take_more_set}
 use borrow.Rule.Slice.PartMut.{put_mid}
 use Rattle.rv_core.specs.Memory.{Memory, next_byte, put_all, put_byte, put_bytes}
-use Rattle.rv_core.specs.Pages.{number_of, written}
+use Rattle.rv_core.specs.Pages.{little_endian_number, page_with_value}
 
 -- all are below 256
 abbrev pub AreBytes : List ℕ → Type 0
@@ -24,11 +24,11 @@ other_bytes : (b n : ℕ) → b < 2 ^ 8 → (b + 2 ^ 8 * n) / 2 ^ 8 ≡ n
 other_bytes b n h = omega arith
 
 -- a page with the bytes written is one with the bytes in their place
-pub copied : (bytes page : List ℕ) (at : ℕ) → AreBytes bytes → at + length bytes ≤ length page → put_mid at (length bytes) page bytes ≡ written (length bytes) page at (number_of bytes)
+pub copied : (bytes page : List ℕ) (at : ℕ) → AreBytes bytes → at + length bytes ≤ length page → put_mid at (length bytes) page bytes ≡ page_with_value (length bytes) page at (little_endian_number bytes)
 copied [] page at h fits = take-append-drop at page
 copied (b ∷ bytes) page at h fits =
-    let low = first_byte b (number_of bytes) (h 0) in
-    let high = other_bytes b (number_of bytes) (h 0) in
+    let low = first_byte b (little_endian_number bytes) (h 0) in
+    let high = other_bytes b (little_endian_number bytes) (h 0) in
     let n = length bytes in
     let one = slice_set page at b in
     let past : drop (suc n) (drop at page) ≡ drop n (drop (at + 1) page) = drop-drop (suc n) at page ∙ ap (λ k. drop k page) (omega arith) ∙ sym (drop-drop n (at + 1) page) in
@@ -38,20 +38,20 @@ copied (b ∷ bytes) page at h fits =
     ∙ sym (append_assoc (take at page) (b ∷ []) (bytes ++ drop n (drop (at + 1) one)))
     ∙ ap (λ l. l ++ (bytes ++ drop n (drop (at + 1) one))) (sym front)
     ∙ copied bytes one (at + 1) (rest_are b bytes h) (omega (arith, length-set page at b))
-    ∙ ap (λ x. written n (slice_set page at x) (at + 1) (number_of bytes)) (sym low)
-    ∙ ap (written n (slice_set page at ((b + 2 ^ 8 * number_of bytes) % 2 ^ 8)) (at + 1)) (sym high)
+    ∙ ap (λ x. page_with_value n (slice_set page at x) (at + 1) (little_endian_number bytes)) (sym low)
+    ∙ ap (page_with_value n (slice_set page at ((b + 2 ^ 8 * little_endian_number bytes) % 2 ^ 8)) (at + 1)) (sym high)
 
 -- a store of the number is one of the bytes
-pub stored_all : (bytes : List ℕ) (memory : Memory) (a : ℕ) → AreBytes bytes → a + length bytes ≤ 2 ^ 32 → put_bytes (length bytes) memory a (number_of bytes) ≡ put_all memory a bytes
+pub stored_all : (bytes : List ℕ) (memory : Memory) (a : ℕ) → AreBytes bytes → a + length bytes ≤ 2 ^ 32 → put_bytes (length bytes) memory a (little_endian_number bytes) ≡ put_all memory a bytes
 stored_all [] memory a h fits = refl
 stored_all (b ∷ []) memory a h fits = ap (put_byte memory a) (first_byte b 0 (h 0))
 stored_all (b ∷ (c ∷ bytes)) memory a h fits =
-    let low = first_byte b (number_of (c ∷ bytes)) (h 0) in
-    let high = other_bytes b (number_of (c ∷ bytes)) (h 0) in
+    let low = first_byte b (little_endian_number (c ∷ bytes)) (h 0) in
+    let high = other_bytes b (little_endian_number (c ∷ bytes)) (h 0) in
     let next : next_byte a ≡ a + 1 = omega arith in
     let n = length (c ∷ bytes) in
-    ap (λ x. put_bytes n (put_byte memory a x) (next_byte a) ((b + 2 ^ 8 * number_of (c ∷ bytes)) / 2 ^ 8)) low
-    ∙ ap (λ x. put_bytes n (put_byte memory a b) x ((b + 2 ^ 8 * number_of (c ∷ bytes)) / 2 ^ 8)) next
+    ap (λ x. put_bytes n (put_byte memory a x) (next_byte a) ((b + 2 ^ 8 * little_endian_number (c ∷ bytes)) / 2 ^ 8)) low
+    ∙ ap (λ x. put_bytes n (put_byte memory a b) x ((b + 2 ^ 8 * little_endian_number (c ∷ bytes)) / 2 ^ 8)) next
     ∙ ap (put_bytes n (put_byte memory a b) (a + 1)) high
     ∙ stored_all (c ∷ bytes) (put_byte memory a b) (a + 1) (rest_are b (c ∷ bytes) h) (omega arith)
 
@@ -72,7 +72,7 @@ all_to bytes i j memory a le within =
     ∙ ap (put_all memory a) both
 
 -- bytes that are all 0
-pub zero_number : (bytes : List ℕ) → ((i : ℕ) → i < length bytes → slice_index bytes i ≡ 0) → number_of bytes ≡ 0
+pub zero_number : (bytes : List ℕ) → ((i : ℕ) → i < length bytes → slice_index bytes i ≡ 0) → little_endian_number bytes ≡ 0
 zero_number [] h = refl
 zero_number (b ∷ bytes) h =
     let first : b ≡ 0 = h 0 (omega arith) in

@@ -9,7 +9,7 @@ use Rattle.std.specs.declared.ops.Bound.TheVariants.{Included, Excluded}
 use Rattle.std.specs.Map.{lookup, remove_entry}
 use Rattle.std.specs.Ordering.{is_le, nat_cmp}
 use Rattle.rv_core.specs.Memory.{Memory, IsMemory, byte, put_byte, next_byte, put_bytes, is_within, clear_bytes}
-use Rattle.rv_core.specs.Pages.{Pages, memory_of, ArePages, byte_in, is_outside}
+use Rattle.rv_core.specs.Pages.{Pages, memory_of, ArePages, byte_in, is_not_between}
 use Rattle.rv_core.proofs.Memories.{byte_after_clear, byte_put, clear_from, put_bytes_from, put_from, same_bytes}
 use Rattle.rv_core.proofs.Pages.{at_other, at_same, byte_of, pages_from}
 
@@ -62,11 +62,11 @@ zeros_clear n memory a m below fits =
     same_bytes 0 _ _ (put_bytes_from n memory a 0 m below) (clear_from 0 memory a n m) (λ c. zeros_byte n memory a c m below fits ∙ sym (byte_after_clear memory a n c))
 
 -- pages outside those from a number up to another
-outside_true : (first last k : ℕ) → (k < first) ⊎ (last ≤ k) → is_outside first last k ≡ true
+outside_true : (first last k : ℕ) → (k < first) ⊎ (last ≤ k) → is_not_between first last k ≡ true
 outside_true first last k (inl l) = rw (lt-ltb k first l) refl
 outside_true first last k (inr g) = elim (cases_Bool (nat_lt k first)) [ inl t ↦ rw t refl | inr f ↦ rw (f, le-leb last k g) refl ]
 
-outside_false : (first last k : ℕ) → first ≤ k → k < last → is_outside first last k ≡ false
+outside_false : (first last k : ℕ) → first ≤ k → k < last → is_not_between first last k ≡ false
 outside_false first last k l r =
     let a : nat_lt k first ≡ false = grind (arith, nat_tests) in
     let b : nat_le last k ≡ false = grind (arith, nat_tests) in
@@ -76,34 +76,34 @@ higher : (low high : ℕ) (pages : Pages) → low ≤ high → ArePages high pag
 higher low high [] le h = tt
 higher low high (p ∷ pages) le h = (record { above = omega (arith, h.0.above); below = h.0.below; page = h.0.page }, h.1)
 
-pub outside_pages : (low : ℕ) (pages : Pages) (first last : ℕ) → ArePages low pages → ArePages low (filter (λ e. is_outside first last e.0) pages)
+pub outside_pages : (low : ℕ) (pages : Pages) (first last : ℕ) → ArePages low pages → ArePages low (filter (λ e. is_not_between first last e.0) pages)
 outside_pages low [] first last h = tt
-outside_pages low (p ∷ pages) first last h = elim (cases_Bool (is_outside first last p.0)) [
+outside_pages low (p ∷ pages) first last h = elim (cases_Bool (is_not_between first last p.0)) [
   | inl t ↦ rw t (h.0, outside_pages (p.0 + 1) pages first last h.1)
   | inr f ↦ rw f (higher low (p.0 + 1) _ (omega (arith, h.0.above)) (outside_pages (p.0 + 1) pages first last h.1))
 ]
 
-outside_kept : (pages : Pages) (first last q : ℕ) → is_outside first last q ≡ true → lookup (is_at (nat_cmp q)) (filter (λ e. is_outside first last e.0) pages) ≡ lookup (is_at (nat_cmp q)) pages
+outside_kept : (pages : Pages) (first last q : ℕ) → is_not_between first last q ≡ true → lookup (is_at (nat_cmp q)) (filter (λ e. is_not_between first last e.0) pages) ≡ lookup (is_at (nat_cmp q)) pages
 outside_kept [] first last q t = refl
 outside_kept (p ∷ pages) first last q t = elim (cases_eq q p.0) [
-  | inl e ↦ let s : is_outside first last p.0 ≡ true = ap (is_outside first last) (sym e) ∙ t in rw (s, at_same q p.0 e) refl
-  | inr ne ↦ elim (cases_Bool (is_outside first last p.0)) [
+  | inl e ↦ let s : is_not_between first last p.0 ≡ true = ap (is_not_between first last) (sym e) ∙ t in rw (s, at_same q p.0 e) refl
+  | inr ne ↦ elim (cases_Bool (is_not_between first last p.0)) [
     | inl s ↦ rw (s, at_other q p.0 ne) (outside_kept pages first last q t)
     | inr s ↦ rw (s, at_other q p.0 ne) (outside_kept pages first last q t)
   ]
 ]
 
-outside_gone : (pages : Pages) (first last q : ℕ) → is_outside first last q ≡ false → lookup (is_at (nat_cmp q)) (filter (λ e. is_outside first last e.0) pages) ≡ None
+outside_gone : (pages : Pages) (first last q : ℕ) → is_not_between first last q ≡ false → lookup (is_at (nat_cmp q)) (filter (λ e. is_not_between first last e.0) pages) ≡ None
 outside_gone [] first last q f = refl
-outside_gone (p ∷ pages) first last q f = elim (cases_Bool (is_outside first last p.0)) [
+outside_gone (p ∷ pages) first last q f = elim (cases_Bool (is_not_between first last p.0)) [
   | inl s ↦
-      let ne : q ≡ p.0 → ⊥ = λ e. false≢true (sym f ∙ ap (is_outside first last) e ∙ s) in
+      let ne : q ≡ p.0 → ⊥ = λ e. false≢true (sym f ∙ ap (is_not_between first last) e ∙ s) in
       rw (s, at_other q p.0 ne) (outside_gone pages first last q f)
   | inr s ↦ rw s (outside_gone pages first last q f)
 ]
 
 -- a number that is not outside is in the range
-inside_between : (first last q : ℕ) → is_outside first last q ≡ false → range_contains nat_cmp (Included first) (Excluded last) q ≡ true
+inside_between : (first last q : ℕ) → is_not_between first last q ≡ false → range_contains nat_cmp (Included first) (Excluded last) q ≡ true
 inside_between first last q f =
     let low : first ≤ q = elim (cases_lt q first) [ inl l ↦ absurd (false≢true (sym f ∙ outside_true first last q (inl l))) | inr g ↦ g ] in
     let high : q < last = elim (cases_lt q last) [ inl l ↦ l | inr g ↦ absurd (false≢true (sym f ∙ outside_true first last q (inr g))) ] in
@@ -115,9 +115,9 @@ inside_between first last q f =
     rw (start, end) refl
 
 -- where no page is in the range, all are outside
-pub none_between : (first last : ℕ) (pages : Pages) → entries_between nat_cmp (Included first) (Excluded last) pages ≡ [] → filter (λ e. is_outside first last e.0) pages ≡ pages
+pub none_between : (first last : ℕ) (pages : Pages) → entries_between nat_cmp (Included first) (Excluded last) pages ≡ [] → filter (λ e. is_not_between first last e.0) pages ≡ pages
 none_between first last [] h = refl
-none_between first last (p ∷ pages) h = elim (cases_Bool (is_outside first last p.0)) [
+none_between first last (p ∷ pages) h = elim (cases_Bool (is_not_between first last p.0)) [
   | inl t ↦ elim (cases_Bool (range_contains nat_cmp (Included first) (Excluded last) p.0)) [
     | inl s ↦ let e : p ∷ entries_between nat_cmp (Included first) (Excluded last) pages ≡ [] = rw s at h in absurd (cc)
     | inr s ↦ rw t (ap (λ (m : Pages). p ∷ m) (none_between first last pages (rw s at h)))
@@ -126,26 +126,26 @@ none_between first last (p ∷ pages) h = elim (cases_Bool (is_outside first las
 ]
 
 -- without a page from a number up to another, the same are outside
-pub outside_removed : (pages : Pages) (first last k : ℕ) → is_outside first last k ≡ false → filter (λ e. is_outside first last e.0) (remove_entry (is_at (nat_cmp k)) pages) ≡ filter (λ e. is_outside first last e.0) pages
+pub outside_removed : (pages : Pages) (first last k : ℕ) → is_not_between first last k ≡ false → filter (λ e. is_not_between first last e.0) (remove_entry (is_at (nat_cmp k)) pages) ≡ filter (λ e. is_not_between first last e.0) pages
 outside_removed [] first last k f = refl
 outside_removed (p ∷ pages) first last k f = elim (cases_eq k p.0) [
-  | inl e ↦ let s : is_outside first last p.0 ≡ false = ap (is_outside first last) (sym e) ∙ f in rw (at_same k p.0 e, s) refl
-  | inr ne ↦ elim (cases_Bool (is_outside first last p.0)) [
+  | inl e ↦ let s : is_not_between first last p.0 ≡ false = ap (is_not_between first last) (sym e) ∙ f in rw (at_same k p.0 e, s) refl
+  | inr ne ↦ elim (cases_Bool (is_not_between first last p.0)) [
     | inl s ↦ rw (at_other k p.0 ne, s) (ap (λ (m : Pages). p ∷ m) (outside_removed pages first last k f))
     | inr s ↦ rw (at_other k p.0 ne, s) (outside_removed pages first last k f)
   ]
 ]
 
-pub outside_clear : (pages : Pages) (first last : ℕ) → ArePages 0 pages → first ≤ last → memory_of (filter (λ e. is_outside first last e.0) pages) ≡ clear_bytes (memory_of pages) (64 * first) (64 * last - 64 * first)
+pub outside_clear : (pages : Pages) (first last : ℕ) → ArePages 0 pages → first ≤ last → memory_of (filter (λ e. is_not_between first last e.0) pages) ≡ clear_bytes (memory_of pages) (64 * first) (64 * last - 64 * first)
 outside_clear pages first last h le =
-    let rest = filter (λ e. is_outside first last e.0) pages in
+    let rest = filter (λ e. is_not_between first last e.0) pages in
     let n = 64 * last - 64 * first in
     same_bytes 0 _ _ (pages_from 0 rest (outside_pages 0 pages first last h)) (clear_from 0 (memory_of pages) (64 * first) n (pages_from 0 pages h)) (λ c.
     byte_of 0 rest c (outside_pages 0 pages first last h)
     ∙ elim (cases_Bool (is_within (64 * first) n c)) [
       | inl t ↦
           let w = within_is (64 * first) n c t in
-          let gone : is_outside first last (c / 64) ≡ false = outside_false first last (c / 64) (omega (arith, w.0)) (omega (arith, w.1)) in
+          let gone : is_not_between first last (c / 64) ≡ false = outside_false first last (c / 64) (omega (arith, w.0)) (omega (arith, w.1)) in
           rw t (ap (λ o. byte_in (unwrap_or o []) c) (outside_gone pages first last (c / 64) gone))
       | inr f ↦
           let out : (c / 64 < first) ⊎ (last ≤ c / 64) = elim (within_not (64 * first) n c f) [ inl l ↦ inl (omega (arith, l)) | inr g ↦ inr (omega (arith, g)) ] in

@@ -1,7 +1,7 @@
 -- The memory as a map: what a write changes, and that the bytes tell the memory.
 use Rattle.std.proofs.Common.{◌≡◌, ℕ, zero, suc, ◌+◌, ◌/◌, ◌%◌, ◌^◌, ◌-◌, ◌<◌, ◌≤◌, ◌==◌, true, false, nat_lt, if◌then◌else◌, List, [], ◌∷◌, arith, refl, sym, ap, ◌∙◌, inl, inr, ◌⊎◌, subst, ltb-true, ltb-false, Result, Ok, Err, OnOk, OnErr}
 use Rattle.std.proofs.lemmas.Bool.{cases_Bool, eqb-true, ne_eqb}
-use Rattle.rv_core.specs.Memory.{Memory, IsFrom, IsMemory, byte, entry, put_byte, is_within, clear_bytes, next_byte, put_bytes, put_half, put_whole}
+use Rattle.rv_core.specs.Memory.{Memory, IsFrom, IsMemory, byte, prepend_byte, put_byte, is_within, clear_bytes, next_byte, put_bytes, put_half, put_whole}
 
 other_numbers : (a b : ℕ) → (a == b) ≡ false → a ≡ b → ⊥
 other_numbers a b h = grind arith
@@ -23,7 +23,7 @@ pub from_lower : (low high : ℕ) (memory : Memory) → low ≤ high → IsFrom 
 from_lower low high [] le h = tt
 from_lower low high (e ∷ memory) le h = (record { above = omega (arith, h.0.above); below = h.0.below; some = h.0.some; byte = h.0.byte }, h.1)
 
-pub byte_entry : (a b c : ℕ) (memory : Memory) → byte memory a ≡ 0 → byte (entry a b memory) c ≡ (if a == c then b else byte memory c)
+pub byte_entry : (a b c : ℕ) (memory : Memory) → byte memory a ≡ 0 → byte (prepend_byte a b memory) c ≡ (if a == c then b else byte memory c)
 byte_entry a b c memory h = elim (cases_Bool (b == 0)) [
   | inl e ↦ rw e (zero_case (eqb-true b 0 e))
   | inr e ↦ rw e refl
@@ -58,7 +58,7 @@ byte_put low (e ∷ memory) a b c h = elim (cases_Bool (nat_lt e.0 a)) [
       | inr other ↦ let apart : (e.0 == c) ≡ false = ap (λ n. n == c) q ∙ other in rw (other, apart) refl
     ]
 
-pub from_entry : (low a b : ℕ) (memory : Memory) → IsFrom (a + 1) memory → low ≤ a → a < 2 ^ 32 → b < 2 ^ 8 → IsFrom low (entry a b memory)
+pub from_entry : (low a b : ℕ) (memory : Memory) → IsFrom (a + 1) memory → low ≤ a → a < 2 ^ 32 → b < 2 ^ 8 → IsFrom low (prepend_byte a b memory)
 from_entry low a b memory h le below small = elim (cases_Bool (b == 0)) [
   | inl e ↦ rw e (from_lower low (a + 1) memory (omega (arith, le)) h)
   | inr e ↦ rw e (record { above = le; below = below; some = omega (arith, other_numbers b 0 e); byte = small }, h)

@@ -6,8 +6,8 @@ use Rattle.std.proofs.lemmas.Bool.{cases_Bool, cases_lt, cases_eq, lt-ltb, le-lt
 use Rattle.std.specs.BTreeMap.{insert_entry, is_at}
 use Rattle.std.specs.Map.{lookup, set_value}
 use Rattle.std.specs.Ordering.{nat_cmp}
-use Rattle.rv_core.specs.Memory.{Memory, IsFrom, IsMemory, byte, put_byte, next_byte, put_bytes, whole}
-use Rattle.rv_core.specs.Pages.{Pages, bytes_before, memory_of, IsPage, ArePages, page_at, byte_in, word_in, written}
+use Rattle.rv_core.specs.Memory.{Memory, IsFrom, IsMemory, byte, put_byte, next_byte, put_bytes, memory_word}
+use Rattle.rv_core.specs.Pages.{Pages, bytes_before, memory_of, IsPage, ArePages, page_at, byte_in, page_word, page_with_value}
 use Rattle.rv_core.proofs.Memories.{byte_below, byte_entry, byte_put, from_entry, from_lower, order_cases, put_bytes_from, put_from, same_bytes}
 
 -- bytes in front of a memory of later addresses
@@ -116,7 +116,7 @@ one_written page at b h inside small =
       ];
     }
 
-pub written_is : (n : ℕ) (page : List ℕ) (at value : ℕ) → IsPage page → at + n ≤ 64 → IsPage (written n page at value)
+pub written_is : (n : ℕ) (page : List ℕ) (at value : ℕ) → IsPage page → at + n ≤ 64 → IsPage (page_with_value n page at value)
 written_is zero page at value h fits = h
 written_is (suc n) page at value h fits = written_is n (slice_set page at (value % 2 ^ 8)) (at + 1) (value / 2 ^ 8) (one_written page at (value % 2 ^ 8) h (omega arith) (omega arith)) (omega arith)
 
@@ -138,7 +138,7 @@ one_shown memory page k at b m p same fits d f =
     ]
 
 -- a store within a page is one to the page
-stores_shown : (n : ℕ) (memory : Memory) (page : List ℕ) (k at value : ℕ) → IsMemory memory → IsPage page → Shows page k memory → k < 2 ^ 26 → at + n ≤ 64 → Shows (written n page at value) k (put_bytes n memory (64 * k + at) value)
+stores_shown : (n : ℕ) (memory : Memory) (page : List ℕ) (k at value : ℕ) → IsMemory memory → IsPage page → Shows page k memory → k < 2 ^ 26 → at + n ≤ 64 → Shows (page_with_value n page at value) k (put_bytes n memory (64 * k + at) value)
 stores_shown zero memory page k at value m p same below fits = same
 stores_shown (suc zero) memory page k at value m p same below fits = one_shown memory page k at (value % 2 ^ 8) m p same (omega arith)
 stores_shown (suc (suc n)) memory page k at value m p same below fits =
@@ -168,7 +168,7 @@ pub record HasPage (old new : Pages) (k : ℕ) (page : List ℕ) : Type 0 where
   pub here : page_at new k ≡ page
   pub others : (q : ℕ) → (q ≡ k → ⊥) → page_at new q ≡ page_at old q
 
-pub stores : (n : ℕ) (old new : Pages) (k at value : ℕ) (page : List ℕ) → ArePages 0 old → IsPage page → Shows page k (memory_of old) → k < 2 ^ 26 → at < 64 → at + n ≤ 64 → HasPage old new k (written n page at value) → memory_of new ≡ put_bytes n (memory_of old) (64 * k + at) value
+pub stores : (n : ℕ) (old new : Pages) (k at value : ℕ) (page : List ℕ) → ArePages 0 old → IsPage page → Shows page k (memory_of old) → k < 2 ^ 26 → at < 64 → at + n ≤ 64 → HasPage old new k (page_with_value n page at value) → memory_of new ≡ put_bytes n (memory_of old) (64 * k + at) value
 stores n old new k at value page h is same below start fits put =
     let m : IsMemory (memory_of old) = pages_from 0 old h in
     same_bytes 0 _ _ (pages_from 0 new put.pages) (put_bytes_from n (memory_of old) (64 * k + at) value m (omega arith)) (λ c.
@@ -203,7 +203,7 @@ stores_nothing n memory k at m below start fits none =
     zeros : (i : ℕ) → slice_index (replicate 64 0) i ≡ 0
     zeros i = elim (cases_lt i 64) [ inl l ↦ get_or-replicate 64 i 0 0 l | inr g ↦ get_or_past (replicate 64 0) i 0 (omega (arith, length-replicate {A = ℕ} 64 0)) ]
 
-    blank : (j : ℕ) (page : List ℕ) (from c : ℕ) → ((i : ℕ) → slice_index page i ≡ 0) → byte_in (written j page from 0) c ≡ 0
+    blank : (j : ℕ) (page : List ℕ) (from c : ℕ) → ((i : ℕ) → slice_index page i ≡ 0) → byte_in (page_with_value j page from 0) c ≡ 0
     blank zero page from c h = h (c % 64)
     blank (suc j) page from c h = blank j (slice_set page from 0) (from + 1) c (λ i. elim (cases_eq i from) [
       | inl e ↦ elim (cases_lt from (length page)) [
@@ -263,7 +263,7 @@ insert_put old after k w h below is same each =
     }
 
 -- a store within a page, by the page that it changes
-pub stored_in : (n : ℕ) (old after : Pages) (a value : ℕ) (page w : List ℕ) → ArePages 0 old → IsPage page → Shows page (a / 64) (memory_of old) → a < 2 ^ 32 → a % 64 + n ≤ 64 → w ≡ written n page (a % 64) value → HasPage old after (a / 64) w → memory_of after ≡ put_bytes n (memory_of old) a value
+pub stored_in : (n : ℕ) (old after : Pages) (a value : ℕ) (page w : List ℕ) → ArePages 0 old → IsPage page → Shows page (a / 64) (memory_of old) → a < 2 ^ 32 → a % 64 + n ≤ 64 → w ≡ page_with_value n page (a % 64) value → HasPage old after (a / 64) w → memory_of after ≡ put_bytes n (memory_of old) a value
 stored_in n old after a value page w h is shows below fits e put =
     let at : 64 * (a / 64) + a % 64 ≡ a = omega arith in
     stores n old after (a / 64) (a % 64) value page h is shows (omega arith) (omega arith) fits (subst (HasPage old after (a / 64)) e put)
@@ -287,7 +287,7 @@ byte_past memory page a i b shows e fits =
     let at : b % 64 ≡ a % 64 + i = omega (arith, e) in
     shows b (omega (arith, e)) ∙ ap (slice_index page) at
 
-pub whole_read : (memory : Memory) (page : List ℕ) (a : ℕ) → Shows page (a / 64) memory → a < 2 ^ 32 → a % 64 + 4 ≤ 64 → whole memory a ≡ word_in page (a % 64)
+pub whole_read : (memory : Memory) (page : List ℕ) (a : ℕ) → Shows page (a / 64) memory → a < 2 ^ 32 → a % 64 + 4 ≤ 64 → memory_word memory a ≡ page_word page (a % 64)
 whole_read memory page a shows below fits =
     let one = next_byte a in
     let two = next_byte one in
@@ -302,7 +302,7 @@ whole_read memory page a shows below fits =
     let b3 = byte_past memory page a 3 three shows e3 (omega arith) in
     rw (b0, b1, b2, b3) refl
 
-pub whole_none : (memory : Memory) (a : ℕ) → a < 2 ^ 32 → a % 64 + 4 ≤ 64 → ((c : ℕ) → c / 64 ≡ a / 64 → byte memory c ≡ 0) → whole memory a ≡ 0
+pub whole_none : (memory : Memory) (a : ℕ) → a < 2 ^ 32 → a % 64 + 4 ≤ 64 → ((c : ℕ) → c / 64 ≡ a / 64 → byte memory c ≡ 0) → memory_word memory a ≡ 0
 whole_none memory a below fits none =
     let one = next_byte a in
     let two = next_byte one in
@@ -314,19 +314,19 @@ whole_none memory a below fits none =
     rw (b0, b1, b2, b3) refl
 
 -- a store that finds its page, and one that makes it
-pub found_put : (n : ℕ) (old after : Pages) (a value : ℕ) (page w : List ℕ) → ArePages 0 old → a % 64 + n ≤ 64 → Some page ≡ lookup (is_at (nat_cmp (a / 64))) old → w ≡ written n page (a % 64) value → after ≡ set_value (is_at (nat_cmp (a / 64))) old w → HasPage old after (a / 64) w
+pub found_put : (n : ℕ) (old after : Pages) (a value : ℕ) (page w : List ℕ) → ArePages 0 old → a % 64 + n ≤ 64 → Some page ≡ lookup (is_at (nat_cmp (a / 64))) old → w ≡ page_with_value n page (a % 64) value → after ≡ set_value (is_at (nat_cmp (a / 64))) old w → HasPage old after (a / 64) w
 found_put n old after a value page w h fits found e same =
     let is : IsPage page = page_is 0 old (a / 64) page h (sym found) in
     set_put old after (a / 64) page w h (sym found) (subst IsPage (sym e) (written_is n page (a % 64) value is fits)) same
 
-pub found_stored : (n : ℕ) (old after : Pages) (a value : ℕ) (page w : List ℕ) → ArePages 0 old → a < 2 ^ 32 → a % 64 + n ≤ 64 → Some page ≡ lookup (is_at (nat_cmp (a / 64))) old → w ≡ written n page (a % 64) value → after ≡ set_value (is_at (nat_cmp (a / 64))) old w → memory_of after ≡ put_bytes n (memory_of old) a value
+pub found_stored : (n : ℕ) (old after : Pages) (a value : ℕ) (page w : List ℕ) → ArePages 0 old → a < 2 ^ 32 → a % 64 + n ≤ 64 → Some page ≡ lookup (is_at (nat_cmp (a / 64))) old → w ≡ page_with_value n page (a % 64) value → after ≡ set_value (is_at (nat_cmp (a / 64))) old w → memory_of after ≡ put_bytes n (memory_of old) a value
 found_stored n old after a value page w h below fits found e same =
     stored_in n old after a value page w h (page_is 0 old (a / 64) page h (sym found)) (page_shows old (a / 64) page h (sym found)) below fits e (found_put n old after a value page w h fits found e same)
 
-pub made_put : (n : ℕ) (old after : Pages) (a value : ℕ) (w : List ℕ) → ArePages 0 old → a < 2 ^ 32 → a % 64 + n ≤ 64 → w ≡ written n (replicate 64 0) (a % 64) value → after ≡ insert_entry nat_cmp old (a / 64) w → ArePages 0 after
+pub made_put : (n : ℕ) (old after : Pages) (a value : ℕ) (w : List ℕ) → ArePages 0 old → a < 2 ^ 32 → a % 64 + n ≤ 64 → w ≡ page_with_value n (replicate 64 0) (a % 64) value → after ≡ insert_entry nat_cmp old (a / 64) w → ArePages 0 after
 made_put n old after a value w h below fits e same = subst (ArePages 0) (sym same) (insert_pages 0 old (a / 64) w h (omega arith) (omega arith) (subst IsPage (sym e) (written_is n (replicate 64 0) (a % 64) value zeros_are fits)))
 
-pub made_stored : (n : ℕ) (old after : Pages) (a value : ℕ) (w : List ℕ) → ArePages 0 old → a < 2 ^ 32 → a % 64 + n ≤ 64 → None ≡ lookup (is_at (nat_cmp (a / 64))) old → w ≡ written n (replicate 64 0) (a % 64) value → after ≡ insert_entry nat_cmp old (a / 64) w → ((q : ℕ) → lookup (is_at (nat_cmp q)) after ≡ cond (is_at (nat_cmp (a / 64)) q) (Some w) (lookup (is_at (nat_cmp q)) old)) → memory_of after ≡ put_bytes n (memory_of old) a value
+pub made_stored : (n : ℕ) (old after : Pages) (a value : ℕ) (w : List ℕ) → ArePages 0 old → a < 2 ^ 32 → a % 64 + n ≤ 64 → None ≡ lookup (is_at (nat_cmp (a / 64))) old → w ≡ page_with_value n (replicate 64 0) (a % 64) value → after ≡ insert_entry nat_cmp old (a / 64) w → ((q : ℕ) → lookup (is_at (nat_cmp q)) after ≡ cond (is_at (nat_cmp (a / 64)) q) (Some w) (lookup (is_at (nat_cmp q)) old)) → memory_of after ≡ put_bytes n (memory_of old) a value
 made_stored n old after a value w h below fits none e same each =
     stored_in n old after a value (replicate 64 0) w h zeros_are (zeros_show old (a / 64) h (sym none)) below fits e
     (insert_put old after (a / 64) w h (omega arith) (subst IsPage (sym e) (written_is n (replicate 64 0) (a % 64) value zeros_are fits)) same each)

@@ -3,7 +3,7 @@ use Rattle.std.specs.Prelude.{ℕ, zero, suc, ◌≡◌, ◌+◌, ◌*◌, ◌/�
 use Rattle.std.specs.BTreeMap.{is_at}
 use Rattle.std.specs.Map.{lookup}
 use Rattle.std.specs.Ordering.{nat_cmp}
-use Rattle.rv_core.specs.Memory.{Memory, entry}
+use Rattle.rv_core.specs.Memory.{Memory, prepend_byte}
 
 abbrev pub Pages : Type 0
 Pages = List (ℕ × List ℕ)
@@ -11,7 +11,7 @@ Pages = List (ℕ × List ℕ)
 -- bytes from an address on, in front of a memory
 abbrev pub bytes_before : ℕ → List ℕ → Memory → Memory
 bytes_before a [] memory = memory
-bytes_before a (b ∷ bytes) memory = entry a b (bytes_before (a + 1) bytes memory)
+bytes_before a (b ∷ bytes) memory = prepend_byte a b (bytes_before (a + 1) bytes memory)
 
 -- the bytes of pages that are not 0
 abbrev pub memory_of : Pages → Memory
@@ -39,23 +39,23 @@ abbrev pub page_at : Pages → ℕ → List ℕ
 page_at pages k = unwrap_or (lookup (is_at (nat_cmp k)) pages) []
 
 -- whether a number is not from one up to another
-abbrev pub is_outside : ℕ → ℕ → ℕ → Bool
-is_outside first last k = nat_lt k first || nat_le last k
+abbrev pub is_not_between : ℕ → ℕ → ℕ → Bool
+is_not_between first last k = nat_lt k first || nat_le last k
 
 -- the byte of an address in the page of its number
 abbrev pub byte_in : List ℕ → ℕ → ℕ
 byte_in page c = slice_index page (c % 64)
 
 -- a page with the low n bytes of a value from a place on
-abbrev pub written : ℕ → List ℕ → ℕ → ℕ → List ℕ
-written zero page at value = page
-written (suc n) page at value = written n (slice_set page at (value % 2 ^ 8)) (at + 1) (value / 2 ^ 8)
+abbrev pub page_with_value : ℕ → List ℕ → ℕ → ℕ → List ℕ
+page_with_value zero page at value = page
+page_with_value (suc n) page at value = page_with_value n (slice_set page at (value % 2 ^ 8)) (at + 1) (value / 2 ^ 8)
 
 -- the little-endian number in four bytes of a page
-abbrev pub word_in : List ℕ → ℕ → ℕ
-word_in page at = slice_index page at + 2 ^ 8 * slice_index page (at + 1) + 2 ^ 16 * (slice_index page (at + 2) + 2 ^ 8 * slice_index page (at + 3))
+abbrev pub page_word : List ℕ → ℕ → ℕ
+page_word page at = slice_index page at + 2 ^ 8 * slice_index page (at + 1) + 2 ^ 16 * (slice_index page (at + 2) + 2 ^ 8 * slice_index page (at + 3))
 
 -- the little-endian number in bytes
-abbrev pub number_of : List ℕ → ℕ
-number_of [] = 0
-number_of (b ∷ bytes) = b + 2 ^ 8 * number_of bytes
+abbrev pub little_endian_number : List ℕ → ℕ
+little_endian_number [] = 0
+little_endian_number (b ∷ bytes) = b + 2 ^ 8 * little_endian_number bytes

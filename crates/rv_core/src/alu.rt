@@ -1,8 +1,8 @@
 // What the instructions compute, on words of 32 bits.
 ghost use Rattle.std.specs.Prelude.{◌≡◌, ℕ, ◌*◌, ◌+◌, ◌-◌, ◌/◌, ◌%◌, ◌^◌, ◌<◌, ◌==◌, ◌*ℤ◌, pos, if◌then◌else◌};
-ghost use Rattle.rv_decode.specs.Address.{after, int_word, plus, word};
+ghost use Rattle.rv_decode.specs.Address.{next_address, int_word, plus, word};
 ghost use Rattle.crpd_base.specs.Sum.{one_if};
-ghost use Rattle.rv_core.specs.Effect.{extended, high, quotient, remainder, shift_signed, signed_lt, to_signed};
+ghost use Rattle.rv_core.specs.Effect.{sign_extension, high, quotient, remainder, shift_signed, signed_lt, to_signed};
 
 /// A word and an immediate, modulo 2^32.
 pub(crate) fn plus(a: u32, imm: i32) -> u32
@@ -20,7 +20,7 @@ pub(crate) fn int_word(imm: i32) -> u32
 
 /// The address after an instruction's own.
 pub(crate) fn after(pc: u32) -> u32
-    ensures { result ≡ after pc }
+    ensures { result ≡ next_address pc }
 {
     pc.wrapping_add(4)
 }
@@ -39,7 +39,7 @@ pub(crate) fn one_if(test: bool) -> u32
 
 /// A byte with its sign in all the bits above.
 pub(crate) fn byte_extended(byte: u8) -> u32
-    ensures { result ≡ extended 8 byte }
+    ensures { result ≡ sign_extension 8 byte }
 {
     if byte < 128 {
         byte as u32
@@ -51,7 +51,7 @@ pub(crate) fn byte_extended(byte: u8) -> u32
 /// Two bytes with their sign in all the bits above.
 pub(crate) fn half_extended(half: u32) -> u32
     requires { half < 2 ^ 16 }
-    ensures { result ≡ extended 16 half }
+    ensures { result ≡ sign_extension 16 half }
 {
     if half < 32_768 {
         half

@@ -1,7 +1,7 @@
 // The effect of an instruction.
 ghost use Rattle.std.specs.Prelude.{◌<◌, ◌≡◌, ℕ, IfOk, IsOk, OnErr, OnOk, ◌⊎◌};
-ghost use Rattle.rv_decode.specs.Range.{IsInRange};
-ghost use Rattle.rv_core.specs.Effect.{IsStore, branch, next_pc, registers_after, stored, written};
+ghost use Rattle.rv_decode.specs.Range.{HasFieldsInRange};
+ghost use Rattle.rv_core.specs.Effect.{IsStore, branch, next_pc, registers_after, memory_after, written};
 
 use crate::Next;
 use crate::alu::{
@@ -26,10 +26,10 @@ fn branch(taken: bool, pc: u32, imm: i32) -> Next
 
 /// Where a job goes from an instruction at `pc`: ECALL answers, EBREAK faults. The fields are in range. In constant
 /// time; it takes no memory.
-#[tactic(auto, unfolding(crate::specs::Effect::next_pc, rv_decode::specs::Range::IsInRange))]
+#[tactic(auto, unfolding(crate::specs::Effect::next_pc, rv_decode::specs::Range::HasFieldsInRange))]
 #[inline(always)]
 pub fn next_pc(ins: &Ins, pc: u32, regs: &Regs) -> Next
-    requires { IsInRange ins.now }
+    requires { HasFieldsInRange ins.now }
     ensures { result ≡ next_pc ins.now pc regs.now }
 {
     match *ins {
@@ -48,10 +48,10 @@ pub fn next_pc(ins: &Ins, pc: u32, regs: &Regs) -> Next
 }
 
 /// The register that an instruction writes, and the value. Register 0 stands for none.
-#[tactic(auto, unfolding(crate::specs::Effect::written, rv_decode::specs::Range::IsInRange))]
+#[tactic(auto, unfolding(crate::specs::Effect::written, rv_decode::specs::Range::HasFieldsInRange))]
 #[inline(always)]
 fn written(ins: &Ins, pc: u32, regs: &Regs, memory: &DataMemory) -> (u8, u32)
-    requires { IsInRange ins.now }
+    requires { HasFieldsInRange ins.now }
     ensures value { result ≡ written ins.now pc regs.now memory.now }
     ensures register { result.0 < 32 }
 {
@@ -97,11 +97,11 @@ fn written(ins: &Ins, pc: u32, regs: &Regs, memory: &DataMemory) -> (u8, u32)
 }
 
 /// Carries out the store of an instruction that is one.
-#[tactic(auto, unfolding(crate::specs::Effect::stored, crate::specs::Effect::IsStore, rv_decode::specs::Range::IsInRange))]
+#[tactic(auto, unfolding(crate::specs::Effect::memory_after, crate::specs::Effect::IsStore, rv_decode::specs::Range::HasFieldsInRange))]
 #[inline(always)]
 fn store(ins: &Ins, regs: &Regs, memory: &mut DataMemory) -> Result<(), Memory>
-    requires { IsInRange ins.now }
-    ensures ok { OnOk result (memory.new ≡ stored ins.now regs.now memory.old) }
+    requires { HasFieldsInRange ins.now }
+    ensures ok { OnOk result (memory.new ≡ memory_after ins.now regs.now memory.old) }
     ensures err { OnErr result (memory.new ≡ memory.old) }
     ensures only { IsStore ins.now ⊎ IsOk result }
 {
@@ -120,9 +120,9 @@ fn store(ins: &Ins, regs: &Regs, memory: &mut DataMemory) -> Result<(), Memory>
 /// constant, but for a load or store logarithmic in the stored pages.
 #[inline(always)]
 pub fn carry_out(ins: &Ins, pc: u32, regs: &mut Regs, memory: &mut DataMemory) -> Result<(), Memory>
-    requires { IsInRange ins.now }
+    requires { HasFieldsInRange ins.now }
     ensures registers { OnOk result (regs.new ≡ registers_after ins.now pc regs.old memory.old) }
-    ensures memory { OnOk result (memory.new ≡ stored ins.now regs.old memory.old) }
+    ensures memory { OnOk result (memory.new ≡ memory_after ins.now regs.old memory.old) }
     ensures err { OnErr result ((regs.new ≡ regs.old) × (memory.new ≡ memory.old)) }
     ensures only { IsStore ins.now ⊎ IsOk result }
 {
@@ -139,10 +139,10 @@ pub fn carry_out(ins: &Ins, pc: u32, regs: &mut Regs, memory: &mut DataMemory) -
 /// misaligned accesses are carried out. Only a store may want memory; then nothing has changed. Time is constant, but
 /// for a load or store logarithmic in the stored pages.
 pub fn effect(ins: &Ins, pc: u32, regs: &mut Regs, memory: &mut DataMemory) -> Result<Next, Memory>
-    requires { IsInRange ins.now }
+    requires { HasFieldsInRange ins.now }
     ensures next { IfOk result (λ next. next ≡ next_pc ins.now pc regs.old) }
     ensures registers { OnOk result (regs.new ≡ registers_after ins.now pc regs.old memory.old) }
-    ensures memory { OnOk result (memory.new ≡ stored ins.now regs.old memory.old) }
+    ensures memory { OnOk result (memory.new ≡ memory_after ins.now regs.old memory.old) }
     ensures err { OnErr result ((regs.new ≡ regs.old) × (memory.new ≡ memory.old)) }
     ensures only { IsStore ins.now ⊎ IsOk result }
 {

@@ -3,8 +3,8 @@ ghost use Rattle.std.specs.Prelude.{◌≡◌, ◌↔◌, ℕ, false, ◌+◌, �
 ghost use Rattle.std.specs.BTreeMap.{ContainsKey};
 ghost use Rattle.std.specs.List.{filter};
 ghost use Rattle.std.specs.Ordering.{nat_cmp};
-ghost use Rattle.rv_core.specs.Memory.{IsMemory, ByteAfterPut, PutKeepsMemory, BytesTellMemory, ByteAfterClear, byte as byte_at, put_all, put_byte, put_bytes, clear_bytes, half, whole};
-ghost use Rattle.rv_core.specs.Pages.{is_outside, number_of, word_in, written};
+ghost use Rattle.rv_core.specs.Memory.{IsMemory, ByteAfterPut, PutKeepsMemory, BytesTellMemory, ByteAfterClear, byte as byte_at, put_all, put_byte, put_bytes, clear_bytes, memory_half, memory_word};
+ghost use Rattle.rv_core.specs.Pages.{is_not_between, little_endian_number, page_word, page_with_value};
 
 use crpd_base::Memory;
 use std::alloc::Global;
@@ -34,7 +34,7 @@ impl Model for DataMemory {
 /// The little-endian number in the four bytes of a page from a place on.
 fn word_of(page: &[u8; 64], at: usize) -> u32
     requires { at + 4 ≤ 64 }
-    ensures { result ≡ word_in page.now at }
+    ensures { result ≡ page_word page.now at }
 {
     let low = page[at] as u32 + 256 * page[at + 1] as u32;
     let high = page[at + 2] as u32 + 256 * page[at + 3] as u32;
@@ -44,7 +44,7 @@ fn word_of(page: &[u8; 64], at: usize) -> u32
 /// Writes the low `count` bytes of a value to a page, from a place on.
 fn write(page: &mut [u8; 64], at: usize, value: u32, count: u32)
     requires { at + count ≤ 64 }
-    ensures { page.new ≡ written count page.old at value }
+    ensures { page.new ≡ page_with_value count page.old at value }
 {
     if count > 0 {
         page[at] = (value % 256) as u8;
@@ -55,7 +55,7 @@ fn write(page: &mut [u8; 64], at: usize, value: u32, count: u32)
 /// Copies bytes to a page, from a place on.
 fn copy(page: &mut [u8; 64], at: usize, bytes: &[u8])
     requires { at + length bytes.now ≤ 64 }
-    ensures { page.new ≡ written (length bytes.now) page.old at (number_of bytes.now) }
+    ensures { page.new ≡ page_with_value (length bytes.now) page.old at (little_endian_number bytes.now) }
 {
     page[at..at + bytes.len()].copy_from_slice(bytes);
 }
@@ -70,8 +70,8 @@ fn are_zero(bytes: &[u8]) -> bool
 /// The number of a page from one up to another, if there is such a page.
 fn page_between(pages: &BTreeMap<u32, [u8; 64]>, first: u32, last: u32) -> Option<u32>
     requires { first ≤ last }
-    ensures found { IfSome result (λ k. (is_outside first last k ≡ false) × ContainsKey nat_cmp pages.now k) }
-    ensures none { IfNone result (filter (λ page. is_outside first last page.0) pages.now.entries ≡ pages.now.entries) }
+    ensures found { IfSome result (λ k. (is_not_between first last k ≡ false) × ContainsKey nat_cmp pages.now k) }
+    ensures none { IfNone result (filter (λ page. is_not_between first last page.0) pages.now.entries ≡ pages.now.entries) }
 {
     let (number, _) = pages.range(first..last).next()?;
     Some(*number)
@@ -80,7 +80,7 @@ fn page_between(pages: &BTreeMap<u32, [u8; 64]>, first: u32, last: u32) -> Optio
 /// Takes out the pages from a number up to another, one by one, in time logarithmic in the pages for each.
 fn remove_pages(pages: &mut BTreeMap<u32, [u8; 64]>, first: u32, last: u32)
     requires { first ≤ last }
-    ensures { pages.new.entries ≡ filter (λ page. is_outside first last page.0) pages.old.entries }
+    ensures { pages.new.entries ≡ filter (λ page. is_not_between first last page.0) pages.old.entries }
 {
     while let Some(number) = page_between(pages, first, last) {
         pages.remove(&number);
@@ -266,7 +266,7 @@ impl DataMemory {
 
     /// The little-endian number in the two bytes from an address on, which wraps at 2^32.
     pub(crate) fn half(&self, address: u32) -> u32
-        ensures value { result ≡ half self.now address }
+        ensures value { result ≡ memory_half self.now address }
         ensures below { result < 2 ^ 16 }
     {
         let low = self.byte(address) as u32;
@@ -276,7 +276,7 @@ impl DataMemory {
 
     /// The little-endian number in the four bytes from an address on, which wraps at 2^32.
     pub(crate) fn whole(&self, address: u32) -> u32
-        ensures { result ≡ whole self.now address }
+        ensures { result ≡ memory_word self.now address }
     {
         if address % 64 > 60 {
             return self.half(address) + 65_536 * self.half(address.wrapping_add(2));

@@ -5,10 +5,10 @@ use Rattle.std.proofs.lemmas.Int.{to_z-of_z}
 use Rattle.crpd_base.proofs.Options.{some_injective, none_some}
 use Rattle.rv_decode.specs.declared.Ins.{Ins}
 use Rattle.rv_decode.specs.declared.Ins.TheVariants.{Lui, Auipc, Jal, Jalr, Beq, Bne, Blt, Bge, Bltu, Bgeu, Lb, Lh, Lw, Lbu, Lhu, Sb, Sh, Sw, Addi, Slti, Sltiu, Xori, Ori, Andi, Slli, Srli, Srai, Add, Sub, Sll, Slt, Sltu, Xor, Srl, Sra, Or, And, Mul, Mulh, Mulhsu, Mulhu, Div, Divu, Rem, Remu, Fence, Ecall, Ebreak}
-use Rattle.rv_decode.specs.Table.{Key, bits, rd, rs1, rs2, i_imm, s_imm, b_imm, j_imm, signed, fits, table, row_of, row, r_form, i_form, s_form, b_form, u_form, j_form, fence_form}
+use Rattle.rv_decode.specs.Table.{Key, bits, rd, rs1, rs2, i_imm, s_imm, b_imm, j_imm, signed, fits_key, table, row_of, ins_of_word, r_form, i_form, s_form, b_form, u_form, j_form, fence_form}
 use Rattle.rv_decode.specs.Table.Key.{Opcode, Funct3, Funct7, Whole}
-use Rattle.rv_decode.specs.Range.{IsInRange, IsSigned, IsEven}
-use Rattle.rv_decode.specs.Encoding.{IsWordOf, assembled, signed_bits, i_word, s_word, b_word, u_word, j_word}
+use Rattle.rv_decode.specs.Range.{HasFieldsInRange, IsSigned, IsEven}
+use Rattle.rv_decode.specs.Encoding.{IsWordOf, word_of_fields, signed_bits, i_word, s_word, b_word, u_word, j_word}
 use Rattle.rv_decode.proofs.Rows.{row_at, at_fields, opcode_is, funct3_is, funct7_is}
 use Rattle.rv_decode.proofs.Pieces.{Pieces, pieces, whole, high_bits, bit_31, bits_30_25, bit_7, bits_11_8, bits_small, bits_again, signed_again, UpperPieces, upper_pieces, upper_whole, top_of_upper, low_of_upper, bit_20, bits_30_21, high_joined, rs2_of_high, funct7_of_high, s_joined, s_low, s_high, b_joined, BranchParts, branch_parts, j_joined, JumpParts, jump_parts, even_bits_13, even_bits_21}
 
@@ -38,27 +38,27 @@ encoding (Sltiu d a imm) = i_word 0x13 3 d a (signed_bits 12 imm)
 encoding (Xori d a imm) = i_word 0x13 4 d a (signed_bits 12 imm)
 encoding (Ori d a imm) = i_word 0x13 6 d a (signed_bits 12 imm)
 encoding (Andi d a imm) = i_word 0x13 7 d a (signed_bits 12 imm)
-encoding (Slli d a k) = assembled 0x13 d 1 a k 0
-encoding (Srli d a k) = assembled 0x13 d 5 a k 0
-encoding (Srai d a k) = assembled 0x13 d 5 a k 0x20
-encoding (Add d a b) = assembled 0x33 d 0 a b 0
-encoding (Sub d a b) = assembled 0x33 d 0 a b 0x20
-encoding (Sll d a b) = assembled 0x33 d 1 a b 0
-encoding (Slt d a b) = assembled 0x33 d 2 a b 0
-encoding (Sltu d a b) = assembled 0x33 d 3 a b 0
-encoding (Xor d a b) = assembled 0x33 d 4 a b 0
-encoding (Srl d a b) = assembled 0x33 d 5 a b 0
-encoding (Sra d a b) = assembled 0x33 d 5 a b 0x20
-encoding (Or d a b) = assembled 0x33 d 6 a b 0
-encoding (And d a b) = assembled 0x33 d 7 a b 0
-encoding (Mul d a b) = assembled 0x33 d 0 a b 1
-encoding (Mulh d a b) = assembled 0x33 d 1 a b 1
-encoding (Mulhsu d a b) = assembled 0x33 d 2 a b 1
-encoding (Mulhu d a b) = assembled 0x33 d 3 a b 1
-encoding (Div d a b) = assembled 0x33 d 4 a b 1
-encoding (Divu d a b) = assembled 0x33 d 5 a b 1
-encoding (Rem d a b) = assembled 0x33 d 6 a b 1
-encoding (Remu d a b) = assembled 0x33 d 7 a b 1
+encoding (Slli d a k) = word_of_fields 0x13 d 1 a k 0
+encoding (Srli d a k) = word_of_fields 0x13 d 5 a k 0
+encoding (Srai d a k) = word_of_fields 0x13 d 5 a k 0x20
+encoding (Add d a b) = word_of_fields 0x33 d 0 a b 0
+encoding (Sub d a b) = word_of_fields 0x33 d 0 a b 0x20
+encoding (Sll d a b) = word_of_fields 0x33 d 1 a b 0
+encoding (Slt d a b) = word_of_fields 0x33 d 2 a b 0
+encoding (Sltu d a b) = word_of_fields 0x33 d 3 a b 0
+encoding (Xor d a b) = word_of_fields 0x33 d 4 a b 0
+encoding (Srl d a b) = word_of_fields 0x33 d 5 a b 0
+encoding (Sra d a b) = word_of_fields 0x33 d 5 a b 0x20
+encoding (Or d a b) = word_of_fields 0x33 d 6 a b 0
+encoding (And d a b) = word_of_fields 0x33 d 7 a b 0
+encoding (Mul d a b) = word_of_fields 0x33 d 0 a b 1
+encoding (Mulh d a b) = word_of_fields 0x33 d 1 a b 1
+encoding (Mulhsu d a b) = word_of_fields 0x33 d 2 a b 1
+encoding (Mulhu d a b) = word_of_fields 0x33 d 3 a b 1
+encoding (Div d a b) = word_of_fields 0x33 d 4 a b 1
+encoding (Divu d a b) = word_of_fields 0x33 d 5 a b 1
+encoding (Rem d a b) = word_of_fields 0x33 d 6 a b 1
+encoding (Remu d a b) = word_of_fields 0x33 d 7 a b 1
 encoding (Fence d a bits) = i_word 0x0F 0 d a bits
 encoding Ecall = 0x00000073
 encoding Ebreak = 0x00100073
@@ -70,22 +70,22 @@ two_same : {A B : Type 0} (make : A → B → Ins) {x x' : A} {y y' : B} → x �
 two_same make p q = rw (p, q) refl
 
 -- a word with the fields of an instruction is decoded to it
-r_decoded : (make : ℕ → ℕ → ℕ → Ins) (o f g : ℕ) → o < 2 ^ 7 → f < 2 ^ 3 → g < 2 ^ 7 → (d a b : ℕ) → ((w : ℕ) → row_at table o f g w ≡ Some (r_form make w)) → (d < 32) × (a < 32) × (b < 32) → row (assembled o d f a b g) ≡ Some (make d a b)
+r_decoded : (make : ℕ → ℕ → ℕ → Ins) (o f g : ℕ) → o < 2 ^ 7 → f < 2 ^ 3 → g < 2 ^ 7 → (d a b : ℕ) → ((w : ℕ) → row_at table o f g w ≡ Some (r_form make w)) → (d < 32) × (a < 32) × (b < 32) → ins_of_word (word_of_fields o d f a b g) ≡ Some (make d a b)
 r_decoded make o f g ho hf hg d a b found h =
-    let w : ℕ = assembled o d f a b g in
+    let w : ℕ = word_of_fields o d f a b g in
     let p : Pieces w o d f a b g = pieces o d f a b g ho h.0 hf h.1 h.2 hg in
     at_fields w o f g p.opcode p.funct3 p.funct7 ∙ found w ∙ three_same make p.rd p.rs1 p.rs2
 
 high_pieces : (o f d a m : ℕ) → o < 2 ^ 7 → f < 2 ^ 3 → d < 32 → a < 32 → m < 2 ^ 12 → Pieces (i_word o f d a m) o d f a (m % 2 ^ 5) (m / 2 ^ 5)
 high_pieces o f d a m ho hf hd ha hm = pieces o d f a (m % 2 ^ 5) (m / 2 ^ 5) ho hd hf ha (omega arith) (omega arith)
 
-fence_decoded : (make : ℕ → ℕ → ℕ → Ins) (o f : ℕ) → o < 2 ^ 7 → f < 2 ^ 3 → (d a m : ℕ) → ((w g : ℕ) → row_at table o f g w ≡ Some (fence_form make w)) → (d < 32) × (a < 32) × (m < 2 ^ 12) → row (i_word o f d a m) ≡ Some (make d a m)
+fence_decoded : (make : ℕ → ℕ → ℕ → Ins) (o f : ℕ) → o < 2 ^ 7 → f < 2 ^ 3 → (d a m : ℕ) → ((w g : ℕ) → row_at table o f g w ≡ Some (fence_form make w)) → (d < 32) × (a < 32) × (m < 2 ^ 12) → ins_of_word (i_word o f d a m) ≡ Some (make d a m)
 fence_decoded make o f ho hf d a m found h =
     let w : ℕ = i_word o f d a m in
     let p : Pieces w o d f a (m % 2 ^ 5) (m / 2 ^ 5) = high_pieces o f d a m ho hf h.0 h.1 h.2 in
     at_fields w o f (bits 25 7 w) p.opcode p.funct3 refl ∙ found w (bits 25 7 w) ∙ three_same make p.rd p.rs1 (high_joined _ _ _ _ (high_bits w) p.rs2 p.funct7)
 
-i_decoded : (make : ℕ → ℕ → ℤ → Ins) (o f : ℕ) → o < 2 ^ 7 → f < 2 ^ 3 → (d a : ℕ) (imm : ℤ) → ((w g : ℕ) → row_at table o f g w ≡ Some (i_form make w)) → (d < 32) × (a < 32) × IsSigned 12 imm → row (i_word o f d a (signed_bits 12 imm)) ≡ Some (make d a imm)
+i_decoded : (make : ℕ → ℕ → ℤ → Ins) (o f : ℕ) → o < 2 ^ 7 → f < 2 ^ 3 → (d a : ℕ) (imm : ℤ) → ((w g : ℕ) → row_at table o f g w ≡ Some (i_form make w)) → (d < 32) × (a < 32) × IsSigned 12 imm → ins_of_word (i_word o f d a (signed_bits 12 imm)) ≡ Some (make d a imm)
 i_decoded make o f ho hf d a imm found h =
     let m : ℕ = signed_bits 12 imm in
     let w : ℕ = i_word o f d a m in
@@ -93,7 +93,7 @@ i_decoded make o f ho hf d a imm found h =
     let e : bits 20 12 w ≡ m = high_joined _ _ _ _ (high_bits w) p.rs2 p.funct7 in
     at_fields w o f (bits 25 7 w) p.opcode p.funct3 refl ∙ found w (bits 25 7 w) ∙ three_same make p.rd p.rs1 (ap (signed 12) e ∙ bits_again 12 imm (lit≤ tt) h.2)
 
-s_decoded : (make : ℕ → ℕ → ℤ → Ins) (o f : ℕ) → o < 2 ^ 7 → f < 2 ^ 3 → (a b : ℕ) (imm : ℤ) → ((w g : ℕ) → row_at table o f g w ≡ Some (s_form make w)) → (a < 32) × (b < 32) × IsSigned 12 imm → row (s_word o f a b (signed_bits 12 imm)) ≡ Some (make a b imm)
+s_decoded : (make : ℕ → ℕ → ℤ → Ins) (o f : ℕ) → o < 2 ^ 7 → f < 2 ^ 3 → (a b : ℕ) (imm : ℤ) → ((w g : ℕ) → row_at table o f g w ≡ Some (s_form make w)) → (a < 32) × (b < 32) × IsSigned 12 imm → ins_of_word (s_word o f a b (signed_bits 12 imm)) ≡ Some (make a b imm)
 s_decoded make o f ho hf a b imm found h =
     let m : ℕ = signed_bits 12 imm in
     let small : m < 2 ^ 12 = bits_small 12 imm (lit≤ tt) h.2 in
@@ -101,7 +101,7 @@ s_decoded make o f ho hf a b imm found h =
     let p : Pieces w o (m % 2 ^ 5) f a b (m / 2 ^ 5) = pieces o (m % 2 ^ 5) f a b (m / 2 ^ 5) ho (omega arith) hf h.0 h.1 (omega arith) in
     at_fields w o f (bits 25 7 w) p.opcode p.funct3 refl ∙ found w (bits 25 7 w) ∙ three_same make p.rs1 p.rs2 (ap (signed 12) (s_joined _ _ _ p.funct7 p.rd) ∙ bits_again 12 imm (lit≤ tt) h.2)
 
-b_decoded : (make : ℕ → ℕ → ℤ → Ins) (o f : ℕ) → o < 2 ^ 7 → f < 2 ^ 3 → (a b : ℕ) (imm : ℤ) → ((w g : ℕ) → row_at table o f g w ≡ Some (b_form make w)) → (a < 32) × (b < 32) × IsSigned 13 imm × IsEven imm → row (b_word o f a b (signed_bits 13 imm)) ≡ Some (make a b imm)
+b_decoded : (make : ℕ → ℕ → ℤ → Ins) (o f : ℕ) → o < 2 ^ 7 → f < 2 ^ 3 → (a b : ℕ) (imm : ℤ) → ((w g : ℕ) → row_at table o f g w ≡ Some (b_form make w)) → (a < 32) × (b < 32) × IsSigned 13 imm × IsEven imm → ins_of_word (b_word o f a b (signed_bits 13 imm)) ≡ Some (make a b imm)
 b_decoded make o f ho hf a b imm found h =
     let m : ℕ = signed_bits 13 imm in
     let small : m < 2 ^ 13 = bits_small 13 imm (lit≤ tt) h.2 in
@@ -113,13 +113,13 @@ b_decoded make o f ho hf a b imm found h =
     let e : bits 31 1 w * 2 ^ 12 + bits 7 1 w * 2 ^ 11 + bits 25 6 w * 2 ^ 5 + bits 8 4 w * 2 ≡ m = b_joined _ _ _ _ _ _ _ small even (bit_31 w) (bits_30_25 w) (bit_7 w) (bits_11_8 w) p.funct7 p.rd in
     at_fields w o f (bits 25 7 w) p.opcode p.funct3 refl ∙ found w (bits 25 7 w) ∙ three_same make p.rs1 p.rs2 (ap (signed 13) e ∙ bits_again 13 imm (lit≤ tt) h.2)
 
-u_decoded : (make : ℕ → ℕ → Ins) (o : ℕ) → o < 2 ^ 7 → (d upper : ℕ) → ((w f g : ℕ) → row_at table o f g w ≡ Some (u_form make w)) → (d < 32) × (upper < 2 ^ 20) → row (u_word o d upper) ≡ Some (make d upper)
+u_decoded : (make : ℕ → ℕ → Ins) (o : ℕ) → o < 2 ^ 7 → (d upper : ℕ) → ((w f g : ℕ) → row_at table o f g w ≡ Some (u_form make w)) → (d < 32) × (upper < 2 ^ 20) → ins_of_word (u_word o d upper) ≡ Some (make d upper)
 u_decoded make o ho d upper found h =
     let w : ℕ = u_word o d upper in
     let p : UpperPieces w o d upper = upper_pieces o d upper ho h.0 h.1 in
     at_fields w o (bits 12 3 w) (bits 25 7 w) p.opcode refl refl ∙ found w (bits 12 3 w) (bits 25 7 w) ∙ two_same make p.rd p.upper
 
-j_decoded : (make : ℕ → ℤ → Ins) (o : ℕ) → o < 2 ^ 7 → (d : ℕ) (imm : ℤ) → ((w f g : ℕ) → row_at table o f g w ≡ Some (j_form make w)) → (d < 32) × IsSigned 21 imm × IsEven imm → row (j_word o d (signed_bits 21 imm)) ≡ Some (make d imm)
+j_decoded : (make : ℕ → ℤ → Ins) (o : ℕ) → o < 2 ^ 7 → (d : ℕ) (imm : ℤ) → ((w f g : ℕ) → row_at table o f g w ≡ Some (j_form make w)) → (d < 32) × IsSigned 21 imm × IsEven imm → ins_of_word (j_word o d (signed_bits 21 imm)) ≡ Some (make d imm)
 j_decoded make o ho d imm found h =
     let m : ℕ = signed_bits 21 imm in
     let small : m < 2 ^ 21 = bits_small 21 imm (lit≤ tt) h.1 in
@@ -130,25 +130,25 @@ j_decoded make o ho d imm found h =
     let e : bits 31 1 w * 2 ^ 20 + bits 12 8 w * 2 ^ 12 + bits 20 1 w * 2 ^ 11 + bits 21 10 w * 2 ≡ m = j_joined _ _ _ _ _ _ small even (top_of_upper w) (low_of_upper w) (bit_20 w) (bits_30_21 w) p.upper in
     at_fields w o (bits 12 3 w) (bits 25 7 w) p.opcode refl refl ∙ found w (bits 12 3 w) (bits 25 7 w) ∙ two_same make p.rd (ap (signed 21) e ∙ bits_again 21 imm (lit≤ tt) h.1)
 
-whole_decoded_ecall : row (encoding Ecall) ≡ Some Ecall
-unfolding row table
+whole_decoded_ecall : ins_of_word (encoding Ecall) ≡ Some Ecall
+unfolding ins_of_word table
 whole_decoded_ecall = refl
 
-whole_decoded_ebreak : row (encoding Ebreak) ≡ Some Ebreak
-unfolding row table
+whole_decoded_ebreak : ins_of_word (encoding Ebreak) ≡ Some Ebreak
+unfolding ins_of_word table
 whole_decoded_ebreak = refl
 
 -- the fields of a word that fits give the word
-r_encoded : (o f g w : ℕ) → w < 2 ^ 32 → fits (Funct7 o f g) w ≡ true → assembled o (rd w) f (rs1 w) (rs2 w) g ≡ w
+r_encoded : (o f g w : ℕ) → w < 2 ^ 32 → fits_key (Funct7 o f g) w ≡ true → word_of_fields o (rd w) f (rs1 w) (rs2 w) g ≡ w
 r_encoded o f g w within h = let p = funct7_is w o f g h in rw (← p.0, ← p.1, ← p.2) (whole w within)
 
-fence_encoded : (o f w : ℕ) → w < 2 ^ 32 → fits (Funct3 o f) w ≡ true → i_word o f (rd w) (rs1 w) (bits 20 12 w) ≡ w
+fence_encoded : (o f w : ℕ) → w < 2 ^ 32 → fits_key (Funct3 o f) w ≡ true → i_word o f (rd w) (rs1 w) (bits 20 12 w) ≡ w
 fence_encoded o f w within h = let p = funct3_is w o f h in rw (← p.0, ← p.1, rs2_of_high w, funct7_of_high w) (whole w within)
 
-i_encoded : (o f w : ℕ) → w < 2 ^ 32 → fits (Funct3 o f) w ≡ true → i_word o f (rd w) (rs1 w) (signed_bits 12 (i_imm w)) ≡ w
+i_encoded : (o f w : ℕ) → w < 2 ^ 32 → fits_key (Funct3 o f) w ≡ true → i_word o f (rd w) (rs1 w) (signed_bits 12 (i_imm w)) ≡ w
 i_encoded o f w within h = rw (signed_again 12 (bits 20 12 w) (lit≤ tt) (omega arith)) (fence_encoded o f w within h)
 
-s_encoded : (o f w : ℕ) → w < 2 ^ 32 → fits (Funct3 o f) w ≡ true → s_word o f (rs1 w) (rs2 w) (signed_bits 12 (s_imm w)) ≡ w
+s_encoded : (o f w : ℕ) → w < 2 ^ 32 → fits_key (Funct3 o f) w ≡ true → s_word o f (rs1 w) (rs2 w) (signed_bits 12 (s_imm w)) ≡ w
 s_encoded o f w within h =
     let p = funct3_is w o f h in
     let m : ℕ = bits 25 7 w * 2 ^ 5 + bits 7 5 w in
@@ -156,29 +156,29 @@ s_encoded o f w within h =
     let high : m / 2 ^ 5 ≡ bits 25 7 w = s_high _ _ (omega arith) in
     rw (signed_again 12 m (lit≤ tt) (omega arith), low, high, ← p.0, ← p.1) (whole w within)
 
-b_encoded : (o f w : ℕ) → w < 2 ^ 32 → fits (Funct3 o f) w ≡ true → b_word o f (rs1 w) (rs2 w) (signed_bits 13 (b_imm w)) ≡ w
+b_encoded : (o f w : ℕ) → w < 2 ^ 32 → fits_key (Funct3 o f) w ≡ true → b_word o f (rs1 w) (rs2 w) (signed_bits 13 (b_imm w)) ≡ w
 b_encoded o f w within h =
     let p = funct3_is w o f h in
     let m : ℕ = bits 31 1 w * 2 ^ 12 + bits 7 1 w * 2 ^ 11 + bits 25 6 w * 2 ^ 5 + bits 8 4 w * 2 in
     let e : BranchParts m (bits 7 5 w) (bits 25 7 w) = branch_parts _ _ _ _ _ _ (omega arith) (omega arith) (bit_31 w) (bits_30_25 w) (bit_7 w) (bits_11_8 w) in
     rw (signed_again 13 m (lit≤ tt) e.small, e.low, e.high, ← p.0, ← p.1) (whole w within)
 
-u_encoded : (o w : ℕ) → w < 2 ^ 32 → fits (Opcode o) w ≡ true → u_word o (rd w) (bits 12 20 w) ≡ w
+u_encoded : (o w : ℕ) → w < 2 ^ 32 → fits_key (Opcode o) w ≡ true → u_word o (rd w) (bits 12 20 w) ≡ w
 u_encoded o w within h = let p = opcode_is w o h in rw (← p) (upper_whole w within)
 
-j_encoded : (o w : ℕ) → w < 2 ^ 32 → fits (Opcode o) w ≡ true → j_word o (rd w) (signed_bits 21 (j_imm w)) ≡ w
+j_encoded : (o w : ℕ) → w < 2 ^ 32 → fits_key (Opcode o) w ≡ true → j_word o (rd w) (signed_bits 21 (j_imm w)) ≡ w
 j_encoded o w within h =
     let p = opcode_is w o h in
     let m : ℕ = bits 31 1 w * 2 ^ 20 + bits 12 8 w * 2 ^ 12 + bits 20 1 w * 2 ^ 11 + bits 21 10 w * 2 in
     let e : JumpParts m (bits 12 20 w) = jump_parts _ _ _ _ _ (omega arith) (top_of_upper w) (low_of_upper w) (bit_20 w) (bits_30_21 w) in
     rw (signed_again 21 m (lit≤ tt) e.small, e.upper, ← p) (upper_whole w within)
 
-whole_encoded : (v w : ℕ) → w < 2 ^ 32 → fits (Whole v) w ≡ true → v ≡ w
+whole_encoded : (v w : ℕ) → w < 2 ^ 32 → fits_key (Whole v) w ≡ true → v ≡ w
 whole_encoded v w within h = let e : w ≡ v = grind arith in sym e
 
 -- each is decoded to the instruction
-pub encoding_decoded : (ins : Ins) → IsInRange ins → row (encoding ins) ≡ Some ins
-unfolding IsInRange table
+pub encoding_decoded : (ins : Ins) → HasFieldsInRange ins → ins_of_word (encoding ins) ≡ Some ins
+unfolding HasFieldsInRange table
 encoding_decoded (Lui d upper) h = u_decoded Lui 0x37 (lit< tt) d upper (λ w f g. refl) h
 encoding_decoded (Auipc d upper) h = u_decoded Auipc 0x17 (lit< tt) d upper (λ w f g. refl) h
 encoding_decoded (Jal d imm) h = j_decoded Jal 0x6F (lit< tt) d imm (λ w f g. refl) h
@@ -230,7 +230,7 @@ encoding_decoded Ebreak h = whole_decoded_ebreak
 
 -- a word that fits a row of these is the word of the row's instruction
 abbrev pub IsEncoded : Key × (ℕ → Ins) → Type 0
-IsEncoded r = (w : ℕ) → w < 2 ^ 32 → fits r.0 w ≡ true → encoding (r.1 w) ≡ w
+IsEncoded r = (w : ℕ) → w < 2 ^ 32 → fits_key r.0 w ≡ true → encoding (r.1 w) ≡ w
 
 abbrev pub AreEncoded : List (Key × (ℕ → Ins)) → Type 0
 AreEncoded [] = Unit {0}
@@ -242,31 +242,31 @@ each_encoded = (u_encoded 0x37, (u_encoded 0x17, (j_encoded 0x6F, (i_encoded 0x6
 
 encoded_by : (rows : List (Key × (ℕ → Ins))) (w : ℕ) (ins : Ins) → AreEncoded rows → w < 2 ^ 32 → row_of rows w ≡ Some ins → encoding ins ≡ w
 encoded_by [] w ins h within found = absurd (none_some found)
-encoded_by (r ∷ rows) w ins h within found = elim (cases_Bool (fits r.0 w)) [
+encoded_by (r ∷ rows) w ins h within found = elim (cases_Bool (fits_key r.0 w)) [
   | inl e ↦ let g = rw e at found in ap encoding (sym (some_injective g)) ∙ h.0 w within e
   | inr e ↦ let g = rw e at found in encoded_by rows w ins h.1 within g
 ]
 
 -- the encoding of what a word is decoded to is the word
-pub encoding_again : (w : ℕ) (ins : Ins) → w < 2 ^ 32 → row w ≡ Some ins → encoding ins ≡ w
-unfolding row
+pub encoding_again : (w : ℕ) (ins : Ins) → w < 2 ^ 32 → ins_of_word w ≡ Some ins → encoding ins ≡ w
+unfolding ins_of_word
 encoding_again w ins within found = encoded_by table w ins each_encoded within found
 
-pub is_word_of : (ins : Ins) (w : ℕ) → IsInRange ins → w ≡ encoding ins → IsWordOf ins w
+pub is_word_of : (ins : Ins) (w : ℕ) → HasFieldsInRange ins → w ≡ encoding ins → IsWordOf ins w
 is_word_of ins w h e = record {
-  decoded = ap row e ∙ encoding_decoded ins h;
+  decoded = ap ins_of_word e ∙ encoding_decoded ins h;
   only = λ v within found. e ∙ encoding_again v ins within found;
 }
 
 -- what the code of a row with an immediate writes
-pub i_arm : (ins : Ins) (o f d a w b : ℕ) (imm : ℤ) → IsInRange ins → w ≡ i_word o f d a b → b ≡ signed_bits 12 (to_z w32 (of_z w32 imm)) → SFits w32 imm → i_word o f d a (signed_bits 12 imm) ≡ encoding ins → IsWordOf ins w
+pub i_arm : (ins : Ins) (o f d a w b : ℕ) (imm : ℤ) → HasFieldsInRange ins → w ≡ i_word o f d a b → b ≡ signed_bits 12 (to_z w32 (of_z w32 imm)) → SFits w32 imm → i_word o f d a (signed_bits 12 imm) ≡ encoding ins → IsWordOf ins w
 i_arm ins o f d a w b imm h p q within e = is_word_of ins w h (p ∙ ap (i_word o f d a) (q ∙ ap (signed_bits 12) (to_z-of_z w32 imm within)) ∙ e)
 
-pub s_arm : (ins : Ins) (o f a b w : ℕ) (imm : ℤ) → IsInRange ins → w ≡ s_word o f a b (signed_bits 12 (to_z w32 (of_z w32 imm))) → SFits w32 imm → s_word o f a b (signed_bits 12 imm) ≡ encoding ins → IsWordOf ins w
+pub s_arm : (ins : Ins) (o f a b w : ℕ) (imm : ℤ) → HasFieldsInRange ins → w ≡ s_word o f a b (signed_bits 12 (to_z w32 (of_z w32 imm))) → SFits w32 imm → s_word o f a b (signed_bits 12 imm) ≡ encoding ins → IsWordOf ins w
 s_arm ins o f a b w imm h p within e = is_word_of ins w h (p ∙ ap (λ z. s_word o f a b (signed_bits 12 z)) (to_z-of_z w32 imm within) ∙ e)
 
-pub b_arm : (ins : Ins) (o f a b w : ℕ) (imm : ℤ) → IsInRange ins → w ≡ b_word o f a b (signed_bits 13 (to_z w32 (of_z w32 imm))) → SFits w32 imm → b_word o f a b (signed_bits 13 imm) ≡ encoding ins → IsWordOf ins w
+pub b_arm : (ins : Ins) (o f a b w : ℕ) (imm : ℤ) → HasFieldsInRange ins → w ≡ b_word o f a b (signed_bits 13 (to_z w32 (of_z w32 imm))) → SFits w32 imm → b_word o f a b (signed_bits 13 imm) ≡ encoding ins → IsWordOf ins w
 b_arm ins o f a b w imm h p within e = is_word_of ins w h (p ∙ ap (λ z. b_word o f a b (signed_bits 13 z)) (to_z-of_z w32 imm within) ∙ e)
 
-pub j_arm : (ins : Ins) (o d w : ℕ) (imm : ℤ) → IsInRange ins → w ≡ j_word o d (signed_bits 21 (to_z w32 (of_z w32 imm))) → SFits w32 imm → j_word o d (signed_bits 21 imm) ≡ encoding ins → IsWordOf ins w
+pub j_arm : (ins : Ins) (o d w : ℕ) (imm : ℤ) → HasFieldsInRange ins → w ≡ j_word o d (signed_bits 21 (to_z w32 (of_z w32 imm))) → SFits w32 imm → j_word o d (signed_bits 21 imm) ≡ encoding ins → IsWordOf ins w
 j_arm ins o d w imm h p within e = is_word_of ins w h (p ∙ ap (λ z. j_word o d (signed_bits 21 z)) (to_z-of_z w32 imm within) ∙ e)

@@ -5,7 +5,7 @@ use Rattle.std.proofs.lemmas.List.Kept.{AllPairs-cons}
 use Rattle.std.proofs.lemmas.List.Elements.{All-from_recursion}
 use Rattle.std.proofs.lemmas.Bool.{or_cases, and_parts}
 use Rattle.rv_decode.specs.declared.Ins.{Ins}
-use Rattle.rv_decode.specs.Table.{Key, bits, fits, table}
+use Rattle.rv_decode.specs.Table.{Key, bits, fits_key, table}
 use Rattle.rv_decode.specs.Table.Key.{Opcode, Funct3, Funct7, Whole}
 use Rattle.rv_decode.specs.Encoding.{ExcludeEachOther}
 use Rattle.rv_decode.proofs.Rows.{opcode_is, funct3_is, funct7_is}
@@ -49,7 +49,7 @@ record Agreement (k : Key) (w : ℕ) : Type 0 where
   funct7 : Agrees (bits 25 7 w) (funct7_of k)
   whole : Agrees w (whole_of k)
 
-agreement : (k : Key) (w : ℕ) → fits k w ≡ true → Agreement k w
+agreement : (k : Key) (w : ℕ) → fits_key k w ≡ true → Agreement k w
 agreement (Opcode o) w h = record { opcode = opcode_is w o h; funct3 = tt; funct7 = tt; whole = tt }
 agreement (Funct3 o f) w h = let p = funct3_is w o f h in record { opcode = p.0; funct3 = p.1; funct7 = tt; whole = tt }
 agreement (Funct7 o f g) w h = let p = funct7_is w o f g h in record { opcode = p.0; funct3 = p.1; funct7 = p.2; whole = tt }
@@ -65,7 +65,7 @@ not_both n (Some x) (Some y) d p q = let e : x ≡ y = cc in grind arith
 abbrev excludes : Key → Key → Bool
 excludes k l = not (opcode_of k == opcode_of l) || (differ (funct3_of k) (funct3_of l) || (differ (funct7_of k) (funct7_of l) || differ (whole_of k) (whole_of l)))
 
-excluded : (k l : Key) (w : ℕ) → excludes k l ≡ true → fits k w ≡ true → fits l w ≡ true → ⊥
+excluded : (k l : Key) (w : ℕ) → excludes k l ≡ true → fits_key k w ≡ true → fits_key l w ≡ true → ⊥
 excluded k l w d p q =
     let a : Agreement k w = agreement k w p in
     let b : Agreement l w = agreement l w q in
@@ -92,7 +92,7 @@ all_exclude [] = true
 all_exclude (r ∷ rows) = excludes_all r.0 rows && all_exclude rows
 
 abbrev Apart : ℕ → Key × (ℕ → Ins) → Key × (ℕ → Ins) → Type 0
-Apart w r s = IsTrue (fits r.0 w) → IsTrue (fits s.0 w) → ⊥
+Apart w r s = IsTrue (fits_key r.0 w) → IsTrue (fits_key s.0 w) → ⊥
 
 apart_from : (w : ℕ) (r : Key × (ℕ → Ins)) (rows : List (Key × (ℕ → Ins))) → excludes_all r.0 rows ≡ true → AllByRecursion (Apart w r) rows
 apart_from w r [] h = tt

@@ -5,7 +5,7 @@ use Rattle.std.proofs.lemmas.Int.{ints}
 use Rattle.rv_decode.proofs.Bits.{power_twice}
 use Rattle.rv_decode.specs.Table.{bits, signed}
 use Rattle.rv_decode.specs.Range.{IsSigned, IsEven}
-use Rattle.rv_decode.specs.Encoding.{assembled, signed_bits, u_word}
+use Rattle.rv_decode.specs.Encoding.{word_of_fields, signed_bits, u_word}
 
 -- the six fields of an assembled word
 pub record Pieces (w o d f a b g : ℕ) : Type 0 where
@@ -16,7 +16,7 @@ pub record Pieces (w o d f a b g : ℕ) : Type 0 where
   pub rs2 : bits 20 5 w ≡ b
   pub funct7 : bits 25 7 w ≡ g
 
-pub pieces : (o d f a b g : ℕ) → o < 2 ^ 7 → d < 2 ^ 5 → f < 2 ^ 3 → a < 2 ^ 5 → b < 2 ^ 5 → g < 2 ^ 7 → Pieces (assembled o d f a b g) o d f a b g
+pub pieces : (o d f a b g : ℕ) → o < 2 ^ 7 → d < 2 ^ 5 → f < 2 ^ 3 → a < 2 ^ 5 → b < 2 ^ 5 → g < 2 ^ 7 → Pieces (word_of_fields o d f a b g) o d f a b g
 pieces o d f a b g ho hd hf ha hb hg = record {
   opcode = omega arith;
   rd = omega arith;
@@ -27,7 +27,7 @@ pieces o d f a b g ho hd hf ha hb hg = record {
 }
 
 -- a word is its six fields
-pub whole : (w : ℕ) → w < 2 ^ 32 → assembled (bits 0 7 w) (bits 7 5 w) (bits 12 3 w) (bits 15 5 w) (bits 20 5 w) (bits 25 7 w) ≡ w
+pub whole : (w : ℕ) → w < 2 ^ 32 → word_of_fields (bits 0 7 w) (bits 7 5 w) (bits 12 3 w) (bits 15 5 w) (bits 20 5 w) (bits 25 7 w) ≡ w
 whole w h = omega arith
 
 -- bits 31 to 20

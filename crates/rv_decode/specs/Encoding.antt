@@ -2,20 +2,20 @@
 use Rattle.std.specs.Prelude.{ℕ, ◌≡◌, ◌+◌, ◌*◌, ◌/◌, ◌%◌, ◌^◌, ◌<◌, ℤ, pos, negsuc, ◌-◌, Some, List, IsTrue}
 use Rattle.std.specs.List.{AllPairs}
 use Rattle.rv_decode.specs.declared.Ins.{Ins}
-use Rattle.rv_decode.specs.Table.{Key, fits, row}
+use Rattle.rv_decode.specs.Table.{Key, fits_key, ins_of_word}
 
 -- a word that is decoded to the instruction, and the only one
 pub record IsWordOf (ins : Ins) (w : ℕ) : Type 0 where
-  pub decoded : row w ≡ Some ins
-  pub only : (v : ℕ) → v < 2 ^ 32 → row v ≡ Some ins → w ≡ v
+  pub decoded : ins_of_word w ≡ Some ins
+  pub only : (v : ℕ) → v < 2 ^ 32 → ins_of_word v ≡ Some ins → w ≡ v
 
 -- of each two of these rows, no word fits both
 abbrev pub ExcludeEachOther : List (Key × (ℕ → Ins)) → Type 0
-ExcludeEachOther rows = (w : ℕ) → AllPairs (λ r s. IsTrue (fits r.0 w) → IsTrue (fits s.0 w) → ⊥) rows
+ExcludeEachOther rows = (w : ℕ) → AllPairs (λ r s. IsTrue (fits_key r.0 w) → IsTrue (fits_key s.0 w) → ⊥) rows
 
 -- the six fields of a word, from the lowest: 7, 5, 3, 5, 5 and 7 bits
-abbrev pub assembled : ℕ → ℕ → ℕ → ℕ → ℕ → ℕ → ℕ
-assembled o d f a b g = o + d * 2 ^ 7 + f * 2 ^ 12 + a * 2 ^ 15 + b * 2 ^ 20 + g * 2 ^ 25
+abbrev pub word_of_fields : ℕ → ℕ → ℕ → ℕ → ℕ → ℕ → ℕ
+word_of_fields o d f a b g = o + d * 2 ^ 7 + f * 2 ^ 12 + a * 2 ^ 15 + b * 2 ^ 20 + g * 2 ^ 25
 
 -- the n bits of a signed number
 abbrev pub signed_bits : ℕ → ℤ → ℕ
@@ -24,13 +24,13 @@ signed_bits n (negsuc k) = 2 ^ n - 1 - k
 
 -- where the forms put an immediate's bits
 abbrev pub i_word : ℕ → ℕ → ℕ → ℕ → ℕ → ℕ
-i_word o f d a m = assembled o d f a (m % 2 ^ 5) (m / 2 ^ 5)
+i_word o f d a m = word_of_fields o d f a (m % 2 ^ 5) (m / 2 ^ 5)
 
 abbrev pub s_word : ℕ → ℕ → ℕ → ℕ → ℕ → ℕ
-s_word o f a b m = assembled o (m % 2 ^ 5) f a b (m / 2 ^ 5)
+s_word o f a b m = word_of_fields o (m % 2 ^ 5) f a b (m / 2 ^ 5)
 
 abbrev pub b_word : ℕ → ℕ → ℕ → ℕ → ℕ → ℕ
-b_word o f a b m = assembled o (m / 2 ^ 11 % 2 + m / 2 % 2 ^ 4 * 2) f a b (m / 2 ^ 5 % 2 ^ 6 + m / 2 ^ 12 * 2 ^ 6)
+b_word o f a b m = word_of_fields o (m / 2 ^ 11 % 2 + m / 2 % 2 ^ 4 * 2) f a b (m / 2 ^ 5 % 2 ^ 6 + m / 2 ^ 12 * 2 ^ 6)
 
 abbrev pub u_word : ℕ → ℕ → ℕ → ℕ
 u_word o d upper = o + d * 2 ^ 7 + upper * 2 ^ 12

@@ -14,72 +14,72 @@ IsEven (pos k) = k % 2 ≡ 0
 IsEven (negsuc k) = k % 2 ≡ 1
 
 -- three registers, or two and an amount
-abbrev pub R : ℕ → ℕ → ℕ → Type 0
-R d a b = (d < 32) × (a < 32) × (b < 32)
+abbrev pub AreRFields : ℕ → ℕ → ℕ → Type 0
+AreRFields d a b = (d < 32) × (a < 32) × (b < 32)
 
 -- two registers and a 12-bit immediate, as the I and the S form have
-abbrev pub I : ℕ → ℕ → ℤ → Type 0
-I d a imm = (d < 32) × (a < 32) × IsSigned 12 imm
+abbrev pub AreIFields : ℕ → ℕ → ℤ → Type 0
+AreIFields d a imm = (d < 32) × (a < 32) × IsSigned 12 imm
 
 -- two registers and the offset of a branch
-abbrev pub B : ℕ → ℕ → ℤ → Type 0
-B a b imm = (a < 32) × (b < 32) × IsSigned 13 imm × IsEven imm
+abbrev pub AreBFields : ℕ → ℕ → ℤ → Type 0
+AreBFields a b imm = (a < 32) × (b < 32) × IsSigned 13 imm × IsEven imm
 
 -- a register and bits 31 to 12
-abbrev pub U : ℕ → ℕ → Type 0
-U d upper = (d < 32) × (upper < 2 ^ 20)
+abbrev pub AreUFields : ℕ → ℕ → Type 0
+AreUFields d upper = (d < 32) × (upper < 2 ^ 20)
 
 -- a register and the offset of a jump
-abbrev pub J : ℕ → ℤ → Type 0
-J d imm = (d < 32) × IsSigned 21 imm × IsEven imm
+abbrev pub AreJFields : ℕ → ℤ → Type 0
+AreJFields d imm = (d < 32) × IsSigned 21 imm × IsEven imm
 
 -- each field is one that some word has
-unfoldable pub IsInRange : Ins → Type 0
-IsInRange (Lui d upper) = U d upper
-IsInRange (Auipc d upper) = U d upper
-IsInRange (Jal d imm) = J d imm
-IsInRange (Jalr d a imm) = I d a imm
-IsInRange (Beq a b imm) = B a b imm
-IsInRange (Bne a b imm) = B a b imm
-IsInRange (Blt a b imm) = B a b imm
-IsInRange (Bge a b imm) = B a b imm
-IsInRange (Bltu a b imm) = B a b imm
-IsInRange (Bgeu a b imm) = B a b imm
-IsInRange (Lb d a imm) = I d a imm
-IsInRange (Lh d a imm) = I d a imm
-IsInRange (Lw d a imm) = I d a imm
-IsInRange (Lbu d a imm) = I d a imm
-IsInRange (Lhu d a imm) = I d a imm
-IsInRange (Sb a b imm) = I a b imm
-IsInRange (Sh a b imm) = I a b imm
-IsInRange (Sw a b imm) = I a b imm
-IsInRange (Addi d a imm) = I d a imm
-IsInRange (Slti d a imm) = I d a imm
-IsInRange (Sltiu d a imm) = I d a imm
-IsInRange (Xori d a imm) = I d a imm
-IsInRange (Ori d a imm) = I d a imm
-IsInRange (Andi d a imm) = I d a imm
-IsInRange (Slli d a k) = R d a k
-IsInRange (Srli d a k) = R d a k
-IsInRange (Srai d a k) = R d a k
-IsInRange (Add d a b) = R d a b
-IsInRange (Sub d a b) = R d a b
-IsInRange (Sll d a b) = R d a b
-IsInRange (Slt d a b) = R d a b
-IsInRange (Sltu d a b) = R d a b
-IsInRange (Xor d a b) = R d a b
-IsInRange (Srl d a b) = R d a b
-IsInRange (Sra d a b) = R d a b
-IsInRange (Or d a b) = R d a b
-IsInRange (And d a b) = R d a b
-IsInRange (Mul d a b) = R d a b
-IsInRange (Mulh d a b) = R d a b
-IsInRange (Mulhsu d a b) = R d a b
-IsInRange (Mulhu d a b) = R d a b
-IsInRange (Div d a b) = R d a b
-IsInRange (Divu d a b) = R d a b
-IsInRange (Rem d a b) = R d a b
-IsInRange (Remu d a b) = R d a b
-IsInRange (Fence d a bits) = (d < 32) × (a < 32) × (bits < 2 ^ 12)
-IsInRange Ecall = Unit {0}
-IsInRange Ebreak = Unit {0}
+unfoldable pub HasFieldsInRange : Ins → Type 0
+HasFieldsInRange (Lui d upper) = AreUFields d upper
+HasFieldsInRange (Auipc d upper) = AreUFields d upper
+HasFieldsInRange (Jal d imm) = AreJFields d imm
+HasFieldsInRange (Jalr d a imm) = AreIFields d a imm
+HasFieldsInRange (Beq a b imm) = AreBFields a b imm
+HasFieldsInRange (Bne a b imm) = AreBFields a b imm
+HasFieldsInRange (Blt a b imm) = AreBFields a b imm
+HasFieldsInRange (Bge a b imm) = AreBFields a b imm
+HasFieldsInRange (Bltu a b imm) = AreBFields a b imm
+HasFieldsInRange (Bgeu a b imm) = AreBFields a b imm
+HasFieldsInRange (Lb d a imm) = AreIFields d a imm
+HasFieldsInRange (Lh d a imm) = AreIFields d a imm
+HasFieldsInRange (Lw d a imm) = AreIFields d a imm
+HasFieldsInRange (Lbu d a imm) = AreIFields d a imm
+HasFieldsInRange (Lhu d a imm) = AreIFields d a imm
+HasFieldsInRange (Sb a b imm) = AreIFields a b imm
+HasFieldsInRange (Sh a b imm) = AreIFields a b imm
+HasFieldsInRange (Sw a b imm) = AreIFields a b imm
+HasFieldsInRange (Addi d a imm) = AreIFields d a imm
+HasFieldsInRange (Slti d a imm) = AreIFields d a imm
+HasFieldsInRange (Sltiu d a imm) = AreIFields d a imm
+HasFieldsInRange (Xori d a imm) = AreIFields d a imm
+HasFieldsInRange (Ori d a imm) = AreIFields d a imm
+HasFieldsInRange (Andi d a imm) = AreIFields d a imm
+HasFieldsInRange (Slli d a k) = AreRFields d a k
+HasFieldsInRange (Srli d a k) = AreRFields d a k
+HasFieldsInRange (Srai d a k) = AreRFields d a k
+HasFieldsInRange (Add d a b) = AreRFields d a b
+HasFieldsInRange (Sub d a b) = AreRFields d a b
+HasFieldsInRange (Sll d a b) = AreRFields d a b
+HasFieldsInRange (Slt d a b) = AreRFields d a b
+HasFieldsInRange (Sltu d a b) = AreRFields d a b
+HasFieldsInRange (Xor d a b) = AreRFields d a b
+HasFieldsInRange (Srl d a b) = AreRFields d a b
+HasFieldsInRange (Sra d a b) = AreRFields d a b
+HasFieldsInRange (Or d a b) = AreRFields d a b
+HasFieldsInRange (And d a b) = AreRFields d a b
+HasFieldsInRange (Mul d a b) = AreRFields d a b
+HasFieldsInRange (Mulh d a b) = AreRFields d a b
+HasFieldsInRange (Mulhsu d a b) = AreRFields d a b
+HasFieldsInRange (Mulhu d a b) = AreRFields d a b
+HasFieldsInRange (Div d a b) = AreRFields d a b
+HasFieldsInRange (Divu d a b) = AreRFields d a b
+HasFieldsInRange (Rem d a b) = AreRFields d a b
+HasFieldsInRange (Remu d a b) = AreRFields d a b
+HasFieldsInRange (Fence d a bits) = (d < 32) × (a < 32) × (bits < 2 ^ 12)
+HasFieldsInRange Ecall = Unit {0}
+HasFieldsInRange Ebreak = Unit {0}

@@ -9,39 +9,39 @@ abbrev pub register : ℕ → List ℕ
 register n = codes "x" ++ decimal n
 
 -- two operands behind a name: a space after the name alone, commas between operands
-abbrev pub two : List ℕ → List ℕ → List ℕ → List ℕ
-two name x y = name ++ codes " " ++ x ++ codes "," ++ y
+abbrev pub two_operands : List ℕ → List ℕ → List ℕ → List ℕ
+two_operands name x y = name ++ codes " " ++ x ++ codes "," ++ y
 
-abbrev pub three : List ℕ → List ℕ → List ℕ → List ℕ → List ℕ
-three name x y z = name ++ codes " " ++ x ++ codes "," ++ y ++ codes "," ++ z
+abbrev pub three_operands : List ℕ → List ℕ → List ℕ → List ℕ → List ℕ
+three_operands name x y z = name ++ codes " " ++ x ++ codes "," ++ y ++ codes "," ++ z
 
 -- `add x5,x6,x7`: rd, rs1, rs2
 abbrev pub r_text : List ℕ → ℕ → ℕ → ℕ → List ℕ
-r_text name d a b = three name (register d) (register a) (register b)
+r_text name d a b = three_operands name (register d) (register a) (register b)
 
 -- `addi x5,x6,-1`: rd, rs1, the immediate
 abbrev pub i_text : List ℕ → ℕ → ℕ → ℤ → List ℕ
-i_text name d a imm = three name (register d) (register a) (signed_decimal imm)
+i_text name d a imm = three_operands name (register d) (register a) (signed_decimal imm)
 
 -- `slli x5,x6,3`: rd, rs1, the amount
 abbrev pub shift_text : List ℕ → ℕ → ℕ → ℕ → List ℕ
-shift_text name d a amount = three name (register d) (register a) (decimal amount)
+shift_text name d a amount = three_operands name (register d) (register a) (decimal amount)
 
 -- `lw x5,12(x2)`: rd or rs2, the offset, rs1
 abbrev pub address_text : List ℕ → ℕ → ℤ → ℕ → List ℕ
-address_text name x imm base = two name (register x) (signed_decimal imm ++ codes "(" ++ register base ++ codes ")")
+address_text name x imm base = two_operands name (register x) (signed_decimal imm ++ codes "(" ++ register base ++ codes ")")
 
 -- `bne x5,x0,-4`: rs1, rs2, the offset
 abbrev pub b_text : List ℕ → ℕ → ℕ → ℤ → List ℕ
-b_text name a b imm = three name (register a) (register b) (signed_decimal imm)
+b_text name a b imm = three_operands name (register a) (register b) (signed_decimal imm)
 
 -- `jal x1,20`: rd, the offset
 abbrev pub j_text : List ℕ → ℕ → ℤ → List ℕ
-j_text name d imm = two name (register d) (signed_decimal imm)
+j_text name d imm = two_operands name (register d) (signed_decimal imm)
 
 -- `lui x5,74565`: rd, bits 31 to 12 without a sign
 abbrev pub u_text : List ℕ → ℕ → ℕ → List ℕ
-u_text name d upper = two name (register d) (decimal upper)
+u_text name d upper = two_operands name (register d) (decimal upper)
 
 -- the text, with the name of the row
 unfoldable pub text : Ins → List ℕ

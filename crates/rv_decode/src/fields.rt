@@ -1,6 +1,6 @@
 // The fields of a word.
 ghost use Rattle.std.specs.Prelude.{◌≡◌, ℕ, ◌+◌, ◌-◌, ◌<◌, ◌≤◌, ◌^◌};
-ghost use Rattle.rv_decode.specs.Table.{bits, signed, rd, rs1, rs2, i_imm, s_imm, b_imm, j_imm, fits};
+ghost use Rattle.rv_decode.specs.Table.{bits, signed, rd, rs1, rs2, i_imm, s_imm, b_imm, j_imm, fits_key};
 ghost use Rattle.rv_decode.specs.Table.Key.{Opcode, Funct3, Funct7, Whole};
 
 /// The `count` bits of a word from bit `low` on.
@@ -100,19 +100,19 @@ fn j_imm(word: u32) -> i32
 }
 
 pub(crate) fn has_opcode(word: u32, opcode: u32) -> bool
-    ensures { result ≡ fits (Opcode opcode) word }
+    ensures { result ≡ fits_key (Opcode opcode) word }
 {
     field(word, 0, 7) == opcode
 }
 
 pub(crate) fn has_funct3(word: u32, opcode: u32, funct3: u32) -> bool
-    ensures { result ≡ fits (Funct3 opcode funct3) word }
+    ensures { result ≡ fits_key (Funct3 opcode funct3) word }
 {
     field(word, 0, 7) == opcode && field(word, 12, 3) == funct3
 }
 
 pub(crate) fn has_funct7(word: u32, opcode: u32, funct3: u32, funct7: u32) -> bool
-    ensures { result ≡ fits (Funct7 opcode funct3 funct7) word }
+    ensures { result ≡ fits_key (Funct7 opcode funct3 funct7) word }
 {
     field(word, 0, 7) == opcode && field(word, 12, 3) == funct3 && field(word, 25, 7) == funct7
 }

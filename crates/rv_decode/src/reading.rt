@@ -1,8 +1,8 @@
 // From a word to its instruction.
 ghost use Rattle.std.specs.Prelude.{◌≡◌, IfSome};
 ghost use Rattle.rv_decode.specs.Encoding.{ExcludeEachOther};
-ghost use Rattle.rv_decode.specs.Range.{IsInRange};
-ghost use Rattle.rv_decode.specs.Table.{row, table};
+ghost use Rattle.rv_decode.specs.Range.{HasFieldsInRange};
+ghost use Rattle.rv_decode.specs.Table.{ins_of_word, table};
 
 use crate::Ins;
 use crate::fields::{Fields, has_funct3, has_funct7, has_opcode};
@@ -101,8 +101,8 @@ macro_rules! decode_rows {
 /// no memory.
 #[tactic(none)]
 pub fn decode(word: u32) -> Option<Ins>
-    ensures row { result ≡ row word }
-    ensures in_range { IfSome result IsInRange }
+    ensures row { result ≡ ins_of_word word }
+    ensures in_range { IfSome result HasFieldsInRange }
 {
     let at = Fields::split(word);
     instruction_table!(decode_rows [word at]);

@@ -1,7 +1,7 @@
 // From an instruction to its word.
 ghost use Rattle.std.specs.Prelude.{◌≡◌, ◌+◌, ◌-◌, ◌<◌, ◌≤◌, ◌^◌, ◌/◌, ◌%◌, ◌*◌};
-ghost use Rattle.rv_decode.specs.Encoding.{IsWordOf, assembled, signed_bits, i_word, s_word, b_word, u_word, j_word};
-ghost use Rattle.rv_decode.specs.Range.{IsInRange, IsSigned};
+ghost use Rattle.rv_decode.specs.Encoding.{IsWordOf, word_of_fields, signed_bits, i_word, s_word, b_word, u_word, j_word};
+ghost use Rattle.rv_decode.specs.Range.{HasFieldsInRange, IsSigned};
 
 use crate::Ins;
 use crate::table::instruction_table;
@@ -22,7 +22,7 @@ fn assemble(opcode: u32, funct3: u32, parts: Parts) -> u32
     requires rs1 { parts.rs1 < 2 ^ 5 }
     requires rs2 { parts.rs2 < 2 ^ 5 }
     requires funct7 { parts.funct7 < 2 ^ 7 }
-    ensures { result ≡ assembled opcode parts.rd funct3 parts.rs1 parts.rs2 parts.funct7 }
+    ensures { result ≡ word_of_fields opcode parts.rd funct3 parts.rs1 parts.rs2 parts.funct7 }
 {
     let low = opcode + (parts.rd << 7) + (funct3 << 12);
     low + (parts.rs1 << 15) + (parts.rs2 << 20) + (parts.funct7 << 25)
@@ -50,7 +50,7 @@ fn r_word(opcode: u32, funct3: u32, funct7: u32, rd: u8, rs1: u8, rs2: u8) -> u3
     requires rd { rd < 32 }
     requires rs1 { rs1 < 32 }
     requires rs2 { rs2 < 32 }
-    ensures { result ≡ assembled opcode rd funct3 rs1 rs2 funct7 }
+    ensures { result ≡ word_of_fields opcode rd funct3 rs1 rs2 funct7 }
 {
     let parts = Parts {
         rd: rd as u32,
@@ -183,9 +183,9 @@ macro_rules! encode_rows {
 
 /// The word of an instruction whose fields are in range: the one word that is decoded to it. In constant time; it
 /// takes no memory.
-#[tactic(auto, unfolding(crate::specs::Range::IsInRange))]
+#[tactic(auto, unfolding(crate::specs::Range::HasFieldsInRange))]
 pub fn encode(ins: &Ins) -> u32
-    requires { IsInRange ins.now }
+    requires { HasFieldsInRange ins.now }
     ensures { IsWordOf ins.now result }
 {
     instruction_table!(encode_rows[ins])

@@ -18,7 +18,7 @@ use Rattle.toml_keys.specs.Reading.{all_known, required, optional, whole, listed
 use Rattle.toml_keys.proofs.Laws.{guard_ok, each_all, each_length}
 use Rattle.script_reader.specs.declared.fault.ScriptError.{ScriptError}
 use Rattle.script_reader.specs.declared.fault.ScriptError.TheVariants.{Memory, TooLong}
-use Rattle.script_reader.specs.Reading.{of_script, job_keys, first_named, told, task_named, job_at, nth_job, jobs_at, script_keys, cycles_at, block, script_at, document, reading}
+use Rattle.script_reader.specs.Reading.{of_script, job_keys, first_named, task_or_unknown, task_named, job_at, nth_job, jobs_at, script_keys, cycles_at, block, script_at, document, reading}
 
 abbrev pub IsIn : TaskSet → ScriptJob → Type 0
 IsIn set job = job.task.0 < length set.tasks
@@ -31,7 +31,7 @@ first_below name (t ∷ ts) i k e =
       | inr other ↦ let r = first_below name ts (i + 1) k (rw other at e) in omega arith
     ]
 
-told_is : (path : List ℕ) (o : Option ℕ) (t : ℕ) → told path o ≡ Ok t → o ≡ Some t
+told_is : (path : List ℕ) (o : Option ℕ) (t : ℕ) → task_or_unknown path o ≡ Ok t → o ≡ Some t
 told_is path None t e = absurd cc
 told_is path (Some i) t e =
     elim (cases_Bool (nat_lt i 256)) [

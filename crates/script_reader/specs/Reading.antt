@@ -10,7 +10,7 @@ use Rattle.toml.specs.Parse.{parse_document}
 use Rattle.toml_keys.specs.declared.fault.KeyError.{KeyError}
 use Rattle.toml_keys.specs.declared.fault.KeyError.TheVariants as fault
 use Rattle.crpd_base.specs.Outcome.{◌>>=◌}
-use Rattle.toml_keys.specs.Reading.{all_known, present, good, required, optional, whole, listed, each, item_path}
+use Rattle.toml_keys.specs.Reading.{all_known, value_at_key, value_or_bad, required, optional, whole, listed, each, item_path}
 use Rattle.script_reader.specs.declared.fault.ScriptError.{ScriptError}
 use Rattle.script_reader.specs.declared.fault.ScriptError.TheVariants.{Memory, NotToml, Missing, BadValue, UnknownTask, TooLong, UnknownKey}
 
@@ -36,13 +36,13 @@ first_named name [] i = None
 first_named name (t ∷ ts) i = if bytes_eq name t.name then Some i else first_named name ts (i + 1)
 
 -- a task that was found, where a task's number can tell it
-abbrev pub told : List ℕ → Option ℕ → Result ℕ ScriptError
-told path None = Err (UnknownTask (path ++ codes "task"))
-told path (Some i) = if nat_lt i 256 then Ok i else Err (UnknownTask (path ++ codes "task"))
+abbrev pub task_or_unknown : List ℕ → Option ℕ → Result ℕ ScriptError
+task_or_unknown path None = Err (UnknownTask (path ++ codes "task"))
+task_or_unknown path (Some i) = if nat_lt i 256 then Ok i else Err (UnknownTask (path ++ codes "task"))
 
 -- the task of a name
 unfoldable pub task_named : List ℕ → List ℕ → TaskSet → Result ℕ ScriptError
-task_named path name set = told path (first_named name set.tasks 0)
+task_named path name set = task_or_unknown path (first_named name set.tasks 0)
 
 unfoldable pub job_at : TaskSet → List ℕ → Members → Result ScriptJob ScriptError
 job_at set path ms = do
@@ -74,8 +74,8 @@ is_above n _ = false
 
 unfoldable pub cycles_at : Members → Result ℕ ScriptError
 cycles_at ms = do
-  d ← of_script (present [] (codes "cycles") ms)
-  if is_above (2 ^ 40) d then Err (TooLong (codes "cycles")) else of_script (good [] (codes "cycles") (whole 1 (2 ^ 40) d))
+  d ← of_script (value_at_key [] (codes "cycles") ms)
+  if is_above (2 ^ 40) d then Err (TooLong (codes "cycles")) else of_script (value_or_bad [] (codes "cycles") (whole 1 (2 ^ 40) d))
 
 -- the number of a block
 abbrev pub block : Data → Option ℕ

@@ -12,11 +12,11 @@ use Rattle.response.specs.Windows.{Demand, AreChoices, window_at}
 use Rattle.response.proofs.WindowLaws.{smaller_or_none}
 use Rattle.response.proofs.Choices.{choices_more}
 use Rattle.response.proofs.Least.{looks_above}
-use Rattle.cert_check.specs.Judge.{longest_at}
+use Rattle.cert_check.specs.JudgeInput.{longest_at}
 use Rattle.sensitivity.specs.declared.slack.Stop.{Stop}
 use Rattle.sensitivity.specs.declared.slack.Stop.TheVariants.{Limit, Window, Bound}
-use Rattle.sensitivity.specs.Costs.{priced, with_costs}
-use Rattle.sensitivity.specs.Accepted.{IsLeastBound, IsPart, AreParts, IsAccepted, IsFirstTooLarge, IsFirstLate, IsStop}
+use Rattle.sensitivity.specs.Costs.{platform_with_costs, with_costs}
+use Rattle.sensitivity.specs.Accepted.{IsLeastBound, IsAnalysedPart, AreAnalysedParts, IsAccepted, IsFirstTooLarge, IsFirstLate, IsStop}
 use Rattle.sensitivity.specs.Laws.{AreDearer, WindowsGrow, StaysAccepted, NeverStops, OneStop}
 use Rattle.sensitivity.proofs.Bounds.{bound_grows, some_bound}
 use Rattle.sensitivity.proofs.Compared.{times_with, windows_grow, never_late}
@@ -27,7 +27,7 @@ windows_grow_by set graphs s m k d dearer a b i lt =
 
 -- no bound that is too large becomes small
 large_stays : (set : TaskSet) (graphs : ℕ → TaskGraph) (s m k d : ℕ) → AreDearer set graphs s m k d → (i c e : ℕ) → i < length set.tasks
-    → IsLeastBound (priced set.platform s m) (graphs i) c → IsLeastBound (priced set.platform k d) (graphs i) e → greatest_bound < c → e ≤ greatest_bound → ⊥
+    → IsLeastBound (platform_with_costs set.platform s m) (graphs i) c → IsLeastBound (platform_with_costs set.platform k d) (graphs i) e → greatest_bound < c → e ≤ greatest_bound → ⊥
 large_stays set graphs s m k d dearer i c e lt C E large small =
     let l = bound_grows set.platform (graphs i) s k m d c e (dearer.bounded i lt).graph dearer.miss C E in
     absurd (omega (arith, l, large, small))
@@ -46,9 +46,9 @@ module _ (set : TaskSet) (graphs : ℕ → TaskGraph) (s m k d : ℕ) (dearer : 
   cheap = with_costs set s m
 
   abbrev cheap_longest : ℕ → ℕ
-  cheap_longest = longest_at (priced set.platform s m) graphs
+  cheap_longest = longest_at (platform_with_costs set.platform s m) graphs
 
-  bounds : (j : ℕ) → j < length set.tasks → (c : ℕ) × IsLeastBound (priced set.platform s m) (graphs j) c
+  bounds : (j : ℕ) → j < length set.tasks → (c : ℕ) × IsLeastBound (platform_with_costs set.platform s m) (graphs j) c
   bounds j lt = some_bound set.platform (graphs j) s k m d (b.parts j).bound (dearer.bounded j lt) (b.are.each j lt).bound
 
   -- with the bound where there is such a task
@@ -59,7 +59,7 @@ module _ (set : TaskSet) (graphs : ℕ → TaskGraph) (s m k d : ℕ) (dearer : 
   parts : ℕ → Part
   parts j = part_of j (cases_lt j (length set.tasks))
 
-  is_part : (j : ℕ) (h : (j < length set.tasks) ⊎ (length set.tasks ≤ j)) → j < length set.tasks → IsPart (priced set.platform s m) (graphs j) (part_of j h) × ((part_of j h).bound ≤ greatest_bound)
+  is_part : (j : ℕ) (h : (j < length set.tasks) ⊎ (length set.tasks ≤ j)) → j < length set.tasks → IsAnalysedPart (platform_with_costs set.platform s m) (graphs j) (part_of j h) × ((part_of j h).bound ≤ greatest_bound)
   unfolding part_of
   is_part j (inl lt) l =
       let C = (bounds j lt).1 in
@@ -68,7 +68,7 @@ module _ (set : TaskSet) (graphs : ℕ → TaskGraph) (s m k d : ℕ) (dearer : 
       (record { bound = C; sets = record { evicting = (b.are.each j lt).sets.evicting; useful = (b.are.each j lt).sets.useful } }, omega (arith, g, w))
   is_part j (inr le) l = absurd (omega (arith, le, l))
 
-  are : AreParts (with_costs set s m) graphs parts
+  are : AreAnalysedParts (with_costs set s m) graphs parts
   unfolding parts
   are = record {
     each = λ j l. (is_part j (cases_lt j (length set.tasks)) l).0;

@@ -12,17 +12,17 @@ use Rattle.flat_graph.specs.Graph.{IsGraph}
 use Rattle.flat_graph.specs.CodeGraph.{CodeGraph, graph_of, graph_at}
 use Rattle.loop_regions.specs.CodeNest.{CodeNest}
 use Rattle.loop_regions.specs.TaskGraph.{TaskGraph}
-use Rattle.cert_check.specs.Shown.{shown_at, nest_at, AreShown}
+use Rattle.cert_check.specs.TaskGraphs.{task_graph_at, nest_at, AreTaskGraphs}
 use Rattle.sensitivity.specs.declared.cost.Cost.{Cost}
 use Rattle.sensitivity.specs.declared.cost.Cost.TheVariants.{Switch, Miss}
-use Rattle.sensitivity.specs.Costs.{priced, with_switch}
+use Rattle.sensitivity.specs.Costs.{platform_with_costs, with_switch}
 use Rattle.sensitivity.specs.declared.slack.Stop.{Stop}
 use Rattle.sensitivity.specs.declared.slack.Stop.TheVariants.{Limit, Bound}
 use Rattle.sensitivity.specs.Accepted.{IsLeastBound, IsAccepted, IsFirstTooLarge, IsStop}
 use Rattle.sensitivity.specs.Slack.{IsSlack}
 use Rattle.sensitivity.specs.Laws.{IsLoopBounded, StaysAccepted, NeverStops}
 use Rattle.crpd_base.specs.Tasks.{HasTimes}
-use Rattle.sensitivity.specs.Found.{HaveSets, HaveHits, ListsParts, AreKnown, with_cost}
+use Rattle.sensitivity.specs.Found.{HaveCacheBlocks, HaveHits, ListsParts, AreKnown, with_cost}
 use Rattle.loop_regions.proofs.Beside.{nested}
 use Rattle.sensitivity.proofs.Bounds.{meets_less}
 
@@ -32,7 +32,7 @@ IsBelow high None = high ≡ 0
 IsBelow high (Some g) = high ≡ suc g
 
 -- the bound does not depend on the cost of a switch
-pub same_bound : (p : Platform) (t : TaskGraph) (k s m c : ℕ) → IsLeastBound (priced p k m) t c → IsLeastBound (priced p s m) t c
+pub same_bound : (p : Platform) (t : TaskGraph) (k s m c : ℕ) → IsLeastBound (platform_with_costs p k m) t c → IsLeastBound (platform_with_costs p s m) t c
 same_bound p t k s m c B =
     record {
       is_hit = B.is_hit;
@@ -59,7 +59,7 @@ parts_with_switch set graphs parts c L =
       };
     }
 
-pub sets_with_miss : (set : TaskSet) (graphs : ℕ → TaskGraph) (parts : List Part) (c : ℕ) → HaveSets set graphs parts → HaveSets (with_cost Miss set c) graphs parts
+pub sets_with_miss : (set : TaskSet) (graphs : ℕ → TaskGraph) (parts : List Part) (c : ℕ) → HaveCacheBlocks set graphs parts → HaveCacheBlocks (with_cost Miss set c) graphs parts
 sets_with_miss set graphs parts c H =
     record {
       count = H.count;
@@ -89,7 +89,7 @@ in_range_with Miss set c T le = record {
   names = T.names;
 }
 
-pub shown_with : (cost : Cost) (set : TaskSet) (c : ℕ) (graphs : List CodeGraph) (nests : List CodeNest) → AreShown set graphs nests → AreShown (with_cost cost set c) graphs nests
+pub shown_with : (cost : Cost) (set : TaskSet) (c : ℕ) (graphs : List CodeGraph) (nests : List CodeNest) → AreTaskGraphs set graphs nests → AreTaskGraphs (with_cost cost set c) graphs nests
 shown_with Switch set c graphs nests A = record { all_graphs = A.all_graphs; all_nests = A.all_nests; each = A.each }
 shown_with Miss set c graphs nests A = record { all_graphs = A.all_graphs; all_nests = A.all_nests; each = A.each }
 
@@ -98,8 +98,8 @@ abbrev pub made : Platform → List TaskSpec → TaskSet
 made p tasks = record { platform = p; tasks = tasks }
 
 pub is_with : (cost : Cost) (set : TaskSet) (c : ℕ) (p : Platform) (tasks : List TaskSpec) → p ≡ (with_cost cost set c).platform → tasks ≡ set.tasks → made p tasks ≡ with_cost cost set c
-is_with Switch set c p tasks e f = ap (λ (x : Platform). made x tasks) e ∙ ap (λ (xs : List TaskSpec). made (priced set.platform c set.platform.miss) xs) f
-is_with Miss set c p tasks e f = ap (λ (x : Platform). made x tasks) e ∙ ap (λ (xs : List TaskSpec). made (priced set.platform set.platform.switch c) xs) f
+is_with Switch set c p tasks e f = ap (λ (x : Platform). made x tasks) e ∙ ap (λ (xs : List TaskSpec). made (platform_with_costs set.platform c set.platform.miss) xs) f
+is_with Miss set c p tasks e f = ap (λ (x : Platform). made x tasks) e ∙ ap (λ (xs : List TaskSpec). made (platform_with_costs set.platform set.platform.switch c) xs) f
 
 module _ (cost : Cost) (set : TaskSet) (graphs : ℕ → TaskGraph) (parts : List Part) (hits : List (List Bool)) (c : ℕ) (p : Platform) (tasks : List TaskSpec) (e : p ≡ (with_cost cost set c).platform) (f : tasks ≡ set.tasks) (K : AreKnown cost set graphs parts hits) where
   pub known_switch : cost ≡ Switch → ListsParts (made p tasks) graphs parts
@@ -112,18 +112,18 @@ module _ (cost : Cost) (set : TaskSet) (graphs : ℕ → TaskGraph) (parts : Lis
           other : Miss ≡ Switch → ⊥
           other e = cc
 
-  known_miss : cost ≡ Miss → HaveSets (with_cost cost set c) graphs parts × HaveHits (with_cost cost set c) graphs hits
+  known_miss : cost ≡ Miss → HaveCacheBlocks (with_cost cost set c) graphs parts × HaveHits (with_cost cost set c) graphs hits
   known_miss is = by cost is K
     where
-      by : (x : Cost) → x ≡ Miss → AreKnown x set graphs parts hits → HaveSets (with_cost x set c) graphs parts × HaveHits (with_cost x set c) graphs hits
+      by : (x : Cost) → x ≡ Miss → AreKnown x set graphs parts hits → HaveCacheBlocks (with_cost x set c) graphs parts × HaveHits (with_cost x set c) graphs hits
       by Switch is K = absurd (other is)
         where
           other : Switch ≡ Miss → ⊥
           other e = cc
       by Miss is K = (sets_with_miss set graphs parts c K.0, hits_with_miss set graphs hits c K.1)
 
-  pub known_sets : cost ≡ Miss → HaveSets (made p tasks) graphs parts
-  known_sets is = subst (λ (s : TaskSet). HaveSets s graphs parts) (sym (is_with cost set c p tasks e f)) (known_miss is).0
+  pub known_sets : cost ≡ Miss → HaveCacheBlocks (made p tasks) graphs parts
+  known_sets is = subst (λ (s : TaskSet). HaveCacheBlocks s graphs parts) (sym (is_with cost set c p tasks e f)) (known_miss is).0
 
   pub known_hits : cost ≡ Miss → HaveHits (made p tasks) graphs hits
   known_hits is = subst (λ (s : TaskSet). HaveHits s graphs hits) (sym (is_with cost set c p tasks e f)) (known_miss is).1
@@ -166,8 +166,8 @@ module _ (cost : Cost) (set : TaskSet) (graphs : ℕ → TaskGraph) (times : Has
       }
 
 -- the graphs of a task set have bounds
-pub all_bounded : (set : TaskSet) (graphs : List CodeGraph) (nests : List CodeNest) → AreShown set graphs nests → ((k : ℕ) → k < length graphs → IsGraph (graph_of (graph_at graphs k)))
-    → (k : ℕ) → k < length set.tasks → IsLoopBounded (shown_at graphs nests k)
+pub all_bounded : (set : TaskSet) (graphs : List CodeGraph) (nests : List CodeNest) → AreTaskGraphs set graphs nests → ((k : ℕ) → k < length graphs → IsGraph (graph_of (graph_at graphs k)))
+    → (k : ℕ) → k < length set.tasks → IsLoopBounded (task_graph_at graphs nests k)
 all_bounded set graphs nests A G k lt =
     let N = A.each k lt in
     record { graph = G k (let e = A.all_graphs in omega (arith, e, lt)); nested = nested (graph_at graphs k) (nest_at nests k) N; no_cycle = N.accepted.no_cycle }

@@ -7,7 +7,7 @@ use Rattle.loop_regions.specs.TaskGraph.{TaskGraph}
 use Rattle.evict_sets.specs.Listing.{counted}
 use Rattle.exec_bound.specs.Costs.{greatest_bound}
 use Rattle.must_cache.specs.Sure.{CountsSureHits}
-use Rattle.cert_check.specs.Judge.{accesses_of}
+use Rattle.cert_check.specs.JudgeInput.{accesses_of}
 use Rattle.delay_count.specs.Gamma.{part_at}
 use Rattle.sensitivity.specs.declared.analysis.Bounded.{Bounded}
 use Rattle.sensitivity.specs.declared.analysis.Bounded.TheVariants.{Parts, TooLarge}
@@ -15,16 +15,16 @@ use Rattle.sensitivity.specs.declared.cost.Cost.{Cost}
 use Rattle.sensitivity.specs.declared.cost.Cost.TheVariants.{Switch, Miss}
 use Rattle.sensitivity.specs.declared.slack.Stop.{Stop}
 use Rattle.sensitivity.specs.Costs.{with_switch, with_miss}
-use Rattle.sensitivity.specs.Accepted.{HasSets, IsLeastBound, AreParts, IsAccepted, IsFirstTooLarge, IsStop}
+use Rattle.sensitivity.specs.Accepted.{HasCacheBlocks, IsLeastBound, AreAnalysedParts, IsAccepted, IsFirstTooLarge, IsStop}
 
 -- the bound is above 2^40
 abbrev pub IsLarge : Platform → TaskGraph → Type 0
 IsLarge p t = (c : ℕ) × IsLeastBound p t c × (greatest_bound < c)
 
 -- the parts of all tasks, but for their bounds
-pub record HaveSets (set : TaskSet) (graphs : ℕ → TaskGraph) (parts : List Part) : Type 0 where
+pub record HaveCacheBlocks (set : TaskSet) (graphs : ℕ → TaskGraph) (parts : List Part) : Type 0 where
   pub count : length parts ≡ length set.tasks
-  pub each : (k : ℕ) → k < length set.tasks → HasSets set.platform (graphs k) (part_at parts k)
+  pub each : (k : ℕ) → k < length set.tasks → HasCacheBlocks set.platform (graphs k) (part_at parts k)
 
 -- the list tells which nodes of a task are hits by Sure
 pub record TellsHits (p : Platform) (t : TaskGraph) (hits : List Bool) : Type 0 where
@@ -39,12 +39,12 @@ pub record HaveHits (set : TaskSet) (graphs : ℕ → TaskGraph) (hits : List (L
 -- the parts of all tasks, as a list
 pub record ListsParts (set : TaskSet) (graphs : ℕ → TaskGraph) (parts : List Part) : Type 0 where
   pub count : length parts ≡ length set.tasks
-  pub are : AreParts set graphs (part_at parts)
+  pub are : AreAnalysedParts set graphs (part_at parts)
 
 -- these, or the first task whose bound is too large
-abbrev pub IsBounded : TaskSet → (ℕ → TaskGraph) → Bounded → Type 0
-IsBounded set graphs (Parts parts) = ListsParts set graphs parts.items
-IsBounded set graphs (TooLarge t) = IsFirstTooLarge set graphs t.0
+abbrev pub GivesBounds : TaskSet → (ℕ → TaskGraph) → Bounded → Type 0
+GivesBounds set graphs (Parts parts) = ListsParts set graphs parts.items
+GivesBounds set graphs (TooLarge t) = IsFirstTooLarge set graphs t.0
 
 -- the set with another cost of this kind
 abbrev pub with_cost : Cost → TaskSet → ℕ → TaskSet
@@ -54,9 +54,9 @@ with_cost Miss set c = with_miss set c
 -- what serves for all costs of this kind: the parts with their bounds, or, where these depend on the cost, without, and the hits
 abbrev pub AreKnown : Cost → TaskSet → (ℕ → TaskGraph) → List Part → List (List Bool) → Type 0
 AreKnown Switch set graphs parts hits = ListsParts set graphs parts
-AreKnown Miss set graphs parts hits = HaveSets set graphs parts × HaveHits set graphs hits
+AreKnown Miss set graphs parts hits = HaveCacheBlocks set graphs parts × HaveHits set graphs hits
 
 -- the set is accepted, or stops
-abbrev pub IsJudged : TaskSet → (ℕ → TaskGraph) → Option Stop → Type 0
-IsJudged set graphs None = IsAccepted set graphs
-IsJudged set graphs (Some stop) = IsStop set graphs stop
+abbrev pub IsAcceptedOrStops : TaskSet → (ℕ → TaskGraph) → Option Stop → Type 0
+IsAcceptedOrStops set graphs None = IsAccepted set graphs
+IsAcceptedOrStops set graphs (Some stop) = IsStop set graphs stop

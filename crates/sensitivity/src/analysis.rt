@@ -4,10 +4,10 @@ ghost use Rattle.crpd_base.specs.Ranges.{IsPlatform, IsTaskSet};
 ghost use Rattle.flat_graph.specs.CodeGraph.{graph_of, places_of};
 ghost use Rattle.icache.specs.Accesses.{accesses};
 ghost use Rattle.loop_regions.specs.CodeNest.{CodeNest, IsNestOf};
-ghost use Rattle.cert_check.specs.Shown.{shown, shown_at, AreShown};
+ghost use Rattle.cert_check.specs.TaskGraphs.{task_graph, task_graph_at, AreTaskGraphs};
 ghost use Rattle.exec_bound.specs.Costs.{greatest_bound};
-ghost use Rattle.sensitivity.specs.Accepted.{HasSets, IsLeastBound};
-ghost use Rattle.sensitivity.specs.Found.{IsLarge, TellsHits, HaveSets, HaveHits, IsBounded};
+ghost use Rattle.sensitivity.specs.Accepted.{HasCacheBlocks, IsLeastBound};
+ghost use Rattle.sensitivity.specs.Found.{IsLarge, TellsHits, HaveCacheBlocks, HaveHits, GivesBounds};
 
 use crpd_base::{Items, Memory, Part, Platform, SETS, Task, TaskSet, WORDS};
 use evict_sets::evicting;
@@ -17,7 +17,7 @@ use icache::Geometry;
 use loop_regions::Nest;
 use must_cache::sure_hits;
 use std::alloc::Global;
-use useful_sets::reused;
+use useful_sets::useful_of_hits;
 
 /// What of one task does not depend on costs.
 #[derive(Drop)]
@@ -47,12 +47,12 @@ pub(crate) enum Bounded {
 /// What of a task does not depend on costs. Its must states are given back.
 fn task_known(alloc: Global, platform: &Platform, graph: &Graph) -> Result<TaskKnown, Memory>
     requires platform { IsPlatform platform.now }
-    ensures sets { IfOk result (λ known. (nest : CodeNest) → HasSets platform.now (shown graph.now nest) known.part) }
-    ensures hits { IfOk result (λ known. (nest : CodeNest) → TellsHits platform.now (shown graph.now nest) known.hits) }
+    ensures sets { IfOk result (λ known. (nest : CodeNest) → HasCacheBlocks platform.now (task_graph graph.now nest) known.part) }
+    ensures hits { IfOk result (λ known. (nest : CodeNest) → TellsHits platform.now (task_graph graph.now nest) known.hits) }
 {
     let geometry = Geometry::new(platform);
     let hits = sure_hits::<SETS, WORDS>(alloc, graph, &geometry)?;
-    let useful = reused::<WORDS>(graph, &geometry, &hits);
+    let useful = useful_of_hits::<WORDS>(graph, &geometry, &hits);
     let evicting = evicting::<WORDS>(graph, &geometry);
     evicting.words_law();
     useful.words_law();
@@ -75,10 +75,10 @@ fn task_bound(
     hits: &[bool],
 ) -> Result<Option<u64>, Memory>
     requires nest { IsNestOf graph.now nest.now }
-    requires hits { TellsHits platform.now (shown graph.now nest.now) hits.now }
+    requires hits { TellsHits platform.now (task_graph graph.now nest.now) hits.now }
     ensures { IfOk result (λ found. MatchOption found
-        (IsLarge platform.now (shown graph.now nest.now))
-        (λ cycles. IsLeastBound platform.now (shown graph.now nest.now) cycles × (cycles ≤ greatest_bound))) }
+        (IsLarge platform.now (task_graph graph.now nest.now))
+        (λ cycles. IsLeastBound platform.now (task_graph graph.now nest.now) cycles × (cycles ≤ greatest_bound))) }
 {
     match bound_by_hits(alloc, graph, nest, platform, hits) {
         Ok(found) => Ok(Some(found.cycles)),
@@ -91,8 +91,8 @@ fn task_bound(
 pub(crate) fn all_known(alloc: Global, set: &TaskSet, graphs: &[Graph]) -> Result<Known, Memory>
     requires set { IsTaskSet set.now }
     requires tasks { length graphs.now ≡ length set.now.tasks }
-    ensures sets { IfOk result (λ known. (nests : List CodeNest) → HaveSets set.now (shown_at graphs.now nests) known.parts.items) }
-    ensures hits { IfOk result (λ known. (nests : List CodeNest) → HaveHits set.now (shown_at graphs.now nests) known.hits.items) }
+    ensures sets { IfOk result (λ known. (nests : List CodeNest) → HaveCacheBlocks set.now (task_graph_at graphs.now nests) known.parts.items) }
+    ensures hits { IfOk result (λ known. (nests : List CodeNest) → HaveHits set.now (task_graph_at graphs.now nests) known.hits.items) }
 {
     let mut parts = Vec::new(alloc);
     let mut hits = Vec::new(alloc);
@@ -119,10 +119,10 @@ pub(crate) fn with_bounds(
     hits: &[Items<bool>],
 ) -> Result<Bounded, Memory>
     requires set { IsTaskSet set.now }
-    requires tasks { AreShown set.now graphs.now nests.now }
-    requires sets { HaveSets set.now (shown_at graphs.now nests.now) sets.now }
-    requires hits { HaveHits set.now (shown_at graphs.now nests.now) hits.now }
-    ensures { IfOk result (λ found. IsBounded set.now (shown_at graphs.now nests.now) found) }
+    requires tasks { AreTaskGraphs set.now graphs.now nests.now }
+    requires sets { HaveCacheBlocks set.now (task_graph_at graphs.now nests.now) sets.now }
+    requires hits { HaveHits set.now (task_graph_at graphs.now nests.now) hits.now }
+    ensures { IfOk result (λ found. GivesBounds set.now (task_graph_at graphs.now nests.now) found) }
 {
     let mut parts = Vec::new(alloc);
     for k in 0..graphs.len() {

@@ -1,7 +1,7 @@
 // The greatest costs.
 ghost use Rattle.std.specs.Prelude.{IfOk};
 ghost use Rattle.crpd_base.specs.Ranges.{IsTaskSet};
-ghost use Rattle.cert_check.specs.Shown.{shown_at, AreShown};
+ghost use Rattle.cert_check.specs.TaskGraphs.{task_graph_at, AreTaskGraphs};
 ghost use Rattle.sensitivity.specs.Costs.{with_switch, with_miss};
 ghost use Rattle.sensitivity.specs.Slack.{IsSlack};
 
@@ -30,8 +30,8 @@ pub fn greatest_switch(
     nests: &[Nest],
 ) -> Result<Slack, Memory>
     requires set { IsTaskSet set.now }
-    requires tasks { AreShown set.now graphs.now nests.now }
-    ensures { IfOk result (λ slack. IsSlack (with_switch set.now) (shown_at graphs.now nests.now) slack) }
+    requires tasks { AreTaskGraphs set.now graphs.now nests.now }
+    ensures { IfOk result (λ slack. IsSlack (with_switch set.now) (task_graph_at graphs.now nests.now) slack) }
 {
     acceptance_law();
     graphs_law(graphs);
@@ -69,8 +69,8 @@ pub fn greatest_miss(
     nests: &[Nest],
 ) -> Result<Slack, Memory>
     requires set { IsTaskSet set.now }
-    requires tasks { AreShown set.now graphs.now nests.now }
-    ensures { IfOk result (λ slack. IsSlack (with_miss set.now) (shown_at graphs.now nests.now) slack) }
+    requires tasks { AreTaskGraphs set.now graphs.now nests.now }
+    ensures { IfOk result (λ slack. IsSlack (with_miss set.now) (task_graph_at graphs.now nests.now) slack) }
 {
     let known = all_known(alloc, set, graphs)?;
     let search = Search {

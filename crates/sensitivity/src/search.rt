@@ -1,8 +1,8 @@
 // The search for the greatest accepted cost.
 ghost use Rattle.std.specs.Prelude.{◌≡◌, ◌≤◌, IfOk};
 ghost use Rattle.crpd_base.specs.Ranges.{IsTaskSet};
-ghost use Rattle.cert_check.specs.Shown.{shown_at, AreShown};
-ghost use Rattle.sensitivity.specs.Found.{ListsParts, AreKnown, IsJudged, with_cost};
+ghost use Rattle.cert_check.specs.TaskGraphs.{task_graph_at, AreTaskGraphs};
+ghost use Rattle.sensitivity.specs.Found.{ListsParts, AreKnown, IsAcceptedOrStops, with_cost};
 ghost use Rattle.sensitivity.specs.Slack.{IsSlack};
 
 use crate::analysis::{Bounded, with_bounds};
@@ -29,9 +29,9 @@ fn stop_of(
     parts: &[Part],
 ) -> Result<Option<Stop>, Memory>
     requires set { IsTaskSet set.now }
-    requires tasks { AreShown set.now graphs.now nests.now }
-    requires parts { ListsParts set.now (shown_at graphs.now nests.now) parts.now }
-    ensures { IfOk result (λ stop. IsJudged set.now (shown_at graphs.now nests.now) stop) }
+    requires tasks { AreTaskGraphs set.now graphs.now nests.now }
+    requires parts { ListsParts set.now (task_graph_at graphs.now nests.now) parts.now }
+    ensures { IfOk result (λ stop. IsAcceptedOrStops set.now (task_graph_at graphs.now nests.now) stop) }
 {
     let mut longest = [0; MOST_TASKS];
     write_longest(set, graphs, &mut longest);
@@ -63,12 +63,12 @@ impl Search<'_> {
         cycles: u32,
     ) -> Result<Option<Stop>, Memory>
         requires set { IsTaskSet self.now.set.now }
-        requires tasks { AreShown self.now.set.now self.now.graphs.now self.now.nests.now }
-        requires known { AreKnown self.now.cost self.now.set.now (shown_at self.now.graphs.now self.now.nests.now) self.now.parts.now self.now.hits.now }
+        requires tasks { AreTaskGraphs self.now.set.now self.now.graphs.now self.now.nests.now }
+        requires known { AreKnown self.now.cost self.now.set.now (task_graph_at self.now.graphs.now self.now.nests.now) self.now.parts.now self.now.hits.now }
         requires trial { trial.old.tasks ≡ self.now.set.now.tasks }
         requires cycles { cycles ≤ 65535 }
         ensures trial { trial.new.tasks ≡ trial.old.tasks }
-        ensures judged { IfOk result (λ stop. IsJudged (with_cost self.now.cost self.now.set.now cycles) (shown_at self.now.graphs.now self.now.nests.now) stop) }
+        ensures judged { IfOk result (λ stop. IsAcceptedOrStops (with_cost self.now.cost self.now.set.now cycles) (task_graph_at self.now.graphs.now self.now.nests.now) stop) }
     {
         trial.platform = platform_with(self.set, self.cost, cycles);
         match self.cost {
@@ -86,9 +86,9 @@ impl Search<'_> {
     /// The greatest accepted cost: a binary search, since acceptance never comes back.
     pub(crate) fn greatest(&self, alloc: Global) -> Result<Slack, Memory>
         requires set { IsTaskSet self.now.set.now }
-        requires tasks { AreShown self.now.set.now self.now.graphs.now self.now.nests.now }
-        requires known { AreKnown self.now.cost self.now.set.now (shown_at self.now.graphs.now self.now.nests.now) self.now.parts.now self.now.hits.now }
-        ensures { IfOk result (λ slack. IsSlack (with_cost self.now.cost self.now.set.now) (shown_at self.now.graphs.now self.now.nests.now) slack) }
+        requires tasks { AreTaskGraphs self.now.set.now self.now.graphs.now self.now.nests.now }
+        requires known { AreKnown self.now.cost self.now.set.now (task_graph_at self.now.graphs.now self.now.nests.now) self.now.parts.now self.now.hits.now }
+        ensures { IfOk result (λ slack. IsSlack (with_cost self.now.cost self.now.set.now) (task_graph_at self.now.graphs.now self.now.nests.now) slack) }
     {
         acceptance_law();
         graphs_law(self.graphs);

@@ -16,29 +16,29 @@ use Rattle.crpd_base.specs.declared.data.TaskSet.{TaskSet}
 use Rattle.crpd_base.specs.declared.data.TaskSpec.{TaskSpec}
 use Rattle.crpd_base.specs.declared.data.Place.TheVariants.{Number}
 use Rattle.crpd_base.specs.declared.data.Switching.TheVariants.{Cycle}
-use Rattle.crpd_base.specs.Names.{is_line, is_name, is_file}
+use Rattle.crpd_base.specs.Names.{is_line_length, is_name, is_file}
 use Rattle.crpd_base.specs.Ranges.{IsPlatform, IsLoopSpec, IsTaskSpec, HaveOwnNames, IsTaskSet}
 use Rattle.toml.specs.Data.{Data, integer, Members, as_table, as_str, get_member}
 use Rattle.toml.specs.Parse.{parse_document}
 use Rattle.toml_keys.specs.declared.fault.KeyError.{KeyError}
 use Rattle.crpd_base.specs.Outcome.{Gives}
-use Rattle.toml_keys.specs.Reading.{all_known, required, optional, whole, listed, each, item_path, present, good, at_most}
+use Rattle.toml_keys.specs.Reading.{all_known, required, optional, whole, listed, each, item_path, value_at_key, value_or_bad, at_most}
 use Rattle.toml_keys.proofs.Laws.{guard_ok, each_all, each_length}
 use Rattle.toml_keys.proofs.Ranged.{IsBetween, only_ok, whole_between, required_ok, optional_ok, required_between, optional_within, at_most_ok}
 use Rattle.set_reader.specs.Kinds as kind
 use Rattle.set_reader.specs.declared.fault.SetError.{SetError}
 use Rattle.set_reader.specs.declared.fault.SetError.TheVariants.{Memory, TooManyTasks, DeadlineAfterPeriod}
-use Rattle.set_reader.specs.Reading.{of_set, cycles, fields_at, task_at, told, distinct, task_tables, tasks_at, set_keys, platform_keys, platform_at, loop_keys, loop_at, nth_loop, loop_tables, loops_at, task_keys, entry_place, occurs, repeated_after, set_at, document, reading}
+use Rattle.set_reader.specs.Reading.{of_set, cycles, fields_at, task_at, distinct_or_refused, distinct, task_tables, tasks_at, set_keys, platform_keys, platform_at, loop_keys, loop_at, nth_loop, loop_tables, loops_at, task_keys, entry_place, occurs, repeated_after, set_at, document, reading}
 
 -- the length of a line: within its range, and one of the five
 pub record IsLine (n : ℕ) : Type 0 where
   pub range : IsBetween 4 64 n
-  pub size : is_line n ≡ true
+  pub size : is_line_length n ≡ true
 
-line_ok : (d : Data) (n : ℕ) → kind.line d ≡ Some n → IsLine n
-unfolding kind.line
+line_ok : (d : Data) (n : ℕ) → kind.line_bytes d ≡ Some n → IsLine n
+unfolding kind.line_bytes
 line_ok d n e =
-    let passed = only_ok is_line (whole 4 64 d) n e in
+    let passed = only_ok is_line_length (whole 4 64 d) n e in
     record { range = whole_between 4 64 d n passed.1; size = passed.0 }
 
 name_ok : (d : Data) (s : List ℕ) → kind.name d ≡ Some s → is_name s ≡ true
@@ -55,7 +55,7 @@ platform_ranged : (path : List ℕ) (ms : Members) (p : Platform) → platform_a
 unfolding platform_at
 platform_ranged path ms p e =
     let known = bind_ok (all_known platform_keys path ms) _ p e in
-    let line = bind_ok (required kind.line path (codes "line") ms) _ p known.2 in
+    let line = bind_ok (required kind.line_bytes path (codes "line") ms) _ p known.2 in
     let sets = bind_ok (required (whole 1 512) path (codes "sets") ms) _ p line.2 in
     let hit = bind_ok (required (whole 1 65535) path (codes "hit") ms) _ p sets.2 in
     let miss = bind_ok (required cycles path (codes "miss") ms) _ p hit.2 in
@@ -65,7 +65,7 @@ platform_ranged path ms p e =
     let mul = bind_ok (optional 0 cycles path (codes "mul") ms) _ p switch.2 in
     let div = bind_ok (optional 0 cycles path (codes "div") ms) _ p mul.2 in
     let switching = bind_ok (optional Cycle kind.switching path (codes "switching") ms) _ p div.2 in
-    let line_kind = required_ok kind.line path (codes "line") ms line.0 line.1 in
+    let line_kind = required_ok kind.line_bytes path (codes "line") ms line.0 line.1 in
     let of_line = line_ok line_kind.0 line.0 line_kind.1 in
     let of_sets = required_between 1 512 path (codes "sets") ms sets.0 sets.1 in
     let of_hit = required_between 1 65535 path (codes "hit") ms hit.0 hit.1 in
@@ -189,7 +189,7 @@ names_apart earlier (t ∷ ts) apart e =
           subst (λ l. AllPairs HaveOwnNames l) (append_assoc earlier (t ∷ []) ts) (names_apart (earlier ++ t ∷ []) ts more f)
     ]
 
-told_none : (tasks : List TaskSpec) (o : Option ℕ) (xs : List TaskSpec) → told tasks o ≡ Ok xs → (o ≡ None) × (tasks ≡ xs)
+told_none : (tasks : List TaskSpec) (o : Option ℕ) (xs : List TaskSpec) → distinct_or_refused tasks o ≡ Ok xs → (o ≡ None) × (tasks ≡ xs)
 told_none tasks None xs e = (refl, ok_is tasks xs e)
 told_none tasks (Some i) xs e = absurd cc
 

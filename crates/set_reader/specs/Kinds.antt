@@ -3,7 +3,7 @@ use Rattle.std.specs.Prelude.{ℕ, ◌+◌, ◌*◌, ◌-◌, ◌^◌, pos, List
 use Rattle.std.specs.List.{list_all, position_or_len, before_first, after_first}
 use Rattle.std.specs.Str.{bytes_eq}
 use Rattle.toml.specs.Data.{Data, string, integer, Items, no_items, item, as_str, as_array}
-use Rattle.crpd_base.specs.Names.{is_between, is_line, is_name, is_file}
+use Rattle.crpd_base.specs.Names.{is_between, is_line_length, is_name, is_file}
 use Rattle.crpd_base.specs.declared.data.Place.{Place}
 use Rattle.crpd_base.specs.declared.data.Place.TheVariants.{Number, Symbol}
 use Rattle.crpd_base.specs.declared.data.Switching.{Switching}
@@ -12,8 +12,8 @@ use Rattle.toml_keys.specs.Reading.{whole}
 
 -- ---- the platform
 
-unfoldable pub line : Data → Option ℕ
-line d = only is_line (whole 4 64 d)
+unfoldable pub line_bytes : Data → Option ℕ
+line_bytes d = only is_line_length (whole 4 64 d)
 
 unfoldable pub switching : Data → Option Switching
 switching d = option_and_then switching_named (as_str d)
@@ -42,8 +42,8 @@ digits radix n [] = Some n
 digits radix n (c ∷ cs) = option_and_then (λ d. if nat_lt (n * radix + d) (2 ^ 32) then digits radix (n * radix + d) cs else None) (digit radix c)
 
 -- at least one digit, and at most so many
-abbrev pub number_of : ℕ → ℕ → List ℕ → Option ℕ
-number_of radix most cs = if is_between 1 most (length cs) then digits radix 0 cs else None
+abbrev pub digits_number : ℕ → ℕ → List ℕ → Option ℕ
+digits_number radix most cs = if is_between 1 most (length cs) then digits radix 0 cs else None
 
 abbrev pub starts_with_0x : List ℕ → Bool
 starts_with_0x (a ∷ b ∷ cs) = a == 48 && b == 120
@@ -51,7 +51,7 @@ starts_with_0x _ = false
 
 -- 1 to 8 hexadecimal digits after `0x`, else 1 to 10 decimal digits
 unfoldable pub offset : List ℕ → Option ℕ
-offset cs = if starts_with_0x cs then number_of 16 8 (drop 2 cs) else number_of 10 10 cs
+offset cs = if starts_with_0x cs then digits_number 16 8 (drop 2 cs) else digits_number 10 10 cs
 
 abbrev pub is_plus : ℕ → Bool
 is_plus b = b == 43
@@ -73,11 +73,11 @@ place (integer (pos n)) = if nat_lt n (2 ^ 32) then Some (Number n) else None
 place (string s) = place_named s
 place _ = None
 
-abbrev pub both : Data → Data → Option (Place × Place)
-both from to = option_and_then (λ a. option_map (λ b. (a, b)) (place to)) (place from)
+abbrev pub place_pair : Data → Data → Option (Place × Place)
+place_pair from to = option_and_then (λ a. option_map (λ b. (a, b)) (place to)) (place from)
 
 unfoldable pub two_places : Items → Option (Place × Place)
-two_places (item from (item to no_items)) = both from to
+two_places (item from (item to no_items)) = place_pair from to
 two_places _ = None
 
 -- a list of two places

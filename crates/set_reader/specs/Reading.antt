@@ -32,7 +32,7 @@ cycles = whole 0 65535
 unfoldable pub platform_at : List ℕ → Members → Result Platform KeyError
 platform_at path ms = do
   _ ← all_known platform_keys path ms
-  line ← required kind.line path (codes "line") ms
+  line ← required kind.line_bytes path (codes "line") ms
   sets ← required (whole 1 512) path (codes "sets") ms
   hit ← required (whole 1 65535) path (codes "hit") ms
   miss ← required cycles path (codes "miss") ms
@@ -119,12 +119,12 @@ abbrev pub repeated_after : List TaskSpec → List TaskSpec → Option ℕ
 repeated_after earlier [] = None
 repeated_after earlier (t ∷ ts) = if occurs t.name earlier then Some (length earlier) else repeated_after (earlier ++ t ∷ []) ts
 
-abbrev pub told : List TaskSpec → Option ℕ → Result (List TaskSpec) SetError
-told tasks None = Ok tasks
-told tasks (Some i) = Err (SameName (item_path [] (codes "task") i ++ codes "name"))
+abbrev pub distinct_or_refused : List TaskSpec → Option ℕ → Result (List TaskSpec) SetError
+distinct_or_refused tasks None = Ok tasks
+distinct_or_refused tasks (Some i) = Err (SameName (item_path [] (codes "task") i ++ codes "name"))
 
 unfoldable pub distinct : List TaskSpec → Result (List TaskSpec) SetError
-distinct tasks = told tasks (repeated_after [] tasks)
+distinct tasks = distinct_or_refused tasks (repeated_after [] tasks)
 
 unfoldable pub set_keys : List (List ℕ)
 set_keys = codes "platform" ∷ codes "task" ∷ []

@@ -12,9 +12,9 @@ use toml_keys::{line_length, switching_named, task_name, whole};
 const LIMIT: u64 = 1 << 32;
 
 /// The length of a cache line in bytes: 4, 8, 16, 32 or 64; None for any other value. In constant time.
-#[tactic(auto, unfolding(crate::specs::Kinds::line))]
+#[tactic(auto, unfolding(crate::specs::Kinds::line_bytes))]
 pub fn line(value: &Value) -> Option<u32>
-    ensures { result ≡ spec.line (view value.now) }
+    ensures { result ≡ spec.line_bytes (view value.now) }
 {
     line_length(whole(value, 4, 64)?)
 }
@@ -78,7 +78,7 @@ fn digits(radix: u64, text: &[u8]) -> Option<u32>
 
 fn number_of(radix: u64, most: usize, text: &[u8]) -> Option<u32>
     requires { radix ≤ 16 }
-    ensures { result ≡ spec.number_of radix most text.now }
+    ensures { result ≡ spec.digits_number radix most text.now }
 {
     if 1 <= text.len() && text.len() <= most {
         digits(radix, text)
@@ -138,7 +138,7 @@ pub fn place(alloc: Global, value: &Value) -> Result<Option<Place>, AllocError>
 }
 
 fn both(alloc: Global, from: &Value, to: &Value) -> Result<Option<(Place, Place)>, AllocError>
-    ensures { IfOk result (λ p. p ≡ spec.both (view from.now) (view to.now)) }
+    ensures { IfOk result (λ p. p ≡ spec.place_pair (view from.now) (view to.now)) }
 {
     let Some(from) = place(alloc, from)? else {
         return Ok(None);

@@ -1,53 +1,53 @@
 -- A job's own last fetches agree with the full states, and its entries are reloads.
 use Rattle.std.specs.Prelude.{◌≡◌, ◌≢◌, ℕ, ◌<◌, Bool, true, IsTrue, length}
 use Rattle.crpd_base.specs.declared.data.TaskSet.{TaskSet}
-use Rattle.flow_watch.specs.Watch.{is_kept}
+use Rattle.flow_watch.specs.Watch.{is_unbroken}
 use Rattle.evict_sets.specs.Full.{FullState, FullUseful}
-use Rattle.evict_sets.specs.Clauses.{StateAfter}
+use Rattle.evict_sets.specs.CacheClauses.{StateAfter}
 use Rattle.crpd_base.specs.declared.data.TaskPart.{TaskPart}
 use Rattle.crpd_base.specs.declared.data.Certificate.{Certificate}
-use Rattle.evict_sets.specs.Certificate.{listed_of}
+use Rattle.evict_sets.specs.ListedPart.{listed_of}
 use Rattle.crpd_base.specs.Sets.{has as has_set}
 use Rattle.loop_regions.specs.TaskGraph.{TaskGraph}
-use Rattle.cert_check.specs.Clauses.{CountsHits}
-use Rattle.cert_check.specs.Judge.{accesses_of}
+use Rattle.cert_check.specs.PotentialClauses.{CountsHits}
+use Rattle.cert_check.specs.JudgeInput.{accesses_of}
 use Rattle.cert_check.specs.Verdict.{IsYes}
-use Rattle.evict_sets.specs.Certificate.{cert_at}
+use Rattle.evict_sets.specs.ListedPart.{certified_task}
 use Rattle.preempt_machine.specs.Step.{is_open, Fetch, Start}
 use Rattle.preempt_machine.specs.Safe.{NamesTasks}
-use Rattle.run_account.specs.Fetches.{job_of}
-use Rattle.run_account.specs.Reloads.{HasOwn, IsReload}
-use Rattle.run_account.specs.Nodes.{task_of, node_of}
-use Rattle.sound_laws.specs.Walks.{IsInRange, IsCodeOf}
-use Rattle.sound_laws.specs.Rests.{enters}
+use Rattle.run_account.specs.Fetches.{job_after}
+use Rattle.run_account.specs.Reloads.{HasOwn, IsOwnReload}
+use Rattle.run_account.specs.Nodes.{job_task, node_of_job}
+use Rattle.sound_laws.specs.Walks.{HasTaskRanges, IsCodeOf}
+use Rattle.sound_laws.specs.CyclesToGo.{makes_reload}
 
 -- each block that the full state of a job's node gives to a set is that of the job's own last fetch to it; while an
 -- instruction is under way, the same holds of the state after its node
 pub record OwnFetchesAgree (s : Start) (t : TaskGraph) (c : TaskPart) (n x : ℕ) : Type 0 where
-  pub between : (job_of s n x).left ≡ 0 → (set m : ℕ) → FullState t.graph (accesses_of s.system.platform t) (listed_of c) (node_of t (job_of s n x)) set m → HasOwn s x set n m
-  pub within : (job_of s n x).left ≢ 0 → (set m : ℕ) → StateAfter t.graph (accesses_of s.system.platform t) (listed_of c) (node_of t (job_of s n x)) set m → HasOwn s x set n m
+  pub between : (job_after s n x).left ≡ 0 → (set m : ℕ) → FullState t.graph (accesses_of s.system.platform t) (listed_of c) (node_of_job t (job_after s n x)) set m → HasOwn s x set n m
+  pub within : (job_after s n x).left ≢ 0 → (set m : ℕ) → StateAfter t.graph (accesses_of s.system.platform t) (listed_of c) (node_of_job t (job_after s n x)) set m → HasOwn s x set n m
 
 abbrev pub OwnFetchesAgreeLaw : Type 0
 OwnFetchesAgreeLaw =
     (s : Start) (set : TaskSet) (graphs : ℕ → TaskGraph) (c : Certificate) (n x : ℕ) →
-    IsInRange set → IsCodeOf s.system set graphs → NamesTasks set s.lines → IsYes set graphs c → x < length s.lines →
-    is_kept (job_of s n x).watch ≡ true → is_open (job_of s n x).standing ≡ true →
-    OwnFetchesAgree s (graphs (task_of s x)) (cert_at c (task_of s x)) n x
+    HasTaskRanges set → IsCodeOf s.system set graphs → NamesTasks set s.lines → IsYes set graphs c → x < length s.lines →
+    is_unbroken (job_after s n x).watch ≡ true → is_open (job_after s n x).standing ≡ true →
+    OwnFetchesAgree s (graphs (job_task s x)) (certified_task c (job_task s x)) n x
 
 -- an entry is a reload, and its set is in the useful set of its node and of its task
-pub record IsReloadEntry (s : Start) (t : TaskGraph) (c : TaskPart) (n x : ℕ) : Type 0 where
+pub record IsUsefulReload (s : Start) (t : TaskGraph) (c : TaskPart) (n x : ℕ) : Type 0 where
   pub own_time : ℕ
   pub own : Fetch
-  pub reload : IsReload s x n own_time (record { job = x; address = (job_of s n x).pc }) own
-  pub useful : FullUseful t.graph (accesses_of s.system.platform t) (listed_of c) (node_of t (job_of s n x)) ((accesses_of s.system.platform t).set (node_of t (job_of s n x)))
-  pub in_set : IsTrue (has_set c.part.useful ((accesses_of s.system.platform t).set (node_of t (job_of s n x))))
+  pub reload : IsOwnReload s x n own_time (record { job = x; address = (job_after s n x).pc }) own
+  pub useful : FullUseful t.graph (accesses_of s.system.platform t) (listed_of c) (node_of_job t (job_after s n x)) ((accesses_of s.system.platform t).set (node_of_job t (job_after s n x)))
+  pub in_set : IsTrue (has_set c.part.useful ((accesses_of s.system.platform t).set (node_of_job t (job_after s n x))))
 
 -- with any test of the hits that are counted
-abbrev pub EntriesAreReloads : Type 0
-EntriesAreReloads =
+abbrev pub LedgerReloadsAreOwn : Type 0
+LedgerReloadsAreOwn =
     (s : Start) (set : TaskSet) (graphs : ℕ → TaskGraph) (c : Certificate) (n x : ℕ) (is_hit : ℕ → Bool) →
-    IsInRange set → IsCodeOf s.system set graphs → NamesTasks set s.lines → IsYes set graphs c → x < length s.lines → task_of s x < length set.tasks →
-    let t = graphs (task_of s x) in
-    let part = cert_at c (task_of s x) in
-    CountsHits t.graph (accesses_of s.system.platform t) (listed_of part) is_hit → is_kept (job_of s n x).watch ≡ true →
-    enters s t is_hit x n ≡ true → IsReloadEntry s t part n x
+    HasTaskRanges set → IsCodeOf s.system set graphs → NamesTasks set s.lines → IsYes set graphs c → x < length s.lines → job_task s x < length set.tasks →
+    let t = graphs (job_task s x) in
+    let part = certified_task c (job_task s x) in
+    CountsHits t.graph (accesses_of s.system.platform t) (listed_of part) is_hit → is_unbroken (job_after s n x).watch ≡ true →
+    makes_reload s t is_hit x n ≡ true → IsUsefulReload s t part n x

@@ -6,21 +6,21 @@ use Rattle.crpd_base.specs.Ranges.{IsTaskSet}
 use Rattle.rv_decode.specs.Flow.{IsCodeMap}
 use Rattle.code_map.specs.Words.{Code, word_at}
 use Rattle.loop_regions.specs.TaskGraph.{TaskGraph}
-use Rattle.evict_sets.specs.Certificate.{cert_at}
-use Rattle.cert_check.specs.Judge.{IsGraphOf, responses}
+use Rattle.evict_sets.specs.ListedPart.{certified_task}
+use Rattle.cert_check.specs.JudgeInput.{IsGraphOf, responses}
 use Rattle.cert_check.specs.Verdict.{IsYes}
 use Rattle.preempt_machine.specs.Machine.{System, plan_of}
 use Rattle.preempt_machine.specs.Step.{is_open, candidate, Start, state}
 use Rattle.preempt_machine.specs.Safe.{IsSafe, system_of, IsSafeWith, IsRunOf, IsKept, IsAnsweredBy}
-use Rattle.run_account.specs.Fetches.{job_of}
-use Rattle.run_account.specs.Nodes.{task_of}
-use Rattle.sound_laws.specs.Walks.{IsInRange, IsCodeOf}
+use Rattle.run_account.specs.Fetches.{job_after}
+use Rattle.run_account.specs.Nodes.{job_task}
+use Rattle.sound_laws.specs.Walks.{HasTaskRanges, IsCodeOf}
 
 -- after a yes the set with its code and the reported responses is safe
 abbrev pub YesIsSafe : Type 0
 YesIsSafe =
     (sys : System) (set : TaskSet) (graphs : ℕ → TaskGraph) (c : Certificate) →
-    IsInRange set → IsCodeOf sys set graphs → IsYes set graphs c → IsSafe sys set (responses c)
+    HasTaskRanges set → IsCodeOf sys set graphs → IsYes set graphs c → IsSafe sys set (responses c)
 
 -- so a task set in its ranges, with its code, of which these are the graphs without refusals, is safe after a yes
 abbrev pub CheckedCodeIsSafe : Type 0
@@ -34,12 +34,12 @@ CheckedCodeIsSafe =
 pub record IsUndisturbed (s : Start) (x first steps : ℕ) : Type 0 where
   pub starts : candidate s.system (state s first) ≡ Some x
   pub first_time : (n : ℕ) → n < first → candidate s.system (state s n) ≢ Some x
-  pub alone : (n : ℕ) → first ≤ n → n < first + steps → (candidate s.system (state s n) ≡ Some x) ⊎ (is_open (job_of s n x).standing ≡ false)
+  pub alone : (n : ℕ) → first ≤ n → n < first + steps → (candidate s.system (state s n) ≡ Some x) ⊎ (is_open (job_after s n x).standing ≡ false)
 
 -- after a yes, in a kept run, legal or not, an undisturbed job answers within its switch and its bound
 abbrev pub UndisturbedBound : Type 0
 UndisturbedBound =
     (s : Start) (set : TaskSet) (graphs : ℕ → TaskGraph) (c : Certificate) (n x first : ℕ) →
-    IsInRange set → IsCodeOf s.system set graphs → IsYes set graphs c → IsRunOf set s → IsKept (state s n) → x < length s.lines →
-    let steps = s.system.platform.switch + (cert_at c (task_of s x)).part.bound in
-    first + steps ≤ n → IsUndisturbed s x first steps → IsAnsweredBy (first + steps) (job_of s n x).standing
+    HasTaskRanges set → IsCodeOf s.system set graphs → IsYes set graphs c → IsRunOf set s → IsKept (state s n) → x < length s.lines →
+    let steps = s.system.platform.switch + (certified_task c (job_task s x)).part.bound in
+    first + steps ≤ n → IsUndisturbed s x first steps → IsAnsweredBy (first + steps) (job_after s n x).standing

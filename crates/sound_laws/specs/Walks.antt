@@ -4,22 +4,22 @@ use Rattle.crpd_base.specs.declared.data.TaskPlan.{TaskPlan}
 use Rattle.crpd_base.specs.declared.data.TaskSet.{TaskSet}
 use Rattle.rv_decode.specs.Flow.{Words, IsCodeMap, flows}
 use Rattle.script_reader.specs.Legal.{period_of, IsLegal}
-use Rattle.flow_watch.specs.Watch.{Frame, is_kept}
+use Rattle.flow_watch.specs.Watch.{Frame, is_unbroken}
 use Rattle.flat_graph.specs.Graph.{IsWalk}
-use Rattle.loop_regions.specs.Nest.{IsKept}
+use Rattle.loop_regions.specs.Nest.{IsKeptWalk}
 use Rattle.loop_regions.specs.Watched.{IsWatchedWalk}
 use Rattle.loop_regions.specs.TaskGraph.{TaskGraph}
-use Rattle.cert_check.specs.Judge.{IsGraphOf}
+use Rattle.cert_check.specs.JudgeInput.{IsGraphOf}
 use Rattle.crpd_base.specs.Tasks.{deadline_of}
 use Rattle.preempt_machine.specs.Machine.{System, Job, plan_of}
 use Rattle.preempt_machine.specs.Step.{is_open, Start}
 use Rattle.preempt_machine.specs.Safe.{NamesTasks}
-use Rattle.run_account.specs.Fetches.{job_of}
-use Rattle.run_account.specs.Nodes.{task_of, plan_at, node_of}
+use Rattle.run_account.specs.Fetches.{job_after}
+use Rattle.run_account.specs.Nodes.{job_task, plan_at, node_of_job}
 use Rattle.run_account.specs.Walks.{fetched_nodes}
 
 -- what the ranges of a task set give
-pub record IsInRange (set : TaskSet) : Type 0 where
+pub record HasTaskRanges (set : TaskSet) : Type 0 where
   pub hit : 1 ≤ set.platform.hit
   pub sets : 1 ≤ set.platform.sets
   pub few_sets : set.platform.sets ≤ 512
@@ -51,19 +51,19 @@ before_of job nodes = if job.left == 0 then nodes else drop 1 nodes
 pub record IsOnWalk (words : Words) (plan : TaskPlan) (t : TaskGraph) (job : Job) (nodes : List ℕ) : Type 0 where
   pub frames : List Frame
   pub watch : job.watch ≡ Some frames
-  pub walked : IsWatchedWalk (flows words) plan t.graph t.places t.nest (node_of t job) (before_of job nodes) job.pc frames
-  pub under_way : job.left ≢ 0 → nodes ≡ node_of t job ∷ before_of job nodes
+  pub walked : IsWatchedWalk (flows words) plan t.graph t.places t.nest (node_of_job t job) (before_of job nodes) job.pc frames
+  pub under_way : job.left ≢ 0 → nodes ≡ node_of_job t job ∷ before_of job nodes
 
 -- no node yet, or a kept walk
 abbrev pub IsNoneOrKeptWalk : TaskGraph → List ℕ → Type 0
 IsNoneOrKeptWalk t [] = Unit {0}
-IsNoneOrKeptWalk t (y ∷ before) = IsWalk t.graph (y ∷ before) × IsKept t.nest (y ∷ before)
+IsNoneOrKeptWalk t (y ∷ before) = IsWalk t.graph (y ∷ before) × IsKeptWalk t.nest (y ∷ before)
 
 -- while its watch is not broken, each job's fetches are a kept walk, and an open job goes on from it
 abbrev pub FetchesAreKeptWalk : Type 0
 FetchesAreKeptWalk =
     (s : Start) (set : TaskSet) (graphs : ℕ → TaskGraph) (n x : ℕ) →
-    IsInRange set → IsCodeOf s.system set graphs → NamesTasks set s.lines → x < length s.lines →
-    is_kept (job_of s n x).watch ≡ true →
-    IsNoneOrKeptWalk (graphs (task_of s x)) (fetched_nodes s graphs n x)
-    × (is_open (job_of s n x).standing ≡ true → IsOnWalk s.system.word (plan_at s x) (graphs (task_of s x)) (job_of s n x) (fetched_nodes s graphs n x))
+    HasTaskRanges set → IsCodeOf s.system set graphs → NamesTasks set s.lines → x < length s.lines →
+    is_unbroken (job_after s n x).watch ≡ true →
+    IsNoneOrKeptWalk (graphs (job_task s x)) (fetched_nodes s graphs n x)
+    × (is_open (job_after s n x).standing ≡ true → IsOnWalk s.system.word (plan_at s x) (graphs (job_task s x)) (job_after s n x) (fetched_nodes s graphs n x))

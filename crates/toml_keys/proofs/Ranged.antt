@@ -4,11 +4,11 @@ use Rattle.std.proofs.lemmas.Bool.{cases_Bool, leb-true}
 use Rattle.std.proofs.lemmas.Bool.Decides.{nat_tests}
 use Rattle.std.proofs.lemmas.Option.{same_Some}
 use Rattle.crpd_base.proofs.Results.{bind_ok, ok_is}
-use Rattle.crpd_base.specs.Names.{is_between, is_line}
+use Rattle.crpd_base.specs.Names.{is_between, is_line_length}
 use Rattle.toml.specs.Data.{Data, integer, Members, get_member}
 use Rattle.toml_keys.specs.declared.fault.KeyError.{KeyError}
 use Rattle.toml_keys.specs.Kinds.{only}
-use Rattle.toml_keys.specs.Reading.{required, optional, whole, present, good, at_most}
+use Rattle.toml_keys.specs.Reading.{required, optional, whole, value_at_key, value_or_bad, at_most}
 
 -- n lies between the two
 pub record IsBetween (low high n : ℕ) : Type 0 where
@@ -37,7 +37,7 @@ only_ok test (Some y) x e =
     ]
 
 -- the length of a line
-pub line_between : (n : ℕ) → is_line n ≡ true → IsBetween 4 64 n
+pub line_between : (n : ℕ) → is_line_length n ≡ true → IsBetween 4 64 n
 line_between n e = record { reaches = grind (arith, nat_tests); within = grind (arith, nat_tests) }
 
 -- ---- keys of a TOML table
@@ -46,7 +46,7 @@ pub whole_between : (low high : ℕ) (d : Data) (n : ℕ) → whole low high d �
 whole_between low high (integer (pos m)) n e = let passed = only_ok (is_between low high) (Some m) n e in between_ok low high n passed.0
 whole_between low high d n e = absurd cc
 
-good_ok : {A : Type 0} (path key : List ℕ) (o : Option A) (x : A) → good path key o ≡ Ok x → o ≡ Some x
+good_ok : {A : Type 0} (path key : List ℕ) (o : Option A) (x : A) → value_or_bad path key o ≡ Ok x → o ≡ Some x
 good_ok path key None x e = absurd cc
 good_ok path key (Some y) x e = ap (λ v. Some v) (ok_is y x e)
 
@@ -54,11 +54,11 @@ good_ok path key (Some y) x e = ap (λ v. Some v) (ok_is y x e)
 pub required_ok : {A : Type 0} (read : Data → Option A) (path key : List ℕ) (ms : Members) (x : A) → required read path key ms ≡ Ok x → (d : Data) × (read d ≡ Some x)
 unfolding required
 required_ok read path key ms x e =
-    let d = bind_ok (present path key ms) _ x e in
+    let d = bind_ok (value_at_key path key ms) _ x e in
     (d.0, good_ok path key (read d.0) x d.2)
 
 optional_by : {A : Type 0} (default : A) (read : Data → Option A) (path key : List ℕ) (o : Option Data) (x : A)
-    → ◌≡◌ {A = Result A KeyError} (elim o [ None ↦ Ok default | Some d ↦ good path key (read d) ]) (Ok x) → (default ≡ x) ⊎ ((d : Data) × (read d ≡ Some x))
+    → ◌≡◌ {A = Result A KeyError} (elim o [ None ↦ Ok default | Some d ↦ value_or_bad path key (read d) ]) (Ok x) → (default ≡ x) ⊎ ((d : Data) × (read d ≡ Some x))
 optional_by default read path key None x e = inl (ok_is default x e)
 optional_by default read path key (Some d) x e = inr (d, good_ok path key (read d) x e)
 

@@ -42,7 +42,7 @@ fn is_listed(key: &str, keys: &[&str]) -> bool
 
 /// The lesser of two texts by bytes.
 fn lesser<'a>(least: Option<&'a str>, key: &'a str) -> Option<&'a str>
-    ensures { option_map (λ k. k.now) result ≡ spec.lesser (option_map (λ k. k.now) least.entry) key.now }
+    ensures { option_map (λ k. k.now) result ≡ spec.lesser_key (option_map (λ k. k.now) least.entry) key.now }
 {
     match least {
         Some(other) if key >= other => Some(other),
@@ -83,7 +83,7 @@ impl<'a> Keys<'a> {
 
     /// The value at a key that has to be there, else `Missing`. Memory is taken for the path of a refusal alone.
     pub fn present(&self, alloc: Global, key: &str) -> Result<&'a Value, KeyError>
-        ensures { Gives KeyError.Memory (λ v. view v.now) result (spec.present self.now.path.now key.now (table_view self.now.table.now)) }
+        ensures { Gives KeyError.Memory (λ v. view v.now) result (spec.value_at_key self.now.path.now key.now (table_view self.now.table.now)) }
     {
         match self.get(key) {
             Some(value) => Ok(value),
@@ -93,7 +93,7 @@ impl<'a> Keys<'a> {
 
     /// What was read from the value at a key, else `BadValue`. Memory is taken for the path of a refusal alone.
     pub fn good<T: Drop>(&self, alloc: Global, key: &str, read: Option<T>) -> Result<T, KeyError>
-        ensures { Gives KeyError.Memory (λ x. x) result (spec.good self.now.path.now key.now read) }
+        ensures { Gives KeyError.Memory (λ x. x) result (spec.value_or_bad self.now.path.now key.now read) }
     {
         match read {
             Some(x) => Ok(x),

@@ -1,6 +1,6 @@
 // What texts and numbers mean in sets and certificates alike.
 ghost use Rattle.std.specs.Prelude.{◌≡◌, option_map, string_bytes, IfOk, Some};
-ghost use Rattle.crpd_base.specs.Names.{is_line, is_name};
+ghost use Rattle.crpd_base.specs.Names.{is_line_length, is_name};
 ghost use Rattle.toml_keys.specs.Kinds as spec;
 
 use crpd_base::{Switching, is_name};
@@ -8,7 +8,7 @@ use std::alloc::{AllocError, Global};
 
 /// The length of a cache line in bytes: 4, 8, 16, 32 or 64; None for any other number. In constant time.
 pub fn line_length(number: u64) -> Option<u32>
-    ensures { result ≡ spec.only is_line (Some number) }
+    ensures { result ≡ spec.only is_line_length (Some number) }
 {
     if matches!(number, 4 | 8 | 16 | 32 | 64) {
         Some(number as u32)

@@ -6,7 +6,7 @@ ghost use Rattle.flat_graph.specs.CodeGraph.{graph_of, places_of};
 ghost use Rattle.must_cache.specs.Sure.{CountsSureHits};
 ghost use Rattle.must_cache.specs.States.{AreSure};
 ghost use Rattle.useful_sets.specs.Sets.{AreUseful, sets_at};
-ghost use Rattle.must_cache.specs.Marks.{Marks, either, marks_below};
+ghost use Rattle.must_cache.specs.Marks.{Marks, either_marks, marks_below};
 ghost use Rattle.must_cache.specs.MarkLaws.{either_joins, few_marked};
 ghost use Rattle.useful_sets.specs.Reuse.{before_access};
 ghost use Rattle.useful_sets.specs.ReuseLaws.{before_distributes};
@@ -19,7 +19,7 @@ use must_cache::{MustState, edges, hits_of_states};
 use std::alloc::{AllocError, Global};
 
 /// With a set exactly where `keep` says so, and else as before.
-fn put<const W: usize>(sets: &mut SetBits<W>, set: u16, keep: bool)
+fn put_where<const W: usize>(sets: &mut SetBits<W>, set: u16, keep: bool)
     requires { set < 64 * W }
     ensures { (t : ℕ) → has sets.new t ≡ (if set == t then keep else has sets.old t) }
 {
@@ -49,7 +49,7 @@ impl<const W: usize> Domain for NextHit<'_, W> {
 
     ghost view = { λ sets s. has sets s };
 
-    ghost joined = { either };
+    ghost joined = { either_marks };
 
     ghost passed = { λ d n after. before_access (accesses d.geometry.now.platform (places_of d.graph.now).address) (λ y. slice_index_or d.hits.now y false) n after };
 
@@ -79,7 +79,7 @@ impl<const W: usize> Domain for NextHit<'_, W> {
     fn transfer(&self, node: u32, sets: &mut SetBits<W>) {
         let address = self.graph.address(NodeId(node));
         let set = self.geometry.set(self.geometry.block(address));
-        put(sets, set, self.hits[node as usize]);
+        put_where(sets, set, self.hits[node as usize]);
     }
 
     ghost joins = { either_joins };

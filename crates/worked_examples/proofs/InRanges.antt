@@ -2,7 +2,7 @@
 use Rattle.std.proofs.Common.{◌≡◌, ℕ, ◌≤◌, ◌^◌, true, List, refl, arith}
 use Rattle.crpd_base.specs.Names.{is_name, is_file}
 use Rattle.crpd_base.specs.Ranges.{IsPlatform, IsTaskSpec}
-use Rattle.worked_examples.specs.OneWay.{named_task}
+use Rattle.worked_examples.specs.StraightCode.{named_task}
 use Rattle.worked_examples.specs.TwoWords.{platform}
 
 pub is_platform : (sets : ℕ) → 1 ≤ sets → sets ≤ 512 → IsPlatform (record platform { sets = sets })

@@ -1,8 +1,8 @@
 pub mod Few
 pub mod InRanges
 pub mod ZeroAlone
-pub mod OneWay
-pub mod WayTests
+pub mod StraightCode
+pub mod StraightTests
 pub mod LowFiles
 pub mod TwoWords
 pub mod OneLoop

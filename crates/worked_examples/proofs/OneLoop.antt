@@ -5,7 +5,7 @@ use Rattle.std.proofs.lemmas.Bool.{cases_Bool, eqb-true, false≢true, true≢fa
 use Rattle.std.proofs.lemmas.Option.{same_Some}
 use Rattle.crpd_base.specs.declared.data.LoopAt.{LoopAt}
 use Rattle.rv_decode.specs.Flow.{flow, flows}
-use Rattle.rv_decode.specs.Table.{row, table}
+use Rattle.rv_decode.specs.Table.{ins_of_word, table}
 use Rattle.rv_decode.specs.Cost.{work_cost}
 use Rattle.icache.specs.Accesses.{Accesses}
 use Rattle.script_reader.specs.Legal.{period_of}
@@ -14,25 +14,25 @@ use Rattle.flat_graph.specs.Graph.{Edge, IsWalk, IsGraph, Continues}
 use Rattle.flat_graph.specs.Numbered.{FollowsCode}
 use Rattle.flat_graph.specs.EdgeCost.{edge_cost, end_cost}
 use Rattle.loop_regions.specs.Nest.{IsBackEdge, Leaves, Item, Node, Loop, IsItem}
-use Rattle.loop_regions.specs.Stated.{IsRegionOf, IsRegions, IsSecondEntry, IsAccepted, IsForward, IsForwardWay, region_holds}
+use Rattle.loop_regions.specs.Stated.{IsRegionOf, IsRegions, IsSecondEntry, HasNoLoopRefusals, IsForward, IsForwardPath, region_holds}
 use Rattle.loop_regions.specs.Potentials.{item_potential}
 use Rattle.evict_sets.specs.Full.{Listed, FullState, listed, accessed, passed, FullUseful, listed_useful, used, used_later}
-use Rattle.evict_sets.specs.Clauses.{ListsLeaders, StatesMeet, UsefulMeets, SetsMeet}
-use Rattle.evict_sets.specs.Certificate.{block_in, listed_of}
-use Rattle.cert_check.specs.Certificate.{potentials_of}
+use Rattle.evict_sets.specs.CacheClauses.{ListsLeaders, StatesMeet, UsefulMeets, SetsMeet}
+use Rattle.evict_sets.specs.ListedPart.{block_of_set, listed_of}
+use Rattle.cert_check.specs.ListedPotentials.{potentials_of}
 use Rattle.crpd_base.specs.Sets.{has as has_set}
-use Rattle.cert_check.specs.Clauses.{CountsHits, costs, PotentialsMeet, BoundMeets}
-use Rattle.cert_check.specs.Judge.{IsGraphOf, accesses_of}
+use Rattle.cert_check.specs.PotentialClauses.{CountsHits, edge_costs, PotentialsMeet, BoundMeets}
+use Rattle.cert_check.specs.JudgeInput.{IsGraphOf, accesses_of}
 use Rattle.cert_check.specs.declared.outcome.Clause.{Clause}
-use Rattle.cert_check.specs.Verdict.{GraphHolds, Holds, IsYes}
+use Rattle.cert_check.specs.Verdict.{GraphHolds, ClauseHolds, IsYes}
 use Rattle.cert_check.proofs.Clauses.{GraphMeets, clauses_of, all_hold}
-use Rattle.loop_regions.specs.TaskGraph.{listing_of, answering}
+use Rattle.loop_regions.specs.TaskGraph.{node_code_of, answering}
 use Rattle.crpd_base.specs.Tasks.{deadline_of}
 use Rattle.preempt_machine.specs.Machine.{plan_of}
-use Rattle.sound_laws.specs.Walks.{IsInRange, IsCodeOf}
+use Rattle.sound_laws.specs.Walks.{HasTaskRanges, IsCodeOf}
 use Rattle.worked_examples.specs.TwoWords.{platform, zero_alone}
 use Rattle.worked_examples.proofs.Few.{one, three, four}
-use Rattle.worked_examples.proofs.OneWay.{code_map}
+use Rattle.worked_examples.proofs.StraightCode.{code_map}
 use Rattle.worked_examples.proofs.ZeroAlone.{has_says, no_member}
 use Rattle.worked_examples.specs.OneLoop.{words, loop, system, set, address_of, ins_of, graph, task_certificate, certificate, OneLoop}
 use Rattle.sound_laws.specs.Headline.{YesIsSafe}
@@ -83,19 +83,19 @@ abbrev node : ℕ → FlatNode
 node a = record { context = []; address = a }
 
 next_0 : successors (flows words) 0x1000 (node 0x1000) ≡ node 0x1004 ∷ []
-unfolding flow row table
+unfolding flow ins_of_word table
 next_0 = refl
 
 next_1 : successors (flows words) 0x1000 (node 0x1004) ≡ node 0x1008 ∷ []
-unfolding flow row table
+unfolding flow ins_of_word table
 next_1 = refl
 
 next_2 : successors (flows words) 0x1000 (node 0x1008) ≡ node 0x100C ∷ node 0x1004 ∷ []
-unfolding flow row table
+unfolding flow ins_of_word table
 next_2 = refl
 
 next_3 : successors (flows words) 0x1000 (node 0x100C) ≡ []
-unfolding flow row table
+unfolding flow ins_of_word table
 next_3 = refl
 
 goes : (n m k : FlatNode) (ms : List FlatNode) → successors (flows words) 0x1000 n ≡ ms → Contains ms m → Contains (successors (flows words) 0x1000 n) m
@@ -125,7 +125,7 @@ each_node P a b c d m (a_successor n m' is w) =
     n is w
 
 no_errors : HasNoErrors (flows words) 0x1000
-unfolding flow row table
+unfolding flow ins_of_word table
 no_errors m is = each_node (λ z. error_of (flows words) 0x1000 z ≡ None) refl refl refl refl m is
 
 one_number : (u v : ℕ) → u < 4 → v < 4 → address_of u ≡ address_of v → u ≡ v
@@ -159,14 +159,14 @@ follows =
       numbers = λ u m l c. numbers m u l c;
     }
 
-instructions : (u w : ℕ) → u < 4 → words (address_of u) ≡ Some w → row w ≡ Some (ins_of u)
-unfolding row table
+instructions : (u w : ℕ) → u < 4 → words (address_of u) ≡ Some w → ins_of_word w ≡ Some (ins_of u)
+unfolding ins_of_word table
 instructions u w l =
-    four (λ x. words (address_of x) ≡ Some w → row w ≡ Some (ins_of x))
-    (λ e. subst (λ z. row z ≡ Some (ins_of 0)) (same_Some 0x00300293 w e) refl)
-    (λ e. subst (λ z. row z ≡ Some (ins_of 1)) (same_Some 0xFFF28293 w e) refl)
-    (λ e. subst (λ z. row z ≡ Some (ins_of 2)) (same_Some 0xFE029EE3 w e) refl)
-    (λ e. subst (λ z. row z ≡ Some (ins_of 3)) (same_Some 0x00000073 w e) refl)
+    four (λ x. words (address_of x) ≡ Some w → ins_of_word w ≡ Some (ins_of x))
+    (λ e. subst (λ z. ins_of_word z ≡ Some (ins_of 0)) (same_Some 0x00300293 w e) refl)
+    (λ e. subst (λ z. ins_of_word z ≡ Some (ins_of 1)) (same_Some 0xFFF28293 w e) refl)
+    (λ e. subst (λ z. ins_of_word z ≡ Some (ins_of 2)) (same_Some 0xFE029EE3 w e) refl)
+    (λ e. subst (λ z. ins_of_word z ≡ Some (ins_of 3)) (same_Some 0x00000073 w e) refl)
     u l
 
 region : IsRegionOf graph.graph graph.places graph.nest 0 loop
@@ -198,7 +198,7 @@ forward_up : (u v : ℕ) → IsForward graph.graph graph.nest u v → u < v
 forward_up u v f =
     edges_all (λ a b. (IsBackEdge graph.nest a b → ⊥) → a < b) (λ n. omega arith) (λ n. omega arith) (λ n. omega arith) (λ n. absurd (n back_edge)) u v f.0 f.1
 
-way_up : (y : ℕ) (between : List ℕ) (z : ℕ) → IsForwardWay graph.graph graph.nest y between z → y < z
+way_up : (y : ℕ) (between : List ℕ) (z : ℕ) → IsForwardPath graph.graph graph.nest y between z → y < z
 way_up y [] z w = forward_up y z w
 way_up y (x ∷ before) z w = let a = way_up y before x w.0 in let b = forward_up x z w.1 in omega (arith, a, b)
 
@@ -208,7 +208,7 @@ second_entry v (r, l, h, ne, inr (u, e, out)) =
     edges_all (λ a b. IsTrue (graph.nest.holds 0 b) → b ≢ 1 → IsFalse (graph.nest.holds 0 a) → ⊥)
     (λ p q o. q refl) (λ p q o. true≢false o) (λ p q o. true≢false o) (λ p q o. q refl) u v e h ne out
 
-accepted : IsAccepted graph.graph graph.nest
+accepted : HasNoLoopRefusals graph.graph graph.nest
 accepted =
     record {
       one_entry = second_entry;
@@ -224,7 +224,7 @@ is_code =
       graphs_of = one (λ k. IsGraphOf words (plan_of system k) graph) (record { follows = follows; no_errors = no_errors; instructions = instructions; regions = regions; accepted = accepted });
     }
 
-in_range : IsInRange set
+in_range : HasTaskRanges set
 in_range =
     record {
       hit = omega arith;
@@ -265,7 +265,7 @@ leaders y l =
 abbrev Says : ℕ → ℕ → ℕ → Type 0
 Says y s m = (s ≡ 0) × (m ≡ 256) × (1 ≤ y)
 
-sure_says : (s m : ℕ) → block_in ((0, 256) ∷ []) s ≡ Some m → (s ≡ 0) × (m ≡ 256)
+sure_says : (s m : ℕ) → block_of_set ((0, 256) ∷ []) s ≡ Some m → (s ≡ 0) × (m ≡ 256)
 sure_says s m e =
     elim (cases_Bool (0 == s)) [
       | inl b ↦ (sym (eqb-true 0 s b), sym (same_Some 256 m (rw b at e)))
@@ -333,7 +333,7 @@ hits y l = (
 )
 
 abbrev cost_of : ℕ → ℕ → ℕ
-cost_of = edge_cost platform (listing_of graph) (λ y. nat_lt 0 y)
+cost_of = edge_cost platform (node_code_of graph) (λ y. nat_lt 0 y)
 
 abbrev pots : ℕ → ℕ
 pots = (potentials_of task_certificate).node
@@ -342,9 +342,9 @@ edge_pays : (u v : ℕ) → Edge graph.graph u v → cost_of u v ≤ pots u
 unfolding work_cost
 edge_pays u v e = edges_all (λ a b. cost_of a b ≤ pots a) (omega arith) (omega arith) (omega arith) (omega arith) u v e
 
-end_pays : (u : ℕ) → u < 4 → IsTrue (answering graph u) → end_cost platform (listing_of graph) (λ y. nat_lt 0 y) u ≤ pots u
+end_pays : (u : ℕ) → u < 4 → IsTrue (answering graph u) → end_cost platform (node_code_of graph) (λ y. nat_lt 0 y) u ≤ pots u
 unfolding work_cost flow
-end_pays u l = four (λ z. IsTrue (answering graph z) → end_cost platform (listing_of graph) (λ y. nat_lt 0 y) z ≤ pots z) (λ b. absurd (false≢true b)) (λ b. absurd (false≢true b)) (λ b. absurd (false≢true b)) (λ b. omega arith) u l
+end_pays u l = four (λ z. IsTrue (answering graph z) → end_cost platform (node_code_of graph) (λ y. nat_lt 0 y) z ≤ pots z) (λ b. absurd (false≢true b)) (λ b. absurd (false≢true b)) (λ b. absurd (false≢true b)) (λ b. omega arith) u l
 
 inside_pays : (i : Item) (u v : ℕ) → Edge graph.graph u v → (IsBackEdge graph.nest u v → ⊥) → ((r : ℕ) → Leaves graph.nest u v r → ⊥) → IsItem graph.nest v i → cost_of u v + item_potential (potentials_of task_certificate) i ≤ pots u
 unfolding work_cost
@@ -373,7 +373,7 @@ exit_pays (Loop k) r u v e =
     (λ n lv it. absurd (let q = it.1 in omega (arith, q)))
     (λ n lv it. absurd (n back_edge)) u v e
 
-meets : (u : ℕ) → u < 4 → PotentialsMeet graph.graph graph.nest (costs platform (listing_of graph) (answering graph) (λ y. nat_lt 0 y)) (potentials_of task_certificate) u
+meets : (u : ℕ) → u < 4 → PotentialsMeet graph.graph graph.nest (edge_costs platform (node_code_of graph) (answering graph) (λ y. nat_lt 0 y)) (potentials_of task_certificate) u
 meets u l =
     record {
       edges = record {
@@ -405,7 +405,7 @@ part_holds = clauses_of platform graph task_certificate (λ k d l. three (λ i. 
 
 is_yes : IsYes set (λ k. graph) certificate
 is_yes i k l =
-    one (λ j. (clause : Clause) → Holds set (λ k. graph) certificate j clause)
+    one (λ j. (clause : Clause) → ClauseHolds set (λ k. graph) certificate j clause)
     (all_hold set (λ k. graph) certificate 0 (omega arith) refl refl refl
     part_holds
     (omega arith) (omega arith) refl (omega arith))

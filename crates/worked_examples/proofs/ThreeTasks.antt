@@ -8,39 +8,39 @@ use Rattle.code_map.specs.Words.{word_at}
 use Rattle.script_reader.specs.Legal.{AreSpaced, IsReleasedInTime}
 use Rattle.rv_decode.specs.declared.Ins.TheVariants.{Jal, Ecall}
 use Rattle.rv_decode.specs.Flow.{flow, IsCodeMap}
-use Rattle.rv_decode.specs.Table.{row, table}
+use Rattle.rv_decode.specs.Table.{ins_of_word, table}
 use Rattle.rv_decode.specs.Cost.{work_cost}
-use Rattle.rv_core.specs.Effect.{next_pc, written, stored}
-use Rattle.flow_watch.specs.Watch.{step as watch_step, is_kept}
-use Rattle.cert_check.specs.Judge.{IsGraphOf, part_of, longest_at, window_at}
+use Rattle.rv_core.specs.Effect.{next_pc, written, memory_after}
+use Rattle.flow_watch.specs.Watch.{step as watch_step, is_unbroken}
+use Rattle.cert_check.specs.JudgeInput.{IsGraphOf, certified_part, longest_at, window_at}
 use Rattle.cert_check.specs.declared.outcome.Clause.{Clause}
-use Rattle.cert_check.specs.Verdict.{Holds, IsYes}
+use Rattle.cert_check.specs.Verdict.{ClauseHolds, IsYes}
 use Rattle.cert_check.proofs.Clauses.{all_hold}
 use Rattle.delay_count.specs.Demand.{demand}
 use Rattle.delay_count.specs.Gamma.{union_count}
 use Rattle.preempt_machine.specs.declared.End.TheVariants.{Answered}
 use Rattle.preempt_machine.specs.Machine.{plan_of, ins_at, no_job}
-use Rattle.preempt_machine.specs.Step.{state, candidate, turned, is_ready, comes_before}
+use Rattle.preempt_machine.specs.Step.{state, candidate, turn_after_step, is_ready, comes_before}
 use Rattle.preempt_machine.specs.Safe.{IsSafe, IsLegalRun, IsKept, completions}
 use Rattle.worked_examples.specs.Least.{AreLeast}
-use Rattle.worked_examples.specs.OneWay.{first_alone}
+use Rattle.worked_examples.specs.StraightCode.{first_alone}
 use Rattle.worked_examples.specs.ThreeTasks.{platform, code, high_name, middle_name, low_name, system, set, lines, there_again, graphs, one_to_four, one_and_two, three_and_four, nothing, certificate, start, ThreeTasks}
 use Rattle.sound_laws.specs.Headline.{CheckedCodeIsSafe}
 use Rattle.worked_examples.proofs.Few.{three, four, three_pairs}
 use Rattle.worked_examples.proofs.InRanges.{is_platform, is_task}
 use Rattle.worked_examples.proofs.LowFiles.{low_code}
-use Rattle.worked_examples.proofs.WayTests.{Way, IsWay, IsAt, IsCode, is_graph_of, IsCertified, part_holds, named_holds}
+use Rattle.worked_examples.proofs.StraightTests.{Way, IsWay, IsAt, IsCode, is_graph_of, IsCertified, part_holds, named_holds}
 
-demand_middle : demand set (part_of certificate) (longest_at platform graphs) (window_at certificate) 1 Ucb 115 ≡ 115
+demand_middle : demand set (certified_part certificate) (longest_at platform graphs) (window_at certificate) 1 Ucb 115 ≡ 115
 unfolding union_count
 demand_middle = refl
 
-demand_low : demand set (part_of certificate) (longest_at platform graphs) (window_at certificate) 2 Ucb 175 ≡ 175
+demand_low : demand set (certified_part certificate) (longest_at platform graphs) (window_at certificate) 2 Ucb 175 ≡ 175
 unfolding union_count
 demand_low = refl
 
 answers : completions (state start 180) ≡ Answered 175 ∷ Answered 146 ∷ Answered 117 ∷ []
-unfolding word_at row table work_cost next_pc written stored watch_step flow ins_at candidate turned is_ready comes_before
+unfolding word_at ins_of_word table work_cost next_pc written memory_after watch_step flow ins_at candidate turn_after_step is_ready comes_before
 answers = refl
 
 -- the highest task goes through its nodes in their order, each other one from the first to the third, and back to the second
@@ -69,7 +69,7 @@ pub lower_way : (entry : ℕ) → IsWay (lower entry)
 lower_way entry = record { some = omega arith; start = refl; walks = refl; steps = refl }
 
 code_high : IsCode (word_at code.images) 0x3010 high
-unfolding word_at flow row table
+unfolding word_at flow ins_of_word table
 code_high =
     record {
       entry_at = refl;
@@ -78,7 +78,7 @@ code_high =
     }
 
 code_middle : IsCode (word_at code.images) 0x2010 (lower 0x2010)
-unfolding word_at flow row table
+unfolding word_at flow ins_of_word table
 code_middle =
     record {
       entry_at = refl;
@@ -87,7 +87,7 @@ code_middle =
     }
 
 code_low : IsCode (word_at code.images) 0x1030 (lower 0x1030)
-unfolding word_at flow row table
+unfolding word_at flow ins_of_word table
 code_low =
     record {
       entry_at = refl;
@@ -127,7 +127,7 @@ low_certified = record { evicts = refl; reuses = refl; pays = refl; ends = refl;
 
 is_yes : IsYes set graphs certificate
 is_yes i k l =
-    three (λ j. (clause : Clause) → Holds set graphs certificate j clause)
+    three (λ j. (clause : Clause) → ClauseHolds set graphs certificate j clause)
     (all_hold set graphs certificate 0 (omega arith) refl refl refl
     (named_holds platform (lines 0x3010) (first_alone 50 one_to_four nothing (50 ∷ 37 ∷ 24 ∷ 11 ∷ []) 55) high_name (part_holds platform high 50 one_to_four nothing (50 ∷ 37 ∷ 24 ∷ 11 ∷ []) 55 high_way high_certified))
     (omega arith) (omega arith) refl (omega arith))
@@ -152,24 +152,24 @@ is_legal =
     }
 
 kept : IsKept (state start 180)
-unfolding word_at row table work_cost next_pc written stored watch_step flow ins_at candidate turned is_ready comes_before
-kept i d l = three (λ k. is_kept (slice_index_or (state start 180).jobs k d).watch ≡ true) refl refl refl i l
+unfolding word_at ins_of_word table work_cost next_pc written memory_after watch_step flow ins_at candidate turn_after_step is_ready comes_before
+kept i d l = three (λ k. is_unbroken (slice_index_or (state start 180).jobs k d).watch ≡ true) refl refl refl i l
 
 -- one step before they answer, the jobs are open in a kept state
 kept_at_116 : IsKept (state start 116)
-unfolding word_at row table work_cost next_pc written stored watch_step flow ins_at candidate turned is_ready comes_before
-kept_at_116 i d l = three (λ k. is_kept (slice_index_or (state start 116).jobs k d).watch ≡ true) refl refl refl i l
+unfolding word_at ins_of_word table work_cost next_pc written memory_after watch_step flow ins_at candidate turn_after_step is_ready comes_before
+kept_at_116 i d l = three (λ k. is_unbroken (slice_index_or (state start 116).jobs k d).watch ≡ true) refl refl refl i l
 
 kept_at_145 : IsKept (state start 145)
-unfolding word_at row table work_cost next_pc written stored watch_step flow ins_at candidate turned is_ready comes_before
-kept_at_145 i d l = three (λ k. is_kept (slice_index_or (state start 145).jobs k d).watch ≡ true) refl refl refl i l
+unfolding word_at ins_of_word table work_cost next_pc written memory_after watch_step flow ins_at candidate turn_after_step is_ready comes_before
+kept_at_145 i d l = three (λ k. is_unbroken (slice_index_or (state start 145).jobs k d).watch ≡ true) refl refl refl i l
 
 kept_at_174 : IsKept (state start 174)
-unfolding word_at row table work_cost next_pc written stored watch_step flow ins_at candidate turned is_ready comes_before
-kept_at_174 i d l = three (λ k. is_kept (slice_index_or (state start 174).jobs k d).watch ≡ true) refl refl refl i l
+unfolding word_at ins_of_word table work_cost next_pc written memory_after watch_step flow ins_at candidate turn_after_step is_ready comes_before
+kept_at_174 i d l = three (λ k. is_unbroken (slice_index_or (state start 174).jobs k d).watch ≡ true) refl refl refl i l
 
 high_least : (others : List ℕ) → IsSafe system set others → 55 ≤ slice_index others 0
-unfolding word_at row table work_cost next_pc written stored watch_step flow ins_at candidate turned is_ready comes_before
+unfolding word_at ins_of_word table work_cost next_pc written memory_after watch_step flow ins_at candidate turn_after_step is_ready comes_before
 high_least others safe =
     elim (cases_lt (slice_index others 0) 55) [
       | inl l ↦ absurd (safe start 116 refl is_legal kept_at_116 2 no_job (omega arith) (omega (arith, l), λ q. q))
@@ -177,7 +177,7 @@ high_least others safe =
     ]
 
 middle_least : (others : List ℕ) → IsSafe system set others → 115 ≤ slice_index others 1
-unfolding word_at row table work_cost next_pc written stored watch_step flow ins_at candidate turned is_ready comes_before
+unfolding word_at ins_of_word table work_cost next_pc written memory_after watch_step flow ins_at candidate turn_after_step is_ready comes_before
 middle_least others safe =
     elim (cases_lt (slice_index others 1) 115) [
       | inl l ↦ absurd (safe start 145 refl is_legal kept_at_145 1 no_job (omega arith) (omega (arith, l), λ q. q))
@@ -185,7 +185,7 @@ middle_least others safe =
     ]
 
 low_least : (others : List ℕ) → IsSafe system set others → 175 ≤ slice_index others 2
-unfolding word_at row table work_cost next_pc written stored watch_step flow ins_at candidate turned is_ready comes_before
+unfolding word_at ins_of_word table work_cost next_pc written memory_after watch_step flow ins_at candidate turn_after_step is_ready comes_before
 low_least others safe =
     elim (cases_lt (slice_index others 2) 175) [
       | inl l ↦ absurd (safe start 174 refl is_legal kept_at_174 0 no_job (omega arith) (omega (arith, l), λ q. q))

@@ -7,41 +7,41 @@ use Rattle.crpd_base.specs.Ranges.{IsTaskSpec, HaveOwnNames, IsTaskSet}
 use Rattle.code_map.specs.Words.{word_at}
 use Rattle.script_reader.specs.Legal.{AreSpaced, IsReleasedInTime}
 use Rattle.rv_decode.specs.Flow.{flow, IsCodeMap}
-use Rattle.rv_decode.specs.Table.{row, table}
+use Rattle.rv_decode.specs.Table.{ins_of_word, table}
 use Rattle.rv_decode.specs.Cost.{work_cost}
-use Rattle.rv_core.specs.Effect.{next_pc, written, stored}
-use Rattle.flow_watch.specs.Watch.{step as watch_step, is_kept}
-use Rattle.cert_check.specs.Judge.{IsGraphOf, part_of, longest_at, window_at}
+use Rattle.rv_core.specs.Effect.{next_pc, written, memory_after}
+use Rattle.flow_watch.specs.Watch.{step as watch_step, is_unbroken}
+use Rattle.cert_check.specs.JudgeInput.{IsGraphOf, certified_part, longest_at, window_at}
 use Rattle.cert_check.specs.declared.outcome.Clause.{Clause}
-use Rattle.cert_check.specs.Verdict.{Holds, IsYes}
+use Rattle.cert_check.specs.Verdict.{ClauseHolds, IsYes}
 use Rattle.cert_check.proofs.Clauses.{all_hold}
 use Rattle.delay_count.specs.Demand.{demand}
 use Rattle.delay_count.specs.Gamma.{union_count}
 use Rattle.preempt_machine.specs.declared.End.TheVariants.{Answered}
 use Rattle.preempt_machine.specs.Machine.{plan_of, ins_at, no_job}
-use Rattle.preempt_machine.specs.Step.{state, candidate, turned, is_ready, comes_before}
+use Rattle.preempt_machine.specs.Step.{state, candidate, turn_after_step, is_ready, comes_before}
 use Rattle.preempt_machine.specs.Safe.{IsSafe, IsLegalRun, IsKept, completions}
 use Rattle.worked_examples.specs.TwoWords.{platform, graph_from, zero_alone}
 use Rattle.worked_examples.specs.Least.{AreLeast}
-use Rattle.worked_examples.specs.OneWay.{first_alone}
+use Rattle.worked_examples.specs.StraightCode.{first_alone}
 use Rattle.worked_examples.specs.TwoTasks.{code, high_name, low_name, system, set, graphs, certificate, start, TwoTasks}
 use Rattle.sound_laws.specs.Headline.{CheckedCodeIsSafe}
 use Rattle.worked_examples.proofs.Few.{two, one_pair}
 use Rattle.worked_examples.proofs.InRanges.{is_platform, is_task}
 use Rattle.worked_examples.proofs.TwoWords.{way, is_way, certified}
 use Rattle.worked_examples.proofs.LowFiles.{low_code}
-use Rattle.worked_examples.proofs.WayTests.{IsAt, IsCode, is_graph_of, IsCertified, part_holds, named_holds}
+use Rattle.worked_examples.proofs.StraightTests.{IsAt, IsCode, is_graph_of, IsCertified, part_holds, named_holds}
 
-demand_low : demand set (part_of certificate) (longest_at platform graphs) (window_at certificate) 1 Ucb 49 ≡ 49
+demand_low : demand set (certified_part certificate) (longest_at platform graphs) (window_at certificate) 1 Ucb 49 ≡ 49
 unfolding union_count
 demand_low = refl
 
 answers : completions (state start 100) ≡ Answered 49 ∷ Answered 33 ∷ []
-unfolding word_at row table work_cost next_pc written stored watch_step flow ins_at candidate turned is_ready comes_before
+unfolding word_at ins_of_word table work_cost next_pc written memory_after watch_step flow ins_at candidate turn_after_step is_ready comes_before
 answers = refl
 
 code_high : IsCode (word_at code.images) 0x2000 (way 0x2000)
-unfolding word_at flow row table
+unfolding word_at flow ins_of_word table
 code_high =
     record {
       entry_at = refl;
@@ -50,7 +50,7 @@ code_high =
     }
 
 code_low : IsCode (word_at code.images) 0x1000 (way 0x1000)
-unfolding word_at flow row table
+unfolding word_at flow ins_of_word table
 code_low =
     record {
       entry_at = refl;
@@ -78,7 +78,7 @@ high_certified = record { evicts = refl; reuses = refl; pays = refl; ends = refl
 
 is_yes : IsYes set graphs certificate
 is_yes i k l =
-    two (λ j. (clause : Clause) → Holds set graphs certificate j clause)
+    two (λ j. (clause : Clause) → ClauseHolds set graphs certificate j clause)
     (all_hold set graphs certificate 0 (omega arith) refl refl refl
     (named_holds platform (graph_from 0x2000) (first_alone 12 zero_alone zero_alone (12 ∷ 1 ∷ []) 17) high_name (part_holds platform (way 0x2000) 12 zero_alone zero_alone (12 ∷ 1 ∷ []) 17 (is_way 0x2000) high_certified))
     (omega arith) (omega arith) refl (omega arith))
@@ -100,20 +100,20 @@ is_legal =
     }
 
 kept : IsKept (state start 100)
-unfolding word_at row table work_cost next_pc written stored watch_step flow ins_at candidate turned is_ready comes_before
-kept i d l = two (λ k. is_kept (slice_index_or (state start 100).jobs k d).watch ≡ true) refl refl i l
+unfolding word_at ins_of_word table work_cost next_pc written memory_after watch_step flow ins_at candidate turn_after_step is_ready comes_before
+kept i d l = two (λ k. is_unbroken (slice_index_or (state start 100).jobs k d).watch ≡ true) refl refl i l
 
 -- one step before they answer, the jobs are open in a kept state
 kept_at_32 : IsKept (state start 32)
-unfolding word_at row table work_cost next_pc written stored watch_step flow ins_at candidate turned is_ready comes_before
-kept_at_32 i d l = two (λ k. is_kept (slice_index_or (state start 32).jobs k d).watch ≡ true) refl refl i l
+unfolding word_at ins_of_word table work_cost next_pc written memory_after watch_step flow ins_at candidate turn_after_step is_ready comes_before
+kept_at_32 i d l = two (λ k. is_unbroken (slice_index_or (state start 32).jobs k d).watch ≡ true) refl refl i l
 
 kept_at_48 : IsKept (state start 48)
-unfolding word_at row table work_cost next_pc written stored watch_step flow ins_at candidate turned is_ready comes_before
-kept_at_48 i d l = two (λ k. is_kept (slice_index_or (state start 48).jobs k d).watch ≡ true) refl refl i l
+unfolding word_at ins_of_word table work_cost next_pc written memory_after watch_step flow ins_at candidate turn_after_step is_ready comes_before
+kept_at_48 i d l = two (λ k. is_unbroken (slice_index_or (state start 48).jobs k d).watch ≡ true) refl refl i l
 
 high_least : (others : List ℕ) → IsSafe system set others → 17 ≤ slice_index others 0
-unfolding word_at row table work_cost next_pc written stored watch_step flow ins_at candidate turned is_ready comes_before
+unfolding word_at ins_of_word table work_cost next_pc written memory_after watch_step flow ins_at candidate turn_after_step is_ready comes_before
 high_least others safe =
     elim (cases_lt (slice_index others 0) 17) [
       | inl l ↦ absurd (safe start 32 refl is_legal kept_at_32 1 no_job (omega arith) (omega (arith, l), λ q. q))
@@ -121,7 +121,7 @@ high_least others safe =
     ]
 
 low_least : (others : List ℕ) → IsSafe system set others → 49 ≤ slice_index others 1
-unfolding word_at row table work_cost next_pc written stored watch_step flow ins_at candidate turned is_ready comes_before
+unfolding word_at ins_of_word table work_cost next_pc written memory_after watch_step flow ins_at candidate turn_after_step is_ready comes_before
 low_least others safe =
     elim (cases_lt (slice_index others 1) 49) [
       | inl l ↦ absurd (safe start 48 refl is_legal kept_at_48 0 no_job (omega arith) (omega (arith, l), λ q. q))

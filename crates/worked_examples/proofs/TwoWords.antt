@@ -2,21 +2,21 @@
 use Rattle.std.proofs.Common.{ℕ, ◌+◌, ◌≤◌, pos, [], ◌∷◌, Some, None, refl, arith}
 use Rattle.rv_decode.specs.declared.Ins.TheVariants.{Addi, Ecall}
 use Rattle.rv_decode.specs.Flow.{flow}
-use Rattle.rv_decode.specs.Table.{row, table}
+use Rattle.rv_decode.specs.Table.{ins_of_word, table}
 use Rattle.rv_decode.specs.Cost.{work_cost}
 use Rattle.script_reader.specs.Legal.{period_of}
 use Rattle.crpd_base.specs.Tasks.{deadline_of}
-use Rattle.cert_check.specs.Judge.{IsGraphOf}
+use Rattle.cert_check.specs.JudgeInput.{IsGraphOf}
 use Rattle.cert_check.specs.declared.outcome.Clause.{Clause}
-use Rattle.cert_check.specs.Verdict.{Holds, IsYes}
+use Rattle.cert_check.specs.Verdict.{ClauseHolds, IsYes}
 use Rattle.cert_check.proofs.Clauses.{all_hold}
 use Rattle.preempt_machine.specs.Machine.{plan_of}
 use Rattle.sound_laws.specs.Headline.{YesIsSafe}
-use Rattle.sound_laws.specs.Walks.{IsInRange, IsCodeOf}
+use Rattle.sound_laws.specs.Walks.{HasTaskRanges, IsCodeOf}
 use Rattle.worked_examples.specs.TwoWords.{platform, words, system, set, graph, zero_alone, certificate, TwoWords}
 use Rattle.worked_examples.proofs.Few.{one, two}
-use Rattle.worked_examples.proofs.OneWay.{code_map}
-use Rattle.worked_examples.proofs.WayTests.{Way, IsWay, IsAt, IsCode, is_graph_of, IsCertified, part_holds}
+use Rattle.worked_examples.proofs.StraightCode.{code_map}
+use Rattle.worked_examples.proofs.StraightTests.{Way, IsWay, IsAt, IsCode, is_graph_of, IsCertified, part_holds}
 
 -- from node 0 to node 1
 abbrev pub way : ℕ → Way
@@ -37,7 +37,7 @@ unfolding work_cost flow
 certified = record { evicts = refl; reuses = refl; pays = refl; ends = refl; first = omega arith; count = refl }
 
 code : IsCode words 0x1000 (way 0x1000)
-unfolding flow row table
+unfolding flow ins_of_word table
 code =
     record {
       entry_at = refl;
@@ -53,7 +53,7 @@ is_code =
       graphs_of = one (λ k. IsGraphOf words (plan_of system k) graph) (is_graph_of words 0x1000 (way 0x1000) (is_way 0x1000) code);
     }
 
-in_range : IsInRange set
+in_range : HasTaskRanges set
 in_range =
     record {
       hit = omega arith;
@@ -65,7 +65,7 @@ in_range =
 
 is_yes : IsYes set (λ k. graph) certificate
 is_yes i k l =
-    one (λ j. (clause : Clause) → Holds set (λ k. graph) certificate j clause)
+    one (λ j. (clause : Clause) → ClauseHolds set (λ k. graph) certificate j clause)
     (all_hold set (λ k. graph) certificate 0 (omega arith) refl refl refl
     (part_holds platform (way 0x1000) 12 zero_alone zero_alone (12 ∷ 1 ∷ []) 17 (is_way 0x1000) certified)
     (omega arith) (omega arith) refl (omega arith))

@@ -10,14 +10,14 @@ use Rattle.must_cache.specs.Sure.{Sure, IsSureHit}
 use Rattle.useful_sets.specs.Useful.{Useful, IsUcb, IsEcb}
 use Rattle.useful_sets.proofs.UsefulLaws.{ucb_law}
 use Rattle.evict_sets.specs.Full.{Listed, FullState, IsHit, FullUseful, listed_useful, used, used_later}
-use Rattle.evict_sets.specs.Certificate.{block_in, listed_of}
+use Rattle.evict_sets.specs.ListedPart.{block_of_set, listed_of}
 use Rattle.evict_sets.proofs.WalkLaws.{first_here, first_on, carry_law}
-use Rattle.worked_examples.specs.OneWay.{first_alone}
+use Rattle.worked_examples.specs.StraightCode.{first_alone}
 use Rattle.worked_examples.specs.TwoWords as two_words
 use Rattle.worked_examples.specs.ThreeTasks as three
 use Rattle.worked_examples.specs.WorkedSets.{IsRow, HasSets, call_addresses, call_instructions, call_successors, zero_and_one, WorkedSets}
-use Rattle.worked_examples.proofs.OneWay as law
-use Rattle.worked_examples.proofs.WayTests.{Way, size, next, address, before, graph, each, each_says, same, same_says, at_next, at_next_says, is_next, is_next_says, IsWay, line}
+use Rattle.worked_examples.proofs.StraightCode as law
+use Rattle.worked_examples.proofs.StraightTests.{Way, size, next, address, before, graph, each, each_says, same, same_says, at_next, at_next_says, is_next, is_next_says, IsWay, line}
 use Rattle.worked_examples.proofs.ThreeTasks.{high, lower, high_way, lower_way}
 
 -- tests on lists and options
@@ -99,7 +99,7 @@ not_in k (x ∷ xs) s t le =
     let other : x ≢ s = λ e. absurd (omega (arith, l, e, le)) in
     rw (ne_eqb x s other) (not_in k xs s p.1 le)
 
-no_block : (k : ℕ) (pairs : List (ℕ × ℕ)) (s : ℕ) → IsTrue (have_below k pairs) → k ≤ s → block_in pairs s ≡ None
+no_block : (k : ℕ) (pairs : List (ℕ × ℕ)) (s : ℕ) → IsTrue (have_below k pairs) → k ≤ s → block_of_set pairs s ≡ None
 no_block k [] s t le = refl
 no_block k (x ∷ xs) s t le =
     let p = and_parts (nat_lt x.0 k) (have_below k xs) t in
@@ -250,14 +250,14 @@ module _ (w : Way) (way : IsWay w) (rest : ℕ → List ℕ) (R : HasRests w res
       pub node : y < size w
       pub some_blocks : IsTrue (have_below p.sets blocks)
       pub some_sets : IsTrue (are_below p.sets useful)
-      pub states : IsTrue (each p.sets (λ s. same_option (last_access a s (before w y)) (block_in blocks s)))
+      pub states : IsTrue (each p.sets (λ s. same_option (last_access a s (before w y)) (block_of_set blocks s)))
       pub reuses : IsTrue (each p.sets (λ s. same_test (is_useful y s) (is_in useful s)))
 
     module _ (y : ℕ) (blocks : List (ℕ × ℕ)) (useful : List ℕ) (T : IsTested y blocks useful) where
-      state_at : (s : ℕ) → last_access a s (before w y) ≡ block_in blocks s
+      state_at : (s : ℕ) → last_access a s (before w y) ≡ block_of_set blocks s
       state_at s =
           elim (cases_lt s p.sets) [
-            | inl lt ↦ option_says (last_access a s (before w y)) (block_in blocks s) (each_says p.sets (λ c. same_option (last_access a c (before w y)) (block_in blocks c)) T.states s lt)
+            | inl lt ↦ option_says (last_access a s (before w y)) (block_of_set blocks s) (each_says p.sets (λ c. same_option (last_access a c (before w y)) (block_of_set blocks c)) T.states s lt)
             | inr ge ↦ no_last a p.sets below s ge (before w y) ∙ sym (no_block p.sets blocks s T.some_blocks ge)
           ]
 

@@ -1,4 +1,4 @@
-pub mod OneWay
+pub mod StraightCode
 pub mod TwoWords
 pub mod OneLoop
 pub mod Least

@@ -12,8 +12,8 @@ use Rattle.loop_regions.specs.TaskGraph.{TaskGraph}
 use Rattle.cert_check.specs.Verdict.{IsYes}
 use Rattle.preempt_machine.specs.Machine.{System}
 use Rattle.preempt_machine.specs.Safe.{IsSafe}
-use Rattle.sound_laws.specs.Walks.{IsInRange, IsCodeOf}
-use Rattle.worked_examples.specs.OneWay.{word_in, task}
+use Rattle.sound_laws.specs.Walks.{HasTaskRanges, IsCodeOf}
+use Rattle.worked_examples.specs.StraightCode.{word_in, task}
 use Rattle.worked_examples.specs.TwoWords.{platform, zero_alone}
 
 -- three into x5, less one, back while it is not 0, ECALL
@@ -79,7 +79,7 @@ certificate = record { platform = platform; tasks = task_certificate ∷ [] }
 
 -- the premises of the laws hold of it, so the set is safe with the response 29
 pub record OneLoop : Type 0 where
-  pub in_range : IsInRange set
+  pub in_range : HasTaskRanges set
   pub code : IsCodeOf system set (λ k. graph)
   pub says : IsYes set (λ k. graph) certificate
   pub safe : IsSafe system set (29 ∷ [])

@@ -11,10 +11,10 @@ use Rattle.preempt_machine.specs.declared.End.TheVariants.{Answered}
 use Rattle.preempt_machine.specs.Machine.{System}
 use Rattle.preempt_machine.specs.Step.{Start, state}
 use Rattle.preempt_machine.specs.Safe.{system_of, IsSafeWith, IsLegalRun, IsKept, completions}
-use Rattle.sound_laws.specs.Within.{IsChecked}
+use Rattle.sound_laws.specs.CheckedCode.{IsChecked}
 use Rattle.worked_examples.specs.TwoWords as two_words
 use Rattle.worked_examples.specs.Least.{AreLeast}
-use Rattle.worked_examples.specs.OneWay.{plan, named_task, file_of, job, listed_graph, first_alone, named}
+use Rattle.worked_examples.specs.StraightCode.{plan, named_task, file_of, job, listed_graph, first_alone, named}
 
 -- the platform with eight cache sets
 abbrev pub platform : Platform

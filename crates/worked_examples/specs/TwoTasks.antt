@@ -9,10 +9,10 @@ use Rattle.preempt_machine.specs.declared.End.TheVariants.{Answered}
 use Rattle.preempt_machine.specs.Machine.{System}
 use Rattle.preempt_machine.specs.Step.{Start, state}
 use Rattle.preempt_machine.specs.Safe.{system_of, IsSafeWith, IsLegalRun, IsKept, completions}
-use Rattle.sound_laws.specs.Within.{IsChecked}
+use Rattle.sound_laws.specs.CheckedCode.{IsChecked}
 use Rattle.worked_examples.specs.TwoWords.{platform, graph_from, zero_alone}
 use Rattle.worked_examples.specs.Least.{AreLeast}
-use Rattle.worked_examples.specs.OneWay.{plan, named_task, file_of, job, first_alone, named}
+use Rattle.worked_examples.specs.StraightCode.{plan, named_task, file_of, job, first_alone, named}
 
 -- one into x5, ECALL: of the lower task at 0x1000, of the higher one at 0x2000
 abbrev pub words : List ℕ

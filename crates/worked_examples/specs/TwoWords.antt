@@ -10,8 +10,8 @@ use Rattle.loop_regions.specs.TaskGraph.{TaskGraph}
 use Rattle.cert_check.specs.Verdict.{IsYes}
 use Rattle.preempt_machine.specs.Machine.{System}
 use Rattle.preempt_machine.specs.Safe.{IsSafe}
-use Rattle.sound_laws.specs.Walks.{IsInRange, IsCodeOf}
-use Rattle.worked_examples.specs.OneWay.{word_in, plan, task, listed_graph, first_alone}
+use Rattle.sound_laws.specs.Walks.{HasTaskRanges, IsCodeOf}
+use Rattle.worked_examples.specs.StraightCode.{word_in, plan, task, listed_graph, first_alone}
 
 abbrev pub platform : Platform
 platform = record { line = 16; sets = 4; hit = 1; miss = 10; memory = 3; taken = 2; switch = 5; mul = 0; div = 0; switching = Cycle }
@@ -46,7 +46,7 @@ certificate = record { platform = platform; tasks = task_certificate ∷ [] }
 
 -- the premises of the laws hold of it, so the set is safe with the response 17
 pub record TwoWords : Type 0 where
-  pub in_range : IsInRange set
+  pub in_range : HasTaskRanges set
   pub code : IsCodeOf system set (λ k. graph)
   pub says : IsYes set (λ k. graph) certificate
   pub safe : IsSafe system set (17 ∷ [])

@@ -8,9 +8,9 @@ use Rattle.must_cache.specs.Sure.{Sure}
 use Rattle.useful_sets.specs.Useful.{Useful, IsUcb, IsEcb}
 use Rattle.loop_regions.specs.TaskGraph.{TaskGraph}
 use Rattle.evict_sets.specs.Full.{Listed, FullState, FullUseful}
-use Rattle.evict_sets.specs.Certificate.{block_in, listed_of, cert_at}
-use Rattle.cert_check.specs.Judge.{accesses_of}
-use Rattle.worked_examples.specs.OneWay.{listed_graph, first_alone}
+use Rattle.evict_sets.specs.ListedPart.{block_of_set, listed_of, certified_task}
+use Rattle.cert_check.specs.JudgeInput.{accesses_of}
+use Rattle.worked_examples.specs.StraightCode.{listed_graph, first_alone}
 use Rattle.worked_examples.specs.TwoWords as two_words
 use Rattle.worked_examples.specs.ThreeTasks as three
 
@@ -21,9 +21,9 @@ AreThese numbers P = (s : ℕ) → P s ↔ Contains numbers s
 -- what is known before a node, where the first node alone is listed: the blocks that sets surely hold and the useful sets,
 -- and the full state with its useful set is the same
 pub record IsRow (g : Graph) (a : Accesses) (l : Listed) (y : ℕ) (blocks : List (ℕ × ℕ)) (useful : List ℕ) : Type 0 where
-  pub sure : (s m : ℕ) → Sure g a y s m ↔ (block_in blocks s ≡ Some m)
+  pub sure : (s m : ℕ) → Sure g a y s m ↔ (block_of_set blocks s ≡ Some m)
   pub useful_sets : AreThese useful (Useful g a y)
-  pub full_state : (s m : ℕ) → FullState g a l y s m ↔ (block_in blocks s ≡ Some m)
+  pub full_state : (s m : ℕ) → FullState g a l y s m ↔ (block_of_set blocks s ≡ Some m)
   pub full_useful : AreThese useful (FullUseful g a l y)
 
 -- the evicting and the useful cache blocks of a task
@@ -39,7 +39,7 @@ abbrev pub uses : ℕ → Accesses
 uses k = accesses_of three.platform (three.graphs k)
 
 abbrev pub lists : ℕ → Listed
-lists k = listed_of (cert_at three.certificate k)
+lists k = listed_of (certified_task three.certificate k)
 
 -- the program with two calls, on four cache sets: seven nodes outside calls, then the function's one instruction in the
 -- context of each call

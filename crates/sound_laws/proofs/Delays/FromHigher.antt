@@ -2,21 +2,21 @@
 -- preemptor are at most the useful sets of one node.
 use Rattle.std.proofs.Common.{◌≡◌, ℕ, ◌<◌, ◌≤◌, Bool, true, refl, sym, ◌∙◌, ap, subst, arith}
 use Rattle.evict_sets.specs.Full.{FullUseful}
-use Rattle.evict_sets.specs.Certificate.{listed_of, cert_at}
-use Rattle.cert_check.specs.Judge.{accesses_of}
+use Rattle.evict_sets.specs.ListedPart.{listed_of, certified_task}
+use Rattle.cert_check.specs.JudgeInput.{accesses_of}
 use Rattle.preempt_machine.specs.Step.{Fetch, state}
 use Rattle.preempt_machine.proofs.Steps.{fetch_says}
 use Rattle.run_account.specs.Facts.{AreSetsMet}
-use Rattle.run_account.specs.Fetches.{job_of, fetched_set}
-use Rattle.run_account.specs.Ledger.{IsPreempted, IsOfRun, LedgerEntry}
-use Rattle.run_account.specs.Nodes.{task_of, node_of}
+use Rattle.run_account.specs.Fetches.{job_after, fetched_set}
+use Rattle.run_account.specs.Ledger.{IsPreempted, IsOfRun, LedgerReload}
+use Rattle.run_account.specs.Nodes.{job_task, node_of_job}
 use Rattle.run_account.specs.Reloads.{FetchesAt}
 use Rattle.run_account.specs.Walks.{HasGraphs, AreStatesMet}
 use Rattle.run_account.proofs.EntryFacts.{of_higher}
 use Rattle.run_account.proofs.Gaps.{one_gap_per_preemptor}
 use Rattle.run_account.proofs.JobWalks.{entry_is_reload}
 use Rattle.run_account.proofs.ReloadLaws.{one_job_per_preemptor}
-use Rattle.sound_laws.specs.FromHigher.{IsFromHigher, EntryFromHigher, PreemptorWithinUseful}
+use Rattle.sound_laws.specs.FromHigher.{IsFromHigher, ReloadComesFromHigher, PreemptorWithinUseful}
 use Rattle.sound_laws.proofs.Windows.Releases.{count}
 use Rattle.sound_laws.proofs.Counts.Counting.{inject}
 use Rattle.sound_laws.proofs.Walks.CheckedRuns.{CheckedRun, cached_run, checked_run, runs_jobs, some_sets}
@@ -48,11 +48,11 @@ module _ (K : CheckedRun) where
   -- it comes from higher tasks
   from_higher : (n x p : ℕ) (e : IsPreempted s graphs c n x p) → IsFromHigher s graphs c n x p e
   from_higher n x p e =
-      let entry : LedgerEntry = record { job = x; set = fetched_set s e.fetch; time = n; evictor = e.is.evictor.job; preemptor = p } in
+      let entry : LedgerReload = record { job = x; set = fetched_set s e.fetch; time = n; evictor = e.is.evictor.job; preemptor = p } in
       let h = of_higher s graphs c (cached_run K) graphs_here states_met sets_met entry (of_run n x p e) in
       record { evictor = h.evictor; preemptor = h.preemptor; not_after = h.not_after; evicts = h.evicts; in_set = h.in_set; carried = h.carried }
 
-pub entry_from_higher : EntryFromHigher
+pub entry_from_higher : ReloadComesFromHigher
 entry_from_higher s set graphs c n x p R C says run e = from_higher (checked_run s set graphs c n R C says (runs_jobs run) e.entry.kept) n x p e
 
 -- the entries of a job with one preemptor
@@ -60,12 +60,12 @@ module _ (K : CheckedRun) (x p first : ℕ) (test useful : ℕ → Bool) (e : Is
   open K use {start as s, set, graphs, certificate as c, horizon, in_range as R, code as C, says, run}
 
   abbrev place_at : ℕ → ℕ
-  place_at n = set_at K (job_of s n x).pc
+  place_at n = set_at K (job_after s n x).pc
 
   place_is : (n : ℕ) (f : Fetch) → FetchesAt s x n f → fetched_set s f ≡ place_at n
   place_is n f at =
       let m = fetch_says s.system (state s n) f at.is in
-      ap (λ a. set_at K a) (m.at ∙ ap (λ y. (job_of s n y).pc) at.by)
+      ap (λ a. set_at K a) (m.at ∙ ap (λ y. (job_after s n y).pc) at.by)
 
   different : (n m : ℕ) → n < m → m < horizon → test n ≡ true → test m ≡ true → place_at n ≡ place_at m → ⊥
   different n m l k a b q =
@@ -76,7 +76,7 @@ module _ (K : CheckedRun) (x p first : ℕ) (test useful : ℕ → Bool) (e : Is
       let same = one_job_per_preemptor.one_reload s x n r.time E.fetch r.own m t.time F.fetch t.own p E.from E.time E.until F.from F.time F.until (cached_run K) r.reload t.reload (place_is n E.fetch E.entry.fetches ∙ q ∙ sym (place_is m F.fetch F.entry.fetches)) E.is F.is in
       omega arith
 
-  few_useful : ((z : ℕ) → FullUseful (graphs (task_of s x)).graph (accesses_of s.system.platform (graphs (task_of s x))) (listed_of (cert_at c (task_of s x))) (node_of (graphs (task_of s x)) (job_of s e.until x)) z → useful z ≡ true) → count test horizon ≤ count useful s.system.platform.sets
+  few_useful : ((z : ℕ) → FullUseful (graphs (job_task s x)).graph (accesses_of s.system.platform (graphs (job_task s x))) (listed_of (certified_task c (job_task s x))) (node_of_job (graphs (job_task s x)) (job_after s e.until x)) z → useful z ≡ true) → count test horizon ≤ count useful s.system.platform.sets
   few_useful covers =
       inject test place_at useful horizon s.system.platform.sets
       (λ n l b. let q = some_sets K in omega arith)
@@ -84,7 +84,7 @@ module _ (K : CheckedRun) (x p first : ℕ) (test useful : ℕ → Bool) (e : Is
       let E = (each n b).1 in
       let from = from_higher K n x p E in
       let gap = one_gap_per_preemptor s x p n E.from E.time E.until first e.from e.time e.until E.fetch e.fetch E.is e.is in
-      let here = subst (λ m. FullUseful (graphs (task_of s x)).graph (accesses_of s.system.platform (graphs (task_of s x))) (listed_of (cert_at c (task_of s x))) (node_of (graphs (task_of s x)) (job_of s m x)) (fetched_set s E.fetch)) gap.1 from.carried in
+      let here = subst (λ m. FullUseful (graphs (job_task s x)).graph (accesses_of s.system.platform (graphs (job_task s x))) (listed_of (certified_task c (job_task s x))) (node_of_job (graphs (job_task s x)) (job_after s m x)) (fetched_set s E.fetch)) gap.1 from.carried in
       subst (λ z. useful z ≡ true) (place_is n E.fetch E.entry.fetches) (covers (fetched_set s E.fetch) here))
       different
 

@@ -9,43 +9,43 @@ use Rattle.std.proofs.lemmas.List.Recursion.{is_count_by}
 use Rattle.crpd_base.proofs.Sums.{sum_change}
 use Rattle.crpd_base.specs.declared.data.TaskSet.{TaskSet}
 use Rattle.crpd_base.specs.declared.data.Certificate.{Certificate}
-use Rattle.flow_watch.specs.Watch.{is_kept}
+use Rattle.flow_watch.specs.Watch.{is_unbroken}
 use Rattle.loop_regions.specs.TaskGraph.{TaskGraph}
 use Rattle.preempt_machine.specs.Machine.{Job, no_job}
 use Rattle.preempt_machine.specs.Step.{is_open, Start, state}
 use Rattle.preempt_machine.specs.Safe.{IsKept}
 use Rattle.preempt_machine.proofs.Runs.{over_stays}
-use Rattle.run_account.specs.Fetches.{job_of}
-use Rattle.run_account.specs.Nodes.{task_of}
-use Rattle.run_account.specs.Ledger.{LedgerEntry, IsOfRun}
+use Rattle.run_account.specs.Fetches.{job_after}
+use Rattle.run_account.specs.Nodes.{job_task}
+use Rattle.run_account.specs.Ledger.{LedgerReload, IsOfRun}
 use Rattle.run_account.proofs.Jobs.{jobs_length}
 use Rattle.run_account.proofs.AnswerTimes.{answered_by}
 use Rattle.sound_laws.specs.Windows.{HasWindow, EvictedBy, PreemptedBy}
-use Rattle.sound_laws.specs.Ledgers.{HasAnswered, is_in_window, evicted_by, preempted_by, LedgerWithinDelays}
+use Rattle.sound_laws.specs.Ledgers.{HasAnswered, is_reload_in_window, evicted_by, preempted_by, LedgerWithinDelays}
 use Rattle.sound_laws.proofs.Windows.Releases.{count, one_le}
 use Rattle.sound_laws.proofs.Counts.Counting.{count_le}
 use Rattle.run_account.proofs.JobWalks.{kept_before}
 use Rattle.sound_laws.proofs.Delays.WindowDelays.{entries_within_delays}
 
 -- how many entries pass a test, and whether one that passes is made at a step
-how_many : (LedgerEntry → Bool) → List LedgerEntry → ℕ
+how_many : (LedgerReload → Bool) → List LedgerReload → ℕ
 how_many p [] = 0
 how_many p (e ∷ es) = cond (p e) (1 + how_many p es) (how_many p es)
 
-abbrev made_at : (LedgerEntry → Bool) → List LedgerEntry → ℕ → Bool
-made_at p es n = list_any (λ (e : LedgerEntry). (e.time == n) && p e) es
+abbrev made_at : (LedgerReload → Bool) → List LedgerReload → ℕ → Bool
+made_at p es n = list_any (λ (e : LedgerReload). (e.time == n) && p e) es
 
 abbrev one_if : Bool → ℕ
 one_if b = if b then 1 else 0
 
 -- the entry at a step
-pub record IsMade (P : LedgerEntry → Type 0) (p : LedgerEntry → Bool) (n : ℕ) : Type 0 where
-  pub entry : LedgerEntry
+pub record IsMade (P : LedgerReload → Type 0) (p : LedgerReload → Bool) (n : ℕ) : Type 0 where
+  pub entry : LedgerReload
   pub at : entry.time ≡ n
   pub passes : p entry ≡ true
   pub holds : P entry
 
-made_by : (P : LedgerEntry → Type 0) (p : LedgerEntry → Bool) (es : List LedgerEntry) (n : ℕ) → All P es → made_at p es n ≡ true → IsMade P p n
+made_by : (P : LedgerReload → Type 0) (p : LedgerReload → Bool) (es : List LedgerReload) (n : ℕ) → All P es → made_at p es n ≡ true → IsMade P p n
 made_by P p [] n h m = absurd (false≢true m)
 made_by P p (e ∷ es) n h m =
     elim (or_cases ((e.time == n) && p e) (made_at p es n) m) [
@@ -53,31 +53,31 @@ made_by P p (e ∷ es) n h m =
       | inr b ↦ made_by P p es n (λ k d l. h (suc k) d (omega (arith, l))) b
     ]
 
-abbrev Rises : List LedgerEntry → Type 0
-Rises es = AllPairs (λ (d e : LedgerEntry). d.time < e.time) es
+abbrev Rises : List LedgerReload → Type 0
+Rises es = AllPairs (λ (d e : LedgerReload). d.time < e.time) es
 
 -- none is made later at the first one's step
-none_later : (p : LedgerEntry → Bool) (e : LedgerEntry) (es : List LedgerEntry) → Rises (e ∷ es) → made_at p es e.time ≡ false
+none_later : (p : LedgerReload → Bool) (e : LedgerReload) (es : List LedgerReload) → Rises (e ∷ es) → made_at p es e.time ≡ false
 none_later p e es r =
     elim (cases_Bool (made_at p es e.time)) [
       | inr b ↦ b
       | inl b ↦
-          let m = made_by (λ (d : LedgerEntry). e.time < d.time) p es e.time (λ k d l. r 0 (suc k) d (omega arith) (omega (arith, l))) b in
+          let m = made_by (λ (d : LedgerReload). e.time < d.time) p es e.time (λ k d l. r 0 (suc k) d (omega arith) (omega (arith, l))) b in
           let late = m.holds in
           let at = m.at in
           absurd (omega (arith, late, at))
     ]
 
-one_more : (p : LedgerEntry → Bool) (e : LedgerEntry) (es : List LedgerEntry) → p e ≡ true → how_many p (e ∷ es) ≡ 1 + how_many p es
+one_more : (p : LedgerReload → Bool) (e : LedgerReload) (es : List LedgerReload) → p e ≡ true → how_many p (e ∷ es) ≡ 1 + how_many p es
 unfolding how_many
 one_more p e es b = rw b refl
 
-no_more : (p : LedgerEntry → Bool) (e : LedgerEntry) (es : List LedgerEntry) → p e ≡ false → how_many p (e ∷ es) ≡ how_many p es
+no_more : (p : LedgerReload → Bool) (e : LedgerReload) (es : List LedgerReload) → p e ≡ false → how_many p (e ∷ es) ≡ how_many p es
 unfolding how_many
 no_more p e es b = rw b refl
 
 -- the entries that pass are made at as many steps
-many_steps : (p : LedgerEntry → Bool) (until : ℕ) (es : List LedgerEntry) → Rises es → ((e : LedgerEntry) → p e ≡ true → e.time < until) → how_many p es ≤ count (made_at p es) until
+many_steps : (p : LedgerReload → Bool) (until : ℕ) (es : List LedgerReload) → Rises es → ((e : LedgerReload) → p e ≡ true → e.time < until) → how_many p es ≤ count (made_at p es) until
 many_steps p until [] r early = unfold how_many in omega arith
 many_steps p until (e ∷ es) r early =
     let rest = many_steps p until es (λ i j d l k. r (suc i) (suc j) d (omega (arith, l)) (omega (arith, k))) early in
@@ -93,32 +93,32 @@ many_steps p until (e ∷ es) r early =
           omega (arith, rest, more, no_more p e es b)
     ]
 
-counted : (p : LedgerEntry → Bool) (until : ℕ) (es : List LedgerEntry) → Rises es → ((e : LedgerEntry) → p e ≡ true → e.time < until) → count_by p es ≤ count (made_at p es) until
+counted : (p : LedgerReload → Bool) (until : ℕ) (es : List LedgerReload) → Rises es → ((e : LedgerReload) → p e ≡ true → e.time < until) → count_by p es ≤ count (made_at p es) until
 counted p until es r early =
     subst (λ k. k ≤ count (made_at p es) until) (is_count_by (how_many p) p (unfold how_many in refl) (unfold how_many in λ e more. refl) es) (many_steps p until es r early)
 
-module _ (s : Start) (set : TaskSet) (graphs : ℕ → TaskGraph) (c : Certificate) (n : ℕ) (ledger : List LedgerEntry) (x start answer : ℕ) (H : HasAnswered s set graphs c n ledger x start answer) where
+module _ (s : Start) (set : TaskSet) (graphs : ℕ → TaskGraph) (c : Certificate) (n : ℕ) (ledger : List LedgerReload) (x start answer : ℕ) (H : HasAnswered s set graphs c n ledger x start answer) where
   answer_by : answer ≤ n
   answer_by = answered_by s n x answer H.answered
 
-  kept_down : (d m y : ℕ) → is_kept (job_of s (m + d) y).watch ≡ true → is_kept (job_of s m y).watch ≡ true
-  kept_down zero m y k = let e : m + 0 ≡ m = omega arith in subst (λ u. is_kept (job_of s u y).watch ≡ true) e k
+  kept_down : (d m y : ℕ) → is_unbroken (job_after s (m + d) y).watch ≡ true → is_unbroken (job_after s m y).watch ≡ true
+  kept_down zero m y k = let e : m + 0 ≡ m = omega arith in subst (λ u. is_unbroken (job_after s u y).watch ≡ true) e k
   kept_down (suc d) m y k =
       let e : m + suc d ≡ suc (m + d) = omega arith in
-      kept_down d m y (kept_before s graphs (m + d) y (subst (λ u. is_kept (job_of s u y).watch ≡ true) e k))
+      kept_down d m y (kept_before s graphs (m + d) y (subst (λ u. is_unbroken (job_after s u y).watch ≡ true) e k))
 
-  kept_job : (y : ℕ) → y < length s.lines → is_kept (job_of s answer y).watch ≡ true
+  kept_job : (y : ℕ) → y < length s.lines → is_unbroken (job_after s answer y).watch ≡ true
   kept_job y l =
       let b = answer_by in
       let e : answer + (n - answer) ≡ n = omega (arith, b) in
-      kept_down (n - answer) answer y (subst (λ u. is_kept (job_of s u y).watch ≡ true) (sym e) (H.kept y no_job (omega (arith, jobs_length s n, l))))
+      kept_down (n - answer) answer y (subst (λ u. is_unbroken (job_after s u y).watch ≡ true) (sym e) (H.kept y no_job (omega (arith, jobs_length s n, l))))
 
   kept : IsKept (state s answer)
   kept y d l = rw (get_or_default (state s answer).jobs y d no_job l) (kept_job y (omega (arith, l, jobs_length s answer)))
 
-  open_before : (m : ℕ) → m < answer → is_open (job_of s m x).standing ≡ true
+  open_before : (m : ℕ) → m < answer → is_open (job_after s m x).standing ≡ true
   open_before m l =
-      elim (cases_Bool (is_open (job_of s m x).standing)) [
+      elim (cases_Bool (is_open (job_after s m x).standing)) [
         | inl b ↦ b
         | inr b ↦
             let by = answer_by in
@@ -140,26 +140,26 @@ module _ (s : Start) (set : TaskSet) (graphs : ℕ → TaskGraph) (c : Certifica
         open_before = open_before;
       }
 
-  module _ (test : LedgerEntry → Bool) where
-    abbrev of_window : LedgerEntry → Bool
-    of_window e = is_in_window s x start answer e && test e
+  module _ (test : LedgerReload → Bool) where
+    abbrev of_window : LedgerReload → Bool
+    of_window e = is_reload_in_window s x start answer e && test e
 
     -- what the test of the window says
-    pub record InWindow (e : LedgerEntry) : Type 0 where
+    pub record InWindow (e : LedgerReload) : Type 0 where
       pub late : start ≤ e.time
       pub early : e.time < answer
-      pub by : task_of s e.job ≤ task_of s x
+      pub by : job_task s e.job ≤ job_task s x
       pub passes : test e ≡ true
 
-    in_window : (e : LedgerEntry) → of_window e ≡ true → InWindow e
+    in_window : (e : LedgerReload) → of_window e ≡ true → InWindow e
     in_window e b =
-        let one = and_parts (is_in_window s x start answer e) (test e) b in
-        let two = and_parts (nat_le start e.time && nat_lt e.time answer) (nat_le (task_of s e.job) (task_of s x)) one.0 in
+        let one = and_parts (is_reload_in_window s x start answer e) (test e) b in
+        let two = and_parts (nat_le start e.time && nat_lt e.time answer) (nat_le (job_task s e.job) (job_task s x)) one.0 in
         let three = and_parts (nat_le start e.time) (nat_lt e.time answer) two.0 in
         record { late = leb-true _ _ three.0; early = ltb-true _ _ three.1; by = leb-true _ _ two.1; passes = one.1 }
 
-    made : (t : ℕ) → made_at of_window ledger t ≡ true → IsMade (λ (e : LedgerEntry). (e.time < n) × IsOfRun s graphs c e) of_window t
-    made t b = made_by (λ (e : LedgerEntry). (e.time < n) × IsOfRun s graphs c e) of_window ledger t H.entries.entries b
+    made : (t : ℕ) → made_at of_window ledger t ≡ true → IsMade (λ (e : LedgerReload). (e.time < n) × IsOfRun s graphs c e) of_window t
+    made t b = made_by (λ (e : LedgerReload). (e.time < n) × IsOfRun s graphs c e) of_window ledger t H.entries.entries b
 
     few : count_by of_window ledger ≤ count (made_at of_window ledger) answer
     few = counted of_window answer ledger H.entries.in_order (λ e b. (in_window e b).early)

@@ -11,7 +11,7 @@ use Rattle.sound_laws.specs.Walks.{RunsLegally}
 use Rattle.crpd_base.specs.Sum.{sum_below}
 use Rattle.crpd_base.specs.Sets.{has as has_set}
 use Rattle.crpd_base.specs.declared.data.Part.{Part}
-use Rattle.delay_count.specs.Counts.{jobs_in, preemptions, affected}
+use Rattle.delay_count.specs.Counts.{jobs_in, preemptions, affected_preemptions}
 use Rattle.delay_count.specs.Gamma.{union_count, ucb_count}
 use Rattle.sound_laws.proofs.Windows.Releases.{count, count_none, lies_in}
 use Rattle.sound_laws.proofs.Counts.Counting.{spread, inject, each_at_most, count_le}
@@ -176,17 +176,17 @@ module _ (s : Start) (set : TaskSet) (run : RunsLegally set s) (parts : ℕ → 
             ]
       ]
 
-  by_preemptions : (j c : ℕ) → j ≤ task_at s i → count (by_set j c) to ≤ sum_below (λ k. if has_set (parts k).useful c then affected set window (window (task_at s i)) (task_at s i) j k else 0) (suc (task_at s i))
+  by_preemptions : (j c : ℕ) → j ≤ task_at s i → count (by_set j c) to ≤ sum_below (λ k. if has_set (parts k).useful c then affected_preemptions set window (window (task_at s i)) (task_at s i) j k else 0) (suc (task_at s i))
   by_preemptions j c h =
       let all = spread (by_set j c) (λ n. task_at s (victim n)) to (suc (task_at s i)) (λ n l b. let top = inside_task s i t to (victim n) (are.victims n l (and_parts _ _ (and_parts _ _ b).0).0).1 in omega arith) in
-      let le = sum_le (λ k. count (by_victim j c k) to) (λ k. if has_set (parts k).useful c then affected set window (window (task_at s i)) (task_at s i) j k else 0) (suc (task_at s i)) (λ k l.
+      let le = sum_le (λ k. count (by_victim j c k) to) (λ k. if has_set (parts k).useful c then affected_preemptions set window (window (task_at s i)) (task_at s i) j k else 0) (suc (task_at s i)) (λ k l.
       subst (λ n. count (by_victim j c k) to ≤ n) (swap_tests (nat_lt j k) (has_set (parts k).useful c) (preemptions set window (window (task_at s i)) (task_at s i) j k)) (by_victims j c k h l)) in
       omega (arith, all, le)
 
   abbrev share : ℕ → ℕ → ℕ
   share j c =
       if has_set (parts j).evicting c then
-      min (jobs j (window (task_at s i))) (sum_below (λ k. if has_set (parts k).useful c then affected set window (window (task_at s i)) (task_at s i) j k else 0) (suc (task_at s i)))
+      min (jobs j (window (task_at s i))) (sum_below (λ k. if has_set (parts k).useful c then affected_preemptions set window (window (task_at s i)) (task_at s i) j k else 0) (suc (task_at s i)))
       else 0
 
   set_share : (j c : ℕ) → j ≤ task_at s i → count (by_set j c) to ≤ share j c

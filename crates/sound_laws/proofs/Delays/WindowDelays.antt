@@ -7,10 +7,10 @@ use Rattle.crpd_base.proofs.Sums.{sum_mono}
 use Rattle.script_reader.specs.Legal.{IsLegal}
 use Rattle.delay_count.specs.Gamma.{ucb_count, ecb_count}
 use Rattle.preempt_machine.specs.Step.{is_open, Fetch}
-use Rattle.run_account.specs.Fetches.{job_of}
+use Rattle.run_account.specs.Fetches.{job_after}
 use Rattle.run_account.specs.Reloads.{FetchesAt, IsEvictor, IsPreemptor}
 use Rattle.run_account.specs.Ledger.{IsWindowStart}
-use Rattle.sound_laws.specs.Windows.{EvictedBy, PreemptedBy, EntriesWithinDelays}
+use Rattle.sound_laws.specs.Windows.{EvictedBy, PreemptedBy, ReloadsWithinDelays}
 use Rattle.sound_laws.proofs.Windows.Accounts.{Spends}
 use Rattle.sound_laws.proofs.Windows.Rooms.{Covers}
 use Rattle.sound_laws.proofs.Windows.Busy.{line_at, task_at, in_window, IsLastQuiet, is_busy_by, all_quiet, some_busy}
@@ -30,14 +30,14 @@ module _ (K : CheckedRun) where
 
   module _ (legal : IsLegal set s.lines) where
     -- the window of a job that is open up to the horizon
-    module _ (i t : ℕ) (h : i < length s.lines) (starts : IsWindowStart s i t) (open_before : (n : ℕ) → n < horizon → is_open (job_of s n i).standing ≡ true) (begun : t ≤ horizon) where
+    module _ (i t : ℕ) (h : i < length s.lines) (starts : IsWindowStart s i t) (open_before : (n : ℕ) → n < horizon → is_open (job_after s n i).standing ≡ true) (begun : t ≤ horizon) where
       quiet_by : (y : ℕ) → y < length s.lines → is_busy_by s i t y ≡ false
       quiet_by y l =
           elim (cases_Bool (is_busy_by s i t y)) [
             | inr b ↦ b
             | inl b ↦
                 let one = and_parts (nat_lt (task_at s y) (task_at s i)) _ b in
-                let two = and_parts (nat_lt (line_at s y).release t) (is_open (job_of s t y).standing) one.1 in
+                let two = and_parts (nat_lt (line_at s y).release t) (is_open (job_after s t y).standing) one.1 in
                 absurd (false≢true (sym (starts.quiet y l (ltb-true _ _ one.0) (ltb-true _ _ two.0)) ∙ two.1))
           ]
 
@@ -164,7 +164,7 @@ none_counted : (t until : ℕ) (test : ℕ → Bool) → until < t → ((n : ℕ
 none_counted t until test l each =
     count_none test until (λ n k. elim (cases_Bool (test n)) [ inr b ↦ b | inl b ↦ let w = each n b in absurd (omega (arith, w.0, w.1)) ])
 
-pub entries_within_delays : EntriesWithinDelays
+pub entries_within_delays : ReloadsWithinDelays
 entries_within_delays =
     record {
       ucb = λ s set graphs c i t until j test H top each.

@@ -8,8 +8,8 @@ use Rattle.script_reader.specs.Legal.{IsLegal, period_of}
 use Rattle.delay_count.specs.Gamma.{ucb_count, ecb_count, evicted_from}
 use Rattle.crpd_base.specs.Sets.{has as has_set}
 use Rattle.preempt_machine.specs.Step.{is_open, Fetch}
-use Rattle.run_account.specs.Fetches.{job_of}
-use Rattle.run_account.specs.Reloads.{FetchesAt, IsEvictor, IsPassing}
+use Rattle.run_account.specs.Fetches.{job_after}
+use Rattle.run_account.specs.Reloads.{FetchesAt, IsEvictor, RunsInGap}
 use Rattle.run_account.proofs.Moves.{stays_over}
 use Rattle.run_account.proofs.ReloadLaws.{fetcher_open, fetcher_released, gap_is_of_higher, evictor_is_other, one_reload_per_evictor_and_set}
 use Rattle.run_account.proofs.OwnFetches.{own_candidate}
@@ -59,7 +59,7 @@ module _ (K : CheckedRun) where
     pub begins : FetchesAt s (victim K n) begin first
     pub by : FetchesAt s y at fetch
     pub early : at < n
-    pub passes : IsPassing s (victim K n) y begin end
+    pub passes : RunsInGap s (victim K n) y begin end
 
   evictor_passes : (from until n y p : ℕ) → IsCounted from until n y p → PassesBefore n y
   evictor_passes from until n y p e =
@@ -100,7 +100,7 @@ module _ (K : CheckedRun) where
     legal_run = record { cache = run.cache; tasks = run.tasks; legal = legal }
 
     -- the entries of a window, while its job is open
-    module _ (i t from until : ℕ) (h : i < length s.lines) (after : t ≤ from) (shorter : until ≤ t + window K (task_at s i)) (by_horizon : until ≤ horizon) (covers : Covers s (in_window s i t until) i from until) (higher : HigherAreOver s (window K) horizon i) (o : (n : ℕ) → n < until → is_open (job_of s n i).standing ≡ true) (test : ℕ → Bool) (evictor preemptor : ℕ → ℕ) (facts : (n : ℕ) → test n ≡ true → IsCounted from until n (evictor n) (preemptor n)) where
+    module _ (i t from until : ℕ) (h : i < length s.lines) (after : t ≤ from) (shorter : until ≤ t + window K (task_at s i)) (by_horizon : until ≤ horizon) (covers : Covers s (in_window s i t until) i from until) (higher : HigherAreOver s (window K) horizon i) (o : (n : ℕ) → n < until → is_open (job_after s n i).standing ≡ true) (test : ℕ → Bool) (evictor preemptor : ℕ → ℕ) (facts : (n : ℕ) → test n ≡ true → IsCounted from until n (evictor n) (preemptor n)) where
       abbrev to : ℕ
       to = t + window K (task_at s i)
 

@@ -9,7 +9,7 @@ use Rattle.crpd_base.specs.Ranges.{IsTaskSpec, IsTaskSet}
 use Rattle.crpd_base.specs.Tasks.{period_of, deadline_of}
 use Rattle.preempt_machine.specs.Safe.{system_of}
 use Rattle.sound_laws.specs.Headline.{CheckedCodeIsSafe}
-use Rattle.sound_laws.specs.Walks.{IsInRange}
+use Rattle.sound_laws.specs.Walks.{HasTaskRanges}
 use Rattle.sound_laws.proofs.Headline.YesIsSafe.{yes_is_safe}
 
 -- a number of the task at a place
@@ -19,7 +19,7 @@ at f tasks k h = get_or-map f tasks k no_task 0 h
 task_at : (set : TaskSet) (k : ℕ) → IsTaskSet set → k < length set.tasks → IsTaskSpec (get_or set.tasks k no_task)
 task_at set k T h = T.each k no_task h
 
-pub in_range : (set : TaskSet) → IsTaskSet set → IsInRange set
+pub in_range : (set : TaskSet) → IsTaskSet set → HasTaskRanges set
 in_range set T =
     record {
       hit = T.platform.hit.0;

@@ -3,10 +3,10 @@ use Rattle.std.proofs.Common.{◌≡◌, ℕ, zero, suc, ◌+◌, ◌-◌, ◌<�
 use Rattle.std.proofs.lemmas.Bool.{cases_Bool, cases_eq, cases_lt, false≢true, or_left, or_right}
 use Rattle.crpd_base.proofs.Options.{some_injective}
 use Rattle.preempt_machine.specs.Machine.{Job}
-use Rattle.preempt_machine.specs.Step.{is_open, turn_of, owns, state}
+use Rattle.preempt_machine.specs.Step.{is_open, turn_of, is_owner, state}
 use Rattle.preempt_machine.specs.Safe.{IsAnsweredBy}
 use Rattle.preempt_machine.proofs.Runs.{over_stays}
-use Rattle.run_account.specs.Fetches.{job_of}
+use Rattle.run_account.specs.Fetches.{job_after}
 use Rattle.run_account.proofs.Jobs.{owns_none}
 use Rattle.run_account.proofs.Owners.{candidate_at, was_owner, owns_same, owner_after, owner_was, was_open}
 use Rattle.run_account.proofs.ReloadLaws.{evictor_is_other}
@@ -25,14 +25,14 @@ module _ (K : CheckedRun) where
   was_from zero u x l e = absurd (omega arith)
   was_from (suc n) u x l e =
       elim (cases_eq u n) [
-        | inl q ↦ or_left (owns (candidate_at s n) x) (was_owner s n x) (subst (λ c. owns c x ≡ true) (sym (subst (λ k. candidate_at s k ≡ Some x) q e)) (owns_same x))
-        | inr ne ↦ or_right (owns (candidate_at s n) x) (was_owner s n x) (was_from n u x (omega arith) e)
+        | inl q ↦ or_left (is_owner (candidate_at s n) x) (was_owner s n x) (subst (λ c. is_owner c x ≡ true) (sym (subst (λ k. candidate_at s k ≡ Some x) q e)) (owns_same x))
+        | inr ne ↦ or_right (is_owner (candidate_at s n) x) (was_owner s n x) (was_from n u x (omega arith) e)
       ]
 
   never_was : (n x : ℕ) → ((m : ℕ) → m < n → candidate_at s m ≢ Some x) → was_owner s n x ≡ false
   never_was zero x h = refl
   never_was (suc n) x h =
-      let here : owns (candidate_at s n) x ≡ false = owns_none (candidate_at s n) x (h n (omega arith)) in
+      let here : is_owner (candidate_at s n) x ≡ false = owns_none (candidate_at s n) x (h n (omega arith)) in
       rw here (never_was n x (λ m l. h m (omega arith)))
 
   -- an undisturbed job answers within its switch and its cost
@@ -43,7 +43,7 @@ module _ (K : CheckedRun) where
     fresh_at_first : was_owner s first x ≡ false
     fresh_at_first = never_was first x still.first_time
 
-    no_entry : (k : ℕ) → first ≤ k → k < first + all → is_open (job_of s k x).standing ≡ true → entry K k ≡ false
+    no_entry : (k : ℕ) → first ≤ k → k < first + all → is_open (job_after s k x).standing ≡ true → entry K k ≡ false
     no_entry k f l o =
         elim (cases_Bool (entry K k)) [
           | inr b ↦ b
@@ -69,17 +69,17 @@ module _ (K : CheckedRun) where
               absurd (others.other (some_injective (sym y_is ∙ x_is) ∙ sym vx))
         ]
 
-    no_extra : (k : ℕ) → first ≤ k → k < first + all → is_open (job_of s k x).standing ≡ true → extra K k ≡ 0
+    no_extra : (k : ℕ) → first ≤ k → k < first + all → is_open (job_after s k x).standing ≡ true → extra K k ≡ 0
     no_extra k f l o = rw (no_entry k f l o) refl
 
     -- what is left after k steps more
-    spent_alone : (k : ℕ) → suc (first + k) ≤ first + all → first + all ≤ horizon → is_open (job_of s (suc (first + k)) x).standing ≡ true →
+    spent_alone : (k : ℕ) → suc (first + k) ≤ first + all → first + all ≤ horizon → is_open (job_after s (suc (first + k)) x).standing ≡ true →
         (suc k + rest K (suc (first + k)) x + (state s (suc (first + k))).switch_left ≤ all) × ((state s (suc (first + k))).owner ≡ Some x)
     spent_alone zero l hz o =
         let z : first + 0 ≡ first = omega arith in
         let o0 = was_open s first (suc (first + 0)) x (omega arith) o in
         let sp = (rest_spends K).spends (first + 0) x (omega arith) (subst (λ n. candidate_at s n ≡ Some x) (sym z) still.starts) in
-        let none = no_extra (first + 0) (omega arith) (omega arith) (subst (λ n. is_open (job_of s n x).standing ≡ true) (sym z) o0) in
+        let none = no_extra (first + 0) (omega arith) (omega arith) (subst (λ n. is_open (job_after s n x).standing ≡ true) (sym z) o0) in
         let was0 = fresh K (first + 0) x (subst (λ n. was_owner s n x ≡ false) (sym z) fresh_at_first) in
         let not_owner : (state s (first + 0)).owner ≢ Some x = λ q. false≢true (sym (subst (λ n. was_owner s n x ≡ false) (sym z) fresh_at_first) ∙ owner_was s (first + 0) x q) in
         let full : (turn_of s.system (state s (first + 0)) x).switch_left ≡ s.system.platform.switch = rw (owns_none (state s (first + 0)).owner x not_owner) refl in
@@ -95,9 +95,9 @@ module _ (K : CheckedRun) where
         subst (λ n. (suc (suc k) + rest K (suc n) x + (state s (suc n)).switch_left ≤ all) × ((state s (suc n)).owner ≡ Some x)) (sym z)
         (omega (arith, sp, none, kept_switch, r.0), owner_after s (suc (first + k)) x mine)
 
-    over_alone : first + all ≤ horizon → is_open (job_of s (first + all) x).standing ≡ false
+    over_alone : first + all ≤ horizon → is_open (job_after s (first + all) x).standing ≡ false
     over_alone hz =
-        elim (cases_Bool (is_open (job_of s (first + all) x).standing)) [
+        elim (cases_Bool (is_open (job_after s (first + all) x).standing)) [
           | inr b ↦ b
           | inl b ↦
               let some = (rest_spends K).some (first + all) x hz b in
@@ -109,18 +109,18 @@ module _ (K : CheckedRun) where
                 | inr ne ↦
                     let k = all - 1 in
                     let z : first + all ≡ suc (first + (all - 1)) = omega arith in
-                    let r = spent_alone (all - 1) (omega arith) hz (subst (λ n. is_open (job_of s n x).standing ≡ true) z b) in
+                    let r = spent_alone (all - 1) (omega arith) hz (subst (λ n. is_open (job_after s n x).standing ≡ true) z b) in
                     let some_z = subst (λ n. 1 ≤ rest K n x) z some in
                     absurd (omega (arith, r.0, some_z))
               ]
         ]
 
-    pub undisturbed : first + all ≤ horizon → IsAnsweredBy (first + all) (job_of s horizon x).standing
+    pub undisturbed : first + all ≤ horizon → IsAnsweredBy (first + all) (job_after s horizon x).standing
     undisturbed hz =
         let over = over_alone hz in
-        let same : (job_of s horizon x).standing ≡ (job_of s (first + all) x).standing = ap (λ (j : Job). j.standing) (over_stays s x (first + all) horizon hz over) in
+        let same : (job_after s horizon x).standing ≡ (job_after s (first + all) x).standing = ap (λ (j : Job). j.standing) (over_stays s x (first + all) horizon hz over) in
         subst (λ st. IsAnsweredBy (first + all) st) (sym same)
-        (answered_in_time K (first + all) (first + all) x (job_of s (first + all) x).standing refl over (no_fault s set graphs R C run.tasks (first + all) x h (kept_at K (first + all) x hz h)) (omega arith))
+        (answered_in_time K (first + all) (first + all) x (job_after s (first + all) x).standing refl over (no_fault s set graphs R C run.tasks (first + all) x h (kept_at K (first + all) x hz h)) (omega arith))
 
 pub undisturbed_bound : UndisturbedBound
 undisturbed_bound s set graphs c n x first R C says run kept h hz still =

@@ -11,28 +11,28 @@ use Rattle.crpd_base.specs.declared.data.TaskSet.{TaskSet}
 use Rattle.code_map.specs.Words.{Code}
 use Rattle.script_reader.specs.Legal.{IsLegal}
 use Rattle.delay_count.specs.Gamma.{gamma_ucb, gamma_ecb}
-use Rattle.evict_sets.specs.Certificate.{cert_at, no_cert}
+use Rattle.evict_sets.specs.ListedPart.{certified_task, no_task_part}
 use Rattle.loop_regions.specs.TaskGraph.{TaskGraph}
-use Rattle.cert_check.specs.Judge.{window_at, part_of}
+use Rattle.cert_check.specs.JudgeInput.{window_at, certified_part}
 use Rattle.preempt_machine.specs.declared.Completion.{Completion}
 use Rattle.preempt_machine.specs.declared.End.TheVariants as «end»
-use Rattle.preempt_machine.specs.Kept.{completion, line_at}
+use Rattle.preempt_machine.specs.Schedule.{completion, script_line}
 use Rattle.preempt_machine.specs.Machine.{System, Standing, Open, Answered, Faulted}
 use Rattle.preempt_machine.specs.Step.{Start, state}
 use Rattle.preempt_machine.specs.Safe.{system_of, IsAnsweredBy, NamesTasks, end_by}
 use Rattle.run_account.specs.declared.told.Account.{Account}
 use Rattle.run_account.specs.declared.told.Entry.{Entry}
-use Rattle.run_account.specs.Account.{told, IsAccount}
-use Rattle.run_account.specs.Fetches.{job_of}
-use Rattle.run_account.specs.Ledger.{LedgerEntry, IsWindowStart}
-use Rattle.run_account.specs.Nodes.{task_of}
+use Rattle.run_account.specs.Account.{account_entry, IsAccount}
+use Rattle.run_account.specs.Fetches.{job_after}
+use Rattle.run_account.specs.Ledger.{LedgerReload, IsWindowStart}
+use Rattle.run_account.specs.Nodes.{job_task}
 use Rattle.preempt_machine.specs.Starts.{start_of_script}
 use Rattle.run_account.proofs.Jobs.{line_is}
 use Rattle.preempt_machine.proofs.Loads.{start_cache_length}
 use Rattle.sound_laws.specs.Headline.{IsUndisturbed}
 use Rattle.sound_laws.specs.Ledgers.{HasAnswered}
 use Rattle.sound_laws.specs.Walks.{IsCodeOf, RunsLegally}
-use Rattle.sound_laws.specs.Within.{IsChecked, bounds, CheckedCodeIsBounded, is_in_window, has_evictor, has_preemptor, CheckedAccountIsWithinDelays}
+use Rattle.sound_laws.specs.CheckedCode.{IsChecked, bounds, CheckedCodeIsBounded, is_in_window, has_evictor, has_preemptor, CheckedAccountIsWithinDelays}
 use Rattle.sound_laws.proofs.Headline.Undisturbed.{undisturbed_bound}
 use Rattle.sound_laws.proofs.Headline.InRange.{in_range}
 use Rattle.sound_laws.proofs.Delays.Ledgers.{ledger_within_delays}
@@ -43,8 +43,8 @@ map_at f d [] k e = sym e
 map_at f d (x ∷ xs) zero e = refl
 map_at f d (x ∷ xs) (suc k) e = map_at f d xs k e
 
-bound_is : (c : Certificate) (k : ℕ) → slice_index (bounds c) k ≡ (cert_at c k).part.bound
-bound_is c k = map_at (λ (t : TaskPart). t.part.bound) no_cert c.tasks k refl
+bound_is : (c : Certificate) (k : ℕ) → slice_index (bounds c) k ≡ (certified_task c k).part.bound
+bound_is c k = map_at (λ (t : TaskPart). t.part.bound) no_task_part c.tasks k refl
 
 pub code_of : (set : TaskSet) (code : Code) (graphs : ℕ → TaskGraph) (c : Certificate) → IsChecked set code graphs c → IsCodeOf (system_of set code) set graphs
 code_of set code graphs c K = record { platform = refl; map = K.words; graphs_of = K.graphs_of }
@@ -52,9 +52,9 @@ code_of set code graphs c K = record { platform = refl; map = K.words; graphs_of
 pub checked_code_is_bounded : CheckedCodeIsBounded
 checked_code_is_bounded set code graphs c K s n x first same run kept h l still =
     let C : IsCodeOf s.system set graphs = subst (λ y. IsCodeOf y set graphs) (sym same) (code_of set code graphs c K) in
-    let e : s.system.platform.switch + (cert_at c (task_of s x)).part.bound ≡ set.platform.switch + slice_index (bounds c) (task_of s x) =
-    ap (λ (y : System). y.platform.switch + (cert_at c (task_of s x)).part.bound) same ∙ ap (λ b. set.platform.switch + b) (sym (bound_is c (task_of s x))) in
-    subst (λ k. IsAnsweredBy (first + k) (job_of s n x).standing) e
+    let e : s.system.platform.switch + (certified_task c (job_task s x)).part.bound ≡ set.platform.switch + slice_index (bounds c) (job_task s x) =
+    ap (λ (y : System). y.platform.switch + (certified_task c (job_task s x)).part.bound) same ∙ ap (λ b. set.platform.switch + b) (sym (bound_is c (job_task s x))) in
+    subst (λ k. IsAnsweredBy (first + k) (job_after s n x).standing) e
     (undisturbed_bound s set graphs c n x first (in_range set K.ranges) C K.says run kept h (subst (λ k. first + k ≤ n) (sym e) l) (subst (λ k. IsUndisturbed s x first k) (sym e) still))
 
 -- how many items pass a test
@@ -102,36 +102,36 @@ module _ (set : TaskSet) (code : Code) (graphs : ℕ → TaskGraph) (c : Certifi
         kept = I.kept.0 k;
         entries = I.is_ledger;
         job = h;
-        answered = stands (state s script.cycles).time (job_of s script.cycles x).line.release answer (job_of s script.cycles x).standing (sym (ap (λ (d : Completion). d.«end») (I.completions x h)) ∙ e);
+        answered = stands (state s script.cycles).time (job_after s script.cycles x).line.release answer (job_after s script.cycles x).standing (sym (ap (λ (d : Completion). d.«end») (I.completions x h)) ∙ e);
         starts = w;
       }
 
-  task_is : (x : ℕ) → x < length script.jobs → task_of s x ≡ (line_at script.jobs x).task.0
+  task_is : (x : ℕ) → x < length script.jobs → job_task s x ≡ (script_line script.jobs x).task.0
   task_is x h = ap (λ (l : ScriptJob). l.task.0) (line_is s 0 x h)
 
   -- the entries that pass, as they stand in the ledger
-  in_ledger : (p : Entry → Bool) → count_by p a.entries ≡ count_by (λ (e : LedgerEntry). p (told s e)) I.ledger
-  in_ledger p = ap (count_by p) I.entries ∙ count_map p (told s) I.ledger
+  in_ledger : (p : Entry → Bool) → count_by p a.entries ≡ count_by (λ (e : LedgerReload). p (account_entry s e)) I.ledger
+  in_ledger p = ap (count_by p) I.entries ∙ count_map p (account_entry s) I.ledger
 
-  within_ucb : (x start answer j : ℕ) → x < length script.jobs → (completion a.completions x).«end» ≡ «end».Answered answer → IsWindowStart s x start → (i : ℕ) → task_of s x ≡ i → j < i
-      → count_by (λ (e : Entry). is_in_window i start answer e && has_evictor j e) a.entries * set.platform.miss ≤ gamma_ucb set (part_of c) (window_at c) (window_at c i) i j
+  within_ucb : (x start answer j : ℕ) → x < length script.jobs → (completion a.completions x).«end» ≡ «end».Answered answer → IsWindowStart s x start → (i : ℕ) → job_task s x ≡ i → j < i
+      → count_by (λ (e : Entry). is_in_window i start answer e && has_evictor j e) a.entries * set.platform.miss ≤ gamma_ucb set (certified_part c) (window_at c) (window_at c i) i j
   within_ucb x start answer j h e w i at l =
-      subst (λ z. count_by (λ (d : Entry). is_in_window z start answer d && has_evictor j d) a.entries * set.platform.miss ≤ gamma_ucb set (part_of c) (window_at c) (window_at c z) z j) at
-      (subst (λ m. m * set.platform.miss ≤ gamma_ucb set (part_of c) (window_at c) (window_at c (task_of s x)) (task_of s x) j)
-      (sym (in_ledger (λ (d : Entry). is_in_window (task_of s x) start answer d && has_evictor j d)))
+      subst (λ z. count_by (λ (d : Entry). is_in_window z start answer d && has_evictor j d) a.entries * set.platform.miss ≤ gamma_ucb set (certified_part c) (window_at c) (window_at c z) z j) at
+      (subst (λ m. m * set.platform.miss ≤ gamma_ucb set (certified_part c) (window_at c) (window_at c (job_task s x)) (job_task s x) j)
+      (sym (in_ledger (λ (d : Entry). is_in_window (job_task s x) start answer d && has_evictor j d)))
       (ledger_within_delays.ucb s set graphs c script.cycles I.ledger x start answer j (has_answered x start answer h e w) (omega (arith, l, at))))
 
-  within_ecb : (x start answer j : ℕ) → x < length script.jobs → (completion a.completions x).«end» ≡ «end».Answered answer → IsWindowStart s x start → (i : ℕ) → task_of s x ≡ i → j < i
-      → count_by (λ (e : Entry). is_in_window i start answer e && has_preemptor j e) a.entries * set.platform.miss ≤ gamma_ecb set (part_of c) (window_at c) (window_at c i) i j
+  within_ecb : (x start answer j : ℕ) → x < length script.jobs → (completion a.completions x).«end» ≡ «end».Answered answer → IsWindowStart s x start → (i : ℕ) → job_task s x ≡ i → j < i
+      → count_by (λ (e : Entry). is_in_window i start answer e && has_preemptor j e) a.entries * set.platform.miss ≤ gamma_ecb set (certified_part c) (window_at c) (window_at c i) i j
   within_ecb x start answer j h e w i at l =
-      subst (λ z. count_by (λ (d : Entry). is_in_window z start answer d && has_preemptor j d) a.entries * set.platform.miss ≤ gamma_ecb set (part_of c) (window_at c) (window_at c z) z j) at
-      (subst (λ m. m * set.platform.miss ≤ gamma_ecb set (part_of c) (window_at c) (window_at c (task_of s x)) (task_of s x) j)
-      (sym (in_ledger (λ (d : Entry). is_in_window (task_of s x) start answer d && has_preemptor j d)))
+      subst (λ z. count_by (λ (d : Entry). is_in_window z start answer d && has_preemptor j d) a.entries * set.platform.miss ≤ gamma_ecb set (certified_part c) (window_at c) (window_at c z) z j) at
+      (subst (λ m. m * set.platform.miss ≤ gamma_ecb set (certified_part c) (window_at c) (window_at c (job_task s x)) (job_task s x) j)
+      (sym (in_ledger (λ (d : Entry). is_in_window (job_task s x) start answer d && has_preemptor j d)))
       (ledger_within_delays.ecb s set graphs c script.cycles I.ledger x start answer j (has_answered x start answer h e w) (omega (arith, l, at))))
 
 pub checked_account_is_within_delays : CheckedAccountIsWithinDelays
 checked_account_is_within_delays set code graphs c script a K T legal I k =
     record {
-      ucb = λ x start answer j h e w l. within_ucb set code graphs c script a K T legal I k x start answer j h e w (line_at script.jobs x).task.0 (task_is set code graphs c script a K T legal I k x h) l;
-      ecb = λ x start answer j h e w l. within_ecb set code graphs c script a K T legal I k x start answer j h e w (line_at script.jobs x).task.0 (task_is set code graphs c script a K T legal I k x h) l;
+      ucb = λ x start answer j h e w l. within_ucb set code graphs c script a K T legal I k x start answer j h e w (script_line script.jobs x).task.0 (task_is set code graphs c script a K T legal I k x h) l;
+      ecb = λ x start answer j h e w l. within_ecb set code graphs c script a K T legal I k x start answer j h e w (script_line script.jobs x).task.0 (task_is set code graphs c script a K T legal I k x h) l;
     }

@@ -5,18 +5,18 @@ use Rattle.std.proofs.lemmas.Bool.{cases_lt, false≢true, and_parts, and_from, 
 use Rattle.crpd_base.proofs.Options.{some_injective}
 use Rattle.icache.specs.Cache.{block_of, set_of, is_hit}
 use Rattle.crpd_base.specs.Sets.{has as has_set}
-use Rattle.evict_sets.specs.Certificate.{cert_at}
+use Rattle.evict_sets.specs.ListedPart.{certified_task}
 use Rattle.preempt_machine.specs.Step.{turn_of, Fetch, state, makes_fetch}
 use Rattle.preempt_machine.proofs.Steps.{fetch_says}
-use Rattle.run_account.specs.Fetches.{job_of, fetched_set}
-use Rattle.run_account.specs.Reloads.{FetchesAt, IsReload, IsEvictor}
+use Rattle.run_account.specs.Fetches.{job_after, fetched_set}
+use Rattle.run_account.specs.Reloads.{FetchesAt, IsOwnReload, IsEvictor}
 use Rattle.run_account.proofs.Owners.{candidate_at}
 use Rattle.run_account.proofs.ReloadLaws.{fetcher_open}
 use Rattle.run_account.proofs.OwnFetches.{own_candidate, last_fetcher, last_fetcher_is}
-use Rattle.run_account.specs.Nodes.{task_of, plan_at, node_of}
+use Rattle.run_account.specs.Nodes.{job_task, plan_at, node_of_job}
 use Rattle.run_account.specs.Walks.{fetched_nodes}
 use Rattle.sound_laws.specs.Walks.{before_of}
-use Rattle.sound_laws.specs.Rests.{is_entry}
+use Rattle.sound_laws.specs.CyclesToGo.{misses_counted_hit}
 use Rattle.run_account.specs.Ledger
 use Rattle.sound_laws.proofs.Windows.Busy.{task_at}
 use Rattle.run_account.proofs.Preemptors.{preemptor_of}
@@ -36,16 +36,16 @@ module _ (K : CheckedRun) where
   counted_by k (inr g) = λ y. false
 
   pub counted_at : ℕ → ℕ → Bool
-  counted_at x = counted_by (task_of s x) (cases_lt (task_of s x) (length set.tasks))
+  counted_at x = counted_by (job_task s x) (cases_lt (job_task s x) (length set.tasks))
 
-  pub met_by : (x : ℕ) → x < length s.lines → (d : (task_of s x < length set.tasks) ⊎ (length set.tasks ≤ task_of s x)) → IsMet s.system.platform (graphs (task_of s x)) (cert_at c (task_of s x)) (counted_by (task_of s x) d)
+  pub met_by : (x : ℕ) → x < length s.lines → (d : (job_task s x < length set.tasks) ⊎ (length set.tasks ≤ job_task s x)) → IsMet s.system.platform (graphs (job_task s x)) (certified_task c (job_task s x)) (counted_by (job_task s x) d)
   unfolding counted_by
-  met_by x h (inl l) = let test = hit_test s set graphs R C run.tasks c (task_of s x) says l in is_met s set graphs R C run.tasks c x h says l test.0 test.1
+  met_by x h (inl l) = let test = hit_test s set graphs R C run.tasks c (job_task s x) says l in is_met s set graphs R C run.tasks c x h says l test.0 test.1
   met_by x h (inr g) = let l = below_tasks K x h in absurd (omega arith)
 
-  pub met : (x : ℕ) → x < length s.lines → IsMet s.system.platform (graphs (task_of s x)) (cert_at c (task_of s x)) (counted_at x)
+  pub met : (x : ℕ) → x < length s.lines → IsMet s.system.platform (graphs (job_task s x)) (certified_task c (job_task s x)) (counted_at x)
   unfolding counted_at
-  met x h = met_by x h (cases_lt (task_of s x) (length set.tasks))
+  met x h = met_by x h (cases_lt (job_task s x) (length set.tasks))
 
   abbrev pub set_at : ℕ → ℕ
   set_at a = set_of s.system.platform (block_of s.system.platform a)
@@ -53,7 +53,7 @@ module _ (K : CheckedRun) where
   -- the entries: steps that miss at a node that is counted as a hit
   abbrev pub entry_by : Option ℕ → ℕ → Bool
   entry_by None n = false
-  entry_by (Some y) n = is_entry s.system (graphs (task_of s y)) (counted_at y) (turn_of s.system (state s n) y)
+  entry_by (Some y) n = misses_counted_hit s.system (graphs (job_task s y)) (counted_at y) (turn_of s.system (state s n) y)
 
   abbrev pub entry : ℕ → Bool
   entry n = nat_lt n horizon && entry_by (candidate_at s n) n
@@ -65,7 +65,7 @@ module _ (K : CheckedRun) where
   victim n = unwrap_or (candidate_at s n) 0
 
   abbrev pub cached : ℕ → ℕ
-  cached n = set_at (job_of s n (victim n)).pc
+  cached n = set_at (job_after s n (victim n)).pc
 
   abbrev pub evictor_at : ℕ → ℕ
   evictor_at n = last_fetcher s (cached n) n
@@ -80,33 +80,33 @@ module _ (K : CheckedRun) where
     pub own_time : ℕ
     pub fetch : Fetch
     pub own : Fetch
-    pub reload : IsReload s (victim n) n own_time fetch own
+    pub reload : IsOwnReload s (victim n) n own_time fetch own
     pub set_same : fetched_set s fetch ≡ cached n
     pub useful : has_set (parts K (task_at s (victim n))).useful (cached n) ≡ true
     pub last_time : ℕ
     pub last : Fetch
     pub evicts : IsEvictor s (evictor_at n) n last_time fetch last
 
-  pub entry_at : (n x : ℕ) → n ≤ horizon → candidate_at s n ≡ Some x → victim n ≡ x → is_entry s.system (graphs (task_of s x)) (counted_at x) (turn_of s.system (state s n) x) ≡ true → IsEntry n
+  pub entry_at : (n x : ℕ) → n ≤ horizon → candidate_at s n ≡ Some x → victim n ≡ x → misses_counted_hit s.system (graphs (job_task s x)) (counted_at x) (turn_of s.system (state s n) x) ≡ true → IsEntry n
   entry_at n x early e vx b =
       let h = is_below K n x e in
       let k = kept_at K n x early h in
-      let r = entry_is s set graphs R C run.tasks x h (cert_at c (task_of s x)) (counted_at x) (met x h) n k e b in
-      let last = last_fetcher_is s (set_at (job_of s n x).pc) n r.own_time r.own r.reload.own.earlier r.reload.own.own.is r.reload.own.to_set in
-      let in_set : has_set (parts K (task_at s x)).useful (set_at (job_of s n x).pc) ≡ true =
-      subst (λ z. has_set (cert_at c (task_of s x)).part.useful z ≡ true) (set_is s set graphs R C run.tasks x h n k (is_opened K n x e)) r.in_set in
+      let r = entry_is s set graphs R C run.tasks x h (certified_task c (job_task s x)) (counted_at x) (met x h) n k e b in
+      let last = last_fetcher_is s (set_at (job_after s n x).pc) n r.own_time r.own r.reload.own.earlier r.reload.own.own.is r.reload.own.to_set in
+      let in_set : has_set (parts K (task_at s x)).useful (set_at (job_after s n x).pc) ≡ true =
+      subst (λ z. has_set (certified_task c (job_task s x)).part.useful z ≡ true) (set_is s set graphs R C run.tasks x h n k (is_opened K n x e)) r.in_set in
       record {
         is_candidate = e ∙ ap Some (sym vx);
         below = subst (λ k. k < length s.lines) (sym vx) h;
         own_time = r.own_time;
-        fetch = record { job = x; address = (job_of s n x).pc };
+        fetch = record { job = x; address = (job_after s n x).pc };
         own = r.own;
-        reload = subst (λ k. IsReload s k n r.own_time (record { job = x; address = (job_of s n x).pc }) r.own) (sym vx) r.reload;
-        set_same = ap (λ k. set_at (job_of s n k).pc) (sym vx);
-        useful = subst (λ k. has_set (parts K (task_at s k)).useful (set_at (job_of s n k).pc) ≡ true) (sym vx) in_set;
+        reload = subst (λ k. IsOwnReload s k n r.own_time (record { job = x; address = (job_after s n x).pc }) r.own) (sym vx) r.reload;
+        set_same = ap (λ k. set_at (job_after s n k).pc) (sym vx);
+        useful = subst (λ k. has_set (parts K (task_at s k)).useful (set_at (job_after s n k).pc) ≡ true) (sym vx) in_set;
         last_time = last.time;
         last = last.fetch;
-        evicts = record { last = last.last; by = last.by ∙ ap (λ k. last_fetcher s (set_at (job_of s n k).pc) n) (sym vx) };
+        evicts = record { last = last.last; by = last.by ∙ ap (λ k. last_fetcher s (set_at (job_after s n k).pc) n) (sym vx) };
       }
 
   pub entry_says_by : (n : ℕ) (o : Option ℕ) → n ≤ horizon → candidate_at s n ≡ o → entry_by o n ≡ true → IsEntry n
@@ -121,7 +121,7 @@ module _ (K : CheckedRun) where
       let l = entry_early n b in
       entry_says_by n (candidate_at s n) (omega arith) refl (and_parts (nat_lt n horizon) (entry_by (candidate_at s n) n) b).1
 
-  pub extra_is : (n y : ℕ) → n < horizon → candidate_at s n ≡ Some y → extra n ≡ extra_of s.system (graphs (task_of s y)) (counted_at y) (turn_of s.system (state s n) y)
+  pub extra_is : (n y : ℕ) → n < horizon → candidate_at s n ≡ Some y → extra n ≡ extra_of s.system (graphs (job_task s y)) (counted_at y) (turn_of s.system (state s n) y)
   extra_is n y l e =
       let b : nat_lt n horizon ≡ true = lt-ltb n horizon l in
       let one : extra n ≡ (if entry_by (candidate_at s n) n then s.system.platform.miss else 0) = rw b refl in
@@ -135,29 +135,29 @@ module _ (K : CheckedRun) where
       let o = fetcher_open s y m f at in
       let k = kept_at K m y early h in
       let W = (walking s set graphs R C run.tasks m y h k).on_walk o in
-      let node = walk_node s.system (plan_at s y) (graphs (task_of s y)) (ok s set graphs R C run.tasks y h) C.map (node_of (graphs (task_of s y)) (job_of s m y)) (before_of (job_of s m y) (fetched_nodes s graphs m y)) W.walked.walk in
-      let own = ((met y h).all.sets.sets (node_of (graphs (task_of s y)) (job_of s m y)) node).own in
-      let at_pc : has_set (parts K (task_at s y)).evicting (set_at (job_of s m y).pc) ≡ true =
-      subst (λ z. has_set (cert_at c (task_of s y)).part.evicting z ≡ true) (set_is s set graphs R C run.tasks y h m k o) own in
+      let node = walk_node s.system (plan_at s y) (graphs (job_task s y)) (ok s set graphs R C run.tasks y h) C.map (node_of_job (graphs (job_task s y)) (job_after s m y)) (before_of (job_after s m y) (fetched_nodes s graphs m y)) W.walked.walk in
+      let own = ((met y h).all.sets.sets (node_of_job (graphs (job_task s y)) (job_after s m y)) node).own in
+      let at_pc : has_set (parts K (task_at s y)).evicting (set_at (job_after s m y).pc) ≡ true =
+      subst (λ z. has_set (certified_task c (job_task s y)).part.evicting z ≡ true) (set_is s set graphs R C run.tasks y h m k o) own in
       let says_at = fetch_says s.system (state s m) f at.is in
-      let address : (job_of s m y).pc ≡ f.address = ap (λ z. (job_of s m z).pc) (sym at.by) ∙ sym says_at.at in
+      let address : (job_after s m y).pc ≡ f.address = ap (λ z. (job_after s m z).pc) (sym at.by) ∙ sym says_at.at in
       subst (λ a. has_set (parts K (task_at s y)).evicting (set_at a) ≡ true) address at_pc
 
   -- an entry of the ledger passes the test of the account
-  pub ledger_test : (n x : ℕ) (f : Fetch) → n < horizon → Ledger.IsEntry s graphs c n x f → entry n ≡ true
+  pub ledger_test : (n x : ℕ) (f : Fetch) → n < horizon → Ledger.IsLedgerReload s graphs c n x f → entry n ≡ true
   ledger_test n x f l e =
       let mine = own_candidate s x n f e.fetches in
       let hx = is_below K n x mine in
       let o = is_opened K n x mine in
       let k = kept_at K n x (omega arith) hx in
       let W = (walking s set graphs R C run.tasks n x hx k).on_walk o in
-      let node = walk_node s.system (plan_at s x) (graphs (task_of s x)) (ok s set graphs R C run.tasks x hx) C.map (node_of (graphs (task_of s x)) (job_of s n x)) (before_of (job_of s n x) (fetched_nodes s graphs n x)) W.walked.walk in
-      let counted = ((met x hx).hits (node_of (graphs (task_of s x)) (job_of s n x)) node).1 e.counted in
+      let node = walk_node s.system (plan_at s x) (graphs (job_task s x)) (ok s set graphs R C run.tasks x hx) C.map (node_of_job (graphs (job_task s x)) (job_after s n x)) (before_of (job_after s n x) (fetched_nodes s graphs n x)) W.walked.walk in
+      let counted = ((met x hx).hits (node_of_job (graphs (job_task s x)) (job_after s n x)) node).1 e.counted in
       let at = fetch_says s.system (state s n) f e.fetches.is in
       let makes : makes_fetch s.system (turn_of s.system (state s n) x) ≡ true = subst (λ y. makes_fetch s.system (turn_of s.system (state s n) y) ≡ true) e.fetches.by at.makes in
-      let address : f.address ≡ (job_of s n x).pc = at.at ∙ ap (λ y. (job_of s n y).pc) e.fetches.by in
-      let misses : is_hit s.system.platform (state s n).cache (block_of s.system.platform (job_of s n x).pc) ≡ false = subst (λ a. is_hit s.system.platform (state s n).cache (block_of s.system.platform a) ≡ false) address e.misses in
-      let is : is_entry s.system (graphs (task_of s x)) (counted_at x) (turn_of s.system (state s n) x) ≡ true = rw (makes, counted, misses) refl in
+      let address : f.address ≡ (job_after s n x).pc = at.at ∙ ap (λ y. (job_after s n y).pc) e.fetches.by in
+      let misses : is_hit s.system.platform (state s n).cache (block_of s.system.platform (job_after s n x).pc) ≡ false = subst (λ a. is_hit s.system.platform (state s n).cache (block_of s.system.platform a) ≡ false) address e.misses in
+      let is : misses_counted_hit s.system (graphs (job_task s x)) (counted_at x) (turn_of s.system (state s n) x) ≡ true = rw (makes, counted, misses) refl in
       and_from (nat_lt n horizon) _ (lt-ltb n horizon l) (subst (λ q. entry_by q n ≡ true) (sym mine) is)
 
   pub fetch_same : (n x y : ℕ) (f g : Fetch) → FetchesAt s x n f → FetchesAt s y n g → f ≡ g

@@ -4,21 +4,21 @@ use Rattle.std.proofs.lemmas.Bool.{true≢false}
 use Rattle.std.proofs.lemmas.List.{get_or_past}
 use Rattle.crpd_base.specs.declared.data.Platform.{Platform}
 use Rattle.crpd_base.specs.declared.data.TaskSet.{TaskSet}
-use Rattle.flow_watch.specs.Watch.{is_kept}
+use Rattle.flow_watch.specs.Watch.{is_unbroken}
 use Rattle.crpd_base.specs.declared.data.Part.{Part}
 use Rattle.crpd_base.specs.declared.data.Certificate.{Certificate}
 use Rattle.loop_regions.specs.TaskGraph.{TaskGraph}
-use Rattle.cert_check.specs.Judge.{window_at, part_of, longest_at}
+use Rattle.cert_check.specs.JudgeInput.{window_at, certified_part, longest_at}
 use Rattle.cert_check.specs.Verdict.{IsYes}
-use Rattle.evict_sets.specs.Certificate.{cert_at}
+use Rattle.evict_sets.specs.ListedPart.{certified_task}
 use Rattle.preempt_machine.specs.Machine.{Standing, Open, Answered, Faulted, Job, no_job}
 use Rattle.preempt_machine.specs.Step.{is_open, Start, state}
 use Rattle.preempt_machine.specs.Safe.{IsRunOf, IsLegalRun, IsAnsweredBy, IsKept}
-use Rattle.run_account.specs.Fetches.{job_of, HasCache}
+use Rattle.run_account.specs.Fetches.{job_after, HasCache}
 use Rattle.run_account.proofs.Jobs.{jobs_length}
 use Rattle.run_account.proofs.Owners.{candidate_at}
 use Rattle.run_account.proofs.AnswerTimes.{answered_by}
-use Rattle.sound_laws.specs.Walks.{IsInRange, IsCodeOf, RunsJobsOf, RunsLegally}
+use Rattle.sound_laws.specs.Walks.{HasTaskRanges, IsCodeOf, RunsJobsOf, RunsLegally}
 use Rattle.sound_laws.proofs.Windows.Busy.{task_at}
 use Rattle.run_account.proofs.JobWalks.{kept_before, opened}
 use Rattle.sound_laws.proofs.Walks.KeptWalks.{below_at, task_below}
@@ -30,14 +30,14 @@ pub record CheckedRun : Type 0 where
   pub graphs : ℕ → TaskGraph
   pub certificate : Certificate
   pub horizon : ℕ
-  pub in_range : IsInRange set
+  pub in_range : HasTaskRanges set
   pub code : IsCodeOf start.system set graphs
   pub says : IsYes set graphs certificate
   pub run : RunsJobsOf set start
   pub kept : IsKept (state start horizon)
 
 -- the record of these parts
-abbrev pub checked_run : (s : Start) (set : TaskSet) (graphs : ℕ → TaskGraph) (c : Certificate) (n : ℕ) → IsInRange set → IsCodeOf s.system set graphs → IsYes set graphs c → RunsJobsOf set s → IsKept (state s n) → CheckedRun
+abbrev pub checked_run : (s : Start) (set : TaskSet) (graphs : ℕ → TaskGraph) (c : Certificate) (n : ℕ) → HasTaskRanges set → IsCodeOf s.system set graphs → IsYes set graphs c → RunsJobsOf set s → IsKept (state s n) → CheckedRun
 checked_run s set graphs c n R C says run kept =
     record { start = s; set = set; graphs = graphs; certificate = c; horizon = n; in_range = R; code = C; says = says; run = run; kept = kept }
 
@@ -48,13 +48,13 @@ module _ (K : CheckedRun) where
   window k = window_at c k
 
   abbrev pub parts : ℕ → Part
-  parts = part_of c
+  parts = certified_part c
 
   abbrev pub longest : ℕ → ℕ
   longest = longest_at set.platform graphs
 
   abbrev pub bound_of : ℕ → ℕ
-  bound_of k = (cert_at c k).part.bound
+  bound_of k = (certified_task c k).part.bound
 
   pub some_sets : 0 < s.system.platform.sets
   some_sets = subst (λ (p : Platform). 1 ≤ p.sets) (sym C.platform) R.sets
@@ -65,30 +65,30 @@ module _ (K : CheckedRun) where
   pub below_tasks : (x : ℕ) → x < length s.lines → task_at s x < length set.tasks
   below_tasks x h = task_below s set graphs R C run.tasks x h
 
-  pub is_opened : (n x : ℕ) → candidate_at s n ≡ Some x → is_open (job_of s n x).standing ≡ true
+  pub is_opened : (n x : ℕ) → candidate_at s n ≡ Some x → is_open (job_after s n x).standing ≡ true
   is_opened n x e = opened s graphs n x e
 
   pub is_below : (n x : ℕ) → candidate_at s n ≡ Some x → x < length s.lines
   is_below n x e = below_at s set graphs R C run.tasks n x e
 
-  pub kept_down : (d n x : ℕ) → is_kept (job_of s (n + d) x).watch ≡ true → is_kept (job_of s n x).watch ≡ true
-  kept_down zero n x k = let e : n + 0 ≡ n = omega arith in subst (λ m. is_kept (job_of s m x).watch ≡ true) e k
+  pub kept_down : (d n x : ℕ) → is_unbroken (job_after s (n + d) x).watch ≡ true → is_unbroken (job_after s n x).watch ≡ true
+  kept_down zero n x k = let e : n + 0 ≡ n = omega arith in subst (λ m. is_unbroken (job_after s m x).watch ≡ true) e k
   kept_down (suc d) n x k =
       let e : n + suc d ≡ suc (n + d) = omega arith in
-      kept_down d n x (kept_before s graphs (n + d) x (subst (λ m. is_kept (job_of s m x).watch ≡ true) e k))
+      kept_down d n x (kept_before s graphs (n + d) x (subst (λ m. is_unbroken (job_after s m x).watch ≡ true) e k))
 
-  pub kept_at : (n x : ℕ) → n ≤ horizon → x < length s.lines → is_kept (job_of s n x).watch ≡ true
+  pub kept_at : (n x : ℕ) → n ≤ horizon → x < length s.lines → is_unbroken (job_after s n x).watch ≡ true
   kept_at n x l h =
       let e : n + (horizon - n) ≡ horizon = omega arith in
-      kept_down (horizon - n) n x (subst (λ m. is_kept (job_of s m x).watch ≡ true) (sym e) (kept x no_job (omega (arith, jobs_length s horizon, h))))
+      kept_down (horizon - n) n x (subst (λ m. is_unbroken (job_after s m x).watch ≡ true) (sym e) (kept x no_job (omega (arith, jobs_length s horizon, h))))
 
-  pub past_over : (n x : ℕ) → length s.lines ≤ x → is_open (job_of s n x).standing ≡ false
+  pub past_over : (n x : ℕ) → length s.lines ≤ x → is_open (job_after s n x).standing ≡ false
   past_over n x g = ap (λ (j : Job). is_open j.standing) (get_or_past (state s n).jobs x no_job (omega (arith, jobs_length s n)))
 
   pub sets_same : s.system.platform.sets ≡ set.platform.sets
   sets_same = ap (λ (p : Platform). p.sets) C.platform
 
-  pub answered_in_time : (m d x : ℕ) (st : Standing) → (job_of s m x).standing ≡ st → is_open st ≡ false → st ≢ Faulted → m ≤ d → IsAnsweredBy d st
+  pub answered_in_time : (m d x : ℕ) (st : Standing) → (job_after s m x).standing ≡ st → is_open st ≡ false → st ≢ Faulted → m ≤ d → IsAnsweredBy d st
   answered_in_time m d x Open e o f l = absurd (true≢false o)
   answered_in_time m d x (Answered a) e o f l = let b = answered_by s m x a e in omega (arith, b)
   answered_in_time m d x Faulted e o f l = absurd (f refl)

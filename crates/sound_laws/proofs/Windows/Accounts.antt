@@ -4,10 +4,10 @@ use Rattle.std.specs.Prelude.{◌==◌, if◌then◌else◌}
 use Rattle.std.proofs.lemmas.Bool.{cases_Bool, false≢true, ne_eqb, or_cases, or_left}
 use Rattle.crpd_base.proofs.Sums.{sum_change, sum_change_two}
 use Rattle.crpd_base.proofs.Options.{some_injective, none_some, same_or_not}
-use Rattle.preempt_machine.specs.Step.{is_open, is_ready, owns, turn_of, Start, state}
+use Rattle.preempt_machine.specs.Step.{is_open, is_ready, is_owner, turn_of, Start, state}
 use Rattle.preempt_machine.proofs.Order.{comes_before_asym}
 use Rattle.preempt_machine.proofs.Steps.{new_owner, candidate_some, ready_open, step_other}
-use Rattle.run_account.specs.Fetches.{job_of}
+use Rattle.run_account.specs.Fetches.{job_after}
 use Rattle.crpd_base.specs.Sum.{sum_below}
 use Rattle.run_account.proofs.Jobs.{jobs_length, owns_none}
 use Rattle.run_account.proofs.Owners.{candidate_at, was_owner, owns_true, owns_same, owner_after, owner_stays, owner_was, was_released, ready_at, owner_is_first, first_at}
@@ -17,7 +17,7 @@ use Rattle.run_account.proofs.Owners.{candidate_at, was_owner, owns_true, owns_s
 pub record Spends (s : Start) (rest : ℕ → ℕ → ℕ) (extra : ℕ → ℕ) (horizon : ℕ) : Type 0 where
   pub spends : (n y : ℕ) → n < horizon → candidate_at s n ≡ Some y → rest (suc n) y + (state s (suc n)).switch_left + 1 ≤ rest n y + (turn_of s.system (state s n) y).switch_left + extra n
   pub keeps : (n x : ℕ) → n < horizon → candidate_at s n ≢ Some x → rest (suc n) x ≤ rest n x
-  pub some : (n x : ℕ) → n ≤ horizon → is_open (job_of s n x).standing ≡ true → 1 ≤ rest n x
+  pub some : (n x : ℕ) → n ≤ horizon → is_open (job_after s n x).standing ≡ true → 1 ≤ rest n x
 
 module _ (s : Start) (rest : ℕ → ℕ → ℕ) (inside : ℕ → Bool) (i : ℕ) where
   -- a job's first switch, until it has been a candidate
@@ -26,7 +26,7 @@ module _ (s : Start) (rest : ℕ → ℕ → ℕ) (inside : ℕ → Bool) (i : �
 
   -- the switch back from a job other than i, until it is over and another is the owner
   abbrev pub switch_back : ℕ → ℕ → ℕ
-  switch_back n x = if x == i then 0 else (if is_open (job_of s n x).standing || owns (state s n).owner x then s.system.platform.switch else 0)
+  switch_back n x = if x == i then 0 else (if is_open (job_after s n x).standing || is_owner (state s n).owner x then s.system.platform.switch else 0)
 
   abbrev pub weight : ℕ → ℕ → ℕ
   weight n x = if inside x then rest n x + first_switch n x + switch_back n x else 0
@@ -66,11 +66,11 @@ module _ (s : Start) (rest : ℕ → ℕ → ℕ) (extra : ℕ → ℕ) (horizon
 
   back_le : (n y x : ℕ) → candidate_at s n ≡ Some y → x ≢ y → switch_back s rest inside i (suc n) x ≤ switch_back s rest inside i n x
   back_le n y x e ne =
-      let same : job_of s (suc n) x ≡ job_of s n x = step_other s.system (state s n) x (λ q. ne (some_injective (sym q ∙ e))) in
-      let away : owns (state s (suc n)).owner x ≡ false = rw (owner_after s n y e) (ne_eqb y x (λ q. ne (sym q))) in
+      let same : job_after s (suc n) x ≡ job_after s n x = step_other s.system (state s n) x (λ q. ne (some_injective (sym q ∙ e))) in
+      let away : is_owner (state s (suc n)).owner x ≡ false = rw (owner_after s n y e) (ne_eqb y x (λ q. ne (sym q))) in
       elim (cases_Bool (x == i)) [
         | inl b ↦ rw b (omega arith)
-        | inr b ↦ elim (cases_Bool (is_open (job_of s n x).standing)) [
+        | inr b ↦ elim (cases_Bool (is_open (job_after s n x).standing)) [
           | inl o ↦ rw (b, same, o) (omega arith)
           | inr o ↦ rw (b, same, o, away) (omega arith)
         ]
@@ -93,31 +93,31 @@ module _ (s : Start) (rest : ℕ → ℕ → ℕ) (extra : ℕ → ℕ) (horizon
   back_at_most n y =
       elim (cases_Bool (y == i)) [
         | inl b ↦ rw b (omega arith)
-        | inr b ↦ elim (cases_Bool (is_open (job_of s n y).standing || owns (state s n).owner y)) [ inl o ↦ rw (b, o) (omega arith) | inr o ↦ rw (b, o) (omega arith) ]
+        | inr b ↦ elim (cases_Bool (is_open (job_after s n y).standing || is_owner (state s n).owner y)) [ inl o ↦ rw (b, o) (omega arith) | inr o ↦ rw (b, o) (omega arith) ]
       ]
 
-  back_open : (n y : ℕ) → is_open (job_of s n y).standing ≡ true → switch_back s rest inside i n y ≡ back y
+  back_open : (n y : ℕ) → is_open (job_after s n y).standing ≡ true → switch_back s rest inside i n y ≡ back y
   back_open n y o = rw o
 
   own_after : (n y : ℕ) → candidate_at s n ≡ Some y → inside y ≡ true → weight s rest inside i (suc n) y ≤ rest (suc n) y + back y
   own_after n y e h =
       let b = back_at_most (suc n) y in
-      let w : was_owner s (suc n) y ≡ true = or_left (owns (candidate_at s n) y) (was_owner s n y) (rw e (owns_same y)) in
+      let w : was_owner s (suc n) y ≡ true = or_left (is_owner (candidate_at s n) y) (was_owner s n y) (rw e (owns_same y)) in
       rw (h, w) (omega (arith, b))
 
-  own_before : (n y : ℕ) → is_open (job_of s n y).standing ≡ true → inside y ≡ true → weight s rest inside i n y ≡ rest n y + first_switch s rest inside i n y + back y
+  own_before : (n y : ℕ) → is_open (job_after s n y).standing ≡ true → inside y ≡ true → weight s rest inside i n y ≡ rest n y + first_switch s rest inside i n y + back y
   own_before n y o h = rw (h, back_open n y o)
 
   pending_after : (n y : ℕ) → candidate_at s n ≡ Some y → inside y ≡ true → pending s rest inside i (suc n) ≡ (state s (suc n)).switch_left
   pending_after n y e h = rw (owner_after s n y e, h)
 
   -- a step of a job inside spends a cycle of the account, while i is open
-  module _ (n y : ℕ) (early : n < horizon) (e : candidate_at s n ≡ Some y) (h : inside y ≡ true) (opened : is_open (job_of s n i).standing ≡ true) where
-    y_ready : is_ready (state s n).time (job_of s n y) ≡ true
+  module _ (n y : ℕ) (early : n < horizon) (e : candidate_at s n ≡ Some y) (h : inside y ≡ true) (opened : is_open (job_after s n i).standing ≡ true) where
+    y_ready : is_ready (state s n).time (job_after s n y) ≡ true
     y_ready = (candidate_some s.system (state s n) y e).ready
 
-    y_open : is_open (job_of s n y).standing ≡ true
-    y_open = ready_open (state s n).time (job_of s n y) y_ready
+    y_open : is_open (job_after s n y).standing ≡ true
+    y_open = ready_open (state s n).time (job_after s n y) y_ready
 
     y_below : y < length s.lines
     y_below = let below = (candidate_some s.system (state s n) y e).below in omega (arith, below, jobs_length s n)
@@ -149,11 +149,11 @@ module _ (s : Start) (rest : ℕ → ℕ → ℕ) (extra : ℕ → ℕ) (horizon
         omega (arith, all)
 
     -- a job becomes the owner again: then the owner before it is over, and its switch back is spent
-    owner_over : (o : ℕ) → (state s n).owner ≡ Some o → o ≢ y → was_owner s n y ≡ true → is_open (job_of s n o).standing ≡ false
+    owner_over : (o : ℕ) → (state s n).owner ≡ Some o → o ≢ y → was_owner s n y ≡ true → is_open (job_after s n o).standing ≡ false
     owner_over o own ne w =
-        elim (cases_Bool (is_open (job_of s n o).standing)) [
+        elim (cases_Bool (is_open (job_after s n o).standing)) [
           | inl oo ↦
-              let r : (job_of s 0 o).line.release ≤ n = omega (arith, was_released s n o (owner_was s n o own)) in
+              let r : (job_after s 0 o).line.release ≤ n = omega (arith, was_released s n o (owner_was s n o own)) in
               let y_first = first_at s n y o e (new_owner (λ q. ne (some_injective (sym own ∙ q)))) (ready_at s n o oo r) in
               let o_first = owner_is_first s n y o w y_open own oo in
               elim y_first [
@@ -166,12 +166,12 @@ module _ (s : Start) (rest : ℕ → ℕ → ℕ) (extra : ℕ → ℕ) (horizon
           | inr oo ↦ oo
         ]
 
-    gives_back : (o : ℕ) → (state s n).owner ≡ Some o → o ≢ y → inside o ≡ true → is_open (job_of s n o).standing ≡ false → weight s rest inside i (suc n) o + s.system.platform.switch ≤ weight s rest inside i n o
+    gives_back : (o : ℕ) → (state s n).owner ≡ Some o → o ≢ y → inside o ≡ true → is_open (job_after s n o).standing ≡ false → weight s rest inside i (suc n) o + s.system.platform.switch ≤ weight s rest inside i n o
     gives_back o own ne io over =
-        let same : job_of s (suc n) o ≡ job_of s n o = step_other s.system (state s n) o (λ q. ne (some_injective (sym q ∙ e))) in
+        let same : job_after s (suc n) o ≡ job_after s n o = step_other s.system (state s n) o (λ q. ne (some_injective (sym q ∙ e))) in
         let k = spends.keeps n o early (λ q. ne (some_injective (sym q ∙ e))) in
-        let not_i : (o == i) ≡ false = ne_eqb o i (λ q. false≢true (sym over ∙ subst (λ z. is_open (job_of s n z).standing ≡ true) (sym q) opened)) in
-        let away : owns (state s (suc n)).owner o ≡ false = rw (owner_after s n y e) (ne_eqb y o (λ q. ne (sym q))) in
+        let not_i : (o == i) ≡ false = ne_eqb o i (λ q. false≢true (sym over ∙ subst (λ z. is_open (job_after s n z).standing ≡ true) (sym q) opened)) in
+        let away : is_owner (state s (suc n)).owner o ≡ false = rw (owner_after s n y e) (ne_eqb y o (λ q. ne (sym q))) in
         let back_now : switch_back s rest inside i n o ≡ s.system.platform.switch = rw (not_i, over, own, owns_same o) in
         let back_then : switch_back s rest inside i (suc n) o ≡ 0 = rw (not_i, same, over, away) in
         rw (io, was_same n y o e ne) (omega (arith, k, back_now, back_then))

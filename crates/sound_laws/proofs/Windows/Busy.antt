@@ -9,14 +9,14 @@ use Rattle.crpd_base.specs.declared.data.ScriptJob.{ScriptJob}
 use Rattle.preempt_machine.specs.Step.{is_open, is_ready, comes_before, Start, state}
 use Rattle.preempt_machine.proofs.Steps.{WhyFirst, candidate_some, candidate_none, ready_open, ready_released}
 use Rattle.preempt_machine.proofs.Runs.{state_time, state_line}
-use Rattle.run_account.specs.Fetches.{job_of}
+use Rattle.run_account.specs.Fetches.{job_after}
 use Rattle.run_account.proofs.Jobs.{jobs_length}
 use Rattle.run_account.proofs.Owners.{candidate_at, was_owner, was_open, was_released, owner_after, ready_at, first_at}
 use Rattle.sound_laws.proofs.Windows.Rooms.{Covers}
 
 -- the script's line of a job
 abbrev pub line_at : Start → ℕ → ScriptJob
-line_at s x = (job_of s 0 x).line
+line_at s x = (job_after s 0 x).line
 
 abbrev pub task_at : Start → ℕ → ℕ
 task_at s x = (line_at s x).task.0
@@ -27,7 +27,7 @@ before_task a x b y h = grind (arith, nat_tests)
 
 -- whether a job of a higher task than i's, released before t, is open at t
 abbrev pub is_busy_by : Start → ℕ → ℕ → ℕ → Bool
-is_busy_by s i t x = nat_lt (task_at s x) (task_at s i) && (nat_lt (line_at s x).release t && is_open (job_of s t x).standing)
+is_busy_by s i t x = nat_lt (task_at s x) (task_at s i) && (nat_lt (line_at s x).release t && is_open (job_after s t x).standing)
 
 -- whether there is one among the first n
 abbrev pub is_busy : Start → ℕ → ℕ → ℕ → Bool
@@ -98,7 +98,7 @@ in_window s i t to x = (x == i) || (nat_lt (task_at s x) (task_at s i) && (nat_l
 
 module _ (s : Start) (i t to : ℕ) (below : i < length s.lines) (last : IsLastQuiet s i (line_at s i).release t) where
   -- an open job of a higher task that was released is one of the window
-  higher_inside : (n y : ℕ) → t ≤ n → n < to → y < length s.lines → task_at s y < task_at s i → (line_at s y).release ≤ n → is_open (job_of s n y).standing ≡ true → in_window s i t to y ≡ true
+  higher_inside : (n y : ℕ) → t ≤ n → n < to → y < length s.lines → task_at s y < task_at s i → (line_at s y).release ≤ n → is_open (job_after s n y).standing ≡ true → in_window s i t to y ≡ true
   higher_inside n y f l b h r o =
       let late : t ≤ (line_at s y).release =
       elim (cases_lt (line_at s y).release t) [
@@ -111,7 +111,7 @@ module _ (s : Start) (i t to : ℕ) (below : i < length s.lines) (last : IsLastQ
       or_right (y == i) _ (and_from _ _ (lt-ltb _ _ h) (and_from _ _ (le-leb _ _ late) (lt-ltb _ _ (omega arith))))
 
   -- before i's release a job of a higher task is ready
-  busy_ready : (n : ℕ) → t ≤ n → n < (line_at s i).release → (x : ℕ) × (task_at s x < task_at s i) × (is_ready (state s n).time (job_of s n x) ≡ true)
+  busy_ready : (n : ℕ) → t ≤ n → n < (line_at s i).release → (x : ℕ) × (task_at s x < task_at s i) × (is_ready (state s n).time (job_after s n x) ≡ true)
   busy_ready n f l =
       let some = busy_some s i (suc n) (length s.lines) (last.busy (suc n) (omega arith) (omega arith)) in
       let both = and_parts _ _ some.2 in
@@ -121,14 +121,14 @@ module _ (s : Start) (i t to : ℕ) (below : i < length s.lines) (last : IsLastQ
 
   -- no other job of i's task is ready after i's release
   abbrev NoOther : Type 0
-  NoOther = (n x : ℕ) → (line_at s i).release ≤ n → n < to → x ≢ i → task_at s x ≡ task_at s i → is_ready (state s n).time (job_of s n x) ≡ false
+  NoOther = (n x : ℕ) → (line_at s i).release ≤ n → n < to → x ≢ i → task_at s x ≡ task_at s i → is_ready (state s n).time (job_after s n x) ≡ false
 
   -- the candidate that comes before all other ready jobs, where a job is ready that is i or of a higher task
-  first_inside : (n z y : ℕ) → candidate_at s n ≡ Some y → t ≤ n → n < to → is_ready (state s n).time (job_of s n z) ≡ true → (z ≡ i) × ((line_at s i).release ≤ n) ⊎ (task_at s z < task_at s i) → NoOther → WhyFirst s.system (state s n) y → in_window s i t to y ≡ true
+  first_inside : (n z y : ℕ) → candidate_at s n ≡ Some y → t ≤ n → n < to → is_ready (state s n).time (job_after s n z) ≡ true → (z ≡ i) × ((line_at s i).release ≤ n) ⊎ (task_at s z < task_at s i) → NoOther → WhyFirst s.system (state s n) y → in_window s i t to y ≡ true
   first_inside n z y e f l r kind no_other why =
       let is = candidate_some s.system (state s n) y e in
-      let y_open = ready_open (state s n).time (job_of s n y) is.ready in
-      let y_released : (line_at s y).release ≤ n = rw (state_line s n y, state_time s n) at (ready_released (state s n).time (job_of s n y) is.ready) in
+      let y_open = ready_open (state s n).time (job_after s n y) is.ready in
+      let y_released : (line_at s y).release ≤ n = rw (state_line s n y, state_time s n) at (ready_released (state s n).time (job_after s n y) is.ready) in
       let y_below : y < length s.lines = omega (arith, is.below, jobs_length s n) in
       let task_le : task_at s y ≤ task_at s z = elim (first_at s n y z e why r) [ inl q ↦ rw q (omega arith) | inr b ↦ before_task _ _ _ _ b ] in
       elim (cases_lt (task_at s y) (task_at s i)) [
@@ -145,7 +145,7 @@ module _ (s : Start) (i t to : ℕ) (below : i < length s.lines) (last : IsLastQ
       ]
 
   -- the candidate, where such a job is ready
-  inside_by : (n z : ℕ) (c : Option ℕ) → candidate_at s n ≡ c → t ≤ n → n < to → is_ready (state s n).time (job_of s n z) ≡ true → (z ≡ i) × ((line_at s i).release ≤ n) ⊎ (task_at s z < task_at s i) → NoOther → ((y : ℕ) → candidate_at s n ≡ Some y → WhyFirst s.system (state s n) y ⊎ (in_window s i t to y ≡ true)) → (y : ℕ) × (candidate_at s n ≡ Some y) × (in_window s i t to y ≡ true)
+  inside_by : (n z : ℕ) (c : Option ℕ) → candidate_at s n ≡ c → t ≤ n → n < to → is_ready (state s n).time (job_after s n z) ≡ true → (z ≡ i) × ((line_at s i).release ≤ n) ⊎ (task_at s z < task_at s i) → NoOther → ((y : ℕ) → candidate_at s n ≡ Some y → WhyFirst s.system (state s n) y ⊎ (in_window s i t to y ≡ true)) → (y : ℕ) × (candidate_at s n ≡ Some y) × (in_window s i t to y ≡ true)
   inside_by n z None e f l r kind no_other takes = absurd (false≢true (sym (candidate_none s.system (state s n) e z) ∙ r))
   inside_by n z (Some y) e f l r kind no_other takes =
       elim (takes y e) [ inl why ↦ (y, e, first_inside n z y e f l r kind no_other why) | inr in_it ↦ (y, e, in_it) ]
@@ -169,14 +169,14 @@ module _ (s : Start) (i t to : ℕ) (below : i < length s.lines) (last : IsLastQ
 
   module _ (from : ℕ) (front : HasFront from) (no_other : NoOther) where
     -- a ready job that is i or of a higher task, at each step of the window
-    some_ready : (n : ℕ) → t ≤ n → is_open (job_of s n i).standing ≡ true → (z : ℕ) × (is_ready (state s n).time (job_of s n z) ≡ true) × ((z ≡ i) × ((line_at s i).release ≤ n) ⊎ (task_at s z < task_at s i))
+    some_ready : (n : ℕ) → t ≤ n → is_open (job_after s n i).standing ≡ true → (z : ℕ) × (is_ready (state s n).time (job_after s n z) ≡ true) × ((z ≡ i) × ((line_at s i).release ≤ n) ⊎ (task_at s z < task_at s i))
     some_ready n f o =
         elim (cases_lt n (line_at s i).release) [
           | inl early ↦ let z = busy_ready n f early in (z.0, z.2, inr z.1)
           | inr late ↦ (i, ready_at s n i o late, inl (refl, late))
         ]
 
-    within_front : (n : ℕ) → from ≤ n → n < to → is_open (job_of s n i).standing ≡ true → (y : ℕ) × (candidate_at s n ≡ Some y) × (in_window s i t to y ≡ true)
+    within_front : (n : ℕ) → from ≤ n → n < to → is_open (job_after s n i).standing ≡ true → (y : ℕ) × (candidate_at s n ≡ Some y) × (in_window s i t to y ≡ true)
     within_front zero g l o =
         let z = some_ready 0 (omega (arith, front.after)) o in
         inside_by 0 z.0 (candidate_at s 0) refl (omega (arith, front.after)) l z.1 z.2 no_other
@@ -198,7 +198,7 @@ module _ (s : Start) (i t to : ℕ) (below : i < length s.lines) (last : IsLastQ
         record {
           none_before = λ n y l e. elim (cases_lt n t) [
             | inl early ↦ early_outside y (
-                let r : (line_at s y).release ≤ n = rw (state_line s n y, state_time s n) at (ready_released (state s n).time (job_of s n y) (candidate_some s.system (state s n) y e).ready) in
+                let r : (line_at s y).release ≤ n = rw (state_line s n y, state_time s n) at (ready_released (state s n).time (job_after s n y) (candidate_some s.system (state s n) y e).ready) in
                 omega arith)
             | inr g ↦ early_outside y (was_released s t y (front.old n y g l e))
           ];

@@ -11,9 +11,9 @@ use Rattle.crpd_base.specs.declared.data.Method.{Method}
 use Rattle.crpd_base.specs.declared.data.Method.TheVariants.{Ucb, Ecb}
 use Rattle.delay_count.specs.Gamma.{ucb_count, ecb_count}
 use Rattle.delay_count.specs.Demand.{gamma}
-use Rattle.evict_sets.specs.Certificate.{cert_at}
+use Rattle.evict_sets.specs.ListedPart.{certified_task}
 use Rattle.preempt_machine.specs.Step.{is_open}
-use Rattle.run_account.specs.Fetches.{job_of}
+use Rattle.run_account.specs.Fetches.{job_after}
 use Rattle.run_account.proofs.Owners.{was_open}
 use Rattle.sound_laws.proofs.Windows.Rooms.{Covers}
 use Rattle.sound_laws.proofs.Windows.Busy.{task_at, in_window}
@@ -35,10 +35,10 @@ module _ (K : CheckedRun) where
     delay_by m k = sum_below (gamma set (parts K) (window K) (window K k) m k) k
 
     abbrev pub delay : ℕ → ℕ
-    delay k = delay_by (cert_at c k).method k
+    delay k = delay_by (certified_task c k).method k
 
     -- the entries of a whole window
-    module _ (i t from : ℕ) (h : i < length s.lines) (after : t ≤ from) (fits : from ≤ t + window K (task_at s i)) (in_horizon : t + window K (task_at s i) ≤ horizon) (covers : Covers s (in_window s i t (t + window K (task_at s i))) i from (t + window K (task_at s i))) (higher : HigherAreOver s (window K) horizon i) (o : is_open (job_of s (t + window K (task_at s i)) i).standing ≡ true) where
+    module _ (i t from : ℕ) (h : i < length s.lines) (after : t ≤ from) (fits : from ≤ t + window K (task_at s i)) (in_horizon : t + window K (task_at s i) ≤ horizon) (covers : Covers s (in_window s i t (t + window K (task_at s i))) i from (t + window K (task_at s i))) (higher : HigherAreOver s (window K) horizon i) (o : is_open (job_after s (t + window K (task_at s i)) i).standing ≡ true) where
       abbrev until : ℕ
       until = t + window K (task_at s i)
 
@@ -60,7 +60,7 @@ module _ (K : CheckedRun) where
             preempted = subst (λ c. HasPreemptor s (victim K n) n (preemptor_of s (victim K n) c n) e.fetch) e.set_same (preemptor_is s (victim K n) n e.own_time e.fetch e.own (cached_run K) e.reload);
           }
 
-      open_until : (n : ℕ) → n < t + window K (task_at s i) → is_open (job_of s n i).standing ≡ true
+      open_until : (n : ℕ) → n < t + window K (task_at s i) → is_open (job_after s n i).standing ≡ true
       open_until n l = was_open s n (t + window K (task_at s i)) i (omega arith) o
 
       delayed_by : (m : Method) → set.platform.miss * count counted_entry until ≤ delay_by m (task_at s i)
@@ -77,7 +77,7 @@ module _ (K : CheckedRun) where
 
       pub delayed : sum_below (extra K) until ≤ sum_below (extra K) from + delay (task_at s i)
       delayed =
-          let times = delayed_by (cert_at c (task_at s i)).method in
+          let times = delayed_by (certified_task c (task_at s i)).method in
           let same : s.system.platform.miss * count counted_entry until ≡ set.platform.miss * count counted_entry until = ap (λ (p : Platform). p.miss * count counted_entry until) C.platform in
           let counts = extra_counts K from (t + window K (task_at s i)) fits in
           let le = count_le (λ n. nat_le from n && entry K n) counted_entry (t + window K (task_at s i)) (λ n l b.

@@ -9,15 +9,15 @@ use Rattle.script_reader.specs.Legal.{IsLegal, jitter_of, period_of}
 use Rattle.delay_count.specs.Counts.{jobs_of}
 use Rattle.delay_count.specs.Demand.{blocking, greatest_from, gamma}
 use Rattle.cert_check.specs.declared.outcome.Clause.TheVariants.{Window, Response, Deadline}
-use Rattle.cert_check.specs.Judge.{longest_of}
-use Rattle.evict_sets.specs.Certificate.{cert_at}
+use Rattle.cert_check.specs.JudgeInput.{longest_of}
+use Rattle.evict_sets.specs.ListedPart.{certified_task}
 use Rattle.preempt_machine.specs.Machine.{Job}
 use Rattle.preempt_machine.specs.Step.{is_open, state}
 use Rattle.preempt_machine.specs.Safe.{IsAnsweredBy}
 use Rattle.preempt_machine.proofs.Runs.{over_stays}
-use Rattle.run_account.specs.Fetches.{job_of}
+use Rattle.run_account.specs.Fetches.{job_after}
 use Rattle.run_account.proofs.Owners.{owner_was, was_released}
-use Rattle.run_account.specs.Nodes.{task_of}
+use Rattle.run_account.specs.Nodes.{job_task}
 use Rattle.sound_laws.proofs.Windows.Accounts.{was_below}
 use Rattle.sound_laws.proofs.Windows.Busy.{line_at, task_at, IsLastQuiet, is_busy_by, busy_none}
 use Rattle.sound_laws.proofs.Windows.Demands.{in_time_at, base_demand}
@@ -39,16 +39,16 @@ module _ (K : CheckedRun) where
     abbrev pub block : ℕ → ℕ
     block k = blocking s.system.platform.switching (longest K) k (length set.tasks)
 
-    pub owner_short : (x t : ℕ) → x < length s.lines → t ≤ horizon → IsLastQuiet s x (line_at s x).release t → (o : ℕ) → (state s t).owner ≡ Some o → middle (job_of s t o) ≤ greatest_from (λ k. longest K k - 1) (task_at s x) (length set.tasks)
+    pub owner_short : (x t : ℕ) → x < length s.lines → t ≤ horizon → IsLastQuiet s x (line_at s x).release t → (o : ℕ) → (state s t).owner ≡ Some o → middle (job_after s t o) ≤ greatest_from (λ k. longest K k - 1) (task_at s x) (length set.tasks)
     owner_short x t h early last o own =
-        elim (cases_Bool (is_open (job_of s t o).standing)) [
-          | inr over ↦ let z = middle_over (job_of s t o) over in omega (arith, z)
+        elim (cases_Bool (is_open (job_after s t o).standing)) [
+          | inr over ↦ let z = middle_over (job_after s t o) over in omega (arith, z)
           | inl open_o ↦
               let was = owner_was s t o own in
               let below = was_below s t o was in
-              let short = short_at s set graphs R C run.tasks (cert_at c (task_of s o)) o below (counted_at K o) (met K o below) t (kept_at K t o early below) open_o in
-              let same : longest_of s.system.platform (graphs (task_of s o)) ≡ longest_of set.platform (graphs (task_of s o)) = ap (λ p. longest_of p (graphs (task_of s o))) C.platform in
-              let is = middle_left (job_of s t o) open_o in
+              let short = short_at s set graphs R C run.tasks (certified_task c (job_task s o)) o below (counted_at K o) (met K o below) t (kept_at K t o early below) open_o in
+              let same : longest_of s.system.platform (graphs (job_task s o)) ≡ longest_of set.platform (graphs (job_task s o)) = ap (λ p. longest_of p (graphs (job_task s o))) C.platform in
+              let is = middle_left (job_after s t o) open_o in
               let not_higher : task_at s x ≤ task_at s o =
               elim (cases_lt (task_at s o) (task_at s x)) [
                 | inl up ↦
@@ -67,7 +67,7 @@ module _ (K : CheckedRun) where
     pub room_at : (k : ℕ) → k < length set.tasks → block k + base_demand set s.system.platform.switch (bound_of K) k (window K k) + delay K legal k ≤ window K k
     room_at k h =
         let r = (says k Window h).1 in
-        let split = sum_add (λ j. jobs_of set j (window K k) * (bound_of K j + (set.platform.switch + set.platform.switch))) (gamma set (parts K) (window K) (window K k) (cert_at c k).method k) k in
+        let split = sum_add (λ j. jobs_of set j (window K k) * (bound_of K j + (set.platform.switch + set.platform.switch))) (gamma set (parts K) (window K) (window K k) (certified_task c k).method k) k in
         let by_set : blocking set.platform.switching (longest K) k (length set.tasks) + base_demand set set.platform.switch (bound_of K) k (window K k) + delay K legal k ≤ window K k = omega (arith, r, split) in
         subst (λ (p : Platform). blocking p.switching (longest K) k (length set.tasks) + base_demand set p.switch (bound_of K) k (window K k) + delay K legal k ≤ window K k) (sym C.platform) by_set
 
@@ -89,16 +89,16 @@ module _ (K : CheckedRun) where
           delays = λ x t from h q a b e covers higher o. delayed K legal x t from h a b e covers higher o;
         }
 
-    pub sure_over : (x : ℕ) → x < length s.lines → (line_at s x).release + window K (task_at s x) ≤ horizon → is_open (job_of s ((line_at s x).release + window K (task_at s x)) x).standing ≡ false
+    pub sure_over : (x : ℕ) → x < length s.lines → (line_at s x).release + window K (task_at s x) ≤ horizon → is_open (job_after s ((line_at s x).release + window K (task_at s x)) x).standing ≡ false
     sure_over x h l = over_in_window s set (legal_run K legal) (rest K) (extra K) (bound_of K) (window K) block (delay K legal) horizon (rest_spends K) windows x h l
 
-    pub sure_not_late : (x : ℕ) → x < length s.lines → (line_at s x).arrival + (window K (task_at s x) + jitter_of set (task_at s x)) ≤ horizon → IsAnsweredBy ((line_at s x).arrival + (window K (task_at s x) + jitter_of set (task_at s x))) (job_of s horizon x).standing
+    pub sure_not_late : (x : ℕ) → x < length s.lines → (line_at s x).arrival + (window K (task_at s x) + jitter_of set (task_at s x)) ≤ horizon → IsAnsweredBy ((line_at s x).arrival + (window K (task_at s x) + jitter_of set (task_at s x))) (job_after s horizon x).standing
     sure_not_late x h late =
         let times = in_time_at s set (legal_run K legal) x h in
         let by : (line_at s x).release + window K (task_at s x) ≤ (line_at s x).arrival + (window K (task_at s x) + jitter_of set (task_at s x)) = omega (arith, times.1) in
         let early : (line_at s x).release + window K (task_at s x) ≤ horizon = omega (arith, by, late) in
         let over = sure_over x h early in
-        let same : (job_of s horizon x).standing ≡ (job_of s ((line_at s x).release + window K (task_at s x)) x).standing =
+        let same : (job_after s horizon x).standing ≡ (job_after s ((line_at s x).release + window K (task_at s x)) x).standing =
         ap (λ (j : Job). j.standing) (over_stays s x ((line_at s x).release + window K (task_at s x)) horizon early over) in
         subst (λ st. IsAnsweredBy ((line_at s x).arrival + (window K (task_at s x) + jitter_of set (task_at s x))) st) (sym same)
-        (answered_in_time K ((line_at s x).release + window K (task_at s x)) _ x (job_of s ((line_at s x).release + window K (task_at s x)) x).standing refl over (no_fault s set graphs R C run.tasks ((line_at s x).release + window K (task_at s x)) x h (kept_at K ((line_at s x).release + window K (task_at s x)) x early h)) by)
+        (answered_in_time K ((line_at s x).release + window K (task_at s x)) _ x (job_after s ((line_at s x).release + window K (task_at s x)) x).standing refl over (no_fault s set graphs R C run.tasks ((line_at s x).release + window K (task_at s x)) x h (kept_at K ((line_at s x).release + window K (task_at s x)) x early h)) by)

@@ -9,7 +9,7 @@ use Rattle.preempt_machine.specs.Step.{is_open, is_ready, Start, state, Fetch, f
 use Rattle.sound_laws.specs.Walks.{RunsLegally}
 use Rattle.preempt_machine.proofs.Steps.{WhyFirst, ready_open, ready_released, past_is_not_open}
 use Rattle.preempt_machine.proofs.Runs.{state_time, state_line}
-use Rattle.run_account.specs.Fetches.{job_of}
+use Rattle.run_account.specs.Fetches.{job_after}
 use Rattle.crpd_base.specs.Sum.{sum_below}
 use Rattle.run_account.proofs.Jobs.{jobs_length, line_is}
 use Rattle.run_account.proofs.Moves.{stays_over}
@@ -19,17 +19,17 @@ use Rattle.sound_laws.proofs.Windows.Rooms.{Covers, none_was, over_at_end}
 use Rattle.sound_laws.proofs.Windows.Busy.{line_at, task_at, in_window, IsLastQuiet, last_quiet, window_covers}
 use Rattle.sound_laws.proofs.Windows.Demands.{in_time_at, spaced_at, allowances_fit, base_demand}
 
-not_ready_over : (s : Start) (n x : ℕ) → is_open (job_of s n x).standing ≡ false → is_ready (state s n).time (job_of s n x) ≡ false
+not_ready_over : (s : Start) (n x : ℕ) → is_open (job_after s n x).standing ≡ false → is_ready (state s n).time (job_after s n x) ≡ false
 not_ready_over s n x o =
-    elim (cases_Bool (is_ready (state s n).time (job_of s n x))) [
-      | inl r ↦ absurd (false≢true (sym o ∙ ready_open (state s n).time (job_of s n x) r))
+    elim (cases_Bool (is_ready (state s n).time (job_after s n x))) [
+      | inl r ↦ absurd (false≢true (sym o ∙ ready_open (state s n).time (job_after s n x) r))
       | inr r ↦ r
     ]
 
-not_ready_early : (s : Start) (n x : ℕ) → n < (line_at s x).release → is_ready (state s n).time (job_of s n x) ≡ false
+not_ready_early : (s : Start) (n x : ℕ) → n < (line_at s x).release → is_ready (state s n).time (job_after s n x) ≡ false
 not_ready_early s n x l =
-    elim (cases_Bool (is_ready (state s n).time (job_of s n x))) [
-      | inl r ↦ let e : (line_at s x).release ≤ n = rw (state_line s n x, state_time s n) at (ready_released (state s n).time (job_of s n x) r) in absurd (omega arith)
+    elim (cases_Bool (is_ready (state s n).time (job_after s n x))) [
+      | inl r ↦ let e : (line_at s x).release ≤ n = rw (state_line s n x, state_time s n) at (ready_released (state s n).time (job_after s n x) r) in absurd (omega arith)
       | inr r ↦ r
     ]
 
@@ -45,7 +45,7 @@ pub record HasShortFront (s : Start) (x t most : ℕ) : Type 0 where
 -- the jobs of higher tasks are over by the ends of their windows
 abbrev pub HigherAreOver : Start → (ℕ → ℕ) → ℕ → ℕ → Type 0
 HigherAreOver s window horizon x =
-    (y : ℕ) → y < length s.lines → task_at s y < task_at s x → (line_at s y).release + window (task_at s y) ≤ horizon → is_open (job_of s ((line_at s y).release + window (task_at s y)) y).standing ≡ false
+    (y : ℕ) → y < length s.lines → task_at s y < task_at s x → (line_at s y).release + window (task_at s y) ≤ horizon → is_open (job_after s ((line_at s y).release + window (task_at s y)) y).standing ≡ false
 
 -- what is asked of costs, windows, blocking and delays, per task
 pub record HasWindows (s : Start) (set : TaskSet) (rest : ℕ → ℕ → ℕ) (extra cost window block delay : ℕ → ℕ) (horizon : ℕ) : Type 0 where
@@ -56,7 +56,7 @@ pub record HasWindows (s : Start) (set : TaskSet) (rest : ℕ → ℕ → ℕ) (
   pub periods : (k : ℕ) → k < length set.tasks → 0 < period_of set k
   pub delays : (x t from : ℕ) → x < length s.lines → IsLastQuiet s x (line_at s x).release t → t ≤ from → from ≤ t + window (task_at s x) → t + window (task_at s x) ≤ horizon →
       Covers s (in_window s x t (t + window (task_at s x))) x from (t + window (task_at s x)) → HigherAreOver s window horizon x →
-      is_open (job_of s (t + window (task_at s x)) x).standing ≡ true →
+      is_open (job_after s (t + window (task_at s x)) x).standing ≡ true →
       sum_below extra (t + window (task_at s x)) ≤ sum_below extra from + delay (task_at s x)
 
 module _ (s : Start) (set : TaskSet) (run : RunsLegally set s) (rest : ℕ → ℕ → ℕ) (extra cost window block delay : ℕ → ℕ) (horizon : ℕ) (spends : Spends s rest extra horizon) (has : HasWindows s set rest extra cost window block delay horizon) where
@@ -67,8 +67,8 @@ module _ (s : Start) (set : TaskSet) (run : RunsLegally set s) (rest : ℕ → �
   window_end x = (line_at s x).release + window (task_at s x)
 
   -- another job of the task is not ready in the window of a job, where the earlier ones are over by the ends of theirs
-  module _ (x : ℕ) (h : x < length s.lines) (higher : HigherAreOver s window horizon x) (earlier : (y : ℕ) → y < length s.lines → task_at s y ≡ task_at s x → (line_at s y).arrival < (line_at s x).arrival → (line_at s y).release + window (task_at s y) ≤ horizon → is_open (job_of s (window_end y) y).standing ≡ false) where
-    apart_not_ready : (n y : ℕ) → n ≤ horizon → y < length s.lines → (line_at s x).release ≤ n → n < window_end x → task_at s y ≡ task_at s x → AreApart (period_of set (task_at s x)) (line_at s y).arrival (line_at s x).arrival → is_ready (state s n).time (job_of s n y) ≡ false
+  module _ (x : ℕ) (h : x < length s.lines) (higher : HigherAreOver s window horizon x) (earlier : (y : ℕ) → y < length s.lines → task_at s y ≡ task_at s x → (line_at s y).arrival < (line_at s x).arrival → (line_at s y).release + window (task_at s y) ≤ horizon → is_open (job_after s (window_end y) y).standing ≡ false) where
+    apart_not_ready : (n y : ℕ) → n ≤ horizon → y < length s.lines → (line_at s x).release ≤ n → n < window_end x → task_at s y ≡ task_at s x → AreApart (period_of set (task_at s x)) (line_at s y).arrival (line_at s x).arrival → is_ready (state s n).time (job_after s n y) ≡ false
     unfolding window_end
     apart_not_ready n y hz hy l e same (inl before) =
         let tb = task_below x h in
@@ -87,7 +87,7 @@ module _ (s : Start) (set : TaskSet) (run : RunsLegally set s) (rest : ℕ → �
         let timesx = in_time_at s set run x h in
         not_ready_early s n y (omega (arith, times.0, timesx.1, resp, later, e))
 
-    no_other : (n y : ℕ) → n ≤ horizon → (line_at s x).release ≤ n → n < window_end x → (y ≡ x → ⊥) → task_at s y ≡ task_at s x → is_ready (state s n).time (job_of s n y) ≡ false
+    no_other : (n y : ℕ) → n ≤ horizon → (line_at s x).release ≤ n → n < window_end x → (y ≡ x → ⊥) → task_at s y ≡ task_at s x → is_ready (state s n).time (job_after s n y) ≡ false
     no_other n y hz l e ne same =
         elim (cases_lt y (length s.lines)) [
           | inl hy ↦ apart_not_ready n y hz hy l e same (elim (cases_lt y x) [
@@ -104,7 +104,7 @@ module _ (s : Start) (set : TaskSet) (run : RunsLegally set s) (rest : ℕ → �
         window_covers s x t until h last front.from (record { after = front.after; old = front.old; takes = front.takes })
         (λ n y l e ne same. no_other n y (omega arith) l (omega (arith, last.by, e)) ne same)
 
-    over_with : (t : ℕ) → (last : IsLastQuiet s x (line_at s x).release t) → (front : HasShortFront s x t (block (task_at s x))) → front.from ≤ t + window (task_at s x) → t + window (task_at s x) ≤ horizon → is_open (job_of s (t + window (task_at s x)) x).standing ≡ false
+    over_with : (t : ℕ) → (last : IsLastQuiet s x (line_at s x).release t) → (front : HasShortFront s x t (block (task_at s x))) → front.from ≤ t + window (task_at s x) → t + window (task_at s x) ≤ horizon → is_open (job_after s (t + window (task_at s x)) x).standing ≡ false
     over_with t last front some in_horizon =
         let w = window (task_at s x) in
         let tb = task_below x h in
@@ -115,26 +115,26 @@ module _ (s : Start) (set : TaskSet) (run : RunsLegally set s) (rest : ℕ → �
         (λ y ins. has.fresh front.from y (omega arith) (elim (cases_Bool (was_owner s front.from y)) [ inl wo ↦ absurd (false≢true (sym (none_was s rest extra horizon spends (in_window s x t (t + w)) x front.from (t + w) in_horizon covers front.from y (omega arith) wo) ∙ ins)) | inr wo ↦ wo ]))
         (λ o. let delays = has.delays x t front.from h last front.after some in_horizon covers higher o in omega (arith, fit, room, delays, front.short))
 
-    over_from : (t : ℕ) → IsLastQuiet s x (line_at s x).release t → t + window (task_at s x) ≤ horizon → is_open (job_of s (t + window (task_at s x)) x).standing ≡ false
+    over_from : (t : ℕ) → IsLastQuiet s x (line_at s x).release t → t + window (task_at s x) ≤ horizon → is_open (job_after s (t + window (task_at s x)) x).standing ≡ false
     over_from t last in_horizon =
         let front = has.fronts x t h (omega (arith, in_horizon)) last in
         let room = has.room (task_at s x) (task_below x h) in
         over_with t last front (omega (arith, front.short, room)) in_horizon
 
-    over_by_window : (line_at s x).release + window (task_at s x) ≤ horizon → is_open (job_of s (window_end x) x).standing ≡ false
+    over_by_window : (line_at s x).release + window (task_at s x) ≤ horizon → is_open (job_after s (window_end x) x).standing ≡ false
     unfolding window_end
     over_by_window end_in =
         let last = last_quiet s x (line_at s x).release in
         let over = over_from last.0 last.1 (omega (arith, end_in, last.1.by)) in
         stays_over s (last.0 + window (task_at s x)) ((line_at s x).release + window (task_at s x)) x (omega (arith, last.1.by)) over
 
-  over_below : (k : ℕ) (higher : (y : ℕ) → y < length s.lines → task_at s y < k → window_end y ≤ horizon → is_open (job_of s (window_end y) y).standing ≡ false) (a x : ℕ) → x < length s.lines → task_at s x ≡ k → (line_at s x).arrival < a → window_end x ≤ horizon → is_open (job_of s (window_end x) x).standing ≡ false
+  over_below : (k : ℕ) (higher : (y : ℕ) → y < length s.lines → task_at s y < k → window_end y ≤ horizon → is_open (job_after s (window_end y) y).standing ≡ false) (a x : ℕ) → x < length s.lines → task_at s x ≡ k → (line_at s x).arrival < a → window_end x ≤ horizon → is_open (job_after s (window_end x) x).standing ≡ false
   unfolding window_end
   over_below k higher zero x h e l w = absurd (omega arith)
   over_below k higher (suc a) x h e l w =
       over_by_window x h (λ y hy t v. higher y hy (omega arith) v) (λ y hy t q v. over_below k higher a y hy (t ∙ e) (omega arith) v) w
 
-  over_tasks : (k x : ℕ) → x < length s.lines → task_at s x < k → window_end x ≤ horizon → is_open (job_of s (window_end x) x).standing ≡ false
+  over_tasks : (k x : ℕ) → x < length s.lines → task_at s x < k → window_end x ≤ horizon → is_open (job_after s (window_end x) x).standing ≡ false
   over_tasks zero x h l w = absurd (omega arith)
   over_tasks (suc k) x h l w =
       elim (cases_eq (task_at s x) k) [
@@ -143,7 +143,7 @@ module _ (s : Start) (set : TaskSet) (run : RunsLegally set s) (rest : ℕ → �
       ]
 
   -- every job whose window ends by the horizon is over by its end
-  pub over_in_window : (x : ℕ) → x < length s.lines → (line_at s x).release + window (task_at s x) ≤ horizon → is_open (job_of s ((line_at s x).release + window (task_at s x)) x).standing ≡ false
+  pub over_in_window : (x : ℕ) → x < length s.lines → (line_at s x).release + window (task_at s x) ≤ horizon → is_open (job_after s ((line_at s x).release + window (task_at s x)) x).standing ≡ false
   unfolding window_end
   over_in_window x h w = over_tasks (suc (task_at s x)) x h (omega arith) w
 
@@ -153,7 +153,7 @@ module _ (s : Start) (set : TaskSet) (run : RunsLegally set s) (rest : ℕ → �
   higher_over x = λ y hy l v. over_in_window y hy v
 
   -- a job is over a window after its quiet time
-  pub over_after_quiet : (x t : ℕ) → x < length s.lines → IsLastQuiet s x (line_at s x).release t → t + window (task_at s x) ≤ horizon → is_open (job_of s (t + window (task_at s x)) x).standing ≡ false
+  pub over_after_quiet : (x t : ℕ) → x < length s.lines → IsLastQuiet s x (line_at s x).release t → t + window (task_at s x) ≤ horizon → is_open (job_after s (t + window (task_at s x)) x).standing ≡ false
   unfolding window_end
   over_after_quiet x t h last w = over_from x h (higher_over x) (λ y hy same q v. over_in_window y hy v) t last w
 

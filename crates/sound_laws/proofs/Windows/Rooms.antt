@@ -4,8 +4,8 @@ use Rattle.std.specs.Prelude.{◌==◌, if◌then◌else◌}
 use Rattle.std.proofs.lemmas.Bool.{cases_Bool, cases_lt, false≢true, or_cases}
 use Rattle.crpd_base.proofs.Sums.{sum_le, sum_ge}
 use Rattle.crpd_base.proofs.Options.{some_injective}
-use Rattle.preempt_machine.specs.Step.{is_open, owns, Start, state}
-use Rattle.run_account.specs.Fetches.{job_of}
+use Rattle.preempt_machine.specs.Step.{is_open, is_owner, Start, state}
+use Rattle.run_account.specs.Fetches.{job_after}
 use Rattle.crpd_base.specs.Sum.{sum_below}
 use Rattle.run_account.proofs.Owners.{candidate_at, was_owner, owns_true, owner_after, owner_was, was_open}
 use Rattle.sound_laws.proofs.Windows.Accounts.{Spends, first_switch, weight, pending_of, pending, account, account_step}
@@ -13,7 +13,7 @@ use Rattle.sound_laws.proofs.Windows.Accounts.{Spends, first_switch, weight, pen
 -- what the steps from one time to another have as their candidates: jobs inside, of which none was one before
 pub record Covers (s : Start) (inside : ℕ → Bool) (i from to : ℕ) : Type 0 where
   pub none_before : (n y : ℕ) → n < from → candidate_at s n ≡ Some y → inside y ≡ false
-  pub within : (n : ℕ) → from ≤ n → n < to → is_open (job_of s n i).standing ≡ true → (y : ℕ) × (candidate_at s n ≡ Some y) × (inside y ≡ true)
+  pub within : (n : ℕ) → from ≤ n → n < to → is_open (job_after s n i).standing ≡ true → (y : ℕ) × (candidate_at s n ≡ Some y) × (inside y ≡ true)
   pub i_inside : inside i ≡ true
   pub i_below : i < length s.lines
 
@@ -32,7 +32,7 @@ module _ (s : Start) (rest : ℕ → ℕ → ℕ) (extra : ℕ → ℕ) (horizon
       ]
 
   -- the owner is inside once a job inside was a candidate
-  owner_inside : (n y o : ℕ) → from ≤ n → n ≤ to → is_open (job_of s n i).standing ≡ true → inside y ≡ true → was_owner s n y ≡ true → (state s n).owner ≡ Some o → inside o ≡ true
+  owner_inside : (n y o : ℕ) → from ≤ n → n ≤ to → is_open (job_after s n i).standing ≡ true → inside y ≡ true → was_owner s n y ≡ true → (state s n).owner ≡ Some o → inside o ≡ true
   owner_inside zero y o f t oi h w own = absurd (false≢true w)
   owner_inside (suc n) y o f t oi h w own =
       elim (cases_lt n from) [
@@ -44,7 +44,7 @@ module _ (s : Start) (rest : ℕ → ℕ → ℕ) (extra : ℕ → ℕ) (horizon
       ]
 
   -- each step so far has spent a cycle
-  spent : (n : ℕ) → from ≤ n → n ≤ to → is_open (job_of s n i).standing ≡ true →
+  spent : (n : ℕ) → from ≤ n → n ≤ to → is_open (job_after s n i).standing ≡ true →
       n + account s rest inside i n + sum_below extra from ≤ from + account s rest inside i from + sum_below extra n
   spent zero f t oi = let e : from ≡ 0 = omega arith in rw e (omega arith)
   spent (suc n) f t oi =
@@ -69,7 +69,7 @@ module _ (s : Start) (rest : ℕ → ℕ → ℕ) (extra : ℕ → ℕ) (horizon
             let first : first_switch s rest inside i from x ≤ s.system.platform.switch = elim (cases_Bool (was_owner s from x)) [ inl w ↦ rw w (omega arith) | inr w ↦ rw w (omega arith) ] in
             elim (cases_Bool (x == i)) [
               | inl q ↦ rw (b, q) (omega (arith, r, first))
-              | inr q ↦ elim (cases_Bool (is_open (job_of s from x).standing || owns (state s from).owner x)) [
+              | inr q ↦ elim (cases_Bool (is_open (job_after s from x).standing || is_owner (state s from).owner x)) [
                 | inl k ↦ rw (b, q, k) (omega (arith, r, first))
                 | inr k ↦ rw (b, q, k) (omega (arith, r, first))
               ]
@@ -79,10 +79,10 @@ module _ (s : Start) (rest : ℕ → ℕ → ℕ) (extra : ℕ → ℕ) (horizon
 
   -- with room for all that may be spent, the job is over at the end
   pub over_at_end : (cost : ℕ → ℕ) → from ≤ to → ((x : ℕ) → inside x ≡ true → rest from x ≤ cost x) →
-      (is_open (job_of s to i).standing ≡ true → from + sum_below (allowance s inside i cost) (length s.lines) + sum_below extra to ≤ to + sum_below extra from) →
-      is_open (job_of s to i).standing ≡ false
+      (is_open (job_after s to i).standing ≡ true → from + sum_below (allowance s inside i cost) (length s.lines) + sum_below extra to ≤ to + sum_below extra from) →
+      is_open (job_after s to i).standing ≡ false
   over_at_end cost l c has_room =
-      elim (cases_Bool (is_open (job_of s to i).standing)) [
+      elim (cases_Bool (is_open (job_after s to i).standing)) [
         | inl o ↦
             let room = has_room o in
             let all = spent to l (omega arith) o in

@@ -4,7 +4,7 @@ use Rattle.std.proofs.lemmas.List.{get_or_default}
 use Rattle.crpd_base.specs.declared.data.NodeState.{NodeState}
 use Rattle.icache.specs.Accesses.{accesses}
 use Rattle.flat_graph.specs.CodeGraph.{graph_of, places_of}
-use Rattle.cert_build.specs.Entries.{AreEntries}
+use Rattle.cert_build.specs.Entries.{AreLeaderEntries}
 use Rattle.cert_build.proofs.EntryLaws.{best_entry, entry_ranges, entries_more, entries_same}
 use Rattle.cert_build.proofs.leader_states.leader_states.Goals as goal
 use Rattle.cert_build.proofs.leader_states.leader_states.Goals.{then-leader+in_ok-entry+in_ok-push, else-leader}
@@ -28,7 +28,7 @@ loop-node-preserved c =
           c.loop-node.node w.index-useful-node.result w.in_ok-entry.field-0 w.in_ok-entry.ensures)
           c.loop-node.invariant
       | else-leader w ↦
-          subst (λ (l : List NodeState). AreEntries g (accesses p address) (c.loop-node.node + 1) l) (sym (ap (λ v. v.items) w.states-is))
+          subst (λ (l : List NodeState). AreLeaderEntries g (accesses p address) (c.loop-node.node + 1) l) (sym (ap (λ v. v.items) w.states-is))
           (entries_same g (accesses p address) c.loop-node.node c.loop-node.states.items c.graph_law.ensures.graph
           (λ leads. false≢true (sym w.if-leader.false ∙ c.leader.ensures.1 leads)) c.loop-node.invariant)
     ]

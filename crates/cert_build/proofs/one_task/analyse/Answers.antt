@@ -8,7 +8,7 @@ use Rattle.icache.specs.Accesses.{accesses}
 use Rattle.evict_sets.specs.Listing.{counted}
 use Rattle.must_cache.specs.Sure.{CountsSureHits}
 use Rattle.useful_sets.specs.Useful.{IsEcb, IsUcb}
-use Rattle.cert_build.specs.Entries.{AreEntries}
+use Rattle.cert_build.specs.Entries.{AreLeaderEntries}
 use Rattle.cert_build.proofs.Analysed.{analysed, refused, ranges}
 use Rattle.cert_build.proofs.one_task.analyse.Goals as goal
 
@@ -23,13 +23,13 @@ returns-clause-exact c =
     let address = (places_of c.args.graph.now).address in
     let hits : CountsSureHits g (accesses c.args.platform.now address) (counted c.in-Ok.parts.hits.items) =
     subst (λ (p : Platform). CountsSureHits g (accesses p address) (counted c.in-Ok.parts.hits.items)) c.new-geometry.ensures c.in-Ok.ensures.hit in
-    let entries : AreEntries g (accesses c.args.platform.now address) g.size c.new.result =
-    subst (λ (l : List NodeState). AreEntries g (accesses c.args.platform.now address) g.size l) (sym c.new.ensures)
-    (subst (λ (p : Platform). AreEntries g (accesses p address) g.size c.in_ok-states.states.items) c.new-geometry.ensures c.in_ok-states.ensures) in
+    let entries : AreLeaderEntries g (accesses c.args.platform.now address) g.size c.new.result =
+    subst (λ (l : List NodeState). AreLeaderEntries g (accesses c.args.platform.now address) g.size l) (sym c.new.ensures)
+    (subst (λ (p : Platform). AreLeaderEntries g (accesses p address) g.size c.in_ok-states.states.items) c.new-geometry.ensures c.in_ok-states.ensures) in
     let evicts : (s : ℕ) → IsTrue (has c.evicting-evicting.result s) ↔ IsEcb g (accesses c.args.platform.now address) s =
     subst (λ (p : Platform). (s : ℕ) → IsTrue (has c.evicting-evicting.result s) ↔ IsEcb g (accesses p address) s) c.new-geometry.ensures c.evicting-evicting.ensures in
-    let uses : (s : ℕ) → IsTrue (has c.reused-useful.result s) ↔ IsUcb g (accesses c.args.platform.now address) s =
-    subst (λ (p : Platform). (s : ℕ) → IsTrue (has c.reused-useful.result s) ↔ IsUcb g (accesses p address) s) c.new-geometry.ensures c.reused-useful.ensures in
+    let uses : (s : ℕ) → IsTrue (has c.useful_of_hits-useful.result s) ↔ IsUcb g (accesses c.args.platform.now address) s =
+    subst (λ (p : Platform). (s : ℕ) → IsTrue (has c.useful_of_hits-useful.result s) ↔ IsUcb g (accesses p address) s) c.new-geometry.ensures c.useful_of_hits-useful.ensures in
     analysed c.args.platform.now c.args.graph.now c.args.nest.now c.in-Ok.parts.hits.items _ hits entries evicts c.words_law.ensures uses c.words_law-2.ensures
     (c.in_ok-cycles.ensures.least (counted c.in-Ok.parts.hits.items) hits)
 
@@ -50,10 +50,10 @@ returns-clause-ranges c =
     let address = (places_of c.args.graph.now).address in
     let hits : CountsSureHits g (accesses c.args.platform.now address) (counted c.in-Ok.parts.hits.items) =
     subst (λ (p : Platform). CountsSureHits g (accesses p address) (counted c.in-Ok.parts.hits.items)) c.new-geometry.ensures c.in-Ok.ensures.hit in
-    let entries : AreEntries g (accesses c.args.platform.now address) g.size c.new.result =
-    subst (λ (l : List NodeState). AreEntries g (accesses c.args.platform.now address) g.size l) (sym c.new.ensures)
-    (subst (λ (p : Platform). AreEntries g (accesses p address) g.size c.in_ok-states.states.items) c.new-geometry.ensures c.in_ok-states.ensures) in
+    let entries : AreLeaderEntries g (accesses c.args.platform.now address) g.size c.new.result =
+    subst (λ (l : List NodeState). AreLeaderEntries g (accesses c.args.platform.now address) g.size l) (sym c.new.ensures)
+    (subst (λ (p : Platform). AreLeaderEntries g (accesses p address) g.size c.in_ok-states.states.items) c.new-geometry.ensures c.in_ok-states.ensures) in
     ranges c.args.platform.now c.args.graph.now c.args.nest.now c.in-Ok.parts.hits.items c.graph_law.ensures.few c.size_law.ensures
-    (record { part = record { bound = c.in_ok-cycles.field-0.cycles; evicting = c.evicting-evicting.result; useful = c.reused-useful.result }; states = c.new.result; potentials = c.in_ok-cycles.field-0.nodes; loops = c.in_ok-cycles.field-0.loops })
+    (record { part = record { bound = c.in_ok-cycles.field-0.cycles; evicting = c.evicting-evicting.result; useful = c.useful_of_hits-useful.result }; states = c.new.result; potentials = c.in_ok-cycles.field-0.nodes; loops = c.in_ok-cycles.field-0.loops })
     entries
     (c.in_ok-cycles.ensures.least (counted c.in-Ok.parts.hits.items) hits)

@@ -1,7 +1,7 @@
 use Rattle.std.proofs.Common.{sym, ◌∙◌}
 use Rattle.std.proofs.lemmas.Bool.{false≢true}
 use Rattle.flat_graph.specs.CodeGraph.{graph_of}
-use Rattle.evict_sets.specs.Certificate.{listed_of}
+use Rattle.evict_sets.specs.ListedPart.{listed_of}
 use Rattle.cert_check.proofs.Leaders.{listed_more, other_more}
 use Rattle.cert_check.proofs.lists.lists_leaders.Goals as goal
 use Rattle.cert_check.proofs.lists.lists_leaders.Goals.{else-leader-via-then-leader+else-not-is_listed, else-leader-via-else-leader}

@@ -1,6 +1,6 @@
 -- The leaders below the node are listed.
 use Rattle.flat_graph.specs.CodeGraph.{graph_of}
-use Rattle.evict_sets.specs.Certificate.{listed_of}
+use Rattle.evict_sets.specs.ListedPart.{listed_of}
 use Rattle.cert_check.proofs.Leaders.{ListsBelow}
 use Rattle.cert_check.proofs.lists.lists_leaders.Given as goal
 

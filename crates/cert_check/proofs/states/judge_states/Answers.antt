@@ -1,9 +1,9 @@
 use Rattle.std.proofs.Common.{◌+◌, length, refl, sym, subst, arith}
 use Rattle.std.specs.Prelude.{slice_index_or}
 use Rattle.flat_graph.specs.CodeGraph.{graph_of}
-use Rattle.evict_sets.specs.Certificate.{listed_of}
-use Rattle.evict_sets.specs.Clauses.{StatesMeet}
-use Rattle.evict_sets.specs.Listing.{fetches}
+use Rattle.evict_sets.specs.ListedPart.{listed_of}
+use Rattle.evict_sets.specs.CacheClauses.{StatesMeet}
+use Rattle.evict_sets.specs.Listing.{node_accesses}
 use Rattle.evict_sets.proofs.HitsTo.{blocks_more}
 use Rattle.cert_check.proofs.LeastSeen.{IsLeastSeen, SeenTo, lowest, seen_more}
 use Rattle.cert_check.proofs.Judging.{states_least}
@@ -15,12 +15,12 @@ enter-requires-clause-follows c = c.loop-k.invariant.state.follows (omega (arith
 pub loop-k-preserved : goal.loop-k-preserved
 loop-k-preserved c =
     record {
-      state = blocks_more (graph_of c.args.listing.now.graph.now) (fetches c.args.listing.now.platform.now c.args.listing.now.graph.now) (listed_of c.args.listing.now.part.now) c.args.order.now c.leave.new.blocks c.loop-k.k (slice_index_or c.args.order.now c.loop-k.k 0) c.requires.order c.requires.case.leaders
+      state = blocks_more (graph_of c.args.listing.now.graph.now) (node_accesses c.args.listing.now.platform.now c.args.listing.now.graph.now) (listed_of c.args.listing.now.part.now) c.args.order.now c.leave.new.blocks c.loop-k.k (slice_index_or c.args.order.now c.loop-k.k 0) c.requires.order c.requires.case.leaders
           refl (omega (arith, c.leave.auto.blocks, c.enter.auto.blocks, c.loop-k.invariant.state.room)) c.leave.ensures.after;
-      seen = subst (λ y. IsLeastSeen (StatesMeet (graph_of c.args.listing.now.graph.now) (fetches c.args.listing.now.platform.now c.args.listing.now.graph.now) (listed_of c.args.listing.now.part.now)) (SeenTo c.args.order.now (c.loop-k.k + 1)) (length c.args.listing.now.graph.now.nodes) y) (sym c.lowest-least.ensures)
-          (lowest (StatesMeet (graph_of c.args.listing.now.graph.now) (fetches c.args.listing.now.platform.now c.args.listing.now.graph.now) (listed_of c.args.listing.now.part.now)) (SeenTo c.args.order.now c.loop-k.k) (SeenTo c.args.order.now (c.loop-k.k + 1)) (length c.args.listing.now.graph.now.nodes) c.loop-k.least (slice_index_or c.args.order.now c.loop-k.k 0) c.state_holds.result
+      seen = subst (λ y. IsLeastSeen (StatesMeet (graph_of c.args.listing.now.graph.now) (node_accesses c.args.listing.now.platform.now c.args.listing.now.graph.now) (listed_of c.args.listing.now.part.now)) (SeenTo c.args.order.now (c.loop-k.k + 1)) (length c.args.listing.now.graph.now.nodes) y) (sym c.least_failing-least.ensures)
+          (lowest (StatesMeet (graph_of c.args.listing.now.graph.now) (node_accesses c.args.listing.now.platform.now c.args.listing.now.graph.now) (listed_of c.args.listing.now.part.now)) (SeenTo c.args.order.now c.loop-k.k) (SeenTo c.args.order.now (c.loop-k.k + 1)) (length c.args.listing.now.graph.now.nodes) c.loop-k.least (slice_index_or c.args.order.now c.loop-k.k 0) c.state_holds.result
           (λ u s ne. seen_more c.args.order.now c.loop-k.k (slice_index_or c.args.order.now c.loop-k.k 0) u refl s ne) c.state_holds.ensures c.loop-k.invariant.seen);
     }
 
 pub returns : goal.returns
-returns c = states_least (graph_of c.args.listing.now.graph.now) (fetches c.args.listing.now.platform.now c.args.listing.now.graph.now) (listed_of c.args.listing.now.part.now) c.args.order.now c.loop-k.blocks c.loop-k.least c.loop-k.k c.requires.order (omega (arith, c.loop-k-test.false, c.requires.order.count)) c.loop-k.invariant
+returns c = states_least (graph_of c.args.listing.now.graph.now) (node_accesses c.args.listing.now.platform.now c.args.listing.now.graph.now) (listed_of c.args.listing.now.part.now) c.args.order.now c.loop-k.blocks c.loop-k.least c.loop-k.k c.requires.order (omega (arith, c.loop-k-test.false, c.requires.order.count)) c.loop-k.invariant

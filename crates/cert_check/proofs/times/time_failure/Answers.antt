@@ -4,7 +4,7 @@ use Rattle.std.proofs.lemmas.Bool.{false≢true}
 use Rattle.crpd_base.proofs.Times.{jitter_is, deadline_is}
 use Rattle.crpd_base.specs.declared.data.TaskPart.{TaskPart}
 use Rattle.crpd_base.specs.declared.data.TaskSpec.{TaskSpec}
-use Rattle.evict_sets.specs.Certificate.{cert_at}
+use Rattle.evict_sets.specs.ListedPart.{certified_task}
 use Rattle.cert_check.specs.declared.outcome.Clause.TheVariants.{Window, Response, Deadline}
 use Rattle.cert_check.specs.Verdict.{TimesHold}
 use Rattle.cert_check.proofs.Found.{then_found, found_first, fails_first, fails_later, window_holds, response_holds, response_before}
@@ -17,9 +17,9 @@ returns-then-not-has_room c =
 
 pub returns-then-from : goal.returns-then-from
 returns-then-from c =
-    let part : cert_at c.args.certificate.now c.args.i ≡ c.index-as_slice-i-2.result = (part_is c.args.certificate.now c.args.i c.index-as_slice-i-2.result c.requires.higher.tasks (subst (λ (xs : List TaskPart). c.index-as_slice-i-2.result ≡ get_or xs c.args.i c.index-as_slice-i-2.result) c.as_slice-2.ensures c.index-as_slice-i-2.is)) in
-    let r : (cert_at c.args.certificate.now c.args.i).response ≡ c.index-as_slice-i-2.result.response = ap (λ (t : TaskPart). t.response) part in
-    let w : (cert_at c.args.certificate.now c.args.i).window ≡ c.index-as_slice-i-2.result.window = ap (λ (t : TaskPart). t.window) part in
+    let part : certified_task c.args.certificate.now c.args.i ≡ c.index-as_slice-i-2.result = (part_is c.args.certificate.now c.args.i c.index-as_slice-i-2.result c.requires.higher.tasks (subst (λ (xs : List TaskPart). c.index-as_slice-i-2.result ≡ get_or xs c.args.i c.index-as_slice-i-2.result) c.as_slice-2.ensures c.index-as_slice-i-2.is)) in
+    let r : (certified_task c.args.certificate.now c.args.i).response ≡ c.index-as_slice-i-2.result.response = ap (λ (t : TaskPart). t.response) part in
+    let w : (certified_task c.args.certificate.now c.args.i).window ≡ c.index-as_slice-i-2.result.window = ap (λ (t : TaskPart). t.window) part in
     let j = jitter_is c.args.set.now c.args.i c.index-as_slice-i.result c.requires.task (subst (λ (xs : List TaskSpec). c.index-as_slice-i.result ≡ get_or xs c.args.i c.index-as_slice-i.result) c.as_slice.ensures c.index-as_slice-i.is) in
     let d = deadline_is c.args.set.now c.args.i c.index-as_slice-i.result c.requires.task (subst (λ (xs : List TaskSpec). c.index-as_slice-i.result ≡ get_or xs c.args.i c.index-as_slice-i.result) c.as_slice.ensures c.index-as_slice-i.is) in
     then_found (TimesHold c.args.set.now (slice_index c.args.longest.now) c.args.certificate.now c.args.i) 8 8 9 (Err Response) (omega arith) (omega arith) (window_holds (TimesHold c.args.set.now (slice_index c.args.longest.now) c.args.certificate.now c.args.i) (c.has_room.ensures.0 c.if-not-has_room.false))
@@ -27,9 +27,9 @@ returns-then-from c =
 
 pub returns-then-part-task : goal.returns-then-part-task
 returns-then-part-task c =
-    let part : cert_at c.args.certificate.now c.args.i ≡ c.index-as_slice-i-2.result = (part_is c.args.certificate.now c.args.i c.index-as_slice-i-2.result c.requires.higher.tasks (subst (λ (xs : List TaskPart). c.index-as_slice-i-2.result ≡ get_or xs c.args.i c.index-as_slice-i-2.result) c.as_slice-2.ensures c.index-as_slice-i-2.is)) in
-    let r : (cert_at c.args.certificate.now c.args.i).response ≡ c.index-as_slice-i-2.result.response = ap (λ (t : TaskPart). t.response) part in
-    let w : (cert_at c.args.certificate.now c.args.i).window ≡ c.index-as_slice-i-2.result.window = ap (λ (t : TaskPart). t.window) part in
+    let part : certified_task c.args.certificate.now c.args.i ≡ c.index-as_slice-i-2.result = (part_is c.args.certificate.now c.args.i c.index-as_slice-i-2.result c.requires.higher.tasks (subst (λ (xs : List TaskPart). c.index-as_slice-i-2.result ≡ get_or xs c.args.i c.index-as_slice-i-2.result) c.as_slice-2.ensures c.index-as_slice-i-2.is)) in
+    let r : (certified_task c.args.certificate.now c.args.i).response ≡ c.index-as_slice-i-2.result.response = ap (λ (t : TaskPart). t.response) part in
+    let w : (certified_task c.args.certificate.now c.args.i).window ≡ c.index-as_slice-i-2.result.window = ap (λ (t : TaskPart). t.window) part in
     let j = jitter_is c.args.set.now c.args.i c.index-as_slice-i.result c.requires.task (subst (λ (xs : List TaskSpec). c.index-as_slice-i.result ≡ get_or xs c.args.i c.index-as_slice-i.result) c.as_slice.ensures c.index-as_slice-i.is) in
     let d = deadline_is c.args.set.now c.args.i c.index-as_slice-i.result c.requires.task (subst (λ (xs : List TaskSpec). c.index-as_slice-i.result ≡ get_or xs c.args.i c.index-as_slice-i.result) c.as_slice.ensures c.index-as_slice-i.is) in
     then_found (TimesHold c.args.set.now (slice_index c.args.longest.now) c.args.certificate.now c.args.i) 8 8 9 (Err Deadline) (omega arith) (omega arith) (window_holds (TimesHold c.args.set.now (slice_index c.args.longest.now) c.args.certificate.now c.args.i) (c.has_room.ensures.0 c.if-not-has_room.false))
@@ -38,9 +38,9 @@ returns-then-part-task c =
 
 pub returns : goal.returns
 returns c =
-    let part : cert_at c.args.certificate.now c.args.i ≡ c.index-as_slice-i-2.result = (part_is c.args.certificate.now c.args.i c.index-as_slice-i-2.result c.requires.higher.tasks (subst (λ (xs : List TaskPart). c.index-as_slice-i-2.result ≡ get_or xs c.args.i c.index-as_slice-i-2.result) c.as_slice-2.ensures c.index-as_slice-i-2.is)) in
-    let r : (cert_at c.args.certificate.now c.args.i).response ≡ c.index-as_slice-i-2.result.response = ap (λ (t : TaskPart). t.response) part in
-    let w : (cert_at c.args.certificate.now c.args.i).window ≡ c.index-as_slice-i-2.result.window = ap (λ (t : TaskPart). t.window) part in
+    let part : certified_task c.args.certificate.now c.args.i ≡ c.index-as_slice-i-2.result = (part_is c.args.certificate.now c.args.i c.index-as_slice-i-2.result c.requires.higher.tasks (subst (λ (xs : List TaskPart). c.index-as_slice-i-2.result ≡ get_or xs c.args.i c.index-as_slice-i-2.result) c.as_slice-2.ensures c.index-as_slice-i-2.is)) in
+    let r : (certified_task c.args.certificate.now c.args.i).response ≡ c.index-as_slice-i-2.result.response = ap (λ (t : TaskPart). t.response) part in
+    let w : (certified_task c.args.certificate.now c.args.i).window ≡ c.index-as_slice-i-2.result.window = ap (λ (t : TaskPart). t.window) part in
     let j = jitter_is c.args.set.now c.args.i c.index-as_slice-i.result c.requires.task (subst (λ (xs : List TaskSpec). c.index-as_slice-i.result ≡ get_or xs c.args.i c.index-as_slice-i.result) c.as_slice.ensures c.index-as_slice-i.is) in
     let d = deadline_is c.args.set.now c.args.i c.index-as_slice-i.result c.requires.task (subst (λ (xs : List TaskSpec). c.index-as_slice-i.result ≡ get_or xs c.args.i c.index-as_slice-i.result) c.as_slice.ensures c.index-as_slice-i.is) in
     then_found (TimesHold c.args.set.now (slice_index c.args.longest.now) c.args.certificate.now c.args.i) 8 8 9 (Ok tt) (omega arith) (omega arith) (window_holds (TimesHold c.args.set.now (slice_index c.args.longest.now) c.args.certificate.now c.args.i) (c.has_room.ensures.0 c.if-not-has_room.false))

@@ -1,13 +1,13 @@
 -- The costs of the tasks so far.
 use Rattle.std.proofs.Common.{◌≡◌, ℕ, ◌<◌, ◌≤◌}
 use Rattle.std.specs.Prelude.{slice_index}
-use Rattle.flat_graph.specs.CodeGraph.{graph_of, listing, graph_at}
+use Rattle.flat_graph.specs.CodeGraph.{graph_of, node_code, graph_at}
 use Rattle.evict_sets.specs.Answering.{answers_of}
 use Rattle.evict_sets.specs.Longest.{longest}
 use Rattle.cert_check.proofs.times.write_longest.Given as goal
 
 abbrev pub invariant-loop-k : goal.invariant-loop-k
 invariant-loop-k l = record {
-  each : (j : ℕ) → j < l.k → slice_index l.longest j ≡ longest l.set.platform (graph_of (graph_at l.graphs j)) (listing (graph_at l.graphs j)) (answers_of (graph_at l.graphs j));
+  each : (j : ℕ) → j < l.k → slice_index l.longest j ≡ longest l.set.platform (graph_of (graph_at l.graphs j)) (node_code (graph_at l.graphs j)) (answers_of (graph_at l.graphs j));
   range : (j : ℕ) → j < l.k → (1 ≤ slice_index l.longest j) × (slice_index l.longest j ≤ 262144);
 }

@@ -3,8 +3,8 @@ use Rattle.std.specs.Prelude.{if◌then◌else◌, ◌==◌}
 use Rattle.std.proofs.lemmas.Bool.{false≢true}
 use Rattle.crpd_base.specs.Sets.{has}
 use Rattle.flat_graph.specs.CodeGraph.{graph_of}
-use Rattle.evict_sets.specs.Certificate.{listed_of}
-use Rattle.evict_sets.specs.Listing.{fetches}
+use Rattle.evict_sets.specs.ListedPart.{listed_of}
+use Rattle.evict_sets.specs.Listing.{node_accesses}
 use Rattle.evict_sets.proofs.ListedAt.{entry_listed, entry_none, entry_useful}
 use Rattle.cert_check.proofs.UsefulSets.{is_member, has_member, useful_test, own_missing, unlisted_meets}
 use Rattle.cert_check.proofs.useful.useful_holds.Goals as goal
@@ -12,14 +12,14 @@ use Rattle.cert_check.proofs.useful.useful_holds.Goals.{else-hit-via-then-hit+el
 
 pub returns-in_default : goal.returns-in_default
 returns-in_default c = (
-  (λ t. unlisted_meets (graph_of c.args.listing.now.graph.now) (fetches c.args.listing.now.platform.now c.args.listing.now.graph.now) (listed_of c.args.listing.now.part.now) c.args.node.0 (entry_none c.args.listing.now.part.now c.args.node.0 c.in_default.ensures)),
+  (λ t. unlisted_meets (graph_of c.args.listing.now.graph.now) (node_accesses c.args.listing.now.platform.now c.args.listing.now.graph.now) (listed_of c.args.listing.now.part.now) c.args.node.0 (entry_none c.args.listing.now.part.now c.args.node.0 c.in_default.ensures)),
   (λ M. refl),
 )
 
 pub returns-then-not-has : goal.returns-then-not-has
 returns-then-not-has c = (
   (λ t. absurd (false≢true t)),
-  (λ M. absurd (own_missing (graph_of c.args.listing.now.graph.now) (fetches c.args.listing.now.platform.now c.args.listing.now.graph.now) (listed_of c.args.listing.now.part.now) c.args.node.0 c.in-Some.entry.now.useful c.args.behind.now
+  (λ M. absurd (own_missing (graph_of c.args.listing.now.graph.now) (node_accesses c.args.listing.now.platform.now c.args.listing.now.graph.now) (listed_of c.args.listing.now.part.now) c.args.node.0 c.in-Some.entry.now.useful c.args.behind.now
       (entry_listed c.args.listing.now.part.now c.args.node.0 c.in-Some.entry.now c.in-Some.ensures)
       (λ s. sym (entry_useful c.args.listing.now.part.now c.args.node.0 c.in-Some.entry.now s c.in-Some.ensures))
       c.requires.behind (c.requires.hit.0 c.if-hit.true)
@@ -28,7 +28,7 @@ returns-then-not-has c = (
 
 pub returns : goal.returns
 returns c =
-    useful_test (graph_of c.args.listing.now.graph.now) (fetches c.args.listing.now.platform.now c.args.listing.now.graph.now) (listed_of c.args.listing.now.part.now) c.args.node.0 c.in-Some.entry.now.useful c.args.behind.now c.with.result c.covers.result
+    useful_test (graph_of c.args.listing.now.graph.now) (node_accesses c.args.listing.now.platform.now c.args.listing.now.graph.now) (listed_of c.args.listing.now.part.now) c.args.node.0 c.in-Some.entry.now.useful c.args.behind.now c.with.result c.covers.result
     (entry_listed c.args.listing.now.part.now c.args.node.0 c.in-Some.entry.now c.in-Some.ensures)
     (λ s. sym (entry_useful c.args.listing.now.part.now c.args.node.0 c.in-Some.entry.now s c.in-Some.ensures))
     c.requires.behind

@@ -2,7 +2,7 @@ use Rattle.std.proofs.Common.{map}
 use Rattle.serde_json.specs.Data.{object, array}
 use Rattle.serde_json.specs.View.{items_of}
 use Rattle.cert_model.specs.Tokens.{tokens_of}
-use Rattle.cert_model.specs.Writing.{task, certificate_members}
+use Rattle.cert_model.specs.Writing.{task_data, certificate_members}
 use Rattle.cert_model.proofs.Adds.{wrote, then, moved, closes}
 use Rattle.cert_model.proofs.writing.certificate.Goals as goal
 
@@ -15,7 +15,7 @@ returns c =
     (then (wrote c.in_ok-key.ensures)
     (then c.in_ok-platform.ensures
     (then (wrote c.in_ok-key-2.ensures)
-    (then (moved (λ ts. tokens_of (array (items_of (map task ts)))) c.as_slice.ensures c.in_ok-tasks.ensures)
+    (then (moved (λ ts. tokens_of (array (items_of (map task_data ts)))) c.as_slice.ensures c.in_ok-tasks.ensures)
     (then c.in_ok-number_at.ensures
     end)))))))
     c.end_object.ensures

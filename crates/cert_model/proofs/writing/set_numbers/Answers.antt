@@ -1,6 +1,6 @@
 use Rattle.std.proofs.Common.{◌≡◌, [], ◌∷◌, decimal, arith}
 use Rattle.json.specs.Token.{number}
-use Rattle.cert_model.specs.Writing.{set_numbers, whole_number, numbers_below}
+use Rattle.cert_model.specs.Writing.{set_data, whole_number, numbers_below}
 use Rattle.cert_model.specs.Tokens.{tokens_by}
 use Rattle.cert_model.proofs.Adds.{wrote, moved, list}
 use Rattle.cert_model.proofs.Next.{start, wrote_next, wrote_none}
@@ -19,7 +19,7 @@ pub loop-from-preserved : goal.loop-from-preserved
 loop-from-preserved c = record { written = wrote_none c.args.set.now c.loop-from.from c.in-None.ensures c.loop-from.invariant.written; within = omega arith }
 
 pub returns : goal.returns
-unfolding set_numbers
+unfolding set_data
 returns c =
     let all : c.loop-from.from ≡ 512 = omega (arith, c.loop-from.invariant.within) in
     list c.end_array.result whole_number (numbers_below c.args.set.now 512) (wrote c.in_ok-begin_array.ensures)

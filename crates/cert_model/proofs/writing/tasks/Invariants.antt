@@ -1,7 +1,7 @@
 use Rattle.std.proofs.Common.{take}
 use Rattle.cert_model.specs.Tokens.{Adds, tokens_by}
-use Rattle.cert_model.specs.Writing.{task}
+use Rattle.cert_model.specs.Writing.{task_data}
 use Rattle.cert_model.proofs.writing.tasks.Given as goal
 
 abbrev pub invariant-loop-part : goal.invariant-loop-part
-invariant-loop-part l = Adds l.initial.out l.out (tokens_by task (take l.part-index l.list))
+invariant-loop-part l = Adds l.initial.out l.out (tokens_by task_data (take l.part-index l.list))

@@ -4,8 +4,8 @@ use Rattle.std.proofs.lemmas.Result.{err_from_is_err_and}
 use Rattle.crpd_base.specs.declared.data.NodeState.{NodeState}
 use Rattle.cert_model.specs.Ranges.{HasFewPairs}
 use Rattle.cert_model.specs.Reading.{state_entries}
-use Rattle.cert_update.specs.Coded.{side_of}
-use Rattle.cert_update.specs.Parts.{IsCounted}
+use Rattle.cert_update.specs.Coded.{coded_side}
+use Rattle.cert_update.specs.Parts.{CountsNewEntries}
 use Rattle.cert_build.proofs.Counting.{few_states, few_pairs}
 use Rattle.cert_update.proofs.NewParts.{kept_more, dropped_more, refused, many}
 use Rattle.cert_update.proofs.Pass.{is_graph}
@@ -15,8 +15,8 @@ use Rattle.cert_update.proofs.parts.new_parts.Goals.{then-found-le-MOST_ENTRIES+
 pub returns-in_err-part-clause-parts : goal.returns-in_err-part-clause-parts
 returns-in_err-part-clause-parts c =
     let p = err_from_is_err_and c.from_residual.result c.from_residual.ensures.1 in
-    let old = side_of c.args.change.now.old in
-    let new = side_of c.args.change.now.new in
+    let old = coded_side c.args.change.now.old in
+    let new = coded_side c.args.change.now.new in
     let codes = c.requires.codes in
     let count = c.requires.sources.tasks in
     let lt = c.loop-i-test.true in
@@ -34,8 +34,8 @@ task_entries-found-requires-clause-each c =
 
 pub loop-i-preserved : goal.loop-i-preserved
 loop-i-preserved c =
-    let old = side_of c.args.change.now.old in
-    let new = side_of c.args.change.now.new in
+    let old = coded_side c.args.change.now.old in
+    let new = coded_side c.args.change.now.new in
     let is = c.task_entries-found.ensures.is ∙ ap (λ (l : List NodeState). sum_by state_entries l) c.as_slice.ensures in
     elim c.if-found-le-MOST_ENTRIES.branch [
       | then-found-le-MOST_ENTRIES+in_ok-push w ↦
@@ -50,7 +50,7 @@ loop-i-preserved c =
 
 pub returns-then-found-gt-MOST_ENTRIES-clause-parts : goal.returns-then-found-gt-MOST_ENTRIES-clause-parts
 returns-then-found-gt-MOST_ENTRIES-clause-parts c =
-    let old = side_of c.args.change.now.old in
-    let new = side_of c.args.change.now.new in
-    many old c.args.change.now.certificate.now new c.loop-i.found c.loop-i.parts.items (subst (λ n. IsCounted old c.args.change.now.certificate.now new n c.loop-i.found c.loop-i.parts.items)
+    let old = coded_side c.args.change.now.old in
+    let new = coded_side c.args.change.now.new in
+    many old c.args.change.now.certificate.now new c.loop-i.found c.loop-i.parts.items (subst (λ n. CountsNewEntries old c.args.change.now.certificate.now new n c.loop-i.found c.loop-i.parts.items)
     (let count = c.requires.sources.tasks in let over = c.loop-i-test.false in let end = c.loop-i.auto.i-end in omega (arith, count, over, end)) c.loop-i.invariant) c.if-found-gt-MOST_ENTRIES.true

@@ -1,7 +1,7 @@
 use Rattle.std.proofs.Common.{List, subst, arith}
 use Rattle.std.proofs.lemmas.List.{take_all}
 use Rattle.code_map.specs.declared.pieces.Piece.{Piece}
-use Rattle.code_map.specs.Conflicts.{disagree, IsFirst}
+use Rattle.code_map.specs.Conflicts.{disagree, IsFirstPassing}
 use Rattle.code_map.specs.Pieces.{piece_byte}
 use Rattle.code_map.proofs.Sweep.{swept_more, no_piece}
 use Rattle.code_map.proofs.joined.join.Goals as goal
@@ -10,4 +10,4 @@ pub loop-piece-preserved : goal.loop-piece-preserved
 loop-piece-preserved c = rw c.lesser-conflict.ensures (swept_more c.args.pieces.now c.loop-piece.piece-index no_piece c.loop-piece.runs.items _ c.loop-piece.conflict c.in_ok-add.field-0 c.requires.ascending c.loop-piece-test.true c.loop-piece.invariant c.in_ok-add.ensures)
 
 pub returns-clause-conflict : goal.returns-clause-conflict
-returns-clause-conflict c = subst (λ (ps : List Piece). IsFirst (λ a. disagree (λ p. piece_byte p a) ps) c.loop-piece.conflict) (take_all c.loop-piece.piece-index c.args.pieces.now (omega arith)) c.loop-piece.invariant.conflict
+returns-clause-conflict c = subst (λ (ps : List Piece). IsFirstPassing (λ a. disagree (λ p. piece_byte p a) ps) c.loop-piece.conflict) (take_all c.loop-piece.piece-index c.args.pieces.now (omega arith)) c.loop-piece.invariant.conflict

@@ -1,7 +1,7 @@
 use Rattle.std.proofs.Common.{◌≡◌, map, take}
 use Rattle.std.specs.Prelude.{All}
-use Rattle.code_map.specs.Pieces.{HasBytes, all_pieces, told}
+use Rattle.code_map.specs.Pieces.{HasBytes, all_pieces, piece_content}
 use Rattle.code_map.proofs.pieces.all_pieces.Given as goal
 
 abbrev pub invariant-loop-image : goal.invariant-loop-image
-invariant-loop-image l = (map told l.pieces.items ≡ all_pieces (take l.image-index l.images)) × All HasBytes l.pieces.items
+invariant-loop-image l = (map piece_content l.pieces.items ≡ all_pieces (take l.image-index l.images)) × All HasBytes l.pieces.items

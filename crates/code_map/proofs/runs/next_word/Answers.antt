@@ -1,6 +1,6 @@
 use Rattle.std.proofs.Common.{◌+◌, ◌-◌, ◌<◌, ◌≤◌, length, arith, subst}
 use Rattle.code_map.specs.declared.runs.Run.{Run}
-use Rattle.code_map.specs.Next.{IsNext}
+use Rattle.code_map.specs.NextPassing.{IsNextPassing}
 use Rattle.code_map.specs.Runs.{has_word}
 use Rattle.code_map.proofs.Found.{blank}
 use Rattle.code_map.proofs.NextWord.{item_at, count_of, none_anywhere, none_before, none_more, next_found}
@@ -25,7 +25,7 @@ returns-in-Some-clause-is c =
     let i = c.loop-run.run-index in
     let at = item_at c.args.runs.now f i c.run-item.result c.loop-run-test.true c.run-item.is (omega arith) in
     next_found c.args.runs.now c.requires c.args.from (f + i) c.in-Some.address at.0 (omega (arith, c.in-Some.ensures.within)) c.loop-run.invariant
-    (subst (λ (r : Run). IsNext (has_word r) c.args.from c.in-Some.address) at.1 c.in-Some.ensures.is)
+    (subst (λ (r : Run). IsNextPassing (has_word r) c.args.from c.in-Some.address) at.1 c.in-Some.ensures.is)
 
 pub returns-clause-is : goal.returns-clause-is
 returns-clause-is c =

@@ -1,5 +1,5 @@
 use Rattle.std.proofs.Common.{◌≡◌, ◌<◌, [], ◌∷◌, ap, sym, subst, arith, length, length-append}
-use Rattle.cert_check.specs.Shown.{AreShown}
+use Rattle.cert_check.specs.TaskGraphs.{AreTaskGraphs}
 use Rattle.crpd_input.specs.Graphs.{RegionsAt}
 use Rattle.crpd_input.proofs.Below.{stopped_below, value_more}
 use Rattle.crpd_input.proofs.Nests.{ShownAt, all_shown}
@@ -20,4 +20,4 @@ loop-place-preserved c = record {
 pub returns-clause-shown : goal.returns-clause-shown
 returns-clause-shown c =
     let all : length c.loop-place.nests.items ≡ length c.args.input.now.set.tasks = omega (arith, c.loop-place.invariant.count, c.loop-place-test.false, c.loop-place.auto.place-end, c.requires.graphs) in
-    subst (AreShown c.args.input.now.set c.args.graphs.now) (sym c.new.ensures) (all_shown c.args.input.now.set c.args.graphs.now c.loop-place.nests.items c.requires.graphs all c.loop-place.invariant.shown)
+    subst (AreTaskGraphs c.args.input.now.set c.args.graphs.now) (sym c.new.ensures) (all_shown c.args.input.now.set c.args.graphs.now c.loop-place.nests.items c.requires.graphs all c.loop-place.invariant.shown)

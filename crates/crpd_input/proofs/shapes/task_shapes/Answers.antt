@@ -1,5 +1,5 @@
 use Rattle.std.proofs.Common.{List, Ok, Err, inl, refl, subst}
-use Rattle.cert_check.specs.Shown.{AreShown}
+use Rattle.cert_check.specs.TaskGraphs.{AreTaskGraphs}
 use Rattle.flat_graph.specs.CodeGraph.{CodeGraph}
 use Rattle.crpd_input.specs.Graphs.{GraphsIn, RegionsIn}
 use Rattle.crpd_input.specs.Steps.{Exactly, StopsBy, Then}
@@ -15,7 +15,7 @@ returns-in-Ok-clause-exact c =
     )
 
 pub returns-in-Ok-clause-shown : goal.returns-in-Ok-clause-shown
-returns-in-Ok-clause-shown c = subst (λ (gs : List CodeGraph). AreShown c.args.input.now.set gs c.in-Ok.nests) c.as_slice.ensures c.in-Ok.ensures.shown
+returns-in-Ok-clause-shown c = subst (λ (gs : List CodeGraph). AreTaskGraphs c.args.input.now.set gs c.in-Ok.nests) c.as_slice.ensures c.in-Ok.ensures.shown
 
 pub returns-in-Err-clause-exact : goal.returns-in-Err-clause-exact
 returns-in-Err-clause-exact c =

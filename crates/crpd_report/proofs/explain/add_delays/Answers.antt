@@ -5,7 +5,7 @@ use Rattle.std.specs.List.{flat_map, range_with_len}
 use Rattle.cert_check.proofs.Names.{part_is}
 use Rattle.crpd_base.specs.declared.data.TaskPart.{TaskPart}
 use Rattle.crpd_base.proofs.Times.{has_times}
-use Rattle.evict_sets.specs.Certificate.{cert_at}
+use Rattle.evict_sets.specs.ListedPart.{certified_task}
 use Rattle.crpd_report.specs.Explain.{delay_line, delay_lines, delay_of}
 use Rattle.crpd_base.specs.Tasks.{name_of}
 use Rattle.crpd_report.proofs.CertifiedDelays.{delay_is, has_windows, small}
@@ -29,7 +29,7 @@ charged_delays-delay-requires-clause-w c =
     let ps : c.deref.result.now ≡ map (λ (t : TaskPart). t.part) tasks = c.deref.ensures.value ∙ c.in_ok-parts.ensures ∙ ap (map (λ (t : TaskPart). t.part)) c.as_slice-tasks.ensures in
     let ws : c.deref-in-loop-place.result.now ≡ map (λ (t : TaskPart). t.window) tasks = c.deref-in-loop-place.ensures.value ∙ c.in_ok-windows.ensures ∙ ap (map (λ (t : TaskPart). t.window)) c.as_slice-tasks.ensures in
     let long = ap length c.as_slice-tasks.ensures in
-    let at : cert_at c.args.certificate.now c.loop-place.place ≡ c.index-tasks-place.result =
+    let at : certified_task c.args.certificate.now c.loop-place.place ≡ c.index-tasks-place.result =
     part_is c.args.certificate.now c.loop-place.place c.index-tasks-place.result (omega (arith, c.loop-place-test.true, long))
     (subst (λ (xs : List TaskPart). c.index-tasks-place.result ≡ get_or xs c.loop-place.place c.index-tasks-place.result) c.as_slice-tasks.ensures c.index-tasks-place.is) in
     small c.args.certificate.now c.deref.result.now c.deref-in-loop-place.result.now ps ws c.args.set.now (has_times c.args.set.now c.requires.set) c.requires.certificate c.loop-place.place c.index-tasks-place.result
@@ -40,7 +40,7 @@ loop-place-preserved c =
     let tasks = c.args.certificate.now.tasks in
     let ps : c.deref.result.now ≡ map (λ (t : TaskPart). t.part) tasks = c.deref.ensures.value ∙ c.in_ok-parts.ensures ∙ ap (map (λ (t : TaskPart). t.part)) c.as_slice-tasks.ensures in
     let ws : c.deref-in-loop-place.result.now ≡ map (λ (t : TaskPart). t.window) tasks = c.deref-in-loop-place.ensures.value ∙ c.in_ok-windows.ensures ∙ ap (map (λ (t : TaskPart). t.window)) c.as_slice-tasks.ensures in
-    let at : cert_at c.args.certificate.now c.loop-place.place ≡ c.index-tasks-place.result =
+    let at : certified_task c.args.certificate.now c.loop-place.place ≡ c.index-tasks-place.result =
     part_is c.args.certificate.now c.loop-place.place c.index-tasks-place.result (omega (arith, c.loop-place-test.true, ap length c.as_slice-tasks.ensures))
     (subst (λ (xs : List TaskPart). c.index-tasks-place.result ≡ get_or xs c.loop-place.place c.index-tasks-place.result) c.as_slice-tasks.ensures c.index-tasks-place.is) in
     let delay : c.charged_delays-delay.result ≡ delay_of c.args.set.now c.args.certificate.now c.loop-place.place =

@@ -1,7 +1,7 @@
 use Rattle.std.proofs.Common.{◌≡◌, ◌+◌, ◌-◌, ◌^◌, ◌<◌, ◌≤◌, get_or, Some, ap, ◌∙◌, arith}
 use Rattle.std.specs.Prelude.{slice_get}
 use Rattle.std.proofs.lemmas.Option.{slice_get-get_or}
-use Rattle.code_map.specs.Next.{IsNext}
+use Rattle.code_map.specs.NextPassing.{IsNextPassing}
 use Rattle.code_map.specs.Words.{owns}
 use Rattle.crpd_report.specs.List.{line_of}
 use Rattle.crpd_report.proofs.Addresses.{all_lines, blank, more_lines, no_lines, whole_list}
@@ -16,7 +16,7 @@ loop-address-init c = record {
 pub loop-address-smaller : goal.loop-address-smaller
 loop-address-smaller c =
     let image = get_or c.args.code.now.images c.args.task.0 blank in
-    let next : IsNext (owns image) c.loop-address.from c.in-Some.address = c.in-Some.ensures.is image (slice_get-get_or c.args.code.now.images c.args.task.0 blank c.requires) in
+    let next : IsNextPassing (owns image) c.loop-address.from c.in-Some.address = c.in-Some.ensures.is image (slice_get-get_or c.args.code.now.images c.args.task.0 blank c.requires) in
     let low : c.loop-address.from ≤ c.in-Some.address = next.reached in
     let smaller : 2 ^ 32 - (c.in-Some.address + 1) < 2 ^ 32 - c.loop-address.from = omega (arith, c.in-Some.ensures.within) in smaller
 

@@ -1,12 +1,12 @@
 use Rattle.std.proofs.Common.{◌∙◌, ℕ, ap, refl, subst, sym, Ok}
 use Rattle.crpd_report.specs.Simulate.{is_legal, run_line}
 use Rattle.crpd_report.proofs.Legality.{legal_decides}
-use Rattle.cert_check.specs.Shown.{nest_at}
+use Rattle.cert_check.specs.TaskGraphs.{nest_at}
 use Rattle.loop_regions.specs.CodeNest.{nest_of}
 use Rattle.loop_regions.specs.Nest.{Nest}
 use Rattle.run_account.specs.Account.{IsAccount}
 use Rattle.preempt_machine.specs.Starts.{start_of_script}
-use Rattle.run_account.specs.Shown.{AreGraphsOf, TasksAreMet, with_nests}
+use Rattle.run_account.specs.AccountGraphs.{AreGraphsOf, TasksAreMet, with_nests}
 use Rattle.crpd_tool.specs.Simulate.{IsRunLine, run_of}
 use Rattle.crpd_tool.specs.declared.answer.Outcome.TheVariants.{Done}
 use Rattle.crpd_tool.proofs.Explaining.{graphs_of, tasks_met, windows_met}

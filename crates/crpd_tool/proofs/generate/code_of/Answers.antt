@@ -1,9 +1,9 @@
 use Rattle.std.proofs.Common.{◌≡◌, ◌∙◌, Ok, ap, refl, subst}
-use Rattle.crpd_io.specs.Held.{file_at}
+use Rattle.crpd_io.specs.FilesInMemory.{file_named}
 use Rattle.crpd_io.specs.Outside.{Contents}
 use Rattle.crpd_input.specs.Reading.{code_in}
 use Rattle.crpd_input.specs.Steps.{Stops}
-use Rattle.crpd_tool.specs.Generate.{held, made_name}
+use Rattle.crpd_tool.specs.Generate.{contents_of_files, made_name}
 use Rattle.crpd_tool.proofs.MadeFiles.{contents_are}
 use Rattle.crpd_tool.proofs.generate.code_of.Goals as goal
 
@@ -11,10 +11,10 @@ pub returns-in-Ok-clause-exact : goal.returns-in-Ok-clause-exact
 returns-in-Ok-clause-exact c =
     let files = c.in_ok-kept.kept.files.items in
     subst (λ (contents : Contents). code_in contents made_name c.args.set.now ≡ Ok c.in-Ok.code)
-    (contents_are files ∙ ap held c.in_ok-kept.ensures) (c.in-Ok.ensures.exact (file_at files) refl)
+    (contents_are files ∙ ap contents_of_files c.in_ok-kept.ensures) (c.in-Ok.ensures.exact (file_named files) refl)
 
 pub returns-clause-exact : goal.returns-clause-exact
 returns-clause-exact c =
     let files = c.in_ok-kept.kept.files.items in
     subst (λ (contents : Contents). Stops (code_in contents made_name c.args.set.now) c.in-Err.halt)
-    (contents_are files ∙ ap held c.in_ok-kept.ensures) (c.in-Err.ensures.exact (file_at files) refl)
+    (contents_are files ∙ ap contents_of_files c.in_ok-kept.ensures) (c.in-Err.ensures.exact (file_named files) refl)

@@ -1,5 +1,5 @@
 use Rattle.std.proofs.Common.{◌≡◌, ◌∙◌, ◌<◌, ◌^◌, ℕ, List, Result, Ok, Err, ap, length, subst, sym}
-use Rattle.gen_tasks.specs.Made.{made}
+use Rattle.gen_tasks.specs.GeneratedInput.{made}
 use Rattle.gen_tasks.specs.declared.Generated.{Generated}
 use Rattle.crpd_input.specs.Steps.{MeansBy}
 use Rattle.crpd_input.specs.declared.halt.Halt.{Halt}

@@ -2,7 +2,7 @@ use Rattle.std.proofs.Common.{ℕ, List, Result, Ok, Err, inr, subst}
 use Rattle.crpd_base.specs.declared.data.Certificate.{Certificate}
 use Rattle.flat_graph.specs.CodeGraph.{CodeGraph}
 use Rattle.loop_regions.specs.CodeNest.{CodeNest}
-use Rattle.cert_check.specs.Shown.{shown_at}
+use Rattle.cert_check.specs.TaskGraphs.{task_graph_at}
 use Rattle.cert_check.specs.Verdict.{IsJudged, Yes}
 use Rattle.crpd_input.specs.declared.halt.Halt.{Halt}
 use Rattle.crpd_input.specs.declared.halt.Halt.TheVariants.{Refused, Memory, Fault}
@@ -16,7 +16,7 @@ use Rattle.crpd_tool.proofs.update.judge_and_change.Goals as goal
 
 -- after the judge's yes the update is the whole answer
 after_yes : (file : List ℕ) (old : Input) (old_shapes : Shapes) (stated : Certificate) (input : Input) (shapes : Shapes) (result : Result Answer Halt)
-    → IsJudged old.set (shown_at old_shapes.graphs old_shapes.nests) stated Yes
+    → IsJudged old.set (task_graph_at old_shapes.graphs old_shapes.nests) stated Yes
     → MeansBy (ChangeOf file old old_shapes stated input shapes) result → MeansBy (UpdateOf file old old_shapes stated input shapes) result
 after_yes file old old_shapes stated input shapes (Ok answer) judged change = inr (judged, change)
 after_yes file old old_shapes stated input shapes (Err (Refused refusal)) judged change = inr (judged, change)
@@ -28,12 +28,12 @@ verdict-found-requires-clause-certificate c = in_range c.args.stated.now c.requi
 
 pub change-requires-clause-judged : goal.change-requires-clause-judged
 change-requires-clause-judged c =
-    subst (λ (gs : List CodeGraph). IsJudged c.args.old.now.set (shown_at gs c.args.old_shapes.now.nests) c.args.stated.now Yes) c.as_slice-graphs.ensures
-    (subst (λ (ns : List CodeNest). IsJudged c.args.old.now.set (shown_at c.as_slice-graphs.result.now ns) c.args.stated.now Yes) c.as_slice-nests.ensures c.in-Yes.ensures)
+    subst (λ (gs : List CodeGraph). IsJudged c.args.old.now.set (task_graph_at gs c.args.old_shapes.now.nests) c.args.stated.now Yes) c.as_slice-graphs.ensures
+    (subst (λ (ns : List CodeNest). IsJudged c.args.old.now.set (task_graph_at c.as_slice-graphs.result.now ns) c.args.stated.now Yes) c.as_slice-nests.ensures c.in-Yes.ensures)
 
 pub returns-in-Yes-clause-exact : goal.returns-in-Yes-clause-exact
 returns-in-Yes-clause-exact c =
     after_yes c.args.file.now c.args.old.now c.args.old_shapes.now c.args.stated.now c.args.input.now c.args.shapes.now c.change.result
-    (subst (λ (gs : List CodeGraph). IsJudged c.args.old.now.set (shown_at gs c.args.old_shapes.now.nests) c.args.stated.now Yes) c.as_slice-graphs.ensures
-    (subst (λ (ns : List CodeNest). IsJudged c.args.old.now.set (shown_at c.as_slice-graphs.result.now ns) c.args.stated.now Yes) c.as_slice-nests.ensures c.in-Yes.ensures))
+    (subst (λ (gs : List CodeGraph). IsJudged c.args.old.now.set (task_graph_at gs c.args.old_shapes.now.nests) c.args.stated.now Yes) c.as_slice-graphs.ensures
+    (subst (λ (ns : List CodeNest). IsJudged c.args.old.now.set (task_graph_at c.as_slice-graphs.result.now ns) c.args.stated.now Yes) c.as_slice-nests.ensures c.in-Yes.ensures))
     c.change.ensures.exact

@@ -1,5 +1,5 @@
 use Rattle.std.proofs.Common.{◌≡◌, get_or, true, false, length, ap, arith, subst, sym}
-use Rattle.dataflow.specs.Search.{IsOrder}
+use Rattle.dataflow.specs.Search.{IsVisitOrder}
 use Rattle.dataflow.proofs.Depth.{none_found, all_left, backwards, each_root}
 use Rattle.dataflow.proofs.order.depth_order.Goals as goal
 
@@ -17,4 +17,4 @@ loop-k-init g c =
 pub returns : goal.returns
 returns g c =
     let all = all_left _ _ _ _ _ _ (ap length c.loop-k.invariant.path) (each_root (λ n. get_or c.loop-k.search.seen.items n false ≡ true) c.args.from_last (g.G.Flow.node_count c.args.flow.now) (λ k lt. c.loop-k.invariant.found k (omega (arith, c.nodes-k-end.ensures)))) c.loop-k.invariant.search in
-    subst (λ xs. IsOrder (g.G.Flow.node_count c.args.flow.now) xs) (sym c.reverse.ensures.items) (backwards _ _ all)
+    subst (λ xs. IsVisitOrder (g.G.Flow.node_count c.args.flow.now) xs) (sym c.reverse.ensures.items) (backwards _ _ all)

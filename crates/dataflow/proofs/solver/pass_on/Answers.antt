@@ -1,7 +1,7 @@
 use Rattle.std.proofs.Common.{◌≡◌, ◌<◌, ◌≤◌, Some, None, length, ap, sym, ◌∙◌, subst, arith, option_map, true, false}
 use Rattle.std.proofs.lemmas.List.{get_or_default}
 use Rattle.dataflow.specs.Problem.{problem, fact_at}
-use Rattle.dataflow.specs.Search.{IsUnderWay, waits, past, absorbed}
+use Rattle.dataflow.specs.Search.{IsPartialSolution, waits, past_edge, absorbed}
 use Rattle.dataflow.proofs.Chain.{read_last, read_before, falls_back}
 use Rattle.dataflow.proofs.Solution.{HasLaws}
 use Rattle.dataflow.proofs.Steps.{none_passed, stepped, still_source}
@@ -55,8 +55,8 @@ loop-next-preserved g c =
       edge = λ k h. let b = before.edge k h in (omega (arith, b, e.0), b.1);
       source = still_source _ _ laws _ _ _ _ _ _ step _ _ c.loop-next.invariant.source;
       under_way = stepped _ _ laws _ _ _ _ _ _ step c.args.node c.in-Some.k c.index-next-in-Some.result.now e.0 ends before c.loop-next.invariant.source
-          (subst (λ o. IsUnderWay g.D.Domain.Value (problem g.D.Domain.joined (g.D.Domain.passed c.args.domain.now) (g.D.Domain.begins c.args.domain.now) (g.G.Flow.node_count c.args.flow.now) (g.G.Flow.edge_count c.args.flow.now) (g.G.Flow.ends c.args.flow.now))
-          (fact_at g.D.Domain.view c.loop-next.facts) (waits c.loop-next.waiting) (λ j. (g.G.Flow.ends c.args.flow.now j).0 ≡ c.args.node → past o ≤ j)) c.in-Some.is c.loop-next.invariant.under_way);
+          (subst (λ o. IsPartialSolution g.D.Domain.Value (problem g.D.Domain.joined (g.D.Domain.passed c.args.domain.now) (g.D.Domain.begins c.args.domain.now) (g.G.Flow.node_count c.args.flow.now) (g.G.Flow.edge_count c.args.flow.now) (g.G.Flow.ends c.args.flow.now))
+          (fact_at g.D.Domain.view c.loop-next.facts) (waits c.loop-next.waiting) (λ j. (g.G.Flow.ends c.args.flow.now j).0 ≡ c.args.node → past_edge o ≤ j)) c.in-Some.is c.loop-next.invariant.under_way);
       left = let l = left_falls _ _ g.D.Domain.view (g.D.Domain.height c.args.domain.now) (g.D.Domain.tallest c.args.domain.now) (g.met.D.Domain.bounded c.args.domain.now) c.loop-next.facts c.loop-next.waiting c.if-absorb.waiting c.edge-target.result.1 c.absorb.new.fact fits waits_there how in
           omega (arith, c.loop-next.invariant.left);
     }

@@ -2,7 +2,7 @@ use Rattle.std.proofs.Common.{◌≡◌, ℕ, ◌<◌, ◌≤◌, ◌++◌, Some
 use Rattle.std.proofs.Math.Seq.{take-append_seam}
 use Rattle.std.proofs.lemmas.List.{get_or_default, get_or_past, length-set}
 use Rattle.dataflow.specs.Problem.{Problem, fact_at}
-use Rattle.dataflow.specs.Search.{IsUnderWay, IsSource, waits}
+use Rattle.dataflow.specs.Search.{IsPartialSolution, IsPassedOn, waits}
 use Rattle.dataflow.proofs.Solution.{is_fact, is_least}
 use Rattle.dataflow.proofs.Steps.{at_start, taken, taken_empty, its_source, solved}
 use Rattle.dataflow.proofs.solver.search.Goals as goal
@@ -10,14 +10,14 @@ use Rattle.dataflow.proofs.solver.search.Goals as goal
 -- the fact that is passed on
 source_in : (F V : Type 0) (view : F → V) (facts same : List (Option F)) (p : Problem V) (waiting : List Bool) (m : ℕ) (before : F) (u : V)
     → same ≡ facts → get_or facts m None ≡ Some before → u ≡ p.passed m (view before)
-    → IsSource V p (fact_at view facts) (waits waiting) m (p.passed m (view before))
-    → IsSource V p (fact_at view same) (waits waiting) m u
+    → IsPassedOn V p (fact_at view facts) (waits waiting) m (p.passed m (view before))
+    → IsPassedOn V p (fact_at view same) (waits waiting) m u
 source_in F V view facts same p waiting m before u e here is h =
-    subst (λ xs. IsSource V p (fact_at view xs) (waits waiting) m u) (sym e) (subst (λ x. IsSource V p (fact_at view facts) (waits waiting) m x) (sym is) h)
+    subst (λ xs. IsPassedOn V p (fact_at view xs) (waits waiting) m u) (sym e) (subst (λ x. IsPassedOn V p (fact_at view facts) (waits waiting) m x) (sym is) h)
 
 facts_in : (F V : Type 0) (view : F → V) (facts same : List (Option F)) (p : Problem V) (waiting : ℕ → Bool) (done : ℕ → Type 0)
-    → same ≡ facts → IsUnderWay V p (fact_at view facts) waiting done → IsUnderWay V p (fact_at view same) waiting done
-facts_in F V view facts same p waiting done e h = subst (λ xs. IsUnderWay V p (fact_at view xs) waiting done) (sym e) h
+    → same ≡ facts → IsPartialSolution V p (fact_at view facts) waiting done → IsPartialSolution V p (fact_at view same) waiting done
+facts_in F V view facts same p waiting done e h = subst (λ xs. IsPartialSolution V p (fact_at view xs) waiting done) (sym e) h
 
 -- those that are not taken
 others_of : (waiting new : List Bool) (m : ℕ) → new ≡ set waiting m false → (n : ℕ) → n ≢ m → waits new n ≡ waits waiting n

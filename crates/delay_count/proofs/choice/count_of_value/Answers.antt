@@ -1,7 +1,7 @@
 use Rattle.std.proofs.Common.{arith, ◌*◌, ◌^◌, ◌≤◌}
 use Rattle.std.specs.Prelude.{slice_index}
 use Rattle.delay_count.specs.Gamma.{count_at}
-use Rattle.delay_count.specs.Filling.{counted_at}
+use Rattle.delay_count.specs.Filling.{sum_at_value}
 use Rattle.delay_count.proofs.Choices.{counted_most, counted_more, counted_other}
 use Rattle.delay_count.proofs.Shares.{count_is}
 use Rattle.delay_count.proofs.choice.count_of_value.Goals as goal
@@ -9,7 +9,7 @@ use Rattle.delay_count.proofs.choice.count_of_value.Goals.{then-values-k, else-v
 
 pub overflow_add-count : goal.overflow_add-count
 overflow_add-count g c =
-    let most : counted_at (slice_index c.args.values.now) (count_at c.args.lower.now) c.loop-k.k c.args.value ≤ c.loop-k.k * 2 ^ 81 =
+    let most : sum_at_value (slice_index c.args.values.now) (count_at c.args.lower.now) c.loop-k.k c.args.value ≤ c.loop-k.k * 2 ^ 81 =
     counted_most (slice_index c.args.values.now) (count_at c.args.lower.now) c.args.value (2 ^ 81) c.loop-k.k (λ k h. omega (arith, c.requires.counts k (omega arith))) in
     let is = count_is c.args.lower.now c.loop-k.k c.index-lower-k.result c.loop-k-test.true c.index-lower-k.is in
     omega (arith, most, is, c.requires.counts c.loop-k.k c.loop-k-test.true)

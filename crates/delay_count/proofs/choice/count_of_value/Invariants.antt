@@ -1,8 +1,8 @@
 use Rattle.std.proofs.Common.{◌≡◌}
 use Rattle.std.specs.Prelude.{slice_index}
 use Rattle.delay_count.specs.Gamma.{count_at}
-use Rattle.delay_count.specs.Filling.{counted_at}
+use Rattle.delay_count.specs.Filling.{sum_at_value}
 use Rattle.delay_count.proofs.choice.count_of_value.Given as goal
 
 abbrev pub invariant-loop-k : goal.invariant-loop-k
-invariant-loop-k g l = l.count ≡ counted_at (slice_index l.values) (count_at l.lower) l.k l.value
+invariant-loop-k g l = l.count ≡ sum_at_value (slice_index l.values) (count_at l.lower) l.k l.value

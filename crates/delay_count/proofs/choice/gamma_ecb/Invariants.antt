@@ -1,7 +1,7 @@
 use Rattle.std.proofs.Common.{◌≡◌, ◌+◌, ◌*◌, ◌<◌, ◌≤◌, length}
 use Rattle.std.specs.Prelude.{slice_index}
 use Rattle.delay_count.specs.Gamma.{count_at}
-use Rattle.delay_count.specs.Filling.{counted_from, worth_from}
+use Rattle.delay_count.specs.Filling.{sum_from_value, worth_from}
 use Rattle.delay_count.proofs.choice.gamma_ecb.Given as goal
 
 abbrev pub invariant-loop-values : goal.invariant-loop-values
@@ -9,7 +9,7 @@ invariant-loop-values g l = record {
   some : 0 < l.level;
   least : l.level ≤ 65537;
   worth : l.charged ≡ worth_from (slice_index l.values) (count_at l.lower) l.level (length l.lower);
-  left : counted_from (slice_index l.values) (count_at l.lower) l.level (length l.lower) + l.room ≡ l.jobs;
+  left : sum_from_value (slice_index l.values) (count_at l.lower) l.level (length l.lower) + l.room ≡ l.jobs;
   bound : l.charged + 65536 * l.room ≤ 65536 * l.jobs;
 }
 

@@ -1,4 +1,4 @@
-use Rattle.flat_graph.specs.CodeGraph.{graph_of, listing}
+use Rattle.flat_graph.specs.CodeGraph.{graph_of, node_code}
 use Rattle.evict_sets.specs.Answering.{answers_of}
 use Rattle.evict_sets.proofs.LongestCosts.{some_longest, small_longest}
 use Rattle.evict_sets.proofs.costs.longest_law.Goals as goal
@@ -8,4 +8,4 @@ returns-clause-some c = some_longest c.args.platform.now c.args.graph.now c.requ
 
 pub returns-clause-small : goal.returns-clause-small
 returns-clause-small c =
-    small_longest c.args.platform.now (graph_of c.args.graph.now) (listing c.args.graph.now) (answers_of c.args.graph.now) c.requires
+    small_longest c.args.platform.now (graph_of c.args.graph.now) (node_code c.args.graph.now) (answers_of c.args.graph.now) c.requires

@@ -1,6 +1,6 @@
 use Rattle.std.proofs.Common.{◌≡◌, ℕ, ◌∙◌, ◌+◌, sym, ap, subst, arith, length, take, drop, ◌++◌, List, Some, slice_get, get_or}
 use Rattle.std.proofs.lemmas.Option.{slice_get-get_or}
-use Rattle.flat_graph.specs.Leaders.{AreMarked, marked}
+use Rattle.flat_graph.specs.Leaders.{AreMarked, mark_after_edges}
 use Rattle.flat_graph.specs.declared.leaders.Mark.{Mark}
 use Rattle.flat_graph.specs.declared.lines.Line.{Line}
 use Rattle.flat_graph.specs.declared.graph.Onward.TheVariants.{Ends}
@@ -16,7 +16,7 @@ loop-line-preserved c =
     let w : take c.loop-line.marks.len (new ++ drop (length new) old) ≡ new = whole new old c.loop-line.marks.len same (omega (arith, c.loop-line.marks.ok)) in
     let line : Line = get_or c.args.lines.now c.loop-line.line-index (record { ins = Lui 0 0; next = Ends }) in
     let at : slice_get c.args.lines.now c.loop-line.line-index ≡ Some line = slice_get-get_or c.args.lines.now c.loop-line.line-index _ c.loop-line-test.true in
-    let after = subst (λ l. (v : ℕ) (m n : Mark) → slice_get l v ≡ Some m → slice_get new v ≡ Some n → n ≡ marked line.next v m) c.deref_mut.ensures.value c.mark_ends.ensures.marked in
+    let after = subst (λ l. (v : ℕ) (m n : Mark) → slice_get l v ≡ Some m → slice_get new v ≡ Some n → n ≡ mark_after_edges line.next v m) c.deref_mut.ensures.value c.mark_ends.ensures.marked in
     record {
       count = ap length w ∙ same ∙ c.loop-line.invariant.count;
       marked = subst (AreMarked c.args.lines.now c.args.first (c.loop-line.line-index + 1)) (sym w)

@@ -4,11 +4,11 @@ use Rattle.std.proofs.lemmas.Result.{err_from_is_err_and}
 use Rattle.std.proofs.lemmas.List.{length-map}
 use Rattle.code_map.specs.Words.{word_at}
 use Rattle.rv_decode.specs.Flow.{flows}
-use Rattle.flat_graph.specs.Built.{AreLines, AreNumbers, IsLine}
+use Rattle.flat_graph.specs.GraphParts.{AreNodeLines, AreNumbers, IsNodeLine}
 use Rattle.flat_graph.specs.FlatGraph.{FlatNode, error_of, successors}
-use Rattle.flat_graph.specs.Kept.{onward}
-use Rattle.flat_graph.specs.Refusals.{graph_error}
-use Rattle.flat_graph.specs.Spots.{flat, flats, flat_steps, IsBelowEnd}
+use Rattle.flat_graph.specs.StoredGraph.{onward}
+use Rattle.flat_graph.specs.GraphErrors.{graph_error}
+use Rattle.flat_graph.specs.Spots.{spot_node, spot_nodes, flat_steps, IsBelowEnd}
 use Rattle.flat_graph.specs.declared.spots.Spot.{Spot}
 use Rattle.flat_graph.proofs.Explored.{below_end}
 use Rattle.flat_graph.proofs.NodeLines.{flat_at, node_at, led, successors_there, lines_more, refused_line}
@@ -19,8 +19,8 @@ returns-in_err-ins-clause-refused c =
     let words = word_at c.args.code.now.images in
     let none : Spot = record { context = 0; address = 0 } in
     let spot = slice_index_or c.args.spots.now c.loop-spot.spot-index none in
-    let nodes = flats c.args.lists.now c.args.spots.now in
-    let n = flat c.args.lists.now spot in
+    let nodes = spot_nodes c.args.lists.now c.args.spots.now in
+    let n = spot_node c.args.lists.now spot in
     let lt : c.loop-spot.spot-index < length c.args.spots.now = omega arith in
     let at = flat_at c.args.lists.now c.args.spots.now c.loop-spot.spot-index none lt in
     let here = subst (λ k. slice_get nodes k ≡ Some n) (sym c.loop-spot.invariant.count) at in
@@ -28,28 +28,28 @@ returns-in_err-ins-clause-refused c =
     let p = err_from_is_err_and c.from_residual.result c.from_residual.ensures.1 in
     rw (p.1, p.2)
     (refused_line words c.args.entry nodes c.loop-spot.lines.items n c.in_err-ins.field-0.0 c.requires.numbering
-    (omega (arith, length-map c.args.spots.now (flat c.args.lists.now), c.requires.few)) c.loop-spot.invariant.lines here error)
+    (omega (arith, length-map c.args.spots.now (spot_node c.args.lists.now), c.requires.few)) c.loop-spot.invariant.lines here error)
 
 pub steps_of-requires-clause-calls : goal.steps_of-requires-clause-calls
 steps_of-requires-clause-calls c =
     let words = word_at c.args.code.now.images in
     let none : Spot = record { context = 0; address = 0 } in
     let spot = slice_index_or c.args.spots.now c.loop-spot.spot-index none in
-    let nodes = flats c.args.lists.now c.args.spots.now in
-    let n = flat c.args.lists.now spot in
+    let nodes = spot_nodes c.args.lists.now c.args.spots.now in
+    let n = spot_node c.args.lists.now spot in
     let lt : c.loop-spot.spot-index < length c.args.spots.now = omega arith in
     let at = flat_at c.args.lists.now c.args.spots.now c.loop-spot.spot-index none lt in
     subst IsBelowEnd (sym c.calls_of-calls.ensures)
     (below_end words (λ a w e. (c.words_law.ensures a w e).0) c.args.entry n
     (node_at (flows words) c.args.entry nodes c.loop-spot.spot-index n c.requires.numbering at))
 
-pub numbered-next-requires-clause-there : goal.numbered-next-requires-clause-there
-numbered-next-requires-clause-there c =
+pub successor_numbers-next-requires-clause-there : goal.successor_numbers-next-requires-clause-there
+successor_numbers-next-requires-clause-there c =
     let words = word_at c.args.code.now.images in
     let none : Spot = record { context = 0; address = 0 } in
     let spot = slice_index_or c.args.spots.now c.loop-spot.spot-index none in
-    let nodes = flats c.args.lists.now c.args.spots.now in
-    let n = flat c.args.lists.now spot in
+    let nodes = spot_nodes c.args.lists.now c.args.spots.now in
+    let n = spot_node c.args.lists.now spot in
     let lt : c.loop-spot.spot-index < length c.args.spots.now = omega arith in
     let at = flat_at c.args.lists.now c.args.spots.now c.loop-spot.spot-index none lt in
     let own : FlatNode = record { context = c.calls_of-calls.result.now; address = spot.address } in
@@ -63,21 +63,21 @@ loop-spot-preserved c =
     let words = word_at c.args.code.now.images in
     let none : Spot = record { context = 0; address = 0 } in
     let spot = slice_index_or c.args.spots.now c.loop-spot.spot-index none in
-    let nodes = flats c.args.lists.now c.args.spots.now in
-    let n = flat c.args.lists.now spot in
+    let nodes = spot_nodes c.args.lists.now c.args.spots.now in
+    let n = spot_node c.args.lists.now spot in
     let lt : c.loop-spot.spot-index < length c.args.spots.now = omega arith in
     let at = flat_at c.args.lists.now c.args.spots.now c.loop-spot.spot-index none lt in
     let here = subst (λ k. slice_get nodes k ≡ Some n) (sym c.loop-spot.invariant.count) at in
     let own : FlatNode = record { context = c.calls_of-calls.result.now; address = spot.address } in
     let led_there = c.in_ok-steps.ensures ∙ led words c.args.entry own c.in_ok-ins.ins _ c.in_ok-ins.ensures.error c.in_ok-ins.ensures.stands c.way_of.ensures in
     let steps = subst (λ k. flat_steps k c.in_ok-steps.steps ≡ successors (flows words) c.args.entry (record { context = k; address = spot.address })) c.calls_of-calls.ensures led_there in
-    let line : IsLine words c.args.entry nodes n (record { ins = c.in_ok-ins.ins; next = c.numbered-next.result }) = record {
+    let line : IsNodeLine words c.args.entry nodes n (record { ins = c.in_ok-ins.ins; next = c.successor_numbers-next.result }) = record {
       no_error = subst (λ k. error_of (flows words) c.args.entry (record { context = k; address = spot.address }) ≡ None) c.calls_of-calls.ensures c.in_ok-ins.ensures.error;
       stands = c.in_ok-ins.ensures.stands;
-      next = subst (λ s. AreNumbers nodes (onward c.numbered-next.result) s) steps c.numbered-next.ensures;
+      next = subst (λ s. AreNumbers nodes (onward c.successor_numbers-next.result) s) steps c.successor_numbers-next.ensures;
     } in
     record {
       count = omega (arith, c.in_ok-push.ensures.len);
-      lines = subst (AreLines words c.args.entry nodes) (sym c.in_ok-push.ensures.items)
+      lines = subst (AreNodeLines words c.args.entry nodes) (sym c.in_ok-push.ensures.items)
           (lines_more words c.args.entry nodes c.loop-spot.lines.items _ n c.loop-spot.invariant.lines here line);
     }

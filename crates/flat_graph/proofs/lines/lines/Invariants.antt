@@ -1,11 +1,11 @@
 use Rattle.std.proofs.Common.{◌≡◌, length}
 use Rattle.code_map.specs.Words.{word_at}
-use Rattle.flat_graph.specs.Spots.{flats}
-use Rattle.flat_graph.specs.Built.{AreLines}
+use Rattle.flat_graph.specs.Spots.{spot_nodes}
+use Rattle.flat_graph.specs.GraphParts.{AreNodeLines}
 use Rattle.flat_graph.proofs.lines.lines.Given as goal
 
 abbrev pub invariant-loop-spot : goal.invariant-loop-spot
 invariant-loop-spot l = record {
   count : length l.lines.items ≡ l.spot-index;
-  lines : AreLines (word_at l.code.images) l.entry (flats l.lists l.spots) l.lines.items;
+  lines : AreNodeLines (word_at l.code.images) l.entry (spot_nodes l.lists l.spots) l.lines.items;
 }

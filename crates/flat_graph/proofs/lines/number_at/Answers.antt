@@ -1,23 +1,23 @@
 use Rattle.std.proofs.Common.{◌≡◌, subst, Some, slice_get}
 use Rattle.std.proofs.lemmas.Fn.{always_returns_same}
-use Rattle.flat_graph.specs.Compared.{flat_cmp}
-use Rattle.flat_graph.specs.Spots.{flat, flats}
+use Rattle.flat_graph.specs.NumberingOrder.{flat_cmp}
+use Rattle.flat_graph.specs.Spots.{spot_node, spot_nodes}
 use Rattle.flat_graph.proofs.Numbers.{searched, found_ok}
 use Rattle.flat_graph.proofs.lines.number_at.Goals as goal
 
 pub unwrap-requires : goal.unwrap-requires
 unwrap-requires c =
-    let n = flat c.args.lists.now c.args.spot.now in
+    let n = spot_node c.args.lists.now c.args.spot.now in
     let s = searched c.args.lists.now c.args.spots.now n c.binary_search_by-found.result c.binary_search_by-found.ensures.bound
-    (c.binary_search_by-found.ensures.position (λ s. flat_cmp (flat c.args.lists.now s) n) (always_returns_same _ _ _ (λ a r f' k. (k.met.1, λ j. (k.met.0.0 j, k.met.0.1 j)))))
+    (c.binary_search_by-found.ensures.position (λ s. flat_cmp (spot_node c.args.lists.now s) n) (always_returns_same _ _ _ (λ a r f' k. (k.met.1, λ j. (k.met.0.0 j, k.met.0.1 j)))))
     c.requires.ordered c.requires.there in
     found_ok c.binary_search_by-found.result s.0 s.1
 
 pub returns : goal.returns
 returns c =
-    let n = flat c.args.lists.now c.args.spot.now in
+    let n = spot_node c.args.lists.now c.args.spot.now in
     let s = searched c.args.lists.now c.args.spots.now n c.binary_search_by-found.result c.binary_search_by-found.ensures.bound
-    (c.binary_search_by-found.ensures.position (λ s. flat_cmp (flat c.args.lists.now s) n) (always_returns_same _ _ _ (λ a r f' k. (k.met.1, λ j. (k.met.0.0 j, k.met.0.1 j)))))
+    (c.binary_search_by-found.ensures.position (λ s. flat_cmp (spot_node c.args.lists.now s) n) (always_returns_same _ _ _ (λ a r f' k. (k.met.1, λ j. (k.met.0.0 j, k.met.0.1 j)))))
     c.requires.ordered c.requires.there in
     let same : s.0 ≡ c.unwrap.result = cc (s.1, c.unwrap.ensures) in
-    subst (λ i. slice_get (flats c.args.lists.now c.args.spots.now) i ≡ Some n) same s.2
+    subst (λ i. slice_get (spot_nodes c.args.lists.now c.args.spots.now) i ≡ Some n) same s.2

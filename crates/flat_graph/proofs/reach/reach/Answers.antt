@@ -6,7 +6,7 @@ use Rattle.code_map.specs.Words.{word_at}
 use Rattle.rv_decode.specs.Flow.{flows}
 use Rattle.flat_graph.specs.FlatGraph.{IsNumbering, successors}
 use Rattle.flat_graph.specs.Reach.{AreAdded}
-use Rattle.flat_graph.specs.Spots.{flat, flats, flat_steps}
+use Rattle.flat_graph.specs.Spots.{spot_node, spot_nodes, flat_steps}
 use Rattle.flat_graph.specs.declared.spots.Spot.{Spot}
 use Rattle.flat_graph.proofs.Explored.{explored_first, explored_more, more_within}
 use Rattle.flat_graph.proofs.Sorted.{numbered_spots, more_spots, inside, count}
@@ -15,13 +15,13 @@ use Rattle.flat_graph.proofs.reach.reach.Goals.{then-loop-place-test+else-len-mo
 
 pub loop-place-init : goal.loop-place-init
 loop-place-init c =
-    let nodes = flats c.add_away.new.self.contexts.lists.items c.add_away.new.self.list.items in
+    let nodes = spot_nodes c.add_away.new.self.contexts.lists.items c.add_away.new.self.list.items in
     record {
       numbered = c.in_ok-add_away.ensures.numbered;
       found = c.in_ok-add_away.ensures.found;
       explored = explored_first _ c.args.entry nodes
-          (subst (λ l. AreAdded (flats c.new-found.result.contexts.lists.items l) (record { context = []; address = c.args.entry } ∷ []) nodes) c.new-found.ensures.none
-          (subst (λ k. AreAdded (flats c.new-found.result.contexts.lists.items c.new-found.result.list.items) (record { context = k; address = c.args.entry } ∷ []) nodes) c.new-none.ensures.items
+          (subst (λ l. AreAdded (spot_nodes c.new-found.result.contexts.lists.items l) (record { context = []; address = c.args.entry } ∷ []) nodes) c.new-found.ensures.none
+          (subst (λ k. AreAdded (spot_nodes c.new-found.result.contexts.lists.items c.new-found.result.list.items) (record { context = k; address = c.args.entry } ∷ []) nodes) c.new-none.ensures.items
           c.in_ok-add_away.ensures.added));
       within = omega arith;
       lists = omega (arith, c.in_ok-add_away.ensures.count, ap length c.new-found.ensures.no_lists);
@@ -35,16 +35,16 @@ loop-place-preserved c =
     let spot = c.index-spot.result.now in
     let lt : c.loop-place.place < length items = omega arith in
     let read : slice_get items c.loop-place.place ≡ Some spot = slice_get_read items (length items) c.loop-place.place spot refl lt c.index-spot.ensures in
-    let at : slice_get (flats lists items) c.loop-place.place ≡ Some (flat lists spot) = slice_get-map (flat lists) items c.loop-place.place ∙ ap (option_map (flat lists)) read in
+    let at : slice_get (spot_nodes lists items) c.loop-place.place ≡ Some (spot_node lists spot) = slice_get-map (spot_node lists) items c.loop-place.place ∙ ap (option_map (spot_node lists)) read in
     let calls : c.calls_of-calls.result.now ≡ slice_index_or lists spot.context [] = c.calls_of-calls.ensures ∙ ap (λ l. slice_index_or l spot.context []) c.as_slice.ensures.value in
     let steps = subst (λ k. flat_steps k c.in_ok-steps.steps ≡ successors code c.args.entry (record { context = k; address = spot.address })) calls c.in_ok-steps.ensures in
-    let nodes = flats c.add_steps.new.self.contexts.lists.items c.add_steps.new.self.list.items in
-    let added = subst (λ l. AreAdded (flats lists items) l nodes) steps c.in_ok-add_steps.ensures.added in
+    let nodes = spot_nodes c.add_steps.new.self.contexts.lists.items c.add_steps.new.self.list.items in
+    let added = subst (λ l. AreAdded (spot_nodes lists items) l nodes) steps c.in_ok-add_steps.ensures.added in
     record {
       numbered = c.in_ok-add_steps.ensures.numbered;
       found = c.in_ok-add_steps.ensures.found;
-      explored = explored_more code c.args.entry c.loop-place.place (flats lists items) nodes (flat lists spot) c.loop-place.invariant.explored at added;
-      within = omega (arith, length-map items (flat lists), length-map c.add_steps.new.self.list.items (flat c.add_steps.new.self.contexts.lists.items), more_within _ _ _ added);
+      explored = explored_more code c.args.entry c.loop-place.place (spot_nodes lists items) nodes (spot_node lists spot) c.loop-place.invariant.explored at added;
+      within = omega (arith, length-map items (spot_node lists), length-map c.add_steps.new.self.list.items (spot_node c.add_steps.new.self.contexts.lists.items), more_within _ _ _ added);
       lists = omega (arith, c.in_ok-add_steps.ensures.count, c.loop-place.invariant.lists);
     }
 
@@ -66,7 +66,7 @@ returns-clause-reached c =
     c.loop-place.invariant.numbered c.loop-place.invariant.found c.in_ok-ordered.ensures.same c.in_ok-ordered.ensures.sorted in
     let le : length found.list.items ≤ c.loop-place.place =
     elim c.loop-place-test.branch [ then-loop-place-test+else-len-most w ↦ absurd (omega (arith, all)) | else-loop-place-test w ↦ omega arith ] in
-    subst (λ l. IsNumbering (flows (word_at c.args.code.now.images)) c.args.entry (flats l spots)) (sym c.in_ok-ordered.ensures.lists)
+    subst (λ l. IsNumbering (flows (word_at c.args.code.now.images)) c.args.entry (spot_nodes l spots)) (sym c.in_ok-ordered.ensures.lists)
     (numbered_spots found.contexts.numbers found.contexts.lists.items found.set.keys found.list.items spots
     c.loop-place.invariant.numbered c.loop-place.invariant.found c.in_ok-ordered.ensures.same c.in_ok-ordered.ensures.sorted
     _ c.args.entry c.loop-place.place c.loop-place.invariant.explored le)

@@ -2,8 +2,8 @@ use Rattle.std.proofs.Common.{ap}
 use Rattle.std.specs.Ordering.{is_lt}
 use Rattle.std.proofs.lemmas.Fn.{always_returns_same}
 use Rattle.std.proofs.lemmas.List.Sorted.{ranks_by}
-use Rattle.flat_graph.specs.Compared.{flat_cmp}
-use Rattle.flat_graph.specs.Spots.{flat}
+use Rattle.flat_graph.specs.NumberingOrder.{flat_cmp}
+use Rattle.flat_graph.specs.Spots.{spot_node}
 use Rattle.flat_graph.proofs.Found.{on_ok_map}
 use Rattle.flat_graph.proofs.Order.{flat_order}
 use Rattle.flat_graph.proofs.spots.sort.Goals as goal
@@ -11,6 +11,6 @@ use Rattle.flat_graph.proofs.spots.sort.Goals as goal
 pub returns-clause-sorted : goal.returns-clause-sorted
 returns-clause-sorted c =
     on_ok_map c.sort_by.result _ _
-    (λ up. up (λ s t. is_lt (flat_cmp (flat c.args.lists.now s) (flat c.args.lists.now t))) (ranks_by flat_order (flat c.args.lists.now))
+    (λ up. up (λ s t. is_lt (flat_cmp (spot_node c.args.lists.now s) (spot_node c.args.lists.now t))) (ranks_by flat_order (spot_node c.args.lists.now))
     (always_returns_same _ _ _ (λ a r f' k. (ap is_lt k.met.1, λ j. record { 0 = k.met.0 j }))))
     c.sort_by.ensures.sorted

@@ -1,5 +1,5 @@
 use Rattle.std.proofs.Common.{◌-◌, sym, ap, ◌∙◌, option_and_then}
-use Rattle.flow_watch.specs.Changes.{popped}
+use Rattle.flow_watch.specs.Changes.{frames_after_return}
 use Rattle.flow_watch.specs.Rows.{watch_of}
 use Rattle.flow_watch.proofs.Frames.{popped_frames, strayed, nowhere, ended_frames, broken_is_not_empty}
 use Rattle.flow_watch.proofs.Watch.pop.Goals as goal
@@ -19,7 +19,7 @@ returns-clause-popped c =
           ∙ nowhere s.loops c.args.to s.calls s.turns.items w.in-Some.frames c.args.self.now
           (sym (ap (watch_of s.loops s.calls s.turns.items) w.in-Some.is) ∙ c.self.view_is) w.if-frames-gt0.false
       | in_default w ↦ ap (watch_of s.loops s.calls s.turns.items) w.self-is
-          ∙ ap (option_and_then (popped c.args.to)) (sym (ap (watch_of s.loops s.calls s.turns.items) w.in_default.is) ∙ c.self.view_is)
+          ∙ ap (option_and_then (frames_after_return c.args.to)) (sym (ap (watch_of s.loops s.calls s.turns.items) w.in_default.is) ∙ c.self.view_is)
     ]
 
 pub returns-clause-ended : goal.returns-clause-ended

@@ -1,13 +1,13 @@
 use Rattle.std.proofs.Common.{ℕ, ◌+◌, ◌-◌, ◌*◌, List, length, take, drop, ap, sym, subst, ◌∙◌, arith}
 use Rattle.crpd_base.proofs.Rows.{row_ends}
 use Rattle.crpd_base.specs.declared.data.LoopAt.{LoopAt}
-use Rattle.flow_watch.specs.Rows.{row}
-use Rattle.flow_watch.specs.Quiet.{AreStill}
+use Rattle.flow_watch.specs.Rows.{frame_row}
+use Rattle.flow_watch.specs.Quiet.{KeepsAllIterations}
 use Rattle.flow_watch.proofs.Frames.{in_use, loops_told, rows_fit, lent, length-row, quiet_frames}
 use Rattle.flow_watch.proofs.Watch.quiet.Goals as goal
 
-pub all_still-requires : goal.all_still-requires
-all_still-requires c =
+pub quiet_range-requires : goal.quiet_range-requires
+quiet_range-requires c =
     let s = c.self.inside in
     let k = c.in-Some.frames - 1 in
     let u = in_use s.loops s.calls s.turns.items s.frames c.in-Some.frames c.args.self.now c.self.invariant c.in-Some.is c.self.view_is in
@@ -27,5 +27,5 @@ returns-in-Some c =
     let u = in_use s.loops s.calls s.turns.items s.frames c.in-Some.frames c.args.self.now c.self.invariant c.in-Some.is c.self.view_is in
     let is_row = ap (λ (ts : List ℕ). take ((k * s.loops + s.loops) - k * s.loops) (drop (k * s.loops) ts)) c.deref.ensures.value ∙ lent s.loops k s.turns.items in
     quiet_frames c.args.plan.now a s.loops s.calls s.turns.items c.in-Some.frames c.args.self.now u.is c.if-frames-gt0.true
-    (subst (λ (ls : List LoopAt). AreStill a ls (row s.loops s.turns.items k)) c.as_slice.ensures
-    (subst (λ (ts : List ℕ). AreStill a c.as_slice.result.now ts) is_row (c.all_still.ensures a low high)))
+    (subst (λ (ls : List LoopAt). KeepsAllIterations a ls (frame_row s.loops s.turns.items k)) c.as_slice.ensures
+    (subst (λ (ts : List ℕ). KeepsAllIterations a c.as_slice.result.now ts) is_row (c.all_still.ensures a low high)))

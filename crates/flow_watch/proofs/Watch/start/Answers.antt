@@ -1,5 +1,5 @@
 use Rattle.std.proofs.Common.{ℕ, List, [], ◌∷◌, length, ap, ◌∙◌}
-use Rattle.rv_decode.specs.Address.{end}
+use Rattle.rv_decode.specs.Address.{end_address}
 use Rattle.flow_watch.specs.Watch.{arrive}
 use Rattle.flow_watch.proofs.Frames.{closed}
 use Rattle.flow_watch.proofs.Watch.start.Goals as goal
@@ -8,5 +8,5 @@ pub returns-clause-started : goal.returns-clause-started
 returns-clause-started c =
     let plan = c.args.plan.now in
     c.arrive.ensures.arrived
-    ∙ ap (λ (ts : List ℕ). arrive plan plan.entry (record { back = end; turns = ts } ∷ []))
+    ∙ ap (λ (ts : List ℕ). arrive plan plan.entry (record { back = end_address; turns = ts } ∷ []))
     (closed plan.loops (length c.as_slice-loops.result.now) c.in_ok-closed_rows.field-0.items c.in_ok-closed_rows.ensures (ap length c.as_slice-loops.ensures))

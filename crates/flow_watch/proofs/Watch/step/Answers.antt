@@ -1,7 +1,7 @@
 use Rattle.std.proofs.Common.{◌≡◌, Some, [], length, sym, ap, subst, ◌∙◌, option_and_then}
 use Rattle.flow_watch.specs.declared.changes.Change.TheVariants.{Stay, Push, Pop, Unfollowed}
 use Rattle.flow_watch.specs.Watch.{arrive}
-use Rattle.flow_watch.specs.Turns.{HasTurns}
+use Rattle.flow_watch.specs.Iterations.{HasIterations}
 use Rattle.flow_watch.proofs.Frames.{broken_is_not_empty}
 use Rattle.flow_watch.proofs.Steps.{stepped, stays, breaks, has_turns-popped, arrived_from, pushed_some}
 use Rattle.flow_watch.proofs.Watch.step.Goals as goal
@@ -11,10 +11,10 @@ pub arrive-requires : goal.arrive-requires
 arrive-requires c =
     let m = length c.args.plan.now.loops in
     elim c.match-change_by.branch [
-      | in-Stay w ↦ record { turns = subst (HasTurns m) (sym w.self-is) c.requires.turns }
-      | in-Push w ↦ record { turns = subst (HasTurns m) (sym w.self-is) w.push.ensures.turns }
-      | in-Pop w ↦ record { turns = subst (HasTurns m) (sym (w.self-is ∙ w.pop.ensures.popped)) (has_turns-popped m c.args.to c.args.self.now c.requires.turns) }
-      | in-Unfollowed w ↦ record { turns = subst (HasTurns m) (sym (w.self-is ∙ w.break_off.ensures)) tt }
+      | in-Stay w ↦ record { turns = subst (HasIterations m) (sym w.self-is) c.requires.turns }
+      | in-Push w ↦ record { turns = subst (HasIterations m) (sym w.self-is) w.push.ensures.turns }
+      | in-Pop w ↦ record { turns = subst (HasIterations m) (sym (w.self-is ∙ w.pop.ensures.popped)) (has_turns-popped m c.args.to c.args.self.now c.requires.turns) }
+      | in-Unfollowed w ↦ record { turns = subst (HasIterations m) (sym (w.self-is ∙ w.break_off.ensures)) tt }
     ]
 
 pub returns-clause-stepped : goal.returns-clause-stepped

@@ -1,9 +1,9 @@
 use Rattle.std.proofs.Common.{sym, subst}
 use Rattle.flat_graph.specs.CodeGraph.{graph_of, places_of}
-use Rattle.loop_regions.specs.Stated.{IsSecondEntry, IsNotNested, IsOnCycle, IsAccepted}
+use Rattle.loop_regions.specs.Stated.{IsSecondEntry, IsNotNested, IsOnCycle, HasNoLoopRefusals}
 use Rattle.loop_regions.specs.CodeNest.{nest_of}
-use Rattle.loop_regions.specs.Least.{IsLeast}
-use Rattle.loop_regions.specs.Found.{nest_in}
+use Rattle.loop_regions.specs.Least.{IsLeastNumber}
+use Rattle.loop_regions.specs.FoundRegions.{nest_in}
 use Rattle.loop_regions.proofs.LeastNodes.{least_at, entry_within, not_nested_within}
 use Rattle.loop_regions.proofs.Searching.{cycle_within}
 use Rattle.loop_regions.proofs.found_nest.nest_of_found.Goals as goal
@@ -39,7 +39,7 @@ pub node-requires-in-Some-2 : goal.node-requires-in-Some-2
 node-requires-in-Some-2 c =
     let g = graph_of c.args.graph.now in
     let n = nest_in c.args.found in
-    let least = subst (λ o. IsLeast (IsOnCycle g n) o) c.in-Some-2.is c.in_ok-v.ensures in
+    let least = subst (λ o. IsLeastNumber (IsOnCycle g n) o) c.in-Some-2.is c.in_ok-v.ensures in
     cycle_within g n c.in-Some-2.v least.0
 
 pub returns-in-Some-2-clause-refused : goal.returns-in-Some-2-clause-refused
@@ -47,7 +47,7 @@ returns-in-Some-2-clause-refused c =
     let g = graph_of c.args.graph.now in
     let p = places_of c.args.graph.now in
     let n = nest_in c.args.found in
-    let least = subst (λ o. IsLeast (IsOnCycle g n) o) c.in-Some-2.is c.in_ok-v.ensures in (
+    let least = subst (λ o. IsLeastNumber (IsOnCycle g n) o) c.in-Some-2.is c.in_ok-v.ensures in (
       n,
       c.requires.regions,
       (
@@ -62,6 +62,6 @@ pub returns-clause-accepted : goal.returns-clause-accepted
 returns-clause-accepted c =
     let g = graph_of c.args.graph.now in
     let n = nest_in c.args.found in
-    let least = subst (λ o. IsLeast (IsOnCycle g n) o) c.in_default-2.is c.in_ok-v.ensures in
-    let accepted : IsAccepted g n = record { one_entry = c.in_default.ensures; nested = c.in_default-not_nested.ensures; no_cycle = least } in
-    subst (λ x. IsAccepted g (nest_of x)) (sym c.new.ensures) accepted
+    let least = subst (λ o. IsLeastNumber (IsOnCycle g n) o) c.in_default-2.is c.in_ok-v.ensures in
+    let accepted : HasNoLoopRefusals g n = record { one_entry = c.in_default.ensures; nested = c.in_default-not_nested.ensures; no_cycle = least } in
+    subst (λ x. HasNoLoopRefusals g (nest_of x)) (sym c.new.ensures) accepted

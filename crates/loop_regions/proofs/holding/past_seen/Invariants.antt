@@ -1,6 +1,6 @@
 use Rattle.std.proofs.Common.{◌<◌, ◌≤◌, ◌-◌, ℕ, IsFalse}
 use Rattle.flat_graph.specs.CodeGraph.{graph_of, places_of}
-use Rattle.loop_regions.specs.Heads.{sees}
+use Rattle.loop_regions.specs.Heads.{is_seen_from}
 use Rattle.loop_regions.proofs.holding.past_seen.Given as goal
 
 abbrev pub invariant-loop-found : goal.invariant-loop-found
@@ -8,7 +8,7 @@ invariant-loop-found l = record {
   above : l.head < l.found;
   ordered : l.found ≤ l.past;
   within : l.past ≤ (graph_of l.graph).size;
-  after : (y : ℕ) → l.past ≤ y → y < (graph_of l.graph).size → IsFalse (sees (places_of l.graph) ((places_of l.graph).context l.head) y);
+  after : (y : ℕ) → l.past ≤ y → y < (graph_of l.graph).size → IsFalse (is_seen_from (places_of l.graph) ((places_of l.graph).context l.head) y);
 }
 
 abbrev pub decreases-loop-found : goal.decreases-loop-found

@@ -1,5 +1,5 @@
 use Rattle.std.proofs.Common.{◌+◌, subst, sym, arith}
-use Rattle.loop_regions.specs.Least.{IsLeast}
+use Rattle.loop_regions.specs.Least.{IsLeastNumber}
 use Rattle.loop_regions.proofs.SameHeads.{IsSameBelow, one_more, all_heads}
 use Rattle.loop_regions.proofs.same_head.least_same_head.Goals as goal
 
@@ -8,7 +8,7 @@ loop-j-init c = λ a s. absurd (omega (arith, s.1))
 
 pub loop-j-preserved : goal.loop-j-preserved
 loop-j-preserved c =
-    subst (λ o. IsLeast (IsSameBelow c.args.loops.now (c.loop-j.j + 1)) o) (sym c.lesser-least.ensures)
+    subst (λ o. IsLeastNumber (IsSameBelow c.args.loops.now (c.loop-j.j + 1)) o) (sym c.lesser-least.ensures)
     (one_more c.args.loops.now c.loop-j.j c.loop-j.least c.repeated.result c.loop-j.invariant c.repeated.ensures)
 
 pub returns : goal.returns

@@ -1,6 +1,6 @@
 use Rattle.std.proofs.Common.{sym, ap}
 use Rattle.preempt_machine.specs.declared.Completion.{Completion}
-use Rattle.preempt_machine.specs.Kept.{completion}
+use Rattle.preempt_machine.specs.Schedule.{completion}
 use Rattle.preempt_machine.proofs.Starting.{at_place}
 use Rattle.machine_rows.proofs.cycles.pc_at.Goals as goal
 

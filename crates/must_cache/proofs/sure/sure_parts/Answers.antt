@@ -2,16 +2,16 @@ use Rattle.std.proofs.Common.{◌≡◌, ◌<◌, arith, List, ℕ, length, get_
 use Rattle.crpd_base.specs.Sets.{has}
 use Rattle.flat_graph.specs.CodeGraph.{graph_of, places_of}
 use Rattle.icache.specs.Accesses.{accesses}
-use Rattle.must_cache.specs.Edges.{AreEdges}
+use Rattle.must_cache.specs.EdgeLists.{AreGraphEdges}
 use Rattle.must_cache.specs.Marks.{sets_at}
-use Rattle.must_cache.specs.Walks.{HaveWalks, IsSureLeader}
+use Rattle.must_cache.specs.FirstWalks.{HaveWalks, IsSureLeader}
 use Rattle.must_cache.proofs.WalkFacts.{IsFound, found_sure}
 use Rattle.must_cache.proofs.sure.sure_parts.Goals as goal
 
 pub all_sets-requires : goal.all_sets-requires
 all_sets-requires g c =
     let a = accesses c.args.geometry.now.platform (places_of c.args.graph.now).address in
-    let edges = subst (AreEdges (graph_of c.args.graph.now)) (sym (c.in-Some.ensures.graph.1 ∙ c.deref.ensures.value)) c.in_ok-edges.ensures in
+    let edges = subst (AreGraphEdges (graph_of c.args.graph.now)) (sym (c.in-Some.ensures.graph.1 ∙ c.deref.ensures.value)) c.in_ok-edges.ensures in
     let walks = subst (HaveWalks (graph_of c.args.graph.now) a c.in-Ok.walks.met.items c.in-Ok.walks.states.items c.in-Ok.walks.hits.items) (sym c.deref-2.ensures.value) c.in-Ok.ensures in (
       omega (arith, c.requires.few),
       λ n lt.
@@ -25,7 +25,7 @@ pub returns : goal.returns
 returns g c =
     let gr = graph_of c.args.graph.now in
     let a = accesses c.args.geometry.now.platform (places_of c.args.graph.now).address in
-    let edges = subst (AreEdges (graph_of c.args.graph.now)) (sym (c.in-Some.ensures.graph.1 ∙ c.deref.ensures.value)) c.in_ok-edges.ensures in
+    let edges = subst (AreGraphEdges (graph_of c.args.graph.now)) (sym (c.in-Some.ensures.graph.1 ∙ c.deref.ensures.value)) c.in_ok-edges.ensures in
     let walks = subst (HaveWalks (graph_of c.args.graph.now) a c.in-Ok.walks.met.items c.in-Ok.walks.states.items c.in-Ok.walks.hits.items) (sym c.deref-2.ensures.value) c.in-Ok.ensures in
     let found : (y : ℕ) → y < gr.size → IsFound gr a (get_or c.in-Ok.walks.met.items y None) c.in-Ok.walks.states.items (get_or c.in-Ok.walks.hits.items y false) (get_or c.in_ok-facts.facts.items y None) y =
     found_sure gr a c.in-Ok.walks.met.items c.in-Ok.walks.states.items c.in-Ok.walks.hits.items c.deref-2.result.now

@@ -1,5 +1,5 @@
 use Rattle.std.proofs.Common.{◌≡◌, ℕ, ◌<◌}
-use Rattle.preempt_machine.specs.Kept.{completion}
+use Rattle.preempt_machine.specs.Schedule.{completion}
 use Rattle.preempt_machine.proofs.machine.place_of.Given as goal
 
 abbrev pub invariant-loop-place : goal.invariant-loop-place

@@ -1,13 +1,13 @@
 use Rattle.std.proofs.Common.{ℕ, ◌+◌, ◌<◌, ◌≤◌, length}
 use Rattle.std.specs.Prelude.{slice_index}
-use Rattle.preempt_machine.specs.Kept.{task_at, IsFirstFrom}
+use Rattle.preempt_machine.specs.Schedule.{due_task, IsFirstFrom}
 use Rattle.preempt_machine.proofs.queue.link.Given as goal
 
 abbrev pub invariant-loop-at : goal.invariant-loop-at
 invariant-loop-at l =
     record {
       within : l.at ≤ length l.due;
-      next : (p : ℕ) → l.at ≤ p → p < length l.due → IsFirstFrom l.lines l.due (task_at l.lines l.due p) (p + 1) (slice_index l.later p);
+      next : (p : ℕ) → l.at ≤ p → p < length l.due → IsFirstFrom l.lines l.due (due_task l.lines l.due p) (p + 1) (slice_index l.later p);
       heads : (t : ℕ) → t < length l.heads → IsFirstFrom l.lines l.due t l.at (slice_index l.heads t);
     }
 

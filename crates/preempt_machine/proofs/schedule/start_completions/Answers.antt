@@ -4,8 +4,8 @@ use Rattle.std.proofs.lemmas.Bool.{cases_eq}
 use Rattle.std.proofs.lemmas.List.{get_or_default, get_or-replicate, length-replicate}
 use Rattle.preempt_machine.specs.declared.Completion.{Completion}
 use Rattle.preempt_machine.specs.declared.End.TheVariants as «end»
-use Rattle.preempt_machine.specs.Machine.{number_of}
-use Rattle.preempt_machine.specs.Kept.{line_at, completion}
+use Rattle.preempt_machine.specs.Machine.{number_in_script}
+use Rattle.preempt_machine.specs.Schedule.{script_line, completion}
 use Rattle.preempt_machine.proofs.Starting.{completions_more, number_bound, number_other, number_same, number_start}
 use Rattle.preempt_machine.proofs.schedule.start_completions.Goals as goal
 
@@ -27,14 +27,14 @@ loop-line-preserved c =
     let h = c.loop-line.invariant in
     let counts = c.loop-line.counts.items in
     let task = c.from-task.result in
-    let is : task ≡ (line_at lines i).task.0 = c.from-task.ensures in
+    let is : task ≡ (script_line lines i).task.0 = c.from-task.ensures in
     let below : task < length counts = omega (arith, c.requires.tasks i inside, is, h.count) in
-    let first : c.index.result.now ≡ number_of lines task i = c.index.ensures ∙ get_or_default counts task c.index.result.now 0 below ∙ h.counts task (omega (arith, h.count)) in
-    let before : c.index_mut.result.now ≡ number_of lines task i = c.index_mut.ensures.value ∙ get_or_default counts task c.index_mut.result.now 0 below ∙ h.counts task (omega (arith, h.count)) in
-    let give : ℕ → Completion = λ x. record { job = record { task = (line_at lines x).task; number = number_of lines (line_at lines x).task.0 x }; «end» = «end».Unreleased } in
-    let new : Completion = record { job = record { task = (line_at lines i).task; number = c.index.result.now }; «end» = «end».Unreleased } in
-    let number : c.index.result.now ≡ number_of lines (line_at lines i).task.0 i = first ∙ ap (λ t. number_of lines t i) is in
-    let one : new ≡ give i = ap (λ n. record { job = record { task = (line_at lines i).task; number = n }; «end» = «end».Unreleased }) number in
+    let first : c.index.result.now ≡ number_in_script lines task i = c.index.ensures ∙ get_or_default counts task c.index.result.now 0 below ∙ h.counts task (omega (arith, h.count)) in
+    let before : c.index_mut.result.now ≡ number_in_script lines task i = c.index_mut.ensures.value ∙ get_or_default counts task c.index_mut.result.now 0 below ∙ h.counts task (omega (arith, h.count)) in
+    let give : ℕ → Completion = λ x. record { job = record { task = (script_line lines x).task; number = number_in_script lines (script_line lines x).task.0 x }; «end» = «end».Unreleased } in
+    let new : Completion = record { job = record { task = (script_line lines i).task; number = c.index.result.now }; «end» = «end».Unreleased } in
+    let number : c.index.result.now ≡ number_in_script lines (script_line lines i).task.0 i = first ∙ ap (λ t. number_in_script lines t i) is in
+    let one : new ≡ give i = ap (λ n. record { job = record { task = (script_line lines i).task; number = n }; «end» = «end».Unreleased }) number in
     let pushed : c.push.new.list.items ≡ c.loop-line.completions.items ++ new ∷ [] = c.in_ok-push.ensures in
     record {
       long = omega (arith, ap length pushed, length-append c.loop-line.completions.items (new ∷ []), h.long);
@@ -42,7 +42,7 @@ loop-line-preserved c =
       count = length-set counts task _ ∙ h.count;
       counts = λ t a. elim (cases_eq t task) [
         | inl e ↦
-            let now : number_of lines t (i + 1) ≡ number_of lines task i + 1 = ap (λ n. number_of lines n (i + 1)) (e ∙ is) ∙ number_same lines i inside ∙ ap (λ n. number_of lines n i + 1) (sym is) in
+            let now : number_in_script lines t (i + 1) ≡ number_in_script lines task i + 1 = ap (λ n. number_in_script lines n (i + 1)) (e ∙ is) ∙ number_same lines i inside ∙ ap (λ n. number_in_script lines n i + 1) (sym is) in
             ap (slice_index _) e ∙ get_or-set_same counts task _ 0 below ∙ ap (λ n. n + 1) before ∙ sym now
         | inr ne ↦ get_or-set_other counts task t _ 0 ne ∙ h.counts t a ∙ sym (number_other lines t i inside (λ z. ne (z ∙ sym is)))
       ];
@@ -56,7 +56,7 @@ overflow_add-index_mut c =
     let h = c.loop-line.invariant in
     let counts = c.loop-line.counts.items in
     let task = c.from-task.result in
-    let is : task ≡ (line_at lines i).task.0 = c.from-task.ensures in
+    let is : task ≡ (script_line lines i).task.0 = c.from-task.ensures in
     let below : task < length counts = omega (arith, c.requires.tasks i inside, is, h.count) in
-    let before : c.index_mut.result.now ≡ number_of lines task i = c.index_mut.ensures.value ∙ get_or_default counts task c.index_mut.result.now 0 below ∙ h.counts task (omega (arith, h.count)) in
+    let before : c.index_mut.result.now ≡ number_in_script lines task i = c.index_mut.ensures.value ∙ get_or_default counts task c.index_mut.result.now 0 below ∙ h.counts task (omega (arith, h.count)) in
     omega (arith, before, number_bound lines task i, c.requires.few, inside)

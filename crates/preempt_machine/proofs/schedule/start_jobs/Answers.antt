@@ -3,7 +3,7 @@ use Rattle.std.specs.Prelude.{slice_get}
 use Rattle.crpd_base.specs.declared.data.TaskPlan.{TaskPlan}
 use Rattle.preempt_machine.specs.Machine.{Job, job_at}
 use Rattle.preempt_machine.specs.Running.{HasPlan}
-use Rattle.preempt_machine.specs.Kept.{line_at}
+use Rattle.preempt_machine.specs.Schedule.{script_line}
 use Rattle.preempt_machine.proofs.Starting.{has_plan, jobs_more, plans_more}
 use Rattle.preempt_machine.proofs.Turns.{plan_is}
 use Rattle.preempt_machine.proofs.schedule.start_jobs.Goals as goal
@@ -15,15 +15,15 @@ loop-line-preserved c =
     let inside = c.loop-line-test.true in
     let job = c.in_ok-job.job in
     let plans = c.args.code.now.plans in
-    let task = (line_at lines i).task.0 in
+    let task = (script_line lines i).task.0 in
     let there : slice_get plans task ≡ Some c.plan.result.now = c.plan.ensures in
     let pushed : c.push.new.list.items ≡ c.loop-line.jobs.items ++ job ∷ [] = c.in_ok-push.ensures in
-    let line : job.line ≡ line_at lines i = c.in_ok-job.ensures.line in
+    let line : job.line ≡ script_line lines i = c.in_ok-job.ensures.line in
     record {
       jobs = λ sys same.
           pushed
           ∙ jobs_more sys lines c.loop-line.jobs.items job i inside (c.loop-line.invariant.jobs sys same)
           (c.in_ok-job.ensures.is sys (plan_is sys task c.plan.result.now (subst (λ (ps : List TaskPlan). slice_get ps task ≡ Some c.plan.result.now) (sym same) there)));
       plans = subst (λ (js : List Job). (x : ℕ) → x < length js → HasPlan plans (job_at js x)) (sym pushed)
-          (plans_more plans c.loop-line.jobs.items job c.loop-line.invariant.plans (has_plan plans (line_at lines i) c.plan.result.now job line (c.requires i inside) there c.in_ok-job.ensures.turns));
+          (plans_more plans c.loop-line.jobs.items job c.loop-line.invariant.plans (has_plan plans (script_line lines i) c.plan.result.now job line (c.requires i inside) there c.in_ok-job.ensures.turns));
     }

@@ -1,18 +1,18 @@
 use Rattle.std.proofs.Common.{◌≡◌, ℕ, ◌<◌, List, Some, length, sym, ◌∙◌, ap, subst, arith}
 use Rattle.std.specs.Prelude.{map, replicate, slice_get, None, IsTrue, ◌↔◌}
 use Rattle.preempt_machine.specs.declared.Completion.{Completion}
-use Rattle.preempt_machine.specs.Kept.{completion}
+use Rattle.preempt_machine.specs.Schedule.{completion}
 use Rattle.preempt_machine.specs.Machine.{Machine}
 use Rattle.preempt_machine.specs.Running.{completion_at}
 use Rattle.preempt_machine.specs.Safe.{IsKept}
 use Rattle.preempt_machine.specs.Step.{state}
 use Rattle.run_account.specs.declared.run.Run.{Run}
-use Rattle.run_account.specs.Account.{told_by}
+use Rattle.run_account.specs.Account.{entry_from_completions}
 use Rattle.run_account.specs.Ledger.{IsLedger}
-use Rattle.run_account.specs.Runs.{no_nests, AreHits, IsReady}
+use Rattle.run_account.specs.Runs.{no_nests, AreHits, HasAccountInput}
 use Rattle.preempt_machine.specs.Starts.{start_of_script}
-use Rattle.run_account.specs.Shown.{with_nests}
-use Rattle.run_account.specs.Trails.{entry_of}
+use Rattle.run_account.specs.AccountGraphs.{with_nests}
+use Rattle.run_account.specs.Trails.{ledger_reload_of}
 use Rattle.run_account.proofs.Accounts.{noted_start, job_below, evictor_below, preemptor_below, told_same, ledger_by}
 use Rattle.run_account.proofs.AccountFacts.{account_facts}
 use Rattle.run_account.proofs.Jobs.{jobs_length}
@@ -55,17 +55,17 @@ returns-clause-is c nests =
     let n = c.args.script.now.cycles in
     let graphs = with_nests c.args.graphs.now no_nests in
     let reloads = c.follow_run.new.self.reloads.items in
-    let L : IsLedger s graphs c.args.certificate.now n (map entry_of reloads) = c.in_ok-follow_run.ensures.ledger in
+    let L : IsLedger s graphs c.args.certificate.now n (map ledger_reload_of reloads) = c.in_ok-follow_run.ensures.ledger in
     let there : c.follow_run.new.machine.state ≡ state s n = c.in_ok-follow_run.ensures.state in
     let cs = c.completions-completions.result.now in
     let long : length cs ≡ length s.lines = c.completions-completions.ensures.long ∙ ap (λ (m : Machine). length m.jobs) there ∙ jobs_length s n in
     let each : (x : ℕ) → x < length s.lines → completion cs x ≡ completion_at (state s n) x =
     λ x h. c.completions-completions.ensures.each x (omega (arith, h, long, c.completions-completions.ensures.long)) ∙ ap (λ (m : Machine). completion_at m x) there in
-    let entries = c.new-2.ensures ∙ c.in_ok-entries.ensures ∙ ap (map (told_by cs)) c.as_slice-2.ensures.value ∙ told_same s graphs c.args.certificate.now n cs reloads L each in
+    let entries = c.new-2.ensures ∙ c.in_ok-entries.ensures ∙ ap (map (entry_from_completions cs)) c.as_slice-2.ensures.value ∙ told_same s graphs c.args.certificate.now n cs reloads L each in
     let completions = c.new-3.ensures ∙ c.in-Ok.ensures.items in
     record {
-      ledger = map entry_of reloads;
-      is_ledger = ledger_by s c.args.graphs.now c.args.certificate.now no_nests nests n (map entry_of reloads) L;
+      ledger = map ledger_reload_of reloads;
+      is_ledger = ledger_by s c.args.graphs.now c.args.certificate.now no_nests nests n (map ledger_reload_of reloads) L;
       entries = entries;
       all_jobs = ap length completions ∙ long;
       completions = λ x h. ap (λ (ds : List Completion). completion ds x) completions ∙ each x h;
@@ -75,7 +75,7 @@ returns-clause-is c nests =
 pub returns-clause-facts : goal.returns-clause-facts
 returns-clause-facts c U nests =
     let r : Run = record { code = c.args.code; set = c.args.set; script = c.args.script; graphs = c.args.graphs; certificate = c.args.certificate; hits = c.as_slice.result } in
-    let R : IsReady r = record {
+    let R : HasAccountInput r = record {
       set = c.requires.set;
       plans = c.requires.plans;
       words = c.words_law.ensures;

@@ -1,6 +1,6 @@
 -- Each word that fits a row is read as the row says, and one that fits none is not read.
 use Rattle.std.proofs.Common.{refl, rules}
-use Rattle.rv_decode.specs.Table.{row, table}
+use Rattle.rv_decode.specs.Table.{ins_of_word, table}
 use Rattle.rv_decode.specs.declared.Ins.TheVariants.{Lui, Auipc, Jal, Jalr, Beq, Bne, Blt, Bge, Bltu, Bgeu, Lb, Lh, Lw, Lbu, Lhu, Sb, Sh, Sw, Addi, Slti, Sltiu, Xori, Ori, Andi, Slli, Srli, Srai, Add, Sub, Sll, Slt, Sltu, Xor, Srl, Sra, Or, And, Mul, Mulh, Mulhsu, Mulhu, Div, Divu, Rem, Remu, Fence, Ecall, Ebreak}
 use Rattle.rv_decode.proofs.Ranges.{row_in_range}
 use Rattle.rv_decode.proofs.Rows.{at_opcode, at_funct3, at_funct7, r_row, i_row, s_row, b_row, u_row, j_row, fence_row, whole_row, not_whole, no_row}
@@ -329,14 +329,14 @@ returns-then-has_funct3-22 c = record {
 }
 
 pub returns-then-word-eq115 : goal.returns-then-word-eq115
-unfolding row table
+unfolding ins_of_word table
 returns-then-word-eq115 c = record {
   row = whole_row Ecall _ 115 refl c.if-word-eq115.true;
   in_range = row_in_range c.args.word _ (whole_row Ecall _ 115 refl c.if-word-eq115.true);
 }
 
 pub returns-then-word-eq1048691 : goal.returns-then-word-eq1048691
-unfolding row table
+unfolding ins_of_word table
 returns-then-word-eq1048691 c = record {
   row = whole_row Ebreak _ 1048691 refl c.if-word-eq1048691.true;
   in_range = row_in_range c.args.word _ (whole_row Ebreak _ 1048691 refl c.if-word-eq1048691.true);

@@ -3,8 +3,8 @@ use Rattle.sensitivity.proofs.analysis.task_known.Goals as goal
 
 pub returns-clause-sets : goal.returns-clause-sets
 returns-clause-sets c nest =
-    has_sets c.args.platform.now c.new-geometry.result.platform c.args.graph.now nest 0 c.evicting-evicting.result c.reused-useful.result
-    c.new-geometry.ensures c.words_law.ensures c.words_law-2.ensures c.evicting-evicting.ensures c.reused-useful.ensures
+    has_sets c.args.platform.now c.new-geometry.result.platform c.args.graph.now nest 0 c.evicting-evicting.result c.useful_of_hits-useful.result
+    c.new-geometry.ensures c.words_law.ensures c.words_law-2.ensures c.evicting-evicting.ensures c.useful_of_hits-useful.ensures
 
 pub returns-clause-hits : goal.returns-clause-hits
 returns-clause-hits c nest =

@@ -7,10 +7,10 @@ use Rattle.delay_count.specs.Gamma.{part_at}
 use Rattle.loop_regions.specs.TaskGraph.{TaskGraph}
 use Rattle.flat_graph.specs.CodeGraph.{CodeGraph}
 use Rattle.loop_regions.specs.CodeNest.{CodeNest}
-use Rattle.cert_check.specs.Shown.{shown, shown_at, nest_at}
+use Rattle.cert_check.specs.TaskGraphs.{task_graph, task_graph_at, nest_at}
 use Rattle.cert_check.proofs.Tasks.{graph_is, nest_is}
 use Rattle.exec_bound.specs.Costs.{greatest_bound}
-use Rattle.sensitivity.specs.Accepted.{IsLeastBound, IsPart}
+use Rattle.sensitivity.specs.Accepted.{IsLeastBound, IsAnalysedPart}
 use Rattle.sensitivity.specs.Found.{IsLarge, TellsHits}
 use Rattle.sensitivity.proofs.Parts.{moved, with_bound}
 use Rattle.sensitivity.proofs.analysis.with_bounds.Goals as goal
@@ -23,9 +23,9 @@ task_bound-requires-clause-hits c =
     let graph = graph_is c.args.graphs.now c.loop-k.k c.index-graphs-k.result c.loop-k-test.true c.index-graphs-k.is in
     let nest = nest_is c.args.nests.now c.loop-k.k c.index-nests-k.result (omega (arith, task, c.requires.tasks.all_nests)) c.index-nests-k.is in
     let list = c.as_slice-sure.ensures ∙ c.index-hits-k.is ∙ get_or_default c.args.hits.now c.loop-k.k c.index-hits-k.result [] listed in
-    subst (λ (l : List Bool). TellsHits c.args.set.now.platform (shown c.index-graphs-k.result c.index-nests-k.result) l) (sym list)
-    (subst (λ (n : CodeNest). TellsHits c.args.set.now.platform (shown c.index-graphs-k.result n) (get_or c.args.hits.now c.loop-k.k [])) (sym nest)
-    (subst (λ (g : CodeGraph). TellsHits c.args.set.now.platform (shown g (nest_at c.args.nests.now c.loop-k.k)) (get_or c.args.hits.now c.loop-k.k [])) (sym graph)
+    subst (λ (l : List Bool). TellsHits c.args.set.now.platform (task_graph c.index-graphs-k.result c.index-nests-k.result) l) (sym list)
+    (subst (λ (n : CodeNest). TellsHits c.args.set.now.platform (task_graph c.index-graphs-k.result n) (get_or c.args.hits.now c.loop-k.k [])) (sym nest)
+    (subst (λ (g : CodeGraph). TellsHits c.args.set.now.platform (task_graph g (nest_at c.args.nests.now c.loop-k.k)) (get_or c.args.hits.now c.loop-k.k [])) (sym graph)
     (c.requires.hits.each c.loop-k.k task)))
 
 pub returns-in_default : goal.returns-in_default
@@ -53,7 +53,7 @@ loop-k-preserved c =
     (rw c.in-Some.is at c.in_ok-cycles.ensures) in
     record {
       count = rw stored (simp length-append (omega (arith, c.loop-k.invariant.count)));
-      each = pushed_each (λ j (q : Part). IsPart c.args.set.now.platform (shown_at c.args.graphs.now c.args.nests.now j) q) c.loop-k.parts.items c.push.new.self.items part _ c.loop-k.k stored c.loop-k.invariant.count c.loop-k.invariant.each
-          (with_bound c.args.set.now.platform (shown_at c.args.graphs.now c.args.nests.now c.loop-k.k) c.args.sets.now c.loop-k.k c.index-sets-k.result c.in-Some.cycles (omega (arith, task, c.requires.sets.count)) c.index-sets-k.is (c.requires.sets.each c.loop-k.k task) found.0);
+      each = pushed_each (λ j (q : Part). IsAnalysedPart c.args.set.now.platform (task_graph_at c.args.graphs.now c.args.nests.now j) q) c.loop-k.parts.items c.push.new.self.items part _ c.loop-k.k stored c.loop-k.invariant.count c.loop-k.invariant.each
+          (with_bound c.args.set.now.platform (task_graph_at c.args.graphs.now c.args.nests.now c.loop-k.k) c.args.sets.now c.loop-k.k c.index-sets-k.result c.in-Some.cycles (omega (arith, task, c.requires.sets.count)) c.index-sets-k.is (c.requires.sets.each c.loop-k.k task) found.0);
       within = pushed_each (λ j (q : Part). q.bound ≤ greatest_bound) c.loop-k.parts.items c.push.new.self.items part _ c.loop-k.k stored c.loop-k.invariant.count c.loop-k.invariant.within found.1;
     }

@@ -1,5 +1,5 @@
 use Rattle.loop_regions.specs.CodeNest.{nest_of}
-use Rattle.cert_check.specs.Certificate.{potentials_of}
+use Rattle.cert_check.specs.ListedPotentials.{potentials_of}
 use Rattle.cert_check.proofs.Potentials.{bound_test}
 use Rattle.cert_check.proofs.paid.Paid.bound_holds.Goals as goal
 

@@ -2,9 +2,9 @@ use Rattle.std.proofs.Common.{sym, ◌∙◌}
 use Rattle.std.proofs.lemmas.Bool.{false≢true}
 use Rattle.flat_graph.specs.CodeGraph.{graph_of}
 use Rattle.loop_regions.specs.CodeNest.{nest_of}
-use Rattle.cert_check.specs.Certificate.{potentials_of}
-use Rattle.cert_check.specs.Case.{counted}
-use Rattle.cert_check.specs.Paid.{costs_at, EdgePaid}
+use Rattle.cert_check.specs.ListedPotentials.{potentials_of}
+use Rattle.cert_check.specs.JudgedNodes.{counted}
+use Rattle.cert_check.specs.JudgedPotentials.{costs_at, EdgePaid}
 use Rattle.flat_graph.proofs.Nexts.{edge_at, at_edges}
 use Rattle.cert_check.proofs.paid.Paid.edges_pay.Goals as goal
 

@@ -1,6 +1,6 @@
 use Rattle.std.proofs.Common.{◌*◌}
 use Rattle.loop_regions.specs.CodeNest.{nest_of}
-use Rattle.cert_check.specs.Certificate.{potentials_of}
+use Rattle.cert_check.specs.ListedPotentials.{potentials_of}
 use Rattle.cert_check.proofs.Potentials.{item_test}
 use Rattle.cert_check.proofs.paid.Paid.exit_pays.Goals as goal
 

@@ -1,7 +1,7 @@
 use Rattle.std.proofs.Common.{◌<◌, sym, subst}
 use Rattle.flat_graph.specs.CodeGraph.{graph_of}
 use Rattle.loop_regions.specs.CodeNest.{nest_of}
-use Rattle.cert_check.specs.Certificate.{potentials_of}
+use Rattle.cert_check.specs.ListedPotentials.{potentials_of}
 use Rattle.loop_regions.proofs.Beside.{nested}
 use Rattle.cert_check.proofs.Potentials.{IsPaidTurns}
 use Rattle.loop_regions.proofs.Climbs.{Holds, holds_more, falls_up, still_outside}

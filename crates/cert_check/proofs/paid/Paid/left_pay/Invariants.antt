@@ -1,7 +1,7 @@
 -- The regions round the source so far pay for their turns.
 use Rattle.flat_graph.specs.CodeGraph.{graph_of}
 use Rattle.loop_regions.specs.CodeNest.{nest_of}
-use Rattle.cert_check.specs.Certificate.{potentials_of}
+use Rattle.cert_check.specs.ListedPotentials.{potentials_of}
 use Rattle.loop_regions.proofs.Climbs.{Holds, still_outside}
 use Rattle.cert_check.proofs.Potentials.{IsPaidTurns}
 use Rattle.cert_check.proofs.paid.Paid.left_pay.Given as goal

@@ -1,6 +1,6 @@
 use Rattle.std.proofs.Common.{sym, ◌∙◌}
 use Rattle.flat_graph.specs.CodeGraph.{graph_of}
-use Rattle.evict_sets.specs.Certificate.{listed_of}
+use Rattle.evict_sets.specs.ListedPart.{listed_of}
 use Rattle.flat_graph.proofs.Nexts.{edge_at}
 use Rattle.evict_sets.proofs.ListedNext.{all_listed}
 use Rattle.evict_sets.proofs.listing.Listing.follower.Goals as goal

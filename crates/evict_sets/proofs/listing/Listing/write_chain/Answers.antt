@@ -1,6 +1,6 @@
 use Rattle.std.proofs.Common.{◌+◌, subst, arith, length-set}
 use Rattle.flat_graph.specs.CodeGraph.{graph_of}
-use Rattle.evict_sets.specs.Certificate.{listed_of}
+use Rattle.evict_sets.specs.ListedPart.{listed_of}
 use Rattle.evict_sets.proofs.Chains.{ChainTo, start_room, chain_start, chain_room, chain_node, chain_more, chain_closed}
 use Rattle.evict_sets.proofs.listing.Listing.write_chain.Goals as goal
 

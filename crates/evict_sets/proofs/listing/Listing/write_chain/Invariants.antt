@@ -1,7 +1,7 @@
 -- The nodes written so far, and the one that continues the last of them.
 use Rattle.std.proofs.Common.{◌+◌, ◌-◌, length}
 use Rattle.flat_graph.specs.CodeGraph.{graph_of}
-use Rattle.evict_sets.specs.Certificate.{listed_of}
+use Rattle.evict_sets.specs.ListedPart.{listed_of}
 use Rattle.evict_sets.proofs.Chains.{ChainTo}
 use Rattle.evict_sets.proofs.listing.Listing.write_chain.Given as goal
 

@@ -1,8 +1,8 @@
 use Rattle.std.proofs.Common.{refl, arith}
 use Rattle.std.specs.Prelude.{slice_index_or}
 use Rattle.flat_graph.specs.CodeGraph.{graph_of}
-use Rattle.evict_sets.specs.Certificate.{listed_of}
-use Rattle.evict_sets.specs.Listing.{fetches}
+use Rattle.evict_sets.specs.ListedPart.{listed_of}
+use Rattle.evict_sets.specs.Listing.{node_accesses}
 use Rattle.evict_sets.proofs.HitsTo.{hits_more, hits_all}
 use Rattle.evict_sets.proofs.listing.Listing.write_hits.Goals as goal
 
@@ -11,9 +11,9 @@ enter-requires-clause-follows c = c.loop-k.invariant.state.follows (omega (arith
 
 pub loop-k-preserved : goal.loop-k-preserved
 loop-k-preserved c =
-    hits_more (graph_of c.args.self.now.graph.now) (fetches c.args.self.now.platform.now c.args.self.now.graph.now) (listed_of c.args.self.now.part.now) c.args.order.now c.loop-k.blocks c.leave.new.blocks c.loop-k.hits c.loop-k.k (slice_index_or c.args.order.now c.loop-k.k 0) c.leave.result c.requires.order c.requires.case.leaders
+    hits_more (graph_of c.args.self.now.graph.now) (node_accesses c.args.self.now.platform.now c.args.self.now.graph.now) (listed_of c.args.self.now.part.now) c.args.order.now c.loop-k.blocks c.leave.new.blocks c.loop-k.hits c.loop-k.k (slice_index_or c.args.order.now c.loop-k.k 0) c.leave.result c.requires.order c.requires.case.leaders
     (omega (arith, c.loop-k-test.true, c.requires.order.count)) refl (omega (arith, c.loop-k.auto.hits, c.requires.count)) (omega (arith, c.leave.auto.blocks, c.enter.auto.blocks, c.loop-k.invariant.state.room))
     c.leave.ensures.after c.leave.ensures.hit c.loop-k.invariant
 
 pub returns : goal.returns
-returns c = hits_all (graph_of c.args.self.now.graph.now) (fetches c.args.self.now.platform.now c.args.self.now.graph.now) (listed_of c.args.self.now.part.now) c.args.order.now c.loop-k.blocks c.loop-k.hits c.loop-k.k c.requires.order (omega (arith, c.loop-k-test.false, c.requires.order.count)) c.loop-k.invariant
+returns c = hits_all (graph_of c.args.self.now.graph.now) (node_accesses c.args.self.now.platform.now c.args.self.now.graph.now) (listed_of c.args.self.now.part.now) c.args.order.now c.loop-k.blocks c.loop-k.hits c.loop-k.k c.requires.order (omega (arith, c.loop-k-test.false, c.requires.order.count)) c.loop-k.invariant

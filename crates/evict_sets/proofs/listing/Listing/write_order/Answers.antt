@@ -1,7 +1,7 @@
 use Rattle.std.proofs.Common.{◌+◌, sym, subst, ◌∙◌, arith}
 use Rattle.flat_graph.specs.CodeGraph.{graph_of}
-use Rattle.evict_sets.specs.Certificate.{listed_of}
-use Rattle.evict_sets.specs.Ordered.{HasListed}
+use Rattle.evict_sets.specs.ListedPart.{listed_of}
+use Rattle.evict_sets.specs.OrderPrefix.{HasListedBelow}
 use Rattle.evict_sets.proofs.Lines.{no_line, no_last, none_listed, listed_past, whole}
 use Rattle.evict_sets.proofs.Chains.{OrderTo}
 use Rattle.evict_sets.proofs.listing.Listing.write_order.Goals as goal
@@ -30,4 +30,4 @@ loop-node-preserved c =
 pub returns : goal.returns
 returns c =
     whole (graph_of c.args.self.now.graph.now) (listed_of c.args.self.now.part.now) c.loop-node.order c.loop-node.count c.graph_law.ensures.graph c.requires.case.leaders (omega (arith, c.loop-node.auto.order, c.requires.count)) c.loop-node.invariant.line c.loop-node.invariant.closed
-    (subst (λ n. HasListed (graph_of c.args.self.now.graph.now) (listed_of c.args.self.now.part.now) c.loop-node.order c.loop-node.count n) (omega (arith, c.loop-node-test.false, c.loop-node.auto.node-end, c.len-node-end.ensures)) c.loop-node.invariant.all)
+    (subst (λ n. HasListedBelow (graph_of c.args.self.now.graph.now) (listed_of c.args.self.now.part.now) c.loop-node.order c.loop-node.count n) (omega (arith, c.loop-node-test.false, c.loop-node.auto.node-end, c.len-node-end.ensures)) c.loop-node.invariant.all)

@@ -1,6 +1,6 @@
 -- The listed nodes below the node are written, with the unlisted ones that continue them.
 use Rattle.flat_graph.specs.CodeGraph.{graph_of}
-use Rattle.evict_sets.specs.Certificate.{listed_of}
+use Rattle.evict_sets.specs.ListedPart.{listed_of}
 use Rattle.evict_sets.proofs.Chains.{OrderTo}
 use Rattle.evict_sets.proofs.listing.Listing.write_order.Given as goal
 

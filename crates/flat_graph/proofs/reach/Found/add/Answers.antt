@@ -3,15 +3,15 @@ use Rattle.std.specs.BTreeSet.{insert_key}
 use Rattle.std.specs.List.Sorted.{IsStrictlySortedBy}
 use Rattle.std.proofs.lemmas.Bool.{not-false}
 use Rattle.flat_graph.specs.contracts.spots.SpotOrd.TheImpl as order
-use Rattle.flat_graph.specs.Reach.{IsReached}
+use Rattle.flat_graph.specs.Reach.{AreSameSpots}
 use Rattle.flat_graph.proofs.Found.{reached_more, added_one, added_there, found_spot}
 use Rattle.flat_graph.proofs.reach.Found.add.Goals as goal
 
 pub returns-in_ok-push-clause-found : goal.returns-in_ok-push-clause-found
 returns-in_ok-push-clause-found c =
     let lists = c.args.self.now.contexts.lists.items in
-    subst (λ ks. IsReached lists ks c.push.new.self.items) (sym c.in_ok-insert.ensures.keys)
-    (subst (λ l. IsReached lists (insert_key order.cmp-value.it c.args.self.now.set.keys c.args.spot) l) (sym c.in_ok-push.ensures.items)
+    subst (λ ks. AreSameSpots lists ks c.push.new.self.items) (sym c.in_ok-insert.ensures.keys)
+    (subst (λ l. AreSameSpots lists (insert_key order.cmp-value.it c.args.self.now.set.keys c.args.spot) l) (sym c.in_ok-push.ensures.items)
     (reached_more order.cmp-value.it (λ s t. refl) lists c.args.self.now.set.keys c.args.self.now.list.items c.args.spot c.requires.found
     (subst (IsStrictlySortedBy order.cmp-value.it) c.in_ok-insert.ensures.keys c.in_ok-insert.ensures.ordered)
     (sym (ap length c.in_ok-insert.ensures.keys) ∙ c.in_ok-insert.ensures.len ∙ ap (λ b. length c.args.self.now.set.keys + cond b 1 0) c.if-branch.true)

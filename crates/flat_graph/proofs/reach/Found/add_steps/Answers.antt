@@ -1,7 +1,7 @@
 use Rattle.std.proofs.Common.{◌∙◌, sym, subst, [], ◌∷◌}
 use Rattle.std.specs.Prelude.{slice_index_or}
 use Rattle.flat_graph.specs.Reach.{AreNumbered, AreAdded}
-use Rattle.flat_graph.specs.Spots.{flat, flats, flat_steps}
+use Rattle.flat_graph.specs.Spots.{spot_node, spot_nodes, flat_steps}
 use Rattle.flat_graph.specs.declared.contexts.Contexts.{Contexts}
 use Rattle.flat_graph.specs.declared.spots.Spot.{Spot}
 use Rattle.flat_graph.proofs.Found.{added_then, on_ok, on_ok_map}
@@ -27,8 +27,8 @@ returns-in_ok-add-in-Either-clause-added c =
     let t : Spot = record { context = c.args.from; address = c.in-Either.other } in
     on_ok_map c.add-in-Either-2.result _ _
     (λ a.
-    subst (λ steps. AreAdded (flats lists old) (flat_steps calls steps) (flats c.add-in-Either-2.new.self.contexts.lists.items new)) (sym c.in-Either.is)
-    (subst (λ (x : Contexts). AreAdded (flats lists old) (flat lists s ∷ flat lists t ∷ []) (flats x.lists.items new)) (sym (c.add-in-Either-2.ensures.same ∙ c.in_ok-add-in-Either.ensures.same))
-    (added_then (flats lists old) (flats lists mid) (flats lists new) (flat lists s) (flat lists t) c.in_ok-add-in-Either.ensures.added
-    (subst (λ (x : Contexts). AreAdded (flats x.lists.items mid) (flat x.lists.items t ∷ []) (flats x.lists.items new)) c.in_ok-add-in-Either.ensures.same a))))
+    subst (λ steps. AreAdded (spot_nodes lists old) (flat_steps calls steps) (spot_nodes c.add-in-Either-2.new.self.contexts.lists.items new)) (sym c.in-Either.is)
+    (subst (λ (x : Contexts). AreAdded (spot_nodes lists old) (spot_node lists s ∷ spot_node lists t ∷ []) (spot_nodes x.lists.items new)) (sym (c.add-in-Either-2.ensures.same ∙ c.in_ok-add-in-Either.ensures.same))
+    (added_then (spot_nodes lists old) (spot_nodes lists mid) (spot_nodes lists new) (spot_node lists s) (spot_node lists t) c.in_ok-add-in-Either.ensures.added
+    (subst (λ (x : Contexts). AreAdded (spot_nodes x.lists.items mid) (spot_node x.lists.items t ∷ []) (spot_nodes x.lists.items new)) c.in_ok-add-in-Either.ensures.same a))))
     c.add-in-Either-2.ensures.added

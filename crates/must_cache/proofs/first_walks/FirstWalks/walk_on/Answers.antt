@@ -2,19 +2,19 @@ use Rattle.std.proofs.Common.{◌≡◌, ◌==◌, ℕ, if◌then◌else◌, Som
 use Rattle.icache.specs.Cache.{held, set_of, block_of}
 use Rattle.icache.specs.Accesses.{accesses}
 use Rattle.flat_graph.specs.CodeGraph.{places_of}
-use Rattle.must_cache.specs.Walks.{and_next, still_to_do}
+use Rattle.must_cache.specs.FirstWalks.{with_next, still_to_do}
 use Rattle.must_cache.proofs.WalkSteps.{taken_next, waiting_in, next_is_one, next_is_more}
 use Rattle.must_cache.proofs.first_walks.FirstWalks.walk_on.Goals as goal
 
 pub address-requires : goal.address-requires
 address-requires g c =
     waiting_in _ _ _ _ _ _ _ c.loop-next.self.todo.items (c.in-Some.node, c.loop-next.state)
-    (ap (λ o. and_next c.loop-next.self.todo.items o c.loop-next.state) c.in-Some.is) c.graph_law.ensures.graph c.loop-next.invariant.under_way
+    (ap (λ o. with_next c.loop-next.self.todo.items o c.loop-next.state) c.in-Some.is) c.graph_law.ensures.graph c.loop-next.invariant.under_way
 
 pub pass_on-requires : goal.pass_on-requires
 pass_on-requires g c =
     let p = c.args.geometry.now.platform in
-    let is = ap (λ o. and_next c.loop-next.self.todo.items o c.loop-next.state) c.in-Some.is in (
+    let is = ap (λ o. with_next c.loop-next.self.todo.items o c.loop-next.state) c.in-Some.is in (
       lit< tt,
       (
         omega (arith, c.requires.few),
@@ -52,6 +52,6 @@ loop-next-preserved g c = record {
 
 pub loop-next-smaller : goal.loop-next-smaller
 loop-next-smaller g c =
-    let before = ap (λ o. still_to_do c.loop-next.self.met.items (and_next c.loop-next.self.todo.items o c.loop-next.state)) c.in-Some.is in
+    let before = ap (λ o. still_to_do c.loop-next.self.met.items (with_next c.loop-next.self.todo.items o c.loop-next.state)) c.in-Some.is in
     let one = next_is_one c.loop-next.self.met.items c.loop-next.self.todo.items c.in-Some.node c.loop-next.state in
     omega (arith, before, one, c.in_ok-next.ensures.falls)

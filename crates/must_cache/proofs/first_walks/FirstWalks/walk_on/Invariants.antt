@@ -2,15 +2,15 @@
 use Rattle.std.proofs.Common.{◌≤◌}
 use Rattle.flat_graph.specs.CodeGraph.{graph_of, places_of}
 use Rattle.icache.specs.Accesses.{accesses}
-use Rattle.must_cache.specs.Walks.{AreUnderWay, and_next, still_to_do}
+use Rattle.must_cache.specs.FirstWalks.{HasWalkSearch, with_next, still_to_do}
 use Rattle.must_cache.proofs.first_walks.FirstWalks.walk_on.Given as goal
 
 abbrev pub invariant-loop-next : goal.invariant-loop-next
 invariant-loop-next g l = record {
-  under_way : AreUnderWay (graph_of l.graph) (accesses l.geometry.platform (places_of l.graph).address)
-      l.self.met.items l.self.states.items l.self.hits.items l.self.apart.items (and_next l.self.todo.items l.next l.state);
+  under_way : HasWalkSearch (graph_of l.graph) (accesses l.geometry.platform (places_of l.graph).address)
+      l.self.met.items l.self.states.items l.self.hits.items l.self.apart.items (with_next l.self.todo.items l.next l.state);
   falls : still_to_do l.self.met.items l.self.todo.items ≤ still_to_do l.initial.self.met.items l.initial.self.todo.items;
 }
 
 abbrev pub decreases-loop-next : goal.decreases-loop-next
-decreases-loop-next g l = still_to_do l.self.met.items (and_next l.self.todo.items l.next l.state)
+decreases-loop-next g l = still_to_do l.self.met.items (with_next l.self.todo.items l.next l.state)

@@ -6,7 +6,7 @@ use Rattle.rv_decode.specs.Cost.{cost}
 use Rattle.rv_core.specs.declared.Next.{Next}
 use Rattle.rv_core.specs.Effect.{next_pc}
 use Rattle.icache.specs.Cache.{is_hit, block_of}
-use Rattle.preempt_machine.specs.Step.{goes_on}
+use Rattle.preempt_machine.specs.Step.{goes_to_next}
 use Rattle.preempt_fast.specs.Decodings.{AreCosts}
 use Rattle.preempt_fast.proofs.jobs.Core.fetch.Goals as goal
 
@@ -21,5 +21,5 @@ returns-clause-cost c sys k ins same found =
     ∙ costs c.misses-missed.result c.is_taken.result
     ∙ ap (λ (b : Bool). cost platform ins b c.is_taken.result) (c.misses-missed.ensures.missed ∙ ap (λ b. not (is_hit platform old.cache b)) c.requires.block)
     ∙ ap (λ (b : Bool). cost platform ins (not (is_hit platform old.cache (block_of platform job.pc))) b)
-    (c.is_taken.ensures ∙ ap (λ (n : Next). not (goes_on n c.pc.result)) next ∙ ap (λ p. not (goes_on (next_pc ins job.pc job.registers) p)) c.pc.ensures)
-    ∙ ap (λ (p : Platform). cost p ins (not (is_hit p old.cache (block_of p job.pc))) (not (goes_on (next_pc ins job.pc job.registers) job.pc))) (sym same)
+    (c.is_taken.ensures ∙ ap (λ (n : Next). not (goes_to_next n c.pc.result)) next ∙ ap (λ p. not (goes_to_next (next_pc ins job.pc job.registers) p)) c.pc.ensures)
+    ∙ ap (λ (p : Platform). cost p ins (not (is_hit p old.cache (block_of p job.pc))) (not (goes_to_next (next_pc ins job.pc job.registers) job.pc))) (sym same)

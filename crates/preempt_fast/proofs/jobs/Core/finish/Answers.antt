@@ -3,7 +3,7 @@ use Rattle.std.proofs.lemmas.Result.{on_ok_weaker}
 use Rattle.crpd_base.specs.declared.data.TaskPlan.{TaskPlan}
 use Rattle.flow_watch.specs.Watch.{Watch, step}
 use Rattle.flow_watch.specs.Quiet.{AreQuiet}
-use Rattle.preempt_machine.specs.Step.{went}
+use Rattle.preempt_machine.specs.Step.{turn_after_effect}
 use Rattle.preempt_machine.specs.Jobs.{turn_by}
 use Rattle.preempt_fast.proofs.jobs.Core.finish.Goals as goal
 
@@ -19,7 +19,7 @@ returns-clause-ok c =
     (ap (λ (p : TaskPlan). step p job.watch job.pc ins to) plan
     ∙ c.requires.stays c.if-found.true c.args.plan.now job.watch job.pc to
     ∙ c.requires.quiet to c.if-quiet-to.true c.if-to-quiet.true)
-    ∙ ap (went sys n ins (turn_by cache c.args.self.now.memory k job)) (sym c.in-Goto.is))
+    ∙ ap (turn_after_effect sys n ins (turn_by cache c.args.self.now.memory k job)) (sym c.in-Goto.is))
     c.go_on.ensures.ok
 
 pub returns-clause-quiet : goal.returns-clause-quiet

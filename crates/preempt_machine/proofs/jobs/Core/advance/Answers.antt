@@ -2,11 +2,11 @@ use Rattle.std.proofs.Common.{◌≡◌, Some, refl, sym, ◌∙◌, ap, subst}
 use Rattle.std.specs.Prelude.{length}
 use Rattle.crpd_base.specs.declared.data.TaskPlan.{TaskPlan}
 use Rattle.std.proofs.lemmas.Result.{on_ok_weaker}
-use Rattle.flow_watch.specs.Turns.{HasTurns}
+use Rattle.flow_watch.specs.Iterations.{HasIterations}
 use Rattle.preempt_machine.specs.Machine.{ins_at, plan_of}
 use Rattle.preempt_machine.specs.Running.{system_by}
 use Rattle.preempt_machine.specs.Jobs.{turn_by}
-use Rattle.preempt_machine.specs.Step.{executed}
+use Rattle.preempt_machine.specs.Step.{turn_after_execution}
 use Rattle.preempt_machine.proofs.Turns.{plan_is, keeps_plan, on_ok_both, on_err_both}
 use Rattle.preempt_machine.proofs.jobs.Core.advance.Goals as goal
 
@@ -16,7 +16,7 @@ returns-in-Some-clause-ok c =
     let plan : plan_of sys c.args.job.now.line.task.0 ≡ c.plan.result.now = plan_is sys c.args.job.now.line.task.0 c.plan.result.now (rw c.task.ensures at c.plan.ensures) in
     let found : Some c.in-Some.ins ≡ ins_at sys c.args.job.now.pc = rw c.pc.ensures at (c.in-Some.ensures.is c.args.self.now.geometry.platform) in
     on_ok_weaker c.execute.result
-    (λ h. h sys 0 refl plan ∙ ap (executed sys c.args.now (turn_by c.args.self.now.cache c.args.self.now.memory 0 c.args.job.now)) found)
+    (λ h. h sys 0 refl plan ∙ ap (turn_after_execution sys c.args.now (turn_by c.args.self.now.cache c.args.self.now.memory 0 c.args.job.now)) found)
     c.execute.ensures.ok
 
 pub returns-in-Some-clause-plan : goal.returns-in-Some-clause-plan
@@ -25,7 +25,7 @@ returns-in-Some-clause-plan c =
     let plan : plan_of sys c.args.job.now.line.task.0 ≡ c.plan.result.now = plan_is sys c.args.job.now.line.task.0 c.plan.result.now (rw c.task.ensures at c.plan.ensures) in
     on_ok_both c.execute.result
     (λ h turns. keeps_plan sys c.args.now c.args.self.now.cache c.execute.new.self.cache c.args.self.now.memory c.execute.new.self.memory c.args.job.now c.execute.new.job (Some c.in-Some.ins) (h sys 0 refl plan) c.requires.plan
-    (subst (λ (p : TaskPlan). HasTurns (length p.loops) c.execute.new.job.watch) (sym plan) turns))
+    (subst (λ (p : TaskPlan). HasIterations (length p.loops) c.execute.new.job.watch) (sym plan) turns))
     c.execute.ensures.ok c.execute.ensures.turns
 
 pub returns-in-Some-clause-store : goal.returns-in-Some-clause-store

@@ -1,8 +1,8 @@
 use Rattle.std.proofs.Common.{◌≡◌, ◌<◌, length, sym, ◌∙◌, ap, subst, arith}
 use Rattle.preempt_machine.specs.declared.Completion.{Completion}
 use Rattle.preempt_machine.specs.Machine.{Machine}
-use Rattle.preempt_machine.specs.Running.{Running, job_id, IsAt}
-use Rattle.preempt_machine.specs.Kept.{completion, machine_of}
+use Rattle.preempt_machine.specs.Running.{Running, job_id, IsJobAt}
+use Rattle.preempt_machine.specs.Schedule.{completion, machine_of}
 use Rattle.preempt_machine.proofs.Starting.{at_place, id_at, one_place}
 use Rattle.preempt_machine.proofs.machine.Machine.place.Goals as goal
 
@@ -11,7 +11,7 @@ place_of-requires c =
     let m = machine_of c.self.inside.parts in
     let state : m ≡ c.args.self.now.state = ap (λ (r : Running). r.state) c.self.view_is in
     let (x, there) = c.requires in
-    let at : IsAt m c.args.job x = subst (λ n. IsAt n c.args.job x) (sym state) there in
+    let at : IsJobAt m c.args.job x = subst (λ n. IsJobAt n c.args.job x) (sym state) there in
     let value = c.as_slice.ensures.value in (
       x,
       omega (arith, at.below, c.self.invariant.machine.told, ap length value),
@@ -27,7 +27,7 @@ pub returns-clause-is : goal.returns-clause-is
 returns-clause-is c x there =
     let m = machine_of c.self.inside.parts in
     let state : m ≡ c.args.self.now.state = ap (λ (r : Running). r.state) c.self.view_is in
-    let at : IsAt m c.args.job x = subst (λ n. IsAt n c.args.job x) (sym state) there in
+    let at : IsJobAt m c.args.job x = subst (λ n. IsJobAt n c.args.job x) (sym state) there in
     let value = c.as_slice.ensures.value in
     let p = c.place_of.result in
     let below : p < length m.jobs = omega (arith, c.place_of.ensures.below, c.self.invariant.machine.told, ap length value) in

@@ -1,6 +1,6 @@
 use Rattle.std.proofs.Common.{◌≡◌, ℕ, ◌+◌, ◌-◌, ◌∙◌, ap, arith}
-use Rattle.preempt_machine.specs.Running.{stepped_by}
-use Rattle.preempt_machine.proofs.Made.{by_more, made_platform, made_time}
+use Rattle.preempt_machine.specs.Running.{running_after_steps}
+use Rattle.preempt_machine.proofs.SeveralSteps.{by_more, made_platform, made_time}
 use Rattle.preempt_machine.proofs.machine.Machine.run_until.Goals as goal
 
 pub loop-self-preserved : goal.loop-self-preserved
@@ -19,7 +19,7 @@ loop-self-preserved c =
       from = omega (arith, time, h.from);
       to = λ w. omega (arith, time, done.within);
       past = λ w. absurd (omega (arith, h.past w, less, c.steps.ensures));
-      state = done.state ∙ ap (stepped_by done.made code) h.state ∙ by_more done.made before code first ∙ ap (λ (n : ℕ). stepped_by n code first) count;
+      state = done.state ∙ ap (running_after_steps done.made code) h.state ∙ by_more done.made before code first ∙ ap (λ (n : ℕ). running_after_steps n code first) count;
       platform = made_platform code c.args.cycle now next done ∙ h.platform;
       plans = c.in_ok-advance.ensures.plans;
     }

@@ -2,9 +2,9 @@ use Rattle.std.proofs.Common.{refl, sym, subst}
 use Rattle.std.proofs.lemmas.Result.{on_ok_weaker}
 use Rattle.preempt_machine.specs.Running.{system_by}
 use Rattle.preempt_machine.specs.Machine.{Machine}
-use Rattle.preempt_machine.specs.Flags.{ChangesOwner}
-use Rattle.preempt_machine.specs.Kept.{machine_of, HasStepped}
-use Rattle.preempt_machine.proofs.Made.{one_made}
+use Rattle.preempt_machine.specs.KeptFlag.{ChangesOwner}
+use Rattle.preempt_machine.specs.Schedule.{machine_of, HasStepped}
+use Rattle.preempt_machine.proofs.SeveralSteps.{one_made}
 use Rattle.preempt_machine.proofs.Steps.{candidate_none}
 use Rattle.preempt_machine.proofs.Watches.{none_changes, step_changes}
 use Rattle.preempt_machine.proofs.parts.Parts.advance.Goals as goal

@@ -3,7 +3,7 @@ use Rattle.crpd_base.specs.declared.data.ScriptJob.{ScriptJob}
 use Rattle.preempt_machine.specs.declared.queue.Queue.{Queue}
 use Rattle.preempt_machine.specs.Machine.{Job, Machine, job_at}
 use Rattle.preempt_machine.specs.Running.{system_by, HasPlan}
-use Rattle.preempt_machine.specs.Kept.{machine_of, line_at, lines_of}
+use Rattle.preempt_machine.specs.Schedule.{machine_of, script_line, script_lines}
 use Rattle.preempt_machine.proofs.Firsts.{line_is, lines_long}
 use Rattle.preempt_machine.proofs.Steps.{step_line}
 use Rattle.preempt_machine.proofs.Taken.{taken_head, taken_jobs, taken_kept, taken_state, taken_step, taken_told}
@@ -22,7 +22,7 @@ settle-requires-clause-task c =
     let heads = c.pass.ensures.heads ∙ ap (λ (q : Queue). q.heads.items) c.in_ok-turn.ensures.ok.queue in
     let jobs = ap (λ (n : Machine). n.jobs) (taken_state sys c.args.self.now c.turn.new.self c.pass.new.self place c.requires.candidate c.in_ok-turn.ensures.ok c.pass.ensures) in
     let line = ap (λ js. (job_at js place).line) jobs ∙ step_line sys m place ∙ sym (line_is m.jobs place) in
-    let below : (line_at (lines_of m.jobs) place).task.0 < length c.args.self.now.schedule.queue.heads.items = c.requires.machine.waiting.tasks place (omega (arith, c.requires.head.below, lines_long m.jobs)) in
+    let below : (script_line (script_lines m.jobs) place).task.0 < length c.args.self.now.schedule.queue.heads.items = c.requires.machine.waiting.tasks place (omega (arith, c.requires.head.below, lines_long m.jobs)) in
     rw heads (subst (λ (l : ScriptJob). l.task.0 < length c.args.self.now.schedule.queue.heads.items) (sym line) below)
 
 pub returns-clause-machine : goal.returns-clause-machine

@@ -3,11 +3,11 @@ use Rattle.std.proofs.lemmas.List.{get_or_default}
 use Rattle.crpd_base.specs.declared.data.JobId.{JobId}
 use Rattle.preempt_machine.specs.declared.Completion.{Completion}
 use Rattle.preempt_machine.specs.Machine.{Job, ins_at, job_at, no_job}
-use Rattle.preempt_machine.specs.Step.{executed}
+use Rattle.preempt_machine.specs.Step.{turn_after_execution}
 use Rattle.preempt_machine.specs.Jobs.{found_by, turn_by}
 use Rattle.preempt_machine.specs.Running.{job_id, system_by}
-use Rattle.preempt_machine.specs.Kept.{machine_of, completion}
-use Rattle.preempt_machine.proofs.Turned.{fetches, fetch_made, turned_on}
+use Rattle.preempt_machine.specs.Schedule.{machine_of, completion}
+use Rattle.preempt_machine.proofs.CandidateTurns.{fetches, fetch_made, turned_on}
 use Rattle.preempt_machine.proofs.parts.Parts.work.Goals as goal
 
 pub returns-clause-ok : goal.returns-clause-ok
@@ -17,7 +17,7 @@ returns-clause-ok c =
     let place = c.args.place in
     let after = c.advance.new.self in
     let own : c.index_mut-job.result.now ≡ job_at m.jobs place = c.index_mut-job.ensures.value ∙ get_or_default m.jobs place c.index_mut-job.result.now no_job c.requires.below in
-    let executes = subst (λ (j : Job). turn_by after.cache after.memory 0 c.advance.new.job ≡ executed sys m.time (turn_by m.cache m.memory 0 j) (ins_at sys j.pc)) own c.in_ok-found.ensures.ok in
+    let executes = subst (λ (j : Job). turn_by after.cache after.memory 0 c.advance.new.job ≡ turn_after_execution sys m.time (turn_by m.cache m.memory 0 j) (ins_at sys j.pc)) own c.in_ok-found.ensures.ok in
     let found = subst (λ (j : Job). c.in_ok-found.found ≡ found_by sys (turn_by m.cache m.memory 0 j)) own c.in_ok-found.ensures.found in
     let there = c.index.ensures ∙ get_or_default c.args.self.now.schedule.completions.items place c.index.result.now (completion [] 0) (omega (arith, c.requires.below, c.requires.machine.told)) ∙ c.requires.machine.completions place c.requires.below in
     let id : c.index.result.now.job ≡ job_id m place = ap (λ (x : Completion). x.job) there in

@@ -1,7 +1,7 @@
 use Rattle.std.proofs.Common.{ℕ, ◌<◌}
 use Rattle.std.specs.Prelude.{slice_index}
-use Rattle.preempt_machine.specs.Kept.{HasCome}
+use Rattle.preempt_machine.specs.Schedule.{IsReleasedBy}
 use Rattle.preempt_machine.proofs.queue.Queue.first.Given as goal
 
 abbrev pub invariant-loop-head : goal.invariant-loop-head
-invariant-loop-head l = (u : ℕ) → u < l.head-index → HasCome l.self.due.items l.now (slice_index l.self.heads.items u) → ⊥
+invariant-loop-head l = (u : ℕ) → u < l.head-index → IsReleasedBy l.self.due.items l.now (slice_index l.self.heads.items u) → ⊥

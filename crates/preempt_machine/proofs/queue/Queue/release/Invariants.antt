@@ -1,5 +1,5 @@
 use Rattle.std.proofs.Common.{◌≡◌, ℕ, ◌-◌, ◌<◌, ◌≤◌, length}
-use Rattle.preempt_machine.specs.Kept.{release_at, HasOpened}
+use Rattle.preempt_machine.specs.Schedule.{due_release, HasOpened}
 use Rattle.preempt_machine.proofs.queue.Queue.release.Given as goal
 
 abbrev pub invariant-loop-self : goal.invariant-loop-self
@@ -8,7 +8,7 @@ invariant-loop-self l =
       opened : HasOpened l.initial.self.due.items l.initial.self.released l.self.released l.initial.completions l.completions;
       from : l.initial.self.released ≤ l.self.released;
       to : l.initial.self.released ≤ length l.initial.self.due.items → l.self.released ≤ length l.initial.self.due.items;
-      come : (p : ℕ) → l.initial.self.released ≤ p → p < l.self.released → release_at l.initial.self.due.items p ≤ l.now;
+      come : (p : ℕ) → l.initial.self.released ≤ p → p < l.self.released → due_release l.initial.self.due.items p ≤ l.now;
       due : l.self.due.items ≡ l.initial.self.due.items;
       later : l.self.later.items ≡ l.initial.self.later.items;
       heads : l.self.heads.items ≡ l.initial.self.heads.items;

@@ -1,7 +1,7 @@
 use Rattle.std.proofs.Common.{◌≡◌, true, false, refl, sym, ◌∙◌, ap}
-use Rattle.preempt_machine.specs.Kept.{machine_by, owner_keeps}
+use Rattle.preempt_machine.specs.Schedule.{machine_by, owner_keeps}
 use Rattle.preempt_machine.proofs.Firsts.{first_is}
-use Rattle.preempt_machine.proofs.Turned.{candidate_is, come_head, keeping_head}
+use Rattle.preempt_machine.proofs.CandidateTurns.{candidate_is, come_head, keeping_head}
 use Rattle.preempt_machine.proofs.schedule.Schedule.candidate.Goals as goal
 
 pub owner_keeps-requires : goal.owner_keeps-requires

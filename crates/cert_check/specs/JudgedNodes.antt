@@ -1,0 +1,25 @@
+-- What is known while clauses 3 to 5 are judged at a task's nodes.
+use Rattle.std.specs.Prelude.{◌≡◌, ◌↔◌, ℕ, ◌<◌, ◌≤◌, List, Some, slice_get, IsTrue}
+use Rattle.crpd_base.specs.Sets.{has}
+use Rattle.icache.specs.Accesses.{Accesses}
+use Rattle.flat_graph.specs.Graph.{Graph, Edge}
+use Rattle.evict_sets.specs.Full.{Listed, FullUseful}
+pub use Rattle.evict_sets.specs.Listing.{counted}
+
+-- the words are the full useful set of node y
+abbrev pub IsUsefulAt : Graph → Accesses → Listed → ℕ → List ℕ → Type 0
+IsUsefulAt g a l y words = (s : ℕ) → FullUseful g a l y s ↔ IsTrue (has words s)
+
+-- and what is useful at one of its successors
+abbrev pub IsUsefulBehind : Graph → Accesses → Listed → ℕ → List ℕ → Type 0
+IsUsefulBehind g a l y words = (s : ℕ) → ((v : ℕ) × Edge g y v × FullUseful g a l v s) ↔ IsTrue (has words s)
+
+-- and at the end of one of its edges
+abbrev pub IsUsefulBy : Graph → Accesses → Listed → ℕ → ℕ → List ℕ → Type 0
+IsUsefulBy g a l y k words = (s : ℕ) → ((v : ℕ) × (slice_get (g.next y) k ≡ Some v) × FullUseful g a l v s) ↔ IsTrue (has words s)
+
+-- the least node at which a fact fails; the number of nodes where there is none
+pub record IsLeastFailing (P : ℕ → Type 0) (size least : ℕ) : Type 0 where
+  pub within : least ≤ size
+  pub fails : least < size → P least → ⊥
+  pub holds : (u : ℕ) → u < least → P u

@@ -1,0 +1,34 @@
+-- The task graphs that kept graphs and regions are seen as, and the ranges of a certificate.
+use Rattle.std.specs.Prelude.{◌≡◌, ℕ, ◌<◌, ◌≤◌, ◌^◌, List, [], length, All, slice_index_or}
+use Rattle.crpd_base.specs.declared.data.TaskSet.{TaskSet}
+use Rattle.crpd_base.specs.declared.data.TaskPart.{TaskPart}
+use Rattle.crpd_base.specs.declared.data.Certificate.{Certificate}
+use Rattle.flat_graph.specs.CodeGraph.{CodeGraph, graph_of, places_of, ins_of, graph_at}
+use Rattle.loop_regions.specs.CodeNest.{CodeNest, nest_of, IsNestOf}
+use Rattle.loop_regions.specs.TaskGraph.{TaskGraph}
+pub use Rattle.evict_sets.specs.Listing.{HasLowSets}
+
+-- a kept graph and its regions as one
+abbrev pub task_graph : CodeGraph → CodeNest → TaskGraph
+task_graph g n = record { graph = graph_of g; places = places_of g; ins = ins_of g; nest = nest_of n }
+
+abbrev pub no_nest : CodeNest
+no_nest = record { heads = []; bounds = []; holders = [] }
+
+abbrev pub nest_at : List CodeNest → ℕ → CodeNest
+nest_at nests i = slice_index_or nests i no_nest
+
+-- the task graph of each task
+abbrev pub task_graph_at : List CodeGraph → List CodeNest → ℕ → TaskGraph
+task_graph_at graphs nests i = task_graph (graph_at graphs i) (nest_at nests i)
+
+-- there is one graph for each task, and one nest, which is that graph's
+pub record AreTaskGraphs (set : TaskSet) (graphs : List CodeGraph) (nests : List CodeNest) : Type 0 where
+  pub all_graphs : length graphs ≡ length set.tasks
+  pub all_nests : length nests ≡ length set.tasks
+  pub each : (i : ℕ) → i < length set.tasks → IsNestOf (graph_at graphs i) (nest_at nests i)
+
+-- the cache sets of the listed states are below 512, and the windows are at most 2^40
+pub record IsCertificateInRange (c : Certificate) : Type 0 where
+  pub sets : All HasLowSets c.tasks
+  pub windows : All (λ (t : TaskPart). t.window ≤ 2 ^ 40) c.tasks

@@ -1,0 +1,29 @@
+-- How a graph is kept.
+use Rattle.std.specs.Prelude.{◌≡◌, ℕ, ◌<◌, ◌≤◌, ◌↔◌, List, [], ◌∷◌, length, map, All, slice_index_or, slice_get, IsTrue}
+use Rattle.std.specs.Prelude.{Some}
+use Rattle.flat_graph.specs.Graph.{IsGraph, IsLeader}
+use Rattle.flat_graph.specs.CodeGraph.{GraphNode, CodeGraph, graph_of, HasCode}
+use Rattle.flat_graph.specs.declared.graph.Onward.{Onward}
+use Rattle.flat_graph.specs.declared.graph.Onward.TheVariants.{Ends, To, Either}
+use Rattle.flat_graph.specs.declared.graph.Stand.{Stand}
+
+abbrev pub onward : Onward → List ℕ
+onward Ends = []
+onward (To v) = v ∷ []
+onward (Either v w) = v ∷ w ∷ []
+
+-- the node that an entry stands for, with the contexts that are kept beside
+abbrev pub stored_node : List (List ℕ) → Stand → GraphNode
+stored_node contexts n = record { context = slice_index_or contexts n.context []; address = n.address; ins = n.ins; next = onward n.next }
+
+-- the graph that contexts, nodes and the first node's number stand for
+abbrev pub stored_graph : List (List ℕ) → List Stand → ℕ → CodeGraph
+stored_graph contexts nodes first = record { nodes = map (stored_node contexts) nodes; first = first }
+
+-- it is the graph of some code, and the nodes have their leaders
+pub record IsStoredGraph (contexts : List (List ℕ)) (nodes : List Stand) (first : ℕ) : Type 0 where
+  pub of_code : HasCode (stored_graph contexts nodes first)
+  pub graph : IsGraph (graph_of (stored_graph contexts nodes first))
+  pub contexts_there : All (λ (n : Stand). n.context < length contexts) nodes
+  pub few : length nodes ≤ 16384
+  pub leaders : (u : ℕ) (n : Stand) → slice_get nodes u ≡ Some n → IsTrue n.leader ↔ IsLeader (graph_of (stored_graph contexts nodes first)) u

@@ -1,0 +1,246 @@
+-- How the program keeps a machine.
+use Rattle.std.specs.Prelude.{◌≡◌, ◌≢◌, ℕ, suc, ◌+◌, ◌<◌, ◌≤◌, ◌⊎◌, Bool, true, false, if◌then◌else◌, length, map, List, slice_index, slice_index_or, slice_set, Option, Some, None, option_map}
+use Rattle.crpd_base.specs.declared.data.ScriptJob.{ScriptJob}
+use Rattle.crpd_base.specs.declared.data.Switching.{Switching}
+use Rattle.code_map.specs.Words.{Code}
+use Rattle.preempt_machine.specs.declared.Completion.{Completion}
+use Rattle.preempt_machine.specs.declared.End.TheVariants as «end»
+use Rattle.icache.specs.Cache.{Cache}
+use Rattle.rv_core.specs.Memory.{Memory}
+use Rattle.preempt_machine.specs.declared.parts.Parts.{Parts}
+use Rattle.preempt_machine.specs.declared.schedule.Schedule.{Schedule}
+use Rattle.preempt_machine.specs.Machine.{System, Job, Machine, job_at, no_job}
+use Rattle.preempt_machine.specs.Step.{is_open, is_ready, keeps_core, machine_after_turn, turn_after_step, turn_of, fetch, fetch_by, step}
+use Rattle.preempt_machine.specs.Jobs.{end_of_standing}
+use Rattle.preempt_machine.specs.Running.{Running, completion_at, fetch_told, running_after_steps}
+
+-- the release and the place of the job at a position of the order by release
+abbrev pub due_release : List (ℕ × ℕ) → ℕ → ℕ
+due_release due p = (slice_index_or due p (0, 0)).0
+
+abbrev pub due_place : List (ℕ × ℕ) → ℕ → ℕ
+due_place due p = (slice_index_or due p (0, 0)).1
+
+-- the line of the script at a place, and the task of the job at a position
+abbrev pub script_line : List ScriptJob → ℕ → ScriptJob
+script_line lines x = slice_index_or lines x no_job.line
+
+abbrev pub due_task : List ScriptJob → List (ℕ × ℕ) → ℕ → ℕ
+due_task lines due p = (script_line lines (due_place due p)).task.0
+
+-- one stands before another in the order: its release is earlier, or as early with a smaller place
+abbrev pub IsDueBefore : ℕ × ℕ → ℕ × ℕ → Type 0
+IsDueBefore a b = (a.0 < b.0) ⊎ ((a.0 ≡ b.0) × (a.1 < b.1))
+
+-- the releases and places of a script's jobs, by place
+pub record AreListed (lines : List ScriptJob) (due : List (ℕ × ℕ)) : Type 0 where
+  pub long : length due ≡ length lines
+  pub each : (x : ℕ) → x < length lines → slice_index_or due x (0, 0) ≡ ((script_line lines x).release, x)
+
+-- the jobs of a script in the order of their releases
+pub record IsReleaseOrder (lines : List ScriptJob) (due : List (ℕ × ℕ)) : Type 0 where
+  pub places : (p : ℕ) → p < length due → due_place due p < length lines
+  pub releases : (p : ℕ) → p < length due → due_release due p ≡ (script_line lines (due_place due p)).release
+  pub every : (x : ℕ) → x < length lines → (p : ℕ) × (p < length due) × (due_place due p ≡ x)
+  pub ordered : (p r : ℕ) → p < r → r < length due → IsDueBefore (slice_index_or due p (0, 0)) (slice_index_or due r (0, 0))
+
+-- q is the first position from p on with a job of the task, or past the end where there is none
+pub record IsFirstFrom (lines : List ScriptJob) (due : List (ℕ × ℕ)) (task p q : ℕ) : Type 0 where
+  pub from : p ≤ q
+  pub none : (r : ℕ) → p ≤ r → r < q → r < length due → due_task lines due r ≢ task
+  pub here : q < length due → due_task lines due q ≡ task
+
+-- the position of the next job of the same task
+pub record IsLinked (lines : List ScriptJob) (due : List (ℕ × ℕ)) (later : List ℕ) : Type 0 where
+  pub long : length later ≡ length due
+  pub next : (p : ℕ) → p < length due → IsFirstFrom lines due (due_task lines due p) (p + 1) (slice_index later p)
+
+-- the position of each task's first job that is open, past the end where there is none; the jobs before it are over
+pub record HasTaskHeads (lines : List ScriptJob) (due : List (ℕ × ℕ)) (heads : List ℕ) (jobs : List Job) : Type 0 where
+  pub tasks : (x : ℕ) → x < length lines → (script_line lines x).task.0 < length heads
+  pub head : (t : ℕ) → t < length heads → slice_index heads t < length due → due_task lines due (slice_index heads t) ≡ t
+  pub over : (p : ℕ) → p < length due → p < slice_index heads (due_task lines due p) → is_open (job_at jobs (due_place due p)).standing ≡ false
+  pub open_still : (p : ℕ) → p < length due → slice_index heads (due_task lines due p) ≤ p → is_open (job_at jobs (due_place due p)).standing ≡ true
+
+-- a position is that of a job released at this time or earlier
+abbrev pub IsReleasedBy : List (ℕ × ℕ) → ℕ → ℕ → Type 0
+IsReleasedBy due now p = (p < length due) × (due_release due p ≤ now)
+
+-- the place of the first job of the first task of which it has come
+pub record IsFirstReleased (due : List (ℕ × ℕ)) (heads : List ℕ) (now place : ℕ) : Type 0 where
+  pub task : ℕ
+  pub below : task < length heads
+  pub come : IsReleasedBy due now (slice_index heads task)
+  pub before : (u : ℕ) → u < task → IsReleasedBy due now (slice_index heads u) → ⊥
+  pub is : place ≡ due_place due (slice_index heads task)
+
+-- the first job of no task has come
+abbrev pub NoneIsReleased : List (ℕ × ℕ) → List ℕ → ℕ → Type 0
+NoneIsReleased due heads now = (u : ℕ) → u < length heads → IsReleasedBy due now (slice_index heads u) → ⊥
+
+-- a completion of an open job
+abbrev pub open_completion : Completion → Completion
+open_completion c = record { job = c.job; «end» = «end».Open }
+
+abbrev pub completion : List Completion → ℕ → Completion
+completion cs x = slice_index_or cs x (record { job = record { task = record { 0 = 0 }; number = 0 }; «end» = «end».Unreleased })
+
+-- the jobs at the positions from one up to another are told to be open, and no others
+pub record HasOpened (due : List (ℕ × ℕ)) (from to : ℕ) (old new : List Completion) : Type 0 where
+  pub long : length new ≡ length old
+  pub same : (x : ℕ) → (completion new x).job ≡ (completion old x).job
+  pub those : (p : ℕ) → from ≤ p → p < to → completion new (due_place due p) ≡ open_completion (completion old (due_place due p))
+  pub others : (x : ℕ) → ((p : ℕ) → from ≤ p → p < to → due_place due p ≢ x) → completion new x ≡ completion old x
+
+-- the positions below this one are those of jobs released before a time
+pub record IsUpTo (due : List (ℕ × ℕ)) (time released : ℕ) : Type 0 where
+  pub within : released ≤ length due
+  pub before : (p : ℕ) → p < released → due_release due p < time
+  pub after : (p : ℕ) → released ≤ p → p < length due → time ≤ due_release due p
+
+-- no job is ready at a time
+abbrev pub NoneIsReady : ℕ → List Job → Type 0
+NoneIsReady time jobs = (x : ℕ) → is_ready time (job_at jobs x) ≡ false
+
+-- the release at a position, or a cycle where none comes before it
+pub record IsNextRelease (due : List (ℕ × ℕ)) (released until time : ℕ) : Type 0 where
+  pub within : time ≤ until
+  pub before : released < length due → time ≤ due_release due released
+  pub one : (time ≡ until) ⊎ ((released < length due) × (time ≡ due_release due released))
+
+-- the lines of jobs
+abbrev pub script_lines : List Job → List ScriptJob
+script_lines jobs = map (λ (job : Job). job.line) jobs
+
+-- the state that a schedule holds beside a cache and a data memory
+abbrev pub machine_by : Cache → Memory → Schedule → Machine
+machine_by cache memory s =
+    record {
+      time = s.steps;
+      cache = cache;
+      memory = memory;
+      owner = s.owner;
+      switch_left = s.switch_left;
+      jobs = s.jobs.items;
+    }
+
+-- the state that the parts hold
+abbrev pub machine_of : Parts → Machine
+machine_of p = machine_by p.core.cache p.core.memory p.schedule
+
+-- an owner is a job of the script, and the first of its task while it is open
+pub record IsOwner (jobs : List Job) (due : List (ℕ × ℕ)) (heads : List ℕ) (o : ℕ) : Type 0 where
+  pub below : o < length jobs
+  pub first : is_open (job_at jobs o).standing ≡ true → due_place due (slice_index heads (job_at jobs o).line.task.0) ≡ o
+
+-- a job of the script is the first of its task that is open
+pub record IsHead (jobs : List Job) (due : List (ℕ × ℕ)) (heads : List ℕ) (x : ℕ) : Type 0 where
+  pub below : x < length jobs
+  pub inside : slice_index heads (job_at jobs x).line.task.0 < length due
+  pub first : due_place due (slice_index heads (job_at jobs x).line.task.0) ≡ x
+
+-- how a state is kept beside the order of its jobs and their completions, in a cache with room for so many sets
+pub record IsRepresented (sets : ℕ) (m : Machine) (order : List (ℕ × ℕ)) (links firsts : List ℕ) (count : ℕ) (cs : List Completion) : Type 0 where
+  pub room : sets ≤ length m.cache
+  pub due : IsReleaseOrder (script_lines m.jobs) order
+  pub linked : IsLinked (script_lines m.jobs) order links
+  pub waiting : HasTaskHeads (script_lines m.jobs) order firsts m.jobs
+  pub released : IsUpTo order m.time count
+  pub over : (x : ℕ) → x < length m.jobs → is_open (job_at m.jobs x).standing ≡ false → (job_at m.jobs x).line.release < m.time
+  pub told : length cs ≡ length m.jobs
+  pub completions : (x : ℕ) → x < length m.jobs → completion cs x ≡ completion_at m x
+  pub owner : (o : ℕ) → m.owner ≡ Some o → IsOwner m.jobs order firsts o
+
+-- a schedule holds a state with its order and completions
+abbrev pub IsScheduled : ℕ → Cache → Memory → Schedule → Type 0
+IsScheduled sets cache memory s =
+    IsRepresented sets (machine_by cache memory s) s.queue.due.items s.queue.later.items s.queue.heads.items s.queue.released s.completions.items
+
+abbrev pub IsMachine : Parts → Type 0
+IsMachine p = IsScheduled p.core.geometry.platform.sets p.core.cache p.core.memory p.schedule
+
+-- what contracts see of the parts
+abbrev pub running_of : Parts → Running
+running_of p = record { platform = p.core.geometry.platform; state = machine_of p; fetch = p.fetch }
+
+-- whether the owner keeps the core
+abbrev pub owner_keeps : Switching → ℕ → List Job → Option ℕ → Bool
+owner_keeps switching time jobs None = false
+owner_keeps switching time jobs (Some o) = keeps_core switching time (job_at jobs o)
+
+-- the jobs that are released in a step are told to be open
+pub record AreReleased (due : List (ℕ × ℕ)) (time from to : ℕ) (cs new : List Completion) : Type 0 where
+  pub opens : HasOpened due from to cs new
+  pub rises : from ≤ to
+  pub within : from ≤ length due → to ≤ length due
+  pub come : (p : ℕ) → from ≤ p → p < to → due_release due p ≤ time
+  pub wait : to < length due → time < due_release due to
+
+-- the jobs that are released in a step are told to be open, and nothing else changes
+pub record HasToldReleases (old new : Schedule) : Type 0 where
+  pub steps : new.steps ≡ old.steps
+  pub owner : new.owner ≡ old.owner
+  pub switch_left : new.switch_left ≡ old.switch_left
+  pub jobs : new.jobs ≡ old.jobs
+  pub due : new.queue.due.items ≡ old.queue.due.items
+  pub later : new.queue.later.items ≡ old.queue.later.items
+  pub heads : new.queue.heads.items ≡ old.queue.heads.items
+  pub released : AreReleased old.queue.due.items old.steps old.queue.released new.queue.released old.completions.items new.completions.items
+
+-- a cycle has passed: the jobs that are released in it are told to be open, and it is counted
+pub record HasPassed (old new : Schedule) : Type 0 where
+  pub state : (cache : Cache) (memory : Memory) → machine_by cache memory new ≡ record (machine_by cache memory old) { time = suc old.steps }
+  pub due : new.queue.due.items ≡ old.queue.due.items
+  pub later : new.queue.later.items ≡ old.queue.later.items
+  pub heads : new.queue.heads.items ≡ old.queue.heads.items
+  pub released : AreReleased old.queue.due.items old.steps old.queue.released new.queue.released old.completions.items new.completions.items
+
+-- the first open jobs of the tasks, and the completions, once it is told whether the job at a place is over
+abbrev pub heads_after : List Job → List ℕ → List ℕ → ℕ → List ℕ
+heads_after jobs later heads x =
+    let task = (job_at jobs x).line.task.0 in
+    if is_open (job_at jobs x).standing then heads else slice_set heads task (slice_index later (slice_index heads task))
+
+abbrev pub completions_after : List Job → List Completion → ℕ → List Completion
+completions_after jobs cs x =
+    if is_open (job_at jobs x).standing then cs
+    else slice_set cs x (record { job = (completion cs x).job; «end» = end_of_standing (job_at jobs x).standing })
+
+-- the job at a place had its turn at this time, which is not told yet
+pub record HasTurned (sys : System) (old new : Parts) (place : ℕ) : Type 0 where
+  pub state : record (machine_of new) { time = suc old.schedule.steps } ≡ machine_after_turn (machine_of old) place (turn_after_step sys old.schedule.steps (turn_of sys (machine_of old) place))
+  pub steps : new.schedule.steps ≡ old.schedule.steps
+  pub fetch : new.fetch ≡ option_map (fetch_told sys (machine_of old)) (fetch_by sys (machine_of old) (Some place))
+  pub geometry : new.core.geometry ≡ old.core.geometry
+  pub completions : new.schedule.completions ≡ old.schedule.completions
+  pub queue : new.schedule.queue ≡ old.schedule.queue
+
+-- nothing changed
+pub record HasSameState (old new : Parts) : Type 0 where
+  pub state : machine_of new ≡ machine_of old
+  pub fetch : new.fetch ≡ old.fetch
+  pub geometry : new.core.geometry ≡ old.core.geometry
+  pub completions : new.schedule.completions ≡ old.schedule.completions
+  pub queue : new.schedule.queue ≡ old.schedule.queue
+
+-- the first job of its task is told to be over, where it is, and nothing else changes
+pub record HasSettled (old new : Schedule) (place : ℕ) : Type 0 where
+  pub state : (cache : Cache) (memory : Memory) → machine_by cache memory new ≡ machine_by cache memory old
+  pub due : new.queue.due.items ≡ old.queue.due.items
+  pub later : new.queue.later.items ≡ old.queue.later.items
+  pub released : new.queue.released ≡ old.queue.released
+  pub heads : new.queue.heads.items ≡ heads_after old.jobs.items old.queue.later.items old.queue.heads.items place
+  pub completions : new.completions.items ≡ completions_after old.jobs.items old.completions.items place
+
+-- a step was made
+pub record HasStepped (sys : System) (old new : Parts) : Type 0 where
+  pub state : machine_of new ≡ step sys (machine_of old)
+  pub fetch : new.fetch ≡ option_map (fetch_told sys (machine_of old)) (fetch sys (machine_of old))
+  pub geometry : new.core.geometry ≡ old.core.geometry
+
+-- some steps were made, none of them past a cycle
+pub record HasMade (code : Code) (cycle : ℕ) (old new : Running) : Type 0 where
+  pub made : ℕ
+  pub some : 1 ≤ made
+  pub within : old.state.time + made ≤ cycle
+  pub state : new ≡ running_after_steps made code old
