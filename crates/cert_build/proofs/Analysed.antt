@@ -16,7 +16,7 @@ use Rattle.exec_bound.specs.declared.fault.BoundError.{BoundError}
 use Rattle.exec_bound.specs.declared.fault.BoundError.TheVariants.{Memory, TooLarge}
 use Rattle.cert_check.specs.TaskGraphs.{task_graph}
 use Rattle.cert_model.proofs.Ranged.{rise_wider}
-use Rattle.cert_build.specs.Entries.{AreLeaderEntries}
+use Rattle.cert_build.specs.Inner.Entries.{AreLeaderEntries}
 use Rattle.cert_build.specs.Analysis.{part_of_analysis, IsAnalysis, KeepsRanges, HasNoAnalysis}
 use Rattle.cert_build.specs.declared.one_task.Analysis.{Analysis}
 use Rattle.cert_build.proofs.EntryLaws.{all_entries}

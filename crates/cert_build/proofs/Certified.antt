@@ -25,7 +25,8 @@ use Rattle.cert_model.specs.Ranges.{IsTaskPart, IsCertificate}
 use Rattle.cert_build.specs.Best.{IsBestPart, IsBest, demand_of}
 use Rattle.cert_build.specs.Analysis.{part_of_analysis, IsAnalysis, KeepsRanges}
 use Rattle.cert_build.specs.Assembly.{no_analysis, analysis_at, entries_of, AreAnalysed}
-use Rattle.cert_build.specs.Certify.{part_in, HasParts, IsCompleted, HasNoWindows, IsBuildError, window_build_error}
+use Rattle.cert_build.specs.Certify.{part_in, HasParts, IsCompleted, HasNoWindows, IsBuildError}
+use Rattle.cert_build.specs.Inner.Certify.{window_build_error}
 use Rattle.cert_build.specs.declared.one_task.Analysis.{Analysis}
 use Rattle.cert_build.specs.declared.fault.BuildError.{BuildError}
 use Rattle.response.proofs.WindowLaws.{smaller_is_window}

@@ -29,7 +29,8 @@ use Rattle.cert_model.specs.Ranges.{HasFewPairs, IsTaskPart}
 use Rattle.cert_model.proofs.Ranged.{rise_length}
 use Rattle.cert_build.specs.Best.{IsBestPart}
 use Rattle.cert_build.specs.Analysis.{part_with, part_of_analysis, IsAnalysis, KeepsRanges, HasLargeBound}
-use Rattle.cert_build.specs.Assembly.{no_analysis, analysis_at, entries_of, AreAnalysed, CountsEntries, IsTaskError}
+use Rattle.cert_build.specs.Assembly.{no_analysis, analysis_at, entries_of, AreAnalysed}
+use Rattle.cert_build.specs.Inner.Assembly.{CountsEntries, IsTaskError}
 use Rattle.cert_build.specs.Certify.{AreBestParts, HaveNoAnalyses}
 use Rattle.cert_build.specs.declared.one_task.Analysis.{Analysis}
 use Rattle.cert_build.specs.declared.fault.BuildError.{BuildError}

@@ -18,7 +18,7 @@ use Rattle.cert_check.proofs.Leaders.{continues_one}
 use Rattle.cert_model.specs.Ranges.{RiseFrom, IsState}
 use Rattle.cert_model.proofs.Ranged.{rise_wider}
 use Rattle.cert_build.specs.Best.{IsBestState, AreBestStates}
-use Rattle.cert_build.specs.Entries.{ListsSure, IsStateEntry, AreLeaderEntries}
+use Rattle.cert_build.specs.Inner.Entries.{ListsSure, IsStateEntry, AreLeaderEntries}
 
 all_one : {X : Type 0} (P : X → Type 0) (x : X) → P x → All P (x ∷ [])
 all_one P x h zero d l = h

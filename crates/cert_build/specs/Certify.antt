@@ -50,11 +50,6 @@ IsBuildError set graphs (Unschedulable t) =
     × IsFirstWithoutWindow set (demand set (part_in parts) (longest_at set.platform graphs)) t.0
 IsBuildError set graphs e = HaveNoAnalyses set graphs e
 
--- the refusal of a certificate for want of windows
-abbrev pub window_build_error : WindowError → BuildError
-window_build_error window.Memory = Memory
-window_build_error (window.Unschedulable t) = Unschedulable t
-
 -- a certificate with these analyses, whatever its windows: each with its task's name, and as response its window and jitter
 pub record HasParts (set : TaskSet) (analyses : ℕ → Analysis) (c : Certificate) : Type 0 where
   pub platform : c.platform ≡ set.platform

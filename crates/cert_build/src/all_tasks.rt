@@ -13,7 +13,8 @@ ghost use Rattle.cert_model.specs.Ranges.{IsCertificate};
 ghost use Rattle.cert_build.specs.Best.{IsBest};
 ghost use Rattle.cert_build.specs.declared.one_task.Analysis.{Analysis};
 ghost use Rattle.cert_build.specs.Analysis.{IsAnalysis, KeepsRanges};
-ghost use Rattle.cert_build.specs.Assembly.{AreAnalysed, IsTaskError};
+ghost use Rattle.cert_build.specs.Assembly.{AreAnalysed};
+ghost use Rattle.cert_build.specs.Inner.Assembly.{IsTaskError};
 ghost use Rattle.cert_build.specs.Certify.{HaveNoAnalyses, IsBuildError};
 
 use crate::completed::complete;

@@ -5,7 +5,7 @@ ghost use Rattle.flat_graph.specs.Graph.{IsLeader};
 ghost use Rattle.flat_graph.specs.CodeGraph.{graph_of, places_of};
 ghost use Rattle.must_cache.specs.FirstWalks.{AreSureParts};
 ghost use Rattle.useful_sets.specs.Sets.{AreUseful};
-ghost use Rattle.cert_build.specs.Entries.{ListsSure, IsStateEntry, AreLeaderEntries};
+ghost use Rattle.cert_build.specs.Inner.Entries.{ListsSure, IsStateEntry, AreLeaderEntries};
 
 use crpd_base::{Items, NodeId, NodeState, SETS, SetBits, WORDS};
 use flat_graph::Graph;

@@ -5,8 +5,8 @@ use Rattle.std.proofs.lemmas.Bool.{cases_lt}
 use Rattle.cert_check.specs.declared.outcome.Clause.{Clause}
 use Rattle.cert_check.specs.declared.outcome.Clause.TheVariants.{Platforms, HasTask, Names, Last, Leaders, NodePotentials, LoopPotentials, Bound, Window, Response, Deadline}
 use Rattle.cert_check.specs.Verdict.{clause_number, clause_place, IsEarlierClause}
-use Rattle.cert_check.specs.FirstFailing.{IsFirstFailingWithin, AllHold, IsRangeJudged}
-use Rattle.cert_check.specs.JudgedNodes.{IsLeastFailing}
+use Rattle.cert_check.specs.Inner.FirstFailing.{IsFirstFailingWithin, AllHold, IsRangeJudged}
+use Rattle.cert_check.specs.Inner.JudgedNodes.{IsLeastFailing}
 
 module _ (H : Clause → Type 0) where
   -- first some clauses, which hold, then those of greater numbers

@@ -12,8 +12,8 @@ use Rattle.cert_check.specs.JudgeInput.{accesses_of}
 use Rattle.cert_check.specs.declared.outcome.Clause.{Clause}
 use Rattle.cert_check.specs.declared.outcome.Clause.TheVariants.{States, UsefulSets, TaskSets, Inequalities, Bound}
 use Rattle.cert_check.specs.Verdict.{clause_number, clause_place, GraphHolds}
-use Rattle.cert_check.specs.FirstFailing.{IsFirstFailingWithin, AllHold}
-use Rattle.cert_check.specs.JudgedNodes.{IsLeastFailing}
+use Rattle.cert_check.specs.Inner.FirstFailing.{IsFirstFailingWithin, AllHold}
+use Rattle.cert_check.specs.Inner.JudgedNodes.{IsLeastFailing}
 use Rattle.cert_check.proofs.Found.{IsOfNodes, found_first, then_found, node_fails, nodes_hold, fails_first, bound_holds}
 use Rattle.cert_check.proofs.Clauses.{tests_agree, same_meets}
 

@@ -14,8 +14,9 @@ use Rattle.cert_check.specs.JudgeInput.{window_at, certified_part, longest_at}
 use Rattle.cert_check.specs.declared.outcome.Clause.{Clause}
 use Rattle.cert_check.specs.declared.outcome.Clause.TheVariants.{Platforms, HasTask, Names, Last, Window, Response, Deadline}
 use Rattle.cert_check.specs.Verdict.{clause_number, clause_place, GraphHolds, TimesHold, ClauseHolds, IsJudged, No}
-use Rattle.cert_check.specs.FirstFailing.{IsFirstFailingWithin, AllHold}
-use Rattle.cert_check.specs.Times.{AreLongest, HigherHold}
+use Rattle.cert_check.specs.Inner.FirstFailing.{IsFirstFailingWithin, AllHold}
+use Rattle.cert_check.specs.Times.{AreLongest}
+use Rattle.cert_check.specs.Inner.Times.{HigherHold}
 use Rattle.cert_check.specs.TaskGraphs.{task_graph_at}
 use Rattle.cert_check.proofs.Found.{numbers}
 use Rattle.delay_count.proofs.Growth.{demand_same}

@@ -6,7 +6,7 @@ use Rattle.flat_graph.specs.Graph.{Graph, Edge}
 use Rattle.evict_sets.specs.Full.{Listed}
 use Rattle.evict_sets.specs.CacheClauses.{StatesMeet}
 use Rattle.evict_sets.specs.Listing.{IsChainOrder}
-use Rattle.cert_check.specs.JudgedNodes.{IsUsefulAt, IsLeastFailing}
+use Rattle.cert_check.specs.Inner.JudgedNodes.{IsUsefulAt, IsLeastFailing}
 use Rattle.cert_check.proofs.LeastSeen.{IsLeastSeen, SeenTo, SeenFrom, none_seen, finished}
 use Rattle.evict_sets.proofs.HitsTo.{BlocksTo}
 

@@ -1,7 +1,7 @@
 -- The least node at which a fact fails, found along an order of the nodes.
 use Rattle.std.proofs.Common.{◌≡◌, ◌≢◌, ◌↔◌, ℕ, ◌+◌, ◌<◌, ◌≤◌, min, Bool, true, false, if◌then◌else◌, IsTrue, refl, List, slice_index, sym, ap, ◌∙◌, subst, ⊎_elim, arith}
 use Rattle.std.proofs.lemmas.Bool.{cases_eq, cases_lt, false≢true}
-use Rattle.cert_check.specs.JudgedNodes.{IsLeastFailing}
+use Rattle.cert_check.specs.Inner.JudgedNodes.{IsLeastFailing}
 
 -- the least number of nodes seen at which the fact fails
 pub record IsLeastSeen (P : ℕ → Type 0) (seen : ℕ → Type 0) (size least : ℕ) : Type 0 where

@@ -7,7 +7,7 @@ use Rattle.loop_regions.specs.Potentials.{Costs, Potentials, item_potential}
 use Rattle.loop_regions.proofs.Potential.{item_law}
 use Rattle.loop_regions.proofs.Beside.{one_last}
 use Rattle.cert_check.specs.PotentialClauses.{PotentialsMeet}
-use Rattle.cert_check.specs.JudgedPotentials.{EdgePaid}
+use Rattle.cert_check.specs.Inner.JudgedPotentials.{EdgePaid}
 
 -- a region pays for its turns
 abbrev pub IsPaidTurns : Nest → Potentials → ℕ → Type 0

@@ -12,7 +12,7 @@ use Rattle.crpd_base.specs.declared.data.NodeState.{NodeState}
 use Rattle.evict_sets.specs.Listing.{IsEntryIndex}
 use Rattle.cert_check.specs.declared.outcome.Clause.{Clause}
 use Rattle.cert_check.specs.Verdict.{GraphHolds, ClauseHolds}
-use Rattle.cert_check.specs.FirstFailing.{IsRangeJudged}
+use Rattle.cert_check.specs.Inner.FirstFailing.{IsRangeJudged}
 use Rattle.cert_check.proofs.Found.{found_as}
 use Rattle.cert_check.proofs.Judgements.{graph_same}
 

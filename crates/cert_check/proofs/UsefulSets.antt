@@ -10,7 +10,7 @@ use Rattle.flat_graph.specs.Graph.{Graph, Edge}
 use Rattle.evict_sets.specs.Full.{Listed, FullUseful, listed_useful, used, used_later, IsHit}
 use Rattle.evict_sets.specs.CacheClauses.{UsefulMeets, SetsMeet}
 use Rattle.evict_sets.proofs.FullLaws.{unlisted_useful_law}
-use Rattle.cert_check.specs.JudgedNodes.{IsUsefulAt, IsUsefulBehind, IsUsefulBy}
+use Rattle.cert_check.specs.Inner.JudgedNodes.{IsUsefulAt, IsUsefulBehind, IsUsefulBy}
 use Rattle.flat_graph.proofs.Nexts.{place_of, edge_at}
 
 -- membership as a number and as a test

@@ -6,9 +6,9 @@ ghost use Rattle.loop_regions.specs.CodeNest.{CodeNest, IsNestOf};
 ghost use Rattle.evict_sets.specs.ListedPart.{listed_of};
 ghost use Rattle.evict_sets.specs.Listing.{CountsHits, HasLowSets, IsEntryIndex, IsListing, IsChainOrder, counted, node_accesses};
 ghost use Rattle.cert_check.specs.TaskGraphs.{task_graph};
-ghost use Rattle.cert_check.specs.JudgedPotentials.{HasAllPotentials};
+ghost use Rattle.cert_check.specs.Inner.JudgedPotentials.{HasAllPotentials};
 ghost use Rattle.cert_check.specs.Verdict.{GraphHolds};
-ghost use Rattle.cert_check.specs.FirstFailing.{IsRangeJudged};
+ghost use Rattle.cert_check.specs.Inner.FirstFailing.{IsRangeJudged};
 
 use crate::lists::{are_nodes, lists_leaders};
 use crate::outcome::Clause;

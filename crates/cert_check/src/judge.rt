@@ -5,7 +5,8 @@ ghost use Rattle.delay_count.specs.Demand.{HasLongest};
 ghost use Rattle.cert_check.specs.declared.outcome.Clause.{Clause};
 ghost use Rattle.cert_check.specs.Verdict.{ClauseHolds, IsJudged};
 ghost use Rattle.cert_check.specs.TaskGraphs.{task_graph_at, AreTaskGraphs, IsCertificateInRange};
-ghost use Rattle.cert_check.specs.FirstFailing.{answer_of, IsRangeJudged};
+ghost use Rattle.cert_check.specs.FirstFailing.{answer_of};
+ghost use Rattle.cert_check.specs.Inner.FirstFailing.{IsRangeJudged};
 ghost use Rattle.cert_check.specs.Times.{AreLongest};
 
 use crate::graphs::graph_failure;

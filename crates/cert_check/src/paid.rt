@@ -7,8 +7,8 @@ ghost use Rattle.loop_regions.specs.Nest.{Item, IsItem, Leaves};
 ghost use Rattle.loop_regions.specs.Potentials.{item_potential};
 ghost use Rattle.cert_check.specs.ListedPotentials.{potentials_of};
 ghost use Rattle.cert_check.specs.PotentialClauses.{PotentialsMeet, BoundMeets};
-ghost use Rattle.cert_check.specs.JudgedNodes.{IsLeastFailing, counted};
-ghost use Rattle.cert_check.specs.JudgedPotentials.{HasAllPotentials, costs_at, EdgePaid};
+ghost use Rattle.cert_check.specs.Inner.JudgedNodes.{IsLeastFailing, counted};
+ghost use Rattle.cert_check.specs.Inner.JudgedPotentials.{HasAllPotentials, costs_at, EdgePaid};
 
 use crate::least::at_most;
 use crpd_base::{NodeId, Platform, TaskPart};

@@ -6,7 +6,7 @@ ghost use Rattle.evict_sets.specs.Full.{FullState};
 ghost use Rattle.evict_sets.specs.CacheClauses.{StateAfter, StatesMeet};
 ghost use Rattle.evict_sets.specs.ListedPart.{block_of_set, listed_of};
 ghost use Rattle.evict_sets.specs.Listing.{IsListing, IsChainOrder, IsStateAfter, node_accesses};
-ghost use Rattle.cert_check.specs.JudgedNodes.{IsLeastFailing};
+ghost use Rattle.cert_check.specs.Inner.JudgedNodes.{IsLeastFailing};
 
 use crate::least::least_failing;
 use crpd_base::{NodeId, SETS};

@@ -9,8 +9,9 @@ ghost use Rattle.evict_sets.specs.Longest.{longest};
 ghost use Rattle.delay_count.specs.Demand.{HasLongest};
 ghost use Rattle.cert_check.specs.declared.outcome.Clause.TheVariants.{Window};
 ghost use Rattle.cert_check.specs.Verdict.{ClauseHolds, TimesHold};
-ghost use Rattle.cert_check.specs.FirstFailing.{IsRangeJudged};
-ghost use Rattle.cert_check.specs.Times.{AreLongest, HigherHold};
+ghost use Rattle.cert_check.specs.Inner.FirstFailing.{IsRangeJudged};
+ghost use Rattle.cert_check.specs.Times.{AreLongest};
+ghost use Rattle.cert_check.specs.Inner.Times.{HigherHold};
 
 use crate::least::at_most;
 use crate::outcome::Clause;

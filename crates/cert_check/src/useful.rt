@@ -7,7 +7,7 @@ ghost use Rattle.evict_sets.specs.Full.{IsHit};
 ghost use Rattle.evict_sets.specs.CacheClauses.{UsefulMeets, SetsMeet};
 ghost use Rattle.evict_sets.specs.ListedPart.{listed_of};
 ghost use Rattle.evict_sets.specs.Listing.{CountsHits, IsListing, IsChainOrder, counted, node_accesses};
-ghost use Rattle.cert_check.specs.JudgedNodes.{IsUsefulAt, IsUsefulBehind, IsUsefulBy, IsLeastFailing};
+ghost use Rattle.cert_check.specs.Inner.JudgedNodes.{IsUsefulAt, IsUsefulBehind, IsUsefulBy, IsLeastFailing};
 
 use crate::changed::{covers, with_member};
 use crate::least::least_failing;

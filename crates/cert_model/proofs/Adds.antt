@@ -10,7 +10,7 @@ use Rattle.json.specs.Written.{Written, Writes}
 use Rattle.serde_json.specs.Data.{Data, array}
 use Rattle.serde_json.specs.View.{items_of}
 use Rattle.serde_json.specs.Written.{items_outline}
-use Rattle.cert_model.specs.Tokens.{Adds, tokens_of, tokens_by}
+use Rattle.cert_model.specs.Inner.Tokens.{Adds, tokens_of, tokens_by}
 use Rattle.cert_model.specs.Writing.{pair_items}
 
 pub none : (a : Written) → Adds a a []

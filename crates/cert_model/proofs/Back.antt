@@ -28,7 +28,8 @@ use Rattle.cert_model.specs.Keys.{value_at_key, value_or_bad, required}
 use Rattle.cert_model.specs.Kinds as kind
 use Rattle.crpd_base.specs.Names.{is_between, is_line_length, is_name, method_name}
 use Rattle.cert_model.specs.Kinds.{whole, below, all_of, listed, rising, words_of, is_in, pair, pairs_from, state_of, states_from}
-use Rattle.cert_model.specs.Ranges.{RiseFrom, IsState, ArePotentials, IsTaskPart, AreTasks, HasSetWords, IsCertificate}
+use Rattle.cert_model.specs.Ranges.{RiseFrom, IsState, ArePotentials, IsTaskPart, AreTasks, IsCertificate}
+use Rattle.cert_model.specs.Inner.Ranges.{HasSetWords}
 use Rattle.cert_model.specs.Reading.{cycles, version_at, second_platform, fields_at, task_at, tasks_at, entries, within_entry_limit, certificate_at}
 use Rattle.cert_model.specs.Writing as write
 use Rattle.cert_model.specs.Writing.{whole_number, numbers_below, platform_members, task_members, certificate_members}

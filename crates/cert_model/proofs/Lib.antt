@@ -1,9 +1,9 @@
-pub mod Back
-pub mod Adds
-pub mod Next
-pub mod Pairs
+mod Back
+mod Adds
+mod Next
+mod Pairs
 pub mod Ranged
-pub mod Trees
-pub mod Rising
-pub mod Seen
-pub mod Texts
+mod Trees
+mod Rising
+mod Seen
+mod Texts

@@ -9,7 +9,7 @@ use Rattle.std.proofs.lemmas.Bool.{cases_lt}
 use mir.Syntax.{w64}
 use Rattle.json.specs.Written.{Written}
 use Rattle.crpd_base.specs.Sets.{member}
-use Rattle.cert_model.specs.Tokens.{Adds, IsNextMember, NoneInWord, tokens_of, tokens_by}
+use Rattle.cert_model.specs.Inner.Tokens.{Adds, IsNextMember, NoneInWord, tokens_of, tokens_by}
 use Rattle.cert_model.specs.Writing.{whole_number, numbers_below}
 use Rattle.cert_model.proofs.Adds.{none, then}
 

@@ -18,7 +18,7 @@ use Rattle.crpd_base.specs.declared.data.NodeState.{NodeState}
 use Rattle.crpd_base.specs.declared.data.Platform.{Platform}
 use Rattle.crpd_base.specs.declared.data.TaskPart.{TaskPart}
 use Rattle.cert_model.specs.Ranges.{RiseFrom, IsState, ArePotentials, IsTaskPart, IsCertificate}
-use Rattle.cert_model.specs.Tokens.{tokens_of}
+use Rattle.cert_model.specs.Inner.Tokens.{tokens_of}
 use Rattle.cert_model.specs.Writing.{whole_number, numbers_data, numbers_below, set_data, pair_items, state_data, task_data, platform_members, task_members, certificate_members}
 use Rattle.cert_model.proofs.Back.{below_rise}
 

@@ -2,5 +2,5 @@ pub mod Kinds
 pub mod Keys
 pub mod Ranges
 pub mod Reading
-pub mod Tokens
 pub mod Writing
+pub mod Inner

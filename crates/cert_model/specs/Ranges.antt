@@ -1,7 +1,6 @@
 -- The ranges of a certificate: those that a certificate which was read keeps, and within which one that is written reads back.
 use Rattle.std.specs.Prelude.{◌≡◌, ℕ, ◌+◌, ◌<◌, ◌≤◌, ◌^◌, List, [], ◌∷◌, length, All, true}
 use Rattle.crpd_base.specs.Ranges.{IsPlatform}
-use Rattle.crpd_base.specs.Sets.{AreWords}
 use Rattle.crpd_base.specs.declared.data.Certificate.{Certificate}
 use Rattle.crpd_base.specs.declared.data.NodeState.{NodeState}
 use Rattle.crpd_base.specs.declared.data.TaskPart.{TaskPart}
@@ -37,12 +36,6 @@ pub record IsTaskPart (t : TaskPart) : Type 0 where
   pub nodes : RiseFrom (λ (s : NodeState). s.node) 0 16384 t.states
   pub states : All IsState t.states
   pub window : t.window ≤ 2 ^ 40
-
--- the sets of a task are sets of numbers below 512
-pub record HasSetWords (t : TaskPart) : Type 0 where
-  pub evicting : AreWords 8 t.part.evicting
-  pub useful : AreWords 8 t.part.useful
-  pub states : All (λ (s : NodeState). AreWords 8 s.useful) t.states
 
 -- 1 to 32 tasks
 pub record AreTasks (tasks : List TaskPart) : Type 0 where

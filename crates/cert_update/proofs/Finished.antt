@@ -26,7 +26,7 @@ use Rattle.cert_build.proofs.Counting.{entries_map}
 use Rattle.cert_build.proofs.Certified.{beside as with_others, entries_are, in_ranges, in_deadlines}
 use Rattle.cert_update.specs.Unchanged.{Side}
 use Rattle.cert_update.specs.Update.{IsUpdate, IsUpdatedPart, AreChangedTasks, AreUpdatedParts}
-use Rattle.cert_update.specs.Parts.{AreNewParts}
+use Rattle.cert_update.specs.Inner.Parts.{AreNewParts}
 use Rattle.cert_update.specs.Laws.{HasCodes}
 use Rattle.cert_update.specs.Answer.{IsUpdated, HasNoWindowAt}
 use Rattle.cert_update.proofs.NewParts.{bare, at_bare, bare_parts}

@@ -5,9 +5,9 @@ ghost use Rattle.cert_check.specs.TaskGraphs.{AreTaskGraphs};
 ghost use Rattle.cert_model.specs.Ranges.{IsCertificate};
 ghost use Rattle.cert_build.specs.Assembly.{entries_of};
 ghost use Rattle.cert_update.specs.Laws.{HasCodes};
-ghost use Rattle.cert_update.specs.Coded.{coded_side};
-ghost use Rattle.cert_update.specs.Sources.{IsSourceTask, AreSourceTasks};
-ghost use Rattle.cert_update.specs.Parts.{IsNewPart, AreNewParts, IsPartError};
+ghost use Rattle.cert_update.specs.Inner.Coded.{coded_side};
+ghost use Rattle.cert_update.specs.Inner.Sources.{IsSourceTask, AreSourceTasks};
+ghost use Rattle.cert_update.specs.Inner.Parts.{IsNewPart, AreNewParts, IsPartError};
 ghost use Rattle.cert_update.specs.Answer.{IsUpdateError};
 
 use crate::coded::Change;

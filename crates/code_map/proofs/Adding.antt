@@ -9,10 +9,11 @@ use Rattle.std.proofs.lemmas.List.Elements.{All-push}
 use Rattle.std.proofs.lemmas.Bool.{cases_lt}
 use Rattle.code_map.specs.declared.pieces.Piece.{Piece}
 use Rattle.code_map.specs.declared.runs.Run.{Run}
-use Rattle.code_map.specs.Conflicts.{differ, IsFirstPassing}
-use Rattle.code_map.specs.Joined.{HasPiece, TakesPiece}
-use Rattle.code_map.specs.Pieces.{piece_byte}
-use Rattle.code_map.specs.Runs.{run_byte, runs_byte, run_end, IsRunBefore}
+use Rattle.code_map.specs.Conflicts.{differ}
+use Rattle.code_map.specs.Inner.Conflicts.{IsFirstPassing}
+use Rattle.code_map.specs.Inner.Joined.{HasPiece, TakesPiece}
+use Rattle.code_map.specs.Inner.Pieces.{piece_byte}
+use Rattle.code_map.specs.Inner.Runs.{run_byte, runs_byte, run_end, IsRunBefore}
 use Rattle.code_map.proofs.First.{found_append, found_none, or_assoc, or_nothing}
 use Rattle.code_map.proofs.Found.{before_none, past_none}
 

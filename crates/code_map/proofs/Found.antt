@@ -8,7 +8,7 @@ use Rattle.std.proofs.lemmas.Bool.{le-leb, ne_eqb, cases_lt}
 use Rattle.std.proofs.lemmas.Option.{none-some, slice_get_past, slice_get_within}
 use Rattle.code_map.specs.declared.runs.Run.{Run}
 use Rattle.code_map.specs.Words.{byte_from, little_endian, word_by, end}
-use Rattle.code_map.specs.Runs.{run_byte, runs_byte, run_end, IsRunBefore}
+use Rattle.code_map.specs.Inner.Runs.{run_byte, runs_byte, run_end, IsRunBefore}
 use Rattle.code_map.proofs.First.{found_none, found_only}
 
 abbrev pub blank : Run

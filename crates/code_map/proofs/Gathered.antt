@@ -2,7 +2,7 @@
 use Rattle.std.proofs.Common.{◌≡◌, ℕ, ◌+◌, ◌<◌, List, [], ◌∷◌, ◌++◌, length, get_or, take, ap, sym, ◌∙◌, append_assoc}
 use Rattle.std.proofs.lemmas.List.{append-nil, take_more}
 use Rattle.crpd_base.specs.declared.data.Image.{Image}
-use Rattle.code_map.specs.Pieces.{all_pieces, pieces_of}
+use Rattle.code_map.specs.Inner.Pieces.{all_pieces, pieces_of}
 
 pieces_more : (is : List Image) (i : Image) → all_pieces (is ++ i ∷ []) ≡ all_pieces is ++ pieces_of i
 pieces_more [] i = append-nil (pieces_of i)

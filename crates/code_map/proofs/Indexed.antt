@@ -14,9 +14,10 @@ use Rattle.crpd_base.specs.declared.data.Segment.{Segment}
 use Rattle.code_map.specs.declared.joined.Joined.{Joined}
 use Rattle.code_map.specs.declared.pieces.Piece.{Piece}
 use Rattle.code_map.specs.declared.runs.Run.{Run}
-use Rattle.code_map.specs.Conflicts.{disagree, first_conflict, is_conflict, IsFirstPassing, IsLeastPassing, least_below}
-use Rattle.code_map.specs.Pieces.{HasBytes, all_pieces, piece_byte, piece_of, pieces_of, piece_content}
-use Rattle.code_map.specs.Runs.{runs_byte, IsRunBefore, IsByteIndex}
+use Rattle.code_map.specs.Conflicts.{disagree, first_conflict, is_conflict, least_below}
+use Rattle.code_map.specs.Inner.Conflicts.{IsFirstPassing, IsLeastPassing}
+use Rattle.code_map.specs.Inner.Pieces.{HasBytes, all_pieces, piece_byte, piece_of, pieces_of, piece_content}
+use Rattle.code_map.specs.Inner.Runs.{runs_byte, IsRunBefore, IsByteIndex}
 use Rattle.code_map.specs.Words.{byte_from, code_byte, find_map, image_byte, segment_byte}
 use Rattle.code_map.proofs.First.{found_some, or_nothing}
 use Rattle.code_map.proofs.Sweep.{no_piece, same_never}

@@ -9,8 +9,8 @@ use Rattle.code_map.proofs.Has.{has_found}
 use Rattle.code_map.proofs.Indexed.{byte_below, no_image}
 use Rattle.code_map.specs.declared.files.Files.TheInside.{Inside}
 use Rattle.code_map.specs.declared.runs.Run.{Run}
-use Rattle.code_map.specs.StoredFiles.{AreStoredFiles}
-use Rattle.code_map.specs.Runs.{runs_byte, IsRunBefore, IsByteIndex}
+use Rattle.code_map.specs.Inner.StoredFiles.{AreStoredFiles}
+use Rattle.code_map.specs.Inner.Runs.{runs_byte, IsRunBefore, IsByteIndex}
 use Rattle.code_map.specs.Words.{code_byte, image_byte, little_endian, owns, word_at, word_by, end}
 
 pub word_same : (f g : ℕ → Option ℕ) (a : ℕ) → ((x : ℕ) → f x ≡ g x) → word_by f a ≡ word_by g a

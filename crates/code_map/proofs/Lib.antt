@@ -1,14 +1,14 @@
-pub mod First
-pub mod Found
+mod First
+mod Found
 pub mod KeptWords
-pub mod Adding
-pub mod Sweep
-pub mod Gathered
+mod Adding
+mod Sweep
+mod Gathered
 pub mod Has
 pub mod Indexed
-pub mod Valued
-pub mod Turns
-pub mod Planned
-pub mod Meaning
-pub mod NextWord
+mod Valued
+mod Turns
+mod Planned
+mod Meaning
+mod NextWord
 mod Rows

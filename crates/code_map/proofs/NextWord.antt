@@ -11,10 +11,11 @@ use Rattle.crpd_base.specs.Images.{IsImage}
 use Rattle.crpd_base.specs.declared.data.Image.{Image}
 use Rattle.code_map.specs.declared.files.Files.TheInside.{Inside}
 use Rattle.code_map.specs.declared.runs.Run.{Run}
-use Rattle.code_map.specs.StoredFiles.{AreStoredFiles}
-use Rattle.code_map.specs.NextPassing.{IsNextPassing, IsNextOf, IsNextAddress}
+use Rattle.code_map.specs.Inner.StoredFiles.{AreStoredFiles}
+use Rattle.code_map.specs.NextPassing.{IsNextPassing, IsNextOf}
+use Rattle.code_map.specs.Inner.NextPassing.{IsNextAddress}
 use Rattle.code_map.specs.Words.{byte_from, image_byte, little_endian, owns, word_by, end}
-use Rattle.code_map.specs.Runs.{run_byte, runs_byte, has_word, have_word, run_end, IsRunBefore, IsByteIndex}
+use Rattle.code_map.specs.Inner.Runs.{run_byte, runs_byte, has_word, have_word, run_end, IsRunBefore, IsByteIndex}
 use Rattle.code_map.proofs.First.{found_some}
 use Rattle.code_map.proofs.Found.{ascending, blank, get_or_same, number_of_run, some_within, word_there}
 use Rattle.code_map.proofs.Has.{equals_some, equals}

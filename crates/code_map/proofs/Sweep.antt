@@ -10,10 +10,11 @@ use Rattle.std.proofs.lemmas.Bool.{cases_lt}
 use Rattle.crpd_base.proofs.Options.{none_or_some}
 use Rattle.code_map.specs.declared.pieces.Piece.{Piece}
 use Rattle.code_map.specs.declared.runs.Run.{Run}
-use Rattle.code_map.specs.Conflicts.{differ, disagree, IsFirstPassing}
-use Rattle.code_map.specs.Joined.{HasPiece, TakesPiece, lesser}
-use Rattle.code_map.specs.Pieces.{piece_byte}
-use Rattle.code_map.specs.Runs.{runs_byte, IsRunBefore}
+use Rattle.code_map.specs.Conflicts.{differ, disagree}
+use Rattle.code_map.specs.Inner.Conflicts.{IsFirstPassing}
+use Rattle.code_map.specs.Inner.Joined.{HasPiece, TakesPiece, lesser}
+use Rattle.code_map.specs.Inner.Pieces.{piece_byte}
+use Rattle.code_map.specs.Inner.Runs.{runs_byte, IsRunBefore}
 use Rattle.code_map.specs.Words.{find_map}
 use Rattle.code_map.proofs.First.{found_append, or_nothing, or_none}
 use Rattle.code_map.proofs.Adding.{differ_none, first_same}

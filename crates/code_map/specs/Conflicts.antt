@@ -1,5 +1,5 @@
 -- Addresses at which files have different code bytes. Tasks that name one file have one image, so they never do.
-use Rattle.std.specs.Prelude.{◌≡◌, ℕ, ◌^◌, ◌<◌, ◌==◌, Bool, true, false, not, List, zero, suc, Option, Some, None, MatchOption, if◌then◌else◌}
+use Rattle.std.specs.Prelude.{ℕ, ◌^◌, ◌==◌, Bool, false, not, List, zero, suc, Option, Some, None, if◌then◌else◌}
 use Rattle.std.specs.Option.{option_or}
 use Rattle.std.specs.List.{list_any}
 use Rattle.crpd_base.specs.declared.data.Image.{Image}
@@ -27,12 +27,3 @@ least_below (suc n) p = option_or (least_below n p) (if p n then Some n else Non
 -- the least address at which the files have different code bytes
 unfoldable pub first_conflict : List Image → Option ℕ
 first_conflict images = least_below (2 ^ 32) (is_conflict images)
-
--- a is the least number that passes a test
-pub record IsLeastPassing (p : ℕ → Bool) (a : ℕ) : Type 0 where
-  pub passes : p a ≡ true
-  pub least : (b : ℕ) → b < a → p b ≡ false
-
--- the least number that passes a test, where one does
-abbrev pub IsFirstPassing : (ℕ → Bool) → Option ℕ → Type 0
-IsFirstPassing p o = MatchOption o ((a : ℕ) → p a ≡ false) (IsLeastPassing p)

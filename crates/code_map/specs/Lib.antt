@@ -1,10 +1,7 @@
 pub mod Conflicts
-pub mod Joined
-pub mod StoredFiles
 pub mod NextPassing
-pub mod Pieces
 pub mod Places
 pub mod Reading
-pub mod Runs
 pub mod Words
 pub mod Values
+pub mod Inner

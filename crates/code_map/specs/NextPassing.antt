@@ -1,5 +1,5 @@
 -- The least number from a start on that passes a test.
-use Rattle.std.specs.Prelude.{◌≡◌, ℕ, ◌<◌, ◌≤◌, ◌^◌, Bool, true, false, Option, MatchOption}
+use Rattle.std.specs.Prelude.{◌≡◌, ℕ, ◌<◌, ◌≤◌, Bool, true, false, Option, MatchOption}
 
 -- a is the least number from a start on that passes a test
 pub record IsNextPassing (p : ℕ → Bool) (start a : ℕ) : Type 0 where
@@ -10,7 +10,3 @@ pub record IsNextPassing (p : ℕ → Bool) (start a : ℕ) : Type 0 where
 -- the least number from a start on that passes a test, where one does
 abbrev pub IsNextOf : (ℕ → Bool) → ℕ → Option ℕ → Type 0
 IsNextOf p start o = MatchOption o ((a : ℕ) → start ≤ a → p a ≡ false) (IsNextPassing p start)
-
--- the least address from a start on that passes a test, where one does
-abbrev pub IsNextAddress : (ℕ → Bool) → ℕ → Option ℕ → Type 0
-IsNextAddress p start o = MatchOption o ((a : ℕ) → start ≤ a → a < 2 ^ 32 → p a ≡ false) (IsNextPassing p start)

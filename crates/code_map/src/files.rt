@@ -6,7 +6,7 @@ ghost use Rattle.code_map.specs.declared.runs.Run.{Run};
 ghost use Rattle.crpd_base.specs.Outcome.{Gives};
 ghost use Rattle.code_map.specs.Reading.{files_of};
 ghost use Rattle.code_map.specs.NextPassing.{IsNextOf};
-ghost use Rattle.code_map.specs.Runs.{IsByteIndex};
+ghost use Rattle.code_map.specs.Inner.Runs.{IsByteIndex};
 ghost use Rattle.code_map.specs.Words.{image_byte, word_at, owns, end};
 
 use crate::fault::MapError;
@@ -31,7 +31,7 @@ impl Model for Files {
 
     ghost Value = { List Image };
 
-    ghost use Rattle.code_map.specs.StoredFiles.{AreStoredFiles};
+    ghost use Rattle.code_map.specs.Inner.StoredFiles.{AreStoredFiles};
 
     ghost view = { λ f. f.images };
 

@@ -2,7 +2,7 @@
 ghost use Rattle.std.specs.Prelude.{◌≡◌, ◌<◌, ℕ, All, AllPairs, None, Some, IfOk, OnOk};
 ghost use Rattle.crpd_base.specs.Images.{IsImage};
 ghost use Rattle.code_map.specs.Conflicts.{first_conflict};
-ghost use Rattle.code_map.specs.Runs.{IsRunBefore, IsByteIndex};
+ghost use Rattle.code_map.specs.Inner.Runs.{IsRunBefore, IsByteIndex};
 ghost use Rattle.code_map.specs.Words.{code_byte};
 
 use crate::joined::{Joined, join};

@@ -2,11 +2,12 @@
 ghost use Rattle.std.specs.Prelude.{◌≡◌, ◌≢◌, ℕ, ◌+◌, ◌<◌, ◌≤◌, ◌^◌, ◌++◌, ◌∷◌, [], length, slice_index, All, AllPairs, IfOk, OnOk, MatchOption, nat_le};
 ghost use Rattle.std.specs.Option.{option_or};
 ghost use Rattle.std.specs.List.Sorted.{IsNonDecreasingBy};
-ghost use Rattle.code_map.specs.Conflicts.{differ, disagree, IsFirstPassing};
-ghost use Rattle.code_map.specs.Joined as spec;
-ghost use Rattle.code_map.specs.Joined.{HasPiece, IsFirstDifference, TakesPiece};
-ghost use Rattle.code_map.specs.Pieces.{piece_byte};
-ghost use Rattle.code_map.specs.Runs.{run_byte, runs_byte, run_end, IsRunBefore};
+ghost use Rattle.code_map.specs.Conflicts.{differ, disagree};
+ghost use Rattle.code_map.specs.Inner.Conflicts.{IsFirstPassing};
+ghost use Rattle.code_map.specs.Inner.Joined as spec;
+ghost use Rattle.code_map.specs.Inner.Joined.{HasPiece, IsFirstDifference, TakesPiece};
+ghost use Rattle.code_map.specs.Inner.Pieces.{piece_byte};
+ghost use Rattle.code_map.specs.Inner.Runs.{run_byte, runs_byte, run_end, IsRunBefore};
 ghost use Rattle.code_map.specs.Words.{find_map};
 
 use crate::pieces::Piece;

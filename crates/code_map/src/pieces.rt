@@ -2,7 +2,7 @@
 ghost use Rattle.std.specs.Prelude.{◌≡◌, ◌+◌, ◌≤◌, ◌^◌, ◌++◌, length, map, All, IfOk, OnOk};
 ghost use Rattle.std.specs.List.Sorted.{IsNonDecreasingBy, IsPermutation};
 ghost use Rattle.crpd_base.specs.Images.{IsImage};
-ghost use Rattle.code_map.specs.Pieces.{pieces_of, all_pieces, piece_content, HasBytes};
+ghost use Rattle.code_map.specs.Inner.Pieces.{pieces_of, all_pieces, piece_content, HasBytes};
 
 use crpd_base::Image;
 use std::alloc::{AllocError, Global};

@@ -2,8 +2,8 @@
 ghost use Rattle.std.specs.Prelude.{◌≡◌, ℕ, ◌+◌, ◌*◌, ◌<◌, ◌≤◌, length, slice_index, AllPairs, Some, IfSome};
 ghost use Rattle.std.specs.List.{AllWithin};
 ghost use Rattle.code_map.specs.Words.{little_endian, word_by, end};
-ghost use Rattle.code_map.specs.NextPassing.{IsNextAddress};
-ghost use Rattle.code_map.specs.Runs.{run_byte, runs_byte, has_word, have_word, IsRunBefore};
+ghost use Rattle.code_map.specs.Inner.NextPassing.{IsNextAddress};
+ghost use Rattle.code_map.specs.Inner.Runs.{run_byte, runs_byte, has_word, have_word, IsRunBefore};
 
 use crpd_base::Items;
 

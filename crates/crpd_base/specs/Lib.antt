@@ -7,3 +7,4 @@ pub mod Sum
 pub mod Ranges
 pub mod Tasks
 pub mod Outcome
+pub mod Inner

@@ -1,13 +1,13 @@
 pub mod Each
-pub mod OwnImages
+mod OwnImages
 pub mod Given
-pub mod Below
+mod Below
 pub mod Chain
 pub mod OneGraph
 pub mod OneNest
 pub mod OneJudgement
 pub mod Plans
-pub mod Nests
-pub mod Bounds
+mod Nests
+mod Bounds
 pub mod Built
 pub mod SameTask

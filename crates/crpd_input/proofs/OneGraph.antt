@@ -18,7 +18,8 @@ use Rattle.flat_graph.specs.CodeGraph.{CodeGraph, IsCodeGraph, graph_of, no_node
 use Rattle.flat_graph.specs.Numbered.{ArePlaces, IsFlatGraph}
 use Rattle.flat_graph.specs.FlatGraph.{FlatNode, NodeError, IsNode, IsNumberedBefore, IsNumbering, IsGraphRefused, GraphRefusal, TooManyNodes, AtNode, ins_error, error_of, successors}
 use Rattle.flat_graph.specs.FlatGraph as flat
-use Rattle.flat_graph.specs.GraphErrors.{IsGraphError, graph_error}
+use Rattle.flat_graph.specs.GraphErrors.{IsGraphError}
+use Rattle.flat_graph.specs.Inner.GraphErrors.{graph_error}
 use Rattle.flat_graph.specs.declared.fault.GraphError.{GraphError}
 use Rattle.flat_graph.specs.declared.fault.GraphError.TheVariants as graph
 use Rattle.crpd_input.specs.declared.input.Input.{Input}

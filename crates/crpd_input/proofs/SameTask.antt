@@ -13,7 +13,7 @@ use Rattle.cert_check.specs.TaskGraphs.{AreTaskGraphs, no_nest}
 use Rattle.crpd_input.specs.declared.input.Input.{Input}
 use Rattle.crpd_input.specs.declared.shapes.Shapes.{Shapes}
 use Rattle.crpd_input.specs.Graphs.{GraphAt, GraphsIn, RegionsAt, RegionsIn}
-use Rattle.crpd_input.specs.SameTask.{IsSameTask}
+use Rattle.crpd_input.specs.Inner.SameTask.{IsSameTask}
 use Rattle.crpd_input.specs.Shapes.{ShapesIn}
 use Rattle.crpd_input.proofs.OneGraph.{one_graph_at}
 

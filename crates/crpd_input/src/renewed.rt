@@ -4,7 +4,7 @@ ghost use Rattle.flat_graph.specs.CodeGraph.{graph_at};
 ghost use Rattle.cert_check.specs.TaskGraphs.{AreTaskGraphs};
 ghost use Rattle.loop_regions.specs.CodeNest.{IsNestOf};
 ghost use Rattle.crpd_input.specs.Graphs.{GraphAt, GraphsIn, HasBoundedLoops, RegionsAt, RegionsIn};
-ghost use Rattle.crpd_input.specs.SameTask.{AreSources, IsSource};
+ghost use Rattle.crpd_input.specs.Inner.SameTask.{AreSources, IsSource};
 ghost use Rattle.crpd_input.specs.Shapes.{ShapesIn};
 ghost use Rattle.crpd_input.specs.Steps.{MeansBy};
 

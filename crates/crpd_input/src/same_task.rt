@@ -1,6 +1,6 @@
 // Which tasks of a set have the graph and the stated loops of a task of another set.
 ghost use Rattle.std.specs.Prelude.{◌≡◌, ◌↔◌, ◌<◌, ◌≤◌, length, IfOk, IfSome, IsTrue};
-ghost use Rattle.crpd_input.specs.SameTask.{AreSources, IsSameTask, IsSource, place_of_name};
+ghost use Rattle.crpd_input.specs.Inner.SameTask.{AreSources, IsSameTask, IsSource, place_of_name};
 
 use crate::code::task_name;
 use crate::input::Input;

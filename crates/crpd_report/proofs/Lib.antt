@@ -1,5 +1,5 @@
-pub mod Hexadecimal
-pub mod Addresses
+mod Hexadecimal
+mod Addresses
 mod Zipped
 mod Lines
 mod CertifiedDelays

@@ -1,8 +1,6 @@
 -- What the command words ask for.
 use Rattle.std.specs.Prelude.{ℕ, Bool, ◌&&◌, List, [], length, codes, nat_eq, slice_index_or, Option, Some, None, option_map, if◌then◌else◌}
 use Rattle.std.specs.Str.{bytes_eq}
-use Rattle.crpd_tool.specs.declared.command.Command.{Command as Code}
-use Rattle.crpd_tool.specs.declared.command.Command.TheVariants.{Check, List as Listing, Simulate, Sets, Analyze, Explain, Classic, Slack, Update, Generate}
 use Rattle.crpd_tool.specs.Numbers.{command_number}
 
 -- a command with its files; each further command is a constructor here, a line in `command_of`, and a case of
@@ -40,21 +38,3 @@ command_of words =
     else if has_form (codes "generate") 2 words then option_map generate (command_number (command_word 1 words))
     else if has_form (codes "explain") 4 words then Some (explain (command_word 1 words) (command_word 2 words) (command_word 3 words))
     else None
-
--- the command that the code's value stands for
-abbrev pub meant_by : Code → Command
-meant_by (Check set certificate) = check set.now certificate.now
-meant_by (Listing set name) = list set.now name.now
-meant_by (Simulate set script) = simulate set.now script.now
-meant_by (Sets set) = sets set.now
-meant_by (Analyze set) = analyze set.now
-meant_by (Classic set) = classic set.now
-meant_by (Slack set) = slack set.now
-meant_by (Update old_set old_certificate new_set) = update old_set.now old_certificate.now new_set.now
-meant_by (Generate seed) = generate seed.number
-meant_by (Explain set certificate script) = explain set.now certificate.now script.now
-
--- the command names no file
-abbrev pub NamesNoFile : Command → Type 0
-NamesNoFile (generate n) = Unit {0}
-NamesNoFile _ = ⊥

@@ -1,6 +1,6 @@
 -- What the program writes and with which status, for its words and the contents of the files.
 use Rattle.std.specs.Prelude.{◌≡◌, ℕ, List, [], Option, MatchOption, Result, Ok, Err}
-use Rattle.crpd_io.specs.Outside.{Contents, Rose, AppendsPrefix, output_after}
+use Rattle.crpd_io.specs.Outside.{Contents, AppendsPrefix, output_after}
 use Rattle.crpd_input.specs.Steps.{Exactly}
 use Rattle.crpd_input.specs.declared.halt.Halt.{Halt}
 use Rattle.crpd_input.specs.declared.halt.Halt.TheVariants.{Refused, Memory, Fault}
@@ -80,23 +80,6 @@ IsWhole exit.BadWords = Unit {0}
 IsWhole exit.ReadFault = ⊥
 IsWhole exit.WriteFault = ⊥
 IsWhole exit.NoMemory = ⊥
-
--- the statuses with which writing a text ends
-abbrev pub IsWritten : Status → Type 0
-IsWritten exit.Done = Unit {0}
-IsWritten exit.No = Unit {0}
-IsWritten exit.Refused = Unit {0}
-IsWritten exit.BadWords = Unit {0}
-IsWritten exit.ReadFault = ⊥
-IsWritten exit.WriteFault = Unit {0}
-IsWritten exit.NoMemory = ⊥
-
--- After writing a text: it was written as a whole and the status is the one that was wanted, or a counted fault came
--- and a prefix of it was written.
-pub record Finished (old new : Option (List ℕ)) (before now : ℕ) (text : List ℕ) (wanted s : Status) : Type 0 where
-  pub written : IsWritten s
-  pub whole : IsWhole s → (s ≡ wanted) × (new ≡ output_after old text)
-  pub fault : s ≡ exit.WriteFault → Rose before now × AppendsPrefix old new text
 
 -- with these bytes written and this status, a whole output was written
 abbrev pub WritesAnswer : List (List ℕ) → Contents → (old new : Option (List ℕ)) → Status → Type 0

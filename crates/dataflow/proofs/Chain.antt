@@ -4,7 +4,7 @@ use Rattle.std.proofs.lemmas.Bool.{cases_eq}
 use Rattle.std.proofs.lemmas.List.{get_or_append_left}
 use Rattle.std.proofs.Math.Seq.{get_or-append_seam}
 use Rattle.std.proofs.lemmas.List.{length-set, get_or_default}
-use Rattle.dataflow.specs.Search.{past_edge, IsLastEdge, IsChained}
+use Rattle.dataflow.specs.Inner.Search.{past_edge, IsLastEdge, IsChained}
 
 no_edge : (ends : ℕ → ℕ × ℕ) (m : ℕ) → IsLastEdge ends 0 m None
 no_edge ends m = record { edge = λ k e. cc; last = λ j lt s. absurd (omega arith) }

@@ -5,7 +5,7 @@ use Rattle.std.proofs.lemmas.Bool.{cases_eq, cases_lt}
 use Rattle.std.proofs.lemmas.List.{get_or_append_left, length-set, get_or_past, get_or_default, get_or-reverse, length-reverse}
 use Rattle.std.proofs.lemmas.List.Sums.{sum_by-set}
 use Rattle.std.proofs.Math.Seq.{get_or-append_seam, get_or-append_right}
-use Rattle.dataflow.specs.Search.{IsChained, IsInList, IsInDepth, IsVisitOrder, root_at, to_follow, past_edge}
+use Rattle.dataflow.specs.Inner.Search.{IsChained, IsInList, IsInDepth, IsVisitOrder, root_at, to_follow, past_edge}
 
 at_front : (n m : ℕ) (xs : List ℕ) → IsInList n xs → IsInList n (xs ++ m ∷ [])
 at_front n m xs h = (h.0, omega (arith, h.1, length-append xs (m ∷ [])), get_or_append_left xs (m ∷ []) 0 h.0 h.1 ∙ h.2)

@@ -2,7 +2,7 @@
 use Rattle.std.proofs.Common.{◌≡◌, ℕ, ◌-◌, ◌<◌, ◌≤◌, List, Option, Some, None, option_map, length, get_or, set, suc, Bool, true, false, refl, ap, arith}
 use Rattle.std.proofs.lemmas.List.Sums.{sum_by-set}
 use Rattle.crpd_base.specs.Sum.{one_if}
-use Rattle.dataflow.specs.Search.{rank, work_left}
+use Rattle.dataflow.specs.Inner.Search.{rank, work_left}
 
 module _ (F V : Type 0) (view : F → V) (height : V → ℕ) (tallest : ℕ) (bounded : (v : V) → height v ≤ tallest) where
   weight : Option F → ℕ

@@ -1,8 +1,8 @@
-pub mod Solution
-pub mod Chain
-pub mod Steps
-pub mod Left
-pub mod Writes
-pub mod Waiting
-pub mod Depth
-pub mod Ordered
+mod Solution
+mod Chain
+mod Steps
+mod Left
+mod Writes
+mod Waiting
+mod Depth
+mod Ordered

@@ -3,7 +3,7 @@ use Rattle.std.proofs.Common.{◌≡◌, ℕ, List, [], ◌∷◌, ◌++◌, Opt
 use Rattle.std.specs.List.{All}
 use Rattle.std.proofs.lemmas.List.Elements.{All-append, All-map}
 use Rattle.dataflow.specs.Problem.{Problem, IsSemilattice, IsBelow, HasEdge, IsPath, path_value, Brings, joined_all, IsFact, IsAtLeast, Solves}
-use Rattle.dataflow.specs.Search.{IsJoinOfPaths}
+use Rattle.dataflow.specs.Inner.Search.{IsJoinOfPaths}
 
 pub record HasLaws (V : Type 0) (p : Problem V) : Type 0 where
   pub joins : IsSemilattice V p.joined

@@ -2,7 +2,7 @@
 use Rattle.std.proofs.Common.{◌≡◌, ◌≢◌, ℕ, ◌<◌, ◌≤◌, ◌⊎◌, [], Option, Some, None, suc, Bool, false, IsTrue, refl, sym, ap, ◌∙◌, subst, inl, inr, ⊎_elim, arith}
 use Rattle.std.proofs.lemmas.Bool.{cases_eq, cases_lt}
 use Rattle.dataflow.specs.Problem.{Problem, IsBelow, HasEdge, IsAtLeast, Solves}
-use Rattle.dataflow.specs.Search.{past_edge, IsLastEdge, IsJoinOfPaths, IsCarried, IsPartialSolution, IsPassedOn, AbsorbsAt, absorbed}
+use Rattle.dataflow.specs.Inner.Search.{past_edge, IsLastEdge, IsJoinOfPaths, IsCarried, IsPartialSolution, IsPassedOn, AbsorbsAt, absorbed}
 use Rattle.dataflow.proofs.Solution.{HasLaws, below_self, below_trans, below_join_left, below_join_right, of_one, of_join, of_passed}
 
 module _ (V : Type 0) (p : Problem V) (laws : HasLaws V p) where

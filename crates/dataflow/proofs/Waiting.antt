@@ -2,7 +2,7 @@
 use Rattle.std.proofs.Common.{◌≡◌, ℕ, ◌<◌, ◌≤◌, ⊎_elim, List, Bool, false, length, slice_index, ap, sym, ◌∙◌, arith, MatchOption, Option, Some, None, true}
 use Rattle.std.proofs.lemmas.Bool.{cases_lt}
 use Rattle.std.proofs.lemmas.List.{get_or_past}
-use Rattle.dataflow.specs.Search.{IsVisitOrder, waits}
+use Rattle.dataflow.specs.Inner.Search.{IsVisitOrder, waits}
 
 pub nobody_waits : (order : List ℕ) (waiting : List Bool) (place : ℕ) → IsVisitOrder (length waiting) order
     → ((i : ℕ) → place ≤ i → i < length order → waits waiting (slice_index order i) ≡ false)

@@ -2,7 +2,7 @@
 use Rattle.std.proofs.Common.{◌≡◌, ◌≢◌, ℕ, ◌<◌, List, Option, Some, None, option_map, length, get_or, set, Bool, true, false, IsTrue, MatchBool, cond, ◌≤◌, refl, sym, ap, ◌∙◌, subst, inl, inr, ⊎_elim, get_or-set_same, get_or-set_other}
 use Rattle.std.proofs.lemmas.Bool.{cases_eq}
 use Rattle.dataflow.specs.Problem.{Problem, fact_at}
-use Rattle.dataflow.specs.Search.{waits, absorbed, AbsorbsAt, rank, work_left}
+use Rattle.dataflow.specs.Inner.Search.{waits, absorbed, AbsorbsAt, rank, work_left}
 use Rattle.dataflow.proofs.Left.{left_risen, left_same}
 use Rattle.std.proofs.lemmas.List.{get_or_default, length-set}
 

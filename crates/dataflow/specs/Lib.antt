@@ -1,5 +1,5 @@
 pub mod Problem
-pub mod Search
 pub mod Variable
 pub mod VariableLaws
 pub mod Edges
+pub mod Inner

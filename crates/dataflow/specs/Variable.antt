@@ -28,7 +28,3 @@ one_if_unknown (Some k) = 0
 abbrev pub one_if_live : Bool → ℕ
 one_if_live true = 1
 one_if_live false = 0
-
--- paths begin at node 0, with an unknown variable
-abbrev pub first_unknown : ℕ → Option (Option ℕ)
-first_unknown n = if n == 0 then Some None else None

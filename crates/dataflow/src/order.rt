@@ -1,6 +1,6 @@
 // The orders in which nodes are visited: each node before those that its edges lead to, but for cycles.
 ghost use Rattle.std.specs.Prelude.{◌≡◌, ◌<◌, ◌≤◌, ℕ, IfOk, OnOk, None, [], ◌∷◌, ◌++◌, length, vec_len, slice_index_or, slice_set, true, false};
-ghost use Rattle.dataflow.specs.Search.{IsChained, IsVisitOrder, IsInDepth, root_at, to_follow};
+ghost use Rattle.dataflow.specs.Inner.Search.{IsChained, IsVisitOrder, IsInDepth, root_at, to_follow};
 
 use crate::outgoing::Outgoing;
 use crate::problem::Flow;

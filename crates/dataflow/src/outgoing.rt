@@ -1,6 +1,6 @@
 // The edges that leave each node.
 ghost use Rattle.std.specs.Prelude.{IfOk};
-ghost use Rattle.dataflow.specs.Search.{IsChained};
+ghost use Rattle.dataflow.specs.Inner.Search.{IsChained};
 
 use crate::problem::Flow;
 use std::alloc::{AllocError, Global};

@@ -1,7 +1,7 @@
 // The search for the least solution.
 ghost use Rattle.std.specs.Prelude.{◌≡◌, ◌≢◌, ℕ, ◌+◌, ◌<◌, ◌≤◌, Option, IfOk, Some, MatchBool, length, vec_len, option_map, slice_index_or};
 ghost use Rattle.dataflow.specs.Problem.{problem, IsFact, IsLeastSolution, fact_at};
-ghost use Rattle.dataflow.specs.Search.{IsChained, IsPartialSolution, IsPassedOn, absorbed, rank, waits, work_left};
+ghost use Rattle.dataflow.specs.Inner.Search.{IsChained, IsPartialSolution, IsPassedOn, absorbed, rank, waits, work_left};
 
 use crate::order::visit_order;
 use crate::outgoing::{Outgoing, chain};

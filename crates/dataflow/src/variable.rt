@@ -1,6 +1,7 @@
 // Two analyses of one variable that nodes read and write, one along the edges and one against them.
 ghost use Rattle.std.specs.Prelude.{◌≡◌, ◌<◌, ◌||◌, ℕ, Option, Some, None, Bool, false, length, slice_index_or};
-ghost use Rattle.dataflow.specs.Variable.{common_value, first_unknown, known_after, live_before, one_if_unknown, one_if_live};
+ghost use Rattle.dataflow.specs.Variable.{common_value, known_after, live_before, one_if_unknown, one_if_live};
+ghost use Rattle.dataflow.specs.Inner.Variable.{first_unknown};
 ghost use Rattle.dataflow.specs.declared.variable.Use.{Use};
 ghost use Rattle.dataflow.specs.VariableLaws.{or_joins, live_distributes, both_joins, known_distributes, live_bounded, unknown_bounded};
 

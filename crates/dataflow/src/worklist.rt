@@ -1,6 +1,6 @@
 // The nodes that wait to be visited.
 ghost use Rattle.std.specs.Prelude.{◌≡◌, ℕ, ◌<◌, ◌≤◌, List, Bool, length, IfOk, MatchOption, IsTrue, slice_index, slice_set, true, false};
-ghost use Rattle.dataflow.specs.Search.{IsVisitOrder, waits};
+ghost use Rattle.dataflow.specs.Inner.Search.{IsVisitOrder, waits};
 
 use std::alloc::{AllocError, Global};
 use std::marker::Model;

@@ -23,7 +23,8 @@ use Rattle.cert_model.specs.Ranges.{IsCertificate}
 use Rattle.cert_model.specs.Reading.{entries}
 use Rattle.cert_build.specs.Analysis.{part_with, part_of_analysis}
 use Rattle.cert_build.specs.Assembly.{no_analysis, analysis_at, HaveResponses, IsAssembled, AreAnalysed}
-use Rattle.cert_build.specs.Certify.{part_in, window_build_error}
+use Rattle.cert_build.specs.Certify.{part_in}
+use Rattle.cert_build.specs.Inner.Certify.{window_build_error}
 use Rattle.cert_build.specs.declared.one_task.Analysis.{Analysis}
 use Rattle.cert_build.specs.declared.fault.BuildError.{BuildError}
 use Rattle.cert_build.proofs.Assembly.{has_parts}

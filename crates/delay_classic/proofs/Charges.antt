@@ -16,7 +16,7 @@ use Rattle.delay_count.specs.Counts.{jobs_of, affected_preemptions, HasWindows}
 use Rattle.delay_count.specs.Gamma.{part_at, union_count, shared_sets, evicted_from, ucb_count, ecb_count}
 use Rattle.delay_count.specs.Demand.{gamma, own_demand, jobs_demand, higher_demand, demand}
 use Rattle.delay_classic.specs.Gamma.{useful_to_some, classic_gamma}
-use Rattle.delay_classic.specs.Charged.{classic_sets, IsCharged, AreCharged}
+use Rattle.delay_classic.specs.Inner.Charged.{classic_sets, IsCharged, AreCharged}
 use Rattle.delay_classic.specs.Demand.{classic_demand}
 use Rattle.delay_count.proofs.Greatest.{greatest_none}
 use Rattle.delay_count.proofs.Choices.{choice_within}

@@ -1,12 +1,12 @@
-pub mod Useful
-pub mod Lists
-pub mod Within
-pub mod Shorter
-pub mod Charges
+mod Useful
+mod Lists
+mod Within
+mod Shorter
+mod Charges
 pub mod Choices
-pub mod Best
-pub mod Judged
-pub mod Same
-pub mod Assembled
+mod Best
+mod Judged
+mod Same
+mod Assembled
 mod Rows
 pub mod OneClassic

@@ -13,7 +13,7 @@ use Rattle.useful_sets.specs.Sets.{IsUnionOfSets}
 use Rattle.delay_count.specs.Gamma.{shared_count, shared_sets, evicted_from}
 use Rattle.delay_count.specs.Demand.{greatest_from}
 use Rattle.delay_classic.specs.Gamma.{useful_to_some, useful_in, classic_ucb_delay, classic_ecb_delay, ucb_sets, ecb_sets}
-use Rattle.delay_classic.specs.Charged.{classic_sets}
+use Rattle.delay_classic.specs.Inner.Charged.{classic_sets}
 use Rattle.delay_count.proofs.Bits.{shared_most, product}
 use Rattle.delay_count.proofs.Greatest.{greatest_le, greatest_moved}
 use Rattle.delay_count.proofs.Delays.{shared_same}

@@ -12,7 +12,7 @@ use Rattle.crpd_base.specs.Sum.{sum_below}
 use Rattle.crpd_base.specs.Sets.{member, members_below, has}
 use Rattle.delay_count.specs.declared.share.Share.{Share}
 use Rattle.delay_count.specs.Gamma.{shared_count, set_share, union_count, count_at, useful_at}
-use Rattle.delay_count.specs.Words.{word_sum, word_share, useful_words}
+use Rattle.delay_count.specs.Inner.Words.{word_sum, word_share, useful_words}
 use Rattle.std.proofs.lemmas.Bool.{cases_Bool}
 
 -- the bits of a word, each as often as v

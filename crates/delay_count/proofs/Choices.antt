@@ -6,7 +6,7 @@ use Rattle.std.proofs.lemmas.Bool.{cases_Bool, cases_eq, cases_lt, eq-eqb, ne_eq
 use Rattle.crpd_base.proofs.Sums.{sum_zero, sum_most}
 use Rattle.crpd_base.specs.Sum.{sum_below}
 use Rattle.delay_count.specs.Gamma.{greatest_choice}
-use Rattle.delay_count.specs.Filling.{IsNextValue, sum_at_value, sum_from_value, worth_from}
+use Rattle.delay_count.specs.Inner.Filling.{IsNextValue, sum_at_value, sum_from_value, worth_from}
 use Rattle.delay_count.proofs.Greatest.{to_ge, to_le}
 
 -- a greatest choice never falls as the values, the counts and the budget grow

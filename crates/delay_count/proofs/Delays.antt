@@ -14,7 +14,7 @@ use Rattle.delay_count.specs.declared.share.Share.{Share}
 use Rattle.delay_count.specs.Counts.{jobs_of, affected_preemptions}
 use Rattle.delay_count.specs.Gamma.{union_count, shared_count, greatest_choice, set_share, count_at, useful_at, ucb_delay, ecb_delay, shared_sets, evicted_from}
 use Rattle.delay_count.specs.Demand.{gamma}
-use Rattle.delay_count.specs.Rates.{gamma_by}
+use Rattle.delay_count.specs.Inner.Rates.{gamma_by}
 use Rattle.delay_count.proofs.Bits.{union_fits, shared_most}
 use Rattle.delay_count.proofs.Choices.{choice_same, choice_le, choice_within}
 use Rattle.delay_count.proofs.Shares.{first_same}

@@ -12,9 +12,9 @@ use Rattle.crpd_base.specs.Sum.{sum_below}
 use Rattle.crpd_base.specs.Tasks.{period_of, jitter_of, HasTimes}
 use Rattle.delay_count.specs.Counts.{jobs_in, jobs_of, affected_preemptions}
 use Rattle.delay_count.specs.Gamma.{set_share, union_count, greatest_choice, shared_sets, evicted_from}
-use Rattle.delay_count.specs.Filling.{IsNextValue, sum_at_value, sum_from_value, worth_from}
+use Rattle.delay_count.specs.Inner.Filling.{IsNextValue, sum_at_value, sum_from_value, worth_from}
 use Rattle.delay_count.specs.Demand.{gamma}
-use Rattle.delay_count.specs.Rates.{gamma_by, release_rate, affected_rate}
+use Rattle.delay_count.specs.Inner.Rates.{gamma_by, release_rate, affected_rate}
 use Rattle.delay_count.proofs.Bits.{shared_most}
 use Rattle.delay_count.proofs.Choices.{choice_priced, priced_worth, full, finished, joined, none_from}
 

@@ -1,30 +1,9 @@
 -- At which rate a higher task takes of every window at least.
-use Rattle.std.specs.Prelude.{ℕ, suc, ◌*◌, ◌/◌, ◌^◌, ◌≤◌, ◌==◌, min, nat_lt, if◌then◌else◌}
+use Rattle.std.specs.Prelude.{ℕ, ◌*◌, ◌^◌, ◌≤◌}
 use Rattle.crpd_base.specs.declared.data.Part.{Part}
 use Rattle.crpd_base.specs.declared.data.TaskSet.{TaskSet}
 use Rattle.crpd_base.specs.declared.data.Method.{Method}
-use Rattle.crpd_base.specs.declared.data.Method.TheVariants.{Ucb, Ecb}
-use Rattle.crpd_base.specs.Sets.{has}
-use Rattle.crpd_base.specs.Tasks.{period_of}
-use Rattle.delay_count.specs.Counts.{jobs_of}
-use Rattle.delay_count.specs.Gamma.{union_count, greatest_choice, shared_sets}
 use Rattle.delay_count.specs.Demand.{higher_demand}
-
--- the delay of task i by so many jobs of a higher task j, given how often the jobs of each task may be preempted
-abbrev pub gamma_by : Method → ℕ → (ℕ → Part) → (ℕ → ℕ) → ℕ → ℕ → ℕ → ℕ
-gamma_by Ucb miss parts count jobs i j = miss * union_count jobs (has (parts j).evicting) (λ k. has (parts k).useful) count (suc i) 512
-gamma_by Ecb miss parts count jobs i j = miss * greatest_choice (shared_sets parts j) count (suc i) jobs
-
--- jobs of a task in each cycle, in parts of which 2 ^ 63 are one, rounded down
-abbrev pub release_rate : TaskSet → ℕ → ℕ
-release_rate set k = 2 ^ 63 / period_of set k
-
--- how often they may preempt those of task k in each cycle of task i, in the same parts
-abbrev pub affected_rate : TaskSet → (ℕ → ℕ) → ℕ → ℕ → ℕ → ℕ
-affected_rate set window i j k =
-    if nat_lt j k
-    then (if k == i then release_rate set j else min (release_rate set j) (jobs_of set j (window k) * release_rate set k))
-    else 0
 
 -- a rate, in parts of which 2 ^ 80 are one: a higher task j takes at least a window times it of every window of task i
 abbrev pub IsRate : TaskSet → (ℕ → Part) → (ℕ → ℕ) → Method → ℕ → ℕ → ℕ → Type 0

@@ -2,7 +2,7 @@
 ghost use Rattle.std.specs.Prelude.{◌≡◌, ℕ, ◌+◌, ◌*◌, ◌^◌, ◌<◌, ◌≤◌, ◌↔◌, length, slice_index};
 ghost use Rattle.crpd_base.specs.Sets.{has};
 ghost use Rattle.delay_count.specs.Gamma.{count_at, useful_at, shared_count, ecb_delay};
-ghost use Rattle.delay_count.specs.Filling.{IsNextValue, sum_at_value};
+ghost use Rattle.delay_count.specs.Inner.Filling.{IsNextValue, sum_at_value};
 
 use crate::share::Share;
 use crpd_base::{MOST_TASKS, SetBits};

@@ -5,7 +5,8 @@ ghost use Rattle.crpd_base.specs.Tasks.{HasTimes, period_of};
 ghost use Rattle.delay_count.specs.Counts.{jobs_of, HasWindows};
 ghost use Rattle.delay_count.specs.Gamma.{count_at, useful_at, part_at};
 ghost use Rattle.delay_count.specs.Demand.{gamma};
-ghost use Rattle.delay_count.specs.Rates.{release_rate, affected_rate, IsRate};
+ghost use Rattle.delay_count.specs.Rates.{IsRate};
+ghost use Rattle.delay_count.specs.Inner.Rates.{release_rate, affected_rate};
 
 use crate::jobs::jobs;
 use crate::share::Share;

@@ -1,7 +1,7 @@
 // The UCB-union multiset delay.
 ghost use Rattle.std.specs.Prelude.{◌≡◌, ℕ, ◌+◌, ◌*◌, ◌^◌, ◌<◌, ◌≤◌, length, slice_index};
 ghost use Rattle.delay_count.specs.Gamma.{count_at, ucb_delay};
-ghost use Rattle.delay_count.specs.Words.{word_share, useful_words};
+ghost use Rattle.delay_count.specs.Inner.Words.{word_share, useful_words};
 
 use crate::share::Share;
 use crpd_base::{MOST_TASKS, SetBits};

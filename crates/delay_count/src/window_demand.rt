@@ -5,7 +5,7 @@ ghost use Rattle.crpd_base.specs.Tasks.{HasTimes};
 ghost use Rattle.delay_count.specs.Counts.{HasWindows};
 ghost use Rattle.delay_count.specs.Gamma.{count_at, useful_at, part_at, evicted_from};
 ghost use Rattle.delay_count.specs.Demand.{HasLongest, greatest_from, blocking, gamma, own_demand, higher_demand, demand, charged_delays};
-ghost use Rattle.delay_count.specs.Rates.{gamma_by};
+ghost use Rattle.delay_count.specs.Inner.Rates.{gamma_by};
 
 use crate::choice::gamma_ecb;
 use crate::jobs::{affected_shares, jobs};

@@ -1,5 +1,5 @@
 pub mod Law
-pub mod Names
-pub mod Ranges
-pub mod Shared
-pub mod Tables
+mod Names
+mod Ranges
+mod Shared
+mod Tables

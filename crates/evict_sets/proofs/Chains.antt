@@ -6,7 +6,7 @@ use Rattle.crpd_base.specs.declared.data.NodeId.{NodeId}
 use Rattle.flat_graph.specs.Graph.{Graph, Edge, IsGraph}
 use Rattle.evict_sets.specs.Full.{Listed}
 use Rattle.evict_sets.specs.CacheClauses.{ListsLeaders}
-use Rattle.evict_sets.specs.OrderPrefix.{IsOrderPrefix, IsChainComplete, HasListedBelow}
+use Rattle.evict_sets.specs.Inner.OrderPrefix.{IsOrderPrefix, IsChainComplete, HasListedBelow}
 use Rattle.evict_sets.proofs.Lines.{has_room, at_new, line_more, listed_more, unlisted_more, fresh_listed, fresh_unlisted, one_follows}
 
 -- what continues a node

@@ -13,7 +13,7 @@ use Rattle.flat_graph.specs.EdgeCost.{is_return}
 use Rattle.flat_graph.specs.CodeGraph.{kind_of}
 use Rattle.flat_graph.specs.declared.node.Kind.TheVariants as kind
 use Rattle.evict_sets.specs.Longest.{greatest_of}
-use Rattle.evict_sets.specs.OptionalCost.{cost_or_zero}
+use Rattle.evict_sets.specs.Inner.OptionalCost.{cost_or_zero}
 
 -- a successor is a node
 pub succ_within : (g : Graph) (u k v : ℕ) → IsGraph g → u < g.size → Some v ≡ slice_get (g.next u) k → v < g.size

@@ -7,7 +7,7 @@ use Rattle.flat_graph.specs.Graph.{Graph, Edge, IsWalk, IsGraph}
 use Rattle.evict_sets.specs.Full.{Listed}
 use Rattle.evict_sets.specs.CacheClauses.{ListsLeaders}
 use Rattle.evict_sets.specs.Listing.{IsChainOrder}
-use Rattle.evict_sets.specs.OrderPrefix.{IsOrderPrefix, IsChainComplete, HasListedBelow}
+use Rattle.evict_sets.specs.Inner.OrderPrefix.{IsOrderPrefix, IsChainComplete, HasListedBelow}
 
 -- the values below a number, the last first
 values : (ℕ → ℕ) → ℕ → List ℕ

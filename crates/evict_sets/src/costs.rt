@@ -6,8 +6,8 @@ ghost use Rattle.flat_graph.specs.CodeGraph.{graph_of, node_code};
 ghost use Rattle.flat_graph.specs.EdgeCost.{edge_cost, end_cost};
 ghost use Rattle.evict_sets.specs.Longest.{longest_at_node, longest};
 ghost use Rattle.evict_sets.specs.Answering.{answers_of};
-ghost use Rattle.evict_sets.specs.OptionalCost.{cost_or_zero};
-ghost use Rattle.evict_sets.specs.CostRange.{HasWordCosts};
+ghost use Rattle.evict_sets.specs.Inner.OptionalCost.{cost_or_zero};
+ghost use Rattle.evict_sets.specs.Inner.CostRange.{HasWordCosts};
 
 use crpd_base::{NodeId, Platform};
 use flat_graph::{Graph, Kind};

@@ -4,7 +4,7 @@ ghost use Rattle.flat_graph.specs.Graph.{Edge};
 ghost use Rattle.flat_graph.specs.CodeGraph.{graph_of};
 ghost use Rattle.evict_sets.specs.ListedPart.{listed_of};
 ghost use Rattle.evict_sets.specs.Listing.{IsListing, IsChainOrder};
-ghost use Rattle.evict_sets.specs.OrderPrefix.{IsOrderPrefix, IsChainComplete, HasListedBelow};
+ghost use Rattle.evict_sets.specs.Inner.OrderPrefix.{IsOrderPrefix, IsChainComplete, HasListedBelow};
 
 use crate::listing::Listing;
 use crate::steps::successor;

@@ -6,9 +6,9 @@ use Rattle.std.proofs.lemmas.Option.{slice_get_within, slice_get-get_or}
 use Rattle.crpd_base.proofs.Elements.{some_at}
 use Rattle.rv_decode.specs.Flow.{Flow, Plain, Branch, Jump, Call, Return, Exit, Break, OtherJalr, OtherJal, Flows, Words, flows}
 use Rattle.flat_graph.specs.FlatGraph.{FlatNode, NodeError, successors, successors_by, goes_to, returns_to, error_of}
-use Rattle.flat_graph.specs.StoredGraph.{onward}
-use Rattle.flat_graph.specs.GraphParts.{AreNumbers, AreNodeLines}
-use Rattle.flat_graph.specs.Leaders.{AreEnds, HasDifferentEnds}
+use Rattle.flat_graph.specs.Inner.StoredGraph.{onward}
+use Rattle.flat_graph.specs.Inner.GraphParts.{AreNumbers, AreNodeLines}
+use Rattle.flat_graph.specs.Inner.Leaders.{AreEnds, HasDifferentEnds}
 use Rattle.flat_graph.specs.declared.graph.Onward.{Onward}
 use Rattle.flat_graph.specs.declared.graph.Onward.TheVariants.{Ends, To, Either}
 use Rattle.flat_graph.specs.declared.lines.Line.{Line}

@@ -8,8 +8,8 @@ use Rattle.crpd_base.proofs.Elements.{head_or_rest, in_none, in_one, contains_at
 use Rattle.rv_decode.specs.Address.{end_address}
 use Rattle.rv_decode.specs.Flow.{Flow, Plain, Branch, Jump, Call, Return, Exit, Break, OtherJalr, OtherJal, Flows, Words, IsCodeMap, flows, flow_of_word}
 use Rattle.flat_graph.specs.FlatGraph.{FlatNode, NodeError, IsNode, the_first, a_successor, successors, returns_to, goes_to, successors_by, error_of}
-use Rattle.flat_graph.specs.Reach.{AreAdded, IsExplored}
-use Rattle.flat_graph.specs.Spots.{IsBelowEnd}
+use Rattle.flat_graph.specs.Inner.Reach.{AreAdded, IsExplored}
+use Rattle.flat_graph.specs.Inner.Spots.{IsBelowEnd}
 
 pub explored_first : (code : Flows) (entry : ℕ) (nodes : List FlatNode) → AreAdded [] (record { context = []; address = entry } ∷ []) nodes → IsExplored code entry 0 nodes
 explored_first code entry nodes A = record {

@@ -13,8 +13,8 @@ use Rattle.std.specs.BTreeMap.{is_at}
 use Rattle.std.specs.BTreeSet.{insert_key}
 use Rattle.crpd_base.proofs.Elements.{at_head, at_rest, head_or_rest, in_none, in_one, contains_map}
 use Rattle.flat_graph.specs.FlatGraph.{FlatNode}
-use Rattle.flat_graph.specs.Reach.{AreSameSpots, AreAdded}
-use Rattle.flat_graph.specs.Spots.{spot_node, spot_nodes}
+use Rattle.flat_graph.specs.Inner.Reach.{AreSameSpots, AreAdded}
+use Rattle.flat_graph.specs.Inner.Spots.{spot_node, spot_nodes}
 use Rattle.flat_graph.specs.declared.spots.Spot.{Spot}
 use Rattle.flat_graph.proofs.Order.{then_equal, nat_equal, nat_same}
 

@@ -1,7 +1,7 @@
 -- A kept node has at most two successors.
 use Rattle.std.proofs.Common.{ℕ, zero, suc, ◌≤◌, List, [], ◌∷◌, length, map, slice_index_or, arith}
 use Rattle.flat_graph.specs.CodeGraph.{no_node}
-use Rattle.flat_graph.specs.StoredGraph.{onward, stored_node}
+use Rattle.flat_graph.specs.Inner.StoredGraph.{onward, stored_node}
 use Rattle.flat_graph.specs.declared.graph.Onward.{Onward}
 use Rattle.flat_graph.specs.declared.graph.Onward.TheVariants.{Ends, To, Either}
 use Rattle.flat_graph.specs.declared.graph.Stand.{Stand}

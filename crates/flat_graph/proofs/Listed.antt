@@ -7,10 +7,10 @@ use Rattle.std.specs.declared.cmp.Ordering.TheVariants.{Less, Equal, Greater}
 use Rattle.std.specs.Ordering.{is_eq}
 use Rattle.std.specs.BTreeMap.{BTreeMap, get, is_at}
 use Rattle.crpd_base.proofs.Elements.{slice_get_left, some_at, at_more, at_end}
-use Rattle.flat_graph.specs.NumberingOrder.{list_cmp}
+use Rattle.flat_graph.specs.Inner.NumberingOrder.{list_cmp}
 use Rattle.flat_graph.specs.FlatGraph.{FlatNode}
-use Rattle.flat_graph.specs.Reach.{AreNumbered, ExtendsLists, AreSameSpots}
-use Rattle.flat_graph.specs.Spots.{spot_node, spot_nodes}
+use Rattle.flat_graph.specs.Inner.Reach.{AreNumbered, ExtendsLists, AreSameSpots}
+use Rattle.flat_graph.specs.Inner.Spots.{spot_node, spot_nodes}
 use Rattle.flat_graph.specs.declared.spots.Spot.{Spot}
 use Rattle.flat_graph.proofs.Order.{list_equal, list_same}
 

@@ -7,8 +7,8 @@ use Rattle.std.proofs.lemmas.Option.{slice_get_within}
 use Rattle.crpd_base.proofs.Elements.{at_head, at_rest, head_or_rest, in_none, in_one, some_at}
 use Rattle.flat_graph.specs.declared.lines.Line.{Line}
 use Rattle.flat_graph.specs.Graph.{Graph, Edge, Continues, IsLeader}
-use Rattle.flat_graph.specs.StoredGraph.{onward}
-use Rattle.flat_graph.specs.Leaders.{AreEnds, IsMarked, AreMarked, HasLeaders, is_leading, mark_after_edges, mark_after_edge}
+use Rattle.flat_graph.specs.Inner.StoredGraph.{onward}
+use Rattle.flat_graph.specs.Inner.Leaders.{AreEnds, IsMarked, AreMarked, HasLeaders, is_leading, mark_after_edges, mark_after_edge}
 use Rattle.flat_graph.specs.declared.graph.Onward.{Onward}
 use Rattle.flat_graph.specs.declared.graph.Onward.TheVariants.{Ends, To, Either}
 use Rattle.flat_graph.specs.declared.leaders.Mark.{Mark}

@@ -6,9 +6,10 @@ use Rattle.crpd_base.proofs.Elements.{at_contains, some_at, at_more}
 use Rattle.rv_decode.specs.declared.Ins.{Ins}
 use Rattle.rv_decode.specs.Flow.{Flow, Flows, Words, flow, flows, flow_of_row, flow_of_word}
 use Rattle.flat_graph.specs.FlatGraph.{FlatNode, IsNode, a_successor, IsNumbering, error_of, successors, goes_to, successors_by}
-use Rattle.flat_graph.specs.GraphErrors.{HasInstructionAt, IsGraphError, graph_error}
-use Rattle.flat_graph.specs.GraphParts.{IsNodeLine, AreNodeLines}
-use Rattle.flat_graph.specs.Spots.{spot_node, spot_nodes}
+use Rattle.flat_graph.specs.GraphErrors.{IsGraphError}
+use Rattle.flat_graph.specs.Inner.GraphErrors.{HasInstructionAt, graph_error}
+use Rattle.flat_graph.specs.Inner.GraphParts.{IsNodeLine, AreNodeLines}
+use Rattle.flat_graph.specs.Inner.Spots.{spot_node, spot_nodes}
 use Rattle.flat_graph.specs.declared.fault.GraphError.{GraphError}
 use Rattle.flat_graph.specs.declared.lines.Line.{Line}
 use Rattle.flat_graph.specs.declared.spots.Spot.{Spot}

@@ -11,11 +11,12 @@ use Rattle.crpd_base.proofs.Elements.{contains_at, at_contains}
 use Rattle.rv_decode.specs.Flow.{Flows}
 use Rattle.flat_graph.specs.FlatGraph.{FlatNode, NodeError, IsNumberedBefore, IsNode, IsNumbering, HasMoreNodes, error_of, IsGraphRefused, AtNode}
 use Rattle.flat_graph.specs.FlatGraph as node
-use Rattle.flat_graph.specs.GraphErrors.{graph_error, IsGraphError}
-use Rattle.flat_graph.specs.Spots.{spot_node, spot_nodes}
+use Rattle.flat_graph.specs.GraphErrors.{IsGraphError}
+use Rattle.flat_graph.specs.Inner.GraphErrors.{graph_error}
+use Rattle.flat_graph.specs.Inner.Spots.{spot_node, spot_nodes}
 use Rattle.flat_graph.specs.declared.fault.GraphError.{GraphError}
 use Rattle.flat_graph.specs.declared.spots.Spot.{Spot}
-use Rattle.flat_graph.specs.NumberingOrder.{flat_cmp}
+use Rattle.flat_graph.specs.Inner.NumberingOrder.{flat_cmp}
 use Rattle.flat_graph.proofs.Order.{flat_equal, flat_same, rises, before_one_way, not_before_same}
 
 module _ (lists : List (List ℕ)) where

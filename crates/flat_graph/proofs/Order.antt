@@ -9,7 +9,7 @@ use Rattle.std.specs.Ordering.{nat_cmp, ordering_then, ordering_reverse, orderin
 use Rattle.std.specs.Cmp.{IsTotalOrder, nat_cmp_is}
 use Rattle.std.specs.Cmp.Rules.{comparing}
 use Rattle.std.specs.Cmp.Lexicographic.{slice_cmp}
-use Rattle.flat_graph.specs.NumberingOrder.{list_cmp, flat_cmp}
+use Rattle.flat_graph.specs.Inner.NumberingOrder.{list_cmp, flat_cmp}
 use Rattle.flat_graph.specs.FlatGraph.{FlatNode, list_lt, IsNumberedBefore}
 
 then_less : (o rest : Ordering) → ordering_then o rest ≡ Less → (o ≡ Less) ⊎ ((o ≡ Equal) × (rest ≡ Less))

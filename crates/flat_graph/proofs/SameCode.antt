@@ -9,8 +9,8 @@ use Rattle.rv_decode.specs.Table.{ins_of_word}
 use Rattle.flat_graph.specs.CodeGraph.{CodeGraph, HasCode, IsCodeGraph, ins_of, places_of}
 use Rattle.flat_graph.specs.FlatGraph.{FlatNode, IsNode, NodeError, the_first, a_successor, call_error, error_of, successors_by, goes_to, ins_error, returns_to, successors, calls}
 use Rattle.flat_graph.specs.FlatGraph as flat
-use Rattle.flat_graph.specs.GraphErrors.{HasInstructionAt}
-use Rattle.flat_graph.specs.SameCode.{FitsCode}
+use Rattle.flat_graph.specs.Inner.GraphErrors.{HasInstructionAt}
+use Rattle.flat_graph.specs.Inner.SameCode.{FitsCode}
 
 -- ---- a node without an error has a word
 

@@ -9,8 +9,8 @@ use Rattle.std.specs.List.Sorted.{IsBinarySearchResult, IsNonDecreasingBy}
 use Rattle.flat_graph.specs.FlatGraph.{FlatNode, IsNumberedBefore}
 use Rattle.flat_graph.specs.Numbered.{node_at}
 use Rattle.flat_graph.specs.CodeGraph.{GraphNode, CodeGraph, no_node, places_of}
-use Rattle.flat_graph.specs.StoredGraph.{IsStoredGraph, stored_graph, stored_node}
-use Rattle.flat_graph.specs.NumberingOrder.{flat_cmp, stand_node}
+use Rattle.flat_graph.specs.Inner.StoredGraph.{IsStoredGraph, stored_graph, stored_node}
+use Rattle.flat_graph.specs.Inner.NumberingOrder.{flat_cmp, stand_node}
 use Rattle.flat_graph.specs.declared.graph.Stand.{Stand}
 use Rattle.flat_graph.proofs.Order.{flat_equal, flat_same, rises}
 

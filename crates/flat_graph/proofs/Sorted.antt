@@ -13,10 +13,10 @@ use Rattle.std.specs.List.Sorted.{IsPermutation, IsSortedBy}
 use Rattle.std.specs.BTreeMap.{BTreeMap}
 use Rattle.crpd_base.proofs.Elements.{contains_map, contains_mapped}
 use Rattle.rv_decode.specs.Flow.{Flows}
-use Rattle.flat_graph.specs.NumberingOrder.{flat_cmp}
+use Rattle.flat_graph.specs.Inner.NumberingOrder.{flat_cmp}
 use Rattle.flat_graph.specs.FlatGraph.{FlatNode, IsNumberedBefore, IsNode, IsNumbering, HasMoreNodes}
-use Rattle.flat_graph.specs.Reach.{AreNumbered, AreSameSpots, IsExplored}
-use Rattle.flat_graph.specs.Spots.{spot_node, spot_nodes}
+use Rattle.flat_graph.specs.Inner.Reach.{AreNumbered, AreSameSpots, IsExplored}
+use Rattle.flat_graph.specs.Inner.Spots.{spot_node, spot_nodes}
 use Rattle.flat_graph.specs.declared.spots.Spot.{Spot}
 use Rattle.flat_graph.proofs.Order.{flat_less, flat_equal, flat_order}
 use Rattle.flat_graph.proofs.Explored.{explored_all}

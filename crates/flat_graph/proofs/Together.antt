@@ -9,10 +9,10 @@ use Rattle.flat_graph.specs.FlatGraph.{FlatNode, IsNumbering, error_of, successo
 use Rattle.flat_graph.specs.Graph.{IsLeader}
 use Rattle.flat_graph.specs.Numbered.{IsFlatGraph}
 use Rattle.flat_graph.specs.CodeGraph.{GraphNode, CodeGraph, IsCodeGraph, node_of, no_node, graph_of}
-use Rattle.flat_graph.specs.StoredGraph.{IsStoredGraph, stored_graph, stored_node, onward}
-use Rattle.flat_graph.specs.GraphParts.{AreNodeLines, IsNodeLine, AreStoredNodes}
-use Rattle.flat_graph.specs.Leaders.{IsGraphOfLines, HasLeaders}
-use Rattle.flat_graph.specs.Spots.{spot_node, spot_nodes}
+use Rattle.flat_graph.specs.Inner.StoredGraph.{IsStoredGraph, stored_graph, stored_node, onward}
+use Rattle.flat_graph.specs.Inner.GraphParts.{AreNodeLines, IsNodeLine, AreStoredNodes}
+use Rattle.flat_graph.specs.Inner.Leaders.{IsGraphOfLines, HasLeaders}
+use Rattle.flat_graph.specs.Inner.Spots.{spot_node, spot_nodes}
 use Rattle.flat_graph.specs.declared.graph.Stand.{Stand}
 use Rattle.flat_graph.specs.declared.lines.Line.{Line}
 use Rattle.flat_graph.specs.declared.spots.Spot.{Spot}

@@ -6,7 +6,7 @@ ghost use Rattle.rv_decode.specs.Address.{end_address};
 ghost use Rattle.rv_decode.specs.Flow.{flows, flow};
 ghost use Rattle.rv_decode.specs.Table.{ins_of_word};
 ghost use Rattle.flat_graph.specs.FlatGraph.{calls, call_error, error_of};
-ghost use Rattle.flat_graph.specs.GraphErrors.{graph_error, HasInstructionAt};
+ghost use Rattle.flat_graph.specs.Inner.GraphErrors.{graph_error, HasInstructionAt};
 
 use crate::fault::GraphError;
 use crate::ways::{Way, way_of};

@@ -1,8 +1,8 @@
 // Lists of calls under way, each kept once and numbered as it is met.
 ghost use Rattle.std.specs.Prelude.{◌≡◌, ◌<◌, ◌≤◌, ◌+◌, ◌^◌, ◌++◌, ◌∷◌, Some, None, IfOk, OnOk, length, slice_get, slice_index_or, []};
 ghost use Rattle.std.specs.BTreeMap.{get};
-ghost use Rattle.flat_graph.specs.NumberingOrder.{list_cmp};
-ghost use Rattle.flat_graph.specs.Reach.{AreNumbered, ExtendsLists};
+ghost use Rattle.flat_graph.specs.Inner.NumberingOrder.{list_cmp};
+ghost use Rattle.flat_graph.specs.Inner.Reach.{AreNumbered, ExtendsLists};
 
 use crate::graph::Context;
 use smallvec::SmallVec;

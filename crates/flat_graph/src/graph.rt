@@ -8,7 +8,7 @@ ghost use Rattle.std.specs.Cmp.Rules.{comparing};
 ghost use Rattle.std.specs.Cmp.Lexicographic.{slice_cmp, nat_list_cmp_total, pointwise, texts_ties, texts_po};
 ghost use Rattle.std.specs.List.Sorted.{IsSearchInRange, IsBinarySearchResult};
 ghost use Rattle.std.specs.Ordering.{nat_cmp, as_partial_cmp};
-ghost use Rattle.flat_graph.specs.NumberingOrder.{flat_cmp, stand_node};
+ghost use Rattle.flat_graph.specs.Inner.NumberingOrder.{flat_cmp, stand_node};
 ghost use Rattle.flat_graph.specs.CodeGraph.{HasCode, kind_of, graph_of, places_of, ins_of};
 
 use crate::node::{Node, kind_by};
@@ -106,7 +106,7 @@ impl Model for Graph {
 
     ghost Value = { CodeGraph };
 
-    ghost use Rattle.flat_graph.specs.StoredGraph.{IsStoredGraph, stored_graph};
+    ghost use Rattle.flat_graph.specs.Inner.StoredGraph.{IsStoredGraph, stored_graph};
 
     ghost view = { λ g. stored_graph g.contexts g.nodes g.first };
 

@@ -1,7 +1,7 @@
 // The leaders of a graph.
 ghost use Rattle.std.specs.Prelude.{◌≡◌, ◌<◌, ℕ, Some, IfOk, length, map, slice_get, All};
 ghost use Rattle.flat_graph.specs.declared.leaders.Mark.{Mark};
-ghost use Rattle.flat_graph.specs.Leaders.{AreEnds, AreMarked, HasLeaders, mark_after_edges, is_leading};
+ghost use Rattle.flat_graph.specs.Inner.Leaders.{AreEnds, AreMarked, HasLeaders, mark_after_edges, is_leading};
 
 use crate::graph::Onward;
 use crate::lines::Line;

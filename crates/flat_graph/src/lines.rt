@@ -2,12 +2,12 @@
 ghost use Rattle.std.specs.Prelude.{◌≡◌, ◌≤◌, ◌<◌, ◌⊎◌, ℕ, Some, IfOk, IfErr, length, slice_get, slice_index_or, [], All, AllPairs, Contains, IsTrue};
 ghost use Rattle.code_map.specs.Words.{word_at};
 ghost use Rattle.rv_decode.specs.Flow.{flows};
-ghost use Rattle.flat_graph.specs.NumberingOrder.{flat_cmp};
+ghost use Rattle.flat_graph.specs.Inner.NumberingOrder.{flat_cmp};
 ghost use Rattle.flat_graph.specs.FlatGraph.{IsNumbering, IsNumberedBefore};
-ghost use Rattle.flat_graph.specs.StoredGraph.{onward};
-ghost use Rattle.flat_graph.specs.Spots.{spot_node, spot_nodes, flat_steps};
+ghost use Rattle.flat_graph.specs.Inner.StoredGraph.{onward};
+ghost use Rattle.flat_graph.specs.Inner.Spots.{spot_node, spot_nodes, flat_steps};
 ghost use Rattle.flat_graph.specs.GraphErrors.{IsGraphError};
-ghost use Rattle.flat_graph.specs.GraphParts.{IsNodeLine, AreNodeLines, AreNumbers};
+ghost use Rattle.flat_graph.specs.Inner.GraphParts.{IsNodeLine, AreNodeLines, AreNumbers};
 
 use crate::checks::check;
 use crate::contexts::calls_of;

@@ -4,10 +4,10 @@ ghost use Rattle.code_map.specs.Words.{word_at};
 ghost use Rattle.rv_decode.specs.Flow.{flows};
 ghost use Rattle.std.specs.List.Sorted.{IsPermutation, IsSortedBy};
 ghost use Rattle.std.specs.Ordering.{is_lt};
-ghost use Rattle.flat_graph.specs.NumberingOrder.{flat_cmp};
+ghost use Rattle.flat_graph.specs.Inner.NumberingOrder.{flat_cmp};
 ghost use Rattle.flat_graph.specs.FlatGraph.{IsNode, IsNumbering, successors, HasMoreNodes};
-ghost use Rattle.flat_graph.specs.Reach.{AreNumbered, ExtendsLists, AreSameSpots, AreAdded};
-ghost use Rattle.flat_graph.specs.Spots.{spot_node, spot_nodes, flat_steps};
+ghost use Rattle.flat_graph.specs.Inner.Reach.{AreNumbered, ExtendsLists, AreSameSpots, AreAdded};
+ghost use Rattle.flat_graph.specs.Inner.Spots.{spot_node, spot_nodes, flat_steps};
 ghost use Rattle.flat_graph.specs.declared.fault.GraphError.TheVariants.{Memory, TooManyNodes};
 
 use crate::checks::check;

@@ -2,8 +2,8 @@
 ghost use Rattle.std.specs.Prelude.{◌≡◌, ◌↔◌, IsTrue};
 ghost use Rattle.code_map.specs.Words.{word_at};
 ghost use Rattle.flat_graph.specs.CodeGraph.{IsCodeGraph};
-ghost use Rattle.flat_graph.specs.GraphErrors.{HasInstructionAt};
-ghost use Rattle.flat_graph.specs.SameCode.{FitsCode};
+ghost use Rattle.flat_graph.specs.Inner.GraphErrors.{HasInstructionAt};
+ghost use Rattle.flat_graph.specs.Inner.SameCode.{FitsCode};
 
 use crate::graph::Graph;
 use code_map::CodeMap;

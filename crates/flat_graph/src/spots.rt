@@ -6,10 +6,10 @@ ghost use Rattle.std.specs.Cmp.Rules.{comparing};
 ghost use Rattle.std.specs.List.Sorted.{IsPermutation, IsSortedBy};
 ghost use Rattle.std.specs.Ordering.{nat_cmp, on, then_cmp, as_partial_cmp, is_lt};
 ghost use Rattle.rv_decode.specs.Address.{end_address};
-ghost use Rattle.flat_graph.specs.NumberingOrder.{flat_cmp};
+ghost use Rattle.flat_graph.specs.Inner.NumberingOrder.{flat_cmp};
 ghost use Rattle.flat_graph.specs.FlatGraph.{goes_to, returns_to};
-ghost use Rattle.flat_graph.specs.Spots.{spot_node, flat_steps, IsBelowEnd};
-ghost use Rattle.flat_graph.specs.Ways.{flow_by};
+ghost use Rattle.flat_graph.specs.Inner.Spots.{spot_node, flat_steps, IsBelowEnd};
+ghost use Rattle.flat_graph.specs.Inner.Ways.{flow_by};
 
 use crate::contexts::calls_of;
 use crate::graph::Context;

@@ -2,7 +2,7 @@
 ghost use Rattle.std.specs.Prelude.{◌≡◌, ◌^◌, ◌<◌};
 ghost use Rattle.rv_decode.specs.Address.{plus};
 ghost use Rattle.rv_decode.specs.Flow.{flow};
-ghost use Rattle.flat_graph.specs.Ways.{flow_by};
+ghost use Rattle.flat_graph.specs.Inner.Ways.{flow_by};
 
 use rv_decode::Ins;
 

@@ -7,7 +7,7 @@ use Rattle.std.proofs.lemmas.List.{drop_all, take-append-drop}
 use Rattle.std.proofs.Math.Seq.{take-suc}
 use Rattle.crpd_base.specs.declared.data.LoopAt.{LoopAt}
 use Rattle.flow_watch.specs.Watch.{in_range, all_iterations_after, within_bounds}
-use Rattle.flow_watch.specs.Quiet.{KeepsAllIterations, KeepsIterations}
+use Rattle.flow_watch.specs.Inner.Quiet.{KeepsAllIterations, KeepsIterations}
 
 -- the turns with those of the first i loops counted: what is left to count gives the whole
 pub record IsCounted (a : ℕ) (loops : List LoopAt) (before : List ℕ) (i : ℕ) (turns : List ℕ) : Type 0 where

@@ -13,9 +13,10 @@ use Rattle.rv_decode.specs.Address.{next_address, address_before, end_address}
 use Rattle.crpd_base.specs.declared.data.TaskPlan.{TaskPlan}
 use Rattle.flow_watch.specs.Watch.{Frame, Watch, all_iterations_after, within_bounds, arrive, context}
 use Rattle.flow_watch.specs.Iterations.{HasIterations}
-use Rattle.flow_watch.specs.Quiet.{KeepsAllIterations, IsQuiet}
-use Rattle.flow_watch.specs.Changes.{frames_after_call, frames_after_return}
-use Rattle.flow_watch.specs.Rows.{frame_row, back, frames_of, watch_of, IsRoom}
+use Rattle.flow_watch.specs.Quiet.{IsQuiet}
+use Rattle.flow_watch.specs.Inner.Quiet.{KeepsAllIterations}
+use Rattle.flow_watch.specs.Inner.Changes.{frames_after_call, frames_after_return}
+use Rattle.flow_watch.specs.Inner.Rows.{frame_row, back, frames_of, watch_of, IsRoom}
 
 -- a part of the front of a list is that part of the list
 front : (a n l : ℕ) (xs : List ℕ) → a + n ≤ l → take n (drop a (take l xs)) ≡ take n (drop a xs)

@@ -10,7 +10,7 @@ use Rattle.flow_watch.specs.declared.changes.Change.{Change}
 use Rattle.flow_watch.specs.declared.changes.Change.TheVariants.{Stay, Push, Pop, Unfollowed}
 use Rattle.flow_watch.specs.Watch.{Frame, Watch, all_iterations_after, within_bounds, arrive, new_frame, step_by_flow, step}
 use Rattle.flow_watch.specs.Iterations.{HasIterations}
-use Rattle.flow_watch.specs.Changes.{change_of, frames_after_call, frames_after_return}
+use Rattle.flow_watch.specs.Inner.Changes.{change_of, frames_after_call, frames_after_return}
 
 -- what a change does to the frames
 abbrev pub changed : TaskPlan → ℕ → ℕ → Change → List Frame → Watch

@@ -1,10 +1,9 @@
 -- Arrivals that change nothing.
-use Rattle.std.specs.Prelude.{◌≡◌, ℕ, ◌≤◌, ◌<◌, Bool, true, false, List, option_and_then}
-use Rattle.crpd_base.specs.declared.data.LoopAt.{LoopAt}
+use Rattle.std.specs.Prelude.{◌≡◌, ℕ, ◌≤◌, ◌<◌, Bool, true, false, option_and_then}
 use Rattle.crpd_base.specs.declared.data.TaskPlan.{TaskPlan}
 use Rattle.rv_decode.specs.declared.Ins.{Ins}
 use Rattle.rv_decode.specs.Flow.{Flow, Call, Return, OtherJalr, OtherJal}
-use Rattle.flow_watch.specs.Watch.{Watch, arrive, step, iterations_after, all_iterations_after, within_bounds}
+use Rattle.flow_watch.specs.Watch.{Watch, arrive, step}
 
 -- whether an instruction of this flow stays in its frame: it is followed, and neither calls nor returns
 abbrev pub stays : Flow → Bool
@@ -25,13 +24,3 @@ IsQuiet plan w a = option_and_then (arrive plan a) w ≡ w
 -- so does one at each address from the first on and before the second
 abbrev pub AreQuiet : TaskPlan → Watch → ℕ × ℕ → Type 0
 AreQuiet plan w r = (a : ℕ) → r.0 ≤ a → a < r.1 → IsQuiet plan w a
-
--- an arrival at the address leaves a loop's turns as they are, and they are within its bound
-pub record KeepsIterations (a : ℕ) (loop : LoopAt) (turns : ℕ) : Type 0 where
-  pub same : iterations_after a loop turns ≡ turns
-  pub within : turns ≤ loop.bound
-
--- an arrival leaves the turns of all loops as they are, within their bounds
-pub record KeepsAllIterations (a : ℕ) (loops : List LoopAt) (turns : List ℕ) : Type 0 where
-  pub same : all_iterations_after a loops turns ≡ turns
-  pub within : within_bounds loops turns ≡ true

@@ -2,7 +2,7 @@
 ghost use Rattle.std.specs.Prelude.{◌≡◌, ℕ};
 ghost use Rattle.rv_decode.specs.Flow.{flow};
 ghost use Rattle.std.specs.Bool.{OnTrue};
-ghost use Rattle.flow_watch.specs.Changes.{change_of};
+ghost use Rattle.flow_watch.specs.Inner.Changes.{change_of};
 ghost use Rattle.flow_watch.specs.Quiet.{stays, IsArrival};
 
 use rv_decode::Ins;

@@ -3,7 +3,7 @@ ghost use Rattle.std.specs.Prelude.{◌≡◌, ◌≢◌, ℕ, ◌<◌, ◌≤�
 ghost use Rattle.std.specs.Bool.{OnTrue};
 ghost use Rattle.std.specs.List.{find, list_any};
 ghost use Rattle.flow_watch.specs.Watch.{in_range, iterations_after, all_iterations_after, within_bounds};
-ghost use Rattle.flow_watch.specs.Quiet.{KeepsAllIterations, KeepsIterations};
+ghost use Rattle.flow_watch.specs.Inner.Quiet.{KeepsAllIterations, KeepsIterations};
 
 use crpd_base::LoopAt;
 

@@ -7,8 +7,8 @@ use Rattle.crpd_base.specs.declared.data.LoopAt.{LoopAt}
 use Rattle.flat_graph.specs.Graph.{Graph, Places}
 use Rattle.loop_regions.specs.Stated.{holds_seen, region_holds, IsRegionOf, IsRegions}
 use Rattle.loop_regions.specs.CodeNest.{has, row, nest_of}
-use Rattle.loop_regions.specs.Heads.{AreHeads, IsHeldBy}
-use Rattle.loop_regions.specs.RegionLists.{AreRegionLists}
+use Rattle.loop_regions.specs.Inner.Heads.{AreHeads, IsHeldBy}
+use Rattle.loop_regions.specs.Inner.RegionLists.{AreRegionLists}
 use Rattle.loop_regions.specs.declared.heads.Head.{Head}
 use Rattle.loop_regions.proofs.Stated.{seen_here, loop_holds_head}
 

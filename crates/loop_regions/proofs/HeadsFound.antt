@@ -7,7 +7,7 @@ use Rattle.crpd_base.specs.declared.data.LoopAt.{LoopAt}
 use Rattle.flat_graph.specs.Graph.{Places}
 use Rattle.loop_regions.specs.Stated.{region_holds}
 use Rattle.loop_regions.specs.CodeNest.{has}
-use Rattle.loop_regions.specs.Heads.{IsLoopAt, AreHeads, IsHeldBy}
+use Rattle.loop_regions.specs.Inner.Heads.{IsLoopAt, AreHeads, IsHeldBy}
 use Rattle.loop_regions.specs.declared.heads.Head.{Head}
 use Rattle.loop_regions.proofs.Has.{has_placed, placed_has, has_more}
 

@@ -13,7 +13,7 @@ use Rattle.std.specs.List.Sorted.{IsPartitionPoint}
 use Rattle.crpd_base.proofs.Elements.{at_end}
 use Rattle.flow_watch.specs.Watch.{in_range, holds}
 use Rattle.crpd_base.specs.declared.data.LoopAt.{LoopAt}
-use Rattle.loop_regions.specs.Ranges.{range_end, IsReach, AreReaches, AreRanges}
+use Rattle.loop_regions.specs.Inner.Ranges.{range_end, IsReach, AreReaches, AreRanges}
 
 -- one more range
 pub reach_more : (ranges : List (ℕ × ℕ)) (count reach : ℕ) (r : ℕ × ℕ) → IsReach ranges count reach → slice_index_or ranges count (0, 0) ≡ r → IsReach ranges (count + 1) (max reach r.1)

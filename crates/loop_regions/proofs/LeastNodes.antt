@@ -6,7 +6,7 @@ use Rattle.std.specs.Prelude.{List}
 use Rattle.flat_graph.specs.Graph.{Graph, Places}
 use Rattle.loop_regions.specs.Nest.{Nest}
 use Rattle.loop_regions.specs.Stated.{IsRegions, IsSecondEntry, IsNotNested, IsLeastAt}
-use Rattle.loop_regions.specs.Least.{IsLeastNumber}
+use Rattle.loop_regions.specs.Inner.Least.{IsLeastNumber}
 
 pub least_at : (g : Graph) (p : Places) (P : ℕ → Type 0) (y a : ℕ) → IsLeastNumber P (Some y) → y < g.size → p.address y ≡ a → IsLeastAt g p P a
 least_at g p P y a h lt e = (y, lt, h.0, e, λ z below q. absurd (let le = h.1 z q in omega arith))

@@ -4,7 +4,7 @@ use Rattle.std.specs.Prelude.{Option, nat_lt}
 use Rattle.std.proofs.lemmas.Bool.{cases_Bool, ltb-true, ltb-false}
 use Rattle.loop_regions.specs.Nest.{Nest}
 use Rattle.loop_regions.specs.CodeNest.{nest_of}
-use Rattle.loop_regions.specs.Least.{IsLeastNumber, lesser}
+use Rattle.loop_regions.specs.Inner.Least.{IsLeastNumber, lesser}
 
 -- the nest of these lists
 abbrev pub nest_by : List ℕ → List ℕ → List (List ℕ) → Nest

@@ -6,8 +6,8 @@ use Rattle.std.proofs.lemmas.Bool.{cases_eq, cases_lt, cases_Bool, both_ways, eq
 use Rattle.loop_regions.specs.Levels.{IsLevel, IsParent}
 use Rattle.loop_regions.specs.Stated.{HoldsMore, IsNotNested}
 use Rattle.loop_regions.specs.CodeNest.{has, row}
-use Rattle.loop_regions.specs.RegionLists.{AreRegionLists}
-use Rattle.loop_regions.specs.FoundRegions.{AreAround, lie_across, are_across, is_other, is_better, better, IsInnermost, AreInLine}
+use Rattle.loop_regions.specs.Inner.RegionLists.{AreRegionLists}
+use Rattle.loop_regions.specs.Inner.FoundRegions.{AreAround, lie_across, are_across, is_other, is_better, better, IsInnermost, AreInLine}
 use Rattle.loop_regions.proofs.Has.{has_any, any_has, has_at, has_taken}
 use Rattle.loop_regions.proofs.FoundRegions.{none_past}
 use Rattle.loop_regions.proofs.Stated.{inside_below}

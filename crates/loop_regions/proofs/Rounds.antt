@@ -3,8 +3,8 @@ use Rattle.std.proofs.Common.{◌≡◌, ◌↔◌, ℕ, ◌+◌, ◌<◌, ◌�
 use Rattle.std.specs.List.{filter}
 use Rattle.std.proofs.lemmas.Bool.{cases_eq, cases_lt, both_ways}
 use Rattle.loop_regions.specs.CodeNest.{has, row}
-use Rattle.loop_regions.specs.RegionLists.{AreRegionLists}
-use Rattle.loop_regions.specs.FoundRegions.{AreAround}
+use Rattle.loop_regions.specs.Inner.RegionLists.{AreRegionLists}
+use Rattle.loop_regions.specs.Inner.FoundRegions.{AreAround}
 use Rattle.loop_regions.proofs.Has.{has_filter, filter_has, has_taken, taken_has}
 use Rattle.loop_regions.proofs.FoundRegions.{none_past}
 use Rattle.loop_regions.proofs.LeastOf.{nest_by}

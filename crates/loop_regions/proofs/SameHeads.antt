@@ -6,7 +6,7 @@ use Rattle.std.proofs.lemmas.Bool.{cases_eq, both_ways, false≢true, eqb-true, 
 use Rattle.std.proofs.lemmas.Option.{slice_get_within}
 use Rattle.crpd_base.specs.declared.data.LoopAt.{LoopAt}
 use Rattle.loop_regions.specs.Stated.{IsSameHead}
-use Rattle.loop_regions.specs.Least.{IsLeastNumber, lesser, IsHeadBefore}
+use Rattle.loop_regions.specs.Inner.Least.{IsLeastNumber, lesser, IsHeadBefore}
 use Rattle.loop_regions.proofs.LeastOf.{least_same, least_or}
 
 abbrev has_head : List LoopAt → ℕ → Bool

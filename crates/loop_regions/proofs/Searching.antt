@@ -8,9 +8,9 @@ use Rattle.flat_graph.specs.Graph.{Graph}
 use Rattle.loop_regions.specs.Nest.{Nest, IsBackEdge}
 use Rattle.loop_regions.specs.Stated.{IsForward, IsForwardPath, IsOnCycle}
 use Rattle.loop_regions.specs.CodeNest.{has, row}
-use Rattle.loop_regions.specs.RegionLists.{AreRegionLists}
-use Rattle.loop_regions.specs.FoundRegions.{is_head}
-use Rattle.loop_regions.specs.ForwardPaths.{IsForwardBy, Reaches, was_seen, IsStartOrSeen, IsSearch, EdgesFrom, NoEdges, unseen, to_search}
+use Rattle.loop_regions.specs.Inner.RegionLists.{AreRegionLists}
+use Rattle.loop_regions.specs.Inner.FoundRegions.{is_head}
+use Rattle.loop_regions.specs.Inner.ForwardPaths.{IsForwardBy, Reaches, was_seen, IsStartOrSeen, IsSearch, EdgesFrom, NoEdges, unseen, to_search}
 use Rattle.loop_regions.proofs.Has.{has_any, any_has, has_more, has_pushed, has_push_cases}
 use Rattle.loop_regions.proofs.SecondEntries.{head_is, is_the_head}
 use Rattle.loop_regions.proofs.LeastOf.{nest_by}

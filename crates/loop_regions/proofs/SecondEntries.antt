@@ -8,9 +8,9 @@ use Rattle.flat_graph.specs.Graph.{Graph}
 use Rattle.loop_regions.specs.Nest.{Nest}
 use Rattle.loop_regions.specs.Stated.{IsSecondEntry}
 use Rattle.loop_regions.specs.CodeNest.{has, row}
-use Rattle.loop_regions.specs.RegionLists.{AreRegionLists}
-use Rattle.loop_regions.specs.Least.{IsLeastNumber, lesser}
-use Rattle.loop_regions.specs.FoundRegions.{is_head, Enters, EntersFrom, EntersBy, IsInsideStart}
+use Rattle.loop_regions.specs.Inner.RegionLists.{AreRegionLists}
+use Rattle.loop_regions.specs.Inner.Least.{IsLeastNumber, lesser}
+use Rattle.loop_regions.specs.Inner.FoundRegions.{is_head, Enters, EntersFrom, EntersBy, IsInsideStart}
 use Rattle.loop_regions.proofs.Has.{has_any, any_has}
 use Rattle.loop_regions.proofs.LeastOf.{nest_by, least_same, least_or}
 

@@ -8,7 +8,7 @@ use Rattle.flat_graph.specs.FlatGraph.{FlatNode, list_lt, IsNumberedBefore}
 use Rattle.flat_graph.specs.Numbered.{ArePlaces, node_at}
 use Rattle.flat_graph.specs.CodeGraph.{CodeGraph, graph_of, places_of, HasCode}
 use Rattle.loop_regions.specs.Stated.{seen_from}
-use Rattle.loop_regions.specs.Heads.{is_seen_from}
+use Rattle.loop_regions.specs.Inner.Heads.{is_seen_from}
 
 pub seen_none : (c d : List ℕ) (a : ℕ) → starts_with nat_eq d c ≡ false → seen_from c d a ≡ None
 seen_none [] [] a e = absurd (both_ways true e refl)

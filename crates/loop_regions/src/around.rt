@@ -1,7 +1,7 @@
 // For each region the regions round it.
 ghost use Rattle.std.specs.Prelude.{◌≡◌, ◌↔◌, ◌<◌, ℕ, IfOk, IsTrue, length, slice_index};
 ghost use Rattle.loop_regions.specs.CodeNest.{has, row};
-ghost use Rattle.loop_regions.specs.FoundRegions.{nest_in, AreAround};
+ghost use Rattle.loop_regions.specs.Inner.FoundRegions.{nest_in, AreAround};
 
 use crate::found::Regions;
 use crate::holders::Holders;

@@ -1,10 +1,10 @@
 // Cycles without back edges.
 ghost use Rattle.std.specs.Prelude.{◌≡◌, ◌+◌, ◌≤◌, ◌↔◌, ◌<◌, IfOk, OnOk, IsTrue, length};
 ghost use Rattle.flat_graph.specs.CodeGraph.{graph_of};
-ghost use Rattle.loop_regions.specs.Least.{IsLeastNumber};
+ghost use Rattle.loop_regions.specs.Inner.Least.{IsLeastNumber};
 ghost use Rattle.loop_regions.specs.Stated.{IsOnCycle};
-ghost use Rattle.loop_regions.specs.FoundRegions.{nest_in};
-ghost use Rattle.loop_regions.specs.ForwardPaths.{IsSearch, IsStartOrSeen, EdgesFrom, to_search};
+ghost use Rattle.loop_regions.specs.Inner.FoundRegions.{nest_in};
+ghost use Rattle.loop_regions.specs.Inner.ForwardPaths.{IsSearch, IsStartOrSeen, EdgesFrom, to_search};
 
 use crate::found::Regions;
 use crate::ranks::{all_fall, forward, ranks};

@@ -1,5 +1,5 @@
 // The regions of a graph before they are known to be nested.
-ghost use Rattle.loop_regions.specs.RegionLists.{AreRegionLists};
+ghost use Rattle.loop_regions.specs.Inner.RegionLists.{AreRegionLists};
 
 use crate::heads::{bounds_of, heads, nodes_of};
 use crate::holders::{Holders, includes};
@@ -22,7 +22,7 @@ impl Regions {
     ghost use Rattle.flat_graph.specs.CodeGraph.{graph_of, places_of};
     ghost use Rattle.loop_regions.specs.Stated.{IsRegions};
     ghost use Rattle.loop_regions.specs.CodeNest.{has, row};
-    ghost use Rattle.loop_regions.specs.FoundRegions.{nest_in, is_head};
+    ghost use Rattle.loop_regions.specs.Inner.FoundRegions.{nest_in, is_head};
 
     /// The regions of stated loops, one for each node at the head of one, numbered by these nodes. Where two loops have
     /// one head, the region is that of the first.

@@ -3,7 +3,7 @@ ghost use Rattle.std.specs.Prelude.{◌≡◌, ℕ, IfOk, IfErr, length};
 ghost use Rattle.flat_graph.specs.CodeGraph.{graph_of, places_of};
 ghost use Rattle.loop_regions.specs.CodeNest.{nest_of, AreBounded, IsNestOf};
 ghost use Rattle.loop_regions.specs.Stated.{IsRegions, HasNoLoopRefusals, IsSameHead};
-ghost use Rattle.loop_regions.specs.FoundRegions.{nest_in};
+ghost use Rattle.loop_regions.specs.Inner.FoundRegions.{nest_in};
 ghost use Rattle.loop_regions.specs.LoopErrors.{IsLoopError};
 
 use crate::around::regions_around;

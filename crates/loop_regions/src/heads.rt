@@ -2,7 +2,7 @@
 ghost use Rattle.std.specs.Prelude.{◌≡◌, ◌<◌, ◌≤◌, IfOk, length, map, Some, slice_get, slice_index, ℕ};
 ghost use Rattle.crpd_base.specs.declared.data.LoopAt.{LoopAt};
 ghost use Rattle.flat_graph.specs.CodeGraph.{graph_of, places_of};
-ghost use Rattle.loop_regions.specs.Heads.{IsLoopAt, AreHeads};
+ghost use Rattle.loop_regions.specs.Inner.Heads.{IsLoopAt, AreHeads};
 
 use crpd_base::{LoopAt, NodeId};
 use flat_graph::Graph;

@@ -3,7 +3,7 @@ ghost use Rattle.std.specs.Prelude.{◌≡◌, ◌<◌, ◌≤◌, ◌↔◌, �
 ghost use Rattle.flat_graph.specs.CodeGraph.{graph_of, places_of};
 ghost use Rattle.loop_regions.specs.CodeNest.{has, row};
 ghost use Rattle.loop_regions.specs.Stated.{seen_from, region_holds};
-ghost use Rattle.loop_regions.specs.Heads.{AreHeads, IsHeldBy, is_seen_from};
+ghost use Rattle.loop_regions.specs.Inner.Heads.{AreHeads, IsHeldBy, is_seen_from};
 
 use crate::heads::Head;
 use crate::holders::Holders;

@@ -1,6 +1,6 @@
 // The lesser of two numbers.
 ghost use Rattle.std.specs.Prelude.{◌≡◌};
-ghost use Rattle.loop_regions.specs.Least.{lesser};
+ghost use Rattle.loop_regions.specs.Inner.Least.{lesser};
 
 /// The lesser of two numbers, or the one that is there.
 pub(crate) fn lesser(a: Option<u32>, b: Option<u32>) -> Option<u32>

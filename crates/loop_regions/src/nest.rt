@@ -24,7 +24,7 @@ impl Model for Nest {
 
     ghost Value = { CodeNest };
 
-    ghost use Rattle.loop_regions.specs.StoredNest.{IsStoredNest};
+    ghost use Rattle.loop_regions.specs.Inner.StoredNest.{IsStoredNest};
 
     ghost view = { λ n. record { heads = n.heads; bounds = n.bounds; holders = n.holders } };
 
@@ -34,8 +34,8 @@ impl Model for Nest {
 impl Nest {
     ghost use Rattle.std.specs.Prelude.{◌≡◌, ◌<◌, ◌≤◌, length, IfOk};
     ghost use Rattle.loop_regions.specs.CodeNest.{nest_of};
-    ghost use Rattle.loop_regions.specs.FoundRegions.{code_nest};
-    ghost use Rattle.loop_regions.specs.StoredNest.{IsStoredNest};
+    ghost use Rattle.loop_regions.specs.Inner.FoundRegions.{code_nest};
+    ghost use Rattle.loop_regions.specs.Inner.StoredNest.{IsStoredNest};
     ghost use Rattle.loop_regions.specs.Levels.{IsLevel, IsParent};
 
     /// The nest of regions, with the parent of each region and the innermost region of each node.

@@ -2,10 +2,10 @@
 ghost use Rattle.std.specs.Prelude.{◌≡◌, ◌<◌, ℕ, IfOk, IsTrue, None, length, slice_index_or};
 ghost use Rattle.std.specs.List.{list_any};
 ghost use Rattle.loop_regions.specs.CodeNest.{has, row};
-ghost use Rattle.loop_regions.specs.Least.{IsLeastNumber};
+ghost use Rattle.loop_regions.specs.Inner.Least.{IsLeastNumber};
 ghost use Rattle.loop_regions.specs.Levels.{IsLevel, IsParent};
 ghost use Rattle.loop_regions.specs.Stated.{IsNotNested};
-ghost use Rattle.loop_regions.specs.FoundRegions.{nest_in, AreAround, lie_across, are_across, is_other, is_better, better, IsInnermost, AreInLine};
+ghost use Rattle.loop_regions.specs.Inner.FoundRegions.{nest_in, AreAround, lie_across, are_across, is_other, is_better, better, IsInnermost, AreInLine};
 
 use crate::around::is_like_before;
 use crate::found::Regions;

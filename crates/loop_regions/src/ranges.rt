@@ -2,7 +2,7 @@
 ghost use Rattle.std.specs.Prelude.{◌≡◌, IfOk, length, nat_le};
 ghost use Rattle.std.specs.List.Sorted.{IsNonDecreasingBy, IsPermutation};
 ghost use Rattle.flow_watch.specs.Watch.{holds};
-ghost use Rattle.loop_regions.specs.Ranges.{AreReaches};
+ghost use Rattle.loop_regions.specs.Inner.Ranges.{AreReaches};
 
 use crpd_base::LoopAt;
 use std::alloc::{AllocError, Global};
@@ -19,7 +19,7 @@ pub(crate) struct RangedLoop<'a> {
 
 impl<'a> Model for RangedLoop<'a> {
     ghost use Rattle.crpd_base.specs.declared.data.LoopAt.{LoopAt};
-    ghost use Rattle.loop_regions.specs.Ranges.{AreRanges};
+    ghost use Rattle.loop_regions.specs.Inner.Ranges.{AreRanges};
 
     ghost Value = { LoopAt };
 

@@ -2,8 +2,8 @@
 ghost use Rattle.std.specs.Prelude.{◌≡◌, ◌<◌, ◌^◌, ℕ, All, IfOk, IfSome, OnOk, IsTrue, Some, length, slice_get, slice_index};
 ghost use Rattle.flat_graph.specs.CodeGraph.{graph_of};
 ghost use Rattle.loop_regions.specs.Stated.{IsForward};
-ghost use Rattle.loop_regions.specs.FoundRegions.{nest_in, is_back};
-ghost use Rattle.loop_regions.specs.ForwardPaths.{IsForwardBy};
+ghost use Rattle.loop_regions.specs.Inner.FoundRegions.{nest_in, is_back};
+ghost use Rattle.loop_regions.specs.Inner.ForwardPaths.{IsForwardBy};
 
 use crate::found::Regions;
 use crate::second_entry::next;

@@ -1,7 +1,7 @@
 // Stated loops with one head.
 ghost use Rattle.std.specs.Prelude.{◌≡◌, ◌<◌, ◌==◌, length};
 ghost use Rattle.std.specs.List.{list_any};
-ghost use Rattle.loop_regions.specs.Least.{IsLeastNumber, IsHeadBefore};
+ghost use Rattle.loop_regions.specs.Inner.Least.{IsLeastNumber, IsHeadBefore};
 ghost use Rattle.loop_regions.specs.Stated.{IsSameHead};
 
 use crate::least::lesser;

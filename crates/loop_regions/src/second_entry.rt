@@ -1,9 +1,9 @@
 // Regions that are entered elsewhere than at their heads.
 ghost use Rattle.std.specs.Prelude.{◌≡◌, ◌<◌, length, slice_get};
 ghost use Rattle.flat_graph.specs.CodeGraph.{graph_of};
-ghost use Rattle.loop_regions.specs.Least.{IsLeastNumber};
+ghost use Rattle.loop_regions.specs.Inner.Least.{IsLeastNumber};
 ghost use Rattle.loop_regions.specs.Stated.{IsSecondEntry};
-ghost use Rattle.loop_regions.specs.FoundRegions.{nest_in, is_inside_some, enters, EntersFrom, EntersBy, IsInsideStart};
+ghost use Rattle.loop_regions.specs.Inner.FoundRegions.{nest_in, is_inside_some, enters, EntersFrom, EntersBy, IsInsideStart};
 
 use crate::found::Regions;
 use crate::least::lesser;

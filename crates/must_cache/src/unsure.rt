@@ -3,8 +3,9 @@ ghost use Rattle.std.specs.Prelude.{◌≡◌, ℕ, ◌<◌, ◌≤◌, ◌*◌,
 ghost use Rattle.crpd_base.specs.Sets.{has};
 ghost use Rattle.icache.specs.Accesses.{accesses};
 ghost use Rattle.flat_graph.specs.CodeGraph.{graph_of, places_of};
-ghost use Rattle.must_cache.specs.Marks.{Marks, either_marks, marks_after_access, marks_below, sets_at};
-ghost use Rattle.must_cache.specs.MarkLaws.{either_joins, unmarked_distributes, few_marked};
+ghost use Rattle.must_cache.specs.Marks.{sets_at};
+ghost use Rattle.must_cache.specs.Inner.Marks.{Marks, either_marks, marks_after_access, marks_below};
+ghost use Rattle.must_cache.specs.Inner.MarkLaws.{either_joins, unmarked_distributes, few_marked};
 
 use crpd_base::{NodeId, SetBits};
 use dataflow::Domain;

@@ -1,4 +1,4 @@
-pub mod TurnsInARow
-pub mod Stretches
-pub mod Keeping
-pub mod Taking
+mod TurnsInARow
+mod Stretches
+mod Keeping
+mod Taking

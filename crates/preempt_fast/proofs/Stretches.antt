@@ -19,7 +19,8 @@ use Rattle.preempt_machine.proofs.CyclesLeft.{turned_left}
 use Rattle.preempt_machine.proofs.Order.{IsBest, IsFirst, first_ready_is}
 use Rattle.preempt_machine.proofs.Steps.{candidate_some, ready_from, ready_open, ready_released}
 use Rattle.preempt_machine.proofs.CandidateTurns.{candidate_is}
-use Rattle.preempt_fast.specs.Stretch.{turn_after_steps, machine_after_turns, NoRelease, IdleLaw, SwitchLaw, CyclesLaw, EffectLaw}
+use Rattle.preempt_fast.specs.Stretch.{machine_after_turns, NoRelease, IdleLaw, SwitchLaw, CyclesLaw, EffectLaw}
+use Rattle.preempt_fast.specs.Inner.Stretch.{turn_after_steps}
 use Rattle.preempt_fast.proofs.TurnsInARow.{counts, finishes, open_up_to, switches, turned_by_line}
 
 -- the first ready job stays the first where no job is released

@@ -14,8 +14,9 @@ use Rattle.preempt_machine.proofs.CandidateTurns.{plans_set}
 use Rattle.preempt_fast.specs.declared.parts.Parts.{Parts}
 use Rattle.preempt_machine.specs.declared.queue.Queue.{Queue}
 use Rattle.preempt_machine.specs.declared.schedule.Schedule.{Schedule}
-use Rattle.preempt_fast.specs.Parts.{fast_machine_of, ComesByTurns, HasMadeFastSteps, HasTakenTurns, IsFastMachine}
-use Rattle.preempt_fast.specs.Stretch.{machine_after_turns, turn_after_steps, HasMoved}
+use Rattle.preempt_fast.specs.Inner.Parts.{fast_machine_of, ComesByTurns, HasMadeFastSteps, HasTakenTurns, IsFastMachine}
+use Rattle.preempt_fast.specs.Stretch.{machine_after_turns}
+use Rattle.preempt_fast.specs.Inner.Stretch.{turn_after_steps, HasMoved}
 use Rattle.preempt_machine.proofs.Runs.{run_line, run_more, run_time}
 use Rattle.preempt_fast.proofs.Keeping.{head_stays, kept_by, no_release}
 use Rattle.preempt_fast.proofs.Stretches.{left_by, owner_keeps_in, run_by, stays_by, IsStretch}

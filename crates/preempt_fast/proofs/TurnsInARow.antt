@@ -14,7 +14,8 @@ use Rattle.preempt_machine.specs.Step.{Turn, turn_after_step, turn_after_cycle, 
 use Rattle.preempt_machine.specs.Running.{HasPlan}
 use Rattle.preempt_machine.proofs.Steps.{cache_after, turned_cache, turned_line}
 use Rattle.preempt_machine.proofs.TurnLaws.{fetched_none, fetched_standing, fetched_switch}
-use Rattle.preempt_fast.specs.Stretch.{turn_after_steps, with_cycles_used, HasMoved, AreAllCyclesLeft}
+use Rattle.preempt_fast.specs.Stretch.{with_cycles_used, AreAllCyclesLeft}
+use Rattle.preempt_fast.specs.Inner.Stretch.{turn_after_steps, HasMoved}
 
 -- turns, and more of them
 pub turned_more : (sys : System) (time : ℕ) (t : Turn) (a b : ℕ) → turn_after_steps sys time t (a + b) ≡ turn_after_steps sys (time + a) (turn_after_steps sys time t a) b

@@ -1,4 +1,3 @@
 pub mod Stretch
-pub mod Decodings
-pub mod Parts
 pub mod Fast
+pub mod Inner

@@ -9,8 +9,8 @@ ghost use Rattle.preempt_machine.specs.Machine.{System, Open, plan_of};
 ghost use Rattle.preempt_machine.specs.Step.{fetch_cost, turn_after_fetch, turn_after_effect};
 ghost use Rattle.preempt_machine.specs.Running.{system_by, HasPlan};
 ghost use Rattle.preempt_machine.specs.Jobs.{turn_by};
-ghost use Rattle.preempt_fast.specs.Decodings.{AreCosts, AreDecodedAddresses};
-ghost use Rattle.preempt_fast.specs.Stretch.{HasMoved};
+ghost use Rattle.preempt_fast.specs.Inner.Decodings.{AreCosts, AreDecodedAddresses};
+ghost use Rattle.preempt_fast.specs.Inner.Stretch.{HasMoved};
 
 use crate::decoded::{Decoded, Decoding};
 use code_map::CodeMap;

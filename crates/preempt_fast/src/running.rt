@@ -4,7 +4,7 @@ ghost use Rattle.preempt_machine.specs.Machine.{start_machine};
 ghost use Rattle.preempt_machine.specs.Safe.{system_of, NamesTasks};
 ghost use Rattle.preempt_machine.specs.Starts.{start_cache, start_memory, script_end_state};
 ghost use Rattle.preempt_fast.specs.Fast.{IsOutcome};
-ghost use Rattle.preempt_fast.specs.Parts.{fast_machine_of, IsFastMachine, RunsCode};
+ghost use Rattle.preempt_fast.specs.Inner.Parts.{fast_machine_of, IsFastMachine, RunsCode};
 
 use crate::decoded::Decoded;
 use crate::jobs::Core;

@@ -15,8 +15,10 @@ use Rattle.rv_core.specs.Memory.{Memory}
 use Rattle.preempt_machine.specs.declared.Fetch.{Fetch}
 use Rattle.preempt_machine.specs.Machine.{System, Job, Machine, ins_at, job_at, no_job}
 use Rattle.preempt_machine.specs.Step.{is_open, is_ready, keeps_core, candidate, candidate_by, first_ready, turn_of, turn_after_step, turn_after_execution, makes_fetch, fetch_by}
-use Rattle.preempt_machine.specs.Jobs.{turn_by, found_by}
-use Rattle.preempt_machine.specs.Schedule.{due_task, due_place, script_lines, machine_of, owner_keeps, HasTurned, IsReleaseOrder, HasTaskHeads, IsHead, IsOwner, IsFirstReleased, NoneIsReleased}
+use Rattle.preempt_machine.specs.Jobs.{turn_by}
+use Rattle.preempt_machine.specs.Inner.Jobs.{found_by}
+use Rattle.preempt_machine.specs.Schedule.{due_task, due_place, script_lines, owner_keeps, IsReleaseOrder, HasTaskHeads, IsHead, IsOwner, IsFirstReleased, NoneIsReleased}
+use Rattle.preempt_machine.specs.Inner.Schedule.{machine_of, HasTurned}
 use Rattle.preempt_machine.specs.Running.{fetch_told, job_id, HasPlan, HasPlans}
 use Rattle.preempt_machine.specs.declared.parts.Parts.{Parts}
 use Rattle.preempt_machine.proofs.Firsts.{line_is, lines_long}

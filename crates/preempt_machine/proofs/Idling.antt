@@ -11,7 +11,8 @@ use Rattle.preempt_machine.specs.Step.{is_open, is_ready, candidate}
 use Rattle.preempt_machine.specs.Candidate.{release_of}
 use Rattle.preempt_machine.specs.Safe.{end_by}
 use Rattle.preempt_machine.specs.Running.{Running, job_id, running_after_step, running_after_steps, system_by}
-use Rattle.preempt_machine.specs.Schedule.{script_line, script_lines, due_place, due_release, HasMade, IsRepresented, NoneIsReady}
+use Rattle.preempt_machine.specs.Schedule.{script_line, script_lines, due_place, due_release, IsRepresented}
+use Rattle.preempt_machine.specs.Inner.Schedule.{HasMade, NoneIsReady}
 use Rattle.preempt_machine.proofs.Candidates.{none_candidate}
 use Rattle.preempt_machine.proofs.Firsts.{line_is, lines_long, release_le}
 use Rattle.preempt_machine.proofs.Steps.{open_is_below, ready_from, ready_open, ready_released}

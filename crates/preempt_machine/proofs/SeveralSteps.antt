@@ -8,7 +8,7 @@ use Rattle.preempt_machine.specs.declared.parts.Parts.{Parts}
 use Rattle.preempt_machine.specs.Machine.{Machine}
 use Rattle.preempt_machine.specs.Running.{Running, running_after_step, running_after_steps, system_by}
 use Rattle.preempt_machine.specs.Step.{step}
-use Rattle.preempt_machine.specs.Schedule.{machine_of, running_of, HasMade, HasStepped}
+use Rattle.preempt_machine.specs.Inner.Schedule.{machine_of, running_of, HasMade, HasStepped}
 use Rattle.preempt_machine.proofs.Steps.{step_time}
 
 by_time : (n : ℕ) (code : Code) (r : Running) → (running_after_steps n code r).state.time ≡ r.state.time + n

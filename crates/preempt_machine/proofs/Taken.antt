@@ -10,7 +10,8 @@ use Rattle.preempt_machine.specs.declared.schedule.Schedule.{Schedule}
 use Rattle.preempt_machine.specs.Machine.{System, Job, Machine, job_at}
 use Rattle.preempt_machine.specs.Step.{candidate, fetch_by, step, step_by}
 use Rattle.preempt_machine.specs.Running.{fetch_told}
-use Rattle.preempt_machine.specs.Schedule.{machine_by, machine_of, due_place, heads_after, completions_after, AreReleased, HasPassed, HasSettled, HasStepped, HasTurned, IsHead, IsRepresented, IsMachine, IsScheduled}
+use Rattle.preempt_machine.specs.Schedule.{machine_by, due_place, heads_after, completions_after, AreReleased, HasSettled, IsHead, IsRepresented, IsScheduled}
+use Rattle.preempt_machine.specs.Inner.Schedule.{machine_of, HasPassed, HasStepped, HasTurned, IsMachine}
 use Rattle.preempt_machine.proofs.Stepping.{kept_some}
 use Rattle.preempt_machine.proofs.Steps.{step_length, step_line}
 

@@ -10,7 +10,7 @@ use Rattle.rv_core.specs.declared.Next.{Next}
 use Rattle.rv_core.specs.declared.Next.TheVariants.{Goto, Answer, Fault}
 use Rattle.rv_core.specs.Effect.{next_pc}
 use Rattle.flow_watch.specs.Watch.{Watch, is_unbroken}
-use Rattle.preempt_machine.specs.KeptFlag.{kept_at, owner_is_kept, ChangesOwner}
+use Rattle.preempt_machine.specs.Inner.KeptFlag.{kept_at, owner_is_kept, ChangesOwner}
 use Rattle.preempt_machine.specs.Machine.{System, Job, Machine, ins_at, job_at, no_job, plan_of}
 use Rattle.preempt_machine.specs.Safe.{IsKept}
 use Rattle.preempt_machine.specs.Step.{Turn, candidate, turn_after_execution, turn_after_fetch, step, turn_after_step, turn_of, turn_after_effect, turn_after_cycle}

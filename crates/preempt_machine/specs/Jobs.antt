@@ -1,38 +1,13 @@
 -- What the program keeps of a job, and its turns.
-use Rattle.std.specs.Prelude.{◌≡◌, ◌≢◌, ℕ, ◌==◌, ◌&&◌, if◌then◌else◌, is_some, Option, Some, None, []}
+use Rattle.std.specs.Prelude.{ℕ}
 use Rattle.icache.specs.Cache.{Cache}
-use Rattle.icache.specs.declared.Access.{Access}
 use Rattle.rv_core.specs.Memory.{Memory}
 use Rattle.preempt_machine.specs.declared.End.{End}
 use Rattle.preempt_machine.specs.declared.End.TheVariants as «end»
-use Rattle.preempt_machine.specs.declared.jobs.Job.TheInside.{Inside}
 use Rattle.preempt_machine.specs.declared.jobs.Standing as told
 use Rattle.preempt_machine.specs.declared.jobs.Standing.TheVariants as kept
-use Rattle.preempt_machine.specs.Machine.{System, Standing, Open, Answered, Faulted, Job, ins_at}
+use Rattle.preempt_machine.specs.Machine.{Standing, Open, Answered, Faulted, Job}
 use Rattle.preempt_machine.specs.Step.{Turn}
-use Rattle.preempt_machine.specs.Running.{access_by}
-
--- how a job stands
-abbrev pub standing_of : told.Standing → Standing
-standing_of kept.Open = Open
-standing_of (kept.Answered t) = Answered t
-standing_of kept.Faulted = Faulted
-
--- the job that is kept
-abbrev pub job_of : Inside → Job
-job_of j =
-    record {
-      line = j.line;
-      registers = j.registers;
-      pc = j.pc;
-      left = j.left;
-      watch = j.watch;
-      standing = standing_of j.standing;
-    }
-
--- the watch of an open job still has its bottom frame
-abbrev pub HasBottomFrame : Inside → Type 0
-HasBottomFrame j = standing_of j.standing ≡ Open → j.watch ≢ Some []
 
 -- how a released job is told to stand
 abbrev pub end_of_standing : Standing → End
@@ -43,8 +18,3 @@ end_of_standing Faulted = «end».Faulted
 -- a turn of a job, with the switch cycles left
 abbrev pub turn_by : Cache → Memory → ℕ → Job → Turn
 turn_by cache memory k job = record { cache = cache; memory = memory; switch_left = k; job = job }
-
--- what the fetch of a turn finds, where it makes one
-abbrev pub found_by : System → Turn → Option Access
-found_by sys t =
-    if (t.job.left == 0) && is_some (ins_at sys t.job.pc) then Some (access_by sys.platform t.cache t.job.pc) else None

@@ -1,18 +1,16 @@
 -- How the program keeps a machine.
-use Rattle.std.specs.Prelude.{◌≡◌, ◌≢◌, ℕ, suc, ◌+◌, ◌<◌, ◌≤◌, ◌⊎◌, Bool, true, false, if◌then◌else◌, length, map, List, slice_index, slice_index_or, slice_set, Option, Some, None, option_map}
+use Rattle.std.specs.Prelude.{◌≡◌, ◌≢◌, ℕ, ◌+◌, ◌<◌, ◌≤◌, ◌⊎◌, Bool, true, false, if◌then◌else◌, length, map, List, slice_index, slice_index_or, slice_set, Option, Some, None}
 use Rattle.crpd_base.specs.declared.data.ScriptJob.{ScriptJob}
 use Rattle.crpd_base.specs.declared.data.Switching.{Switching}
-use Rattle.code_map.specs.Words.{Code}
 use Rattle.preempt_machine.specs.declared.Completion.{Completion}
 use Rattle.preempt_machine.specs.declared.End.TheVariants as «end»
 use Rattle.icache.specs.Cache.{Cache}
 use Rattle.rv_core.specs.Memory.{Memory}
-use Rattle.preempt_machine.specs.declared.parts.Parts.{Parts}
 use Rattle.preempt_machine.specs.declared.schedule.Schedule.{Schedule}
-use Rattle.preempt_machine.specs.Machine.{System, Job, Machine, job_at, no_job}
-use Rattle.preempt_machine.specs.Step.{is_open, is_ready, keeps_core, machine_after_turn, turn_after_step, turn_of, fetch, fetch_by, step}
+use Rattle.preempt_machine.specs.Machine.{Job, Machine, job_at, no_job}
+use Rattle.preempt_machine.specs.Step.{is_open, keeps_core, step}
 use Rattle.preempt_machine.specs.Jobs.{end_of_standing}
-use Rattle.preempt_machine.specs.Running.{Running, completion_at, fetch_told, running_after_steps}
+use Rattle.preempt_machine.specs.Running.{completion_at}
 
 -- the release and the place of the job at a position of the order by release
 abbrev pub due_release : List (ℕ × ℕ) → ℕ → ℕ
@@ -31,11 +29,6 @@ due_task lines due p = (script_line lines (due_place due p)).task.0
 -- one stands before another in the order: its release is earlier, or as early with a smaller place
 abbrev pub IsDueBefore : ℕ × ℕ → ℕ × ℕ → Type 0
 IsDueBefore a b = (a.0 < b.0) ⊎ ((a.0 ≡ b.0) × (a.1 < b.1))
-
--- the releases and places of a script's jobs, by place
-pub record AreListed (lines : List ScriptJob) (due : List (ℕ × ℕ)) : Type 0 where
-  pub long : length due ≡ length lines
-  pub each : (x : ℕ) → x < length lines → slice_index_or due x (0, 0) ≡ ((script_line lines x).release, x)
 
 -- the jobs of a script in the order of their releases
 pub record IsReleaseOrder (lines : List ScriptJob) (due : List (ℕ × ℕ)) : Type 0 where
@@ -98,10 +91,6 @@ pub record IsUpTo (due : List (ℕ × ℕ)) (time released : ℕ) : Type 0 where
   pub before : (p : ℕ) → p < released → due_release due p < time
   pub after : (p : ℕ) → released ≤ p → p < length due → time ≤ due_release due p
 
--- no job is ready at a time
-abbrev pub NoneIsReady : ℕ → List Job → Type 0
-NoneIsReady time jobs = (x : ℕ) → is_ready time (job_at jobs x) ≡ false
-
 -- the release at a position, or a cycle where none comes before it
 pub record IsNextRelease (due : List (ℕ × ℕ)) (released until time : ℕ) : Type 0 where
   pub within : time ≤ until
@@ -123,10 +112,6 @@ machine_by cache memory s =
       switch_left = s.switch_left;
       jobs = s.jobs.items;
     }
-
--- the state that the parts hold
-abbrev pub machine_of : Parts → Machine
-machine_of p = machine_by p.core.cache p.core.memory p.schedule
 
 -- an owner is a job of the script, and the first of its task while it is open
 pub record IsOwner (jobs : List Job) (due : List (ℕ × ℕ)) (heads : List ℕ) (o : ℕ) : Type 0 where
@@ -156,13 +141,6 @@ abbrev pub IsScheduled : ℕ → Cache → Memory → Schedule → Type 0
 IsScheduled sets cache memory s =
     IsRepresented sets (machine_by cache memory s) s.queue.due.items s.queue.later.items s.queue.heads.items s.queue.released s.completions.items
 
-abbrev pub IsMachine : Parts → Type 0
-IsMachine p = IsScheduled p.core.geometry.platform.sets p.core.cache p.core.memory p.schedule
-
--- what contracts see of the parts
-abbrev pub running_of : Parts → Running
-running_of p = record { platform = p.core.geometry.platform; state = machine_of p; fetch = p.fetch }
-
 -- whether the owner keeps the core
 abbrev pub owner_keeps : Switching → ℕ → List Job → Option ℕ → Bool
 owner_keeps switching time jobs None = false
@@ -187,14 +165,6 @@ pub record HasToldReleases (old new : Schedule) : Type 0 where
   pub heads : new.queue.heads.items ≡ old.queue.heads.items
   pub released : AreReleased old.queue.due.items old.steps old.queue.released new.queue.released old.completions.items new.completions.items
 
--- a cycle has passed: the jobs that are released in it are told to be open, and it is counted
-pub record HasPassed (old new : Schedule) : Type 0 where
-  pub state : (cache : Cache) (memory : Memory) → machine_by cache memory new ≡ record (machine_by cache memory old) { time = suc old.steps }
-  pub due : new.queue.due.items ≡ old.queue.due.items
-  pub later : new.queue.later.items ≡ old.queue.later.items
-  pub heads : new.queue.heads.items ≡ old.queue.heads.items
-  pub released : AreReleased old.queue.due.items old.steps old.queue.released new.queue.released old.completions.items new.completions.items
-
 -- the first open jobs of the tasks, and the completions, once it is told whether the job at a place is over
 abbrev pub heads_after : List Job → List ℕ → List ℕ → ℕ → List ℕ
 heads_after jobs later heads x =
@@ -206,23 +176,6 @@ completions_after jobs cs x =
     if is_open (job_at jobs x).standing then cs
     else slice_set cs x (record { job = (completion cs x).job; «end» = end_of_standing (job_at jobs x).standing })
 
--- the job at a place had its turn at this time, which is not told yet
-pub record HasTurned (sys : System) (old new : Parts) (place : ℕ) : Type 0 where
-  pub state : record (machine_of new) { time = suc old.schedule.steps } ≡ machine_after_turn (machine_of old) place (turn_after_step sys old.schedule.steps (turn_of sys (machine_of old) place))
-  pub steps : new.schedule.steps ≡ old.schedule.steps
-  pub fetch : new.fetch ≡ option_map (fetch_told sys (machine_of old)) (fetch_by sys (machine_of old) (Some place))
-  pub geometry : new.core.geometry ≡ old.core.geometry
-  pub completions : new.schedule.completions ≡ old.schedule.completions
-  pub queue : new.schedule.queue ≡ old.schedule.queue
-
--- nothing changed
-pub record HasSameState (old new : Parts) : Type 0 where
-  pub state : machine_of new ≡ machine_of old
-  pub fetch : new.fetch ≡ old.fetch
-  pub geometry : new.core.geometry ≡ old.core.geometry
-  pub completions : new.schedule.completions ≡ old.schedule.completions
-  pub queue : new.schedule.queue ≡ old.schedule.queue
-
 -- the first job of its task is told to be over, where it is, and nothing else changes
 pub record HasSettled (old new : Schedule) (place : ℕ) : Type 0 where
   pub state : (cache : Cache) (memory : Memory) → machine_by cache memory new ≡ machine_by cache memory old
@@ -231,16 +184,3 @@ pub record HasSettled (old new : Schedule) (place : ℕ) : Type 0 where
   pub released : new.queue.released ≡ old.queue.released
   pub heads : new.queue.heads.items ≡ heads_after old.jobs.items old.queue.later.items old.queue.heads.items place
   pub completions : new.completions.items ≡ completions_after old.jobs.items old.completions.items place
-
--- a step was made
-pub record HasStepped (sys : System) (old new : Parts) : Type 0 where
-  pub state : machine_of new ≡ step sys (machine_of old)
-  pub fetch : new.fetch ≡ option_map (fetch_told sys (machine_of old)) (fetch sys (machine_of old))
-  pub geometry : new.core.geometry ≡ old.core.geometry
-
--- some steps were made, none of them past a cycle
-pub record HasMade (code : Code) (cycle : ℕ) (old new : Running) : Type 0 where
-  pub made : ℕ
-  pub some : 1 ≤ made
-  pub within : old.state.time + made ≤ cycle
-  pub state : new ≡ running_after_steps made code old

@@ -27,7 +27,7 @@ pub(crate) struct Decoded {
 }
 
 impl Model for Decoded {
-    ghost use Rattle.preempt_machine.specs.Decodings.{AreDecoded, Nothing, nothing};
+    ghost use Rattle.preempt_machine.specs.Inner.Decodings.{AreDecoded, Nothing, nothing};
 
     ghost Value = { Nothing };
 

@@ -10,7 +10,8 @@ ghost use Rattle.flow_watch.specs.Watch.{step as watch_step};
 ghost use Rattle.preempt_machine.specs.Machine.{System, Open, Faulted, Answered, ins_at, new_job, plan_of};
 ghost use Rattle.preempt_machine.specs.Step.{turn_after_execution, fetch_cost, turn_after_fetch, goes_to_next, is_open, is_ready, turn_after_effect, turn_after_cycle};
 ghost use Rattle.preempt_machine.specs.Running.{access_by, system_by, HasPlan, IsStoreNow};
-ghost use Rattle.preempt_machine.specs.Jobs.{found_by, end_of_standing, turn_by};
+ghost use Rattle.preempt_machine.specs.Jobs.{end_of_standing, turn_by};
+ghost use Rattle.preempt_machine.specs.Inner.Jobs.{found_by};
 
 use crate::End;
 use crate::decoded::Decoded;

@@ -33,7 +33,7 @@ impl Model for Machine {
     ghost Value = { Running };
 
     ghost use Rattle.preempt_machine.specs.Schedule.{running_of};
-    ghost use Rattle.preempt_machine.specs.KeptFlag.{IsFlagged};
+    ghost use Rattle.preempt_machine.specs.Inner.KeptFlag.{IsFlagged};
 
     ghost view = { λ m. running_of m.parts };
 

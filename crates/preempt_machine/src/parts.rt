@@ -4,8 +4,9 @@ ghost use Rattle.code_map.specs.Words.{Code};
 ghost use Rattle.preempt_machine.specs.Machine.{System, Open, job_at};
 ghost use Rattle.preempt_machine.specs.Step.{candidate, turn_of};
 ghost use Rattle.preempt_machine.specs.Running.{system_by, GivesStore, HasPlan, HasPlans, IsStoreNow};
-ghost use Rattle.preempt_machine.specs.KeptFlag.{ChangesOwner};
-ghost use Rattle.preempt_machine.specs.Schedule.{machine_of, running_of, HasMade, HasStepped, HasTurned, IsHead, IsMachine, HasSameState, NoneIsReady};
+ghost use Rattle.preempt_machine.specs.Inner.KeptFlag.{ChangesOwner};
+ghost use Rattle.preempt_machine.specs.Schedule.{IsHead};
+ghost use Rattle.preempt_machine.specs.Inner.Schedule.{machine_of, running_of, HasMade, HasStepped, HasTurned, IsMachine, HasSameState, NoneIsReady};
 
 use crate::Fetch;
 use crate::jobs::Core;

@@ -1,7 +1,8 @@
 // The order in which the jobs of a script come to the core.
 
 ghost use Rattle.std.specs.Prelude.{◌≡◌, ℕ, ◌+◌, ◌<◌, ◌≤◌, length, replicate, slice_index, slice_set, IfOk, MatchOption};
-ghost use Rattle.preempt_machine.specs.Schedule.{script_line, due_release, due_place, AreListed, IsReleaseOrder, IsLinked, IsFirstFrom, IsFirstReleased, NoneIsReleased, HasOpened, IsNextRelease};
+ghost use Rattle.preempt_machine.specs.Schedule.{script_line, due_release, due_place, IsReleaseOrder, IsLinked, IsFirstFrom, IsFirstReleased, NoneIsReleased, HasOpened, IsNextRelease};
+ghost use Rattle.preempt_machine.specs.Inner.Schedule.{AreListed};
 
 use crate::{Completion, End};
 use crpd_base::{Memory, ScriptJob, Task};

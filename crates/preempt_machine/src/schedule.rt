@@ -7,8 +7,9 @@ ghost use Rattle.preempt_machine.specs.Machine.{System, job_at, new_job, number_
 ghost use Rattle.preempt_machine.specs.Step.{candidate, keeps_core, turn_of};
 ghost use Rattle.preempt_machine.specs.Safe.{system_of, NamesTasks};
 ghost use Rattle.preempt_machine.specs.Running.{HasPlan};
-ghost use Rattle.preempt_machine.specs.KeptFlag.{kept_at};
-ghost use Rattle.preempt_machine.specs.Schedule.{completion, script_line, script_lines, machine_by, owner_keeps, due_place, HasPassed, HasSettled, HasToldReleases, IsReleaseOrder, IsHead, IsOwner, IsScheduled, HasTaskHeads};
+ghost use Rattle.preempt_machine.specs.Inner.KeptFlag.{kept_at};
+ghost use Rattle.preempt_machine.specs.Schedule.{completion, script_line, script_lines, machine_by, owner_keeps, due_place, HasSettled, HasToldReleases, IsReleaseOrder, IsHead, IsOwner, IsScheduled, HasTaskHeads};
+ghost use Rattle.preempt_machine.specs.Inner.Schedule.{HasPassed};
 
 use crate::jobs::Job;
 use crate::queue::Queue;

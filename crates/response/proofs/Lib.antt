@@ -1,4 +1,4 @@
 pub mod WindowLaws
 pub mod Choices
 pub mod Least
-pub mod Jumps
+mod Jumps

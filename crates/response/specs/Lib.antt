@@ -1,2 +1,2 @@
 pub mod Windows
-pub mod LowerBounds
+pub mod Inner

@@ -6,7 +6,7 @@ use Rattle.run_account.specs.declared.told.Account.{Account}
 use Rattle.run_account.specs.Account.{IsAccount, HasAccountFacts}
 use Rattle.run_account.specs.Facts.{AreSetsMet}
 use Rattle.run_account.specs.Nodes.{job_task}
-use Rattle.run_account.specs.Runs.{run_start, run_certificate, HasAccountInput}
+use Rattle.run_account.specs.Inner.Runs.{run_start, run_certificate, HasAccountInput}
 use Rattle.run_account.specs.AccountGraphs.{with_nests, SetsAreMet}
 use Rattle.run_account.specs.Walks.{HasGraphs}
 use Rattle.run_account.proofs.EntryFacts.{ledger_facts}

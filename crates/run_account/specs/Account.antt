@@ -2,14 +2,12 @@
 use Rattle.std.specs.Prelude.{◌≡◌, ℕ, ◌<◌, ◌↔◌, List, length, map, IsTrue}
 use Rattle.crpd_base.specs.declared.data.Certificate.{Certificate}
 use Rattle.loop_regions.specs.TaskGraph.{TaskGraph}
-use Rattle.preempt_machine.specs.declared.Completion.{Completion}
 use Rattle.preempt_machine.specs.Running.{job_id, completion_at}
 use Rattle.preempt_machine.specs.Safe.{IsKept}
 use Rattle.preempt_machine.specs.Schedule.{completion}
 use Rattle.preempt_machine.specs.Step.{Start, state}
 use Rattle.run_account.specs.declared.told.Account.{Account}
 use Rattle.run_account.specs.declared.told.Entry.{Entry}
-use Rattle.run_account.specs.declared.trails.Reload.{Reload}
 use Rattle.run_account.specs.Ledger.{LedgerReload, IsLedger}
 use Rattle.run_account.specs.Facts.{HasFacts}
 
@@ -22,17 +20,6 @@ account_entry s e =
       time = e.time;
       evictor = job_id (state s 0) e.evictor;
       preemptor = job_id (state s 0) e.preemptor;
-    }
-
--- the same from the completions
-abbrev pub entry_from_completions : List Completion → Reload → Entry
-entry_from_completions cs r =
-    record {
-      job = (completion cs r.job).job;
-      set = r.set;
-      time = r.time;
-      evictor = (completion cs r.evictor).job;
-      preemptor = (completion cs r.preemptor).job;
     }
 
 -- the ledger of the first n steps of a run, how the jobs then stand, in the script's order, and whether no watch is broken

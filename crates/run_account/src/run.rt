@@ -3,16 +3,17 @@ ghost use Rattle.std.specs.Prelude.{◌≡◌, ◌<◌, ◌≤◌, ◌+◌, ◌^
 ghost use Rattle.crpd_base.specs.Ranges.{IsTaskSet};
 ghost use Rattle.loop_regions.specs.Nest.{Nest};
 ghost use Rattle.preempt_machine.specs.Schedule.{completion, script_line};
-ghost use Rattle.run_account.specs.Idle.{IsIdle, IsIdleUntil};
+ghost use Rattle.run_account.specs.Inner.Idle.{IsIdle, IsIdleUntil};
 ghost use Rattle.preempt_machine.specs.Running.{HasPlans};
 ghost use Rattle.preempt_machine.specs.Safe.{IsKept, NamesTasks};
 ghost use Rattle.preempt_machine.specs.Step.{state};
-ghost use Rattle.run_account.specs.Account.{entry_from_completions, IsAccount, HasAccountFacts};
+ghost use Rattle.run_account.specs.Account.{IsAccount, HasAccountFacts};
+ghost use Rattle.run_account.specs.Inner.Account.{entry_from_completions};
 ghost use Rattle.run_account.specs.Ledger.{IsLedger};
-ghost use Rattle.run_account.specs.Runs.{run_graphs, run_start, run_certificate, AreHits, IsFetched, IsQuick, HasAccountInput, IsRunning, IsSoFar};
+ghost use Rattle.run_account.specs.Inner.Runs.{run_graphs, run_start, run_certificate, AreHits, IsFetched, IsQuick, HasAccountInput, IsRunning, IsSoFar};
 ghost use Rattle.preempt_machine.specs.Starts.{start_of_script};
 ghost use Rattle.run_account.specs.AccountGraphs.{with_nests, AreGraphsOf, TasksAreMet, SetsAreMet};
-ghost use Rattle.run_account.specs.Trails.{ledger_reload_of, AreTrailsOf};
+ghost use Rattle.run_account.specs.Inner.Trails.{ledger_reload_of, AreTrailsOf};
 
 use crate::told::{Account, Entry};
 use crate::trails::{Reload, Trails};

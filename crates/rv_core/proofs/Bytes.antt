@@ -4,8 +4,9 @@ use Rattle.std.specs.Prelude.{slice_index, slice_range, slice_set}
 use Rattle.std.proofs.lemmas.Slice.{between_is}
 use Rattle.std.proofs.lemmas.List.{drop-drop, drop-set-lt, length-set, length-take-le, take-take, take_more_set}
 use borrow.Rule.Slice.PartMut.{put_mid}
-use Rattle.rv_core.specs.Memory.{Memory, next_byte, put_all, put_byte, put_bytes}
-use Rattle.rv_core.specs.Pages.{little_endian_number, page_with_value}
+use Rattle.rv_core.specs.Memory.{Memory, next_byte, put_all, put_byte}
+use Rattle.rv_core.specs.Inner.Memory.{put_bytes}
+use Rattle.rv_core.specs.Inner.Pages.{little_endian_number, page_with_value}
 
 -- all are below 256
 abbrev pub AreBytes : List ℕ → Type 0

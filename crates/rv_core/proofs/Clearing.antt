@@ -8,8 +8,9 @@ use Rattle.std.specs.BTreeMap.Range.{entries_between, range_contains}
 use Rattle.std.specs.declared.ops.Bound.TheVariants.{Included, Excluded}
 use Rattle.std.specs.Map.{lookup, remove_entry}
 use Rattle.std.specs.Ordering.{is_le, nat_cmp}
-use Rattle.rv_core.specs.Memory.{Memory, IsMemory, byte, put_byte, next_byte, put_bytes, is_within, clear_bytes}
-use Rattle.rv_core.specs.Pages.{Pages, memory_of, ArePages, byte_in, is_not_between}
+use Rattle.rv_core.specs.Memory.{Memory, IsMemory, byte, put_byte, next_byte, is_within, clear_bytes}
+use Rattle.rv_core.specs.Inner.Memory.{put_bytes}
+use Rattle.rv_core.specs.Inner.Pages.{Pages, memory_of, ArePages, byte_in, is_not_between}
 use Rattle.rv_core.proofs.Memories.{byte_after_clear, byte_put, clear_from, put_bytes_from, put_from, same_bytes}
 use Rattle.rv_core.proofs.Pages.{at_other, at_same, byte_of, pages_from}
 

@@ -1,7 +1,8 @@
 -- The memory as a map: what a write changes, and that the bytes tell the memory.
 use Rattle.std.proofs.Common.{◌≡◌, ℕ, zero, suc, ◌+◌, ◌/◌, ◌%◌, ◌^◌, ◌-◌, ◌<◌, ◌≤◌, ◌==◌, true, false, nat_lt, if◌then◌else◌, List, [], ◌∷◌, arith, refl, sym, ap, ◌∙◌, inl, inr, ◌⊎◌, subst, ltb-true, ltb-false, Result, Ok, Err, OnOk, OnErr}
 use Rattle.std.proofs.lemmas.Bool.{cases_Bool, eqb-true, ne_eqb}
-use Rattle.rv_core.specs.Memory.{Memory, IsFrom, IsMemory, byte, prepend_byte, put_byte, is_within, clear_bytes, next_byte, put_bytes, put_half, put_whole}
+use Rattle.rv_core.specs.Memory.{Memory, IsFrom, IsMemory, byte, prepend_byte, put_byte, is_within, clear_bytes, next_byte, put_half, put_whole}
+use Rattle.rv_core.specs.Inner.Memory.{put_bytes}
 
 other_numbers : (a b : ℕ) → (a == b) ≡ false → a ≡ b → ⊥
 other_numbers a b h = grind arith

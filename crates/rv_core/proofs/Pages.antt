@@ -6,8 +6,9 @@ use Rattle.std.proofs.lemmas.Bool.{cases_Bool, cases_lt, cases_eq, lt-ltb, le-lt
 use Rattle.std.specs.BTreeMap.{insert_entry, is_at}
 use Rattle.std.specs.Map.{lookup, set_value}
 use Rattle.std.specs.Ordering.{nat_cmp}
-use Rattle.rv_core.specs.Memory.{Memory, IsFrom, IsMemory, byte, put_byte, next_byte, put_bytes, memory_word}
-use Rattle.rv_core.specs.Pages.{Pages, bytes_before, memory_of, IsPage, ArePages, page_at, byte_in, page_word, page_with_value}
+use Rattle.rv_core.specs.Memory.{Memory, IsFrom, IsMemory, byte, put_byte, next_byte, memory_word}
+use Rattle.rv_core.specs.Inner.Memory.{put_bytes}
+use Rattle.rv_core.specs.Inner.Pages.{Pages, bytes_before, memory_of, IsPage, ArePages, page_at, byte_in, page_word, page_with_value}
 use Rattle.rv_core.proofs.Memories.{byte_below, byte_entry, byte_put, from_entry, from_lower, order_cases, put_bytes_from, put_from, same_bytes}
 
 -- bytes in front of a memory of later addresses

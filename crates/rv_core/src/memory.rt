@@ -3,8 +3,9 @@ ghost use Rattle.std.specs.Prelude.{◌≡◌, ◌↔◌, ℕ, false, ◌+◌, �
 ghost use Rattle.std.specs.BTreeMap.{ContainsKey};
 ghost use Rattle.std.specs.List.{filter};
 ghost use Rattle.std.specs.Ordering.{nat_cmp};
-ghost use Rattle.rv_core.specs.Memory.{IsMemory, ByteAfterPut, PutKeepsMemory, BytesTellMemory, ByteAfterClear, byte as byte_at, put_all, put_byte, put_bytes, clear_bytes, memory_half, memory_word};
-ghost use Rattle.rv_core.specs.Pages.{is_not_between, little_endian_number, page_word, page_with_value};
+ghost use Rattle.rv_core.specs.Memory.{IsMemory, ByteAfterPut, PutKeepsMemory, BytesTellMemory, ByteAfterClear, byte as byte_at, put_all, put_byte, clear_bytes, memory_half, memory_word};
+ghost use Rattle.rv_core.specs.Inner.Memory.{put_bytes};
+ghost use Rattle.rv_core.specs.Inner.Pages.{is_not_between, little_endian_number, page_word, page_with_value};
 
 use crpd_base::Memory;
 use std::alloc::Global;
@@ -22,7 +23,7 @@ pub struct DataMemory {
 impl Model for DataMemory {
     ghost use Rattle.std.specs.Prelude.{ℕ, List};
     ghost use Rattle.rv_core.specs.Memory.{Memory};
-    ghost use Rattle.rv_core.specs.Pages.{memory_of, ArePages};
+    ghost use Rattle.rv_core.specs.Inner.Pages.{memory_of, ArePages};
 
     ghost Value = { Memory };
 

@@ -8,7 +8,8 @@ use Rattle.rv_decode.specs.declared.Ins.TheVariants.{Lui, Auipc, Jal, Jalr, Beq,
 use Rattle.rv_decode.specs.Table.{Key, bits, rd, rs1, rs2, i_imm, s_imm, b_imm, j_imm, signed, fits_key, table, row_of, ins_of_word, r_form, i_form, s_form, b_form, u_form, j_form, fence_form}
 use Rattle.rv_decode.specs.Table.Key.{Opcode, Funct3, Funct7, Whole}
 use Rattle.rv_decode.specs.Range.{HasFieldsInRange, IsSigned, IsEven}
-use Rattle.rv_decode.specs.Encoding.{IsWordOf, word_of_fields, signed_bits, i_word, s_word, b_word, u_word, j_word}
+use Rattle.rv_decode.specs.Encoding.{IsWordOf}
+use Rattle.rv_decode.specs.Inner.Encoding.{word_of_fields, signed_bits, i_word, s_word, b_word, u_word, j_word}
 use Rattle.rv_decode.proofs.Rows.{row_at, at_fields, opcode_is, funct3_is, funct7_is}
 use Rattle.rv_decode.proofs.Pieces.{Pieces, pieces, whole, high_bits, bit_31, bits_30_25, bit_7, bits_11_8, bits_small, bits_again, signed_again, UpperPieces, upper_pieces, upper_whole, top_of_upper, low_of_upper, bit_20, bits_30_21, high_joined, rs2_of_high, funct7_of_high, s_joined, s_low, s_high, b_joined, BranchParts, branch_parts, j_joined, JumpParts, jump_parts, even_bits_13, even_bits_21}
 

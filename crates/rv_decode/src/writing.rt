@@ -1,6 +1,7 @@
 // From an instruction to its word.
 ghost use Rattle.std.specs.Prelude.{◌≡◌, ◌+◌, ◌-◌, ◌<◌, ◌≤◌, ◌^◌, ◌/◌, ◌%◌, ◌*◌};
-ghost use Rattle.rv_decode.specs.Encoding.{IsWordOf, word_of_fields, signed_bits, i_word, s_word, b_word, u_word, j_word};
+ghost use Rattle.rv_decode.specs.Encoding.{IsWordOf};
+ghost use Rattle.rv_decode.specs.Inner.Encoding.{word_of_fields, signed_bits, i_word, s_word, b_word, u_word, j_word};
 ghost use Rattle.rv_decode.specs.Range.{HasFieldsInRange, IsSigned};
 
 use crate::Ins;

@@ -1,6 +1,7 @@
 ghost use Rattle.std.specs.Prelude.{◌≡◌, ℕ, ◌<◌, ◌≤◌, ◌↔◌, IsTrue, length, take, map, slice_index, All};
 ghost use Rattle.std.specs.List.Sorted.{IsNonDecreasing};
-ghost use Rattle.script_reader.specs.Legal.{AreApart, AreAllApart, AreSpacedPairs, EachIsSpaced, IsSpacedBy, IsReleasedInTime, IsLegal, arrivals_of};
+ghost use Rattle.script_reader.specs.Legal.{AreApart, IsReleasedInTime, IsLegal};
+ghost use Rattle.script_reader.specs.Inner.Legal.{AreAllApart, AreSpacedPairs, EachIsSpaced, IsSpacedBy, arrivals_of};
 
 use crpd_base::{Script, ScriptJob, TaskSet};
 

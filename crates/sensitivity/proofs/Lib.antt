@@ -1,7 +1,7 @@
-pub mod Costs
-pub mod Bounds
-pub mod Compared
-pub mod Acceptance
+mod Costs
+mod Bounds
+mod Compared
+mod Acceptance
 pub mod Slacks
-pub mod Parts
-pub mod Trials
+mod Parts
+mod Trials

@@ -17,7 +17,7 @@ use Rattle.must_cache.specs.Sure.{CountsSureHits}
 use Rattle.loop_regions.proofs.Beside.{nested}
 use Rattle.cert_check.specs.TaskGraphs.{task_graph, task_graph_at, nest_at}
 use Rattle.sensitivity.specs.Accepted.{HasCacheBlocks, IsLeastBound, IsAnalysedPart}
-use Rattle.sensitivity.specs.Found.{IsLarge, TellsHits}
+use Rattle.sensitivity.specs.Inner.Found.{IsLarge, TellsHits}
 use Rattle.sensitivity.proofs.Bounds.{one_potential}
 
 -- the sets of a task, from the analyses for an equal platform

@@ -22,7 +22,7 @@ use Rattle.sensitivity.specs.Accepted.{IsLeastBound, IsAccepted, IsFirstTooLarge
 use Rattle.sensitivity.specs.Slack.{IsSlack}
 use Rattle.sensitivity.specs.Laws.{IsLoopBounded, StaysAccepted, NeverStops}
 use Rattle.crpd_base.specs.Tasks.{HasTimes}
-use Rattle.sensitivity.specs.Found.{HaveCacheBlocks, HaveHits, ListsParts, AreKnown, with_cost}
+use Rattle.sensitivity.specs.Inner.Found.{HaveCacheBlocks, HaveHits, ListsParts, AreKnown, with_cost}
 use Rattle.loop_regions.proofs.Beside.{nested}
 use Rattle.sensitivity.proofs.Bounds.{meets_less}
 

@@ -7,7 +7,7 @@ ghost use Rattle.loop_regions.specs.CodeNest.{CodeNest, IsNestOf};
 ghost use Rattle.cert_check.specs.TaskGraphs.{task_graph, task_graph_at, AreTaskGraphs};
 ghost use Rattle.exec_bound.specs.Costs.{greatest_bound};
 ghost use Rattle.sensitivity.specs.Accepted.{HasCacheBlocks, IsLeastBound};
-ghost use Rattle.sensitivity.specs.Found.{IsLarge, TellsHits, HaveCacheBlocks, HaveHits, GivesBounds};
+ghost use Rattle.sensitivity.specs.Inner.Found.{IsLarge, TellsHits, HaveCacheBlocks, HaveHits, GivesBounds};
 
 use crpd_base::{Items, Memory, Part, Platform, SETS, Task, TaskSet, WORDS};
 use evict_sets::evicting;

@@ -1,2 +1,2 @@
 -- Counts, which several steps use.
-pub mod Counting
+mod Counting

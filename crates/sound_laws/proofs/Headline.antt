@@ -1,5 +1,5 @@
 -- The steps together: after the judge's yes no job is late.
-pub mod YesIsSafe
+mod YesIsSafe
 pub mod InRange
-pub mod Undisturbed
+mod Undisturbed
 pub mod Within

@@ -6,10 +6,10 @@ ghost use Rattle.flat_graph.specs.CodeGraph.{graph_of, places_of};
 ghost use Rattle.must_cache.specs.Sure.{CountsSureHits};
 ghost use Rattle.must_cache.specs.States.{AreSure};
 ghost use Rattle.useful_sets.specs.Sets.{AreUseful, sets_at};
-ghost use Rattle.must_cache.specs.Marks.{Marks, either_marks, marks_below};
-ghost use Rattle.must_cache.specs.MarkLaws.{either_joins, few_marked};
-ghost use Rattle.useful_sets.specs.Reuse.{before_access};
-ghost use Rattle.useful_sets.specs.ReuseLaws.{before_distributes};
+ghost use Rattle.must_cache.specs.Inner.Marks.{Marks, either_marks, marks_below};
+ghost use Rattle.must_cache.specs.Inner.MarkLaws.{either_joins, few_marked};
+ghost use Rattle.useful_sets.specs.Inner.Reuse.{before_access};
+ghost use Rattle.useful_sets.specs.Inner.ReuseLaws.{before_distributes};
 
 use crpd_base::{Memory, NodeId, SetBits};
 use dataflow::{Against, Domain, EdgeList, solve};

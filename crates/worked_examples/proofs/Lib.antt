@@ -1,11 +1,11 @@
-pub mod Few
-pub mod InRanges
-pub mod ZeroAlone
-pub mod StraightCode
-pub mod StraightTests
-pub mod LowFiles
-pub mod TwoWords
-pub mod OneLoop
-pub mod TwoTasks
-pub mod ThreeTasks
-pub mod WorkedSets
+mod Few
+mod InRanges
+mod ZeroAlone
+mod StraightCode
+mod StraightTests
+mod LowFiles
+mod TwoWords
+mod OneLoop
+mod TwoTasks
+mod ThreeTasks
+mod WorkedSets

@@ -8,7 +8,7 @@ use Rattle.cert_check.specs.TaskGraphs.{task_graph_at}
 use Rattle.cert_model.specs.Reading.{state_entries}
 use Rattle.cert_model.specs.Ranges.{HasFewPairs}
 use Rattle.cert_build.specs.Analysis.{IsAnalysis}
-use Rattle.cert_build.specs.Assembly.{IsTaskError}
+use Rattle.cert_build.specs.Inner.Assembly.{IsTaskError}
 use Rattle.cert_build.proofs.Counting.{at_task, few_states, few_pairs, counted_more, all_kept, too_many, task_refused}
 use Rattle.cert_build.proofs.all_tasks.analyse_all.Goals as goal
 use Rattle.cert_build.proofs.all_tasks.analyse_all.Goals.{then-found-le-MOST_ENTRIES+in_ok-push, else-found-le-MOST_ENTRIES}

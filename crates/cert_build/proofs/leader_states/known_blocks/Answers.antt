@@ -1,7 +1,7 @@
 use Rattle.std.proofs.Common.{◌≡◌, ◌∙◌, ap, subst, arith}
 use Rattle.icache.specs.Accesses.{accesses}
 use Rattle.flat_graph.specs.CodeGraph.{graph_of, places_of}
-use Rattle.cert_build.specs.Entries.{ListsSure}
+use Rattle.cert_build.specs.Inner.Entries.{ListsSure}
 use Rattle.cert_build.proofs.EntryLaws.{listed_more, listed_same}
 use Rattle.cert_build.proofs.leader_states.known_blocks.Goals as goal
 use Rattle.cert_build.proofs.leader_states.known_blocks.Goals.{in-Some+in_ok-push_pair, in_default}

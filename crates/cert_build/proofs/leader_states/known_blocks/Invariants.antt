@@ -1,7 +1,7 @@
 -- The pairs of the sets so far.
 use Rattle.icache.specs.Accesses.{accesses}
 use Rattle.flat_graph.specs.CodeGraph.{graph_of, places_of}
-use Rattle.cert_build.specs.Entries.{ListsSure}
+use Rattle.cert_build.specs.Inner.Entries.{ListsSure}
 use Rattle.cert_build.proofs.leader_states.known_blocks.Given as goal
 
 abbrev pub invariant-loop-set : goal.invariant-loop-set

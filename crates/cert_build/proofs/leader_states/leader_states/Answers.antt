@@ -4,7 +4,7 @@ use Rattle.std.proofs.lemmas.List.{get_or_default}
 use Rattle.crpd_base.specs.declared.data.NodeState.{NodeState}
 use Rattle.icache.specs.Accesses.{accesses}
 use Rattle.flat_graph.specs.CodeGraph.{graph_of, places_of}
-use Rattle.cert_build.specs.Entries.{AreLeaderEntries}
+use Rattle.cert_build.specs.Inner.Entries.{AreLeaderEntries}
 use Rattle.cert_build.proofs.EntryLaws.{best_entry, entry_ranges, entries_more, entries_same}
 use Rattle.cert_build.proofs.leader_states.leader_states.Goals as goal
 use Rattle.cert_build.proofs.leader_states.leader_states.Goals.{then-leader+in_ok-entry+in_ok-push, else-leader}

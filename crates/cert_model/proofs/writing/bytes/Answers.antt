@@ -2,7 +2,7 @@ use Rattle.std.proofs.Common.{◌++◌, ap, ◌∙◌}
 use Rattle.json.specs.Print.{print}
 use Rattle.serde_json.specs.Data.{object}
 use Rattle.serde_json.proofs.Texts.{print-outline}
-use Rattle.cert_model.specs.Tokens.{tokens_of}
+use Rattle.cert_model.specs.Inner.Tokens.{tokens_of}
 use Rattle.cert_model.specs.Writing.{text, certificate_members}
 use Rattle.cert_model.proofs.writing.bytes.Goals as goal
 

@@ -1,7 +1,7 @@
 use Rattle.std.proofs.Common.{map}
 use Rattle.serde_json.specs.Data.{object, array}
 use Rattle.serde_json.specs.View.{items_of}
-use Rattle.cert_model.specs.Tokens.{tokens_of}
+use Rattle.cert_model.specs.Inner.Tokens.{tokens_of}
 use Rattle.cert_model.specs.Writing.{task_data, certificate_members}
 use Rattle.cert_model.proofs.Adds.{wrote, then, moved, closes}
 use Rattle.cert_model.proofs.writing.certificate.Goals as goal

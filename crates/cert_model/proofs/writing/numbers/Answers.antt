@@ -1,4 +1,4 @@
-use Rattle.cert_model.specs.Tokens.{tokens_of}
+use Rattle.cert_model.specs.Inner.Tokens.{tokens_of}
 use Rattle.cert_model.specs.Writing.{whole_number}
 use Rattle.cert_model.proofs.Adds.{wrote, all_of, list}
 use Rattle.cert_model.proofs.writing.numbers.Goals as goal

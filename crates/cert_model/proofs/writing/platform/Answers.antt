@@ -1,7 +1,7 @@
 use Rattle.std.proofs.Common.{codes, [], ◌∷◌}
 use Rattle.json.specs.Token.{key, string}
 use Rattle.serde_json.specs.Data.{object}
-use Rattle.cert_model.specs.Tokens.{tokens_of}
+use Rattle.cert_model.specs.Inner.Tokens.{tokens_of}
 use Rattle.cert_model.specs.Writing.{platform_members}
 use Rattle.cert_model.proofs.Adds.{wrote, then, moved, closes}
 use Rattle.cert_model.proofs.writing.platform.Goals as goal

@@ -1,7 +1,7 @@
 use Rattle.std.proofs.Common.{◌≡◌, [], ◌∷◌, decimal, arith}
 use Rattle.json.specs.Token.{number}
 use Rattle.cert_model.specs.Writing.{set_data, whole_number, numbers_below}
-use Rattle.cert_model.specs.Tokens.{tokens_by}
+use Rattle.cert_model.specs.Inner.Tokens.{tokens_by}
 use Rattle.cert_model.proofs.Adds.{wrote, moved, list}
 use Rattle.cert_model.proofs.Next.{start, wrote_next, wrote_none}
 use Rattle.cert_model.proofs.writing.set_numbers.Goals as goal

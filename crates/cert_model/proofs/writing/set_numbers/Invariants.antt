@@ -1,5 +1,5 @@
 use Rattle.std.proofs.Common.{◌≤◌, ◌-◌}
-use Rattle.cert_model.specs.Tokens.{Adds, tokens_by}
+use Rattle.cert_model.specs.Inner.Tokens.{Adds, tokens_by}
 use Rattle.cert_model.specs.Writing.{whole_number, numbers_below}
 use Rattle.cert_model.proofs.writing.set_numbers.Given as goal
 

@@ -2,7 +2,7 @@ use Rattle.std.proofs.Common.{codes, map, [], ◌∷◌}
 use Rattle.json.specs.Token.{key, string}
 use Rattle.serde_json.specs.Data.{array}
 use Rattle.serde_json.specs.View.{items_of}
-use Rattle.cert_model.specs.Tokens.{tokens_of}
+use Rattle.cert_model.specs.Inner.Tokens.{tokens_of}
 use Rattle.cert_model.specs.Writing.{numbers_data, state_data, task_data, task_members}
 use Rattle.cert_model.proofs.Adds.{wrote, then, moved, closes}
 use Rattle.cert_model.proofs.writing.task.Goals as goal

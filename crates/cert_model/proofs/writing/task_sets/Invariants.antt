@@ -1,6 +1,6 @@
 use Rattle.std.proofs.Common.{ℕ, ◌<◌, get_or}
 use Rattle.crpd_base.specs.declared.data.TaskPart.{TaskPart}
-use Rattle.cert_model.specs.Ranges.{HasSetWords}
+use Rattle.cert_model.specs.Inner.Ranges.{HasSetWords}
 use Rattle.cert_model.proofs.writing.task_sets.Given as goal
 
 abbrev pub invariant-loop-task : goal.invariant-loop-task

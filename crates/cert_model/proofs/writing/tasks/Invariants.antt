@@ -1,5 +1,5 @@
 use Rattle.std.proofs.Common.{take}
-use Rattle.cert_model.specs.Tokens.{Adds, tokens_by}
+use Rattle.cert_model.specs.Inner.Tokens.{Adds, tokens_by}
 use Rattle.cert_model.specs.Writing.{task_data}
 use Rattle.cert_model.proofs.writing.tasks.Given as goal
 

@@ -2,7 +2,7 @@ use Rattle.std.proofs.Common.{◌∙◌, List, Some, subst}
 use Rattle.std.specs.Prelude.{All}
 use Rattle.crpd_base.specs.declared.data.TaskPart.{TaskPart}
 use Rattle.serde_json.specs.Data.{object}
-use Rattle.cert_model.specs.Ranges.{HasSetWords}
+use Rattle.cert_model.specs.Inner.Ranges.{HasSetWords}
 use Rattle.cert_model.specs.Writing.{certificate_members}
 use Rattle.cert_model.proofs.Back.{certificate_back}
 use Rattle.cert_model.proofs.Trees.{certificate_reads}

@@ -4,8 +4,8 @@ use Rattle.std.proofs.lemmas.Result.{err_from_is_err_and}
 use Rattle.crpd_base.specs.declared.data.NodeState.{NodeState}
 use Rattle.cert_model.specs.Ranges.{HasFewPairs}
 use Rattle.cert_model.specs.Reading.{state_entries}
-use Rattle.cert_update.specs.Coded.{coded_side}
-use Rattle.cert_update.specs.Parts.{CountsNewEntries}
+use Rattle.cert_update.specs.Inner.Coded.{coded_side}
+use Rattle.cert_update.specs.Inner.Parts.{CountsNewEntries}
 use Rattle.cert_build.proofs.Counting.{few_states, few_pairs}
 use Rattle.cert_update.proofs.NewParts.{kept_more, dropped_more, refused, many}
 use Rattle.cert_update.proofs.Pass.{is_graph}

@@ -1,6 +1,6 @@
 use Rattle.std.proofs.Common.{List, subst, sym}
 use Rattle.code_map.specs.declared.runs.Run.{Run}
-use Rattle.code_map.specs.Runs.{IsByteIndex}
+use Rattle.code_map.specs.Inner.Runs.{IsByteIndex}
 use Rattle.code_map.specs.Words.{image_byte}
 use Rattle.code_map.proofs.Indexed.{alone_index}
 use Rattle.code_map.proofs.files.own_index.Goals as goal

@@ -1,7 +1,7 @@
 use Rattle.std.proofs.Common.{◌≡◌, ℕ, ◌<◌, List, length, get_or}
 use Rattle.crpd_base.specs.declared.data.Image.{Image}
 use Rattle.code_map.specs.declared.runs.Run.{Run}
-use Rattle.code_map.specs.Runs.{IsByteIndex}
+use Rattle.code_map.specs.Inner.Runs.{IsByteIndex}
 use Rattle.code_map.specs.Words.{image_byte}
 use Rattle.code_map.proofs.files.own_indexes.Given as goal
 

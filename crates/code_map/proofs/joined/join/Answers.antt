@@ -1,8 +1,9 @@
 use Rattle.std.proofs.Common.{List, subst, arith}
 use Rattle.std.proofs.lemmas.List.{take_all}
 use Rattle.code_map.specs.declared.pieces.Piece.{Piece}
-use Rattle.code_map.specs.Conflicts.{disagree, IsFirstPassing}
-use Rattle.code_map.specs.Pieces.{piece_byte}
+use Rattle.code_map.specs.Conflicts.{disagree}
+use Rattle.code_map.specs.Inner.Conflicts.{IsFirstPassing}
+use Rattle.code_map.specs.Inner.Pieces.{piece_byte}
 use Rattle.code_map.proofs.Sweep.{swept_more, no_piece}
 use Rattle.code_map.proofs.joined.join.Goals as goal
 

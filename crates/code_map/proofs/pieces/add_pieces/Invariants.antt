@@ -1,6 +1,6 @@
 use Rattle.std.proofs.Common.{◌≡◌, ◌++◌, map, take}
 use Rattle.std.specs.Prelude.{All, filter}
-use Rattle.code_map.specs.Pieces.{HasBytes, piece_of, piece_content}
+use Rattle.code_map.specs.Inner.Pieces.{HasBytes, piece_of, piece_content}
 use Rattle.code_map.proofs.pieces.add_pieces.Given as goal
 
 abbrev pub invariant-loop-segment : goal.invariant-loop-segment

@@ -1,6 +1,6 @@
 use Rattle.std.proofs.Common.{◌≡◌, map, take}
 use Rattle.std.specs.Prelude.{All}
-use Rattle.code_map.specs.Pieces.{HasBytes, all_pieces, piece_content}
+use Rattle.code_map.specs.Inner.Pieces.{HasBytes, all_pieces, piece_content}
 use Rattle.code_map.proofs.pieces.all_pieces.Given as goal
 
 abbrev pub invariant-loop-image : goal.invariant-loop-image

@@ -2,7 +2,7 @@ use Rattle.std.proofs.Common.{List, ℕ, map, rules, subst}
 use Rattle.std.specs.List.Sorted.{IsPermutation}
 use Rattle.std.proofs.lemmas.List.Sorted.{All-permutation, IsPermutation-map, IsNonDecreasingBy-from_sort_by_key}
 use Rattle.code_map.specs.declared.pieces.Piece.{Piece}
-use Rattle.code_map.specs.Pieces.{HasBytes, piece_content}
+use Rattle.code_map.specs.Inner.Pieces.{HasBytes, piece_content}
 use Rattle.code_map.proofs.pieces.pieces.Goals as goal
 
 pub returns-clause-same : goal.returns-clause-same

@@ -1,7 +1,7 @@
 use Rattle.std.proofs.Common.{◌+◌, ◌-◌, ◌<◌, ◌≤◌, length, arith, subst}
 use Rattle.code_map.specs.declared.runs.Run.{Run}
 use Rattle.code_map.specs.NextPassing.{IsNextPassing}
-use Rattle.code_map.specs.Runs.{has_word}
+use Rattle.code_map.specs.Inner.Runs.{has_word}
 use Rattle.code_map.proofs.Found.{blank}
 use Rattle.code_map.proofs.NextWord.{item_at, count_of, none_anywhere, none_before, none_more, next_found}
 use Rattle.code_map.proofs.runs.next_word.Goals as goal

@@ -1,5 +1,5 @@
 use Rattle.std.proofs.Common.{◌≡◌, ℕ, ◌+◌, ◌^◌, ◌<◌, ◌≤◌, false, get_or}
-use Rattle.code_map.specs.Runs.{has_word}
+use Rattle.code_map.specs.Inner.Runs.{has_word}
 use Rattle.code_map.proofs.Found.{blank}
 use Rattle.code_map.proofs.runs.next_word.Given as goal
 

@@ -1,6 +1,6 @@
 use Rattle.std.proofs.Common.{◌≡◌, ◌+◌, ◌-◌, ◌<◌, ◌∙◌, length, sym, subst, arith}
 use Rattle.code_map.specs.declared.runs.Run.{Run}
-use Rattle.code_map.specs.Runs.{run_byte, runs_byte}
+use Rattle.code_map.specs.Inner.Runs.{run_byte, runs_byte}
 use Rattle.code_map.specs.Words.{little_endian}
 use Rattle.code_map.proofs.Found.{blank, get_or_same, no_number, number_of_run, word_there}
 use Rattle.code_map.proofs.runs.word.Goals as goal

@@ -2,7 +2,7 @@ use Rattle.std.proofs.Common.{◌≡◌, ◌<◌, ◌∙◌, List, length, Some,
 use Rattle.std.specs.Prelude.{slice_get}
 use Rattle.std.proofs.lemmas.Option.{slice_get-get_or}
 use Rattle.loop_regions.specs.CodeNest.{CodeNest}
-use Rattle.crpd_input.specs.SameTask.{IsSource}
+use Rattle.crpd_input.specs.Inner.SameTask.{IsSource}
 use Rattle.crpd_input.proofs.SameTask.{nest_serves, regions_serve}
 use Rattle.crpd_input.proofs.renewed.renewed_regions.Goals as goal
 

@@ -1,5 +1,5 @@
 -- The tasks so far.
-use Rattle.crpd_input.specs.SameTask.{AreSources}
+use Rattle.crpd_input.specs.Inner.SameTask.{AreSources}
 use Rattle.crpd_input.proofs.same_task.sources.Given as goal
 
 abbrev pub invariant-loop-place : goal.invariant-loop-place

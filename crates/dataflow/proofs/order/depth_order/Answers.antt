@@ -1,5 +1,5 @@
 use Rattle.std.proofs.Common.{◌≡◌, get_or, true, false, length, ap, arith, subst, sym}
-use Rattle.dataflow.specs.Search.{IsVisitOrder}
+use Rattle.dataflow.specs.Inner.Search.{IsVisitOrder}
 use Rattle.dataflow.proofs.Depth.{none_found, all_left, backwards, each_root}
 use Rattle.dataflow.proofs.order.depth_order.Goals as goal
 

@@ -1,6 +1,6 @@
 -- The first roots are found.
 use Rattle.std.proofs.Common.{◌≡◌, ◌<◌, ℕ, [], true, false, slice_index_or}
-use Rattle.dataflow.specs.Search.{IsInDepth, root_at}
+use Rattle.dataflow.specs.Inner.Search.{IsInDepth, root_at}
 use Rattle.dataflow.proofs.order.depth_order.Given as goal
 
 abbrev pub invariant-loop-k : goal.invariant-loop-k

@@ -1,5 +1,5 @@
 use Rattle.std.proofs.Common.{◌++◌, List, ℕ, ap, subst, sym, ◌∙◌}
-use Rattle.dataflow.specs.Search.{IsVisitOrder}
+use Rattle.dataflow.specs.Inner.Search.{IsVisitOrder}
 use Rattle.dataflow.proofs.Depth.{both_orders}
 use Rattle.dataflow.proofs.order.visit_order.Goals as goal
 

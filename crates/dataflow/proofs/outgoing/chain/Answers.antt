@@ -1,6 +1,6 @@
 use Rattle.std.proofs.Common.{◌≡◌, ap, sym, subst, arith}
 use Rattle.dataflow.proofs.Chain.{chain_step}
-use Rattle.dataflow.specs.Search.{IsChained}
+use Rattle.dataflow.specs.Inner.Search.{IsChained}
 use Rattle.dataflow.proofs.outgoing.chain.Goals as goal
 
 pub loop-k-preserved : goal.loop-k-preserved

@@ -1,5 +1,5 @@
 -- The edges so far are chained.
-use Rattle.dataflow.specs.Search.{IsChained}
+use Rattle.dataflow.specs.Inner.Search.{IsChained}
 use Rattle.dataflow.proofs.outgoing.chain.Given as goal
 
 abbrev pub invariant-loop-k : goal.invariant-loop-k

@@ -1,7 +1,7 @@
 use Rattle.std.proofs.Common.{◌≡◌, ◌<◌, ◌≤◌, Some, None, length, ap, sym, ◌∙◌, subst, arith, option_map, true, false}
 use Rattle.std.proofs.lemmas.List.{get_or_default}
 use Rattle.dataflow.specs.Problem.{problem, fact_at}
-use Rattle.dataflow.specs.Search.{IsPartialSolution, waits, past_edge, absorbed}
+use Rattle.dataflow.specs.Inner.Search.{IsPartialSolution, waits, past_edge, absorbed}
 use Rattle.dataflow.proofs.Chain.{read_last, read_before, falls_back}
 use Rattle.dataflow.proofs.Solution.{HasLaws}
 use Rattle.dataflow.proofs.Steps.{none_passed, stepped, still_source}

@@ -1,7 +1,7 @@
 -- The edges from the next one on, in the chain's order, are still to be passed.
 use Rattle.std.proofs.Common.{◌≡◌, ℕ, ◌<◌, ◌≤◌, Some, length}
 use Rattle.dataflow.specs.Problem.{problem, fact_at}
-use Rattle.dataflow.specs.Search.{IsPartialSolution, IsPassedOn, waits, work_left, past_edge}
+use Rattle.dataflow.specs.Inner.Search.{IsPartialSolution, IsPassedOn, waits, work_left, past_edge}
 use Rattle.dataflow.proofs.solver.pass_on.Given as goal
 
 abbrev pub invariant-loop-next : goal.invariant-loop-next

@@ -2,7 +2,7 @@ use Rattle.std.proofs.Common.{◌≡◌, ℕ, ◌<◌, ◌≤◌, ◌++◌, Some
 use Rattle.std.proofs.Math.Seq.{take-append_seam}
 use Rattle.std.proofs.lemmas.List.{get_or_default, get_or_past, length-set}
 use Rattle.dataflow.specs.Problem.{Problem, fact_at}
-use Rattle.dataflow.specs.Search.{IsPartialSolution, IsPassedOn, waits}
+use Rattle.dataflow.specs.Inner.Search.{IsPartialSolution, IsPassedOn, waits}
 use Rattle.dataflow.proofs.Solution.{is_fact, is_least}
 use Rattle.dataflow.proofs.Steps.{at_start, taken, taken_empty, its_source, solved}
 use Rattle.dataflow.proofs.solver.search.Goals as goal

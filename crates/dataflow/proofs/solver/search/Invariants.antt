@@ -1,7 +1,7 @@
 -- The facts are under way, and what is left to do falls.
 use Rattle.std.proofs.Common.{◌≡◌, length, vec_len}
 use Rattle.dataflow.specs.Problem.{problem, fact_at}
-use Rattle.dataflow.specs.Search.{IsPartialSolution, waits, work_left}
+use Rattle.dataflow.specs.Inner.Search.{IsPartialSolution, waits, work_left}
 use Rattle.dataflow.proofs.solver.search.Given as goal
 
 abbrev pub invariant-loop-node : goal.invariant-loop-node

@@ -1,6 +1,6 @@
 use Rattle.std.proofs.Common.{◌≡◌, ℕ, ◌<◌, length}
 use Rattle.delay_count.specs.Gamma.{part_at}
-use Rattle.delay_classic.specs.Charged.{IsCharged}
+use Rattle.delay_classic.specs.Inner.Charged.{IsCharged}
 use Rattle.delay_classic.proofs.charged.charged_parts.Given as goal
 
 abbrev pub invariant-loop-j : goal.invariant-loop-j

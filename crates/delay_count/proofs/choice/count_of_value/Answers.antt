@@ -1,7 +1,7 @@
 use Rattle.std.proofs.Common.{arith, ◌*◌, ◌^◌, ◌≤◌}
 use Rattle.std.specs.Prelude.{slice_index}
 use Rattle.delay_count.specs.Gamma.{count_at}
-use Rattle.delay_count.specs.Filling.{sum_at_value}
+use Rattle.delay_count.specs.Inner.Filling.{sum_at_value}
 use Rattle.delay_count.proofs.Choices.{counted_most, counted_more, counted_other}
 use Rattle.delay_count.proofs.Shares.{count_is}
 use Rattle.delay_count.proofs.choice.count_of_value.Goals as goal

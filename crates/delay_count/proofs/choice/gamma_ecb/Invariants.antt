@@ -1,7 +1,7 @@
 use Rattle.std.proofs.Common.{◌≡◌, ◌+◌, ◌*◌, ◌<◌, ◌≤◌, length}
 use Rattle.std.specs.Prelude.{slice_index}
 use Rattle.delay_count.specs.Gamma.{count_at}
-use Rattle.delay_count.specs.Filling.{sum_from_value, worth_from}
+use Rattle.delay_count.specs.Inner.Filling.{sum_from_value, worth_from}
 use Rattle.delay_count.proofs.choice.gamma_ecb.Given as goal
 
 abbrev pub invariant-loop-values : goal.invariant-loop-values

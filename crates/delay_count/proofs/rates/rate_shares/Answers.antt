@@ -4,7 +4,7 @@ use Rattle.std.proofs.lemmas.List.{get_or_read}
 use Rattle.crpd_base.specs.declared.data.Part.{Part}
 use Rattle.crpd_base.specs.Sets.{has}
 use Rattle.delay_count.specs.Gamma.{part_at}
-use Rattle.delay_count.specs.Rates.{affected_rate}
+use Rattle.delay_count.specs.Inner.Rates.{affected_rate}
 use Rattle.delay_count.proofs.Shares.{put_counts, put_useful}
 use Rattle.delay_count.proofs.rates.rate_shares.Goals as goal
 

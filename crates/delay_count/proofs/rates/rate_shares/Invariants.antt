@@ -2,7 +2,7 @@ use Rattle.std.proofs.Common.{◌≡◌, ℕ, ◌<◌, length}
 use Rattle.std.specs.Prelude.{slice_index}
 use Rattle.crpd_base.specs.Sets.{has}
 use Rattle.delay_count.specs.Gamma.{count_at, useful_at, part_at}
-use Rattle.delay_count.specs.Rates.{affected_rate}
+use Rattle.delay_count.specs.Inner.Rates.{affected_rate}
 use Rattle.delay_count.proofs.rates.rate_shares.Given as goal
 
 abbrev pub invariant-loop-k : goal.invariant-loop-k

@@ -1,5 +1,5 @@
 use Rattle.std.proofs.Common.{◌≡◌, ℕ, ◌<◌, get_or, length}
-use Rattle.delay_count.specs.Words.{useful_words}
+use Rattle.delay_count.specs.Inner.Words.{useful_words}
 use Rattle.delay_count.proofs.union.words_at.Given as goal
 
 abbrev pub invariant-loop-k : goal.invariant-loop-k

@@ -1,5 +1,5 @@
 use Rattle.std.proofs.lemmas.Fn.{always_returns_same}
-use Rattle.flat_graph.specs.NumberingOrder.{flat_cmp, stand_node}
+use Rattle.flat_graph.specs.Inner.NumberingOrder.{flat_cmp, stand_node}
 use Rattle.flat_graph.proofs.graph.search.Goals as goal
 
 pub returns-clause-position : goal.returns-clause-position

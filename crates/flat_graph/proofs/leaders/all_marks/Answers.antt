@@ -1,6 +1,6 @@
 use Rattle.std.proofs.Common.{◌≡◌, ℕ, ◌∙◌, ◌+◌, sym, ap, subst, arith, length, take, drop, ◌++◌, List, Some, slice_get, get_or}
 use Rattle.std.proofs.lemmas.Option.{slice_get-get_or}
-use Rattle.flat_graph.specs.Leaders.{AreMarked, mark_after_edges}
+use Rattle.flat_graph.specs.Inner.Leaders.{AreMarked, mark_after_edges}
 use Rattle.flat_graph.specs.declared.leaders.Mark.{Mark}
 use Rattle.flat_graph.specs.declared.lines.Line.{Line}
 use Rattle.flat_graph.specs.declared.graph.Onward.TheVariants.{Ends}

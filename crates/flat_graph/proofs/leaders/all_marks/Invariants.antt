@@ -1,5 +1,5 @@
 use Rattle.std.proofs.Common.{◌≡◌, length}
-use Rattle.flat_graph.specs.Leaders.{AreMarked}
+use Rattle.flat_graph.specs.Inner.Leaders.{AreMarked}
 use Rattle.flat_graph.proofs.leaders.all_marks.Given as goal
 
 abbrev pub invariant-loop-line : goal.invariant-loop-line

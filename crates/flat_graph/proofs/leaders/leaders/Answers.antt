@@ -1,6 +1,6 @@
 use Rattle.std.proofs.Common.{◌≡◌, ◌∙◌, sym, ap, subst, map}
 use Rattle.std.proofs.lemmas.Result.{IfOk-weaker}
-use Rattle.flat_graph.specs.Leaders.{HasLeaders, is_leading}
+use Rattle.flat_graph.specs.Inner.Leaders.{HasLeaders, is_leading}
 use Rattle.flat_graph.proofs.Marks.{all_met}
 use Rattle.flat_graph.proofs.leaders.leaders.Goals as goal
 

@@ -4,11 +4,11 @@ use Rattle.std.proofs.lemmas.Result.{err_from_is_err_and}
 use Rattle.std.proofs.lemmas.List.{length-map}
 use Rattle.code_map.specs.Words.{word_at}
 use Rattle.rv_decode.specs.Flow.{flows}
-use Rattle.flat_graph.specs.GraphParts.{AreNodeLines, AreNumbers, IsNodeLine}
+use Rattle.flat_graph.specs.Inner.GraphParts.{AreNodeLines, AreNumbers, IsNodeLine}
 use Rattle.flat_graph.specs.FlatGraph.{FlatNode, error_of, successors}
-use Rattle.flat_graph.specs.StoredGraph.{onward}
-use Rattle.flat_graph.specs.GraphErrors.{graph_error}
-use Rattle.flat_graph.specs.Spots.{spot_node, spot_nodes, flat_steps, IsBelowEnd}
+use Rattle.flat_graph.specs.Inner.StoredGraph.{onward}
+use Rattle.flat_graph.specs.Inner.GraphErrors.{graph_error}
+use Rattle.flat_graph.specs.Inner.Spots.{spot_node, spot_nodes, flat_steps, IsBelowEnd}
 use Rattle.flat_graph.specs.declared.spots.Spot.{Spot}
 use Rattle.flat_graph.proofs.Explored.{below_end}
 use Rattle.flat_graph.proofs.NodeLines.{flat_at, node_at, led, successors_there, lines_more, refused_line}

@@ -1,7 +1,7 @@
 use Rattle.std.proofs.Common.{◌≡◌, length}
 use Rattle.code_map.specs.Words.{word_at}
-use Rattle.flat_graph.specs.Spots.{spot_nodes}
-use Rattle.flat_graph.specs.GraphParts.{AreNodeLines}
+use Rattle.flat_graph.specs.Inner.Spots.{spot_nodes}
+use Rattle.flat_graph.specs.Inner.GraphParts.{AreNodeLines}
 use Rattle.flat_graph.proofs.lines.lines.Given as goal
 
 abbrev pub invariant-loop-spot : goal.invariant-loop-spot

@@ -1,8 +1,8 @@
 use Rattle.std.proofs.Common.{◌≡◌, subst, Some, slice_get}
 use Rattle.std.proofs.lemmas.Fn.{always_returns_same}
-use Rattle.flat_graph.specs.NumberingOrder.{flat_cmp}
+use Rattle.flat_graph.specs.Inner.NumberingOrder.{flat_cmp}
 use Rattle.flat_graph.specs.FlatGraph.{FlatNode}
-use Rattle.flat_graph.specs.Spots.{spot_node, spot_nodes}
+use Rattle.flat_graph.specs.Inner.Spots.{spot_node, spot_nodes}
 use Rattle.flat_graph.proofs.Numbers.{searched, found_ok}
 use Rattle.flat_graph.proofs.lines.number_of.Goals as goal
 

@@ -5,8 +5,8 @@ use Rattle.std.proofs.lemmas.List.{length-map}
 use Rattle.code_map.specs.Words.{word_at}
 use Rattle.rv_decode.specs.Flow.{flows}
 use Rattle.flat_graph.specs.FlatGraph.{IsNumbering, successors}
-use Rattle.flat_graph.specs.Reach.{AreAdded}
-use Rattle.flat_graph.specs.Spots.{spot_node, spot_nodes, flat_steps}
+use Rattle.flat_graph.specs.Inner.Reach.{AreAdded}
+use Rattle.flat_graph.specs.Inner.Spots.{spot_node, spot_nodes, flat_steps}
 use Rattle.flat_graph.specs.declared.spots.Spot.{Spot}
 use Rattle.flat_graph.proofs.Explored.{explored_first, explored_more, more_within}
 use Rattle.flat_graph.proofs.Sorted.{numbered_spots, more_spots, inside, count}

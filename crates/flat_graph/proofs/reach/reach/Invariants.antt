@@ -1,8 +1,8 @@
 use Rattle.std.proofs.Common.{◌≤◌, ◌+◌, ◌-◌, length}
 use Rattle.code_map.specs.Words.{word_at}
 use Rattle.rv_decode.specs.Flow.{flows}
-use Rattle.flat_graph.specs.Reach.{AreNumbered, AreSameSpots, IsExplored}
-use Rattle.flat_graph.specs.Spots.{spot_nodes}
+use Rattle.flat_graph.specs.Inner.Reach.{AreNumbered, AreSameSpots, IsExplored}
+use Rattle.flat_graph.specs.Inner.Spots.{spot_nodes}
 use Rattle.flat_graph.proofs.reach.reach.Given as goal
 
 abbrev pub invariant-loop-place : goal.invariant-loop-place

@@ -4,7 +4,7 @@ use Rattle.std.proofs.lemmas.Bool.{false≢true}
 use Rattle.rv_decode.specs.declared.Ins.{Ins}
 use Rattle.code_map.specs.Words.{word_at}
 use Rattle.flat_graph.specs.CodeGraph.{ins_of, places_of}
-use Rattle.flat_graph.specs.GraphErrors.{HasInstructionAt}
+use Rattle.flat_graph.specs.Inner.GraphErrors.{HasInstructionAt}
 use Rattle.flat_graph.proofs.same_code.fits.Goals as goal
 
 pub returns-then-not-stands : goal.returns-then-not-stands

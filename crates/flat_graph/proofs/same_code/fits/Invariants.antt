@@ -2,7 +2,7 @@
 use Rattle.std.proofs.Common.{ℕ, ◌<◌}
 use Rattle.code_map.specs.Words.{word_at}
 use Rattle.flat_graph.specs.CodeGraph.{ins_of, places_of}
-use Rattle.flat_graph.specs.GraphErrors.{HasInstructionAt}
+use Rattle.flat_graph.specs.Inner.GraphErrors.{HasInstructionAt}
 use Rattle.flat_graph.proofs.same_code.fits.Given as goal
 
 abbrev pub invariant-loop-u : goal.invariant-loop-u

@@ -1,7 +1,7 @@
 use Rattle.std.proofs.Common.{◌∙◌, sym, ap}
 use Rattle.std.specs.Prelude.{slice_index_or, []}
 use Rattle.std.specs.Ordering.{nat_cmp, ordering_then}
-use Rattle.flat_graph.specs.NumberingOrder.{list_cmp}
+use Rattle.flat_graph.specs.Inner.NumberingOrder.{list_cmp}
 use Rattle.flat_graph.proofs.Order.{list_same}
 use Rattle.flat_graph.proofs.spots.compare.Goals as goal
 

@@ -2,8 +2,8 @@ use Rattle.std.proofs.Common.{ap}
 use Rattle.std.specs.Ordering.{is_lt}
 use Rattle.std.proofs.lemmas.Fn.{always_returns_same}
 use Rattle.std.proofs.lemmas.List.Sorted.{ranks_by}
-use Rattle.flat_graph.specs.NumberingOrder.{flat_cmp}
-use Rattle.flat_graph.specs.Spots.{spot_node}
+use Rattle.flat_graph.specs.Inner.NumberingOrder.{flat_cmp}
+use Rattle.flat_graph.specs.Inner.Spots.{spot_node}
 use Rattle.flat_graph.proofs.Found.{on_ok_map}
 use Rattle.flat_graph.proofs.Order.{flat_order}
 use Rattle.flat_graph.proofs.spots.sort.Goals as goal

@@ -3,11 +3,11 @@ use Rattle.std.proofs.lemmas.List.{length-map}
 use Rattle.std.proofs.lemmas.Option.{slice_get_within}
 use Rattle.code_map.specs.Words.{word_at}
 use Rattle.flat_graph.specs.FlatGraph.{FlatNode, the_first}
-use Rattle.flat_graph.specs.GraphParts.{AreNodeLines, AreStoredNodes}
-use Rattle.flat_graph.specs.Leaders.{AreEnds, HasLeaders}
+use Rattle.flat_graph.specs.Inner.GraphParts.{AreNodeLines, AreStoredNodes}
+use Rattle.flat_graph.specs.Inner.Leaders.{AreEnds, HasLeaders}
 use Rattle.flat_graph.specs.CodeGraph.{IsCodeGraph}
-use Rattle.flat_graph.specs.StoredGraph.{IsStoredGraph, stored_graph}
-use Rattle.flat_graph.specs.Spots.{spot_node, spot_nodes}
+use Rattle.flat_graph.specs.Inner.StoredGraph.{IsStoredGraph, stored_graph}
+use Rattle.flat_graph.specs.Inner.Spots.{spot_node, spot_nodes}
 use Rattle.flat_graph.proofs.Ends.{all_ends}
 use Rattle.flat_graph.proofs.Together.{AreParts, code_graph, is_kept}
 use Rattle.flat_graph.proofs.task_graph.graph_from.Goals as goal

@@ -2,7 +2,7 @@ use Rattle.std.proofs.Common.{◌≡◌, ℕ, ◌-◌, ◌*◌, List, Option, le
 use Rattle.crpd_base.proofs.Rows.{row_ends}
 use Rattle.crpd_base.specs.declared.data.LoopAt.{LoopAt}
 use Rattle.flow_watch.specs.Watch.{all_iterations_after, within_bounds}
-use Rattle.flow_watch.specs.Rows.{frame_row, watch_of}
+use Rattle.flow_watch.specs.Inner.Rows.{frame_row, watch_of}
 use Rattle.std.specs.Vec.{with_items_from}
 use Rattle.flow_watch.specs.Iterations.{HasIterations}
 use Rattle.flow_watch.proofs.Frames.{in_use, loops_told, arrived, overran, vec-written, rows_fit, has_turns, length-row, lent}

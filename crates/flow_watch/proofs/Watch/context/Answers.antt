@@ -1,6 +1,6 @@
 use Rattle.std.proofs.Common.{◌≡◌, ℕ, suc, ◌-◌, Some, sym, ap, ◌∙◌, arith}
 use Rattle.flow_watch.specs.Watch.{context}
-use Rattle.flow_watch.specs.Rows.{frames_of}
+use Rattle.flow_watch.specs.Inner.Rows.{frames_of}
 use Rattle.flow_watch.proofs.Frames.{in_use, calls_are}
 use Rattle.flow_watch.proofs.Watch.context.Goals as goal
 

@@ -1,6 +1,6 @@
 use Rattle.std.proofs.Common.{◌-◌, sym, ap, ◌∙◌, option_and_then}
-use Rattle.flow_watch.specs.Changes.{frames_after_return}
-use Rattle.flow_watch.specs.Rows.{watch_of}
+use Rattle.flow_watch.specs.Inner.Changes.{frames_after_return}
+use Rattle.flow_watch.specs.Inner.Rows.{watch_of}
 use Rattle.flow_watch.proofs.Frames.{popped_frames, strayed, nowhere, ended_frames, broken_is_not_empty}
 use Rattle.flow_watch.proofs.Watch.pop.Goals as goal
 use Rattle.flow_watch.proofs.Watch.pop.Goals.{in-Some, in_default-2, in_default-3, in_default}

@@ -1,8 +1,8 @@
 use Rattle.std.proofs.Common.{ℕ, ◌+◌, ◌-◌, ◌*◌, List, length, take, drop, ap, sym, subst, ◌∙◌, arith}
 use Rattle.crpd_base.proofs.Rows.{row_ends}
 use Rattle.crpd_base.specs.declared.data.LoopAt.{LoopAt}
-use Rattle.flow_watch.specs.Rows.{frame_row}
-use Rattle.flow_watch.specs.Quiet.{KeepsAllIterations}
+use Rattle.flow_watch.specs.Inner.Rows.{frame_row}
+use Rattle.flow_watch.specs.Inner.Quiet.{KeepsAllIterations}
 use Rattle.flow_watch.proofs.Frames.{in_use, loops_told, rows_fit, lent, length-row, quiet_frames}
 use Rattle.flow_watch.proofs.Watch.quiet.Goals as goal
 

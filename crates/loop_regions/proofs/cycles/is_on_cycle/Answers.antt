@@ -2,8 +2,8 @@ use Rattle.std.proofs.Common.{◌≡◌, ◌∙◌, ◌<◌, IsTrue, false, leng
 use Rattle.std.proofs.lemmas.List.{get_or_default}
 use Rattle.flat_graph.specs.CodeGraph.{graph_of}
 use Rattle.loop_regions.specs.Stated.{IsOnCycle}
-use Rattle.loop_regions.specs.FoundRegions.{nest_in}
-use Rattle.loop_regions.specs.ForwardPaths.{was_seen}
+use Rattle.loop_regions.specs.Inner.FoundRegions.{nest_in}
+use Rattle.loop_regions.specs.Inner.ForwardPaths.{was_seen}
 use Rattle.loop_regions.proofs.Searching.{taken, both_done, found_cycle, nil_of}
 use Rattle.loop_regions.proofs.cycles.is_on_cycle.Goals as goal
 

@@ -1,7 +1,7 @@
 use Rattle.std.proofs.Common.{◌≡◌}
 use Rattle.flat_graph.specs.CodeGraph.{graph_of}
-use Rattle.loop_regions.specs.FoundRegions.{nest_in}
-use Rattle.loop_regions.specs.ForwardPaths.{IsSearch, NoEdges, to_search}
+use Rattle.loop_regions.specs.Inner.FoundRegions.{nest_in}
+use Rattle.loop_regions.specs.Inner.ForwardPaths.{IsSearch, NoEdges, to_search}
 use Rattle.loop_regions.proofs.cycles.is_on_cycle.Given as goal
 
 abbrev pub invariant-loop-u : goal.invariant-loop-u

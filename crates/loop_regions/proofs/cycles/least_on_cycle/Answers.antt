@@ -2,7 +2,7 @@ use Rattle.std.proofs.Common.{subst, ⊎_elim, arith}
 use Rattle.std.proofs.lemmas.Bool.{cases_eq, cases_lt, both_ways}
 use Rattle.flat_graph.specs.CodeGraph.{graph_of}
 use Rattle.loop_regions.specs.Stated.{IsOnCycle}
-use Rattle.loop_regions.specs.FoundRegions.{nest_in}
+use Rattle.loop_regions.specs.Inner.FoundRegions.{nest_in}
 use Rattle.loop_regions.proofs.Searching.{no_cycle, cycle_within}
 use Rattle.loop_regions.proofs.cycles.least_on_cycle.Goals as goal
 

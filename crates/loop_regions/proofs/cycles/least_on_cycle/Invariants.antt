@@ -1,6 +1,6 @@
 use Rattle.flat_graph.specs.CodeGraph.{graph_of}
-use Rattle.loop_regions.specs.FoundRegions.{nest_in}
-use Rattle.loop_regions.specs.ForwardPaths.{NoneBelow}
+use Rattle.loop_regions.specs.Inner.FoundRegions.{nest_in}
+use Rattle.loop_regions.specs.Inner.ForwardPaths.{NoneBelow}
 use Rattle.loop_regions.proofs.cycles.least_on_cycle.Given as goal
 
 abbrev pub invariant-loop-y : goal.invariant-loop-y

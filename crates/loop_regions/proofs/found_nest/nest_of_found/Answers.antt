@@ -2,8 +2,8 @@ use Rattle.std.proofs.Common.{sym, subst}
 use Rattle.flat_graph.specs.CodeGraph.{graph_of, places_of}
 use Rattle.loop_regions.specs.Stated.{IsSecondEntry, IsNotNested, IsOnCycle, HasNoLoopRefusals}
 use Rattle.loop_regions.specs.CodeNest.{nest_of}
-use Rattle.loop_regions.specs.Least.{IsLeastNumber}
-use Rattle.loop_regions.specs.FoundRegions.{nest_in}
+use Rattle.loop_regions.specs.Inner.Least.{IsLeastNumber}
+use Rattle.loop_regions.specs.Inner.FoundRegions.{nest_in}
 use Rattle.loop_regions.proofs.LeastNodes.{least_at, entry_within, not_nested_within}
 use Rattle.loop_regions.proofs.Searching.{cycle_within}
 use Rattle.loop_regions.proofs.found_nest.nest_of_found.Goals as goal

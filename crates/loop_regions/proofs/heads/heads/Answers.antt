@@ -1,7 +1,7 @@
 use Rattle.std.proofs.Common.{◌∙◌, sym, ap, subst, ◌+◌, Vec, Global, List}
 use Rattle.std.specs.Prelude.{Some, None}
 use Rattle.flat_graph.specs.CodeGraph.{places_of}
-use Rattle.loop_regions.specs.Heads.{IsLoopAt, AreHeads}
+use Rattle.loop_regions.specs.Inner.Heads.{IsLoopAt, AreHeads}
 use Rattle.loop_regions.specs.declared.heads.Head.{Head}
 use Rattle.loop_regions.proofs.HeadsFound.{no_head, one_head}
 use Rattle.loop_regions.proofs.heads.heads.Goals as goal

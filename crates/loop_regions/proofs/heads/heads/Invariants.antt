@@ -1,5 +1,5 @@
 use Rattle.flat_graph.specs.CodeGraph.{places_of}
-use Rattle.loop_regions.specs.Heads.{AreHeads}
+use Rattle.loop_regions.specs.Inner.Heads.{AreHeads}
 use Rattle.loop_regions.proofs.heads.heads.Given as goal
 
 abbrev pub invariant-loop-node : goal.invariant-loop-node

@@ -1,6 +1,6 @@
 use Rattle.std.proofs.Common.{◌<◌, ◌≤◌, ◌-◌, ℕ, IsFalse}
 use Rattle.flat_graph.specs.CodeGraph.{places_of}
-use Rattle.loop_regions.specs.Heads.{is_seen_from}
+use Rattle.loop_regions.specs.Inner.Heads.{is_seen_from}
 use Rattle.loop_regions.proofs.holding.first_seen.Given as goal
 
 abbrev pub invariant-loop-first : goal.invariant-loop-first

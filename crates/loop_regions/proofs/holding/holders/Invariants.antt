@@ -1,7 +1,7 @@
 use Rattle.std.proofs.Common.{◌≡◌, ◌<◌, ◌↔◌, ℕ, IsTrue, length}
 use Rattle.flat_graph.specs.CodeGraph.{graph_of, places_of}
 use Rattle.loop_regions.specs.CodeNest.{has, row}
-use Rattle.loop_regions.specs.Heads.{IsHeldBy}
+use Rattle.loop_regions.specs.Inner.Heads.{IsHeldBy}
 use Rattle.loop_regions.proofs.holding.holders.Given as goal
 
 abbrev pub invariant-loop-r : goal.invariant-loop-r

@@ -1,5 +1,5 @@
 use Rattle.std.proofs.Common.{None, sym, subst}
-use Rattle.loop_regions.specs.FoundRegions.{nest_in, AreInLine, IsInnermost}
+use Rattle.loop_regions.specs.Inner.FoundRegions.{nest_in, AreInLine, IsInnermost}
 use Rattle.loop_regions.specs.Levels.{IsLevel}
 use Rattle.loop_regions.proofs.Lines.{at_node, level_of, answer_more}
 use Rattle.loop_regions.proofs.nested.levels.Goals as goal

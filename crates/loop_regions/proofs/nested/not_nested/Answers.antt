@@ -1,7 +1,7 @@
 use Rattle.std.proofs.Common.{◌∙◌, sym, ap, ⊎_elim, arith}
 use Rattle.std.proofs.lemmas.Bool.{cases_lt, both_ways}
 use Rattle.loop_regions.specs.CodeNest.{row}
-use Rattle.loop_regions.specs.FoundRegions.{are_across}
+use Rattle.loop_regions.specs.Inner.FoundRegions.{are_across}
 use Rattle.loop_regions.proofs.Lines.{across_from, across, none_across}
 use Rattle.loop_regions.proofs.nested.not_nested.Goals as goal
 

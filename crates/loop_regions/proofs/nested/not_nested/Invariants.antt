@@ -1,6 +1,6 @@
 use Rattle.std.proofs.Common.{◌<◌, ℕ, IsFalse}
 use Rattle.loop_regions.specs.CodeNest.{row}
-use Rattle.loop_regions.specs.FoundRegions.{are_across}
+use Rattle.loop_regions.specs.Inner.FoundRegions.{are_across}
 use Rattle.loop_regions.proofs.nested.not_nested.Given as goal
 
 abbrev pub invariant-loop-y : goal.invariant-loop-y

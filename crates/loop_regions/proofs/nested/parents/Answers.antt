@@ -1,7 +1,7 @@
 use Rattle.std.proofs.Common.{◌≡◌, ◌∙◌, ◌<◌, [], Some, sym, subst, arith, length}
 use Rattle.std.proofs.lemmas.List.{get_or_default}
 use Rattle.loop_regions.specs.CodeNest.{row}
-use Rattle.loop_regions.specs.FoundRegions.{nest_in, AreInLine, IsInnermost}
+use Rattle.loop_regions.specs.Inner.FoundRegions.{nest_in, AreInLine, IsInnermost}
 use Rattle.loop_regions.specs.Levels.{IsParent}
 use Rattle.loop_regions.proofs.Lines.{round_region, parent_of, answer_more}
 use Rattle.loop_regions.proofs.nested.parents.Goals as goal

@@ -1,4 +1,4 @@
-use Rattle.loop_regions.specs.Ranges.{IsReach, AreReaches}
+use Rattle.loop_regions.specs.Inner.Ranges.{IsReach, AreReaches}
 use Rattle.loop_regions.proofs.ranges.reaches.Given as goal
 
 abbrev pub invariant-loop-range : goal.invariant-loop-range

@@ -1,6 +1,6 @@
 use Rattle.std.proofs.Common.{arith}
 use Rattle.flat_graph.specs.CodeGraph.{graph_of}
-use Rattle.loop_regions.specs.FoundRegions.{nest_in}
+use Rattle.loop_regions.specs.Inner.FoundRegions.{nest_in}
 use Rattle.loop_regions.proofs.Searching.{falls_more}
 use Rattle.loop_regions.proofs.ranks.all_fall.Goals as goal
 

@@ -1,7 +1,7 @@
 use Rattle.std.proofs.Common.{◌<◌, ℕ, slice_index}
 use Rattle.flat_graph.specs.CodeGraph.{graph_of}
 use Rattle.loop_regions.specs.Stated.{IsForward}
-use Rattle.loop_regions.specs.FoundRegions.{nest_in}
+use Rattle.loop_regions.specs.Inner.FoundRegions.{nest_in}
 use Rattle.loop_regions.proofs.ranks.all_fall.Given as goal
 
 abbrev pub invariant-loop-u : goal.invariant-loop-u

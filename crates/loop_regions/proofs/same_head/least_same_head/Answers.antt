@@ -1,5 +1,5 @@
 use Rattle.std.proofs.Common.{◌+◌, subst, sym, arith}
-use Rattle.loop_regions.specs.Least.{IsLeastNumber}
+use Rattle.loop_regions.specs.Inner.Least.{IsLeastNumber}
 use Rattle.loop_regions.proofs.SameHeads.{IsSameBelow, one_more, all_heads}
 use Rattle.loop_regions.proofs.same_head.least_same_head.Goals as goal
 

@@ -1,4 +1,4 @@
-use Rattle.loop_regions.specs.Least.{IsLeastNumber}
+use Rattle.loop_regions.specs.Inner.Least.{IsLeastNumber}
 use Rattle.loop_regions.proofs.SameHeads.{IsSameBelow}
 use Rattle.loop_regions.proofs.same_head.least_same_head.Given as goal
 

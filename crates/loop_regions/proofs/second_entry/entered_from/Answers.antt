@@ -1,7 +1,7 @@
 use Rattle.std.proofs.Common.{sym, subst}
 use Rattle.flat_graph.specs.CodeGraph.{graph_of}
-use Rattle.loop_regions.specs.Least.{IsLeastNumber}
-use Rattle.loop_regions.specs.FoundRegions.{nest_in, EntersFrom}
+use Rattle.loop_regions.specs.Inner.Least.{IsLeastNumber}
+use Rattle.loop_regions.specs.Inner.FoundRegions.{nest_in, EntersFrom}
 use Rattle.loop_regions.proofs.SecondEntries.{both_edges}
 use Rattle.loop_regions.proofs.second_entry.entered_from.Goals as goal
 

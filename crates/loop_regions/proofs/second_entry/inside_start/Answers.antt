@@ -1,8 +1,8 @@
 use Rattle.std.proofs.Common.{◌∙◌, sym, ap, subst}
 use Rattle.flat_graph.specs.CodeGraph.{graph_of}
 use Rattle.std.specs.Prelude.{Some, ℕ}
-use Rattle.loop_regions.specs.Least.{IsLeastNumber}
-use Rattle.loop_regions.specs.FoundRegions.{nest_in, is_inside_some, IsInsideStart}
+use Rattle.loop_regions.specs.Inner.Least.{IsLeastNumber}
+use Rattle.loop_regions.specs.Inner.FoundRegions.{nest_in, is_inside_some, IsInsideStart}
 use Rattle.loop_regions.proofs.SecondEntries.{start_inside, start_not_inside}
 use Rattle.loop_regions.proofs.second_entry.inside_start.Goals as goal
 

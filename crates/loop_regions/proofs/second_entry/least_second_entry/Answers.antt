@@ -1,7 +1,7 @@
 use Rattle.std.proofs.Common.{◌+◌, subst, sym, arith}
 use Rattle.flat_graph.specs.CodeGraph.{graph_of}
-use Rattle.loop_regions.specs.Least.{IsLeastNumber}
-use Rattle.loop_regions.specs.FoundRegions.{nest_in}
+use Rattle.loop_regions.specs.Inner.Least.{IsLeastNumber}
+use Rattle.loop_regions.specs.Inner.FoundRegions.{nest_in}
 use Rattle.loop_regions.proofs.SecondEntries.{IsEntryBelow, first_entry, next_entry, all_entries}
 use Rattle.loop_regions.proofs.second_entry.least_second_entry.Goals as goal
 

@@ -1,6 +1,6 @@
 use Rattle.flat_graph.specs.CodeGraph.{graph_of}
-use Rattle.loop_regions.specs.FoundRegions.{nest_in}
-use Rattle.loop_regions.specs.Least.{IsLeastNumber}
+use Rattle.loop_regions.specs.Inner.FoundRegions.{nest_in}
+use Rattle.loop_regions.specs.Inner.Least.{IsLeastNumber}
 use Rattle.loop_regions.proofs.SecondEntries.{IsEntryBelow}
 use Rattle.loop_regions.proofs.second_entry.least_second_entry.Given as goal
 

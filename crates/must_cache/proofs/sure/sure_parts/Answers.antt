@@ -4,7 +4,8 @@ use Rattle.flat_graph.specs.CodeGraph.{graph_of, places_of}
 use Rattle.icache.specs.Accesses.{accesses}
 use Rattle.must_cache.specs.EdgeLists.{AreGraphEdges}
 use Rattle.must_cache.specs.Marks.{sets_at}
-use Rattle.must_cache.specs.FirstWalks.{HaveWalks, IsSureLeader}
+use Rattle.must_cache.specs.FirstWalks.{IsSureLeader}
+use Rattle.must_cache.specs.Inner.FirstWalks.{HaveWalks}
 use Rattle.must_cache.proofs.WalkFacts.{IsFound, found_sure}
 use Rattle.must_cache.proofs.sure.sure_parts.Goals as goal
 

@@ -1,6 +1,6 @@
 use Rattle.std.proofs.Common.{◌≤◌, ◌^◌}
 use Rattle.std.specs.Prelude.{slice_index}
-use Rattle.response.specs.LowerBounds.{IsLowerBound}
+use Rattle.response.specs.Inner.LowerBounds.{IsLowerBound}
 use Rattle.response.proofs.bounds.lower_bound.Given as goal
 
 abbrev pub invariant-loop : goal.invariant-loop

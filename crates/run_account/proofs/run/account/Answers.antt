@@ -7,12 +7,12 @@ use Rattle.preempt_machine.specs.Running.{completion_at}
 use Rattle.preempt_machine.specs.Safe.{IsKept}
 use Rattle.preempt_machine.specs.Step.{state}
 use Rattle.run_account.specs.declared.run.Run.{Run}
-use Rattle.run_account.specs.Account.{entry_from_completions}
+use Rattle.run_account.specs.Inner.Account.{entry_from_completions}
 use Rattle.run_account.specs.Ledger.{IsLedger}
-use Rattle.run_account.specs.Runs.{no_nests, AreHits, HasAccountInput}
+use Rattle.run_account.specs.Inner.Runs.{no_nests, AreHits, HasAccountInput}
 use Rattle.preempt_machine.specs.Starts.{start_of_script}
 use Rattle.run_account.specs.AccountGraphs.{with_nests}
-use Rattle.run_account.specs.Trails.{ledger_reload_of}
+use Rattle.run_account.specs.Inner.Trails.{ledger_reload_of}
 use Rattle.run_account.proofs.Accounts.{noted_start, job_below, evictor_below, preemptor_below, told_same, ledger_by}
 use Rattle.run_account.proofs.AccountFacts.{account_facts}
 use Rattle.run_account.proofs.Jobs.{jobs_length}

@@ -1,6 +1,6 @@
 use Rattle.std.proofs.Common.{ap, ◌∙◌}
 use Rattle.std.specs.List.{filter}
-use Rattle.rv_core.specs.Pages.{Pages, is_not_between}
+use Rattle.rv_core.specs.Inner.Pages.{Pages, is_not_between}
 use Rattle.rv_core.proofs.Clearing.{outside_removed}
 use Rattle.rv_core.proofs.memory.remove_pages.Goals as goal
 

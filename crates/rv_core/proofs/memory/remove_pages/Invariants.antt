@@ -1,6 +1,6 @@
 use Rattle.std.proofs.Common.{◌≡◌, length}
 use Rattle.std.specs.List.{filter}
-use Rattle.rv_core.specs.Pages.{is_not_between}
+use Rattle.rv_core.specs.Inner.Pages.{is_not_between}
 use Rattle.rv_core.proofs.memory.remove_pages.Given as goal
 
 abbrev pub invariant-loop-number : goal.invariant-loop-number

@@ -3,7 +3,8 @@ use Rattle.std.proofs.lemmas.Bool.{false≢true}
 use Rattle.crpd_base.proofs.Times.{period_is}
 use Rattle.crpd_base.specs.declared.data.TaskSet.{TaskSet}
 use Rattle.crpd_base.specs.declared.data.TaskSpec.{TaskSpec}
-use Rattle.script_reader.specs.Legal.{AreAllApart, arrivals_of, period_of}
+use Rattle.script_reader.specs.Legal.{period_of}
+use Rattle.script_reader.specs.Inner.Legal.{AreAllApart, arrivals_of}
 use Rattle.script_reader.proofs.legality.are_spaced.Goals as goal
 
 pub loop-t-preserved : goal.loop-t-preserved

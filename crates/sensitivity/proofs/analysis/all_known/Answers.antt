@@ -7,7 +7,7 @@ use Rattle.flat_graph.specs.CodeGraph.{CodeGraph, graph_at}
 use Rattle.cert_check.specs.TaskGraphs.{task_graph, nest_at}
 use Rattle.cert_check.proofs.Tasks.{graph_is}
 use Rattle.sensitivity.specs.Accepted.{HasCacheBlocks}
-use Rattle.sensitivity.specs.Found.{TellsHits}
+use Rattle.sensitivity.specs.Inner.Found.{TellsHits}
 use Rattle.sensitivity.proofs.analysis.all_known.Goals as goal
 
 pub loop-k-preserved : goal.loop-k-preserved

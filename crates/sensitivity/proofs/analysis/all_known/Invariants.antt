@@ -5,7 +5,7 @@ use Rattle.loop_regions.specs.CodeNest.{CodeNest}
 use Rattle.flat_graph.specs.CodeGraph.{graph_at}
 use Rattle.cert_check.specs.TaskGraphs.{task_graph}
 use Rattle.sensitivity.specs.Accepted.{HasCacheBlocks}
-use Rattle.sensitivity.specs.Found.{TellsHits}
+use Rattle.sensitivity.specs.Inner.Found.{TellsHits}
 use Rattle.sensitivity.proofs.analysis.all_known.Given as goal
 
 abbrev pub invariant-loop-k : goal.invariant-loop-k

@@ -11,7 +11,7 @@ use Rattle.cert_check.specs.TaskGraphs.{task_graph, task_graph_at, nest_at}
 use Rattle.cert_check.proofs.Tasks.{graph_is, nest_is}
 use Rattle.exec_bound.specs.Costs.{greatest_bound}
 use Rattle.sensitivity.specs.Accepted.{IsLeastBound, IsAnalysedPart}
-use Rattle.sensitivity.specs.Found.{IsLarge, TellsHits}
+use Rattle.sensitivity.specs.Inner.Found.{IsLarge, TellsHits}
 use Rattle.sensitivity.proofs.Parts.{moved, with_bound}
 use Rattle.sensitivity.proofs.analysis.with_bounds.Goals as goal
 

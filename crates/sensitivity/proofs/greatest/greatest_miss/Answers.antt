@@ -1,7 +1,7 @@
 use Rattle.std.proofs.Common.{Bool, List, sym, subst}
 use Rattle.crpd_base.specs.declared.data.Part.{Part}
 use Rattle.cert_check.specs.TaskGraphs.{task_graph_at}
-use Rattle.sensitivity.specs.Found.{HaveCacheBlocks, HaveHits}
+use Rattle.sensitivity.specs.Inner.Found.{HaveCacheBlocks, HaveHits}
 use Rattle.sensitivity.proofs.greatest.greatest_miss.Goals as goal
 
 pub greatest-requires-clause-known : goal.greatest-requires-clause-known

@@ -3,7 +3,7 @@ use Rattle.crpd_base.specs.declared.data.Part.{Part}
 use Rattle.flat_graph.specs.CodeGraph.{no_graph}
 use Rattle.cert_check.specs.TaskGraphs.{task_graph_at}
 use Rattle.crpd_base.proofs.Times.{has_times}
-use Rattle.sensitivity.specs.Found.{HaveCacheBlocks, HaveHits}
+use Rattle.sensitivity.specs.Inner.Found.{HaveCacheBlocks, HaveHits}
 use Rattle.sensitivity.proofs.Trials.{all_bounded, slack_none}
 use Rattle.sensitivity.proofs.greatest.greatest_switch.Goals as goal
 

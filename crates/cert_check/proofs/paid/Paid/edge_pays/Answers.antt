@@ -3,8 +3,8 @@ use Rattle.flat_graph.specs.CodeGraph.{graph_of}
 use Rattle.loop_regions.specs.CodeNest.{nest_of}
 use Rattle.loop_regions.proofs.Beside.{nested}
 use Rattle.cert_check.specs.ListedPotentials.{potentials_of}
-use Rattle.cert_check.specs.JudgedNodes.{counted}
-use Rattle.cert_check.specs.JudgedPotentials.{costs_at}
+use Rattle.cert_check.specs.Inner.JudgedNodes.{counted}
+use Rattle.cert_check.specs.Inner.JudgedPotentials.{costs_at}
 use Rattle.cert_check.proofs.Potentials.{paid_back, paid_inside, paid_exit}
 use Rattle.cert_check.proofs.paid.Paid.edge_pays.Goals as goal
 

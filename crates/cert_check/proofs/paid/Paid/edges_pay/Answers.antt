@@ -3,8 +3,8 @@ use Rattle.std.proofs.lemmas.Bool.{false≢true}
 use Rattle.flat_graph.specs.CodeGraph.{graph_of}
 use Rattle.loop_regions.specs.CodeNest.{nest_of}
 use Rattle.cert_check.specs.ListedPotentials.{potentials_of}
-use Rattle.cert_check.specs.JudgedNodes.{counted}
-use Rattle.cert_check.specs.JudgedPotentials.{costs_at, EdgePaid}
+use Rattle.cert_check.specs.Inner.JudgedNodes.{counted}
+use Rattle.cert_check.specs.Inner.JudgedPotentials.{costs_at, EdgePaid}
 use Rattle.flat_graph.proofs.Nexts.{edge_at, at_edges}
 use Rattle.cert_check.proofs.paid.Paid.edges_pay.Goals as goal
 

@@ -1,7 +1,7 @@
 use Rattle.loop_regions.specs.CodeNest.{nest_of}
 use Rattle.cert_check.specs.ListedPotentials.{potentials_of}
-use Rattle.cert_check.specs.JudgedNodes.{counted}
-use Rattle.cert_check.specs.JudgedPotentials.{costs_at}
+use Rattle.cert_check.specs.Inner.JudgedNodes.{counted}
+use Rattle.cert_check.specs.Inner.JudgedPotentials.{costs_at}
 use Rattle.cert_check.proofs.Potentials.{item_test}
 use Rattle.cert_check.proofs.paid.Paid.inside_pays.Goals as goal
 

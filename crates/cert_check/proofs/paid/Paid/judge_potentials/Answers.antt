@@ -4,8 +4,8 @@ use Rattle.flat_graph.specs.CodeGraph.{graph_of}
 use Rattle.loop_regions.specs.CodeNest.{nest_of}
 use Rattle.cert_check.specs.ListedPotentials.{potentials_of}
 use Rattle.cert_check.specs.PotentialClauses.{PotentialsMeet}
-use Rattle.cert_check.specs.JudgedNodes.{counted}
-use Rattle.cert_check.specs.JudgedPotentials.{costs_at}
+use Rattle.cert_check.specs.Inner.JudgedNodes.{counted}
+use Rattle.cert_check.specs.Inner.JudgedPotentials.{costs_at}
 use Rattle.cert_check.proofs.paid.Paid.judge_potentials.Goals as goal
 
 pub returns-then-not-node_pays : goal.returns-then-not-node_pays

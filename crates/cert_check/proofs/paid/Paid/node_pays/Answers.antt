@@ -3,8 +3,8 @@ use Rattle.std.proofs.lemmas.Bool.{false≢true}
 use Rattle.flat_graph.specs.CodeGraph.{graph_of}
 use Rattle.loop_regions.specs.CodeNest.{nest_of}
 use Rattle.cert_check.specs.ListedPotentials.{potentials_of}
-use Rattle.cert_check.specs.JudgedNodes.{counted}
-use Rattle.cert_check.specs.JudgedPotentials.{costs_at}
+use Rattle.cert_check.specs.Inner.JudgedNodes.{counted}
+use Rattle.cert_check.specs.Inner.JudgedPotentials.{costs_at}
 use Rattle.cert_check.proofs.Potentials.{node_paid, paid_edge}
 use Rattle.cert_check.proofs.paid.Paid.node_pays.Goals as goal
 use Rattle.cert_check.proofs.paid.Paid.node_pays.Goals.{then-not-end_pays-via-then-not-end_pays, then-not-end_pays-via-else-not-end_pays+then-not-edges_pay}

@@ -1,6 +1,6 @@
 use Rattle.std.proofs.Common.{◌∙◌}
 use Rattle.code_map.proofs.KeptWords.{index_apart, kept_word, within_end}
-use Rattle.code_map.specs.Runs.{runs_byte}
+use Rattle.code_map.specs.Inner.Runs.{runs_byte}
 use Rattle.code_map.proofs.files.Files.word.Goals as goal
 
 pub word-requires : goal.word-requires

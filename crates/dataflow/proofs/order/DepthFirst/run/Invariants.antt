@@ -1,6 +1,6 @@
 -- The search goes on, and what was found stays so.
 use Rattle.std.proofs.Common.{◌≡◌, ℕ, true, false, slice_index_or}
-use Rattle.dataflow.specs.Search.{IsInDepth, to_follow}
+use Rattle.dataflow.specs.Inner.Search.{IsInDepth, to_follow}
 use Rattle.dataflow.proofs.order.DepthFirst.run.Given as goal
 
 abbrev pub invariant-loop-node : goal.invariant-loop-node

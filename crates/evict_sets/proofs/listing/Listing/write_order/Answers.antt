@@ -1,7 +1,7 @@
 use Rattle.std.proofs.Common.{◌+◌, sym, subst, ◌∙◌, arith}
 use Rattle.flat_graph.specs.CodeGraph.{graph_of}
 use Rattle.evict_sets.specs.ListedPart.{listed_of}
-use Rattle.evict_sets.specs.OrderPrefix.{HasListedBelow}
+use Rattle.evict_sets.specs.Inner.OrderPrefix.{HasListedBelow}
 use Rattle.evict_sets.proofs.Lines.{no_line, no_last, none_listed, listed_past, whole}
 use Rattle.evict_sets.proofs.Chains.{OrderTo}
 use Rattle.evict_sets.proofs.listing.Listing.write_order.Goals as goal

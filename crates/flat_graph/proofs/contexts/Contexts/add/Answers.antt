@@ -1,7 +1,7 @@
 use Rattle.std.proofs.Common.{◌≡◌, ◌∙◌, sym, ap, subst, cond, Some, ◌++◌, ◌∷◌, [], length, rules}
 use Rattle.std.specs.BTreeMap.{get, is_at}
-use Rattle.flat_graph.specs.NumberingOrder.{list_cmp}
-use Rattle.flat_graph.specs.Reach.{AreNumbered}
+use Rattle.flat_graph.specs.Inner.NumberingOrder.{list_cmp}
+use Rattle.flat_graph.specs.Inner.Reach.{AreNumbered}
 use Rattle.flat_graph.proofs.Listed.{numbered_more}
 use Rattle.flat_graph.proofs.contexts.Contexts.add.Goals as goal
 

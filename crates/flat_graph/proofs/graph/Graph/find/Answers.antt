@@ -3,7 +3,7 @@ use Rattle.std.specs.declared.cmp.Ordering.TheVariants.{Equal}
 use Rattle.std.specs.List.Sorted.{IsBinarySearchResult}
 use Rattle.rv_decode.specs.declared.Ins.TheVariants.{Ecall}
 use Rattle.flat_graph.specs.FlatGraph.{FlatNode}
-use Rattle.flat_graph.specs.NumberingOrder.{flat_cmp, stand_node}
+use Rattle.flat_graph.specs.Inner.NumberingOrder.{flat_cmp, stand_node}
 use Rattle.flat_graph.specs.declared.graph.Stand.{Stand}
 use Rattle.flat_graph.specs.declared.graph.Onward.TheVariants.{Ends}
 use Rattle.flat_graph.proofs.Search.{found_at, nowhere}

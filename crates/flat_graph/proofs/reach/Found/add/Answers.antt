@@ -3,7 +3,7 @@ use Rattle.std.specs.BTreeSet.{insert_key}
 use Rattle.std.specs.List.Sorted.{IsStrictlySortedBy}
 use Rattle.std.proofs.lemmas.Bool.{not-false}
 use Rattle.flat_graph.specs.contracts.spots.SpotOrd.TheImpl as order
-use Rattle.flat_graph.specs.Reach.{AreSameSpots}
+use Rattle.flat_graph.specs.Inner.Reach.{AreSameSpots}
 use Rattle.flat_graph.proofs.Found.{reached_more, added_one, added_there, found_spot}
 use Rattle.flat_graph.proofs.reach.Found.add.Goals as goal
 

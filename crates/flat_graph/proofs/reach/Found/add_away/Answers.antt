@@ -1,7 +1,7 @@
 use Rattle.std.proofs.Common.{sym, subst, [], ◌∷◌}
 use Rattle.std.proofs.lemmas.Option.{slice_get_within}
-use Rattle.flat_graph.specs.Reach.{AreNumbered, AreAdded}
-use Rattle.flat_graph.specs.Spots.{spot_node, spot_nodes}
+use Rattle.flat_graph.specs.Inner.Reach.{AreNumbered, AreAdded}
+use Rattle.flat_graph.specs.Inner.Spots.{spot_node, spot_nodes}
 use Rattle.flat_graph.specs.declared.contexts.Contexts.{Contexts}
 use Rattle.flat_graph.proofs.Found.{on_ok, on_ok_map}
 use Rattle.flat_graph.proofs.Listed.{flats_more, flat_listed, reached_lists}

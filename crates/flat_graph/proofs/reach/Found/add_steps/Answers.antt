@@ -1,7 +1,7 @@
 use Rattle.std.proofs.Common.{◌∙◌, sym, subst, [], ◌∷◌}
 use Rattle.std.specs.Prelude.{slice_index_or}
-use Rattle.flat_graph.specs.Reach.{AreNumbered, AreAdded}
-use Rattle.flat_graph.specs.Spots.{spot_node, spot_nodes, flat_steps}
+use Rattle.flat_graph.specs.Inner.Reach.{AreNumbered, AreAdded}
+use Rattle.flat_graph.specs.Inner.Spots.{spot_node, spot_nodes, flat_steps}
 use Rattle.flat_graph.specs.declared.contexts.Contexts.{Contexts}
 use Rattle.flat_graph.specs.declared.spots.Spot.{Spot}
 use Rattle.flat_graph.proofs.Found.{added_then, on_ok, on_ok_map}

@@ -1,8 +1,8 @@
 use Rattle.std.proofs.Common.{◌∙◌, ◌+◌, ◌<◌, ◌≤◌, false, true, length, set, sym, subst, arith}
 use Rattle.std.proofs.lemmas.List.{get_or_default}
 use Rattle.flat_graph.specs.CodeGraph.{graph_of}
-use Rattle.loop_regions.specs.FoundRegions.{nest_in}
-use Rattle.loop_regions.specs.ForwardPaths.{IsSearch, EdgesFrom, to_search}
+use Rattle.loop_regions.specs.Inner.FoundRegions.{nest_in}
+use Rattle.loop_regions.specs.Inner.ForwardPaths.{IsSearch, EdgesFrom, to_search}
 use Rattle.loop_regions.proofs.Searching.{edge_found, search_falls}
 use Rattle.loop_regions.proofs.cycles.Search.follow.Goals as goal
 

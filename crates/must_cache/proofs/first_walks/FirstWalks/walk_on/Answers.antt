@@ -2,7 +2,7 @@ use Rattle.std.proofs.Common.{◌≡◌, ◌==◌, ℕ, if◌then◌else◌, Som
 use Rattle.icache.specs.Cache.{held, set_of, block_of}
 use Rattle.icache.specs.Accesses.{accesses}
 use Rattle.flat_graph.specs.CodeGraph.{places_of}
-use Rattle.must_cache.specs.FirstWalks.{with_next, still_to_do}
+use Rattle.must_cache.specs.Inner.FirstWalks.{with_next, still_to_do}
 use Rattle.must_cache.proofs.WalkSteps.{taken_next, waiting_in, next_is_one, next_is_more}
 use Rattle.must_cache.proofs.first_walks.FirstWalks.walk_on.Goals as goal
 

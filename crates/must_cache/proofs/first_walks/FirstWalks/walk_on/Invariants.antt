@@ -2,7 +2,7 @@
 use Rattle.std.proofs.Common.{◌≤◌}
 use Rattle.flat_graph.specs.CodeGraph.{graph_of, places_of}
 use Rattle.icache.specs.Accesses.{accesses}
-use Rattle.must_cache.specs.FirstWalks.{HasWalkSearch, with_next, still_to_do}
+use Rattle.must_cache.specs.Inner.FirstWalks.{HasWalkSearch, with_next, still_to_do}
 use Rattle.must_cache.proofs.first_walks.FirstWalks.walk_on.Given as goal
 
 abbrev pub invariant-loop-next : goal.invariant-loop-next

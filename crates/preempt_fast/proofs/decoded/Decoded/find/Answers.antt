@@ -1,6 +1,6 @@
 use Rattle.std.proofs.Common.{◌∙◌, length-set}
 use Rattle.std.proofs.lemmas.List.Elements.{All-set}
-use Rattle.preempt_fast.specs.Decodings.{IsDecoded}
+use Rattle.preempt_fast.specs.Inner.Decodings.{IsDecoded}
 use Rattle.preempt_fast.proofs.decoded.Decoded.find.Goals as goal
 
 pub returns-clause-decoded : goal.returns-clause-decoded

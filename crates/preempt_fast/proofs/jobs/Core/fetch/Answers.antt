@@ -7,7 +7,7 @@ use Rattle.rv_core.specs.declared.Next.{Next}
 use Rattle.rv_core.specs.Effect.{next_pc}
 use Rattle.icache.specs.Cache.{is_hit, block_of}
 use Rattle.preempt_machine.specs.Step.{goes_to_next}
-use Rattle.preempt_fast.specs.Decodings.{AreCosts}
+use Rattle.preempt_fast.specs.Inner.Decodings.{AreCosts}
 use Rattle.preempt_fast.proofs.jobs.Core.fetch.Goals as goal
 
 pub returns-clause-cost : goal.returns-clause-cost

@@ -1,7 +1,7 @@
 use Rattle.std.proofs.Common.{◌≡◌, ◌<◌, ◌&&◌, Bool, Some, ℕ, length, sym, ◌∙◌, ap, subst}
 use Rattle.std.specs.Prelude.{◌↔◌, IsTrue}
-use Rattle.preempt_machine.specs.KeptFlag.{owner_is_kept}
-use Rattle.preempt_machine.specs.Schedule.{machine_of}
+use Rattle.preempt_machine.specs.Inner.KeptFlag.{owner_is_kept}
+use Rattle.preempt_machine.specs.Inner.Schedule.{machine_of}
 use Rattle.preempt_machine.specs.Safe.{IsKept}
 use Rattle.preempt_machine.proofs.Watches.{flag_goes_on}
 use Rattle.preempt_machine.proofs.machine.Machine.advance.Goals as goal

@@ -4,9 +4,11 @@ use Rattle.crpd_base.specs.declared.data.JobId.{JobId}
 use Rattle.preempt_machine.specs.declared.Completion.{Completion}
 use Rattle.preempt_machine.specs.Machine.{Job, ins_at, job_at, no_job}
 use Rattle.preempt_machine.specs.Step.{turn_after_execution}
-use Rattle.preempt_machine.specs.Jobs.{found_by, turn_by}
+use Rattle.preempt_machine.specs.Jobs.{turn_by}
+use Rattle.preempt_machine.specs.Inner.Jobs.{found_by}
 use Rattle.preempt_machine.specs.Running.{job_id, system_by}
-use Rattle.preempt_machine.specs.Schedule.{machine_of, completion}
+use Rattle.preempt_machine.specs.Schedule.{completion}
+use Rattle.preempt_machine.specs.Inner.Schedule.{machine_of}
 use Rattle.preempt_machine.proofs.CandidateTurns.{fetches, fetch_made, turned_on}
 use Rattle.preempt_machine.proofs.parts.Parts.work.Goals as goal
 

@@ -1,6 +1,6 @@
 use Rattle.std.proofs.Common.{◌*◌, ◌-◌, ap, sym, ◌∙◌, subst}
 use Rattle.rv_core.specs.Memory.{Memory, clear_bytes}
-use Rattle.rv_core.specs.Pages.{memory_of, ArePages}
+use Rattle.rv_core.specs.Inner.Pages.{memory_of, ArePages}
 use Rattle.rv_core.proofs.Clearing.{outside_pages, outside_clear}
 use Rattle.rv_core.proofs.memory.DataMemory.clear_pages.Goals as goal
 

@@ -2,8 +2,9 @@ use Rattle.std.proofs.Common.{◌≡◌, ◌/◌, ℕ, List, None, length, sym, 
 use Rattle.std.specs.BTreeMap.{is_at}
 use Rattle.std.specs.Map.{lookup}
 use Rattle.std.specs.Ordering.{nat_cmp}
-use Rattle.rv_core.specs.Memory.{Memory, put_bytes}
-use Rattle.rv_core.specs.Pages.{memory_of, little_endian_number, ArePages}
+use Rattle.rv_core.specs.Memory.{Memory}
+use Rattle.rv_core.specs.Inner.Memory.{put_bytes}
+use Rattle.rv_core.specs.Inner.Pages.{memory_of, little_endian_number, ArePages}
 use Rattle.rv_core.proofs.Bytes.{fits_byte, stored_all, zero_number}
 use Rattle.rv_core.proofs.Pages.{found_put, found_stored, made_put, made_stored, stored_none}
 use Rattle.rv_core.proofs.memory.DataMemory.put_within.Goals as goal

@@ -2,8 +2,9 @@ use Rattle.std.proofs.Common.{◌≡◌, ◌/◌, ℕ, List, None, sym, ◌∙�
 use Rattle.std.specs.BTreeMap.{is_at}
 use Rattle.std.specs.Map.{lookup}
 use Rattle.std.specs.Ordering.{nat_cmp}
-use Rattle.rv_core.specs.Memory.{Memory, byte, put_bytes}
-use Rattle.rv_core.specs.Pages.{memory_of, ArePages}
+use Rattle.rv_core.specs.Memory.{Memory, byte}
+use Rattle.rv_core.specs.Inner.Memory.{put_bytes}
+use Rattle.rv_core.specs.Inner.Pages.{memory_of, ArePages}
 use Rattle.rv_core.proofs.Pages.{byte_none, found_put, found_stored, made_put, made_stored, stored_none}
 use Rattle.rv_core.proofs.memory.DataMemory.store_within.Goals as goal
 use Rattle.rv_core.proofs.memory.DataMemory.store_within.Goals.{in-Ok, in-Err}

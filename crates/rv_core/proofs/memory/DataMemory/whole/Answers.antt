@@ -1,6 +1,6 @@
 use Rattle.std.proofs.Common.{◌/◌, ap, sym, ◌∙◌, arith}
 use Rattle.rv_core.specs.Memory.{Memory, memory_word}
-use Rattle.rv_core.specs.Pages.{memory_of}
+use Rattle.rv_core.specs.Inner.Pages.{memory_of}
 use Rattle.rv_core.proofs.Pages.{none_shows, page_shows, whole_none, whole_read}
 use Rattle.rv_core.proofs.memory.DataMemory.whole.Goals as goal
 

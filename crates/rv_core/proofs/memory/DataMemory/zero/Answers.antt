@@ -1,6 +1,6 @@
 use Rattle.std.proofs.Common.{ℕ, List, sym, ◌∙◌, ap, subst, arith, BTreeMap}
 use Rattle.rv_core.specs.Memory.{Memory, clear_bytes}
-use Rattle.rv_core.specs.Pages.{memory_of, ArePages}
+use Rattle.rv_core.specs.Inner.Pages.{memory_of, ArePages}
 use Rattle.rv_core.proofs.Pages.{found_put, found_stored, pages_from, stored_none}
 use Rattle.rv_core.proofs.Clearing.{zeros_clear}
 use Rattle.rv_core.proofs.memory.DataMemory.zero.Goals as goal

@@ -1,0 +1,4 @@
+-- What contracts inside the crate alone cite; no clause of a public call reaches it.
+pub mod Assembly
+pub mod Certify
+pub mod Entries

@@ -1,0 +1,5 @@
+-- What contracts inside the crate alone cite; no clause of a public call reaches it.
+pub mod FirstFailing
+pub mod JudgedNodes
+pub mod JudgedPotentials
+pub mod Times

@@ -1,0 +1,11 @@
+-- Addresses at which files have different code bytes. Tasks that name one file have one image, so they never do: what only contracts inside the crate cite.
+use Rattle.std.specs.Prelude.{◌≡◌, ℕ, ◌<◌, Bool, true, false, Option, MatchOption}
+
+-- a is the least number that passes a test
+pub record IsLeastPassing (p : ℕ → Bool) (a : ℕ) : Type 0 where
+  pub passes : p a ≡ true
+  pub least : (b : ℕ) → b < a → p b ≡ false
+
+-- the least number that passes a test, where one does
+abbrev pub IsFirstPassing : (ℕ → Bool) → Option ℕ → Type 0
+IsFirstPassing p o = MatchOption o ((a : ℕ) → p a ≡ false) (IsLeastPassing p)

@@ -1,0 +1,6 @@
+-- A variable that nodes read and write: what only contracts inside the crate cite.
+use Rattle.std.specs.Prelude.{ℕ, ◌==◌, if◌then◌else◌, Option, Some, None}
+
+-- paths begin at node 0, with an unknown variable
+abbrev pub first_unknown : ℕ → Option (Option ℕ)
+first_unknown n = if n == 0 then Some None else None

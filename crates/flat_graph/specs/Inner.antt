@@ -1,0 +1,10 @@
+-- What contracts inside the crate alone cite; no clause of a public call reaches it.
+pub mod GraphErrors
+pub mod GraphParts
+pub mod Leaders
+pub mod NumberingOrder
+pub mod Reach
+pub mod SameCode
+pub mod Spots
+pub mod StoredGraph
+pub mod Ways

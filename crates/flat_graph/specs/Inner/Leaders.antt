@@ -1,0 +1,56 @@
+-- How leaders are found from the edges, node by node.
+use Rattle.std.specs.Prelude.{◌≡◌, ◌≢◌, ℕ, ◌<◌, List, [], ◌∷◌, length, Contains, All, Some, Bool, true, false, IsTrue, ◌↔◌, slice_get, if◌then◌else◌, ◌==◌, ◌||◌}
+use Rattle.flat_graph.specs.Graph.{Graph, IsLeader}
+use Rattle.flat_graph.specs.Inner.StoredGraph.{onward}
+use Rattle.flat_graph.specs.declared.graph.Onward.{Onward}
+use Rattle.flat_graph.specs.declared.graph.Onward.TheVariants.{Ends, To, Either}
+use Rattle.flat_graph.specs.declared.leaders.Mark.{Mark}
+use Rattle.flat_graph.specs.declared.leaders.Mark.TheVariants.{Unmet, Continues, Leads}
+use Rattle.flat_graph.specs.declared.lines.Line.{Line}
+
+-- the graph goes on as the lines say
+pub record IsGraphOfLines (g : Graph) (lines : List Line) (first : ℕ) : Type 0 where
+  pub size : g.size ≡ length lines
+  pub start : g.first ≡ first
+  pub next : (u : ℕ) (l : Line) → slice_get lines u ≡ Some l → g.next u ≡ onward l.next
+
+-- each is a node, and two are different ones
+abbrev pub HasDifferentEnds : Onward → Type 0
+HasDifferentEnds Ends = Unit {0}
+HasDifferentEnds (To v) = Unit {0}
+HasDifferentEnds (Either v w) = v ≢ w
+
+pub record AreEnds (size : ℕ) (next : Onward) : Type 0 where
+  pub below : All (λ v. v < size) (onward next)
+  pub apart : HasDifferentEnds next
+
+-- the mark after one more edge from a node with one successor
+abbrev pub mark_after_edge : Mark → Mark
+mark_after_edge Unmet = Continues
+mark_after_edge _ = Leads
+
+-- a node's mark after the edges from one node
+abbrev pub mark_after_edges : Onward → ℕ → Mark → Mark
+mark_after_edges Ends v m = m
+mark_after_edges (To a) v m = if v == a then mark_after_edge m else m
+mark_after_edges (Either a b) v m = if (v == a) || (v == b) then Leads else m
+
+-- what a mark says, where the edges from the first nodes were met
+abbrev pub IsMarked : Graph → ℕ → ℕ → Mark → Type 0
+IsMarked g count v Unmet = (v ≢ g.first) × ((u : ℕ) → u < count → Contains (g.next u) v → ⊥)
+IsMarked g count v Continues =
+    (v ≢ g.first) × (u : ℕ) × (u < count) × (g.next u ≡ v ∷ []) × ((w : ℕ) → w < count → Contains (g.next w) v → w ≡ u)
+IsMarked g count v Leads = IsLeader g v
+
+abbrev pub AreMarked : List Line → ℕ → ℕ → List Mark → Type 0
+AreMarked lines first count marks =
+    (g : Graph) → IsGraphOfLines g lines first → (v : ℕ) (m : Mark) → slice_get marks v ≡ Some m → IsMarked g count v m
+
+-- a node with this mark leads, once all edges were met
+abbrev pub is_leading : Mark → Bool
+is_leading Continues = false
+is_leading _ = true
+
+abbrev pub HasLeaders : List Line → ℕ → List Bool → Type 0
+HasLeaders lines first leaders =
+    (g : Graph) → IsGraphOfLines g lines first → (v : ℕ) (b : Bool) → slice_get leaders v ≡ Some b → IsTrue b ↔ IsLeader g v

@@ -1,0 +1,35 @@
+-- The spots that were found so far.
+use Rattle.std.specs.Prelude.{◌≡◌, ℕ, ◌<◌, List, [], ◌++◌, length, Contains, ◌↔◌, All, AllPairs, slice_get, Some}
+use Rattle.std.specs.BTreeMap.{BTreeMap, get}
+use Rattle.rv_decode.specs.Flow.{Flows}
+use Rattle.flat_graph.specs.Inner.NumberingOrder.{list_cmp}
+use Rattle.flat_graph.specs.FlatGraph.{FlatNode, IsNode, successors}
+use Rattle.flat_graph.specs.declared.spots.Spot.{Spot}
+
+-- each list of calls has the number at which it stands, and no other list has that number
+abbrev pub AreNumbered : BTreeMap (List ℕ) ℕ → List (List ℕ) → Type 0
+AreNumbered numbers lists = (c : List ℕ) (n : ℕ) → (get list_cmp numbers c ≡ Some n) ↔ (slice_get lists n ≡ Some c)
+
+-- the lists stand where they stood
+abbrev pub ExtendsLists : List (List ℕ) → List (List ℕ) → Type 0
+ExtendsLists old new = (n : ℕ) (c : List ℕ) → slice_get old n ≡ Some c → slice_get new n ≡ Some c
+
+-- a set and a list have the same spots, each once, and each has a list of calls
+pub record AreSameSpots (lists : List (List ℕ)) (set list : List Spot) : Type 0 where
+  pub apart : AllPairs (λ s t. s ≡ t → ⊥) set
+  pub same : (s : Spot) → Contains set s ↔ Contains list s
+  pub count : length set ≡ length list
+  pub inside : All (λ s. s.context < length lists) list
+
+-- the nodes `some` are there now, and what is behind the old ones is of them
+pub record AreAdded (old some new : List FlatNode) : Type 0 where
+  pub more : List FlatNode
+  pub behind : new ≡ old ++ more
+  pub among : (n : FlatNode) → Contains more n → Contains some n
+  pub has : (n : FlatNode) → Contains some n → Contains new n
+
+-- nodes of the graph, the first one among them, and the successors of those before a place
+pub record IsExplored (code : Flows) (entry : ℕ) (place : ℕ) (nodes : List FlatNode) : Type 0 where
+  pub all : (n : FlatNode) → Contains nodes n → IsNode code entry n
+  pub first : Contains nodes (record { context = []; address = entry })
+  pub closed : (k : ℕ) (n m : FlatNode) → k < place → slice_get nodes k ≡ Some n → Contains (successors code entry n) m → Contains nodes m

@@ -1,0 +1,4 @@
+-- What contracts inside the crate alone cite; no clause of a public call reaches it.
+pub mod Changes
+pub mod Quiet
+pub mod Rows

@@ -1,0 +1,19 @@
+-- Tests of the cache sets, and how they go along the edges: what only contracts inside the crate cite.
+use Rattle.std.specs.Prelude.{ℕ, Bool, false, ◌||◌, ◌==◌, if◌then◌else◌}
+use Rattle.crpd_base.specs.Sum.{sum_below, one_if}
+use Rattle.icache.specs.Accesses.{Accesses}
+
+-- a test of the sets
+abbrev pub Marks : Type 0
+Marks = ℕ → Bool
+
+abbrev pub either_marks : Marks → Marks → Marks
+either_marks x y s = x s || y s
+
+-- after node n its own set is not marked, the others as before it
+abbrev pub marks_after_access : Accesses → ℕ → Marks → Marks
+marks_after_access a n before s = if a.set n == s then false else before s
+
+-- how many of the sets below n are marked
+abbrev pub marks_below : Marks → ℕ → ℕ
+marks_below x n = sum_below (λ s. one_if (x s)) n

@@ -1,0 +1,82 @@
+-- A run that is followed: what stays the same along it, and what is asked of it.
+use Rattle.std.specs.Prelude.{◌≡◌, ℕ, ◌<◌, ◌≤◌, ◌+◌, ◌^◌, Bool, true, false, List, [], length, map, Option, Some, None, slice_get}
+use Rattle.crpd_base.specs.Ranges.{IsTaskSet}
+use Rattle.crpd_base.specs.declared.data.Certificate.{Certificate}
+use Rattle.crpd_base.specs.declared.data.Platform.{Platform}
+use Rattle.rv_decode.specs.Address.{end_address}
+use Rattle.code_map.specs.Words.{word_at}
+use Rattle.flat_graph.specs.CodeGraph.{CodeGraph, graph_of, graph_at}
+use Rattle.loop_regions.specs.Nest.{Nest}
+use Rattle.loop_regions.specs.TaskGraph.{TaskGraph}
+use Rattle.evict_sets.specs.ListedPart.{listed_of, certified_task}
+use Rattle.preempt_machine.specs.declared.Fetch as told
+use Rattle.preempt_machine.specs.Running.{Running, fetch_told, HasPlans}
+use Rattle.preempt_machine.specs.Safe.{NamesTasks}
+use Rattle.preempt_machine.specs.Step.{Fetch, Start, state, fetch_at}
+use Rattle.run_account.specs.declared.run.Hits.{Hits}
+use Rattle.run_account.specs.declared.run.Run.{Run}
+use Rattle.evict_sets.specs.Listing.{CountsHits, counted, node_accesses}
+use Rattle.run_account.specs.declared.trails.Trails.{Trails}
+use Rattle.run_account.specs.Ledger.{IsLedger}
+use Rattle.run_account.specs.Inner.Trails.{ledger_reload_of, AreTrailsOf}
+use Rattle.preempt_machine.specs.Starts.{start_of_script}
+use Rattle.run_account.specs.AccountGraphs.{with_nests, AreGraphsOf, graph_at, TasksAreMet}
+
+-- the start, the graphs and the certificate of a run. Regions play no part, so there are none
+abbrev pub no_nests : ℕ → Nest
+no_nests i = record { size = 0; head = λ r. 0; bound = λ r. 0; holds = λ r y. false }
+
+abbrev pub run_start : Run → Start
+run_start r = start_of_script r.set.now r.code.now r.script.now
+
+abbrev pub run_graphs : Run → ℕ → TaskGraph
+run_graphs r = with_nests r.graphs.now no_nests
+
+abbrev pub run_certificate : Run → Certificate
+run_certificate r = r.certificate.now
+
+-- the flags of a task
+abbrev pub flags_by : Option Hits → List Bool
+flags_by None = []
+flags_by (Some h) = h.flags.items
+
+abbrev pub flags_of : List Hits → ℕ → List Bool
+flags_of all i = flags_by (slice_get all i)
+
+-- the flags of each task say which nodes of its graph are counted as hits
+pub record AreHits (p : Platform) (graphs : List CodeGraph) (c : Certificate) (all : List Hits) : Type 0 where
+  pub tasks : length all ≡ length graphs
+  pub nodes : (i : ℕ) → i < length graphs → length (flags_of all i) ≡ length (graph_at graphs i).nodes
+  pub each : (i : ℕ) → i < length graphs → CountsHits (graph_of (graph_at graphs i)) (node_accesses p (graph_at graphs i)) (listed_of (certified_task c i)) (counted (flags_of all i))
+
+-- what an account asks, with the flags
+pub record HasAccountInput (r : Run) : Type 0 where
+  pub set : IsTaskSet r.set.now
+  pub plans : length r.code.now.plans ≡ length r.set.now.tasks
+  pub words : (a w : ℕ) → word_at r.code.now.images a ≡ Some w → (a + 4 ≤ end_address) × (w < 2 ^ 32)
+  pub graphs : AreGraphsOf r.code.now r.set.now r.graphs.now
+  pub met : TasksAreMet r.set.now r.graphs.now r.certificate.now
+  pub tasks : NamesTasks r.set.now r.script.now.jobs
+  pub hits : AreHits r.set.now.platform r.graphs.now r.certificate.now r.hits.now
+
+-- the job at a place makes the fetch that is told, at a step
+pub record IsFetched (r : Run) (n place : ℕ) (f : told.Fetch) : Type 0 where
+  pub fetch : Fetch
+  pub is : fetch_at (run_start r) n ≡ Some fetch
+  pub by : fetch.job ≡ place
+  pub told : f ≡ fetch_told (run_start r).system (state (run_start r) n) fetch
+
+-- the machine after n steps of the run
+pub record IsRunning (r : Run) (n : ℕ) (m : Running) : Type 0 where
+  pub platform : m.platform ≡ r.set.now.platform
+  pub state : m.state ≡ state (run_start r) n
+  pub plans : HasPlans r.code.now m.state
+
+-- an instruction that misses may end in the cycle of its fetch
+abbrev pub IsQuick : Platform → Type 0
+IsQuick p = p.hit + p.miss < 2
+
+-- the fetches of the first n steps are noted, or none of those that are not is an entry of the ledger
+abbrev pub IsSoFar : Run → ℕ → Bool → Trails → Type 0
+IsSoFar r n true t = AreTrailsOf (run_start r) (run_graphs r) (run_certificate r) n t
+IsSoFar r n false t = (m : ℕ) → n ≤ m → IsLedger (run_start r) (run_graphs r) (run_certificate r) m (map ledger_reload_of t.reloads.items)

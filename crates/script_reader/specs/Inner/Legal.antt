@@ -1,0 +1,27 @@
+-- Which scripts are legal: what only contracts inside the crate cite.
+use Rattle.std.specs.Prelude.{◌≡◌, ℕ, ◌<◌, List, [], ◌∷◌, length, ◌==◌, if◌then◌else◌, AllPairs}
+use Rattle.crpd_base.specs.declared.data.ScriptJob.{ScriptJob}
+use Rattle.crpd_base.specs.declared.data.TaskSet.{TaskSet}
+pub use Rattle.crpd_base.specs.Tasks.{period_of, jitter_of}
+use Rattle.script_reader.specs.Legal.{AreApart, AreSpaced}
+
+-- any two of the times are
+pub record AreAllApart (period : ℕ) (times : List ℕ) : Type 0 where
+  pub pairs : AllPairs (AreApart period) times
+
+-- when the jobs of a task arrive
+abbrev pub arrivals_of : ℕ → List ScriptJob → List ℕ
+arrivals_of t [] = []
+arrivals_of t (j ∷ js) = if j.task.0 == t then j.arrival ∷ arrivals_of t js else arrivals_of t js
+
+-- the arrivals of each task are its period apart
+pub record EachIsSpaced (set : TaskSet) (jobs : List ScriptJob) : Type 0 where
+  pub tasks : (t : ℕ) → t < length set.tasks → AreAllApart (period_of set t) (arrivals_of t jobs)
+
+-- any two jobs of one task arrive its period apart
+pub record AreSpacedPairs (set : TaskSet) (jobs : List ScriptJob) : Type 0 where
+  pub pairs : AllPairs (AreSpaced set) jobs
+
+-- a job and one after it, if they are of one task
+abbrev pub IsSpacedBy : ℕ → ScriptJob → ScriptJob → Type 0
+IsSpacedBy period x y = x.task.0 ≡ y.task.0 → AreApart period x.arrival y.arrival
