@@ -29,9 +29,14 @@ module _ (p : Platform) (g : CodeGraph) (n : CodeNest) (hits : List Bool) where
   abbrev pub uses : Accesses
   uses = accesses p (places_of g).address
 
-  pub analysed : (a : Analysis) → CountsSureHits (graph_of g) uses (counted hits) → AreLeaderEntries (graph_of g) uses (graph_of g).size a.states
-      → ((s : ℕ) → IsTrue (has a.part.evicting s) ↔ IsEcb (graph_of g) uses s) → AreWords 8 a.part.evicting → ((s : ℕ) → IsTrue (has a.part.useful s) ↔ IsUcb (graph_of g) uses s) → AreWords 8 a.part.useful
-      → IsBound (graph_of g) (nest_of n) (costs_of p g (counted hits)) a.part.bound a.potentials a.loops → IsAnalysis p (task_graph g n) a
+  pub analysed : (a : Analysis) → CountsSureHits (graph_of g) uses (counted hits)
+      → AreLeaderEntries (graph_of g) uses (graph_of g).size a.states
+      → ((s : ℕ) → IsTrue (has a.part.evicting s) ↔ IsEcb (graph_of g) uses s)
+      → AreWords 8 a.part.evicting
+      → ((s : ℕ) → IsTrue (has a.part.useful s) ↔ IsUcb (graph_of g) uses s)
+      → AreWords 8 a.part.useful
+      → IsBound (graph_of g) (nest_of n) (costs_of p g (counted hits)) a.part.bound a.potentials
+      a.loops → IsAnalysis p (task_graph g n) a
   analysed a H E ecb evicting ucb reused B =
       record {
         best = record {
@@ -40,26 +45,44 @@ module _ (p : Platform) (g : CodeGraph) (n : CodeNest) (hits : List Bool) where
           useful = record { size = reused; numbers = ucb };
           is_hit = counted hits;
           hits = H;
-          potentials = record { nodes = B.all_nodes; regions = B.all_loops; least = B.least; bound = B.first };
+          potentials = record {
+            nodes = B.all_nodes;
+            regions = B.all_loops;
+            least = B.least;
+            bound = B.first;
+          };
         };
         within = subst (λ k. a.part.bound ≤ k) bound_number B.within;
       }
 
-  pub refused : (e : BoundError) → CountsSureHits (graph_of g) uses (counted hits) → IsBoundError g (nest_of n) (costs_of p g (counted hits)) e → HasNoAnalysis p (task_graph g n) e
+  pub refused : (e : BoundError) → CountsSureHits (graph_of g) uses (counted hits)
+      → IsBoundError g (nest_of n) (costs_of p g (counted hits)) e
+      → HasNoAnalysis p (task_graph g n) e
   refused Memory H R = tt
   refused (TooLarge address) H R = (record { is_hit = counted hits; hits = H; exceeds = R.1 }, R.0)
 
   -- the parts keep the ranges of a certificate
-  pub ranges : (graph_of g).size ≤ 16384 → (nest_of n).size ≤ 16384 → (a : Analysis) → AreLeaderEntries (graph_of g) uses (graph_of g).size a.states
-      → IsBound (graph_of g) (nest_of n) (costs_of p g (counted hits)) a.part.bound a.potentials a.loops → KeepsRanges a
+  pub ranges : (graph_of g).size ≤ 16384 → (nest_of n).size ≤ 16384 → (a : Analysis)
+      → AreLeaderEntries (graph_of g) uses (graph_of g).size a.states
+      → IsBound (graph_of g) (nest_of n) (costs_of p g (counted hits)) a.part.bound a.potentials
+      a.loops → KeepsRanges a
   ranges few few_regions a E B name method window response is_name window_le response_le =
       record {
-        bound = let top : a.part.bound ≤ 2 ^ 40 = subst (λ k. a.part.bound ≤ k) bound_number B.within in omega (arith, top);
-        loops = record { few = let count = B.all_loops in omega (arith, count, few_regions); each = B.small_loops };
+        bound =
+            let top : a.part.bound ≤ 2 ^ 40 = subst (λ k. a.part.bound ≤ k) bound_number B.within in
+            omega (arith, top);
+        loops = record {
+          few = let count = B.all_loops in omega (arith, count, few_regions);
+          each = B.small_loops;
+        };
         name = is_name;
-        potentials = record { few = let count = B.all_nodes in omega (arith, count, few); each = B.small_nodes };
+        potentials = record {
+          few = let count = B.all_nodes in omega (arith, count, few);
+          each = B.small_nodes;
+        };
         response = response_le;
-        nodes = rise_wider (λ (s : NodeState). s.node) 0 (graph_of g).size 16384 a.states few E.rise;
+        nodes =
+            rise_wider (λ (s : NodeState). s.node) 0 (graph_of g).size 16384 a.states few E.rise;
         states = E.ranges;
         window = window_le;
       }

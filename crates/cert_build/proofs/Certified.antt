@@ -1,5 +1,6 @@
 -- The certificate of the analyses is the analysis' certificate, in its ranges.
-use Rattle.std.proofs.Common.{◌≡◌, ℕ, zero, suc, ◌+◌, ◌<◌, ◌≤◌, true, List, [], ◌∷◌, length, map, get_or, refl, sym, ap, ◌∙◌, subst, arith}
+use Rattle.std.proofs.Common.{◌≡◌, ℕ, zero, suc, ◌+◌, ◌<◌, ◌≤◌, true, List, [], ◌∷◌, length, map}
+use Rattle.std.proofs.Common.{get_or, refl, sym, ap, ◌∙◌, subst, arith}
 use Rattle.std.specs.Prelude.{sum_by}
 use Rattle.std.proofs.lemmas.List.{get_or_default}
 use Rattle.std.proofs.lemmas.List.Sums.{sum_by-cons}
@@ -35,38 +36,69 @@ use Rattle.response.proofs.Least.{demands_agree}
 use Rattle.cert_build.proofs.Counting.{best_parts, entries_map}
 
 -- what holds of the names of all tasks holds of that of one
-name_in : (P : List ℕ → Type 0) (tasks : List TaskSpec) (k : ℕ) → k < length tasks → ((j : ℕ) (d : TaskSpec) → j < length tasks → P (get_or tasks j d).name) → P (get_or (map (λ (t : TaskSpec). t.name) tasks) k [])
+name_in : (P : List ℕ → Type 0) (tasks : List TaskSpec) (k : ℕ) → k < length tasks
+    → ((j : ℕ) (d : TaskSpec) → j < length tasks → P (get_or tasks j d).name)
+    → P (get_or (map (λ (t : TaskSpec). t.name) tasks) k [])
 name_in P [] k lt h = absurd (omega (arith, lt))
 name_in P (t ∷ tasks) zero lt h = h 0 t (omega arith)
-name_in P (t ∷ tasks) (suc k) lt h = name_in P tasks k (omega (arith, lt)) (λ j d l. h (suc j) d (omega (arith, l)))
+name_in P (t ∷ tasks) (suc k) lt h =
+    name_in P tasks k (omega (arith, lt)) (λ j d l. h (suc j) d (omega (arith, l)))
 
 -- an analysis does not see what stands beside it
-pub beside : (p : Platform) (t : TaskGraph) (c : TaskPart) (name : List ℕ) (method : Method) (w response : ℕ) → IsBestPart p t c
-    → IsBestPart p t (record { name = name; part = c.part; states = c.states; potentials = c.potentials; loops = c.loops; method = method; window = w; response = response })
+pub beside : (p : Platform) (t : TaskGraph) (c : TaskPart) (name : List ℕ) (method : Method)
+    (w response : ℕ) → IsBestPart p t c
+    → IsBestPart p t (record {
+      name = name;
+      part = c.part;
+      states = c.states;
+      potentials = c.potentials;
+      loops = c.loops;
+      method = method;
+      window = w;
+      response = response;
+    })
 beside p t c name method w response B =
     record {
-      states = record { leaders = B.states.leaders; each = B.states.each; ascending = B.states.ascending };
+      states = record {
+        leaders = B.states.leaders;
+        each = B.states.each;
+        ascending = B.states.ascending;
+      };
       evicting = B.evicting;
       useful = B.useful;
       is_hit = B.is_hit;
       hits = B.hits;
-      potentials = record { nodes = B.potentials.nodes; regions = B.potentials.regions; least = B.potentials.least; bound = B.potentials.bound };
+      potentials = record {
+        nodes = B.potentials.nodes;
+        regions = B.potentials.regions;
+        least = B.potentials.least;
+        bound = B.potentials.bound;
+      };
     }
 
-sums_same : (xs : List TaskPart) (ys : List Analysis) → length xs ≡ length ys → ((k : ℕ) → k < length ys → task_entries (get_or xs k no_task_part) ≡ entries_of (get_or ys k no_analysis)) → entries xs ≡ sum_by entries_of ys
+sums_same : (xs : List TaskPart) (ys : List Analysis) → length xs ≡ length ys
+    → ((k : ℕ) → k < length ys
+    → task_entries (get_or xs k no_task_part) ≡ entries_of (get_or ys k no_analysis))
+    → entries xs ≡ sum_by entries_of ys
 sums_same [] [] e h = refl
 sums_same [] (y ∷ ys) e h = absurd (omega (arith, e))
 sums_same (x ∷ xs) [] e h = absurd (omega (arith, e))
 sums_same (x ∷ xs) (y ∷ ys) e h =
     sum_by-cons task_entries x xs ∙ ap (λ n. n + entries xs) (h 0 (omega arith))
-    ∙ ap (λ n. entries_of y + n) (sums_same xs ys (omega (arith, e)) (λ k l. h (suc k) (omega (arith, l)))) ∙ sym (sum_by-cons entries_of y ys)
+    ∙ ap (λ n. entries_of y + n)
+    (sums_same xs ys (omega (arith, e)) (λ k l. h (suc k) (omega (arith, l))))
+    ∙ sym (sum_by-cons entries_of y ys)
 
 -- a certificate with some analyses, whatever its windows
-module _ (set : TaskSet) (all : List Analysis) (c : Certificate) (H : HasParts set (analysis_at all) c) where
-  pub part_best : (graphs : ℕ → TaskGraph) (k : ℕ) → k < length set.tasks → IsAnalysis set.platform (graphs k) (analysis_at all k) → IsBestPart set.platform (graphs k) (certified_task c k)
+module _ (set : TaskSet) (all : List Analysis) (c : Certificate)
+    (H : HasParts set (analysis_at all) c) where
+  pub part_best : (graphs : ℕ → TaskGraph) (k : ℕ) → k < length set.tasks
+      → IsAnalysis set.platform (graphs k) (analysis_at all k)
+      → IsBestPart set.platform (graphs k) (certified_task c k)
   part_best graphs k lt A =
       subst (λ (t : TaskPart). IsBestPart set.platform (graphs k) t) (sym (H.part k lt))
-      (beside set.platform (graphs k) (part_of_analysis (analysis_at all k)) (task_name set k) (certified_task c k).method (window_at c k) (window_at c k + jitter_of set k) A.best)
+      (beside set.platform (graphs k) (part_of_analysis (analysis_at all k)) (task_name set k)
+      (certified_task c k).method (window_at c k) (window_at c k + jitter_of set k) A.best)
 
   pub entries_are : length all ≡ length set.tasks → entries c.tasks ≡ sum_by entries_of all
   entries_are tasks =
@@ -75,9 +107,12 @@ module _ (set : TaskSet) (all : List Analysis) (c : Certificate) (H : HasParts s
 
   -- the names of the set's tasks
   named : IsTaskSet set → (k : ℕ) → k < length set.tasks → is_name (task_name set k) ≡ true
-  named S k lt = name_in (λ (l : List ℕ). is_name l ≡ true) set.tasks k lt (λ j d l. (S.each j d l).name)
+  named S k lt =
+      name_in (λ (l : List ℕ). is_name l ≡ true) set.tasks k lt (λ j d l. (S.each j d l).name)
 
-  pub in_ranges : HasTimes set → IsTaskSet set → ((k : ℕ) → k < length set.tasks → KeepsRanges (analysis_at all k)) → ((k : ℕ) → k < length set.tasks → window_at c k + jitter_of set k ≤ deadline_of set k)
+  pub in_ranges : HasTimes set → IsTaskSet set
+      → ((k : ℕ) → k < length set.tasks → KeepsRanges (analysis_at all k))
+      → ((k : ℕ) → k < length set.tasks → window_at c k + jitter_of set k ≤ deadline_of set k)
       → entries c.tasks ≤ 4000000 → IsCertificate c
   in_ranges times S ranges deadlines few =
       record {
@@ -90,18 +125,25 @@ module _ (set : TaskSet) (all : List Analysis) (c : Certificate) (H : HasParts s
               let dead = deadlines k lt in
               let period = times.deadline k lt in
               let longest = times.longest k lt in
-              subst (λ (t : TaskPart). IsTaskPart t) (sym (get_or_default c.tasks k d no_task_part l ∙ H.part k lt))
-              (ranges k lt (task_name set k) (certified_task c k).method (window_at c k) (window_at c k + jitter_of set k) (named S k lt) (omega (arith, dead, period, longest)) (omega (arith, dead, period, longest)));
+              subst (λ (t : TaskPart). IsTaskPart t)
+              (sym (get_or_default c.tasks k d no_task_part l ∙ H.part k lt))
+              (ranges k lt (task_name set k) (certified_task c k).method (window_at c k)
+              (window_at c k + jitter_of set k) (named S k lt)
+              (omega (arith, dead, period, longest)) (omega (arith, dead, period, longest)));
         };
         entries = few;
       }
 
 -- the smaller windows are in the deadlines
-pub in_deadlines : (set : TaskSet) (graphs : ℕ → TaskGraph) (analyses : ℕ → Analysis) (c : Certificate) → IsCompleted set graphs analyses c → (k : ℕ) → k < length set.tasks → window_at c k + jitter_of set k ≤ deadline_of set k
+pub in_deadlines : (set : TaskSet) (graphs : ℕ → TaskGraph) (analyses : ℕ → Analysis)
+    (c : Certificate) → IsCompleted set graphs analyses c → (k : ℕ) → k < length set.tasks
+    → window_at c k + jitter_of set k ≤ deadline_of set k
 in_deadlines set graphs analyses c C k lt =
-    (smaller_is_window set (demand_of set graphs c k) k (certified_task c k).method (window_at c k) (C.smaller k lt)).in_deadline
+    (smaller_is_window set (demand_of set graphs c k) k (certified_task c k).method (window_at c k)
+    (C.smaller k lt)).in_deadline
 
-module _ (set : TaskSet) (graphs : ℕ → TaskGraph) (all : List Analysis) (c : Certificate) (A : AreAnalysed set graphs all) (C : IsCompleted set graphs (analysis_at all) c) where
+module _ (set : TaskSet) (graphs : ℕ → TaskGraph) (all : List Analysis) (c : Certificate)
+    (A : AreAnalysed set graphs all) (C : IsCompleted set graphs (analysis_at all) c) where
   pub is_best : IsBest set graphs c
   is_best =
       record {
@@ -116,23 +158,35 @@ module _ (set : TaskSet) (graphs : ℕ → TaskGraph) (all : List Analysis) (c :
       }
 
   pub few_entries : entries c.tasks ≤ 4000000
-  few_entries = let e = entries_are set all c C.parts A.tasks in let few = A.entries in omega (arith, e, few)
+  few_entries =
+      let e = entries_are set all c C.parts A.tasks in let few = A.entries in omega (arith, e, few)
 
   pub best_in_ranges : IsTaskSet set → IsCertificate c
-  best_in_ranges S = in_ranges set all c C.parts (has_times set S) S A.ranges (in_deadlines set graphs (analysis_at all) c C) few_entries
+  best_in_ranges S =
+      in_ranges set all c C.parts (has_times set S) S A.ranges
+      (in_deadlines set graphs (analysis_at all) c C) few_entries
 
 -- a want of windows refuses the certificate
-module _ (set : TaskSet) (graphs : ℕ → TaskGraph) (all : List Analysis) (times : HasTimes set) (A : AreAnalysed set graphs all) where
-  no_windows : (e : WindowError) → HasNoWindows set graphs (analysis_at all) e → IsBuildError set graphs (window_build_error e)
+module _ (set : TaskSet) (graphs : ℕ → TaskGraph) (all : List Analysis) (times : HasTimes set)
+    (A : AreAnalysed set graphs all) where
+  no_windows : (e : WindowError) → HasNoWindows set graphs (analysis_at all) e
+      → IsBuildError set graphs (window_build_error e)
   no_windows window.Memory none = tt
   no_windows (window.Unschedulable t) none = (
     map part_of_analysis all,
     best_parts set graphs all A.tasks A.each,
     (let e = entries_map all in let few = A.entries in omega (arith, e, few)),
-    first_too set (demand set (λ k. (analysis_at all k).part) (longest_at set.platform graphs)) (demand set (part_in (map part_of_analysis all)) (longest_at set.platform graphs))
-        (demands_agree set (λ k. (analysis_at all k).part) (part_in (map part_of_analysis all)) (longest_at set.platform graphs) (longest_at set.platform graphs) (length set.tasks) times (omega arith)
-        (λ k lt. ap (λ (p : TaskPart). p.part) (sym (mapped part_of_analysis all k no_analysis))) (λ k lt. refl)) t.0 none,
+    first_too set (demand set (λ k. (analysis_at all k).part) (longest_at set.platform graphs))
+        (demand set (part_in (map part_of_analysis all)) (longest_at set.platform graphs))
+        (demands_agree set (λ k. (analysis_at all k).part) (part_in (map part_of_analysis all))
+        (longest_at set.platform graphs) (longest_at set.platform graphs) (length set.tasks) times
+        (omega arith)
+        (λ k lt. ap (λ (p : TaskPart). p.part) (sym (mapped part_of_analysis all k no_analysis)))
+        (λ k lt. refl)) t.0 none,
   )
 
-  pub not_scheduled : (e : WindowError) (x : BuildError) → HasNoWindows set graphs (analysis_at all) e → x ≡ window_build_error e → IsBuildError set graphs x
-  not_scheduled e x none is = subst (λ (y : BuildError). IsBuildError set graphs y) (sym is) (no_windows e none)
+  pub not_scheduled : (e : WindowError) (x : BuildError)
+      → HasNoWindows set graphs (analysis_at all) e → x ≡ window_build_error e
+      → IsBuildError set graphs x
+  not_scheduled e x none is =
+      subst (λ (y : BuildError). IsBuildError set graphs y) (sym is) (no_windows e none)

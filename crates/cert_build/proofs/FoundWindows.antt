@@ -14,7 +14,8 @@ use Rattle.delay_count.specs.Demand.{demand}
 use Rattle.response.specs.declared.choice.Choice.{Choice}
 use Rattle.response.specs.declared.choice.WindowError.{WindowError}
 use Rattle.response.specs.declared.choice.WindowError.TheVariants.{Memory, Unschedulable}
-use Rattle.response.specs.Windows.{Demand, AreAllChoices, IsWindowError, method_at, window_at as chosen_window}
+use Rattle.response.specs.Windows.{Demand, AreAllChoices, IsWindowError, method_at}
+use Rattle.response.specs.Windows.{window_at as chosen_window}
 use Rattle.response.proofs.WindowLaws.{smaller_is_window}
 use Rattle.response.proofs.Choices.{first_too}
 use Rattle.response.proofs.Least.{demands_agree}
@@ -29,31 +30,45 @@ use Rattle.cert_build.proofs.Assembly.{has_parts}
 use Rattle.cert_build.proofs.Choices.{choices_by}
 
 -- a part of the analyses' list
-pub part_of_list : (analyses : List Analysis) (parts : List Part) (k : ℕ) → parts ≡ map (λ (a : Analysis). a.part) analyses → part_at parts k ≡ (analysis_at analyses k).part
+pub part_of_list : (analyses : List Analysis) (parts : List Part) (k : ℕ)
+    → parts ≡ map (λ (a : Analysis). a.part) analyses
+    → part_at parts k ≡ (analysis_at analyses k).part
 part_of_list analyses parts k is =
-    ap (λ (l : List Part). part_at l k) is ∙ get_or-map (λ (a : Analysis). a.part) analyses k no_analysis
+    ap (λ (l : List Part). part_at l k) is
+    ∙ get_or-map (λ (a : Analysis). a.part) analyses k no_analysis
 
 -- windows by their deadlines have room for the jitter, whatever the demand
-pub responses : (set : TaskSet) (demand : Demand) (choices : List Choice) → HasTimes set → AreAllChoices set demand choices → HaveResponses set choices
+pub responses : (set : TaskSet) (demand : Demand) (choices : List Choice) → HasTimes set
+    → AreAllChoices set demand choices → HaveResponses set choices
 responses set demand choices times A k lt =
-    let d = (smaller_is_window set (demand (chosen_window choices) k) k (method_at choices k) (chosen_window choices k) (A.each k lt)).in_deadline in
+    let d = (smaller_is_window set (demand (chosen_window choices) k) k (method_at choices k)
+    (chosen_window choices k) (A.each k lt)).in_deadline in
     let e = times.deadline k lt in
     let p = times.longest k lt in
     omega (arith, d, e, p)
 
-module _ (set : TaskSet) (times : HasTimes set) (graphs : List CodeGraph) (nests : List CodeNest) (analyses : List Analysis) (parts : List Part) (costs : List ℕ)
+module _ (set : TaskSet) (times : HasTimes set) (graphs : List CodeGraph) (nests : List CodeNest)
+    (analyses : List Analysis) (parts : List Part) (costs : List ℕ)
     (P : parts ≡ map (λ (a : Analysis). a.part) analyses) (L : AreLongest set graphs costs) where
-  costs_are : (k : ℕ) → k < length set.tasks → slice_index costs k ≡ longest_at set.platform (task_graph_at graphs nests) k
+  costs_are : (k : ℕ) → k < length set.tasks
+      → slice_index costs k ≡ longest_at set.platform (task_graph_at graphs nests) k
   costs_are k lt = L.each k lt
 
-  pub completed : (choices : List Choice) (c : Certificate) → AreAllChoices set (demand set (part_at parts) (slice_index costs)) choices → IsAssembled set analyses choices c → IsCompleted set (task_graph_at graphs nests) (analysis_at analyses) c
+  pub completed : (choices : List Choice) (c : Certificate)
+      → AreAllChoices set (demand set (part_at parts) (slice_index costs)) choices
+      → IsAssembled set analyses choices c
+      → IsCompleted set (task_graph_at graphs nests) (analysis_at analyses) c
   completed choices c A C =
       record {
         parts = has_parts set analyses choices c C;
-        smaller = λ k lt. choices_by set (task_graph_at graphs nests) c (part_at parts) (slice_index costs) choices k times A has_choice lt;
+        smaller = λ k lt.
+            choices_by set (task_graph_at graphs nests) c (part_at parts) (slice_index costs)
+            choices k times A has_choice lt;
       }
     where
-      has_choice : (k : ℕ) → k < length set.tasks → HasChoice set (task_graph_at graphs nests) c (part_at parts) (slice_index costs) choices k
+      has_choice : (k : ℕ) → k < length set.tasks
+          → HasChoice set (task_graph_at graphs nests) c (part_at parts)
+          (slice_index costs) choices k
       has_choice k lt =
           let at = C.parts.each k lt in
           record {
@@ -63,9 +78,15 @@ module _ (set : TaskSet) (times : HasTimes set) (graphs : List CodeGraph) (nests
             method = ap (λ (t : TaskPart). t.method) at;
           }
 
-  pub unscheduled : (e : WindowError) → IsWindowError set (demand set (part_at parts) (slice_index costs)) e → HasNoWindows set (task_graph_at graphs nests) (analysis_at analyses) e
+  pub unscheduled : (e : WindowError)
+      → IsWindowError set (demand set (part_at parts) (slice_index costs)) e
+      → HasNoWindows set (task_graph_at graphs nests) (analysis_at analyses) e
   unscheduled Memory R = tt
   unscheduled (Unschedulable t) R =
-      first_too set (demand set (part_at parts) (slice_index costs)) (demand set (λ k. (analysis_at analyses k).part) (longest_at set.platform (task_graph_at graphs nests)))
-      (demands_agree set (part_at parts) (λ k. (analysis_at analyses k).part) (slice_index costs) (longest_at set.platform (task_graph_at graphs nests)) (length set.tasks) times (omega arith) (λ k lt. part_of_list analyses parts k P) costs_are)
+      first_too set (demand set (part_at parts) (slice_index costs))
+      (demand set (λ k. (analysis_at analyses k).part)
+      (longest_at set.platform (task_graph_at graphs nests)))
+      (demands_agree set (part_at parts) (λ k. (analysis_at analyses k).part) (slice_index costs)
+      (longest_at set.platform (task_graph_at graphs nests)) (length set.tasks) times (omega arith)
+      (λ k lt. part_of_list analyses parts k P) costs_are)
       t.0 R

@@ -19,7 +19,16 @@ use Rattle.cert_build.specs.declared.one_task.Analysis.{Analysis}
 -- the task's part of a certificate that has an analysis, with what stands beside it
 abbrev pub part_with : Analysis → List ℕ → Method → ℕ → ℕ → TaskPart
 part_with a name method window response =
-    record { name = name; part = a.part; states = a.states; potentials = a.potentials; loops = a.loops; method = method; window = window; response = response }
+    record {
+      name = name;
+      part = a.part;
+      states = a.states;
+      potentials = a.potentials;
+      loops = a.loops;
+      method = method;
+      window = window;
+      response = response;
+    }
 
 -- the part with nothing beside
 abbrev pub part_of_analysis : Analysis → TaskPart
@@ -34,7 +43,8 @@ pub record IsAnalysis (p : Platform) (t : TaskGraph) (a : Analysis) : Type 0 whe
 abbrev pub KeepsRanges : Analysis → Type 0
 KeepsRanges a =
     (name : List ℕ) (method : Method) (window response : ℕ) →
-    is_name name ≡ true → window ≤ 2 ^ 40 → response ≤ 2 ^ 41 → IsTaskPart (part_with a name method window response)
+    is_name name ≡ true → window ≤ 2 ^ 40 → response ≤ 2 ^ 41
+    → IsTaskPart (part_with a name method window response)
 
 -- the bound of a task's code, with the hits by Sure, exceeds 2^40
 pub record HasLargeBound (p : Platform) (t : TaskGraph) : Type 0 where
@@ -45,4 +55,5 @@ pub record HasLargeBound (p : Platform) (t : TaskGraph) : Type 0 where
 -- no memory, which comes freely; or a bound that is too large, with the address of the task's entry
 abbrev pub HasNoAnalysis : Platform → TaskGraph → BoundError → Type 0
 HasNoAnalysis p t Memory = Unit {0}
-HasNoAnalysis p t (TooLarge address) = HasLargeBound p t × (address ≡ t.places.address t.graph.first)
+HasNoAnalysis p t (TooLarge address) =
+    HasLargeBound p t × (address ≡ t.places.address t.graph.first)

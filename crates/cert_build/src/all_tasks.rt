@@ -49,12 +49,12 @@ fn analyse_task(
     }
 }
 
-/// The analyses of all tasks, one after the other, where their state entries are at most 4,000,000. Once they are
-/// more, the entries of the tasks left are counted and not kept.
+/// The analyses of all tasks, one after the other, where their state entries are at most 4,000,000.
+/// Once they are more, the entries of the tasks left are counted and not kept.
 ///
-/// The refusals are want of memory; then `TooLarge` for the first task whose bound exceeds 2^40 cycles, with the byte
-/// address of its entry; then `TooManyEntries` with the number of the state entries where it exceeds 4,000,000. The
-/// time is that of the analyses.
+/// The refusals are want of memory; then `TooLarge` for the first task whose bound exceeds 2^40
+/// cycles, with the byte address of its entry; then `TooManyEntries` with the number of the state
+/// entries where it exceeds 4,000,000. The time is that of the analyses.
 pub fn analyse_all(
     alloc: Global,
     set: &TaskSet,
@@ -84,7 +84,8 @@ pub fn analyse_all(
     Ok(kept)
 }
 
-/// A law: the end of an edge is a node in each of the graphs, and each node is reached. Linear in the graphs.
+/// A law: the end of an edge is a node in each of the graphs, and each node is reached. Linear in
+/// the graphs.
 pub fn graphs_law(graphs: &[Graph])
     ensures { All (λ (g : CodeGraph). IsGraph (graph_of g)) graphs.now }
 {
@@ -93,17 +94,20 @@ pub fn graphs_law(graphs: &[Graph])
     }
 }
 
-/// The certificate of the analysis: for each task its execution bound, the evicting and the useful cache sets, the
-/// entries of all leaders, the least potentials, and the smaller of its least windows. There is exactly one, and the
-/// judge says yes to it. It needs a graph and its regions for each task.
+/// The certificate of the analysis: for each task its execution bound, the evicting and the useful
+/// cache sets, the entries of all leaders, the least potentials, and the smaller of its least
+/// windows. There is exactly one, and the judge says yes to it. It needs a graph and its regions
+/// for each task.
 ///
-/// The refusals are want of memory; then `TooLarge` for the first task whose bound exceeds 2^40 cycles, with the byte
-/// address of its entry; then `TooManyEntries` with the number of the state entries where it exceeds 4,000,000; then
-/// `Unschedulable` for the first task without a window. One task is analysed at a time, with 4 kB for each leader; of
-/// the others only their entries and potentials are kept. `write_certificate` writes it, and reading gives it back.
-/// The time is that of the analyses, one after the other, and of the windows.
+/// The refusals are want of memory; then `TooLarge` for the first task whose bound exceeds 2^40
+/// cycles, with the byte address of its entry; then `TooManyEntries` with the number of the state
+/// entries where it exceeds 4,000,000; then `Unschedulable` for the first task without a window.
+/// One task is analysed at a time, with 4 kB for each leader; of the others only their entries and
+/// potentials are kept. `write_certificate` writes it, and reading gives it back. The time is that
+/// of the analyses, one after the other, and of the windows.
 ///
-/// Source: Lee et al. 1998 (useful cache blocks); Altmeyer, Davis and Maiza 2012 (the demand of a window).
+/// Source: Lee et al. 1998 (useful cache blocks); Altmeyer, Davis and Maiza 2012 (the demand of a
+/// window).
 pub fn certify(
     alloc: Global,
     set: &TaskSet,
@@ -117,8 +121,10 @@ pub fn certify(
         (λ e. IsBuildError set.now (task_graph_at graphs.now nests.now) e) }
     ensures few { IfOk result (λ c. entries c.tasks ≤ 4000000) }
     ensures ranges { IfOk result IsCertificate }
-    ensures judged { IfOk result (λ c. IsJudged set.now (task_graph_at graphs.now nests.now) c Yes) }
-    ensures one { IfOk result (λ c. (d : Certificate) → IsBest set.now (task_graph_at graphs.now nests.now) d → d ≡ c) }
+    ensures judged { IfOk result
+        (λ c. IsJudged set.now (task_graph_at graphs.now nests.now) c Yes) }
+    ensures one { IfOk result
+        (λ c. (d : Certificate) → IsBest set.now (task_graph_at graphs.now nests.now) d → d ≡ c) }
 {
     graphs_law(graphs);
     let analyses = analyse_all(alloc, set, graphs, nests)?;

@@ -1,5 +1,6 @@
 // The windows of analysed tasks, and their certificate.
-ghost use Rattle.std.specs.Prelude.{◌≡◌, ℕ, ◌+◌, ◌<◌, ◌≤◌, ◌^◌, List, length, map, slice_index, IfOk, MatchResult};
+ghost use Rattle.std.specs.Prelude.{◌≡◌, ℕ, ◌+◌, ◌<◌, ◌≤◌, ◌^◌, List, length, map, slice_index};
+ghost use Rattle.std.specs.Prelude.{IfOk, MatchResult};
 ghost use Rattle.crpd_base.specs.Ranges.{IsTaskSet};
 ghost use Rattle.loop_regions.specs.CodeNest.{CodeNest};
 ghost use Rattle.response.specs.declared.choice.Choice.{Choice};
@@ -18,7 +19,8 @@ use flat_graph::Graph;
 use response::{Choice, WindowError, windows};
 use std::alloc::{AllocError, Global};
 
-/// The parts of some analyses: what their windows need. Linear in the analyses; the only error is want of memory.
+/// The parts of some analyses: what their windows need. Linear in the analyses; the only error is
+/// want of memory.
 pub fn parts_of(alloc: Global, analyses: &[Analysis]) -> Result<Vec<Part>, AllocError>
     ensures { IfOk result (λ parts. parts.items ≡ map (λ (a : Analysis). a.part) analyses.now) }
 {
@@ -33,7 +35,9 @@ fn task_part(
     choice: Choice,
 ) -> Result<TaskPart, AllocError>
     requires { choice.window + task.now.jitter < 2 ^ 64 }
-    ensures { IfOk result (λ t. t ≡ part_with analysis task.now.name choice.method choice.window (choice.window + task.now.jitter)) }
+    ensures { IfOk result (λ t.
+        t ≡ part_with analysis task.now.name choice.method choice.window
+        (choice.window + task.now.jitter)) }
 {
     let name = String::from_str(alloc, task.name.as_str())?;
     Ok(TaskPart {
@@ -58,7 +62,9 @@ fn task_parts(
     requires analyses { length analyses.items ≡ length set.now.tasks }
     requires choices { length choices.now ≡ length set.now.tasks }
     requires times { HaveResponses set.now choices.now }
-    ensures { IfOk result (λ parts. AreAssembled set.now (analysis_at analyses.items) choices.now (length set.now.tasks) parts.items) }
+    ensures { IfOk result (λ parts.
+        AreAssembled set.now (analysis_at analyses.items) choices.now (length set.now.tasks)
+        parts.items) }
 {
     let tasks = set.tasks.as_slice();
     let mut parts = Vec::with_capacity(alloc, tasks.len())?;
@@ -69,9 +75,10 @@ fn task_parts(
     Ok(parts)
 }
 
-/// The certificate of a task set with these analyses and choices, one of each for each task: each task's part has its
-/// analysis, the method and the window of its choice, and as response the window with the task's jitter. Linear in
-/// the tasks; the analyses are moved. The only error is want of memory.
+/// The certificate of a task set with these analyses and choices, one of each for each task: each
+/// task's part has its analysis, the method and the window of its choice, and as response the
+/// window with the task's jitter. Linear in the tasks; the analyses are moved. The only error is
+/// want of memory.
 pub fn assemble(
     alloc: Global,
     set: &TaskSet,
@@ -90,12 +97,12 @@ pub fn assemble(
     })
 }
 
-/// The certificate of a task set with these analyses, one for each task: each task's part has its analysis, and the
-/// smaller of its least windows by the two methods, as `windows` of `response` finds them. The regions of the graphs
-/// do not matter.
+/// The certificate of a task set with these analyses, one for each task: each task's part has its
+/// analysis, and the smaller of its least windows by the two methods, as `windows` of `response`
+/// finds them. The regions of the graphs do not matter.
 ///
-/// The refusals are want of memory, and `Unschedulable` exactly for the first task without a window. The time is that
-/// of the windows and one look at each node.
+/// The refusals are want of memory, and `Unschedulable` exactly for the first task without a
+/// window. The time is that of the windows and one look at each node.
 pub fn complete(
     alloc: Global,
     set: &TaskSet,
@@ -107,7 +114,8 @@ pub fn complete(
     requires analyses { length analyses.items ≡ length set.now.tasks }
     ensures { (nests : List CodeNest) → MatchResult result
         (λ c. IsCompleted set.now (task_graph_at graphs.now nests) (analysis_at analyses.items) c)
-        (λ e. HasNoWindows set.now (task_graph_at graphs.now nests) (analysis_at analyses.items) e) }
+        (λ e. HasNoWindows set.now (task_graph_at graphs.now nests)
+        (analysis_at analyses.items) e) }
 {
     times_law(set);
     let mut longest = [0; MOST_TASKS];

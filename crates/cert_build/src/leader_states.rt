@@ -33,9 +33,12 @@ fn known_blocks(
     requires sets { geometry.now.platform.sets ≤ 512 }
     requires node { leader.0 < (graph_of graph.now).size }
     requires leader { IsLeader (graph_of graph.now) leader.0 }
-    requires parts { AreSureParts (graph_of graph.now) (accesses geometry.now.platform (places_of graph.now).address)
+    requires parts { AreSureParts (graph_of graph.now)
+        (accesses geometry.now.platform (places_of graph.now).address)
         parts.now.places.items parts.now.states.items parts.now.hits.items parts.now.unsure.items }
-    ensures { IfOk result (λ pairs. ListsSure (graph_of graph.now) (accesses geometry.now.platform (places_of graph.now).address)
+    ensures { IfOk result (λ pairs.
+        ListsSure (graph_of graph.now)
+        (accesses geometry.now.platform (places_of graph.now).address)
         leader.0 geometry.now.platform.sets pairs.items) }
 {
     let mut pairs = Vec::new(alloc);
@@ -59,9 +62,12 @@ fn entry(
     requires sets { geometry.now.platform.sets ≤ 512 }
     requires node { leader.0 < (graph_of graph.now).size }
     requires leader { IsLeader (graph_of graph.now) leader.0 }
-    requires parts { AreSureParts (graph_of graph.now) (accesses geometry.now.platform (places_of graph.now).address)
+    requires parts { AreSureParts (graph_of graph.now)
+        (accesses geometry.now.platform (places_of graph.now).address)
         parts.now.places.items parts.now.states.items parts.now.hits.items parts.now.unsure.items }
-    ensures { IfOk result (λ e. IsStateEntry (graph_of graph.now) (accesses geometry.now.platform (places_of graph.now).address)
+    ensures { IfOk result (λ e.
+        IsStateEntry (graph_of graph.now)
+        (accesses geometry.now.platform (places_of graph.now).address)
         leader.0 useful.now geometry.now.platform.sets e) }
 {
     useful.words_law();
@@ -73,8 +79,8 @@ fn entry(
     })
 }
 
-/// The entries of all leaders, by ascending node: what surely is in the cache before each, and the useful cache sets. It
-/// looks once at each node, and once at each cache set of a leader.
+/// The entries of all leaders, by ascending node: what surely is in the cache before each, and the
+/// useful cache sets. It looks once at each node, and once at each cache set of a leader.
 pub(crate) fn leader_states(
     alloc: Global,
     graph: &Graph,
@@ -84,10 +90,14 @@ pub(crate) fn leader_states(
 ) -> Result<Vec<NodeState>, AllocError>
     requires some { 0 < geometry.now.platform.sets }
     requires few { geometry.now.platform.sets ≤ 512 }
-    requires parts { AreSureParts (graph_of graph.now) (accesses geometry.now.platform (places_of graph.now).address)
+    requires parts { AreSureParts (graph_of graph.now)
+        (accesses geometry.now.platform (places_of graph.now).address)
         parts.now.places.items parts.now.states.items parts.now.hits.items parts.now.unsure.items }
-    requires useful { AreUseful (graph_of graph.now) (accesses geometry.now.platform (places_of graph.now).address) useful.now }
-    ensures { IfOk result (λ states. AreLeaderEntries (graph_of graph.now) (accesses geometry.now.platform (places_of graph.now).address)
+    requires useful { AreUseful (graph_of graph.now)
+        (accesses geometry.now.platform (places_of graph.now).address) useful.now }
+    ensures { IfOk result (λ states.
+        AreLeaderEntries (graph_of graph.now)
+        (accesses geometry.now.platform (places_of graph.now).address)
         (graph_of graph.now).size states.items) }
 {
     graph.graph_law();

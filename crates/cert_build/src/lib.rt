@@ -1,8 +1,10 @@
-//! The analysis' certificate: how it is made, what it is, and the laws by which it meets the clauses.
+//! The analysis' certificate: how it is made, what it is, and the laws by which it meets the
+//! clauses.
 #![tactic(auto)]
 
 ghost use Rattle.cert_build.specs.Best.{BestIsJudgedLaw, ChoicesLaw, OneBestLaw};
-ghost use Rattle.cert_build.specs.BestLaws.{BestMeetsLaw, BestSetsLaw, BestStateLaw, BestUsefulLaw, EnoughSetsLaw};
+ghost use Rattle.cert_build.specs.BestLaws.{BestMeetsLaw, BestSetsLaw, BestStateLaw, BestUsefulLaw};
+ghost use Rattle.cert_build.specs.BestLaws.{EnoughSetsLaw};
 ghost use Rattle.cert_build.specs.TwoWords.{TwoWords};
 
 mod all_tasks;
@@ -16,8 +18,8 @@ pub use completed::{assemble, complete, parts_of};
 pub use fault::BuildError;
 pub use one_task::{Analysis, analyse};
 
-/// A law: the full states and useful sets of a listing of Sure and Useful are Sure and Useful at all nodes, and meet
-/// the clauses on them. In constant time.
+/// A law: the full states and useful sets of a listing of Sure and Useful are Sure and Useful at
+/// all nodes, and meet the clauses on them. In constant time.
 pub fn best_laws()
     ensures best_state { BestStateLaw }
     ensures best_useful { BestUsefulLaw }
@@ -31,8 +33,8 @@ pub fn best_is_judged()
     ensures { BestIsJudgedLaw }
 {}
 
-/// A law: the windows found for the parts of a certificate, and written in it, are those of the analysis'
-/// certificate. In constant time.
+/// A law: the windows found for the parts of a certificate, and written in it, are those of the
+/// analysis' certificate. In constant time.
 pub fn choices_law()
     ensures { ChoicesLaw }
 {}

@@ -1,5 +1,6 @@
 -- What the clauses of a graph say together.
-use Rattle.std.proofs.Common.{◌≡◌, ℕ, zero, suc, ◌+◌, ◌<◌, ◌≤◌, Bool, length, All, refl, sym, subst, arith}
+use Rattle.std.proofs.Common.{◌≡◌, ℕ, zero, suc, ◌+◌, ◌<◌, ◌≤◌, Bool, length, All, refl, sym, subst}
+use Rattle.std.proofs.Common.{arith}
 use Rattle.std.specs.Prelude.{not, ◌==◌}
 use Rattle.std.specs.Cmp.{both_ways}
 use Rattle.crpd_base.specs.declared.data.Platform.{Platform}
@@ -23,9 +24,14 @@ use Rattle.crpd_base.specs.declared.data.NodeState.{NodeState}
 use Rattle.crpd_base.specs.declared.data.TaskPart.{TaskPart}
 use Rattle.crpd_base.specs.Tasks.{jitter_of, deadline_of}
 use Rattle.delay_count.specs.Demand.{demand}
-use Rattle.cert_check.specs.JudgeInput.{accesses_of, certified_part, longest_at, window_at, task_name}
+use Rattle.cert_check.specs.JudgeInput.{accesses_of, certified_part, longest_at, window_at}
+use Rattle.cert_check.specs.JudgeInput.{task_name}
 use Rattle.cert_check.specs.declared.outcome.Clause.{Clause}
-use Rattle.cert_check.specs.declared.outcome.Clause.TheVariants.{Platforms, HasTask, Names, Last, Leaders, NodePotentials, LoopPotentials, States, UsefulSets, TaskSets, Inequalities, Bound, Window, Response, Deadline}
+use Rattle.cert_check.specs.declared.outcome.Clause.TheVariants.{Platforms, HasTask, Names, Last}
+use Rattle.cert_check.specs.declared.outcome.Clause.TheVariants.{Leaders, NodePotentials}
+use Rattle.cert_check.specs.declared.outcome.Clause.TheVariants.{LoopPotentials, States, UsefulSets}
+use Rattle.cert_check.specs.declared.outcome.Clause.TheVariants.{TaskSets, Inequalities, Bound}
+use Rattle.cert_check.specs.declared.outcome.Clause.TheVariants.{Window, Response, Deadline}
 use Rattle.cert_check.specs.Verdict.{GraphHolds, ClauseHolds, IsYes, YesMeetsListing, YesMeetsSets}
 
 -- two tests of hits agree at the nodes
@@ -36,14 +42,22 @@ tests_agree g a l one two u p q h =
 
 -- the inequalities at a node see the test at that node only
 pub same_meets : (p : Platform) (t : TaskGraph) (pot : Potentials) (one two : ℕ → Bool) (u : ℕ)
-    → one u ≡ two u → PotentialsMeet t.graph t.nest (edge_costs p (node_code_of t) (answering t) one) pot u
+    → one u ≡ two u → PotentialsMeet t.graph t.nest
+    (edge_costs p (node_code_of t) (answering t) one) pot u
     → PotentialsMeet t.graph t.nest (edge_costs p (node_code_of t) (answering t) two) pot u
 same_meets p t pot one two u e m =
     record {
       edges = record {
-        edge = λ v w. subst (λ b. cost p (t.ins u) (not b) (not (t.places.address v == t.places.address u + 4)) ≤ pot.node u) e (m.edges.edge v w);
-        end = λ a. subst (λ b. cost p (t.ins u) (not b) (is_return (flow (t.places.address u) (t.ins u))) ≤ pot.node u) e (m.edges.end a);
-        inside = λ v i w n o it. subst (λ b. cost p (t.ins u) (not b) (not (t.places.address v == t.places.address u + 4)) + item_potential pot i ≤ pot.node u) e (m.edges.inside v i w n o it);
+        edge = λ v w.
+            subst (λ b. cost p (t.ins u) (not b)
+            (not (t.places.address v == t.places.address u + 4)) ≤ pot.node u) e (m.edges.edge v w);
+        end = λ a.
+            subst (λ b. cost p (t.ins u) (not b) (is_return (flow (t.places.address u) (t.ins u)))
+            ≤ pot.node u) e (m.edges.end a);
+        inside = λ v i w n o it.
+            subst (λ b. cost p (t.ins u) (not b)
+            (not (t.places.address v == t.places.address u + 4)) + item_potential pot i
+            ≤ pot.node u) e (m.edges.inside v i w n o it);
         exit = m.edges.exit;
       };
       left = m.left;
@@ -58,7 +72,8 @@ pub record GraphMeets (p : Platform) (t : TaskGraph) (c : TaskPart) : Type 0 whe
   pub is_hit : ℕ → Bool
   pub hits : CountsHits t.graph (accesses_of p t) (listed_of c) is_hit
   pub potentials : (u : ℕ) → u < t.graph.size
-      → PotentialsMeet t.graph t.nest (edge_costs p (node_code_of t) (answering t) is_hit) (potentials_of c) u
+      → PotentialsMeet t.graph t.nest (edge_costs p (node_code_of t) (answering t) is_hit)
+      (potentials_of c) u
   pub bound : BoundMeets t.graph t.nest (potentials_of c) c.part.bound
 
 module _ (p : Platform) (t : TaskGraph) (c : TaskPart) where
@@ -85,7 +100,9 @@ module _ (p : Platform) (t : TaskGraph) (c : TaskPart) where
 
   -- where the leaders are listed there is a test of the hits that are counted
   pub graph_meets : IsGraph t.graph → ((k : Clause) → GraphHolds p t c k) → GraphMeets p t c
-  graph_meets G h = let test = hit_test_law t.graph (accesses_of p t) (listed_of c) G (h Leaders).1 in meets_with h test.0 test.1
+  graph_meets G h =
+      let test = hit_test_law t.graph (accesses_of p t) (listed_of c) G (h Leaders).1 in
+      meets_with h test.0 test.1
 
 -- what is listed, and these: the clauses of a graph
 pub clauses_of : (p : Platform) (t : TaskGraph) (c : TaskPart)
@@ -99,7 +116,9 @@ clauses_of p t c numbers nodes loops m (States u) = λ l. m.listing.states u l
 clauses_of p t c numbers nodes loops m (UsefulSets u) = λ l. m.sets.useful u l
 clauses_of p t c numbers nodes loops m (TaskSets u) = λ l. m.sets.sets u l
 clauses_of p t c numbers nodes loops m (Inequalities u) = λ is_hit counts l.
-    same_meets p t (potentials_of c) m.is_hit is_hit u (tests_agree t.graph (accesses_of p t) (listed_of c) m.is_hit is_hit u m.hits counts l) (m.potentials u l)
+    same_meets p t (potentials_of c) m.is_hit is_hit u
+    (tests_agree t.graph (accesses_of p t) (listed_of c) m.is_hit is_hit u m.hits counts l)
+    (m.potentials u l)
 clauses_of p t c numbers nodes loops m Bound = m.bound
 clauses_of p t c numbers nodes loops m _ = tt
 
@@ -107,9 +126,13 @@ clauses_of p t c numbers nodes loops m _ = tt
 module _ (set : TaskSet) (graphs : ℕ → TaskGraph) (c : Certificate) (i : ℕ)
     (lt : i < length set.tasks) (platform : c.platform ≡ set.platform)
     (tasks : length c.tasks ≡ length set.tasks)
-    (name : (certified_task c i).name ≡ task_name set i) (part : (k : Clause) → GraphHolds set.platform (graphs i) (certified_task c i) k) (some : 1 ≤ window_at c i)
-    (enough : demand set (certified_part c) (longest_at set.platform graphs) (window_at c) i (certified_task c i).method (window_at c i) ≤ window_at c i)
-    (response : (certified_task c i).response ≡ window_at c i + jitter_of set i) (in_deadline : window_at c i + jitter_of set i ≤ deadline_of set i) where
+    (name : (certified_task c i).name ≡ task_name set i)
+    (part : (k : Clause) → GraphHolds set.platform (graphs i) (certified_task c i) k)
+    (some : 1 ≤ window_at c i)
+    (enough : demand set (certified_part c) (longest_at set.platform graphs) (window_at c) i
+    (certified_task c i).method (window_at c i) ≤ window_at c i)
+    (response : (certified_task c i).response ≡ window_at c i + jitter_of set i)
+    (in_deadline : window_at c i + jitter_of set i ≤ deadline_of set i) where
   pub all_hold : (k : Clause) → ClauseHolds set graphs c i k
   all_hold Platforms = platform
   all_hold HasTask = omega (arith, tasks, lt)

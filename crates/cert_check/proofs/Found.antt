@@ -1,9 +1,13 @@
 -- Failures of clauses, put together.
-use Rattle.std.proofs.Common.{◌≡◌, ◌↔◌, ℕ, ◌+◌, ◌<◌, ◌≤◌, Result, Ok, Err, sym, ◌∙◌, subst, inl, inr, ⊎_elim, arith}
+use Rattle.std.proofs.Common.{◌≡◌, ◌↔◌, ℕ, ◌+◌, ◌<◌, ◌≤◌, Result, Ok, Err, sym, ◌∙◌, subst, inl}
+use Rattle.std.proofs.Common.{inr, ⊎_elim, arith}
 use Rattle.std.specs.Prelude.{IsErrAnd}
 use Rattle.std.proofs.lemmas.Bool.{cases_lt}
 use Rattle.cert_check.specs.declared.outcome.Clause.{Clause}
-use Rattle.cert_check.specs.declared.outcome.Clause.TheVariants.{Platforms, HasTask, Names, Last, Leaders, NodePotentials, LoopPotentials, Bound, Window, Response, Deadline}
+use Rattle.cert_check.specs.declared.outcome.Clause.TheVariants.{Platforms, HasTask, Names, Last}
+use Rattle.cert_check.specs.declared.outcome.Clause.TheVariants.{Leaders, NodePotentials}
+use Rattle.cert_check.specs.declared.outcome.Clause.TheVariants.{LoopPotentials, Bound, Window}
+use Rattle.cert_check.specs.declared.outcome.Clause.TheVariants.{Response, Deadline}
 use Rattle.cert_check.specs.Verdict.{clause_number, clause_place, IsEarlierClause}
 use Rattle.cert_check.specs.Inner.FirstFailing.{IsFirstFailingWithin, AllHold, IsRangeJudged}
 use Rattle.cert_check.specs.Inner.JudgedNodes.{IsLeastFailing}
@@ -13,19 +17,27 @@ module _ (H : Clause → Type 0) where
   pub then_found : (low mid high : ℕ) (r : Result (Unit {0}) Clause) → low ≤ mid + 1 → mid ≤ high
       → AllHold H low mid → IsRangeJudged H (mid + 1) high r → IsRangeJudged H low high r
   then_found low mid high (Ok _) a b first rest = λ k from_low to_high.
-      ⊎_elim (λ lt. first k from_low (omega arith)) (λ le. rest k le to_high) (cases_lt (clause_number k) (mid + 1))
+      ⊎_elim (λ lt. first k from_low (omega arith)) (λ le. rest k le to_high)
+      (cases_lt (clause_number k) (mid + 1))
   then_found low mid high (Err k) a b first rest = record {
     from_low = (let le = rest.from_low in omega (arith, a, le));
     to_high = rest.to_high;
     fails = rest.fails;
-    before = λ l from_low earlier. ⊎_elim (λ lt. first l from_low (omega arith)) (λ le. rest.before l le earlier) (cases_lt (clause_number l) (mid + 1));
+    before = λ l from_low earlier.
+        ⊎_elim (λ lt. first l from_low (omega arith)) (λ le. rest.before l le earlier)
+        (cases_lt (clause_number l) (mid + 1));
   }
 
   -- a failure among the first
   pub found_first : (low mid high : ℕ) (k : Clause) → mid ≤ high → IsFirstFailingWithin H low mid k
       → IsFirstFailingWithin H low high k
   found_first low mid high k le F =
-      record { from_low = F.from_low; to_high = (let to = F.to_high in omega (arith, to, le)); fails = F.fails; before = F.before }
+      record {
+        from_low = F.from_low;
+        to_high = (let to = F.to_high in omega (arith, to, le));
+        fails = F.fails;
+        before = F.before;
+      }
 
   -- it is handed on
   pub handed_on : (low high : ℕ) (r : Result (Unit {0}) Clause) (k : Clause)
@@ -40,18 +52,23 @@ module _ (H : Clause → Type 0) where
     from_low = omega arith;
     to_high = omega arith;
     fails = fails;
-    before = λ l low earlier. ⊎_elim (λ less. absurd (omega (arith, low, less))) (λ same. absurd (let b = same.1 in omega (arith, zero_place, b))) earlier;
+    before = λ l low earlier.
+        ⊎_elim (λ less. absurd (omega (arith, low, less)))
+        (λ same. absurd (let b = same.1 in omega (arith, zero_place, b))) earlier;
   }
 
   -- a later one fails, and the earlier ones hold
   pub fails_later : (k : Clause)
-      → ((l : Clause) → clause_number l ≡ clause_number k → clause_place l < clause_place k → H l) → (H k → ⊥)
+      → ((l : Clause) → clause_number l ≡ clause_number k → clause_place l < clause_place k → H l)
+      → (H k → ⊥)
       → IsFirstFailingWithin H (clause_number k) (clause_number k) k
   fails_later k earlier_hold fails = record {
     from_low = omega arith;
     to_high = omega arith;
     fails = fails;
-    before = λ l low earlier. ⊎_elim (λ less. absurd (omega (arith, low, less))) (λ same. earlier_hold l same.0 same.1) earlier;
+    before = λ l low earlier.
+        ⊎_elim (λ less. absurd (omega (arith, low, less)))
+        (λ same. earlier_hold l same.0 same.1) earlier;
   }
 
   -- the clauses of the platform, the tasks and the names
@@ -104,7 +121,8 @@ module _ (H : Clause → Type 0) where
   response_before h k e lt = absurd (omega (arith, e))
 
 -- a fact of the nodes is what the clauses of a number say
-pub record IsOfNodes (H : Clause → Type 0) (P : ℕ → Type 0) (C : ℕ → Clause) (n size : ℕ) : Type 0 where
+pub record IsOfNodes (H : Clause → Type 0) (P : ℕ → Type 0) (C : ℕ → Clause)
+    (n size : ℕ) : Type 0 where
   pub number : (u : ℕ) → clause_number (C u) ≡ n
   pub place : (u : ℕ) → clause_place (C u) ≡ u
   pub only : (l : Clause) → clause_number l ≡ n → C (clause_place l) ≡ l
@@ -126,7 +144,8 @@ module _ (H : Clause → Type 0) (P : ℕ → Type 0) (C : ℕ → Clause) (n si
         let b = same.1 in
         let p = X.place least in
         let before : clause_place l < least = omega (arith, b, p) in
-        subst H (X.only l (same.0 ∙ X.number least)) (X.to (clause_place l) (omega (arith, before, lt)) (L.holds (clause_place l) before)))
+        subst H (X.only l (same.0 ∙ X.number least))
+        (X.to (clause_place l) (omega (arith, before, lt)) (L.holds (clause_place l) before)))
         earlier;
   }
 
@@ -134,7 +153,8 @@ module _ (H : Clause → Type 0) (P : ℕ → Type 0) (C : ℕ → Clause) (n si
   pub nodes_hold : size ≤ least → AllHold H n n
   nodes_hold none k low high =
       subst H (X.only k (omega (arith, low, high)))
-      (⊎_elim (λ lt. X.to (clause_place k) lt (L.holds (clause_place k) (omega (arith, lt, none)))) (λ le. X.past (clause_place k) le) (cases_lt (clause_place k) size))
+      (⊎_elim (λ lt. X.to (clause_place k) lt (L.holds (clause_place k) (omega (arith, lt, none))))
+      (λ le. X.past (clause_place k) le) (cases_lt (clause_place k) size))
 
 not_later : (l k : Clause) → IsEarlierClause l k → clause_number l ≤ clause_number k
 not_later l k (inl lt) = omega (arith, lt)
@@ -142,14 +162,17 @@ not_later l k (inr e) = (let same = e.0 in omega (arith, same))
 
 -- clauses that say the same
 pub found_as : (H K : Clause → Type 0) (low high : ℕ) (r : Result (Unit {0}) Clause)
-    → ((k : Clause) → low ≤ clause_number k → clause_number k ≤ high → H k ↔ K k) → IsRangeJudged H low high r
+    → ((k : Clause) → low ≤ clause_number k → clause_number k ≤ high → H k ↔ K k)
+    → IsRangeJudged H low high r
     → IsRangeJudged K low high r
 found_as H K low high (Ok _) same F = λ k a b. (same k a b).0 (F k a b)
 found_as H K low high (Err k) same F = record {
   from_low = F.from_low;
   to_high = F.to_high;
   fails = λ h. F.fails ((same k F.from_low F.to_high).1 h);
-  before = λ l a e. (same l a (let le = not_later l k e in let to = F.to_high in omega (arith, le, to))).0 (F.before l a e);
+  before = λ l a e.
+      (same l a (let le = not_later l k e in let to = F.to_high in omega (arith, le, to))).0
+      (F.before l a e);
 }
 
 -- every clause has a number from 1 to 9

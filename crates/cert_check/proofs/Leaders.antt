@@ -1,8 +1,10 @@
 -- A node that is no leader continues another.
-use Rattle.std.proofs.Common.{◌≡◌, ℕ, zero, suc, ◌+◌, ◌<◌, List, [], ◌∷◌, Contains, IsTrue, IsFalse, inl, inr, ⊎_elim, sym, subst, arith}
+use Rattle.std.proofs.Common.{◌≡◌, ℕ, zero, suc, ◌+◌, ◌<◌, List, [], ◌∷◌, Contains, IsTrue, IsFalse}
+use Rattle.std.proofs.Common.{inl, inr, ⊎_elim, sym, subst, arith}
 use Rattle.std.proofs.lemmas.Bool.{cases_eq, both_ways}
 use Rattle.flat_graph.specs.Graph.{Graph, Edge, Continues, IsLeader, IsGraph}
-use Rattle.flat_graph.proofs.Decided.{Decided, is_below, «both», never, some_below, all_below, same_fact, implied}
+use Rattle.flat_graph.proofs.Decided.{Decided, is_below, «both», never, some_below, all_below}
+use Rattle.flat_graph.proofs.Decided.{same_fact, implied}
 use Rattle.evict_sets.specs.Full.{Listed}
 use Rattle.evict_sets.specs.CacheClauses.{ListsLeaders}
 
@@ -40,7 +42,8 @@ module _ (g : Graph) (G : IsGraph g) where
       same_fact
       (λ p. record { edge = p.0; not_first = p.1.0; one_edge = p.1.1.0; one_successor = p.1.1.1 })
       (λ c. (c.edge, (c.not_first, (c.one_edge, c.one_successor))))
-      («both» (edge u v) («both» (never (cases_eq v g.first)) («both» (one_edge u v) (one_successor u v))))
+      («both» (edge u v)
+      («both» (never (cases_eq v g.first)) («both» (one_edge u v) (one_successor u v))))
 
   pub continues_one : (v : ℕ) → (IsLeader g v → ⊥) → (u : ℕ) × Continues g u v
   continues_one v h =
@@ -54,14 +57,16 @@ abbrev pub ListsBelow : Graph → Listed → ℕ → Type 0
 ListsBelow g l n = (y : ℕ) → y < n → IsFalse (l.is_listed y) → (u : ℕ) × Continues g u y
 
 -- one node more, which is listed or no leader
-pub listed_more : (g : Graph) (l : Listed) (n : ℕ) → IsTrue (l.is_listed n) → ListsBelow g l n → ListsBelow g l (n + 1)
+pub listed_more : (g : Graph) (l : Listed) (n : ℕ) → IsTrue (l.is_listed n) → ListsBelow g l n
+    → ListsBelow g l (n + 1)
 listed_more g l n t below y lt out =
     ⊎_elim
     (λ e. absurd (both_ways (l.is_listed y) out (subst (λ x. IsTrue (l.is_listed x)) (sym e) t)))
     (λ ne. below y (omega arith) out)
     (cases_eq y n)
 
-pub other_more : (g : Graph) (l : Listed) (n : ℕ) → IsGraph g → (IsLeader g n → ⊥) → ListsBelow g l n → ListsBelow g l (n + 1)
+pub other_more : (g : Graph) (l : Listed) (n : ℕ) → IsGraph g → (IsLeader g n → ⊥)
+    → ListsBelow g l n → ListsBelow g l (n + 1)
 other_more g l n G h below y lt out =
     ⊎_elim
     (λ e. continues_one g G y (subst (λ x. IsLeader g x → ⊥) (sym e) h))
@@ -69,5 +74,6 @@ other_more g l n G h below y lt out =
     (cases_eq y n)
 
 -- a leader that is not listed
-pub unlisted_leader : (g : Graph) (l : Listed) (n : ℕ) → n < g.size → IsLeader g n → IsFalse (l.is_listed n) → ListsLeaders g l → ⊥
+pub unlisted_leader : (g : Graph) (l : Listed) (n : ℕ) → n < g.size → IsLeader g n
+    → IsFalse (l.is_listed n) → ListsLeaders g l → ⊥
 unlisted_leader g l n lt leads out all = leads (all n lt out)

@@ -8,8 +8,12 @@ use Rattle.crpd_base.specs.declared.data.Certificate.{Certificate}
 use Rattle.evict_sets.specs.ListedPart.{certified_task, no_task_part}
 use Rattle.cert_check.specs.JudgeInput.{task_name}
 
-pub name_at : (set : TaskSet) (i : ℕ) (t : TaskSpec) → i < length set.tasks → t ≡ get_or set.tasks i t → task_name set i ≡ t.name
-name_at set i t lt is = get_or-map (λ (k : TaskSpec). k.name) set.tasks i t [] lt ∙ ap (λ (k : TaskSpec). k.name) (sym is)
+pub name_at : (set : TaskSet) (i : ℕ) (t : TaskSpec) → i < length set.tasks
+    → t ≡ get_or set.tasks i t → task_name set i ≡ t.name
+name_at set i t lt is =
+    get_or-map (λ (k : TaskSpec). k.name) set.tasks i t [] lt
+    ∙ ap (λ (k : TaskSpec). k.name) (sym is)
 
-pub part_is : (c : Certificate) (i : ℕ) (t : TaskPart) → i < length c.tasks → t ≡ get_or c.tasks i t → certified_task c i ≡ t
+pub part_is : (c : Certificate) (i : ℕ) (t : TaskPart) → i < length c.tasks → t ≡ get_or c.tasks i t
+    → certified_task c i ≡ t
 part_is c i t lt is = sym (is ∙ get_or_default c.tasks i t no_task_part lt)

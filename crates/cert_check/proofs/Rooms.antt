@@ -1,5 +1,7 @@
 -- The parts and windows that a demand is handed.
-use Rattle.std.proofs.Common.{◌≡◌, ◌↔◌, Bool, IsTrue, ℕ, ◌+◌, ◌<◌, ◌≤◌, List, [], length, set, refl, sym, ap, ◌∙◌, subst, ⊎_elim, arith, length-set, get_or-set_same, get_or-set_other}
+use Rattle.std.proofs.Common.{◌≡◌, ◌↔◌, Bool, IsTrue, ℕ, ◌+◌, ◌<◌, ◌≤◌, List, [], length, set, refl}
+use Rattle.std.proofs.Common.{sym, ap, ◌∙◌, subst, ⊎_elim, arith, length-set, get_or-set_same}
+use Rattle.std.proofs.Common.{get_or-set_other}
 use Rattle.std.specs.Prelude.{slice_index}
 use Rattle.std.proofs.lemmas.Bool.{cases_eq}
 use Rattle.crpd_base.specs.declared.data.Part.{Part}
@@ -22,16 +24,20 @@ pub record AreHanded (c : Certificate) (parts : List Part) (windows : List ℕ) 
   pub part : (j : ℕ) → j < k → part_at parts j ≡ certified_part c j
   pub window : (j : ℕ) → j < k → slice_index windows j ≡ window_at c j
 
-pub handed_more : (c : Certificate) (parts : List Part) (windows : List ℕ) (k : ℕ) (p : Part) (w : ℕ) → k < 32 → p ≡ certified_part c k → w ≡ window_at c k → AreHanded c parts windows k → AreHanded c (set parts k p) (set windows k w) (k + 1)
+pub handed_more : (c : Certificate) (parts : List Part) (windows : List ℕ) (k : ℕ) (p : Part)
+    (w : ℕ) → k < 32 → p ≡ certified_part c k → w ≡ window_at c k → AreHanded c parts windows k
+    → AreHanded c (set parts k p) (set windows k w) (k + 1)
 handed_more c parts windows k p w lt p_is w_is H = record {
   all_parts = length-set parts k p ∙ H.all_parts;
   all_windows = length-set windows k w ∙ H.all_windows;
   part = λ j j_lt. ⊎_elim
-      (λ (e : j ≡ k). subst (λ x. part_at (set parts k p) x ≡ certified_part c x) (sym e) (get_or-set_same parts k p nothing (omega (arith, lt, H.all_parts)) ∙ p_is))
+      (λ (e : j ≡ k). subst (λ x. part_at (set parts k p) x ≡ certified_part c x) (sym e)
+      (get_or-set_same parts k p nothing (omega (arith, lt, H.all_parts)) ∙ p_is))
       (λ ne. get_or-set_other parts k j p nothing ne ∙ H.part j (omega arith))
       (cases_eq j k);
   window = λ j j_lt. ⊎_elim
-      (λ (e : j ≡ k). subst (λ x. slice_index (set windows k w) x ≡ window_at c x) (sym e) (get_or-set_same windows k w 0 (omega (arith, lt, H.all_windows)) ∙ w_is))
+      (λ (e : j ≡ k). subst (λ x. slice_index (set windows k w) x ≡ window_at c x) (sym e)
+      (get_or-set_same windows k w 0 (omega (arith, lt, H.all_windows)) ∙ w_is))
       (λ ne. get_or-set_other windows k j w 0 ne ∙ H.window j (omega arith))
       (cases_eq j k);
 } where
@@ -39,14 +45,23 @@ handed_more c parts windows k p w lt p_is w_is H = record {
   nothing = record { bound = 0; evicting = []; useful = [] }
 
 -- the test of a window
-pub room_test : (task_set : TaskSet) (times : HasTimes task_set) (c : Certificate) (i k : ℕ) (l : i < length task_set.tasks) (parts : List Part) (windows costs : List ℕ) (t : TaskPart) (d q : ℕ) (b : Bool)
-    → AreHanded c parts windows k → i < k → certified_task c i ≡ t → d ≡ demand task_set (part_at parts) (slice_index costs) (slice_index windows) i t.method t.window → q ≡ t.window → (t.window ≡ 0 → ⊥)
+pub room_test : (task_set : TaskSet) (times : HasTimes task_set) (c : Certificate) (i k : ℕ)
+    (l : i < length task_set.tasks) (parts : List Part) (windows costs : List ℕ) (t : TaskPart)
+    (d q : ℕ) (b : Bool)
+    → AreHanded c parts windows k → i < k → certified_task c i ≡ t
+    → d ≡ demand task_set (part_at parts) (slice_index costs) (slice_index windows) i t.method
+    t.window → q ≡ t.window → (t.window ≡ 0 → ⊥)
     → IsTrue b ↔ (d ≤ q) → IsTrue b ↔ TimesHold task_set (slice_index costs) c i Window
 room_test task_set times c i k l parts windows costs t d q b H below at d_is q_is some test =
-    let same = demand_same task_set (part_at parts) (certified_part c) (slice_index costs) (slice_index costs) (slice_index windows) (window_at c) i times l
-    (λ j le. H.part j (omega (arith, le, below))) (λ j lt. refl) (λ j lt. H.window j (omega (arith, lt, below))) (certified_task c i).method (window_at c i) in
-    let whole : d ≡ demand task_set (part_at parts) (slice_index costs) (slice_index windows) i (certified_task c i).method (window_at c i) =
-    subst (λ (x : TaskPart). d ≡ demand task_set (part_at parts) (slice_index costs) (slice_index windows) i x.method x.window) (sym at) d_is in
+    let same = demand_same task_set (part_at parts) (certified_part c) (slice_index costs)
+    (slice_index costs) (slice_index windows) (window_at c) i times l
+    (λ j le. H.part j (omega (arith, le, below))) (λ j lt. refl)
+    (λ j lt. H.window j (omega (arith, lt, below))) (certified_task c i).method (window_at c i) in
+    let whole : d ≡ demand task_set (part_at parts) (slice_index costs) (slice_index windows) i
+    (certified_task c i).method (window_at c i) =
+    subst (λ (x : TaskPart).
+    d ≡ demand task_set (part_at parts) (slice_index costs) (slice_index windows) i x.method
+    x.window) (sym at) d_is in
     let w : window_at c i ≡ t.window = ap (λ (x : TaskPart). x.window) at in (
       (λ h. let le = test.0 h in (omega (arith, w, some), omega (arith, le, same, whole, w, q_is))),
       (λ h. test.1 (let le = h.1 in omega (arith, le, same, whole, w, q_is))),

@@ -7,7 +7,8 @@ use Rattle.crpd_base.specs.declared.data.Certificate.{Certificate}
 use Rattle.flat_graph.specs.CodeGraph.{CodeGraph, no_graph, graph_at}
 use Rattle.loop_regions.specs.CodeNest.{CodeNest, IsNestOf}
 use Rattle.evict_sets.specs.ListedPart.{certified_task, no_task_part}
-use Rattle.cert_check.specs.TaskGraphs.{task_graph, task_graph_at, nest_at, no_nest, HasLowSets, AreTaskGraphs, IsCertificateInRange}
+use Rattle.cert_check.specs.TaskGraphs.{task_graph, task_graph_at, nest_at, no_nest, HasLowSets}
+use Rattle.cert_check.specs.TaskGraphs.{AreTaskGraphs, IsCertificateInRange}
 use Rattle.crpd_base.specs.declared.data.NodeState.{NodeState}
 use Rattle.evict_sets.specs.Listing.{IsEntryIndex}
 use Rattle.cert_check.specs.declared.outcome.Clause.{Clause}
@@ -16,25 +17,41 @@ use Rattle.cert_check.specs.Inner.FirstFailing.{IsRangeJudged}
 use Rattle.cert_check.proofs.Found.{found_as}
 use Rattle.cert_check.proofs.Judgements.{graph_same}
 
-pub graph_is : (graphs : List CodeGraph) (i : ℕ) (g : CodeGraph) → i < length graphs → g ≡ get_or graphs i g → g ≡ graph_at graphs i
+pub graph_is : (graphs : List CodeGraph) (i : ℕ) (g : CodeGraph) → i < length graphs
+    → g ≡ get_or graphs i g → g ≡ graph_at graphs i
 graph_is graphs i g lt is = is ∙ get_or_default graphs i g no_graph lt
 
-pub nest_is : (nests : List CodeNest) (i : ℕ) (n : CodeNest) → i < length nests → n ≡ get_or nests i n → n ≡ nest_at nests i
+pub nest_is : (nests : List CodeNest) (i : ℕ) (n : CodeNest) → i < length nests
+    → n ≡ get_or nests i n → n ≡ nest_at nests i
 nest_is nests i n lt is = is ∙ get_or_default nests i n no_nest lt
 
-pub beside : (set : TaskSet) (graphs : List CodeGraph) (nests : List CodeNest) (i : ℕ) (g : CodeGraph) (n : CodeNest) → AreTaskGraphs set graphs nests → i < length set.tasks → g ≡ graph_at graphs i → n ≡ nest_at nests i → IsNestOf g n
-beside set graphs nests i g n A lt g_is n_is = subst (λ x. IsNestOf x n) (sym g_is) (subst (λ x. IsNestOf (graph_at graphs i) x) (sym n_is) (A.each i lt))
+pub beside : (set : TaskSet) (graphs : List CodeGraph) (nests : List CodeNest) (i : ℕ)
+    (g : CodeGraph) (n : CodeNest) → AreTaskGraphs set graphs nests → i < length set.tasks
+    → g ≡ graph_at graphs i → n ≡ nest_at nests i → IsNestOf g n
+beside set graphs nests i g n A lt g_is n_is =
+    subst (λ x. IsNestOf x n) (sym g_is)
+    (subst (λ x. IsNestOf (graph_at graphs i) x) (sym n_is) (A.each i lt))
 
-pub low_sets : (c : Certificate) (i : ℕ) (t : TaskPart) → IsCertificateInRange c → i < length c.tasks → certified_task c i ≡ t → HasLowSets t
+pub low_sets : (c : Certificate) (i : ℕ) (t : TaskPart) → IsCertificateInRange c
+    → i < length c.tasks → certified_task c i ≡ t → HasLowSets t
 low_sets c i t R lt at = subst HasLowSets at (R.sets i no_task_part lt)
 
-pub found_task : (set : TaskSet) (graphs : List CodeGraph) (nests : List CodeNest) (c : Certificate) (i : ℕ) (g : CodeGraph) (n : CodeNest) (t : TaskPart) (r : Result (Unit {0}) Clause) → g ≡ graph_at graphs i → n ≡ nest_at nests i → certified_task c i ≡ t
-    → IsRangeJudged (GraphHolds set.platform (task_graph g n) t) 2 7 r → IsRangeJudged (ClauseHolds set (task_graph_at graphs nests) c i) 2 7 r
+pub found_task : (set : TaskSet) (graphs : List CodeGraph) (nests : List CodeNest) (c : Certificate)
+    (i : ℕ) (g : CodeGraph) (n : CodeNest) (t : TaskPart) (r : Result (Unit {0}) Clause)
+    → g ≡ graph_at graphs i → n ≡ nest_at nests i → certified_task c i ≡ t
+    → IsRangeJudged (GraphHolds set.platform (task_graph g n) t) 2 7 r
+    → IsRangeJudged (ClauseHolds set (task_graph_at graphs nests) c i) 2 7 r
 found_task set graphs nests c i g n t r g_is n_is at F =
-    found_as (GraphHolds set.platform (task_graph_at graphs nests i) (certified_task c i)) (ClauseHolds set (task_graph_at graphs nests) c i) 2 7 r (graph_same set (task_graph_at graphs nests) c i)
-    (subst (λ x. IsRangeJudged (GraphHolds set.platform (task_graph x (nest_at nests i)) (certified_task c i)) 2 7 r) g_is
-    (subst (λ x. IsRangeJudged (GraphHolds set.platform (task_graph g x) (certified_task c i)) 2 7 r) n_is
+    found_as (GraphHolds set.platform (task_graph_at graphs nests i) (certified_task c i))
+    (ClauseHolds set (task_graph_at graphs nests) c i) 2 7 r
+    (graph_same set (task_graph_at graphs nests) c i)
+    (subst (λ x. IsRangeJudged
+    (GraphHolds set.platform (task_graph x (nest_at nests i)) (certified_task c i)) 2 7 r) g_is
+    (subst (λ x. IsRangeJudged (GraphHolds set.platform (task_graph g x) (certified_task c i)) 2 7
+    r) n_is
     (subst (λ x. IsRangeJudged (GraphHolds set.platform (task_graph g n) x) 2 7 r) (sym at) F)))
 
-pub index_of : (xs ys : List NodeState) (n m : ℕ) (places : List ℕ) → xs ≡ ys → n ≡ m → IsEntryIndex xs n places → IsEntryIndex ys m places
-index_of xs ys n m places e f I = subst (λ zs. IsEntryIndex zs m places) e (subst (λ k. IsEntryIndex xs k places) f I)
+pub index_of : (xs ys : List NodeState) (n m : ℕ) (places : List ℕ) → xs ≡ ys → n ≡ m
+    → IsEntryIndex xs n places → IsEntryIndex ys m places
+index_of xs ys n m places e f I =
+    subst (λ zs. IsEntryIndex zs m places) e (subst (λ k. IsEntryIndex xs k places) f I)

@@ -1,5 +1,7 @@
 -- The sets below a number but one.
-use Rattle.std.proofs.Common.{◌≡◌, ◌≢◌, ◌↔◌, ℕ, ◌+◌, ◌<◌, ◌≤◌, Bool, true, false, List, Option, Some, None, MatchOption, IsTrue, refl, sym, ap, ◌∙◌, ⊎_elim, arith, ne_eqb, eq-eqb, eqb-true}
+use Rattle.std.proofs.Common.{◌≡◌, ◌≢◌, ◌↔◌, ℕ, ◌+◌, ◌<◌, ◌≤◌, Bool, true, false, List, Option}
+use Rattle.std.proofs.Common.{Some, None, MatchOption, IsTrue, refl, sym, ap, ◌∙◌, ⊎_elim, arith}
+use Rattle.std.proofs.Common.{ne_eqb, eq-eqb, eqb-true}
 use Rattle.std.specs.Prelude.{if◌then◌else◌, ◌==◌, is_some, not, slice_index, ◌/◌, ◌%◌}
 use Rattle.std.proofs.lemmas.Bool.{cases_eq, cases_lt, false≢true}
 use Rattle.std.proofs.lemmas.Nat.Bits.{bit_at-lt}
@@ -10,7 +12,9 @@ pub record IsWithout (sets others : List ℕ) (set t : ℕ) : Type 0 where
   pub low : (u : ℕ) → u < t → u ≢ set → member others u ≡ member sets u
   pub high : (u : ℕ) → t ≤ u → member others u ≡ 0
 
-pub goes_in : (sets others new : List ℕ) (set t : ℕ) → t ≢ set → member sets t ≡ 1 → ((u : ℕ) → member new u ≡ (if u == t then 1 else member others u)) → IsWithout sets others set t → IsWithout sets new set (t + 1)
+pub goes_in : (sets others new : List ℕ) (set t : ℕ) → t ≢ set → member sets t ≡ 1
+    → ((u : ℕ) → member new u ≡ (if u == t then 1 else member others u))
+    → IsWithout sets others set t → IsWithout sets new set (t + 1)
 goes_in sets others new set t ne there is W = record {
   own = other set (λ e. ne (sym e)) ∙ W.own;
   low = λ u lt u_ne. ⊎_elim
@@ -25,7 +29,8 @@ goes_in sets others new set t ne there is W = record {
   other : (u : ℕ) → u ≢ t → member new u ≡ member others u
   other u ne_u = let b : (u == t) ≡ false = ne_eqb u t ne_u in is u ∙ rw b refl
 
-pub stays_out : (sets others : List ℕ) (set t : ℕ) → (t ≢ set → member sets t ≢ 1) → IsWithout sets others set t → IsWithout sets others set (t + 1)
+pub stays_out : (sets others : List ℕ) (set t : ℕ) → (t ≢ set → member sets t ≢ 1)
+    → IsWithout sets others set t → IsWithout sets others set (t + 1)
 stays_out sets others set t gone W = record {
   own = W.own;
   low = λ u lt u_ne. ⊎_elim
@@ -40,8 +45,10 @@ stays_out sets others set t gone W = record {
 }
 
 -- each of the others is there, where none is missing
-pub covered : (sets others : List ℕ) (o : Option ℕ) (b : Bool) → ((t : ℕ) → 512 ≤ t → member others t ≡ 0)
-    → MatchOption o ((t : ℕ) → t < 512 → member others t ≡ 1 → member sets t ≡ 1) (λ s. IsFirstMissing sets others 512 s)
+pub covered : (sets others : List ℕ) (o : Option ℕ) (b : Bool)
+    → ((t : ℕ) → 512 ≤ t → member others t ≡ 0)
+    → MatchOption o ((t : ℕ) → t < 512 → member others t ≡ 1 → member sets t ≡ 1)
+    (λ s. IsFirstMissing sets others 512 s)
     → is_some o ≡ not b → IsTrue b ↔ ((t : ℕ) → IsTrue (has others t) → IsTrue (has sets t))
 covered sets others None b within all e = (
   (λ h t there. eq-eqb (member sets t) 1 (each t (eqb-true (member others t) 1 there))),
@@ -49,14 +56,18 @@ covered sets others None b within all e = (
 )
   where
     each : (t : ℕ) → member others t ≡ 1 → member sets t ≡ 1
-    each t one = ⊎_elim (λ lt. all t lt one) (λ le. absurd (let z = within t le in omega (arith, z, one))) (cases_lt t 512)
+    each t one =
+        ⊎_elim (λ lt. all t lt one) (λ le. absurd (let z = within t le in omega (arith, z, one)))
+        (cases_lt t 512)
 
     is_true : (b : Bool) → false ≡ not b → IsTrue b
     is_true true e = refl
     is_true false e = absurd (false≢true e)
 covered sets others (Some s) b within first e = (
   (λ h. absurd (no_true b e h)),
-  (λ all. absurd (let one = eqb-true (member sets s) 1 (all s (eq-eqb (member others s) 1 first.there)) in let z = first.lacks in omega (arith, one, z))),
+  (λ all. absurd (let one =
+      eqb-true (member sets s) 1 (all s (eq-eqb (member others s) 1 first.there)) in
+      let z = first.lacks in omega (arith, one, z))),
 )
   where
     no_true : (b : Bool) → true ≡ not b → IsTrue b → ⊥

@@ -23,11 +23,13 @@ accesses_of p t = accesses p t.places.address
 abbrev pub longest_of : Platform → TaskGraph → ℕ
 longest_of p t = longest p t.graph (node_code_of t) (answering t)
 
--- the task graph is that of the code from the plan's entry, and has none of the refusals of graphs and loops
+-- the task graph is that of the code from the plan's entry, and has none of the refusals of graphs
+-- and loops
 pub record IsGraphOf (words : Words) (plan : TaskPlan) (t : TaskGraph) : Type 0 where
   pub follows : FollowsCode (flows words) plan.entry t.graph t.places
   pub no_errors : HasNoErrors (flows words) plan.entry
-  pub instructions : (u w : ℕ) → u < t.graph.size → words (t.places.address u) ≡ Some w → ins_of_word w ≡ Some (t.ins u)
+  pub instructions : (u w : ℕ) → u < t.graph.size → words (t.places.address u) ≡ Some w
+      → ins_of_word w ≡ Some (t.ins u)
   pub regions : IsRegions t.graph t.places plan.loops t.nest
   pub accepted : HasNoLoopRefusals t.graph t.nest
 

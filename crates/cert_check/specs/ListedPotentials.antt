@@ -4,4 +4,7 @@ use Rattle.crpd_base.specs.declared.data.TaskPart.{TaskPart}
 use Rattle.loop_regions.specs.Potentials.{Potentials}
 
 abbrev pub potentials_of : TaskPart → Potentials
-potentials_of t = record { node = λ y. slice_index_or t.potentials y 0; loop = λ r. slice_index_or t.loops r 0 }
+potentials_of t = record {
+  node = λ y. slice_index_or t.potentials y 0;
+  loop = λ r. slice_index_or t.loops r 0;
+}

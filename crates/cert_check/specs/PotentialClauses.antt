@@ -12,8 +12,8 @@ abbrev pub edge_costs : Platform → NodeCode → (ℕ → Bool) → (ℕ → Bo
 edge_costs p listing answers is_hit =
     record { edge = edge_cost p listing is_hit; answers = answers; end = end_cost p listing is_hit }
 
--- the inequalities on the node's edges, on each region that such an edge leaves, and on the region whose head
--- the node is
+-- the inequalities on the node's edges, on each region that such an edge leaves, and on the region
+-- whose head the node is
 pub record PotentialsMeet (g : Graph) (n : Nest) (c : Costs) (p : Potentials) (u : ℕ) : Type 0 where
   pub edges : MeetsAt g n c p u
   pub left : (v r : ℕ) → Edge g u v → Leaves n u v r → n.bound r * p.node (n.head r) ≤ p.loop r

@@ -10,7 +10,12 @@ pub use Rattle.evict_sets.specs.Listing.{HasLowSets}
 
 -- a kept graph and its regions as one
 abbrev pub task_graph : CodeGraph → CodeNest → TaskGraph
-task_graph g n = record { graph = graph_of g; places = places_of g; ins = ins_of g; nest = nest_of n }
+task_graph g n = record {
+  graph = graph_of g;
+  places = places_of g;
+  ins = ins_of g;
+  nest = nest_of n;
+}
 
 abbrev pub no_nest : CodeNest
 no_nest = record { heads = []; bounds = []; holders = [] }
@@ -23,7 +28,8 @@ abbrev pub task_graph_at : List CodeGraph → List CodeNest → ℕ → TaskGrap
 task_graph_at graphs nests i = task_graph (graph_at graphs i) (nest_at nests i)
 
 -- there is one graph for each task, and one nest, which is that graph's
-pub record AreTaskGraphs (set : TaskSet) (graphs : List CodeGraph) (nests : List CodeNest) : Type 0 where
+pub record AreTaskGraphs (set : TaskSet) (graphs : List CodeGraph)
+    (nests : List CodeNest) : Type 0 where
   pub all_graphs : length graphs ≡ length set.tasks
   pub all_nests : length nests ≡ length set.tasks
   pub each : (i : ℕ) → i < length set.tasks → IsNestOf (graph_at graphs i) (nest_at nests i)

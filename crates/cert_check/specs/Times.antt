@@ -8,4 +8,5 @@ use Rattle.evict_sets.specs.Longest.{longest}
 -- the longest cost of one instruction of each task
 pub record AreLongest (set : TaskSet) (graphs : List CodeGraph) (costs : List ℕ) : Type 0 where
   pub each : (k : ℕ) → k < length set.tasks →
-      slice_index costs k ≡ longest set.platform (graph_of (graph_at graphs k)) (node_code (graph_at graphs k)) (answers_of (graph_at graphs k))
+      slice_index costs k ≡ longest set.platform (graph_of (graph_at graphs k))
+      (node_code (graph_at graphs k)) (answers_of (graph_at graphs k))

@@ -14,9 +14,14 @@ use Rattle.evict_sets.specs.ListedPart.{listed_of, certified_task}
 use Rattle.delay_count.specs.Demand.{demand}
 use Rattle.cert_check.specs.ListedPotentials.{potentials_of}
 use Rattle.cert_check.specs.PotentialClauses.{CountsHits, edge_costs, PotentialsMeet, BoundMeets}
-use Rattle.cert_check.specs.JudgeInput.{accesses_of, window_at, certified_part, longest_at, task_name}
+use Rattle.cert_check.specs.JudgeInput.{accesses_of, window_at, certified_part, longest_at}
+use Rattle.cert_check.specs.JudgeInput.{task_name}
 use Rattle.cert_check.specs.declared.outcome.Clause.{Clause}
-use Rattle.cert_check.specs.declared.outcome.Clause.TheVariants.{Platforms, HasTask, Names, Last, Leaders, NodePotentials, LoopPotentials, States, UsefulSets, TaskSets, Inequalities, Bound, Window, Response, Deadline}
+use Rattle.cert_check.specs.declared.outcome.Clause.TheVariants.{Platforms, HasTask, Names, Last}
+use Rattle.cert_check.specs.declared.outcome.Clause.TheVariants.{Leaders, NodePotentials}
+use Rattle.cert_check.specs.declared.outcome.Clause.TheVariants.{LoopPotentials, States, UsefulSets}
+use Rattle.cert_check.specs.declared.outcome.Clause.TheVariants.{TaskSets, Inequalities, Bound}
+use Rattle.cert_check.specs.declared.outcome.Clause.TheVariants.{Window, Response, Deadline}
 
 -- a clause's number
 abbrev pub clause_number : Clause → ℕ
@@ -70,7 +75,8 @@ GraphHolds p t c (TaskSets u) =
 GraphHolds p t c (Inequalities u) =
     (is_hit : ℕ → Bool) → CountsHits t.graph (accesses_of p t) (listed_of c) is_hit →
     u < t.graph.size →
-    PotentialsMeet t.graph t.nest (edge_costs p (node_code_of t) (answering t) is_hit) (potentials_of c) u
+    PotentialsMeet t.graph t.nest (edge_costs p (node_code_of t) (answering t) is_hit)
+    (potentials_of c) u
 GraphHolds p t c Bound = BoundMeets t.graph t.nest (potentials_of c) c.part.bound
 GraphHolds p t c _ = Unit {0}
 
@@ -79,7 +85,8 @@ GraphHolds p t c _ = Unit {0}
 abbrev pub TimesHold : TaskSet → (ℕ → ℕ) → Certificate → ℕ → Clause → Type 0
 TimesHold set longest c i Window =
     (1 ≤ window_at c i)
-    × (demand set (certified_part c) longest (window_at c) i (certified_task c i).method (window_at c i)
+    × (demand set (certified_part c) longest (window_at c) i (certified_task c i).method
+    (window_at c i)
     ≤ window_at c i)
 TimesHold set longest c i Response = (certified_task c i).response ≡ window_at c i + jitter_of set i
 TimesHold set longest c i Deadline = (certified_task c i).response ≤ deadline_of set i
@@ -98,20 +105,23 @@ ClauseHolds set graphs c i clause = GraphHolds set.platform (graphs i) (certifie
 
 -- the judge says yes: every clause holds for every task
 abbrev pub IsYes : TaskSet → (ℕ → TaskGraph) → Certificate → Type 0
-IsYes set graphs c = (i : ℕ) (clause : Clause) → i < length set.tasks → ClauseHolds set graphs c i clause
+IsYes set graphs c =
+    (i : ℕ) (clause : Clause) → i < length set.tasks → ClauseHolds set graphs c i clause
 
 -- then each task's listing meets the clauses on which full states rest, and its sets the others
 abbrev pub YesMeetsListing : Type 0
 YesMeetsListing =
     (set : TaskSet) (graphs : ℕ → TaskGraph) (c : Certificate) (i : ℕ) →
     IsYes set graphs c → i < length set.tasks →
-    MeetsListing (graphs i).graph (accesses_of set.platform (graphs i)) (listed_of (certified_task c i))
+    MeetsListing (graphs i).graph (accesses_of set.platform (graphs i))
+    (listed_of (certified_task c i))
 
 abbrev pub YesMeetsSets : Type 0
 YesMeetsSets =
     (set : TaskSet) (graphs : ℕ → TaskGraph) (c : Certificate) (i : ℕ) →
     IsYes set graphs c → i < length set.tasks →
-    MeetsSets (graphs i).graph (accesses_of set.platform (graphs i)) (listed_of (certified_task c i))
+    MeetsSets (graphs i).graph (accesses_of set.platform (graphs i))
+    (listed_of (certified_task c i))
     (has (certified_task c i).part.evicting) (has (certified_task c i).part.useful)
 
 -- a clause is judged before another, of one task

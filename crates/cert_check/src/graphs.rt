@@ -4,7 +4,8 @@ ghost use Rattle.crpd_base.specs.Ranges.{IsPlatform};
 ghost use Rattle.flat_graph.specs.CodeGraph.{graph_of};
 ghost use Rattle.loop_regions.specs.CodeNest.{CodeNest, IsNestOf};
 ghost use Rattle.evict_sets.specs.ListedPart.{listed_of};
-ghost use Rattle.evict_sets.specs.Listing.{CountsHits, HasLowSets, IsEntryIndex, IsListing, IsChainOrder, counted, node_accesses};
+ghost use Rattle.evict_sets.specs.Listing.{CountsHits, HasLowSets, IsEntryIndex, IsListing};
+ghost use Rattle.evict_sets.specs.Listing.{IsChainOrder, counted, node_accesses};
 ghost use Rattle.cert_check.specs.TaskGraphs.{task_graph};
 ghost use Rattle.cert_check.specs.Inner.JudgedPotentials.{HasAllPotentials};
 ghost use Rattle.cert_check.specs.Verdict.{GraphHolds};
@@ -22,8 +23,11 @@ use loop_regions::Nest;
 
 /// The first failure of what is listed, as an error.
 fn list_failure(listing: &Listing<'_>, nest: &Nest) -> Result<(), Clause>
-    requires index { IsEntryIndex listing.now.part.now.states (length listing.now.graph.now.nodes) listing.now.places.now }
-    ensures { IsRangeJudged (GraphHolds listing.now.platform.now (task_graph listing.now.graph.now nest.now) listing.now.part.now) 2 2 result }
+    requires index { IsEntryIndex listing.now.part.now.states (length listing.now.graph.now.nodes)
+        listing.now.places.now }
+    ensures { IsRangeJudged
+        (GraphHolds listing.now.platform.now (task_graph listing.now.graph.now nest.now)
+        listing.now.part.now) 2 2 result }
 {
     let size = listing.graph.len();
     let regions = nest.len();
@@ -45,11 +49,18 @@ fn list_failure(listing: &Listing<'_>, nest: &Nest) -> Result<(), Clause>
 
 /// The first failure of the states and sets, as an error, from which nodes are counted as hits.
 fn state_failure(listing: &Listing<'_>, order: &[u32], hits: &[bool]) -> Result<(), Clause>
-    requires case { IsListing listing.now.platform.now listing.now.graph.now listing.now.part.now listing.now.places.now }
-    requires order { IsChainOrder (graph_of listing.now.graph.now) (listed_of listing.now.part.now) order.now }
+    requires case { IsListing listing.now.platform.now listing.now.graph.now listing.now.part.now
+        listing.now.places.now }
+    requires order { IsChainOrder (graph_of listing.now.graph.now)
+        (listed_of listing.now.part.now) order.now }
     requires count { length hits.now ≡ (graph_of listing.now.graph.now).size }
-    requires hits { CountsHits (graph_of listing.now.graph.now) (node_accesses listing.now.platform.now listing.now.graph.now) (listed_of listing.now.part.now) (counted hits.now) }
-    ensures { (nest : CodeNest) → IsRangeJudged (GraphHolds listing.now.platform.now (task_graph listing.now.graph.now nest) listing.now.part.now) 3 5 result }
+    requires hits { CountsHits (graph_of listing.now.graph.now)
+        (node_accesses listing.now.platform.now listing.now.graph.now)
+        (listed_of listing.now.part.now) (counted hits.now) }
+    ensures { (nest : CodeNest)
+        → IsRangeJudged
+        (GraphHolds listing.now.platform.now (task_graph listing.now.graph.now nest)
+        listing.now.part.now) 3 5 result }
 {
     let size = listing.graph.len();
     let node = judge_states(listing, order);
@@ -67,8 +78,8 @@ fn state_failure(listing: &Listing<'_>, order: &[u32], hits: &[bool]) -> Result<
     Ok(())
 }
 
-/// The first failure of the clauses of a task's graph, as an error. Near linear in the nodes and edges
-/// of its graph, the regions that edges leave, and the listed states.
+/// The first failure of the clauses of a task's graph, as an error. Near linear in the nodes and
+/// edges of its graph, the regions that edges leave, and the listed states.
 pub(crate) fn graph_failure(
     platform: &Platform,
     graph: &Graph,
@@ -78,7 +89,8 @@ pub(crate) fn graph_failure(
     requires platform { IsPlatform platform.now }
     requires nest { IsNestOf graph.now nest.now }
     requires sets { HasLowSets part.now }
-    ensures { IsRangeJudged (GraphHolds platform.now (task_graph graph.now nest.now) part.now) 2 7 result }
+    ensures { IsRangeJudged (GraphHolds platform.now (task_graph graph.now nest.now) part.now)
+        2 7 result }
 {
     graph.graph_law();
     let size = graph.len() as usize;
@@ -112,9 +124,14 @@ pub(crate) fn graph_failure(
 impl Paid<'_> {
     /// The first failure of the potentials and of the bound, as an error.
     fn potential_failure(&self) -> Result<(), Clause>
-        requires paid { HasAllPotentials self.now.graph.now self.now.nest.now self.now.part.now self.now.hits.now }
-        requires hits { CountsHits (graph_of self.now.graph.now) (node_accesses self.now.platform.now self.now.graph.now) (listed_of self.now.part.now) (counted self.now.hits.now) }
-        ensures { IsRangeJudged (GraphHolds self.now.platform.now (task_graph self.now.graph.now self.now.nest.now) self.now.part.now) 6 7 result }
+        requires paid { HasAllPotentials self.now.graph.now self.now.nest.now self.now.part.now
+            self.now.hits.now }
+        requires hits { CountsHits (graph_of self.now.graph.now)
+            (node_accesses self.now.platform.now self.now.graph.now) (listed_of self.now.part.now)
+            (counted self.now.hits.now) }
+        ensures { IsRangeJudged
+            (GraphHolds self.now.platform.now (task_graph self.now.graph.now self.now.nest.now)
+            self.now.part.now) 6 7 result }
     {
         let node = self.judge_potentials();
         if node < self.graph.len() {

@@ -18,8 +18,10 @@ pub(crate) fn are_nodes(states: &[NodeState], size: u32) -> bool
 
 /// Whether every leader is listed.
 pub(crate) fn lists_leaders(listing: &Listing<'_>) -> bool
-    requires index { IsEntryIndex listing.now.part.now.states (length listing.now.graph.now.nodes) listing.now.places.now }
-    ensures { IsTrue result ↔ ListsLeaders (graph_of listing.now.graph.now) (listed_of listing.now.part.now) }
+    requires index { IsEntryIndex listing.now.part.now.states (length listing.now.graph.now.nodes)
+        listing.now.places.now }
+    ensures { IsTrue result ↔ ListsLeaders (graph_of listing.now.graph.now)
+        (listed_of listing.now.part.now) }
 {
     listing.graph.graph_law();
     for node in 0..listing.graph.len() {

@@ -4,17 +4,20 @@ ghost use Rattle.cert_check.specs.Verdict.{clause_number, clause_place};
 
 use crpd_base::Task;
 
-/// Whether every clause holds for every task, or the first that does not, by its task, its number and its place.
+/// Whether every clause holds for every task, or the first that does not, by its task, its number
+/// and its place.
 #[derive(Clone, Copy, Debug, PartialEq, Eq)]
 pub enum Verdict {
     /// Every clause holds for every task.
     Yes,
-    /// The first task for which a clause does not hold, by priority, the first such clause, 1 to 9, and the first
-    /// such place in it, whose meaning is the clause's: from 0, a node's number in clauses 3 to 6.
+    /// The first task for which a clause does not hold, by priority, the first such clause, 1 to 9,
+    /// and the first such place in it, whose meaning is the clause's: from 0, a node's number in
+    /// clauses 3 to 6.
     No { task: Task, clause: u8, place: u32 },
 }
 
-/// A clause of a certificate, in the order in which they are judged for a task; those of nodes with the node's number.
+/// A clause of a certificate, in the order in which they are judged for a task; those of nodes with
+/// the node's number.
 #[derive(Clone, Copy)]
 pub enum Clause {
     /// The platforms are equal.
@@ -31,13 +34,16 @@ pub enum Clause {
     NodePotentials,
     /// There is a potential for each region.
     LoopPotentials,
-    /// The first node's state is empty; a successor's state has nothing that is not in the state after the node.
+    /// The first node's state is empty; a successor's state has nothing that is not in the state
+    /// after the node.
     States(u32),
-    /// The node's useful set has its own set where it is counted as a hit, and what is useful at a successor.
+    /// The node's useful set has its own set where it is counted as a hit, and what is useful at a
+    /// successor.
     UsefulSets(u32),
     /// The task's sets have those of the node.
     TaskSets(u32),
-    /// The potentials pay for the node's edges, the regions that these leave, and the turns of the one that it heads.
+    /// The potentials pay for the node's edges, the regions that these leave, and the turns of the
+    /// one that it heads.
     Inequalities(u32),
     /// The bound is at least the potential of the first node's item.
     Bound,
@@ -67,7 +73,8 @@ impl Clause {
         }
     }
 
-    /// The clause's place among those of its number: the node's number where it is of a node. In constant time.
+    /// The clause's place among those of its number: the node's number where it is of a node. In
+    /// constant time.
     pub fn place(self) -> u32
         ensures { result ≡ clause_place self }
     {

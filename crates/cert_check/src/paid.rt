@@ -16,8 +16,8 @@ use evict_sets::{edge_cost, end_cost, successor};
 use flat_graph::Graph;
 use loop_regions::{Nest, Way};
 
-/// A task's graph and its regions, the potentials that the certificate lists for them, and the nodes that are counted as
-/// hits.
+/// A task's graph and its regions, the potentials that the certificate lists for them, and the
+/// nodes that are counted as hits.
 #[derive(Clone, Copy)]
 pub(crate) struct Paid<'a> {
     pub(crate) platform: &'a Platform,
@@ -30,7 +30,8 @@ pub(crate) struct Paid<'a> {
 impl Paid<'_> {
     /// The potential of a node.
     fn at_node(&self, node: NodeId) -> u128
-        requires paid { HasAllPotentials self.now.graph.now self.now.nest.now self.now.part.now self.now.hits.now }
+        requires paid { HasAllPotentials self.now.graph.now self.now.nest.now self.now.part.now
+            self.now.hits.now }
         requires node { node.0 < (graph_of self.now.graph.now).size }
         ensures is { result ≡ (potentials_of self.now.part.now).node node.0 }
         ensures small { result < 18446744073709551616 }
@@ -40,7 +41,8 @@ impl Paid<'_> {
 
     /// The potential of a region.
     fn at_region(&self, region: u32) -> u128
-        requires paid { HasAllPotentials self.now.graph.now self.now.nest.now self.now.part.now self.now.hits.now }
+        requires paid { HasAllPotentials self.now.graph.now self.now.nest.now self.now.part.now
+            self.now.hits.now }
         requires region { region < (nest_of self.now.nest.now).size }
         ensures is { result ≡ (potentials_of self.now.part.now).loop region }
         ensures small { result < 18446744073709551616 }
@@ -50,9 +52,11 @@ impl Paid<'_> {
 
     /// The potential of a node's item: of the region that it heads, or its own.
     fn at_item(&self, node: NodeId) -> u128
-        requires paid { HasAllPotentials self.now.graph.now self.now.nest.now self.now.part.now self.now.hits.now }
+        requires paid { HasAllPotentials self.now.graph.now self.now.nest.now self.now.part.now
+            self.now.hits.now }
         requires node { node.0 < (graph_of self.now.graph.now).size }
-        ensures is { (i : Item) → IsItem (nest_of self.now.nest.now) node.0 i → result ≡ item_potential (potentials_of self.now.part.now) i }
+        ensures is { (i : Item) → IsItem (nest_of self.now.nest.now) node.0 i
+            → result ≡ item_potential (potentials_of self.now.part.now) i }
         ensures small { result < 18446744073709551616 }
     {
         match self.nest.headed_by(self.graph, node) {
@@ -63,9 +67,12 @@ impl Paid<'_> {
 
     /// What the turns of a region cost: its bound times the potential of its head.
     fn turns(&self, region: u32) -> u128
-        requires paid { HasAllPotentials self.now.graph.now self.now.nest.now self.now.part.now self.now.hits.now }
+        requires paid { HasAllPotentials self.now.graph.now self.now.nest.now self.now.part.now
+            self.now.hits.now }
         requires region { region < (nest_of self.now.nest.now).size }
-        ensures is { result ≡ (nest_of self.now.nest.now).bound region * (potentials_of self.now.part.now).node ((nest_of self.now.nest.now).head region) }
+        ensures is { result ≡ (nest_of self.now.nest.now).bound
+            region * (potentials_of self.now.part.now).node
+            ((nest_of self.now.nest.now).head region) }
         ensures small { result < 4294967296 * 18446744073709551616 }
     {
         u128::from(self.nest.bound(region)) * self.at_node(self.nest.head(region))
@@ -73,19 +80,27 @@ impl Paid<'_> {
 
     /// Whether a region pays for its turns.
     fn region_pays(&self, region: u32) -> bool
-        requires paid { HasAllPotentials self.now.graph.now self.now.nest.now self.now.part.now self.now.hits.now }
+        requires paid { HasAllPotentials self.now.graph.now self.now.nest.now self.now.part.now
+            self.now.hits.now }
         requires region { region < (nest_of self.now.nest.now).size }
-        ensures { IsTrue result ↔ ((nest_of self.now.nest.now).bound region * (potentials_of self.now.part.now).node ((nest_of self.now.nest.now).head region) ≤ (potentials_of self.now.part.now).loop region) }
+        ensures { IsTrue result
+            ↔ ((nest_of self.now.nest.now).bound region * (potentials_of self.now.part.now).node
+            ((nest_of self.now.nest.now).head region)
+            ≤ (potentials_of self.now.part.now).loop region) }
     {
         self.turns(region) <= self.at_region(region)
     }
 
-    /// Whether each region that an edge leaves pays for its turns. Its time is linear in these regions.
+    /// Whether each region that an edge leaves pays for its turns. Its time is linear in these
+    /// regions.
     fn left_pay(&self, source: NodeId, target: NodeId) -> bool
-        requires paid { HasAllPotentials self.now.graph.now self.now.nest.now self.now.part.now self.now.hits.now }
+        requires paid { HasAllPotentials self.now.graph.now self.now.nest.now self.now.part.now
+            self.now.hits.now }
         requires source { source.0 < (graph_of self.now.graph.now).size }
         requires target { target.0 < (graph_of self.now.graph.now).size }
-        ensures { IsTrue result ↔ ((r : ℕ) → Leaves (nest_of self.now.nest.now) source.0 target.0 r → (nest_of self.now.nest.now).bound r * (potentials_of self.now.part.now).node ((nest_of self.now.nest.now).head r) ≤ (potentials_of self.now.part.now).loop r) }
+        ensures { IsTrue result ↔ ((r : ℕ) → Leaves (nest_of self.now.nest.now) source.0 target.0 r
+            → (nest_of self.now.nest.now).bound r * (potentials_of self.now.part.now).node
+            ((nest_of self.now.nest.now).head r) ≤ (potentials_of self.now.part.now).loop r) }
     {
         self.graph.graph_law();
         let mut round = self.nest.innermost(source);
@@ -103,10 +118,13 @@ impl Paid<'_> {
 
     /// The cycles of an edge.
     fn edge_cost(&self, source: NodeId, target: NodeId) -> u128
-        requires paid { HasAllPotentials self.now.graph.now self.now.nest.now self.now.part.now self.now.hits.now }
+        requires paid { HasAllPotentials self.now.graph.now self.now.nest.now self.now.part.now
+            self.now.hits.now }
         requires source { source.0 < (graph_of self.now.graph.now).size }
         requires target { target.0 < (graph_of self.now.graph.now).size }
-        ensures is { result ≡ (costs_at self.now.platform.now self.now.graph.now (counted self.now.hits.now)).edge source.0 target.0 }
+        ensures is { result
+            ≡ (costs_at self.now.platform.now self.now.graph.now (counted self.now.hits.now)).edge
+            source.0 target.0 }
         ensures small { result < 18446744073709551616 }
     {
         let hit = self.hits[source.0 as usize];
@@ -115,9 +133,15 @@ impl Paid<'_> {
 
     /// Whether a node pays for its edge to the end, where it is an answering one.
     fn end_pays(&self, node: NodeId) -> bool
-        requires paid { HasAllPotentials self.now.graph.now self.now.nest.now self.now.part.now self.now.hits.now }
+        requires paid { HasAllPotentials self.now.graph.now self.now.nest.now self.now.part.now
+            self.now.hits.now }
         requires node { node.0 < (graph_of self.now.graph.now).size }
-        ensures { IsTrue result ↔ (IsTrue ((costs_at self.now.platform.now self.now.graph.now (counted self.now.hits.now)).answers node.0) → (costs_at self.now.platform.now self.now.graph.now (counted self.now.hits.now)).end node.0 ≤ (potentials_of self.now.part.now).node node.0) }
+        ensures { IsTrue result
+            ↔ (IsTrue
+            ((costs_at self.now.platform.now self.now.graph.now (counted self.now.hits.now)).answers
+            node.0) → (costs_at self.now.platform.now self.now.graph.now
+            (counted self.now.hits.now)).end node.0
+            ≤ (potentials_of self.now.part.now).node node.0) }
     {
         let hit = self.hits[node.0 as usize];
         let cost = end_cost(self.graph, self.platform, node, hit);
@@ -126,20 +150,27 @@ impl Paid<'_> {
 
     /// Whether the source of an edge pays for it.
     fn source_pays(&self, source: NodeId, target: NodeId) -> bool
-        requires paid { HasAllPotentials self.now.graph.now self.now.nest.now self.now.part.now self.now.hits.now }
+        requires paid { HasAllPotentials self.now.graph.now self.now.nest.now self.now.part.now
+            self.now.hits.now }
         requires source { source.0 < (graph_of self.now.graph.now).size }
         requires target { target.0 < (graph_of self.now.graph.now).size }
-        ensures { IsTrue result ↔ ((costs_at self.now.platform.now self.now.graph.now (counted self.now.hits.now)).edge source.0 target.0 ≤ (potentials_of self.now.part.now).node source.0) }
+        ensures { IsTrue result
+            ↔ ((costs_at self.now.platform.now self.now.graph.now (counted self.now.hits.now)).edge
+            source.0 target.0 ≤ (potentials_of self.now.part.now).node source.0) }
     {
         at_most(self.edge_cost(source, target), self.at_node(source))
     }
 
     /// Whether the source of an edge pays for it and for the item that it leads to.
     fn inside_pays(&self, source: NodeId, target: NodeId) -> bool
-        requires paid { HasAllPotentials self.now.graph.now self.now.nest.now self.now.part.now self.now.hits.now }
+        requires paid { HasAllPotentials self.now.graph.now self.now.nest.now self.now.part.now
+            self.now.hits.now }
         requires source { source.0 < (graph_of self.now.graph.now).size }
         requires target { target.0 < (graph_of self.now.graph.now).size }
-        ensures { IsTrue result ↔ ((i : Item) → IsItem (nest_of self.now.nest.now) target.0 i → (costs_at self.now.platform.now self.now.graph.now (counted self.now.hits.now)).edge source.0 target.0 + item_potential (potentials_of self.now.part.now) i ≤ (potentials_of self.now.part.now).node source.0) }
+        ensures { IsTrue result ↔ ((i : Item) → IsItem (nest_of self.now.nest.now) target.0 i
+            → (costs_at self.now.platform.now self.now.graph.now (counted self.now.hits.now)).edge
+            source.0 target.0 + item_potential (potentials_of self.now.part.now) i
+            ≤ (potentials_of self.now.part.now).node source.0) }
     {
         self.graph.graph_law();
         let cost = self.edge_cost(source, target) + self.at_item(target);
@@ -148,10 +179,15 @@ impl Paid<'_> {
 
     /// Whether a region pays for its turns and for the item that an edge out of it leads to.
     fn exit_pays(&self, region: u32, target: NodeId) -> bool
-        requires paid { HasAllPotentials self.now.graph.now self.now.nest.now self.now.part.now self.now.hits.now }
+        requires paid { HasAllPotentials self.now.graph.now self.now.nest.now self.now.part.now
+            self.now.hits.now }
         requires region { region < (nest_of self.now.nest.now).size }
         requires target { target.0 < (graph_of self.now.graph.now).size }
-        ensures { IsTrue result ↔ ((i : Item) → IsItem (nest_of self.now.nest.now) target.0 i → (nest_of self.now.nest.now).bound region * (potentials_of self.now.part.now).node ((nest_of self.now.nest.now).head region) + item_potential (potentials_of self.now.part.now) i ≤ (potentials_of self.now.part.now).loop region) }
+        ensures { IsTrue result ↔ ((i : Item) → IsItem (nest_of self.now.nest.now) target.0 i
+            → (nest_of self.now.nest.now).bound region * (potentials_of self.now.part.now).node
+            ((nest_of self.now.nest.now).head region)
+            + item_potential (potentials_of self.now.part.now) i
+            ≤ (potentials_of self.now.part.now).loop region) }
     {
         let cost = self.turns(region) + self.at_item(target);
         at_most(cost, self.at_region(region))
@@ -159,10 +195,13 @@ impl Paid<'_> {
 
     /// Whether an edge, what comes after it, and the regions that it leaves are paid for.
     fn edge_pays(&self, source: NodeId, target: NodeId) -> bool
-        requires paid { HasAllPotentials self.now.graph.now self.now.nest.now self.now.part.now self.now.hits.now }
+        requires paid { HasAllPotentials self.now.graph.now self.now.nest.now self.now.part.now
+            self.now.hits.now }
         requires source { source.0 < (graph_of self.now.graph.now).size }
         requires target { target.0 < (graph_of self.now.graph.now).size }
-        ensures { IsTrue result ↔ EdgePaid (nest_of self.now.nest.now) (costs_at self.now.platform.now self.now.graph.now (counted self.now.hits.now)) (potentials_of self.now.part.now) source.0 target.0 }
+        ensures { IsTrue result ↔ EdgePaid (nest_of self.now.nest.now)
+            (costs_at self.now.platform.now self.now.graph.now (counted self.now.hits.now))
+            (potentials_of self.now.part.now) source.0 target.0 }
     {
         self.graph.graph_law();
         if !self.source_pays(source, target) || !self.left_pay(source, target) {
@@ -177,10 +216,15 @@ impl Paid<'_> {
 
     /// Whether the first (0) or second (1) edge of a node is paid for, where there is one.
     fn place_pays(&self, node: NodeId, k: u8) -> bool
-        requires paid { HasAllPotentials self.now.graph.now self.now.nest.now self.now.part.now self.now.hits.now }
+        requires paid { HasAllPotentials self.now.graph.now self.now.nest.now self.now.part.now
+            self.now.hits.now }
         requires node { node.0 < (graph_of self.now.graph.now).size }
         requires place { k < 2 }
-        ensures { IsTrue result ↔ ((v : ℕ) → slice_get ((graph_of self.now.graph.now).next node.0) k ≡ Some v → EdgePaid (nest_of self.now.nest.now) (costs_at self.now.platform.now self.now.graph.now (counted self.now.hits.now)) (potentials_of self.now.part.now) node.0 v) }
+        ensures { IsTrue result
+            ↔ ((v : ℕ) → slice_get ((graph_of self.now.graph.now).next node.0) k ≡ Some v
+            → EdgePaid (nest_of self.now.nest.now)
+            (costs_at self.now.platform.now self.now.graph.now (counted self.now.hits.now))
+            (potentials_of self.now.part.now) node.0 v) }
     {
         match successor(self.graph, node, k) {
             Some(next) => self.edge_pays(node, next),
@@ -190,9 +234,13 @@ impl Paid<'_> {
 
     /// Whether all edges of a node are paid for.
     fn edges_pay(&self, node: NodeId) -> bool
-        requires paid { HasAllPotentials self.now.graph.now self.now.nest.now self.now.part.now self.now.hits.now }
+        requires paid { HasAllPotentials self.now.graph.now self.now.nest.now self.now.part.now
+            self.now.hits.now }
         requires node { node.0 < (graph_of self.now.graph.now).size }
-        ensures { IsTrue result ↔ ((v : ℕ) → Edge (graph_of self.now.graph.now) node.0 v → EdgePaid (nest_of self.now.nest.now) (costs_at self.now.platform.now self.now.graph.now (counted self.now.hits.now)) (potentials_of self.now.part.now) node.0 v) }
+        ensures { IsTrue result ↔ ((v : ℕ) → Edge (graph_of self.now.graph.now) node.0 v
+            → EdgePaid (nest_of self.now.nest.now)
+            (costs_at self.now.platform.now self.now.graph.now (counted self.now.hits.now))
+            (potentials_of self.now.part.now) node.0 v) }
     {
         self.graph.graph_law();
         if !self.place_pays(node, 0) {
@@ -203,9 +251,13 @@ impl Paid<'_> {
 
     /// Whether the region that a node heads, if any, pays for its turns.
     fn head_pays(&self, node: NodeId) -> bool
-        requires paid { HasAllPotentials self.now.graph.now self.now.nest.now self.now.part.now self.now.hits.now }
+        requires paid { HasAllPotentials self.now.graph.now self.now.nest.now self.now.part.now
+            self.now.hits.now }
         requires node { node.0 < (graph_of self.now.graph.now).size }
-        ensures { IsTrue result ↔ ((r : ℕ) → r < (nest_of self.now.nest.now).size → (nest_of self.now.nest.now).head r ≡ node.0 → (nest_of self.now.nest.now).bound r * (potentials_of self.now.part.now).node node.0 ≤ (potentials_of self.now.part.now).loop r) }
+        ensures { IsTrue result ↔ ((r : ℕ) → r < (nest_of self.now.nest.now).size
+            → (nest_of self.now.nest.now).head r ≡ node.0
+            → (nest_of self.now.nest.now).bound r * (potentials_of self.now.part.now).node node.0
+            ≤ (potentials_of self.now.part.now).loop r) }
     {
         match self.nest.headed_by(self.graph, node) {
             Some(region) => self.region_pays(region),
@@ -215,9 +267,13 @@ impl Paid<'_> {
 
     /// Whether clause 6 holds at a node.
     fn node_pays(&self, node: NodeId) -> bool
-        requires paid { HasAllPotentials self.now.graph.now self.now.nest.now self.now.part.now self.now.hits.now }
+        requires paid { HasAllPotentials self.now.graph.now self.now.nest.now self.now.part.now
+            self.now.hits.now }
         requires node { node.0 < (graph_of self.now.graph.now).size }
-        ensures { IsTrue result ↔ PotentialsMeet (graph_of self.now.graph.now) (nest_of self.now.nest.now) (costs_at self.now.platform.now self.now.graph.now (counted self.now.hits.now)) (potentials_of self.now.part.now) node.0 }
+        ensures { IsTrue result ↔ PotentialsMeet (graph_of self.now.graph.now)
+            (nest_of self.now.nest.now)
+            (costs_at self.now.platform.now self.now.graph.now (counted self.now.hits.now))
+            (potentials_of self.now.part.now) node.0 }
     {
         if !self.end_pays(node) || !self.edges_pay(node) {
             return false;
@@ -225,11 +281,15 @@ impl Paid<'_> {
         self.head_pays(node)
     }
 
-    /// The least node at which clause 6 fails, the number of nodes where there is none. Its time is that of the nodes, and
-    /// of each edge with the regions that it leaves.
+    /// The least node at which clause 6 fails, the number of nodes where there is none. Its time is
+    /// that of the nodes, and of each edge with the regions that it leaves.
     pub(crate) fn judge_potentials(&self) -> u32
-        requires paid { HasAllPotentials self.now.graph.now self.now.nest.now self.now.part.now self.now.hits.now }
-        ensures { IsLeastFailing (PotentialsMeet (graph_of self.now.graph.now) (nest_of self.now.nest.now) (costs_at self.now.platform.now self.now.graph.now (counted self.now.hits.now)) (potentials_of self.now.part.now)) (graph_of self.now.graph.now).size result }
+        requires paid { HasAllPotentials self.now.graph.now self.now.nest.now self.now.part.now
+            self.now.hits.now }
+        ensures { IsLeastFailing
+            (PotentialsMeet (graph_of self.now.graph.now) (nest_of self.now.nest.now)
+            (costs_at self.now.platform.now self.now.graph.now (counted self.now.hits.now))
+            (potentials_of self.now.part.now)) (graph_of self.now.graph.now).size result }
     {
         for node in 0..self.graph.len() {
             if !self.node_pays(NodeId(node)) {
@@ -241,8 +301,11 @@ impl Paid<'_> {
 
     /// Whether clause 7 holds: the bound is at least the potential of the first node's item.
     pub(crate) fn bound_holds(&self) -> bool
-        requires paid { HasAllPotentials self.now.graph.now self.now.nest.now self.now.part.now self.now.hits.now }
-        ensures { IsTrue result ↔ BoundMeets (graph_of self.now.graph.now) (nest_of self.now.nest.now) (potentials_of self.now.part.now) self.now.part.now.part.bound }
+        requires paid { HasAllPotentials self.now.graph.now self.now.nest.now self.now.part.now
+            self.now.hits.now }
+        ensures { IsTrue result ↔ BoundMeets (graph_of self.now.graph.now)
+            (nest_of self.now.nest.now) (potentials_of self.now.part.now)
+            self.now.part.now.part.bound }
     {
         self.graph.graph_law();
         let part = &self.part.part;

@@ -1,5 +1,6 @@
 // Clause 3: the states.
-ghost use Rattle.std.specs.Prelude.{◌≡◌, ◌↔◌, ◌<◌, ◌≤◌, ℕ, Some, length, slice_set, slice_get, slice_index_or, false, IsTrue, IsFalse, All};
+ghost use Rattle.std.specs.Prelude.{◌≡◌, ◌↔◌, ◌<◌, ◌≤◌, ℕ, Some, length, slice_set, slice_get};
+ghost use Rattle.std.specs.Prelude.{slice_index_or, false, IsTrue, IsFalse, All};
 ghost use Rattle.icache.specs.Cache.{held};
 ghost use Rattle.flat_graph.specs.CodeGraph.{graph_of};
 ghost use Rattle.evict_sets.specs.Full.{FullState};
@@ -14,9 +15,13 @@ use evict_sets::{Listing, are_held, successor};
 
 /// Whether the state of a node is empty, where it is the first.
 fn starts_empty(listing: &Listing<'_>, node: NodeId) -> bool
-    requires case { IsListing listing.now.platform.now listing.now.graph.now listing.now.part.now listing.now.places.now }
+    requires case { IsListing listing.now.platform.now listing.now.graph.now listing.now.part.now
+        listing.now.places.now }
     requires node { node.0 < (graph_of listing.now.graph.now).size }
-    ensures { IsTrue result ↔ (node.0 ≡ (graph_of listing.now.graph.now).first → (s m : ℕ) → FullState (graph_of listing.now.graph.now) (node_accesses listing.now.platform.now listing.now.graph.now) (listed_of listing.now.part.now) node.0 s m → ⊥) }
+    ensures { IsTrue result ↔ (node.0 ≡ (graph_of listing.now.graph.now).first → (s m : ℕ)
+        → FullState (graph_of listing.now.graph.now)
+        (node_accesses listing.now.platform.now listing.now.graph.now)
+        (listed_of listing.now.part.now) node.0 s m → ⊥) }
 {
     if node.0 != listing.graph.first().0 {
         return true;
@@ -27,15 +32,25 @@ fn starts_empty(listing: &Listing<'_>, node: NodeId) -> bool
     }
 }
 
-/// Whether the state at the end of the first (0) or second (1) edge of a node has nothing that the state after the
-/// node lacks.
+/// Whether the state at the end of the first (0) or second (1) edge of a node has nothing that the
+/// state after the node lacks.
 fn edge_state_holds(listing: &Listing<'_>, node: NodeId, k: u8, after: &[Option<u32>]) -> bool
-    requires case { IsListing listing.now.platform.now listing.now.graph.now listing.now.part.now listing.now.places.now }
+    requires case { IsListing listing.now.platform.now listing.now.graph.now listing.now.part.now
+        listing.now.places.now }
     requires node { node.0 < (graph_of listing.now.graph.now).size }
     requires place { k < 2 }
     requires room { length after.now ≡ 512 }
-    requires after { IsStateAfter (graph_of listing.now.graph.now) (node_accesses listing.now.platform.now listing.now.graph.now) (listed_of listing.now.part.now) node.0 after.now }
-    ensures { IsTrue result ↔ ((v s m : ℕ) → slice_get ((graph_of listing.now.graph.now).next node.0) k ≡ Some v → FullState (graph_of listing.now.graph.now) (node_accesses listing.now.platform.now listing.now.graph.now) (listed_of listing.now.part.now) v s m → StateAfter (graph_of listing.now.graph.now) (node_accesses listing.now.platform.now listing.now.graph.now) (listed_of listing.now.part.now) node.0 s m) }
+    requires after { IsStateAfter (graph_of listing.now.graph.now)
+        (node_accesses listing.now.platform.now listing.now.graph.now)
+        (listed_of listing.now.part.now) node.0 after.now }
+    ensures { IsTrue result
+        ↔ ((v s m : ℕ) → slice_get ((graph_of listing.now.graph.now).next node.0) k ≡ Some v
+        → FullState (graph_of listing.now.graph.now)
+        (node_accesses listing.now.platform.now listing.now.graph.now)
+        (listed_of listing.now.part.now) v s m
+        → StateAfter (graph_of listing.now.graph.now)
+        (node_accesses listing.now.platform.now listing.now.graph.now)
+        (listed_of listing.now.part.now) node.0 s m) }
 {
     let Some(next) = successor(listing.graph, node, k) else {
         return true;
@@ -48,11 +63,16 @@ fn edge_state_holds(listing: &Listing<'_>, node: NodeId, k: u8, after: &[Option<
 
 /// Whether clause 3 holds at a node, by the state after it.
 fn state_holds(listing: &Listing<'_>, node: NodeId, after: &[Option<u32>]) -> bool
-    requires case { IsListing listing.now.platform.now listing.now.graph.now listing.now.part.now listing.now.places.now }
+    requires case { IsListing listing.now.platform.now listing.now.graph.now listing.now.part.now
+        listing.now.places.now }
     requires node { node.0 < (graph_of listing.now.graph.now).size }
     requires room { length after.now ≡ 512 }
-    requires after { IsStateAfter (graph_of listing.now.graph.now) (node_accesses listing.now.platform.now listing.now.graph.now) (listed_of listing.now.part.now) node.0 after.now }
-    ensures { IsTrue result ↔ StatesMeet (graph_of listing.now.graph.now) (node_accesses listing.now.platform.now listing.now.graph.now) (listed_of listing.now.part.now) node.0 }
+    requires after { IsStateAfter (graph_of listing.now.graph.now)
+        (node_accesses listing.now.platform.now listing.now.graph.now)
+        (listed_of listing.now.part.now) node.0 after.now }
+    ensures { IsTrue result ↔ StatesMeet (graph_of listing.now.graph.now)
+        (node_accesses listing.now.platform.now listing.now.graph.now)
+        (listed_of listing.now.part.now) node.0 }
 {
     listing.graph.graph_law();
     starts_empty(listing, node)
@@ -60,12 +80,18 @@ fn state_holds(listing: &Listing<'_>, node: NodeId, after: &[Option<u32>]) -> bo
         && edge_state_holds(listing, node, 1, after)
 }
 
-/// The least node at which clause 3 fails, the number of nodes where there is none. Its time is that
-/// of the nodes and the listed states, and of each edge with the listed state that it leads to.
+/// The least node at which clause 3 fails, the number of nodes where there is none. Its time is
+/// that of the nodes and the listed states, and of each edge with the listed state that it leads
+/// to.
 pub(crate) fn judge_states(listing: &Listing<'_>, order: &[u32]) -> u32
-    requires case { IsListing listing.now.platform.now listing.now.graph.now listing.now.part.now listing.now.places.now }
-    requires order { IsChainOrder (graph_of listing.now.graph.now) (listed_of listing.now.part.now) order.now }
-    ensures { IsLeastFailing (StatesMeet (graph_of listing.now.graph.now) (node_accesses listing.now.platform.now listing.now.graph.now) (listed_of listing.now.part.now)) (graph_of listing.now.graph.now).size result }
+    requires case { IsListing listing.now.platform.now listing.now.graph.now listing.now.part.now
+        listing.now.places.now }
+    requires order { IsChainOrder (graph_of listing.now.graph.now)
+        (listed_of listing.now.part.now) order.now }
+    ensures { IsLeastFailing
+        (StatesMeet (graph_of listing.now.graph.now)
+        (node_accesses listing.now.platform.now listing.now.graph.now)
+        (listed_of listing.now.part.now)) (graph_of listing.now.graph.now).size result }
 {
     let mut blocks = [None; SETS];
     let mut least = listing.graph.len();

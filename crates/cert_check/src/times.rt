@@ -1,5 +1,6 @@
 // The clauses of what a task's part says beside its graph.
-ghost use Rattle.std.specs.Prelude.{◌≡◌, ◌↔◌, ◌<◌, ◌≤◌, ◌^◌, ◌+◌, ℕ, length, slice_index, IsTrue, All};
+ghost use Rattle.std.specs.Prelude.{◌≡◌, ◌↔◌, ◌<◌, ◌≤◌, ◌^◌, ◌+◌, ℕ, length, slice_index, IsTrue};
+ghost use Rattle.std.specs.Prelude.{All};
 ghost use Rattle.crpd_base.specs.Ranges.{IsTaskSet, IsPlatform};
 ghost use Rattle.crpd_base.specs.declared.data.TaskPart.{TaskPart};
 ghost use Rattle.flat_graph.specs.CodeGraph.{graph_of, node_code};
@@ -35,7 +36,8 @@ pub(crate) fn are_alike(a: &Platform, b: &Platform) -> bool
 /// The first failure of the platform, the tasks and the names at a task, as an error.
 pub(crate) fn name_failure(set: &TaskSet, certificate: &Certificate, i: usize) -> Result<(), Clause>
     requires { i < length set.now.tasks }
-    ensures { (graphs : ℕ → TaskGraph) → IsRangeJudged (ClauseHolds set.now graphs certificate.now i) 1 1 result }
+    ensures { (graphs : ℕ → TaskGraph)
+        → IsRangeJudged (ClauseHolds set.now graphs certificate.now i) 1 1 result }
 {
     let tasks = set.tasks.as_slice();
     let parts = certificate.tasks.as_slice();
@@ -58,7 +60,8 @@ pub(crate) fn name_failure(set: &TaskSet, certificate: &Certificate, i: usize) -
 /// The longest cost of one instruction of a task, 1 to 2^18 cycles.
 fn longest_cost(graph: &Graph, platform: &Platform) -> u64
     requires { IsPlatform platform.now }
-    ensures is { result ≡ longest platform.now (graph_of graph.now) (node_code graph.now) (answers_of graph.now) }
+    ensures is { result ≡ longest platform.now (graph_of graph.now) (node_code graph.now)
+        (answers_of graph.now) }
     ensures some { 1 ≤ result }
     ensures small { result ≤ 262144 }
 {
@@ -66,7 +69,8 @@ fn longest_cost(graph: &Graph, platform: &Platform) -> u64
     longest(graph, platform)
 }
 
-/// Writes the longest cost of one instruction of each task. Linear in the nodes of all graphs. It takes no memory.
+/// Writes the longest cost of one instruction of each task. Linear in the nodes of all graphs. It
+/// takes no memory.
 pub fn write_longest(set: &TaskSet, graphs: &[Graph], longest: &mut [u64])
     requires platform { IsPlatform set.now.platform }
     requires graphs { length graphs.now ≡ length set.now.tasks }
@@ -79,7 +83,8 @@ pub fn write_longest(set: &TaskSet, graphs: &[Graph], longest: &mut [u64])
     }
 }
 
-/// Whether a task's window has room for the demand: it is at least 1, and the demand there is at most the window.
+/// Whether a task's window has room for the demand: it is at least 1, and the demand there is at
+/// most the window.
 fn has_room(set: &TaskSet, certificate: &Certificate, longest: &[u64], i: usize) -> bool
     requires set { IsTaskSet set.now }
     requires task { i < length set.now.tasks }
@@ -119,7 +124,8 @@ pub(crate) fn time_failure(
     requires longest { HasLongest set.now longest.now }
     requires windows { All (λ (t : TaskPart). t.window ≤ 2 ^ 40) certificate.now.tasks }
     requires higher { HigherHold set.now certificate.now i }
-    ensures { IsRangeJudged (TimesHold set.now (slice_index longest.now) certificate.now i) 8 9 result }
+    ensures { IsRangeJudged (TimesHold set.now (slice_index longest.now) certificate.now i)
+        8 9 result }
 {
     let task = &set.tasks.as_slice()[i];
     let part = &certificate.tasks.as_slice()[i];

@@ -1,13 +1,16 @@
 // The clauses of the useful sets of the nodes, and of the sets of the task.
-ghost use Rattle.std.specs.Prelude.{◌≡◌, ◌↔◌, ◌<◌, ◌≤◌, ◌==◌, ℕ, if◌then◌else◌, length, IsTrue, IsFalse};
+ghost use Rattle.std.specs.Prelude.{◌≡◌, ◌↔◌, ◌<◌, ◌≤◌, ◌==◌, ℕ, if◌then◌else◌, length, IsTrue};
+ghost use Rattle.std.specs.Prelude.{IsFalse};
 ghost use Rattle.crpd_base.specs.Sets.{has, member};
 ghost use Rattle.flat_graph.specs.Graph.{Edge};
 ghost use Rattle.flat_graph.specs.CodeGraph.{graph_of};
 ghost use Rattle.evict_sets.specs.Full.{IsHit};
 ghost use Rattle.evict_sets.specs.CacheClauses.{UsefulMeets, SetsMeet};
 ghost use Rattle.evict_sets.specs.ListedPart.{listed_of};
-ghost use Rattle.evict_sets.specs.Listing.{CountsHits, IsListing, IsChainOrder, counted, node_accesses};
-ghost use Rattle.cert_check.specs.Inner.JudgedNodes.{IsUsefulAt, IsUsefulBehind, IsUsefulBy, IsLeastFailing};
+ghost use Rattle.evict_sets.specs.Listing.{CountsHits, IsListing, IsChainOrder, counted};
+ghost use Rattle.evict_sets.specs.Listing.{node_accesses};
+ghost use Rattle.cert_check.specs.Inner.JudgedNodes.{IsUsefulAt, IsUsefulBehind, IsUsefulBy};
+ghost use Rattle.cert_check.specs.Inner.JudgedNodes.{IsLeastFailing};
 
 use crate::changed::{covers, with_member};
 use crate::least::least_failing;
@@ -16,10 +19,17 @@ use evict_sets::{Listing, successor};
 
 /// What is useful at a successor of a node, from what is useful at the node behind it in the order.
 fn useful_behind(listing: &Listing<'_>, node: NodeId, follower: &SetBits<WORDS>) -> SetBits<WORDS>
-    requires case { IsListing listing.now.platform.now listing.now.graph.now listing.now.part.now listing.now.places.now }
+    requires case { IsListing listing.now.platform.now listing.now.graph.now listing.now.part.now
+        listing.now.places.now }
     requires node { node.0 < (graph_of listing.now.graph.now).size }
-    requires follower { (v : ℕ) → Edge (graph_of listing.now.graph.now) node.0 v → IsFalse ((listed_of listing.now.part.now).is_listed v) → IsUsefulAt (graph_of listing.now.graph.now) (node_accesses listing.now.platform.now listing.now.graph.now) (listed_of listing.now.part.now) v follower.now }
-    ensures { IsUsefulBehind (graph_of listing.now.graph.now) (node_accesses listing.now.platform.now listing.now.graph.now) (listed_of listing.now.part.now) node.0 result }
+    requires follower { (v : ℕ) → Edge (graph_of listing.now.graph.now) node.0 v
+        → IsFalse ((listed_of listing.now.part.now).is_listed v)
+        → IsUsefulAt (graph_of listing.now.graph.now)
+        (node_accesses listing.now.platform.now listing.now.graph.now)
+        (listed_of listing.now.part.now) v follower.now }
+    ensures { IsUsefulBehind (graph_of listing.now.graph.now)
+        (node_accesses listing.now.platform.now listing.now.graph.now)
+        (listed_of listing.now.part.now) node.0 result }
 {
     listing.graph.graph_law();
     let mut sets = useful_by(listing, node, 0, follower);
@@ -27,18 +37,26 @@ fn useful_behind(listing: &Listing<'_>, node: NodeId, follower: &SetBits<WORDS>)
     sets
 }
 
-/// What is useful at the end of the first (0) or second (1) edge of a node; nothing where there is no such edge.
+/// What is useful at the end of the first (0) or second (1) edge of a node; nothing where there is
+/// no such edge.
 fn useful_by(
     listing: &Listing<'_>,
     node: NodeId,
     k: u8,
     follower: &SetBits<WORDS>,
 ) -> SetBits<WORDS>
-    requires case { IsListing listing.now.platform.now listing.now.graph.now listing.now.part.now listing.now.places.now }
+    requires case { IsListing listing.now.platform.now listing.now.graph.now listing.now.part.now
+        listing.now.places.now }
     requires node { node.0 < (graph_of listing.now.graph.now).size }
     requires place { k < 2 }
-    requires follower { (v : ℕ) → Edge (graph_of listing.now.graph.now) node.0 v → IsFalse ((listed_of listing.now.part.now).is_listed v) → IsUsefulAt (graph_of listing.now.graph.now) (node_accesses listing.now.platform.now listing.now.graph.now) (listed_of listing.now.part.now) v follower.now }
-    ensures { IsUsefulBy (graph_of listing.now.graph.now) (node_accesses listing.now.platform.now listing.now.graph.now) (listed_of listing.now.part.now) node.0 k result }
+    requires follower { (v : ℕ) → Edge (graph_of listing.now.graph.now) node.0 v
+        → IsFalse ((listed_of listing.now.part.now).is_listed v)
+        → IsUsefulAt (graph_of listing.now.graph.now)
+        (node_accesses listing.now.platform.now listing.now.graph.now)
+        (listed_of listing.now.part.now) v follower.now }
+    ensures { IsUsefulBy (graph_of listing.now.graph.now)
+        (node_accesses listing.now.platform.now listing.now.graph.now)
+        (listed_of listing.now.part.now) node.0 k result }
 {
     let Some(next) = successor(listing.graph, node, k) else {
         return SetBits::new();
@@ -56,11 +74,19 @@ fn useful_at(
     hit: bool,
     behind: &SetBits<WORDS>,
 ) -> SetBits<WORDS>
-    requires case { IsListing listing.now.platform.now listing.now.graph.now listing.now.part.now listing.now.places.now }
+    requires case { IsListing listing.now.platform.now listing.now.graph.now listing.now.part.now
+        listing.now.places.now }
     requires node { node.0 < (graph_of listing.now.graph.now).size }
-    requires hit { IsTrue hit ↔ IsHit (graph_of listing.now.graph.now) (node_accesses listing.now.platform.now listing.now.graph.now) (listed_of listing.now.part.now) node.0 }
-    requires behind { IsUsefulBehind (graph_of listing.now.graph.now) (node_accesses listing.now.platform.now listing.now.graph.now) (listed_of listing.now.part.now) node.0 behind.now }
-    ensures { IsUsefulAt (graph_of listing.now.graph.now) (node_accesses listing.now.platform.now listing.now.graph.now) (listed_of listing.now.part.now) node.0 result }
+    requires hit { IsTrue hit
+        ↔ IsHit (graph_of listing.now.graph.now)
+        (node_accesses listing.now.platform.now listing.now.graph.now)
+        (listed_of listing.now.part.now) node.0 }
+    requires behind { IsUsefulBehind (graph_of listing.now.graph.now)
+        (node_accesses listing.now.platform.now listing.now.graph.now)
+        (listed_of listing.now.part.now) node.0 behind.now }
+    ensures { IsUsefulAt (graph_of listing.now.graph.now)
+        (node_accesses listing.now.platform.now listing.now.graph.now)
+        (listed_of listing.now.part.now) node.0 result }
 {
     match listing.entry(node) {
         Some(entry) => entry.useful,
@@ -70,11 +96,19 @@ fn useful_at(
 
 /// Whether clause 4 holds at a node.
 fn useful_holds(listing: &Listing<'_>, node: NodeId, hit: bool, behind: &SetBits<WORDS>) -> bool
-    requires case { IsListing listing.now.platform.now listing.now.graph.now listing.now.part.now listing.now.places.now }
+    requires case { IsListing listing.now.platform.now listing.now.graph.now listing.now.part.now
+        listing.now.places.now }
     requires node { node.0 < (graph_of listing.now.graph.now).size }
-    requires hit { IsTrue hit ↔ IsHit (graph_of listing.now.graph.now) (node_accesses listing.now.platform.now listing.now.graph.now) (listed_of listing.now.part.now) node.0 }
-    requires behind { IsUsefulBehind (graph_of listing.now.graph.now) (node_accesses listing.now.platform.now listing.now.graph.now) (listed_of listing.now.part.now) node.0 behind.now }
-    ensures { IsTrue result ↔ UsefulMeets (graph_of listing.now.graph.now) (node_accesses listing.now.platform.now listing.now.graph.now) (listed_of listing.now.part.now) node.0 }
+    requires hit { IsTrue hit
+        ↔ IsHit (graph_of listing.now.graph.now)
+        (node_accesses listing.now.platform.now listing.now.graph.now)
+        (listed_of listing.now.part.now) node.0 }
+    requires behind { IsUsefulBehind (graph_of listing.now.graph.now)
+        (node_accesses listing.now.platform.now listing.now.graph.now)
+        (listed_of listing.now.part.now) node.0 behind.now }
+    ensures { IsTrue result ↔ UsefulMeets (graph_of listing.now.graph.now)
+        (node_accesses listing.now.platform.now listing.now.graph.now)
+        (listed_of listing.now.part.now) node.0 }
 {
     let Some(entry) = listing.entry(node) else {
         return true;
@@ -89,22 +123,36 @@ fn useful_holds(listing: &Listing<'_>, node: NodeId, hit: bool, behind: &SetBits
 
 /// Whether clause 5 holds at a node with this full useful set.
 fn sets_hold(listing: &Listing<'_>, node: NodeId, useful: &SetBits<WORDS>) -> bool
-    requires case { IsListing listing.now.platform.now listing.now.graph.now listing.now.part.now listing.now.places.now }
+    requires case { IsListing listing.now.platform.now listing.now.graph.now listing.now.part.now
+        listing.now.places.now }
     requires node { node.0 < (graph_of listing.now.graph.now).size }
-    requires useful { IsUsefulAt (graph_of listing.now.graph.now) (node_accesses listing.now.platform.now listing.now.graph.now) (listed_of listing.now.part.now) node.0 useful.now }
-    ensures { IsTrue result ↔ SetsMeet (graph_of listing.now.graph.now) (node_accesses listing.now.platform.now listing.now.graph.now) (listed_of listing.now.part.now) (has listing.now.part.now.part.evicting) (has listing.now.part.now.part.useful) node.0 }
+    requires useful { IsUsefulAt (graph_of listing.now.graph.now)
+        (node_accesses listing.now.platform.now listing.now.graph.now)
+        (listed_of listing.now.part.now) node.0 useful.now }
+    ensures { IsTrue result ↔ SetsMeet (graph_of listing.now.graph.now)
+        (node_accesses listing.now.platform.now listing.now.graph.now)
+        (listed_of listing.now.part.now) (has listing.now.part.now.part.evicting)
+        (has listing.now.part.now.part.useful) node.0 }
 {
     let part = &listing.part.part;
     part.evicting.has(listing.cache_set(node)) && covers(&part.useful, useful)
 }
 
-/// The least node at which clause 4 fails, the number of nodes where there is none. Linear in the nodes and edges.
+/// The least node at which clause 4 fails, the number of nodes where there is none. Linear in the
+/// nodes and edges.
 pub(crate) fn judge_useful(listing: &Listing<'_>, order: &[u32], hits: &[bool]) -> u32
-    requires case { IsListing listing.now.platform.now listing.now.graph.now listing.now.part.now listing.now.places.now }
-    requires order { IsChainOrder (graph_of listing.now.graph.now) (listed_of listing.now.part.now) order.now }
+    requires case { IsListing listing.now.platform.now listing.now.graph.now listing.now.part.now
+        listing.now.places.now }
+    requires order { IsChainOrder (graph_of listing.now.graph.now)
+        (listed_of listing.now.part.now) order.now }
     requires count { length hits.now ≡ (graph_of listing.now.graph.now).size }
-    requires hits { CountsHits (graph_of listing.now.graph.now) (node_accesses listing.now.platform.now listing.now.graph.now) (listed_of listing.now.part.now) (counted hits.now) }
-    ensures { IsLeastFailing (UsefulMeets (graph_of listing.now.graph.now) (node_accesses listing.now.platform.now listing.now.graph.now) (listed_of listing.now.part.now)) (graph_of listing.now.graph.now).size result }
+    requires hits { CountsHits (graph_of listing.now.graph.now)
+        (node_accesses listing.now.platform.now listing.now.graph.now)
+        (listed_of listing.now.part.now) (counted hits.now) }
+    ensures { IsLeastFailing
+        (UsefulMeets (graph_of listing.now.graph.now)
+        (node_accesses listing.now.platform.now listing.now.graph.now)
+        (listed_of listing.now.part.now)) (graph_of listing.now.graph.now).size result }
 {
     let mut least = listing.graph.len();
     let mut useful = SetBits::new();
@@ -118,13 +166,22 @@ pub(crate) fn judge_useful(listing: &Listing<'_>, order: &[u32], hits: &[bool]) 
     least
 }
 
-/// The least node at which clause 5 fails, the number of nodes where there is none. Linear in the nodes and edges.
+/// The least node at which clause 5 fails, the number of nodes where there is none. Linear in the
+/// nodes and edges.
 pub(crate) fn judge_sets(listing: &Listing<'_>, order: &[u32], hits: &[bool]) -> u32
-    requires case { IsListing listing.now.platform.now listing.now.graph.now listing.now.part.now listing.now.places.now }
-    requires order { IsChainOrder (graph_of listing.now.graph.now) (listed_of listing.now.part.now) order.now }
+    requires case { IsListing listing.now.platform.now listing.now.graph.now listing.now.part.now
+        listing.now.places.now }
+    requires order { IsChainOrder (graph_of listing.now.graph.now)
+        (listed_of listing.now.part.now) order.now }
     requires count { length hits.now ≡ (graph_of listing.now.graph.now).size }
-    requires hits { CountsHits (graph_of listing.now.graph.now) (node_accesses listing.now.platform.now listing.now.graph.now) (listed_of listing.now.part.now) (counted hits.now) }
-    ensures { IsLeastFailing (SetsMeet (graph_of listing.now.graph.now) (node_accesses listing.now.platform.now listing.now.graph.now) (listed_of listing.now.part.now) (has listing.now.part.now.part.evicting) (has listing.now.part.now.part.useful)) (graph_of listing.now.graph.now).size result }
+    requires hits { CountsHits (graph_of listing.now.graph.now)
+        (node_accesses listing.now.platform.now listing.now.graph.now)
+        (listed_of listing.now.part.now) (counted hits.now) }
+    ensures { IsLeastFailing
+        (SetsMeet (graph_of listing.now.graph.now)
+        (node_accesses listing.now.platform.now listing.now.graph.now)
+        (listed_of listing.now.part.now) (has listing.now.part.now.part.evicting)
+        (has listing.now.part.now.part.useful)) (graph_of listing.now.graph.now).size result }
 {
     let mut least = listing.graph.len();
     let mut useful = SetBits::new();

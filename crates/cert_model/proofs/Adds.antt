@@ -1,5 +1,6 @@
 -- A writer that goes on, step by step.
-use Rattle.std.proofs.Common.{◌≡◌, ℕ, ◌+◌, ◌<◌, ◌≤◌, List, [], ◌∷◌, ◌++◌, length, get_or, map, take, Result, Ok, Err, refl, ap, sym, subst, ◌∙◌, append_assoc, append-nil}
+use Rattle.std.proofs.Common.{◌≡◌, ℕ, ◌+◌, ◌<◌, ◌≤◌, List, [], ◌∷◌, ◌++◌, length, get_or, map, take}
+use Rattle.std.proofs.Common.{Result, Ok, Err, refl, ap, sym, subst, ◌∙◌, append_assoc, append-nil}
 use Rattle.std.specs.Prelude.{OnOk, decimal}
 use Rattle.std.specs.List.{flat_map}
 use Rattle.std.proofs.lemmas.List.{take_more, take_all}
@@ -16,51 +17,73 @@ use Rattle.cert_model.specs.Writing.{pair_items}
 pub none : (a : Written) → Adds a a []
 none a = record { tokens = sym (append-nil a.tokens); before = refl }
 
-pub wrote : {E : Type 0} {x : Unit {0}} {a b : Written} {t : Token} → Writes {E = E} (Ok x) a b t → Adds a b (t ∷ [])
+pub wrote : {E : Type 0} {x : Unit {0}} {a b : Written} {t : Token} → Writes {E = E} (Ok x) a b t
+    → Adds a b (t ∷ [])
 wrote h = record { tokens = h.ok; before = h.room.0 }
 
 pub then : {a b c : Written} {ts us : List Token} → Adds a b ts → Adds b c us → Adds a c (ts ++ us)
-then {a} {ts = ts} {us = us} h k = record { tokens = k.tokens ∙ ap (λ l. l ++ us) h.tokens ∙ append_assoc a.tokens ts us; before = k.before ∙ h.before }
+then {a} {ts = ts} {us = us} h k = record {
+  tokens = k.tokens ∙ ap (λ l. l ++ us) h.tokens ∙ append_assoc a.tokens ts us;
+  before = k.before ∙ h.before;
+}
 
 -- the same value under another name
-pub moved : {X : Type 0} {a b : Written} (ts : X → List Token) {x y : X} → x ≡ y → Adds a b (ts x) → Adds a b (ts y)
+pub moved : {X : Type 0} {a b : Written} (ts : X → List Token) {x y : X} → x ≡ y → Adds a b (ts x)
+    → Adds a b (ts y)
 moved {a = a} {b = b} ts e h = subst (λ z. Adds a b (ts z)) e h
 
 -- the last token closes a list or an object, unless memory runs out there
-pub closes : {E : Type 0} (r : Result (Unit {0}) E) {b c : Written} {t : Token} (a : Written) (ts : List Token) → (Adds b c (t ∷ []) → Adds a c ts) → Writes r b c t → OnOk r (Adds a c ts)
+pub closes : {E : Type 0} (r : Result (Unit {0}) E) {b c : Written} {t : Token} (a : Written)
+    (ts : List Token) → (Adds b c (t ∷ []) → Adds a c ts) → Writes r b c t → OnOk r (Adds a c ts)
 closes (Ok x) a ts h w = h (wrote w)
 closes (Err e) a ts h w = tt
 
 -- ---- lists
 
 -- one item more
-pub one_more : {X : Type 0} {a b c : Written} (ts : X → List Token) (xs : List X) (i : ℕ) (d x : X) → i < length xs → x ≡ get_or xs i d
-    → Adds a b (flat_map ts (take i xs)) → Adds b c (ts x) → Adds a c (flat_map ts (take (i + 1) xs))
+pub one_more : {X : Type 0} {a b c : Written} (ts : X → List Token) (xs : List X) (i : ℕ) (d x : X)
+    → i < length xs → x ≡ get_or xs i d
+    → Adds a b (flat_map ts (take i xs)) → Adds b c (ts x)
+    → Adds a c (flat_map ts (take (i + 1) xs))
 one_more {a = a} {c = c} ts xs i d x lt at h k =
-    let more : flat_map ts (take i xs ++ x ∷ []) ≡ flat_map ts (take i xs) ++ ts x = flat_map-append ts (take i xs) (x ∷ []) ∙ ap (λ l. flat_map ts (take i xs) ++ l) (append-nil (ts x)) in
-    let same : flat_map ts (take (i + 1) xs) ≡ flat_map ts (take i xs ++ x ∷ []) = ap (flat_map ts) (take_more xs i d lt ∙ ap (λ y. take i xs ++ y ∷ []) (sym at)) in
+    let more : flat_map ts (take i xs ++ x ∷ []) ≡ flat_map ts (take i xs) ++ ts x =
+    flat_map-append ts (take i xs) (x ∷ [])
+    ∙ ap (λ l. flat_map ts (take i xs) ++ l) (append-nil (ts x)) in
+    let same : flat_map ts (take (i + 1) xs) ≡ flat_map ts (take i xs ++ x ∷ []) =
+    ap (flat_map ts) (take_more xs i d lt ∙ ap (λ y. take i xs ++ y ∷ []) (sym at)) in
     subst (Adds a c) (sym (same ∙ more)) (then h k)
 
 -- all items
-pub all_of : {X : Type 0} {a b : Written} (ts : X → List Token) (xs : List X) (i : ℕ) → length xs ≤ i → Adds a b (flat_map ts (take i xs)) → Adds a b (flat_map ts xs)
+pub all_of : {X : Type 0} {a b : Written} (ts : X → List Token) (xs : List X) (i : ℕ)
+    → length xs ≤ i → Adds a b (flat_map ts (take i xs)) → Adds a b (flat_map ts xs)
 all_of {a = a} {b = b} ts xs i le h = subst (λ l. Adds a b (flat_map ts l)) (take_all i xs le) h
 
 -- the items between the brackets
-within : {X : Type 0} (f : X → Data) (xs : List X) → tokens_by f xs ++ end_array ∷ [] ≡ items_tokens (items_outline (items_of (map f xs)))
+within : {X : Type 0} (f : X → Data) (xs : List X)
+    → tokens_by f xs ++ end_array ∷ [] ≡ items_tokens (items_outline (items_of (map f xs)))
 within f [] = refl
-within f (x ∷ xs) = append_assoc (tokens_of (f x)) (tokens_by f xs) (end_array ∷ []) ∙ ap (λ l. tokens_of (f x) ++ l) (within f xs)
+within f (x ∷ xs) =
+    append_assoc (tokens_of (f x)) (tokens_by f xs) (end_array ∷ [])
+    ∙ ap (λ l. tokens_of (f x) ++ l) (within f xs)
 
 abbrev pub pair_tokens : ℕ × ℕ → List Token
 pair_tokens p = number (decimal p.0) ∷ number (decimal p.1) ∷ []
 
-within_pairs : (ps : List (ℕ × ℕ)) → flat_map pair_tokens ps ++ end_array ∷ [] ≡ items_tokens (items_outline (pair_items ps))
+within_pairs : (ps : List (ℕ × ℕ))
+    → flat_map pair_tokens ps ++ end_array ∷ [] ≡ items_tokens (items_outline (pair_items ps))
 within_pairs [] = refl
 within_pairs (p ∷ ps) = ap (λ l. number (decimal p.0) ∷ number (decimal p.1) ∷ l) (within_pairs ps)
 
-pub list : {E X : Type 0} (r : Result (Unit {0}) E) {a b c d : Written} (f : X → Data) (xs : List X) → Adds a b (begin_array ∷ []) → Adds b c (tokens_by f xs) → Writes r c d end_array
+pub list : {E X : Type 0} (r : Result (Unit {0}) E) {a b c d : Written} (f : X → Data) (xs : List X)
+    → Adds a b (begin_array ∷ []) → Adds b c (tokens_by f xs) → Writes r c d end_array
     → OnOk r (Adds a d (tokens_of (array (items_of (map f xs)))))
-list r {a} f xs h k w = closes r a (tokens_of (array (items_of (map f xs)))) (λ end. moved (λ l. begin_array ∷ l) (within f xs) (then h (then k end))) w
+list r {a} f xs h k w =
+    closes r a (tokens_of (array (items_of (map f xs))))
+    (λ end. moved (λ l. begin_array ∷ l) (within f xs) (then h (then k end))) w
 
-pub list_of_pairs : {E : Type 0} (r : Result (Unit {0}) E) {a b c d : Written} (ps : List (ℕ × ℕ)) → Adds a b (begin_array ∷ []) → Adds b c (flat_map pair_tokens ps) → Writes r c d end_array
+pub list_of_pairs : {E : Type 0} (r : Result (Unit {0}) E) {a b c d : Written} (ps : List (ℕ × ℕ))
+    → Adds a b (begin_array ∷ []) → Adds b c (flat_map pair_tokens ps) → Writes r c d end_array
     → OnOk r (Adds a d (tokens_of (array (pair_items ps))))
-list_of_pairs r {a} ps h k w = closes r a (tokens_of (array (pair_items ps))) (λ end. moved (λ l. begin_array ∷ l) (within_pairs ps) (then h (then k end))) w
+list_of_pairs r {a} ps h k w =
+    closes r a (tokens_of (array (pair_items ps)))
+    (λ end. moved (λ l. begin_array ∷ l) (within_pairs ps) (then h (then k end))) w

@@ -1,5 +1,7 @@
 -- A list of numbers and the words of its set; and a loop that puts them into the set one by one.
-use Rattle.std.proofs.Common.{◌≡◌, ℕ, zero, suc, ◌+◌, ◌*◌, ◌/◌, ◌%◌, ◌^◌, ◌<◌, Bool, true, false, List, [], ◌∷◌, ◌++◌, length, get_or, drop, Option, Some, None, option_map, refl, ap, sym, subst, ◌∙◌, arith, append_assoc}
+use Rattle.std.proofs.Common.{◌≡◌, ℕ, zero, suc, ◌+◌, ◌*◌, ◌/◌, ◌%◌, ◌^◌, ◌<◌, Bool, true, false}
+use Rattle.std.proofs.Common.{List, [], ◌∷◌, ◌++◌, length, get_or, drop, Option, Some, None}
+use Rattle.std.proofs.Common.{option_map, refl, ap, sym, subst, ◌∙◌, arith, append_assoc}
 use Rattle.std.specs.Prelude.{if◌then◌else◌, ◌==◌, ◌||◌, option_and_then}
 use Rattle.std.specs.Int.{bit_at}
 use Rattle.std.proofs.lemmas.Bool.Decides.{nat_tests}
@@ -28,15 +30,19 @@ lowest f y h = omega arith
 half : (f y : ℕ) → f < 2 → (f + 2 * y) / 2 ≡ y
 half f y h = omega arith
 
-word_bit : (ns : List ℕ) (first bits k : ℕ) → k < bits → bit_at (word_of ns first bits) k ≡ flag (is_in (first + k) ns)
+word_bit : (ns : List ℕ) (first bits k : ℕ) → k < bits
+    → bit_at (word_of ns first bits) k ≡ flag (is_in (first + k) ns)
 unfolding word_of
 word_bit ns first zero k h = absurd (omega arith)
 word_bit ns first (suc bits) zero h =
     let e : first ≡ first + 0 = omega arith in
-    bit_at_lowest _ ∙ lowest (flag (is_in first ns)) (word_of ns (first + 1) bits) (flag-lt (is_in first ns)) ∙ ap (λ x. flag (is_in x ns)) e
+    bit_at_lowest _ ∙ lowest (flag (is_in first ns)) (word_of ns (first + 1) bits)
+    (flag-lt (is_in first ns)) ∙ ap (λ x. flag (is_in x ns)) e
 word_bit ns first (suc bits) (suc k) h =
     let e : first + 1 + k ≡ first + suc k = omega arith in
-    bit_at-suc _ k ∙ ap (λ x. bit_at x k) (half (flag (is_in first ns)) (word_of ns (first + 1) bits) (flag-lt (is_in first ns))) ∙ word_bit ns (first + 1) bits k (omega arith) ∙ ap (λ x. flag (is_in x ns)) e
+    bit_at-suc _ k ∙ ap (λ x. bit_at x k)
+    (half (flag (is_in first ns)) (word_of ns (first + 1) bits) (flag-lt (is_in first ns)))
+    ∙ word_bit ns (first + 1) bits k (omega arith) ∙ ap (λ x. flag (is_in x ns)) e
 
 two_pow : (k : ℕ) → 2 ^ suc k ≡ 2 * 2 ^ k
 two_pow k = simp unary_clauses (omega arith)
@@ -47,9 +53,13 @@ doubled f y p h k = omega arith
 word_small : (ns : List ℕ) (first bits : ℕ) → word_of ns first bits < 2 ^ bits
 unfolding word_of
 word_small ns first zero = omega arith
-word_small ns first (suc bits) = rw (two_pow bits) (doubled (flag (is_in first ns)) (word_of ns (first + 1) bits) (2 ^ bits) (flag-lt (is_in first ns)) (word_small ns (first + 1) bits))
+word_small ns first (suc bits) =
+    rw (two_pow bits)
+    (doubled (flag (is_in first ns)) (word_of ns (first + 1) bits) (2 ^ bits)
+    (flag-lt (is_in first ns)) (word_small ns (first + 1) bits))
 
-words_at : (ns : List ℕ) (first words i : ℕ) → i < words → get_or (words_from ns first words) i 0 ≡ word_of ns (first + 64 * i) 64
+words_at : (ns : List ℕ) (first words i : ℕ) → i < words
+    → get_or (words_from ns first words) i 0 ≡ word_of ns (first + 64 * i) 64
 unfolding words_from
 words_at ns first zero i h = absurd (omega arith)
 words_at ns first (suc words) zero h =
@@ -68,19 +78,22 @@ pub words_are : (ns : List ℕ) → AreWords 8 (words_of ns)
 unfolding words_of
 words_are ns = record {
   count = length_words ns 0 8;
-  each = λ k h. subst (λ (x : ℕ). x < 2 ^ 64) (sym (words_at ns 0 8 k h)) (word_small ns (0 + 64 * k) 64);
+  each = λ k h.
+      subst (λ (x : ℕ). x < 2 ^ 64) (sym (words_at ns 0 8 k h)) (word_small ns (0 + 64 * k) 64);
 }
 
 pub words_member : (ns : List ℕ) (t : ℕ) → t < 512 → member (words_of ns) t ≡ flag (is_in t ns)
 unfolding words_of
 words_member ns t h =
     let e : 0 + 64 * (t / 64) + t % 64 ≡ t = omega arith in
-    ap (λ x. bit_at x (t % 64)) (words_at ns 0 8 (t / 64) (omega arith)) ∙ word_bit ns (0 + 64 * (t / 64)) 64 (t % 64) (omega arith) ∙ ap (λ x. flag (is_in x ns)) e
+    ap (λ x. bit_at x (t % 64)) (words_at ns 0 8 (t / 64) (omega arith))
+    ∙ word_bit ns (0 + 64 * (t / 64)) 64 (t % 64) (omega arith) ∙ ap (λ x. flag (is_in x ns)) e
 
 -- ---- the loop
 
 -- the values from a place on
-pub items_from : (vs : List Value) (i : ℕ) (v : Value) → i < length vs → v ≡ get_or vs i v → items_view (drop i vs) ≡ item (view v) (items_view (drop (i + 1) vs))
+pub items_from : (vs : List Value) (i : ℕ) (v : Value) → i < length vs → v ≡ get_or vs i v
+    → items_view (drop i vs) ≡ item (view v) (items_view (drop (i + 1) vs))
 items_from vs i v lt is = ap items_view (drop_more vs i v lt) ∙ rw (← is)
 
 -- some numbers stand in a set, and the rest is still to be read
@@ -93,10 +106,17 @@ same_option : (o : Option (List ℕ)) → option_map (λ ns. [] ++ ns) o ≡ o
 same_option None = refl
 same_option (Some ns) = refl
 
-pub rose_none : (limit : ℕ) (set : List ℕ) (items : Items) → ((t : ℕ) → member set t ≡ 0) → Rose limit 0 set items (rising 0 limit items)
-rose_none limit set items none = record { front = []; numbers = none; read = same_option (rising 0 limit items) }
+pub rose_none : (limit : ℕ) (set : List ℕ) (items : Items) → ((t : ℕ) → member set t ≡ 0)
+    → Rose limit 0 set items (rising 0 limit items)
+rose_none limit set items none = record {
+  front = [];
+  numbers = none;
+  read = same_option (rising 0 limit items);
+}
 
-moved : (front : List ℕ) (n : ℕ) (o : Option (List ℕ)) → option_map (λ ns. front ++ ns) (option_map (λ ns. n ∷ ns) o) ≡ option_map (λ ns. (front ++ n ∷ []) ++ ns) o
+moved : (front : List ℕ) (n : ℕ) (o : Option (List ℕ))
+    → option_map (λ ns. front ++ ns) (option_map (λ ns. n ∷ ns) o)
+    ≡ option_map (λ ns. (front ++ n ∷ []) ++ ns) o
 moved front n None = refl
 moved front n (Some ns) = ap (λ l. Some l) (sym (append_assoc front (n ∷ []) ns))
 
@@ -109,30 +129,52 @@ flag_or false false = refl
 equal_turned : (t n : ℕ) → (t == n) ≡ (n == t)
 equal_turned t n = grind (arith, nat_tests)
 
-pub in_more : (front : List ℕ) (n t : ℕ) → flag (is_in t (front ++ n ∷ [])) ≡ (if t == n then 1 else flag (is_in t front))
+pub in_more : (front : List ℕ) (n t : ℕ)
+    → flag (is_in t (front ++ n ∷ [])) ≡ (if t == n then 1 else flag (is_in t front))
 in_more front n t =
-    ap flag (list_any-append (λ x. x == t) front (n ∷ [])) ∙ ap (λ b. flag (is_in t front || b)) (or_false (n == t)) ∙ flag_or (is_in t front) (n == t)
+    ap flag (list_any-append (λ x. x == t) front (n ∷ []))
+    ∙ ap (λ b. flag (is_in t front || b)) (or_false (n == t)) ∙ flag_or (is_in t front) (n == t)
     ∙ ap (λ (b : Bool). if b then 1 else flag (is_in t front)) (sym (equal_turned t n))
 
-pub rose_more : (limit low n : ℕ) (set more : List ℕ) (rest : Items) (d : Data) (ds : Items) (all : Option (List ℕ)) → rest ≡ item d ds → Rose limit low set rest all → Some n ≡ below low limit d
-    → ((t : ℕ) → member more t ≡ (if t == n then 1 else member set t)) → Rose limit (n + 1) more ds all
+pub rose_more : (limit low n : ℕ) (set more : List ℕ) (rest : Items) (d : Data) (ds : Items)
+    (all : Option (List ℕ)) → rest ≡ item d ds → Rose limit low set rest all
+    → Some n ≡ below low limit d
+    → ((t : ℕ) → member more t ≡ (if t == n then 1 else member set t))
+    → Rose limit (n + 1) more ds all
 rose_more limit low n set more rest d ds all first rose is inserted = record {
   front = rose.front ++ n ∷ [];
-  numbers = λ t. inserted t ∙ ap (λ (x : ℕ). if t == n then 1 else x) (rose.numbers t) ∙ sym (in_more rose.front n t);
+  numbers = λ t.
+      inserted t ∙ ap (λ (x : ℕ). if t == n then 1 else x) (rose.numbers t)
+      ∙ sym (in_more rose.front n t);
   read =
-      let read : option_map (λ ns. rose.front ++ ns) (rising low limit (item d ds)) ≡ all = subst (λ (r : Items). option_map (λ ns. rose.front ++ ns) (rising low limit r) ≡ all) first rose.read in
+      let read : option_map (λ ns. rose.front ++ ns) (rising low limit (item d ds)) ≡ all =
+      subst (λ (r : Items). option_map (λ ns. rose.front ++ ns) (rising low limit r) ≡ all) first
+      rose.read in
       sym (moved rose.front n (rising (n + 1) limit ds))
-      ∙ ap (λ (o : Option ℕ). option_map (λ ns. rose.front ++ ns) (option_and_then (λ m. option_map (λ ns. m ∷ ns) (rising (m + 1) limit ds)) o)) is ∙ read;
+      ∙ ap (λ (o : Option ℕ). option_map (λ ns. rose.front ++ ns)
+      (option_and_then (λ m. option_map (λ ns. m ∷ ns) (rising (m + 1) limit ds)) o)) is ∙ read;
 }
 
-pub rose_fault : (limit low : ℕ) (set : List ℕ) (rest : Items) (d : Data) (ds : Items) (all : Option (List ℕ)) → rest ≡ item d ds → Rose limit low set rest all → None ≡ below low limit d → all ≡ None
+pub rose_fault : (limit low : ℕ) (set : List ℕ) (rest : Items) (d : Data) (ds : Items)
+    (all : Option (List ℕ)) → rest ≡ item d ds → Rose limit low set rest all
+    → None ≡ below low limit d → all ≡ None
 rose_fault limit low set rest d ds all first rose is =
-    let read : option_map (λ ns. rose.front ++ ns) (rising low limit (item d ds)) ≡ all = subst (λ (r : Items). option_map (λ ns. rose.front ++ ns) (rising low limit r) ≡ all) first rose.read in
-    sym (ap (λ (o : Option ℕ). option_map (λ ns. rose.front ++ ns) (option_and_then (λ m. option_map (λ ns. m ∷ ns) (rising (m + 1) limit ds)) o)) is ∙ read)
+    let read : option_map (λ ns. rose.front ++ ns) (rising low limit (item d ds)) ≡ all =
+    subst (λ (r : Items). option_map (λ ns. rose.front ++ ns) (rising low limit r) ≡ all) first
+    rose.read in
+    sym (ap (λ (o : Option ℕ).
+    option_map (λ ns. rose.front ++ ns)
+    (option_and_then (λ m. option_map (λ ns. m ∷ ns) (rising (m + 1) limit ds)) o)) is ∙ read)
 
-pub rose_all : (limit low : ℕ) (set : List ℕ) (rest : Items) (all : Option (List ℕ)) → rest ≡ no_items → Rose limit low set rest all → AreWords 8 set → Some set ≡ option_map words_of all
+pub rose_all : (limit low : ℕ) (set : List ℕ) (rest : Items) (all : Option (List ℕ))
+    → rest ≡ no_items → Rose limit low set rest all → AreWords 8 set
+    → Some set ≡ option_map words_of all
 rose_all limit low set rest all last rose words =
-    let read : option_map (λ ns. rose.front ++ ns) (rising low limit no_items) ≡ all = subst (λ (r : Items). option_map (λ ns. rose.front ++ ns) (rising low limit r) ≡ all) last rose.read in
+    let read : option_map (λ ns. rose.front ++ ns) (rising low limit no_items) ≡ all =
+    subst (λ (r : Items). option_map (λ ns. rose.front ++ ns) (rising low limit r) ≡ all) last
+    rose.read in
     let found : Some rose.front ≡ all = ap (λ l. Some l) (sym (append-nil rose.front)) ∙ read in
-    let same : set ≡ words_of rose.front = same_words set (words_of rose.front) 8 words (words_are rose.front) (λ t h. rose.numbers t ∙ sym (words_member rose.front t h)) in
+    let same : set ≡ words_of rose.front =
+    same_words set (words_of rose.front) 8 words (words_are rose.front)
+    (λ t h. rose.numbers t ∙ sym (words_member rose.front t h)) in
     ap (λ l. Some l) same ∙ ap (option_map words_of) found

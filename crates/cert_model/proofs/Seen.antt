@@ -5,8 +5,10 @@ use Rattle.cert_model.specs.declared.fault.CertError.TheVariants.{Memory}
 use Rattle.crpd_base.specs.Outcome.{Gives}
 use Rattle.cert_model.specs.Keys.{value_or_bad}
 
-pub good_seen : {X Y : Type 0} (view : X → Y) (path key : List ℕ) (read : Option X) (o : Option Y) (r : Result X CertError)
-    → Gives Memory (λ x. x) r (value_or_bad path key read) → option_map view read ≡ o → Gives Memory view r (value_or_bad path key o)
+pub good_seen : {X Y : Type 0} (view : X → Y) (path key : List ℕ) (read : Option X) (o : Option Y)
+    (r : Result X CertError)
+    → Gives Memory (λ x. x) r (value_or_bad path key read) → option_map view read ≡ o
+    → Gives Memory view r (value_or_bad path key o)
 good_seen view path key None None (Ok x) h e = absurd cc
 good_seen view path key None None (Err x) h e = λ n. let k = h n in cc
 good_seen view path key None (Some y) r h e = absurd cc

@@ -8,7 +8,8 @@ use Rattle.serde_json.specs.Read.{read}
 use Rattle.cert_model.specs.declared.fault.CertError.TheVariants.{NotJson}
 use Rattle.cert_model.specs.Reading.{reading, document}
 
-pub reading_of_text : (bytes : List ℕ) (o : Option Data) → IsUtf8 bytes → read bytes ≡ o → reading bytes ≡ document o
+pub reading_of_text : (bytes : List ℕ) (o : Option Data) → IsUtf8 bytes → read bytes ≡ o
+    → reading bytes ≡ document o
 unfolding reading
 reading_of_text bytes o text is = rw (is_utf8-from_IsUtf8 bytes text, is)
 

@@ -1,4 +1,5 @@
--- Reading the keys of an object: each is looked up, then judged by its kind. A fault is told with the key's path.
+-- Reading the keys of an object: each is looked up, then judged by its kind. A fault is told with
+-- the key's path.
 use Rattle.std.specs.Prelude.{ℕ, List, ◌++◌, Option, Some, None, Result, Ok, Err}
 use Rattle.serde_json.specs.Data.{Data, Members}
 use Rattle.serde_json.specs.Find.{get_member}
@@ -8,7 +9,10 @@ use Rattle.crpd_base.specs.Outcome.{◌>>=◌}
 
 -- the value at a key, which is missing else
 abbrev pub value_at_key : List ℕ → List ℕ → Members → Result Data CertError
-value_at_key path key ms = elim (get_member key ms) [ None ↦ Err (Missing (path ++ key)) | Some d ↦ Ok d ]
+value_at_key path key ms = elim (get_member key ms) [
+  | None ↦ Err (Missing (path ++ key))
+  | Some d ↦ Ok d
+]
 
 -- what a kind read from a value; where it read nothing, the value is bad
 abbrev pub value_or_bad : {A : Type 0} → List ℕ → List ℕ → Option A → Result A CertError
@@ -16,7 +20,8 @@ value_or_bad path key None = Err (BadValue (path ++ key))
 value_or_bad path key (Some x) = Ok x
 
 -- a key: missing comes before bad
-unfoldable pub required : {A : Type 0} → (Data → Option A) → List ℕ → List ℕ → Members → Result A CertError
+unfoldable pub required : {A : Type 0} → (Data → Option A) → List ℕ → List ℕ → Members
+    → Result A CertError
 required kind path key ms = do
   d ← value_at_key path key ms
   value_or_bad path key (kind d)

@@ -1,5 +1,8 @@
--- The kinds of a certificate's values: what a value stands for, or None where it is of another kind or outside its range.
-use Rattle.std.specs.Prelude.{ℕ, zero, suc, ◌+◌, ◌*◌, ◌^◌, List, [], ◌∷◌, length, codes, Bool, ◌||◌, ◌&&◌, ◌==◌, nat_le, nat_lt, Option, Some, None, option_map, option_and_then, if◌then◌else◌}
+-- The kinds of a certificate's values: what a value stands for, or None where it is of another kind
+-- or outside its range.
+use Rattle.std.specs.Prelude.{ℕ, zero, suc, ◌+◌, ◌*◌, ◌^◌, List, [], ◌∷◌, length, codes, Bool, ◌||◌}
+use Rattle.std.specs.Prelude.{◌&&◌, ◌==◌, nat_le, nat_lt, Option, Some, None, option_map}
+use Rattle.std.specs.Prelude.{option_and_then, if◌then◌else◌}
 use Rattle.std.specs.List.{list_all, list_any}
 use Rattle.std.specs.Str.{bytes_eq}
 use Rattle.serde_json.specs.Data.{Data, Items, no_items, item, Members}
@@ -40,7 +43,9 @@ unfoldable pub switching : Data → Option Switching
 switching d = as_str d >>= switching_named
 
 abbrev pub method_named : List ℕ → Option Method
-method_named s = if bytes_eq s (codes "ucb") then Some Ucb else if bytes_eq s (codes "ecb") then Some Ecb else None
+method_named s =
+    if bytes_eq s (codes "ucb") then Some Ucb else if bytes_eq s (codes "ecb")
+    then Some Ecb else None
 
 unfoldable pub method : Data → Option Method
 method d = as_str d >>= method_named
@@ -71,12 +76,14 @@ objects most d = only (λ ts. is_between 1 most (length ts)) (listed as_object d
 -- the numbers of a list, each above the one before: from low on, below a limit
 abbrev pub rising : ℕ → ℕ → Items → Option (List ℕ)
 rising low limit no_items = Some []
-rising low limit (item d ds) = below low limit d >>= (λ n. option_map (λ ns. n ∷ ns) (rising (n + 1) limit ds))
+rising low limit (item d ds) =
+    below low limit d >>= (λ n. option_map (λ ns. n ∷ ns) (rising (n + 1) limit ds))
 
 abbrev pub is_in : ℕ → List ℕ → Bool
 is_in n ns = list_any (λ x. x == n) ns
 
--- which of the numbers from the first on are in a list, as the bits of a word of so many, the lowest first
+-- which of the numbers from the first on are in a list, as the bits of a word of so many, the
+-- lowest first
 unfoldable pub word_of : List ℕ → ℕ → ℕ → ℕ
 word_of ns first zero = 0
 word_of ns first (suc bits) = (if is_in first ns then 1 else 0) + 2 * word_of ns (first + 1) bits
@@ -106,7 +113,9 @@ pair low limit set block = do
 abbrev pub pairs_from : ℕ → ℕ → Items → Option (List (ℕ × ℕ))
 pairs_from low limit no_items = Some []
 pairs_from low limit (item set no_items) = None
-pairs_from low limit (item set (item block ds)) = pair low limit set block >>= (λ p. option_map (λ more. p ∷ more) (pairs_from (p.0 + 1) limit ds))
+pairs_from low limit (item set (item block ds)) =
+    pair low limit set block
+    >>= (λ p. option_map (λ more. p ∷ more) (pairs_from (p.0 + 1) limit ds))
 
 unfoldable pub sure_pairs : ℕ → Data → Option (List (ℕ × ℕ))
 sure_pairs limit d = as_array d >>= pairs_from 0 limit
@@ -129,7 +138,9 @@ state_value sets nodes low d = as_array d >>= three_items (state_of sets nodes l
 -- each node above the one before: so there are at most as many as the limit says
 abbrev pub states_from : ℕ → ℕ → ℕ → Items → Option (List NodeState)
 states_from sets nodes low no_items = Some []
-states_from sets nodes low (item d ds) = state_value sets nodes low d >>= (λ s. option_map (λ more. s ∷ more) (states_from sets nodes (s.node + 1) ds))
+states_from sets nodes low (item d ds) =
+    state_value sets nodes low d
+    >>= (λ s. option_map (λ more. s ∷ more) (states_from sets nodes (s.node + 1) ds))
 
 unfoldable pub states : ℕ → ℕ → Data → Option (List NodeState)
 states sets nodes d = as_array d >>= states_from sets nodes 0

@@ -1,4 +1,5 @@
--- The ranges of a certificate: those that a certificate which was read keeps, and within which one that is written reads back.
+-- The ranges of a certificate: those that a certificate which was read keeps, and within which one
+-- that is written reads back.
 use Rattle.std.specs.Prelude.{◌≡◌, ℕ, ◌+◌, ◌<◌, ◌≤◌, ◌^◌, List, [], ◌∷◌, length, All, true}
 use Rattle.crpd_base.specs.Ranges.{IsPlatform}
 use Rattle.crpd_base.specs.declared.data.Certificate.{Certificate}
@@ -10,7 +11,8 @@ use Rattle.cert_model.specs.Reading.{entries}
 -- each number is above the one before: from low on, below a limit
 abbrev pub RiseFrom : {A : Type 0} → (A → ℕ) → ℕ → ℕ → List A → Type 0
 RiseFrom number low limit [] = Unit
-RiseFrom number low limit (x ∷ xs) = (low ≤ number x) × (number x < limit) × RiseFrom number (number x + 1) limit xs
+RiseFrom number low limit (x ∷ xs) =
+    (low ≤ number x) × (number x < limit) × RiseFrom number (number x + 1) limit xs
 
 -- the sure pairs of a node: the sets rise, and the blocks have 32 bits
 pub record IsState (s : NodeState) : Type 0 where

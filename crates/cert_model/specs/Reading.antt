@@ -1,5 +1,7 @@
--- What the text of a certificate stands for, or the first refusal: the keys of each object, each with its kind, in their order.
-use Rattle.std.specs.Prelude.{ℕ, ◌+◌, ◌^◌, List, [], length, codes, ◌==◌, Option, Some, None, nat_lt, Result, Ok, Err, if◌then◌else◌, sum_by}
+-- What the text of a certificate stands for, or the first refusal: the keys of each object, each
+-- with its kind, in their order.
+use Rattle.std.specs.Prelude.{ℕ, ◌+◌, ◌^◌, List, [], length, codes, ◌==◌, Option, Some, None}
+use Rattle.std.specs.Prelude.{nat_lt, Result, Ok, Err, if◌then◌else◌, sum_by}
 use Rattle.std.specs.Str.{is_utf8}
 use Rattle.crpd_base.specs.Sets.{members_below}
 use Rattle.crpd_base.specs.declared.data.Certificate.{Certificate}
@@ -11,7 +13,8 @@ use Rattle.serde_json.specs.Data.{Data, Members}
 use Rattle.serde_json.specs.Find.{as_object}
 use Rattle.serde_json.specs.Read.{read}
 use Rattle.cert_model.specs.declared.fault.CertError.{CertError}
-use Rattle.cert_model.specs.declared.fault.CertError.TheVariants.{NotJson, BadValue, TooLong, OtherVersion}
+use Rattle.cert_model.specs.declared.fault.CertError.TheVariants.{NotJson, BadValue, TooLong}
+use Rattle.cert_model.specs.declared.fault.CertError.TheVariants.{OtherVersion}
 use Rattle.cert_model.specs.declared.version.Version.{Version}
 use Rattle.cert_model.specs.declared.version.Version.TheVariants.{First, Second}
 use Rattle.cert_model.specs.Kinds as kind
@@ -62,7 +65,18 @@ first_platform path ms = do
   sets ← required (whole 1 256) path (codes "sets") ms
   switch ← required cycles path (codes "switch") ms
   taken ← required cycles path (codes "taken") ms
-  Ok (record { line = line; sets = sets; hit = hit; miss = miss; memory = memory; taken = taken; switch = switch; mul = 0; div = 0; switching = Cycle })
+  Ok (record {
+    line = line;
+    sets = sets;
+    hit = hit;
+    miss = miss;
+    memory = memory;
+    taken = taken;
+    switch = switch;
+    mul = 0;
+    div = 0;
+    switching = Cycle;
+  })
 
 unfoldable pub second_platform : List ℕ → Members → Result Platform CertError
 second_platform path ms = do
@@ -76,7 +90,18 @@ second_platform path ms = do
   switch ← required cycles path (codes "switch") ms
   switching ← required kind.switching path (codes "switching") ms
   taken ← required cycles path (codes "taken") ms
-  Ok (record { line = line; sets = sets; hit = hit; miss = miss; memory = memory; taken = taken; switch = switch; mul = mul; div = div; switching = switching })
+  Ok (record {
+    line = line;
+    sets = sets;
+    hit = hit;
+    miss = miss;
+    memory = memory;
+    taken = taken;
+    switch = switch;
+    mul = mul;
+    div = div;
+    switching = switching;
+  })
 
 abbrev pub platform_at : Version → List ℕ → Members → Result Platform CertError
 platform_at First = first_platform
@@ -96,7 +121,16 @@ fields_at version path ms = do
   states ← required (kind.states (most_sets version) (most_nodes version)) path (codes "states") ms
   useful ← required (kind.set_numbers (most_sets version)) path (codes "useful") ms
   window ← required (whole 0 (2 ^ 40)) path (codes "window") ms
-  Ok (record { name = name; part = record { bound = bound; evicting = evicting; useful = useful }; states = states; potentials = potentials; loops = loops; method = method; window = window; response = response })
+  Ok (record {
+    name = name;
+    part = record { bound = bound; evicting = evicting; useful = useful };
+    states = states;
+    potentials = potentials;
+    loops = loops;
+    method = method;
+    window = window;
+    response = response;
+  })
 
 -- the task at a place
 abbrev pub task_at : Version → ℕ → Members → Result TaskPart CertError
@@ -120,7 +154,8 @@ abbrev pub entries : List TaskPart → ℕ
 entries tasks = sum_by task_entries tasks
 
 unfoldable pub within_entry_limit : Certificate → Result Certificate CertError
-within_entry_limit c = if nat_lt 4000000 (entries c.tasks) then Err (TooLong (entries c.tasks)) else Ok c
+within_entry_limit c =
+    if nat_lt 4000000 (entries c.tasks) then Err (TooLong (entries c.tasks)) else Ok c
 
 unfoldable pub tasks_at : Version → Members → Result (List TaskPart) CertError
 tasks_at version ms = do

@@ -1,4 +1,5 @@
--- The text of a certificate: version 2, on one line without spaces, with the keys of each object in byte order.
+-- The text of a certificate: version 2, on one line without spaces, with the keys of each object in
+-- byte order.
 use Rattle.std.specs.Prelude.{ℕ, zero, suc, List, [], ◌∷◌, ◌++◌, map, codes, if◌then◌else◌}
 use Rattle.crpd_base.specs.Names.{method_name}
 use Rattle.crpd_base.specs.Sets.{has}
@@ -8,7 +9,8 @@ use Rattle.crpd_base.specs.declared.data.Platform.{Platform}
 use Rattle.crpd_base.specs.declared.data.Switching.{Switching}
 use Rattle.crpd_base.specs.declared.data.Switching.TheVariants.{Cycle, Instruction}
 use Rattle.crpd_base.specs.declared.data.TaskPart.{TaskPart}
-use Rattle.serde_json.specs.Data.{Data, number, unsigned, string, array, object, Items, no_items, item, Members, no_members, member}
+use Rattle.serde_json.specs.Data.{Data, number, unsigned, string, array, object, Items, no_items}
+use Rattle.serde_json.specs.Data.{item, Members, no_members, member}
 use Rattle.serde_json.specs.View.{items_of}
 use Rattle.serde_json.specs.Written.{compact_text}
 
@@ -21,7 +23,8 @@ numbers_data ns = array (items_of (map whole_number ns))
 -- the numbers below n of a set, in order
 unfoldable pub numbers_below : List ℕ → ℕ → List ℕ
 numbers_below words zero = []
-numbers_below words (suc n) = if has words n then numbers_below words n ++ n ∷ [] else numbers_below words n
+numbers_below words (suc n) =
+    if has words n then numbers_below words n ++ n ∷ [] else numbers_below words n
 
 unfoldable pub set_data : List ℕ → Data
 set_data words = numbers_data (numbers_below words 512)
@@ -33,7 +36,9 @@ pair_items (p ∷ ps) = item (whole_number p.0) (item (whole_number p.1) (pair_i
 
 -- a list of three: the node, its sure pairs and its useful sets
 abbrev pub state_data : NodeState → Data
-state_data s = array (item (whole_number s.node) (item (array (pair_items s.sure)) (item (set_data s.useful) no_items)))
+state_data s =
+    array (item (whole_number s.node)
+    (item (array (pair_items s.sure)) (item (set_data s.useful) no_items)))
 
 abbrev pub switching_name : Switching → List ℕ
 switching_name Cycle = codes "cycle"

@@ -7,8 +7,8 @@ use crpd_base::Text;
 use std::alloc::{AllocError, AllocFailed};
 use thiserror::Error;
 
-/// The first thing that is wrong with the text of a certificate. A key is told with its path, and the whole text as
-/// `-`.
+/// The first thing that is wrong with the text of a certificate. A key is told with its path, and
+/// the whole text as `-`.
 #[derive(Debug, Drop, Error)]
 pub enum CertError {
     /// There is no memory for the certificate or for what the text says.

@@ -18,21 +18,26 @@ use toml_keys::key_path;
 pub struct Keys<'a> {
     /// The object.
     pub object: &'a Object,
-    /// What stands before each of its keys in a path: empty for the whole text, else with a point at the end.
+    /// What stands before each of its keys in a path: empty for the whole text, else with a point
+    /// at the end.
     pub path: &'a str,
 }
 
 impl<'a> Keys<'a> {
     /// The value at a key.
     fn get(&self, key: &str) -> Option<&'a Value>
-        ensures { option_map (λ v. view v.now) result ≡ get_member key.now (members_view self.now.object.now.entries) }
+        ensures { option_map (λ v. view v.now) result
+            ≡ get_member key.now (members_view self.now.object.now.entries) }
     {
         self.object.get(key)
     }
 
-    /// The value at a key that has to be there, else `Missing`. Memory is taken for the path of a refusal alone.
+    /// The value at a key that has to be there, else `Missing`. Memory is taken for the path of a
+    /// refusal alone.
     pub fn present(&self, alloc: Global, key: &str) -> Result<&'a Value, CertError>
-        ensures { Gives CertError.Memory (λ v. view v.now) result (spec.value_at_key self.now.path.now key.now (members_view self.now.object.now.entries)) }
+        ensures { Gives CertError.Memory (λ v. view v.now) result
+            (spec.value_at_key self.now.path.now key.now
+            (members_view self.now.object.now.entries)) }
     {
         match self.get(key) {
             Some(value) => Ok(value),
@@ -40,9 +45,11 @@ impl<'a> Keys<'a> {
         }
     }
 
-    /// What was read from the value at a key, else `BadValue`. Memory is taken for the path of a refusal alone.
+    /// What was read from the value at a key, else `BadValue`. Memory is taken for the path of a
+    /// refusal alone.
     pub fn good<T: Drop>(&self, alloc: Global, key: &str, read: Option<T>) -> Result<T, CertError>
-        ensures { Gives CertError.Memory (λ x. x) result (spec.value_or_bad self.now.path.now key.now read) }
+        ensures { Gives CertError.Memory (λ x. x) result
+            (spec.value_or_bad self.now.path.now key.now read) }
     {
         match read {
             Some(x) => Ok(x),
@@ -50,18 +57,21 @@ impl<'a> Keys<'a> {
         }
     }
 
-    /// A number from low to high, else `Missing` or `BadValue`. Memory is taken for the path of a refusal alone.
+    /// A number from low to high, else `Missing` or `BadValue`. Memory is taken for the path of a
+    /// refusal alone.
     #[tactic(auto, unfolding(crate::specs::Keys::required))]
     pub fn number(&self, alloc: Global, key: &str, low: u64, high: u64) -> Result<u64, CertError>
-        ensures is { Gives CertError.Memory (λ x. x) result (spec.required (kind.whole low high) self.now.path.now key.now (members_view self.now.object.now.entries)) }
+        ensures is { Gives CertError.Memory (λ x. x) result
+            (spec.required (kind.whole low high) self.now.path.now key.now
+            (members_view self.now.object.now.entries)) }
         ensures bound { IfOk result (λ n. n ≤ high) }
     {
         let value = self.present(alloc, key)?;
         self.good(alloc, key, whole(value, low, high))
     }
 
-    /// A number from low to high, of 32 bits, else `Missing` or `BadValue`. Memory is taken for the path of a refusal
-    /// alone.
+    /// A number from low to high, of 32 bits, else `Missing` or `BadValue`. Memory is taken for the
+    /// path of a refusal alone.
     pub fn small_number(
         &self,
         alloc: Global,
@@ -69,7 +79,9 @@ impl<'a> Keys<'a> {
         low: u32,
         high: u32,
     ) -> Result<u32, CertError>
-        ensures { Gives CertError.Memory (λ x. x) result (spec.required (kind.whole low high) self.now.path.now key.now (members_view self.now.object.now.entries)) }
+        ensures { Gives CertError.Memory (λ x. x) result
+            (spec.required (kind.whole low high) self.now.path.now key.now
+            (members_view self.now.object.now.entries)) }
     {
         let number = self.number(alloc, key, u64::from(low), u64::from(high))?;
         Ok(number as u32)

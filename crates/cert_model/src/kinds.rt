@@ -36,7 +36,8 @@ pub fn below(value: &Value, low: u64, limit: u64) -> Option<u64>
     }
 }
 
-/// The length of a cache line in bytes: 4, 8, 16, 32 or 64, None for any other value. In constant time.
+/// The length of a cache line in bytes: 4, 8, 16, 32 or 64, None for any other value. In constant
+/// time.
 #[tactic(auto, unfolding(crate::specs::Kinds::line_bytes))]
 pub fn line(value: &Value) -> Option<u32>
     ensures { result ≡ spec.line_bytes (view value.now) }
@@ -44,7 +45,8 @@ pub fn line(value: &Value) -> Option<u32>
     line_length(value.as_u64()?)
 }
 
-/// Where a context switch may happen: `cycle` or `instruction`, None for any other value. In constant time.
+/// Where a context switch may happen: `cycle` or `instruction`, None for any other value. In
+/// constant time.
 #[tactic(auto, unfolding(crate::specs::Kinds::switching))]
 pub fn switching(value: &Value) -> Option<Switching>
     ensures { result ≡ spec.switching (view value.now) }
@@ -74,7 +76,9 @@ pub fn name(alloc: Global, value: &Value) -> Result<Option<String>, AllocError>
 
 /// The numbers from 0 to 2^40 of a list.
 fn numbers(alloc: Global, value: &Value) -> Result<Option<Vec<u64>>, AllocError>
-    ensures { IfOk result (λ found. option_map (λ v. v.items) found ≡ spec.listed (spec.whole 0 LONGEST_TIME) (view value.now)) }
+    ensures { IfOk result (λ found.
+        option_map (λ v. v.items) found
+        ≡ spec.listed (spec.whole 0 LONGEST_TIME) (view value.now)) }
 {
     let Some(values) = value.as_array() else {
         return Ok(None);
@@ -89,11 +93,12 @@ fn numbers(alloc: Global, value: &Value) -> Result<Option<Vec<u64>>, AllocError>
     Ok(Some(found))
 }
 
-/// At most so many potentials, each from 0 to 2^40 cycles, None for any other value. Linear in the list; the only
-/// error is want of memory.
+/// At most so many potentials, each from 0 to 2^40 cycles, None for any other value. Linear in the
+/// list; the only error is want of memory.
 #[tactic(auto, unfolding(crate::specs::Kinds::potentials))]
 pub fn potentials(alloc: Global, most: u64, value: &Value) -> Result<Option<Vec<u64>>, AllocError>
-    ensures { IfOk result (λ found. option_map (λ v. v.items) found ≡ spec.potentials most (view value.now)) }
+    ensures { IfOk result (λ found.
+        option_map (λ v. v.items) found ≡ spec.potentials most (view value.now)) }
 {
     match numbers(alloc, value)? {
         Some(numbers) if numbers.len() as u64 <= most => Ok(Some(numbers)),
@@ -103,7 +108,9 @@ pub fn potentials(alloc: Global, most: u64, value: &Value) -> Result<Option<Vec<
 
 /// The objects of a list that has nothing else in it.
 fn all_objects<'a>(alloc: Global, value: &'a Value) -> Result<Option<Vec<&'a Object>>, AllocError>
-    ensures { IfOk result (λ found. option_map (λ v. map (λ t. members_view t.now.entries) v.items) found ≡ spec.listed as_object (view value.now)) }
+    ensures { IfOk result (λ found.
+        option_map (λ v. map (λ t. members_view t.now.entries) v.items) found
+        ≡ spec.listed as_object (view value.now)) }
 {
     let Some(values) = value.as_array() else {
         return Ok(None);
@@ -118,14 +125,17 @@ fn all_objects<'a>(alloc: Global, value: &'a Value) -> Result<Option<Vec<&'a Obj
     Ok(Some(found))
 }
 
-/// A list of 1 to so many objects, None for any other value. Linear in the list; the only error is want of memory.
+/// A list of 1 to so many objects, None for any other value. Linear in the list; the only error is
+/// want of memory.
 #[tactic(auto, unfolding(crate::specs::Kinds::objects))]
 pub fn objects<'a>(
     alloc: Global,
     most: u64,
     value: &'a Value,
 ) -> Result<Option<Vec<&'a Object>>, AllocError>
-    ensures { IfOk result (λ found. option_map (λ v. map (λ t. members_view t.now.entries) v.items) found ≡ spec.objects most (view value.now)) }
+    ensures { IfOk result (λ found.
+        option_map (λ v. map (λ t. members_view t.now.entries) v.items) found
+        ≡ spec.objects most (view value.now)) }
 {
     match all_objects(alloc, value)? {
         Some(objects) if !objects.is_empty() && objects.len() as u64 <= most => Ok(Some(objects)),

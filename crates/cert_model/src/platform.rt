@@ -25,14 +25,18 @@ const FIRST_SETS: u32 = 256;
 
 #[tactic(auto, unfolding(crate::specs::Keys::required))]
 fn line_at(alloc: Global, keys: Keys) -> Result<u32, CertError>
-    ensures { Gives CertError.Memory (λ x. x) result (required kind.line_bytes keys.entry.path.now (codes "line") (members_view keys.entry.object.now.entries)) }
+    ensures { Gives CertError.Memory (λ x. x) result
+        (required kind.line_bytes keys.entry.path.now (codes "line")
+        (members_view keys.entry.object.now.entries)) }
 {
     keys.good(alloc, "line", line(keys.present(alloc, "line")?))
 }
 
 #[tactic(auto, unfolding(crate::specs::Keys::required))]
 fn switching_at(alloc: Global, keys: Keys) -> Result<Switching, CertError>
-    ensures { Gives CertError.Memory (λ x. x) result (required kind.switching keys.entry.path.now (codes "switching") (members_view keys.entry.object.now.entries)) }
+    ensures { Gives CertError.Memory (λ x. x) result
+        (required kind.switching keys.entry.path.now (codes "switching")
+        (members_view keys.entry.object.now.entries)) }
 {
     keys.good(
         alloc,
@@ -42,7 +46,9 @@ fn switching_at(alloc: Global, keys: Keys) -> Result<Switching, CertError>
 }
 
 fn cycles_at(alloc: Global, keys: Keys, key: &str) -> Result<u32, CertError>
-    ensures { Gives CertError.Memory (λ x. x) result (required spec.cycles keys.entry.path.now key.now (members_view keys.entry.object.now.entries)) }
+    ensures { Gives CertError.Memory (λ x. x) result
+        (required spec.cycles keys.entry.path.now key.now
+        (members_view keys.entry.object.now.entries)) }
 {
     keys.small_number(alloc, key, 0, MOST_CYCLES)
 }
@@ -50,7 +56,8 @@ fn cycles_at(alloc: Global, keys: Keys, key: &str) -> Result<u32, CertError>
 /// A platform of version 1, which has no cycles for multiplication and division.
 #[tactic(auto, unfolding(crate::specs::Reading::first_platform))]
 fn first_platform(alloc: Global, keys: Keys) -> Result<Platform, CertError>
-    ensures { Gives CertError.Memory (λ x. x) result (spec.first_platform keys.entry.path.now (members_view keys.entry.object.now.entries)) }
+    ensures { Gives CertError.Memory (λ x. x) result
+        (spec.first_platform keys.entry.path.now (members_view keys.entry.object.now.entries)) }
 {
     let memory = cycles_at(alloc, keys, "data")?;
     let hit = keys.small_number(alloc, "hit", 1, MOST_CYCLES)?;
@@ -76,7 +83,8 @@ fn first_platform(alloc: Global, keys: Keys) -> Result<Platform, CertError>
 /// A platform of version 2.
 #[tactic(auto, unfolding(crate::specs::Reading::second_platform))]
 fn second_platform(alloc: Global, keys: Keys) -> Result<Platform, CertError>
-    ensures { Gives CertError.Memory (λ x. x) result (spec.second_platform keys.entry.path.now (members_view keys.entry.object.now.entries)) }
+    ensures { Gives CertError.Memory (λ x. x) result
+        (spec.second_platform keys.entry.path.now (members_view keys.entry.object.now.entries)) }
 {
     let memory = cycles_at(alloc, keys, "data")?;
     let div = cycles_at(alloc, keys, "div")?;
@@ -102,11 +110,13 @@ fn second_platform(alloc: Global, keys: Keys) -> Result<Platform, CertError>
     })
 }
 
-/// The platform of a certificate, its keys in byte order. In version 1 `mul` and `div` are 0, and switches may happen
-/// in every cycle. The first key that is absent or has a bad value is the refusal; memory is taken for its path
-/// alone.
+/// The platform of a certificate, its keys in byte order. In version 1 `mul` and `div` are 0, and
+/// switches may happen in every cycle. The first key that is absent or has a bad value is the
+/// refusal; memory is taken for its path alone.
 pub fn platform_at(alloc: Global, version: Version, keys: Keys) -> Result<Platform, CertError>
-    ensures { Gives CertError.Memory (λ x. x) result (spec.platform_at version keys.entry.path.now (members_view keys.entry.object.now.entries)) }
+    ensures { Gives CertError.Memory (λ x. x) result
+        (spec.platform_at version keys.entry.path.now
+        (members_view keys.entry.object.now.entries)) }
 {
     match version {
         Version::First => first_platform(alloc, keys),

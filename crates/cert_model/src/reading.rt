@@ -33,7 +33,8 @@ fn version_numbered(number: u64) -> Result<Version, CertError>
 
 #[tactic(auto, unfolding(crate::specs::Keys::required, crate::specs::Reading::version_at))]
 fn version_at(alloc: Global, object: &Object) -> Result<Version, CertError>
-    ensures { Gives CertError.Memory (λ x. x) result (spec.version_at (members_view object.now.entries)) }
+    ensures { Gives CertError.Memory (λ x. x) result
+        (spec.version_at (members_view object.now.entries)) }
 {
     let keys = Keys { object, path: "" };
     let value = keys.present(alloc, "version")?;
@@ -43,7 +44,9 @@ fn version_at(alloc: Global, object: &Object) -> Result<Version, CertError>
 
 #[tactic(auto, using(crate::proofs::Seen::good_seen), unfolding(crate::specs::Keys::required))]
 fn platform_object<'a>(alloc: Global, keys: Keys<'a>) -> Result<&'a Object, CertError>
-    ensures { Gives CertError.Memory (λ t. members_view t.now.entries) result (required as_object keys.entry.path.now (codes "platform") (members_view keys.entry.object.now.entries)) }
+    ensures { Gives CertError.Memory (λ t. members_view t.now.entries) result
+        (required as_object keys.entry.path.now (codes "platform")
+        (members_view keys.entry.object.now.entries)) }
 {
     let value = keys.present(alloc, "platform")?;
     keys.good(alloc, "platform", value.as_object())
@@ -57,7 +60,8 @@ fn set_size(set: &SetBits<WORDS>) -> u32
     set.count()
 }
 
-/// How many state entries a task has: the sure pairs and the useful sets of its listed nodes. Linear in the states.
+/// How many state entries a task has: the sure pairs and the useful sets of its listed nodes.
+/// Linear in the states.
 pub fn task_entries(states: &[NodeState]) -> u64
     requires few { length states.now ≤ 16384 }
     requires each { All HasFewPairs states.now }
@@ -99,7 +103,8 @@ fn counted(certificate: Certificate) -> Result<Certificate, CertError>
 
 #[tactic(auto, unfolding(crate::specs::Reading::certificate_at))]
 fn certificate_at(alloc: Global, object: &Object) -> Result<Certificate, CertError>
-    ensures { Gives CertError.Memory (λ x. x) result (spec.certificate_at (members_view object.now.entries)) }
+    ensures { Gives CertError.Memory (λ x. x) result
+        (spec.certificate_at (members_view object.now.entries)) }
 {
     let version = version_at(alloc, object)?;
     let platform = platform_object(alloc, Keys { object, path: "" })?;
@@ -117,7 +122,8 @@ fn certificate_at(alloc: Global, object: &Object) -> Result<Certificate, CertErr
 }
 
 fn whole_text(alloc: Global, value: &Value) -> Result<Certificate, CertError>
-    ensures { Gives CertError.Memory (λ x. x) result (spec.whole_text (as_object (view value.now))) }
+    ensures { Gives CertError.Memory (λ x. x) result
+        (spec.whole_text (as_object (view value.now))) }
 {
     match value.as_object() {
         Some(object) => certificate_at(alloc, object),
@@ -139,9 +145,11 @@ fn certificate_of(alloc: Global, bytes: &[u8]) -> Result<Certificate, CertError>
     }
 }
 
-/// Reads a certificate of version 1 or 2 from JSON text. What it gives, and its first refusal, are those of `reading`: of the version, the
-/// platform and the tasks, each with its keys in byte order, and last of the count of the state entries. Times are cycles. One pass is made over
-/// the text and one over its tree, which takes a small multiple of the text's size. JSON is that of RFC 8259.
+/// Reads a certificate of version 1 or 2 from JSON text. What it gives, and its first refusal, are
+/// those of `reading`: of the version, the platform and the tasks, each with its keys in byte
+/// order, and last of the count of the state entries. Times are cycles. One pass is made over the
+/// text and one over its tree, which takes a small multiple of the text's size. JSON is that of
+/// RFC 8259.
 pub fn read_certificate(alloc: Global, bytes: &[u8]) -> Result<Certificate, CertError>
     ensures exact { Gives CertError.Memory (λ x. x) result (reading bytes.now) }
 

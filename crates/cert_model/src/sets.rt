@@ -24,8 +24,8 @@ fn rising_set(limit: u64, values: &[Value]) -> Option<SetBits<WORDS>>
     Some(set)
 }
 
-/// The set of a list's numbers, each above the one before and below a limit, which is at most 512; None for any other
-/// value. Linear in the list; it takes no memory.
+/// The set of a list's numbers, each above the one before and below a limit, which is at most 512;
+/// None for any other value. Linear in the list; it takes no memory.
 #[tactic(auto, unfolding(crate::specs::Kinds::set_numbers))]
 pub fn set_numbers(limit: u64, value: &Value) -> Option<SetBits<WORDS>>
     requires { limit ≤ 512 }

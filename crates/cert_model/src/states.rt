@@ -32,7 +32,8 @@ fn sure_pairs(
     value: &Value,
 ) -> Result<Option<Vec<(u16, u32)>>, AllocError>
     requires { limit ≤ 512 }
-    ensures { IfOk result (λ found. option_map (λ v. v.items) found ≡ spec.sure_pairs limit (view value.now)) }
+    ensures { IfOk result (λ found.
+        option_map (λ v. v.items) found ≡ spec.sure_pairs limit (view value.now)) }
 {
     let Some(values) = value.as_array() else {
         return Ok(None);
@@ -66,7 +67,8 @@ fn state_of(
 ) -> Result<Option<NodeState>, AllocError>
     requires sets { sets ≤ 512 }
     requires nodes { nodes ≤ 16384 }
-    ensures is { IfOk result (λ s. s ≡ spec.state_of sets nodes low (view node.now) (view sure.now) (view useful.now)) }
+    ensures is { IfOk result
+        (λ s. s ≡ spec.state_of sets nodes low (view node.now) (view sure.now) (view useful.now)) }
     ensures bound { IfOk result (λ s. IfSome s (λ s. s.node < nodes)) }
 {
     let Some(node) = below(node, low, nodes) else {
@@ -107,8 +109,8 @@ fn state(
     }
 }
 
-/// The states of a task, each node above the one before, with nodes and cache sets below these limits; None for any
-/// other value. Linear in the text's tree; the only error is want of memory.
+/// The states of a task, each node above the one before, with nodes and cache sets below these
+/// limits; None for any other value. Linear in the text's tree; the only error is want of memory.
 #[tactic(auto, unfolding(crate::specs::Kinds::states))]
 pub fn states(
     alloc: Global,
@@ -118,7 +120,8 @@ pub fn states(
 ) -> Result<Option<Vec<NodeState>>, AllocError>
     requires sets { sets ≤ 512 }
     requires nodes { nodes ≤ 16384 }
-    ensures { IfOk result (λ found. option_map (λ v. v.items) found ≡ spec.states sets nodes (view value.now)) }
+    ensures { IfOk result (λ found.
+        option_map (λ v. v.items) found ≡ spec.states sets nodes (view value.now)) }
 {
     let Some(values) = value.as_array() else {
         return Ok(None);

@@ -28,7 +28,9 @@ fn set_at(
     keys: Keys,
     key: &str,
 ) -> Result<SetBits<WORDS>, CertError>
-    ensures { Gives CertError.Memory (λ x. x) result (required (kind.set_numbers (spec.most_sets version)) keys.entry.path.now key.now (members_view keys.entry.object.now.entries)) }
+    ensures { Gives CertError.Memory (λ x. x) result
+        (required (kind.set_numbers (spec.most_sets version)) keys.entry.path.now key.now
+        (members_view keys.entry.object.now.entries)) }
 {
     let value = keys.present(alloc, key)?;
     keys.good(alloc, key, set_numbers(version.most_sets(), value))
@@ -41,7 +43,9 @@ fn potentials_at(
     keys: Keys,
     key: &str,
 ) -> Result<Vec<u64>, CertError>
-    ensures { Gives CertError.Memory (λ v. v.items) result (required (kind.potentials (spec.most_nodes version)) keys.entry.path.now key.now (members_view keys.entry.object.now.entries)) }
+    ensures { Gives CertError.Memory (λ v. v.items) result
+        (required (kind.potentials (spec.most_nodes version)) keys.entry.path.now key.now
+        (members_view keys.entry.object.now.entries)) }
 {
     let value = keys.present(alloc, key)?;
     keys.good(alloc, key, potentials(alloc, version.most_nodes(), value)?)
@@ -49,14 +53,18 @@ fn potentials_at(
 
 #[tactic(auto, unfolding(crate::specs::Keys::required))]
 fn method_at(alloc: Global, keys: Keys) -> Result<Method, CertError>
-    ensures { Gives CertError.Memory (λ x. x) result (required kind.method keys.entry.path.now (codes "method") (members_view keys.entry.object.now.entries)) }
+    ensures { Gives CertError.Memory (λ x. x) result
+        (required kind.method keys.entry.path.now (codes "method")
+        (members_view keys.entry.object.now.entries)) }
 {
     keys.good(alloc, "method", method(keys.present(alloc, "method")?))
 }
 
 #[tactic(auto, using(crate::proofs::Seen::good_seen), unfolding(crate::specs::Keys::required))]
 fn name_at(alloc: Global, keys: Keys) -> Result<String, CertError>
-    ensures { Gives CertError.Memory string_bytes result (required kind.name keys.entry.path.now (codes "name") (members_view keys.entry.object.now.entries)) }
+    ensures { Gives CertError.Memory string_bytes result
+        (required kind.name keys.entry.path.now (codes "name")
+        (members_view keys.entry.object.now.entries)) }
 {
     let value = keys.present(alloc, "name")?;
     keys.good(alloc, "name", name(alloc, value)?)
@@ -64,7 +72,9 @@ fn name_at(alloc: Global, keys: Keys) -> Result<String, CertError>
 
 #[tactic(auto, using(crate::proofs::Seen::good_seen), unfolding(crate::specs::Keys::required))]
 fn states_at(alloc: Global, version: Version, keys: Keys) -> Result<Vec<NodeState>, CertError>
-    ensures { Gives CertError.Memory (λ v. v.items) result (required (kind.states (spec.most_sets version) (spec.most_nodes version)) keys.entry.path.now (codes "states") (members_view keys.entry.object.now.entries)) }
+    ensures { Gives CertError.Memory (λ v. v.items) result
+        (required (kind.states (spec.most_sets version) (spec.most_nodes version))
+        keys.entry.path.now (codes "states") (members_view keys.entry.object.now.entries)) }
 {
     let value = keys.present(alloc, "states")?;
     let found = states(alloc, version.most_sets(), version.most_nodes(), value)?;
@@ -74,7 +84,8 @@ fn states_at(alloc: Global, version: Version, keys: Keys) -> Result<Vec<NodeStat
 /// What the keys of a task say.
 #[tactic(auto, unfolding(crate::specs::Reading::fields_at))]
 fn fields_at(alloc: Global, version: Version, keys: Keys) -> Result<TaskPart, CertError>
-    ensures { Gives CertError.Memory (λ x. x) result (spec.fields_at version keys.entry.path.now (members_view keys.entry.object.now.entries)) }
+    ensures { Gives CertError.Memory (λ x. x) result
+        (spec.fields_at version keys.entry.path.now (members_view keys.entry.object.now.entries)) }
 {
     let bound = keys.number(alloc, "bound", 0, LONGEST_BOUND)?;
     let evicting = set_at(alloc, version, keys, "evicting")?;
@@ -109,7 +120,8 @@ fn task_at(
     place: usize,
     object: &Object,
 ) -> Result<TaskPart, CertError>
-    ensures { Gives CertError.Memory (λ x. x) result (spec.task_at version place (members_view object.now.entries)) }
+    ensures { Gives CertError.Memory (λ x. x) result
+        (spec.task_at version place (members_view object.now.entries)) }
 {
     let path = item_path(alloc, "", "tasks", place)?;
     let path = path.as_str();
@@ -123,7 +135,8 @@ fn each_task(
     version: Version,
     objects: &[&Object],
 ) -> Result<Vec<TaskPart>, CertError>
-    ensures { Gives CertError.Memory (λ v. v.items) result (each (spec.task_at version) 0 (map (λ t. members_view t.now.entries) objects.now)) }
+    ensures { Gives CertError.Memory (λ v. v.items) result
+        (each (spec.task_at version) 0 (map (λ t. members_view t.now.entries) objects.now)) }
 {
     let mut tasks = Vec::new(alloc);
     for (i, object) in objects.iter().enumerate() {
@@ -138,7 +151,9 @@ fn task_objects<'a>(
     version: Version,
     keys: Keys<'a>,
 ) -> Result<Vec<&'a Object>, CertError>
-    ensures { Gives CertError.Memory (λ v. map (λ t. members_view t.now.entries) v.items) result (required (kind.objects (spec.most_tasks version)) keys.entry.path.now (codes "tasks") (members_view keys.entry.object.now.entries)) }
+    ensures { Gives CertError.Memory (λ v. map (λ t. members_view t.now.entries) v.items) result
+        (required (kind.objects (spec.most_tasks version)) keys.entry.path.now (codes "tasks")
+        (members_view keys.entry.object.now.entries)) }
 {
     let value = keys.present(alloc, "tasks")?;
     keys.good(alloc, "tasks", objects(alloc, version.most_tasks(), value)?)
@@ -150,21 +165,23 @@ fn listed_tasks(
     version: Version,
     object: &Object,
 ) -> Result<Vec<TaskPart>, CertError>
-    ensures { Gives CertError.Memory (λ v. v.items) result (spec.tasks_at version (members_view object.now.entries)) }
+    ensures { Gives CertError.Memory (λ v. v.items) result
+        (spec.tasks_at version (members_view object.now.entries)) }
 {
     let objects = task_objects(alloc, version, Keys { object, path: "" })?;
     each_task(alloc, version, objects.as_slice())
 }
 
-/// The tasks of a certificate, 1 to 16 in version 1 and to 32 in version 2, each with its keys in byte order. Linear
-/// in the text's tree. The first key that is absent or has a bad value is the refusal; `Memory` may come in place of
-/// any answer.
+/// The tasks of a certificate, 1 to 16 in version 1 and to 32 in version 2, each with its keys in
+/// byte order. Linear in the text's tree. The first key that is absent or has a bad value is the
+/// refusal; `Memory` may come in place of any answer.
 pub fn tasks_at(
     alloc: Global,
     version: Version,
     object: &Object,
 ) -> Result<Vec<TaskPart>, CertError>
-    ensures exact { Gives CertError.Memory (λ v. v.items) result (spec.tasks_at version (members_view object.now.entries)) }
+    ensures exact { Gives CertError.Memory (λ v. v.items) result
+        (spec.tasks_at version (members_view object.now.entries)) }
     ensures ranges { IfOk result (λ v. AreTasks v.items) }
 {
     listed_tasks(alloc, version, object)

@@ -10,7 +10,8 @@ ghost use Rattle.serde_json.specs.View.{items_of};
 ghost use Rattle.cert_model.specs.Ranges.{IsCertificate};
 ghost use Rattle.cert_model.specs.Inner.Ranges.{HasSetWords};
 ghost use Rattle.cert_model.specs.Reading.{reading};
-ghost use Rattle.cert_model.specs.Inner.Tokens.{Appends, AppendsAt, IsNextMember, NoneInWord, tokens_of};
+ghost use Rattle.cert_model.specs.Inner.Tokens.{Appends, AppendsAt, IsNextMember, NoneInWord};
+ghost use Rattle.cert_model.specs.Inner.Tokens.{tokens_of};
 ghost use Rattle.cert_model.specs.Writing as spec;
 
 use crpd_base::{
@@ -29,7 +30,8 @@ fn numbers(out: &mut Writer, list: &[u64]) -> Result<(), AllocError>
     out.end_array()
 }
 
-/// The least number of a set from one on, which is below 512, within its word of 64. In constant time.
+/// The least number of a set from one on, which is below 512, within its word of 64. In constant
+/// time.
 fn next_number(set: &SetBits<WORDS>, from: u16) -> Option<u16>
     requires { from < 512 }
     ensures { MatchOption result (NoneInWord set.now from) (IsNextMember set.now from) }
@@ -238,14 +240,16 @@ fn task_sets(tasks: &[TaskPart])
     }
 }
 
-/// Writes a certificate as JSON text of version 2: one line without spaces, with the keys of each object in byte
-/// order. Within the ranges of a certificate it reads back as the same. One pass is made over the certificate,
-/// and the memory taken is a small multiple of the text's size. The only error is want of memory.
+/// Writes a certificate as JSON text of version 2: one line without spaces, with the keys of each
+/// object in byte order. Within the ranges of a certificate it reads back as the same. One pass is
+/// made over the certificate, and the memory taken is a small multiple of the text's size. The only
+/// error is want of memory.
 pub fn write_certificate(alloc: Global, certificate: &Certificate) -> Result<Vec<u8>, Memory>
     ensures exact { IfOk result (λ b. b.items ≡ spec.text certificate.now) }
 
     // Reading gives the certificate back.
-    ensures reads_back { IsCertificate certificate.now → IfOk result (λ b. reading b.items ≡ Ok certificate.now) }
+    ensures reads_back { IsCertificate certificate.now
+        → IfOk result (λ b. reading b.items ≡ Ok certificate.now) }
 {
     task_sets(certificate.tasks.as_slice());
     match bytes(alloc, certificate) {

@@ -19,7 +19,8 @@ const HIGH: Program<'static> = Program {
     ..ONE
 };
 
-// A loop round a loop of one instruction, whose bound is above 2^40 cycles where a reload costs 3 cycles or more.
+// A loop round a loop of one instruction, whose bound is above 2^40 cycles where a reload costs 3
+// cycles or more.
 const LOOPS: Program<'static> = Program {
     start: 0x1004,
     words: &NESTED,

@@ -2,8 +2,8 @@
 use fixtures::{LOOP, ONE, Program};
 use std::alloc::{AllocError, Global};
 
-// What the text of a task says: its name, bound, states, potentials, loops, window and response. Its evicting sets are the
-// set 0, and so are its useful sets.
+// What the text of a task says: its name, bound, states, potentials, loops, window and response.
+// Its evicting sets are the set 0, and so are its useful sets.
 #[derive(Clone, Copy)]
 pub(crate) struct Told {
     pub(crate) name: &'static str,

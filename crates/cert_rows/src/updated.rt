@@ -22,8 +22,9 @@ const HIGH: Program<'static> = Program {
 
 const LOW: Program<'static> = Program { name: "low", ..ONE };
 
-// What an old certificate says of the low task, the new platform and programs, what the new certificate says where it is told
-// here, and how the answer ends: a refusal, or the tasks that were analysed.
+// What an old certificate says of the low task, the new platform and programs, what the new
+// certificate says where it is told here, and how the answer ends: a refusal, or the tasks that
+// were analysed.
 #[derive(Clone, Copy)]
 struct Case {
     low: Told,
@@ -80,7 +81,8 @@ static CASES: [Case; 11] = [
         end: " 1",
         ..SAME
     },
-    // what an old certificate says of the code is kept where it is not the least; its windows are not
+    // what an old certificate says of the code is kept where it is not the least; its windows are
+    // not
     Case {
         low: Told {
             bound: 13,
@@ -196,7 +198,8 @@ fn refusal(alloc: Global, e: UpdateError) -> Result<String, AllocError> {
     }
 }
 
-// The text of the updated certificate and the tasks that were analysed, or the refusal; or the judge's no.
+// The text of the updated certificate and the tasks that were analysed, or the refusal; or the
+// judge's no.
 fn updated(alloc: Global, old: &Side, text: &str, new: &Side) -> Result<String, Fail>
     requires old { IsTaskSet old.now.set }
     requires old_tasks { AreTaskGraphs old.now.set old.now.graphs.items old.now.nests.items }

@@ -31,24 +31,51 @@ use Rattle.cert_update.specs.Laws.{HasCodes}
 use Rattle.cert_update.specs.Answer.{IsUpdated, HasNoWindowAt}
 use Rattle.cert_update.proofs.NewParts.{bare, at_bare, bare_parts}
 
-pub has_codes : (set : TaskSet) (graphs : List CodeGraph) (nests : List CodeNest) → IsTaskSet set → AreTaskGraphs set graphs nests → All HasCode graphs → HasCodes set graphs nests
+pub has_codes : (set : TaskSet) (graphs : List CodeGraph) (nests : List CodeNest) → IsTaskSet set
+    → AreTaskGraphs set graphs nests → All HasCode graphs → HasCodes set graphs nests
 has_codes set graphs nests S A H =
     record {
       range = S;
       code = λ i lt. H i no_graph (let e = A.all_graphs in omega (arith, lt, e));
-      regions = λ i lt. let N = A.each i lt in record { loops = N.loops; regions = N.is_regions; accepted = N.accepted };
+      regions = λ i lt. let N = A.each i lt in record {
+        loops = N.loops;
+        regions = N.is_regions;
+        accepted = N.accepted;
+      };
     }
 
 -- ---- with what stands beside it
 
 module _ (old : Side) (c : Certificate) (new : Side) (i : ℕ) where
-  beside : (a : Analysis) (name : List ℕ) (method : Method) (window response : ℕ) → IsUpdatedPart old c new i (part_of_analysis a) → IsUpdatedPart old c new i (part_with a name method window response)
-  beside a name method window response (inl x) = inl (x.0, x.1, record { states = x.2.states; part = x.2.part; potentials = x.2.potentials; loops = x.2.loops })
-  beside a name method window response (inr x) = inr (x.0, with_others new.set.platform (new.graphs i) (part_of_analysis a) name method window response x.1)
+  beside : (a : Analysis) (name : List ℕ) (method : Method) (window response : ℕ)
+      → IsUpdatedPart old c new i (part_of_analysis a)
+      → IsUpdatedPart old c new i (part_with a name method window response)
+  beside a name method window response (inl x) =
+      inl (
+        x.0,
+        x.1,
+        record {
+          states = x.2.states;
+          part = x.2.part;
+          potentials = x.2.potentials;
+          loops = x.2.loops;
+        },
+      )
+  beside a name method window response (inr x) =
+      inr (
+        x.0,
+        with_others new.set.platform (new.graphs i) (part_of_analysis a) name method window
+            response x.1,
+      )
 
-module _ (old : Side) (c : Certificate) (new : Side) (parts : List Analysis) (d : Certificate) (A : AreNewParts old c new (length new.set.tasks) parts) (few : sum_by entries_of parts ≤ 4000000) (K : IsCompleted new.set new.graphs (analysis_at parts) d) where
+module _ (old : Side) (c : Certificate) (new : Side) (parts : List Analysis) (d : Certificate)
+    (A : AreNewParts old c new (length new.set.tasks) parts)
+    (few : sum_by entries_of parts ≤ 4000000)
+    (K : IsCompleted new.set new.graphs (analysis_at parts) d) where
   part_at : (i : ℕ) → i < length new.set.tasks → IsUpdatedPart old c new i (certified_task d i)
-  part_at i lt = subst (IsUpdatedPart old c new i) (sym (K.parts.part i lt)) (beside old c new i (analysis_at parts i) _ _ _ _ (A.each i lt).part)
+  part_at i lt =
+      subst (IsUpdatedPart old c new i) (sym (K.parts.part i lt))
+      (beside old c new i (analysis_at parts i) _ _ _ _ (A.each i lt).part)
 
   pub is_update : IsUpdate old c new d
   is_update =
@@ -68,28 +95,42 @@ module _ (old : Side) (c : Certificate) (new : Side) (parts : List Analysis) (d 
       record {
         tasks = K.parts.tasks;
         each = part_at;
-        within = λ i lt changed. subst (λ (t : TaskPart). t.part.bound ≤ 2 ^ 40) (sym (K.parts.part i lt)) ((A.each i lt).within changed);
+        within = λ i lt changed.
+            subst (λ (t : TaskPart). t.part.bound ≤ 2 ^ 40) (sym (K.parts.part i lt))
+            ((A.each i lt).within changed);
       }
 
   few_entries : entries d.tasks ≤ 4000000
   few_entries = let same = entries_are new.set parts d K.parts A.tasks in omega (arith, same, few)
 
-  pub is_updated : (tasks : List Task) → AreChangedTasks old new tasks → IsUpdated old c new (record { certificate = d; analysed = tasks })
-  is_updated tasks analysed = record { certificate = is_update; analysed = analysed; within = are_parts; few = few_entries }
+  pub is_updated : (tasks : List Task) → AreChangedTasks old new tasks
+      → IsUpdated old c new (record { certificate = d; analysed = tasks })
+  is_updated tasks analysed = record {
+    certificate = is_update;
+    analysed = analysed;
+    within = are_parts;
+    few = few_entries;
+  }
 
   pub update_in_ranges : IsTaskSet new.set → IsCertificate d
   update_in_ranges S =
-      in_ranges new.set parts d K.parts (has_times new.set S) S (λ i lt. (A.each i lt).ranges) (in_deadlines new.set new.graphs (analysis_at parts) d K) few_entries
+      in_ranges new.set parts d K.parts (has_times new.set S) S (λ i lt. (A.each i lt).ranges)
+      (in_deadlines new.set new.graphs (analysis_at parts) d K) few_entries
 
 -- no windows for the new parts
-pub no_windows : (old : Side) (c : Certificate) (new : Side) (parts : List Analysis) (i : ℕ) → AreNewParts old c new (length new.set.tasks) parts → sum_by entries_of parts ≤ 4000000
-    → IsFirstWithoutWindow new.set (demand new.set (λ k. (analysis_at parts k).part) (longest_at new.set.platform new.graphs)) i → HasNoWindowAt old c new i
+pub no_windows : (old : Side) (c : Certificate) (new : Side) (parts : List Analysis) (i : ℕ)
+    → AreNewParts old c new (length new.set.tasks) parts → sum_by entries_of parts ≤ 4000000
+    → IsFirstWithoutWindow new.set
+    (demand new.set (λ k. (analysis_at parts k).part) (longest_at new.set.platform new.graphs)) i
+    → HasNoWindowAt old c new i
 no_windows old c new parts i A few W =
     record {
       parts = bare old c new parts;
       are = bare_parts old c new parts A;
       few = let e = entries_map parts in omega (arith, e, few);
       without =
-          subst (λ (f : ℕ → Part). IsFirstWithoutWindow new.set (demand new.set f (longest_at new.set.platform new.graphs)) i)
+          subst (λ (f : ℕ → Part).
+          IsFirstWithoutWindow new.set (demand new.set f (longest_at new.set.platform new.graphs))
+          i)
           (λ x k. ((sym (at_bare old c new parts k)) x).part) W;
     }

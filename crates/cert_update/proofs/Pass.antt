@@ -1,10 +1,12 @@
--- Clauses 2 to 7 of a part, and that it is the analysis', pass from an old task to the unchanged new one.
+-- Clauses 2 to 7 of a part, and that it is the analysis', pass from an old task to the unchanged
+-- new one.
 use Rattle.std.proofs.Common.{◌≡◌, ℕ, ◌+◌, Bool, if◌then◌else◌, length, refl, sym, ap, ◌∙◌, subst}
 use Rattle.std.specs.Prelude.{◌&&◌, ◌==◌, not}
 use Rattle.crpd_base.specs.declared.data.Platform.{Platform}
 use Rattle.crpd_base.specs.declared.data.TaskPart.{TaskPart}
 use Rattle.rv_decode.specs.declared.Ins.{Ins}
-use Rattle.rv_decode.specs.declared.Ins.TheVariants.{Lb, Lh, Lw, Lbu, Lhu, Sb, Sh, Sw, Mul, Mulh, Mulhsu, Mulhu, Div, Divu, Rem, Remu}
+use Rattle.rv_decode.specs.declared.Ins.TheVariants.{Lb, Lh, Lw, Lbu, Lhu, Sb, Sh, Sw, Mul, Mulh}
+use Rattle.rv_decode.specs.declared.Ins.TheVariants.{Mulhsu, Mulhu, Div, Divu, Rem, Remu}
 use Rattle.rv_decode.specs.Cost.{cost, work_cost, changes_flow}
 use Rattle.rv_decode.specs.Flow.{flow}
 use Rattle.flat_graph.specs.Graph.{IsGraph}
@@ -18,7 +20,8 @@ use Rattle.cert_check.specs.ListedPotentials.{potentials_of}
 use Rattle.cert_check.specs.PotentialClauses.{edge_costs, PotentialsMeet}
 use Rattle.cert_check.specs.TaskGraphs.{task_graph}
 use Rattle.cert_check.specs.declared.outcome.Clause.{Clause}
-use Rattle.cert_check.specs.declared.outcome.Clause.TheVariants.{Leaders, LoopPotentials, Inequalities, Bound}
+use Rattle.cert_check.specs.declared.outcome.Clause.TheVariants.{Leaders, LoopPotentials}
+use Rattle.cert_check.specs.declared.outcome.Clause.TheVariants.{Inequalities, Bound}
 use Rattle.cert_check.specs.Verdict.{GraphHolds}
 use Rattle.loop_regions.proofs.Stated.{regions_law}
 use Rattle.cert_build.specs.Best.{IsBestPart, AreBestPotentials}
@@ -27,7 +30,8 @@ use Rattle.cert_update.specs.Update.{HasSameAnalysis}
 use Rattle.cert_update.specs.Laws.{HasRegions, SameGraphLaw, PassLaw, BestPassLaw}
 use Rattle.cert_update.proofs.SameNodes.{AreSameNodes, same_lists, code_follows}
 use Rattle.cert_update.proofs.FirstNodes.{IsAhead, reached_ahead, one_first}
-use Rattle.cert_update.proofs.AlikeNests.{Alike, potentials_too, bound_too, first_too, ahead_back, least_too}
+use Rattle.cert_update.proofs.AlikeNests.{Alike, potentials_too, bound_too, first_too, ahead_back}
+use Rattle.cert_update.proofs.AlikeNests.{least_too}
 
 -- ---- the graphs are the same
 
@@ -37,18 +41,25 @@ is_graph g H = (code_follows g H.words H.entry H.of_code).graph
 nested : (g : CodeGraph) (n : CodeNest) → HasRegions g n → IsNested (graph_of g) (nest_of n)
 nested g n N = regions_law (graph_of g) _ N.loops (nest_of n) N.regions N.accepted
 
-pub alike : (g h : CodeGraph) (n m : CodeNest) → HasSameRegions (task_graph g n) (task_graph h m) → Alike (length g.nodes) (nest_of n) (nest_of m)
+pub alike : (g h : CodeGraph) (n m : CodeNest) → HasSameRegions (task_graph g n) (task_graph h m)
+    → Alike (length g.nodes) (nest_of n) (nest_of m)
 alike g h n m R = record { size = R.size; head = R.head; bound = R.bound; holds = R.holds }
 
-same_nodes : (g h : CodeGraph) (n m : CodeNest) → HasSameNodes (task_graph g n) (task_graph h m) → AreSameNodes g h
+same_nodes : (g h : CodeGraph) (n m : CodeNest) → HasSameNodes (task_graph g n) (task_graph h m)
+    → AreSameNodes g h
 same_nodes g h n m S = λ u lt. (
-  (let c = S.context u lt in let a = S.address u lt in λ i. record { context = c i; address = a i }),
+  (let c = S.context u lt in let a = S.address u lt in
+      λ i. record { context = c i; address = a i }),
   S.instruction u lt,
 )
 
-module _ (g h : CodeGraph) (n m : CodeNest) (G : HasCode g) (H : HasCode h) (N : HasRegions g n) (M : HasRegions h m) (S : HasSameNodes (task_graph g n) (task_graph h m)) (R : HasSameRegions (task_graph g n) (task_graph h m)) where
+module _ (g h : CodeGraph) (n m : CodeNest) (G : HasCode g) (H : HasCode h) (N : HasRegions g n)
+    (M : HasRegions h m) (S : HasSameNodes (task_graph g n) (task_graph h m))
+    (R : HasSameRegions (task_graph g n) (task_graph h m)) where
   nodes_same : g.nodes ≡ h.nodes
-  nodes_same = same_lists g h G.words H.words G.entry H.entry G.of_code H.of_code S.size (same_nodes g h n m S)
+  nodes_same =
+      same_lists g h G.words H.words G.entry H.entry G.of_code H.of_code S.size
+      (same_nodes g h n m S)
 
   -- the new graph over the old nodes
   abbrev moved : CodeGraph
@@ -66,8 +77,10 @@ module _ (g h : CodeGraph) (n m : CodeNest) (G : HasCode g) (H : HasCode h) (N :
       let n_nested = nested g n N in
       let m_nested = nested moved m M1 in
       let A = alike g h n m R in
-      let out : IsAhead (graph_of g) (nest_of n) g.first h.first = reached_ahead (graph_of g) (nest_of n) n_nested one h.first two.first in
-      let back : IsAhead (graph_of moved) (nest_of m) h.first g.first = reached_ahead (graph_of moved) (nest_of m) m_nested two g.first one.first in
+      let out : IsAhead (graph_of g) (nest_of n) g.first h.first =
+      reached_ahead (graph_of g) (nest_of n) n_nested one h.first two.first in
+      let back : IsAhead (graph_of moved) (nest_of m) h.first g.first =
+      reached_ahead (graph_of moved) (nest_of m) m_nested two g.first one.first in
       one_first (graph_of g) (nest_of n) g.first h.first N.accepted.no_cycle out
       (ahead_back (graph_of g) one (nest_of n) (nest_of m) n_nested A h.first g.first back)
 
@@ -107,21 +120,26 @@ work_same p q (Rem _ _ _) = refl
 work_same p q (Remu _ _ _) = refl
 work_same p q _ = refl
 
-cost_same : (p q : Platform) (ins : Ins) (missed taken : Bool) → cost p ins missed taken ≡ cost (seen p q) ins missed taken
+cost_same : (p q : Platform) (ins : Ins) (missed taken : Bool)
+    → cost p ins missed taken ≡ cost (seen p q) ins missed taken
 cost_same p q ins missed taken =
-    ap (λ w. p.hit + (if missed then p.miss else 0) + w + (if taken && changes_flow ins then p.taken else 0)) (sym (work_same p q ins))
+    ap (λ w. p.hit + (if missed then p.miss else 0) + w
+    + (if taken && changes_flow ins then p.taken else 0)) (sym (work_same p q ins))
 
-costs_same : (p q : Platform) (l : NodeCode) (answers is_hit : ℕ → Bool) → edge_costs p l answers is_hit ≡ edge_costs (seen p q) l answers is_hit
+costs_same : (p q : Platform) (l : NodeCode) (answers is_hit : ℕ → Bool)
+    → edge_costs p l answers is_hit ≡ edge_costs (seen p q) l answers is_hit
 costs_same p q l answers is_hit = λ i. record {
   edge = λ u v. (cost_same p q (l.ins u) (not (is_hit u)) (not (l.address v == l.address u + 4))) i;
   answers = answers;
-  end = λ u. (cost_same p q (l.ins u) (not (is_hit u)) (is_return (flow (l.address u) (l.ins u)))) i;
+  end = λ u.
+      (cost_same p q (l.ins u) (not (is_hit u)) (is_return (flow (l.address u) (l.ins u)))) i;
 }
 
 module _ (p q : Platform) (same : AreAlike p q) (t : TaskGraph) (c : TaskPart) where
   seen_holds : (k : Clause) → GraphHolds p t c k → GraphHolds (seen p q) t c k
   seen_holds (Inequalities u) h = λ is_hit hits below.
-      subst (λ (x : Costs). PotentialsMeet t.graph t.nest x (potentials_of c) u) (costs_same p q (node_code_of t) (answering t) is_hit) (h is_hit hits below)
+      subst (λ (x : Costs). PotentialsMeet t.graph t.nest x (potentials_of c) u)
+      (costs_same p q (node_code_of t) (answering t) is_hit) (h is_hit hits below)
   seen_holds k h = h
 
   pub platform_holds : (k : Clause) → GraphHolds p t c k → GraphHolds q t c k
@@ -130,12 +148,18 @@ module _ (p q : Platform) (same : AreAlike p q) (t : TaskGraph) (c : TaskPart) w
   seen_best : IsBestPart p t c → IsBestPart (seen p q) t c
   seen_best B =
       record {
-        states = record { leaders = B.states.leaders; each = B.states.each; ascending = B.states.ascending };
+        states = record {
+          leaders = B.states.leaders;
+          each = B.states.each;
+          ascending = B.states.ascending;
+        };
         evicting = B.evicting;
         useful = B.useful;
         is_hit = B.is_hit;
         hits = B.hits;
-        potentials = subst (λ (x : Costs). AreBestPotentials t.graph t.nest x c) (costs_same p q (node_code_of t) (answering t) B.is_hit) B.potentials;
+        potentials =
+            subst (λ (x : Costs). AreBestPotentials t.graph t.nest x c)
+            (costs_same p q (node_code_of t) (answering t) B.is_hit) B.potentials;
       }
 
   pub platform_best : IsBestPart p t c → IsBestPart q t c
@@ -143,17 +167,26 @@ module _ (p q : Platform) (same : AreAlike p q) (t : TaskGraph) (c : TaskPart) w
 
 -- ---- the regions are the same
 
-module _ (p : Platform) (g : CodeGraph) (n m : CodeNest) (G : IsGraph (graph_of g)) (N : IsNested (graph_of g) (nest_of n)) (A : Alike (length g.nodes) (nest_of n) (nest_of m)) (c : TaskPart) where
-  pub nest_holds : (k : Clause) → GraphHolds p (task_graph g n) c k → GraphHolds p (task_graph g m) c k
+module _ (p : Platform) (g : CodeGraph) (n m : CodeNest) (G : IsGraph (graph_of g))
+    (N : IsNested (graph_of g) (nest_of n)) (A : Alike (length g.nodes) (nest_of n) (nest_of m))
+    (c : TaskPart) where
+  pub nest_holds : (k : Clause) → GraphHolds p (task_graph g n) c k
+      → GraphHolds p (task_graph g m) c k
   nest_holds LoopPotentials h = h ∙ A.size
-  nest_holds (Inequalities u) h = λ is_hit hits below. potentials_too (graph_of g) G (nest_of n) (nest_of m) N A _ _ u below (h is_hit hits below)
+  nest_holds (Inequalities u) h = λ is_hit hits below.
+      potentials_too (graph_of g) G (nest_of n) (nest_of m) N A _ _ u below (h is_hit hits below)
   nest_holds Bound h = bound_too (graph_of g) G (nest_of n) (nest_of m) N A _ _ h
   nest_holds k h = h
 
-  pub nest_best : IsNested (graph_of g) (nest_of m) → IsBestPart p (task_graph g n) c → IsBestPart p (task_graph g m) c
+  pub nest_best : IsNested (graph_of g) (nest_of m) → IsBestPart p (task_graph g n) c
+      → IsBestPart p (task_graph g m) c
   nest_best M B =
       record {
-        states = record { leaders = B.states.leaders; each = B.states.each; ascending = B.states.ascending };
+        states = record {
+          leaders = B.states.leaders;
+          each = B.states.each;
+          ascending = B.states.ascending;
+        };
         evicting = B.evicting;
         useful = B.useful;
         is_hit = B.is_hit;
@@ -162,7 +195,8 @@ module _ (p : Platform) (g : CodeGraph) (n m : CodeNest) (G : IsGraph (graph_of 
           nodes = B.potentials.nodes;
           regions = B.potentials.regions ∙ A.size;
           least = least_too (graph_of g) (nest_of n) (nest_of m) _ _ G N M A B.potentials.least;
-          bound = λ i is. B.potentials.bound i (first_too (graph_of g) G (nest_of n) (nest_of m) N A i is);
+          bound = λ i is.
+              B.potentials.bound i (first_too (graph_of g) G (nest_of n) (nest_of m) N A i is);
         };
       }
 
@@ -204,12 +238,21 @@ module _ (p : Platform) (t : TaskGraph) (c d : TaskPart) (K : HasSameAnalysis c 
   kept_best : IsBestPart p t c → IsBestPart p t kept
   kept_best B =
       record {
-        states = record { leaders = B.states.leaders; each = B.states.each; ascending = B.states.ascending };
+        states = record {
+          leaders = B.states.leaders;
+          each = B.states.each;
+          ascending = B.states.ascending;
+        };
         evicting = B.evicting;
         useful = B.useful;
         is_hit = B.is_hit;
         hits = B.hits;
-        potentials = record { nodes = B.potentials.nodes; regions = B.potentials.regions; least = B.potentials.least; bound = B.potentials.bound };
+        potentials = record {
+          nodes = B.potentials.nodes;
+          regions = B.potentials.regions;
+          least = B.potentials.least;
+          bound = B.potentials.bound;
+        };
       }
 
   pub part_best : IsBestPart p t c → IsBestPart p t d
@@ -227,7 +270,8 @@ pub best_pass_law : BestPassLaw
 best_pass_law p q g h n m c d G H N M S K best =
     let e = same_graph g h n m G H N M S.nodes S.regions in
     let A = alike g h n m S.regions in
-    let M1 : IsNested (graph_of g) (nest_of m) = subst (λ (x : CodeGraph). IsNested (graph_of x) (nest_of m)) (sym e) (nested h m M) in
+    let M1 : IsNested (graph_of g) (nest_of m) =
+    subst (λ (x : CodeGraph). IsNested (graph_of x) (nest_of m)) (sym e) (nested h m M) in
     let here = nest_best p g n m (is_graph g G) (nested g n N) A c M1 best in
     let there = subst (λ (x : CodeGraph). IsBestPart p (task_graph x m) c) e here in
     part_best q (task_graph h m) c d K (platform_best p q S.platform (task_graph h m) c there)

@@ -41,37 +41,44 @@ pub record AreSameGraphs (t u : TaskGraph) : Type 0 where
 abbrev pub SameGraphLaw : Type 0
 SameGraphLaw =
     (p q : Platform) (g h : CodeGraph) (n m : CodeNest) →
-    HasCode g → HasCode h → HasRegions g n → HasRegions h m → IsSameCode p (task_graph g n) q (task_graph h m) →
+    HasCode g → HasCode h → HasRegions g n → HasRegions h m
+    → IsSameCode p (task_graph g n) q (task_graph h m) →
     AreSameGraphs (task_graph g n) (task_graph h m)
 
 -- the clauses of a task's graph pass with its part from an old task to the unchanged new one
 abbrev pub PassLaw : Type 0
 PassLaw =
     (p q : Platform) (g h : CodeGraph) (n m : CodeNest) (c d : TaskPart) (k : Clause) →
-    HasCode g → HasCode h → HasRegions g n → HasRegions h m → IsSameCode p (task_graph g n) q (task_graph h m) → HasSameAnalysis c d →
+    HasCode g → HasCode h → HasRegions g n → HasRegions h m
+    → IsSameCode p (task_graph g n) q (task_graph h m) → HasSameAnalysis c d →
     GraphHolds p (task_graph g n) c k → GraphHolds q (task_graph h m) d k
 
 -- and a part that the analysis found for the old task is the one that it finds for the new one
 abbrev pub BestPassLaw : Type 0
 BestPassLaw =
     (p q : Platform) (g h : CodeGraph) (n m : CodeNest) (c d : TaskPart) →
-    HasCode g → HasCode h → HasRegions g n → HasRegions h m → IsSameCode p (task_graph g n) q (task_graph h m) → HasSameAnalysis c d →
+    HasCode g → HasCode h → HasRegions g n → HasRegions h m
+    → IsSameCode p (task_graph g n) q (task_graph h m) → HasSameAnalysis c d →
     IsBestPart p (task_graph g n) c → IsBestPart q (task_graph h m) d
 
 -- the judge says yes to an update of a certificate to which it says yes
 abbrev pub UpdateIsJudgedLaw : Type 0
 UpdateIsJudgedLaw =
-    (old set : TaskSet) (old_graphs graphs : List CodeGraph) (old_nests nests : List CodeNest) (c d : Certificate) →
+    (old set : TaskSet) (old_graphs graphs : List CodeGraph) (old_nests nests : List CodeNest)
+    (c d : Certificate) →
     HasCodes old old_graphs old_nests → HasCodes set graphs nests →
-    IsJudged old (task_graph_at old_graphs old_nests) c Yes → IsUpdate (side old old_graphs old_nests) c (side set graphs nests) d →
+    IsJudged old (task_graph_at old_graphs old_nests) c Yes
+    → IsUpdate (side old old_graphs old_nests) c (side set graphs nests) d →
     IsJudged set (task_graph_at graphs nests) d Yes
 
 -- an update of the analysis' certificate is the analysis' certificate of the new set
 abbrev pub UpdateIsBestLaw : Type 0
 UpdateIsBestLaw =
-    (old set : TaskSet) (old_graphs graphs : List CodeGraph) (old_nests nests : List CodeNest) (c d : Certificate) →
+    (old set : TaskSet) (old_graphs graphs : List CodeGraph) (old_nests nests : List CodeNest)
+    (c d : Certificate) →
     HasCodes old old_graphs old_nests → HasCodes set graphs nests →
-    IsBest old (task_graph_at old_graphs old_nests) c → IsUpdate (side old old_graphs old_nests) c (side set graphs nests) d →
+    IsBest old (task_graph_at old_graphs old_nests) c
+    → IsUpdate (side old old_graphs old_nests) c (side set graphs nests) d →
     IsBest set (task_graph_at graphs nests) d
 
 -- there is one update at most

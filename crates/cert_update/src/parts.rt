@@ -1,5 +1,6 @@
 // The new part of each task: what is kept, or what the analysis finds.
-ghost use Rattle.std.specs.Prelude.{◌≡◌, ◌<◌, ◌≤◌, ℕ, None, length, slice_index_or, sum_by, All, IfOk, MatchResult};
+ghost use Rattle.std.specs.Prelude.{◌≡◌, ◌<◌, ◌≤◌, ℕ, None, length, slice_index_or, sum_by, All};
+ghost use Rattle.std.specs.Prelude.{IfOk, MatchResult};
 ghost use Rattle.crpd_base.specs.Ranges.{IsTaskSet};
 ghost use Rattle.cert_check.specs.TaskGraphs.{AreTaskGraphs};
 ghost use Rattle.cert_model.specs.Ranges.{IsCertificate};
@@ -19,21 +20,25 @@ use crpd_base::{MOST_ENTRIES, Task};
 use exec_bound::BoundError;
 use std::alloc::Global;
 
-/// The new part of a task: kept from the old certificate where the task has a source, or else analysed.
+/// The new part of a task: kept from the old certificate where the task has a source, or else
+/// analysed.
 fn part(
     alloc: Global,
     change: &Change,
     source: Option<usize>,
     task: Task,
 ) -> Result<Analysis, UpdateError>
-    requires source { IsSourceTask (coded_side change.now.old) (coded_side change.now.new) task.0 source }
+    requires source { IsSourceTask (coded_side change.now.old) (coded_side change.now.new)
+        task.0 source }
     requires tasks { length change.now.certificate.now.tasks ≡ length change.now.old.set.now.tasks }
     requires certificate { IsCertificate change.now.certificate.now }
     requires range { IsTaskSet change.now.new.set.now }
-    requires new { AreTaskGraphs change.now.new.set.now change.now.new.graphs.now change.now.new.nests.now }
+    requires new { AreTaskGraphs change.now.new.set.now change.now.new.graphs.now
+        change.now.new.nests.now }
     requires task { task.0 < length change.now.new.set.now.tasks }
     ensures { MatchResult result
-        (λ a. IsNewPart (coded_side change.now.old) change.now.certificate.now (coded_side change.now.new) task.0 a)
+        (λ a. IsNewPart (coded_side change.now.old) change.now.certificate.now
+        (coded_side change.now.new) task.0 a)
         (λ e. IsPartError (coded_side change.now.old) (coded_side change.now.new) task.0 e) }
 {
     if let Some(k) = source {
@@ -47,21 +52,26 @@ fn part(
     }
 }
 
-/// The new parts of all tasks, where their state entries are not too many. Once they are, the entries of the tasks left are
-/// counted and not kept.
+/// The new parts of all tasks, where their state entries are not too many. Once they are, the
+/// entries of the tasks left are counted and not kept.
 pub(crate) fn new_parts(
     alloc: Global,
     change: &Change,
     sources: &[Option<usize>],
 ) -> Result<Vec<Analysis>, UpdateError>
-    requires sources { AreSourceTasks (coded_side change.now.old) (coded_side change.now.new) (length change.now.new.set.now.tasks) sources.now }
+    requires sources { AreSourceTasks (coded_side change.now.old) (coded_side change.now.new)
+        (length change.now.new.set.now.tasks) sources.now }
     requires tasks { length change.now.certificate.now.tasks ≡ length change.now.old.set.now.tasks }
     requires certificate { IsCertificate change.now.certificate.now }
-    requires codes { HasCodes change.now.new.set.now change.now.new.graphs.now change.now.new.nests.now }
-    requires shown { AreTaskGraphs change.now.new.set.now change.now.new.graphs.now change.now.new.nests.now }
+    requires codes { HasCodes change.now.new.set.now change.now.new.graphs.now
+        change.now.new.nests.now }
+    requires shown { AreTaskGraphs change.now.new.set.now change.now.new.graphs.now
+        change.now.new.nests.now }
     ensures parts { MatchResult result
-        (λ all. AreNewParts (coded_side change.now.old) change.now.certificate.now (coded_side change.now.new) (length change.now.new.set.now.tasks) all.items)
-        (λ e. IsUpdateError (coded_side change.now.old) change.now.certificate.now (coded_side change.now.new) e) }
+        (λ all. AreNewParts (coded_side change.now.old) change.now.certificate.now
+        (coded_side change.now.new) (length change.now.new.set.now.tasks) all.items)
+        (λ e. IsUpdateError (coded_side change.now.old) change.now.certificate.now
+        (coded_side change.now.new) e) }
     ensures few { IfOk result (λ all. sum_by entries_of all.items ≤ 4000000) }
 {
     let mut parts = Vec::new(alloc);

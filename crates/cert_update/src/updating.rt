@@ -33,23 +33,27 @@ fn codes_law(graphs: &[Graph])
     }
 }
 
-/// The certificate of a task set made from that of an older one. A task is unchanged where the old set has one of its name,
-/// the platforms are equal but for `switch` and `switching`, and the tasks' graphs have the same nodes with the same calls
-/// under way, addresses and instructions, and the same regions with the same heads, bounds and held nodes. What the old
-/// certificate says of an unchanged task's code is kept as it is listed: the states, the sets, the bound and the potentials.
-/// Every other task is analysed. All windows are the least ones with these parts.
+/// The certificate of a task set made from that of an older one. A task is unchanged where the old
+/// set has one of its name, the platforms are equal but for `switch` and `switching`, and the
+/// tasks' graphs have the same nodes with the same calls under way, addresses and instructions, and
+/// the same regions with the same heads, bounds and held nodes. What the old certificate says of an
+/// unchanged task's code is kept as it is listed: the states, the sets, the bound and the
+/// potentials. Every other task is analysed. All windows are the least ones with these parts.
 ///
-/// The judge must say yes to the old certificate, for the old set with its graphs and regions. Then it says yes to the new
-/// one. An update of the analysis' certificate is the analysis' certificate of the new set; there is one update.
+/// The judge must say yes to the old certificate, for the old set with its graphs and regions. Then
+/// it says yes to the new one. An update of the analysis' certificate is the analysis' certificate
+/// of the new set; there is one update.
 ///
-/// The refusals are want of memory; then `TooLarge` for the first analysed task whose bound exceeds 2^40 cycles, with the
-/// byte address of its entry; then `TooManyEntries` with the number of the new certificate's state entries where it exceeds
-/// 4,000,000; then `Unschedulable` for the first task without a window.
+/// The refusals are want of memory; then `TooLarge` for the first analysed task whose bound exceeds
+/// 2^40 cycles, with the byte address of its entry; then `TooManyEntries` with the number of the
+/// new certificate's state entries where it exceeds 4,000,000; then `Unschedulable` for the first
+/// task without a window.
 ///
-/// The time is linear in the nodes and regions of both sides and in what is kept, and that of the analyses of the changed
-/// tasks and of the windows.
+/// The time is linear in the nodes and regions of both sides and in what is kept, and that of the
+/// analyses of the changed tasks and of the windows.
 ///
-/// Source: Lee et al. 1998 (useful cache blocks); Altmeyer, Davis and Maiza 2012 (the demand of a window).
+/// Source: Lee et al. 1998 (useful cache blocks); Altmeyer, Davis and Maiza 2012 (the demand of a
+/// window).
 pub fn update(
     alloc: Global,
     old: &TaskSet,
@@ -63,17 +67,23 @@ pub fn update(
     requires old { IsTaskSet old.now }
     requires old_tasks { AreTaskGraphs old.now old_graphs.now old_nests.now }
     requires certificate { IsCertificate certificate.now }
-    requires judged { IsJudged old.now (task_graph_at old_graphs.now old_nests.now) certificate.now Yes }
+    requires judged { IsJudged old.now (task_graph_at old_graphs.now old_nests.now)
+        certificate.now Yes }
     requires set { IsTaskSet set.now }
     requires tasks { AreTaskGraphs set.now graphs.now nests.now }
     ensures exact { MatchResult result
-        (λ u. IsUpdated (side old.now old_graphs.now old_nests.now) certificate.now (side set.now graphs.now nests.now) u)
-        (λ e. IsUpdateError (side old.now old_graphs.now old_nests.now) certificate.now (side set.now graphs.now nests.now) e) }
-    ensures judged { IfOk result (λ u. IsJudged set.now (task_graph_at graphs.now nests.now) u.certificate Yes) }
-    ensures best { IfOk result (λ u. IsBest old.now (task_graph_at old_graphs.now old_nests.now) certificate.now →
+        (λ u. IsUpdated (side old.now old_graphs.now old_nests.now) certificate.now
+        (side set.now graphs.now nests.now) u)
+        (λ e. IsUpdateError (side old.now old_graphs.now old_nests.now) certificate.now
+        (side set.now graphs.now nests.now) e) }
+    ensures judged { IfOk result
+        (λ u. IsJudged set.now (task_graph_at graphs.now nests.now) u.certificate Yes) }
+    ensures best { IfOk result
+        (λ u. IsBest old.now (task_graph_at old_graphs.now old_nests.now) certificate.now →
         IsBest set.now (task_graph_at graphs.now nests.now) u.certificate) }
     ensures one { IfOk result (λ u. (d : Certificate) →
-        IsUpdate (side old.now old_graphs.now old_nests.now) certificate.now (side set.now graphs.now nests.now) d → d ≡ u.certificate) }
+        IsUpdate (side old.now old_graphs.now old_nests.now) certificate.now
+        (side set.now graphs.now nests.now) d → d ≡ u.certificate) }
     ensures ranges { IfOk result (λ u. IsCertificate u.certificate) }
 {
     codes_law(old_graphs);

@@ -1,5 +1,7 @@
 -- What the indexes of files tell of words.
-use Rattle.std.proofs.Common.{◌≡◌, ℕ, ◌+◌, ◌*◌, ◌%◌, ◌^◌, ◌<◌, ◌≤◌, eqb, true, false, List, length, get_or, Option, Some, None, inl, inr, ⊎_elim, refl, ap, sym, subst, ◌∙◌, arith}
+use Rattle.std.proofs.Common.{◌≡◌, ℕ, ◌+◌, ◌*◌, ◌%◌, ◌^◌, ◌<◌, ◌≤◌, eqb, true, false, List, length}
+use Rattle.std.proofs.Common.{get_or, Option, Some, None, inl, inr, ⊎_elim, refl, ap, sym, subst}
+use Rattle.std.proofs.Common.{◌∙◌, arith}
 use Rattle.std.specs.Prelude.{slice_get, option_map, is_some, All, AllPairs, IfSome}
 use Rattle.std.proofs.lemmas.Bool.{cases_Bool, eqb-true, eqb-false, ne_eqb}
 use Rattle.std.proofs.lemmas.Option.{none-some, same_Some, slice_get-get_or}
@@ -16,35 +18,48 @@ use Rattle.code_map.specs.Words.{code_byte, image_byte, little_endian, owns, wor
 pub word_same : (f g : ℕ → Option ℕ) (a : ℕ) → ((x : ℕ) → f x ≡ g x) → word_by f a ≡ word_by g a
 word_same f g a h = rw (h a, h (a + 1), h (a + 2), h (a + 3)) refl
 
-pub index_apart : (m : Inside) (rs : List Run) → AreStoredFiles m → rs ≡ m.runs → AllPairs IsRunBefore rs
+pub index_apart : (m : Inside) (rs : List Run) → AreStoredFiles m → rs ≡ m.runs
+    → AllPairs IsRunBefore rs
 index_apart m rs kept e = rw e (kept.all.apart)
 
-pub kept_word : (m : Inside) (is : List Image) (rs : List Run) (a : ℕ) → AreStoredFiles m → m.images ≡ is → rs ≡ m.runs → word_by (runs_byte rs) a ≡ word_at is a
+pub kept_word : (m : Inside) (is : List Image) (rs : List Run) (a : ℕ) → AreStoredFiles m
+    → m.images ≡ is → rs ≡ m.runs → word_by (runs_byte rs) a ≡ word_at is a
 unfolding word_at
 kept_word m is rs a kept view e = rw (e, ← view) (word_same (runs_byte m.runs) _ a kept.all.is)
 
 -- the index of the file at a place
-pub runs_are : (all kept : List (List Run)) (n k : _) (r rs : List Run) → all ≡ kept → n ≡ k → r ≡ get_or all n r → rs ≡ r → rs ≡ get_or kept k rs
-runs_are all kept n k r rs a b c d = subst (λ x. rs ≡ get_or kept k x) (sym d) (d ∙ (c ∙ (ap (λ x. get_or x n r) a ∙ ap (λ i. get_or kept i r) b)))
+pub runs_are : (all kept : List (List Run)) (n k : _) (r rs : List Run) → all ≡ kept → n ≡ k
+    → r ≡ get_or all n r → rs ≡ r → rs ≡ get_or kept k rs
+runs_are all kept n k r rs a b c d =
+    subst (λ x. rs ≡ get_or kept k x) (sym d)
+    (d ∙ (c ∙ (ap (λ x. get_or x n r) a ∙ ap (λ i. get_or kept i r) b)))
 
-module _ (m : Inside) (is : List Image) (rs : List Run) (k : ℕ) (kept : AreStoredFiles m) (view : m.images ≡ is) (lt : k < length is) (e : rs ≡ get_or m.own k rs) where
+module _ (m : Inside) (is : List Image) (rs : List Run) (k : ℕ) (kept : AreStoredFiles m)
+    (view : m.images ≡ is) (lt : k < length is) (e : rs ≡ get_or m.own k rs) where
   within : k < length m.images
   within = subst (λ (xs : List Image). k < length xs) (sym view) lt
 
   pub own_apart : AllPairs IsRunBefore rs
   own_apart = rw e ((kept.each k rs no_image within).apart)
 
-  pub own_word : (a : ℕ) → option_map (λ i. owns i a) (slice_get is k) ≡ Some (is_some (word_by (runs_byte rs) a))
+  pub own_word : (a : ℕ) → option_map (λ i. owns i a) (slice_get is k)
+      ≡ Some (is_some (word_by (runs_byte rs) a))
   unfolding owns
   own_word a =
       let image : Image = get_or is k no_image in
-      let same : get_or m.images k no_image ≡ image = ap (λ (xs : List Image). get_or xs k no_image) view in
-      let kept_is : IsByteIndex (get_or m.own k rs) (image_byte image) = subst (λ i. IsByteIndex (get_or m.own k rs) (image_byte i)) same (kept.each k rs no_image within) in
-      let at : IsByteIndex rs (image_byte image) = subst (λ r. IsByteIndex r (image_byte image)) (sym e) kept_is in
-      ap (option_map (λ i. owns i a)) (slice_get-get_or is k no_image lt) ∙ ap (λ w. Some (is_some w)) (sym (word_same (runs_byte rs) (image_byte image) a at.is))
+      let same : get_or m.images k no_image ≡ image =
+      ap (λ (xs : List Image). get_or xs k no_image) view in
+      let kept_is : IsByteIndex (get_or m.own k rs) (image_byte image) =
+      subst (λ i. IsByteIndex (get_or m.own k rs) (image_byte i)) same
+      (kept.each k rs no_image within) in
+      let at : IsByteIndex rs (image_byte image) =
+      subst (λ r. IsByteIndex r (image_byte image)) (sym e) kept_is in
+      ap (option_map (λ i. owns i a)) (slice_get-get_or is k no_image lt)
+      ∙ ap (λ w. Some (is_some w)) (sym (word_same (runs_byte rs) (image_byte image) a at.is))
 
 -- a word ends below the end
-pub within_end : (byte : ℕ → Option ℕ) (a : ℕ) (o : Option ℕ) → a < 2 ^ 32 → o ≡ word_by byte a → IfSome o (λ _. a + 4 ≤ end)
+pub within_end : (byte : ℕ → Option ℕ) (a : ℕ) (o : Option ℕ) → a < 2 ^ 32 → o ≡ word_by byte a
+    → IfSome o (λ _. a + 4 ≤ end)
 within_end byte a None below e = tt
 within_end byte a (Some w) below e = ⊎_elim
     (λ (even : (a % 4) ≡ 0). ⊎_elim
@@ -52,11 +67,15 @@ within_end byte a (Some w) below e = ⊎_elim
     (λ (ne : eqb a end ≡ false). let h = eqb-false a end ne in omega arith)
     (cases_Bool (eqb a end)))
     (λ (odd : (a % 4) ≡ 0 → ⊥). absurd (none-some w (sym (e ∙ rw (ne_eqb (a % 4) 0 odd) refl))))
-    (⊎_elim (λ (e : eqb (a % 4) 0 ≡ true). inl (eqb-true (a % 4) 0 e)) (λ (e : eqb (a % 4) 0 ≡ false). inr (eqb-false (a % 4) 0 e)) (cases_Bool (eqb (a % 4) 0)))
+    (⊎_elim (λ (e : eqb (a % 4) 0 ≡ true). inl (eqb-true (a % 4) 0 e))
+    (λ (e : eqb (a % 4) 0 ≡ false). inr (eqb-false (a % 4) 0 e)) (cases_Bool (eqb (a % 4) 0)))
 
 -- the files that are made
-pub is_kept : (m : Inside) (is js : List Image) (rs : List Run) (own : List (List Run)) → is ≡ m.images → js ≡ m.images → m.runs ≡ rs → m.own ≡ own
-    → IsByteIndex rs (code_byte is) → ((k : ℕ) (r : List Run) (i : Image) → k < length js → IsByteIndex (get_or own k r) (image_byte (get_or js k i))) → length own ≡ length js
+pub is_kept : (m : Inside) (is js : List Image) (rs : List Run) (own : List (List Run))
+    → is ≡ m.images → js ≡ m.images → m.runs ≡ rs → m.own ≡ own
+    → IsByteIndex rs (code_byte is)
+    → ((k : ℕ) (r : List Run) (i : Image) → k < length js
+    → IsByteIndex (get_or own k r) (image_byte (get_or js k i))) → length own ≡ length js
     → All IsImage is → ((a b : ℕ) → code_byte is a ≡ Some b → b < 256) → AreStoredFiles m
 is_kept m is js rs own a b c d all each count images bytes = record {
   all = rw (c, ← a) all;
@@ -68,19 +87,29 @@ is_kept m is js rs own a b c d all each count images bytes = record {
 
 -- ---- the words of files
 
-little_below : (w x y z : ℕ) → w < 256 → x < 256 → y < 256 → z < 256 → w + 256 * x + 65536 * y + 16777216 * z < 2 ^ 32
+little_below : (w x y z : ℕ) → w < 256 → x < 256 → y < 256 → z < 256
+    → w + 256 * x + 65536 * y + 16777216 * z < 2 ^ 32
 little_below w x y z a b c d = omega arith
 
-little_some : (a b c d : Option ℕ) (n : ℕ) → little_endian a b c d ≡ Some n → ((w : ℕ) → a ≡ Some w → w < 256) → ((w : ℕ) → b ≡ Some w → w < 256) → ((w : ℕ) → c ≡ Some w → w < 256) → ((w : ℕ) → d ≡ Some w → w < 256)
+little_some : (a b c d : Option ℕ) (n : ℕ) → little_endian a b c d ≡ Some n
+    → ((w : ℕ) → a ≡ Some w → w < 256) → ((w : ℕ) → b ≡ Some w → w < 256)
+    → ((w : ℕ) → c ≡ Some w → w < 256) → ((w : ℕ) → d ≡ Some w → w < 256)
     → (n < 2 ^ 32) × (w : ℕ) × (a ≡ Some w)
 little_some None b c d n e = absurd (none-some n e)
 little_some (Some w) None c d n e = absurd (none-some n e)
 little_some (Some w) (Some x) None d n e = absurd (none-some n e)
 little_some (Some w) (Some x) (Some y) None n e = absurd (none-some n e)
-little_some (Some w) (Some x) (Some y) (Some z) n e = λ a b c d. (subst (λ m. m < 2 ^ 32) (same_Some _ n e) (little_below w x y z (a w refl) (b x refl) (c y refl) (d z refl)), w, refl)
+little_some (Some w) (Some x) (Some y) (Some z) n e = λ a b c d. (
+  subst (λ m. m < 2 ^ 32) (same_Some _ n e)
+      (little_below w x y z (a w refl) (b x refl) (c y refl) (d z refl)),
+  w,
+  refl,
+)
 
 -- where a word stands
-pub word_where : (byte : ℕ → Option ℕ) (a w : ℕ) → word_by byte a ≡ Some w → ((a % 4) ≡ 0) × (a ≡ end → ⊥) × (little_endian (byte a) (byte (a + 1)) (byte (a + 2)) (byte (a + 3)) ≡ Some w)
+pub word_where : (byte : ℕ → Option ℕ) (a w : ℕ) → word_by byte a ≡ Some w
+    → ((a % 4) ≡ 0) × (a ≡ end → ⊥)
+    × (little_endian (byte a) (byte (a + 1)) (byte (a + 2)) (byte (a + 3)) ≡ Some w)
 word_where byte a w e = ⊎_elim
     (λ (even : eqb (a % 4) 0 ≡ true). ⊎_elim
     (λ (here : eqb a end ≡ true). absurd (none-some w (rw (even, here) at e)))
@@ -90,14 +119,17 @@ word_where byte a w e = ⊎_elim
     (cases_Bool (eqb (a % 4) 0))
 
 -- a word ends below the end, and is below 2 ^ 32
-pub words_are : (m : Inside) (is : List Image) → AreStoredFiles m → m.images ≡ is → (a w : ℕ) → word_at is a ≡ Some w → (a + 4 ≤ end) × (w < 2 ^ 32)
+pub words_are : (m : Inside) (is : List Image) → AreStoredFiles m → m.images ≡ is → (a w : ℕ)
+    → word_at is a ≡ Some w → (a + 4 ≤ end) × (w < 2 ^ 32)
 unfolding word_at
 words_are m is kept view a w e =
     let bytes : (x b : ℕ) → code_byte is x ≡ Some b → b < 256 = rw (← view) kept.bytes in
     let images : All IsImage is = rw (← view) kept.images in
     let t = word_where (code_byte is) a w e in
-    let some = little_some (code_byte is a) (code_byte is (a + 1)) (code_byte is (a + 2)) (code_byte is (a + 3)) w t.2 (bytes a) (bytes (a + 1)) (bytes (a + 2)) (bytes (a + 3)) in
-    let below : a < 2 ^ 32 = byte_below is a some.1 images (has_found (λ i. image_byte i a) is some.1 some.2) in
+    let some = little_some (code_byte is a) (code_byte is (a + 1)) (code_byte is (a + 2))
+    (code_byte is (a + 3)) w t.2 (bytes a) (bytes (a + 1)) (bytes (a + 2)) (bytes (a + 3)) in
+    let below : a < 2 ^ 32 = byte_below is a some.1 images
+    (has_found (λ i. image_byte i a) is some.1 some.2) in
     let even : (a % 4) ≡ 0 = t.0 in
     let ne : a ≡ end → ⊥ = t.1 in
     (omega arith, some.0)

@@ -10,11 +10,32 @@ use Rattle.code_map.specs.Words.{owns, word_at}
 
 -- `addi x5,x0,1` and `ecall` at 0x1000, and four bytes of memory behind them
 abbrev one : Image
-one = record { entry = 0x1000; segments = record { address = 0x1000; size = 12; bytes = 0x93 ∷ 2 ∷ 0x10 ∷ 0 ∷ 0x73 ∷ 0 ∷ 0 ∷ 0 ∷ []; executable = true } ∷ []; symbols = record { name = 97 ∷ []; value = 0x1000 } ∷ record { name = 97 ∷ []; value = 0x1004 } ∷ [] }
+one = record {
+  entry = 0x1000;
+  segments =
+      record {
+        address = 0x1000;
+        size = 12;
+        bytes = 0x93 ∷ 2 ∷ 0x10 ∷ 0 ∷ 0x73 ∷ 0 ∷ 0 ∷ 0 ∷ [];
+        executable = true;
+      } ∷ [];
+  symbols =
+      record { name = 97 ∷ []; value = 0x1000 } ∷ record { name = 97 ∷ []; value = 0x1004 } ∷ [];
+}
 
 -- the same in two segments that adjoin, with another third byte
 abbrev two : Image
-two = record { entry = 0x1000; segments = record { address = 0x1000; size = 6; bytes = 0x93 ∷ 2 ∷ 0x20 ∷ 0 ∷ 0x73 ∷ 0 ∷ []; executable = true } ∷ record { address = 0x1006; size = 2; bytes = 0 ∷ 0 ∷ []; executable = true } ∷ []; symbols = [] }
+two = record {
+  entry = 0x1000;
+  segments =
+      record {
+        address = 0x1000;
+        size = 6;
+        bytes = 0x93 ∷ 2 ∷ 0x20 ∷ 0 ∷ 0x73 ∷ 0 ∷ [];
+        executable = true;
+      } ∷ record { address = 0x1006; size = 2; bytes = 0 ∷ 0 ∷ []; executable = true } ∷ [];
+  symbols = [];
+}
 
 word_one : word_at (one ∷ []) 0x1000 ≡ Some 0x00100293
 unfolding word_at
@@ -46,6 +67,7 @@ address_with_offset : address_of (record { 0 = 1 }) one.symbols (Named (97 ∷ [
 unfolding address_of value_of
 address_with_offset = refl
 
-unknown_symbol : address_of (record { 0 = 1 }) one.symbols (Named (99 ∷ []) 0) ≡ Err (UnknownSymbol (record { 0 = 1 }) (99 ∷ []))
+unknown_symbol : address_of (record { 0 = 1 }) one.symbols (Named (99 ∷ []) 0)
+    ≡ Err (UnknownSymbol (record { 0 = 1 }) (99 ∷ []))
 unfolding address_of value_of place_text
 unknown_symbol = refl

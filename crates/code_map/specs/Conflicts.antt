@@ -1,5 +1,7 @@
--- Addresses at which files have different code bytes. Tasks that name one file have one image, so they never do.
-use Rattle.std.specs.Prelude.{ℕ, ◌^◌, ◌==◌, Bool, false, not, List, zero, suc, Option, Some, None, if◌then◌else◌}
+-- Addresses at which files have different code bytes. Tasks that name one file have one image, so
+-- they never do.
+use Rattle.std.specs.Prelude.{ℕ, ◌^◌, ◌==◌, Bool, false, not, List, zero, suc, Option, Some, None}
+use Rattle.std.specs.Prelude.{if◌then◌else◌}
 use Rattle.std.specs.Option.{option_or}
 use Rattle.std.specs.List.{list_any}
 use Rattle.crpd_base.specs.declared.data.Image.{Image}

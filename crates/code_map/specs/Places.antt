@@ -1,5 +1,6 @@
 -- What a task's places stand for in its own file, and the plan of a task.
-use Rattle.std.specs.Prelude.{ℕ, ◌+◌, ◌^◌, ◌==◌, List, [], ◌∷◌, ◌++◌, codes, nat_lt, Option, Some, None, is_some, option_and_then, ok_or, Result, Ok, if◌then◌else◌}
+use Rattle.std.specs.Prelude.{ℕ, ◌+◌, ◌^◌, ◌==◌, List, [], ◌∷◌, ◌++◌, codes, nat_lt, Option, Some}
+use Rattle.std.specs.Prelude.{None, is_some, option_and_then, ok_or, Result, Ok, if◌then◌else◌}
 use Rattle.std.specs.Fmt.{decimal}
 use Rattle.crpd_base.specs.declared.data.Image.{Image}
 use Rattle.crpd_base.specs.declared.data.LoopAt.{LoopAt}
@@ -15,22 +16,26 @@ use Rattle.code_map.specs.declared.fault.MapError.TheVariants.{UnknownSymbol, En
 use Rattle.crpd_base.specs.Outcome.{◌>>=◌, ensure, each}
 use Rattle.code_map.specs.Values.{value_of}
 
--- how a place is told: its symbol, followed by `+` and the offset in decimal where the offset is not 0
+-- how a place is told: its symbol, followed by `+` and the offset in decimal where the offset is
+-- not 0
 unfoldable pub place_text : List ℕ → ℕ → List ℕ
 place_text name offset = if offset == 0 then name else name ++ codes "+" ++ decimal offset
 
 -- a value with an offset, where the sum is below 2 ^ 32
 abbrev pub value_with_offset : ℕ → ℕ → Option ℕ
-value_with_offset offset value = if nat_lt (value + offset) (2 ^ 32) then Some (value + offset) else None
+value_with_offset offset value =
+    if nat_lt (value + offset) (2 ^ 32) then Some (value + offset) else None
 
 -- a symbol's value with an offset, where the file has the symbol and the sum is below 2 ^ 32
 abbrev pub symbol_address : List Symbol → List ℕ → ℕ → Option ℕ
-symbol_address symbols name offset = option_and_then (value_with_offset offset) (value_of symbols name)
+symbol_address symbols name offset =
+    option_and_then (value_with_offset offset) (value_of symbols name)
 
 -- the address that a place of a task stands for
 unfoldable pub address_of : Task → List Symbol → Place → Result ℕ MapError
 address_of task symbols (Number address) = Ok address
-address_of task symbols (Named name offset) = ok_or (symbol_address symbols name offset) (UnknownSymbol task (place_text name offset))
+address_of task symbols (Named name offset) =
+    ok_or (symbol_address symbols name offset) (UnknownSymbol task (place_text name offset))
 
 -- the entry: where no place is given, the file's own
 unfoldable pub entry_of : Task → Image → Option Place → Result ℕ MapError
@@ -62,7 +67,8 @@ plan_of word task spec image = do
   Ok (record { entry = entry; stack = stack; global = global; loops = loops })
 
 -- the plans of the tasks from a number on, each with the image of its file
-unfoldable pub plans_of : (ℕ → Option ℕ) → ℕ → List TaskSpec → List Image → Result (List TaskPlan) MapError
+unfoldable pub plans_of : (ℕ → Option ℕ) → ℕ → List TaskSpec → List Image
+    → Result (List TaskPlan) MapError
 plans_of word n [] images = Ok []
 plans_of word n (t ∷ ts) [] = Ok []
 plans_of word n (t ∷ ts) (i ∷ is) = do

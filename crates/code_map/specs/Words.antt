@@ -1,5 +1,8 @@
--- The code of the tasks' files: its bytes and words, with the files' images and what the tasks' places stand for.
-use Rattle.std.specs.Prelude.{ℕ, ◌+◌, ◌-◌, ◌*◌, ◌%◌, ◌==◌, Bool, not, ◌&&◌, List, [], ◌∷◌, slice_get, nat_le, Option, None, is_some, option_map, option_and_then, if◌then◌else◌}
+-- The code of the tasks' files: its bytes and words, with the files' images and what the tasks'
+-- places stand for.
+use Rattle.std.specs.Prelude.{ℕ, ◌+◌, ◌-◌, ◌*◌, ◌%◌, ◌==◌, Bool, not, ◌&&◌, List, [], ◌∷◌}
+use Rattle.std.specs.Prelude.{slice_get, nat_le, Option, None, is_some, option_map, option_and_then}
+use Rattle.std.specs.Prelude.{if◌then◌else◌}
 use Rattle.std.specs.Option.{option_or}
 use Rattle.crpd_base.specs.declared.data.Image.{Image}
 use Rattle.crpd_base.specs.declared.data.Segment.{Segment}
@@ -37,11 +40,16 @@ code_byte images a = find_map (λ i. image_byte i a) images
 
 -- the number of four bytes, the lowest first, where all four are there
 abbrev pub little_endian : Option ℕ → Option ℕ → Option ℕ → Option ℕ → Option ℕ
-little_endian a b c d = option_and_then (λ w. option_and_then (λ x. option_and_then (λ y. option_map (λ z. w + 256 * x + 65536 * y + 16777216 * z) d) c) b) a
+little_endian a b c d =
+    option_and_then
+    (λ w. option_and_then (λ x.
+    option_and_then (λ y. option_map (λ z. w + 256 * x + 65536 * y + 16777216 * z) d) c) b) a
 
 -- the word of four bytes at an address that is a multiple of 4 and not the one at which jobs end
 abbrev pub word_by : (ℕ → Option ℕ) → ℕ → Option ℕ
-word_by byte a = if a % 4 == 0 && not (a == end) then little_endian (byte a) (byte (a + 1)) (byte (a + 2)) (byte (a + 3)) else None
+word_by byte a =
+    if a % 4 == 0 && not (a == end)
+    then little_endian (byte a) (byte (a + 1)) (byte (a + 2)) (byte (a + 3)) else None
 
 -- the word at an address
 unfoldable pub word_at : List Image → ℕ → Option ℕ

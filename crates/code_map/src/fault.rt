@@ -13,8 +13,8 @@ pub enum MapError {
     Memory,
     /// The least address at which two files have different code bytes.
     CodeConflict(u32),
-    /// A place of the task whose symbol its file lacks, or that lies at or past 2^32: the symbol, followed by `+`
-    /// and the offset in decimal where the offset is not 0.
+    /// A place of the task whose symbol its file lacks, or that lies at or past 2^32: the symbol,
+    /// followed by `+` and the offset in decimal where the offset is not 0.
     UnknownSymbol(Task, Text),
     /// The task's entry, at which no word stands.
     EntryOutside(Task, u32),

@@ -1,5 +1,6 @@
 // The tasks' files with the indexes of their code bytes.
-ghost use Rattle.std.specs.Prelude.{◌≡◌, ℕ, ◌+◌, ◌^◌, ◌<◌, ◌≤◌, length, slice_get, slice_index_or, option_map, is_some, All, List, Some, IfOk, IfSome};
+ghost use Rattle.std.specs.Prelude.{◌≡◌, ℕ, ◌+◌, ◌^◌, ◌<◌, ◌≤◌, length, slice_get, slice_index_or};
+ghost use Rattle.std.specs.Prelude.{option_map, is_some, All, List, Some, IfOk, IfSome};
 ghost use Rattle.crpd_base.specs.Images.{IsImage};
 ghost use Rattle.crpd_base.specs.declared.data.Image.{Image};
 ghost use Rattle.code_map.specs.declared.runs.Run.{Run};
@@ -51,7 +52,9 @@ fn own_index(alloc: Global, image: &Image) -> Result<Items<Run>, AllocError>
 fn own_indexes(alloc: Global, images: &[Image]) -> Result<Vec<Items<Run>>, AllocError>
     requires { All IsImage images.now }
     ensures count { IfOk result (λ v. length v.items ≡ length images.now) }
-    ensures each { IfOk result (λ v. (k : ℕ) (r : List Run) (i : Image) → k < length images.now → IsByteIndex (slice_index_or v.items k r) (image_byte (slice_index_or images.now k i))) }
+    ensures each { IfOk result
+        (λ v. (k : ℕ) (r : List Run) (i : Image) → k < length images.now
+        → IsByteIndex (slice_index_or v.items k r) (image_byte (slice_index_or images.now k i))) }
 {
     let mut own = Vec::new(alloc);
     for image in images {
@@ -99,7 +102,8 @@ impl Files {
     /// The least address at or after one at which a word stands wholly in the file at a place.
     pub(crate) fn next_own(&self, place: usize, from: u32) -> Option<u32>
         requires { place < length self.now }
-        ensures is { (i : Image) → slice_get self.now place ≡ Some i → IsNextOf (owns i) from result }
+        ensures is { (i : Image) → slice_get self.now place ≡ Some i
+            → IsNextOf (owns i) from result }
         ensures within { IfSome result (λ a. a + 4 ≤ end) }
     {
         let own = &self.own.as_slice()[place];

@@ -15,7 +15,8 @@ pub(crate) fn index(alloc: Global, images: &[Image]) -> Result<Joined, AllocErro
     requires { All IsImage images.now }
     ensures conflict { IfOk result (λ j. j.conflict ≡ first_conflict images.now) }
     ensures bytes { OnOk result ((a b : ℕ) → code_byte images.now a ≡ Some b → b < 256) }
-    ensures is { IfOk result (λ j. j.conflict ≡ None → IsByteIndex j.runs.items (code_byte images.now)) }
+    ensures is { IfOk result
+        (λ j. j.conflict ≡ None → IsByteIndex j.runs.items (code_byte images.now)) }
 {
     let pieces = pieces(alloc, images)?;
     join(alloc, &pieces)

@@ -1,5 +1,6 @@
 // The runs of pieces of code.
-ghost use Rattle.std.specs.Prelude.{◌≡◌, ◌≢◌, ℕ, ◌+◌, ◌<◌, ◌≤◌, ◌^◌, ◌++◌, ◌∷◌, [], length, slice_index, All, AllPairs, IfOk, OnOk, MatchOption, nat_le};
+ghost use Rattle.std.specs.Prelude.{◌≡◌, ◌≢◌, ℕ, ◌+◌, ◌<◌, ◌≤◌, ◌^◌, ◌++◌, ◌∷◌, [], length};
+ghost use Rattle.std.specs.Prelude.{slice_index, All, AllPairs, IfOk, OnOk, MatchOption, nat_le};
 ghost use Rattle.std.specs.Option.{option_or};
 ghost use Rattle.std.specs.List.Sorted.{IsNonDecreasingBy};
 ghost use Rattle.code_map.specs.Conflicts.{differ, disagree};
@@ -25,7 +26,8 @@ pub(crate) struct Joined {
 /// The place of the first byte that is not the other's at that place.
 fn first_difference(bytes: &[u8], others: &[u8]) -> Option<usize>
     ensures { MatchOption result
-        ((k : ℕ) → k < length bytes.now → k < length others.now → slice_index bytes.now k ≡ slice_index others.now k)
+        ((k : ℕ) → k < length bytes.now → k < length others.now
+        → slice_index bytes.now k ≡ slice_index others.now k)
         (λ i. IsFirstDifference bytes.now others.now i) }
 {
     for i in 0..bytes.len().min(others.len()) {
@@ -36,7 +38,8 @@ fn first_difference(bytes: &[u8], others: &[u8]) -> Option<usize>
     None
 }
 
-/// The least address at which a run and a piece that begins in it, or where it ends, have different bytes.
+/// The least address at which a run and a piece that begins in it, or where it ends, have different
+/// bytes.
 fn conflict_with(run: &Run, piece: &Piece) -> Option<u32>
     requires from { run.now.start ≤ piece.now.start }
     requires to { piece.now.start ≤ run_end run.now }
@@ -55,7 +58,8 @@ fn extended_run(run: Run, piece: &Piece) -> Result<Run, AllocError>
     requires from { run.start ≤ piece.now.start }
     requires to { piece.now.start ≤ run_end run }
     ensures start { IfOk result (λ r. r.start ≡ run.start) }
-    ensures bytes { IfOk result (λ r. (a : ℕ) → run_byte r a ≡ option_or (run_byte run a) (piece_byte piece.now a)) }
+    ensures bytes { IfOk result
+        (λ r. (a : ℕ) → run_byte r a ≡ option_or (run_byte run a) (piece_byte piece.now a)) }
 {
     let Run { start, bytes } = run;
     let mut bytes = bytes.into_vec();
@@ -109,7 +113,8 @@ fn add_to_last(
     Ok(None)
 }
 
-/// Adds the bytes of a piece that no run starts behind. The least address at which it differs from the runs.
+/// Adds the bytes of a piece that no run starts behind. The least address at which it differs from
+/// the runs.
 fn add(alloc: Global, runs: &mut Vec<Run>, piece: &Piece) -> Result<Option<u32>, AllocError>
     requires { TakesPiece runs.old.items piece.now }
     ensures { IfOk result (HasPiece runs.old.items piece.now runs.new.items) }
@@ -139,8 +144,10 @@ pub(crate) fn join(alloc: Global, pieces: &[Piece]) -> Result<Joined, AllocError
     requires ascending { IsNonDecreasingBy (λ p. p.start) pieces.now }
     requires below { All (λ p. p.start + length p.bytes.now ≤ 2 ^ 32) pieces.now }
     ensures apart { IfOk result (λ j. AllPairs IsRunBefore j.runs.items) }
-    ensures bytes { IfOk result (λ j. (a : ℕ) → runs_byte j.runs.items a ≡ find_map (λ p. piece_byte p a) pieces.now) }
-    ensures conflict { IfOk result (λ j. IsFirstPassing (λ a. disagree (λ p. piece_byte p a) pieces.now) j.conflict) }
+    ensures bytes { IfOk result
+        (λ j. (a : ℕ) → runs_byte j.runs.items a ≡ find_map (λ p. piece_byte p a) pieces.now) }
+    ensures conflict { IfOk result
+        (λ j. IsFirstPassing (λ a. disagree (λ p. piece_byte p a) pieces.now) j.conflict) }
 {
     let mut runs = Vec::new(alloc);
     let mut conflict = None;

@@ -1,5 +1,6 @@
 // The code of a task set.
-ghost use Rattle.std.specs.Prelude.{◌≡◌, ℕ, ◌+◌, ◌^◌, ◌<◌, ◌≤◌, length, slice_get, option_map, All, Some, IfSome};
+ghost use Rattle.std.specs.Prelude.{◌≡◌, ℕ, ◌+◌, ◌^◌, ◌<◌, ◌≤◌, length, slice_get, option_map, All};
+ghost use Rattle.std.specs.Prelude.{Some, IfSome};
 ghost use Rattle.crpd_base.specs.Images.{IsImage};
 ghost use Rattle.crpd_base.specs.declared.data.Image.{Image};
 ghost use Rattle.code_map.specs.NextPassing.{IsNextOf};
@@ -33,21 +34,24 @@ impl Model for CodeMap {
 }
 
 impl CodeMap {
-    /// The code of a task set whose tasks have these images, one each, in the order of the tasks: its words, and each
-    /// task's entry, stack, global and stated loops as addresses.
+    /// The code of a task set whose tasks have these images, one each, in the order of the tasks:
+    /// its words, and each task's entry, stack, global and stated loops as addresses.
     ///
-    /// An `Err` is the first refusal: `CodeConflict`, and then by task `UnknownSymbol` for the entry, the stack, the
-    /// global and each loop with its head and ranges, and `EntryOutside`. The images are dropped then. `Memory` may
-    /// come in place of any answer.
+    /// An `Err` is the first refusal: `CodeConflict`, and then by task `UnknownSymbol` for the
+    /// entry, the stack, the global and each loop with its head and ranges, and `EntryOutside`. The
+    /// images are dropped then. `Memory` may come in place of any answer.
     ///
-    /// The code bytes are the file bytes of executable segments. Files are told apart by their bytes alone: tasks that
-    /// name one file have equal images, which never conflict. An address is in bytes and below 2^32.
+    /// The code bytes are the file bytes of executable segments. Files are told apart by their
+    /// bytes alone: tasks that name one file have equal images, which never conflict. An address is
+    /// in bytes and below 2^32.
     ///
-    /// Time is linear in the bytes of code, and n log n in the segments and symbols; equal symbols of several images
-    /// are sorted once. The code map holds the code bytes twice beside the images.
+    /// Time is linear in the bytes of code, and n log n in the segments and symbols; equal symbols
+    /// of several images are sorted once. The code map holds the code bytes twice beside the
+    /// images.
     ///
-    /// Source: Tool Interface Standard, Executable and Linking Format, version 1.2, book I (p_vaddr, p_filesz, PF_X,
-    /// st_value), and the RISC-V unprivileged manual (instructions are little-endian words at multiples of 4).
+    /// Source: Tool Interface Standard, Executable and Linking Format, version 1.2, book I
+    /// (p_vaddr, p_filesz, PF_X, st_value), and the RISC-V unprivileged manual (instructions are
+    /// little-endian words at multiples of 4).
     #[tactic(auto, unfolding(crate::specs::Reading::code_of))]
     pub fn new(alloc: Global, set: &TaskSet, images: Vec<Image>) -> Result<Self, MapError>
         requires one { length images.items ≡ length set.now.tasks }
@@ -63,9 +67,9 @@ impl CodeMap {
         })
     }
 
-    /// The word at an address: a number of 32 bits whose lowest byte stands at the address. There is none where the
-    /// address is no multiple of 4, is 0xFFFFFFFC, or one of the four bytes is no code byte. Logarithmic in the
-    /// number of segments. It takes no memory.
+    /// The word at an address: a number of 32 bits whose lowest byte stands at the address. There
+    /// is none where the address is no multiple of 4, is 0xFFFFFFFC, or one of the four bytes is no
+    /// code byte. Logarithmic in the number of segments. It takes no memory.
     pub fn word(&self, address: u32) -> Option<u32>
         ensures is { result ≡ word_at self.now.images address }
         ensures within { IfSome result (λ _. address + 4 ≤ end) }
@@ -73,7 +77,8 @@ impl CodeMap {
         self.files.word(address)
     }
 
-    /// The plan of a task of the set: the addresses of its entry, stack, global and loops. In constant time.
+    /// The plan of a task of the set: the addresses of its entry, stack, global and loops. In
+    /// constant time.
     pub fn plan(&self, task: Task) -> &TaskPlan
         requires { task.0 < length self.now.plans }
         ensures { slice_get self.now.plans task.0 ≡ Some result.now }
@@ -82,21 +87,24 @@ impl CodeMap {
         &self.plans.as_slice()[place]
     }
 
-    /// Whether the word at an address stands wholly in the task's own file. Logarithmic in the number of its
-    /// segments. It takes no memory.
+    /// Whether the word at an address stands wholly in the task's own file. Logarithmic in the
+    /// number of its segments. It takes no memory.
     pub fn own(&self, task: Task, address: u32) -> bool
         requires { task.0 < length self.now.images }
-        ensures { option_map (λ i. owns i address) (slice_get self.now.images task.0) ≡ Some result }
+        ensures { option_map (λ i. owns i address) (slice_get self.now.images task.0)
+            ≡ Some result }
     {
         self.files.own(usize::from(task.0), address)
     }
 
-    /// The least address at or after one at which a word stands wholly in the task's own file, where there is one. So
-    /// the addresses of a task's own words come one after another. Logarithmic in the number of the file's segments,
-    /// and linear in those passed over. It takes no memory.
+    /// The least address at or after one at which a word stands wholly in the task's own file,
+    /// where there is one. So the addresses of a task's own words come one after another.
+    /// Logarithmic in the number of the file's segments, and linear in those passed over. It takes
+    /// no memory.
     pub fn next_own(&self, task: Task, from: u32) -> Option<u32>
         requires { task.0 < length self.now.images }
-        ensures is { (i : Image) → slice_get self.now.images task.0 ≡ Some i → IsNextOf (owns i) from result }
+        ensures is { (i : Image) → slice_get self.now.images task.0 ≡ Some i
+            → IsNextOf (owns i) from result }
         ensures within { IfSome result (λ a. a + 4 ≤ end) }
     {
         self.files.next_own(usize::from(task.0), from)
@@ -116,8 +124,8 @@ impl CodeMap {
         let _plans = &self.plans;
     }
 
-    /// Each image has its segments in the address space, apart from each other, and none with more bytes than its
-    /// size. In constant time.
+    /// Each image has its segments in the address space, apart from each other, and none with more
+    /// bytes than its size. In constant time.
     pub fn images_law(&self)
         ensures { All IsImage self.now.images }
     {

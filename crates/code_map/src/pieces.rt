@@ -17,7 +17,9 @@ pub(crate) struct Piece<'a> {
 /// Adds the pieces of a file.
 fn add_pieces<'a>(pieces: &mut Vec<Piece<'a>>, image: &'a Image) -> Result<(), AllocError>
     requires { All HasBytes pieces.old.items }
-    ensures same { IfOk result (λ _. map piece_content pieces.new.items ≡ map piece_content pieces.old.items ++ pieces_of image.now) }
+    ensures same { IfOk result
+        (λ _. map piece_content pieces.new.items
+        ≡ map piece_content pieces.old.items ++ pieces_of image.now) }
     ensures bytes { OnOk result (All HasBytes pieces.new.items) }
 {
     for segment in image.segments.as_slice() {
@@ -46,7 +48,8 @@ fn all_pieces(alloc: Global, images: &[Image]) -> Result<Vec<Piece<'_>>, AllocEr
 
 /// The pieces of files, ascending by their starts.
 pub(crate) fn pieces(alloc: Global, images: &[Image]) -> Result<Vec<Piece<'_>>, AllocError>
-    ensures same { IfOk result (λ v. IsPermutation (all_pieces images.now) (map piece_content v.items)) }
+    ensures same { IfOk result
+        (λ v. IsPermutation (all_pieces images.now) (map piece_content v.items)) }
     ensures bytes { IfOk result (λ v. All HasBytes v.items) }
     ensures ascending { IfOk result (λ v. IsNonDecreasingBy (λ p. p.start) v.items) }
 {

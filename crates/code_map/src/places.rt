@@ -8,7 +8,8 @@ use crate::symbols::Names;
 use crpd_base::{Image, Items, LoopAt, LoopSpec, Place, Task, Text};
 use std::alloc::{AllocError, Global};
 
-/// How a place is told: its symbol, followed by `+` and the offset in decimal where the offset is not 0.
+/// How a place is told: its symbol, followed by `+` and the offset in decimal where the offset is
+/// not 0.
 #[tactic(auto, unfolding(crate::specs::Places::place_text))]
 fn place_text(alloc: Global, name: &str, offset: u32) -> Result<Text, AllocError>
     ensures { IfOk result (λ t. t ≡ places.place_text name.now offset) }
@@ -86,7 +87,8 @@ fn ranges_of(
     names: &Names,
     ranges: &[(Place, Place)],
 ) -> Result<Vec<(u32, u32)>, MapError>
-    ensures { Gives MapError.Memory (λ v. v.items) result (each (places.range_of task names.now) ranges.now) }
+    ensures { Gives MapError.Memory (λ v. v.items) result
+        (each (places.range_of task names.now) ranges.now) }
 {
     let mut found = Vec::new(alloc);
     for range in ranges {
@@ -117,7 +119,8 @@ pub(crate) fn loops_of(
     names: &Names,
     specs: &[LoopSpec],
 ) -> Result<Vec<LoopAt>, MapError>
-    ensures { Gives MapError.Memory (λ v. v.items) result (each (places.loop_of task names.now) specs.now) }
+    ensures { Gives MapError.Memory (λ v. v.items) result
+        (each (places.loop_of task names.now) specs.now) }
 {
     let mut loops = Vec::new(alloc);
     for spec in specs {

@@ -1,5 +1,6 @@
 // The plans of tasks.
-ghost use Rattle.std.specs.Prelude.{◌≡◌, ◌<◌, ◌≤◌, length, slice_index_or, IfOk, IsTrue, List, vec_len};
+ghost use Rattle.std.specs.Prelude.{◌≡◌, ◌<◌, ◌≤◌, length, slice_index_or, IfOk, IsTrue, List};
+ghost use Rattle.std.specs.Prelude.{vec_len};
 ghost use Rattle.crpd_base.specs.declared.data.Symbol.{Symbol};
 ghost use Rattle.crpd_base.specs.Outcome.{Gives};
 ghost use Rattle.code_map.specs.Places as places;
@@ -23,7 +24,8 @@ fn plan_of(
     files: &Files,
 ) -> Result<TaskPlan, MapError>
     requires { names.now ≡ image.now.symbols }
-    ensures { Gives MapError.Memory (λ x. x) result (places.plan_of (word_at files.now) task spec.now image.now) }
+    ensures { Gives MapError.Memory (λ x. x) result
+        (places.plan_of (word_at files.now) task spec.now image.now) }
 {
     let entry = entry_of(alloc, task, names, image, &spec.entry)?;
     let stack = address_of(alloc, task, names, &spec.stack)?;
@@ -40,15 +42,16 @@ fn plan_of(
     })
 }
 
-/// The place of the names of these symbols among the known ones, to which they are added where they are not there, so
-/// that they are made once for all tasks of a file.
+/// The place of the names of these symbols among the known ones, to which they are added where they
+/// are not there, so that they are made once for all tasks of a file.
 fn place_of<'a>(
     alloc: Global,
     known: &mut Vec<Names<'a>>,
     symbols: &'a [Symbol],
 ) -> Result<usize, AllocError>
     ensures within { IfOk result (λ p. p < vec_len known.new) }
-    ensures is { IfOk result (λ p. (d : List Symbol) → slice_index_or known.new.items p d ≡ symbols.now) }
+    ensures is { IfOk result
+        (λ p. (d : List Symbol) → slice_index_or known.new.items p d ≡ symbols.now) }
 {
     for (place, names) in known.iter().enumerate() {
         if names.are_of(symbols) {
@@ -68,7 +71,8 @@ pub(crate) fn plans_of(
 ) -> Result<Vec<TaskPlan>, MapError>
     requires one { length files.now ≡ length tasks.now }
     requires few { length tasks.now ≤ 256 }
-    ensures is { Gives MapError.Memory (λ v. v.items) result (places.plans_of (word_at files.now) 0 tasks.now files.now) }
+    ensures is { Gives MapError.Memory (λ v. v.items) result
+        (places.plans_of (word_at files.now) 0 tasks.now files.now) }
     ensures count { IfOk result (λ v. vec_len v ≡ length tasks.now) }
 {
     let images = files.images();

@@ -1,5 +1,7 @@
-// Code bytes kept as runs of bytes at successive addresses, so that a byte is found by the starts of the runs.
-ghost use Rattle.std.specs.Prelude.{◌≡◌, ℕ, ◌+◌, ◌*◌, ◌<◌, ◌≤◌, length, slice_index, AllPairs, Some, IfSome};
+// Code bytes kept as runs of bytes at successive addresses, so that a byte is found by the starts
+// of the runs.
+ghost use Rattle.std.specs.Prelude.{◌≡◌, ℕ, ◌+◌, ◌*◌, ◌<◌, ◌≤◌, length, slice_index, AllPairs};
+ghost use Rattle.std.specs.Prelude.{Some, IfSome};
 ghost use Rattle.std.specs.List.{AllWithin};
 ghost use Rattle.code_map.specs.Words.{little_endian, word_by, end};
 ghost use Rattle.code_map.specs.Inner.NextPassing.{IsNextAddress};
@@ -30,7 +32,8 @@ fn runs_up_to(runs: &[Run], address: u32) -> usize
 /// The number of four bytes, the lowest first.
 fn number(bytes: &[u8]) -> u32
     requires { length bytes.now ≡ 4 }
-    ensures { result ≡ slice_index bytes.now 0 + 256 * slice_index bytes.now 1 + 65536 * slice_index bytes.now 2 + 16777216 * slice_index bytes.now 3 }
+    ensures { result ≡ slice_index bytes.now 0 + 256 * slice_index bytes.now 1
+        + 65536 * slice_index bytes.now 2 + 16777216 * slice_index bytes.now 3 }
 {
     let (low, high) = (u32::from(bytes[0]), u32::from(bytes[1]));
     let (third, fourth) = (u32::from(bytes[2]), u32::from(bytes[3]));
@@ -40,7 +43,8 @@ fn number(bytes: &[u8]) -> u32
 /// The number of the four bytes of a run from an address on.
 fn number_in(run: &Run, address: u32) -> Option<u32>
     requires { run.now.start ≤ address }
-    ensures { result ≡ little_endian (run_byte run.now address) (run_byte run.now (address + 1)) (run_byte run.now (address + 2)) (run_byte run.now (address + 3)) }
+    ensures { result ≡ little_endian (run_byte run.now address) (run_byte run.now (address + 1))
+        (run_byte run.now (address + 2)) (run_byte run.now (address + 3)) }
 {
     let bytes = run.bytes.as_slice();
     let from = (address - run.start) as usize;

@@ -10,8 +10,8 @@ use std::alloc::{AllocError, Global};
 use std::collections::BTreeMap;
 use std::marker::Model;
 
-/// The values of a file's symbols by their names: of symbols of one name that of the first. A contract sees it as the
-/// symbols.
+/// The values of a file's symbols by their names: of symbols of one name that of the first. A
+/// contract sees it as the symbols.
 #[derive(Drop)]
 pub(crate) struct Names<'a> {
     symbols: &'a [Symbol],
@@ -30,12 +30,14 @@ impl<'a> Model for Names<'a> {
 
     ghost view = { λ n. n.symbols.now };
 
-    ghost invariant = { λ n. (name : List ℕ) → tree.get_by (λ k. slice_cmp nat_cmp name k.now) n.values ≡ value_of n.symbols.now name };
+    ghost invariant = { λ n. (name : List ℕ)
+        → tree.get_by (λ k. slice_cmp nat_cmp name k.now) n.values ≡ value_of n.symbols.now name };
 }
 
 /// The value of the first symbol of each name.
 fn values(alloc: Global, symbols: &[Symbol]) -> Result<BTreeMap<&[u8], u32>, AllocError>
-    ensures { IfOk result (λ m. (name : List ℕ) → tree.get_by (λ k. slice_cmp nat_cmp name k.now) m ≡ value_of symbols.now name) }
+    ensures { IfOk result (λ m. (name : List ℕ)
+        → tree.get_by (λ k. slice_cmp nat_cmp name k.now) m ≡ value_of symbols.now name) }
 {
     let mut values = BTreeMap::new(alloc);
     for symbol in symbols {

@@ -1,12 +1,15 @@
 -- Lists: what is in them and where, and one element more.
-use Rattle.std.proofs.Common.{◌≡◌, ◌≢◌, ◌⊎◌, ℕ, zero, suc, ◌+◌, ◌<◌, ◌≤◌, List, [], ◌∷◌, ◌++◌, map, length, get_or, slice_get, Some, Contains, refl, sym, ap, ◌∙◌, subst, inl, inr, ⊎_elim, arith}
+use Rattle.std.proofs.Common.{◌≡◌, ◌≢◌, ◌⊎◌, ℕ, zero, suc, ◌+◌, ◌<◌, ◌≤◌, List, [], ◌∷◌, ◌++◌, map}
+use Rattle.std.proofs.Common.{length, get_or, slice_get, Some, Contains, refl, sym, ap, ◌∙◌, subst}
+use Rattle.std.proofs.Common.{inl, inr, ⊎_elim, arith}
 use Rattle.std.specs.Prelude.{All, AllPairs}
 use Rattle.std.specs.List.{range_with_len}
 use Rattle.std.proofs.Math.Seq.{get_or-append_seam}
 use Rattle.std.proofs.lemmas.Bool.{cases_eq}
 use Rattle.std.proofs.lemmas.List.{get_or_append_left}
 use Rattle.std.proofs.lemmas.List.FromFn.{map-range_with_len_more}
-use Rattle.std.proofs.lemmas.Option.{same_Some, slice_get_within, slice_get-get_or, get_or_from_slice_get}
+use Rattle.std.proofs.lemmas.Option.{same_Some, slice_get_within, slice_get-get_or}
+use Rattle.std.proofs.lemmas.Option.{get_or_from_slice_get}
 
 -- the first is in the list
 pub at_head : {X : Type 0} (xs : List X) (x y : X) → y ≡ x → Contains (y ∷ xs) x
@@ -17,7 +20,8 @@ pub at_rest : {X : Type 0} (xs : List X) (x y : X) → Contains xs x → Contain
 at_rest xs x y (k, lt, e) = (suc k, omega arith, e)
 
 -- what is in a list is the first or in the rest
-pub head_or_rest : {X : Type 0} (xs : List X) (x y : X) → Contains (y ∷ xs) x → (y ≡ x) ⊎ Contains xs x
+pub head_or_rest : {X : Type 0} (xs : List X) (x y : X) → Contains (y ∷ xs) x
+    → (y ≡ x) ⊎ Contains xs x
 head_or_rest xs x y (zero, lt, e) = inl e
 head_or_rest xs x y (suc k, lt, e) = inr (k, omega arith, e)
 
@@ -30,31 +34,37 @@ pub in_one : {X : Type 0} (x y : X) → Contains (y ∷ []) x → y ≡ x
 in_one x y c = ⊎_elim (λ e. e) (λ c. absurd (in_none x c)) (head_or_rest [] x y c)
 
 -- what is in a list has a place
-pub contains_at : {X : Type 0} (xs : List X) (x : X) → Contains xs x → (k : ℕ) × (slice_get xs k ≡ Some x)
+pub contains_at : {X : Type 0} (xs : List X) (x : X) → Contains xs x
+    → (k : ℕ) × (slice_get xs k ≡ Some x)
 contains_at xs x (k, lt, e) = (k, slice_get-get_or xs k x lt ∙ ap Some e)
 
 -- what stands at a place is in the list
-pub at_contains : {X : Type 0} (xs : List X) (k : ℕ) (x : X) → slice_get xs k ≡ Some x → Contains xs x
+pub at_contains : {X : Type 0} (xs : List X) (k : ℕ) (x : X) → slice_get xs k ≡ Some x
+    → Contains xs x
 at_contains xs k x e = (k, slice_get_within xs k x e, get_or_from_slice_get xs k x x e)
 
 -- the places of the first of two lists
-pub slice_get_left : {X : Type 0} (xs ys : List X) (k : ℕ) → k < length xs → slice_get (xs ++ ys) k ≡ slice_get xs k
+pub slice_get_left : {X : Type 0} (xs ys : List X) (k : ℕ) → k < length xs
+    → slice_get (xs ++ ys) k ≡ slice_get xs k
 slice_get_left [] ys k lt = absurd (omega arith)
 slice_get_left (x ∷ xs) ys zero lt = refl
 slice_get_left (x ∷ xs) ys (suc k) lt = slice_get_left xs ys k (omega arith)
 
 -- something stands at each place
-pub some_at : {X : Type 0} (xs : List X) (k : ℕ) → k < length xs → (x : X) × (slice_get xs k ≡ Some x)
+pub some_at : {X : Type 0} (xs : List X) (k : ℕ) → k < length xs
+    → (x : X) × (slice_get xs k ≡ Some x)
 some_at [] k lt = absurd (omega arith)
 some_at (x ∷ xs) zero lt = (x, refl)
 some_at (x ∷ xs) (suc k) lt = some_at xs k (omega arith)
 
 -- one more at the end: what is at a place was there, or is the one more
-pub at_more : {X : Type 0} (xs : List X) (y : X) (k : ℕ) (x : X) → slice_get (xs ++ y ∷ []) k ≡ Some x → (slice_get xs k ≡ Some x) ⊎ ((k ≡ length xs) × (y ≡ x))
+pub at_more : {X : Type 0} (xs : List X) (y : X) (k : ℕ) (x : X)
+    → slice_get (xs ++ y ∷ []) k ≡ Some x → (slice_get xs k ≡ Some x) ⊎ ((k ≡ length xs) × (y ≡ x))
 at_more [] y zero x e = inr (refl, same_Some y x e)
 at_more [] y (suc k) x e = cc
 at_more (z ∷ xs) y zero x e = inl e
-at_more (z ∷ xs) y (suc k) x e = ⊎_elim (λ o. inl o) (λ n. inr (omega (arith, n.0), n.1)) (at_more xs y k x e)
+at_more (z ∷ xs) y (suc k) x e =
+    ⊎_elim (λ o. inl o) (λ n. inr (omega (arith, n.0), n.1)) (at_more xs y k x e)
 
 -- one more at the end stands there
 pub at_end : {X : Type 0} (xs : List X) (y : X) → slice_get (xs ++ y ∷ []) (length xs) ≡ Some y
@@ -62,52 +72,66 @@ at_end [] y = refl
 at_end (x ∷ xs) y = at_end xs y
 
 -- what stood at a place stands there after one more
-pub at_kept : {X : Type 0} (xs : List X) (x : X) (k : ℕ) (y : X) → slice_get xs k ≡ Some y → slice_get (xs ++ x ∷ []) k ≡ Some y
+pub at_kept : {X : Type 0} (xs : List X) (x : X) (k : ℕ) (y : X) → slice_get xs k ≡ Some y
+    → slice_get (xs ++ x ∷ []) k ≡ Some y
 at_kept [] x k y e = absurd (let lt = slice_get_within [] k y e in omega arith)
 at_kept (z ∷ xs) x zero y e = e
 at_kept (z ∷ xs) x (suc k) y e = at_kept xs x k y e
 
 -- what is in a list is, mapped, in the mapped list
-pub contains_map : {X Y : Type 0} (f : X → Y) (xs : List X) (x : X) → Contains xs x → Contains (map f xs) (f x)
+pub contains_map : {X Y : Type 0} (f : X → Y) (xs : List X) (x : X) → Contains xs x
+    → Contains (map f xs) (f x)
 contains_map f [] x (k, lt, e) = absurd (omega arith)
 contains_map f (y ∷ xs) x (zero, lt, e) = (0, omega arith, ap f e)
 contains_map f (y ∷ xs) x (suc k, lt, e) =
     let r = contains_map f xs x (k, omega arith, e) in (suc r.0, omega (arith, r.1), r.2)
 
 -- what is in a mapped list comes from the list
-pub contains_mapped : {X Y : Type 0} (f : X → Y) (xs : List X) (y : Y) → Contains (map f xs) y → (x : X) × Contains xs x × (f x ≡ y)
+pub contains_mapped : {X Y : Type 0} (f : X → Y) (xs : List X) (y : Y) → Contains (map f xs) y
+    → (x : X) × Contains xs x × (f x ≡ y)
 contains_mapped f [] y (k, lt, e) = absurd (omega arith)
 contains_mapped f (x ∷ xs) y (zero, lt, e) = (x, (0, omega arith, refl), e)
 contains_mapped f (x ∷ xs) y (suc k, lt, e) =
-    let r = contains_mapped f xs y (k, omega arith, e) in (r.0, (suc r.1.0, omega (arith, r.1.1), r.1.2), r.2)
+    let r = contains_mapped f xs y (k, omega arith, e) in
+    (r.0, (suc r.1.0, omega (arith, r.1.1), r.1.2), r.2)
 
 -- what is in a list of at most two stands at the first or the second place
-pub first_or_second : {X : Type 0} (xs : List X) (v : X) → length xs ≤ 2 → Contains xs v → (slice_get xs 0 ≡ Some v) ⊎ (slice_get xs 1 ≡ Some v)
+pub first_or_second : {X : Type 0} (xs : List X) (v : X) → length xs ≤ 2 → Contains xs v
+    → (slice_get xs 0 ≡ Some v) ⊎ (slice_get xs 1 ≡ Some v)
 first_or_second xs v few (zero, lt, e) = inl (slice_get-get_or xs 0 v lt ∙ ap Some e)
 first_or_second xs v few (suc zero, lt, e) = inr (slice_get-get_or xs 1 v lt ∙ ap Some e)
 first_or_second xs v few (suc (suc k), lt, e) = absurd (omega arith)
 
 -- what holds of each element, by its place, holds after one more
-pub pushed_each : {X : Type 0} (P : ℕ → X → Type 0) (xs new : List X) (x d : X) (k : ℕ) → new ≡ xs ++ x ∷ [] → length xs ≡ k
+pub pushed_each : {X : Type 0} (P : ℕ → X → Type 0) (xs new : List X) (x d : X) (k : ℕ)
+    → new ≡ xs ++ x ∷ [] → length xs ≡ k
     → ((y : ℕ) → y < k → P y (get_or xs y d)) → P k x → (y : ℕ) → y < k + 1 → P y (get_or new y d)
 pushed_each P xs new x d k is count each here y lt =
     ⊎_elim
     (λ (e : y ≡ k).
-    let last : get_or new y d ≡ x = ap (λ l. get_or l y d) is ∙ ap (λ j. get_or (xs ++ x ∷ []) j d) (e ∙ sym count) ∙ get_or-append_seam xs x [] d in
+    let last : get_or new y d ≡ x = ap (λ l. get_or l y d) is
+    ∙ ap (λ j. get_or (xs ++ x ∷ []) j d) (e ∙ sym count) ∙ get_or-append_seam xs x [] d in
     subst (P y) (sym last) (subst (λ j. P j x) (sym e) here))
     (λ (ne : y ≢ k).
-    let before : get_or new y d ≡ get_or xs y d = ap (λ l. get_or l y d) is ∙ get_or_append_left xs (x ∷ []) d y (omega arith) in
+    let before : get_or new y d ≡ get_or xs y d =
+    ap (λ l. get_or l y d) is ∙ get_or_append_left xs (x ∷ []) d y (omega arith) in
     subst (P y) (sym before) (each y (omega arith)))
     (cases_eq y k)
 
 -- what holds of each pair holds of the first and each later one
-pub pairs_head : {X : Type 0} (R : X → X → Type 0) (x : X) (xs : List X) → AllPairs R (x ∷ xs) → All (R x) xs
+pub pairs_head : {X : Type 0} (R : X → X → Type 0) (x : X) (xs : List X) → AllPairs R (x ∷ xs)
+    → All (R x) xs
 pairs_head R x xs h k d lt = h 0 (suc k) d (omega arith) (omega arith)
 
 -- what holds of each pair holds of each in the rest
-pub pairs_tail : {X : Type 0} (R : X → X → Type 0) (x : X) (xs : List X) → AllPairs R (x ∷ xs) → AllPairs R xs
+pub pairs_tail : {X : Type 0} (R : X → X → Type 0) (x : X) (xs : List X) → AllPairs R (x ∷ xs)
+    → AllPairs R xs
 pairs_tail R x xs h i j d lt le = h (suc i) (suc j) d (omega arith) (omega arith)
 
 -- a list that a loop makes, with one item more
-pub map_range_more : {X : Type 0} (f : ℕ → X) (xs ys : List X) (i : ℕ) (x : X) → xs ≡ map f (range_with_len 0 i) → ys ≡ xs ++ x ∷ [] → x ≡ f i → ys ≡ map f (range_with_len 0 (i + 1))
-map_range_more f xs ys i x e h is = h ∙ ap (λ zs. zs ++ x ∷ []) e ∙ ap (λ z. map f (range_with_len 0 i) ++ z ∷ []) is ∙ sym (map-range_with_len_more f 0 i i (omega arith))
+pub map_range_more : {X : Type 0} (f : ℕ → X) (xs ys : List X) (i : ℕ) (x : X)
+    → xs ≡ map f (range_with_len 0 i) → ys ≡ xs ++ x ∷ [] → x ≡ f i
+    → ys ≡ map f (range_with_len 0 (i + 1))
+map_range_more f xs ys i x e h is =
+    h ∙ ap (λ zs. zs ++ x ∷ []) e ∙ ap (λ z. map f (range_with_len 0 i) ++ z ∷ []) is
+    ∙ sym (map-range_with_len_more f 0 i i (omega arith))

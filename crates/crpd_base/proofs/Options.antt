@@ -1,5 +1,6 @@
 -- Options: what they hold, and when two are the same.
-use Rattle.std.proofs.Common.{◌≡◌, ◌≢◌, ◌⊎◌, ℕ, Option, Some, None, option_map, refl, ap, inl, inr, ⊎_elim}
+use Rattle.std.proofs.Common.{◌≡◌, ◌≢◌, ◌⊎◌, ℕ, Option, Some, None, option_map, refl, ap, inl, inr}
+use Rattle.std.proofs.Common.{⊎_elim}
 use Rattle.std.proofs.lemmas.Bool.{cases_eq}
 
 -- options with the same value hold the same
@@ -30,6 +31,7 @@ same_or_not (Some j) (Some k) = ⊎_elim
     (cases_eq j k)
 
 -- the value of a mapped option is that of the option, mapped
-pub mapped_some : {A B : Type 0} (o : Option A) (f : A → B) (y : B) → option_map f o ≡ Some y → (x : A) × (o ≡ Some x) × (f x ≡ y)
+pub mapped_some : {A B : Type 0} (o : Option A) (f : A → B) (y : B) → option_map f o ≡ Some y
+    → (x : A) × (o ≡ Some x) × (f x ≡ y)
 mapped_some None f y e = absurd cc
 mapped_some (Some x) f y e = (x, refl, some_injective e)

@@ -1,9 +1,11 @@
 -- Results: steps that found no refusal, and what was read in front of what is left to read.
-use Rattle.std.proofs.Common.{◌≡◌, List, ◌∷◌, [], ◌++◌, Result, Ok, Err, refl, ap, sym, append_assoc}
+use Rattle.std.proofs.Common.{◌≡◌, List, ◌∷◌, [], ◌++◌, Result, Ok, Err, refl, ap, sym}
+use Rattle.std.proofs.Common.{append_assoc}
 use Rattle.crpd_base.specs.Outcome.{◌>>=◌}
 
 -- the value on which a step went on
-pub bind_ok : {A B E : Type 0} (r : Result A E) (f : A → Result B E) (y : B) → (r >>= f) ≡ Ok y → (x : A) × (r ≡ Ok x) × (f x ≡ Ok y)
+pub bind_ok : {A B E : Type 0} (r : Result A E) (f : A → Result B E) (y : B) → (r >>= f) ≡ Ok y
+    → (x : A) × (r ≡ Ok x) × (f x ≡ Ok y)
 bind_ok (Ok x) f y e = (x, refl, e)
 bind_ok (Err d) f y e = absurd cc
 
@@ -21,6 +23,7 @@ with_front front (Ok xs) = Ok (front ++ xs)
 with_front front (Err e) = Err e
 
 -- one more item was read
-pub with_front_pair : {A E : Type 0} (front : List A) (x : A) (rest : Result (List A) E) → with_front front (rest >>= (λ xs. Ok (x ∷ xs))) ≡ with_front (front ++ x ∷ []) rest
+pub with_front_pair : {A E : Type 0} (front : List A) (x : A) (rest : Result (List A) E)
+    → with_front front (rest >>= (λ xs. Ok (x ∷ xs))) ≡ with_front (front ++ x ∷ []) rest
 with_front_pair front x (Ok xs) = ap (λ ys. Ok ys) (sym (append_assoc front (x ∷ []) xs))
 with_front_pair front x (Err e) = refl

@@ -11,7 +11,8 @@ IsIn s a = (s.address ≤ a) × (a < s.address + s.size)
 abbrev pub AreDisjoint : Segment → Segment → Type 0
 AreDisjoint s t = (a : ℕ) → IsIn s a → IsIn t a → ⊥
 
--- the addresses are below 2 ^ 32, no two segments share one, and no segment has more bytes than its size
+-- the addresses are below 2 ^ 32, no two segments share one, and no segment has more bytes than its
+-- size
 pub record IsImage (image : Image) : Type 0 where
   pub below : All (λ s. s.address + s.size ≤ 2 ^ 32) image.segments
   pub apart : AllPairs AreDisjoint image.segments

@@ -1,4 +1,5 @@
--- The kinds of a set's lines and texts: the lengths that a cache line may have, and what a task and its file may be called.
+-- The kinds of a set's lines and texts: the lengths that a cache line may have, and what a task and
+-- its file may be called.
 use Rattle.std.specs.Prelude.{ℕ, List, length, codes, Bool, ◌||◌, ◌&&◌, ◌==◌, nat_le, nat_lt}
 use Rattle.std.specs.List.{list_all}
 use Rattle.crpd_base.specs.declared.data.Method.{Method}
@@ -14,7 +15,8 @@ is_line_length n = n == 4 || n == 8 || n == 16 || n == 32 || n == 64
 
 -- a letter, a digit, or one of `_`, `.` and `-`
 abbrev pub is_name_byte : ℕ → Bool
-is_name_byte b = is_between 48 57 b || is_between 65 90 b || is_between 97 122 b || b == 95 || b == 46 || b == 45
+is_name_byte b =
+    is_between 48 57 b || is_between 65 90 b || is_between 97 122 b || b == 95 || b == 46 || b == 45
 
 -- a task's name: 1 to 32 such bytes
 abbrev pub is_name : List ℕ → Bool

@@ -4,10 +4,12 @@ use Rattle.crpd_base.specs.declared.data.Platform.{Platform}
 use Rattle.crpd_base.specs.declared.data.LoopSpec.{LoopSpec}
 use Rattle.crpd_base.specs.declared.data.TaskSpec.{TaskSpec}
 use Rattle.crpd_base.specs.declared.data.TaskSet.{TaskSet}
-use Rattle.crpd_base.specs.Limits.{most_sets, most_cost, most_tasks, most_loops, most_turns, longest_time}
+use Rattle.crpd_base.specs.Limits.{most_sets, most_cost, most_tasks, most_loops, most_turns}
+use Rattle.crpd_base.specs.Limits.{longest_time}
 use Rattle.crpd_base.specs.Names.{is_line_length, is_name, is_file}
 
--- a platform: 4, 8, 16, 32 or 64 bytes a line, 1 to 512 sets, at least one cycle an instruction, and costs below 2^16
+-- a platform: 4, 8, 16, 32 or 64 bytes a line, 1 to 512 sets, at least one cycle an instruction,
+-- and costs below 2^16
 pub record IsPlatform (p : Platform) : Type 0 where
   pub line : (4 ≤ p.line) × (p.line ≤ 64)
   pub line_size : is_line_length p.line ≡ true
@@ -24,7 +26,8 @@ pub record IsPlatform (p : Platform) : Type 0 where
 abbrev pub IsLoopSpec : LoopSpec → Type 0
 IsLoopSpec l = (1 ≤ l.bound) × (l.bound ≤ most_turns)
 
--- a task: a name and a file, a deadline of at most its period, times of at most 2^40 cycles, at most 64 loops
+-- a task: a name and a file, a deadline of at most its period, times of at most 2^40 cycles, at
+-- most 64 loops
 pub record IsTaskSpec (t : TaskSpec) : Type 0 where
   pub name : is_name t.name ≡ true
   pub file : is_file t.file ≡ true

@@ -76,8 +76,8 @@ fn copy_task(alloc: Global, task: &TaskSpec) -> Result<TaskSpec, AllocError>
     })
 }
 
-/// The same task set once more, for a caller that changes one of its numbers. Time and memory are linear in the
-/// set. The only error is want of memory.
+/// The same task set once more, for a caller that changes one of its numbers. Time and memory are
+/// linear in the set. The only error is want of memory.
 pub fn copy_set(alloc: Global, set: &TaskSet) -> Result<TaskSet, AllocError>
     ensures { IfOk result (λ copy. copy ≡ set.now) }
 {

@@ -11,7 +11,8 @@ pub struct Memory;
 #[derive(Clone, Copy, Debug, PartialEq, Eq)]
 pub struct Task(pub u8);
 
-/// A node's number in its task's flat graph, from 0, below 16,384. Nodes are ordered by context, then by address.
+/// A node's number in its task's flat graph, from 0, below 16,384. Nodes are ordered by context,
+/// then by address.
 #[derive(Clone, Copy, Debug, PartialEq, Eq)]
 pub struct NodeId(pub u32);
 
@@ -33,10 +34,12 @@ pub enum Switching {
     Instruction,
 }
 
-/// The core and its direct-mapped instruction cache. Costs are in cycles, the further ones on top of `hit`.
+/// The core and its direct-mapped instruction cache. Costs are in cycles, the further ones on top
+/// of `hit`.
 #[derive(Clone, Copy, Debug, PartialEq, Eq)]
 pub struct Platform {
-    /// Length of a cache line in bytes: 4, 8, 16, 32 or 64. The block of a byte address is the address over it.
+    /// Length of a cache line in bytes: 4, 8, 16, 32 or 64. The block of a byte address is the
+    /// address over it.
     pub line: u32,
     /// How many cache sets there are, each of one line: 1 to 512.
     pub sets: u32,
@@ -46,7 +49,8 @@ pub struct Platform {
     pub miss: u32,
     /// Further cycles of a load or store: 0 to 65,535. Files give it under the key `data`.
     pub memory: u32,
-    /// Further cycles where the next instruction is not the one that follows in memory: 0 to 65,535.
+    /// Further cycles where the next instruction is not the one that follows in memory: 0 to
+    /// 65,535.
     pub taken: u32,
     /// Cycles of a context switch: 0 to 65,535.
     pub switch: u32,
@@ -63,7 +67,8 @@ pub struct Platform {
 pub enum Place {
     /// The address itself.
     Number(u32),
-    /// The value of the file's first symbol of this name, which is not empty, plus the offset in bytes.
+    /// The value of the file's first symbol of this name, which is not empty, plus the offset in
+    /// bytes.
     Symbol { name: Text, offset: u32 },
 }
 
@@ -74,14 +79,16 @@ pub struct LoopSpec {
     pub head: Place,
     /// How often the head is reached at most each time the loop is entered: 1 to 1,000,000.
     pub bound: u32,
-    /// Pairs of places; each pair holds the addresses from the first place on, without the second. It may be empty.
+    /// Pairs of places; each pair holds the addresses from the first place on, without the second.
+    /// It may be empty.
     pub ranges: Items<(Place, Place)>,
 }
 
 /// A task as its set states it. Times are in cycles.
 #[derive(Drop)]
 pub struct TaskSpec {
-    /// 1 to 32 bytes, each an ASCII letter or digit, `_`, `.` or `-`; no two tasks of a set have one name.
+    /// 1 to 32 bytes, each an ASCII letter or digit, `_`, `.` or `-`; no two tasks of a set have
+    /// one name.
     pub name: Text,
     /// The name of its ELF file: 1 to 255 bytes, none of them 0x7F or below 0x21.
     pub file: Text,
@@ -117,7 +124,8 @@ pub struct Segment {
     pub address: u32,
     /// Its length in bytes (`p_memsz`); address plus size is at most 2^32.
     pub size: u64,
-    /// Its first bytes, as they stand in the file (`p_filesz` of them, at most the size); the others are 0.
+    /// Its first bytes, as they stand in the file (`p_filesz` of them, at most the size); the
+    /// others are 0.
     pub bytes: Items<u8>,
     /// Whether its bytes are code (flag PF_X).
     pub executable: bool,
@@ -139,7 +147,8 @@ pub struct Image {
     pub entry: u32,
     /// Its PT_LOAD segments in the order of the file; no two share an address.
     pub segments: Items<Segment>,
-    /// Its named symbols in the order of the first symbol table; of those with one name the first counts.
+    /// Its named symbols in the order of the first symbol table; of those with one name the first
+    /// counts.
     pub symbols: Items<Symbol>,
 }
 
@@ -150,7 +159,8 @@ pub struct LoopAt {
     pub head: u32,
     /// How often the head is reached at most each time the loop is entered: 1 to 1,000,000.
     pub bound: u32,
-    /// Pairs of addresses; each pair holds the addresses from the first on, without the second. It may be empty.
+    /// Pairs of addresses; each pair holds the addresses from the first on, without the second. It
+    /// may be empty.
     pub ranges: Items<(u32, u32)>,
 }
 
@@ -174,7 +184,8 @@ pub struct ScriptJob {
     pub task: Task,
     /// The cycle from which its deadline counts: 0 to 2^40.
     pub arrival: u64,
-    /// The cycle from which it may run: 0 to 2^40; in a legal script from the arrival on, at most the jitter later.
+    /// The cycle from which it may run: 0 to 2^40; in a legal script from the arrival on, at most
+    /// the jitter later.
     pub release: u64,
 }
 
@@ -183,7 +194,8 @@ pub struct ScriptJob {
 pub struct Script {
     /// How many cycles the run makes: 1 to 2^40.
     pub cycles: u64,
-    /// The blocks that are cached at the start, each in its cache set, a later one over an earlier one.
+    /// The blocks that are cached at the start, each in its cache set, a later one over an earlier
+    /// one.
     pub cache: Items<u32>,
     /// The jobs, at most 10,000. A job's number counts those of its task before it.
     pub jobs: Items<ScriptJob>,
@@ -192,20 +204,24 @@ pub struct Script {
 /// By which delay a window is computed: the multiset methods of Altmeyer, Davis and Maiza (2012).
 #[derive(Clone, Copy, Debug, PartialEq, Eq)]
 pub enum Method {
-    /// UCB-union multiset: the useful cache sets of the preempted tasks that the preempting task evicts.
+    /// UCB-union multiset: the useful cache sets of the preempted tasks that the preempting task
+    /// evicts.
     Ucb,
-    /// ECB-union multiset: per preempted task, its useful cache sets that the tasks from the preempting one up evict.
+    /// ECB-union multiset: per preempted task, its useful cache sets that the tasks from the
+    /// preempting one up evict.
     Ecb,
 }
 
 /// What a window needs of a task: its execution bound, its evicting and its useful cache sets.
 #[derive(Clone, Copy)]
 pub struct Part {
-    /// Its execution bound in cycles, without preemption and switch: 0 to 2^41 as read, at most 2^40 as computed.
+    /// Its execution bound in cycles, without preemption and switch: 0 to 2^41 as read, at most
+    /// 2^40 as computed.
     pub bound: u64,
     /// The cache sets that its code accesses (evicting cache blocks, ECB), each below 512.
     pub evicting: SetBits<WORDS>,
-    /// The cache sets that hold a block which may be used again (useful cache blocks, UCB; Lee et al. 1998), below 512.
+    /// The cache sets that hold a block which may be used again (useful cache blocks, UCB; Lee et
+    /// al. 1998), below 512.
     pub useful: SetBits<WORDS>,
 }
 
@@ -214,7 +230,8 @@ pub struct Part {
 pub struct NodeState {
     /// The node's number, below 16,384.
     pub node: u32,
-    /// The cache sets whose block is surely known before the node, each with its block, by strictly increasing set.
+    /// The cache sets whose block is surely known before the node, each with its block, by strictly
+    /// increasing set.
     pub sure: Items<(u16, u32)>,
     /// The cache sets that are useful before the node.
     pub useful: SetBits<WORDS>,
@@ -227,17 +244,21 @@ pub struct TaskPart {
     pub name: Text,
     /// Its execution bound, its evicting and its useful cache sets.
     pub part: Part,
-    /// The states of the listed nodes, all leaders among them, by strictly increasing node; at most 16,384.
+    /// The states of the listed nodes, all leaders among them, by strictly increasing node; at most
+    /// 16,384.
     pub states: Items<NodeState>,
     /// Per node the most cycles from it to the end at its level of loop, 0 to 2^40; by node number.
     pub potentials: Items<u64>,
-    /// Per region (a loop in one context) the potential of all its turns and what follows, 0 to 2^40; by region number.
+    /// Per region (a loop in one context) the potential of all its turns and what follows, 0 to
+    /// 2^40; by region number.
     pub loops: Items<u64>,
     /// By which delay the window holds.
     pub method: Method,
-    /// The most cycles from a job's release to its answer: 0 to 2^40 as read, 1 to deadline less jitter as judged.
+    /// The most cycles from a job's release to its answer: 0 to 2^40 as read, 1 to deadline less
+    /// jitter as judged.
     pub window: u64,
-    /// The most cycles from a job's arrival to its answer, the window plus the jitter: 0 to 2^41 as read.
+    /// The most cycles from a job's arrival to its answer, the window plus the jitter: 0 to 2^41 as
+    /// read.
     pub response: u64,
 }
 

@@ -1,6 +1,7 @@
 // Texts and lists that a contract sees as a list. They are made of a `String` or a `Vec`
 // and give it back without taking memory.
-ghost use Rattle.std.specs.Prelude.{◌≡◌, ◌==◌, ◌<◌, ◌^◌, List, ℕ, Some, string_bytes, length, slice_index_or};
+ghost use Rattle.std.specs.Prelude.{◌≡◌, ◌==◌, ◌<◌, ◌^◌, List, ℕ, Some, string_bytes, length};
+ghost use Rattle.std.specs.Prelude.{slice_index_or};
 ghost use Rattle.std.specs.Slice.{IsItemAt};
 ghost use Rattle.std.specs.Slice.Iter.{iter_rest, iter_steps};
 ghost use Rattle.std.specs.Iterator.Adapters.{IterYieldsInOrder};

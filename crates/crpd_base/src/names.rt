@@ -14,8 +14,8 @@ fn are_name_bytes(bytes: &[u8]) -> bool
     bytes.iter().all(|b| is_name_byte(*b))
 }
 
-/// Whether a text may name a task: 1 to 32 bytes, each a letter or digit of ASCII, `_`, `.` or `-`. In constant time;
-/// it takes no memory.
+/// Whether a text may name a task: 1 to 32 bytes, each a letter or digit of ASCII, `_`, `.` or `-`.
+/// In constant time; it takes no memory.
 pub fn is_name(text: &str) -> bool
     ensures { result ≡ spec.is_name text.now }
 {
@@ -34,8 +34,8 @@ fn are_file_bytes(bytes: &[u8]) -> bool
     bytes.iter().all(|b| is_file_byte(*b))
 }
 
-/// Whether a text may name a file: 1 to 255 bytes, none of them 0x7F or below 0x21. In constant time; it takes no
-/// memory.
+/// Whether a text may name a file: 1 to 255 bytes, none of them 0x7F or below 0x21. In constant
+/// time; it takes no memory.
 pub fn is_file(text: &str) -> bool
     ensures { result ≡ spec.is_file text.now }
 {

@@ -71,7 +71,8 @@ const UPDATE: Case = Case {
 
 const NEVER: u64 = u64::MAX;
 
-// What a case ends with, with at most so many bytes in a call; these calls of the files and of the sink fail.
+// What a case ends with, with at most so many bytes in a call; these calls of the files and of the
+// sink fail.
 fn ends(
     rt: &impl Abort,
     alloc: Global,
@@ -107,7 +108,8 @@ fn calls_of(sizes: &[u64], most: u64) -> u64 {
 
 const MOST: [usize; 3] = [1, 7, 4096];
 
-// A call that is made and fails is a fault, after which nothing is written; all is well where it is not made.
+// A call that is made and fails is a fault, after which nothing is written; all is well where it is
+// not made.
 fn each_read_failing(rt: &impl Abort, alloc: Global, case: &Case) -> Result<(), Fail> {
     for most in MOST {
         let calls = calls_of(case.sizes, most as u64);

@@ -1,5 +1,6 @@
 -- A step for each number below one, up to the first stop.
-use Rattle.std.proofs.Common.{◌≡◌, ℕ, ◌<◌, ◌≤◌, List, [], ◌∷◌, ◌++◌, length, Some, Ok, Err, ap, sym, ◌∙◌, subst, inl, inr, arith}
+use Rattle.std.proofs.Common.{◌≡◌, ℕ, ◌<◌, ◌≤◌, List, [], ◌∷◌, ◌++◌, length, Some, Ok, Err, ap, sym}
+use Rattle.std.proofs.Common.{◌∙◌, subst, inl, inr, arith}
 use Rattle.std.specs.Prelude.{Result, slice_get}
 use Rattle.crpd_base.proofs.Elements.{some_at, at_more}
 use Rattle.crpd_input.specs.declared.halt.Halt.{Halt}
@@ -12,29 +13,43 @@ HasValues {B} P ys = (k : ℕ) (y : B) → slice_get ys k ≡ Some y → P k (Ok
 
 module _ {B : Type 0} (P : ℕ → Result B Halt → Type 0) where
   pub no_values : (ys : List B) → ys ≡ [] → HasValues P ys
-  no_values ys e k y at = let none : slice_get {X = B} [] k ≡ Some y = ap (λ (l : List B). slice_get l k) (sym e) ∙ at in absurd cc
+  no_values ys e k y at =
+      let none : slice_get {X = B} [] k ≡ Some y =
+      ap (λ (l : List B). slice_get l k) (sym e) ∙ at in absurd cc
 
-  pub value_more : (ys zs : List B) (n : ℕ) (y : B) → HasValues P ys → length ys ≡ n → P n (Ok y) → zs ≡ ys ++ y ∷ [] → HasValues P zs
+  pub value_more : (ys zs : List B) (n : ℕ) (y : B) → HasValues P ys → length ys ≡ n → P n (Ok y)
+      → zs ≡ ys ++ y ∷ [] → HasValues P zs
   value_more ys zs n y has count here e k x at =
       elim (at_more ys y k x (ap (λ (l : List B). slice_get l k) (sym e) ∙ at)) [
         | inl old ↦ has k x old
-        | inr new ↦ subst (λ i. P i (Ok x)) (sym (new.0 ∙ count)) (subst (λ z. P n (Ok z)) new.1 here)
+        | inr new ↦
+            subst (λ i. P i (Ok x)) (sym (new.0 ∙ count)) (subst (λ z. P n (Ok z)) new.1 here)
       ]
 
-  pub all_values : (ys : List B) (n m : ℕ) → HasValues P ys → length ys ≡ m → n ≤ m → m ≤ n → EachBelow P n (Ok ys)
+  pub all_values : (ys : List B) (n m : ℕ) → HasValues P ys → length ys ≡ m → n ≤ m → m ≤ n
+      → EachBelow P n (Ok ys)
   all_values ys n m has count low high = (omega (arith, count), has)
 
-  pub refused_below : (ys : List B) (n m : ℕ) (r : Halt) → HasValues P ys → length ys ≡ m → m < n → P m (Err r) → EachBelow P n (Err r)
-  refused_below ys n m r has count below here = (m, below, here, λ j l. let x = some_at ys j (omega (arith, count, l)) in (x.0, has j x.0 x.1))
+  pub refused_below : (ys : List B) (n m : ℕ) (r : Halt) → HasValues P ys → length ys ≡ m → m < n
+      → P m (Err r) → EachBelow P n (Err r)
+  refused_below ys n m r has count below here = (
+    m,
+    below,
+    here,
+    λ j l. let x = some_at ys j (omega (arith, count, l)) in (x.0, has j x.0 x.1),
+  )
 
   -- a step that stops ends the whole
-  pub stopped_below : (ys : List B) (n m : ℕ) (halt : Halt) → HasValues P ys → length ys ≡ m → m < n → StopsBy (P m) halt → StopsBy (EachBelow P n) halt
-  stopped_below ys n m (Refused r) has count below here = refused_below ys n m (Refused r) has count below here
+  pub stopped_below : (ys : List B) (n m : ℕ) (halt : Halt) → HasValues P ys → length ys ≡ m → m < n
+      → StopsBy (P m) halt → StopsBy (EachBelow P n) halt
+  stopped_below ys n m (Refused r) has count below here =
+      refused_below ys n m (Refused r) has count below here
   stopped_below ys n m Memory has count below here = tt
   stopped_below ys n m Fault has count below here = tt
 
 -- this stop ends a step
-pub stops_so : {A : Type 0} (P : Result A Halt → Type 0) (r : Halt) (halt : Halt) → IsRefusal r halt → P (Err r) → StopsBy P halt
+pub stops_so : {A : Type 0} (P : Result A Halt → Type 0) (r : Halt) (halt : Halt) → IsRefusal r halt
+    → P (Err r) → StopsBy P halt
 stops_so P r (Refused q) is here = subst (λ x. P (Err x)) (sym is) here
 stops_so P r Memory is here = tt
 stops_so P r Fault is here = absurd is

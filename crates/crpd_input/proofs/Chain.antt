@@ -6,7 +6,8 @@ use Rattle.crpd_input.specs.Steps.{Exactly, Means, MeansBy, StopsBy, Then}
 
 module _ {A B : Type 0} (P : Result A Halt → Type 0) (next : A → Result B Halt → Type 0) where
   -- a step gave a value, and the next ones end so
-  pub goes_on : (value : A) (result : Result B Halt) → P (Ok value) → MeansBy (next value) result → MeansBy (Then P next) result
+  pub goes_on : (value : A) (result : Result B Halt) → P (Ok value) → MeansBy (next value) result
+      → MeansBy (Then P next) result
   goes_on value (Ok x) here later = inl (value, here, later)
   goes_on value (Err (Refused r)) here later = inl (value, here, later)
   goes_on value (Err Memory) here later = tt
@@ -19,7 +20,8 @@ module _ {A B : Type 0} (P : Result A Halt → Type 0) (next : A → Result B Ha
   stopped Fault here = tt
 
 -- a step with one end
-pub by_exactly : {A : Type 0} (meant : Result A Halt) (result : Result A Halt) → Means meant result → MeansBy (Exactly meant) result
+pub by_exactly : {A : Type 0} (meant : Result A Halt) (result : Result A Halt) → Means meant result
+    → MeansBy (Exactly meant) result
 by_exactly meant (Ok x) is = is
 by_exactly meant (Err (Refused r)) is = is
 by_exactly meant (Err Memory) is = tt

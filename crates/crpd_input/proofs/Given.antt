@@ -17,39 +17,51 @@ use Rattle.crpd_io.specs.Outside.{Contents}
 use Rattle.crpd_input.specs.declared.input.Input.{Input}
 use Rattle.crpd_input.specs.declared.halt.Halt.{Halt}
 use Rattle.crpd_input.specs.Steps.{and_then, bytes_in, file_bytes, or_refused}
-use Rattle.crpd_input.specs.Reading.{code_in, elf_halt, image_in, images_in, input_in, map_halt, set_in, set_halt}
+use Rattle.crpd_input.specs.Reading.{code_in, elf_halt, image_in, images_in, input_in, map_halt}
+use Rattle.crpd_input.specs.Reading.{set_in, set_halt}
 use Rattle.crpd_input.proofs.Each.{all_given, each_count}
 use Rattle.crpd_input.proofs.Plans.{code_ends, plan_per_task}
 
 -- the value on which a step went on
-pub step_ok : {A B : Type 0} (r : Result A Halt) (next : A → Result B Halt) (y : B) → and_then r next ≡ Ok y → (x : A) × (r ≡ Ok x) × (next x ≡ Ok y)
+pub step_ok : {A B : Type 0} (r : Result A Halt) (next : A → Result B Halt) (y : B)
+    → and_then r next ≡ Ok y → (x : A) × (r ≡ Ok x) × (next x ≡ Ok y)
 step_ok (Ok x) next y e = (x, refl, e)
 step_ok (Err refusal) next y e = absurd cc
 
-pub read_ok : {A E : Type 0} (refusal_of : E → Halt) (r : Result A E) (x : A) → or_refused refusal_of r ≡ Ok x → r ≡ Ok x
+pub read_ok : {A E : Type 0} (refusal_of : E → Halt) (r : Result A E) (x : A)
+    → or_refused refusal_of r ≡ Ok x → r ≡ Ok x
 read_ok refusal_of (Ok y) x e = cc
 read_ok refusal_of (Err r) x e = absurd cc
 
-set_ranged : (contents : Contents) (name : List ℕ) (s : TaskSet) → set_in contents name ≡ Ok s → IsTaskSet s
+set_ranged : (contents : Contents) (name : List ℕ) (s : TaskSet) → set_in contents name ≡ Ok s
+    → IsTaskSet s
 set_ranged contents name s e =
-    let bytes = step_ok (bytes_in file_bytes contents name) (λ bytes. or_refused (set_halt name) (set.reading bytes)) s e in
+    let bytes = step_ok (bytes_in file_bytes contents name)
+    (λ bytes. or_refused (set_halt name) (set.reading bytes)) s e in
     found_ranged bytes.0 (Ok s) (read_ok (set_halt name) (set.reading bytes.0) s bytes.2)
 
-pub image_good : (contents : Contents) (name : List ℕ) (image : Image) → image_in contents name ≡ Ok image → IsImage image
+pub image_good : (contents : Contents) (name : List ℕ) (image : Image)
+    → image_in contents name ≡ Ok image → IsImage image
 image_good contents name image e =
-    let bytes = step_ok (bytes_in file_bytes contents name) (λ bytes. or_refused (elf_halt name) (elf.reading bytes)) image e in
+    let bytes = step_ok (bytes_in file_bytes contents name)
+    (λ bytes. or_refused (elf_halt name) (elf.reading bytes)) image e in
     read_image bytes.0 image (read_ok (elf_halt name) (elf.reading bytes.0) image bytes.2)
 
-pub code_good : (contents : Contents) (name : List ℕ) (s : TaskSet) (c : Code) → code_in contents name s ≡ Ok c → IsCodeMap (word_at c.images)
+pub code_good : (contents : Contents) (name : List ℕ) (s : TaskSet) (c : Code)
+    → code_in contents name s ≡ Ok c → IsCodeMap (word_at c.images)
 code_good contents name s c e =
-    let images = step_ok (images_in contents s.tasks) (λ images. or_refused (map_halt name s) (code_of s images)) c e in
+    let images = step_ok (images_in contents s.tasks)
+    (λ images. or_refused (map_halt name s) (code_of s images)) c e in
     code_ends s images.0 c
-    (all_given (λ (t : TaskSpec). image_in contents t.file) IsImage (λ t image is. image_good contents t.file image is) s.tasks images.0 images.1)
+    (all_given (λ (t : TaskSpec). image_in contents t.file) IsImage
+    (λ t image is. image_good contents t.file image is) s.tasks images.0 images.1)
     (read_ok (map_halt name s) (code_of s images.0) c images.2)
 
-pub code_planned : (contents : Contents) (name : List ℕ) (s : TaskSet) (c : Code) → code_in contents name s ≡ Ok c → length c.plans ≡ length s.tasks
+pub code_planned : (contents : Contents) (name : List ℕ) (s : TaskSet) (c : Code)
+    → code_in contents name s ≡ Ok c → length c.plans ≡ length s.tasks
 code_planned contents name s c e =
-    let images = step_ok (images_in contents s.tasks) (λ images. or_refused (map_halt name s) (code_of s images)) c e in
+    let images = step_ok (images_in contents s.tasks)
+    (λ images. or_refused (map_halt name s) (code_of s images)) c e in
     plan_per_task s images.0 c
     (each_count (λ (t : TaskSpec). image_in contents t.file) s.tasks images.0 images.1)
     (read_ok (map_halt name s) (code_of s images.0) c images.2)
@@ -59,17 +71,25 @@ pub record IsInput (input : Input) : Type 0 where
   pub ranges : IsTaskSet input.set
   pub words : IsCodeMap (word_at input.code.images)
 
-pub input_good : (contents : Contents) (name : List ℕ) (input : Input) → input_in contents name ≡ Ok input → IsInput input
+pub input_good : (contents : Contents) (name : List ℕ) (input : Input)
+    → input_in contents name ≡ Ok input → IsInput input
 input_good contents name input e =
     let s = step_ok (set_in contents name) _ input e in
-    let c = step_ok (code_in contents name s.0) (λ code. Ok (record { set = s.0; code = code })) input s.2 in
+    let c = step_ok (code_in contents name s.0) (λ code. Ok (record { set = s.0; code = code }))
+    input s.2 in
     let is : record { set = s.0; code = c.0 } ≡ input = cc in
-    subst IsInput is (record { ranges = set_ranged contents name s.0 s.1; words = code_good contents name s.0 c.0 c.1 })
+    subst IsInput is (record {
+      ranges = set_ranged contents name s.0 s.1;
+      words = code_good contents name s.0 c.0 c.1;
+    })
 
 -- its code has a plan for each task
-pub input_planned : (contents : Contents) (name : List ℕ) (input : Input) → input_in contents name ≡ Ok input → length input.code.plans ≡ length input.set.tasks
+pub input_planned : (contents : Contents) (name : List ℕ) (input : Input)
+    → input_in contents name ≡ Ok input → length input.code.plans ≡ length input.set.tasks
 input_planned contents name input e =
     let s = step_ok (set_in contents name) _ input e in
-    let c = step_ok (code_in contents name s.0) (λ code. Ok (record { set = s.0; code = code })) input s.2 in
+    let c = step_ok (code_in contents name s.0) (λ code. Ok (record { set = s.0; code = code }))
+    input s.2 in
     let is : record { set = s.0; code = c.0 } ≡ input = cc in
-    subst (λ (i : Input). length i.code.plans ≡ length i.set.tasks) is (code_planned contents name s.0 c.0 c.1)
+    subst (λ (i : Input). length i.code.plans ≡ length i.set.tasks) is
+    (code_planned contents name s.0 c.0 c.1)

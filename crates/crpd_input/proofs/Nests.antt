@@ -17,18 +17,25 @@ abbrev pub ShownAt : List CodeGraph → ℕ → Result CodeNest Halt → Type 0
 ShownAt graphs k (Ok nest) = IsNestOf (graph_at graphs k) nest
 ShownAt graphs k (Err refusal) = Unit {0}
 
-pub all_shown : (set : TaskSet) (graphs : List CodeGraph) (nests : List CodeNest) → length graphs ≡ length set.tasks → length nests ≡ length set.tasks → HasValues (ShownAt graphs) nests → AreTaskGraphs set graphs nests
+pub all_shown : (set : TaskSet) (graphs : List CodeGraph) (nests : List CodeNest)
+    → length graphs ≡ length set.tasks → length nests ≡ length set.tasks
+    → HasValues (ShownAt graphs) nests → AreTaskGraphs set graphs nests
 all_shown set graphs nests one two has = record {
   all_graphs = one;
   all_nests = two;
-  each = λ k lt. has k (get_or nests k no_nest) (slice_get-get_or nests k no_nest (omega (arith, lt, two)));
+  each = λ k lt.
+      has k (get_or nests k no_nest) (slice_get-get_or nests k no_nest (omega (arith, lt, two)));
 }
 
 -- the loops of a plan are bounded
-pub plan_bounded : (code : Code) (k : ℕ) (plan : TaskPlan) → HasBoundedLoops code → k < length code.plans → slice_get code.plans k ≡ Some plan → AreBounded plan.loops
+pub plan_bounded : (code : Code) (k : ℕ) (plan : TaskPlan) → HasBoundedLoops code
+    → k < length code.plans → slice_get code.plans k ≡ Some plan → AreBounded plan.loops
 plan_bounded code k plan bounded lt at =
-    subst (λ (p : TaskPlan). AreBounded p.loops) (get_or_from_slice_get code.plans k plan plan at) (bounded k plan lt)
+    subst (λ (p : TaskPlan). AreBounded p.loops) (get_or_from_slice_get code.plans k plan plan at)
+    (bounded k plan lt)
 
 -- the graph at a place
-pub graph_there : (graphs : List CodeGraph) (k : ℕ) (g : CodeGraph) (n : CodeNest) → slice_get graphs k ≡ Some g → IsNestOf g n → IsNestOf (graph_at graphs k) n
-graph_there graphs k g n at is = subst (λ x. IsNestOf x n) (sym (get_or_from_slice_get graphs k g _ at)) is
+pub graph_there : (graphs : List CodeGraph) (k : ℕ) (g : CodeGraph) (n : CodeNest)
+    → slice_get graphs k ≡ Some g → IsNestOf g n → IsNestOf (graph_at graphs k) n
+graph_there graphs k g n at is =
+    subst (λ x. IsNestOf x n) (sym (get_or_from_slice_get graphs k g _ at)) is

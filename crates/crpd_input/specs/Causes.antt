@@ -1,7 +1,29 @@
 -- The number and the name of each cause of a refusal.
 use Rattle.std.specs.Prelude.{ℕ, List, codes}
 use Rattle.crpd_input.specs.declared.cause.Cause.{Cause}
-use Rattle.crpd_input.specs.declared.cause.Cause.TheVariants.{Short, NotElf, NotElf32Little, NotRiscV, NotExecutable, NotStatic, HeaderOutside, SegmentOutside, SegmentsOverlap, NoCode, SymbolsOutside, SetNotToml, SetMissing, SetBadValue, TooManyTasks, SameName, DeadlineAfterPeriod, SetUnknownKey, ScriptNotToml, ScriptMissing, ScriptBadValue, UnknownTask, ScriptTooLong, ScriptUnknownKey, CodeConflict, UnknownSymbol, EntryOutside, Undecodable, OutsideCode, IndirectJump, OtherLink, Breakpoint, Recursive, TooManyNodes, TooDeep, Misaligned, SecondEntry, NotNested, SameHead, CycleWithoutBound, BoundTooLarge, NotJson, CertificateMissing, CertificateBadValue, CertificateTooLong, OtherVersion, TooManyEntries, NoFile, FileTooLong, NoSuchTask}
+use Rattle.crpd_input.specs.declared.cause.Cause.TheVariants.{Short, NotElf, NotElf32Little}
+use Rattle.crpd_input.specs.declared.cause.Cause.TheVariants.{NotRiscV, NotExecutable, NotStatic}
+use Rattle.crpd_input.specs.declared.cause.Cause.TheVariants.{HeaderOutside, SegmentOutside}
+use Rattle.crpd_input.specs.declared.cause.Cause.TheVariants.{SegmentsOverlap, NoCode}
+use Rattle.crpd_input.specs.declared.cause.Cause.TheVariants.{SymbolsOutside, SetNotToml}
+use Rattle.crpd_input.specs.declared.cause.Cause.TheVariants.{SetMissing, SetBadValue, TooManyTasks}
+use Rattle.crpd_input.specs.declared.cause.Cause.TheVariants.{SameName, DeadlineAfterPeriod}
+use Rattle.crpd_input.specs.declared.cause.Cause.TheVariants.{SetUnknownKey, ScriptNotToml}
+use Rattle.crpd_input.specs.declared.cause.Cause.TheVariants.{ScriptMissing, ScriptBadValue}
+use Rattle.crpd_input.specs.declared.cause.Cause.TheVariants.{UnknownTask, ScriptTooLong}
+use Rattle.crpd_input.specs.declared.cause.Cause.TheVariants.{ScriptUnknownKey, CodeConflict}
+use Rattle.crpd_input.specs.declared.cause.Cause.TheVariants.{UnknownSymbol, EntryOutside}
+use Rattle.crpd_input.specs.declared.cause.Cause.TheVariants.{Undecodable, OutsideCode}
+use Rattle.crpd_input.specs.declared.cause.Cause.TheVariants.{IndirectJump, OtherLink, Breakpoint}
+use Rattle.crpd_input.specs.declared.cause.Cause.TheVariants.{Recursive, TooManyNodes, TooDeep}
+use Rattle.crpd_input.specs.declared.cause.Cause.TheVariants.{Misaligned, SecondEntry, NotNested}
+use Rattle.crpd_input.specs.declared.cause.Cause.TheVariants.{SameHead, CycleWithoutBound}
+use Rattle.crpd_input.specs.declared.cause.Cause.TheVariants.{BoundTooLarge, NotJson}
+use Rattle.crpd_input.specs.declared.cause.Cause.TheVariants.{CertificateMissing}
+use Rattle.crpd_input.specs.declared.cause.Cause.TheVariants.{CertificateBadValue}
+use Rattle.crpd_input.specs.declared.cause.Cause.TheVariants.{CertificateTooLong, OtherVersion}
+use Rattle.crpd_input.specs.declared.cause.Cause.TheVariants.{TooManyEntries, NoFile, FileTooLong}
+use Rattle.crpd_input.specs.declared.cause.Cause.TheVariants.{NoSuchTask}
 
 -- one row for each cause
 abbrev pub cause_row : Cause → ℕ × List ℕ

@@ -56,24 +56,32 @@ name_at input k = name_of input.set (record { 0 = k })
 
 -- the flat graph of a plan, of at most 16,384 nodes, or why there is none
 abbrev pub IsGraphOrNot : Input → ℕ → TaskPlan → Result CodeGraph Halt → Type 0
-IsGraphOrNot input k plan (Ok graph) = IsCodeGraph (word_at input.code.images) plan.entry graph × (length graph.nodes ≤ 16384)
+IsGraphOrNot input k plan (Ok graph) =
+    IsCodeGraph (word_at input.code.images) plan.entry graph × (length graph.nodes ≤ 16384)
 IsGraphOrNot input k plan (Err r) =
-    (e : GraphError) × (e ≢ graph_fault.Memory) × IsGraphError (flows (word_at input.code.images)) plan.entry e × (r ≡ graph_halt (name_at input k) e)
+    (e : GraphError) × (e ≢ graph_fault.Memory)
+    × IsGraphError (flows (word_at input.code.images)) plan.entry e
+    × (r ≡ graph_halt (name_at input k) e)
 
 -- the regions of a plan's loops in its graph, or why there are none
 abbrev pub AreRegionsOrNot : Input → ℕ → TaskPlan → CodeGraph → Result CodeNest Halt → Type 0
 AreRegionsOrNot input k plan g (Ok nest) =
-    ((a : ℕ) → IsSameHead plan.loops a → ⊥) × IsRegions (graph_of g) (places_of g) plan.loops (nest_of nest) × HasNoLoopRefusals (graph_of g) (nest_of nest)
+    ((a : ℕ) → IsSameHead plan.loops a → ⊥)
+    × IsRegions (graph_of g) (places_of g) plan.loops (nest_of nest)
+    × HasNoLoopRefusals (graph_of g) (nest_of nest)
 AreRegionsOrNot input k plan g (Err r) =
-    (e : LoopError) × (e ≢ loop_fault.Memory) × IsLoopError (graph_of g) (places_of g) plan.loops e × (r ≡ loop_halt (name_at input k) e)
+    (e : LoopError) × (e ≢ loop_fault.Memory) × IsLoopError (graph_of g) (places_of g) plan.loops e
+    × (r ≡ loop_halt (name_at input k) e)
 
 -- what the step gives for the task at a place
 abbrev pub GraphAt : Input → ℕ → Result CodeGraph Halt → Type 0
-GraphAt input k r = (plan : TaskPlan) × (slice_get input.code.plans k ≡ Some plan) × IsGraphOrNot input k plan r
+GraphAt input k r =
+    (plan : TaskPlan) × (slice_get input.code.plans k ≡ Some plan) × IsGraphOrNot input k plan r
 
 abbrev pub RegionsAt : Input → List CodeGraph → ℕ → Result CodeNest Halt → Type 0
 RegionsAt input graphs k r =
-    (plan : TaskPlan) × (g : CodeGraph) × (slice_get input.code.plans k ≡ Some plan) × (slice_get graphs k ≡ Some g) × AreRegionsOrNot input k plan g r
+    (plan : TaskPlan) × (g : CodeGraph) × (slice_get input.code.plans k ≡ Some plan)
+    × (slice_get graphs k ≡ Some g) × AreRegionsOrNot input k plan g r
 
 -- the graphs of all tasks, and the regions of all tasks, in the order of the tasks
 abbrev pub GraphsIn : Input → Result (List CodeGraph) Halt → Type 0

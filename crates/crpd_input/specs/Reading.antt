@@ -1,4 +1,5 @@
--- The steps that read files: a set, the images of its tasks' files, its code, a certificate; and why each stops.
+-- The steps that read files: a set, the images of its tasks' files, its code, a certificate; and
+-- why each stops.
 use Rattle.std.specs.Prelude.{ℕ, List, Result, Ok}
 use Rattle.std.specs.Fmt.{decimal}
 use Rattle.crpd_base.specs.Tasks.{name_of}
@@ -25,9 +26,11 @@ use Rattle.crpd_input.specs.declared.cause.Cause.TheVariants as cause
 use Rattle.crpd_input.specs.declared.halt.Halt.{Halt}
 use Rattle.crpd_input.specs.declared.halt.Halt.TheVariants as halt
 use Rattle.crpd_input.specs.declared.input.Input.{Input}
-use Rattle.crpd_input.specs.Steps.{and_then, bytes_in, certificate_bytes, each, file_bytes, or_refused, plain_refusal, refusal}
+use Rattle.crpd_input.specs.Steps.{and_then, bytes_in, certificate_bytes, each, file_bytes}
+use Rattle.crpd_input.specs.Steps.{or_refused, plain_refusal, refusal}
 
--- the stop of a set's file; want of memory is no refusal, and reading never gives it (so in the tables below)
+-- the stop of a set's file; want of memory is no refusal, and reading never gives it (so in the
+-- tables below)
 abbrev pub set_halt : List ℕ → SetError → Halt
 set_halt file set_fault.Memory = halt.Memory
 set_halt file set_fault.NotToml = plain_refusal cause.SetNotToml file
@@ -56,9 +59,12 @@ elf_halt file elf_fault.SymbolsOutside = plain_refusal cause.SymbolsOutside file
 -- of the code of a set: of the set's file, or of a task
 abbrev pub map_halt : List ℕ → TaskSet → MapError → Halt
 map_halt file set map_fault.Memory = halt.Memory
-map_halt file set (map_fault.CodeConflict address) = refusal cause.CodeConflict file (hexadecimal address)
-map_halt file set (map_fault.UnknownSymbol task place) = refusal cause.UnknownSymbol (name_of set task) place
-map_halt file set (map_fault.EntryOutside task address) = refusal cause.EntryOutside (name_of set task) (hexadecimal address)
+map_halt file set (map_fault.CodeConflict address) =
+    refusal cause.CodeConflict file (hexadecimal address)
+map_halt file set (map_fault.UnknownSymbol task place) =
+    refusal cause.UnknownSymbol (name_of set task) place
+map_halt file set (map_fault.EntryOutside task address) =
+    refusal cause.EntryOutside (name_of set task) (hexadecimal address)
 
 -- of a certificate's file
 abbrev pub certificate_halt : List ℕ → CertError → Halt
@@ -66,18 +72,24 @@ certificate_halt file certificate_fault.Memory = halt.Memory
 certificate_halt file certificate_fault.NotJson = plain_refusal cause.NotJson file
 certificate_halt file (certificate_fault.Missing key) = refusal cause.CertificateMissing file key
 certificate_halt file (certificate_fault.BadValue key) = refusal cause.CertificateBadValue file key
-certificate_halt file (certificate_fault.TooLong count) = refusal cause.CertificateTooLong file (decimal count)
-certificate_halt file (certificate_fault.OtherVersion version) = refusal cause.OtherVersion file (decimal version)
+certificate_halt file (certificate_fault.TooLong count) =
+    refusal cause.CertificateTooLong file (decimal count)
+certificate_halt file (certificate_fault.OtherVersion version) =
+    refusal cause.OtherVersion file (decimal version)
 
 -- ---- the steps
 
 -- the set of a file
 abbrev pub set_in : Contents → List ℕ → Result TaskSet Halt
-set_in contents name = and_then (bytes_in file_bytes contents name) (λ bytes. or_refused (set_halt name) (set.reading bytes))
+set_in contents name =
+    and_then (bytes_in file_bytes contents name)
+    (λ bytes. or_refused (set_halt name) (set.reading bytes))
 
 -- the image of an ELF file
 abbrev pub image_in : Contents → List ℕ → Result Image Halt
-image_in contents name = and_then (bytes_in file_bytes contents name) (λ bytes. or_refused (elf_halt name) (elf.reading bytes))
+image_in contents name =
+    and_then (bytes_in file_bytes contents name)
+    (λ bytes. or_refused (elf_halt name) (elf.reading bytes))
 
 -- the images of the tasks' files, in the order of the tasks
 abbrev pub images_in : Contents → List TaskSpec → Result (List Image) Halt
@@ -85,12 +97,18 @@ images_in contents tasks = each (λ (t : TaskSpec). image_in contents t.file) ta
 
 -- the code of a set that was read from a file
 abbrev pub code_in : Contents → List ℕ → TaskSet → Result Code Halt
-code_in contents name set = and_then (images_in contents set.tasks) (λ images. or_refused (map_halt name set) (code.code_of set images))
+code_in contents name set =
+    and_then (images_in contents set.tasks)
+    (λ images. or_refused (map_halt name set) (code.code_of set images))
 
 -- a set with its code
 abbrev pub input_in : Contents → List ℕ → Result Input Halt
-input_in contents name = and_then (set_in contents name) (λ set. and_then (code_in contents name set) (λ code. Ok (record { set = set; code = code })))
+input_in contents name =
+    and_then (set_in contents name)
+    (λ set. and_then (code_in contents name set) (λ code. Ok (record { set = set; code = code })))
 
 -- the certificate of a file
 abbrev pub certificate_in : Contents → List ℕ → Result Certificate Halt
-certificate_in contents name = and_then (bytes_in certificate_bytes contents name) (λ bytes. or_refused (certificate_halt name) (certificate.reading bytes))
+certificate_in contents name =
+    and_then (bytes_in certificate_bytes contents name)
+    (λ bytes. or_refused (certificate_halt name) (certificate.reading bytes))

@@ -9,7 +9,8 @@ use Rattle.crpd_io.specs.Outside.{Contents}
 use Rattle.crpd_input.specs.declared.cause.Cause.TheVariants as cause
 use Rattle.crpd_input.specs.declared.halt.Halt.{Halt}
 use Rattle.crpd_input.specs.declared.halt.Halt.TheVariants as halt
-use Rattle.crpd_input.specs.Steps.{and_then, bytes_in, file_bytes, or_refused, plain_refusal, refusal}
+use Rattle.crpd_input.specs.Steps.{and_then, bytes_in, file_bytes, or_refused, plain_refusal}
+use Rattle.crpd_input.specs.Steps.{refusal}
 
 -- the stop of a script's file; want of memory is no refusal, and reading never gives it
 abbrev pub script_halt : List ℕ → ScriptError → Halt
@@ -23,4 +24,6 @@ script_halt file (script_fault.UnknownKey key) = refusal cause.ScriptUnknownKey 
 
 -- the script of a file beside a set
 abbrev pub script_in : Contents → List ℕ → TaskSet → Result Script Halt
-script_in contents name set = and_then (bytes_in file_bytes contents name) (λ bytes. or_refused (script_halt name) (script.reading bytes set))
+script_in contents name set =
+    and_then (bytes_in file_bytes contents name)
+    (λ bytes. or_refused (script_halt name) (script.reading bytes set))

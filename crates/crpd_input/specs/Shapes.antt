@@ -8,4 +8,7 @@ use Rattle.crpd_input.specs.Steps.{Exactly, Then}
 
 -- the graphs of all tasks, and then the regions of all tasks
 abbrev pub ShapesIn : Input → Result Shapes Halt → Type 0
-ShapesIn input = Then (GraphsIn input) (λ graphs. Then (RegionsIn input graphs) (λ nests. Exactly (Ok (record { graphs = graphs; nests = nests }))))
+ShapesIn input =
+    Then (GraphsIn input) (λ graphs.
+    Then (RegionsIn input graphs)
+    (λ nests. Exactly (Ok (record { graphs = graphs; nests = nests }))))

@@ -1,5 +1,6 @@
 -- A command is a list of steps. Each gives a value, or why the command stops.
-use Rattle.std.specs.Prelude.{◌≡◌, ◌⊎◌, ℕ, ◌<◌, List, [], ◌∷◌, length, slice_get, Option, Some, Result, Ok, Err, codes}
+use Rattle.std.specs.Prelude.{◌≡◌, ◌⊎◌, ℕ, ◌<◌, List, [], ◌∷◌, length, slice_get, Option, Some}
+use Rattle.std.specs.Prelude.{Result, Ok, Err, codes}
 use Rattle.crpd_io.specs.Outside.{Contents}
 use Rattle.crpd_io.specs.Whole.{file_within, FileRefusal, no_file, too_long}
 use Rattle.crpd_input.specs.declared.cause.Cause.{Cause}
@@ -73,13 +74,19 @@ abbrev pub Exactly : {A : Type 0} → Result A Halt → Result A Halt → Type 0
 Exactly meant r = meant ≡ r
 
 -- one step after another: the first stop ends them
-abbrev pub Then : {A B : Type 0} → (Result A Halt → Type 0) → (A → Result B Halt → Type 0) → Result B Halt → Type 0
-Then {A} P next r = ((value : A) × P (Ok value) × next value r) ⊎ ((halt : Halt) × P (Err halt) × (r ≡ Err halt))
+abbrev pub Then : {A B : Type 0} → (Result A Halt → Type 0) → (A → Result B Halt → Type 0)
+    → Result B Halt → Type 0
+Then {A} P next r =
+    ((value : A) × P (Ok value) × next value r) ⊎ ((halt : Halt) × P (Err halt) × (r ≡ Err halt))
 
--- a step for each number below n, in order: a value for each, or the stop of one before which each has a value
-abbrev pub EachBelow : {B : Type 0} → (ℕ → Result B Halt → Type 0) → ℕ → Result (List B) Halt → Type 0
-EachBelow {B} P n (Ok ys) = (length ys ≡ n) × ((k : ℕ) (y : B) → slice_get ys k ≡ Some y → P k (Ok y))
-EachBelow {B} P n (Err halt) = (k : ℕ) × (k < n) × P k (Err halt) × ((j : ℕ) → j < k → (y : B) × P j (Ok y))
+-- a step for each number below n, in order: a value for each, or the stop of one before which each
+-- has a value
+abbrev pub EachBelow : {B : Type 0} → (ℕ → Result B Halt → Type 0) → ℕ
+    → Result (List B) Halt → Type 0
+EachBelow {B} P n (Ok ys) =
+    (length ys ≡ n) × ((k : ℕ) (y : B) → slice_get ys k ≡ Some y → P k (Ok y))
+EachBelow {B} P n (Err halt) =
+    (k : ℕ) × (k < n) × P k (Err halt) × ((j : ℕ) → j < k → (y : B) × P j (Ok y))
 
 -- the stop is one that is meant, want of memory and faults aside
 abbrev pub StopsBy : {A : Type 0} → (Result A Halt → Type 0) → Halt → Type 0

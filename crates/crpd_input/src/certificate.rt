@@ -30,15 +30,16 @@ fn certificate_halt(alloc: Global, file: &str, error: CertError) -> Halt
 
 /// The certificate of a file of at most 134,217,728 bytes.
 ///
-/// It is refused with 80 or 81 where there is no such file or it is longer, and with 70 to 74 as its text is read; the
-/// subject is the file. A fault comes only where the files counted one. Cost: that of reading the
-/// JSON text.
+/// It is refused with 80 or 81 where there is no such file or it is longer, and with 70 to 74 as
+/// its text is read; the subject is the file. A fault comes only where the files counted one. Cost:
+/// that of reading the JSON text.
 pub fn load_certificate<F: Files>(
     alloc: Global,
     files: &mut F,
     name: &str,
 ) -> Result<Certificate, Halt>
-    ensures exact { HoldsWhereTold (F.contents files.old) (λ c. Means (certificate_in c name.now) result) }
+    ensures exact { HoldsWhereTold (F.contents files.old)
+        (λ c. Means (certificate_in c name.now) result) }
     ensures ranges { IfOk result IsCertificate }
     ensures same { F.contents files.new ≡ F.contents files.old }
     ensures later { F.faults files.old ≤ F.faults files.new }

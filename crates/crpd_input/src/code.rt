@@ -51,12 +51,13 @@ fn map_halt(alloc: Global, file: &str, set: &TaskSet, error: MapError) -> Halt
     }
 }
 
-/// The code of a set that was read from this file: the images of its tasks' files, and for each task its plan.
+/// The code of a set that was read from this file: the images of its tasks' files, and for each
+/// task its plan.
 ///
-/// It is refused with 80 or 81 for a task's file that is not there or is longer than 16,777,216 bytes, with 1 to 11 for one
-/// that is no ELF file of this kind, and then with 40 to 42 for the code of all of them. A file that several tasks name is
-/// read once. A fault comes only where the files counted one. Cost: linear in the files, n log n in their segments and
-/// symbols.
+/// It is refused with 80 or 81 for a task's file that is not there or is longer than 16,777,216
+/// bytes, with 1 to 11 for one that is no ELF file of this kind, and then with 40 to 42 for the
+/// code of all of them. A file that several tasks name is read once. A fault comes only where the
+/// files counted one. Cost: linear in the files, n log n in their segments and symbols.
 pub fn load_code<F: Files>(
     alloc: Global,
     files: &mut F,
@@ -65,7 +66,8 @@ pub fn load_code<F: Files>(
 ) -> Result<CodeMap, Halt>
     requires ranges { IsTaskSet set.now }
     requires few { length set.now.tasks ≤ 256 }
-    ensures exact { HoldsWhereTold (F.contents files.old) (λ c. Means (code_in c name.now set.now) result) }
+    ensures exact { HoldsWhereTold (F.contents files.old)
+        (λ c. Means (code_in c name.now set.now) result) }
     ensures count { IfOk result (λ code. length code.images ≡ length set.now.tasks) }
     ensures bounded { IfOk result HasBoundedLoops }
     ensures same { F.contents files.new ≡ F.contents files.old }

@@ -65,8 +65,8 @@ pub(crate) fn task_graph(alloc: Global, input: &Input, task: Task) -> Result<Gra
 
 /// The flat graphs of all tasks, in their order, of at most 16,384 nodes each.
 ///
-/// Refused with 50 to 58 for the first task without one; the subject is the task, the detail a byte address. Cost: that of
-/// building each graph.
+/// Refused with 50 to 58 for the first task without one; the subject is the task, the detail a byte
+/// address. Cost: that of building each graph.
 pub fn task_graphs(alloc: Global, input: &Input) -> Result<Items<Graph>, Halt>
     requires few { length input.now.set.tasks ≤ 256 }
     requires plans { length input.now.code.plans ≡ length input.now.set.tasks }

@@ -1,5 +1,6 @@
 // The images of the tasks' files.
-ghost use Rattle.std.specs.Prelude.{◌≡◌, ◌≤◌, ◌<◌, length, position, All, IsErrOf, IfOk, IfSome, Ok};
+ghost use Rattle.std.specs.Prelude.{◌≡◌, ◌≤◌, ◌<◌, length, position, All, IsErrOf, IfOk, IfSome};
+ghost use Rattle.std.specs.Prelude.{Ok};
 ghost use Rattle.std.specs.Str.{bytes_eq};
 ghost use Rattle.crpd_base.specs.Images.{IsImage};
 ghost use Rattle.crpd_io.specs.Outside.{Rose};
@@ -48,7 +49,8 @@ fn elf_halt(alloc: Global, file: &str, error: ElfError) -> Halt
 
 /// The image of an ELF file.
 fn load_image<F: Files>(alloc: Global, files: &mut F, name: &str) -> Result<Image, Halt>
-    ensures exact { HoldsWhereTold (F.contents files.old) (λ c. Means (image_in c name.now) result) }
+    ensures exact { HoldsWhereTold (F.contents files.old)
+        (λ c. Means (image_in c name.now) result) }
     ensures image { IfOk result IsImage }
     ensures same { F.contents files.new ≡ F.contents files.old }
     ensures later { F.faults files.old ≤ F.faults files.new }
@@ -70,8 +72,8 @@ fn first_of_file(tasks: &[TaskSpec], file: &str) -> Option<usize>
     tasks.iter().position(|task| file == task.file.as_str())
 }
 
-/// The image of a file: a copy where one of the earlier tasks, whose images are given, names it too. So a file is read
-/// once.
+/// The image of a file: a copy where one of the earlier tasks, whose images are given, names it
+/// too. So a file is read once.
 fn image_of<F: Files>(
     alloc: Global,
     files: &mut F,
@@ -80,9 +82,11 @@ fn image_of<F: Files>(
     file: &str,
 ) -> Result<Image, Halt>
     requires count { length images.now ≡ length earlier.now }
-    requires are { HoldsWhereTold (F.contents files.old) (λ c. images_in c earlier.now ≡ Ok images.now) }
+    requires are { HoldsWhereTold (F.contents files.old)
+        (λ c. images_in c earlier.now ≡ Ok images.now) }
     requires images { All IsImage images.now }
-    ensures exact { HoldsWhereTold (F.contents files.old) (λ c. Means (image_in c file.now) result) }
+    ensures exact { HoldsWhereTold (F.contents files.old)
+        (λ c. Means (image_in c file.now) result) }
     ensures image { IfOk result IsImage }
     ensures same { F.contents files.new ≡ F.contents files.old }
     ensures later { F.faults files.old ≤ F.faults files.new }
@@ -94,15 +98,17 @@ fn image_of<F: Files>(
     }
 }
 
-/// The images of the tasks' files, in the order of the tasks. A file that several tasks name is read and parsed once.
-/// Refused with 80, 81 and 1 to 11 for the first file that is; the subject is the file. A fault comes only where the
-/// files counted one. Cost: linear in the files, and in the images that are copied.
+/// The images of the tasks' files, in the order of the tasks. A file that several tasks name is
+/// read and parsed once. Refused with 80, 81 and 1 to 11 for the first file that is; the subject is
+/// the file. A fault comes only where the files counted one. Cost: linear in the files, and in the
+/// images that are copied.
 pub fn load_images<F: Files>(
     alloc: Global,
     files: &mut F,
     tasks: &[TaskSpec],
 ) -> Result<Items<Image>, Halt>
-    ensures exact { HoldsWhereTold (F.contents files.old) (λ c. Means (images_in c tasks.now) result) }
+    ensures exact { HoldsWhereTold (F.contents files.old)
+        (λ c. Means (images_in c tasks.now) result) }
     ensures count { IfOk result (λ images. length images ≡ length tasks.now) }
     ensures images { IfOk result (λ images. All IsImage images) }
     ensures same { F.contents files.new ≡ F.contents files.old }

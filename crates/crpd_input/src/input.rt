@@ -26,7 +26,8 @@ pub struct Input {
 /// The set of a file with its code, as `load_task_set` and then `load_code` give them.
 /// Refused as these two say; a fault comes only where the files counted one. Cost: that of both.
 pub fn load_input<F: Files>(alloc: Global, files: &mut F, name: &str) -> Result<Input, Halt>
-    ensures exact { HoldsWhereTold (F.contents files.old) (λ c. Means (input_in c name.now) result) }
+    ensures exact { HoldsWhereTold (F.contents files.old)
+        (λ c. Means (input_in c name.now) result) }
     ensures ranges { IfOk result (λ input. IsTaskSet input.set) }
     ensures count { IfOk result (λ input. length input.code.images ≡ length input.set.tasks) }
     ensures bounded { IfOk result (λ input. HasBoundedLoops input.code) }

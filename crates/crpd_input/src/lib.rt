@@ -1,4 +1,5 @@
-//! What the commands read: sets, images, code, graphs, regions, certificates and scripts, each with its refusals.
+//! What the commands read: sets, images, code, graphs, regions, certificates and scripts, each with
+//! its refusals.
 #![tactic(auto)]
 
 mod cause;

@@ -11,15 +11,16 @@ use crpd_io::{FileError, Files, read_all};
 use std::alloc::Global;
 
 /// A file's bytes.
-/// Refused with 80 where there is no such file, and with 81 where it has more than `most` bytes; a fault comes only
-/// where the files counted one. Linear in the bytes.
+/// Refused with 80 where there is no such file, and with 81 where it has more than `most` bytes; a
+/// fault comes only where the files counted one. Linear in the bytes.
 pub fn load<F: Files>(
     alloc: Global,
     files: &mut F,
     name: &str,
     most: u64,
 ) -> Result<Items<u8>, Halt>
-    ensures exact { HoldsWhereTold (F.contents files.old) (λ c. Means (bytes_in most c name.now) result) }
+    ensures exact { HoldsWhereTold (F.contents files.old)
+        (λ c. Means (bytes_in most c name.now) result) }
     ensures same { F.contents files.new ≡ F.contents files.old }
     ensures later { F.faults files.old ≤ F.faults files.new }
     ensures fault { IsErrOf result Halt.Fault → Rose (F.faults files.old) (F.faults files.new) }

@@ -2,8 +2,8 @@
 use crate::cause::Cause;
 use crpd_base::Text;
 
-/// That something is refused: why, for which file or task, and what is wrong there: a key, a number, an address, a name,
-/// or `-`.
+/// That something is refused: why, for which file or task, and what is wrong there: a key, a
+/// number, an address, a name, or `-`.
 #[derive(Drop)]
 pub struct Refusal {
     /// Why; it gives the number and the name.

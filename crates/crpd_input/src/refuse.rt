@@ -37,7 +37,8 @@ pub fn refuse_plainly(alloc: Global, cause: Cause, subject: &str) -> Halt
     }
 }
 
-/// The refusal for this cause with a name as its detail; `Memory` where there is no memory for it. Linear in both texts.
+/// The refusal for this cause with a name as its detail; `Memory` where there is no memory for it.
+/// Linear in both texts.
 pub fn refuse_name(alloc: Global, cause: Cause, subject: &str, name: &str) -> Halt
     ensures { IsRefusal (refusal cause subject.now name.now) result }
 {
@@ -47,8 +48,8 @@ pub fn refuse_name(alloc: Global, cause: Cause, subject: &str, name: &str) -> Ha
     }
 }
 
-/// The refusal for this cause with a number in decimal as its detail; `Memory` where there is no memory for it. Linear in the
-/// subject.
+/// The refusal for this cause with a number in decimal as its detail; `Memory` where there is no
+/// memory for it. Linear in the subject.
 pub fn refuse_count(alloc: Global, cause: Cause, subject: &str, count: u64) -> Halt
     ensures { IsRefusal (refusal cause subject.now (decimal count)) result }
 {
@@ -58,8 +59,8 @@ pub fn refuse_count(alloc: Global, cause: Cause, subject: &str, count: u64) -> H
     }
 }
 
-/// The refusal for this cause with a byte address, in 8 hexadecimal digits, as its detail; `Memory` where there is no memory
-/// for it. Linear in the subject.
+/// The refusal for this cause with a byte address, in 8 hexadecimal digits, as its detail; `Memory`
+/// where there is no memory for it. Linear in the subject.
 pub fn refuse_address(alloc: Global, cause: Cause, subject: &str, address: u32) -> Halt
     ensures { IsRefusal (refusal cause subject.now (hexadecimal address)) result }
 {

@@ -1,7 +1,8 @@
 // The regions of the tasks' loops.
 ghost use Rattle.std.specs.Prelude.{◌≡◌, ◌≤◌, ◌<◌, length, IfOk, IsErrOf};
 ghost use Rattle.crpd_input.specs.Steps.{IsRefusal, MeansBy};
-ghost use Rattle.crpd_input.specs.Graphs.{HasBoundedLoops, RegionsAt, RegionsIn, loop_halt as loop_stop};
+ghost use Rattle.crpd_input.specs.Graphs.{HasBoundedLoops, RegionsAt, RegionsIn};
+ghost use Rattle.crpd_input.specs.Graphs.{loop_halt as loop_stop};
 ghost use Rattle.flat_graph.specs.CodeGraph.{graph_at};
 ghost use Rattle.cert_check.specs.TaskGraphs.{AreTaskGraphs};
 ghost use Rattle.loop_regions.specs.CodeNest.{IsNestOf};
@@ -57,8 +58,8 @@ pub(crate) fn task_regions(
 }
 
 /// The regions of all tasks' loops, in the order of the tasks.
-/// Refused with 60 to 63 for the first task whose loops have no such regions; the subject is the task, the detail a
-/// byte address. Cost: that of finding the regions of each task.
+/// Refused with 60 to 63 for the first task whose loops have no such regions; the subject is the
+/// task, the detail a byte address. Cost: that of finding the regions of each task.
 pub fn all_regions(alloc: Global, input: &Input, graphs: &[Graph]) -> Result<Items<Nest>, Halt>
     requires few { length input.now.set.tasks ≤ 256 }
     requires plans { length input.now.code.plans ≡ length input.now.set.tasks }

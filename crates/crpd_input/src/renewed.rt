@@ -1,4 +1,5 @@
-// The graphs of the tasks with the regions of their loops, taken over from an old set where they are the same.
+// The graphs of the tasks with the regions of their loops, taken over from an old set where they
+// are the same.
 ghost use Rattle.std.specs.Prelude.{◌≡◌, ◌≤◌, ◌<◌, length, None, Ok, slice_index_or, IfOk, IsErrOf};
 ghost use Rattle.flat_graph.specs.CodeGraph.{graph_at};
 ghost use Rattle.cert_check.specs.TaskGraphs.{AreTaskGraphs};
@@ -53,7 +54,8 @@ fn renewed_graphs(
     input: &Input,
 ) -> Result<Items<Graph>, Halt>
     requires old_graphs { length old_graphs.now ≡ length old.now.set.tasks }
-    requires sources { AreSources old.now old_graphs.now input.now (length input.now.set.tasks) sources.now }
+    requires sources { AreSources old.now old_graphs.now input.now (length input.now.set.tasks)
+        sources.now }
     requires few { length input.now.set.tasks ≤ 256 }
     requires plans { length input.now.code.plans ≡ length input.now.set.tasks }
     ensures exact { MeansBy (GraphsIn input.now) result }
@@ -102,7 +104,8 @@ fn renewed_regions(
     }
 }
 
-/// The regions of all tasks' loops, in the order of the tasks: copies of those of their sources, where they have one.
+/// The regions of all tasks' loops, in the order of the tasks: copies of those of their sources,
+/// where they have one.
 fn renewed_nests(
     alloc: Global,
     old: &Input,
@@ -113,7 +116,8 @@ fn renewed_nests(
 ) -> Result<Items<Nest>, Halt>
     requires old_shapes { ShapesIn old.now (Ok old_shapes.now) }
     requires old_shown { AreTaskGraphs old.now.set old_shapes.now.graphs old_shapes.now.nests }
-    requires sources { AreSources old.now old_shapes.now.graphs input.now (length input.now.set.tasks) sources.now }
+    requires sources { AreSources old.now old_shapes.now.graphs input.now
+        (length input.now.set.tasks) sources.now }
     requires few { length input.now.set.tasks ≤ 256 }
     requires plans { length input.now.code.plans ≡ length input.now.set.tasks }
     requires graphs { GraphsIn input.now (Ok graphs.now) }
@@ -135,10 +139,12 @@ fn renewed_nests(
     Ok(Items::new(nests))
 }
 
-/// The graphs of all tasks, and then the regions of all tasks' loops, as `task_shapes` gives them for this set: those of
-/// the tasks that are the same in an old set, whose graphs and regions are given, are copied.
+/// The graphs of all tasks, and then the regions of all tasks' loops, as `task_shapes` gives them
+/// for this set: those of the tasks that are the same in an old set, whose graphs and regions are
+/// given, are copied.
 ///
-/// Cost: linear in the nodes and regions of the same tasks, and for the others that of building each graph and its regions.
+/// Cost: linear in the nodes and regions of the same tasks, and for the others that of building
+/// each graph and its regions.
 pub fn renewed_shapes(
     alloc: Global,
     old: &Input,

@@ -53,7 +53,8 @@ fn are_same_loops(old: &[LoopAt], new: &[LoopAt]) -> bool
     true
 }
 
-/// Whether the graph of an old task is that of a new task, and both have the same loops. Linear in the nodes.
+/// Whether the graph of an old task is that of a new task, and both have the same loops. Linear in
+/// the nodes.
 fn is_same_task(old: &Input, graphs: &[Graph], place: usize, input: &Input, task: Task) -> bool
     requires few { length old.now.code.plans ≤ 256 }
     requires old_planned { place < length old.now.code.plans }
@@ -90,7 +91,8 @@ fn source(old: &Input, graphs: &[Graph], input: &Input, task: Task) -> Option<us
     }
 }
 
-/// For each new task the old task of its name, where it is the same. Linear in the nodes of these old tasks.
+/// For each new task the old task of its name, where it is the same. Linear in the nodes of these
+/// old tasks.
 pub(crate) fn sources(
     alloc: Global,
     old: &Input,
@@ -102,7 +104,8 @@ pub(crate) fn sources(
     requires graphs { length graphs.now ≡ length old.now.set.tasks }
     requires few { length input.now.set.tasks ≤ 256 }
     requires plans { length input.now.code.plans ≡ length input.now.set.tasks }
-    ensures { IfOk result (λ s. AreSources old.now graphs.now input.now (length input.now.set.tasks) s.items) }
+    ensures { IfOk result (λ s.
+        AreSources old.now graphs.now input.now (length input.now.set.tasks) s.items) }
 {
     let mut sources = Vec::new(alloc);
     for place in 0..input.set.tasks.as_slice().len() {

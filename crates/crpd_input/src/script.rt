@@ -29,17 +29,20 @@ fn script_halt(alloc: Global, file: &str, error: ScriptError) -> Halt
     }
 }
 
-/// The script of a file of at most 16,777,216 bytes, beside the set whose tasks it names: at most 10,000 jobs.
+/// The script of a file of at most 16,777,216 bytes, beside the set whose tasks it names: at most
+/// 10,000 jobs.
 ///
-/// It is refused with 80 or 81 where there is no such file or it is longer, and with 30 to 35 as its text is read; the
-/// subject is the file. A fault comes only where the files counted one. Cost: that of reading the TOML text.
+/// It is refused with 80 or 81 where there is no such file or it is longer, and with 30 to 35 as
+/// its text is read; the subject is the file. A fault comes only where the files counted one. Cost:
+/// that of reading the TOML text.
 pub fn load_script<F: Files>(
     alloc: Global,
     files: &mut F,
     name: &str,
     set: &TaskSet,
 ) -> Result<Script, Halt>
-    ensures exact { HoldsWhereTold (F.contents files.old) (λ c. Means (script_in c name.now set.now) result) }
+    ensures exact { HoldsWhereTold (F.contents files.old)
+        (λ c. Means (script_in c name.now set.now) result) }
     ensures tasks { IfOk result (λ script. NamesTasks set.now script.jobs) }
     ensures few { IfOk result (λ script. length script.jobs ≤ 10000) }
     ensures same { F.contents files.new ≡ F.contents files.old }

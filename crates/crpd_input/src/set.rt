@@ -32,9 +32,9 @@ fn set_halt(alloc: Global, file: &str, error: SetError) -> Halt
 
 /// The task set of a file of at most 16,777,216 bytes: 1 to 32 tasks.
 ///
-/// It is refused with 80 or 81 where there is no such file or it is longer, and with 20 to 26 as its text is read; the
-/// subject is the file. A fault comes only where the files counted one. Cost: that of reading
-/// the TOML text.
+/// It is refused with 80 or 81 where there is no such file or it is longer, and with 20 to 26 as
+/// its text is read; the subject is the file. A fault comes only where the files counted one. Cost:
+/// that of reading the TOML text.
 pub fn load_task_set<F: Files>(alloc: Global, files: &mut F, name: &str) -> Result<TaskSet, Halt>
     ensures exact { HoldsWhereTold (F.contents files.old) (λ c. Means (set_in c name.now) result) }
     ensures ranges { IfOk result IsTaskSet }

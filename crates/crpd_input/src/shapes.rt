@@ -25,8 +25,9 @@ pub struct Shapes {
 
 /// The graphs of all tasks, and then the regions of all tasks' loops.
 ///
-/// Refused as `task_graphs` says, and then with 60 to 63 for the first task whose loops have no such regions; the subject is
-/// the task, the detail a byte address. Cost: that of building each graph and its regions.
+/// Refused as `task_graphs` says, and then with 60 to 63 for the first task whose loops have no
+/// such regions; the subject is the task, the detail a byte address. Cost: that of building each
+/// graph and its regions.
 pub fn task_shapes(alloc: Global, input: &Input) -> Result<Shapes, Halt>
     requires few { length input.now.set.tasks ≤ 256 }
     requires plans { length input.now.code.plans ≡ length input.now.set.tasks }

@@ -4,7 +4,9 @@ use Rattle.std.proofs.lemmas.List.{append-nil}
 use Rattle.std.specs.Fmt.{char_count, digits, format_spec, padded_integral}
 use Rattle.crpd_report.specs.Texts.{hexadecimal}
 
-pub styled_hexadecimal : (n : ℕ) → padded_integral (format_spec 32 0 4 8 (2 ^ 64 - 1)) false [] (digits 16 false n) ≡ hexadecimal n
+pub styled_hexadecimal : (n : ℕ)
+    → padded_integral (format_spec 32 0 4 8 (2 ^ 64 - 1)) false [] (digits 16 false n)
+    ≡ hexadecimal n
 unfolding padded_integral char_count
 styled_hexadecimal n =
     let e : 8 - length (digits 16 false n) - 0 - 0 ≡ 8 - length (digits 16 false n) = omega arith in

@@ -13,19 +13,25 @@ use Rattle.crpd_base.specs.Tasks.{name_of}
 
 -- the times that a certificate states for a task
 abbrev pub times_text : TaskPart → List ℕ
-times_text p = codes "bound " ++ decimal p.part.bound ++ codes " window " ++ decimal p.window ++ codes " response " ++ decimal p.response ++ codes " method " ++ method_name p.method
+times_text p =
+    codes "bound " ++ decimal p.part.bound ++ codes " window " ++ decimal p.window
+    ++ codes " response " ++ decimal p.response ++ codes " method " ++ method_name p.method
 
 -- the line of a task
 abbrev pub task_line : TaskSpec × TaskPart → List ℕ
 task_line pair = pair.0.name ++ codes " " ++ times_text pair.1 ++ 10 ∷ []
 
--- every clause holds: a line for each task of the set, with the times that the certificate states at its place
+-- every clause holds: a line for each task of the set, with the times that the certificate states
+-- at its place
 unfoldable pub yes_text : TaskSet → Certificate → List ℕ
-yes_text set certificate = (codes "yes" ++ 10 ∷ []) ++ flat_map task_line (zip set.tasks certificate.tasks)
+yes_text set certificate =
+    (codes "yes" ++ 10 ∷ []) ++ flat_map task_line (zip set.tasks certificate.tasks)
 
 -- a clause does not hold for a task
 abbrev pub no_text : List ℕ → ℕ → ℕ → List ℕ
-no_text name clause place = codes "no " ++ name ++ codes " clause " ++ decimal clause ++ codes " place " ++ decimal place ++ 10 ∷ []
+no_text name clause place =
+    codes "no " ++ name ++ codes " clause " ++ decimal clause ++ codes " place "
+    ++ decimal place ++ 10 ∷ []
 
 -- the text of a verdict
 abbrev pub check_text : TaskSet → Certificate → Verdict → List ℕ

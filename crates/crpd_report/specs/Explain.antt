@@ -20,10 +20,13 @@ job_name set job = name_of set job.task ++ codes " " ++ decimal job.number
 
 -- what missed where and when, and which job had evicted the block and which one preempted
 abbrev pub miss_text : TaskSet → Entry → List ℕ
-miss_text set e = codes "reload " ++ job_name set e.job ++ codes " set " ++ decimal e.set ++ codes " cycle " ++ decimal e.time
+miss_text set e =
+    codes "reload " ++ job_name set e.job ++ codes " set " ++ decimal e.set ++ codes " cycle "
+    ++ decimal e.time
 
 abbrev pub cause_text : TaskSet → Entry → List ℕ
-cause_text set e = codes "evictor " ++ job_name set e.evictor ++ codes " preemptor " ++ job_name set e.preemptor
+cause_text set e =
+    codes "evictor " ++ job_name set e.evictor ++ codes " preemptor " ++ job_name set e.preemptor
 
 -- the line of a reload
 abbrev pub reload_line : TaskSet → Entry → List ℕ
@@ -32,25 +35,32 @@ reload_line set e = miss_text set e ++ codes " " ++ cause_text set e ++ 10 ∷ [
 unfoldable pub reload_lines : TaskSet → List Entry → List ℕ
 reload_lines set entries = flat_map (reload_line set) entries
 
--- the delays that a certificate charges to the task at a place, of all higher tasks together: at the task's window, by its
--- method, with the certificate's parts and windows
+-- the delays that a certificate charges to the task at a place, of all higher tasks together: at
+-- the task's window, by its method, with the certificate's parts and windows
 abbrev pub delay_of : TaskSet → Certificate → ℕ → ℕ
 delay_of set certificate i =
-    charged_delays set (certified_part certificate) (window_at certificate) i (certified_task certificate i).method (window_at certificate i)
+    charged_delays set (certified_part certificate) (window_at certificate) i
+    (certified_task certificate i).method (window_at certificate i)
 
 abbrev pub delay_line : TaskSet → Certificate → ℕ → List ℕ
-delay_line set certificate i = codes "delay " ++ name_of set (record { 0 = i }) ++ codes " " ++ decimal (delay_of set certificate i) ++ 10 ∷ []
+delay_line set certificate i =
+    codes "delay " ++ name_of set (record { 0 = i }) ++ codes " "
+    ++ decimal (delay_of set certificate i) ++ 10 ∷ []
 
 -- a line for each task of the set
 unfoldable pub delay_lines : TaskSet → Certificate → List ℕ
-delay_lines set certificate = flat_map (delay_line set certificate) (range_with_len 0 (length set.tasks))
+delay_lines set certificate =
+    flat_map (delay_line set certificate) (range_with_len 0 (length set.tasks))
 
 -- the lines of the reloads and of the delays, and the line of the run
 abbrev pub explain_text : TaskSet → Certificate → Script → Account → List ℕ
 explain_text set certificate script account =
-    reload_lines set account.entries ++ delay_lines set certificate ++ run_line (is_legal set script.jobs) account.kept
+    reload_lines set account.entries ++ delay_lines set certificate
+    ++ run_line (is_legal set script.jobs) account.kept
 
--- a certificate has a part for each task of the set, with a window that is, with the task's jitter, at most its deadline
+-- a certificate has a part for each task of the set, with a window that is, with the task's jitter,
+-- at most its deadline
 pub record HasWindowOfEach (set : TaskSet) (certificate : Certificate) : Type 0 where
   pub tasks : length certificate.tasks ≡ length set.tasks
-  pub in_deadline : (k : ℕ) → k < length set.tasks → window_at certificate k + jitter_of set k ≤ deadline_of set k
+  pub in_deadline : (k : ℕ) → k < length set.tasks
+      → window_at certificate k + jitter_of set k ≤ deadline_of set k

@@ -1,5 +1,7 @@
--- The text of a made input: its verdict, and how the jobs of its script stand after the script's cycles.
-use Rattle.std.specs.Prelude.{◌≡◌, ℕ, ◌+◌, Bool, true, false, not, ◌&&◌, ◌↔◌, IsTrue, nat_le, count_by, List, [], ◌∷◌, ◌++◌, codes, length, map, slice_index, All}
+-- The text of a made input: its verdict, and how the jobs of its script stand after the script's
+-- cycles.
+use Rattle.std.specs.Prelude.{◌≡◌, ℕ, ◌+◌, Bool, true, false, not, ◌&&◌, ◌↔◌, IsTrue, nat_le}
+use Rattle.std.specs.Prelude.{count_by, List, [], ◌∷◌, ◌++◌, codes, length, map, slice_index, All}
 use Rattle.std.specs.Fmt.{decimal}
 use Rattle.std.specs.List.{range_with_len, zip}
 use Rattle.crpd_base.specs.declared.data.Certificate.{Certificate}
@@ -31,10 +33,11 @@ is_answered_by deadline Open = false
 is_answered_by deadline (Answered time) = nat_le time deadline
 is_answered_by deadline Faulted = false
 
--- whether a job with this response time is late after so many cycles: its arrival plus the response is past, and it has not
--- answered by then
+-- whether a job with this response time is late after so many cycles: its arrival plus the response
+-- is past, and it has not answered by then
 abbrev pub is_late : ℕ → ℕ → ScriptJob → End → Bool
-is_late time response job «end» = nat_le (job.arrival + response) time && not (is_answered_by (job.arrival + response) «end»)
+is_late time response job «end» =
+    nat_le (job.arrival + response) time && not (is_answered_by (job.arrival + response) «end»)
 
 -- the response time that a certificate states for the task at a place
 abbrev pub response_of : Certificate → Task → ℕ
@@ -46,25 +49,32 @@ answered_count completions = count_by (λ (c : Completion). is_answered c.«end�
 
 -- whether a job of a script is late after the script's cycles, by the response time of its task
 abbrev pub is_late_in : Script → Certificate → ScriptJob × Completion → Bool
-is_late_in script certificate pair = is_late script.cycles (response_of certificate pair.0.task) pair.0 pair.1.«end»
+is_late_in script certificate pair =
+    is_late script.cycles (response_of certificate pair.0.task) pair.0 pair.1.«end»
 
 -- how many jobs of a script are late
 unfoldable pub late_count : Script → Certificate → List Completion → ℕ
-late_count script certificate completions = count_by (is_late_in script certificate) (zip script.jobs completions)
+late_count script certificate completions =
+    count_by (is_late_in script certificate) (zip script.jobs completions)
 
 -- the line of the made input: its number, its tasks and the nodes of all their graphs
 abbrev pub made_line : ℕ → ℕ → List ℕ
-made_line n nodes = codes "generated " ++ decimal n ++ codes " tasks 16 nodes " ++ decimal nodes ++ 10 ∷ []
+made_line n nodes =
+    codes "generated " ++ decimal n ++ codes " tasks 16 nodes " ++ decimal nodes ++ 10 ∷ []
 
 -- the line of the jobs: how many there are, are answered, and are late
 abbrev pub jobs_line : ℕ → ℕ → ℕ → List ℕ
-jobs_line jobs answered late = codes "jobs " ++ decimal jobs ++ codes " answered " ++ decimal answered ++ codes " late " ++ decimal late ++ 10 ∷ []
+jobs_line jobs answered late =
+    codes "jobs " ++ decimal jobs ++ codes " answered " ++ decimal answered ++ codes " late "
+    ++ decimal late ++ 10 ∷ []
 
 -- the whole text
-unfoldable pub generate_text : ℕ → ℕ → TaskSet → Certificate → Verdict → Script → List Completion → Bool → List ℕ
+unfoldable pub generate_text : ℕ → ℕ → TaskSet → Certificate → Verdict → Script → List Completion
+    → Bool → List ℕ
 generate_text n nodes set certificate verdict script completions kept =
     made_line n nodes ++ check_text set certificate verdict
-    ++ jobs_line (length script.jobs) (answered_count completions) (late_count script certificate completions)
+    ++ jobs_line (length script.jobs) (answered_count completions)
+    (late_count script certificate completions)
     ++ run_line (is_legal set script.jobs) kept
 
 -- ---- what the counts say of a run
@@ -73,12 +83,15 @@ generate_text n nodes set certificate verdict script completions kept =
 abbrev pub LateLaw : Type 0
 LateLaw =
     (time response now : ℕ) (job : Job) →
-    IsTrue (is_late time response job.line (end_by now job.line.release job.standing)) ↔ IsLate time response job
+    IsTrue (is_late time response job.line (end_by now job.line.release job.standing))
+    ↔ IsLate time response job
 
--- where no job of a state is late by a certificate's response times, the state's completions count none
+-- where no job of a state is late by a certificate's response times, the state's completions count
+-- none
 abbrev pub NoneLateLaw : Type 0
 NoneLateLaw =
     (script : Script) (certificate : Certificate) (m : Machine) →
     script.jobs ≡ map (λ (job : Job). job.line) m.jobs →
-    All (λ (job : Job). IsLate script.cycles (slice_index (responses certificate) job.line.task.0) job → ⊥) m.jobs →
+    All (λ (job : Job). IsLate script.cycles (slice_index (responses certificate) job.line.task.0)
+    job → ⊥) m.jobs →
     late_count script certificate (map (completion_at m) (range_with_len 0 (length m.jobs))) ≡ 0

@@ -1,5 +1,7 @@
--- The list of a task's own words: a line per address at which its own file holds a whole word, in increasing order.
-use Rattle.std.specs.Prelude.{ℕ, zero, suc, ◌^◌, Bool, List, [], ◌∷◌, ◌++◌, codes, slice_get, Option, Some, None, if◌then◌else◌}
+-- The list of a task's own words: a line per address at which its own file holds a whole word, in
+-- increasing order.
+use Rattle.std.specs.Prelude.{ℕ, zero, suc, ◌^◌, Bool, List, [], ◌∷◌, ◌++◌, codes, slice_get}
+use Rattle.std.specs.Prelude.{Option, Some, None, if◌then◌else◌}
 use Rattle.std.specs.List.{flat_map}
 use Rattle.std.specs.Option.{option_map_or}
 use Rattle.crpd_base.specs.declared.data.Task.{Task}
@@ -25,7 +27,9 @@ word_text (Some ins) = text ins
 word_text None = codes ".word"
 
 abbrev pub word_line : ℕ → ℕ → List ℕ
-word_line address word = hexadecimal address ++ codes " " ++ hexadecimal word ++ codes " " ++ word_text (ins_of_word word) ++ 10 ∷ []
+word_line address word =
+    hexadecimal address ++ codes " " ++ hexadecimal word ++ codes " "
+    ++ word_text (ins_of_word word) ++ 10 ∷ []
 
 -- the line of the word at an address, where there is one
 abbrev pub line_of : ℕ → Option ℕ → List ℕ
@@ -36,4 +40,5 @@ abbrev pub word_lines : Code → List ℕ → List ℕ
 word_lines code addresses = flat_map (λ a. line_of a (word_at code.images a)) addresses
 
 unfoldable pub list_text : Code → Task → List ℕ
-list_text code task = word_lines code (option_map_or own_addresses (slice_get code.images task.0) [])
+list_text code task =
+    word_lines code (option_map_or own_addresses (slice_get code.images task.0) [])

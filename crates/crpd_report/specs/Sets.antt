@@ -18,7 +18,9 @@ numbers_text words = flat_map number_text (those_below 512 (has words))
 
 -- the two lines of a task of this name
 abbrev pub part_lines : List ℕ → Part → List ℕ
-part_lines name part = (name ++ codes " evicting" ++ numbers_text part.evicting ++ 10 ∷ []) ++ (name ++ codes " useful" ++ numbers_text part.useful ++ 10 ∷ [])
+part_lines name part =
+    (name ++ codes " evicting" ++ numbers_text part.evicting ++ 10 ∷ [])
+    ++ (name ++ codes " useful" ++ numbers_text part.useful ++ 10 ∷ [])
 
 abbrev pub task_lines : TaskSpec × Part → List ℕ
 task_lines pair = part_lines pair.0.name pair.1

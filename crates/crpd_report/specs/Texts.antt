@@ -8,4 +8,6 @@ hexadecimal n = replicate (8 - length (digits 16 false n)) 48 ++ digits 16 false
 
 -- the line of a refusal
 abbrev pub refusal_text : ℕ → List ℕ → List ℕ → List ℕ → List ℕ
-refusal_text number name subject detail = codes "refused " ++ decimal number ++ codes " " ++ name ++ codes " " ++ subject ++ codes " " ++ detail ++ 10 ∷ []
+refusal_text number name subject detail =
+    codes "refused " ++ decimal number ++ codes " " ++ name ++ codes " " ++ subject ++ codes " "
+    ++ detail ++ 10 ∷ []

@@ -38,7 +38,9 @@ fn add_task(
     name: &str,
     part: &TaskPart,
 ) -> Result<(), AllocError>
-    ensures { IfOk result (λ _. text.new.items ≡ text.old.items ++ (name.now ++ codes " " ++ spec.times_text part.now ++ 10 ∷ [])) }
+    ensures { IfOk result (λ _.
+        text.new.items ≡ text.old.items
+        ++ (name.now ++ codes " " ++ spec.times_text part.now ++ 10 ∷ [])) }
 {
     let times = times_text(alloc, part)?;
     let line = format!(in alloc; "{name} {times}\n")?;
@@ -75,7 +77,8 @@ fn lines(
     certificate: &Certificate,
     verdict: &Verdict,
 ) -> Result<Vec<u8>, AllocError>
-    ensures { IfOk result (λ text. text.items ≡ spec.check_text set.now certificate.now verdict.now) }
+    ensures { IfOk result (λ text.
+        text.items ≡ spec.check_text set.now certificate.now verdict.now) }
 {
     match *verdict {
         Verdict::Yes => yes(alloc, set, certificate),
@@ -87,9 +90,10 @@ fn lines(
     }
 }
 
-/// The text of a verdict on a certificate. After yes it is `yes`, and a line for each task of the set, with its name and
-/// what the certificate states at its place: bound, window and response in cycles, and the method. After no it is one line:
-/// the name of the first task for which a clause does not hold, the number of that clause, and the place of the failure.
+/// The text of a verdict on a certificate. After yes it is `yes`, and a line for each task of the
+/// set, with its name and what the certificate states at its place: bound, window and response in
+/// cycles, and the method. After no it is one line: the name of the first task for which a clause
+/// does not hold, the number of that clause, and the place of the failure.
 ///
 /// The task that the verdict names is in the set. `Memory` is the only error. Linear in the text.
 pub fn check_text(
@@ -99,7 +103,8 @@ pub fn check_text(
     verdict: &Verdict,
 ) -> Result<Vec<u8>, Memory>
     requires { spec.NamesTask set.now verdict.now }
-    ensures { IfOk result (λ text. text.items ≡ spec.check_text set.now certificate.now verdict.now) }
+    ensures { IfOk result (λ text.
+        text.items ≡ spec.check_text set.now certificate.now verdict.now) }
 {
     match lines(alloc, set, certificate, verdict) {
         Ok(text) => Ok(text),

@@ -1,5 +1,6 @@
 // The text of an account.
-ghost use Rattle.std.specs.Prelude.{◌≡◌, ◌+◌, ◌<◌, [], ◌∷◌, ◌++◌, codes, length, map, string_bytes, IfOk};
+ghost use Rattle.std.specs.Prelude.{◌≡◌, ◌+◌, ◌<◌, [], ◌∷◌, ◌++◌, codes, length, map, string_bytes};
+ghost use Rattle.std.specs.Prelude.{IfOk};
 ghost use Rattle.std.specs.Fmt.{decimal};
 ghost use Rattle.crpd_base.specs.Ranges.{IsTaskSet};
 ghost use Rattle.crpd_base.specs.declared.data.TaskPart.{TaskPart};
@@ -63,7 +64,8 @@ fn add_reloads(
     set: &TaskSet,
     entries: &[Entry],
 ) -> Result<(), AllocError>
-    ensures { IfOk result (λ _. text.new.items ≡ text.old.items ++ spec.reload_lines set.now entries.now) }
+    ensures { IfOk result (λ _.
+        text.new.items ≡ text.old.items ++ spec.reload_lines set.now entries.now) }
 {
     for entry in entries {
         let line = reload_line(alloc, set, entry)?;
@@ -88,7 +90,9 @@ fn windows_of(alloc: Global, tasks: &[TaskPart]) -> Result<Vec<u64>, AllocError>
 
 /// Adds the line of the delays that are charged to a task of this name.
 fn add_delay(alloc: Global, text: &mut Vec<u8>, name: &str, delay: u128) -> Result<(), AllocError>
-    ensures { IfOk result (λ _. text.new.items ≡ text.old.items ++ (codes "delay " ++ name.now ++ codes " " ++ decimal delay ++ 10 ∷ [])) }
+    ensures { IfOk result (λ _.
+        text.new.items ≡ text.old.items
+        ++ (codes "delay " ++ name.now ++ codes " " ++ decimal delay ++ 10 ∷ [])) }
 {
     let line = format!(in alloc; "delay {name} {delay}\n")?;
     text.extend_from_slice(line.as_bytes())?;
@@ -104,7 +108,8 @@ fn add_delays(
 ) -> Result<(), AllocError>
     requires set { IsTaskSet set.now }
     requires certificate { HasWindowOfEach set.now certificate.now }
-    ensures { IfOk result (λ _. text.new.items ≡ text.old.items ++ spec.delay_lines set.now certificate.now) }
+    ensures { IfOk result (λ _.
+        text.new.items ≡ text.old.items ++ spec.delay_lines set.now certificate.now) }
 {
     let tasks = certificate.tasks.as_slice();
     let parts = parts_of(alloc, tasks)?;
@@ -128,7 +133,8 @@ fn lines(
     requires set { IsTaskSet set.now }
     requires certificate { HasWindowOfEach set.now certificate.now }
     requires script { NamesTasks set.now script.now.jobs }
-    ensures { IfOk result (λ text. text.items ≡ spec.explain_text set.now certificate.now script.now account.now) }
+    ensures { IfOk result (λ text.
+        text.items ≡ spec.explain_text set.now certificate.now script.now account.now) }
 {
     let mut text = Vec::new(alloc);
     add_reloads(alloc, &mut text, set, account.entries.as_slice())?;
@@ -138,14 +144,15 @@ fn lines(
     Ok(text)
 }
 
-/// The text of an account: for each of its reloads, in its order, a line with the job that misses, the cache set, the cycle
-/// of the fetch, and the jobs that evicted the block and that preempted, each job by its task's name and its number; then
-/// for each task of the set a line `delay NAME D`, D being the cycles of delay that the certificate charges to the task's
-/// window for the evictions of all higher tasks, by the certificate's method; at the end the line of the run.
+/// The text of an account: for each of its reloads, in its order, a line with the job that misses,
+/// the cache set, the cycle of the fetch, and the jobs that evicted the block and that preempted,
+/// each job by its task's name and its number; then for each task of the set a line `delay NAME D`,
+/// D being the cycles of delay that the certificate charges to the task's window for the evictions
+/// of all higher tasks, by the certificate's method; at the end the line of the run.
 ///
-/// The certificate has one task for each task of the set, with a window that is, with the task's jitter, at most its
-/// deadline, and the script's jobs are of the set's tasks. `Memory` is the only error. Linear in the text and in the tasks'
-/// delays, besides the test of legality.
+/// The certificate has one task for each task of the set, with a window that is, with the task's
+/// jitter, at most its deadline, and the script's jobs are of the set's tasks. `Memory` is the only
+/// error. Linear in the text and in the tasks' delays, besides the test of legality.
 pub fn explain_text(
     alloc: Global,
     set: &TaskSet,
@@ -156,7 +163,8 @@ pub fn explain_text(
     requires set { IsTaskSet set.now }
     requires certificate { HasWindowOfEach set.now certificate.now }
     requires script { NamesTasks set.now script.now.jobs }
-    ensures { IfOk result (λ text. text.items ≡ spec.explain_text set.now certificate.now script.now account.now) }
+    ensures { IfOk result (λ text.
+        text.items ≡ spec.explain_text set.now certificate.now script.now account.now) }
 {
     match lines(alloc, set, certificate, script, account) {
         Ok(text) => Ok(text),

@@ -54,9 +54,10 @@ fn add_line(
     }
 }
 
-/// The list of a task's own words: one line per address at which a whole word stands in the task's own file, in
-/// increasing order, with the word itself. An address and a word are 8 lower-case hexadecimal digits, and a word that is
-/// no instruction is `.word`. A word may straddle two segments of the file that adjoin. `Memory` is the only error.
+/// The list of a task's own words: one line per address at which a whole word stands in the task's
+/// own file, in increasing order, with the word itself. An address and a word are 8 lower-case
+/// hexadecimal digits, and a word that is no instruction is `.word`. A word may straddle two
+/// segments of the file that adjoin. `Memory` is the only error.
 ///
 /// A step per word, each logarithmic in the number of segments, and linear in the text.
 ///

@@ -5,9 +5,9 @@ ghost use Rattle.crpd_report.specs.Texts as spec;
 use crpd_base::Memory;
 use std::alloc::Global;
 
-/// The line of a refusal: `refused`, its number in decimal, its name, its subject (a file or a task) and its detail, with
-/// a space between each two and a line feed at the end. The parts are written as they are. `Memory` is the only error.
-/// Linear in the line.
+/// The line of a refusal: `refused`, its number in decimal, its name, its subject (a file or a
+/// task) and its detail, with a space between each two and a line feed at the end. The parts are
+/// written as they are. `Memory` is the only error. Linear in the line.
 pub fn refusal_text(
     alloc: Global,
     number: u32,
@@ -15,7 +15,8 @@ pub fn refusal_text(
     subject: &str,
     detail: &str,
 ) -> Result<Vec<u8>, Memory>
-    ensures { IfOk result (λ text. text.items ≡ spec.refusal_text number name.now subject.now detail.now) }
+    ensures { IfOk result (λ text.
+        text.items ≡ spec.refusal_text number name.now subject.now detail.now) }
 {
     match format!(in alloc; "refused {number} {name} {subject} {detail}\n") {
         Ok(text) => Ok(text.into_bytes()),

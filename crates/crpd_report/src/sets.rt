@@ -34,7 +34,9 @@ fn add_line(
     kind: &str,
     set: &SetBits<WORDS>,
 ) -> Result<(), AllocError>
-    ensures { IfOk result (λ _. text.new.items ≡ text.old.items ++ (name.now ++ codes " " ++ kind.now ++ spec.numbers_text set.now ++ 10 ∷ [])) }
+    ensures { IfOk result (λ _.
+        text.new.items ≡ text.old.items
+        ++ (name.now ++ codes " " ++ kind.now ++ spec.numbers_text set.now ++ 10 ∷ [])) }
 {
     text.extend_from_slice(name.as_bytes())?;
     text.extend_from_slice(b" ")?;
@@ -46,7 +48,8 @@ fn add_line(
 
 /// Adds the two lines of a task of this name.
 fn add_task(alloc: Global, text: &mut Vec<u8>, name: &str, part: &Part) -> Result<(), AllocError>
-    ensures { IfOk result (λ _. text.new.items ≡ text.old.items ++ spec.part_lines name.now part.now) }
+    ensures { IfOk result (λ _.
+        text.new.items ≡ text.old.items ++ spec.part_lines name.now part.now) }
 {
     add_line(alloc, text, name, "evicting", &part.evicting)?;
     add_line(alloc, text, name, "useful", &part.useful)?;
@@ -63,13 +66,14 @@ fn lines(alloc: Global, set: &TaskSet, parts: &[Part]) -> Result<Vec<u8>, AllocE
     Ok(text)
 }
 
-/// The cache sets of tasks: for each task of the set, with the part at its place, a line `NAME evicting` with the sets that
-/// its accesses fill, and a line `NAME useful` with those that hold a useful block at some point; the numbers of cache
-/// sets follow in increasing order, with a space before each. `Memory` is the only error. A step per cache set of the
-/// greatest platform and task, and linear in the text.
+/// The cache sets of tasks: for each task of the set, with the part at its place, a line `NAME
+/// evicting` with the sets that its accesses fill, and a line `NAME useful` with those that hold a
+/// useful block at some point; the numbers of cache sets follow in increasing order, with a space
+/// before each. `Memory` is the only error. A step per cache set of the greatest platform and task,
+/// and linear in the text.
 ///
-/// Source: C.-G. Lee et al., Analysis of cache-related preemption delay in fixed-priority preemptive scheduling, IEEE
-/// Transactions on Computers 47 (1998) (useful cache blocks).
+/// Source: C.-G. Lee et al., Analysis of cache-related preemption delay in fixed-priority
+/// preemptive scheduling, IEEE Transactions on Computers 47 (1998) (useful cache blocks).
 pub fn sets_text(alloc: Global, set: &TaskSet, parts: &[Part]) -> Result<Vec<u8>, Memory>
     ensures { IfOk result (λ text. text.items ≡ spec.sets_text set.now parts.now) }
 {

@@ -6,8 +6,8 @@ use std::alloc::{AllocError, Global};
 use std::process::Abort;
 use std::test::Fail;
 
-// A task with its program: the name, the address of its first word, its words, and its times and loops as the set has
-// them.
+// A task with its program: the name, the address of its first word, its words, and its times and
+// loops as the set has them.
 pub(crate) struct Program {
     /// The task's name.
     pub name: &'static str,
@@ -19,8 +19,8 @@ pub(crate) struct Program {
     pub stated: &'static str,
 }
 
-// Programs on a platform with so many cache sets, and with what the set says of it besides; what a command ends with,
-// and what `check` of the certificate then writes.
+// Programs on a platform with so many cache sets, and with what the set says of it besides; what a
+// command ends with, and what `check` of the certificate then writes.
 pub(crate) struct Case {
     /// The number of cache sets.
     pub cache_sets: u32,

@@ -26,7 +26,8 @@ fn program_of(alloc: Global, first: u32, second: u32) -> Result<Vec<u8>, AllocEr
     file_of(alloc, 0x1000, &[first, second])
 }
 
-// What a certificate states: the platform's sets, the first node's potential, bound, window and response.
+// What a certificate states: the platform's sets, the first node's potential, bound, window and
+// response.
 type Numbers = (u32, u64, u64, u64, u64);
 
 // A certificate of version 1 that lists both nodes of two words.

@@ -6,7 +6,8 @@ use std::test::Fail;
 
 const OFTEN: &str = "period = 120\ndeadline = 120\njitter = 0\n";
 
-// Two jobs of the highest task reload the sets of the middle one, which this can be made to do once alone.
+// Two jobs of the highest task reload the sets of the middle one, which this can be made to do once
+// alone.
 const CASES: [Case; 3] = [
     Case {
         cache_sets: 8,

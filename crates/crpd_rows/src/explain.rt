@@ -1,4 +1,5 @@
-// The command `explain`: a certificate and a script in, the reloads of the script's run and the certificate's delays out.
+// The command `explain`: a certificate and a script in, the reloads of the script's run and the
+// certificate's delays out.
 use crate::simulate::{Held, Job, NEVER};
 use crpd_io::{MemFiles, MemSink};
 use crpd_tool::{Status, run};
@@ -17,11 +18,12 @@ struct Platform {
     switching: &'static str,
 }
 
-// A program with its task: the name, the address of its first word, its words, and the task's times and loops.
+// A program with its task: the name, the address of its first word, its words, and the task's times
+// and loops.
 type Program = (&'static str, u32, &'static [u32], &'static str);
 
-// What a certificate states of a task: its name; bound, sets, potentials and states; its method; its window, which is its
-// response.
+// What a certificate states of a task: its name; bound, sets, potentials and states; its method;
+// its window, which is its response.
 type Part = (&'static str, &'static str, &'static str, u64);
 
 #[derive(Clone, Copy)]
@@ -126,7 +128,8 @@ const NESTED: Case = Case {
     text: "reload b 0 set 1 cycle 122 evictor a 0 preemptor a 0\nreload b 0 set 2 cycle 135 evictor a 0 preemptor a 0\nreload c 0 set 3 cycle 151 evictor a 0 preemptor b 0\nreload c 0 set 4 cycle 164 evictor a 0 preemptor b 0\ndelay a 0\ndelay b 20\ndelay c 40\nrun legal kept\n",
 };
 
-// And three: the evictor of the lowest job's blocks lies between the preemptor and the job that runs last.
+// And three: the evictor of the lowest job's blocks lies between the preemptor and the job that
+// runs last.
 const NESTED_DEEPLY: Case = Case {
     programs: &[A, B, C, D],
     parts: &[
@@ -188,7 +191,8 @@ const TURNED_TOO_OFTEN: Case = Case {
     ..TURNED
 };
 
-// Fetch and effect fall in one cycle: the watch breaks in the very cycle of the first reload, which counts.
+// Fetch and effect fall in one cycle: the watch breaks in the very cycle of the first reload, which
+// counts.
 const EVERY_3: &str = "period = 3\ndeadline = 3\njitter = 0\n";
 
 const QUICK_HIGH: &str =

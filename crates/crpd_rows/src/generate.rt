@@ -1,4 +1,5 @@
-// The command `generate`, on numbers and on other words. No call of the files is made: the first one would fail.
+// The command `generate`, on numbers and on other words. No call of the files is made: the first
+// one would fail.
 use crpd_io::{MemFiles, MemSink};
 use crpd_tool::{Status, run};
 use std::alloc::Global;

@@ -1,4 +1,5 @@
-//! The worked rows, through the top call: words and files in, a text and a status out. This crate has tests alone.
+//! The worked rows, through the top call: words and files in, a text and a status out. This crate
+//! has tests alone.
 #![tactic(auto)]
 
 #[cfg(test)]

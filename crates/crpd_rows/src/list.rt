@@ -218,7 +218,8 @@ static REFUSALS: [(&[Task], &str, &str); 11] = [
     ),
 ];
 
-// The keys of the set, the tasks' names, and the order of refusals: the set, the task, the files by task, the code.
+// The keys of the set, the tasks' names, and the order of refusals: the set, the task, the files by
+// task, the code.
 #[test]
 fn refusals_in_order(rt: HostRuntime) -> Result<(), Fail> {
     let alloc = rt.alloc();
@@ -275,9 +276,9 @@ fn files_are_read_once(rt: HostRuntime) -> Result<(), Fail> {
     Ok(())
 }
 
-// The words, by their places, of an image as a linker writes it: its first segment begins with the headers, at 0x10000; then
-// comes a program header of a processor's kind; a symbol table has a file's symbol, a section's, and the functions `a`, `b`
-// and `c`; all other words are 0.
+// The words, by their places, of an image as a linker writes it: its first segment begins with the
+// headers, at 0x10000; then comes a program header of a processor's kind; a symbol table has a
+// file's symbol, a section's, and the functions `a`, `b` and `c`; all other words are 0.
 const LINKED: [(usize, u32); 53] = [
     (0, 0x464C_457F),
     (4, 0x0001_0101),

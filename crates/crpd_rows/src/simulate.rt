@@ -5,13 +5,15 @@ use std::alloc::{AllocError, Global};
 use std::process::Abort;
 use std::test::Fail;
 
-// A program with its task: the name, the address of its first word, its words, and further keys of the task.
+// A program with its task: the name, the address of its first word, its words, and further keys of
+// the task.
 type Program = (&'static str, u32, &'static [u32], &'static str);
 
 // A job of a script: its task, and its arrival, which is its release.
 pub(crate) type Job = (&'static str, u64);
 
-// A script over programs, and the text of its run; the first two are further keys of the platform and of the script.
+// A script over programs, and the text of its run; the first two are further keys of the platform
+// and of the script.
 #[derive(Clone, Copy)]
 struct Case {
     platform: &'static str,

@@ -9,7 +9,8 @@ use std::test::Fail;
 // A task as a set states it: its name, its file, and its times and loops.
 type Stated = (&'static str, &'static str, &'static str);
 
-// A task as a certificate states it; its potentials, loops and states are as they stand in the text.
+// A task as a certificate states it; its potentials, loops and states are as they stand in the
+// text.
 #[derive(Clone, Copy)]
 struct Part {
     name: &'static str,
@@ -21,8 +22,8 @@ struct Part {
     response: u64,
 }
 
-// An old certificate of some version, a new set on a platform, and what `update` ends with: the new certificate's tasks,
-// or another text.
+// An old certificate of some version, a new set on a platform, and what `update` ends with: the new
+// certificate's tasks, or another text.
 #[derive(Clone, Copy)]
 struct Case {
     version: u32,
@@ -243,7 +244,8 @@ const CASES: [Case; 20] = [
         new: &[FIRST, LISTED],
         ..SAME
     },
-    // A bound that is too large, and a task without a window; a task that is kept is not bounded again.
+    // A bound that is too large, and a task without a window; a task that is kept is not bounded
+    // again.
     Case {
         tasks: &[
             (
@@ -274,7 +276,8 @@ const CASES: [Case; 20] = [
         text: "unschedulable low\n",
         ..SAME
     },
-    // A refusal of the new set comes before the no to the old certificate, and that before a task without a window.
+    // A refusal of the new set comes before the no to the old certificate, and that before a task
+    // without a window.
     Case {
         old: &[FIRST, SMALLER],
         tasks: &[HIGH, ("low", "none.elf", PLAIN)],
@@ -348,7 +351,8 @@ fn set_text(
     Ok(text)
 }
 
-// The text of a certificate. Version 1 has no costs of multiplication and division, and no kind of switching.
+// The text of a certificate. Version 1 has no costs of multiplication and division, and no kind of
+// switching.
 fn certificate_text(
     alloc: Global,
     version: u32,
@@ -449,7 +453,8 @@ fn updates(rt: HostRuntime) -> Result<(), Fail> {
     Ok(())
 }
 
-// `check` says yes to the new certificate for the new set, and where the old one is that of `analyze`, so is the new one.
+// `check` says yes to the new certificate for the new set, and where the old one is that of
+// `analyze`, so is the new one.
 #[test]
 fn updates_are_checked_and_analysed(rt: HostRuntime) -> Result<(), Fail> {
     let alloc = rt.alloc();
@@ -511,8 +516,8 @@ static OTHER_ENDS: [(&[&str], u64, Status, &str); 6] = [
     (&WORDS, 3, Status::ReadFault, ""),
 ];
 
-// Other numbers of words are no command, a set that is not there is refused first, and a file that cannot be read is a
-// fault.
+// Other numbers of words are no command, a set that is not there is refused first, and a file that
+// cannot be read is a fault.
 #[test]
 fn other_ends(rt: HostRuntime) -> Result<(), Fail> {
     let alloc = rt.alloc();

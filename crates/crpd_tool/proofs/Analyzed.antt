@@ -1,11 +1,13 @@
 -- A whole text with the status Done comes of the analysis' certificate.
-use Rattle.std.proofs.Common.{◌≡◌, ℕ, ◌<◌, List, Result, Ok, length, refl, ap, sym, ◌∙◌, subst, inl, inr}
+use Rattle.std.proofs.Common.{◌≡◌, ℕ, ◌<◌, List, Result, Ok, length, refl, ap, sym, ◌∙◌, subst, inl}
+use Rattle.std.proofs.Common.{inr}
 use Rattle.crpd_base.specs.declared.data.Certificate.{Certificate}
 use Rattle.crpd_base.specs.declared.data.TaskSet.{TaskSet}
 use Rattle.flat_graph.specs.CodeGraph.{graph_of, graph_at}
 use Rattle.flat_graph.specs.Graph.{IsGraph}
 use Rattle.cert_build.specs.declared.fault.BuildError.{BuildError}
-use Rattle.cert_build.specs.declared.fault.BuildError.TheVariants.{Memory, TooLarge, TooManyEntries, Unschedulable}
+use Rattle.cert_build.specs.declared.fault.BuildError.TheVariants.{Memory, TooLarge, TooManyEntries}
+use Rattle.cert_build.specs.declared.fault.BuildError.TheVariants.{Unschedulable}
 use Rattle.cert_build.proofs.Judged.{best_is_judged}
 use Rattle.cert_check.specs.TaskGraphs.{task_graph_at}
 use Rattle.cert_check.specs.Verdict.{IsJudged, Yes}
@@ -17,7 +19,8 @@ use Rattle.crpd_tool.specs.declared.status.Status.TheVariants.{Done}
 use Rattle.crpd_input.specs.declared.input.Input.{Input}
 use Rattle.crpd_input.specs.declared.halt.Halt.{Halt}
 use Rattle.crpd_input.specs.declared.shapes.Shapes.{Shapes}
-use Rattle.crpd_tool.specs.Analyze.{AnalysisOf, AnalyzeEnds, IsMade, certificate_answer, without_certificate}
+use Rattle.crpd_tool.specs.Analyze.{AnalysisOf, AnalyzeEnds, IsMade, certificate_answer}
+use Rattle.crpd_tool.specs.Analyze.{without_certificate}
 use Rattle.crpd_tool.specs.Analyzed.{DoneIsBest, IsAnalyzed}
 use Rattle.crpd_tool.specs.Output.{Output, ending_output}
 use Rattle.crpd_input.specs.Reading.{input_in}
@@ -30,24 +33,33 @@ use Rattle.crpd_input.proofs.Given.{input_good, input_planned}
 use Rattle.crpd_tool.proofs.Safety.{then_done}
 
 -- without a certificate the status is another
-pub not_done : (file : List ℕ) (set : TaskSet) (e : BuildError) → (ending_output (without_certificate file set e)).status ≡ Done → ⊥
+pub not_done : (file : List ℕ) (set : TaskSet) (e : BuildError)
+    → (ending_output (without_certificate file set e)).status ≡ Done → ⊥
 not_done file set Memory is = cc
 not_done file set (TooLarge task address) is = cc
 not_done file set (TooManyEntries count) is = cc
 not_done file set (Unschedulable task) is = cc
 
 module _ (contents : Contents) (set : List ℕ) where
-  made : (input : Input) (shapes : Shapes) (ending : Result Answer Halt) → AnalysisOf set input shapes ending → (ending_output ending).status ≡ Done
-      → (c : Certificate) × IsMade input.set (task_graph_at shapes.graphs shapes.nests) c × (ending ≡ Ok (certificate_answer c))
+  made : (input : Input) (shapes : Shapes) (ending : Result Answer Halt)
+      → AnalysisOf set input shapes ending → (ending_output ending).status ≡ Done
+      → (c : Certificate) × IsMade input.set (task_graph_at shapes.graphs shapes.nests) c
+      × (ending ≡ Ok (certificate_answer c))
   made input shapes ending (inl found) e = found
-  made input shapes ending (inr none) e = absurd (not_done set input.set none.0 (ap (λ (r : Result Answer Halt). (ending_output r).status) (sym none.3) ∙ e))
+  made input shapes ending (inr none) e =
+      absurd (not_done set input.set none.0
+      (ap (λ (r : Result Answer Halt). (ending_output r).status) (sym none.3) ∙ e))
 
-  analyzed : (input : Input) (shapes : Shapes) (c : Certificate) (ending : Result Answer Halt) → input_in contents set ≡ Ok input → ShapesIn input (Ok shapes)
-      → IsMade input.set (task_graph_at shapes.graphs shapes.nests) c → ending ≡ Ok (certificate_answer c) → IsAnalyzed contents set (ending_output ending).text
+  analyzed : (input : Input) (shapes : Shapes) (c : Certificate) (ending : Result Answer Halt)
+      → input_in contents set ≡ Ok input → ShapesIn input (Ok shapes)
+      → IsMade input.set (task_graph_at shapes.graphs shapes.nests) c
+      → ending ≡ Ok (certificate_answer c) → IsAnalyzed contents set (ending_output ending).text
   analyzed input shapes c ending is shaped M end =
       let G : (k : ℕ) → k < length input.set.tasks → IsGraph (graph_of (graph_at shapes.graphs k)) =
-      λ k lt. (shapes_built input shapes (input_good contents set input is) (input_planned contents set input is) shaped k lt).follows.graph in
-      let yes : IsJudged input.set (task_graph_at shapes.graphs shapes.nests) c Yes = best_is_judged input.set (task_graph_at shapes.graphs shapes.nests) c G M.best in
+      λ k lt. (shapes_built input shapes (input_good contents set input is)
+      (input_planned contents set input is) shaped k lt).follows.graph in
+      let yes : IsJudged input.set (task_graph_at shapes.graphs shapes.nests) c Yes =
+      best_is_judged input.set (task_graph_at shapes.graphs shapes.nests) c G M.best in
       record {
         input = input;
         shapes = shapes;
@@ -59,12 +71,15 @@ module _ (contents : Contents) (set : List ℕ) where
         reads = M.reads;
         best = M.best;
         judged = yes;
-        checks = λ others file name same read. inl (input, same, inl (shapes, shaped, inl (c, read, (verdict.Yes, yes, refl))));
+        checks = λ others file name same read.
+            inl (input, same, inl (shapes, shaped, inl (c, read, (verdict.Yes, yes, refl))));
       }
 
-  ended : (ending : Result Answer Halt) → AnalyzeEnds contents set ending → (ending_output ending).status ≡ Done → IsAnalyzed contents set (ending_output ending).text
+  ended : (ending : Result Answer Halt) → AnalyzeEnds contents set ending
+      → (ending_output ending).status ≡ Done → IsAnalyzed contents set (ending_output ending).text
   ended ending is e =
-      let input = then_done (Exactly (input_in contents set)) (λ input. Then (ShapesIn input) (AnalysisOf set input)) ending is e in
+      let input = then_done (Exactly (input_in contents set))
+      (λ input. Then (ShapesIn input) (AnalysisOf set input)) ending is e in
       let shapes = then_done (ShapesIn input.0) (AnalysisOf set input.0) ending input.2 e in
       let found = made input.0 shapes.0 ending shapes.2 e in
       analyzed input.0 shapes.0 found.0 ending input.1 shapes.1 found.1 found.2
@@ -73,4 +88,5 @@ pub done_is_best : (words : List (List ℕ)) (contents : Contents) → DoneIsBes
 done_is_best words contents set output is out e =
     let given = some-out words contents (analyze set) output is out in
     let text = ap (λ (o : Output). o.text) given.2 in
-    subst (λ t. IsAnalyzed contents set t) (sym text) (ended contents set given.0 given.1 (ap (λ (o : Output). o.status) (sym given.2) ∙ e))
+    subst (λ t. IsAnalyzed contents set t) (sym text)
+    (ended contents set given.0 given.1 (ap (λ (o : Output). o.status) (sym given.2) ∙ e))

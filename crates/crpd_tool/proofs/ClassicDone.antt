@@ -1,5 +1,7 @@
--- A whole text with the status Done on `classic` comes of the certificate with the plain union delays.
-use Rattle.std.proofs.Common.{◌≡◌, ℕ, ◌<◌, List, Result, Ok, length, refl, ap, sym, ◌∙◌, subst, inl, inr}
+-- A whole text with the status Done on `classic` comes of the certificate with the plain union
+-- delays.
+use Rattle.std.proofs.Common.{◌≡◌, ℕ, ◌<◌, List, Result, Ok, length, refl, ap, sym, ◌∙◌, subst, inl}
+use Rattle.std.proofs.Common.{inr}
 use Rattle.crpd_base.specs.declared.data.Certificate.{Certificate}
 use Rattle.code_map.specs.Words.{word_at}
 use Rattle.cert_check.specs.JudgeInput.{IsGraphOf}
@@ -32,19 +34,30 @@ use Rattle.crpd_tool.proofs.Analyzed.{not_done}
 use Rattle.crpd_tool.proofs.Finish.{some-out}
 use Rattle.crpd_tool.proofs.Safety.{then_done}
 
-module _ (safe_law : CheckedCodeIsSafe) (judged_law : ClassicIsJudged) (one_law : OneClassic) (best_law : ClassicHasBest) (contents : Contents) (set : List ℕ) where
-  made : (input : Input) (shapes : Shapes) (ending : Result Answer Halt) → ClassicOf set input shapes ending → (ending_output ending).status ≡ Done
-      → (c : Certificate) × IsMadeClassic input.set (task_graph_at shapes.graphs shapes.nests) c × (ending ≡ Ok (certificate_answer c))
+module _ (safe_law : CheckedCodeIsSafe) (judged_law : ClassicIsJudged) (one_law : OneClassic)
+    (best_law : ClassicHasBest) (contents : Contents) (set : List ℕ) where
+  made : (input : Input) (shapes : Shapes) (ending : Result Answer Halt)
+      → ClassicOf set input shapes ending → (ending_output ending).status ≡ Done
+      → (c : Certificate) × IsMadeClassic input.set (task_graph_at shapes.graphs shapes.nests) c
+      × (ending ≡ Ok (certificate_answer c))
   made input shapes ending (inl found) e = found
-  made input shapes ending (inr none) e = absurd (not_done set input.set none.0 (ap (λ (r : Result Answer Halt). (ending_output r).status) (sym none.3) ∙ e))
+  made input shapes ending (inr none) e =
+      absurd (not_done set input.set none.0
+      (ap (λ (r : Result Answer Halt). (ending_output r).status) (sym none.3) ∙ e))
 
-  sound : (input : Input) (shapes : Shapes) (c : Certificate) (ending : Result Answer Halt) → input_in contents set ≡ Ok input → ShapesIn input (Ok shapes)
-      → IsMadeClassic input.set (task_graph_at shapes.graphs shapes.nests) c → ending ≡ Ok (certificate_answer c) → IsSoundClassic contents set (ending_output ending).text
+  sound : (input : Input) (shapes : Shapes) (c : Certificate) (ending : Result Answer Halt)
+      → input_in contents set ≡ Ok input → ShapesIn input (Ok shapes)
+      → IsMadeClassic input.set (task_graph_at shapes.graphs shapes.nests) c
+      → ending ≡ Ok (certificate_answer c) → IsSoundClassic contents set (ending_output ending).text
   sound input shapes c ending is shaped M end =
       let good = input_good contents set input is in
-      let built : (k : ℕ) → k < length input.set.tasks → IsGraphOf (word_at input.code.images) (plan_of (system_of input.set input.code) k) (task_graph_at shapes.graphs shapes.nests k) =
+      let built : (k : ℕ) → k < length input.set.tasks
+      → IsGraphOf (word_at input.code.images) (plan_of (system_of input.set input.code) k)
+      (task_graph_at shapes.graphs shapes.nests k) =
       shapes_built input shapes good (input_planned contents set input is) shaped in
-      let yes : IsJudged input.set (task_graph_at shapes.graphs shapes.nests) c Yes = judged_law input.set (task_graph_at shapes.graphs shapes.nests) c (λ k lt. (built k lt).follows.graph) M.classic in
+      let yes : IsJudged input.set (task_graph_at shapes.graphs shapes.nests) c Yes =
+      judged_law input.set (task_graph_at shapes.graphs shapes.nests) c
+      (λ k lt. (built k lt).follows.graph) M.classic in
       record {
         input = input;
         shapes = shapes;
@@ -57,21 +70,31 @@ module _ (safe_law : CheckedCodeIsSafe) (judged_law : ClassicIsJudged) (one_law 
         is = M.classic;
         only = λ d D. one_law input.set (task_graph_at shapes.graphs shapes.nests) d c D M.classic;
         judged = yes;
-        safe = safe_law input.set input.code (task_graph_at shapes.graphs shapes.nests) c good.ranges good.words built yes;
-        best = best_law input.set (task_graph_at shapes.graphs shapes.nests) c (has_times input.set good.ranges) M.classic;
-        checks = λ others file name same read. inl (input, same, inl (shapes, shaped, inl (c, read, (verdict.Yes, yes, refl))));
+        safe =
+            safe_law input.set input.code (task_graph_at shapes.graphs shapes.nests) c good.ranges
+            good.words built yes;
+        best =
+            best_law input.set (task_graph_at shapes.graphs shapes.nests) c
+            (has_times input.set good.ranges) M.classic;
+        checks = λ others file name same read.
+            inl (input, same, inl (shapes, shaped, inl (c, read, (verdict.Yes, yes, refl))));
       }
 
-  ended : (ending : Result Answer Halt) → ClassicEnds contents set ending → (ending_output ending).status ≡ Done → IsSoundClassic contents set (ending_output ending).text
+  ended : (ending : Result Answer Halt) → ClassicEnds contents set ending
+      → (ending_output ending).status ≡ Done
+      → IsSoundClassic contents set (ending_output ending).text
   ended ending is e =
-      let input = then_done (Exactly (input_in contents set)) (λ input. Then (ShapesIn input) (ClassicOf set input)) ending is e in
+      let input = then_done (Exactly (input_in contents set))
+      (λ input. Then (ShapesIn input) (ClassicOf set input)) ending is e in
       let shapes = then_done (ShapesIn input.0) (ClassicOf set input.0) ending input.2 e in
       let found = made input.0 shapes.0 ending shapes.2 e in
       sound input.0 shapes.0 found.0 ending input.1 shapes.1 found.1 found.2
 
-pub done_is_classic : CheckedCodeIsSafe → ClassicIsJudged → OneClassic → ClassicHasBest → (words : List (List ℕ)) (contents : Contents) → DoneIsClassic words contents
+pub done_is_classic : CheckedCodeIsSafe → ClassicIsJudged → OneClassic → ClassicHasBest
+    → (words : List (List ℕ)) (contents : Contents) → DoneIsClassic words contents
 done_is_classic safe_law judged_law one_law best_law words contents set output is out e =
     let given = some-out words contents (classic set) output is out in
     let text = ap (λ (o : Output). o.text) given.2 in
     subst (λ t. IsSoundClassic contents set t) (sym text)
-    (ended safe_law judged_law one_law best_law contents set given.0 given.1 (ap (λ (o : Output). o.status) (sym given.2) ∙ e))
+    (ended safe_law judged_law one_law best_law contents set given.0 given.1
+    (ap (λ (o : Output). o.status) (sym given.2) ∙ e))

@@ -1,5 +1,7 @@
--- A text of `explain` with the status Done comes of a yes, and of an account within the certificate's delays.
-use Rattle.std.proofs.Common.{◌≡◌, ℕ, ◌<◌, List, Result, Ok, length, ap, sym, subst, ◌∙◌, refl, arith}
+-- A text of `explain` with the status Done comes of a yes, and of an account within the
+-- certificate's delays.
+use Rattle.std.proofs.Common.{◌≡◌, ℕ, ◌<◌, List, Result, Ok, length, ap, sym, subst, ◌∙◌, refl}
+use Rattle.std.proofs.Common.{arith}
 use Rattle.crpd_base.specs.declared.data.Certificate.{Certificate}
 use Rattle.crpd_base.specs.declared.data.Script.{Script}
 use Rattle.crpd_base.specs.declared.data.TaskSet.{TaskSet}
@@ -54,21 +56,29 @@ use Rattle.crpd_tool.proofs.Finish.{some-out}
 use Rattle.crpd_tool.proofs.Safety.{then_done}
 
 -- the jobs of a script that was read are of the set's tasks
-script_named : (contents : Contents) (name : List ℕ) (set : TaskSet) (given : Script) → script_in contents name set ≡ Ok given → NamesTasks set given.jobs
+script_named : (contents : Contents) (name : List ℕ) (set : TaskSet) (given : Script)
+    → script_in contents name set ≡ Ok given → NamesTasks set given.jobs
 script_named contents name set given e =
-    let bytes = step_ok (bytes_in file_bytes contents name) (λ bytes. or_refused (script_halt name) (script_reader.reading bytes set)) given e in
-    found_in bytes.0 set (Ok given) (read_ok (script_halt name) (script_reader.reading bytes.0 set) given bytes.2)
+    let bytes = step_ok (bytes_in file_bytes contents name)
+    (λ bytes. or_refused (script_halt name) (script_reader.reading bytes set)) given e in
+    found_in bytes.0 set (Ok given)
+    (read_ok (script_halt name) (script_reader.reading bytes.0 set) given bytes.2)
 
 -- what a yes gives the laws on a script's run
-module _ (input : Input) (shapes : Shapes) (c : Certificate) (given : Script) (is : IsInput input) (planned : length input.code.plans ≡ length input.set.tasks) (shaped : ShapesIn input (Ok shapes))
-    (named : NamesTasks input.set given.jobs) (judged : IsJudged input.set (task_graph_at shapes.graphs shapes.nests) c Yes) where
+module _ (input : Input) (shapes : Shapes) (c : Certificate) (given : Script) (is : IsInput input)
+    (planned : length input.code.plans ≡ length input.set.tasks)
+    (shaped : ShapesIn input (Ok shapes))
+    (named : NamesTasks input.set given.jobs)
+    (judged : IsJudged input.set (task_graph_at shapes.graphs shapes.nests) c Yes) where
   abbrev start : Start
   start = start_of_script input.set input.code given
 
   abbrev graphs : ℕ → TaskGraph
   graphs = task_graph_at shapes.graphs shapes.nests
 
-  built : (k : ℕ) → k < length input.set.tasks → IsGraphOf (word_at input.code.images) (plan_of (system_of input.set input.code) k) (graphs k)
+  built : (k : ℕ) → k < length input.set.tasks
+      → IsGraphOf (word_at input.code.images) (plan_of (system_of input.set input.code) k)
+      (graphs k)
   built = shapes_built input shapes is planned shaped
 
   cached : HasCache start
@@ -103,38 +113,54 @@ module _ (input : Input) (shapes : Shapes) (c : Certificate) (given : Script) (i
   sets_met : AreSetsMet start graphs c
   sets_met x h = yes_meets_sets input.set graphs c (job_task start x) judged (below x h)
 
-  account_facts : LedgerFacts → (a : Account) → IsAccount start graphs c given.cycles a → HasAccountFacts start graphs c given.cycles a
+  account_facts : LedgerFacts → (a : Account) → IsAccount start graphs c given.cycles a
+      → HasAccountFacts start graphs c given.cycles a
   account_facts facts_law a I =
       record {
         ledger = I.ledger;
         is_ledger = I.is_ledger;
         entries = I.entries;
-        facts = facts_law start graphs c given.cycles I.ledger cached graphs_here states_met sets_met I.is_ledger;
+        facts =
+            facts_law start graphs c given.cycles I.ledger cached graphs_here states_met sets_met
+            I.is_ledger;
       }
 
-  within_delays : CheckedAccountIsWithinDelays → (a : Account) → IsAccount start graphs c given.cycles a → IsLegal input.set given.jobs → IsKept (run_of input given) → IsWithinDelays input.set input.code given c a
-  within_delays within_law a I legal kept = within_law input.set input.code graphs c given a checked named legal I (I.kept.1 kept)
+  within_delays : CheckedAccountIsWithinDelays → (a : Account)
+      → IsAccount start graphs c given.cycles a → IsLegal input.set given.jobs
+      → IsKept (run_of input given) → IsWithinDelays input.set input.code given c a
+  within_delays within_law a I legal kept =
+      within_law input.set input.code graphs c given a checked named legal I (I.kept.1 kept)
 
-denied : (set : TaskSet) (c : Certificate) (task clause place : ℕ) → (ending_output (Ok (verdict_answer set c (verdict.No (record { 0 = task }) clause place)))).status ≡ Done → ⊥
+denied : (set : TaskSet) (c : Certificate) (task clause place : ℕ)
+    → (ending_output
+    (Ok (verdict_answer set c (verdict.No (record { 0 = task }) clause place)))).status ≡ Done → ⊥
 denied set c task clause place e = cc
 
 -- with the status Done the verdict was yes
-account_of : (input : Input) (shapes : Shapes) (c : Certificate) (given : Script) (v : Verdict) (ending : Result Answer Halt) → ExplainedBy input shapes c given v ending → (ending_output ending).status ≡ Done
+account_of : (input : Input) (shapes : Shapes) (c : Certificate) (given : Script) (v : Verdict)
+    (ending : Result Answer Halt) → ExplainedBy input shapes c given v ending
+    → (ending_output ending).status ≡ Done
     → (answer_of v ≡ Yes) × AccountOf input shapes c given ending
 account_of input shapes c given verdict.Yes ending a e = (refl, a)
 account_of input shapes c given (verdict.No task clause place) ending a e =
-    absurd (denied input.set c task.0 clause place (ap (λ (r : Result Answer Halt). (ending_output r).status) (sym a) ∙ e))
+    absurd (denied input.set c task.0 clause place
+    (ap (λ (r : Result Answer Halt). (ending_output r).status) (sym a) ∙ e))
 
-module _ (facts_law : LedgerFacts) (within_law : CheckedAccountIsWithinDelays) (contents : Contents) (set certificate script : List ℕ) where
-  explained : (input : Input) (shapes : Shapes) (c : Certificate) (given : Script) (ending : Result Answer Halt) → input_in contents set ≡ Ok input → ShapesIn input (Ok shapes)
-      → certificate_in contents certificate ≡ Ok c → script_in contents script input.set ≡ Ok given → ExplanationOf input shapes c given ending → (ending_output ending).status ≡ Done
+module _ (facts_law : LedgerFacts) (within_law : CheckedAccountIsWithinDelays) (contents : Contents)
+    (set certificate script : List ℕ) where
+  explained : (input : Input) (shapes : Shapes) (c : Certificate) (given : Script)
+      (ending : Result Answer Halt) → input_in contents set ≡ Ok input → ShapesIn input (Ok shapes)
+      → certificate_in contents certificate ≡ Ok c → script_in contents script input.set ≡ Ok given
+      → ExplanationOf input shapes c given ending → (ending_output ending).status ≡ Done
       → IsExplained contents set certificate script (ending_output ending).text
   explained input shapes c given ending input_is shaped stated scripted found e =
       let is = input_good contents set input input_is in
       let planned = input_planned contents set input input_is in
       let named = script_named contents script input.set given scripted in
       let told = account_of input shapes c given found.0 ending found.2 e in
-      let judged : IsJudged input.set (task_graph_at shapes.graphs shapes.nests) c Yes = subst (λ a. IsJudged input.set (task_graph_at shapes.graphs shapes.nests) c a) told.0 found.1 in
+      let judged : IsJudged input.set (task_graph_at shapes.graphs shapes.nests) c Yes =
+      subst (λ a. IsJudged input.set (task_graph_at shapes.graphs shapes.nests) c a)
+      told.0 found.1 in
       let account = told.1 in
       record {
         input = input;
@@ -151,26 +177,39 @@ module _ (facts_law : LedgerFacts) (within_law : CheckedAccountIsWithinDelays) (
         is_account = account.2;
         line = account.3;
         text_is = ap (λ (r : Result Answer Halt). (ending_output r).text) account.4;
-        facts = account_facts input shapes c given is planned shaped named judged facts_law account.0 account.2;
-        within = within_delays input shapes c given is planned shaped named judged within_law account.0 account.2;
+        facts =
+            account_facts input shapes c given is planned shaped named judged facts_law
+            account.0 account.2;
+        within =
+            within_delays input shapes c given is planned shaped named judged within_law
+            account.0 account.2;
       }
 
   abbrev Scripts : Input → Shapes → Certificate → Result Answer Halt → Type 0
-  Scripts input shapes stated = Then (Exactly (script_in contents script input.set)) (ExplanationOf input shapes stated)
+  Scripts input shapes stated =
+      Then (Exactly (script_in contents script input.set)) (ExplanationOf input shapes stated)
 
   abbrev Certificates : Input → Shapes → Result Answer Halt → Type 0
-  Certificates input shapes = Then (Exactly (certificate_in contents certificate)) (Scripts input shapes)
+  Certificates input shapes =
+      Then (Exactly (certificate_in contents certificate)) (Scripts input shapes)
 
-  ended : (ending : Result Answer Halt) → ExplainEnds contents set certificate script ending → (ending_output ending).status ≡ Done → IsExplained contents set certificate script (ending_output ending).text
+  ended : (ending : Result Answer Halt) → ExplainEnds contents set certificate script ending
+      → (ending_output ending).status ≡ Done
+      → IsExplained contents set certificate script (ending_output ending).text
   ended ending is e =
-      let input = then_done (Exactly (input_in contents set)) (λ input. Then (ShapesIn input) (Certificates input)) ending is e in
+      let input = then_done (Exactly (input_in contents set))
+      (λ input. Then (ShapesIn input) (Certificates input)) ending is e in
       let shapes = then_done (ShapesIn input.0) (Certificates input.0) ending input.2 e in
-      let stated = then_done (Exactly (certificate_in contents certificate)) (Scripts input.0 shapes.0) ending shapes.2 e in
-      let given = then_done (Exactly (script_in contents script input.0.set)) (ExplanationOf input.0 shapes.0 stated.0) ending stated.2 e in
+      let stated = then_done (Exactly (certificate_in contents certificate))
+      (Scripts input.0 shapes.0) ending shapes.2 e in
+      let given = then_done (Exactly (script_in contents script input.0.set))
+      (ExplanationOf input.0 shapes.0 stated.0) ending stated.2 e in
       explained input.0 shapes.0 stated.0 given.0 ending input.1 shapes.1 stated.1 given.1 given.2 e
 
-pub done_is_explained : LedgerFacts → CheckedAccountIsWithinDelays → (words : List (List ℕ)) (contents : Contents) → DoneIsExplained words contents
+pub done_is_explained : LedgerFacts → CheckedAccountIsWithinDelays → (words : List (List ℕ))
+    (contents : Contents) → DoneIsExplained words contents
 done_is_explained facts_law within_law words contents set certificate script output is out e =
     let given = some-out words contents (explain set certificate script) output is out in
     subst (IsExplained contents set certificate script) (sym (ap (λ (o : Output). o.text) given.2))
-    (ended facts_law within_law contents set certificate script given.0 given.1 (ap (λ (o : Output). o.status) (sym given.2) ∙ e))
+    (ended facts_law within_law contents set certificate script given.0 given.1
+    (ap (λ (o : Output). o.status) (sym given.2) ∙ e))

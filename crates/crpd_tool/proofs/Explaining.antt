@@ -1,5 +1,6 @@
 -- What the judge's yes gives an account of a script's run, and the text of one.
-use Rattle.std.proofs.Common.{◌≡◌, ℕ, ◌-◌, ◌<◌, ◌≤◌, length, Result, Ok, Err, Some, sym, ap, ◌∙◌, subst, arith}
+use Rattle.std.proofs.Common.{◌≡◌, ℕ, ◌-◌, ◌<◌, ◌≤◌, length, Result, Ok, Err, Some, sym, ap, ◌∙◌}
+use Rattle.std.proofs.Common.{subst, arith}
 use Rattle.std.specs.Prelude.{IfOk}
 use Rattle.std.proofs.lemmas.Option.{get_or_from_slice_get}
 use Rattle.std.proofs.lemmas.List.Elements.{All-get_or}
@@ -40,7 +41,8 @@ not_refused : (x : Shapes) (r : Halt) → ◌≡◌ {A = Result Shapes Halt} (Ok
 not_refused x r e = cc
 
 -- the graphs of the step are the flat graphs of the tasks' code
-pub graphs_of : (input : Input) (shapes : Shapes) → ShapesIn input (Ok shapes) → AreGraphsOf input.code input.set shapes.graphs
+pub graphs_of : (input : Input) (shapes : Shapes) → ShapesIn input (Ok shapes)
+    → AreGraphsOf input.code input.set shapes.graphs
 graphs_of input shapes shaped =
     let found = graphs_in input shapes shaped in
     record {
@@ -48,12 +50,17 @@ graphs_of input shapes shaped =
       each = λ i lt plan at.
           let g = some_at shapes.graphs i (omega (arith, lt, found.0)) in
           let made = found.1 i g.0 g.1 in
-          let graph : graph_at shapes.graphs i ≡ g.0 = get_or_from_slice_get shapes.graphs i g.0 no_graph g.1 in
-          let of_code = subst (λ x. IsCodeGraph (words_of input.code) made.0.entry x) (sym graph) made.2.0 in
-          subst (λ (p : TaskPlan). IsCodeGraph (words_of input.code) p.entry (graph_at shapes.graphs i)) (same_plan made.0 plan (sym made.1 ∙ at)) of_code;
+          let graph : graph_at shapes.graphs i ≡ g.0 =
+          get_or_from_slice_get shapes.graphs i g.0 no_graph g.1 in
+          let of_code = subst (λ x. IsCodeGraph (words_of input.code) made.0.entry x)
+          (sym graph) made.2.0 in
+          subst (λ (p : TaskPlan).
+          IsCodeGraph (words_of input.code) p.entry (graph_at shapes.graphs i))
+          (same_plan made.0 plan (sym made.1 ∙ at)) of_code;
     }
 
-module _ (set : TaskSet) (shapes : Shapes) (c : Certificate) (judged : IsJudged set (task_graph_at shapes.graphs shapes.nests) c Yes) where
+module _ (set : TaskSet) (shapes : Shapes) (c : Certificate)
+    (judged : IsJudged set (task_graph_at shapes.graphs shapes.nests) c Yes) where
   -- what an account asks of each task
   pub tasks_met : IsCertificate c → TasksAreMet set shapes.graphs c
   tasks_met is i lt =
@@ -78,11 +85,18 @@ module _ (set : TaskSet) (shapes : Shapes) (c : Certificate) (judged : IsJudged 
 
 module _ {E : Type 0} (input : Input) (shapes : Shapes) (c : Certificate) (script : Script) where
   -- what follows a yes, and what follows a no
-  pub after_yes : (r : Result Answer E) → IsJudged input.set (task_graph_at shapes.graphs shapes.nests) c Yes → IfOk r (λ answer. AccountOf input shapes c script (Ok answer)) → IfOk r (λ answer. ExplanationOf input shapes c script (Ok answer))
+  pub after_yes : (r : Result Answer E)
+      → IsJudged input.set (task_graph_at shapes.graphs shapes.nests) c Yes
+      → IfOk r (λ answer. AccountOf input shapes c script (Ok answer))
+      → IfOk r (λ answer. ExplanationOf input shapes c script (Ok answer))
   after_yes (Ok answer) judged account = (verdict.Yes, judged, account)
   after_yes (Err e) judged account = tt
 
-  pub after_no : (task : Task) (clause place : ℕ) (r : Result Answer E) → IsJudged input.set (task_graph_at shapes.graphs shapes.nests) c (answer_of (verdict.No task clause place)) → IfOk r (λ answer. answer ≡ verdict_answer input.set c (verdict.No task clause place))
+  pub after_no : (task : Task) (clause place : ℕ) (r : Result Answer E)
+      → IsJudged input.set (task_graph_at shapes.graphs shapes.nests) c
+      (answer_of (verdict.No task clause place))
+      → IfOk r (λ answer. answer ≡ verdict_answer input.set c (verdict.No task clause place))
       → IfOk r (λ answer. ExplanationOf input shapes c script (Ok answer))
-  after_no task clause place (Ok answer) judged is = (verdict.No task clause place, judged, ap (λ a. Ok a) is)
+  after_no task clause place (Ok answer) judged is =
+      (verdict.No task clause place, judged, ap (λ a. Ok a) is)
   after_no task clause place (Err e) judged is = tt

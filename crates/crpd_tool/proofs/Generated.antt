@@ -1,5 +1,6 @@
 -- A made input's text with the status Done comes of a yes, and no job of a kept run is late.
-use Rattle.std.proofs.Common.{◌≡◌, ℕ, ◌++◌, Bool, true, false, List, [], ◌∷◌, length, map, drop, Result, Ok, refl, ap, sym, subst, ◌∙◌, inl, inr, arith, length-append}
+use Rattle.std.proofs.Common.{◌≡◌, ℕ, ◌++◌, Bool, true, false, List, [], ◌∷◌, length, map, drop}
+use Rattle.std.proofs.Common.{Result, Ok, refl, ap, sym, subst, ◌∙◌, inl, inr, arith, length-append}
 use Rattle.std.specs.Prelude.{IsTrue, codes}
 use Rattle.std.proofs.Math.Seq.{drop-append_seam}
 use Rattle.std.proofs.lemmas.List.{append_assoc, ext_get_or, get_or-map, length-map}
@@ -8,7 +9,8 @@ use Rattle.crpd_base.specs.declared.data.Script.{Script}
 use Rattle.crpd_base.specs.declared.data.TaskSet.{TaskSet}
 use Rattle.script_reader.specs.Legal.{IsLegal}
 use Rattle.cert_build.specs.declared.fault.BuildError.{BuildError}
-use Rattle.cert_build.specs.declared.fault.BuildError.TheVariants.{Memory, TooLarge, TooManyEntries, Unschedulable}
+use Rattle.cert_build.specs.declared.fault.BuildError.TheVariants.{Memory, TooLarge, TooManyEntries}
+use Rattle.cert_build.specs.declared.fault.BuildError.TheVariants.{Unschedulable}
 use Rattle.cert_check.specs.FirstFailing.{answer_of}
 use Rattle.cert_check.specs.JudgeInput.{responses}
 use Rattle.cert_check.specs.Verdict.{IsJudged}
@@ -22,7 +24,8 @@ use Rattle.run_account.proofs.Jobs.{jobs_length, line_is}
 use Rattle.sound_laws.specs.Headline.{CheckedCodeIsSafe}
 use Rattle.crpd_io.specs.Outside.{Contents}
 use Rattle.crpd_report.specs.Check.{check_text}
-use Rattle.crpd_report.specs.Generate.{NoneLateLaw, answered_count, generate_text, jobs_line, late_count, made_line}
+use Rattle.crpd_report.specs.Generate.{NoneLateLaw, answered_count, generate_text, jobs_line}
+use Rattle.crpd_report.specs.Generate.{late_count, made_line}
 use Rattle.crpd_report.specs.Simulate.{is_legal, run_line}
 use Rattle.crpd_report.proofs.Legality.{legal_decides}
 use Rattle.gen_tasks.specs.GeneratedInput.{made}
@@ -36,7 +39,8 @@ use Rattle.crpd_input.proofs.Built.{shapes_built}
 use Rattle.crpd_tool.specs.declared.answer.Answer.{Answer}
 use Rattle.crpd_tool.specs.declared.status.Status.TheVariants.{Done}
 use Rattle.crpd_tool.specs.Analyze.{without_certificate}
-use Rattle.crpd_tool.specs.Generate.{GenerateEnds, GeneratedOf, IsRunJudged, answer_behind_line, made_input, node_count}
+use Rattle.crpd_tool.specs.Generate.{GenerateEnds, GeneratedOf, IsRunJudged, answer_behind_line}
+use Rattle.crpd_tool.specs.Generate.{made_input, node_count}
 use Rattle.crpd_tool.specs.Generated.{DoneIsGenerated, IsGenerated}
 use Rattle.crpd_tool.specs.Output.{Output, ending_output}
 use Rattle.crpd_tool.specs.Simulate.{completions_of, run_of}
@@ -49,9 +53,15 @@ use Rattle.crpd_tool.proofs.Safety.{then_done, yes_only}
 
 last_two : (xs ys : List ℕ) (a b c d : ℕ) → xs ++ a ∷ b ∷ [] ≡ ys ++ c ∷ d ∷ [] → a ≡ c
 last_two xs ys a b c d e =
-    let long : length xs ≡ length ys = omega (arith, ap length e, length-append xs (a ∷ b ∷ []), length-append ys (c ∷ d ∷ [])) in
+    let long : length xs ≡ length ys = omega (
+      arith,
+      ap length e,
+      length-append xs (a ∷ b ∷ []),
+      length-append ys (c ∷ d ∷ []),
+    ) in
     let same : ◌≡◌ {A = List ℕ} (a ∷ b ∷ []) (c ∷ d ∷ []) =
-    sym (drop-append_seam xs (a ∷ b ∷ [])) ∙ ap (drop (length xs)) e ∙ ap (λ k. drop k (ys ++ c ∷ d ∷ [])) long ∙ drop-append_seam ys (c ∷ d ∷ []) in
+    sym (drop-append_seam xs (a ∷ b ∷ [])) ∙ ap (drop (length xs)) e
+    ∙ ap (λ k. drop k (ys ++ c ∷ d ∷ [])) long ∙ drop-append_seam ys (c ∷ d ∷ []) in
     cc
 
 kept_line : run_line true true ≡ codes "run legal kep" ++ 116 ∷ 10 ∷ []
@@ -63,17 +73,34 @@ broken_line = refl
 -- a text does not end with both
 one_end : (front other : List ℕ) → front ++ run_line true true ≡ other ++ run_line true false → ⊥
 one_end front other e =
-    let kept : front ++ run_line true true ≡ (front ++ codes "run legal kep") ++ 116 ∷ 10 ∷ [] = ap (λ l. front ++ l) kept_line ∙ sym (append_assoc front (codes "run legal kep") (116 ∷ 10 ∷ [])) in
-    let broken : other ++ run_line true false ≡ (other ++ codes "run legal broke") ++ 110 ∷ 10 ∷ [] = ap (λ l. other ++ l) broken_line ∙ sym (append_assoc other (codes "run legal broke") (110 ∷ 10 ∷ [])) in
-    let same : ◌≡◌ {A = ℕ} 116 110 = last_two (front ++ codes "run legal kep") (other ++ codes "run legal broke") 116 10 110 10 (sym kept ∙ e ∙ broken) in
+    let kept : front ++ run_line true true ≡ (front ++ codes "run legal kep") ++ 116 ∷ 10 ∷ [] =
+    ap (λ l. front ++ l) kept_line
+    ∙ sym (append_assoc front (codes "run legal kep") (116 ∷ 10 ∷ [])) in
+    let broken : other ++ run_line true false
+    ≡ (other ++ codes "run legal broke") ++ 110 ∷ 10 ∷ [] =
+    ap (λ l. other ++ l) broken_line
+    ∙ sym (append_assoc other (codes "run legal broke") (110 ∷ 10 ∷ [])) in
+    let same : ◌≡◌ {A = ℕ} 116 110 = last_two (front ++ codes "run legal kep")
+    (other ++ codes "run legal broke") 116 10 110 10 (sym kept ∙ e ∙ broken) in
     omega arith
 
 -- the line before the last one
-late_said : (text A : List ℕ) (j a late : ℕ) (legal kept : Bool) → text ≡ (A ++ jobs_line j a late) ++ run_line legal kept → legal ≡ true → (IsTrue kept → late ≡ 0)
-    → (front : List ℕ) → text ≡ front ++ run_line true true → (before : List ℕ) × (jobs : ℕ) × (answered : ℕ) × (text ≡ before ++ jobs_line jobs answered 0 ++ run_line true true)
-late_said text A j a late legal true is lawful none front ends = (A, j, a, is ∙ ap (λ b. (A ++ jobs_line j a late) ++ run_line b true) lawful ∙ ap (λ l. (A ++ jobs_line j a l) ++ run_line true true) (none refl))
+late_said : (text A : List ℕ) (j a late : ℕ) (legal kept : Bool)
+    → text ≡ (A ++ jobs_line j a late) ++ run_line legal kept → legal ≡ true
+    → (IsTrue kept → late ≡ 0)
+    → (front : List ℕ) → text ≡ front ++ run_line true true
+    → (before : List ℕ) × (jobs : ℕ) × (answered : ℕ)
+    × (text ≡ before ++ jobs_line jobs answered 0 ++ run_line true true)
+late_said text A j a late legal true is lawful none front ends = (
+  A,
+  j,
+  a,
+  is ∙ ap (λ b. (A ++ jobs_line j a late) ++ run_line b true) lawful
+      ∙ ap (λ l. (A ++ jobs_line j a l) ++ run_line true true) (none refl),
+)
 late_said text A j a late legal false is lawful none front ends =
-    absurd (one_end front (A ++ jobs_line j a late) (sym ends ∙ is ∙ ap (λ b. (A ++ jobs_line j a late) ++ run_line b false) lawful))
+    absurd (one_end front (A ++ jobs_line j a late)
+    (sym ends ∙ is ∙ ap (λ b. (A ++ jobs_line j a late) ++ run_line b false) lawful))
 
 -- ---- the lines of a run's jobs
 
@@ -81,12 +108,15 @@ lines_are : (s : Start) (n : ℕ) → s.lines ≡ map (λ (job : Job). job.line)
 lines_are s n =
     let jobs = (state s n).jobs in
     let long : length jobs ≡ length s.lines = jobs_length s n in
-    ext_get_or no_job.line s.lines (map (λ (job : Job). job.line) jobs) (sym (length-map jobs (λ (job : Job). job.line) ∙ long))
-    (λ i lt. sym (line_is s n i lt) ∙ sym (get_or-map (λ (job : Job). job.line) jobs i no_job no_job.line (omega arith)))
+    ext_get_or no_job.line s.lines (map (λ (job : Job). job.line) jobs)
+    (sym (length-map jobs (λ (job : Job). job.line) ∙ long))
+    (λ i lt. sym (line_is s n i lt)
+    ∙ sym (get_or-map (λ (job : Job). job.line) jobs i no_job no_job.line (omega arith)))
 
 -- ---- Done comes of a yes
 
-not_done : (line file : List ℕ) (set : TaskSet) (e : BuildError) → (ending_output (answer_behind_line line (without_certificate file set e))).status ≡ Done → ⊥
+not_done : (line file : List ℕ) (set : TaskSet) (e : BuildError)
+    → (ending_output (answer_behind_line line (without_certificate file set e))).status ≡ Done → ⊥
 not_done line file set Memory is = cc
 not_done line file set (TooLarge task address) is = cc
 not_done line file set (TooManyEntries count) is = cc
@@ -96,35 +126,52 @@ module _ (safe_law : CheckedCodeIsSafe) (none_law : NoneLateLaw) (n : ℕ) where
   abbrev script : Script
   script = (made n).script
 
-  safe : (input : Input) (shapes : Shapes) (c : Certificate) → made_input n ≡ Ok input → ShapesIn input (Ok shapes)
-      → IsJudged input.set (task_graph_at shapes.graphs shapes.nests) c (answer_of Yes) → IsSafeWith input.set input.code (responses c)
+  safe : (input : Input) (shapes : Shapes) (c : Certificate) → made_input n ≡ Ok input
+      → ShapesIn input (Ok shapes)
+      → IsJudged input.set (task_graph_at shapes.graphs shapes.nests) c (answer_of Yes)
+      → IsSafeWith input.set input.code (responses c)
   safe input shapes c is shaped judged =
       let good = made_good n input is in
-      safe_law input.set input.code (task_graph_at shapes.graphs shapes.nests) c good.ranges good.words
+      safe_law input.set input.code (task_graph_at shapes.graphs shapes.nests) c
+      good.ranges good.words
       (shapes_built input shapes good (made_planned n input is) shaped) judged
 
-  none_late : (input : Input) (c : Certificate) → made_input n ≡ Ok input → IsSafeWith input.set input.code (responses c) → IsKept (run_of input script)
+  none_late : (input : Input) (c : Certificate) → made_input n ≡ Ok input
+      → IsSafeWith input.set input.code (responses c) → IsKept (run_of input script)
       → late_count script c (completions_of (run_of input script)) ≡ 0
   none_late input c is safely kept =
       let s = start_of_script input.set input.code script in
-      none_law script c (run_of input script) (lines_are s script.cycles) (safely s script.cycles refl (made_run n input is) kept)
+      none_law script c (run_of input script) (lines_are s script.cycles)
+      (safely s script.cycles refl (made_run n input is) kept)
 
-  said : (input : Input) (shapes : Shapes) (c : Certificate) (kept : Bool) (text : List ℕ) → is_legal input.set script.jobs ≡ true
+  said : (input : Input) (shapes : Shapes) (c : Certificate) (kept : Bool) (text : List ℕ)
+      → is_legal input.set script.jobs ≡ true
       → (IsTrue kept → late_count script c (completions_of (run_of input script)) ≡ 0)
-      → text ≡ generate_text n (node_count shapes.graphs) input.set c Yes script (completions_of (run_of input script)) kept
-      → (front : List ℕ) → text ≡ front ++ run_line true true → (before : List ℕ) × (jobs : ℕ) × (answered : ℕ) × (text ≡ before ++ jobs_line jobs answered 0 ++ run_line true true)
+      → text ≡ generate_text n (node_count shapes.graphs) input.set c Yes script
+      (completions_of (run_of input script)) kept
+      → (front : List ℕ) → text ≡ front ++ run_line true true
+      → (before : List ℕ) × (jobs : ℕ) × (answered : ℕ)
+      × (text ≡ before ++ jobs_line jobs answered 0 ++ run_line true true)
   unfolding generate_text
   said input shapes c kept text lawful none is =
       let ends = completions_of (run_of input script) in
-      late_said text (made_line n (node_count shapes.graphs) ++ check_text input.set c Yes) (length script.jobs) (answered_count ends) (late_count script c ends) (is_legal input.set script.jobs) kept is lawful none
+      late_said text (made_line n (node_count shapes.graphs) ++ check_text input.set c Yes)
+      (length script.jobs) (answered_count ends) (late_count script c ends)
+      (is_legal input.set script.jobs) kept is lawful none
 
-  generated : (input : Input) (shapes : Shapes) (c : Certificate) (kept : Bool) (text : List ℕ) → made_input n ≡ Ok input → ShapesIn input (Ok shapes) → IsRunJudged script input shapes c Yes kept
-      → text ≡ generate_text n (node_count shapes.graphs) input.set c Yes script (completions_of (run_of input script)) kept → IsGenerated n text
+  generated : (input : Input) (shapes : Shapes) (c : Certificate) (kept : Bool) (text : List ℕ)
+      → made_input n ≡ Ok input → ShapesIn input (Ok shapes)
+      → IsRunJudged script input shapes c Yes kept
+      → text ≡ generate_text n (node_count shapes.graphs) input.set c Yes script
+      (completions_of (run_of input script)) kept → IsGenerated n text
   generated input shapes c kept text is shaped J text_is =
       let safely = safe input shapes c is shaped J.judged in
-      let lawful : IsLegal input.set script.jobs = subst (λ s. IsLegal s script.jobs) (sym (made_parts n input is).set) (made_legal n) in
-      let legal_said : is_legal input.set script.jobs ≡ true = (legal_decides input.set script.jobs).1 lawful in
-      let none : IsTrue kept → late_count script c (completions_of (run_of input script)) ≡ 0 = λ k. none_late input c is safely (J.kept_so.0 k) in
+      let lawful : IsLegal input.set script.jobs =
+      subst (λ s. IsLegal s script.jobs) (sym (made_parts n input is).set) (made_legal n) in
+      let legal_said : is_legal input.set script.jobs ≡ true =
+      (legal_decides input.set script.jobs).1 lawful in
+      let none : IsTrue kept → late_count script c (completions_of (run_of input script)) ≡ 0 = λ k.
+      none_late input c is safely (J.kept_so.0 k) in
       record {
         input = input;
         shapes = shapes;
@@ -143,23 +190,36 @@ module _ (safe_law : CheckedCodeIsSafe) (none_law : NoneLateLaw) (n : ℕ) where
         late_0 = said input shapes c kept text legal_said none text_is;
       }
 
-  answered : (input : Input) (shapes : Shapes) (ending : Result Answer Halt) → made_input n ≡ Ok input → ShapesIn input (Ok shapes) → GeneratedOf n script input shapes ending → (ending_output ending).status ≡ Done
+  answered : (input : Input) (shapes : Shapes) (ending : Result Answer Halt)
+      → made_input n ≡ Ok input → ShapesIn input (Ok shapes)
+      → GeneratedOf n script input shapes ending → (ending_output ending).status ≡ Done
       → IsGenerated n (ending_output ending).text
   answered input shapes ending is shaped (inl (c, v, kept, J, end)) e =
-      let yes : v ≡ Yes = yes_only v (ap (λ (r : Result Answer Halt). (ending_output r).status) (sym end) ∙ e) in
-      let text : (ending_output ending).text ≡ generate_text n (node_count shapes.graphs) input.set c v script (completions_of (run_of input script)) kept = ap (λ (r : Result Answer Halt). (ending_output r).text) end in
-      generated input shapes c kept (ending_output ending).text is shaped (subst (λ x. IsRunJudged script input shapes c x kept) yes J)
-      (text ∙ ap (λ x. generate_text n (node_count shapes.graphs) input.set c x script (completions_of (run_of input script)) kept) yes)
+      let yes : v ≡ Yes = yes_only v
+      (ap (λ (r : Result Answer Halt). (ending_output r).status) (sym end) ∙ e) in
+      let text : (ending_output ending).text
+      ≡ generate_text n (node_count shapes.graphs) input.set c v script
+      (completions_of (run_of input script)) kept =
+      ap (λ (r : Result Answer Halt). (ending_output r).text) end in
+      generated input shapes c kept (ending_output ending).text is shaped
+      (subst (λ x. IsRunJudged script input shapes c x kept) yes J)
+      (text ∙ ap
+      (λ x. generate_text n (node_count shapes.graphs) input.set c x script
+      (completions_of (run_of input script)) kept) yes)
   answered input shapes ending is shaped (inr none) e =
-      absurd (not_done (made_line n (node_count shapes.graphs)) (codes "generate") input.set none.0 (ap (λ (r : Result Answer Halt). (ending_output r).status) (sym none.3) ∙ e))
+      absurd (not_done (made_line n (node_count shapes.graphs)) (codes "generate") input.set none.0
+      (ap (λ (r : Result Answer Halt). (ending_output r).status) (sym none.3) ∙ e))
 
-  ended : (ending : Result Answer Halt) → GenerateEnds n ending → (ending_output ending).status ≡ Done → IsGenerated n (ending_output ending).text
+  ended : (ending : Result Answer Halt) → GenerateEnds n ending
+      → (ending_output ending).status ≡ Done → IsGenerated n (ending_output ending).text
   ended ending is e =
-      let input = then_done (Exactly (made_input n)) (λ input. Then (ShapesIn input) (GeneratedOf n script input)) ending is e in
+      let input = then_done (Exactly (made_input n))
+      (λ input. Then (ShapesIn input) (GeneratedOf n script input)) ending is e in
       let shapes = then_done (ShapesIn input.0) (GeneratedOf n script input.0) ending input.2 e in
       answered input.0 shapes.0 ending input.1 shapes.1 shapes.2 e
 
-pub done_is_generated : CheckedCodeIsSafe → NoneLateLaw → (words : List (List ℕ)) (contents : Contents) → DoneIsGenerated words contents
+pub done_is_generated : CheckedCodeIsSafe → NoneLateLaw → (words : List (List ℕ))
+    (contents : Contents) → DoneIsGenerated words contents
 done_is_generated safe_law none_law words contents n output is out e =
     let given = some-out words contents (generate n) output is out in
     subst (IsGenerated n) (sym (ap (λ (o : Output). o.text) given.2))

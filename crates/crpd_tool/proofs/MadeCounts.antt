@@ -1,5 +1,6 @@
 -- How many files and jobs a made input has.
-use Rattle.std.proofs.Common.{◌≡◌, ℕ, zero, suc, ◌+◌, ◌*◌, ◌/◌, ◌^◌, ◌<◌, ◌≤◌, List, length, map, sym, ◌∙◌, arith, length-append}
+use Rattle.std.proofs.Common.{◌≡◌, ℕ, zero, suc, ◌+◌, ◌*◌, ◌/◌, ◌^◌, ◌<◌, ◌≤◌, List, length, map}
+use Rattle.std.proofs.Common.{sym, ◌∙◌, arith, length-append}
 use Rattle.std.specs.List.{flat_map, range_with_len}
 use Rattle.std.proofs.Math.Nat.{div-le_self}
 use Rattle.std.proofs.lemmas.List.FromFn.{length-map-range_with_len}
@@ -11,17 +12,21 @@ use Rattle.gen_tasks.specs.GeneratedInput.{made, generated_set}
 use Rattle.gen_tasks.specs.Programs.{generated_file_at, generated_task_at}
 
 -- lists of at most 400,000 items each, one behind the other
-flat_few : {X : Type 0} (f : ℕ → List X) (a n : ℕ) → ((k : ℕ) → length (f k) ≤ 400000) → length (flat_map f (range_with_len a n)) ≤ n * 400000
+flat_few : {X : Type 0} (f : ℕ → List X) (a n : ℕ) → ((k : ℕ) → length (f k) ≤ 400000)
+    → length (flat_map f (range_with_len a n)) ≤ n * 400000
 flat_few f a zero each = omega arith
 flat_few f a (suc n) each =
     let first : length (f a) ≤ 400000 = each a in
-    let rest : length (flat_map f (range_with_len (a + 1) n)) ≤ n * 400000 = flat_few f (a + 1) n each in
+    let rest : length (flat_map f (range_with_len (a + 1) n)) ≤ n * 400000 =
+    flat_few f (a + 1) n each in
     omega (arith, length-append (f a) (flat_map f (range_with_len (a + 1) n)))
 
 few_of : (x i period jitter : ℕ) → length (jobs_of x i period jitter) ≤ 400000
 unfolding jobs_of
 few_of x i period jitter =
-    let count : length (map (generated_job x i period jitter) (range_with_len 0 (job_count period))) ≡ job_count period = length-map-range_with_len (generated_job x i period jitter) 0 (job_count period) in
+    let count : length (map (generated_job x i period jitter) (range_with_len 0 (job_count period)))
+    ≡ job_count period =
+    length-map-range_with_len (generated_job x i period jitter) 0 (job_count period) in
     let small : 399999 / period ≤ 399999 = div-le_self 399999 period in
     omega arith
 
@@ -31,7 +36,9 @@ tasks_of n = length-map-range_with_len (generated_task_at n) 0 16
 
 jobs_few : (x : ℕ) (set : TaskSet) → length (jobs x set) ≤ length set.tasks * 400000
 unfolding jobs
-jobs_few x set = flat_few (jobs_at x set) 0 (length set.tasks) (λ i. few_of (state_after x (jobs_before set i)) i (period_of set i) (jitter_of set i))
+jobs_few x set =
+    flat_few (jobs_at x set) 0 (length set.tasks)
+    (λ i. few_of (state_after x (jobs_before set i)) i (period_of set i) (jitter_of set i))
 
 pub made_files_count : (n : ℕ) → length (made n).files ≡ length (made n).set.tasks
 unfolding made
@@ -40,7 +47,8 @@ made_files_count n = length-map-range_with_len (generated_file_at n) 0 16 ∙ sy
 pub made_jobs_few : (n : ℕ) → length (made n).script.jobs < 2 ^ 32
 unfolding made
 made_jobs_few n =
-    let few : length (jobs (state_after n 64) (generated_set n)) ≤ length (generated_set n).tasks * 400000 = jobs_few (state_after n 64) (generated_set n) in
+    let few : length (jobs (state_after n 64) (generated_set n))
+    ≤ length (generated_set n).tasks * 400000 = jobs_few (state_after n 64) (generated_set n) in
     let count : length (generated_set n).tasks ≡ 16 = tasks_of n in
     let all : length (jobs (state_after n 64) (generated_set n)) ≤ 16 * 400000 = rw count at few in
     omega arith

@@ -1,4 +1,5 @@
--- What the made input is: a set in its ranges, code with a plan for each task, a legal script, and a start of the machine.
+-- What the made input is: a set in its ranges, code with a plan for each task, a legal script, and
+-- a start of the machine.
 use Rattle.std.proofs.Common.{◌≡◌, ℕ, length, Ok, ap, sym, subst, ◌∙◌, arith}
 use Rattle.crpd_base.specs.Ranges.{IsTaskSet}
 use Rattle.script_reader.specs.Legal.{IsLegal}
@@ -16,34 +17,49 @@ use Rattle.crpd_tool.proofs.MadeStart.{made_start}
 -- the set with its code, by its parts
 pub record IsMadeOf (n : ℕ) (input : Input) : Type 0 where
   pub set : input.set ≡ (made n).set
-  pub code : code_in (contents_of_files (named_files (made n).set (made n).files)) made_name (made n).set ≡ Ok input.code
+  pub code : code_in (contents_of_files (named_files (made n).set (made n).files)) made_name
+      (made n).set ≡ Ok input.code
 
 pub made_parts : (n : ℕ) (input : Input) → made_input n ≡ Ok input → IsMadeOf n input
 made_parts n input e =
-    let c = step_ok (code_in (contents_of_files (named_files (made n).set (made n).files)) made_name (made n).set) (λ code. Ok (record { set = (made n).set; code = code })) input e in
+    let c = step_ok (code_in (contents_of_files (named_files (made n).set (made n).files)) made_name
+    (made n).set) (λ code. Ok (record { set = (made n).set; code = code })) input e in
     let is : ◌≡◌ {A = Input} (record { set = (made n).set; code = c.0 }) input = cc in
-    record { set = sym (ap (λ (i : Input). i.set) is); code = c.1 ∙ ap (λ (i : Input). Ok i.code) is }
+    record {
+      set = sym (ap (λ (i : Input). i.set) is);
+      code = c.1 ∙ ap (λ (i : Input). Ok i.code) is;
+    }
 
 pub made_good : (n : ℕ) (input : Input) → made_input n ≡ Ok input → IsInput input
 made_good n input e =
     let M = made_parts n input e in
     record {
       ranges = subst IsTaskSet (sym M.set) (made_set_is n);
-      words = code_good (contents_of_files (named_files (made n).set (made n).files)) made_name (made n).set input.code M.code;
+      words =
+          code_good (contents_of_files (named_files (made n).set (made n).files)) made_name
+          (made n).set input.code M.code;
     }
 
-pub made_planned : (n : ℕ) (input : Input) → made_input n ≡ Ok input → length input.code.plans ≡ length input.set.tasks
+pub made_planned : (n : ℕ) (input : Input) → made_input n ≡ Ok input
+    → length input.code.plans ≡ length input.set.tasks
 made_planned n input e =
     let M = made_parts n input e in
-    code_planned (contents_of_files (named_files (made n).set (made n).files)) made_name (made n).set input.code M.code ∙ sym (ap (λ s. length s.tasks) M.set)
+    code_planned (contents_of_files (named_files (made n).set (made n).files)) made_name
+    (made n).set input.code M.code ∙ sym (ap (λ s. length s.tasks) M.set)
 
 -- the run of the made script is a legal one
-pub made_run : (n : ℕ) (input : Input) → made_input n ≡ Ok input → IsLegalRun input.set (start_of_script input.set input.code (made n).script)
+pub made_run : (n : ℕ) (input : Input) → made_input n ≡ Ok input
+    → IsLegalRun input.set (start_of_script input.set input.code (made n).script)
 made_run n input e =
     let M = made_parts n input e in
     let good = made_good n input e in
     record {
-      cache = omega (arith, good.ranges.platform.sets, start_cache_length input.set.platform (made n).script.cache);
+      cache =
+          omega (
+            arith,
+            good.ranges.platform.sets,
+            start_cache_length input.set.platform (made n).script.cache,
+          );
       memory = made_start n input.code M.code;
       tasks = subst (λ s. NamesTasks s (made n).script.jobs) (sym M.set) (made_in_set n);
       legal = subst (λ s. IsLegal s (made n).script.jobs) (sym M.set) (made_legal n);

@@ -1,5 +1,6 @@
 -- A certificate and a script have one explanation, whatever the regions of the same loops are.
-use Rattle.std.proofs.Common.{◌≡◌, ℕ, ◌<◌, List, ◌++◌, length, get_or, map, Result, Ok, sym, ap, ◌∙◌, subst}
+use Rattle.std.proofs.Common.{◌≡◌, ℕ, ◌<◌, List, ◌++◌, length, get_or, map, Result, Ok, sym, ap}
+use Rattle.std.proofs.Common.{◌∙◌, subst}
 use Rattle.crpd_base.specs.declared.data.Certificate.{Certificate}
 use Rattle.crpd_base.specs.declared.data.Script.{Script}
 use Rattle.cert_check.specs.FirstFailing.{answer_of}
@@ -10,7 +11,8 @@ use Rattle.flat_graph.specs.CodeGraph.{CodeGraph, graph_at}
 use Rattle.loop_regions.specs.CodeNest.{CodeNest}
 use Rattle.preempt_machine.specs.Step.{Fetch, Start}
 use Rattle.run_account.specs.Account.{IsAccount, account_entry}
-use Rattle.run_account.specs.Ledger.{IsLedgerReload, IsEvicted, IsLedger, IsOfRun, IsPreempted, LedgerReload}
+use Rattle.run_account.specs.Ledger.{IsLedgerReload, IsEvicted, IsLedger, IsOfRun, IsPreempted}
+use Rattle.run_account.specs.Ledger.{LedgerReload}
 use Rattle.preempt_machine.specs.Starts.{start_of_script}
 use Rattle.run_account.specs.declared.told.Account.{Account}
 use Rattle.run_account.specs.declared.told.Entry.{Entry}
@@ -29,17 +31,41 @@ use Rattle.crpd_tool.proofs.Reported.{one_line}
 
 -- regions play no part in a ledger
 module _ (s : Start) (graphs : List CodeGraph) (c : Certificate) where
-  entry_too : (ns ms : List CodeNest) (n x : ℕ) (f : Fetch) → IsLedgerReload s (task_graph_at graphs ns) c n x f → IsLedgerReload s (task_graph_at graphs ms) c n x f
-  entry_too ns ms n x f e = record { kept = e.kept; fetches = e.fetches; counted = e.counted; misses = e.misses }
+  entry_too : (ns ms : List CodeNest) (n x : ℕ) (f : Fetch)
+      → IsLedgerReload s (task_graph_at graphs ns) c n x f
+      → IsLedgerReload s (task_graph_at graphs ms) c n x f
+  entry_too ns ms n x f e = record {
+    kept = e.kept;
+    fetches = e.fetches;
+    counted = e.counted;
+    misses = e.misses;
+  }
 
-  evicted_too : (ns ms : List CodeNest) (n x y : ℕ) → IsEvicted s (task_graph_at graphs ns) c n x y → IsEvicted s (task_graph_at graphs ms) c n x y
-  evicted_too ns ms n x y e = record { fetch = e.fetch; entry = entry_too ns ms n x e.fetch e.entry; time = e.time; last = e.last; is = e.is }
+  evicted_too : (ns ms : List CodeNest) (n x y : ℕ) → IsEvicted s (task_graph_at graphs ns) c n x y
+      → IsEvicted s (task_graph_at graphs ms) c n x y
+  evicted_too ns ms n x y e = record {
+    fetch = e.fetch;
+    entry = entry_too ns ms n x e.fetch e.entry;
+    time = e.time;
+    last = e.last;
+    is = e.is;
+  }
 
-  preempted_too : (ns ms : List CodeNest) (n x p : ℕ) → IsPreempted s (task_graph_at graphs ns) c n x p → IsPreempted s (task_graph_at graphs ms) c n x p
+  preempted_too : (ns ms : List CodeNest) (n x p : ℕ)
+      → IsPreempted s (task_graph_at graphs ns) c n x p
+      → IsPreempted s (task_graph_at graphs ms) c n x p
   preempted_too ns ms n x p e =
-      record { fetch = e.fetch; entry = entry_too ns ms n x e.fetch e.entry; from = e.from; time = e.time; until = e.until; is = e.is }
+      record {
+        fetch = e.fetch;
+        entry = entry_too ns ms n x e.fetch e.entry;
+        from = e.from;
+        time = e.time;
+        until = e.until;
+        is = e.is;
+      }
 
-  of_run_too : (ns ms : List CodeNest) (e : LedgerReload) → IsOfRun s (task_graph_at graphs ns) c e → IsOfRun s (task_graph_at graphs ms) c e
+  of_run_too : (ns ms : List CodeNest) (e : LedgerReload) → IsOfRun s (task_graph_at graphs ns) c e
+      → IsOfRun s (task_graph_at graphs ms) c e
   unfolding evicted_too
   of_run_too ns ms e r =
       record {
@@ -48,7 +74,8 @@ module _ (s : Start) (graphs : List CodeGraph) (c : Certificate) where
         to_set = r.to_set;
       }
 
-  ledger_too : (ns ms : List CodeNest) (n : ℕ) (es : List LedgerReload) → IsLedger s (task_graph_at graphs ns) c n es → IsLedger s (task_graph_at graphs ms) c n es
+  ledger_too : (ns ms : List CodeNest) (n : ℕ) (es : List LedgerReload)
+      → IsLedger s (task_graph_at graphs ns) c n es → IsLedger s (task_graph_at graphs ms) c n es
   ledger_too ns ms n es L =
       record {
         entries = λ k d lt. let e = L.entries k d lt in (e.0, of_run_too ns ms (get_or es k d) e.1);
@@ -57,33 +84,48 @@ module _ (s : Start) (graphs : List CodeGraph) (c : Certificate) where
       }
 
   -- so two accounts of a run have the same entries
-  same_entries : (ns ms : List CodeNest) (n : ℕ) (a b : Account) → IsAccount s (task_graph_at graphs ns) c n a → IsAccount s (task_graph_at graphs ms) c n b → a.entries ≡ b.entries
+  same_entries : (ns ms : List CodeNest) (n : ℕ) (a b : Account)
+      → IsAccount s (task_graph_at graphs ns) c n a → IsAccount s (task_graph_at graphs ms) c n b
+      → a.entries ≡ b.entries
   same_entries ns ms n a b A B =
       A.entries
-      ∙ ap (map (account_entry s)) (one_ledger s (task_graph_at graphs ms) c n A.ledger B.ledger (ledger_too ns ms n A.ledger A.is_ledger) B.is_ledger)
+      ∙ ap (map (account_entry s))
+      (one_ledger s (task_graph_at graphs ms) c n A.ledger B.ledger
+      (ledger_too ns ms n A.ledger A.is_ledger) B.is_ledger)
       ∙ sym B.entries
 
-module _ (input : Input) (graphs : List CodeGraph) (c : Certificate) (script : Script) (ns ms : List CodeNest) where
+module _ (input : Input) (graphs : List CodeGraph) (c : Certificate) (script : Script)
+    (ns ms : List CodeNest) where
   abbrev first : Shapes
   first = record { graphs = graphs; nests = ns }
 
   abbrev second : Shapes
   second = record { graphs = graphs; nests = ms }
 
-  one_account : (r s : Result Answer Halt) → AccountOf input first c script r → AccountOf input second c script s → r ≡ s
+  one_account : (r s : Result Answer Halt) → AccountOf input first c script r
+      → AccountOf input second c script s → r ≡ s
   one_account r s a b =
-      let text : List Entry → List ℕ → Result Answer Halt = λ entries last. Ok (record { text = reload_lines input.set entries ++ delay_lines input.set c ++ last; outcome = Done }) in
-      let entries : a.0.entries ≡ b.0.entries = same_entries (start_of_script input.set input.code script) graphs c ns ms script.cycles a.0 b.0 a.2 b.2 in
+      let text : List Entry → List ℕ → Result Answer Halt = λ entries last.
+      Ok (record {
+        text = reload_lines input.set entries ++ delay_lines input.set c ++ last;
+        outcome = Done;
+      }) in
+      let entries : a.0.entries ≡ b.0.entries =
+      same_entries (start_of_script input.set input.code script) graphs c ns ms script.cycles a.0
+      b.0 a.2 b.2 in
       let line : a.1 ≡ b.1 = one_line input.set script (run_of input script) a.1 b.1 a.3 b.3 in
       a.4 ∙ ap (λ es. text es a.1) entries ∙ ap (text b.0.entries) line ∙ sym b.4
 
-  one_by : (v : Verdict) (r s : Result Answer Halt) → ExplainedBy input first c script v r → ExplainedBy input second c script v s → r ≡ s
+  one_by : (v : Verdict) (r s : Result Answer Halt) → ExplainedBy input first c script v r
+      → ExplainedBy input second c script v s → r ≡ s
   one_by Yes r s a b = one_account r s a b
   one_by (No task clause place) r s a b = a ∙ sym b
 
-  pub one_explanation : ((k : ℕ) → k < length input.set.tasks → AreSame (graph_at graphs k) (nest_at ms k) (nest_at ns k)) → (r s : Result Answer Halt)
+  pub one_explanation : ((k : ℕ) → k < length input.set.tasks
+      → AreSame (graph_at graphs k) (nest_at ms k) (nest_at ns k)) → (r s : Result Answer Halt)
       → ExplanationOf input first c script r → ExplanationOf input second c script s → r ≡ s
   one_explanation same r s a b =
       let judged = judged_too input.set graphs c ms ns same (answer_of b.0) b.1 in
-      let verdict : a.0 ≡ b.0 = one_verdict input.set (task_graph_at graphs ns) c a.0 b.0 a.1 judged in
+      let verdict : a.0 ≡ b.0 = one_verdict input.set (task_graph_at graphs ns) c a.0 b.0
+      a.1 judged in
       one_by b.0 r s (subst (λ v. ExplainedBy input first c script v r) verdict a.2) b.2

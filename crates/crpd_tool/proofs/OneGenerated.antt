@@ -1,5 +1,6 @@
 -- A made input has one end by all regions of the same loops.
-use Rattle.std.proofs.Common.{◌≡◌, ℕ, ◌<◌, Bool, List, length, Result, Ok, sym, ap, subst, ◌∙◌, inl, inr}
+use Rattle.std.proofs.Common.{◌≡◌, ℕ, ◌<◌, Bool, List, length, Result, Ok, sym, ap, subst, ◌∙◌, inl}
+use Rattle.std.proofs.Common.{inr}
 use Rattle.std.proofs.lemmas.Bool.Decides.{same_from_decides}
 use Rattle.crpd_base.specs.declared.data.Certificate.{Certificate}
 use Rattle.crpd_base.specs.declared.data.Script.{Script}
@@ -24,36 +25,53 @@ use Rattle.crpd_tool.specs.Simulate.{run_of}
 use Rattle.crpd_tool.proofs.OneBuild.{not_refused, one_refusal}
 use Rattle.crpd_tool.proofs.OneMade.{Same, best_too, refused_too}
 
-module _ (n : ℕ) (script : Script) (input : Input) (graphs : List CodeGraph) (ns ms : List CodeNest) (times : HasTimes input.set)
-    (G : (k : ℕ) → k < length input.set.tasks → IsGraph (graph_of (graph_at graphs k))) (same : Same input.set graphs ns ms) where
+module _ (n : ℕ) (script : Script) (input : Input) (graphs : List CodeGraph) (ns ms : List CodeNest)
+    (times : HasTimes input.set)
+    (G : (k : ℕ) → k < length input.set.tasks → IsGraph (graph_of (graph_at graphs k)))
+    (same : Same input.set graphs ns ms) where
   abbrev by_first : Shapes
   by_first = record { graphs = graphs; nests = ns }
 
   abbrev by_second : Shapes
   by_second = record { graphs = graphs; nests = ms }
 
-  one_certificate : (c d : Certificate) (v w : Verdict) (k l : Bool) → IsRunJudged script input by_first c v k → IsRunJudged script input by_second d w l → c ≡ d
-  one_certificate c d v w k l M N = one_best input.set (task_graph_at graphs ms) c d times (best_too input.set graphs ns ms same c M.best) N.best
+  one_certificate : (c d : Certificate) (v w : Verdict) (k l : Bool)
+      → IsRunJudged script input by_first c v k → IsRunJudged script input by_second d w l → c ≡ d
+  one_certificate c d v w k l M N =
+      one_best input.set (task_graph_at graphs ms) c d times
+      (best_too input.set graphs ns ms same c M.best) N.best
 
-  same_verdict : (c d : Certificate) (v w : Verdict) (k l : Bool) → IsRunJudged script input by_first c v k → IsRunJudged script input by_second d w l → v ≡ w
+  same_verdict : (c d : Certificate) (v w : Verdict) (k l : Bool)
+      → IsRunJudged script input by_first c v k → IsRunJudged script input by_second d w l → v ≡ w
   same_verdict c d v w k l M N =
       let c_is = one_certificate c d v w k l M N in
-      let judged : IsJudged input.set (task_graph_at graphs ns) d (answer_of v) = subst (λ x. IsJudged input.set (task_graph_at graphs ns) x (answer_of v)) c_is M.judged in
-      one_verdict input.set (task_graph_at graphs ms) d v w (judged_too input.set graphs d ns ms same (answer_of v) judged) N.judged
+      let judged : IsJudged input.set (task_graph_at graphs ns) d (answer_of v) =
+      subst (λ x. IsJudged input.set (task_graph_at graphs ns) x (answer_of v)) c_is M.judged in
+      one_verdict input.set (task_graph_at graphs ms) d v w
+      (judged_too input.set graphs d ns ms same (answer_of v) judged) N.judged
 
   same_answer : (c d : Certificate) (v w : Verdict) (k l : Bool) → c ≡ d → v ≡ w → k ≡ l
-      → ◌≡◌ {A = Result Answer Halt} (Ok (made_answer n script input by_first c v k)) (Ok (made_answer n script input by_second d w l))
+      → ◌≡◌ {A = Result Answer Halt} (Ok (made_answer n script input by_first c v k))
+      (Ok (made_answer n script input by_second d w l))
   same_answer c d v w k l e f g =
-      ap (λ x. Ok (made_answer n script input by_first x v k)) e ∙ ap (λ x. Ok (made_answer n script input by_first d x k)) f ∙ ap (λ x. Ok (made_answer n script input by_first d w x)) g
+      ap (λ x. Ok (made_answer n script input by_first x v k)) e
+      ∙ ap (λ x. Ok (made_answer n script input by_first d x k)) f
+      ∙ ap (λ x. Ok (made_answer n script input by_first d w x)) g
 
-  pub one_generated : (r s : Result Answer Halt) → GeneratedOf n script input by_first r → GeneratedOf n script input by_second s → r ≡ s
+  pub one_generated : (r s : Result Answer Halt) → GeneratedOf n script input by_first r
+      → GeneratedOf n script input by_second s → r ≡ s
   one_generated r s (inl (c, v, k, M, e)) (inl (d, w, l, N, f)) =
-      let kept : k ≡ l = same_from_decides {P = IsKept (run_of input script)} k l M.kept_so N.kept_so in
-      e ∙ same_answer c d v w k l (one_certificate c d v w k l M N) (same_verdict c d v w k l M N) kept ∙ sym f
+      let kept : k ≡ l = same_from_decides {P = IsKept (run_of input script)} k l M.kept_so
+      N.kept_so in
+      e ∙ same_answer c d v w k l (one_certificate c d v w k l M N) (same_verdict c d v w k l M N)
+      kept ∙ sym f
   one_generated r s (inl (c, v, k, M, e)) (inr b) =
-      absurd (not_refused input.set (task_graph_at graphs ms) times G c b.0 (best_too input.set graphs ns ms same c M.best) M.few b.1 b.2)
+      absurd (not_refused input.set (task_graph_at graphs ms) times G c b.0
+      (best_too input.set graphs ns ms same c M.best) M.few b.1 b.2)
   one_generated r s (inr a) (inl (d, w, l, N, f)) =
-      absurd (not_refused input.set (task_graph_at graphs ms) times G d a.0 N.best N.few a.1 (refused_too input.set graphs ns ms same a.0 a.2))
+      absurd (not_refused input.set (task_graph_at graphs ms) times G d a.0 N.best N.few a.1
+      (refused_too input.set graphs ns ms same a.0 a.2))
   one_generated r s (inr a) (inr b) =
-      let e : a.0 ≡ b.0 = one_refusal input.set (task_graph_at graphs ms) times G a.0 b.0 a.1 b.1 (refused_too input.set graphs ns ms same a.0 a.2) b.2 in
+      let e : a.0 ≡ b.0 = one_refusal input.set (task_graph_at graphs ms) times G a.0 b.0 a.1 b.1
+      (refused_too input.set graphs ns ms same a.0 a.2) b.2 in
       a.3 ∙ ap (without_made n input by_second) e ∙ sym b.3

@@ -14,7 +14,8 @@ use Rattle.cert_build.specs.Analysis.{HasLargeBound}
 use Rattle.cert_build.specs.Best.{IsBest, IsBestPart}
 use Rattle.cert_build.specs.Certify.{AreBestParts, IsBuildError}
 use Rattle.cert_build.specs.declared.fault.BuildError.{BuildError}
-use Rattle.cert_build.specs.declared.fault.BuildError.TheVariants.{Memory, TooLarge, TooManyEntries, Unschedulable}
+use Rattle.cert_build.specs.declared.fault.BuildError.TheVariants.{Memory, TooLarge, TooManyEntries}
+use Rattle.cert_build.specs.declared.fault.BuildError.TheVariants.{Unschedulable}
 use Rattle.cert_build.proofs.OneBest.{one_best}
 use Rattle.crpd_tool.specs.declared.answer.Answer.{Answer}
 use Rattle.crpd_input.specs.declared.input.Input.{Input}
@@ -35,9 +36,16 @@ module _ (p : Platform) (g : CodeGraph) (n m : CodeNest) (s : AreSame g n m) whe
     hits = B.hits;
     potentials = record {
       nodes = B.potentials.nodes;
-      regions = B.potentials.regions ∙ size_same (graph_of g) (places_of g) s.loops s.one_head (nest_of n) (nest_of m) s.first s.second;
-      least = least_too (graph_of g) (places_of g) s.loops s.one_head (nest_of n) (nest_of m) s.first s.second _ _ B.potentials.least;
-      bound = λ i is. B.potentials.bound i (item_too (graph_of g) (places_of g) s.loops s.one_head (nest_of m) (nest_of n) s.second s.first g.first i is);
+      regions =
+          B.potentials.regions ∙ size_same (graph_of g) (places_of g) s.loops s.one_head (nest_of n)
+          (nest_of m) s.first s.second;
+      least =
+          least_too (graph_of g) (places_of g) s.loops s.one_head (nest_of n) (nest_of m) s.first
+          s.second _ _ B.potentials.least;
+      bound = λ i is.
+          B.potentials.bound i
+          (item_too (graph_of g) (places_of g) s.loops s.one_head (nest_of m) (nest_of n) s.second
+          s.first g.first i is);
     };
   }
 
@@ -50,8 +58,10 @@ module _ (p : Platform) (g : CodeGraph) (n m : CodeNest) (s : AreSame g n m) whe
         exceeds = (
           e.0,
           e.1,
-          least_too (graph_of g) (places_of g) s.loops s.one_head (nest_of n) (nest_of m) s.first s.second _ _ e.2,
-          item_too (graph_of g) (places_of g) s.loops s.one_head (nest_of n) (nest_of m) s.first s.second g.first e.1 e.3,
+          least_too (graph_of g) (places_of g) s.loops s.one_head (nest_of n) (nest_of m) s.first
+              s.second _ _ e.2,
+          item_too (graph_of g) (places_of g) s.loops s.one_head (nest_of n) (nest_of m) s.first
+              s.second g.first e.1 e.3,
           e.4,
         );
       }
@@ -60,13 +70,15 @@ module _ (p : Platform) (g : CodeGraph) (n m : CodeNest) (s : AreSame g n m) whe
 
 module _ (set : TaskSet) (graphs : List CodeGraph) where
   abbrev pub Same : List CodeNest → List CodeNest → Type 0
-  Same ns ms = (i : ℕ) → i < length set.tasks → AreSame (graph_at graphs i) (nest_at ns i) (nest_at ms i)
+  Same ns ms =
+      (i : ℕ) → i < length set.tasks → AreSame (graph_at graphs i) (nest_at ns i) (nest_at ms i)
 
   pub back : (ns ms : List CodeNest) → Same ns ms → Same ms ns
   back ns ms same = λ i lt. turned (graph_at graphs i) (nest_at ns i) (nest_at ms i) (same i lt)
 
   module _ (ns ms : List CodeNest) (same : Same ns ms) where
-    pub best_too : (c : Certificate) → IsBest set (task_graph_at graphs ns) c → IsBest set (task_graph_at graphs ms) c
+    pub best_too : (c : Certificate) → IsBest set (task_graph_at graphs ns) c
+        → IsBest set (task_graph_at graphs ms) c
     best_too c B = record {
       platform = B.platform;
       tasks = B.tasks;
@@ -74,29 +86,40 @@ module _ (set : TaskSet) (graphs : List CodeGraph) where
           let t = B.each i lt in
           record {
             name = t.name;
-            part = part_too set.platform (graph_at graphs i) (nest_at ns i) (nest_at ms i) (same i lt) (certified_task c i) t.part;
+            part =
+                part_too set.platform (graph_at graphs i) (nest_at ns i) (nest_at ms i) (same i lt)
+                (certified_task c i) t.part;
             window = t.window;
             response = t.response;
           };
     }
 
-    pub parts_too : (parts : List TaskPart) → AreBestParts set (task_graph_at graphs ns) parts → AreBestParts set (task_graph_at graphs ms) parts
+    pub parts_too : (parts : List TaskPart) → AreBestParts set (task_graph_at graphs ns) parts
+        → AreBestParts set (task_graph_at graphs ms) parts
     parts_too parts B = record {
       tasks = B.tasks;
-      each = λ i lt. part_too set.platform (graph_at graphs i) (nest_at ns i) (nest_at ms i) (same i lt) _ (B.each i lt);
+      each = λ i lt.
+          part_too set.platform (graph_at graphs i) (nest_at ns i) (nest_at ms i) (same i lt) _
+          (B.each i lt);
       within = B.within;
     }
 
-    large_at : (i : ℕ) → i < length set.tasks → HasLargeBound set.platform (task_graph_at graphs ns i) → HasLargeBound set.platform (task_graph_at graphs ms i)
-    large_at i lt = large_too set.platform (graph_at graphs i) (nest_at ns i) (nest_at ms i) (same i lt)
+    large_at : (i : ℕ) → i < length set.tasks
+        → HasLargeBound set.platform (task_graph_at graphs ns i)
+        → HasLargeBound set.platform (task_graph_at graphs ms i)
+    large_at i lt =
+        large_too set.platform (graph_at graphs i) (nest_at ns i) (nest_at ms i) (same i lt)
 
-  pub refused_too : (ns ms : List CodeNest) → Same ns ms → (e : BuildError) → IsBuildError set (task_graph_at graphs ns) e → IsBuildError set (task_graph_at graphs ms) e
+  pub refused_too : (ns ms : List CodeNest) → Same ns ms → (e : BuildError)
+      → IsBuildError set (task_graph_at graphs ns) e → IsBuildError set (task_graph_at graphs ms) e
   refused_too ns ms same Memory R = tt
   refused_too ns ms same (TooLarge t address) R = (
     record {
       task = R.0.task;
       large = large_at ns ms same t.0 R.0.task R.0.large;
-      before = λ k lt large. R.0.before k lt (large_at ms ns (back ns ms same) k (let l = R.0.task in omega (arith, l, lt)) large);
+      before = λ k lt large.
+          R.0.before k lt
+          (large_at ms ns (back ns ms same) k (let l = R.0.task in omega (arith, l, lt)) large);
     },
     R.1,
   )
@@ -105,16 +128,24 @@ module _ (set : TaskSet) (graphs : List CodeGraph) where
 
 -- ---- the end
 
-module _ (file : List ℕ) (input : Input) (graphs : List CodeGraph) (ns ms : List CodeNest) (times : HasTimes input.set)
-    (G : (k : ℕ) → k < length input.set.tasks → IsGraph (graph_of (graph_at graphs k))) (same : Same input.set graphs ns ms) where
-  pub one_analysis : (r s : Result Answer Halt) → AnalysisOf file input (record { graphs = graphs; nests = ns }) r → AnalysisOf file input (record { graphs = graphs; nests = ms }) s → r ≡ s
+module _ (file : List ℕ) (input : Input) (graphs : List CodeGraph) (ns ms : List CodeNest)
+    (times : HasTimes input.set)
+    (G : (k : ℕ) → k < length input.set.tasks → IsGraph (graph_of (graph_at graphs k)))
+    (same : Same input.set graphs ns ms) where
+  pub one_analysis : (r s : Result Answer Halt)
+      → AnalysisOf file input (record { graphs = graphs; nests = ns }) r
+      → AnalysisOf file input (record { graphs = graphs; nests = ms }) s → r ≡ s
   one_analysis r s (inl a) (inl b) =
-      let c : a.0 ≡ b.0 = one_best input.set (task_graph_at graphs ms) a.0 b.0 times (best_too input.set graphs ns ms same a.0 a.1.best) b.1.best in
+      let c : a.0 ≡ b.0 = one_best input.set (task_graph_at graphs ms) a.0 b.0 times
+      (best_too input.set graphs ns ms same a.0 a.1.best) b.1.best in
       a.2 ∙ ap (λ x. Ok (certificate_answer x)) c ∙ sym b.2
   one_analysis r s (inl a) (inr b) =
-      absurd (not_refused input.set (task_graph_at graphs ms) times G a.0 b.0 (best_too input.set graphs ns ms same a.0 a.1.best) a.1.few b.1 b.2)
+      absurd (not_refused input.set (task_graph_at graphs ms) times G a.0 b.0
+      (best_too input.set graphs ns ms same a.0 a.1.best) a.1.few b.1 b.2)
   one_analysis r s (inr a) (inl b) =
-      absurd (not_refused input.set (task_graph_at graphs ms) times G b.0 a.0 b.1.best b.1.few a.1 (refused_too input.set graphs ns ms same a.0 a.2))
+      absurd (not_refused input.set (task_graph_at graphs ms) times G b.0 a.0 b.1.best b.1.few a.1
+      (refused_too input.set graphs ns ms same a.0 a.2))
   one_analysis r s (inr a) (inr b) =
-      let e : a.0 ≡ b.0 = one_refusal input.set (task_graph_at graphs ms) times G a.0 b.0 a.1 b.1 (refused_too input.set graphs ns ms same a.0 a.2) b.2 in
+      let e : a.0 ≡ b.0 = one_refusal input.set (task_graph_at graphs ms) times G a.0 b.0 a.1 b.1
+      (refused_too input.set graphs ns ms same a.0 a.2) b.2 in
       a.3 ∙ ap (without_certificate file input.set) e ∙ sym b.3

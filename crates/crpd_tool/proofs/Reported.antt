@@ -24,24 +24,35 @@ use Rattle.crpd_tool.proofs.Finish.{some-out}
 use Rattle.crpd_tool.proofs.Safety.{then_done}
 
 -- a run has one line
-pub one_line : (set : TaskSet) (script : Script) (m : Machine) (one other : List ℕ) → IsRunLine set script m one → IsRunLine set script m other → one ≡ other
+pub one_line : (set : TaskSet) (script : Script) (m : Machine) (one other : List ℕ)
+    → IsRunLine set script m one → IsRunLine set script m other → one ≡ other
 one_line set script m one other a b =
-    let legal = same_from_decides {P = IsLegal set script.jobs} a.legal b.legal a.legal_so b.legal_so in
+    let legal = same_from_decides {P = IsLegal set script.jobs} a.legal b.legal a.legal_so
+    b.legal_so in
     let kept = same_from_decides {P = IsKept m} a.kept b.kept a.kept_so b.kept_so in
     a.line_is ∙ ap (λ x. run_line x a.kept) legal ∙ ap (run_line b.legal) kept ∙ sym b.line_is
 
-pub one_report : (input : Input) (script : Script) (r s : Result Answer Halt) → ReportOf input script r → ReportOf input script s → r ≡ s
+pub one_report : (input : Input) (script : Script) (r s : Result Answer Halt)
+    → ReportOf input script r → ReportOf input script s → r ≡ s
 one_report input script r s a b =
     let m = run_of input script in
     a.2
-    ∙ ap (λ last. Ok (record { text = job_lines input.set script.jobs (completions_of m) ++ last; outcome = outcome.Done })) (one_line input.set script m a.0 b.0 a.1 b.1)
+    ∙ ap (λ last. Ok (record {
+      text = job_lines input.set script.jobs (completions_of m) ++ last;
+      outcome = outcome.Done;
+    })) (one_line input.set script m a.0 b.0 a.1 b.1)
     ∙ sym b.2
 
 module _ (contents : Contents) (set script : List ℕ) where
-  ended : (ending : Result Answer Halt) → SimulateEnds contents set script ending → (ending_output ending).status ≡ Done → IsReported contents set script (ending_output ending).text
+  ended : (ending : Result Answer Halt) → SimulateEnds contents set script ending
+      → (ending_output ending).status ≡ Done
+      → IsReported contents set script (ending_output ending).text
   ended ending is e =
-      let input = then_done (Exactly (input_in contents set)) (λ input. Then (Exactly (script_in contents script input.set)) (ReportOf input)) ending is e in
-      let stated = then_done (Exactly (script_in contents script input.0.set)) (ReportOf input.0) ending input.2 e in
+      let input = then_done (Exactly (input_in contents set))
+      (λ input. Then (Exactly (script_in contents script input.set)) (ReportOf input))
+      ending is e in
+      let stated = then_done (Exactly (script_in contents script input.0.set))
+      (ReportOf input.0) ending input.2 e in
       let report = stated.2 in
       record {
         input = input.0;

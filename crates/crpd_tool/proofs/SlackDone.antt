@@ -26,13 +26,16 @@ use Rattle.crpd_tool.proofs.OneSlack.{loop_bounded, one_pair}
 use Rattle.crpd_tool.proofs.Safety.{then_done}
 
 module _ (stays_law : StaysAccepted) (contents : Contents) (set : List ℕ) where
-  greatest : (input : Input) (shapes : Shapes) (ending : Result Answer Halt) → input_in contents set ≡ Ok input → ShapesIn input (Ok shapes)
+  greatest : (input : Input) (shapes : Shapes) (ending : Result Answer Halt)
+      → input_in contents set ≡ Ok input → ShapesIn input (Ok shapes)
       → SlackOf input shapes ending → HasGreatestCosts contents set (ending_output ending).text
   greatest input shapes ending is shaped S =
       let good = input_good contents set input is in
-      let bounded : (k : ℕ) → k < length input.set.tasks → IsLoopBounded (task_graph_at shapes.graphs shapes.nests k) =
+      let bounded : (k : ℕ) → k < length input.set.tasks
+      → IsLoopBounded (task_graph_at shapes.graphs shapes.nests k) =
       λ k lt.
-      loop_bounded (word_at input.code.images) (plan_of (system_of input.set input.code) k) (task_graph_at shapes.graphs shapes.nests k)
+      loop_bounded (word_at input.code.images) (plan_of (system_of input.set input.code) k)
+      (task_graph_at shapes.graphs shapes.nests k)
       (shapes_built input shapes good (input_planned contents set input is) shaped k lt) in
       record {
         input = input;
@@ -43,20 +46,32 @@ module _ (stays_law : StaysAccepted) (contents : Contents) (set : List ℕ) wher
         shapes_are = shaped;
         text_is = ap (λ (r : Result Answer Halt). (ending_output r).text) S.3;
         are = S.2;
-        only = λ one two A. one_pair input.set (task_graph_at shapes.graphs shapes.nests) (has_times input.set good.ranges) bounded one two S.0 S.1 A S.2;
+        only = λ one two A.
+            one_pair input.set (task_graph_at shapes.graphs shapes.nests)
+            (has_times input.set good.ranges) bounded one two S.0 S.1 A S.2;
         stays = λ s m k d switch miss A.
             stays_law input.set (task_graph_at shapes.graphs shapes.nests) s m k d
-            (record { times = has_times input.set good.ranges; bounded = bounded; switch = switch; miss = miss }) A;
+            (record {
+              times = has_times input.set good.ranges;
+              bounded = bounded;
+              switch = switch;
+              miss = miss;
+            }) A;
       }
 
-  ended : (ending : Result Answer Halt) → SlackEnds contents set ending → (ending_output ending).status ≡ Done → HasGreatestCosts contents set (ending_output ending).text
+  ended : (ending : Result Answer Halt) → SlackEnds contents set ending
+      → (ending_output ending).status ≡ Done
+      → HasGreatestCosts contents set (ending_output ending).text
   ended ending is e =
-      let input = then_done (Exactly (input_in contents set)) (λ input. Then (ShapesIn input) (SlackOf input)) ending is e in
+      let input = then_done (Exactly (input_in contents set))
+      (λ input. Then (ShapesIn input) (SlackOf input)) ending is e in
       let shapes = then_done (ShapesIn input.0) (SlackOf input.0) ending input.2 e in
       greatest input.0 shapes.0 ending input.1 shapes.1 shapes.2
 
-pub done_is_slack : StaysAccepted → (words : List (List ℕ)) (contents : Contents) → DoneIsSlack words contents
+pub done_is_slack : StaysAccepted → (words : List (List ℕ)) (contents : Contents)
+    → DoneIsSlack words contents
 done_is_slack stays_law words contents set output is out e =
     let given = some-out words contents (slack set) output is out in
     let text = ap (λ (o : Output). o.text) given.2 in
-    subst (λ t. HasGreatestCosts contents set t) (sym text) (ended stays_law contents set given.0 given.1 (ap (λ (o : Output). o.status) (sym given.2) ∙ e))
+    subst (λ t. HasGreatestCosts contents set t) (sym text)
+    (ended stays_law contents set given.0 given.1 (ap (λ (o : Output). o.status) (sym given.2) ∙ e))

@@ -9,7 +9,8 @@ use Rattle.crpd_io.specs.Outside.{Contents}
 use Rattle.crpd_tool.specs.Undisturbed.{DoneIsBounded}
 use Rattle.crpd_tool.proofs.Safety.{done_is_checked}
 
-pub done_is_bounded : CheckedCodeIsBounded → (words : List (List ℕ)) (contents : Contents) → DoneIsBounded words contents
+pub done_is_bounded : CheckedCodeIsBounded → (words : List (List ℕ)) (contents : Contents)
+    → DoneIsBounded words contents
 done_is_bounded bounded_law words contents set certificate output is out e =
     let found = done_is_checked words contents set certificate output is out e in
     let graphs = task_graph_at found.shapes.graphs found.shapes.nests in
@@ -19,6 +20,9 @@ done_is_bounded bounded_law words contents set certificate output is out e =
       input_is = found.input_is;
       certificate_is = found.certificate_is;
       text_is = found.text_is;
-      count = length-map found.stated.tasks (λ (t : TaskPart). t.part.bound) ∙ as_many found.input.set graphs found.stated found.checked.ranges.some found.checked.says;
+      count =
+          length-map found.stated.tasks (λ (t : TaskPart). t.part.bound)
+          ∙ as_many found.input.set graphs found.stated found.checked.ranges.some
+          found.checked.says;
       bounded = bounded_law found.input.set found.input.code graphs found.stated found.checked;
     }

@@ -26,7 +26,8 @@ use Rattle.crpd_input.specs.Shapes.{ShapesIn}
 use Rattle.crpd_input.specs.Steps.{Exactly, Then, refusal}
 use Rattle.crpd_tool.specs.Texts.{with_line_feed, unschedulable_text}
 
--- the certificate of the analysis, with at most 4,000,000 state entries; its text is read as this certificate
+-- the certificate of the analysis, with at most 4,000,000 state entries; its text is read as this
+-- certificate
 pub record IsMade (set : TaskSet) (graphs : ℕ → TaskGraph) (c : Certificate) : Type 0 where
   pub best : IsBest set graphs c
   pub few : entries c.tasks ≤ 4000000
@@ -36,20 +37,30 @@ pub record IsMade (set : TaskSet) (graphs : ℕ → TaskGraph) (c : Certificate)
 abbrev pub certificate_answer : Certificate → Answer
 certificate_answer c = record { text = with_line_feed (certificate_text c); outcome = Done }
 
--- how the command ends where there is no certificate: a bound that is too large is a refusal of the task, and too many
--- state entries one of the set's file; a task without a window is an answer. Want of memory is none.
+-- how the command ends where there is no certificate: a bound that is too large is a refusal of the
+-- task, and too many state entries one of the set's file; a task without a window is an answer.
+-- Want of memory is none.
 abbrev pub without_certificate : List ℕ → TaskSet → BuildError → Result Answer Halt
 without_certificate file set build.Memory = Err halt.Memory
-without_certificate file set (build.TooLarge task address) = Err (refused_at cause.BoundTooLarge (name_of set task) address)
-without_certificate file set (build.TooManyEntries count) = Err (refusal cause.TooManyEntries file (decimal count))
-without_certificate file set (build.Unschedulable task) = Ok (record { text = unschedulable_text (name_of set task); outcome = No })
+without_certificate file set (build.TooLarge task address) =
+    Err (refused_at cause.BoundTooLarge (name_of set task) address)
+without_certificate file set (build.TooManyEntries count) =
+    Err (refusal cause.TooManyEntries file (decimal count))
+without_certificate file set (build.Unschedulable task) =
+    Ok (record { text = unschedulable_text (name_of set task); outcome = No })
 
--- the analysis of all tasks, over their graphs and the regions of their loops: its certificate, or why there is none
+-- the analysis of all tasks, over their graphs and the regions of their loops: its certificate, or
+-- why there is none
 abbrev pub AnalysisOf : List ℕ → Input → Shapes → Result Answer Halt → Type 0
 AnalysisOf file input shapes r =
-    ((c : Certificate) × IsMade input.set (task_graph_at shapes.graphs shapes.nests) c × (r ≡ Ok (certificate_answer c)))
-    ⊎ ((e : BuildError) × (e ≢ build.Memory) × IsBuildError input.set (task_graph_at shapes.graphs shapes.nests) e × (r ≡ without_certificate file input.set e))
+    ((c : Certificate) × IsMade input.set (task_graph_at shapes.graphs shapes.nests) c
+    × (r ≡ Ok (certificate_answer c)))
+    ⊎ ((e : BuildError) × (e ≢ build.Memory)
+    × IsBuildError input.set (task_graph_at shapes.graphs shapes.nests) e
+    × (r ≡ without_certificate file input.set e))
 
--- the whole command: the set with its code, the graphs of all tasks and the regions of their loops, and then the analysis
+-- the whole command: the set with its code, the graphs of all tasks and the regions of their loops,
+-- and then the analysis
 abbrev pub AnalyzeEnds : Contents → List ℕ → Result Answer Halt → Type 0
-AnalyzeEnds contents set = Then (Exactly (input_in contents set)) (λ input. Then (ShapesIn input) (AnalysisOf set input))
+AnalyzeEnds contents set =
+    Then (Exactly (input_in contents set)) (λ input. Then (ShapesIn input) (AnalysisOf set input))

@@ -17,8 +17,8 @@ use Rattle.crpd_input.specs.Shapes.{ShapesIn}
 use Rattle.crpd_tool.specs.Texts.{with_line_feed}
 use Rattle.crpd_tool.specs.Commands.{analyze, command_of}
 
--- the files mean a set with its code, which has graphs and regions; the text, but for its line feed, is read as the
--- analysis' certificate of these, and the judge says yes to it
+-- the files mean a set with its code, which has graphs and regions; the text, but for its line
+-- feed, is read as the analysis' certificate of these, and the judge says yes to it
 pub record IsAnalyzed (contents : Contents) (set text : List ℕ) : Type 0 where
   pub input : Input
   pub shapes : Shapes
@@ -32,10 +32,12 @@ pub record IsAnalyzed (contents : Contents) (set text : List ℕ) : Type 0 where
   pub judged : IsJudged input.set (task_graph_at shapes.graphs shapes.nests) made Yes
   -- so `check` answers yes wherever the set is the same and a file is read as this certificate
   pub checks : (others : Contents) (file name : List ℕ) →
-      input_in others file ≡ Ok input → certificate_in others name ≡ Ok made → CheckEnds others file name (Ok (verdict_answer input.set made verdict.Yes))
+      input_in others file ≡ Ok input → certificate_in others name ≡ Ok made
+      → CheckEnds others file name (Ok (verdict_answer input.set made verdict.Yes))
 
 -- with the status Done on `analyze SET`
 abbrev pub DoneIsBest : List (List ℕ) → Contents → Type 0
 DoneIsBest words contents =
     (set : List ℕ) (output : Output) →
-    command_of words ≡ Some (analyze set) → IsOut words contents output → output.status ≡ Done → IsAnalyzed contents set output.text
+    command_of words ≡ Some (analyze set) → IsOut words contents output → output.status ≡ Done
+    → IsAnalyzed contents set output.text

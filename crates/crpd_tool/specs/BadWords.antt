@@ -7,4 +7,6 @@ use Rattle.crpd_tool.specs.declared.status.Status.TheVariants.{BadWords, WriteFa
 
 -- the whole line with BadWords, or a prefix of it with WriteFault
 abbrev pub TellsBadWords : (old new : Option (List ℕ)) → Status → Type 0
-TellsBadWords old new s = ((s ≡ BadWords) × (new ≡ output_after old bad_words_text)) ⊎ ((s ≡ WriteFault) × AppendsPrefix old new bad_words_text)
+TellsBadWords old new s =
+    ((s ≡ BadWords) × (new ≡ output_after old bad_words_text))
+    ⊎ ((s ≡ WriteFault) × AppendsPrefix old new bad_words_text)

@@ -20,19 +20,25 @@ use Rattle.crpd_input.specs.Shapes.{ShapesIn}
 use Rattle.crpd_input.specs.Steps.{Exactly, Then}
 use Rattle.crpd_tool.specs.Analyze.{certificate_answer, without_certificate}
 
--- the certificate with the plain union delays, with at most 4,000,000 state entries; its text is read as this certificate
+-- the certificate with the plain union delays, with at most 4,000,000 state entries; its text is
+-- read as this certificate
 pub record IsMadeClassic (set : TaskSet) (graphs : ℕ → TaskGraph) (c : Certificate) : Type 0 where
   pub classic : IsClassic set graphs c
   pub few : entries c.tasks ≤ 4000000
   pub reads : reading (certificate_text c) ≡ Ok c
 
--- the analysis of all tasks with the plain union delays, over their graphs and the regions of their loops: its certificate,
--- or why there is none
+-- the analysis of all tasks with the plain union delays, over their graphs and the regions of their
+-- loops: its certificate, or why there is none
 abbrev pub ClassicOf : List ℕ → Input → Shapes → Result Answer Halt → Type 0
 ClassicOf file input shapes r =
-    ((c : Certificate) × IsMadeClassic input.set (task_graph_at shapes.graphs shapes.nests) c × (r ≡ Ok (certificate_answer c)))
-    ⊎ ((e : BuildError) × (e ≢ Memory) × IsClassicError input.set (task_graph_at shapes.graphs shapes.nests) e × (r ≡ without_certificate file input.set e))
+    ((c : Certificate) × IsMadeClassic input.set (task_graph_at shapes.graphs shapes.nests) c
+    × (r ≡ Ok (certificate_answer c)))
+    ⊎ ((e : BuildError) × (e ≢ Memory)
+    × IsClassicError input.set (task_graph_at shapes.graphs shapes.nests) e
+    × (r ≡ without_certificate file input.set e))
 
--- the whole command: the set with its code, the graphs of all tasks and the regions of their loops, and then the analysis
+-- the whole command: the set with its code, the graphs of all tasks and the regions of their loops,
+-- and then the analysis
 abbrev pub ClassicEnds : Contents → List ℕ → Result Answer Halt → Type 0
-ClassicEnds contents set = Then (Exactly (input_in contents set)) (λ input. Then (ShapesIn input) (ClassicOf set input))
+ClassicEnds contents set =
+    Then (Exactly (input_in contents set)) (λ input. Then (ShapesIn input) (ClassicOf set input))

@@ -1,4 +1,5 @@
--- What `classic` writes is the certificate with the plain union delays, which the judge says yes to.
+-- What `classic` writes is the certificate with the plain union delays, which the judge says yes
+-- to.
 use Rattle.std.specs.Prelude.{◌≡◌, ℕ, List, Some, Ok}
 use Rattle.crpd_base.specs.declared.data.Certificate.{Certificate}
 use Rattle.cert_check.specs.JudgeInput.{responses}
@@ -19,8 +20,8 @@ use Rattle.crpd_input.specs.Shapes.{ShapesIn}
 use Rattle.crpd_tool.specs.Texts.{with_line_feed}
 use Rattle.crpd_tool.specs.Commands.{classic, command_of}
 
--- the files mean a set with its code, which has graphs and regions; the text, but for its line feed, is read as the one
--- certificate with the plain union delays of these
+-- the files mean a set with its code, which has graphs and regions; the text, but for its line
+-- feed, is read as the one certificate with the plain union delays of these
 pub record IsSoundClassic (contents : Contents) (set text : List ℕ) : Type 0 where
   pub input : Input
   pub shapes : Shapes
@@ -31,7 +32,8 @@ pub record IsSoundClassic (contents : Contents) (set text : List ℕ) : Type 0 w
   pub text_is : text ≡ with_line_feed written
   pub reads : reading written ≡ Ok made
   pub is : IsClassic input.set (task_graph_at shapes.graphs shapes.nests) made
-  pub only : (c : Certificate) → IsClassic input.set (task_graph_at shapes.graphs shapes.nests) c → c ≡ made
+  pub only : (c : Certificate) → IsClassic input.set (task_graph_at shapes.graphs shapes.nests) c
+      → c ≡ made
   -- the judge says yes to it, so no job is later than its response
   pub judged : IsJudged input.set (task_graph_at shapes.graphs shapes.nests) made Yes
   pub safe : IsSafeWith input.set input.code (responses made)
@@ -39,10 +41,12 @@ pub record IsSoundClassic (contents : Contents) (set text : List ℕ) : Type 0 w
   pub best : HasBest input.set (task_graph_at shapes.graphs shapes.nests) made
   -- `check` answers yes wherever the set is the same and a file is read as this certificate
   pub checks : (others : Contents) (file name : List ℕ) →
-      input_in others file ≡ Ok input → certificate_in others name ≡ Ok made → CheckEnds others file name (Ok (verdict_answer input.set made verdict.Yes))
+      input_in others file ≡ Ok input → certificate_in others name ≡ Ok made
+      → CheckEnds others file name (Ok (verdict_answer input.set made verdict.Yes))
 
 -- with the status Done on `classic SET`
 abbrev pub DoneIsClassic : List (List ℕ) → Contents → Type 0
 DoneIsClassic words contents =
     (set : List ℕ) (output : Output) →
-    command_of words ≡ Some (classic set) → IsOut words contents output → output.status ≡ Done → IsSoundClassic contents set output.text
+    command_of words ≡ Some (classic set) → IsOut words contents output → output.status ≡ Done
+    → IsSoundClassic contents set output.text

@@ -1,10 +1,11 @@
 -- What the command words ask for.
-use Rattle.std.specs.Prelude.{ℕ, Bool, ◌&&◌, List, [], length, codes, nat_eq, slice_index_or, Option, Some, None, option_map, if◌then◌else◌}
+use Rattle.std.specs.Prelude.{ℕ, Bool, ◌&&◌, List, [], length, codes, nat_eq, slice_index_or}
+use Rattle.std.specs.Prelude.{Option, Some, None, option_map, if◌then◌else◌}
 use Rattle.std.specs.Str.{bytes_eq}
 use Rattle.crpd_tool.specs.Numbers.{command_number}
 
--- a command with its files; each further command is a constructor here, a line in `command_of`, and a case of
--- `Ends`
+-- a command with its files; each further command is a constructor here, a line in `command_of`, and
+-- a case of `Ends`
 pub data Command : Type 0 where
   check : List ℕ → List ℕ → Command
   list : List ℕ → List ℕ → Command
@@ -27,14 +28,20 @@ has_form name n words = nat_eq (length words) n && bytes_eq (command_word 0 word
 -- the command that the words have the form of
 abbrev pub command_of : List (List ℕ) → Option Command
 command_of words =
-    if has_form (codes "check") 3 words then Some (check (command_word 1 words) (command_word 2 words))
-    else if has_form (codes "list") 3 words then Some (list (command_word 1 words) (command_word 2 words))
-    else if has_form (codes "simulate") 3 words then Some (simulate (command_word 1 words) (command_word 2 words))
+    if has_form (codes "check") 3 words
+    then Some (check (command_word 1 words) (command_word 2 words))
+    else if has_form (codes "list") 3 words
+    then Some (list (command_word 1 words) (command_word 2 words))
+    else if has_form (codes "simulate") 3 words
+    then Some (simulate (command_word 1 words) (command_word 2 words))
     else if has_form (codes "sets") 2 words then Some (sets (command_word 1 words))
     else if has_form (codes "analyze") 2 words then Some (analyze (command_word 1 words))
     else if has_form (codes "classic") 2 words then Some (classic (command_word 1 words))
     else if has_form (codes "slack") 2 words then Some (slack (command_word 1 words))
-    else if has_form (codes "update") 4 words then Some (update (command_word 1 words) (command_word 2 words) (command_word 3 words))
-    else if has_form (codes "generate") 2 words then option_map generate (command_number (command_word 1 words))
-    else if has_form (codes "explain") 4 words then Some (explain (command_word 1 words) (command_word 2 words) (command_word 3 words))
+    else if has_form (codes "update") 4 words
+    then Some (update (command_word 1 words) (command_word 2 words) (command_word 3 words))
+    else if has_form (codes "generate") 2 words
+    then option_map generate (command_number (command_word 1 words))
+    else if has_form (codes "explain") 4 words
+    then Some (explain (command_word 1 words) (command_word 2 words) (command_word 3 words))
     else None

@@ -25,33 +25,42 @@ use Rattle.crpd_tool.specs.Simulate.{IsRunLine, run_of}
 use Rattle.crpd_tool.specs.declared.answer.Answer.{Answer}
 use Rattle.crpd_tool.specs.declared.answer.Outcome.TheVariants.{Done}
 
--- the answer with an account: the lines of its reloads and of the certificate's delays, and the line of the run
+-- the answer with an account: the lines of its reloads and of the certificate's delays, and the
+-- line of the run
 abbrev pub account_answer : TaskSet → Certificate → Account → List ℕ → Answer
 account_answer set certificate account last =
-    record { text = reload_lines set account.entries ++ delay_lines set certificate ++ last; outcome = Done }
+    record {
+      text = reload_lines set account.entries ++ delay_lines set certificate ++ last;
+      outcome = Done;
+    }
 
--- the account of the script's run over the graphs of all tasks, with the line of the run in the state after the script's
--- cycles
+-- the account of the script's run over the graphs of all tasks, with the line of the run in the
+-- state after the script's cycles
 abbrev pub AccountOf : Input → Shapes → Certificate → Script → Result Answer Halt → Type 0
 AccountOf input shapes certificate script r =
     (account : Account) × (last : List ℕ)
-    × IsAccount (start_of_script input.set input.code script) (task_graph_at shapes.graphs shapes.nests) certificate script.cycles account
+    × IsAccount (start_of_script input.set input.code script)
+    (task_graph_at shapes.graphs shapes.nests) certificate script.cycles account
     × IsRunLine input.set script (run_of input script) last
     × (r ≡ Ok (account_answer input.set certificate account last))
 
 -- the account after a yes, and else the line of the no
-abbrev pub ExplainedBy : Input → Shapes → Certificate → Script → Verdict → Result Answer Halt → Type 0
+abbrev pub ExplainedBy : Input → Shapes → Certificate → Script → Verdict
+    → Result Answer Halt → Type 0
 ExplainedBy input shapes certificate script Yes r = AccountOf input shapes certificate script r
-ExplainedBy input shapes certificate script (No task clause place) r = r ≡ Ok (verdict_answer input.set certificate (No task clause place))
+ExplainedBy input shapes certificate script (No task clause place) r =
+    r ≡ Ok (verdict_answer input.set certificate (No task clause place))
 
--- what follows the judge's verdict on a certificate, over the graphs of all tasks with the regions of their loops
+-- what follows the judge's verdict on a certificate, over the graphs of all tasks with the regions
+-- of their loops
 abbrev pub ExplanationOf : Input → Shapes → Certificate → Script → Result Answer Halt → Type 0
 ExplanationOf input shapes certificate script r =
-    (verdict : Verdict) × IsJudged input.set (task_graph_at shapes.graphs shapes.nests) certificate (answer_of verdict)
+    (verdict : Verdict) × IsJudged input.set (task_graph_at shapes.graphs shapes.nests) certificate
+    (answer_of verdict)
     × ExplainedBy input shapes certificate script verdict r
 
--- the whole command: the set with its code, the graphs of all tasks and the regions of their loops, the certificate, the
--- script, and then the verdict
+-- the whole command: the set with its code, the graphs of all tasks and the regions of their loops,
+-- the certificate, the script, and then the verdict
 abbrev pub ExplainEnds : Contents → List ℕ → List ℕ → List ℕ → Result Answer Halt → Type 0
 ExplainEnds contents set certificate script =
     Then (Exactly (input_in contents set)) (λ input.

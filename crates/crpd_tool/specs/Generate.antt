@@ -1,5 +1,6 @@
 -- The steps of `generate N`.
-use Rattle.std.specs.Prelude.{◌≡◌, ◌≢◌, ◌⊎◌, ◌↔◌, IsTrue, ℕ, Bool, ◌≤◌, List, [], ◌∷◌, ◌++◌, codes, length, map, Some, None, Result, Ok, Err, if◌then◌else◌}
+use Rattle.std.specs.Prelude.{◌≡◌, ◌≢◌, ◌⊎◌, ◌↔◌, IsTrue, ℕ, Bool, ◌≤◌, List, [], ◌∷◌, ◌++◌, codes}
+use Rattle.std.specs.Prelude.{length, map, Some, None, Result, Ok, Err, if◌then◌else◌}
 use Rattle.std.specs.List.{sum_by, zip}
 use Rattle.std.specs.Str.{bytes_eq}
 use Rattle.crpd_base.specs.declared.data.Certificate.{Certificate}
@@ -37,7 +38,8 @@ use Rattle.crpd_tool.specs.Simulate.{completions_of, run_of}
 -- the bytes of the first file of a name
 abbrev pub contents_of_files : List (List ℕ × List ℕ) → Contents
 contents_of_files [] name = None
-contents_of_files (file ∷ files) name = if bytes_eq name file.0 then Some file.1 else contents_of_files files name
+contents_of_files (file ∷ files) name =
+    if bytes_eq name file.0 then Some file.1 else contents_of_files files name
 
 -- the files of a set's tasks, under the names that the tasks have for them
 abbrev pub named_files : TaskSet → List (List ℕ) → List (List ℕ × List ℕ)
@@ -49,7 +51,9 @@ made_name = codes "generate"
 
 -- a set with the code that these files mean, as for a set that was read
 abbrev pub input_of : TaskSet → List (List ℕ) → Result Input Halt
-input_of set files = and_then (code_in (contents_of_files (named_files set files)) made_name set) (λ code. Ok (record { set = set; code = code }))
+input_of set files =
+    and_then (code_in (contents_of_files (named_files set files)) made_name set)
+    (λ code. Ok (record { set = set; code = code }))
 
 -- the made set with its code
 abbrev pub made_input : ℕ → Result Input Halt
@@ -61,9 +65,10 @@ made_input n = input_of (made n).set (made n).files
 abbrev pub node_count : List CodeGraph → ℕ
 node_count graphs = sum_by (λ (g : CodeGraph). length g.nodes) graphs
 
--- the analysis' certificate, with at most 4,000,000 state entries; the judge's verdict on it; and whether the state after
--- the script's cycles is kept
-pub record IsRunJudged (script : Script) (input : Input) (shapes : Shapes) (c : Certificate) (verdict : Verdict) (kept : Bool) : Type 0 where
+-- the analysis' certificate, with at most 4,000,000 state entries; the judge's verdict on it; and
+-- whether the state after the script's cycles is kept
+pub record IsRunJudged (script : Script) (input : Input) (shapes : Shapes) (c : Certificate)
+    (verdict : Verdict) (kept : Bool) : Type 0 where
   pub best : IsBest input.set (task_graph_at shapes.graphs shapes.nests) c
   pub few : entries c.tasks ≤ 4000000
   pub judged : IsJudged input.set (task_graph_at shapes.graphs shapes.nests) c (answer_of verdict)
@@ -72,29 +77,41 @@ pub record IsRunJudged (script : Script) (input : Input) (shapes : Shapes) (c : 
 -- the answer with a certificate
 abbrev pub made_answer : ℕ → Script → Input → Shapes → Certificate → Verdict → Bool → Answer
 made_answer n script input shapes c verdict kept = record {
-  text = generate_text n (node_count shapes.graphs) input.set c verdict script (completions_of (run_of input script)) kept;
+  text =
+      generate_text n (node_count shapes.graphs) input.set c verdict script
+      (completions_of (run_of input script)) kept;
   outcome = verdict_outcome verdict;
 }
 
 -- an answer behind a line; a stop stands alone
 abbrev pub answer_behind_line : List ℕ → Result Answer Halt → Result Answer Halt
-answer_behind_line line (Ok answer) = Ok (record { text = line ++ answer.text; outcome = answer.outcome })
+answer_behind_line line (Ok answer) =
+    Ok (record { text = line ++ answer.text; outcome = answer.outcome })
 answer_behind_line line (Err halt) = Err halt
 
--- where there is no certificate, the analysis' end, with the first line before the line of a task without a window
+-- where there is no certificate, the analysis' end, with the first line before the line of a task
+-- without a window
 abbrev pub without_made : ℕ → Input → Shapes → BuildError → Result Answer Halt
-without_made n input shapes e = answer_behind_line (made_line n (node_count shapes.graphs)) (without_certificate made_name input.set e)
+without_made n input shapes e =
+    answer_behind_line (made_line n (node_count shapes.graphs))
+    (without_certificate made_name input.set e)
 
 -- the analysis of all tasks, and with its certificate the verdict and the script's run
 abbrev pub GeneratedOf : ℕ → Script → Input → Shapes → Result Answer Halt → Type 0
 GeneratedOf n script input shapes r =
-    ((c : Certificate) × (verdict : Verdict) × (kept : Bool) × IsRunJudged script input shapes c verdict kept × (r ≡ Ok (made_answer n script input shapes c verdict kept)))
-    ⊎ ((e : BuildError) × (e ≢ build.Memory) × IsBuildError input.set (task_graph_at shapes.graphs shapes.nests) e × (r ≡ without_made n input shapes e))
+    ((c : Certificate) × (verdict : Verdict) × (kept : Bool)
+    × IsRunJudged script input shapes c verdict kept
+    × (r ≡ Ok (made_answer n script input shapes c verdict kept)))
+    ⊎ ((e : BuildError) × (e ≢ build.Memory)
+    × IsBuildError input.set (task_graph_at shapes.graphs shapes.nests) e
+    × (r ≡ without_made n input shapes e))
 
--- over an input that was made of a number: the set with its code, the graphs of all tasks and the regions of their loops,
--- and then the analysis, the verdict and the run
+-- over an input that was made of a number: the set with its code, the graphs of all tasks and the
+-- regions of their loops, and then the analysis, the verdict and the run
 abbrev pub EndsFrom : ℕ → Generated → Result Answer Halt → Type 0
-EndsFrom n g = Then (Exactly (input_of g.set g.files)) (λ input. Then (ShapesIn input) (GeneratedOf n g.script input))
+EndsFrom n g =
+    Then (Exactly (input_of g.set g.files))
+    (λ input. Then (ShapesIn input) (GeneratedOf n g.script input))
 
 -- the whole command
 abbrev pub GenerateEnds : ℕ → Result Answer Halt → Type 0

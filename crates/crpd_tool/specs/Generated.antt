@@ -21,9 +21,9 @@ use Rattle.crpd_tool.specs.Simulate.{completions_of, run_of}
 use Rattle.crpd_tool.specs.Commands.{command_of, generate}
 use Rattle.crpd_tool.specs.declared.status.Status.TheVariants.{Done}
 
--- the made input has a certificate of the analysis, which the judge says yes to, so the set is safe with its responses; the
--- script is legal; the text is theirs and the run's; and where the last line says that the run is legal and kept, the line
--- before it says that no job is late
+-- the made input has a certificate of the analysis, which the judge says yes to, so the set is safe
+-- with its responses; the script is legal; the text is theirs and the run's; and where the last
+-- line says that the run is legal and kept, the line before it says that no job is late
 pub record IsGenerated (n : ℕ) (text : List ℕ) : Type 0 where
   pub input : Input
   pub shapes : Shapes
@@ -37,12 +37,17 @@ pub record IsGenerated (n : ℕ) (text : List ℕ) : Type 0 where
   pub legal : IsLegal input.set (made n).script.jobs
   pub legal_said : is_legal input.set (made n).script.jobs ≡ true
   pub kept_so : IsTrue kept ↔ IsKept (run_of input (made n).script)
-  pub text_is : text ≡ generate_text n (node_count shapes.graphs) input.set found verdict.Yes (made n).script (completions_of (run_of input (made n).script)) kept
-  pub none_late : IsTrue kept → late_count (made n).script found (completions_of (run_of input (made n).script)) ≡ 0
-  pub late_0 : (front : List ℕ) → text ≡ front ++ run_line true true → (before : List ℕ) × (jobs : ℕ) × (answered : ℕ) × (text ≡ before ++ jobs_line jobs answered 0 ++ run_line true true)
+  pub text_is : text ≡ generate_text n (node_count shapes.graphs) input.set found verdict.Yes
+      (made n).script (completions_of (run_of input (made n).script)) kept
+  pub none_late : IsTrue kept
+      → late_count (made n).script found (completions_of (run_of input (made n).script)) ≡ 0
+  pub late_0 : (front : List ℕ) → text ≡ front ++ run_line true true
+      → (before : List ℕ) × (jobs : ℕ) × (answered : ℕ)
+      × (text ≡ before ++ jobs_line jobs answered 0 ++ run_line true true)
 
 -- with the status Done on `generate N`
 abbrev pub DoneIsGenerated : List (List ℕ) → Contents → Type 0
 DoneIsGenerated words contents =
     (n : ℕ) (output : Output) →
-    command_of words ≡ Some (generate n) → IsOut words contents output → output.status ≡ Done → IsGenerated n output.text
+    command_of words ≡ Some (generate n) → IsOut words contents output → output.status ≡ Done
+    → IsGenerated n output.text

@@ -1,5 +1,6 @@
 -- A command word that is a number.
-use Rattle.std.specs.Prelude.{ℕ, Bool, ◌+◌, ◌-◌, ◌*◌, ◌^◌, ◌&&◌, ◌||◌, not, nat_eq, nat_lt, List, [], ◌∷◌, length, slice_index, Option, Some, None, if◌then◌else◌}
+use Rattle.std.specs.Prelude.{ℕ, Bool, ◌+◌, ◌-◌, ◌*◌, ◌^◌, ◌&&◌, ◌||◌, not, nat_eq, nat_lt, List}
+use Rattle.std.specs.Prelude.{[], ◌∷◌, length, slice_index, Option, Some, None, if◌then◌else◌}
 use Rattle.std.specs.List.{list_all}
 use Rattle.crpd_base.specs.Names.{is_between}
 
@@ -26,4 +27,6 @@ value_after n (digit ∷ digits) = value_after (10 * n + (digit - 48)) digits
 
 -- the number that a word writes: 0, or 1 to 10 decimal digits without a leading 0; below 2^31
 abbrev pub command_number : List ℕ → Option ℕ
-command_number word = if is_number word && nat_lt (value_after 0 word) (2 ^ 31) then Some (value_after 0 word) else None
+command_number word =
+    if is_number word && nat_lt (value_after 0 word) (2 ^ 31) then Some (value_after 0 word)
+    else None

@@ -4,7 +4,8 @@ use Rattle.crpd_io.specs.Outside.{Contents, AppendsPrefix, output_after}
 use Rattle.crpd_input.specs.Steps.{Exactly}
 use Rattle.crpd_input.specs.declared.halt.Halt.{Halt}
 use Rattle.crpd_input.specs.declared.halt.Halt.TheVariants.{Refused, Memory, Fault}
-use Rattle.crpd_tool.specs.Commands.{Command, check, list, simulate, sets, analyze, explain, classic, slack, update, generate, command_of}
+use Rattle.crpd_tool.specs.Commands.{Command, check, list, simulate, sets, analyze, explain}
+use Rattle.crpd_tool.specs.Commands.{classic, slack, update, generate, command_of}
 use Rattle.crpd_tool.specs.Analyze.{AnalyzeEnds}
 use Rattle.crpd_tool.specs.Check.{CheckEnds}
 use Rattle.crpd_tool.specs.Classic.{ClassicEnds}
@@ -31,7 +32,8 @@ Ends (sets set) contents = SetsEnds contents set
 Ends (analyze set) contents = AnalyzeEnds contents set
 Ends (classic set) contents = ClassicEnds contents set
 Ends (slack set) contents = SlackEnds contents set
-Ends (update old_set old_certificate new_set) contents = UpdateEnds contents old_set old_certificate new_set
+Ends (update old_set old_certificate new_set) contents =
+    UpdateEnds contents old_set old_certificate new_set
 Ends (generate n) contents = GenerateEnds n
 Ends (explain set certificate script) contents = ExplainEnds contents set certificate script
 
@@ -45,7 +47,8 @@ pub record Output : Type 0 where
   pub text : List ℕ
   pub status : Status
 
--- A refusal is a text too. Want of memory and a fault write none, and no definition of a command's steps gives them.
+-- A refusal is a text too. Want of memory and a fault write none, and no definition of a command's
+-- steps gives them.
 abbrev pub halt_output : Halt → Output
 halt_output (Refused refusal) = record { text = refusal_text refusal; status = exit.Refused }
 halt_output Memory = record { text = []; status = exit.NoMemory }
@@ -58,18 +61,23 @@ ending_output (Err halt) = halt_output halt
 
 -- it is an output of the command
 abbrev pub IsOutputOf : Contents → Command → Output → Type 0
-IsOutputOf contents command output = (ending : Result Answer Halt) × Ends command contents ending × (output ≡ ending_output ending)
+IsOutputOf contents command output =
+    (ending : Result Answer Halt) × Ends command contents ending × (output ≡ ending_output ending)
 
 abbrev pub bad_words : Output
 bad_words = record { text = bad_words_text; status = exit.BadWords }
 
 -- it is the output for any words
 unfoldable pub IsOut : List (List ℕ) → Contents → Output → Type 0
-IsOut words contents output = MatchOption (command_of words) (output ≡ bad_words) (λ command. IsOutputOf contents command output)
+IsOut words contents output =
+    MatchOption (command_of words) (output ≡ bad_words)
+    (λ command. IsOutputOf contents command output)
 
 -- any words have one output
 abbrev pub OneAnswer : Type 0
-OneAnswer = (words : List (List ℕ)) (contents : Contents) (one other : Output) → IsOut words contents one → IsOut words contents other → one ≡ other
+OneAnswer =
+    (words : List (List ℕ)) (contents : Contents) (one other : Output) → IsOut words contents one
+    → IsOut words contents other → one ≡ other
 
 -- the statuses with which a whole text is written
 abbrev pub IsWhole : Status → Type 0
@@ -83,8 +91,11 @@ IsWhole exit.NoMemory = ⊥
 
 -- with these bytes written and this status, a whole output was written
 abbrev pub WritesAnswer : List (List ℕ) → Contents → (old new : Option (List ℕ)) → Status → Type 0
-WritesAnswer words contents old new s = (output : Output) × IsOut words contents output × (s ≡ output.status) × (new ≡ output_after old output.text)
+WritesAnswer words contents old new s =
+    (output : Output) × IsOut words contents output × (s ≡ output.status)
+    × (new ≡ output_after old output.text)
 
 -- a prefix of an output's text was written
 abbrev pub WritesPrefix : List (List ℕ) → Contents → (old new : Option (List ℕ)) → Type 0
-WritesPrefix words contents old new = (output : Output) × IsOut words contents output × AppendsPrefix old new output.text
+WritesPrefix words contents old new =
+    (output : Output) × IsOut words contents output × AppendsPrefix old new output.text

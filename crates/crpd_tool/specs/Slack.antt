@@ -28,8 +28,12 @@ slack_answer set first second = record { text = slack_text set first second; out
 -- the text of these, over the graphs of the tasks and the regions of their loops
 abbrev pub SlackOf : Input → Shapes → Result Answer Halt → Type 0
 SlackOf input shapes r =
-    (first : Slack) × (second : Slack) × AreSlacks input.set (task_graph_at shapes.graphs shapes.nests) first second × (r ≡ Ok (slack_answer input.set first second))
+    (first : Slack) × (second : Slack)
+    × AreSlacks input.set (task_graph_at shapes.graphs shapes.nests) first second
+    × (r ≡ Ok (slack_answer input.set first second))
 
--- the whole command: the set with its code, the graphs of all tasks and the regions of their loops, and then the text
+-- the whole command: the set with its code, the graphs of all tasks and the regions of their loops,
+-- and then the text
 abbrev pub SlackEnds : Contents → List ℕ → Result Answer Halt → Type 0
-SlackEnds contents set = Then (Exactly (input_in contents set)) (λ input. Then (ShapesIn input) (SlackOf input))
+SlackEnds contents set =
+    Then (Exactly (input_in contents set)) (λ input. Then (ShapesIn input) (SlackOf input))

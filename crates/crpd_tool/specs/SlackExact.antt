@@ -17,8 +17,8 @@ use Rattle.crpd_tool.specs.Slack.{AreSlacks}
 use Rattle.crpd_tool.specs.SlackText.{slack_text}
 use Rattle.crpd_tool.specs.Commands.{slack, command_of}
 
--- the files mean a set with its code, which has graphs and regions; the text is that of the one greatest cost of a switch
--- and the one of a reload
+-- the files mean a set with its code, which has graphs and regions; the text is that of the one
+-- greatest cost of a switch and the one of a reload
 pub record HasGreatestCosts (contents : Contents) (set text : List ℕ) : Type 0 where
   pub input : Input
   pub shapes : Shapes
@@ -28,19 +28,24 @@ pub record HasGreatestCosts (contents : Contents) (set text : List ℕ) : Type 0
   pub shapes_are : ShapesIn input (Ok shapes)
   pub text_is : text ≡ slack_text input.set first second
   pub are : AreSlacks input.set (task_graph_at shapes.graphs shapes.nests) first second
-  pub only : (one two : Slack) → AreSlacks input.set (task_graph_at shapes.graphs shapes.nests) one two → (one ≡ first) × (two ≡ second)
-  -- the set is accepted with all smaller costs of a switch and of a reload than those with which it is accepted
+  pub only : (one two : Slack)
+      → AreSlacks input.set (task_graph_at shapes.graphs shapes.nests) one two
+      → (one ≡ first) × (two ≡ second)
+  -- the set is accepted with all smaller costs of a switch and of a reload than those with which it
+  -- is accepted
   pub stays : (s m k d : ℕ) → s ≤ k → m ≤ d →
-      IsAccepted (with_costs input.set k d) (task_graph_at shapes.graphs shapes.nests) → IsAccepted (with_costs input.set s m) (task_graph_at shapes.graphs shapes.nests)
+      IsAccepted (with_costs input.set k d) (task_graph_at shapes.graphs shapes.nests)
+      → IsAccepted (with_costs input.set s m) (task_graph_at shapes.graphs shapes.nests)
 
 -- with the status Done on `slack SET`
 abbrev pub DoneIsSlack : List (List ℕ) → Contents → Type 0
 DoneIsSlack words contents =
     (set : List ℕ) (output : Output) →
-    command_of words ≡ Some (slack set) → IsOut words contents output → output.status ≡ Done → HasGreatestCosts contents set output.text
+    command_of words ≡ Some (slack set) → IsOut words contents output → output.status ≡ Done
+    → HasGreatestCosts contents set output.text
 
--- as a switch and a reload cost more, no bound of a task and no longest cost of an instruction falls, neither delay and
--- no demand, and no window
+-- as a switch and a reload cost more, no bound of a task and no longest cost of an instruction
+-- falls, neither delay and no demand, and no window
 pub record CostsGrow : Type 0 where
   pub bound : BoundGrows
   pub longest : LongestGrows

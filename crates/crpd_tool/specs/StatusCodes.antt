@@ -1,7 +1,8 @@
 -- The exit status of a run.
 use Rattle.std.specs.Prelude.{ℕ}
 use Rattle.crpd_tool.specs.declared.status.Status.{Status}
-use Rattle.crpd_tool.specs.declared.status.Status.TheVariants.{Done, No, Refused, BadWords, ReadFault, WriteFault, NoMemory}
+use Rattle.crpd_tool.specs.declared.status.Status.TheVariants.{Done, No, Refused, BadWords}
+use Rattle.crpd_tool.specs.declared.status.Status.TheVariants.{ReadFault, WriteFault, NoMemory}
 
 abbrev pub status_code : Status → ℕ
 status_code Done = 0

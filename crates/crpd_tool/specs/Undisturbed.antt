@@ -10,9 +10,10 @@ use Rattle.crpd_tool.specs.Output.{IsOut, Output}
 use Rattle.crpd_tool.specs.Commands.{check, command_of}
 use Rattle.crpd_tool.specs.declared.status.Status.TheVariants.{Done}
 
--- the files mean a set with its code, and a certificate; the text has the certificate's bounds, one line a task; from every
--- cache and memory, in every kept run of any jobs, legal or not: a job that is the candidate, from the first step in which it
--- is, for as many steps as a switch and its task's bound take, or is over sooner, has answered when they end
+-- the files mean a set with its code, and a certificate; the text has the certificate's bounds, one
+-- line a task; from every cache and memory, in every kept run of any jobs, legal or not: a job that
+-- is the candidate, from the first step in which it is, for as many steps as a switch and its
+-- task's bound take, or is over sooner, has answered when they end
 pub record HasUndisturbedBounds (contents : Contents) (set certificate text : List ℕ) : Type 0 where
   pub input : Input
   pub stated : Certificate
@@ -26,4 +27,5 @@ pub record HasUndisturbedBounds (contents : Contents) (set certificate text : Li
 abbrev pub DoneIsBounded : List (List ℕ) → Contents → Type 0
 DoneIsBounded words contents =
     (set certificate : List ℕ) (output : Output) →
-    command_of words ≡ Some (check set certificate) → IsOut words contents output → output.status ≡ Done → HasUndisturbedBounds contents set certificate output.text
+    command_of words ≡ Some (check set certificate) → IsOut words contents output
+    → output.status ≡ Done → HasUndisturbedBounds contents set certificate output.text

@@ -27,12 +27,15 @@ use Rattle.crpd_tool.specs.declared.answer.Answer.{Answer}
 use Rattle.crpd_tool.specs.Analyze.{certificate_answer, without_certificate}
 use Rattle.crpd_tool.specs.Check.{verdict_answer}
 
--- a set, with the graphs of its tasks and the regions of their loops, as it is compared with another
+-- a set, with the graphs of its tasks and the regions of their loops, as it is compared with
+-- another
 abbrev pub input_side : Input → Shapes → Side
 input_side input shapes = side input.set shapes.graphs shapes.nests
 
--- the update of a certificate, with at most 4,000,000 state entries; its text is read as this certificate
-pub record IsMadeAnew (old : Side) (stated : Certificate) (new : Side) (c : Certificate) : Type 0 where
+-- the update of a certificate, with at most 4,000,000 state entries; its text is read as this
+-- certificate
+pub record IsMadeAnew (old : Side) (stated : Certificate) (new : Side)
+    (c : Certificate) : Type 0 where
   pub update : IsUpdate old stated new c
   pub few : entries c.tasks ≤ 4000000
   pub reads : reading (certificate_text c) ≡ Ok c
@@ -47,24 +50,32 @@ as_of_analysis (fault.Unschedulable task) = build.Unschedulable task
 -- the answer to the judge's no to the old certificate
 abbrev pub NoOf : Input → Shapes → Certificate → Result Answer Halt → Type 0
 NoOf old shapes stated r =
-    (task : Task) × (clause : ℕ) × (place : ℕ) × IsJudged old.set (task_graph_at shapes.graphs shapes.nests) stated (answer_of (verdict.No task clause place))
+    (task : Task) × (clause : ℕ) × (place : ℕ)
+    × IsJudged old.set (task_graph_at shapes.graphs shapes.nests) stated
+    (answer_of (verdict.No task clause place))
     × (r ≡ Ok (verdict_answer old.set stated (verdict.No task clause place)))
 
 -- the new certificate, or why there is none; the file is the new set's
-abbrev pub ChangeOf : List ℕ → Input → Shapes → Certificate → Input → Shapes → Result Answer Halt → Type 0
+abbrev pub ChangeOf : List ℕ → Input → Shapes → Certificate → Input → Shapes
+    → Result Answer Halt → Type 0
 ChangeOf file old old_shapes stated input shapes r =
-    ((c : Certificate) × IsMadeAnew (input_side old old_shapes) stated (input_side input shapes) c × (r ≡ Ok (certificate_answer c)))
-    ⊎ ((e : UpdateError) × (e ≢ fault.Memory) × IsUpdateError (input_side old old_shapes) stated (input_side input shapes) e
+    ((c : Certificate) × IsMadeAnew (input_side old old_shapes) stated (input_side input shapes) c
+    × (r ≡ Ok (certificate_answer c)))
+    ⊎ ((e : UpdateError) × (e ≢ fault.Memory)
+    × IsUpdateError (input_side old old_shapes) stated (input_side input shapes) e
     × (r ≡ without_certificate file input.set (as_of_analysis e)))
 
 -- the judge's no to the old certificate, or, where he says yes to it, its update to the new set
-abbrev pub UpdateOf : List ℕ → Input → Shapes → Certificate → Input → Shapes → Result Answer Halt → Type 0
+abbrev pub UpdateOf : List ℕ → Input → Shapes → Certificate → Input → Shapes
+    → Result Answer Halt → Type 0
 UpdateOf file old old_shapes stated input shapes r =
     NoOf old old_shapes stated r
-    ⊎ (IsJudged old.set (task_graph_at old_shapes.graphs old_shapes.nests) stated Yes × ChangeOf file old old_shapes stated input shapes r)
+    ⊎ (IsJudged old.set (task_graph_at old_shapes.graphs old_shapes.nests) stated Yes
+    × ChangeOf file old old_shapes stated input shapes r)
 
--- the whole command: the old set with its code, its graphs and regions, the old certificate; the new set with its code, its
--- graphs and regions; then the verdict on the old certificate, and the update
+-- the whole command: the old set with its code, its graphs and regions, the old certificate; the
+-- new set with its code, its graphs and regions; then the verdict on the old certificate, and the
+-- update
 abbrev pub UpdateEnds : Contents → List ℕ → List ℕ → List ℕ → Result Answer Halt → Type 0
 UpdateEnds contents old_set old_certificate new_set =
     Then (Exactly (input_in contents old_set)) (λ old.

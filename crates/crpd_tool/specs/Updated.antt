@@ -1,5 +1,6 @@
--- What `update` writes is the update of the old certificate, which the judge says yes to; and it is what `analyze` writes for
--- the new set where the old certificate is what `analyze` makes for the old one.
+-- What `update` writes is the update of the old certificate, which the judge says yes to; and it is
+-- what `analyze` writes for the new set where the old certificate is what `analyze` makes for the
+-- old one.
 use Rattle.std.specs.Prelude.{◌≡◌, ℕ, List, Some, Ok}
 use Rattle.crpd_base.specs.declared.data.Certificate.{Certificate}
 use Rattle.cert_build.specs.Best.{IsBest}
@@ -22,9 +23,11 @@ use Rattle.crpd_tool.specs.Texts.{with_line_feed}
 use Rattle.crpd_tool.specs.Update.{input_side}
 use Rattle.crpd_tool.specs.Commands.{command_of, update}
 
--- the files mean an old set, its certificate and a new set, with graphs and regions; the text, but for its line feed, is
--- read as the update of the old certificate to the new set, and the judge says yes to it
-pub record IsUpdateWritten (contents : Contents) (old_set old_certificate new_set text : List ℕ) : Type 0 where
+-- the files mean an old set, its certificate and a new set, with graphs and regions; the text, but
+-- for its line feed, is read as the update of the old certificate to the new set, and the judge
+-- says yes to it
+pub record IsUpdateWritten (contents : Contents)
+    (old_set old_certificate new_set text : List ℕ) : Type 0 where
   pub old : Input
   pub old_shapes : Shapes
   pub stated : Certificate
@@ -43,16 +46,21 @@ pub record IsUpdateWritten (contents : Contents) (old_set old_certificate new_se
   pub judged : IsJudged input.set (task_graph_at shapes.graphs shapes.nests) made Yes
   -- so `check` answers yes wherever the new set is the same and a file is read as this certificate
   pub checks : (others : Contents) (file name : List ℕ) →
-      input_in others file ≡ Ok input → certificate_in others name ≡ Ok made → CheckEnds others file name (Ok (verdict_answer input.set made verdict.Yes))
+      input_in others file ≡ Ok input → certificate_in others name ≡ Ok made
+      → CheckEnds others file name (Ok (verdict_answer input.set made verdict.Yes))
   -- an update of the analysis' certificate is the analysis' certificate of the new set
-  pub best : IsBest old.set (task_graph_at old_shapes.graphs old_shapes.nests) stated → IsBest input.set (task_graph_at shapes.graphs shapes.nests) made
+  pub best : IsBest old.set (task_graph_at old_shapes.graphs old_shapes.nests) stated
+      → IsBest input.set (task_graph_at shapes.graphs shapes.nests) made
   -- and then `analyze` writes this text wherever the new set is the same
-  pub analyzes : IsBest old.set (task_graph_at old_shapes.graphs old_shapes.nests) stated → (others : Contents) (file : List ℕ) →
-      input_in others file ≡ Ok input → AnalyzeEnds others file (Ok (record { text = text; outcome = ended.Done }))
+  pub analyzes : IsBest old.set (task_graph_at old_shapes.graphs old_shapes.nests) stated
+      → (others : Contents) (file : List ℕ) →
+      input_in others file ≡ Ok input
+      → AnalyzeEnds others file (Ok (record { text = text; outcome = ended.Done }))
 
 -- with the status Done on `update OLDSET OLDCERT NEWSET`
 abbrev pub DoneIsUpdate : List (List ℕ) → Contents → Type 0
 DoneIsUpdate words contents =
     (old_set old_certificate new_set : List ℕ) (output : Output) →
-    command_of words ≡ Some (update old_set old_certificate new_set) → IsOut words contents output → output.status ≡ Done →
+    command_of words ≡ Some (update old_set old_certificate new_set) → IsOut words contents output
+    → output.status ≡ Done →
     IsUpdateWritten contents old_set old_certificate new_set output.text

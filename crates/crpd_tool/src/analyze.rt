@@ -31,7 +31,8 @@ fn analysis(alloc: Global, file: &str, input: &Input, shapes: &Shapes) -> Result
 
 /// Analyses a set with its code, after the graphs of all tasks and the regions of their loops.
 pub(crate) fn analyze<F: Files>(alloc: Global, files: &mut F, set: &str) -> Result<Answer, Halt>
-    ensures exact { HoldsWhereTold (F.contents files.old) (λ c. MeansBy (AnalyzeEnds c set.now) result) }
+    ensures exact { HoldsWhereTold (F.contents files.old)
+        (λ c. MeansBy (AnalyzeEnds c set.now) result) }
     ensures same { F.contents files.new ≡ F.contents files.old }
     ensures later { F.faults files.old ≤ F.faults files.new }
     ensures fault { IsErrOf result Halt.Fault → Rose (F.faults files.old) (F.faults files.new) }

@@ -29,9 +29,11 @@ fn plain_analysis(alloc: Global, file: &str, input: &Input, shapes: &Shapes) -> 
     }
 }
 
-/// Analyses a set with its code by the plain union delays, after the graphs of all tasks and the regions of their loops.
+/// Analyses a set with its code by the plain union delays, after the graphs of all tasks and the
+/// regions of their loops.
 pub(crate) fn classic<F: Files>(alloc: Global, files: &mut F, set: &str) -> Result<Answer, Halt>
-    ensures exact { HoldsWhereTold (F.contents files.old) (λ c. MeansBy (ClassicEnds c set.now) result) }
+    ensures exact { HoldsWhereTold (F.contents files.old)
+        (λ c. MeansBy (ClassicEnds c set.now) result) }
     ensures same { F.contents files.new ≡ F.contents files.old }
     ensures later { F.faults files.old ≤ F.faults files.new }
     ensures fault { IsErrOf result Halt.Fault → Rose (F.faults files.old) (F.faults files.new) }

@@ -4,7 +4,8 @@ ghost use Rattle.cert_model.specs.Ranges.{IsCertificate};
 ghost use Rattle.cert_model.specs.Reading.{reading};
 ghost use Rattle.cert_model.specs.Writing.{text as text_of};
 ghost use Rattle.crpd_input.specs.Steps.{Exactly, MeansBy};
-ghost use Rattle.crpd_tool.specs.Analyze.{certificate_answer as answer_with, without_certificate as ending_of};
+ghost use Rattle.crpd_tool.specs.Analyze.{certificate_answer as answer_with};
+ghost use Rattle.crpd_tool.specs.Analyze.{without_certificate as ending_of};
 
 use crate::answer::{Answer, Outcome};
 use crate::texts::{certificate_text, no_window_text};
@@ -26,8 +27,9 @@ pub(crate) fn certificate_answer(alloc: Global, certificate: &Certificate) -> Re
     })
 }
 
-/// How a command ends that makes no certificate of a set: a bound that is too large is a refusal of the task, too many
-/// state entries are one of the set's file, and a task without a window is an answer.
+/// How a command ends that makes no certificate of a set: a bound that is too large is a refusal of
+/// the task, too many state entries are one of the set's file, and a task without a window is an
+/// answer.
 pub(crate) fn without_certificate(
     alloc: Global,
     file: &str,

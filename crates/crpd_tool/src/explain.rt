@@ -33,8 +33,10 @@ fn account_answer(
     requires ranges { IsCertificate certificate.now }
     requires tasks { NamesTasks input.now.set script.now.jobs }
     requires few { length script.now.jobs ≤ 10000 }
-    requires judged { IsJudged input.now.set (task_graph_at shapes.now.graphs shapes.now.nests) certificate.now Yes }
-    ensures { IfOk result (λ answer. AccountOf input.now shapes.now certificate.now script.now (Ok answer)) }
+    requires judged { IsJudged input.now.set (task_graph_at shapes.now.graphs shapes.now.nests)
+        certificate.now Yes }
+    ensures { IfOk result (λ answer.
+        AccountOf input.now shapes.now certificate.now script.now (Ok answer)) }
 {
     input.code.plans_law();
     let graphs = shapes.graphs.as_slice();
@@ -68,7 +70,8 @@ fn explanation(
     requires ranges { IsCertificate certificate.now }
     requires tasks { NamesTasks input.now.set script.now.jobs }
     requires few { length script.now.jobs ≤ 10000 }
-    ensures { IfOk result (λ answer. ExplanationOf input.now shapes.now certificate.now script.now (Ok answer)) }
+    ensures { IfOk result (λ answer.
+        ExplanationOf input.now shapes.now certificate.now script.now (Ok answer)) }
 {
     let graphs = shapes.graphs.as_slice();
     let nests = shapes.nests.as_slice();
@@ -79,8 +82,9 @@ fn explanation(
     }
 }
 
-/// Tells the reloads of a script's run and the delays that a certificate charges, where the judge says yes to it: after the
-/// graphs of all tasks and the regions of their loops, the certificate and the script.
+/// Tells the reloads of a script's run and the delays that a certificate charges, where the judge
+/// says yes to it: after the graphs of all tasks and the regions of their loops, the certificate
+/// and the script.
 pub(crate) fn explain<F: Files>(
     alloc: Global,
     files: &mut F,
@@ -88,7 +92,8 @@ pub(crate) fn explain<F: Files>(
     certificate: &str,
     script: &str,
 ) -> Result<Answer, Halt>
-    ensures exact { HoldsWhereTold (F.contents files.old) (λ c. MeansBy (ExplainEnds c set.now certificate.now script.now) result) }
+    ensures exact { HoldsWhereTold (F.contents files.old)
+        (λ c. MeansBy (ExplainEnds c set.now certificate.now script.now) result) }
     ensures same { F.contents files.new ≡ F.contents files.old }
     ensures later { F.faults files.old ≤ F.faults files.new }
     ensures fault { IsErrOf result Halt.Fault → Rose (F.faults files.old) (F.faults files.new) }

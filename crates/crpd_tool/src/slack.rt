@@ -33,10 +33,11 @@ fn greatest_costs(alloc: Global, input: &Input, shapes: &Shapes) -> Result<Answe
     }
 }
 
-/// Finds the greatest costs of a switch and of a reload with which a set with its code is accepted, after the graphs of all
-/// tasks and the regions of their loops.
+/// Finds the greatest costs of a switch and of a reload with which a set with its code is accepted,
+/// after the graphs of all tasks and the regions of their loops.
 pub(crate) fn slack<F: Files>(alloc: Global, files: &mut F, set: &str) -> Result<Answer, Halt>
-    ensures exact { HoldsWhereTold (F.contents files.old) (λ c. MeansBy (SlackEnds c set.now) result) }
+    ensures exact { HoldsWhereTold (F.contents files.old)
+        (λ c. MeansBy (SlackEnds c set.now) result) }
     ensures same { F.contents files.new ≡ F.contents files.old }
     ensures later { F.faults files.old ≤ F.faults files.new }
     ensures fault { IsErrOf result Halt.Fault → Rose (F.faults files.old) (F.faults files.new) }

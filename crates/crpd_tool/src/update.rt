@@ -31,7 +31,8 @@ fn as_analysis(error: UpdateError) -> BuildError
     }
 }
 
-/// The answer of the update of a certificate that the judge said yes to, for a set that was read from this file.
+/// The answer of the update of a certificate that the judge said yes to, for a set that was read
+/// from this file.
 fn change(
     alloc: Global,
     file: &str,
@@ -44,10 +45,12 @@ fn change(
     requires old { IsTaskSet old.now.set }
     requires old_shown { AreTaskGraphs old.now.set old_shapes.now.graphs old_shapes.now.nests }
     requires stated { IsCertificate stated.now }
-    requires judged { IsJudged old.now.set (task_graph_at old_shapes.now.graphs old_shapes.now.nests) stated.now Yes }
+    requires judged { IsJudged old.now.set
+        (task_graph_at old_shapes.now.graphs old_shapes.now.nests) stated.now Yes }
     requires set { IsTaskSet input.now.set }
     requires shown { AreTaskGraphs input.now.set shapes.now.graphs shapes.now.nests }
-    ensures exact { MeansBy (ChangeOf file.now old.now old_shapes.now stated.now input.now shapes.now) result }
+    ensures exact { MeansBy
+        (ChangeOf file.now old.now old_shapes.now stated.now input.now shapes.now) result }
     ensures no_fault { ¬ IsErrOf result Halt.Fault }
 {
     let old_graphs = old_shapes.graphs.as_slice();
@@ -78,7 +81,8 @@ fn judge_and_change(
     requires stated { IsCertificate stated.now }
     requires set { IsTaskSet input.now.set }
     requires shown { AreTaskGraphs input.now.set shapes.now.graphs shapes.now.nests }
-    ensures exact { MeansBy (UpdateOf file.now old.now old_shapes.now stated.now input.now shapes.now) result }
+    ensures exact { MeansBy
+        (UpdateOf file.now old.now old_shapes.now stated.now input.now shapes.now) result }
     ensures no_fault { ¬ IsErrOf result Halt.Fault }
 {
     let graphs = old_shapes.graphs.as_slice();
@@ -90,8 +94,8 @@ fn judge_and_change(
     }
 }
 
-/// Updates an old certificate to a new set: after the old set with its graphs and regions, its certificate, and the new
-/// set with its graphs and regions.
+/// Updates an old certificate to a new set: after the old set with its graphs and regions, its
+/// certificate, and the new set with its graphs and regions.
 pub(crate) fn update<F: Files>(
     alloc: Global,
     files: &mut F,
@@ -99,7 +103,8 @@ pub(crate) fn update<F: Files>(
     old_certificate: &str,
     new_set: &str,
 ) -> Result<Answer, Halt>
-    ensures exact { HoldsWhereTold (F.contents files.old) (λ c. MeansBy (UpdateEnds c old_set.now old_certificate.now new_set.now) result) }
+    ensures exact { HoldsWhereTold (F.contents files.old)
+        (λ c. MeansBy (UpdateEnds c old_set.now old_certificate.now new_set.now) result) }
     ensures same { F.contents files.new ≡ F.contents files.old }
     ensures later { F.faults files.old ≤ F.faults files.new }
     ensures fault { IsErrOf result Halt.Fault → Rose (F.faults files.old) (F.faults files.new) }

@@ -1,13 +1,16 @@
 -- Values that paths bring, and facts under way to the solution.
-use Rattle.std.proofs.Common.{◌≡◌, ℕ, List, [], ◌∷◌, ◌++◌, Option, Some, None, option_map, map, get_or, suc, zero, refl, sym, ap, ◌∙◌, subst, arith}
+use Rattle.std.proofs.Common.{◌≡◌, ℕ, List, [], ◌∷◌, ◌++◌, Option, Some, None, option_map, map}
+use Rattle.std.proofs.Common.{get_or, suc, zero, refl, sym, ap, ◌∙◌, subst, arith}
 use Rattle.std.specs.List.{All}
 use Rattle.std.proofs.lemmas.List.Elements.{All-append, All-map}
-use Rattle.dataflow.specs.Problem.{Problem, IsSemilattice, IsBelow, HasEdge, IsPath, path_value, Brings, joined_all, IsFact, IsAtLeast, Solves}
+use Rattle.dataflow.specs.Problem.{Problem, IsSemilattice, IsBelow, HasEdge, IsPath, path_value}
+use Rattle.dataflow.specs.Problem.{Brings, joined_all, IsFact, IsAtLeast, Solves}
 use Rattle.dataflow.specs.Inner.Search.{IsJoinOfPaths}
 
 pub record HasLaws (V : Type 0) (p : Problem V) : Type 0 where
   pub joins : IsSemilattice V p.joined
-  pub distributes : (n : ℕ) (a b : V) → p.passed n (p.joined a b) ≡ p.joined (p.passed n a) (p.passed n b)
+  pub distributes : (n : ℕ) (a b : V)
+      → p.passed n (p.joined a b) ≡ p.joined (p.passed n a) (p.passed n b)
 
 module _ (V : Type 0) (p : Problem V) (laws : HasLaws V p) where
   pub below_self : (a : V) → IsBelow p a a
@@ -35,14 +38,16 @@ module _ (V : Type 0) (p : Problem V) (laws : HasLaws V p) where
   at_least_below o a b h k = (k.0, k.1, below_trans a b k.0 h k.2)
 
   all_joined : (a : V) (xs : List V) (b : V) (bs : List V)
-      → joined_all p.joined a (xs ++ b ∷ bs) ≡ p.joined (joined_all p.joined a xs) (joined_all p.joined b bs)
+      → joined_all p.joined a (xs ++ b ∷ bs)
+      ≡ p.joined (joined_all p.joined a xs) (joined_all p.joined b bs)
   all_joined a [] b bs = refl
   all_joined a (x ∷ xs) b bs =
       ap (λ y. p.joined a y) (all_joined x xs b bs)
       ∙ sym (laws.joins.grouped a (joined_all p.joined x xs) (joined_all p.joined b bs))
 
   all_passed : (n : ℕ) (a : V) (xs : List V)
-      → joined_all p.joined (p.passed n a) (map (p.passed n) xs) ≡ p.passed n (joined_all p.joined a xs)
+      → joined_all p.joined (p.passed n a) (map (p.passed n) xs)
+      ≡ p.passed n (joined_all p.joined a xs)
   all_passed n a [] = refl
   all_passed n a (x ∷ xs) =
       ap (λ y. p.joined (p.passed n a) y) (all_passed n x xs)
@@ -58,47 +63,59 @@ module _ (V : Type 0) (p : Problem V) (laws : HasLaws V p) where
   pub of_one : (n : ℕ) (v : V) → Brings p n v → IsJoinOfPaths V p n v
   of_one n v b = record { first = v; rest = []; brought = brought_one n v b; join = refl }
 
-  pub of_join : (n : ℕ) (a b : V) → IsJoinOfPaths V p n a → IsJoinOfPaths V p n b → IsJoinOfPaths V p n (p.joined a b)
+  pub of_join : (n : ℕ) (a b : V) → IsJoinOfPaths V p n a → IsJoinOfPaths V p n b
+      → IsJoinOfPaths V p n (p.joined a b)
   of_join n a b h k = record {
     first = h.first;
     rest = h.rest ++ k.first ∷ k.rest;
     brought = All-append (Brings p n) (h.first ∷ h.rest) (k.first ∷ k.rest) h.brought k.brought;
-    join = all_joined h.first h.rest k.first k.rest ∙ ap (λ x. p.joined x (joined_all p.joined k.first k.rest)) h.join
+    join =
+        all_joined h.first h.rest k.first k.rest
+        ∙ ap (λ x. p.joined x (joined_all p.joined k.first k.rest)) h.join
         ∙ ap (λ x. p.joined a x) k.join;
   }
 
-  pub of_passed : (m n : ℕ) (v : V) → HasEdge p m n → IsJoinOfPaths V p m v → IsJoinOfPaths V p n (p.passed m v)
+  pub of_passed : (m n : ℕ) (v : V) → HasEdge p m n → IsJoinOfPaths V p m v
+      → IsJoinOfPaths V p n (p.passed m v)
   of_passed m n v e h = record {
     first = p.passed m h.first;
     rest = map (p.passed m) h.rest;
-    brought = All-map (Brings p n) (p.passed m) (h.first ∷ h.rest) (λ k d lt. brings_on m n (get_or (h.first ∷ h.rest) k d) e (h.brought k d lt));
+    brought =
+        All-map (Brings p n) (p.passed m) (h.first ∷ h.rest)
+        (λ k d lt. brings_on m n (get_or (h.first ∷ h.rest) k d) e (h.brought k d lt));
     join = all_passed m h.first h.rest ∙ ap (p.passed m) h.join;
   }
 
   -- a solution is at least what each path brings
   pub above_path : (facts : ℕ → Option V) → Solves V p facts
-      → (n : ℕ) (before : List ℕ) (v : V) → IsPath p (n ∷ before) → path_value p (n ∷ before) ≡ Some v → IsAtLeast p (facts n) v
+      → (n : ℕ) (before : List ℕ) (v : V) → IsPath p (n ∷ before)
+      → path_value p (n ∷ before) ≡ Some v → IsAtLeast p (facts n) v
   above_path facts s n [] v path e = s.begun n v path e
   above_path facts s n (m ∷ before) v path e =
       passed_on (λ w b. above_path facts s m before w path.1 b) (path_value p (m ∷ before)) refl e
     where
       passed_on : ((w : V) → path_value p (m ∷ before) ≡ Some w → IsAtLeast p (facts m) w)
-          → (o : Option V) → path_value p (m ∷ before) ≡ o → option_map (p.passed m) o ≡ Some v → IsAtLeast p (facts n) v
+          → (o : Option V) → path_value p (m ∷ before) ≡ o → option_map (p.passed m) o ≡ Some v
+          → IsAtLeast p (facts n) v
       passed_on above None b q = cc
       passed_on above (Some w) b q =
           let had = above w b in
           let on = s.carried m n had.0 path.0 had.1 in
           let same : p.passed m w ≡ v = cc in
           subst (λ x. IsAtLeast p (facts n) x) same
-          (at_least_below (facts n) (p.passed m w) (p.passed m had.0) (passed_below m w had.0 had.2) on)
+          (at_least_below (facts n) (p.passed m w) (p.passed m had.0)
+          (passed_below m w had.0 had.2) on)
 
-  pub above_brought : (facts : ℕ → Option V) → Solves V p facts → (n : ℕ) (v : V) → Brings p n v → IsAtLeast p (facts n) v
+  pub above_brought : (facts : ℕ → Option V) → Solves V p facts → (n : ℕ) (v : V) → Brings p n v
+      → IsAtLeast p (facts n) v
   above_brought facts s n v b = above_path facts s n b.0 v b.1 b.2
 
-  all_below : (c a : V) (xs : List V) → All (λ x. IsBelow p x c) (a ∷ xs) → IsBelow p (joined_all p.joined a xs) c
+  all_below : (c a : V) (xs : List V) → All (λ x. IsBelow p x c) (a ∷ xs)
+      → IsBelow p (joined_all p.joined a xs) c
   all_below c a [] h = h 0 a (omega arith)
   all_below c a (x ∷ xs) h =
-      join_below a (joined_all p.joined x xs) c (h 0 a (omega arith)) (all_below c x xs (λ k d lt. h (suc k) d (omega arith)))
+      join_below a (joined_all p.joined x xs) c (h 0 a (omega arith))
+      (all_below c x xs (λ k d lt. h (suc k) d (omega arith)))
 
   -- facts that solve and are joins of what paths bring
   pub is_fact : (facts : ℕ → Option V) → Solves V p facts → (n : ℕ)
@@ -119,7 +136,8 @@ module _ (V : Type 0) (p : Problem V) (laws : HasLaws V p) where
           }
 
   -- and then below each other solution
-  pub is_least : (facts other : ℕ → Option V) → ((n : ℕ) (v : V) → facts n ≡ Some v → IsJoinOfPaths V p n v)
+  pub is_least : (facts other : ℕ → Option V)
+      → ((n : ℕ) (v : V) → facts n ≡ Some v → IsJoinOfPaths V p n v)
       → Solves V p other → (n : ℕ) (v : V) → facts n ≡ Some v → IsAtLeast p (other n) v
   is_least facts other sound s n v e =
       let h = sound n v e in

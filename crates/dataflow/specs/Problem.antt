@@ -1,5 +1,6 @@
 -- A dataflow problem over a graph, and its solution: at each node the join over all paths to it.
-use Rattle.std.specs.Prelude.{◌≡◌, ℕ, ◌<◌, List, [], ◌∷◌, Option, Some, None, option_map, slice_index_or}
+use Rattle.std.specs.Prelude.{◌≡◌, ℕ, ◌<◌, List, [], ◌∷◌, Option, Some, None, option_map}
+use Rattle.std.specs.Prelude.{slice_index_or}
 use Rattle.std.specs.List.{All}
 
 -- values with joins, what a node makes of a value, the values that paths begin with, and a graph:
@@ -12,9 +13,17 @@ pub record Problem (V : Type 0) : Type 0 where
   pub edges : ℕ
   pub ends : ℕ → ℕ × ℕ
 
-abbrev pub problem : {V : Type 0} → (V → V → V) → (ℕ → V → V) → (ℕ → Option V) → ℕ → ℕ → (ℕ → ℕ × ℕ) → Problem V
+abbrev pub problem : {V : Type 0} → (V → V → V) → (ℕ → V → V) → (ℕ → Option V) → ℕ → ℕ
+    → (ℕ → ℕ × ℕ) → Problem V
 problem joined passed begins nodes edges ends =
-    record { joined = joined; passed = passed; begins = begins; nodes = nodes; edges = edges; ends = ends }
+    record {
+      joined = joined;
+      passed = passed;
+      begins = begins;
+      nodes = nodes;
+      edges = edges;
+      ends = ends;
+    }
 
 -- a join is of two values, in any order and grouping
 pub record IsSemilattice (V : Type 0) (joined : V → V → V) : Type 0 where
@@ -74,12 +83,14 @@ IsAtLeast {V} p o v = (w : V) × (o ≡ Some w) × IsBelow p v w
 -- facts that hold what begins at each node and what comes in along each edge
 pub record Solves (V : Type 0) (p : Problem V) (facts : ℕ → Option V) : Type 0 where
   pub begun : (n : ℕ) (v : V) → n < p.nodes → p.begins n ≡ Some v → IsAtLeast p (facts n) v
-  pub carried : (m n : ℕ) (v : V) → HasEdge p m n → facts m ≡ Some v → IsAtLeast p (facts n) (p.passed m v)
+  pub carried : (m n : ℕ) (v : V) → HasEdge p m n → facts m ≡ Some v
+      → IsAtLeast p (facts n) (p.passed m v)
 
 -- a solution below every other
 pub record IsLeastSolution (V : Type 0) (p : Problem V) (facts : ℕ → Option V) : Type 0 where
   pub solves : Solves V p facts
-  pub least : (other : ℕ → Option V) → Solves V p other → (n : ℕ) (v : V) → facts n ≡ Some v → IsAtLeast p (other n) v
+  pub least : (other : ℕ → Option V) → Solves V p other → (n : ℕ) (v : V) → facts n ≡ Some v
+      → IsAtLeast p (other n) v
 
 -- a is below b where their join is b: that is an order, and a join is the least value above both
 pub record IsOrderWithJoins (V : Type 0) (joined : V → V → V) : Type 0 where

@@ -1,7 +1,9 @@
 -- The laws of the two analyses of a variable.
-use Rattle.std.proofs.Common.{◌≡◌, ◌≢◌, ◌≤◌, ℕ, Bool, true, false, Option, Some, None, refl, ◌||◌, ap, sym, ◌∙◌, ⊎_elim, cond, eq-eqb, lit≤, ne_eqb}
+use Rattle.std.proofs.Common.{◌≡◌, ◌≢◌, ◌≤◌, ℕ, Bool, true, false, Option, Some, None, refl, ◌||◌}
+use Rattle.std.proofs.Common.{ap, sym, ◌∙◌, ⊎_elim, cond, eq-eqb, lit≤, ne_eqb}
 use Rattle.dataflow.specs.Problem.{IsSemilattice}
-use Rattle.dataflow.specs.Variable.{common_value, known_after, live_before, one_if_unknown, one_if_live}
+use Rattle.dataflow.specs.Variable.{common_value, known_after, live_before, one_if_unknown}
+use Rattle.dataflow.specs.Variable.{one_if_live}
 use Rattle.dataflow.specs.declared.variable.Use.{Use}
 use Rattle.dataflow.specs.declared.variable.Use.TheVariants.{Reads, Writes, Neither}
 use Rattle.std.proofs.lemmas.Bool.{cases_eq}
@@ -23,7 +25,8 @@ or_grouped false b c = refl
 pub or_joins : IsSemilattice Bool (λ a b. a || b)
 or_joins = record { same = or_same; swapped = or_swapped; grouped = or_grouped }
 
-pub live_distributes : (u : Use) (a b : Bool) → live_before u (a || b) ≡ (live_before u a || live_before u b)
+pub live_distributes : (u : Use) (a b : Bool)
+    → live_before u (a || b) ≡ (live_before u a || live_before u b)
 live_distributes Reads a b = refl
 live_distributes (Writes k) a b = refl
 live_distributes Neither a b = refl
@@ -54,14 +57,17 @@ both_swapped (Some j) (Some k) = ⊎_elim
     (λ (ne : j ≢ k). both_other j k ne ∙ sym (both_other k j (λ e. ne (sym e))))
     (cases_eq j k)
 
-both_grouped : (a b c : Option ℕ) → common_value (common_value a b) c ≡ common_value a (common_value b c)
+both_grouped : (a b c : Option ℕ)
+    → common_value (common_value a b) c ≡ common_value a (common_value b c)
 both_grouped None b c = refl
 both_grouped (Some i) None c = refl
 both_grouped (Some i) (Some j) None = both_none (common_value (Some i) (Some j))
 both_grouped (Some i) (Some j) (Some k) = ⊎_elim
     (λ (e : i ≡ j). ⊎_elim
-    (λ (f : j ≡ k). ap (λ o. common_value o (Some k)) (both_equal i j e) ∙ ap (λ o. common_value (Some i) o) (ap Some (sym f) ∙ sym (both_equal j k f)))
-    (λ (nf : j ≢ k). ap (λ o. common_value o (Some k)) (both_equal i j e ∙ ap Some e) ∙ both_other j k nf ∙ sym (ap (λ o. common_value (Some i) o) (both_other j k nf)))
+    (λ (f : j ≡ k). ap (λ o. common_value o (Some k)) (both_equal i j e)
+    ∙ ap (λ o. common_value (Some i) o) (ap Some (sym f) ∙ sym (both_equal j k f)))
+    (λ (nf : j ≢ k). ap (λ o. common_value o (Some k)) (both_equal i j e ∙ ap Some e)
+    ∙ both_other j k nf ∙ sym (ap (λ o. common_value (Some i) o) (both_other j k nf)))
     (cases_eq j k))
     (λ (ne : i ≢ j). ap (λ o. common_value o (Some k)) (both_other i j ne) ∙ ⊎_elim
     (λ (f : j ≡ k). sym (ap (λ o. common_value (Some i) o) (both_equal j k f) ∙ both_other i j ne))
@@ -72,7 +78,8 @@ both_grouped (Some i) (Some j) (Some k) = ⊎_elim
 pub both_joins : IsSemilattice (Option ℕ) common_value
 both_joins = record { same = both_same; swapped = both_swapped; grouped = both_grouped }
 
-pub known_distributes : (u : Use) (a b : Option ℕ) → known_after u (common_value a b) ≡ common_value (known_after u a) (known_after u b)
+pub known_distributes : (u : Use) (a b : Option ℕ)
+    → known_after u (common_value a b) ≡ common_value (known_after u a) (known_after u b)
 known_distributes Reads a b = refl
 known_distributes (Writes k) a b = sym (both_equal k k refl)
 known_distributes Neither a b = refl

@@ -1,5 +1,6 @@
 // Graphs as lists of edges, and graphs against their edges.
-ghost use Rattle.std.specs.Prelude.{◌≡◌, ℕ, length, slice_index_or, IfSome, IsNone, IsTrue, ◌↔◌, ◌<◌};
+ghost use Rattle.std.specs.Prelude.{◌≡◌, ℕ, length, slice_index_or, IfSome, IsNone, IsTrue, ◌↔◌};
+ghost use Rattle.std.specs.Prelude.{◌<◌};
 ghost use Rattle.std.specs.List.{All};
 ghost use Rattle.dataflow.specs.Edges.{IsEdgeList};
 
@@ -21,8 +22,9 @@ fn all_within(nodes: u32, edges: &[(u32, u32)]) -> bool
 }
 
 impl<'a> EdgeList<'a> {
-    /// The graph with the nodes below `nodes` and these edges, at most 2^32 - 1. None where an end of an edge is no
-    /// node, or where there are more edges. Linear in the edges; it takes no memory.
+    /// The graph with the nodes below `nodes` and these edges, at most 2^32 - 1. None where an end
+    /// of an edge is no node, or where there are more edges. Linear in the edges; it takes no
+    /// memory.
     pub fn new(nodes: u32, edges: &'a [(u32, u32)]) -> Option<Self>
         ensures none { IsNone result → ¬ IsEdgeList nodes edges.now }
         ensures graph { IfSome result (λ g. (g.nodes ≡ nodes) × (g.edges.now ≡ edges.now)) }

@@ -1,6 +1,9 @@
-// The orders in which nodes are visited: each node before those that its edges lead to, but for cycles.
-ghost use Rattle.std.specs.Prelude.{◌≡◌, ◌<◌, ◌≤◌, ℕ, IfOk, OnOk, None, [], ◌∷◌, ◌++◌, length, vec_len, slice_index_or, slice_set, true, false};
-ghost use Rattle.dataflow.specs.Inner.Search.{IsChained, IsVisitOrder, IsInDepth, root_at, to_follow};
+// The orders in which nodes are visited: each node before those that its edges lead to, but for
+// cycles.
+ghost use Rattle.std.specs.Prelude.{◌≡◌, ◌<◌, ◌≤◌, ℕ, IfOk, OnOk, None, [], ◌∷◌, ◌++◌, length};
+ghost use Rattle.std.specs.Prelude.{vec_len, slice_index_or, slice_set, true, false};
+ghost use Rattle.dataflow.specs.Inner.Search.{IsChained, IsVisitOrder, IsInDepth, root_at};
+ghost use Rattle.dataflow.specs.Inner.Search.{to_follow};
 
 use crate::outgoing::Outgoing;
 use crate::problem::Flow;
@@ -51,12 +54,21 @@ impl DepthFirst {
 
     /// Follows the next edge from a node that was last on the path, or leaves the node.
     fn visit<G: Flow>(&mut self, flow: &G, outgoing: &Outgoing, node: u32) -> Result<(), AllocError>
-        requires edges { IsChained (G.node_count flow.now) (G.edge_count flow.now) (G.ends flow.now) outgoing.now.last.items outgoing.now.before.items }
+        requires edges { IsChained (G.node_count flow.now) (G.edge_count flow.now)
+            (G.ends flow.now) outgoing.now.last.items outgoing.now.before.items }
         requires node { node < G.node_count flow.now }
-        requires search { IsInDepth (G.node_count flow.now) (G.edge_count flow.now) self.old.seen.items self.old.next.items (self.old.path.items ++ node ∷ []) self.old.left.items }
-        ensures search { OnOk result (IsInDepth (G.node_count flow.now) (G.edge_count flow.now) self.new.seen.items self.new.next.items self.new.path.items self.new.left.items) }
-        ensures seen { OnOk result ((n : ℕ) → slice_index_or self.old.seen.items n false ≡ true → slice_index_or self.new.seen.items n false ≡ true) }
-        ensures falls { OnOk result (to_follow self.new.next.items self.new.path.items ≤ to_follow self.old.next.items self.old.path.items) }
+        requires search { IsInDepth (G.node_count flow.now) (G.edge_count flow.now)
+            self.old.seen.items self.old.next.items (self.old.path.items ++ node ∷ [])
+            self.old.left.items }
+        ensures search { OnOk result
+            (IsInDepth (G.node_count flow.now) (G.edge_count flow.now) self.new.seen.items
+            self.new.next.items self.new.path.items self.new.left.items) }
+        ensures seen { OnOk result
+            ((n : ℕ) → slice_index_or self.old.seen.items n false ≡ true
+            → slice_index_or self.new.seen.items n false ≡ true) }
+        ensures falls { OnOk result
+            (to_follow self.new.next.items self.new.path.items
+            ≤ to_follow self.old.next.items self.old.path.items) }
     {
         match self.next[node as usize] {
             Some(k) => {
@@ -77,14 +89,20 @@ impl DepthFirst {
 
     /// Finds and leaves all nodes that edges lead to from the root, through nodes not found before.
     fn run<G: Flow>(&mut self, flow: &G, outgoing: &Outgoing, root: u32) -> Result<(), AllocError>
-        requires edges { IsChained (G.node_count flow.now) (G.edge_count flow.now) (G.ends flow.now) outgoing.now.last.items outgoing.now.before.items }
+        requires edges { IsChained (G.node_count flow.now) (G.edge_count flow.now)
+            (G.ends flow.now) outgoing.now.last.items outgoing.now.before.items }
         requires root { root < G.node_count flow.now }
-        requires search { IsInDepth (G.node_count flow.now) (G.edge_count flow.now) self.old.seen.items self.old.next.items self.old.path.items self.old.left.items }
+        requires search { IsInDepth (G.node_count flow.now) (G.edge_count flow.now)
+            self.old.seen.items self.old.next.items self.old.path.items self.old.left.items }
         requires path { self.old.path.items ≡ [] }
-        ensures search { OnOk result (IsInDepth (G.node_count flow.now) (G.edge_count flow.now) self.new.seen.items self.new.next.items self.new.path.items self.new.left.items) }
+        ensures search { OnOk result
+            (IsInDepth (G.node_count flow.now) (G.edge_count flow.now) self.new.seen.items
+            self.new.next.items self.new.path.items self.new.left.items) }
         ensures path { OnOk result (self.new.path.items ≡ []) }
         ensures root { OnOk result (slice_index_or self.new.seen.items root false ≡ true) }
-        ensures seen { OnOk result ((n : ℕ) → slice_index_or self.old.seen.items n false ≡ true → slice_index_or self.new.seen.items n false ≡ true) }
+        ensures seen { OnOk result
+            ((n : ℕ) → slice_index_or self.old.seen.items n false ≡ true
+            → slice_index_or self.new.seen.items n false ≡ true) }
     {
         self.find(root)?;
         while let Some(node) = self.path.pop() {
@@ -102,15 +120,16 @@ fn root_at(nodes: u32, from_last: bool, k: u32) -> u32
     if from_last { nodes - 1 - k } else { k }
 }
 
-/// The nodes in the reverse of the order in which a search in depth leaves them, which takes its roots from the first
-/// node on, or from the last one back.
+/// The nodes in the reverse of the order in which a search in depth leaves them, which takes its
+/// roots from the first node on, or from the last one back.
 fn depth_order<G: Flow>(
     alloc: Global,
     flow: &G,
     outgoing: &Outgoing,
     from_last: bool,
 ) -> Result<Vec<u32>, AllocError>
-    requires { IsChained (G.node_count flow.now) (G.edge_count flow.now) (G.ends flow.now) outgoing.now.last.items outgoing.now.before.items }
+    requires { IsChained (G.node_count flow.now) (G.edge_count flow.now)
+        (G.ends flow.now) outgoing.now.last.items outgoing.now.before.items }
     ensures { IfOk result (λ order. IsVisitOrder (G.node_count flow.now) order.items) }
 {
     let mut search = DepthFirst::new(alloc, outgoing)?;
@@ -125,15 +144,17 @@ fn depth_order<G: Flow>(
     Ok(order)
 }
 
-/// Two orders of all nodes, one after the other: by a search in depth from the first node on, and by one from the last
-/// node back. The first has each node before those that its edges lead to, but for cycles. The second goes through a
-/// chain of loops that overlap from its end. Time is linear in nodes and edges.
+/// Two orders of all nodes, one after the other: by a search in depth from the first node on, and
+/// by one from the last node back. The first has each node before those that its edges lead to, but
+/// for cycles. The second goes through a chain of loops that overlap from its end. Time is linear
+/// in nodes and edges.
 pub(crate) fn visit_order<G: Flow>(
     alloc: Global,
     flow: &G,
     outgoing: &Outgoing,
 ) -> Result<Vec<u32>, AllocError>
-    requires { IsChained (G.node_count flow.now) (G.edge_count flow.now) (G.ends flow.now) outgoing.now.last.items outgoing.now.before.items }
+    requires { IsChained (G.node_count flow.now) (G.edge_count flow.now)
+        (G.ends flow.now) outgoing.now.last.items outgoing.now.before.items }
     ensures { IfOk result (λ order. IsVisitOrder (G.node_count flow.now) order.items) }
 {
     let mut order = depth_order(alloc, flow, outgoing, false)?;

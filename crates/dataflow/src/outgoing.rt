@@ -16,7 +16,9 @@ pub(crate) struct Outgoing {
 
 /// Chains the edges, in time linear in nodes and edges.
 pub(crate) fn chain<G: Flow>(alloc: Global, flow: &G) -> Result<Outgoing, AllocError>
-    ensures { IfOk result (λ o. IsChained (G.node_count flow.now) (G.edge_count flow.now) (G.ends flow.now) o.last.items o.before.items) }
+    ensures { IfOk result (λ o.
+        IsChained (G.node_count flow.now) (G.edge_count flow.now) (G.ends flow.now) o.last.items
+        o.before.items) }
 {
     let mut last = vec![in alloc; None; flow.nodes() as usize]?;
     let mut before = Vec::with_capacity(alloc, flow.edges() as usize)?;

@@ -2,8 +2,8 @@
 ghost use Rattle.std.specs.Prelude.{◌≡◌, ℕ, ◌<◌, ◌≤◌, Option, MatchBool, option_map};
 ghost use Rattle.dataflow.specs.Problem.{IsSemilattice, IsOrderWithJoins};
 
-/// A graph: its nodes are the numbers below `nodes()`, and edge k, for k below `edges()`, leads from the first
-/// to the second number of `edge(k)`. No call takes memory.
+/// A graph: its nodes are the numbers below `nodes()`, and edge k, for k below `edges()`, leads
+/// from the first to the second number of `edge(k)`. No call takes memory.
 pub trait Flow {
     /// How many nodes there are.
     ghost node_count: { Self → ℕ };
@@ -30,9 +30,10 @@ pub trait Flow {
         ensures target { result.1 < node_count self.now };
 }
 
-/// Facts about the nodes of a graph, and how they flow. A fact is seen as a value. A value is below another where
-/// their join is the other (`order_law`). The laws: joins are of both sides in any order and grouping, a node's
-/// transfer of a join is the join of its transfers, and no height exceeds the tallest. No call takes memory.
+/// Facts about the nodes of a graph, and how they flow. A fact is seen as a value. A value is below
+/// another where their join is the other (`order_law`). The laws: joins are of both sides in any
+/// order and grouping, a node's transfer of a join is the join of its transfers, and no height
+/// exceeds the tallest. No call takes memory.
 pub trait Domain {
     /// What is known before a node.
     type Fact: Copy;
@@ -69,25 +70,29 @@ pub trait Domain {
     /// Makes `a` the join of `a` and `b`, and says whether that changed its value.
     fn join(&self, a: &mut Self::Fact, b: &Self::Fact) -> bool
         ensures value { view a.new ≡ joined (view a.old) (view b.now) }
-        ensures changed { MatchBool result (height self.now (view a.old) < height self.now (view a.new)) (view a.new ≡ view a.old) };
+        ensures changed { MatchBool result
+            (height self.now (view a.old) < height self.now (view a.new))
+            (view a.new ≡ view a.old) };
 
     /// Makes the fact before a node the fact after it.
     fn transfer(&self, node: u32, fact: &mut Self::Fact)
         requires { is_own self.now node }
         ensures { view fact.new ≡ passed self.now node (view fact.old) };
 
-    /// A law: joins are of both sides in any order and grouping, and a value's join with itself is that value.
+    /// A law: joins are of both sides in any order and grouping, and a value's join with itself is
+    /// that value.
     ghost joins: { IsSemilattice Value joined };
 
     /// A law: a node's transfer of a join is the join of its transfers.
-    ghost distributes: { (d : Self) (n : ℕ) (a b : Value) → passed d n (joined a b) ≡ joined (passed d n a) (passed d n b) };
+    ghost distributes: { (d : Self) (n : ℕ) (a b : Value)
+        → passed d n (joined a b) ≡ joined (passed d n a) (passed d n b) };
 
     /// A law: no height exceeds the tallest.
     ghost bounded: { (d : Self) (v : Value) → height d v ≤ tallest d };
 }
 
-/// A law: the values of a domain are ordered, and a join is the least value above both of its sides. In constant
-/// time.
+/// A law: the values of a domain are ordered, and a join is the least value above both of its
+/// sides. In constant time.
 pub fn order_law<D: Domain>()
     ensures { IsOrderWithJoins D.Value D.joined }
 {}

@@ -1,7 +1,9 @@
 // The search for the least solution.
-ghost use Rattle.std.specs.Prelude.{◌≡◌, ◌≢◌, ℕ, ◌+◌, ◌<◌, ◌≤◌, Option, IfOk, Some, MatchBool, length, vec_len, option_map, slice_index_or};
+ghost use Rattle.std.specs.Prelude.{◌≡◌, ◌≢◌, ℕ, ◌+◌, ◌<◌, ◌≤◌, Option, IfOk, Some, MatchBool};
+ghost use Rattle.std.specs.Prelude.{length, vec_len, option_map, slice_index_or};
 ghost use Rattle.dataflow.specs.Problem.{problem, IsFact, IsLeastSolution, fact_at};
-ghost use Rattle.dataflow.specs.Inner.Search.{IsChained, IsPartialSolution, IsPassedOn, absorbed, rank, waits, work_left};
+ghost use Rattle.dataflow.specs.Inner.Search.{IsChained, IsPartialSolution, IsPassedOn, absorbed};
+ghost use Rattle.dataflow.specs.Inner.Search.{rank, waits, work_left};
 
 use crate::order::visit_order;
 use crate::outgoing::{Outgoing, chain};
@@ -12,9 +14,11 @@ use std::alloc::{AllocError, Global};
 
 /// Joins a value into a fact, and says whether that changed it.
 fn absorb<D: Domain>(domain: &D, fact: &mut Option<D::Fact>, value: &D::Fact) -> bool
-    ensures value { option_map D.view fact.new ≡ Some (absorbed D.joined (option_map D.view fact.old) (D.view value.now)) }
+    ensures value { option_map D.view fact.new
+        ≡ Some (absorbed D.joined (option_map D.view fact.old) (D.view value.now)) }
     ensures changed { MatchBool result
-        (rank (D.height domain.now) (option_map D.view fact.old) < rank (D.height domain.now) (option_map D.view fact.new))
+        (rank (D.height domain.now) (option_map D.view fact.old)
+        < rank (D.height domain.now) (option_map D.view fact.new))
         (option_map D.view fact.new ≡ option_map D.view fact.old) }
 {
     match fact {
@@ -34,7 +38,9 @@ fn first_facts<G: Flow, D: Domain>(
 ) -> Result<Vec<Option<D::Fact>>, AllocError>
     requires { (n : ℕ) → n < G.node_count flow.now → D.is_own domain.now n }
     ensures nodes { IfOk result (λ facts. vec_len facts ≡ G.node_count flow.now) }
-    ensures begins { IfOk result (λ facts. (n : ℕ) → n < G.node_count flow.now → fact_at D.view facts.items n ≡ D.begins domain.now n) }
+    ensures begins { IfOk result
+        (λ facts. (n : ℕ) → n < G.node_count flow.now
+        → fact_at D.view facts.items n ≡ D.begins domain.now n) }
 {
     let mut facts = Vec::with_capacity(alloc, flow.nodes() as usize)?;
     for node in 0..flow.nodes() {
@@ -54,18 +60,26 @@ fn pass_on<G: Flow, D: Domain>(
     facts: &mut [Option<D::Fact>],
     waiting: &mut Worklist,
 )
-    requires edges { IsChained (G.node_count flow.now) (G.edge_count flow.now) (G.ends flow.now) outgoing.now.last.items outgoing.now.before.items }
+    requires edges { IsChained (G.node_count flow.now) (G.edge_count flow.now)
+        (G.ends flow.now) outgoing.now.last.items outgoing.now.before.items }
     requires node { node < G.node_count flow.now }
     requires facts { length facts.old ≡ G.node_count flow.now }
     requires waiting { length waiting.old ≡ G.node_count flow.now }
-    requires source { IsPassedOn D.Value (problem D.joined (D.passed domain.now) (D.begins domain.now) (G.node_count flow.now) (G.edge_count flow.now) (G.ends flow.now))
+    requires source { IsPassedOn D.Value
+        (problem D.joined (D.passed domain.now) (D.begins domain.now) (G.node_count flow.now)
+        (G.edge_count flow.now) (G.ends flow.now))
         (fact_at D.view facts.old) (waits waiting.old) node (D.view value.now) }
-    requires under_way { IsPartialSolution D.Value (problem D.joined (D.passed domain.now) (D.begins domain.now) (G.node_count flow.now) (G.edge_count flow.now) (G.ends flow.now))
+    requires under_way { IsPartialSolution D.Value
+        (problem D.joined (D.passed domain.now) (D.begins domain.now) (G.node_count flow.now)
+        (G.edge_count flow.now) (G.ends flow.now))
         (fact_at D.view facts.old) (waits waiting.old) (λ k. (G.ends flow.now k).0 ≢ node) }
     ensures waiting { length waiting.new ≡ G.node_count flow.now }
-    ensures under_way { IsPartialSolution D.Value (problem D.joined (D.passed domain.now) (D.begins domain.now) (G.node_count flow.now) (G.edge_count flow.now) (G.ends flow.now))
+    ensures under_way { IsPartialSolution D.Value
+        (problem D.joined (D.passed domain.now) (D.begins domain.now) (G.node_count flow.now)
+        (G.edge_count flow.now) (G.ends flow.now))
         (fact_at D.view facts.new) (waits waiting.new) (λ k. Unit {0}) }
-    ensures left { work_left D.view (D.height domain.now) (D.tallest domain.now) facts.new waiting.new
+    ensures left { work_left D.view (D.height domain.now) (D.tallest domain.now)
+        facts.new waiting.new
         ≤ work_left D.view (D.height domain.now) (D.tallest domain.now) facts.old waiting.old }
 {
     let mut next = outgoing.last[node as usize];
@@ -87,10 +101,13 @@ fn search<G: Flow, D: Domain>(
     requires { (n : ℕ) → n < G.node_count flow.now → D.is_own domain.now n }
     ensures nodes { IfOk result (λ facts. vec_len facts ≡ G.node_count flow.now) }
     ensures facts { IfOk result (λ facts. (n : ℕ) → n < G.node_count flow.now →
-        IsFact (problem D.joined (D.passed domain.now) (D.begins domain.now) (G.node_count flow.now) (G.edge_count flow.now) (G.ends flow.now))
+        IsFact (problem D.joined (D.passed domain.now) (D.begins domain.now) (G.node_count flow.now)
+        (G.edge_count flow.now) (G.ends flow.now))
         n (fact_at D.view facts.items n)) }
     ensures least { IfOk result (λ facts.
-        IsLeastSolution D.Value (problem D.joined (D.passed domain.now) (D.begins domain.now) (G.node_count flow.now) (G.edge_count flow.now) (G.ends flow.now))
+        IsLeastSolution D.Value
+        (problem D.joined (D.passed domain.now) (D.begins domain.now) (G.node_count flow.now)
+        (G.edge_count flow.now) (G.ends flow.now))
         (fact_at D.view facts.items)) }
 {
     let outgoing = chain(alloc, flow)?;
@@ -115,16 +132,17 @@ fn search<G: Flow, D: Domain>(
     Ok(facts)
 }
 
-/// The least solution of a dataflow problem. The fact of a node is the fact before it: the join of its start with
-/// the fact after the source of each edge that leads to it. It is the join over all paths from nodes with a start,
-/// and None exactly where no such path leads. All numbers below the flow's `nodes()` must be the domain's own. The
-/// one refusal is want of memory; a fact for each node is taken, and some fifteen bytes for each node and edge.
+/// The least solution of a dataflow problem. The fact of a node is the fact before it: the join of
+/// its start with the fact after the source of each edge that leads to it. It is the join over all
+/// paths from nodes with a start, and None exactly where no such path leads. All numbers below the
+/// flow's `nodes()` must be the domain's own. The one refusal is want of memory; a fact for each
+/// node is taken, and some fifteen bytes for each node and edge.
 ///
-/// Nodes are visited round and round in two orders in turn, each the reverse of the order in which a search in depth
-/// leaves them: of a search from the first node on, and of one from the last node back. Each is visited only when its
-/// fact has risen since. So each edge is followed at most once more often than a fact can rise, and once where the
-/// edges have no cycle (Kam and Ullman 1976). By the second order a fact goes back through a chain of loops that
-/// overlap in one round.
+/// Nodes are visited round and round in two orders in turn, each the reverse of the order in which
+/// a search in depth leaves them: of a search from the first node on, and of one from the last node
+/// back. Each is visited only when its fact has risen since. So each edge is followed at most once
+/// more often than a fact can rise, and once where the edges have no cycle (Kam and Ullman 1976).
+/// By the second order a fact goes back through a chain of loops that overlap in one round.
 pub fn solve<G: Flow, D: Domain>(
     alloc: Global,
     flow: &G,
@@ -133,10 +151,13 @@ pub fn solve<G: Flow, D: Domain>(
     requires { (n : ℕ) → n < G.node_count flow.now → D.is_own domain.now n }
     ensures nodes { IfOk result (λ facts. vec_len facts ≡ G.node_count flow.now) }
     ensures facts { IfOk result (λ facts. (n : ℕ) → n < G.node_count flow.now →
-        IsFact (problem D.joined (D.passed domain.now) (D.begins domain.now) (G.node_count flow.now) (G.edge_count flow.now) (G.ends flow.now))
+        IsFact (problem D.joined (D.passed domain.now) (D.begins domain.now) (G.node_count flow.now)
+        (G.edge_count flow.now) (G.ends flow.now))
         n (fact_at D.view facts.items n)) }
     ensures least { IfOk result (λ facts.
-        IsLeastSolution D.Value (problem D.joined (D.passed domain.now) (D.begins domain.now) (G.node_count flow.now) (G.edge_count flow.now) (G.ends flow.now))
+        IsLeastSolution D.Value
+        (problem D.joined (D.passed domain.now) (D.begins domain.now) (G.node_count flow.now)
+        (G.edge_count flow.now) (G.ends flow.now))
         (fact_at D.view facts.items)) }
 {
     match search(alloc, flow, domain) {

@@ -1,5 +1,5 @@
-// Facts of small graphs, along the edges and against them, and how often nodes are visited. Against the edges
-// the fact before a node is what holds after it.
+// Facts of small graphs, along the edges and against them, and how often nodes are visited. Against
+// the edges the fact before a node is what holds after it.
 ghost use Rattle.std.specs.Prelude.{ℕ, ◌<◌, Option, length, slice_index_or};
 ghost use Rattle.dataflow.specs.Variable.{common_value, known_after, one_if_unknown};
 ghost use Rattle.dataflow.specs.Inner.Variable.{first_unknown};
@@ -180,7 +180,8 @@ impl Domain for Counted<'_> {
 
     ghost joins = { both_joins };
 
-    ghost distributes = { λ d n a b. known_distributes (slice_index_or d.uses.now n Use.Neither) a b };
+    ghost distributes = { λ d n a b.
+        known_distributes (slice_index_or d.uses.now n Use.Neither) a b };
 
     ghost bounded = { λ d v. unknown_bounded v };
 }

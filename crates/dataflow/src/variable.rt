@@ -1,9 +1,12 @@
 // Two analyses of one variable that nodes read and write, one along the edges and one against them.
-ghost use Rattle.std.specs.Prelude.{◌≡◌, ◌<◌, ◌||◌, ℕ, Option, Some, None, Bool, false, length, slice_index_or};
-ghost use Rattle.dataflow.specs.Variable.{common_value, known_after, live_before, one_if_unknown, one_if_live};
+ghost use Rattle.std.specs.Prelude.{◌≡◌, ◌<◌, ◌||◌, ℕ, Option, Some, None, Bool, false, length};
+ghost use Rattle.std.specs.Prelude.{slice_index_or};
+ghost use Rattle.dataflow.specs.Variable.{common_value, known_after, live_before, one_if_unknown};
+ghost use Rattle.dataflow.specs.Variable.{one_if_live};
 ghost use Rattle.dataflow.specs.Inner.Variable.{first_unknown};
 ghost use Rattle.dataflow.specs.declared.variable.Use.{Use};
-ghost use Rattle.dataflow.specs.VariableLaws.{or_joins, live_distributes, both_joins, known_distributes, live_bounded, unknown_bounded};
+ghost use Rattle.dataflow.specs.VariableLaws.{or_joins, live_distributes, both_joins};
+ghost use Rattle.dataflow.specs.VariableLaws.{known_distributes, live_bounded, unknown_bounded};
 
 use crate::problem::Domain;
 
@@ -18,8 +21,8 @@ pub enum Use {
     Neither,
 }
 
-/// Whether the variable may be read before it is written, after a node. It flows against the edges, so the
-/// fact before a node in the flow is what holds after the node in the graph.
+/// Whether the variable may be read before it is written, after a node. It flows against the edges,
+/// so the fact before a node in the flow is what holds after the node in the graph.
 #[derive(Clone, Copy)]
 pub struct Live<'a> {
     /// What each node does, by its number; the domain's own nodes are those that are listed.
@@ -68,13 +71,14 @@ impl Domain for Live<'_> {
 
     ghost joins = { or_joins };
 
-    ghost distributes = { λ d n a b. live_distributes (slice_index_or d.uses.now n Use.Neither) a b };
+    ghost distributes = { λ d n a b.
+        live_distributes (slice_index_or d.uses.now n Use.Neither) a b };
 
     ghost bounded = { λ d v. live_bounded v };
 }
 
-/// The constant that the variable surely holds before a node, where it is known. Paths begin at node 0,
-/// where it is not. It flows along the edges.
+/// The constant that the variable surely holds before a node, where it is known. Paths begin at
+/// node 0, where it is not. It flows along the edges.
 #[derive(Clone, Copy)]
 pub struct Known<'a> {
     /// What each node does, by its number; the domain's own nodes are those that are listed.
@@ -123,7 +127,8 @@ impl Domain for Known<'_> {
 
     ghost joins = { both_joins };
 
-    ghost distributes = { λ d n a b. known_distributes (slice_index_or d.uses.now n Use.Neither) a b };
+    ghost distributes = { λ d n a b.
+        known_distributes (slice_index_or d.uses.now n Use.Neither) a b };
 
     ghost bounded = { λ d v. unknown_bounded v };
 }

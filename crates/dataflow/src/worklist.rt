@@ -1,5 +1,6 @@
 // The nodes that wait to be visited.
-ghost use Rattle.std.specs.Prelude.{◌≡◌, ℕ, ◌<◌, ◌≤◌, List, Bool, length, IfOk, MatchOption, IsTrue, slice_index, slice_set, true, false};
+ghost use Rattle.std.specs.Prelude.{◌≡◌, ℕ, ◌<◌, ◌≤◌, List, Bool, length, IfOk, MatchOption};
+ghost use Rattle.std.specs.Prelude.{IsTrue, slice_index, slice_set, true, false};
 ghost use Rattle.dataflow.specs.Inner.Search.{IsVisitOrder, waits};
 
 use std::alloc::{AllocError, Global};
@@ -18,7 +19,8 @@ impl Model for Worklist {
 
     ghost view = { λ w. w.waiting.items };
 
-    ghost invariant = { λ w. IsVisitOrder (length w.waiting.items) w.order.items × (w.place ≤ length w.order.items) };
+    ghost invariant = { λ w. IsVisitOrder (length w.waiting.items) w.order.items
+        × (w.place ≤ length w.order.items) };
 }
 
 /// The first place from `from` on and before `to` whose node waits.
@@ -70,7 +72,8 @@ impl Worklist {
     pub(crate) fn take(&mut self) -> Option<u32>
         ensures { MatchOption result
             ((n : ℕ) → waits self.old n ≡ false)
-            (λ n. (n < length self.old) × (waits self.old n ≡ true) × (self.new ≡ slice_set self.old n false)) }
+            (λ n. (n < length self.old) × (waits self.old n ≡ true)
+            × (self.new ≡ slice_set self.old n false)) }
     {
         let place = next_waiting(&self.order, &self.waiting, self.place)?;
         let node = self.order[place];

@@ -15,14 +15,16 @@ use Rattle.delay_count.specs.Gamma.{part_at}
 use Rattle.response.specs.declared.choice.Choice.{Choice}
 use Rattle.response.specs.declared.choice.WindowError.{WindowError}
 use Rattle.response.specs.declared.choice.WindowError.TheVariants as window
-use Rattle.response.specs.Windows.{IsSmallerWindow, IsWindowError, AreAllChoices, IsFirstWithoutWindow, method_at, window_at as chosen_window}
+use Rattle.response.specs.Windows.{IsSmallerWindow, IsWindowError, AreAllChoices}
+use Rattle.response.specs.Windows.{IsFirstWithoutWindow, method_at, window_at as chosen_window}
 use Rattle.response.proofs.WindowLaws.{smaller_is_window, smaller_too}
 use Rattle.response.proofs.Choices.{first_too}
 use Rattle.cert_check.specs.JudgeInput.{window_at, certified_part, longest_at, task_name}
 use Rattle.cert_model.specs.Ranges.{IsCertificate}
 use Rattle.cert_model.specs.Reading.{entries}
 use Rattle.cert_build.specs.Analysis.{part_with, part_of_analysis}
-use Rattle.cert_build.specs.Assembly.{no_analysis, analysis_at, HaveResponses, IsAssembled, AreAnalysed}
+use Rattle.cert_build.specs.Assembly.{no_analysis, analysis_at, HaveResponses, IsAssembled}
+use Rattle.cert_build.specs.Assembly.{AreAnalysed}
 use Rattle.cert_build.specs.Certify.{part_in}
 use Rattle.cert_build.specs.Inner.Certify.{window_build_error}
 use Rattle.cert_build.specs.declared.one_task.Analysis.{Analysis}
@@ -37,27 +39,43 @@ use Rattle.delay_classic.specs.Classic.{IsClassicTask, IsClassic}
 use Rattle.delay_classic.proofs.Choices.{demands_agree}
 use Rattle.delay_classic.proofs.Same.{classic_same}
 
-module _ (set : TaskSet) (graphs : ℕ → TaskGraph) (analyses : List Analysis) (parts : List Part) (longest : List ℕ) (A : AreAnalysed set graphs analyses)
-    (made : parts ≡ map (λ (a : Analysis). a.part) analyses) (L : (k : ℕ) → k < length set.tasks → slice_index longest k ≡ longest_at set.platform graphs k) where
+module _ (set : TaskSet) (graphs : ℕ → TaskGraph) (analyses : List Analysis) (parts : List Part)
+    (longest : List ℕ) (A : AreAnalysed set graphs analyses)
+    (made : parts ≡ map (λ (a : Analysis). a.part) analyses)
+    (L : (k : ℕ) → k < length set.tasks
+    → slice_index longest k ≡ longest_at set.platform graphs k) where
   part_is : (k : ℕ) → part_at parts k ≡ (analysis_at analyses k).part
   part_is k = part_of_list analyses parts k made
 
   pub bounds : (k : ℕ) → k < length set.tasks → (part_at parts k).bound ≤ 2 ^ 40
-  bounds k l = let e = ap (λ (p : Part). p.bound) (part_is k) in let b = (A.each k l).within in omega (arith, e, b)
+  bounds k l =
+      let e = ap (λ (p : Part). p.bound) (part_is k) in
+      let b = (A.each k l).within in omega (arith, e, b)
 
   -- the parts of all tasks without their times
   abbrev bare : List TaskPart
   bare = map part_of_analysis analyses
 
   bare_is : (k : ℕ) → part_at parts k ≡ part_in (map part_of_analysis analyses) k
-  bare_is k = part_is k ∙ sym (ap (λ (t : TaskPart). t.part) (mapped part_of_analysis analyses k no_analysis))
+  bare_is k =
+      part_is k
+      ∙ sym (ap (λ (t : TaskPart). t.part) (mapped part_of_analysis analyses k no_analysis))
 
-  first_without : (i : ℕ) → IsFirstWithoutWindow set (classic_demands set (part_at parts) (slice_index longest)) i → IsFirstWithoutWindow set (classic_demands set (part_in (map part_of_analysis analyses)) (longest_at set.platform graphs)) i
+  first_without : (i : ℕ) → IsFirstWithoutWindow set
+      (classic_demands set (part_at parts) (slice_index longest)) i
+      → IsFirstWithoutWindow set
+      (classic_demands set (part_in (map part_of_analysis analyses))
+      (longest_at set.platform graphs)) i
   first_without =
-      first_too set (classic_demands set (part_at parts) (slice_index longest)) (classic_demands set (part_in (map part_of_analysis analyses)) (longest_at set.platform graphs))
-      (demands_agree set (part_at parts) (part_in (map part_of_analysis analyses)) (slice_index longest) (longest_at set.platform graphs) (λ k l. bare_is k) L)
+      first_too set (classic_demands set (part_at parts) (slice_index longest))
+      (classic_demands set (part_in (map part_of_analysis analyses))
+      (longest_at set.platform graphs))
+      (demands_agree set (part_at parts) (part_in (map part_of_analysis analyses))
+      (slice_index longest) (longest_at set.platform graphs) (λ k l. bare_is k) L)
 
-  refused_by : (e : WindowError) → IsWindowError set (classic_demands set (part_at parts) (slice_index longest)) e → IsClassicError set graphs (window_build_error e)
+  refused_by : (e : WindowError)
+      → IsWindowError set (classic_demands set (part_at parts) (slice_index longest)) e
+      → IsClassicError set graphs (window_build_error e)
   refused_by window.Memory h = tt
   refused_by (window.Unschedulable t) h = (
     map part_of_analysis analyses,
@@ -66,37 +84,64 @@ module _ (set : TaskSet) (graphs : ℕ → TaskGraph) (analyses : List Analysis)
     first_without t.0 h,
   )
 
-  pub refused : (e : WindowError) (x : BuildError) → IsWindowError set (classic_demands set (part_at parts) (slice_index longest)) e → x ≡ window_build_error e → IsClassicError set graphs x
+  pub refused : (e : WindowError) (x : BuildError)
+      → IsWindowError set (classic_demands set (part_at parts) (slice_index longest)) e
+      → x ≡ window_build_error e → IsClassicError set graphs x
   refused e x h is = subst (IsClassicError set graphs) (sym is) (refused_by e h)
 
-  module _ (choices : List Choice) (answer : AreAllChoices set (classic_demands set (part_at parts) (slice_index longest)) choices) where
-    in_deadlines : (k : ℕ) → k < length set.tasks → chosen_window choices k + jitter_of set k ≤ deadline_of set k
-    in_deadlines k l = (smaller_is_window set (classic_demand set (part_at parts) (slice_index longest) k) k (method_at choices k) (chosen_window choices k) (answer.each k l)).in_deadline
+  module _ (choices : List Choice)
+      (answer : AreAllChoices set (classic_demands set (part_at parts) (slice_index longest))
+      choices) where
+    in_deadlines : (k : ℕ) → k < length set.tasks
+        → chosen_window choices k + jitter_of set k ≤ deadline_of set k
+    in_deadlines k l =
+        (smaller_is_window set (classic_demand set (part_at parts) (slice_index longest) k) k
+        (method_at choices k) (chosen_window choices k) (answer.each k l)).in_deadline
 
     pub have_responses : HasTimes set → HaveResponses set choices
-    have_responses times = responses set (classic_demands set (part_at parts) (slice_index longest)) choices times answer
+    have_responses times =
+        responses set (classic_demands set (part_at parts) (slice_index longest)) choices
+        times answer
 
     module _ (c : Certificate) (C : IsAssembled set analyses choices c) where
-      at : (k : ℕ) → k < length set.tasks → certified_task c k ≡ part_with (analysis_at analyses k) (task_name set k) (method_at choices k) (chosen_window choices k) (chosen_window choices k + jitter_of set k)
+      at : (k : ℕ) → k < length set.tasks
+          → certified_task c k ≡ part_with (analysis_at analyses k) (task_name set k)
+          (method_at choices k) (chosen_window choices k)
+          (chosen_window choices k + jitter_of set k)
       at k l = C.parts.each k l
 
       window_is : (k : ℕ) → k < length set.tasks → window_at c k ≡ chosen_window choices k
       window_is k l = ap (λ (t : TaskPart). t.window) (at k l)
 
-      same : (k : ℕ) → k < length set.tasks → (method : Method) (v : ℕ) → classic_demand set (part_at parts) (slice_index longest) k method v ≡ classic_demand set (certified_part c) (longest_at set.platform graphs) k method v
-      same k l = classic_same set (part_at parts) (certified_part c) (slice_index longest) (longest_at set.platform graphs) k l (λ q m. part_is q ∙ sym (ap (λ (t : TaskPart). t.part) (at q m))) L
+      same : (k : ℕ) → k < length set.tasks → (method : Method) (v : ℕ)
+          → classic_demand set (part_at parts) (slice_index longest) k method v
+          ≡ classic_demand set (certified_part c) (longest_at set.platform graphs) k method v
+      same k l =
+          classic_same set (part_at parts) (certified_part c) (slice_index longest)
+          (longest_at set.platform graphs) k l
+          (λ q m. part_is q ∙ sym (ap (λ (t : TaskPart). t.part) (at q m))) L
 
       task : (k : ℕ) → k < length set.tasks → IsClassicTask set graphs c k
       task k l =
           let method = ap (λ (t : TaskPart). t.method) (at k l) in
           record {
             name = ap (λ (t : TaskPart). t.name) (at k l);
-            part = part_best set analyses c (has_parts set analyses choices c C) graphs k l (A.each k l);
+            part =
+                part_best set analyses c (has_parts set analyses choices c C) graphs k l
+                (A.each k l);
             window =
-                subst (λ m. IsSmallerWindow set (classic_demand set (certified_part c) (longest_at set.platform graphs) k) k m (window_at c k)) (sym method)
-                (subst (λ w. IsSmallerWindow set (classic_demand set (certified_part c) (longest_at set.platform graphs) k) k (method_at choices k) w) (sym (window_is k l))
-                (smaller_too set (classic_demand set (part_at parts) (slice_index longest) k) (classic_demand set (certified_part c) (longest_at set.platform graphs) k) k (same k l) (method_at choices k) (chosen_window choices k) (answer.each k l)));
-            response = ap (λ (t : TaskPart). t.response) (at k l) ∙ ap (λ w. w + jitter_of set k) (sym (window_is k l));
+                subst (λ m. IsSmallerWindow set
+                (classic_demand set (certified_part c) (longest_at set.platform graphs) k) k m
+                (window_at c k)) (sym method)
+                (subst (λ w. IsSmallerWindow set
+                (classic_demand set (certified_part c) (longest_at set.platform graphs) k) k
+                (method_at choices k) w) (sym (window_is k l))
+                (smaller_too set (classic_demand set (part_at parts) (slice_index longest) k)
+                (classic_demand set (certified_part c) (longest_at set.platform graphs) k) k
+                (same k l) (method_at choices k) (chosen_window choices k) (answer.each k l)));
+            response =
+                ap (λ (t : TaskPart). t.response) (at k l)
+                ∙ ap (λ w. w + jitter_of set k) (sym (window_is k l));
           }
 
       pub is_classic : IsClassic set graphs c
@@ -111,4 +156,5 @@ module _ (set : TaskSet) (graphs : ℕ → TaskGraph) (analyses : List Analysis)
       pub classic_in_ranges : HasTimes set → IsTaskSet set → IsCertificate c
       classic_in_ranges times S =
           in_ranges set analyses c (has_parts set analyses choices c C) times S A.ranges
-          (λ k l. let w = window_is k l in let d = in_deadlines k l in omega (arith, w, d)) few_entries
+          (λ k l. let w = window_is k l in let d = in_deadlines k l in
+          omega (arith, w, d)) few_entries

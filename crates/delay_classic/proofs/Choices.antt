@@ -11,12 +11,18 @@ use Rattle.delay_classic.specs.Demand.{classic_demand, classic_demands}
 use Rattle.delay_classic.proofs.Same.{classic_same}
 
 -- the demands agree, where the parts and the longest costs are the same
-pub demands_agree : (set : TaskSet) (parts others : ℕ → Part) (longest further : ℕ → ℕ) → ((k : ℕ) → k < length set.tasks → parts k ≡ others k) → ((k : ℕ) → k < length set.tasks → longest k ≡ further k)
-    → Agree (classic_demands set parts longest) (classic_demands set others further) (length set.tasks)
-demands_agree set parts others longest further P L window other i l same = classic_same set parts others longest further i l P L
+pub demands_agree : (set : TaskSet) (parts others : ℕ → Part) (longest further : ℕ → ℕ)
+    → ((k : ℕ) → k < length set.tasks → parts k ≡ others k)
+    → ((k : ℕ) → k < length set.tasks → longest k ≡ further k)
+    → Agree (classic_demands set parts longest) (classic_demands set others further)
+    (length set.tasks)
+demands_agree set parts others longest further P L window other i l same =
+    classic_same set parts others longest further i l P L
 
-pub jitters_in_deadlines : (set : TaskSet) (parts : ℕ → Part) (longest : ℕ → ℕ) (choices : List Choice) (i : ℕ) → AreChoices set (classic_demands set parts longest) choices i
+pub jitters_in_deadlines : (set : TaskSet) (parts : ℕ → Part) (longest : ℕ → ℕ)
+    (choices : List Choice) (i : ℕ) → AreChoices set (classic_demands set parts longest) choices i
     → (k : ℕ) → k < i → jitter_of set k ≤ deadline_of set k
 jitters_in_deadlines set parts longest choices i before k l =
-    let d = (smaller_is_window set (classic_demand set parts longest k) k (method_at choices k) (window_at choices k) (before k l)).in_deadline in
+    let d = (smaller_is_window set (classic_demand set parts longest k) k (method_at choices k)
+    (window_at choices k) (before k l)).in_deadline in
     omega (arith, d)

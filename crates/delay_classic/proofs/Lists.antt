@@ -1,8 +1,10 @@
 -- Unions of lists of sets, and stretches of them.
-use Rattle.std.proofs.Common.{◌≡◌, ℕ, zero, suc, ◌+◌, ◌-◌, ◌*◌, ◌<◌, ◌≤◌, inl, inr, List, [], take, drop, length, get_or, refl, sym, ◌∙◌, ap, arith, true, false}
+use Rattle.std.proofs.Common.{◌≡◌, ℕ, zero, suc, ◌+◌, ◌-◌, ◌*◌, ◌<◌, ◌≤◌, inl, inr, List, [], take}
+use Rattle.std.proofs.Common.{drop, length, get_or, refl, sym, ◌∙◌, ap, arith, true, false}
 use Rattle.std.specs.Prelude.{Bool, ◌||◌}
 use Rattle.std.proofs.lemmas.Bool.{cases_Bool, cases_eq, true≢false}
-use Rattle.std.proofs.lemmas.List.{get_or_read, get_or-take, get_or-drop, length-take-le, length-drop}
+use Rattle.std.proofs.lemmas.List.{get_or_read, get_or-take, get_or-drop, length-take-le}
+use Rattle.std.proofs.lemmas.List.{length-drop}
 use Rattle.std.specs.Cmp.{both_ways}
 use Rattle.crpd_base.proofs.Bools.{or_false}
 use Rattle.crpd_base.specs.declared.data.Part.{Part}
@@ -12,7 +14,8 @@ use Rattle.crpd_base.specs.Sets.{has}
 use Rattle.useful_sets.specs.Sets.{IsUnionOfSets}
 use Rattle.delay_count.specs.Gamma.{shared_count, shared_sets, evicted_from}
 use Rattle.delay_count.specs.Demand.{greatest_from}
-use Rattle.delay_classic.specs.Gamma.{useful_to_some, useful_in, classic_ucb_delay, classic_ecb_delay, ucb_sets, ecb_sets}
+use Rattle.delay_classic.specs.Gamma.{useful_to_some, useful_in, classic_ucb_delay}
+use Rattle.delay_classic.specs.Gamma.{classic_ecb_delay, ucb_sets, ecb_sets}
 use Rattle.delay_classic.specs.Inner.Charged.{classic_sets}
 use Rattle.delay_count.proofs.Bits.{shared_most, product}
 use Rattle.delay_count.proofs.Greatest.{greatest_le, greatest_moved}
@@ -20,18 +23,21 @@ use Rattle.delay_count.proofs.Delays.{shared_same}
 use Rattle.delay_classic.proofs.Useful.{some_more, some_moved}
 
 -- a set that is useful to some task is so to one of them
-some_of : (useful : ℕ → ℕ → Bool) (n c : ℕ) → useful_to_some useful 0 n c ≡ true → (k : ℕ) × (k < n) × (useful k c ≡ true)
+some_of : (useful : ℕ → ℕ → Bool) (n c : ℕ) → useful_to_some useful 0 n c ≡ true
+    → (k : ℕ) × (k < n) × (useful k c ≡ true)
 some_of useful zero c h = absurd (true≢false (sym h))
 some_of useful (suc n) c h =
     let m = some_more useful 0 n c (omega arith) in
     elim (cases_Bool (useful n c)) [
       | inl b ↦ (n, omega arith, b)
       | inr b ↦
-          let rest = some_of useful n c (sym (ap (λ z. z || useful_to_some useful 0 n c) b) ∙ sym m ∙ h) in
+          let rest = some_of useful n c
+          (sym (ap (λ z. z || useful_to_some useful 0 n c) b) ∙ sym m ∙ h) in
           (rest.0, omega (arith, rest.1), rest.2)
     ]
 
-to_some : (useful : ℕ → ℕ → Bool) (n c k : ℕ) → k < n → useful k c ≡ true → useful_to_some useful 0 n c ≡ true
+to_some : (useful : ℕ → ℕ → Bool) (n c k : ℕ) → k < n → useful k c ≡ true
+    → useful_to_some useful 0 n c ≡ true
 to_some useful zero c k l h = absurd (omega arith)
 to_some useful (suc n) c k l h =
     let m = some_more useful 0 n c (omega arith) in
@@ -40,27 +46,38 @@ to_some useful (suc n) c k l h =
       | inr b ↦
           elim (cases_eq k n) [
             | inl e ↦ absurd (true≢false (sym h ∙ ap (λ x. useful x c) e ∙ b))
-            | inr ne ↦ m ∙ ap (λ z. z || useful_to_some useful 0 n c) b ∙ to_some useful n c k (omega arith) h
+            | inr ne ↦
+                m ∙ ap (λ z. z || useful_to_some useful 0 n c) b
+                ∙ to_some useful n c k (omega arith) h
           ]
     ]
 
-pub union_has : (sets : List (List ℕ)) (union : List ℕ) (c : ℕ) → IsUnionOfSets sets union → has union c ≡ useful_to_some (useful_in sets) 0 (length sets) c
+pub union_has : (sets : List (List ℕ)) (union : List ℕ) (c : ℕ) → IsUnionOfSets sets union
+    → has union c ≡ useful_to_some (useful_in sets) 0 (length sets) c
 union_has sets union c u =
     both_ways (has union c) (useful_to_some (useful_in sets) 0 (length sets) c)
     (λ t. let some = (u c).0 t in to_some (useful_in sets) (length sets) c some.0 some.1 some.2)
     (λ t. let some = some_of (useful_in sets) (length sets) c t in (u c).1 some)
 
-pub union_shared : (sets : List (List ℕ)) (union evicted : List ℕ) (n : ℕ) → IsUnionOfSets sets union
-    → shared_count (has union) (has evicted) n ≡ shared_count (useful_to_some (useful_in sets) 0 (length sets)) (has evicted) n
+pub union_shared : (sets : List (List ℕ)) (union evicted : List ℕ) (n : ℕ)
+    → IsUnionOfSets sets union
+    → shared_count (has union) (has evicted) n
+    ≡ shared_count (useful_to_some (useful_in sets) 0 (length sets)) (has evicted) n
 union_shared sets union evicted n u =
-    shared_same (has union) (useful_to_some (useful_in sets) 0 (length sets)) (has evicted) (has evicted) n (λ c. union_has sets union c u) (λ c. refl)
+    shared_same (has union) (useful_to_some (useful_in sets) 0 (length sets)) (has evicted)
+    (has evicted) n (λ c. union_has sets union c u) (λ c. refl)
 
 -- at most all cache sets
 pub sets_few : (parts : ℕ → Part) (method : Method) (i j : ℕ) → classic_sets parts method i j ≤ 512
-sets_few parts Ucb i j = shared_most (useful_to_some (λ k. has (parts k).useful) (suc j) (suc i)) (has (parts j).evicting) 512
-sets_few parts Ecb i j = greatest_le (shared_sets parts j) (suc j) (suc i) 512 (λ k h. shared_most (has (parts k).useful) (evicted_from parts j) 512)
+sets_few parts Ucb i j =
+    shared_most (useful_to_some (λ k. has (parts k).useful) (suc j) (suc i))
+    (has (parts j).evicting) 512
+sets_few parts Ecb i j =
+    greatest_le (shared_sets parts j) (suc j) (suc i) 512
+    (λ k h. shared_most (has (parts k).useful) (evicted_from parts j) 512)
 
-some_same : (f g : ℕ → ℕ → Bool) (n c : ℕ) → ((k : ℕ) → k < n → f k c ≡ g k c) → useful_to_some f 0 n c ≡ useful_to_some g 0 n c
+some_same : (f g : ℕ → ℕ → Bool) (n c : ℕ) → ((k : ℕ) → k < n → f k c ≡ g k c)
+    → useful_to_some f 0 n c ≡ useful_to_some g 0 n c
 some_same f g zero c same = refl
 some_same f g (suc n) c same =
     some_more f 0 n c (omega arith)
@@ -68,16 +85,23 @@ some_same f g (suc n) c same =
     ∙ ap (λ z. g n c || z) (some_same f g n c (λ k h. same k (omega arith)))
     ∙ sym (some_more g 0 n c (omega arith))
 
-evicted_is : (parts : ℕ → Part) (j c : ℕ) → useful_to_some (λ k. has (parts k).evicting) 0 (suc j) c ≡ evicted_from parts j c
-evicted_is parts zero c = some_more (λ k. has (parts k).evicting) 0 0 c (omega arith) ∙ or_false (has (parts 0).evicting c)
-evicted_is parts (suc j) c = some_more (λ k. has (parts k).evicting) 0 (suc j) c (omega arith) ∙ ap (λ z. has (parts (suc j)).evicting c || z) (evicted_is parts j c)
+evicted_is : (parts : ℕ → Part) (j c : ℕ)
+    → useful_to_some (λ k. has (parts k).evicting) 0 (suc j) c ≡ evicted_from parts j c
+evicted_is parts zero c =
+    some_more (λ k. has (parts k).evicting) 0 0 c (omega arith)
+    ∙ or_false (has (parts 0).evicting c)
+evicted_is parts (suc j) c =
+    some_more (λ k. has (parts k).evicting) 0 (suc j) c (omega arith)
+    ∙ ap (λ z. has (parts (suc j)).evicting c || z) (evicted_is parts j c)
 
 one : (a : ℕ) → a * 1 ≡ a
 one a = omega arith
 
 -- the sets of the tasks from one on to another, as a stretch of the list of all
-module _ (parts : ℕ → Part) (useful evicting : List (List ℕ)) (i j n : ℕ) (order : j ≤ i) (room : i < n) (long : n ≤ length useful) (wide : n ≤ length evicting)
-    (uses : (k : ℕ) → k < n → get_or useful k [] ≡ (parts k).useful) (evicts : (k : ℕ) → k < n → get_or evicting k [] ≡ (parts k).evicting) where
+module _ (parts : ℕ → Part) (useful evicting : List (List ℕ)) (i j n : ℕ) (order : j ≤ i)
+    (room : i < n) (long : n ≤ length useful) (wide : n ≤ length evicting)
+    (uses : (k : ℕ) → k < n → get_or useful k [] ≡ (parts k).useful)
+    (evicts : (k : ℕ) → k < n → get_or evicting k [] ≡ (parts k).evicting) where
   abbrev lower : List (List ℕ)
   lower = take (i + 1 - (j + 1)) (drop (j + 1) useful)
 
@@ -100,31 +124,47 @@ module _ (parts : ℕ → Part) (useful evicting : List (List ℕ)) (i j n : ℕ
   end_is : suc j + (i - j) ≡ suc i
   end_is = omega arith
 
-  useful_is : (c : ℕ) → useful_to_some (useful_in lower) 0 (length lower) c ≡ useful_to_some (λ k. has (parts k).useful) (suc j) (suc i) c
+  useful_is : (c : ℕ) → useful_to_some (useful_in lower) 0 (length lower) c
+      ≡ useful_to_some (λ k. has (parts k).useful) (suc j) (suc i) c
   useful_is c =
       ap (λ x. useful_to_some (useful_in lower) 0 x c) lower_length
-      ∙ some_moved (useful_in lower) (λ k. has (parts k).useful) (suc j) (i - j) c (λ k h. ap (λ x. has x c) (lower_at k h))
+      ∙ some_moved (useful_in lower) (λ k. has (parts k).useful) (suc j) (i - j) c
+      (λ k h. ap (λ x. has x c) (lower_at k h))
       ∙ ap (λ x. useful_to_some (λ k. has (parts k).useful) (suc j) x c) end_is
 
-  pub ucb_reloads : (miss result : ℕ) (own : List ℕ) → own ≡ get_or evicting j own → result ≡ classic_ucb_delay miss 1 own lower 512 → result ≡ miss * ucb_sets parts i j
+  pub ucb_reloads : (miss result : ℕ) (own : List ℕ) → own ≡ get_or evicting j own
+      → result ≡ classic_ucb_delay miss 1 own lower 512 → result ≡ miss * ucb_sets parts i j
   ucb_reloads miss result own e is =
-      let at : own ≡ (parts j).evicting = get_or_read evicting j own (omega arith) e [] ∙ evicts j (omega arith) in
-      let same = shared_same (useful_to_some (useful_in lower) 0 (length lower)) (useful_to_some (λ k. has (parts k).useful) (suc j) (suc i)) (has own) (has (parts j).evicting) 512 useful_is (λ c. ap (λ x. has x c) at) in
-      is ∙ product (miss * 1) (shared_count (useful_to_some (useful_in lower) 0 (length lower)) (has own) 512) miss (ucb_sets parts i j) (one miss) same
+      let at : own ≡ (parts j).evicting =
+      get_or_read evicting j own (omega arith) e [] ∙ evicts j (omega arith) in
+      let same = shared_same (useful_to_some (useful_in lower) 0 (length lower))
+      (useful_to_some (λ k. has (parts k).useful) (suc j) (suc i)) (has own)
+      (has (parts j).evicting) 512 useful_is (λ c. ap (λ x. has x c) at) in
+      is ∙ product (miss * 1)
+      (shared_count (useful_to_some (useful_in lower) 0 (length lower)) (has own) 512) miss
+      (ucb_sets parts i j) (one miss) same
 
   up_is : (up : List ℕ) (c : ℕ) → IsUnionOfSets above up → has up c ≡ evicted_from parts j c
   up_is up c u =
       let l : length above ≡ suc j = length-take-le (j + 1) evicting (omega arith) ∙ omega arith in
       union_has above up c u
       ∙ ap (λ x. useful_to_some (useful_in above) 0 x c) l
-      ∙ some_same (useful_in above) (λ k. has (parts k).evicting) (suc j) c (λ k h. ap (λ x. has x c) (get_or-take (j + 1) evicting k [] (omega arith) ∙ evicts k (omega arith)))
+      ∙ some_same (useful_in above) (λ k. has (parts k).evicting) (suc j) c
+      (λ k h. ap (λ x. has x c)
+      (get_or-take (j + 1) evicting k [] (omega arith) ∙ evicts k (omega arith)))
       ∙ evicted_is parts j c
 
-  pub ecb_reloads : (miss result : ℕ) (up : List ℕ) → IsUnionOfSets above up → result ≡ classic_ecb_delay miss 1 up lower 512 → result ≡ miss * ecb_sets parts i j
+  pub ecb_reloads : (miss result : ℕ) (up : List ℕ) → IsUnionOfSets above up
+      → result ≡ classic_ecb_delay miss 1 up lower 512 → result ≡ miss * ecb_sets parts i j
   ecb_reloads miss result up u is =
-      let same : greatest_from (λ k. shared_count (useful_in lower k) (has up) 512) 0 (length lower) ≡ ecb_sets parts i j =
+      let same : greatest_from (λ k. shared_count (useful_in lower k) (has up) 512) 0 (length lower)
+      ≡ ecb_sets parts i j =
       ap (λ x. greatest_from (λ k. shared_count (useful_in lower k) (has up) 512) 0 x) lower_length
-      ∙ greatest_moved (λ k. shared_count (useful_in lower k) (has up) 512) (shared_sets parts j) (suc j) (i - j)
-      (λ k h. shared_same (useful_in lower k) (has (parts (suc j + k)).useful) (has up) (evicted_from parts j) 512 (λ c. ap (λ x. has x c) (lower_at k h)) (λ c. up_is up c u))
+      ∙ greatest_moved (λ k. shared_count (useful_in lower k) (has up) 512) (shared_sets parts j)
+      (suc j) (i - j)
+      (λ k h. shared_same (useful_in lower k) (has (parts (suc j + k)).useful) (has up)
+      (evicted_from parts j) 512 (λ c. ap (λ x. has x c) (lower_at k h)) (λ c. up_is up c u))
       ∙ ap (λ x. greatest_from (shared_sets parts j) (suc j) x) end_is in
-      is ∙ product (miss * 1) (greatest_from (λ k. shared_count (useful_in lower k) (has up) 512) 0 (length lower)) miss (ecb_sets parts i j) (one miss) same
+      is ∙ product (miss * 1)
+      (greatest_from (λ k. shared_count (useful_in lower k) (has up) 512) 0 (length lower)) miss
+      (ecb_sets parts i j) (one miss) same

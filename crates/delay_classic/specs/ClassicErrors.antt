@@ -15,5 +15,6 @@ use Rattle.delay_classic.specs.Demand.{classic_demands}
 abbrev pub IsClassicError : TaskSet → (ℕ → TaskGraph) → BuildError → Type 0
 IsClassicError set graphs (Unschedulable t) =
     (parts : List TaskPart) × AreBestParts set graphs parts × (entries parts ≤ 4000000)
-    × IsFirstWithoutWindow set (classic_demands set (part_in parts) (longest_at set.platform graphs)) t.0
+    × IsFirstWithoutWindow set
+    (classic_demands set (part_in parts) (longest_at set.platform graphs)) t.0
 IsClassicError set graphs e = HaveNoAnalyses set graphs e

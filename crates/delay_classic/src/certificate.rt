@@ -18,15 +18,17 @@ use flat_graph::Graph;
 use loop_regions::Nest;
 use std::alloc::Global;
 
-/// The certificate with the plain union delays of a task set with these graphs and regions, one of each for each task: it has
-/// the analysis of each task's code, and the windows, methods and responses by the plain UCB-union and ECB-union delays. Where
-/// there is one, there is the analysis' certificate too, and none of its windows is longer. There is exactly one, and the
+/// The certificate with the plain union delays of a task set with these graphs and regions, one of
+/// each for each task: it has the analysis of each task's code, and the windows, methods and
+/// responses by the plain UCB-union and ECB-union delays. Where there is one, there is the
+/// analysis' certificate too, and none of its windows is longer. There is exactly one, and the
 /// judge says yes to it.
 ///
-/// The refusals are want of memory; `TooLarge` for the first task whose execution bound exceeds 2^40 cycles, with the byte
-/// address of its entry; `TooManyEntries` with the number of the state entries where it exceeds 4,000,000; `Unschedulable`
-/// for the first task without a window. The first that applies is given, in this order. The time is that of the analyses,
-/// and of the windows.
+/// The refusals are want of memory; `TooLarge` for the first task whose execution bound exceeds
+/// 2^40 cycles, with the byte address of its entry; `TooManyEntries` with the number of the state
+/// entries where it exceeds 4,000,000; `Unschedulable` for the first task without a window. The
+/// first that applies is given, in this order. The time is that of the analyses, and of the
+/// windows.
 ///
 /// Source: Altmeyer, Davis and Maiza 2012.
 pub fn classic(
@@ -42,8 +44,11 @@ pub fn classic(
         (λ e. IsClassicError set.now (task_graph_at graphs.now nests.now) e) }
     ensures few { IfOk result (λ c. entries c.tasks ≤ 4000000) }
     ensures ranges { IfOk result IsCertificate }
-    ensures judged { IfOk result (λ c. IsJudged set.now (task_graph_at graphs.now nests.now) c Yes) }
-    ensures one { IfOk result (λ c. (d : Certificate) → IsClassic set.now (task_graph_at graphs.now nests.now) d → d ≡ c) }
+    ensures judged { IfOk result
+        (λ c. IsJudged set.now (task_graph_at graphs.now nests.now) c Yes) }
+    ensures one { IfOk result
+        (λ c. (d : Certificate) → IsClassic set.now (task_graph_at graphs.now nests.now) d
+        → d ≡ c) }
     ensures best { IfOk result (λ c. HasBest set.now (task_graph_at graphs.now nests.now) c) }
 {
     certificate_law();

@@ -1,10 +1,12 @@
 // The window of each task by the plain union delays.
-ghost use Rattle.std.specs.Prelude.{◌≡◌, ℕ, ◌^◌, ◌<◌, ◌≤◌, length, slice_index, MatchResult, MatchOption};
+ghost use Rattle.std.specs.Prelude.{◌≡◌, ℕ, ◌^◌, ◌<◌, ◌≤◌, length, slice_index, MatchResult};
+ghost use Rattle.std.specs.Prelude.{MatchOption};
 ghost use Rattle.crpd_base.specs.declared.data.Method.TheVariants.{Ucb, Ecb};
 ghost use Rattle.crpd_base.specs.Tasks.{HasTimes, deadline_of, jitter_of};
 ghost use Rattle.delay_count.specs.Gamma.{part_at};
 ghost use Rattle.delay_count.specs.Demand.{HasLongest};
-ghost use Rattle.response.specs.Windows.{IsWindow, HasNoWindow, IsSmallerWindow, AreAllChoices, IsWindowError};
+ghost use Rattle.response.specs.Windows.{IsWindow, HasNoWindow, IsSmallerWindow, AreAllChoices};
+ghost use Rattle.response.specs.Windows.{IsWindowError};
 ghost use Rattle.delay_classic.specs.Demand.{classic_demand, classic_demands};
 
 use crate::charged::charged_parts;
@@ -12,14 +14,16 @@ use crpd_base::{MOST_TASKS, Method, Part, Task, TaskSet};
 use response::{Choice, WindowError, smaller, window};
 use std::alloc::Global;
 
-/// The windows of all tasks by the plain union delays, from the highest down: for each the smaller of the windows by
-/// the two methods, the UCB-union one where they are equal. A window is the least number of cycles that the task's
-/// demand does not exceed; with the task's jitter it is at most the deadline.
+/// The windows of all tasks by the plain union delays, from the highest down: for each the smaller
+/// of the windows by the two methods, the UCB-union one where they are equal. A window is the least
+/// number of cycles that the task's demand does not exceed; with the task's jitter it is at most
+/// the deadline.
 ///
-/// It needs a part, with a bound of at most 2^40 cycles, and the longest instruction, from 1 to 2^20 cycles, of each
-/// task. `Unschedulable` names the first task that has no window by either method. The search goes on by lower bounds
-/// from the rates of the higher tasks, so it takes few steps also where these leave almost nothing. The only other
-/// error is want of memory, which is taken for the choices alone.
+/// It needs a part, with a bound of at most 2^40 cycles, and the longest instruction, from 1 to
+/// 2^20 cycles, of each task. `Unschedulable` names the first task that has no window by either
+/// method. The search goes on by lower bounds from the rates of the higher tasks, so it takes few
+/// steps also where these leave almost nothing. The only other error is want of memory, which is
+/// taken for the choices alone.
 pub fn classic_windows(
     alloc: Global,
     set: &TaskSet,
@@ -31,8 +35,10 @@ pub fn classic_windows(
     requires bounds { (k : ℕ) → k < length set.now.tasks → (part_at parts.now k).bound ≤ 2 ^ 40 }
     requires longest { HasLongest set.now longest.now }
     ensures { MatchResult result
-        (λ choices. AreAllChoices set.now (classic_demands set.now (part_at parts.now) (slice_index longest.now)) choices.items)
-        (λ e. IsWindowError set.now (classic_demands set.now (part_at parts.now) (slice_index longest.now)) e) }
+        (λ choices. AreAllChoices set.now
+        (classic_demands set.now (part_at parts.now) (slice_index longest.now)) choices.items)
+        (λ e. IsWindowError set.now
+        (classic_demands set.now (part_at parts.now) (slice_index longest.now)) e) }
 {
     let mut choices = Vec::new(alloc);
     for i in 0..set.tasks.as_slice().len() {
@@ -57,7 +63,8 @@ fn choice(set: &TaskSet, parts: &[Part], longest: &[u64], task: Task) -> Option<
     requires bounds { (k : ℕ) → k < length set.now.tasks → (part_at parts.now k).bound ≤ 2 ^ 40 }
     requires longest { HasLongest set.now longest.now }
     requires higher { (k : ℕ) → k < task.0 → jitter_of set.now k ≤ deadline_of set.now k }
-    ensures { let needs = classic_demand set.now (part_at parts.now) (slice_index longest.now) task.0 in
+    ensures { let needs =
+        classic_demand set.now (part_at parts.now) (slice_index longest.now) task.0 in
         MatchOption result
         (HasNoWindow set.now (needs Ucb) task.0 × HasNoWindow set.now (needs Ecb) task.0)
         (λ c. IsSmallerWindow set.now needs task.0 c.method c.window) }
@@ -67,8 +74,8 @@ fn choice(set: &TaskSet, parts: &[Part], longest: &[u64], task: Task) -> Option<
     smaller(ucb, ecb)
 }
 
-// The least window of a task by a plain union delay, if it is in the deadline with the jitter. No window of a higher task
-// counts in it.
+// The least window of a task by a plain union delay, if it is in the deadline with the jitter. No
+// window of a higher task counts in it.
 fn classic_window(
     set: &TaskSet,
     parts: &[Part],
@@ -82,8 +89,10 @@ fn classic_window(
     requires bounds { (k : ℕ) → k < length set.now.tasks → (part_at parts.now k).bound ≤ 2 ^ 40 }
     requires longest { HasLongest set.now longest.now }
     requires higher { (k : ℕ) → k < task.0 → jitter_of set.now k ≤ deadline_of set.now k }
-    ensures { let needs = classic_demand set.now (part_at parts.now) (slice_index longest.now) task.0 method in
-        MatchOption result (HasNoWindow set.now needs task.0) (λ w. IsWindow set.now needs task.0 w) }
+    ensures { let needs =
+        classic_demand set.now (part_at parts.now) (slice_index longest.now) task.0 method in
+        MatchOption result (HasNoWindow set.now needs task.0)
+        (λ w. IsWindow set.now needs task.0 w) }
 {
     let platform = &set.platform;
     let charged = charged_parts(platform.miss, parts, task, method);

@@ -5,7 +5,8 @@ use Rattle.crpd_base.specs.declared.data.Switching.TheVariants.{Cycle, Instructi
 use Rattle.crpd_base.specs.declared.data.TaskSet.{TaskSet}
 use Rattle.crpd_base.specs.declared.data.Part.{Part}
 use Rattle.crpd_base.specs.declared.data.Method.TheVariants.{Ucb, Ecb}
-use Rattle.delay_count.specs.Gamma.{gamma_ucb, gamma_ecb, union_count, shared_count, greatest_choice}
+use Rattle.delay_count.specs.Gamma.{gamma_ucb, gamma_ecb, union_count, shared_count}
+use Rattle.delay_count.specs.Gamma.{greatest_choice}
 use Rattle.delay_count.specs.Demand.{demand}
 use Rattle.delay_count.proofs.Samples.{platform, task, three, part, apart, crossed, aside}
 

@@ -9,14 +9,38 @@ use Rattle.crpd_base.specs.declared.data.TaskSet.{TaskSet}
 use Rattle.crpd_base.specs.declared.data.Part.{Part}
 
 abbrev pub platform : Switching → Platform
-platform mode = record { line = 16; sets = 8; hit = 1; miss = 10; memory = 3; taken = 2; switch = 5; mul = 0; div = 0; switching = mode }
+platform mode = record {
+  line = 16;
+  sets = 8;
+  hit = 1;
+  miss = 10;
+  memory = 3;
+  taken = 2;
+  switch = 5;
+  mul = 0;
+  div = 0;
+  switching = mode;
+}
 
 abbrev pub task : ℕ → ℕ → TaskSpec
-task period jitter = record { name = []; file = []; entry = None; period = period; deadline = period; jitter = jitter; stack = Number 0; global = Number 0; loops = [] }
+task period jitter = record {
+  name = [];
+  file = [];
+  entry = None;
+  period = period;
+  deadline = period;
+  jitter = jitter;
+  stack = Number 0;
+  global = Number 0;
+  loops = [];
+}
 
 -- the highest task of three has this period, the others 10,000
 abbrev pub three : ℕ → TaskSet
-three period = record { platform = platform Cycle; tasks = task period 0 ∷ task 10000 0 ∷ task 10000 0 ∷ [] }
+three period = record {
+  platform = platform Cycle;
+  tasks = task period 0 ∷ task 10000 0 ∷ task 10000 0 ∷ [];
+}
 
 -- a part, its sets as words of bits: 14 is the sets 1, 2 and 3
 abbrev pub part : ℕ → ℕ → ℕ → Part

@@ -1,9 +1,11 @@
 -- Counts of jobs, in windows.
-use Rattle.std.specs.Prelude.{◌<◌, ◌≤◌, ◌^◌, List, length, slice_index, ℕ, ◌+◌, ◌-◌, ◌*◌, ◌/◌, ◌==◌, nat_lt, if◌then◌else◌}
+use Rattle.std.specs.Prelude.{◌<◌, ◌≤◌, ◌^◌, List, length, slice_index, ℕ, ◌+◌, ◌-◌, ◌*◌, ◌/◌, ◌==◌}
+use Rattle.std.specs.Prelude.{nat_lt, if◌then◌else◌}
 use Rattle.crpd_base.specs.declared.data.TaskSet.{TaskSet}
 use Rattle.crpd_base.specs.Tasks.{period_of, jitter_of, deadline_of}
 
--- at most so many jobs of a task are released in a window: the window and the jitter by the period, rounded up
+-- at most so many jobs of a task are released in a window: the window and the jitter by the period,
+-- rounded up
 abbrev pub jobs_in : ℕ → ℕ → ℕ → ℕ
 jobs_in period jitter window = (window + jitter + (period - 1)) / period
 
@@ -11,9 +13,11 @@ jobs_in period jitter window = (window + jitter + (period - 1)) / period
 abbrev pub jobs_of : TaskSet → ℕ → ℕ → ℕ
 jobs_of set j w = jobs_in (period_of set j) (jitter_of set j) w
 
--- how often jobs of task j may preempt those of task k within a window w of task i: each job of k in its own window
+-- how often jobs of task j may preempt those of task k within a window w of task i: each job of k
+-- in its own window
 abbrev pub preemptions : TaskSet → (ℕ → ℕ) → ℕ → ℕ → ℕ → ℕ → ℕ
-preemptions set window w i j k = if k == i then jobs_of set j w else jobs_of set j (window k) * jobs_of set k w
+preemptions set window w i j k =
+    if k == i then jobs_of set j w else jobs_of set j (window k) * jobs_of set k w
 
 -- the same of the tasks that j can affect in a window of i: below j's priority, and at least i's
 abbrev pub affected_preemptions : TaskSet → (ℕ → ℕ) → ℕ → ℕ → ℕ → ℕ → ℕ

@@ -13,8 +13,8 @@ pub record Load : Type 0 where
   pub longest : ℕ → ℕ
   pub window : ℕ → ℕ
 
--- the same tasks with the same cache sets, where a reload, a switch, the bounds, the longest costs and the windows of the
--- higher tasks take at least as long
+-- the same tasks with the same cache sets, where a reload, a switch, the bounds, the longest costs
+-- and the windows of the higher tasks take at least as long
 pub record IsCostlier (a b : Load) (i : ℕ) : Type 0 where
   pub tasks : b.set.tasks ≡ a.set.tasks
   pub switching : b.set.platform.switching ≡ a.set.platform.switching
@@ -29,11 +29,14 @@ pub record IsCostlier (a b : Load) (i : ℕ) : Type 0 where
 -- the delay by a higher task, by either method, never falls as these and the window grow
 abbrev pub DelayGrows : Type 0
 DelayGrows =
-    (a b : Load) (i j w longer : ℕ) (method : Method) → HasTimes a.set → i < length a.set.tasks → j < i → IsCostlier a b i → w ≤ longer →
+    (a b : Load) (i j w longer : ℕ) (method : Method) → HasTimes a.set → i < length a.set.tasks
+    → j < i → IsCostlier a b i → w ≤ longer →
     gamma a.set a.parts a.window w method i j ≤ gamma b.set b.parts b.window longer method i j
 
 -- nor does the demand
 abbrev pub DemandGrows : Type 0
 DemandGrows =
-    (a b : Load) (i w longer : ℕ) (method : Method) → HasTimes a.set → i < length a.set.tasks → IsCostlier a b i → w ≤ longer →
-    demand a.set a.parts a.longest a.window i method w ≤ demand b.set b.parts b.longest b.window i method longer
+    (a b : Load) (i w longer : ℕ) (method : Method) → HasTimes a.set → i < length a.set.tasks
+    → IsCostlier a b i → w ≤ longer →
+    demand a.set a.parts a.longest a.window i method w
+    ≤ demand b.set b.parts b.longest b.window i method longer

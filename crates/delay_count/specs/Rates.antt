@@ -5,6 +5,8 @@ use Rattle.crpd_base.specs.declared.data.TaskSet.{TaskSet}
 use Rattle.crpd_base.specs.declared.data.Method.{Method}
 use Rattle.delay_count.specs.Demand.{higher_demand}
 
--- a rate, in parts of which 2 ^ 80 are one: a higher task j takes at least a window times it of every window of task i
+-- a rate, in parts of which 2 ^ 80 are one: a higher task j takes at least a window times it of
+-- every window of task i
 abbrev pub IsRate : TaskSet → (ℕ → Part) → (ℕ → ℕ) → Method → ℕ → ℕ → ℕ → Type 0
-IsRate set parts window method i j rate = (w : ℕ) → rate * w ≤ higher_demand set parts window w method i j * 2 ^ 80
+IsRate set parts window method i j rate =
+    (w : ℕ) → rate * w ≤ higher_demand set parts window w method i j * 2 ^ 80

@@ -10,13 +10,14 @@ use crpd_base::{MOST_TASKS, SetBits};
 // More than the number of any cache sets.
 const ABOVE_ALL: u32 = 65_537;
 
-/// The delay, in cycles, that `jobs` jobs bring by the ECB-union multiset method of Altmeyer, Davis and Maiza (2012):
-/// each of the jobs preempts one job of an affected task, no task more often than its count, and evicts those useful
-/// sets of it that are in `evicting_up`, the sets of all tasks of at least the jobs' priority. It is the greatest sum
-/// of reloads of `miss` cycles, found by filling from the greatest number of sets downwards.
+/// The delay, in cycles, that `jobs` jobs bring by the ECB-union multiset method of Altmeyer, Davis
+/// and Maiza (2012): each of the jobs preempts one job of an affected task, no task more often than
+/// its count, and evicts those useful sets of it that are in `evicting_up`, the sets of all tasks
+/// of at least the jobs' priority. It is the greatest sum of reloads of `miss` cycles, found by
+/// filling from the greatest number of sets downwards.
 ///
-/// At most 32 shares, each with a count below 2^81. It takes no memory. Its time is at most that of all pairs of two
-/// shares, and of each share's set.
+/// At most 32 shares, each with a count below 2^81. It takes no memory. Its time is at most that of
+/// all pairs of two shares, and of each share's set.
 pub fn gamma_ecb<const W: usize>(
     miss: u32,
     jobs: u64,
@@ -85,7 +86,8 @@ fn count_of_value<const W: usize>(values: &[u32], lower: &[Share<W>], value: u32
     requires values { length lower.now ≤ length values.now }
     requires shares { length lower.now ≤ 32 }
     requires counts { (k : ℕ) → k < length lower.now → count_at lower.now k < 2 ^ 81 }
-    ensures { result ≡ sum_at_value (slice_index values.now) (count_at lower.now) (length lower.now) value }
+    ensures { result ≡ sum_at_value (slice_index values.now) (count_at lower.now)
+        (length lower.now) value }
 {
     let mut count = 0;
     for k in 0..lower.len() {

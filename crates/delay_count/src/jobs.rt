@@ -8,8 +8,8 @@ ghost use Rattle.delay_count.specs.Gamma.{count_at, useful_at, part_at};
 use crate::share::Share;
 use crpd_base::{MOST_TASKS, Part, SetBits, TaskSet, WORDS};
 
-/// The jobs of a task that are released in a window of so many cycles, at most 2^40: the window and the task's jitter
-/// over its period, rounded up. In constant time.
+/// The jobs of a task that are released in a window of so many cycles, at most 2^40: the window and
+/// the task's jitter over its period, rounded up. In constant time.
 pub fn jobs(set: &TaskSet, task: usize, window: u64) -> u64
     requires times { HasTimes set.now }
     requires task { task < length set.now.tasks }
@@ -20,9 +20,9 @@ pub fn jobs(set: &TaskSet, task: usize, window: u64) -> u64
     (window + task.jitter + (task.period - 1)) / task.period
 }
 
-/// How often jobs of task `j` may preempt those of each task in a window of `window` cycles of task `i`, 0 for the
-/// tasks that they do not preempt, and the useful sets of that task. Linear in the tasks, each with its set; it takes
-/// no memory.
+/// How often jobs of task `j` may preempt those of each task in a window of `window` cycles of task
+/// `i`, 0 for the tasks that they do not preempt, and the useful sets of that task. Linear in the
+/// tasks, each with its set; it takes no memory.
 pub fn affected_shares(
     set: &TaskSet,
     parts: &[Part],
@@ -38,7 +38,8 @@ pub fn affected_shares(
     requires windows { HasWindows set.now windows.now i }
     requires window { window ≤ 2 ^ 40 }
     ensures size { length result ≡ 32 }
-    ensures counts { (k : ℕ) → k ≤ i → count_at result k ≡ affected_preemptions set.now (slice_index windows.now) window i j k }
+    ensures counts { (k : ℕ) → k ≤ i
+        → count_at result k ≡ affected_preemptions set.now (slice_index windows.now) window i j k }
     ensures useful { (k c : ℕ) → k ≤ i → useful_at result k c ≡ has (part_at parts.now k).useful c }
 {
     let none = Share {

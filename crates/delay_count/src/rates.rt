@@ -19,10 +19,10 @@ const ONE: u128 = 1_208_925_819_614_629_174_706_176;
 // One job in each cycle, as a rate: 2^63.
 const ONE_JOB: u64 = 9_223_372_036_854_775_808;
 
-/// A rate, with 2^80 to one, at which a higher task takes of every window of a task at least: its jobs as if they were
-/// released evenly, each with its bound and two switches, and the delay by the evictions of so many jobs. The higher
-/// task is one above the task. It needs what `demand` needs but the longest instructions. Its time is that of the
-/// delay; it takes no memory.
+/// A rate, with 2^80 to one, at which a higher task takes of every window of a task at least: its
+/// jobs as if they were released evenly, each with its bound and two switches, and the delay by the
+/// evictions of so many jobs. The higher task is one above the task. It needs what `demand` needs
+/// but the longest instructions. Its time is that of the delay; it takes no memory.
 pub fn least_rate(
     set: &TaskSet,
     parts: &[Part],
@@ -37,7 +37,8 @@ pub fn least_rate(
     requires parts { task.0 < length parts.now }
     requires windows { HasWindows set.now windows.now task.0 }
     ensures most { result ≤ 2 ^ 80 }
-    ensures is { IsRate set.now (part_at parts.now) (slice_index windows.now) method task.0 higher.0 result }
+    ensures is { IsRate set.now (part_at parts.now) (slice_index windows.now) method task.0
+        higher.0 result }
 {
     let (i, j) = (task.0 as usize, higher.0 as usize);
     let jobs = jobs_rate(set, parts, j);
@@ -52,7 +53,9 @@ fn jobs_rate(set: &TaskSet, parts: &[Part], j: usize) -> u128
     requires parts { j < length parts.now }
     ensures most { result ≤ 2 ^ 80 }
     ensures is { (w : ℕ) →
-        result * w ≤ jobs_of set.now j w * ((part_at parts.now j).bound + (set.now.platform.switch + set.now.platform.switch)) * 2 ^ 80 }
+        result * w ≤ jobs_of set.now j
+        w * ((part_at parts.now j).bound + (set.now.platform.switch + set.now.platform.switch)) * 2
+        ^ 80 }
 {
     let platform = &set.platform;
     let part = &parts[j];
@@ -77,7 +80,8 @@ fn delay_rate(
     requires parts { i < length parts.now }
     requires windows { HasWindows set.now windows.now i }
     ensures most { result ≤ 2 ^ 80 }
-    ensures is { (w : ℕ) → result * w ≤ gamma set.now (part_at parts.now) (slice_index windows.now) w method i j * 2 ^ 80 }
+    ensures is { (w : ℕ) → result * w
+        ≤ gamma set.now (part_at parts.now) (slice_index windows.now) w method i j * 2 ^ 80 }
 {
     let shares = rate_shares(set, parts, windows, i, j);
     let platform = &set.platform;
@@ -93,7 +97,8 @@ fn delay_rate(
     delay.min(u128::from(ONE_JOB)) * (ONE / u128::from(ONE_JOB))
 }
 
-// How often jobs of task `j` may preempt those of each task in a cycle of task `i`, and the useful sets of that task.
+// How often jobs of task `j` may preempt those of each task in a cycle of task `i`, and the useful
+// sets of that task.
 fn rate_shares(
     set: &TaskSet,
     parts: &[Part],
@@ -107,7 +112,8 @@ fn rate_shares(
     requires parts { i < length parts.now }
     requires windows { HasWindows set.now windows.now i }
     ensures size { length result ≡ 32 }
-    ensures counts { (k : ℕ) → k ≤ i → count_at result k ≡ affected_rate set.now (slice_index windows.now) i j k }
+    ensures counts { (k : ℕ) → k ≤ i
+        → count_at result k ≡ affected_rate set.now (slice_index windows.now) i j k }
     ensures useful { (k c : ℕ) → k ≤ i → useful_at result k c ≡ has (part_at parts.now k).useful c }
 {
     let none = Share {

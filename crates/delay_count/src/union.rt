@@ -6,12 +6,13 @@ ghost use Rattle.delay_count.specs.Inner.Words.{word_share, useful_words};
 use crate::share::Share;
 use crpd_base::{MOST_TASKS, SetBits};
 
-/// The delay, in cycles, that `jobs` jobs bring by the sets of `evicting`, by the UCB-union multiset method of
-/// Altmeyer, Davis and Maiza (2012): a reload of `miss` cycles, for each set at most as often as there are jobs, and
-/// at most as often as the affected tasks that find the set useful may be preempted.
+/// The delay, in cycles, that `jobs` jobs bring by the sets of `evicting`, by the UCB-union
+/// multiset method of Altmeyer, Davis and Maiza (2012): a reload of `miss` cycles, for each set at
+/// most as often as there are jobs, and at most as often as the affected tasks that find the set
+/// useful may be preempted.
 ///
-/// At most 32 shares, each with a count below 2^81. It takes no memory, and works on words of 64 sets; its time is at
-/// most that of all pairs of a set and a share.
+/// At most 32 shares, each with a count below 2^81. It takes no memory, and works on words of 64
+/// sets; its time is at most that of all pairs of a set and a share.
 pub fn gamma_ucb<const W: usize>(
     miss: u32,
     jobs: u64,
@@ -49,7 +50,8 @@ fn counts_of<const W: usize>(lower: &[Share<W>]) -> [u128; MOST_TASKS]
 fn words_at<const W: usize>(lower: &[Share<W>], place: usize) -> [u64; MOST_TASKS]
     requires shares { length lower.now ≤ 32 }
     requires place { place < W }
-    ensures { (k : ℕ) → k < length lower.now → slice_index result k ≡ useful_words lower.now place k }
+    ensures { (k : ℕ) → k < length lower.now
+        → slice_index result k ≡ useful_words lower.now place k }
 {
     let mut words = [0; MOST_TASKS];
     for k in 0..lower.len() {
@@ -59,7 +61,8 @@ fn words_at<const W: usize>(lower: &[Share<W>], place: usize) -> [u64; MOST_TASK
     words
 }
 
-// The shares of the sets of one word, given what the tasks past the first `tasks` have counted for each of them.
+// The shares of the sets of one word, given what the tasks past the first `tasks` have counted for
+// each of them.
 fn share_of_word(
     jobs: u64,
     word: u64,
@@ -72,7 +75,8 @@ fn share_of_word(
     requires tasks { tasks ≤ length counts.now }
     requires counts { (k : ℕ) → k < tasks → slice_index counts.now k < 2 ^ 81 }
     requires counted { counted < 2 ^ 82 }
-    ensures { result ≡ word_share jobs word (slice_index useful.now) (slice_index counts.now) tasks counted }
+    ensures { result ≡ word_share jobs word (slice_index useful.now) (slice_index counts.now)
+        tasks counted }
 {
     if word == 0 {
         return 0;

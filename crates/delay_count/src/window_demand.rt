@@ -4,7 +4,8 @@ ghost use Rattle.crpd_base.specs.Sets.{has};
 ghost use Rattle.crpd_base.specs.Tasks.{HasTimes};
 ghost use Rattle.delay_count.specs.Counts.{HasWindows};
 ghost use Rattle.delay_count.specs.Gamma.{count_at, useful_at, part_at, evicted_from};
-ghost use Rattle.delay_count.specs.Demand.{HasLongest, greatest_from, blocking, gamma, own_demand, higher_demand, demand, charged_delays};
+ghost use Rattle.delay_count.specs.Demand.{HasLongest, greatest_from, blocking, gamma, own_demand};
+ghost use Rattle.delay_count.specs.Demand.{higher_demand, demand, charged_delays};
 ghost use Rattle.delay_count.specs.Inner.Rates.{gamma_by};
 
 use crate::choice::gamma_ecb;
@@ -13,13 +14,15 @@ use crate::share::Share;
 use crate::union::gamma_ucb;
 use crpd_base::{Method, Part, SetBits, Switching, Task, TaskSet, WORDS};
 
-/// The cycles that the jobs of a window of `w` cycles may demand of the core until a job of the task has answered:
-/// its context switch, its execution bound, what an instruction begun before may take, and for each job of a higher
-/// task its bound, two switches and the delay by the cache sets that it evicts (Altmeyer, Davis and Maiza, 2012).
+/// The cycles that the jobs of a window of `w` cycles may demand of the core until a job of the
+/// task has answered: its context switch, its execution bound, what an instruction begun before may
+/// take, and for each job of a higher task its bound, two switches and the delay by the cache sets
+/// that it evicts (Altmeyer, Davis and Maiza, 2012).
 ///
-/// It needs the longest instruction of each task, from 1 to 2^20 cycles; a part of the task and of all higher ones;
-/// and a window of each higher task, at most 2^40 and in that task's deadline with its jitter; `w` is at most 2^40.
-/// It takes no memory. Its time is that of the delays by each higher task.
+/// It needs the longest instruction of each task, from 1 to 2^20 cycles; a part of the task and of
+/// all higher ones; and a window of each higher task, at most 2^40 and in that task's deadline with
+/// its jitter; `w` is at most 2^40. It takes no memory. Its time is that of the delays by each
+/// higher task.
 pub fn demand(
     set: &TaskSet,
     parts: &[Part],
@@ -35,7 +38,8 @@ pub fn demand(
     requires longest { HasLongest set.now longest.now }
     requires windows { HasWindows set.now windows.now task.0 }
     requires w { w ≤ 2 ^ 40 }
-    ensures { result ≡ demand set.now (part_at parts.now) (slice_index longest.now) (slice_index windows.now) task.0 method w }
+    ensures { result ≡ demand set.now (part_at parts.now) (slice_index longest.now)
+        (slice_index windows.now) task.0 method w }
 {
     let i = task.0 as usize;
     let mut total = own_demand(set, parts, longest, task);
@@ -45,8 +49,9 @@ pub fn demand(
     total
 }
 
-/// What a task takes of its window by itself, in cycles: a context switch, its execution bound, and what an
-/// instruction begun before the window may take of it. Linear in the tasks; it takes no memory.
+/// What a task takes of its window by itself, in cycles: a context switch, its execution bound, and
+/// what an instruction begun before the window may take of it. Linear in the tasks; it takes no
+/// memory.
 pub fn own_demand(set: &TaskSet, parts: &[Part], longest: &[u64], task: Task) -> u128
     requires task { task.0 < length set.now.tasks }
     requires parts { task.0 < length parts.now }
@@ -62,9 +67,10 @@ pub fn own_demand(set: &TaskSet, parts: &[Part], longest: &[u64], task: Task) ->
         + u128::from(longest_begun(set, longest, i))
 }
 
-/// What a higher task takes of a window of `w` cycles of a task, in cycles: its jobs in the window, each with its
-/// bound and two switches, and the delay by the cache sets that they evict. The higher task is one above the task. It
-/// needs what `demand` needs but the longest instructions. Its time is that of the delay; it takes no memory.
+/// What a higher task takes of a window of `w` cycles of a task, in cycles: its jobs in the window,
+/// each with its bound and two switches, and the delay by the cache sets that they evict. The
+/// higher task is one above the task. It needs what `demand` needs but the longest instructions.
+/// Its time is that of the delay; it takes no memory.
 pub fn higher_demand(
     set: &TaskSet,
     parts: &[Part],
@@ -80,7 +86,8 @@ pub fn higher_demand(
     requires parts { task.0 < length parts.now }
     requires windows { HasWindows set.now windows.now task.0 }
     requires w { w ≤ 2 ^ 40 }
-    ensures is { result ≡ higher_demand set.now (part_at parts.now) (slice_index windows.now) w method task.0 higher.0 }
+    ensures is { result ≡ higher_demand set.now (part_at parts.now) (slice_index windows.now) w
+        method task.0 higher.0 }
     ensures most { result ≤ 2 ^ 113 }
 {
     let j = higher.0 as usize;
@@ -91,12 +98,13 @@ pub fn higher_demand(
     u128::from(jobs(set, j, w)) * each + delay(set, parts, windows, task.0 as usize, j, method, w)
 }
 
-/// The delays, in cycles, that the demand of a window of `w` cycles charges by a method, of all higher tasks
-/// together: of each the delay by the cache sets that its jobs in the window evict (Altmeyer, Davis and Maiza, 2012).
+/// The delays, in cycles, that the demand of a window of `w` cycles charges by a method, of all
+/// higher tasks together: of each the delay by the cache sets that its jobs in the window evict
+/// (Altmeyer, Davis and Maiza, 2012).
 ///
-/// It needs a part of the task and of all higher ones, and a window of each higher task, at most 2^40 and in that
-/// task's deadline with its jitter; `w` is at most 2^40. It takes no memory. Its time is that of the delays by each
-/// higher task.
+/// It needs a part of the task and of all higher ones, and a window of each higher task, at most
+/// 2^40 and in that task's deadline with its jitter; `w` is at most 2^40. It takes no memory. Its
+/// time is that of the delays by each higher task.
 pub fn charged_delays(
     set: &TaskSet,
     parts: &[Part],
@@ -110,7 +118,8 @@ pub fn charged_delays(
     requires parts { task.0 < length parts.now }
     requires windows { HasWindows set.now windows.now task.0 }
     requires w { w ≤ 2 ^ 40 }
-    ensures { result ≡ charged_delays set.now (part_at parts.now) (slice_index windows.now) task.0 method w }
+    ensures { result ≡ charged_delays set.now (part_at parts.now) (slice_index windows.now)
+        task.0 method w }
 {
     let i = task.0 as usize;
     let mut total = 0;
@@ -124,7 +133,8 @@ pub fn charged_delays(
 fn longest_begun(set: &TaskSet, longest: &[u64], i: usize) -> u64
     requires longest { HasLongest set.now longest.now }
     requires i { i < length set.now.tasks }
-    ensures is { result ≡ blocking set.now.platform.switching (slice_index longest.now) i (length set.now.tasks) }
+    ensures is { result ≡ blocking set.now.platform.switching (slice_index longest.now) i
+        (length set.now.tasks) }
     ensures most { result ≤ 2 ^ 20 }
 {
     match set.platform.switching {
@@ -137,7 +147,8 @@ fn longest_begun(set: &TaskSet, longest: &[u64], i: usize) -> u64
 fn longest_from(longest: &[u64], i: usize, tasks: usize) -> u64
     requires tasks { tasks ≤ length longest.now }
     requires i { i ≤ tasks }
-    requires range { (k : ℕ) → k < tasks → (1 ≤ slice_index longest.now k) × (slice_index longest.now k ≤ 2 ^ 20) }
+    requires range { (k : ℕ) → k < tasks
+        → (1 ≤ slice_index longest.now k) × (slice_index longest.now k ≤ 2 ^ 20) }
     ensures is { result ≡ greatest_from (λ k. slice_index longest.now k - 1) i tasks }
     ensures most { result ≤ 2 ^ 20 }
 {
@@ -172,8 +183,8 @@ fn delay(
     delay_by(platform.miss, parts, i, j, method, jobs(set, j, w), &shares)
 }
 
-/// The delay of task `i` by the evictions of so many jobs of a higher task `j`, in cycles, given the shares of the
-/// task and of all higher ones. It takes no memory.
+/// The delay of task `i` by the evictions of so many jobs of a higher task `j`, in cycles, given
+/// the shares of the task and of all higher ones. It takes no memory.
 pub fn delay_by(
     miss: u32,
     parts: &[Part],
@@ -188,7 +199,8 @@ pub fn delay_by(
     requires parts { i < length parts.now }
     requires size { length shares.now ≡ 32 }
     requires counts { (k : ℕ) → k ≤ i → count_at shares.now k < 2 ^ 81 }
-    requires useful { (k c : ℕ) → k ≤ i → useful_at shares.now k c ≡ has (part_at parts.now k).useful c }
+    requires useful { (k c : ℕ) → k ≤ i
+        → useful_at shares.now k c ≡ has (part_at parts.now k).useful c }
     ensures is { result ≡ gamma_by method miss (part_at parts.now) (count_at shares.now) jobs i j }
     ensures most { result ≤ 2 ^ 112 }
 {

@@ -1,5 +1,7 @@
 -- The search for the first header that shares an address with an earlier one.
-use Rattle.std.proofs.Common.{◌≡◌, ℕ, ◌+◌, ◌<◌, ◌≤◌, ltb, max, min, Bool, true, false, ◌&&◌, ◌||◌, not, List, [], ◌∷◌, ◌++◌, length, get_or, take, drop, Option, Some, refl, ap, sym, subst, ◌∙◌, arith}
+use Rattle.std.proofs.Common.{◌≡◌, ℕ, ◌+◌, ◌<◌, ◌≤◌, ltb, max, min, Bool, true, false, ◌&&◌, ◌||◌}
+use Rattle.std.proofs.Common.{not, List, [], ◌∷◌, ◌++◌, length, get_or, take, drop, Option, Some}
+use Rattle.std.proofs.Common.{refl, ap, sym, subst, ◌∙◌, arith}
 use Rattle.std.specs.Prelude.{if◌then◌else◌}
 use Rattle.std.specs.List.{list_any}
 use Rattle.std.proofs.lemmas.Bool.{and_parts, ltb-true}
@@ -7,19 +9,27 @@ use Rattle.std.proofs.lemmas.List.{drop_more, take_more, length-take-le}
 use Rattle.elf_reader.specs.declared.entries.ProgramHeader.{ProgramHeader}
 use Rattle.elf_reader.specs.Segments.{header_end, first_shared, is_loaded, occupies, shares}
 
-and_any : (b : Bool) (q : ProgramHeader → Bool) (hs : List ProgramHeader) → list_any (λ h. b && q h) hs ≡ (b && list_any q hs)
+and_any : (b : Bool) (q : ProgramHeader → Bool) (hs : List ProgramHeader)
+    → list_any (λ h. b && q h) hs ≡ (b && list_any q hs)
 and_any true q [] = refl
 and_any false q [] = refl
 and_any true q (h ∷ hs) = ap (λ t. q h || t) (and_any true q hs)
 and_any false q (h ∷ hs) = and_any false q hs
 
 -- a header shares an address with one of some headers
-pub any_shares : (h : ProgramHeader) (hs : List ProgramHeader) → list_any (shares h) hs ≡ (is_loaded h && list_any (occupies h.p_vaddr (header_end h)) hs)
+pub any_shares : (h : ProgramHeader) (hs : List ProgramHeader)
+    → list_any (shares h) hs ≡ (is_loaded h && list_any (occupies h.p_vaddr (header_end h)) hs)
 any_shares h hs = and_any (is_loaded h) (occupies h.p_vaddr (header_end h)) hs
 
-any_push : (q : ProgramHeader → Bool) (hs : List ProgramHeader) (h : ProgramHeader) → list_any q (hs ++ h ∷ []) ≡ (list_any q hs || q h)
+any_push : (q : ProgramHeader → Bool) (hs : List ProgramHeader) (h : ProgramHeader)
+    → list_any q (hs ++ h ∷ []) ≡ (list_any q hs || q h)
 any_push q [] h = elim (q h) as (λ b. (b || false) ≡ (false || b)) [ true ↦ refl | false ↦ refl ]
-any_push q (g ∷ hs) h = ap (λ t. q g || t) (any_push q hs h) ∙ elim (q g) as (λ b. (b || (list_any q hs || q h)) ≡ ((b || list_any q hs) || q h)) [ true ↦ refl | false ↦ refl ]
+any_push q (g ∷ hs) h =
+    ap (λ t. q g || t) (any_push q hs h)
+    ∙ elim (q g) as (λ b. (b || (list_any q hs || q h)) ≡ ((b || list_any q hs) || q h)) [
+      | true ↦ refl
+      | false ↦ refl
+    ]
 
 not_not : (x : Bool) → x ≡ not (not x)
 not_not true = refl
@@ -29,36 +39,53 @@ not_not false = refl
 abbrev pub blank : ProgramHeader
 blank = record { p_type = 0; p_offset = 0; p_vaddr = 0; p_filesz = 0; p_memsz = 0; p_flags = 0 }
 
-one_step : (hs : List ProgramHeader) (i : ℕ) (r : Option ℕ) → i < length hs → first_shared (take i hs) (drop i hs) ≡ r
-    → (if list_any (shares (get_or hs i blank)) (take i hs) then Some i else first_shared (take (i + 1) hs) (drop (i + 1) hs)) ≡ r
+one_step : (hs : List ProgramHeader) (i : ℕ) (r : Option ℕ) → i < length hs
+    → first_shared (take i hs) (drop i hs) ≡ r
+    → (if list_any (shares (get_or hs i blank)) (take i hs) then Some i
+    else first_shared (take (i + 1) hs) (drop (i + 1) hs)) ≡ r
 one_step hs i r lt e =
     let h : ProgramHeader = get_or hs i blank in
     let len : length (take i hs) ≡ i = length-take-le i hs (omega arith) in
-    rw (take_more hs i blank lt) (subst (λ n. (if list_any (shares h) (take i hs) then Some n else first_shared (take i hs ++ h ∷ []) (drop (i + 1) hs)) ≡ r) len (ap (first_shared (take i hs)) (sym (drop_more hs i blank lt)) ∙ e))
+    rw (take_more hs i blank lt)
+    (subst (λ n. (if list_any (shares h) (take i hs) then Some n
+    else first_shared (take i hs ++ h ∷ []) (drop (i + 1) hs)) ≡ r) len
+    (ap (first_shared (take i hs)) (sym (drop_more hs i blank lt)) ∙ e))
 
 -- this header is the first
-pub stops : (hs : List ProgramHeader) (i : ℕ) (r : Option ℕ) → i < length hs → first_shared (take i hs) (drop i hs) ≡ r
+pub stops : (hs : List ProgramHeader) (i : ℕ) (r : Option ℕ) → i < length hs
+    → first_shared (take i hs) (drop i hs) ≡ r
     → list_any (shares (get_or hs i blank)) (take i hs) ≡ true → Some i ≡ r
 stops hs i r lt e s = rw s at (one_step hs i r lt e)
 
 -- this one is not
-pub goes_on : (hs : List ProgramHeader) (i : ℕ) (r : Option ℕ) → i < length hs → first_shared (take i hs) (drop i hs) ≡ r
-    → list_any (shares (get_or hs i blank)) (take i hs) ≡ false → first_shared (take (i + 1) hs) (drop (i + 1) hs) ≡ r
+pub goes_on : (hs : List ProgramHeader) (i : ℕ) (r : Option ℕ) → i < length hs
+    → first_shared (take i hs) (drop i hs) ≡ r
+    → list_any (shares (get_or hs i blank)) (take i hs) ≡ false
+    → first_shared (take (i + 1) hs) (drop (i + 1) hs) ≡ r
 goes_on hs i r lt e s = rw s at (one_step hs i r lt e)
 
 -- one header more is occupied
 pub occupied_more : (from to : ℕ) (hs : List ProgramHeader) (i : ℕ) → i < length hs
-    → list_any (occupies from to) (take (i + 1) hs) ≡ (list_any (occupies from to) (take i hs) || occupies from to (get_or hs i blank))
-occupied_more from to hs i lt = rw (take_more hs i blank lt) (any_push (occupies from to) (take i hs) (get_or hs i blank))
+    → list_any (occupies from to) (take (i + 1) hs)
+    ≡ (list_any (occupies from to) (take i hs) || occupies from to (get_or hs i blank))
+occupied_more from to hs i lt =
+    rw (take_more hs i blank lt) (any_push (occupies from to) (take i hs) (get_or hs i blank))
 
 -- what adding a header told
-pub told : (hs : List ProgramHeader) (h : ProgramHeader) (free x : Bool) → x ≡ list_any (occupies h.p_vaddr (header_end h)) hs → free ≡ not (is_loaded h && x) → list_any (shares h) hs ≡ not free
-told hs h free x same is = any_shares h hs ∙ (ap (λ t. is_loaded h && t) (sym same) ∙ (not_not (is_loaded h && x) ∙ ap not (sym is)))
+pub told : (hs : List ProgramHeader) (h : ProgramHeader) (free x : Bool)
+    → x ≡ list_any (occupies h.p_vaddr (header_end h)) hs → free ≡ not (is_loaded h && x)
+    → list_any (shares h) hs ≡ not free
+told hs h free x same is =
+    any_shares h hs
+    ∙ (ap (λ t. is_loaded h && t) (sym same) ∙ (not_not (is_loaded h && x) ∙ ap not (sym is)))
 
 -- `shares` is what its name says: both are loaded, and some address is one of both
-pub shares_means : (h other : ProgramHeader) → shares h other ≡ true → (a : ℕ) × (h.p_vaddr ≤ a) × (a < header_end h) × (other.p_vaddr ≤ a) × (a < header_end other)
+pub shares_means : (h other : ProgramHeader) → shares h other ≡ true
+    → (a : ℕ) × (h.p_vaddr ≤ a) × (a < header_end h) × (other.p_vaddr ≤ a) × (a < header_end other)
 shares_means h other e =
     let parts = and_parts (is_loaded h) (occupies h.p_vaddr (header_end h) other) e in
-    let test = and_parts (is_loaded other) (ltb (max h.p_vaddr other.p_vaddr) (min (header_end h) (header_end other))) parts.1 in
-    let lt : max h.p_vaddr other.p_vaddr < min (header_end h) (header_end other) = ltb-true (max h.p_vaddr other.p_vaddr) (min (header_end h) (header_end other)) test.1 in
+    let test = and_parts (is_loaded other)
+    (ltb (max h.p_vaddr other.p_vaddr) (min (header_end h) (header_end other))) parts.1 in
+    let lt : max h.p_vaddr other.p_vaddr < min (header_end h) (header_end other) =
+    ltb-true (max h.p_vaddr other.p_vaddr) (min (header_end h) (header_end other)) test.1 in
     (max h.p_vaddr other.p_vaddr, omega arith, omega arith, omega arith, omega arith)

@@ -1,4 +1,5 @@
--- The fields of an ELF32 file, with the names of the ELF specification. Numbers stand lowest byte first.
+-- The fields of an ELF32 file, with the names of the ELF specification. Numbers stand lowest byte
+-- first.
 use Rattle.std.specs.Prelude.{ℕ, ◌+◌, List, drop, slice_index}
 use Rattle.byteorder.specs.Endian.{little_number}
 use Rattle.elf_reader.specs.declared.entries.ProgramHeader.{ProgramHeader}
@@ -74,7 +75,8 @@ section_header file place = record {
   sh_entsize = file_word file (place + 36);
 }
 
--- the name's place in the string section, the value, type and section; st_size and st_other are not read
+-- the name's place in the string section, the value, type and section; st_size and st_other are not
+-- read
 abbrev pub symbol_entry : List ℕ → ℕ → SymbolEntry
 symbol_entry file place = record {
   st_name = file_word file place;

@@ -1,5 +1,7 @@
 -- Program headers: which make segments, and what is wrong with them.
-use Rattle.std.specs.Prelude.{ℕ, ◌+◌, ◌*◌, ◌%◌, ◌^◌, ◌==◌, ◌<◌, ◌≤◌, min, max, Bool, not, ◌&&◌, ◌||◌, List, [], ◌∷◌, ◌++◌, length, map, filter, slice_range, nat_lt, nat_le, Option, Some, None, if◌then◌else◌}
+use Rattle.std.specs.Prelude.{ℕ, ◌+◌, ◌*◌, ◌%◌, ◌^◌, ◌==◌, ◌<◌, ◌≤◌, min, max, Bool, not, ◌&&◌}
+use Rattle.std.specs.Prelude.{◌||◌, List, [], ◌∷◌, ◌++◌, length, map, filter, slice_range, nat_lt}
+use Rattle.std.specs.Prelude.{nat_le, Option, Some, None, if◌then◌else◌}
 use Rattle.std.specs.List.{list_any, range_with_len, AllByRecursion}
 use Rattle.crpd_base.specs.declared.data.Segment.{Segment}
 use Rattle.elf_reader.specs.declared.entries.ProgramHeader.{ProgramHeader}
@@ -7,7 +9,8 @@ use Rattle.elf_reader.specs.Fields.{e_phoff, e_phnum, program_header}
 
 -- the program header table
 abbrev pub program_table : List ℕ → List ProgramHeader
-program_table file = map (λ i. program_header file (e_phoff file + 32 * i)) (range_with_len 0 (e_phnum file))
+program_table file =
+    map (λ i. program_header file (e_phoff file + 32 * i)) (range_with_len 0 (e_phnum file))
 
 -- PT_LOAD
 abbrev pub is_loaded : ProgramHeader → Bool
@@ -27,7 +30,9 @@ header_end h = h.p_vaddr + h.p_memsz
 
 -- its bytes lie in a file of this length, they fit its addresses, and these lie below 2 ^ 32
 abbrev pub lies_in_file : ℕ → ProgramHeader → Bool
-lies_in_file len h = nat_le (h.p_offset + h.p_filesz) len && nat_le h.p_filesz h.p_memsz && nat_le (header_end h) (2 ^ 32)
+lies_in_file len h =
+    nat_le (h.p_offset + h.p_filesz) len && nat_le h.p_filesz h.p_memsz
+    && nat_le (header_end h) (2 ^ 32)
 
 -- a header that is loaded and does not fit
 abbrev pub is_outside : ℕ → ProgramHeader → Bool
@@ -44,7 +49,9 @@ shares h other = is_loaded h && occupies h.p_vaddr (header_end h) other
 -- the place of the first header that shares an address with an earlier one
 abbrev pub first_shared : List ProgramHeader → List ProgramHeader → Option ℕ
 first_shared earlier [] = None
-first_shared earlier (h ∷ hs) = if list_any (shares h) earlier then Some (length earlier) else first_shared (earlier ++ h ∷ []) hs
+first_shared earlier (h ∷ hs) =
+    if list_any (shares h) earlier then Some (length earlier)
+    else first_shared (earlier ++ h ∷ []) hs
 
 -- a header that is loaded, executable and not without bytes
 abbrev pub is_code : ProgramHeader → Bool

@@ -1,5 +1,8 @@
 -- Sections and symbols.
-use Rattle.std.specs.Prelude.{ℕ, ◌+◌, ◌*◌, ◌/◌, ◌%◌, ◌==◌, Bool, ◌&&◌, ◌||◌, List, [], length, drop, take, map, filter_map, find, position, slice_get, slice_range, nat_le, Option, Some, None, option_and_then, option_map, Result, Ok, Err, if◌then◌else◌}
+use Rattle.std.specs.Prelude.{ℕ, ◌+◌, ◌*◌, ◌/◌, ◌%◌, ◌==◌, Bool, ◌&&◌, ◌||◌, List, [], length, drop}
+use Rattle.std.specs.Prelude.{take, map, filter_map, find, position, slice_get, slice_range, nat_le}
+use Rattle.std.specs.Prelude.{Option, Some, None, option_and_then, option_map, Result, Ok, Err}
+use Rattle.std.specs.Prelude.{if◌then◌else◌}
 use Rattle.std.specs.List.{range_with_len}
 use Rattle.crpd_base.specs.declared.data.Symbol.{Symbol}
 use Rattle.elf_reader.specs.declared.entries.SectionHeader.{SectionHeader}
@@ -13,13 +16,15 @@ use Rattle.crpd_base.specs.Outcome.{◌>>=◌, ensure}
 
 -- the section header table
 abbrev pub section_table : List ℕ → List SectionHeader
-section_table file = map (λ i. section_header file (e_shoff file + 40 * i)) (range_with_len 0 (e_shnum file))
+section_table file =
+    map (λ i. section_header file (e_shoff file + 40 * i)) (range_with_len 0 (e_shnum file))
 
 -- the section headers; a file without a table has none
 unfoldable pub section_headers : List ℕ → Result (List SectionHeader) ElfError
 section_headers file =
     if e_shoff file == 0 || e_shnum file == 0 then Ok []
-    else if e_shentsize file == 40 && nat_le (e_shoff file + 40 * e_shnum file) (length file) then Ok (section_table file)
+    else if e_shentsize file == 40 && nat_le (e_shoff file + 40 * e_shnum file) (length file)
+    then Ok (section_table file)
     else Err SymbolsOutside
 
 -- SHT_SYMTAB
@@ -45,7 +50,8 @@ is_zero b = b == 0
 
 -- the bytes up to the first zero byte, unless there is none or it is the first byte
 unfoldable pub symbol_text : List ℕ → Option (List ℕ)
-symbol_text bytes = option_and_then (λ n. if n == 0 then None else Some (take n bytes)) (position is_zero bytes)
+symbol_text bytes =
+    option_and_then (λ n. if n == 0 then None else Some (take n bytes)) (position is_zero bytes)
 
 -- an undefined symbol (SHN_UNDEF), or the name of a source file (STT_FILE)
 abbrev pub is_passed_over : SymbolEntry → Bool
@@ -55,19 +61,24 @@ is_passed_over entry = entry.st_shndx == 0 || entry.st_info % 16 == 4
 unfoldable pub symbol : List ℕ → SymbolEntry → Option Symbol
 symbol strings entry =
     if is_passed_over entry then None
-    else option_map (λ name. record { name = name; value = entry.st_value }) (symbol_text (drop entry.st_name strings))
+    else option_map (λ name. record { name = name; value = entry.st_value })
+    (symbol_text (drop entry.st_name strings))
 
 -- the whole entries of a symbol section
 abbrev pub symbol_table : List ℕ → SectionHeader → List SymbolEntry
-symbol_table file table = map (λ i. symbol_entry file (table.sh_offset + 16 * i)) (range_with_len 0 (table.sh_size / 16))
+symbol_table file table =
+    map (λ i. symbol_entry file (table.sh_offset + 16 * i)) (range_with_len 0 (table.sh_size / 16))
 
 -- the bytes of the string section at a place of the section header table
 unfoldable pub strings_at : List ℕ → Option SectionHeader → Result (List ℕ) ElfError
 strings_at file None = Err SymbolsOutside
-strings_at file (Some s) = if is_string_section s && is_inside (length file) s then Ok (contents file s) else Err SymbolsOutside
+strings_at file (Some s) =
+    if is_string_section s && is_inside (length file) s then Ok (contents file s)
+    else Err SymbolsOutside
 
 -- the symbols of a symbol section
-unfoldable pub symbols_of : List ℕ → List SectionHeader → Option SectionHeader → Result (List Symbol) ElfError
+unfoldable pub symbols_of : List ℕ → List SectionHeader → Option SectionHeader
+    → Result (List Symbol) ElfError
 symbols_of file sections None = Ok []
 symbols_of file sections (Some table) = do
   _ ← ensure (table.sh_entsize == 16 && is_inside (length file) table) SymbolsOutside

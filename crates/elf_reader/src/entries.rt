@@ -1,4 +1,5 @@
-// The entries of the file's tables, with the names of the ELF specification. Fields that are not read are left out.
+// The entries of the file's tables, with the names of the ELF specification. Fields that are not
+// read are left out.
 
 #[derive(Clone, Copy)]
 pub(crate) struct ProgramHeader {

@@ -6,8 +6,8 @@ ghost use Rattle.elf_reader.specs.declared.fault.ElfError.TheVariants.{Memory};
 use std::alloc::{AllocError, AllocFailed};
 use thiserror::Error;
 
-/// The first thing that is wrong with the bytes of an ELF file. A number is the place of the first program
-/// header at fault, counted from 0 over the whole table, headers of every type included.
+/// The first thing that is wrong with the bytes of an ELF file. A number is the place of the first
+/// program header at fault, counted from 0 over the whole table, headers of every type included.
 #[derive(Clone, Copy, Debug, PartialEq, Eq, Error)]
 pub enum ElfError {
     /// There is no memory for the image or for the tables that are read.
@@ -34,7 +34,8 @@ pub enum ElfError {
     /// There are program headers, and `e_phentsize` is not 32 or their table passes the file's end.
     #[error("the program headers lie outside the file")]
     HeaderOutside,
-    /// A PT_LOAD whose bytes pass the file's end or are more than its size, or whose addresses pass 2^32.
+    /// A PT_LOAD whose bytes pass the file's end or are more than its size, or whose addresses pass
+    /// 2^32.
     #[error("segment {0} lies outside the file or the addresses")]
     SegmentOutside(u32),
     /// A PT_LOAD that shares an address with a PT_LOAD before it in the table.
@@ -43,8 +44,9 @@ pub enum ElfError {
     /// No PT_LOAD with PF_X has bytes in the file.
     #[error("no executable segment has bytes")]
     NoCode,
-    /// Section headers whose `e_shentsize` is not 40 or whose table passes the file's end; or a first SHT_SYMTAB that
-    /// passes it, whose `sh_entsize` is not 16, or whose `sh_link` is the place of no SHT_STRTAB in the file.
+    /// Section headers whose `e_shentsize` is not 40 or whose table passes the file's end; or a
+    /// first SHT_SYMTAB that passes it, whose `sh_entsize` is not 16, or whose `sh_link` is the
+    /// place of no SHT_STRTAB in the file.
     #[error("the sections or symbols lie outside the file")]
     SymbolsOutside,
 }

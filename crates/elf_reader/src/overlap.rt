@@ -1,6 +1,7 @@
-// Segments that share an address. The ranges of addresses so far are kept by their starts, so that a header is
-// compared with one of them alone.
-ghost use Rattle.std.specs.Prelude.{◌≡◌, ◌+◌, ◌<◌, ◌^◌, ℕ, [], ◌&&◌, ◌||◌, not, length, IfOk, IfSome, OnOk};
+// Segments that share an address. The ranges of addresses so far are kept by their starts, so that
+// a header is compared with one of them alone.
+ghost use Rattle.std.specs.Prelude.{◌≡◌, ◌+◌, ◌<◌, ◌^◌, ℕ, [], ◌&&◌, ◌||◌, not, length, IfOk};
+ghost use Rattle.std.specs.Prelude.{IfSome, OnOk};
 ghost use Rattle.std.specs.List.{list_any};
 ghost use Rattle.crpd_base.specs.Outcome.{nowhere, Gives};
 ghost use Rattle.elf_reader.specs.Segments as spec;
@@ -28,12 +29,20 @@ fn is_met(ranges: &Ranges, from: u64, to: u64) -> bool
     }
 }
 
-/// Adds the addresses of a header that is loaded and has some, unless one of them is in a range. Whether none is.
+/// Adds the addresses of a header that is loaded and has some, unless one of them is in a range.
+/// Whether none is.
 fn add(ranges: &mut Ranges, header: &ProgramHeader) -> Result<bool, AllocError>
     requires { AreDisjointRanges ranges.old.entries }
-    ensures free { IfOk result (λ free. free ≡ not (spec.is_loaded header.now && list_any (meets header.now.p_vaddr (spec.header_end header.now)) ranges.old.entries)) }
+    ensures free { IfOk result
+        (λ free.
+        free ≡ not
+        (spec.is_loaded header.now
+        && list_any (meets header.now.p_vaddr (spec.header_end header.now)) ranges.old.entries)) }
     ensures apart { OnOk result (AreDisjointRanges ranges.new.entries) }
-    ensures more { IfOk result (λ free. (from to : ℕ) → list_any (meets from to) ranges.new.entries ≡ (list_any (meets from to) ranges.old.entries || (free && spec.occupies from to header.now))) }
+    ensures more { IfOk result
+        (λ free. (from to : ℕ) → list_any (meets from to) ranges.new.entries
+        ≡ (list_any (meets from to) ranges.old.entries
+        || (free && spec.occupies from to header.now))) }
 {
     let start = u64::from(header.p_vaddr);
     let end = start + u64::from(header.p_memsz);
@@ -64,7 +73,8 @@ fn first_shared(alloc: Global, headers: &[ProgramHeader]) -> Result<Option<usize
 /// No two headers that are loaded share an address.
 pub(crate) fn check_apart(alloc: Global, headers: &[ProgramHeader]) -> Result<(), ElfError>
     requires { length headers.now < 2 ^ 16 }
-    ensures { Gives ElfError.Memory (λ x. x) result (nowhere SegmentsOverlap (spec.first_shared [] headers.now)) }
+    ensures { Gives ElfError.Memory (λ x. x) result
+        (nowhere SegmentsOverlap (spec.first_shared [] headers.now)) }
 {
     match first_shared(alloc, headers)? {
         Some(place) => Err(ElfError::SegmentsOverlap(place as u32)),

@@ -1,11 +1,13 @@
 // The program headers and the segments that they load.
-ghost use Rattle.std.specs.Prelude.{◌≡◌, ◌+◌, ◌≤◌, ◌<◌, ◌^◌, false, length, map, filter, All, position, None, IfOk, OnOk, ◌*◌, vec_len};
+ghost use Rattle.std.specs.Prelude.{◌≡◌, ◌+◌, ◌≤◌, ◌<◌, ◌^◌, false, length, map, filter, All};
+ghost use Rattle.std.specs.Prelude.{position, None, IfOk, OnOk, ◌*◌, vec_len};
 ghost use Rattle.std.specs.List.{list_any, range_with_len};
 ghost use Rattle.crpd_base.specs.Outcome.{ensure, nowhere, Gives};
 ghost use Rattle.elf_reader.specs.Fields as fields;
 ghost use Rattle.elf_reader.specs.Reading as reading;
 ghost use Rattle.elf_reader.specs.Segments as spec;
-ghost use Rattle.elf_reader.specs.declared.fault.ElfError.TheVariants.{NoCode, NotStatic, SegmentOutside};
+ghost use Rattle.elf_reader.specs.declared.fault.ElfError.TheVariants.{NoCode, NotStatic};
+ghost use Rattle.elf_reader.specs.declared.fault.ElfError.TheVariants.{SegmentOutside};
 
 use crate::entries::ProgramHeader;
 use crate::fault::ElfError;
@@ -34,7 +36,9 @@ fn table(
     count: u16,
 ) -> Result<Vec<ProgramHeader>, AllocError>
     requires { start + 32 * count ≤ length bytes.now }
-    ensures headers { IfOk result (λ hs. hs.items ≡ map (λ i. fields.program_header bytes.now (start + 32 * i)) (range_with_len 0 count)) }
+    ensures headers { IfOk result
+        (λ hs. hs.items ≡ map (λ i. fields.program_header bytes.now (start + 32 * i))
+        (range_with_len 0 count)) }
     ensures count { IfOk result (λ hs. vec_len hs ≡ count) }
 {
     let mut headers = Vec::with_capacity(alloc, usize::from(count))?;
@@ -48,7 +52,8 @@ fn table(
 #[tactic(auto, unfolding(crate::specs::Reading::program_headers))]
 pub(crate) fn program_headers(alloc: Global, bytes: &[u8]) -> Result<Vec<ProgramHeader>, ElfError>
     requires { 52 ≤ length bytes.now }
-    ensures headers { Gives ElfError.Memory (λ hs. hs.items) result (reading.program_headers bytes.now) }
+    ensures headers { Gives ElfError.Memory (λ hs. hs.items) result
+        (reading.program_headers bytes.now) }
     ensures count { IfOk result (λ hs. vec_len hs < 2 ^ 16) }
 {
     let start = word(bytes, E_PHOFF) as usize;
@@ -79,7 +84,8 @@ fn first_dynamic(headers: &[ProgramHeader]) -> Option<usize>
 /// No header is for dynamic linking.
 pub(crate) fn check_static(headers: &[ProgramHeader]) -> Result<(), ElfError>
     requires { length headers.now < 2 ^ 16 }
-    ensures { Gives ElfError.Memory (λ x. x) result (nowhere NotStatic (position spec.is_dynamic headers.now)) }
+    ensures { Gives ElfError.Memory (λ x. x) result
+        (nowhere NotStatic (position spec.is_dynamic headers.now)) }
 {
     match first_dynamic(headers) {
         Some(place) => Err(ElfError::NotStatic(place as u32)),
@@ -87,7 +93,8 @@ pub(crate) fn check_static(headers: &[ProgramHeader]) -> Result<(), ElfError>
     }
 }
 
-/// Whether a header's bytes lie in a file of this length, fit its addresses, and these lie below 2^32.
+/// Whether a header's bytes lie in a file of this length, fit its addresses, and these lie below
+/// 2^32.
 fn fits(len: usize, header: &ProgramHeader) -> bool
     ensures { result ≡ spec.lies_in_file len header.now }
 {
@@ -113,7 +120,8 @@ fn first_outside(headers: &[ProgramHeader], len: usize) -> Option<usize>
 /// Each header that is loaded fits the file and the addresses.
 pub(crate) fn check_inside(headers: &[ProgramHeader], len: usize) -> Result<(), ElfError>
     requires { length headers.now < 2 ^ 16 }
-    ensures is { Gives ElfError.Memory (λ x. x) result (nowhere SegmentOutside (position (spec.is_outside len) headers.now)) }
+    ensures is { Gives ElfError.Memory (λ x. x) result
+        (nowhere SegmentOutside (position (spec.is_outside len) headers.now)) }
     ensures fit { OnOk result (position (spec.is_outside len) headers.now ≡ None) }
 {
     match first_outside(headers, len) {
@@ -144,7 +152,8 @@ fn has_code(headers: &[ProgramHeader]) -> bool
 
 /// Some header has code.
 pub(crate) fn check_code(headers: &[ProgramHeader]) -> Result<(), ElfError>
-    ensures { Gives ElfError.Memory (λ x. x) result (ensure (list_any spec.is_code headers.now) NoCode) }
+    ensures { Gives ElfError.Memory (λ x. x) result
+        (ensure (list_any spec.is_code headers.now) NoCode) }
 {
     if has_code(headers) {
         Ok(())

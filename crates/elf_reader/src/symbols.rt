@@ -1,5 +1,7 @@
 // The symbols of the first symbol section.
-ghost use Rattle.std.specs.Prelude.{◌≡◌, ℕ, ◌+◌, ◌*◌, ◌/◌, ◌≤◌, drop, length, map, filter_map, option_map, option_copied, find, position, slice_get, ◌<◌, IfOk, IfSome, if◌then◌else◌};
+ghost use Rattle.std.specs.Prelude.{◌≡◌, ℕ, ◌+◌, ◌*◌, ◌/◌, ◌≤◌, drop, length, map, filter_map};
+ghost use Rattle.std.specs.Prelude.{option_map, option_copied, find, position, slice_get, ◌<◌};
+ghost use Rattle.std.specs.Prelude.{IfOk, IfSome, if◌then◌else◌};
 ghost use Rattle.std.specs.List.{range_with_len};
 ghost use Rattle.elf_reader.specs.Fields as fields;
 ghost use Rattle.crpd_base.specs.Outcome.{Gives};
@@ -35,7 +37,9 @@ fn table(
     count: u16,
 ) -> Result<Vec<SectionHeader>, AllocError>
     requires { start + 40 * count ≤ length bytes.now }
-    ensures { IfOk result (λ ss. ss.items ≡ map (λ i. fields.section_header bytes.now (start + 40 * i)) (range_with_len 0 count)) }
+    ensures { IfOk result (λ ss.
+        ss.items ≡ map (λ i. fields.section_header bytes.now (start + 40 * i))
+        (range_with_len 0 count)) }
 {
     let mut sections = Vec::with_capacity(alloc, usize::from(count))?;
     for i in 0..usize::from(count) {
@@ -64,7 +68,9 @@ fn section_headers(alloc: Global, bytes: &[u8]) -> Result<Vec<SectionHeader>, El
 
 /// The bytes of a section, where it lies in the file.
 fn contents(bytes: &[u8], section: SectionHeader) -> Option<&[u8]>
-    ensures { option_map (λ c. c.now) result ≡ (if spec.is_inside (length bytes.now) section then Some (spec.contents bytes.now section) else None) }
+    ensures { option_map (λ c. c.now) result
+        ≡ (if spec.is_inside (length bytes.now) section then Some (spec.contents bytes.now section)
+        else None) }
 {
     let start = section.sh_offset as usize;
     let end = start + section.sh_size as usize;
@@ -86,10 +92,11 @@ fn strings_at(bytes: &[u8], section: Option<SectionHeader>) -> Result<&[u8], Elf
     }
 }
 
-/// The part up to the last zero byte. Each text in it has an end, so that a look for the end passes over the
-/// text alone.
+/// The part up to the last zero byte. Each text in it has an end, so that a look for the end passes
+/// over the text alone.
 fn terminated(strings: &[u8]) -> &[u8]
-    ensures { (place : ℕ) → spec.symbol_text (drop place result.now) ≡ spec.symbol_text (drop place strings.entry.now) }
+    ensures { (place : ℕ) → spec.symbol_text (drop place result.now)
+        ≡ spec.symbol_text (drop place strings.entry.now) }
 {
     let mut end = strings.len();
     while end > 0 && strings[end - 1] != 0 {
@@ -155,7 +162,9 @@ fn each_symbol(
     count: usize,
 ) -> Result<Vec<Symbol>, AllocError>
     requires { start + 16 * count ≤ length bytes.now }
-    ensures { IfOk result (λ v. v.items ≡ filter_map (spec.symbol strings.now) (map (λ i. fields.symbol_entry bytes.now (start + 16 * i)) (range_with_len 0 count))) }
+    ensures { IfOk result (λ v.
+        v.items ≡ filter_map (spec.symbol strings.now)
+        (map (λ i. fields.symbol_entry bytes.now (start + 16 * i)) (range_with_len 0 count))) }
 {
     let mut symbols = Vec::new(alloc);
     for i in 0..count {
@@ -179,7 +188,9 @@ fn all_symbols(
     count: usize,
 ) -> Result<Vec<Symbol>, AllocError>
     requires { start + 16 * count ≤ length bytes.now }
-    ensures { IfOk result (λ v. v.items ≡ filter_map (spec.symbol strings.now) (map (λ i. fields.symbol_entry bytes.now (start + 16 * i)) (range_with_len 0 count))) }
+    ensures { IfOk result (λ v.
+        v.items ≡ filter_map (spec.symbol strings.now)
+        (map (λ i. fields.symbol_entry bytes.now (start + 16 * i)) (range_with_len 0 count))) }
 {
     each_symbol(alloc, bytes, terminated(strings), start, count)
 }
@@ -199,7 +210,8 @@ fn symbols_of(
     sections: &[SectionHeader],
     table: Option<SectionHeader>,
 ) -> Result<Vec<Symbol>, ElfError>
-    ensures { Gives ElfError.Memory (λ v. v.items) result (spec.symbols_of bytes.now sections.now table) }
+    ensures { Gives ElfError.Memory (λ v. v.items) result
+        (spec.symbols_of bytes.now sections.now table) }
 {
     let Some(table) = table else {
         return Ok(Vec::new(alloc));

@@ -1,5 +1,8 @@
 -- Full states kept as the blocks of the cache sets.
-use Rattle.std.proofs.Common.{◌≡◌, ◌≢◌, ◌↔◌, ℕ, zero, suc, ◌-◌, ◌<◌, ◌≤◌, true, false, List, [], ◌∷◌, length, set, get_or, drop, Option, Some, None, IsTrue, IsFalse, refl, sym, ap, ◌∙◌, subst, inl, inr, ⊎_elim, arith, ne_eqb, eq-eqb, get_or-set_same, get_or-set_other, drop-cons}
+use Rattle.std.proofs.Common.{◌≡◌, ◌≢◌, ◌↔◌, ℕ, zero, suc, ◌-◌, ◌<◌, ◌≤◌, true, false, List, []}
+use Rattle.std.proofs.Common.{◌∷◌, length, set, get_or, drop, Option, Some, None, IsTrue, IsFalse}
+use Rattle.std.proofs.Common.{refl, sym, ap, ◌∙◌, subst, inl, inr, ⊎_elim, arith, ne_eqb, eq-eqb}
+use Rattle.std.proofs.Common.{get_or-set_same, get_or-set_other, drop-cons}
 use Rattle.std.specs.Prelude.{◌==◌}
 use Rattle.std.proofs.lemmas.List.{drop_all}
 use Rattle.std.proofs.lemmas.Bool.{cases_eq, both_ways}
@@ -19,71 +22,90 @@ past (x ∷ blocks) zero le = absurd (omega arith)
 past (x ∷ blocks) (suc s) le = past blocks s (omega arith)
 
 -- no block at first
-pub none_held : (blocks : List (Option ℕ)) (sure : List (ℕ × ℕ)) → ((s : ℕ) → held blocks s ≡ None) → (s : ℕ) → held blocks s ≡ block_of_set (drop (length sure - 0) sure) s
+pub none_held : (blocks : List (Option ℕ)) (sure : List (ℕ × ℕ)) → ((s : ℕ) → held blocks s ≡ None)
+    → (s : ℕ) → held blocks s ≡ block_of_set (drop (length sure - 0) sure) s
 none_held blocks sure none s =
     let empty : drop (length sure - 0) sure ≡ [] = drop_all (length sure - 0) sure (omega arith) in
     none s ∙ sym (ap (λ xs. block_of_set xs s) empty)
 
 -- one more block, in front of those so far
-pub block_more : (blocks : List (Option ℕ)) (sure : List (ℕ × ℕ)) (j k place : ℕ) (x : ℕ × ℕ) → j ≡ suc k → place ≡ k → k < length sure → x ≡ get_or sure place (0, 0) → x.0 < length blocks
-    → ((s : ℕ) → held blocks s ≡ block_of_set (drop j sure) s) → (s : ℕ) → held (set blocks x.0 (Some x.1)) s ≡ block_of_set (drop k sure) s
+pub block_more : (blocks : List (Option ℕ)) (sure : List (ℕ × ℕ)) (j k place : ℕ) (x : ℕ × ℕ)
+    → j ≡ suc k → place ≡ k → k < length sure → x ≡ get_or sure place (0, 0) → x.0 < length blocks
+    → ((s : ℕ) → held blocks s ≡ block_of_set (drop j sure) s) → (s : ℕ)
+    → held (set blocks x.0 (Some x.1)) s ≡ block_of_set (drop k sure) s
 block_more blocks sure j k place x after at lt is room before s =
     let rest : drop (suc k) sure ≡ drop j sure = ap (λ i. drop i sure) (sym after) in
     let here : get_or sure k (0, 0) ≡ x = ap (λ i. get_or sure i (0, 0)) (sym at) ∙ sym is in
-    let parts : drop k sure ≡ x ∷ drop (suc k) sure = drop-cons sure k (0, 0) lt ∙ ap (λ y. y ∷ drop (suc k) sure) here in
+    let parts : drop k sure ≡ x ∷ drop (suc k) sure =
+    drop-cons sure k (0, 0) lt ∙ ap (λ y. y ∷ drop (suc k) sure) here in
     ⊎_elim
     (λ (same : x.0 ≡ s).
     let t : (x.0 == s) ≡ true = eq-eqb x.0 s same in
-    let there : held (set blocks x.0 (Some x.1)) s ≡ Some x.1 = subst (λ z. held (set blocks x.0 (Some x.1)) z ≡ Some x.1) same (get_or-set_same blocks x.0 (Some x.1) None room) in
+    let there : held (set blocks x.0 (Some x.1)) s ≡ Some x.1 =
+    subst (λ z. held (set blocks x.0 (Some x.1)) z ≡ Some x.1) same
+    (get_or-set_same blocks x.0 (Some x.1) None room) in
     let listed : block_of_set (x ∷ drop (suc k) sure) s ≡ Some x.1 = rw t refl in
     there ∙ sym (ap (λ xs. block_of_set xs s) parts ∙ listed))
     (λ (ne : x.0 ≢ s).
     let f : (x.0 == s) ≡ false = ne_eqb x.0 s ne in
-    let listed : block_of_set (x ∷ drop (suc k) sure) s ≡ block_of_set (drop (suc k) sure) s = rw f refl in
-    get_or-set_other blocks x.0 s (Some x.1) None (λ e. ne (sym e)) ∙ before s ∙ sym (ap (λ xs. block_of_set xs s) parts ∙ listed ∙ ap (λ xs. block_of_set xs s) rest))
+    let listed : block_of_set (x ∷ drop (suc k) sure) s ≡ block_of_set (drop (suc k) sure) s =
+    rw f refl in
+    get_or-set_other blocks x.0 s (Some x.1) None (λ e. ne (sym e)) ∙ before s
+    ∙ sym (ap (λ xs. block_of_set xs s) parts ∙ listed ∙ ap (λ xs. block_of_set xs s) rest))
     (cases_eq x.0 s)
 
 module _ (g : Graph) (a : Accesses) (l : Listed) where
   -- a listed node's state is what is listed
-  pub as_listed : (y s m : ℕ) → IsTrue (l.is_listed y) → FullState g a l y s m → l.state y s ≡ Some m
+  pub as_listed : (y s m : ℕ) → IsTrue (l.is_listed y) → FullState g a l y s m
+      → l.state y s ≡ Some m
   as_listed y s m t (listed y' s' m' t' at) = at
   as_listed y s m t (accessed w y' s' m' o f same block) = absurd (both_ways (l.is_listed y) o t)
   as_listed y s m t (passed w y' s' m' o f other st) = absurd (both_ways (l.is_listed y) o t)
 
-  pub listed_state : (y : ℕ) (blocks : List (Option ℕ)) → IsTrue (l.is_listed y) → ((s : ℕ) → held blocks s ≡ l.state y s) → IsStateAt g a l y blocks
+  pub listed_state : (y : ℕ) (blocks : List (Option ℕ)) → IsTrue (l.is_listed y)
+      → ((s : ℕ) → held blocks s ≡ l.state y s) → IsStateAt g a l y blocks
   listed_state y blocks t is s m = (
     λ st. is s ∙ as_listed y s m t st,
     λ e. listed y s m t (sym (is s) ∙ e),
   )
 
   -- the state after a node
-  pub state_after : (y : ℕ) (blocks : List (Option ℕ)) → a.set y < length blocks → IsStateAt g a l y blocks → IsStateAfter g a l y (set blocks (a.set y) (Some (a.block y)))
+  pub state_after : (y : ℕ) (blocks : List (Option ℕ)) → a.set y < length blocks
+      → IsStateAt g a l y blocks → IsStateAfter g a l y (set blocks (a.set y) (Some (a.block y)))
   state_after y blocks room S s m =
       ⊎_elim
       (λ (same : a.set y ≡ s).
-      let there : held (set blocks (a.set y) (Some (a.block y))) s ≡ Some (a.block y) = subst (λ z. held (set blocks (a.set y) (Some (a.block y))) z ≡ Some (a.block y)) same (get_or-set_same blocks (a.set y) (Some (a.block y)) None room) in (
+      let there : held (set blocks (a.set y) (Some (a.block y))) s ≡ Some (a.block y) =
+      subst (λ z. held (set blocks (a.set y) (Some (a.block y))) z ≡ Some (a.block y)) same
+      (get_or-set_same blocks (a.set y) (Some (a.block y)) None room) in (
         (λ h. ⊎_elim (λ h'. there ∙ ap Some h'.1) (λ h'. absurd (h'.0 same)) h),
         (λ e. inl (same, same_Some (a.block y) m (sym there ∙ e))),
       ))
       (λ (ne : a.set y ≢ s).
-      let there : held (set blocks (a.set y) (Some (a.block y))) s ≡ held blocks s = get_or-set_other blocks (a.set y) s (Some (a.block y)) None (λ e. ne (sym e)) in (
+      let there : held (set blocks (a.set y) (Some (a.block y))) s ≡ held blocks s =
+      get_or-set_other blocks (a.set y) s (Some (a.block y)) None (λ e. ne (sym e)) in (
         (λ h. ⊎_elim (λ h'. absurd (ne h'.0)) (λ h'. there ∙ (S s m).0 h'.1) h),
         (λ e. inr (ne, (S s m).1 (sym there ∙ e))),
       ))
       (cases_eq (a.set y) s)
 
   -- it is the state of the unlisted node that follows
-  pub state_behind : (u v : ℕ) (blocks : List (Option ℕ)) → ListsLeaders g l → v < g.size → Edge g u v → IsFalse (l.is_listed v) → IsStateAfter g a l u blocks → IsStateAt g a l v blocks
+  pub state_behind : (u v : ℕ) (blocks : List (Option ℕ)) → ListsLeaders g l → v < g.size
+      → Edge g u v → IsFalse (l.is_listed v) → IsStateAfter g a l u blocks
+      → IsStateAt g a l v blocks
   state_behind u v blocks leaders lt e out S s m = (
     λ st. (S s m).0 (unlisted_state_law g a l u v s m leaders lt e out st),
-    λ at. ⊎_elim (λ h. accessed u v s m out e h.0 h.1) (λ h. passed u v s m out e h.0 h.1) ((S s m).1 at),
+    λ at. ⊎_elim (λ h. accessed u v s m out e h.0 h.1) (λ h. passed u v s m out e h.0 h.1)
+        ((S s m).1 at),
   )
 
   -- the tests of clause 3 at a listed end of an edge
   abbrev pub AreHeld : List (Option ℕ) → (ℕ → Option ℕ) → Type 0
   AreHeld blocks state = (s m : ℕ) → state s ≡ Some m → held blocks s ≡ Some m
 
-  pub held_at : (u v : ℕ) (after : List (Option ℕ)) → IsTrue (l.is_listed v) → IsStateAfter g a l u after → AreHeld after (l.state v) ↔ ((s m : ℕ) → FullState g a l v s m → StateAfter g a l u s m)
+  pub held_at : (u v : ℕ) (after : List (Option ℕ)) → IsTrue (l.is_listed v)
+      → IsStateAfter g a l u after
+      → AreHeld after (l.state v) ↔ ((s m : ℕ) → FullState g a l v s m → StateAfter g a l u s m)
   held_at u v after t S = (
     λ h s m st. (S s m).1 (h s m (as_listed v s m t st)),
     λ h s m e. (S s m).0 (h s m (listed v s m t e)),

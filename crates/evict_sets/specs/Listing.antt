@@ -1,6 +1,7 @@
--- A task's graph with what its part of a certificate lists: full states as the blocks of the cache sets, an order of the
--- nodes, and which nodes are counted as hits.
-use Rattle.std.specs.Prelude.{◌≡◌, ◌↔◌, ℕ, ◌+◌, ◌<◌, Bool, false, List, length, All, Option, Some, slice_get, slice_index, slice_index_or, IsTrue, IsFalse}
+-- A task's graph with what its part of a certificate lists: full states as the blocks of the cache
+-- sets, an order of the nodes, and which nodes are counted as hits.
+use Rattle.std.specs.Prelude.{◌≡◌, ◌↔◌, ℕ, ◌+◌, ◌<◌, Bool, false, List, length, All, Option, Some}
+use Rattle.std.specs.Prelude.{slice_get, slice_index, slice_index_or, IsTrue, IsFalse}
 use Rattle.crpd_base.specs.Ranges.{IsPlatform}
 use Rattle.crpd_base.specs.declared.data.Platform.{Platform}
 use Rattle.crpd_base.specs.declared.data.NodeState.{NodeState}
@@ -17,7 +18,8 @@ use Rattle.evict_sets.specs.ListedPart.{state_entry_of, listed_of}
 abbrev pub node_accesses : Platform → CodeGraph → Accesses
 node_accesses p g = accesses p (places_of g).address
 
--- each node has the place of its entry among the listed states; a node that is not listed has a place past them
+-- each node has the place of its entry among the listed states; a node that is not listed has a
+-- place past them
 pub record IsEntryIndex (states : List NodeState) (size : ℕ) (places : List ℕ) : Type 0 where
   pub count : length places ≡ size
   pub each : (y : ℕ) → y < size → slice_get states (slice_index places y) ≡ state_entry_of states y
@@ -26,7 +28,8 @@ pub record IsEntryIndex (states : List NodeState) (size : ℕ) (places : List �
 abbrev pub HasLowSets : TaskPart → Type 0
 HasLowSets t = All (λ (s : NodeState). All (λ (x : ℕ × ℕ). x.0 < 512) s.sure) t.states
 
--- the platform and the part are in their ranges, the places are those of the part's entries, and the leaders are listed
+-- the platform and the part are in their ranges, the places are those of the part's entries, and
+-- the leaders are listed
 pub record IsListing (p : Platform) (g : CodeGraph) (t : TaskPart) (places : List ℕ) : Type 0 where
   pub platform : IsPlatform p
   pub sets : HasLowSets t
@@ -47,8 +50,10 @@ pub record IsChainOrder (g : Graph) (l : Listed) (order : List ℕ) : Type 0 whe
   pub nodes : (k : ℕ) → k < g.size → slice_index order k < g.size
   pub every : (y : ℕ) → y < g.size → (k : ℕ) × (k < g.size) × (slice_index order k ≡ y)
   pub start : 0 < g.size → IsTrue (l.is_listed (slice_index order 0))
-  pub before : (k : ℕ) → k + 1 < g.size → IsFalse (l.is_listed (slice_index order (k + 1))) → Edge g (slice_index order k) (slice_index order (k + 1))
-  pub behind : (k v : ℕ) → k < g.size → Edge g (slice_index order k) v → IsFalse (l.is_listed v) → (k + 1 < g.size) × (slice_index order (k + 1) ≡ v)
+  pub before : (k : ℕ) → k + 1 < g.size → IsFalse (l.is_listed (slice_index order (k + 1)))
+      → Edge g (slice_index order k) (slice_index order (k + 1))
+  pub behind : (k v : ℕ) → k < g.size → Edge g (slice_index order k) v → IsFalse (l.is_listed v)
+      → (k + 1 < g.size) × (slice_index order (k + 1) ≡ v)
 
 -- whether the list counts the node as a hit
 abbrev pub counted : List Bool → ℕ → Bool

@@ -12,11 +12,13 @@ greatest_of f (x ∷ xs) = max (f x) (greatest_of f xs)
 -- the greatest cost of a node's edges, the one to the end included, with a miss
 abbrev pub longest_at_node : Platform → Graph → NodeCode → (ℕ → Bool) → ℕ → ℕ
 longest_at_node p g l answers u =
-    max (greatest_of (edge_cost p l (λ y. false) u) (g.next u)) (if answers u then end_cost p l (λ y. false) u else 0)
+    max (greatest_of (edge_cost p l (λ y. false) u) (g.next u))
+    (if answers u then end_cost p l (λ y. false) u else 0)
 
 abbrev pub longest_below : Platform → Graph → NodeCode → (ℕ → Bool) → ℕ → ℕ
 longest_below p g l answers zero = 0
-longest_below p g l answers (suc n) = max (longest_at_node p g l answers n) (longest_below p g l answers n)
+longest_below p g l answers (suc n) =
+    max (longest_at_node p g l answers n) (longest_below p g l answers n)
 
 -- the greatest cost of any edge
 abbrev pub longest : Platform → Graph → NodeCode → (ℕ → Bool) → ℕ

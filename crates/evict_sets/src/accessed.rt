@@ -9,11 +9,13 @@ use crpd_base::{NodeId, SetBits};
 use flat_graph::Graph;
 use icache::Geometry;
 
-/// The evicting cache blocks of a task (Altmeyer, Davis and Maiza 2012): the cache sets of the blocks that its nodes
-/// fetch from. It looks at each node once. It takes no memory.
+/// The evicting cache blocks of a task (Altmeyer, Davis and Maiza 2012): the cache sets of the
+/// blocks that its nodes fetch from. It looks at each node once. It takes no memory.
 pub fn evicting<const W: usize>(graph: &Graph, geometry: &Geometry) -> SetBits<W>
     requires { geometry.now.platform.sets ≤ 64 * W }
-    ensures { (s : ℕ) → IsTrue (has result s) ↔ IsEcb (graph_of graph.now) (accesses geometry.now.platform (places_of graph.now).address) s }
+    ensures { (s : ℕ) → IsTrue (has result s)
+        ↔ IsEcb (graph_of graph.now) (accesses geometry.now.platform (places_of graph.now).address)
+        s }
 {
     let mut accessed = SetBits::new();
     for node in 0..graph.len() {

@@ -14,7 +14,8 @@ fn clear(blocks: &mut [Option<u32>])
     }
 }
 
-/// Puts the listed blocks into their cache sets, and none into the others; of two entries of one set the first counts.
+/// Puts the listed blocks into their cache sets, and none into the others; of two entries of one
+/// set the first counts.
 pub(crate) fn load(blocks: &mut [Option<u32>], sure: &[(u16, u32)])
     requires low { All (λ (x : ℕ × ℕ). x.0 < 512) sure.now }
     requires room { length blocks.old ≡ 512 }
@@ -35,12 +36,13 @@ fn is_held(blocks: &[Option<u32>], set: u16, block: u32) -> bool
     blocks[set as usize] == Some(block)
 }
 
-/// Whether each listed block stands in its cache set, by the blocks of the 512 cache sets; of two entries of one set the
-/// first counts. It looks at each entry once. It takes no memory.
+/// Whether each listed block stands in its cache set, by the blocks of the 512 cache sets; of two
+/// entries of one set the first counts. It looks at each entry once. It takes no memory.
 pub fn are_held(blocks: &[Option<u32>], sure: &[(u16, u32)]) -> bool
     requires low { All (λ (x : ℕ × ℕ). x.0 < 512) sure.now }
     requires room { length blocks.now ≡ 512 }
-    ensures { IsTrue result ↔ ((s m : ℕ) → block_of_set sure.now s ≡ Some m → held blocks.now s ≡ Some m) }
+    ensures { IsTrue result ↔ ((s m : ℕ) → block_of_set sure.now s ≡ Some m
+        → held blocks.now s ≡ Some m) }
 {
     let mut seen = SetBits::<WORDS>::new();
     for k in 0..sure.len() {

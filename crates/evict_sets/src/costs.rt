@@ -34,8 +34,8 @@ fn cycles(platform: &Platform, ins: &Ins, miss: bool, taken: bool) -> u64
     cost(platform, ins, miss, taken)
 }
 
-/// The cost of an edge in cycles, below 2^34, from whether its source counts as a hit. An edge to another address than
-/// the next one is a change of flow. In constant time.
+/// The cost of an edge in cycles, below 2^34, from whether its source counts as a hit. An edge to
+/// another address than the next one is a change of flow. In constant time.
 pub fn edge_cost(
     graph: &Graph,
     platform: &Platform,
@@ -45,7 +45,8 @@ pub fn edge_cost(
 ) -> u64
     requires source { source.0 < (graph_of graph.now).size }
     requires target { target.0 < (graph_of graph.now).size }
-    ensures cost { result ≡ edge_cost platform.now (node_code graph.now) (λ y. hit) source.0 target.0 }
+    ensures cost { result ≡ edge_cost platform.now (node_code graph.now)
+        (λ y. hit) source.0 target.0 }
     ensures small { result < 2 ^ 34 }
 {
     let straight = u64::from(graph.address(source)) + 4;
@@ -53,11 +54,13 @@ pub fn edge_cost(
     cycles(platform, &graph.ins(source), !hit, taken)
 }
 
-/// The cost in cycles of an answering node's edge to the end, from whether the node counts as a hit; 0 at other nodes.
-/// It is a change of flow but for an ECALL, which never costs one. In constant time.
+/// The cost in cycles of an answering node's edge to the end, from whether the node counts as a
+/// hit; 0 at other nodes. It is a change of flow but for an ECALL, which never costs one. In
+/// constant time.
 pub fn end_cost(graph: &Graph, platform: &Platform, id: NodeId, hit: bool) -> u64
     requires { id.0 < (graph_of graph.now).size }
-    ensures { result ≡ (if answers_of graph.now id.0 then end_cost platform.now (node_code graph.now) (λ y. hit) id.0 else 0) }
+    ensures { result ≡ (if answers_of graph.now id.0
+        then end_cost platform.now (node_code graph.now) (λ y. hit) id.0 else 0) }
 {
     let node = graph.node(id);
     match node.kind {
@@ -66,11 +69,13 @@ pub fn end_cost(graph: &Graph, platform: &Platform, id: NodeId, hit: bool) -> u6
     }
 }
 
-/// The cost of the first (0) or second (1) edge of a node, with a miss; 0 where there is no such edge.
+/// The cost of the first (0) or second (1) edge of a node, with a miss; 0 where there is no such
+/// edge.
 fn edge_longest(graph: &Graph, platform: &Platform, id: NodeId, k: u8) -> u64
     requires node { id.0 < (graph_of graph.now).size }
     requires place { k < 2 }
-    ensures { result ≡ cost_or_zero (edge_cost platform.now (node_code graph.now) (λ y. false) id.0) (slice_get ((graph_of graph.now).next id.0) k) }
+    ensures { result ≡ cost_or_zero (edge_cost platform.now (node_code graph.now) (λ y. false) id.0)
+        (slice_get ((graph_of graph.now).next id.0) k) }
 {
     graph.graph_law();
     match graph.succ(id, k) {
@@ -82,7 +87,8 @@ fn edge_longest(graph: &Graph, platform: &Platform, id: NodeId, k: u8) -> u64
 /// The greatest cost of a node's edges, with a miss.
 fn node_longest(graph: &Graph, platform: &Platform, id: NodeId) -> u64
     requires { id.0 < (graph_of graph.now).size }
-    ensures { result ≡ longest_at_node platform.now (graph_of graph.now) (node_code graph.now) (answers_of graph.now) id.0 }
+    ensures { result ≡ longest_at_node platform.now (graph_of graph.now) (node_code graph.now)
+        (answers_of graph.now) id.0 }
 {
     graph.graph_law();
     let first = edge_longest(graph, platform, id, 0);
@@ -90,10 +96,12 @@ fn node_longest(graph: &Graph, platform: &Platform, id: NodeId) -> u64
     first.max(second).max(end_cost(graph, platform, id, false))
 }
 
-/// The longest cost in cycles of one instruction of a task: the greatest cost of any edge of its graph, those to the
-/// end included, where each fetch misses. It looks at each node once. It takes no memory.
+/// The longest cost in cycles of one instruction of a task: the greatest cost of any edge of its
+/// graph, those to the end included, where each fetch misses. It looks at each node once. It takes
+/// no memory.
 pub fn longest(graph: &Graph, platform: &Platform) -> u64
-    ensures { result ≡ longest platform.now (graph_of graph.now) (node_code graph.now) (answers_of graph.now) }
+    ensures { result ≡ longest platform.now (graph_of graph.now) (node_code graph.now)
+        (answers_of graph.now) }
 {
     let mut greatest = 0;
     for node in 0..graph.len() {
@@ -102,12 +110,14 @@ pub fn longest(graph: &Graph, platform: &Platform) -> u64
     greatest
 }
 
-/// A law: on a platform in its ranges the longest cost of one instruction of a task is from 1 to 2^18 cycles. In constant
-/// time.
+/// A law: on a platform in its ranges the longest cost of one instruction of a task is from 1 to
+/// 2^18 cycles. In constant time.
 pub fn longest_law(graph: &Graph, platform: &Platform)
     requires { IsPlatform platform.now }
-    ensures some { 1 ≤ longest platform.now (graph_of graph.now) (node_code graph.now) (answers_of graph.now) }
-    ensures small { longest platform.now (graph_of graph.now) (node_code graph.now) (answers_of graph.now) ≤ 2 ^ 18 }
+    ensures some { 1 ≤ longest platform.now (graph_of graph.now) (node_code graph.now)
+        (answers_of graph.now) }
+    ensures small { longest platform.now (graph_of graph.now) (node_code graph.now)
+        (answers_of graph.now) ≤ 2 ^ 18 }
 {
     graph.graph_law();
 }

@@ -18,15 +18,16 @@ pub struct Listing<'a> {
     pub graph: &'a Graph,
     /// The task's part of the certificate.
     pub part: &'a TaskPart,
-    /// For each node the place of its entry among the part's states, past them all for a node that is not listed: what
-    /// `index` writes.
+    /// For each node the place of its entry among the part's states, past them all for a node that
+    /// is not listed: what `index` writes.
     pub places: &'a [usize],
 }
 
 impl Listing<'_> {
     /// The entry of a node, None where the node is not listed. In constant time.
     pub fn entry(&self, node: NodeId) -> Option<&NodeState>
-        requires index { IsEntryIndex self.now.part.now.states (length self.now.graph.now.nodes) self.now.places.now }
+        requires index { IsEntryIndex self.now.part.now.states (length self.now.graph.now.nodes)
+            self.now.places.now }
         requires node { node.0 < (graph_of self.now.graph.now).size }
         ensures { MatchOption result
             (state_entry_of self.now.part.now.states node.0 ≡ None)
@@ -40,14 +41,16 @@ impl Listing<'_> {
 
     /// Whether a node is listed. In constant time.
     pub fn is_listed(&self, node: NodeId) -> bool
-        requires index { IsEntryIndex self.now.part.now.states (length self.now.graph.now.nodes) self.now.places.now }
+        requires index { IsEntryIndex self.now.part.now.states (length self.now.graph.now.nodes)
+            self.now.places.now }
         requires node { node.0 < (graph_of self.now.graph.now).size }
         ensures { result ≡ (listed_of self.now.part.now).is_listed node.0 }
     {
         self.entry(node).is_some()
     }
 
-    /// The block that a node's instruction lies in: its address by the bytes of a line. In constant time.
+    /// The block that a node's instruction lies in: its address by the bytes of a line. In constant
+    /// time.
     pub fn block(&self, node: NodeId) -> u32
         requires platform { IsPlatform self.now.platform.now }
         requires node { node.0 < (graph_of self.now.graph.now).size }

@@ -4,8 +4,9 @@ ghost use Rattle.evict_sets.specs.Listing.{IsEntryIndex};
 
 use crpd_base::NodeState;
 
-/// Writes for each of so many nodes the place of its entry in a list of states: the first where it has several, and the
-/// number of states where it has none. It looks at each node and state once. It takes no memory.
+/// Writes for each of so many nodes the place of its entry in a list of states: the first where it
+/// has several, and the number of states where it has none. It looks at each node and state once.
+/// It takes no memory.
 pub fn index(states: &[NodeState], nodes: usize, places: &mut [usize])
     requires { length places.old ≡ nodes }
     ensures { IsEntryIndex states.now nodes places.new }

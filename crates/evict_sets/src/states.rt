@@ -5,7 +5,8 @@ ghost use Rattle.flat_graph.specs.CodeGraph.{graph_of};
 ghost use Rattle.evict_sets.specs.Full.{IsHit};
 ghost use Rattle.evict_sets.specs.CacheClauses.{ListsLeaders};
 ghost use Rattle.evict_sets.specs.ListedPart.{listed_of};
-ghost use Rattle.evict_sets.specs.Listing.{IsListing, IsChainOrder, IsStateAt, IsStateAfter, HasLowSets, CountsHits, node_accesses, counted};
+ghost use Rattle.evict_sets.specs.Listing.{IsListing, IsChainOrder, IsStateAt, IsStateAfter};
+ghost use Rattle.evict_sets.specs.Listing.{HasLowSets, CountsHits, node_accesses, counted};
 
 use crate::blocks::{access, load};
 use crate::listing::Listing;
@@ -15,41 +16,60 @@ use flat_graph::Graph;
 use std::alloc::Global;
 
 impl Listing<'_> {
-    /// Makes the full state of a node, as the blocks of the 512 cache sets, from the state after the node before it in
-    /// the order. Its time is that of the node's entry; an unlisted node's state is what stands there.
+    /// Makes the full state of a node, as the blocks of the 512 cache sets, from the state after
+    /// the node before it in the order. Its time is that of the node's entry; an unlisted node's
+    /// state is what stands there.
     pub fn enter(&self, blocks: &mut [Option<u32>], node: NodeId)
-        requires case { IsListing self.now.platform.now self.now.graph.now self.now.part.now self.now.places.now }
+        requires case { IsListing self.now.platform.now self.now.graph.now self.now.part.now
+            self.now.places.now }
         requires node { node.0 < (graph_of self.now.graph.now).size }
         requires room { length blocks.old ≡ 512 }
-        requires follows { IsFalse ((listed_of self.now.part.now).is_listed node.0) → IsStateAt (graph_of self.now.graph.now) (node_accesses self.now.platform.now self.now.graph.now) (listed_of self.now.part.now) node.0 blocks.old }
-        ensures { IsStateAt (graph_of self.now.graph.now) (node_accesses self.now.platform.now self.now.graph.now) (listed_of self.now.part.now) node.0 blocks.new }
+        requires follows { IsFalse ((listed_of self.now.part.now).is_listed node.0)
+            → IsStateAt (graph_of self.now.graph.now)
+            (node_accesses self.now.platform.now self.now.graph.now) (listed_of self.now.part.now)
+            node.0 blocks.old }
+        ensures { IsStateAt (graph_of self.now.graph.now)
+            (node_accesses self.now.platform.now self.now.graph.now) (listed_of self.now.part.now)
+            node.0 blocks.new }
     {
         if let Some(entry) = self.entry(node) {
             load(blocks, entry.sure.as_slice());
         }
     }
 
-    /// Makes the state after a node from its full state, as the blocks of the 512 cache sets; gives whether the node is
-    /// counted as a hit. In constant time.
+    /// Makes the state after a node from its full state, as the blocks of the 512 cache sets; gives
+    /// whether the node is counted as a hit. In constant time.
     pub fn leave(&self, blocks: &mut [Option<u32>], node: NodeId) -> bool
-        requires case { IsListing self.now.platform.now self.now.graph.now self.now.part.now self.now.places.now }
+        requires case { IsListing self.now.platform.now self.now.graph.now self.now.part.now
+            self.now.places.now }
         requires node { node.0 < (graph_of self.now.graph.now).size }
         requires room { length blocks.old ≡ 512 }
-        requires state { IsStateAt (graph_of self.now.graph.now) (node_accesses self.now.platform.now self.now.graph.now) (listed_of self.now.part.now) node.0 blocks.old }
-        ensures hit { IsTrue result ↔ IsHit (graph_of self.now.graph.now) (node_accesses self.now.platform.now self.now.graph.now) (listed_of self.now.part.now) node.0 }
-        ensures after { IsStateAfter (graph_of self.now.graph.now) (node_accesses self.now.platform.now self.now.graph.now) (listed_of self.now.part.now) node.0 blocks.new }
+        requires state { IsStateAt (graph_of self.now.graph.now)
+            (node_accesses self.now.platform.now self.now.graph.now) (listed_of self.now.part.now)
+            node.0 blocks.old }
+        ensures hit { IsTrue result
+            ↔ IsHit (graph_of self.now.graph.now)
+            (node_accesses self.now.platform.now self.now.graph.now)
+            (listed_of self.now.part.now) node.0 }
+        ensures after { IsStateAfter (graph_of self.now.graph.now)
+            (node_accesses self.now.platform.now self.now.graph.now) (listed_of self.now.part.now)
+            node.0 blocks.new }
     {
         access(blocks, self.cache_set(node), self.block(node))
     }
 
-    /// Writes which nodes are counted as hits: those whose full state gives the node's cache set the
-    /// node's block. It is one sweep along an order of the nodes, as `write_order` writes it. Linear
-    /// in the nodes and the listed states. It takes no memory.
+    /// Writes which nodes are counted as hits: those whose full state gives the node's cache set
+    /// the node's block. It is one sweep along an order of the nodes, as `write_order` writes it.
+    /// Linear in the nodes and the listed states. It takes no memory.
     pub fn write_hits(&self, order: &[u32], hits: &mut [bool])
-        requires case { IsListing self.now.platform.now self.now.graph.now self.now.part.now self.now.places.now }
-        requires order { IsChainOrder (graph_of self.now.graph.now) (listed_of self.now.part.now) order.now }
+        requires case { IsListing self.now.platform.now self.now.graph.now self.now.part.now
+            self.now.places.now }
+        requires order { IsChainOrder (graph_of self.now.graph.now)
+            (listed_of self.now.part.now) order.now }
         requires count { length hits.old ≡ (graph_of self.now.graph.now).size }
-        ensures { CountsHits (graph_of self.now.graph.now) (node_accesses self.now.platform.now self.now.graph.now) (listed_of self.now.part.now) (counted hits.new) }
+        ensures { CountsHits (graph_of self.now.graph.now)
+            (node_accesses self.now.platform.now self.now.graph.now) (listed_of self.now.part.now)
+            (counted hits.new) }
     {
         let mut blocks = [None; SETS];
         for k in 0..order.len() {
@@ -60,12 +80,12 @@ impl Listing<'_> {
     }
 }
 
-/// Which nodes of a task's graph are counted as hits, a flag for each node: those whose full state, from what the task's
-/// part of a certificate lists, gives the node's cache set the node's block. The listed cache sets are below 512, and
-/// every leader is listed.
+/// Which nodes of a task's graph are counted as hits, a flag for each node: those whose full state,
+/// from what the task's part of a certificate lists, gives the node's cache set the node's block.
+/// The listed cache sets are below 512, and every leader is listed.
 ///
-/// It looks at each node, edge and listed state once. It keeps a flag for each node, and takes some 200 kB of the stack.
-/// Want of memory is the only error.
+/// It looks at each node, edge and listed state once. It keeps a flag for each node, and takes some
+/// 200 kB of the stack. Want of memory is the only error.
 pub fn hits(
     alloc: Global,
     platform: &Platform,
@@ -75,7 +95,9 @@ pub fn hits(
     requires platform { IsPlatform platform.now }
     requires sets { HasLowSets part.now }
     requires leaders { ListsLeaders (graph_of graph.now) (listed_of part.now) }
-    ensures hits { IfOk result (λ hits. CountsHits (graph_of graph.now) (node_accesses platform.now graph.now) (listed_of part.now) (counted hits.items)) }
+    ensures hits { IfOk result
+        (λ hits. CountsHits (graph_of graph.now) (node_accesses platform.now graph.now)
+        (listed_of part.now) (counted hits.items)) }
     ensures count { IfOk result (λ hits. length hits.items ≡ (graph_of graph.now).size) }
 {
     graph.graph_law();

@@ -10,4 +10,5 @@ use Rattle.exec_bound.specs.declared.fault.BoundError.TheVariants.{Memory, TooLa
 -- no memory, which comes freely; or a bound that is too large, with the address of the first node
 abbrev pub IsBoundError : CodeGraph → Nest → Costs → BoundError → Type 0
 IsBoundError g n c Memory = Unit {0}
-IsBoundError g n c (TooLarge a) = (a ≡ (places_of g).address (graph_of g).first) × IsTooLarge (graph_of g) n c
+IsBoundError g n c (TooLarge a) =
+    (a ≡ (places_of g).address (graph_of g).first) × IsTooLarge (graph_of g) n c

@@ -1,5 +1,6 @@
 -- What a walk costs from a cache.
-use Rattle.std.specs.Prelude.{ℕ, ◌+◌, ◌≤◌, Bool, not, ◌==◌, if◌then◌else◌, List, [], ◌∷◌, Option, Some, IsTrue}
+use Rattle.std.specs.Prelude.{ℕ, ◌+◌, ◌≤◌, Bool, not, ◌==◌, if◌then◌else◌, List, [], ◌∷◌, Option}
+use Rattle.std.specs.Prelude.{Some, IsTrue}
 use Rattle.crpd_base.specs.declared.data.Platform.{Platform}
 use Rattle.rv_decode.specs.Cost.{cost}
 use Rattle.rv_decode.specs.Flow.{flow}
@@ -11,10 +12,12 @@ use Rattle.flat_graph.specs.CodeGraph.{CodeGraph, graph_of, node_code}
 use Rattle.loop_regions.specs.Nest.{Nest, IsKeptWalk}
 use Rattle.evict_sets.specs.Answering.{answers_of}
 
--- the block that a set holds after a walk, its last node first, that begins with these blocks in the sets
+-- the block that a set holds after a walk, its last node first, that begins with these blocks in
+-- the sets
 abbrev pub block_after : Accesses → (ℕ → Option ℕ) → List ℕ → ℕ → Option ℕ
 block_after a start [] s = start s
-block_after a start (x ∷ before) s = if a.set x == s then Some (a.block x) else block_after a start before s
+block_after a start (x ∷ before) s =
+    if a.set x == s then Some (a.block x) else block_after a start before s
 
 -- whether the fetch at node y misses after the walk
 abbrev pub is_miss_after : Accesses → (ℕ → Option ℕ) → List ℕ → ℕ → Bool
@@ -25,12 +28,14 @@ abbrev pub cost_along : Platform → NodeCode → Accesses → (ℕ → Option �
 cost_along p l a start [] = 0
 cost_along p l a start (y ∷ []) = 0
 cost_along p l a start (y ∷ x ∷ before) =
-    cost_along p l a start (x ∷ before) + cost p (l.ins x) (is_miss_after a start before x) (not (l.address y == l.address x + 4))
+    cost_along p l a start (x ∷ before) + cost p (l.ins x) (is_miss_after a start before x)
+    (not (l.address y == l.address x + 4))
 
 -- and with the last node's, an answering one
 abbrev pub whole_cost : Platform → NodeCode → Accesses → (ℕ → Option ℕ) → ℕ → List ℕ → ℕ
 whole_cost p l a start y before =
-    cost_along p l a start (y ∷ before) + cost p (l.ins y) (is_miss_after a start before y) (is_return (flow (l.address y) (l.ins y)))
+    cost_along p l a start (y ∷ before) + cost p (l.ins y) (is_miss_after a start before y)
+    (is_return (flow (l.address y) (l.ins y)))
 
 -- each kept walk to an answering node, from any cache, costs at most so many cycles
 abbrev pub BoundsWalks : Platform → CodeGraph → Nest → Accesses → ℕ → Type 0

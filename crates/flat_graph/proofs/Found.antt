@@ -1,8 +1,11 @@
 -- What was found, after one more spot.
-use Rattle.std.proofs.Common.{◌≡◌, ℕ, ◌+◌, ◌<◌, Bool, false, true, List, [], ◌∷◌, ◌++◌, length, Contains, get_or, refl, sym, ap, ◌∙◌, subst, inl, inr, ⊎_elim, ◌⊎◌, arith, AllPairs, Result, Ok, Err}
+use Rattle.std.proofs.Common.{◌≡◌, ℕ, ◌+◌, ◌<◌, Bool, false, true, List, [], ◌∷◌, ◌++◌, length}
+use Rattle.std.proofs.Common.{Contains, get_or, refl, sym, ap, ◌∙◌, subst, inl, inr, ⊎_elim, ◌⊎◌}
+use Rattle.std.proofs.Common.{arith, AllPairs, Result, Ok, Err}
 use Rattle.std.specs.Prelude.{OnOk}
 use Rattle.std.proofs.lemmas.List.{map-append, append_assoc, length-append}
-use Rattle.std.proofs.lemmas.List.Elements.{Contains-append_left, Contains-append_right, Contains-append_cases, All-push}
+use Rattle.std.proofs.lemmas.List.Elements.{Contains-append_left, Contains-append_right}
+use Rattle.std.proofs.lemmas.List.Elements.{Contains-append_cases, All-push}
 use Rattle.std.proofs.lemmas.Map.Keys.{Less-from_sorted}
 use Rattle.std.specs.declared.cmp.Ordering.{Ordering}
 use Rattle.std.specs.declared.cmp.Ordering.TheVariants.{Less, Equal, Greater}
@@ -30,21 +33,25 @@ spot_equal s t e =
     λ i. record { context = c i; address = a i }
 
 spot_same : (s : Spot) → spot_cmp s s ≡ Equal
-spot_same s = ap (λ o. ordering_then o (nat_cmp s.address s.address)) (nat_same s.context) ∙ nat_same s.address
+spot_same s =
+    ap (λ o. ordering_then o (nat_cmp s.address s.address)) (nat_same s.context)
+    ∙ nat_same s.address
 
 module _ (cmp : Spot → Spot → Ordering) (is : (s t : Spot) → cmp s t ≡ spot_cmp s t) where
   -- keys in their order are apart
   pub apart_keys : (ks : List Spot) → IsStrictlySortedBy cmp ks → AllPairs (λ s t. s ≡ t → ⊥) ks
   apart_keys ks h i j d lt within e =
       let s = get_or ks i d in
-      let less : cmp s s ≡ Less = subst (λ t. cmp s t ≡ Less) (sym e) (Less-from_sorted cmp ks i j d h lt within) in
+      let less : cmp s s ≡ Less = subst (λ t. cmp s t ≡ Less) (sym e)
+      (Less-from_sorted cmp ks i j d h lt within) in
       let same : cmp s s ≡ Equal = is s s ∙ spot_same s in
       cc
 
   same_spot : (s t : Spot) → cmp s t ≡ Equal → s ≡ t
   same_spot s t e = spot_equal s t (sym (is s t) ∙ e)
 
-  has_by : (o : Ordering) (s x : Spot) (xs more : List Spot) → (o ≡ Equal → s ≡ x) → Contains more s →
+  has_by : (o : Ordering) (s x : Spot) (xs more : List Spot) → (o ≡ Equal → s ≡ x)
+      → Contains more s →
       Contains (match_ordering o (s ∷ x ∷ xs) (x ∷ xs) (x ∷ more)) s
   has_by Less s x xs more f c = at_head (x ∷ xs) s s refl
   has_by Equal s x xs more f c = at_head xs s x (sym (f refl))
@@ -52,9 +59,11 @@ module _ (cmp : Spot → Spot → Ordering) (is : (s t : Spot) → cmp s t ≡ s
 
   pub has_inserted : (ks : List Spot) (s : Spot) → Contains (insert_key cmp ks s) s
   has_inserted [] s = at_head [] s s refl
-  has_inserted (x ∷ xs) s = has_by (cmp s x) s x xs (insert_key cmp xs s) (same_spot s x) (has_inserted xs s)
+  has_inserted (x ∷ xs) s =
+      has_by (cmp s x) s x xs (insert_key cmp xs s) (same_spot s x) (has_inserted xs s)
 
-  from_by : (o : Ordering) (s x : Spot) (xs more : List Spot) (n : Spot) → (Contains more n → Contains xs n ⊎ (s ≡ n)) →
+  from_by : (o : Ordering) (s x : Spot) (xs more : List Spot) (n : Spot)
+      → (Contains more n → Contains xs n ⊎ (s ≡ n)) →
       Contains (match_ordering o (s ∷ x ∷ xs) (x ∷ xs) (x ∷ more)) n → Contains (x ∷ xs) n ⊎ (s ≡ n)
   from_by Less s x xs more n f c = ⊎_elim (λ e. inr e) (λ r. inl r) (head_or_rest (x ∷ xs) n s c)
   from_by Equal s x xs more n f c = inl c
@@ -64,11 +73,14 @@ module _ (cmp : Spot → Spot → Ordering) (is : (s t : Spot) → cmp s t ≡ s
       (λ r. ⊎_elim (λ a. inl (at_rest xs n x a)) (λ e. inr e) (f r))
       (head_or_rest more n x c)
 
-  pub from_inserted : (ks : List Spot) (s : Spot) (n : Spot) → Contains (insert_key cmp ks s) n → Contains ks n ⊎ (s ≡ n)
+  pub from_inserted : (ks : List Spot) (s : Spot) (n : Spot) → Contains (insert_key cmp ks s) n
+      → Contains ks n ⊎ (s ≡ n)
   from_inserted [] s n c = inr (in_one n s c)
-  from_inserted (x ∷ xs) s n c = from_by (cmp s x) s x xs (insert_key cmp xs s) n (from_inserted xs s n) c
+  from_inserted (x ∷ xs) s n c =
+      from_by (cmp s x) s x xs (insert_key cmp xs s) n (from_inserted xs s n) c
 
-  kept_by : (o : Ordering) (s x : Spot) (xs more : List Spot) (n : Spot) → (Contains xs n → Contains more n) →
+  kept_by : (o : Ordering) (s x : Spot) (xs more : List Spot) (n : Spot)
+      → (Contains xs n → Contains more n) →
       Contains (x ∷ xs) n → Contains (match_ordering o (s ∷ x ∷ xs) (x ∷ xs) (x ∷ more)) n
   kept_by Less s x xs more n f c = at_rest (x ∷ xs) n s c
   kept_by Equal s x xs more n f c = c
@@ -78,11 +90,14 @@ module _ (cmp : Spot → Spot → Ordering) (is : (s t : Spot) → cmp s t ≡ s
       (λ r. at_rest more n x (f r))
       (head_or_rest xs n x c)
 
-  pub kept_inserted : (ks : List Spot) (s : Spot) (n : Spot) → Contains ks n → Contains (insert_key cmp ks s) n
+  pub kept_inserted : (ks : List Spot) (s : Spot) (n : Spot) → Contains ks n
+      → Contains (insert_key cmp ks s) n
   kept_inserted [] s n c = absurd (in_none n c)
-  kept_inserted (x ∷ xs) s n c = kept_by (cmp s x) s x xs (insert_key cmp xs s) n (kept_inserted xs s n) c
+  kept_inserted (x ∷ xs) s n c =
+      kept_by (cmp s x) s x xs (insert_key cmp xs s) n (kept_inserted xs s n) c
 
-  found_by : (b : Bool) (s x : Spot) (xs : List Spot) → (is_at (cmp s) x ≡ b) → (list_any (is_at (cmp s)) xs ≡ true → Contains xs s) →
+  found_by : (b : Bool) (s x : Spot) (xs : List Spot) → (is_at (cmp s) x ≡ b)
+      → (list_any (is_at (cmp s)) xs ≡ true → Contains xs s) →
       list_any (is_at (cmp s)) (x ∷ xs) ≡ true → Contains (x ∷ xs) s
   found_by true s x xs e f h = at_head xs s x (sym (same_spot s x (equal (cmp s x) e)))
     where
@@ -98,8 +113,10 @@ module _ (cmp : Spot → Spot → Ordering) (is : (s t : Spot) → cmp s t ≡ s
   found_spot (x ∷ xs) s h = found_by (is_at (cmp s) x) s x xs refl (found_spot xs s) h
 
   -- one more spot that was not there
-  pub reached_more : (lists : List (List ℕ)) (set list : List Spot) (s : Spot) → AreSameSpots lists set list → IsStrictlySortedBy cmp (insert_key cmp set s) →
-      length (insert_key cmp set s) ≡ length set + 1 → s.context < length lists → AreSameSpots lists (insert_key cmp set s) (list ++ s ∷ [])
+  pub reached_more : (lists : List (List ℕ)) (set list : List Spot) (s : Spot)
+      → AreSameSpots lists set list → IsStrictlySortedBy cmp (insert_key cmp set s) →
+      length (insert_key cmp set s) ≡ length set + 1 → s.context < length lists
+      → AreSameSpots lists (insert_key cmp set s) (list ++ s ∷ [])
   reached_more lists set list s R sorted count lt = record {
     apart = apart_keys (insert_key cmp set s) sorted;
     same = λ n. (into n, from n);
@@ -132,29 +149,42 @@ pub on_ok_map : {T E : Type 0} (r : Result T E) (P Q : Type 0) → (P → Q) →
 on_ok_map (Ok x) P Q f p = f p
 on_ok_map (Err e) P Q f p = tt
 
-pub added_none : (old some : List FlatNode) → ((n : FlatNode) → Contains some n → Contains old n) → AreAdded old some old
-added_none old some f = record { more = []; behind = sym (append_nil old); among = λ n c. absurd (in_none n c); has = f }
+pub added_none : (old some : List FlatNode) → ((n : FlatNode) → Contains some n → Contains old n)
+    → AreAdded old some old
+added_none old some f = record {
+  more = [];
+  behind = sym (append_nil old);
+  among = λ n c. absurd (in_none n c);
+  has = f;
+}
   where
     append_nil : (l : List FlatNode) → l ++ [] ≡ l
     append_nil [] = refl
     append_nil (x ∷ l) = ap (λ r. x ∷ r) (append_nil l)
 
-pub added_there : (lists : List (List ℕ)) (old : List Spot) (s : Spot) → Contains old s → AreAdded (spot_nodes lists old) (spot_node lists s ∷ []) (spot_nodes lists old)
+pub added_there : (lists : List (List ℕ)) (old : List Spot) (s : Spot) → Contains old s
+    → AreAdded (spot_nodes lists old) (spot_node lists s ∷ []) (spot_nodes lists old)
 added_there lists old s there =
-    added_none (spot_nodes lists old) (spot_node lists s ∷ []) (λ n m. subst (Contains (spot_nodes lists old)) (in_one n _ m) (contains_map (spot_node lists) old s there))
+    added_none (spot_nodes lists old) (spot_node lists s ∷ [])
+    (λ n m. subst (Contains (spot_nodes lists old)) (in_one n _ m)
+    (contains_map (spot_node lists) old s there))
 
-pub added_one : (lists : List (List ℕ)) (old new : List Spot) (s : Spot) → new ≡ old ++ s ∷ [] → AreAdded (spot_nodes lists old) (spot_node lists s ∷ []) (spot_nodes lists new)
+pub added_one : (lists : List (List ℕ)) (old new : List Spot) (s : Spot) → new ≡ old ++ s ∷ []
+    → AreAdded (spot_nodes lists old) (spot_node lists s ∷ []) (spot_nodes lists new)
 added_one lists old new s e = record {
   more = spot_node lists s ∷ [];
   behind = split;
   among = λ n c. c;
-  has = λ n c. subst (λ l. Contains l n) (sym split) (Contains-append_right (spot_nodes lists old) (spot_node lists s ∷ []) n c);
+  has = λ n c.
+      subst (λ l. Contains l n) (sym split)
+      (Contains-append_right (spot_nodes lists old) (spot_node lists s ∷ []) n c);
 }
   where
     split : spot_nodes lists new ≡ spot_nodes lists old ++ spot_node lists s ∷ []
     split = ap (spot_nodes lists) e ∙ map-append (spot_node lists) old (s ∷ [])
 
-pub added_then : (old mid new : List FlatNode) (a b : FlatNode) → AreAdded old (a ∷ []) mid → AreAdded mid (b ∷ []) new → AreAdded old (a ∷ b ∷ []) new
+pub added_then : (old mid new : List FlatNode) (a b : FlatNode) → AreAdded old (a ∷ []) mid
+    → AreAdded mid (b ∷ []) new → AreAdded old (a ∷ b ∷ []) new
 added_then old mid new a b A B = record {
   more = A.more ++ B.more;
   behind = B.behind ∙ ap (λ l. l ++ B.more) A.behind ∙ append_assoc old A.more B.more;
@@ -165,7 +195,8 @@ added_then old mid new a b A B = record {
       (Contains-append_cases A.more B.more n c);
   has = λ n c.
       ⊎_elim
-      (λ e. subst (λ l. Contains l n) (sym B.behind) (Contains-append_left mid B.more n (A.has n (at_head [] n a e))))
+      (λ e. subst (λ l. Contains l n) (sym B.behind)
+      (Contains-append_left mid B.more n (A.has n (at_head [] n a e))))
       (λ r. B.has n r)
       (head_or_rest (b ∷ []) n a c);
 }

@@ -12,7 +12,8 @@ at_most_two (To v) = omega arith
 at_most_two (Either v w) = omega arith
 
 -- of each number
-pub two_at : (contexts : List (List ℕ)) (nodes : List Stand) (u : ℕ) → length (slice_index_or (map (stored_node contexts) nodes) u no_node).next ≤ 2
+pub two_at : (contexts : List (List ℕ)) (nodes : List Stand) (u : ℕ)
+    → length (slice_index_or (map (stored_node contexts) nodes) u no_node).next ≤ 2
 two_at contexts [] u = omega arith
 two_at contexts (n ∷ nodes) zero = at_most_two n.next
 two_at contexts (n ∷ nodes) (suc u) = two_at contexts nodes u

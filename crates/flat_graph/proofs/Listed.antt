@@ -1,5 +1,7 @@
 -- Lists of calls and their numbers.
-use Rattle.std.proofs.Common.{◌≡◌, ℕ, suc, ◌<◌, Bool, true, false, List, [], ◌∷◌, ◌++◌, length, cond, Some, None, slice_get, refl, sym, ap, ◌∙◌, subst, ⊎_elim, arith, All}
+use Rattle.std.proofs.Common.{◌≡◌, ℕ, suc, ◌<◌, Bool, true, false, List, [], ◌∷◌, ◌++◌, length}
+use Rattle.std.proofs.Common.{cond, Some, None, slice_get, refl, sym, ap, ◌∙◌, subst, ⊎_elim, arith}
+use Rattle.std.proofs.Common.{All}
 use Rattle.std.proofs.lemmas.Bool.{false≢true}
 use Rattle.std.proofs.lemmas.Option.{slice_get_within, get_or_from_slice_get}
 use Rattle.std.specs.declared.cmp.Ordering.{Ordering}
@@ -22,19 +24,25 @@ equal_at Less h = absurd (false≢true h)
 equal_at Equal h = refl
 equal_at Greater h = absurd (false≢true h)
 
-module _ (m m' : BTreeMap (List ℕ) ℕ) (lists : List (List ℕ)) (c : List ℕ) (N : AreNumbered m lists) (unmet : get list_cmp m c ≡ None)
-    (updated : (q : List ℕ) → get list_cmp m' q ≡ cond (is_at (list_cmp c) q) (Some (length lists)) (get list_cmp m q)) where
+module _ (m m' : BTreeMap (List ℕ) ℕ) (lists : List (List ℕ)) (c : List ℕ) (N : AreNumbered m lists)
+    (unmet : get list_cmp m c ≡ None)
+    (updated : (q : List ℕ) → get list_cmp m' q
+    ≡ cond (is_at (list_cmp c) q) (Some (length lists)) (get list_cmp m q)) where
   other : (d : List ℕ) (n : ℕ) → get list_cmp m d ≡ Some n → c ≡ d → ⊥
   other d n e same = let here = ap (get list_cmp m) same in cc (here, unmet, e)
 
-  to : (b : Bool) (d : List ℕ) (n : ℕ) → is_at (list_cmp c) d ≡ b → cond b (Some (length lists)) (get list_cmp m d) ≡ Some n → slice_get (lists ++ c ∷ []) n ≡ Some d
+  to : (b : Bool) (d : List ℕ) (n : ℕ) → is_at (list_cmp c) d ≡ b
+      → cond b (Some (length lists)) (get list_cmp m d) ≡ Some n
+      → slice_get (lists ++ c ∷ []) n ≡ Some d
   to true d n here e =
       let same = list_equal c d (equal_at (list_cmp c d) here) in
       let place : length lists ≡ n = cc in
       subst (λ k. slice_get (lists ++ c ∷ []) k ≡ Some d) place (at_end lists c ∙ ap Some same)
   to false d n here e = more_pushed lists c n d ((N d n).0 e)
 
-  from : (b : Bool) (d : List ℕ) (n : ℕ) → is_at (list_cmp c) d ≡ b → slice_get (lists ++ c ∷ []) n ≡ Some d → cond b (Some (length lists)) (get list_cmp m d) ≡ Some n
+  from : (b : Bool) (d : List ℕ) (n : ℕ) → is_at (list_cmp c) d ≡ b
+      → slice_get (lists ++ c ∷ []) n ≡ Some d
+      → cond b (Some (length lists)) (get list_cmp m d) ≡ Some n
   from true d n here e =
       let same = list_equal c d (equal_at (list_cmp c d) here) in
       ⊎_elim
@@ -44,7 +52,8 @@ module _ (m m' : BTreeMap (List ℕ) ℕ) (lists : List (List ℕ)) (c : List �
   from false d n here e =
       ⊎_elim
       (λ old. (N d n).1 old)
-      (λ new. let at : is_at (list_cmp c) d ≡ true = ap (λ l. is_at (list_cmp c) l) (sym new.1) ∙ ap is_eq (list_same c) in absurd (false≢true (sym here ∙ at)))
+      (λ new. let at : is_at (list_cmp c) d ≡ true = ap (λ l. is_at (list_cmp c) l) (sym new.1)
+      ∙ ap is_eq (list_same c) in absurd (false≢true (sym here ∙ at)))
       (at_more lists c n d e)
 
   pub numbered_more : AreNumbered m' (lists ++ c ∷ [])
@@ -61,10 +70,12 @@ module _ (old new : List (List ℕ)) (more : ExtendsLists old new) where
   flat_more : (s : Spot) → s.context < length old → spot_node new s ≡ spot_node old s
   flat_more s lt =
       let c = some_at old s.context lt in
-      let same = get_or_from_slice_get new s.context c.0 [] (more s.context c.0 c.1) ∙ sym (get_or_from_slice_get old s.context c.0 [] c.1) in
+      let same = get_or_from_slice_get new s.context c.0 [] (more s.context c.0 c.1)
+      ∙ sym (get_or_from_slice_get old s.context c.0 [] c.1) in
       λ i. record { context = same i; address = s.address }
 
-  pub flats_more : (spots : List Spot) → All (λ s. s.context < length old) spots → spot_nodes new spots ≡ spot_nodes old spots
+  pub flats_more : (spots : List Spot) → All (λ s. s.context < length old) spots
+      → spot_nodes new spots ≡ spot_nodes old spots
   flats_more [] h = refl
   flats_more (s ∷ spots) h =
       let here = flat_more s (h 0 s (omega arith)) in
@@ -80,16 +91,24 @@ module _ (old new : List (List ℕ)) (more : ExtendsLists old new) where
   }
 
 -- the node of a spot whose list is known
-pub flat_listed : (lists : List (List ℕ)) (n a : ℕ) (c : List ℕ) → slice_get lists n ≡ Some c → spot_node lists (record { context = n; address = a }) ≡ record { context = c; address = a }
-flat_listed lists n a c e = let same = get_or_from_slice_get lists n c [] e in λ i. record { context = same i; address = a }
+pub flat_listed : (lists : List (List ℕ)) (n a : ℕ) (c : List ℕ) → slice_get lists n ≡ Some c
+    → spot_node lists (record { context = n; address = a }) ≡ record { context = c; address = a }
+flat_listed lists n a c e = let same = get_or_from_slice_get lists n c [] e in λ i. record {
+  context = same i;
+  address = a;
+}
 
 -- two spots with lists of calls are one node only if they are one spot
-pub one_spot : (m : BTreeMap (List ℕ) ℕ) (lists : List (List ℕ)) → AreNumbered m lists → (s t : Spot) → s.context < length lists → t.context < length lists → spot_node lists s ≡ spot_node lists t → s ≡ t
+pub one_spot : (m : BTreeMap (List ℕ) ℕ) (lists : List (List ℕ)) → AreNumbered m lists
+    → (s t : Spot) → s.context < length lists → t.context < length lists
+    → spot_node lists s ≡ spot_node lists t → s ≡ t
 one_spot m lists N s t s_lt t_lt e =
     let c = some_at lists s.context s_lt in
     let d = some_at lists t.context t_lt in
-    let calls : c.0 ≡ d.0 = sym (get_or_from_slice_get lists s.context c.0 [] c.1) ∙ ap (λ (n : FlatNode). n.context) e ∙ get_or_from_slice_get lists t.context d.0 [] d.1 in
-    let numbers = sym ((N c.0 s.context).1 c.1) ∙ ap (get list_cmp m) calls ∙ (N d.0 t.context).1 d.1 in
+    let calls : c.0 ≡ d.0 = sym (get_or_from_slice_get lists s.context c.0 [] c.1)
+    ∙ ap (λ (n : FlatNode). n.context) e ∙ get_or_from_slice_get lists t.context d.0 [] d.1 in
+    let numbers = sym ((N c.0 s.context).1 c.1) ∙ ap (get list_cmp m) calls
+    ∙ (N d.0 t.context).1 d.1 in
     let context = one s.context t.context numbers in
     let address : s.address ≡ t.address = ap (λ (n : FlatNode). n.address) e in
     λ i. record { context = context i; address = address i }

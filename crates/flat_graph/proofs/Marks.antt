@@ -1,5 +1,8 @@
 -- Marks, node by node.
-use Rattle.std.proofs.Common.{◌≡◌, ◌≢◌, ℕ, ◌+◌, ◌<◌, ◌≤◌, ◌↔◌, Bool, true, false, ◌==◌, ◌||◌, if◌then◌else◌, List, [], ◌∷◌, ◌++◌, zero, suc, map, take, drop, length, Contains, Some, slice_get, refl, sym, ◌∙◌, subst, inl, inr, ⊎_elim, ◌⊎◌, arith, IsTrue}
+use Rattle.std.proofs.Common.{◌≡◌, ◌≢◌, ℕ, ◌+◌, ◌<◌, ◌≤◌, ◌↔◌, Bool, true, false, ◌==◌, ◌||◌}
+use Rattle.std.proofs.Common.{if◌then◌else◌, List, [], ◌∷◌, ◌++◌, zero, suc, map, take, drop}
+use Rattle.std.proofs.Common.{length, Contains, Some, slice_get, refl, sym, ◌∙◌, subst, inl, inr}
+use Rattle.std.proofs.Common.{⊎_elim, ◌⊎◌, arith, IsTrue}
 use Rattle.std.proofs.lemmas.Bool.{cases_lt, cases_eq}
 use Rattle.std.proofs.lemmas.Bool.Decides.{nat_tests}
 use Rattle.std.proofs.lemmas.List.{take_at}
@@ -8,7 +11,8 @@ use Rattle.crpd_base.proofs.Elements.{at_head, at_rest, head_or_rest, in_none, i
 use Rattle.flat_graph.specs.declared.lines.Line.{Line}
 use Rattle.flat_graph.specs.Graph.{Graph, Edge, Continues, IsLeader}
 use Rattle.flat_graph.specs.Inner.StoredGraph.{onward}
-use Rattle.flat_graph.specs.Inner.Leaders.{AreEnds, IsMarked, AreMarked, HasLeaders, is_leading, mark_after_edges, mark_after_edge}
+use Rattle.flat_graph.specs.Inner.Leaders.{AreEnds, IsMarked, AreMarked, HasLeaders, is_leading}
+use Rattle.flat_graph.specs.Inner.Leaders.{mark_after_edges, mark_after_edge}
 use Rattle.flat_graph.specs.declared.graph.Onward.{Onward}
 use Rattle.flat_graph.specs.declared.graph.Onward.TheVariants.{Ends, To, Either}
 use Rattle.flat_graph.specs.declared.leaders.Mark.{Mark}
@@ -16,8 +20,13 @@ use Rattle.flat_graph.specs.declared.leaders.Mark.TheVariants as mark
 
 module _ (g : Graph) (k : ℕ) (lt : k < g.size) where
   -- a node towards which no edge goes from node k
-  stays : (v : ℕ) (m : Mark) → (Contains (g.next k) v → ⊥) → IsMarked g k v m → IsMarked g (k + 1) v m
-  stays v mark.Unmet none h = (h.0, λ u below c. ⊎_elim (λ old. h.1 u old c) (λ new. none (subst (λ i. Contains (g.next i) v) (the u new below) c)) (cases_lt u k))
+  stays : (v : ℕ) (m : Mark) → (Contains (g.next k) v → ⊥) → IsMarked g k v m
+      → IsMarked g (k + 1) v m
+  stays v mark.Unmet none h = (
+    h.0,
+    λ u below c. ⊎_elim (λ old. h.1 u old c)
+        (λ new. none (subst (λ i. Contains (g.next i) v) (the u new below) c)) (cases_lt u k),
+  )
     where
       the : (u : ℕ) → k ≤ u → u < k + 1 → u ≡ k
       the u a b = omega arith
@@ -26,7 +35,9 @@ module _ (g : Graph) (k : ℕ) (lt : k < g.size) where
     h.1,
     omega (arith, h.2),
     h.3,
-    λ w below c. ⊎_elim (λ old. h.4 w old c) (λ new. absurd (none (subst (λ i. Contains (g.next i) v) (the w new below) c))) (cases_lt w k),
+    λ w below c. ⊎_elim (λ old. h.4 w old c)
+        (λ new. absurd (none (subst (λ i. Contains (g.next i) v) (the w new below) c)))
+        (cases_lt w k),
   )
     where
       the : (u : ℕ) → k ≤ u → u < k + 1 → u ≡ k
@@ -34,12 +45,25 @@ module _ (g : Graph) (k : ℕ) (lt : k < g.size) where
   stays v mark.Leads none h = h
 
   -- the one edge from node k goes to v
-  met_once : (v : ℕ) (m : Mark) → g.next k ≡ v ∷ [] → IsMarked g k v m → IsMarked g (k + 1) v (mark_after_edge m)
-  met_once v mark.Unmet e h =
-      (h.0, k, omega arith, e, λ w below c. ⊎_elim (λ old. absurd (h.1 w old c)) (λ new. omega (arith, new, below)) (cases_lt w k))
+  met_once : (v : ℕ) (m : Mark) → g.next k ≡ v ∷ [] → IsMarked g k v m
+      → IsMarked g (k + 1) v (mark_after_edge m)
+  met_once v mark.Unmet e h = (
+    h.0,
+    k,
+    omega arith,
+    e,
+    λ w below c. ⊎_elim (λ old. absurd (h.1 w old c)) (λ new. omega (arith, new, below))
+        (cases_lt w k),
+  )
   met_once v mark.Continues e h = λ c.
-      let from : h.1 ≡ c.0 = c.1.one_edge h.1 (omega (arith, h.2), subst (λ l. Contains l v) (sym h.3) (at_head [] v v refl)) in
-      let here : k ≡ c.0 = c.1.one_edge k (lt, subst (λ l. Contains l v) (sym e) (at_head [] v v refl)) in
+      let from : h.1 ≡ c.0 = c.1.one_edge h.1 (
+        omega (arith, h.2),
+        subst (λ l. Contains l v) (sym h.3) (at_head [] v v refl),
+      ) in
+      let here : k ≡ c.0 = c.1.one_edge k (
+        lt,
+        subst (λ l. Contains l v) (sym e) (at_head [] v v refl),
+      ) in
       absurd (omega (arith, from, here, h.2))
   met_once v mark.Leads e h = h
 
@@ -48,43 +72,52 @@ module _ (g : Graph) (k : ℕ) (lt : k < g.size) where
   met_beside v a b e apart c s =
       let here : k ≡ s.0 = s.1.one_edge k (lt, c) in
       let to_a : a ≡ v = s.1.one_successor a (from s.0 here a (at_head (b ∷ []) a a refl)) in
-      let to_b : b ≡ v = s.1.one_successor b (from s.0 here b (at_rest (b ∷ []) b a (at_head [] b b refl))) in
+      let to_b : b ≡ v = s.1.one_successor b
+      (from s.0 here b (at_rest (b ∷ []) b a (at_head [] b b refl))) in
       apart (to_a ∙ sym to_b)
     where
       from : (u : ℕ) → k ≡ u → (w : ℕ) → Contains (a ∷ b ∷ []) w → Edge g u w
       from u same w d = subst (λ i. Edge g i w) same (lt, subst (λ l. Contains l w) (sym e) d)
 
   other_one : (v a : ℕ) → g.next k ≡ a ∷ [] → (v == a) ≡ false → Contains (g.next k) v → ⊥
-  other_one v a e f c = let same = in_one v a (subst (λ l. Contains l v) e c) in absurd (grind (arith, nat_tests))
+  other_one v a e f c =
+      let same = in_one v a (subst (λ l. Contains l v) e c) in absurd (grind (arith, nat_tests))
 
-  other_two : (v a b : ℕ) → g.next k ≡ a ∷ b ∷ [] → ((v == a) || (v == b)) ≡ false → Contains (g.next k) v → ⊥
+  other_two : (v a b : ℕ) → g.next k ≡ a ∷ b ∷ [] → ((v == a) || (v == b)) ≡ false
+      → Contains (g.next k) v → ⊥
   other_two v a b e f c =
       ⊎_elim
       (λ (s : a ≡ v). absurd (grind (arith, nat_tests)))
       (λ r. let same = in_one v b r in absurd (grind (arith, nat_tests)))
       (head_or_rest (b ∷ []) v a (subst (λ l. Contains l v) e c))
 
-  pub marked_more : (next : Onward) → AreEnds g.size next → g.next k ≡ onward next → (v : ℕ) (m : Mark) → IsMarked g k v m → IsMarked g (k + 1) v (mark_after_edges next v m)
+  pub marked_more : (next : Onward) → AreEnds g.size next → g.next k ≡ onward next
+      → (v : ℕ) (m : Mark) → IsMarked g k v m → IsMarked g (k + 1) v (mark_after_edges next v m)
   marked_more Ends E e v m h = stays v m (λ c. in_none v (subst (λ l. Contains l v) e c)) h
   marked_more (To a) E e v m h = by (v == a) refl
     where
       by : (b : Bool) → (v == a) ≡ b → IsMarked g (k + 1) v (if b then mark_after_edge m else m)
-      by true t = let same : v ≡ a = grind (arith, nat_tests) in met_once v m (subst (λ x. g.next k ≡ x ∷ []) (sym same) e) h
+      by true t =
+          let same : v ≡ a = grind (arith, nat_tests) in
+          met_once v m (subst (λ x. g.next k ≡ x ∷ []) (sym same) e) h
       by false f = stays v m (other_one v a e f) h
   marked_more (Either a b) E e v m h = by ((v == a) || (v == b)) refl
     where
       one_of : ((v == a) || (v == b)) ≡ true → (a ≡ v) ⊎ (b ≡ v)
       one_of t = ⊎_elim (λ s. inl (sym s)) (λ n. inr (grind (arith, nat_tests))) (cases_eq v a)
 
-      by : (x : Bool) → ((v == a) || (v == b)) ≡ x → IsMarked g (k + 1) v (if x then mark.Leads else m)
+      by : (x : Bool) → ((v == a) || (v == b)) ≡ x
+          → IsMarked g (k + 1) v (if x then mark.Leads else m)
       by true t =
           met_beside v a b e E.apart
           (subst (λ l. Contains l v) (sym e)
-          (⊎_elim (λ s. at_head (b ∷ []) v a s) (λ s. at_rest (b ∷ []) v a (at_head [] v b s)) (one_of t)))
+          (⊎_elim (λ s. at_head (b ∷ []) v a s) (λ s. at_rest (b ∷ []) v a (at_head [] v b s))
+          (one_of t)))
       by false f = stays v m (other_two v a b e f) h
 
 -- where all edges were met, the mark tells whether the node is a leader
-pub marks_tell : (g : Graph) (v : ℕ) (m : Mark) → IsMarked g g.size v m → IsTrue (is_leading m) ↔ IsLeader g v
+pub marks_tell : (g : Graph) (v : ℕ) (m : Mark) → IsMarked g g.size v m
+    → IsTrue (is_leading m) ↔ IsLeader g v
 marks_tell g v mark.Unmet h = (λ n c. h.1 c.0 c.1.edge.0 c.1.edge.1, λ l. refl)
 marks_tell g v mark.Continues h = (λ n. cc, λ l. absurd (l (h.1, goes_on)))
   where
@@ -97,25 +130,33 @@ marks_tell g v mark.Continues h = (λ n. cc, λ l. absurd (l (h.1, goes_on)))
     }
 marks_tell g v mark.Leads h = (λ n. h, λ l. refl)
 
-pub all_met : (lines : List Line) (first : ℕ) (marks : List Mark) → AreMarked lines first (length lines) marks → HasLeaders lines first (map is_leading marks)
+pub all_met : (lines : List Line) (first : ℕ) (marks : List Mark)
+    → AreMarked lines first (length lines) marks → HasLeaders lines first (map is_leading marks)
 all_met lines first marks M g E v b e =
     let m = some_mark marks v b e in
-    let tell = marks_tell g v m.0 (subst (λ n. IsMarked g n v m.0) (sym E.size) (M g E v m.0 m.1)) in
+    let tell = marks_tell g v m.0
+    (subst (λ n. IsMarked g n v m.0) (sym E.size) (M g E v m.0 m.1)) in
     subst (λ x. IsTrue x ↔ IsLeader g v) m.2 tell
   where
-    some_mark : (ms : List Mark) (k : ℕ) (x : Bool) → slice_get (map is_leading ms) k ≡ Some x → (m : Mark) × (slice_get ms k ≡ Some m) × (is_leading m ≡ x)
+    some_mark : (ms : List Mark) (k : ℕ) (x : Bool) → slice_get (map is_leading ms) k ≡ Some x
+        → (m : Mark) × (slice_get ms k ≡ Some m) × (is_leading m ≡ x)
     some_mark [] k x s = cc
     some_mark (m ∷ ms) zero x s = (m, refl, cc)
     some_mark (m ∷ ms) (suc k) x s = some_mark ms k x s
 
 -- marks after the edges of one more line
-pub all_more : (lines : List Line) (first k : ℕ) (l : Line) (old new : List Mark) → AreMarked lines first k old → slice_get lines k ≡ Some l → AreEnds (length lines) l.next →
-    length new ≡ length old → ((v : ℕ) (m n : Mark) → slice_get old v ≡ Some m → slice_get new v ≡ Some n → n ≡ mark_after_edges l.next v m) → AreMarked lines first (k + 1) new
+pub all_more : (lines : List Line) (first k : ℕ) (l : Line) (old new : List Mark)
+    → AreMarked lines first k old → slice_get lines k ≡ Some l → AreEnds (length lines) l.next →
+    length new ≡ length old
+    → ((v : ℕ) (m n : Mark) → slice_get old v ≡ Some m → slice_get new v ≡ Some n
+    → n ≡ mark_after_edges l.next v m) → AreMarked lines first (k + 1) new
 all_more lines first k l old new M at ends same after g E v n e =
     let m = some_at old v (omega (arith, same, slice_get_within new v n e)) in
     let below : k < g.size = omega (arith, E.size, slice_get_within lines k l at) in
     subst (IsMarked g (k + 1) v) (sym (after v m.0 n m.1 e))
-    (marked_more g k below l.next (subst (λ s. AreEnds s l.next) (sym E.size) ends) (E.next k l at) v m.0 (M g E v m.0 m.1))
+    (marked_more g k below l.next (subst (λ s. AreEnds s l.next) (sym E.size) ends)
+    (E.next k l at) v m.0 (M g E v m.0 m.1))
 
-pub whole : {X : Type 0} (new old : List X) (n : ℕ) → length new ≡ length old → n ≡ length old → take n (new ++ drop (length new) old) ≡ new
+pub whole : {X : Type 0} (new old : List X) (n : ℕ) → length new ≡ length old → n ≡ length old
+    → take n (new ++ drop (length new) old) ≡ new
 whole new old n same all = take_at new (drop (length new) old) n (omega arith)

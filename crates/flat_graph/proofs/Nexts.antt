@@ -9,10 +9,12 @@ pub edge_at : (g : Graph) (u k v : ℕ) → u < g.size → slice_get (g.next u) 
 edge_at g u k v lt e = (lt, at_contains (g.next u) k v e)
 
 -- the places of an edge
-pub place_of : (g : Graph) (u v : ℕ) → length (g.next u) ≤ 2 → Edge g u v → (slice_get (g.next u) 0 ≡ Some v) ⊎ (slice_get (g.next u) 1 ≡ Some v)
+pub place_of : (g : Graph) (u v : ℕ) → length (g.next u) ≤ 2 → Edge g u v
+    → (slice_get (g.next u) 0 ≡ Some v) ⊎ (slice_get (g.next u) 1 ≡ Some v)
 place_of g u v few e = first_or_second (g.next u) v few e.1
 
 -- what holds at both places holds at each edge
 pub at_edges : (g : Graph) (u : ℕ) (P : ℕ → Type 0) → length (g.next u) ≤ 2
-    → ((v : ℕ) → slice_get (g.next u) 0 ≡ Some v → P v) → ((v : ℕ) → slice_get (g.next u) 1 ≡ Some v → P v) → (v : ℕ) → Edge g u v → P v
+    → ((v : ℕ) → slice_get (g.next u) 0 ≡ Some v → P v)
+    → ((v : ℕ) → slice_get (g.next u) 1 ≡ Some v → P v) → (v : ℕ) → Edge g u v → P v
 at_edges g u P few one two v e = ⊎_elim (λ h. one v h) (λ h. two v h) (place_of g u v few e)

@@ -1,11 +1,13 @@
 -- The lines of nodes, one by one.
-use Rattle.std.proofs.Common.{◌≡◌, ℕ, ◌<◌, ◌≤◌, List, [], ◌∷◌, ◌++◌, length, Some, None, Contains, slice_get, get_or, sym, ap, ◌∙◌, subst, ⊎_elim, All, option_map}
+use Rattle.std.proofs.Common.{◌≡◌, ℕ, ◌<◌, ◌≤◌, List, [], ◌∷◌, ◌++◌, length, Some, None, Contains}
+use Rattle.std.proofs.Common.{slice_get, get_or, sym, ap, ◌∙◌, subst, ⊎_elim, All, option_map}
 use Rattle.std.proofs.lemmas.Option.{slice_get-get_or, slice_get-map}
 use Rattle.std.proofs.lemmas.List.Elements.{All-contains_itself, All-weaker}
 use Rattle.crpd_base.proofs.Elements.{at_contains, some_at, at_more}
 use Rattle.rv_decode.specs.declared.Ins.{Ins}
 use Rattle.rv_decode.specs.Flow.{Flow, Flows, Words, flow, flows, flow_of_row, flow_of_word}
-use Rattle.flat_graph.specs.FlatGraph.{FlatNode, IsNode, a_successor, IsNumbering, error_of, successors, goes_to, successors_by}
+use Rattle.flat_graph.specs.FlatGraph.{FlatNode, IsNode, a_successor, IsNumbering, error_of}
+use Rattle.flat_graph.specs.FlatGraph.{successors, goes_to, successors_by}
 use Rattle.flat_graph.specs.GraphErrors.{IsGraphError}
 use Rattle.flat_graph.specs.Inner.GraphErrors.{HasInstructionAt, graph_error}
 use Rattle.flat_graph.specs.Inner.GraphParts.{IsNodeLine, AreNodeLines}
@@ -16,43 +18,56 @@ use Rattle.flat_graph.specs.declared.spots.Spot.{Spot}
 use Rattle.flat_graph.proofs.Numbers.{refused_at, refused_by}
 
 -- the spot at a place, as a node
-pub flat_at : (lists : List (List ℕ)) (spots : List Spot) (k : ℕ) (d : Spot) → k < length spots → slice_get (spot_nodes lists spots) k ≡ Some (spot_node lists (get_or spots k d))
-flat_at lists spots k d lt = slice_get-map (spot_node lists) spots k ∙ ap (option_map (spot_node lists)) (slice_get-get_or spots k d lt)
+pub flat_at : (lists : List (List ℕ)) (spots : List Spot) (k : ℕ) (d : Spot) → k < length spots
+    → slice_get (spot_nodes lists spots) k ≡ Some (spot_node lists (get_or spots k d))
+flat_at lists spots k d lt =
+    slice_get-map (spot_node lists) spots k
+    ∙ ap (option_map (spot_node lists)) (slice_get-get_or spots k d lt)
 
-pub node_at : (code : Flows) (entry : ℕ) (nodes : List FlatNode) (k : ℕ) (n : FlatNode) → IsNumbering code entry nodes → slice_get nodes k ≡ Some n → IsNode code entry n
+pub node_at : (code : Flows) (entry : ℕ) (nodes : List FlatNode) (k : ℕ) (n : FlatNode)
+    → IsNumbering code entry nodes → slice_get nodes k ≡ Some n → IsNode code entry n
 node_at code entry nodes k n N e = (N.all n).1 (at_contains nodes k n e)
 
 -- where an instruction leads are the node's successors
-pub led : (words : Words) (entry : ℕ) (n : FlatNode) (ins : Ins) (f : Flow) → error_of (flows words) entry n ≡ None → HasInstructionAt words n.address ins → f ≡ flow n.address ins →
+pub led : (words : Words) (entry : ℕ) (n : FlatNode) (ins : Ins) (f : Flow)
+    → error_of (flows words) entry n ≡ None → HasInstructionAt words n.address ins
+    → f ≡ flow n.address ins →
     goes_to n.context n.address f ≡ successors (flows words) entry n
 led words entry n ins f clean (w, at, is) e =
     let here : flows words n.address ≡ Some (Some f) =
-    ap (flow_of_word n.address) at ∙ ap (λ o. Some (flow_of_row n.address o)) is ∙ ap (λ g. Some (Some g)) (sym e) in
+    ap (flow_of_word n.address) at ∙ ap (λ o. Some (flow_of_row n.address o)) is
+    ∙ ap (λ g. Some (Some g)) (sym e) in
     sym (λ i. successors_by (clean i) n.context n.address (here i))
 
-pub successors_there : (code : Flows) (entry : ℕ) (nodes : List FlatNode) (k : ℕ) (n : FlatNode) → IsNumbering code entry nodes → slice_get nodes k ≡ Some n →
+pub successors_there : (code : Flows) (entry : ℕ) (nodes : List FlatNode) (k : ℕ) (n : FlatNode)
+    → IsNumbering code entry nodes → slice_get nodes k ≡ Some n →
     All (Contains nodes) (successors code entry n)
 successors_there code entry nodes k n N e =
     All-weaker (Contains (successors code entry n)) (Contains nodes)
     (λ m c. (N.all m).0 (a_successor n m (node_at code entry nodes k n N e) c))
     (successors code entry n) (All-contains_itself (successors code entry n))
 
-pub lines_more : (words : Words) (entry : ℕ) (nodes : List FlatNode) (lines : List Line) (line : Line) (n : FlatNode) → AreNodeLines words entry nodes lines →
-    slice_get nodes (length lines) ≡ Some n → IsNodeLine words entry nodes n line → AreNodeLines words entry nodes (lines ++ line ∷ [])
+pub lines_more : (words : Words) (entry : ℕ) (nodes : List FlatNode) (lines : List Line)
+    (line : Line) (n : FlatNode) → AreNodeLines words entry nodes lines →
+    slice_get nodes (length lines) ≡ Some n → IsNodeLine words entry nodes n line
+    → AreNodeLines words entry nodes (lines ++ line ∷ [])
 lines_more words entry nodes lines line n L at I k m l e f =
     ⊎_elim
     (λ old. L k m l e old)
     (λ new.
     let same : m ≡ n = one m n (sym e ∙ ap (slice_get nodes) new.0 ∙ at) in
-    subst (IsNodeLine words entry nodes m) new.1 (subst (λ x. IsNodeLine words entry nodes x line) (sym same) I))
+    subst (IsNodeLine words entry nodes m) new.1
+    (subst (λ x. IsNodeLine words entry nodes x line) (sym same) I))
     (at_more lines line k l f)
   where
     one : (a b : FlatNode) → Some a ≡ Some b → a ≡ b
     one a b s = cc
 
 -- the error of the first node that has no line
-pub refused_line : (words : Words) (entry : ℕ) (nodes : List FlatNode) (lines : List Line) (n : FlatNode) (e : GraphError) → IsNumbering (flows words) entry nodes → length nodes ≤ 16384 →
-    AreNodeLines words entry nodes lines → slice_get nodes (length lines) ≡ Some n → option_map (λ x. graph_error x n.address) (error_of (flows words) entry n) ≡ Some e →
+pub refused_line : (words : Words) (entry : ℕ) (nodes : List FlatNode) (lines : List Line)
+    (n : FlatNode) (e : GraphError) → IsNumbering (flows words) entry nodes → length nodes ≤ 16384 →
+    AreNodeLines words entry nodes lines → slice_get nodes (length lines) ≡ Some n
+    → option_map (λ x. graph_error x n.address) (error_of (flows words) entry n) ≡ Some e →
     IsGraphError (flows words) entry e
 refused_line words entry nodes lines n e N few L at h =
     refused_by (flows words) entry (error_of (flows words) entry n) n.address e h

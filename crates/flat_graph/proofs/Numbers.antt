@@ -1,5 +1,7 @@
 -- The numbers of spots: their places in the order.
-use Rattle.std.proofs.Common.{◌≡◌, ℕ, zero, suc, ◌<◌, ◌≤◌, List, [], length, Option, Some, None, Contains, slice_get, get_or, refl, sym, ap, ◌∙◌, subst, ⊎_elim, arith, AllPairs, Result, Ok, Err, is_ok, true, option_map}
+use Rattle.std.proofs.Common.{◌≡◌, ℕ, zero, suc, ◌<◌, ◌≤◌, List, [], length, Option, Some, None}
+use Rattle.std.proofs.Common.{Contains, slice_get, get_or, refl, sym, ap, ◌∙◌, subst, ⊎_elim, arith}
+use Rattle.std.proofs.Common.{AllPairs, Result, Ok, Err, is_ok, true, option_map}
 use Rattle.std.proofs.lemmas.Bool.{cases_lt, cases_order}
 use Rattle.std.proofs.lemmas.List.{length-map, get_or-map}
 use Rattle.std.proofs.lemmas.List.Elements.{Contains-get_or}
@@ -9,7 +11,8 @@ use Rattle.std.specs.Ordering.{ordering_index}
 use Rattle.std.specs.List.Sorted.{IsBinarySearchResult, IsSearchInRange, IsNonDecreasingBy}
 use Rattle.crpd_base.proofs.Elements.{contains_at, at_contains}
 use Rattle.rv_decode.specs.Flow.{Flows}
-use Rattle.flat_graph.specs.FlatGraph.{FlatNode, NodeError, IsNumberedBefore, IsNode, IsNumbering, HasMoreNodes, error_of, IsGraphRefused, AtNode}
+use Rattle.flat_graph.specs.FlatGraph.{FlatNode, NodeError, IsNumberedBefore, IsNode, IsNumbering}
+use Rattle.flat_graph.specs.FlatGraph.{HasMoreNodes, error_of, IsGraphRefused, AtNode}
 use Rattle.flat_graph.specs.FlatGraph as node
 use Rattle.flat_graph.specs.GraphErrors.{IsGraphError}
 use Rattle.flat_graph.specs.Inner.GraphErrors.{graph_error}
@@ -23,11 +26,14 @@ module _ (lists : List (List ℕ)) where
   abbrev node_in : Spot → FlatNode
   node_in = spot_node lists
 
-  rising : (xs : List Spot) (x : FlatNode) → AllPairs IsNumberedBefore (spot_nodes lists xs) → IsNonDecreasingBy (λ y. ordering_index (flat_cmp (node_in y) x)) xs
+  rising : (xs : List Spot) (x : FlatNode) → AllPairs IsNumberedBefore (spot_nodes lists xs)
+      → IsNonDecreasingBy (λ y. ordering_index (flat_cmp (node_in y) x)) xs
   rising xs x h i j d le within =
       ⊎_elim
       (λ lt. rises (node_in (get_or xs i d)) (node_in (get_or xs j d)) x (before lt))
-      (λ ge. subst (λ k. ordering_index (flat_cmp (node_in (get_or xs i d)) x) ≤ ordering_index (flat_cmp (node_in (get_or xs k d)) x)) (the i j (omega arith)) (omega arith))
+      (λ ge. subst (λ k. ordering_index (flat_cmp (node_in (get_or xs i d)) x)
+      ≤ ordering_index (flat_cmp (node_in (get_or xs k d)) x)) (the i j (omega arith))
+      (omega arith))
       (cases_lt i j)
     where
       the : (a b : ℕ) → a ≡ b → a ≡ b
@@ -35,19 +41,24 @@ module _ (lists : List (List ℕ)) where
 
       before : i < j → IsNumberedBefore (node_in (get_or xs i d)) (node_in (get_or xs j d))
       before lt =
-          subst (λ n. IsNumberedBefore n (node_in (get_or xs j d))) (get_or-map node_in xs i d (node_in d) (omega arith))
-          (subst (λ n. IsNumberedBefore (get_or (spot_nodes lists xs) i (node_in d)) n) (get_or-map node_in xs j d (node_in d) within)
+          subst (λ n. IsNumberedBefore n (node_in (get_or xs j d)))
+          (get_or-map node_in xs i d (node_in d) (omega arith))
+          (subst (λ n. IsNumberedBefore (get_or (spot_nodes lists xs) i (node_in d)) n)
+          (get_or-map node_in xs j d (node_in d) within)
           (h i j (node_in d) lt (simp length-map (omega arith))))
 
   -- a search for a node that is there finds it
-  pub searched : (xs : List Spot) (x : FlatNode) (r : Result ℕ ℕ) → IsSearchInRange r (length xs) → IsBinarySearchResult (λ y. flat_cmp (node_in y) x) xs r →
-      AllPairs IsNumberedBefore (spot_nodes lists xs) → Contains (spot_nodes lists xs) x → (i : ℕ) × (r ≡ Ok i) × (slice_get (spot_nodes lists xs) i ≡ Some x)
+  pub searched : (xs : List Spot) (x : FlatNode) (r : Result ℕ ℕ) → IsSearchInRange r (length xs)
+      → IsBinarySearchResult (λ y. flat_cmp (node_in y) x) xs r →
+      AllPairs IsNumberedBefore (spot_nodes lists xs) → Contains (spot_nodes lists xs) x
+      → (i : ℕ) × (r ≡ Ok i) × (slice_get (spot_nodes lists xs) i ≡ Some x)
   searched xs x (Ok i) within found h c =
       let d : Spot = record { context = 0; address = 0 } in (
         i,
         refl,
         slice_get-get_or (spot_nodes lists xs) i x (simp length-map within)
-            ∙ ap Some (get_or-map node_in xs i d x within ∙ flat_equal (node_in (get_or xs i d)) x (found d)),
+            ∙ ap Some (get_or-map node_in xs i d x within
+            ∙ flat_equal (node_in (get_or xs i d)) x (found d)),
       )
   searched xs x (Err i) within parts h (k, lt, e) =
       let d : Spot = record { context = 0; address = 0 } in
@@ -64,8 +75,11 @@ pub found_ok : (r : Result ℕ ℕ) (i : ℕ) → r ≡ Ok i → is_ok r ≡ tru
 found_ok r i e = ap is_ok e
 
 -- ordered nodes are at most as many as those among which they are, in the same order
-module _ (nodes some : List FlatNode) (N : AllPairs IsNumberedBefore nodes) (S : AllPairs IsNumberedBefore some) (among : (n : FlatNode) → Contains some n → Contains nodes n) where
-  later : (p q : ℕ) (n m : FlatNode) → slice_get nodes p ≡ Some n → slice_get nodes q ≡ Some m → IsNumberedBefore n m → p < q
+module _ (nodes some : List FlatNode) (N : AllPairs IsNumberedBefore nodes)
+    (S : AllPairs IsNumberedBefore some)
+    (among : (n : FlatNode) → Contains some n → Contains nodes n) where
+  later : (p q : ℕ) (n m : FlatNode) → slice_get nodes p ≡ Some n → slice_get nodes q ≡ Some m
+      → IsNumberedBefore n m → p < q
   later p q n m a b h =
       ⊎_elim
       (λ e. absurd (not_before_same n m (same e) h))
@@ -81,14 +95,18 @@ module _ (nodes some : List FlatNode) (N : AllPairs IsNumberedBefore nodes) (S :
           (subst (λ x. IsNumberedBefore (get_or nodes q m) x) (get_or_from_slice_get nodes p n m a)
           (N q p m lt (slice_get_within nodes p n a)))
 
-  at_least : (d : FlatNode) (i : ℕ) → i < length some → (p : ℕ) × (slice_get nodes p ≡ Some (get_or some i d)) × (i ≤ p)
+  at_least : (d : FlatNode) (i : ℕ) → i < length some
+      → (p : ℕ) × (slice_get nodes p ≡ Some (get_or some i d)) × (i ≤ p)
   at_least d zero lt =
-      let c = contains_at nodes (get_or some 0 d) (among (get_or some 0 d) (Contains-get_or some 0 d lt)) in
+      let c = contains_at nodes (get_or some 0 d)
+      (among (get_or some 0 d) (Contains-get_or some 0 d lt)) in
       (c.0, c.1, omega arith)
   at_least d (suc i) lt =
-      let c = contains_at nodes (get_or some (suc i) d) (among (get_or some (suc i) d) (Contains-get_or some (suc i) d lt)) in
+      let c = contains_at nodes (get_or some (suc i) d)
+      (among (get_or some (suc i) d) (Contains-get_or some (suc i) d lt)) in
       let b = at_least d i (omega arith) in
-      let l = later b.0 c.0 (get_or some i d) (get_or some (suc i) d) b.1 c.1 (S i (suc i) d (omega arith) lt) in
+      let l = later b.0 c.0 (get_or some i d) (get_or some (suc i) d) b.1 c.1
+      (S i (suc i) d (omega arith) lt) in
       (c.0, c.1, omega (arith, b.2, l))
 
   pub not_more : length some ≤ length nodes
@@ -101,7 +119,8 @@ module _ (nodes some : List FlatNode) (N : AllPairs IsNumberedBefore nodes) (S :
           let a = at_least d k (omega arith) in
           omega (arith, a.2, slice_get_within nodes a.0 (get_or some k d) a.1)
 
-pub not_too_many : (code : Flows) (entry limit : ℕ) (nodes : List FlatNode) → IsNumbering code entry nodes → length nodes ≤ limit → HasMoreNodes code entry limit → ⊥
+pub not_too_many : (code : Flows) (entry limit : ℕ) (nodes : List FlatNode)
+    → IsNumbering code entry nodes → length nodes ≤ limit → HasMoreNodes code entry limit → ⊥
 not_too_many code entry limit nodes N le (some, S, all, more) =
     absurd (omega (arith, not_more nodes some N.ordered S (λ n c. (N.all n).0 (is_node n c))))
   where
@@ -109,28 +128,41 @@ not_too_many code entry limit nodes N le (some, S, all, more) =
     is_node n (k, lt, e) = subst (IsNode code entry) e (all k n lt)
 
 -- the first node with an error is the least
-pub refused_at : (code : Flows) (entry limit : ℕ) (nodes : List FlatNode) (k : ℕ) (n : FlatNode) (x : NodeError) → IsNumbering code entry nodes → length nodes ≤ limit →
-    slice_get nodes k ≡ Some n → error_of code entry n ≡ Some x → ((j : ℕ) (m : FlatNode) → j < k → slice_get nodes j ≡ Some m → error_of code entry m ≡ None) →
+pub refused_at : (code : Flows) (entry limit : ℕ) (nodes : List FlatNode) (k : ℕ) (n : FlatNode)
+    (x : NodeError) → IsNumbering code entry nodes → length nodes ≤ limit →
+    slice_get nodes k ≡ Some n → error_of code entry n ≡ Some x
+    → ((j : ℕ) (m : FlatNode) → j < k → slice_get nodes j ≡ Some m → error_of code entry m ≡ None) →
     IsGraphRefused code entry limit (AtNode x n.address)
-refused_at code entry limit nodes k n x N le at e none =
-    (not_too_many code entry limit nodes N le, n, (N.all n).1 (at_contains nodes k n at), e, refl, least)
+refused_at code entry limit nodes k n x N le at e none = (
+  not_too_many code entry limit nodes N le,
+  n,
+  (N.all n).1 (at_contains nodes k n at),
+  e,
+  refl,
+  least,
+)
   where
-    least : (m : FlatNode) (y : NodeError) → IsNode code entry m → error_of code entry m ≡ Some y → IsNumberedBefore m n → ⊥
+    least : (m : FlatNode) (y : NodeError) → IsNode code entry m → error_of code entry m ≡ Some y
+        → IsNumberedBefore m n → ⊥
     least m y h f b =
         let c = contains_at nodes m ((N.all m).0 h) in
         let lt = later nodes nodes N.ordered N.ordered (λ z i. i) c.0 k m n c.1 at b in
         let clean = none c.0 m lt c.1 in
         cc
 
-pub refused_by : (code : Flows) (entry : ℕ) (o : Option NodeError) (a : ℕ) (e : GraphError) → option_map (λ x. graph_error x a) o ≡ Some e →
-    ((x : NodeError) → o ≡ Some x → IsGraphRefused code entry 16384 (AtNode x a)) → IsGraphError code entry e
+pub refused_by : (code : Flows) (entry : ℕ) (o : Option NodeError) (a : ℕ) (e : GraphError)
+    → option_map (λ x. graph_error x a) o ≡ Some e →
+    ((x : NodeError) → o ≡ Some x → IsGraphRefused code entry 16384 (AtNode x a))
+    → IsGraphError code entry e
 refused_by code entry None a e h f = cc
-refused_by code entry (Some x) a e h f = subst (IsGraphError code entry) (inner (graph_error x a) e h) (by x (f x refl))
+refused_by code entry (Some x) a e h f =
+    subst (IsGraphError code entry) (inner (graph_error x a) e h) (by x (f x refl))
   where
     inner : (p q : GraphError) → (Some p ≡ Some q) → p ≡ q
     inner p q s = cc
 
-    by : (y : NodeError) → IsGraphRefused code entry 16384 (AtNode y a) → IsGraphError code entry (graph_error y a)
+    by : (y : NodeError) → IsGraphRefused code entry 16384 (AtNode y a)
+        → IsGraphError code entry (graph_error y a)
     by node.Misaligned r = r
     by node.OutsideCode r = r
     by node.Undecodable r = r

@@ -1,10 +1,13 @@
 -- The spots of a set in the order of numbering.
-use Rattle.std.proofs.Common.{◌≡◌, ℕ, ◌<◌, ◌≤◌, Bool, false, List, length, Contains, get_or, refl, sym, ap, ◌∙◌, subst, ⊎_elim, arith, All, AllPairs}
+use Rattle.std.proofs.Common.{◌≡◌, ℕ, ◌<◌, ◌≤◌, Bool, false, List, length, Contains, get_or, refl}
+use Rattle.std.proofs.Common.{sym, ap, ◌∙◌, subst, ⊎_elim, arith, All, AllPairs}
 use Rattle.std.proofs.lemmas.Bool.{cases_eq, cases_order, false≢true}
 use Rattle.std.proofs.lemmas.List.{length-map, get_or-map}
 use Rattle.std.proofs.lemmas.List.Edits.{Swapped, swapped_from_swap, length-swap}
 use Rattle.std.proofs.lemmas.List.Elements.{Contains-get_or}
-use Rattle.std.proofs.lemmas.List.Sorted.{IsPermutation-keeps, IsPermutation-sym, Contains-permutation, length_permutation, ranks_by, sorted_far}
+use Rattle.std.proofs.lemmas.List.Sorted.{IsPermutation-keeps, IsPermutation-sym}
+use Rattle.std.proofs.lemmas.List.Sorted.{Contains-permutation, length_permutation, ranks_by}
+use Rattle.std.proofs.lemmas.List.Sorted.{sorted_far}
 use Rattle.std.specs.declared.cmp.Ordering.{Ordering}
 use Rattle.std.specs.declared.cmp.Ordering.TheVariants.{Less, Equal, Greater}
 use Rattle.std.specs.Ordering.{is_lt, ordering_reverse}
@@ -14,7 +17,8 @@ use Rattle.std.specs.BTreeMap.{BTreeMap}
 use Rattle.crpd_base.proofs.Elements.{contains_map, contains_mapped}
 use Rattle.rv_decode.specs.Flow.{Flows}
 use Rattle.flat_graph.specs.Inner.NumberingOrder.{flat_cmp}
-use Rattle.flat_graph.specs.FlatGraph.{FlatNode, IsNumberedBefore, IsNode, IsNumbering, HasMoreNodes}
+use Rattle.flat_graph.specs.FlatGraph.{FlatNode, IsNumberedBefore, IsNode, IsNumbering}
+use Rattle.flat_graph.specs.FlatGraph.{HasMoreNodes}
 use Rattle.flat_graph.specs.Inner.Reach.{AreNumbered, AreSameSpots, IsExplored}
 use Rattle.flat_graph.specs.Inner.Spots.{spot_node, spot_nodes}
 use Rattle.flat_graph.specs.declared.spots.Spot.{Spot}
@@ -24,7 +28,9 @@ use Rattle.flat_graph.proofs.Listed.{one_spot}
 
 -- no spot stands at two places
 abbrev Apart : List Spot → Type 0
-Apart l = (i j : ℕ) (d : Spot) → i < length l → j < length l → (i ≡ j → ⊥) → get_or l i d ≡ get_or l j d → ⊥
+Apart l =
+    (i j : ℕ) (d : Spot) → i < length l → j < length l → (i ≡ j → ⊥)
+    → get_or l i d ≡ get_or l j d → ⊥
 
 apart_pairs : (l : List Spot) → AllPairs (λ s t. s ≡ t → ⊥) l → Apart l
 apart_pairs l h i j d i_lt j_lt ne e =
@@ -82,12 +88,14 @@ moved xs ys h p = IsPermutation-keeps xs Apart (apart_pairs xs h) swapped ys p
 abbrev below : List (List ℕ) → Spot → Spot → Bool
 below lists s t = is_lt (flat_cmp (spot_node lists s) (spot_node lists t))
 
-not_below : (o : Ordering) (n m : FlatNode) → flat_cmp m n ≡ o → is_lt o ≡ false → (n ≡ m → ⊥) → IsNumberedBefore n m
+not_below : (o : Ordering) (n m : FlatNode) → flat_cmp m n ≡ o → is_lt o ≡ false → (n ≡ m → ⊥)
+    → IsNumberedBefore n m
 not_below Less n m e h ne = absurd (false≢true (sym h))
 not_below Equal n m e h ne = absurd (ne (sym (flat_equal m n e)))
 not_below Greater n m e h ne = flat_less n m (flat_order.antisymm n m ∙ ap ordering_reverse e)
 
-module _ (m : BTreeMap (List ℕ) ℕ) (lists : List (List ℕ)) (set list spots : List Spot) (N : AreNumbered m lists) (R : AreSameSpots lists set list)
+module _ (m : BTreeMap (List ℕ) ℕ) (lists : List (List ℕ)) (set list spots : List Spot)
+    (N : AreNumbered m lists) (R : AreSameSpots lists set list)
     (P : IsPermutation set spots) (sorted : IsSortedBy (below lists) spots) where
   inside_of : (s : Spot) → Contains list s → s.context < length lists
   inside_of s (k, lt, e) = subst (λ (t : Spot). t.context < length lists) e (R.inside k s lt)
@@ -105,43 +113,66 @@ module _ (m : BTreeMap (List ℕ) ℕ) (lists : List (List ℕ)) (set list spots
   pub inside : All (λ s. s.context < length lists) spots
   inside k d lt = inside_of _ (from _ (Contains-get_or spots k d lt))
 
-  before : (i j : ℕ) (d : Spot) → i < j → j < length spots → IsNumberedBefore (spot_node lists (get_or spots i d)) (spot_node lists (get_or spots j d))
+  before : (i j : ℕ) (d : Spot) → i < j → j < length spots
+      → IsNumberedBefore (spot_node lists (get_or spots i d)) (spot_node lists (get_or spots j d))
   before i j d lt within =
       let s = get_or spots i d in
       let t = get_or spots j d in
-      not_below (flat_cmp (spot_node lists t) (spot_node lists s)) (spot_node lists s) (spot_node lists t) refl
-      (sorted_far (below lists) (ranks_by flat_order (spot_node lists)) spots sorted i j d (omega arith) within)
-      (λ e. moved set spots R.apart P i j d (omega arith) within (λ h. absurd (omega arith)) (one_spot m lists N s t (inside i d (omega arith)) (inside j d within) e))
+      not_below (flat_cmp (spot_node lists t) (spot_node lists s)) (spot_node lists s)
+      (spot_node lists t) refl
+      (sorted_far (below lists) (ranks_by flat_order (spot_node lists)) spots sorted i j d
+      (omega arith) within)
+      (λ e. moved set spots R.apart P i j d (omega arith) within (λ h. absurd (omega arith))
+      (one_spot m lists N s t (inside i d (omega arith)) (inside j d within) e))
 
   ordered : AllPairs IsNumberedBefore (spot_nodes lists spots)
   ordered i j d lt within =
       let e : Spot = record { context = 0; address = 0 } in
-      let j_lt : j < length spots = subst (λ l. j < l) (length-map spots (spot_node lists)) within in
-      subst (λ n. IsNumberedBefore n (get_or (spot_nodes lists spots) j d)) (sym (get_or-map (spot_node lists) spots i e d (omega arith)))
-      (subst (λ n. IsNumberedBefore (spot_node lists (get_or spots i e)) n) (sym (get_or-map (spot_node lists) spots j e d j_lt))
+      let j_lt : j < length spots = subst (λ l. j < l)
+      (length-map spots (spot_node lists)) within in
+      subst (λ n. IsNumberedBefore n (get_or (spot_nodes lists spots) j d))
+      (sym (get_or-map (spot_node lists) spots i e d (omega arith)))
+      (subst (λ n. IsNumberedBefore (spot_node lists (get_or spots i e)) n)
+      (sym (get_or-map (spot_node lists) spots j e d j_lt))
       (before i j e lt j_lt))
 
-  into_nodes : (n : FlatNode) → Contains (spot_nodes lists list) n → Contains (spot_nodes lists spots) n
+  into_nodes : (n : FlatNode) → Contains (spot_nodes lists list) n
+      → Contains (spot_nodes lists spots) n
   into_nodes n c =
       let s = contains_mapped (spot_node lists) list n c in
-      subst (Contains (spot_nodes lists spots)) s.2 (contains_map (spot_node lists) spots s.0 (into s.0 s.1))
+      subst (Contains (spot_nodes lists spots)) s.2
+      (contains_map (spot_node lists) spots s.0 (into s.0 s.1))
 
-  from_nodes : (n : FlatNode) → Contains (spot_nodes lists spots) n → Contains (spot_nodes lists list) n
+  from_nodes : (n : FlatNode) → Contains (spot_nodes lists spots) n
+      → Contains (spot_nodes lists list) n
   from_nodes n c =
       let s = contains_mapped (spot_node lists) spots n c in
-      subst (Contains (spot_nodes lists list)) s.2 (contains_map (spot_node lists) list s.0 (from s.0 s.1))
+      subst (Contains (spot_nodes lists list)) s.2
+      (contains_map (spot_node lists) list s.0 (from s.0 s.1))
 
-  pub numbered_spots : (code : Flows) (entry place : ℕ) → IsExplored code entry place (spot_nodes lists list) → length list ≤ place → IsNumbering code entry (spot_nodes lists spots)
+  pub numbered_spots : (code : Flows) (entry place : ℕ)
+      → IsExplored code entry place (spot_nodes lists list) → length list ≤ place
+      → IsNumbering code entry (spot_nodes lists spots)
   numbered_spots code entry place E le = record {
     ordered = ordered;
     all = λ n. (
-      λ h. into_nodes n (explored_all code entry place (spot_nodes lists list) E (subst (λ l. l ≤ place) (sym (length-map list (spot_node lists))) le) n h),
+      λ h. into_nodes n
+          (explored_all code entry place (spot_nodes lists list) E
+          (subst (λ l. l ≤ place) (sym (length-map list (spot_node lists))) le) n h),
       λ c. E.all n (from_nodes n c),
     );
   }
 
-  pub more_spots : (code : Flows) (entry place limit : ℕ) → IsExplored code entry place (spot_nodes lists list) → limit < length spots → HasMoreNodes code entry limit
-  more_spots code entry place limit E lt = (spot_nodes lists spots, ordered, all_nodes, subst (λ l. limit < l) (sym (length-map spots (spot_node lists))) lt)
+  pub more_spots : (code : Flows) (entry place limit : ℕ)
+      → IsExplored code entry place (spot_nodes lists list) → limit < length spots
+      → HasMoreNodes code entry limit
+  more_spots code entry place limit E lt = (
+    spot_nodes lists spots,
+    ordered,
+    all_nodes,
+    subst (λ l. limit < l) (sym (length-map spots (spot_node lists))) lt,
+  )
     where
       all_nodes : All (IsNode code entry) (spot_nodes lists spots)
-      all_nodes k d within = E.all _ (from_nodes _ (Contains-get_or (spot_nodes lists spots) k d within))
+      all_nodes k d within =
+          E.all _ (from_nodes _ (Contains-get_or (spot_nodes lists spots) k d within))

@@ -1,5 +1,6 @@
 -- The graph that is put together from its parts.
-use Rattle.std.proofs.Common.{◌≡◌, ℕ, ◌<◌, ◌≤◌, ◌↔◌, Bool, List, [], length, map, Some, slice_get, refl, sym, ap, ◌∙◌, subst, arith, option_map, IsTrue, All}
+use Rattle.std.proofs.Common.{◌≡◌, ℕ, ◌<◌, ◌≤◌, ◌↔◌, Bool, List, [], length, map, Some, slice_get}
+use Rattle.std.proofs.Common.{refl, sym, ap, ◌∙◌, subst, arith, option_map, IsTrue, All}
 use Rattle.std.proofs.lemmas.List.{length-map}
 use Rattle.std.proofs.lemmas.Option.{slice_get_within, slice_get-map, get_or_from_slice_get}
 use Rattle.crpd_base.proofs.Elements.{contains_at, some_at}
@@ -8,7 +9,8 @@ use Rattle.rv_decode.specs.Flow.{Words, IsCodeMap, flows}
 use Rattle.flat_graph.specs.FlatGraph.{FlatNode, IsNumbering, error_of, successors}
 use Rattle.flat_graph.specs.Graph.{IsLeader}
 use Rattle.flat_graph.specs.Numbered.{IsFlatGraph}
-use Rattle.flat_graph.specs.CodeGraph.{GraphNode, CodeGraph, IsCodeGraph, node_of, no_node, graph_of}
+use Rattle.flat_graph.specs.CodeGraph.{GraphNode, CodeGraph, IsCodeGraph, node_of, no_node}
+use Rattle.flat_graph.specs.CodeGraph.{graph_of}
 use Rattle.flat_graph.specs.Inner.StoredGraph.{IsStoredGraph, stored_graph, stored_node, onward}
 use Rattle.flat_graph.specs.Inner.GraphParts.{AreNodeLines, IsNodeLine, AreStoredNodes}
 use Rattle.flat_graph.specs.Inner.Leaders.{IsGraphOfLines, HasLeaders}
@@ -27,20 +29,23 @@ record Part (spots : List Spot) (lines : List Line) (leaders : List Bool) (k : �
   line_at : slice_get lines k ≡ Some line
   leader_at : slice_get leaders k ≡ Some leader
 
-pub record AreParts (words : Words) (entry : ℕ) (spots : List Spot) (lines : List Line) (first : ℕ) (leaders : List Bool) (lists : List (List ℕ)) (stands : List Stand) : Type 0 where
+pub record AreParts (words : Words) (entry : ℕ) (spots : List Spot) (lines : List Line) (first : ℕ)
+    (leaders : List Bool) (lists : List (List ℕ)) (stands : List Stand) : Type 0 where
   pub word_places : IsCodeMap words
   pub numbering : IsNumbering (flows words) entry (spot_nodes lists spots)
   pub few : length spots ≤ 16384
   pub line_of : AreNodeLines words entry (spot_nodes lists spots) lines
   pub line_count : length lines ≡ length spots
-  pub first_at : slice_get (spot_nodes lists spots) first ≡ Some (record { context = []; address = entry })
+  pub first_at : slice_get (spot_nodes lists spots) first
+      ≡ Some (record { context = []; address = entry })
   pub leader_of : HasLeaders lines first leaders
   pub leader_count : length leaders ≡ length lines
   pub context_of : All (λ s. s.context < length lists) spots
   pub stand_of : AreStoredNodes spots lines leaders stands
   pub stand_count : length stands ≡ length spots
 
-module _ (words : Words) (entry : ℕ) (spots : List Spot) (lines : List Line) (first : ℕ) (leaders : List Bool) (lists : List (List ℕ)) (stands : List Stand)
+module _ (words : Words) (entry : ℕ) (spots : List Spot) (lines : List Line) (first : ℕ)
+    (leaders : List Bool) (lists : List (List ℕ)) (stands : List Stand)
     (P : AreParts words entry spots lines first leaders lists stands) where
   abbrev graph : CodeGraph
   graph = stored_graph lists stands first
@@ -56,30 +61,47 @@ module _ (words : Words) (entry : ℕ) (spots : List Spot) (lines : List Line) (
       record { spot = s.0; line = l.0; leader = b.0; spot_at = s.1; line_at = l.1; leader_at = b.1 }
 
   abbrev stand : (k : ℕ) → Part spots lines leaders k → Stand
-  stand k p = record { context = p.spot.context; address = p.spot.address; ins = p.line.ins; next = p.line.next; leader = p.leader }
+  stand k p = record {
+    context = p.spot.context;
+    address = p.spot.address;
+    ins = p.line.ins;
+    next = p.line.next;
+    leader = p.leader;
+  }
 
   stand_at : (k : ℕ) (p : Part spots lines leaders k) → slice_get stands k ≡ Some (stand k p)
   stand_at k p = P.stand_of k p.spot p.line p.leader p.spot_at p.line_at p.leader_at
 
   -- the graph's node at a place
-  node_is : (k : ℕ) (p : Part spots lines leaders k) → node_of graph k ≡ stored_node lists (stand k p)
-  node_is k p = get_or_from_slice_get graph.nodes k (stored_node lists (stand k p)) no_node (slice_get-map (stored_node lists) stands k ∙ ap (option_map (stored_node lists)) (stand_at k p))
+  node_is : (k : ℕ) (p : Part spots lines leaders k)
+      → node_of graph k ≡ stored_node lists (stand k p)
+  node_is k p =
+      get_or_from_slice_get graph.nodes k (stored_node lists (stand k p)) no_node
+      (slice_get-map (stored_node lists) stands k
+      ∙ ap (option_map (stored_node lists)) (stand_at k p))
 
-  context_is : (k : ℕ) (p : Part spots lines leaders k) → (node_of graph k).context ≡ (spot_node lists p.spot).context
+  context_is : (k : ℕ) (p : Part spots lines leaders k)
+      → (node_of graph k).context ≡ (spot_node lists p.spot).context
   context_is k p = ap (λ (n : GraphNode). n.context) (node_is k p)
 
   address_is : (k : ℕ) (p : Part spots lines leaders k) → (node_of graph k).address ≡ p.spot.address
   address_is k p = ap (λ (n : GraphNode). n.address) (node_is k p)
 
-  flat_is : (k : ℕ) (p : Part spots lines leaders k) → slice_get (spot_nodes lists spots) k ≡ Some (spot_node lists p.spot)
-  flat_is k p = slice_get-map (spot_node lists) spots k ∙ ap (option_map (spot_node lists)) p.spot_at
+  flat_is : (k : ℕ) (p : Part spots lines leaders k)
+      → slice_get (spot_nodes lists spots) k ≡ Some (spot_node lists p.spot)
+  flat_is k p =
+      slice_get-map (spot_node lists) spots k ∙ ap (option_map (spot_node lists)) p.spot_at
 
-  line_is : (k : ℕ) (p : Part spots lines leaders k) → IsNodeLine words entry (spot_nodes lists spots) (spot_node lists p.spot) p.line
+  line_is : (k : ℕ) (p : Part spots lines leaders k)
+      → IsNodeLine words entry (spot_nodes lists spots) (spot_node lists p.spot) p.line
   line_is k p = P.line_of k (spot_node lists p.spot) p.line (flat_is k p) p.line_at
 
-  part_of : (k : ℕ) (n : FlatNode) → slice_get (spot_nodes lists spots) k ≡ Some n → (p : Part spots lines leaders k) × (spot_node lists p.spot ≡ n)
+  part_of : (k : ℕ) (n : FlatNode) → slice_get (spot_nodes lists spots) k ≡ Some n
+      → (p : Part spots lines leaders k) × (spot_node lists p.spot ≡ n)
   part_of k n e =
-      let p = part k (subst (λ l. k < l) (length-map spots (spot_node lists)) (slice_get_within (spot_nodes lists spots) k n e)) in
+      let p = part k
+      (subst (λ l. k < l) (length-map spots (spot_node lists))
+      (slice_get_within (spot_nodes lists spots) k n e)) in
       (p, one (spot_node lists p.spot) n (sym (flat_is k p) ∙ e))
 
   size_is : length graph.nodes ≡ length spots
@@ -92,7 +114,8 @@ module _ (words : Words) (entry : ℕ) (spots : List Spot) (lines : List Line) (
     first = P.first_at;
     next = λ u n e.
         let q = part_of u n e in
-        ap (map (slice_get (spot_nodes lists spots))) (ap (λ (x : GraphNode). x.next) (node_is u q.0))
+        ap (map (slice_get (spot_nodes lists spots)))
+        (ap (λ (x : GraphNode). x.next) (node_is u q.0))
         ∙ (line_is u q.0).next ∙ ap (λ x. map Some (successors (flows words) entry x)) q.1;
   }
 
@@ -102,8 +125,10 @@ module _ (words : Words) (entry : ℕ) (spots : List Spot) (lines : List Line) (
     flat = flat_graph;
     places = record {
       node = λ u n e.
-          let q = part_of u n e in
-          (context_is u q.0 ∙ ap (λ (x : FlatNode). x.context) q.1, address_is u q.0 ∙ ap (λ (x : FlatNode). x.address) q.1);
+          let q = part_of u n e in (
+            context_is u q.0 ∙ ap (λ (x : FlatNode). x.context) q.1,
+            address_is u q.0 ∙ ap (λ (x : FlatNode). x.address) q.1,
+          );
     };
     no_errors = λ m h.
         let c = contains_at (spot_nodes lists spots) m ((P.numbering.all m).0 h) in
@@ -118,17 +143,26 @@ module _ (words : Words) (entry : ℕ) (spots : List Spot) (lines : List Line) (
 
   pub is_kept : IsStoredGraph lists stands first
   is_kept = record {
-    of_code = record { words = words; entry = entry; word_places = P.word_places; of_code = code_graph };
+    of_code = record {
+      words = words;
+      entry = entry;
+      word_places = P.word_places;
+      of_code = code_graph;
+    };
     graph = flat_graph_law (flows words) entry (spot_nodes lists spots) (graph_of graph) flat_graph;
     contexts_there = λ k d lt.
         let p = part k (subst (λ l. k < l) P.stand_count lt) in
-        subst (λ (s : Stand). s.context < length lists) (sym (get_or_from_slice_get stands k (stand k p) d (stand_at k p)))
-        (subst (λ (s : Spot). s.context < length lists) (get_or_from_slice_get spots k p.spot p.spot p.spot_at) (P.context_of k p.spot (slice_get_within spots k p.spot p.spot_at)));
+        subst (λ (s : Stand). s.context < length lists)
+        (sym (get_or_from_slice_get stands k (stand k p) d (stand_at k p)))
+        (subst (λ (s : Spot). s.context < length lists)
+        (get_or_from_slice_get spots k p.spot p.spot p.spot_at)
+        (P.context_of k p.spot (slice_get_within spots k p.spot p.spot_at)));
     few = subst (λ l. l ≤ 16384) (sym P.stand_count) P.few;
     leaders = λ u n e.
         let p = part u (subst (λ l. u < l) P.stand_count (slice_get_within stands u n e)) in
         let same : stand u p ≡ n = one (stand u p) n (sym (stand_at u p) ∙ e) in
-        subst (λ b. IsTrue b ↔ IsLeader (graph_of graph) u) (ap (λ (s : Stand). s.leader) same) (P.leader_of (graph_of graph) edges u p.leader p.leader_at);
+        subst (λ b. IsTrue b ↔ IsLeader (graph_of graph) u) (ap (λ (s : Stand). s.leader) same)
+        (P.leader_of (graph_of graph) edges u p.leader p.leader_at);
   }
     where
       edges : IsGraphOfLines (graph_of graph) lines first
@@ -137,5 +171,6 @@ module _ (words : Words) (entry : ℕ) (spots : List Spot) (lines : List Line) (
         start = refl;
         next = λ u l e.
             let p = part u (subst (λ m. u < m) P.line_count (slice_get_within lines u l e)) in
-            ap (λ (x : GraphNode). x.next) (node_is u p) ∙ ap (λ (x : Line). onward x.next) (one p.line l (sym p.line_at ∙ e));
+            ap (λ (x : GraphNode). x.next) (node_is u p)
+            ∙ ap (λ (x : Line). onward x.next) (one p.line l (sym p.line_at ∙ e));
       }

@@ -51,13 +51,15 @@ ins_of g u = (node_of g u).ins
 abbrev pub node_code : CodeGraph → NodeCode
 node_code g = record { address = (places_of g).address; ins = ins_of g }
 
--- it is the flat graph of the code from this entry, no node has an error, and the instructions are those of the code
+-- it is the flat graph of the code from this entry, no node has an error, and the instructions are
+-- those of the code
 pub record IsCodeGraph (words : Words) (entry : ℕ) (g : CodeGraph) : Type 0 where
   pub nodes : List FlatNode
   pub flat : IsFlatGraph (flows words) entry nodes (graph_of g)
   pub places : ArePlaces nodes (places_of g)
   pub no_errors : HasNoErrors (flows words) entry
-  pub instructions : (u w : ℕ) → u < length g.nodes → words ((places_of g).address u) ≡ Some w → ins_of_word w ≡ Some (ins_of g u)
+  pub instructions : (u w : ℕ) → u < length g.nodes → words ((places_of g).address u) ≡ Some w
+      → ins_of_word w ≡ Some (ins_of g u)
 
 -- it is the graph of some code
 pub record HasCode (g : CodeGraph) : Type 0 where

@@ -18,6 +18,7 @@ abbrev pub is_return : Flow → Bool
 is_return Return = true
 is_return _ = false
 
--- the cost of the edge from an answering node to the end: a return is a change of flow, an ECALL is none
+-- the cost of the edge from an answering node to the end: a return is a change of flow, an ECALL is
+-- none
 abbrev pub end_cost : Platform → NodeCode → (ℕ → Bool) → ℕ → ℕ
 end_cost p l is_hit u = cost p (l.ins u) (not (is_hit u)) (is_return (flow (l.address u) (l.ins u)))

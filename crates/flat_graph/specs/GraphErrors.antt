@@ -6,16 +6,25 @@ use Rattle.flat_graph.specs.FlatGraph as flat
 use Rattle.flat_graph.specs.declared.fault.GraphError.{GraphError}
 use Rattle.flat_graph.specs.declared.fault.GraphError.TheVariants as graph
 
--- what a refusal says of the graph: too many nodes are reached from the entry, or the address is that of the least
--- node with an error, and this is its error
+-- what a refusal says of the graph: too many nodes are reached from the entry, or the address is
+-- that of the least node with an error, and this is its error
 abbrev pub IsGraphError : Flows → ℕ → GraphError → Type 0
 IsGraphError code entry graph.Memory = Unit {0}
-IsGraphError code entry (graph.TooManyNodes a) = (a ≡ entry) × IsGraphRefused code entry 16384 flat.TooManyNodes
-IsGraphError code entry (graph.Misaligned a) = IsGraphRefused code entry 16384 (flat.AtNode flat.Misaligned a)
-IsGraphError code entry (graph.OutsideCode a) = IsGraphRefused code entry 16384 (flat.AtNode flat.OutsideCode a)
-IsGraphError code entry (graph.Undecodable a) = IsGraphRefused code entry 16384 (flat.AtNode flat.Undecodable a)
-IsGraphError code entry (graph.Breakpoint a) = IsGraphRefused code entry 16384 (flat.AtNode flat.Breakpoint a)
-IsGraphError code entry (graph.IndirectJump a) = IsGraphRefused code entry 16384 (flat.AtNode flat.IndirectJump a)
-IsGraphError code entry (graph.OtherLink a) = IsGraphRefused code entry 16384 (flat.AtNode flat.OtherLink a)
-IsGraphError code entry (graph.Recursive a) = IsGraphRefused code entry 16384 (flat.AtNode flat.Recursive a)
-IsGraphError code entry (graph.TooDeep a) = IsGraphRefused code entry 16384 (flat.AtNode flat.TooDeep a)
+IsGraphError code entry (graph.TooManyNodes a) =
+    (a ≡ entry) × IsGraphRefused code entry 16384 flat.TooManyNodes
+IsGraphError code entry (graph.Misaligned a) =
+    IsGraphRefused code entry 16384 (flat.AtNode flat.Misaligned a)
+IsGraphError code entry (graph.OutsideCode a) =
+    IsGraphRefused code entry 16384 (flat.AtNode flat.OutsideCode a)
+IsGraphError code entry (graph.Undecodable a) =
+    IsGraphRefused code entry 16384 (flat.AtNode flat.Undecodable a)
+IsGraphError code entry (graph.Breakpoint a) =
+    IsGraphRefused code entry 16384 (flat.AtNode flat.Breakpoint a)
+IsGraphError code entry (graph.IndirectJump a) =
+    IsGraphRefused code entry 16384 (flat.AtNode flat.IndirectJump a)
+IsGraphError code entry (graph.OtherLink a) =
+    IsGraphRefused code entry 16384 (flat.AtNode flat.OtherLink a)
+IsGraphError code entry (graph.Recursive a) =
+    IsGraphRefused code entry 16384 (flat.AtNode flat.Recursive a)
+IsGraphError code entry (graph.TooDeep a) =
+    IsGraphRefused code entry 16384 (flat.AtNode flat.TooDeep a)

@@ -1,5 +1,6 @@
 // Which spots of the code have an error.
-ghost use Rattle.std.specs.Prelude.{◌≡◌, ℕ, ◌≤◌, ◌+◌, Some, None, IfOk, MatchResult, IsTrue, option_map};
+ghost use Rattle.std.specs.Prelude.{◌≡◌, ℕ, ◌≤◌, ◌+◌, Some, None, IfOk, MatchResult, IsTrue};
+ghost use Rattle.std.specs.Prelude.{option_map};
 ghost use Rattle.std.specs.List.{list_any};
 ghost use Rattle.code_map.specs.Words.{word_at};
 ghost use Rattle.rv_decode.specs.Address.{end_address};
@@ -32,12 +33,14 @@ fn calls(code: &CodeMap, address: u32, target: u32) -> bool
 
 /// Whether a call under way has this target.
 fn is_under_way(code: &CodeMap, under_way: &[u32], target: u32) -> bool
-    ensures { result ≡ list_any (λ a. calls (flows (word_at code.now.images) a) target) under_way.now }
+    ensures { result ≡ list_any (λ a. calls (flows (word_at code.now.images) a) target)
+        under_way.now }
 {
     under_way.iter().any(|a| calls(code, *a, target))
 }
 
-/// The error of a call: its target is the entry or the target of a call under way, or sixteen calls are under way.
+/// The error of a call: its target is the entry or the target of a call under way, or sixteen calls
+/// are under way.
 fn call_error(
     code: &CodeMap,
     entry: u32,
@@ -46,7 +49,8 @@ fn call_error(
     target: u32,
 ) -> Result<(), GraphError>
     ensures { let error = call_error (flows (word_at code.now.images)) entry under_way.now target in
-        MatchResult result (λ _. error ≡ None) (λ e. option_map (λ x. graph_error x address) error ≡ Some e) }
+        MatchResult result (λ _. error ≡ None)
+        (λ e. option_map (λ x. graph_error x address) error ≡ Some e) }
 {
     if target == entry || is_under_way(code, under_way, target) {
         return Err(GraphError::Recursive(address));
@@ -64,8 +68,11 @@ pub(crate) fn check(
     under_way: &[u32],
     address: u32,
 ) -> Result<Ins, GraphError>
-    ensures error { let error = error_of (flows (word_at code.now.images)) entry (record { context = under_way.now; address = address }) in
-        MatchResult result (λ _. error ≡ None) (λ e. option_map (λ x. graph_error x address) error ≡ Some e) }
+    ensures error { let error =
+        error_of (flows (word_at code.now.images)) entry
+        (record { context = under_way.now; address = address }) in
+        MatchResult result (λ _. error ≡ None)
+        (λ e. option_map (λ x. graph_error x address) error ≡ Some e) }
     ensures stands { IfOk result (HasInstructionAt (word_at code.now.images) address) }
     ensures within { IfOk result (λ _. address + 4 ≤ end_address) }
 {

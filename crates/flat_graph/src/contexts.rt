@@ -1,5 +1,6 @@
 // Lists of calls under way, each kept once and numbered as it is met.
-ghost use Rattle.std.specs.Prelude.{◌≡◌, ◌<◌, ◌≤◌, ◌+◌, ◌^◌, ◌++◌, ◌∷◌, Some, None, IfOk, OnOk, length, slice_get, slice_index_or, []};
+ghost use Rattle.std.specs.Prelude.{◌≡◌, ◌<◌, ◌≤◌, ◌+◌, ◌^◌, ◌++◌, ◌∷◌, Some, None, IfOk, OnOk};
+ghost use Rattle.std.specs.Prelude.{length, slice_get, slice_index_or, []};
 ghost use Rattle.std.specs.BTreeMap.{get};
 ghost use Rattle.flat_graph.specs.Inner.NumberingOrder.{list_cmp};
 ghost use Rattle.flat_graph.specs.Inner.Reach.{AreNumbered, ExtendsLists};
@@ -9,7 +10,8 @@ use smallvec::SmallVec;
 use std::alloc::{AllocError, Global};
 use std::collections::BTreeMap;
 
-/// The lists of calls that were met, in the order in which they were met, and the number of each, which is its place.
+/// The lists of calls that were met, in the order in which they were met, and the number of each,
+/// which is its place.
 #[derive(Drop)]
 pub(crate) struct Contexts {
     pub(crate) lists: Vec<Context>,
@@ -34,7 +36,8 @@ impl Contexts {
         ensures numbered { OnOk result (AreNumbered self.new.numbers self.new.lists.items) }
         ensures number { IfOk result (λ n. slice_get self.new.lists.items n ≡ Some calls) }
         ensures more { OnOk result (ExtendsLists self.old.lists.items self.new.lists.items) }
-        ensures count { OnOk result (length self.new.lists.items ≤ length self.old.lists.items + 1) }
+        ensures count { OnOk result
+            (length self.new.lists.items ≤ length self.old.lists.items + 1) }
     {
         match self.numbers.get(&calls) {
             Some(number) => Ok(*number),

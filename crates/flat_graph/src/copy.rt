@@ -26,7 +26,8 @@ fn copy_contexts(alloc: Global, contexts: &[Context]) -> Result<Vec<Context>, Al
 }
 
 impl Graph {
-    /// The graph once more. Linear in its nodes and the calls under way. The only error is want of memory.
+    /// The graph once more. Linear in its nodes and the calls under way. The only error is want of
+    /// memory.
     pub fn copy(&self, alloc: Global) -> Result<Graph, AllocError>
         ensures { IfOk result (λ graph. graph ≡ self.now) }
     {

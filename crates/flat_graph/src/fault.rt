@@ -5,8 +5,8 @@ ghost use Rattle.flat_graph.specs.declared.fault.GraphError.TheVariants.{Memory}
 
 use std::alloc::{AllocError, AllocFailed};
 
-/// Why a task has no flat graph. All but `Memory` have an address: that of the least node with an error, in the order
-/// of numbering, and for `TooManyNodes` the task's entry.
+/// Why a task has no flat graph. All but `Memory` have an address: that of the least node with an
+/// error, in the order of numbering, and for `TooManyNodes` the task's entry.
 #[derive(Clone, Copy, Debug, PartialEq, Eq)]
 pub enum GraphError {
     /// There is no memory for the graph.

@@ -1,11 +1,13 @@
 // A task's flat graph.
-ghost use Rattle.std.specs.Prelude.{IfSome, IsNone, ◌≡◌, ℕ, ◌<◌, ◌≤◌, ◌+◌, ◌↔◌, length, slice_get, option_map, IsTrue, MatchOption, nat_eq};
+ghost use Rattle.std.specs.Prelude.{IfSome, IsNone, ◌≡◌, ℕ, ◌<◌, ◌≤◌, ◌+◌, ◌↔◌, length, slice_get};
+ghost use Rattle.std.specs.Prelude.{option_map, IsTrue, MatchOption, nat_eq};
 ghost use Rattle.rv_decode.specs.Flow.{flow};
 ghost use Rattle.flat_graph.specs.Graph.{IsGraph, IsLeader};
 ghost use Rattle.flat_graph.specs.Numbered.{node_at};
 ghost use Rattle.std.proofs.Common.{rules};
 ghost use Rattle.std.specs.Cmp.Rules.{comparing};
-ghost use Rattle.std.specs.Cmp.Lexicographic.{slice_cmp, nat_list_cmp_total, pointwise, texts_ties, texts_po};
+ghost use Rattle.std.specs.Cmp.Lexicographic.{slice_cmp, nat_list_cmp_total, pointwise, texts_ties};
+ghost use Rattle.std.specs.Cmp.Lexicographic.{texts_po};
 ghost use Rattle.std.specs.List.Sorted.{IsSearchInRange, IsBinarySearchResult};
 ghost use Rattle.std.specs.Ordering.{nat_cmp, as_partial_cmp};
 ghost use Rattle.flat_graph.specs.Inner.NumberingOrder.{flat_cmp, stand_node};
@@ -79,7 +81,8 @@ pub(crate) enum Onward {
     Either(u32, u32),
 }
 
-/// A node: the number of its context, its address, its instruction, its successors, and whether it is a leader.
+/// A node: the number of its context, its address, its instruction, its successors, and whether it
+/// is a leader.
 #[derive(Clone, Copy)]
 pub(crate) struct Stand {
     pub(crate) context: u32,
@@ -89,11 +92,13 @@ pub(crate) struct Stand {
     pub(crate) leader: bool,
 }
 
-/// The flat graph of a task: a node is a list of the calls under way and an address, and goes on where the
-/// instruction there leads. Nodes are numbered from 0 by their calls under way, then by address; there are at most
-/// 16,384. Each node is reached from the first one, and has at most two successors.
+/// The flat graph of a task: a node is a list of the calls under way and an address, and goes on
+/// where the instruction there leads. Nodes are numbered from 0 by their calls under way, then by
+/// address; there are at most 16,384. Each node is reached from the first one, and has at most two
+/// successors.
 ///
-/// Contracts see it as the graph of numbers, with the calls under way, the address and the instruction of each node.
+/// Contracts see it as the graph of numbers, with the calls under way, the address and the
+/// instruction of each node.
 #[derive(Drop)]
 pub struct Graph {
     pub(crate) contexts: Items<Context>,
@@ -115,7 +120,8 @@ impl Model for Graph {
 
 /// How a node stands to the calls under way and an address, in the order of numbering.
 fn compare(contexts: &[Context], stand: &Stand, context: &[u32], address: u32) -> Ordering
-    ensures { result ≡ flat_cmp (stand_node contexts.now stand.now) (record { context = context.now; address = address }) }
+    ensures { result ≡ flat_cmp (stand_node contexts.now stand.now)
+        (record { context = context.now; address = address }) }
 {
     let calls = match contexts.get(stand.context as usize) {
         Some(kept) => kept.calls.as_slice(),
@@ -132,11 +138,14 @@ fn search(
     address: u32,
 ) -> Result<usize, usize>
     ensures bound { IsSearchInRange result (length nodes.now) }
-    ensures position { IsBinarySearchResult (λ s. flat_cmp (stand_node contexts.now s) (record { context = context.now; address = address })) nodes.now result }
+    ensures position { IsBinarySearchResult
+        (λ s. flat_cmp (stand_node contexts.now s)
+        (record { context = context.now; address = address })) nodes.now result }
 {
     nodes.binary_search_by(
         |stand: &Stand| -> Ordering
-            ensures { result ≡ flat_cmp (stand_node contexts.entry.now stand.now) (record { context = context.entry.now; address = address }) }
+            ensures { result ≡ flat_cmp (stand_node contexts.entry.now stand.now)
+                (record { context = context.entry.now; address = address }) }
         { compare(contexts, stand, context, address) },
     )
 }
@@ -161,7 +170,9 @@ impl Graph {
         requires { id.0 < (graph_of self.now).size }
         ensures address { result.address ≡ (places_of self.now).address id.0 }
         ensures instruction { result.ins ≡ ins_of self.now id.0 }
-        ensures kind { result.kind ≡ kind_of ((places_of self.now).context id.0) (flow ((places_of self.now).address id.0) (ins_of self.now id.0)) }
+        ensures kind { result.kind
+            ≡ kind_of ((places_of self.now).context id.0)
+            (flow ((places_of self.now).address id.0) (ins_of self.now id.0)) }
     {
         let stand = &self.nodes.as_slice()[id.0 as usize];
         Node {
@@ -187,8 +198,8 @@ impl Graph {
         self.nodes.as_slice()[id.0 as usize].ins
     }
 
-    /// The addresses of the calls under way at a node, the outermost first; at most 16. In constant time; it takes no
-    /// memory.
+    /// The addresses of the calls under way at a node, the outermost first; at most 16. In constant
+    /// time; it takes no memory.
     pub fn context(&self, id: NodeId) -> &[u32]
         requires { id.0 < (graph_of self.now).size }
         ensures { result.now ≡ (places_of self.now).context id.0 }
@@ -198,8 +209,8 @@ impl Graph {
         context.calls.as_slice()
     }
 
-    /// The first (0) or second (1) successor of a node, None where it has no such one. The first successor of a
-    /// branch is the next address. In constant time; it takes no memory.
+    /// The first (0) or second (1) successor of a node, None where it has no such one. The first
+    /// successor of a branch is the next address. In constant time; it takes no memory.
     pub fn succ(&self, id: NodeId, k: u8) -> Option<NodeId>
         requires node { id.0 < (graph_of self.now).size }
         requires place { k < 2 }
@@ -213,11 +224,18 @@ impl Graph {
         }
     }
 
-    /// The node with these calls under way, the outermost first, at this address; None where no node stands there.
-    /// Logarithmic in the number of nodes. It takes no memory.
+    /// The node with these calls under way, the outermost first, at this address; None where no
+    /// node stands there. Logarithmic in the number of nodes. It takes no memory.
     pub fn find(&self, context: &[u32], address: u32) -> Option<NodeId>
-        ensures found { IfSome result (λ id. (id.0 < (graph_of self.now).size) × (node_at (places_of self.now) id.0 ≡ record { context = context.now; address = address })) }
-        ensures none { IsNone result → (u : ℕ) → u < (graph_of self.now).size → node_at (places_of self.now) u ≡ record { context = context.now; address = address } → ⊥ }
+        ensures found { IfSome result
+            (λ id. (id.0 < (graph_of self.now).size)
+            × (node_at (places_of self.now) id.0 ≡ record {
+              context = context.now;
+              address = address;
+            })) }
+        ensures none { IsNone result → (u : ℕ) → u < (graph_of self.now).size
+            → node_at (places_of self.now) u ≡ record { context = context.now; address = address }
+            → ⊥ }
     {
         let contexts = self.contexts.as_slice();
         match search(contexts, self.nodes.as_slice(), context, address) {
@@ -226,8 +244,9 @@ impl Graph {
         }
     }
 
-    /// Whether a node is a leader: the first node, a node with other than one edge towards it, or a successor of a
-    /// node with two successors. Every cycle of the graph has a leader. In constant time; it takes no memory.
+    /// Whether a node is a leader: the first node, a node with other than one edge towards it, or a
+    /// successor of a node with two successors. Every cycle of the graph has a leader. In constant
+    /// time; it takes no memory.
     pub fn leader(&self, id: NodeId) -> bool
         requires { id.0 < (graph_of self.now).size }
         ensures { IsTrue result ↔ IsLeader (graph_of self.now) id.0 }
@@ -235,8 +254,8 @@ impl Graph {
         self.nodes.as_slice()[id.0 as usize].leader
     }
 
-    /// What every such graph is: the flat graph of some code, in which each node is reached by a walk from the first.
-    /// In constant time.
+    /// What every such graph is: the flat graph of some code, in which each node is reached by a
+    /// walk from the first. In constant time.
     pub fn graph_law(&self)
         ensures code { HasCode self.now }
         ensures graph { IsGraph (graph_of self.now) }

@@ -1,14 +1,15 @@
 // The leaders of a graph.
 ghost use Rattle.std.specs.Prelude.{◌≡◌, ◌<◌, ℕ, Some, IfOk, length, map, slice_get, All};
 ghost use Rattle.flat_graph.specs.declared.leaders.Mark.{Mark};
-ghost use Rattle.flat_graph.specs.Inner.Leaders.{AreEnds, AreMarked, HasLeaders, mark_after_edges, is_leading};
+ghost use Rattle.flat_graph.specs.Inner.Leaders.{AreEnds, AreMarked, HasLeaders, mark_after_edges};
+ghost use Rattle.flat_graph.specs.Inner.Leaders.{is_leading};
 
 use crate::graph::Onward;
 use crate::lines::Line;
 use std::alloc::{AllocError, Global};
 
-/// What is known of a node from the edges towards it that were met: none, one from a node with one successor, or that
-/// the node is a leader.
+/// What is known of a node from the edges towards it that were met: none, one from a node with one
+/// successor, or that the node is a leader.
 #[derive(Clone, Copy)]
 enum Mark {
     Unmet,
@@ -20,7 +21,8 @@ enum Mark {
 fn mark_ends(marks: &mut [Mark], next: Onward)
     requires { AreEnds (length marks.old) next }
     ensures count { length marks.new ≡ length marks.old }
-    ensures marked { (v : ℕ) (m : Mark) (n : Mark) → slice_get marks.old v ≡ Some m → slice_get marks.new v ≡ Some n → n ≡ mark_after_edges next v m }
+    ensures marked { (v : ℕ) (m : Mark) (n : Mark) → slice_get marks.old v ≡ Some m
+        → slice_get marks.new v ≡ Some n → n ≡ mark_after_edges next v m }
 {
     match next {
         Onward::Ends => {}
@@ -69,8 +71,8 @@ fn leader_flags(alloc: Global, marks: &[Mark]) -> Result<Vec<bool>, AllocError>
     marks.iter().map(|mark| is_leader(*mark)).collect(alloc)
 }
 
-/// Which nodes are leaders, for nodes that go on as the lines say: a node is none where its one edge comes from a node
-/// with one successor and it is not the first. Time is linear.
+/// Which nodes are leaders, for nodes that go on as the lines say: a node is none where its one
+/// edge comes from a node with one successor and it is not the first. Time is linear.
 pub(crate) fn leaders(alloc: Global, lines: &[Line], first: u32) -> Result<Vec<bool>, AllocError>
     requires first { first < length lines.now }
     requires edges { All (λ l. AreEnds (length lines.now) l.next) lines.now }

@@ -1,5 +1,6 @@
 // Which spots of the code are reached from a task's entry.
-ghost use Rattle.std.specs.Prelude.{◌≡◌, ◌<◌, ◌≤◌, ◌+◌, ◌⊎◌, ◌^◌, All, length, IfOk, OnOk, IfErr, [], ◌∷◌, slice_index_or};
+ghost use Rattle.std.specs.Prelude.{◌≡◌, ◌<◌, ◌≤◌, ◌+◌, ◌⊎◌, ◌^◌, All, length, IfOk, OnOk, IfErr};
+ghost use Rattle.std.specs.Prelude.{[], ◌∷◌, slice_index_or};
 ghost use Rattle.code_map.specs.Words.{word_at};
 ghost use Rattle.rv_decode.specs.Flow.{flows};
 ghost use Rattle.std.specs.List.Sorted.{IsPermutation, IsSortedBy};
@@ -21,8 +22,8 @@ use smallvec::SmallVec;
 use std::alloc::{AllocError, Global};
 use std::collections::BTreeSet;
 
-/// The spots that were found so far, with the lists of calls to which their numbers point: as a set, and in the order in
-/// which they were found.
+/// The spots that were found so far, with the lists of calls to which their numbers point: as a
+/// set, and in the order in which they were found.
 #[derive(Drop)]
 struct Found {
     contexts: Contexts,
@@ -53,11 +54,15 @@ impl Found {
 
     /// Adds a spot that is not found yet.
     fn add(&mut self, spot: Spot) -> Result<(), AllocError>
-        requires found { AreSameSpots self.old.contexts.lists.items self.old.set.keys self.old.list.items }
+        requires found { AreSameSpots self.old.contexts.lists.items self.old.set.keys
+            self.old.list.items }
         requires list { spot.context < length self.old.contexts.lists.items }
-        ensures found { OnOk result (AreSameSpots self.new.contexts.lists.items self.new.set.keys self.new.list.items) }
+        ensures found { OnOk result
+            (AreSameSpots self.new.contexts.lists.items self.new.set.keys self.new.list.items) }
         ensures added { let lists = self.old.contexts.lists.items in
-            OnOk result (AreAdded (spot_nodes lists self.old.list.items) (spot_node lists spot ∷ []) (spot_nodes lists self.new.list.items)) }
+            OnOk result
+            (AreAdded (spot_nodes lists self.old.list.items) (spot_node lists spot ∷ [])
+            (spot_nodes lists self.new.list.items)) }
         ensures same { self.new.contexts ≡ self.old.contexts }
     {
         if self.set.insert(spot)? {
@@ -70,13 +75,20 @@ impl Found {
     fn add_away(&mut self, alloc: Global, calls: Context, address: u32) -> Result<(), AllocError>
         requires numbered { AreNumbered self.old.contexts.numbers self.old.contexts.lists.items }
         requires few { length self.old.contexts.lists.items < 2 ^ 32 }
-        requires found { AreSameSpots self.old.contexts.lists.items self.old.set.keys self.old.list.items }
-        ensures numbered { OnOk result (AreNumbered self.new.contexts.numbers self.new.contexts.lists.items) }
-        ensures found { OnOk result (AreSameSpots self.new.contexts.lists.items self.new.set.keys self.new.list.items) }
-        ensures added { OnOk result (AreAdded (spot_nodes self.old.contexts.lists.items self.old.list.items) (record { context = calls; address = address } ∷ [])
+        requires found { AreSameSpots self.old.contexts.lists.items self.old.set.keys
+            self.old.list.items }
+        ensures numbered { OnOk result
+            (AreNumbered self.new.contexts.numbers self.new.contexts.lists.items) }
+        ensures found { OnOk result
+            (AreSameSpots self.new.contexts.lists.items self.new.set.keys self.new.list.items) }
+        ensures added { OnOk result
+            (AreAdded (spot_nodes self.old.contexts.lists.items self.old.list.items)
+            (record { context = calls; address = address } ∷ [])
             (spot_nodes self.new.contexts.lists.items self.new.list.items)) }
-        ensures more { OnOk result (ExtendsLists self.old.contexts.lists.items self.new.contexts.lists.items) }
-        ensures count { OnOk result (length self.new.contexts.lists.items ≤ length self.old.contexts.lists.items + 1) }
+        ensures more { OnOk result
+            (ExtendsLists self.old.contexts.lists.items self.new.contexts.lists.items) }
+        ensures count { OnOk result
+            (length self.new.contexts.lists.items ≤ length self.old.contexts.lists.items + 1) }
     {
         let context = self.contexts.number(alloc, calls)?;
         self.add(Spot { context, address })
@@ -86,13 +98,19 @@ impl Found {
     fn add_steps(&mut self, alloc: Global, from: u32, steps: Steps) -> Result<(), AllocError>
         requires numbered { AreNumbered self.old.contexts.numbers self.old.contexts.lists.items }
         requires few { length self.old.contexts.lists.items < 2 ^ 32 }
-        requires found { AreSameSpots self.old.contexts.lists.items self.old.set.keys self.old.list.items }
+        requires found { AreSameSpots self.old.contexts.lists.items self.old.set.keys
+            self.old.list.items }
         requires from { from < length self.old.contexts.lists.items }
-        ensures numbered { OnOk result (AreNumbered self.new.contexts.numbers self.new.contexts.lists.items) }
-        ensures found { OnOk result (AreSameSpots self.new.contexts.lists.items self.new.set.keys self.new.list.items) }
-        ensures added { OnOk result (AreAdded (spot_nodes self.old.contexts.lists.items self.old.list.items)
-            (flat_steps (slice_index_or self.old.contexts.lists.items from []) steps) (spot_nodes self.new.contexts.lists.items self.new.list.items)) }
-        ensures count { OnOk result (length self.new.contexts.lists.items ≤ length self.old.contexts.lists.items + 1) }
+        ensures numbered { OnOk result
+            (AreNumbered self.new.contexts.numbers self.new.contexts.lists.items) }
+        ensures found { OnOk result
+            (AreSameSpots self.new.contexts.lists.items self.new.set.keys self.new.list.items) }
+        ensures added { OnOk result
+            (AreAdded (spot_nodes self.old.contexts.lists.items self.old.list.items)
+            (flat_steps (slice_index_or self.old.contexts.lists.items from []) steps)
+            (spot_nodes self.new.contexts.lists.items self.new.list.items)) }
+        ensures count { OnOk result
+            (length self.new.contexts.lists.items ≤ length self.old.contexts.lists.items + 1) }
     {
         match steps {
             Steps::Ends => Ok(()),
@@ -118,7 +136,10 @@ impl Found {
     fn ordered(self, alloc: Global) -> Result<Ordered, AllocError>
         ensures lists { IfOk result (λ o. o.lists.items ≡ self.contexts.lists.items) }
         ensures same { IfOk result (λ o. IsPermutation self.set.keys o.spots.items) }
-        ensures sorted { IfOk result (λ o. IsSortedBy (λ s t. is_lt (flat_cmp (spot_node self.contexts.lists.items s) (spot_node self.contexts.lists.items t))) o.spots.items) }
+        ensures sorted { IfOk result
+            (λ o. IsSortedBy (λ s t.
+            is_lt (flat_cmp (spot_node self.contexts.lists.items s)
+            (spot_node self.contexts.lists.items t))) o.spots.items) }
     {
         let set = self.set;
         let contexts = self.contexts;
@@ -137,8 +158,11 @@ fn steps_from(
     calls: &[u32],
     address: u32,
 ) -> Result<Steps, AllocError>
-    requires { IsNode (flows (word_at code.now.images)) entry (record { context = calls.now; address = address }) }
-    ensures { IfOk result (λ s. flat_steps calls.now s ≡ successors (flows (word_at code.now.images)) entry (record { context = calls.now; address = address })) }
+    requires { IsNode (flows (word_at code.now.images)) entry
+        (record { context = calls.now; address = address }) }
+    ensures { IfOk result (λ s.
+        flat_steps calls.now s ≡ successors (flows (word_at code.now.images)) entry
+        (record { context = calls.now; address = address })) }
 {
     code.words_law();
     match check(code, entry, calls, address) {
@@ -147,8 +171,8 @@ fn steps_from(
     }
 }
 
-/// The spots of the nodes of the graph from an entry, in the order of numbering: `TooManyNodes` where they are more than
-/// the most.
+/// The spots of the nodes of the graph from an entry, in the order of numbering: `TooManyNodes`
+/// where they are more than the most.
 pub(crate) fn reach(
     alloc: Global,
     code: &CodeMap,
@@ -156,10 +180,14 @@ pub(crate) fn reach(
     most: usize,
 ) -> Result<Ordered, GraphError>
     requires { most ≤ 16384 }
-    ensures reached { IfOk result (λ o. IsNumbering (flows (word_at code.now.images)) entry (spot_nodes o.lists.items o.spots.items)) }
+    ensures reached { IfOk result
+        (λ o. IsNumbering (flows (word_at code.now.images)) entry
+        (spot_nodes o.lists.items o.spots.items)) }
     ensures few { IfOk result (λ o. length o.spots.items ≤ most) }
     ensures inside { IfOk result (λ o. All (λ s. s.context < length o.lists.items) o.spots.items) }
-    ensures too_many { IfErr result (λ e. (e ≡ Memory) ⊎ ((e ≡ TooManyNodes entry) × HasMoreNodes (flows (word_at code.now.images)) entry most)) }
+    ensures too_many { IfErr result
+        (λ e. (e ≡ Memory)
+        ⊎ ((e ≡ TooManyNodes entry) × HasMoreNodes (flows (word_at code.now.images)) entry most)) }
 {
     let mut found = Found::new(alloc);
     let none = SmallVec::new(alloc);

@@ -41,8 +41,8 @@ fn fits(graph: &Graph, code: &CodeMap, entry: u32) -> bool
 }
 
 impl Graph {
-    /// Whether this is the flat graph of some code from an entry, as `build` would give it. Its time is that of one word
-    /// of the code for each node, at most; it takes no memory.
+    /// Whether this is the flat graph of some code from an entry, as `build` would give it. Its
+    /// time is that of one word of the code for each node, at most; it takes no memory.
     pub fn is_of_code(&self, code: &CodeMap, entry: u32) -> bool
         ensures { IsTrue result ↔ IsCodeGraph (word_at code.now.images) entry self.now }
     {

@@ -18,7 +18,8 @@ use smallvec::SmallVec;
 use std::alloc::{AllocError, Global};
 use std::cmp::Ordering;
 
-/// The number of a list of calls under way, and an address. Spots are ordered by number, and then by address.
+/// The number of a list of calls under way, and an address. Spots are ordered by number, and then
+/// by address.
 #[derive(Clone, Copy, PartialEq, Eq)]
 pub(crate) struct Spot {
     pub(crate) context: u32,
@@ -42,17 +43,19 @@ impl Ord for Spot {
 }
 
 impl PartialOrd for Spot {
-    ghost partial_cmp = { as_partial_cmp (then_cmp (on (λ s. s.context) nat_cmp) (on (λ s. s.address) nat_cmp)) };
+    ghost partial_cmp = { as_partial_cmp
+        (then_cmp (on (λ s. s.context) nat_cmp) (on (λ s. s.address) nat_cmp)) };
 
-    ghost laws = { partial_order_from_own_ties (Prim.search (comparing, rules)) (Prim.search (comparing, rules)) };
+    ghost laws = { partial_order_from_own_ties (Prim.search (comparing, rules))
+        (Prim.search (comparing, rules)) };
 
     fn partial_cmp(&self, other: &Spot) -> Option<Ordering> {
         Some(self.cmp(other))
     }
 }
 
-/// How spots stand to each other in the order of numbering: their calls are compared as lists, item by item, and then their
-/// addresses. Spots of one list are compared by their addresses alone.
+/// How spots stand to each other in the order of numbering: their calls are compared as lists, item
+/// by item, and then their addresses. Spots of one list are compared by their addresses alone.
 pub(crate) fn compare(lists: &[Context], spot: &Spot, other: &Spot) -> Ordering
     ensures { result ≡ flat_cmp (spot_node lists.now spot.now) (spot_node lists.now other.now) }
 {
@@ -67,16 +70,20 @@ pub(crate) fn compare(lists: &[Context], spot: &Spot, other: &Spot) -> Ordering
 /// Puts spots in the order of numbering.
 pub(crate) fn sort(lists: &[Context], spots: &mut Vec<Spot>) -> Result<(), AllocError>
     ensures same { IsPermutation spots.old.items spots.new.items }
-    ensures sorted { OnOk result (IsSortedBy (λ s t. is_lt (flat_cmp (spot_node lists.now s) (spot_node lists.now t))) spots.new.items) }
+    ensures sorted { OnOk result
+        (IsSortedBy (λ s t. is_lt (flat_cmp (spot_node lists.now s) (spot_node lists.now t)))
+        spots.new.items) }
 {
     spots.sort_by(
         |spot: &Spot, other: &Spot| -> Ordering
-            ensures { result ≡ flat_cmp (spot_node lists.entry.now spot.now) (spot_node lists.entry.now other.now) }
+            ensures { result ≡ flat_cmp (spot_node lists.entry.now spot.now)
+                (spot_node lists.entry.now other.now) }
         { compare(lists, spot, other) },
     )
 }
 
-/// Where a spot leads: nowhere, to one or two addresses with the same calls under way, or to an address with others.
+/// Where a spot leads: nowhere, to one or two addresses with the same calls under way, or to an
+/// address with others.
 #[derive(Drop)]
 pub(crate) enum Steps {
     Ends,

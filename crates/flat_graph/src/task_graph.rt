@@ -1,5 +1,6 @@
 // The flat graph of a task from the code.
-ghost use Rattle.std.specs.Prelude.{◌≡◌, ◌≤◌, ◌<◌, ℕ, Bool, Some, IfOk, IfErr, IfSome, length, slice_get, slice_index};
+ghost use Rattle.std.specs.Prelude.{◌≡◌, ◌≤◌, ◌<◌, ℕ, Bool, Some, IfOk, IfErr, IfSome, length};
+ghost use Rattle.std.specs.Prelude.{slice_get, slice_index};
 ghost use Rattle.code_map.specs.Words.{word_at};
 ghost use Rattle.rv_decode.specs.Flow.{flows};
 ghost use Rattle.flat_graph.specs.Inner.GraphParts.{AreStoredNodes};
@@ -42,24 +43,30 @@ fn stands(
     Ok(stands)
 }
 
-/// The flat graph of a task: the nodes that are reached from its entry, with the calls under way, in the order of
-/// numbering, each with its instruction and its successors.
+/// The flat graph of a task: the nodes that are reached from its entry, with the calls under way,
+/// in the order of numbering, each with its instruction and its successors.
 ///
-/// An `Err` is `TooManyNodes` where more than 16,384 nodes are reached, those with errors included; else the error of
-/// the least node that has one, in the order of numbering, each node tried in the order `Misaligned`, `OutsideCode`,
-/// `Undecodable`, `Breakpoint`, `IndirectJump`, `OtherLink`, `Recursive`, `TooDeep`. Addresses are in bytes. `Memory`
-/// may come in place of any answer.
+/// An `Err` is `TooManyNodes` where more than 16,384 nodes are reached, those with errors included;
+/// else the error of the least node that has one, in the order of numbering, each node tried in the
+/// order `Misaligned`, `OutsideCode`, `Undecodable`, `Breakpoint`, `IndirectJump`, `OtherLink`,
+/// `Recursive`, `TooDeep`. Addresses are in bytes. `Memory` may come in place of any answer.
 ///
-/// Time is n log n in the nodes, each step of it a comparison of two numbers; lists of at most 16 calls are compared only
-/// at calls and returns, and to put the lists in order. Besides the graph, each node is kept twice more while the graph is
-/// built. A list of calls is kept once for all nodes of it.
+/// Time is n log n in the nodes, each step of it a comparison of two numbers; lists of at most 16
+/// calls are compared only at calls and returns, and to put the lists in order. Besides the graph,
+/// each node is kept twice more while the graph is built. A list of calls is kept once for all
+/// nodes of it.
 ///
-/// Source: RISC-V unprivileged manual (JAL, JALR and the return-address register x1 of the standard calling convention).
+/// Source: RISC-V unprivileged manual (JAL, JALR and the return-address register x1 of the standard
+/// calling convention).
 pub fn build(alloc: Global, code: &CodeMap, task: Task) -> Result<Graph, GraphError>
     requires { task.0 < length code.now.plans }
-    ensures graph { IfOk result (λ g. IfSome (slice_get code.now.plans task.0) (λ p. IsCodeGraph (word_at code.now.images) p.entry g)) }
+    ensures graph { IfOk result
+        (λ g. IfSome (slice_get code.now.plans task.0)
+        (λ p. IsCodeGraph (word_at code.now.images) p.entry g)) }
     ensures few { IfOk result (λ g. length g.nodes ≤ 16384) }
-    ensures refused { IfErr result (λ e. IfSome (slice_get code.now.plans task.0) (λ p. IsGraphError (flows (word_at code.now.images)) p.entry e)) }
+    ensures refused { IfErr result
+        (λ e. IfSome (slice_get code.now.plans task.0)
+        (λ p. IsGraphError (flows (word_at code.now.images)) p.entry e)) }
 {
     graph_from(alloc, code, code.plan(task).entry)
 }

@@ -6,8 +6,8 @@ ghost use Rattle.flat_graph.specs.Inner.Ways.{flow_by};
 
 use rv_decode::Ins;
 
-/// Where an instruction leads: to the next address, there or to a target, to a target, into a call, back from one,
-/// nowhere at an ECALL, or it is not followed.
+/// Where an instruction leads: to the next address, there or to a target, to a target, into a call,
+/// back from one, nowhere at an ECALL, or it is not followed.
 #[derive(Clone, Copy)]
 pub(crate) enum Way {
     Next,

@@ -1,5 +1,7 @@
 -- The arrival at an address, counted loop by loop.
-use Rattle.std.proofs.Common.{◌≡◌, ◌≢◌, ℕ, suc, ◌+◌, ◌<◌, ◌≤◌, ◌==◌, nat_le, true, false, Some, List, [], ◌∷◌, ◌++◌, length, take, drop, get_or, slice_index, inl, inr, refl, sym, ◌∙◌, ap, subst, arith, append_assoc, drop-cons}
+use Rattle.std.proofs.Common.{◌≡◌, ◌≢◌, ℕ, suc, ◌+◌, ◌<◌, ◌≤◌, ◌==◌, nat_le, true, false, Some}
+use Rattle.std.proofs.Common.{List, [], ◌∷◌, ◌++◌, length, take, drop, get_or, slice_index, inl}
+use Rattle.std.proofs.Common.{inr, refl, sym, ◌∙◌, ap, subst, arith, append_assoc, drop-cons}
 use Rattle.std.specs.List.{find, list_any}
 use Rattle.std.proofs.lemmas.Bool.{cases_Bool, ne_eqb}
 use Rattle.std.proofs.lemmas.Bool.Decides.{nat_tests}
@@ -10,9 +12,11 @@ use Rattle.flow_watch.specs.Watch.{in_range, all_iterations_after, within_bounds
 use Rattle.flow_watch.specs.Inner.Quiet.{KeepsAllIterations, KeepsIterations}
 
 -- the turns with those of the first i loops counted: what is left to count gives the whole
-pub record IsCounted (a : ℕ) (loops : List LoopAt) (before : List ℕ) (i : ℕ) (turns : List ℕ) : Type 0 where
+pub record IsCounted (a : ℕ) (loops : List LoopAt) (before : List ℕ) (i : ℕ)
+    (turns : List ℕ) : Type 0 where
   pub same : length turns ≡ length loops
-  pub counted : all_iterations_after a loops before ≡ take i turns ++ all_iterations_after a (drop i loops) (drop i turns)
+  pub counted : all_iterations_after a loops before
+      ≡ take i turns ++ all_iterations_after a (drop i loops) (drop i turns)
   pub within :
       within_bounds loops (all_iterations_after a loops before)
       ≡ within_bounds (drop i loops) (all_iterations_after a (drop i loops) (drop i turns))
@@ -25,49 +29,73 @@ pub counted_still :
 counted_still a loops turns i loop h below is keeps =
     let t = slice_index turns i in
     let rest = all_iterations_after a (drop (suc i) loops) (drop (suc i) turns) in
-    let here : drop i loops ≡ loop ∷ drop (suc i) loops = drop-cons loops i loop below ∙ ap (λ (l : LoopAt). l ∷ drop (suc i) loops) (sym is) in
-    let turn : drop i turns ≡ t ∷ drop (suc i) turns = drop-cons turns i 0 (omega (arith, h.same)) in
-    let front : take (suc i) turns ≡ take i turns ++ t ∷ [] = take-suc turns i 0 (omega (arith, h.same)) in
+    let here : drop i loops ≡ loop ∷ drop (suc i) loops =
+    drop-cons loops i loop below ∙ ap (λ (l : LoopAt). l ∷ drop (suc i) loops) (sym is) in
+    let turn : drop i turns ≡ t ∷ drop (suc i) turns =
+    drop-cons turns i 0 (omega (arith, h.same)) in
+    let front : take (suc i) turns ≡ take i turns ++ t ∷ [] =
+    take-suc turns i 0 (omega (arith, h.same)) in
     let test : nat_le t loop.bound ≡ true = grind (arith, nat_tests, keeps.within) in
-    let all : all_iterations_after a (drop i loops) (drop i turns) ≡ t ∷ rest = rw (here, turn) (ap (λ (x : ℕ). x ∷ rest) keeps.same) in
-    let fits : within_bounds (drop i loops) (all_iterations_after a (drop i loops) (drop i turns)) ≡ within_bounds (drop (suc i) loops) rest =
+    let all : all_iterations_after a (drop i loops) (drop i turns) ≡ t ∷ rest =
+    rw (here, turn) (ap (λ (x : ℕ). x ∷ rest) keeps.same) in
+    let fits : within_bounds (drop i loops) (all_iterations_after a (drop i loops) (drop i turns))
+    ≡ within_bounds (drop (suc i) loops) rest =
     ap (within_bounds (drop i loops)) all ∙ rw (here, test) refl in
     let next : suc i ≡ i + 1 = omega arith in
     subst (λ (n : ℕ). IsCounted a loops turns n turns) next
     (record {
       same = h.same;
-      counted = h.counted ∙ ap (λ (xs : List ℕ). take i turns ++ xs) all ∙ append_assoc_of (take i turns) t rest ∙ ap (λ (xs : List ℕ). xs ++ rest) (sym front);
+      counted =
+          h.counted ∙ ap (λ (xs : List ℕ). take i turns ++ xs) all
+          ∙ append_assoc_of (take i turns) t rest ∙ ap (λ (xs : List ℕ). xs ++ rest) (sym front);
       within = h.within ∙ fits;
     })
   where
     append_assoc_of : (xs : List ℕ) (y : ℕ) (ys : List ℕ) → xs ++ y ∷ ys ≡ (xs ++ y ∷ []) ++ ys
     append_assoc_of xs y ys = sym (append_assoc xs (y ∷ []) ys)
 
-none_counts : (a : ℕ) (loops : List LoopAt) (turns : List ℕ) → loops ≡ [] → all_iterations_after a loops turns ≡ []
+none_counts : (a : ℕ) (loops : List LoopAt) (turns : List ℕ) → loops ≡ []
+    → all_iterations_after a loops turns ≡ []
 none_counts a [] turns e = refl
 none_counts a (loop ∷ loops) turns e = cc
 
-none_exceeds : (loops : List LoopAt) (turns : List ℕ) → loops ≡ [] → within_bounds loops turns ≡ true
+none_exceeds : (loops : List LoopAt) (turns : List ℕ) → loops ≡ []
+    → within_bounds loops turns ≡ true
 none_exceeds [] turns e = refl
 none_exceeds (loop ∷ loops) turns e = cc
 
 -- when all loops are counted, all turns are as they were
 pub counted_all :
-    (a : ℕ) (loops : List LoopAt) (turns : List ℕ) (i : ℕ) → IsCounted a loops turns i turns → length loops ≤ i →
+    (a : ℕ) (loops : List LoopAt) (turns : List ℕ) (i : ℕ) → IsCounted a loops turns i turns
+    → length loops ≤ i →
     KeepsAllIterations a loops turns
 counted_all a loops turns i h all =
     let none : drop i loops ≡ [] = drop_all i loops all in
     let last : drop i turns ≡ [] = drop_all i turns (omega (arith, h.same)) in
     let same : all_iterations_after a loops turns ≡ turns =
-    h.counted ∙ (ap (λ (xs : List ℕ). take i turns ++ xs) (none_counts a (drop i loops) (drop i turns) none ∙ sym last) ∙ take-append-drop i turns) in
-    record { same = same; within = ap (within_bounds loops) (sym same) ∙ h.within ∙ none_exceeds (drop i loops) (all_iterations_after a (drop i loops) (drop i turns)) none }
+    h.counted
+    ∙ (ap (λ (xs : List ℕ). take i turns ++ xs)
+    (none_counts a (drop i loops) (drop i turns) none ∙ sym last) ∙ take-append-drop i turns) in
+    record {
+      same = same;
+      within =
+          ap (within_bounds loops) (sym same) ∙ h.within
+          ∙ none_exceeds (drop i loops) (all_iterations_after a (drop i loops) (drop i turns)) none;
+    }
 
 -- an arrival at another address than its head leaves a loop that is not open as it is
 pub still_closed :
     (a : ℕ) (loop : LoopAt) (turns : ℕ) → a ≢ loop.head → turns ≡ 0 → KeepsIterations a loop turns
 still_closed a loop turns other none =
     let test : (a == loop.head) ≡ false = ne_eqb a loop.head other in
-    rw none (record { same = rw test (elim (cases_Bool (list_any (in_range a) loop.ranges)) [ inl e ↦ rw e refl | inr e ↦ rw e refl ]); within = omega arith })
+    rw none (record {
+      same =
+          rw test (elim (cases_Bool (list_any (in_range a) loop.ranges)) [
+            | inl e ↦ rw e refl
+            | inr e ↦ rw e refl
+          ]);
+      within = omega arith;
+    })
 
 -- and one in a range of the loop leaves it as it is where it is open
 pub still_held :
@@ -81,7 +109,8 @@ still_held a near loop turns r other within found low high =
     option_some_same : (x r : ℕ × ℕ) → Some x ≡ Some r → x ≡ r
     option_some_same x r e = cc
 
-    held_by : (a near : ℕ) (rs : List (ℕ × ℕ)) (r : ℕ × ℕ) → find (in_range near) rs ≡ Some r → r.0 ≤ a → a < r.1 → list_any (in_range a) rs ≡ true
+    held_by : (a near : ℕ) (rs : List (ℕ × ℕ)) (r : ℕ × ℕ) → find (in_range near) rs ≡ Some r
+        → r.0 ≤ a → a < r.1 → list_any (in_range a) rs ≡ true
     held_by a near [] r found low high = cc
     held_by a near (x ∷ rs) r found low high =
         elim (cases_Bool (in_range near x)) [

@@ -7,7 +7,12 @@ use Rattle.rv_decode.specs.Flow.{flow}
 use Rattle.flow_watch.specs.Watch.{Watch, Frame, start, step, context}
 
 abbrev plan : TaskPlan
-plan = record { entry = 0xFFFFFFFC; stack = 0; global = 0; loops = record { head = 0; bound = 2; ranges = [] } ∷ [] }
+plan = record {
+  entry = 0xFFFFFFFC;
+  stack = 0;
+  global = 0;
+  loops = record { head = 0; bound = 2; ranges = [] } ∷ [];
+}
 
 abbrev frame : ℕ → List ℕ → Frame
 frame back turns = record { back = back; turns = turns }
@@ -28,8 +33,10 @@ returned : step plan called 0 (Jalr 0 1 (pos 0)) 0 ≡ Some (frame 0xFFFFFFFC (1
 unfolding step flow
 returned = refl
 
--- the way on from there wraps as well; a return elsewhere, another jump by a register and another link break the watch
-went_on : step plan (start plan) 0xFFFFFFFC (Addi 0 0 (pos 0)) 0 ≡ Some (frame 0xFFFFFFFC (1 ∷ []) ∷ [])
+-- the way on from there wraps as well; a return elsewhere, another jump by a register and another
+-- link break the watch
+went_on : step plan (start plan) 0xFFFFFFFC (Addi 0 0 (pos 0)) 0
+    ≡ Some (frame 0xFFFFFFFC (1 ∷ []) ∷ [])
 unfolding step flow
 went_on = refl
 

@@ -5,7 +5,8 @@ use Rattle.rv_decode.specs.declared.Ins.{Ins}
 use Rattle.rv_decode.specs.Flow.{Flow, Call, Return, OtherJalr, OtherJal}
 use Rattle.flow_watch.specs.Watch.{Watch, arrive, step}
 
--- whether an instruction of this flow stays in its frame: it is followed, and neither calls nor returns
+-- whether an instruction of this flow stays in its frame: it is followed, and neither calls nor
+-- returns
 abbrev pub stays : Flow → Bool
 stays (Call t) = false
 stays Return = false
@@ -15,7 +16,9 @@ stays _ = true
 
 -- a step by the instruction is the arrival alone
 abbrev pub IsArrival : Ins → Type 0
-IsArrival ins = (plan : TaskPlan) (w : Watch) (from to : ℕ) → step plan w from ins to ≡ option_and_then (arrive plan to) w
+IsArrival ins =
+    (plan : TaskPlan) (w : Watch) (from to : ℕ)
+    → step plan w from ins to ≡ option_and_then (arrive plan to) w
 
 -- an arrival at the address leaves the watch as it is
 abbrev pub IsQuiet : TaskPlan → Watch → ℕ → Type 0

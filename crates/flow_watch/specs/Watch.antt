@@ -1,5 +1,6 @@
 -- The watch over a job's flow: its calls, and the turns of its stated loops.
-use Rattle.std.specs.Prelude.{ℕ, suc, Bool, true, false, ◌&&◌, ◌||◌, ◌==◌, nat_lt, nat_le, if◌then◌else◌, List, [], ◌∷◌, ◌++◌, length, map, Option, Some, None}
+use Rattle.std.specs.Prelude.{ℕ, suc, Bool, true, false, ◌&&◌, ◌||◌, ◌==◌, nat_lt, nat_le}
+use Rattle.std.specs.Prelude.{if◌then◌else◌, List, [], ◌∷◌, ◌++◌, length, map, Option, Some, None}
 use Rattle.std.specs.List.{list_any}
 use Rattle.crpd_base.specs.declared.data.LoopAt.{LoopAt}
 use Rattle.crpd_base.specs.declared.data.TaskPlan.{TaskPlan}
@@ -7,8 +8,8 @@ use Rattle.rv_decode.specs.declared.Ins.{Ins}
 use Rattle.rv_decode.specs.Address.{next_address, address_before, end_address}
 use Rattle.rv_decode.specs.Flow.{Flow, Call, Return, OtherJalr, OtherJal, flow}
 
--- a function's run: where it returns to, and how often the head of each stated loop was met since the loop was
--- entered, 0 for a loop that is not open
+-- a function's run: where it returns to, and how often the head of each stated loop was met since
+-- the loop was entered, 0 for a loop that is not open
 pub record Frame : Type 0 where
   pub back : ℕ
   pub turns : List ℕ
@@ -26,10 +27,12 @@ holds loop a = (a == loop.head) || list_any (in_range a) loop.ranges
 
 -- a loop's turns after an arrival at the address
 abbrev pub iterations_after : ℕ → LoopAt → ℕ → ℕ
-iterations_after a loop turns = if a == loop.head then suc turns else (if holds loop a then turns else 0)
+iterations_after a loop turns =
+    if a == loop.head then suc turns else (if holds loop a then turns else 0)
 
 abbrev pub all_iterations_after : ℕ → List LoopAt → List ℕ → List ℕ
-all_iterations_after a (loop ∷ loops) (t ∷ turns) = iterations_after a loop t ∷ all_iterations_after a loops turns
+all_iterations_after a (loop ∷ loops) (t ∷ turns) =
+    iterations_after a loop t ∷ all_iterations_after a loops turns
 all_iterations_after a [] turns = []
 all_iterations_after a (loop ∷ loops) [] = []
 
@@ -44,7 +47,8 @@ abbrev pub arrive : TaskPlan → ℕ → List Frame → Watch
 arrive plan a [] = Some []
 arrive plan a (f ∷ frames) =
     let turns = all_iterations_after a plan.loops f.turns in
-    if within_bounds plan.loops turns then Some (record { back = f.back; turns = turns } ∷ frames) else None
+    if within_bounds plan.loops turns then Some (record { back = f.back; turns = turns } ∷ frames)
+    else None
 
 -- a frame with no loop open
 abbrev pub new_frame : TaskPlan → ℕ → Frame
@@ -57,14 +61,16 @@ start plan = arrive plan plan.entry (new_frame plan end_address ∷ [])
 -- a call, with at most sixteen frames above the bottom
 abbrev pub call_step : TaskPlan → ℕ → ℕ → List Frame → Watch
 call_step plan from to frames =
-    if nat_lt (length frames) 17 then arrive plan to (new_frame plan (next_address from) ∷ frames) else None
+    if nat_lt (length frames) 17 then arrive plan to (new_frame plan (next_address from) ∷ frames)
+    else None
 
 -- a return, which goes to the top frame's return address
 abbrev pub return_step : TaskPlan → ℕ → List Frame → Watch
 return_step plan to [] = None
 return_step plan to (f ∷ frames) = if to == f.back then arrive plan to frames else None
 
--- a step of a watch that is not broken, by the flow of the instruction: from an address to an address
+-- a step of a watch that is not broken, by the flow of the instruction: from an address to an
+-- address
 abbrev pub step_by_flow : TaskPlan → List Frame → ℕ → Flow → ℕ → Watch
 step_by_flow plan frames from (Call t) to = call_step plan from to frames
 step_by_flow plan frames from Return to = return_step plan to frames

@@ -1,8 +1,10 @@
 // The turns of a frame's stated loops.
-ghost use Rattle.std.specs.Prelude.{◌≡◌, ◌≢◌, ℕ, ◌<◌, ◌≤◌, Some, None, length, nat_le, if◌then◌else◌};
+ghost use Rattle.std.specs.Prelude.{◌≡◌, ◌≢◌, ℕ, ◌<◌, ◌≤◌, Some, None, length, nat_le};
+ghost use Rattle.std.specs.Prelude.{if◌then◌else◌};
 ghost use Rattle.std.specs.Bool.{OnTrue};
 ghost use Rattle.std.specs.List.{find, list_any};
-ghost use Rattle.flow_watch.specs.Watch.{in_range, iterations_after, all_iterations_after, within_bounds};
+ghost use Rattle.flow_watch.specs.Watch.{in_range, iterations_after, all_iterations_after};
+ghost use Rattle.flow_watch.specs.Watch.{within_bounds};
 ghost use Rattle.flow_watch.specs.Inner.Quiet.{KeepsAllIterations, KeepsIterations};
 
 use crpd_base::LoopAt;
@@ -28,8 +30,9 @@ fn is_in_ranges(stated: &LoopAt, address: u32) -> bool
         .any(|range| in_range(address, range))
 }
 
-/// The turns of a stated loop after an arrival at an address, or None where they are more than its bound. Turns at the
-/// bound are not raised, so no sum wraps. Only of a loop that is open its ranges are looked through.
+/// The turns of a stated loop after an arrival at an address, or None where they are more than its
+/// bound. Turns at the bound are not raised, so no sum wraps. Only of a loop that is open its
+/// ranges are looked through.
 fn iterations_after(stated: &LoopAt, turns: u32, address: u32) -> Option<u32>
     ensures { let after = iterations_after address stated.now turns in
         result ≡ (if nat_le after stated.now.bound then Some after else None) }
@@ -46,11 +49,12 @@ fn iterations_after(stated: &LoopAt, turns: u32, address: u32) -> Option<u32>
     }
 }
 
-/// Counts an arrival at an address in a frame's turns, and says whether all are within their bounds. Where they are
-/// not, the turns may be left halfway.
+/// Counts an arrival at an address in a frame's turns, and says whether all are within their
+/// bounds. Where they are not, the turns may be left halfway.
 pub(crate) fn count_arrival(turns: &mut [u32], loops: &[LoopAt], address: u32) -> bool
     requires { length turns.old ≡ length loops.now }
-    ensures within { result ≡ within_bounds loops.now (all_iterations_after address loops.now turns.old) }
+    ensures within { result ≡ within_bounds loops.now
+        (all_iterations_after address loops.now turns.old) }
     ensures counted { OnTrue result (turns.new ≡ all_iterations_after address loops.now turns.old) }
 {
     for (i, stated) in loops.iter().enumerate() {
@@ -74,7 +78,8 @@ fn range_around(stated: &LoopAt, address: u32) -> Option<(u32, u32)>
     None
 }
 
-/// The addresses of a range on the side of a loop's head on which an address lies, after the head where it is the head.
+/// The addresses of a range on the side of a loop's head on which an address lies, after the head
+/// where it is the head.
 fn beside_head(range: (u32, u32), head: u32, near: u32) -> (u32, u32)
     ensures { (a : ℕ) → result.0 ≤ a → a < result.1 → (range.0 ≤ a) × (a < range.1) × (a ≢ head) }
 {
@@ -87,9 +92,11 @@ fn beside_head(range: (u32, u32), head: u32, near: u32) -> (u32, u32)
     }
 }
 
-/// The addresses of a range at which an arrival leaves a stated loop's turns as they are, of those around an address.
+/// The addresses of a range at which an arrival leaves a stated loop's turns as they are, of those
+/// around an address.
 fn still_range(range: (u32, u32), stated: &LoopAt, turns: u32, near: u32) -> (u32, u32)
-    ensures { (a : ℕ) → result.0 ≤ a → a < result.1 → (range.0 ≤ a) × (a < range.1) × KeepsIterations a stated.now turns }
+    ensures { (a : ℕ) → result.0 ≤ a → a < result.1
+        → (range.0 ≤ a) × (a < range.1) × KeepsIterations a stated.now turns }
 {
     let around = beside_head(range, stated.head, near);
     if turns == 0 {

@@ -47,7 +47,8 @@ fn plan(alloc: Global, loops: &[Stated]) -> Result<TaskPlan, AllocError> {
     })
 }
 
-// The watch after the steps, each an instruction and the address after it, up to the end of the job.
+// The watch after the steps, each an instruction and the address after it, up to the end of the
+// job.
 fn watch_after(alloc: Global, plan: &TaskPlan, steps: &[(Ins, u32)]) -> Result<Watch, Fail>
     ensures { IfOk result (HasIterations (length plan.now.loops)) }
 {
@@ -134,7 +135,8 @@ const FOLLOWED: [(&[Stated], &[Step], bool, &[u32]); 28] = [
     // a bound is reached, and exceeded by one
     (&[TWICE], &[HEAD], false, &[]),
     (&[TWICE], &[HEAD, HEAD], true, &[]),
-    // a loop that is left begins anew; its range ends before its second address and begins with its first
+    // a loop that is left begins anew; its range ends before its second address and begins with its
+    // first
     (&[TWICE], &[HEAD, (NEXT, 0x10C), HEAD], true, &[]),
     (&[TWICE], &[HEAD, (NEXT, 0x110), HEAD, HEAD], false, &[]),
     (

@@ -9,10 +9,13 @@ use Rattle.gen_tasks.specs.Programs.{generator_platform, generated_task_at, gene
 
 -- sixteen tasks
 unfoldable pub generated_set : ℕ → TaskSet
-generated_set n = record { platform = generator_platform; tasks = map (generated_task_at n) (range_with_len 0 16) }
+generated_set n = record {
+  platform = generator_platform;
+  tasks = map (generated_task_at n) (range_with_len 0 16);
+}
 
--- the tasks and their files, with the draws of the tasks first, and a script of 500,000 cycles from an empty cache, with the
--- draws of its jobs behind them
+-- the tasks and their files, with the draws of the tasks first, and a script of 500,000 cycles from
+-- an empty cache, with the draws of its jobs behind them
 unfoldable pub made : ℕ → Generated
 made n = record {
   set = generated_set n;

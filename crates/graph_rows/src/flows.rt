@@ -23,7 +23,8 @@ fn graph_of(alloc: Global, words: &[u32], entry: u32) -> Result<Result<Graph, Gr
     Ok(build(alloc, &loaded.code, Task(0)))
 }
 
-// A node: the calls under way, its address, `*` for a leader, and the numbers of its successors; `?` where it is not found.
+// A node: the calls under way, its address, `*` for a leader, and the numbers of its successors;
+// `?` where it is not found.
 fn node_told(alloc: Global, graph: &Graph, id: NodeId) -> Result<String, AllocError>
     requires { id.0 < length graph.now.nodes }
 {

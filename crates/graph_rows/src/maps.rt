@@ -1,5 +1,6 @@
 // The code maps of small files.
-ghost use Rattle.std.specs.Prelude.{◌≡◌, ◌≤◌, ◌<◌, ◌+◌, ◌^◌, [], length, All, IfOk, IsTrue, vec_len};
+ghost use Rattle.std.specs.Prelude.{◌≡◌, ◌≤◌, ◌<◌, ◌+◌, ◌^◌, [], length, All, IfOk, IsTrue};
+ghost use Rattle.std.specs.Prelude.{vec_len};
 ghost use Rattle.crpd_base.specs.Images.{IsImage};
 
 use code_map::{CodeMap, MapError};

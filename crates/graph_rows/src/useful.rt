@@ -1,4 +1,5 @@
-// What the caches of small programs surely hold and reuse, which sets they evict, and their longest cost.
+// What the caches of small programs surely hold and reuse, which sets they evict, and their longest
+// cost.
 use crpd_base::{Platform, SetBits, Task};
 use evict_sets::{evicting, longest};
 use fixtures::{BACK, CALLS, LINES, LOOP, ONE, PLATFORM, Program, TWO_WORDS, load};
@@ -63,7 +64,8 @@ fn told(alloc: Global, graph: &Graph) -> Result<String, Fail> {
     Ok(text)
 }
 
-// `beq x0,x0,16`, the one way by `jal x0,4` and the other by `jal x0,-8` in the next line, to one `ecall`.
+// `beq x0,x0,16`, the one way by `jal x0,4` and the other by `jal x0,-8` in the next line, to one
+// `ecall`.
 const DIAMOND: [u32; 5] = [0x0000_0863, 0x0040_006F, 0x0000_0073, 0, 0xFF9F_F06F];
 
 // 128 bytes on by `jal x0,128`, to a line in the same set, and back to `ecall` by `jal x0,-124`.

@@ -10,7 +10,10 @@ pub record Accesses : Type 0 where
 
 -- from the nodes' addresses
 abbrev pub accesses : Platform → (ℕ → ℕ) → Accesses
-accesses p address = record { block = λ y. block_of p (address y); set = λ y. set_of p (block_of p (address y)) }
+accesses p address = record {
+  block = λ y. block_of p (address y);
+  set = λ y. set_of p (block_of p (address y));
+}
 
 -- the block of the last access to set s, on a walk with its last node first
 abbrev pub last_access : Accesses → ℕ → List ℕ → Option ℕ

@@ -1,5 +1,6 @@
 -- A direct-mapped cache: one entry for each cache set, empty or a block.
-use Rattle.std.specs.Prelude.{ℕ, ◌/◌, ◌%◌, Bool, false, ◌==◌, List, Option, Some, None, slice_index_or, slice_set}
+use Rattle.std.specs.Prelude.{ℕ, ◌/◌, ◌%◌, Bool, false, ◌==◌, List, Option, Some, None}
+use Rattle.std.specs.Prelude.{slice_index_or, slice_set}
 use Rattle.crpd_base.specs.declared.data.Platform.{Platform}
 
 abbrev pub Cache : Type 0

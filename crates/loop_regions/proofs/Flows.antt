@@ -1,10 +1,13 @@
 -- Where instructions go, by their flow.
-use Rattle.std.proofs.Common.{◌≡◌, ◌⊎◌, ℕ, zero, suc, Bool, true, false, List, refl, sym, ◌∙◌, ap, inl, inr}
+use Rattle.std.proofs.Common.{◌≡◌, ◌⊎◌, ℕ, zero, suc, Bool, true, false, List, refl, sym, ◌∙◌, ap}
+use Rattle.std.proofs.Common.{inl, inr}
 use Rattle.std.specs.Prelude.{ℤ, pos}
 use Rattle.rv_decode.specs.declared.Ins.{Ins}
-use Rattle.rv_decode.specs.declared.Ins.TheVariants.{Jal, Jalr, Beq, Bne, Blt, Bge, Bltu, Bgeu, Ecall, Ebreak}
+use Rattle.rv_decode.specs.declared.Ins.TheVariants.{Jal, Jalr, Beq, Bne, Blt, Bge, Bltu, Bgeu}
+use Rattle.rv_decode.specs.declared.Ins.TheVariants.{Ecall, Ebreak}
 use Rattle.rv_decode.specs.Address.{next_address, plus}
-use Rattle.rv_decode.specs.Flow.{Flow, Plain, Branch, Jump, Call, Return, Exit, Break, OtherJalr, OtherJal, flow}
+use Rattle.rv_decode.specs.Flow.{Flow, Plain, Branch, Jump, Call, Return, Exit, Break, OtherJalr}
+use Rattle.rv_decode.specs.Flow.{OtherJal, flow}
 use Rattle.rv_core.specs.declared.Next.{Next}
 use Rattle.rv_core.specs.declared.Next.TheVariants.{Goto, Answer, Fault}
 use Rattle.rv_core.specs.Effect.{next_pc, branch}
@@ -22,7 +25,8 @@ GoesBy Break a next = next ≡ Fault
 GoesBy OtherJalr a next = (to : ℕ) × (next ≡ Goto to)
 GoesBy OtherJal a next = (to : ℕ) × (next ≡ Goto to)
 
-branch_goes : (b : Bool) (a : ℕ) (imm : ℤ) → (branch b a imm ≡ Goto (next_address a)) ⊎ (branch b a imm ≡ Goto (plus a imm))
+branch_goes : (b : Bool) (a : ℕ) (imm : ℤ)
+    → (branch b a imm ≡ Goto (next_address a)) ⊎ (branch b a imm ≡ Goto (plus a imm))
 branch_goes true a imm = inr refl
 branch_goes false a imm = inl refl
 
@@ -53,7 +57,8 @@ unfolding to_of
 goto_same a b e = ap to_of e
 
 -- the next address is one to which the flow can go
-pub can_go : (f : Flow) (a : ℕ) (next : Next) (to : ℕ) → GoesBy f a next → next ≡ Goto to → CanGo a f to
+pub can_go : (f : Flow) (a : ℕ) (next : Next) (to : ℕ) → GoesBy f a next → next ≡ Goto to
+    → CanGo a f to
 can_go Plain a next to g e = goto_same to (next_address a) (sym e ∙ g)
 can_go (Branch t) a next to (inl g) e = inl (goto_same to (next_address a) (sym e ∙ g))
 can_go (Branch t) a next to (inr g) e = inr (goto_same to t (sym e ∙ g))

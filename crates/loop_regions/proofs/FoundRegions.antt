@@ -1,5 +1,7 @@
 -- The regions of stated loops, from the heads and the holders that were found.
-use Rattle.std.proofs.Common.{◌≡◌, ◌↔◌, ℕ, zero, suc, ◌<◌, ◌≤◌, List, [], ◌∷◌, length, map, Some, slice_get, slice_index, get_or, IsTrue, IsFalse, refl, sym, ap, ◌∙◌, subst, ⊎_elim, arith}
+use Rattle.std.proofs.Common.{◌≡◌, ◌↔◌, ℕ, zero, suc, ◌<◌, ◌≤◌, List, [], ◌∷◌, length, map, Some}
+use Rattle.std.proofs.Common.{slice_get, slice_index, get_or, IsTrue, IsFalse, refl, sym, ap, ◌∙◌}
+use Rattle.std.proofs.Common.{subst, ⊎_elim, arith}
 use Rattle.std.proofs.lemmas.Bool.{cases_lt, both_ways}
 use Rattle.std.proofs.lemmas.Option.{slice_get_within, slice_get-get_or, get_or_from_slice_get}
 use Rattle.std.specs.Cmp.{both_ways as same_tests}
@@ -21,7 +23,8 @@ past_end (x ∷ rows) (suc y) le = past_end rows y (omega arith)
 pub none_past : (rows : List (List ℕ)) (y r : ℕ) → length rows ≤ y → IsFalse (has (row rows y) r)
 none_past rows y r le = ap (λ xs. has xs r) (past_end rows y le)
 
-index_mapped : (heads : List Head) (r : ℕ) (h : Head) → slice_get heads r ≡ Some h → slice_index (map (λ x. x.node) heads) r ≡ h.node
+index_mapped : (heads : List Head) (r : ℕ) (h : Head) → slice_get heads r ≡ Some h
+    → slice_index (map (λ x. x.node) heads) r ≡ h.node
 index_mapped [] r h e = absurd (let lt = slice_get_within [] r h e in omega arith)
 index_mapped (x ∷ heads) zero h e = let same : x ≡ h = cc in ap (λ (z : Head). z.node) same
 index_mapped (x ∷ heads) (suc r) h e = index_mapped heads r h e
@@ -30,12 +33,14 @@ length_mapped : (heads : List Head) → length (map (λ x. x.node) heads) ≡ le
 length_mapped [] = refl
 length_mapped (x ∷ heads) = let e = length_mapped heads in omega arith
 
-module _ (g : Graph) (p : Places) (loops : List LoopAt) (heads : List Head) (nodes bounds : List ℕ) (holders : List (List ℕ))
+module _ (g : Graph) (p : Places) (loops : List LoopAt) (heads : List Head) (nodes bounds : List ℕ)
+    (holders : List (List ℕ))
     (few_nodes : g.size ≤ 16384)
     (H : AreHeads p loops g.size heads)
     (N : nodes ≡ map (λ h. h.node) heads)
     (B : length bounds ≡ length heads)
-    (C : (r : ℕ) (h : Head) (l : LoopAt) → slice_get heads r ≡ Some h → slice_get loops h.stated ≡ Some l → slice_index bounds r ≡ l.bound)
+    (C : (r : ℕ) (h : Head) (l : LoopAt) → slice_get heads r ≡ Some h
+    → slice_get loops h.stated ≡ Some l → slice_index bounds r ≡ l.bound)
     (S : length holders ≡ g.size)
     (K : (y r : ℕ) → y < g.size → IsTrue (has (row holders y) r) ↔ IsHeldBy p loops heads y r) where
   all_nodes : length nodes ≡ length heads
@@ -55,17 +60,27 @@ module _ (g : Graph) (p : Places) (loops : List LoopAt) (heads : List Head) (nod
       let none : Head = record { node = 0; stated = 0 } in
       let e = slice_get-get_or heads r none (subst (λ n. r < n) all_nodes lt) in
       let s = H.stated r (get_or heads r none) e in
-      record { h = get_or heads r none; l = s.0; here = e; there = s.1; at = s.2; node = ap (λ xs. slice_index xs r) N ∙ index_mapped heads r (get_or heads r none) e }
+      record {
+        h = get_or heads r none;
+        l = s.0;
+        here = e;
+        there = s.1;
+        at = s.2;
+        node = ap (λ xs. slice_index xs r) N ∙ index_mapped heads r (get_or heads r none) e;
+      }
 
-  held : (y r : ℕ) → y < g.size → (o : Of r) → IsTrue (region_holds p o.l (p.context o.h.node) y) → IsTrue (has (row holders y) r)
+  held : (y r : ℕ) → y < g.size → (o : Of r) → IsTrue (region_holds p o.l (p.context o.h.node) y)
+      → IsTrue (has (row holders y) r)
   held y r lt o t = (K y r lt).1 (o.h, o.l, o.here, o.there, t)
 
-  holds_by : (y r : ℕ) → y < g.size → (o : Of r) → IsTrue (has (row holders y) r) → IsTrue (region_holds p o.l (p.context o.h.node) y)
+  holds_by : (y r : ℕ) → y < g.size → (o : Of r) → IsTrue (has (row holders y) r)
+      → IsTrue (region_holds p o.l (p.context o.h.node) y)
   holds_by y r lt o t =
       let by = (K y r lt).0 t in
       let hs : Some by.0 ≡ Some o.h = sym by.2 ∙ o.here in
       let same : by.0 ≡ o.h = cc in
-      let ls : Some by.1 ≡ Some o.l = sym by.3 ∙ ap (λ (x : Head). slice_get loops x.stated) same ∙ o.there in
+      let ls : Some by.1 ≡ Some o.l = sym by.3 ∙ ap (λ (x : Head). slice_get loops x.stated) same
+      ∙ o.there in
       let same_loop : by.1 ≡ o.l = cc in
       subst (λ (x : LoopAt). IsTrue (region_holds p x (p.context o.h.node) y)) same_loop
       (subst (λ (x : Head). IsTrue (region_holds p by.1 (p.context x.node) y)) same by.4)
@@ -75,29 +90,38 @@ module _ (g : Graph) (p : Places) (loops : List LoopAt) (heads : List Head) (nod
     few = let f = H.few in omega (arith, all_nodes);
     few_nodes = omega arith;
     all_bounds = B ∙ sym all_nodes;
-    head_nodes = λ r lt. let o = of r lt in let w = H.node r o.h o.here in let e = o.node in omega arith;
+    head_nodes = λ r lt.
+        let o = of r lt in let w = H.node r o.h o.here in let e = o.node in omega arith;
     holds_head = λ r lt.
         let o = of r lt in
         let w = H.node r o.h o.here in
         subst (λ y. IsTrue (has (row holders y) r)) (sym o.node)
         (held o.h.node r w o
-        (ap (holds_seen o.l) (seen_here (p.context o.h.node) (p.address o.h.node)) ∙ loop_holds_head o.l (p.address o.h.node) o.at));
+        (ap (holds_seen o.l) (seen_here (p.context o.h.node) (p.address o.h.node))
+        ∙ loop_holds_head o.l (p.address o.h.node) o.at));
     within = λ y r t. ⊎_elim
-        (λ lt. let by = (K y r lt).0 t in let w = slice_get_within heads r by.0 by.2 in omega (arith, all_nodes))
-        (λ le. absurd (both_ways (has (row holders y) r) (none_past holders y r (subst (λ n. n ≤ y) (sym S) le)) t))
+        (λ lt. let by = (K y r lt).0 t in let w = slice_get_within heads r by.0 by.2 in
+        omega (arith, all_nodes))
+        (λ le. absurd
+        (both_ways (has (row holders y) r)
+        (none_past holders y r (subst (λ n. n ≤ y) (sym S) le)) t))
         (cases_lt y g.size);
   }
 
-  is_region : (r : ℕ) → (o : Of r) → IsRegionOf g p (nest_of (record { heads = nodes; bounds = bounds; holders = holders })) r o.l
+  is_region : (r : ℕ) → (o : Of r)
+      → IsRegionOf g p (nest_of (record { heads = nodes; bounds = bounds; holders = holders })) r
+      o.l
   is_region r o = record {
     head = ap p.address o.node ∙ o.at;
     bound = C r o.h o.l o.here o.there;
     holds = λ y lt.
         subst (λ z. has (row holders y) r ≡ region_holds p o.l (p.context z) y) (sym o.node)
-        (same_tests (has (row holders y) r) (region_holds p o.l (p.context o.h.node) y) (holds_by y r lt o) (held y r lt o));
+        (same_tests (has (row holders y) r) (region_holds p o.l (p.context o.h.node) y)
+        (holds_by y r lt o) (held y r lt o));
   }
 
-  pub is_regions : IsRegions g p loops (nest_of (record { heads = nodes; bounds = bounds; holders = holders }))
+  pub is_regions : IsRegions g p loops
+      (nest_of (record { heads = nodes; bounds = bounds; holders = holders }))
   is_regions = record {
     node = λ r lt. let o = of r lt in subst (λ y. y < g.size) (sym o.node) (H.node r o.h o.here);
     numbered = λ r s lt s_lt.
@@ -106,8 +130,15 @@ module _ (g : Graph) (p : Places) (loops : List LoopAt) (heads : List Head) (nod
         let w = H.numbered r s o.h q.h lt o.here q.here in
         let e = o.node in let f = q.node in omega arith;
     stated = λ r lt.
-        let o = of r lt in
-        (o.l, (o.h.stated, slice_get_within loops o.h.stated o.l o.there, get_or_from_slice_get loops o.h.stated o.l o.l o.there), is_region r o);
+        let o = of r lt in (
+          o.l,
+          (
+            o.h.stated,
+            slice_get_within loops o.h.stated o.l o.there,
+            get_or_from_slice_get loops o.h.stated o.l o.l o.there,
+          ),
+          is_region r o,
+        );
     all = λ l y c lt e.
         let a = H.all l y c lt e in
         let w = slice_get_within heads a.0 a.1 a.2 in
@@ -119,22 +150,32 @@ module _ (g : Graph) (p : Places) (loops : List LoopAt) (heads : List Head) (nod
   }
 
 -- the same for lists that are those of the heads by equations
-pub found : (g : Graph) (p : Places) (loops : List LoopAt) (heads a b d : List Head) (nodes nodes' bounds bounds' : List ℕ) (holders holders' : List (List ℕ))
+pub found : (g : Graph) (p : Places) (loops : List LoopAt) (heads a b d : List Head)
+    (nodes nodes' bounds bounds' : List ℕ) (holders holders' : List (List ℕ))
     → g.size ≤ 16384 → AreHeads p loops g.size heads → a ≡ heads → b ≡ heads → d ≡ heads
     → nodes ≡ nodes' → nodes' ≡ map (λ h. h.node) b → bounds ≡ bounds' → length bounds' ≡ length d
-    → ((r : ℕ) (h : Head) (l : LoopAt) → slice_get d r ≡ Some h → slice_get loops h.stated ≡ Some l → slice_index bounds' r ≡ l.bound)
+    → ((r : ℕ) (h : Head) (l : LoopAt) → slice_get d r ≡ Some h → slice_get loops h.stated ≡ Some l
+    → slice_index bounds' r ≡ l.bound)
     → holders ≡ holders' → length holders' ≡ g.size
     → ((y r : ℕ) → y < g.size → IsTrue (has (row holders' y) r) ↔ IsHeldBy p loops a y r)
-    → AreRegionLists nodes bounds holders × IsRegions g p loops (nest_of (record { heads = nodes; bounds = bounds; holders = holders }))
-found g p loops heads a b d nodes nodes' bounds bounds' holders holders' few H ea eb ed n N e B C h S K =
+    → AreRegionLists nodes bounds holders
+    × IsRegions g p loops (nest_of (record { heads = nodes; bounds = bounds; holders = holders }))
+found g p loops heads a b d nodes nodes' bounds bounds' holders holders' few H ea eb ed n N
+    e B C h S K =
     let mapped = n ∙ N ∙ ap (map (λ (x : Head). x.node)) eb in
     let all = ap length e ∙ B ∙ ap length ed in
-    let states = λ (r : ℕ) (x : Head) (l : LoopAt) (t : slice_get heads r ≡ Some x) (u : slice_get loops x.stated ≡ Some l). ap (λ xs. slice_index xs r) e ∙ C r x l (ap (λ xs. slice_get xs r) ed ∙ t) u in
-    let held : (y r : ℕ) → y < g.size → IsTrue (has (row holders y) r) ↔ IsHeldBy p loops heads y r =
+    let states =
+    λ (r : ℕ) (x : Head) (l : LoopAt) (t : slice_get heads r ≡ Some x) (u : slice_get loops x.stated ≡ Some l). ap (λ xs. slice_index xs r) e ∙ C r x l (ap (λ xs. slice_get xs r) ed ∙ t) u in
+    let held : (y r : ℕ) → y < g.size
+    → IsTrue (has (row holders y) r) ↔ IsHeldBy p loops heads y r =
     λ y r lt. (
-      (λ t. subst (λ xs. IsHeldBy p loops xs y r) ea ((K y r lt).0 (subst (λ xs. IsTrue (has (row xs y) r)) h t))),
-      (λ t. subst (λ xs. IsTrue (has (row xs y) r)) (sym h) ((K y r lt).1 (subst (λ xs. IsHeldBy p loops xs y r) (sym ea) t))),
+      (λ t. subst (λ xs. IsHeldBy p loops xs y r) ea
+          ((K y r lt).0 (subst (λ xs. IsTrue (has (row xs y) r)) h t))),
+      (λ t. subst (λ xs. IsTrue (has (row xs y) r)) (sym h)
+          ((K y r lt).1 (subst (λ xs. IsHeldBy p loops xs y r) (sym ea) t))),
     )
     in
-    let full = ap length h ∙ S in
-    (is_sound g p loops heads nodes bounds holders few H mapped all states full held, is_regions g p loops heads nodes bounds holders few H mapped all states full held)
+    let full = ap length h ∙ S in (
+      is_sound g p loops heads nodes bounds holders few H mapped all states full held,
+      is_regions g p loops heads nodes bounds holders few H mapped all states full held,
+    )

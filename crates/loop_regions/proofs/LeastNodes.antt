@@ -8,12 +8,15 @@ use Rattle.loop_regions.specs.Nest.{Nest}
 use Rattle.loop_regions.specs.Stated.{IsRegions, IsSecondEntry, IsNotNested, IsLeastAt}
 use Rattle.loop_regions.specs.Inner.Least.{IsLeastNumber}
 
-pub least_at : (g : Graph) (p : Places) (P : ℕ → Type 0) (y a : ℕ) → IsLeastNumber P (Some y) → y < g.size → p.address y ≡ a → IsLeastAt g p P a
+pub least_at : (g : Graph) (p : Places) (P : ℕ → Type 0) (y a : ℕ) → IsLeastNumber P (Some y)
+    → y < g.size → p.address y ≡ a → IsLeastAt g p P a
 least_at g p P y a h lt e = (y, lt, h.0, e, λ z below q. absurd (let le = h.1 z q in omega arith))
 
 module _ (g : Graph) (p : Places) (loops : List LoopAt) (n : Nest) (R : IsRegions g p loops n) where
   held_within : (r y : ℕ) → IsTrue (n.holds r y) → y < g.size
-  held_within r y h = ⊎_elim (λ lt. lt) (λ le. absurd (both_ways (n.holds r y) (R.nodes_only r y le) h)) (cases_lt y g.size)
+  held_within r y h =
+      ⊎_elim (λ lt. lt) (λ le. absurd (both_ways (n.holds r y) (R.nodes_only r y le) h))
+      (cases_lt y g.size)
 
   pub entry_within : (v : ℕ) → IsSecondEntry g n v → v < g.size
   entry_within v s = held_within s.0 v s.2

@@ -12,7 +12,9 @@ use Rattle.flow_watch.specs.Watch.{step as watch_step}
 use Rattle.loop_regions.specs.Steps.{Step, AreSteps, AnswersAfter, exits, returns, nodes_along}
 
 abbrev words : ℕ → Option ℕ
-words a = if a == 0x1000 then Some 0x008000EF else (if a == 0x1004 then Some 0x00000073 else (if a == 0x1008 then Some 0x00008067 else None))
+words a =
+    if a == 0x1000 then Some 0x008000EF
+    else (if a == 0x1004 then Some 0x00000073 else (if a == 0x1008 then Some 0x00008067 else None))
 
 abbrev plan : TaskPlan
 plan = record { entry = 0x1000; stack = 0; global = 0; loops = [] }
@@ -30,9 +32,21 @@ steps = step 0x1008 (Jalr 0 1 (pos 0)) 0x1004 ∷ step 0x1000 (Jal 1 (pos 8)) 0x
 are_steps : AreSteps words 0x1000 steps
 unfolding ins_of_word table next_pc
 are_steps = (
-  record { stands = record { word = 0x00008067; here = refl; reads = refl }; registers = linked 0x1004; goes = refl },
+  record {
+    stands = record { word = 0x00008067; here = refl; reads = refl };
+    registers = linked 0x1004;
+    goes = refl;
+  },
   refl,
-  (record { stands = record { word = 0x008000EF; here = refl; reads = refl }; registers = linked 0; goes = refl }, refl, tt),
+  (
+    record {
+      stands = record { word = 0x008000EF; here = refl; reads = refl };
+      registers = linked 0;
+      goes = refl;
+    },
+    refl,
+    tt,
+  ),
 )
 
 abbrev at : List ℕ → ℕ → FlatNode
@@ -54,5 +68,9 @@ leaf_answer : AnswersAfter words leaf []
 unfolding ins_of_word table next_pc watch_step flow
 leaf_answer =
     returns (step 0x1008 (Jalr 0 1 (pos 0)) 0xFFFFFFFC)
-    (record { stands = record { word = 0x00008067; here = refl; reads = refl }; registers = linked 0xFFFFFFFC; goes = refl })
+    (record {
+      stands = record { word = 0x00008067; here = refl; reads = refl };
+      registers = linked 0xFFFFFFFC;
+      goes = refl;
+    })
     refl refl

@@ -1,8 +1,11 @@
 -- Regions that are entered elsewhere than at their heads.
-use Rattle.std.proofs.Common.{◌≡◌, ◌≢◌, ◌⊎◌, ℕ, ◌+◌, ◌<◌, ◌≤◌, Bool, false, not, ◌&&◌, List, length, Some, None, slice_get, slice_index, IsTrue, refl, sym, ◌∙◌, subst, inl, inr, ⊎_elim, arith, ◌==◌, eq-eqb}
+use Rattle.std.proofs.Common.{◌≡◌, ◌≢◌, ◌⊎◌, ℕ, ◌+◌, ◌<◌, ◌≤◌, Bool, false, not, ◌&&◌, List, length}
+use Rattle.std.proofs.Common.{Some, None, slice_get, slice_index, IsTrue, refl, sym, ◌∙◌, subst}
+use Rattle.std.proofs.Common.{inl, inr, ⊎_elim, arith, ◌==◌, eq-eqb}
 use Rattle.std.specs.Prelude.{Option, nat_lt}
 use Rattle.std.specs.List.{list_any}
-use Rattle.std.proofs.lemmas.Bool.{cases_eq, both_ways, eqb-true, ltb-true, lt-ltb, and_parts, and_from, not-true, not_from_false, false_from_ne_true}
+use Rattle.std.proofs.lemmas.Bool.{cases_eq, both_ways, eqb-true, ltb-true, lt-ltb, and_parts}
+use Rattle.std.proofs.lemmas.Bool.{and_from, not-true, not_from_false, false_from_ne_true}
 use Rattle.crpd_base.proofs.Elements.{at_contains, first_or_second}
 use Rattle.flat_graph.specs.Graph.{Graph}
 use Rattle.loop_regions.specs.Nest.{Nest}
@@ -10,83 +13,137 @@ use Rattle.loop_regions.specs.Stated.{IsSecondEntry}
 use Rattle.loop_regions.specs.CodeNest.{has, row}
 use Rattle.loop_regions.specs.Inner.RegionLists.{AreRegionLists}
 use Rattle.loop_regions.specs.Inner.Least.{IsLeastNumber, lesser}
-use Rattle.loop_regions.specs.Inner.FoundRegions.{is_head, Enters, EntersFrom, EntersBy, IsInsideStart}
+use Rattle.loop_regions.specs.Inner.FoundRegions.{is_head, Enters, EntersFrom, EntersBy}
+use Rattle.loop_regions.specs.Inner.FoundRegions.{IsInsideStart}
 use Rattle.loop_regions.proofs.Has.{has_any, any_has}
 use Rattle.loop_regions.proofs.LeastOf.{nest_by, least_same, least_or}
 
-pub head_is : (heads : List ℕ) (v r : ℕ) → IsTrue (is_head heads v r) → (r < length heads) × (slice_index heads r ≡ v)
-head_is heads v r h = let p = and_parts (nat_lt r (length heads)) (slice_index heads r == v) h in (ltb-true r (length heads) p.0, eqb-true (slice_index heads r) v p.1)
+pub head_is : (heads : List ℕ) (v r : ℕ) → IsTrue (is_head heads v r)
+    → (r < length heads) × (slice_index heads r ≡ v)
+head_is heads v r h =
+    let p = and_parts (nat_lt r (length heads)) (slice_index heads r == v) h in
+    (ltb-true r (length heads) p.0, eqb-true (slice_index heads r) v p.1)
 
-pub is_the_head : (heads : List ℕ) (v r : ℕ) → r < length heads → slice_index heads r ≡ v → IsTrue (is_head heads v r)
-is_the_head heads v r lt e = and_from (nat_lt r (length heads)) (slice_index heads r == v) (lt-ltb r (length heads) lt) (eq-eqb (slice_index heads r) v e)
+pub is_the_head : (heads : List ℕ) (v r : ℕ) → r < length heads → slice_index heads r ≡ v
+    → IsTrue (is_head heads v r)
+is_the_head heads v r lt e =
+    and_from (nat_lt r (length heads)) (slice_index heads r == v) (lt-ltb r (length heads) lt)
+    (eq-eqb (slice_index heads r) v e)
 
-pub no_head : (heads : List ℕ) (v r : ℕ) → v ≢ slice_index heads r → IsTrue (not (is_head heads v r))
-no_head heads v r ne = not_from_false (is_head heads v r) (false_from_ne_true (is_head heads v r) (λ h. ne (sym (head_is heads v r h).1)))
+pub no_head : (heads : List ℕ) (v r : ℕ) → v ≢ slice_index heads r
+    → IsTrue (not (is_head heads v r))
+no_head heads v r ne =
+    not_from_false (is_head heads v r)
+    (false_from_ne_true (is_head heads v r) (λ h. ne (sym (head_is heads v r h).1)))
 
-pub other_head : (heads : List ℕ) (v r : ℕ) → r < length heads → IsTrue (not (is_head heads v r)) → v ≢ slice_index heads r
-other_head heads v r lt h e = both_ways (is_head heads v r) (not-true (is_head heads v r) h) (is_the_head heads v r lt (sym e))
+pub other_head : (heads : List ℕ) (v r : ℕ) → r < length heads → IsTrue (not (is_head heads v r))
+    → v ≢ slice_index heads r
+other_head heads v r lt h e =
+    both_ways (is_head heads v r) (not-true (is_head heads v r) h)
+    (is_the_head heads v r lt (sym e))
 
-module _ (g : Graph) (heads bounds : List ℕ) (holders : List (List ℕ)) (S : AreRegionLists heads bounds holders) where
+module _ (g : Graph) (heads bounds : List ℕ) (holders : List (List ℕ))
+    (S : AreRegionLists heads bounds holders) where
   abbrev test : ℕ → ℕ → ℕ → Bool
   test u v q = not (is_head heads v q) && not (has (row holders u) q)
 
-  pub enters_from : (u v : ℕ) → IsTrue (list_any (λ q. not (is_head heads v q) && not (has (row holders u) q)) (row holders v)) → Enters (nest_by heads bounds holders) u v
+  pub enters_from : (u v : ℕ)
+      → IsTrue
+      (list_any (λ q. not (is_head heads v q) && not (has (row holders u) q)) (row holders v))
+      → Enters (nest_by heads bounds holders) u v
   enters_from u v h =
-      let f = has_any (λ q. not (is_head heads v q) && not (has (row holders u) q)) (row holders v) h in
+      let f = has_any (λ q. not (is_head heads v q) && not (has (row holders u) q))
+      (row holders v) h in
       let p = and_parts (not (is_head heads v f.0)) (not (has (row holders u) f.0)) f.2 in
       let lt = S.within v f.0 f.1 in
       (f.0, lt, f.1, other_head heads v f.0 lt p.0, not-true (has (row holders u) f.0) p.1)
 
-  pub entered : (u v : ℕ) → Enters (nest_by heads bounds holders) u v → IsTrue (list_any (λ q. not (is_head heads v q) && not (has (row holders u) q)) (row holders v))
+  pub entered : (u v : ℕ) → Enters (nest_by heads bounds holders) u v
+      → IsTrue
+      (list_any (λ q. not (is_head heads v q) && not (has (row holders u) q)) (row holders v))
   entered u v e =
       any_has (λ q. not (is_head heads v q) && not (has (row holders u) q)) (row holders v) e.0 e.2
-      (and_from (not (is_head heads v e.0)) (not (has (row holders u) e.0)) (no_head heads v e.0 e.3) (not_from_false (has (row holders u) e.0) e.4))
+      (and_from (not (is_head heads v e.0)) (not (has (row holders u) e.0))
+      (no_head heads v e.0 e.3) (not_from_false (has (row holders u) e.0) e.4))
 
-  pub entered_here : (u k v : ℕ) → slice_get (g.next u) k ≡ Some v → IsTrue (list_any (λ q. not (is_head heads v q) && not (has (row holders u) q)) (row holders v)) → IsLeastNumber (EntersBy g (nest_by heads bounds holders) u k) (Some v)
-  entered_here u k v e h = ((e, enters_from u v h), λ b s. let q : Some v ≡ Some b = sym e ∙ s.0 in let same : v ≡ b = cc in omega arith)
+  pub entered_here : (u k v : ℕ) → slice_get (g.next u) k ≡ Some v
+      → IsTrue
+      (list_any (λ q. not (is_head heads v q) && not (has (row holders u) q)) (row holders v))
+      → IsLeastNumber (EntersBy g (nest_by heads bounds holders) u k) (Some v)
+  entered_here u k v e h = (
+    (e, enters_from u v h),
+    λ b s. let q : Some v ≡ Some b = sym e ∙ s.0 in let same : v ≡ b = cc in omega arith,
+  )
 
-  pub not_entered : (u k v : ℕ) → slice_get (g.next u) k ≡ Some v → list_any (λ q. not (is_head heads v q) && not (has (row holders u) q)) (row holders v) ≡ false → IsLeastNumber (EntersBy g (nest_by heads bounds holders) u k) None
+  pub not_entered : (u k v : ℕ) → slice_get (g.next u) k ≡ Some v
+      → list_any (λ q. not (is_head heads v q) && not (has (row holders u) q)) (row holders v)
+      ≡ false → IsLeastNumber (EntersBy g (nest_by heads bounds holders) u k) None
   not_entered u k v e h b s =
       let q : Some v ≡ Some b = sym e ∙ s.0 in
       let same : v ≡ b = cc in
-      both_ways (list_any (λ q. not (is_head heads v q) && not (has (row holders u) q)) (row holders v)) h
+      both_ways
+      (list_any (λ q. not (is_head heads v q) && not (has (row holders u) q)) (row holders v)) h
       (entered u v (subst (λ w. Enters (nest_by heads bounds holders) u w) (sym same) s.1))
 
-  pub both_edges : (u : ℕ) (a b : Option ℕ) → u < g.size → length (g.next u) ≤ 2 → IsLeastNumber (EntersBy g (nest_by heads bounds holders) u 0) a → IsLeastNumber (EntersBy g (nest_by heads bounds holders) u 1) b → IsLeastNumber (EntersFrom g (nest_by heads bounds holders) u) (lesser a b)
+  pub both_edges : (u : ℕ) (a b : Option ℕ) → u < g.size → length (g.next u) ≤ 2
+      → IsLeastNumber (EntersBy g (nest_by heads bounds holders) u 0) a
+      → IsLeastNumber (EntersBy g (nest_by heads bounds holders) u 1) b
+      → IsLeastNumber (EntersFrom g (nest_by heads bounds holders) u) (lesser a b)
   both_edges u a b lt le h i =
-      least_same (λ v. EntersBy g (nest_by heads bounds holders) u 0 v ⊎ EntersBy g (nest_by heads bounds holders) u 1 v) (EntersFrom g (nest_by heads bounds holders) u) (lesser a b)
-      (λ v s. ⊎_elim (λ p. ((lt, at_contains (g.next u) 0 v p.0), p.1)) (λ p. ((lt, at_contains (g.next u) 1 v p.0), p.1)) s)
-      (λ v e. ⊎_elim (λ p. inl (p, e.1)) (λ p. inr (p, e.1)) (first_or_second (g.next u) v le e.0.1))
-      (least_or (EntersBy g (nest_by heads bounds holders) u 0) (EntersBy g (nest_by heads bounds holders) u 1) a b h i)
+      least_same (λ v. EntersBy g (nest_by heads bounds holders) u 0 v
+      ⊎ EntersBy g (nest_by heads bounds holders) u 1 v)
+      (EntersFrom g (nest_by heads bounds holders) u) (lesser a b)
+      (λ v s. ⊎_elim (λ p. ((lt, at_contains (g.next u) 0 v p.0), p.1))
+      (λ p. ((lt, at_contains (g.next u) 1 v p.0), p.1)) s)
+      (λ v e. ⊎_elim (λ p. inl (p, e.1)) (λ p. inr (p, e.1))
+      (first_or_second (g.next u) v le e.0.1))
+      (least_or (EntersBy g (nest_by heads bounds holders) u 0)
+      (EntersBy g (nest_by heads bounds holders) u 1) a b h i)
 
-  pub start_inside : IsTrue (list_any (λ q. not (is_head heads g.first q)) (row holders g.first)) → IsLeastNumber (IsInsideStart g (nest_by heads bounds holders)) (Some g.first)
+  pub start_inside : IsTrue (list_any (λ q. not (is_head heads g.first q)) (row holders g.first))
+      → IsLeastNumber (IsInsideStart g (nest_by heads bounds holders)) (Some g.first)
   start_inside h =
       let f = has_any (λ q. not (is_head heads g.first q)) (row holders g.first) h in
       let lt = S.within g.first f.0 f.1 in
       ((refl, f.0, lt, f.1, other_head heads g.first f.0 lt f.2), λ b s. let e = s.0 in omega arith)
 
-  pub start_not_inside : list_any (λ q. not (is_head heads g.first q)) (row holders g.first) ≡ false → IsLeastNumber (IsInsideStart g (nest_by heads bounds holders)) None
+  pub start_not_inside : list_any (λ q. not (is_head heads g.first q)) (row holders g.first) ≡ false
+      → IsLeastNumber (IsInsideStart g (nest_by heads bounds holders)) None
   start_not_inside h b s =
       both_ways (list_any (λ q. not (is_head heads g.first q)) (row holders g.first)) h
-      (any_has (λ q. not (is_head heads g.first q)) (row holders g.first) s.1 (subst (λ v. IsTrue (has (row holders v) s.1)) s.0 s.3) (no_head heads g.first s.1 (subst (λ v. v ≢ slice_index heads s.1) s.0 s.4)))
+      (any_has (λ q. not (is_head heads g.first q)) (row holders g.first) s.1
+      (subst (λ v. IsTrue (has (row holders v) s.1)) s.0 s.3)
+      (no_head heads g.first s.1 (subst (λ v. v ≢ slice_index heads s.1) s.0 s.4)))
 
 -- an entry at the first node, or by an edge from a node below k
 abbrev pub IsEntryBelow : Graph → Nest → ℕ → ℕ → Type 0
 IsEntryBelow g n k v = IsInsideStart g n v ⊎ ((u : ℕ) × (u < k) × EntersFrom g n u v)
 
-pub first_entry : (g : Graph) (n : Nest) (o : Option ℕ) → IsLeastNumber (IsInsideStart g n) o → IsLeastNumber (IsEntryBelow g n 0) o
-first_entry g n o h = least_same (IsInsideStart g n) (IsEntryBelow g n 0) o (λ v s. inl s) (λ v s. ⊎_elim (λ t. t) (λ t. absurd (omega (arith, t.1))) s) h
+pub first_entry : (g : Graph) (n : Nest) (o : Option ℕ) → IsLeastNumber (IsInsideStart g n) o
+    → IsLeastNumber (IsEntryBelow g n 0) o
+first_entry g n o h =
+    least_same (IsInsideStart g n) (IsEntryBelow g n 0) o (λ v s. inl s)
+    (λ v s. ⊎_elim (λ t. t) (λ t. absurd (omega (arith, t.1))) s) h
 
-pub next_entry : (g : Graph) (n : Nest) (k : ℕ) (a b : Option ℕ) → IsLeastNumber (IsEntryBelow g n k) a → IsLeastNumber (EntersFrom g n k) b → IsLeastNumber (IsEntryBelow g n (k + 1)) (lesser a b)
+pub next_entry : (g : Graph) (n : Nest) (k : ℕ) (a b : Option ℕ)
+    → IsLeastNumber (IsEntryBelow g n k) a → IsLeastNumber (EntersFrom g n k) b
+    → IsLeastNumber (IsEntryBelow g n (k + 1)) (lesser a b)
 next_entry g n k a b h i =
-    least_same (λ v. IsEntryBelow g n k v ⊎ EntersFrom g n k v) (IsEntryBelow g n (k + 1)) (lesser a b)
-    (λ v s. ⊎_elim (λ p. ⊎_elim (λ t. inl t) (λ t. inr (t.0, omega (arith, t.1), t.2)) p) (λ q. inr (k, omega arith, q)) s)
-    (λ v s. ⊎_elim (λ t. inl (inl t)) (λ t. ⊎_elim (λ e. inr (subst (λ u. EntersFrom g n u v) e t.2)) (λ ne. inl (inr (t.0, omega (arith, t.1), t.2))) (cases_eq t.0 k)) s)
+    least_same (λ v. IsEntryBelow g n k v ⊎ EntersFrom g n k v) (IsEntryBelow g n (k + 1))
+    (lesser a b)
+    (λ v s. ⊎_elim (λ p. ⊎_elim (λ t. inl t) (λ t. inr (t.0, omega (arith, t.1), t.2)) p)
+    (λ q. inr (k, omega arith, q)) s)
+    (λ v s. ⊎_elim (λ t. inl (inl t))
+    (λ t. ⊎_elim (λ e. inr (subst (λ u. EntersFrom g n u v) e t.2))
+    (λ ne. inl (inr (t.0, omega (arith, t.1), t.2))) (cases_eq t.0 k)) s)
     (least_or (IsEntryBelow g n k) (EntersFrom g n k) a b h i)
 
-pub all_entries : (g : Graph) (n : Nest) (k : ℕ) (o : Option ℕ) → g.size ≤ k → IsLeastNumber (IsEntryBelow g n k) o → IsLeastNumber (IsSecondEntry g n) o
+pub all_entries : (g : Graph) (n : Nest) (k : ℕ) (o : Option ℕ) → g.size ≤ k
+    → IsLeastNumber (IsEntryBelow g n k) o → IsLeastNumber (IsSecondEntry g n) o
 all_entries g n k o le h =
     least_same (IsEntryBelow g n k) (IsSecondEntry g n) o
-    (λ v s. ⊎_elim (λ t. (t.1, t.2, t.3, t.4, inl t.0)) (λ t. let e = t.2.1 in (e.0, e.1, e.2, e.3, inr (t.0, t.2.0, e.4))) s)
-    (λ v s. ⊎_elim (λ t. inl (t, s.0, s.1, s.2, s.3)) (λ t. inr (t.0, (let lt = t.1.0 in omega arith), (t.1, (s.0, s.1, s.2, s.3, t.2)))) s.4)
+    (λ v s. ⊎_elim (λ t. (t.1, t.2, t.3, t.4, inl t.0)) (λ t. let e = t.2.1 in
+    (e.0, e.1, e.2, e.3, inr (t.0, t.2.0, e.4))) s)
+    (λ v s. ⊎_elim (λ t. inl (t, s.0, s.1, s.2, s.3))
+    (λ t. inr (t.0, (let lt = t.1.0 in omega arith), (t.1, (s.0, s.1, s.2, s.3, t.2)))) s.4)
     h

@@ -1,5 +1,7 @@
 -- Nodes as they are seen from a context: those that are seen stand together.
-use Rattle.std.proofs.Common.{◌≡◌, ◌⊎◌, ℕ, zero, suc, ◌<◌, ◌≤◌, true, false, List, [], ◌∷◌, length, get_or, Some, None, slice_get, IsTrue, IsFalse, refl, sym, ◌∙◌, subst, inl, inr, ⊎_elim, arith, eq-eqb, ◌==◌, nat_eq}
+use Rattle.std.proofs.Common.{◌≡◌, ◌⊎◌, ℕ, zero, suc, ◌<◌, ◌≤◌, true, false, List, [], ◌∷◌, length}
+use Rattle.std.proofs.Common.{get_or, Some, None, slice_get, IsTrue, IsFalse, refl, sym, ◌∙◌, subst}
+use Rattle.std.proofs.Common.{inl, inr, ⊎_elim, arith, eq-eqb, ◌==◌, nat_eq}
 use Rattle.std.specs.Prelude.{is_some}
 use Rattle.std.specs.List.{starts_with}
 use Rattle.std.proofs.lemmas.Bool.{cases_eq, cases_Bool, both_ways, false≢true, eqb-true, ltb-true}
@@ -20,7 +22,8 @@ seen_none (x ∷ c) (y ∷ d) a e =
     (λ other. rw other refl)
     (cases_Bool (x == y))
 
-pub seen_call : (c d : List ℕ) (a : ℕ) → starts_with nat_eq d c ≡ true → length c < length d → seen_from c d a ≡ Some (get_or d (length c) 0)
+pub seen_call : (c d : List ℕ) (a : ℕ) → starts_with nat_eq d c ≡ true → length c < length d
+    → seen_from c d a ≡ Some (get_or d (length c) 0)
 seen_call [] [] a e lt = absurd (omega arith)
 seen_call [] (y ∷ d) a e lt = refl
 seen_call (x ∷ c) [] a e lt = absurd (omega arith)
@@ -30,7 +33,8 @@ seen_call (x ∷ c) (y ∷ d) a e lt =
     (λ other. absurd (false≢true (rw other at e)))
     (cases_Bool (x == y))
 
-pub seen_itself : (c d : List ℕ) (a : ℕ) → starts_with nat_eq d c ≡ true → length d ≤ length c → seen_from c d a ≡ Some a
+pub seen_itself : (c d : List ℕ) (a : ℕ) → starts_with nat_eq d c ≡ true → length d ≤ length c
+    → seen_from c d a ≡ Some a
 seen_itself [] [] a e le = refl
 seen_itself [] (y ∷ d) a e le = absurd (omega arith)
 seen_itself (x ∷ c) [] a e le = absurd (false≢true e)
@@ -52,18 +56,21 @@ any_address (x ∷ c) (y ∷ d) a b =
     (cases_Bool (x == y))
 
 -- what a longer list seen from a context begins with
-first_same : (x y : ℕ) (c d : List ℕ) (a : ℕ) → IsTrue (is_some (seen_from (x ∷ c) (y ∷ d) a)) → (x ≡ y) × IsTrue (is_some (seen_from c d a))
+first_same : (x y : ℕ) (c d : List ℕ) (a : ℕ) → IsTrue (is_some (seen_from (x ∷ c) (y ∷ d) a))
+    → (x ≡ y) × IsTrue (is_some (seen_from c d a))
 first_same x y c d a h =
     ⊎_elim
     (λ same. (eqb-true x y same, rw same at h))
     (λ other. absurd (false≢true (rw other at h)))
     (cases_Bool (x == y))
 
-seen_same : (x : ℕ) (c d : List ℕ) (a : ℕ) → IsTrue (is_some (seen_from c d a)) → IsTrue (is_some (seen_from (x ∷ c) (x ∷ d) a))
+seen_same : (x : ℕ) (c d : List ℕ) (a : ℕ) → IsTrue (is_some (seen_from c d a))
+    → IsTrue (is_some (seen_from (x ∷ c) (x ∷ d) a))
 seen_same x c d a h = rw (eq-eqb x x refl) h
 
 -- the first numbers of a list and of a later one
-lt_heads : (x y : ℕ) (d e : List ℕ) → IsTrue (list_lt (x ∷ d) (y ∷ e)) → ((x ≡ y) × IsTrue (list_lt d e)) ⊎ (x < y)
+lt_heads : (x y : ℕ) (d e : List ℕ) → IsTrue (list_lt (x ∷ d) (y ∷ e))
+    → ((x ≡ y) × IsTrue (list_lt d e)) ⊎ (x < y)
 lt_heads x y d e h =
     ⊎_elim
     (λ same. inl (eqb-true x y same, rw same at h))
@@ -71,7 +78,9 @@ lt_heads x y d e h =
     (cases_Bool (x == y))
 
 -- a list between two that begin with c begins with c
-between : (c d e f : List ℕ) (a b k : ℕ) → IsTrue (list_lt d e) → IsTrue (list_lt e f) → IsTrue (is_some (seen_from c d a)) → IsTrue (is_some (seen_from c f b)) → IsTrue (is_some (seen_from c e k))
+between : (c d e f : List ℕ) (a b k : ℕ) → IsTrue (list_lt d e) → IsTrue (list_lt e f)
+    → IsTrue (is_some (seen_from c d a)) → IsTrue (is_some (seen_from c f b))
+    → IsTrue (is_some (seen_from c e k))
 between [] d [] f a b k de ef h i = refl
 between [] d (w ∷ e) f a b k de ef h i = refl
 between (x ∷ c) [] e f a b k de ef h i = absurd (false≢true h)
@@ -82,7 +91,8 @@ between (x ∷ c) (y ∷ d) (w ∷ e) (z ∷ f) a b k de ef h i =
     let q = first_same x z c f b i in
     ⊎_elim
     (λ s. ⊎_elim
-    (λ t. subst (λ v. IsTrue (is_some (seen_from (x ∷ c) (v ∷ e) k))) (p.0 ∙ s.0) (seen_same x c e k (between c d e f a b k s.1 t.1 p.1 q.1)))
+    (λ t. subst (λ v. IsTrue (is_some (seen_from (x ∷ c) (v ∷ e) k))) (p.0 ∙ s.0)
+    (seen_same x c e k (between c d e f a b k s.1 t.1 p.1 q.1)))
     (λ t. absurd (let u : x ≡ y = p.0 in let v : x ≡ z = q.0 in let r : y ≡ w = s.0 in omega arith))
     (lt_heads w z e f ef))
     (λ s. absurd (⊎_elim
@@ -91,10 +101,18 @@ between (x ∷ c) (y ∷ d) (w ∷ e) (z ∷ f) a b k de ef h i =
     (lt_heads w z e f ef)))
     (lt_heads y w d e de)
 
-node_between : (c : List ℕ) (n m k : FlatNode) → IsNumberedBefore n m → IsNumberedBefore m k → IsTrue (is_some (seen_from c n.context n.address)) → IsTrue (is_some (seen_from c k.context k.address)) → IsTrue (is_some (seen_from c m.context m.address))
-node_between c n m k (inl nm) (inl mk) h i = between c n.context m.context k.context n.address k.address m.address nm mk h i
-node_between c n m k (inr nm) mk h i = any_address c m.context m.address n.address ∙ subst (λ d. IsTrue (is_some (seen_from c d n.address))) nm.0 h
-node_between c n m k (inl nm) (inr mk) h i = any_address c m.context m.address k.address ∙ subst (λ d. IsTrue (is_some (seen_from c d k.address))) (sym mk.0) i
+node_between : (c : List ℕ) (n m k : FlatNode) → IsNumberedBefore n m → IsNumberedBefore m k
+    → IsTrue (is_some (seen_from c n.context n.address))
+    → IsTrue (is_some (seen_from c k.context k.address))
+    → IsTrue (is_some (seen_from c m.context m.address))
+node_between c n m k (inl nm) (inl mk) h i =
+    between c n.context m.context k.context n.address k.address m.address nm mk h i
+node_between c n m k (inr nm) mk h i =
+    any_address c m.context m.address n.address
+    ∙ subst (λ d. IsTrue (is_some (seen_from c d n.address))) nm.0 h
+node_between c n m k (inl nm) (inr mk) h i =
+    any_address c m.context m.address k.address
+    ∙ subst (λ d. IsTrue (is_some (seen_from c d k.address))) (sym mk.0) i
 
 -- a node seen from its own context
 pub seen_own : (c : List ℕ) (a : ℕ) → IsTrue (is_some (seen_from c c a))
@@ -102,50 +120,72 @@ seen_own [] a = refl
 seen_own (x ∷ c) a = seen_same x c c a (seen_own c a)
 
 module _ (g : CodeGraph) (H : HasCode g) where
-  there : (u : ℕ) → u < (graph_of g).size → (n : FlatNode) × (slice_get H.of_code.nodes u ≡ Some n) × (node_at (places_of g) u ≡ n)
-  there u lt = by_length H.of_code.nodes u (subst (λ k. u < k) H.of_code.flat.size lt) H.of_code.places
+  there : (u : ℕ) → u < (graph_of g).size
+      → (n : FlatNode) × (slice_get H.of_code.nodes u ≡ Some n) × (node_at (places_of g) u ≡ n)
+  there u lt =
+      by_length H.of_code.nodes u (subst (λ k. u < k) H.of_code.flat.size lt) H.of_code.places
     where
-      get : (xs : List FlatNode) (k : ℕ) → k < length xs → (n : FlatNode) × (slice_get xs k ≡ Some n)
+      get : (xs : List FlatNode) (k : ℕ) → k < length xs
+          → (n : FlatNode) × (slice_get xs k ≡ Some n)
       get [] k l = absurd (omega arith)
       get (x ∷ xs) zero l = (x, refl)
       get (x ∷ xs) (suc k) l = get xs k (omega arith)
 
-      by_length : (xs : List FlatNode) (k : ℕ) → k < length xs → ArePlaces xs (places_of g) → (n : FlatNode) × (slice_get xs k ≡ Some n) × (node_at (places_of g) k ≡ n)
-      by_length xs k l P = let n = get xs k l in let h = P.node k n.0 n.1 in (n.0, n.1, λ i. record { context = h.0 i; address = h.1 i })
+      by_length : (xs : List FlatNode) (k : ℕ) → k < length xs → ArePlaces xs (places_of g)
+          → (n : FlatNode) × (slice_get xs k ≡ Some n) × (node_at (places_of g) k ≡ n)
+      by_length xs k l P =
+          let n = get xs k l in
+          let h = P.node k n.0 n.1 in (n.0, n.1, λ i. record { context = h.0 i; address = h.1 i })
 
-  before : (u v : ℕ) → u < v → v < (graph_of g).size → IsNumberedBefore (node_at (places_of g) u) (node_at (places_of g) v)
+  before : (u v : ℕ) → u < v → v < (graph_of g).size
+      → IsNumberedBefore (node_at (places_of g) u) (node_at (places_of g) v)
   before u v lt v_lt =
       let n = there u (omega arith) in
       let m = there v v_lt in
       let nodes = H.of_code.nodes in
-      subst (λ x. IsNumberedBefore x (node_at (places_of g) v)) (get_or_from_slice_get nodes u n.0 m.0 n.1 ∙ sym n.2)
-      (subst (λ x. IsNumberedBefore (get_or nodes u m.0) x) (get_or_from_slice_get nodes v m.0 m.0 m.1 ∙ sym m.2)
+      subst (λ x. IsNumberedBefore x (node_at (places_of g) v))
+      (get_or_from_slice_get nodes u n.0 m.0 n.1 ∙ sym n.2)
+      (subst (λ x. IsNumberedBefore (get_or nodes u m.0) x)
+      (get_or_from_slice_get nodes v m.0 m.0 m.1 ∙ sym m.2)
       (H.of_code.flat.numbering.ordered u v m.0 lt (slice_get_within nodes v m.0 m.1)))
 
   -- a node between two that are seen is seen
-  pub sees_between : (c : List ℕ) (u v w : ℕ) → u < v → v < w → w < (graph_of g).size → IsTrue (is_seen_from (places_of g) c u) → IsTrue (is_seen_from (places_of g) c w) → IsTrue (is_seen_from (places_of g) c v)
+  pub sees_between : (c : List ℕ) (u v w : ℕ) → u < v → v < w → w < (graph_of g).size
+      → IsTrue (is_seen_from (places_of g) c u) → IsTrue (is_seen_from (places_of g) c w)
+      → IsTrue (is_seen_from (places_of g) c v)
   sees_between c u v w uv vw w_lt h i =
-      node_between c (node_at (places_of g) u) (node_at (places_of g) v) (node_at (places_of g) w) (before u v uv (omega arith)) (before v w vw w_lt) h i
+      node_between c (node_at (places_of g) u) (node_at (places_of g) v) (node_at (places_of g) w)
+      (before u v uv (omega arith)) (before v w vw w_lt) h i
 
   -- from a head down: below a node that is not seen there is none
-  pub none_before : (head v y : ℕ) → head < (graph_of g).size → v < head → IsFalse (is_seen_from (places_of g) ((places_of g).context head) v) → y ≤ v → IsFalse (is_seen_from (places_of g) ((places_of g).context head) y)
+  pub none_before : (head v y : ℕ) → head < (graph_of g).size → v < head
+      → IsFalse (is_seen_from (places_of g) ((places_of g).context head) v) → y ≤ v
+      → IsFalse (is_seen_from (places_of g) ((places_of g).context head) y)
   none_before head v y head_lt v_lt out le =
       let c = (places_of g).context head in
       ⊎_elim
       (λ e. subst (λ z. IsFalse (is_seen_from (places_of g) c z)) (sym e) out)
       (λ ne. ⊎_elim
-      (λ h. absurd (both_ways (is_seen_from (places_of g) c v) out (sees_between c y v head (omega arith) v_lt head_lt h (seen_own c ((places_of g).address head)))))
+      (λ h. absurd
+      (both_ways (is_seen_from (places_of g) c v) out
+      (sees_between c y v head (omega arith) v_lt head_lt h
+      (seen_own c ((places_of g).address head)))))
       (λ f. f)
       (cases_Bool (is_seen_from (places_of g) c y)))
       (cases_eq y v)
 
-  pub none_after : (head v y : ℕ) → head < v → v ≤ y → y < (graph_of g).size → IsFalse (is_seen_from (places_of g) ((places_of g).context head) v) → IsFalse (is_seen_from (places_of g) ((places_of g).context head) y)
+  pub none_after : (head v y : ℕ) → head < v → v ≤ y → y < (graph_of g).size
+      → IsFalse (is_seen_from (places_of g) ((places_of g).context head) v)
+      → IsFalse (is_seen_from (places_of g) ((places_of g).context head) y)
   none_after head v y v_lt le y_lt out =
       let c = (places_of g).context head in
       ⊎_elim
       (λ e. subst (λ z. IsFalse (is_seen_from (places_of g) c z)) (sym e) out)
       (λ ne. ⊎_elim
-      (λ h. absurd (both_ways (is_seen_from (places_of g) c v) out (sees_between c head v y v_lt (omega arith) y_lt (seen_own c ((places_of g).address head)) h)))
+      (λ h. absurd
+      (both_ways (is_seen_from (places_of g) c v) out
+      (sees_between c head v y v_lt (omega arith) y_lt
+      (seen_own c ((places_of g).address head)) h)))
       (λ f. f)
       (cases_Bool (is_seen_from (places_of g) c y)))
       (cases_eq y v)

@@ -9,7 +9,8 @@ abbrev pub item_by : Option ℕ → ℕ → Item
 item_by None v = Node v
 item_by (Some r) v = Loop r
 
--- how an edge lies to the regions: to a head round its source, out of none, or out of r and of none round r
+-- how an edge lies to the regions: to a head round its source, out of none, or out of r and of none
+-- round r
 abbrev pub IsEdgeKind : Nest → ℕ → ℕ → Way → Type 0
 IsEdgeKind n u v Back = IsBackEdge n u v
 IsEdgeKind n u v Inside = (IsBackEdge n u v → ⊥) × ((r : ℕ) → Leaves n u v r → ⊥)

@@ -6,7 +6,8 @@ use Rattle.loop_regions.specs.Nest.{Nest}
 use Rattle.loop_regions.specs.Stated as refusal
 use Rattle.loop_regions.specs.Stated.{IsRegions, IsLoopRefused, LoopRefusal}
 use Rattle.loop_regions.specs.declared.fault.LoopError.{LoopError}
-use Rattle.loop_regions.specs.declared.fault.LoopError.TheVariants.{Memory, SameHead, SecondEntry, NotNested, CycleWithoutBound}
+use Rattle.loop_regions.specs.declared.fault.LoopError.TheVariants.{Memory, SameHead, SecondEntry}
+use Rattle.loop_regions.specs.declared.fault.LoopError.TheVariants.{NotNested, CycleWithoutBound}
 
 -- the regions of the loops are refused so
 abbrev pub AreRegionsRefused : Graph → Places → List LoopAt → LoopRefusal → Type 0
@@ -18,4 +19,5 @@ IsLoopError g p loops Memory = Unit {0}
 IsLoopError g p loops (SameHead a) = (n : Nest) → IsLoopRefused g p loops n (refusal.SameHead a)
 IsLoopError g p loops (SecondEntry a) = AreRegionsRefused g p loops (refusal.SecondEntry a)
 IsLoopError g p loops (NotNested a) = AreRegionsRefused g p loops (refusal.NotNested a)
-IsLoopError g p loops (CycleWithoutBound a) = AreRegionsRefused g p loops (refusal.CycleWithoutBound a)
+IsLoopError g p loops (CycleWithoutBound a) =
+    AreRegionsRefused g p loops (refusal.CycleWithoutBound a)

@@ -1,5 +1,6 @@
 -- The regions of stated loops, and the refusals of loops.
-use Rattle.std.specs.Prelude.{◌≡◌, ◌≢◌, ◌⊎◌, ℕ, ◌<◌, ◌≤◌, Bool, false, ◌==◌, if◌then◌else◌, List, [], ◌∷◌, Option, Some, None, Contains, IsTrue, IsFalse, slice_get}
+use Rattle.std.specs.Prelude.{◌≡◌, ◌≢◌, ◌⊎◌, ℕ, ◌<◌, ◌≤◌, Bool, false, ◌==◌, if◌then◌else◌, List}
+use Rattle.std.specs.Prelude.{[], ◌∷◌, Option, Some, None, Contains, IsTrue, IsFalse, slice_get}
 use Rattle.flat_graph.specs.Graph.{Graph, Edge, Places}
 use Rattle.crpd_base.specs.declared.data.LoopAt.{LoopAt}
 use Rattle.flow_watch.specs.Watch.{holds}
@@ -31,7 +32,8 @@ pub record IsRegions (g : Graph) (p : Places) (loops : List LoopAt) (n : Nest) :
   pub node : (r : ℕ) → r < n.size → n.head r < g.size
   pub numbered : (r s : ℕ) → r < s → s < n.size → n.head r < n.head s
   pub stated : (r : ℕ) → r < n.size → (l : LoopAt) × Contains loops l × IsRegionOf g p n r l
-  pub all : (l : LoopAt) (y : ℕ) → Contains loops l → y < g.size → p.address y ≡ l.head → (r : ℕ) × (r < n.size) × (n.head r ≡ y)
+  pub all : (l : LoopAt) (y : ℕ) → Contains loops l → y < g.size → p.address y ≡ l.head
+      → (r : ℕ) × (r < n.size) × (n.head r ≡ y)
   pub nodes_only : (r y : ℕ) → g.size ≤ y → IsFalse (n.holds r y)
 
 -- refusal: the node is entered from outside a region of which it is not the head
@@ -47,7 +49,8 @@ HoldsMore n r s = (y : ℕ) × IsTrue (n.holds r y) × IsFalse (n.holds s y)
 -- refusal: the node is in two regions of which neither holds the other
 abbrev pub IsNotNested : Nest → ℕ → Type 0
 IsNotNested n y =
-    (r s : ℕ) × (r < n.size) × (s < n.size) × IsTrue (n.holds r y) × IsTrue (n.holds s y) × HoldsMore n r s × HoldsMore n s r
+    (r s : ℕ) × (r < n.size) × (s < n.size) × IsTrue (n.holds r y) × IsTrue (n.holds s y)
+    × HoldsMore n r s × HoldsMore n s r
 
 -- an edge that is no back edge
 abbrev pub IsForward : Graph → Nest → ℕ → ℕ → Type 0
@@ -77,7 +80,8 @@ RegionsLaw =
 -- refusal: two stated loops have this head
 abbrev pub IsSameHead : List LoopAt → ℕ → Type 0
 IsSameHead loops a =
-    (i j : ℕ) × (l m : LoopAt) × (i < j) × (slice_get loops i ≡ Some l) × (slice_get loops j ≡ Some m) × (l.head ≡ a) × (m.head ≡ a)
+    (i j : ℕ) × (l m : LoopAt) × (i < j) × (slice_get loops i ≡ Some l)
+    × (slice_get loops j ≡ Some m) × (l.head ≡ a) × (m.head ≡ a)
 
 -- the address of the least node with a property
 abbrev pub IsLeastAt : Graph → Places → (ℕ → Type 0) → ℕ → Type 0
@@ -95,6 +99,8 @@ IsLoopRefused g p loops n (SameHead a) = IsSameHead loops a × ((b : ℕ) → Is
 IsLoopRefused g p loops n (SecondEntry a) =
     ((b : ℕ) → IsSameHead loops b → ⊥) × IsLeastAt g p (IsSecondEntry g n) a
 IsLoopRefused g p loops n (NotNested a) =
-    ((b : ℕ) → IsSameHead loops b → ⊥) × ((y : ℕ) → IsSecondEntry g n y → ⊥) × IsLeastAt g p (IsNotNested n) a
+    ((b : ℕ) → IsSameHead loops b → ⊥) × ((y : ℕ) → IsSecondEntry g n y → ⊥)
+    × IsLeastAt g p (IsNotNested n) a
 IsLoopRefused g p loops n (CycleWithoutBound a) =
-    ((b : ℕ) → IsSameHead loops b → ⊥) × ((y : ℕ) → IsSecondEntry g n y → ⊥) × ((y : ℕ) → IsNotNested n y → ⊥) × IsLeastAt g p (IsOnCycle g n) a
+    ((b : ℕ) → IsSameHead loops b → ⊥) × ((y : ℕ) → IsSecondEntry g n y → ⊥)
+    × ((y : ℕ) → IsNotNested n y → ⊥) × IsLeastAt g p (IsOnCycle g n) a

@@ -41,31 +41,39 @@ address_after entry (s ∷ earlier) = s.to
 -- steps from the entry, each of which begins where the one before it ended
 abbrev pub AreSteps : Words → ℕ → List Step → Type 0
 AreSteps words entry [] = Unit {0}
-AreSteps words entry (s ∷ earlier) = IsStep words s × (s.from ≡ address_after entry earlier) × AreSteps words entry earlier
+AreSteps words entry (s ∷ earlier) =
+    IsStep words s × (s.from ≡ address_after entry earlier) × AreSteps words entry earlier
 
 -- the watch after steps
 abbrev pub watch_after : TaskPlan → List Step → Watch
 watch_after plan [] = start plan
 watch_after plan (s ∷ earlier) = watch_step plan (watch_after plan earlier) s.from s.ins s.to
 
--- the context and the address of a job after steps, and of all moments up to then, the last one first
+-- the context and the address of a job after steps, and of all moments up to then, the last one
+-- first
 abbrev pub node_after : TaskPlan → List Step → FlatNode
-node_after plan steps = record { context = context (watch_after plan steps); address = address_after plan.entry steps }
+node_after plan steps = record {
+  context = context (watch_after plan steps);
+  address = address_after plan.entry steps;
+}
 
 abbrev pub nodes_along : TaskPlan → List Step → List FlatNode
 nodes_along plan [] = node_after plan [] ∷ []
 nodes_along plan (s ∷ earlier) = node_after plan (s ∷ earlier) ∷ nodes_along plan earlier
 
 -- these contexts and addresses are a walk of the graph
-pub record IsWalkOf (plan : TaskPlan) (g : Graph) (p : Places) (steps : List Step) (walk : List ℕ) : Type 0 where
+pub record IsWalkOf (plan : TaskPlan) (g : Graph) (p : Places) (steps : List Step)
+    (walk : List ℕ) : Type 0 where
   pub is_walk : IsWalk g walk
   pub nodes : map (node_at p) walk ≡ nodes_along plan steps
 
 -- they are a kept walk, with the counts of the watch's open loops
-pub record IsKeptWalkOf (plan : TaskPlan) (g : Graph) (p : Places) (n : Nest) (steps : List Step) (walk : List ℕ) : Type 0 where
+pub record IsKeptWalkOf (plan : TaskPlan) (g : Graph) (p : Places) (n : Nest) (steps : List Step)
+    (walk : List ℕ) : Type 0 where
   pub of_steps : IsWalkOf plan g p steps walk
   pub kept : IsKeptWalk n walk
-  pub counts : (frames : List Frame) → watch_after plan steps ≡ Some frames → CountsAgree g p plan.loops n frames walk
+  pub counts : (frames : List Frame) → watch_after plan steps ≡ Some frames
+      → CountsAgree g p plan.loops n frames walk
 
 -- the last node of a walk is an answering node
 abbrev pub EndsAnswering : Flows → Places → List ℕ → Type 0
@@ -77,24 +85,30 @@ pub record IsGoingOn (plan : TaskPlan) (steps : List Step) : Type 0 where
   pub kept : is_unbroken (watch_after plan steps) ≡ true
   pub has_frame : watch_after plan steps ≢ Some []
 
--- after these steps the job answers: by an instruction that does, or by one step more with which the bottom frame
--- returns, and the watch is not broken
+-- after these steps the job answers: by an instruction that does, or by one step more with which
+-- the bottom frame returns, and the watch is not broken
 pub data AnswersAfter (words : Words) (plan : TaskPlan) (steps : List Step) : Type 0 where
-  exits : (ins : Ins) (registers : List ℕ) → StandsAt words (address_after plan.entry steps) ins → next_pc ins (address_after plan.entry steps) registers ≡ Answer → is_unbroken (watch_after plan steps) ≡ true → AnswersAfter words plan steps
-  returns : (last : Step) → IsStep words last → last.from ≡ address_after plan.entry steps → watch_after plan (last ∷ steps) ≡ Some [] → AnswersAfter words plan steps
+  exits : (ins : Ins) (registers : List ℕ) → StandsAt words (address_after plan.entry steps) ins
+      → next_pc ins (address_after plan.entry steps) registers ≡ Answer
+      → is_unbroken (watch_after plan steps) ≡ true → AnswersAfter words plan steps
+  returns : (last : Step) → IsStep words last → last.from ≡ address_after plan.entry steps
+      → watch_after plan (last ∷ steps) ≡ Some [] → AnswersAfter words plan steps
 
 -- the law without loops: the contexts and addresses of all steps are a walk of the graph
 abbrev pub PathLaw : Type 0
 PathLaw =
     (words : Words) (plan : TaskPlan) (g : Graph) (p : Places) (steps : List Step) →
-    IsCodeMap words → FollowsCode (flows words) plan.entry g p → HasNoErrors (flows words) plan.entry →
-    AreSteps words plan.entry steps → IsGoingOn plan steps → (walk : List ℕ) × IsWalkOf plan g p steps walk
+    IsCodeMap words → FollowsCode (flows words) plan.entry g p
+    → HasNoErrors (flows words) plan.entry →
+    AreSteps words plan.entry steps → IsGoingOn plan steps
+    → (walk : List ℕ) × IsWalkOf plan g p steps walk
 
 -- and where the job then answers, the last node is an answering node
 abbrev pub PathEndLaw : Type 0
 PathEndLaw =
     (words : Words) (plan : TaskPlan) (g : Graph) (p : Places) (steps : List Step) →
-    IsCodeMap words → FollowsCode (flows words) plan.entry g p → HasNoErrors (flows words) plan.entry →
+    IsCodeMap words → FollowsCode (flows words) plan.entry g p
+    → HasNoErrors (flows words) plan.entry →
     AreSteps words plan.entry steps → AnswersAfter words plan steps →
     (walk : List ℕ) × IsWalkOf plan g p steps walk × EndsAnswering (flows words) p walk
 
@@ -102,20 +116,26 @@ PathEndLaw =
 abbrev pub WalkLaw : Type 0
 WalkLaw =
     (words : Words) (plan : TaskPlan) (g : Graph) (p : Places) (n : Nest) (steps : List Step) →
-    IsCodeMap words → FollowsCode (flows words) plan.entry g p → HasNoErrors (flows words) plan.entry → IsRegions g p plan.loops n →
-    AreSteps words plan.entry steps → IsGoingOn plan steps → (walk : List ℕ) × IsKeptWalkOf plan g p n steps walk
+    IsCodeMap words → FollowsCode (flows words) plan.entry g p
+    → HasNoErrors (flows words) plan.entry → IsRegions g p plan.loops n →
+    AreSteps words plan.entry steps → IsGoingOn plan steps
+    → (walk : List ℕ) × IsKeptWalkOf plan g p n steps walk
 
 abbrev pub WalkEndLaw : Type 0
 WalkEndLaw =
     (words : Words) (plan : TaskPlan) (g : Graph) (p : Places) (n : Nest) (steps : List Step) →
-    IsCodeMap words → FollowsCode (flows words) plan.entry g p → HasNoErrors (flows words) plan.entry → IsRegions g p plan.loops n →
+    IsCodeMap words → FollowsCode (flows words) plan.entry g p
+    → HasNoErrors (flows words) plan.entry → IsRegions g p plan.loops n →
     AreSteps words plan.entry steps → AnswersAfter words plan steps →
     (walk : List ℕ) × IsKeptWalkOf plan g p n steps walk × EndsAnswering (flows words) p walk
 
--- a return of the bottom frame is the only step after which no frame is left, and it goes to the end
+-- a return of the bottom frame is the only step after which no frame is left, and it goes to the
+-- end
 abbrev pub ReturnLaw : Type 0
 ReturnLaw =
     (words : Words) (plan : TaskPlan) (g : Graph) (p : Places) (last : Step) (steps : List Step) →
-    IsCodeMap words → FollowsCode (flows words) plan.entry g p → HasNoErrors (flows words) plan.entry →
+    IsCodeMap words → FollowsCode (flows words) plan.entry g p
+    → HasNoErrors (flows words) plan.entry →
     AreSteps words plan.entry (last ∷ steps) → watch_after plan (last ∷ steps) ≡ Some [] →
-    (flow last.from last.ins ≡ Return) × (last.to ≡ end_address) × (context (watch_after plan steps) ≡ [])
+    (flow last.from last.ins ≡ Return) × (last.to ≡ end_address)
+    × (context (watch_after plan steps) ≡ [])

@@ -1,5 +1,6 @@
 -- A job whose watch is not broken makes a kept walk.
-use Rattle.std.specs.Prelude.{◌≡◌, ◌⊎◌, ℕ, ◌+◌, ◌<◌, ◌≤◌, List, [], ◌∷◌, length, Some, slice_get, slice_index_or}
+use Rattle.std.specs.Prelude.{◌≡◌, ◌⊎◌, ℕ, ◌+◌, ◌<◌, ◌≤◌, List, [], ◌∷◌, length, Some, slice_get}
+use Rattle.std.specs.Prelude.{slice_index_or}
 use Rattle.crpd_base.specs.declared.data.LoopAt.{LoopAt}
 use Rattle.crpd_base.specs.declared.data.TaskPlan.{TaskPlan}
 use Rattle.rv_decode.specs.Address.{next_address, end_address}
@@ -27,23 +28,29 @@ iterations_of f i = slice_index_or f.turns i 0
 
 -- an address is the one behind a call at address a
 abbrev pub IsBehindCall : Flows → ℕ → Type 0
-IsBehindCall code back = (a t : ℕ) × (a + 4 ≤ end_address) × (back ≡ a + 4) × (code a ≡ Some (Some (Call t)))
+IsBehindCall code back =
+    (a t : ℕ) × (a + 4 ≤ end_address) × (back ≡ a + 4) × (code a ≡ Some (Some (Call t)))
 
--- the frames of a job: the bottom one returns to the end, each other one behind a call, and each counts all loops
+-- the frames of a job: the bottom one returns to the end, each other one behind a call, and each
+-- counts all loops
 abbrev pub AreFrames : Flows → TaskPlan → List Frame → Type 0
 AreFrames code plan [] = ⊥
 AreFrames code plan (f ∷ []) = (length f.turns ≡ length plan.loops) × (f.back ≡ end_address)
-AreFrames code plan (f ∷ h ∷ fs) = (length f.turns ≡ length plan.loops) × IsBehindCall code f.back × AreFrames code plan (h ∷ fs)
+AreFrames code plan (f ∷ h ∷ fs) =
+    (length f.turns ≡ length plan.loops) × IsBehindCall code f.back × AreFrames code plan (h ∷ fs)
 
 -- each frame has the counts of the walk in the regions of the frame's context
 abbrev pub CountsAgree : Graph → Places → List LoopAt → Nest → List Frame → List ℕ → Type 0
 CountsAgree g p loops n [] w = Unit {0}
 CountsAgree g p loops n (f ∷ fs) w =
-    ((r i : ℕ) (l : LoopAt) → r < n.size → slice_get loops i ≡ Some l → IsRegionOf g p n r l → p.context (n.head r) ≡ calls_under_way (f ∷ fs) → head_count n r w ≡ iterations_of f i)
+    ((r i : ℕ) (l : LoopAt) → r < n.size → slice_get loops i ≡ Some l → IsRegionOf g p n r l
+    → p.context (n.head r) ≡ calls_under_way (f ∷ fs) → head_count n r w ≡ iterations_of f i)
     × CountsAgree g p loops n fs w
 
--- the nodes are a kept walk, whose last node the frames' context and the address name, and whose counts are the frames'
-pub record IsWatchedWalk (code : Flows) (plan : TaskPlan) (g : Graph) (p : Places) (n : Nest) (y : ℕ) (before : List ℕ) (a : ℕ) (frames : List Frame) : Type 0 where
+-- the nodes are a kept walk, whose last node the frames' context and the address name, and whose
+-- counts are the frames'
+pub record IsWatchedWalk (code : Flows) (plan : TaskPlan) (g : Graph) (p : Places) (n : Nest)
+    (y : ℕ) (before : List ℕ) (a : ℕ) (frames : List Frame) : Type 0 where
   pub walk : IsWalk g (y ∷ before)
   pub kept : IsKeptWalk n (y ∷ before)
   pub context : p.context y ≡ calls_under_way frames
@@ -59,15 +66,20 @@ WatchStartLaw =
     IsWatchedWalk code plan g p n g.first [] plan.entry frames
 
 -- the node to which a step goes, and the walk with it
-pub record GoesTo (code : Flows) (plan : TaskPlan) (g : Graph) (p : Places) (n : Nest) (y : ℕ) (before : List ℕ) (to : ℕ) (frames : List Frame) : Type 0 where
+pub record GoesTo (code : Flows) (plan : TaskPlan) (g : Graph) (p : Places) (n : Nest) (y : ℕ)
+    (before : List ℕ) (to : ℕ) (frames : List Frame) : Type 0 where
   pub node : ℕ
   pub edge : Edge g y node
   pub walked : IsWatchedWalk code plan g p n node (y ∷ before) to frames
 
--- a step from an address with room for its word, after which the watch is not broken and has a frame, goes on with it
+-- a step from an address with room for its word, after which the watch is not broken and has a
+-- frame, goes on with it
 abbrev pub WatchStepLaw : Type 0
 WatchStepLaw =
-    (code : Flows) (plan : TaskPlan) (g : Graph) (p : Places) (n : Nest) (y : ℕ) (before : List ℕ) (from : ℕ) (frames : List Frame) (flow : Flow) (to : ℕ) (h : Frame) (hs : List Frame) →
+    (code : Flows) (plan : TaskPlan) (g : Graph) (p : Places) (n : Nest) (y : ℕ) (before : List ℕ)
+    (from : ℕ) (frames : List Frame) (flow : Flow) (to : ℕ) (h : Frame) (hs : List Frame) →
     FollowsCode code plan.entry g p → HasNoErrors code plan.entry → IsRegions g p plan.loops n →
-    IsWatchedWalk code plan g p n y before from frames → code from ≡ Some (Some flow) → from + 4 ≤ end_address → CanGo from flow to →
-    step_by_flow plan frames from flow to ≡ Some (h ∷ hs) → GoesTo code plan g p n y before to (h ∷ hs)
+    IsWatchedWalk code plan g p n y before from frames → code from ≡ Some (Some flow)
+    → from + 4 ≤ end_address → CanGo from flow to →
+    step_by_flow plan frames from flow to ≡ Some (h ∷ hs)
+    → GoesTo code plan g p n y before to (h ∷ hs)

@@ -26,7 +26,8 @@ fn narrow_rows(rows: &mut Vec<Holders>, holders: &[u32])
     requires { (r : ℕ) → IsTrue (has holders.now r) → r < length rows.old.items }
     ensures regions { length rows.new.items ≡ length rows.old.items }
     ensures narrowed { (r s : ℕ) → r < length rows.old.items → IsTrue (has (row rows.new.items r) s)
-        ↔ (IsTrue (has (row rows.old.items r) s) × (IsTrue (has holders.now r) → IsTrue (has holders.now s))) }
+        ↔ (IsTrue (has (row rows.old.items r) s)
+        × (IsTrue (has holders.now r) → IsTrue (has holders.now s))) }
 {
     for r in holders {
         let around = &mut rows[*r as usize];
@@ -37,13 +38,14 @@ fn narrow_rows(rows: &mut Vec<Holders>, holders: &[u32])
 /// Whether a node has the regions of the node before it.
 pub(crate) fn is_like_before(regions: &Regions, y: u32) -> bool
     requires { y < length regions.now.holders }
-    ensures { IsTrue result → (z : ℕ) × (z < y) × (row regions.now.holders y ≡ row regions.now.holders z) }
+    ensures { IsTrue result → (z : ℕ) × (z < y)
+        × (row regions.now.holders y ≡ row regions.now.holders z) }
 {
     y > 0 && regions.holders(y) == regions.holders(y - 1)
 }
 
-/// For each region the regions that hold all of its nodes, itself among them. The regions of a node are looked at where the
-/// node before it has others.
+/// For each region the regions that hold all of its nodes, itself among them. The regions of a node
+/// are looked at where the node before it has others.
 pub(crate) fn regions_around(alloc: Global, regions: &Regions) -> Result<Vec<Holders>, AllocError>
     ensures { IfOk result (λ rows. AreAround (nest_in regions.now) rows.items) }
 {

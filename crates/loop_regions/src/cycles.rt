@@ -4,14 +4,16 @@ ghost use Rattle.flat_graph.specs.CodeGraph.{graph_of};
 ghost use Rattle.loop_regions.specs.Inner.Least.{IsLeastNumber};
 ghost use Rattle.loop_regions.specs.Stated.{IsOnCycle};
 ghost use Rattle.loop_regions.specs.Inner.FoundRegions.{nest_in};
-ghost use Rattle.loop_regions.specs.Inner.ForwardPaths.{IsSearch, IsStartOrSeen, EdgesFrom, to_search};
+ghost use Rattle.loop_regions.specs.Inner.ForwardPaths.{IsSearch, IsStartOrSeen, EdgesFrom};
+ghost use Rattle.loop_regions.specs.Inner.ForwardPaths.{to_search};
 
 use crate::found::Regions;
 use crate::ranks::{all_fall, forward, ranks};
 use flat_graph::Graph;
 use std::alloc::{AllocError, Global};
 
-/// A search along forward edges from a node: the nodes that it found, and those of them whose edges it has not followed yet.
+/// A search along forward edges from a node: the nodes that it found, and those of them whose edges
+/// it has not followed yet.
 #[derive(Drop)]
 struct Search {
     start: u32,
@@ -26,9 +28,14 @@ impl Search {
         requires node { u < (graph_of graph.now).size }
         requires place { k < 2 }
         requires met { IsStartOrSeen self.old.start self.old.seen.items u }
-        requires search { IsSearch (graph_of graph.now) (nest_in regions.now) self.old.start self.old.seen.items self.old.waiting.items (EdgesFrom u k) }
-        ensures search { OnOk result (IsSearch (graph_of graph.now) (nest_in regions.now) self.new.start self.new.seen.items self.new.waiting.items (EdgesFrom u (k + 1))) }
-        ensures falls { OnOk result (to_search self.new.seen.items self.new.waiting.items ≤ to_search self.old.seen.items self.old.waiting.items) }
+        requires search { IsSearch (graph_of graph.now) (nest_in regions.now) self.old.start
+            self.old.seen.items self.old.waiting.items (EdgesFrom u k) }
+        ensures search { OnOk result
+            (IsSearch (graph_of graph.now) (nest_in regions.now) self.new.start self.new.seen.items
+            self.new.waiting.items (EdgesFrom u (k + 1))) }
+        ensures falls { OnOk result
+            (to_search self.new.seen.items self.new.waiting.items
+            ≤ to_search self.old.seen.items self.old.waiting.items) }
         ensures start { self.new.start ≡ self.old.start }
         ensures met { OnOk result (IsStartOrSeen self.new.start self.new.seen.items u) }
     {
@@ -48,7 +55,8 @@ impl Search {
 fn is_on_cycle(alloc: Global, graph: &Graph, regions: &Regions, y: u32) -> Result<bool, AllocError>
     requires nodes { length regions.now.holders ≡ (graph_of graph.now).size }
     requires node { y < (graph_of graph.now).size }
-    ensures { IfOk result (λ says. IsTrue says ↔ IsOnCycle (graph_of graph.now) (nest_in regions.now) y) }
+    ensures { IfOk result (λ says. IsTrue says
+        ↔ IsOnCycle (graph_of graph.now) (nest_in regions.now) y) }
 {
     graph.graph_law();
     let mut search = Search {
@@ -63,8 +71,8 @@ fn is_on_cycle(alloc: Global, graph: &Graph, regions: &Regions, y: u32) -> Resul
     Ok(search.seen[y as usize])
 }
 
-/// The least node on a cycle without back edges. Where there is none, each edge is looked at a few times; where there is
-/// one, there is a search from each node up to it.
+/// The least node on a cycle without back edges. Where there is none, each edge is looked at a few
+/// times; where there is one, there is a search from each node up to it.
 pub(crate) fn least_on_cycle(
     alloc: Global,
     graph: &Graph,

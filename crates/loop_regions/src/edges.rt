@@ -30,8 +30,8 @@ impl Nest {
         }
     }
 
-    /// Whether an edge leads back to the head of a region that holds its source. Its time is at most the number of
-    /// regions that hold the source.
+    /// Whether an edge leads back to the head of a region that holds its source. Its time is at
+    /// most the number of regions that hold the source.
     pub fn is_back(&self, graph: &Graph, source: NodeId, target: NodeId) -> bool
         requires nest { IsNestOf graph.now self.now }
         requires source { source.0 < (graph_of graph.now).size }
@@ -44,8 +44,9 @@ impl Nest {
         }
     }
 
-    /// The outermost region that an edge leaves, None where it leaves none. Each region that it leaves, and the next one
-    /// out, is looked for among those that hold the target. It takes no memory.
+    /// The outermost region that an edge leaves, None where it leaves none. Each region that it
+    /// leaves, and the next one out, is looked for among those that hold the target. It takes no
+    /// memory.
     pub fn outermost_left(&self, graph: &Graph, source: NodeId, target: NodeId) -> Option<u32>
         requires nest { IsNestOf graph.now self.now }
         requires source { source.0 < (graph_of graph.now).size }
@@ -67,7 +68,8 @@ impl Nest {
         left
     }
 
-    /// How an edge lies to the regions round its source. Its time is that of `outermost_left`. It takes no memory.
+    /// How an edge lies to the regions round its source. Its time is that of `outermost_left`. It
+    /// takes no memory.
     pub fn way(&self, graph: &Graph, source: NodeId, target: NodeId) -> Way
         requires nest { IsNestOf graph.now self.now }
         requires source { source.0 < (graph_of graph.now).size }

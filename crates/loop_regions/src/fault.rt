@@ -4,19 +4,22 @@ ghost use Rattle.loop_regions.specs.declared.fault.LoopError.TheVariants.{Memory
 
 use std::alloc::AllocError;
 
-/// The first thing that is wrong with the stated loops of a task. `SameHead` has the least such head; the others have
-/// the byte address of the least node, in the order of numbering, at which it is.
+/// The first thing that is wrong with the stated loops of a task. `SameHead` has the least such
+/// head; the others have the byte address of the least node, in the order of numbering, at which it
+/// is.
 #[derive(Clone, Copy, Debug, PartialEq, Eq)]
 pub enum LoopError {
     /// There is no memory for the regions.
     Memory,
     /// Two stated loops have this head.
     SameHead(u32),
-    /// An edge from outside a region leads to a node of it that is not its head, or the first node is such a node.
+    /// An edge from outside a region leads to a node of it that is not its head, or the first node
+    /// is such a node.
     SecondEntry(u32),
     /// A node is in two regions of which neither holds the other.
     NotNested(u32),
-    /// A node is on a cycle of edges none of which leads to the head of a region that holds its source.
+    /// A node is on a cycle of edges none of which leads to the head of a region that holds its
+    /// source.
     CycleWithoutBound(u32),
 }
 

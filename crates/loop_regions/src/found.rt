@@ -8,7 +8,8 @@ use crpd_base::{Items, LoopAt};
 use flat_graph::Graph;
 use std::alloc::{AllocError, Global};
 
-/// The regions of stated loops, each with its head and its bound, and for each node the regions that hold it.
+/// The regions of stated loops, each with its head and its bound, and for each node the regions
+/// that hold it.
 #[derive(Drop)]
 pub(crate) struct Regions {
     pub(crate) heads: Items<u32>,
@@ -24,11 +25,14 @@ impl Regions {
     ghost use Rattle.loop_regions.specs.CodeNest.{has, row};
     ghost use Rattle.loop_regions.specs.Inner.FoundRegions.{nest_in, is_head};
 
-    /// The regions of stated loops, one for each node at the head of one, numbered by these nodes. Where two loops have
-    /// one head, the region is that of the first.
+    /// The regions of stated loops, one for each node at the head of one, numbered by these nodes.
+    /// Where two loops have one head, the region is that of the first.
     pub(crate) fn find(alloc: Global, graph: &Graph, loops: &[LoopAt]) -> Result<Self, AllocError>
-        ensures nodes { IfOk result (λ regions. length regions.holders ≡ (graph_of graph.now).size) }
-        ensures regions { IfOk result (λ regions. IsRegions (graph_of graph.now) (places_of graph.now) loops.now (nest_in regions)) }
+        ensures nodes { IfOk result
+            (λ regions. length regions.holders ≡ (graph_of graph.now).size) }
+        ensures regions { IfOk result
+            (λ regions. IsRegions (graph_of graph.now) (places_of graph.now) loops.now
+            (nest_in regions)) }
     {
         graph.graph_law();
         let heads = heads(alloc, graph, loops)?;

@@ -18,7 +18,8 @@ use crpd_base::{LoopAt, NodeId, TaskPlan};
 use flat_graph::Graph;
 use std::alloc::Global;
 
-/// The nest of regions that were found for stated loops with heads of their own, or the first refusal.
+/// The nest of regions that were found for stated loops with heads of their own, or the first
+/// refusal.
 fn nest_of_found(
     alloc: Global,
     graph: &Graph,
@@ -27,11 +28,14 @@ fn nest_of_found(
 ) -> Result<Nest, LoopError>
     requires nodes { length found.holders ≡ (graph_of graph.now).size }
     requires one_head { (a : ℕ) → ¬ IsSameHead loops.now a }
-    requires regions { IsRegions (graph_of graph.now) (places_of graph.now) loops.now (nest_in found) }
-    ensures regions { IfOk result (λ nest. IsRegions (graph_of graph.now) (places_of graph.now) loops.now (nest_of nest)) }
+    requires regions { IsRegions (graph_of graph.now) (places_of graph.now) loops.now
+        (nest_in found) }
+    ensures regions { IfOk result
+        (λ nest. IsRegions (graph_of graph.now) (places_of graph.now) loops.now (nest_of nest)) }
     ensures accepted { IfOk result (λ nest. HasNoLoopRefusals (graph_of graph.now) (nest_of nest)) }
     ensures nodes { IfOk result (λ nest. length nest.holders ≡ (graph_of graph.now).size) }
-    ensures refused { IfErr result (IsLoopError (graph_of graph.now) (places_of graph.now) loops.now) }
+    ensures refused { IfErr result
+        (IsLoopError (graph_of graph.now) (places_of graph.now) loops.now) }
 {
     graph.graph_law();
     if let Some(v) = least_second_entry(graph, &found) {
@@ -49,22 +53,28 @@ fn nest_of_found(
     Ok(Nest::new(found, parents, innermost))
 }
 
-/// The regions of a plan's stated loops in a task's graph: one for each loop in each context in which its head is a node.
+/// The regions of a plan's stated loops in a task's graph: one for each loop in each context in
+/// which its head is a node.
 ///
-/// An `Err` is the first refusal, in the order `SameHead`, `SecondEntry`, `NotNested`, `CycleWithoutBound`: `SameHead` with
-/// the least such head, the others with the address of the least such node. `Memory` may come in place of any answer.
+/// An `Err` is the first refusal, in the order `SameHead`, `SecondEntry`, `NotNested`,
+/// `CycleWithoutBound`: `SameHead` with the least such head, the others with the address of the
+/// least such node. `Memory` may come in place of any answer.
 ///
-/// A region holds the nodes of its context whose addresses the loop holds, and the nodes of the calls made there. Time is
-/// linear in the nodes and edges, times the number of regions of their contexts, with a search among the ranges of a loop for
-/// each node that its regions may hold, and n log n in the ranges; where a node lies on a cycle without back edges, each node
-/// up to the least such node is searched from. The ranges are kept twice while the regions are found.
+/// A region holds the nodes of its context whose addresses the loop holds, and the nodes of the
+/// calls made there. Time is linear in the nodes and edges, times the number of regions of their
+/// contexts, with a search among the ranges of a loop for each node that its regions may hold, and
+/// n log n in the ranges; where a node lies on a cycle without back edges, each node up to the
+/// least such node is searched from. The ranges are kept twice while the regions are found.
 pub fn regions(alloc: Global, graph: &Graph, plan: &TaskPlan) -> Result<Nest, LoopError>
-    ensures regions { IfOk result (λ nest. IsRegions (graph_of graph.now) (places_of graph.now) plan.now.loops (nest_of nest)) }
+    ensures regions { IfOk result
+        (λ nest. IsRegions (graph_of graph.now) (places_of graph.now) plan.now.loops
+        (nest_of nest)) }
     ensures accepted { IfOk result (λ nest. HasNoLoopRefusals (graph_of graph.now) (nest_of nest)) }
     ensures one_head { IfOk result (λ _. (a : ℕ) → ¬ IsSameHead plan.now.loops a) }
     ensures nodes { IfOk result (λ nest. length nest.holders ≡ (graph_of graph.now).size) }
     ensures nest { IfOk result (λ nest. AreBounded plan.now.loops → IsNestOf graph.now nest) }
-    ensures refused { IfErr result (IsLoopError (graph_of graph.now) (places_of graph.now) plan.now.loops) }
+    ensures refused { IfErr result
+        (IsLoopError (graph_of graph.now) (places_of graph.now) plan.now.loops) }
 {
     let loops = plan.loops.as_slice();
     if let Some(address) = least_same_head(loops) {

@@ -1,5 +1,6 @@
 // The heads of stated loops.
-ghost use Rattle.std.specs.Prelude.{◌≡◌, ◌<◌, ◌≤◌, IfOk, length, map, Some, slice_get, slice_index, ℕ};
+ghost use Rattle.std.specs.Prelude.{◌≡◌, ◌<◌, ◌≤◌, IfOk, length, map, Some, slice_get, slice_index};
+ghost use Rattle.std.specs.Prelude.{ℕ};
 ghost use Rattle.crpd_base.specs.declared.data.LoopAt.{LoopAt};
 ghost use Rattle.flat_graph.specs.CodeGraph.{graph_of, places_of};
 ghost use Rattle.loop_regions.specs.Inner.Heads.{IsLoopAt, AreHeads};
@@ -22,9 +23,11 @@ fn loop_at(loops: &[LoopAt], address: u32) -> Option<usize>
     loops.iter().position(|stated| stated.head == address)
 }
 
-/// The nodes at the heads of stated loops, in the order of their numbers: nodes times loops in time.
+/// The nodes at the heads of stated loops, in the order of their numbers: nodes times loops in
+/// time.
 pub(crate) fn heads(alloc: Global, graph: &Graph, loops: &[LoopAt]) -> Result<Vec<Head>, AllocError>
-    ensures { IfOk result (λ heads. AreHeads (places_of graph.now) loops.now (graph_of graph.now).size heads.items) }
+    ensures { IfOk result (λ heads.
+        AreHeads (places_of graph.now) loops.now (graph_of graph.now).size heads.items) }
 {
     let mut heads = Vec::new(alloc);
     for node in 0..graph.len() {
@@ -51,7 +54,8 @@ pub(crate) fn bounds_of(
     requires { (r : ℕ) (h : Head) → slice_get heads.now r ≡ Some h → h.stated < length loops.now }
     ensures all { IfOk result (λ bounds. length bounds.items ≡ length heads.now) }
     ensures bounds { IfOk result (λ bounds. (r : ℕ) (h : Head) (l : LoopAt) →
-        slice_get heads.now r ≡ Some h → slice_get loops.now h.stated ≡ Some l → slice_index bounds.items r ≡ l.bound) }
+        slice_get heads.now r ≡ Some h → slice_get loops.now h.stated ≡ Some l
+        → slice_index bounds.items r ≡ l.bound) }
 {
     let mut bounds = Vec::with_capacity(alloc, heads.len())?;
     for head in heads {

@@ -1,5 +1,6 @@
 // Which regions hold a node.
-ghost use Rattle.std.specs.Prelude.{◌≡◌, ◌<◌, ◌≤◌, ◌↔◌, ◌∷◌, [], ◌++◌, ℕ, IfOk, OnOk, IsTrue, IsFalse, length, if◌then◌else◌, Some, slice_get};
+ghost use Rattle.std.specs.Prelude.{◌≡◌, ◌<◌, ◌≤◌, ◌↔◌, ◌∷◌, [], ◌++◌, ℕ, IfOk, OnOk, IsTrue};
+ghost use Rattle.std.specs.Prelude.{IsFalse, length, if◌then◌else◌, Some, slice_get};
 ghost use Rattle.flat_graph.specs.CodeGraph.{graph_of, places_of};
 ghost use Rattle.loop_regions.specs.CodeNest.{has, row};
 ghost use Rattle.loop_regions.specs.Stated.{seen_from, region_holds};
@@ -12,8 +13,8 @@ use crpd_base::{LoopAt, NodeId};
 use flat_graph::Graph;
 use std::alloc::{AllocError, Global};
 
-/// Seen from a context, the address of a node: its own, or that of the call that was made in the context. None where
-/// the node's context does not begin with it.
+/// Seen from a context, the address of a node: its own, or that of the call that was made in the
+/// context. None where the node's context does not begin with it.
 fn seen_from(from: &[u32], context: &[u32], address: u32) -> Option<u32>
     ensures { result ≡ seen_from from.now context.now address }
 {
@@ -30,7 +31,8 @@ fn seen_from(from: &[u32], context: &[u32], address: u32) -> Option<u32>
 /// The address of a node as it is seen from a context.
 fn seen(graph: &Graph, from: &[u32], y: u32) -> Option<u32>
     requires { y < (graph_of graph.now).size }
-    ensures { result ≡ seen_from from.now ((places_of graph.now).context y) ((places_of graph.now).address y) }
+    ensures { result ≡ seen_from from.now ((places_of graph.now).context y)
+        ((places_of graph.now).address y) }
 {
     seen_from(from, graph.context(NodeId(y)), graph.address(NodeId(y)))
 }
@@ -50,7 +52,8 @@ fn region_holds(graph: &Graph, stated: &RangedLoop, from: &[u32], y: u32) -> boo
 fn first_seen(graph: &Graph, head: u32) -> u32
     requires { head < (graph_of graph.now).size }
     ensures below { result ≤ head }
-    ensures before { (y : ℕ) → y < result → IsFalse (is_seen_from (places_of graph.now) ((places_of graph.now).context head) y) }
+    ensures before { (y : ℕ) → y < result
+        → IsFalse (is_seen_from (places_of graph.now) ((places_of graph.now).context head) y) }
 {
     graph.graph_law();
     let from = graph.context(NodeId(head));
@@ -71,7 +74,8 @@ fn first_seen(graph: &Graph, head: u32) -> u32
 fn past_seen(graph: &Graph, head: u32) -> u32
     requires { head < (graph_of graph.now).size }
     ensures within { result ≤ (graph_of graph.now).size }
-    ensures after { (y : ℕ) → result ≤ y → y < (graph_of graph.now).size → IsFalse (is_seen_from (places_of graph.now) ((places_of graph.now).context head) y) }
+    ensures after { (y : ℕ) → result ≤ y → y < (graph_of graph.now).size
+        → IsFalse (is_seen_from (places_of graph.now) ((places_of graph.now).context head) y) }
 {
     graph.graph_law();
     let from = graph.context(NodeId(head));
@@ -88,8 +92,8 @@ fn past_seen(graph: &Graph, head: u32) -> u32
     past
 }
 
-/// Adds a region to the nodes that it holds. Nodes are numbered by their contexts first, so those that are seen from a
-/// context stand together; no others are looked at.
+/// Adds a region to the nodes that it holds. Nodes are numbered by their contexts first, so those
+/// that are seen from a context stand together; no others are looked at.
 fn place(
     graph: &Graph,
     stated: &RangedLoop,
@@ -100,8 +104,10 @@ fn place(
     requires head { head < (graph_of graph.now).size }
     requires nodes { length holders.old.items ≡ (graph_of graph.now).size }
     ensures nodes { OnOk result (length holders.new.items ≡ (graph_of graph.now).size) }
-    ensures placed { OnOk result ((y : ℕ) → y < (graph_of graph.now).size → row holders.new.items y ≡ row holders.old.items y
-        ++ (if region_holds (places_of graph.now) stated.now ((places_of graph.now).context head) y then r ∷ [] else [])) }
+    ensures placed { OnOk result
+        ((y : ℕ) → y < (graph_of graph.now).size → row holders.new.items y ≡ row holders.old.items y
+        ++ (if region_holds (places_of graph.now) stated.now ((places_of graph.now).context head) y
+        then r ∷ [] else [])) }
 {
     let from = graph.context(NodeId(head));
     for y in first_seen(graph, head)..past_seen(graph, head) {
@@ -135,7 +141,8 @@ pub(crate) fn holders(
     requires { AreHeads (places_of graph.now) loops.now (graph_of graph.now).size heads.now }
     ensures nodes { IfOk result (λ holders. length holders.items ≡ (graph_of graph.now).size) }
     ensures held { IfOk result (λ holders. (y r : ℕ) → y < (graph_of graph.now).size →
-        IsTrue (has (row holders.items y) r) ↔ IsHeldBy (places_of graph.now) loops.now heads.now y r) }
+        IsTrue (has (row holders.items y) r)
+        ↔ IsHeldBy (places_of graph.now) loops.now heads.now y r) }
 {
     graph.graph_law();
     let ranged = ranged_loops(alloc, loops)?;

@@ -5,9 +5,10 @@ use crpd_base::{Items, NodeId};
 use std::alloc::{AllocError, Global};
 use std::marker::Model;
 
-/// The regions of a task's graph: one for each stated loop in each context of its head, numbered from 0 by their heads.
-/// A region holds the nodes of its context whose addresses the loop holds, and those of the calls made there. Each is
-/// entered at its head only, and two regions are disjoint or lie one inside the other.
+/// The regions of a task's graph: one for each stated loop in each context of its head, numbered
+/// from 0 by their heads. A region holds the nodes of its context whose addresses the loop holds,
+/// and those of the calls made there. Each is entered at its head only, and two regions are
+/// disjoint or lie one inside the other.
 ///
 /// Contracts see it as the head and the bound of each region, and the regions that hold each node.
 #[derive(Drop)]
@@ -28,7 +29,9 @@ impl Model for Nest {
 
     ghost view = { λ n. record { heads = n.heads; bounds = n.bounds; holders = n.holders } };
 
-    ghost invariant = { λ n. IsStoredNest (record { heads = n.heads; bounds = n.bounds; holders = n.holders }) n.parents n.innermost };
+    ghost invariant = { λ n.
+        IsStoredNest (record { heads = n.heads; bounds = n.bounds; holders = n.holders }) n.parents
+        n.innermost };
 }
 
 impl Nest {
@@ -61,7 +64,8 @@ impl Nest {
         }
     }
 
-    /// The nest once more. Linear in the regions and, for each node, those that hold it. The only error is want of memory.
+    /// The nest once more. Linear in the regions and, for each node, those that hold it. The only
+    /// error is want of memory.
     pub fn copy(&self, alloc: Global) -> Result<Nest, AllocError>
         ensures { IfOk result (λ nest. nest ≡ self.now) }
     {
@@ -101,8 +105,8 @@ impl Nest {
         NodeId(self.heads.as_slice()[r as usize])
     }
 
-    /// How often a kept walk may be at a region's head from an entry into the region until it leaves it: 1 to
-    /// 1,000,000. In constant time.
+    /// How often a kept walk may be at a region's head from an entry into the region until it
+    /// leaves it: 1 to 1,000,000. In constant time.
     pub fn bound(&self, r: u32) -> u32
         requires { r < (nest_of self.now).size }
         ensures { result ≡ (nest_of self.now).bound r }
@@ -118,8 +122,8 @@ impl Nest {
         self.parents.as_slice()[r as usize]
     }
 
-    /// Whether a region holds a node. Its time is at most the number of regions that hold the node. It takes no
-    /// memory.
+    /// Whether a region holds a node. Its time is at most the number of regions that hold the node.
+    /// It takes no memory.
     pub fn holds(&self, r: u32, id: NodeId) -> bool
         requires { id.0 < length self.now.holders }
         ensures { result ≡ (nest_of self.now).holds r id.0 }

@@ -5,7 +5,9 @@ ghost use Rattle.loop_regions.specs.CodeNest.{has, row};
 ghost use Rattle.loop_regions.specs.Inner.Least.{IsLeastNumber};
 ghost use Rattle.loop_regions.specs.Levels.{IsLevel, IsParent};
 ghost use Rattle.loop_regions.specs.Stated.{IsNotNested};
-ghost use Rattle.loop_regions.specs.Inner.FoundRegions.{nest_in, AreAround, lie_across, are_across, is_other, is_better, better, IsInnermost, AreInLine};
+ghost use Rattle.loop_regions.specs.Inner.FoundRegions.{nest_in, AreAround, lie_across, are_across};
+ghost use Rattle.loop_regions.specs.Inner.FoundRegions.{is_other, is_better, better, IsInnermost};
+ghost use Rattle.loop_regions.specs.Inner.FoundRegions.{AreInLine};
 
 use crate::around::is_like_before;
 use crate::found::Regions;
@@ -33,8 +35,8 @@ fn are_across(around: &[Holders], among: &[u32]) -> bool
     among.iter().any(|r| lies_across_any(around, among, *r))
 }
 
-/// The least node in two regions of which neither holds the other. The pairs of a node's regions are looked at where
-/// the node before it has other regions.
+/// The least node in two regions of which neither holds the other. The pairs of a node's regions
+/// are looked at where the node before it has other regions.
 pub(crate) fn not_nested(regions: &Regions, around: &[Holders]) -> Option<u32>
     requires { AreAround (nest_in regions.now) around.now }
     ensures { IsLeastNumber (IsNotNested (nest_in regions.now)) result }

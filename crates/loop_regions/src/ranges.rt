@@ -8,8 +8,8 @@ use crpd_base::LoopAt;
 use std::alloc::{AllocError, Global};
 use std::marker::Model;
 
-/// A stated loop with its ranges by their first addresses, and for each of these the greatest end of it and those before
-/// it. A contract sees it as the loop.
+/// A stated loop with its ranges by their first addresses, and for each of these the greatest end
+/// of it and those before it. A contract sees it as the loop.
 #[derive(Drop)]
 pub(crate) struct RangedLoop<'a> {
     stated: &'a LoopAt,
@@ -65,8 +65,8 @@ impl<'a> RangedLoop<'a> {
         })
     }
 
-    /// Whether the loop holds an address: as its head, or in one of its ranges, each of which includes its first address
-    /// and excludes its second. Logarithmic in the number of ranges.
+    /// Whether the loop holds an address: as its head, or in one of its ranges, each of which
+    /// includes its first address and excludes its second. Logarithmic in the number of ranges.
     pub(crate) fn holds(&self, address: u32) -> bool
         ensures { result ≡ holds self.now address }
     {

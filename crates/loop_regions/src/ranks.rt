@@ -1,5 +1,6 @@
 // Ranks that fall along forward edges, where no cycle is left without back edges.
-ghost use Rattle.std.specs.Prelude.{◌≡◌, ◌<◌, ◌^◌, ℕ, All, IfOk, IfSome, OnOk, IsTrue, Some, length, slice_get, slice_index};
+ghost use Rattle.std.specs.Prelude.{◌≡◌, ◌<◌, ◌^◌, ℕ, All, IfOk, IfSome, OnOk, IsTrue, Some};
+ghost use Rattle.std.specs.Prelude.{length, slice_get, slice_index};
 ghost use Rattle.flat_graph.specs.CodeGraph.{graph_of};
 ghost use Rattle.loop_regions.specs.Stated.{IsForward};
 ghost use Rattle.loop_regions.specs.Inner.FoundRegions.{nest_in, is_back};
@@ -75,7 +76,8 @@ fn without_arrivals(alloc: Global, arrivals: &[u32]) -> Result<Vec<u32>, AllocEr
     Ok(ready)
 }
 
-/// Takes an edge of a ranked node away. Its target is ready where that was the last edge that arrived there.
+/// Takes an edge of a ranked node away. Its target is ready where that was the last edge that
+/// arrived there.
 fn take_away(
     graph: &Graph,
     regions: &Regions,
@@ -102,8 +104,9 @@ fn take_away(
     Ok(())
 }
 
-/// A number for each node: each node is ranked once all nodes with forward edges to it are, below them. Nodes that this
-/// leaves out have rank 0; there are such nodes only where a cycle is. Each edge is looked at twice.
+/// A number for each node: each node is ranked once all nodes with forward edges to it are, below
+/// them. Nodes that this leaves out have rank 0; there are such nodes only where a cycle is. Each
+/// edge is looked at twice.
 pub(crate) fn ranks(alloc: Global, graph: &Graph, regions: &Regions) -> Result<Vec<u32>, AllocError>
     requires { length regions.now.holders ≡ (graph_of graph.now).size }
     ensures { IfOk result (λ ranks. length ranks.items ≡ (graph_of graph.now).size) }
@@ -130,7 +133,8 @@ fn falls_along(graph: &Graph, regions: &Regions, ranks: &[u32], u: u32, k: u8) -
     requires node { u < (graph_of graph.now).size }
     requires place { k < 2 }
     requires all { length ranks.now ≡ (graph_of graph.now).size }
-    ensures { IsTrue result → (v : ℕ) → slice_get ((graph_of graph.now).next u) k ≡ Some v → IsForward (graph_of graph.now) (nest_in regions.now) u v
+    ensures { IsTrue result → (v : ℕ) → slice_get ((graph_of graph.now).next u) k ≡ Some v
+        → IsForward (graph_of graph.now) (nest_in regions.now) u v
         → slice_index ranks.now v < slice_index ranks.now u }
 {
     match forward(graph, regions, u, k) {
@@ -143,7 +147,8 @@ fn falls_along(graph: &Graph, regions: &Regions, ranks: &[u32], u: u32, k: u8) -
 pub(crate) fn all_fall(graph: &Graph, regions: &Regions, ranks: &[u32]) -> bool
     requires nodes { length regions.now.holders ≡ (graph_of graph.now).size }
     requires all { length ranks.now ≡ (graph_of graph.now).size }
-    ensures { IsTrue result → (u v : ℕ) → IsForward (graph_of graph.now) (nest_in regions.now) u v → slice_index ranks.now v < slice_index ranks.now u }
+    ensures { IsTrue result → (u v : ℕ) → IsForward (graph_of graph.now) (nest_in regions.now) u v
+        → slice_index ranks.now v < slice_index ranks.now u }
 {
     graph.graph_law();
     for u in 0..graph.len() {

@@ -27,7 +27,8 @@ fn repeated_head(loops: &[LoopAt], j: usize) -> Option<u32>
     }
 }
 
-/// The least address at which two stated loops have their heads. Pairs of loops are compared; there are at most 64 loops.
+/// The least address at which two stated loops have their heads. Pairs of loops are compared; there
+/// are at most 64 loops.
 pub(crate) fn least_same_head(loops: &[LoopAt]) -> Option<u32>
     ensures { IsLeastNumber (IsSameHead loops.now) result }
 {

@@ -3,7 +3,8 @@ ghost use Rattle.std.specs.Prelude.{◌≡◌, ◌<◌, length, slice_get};
 ghost use Rattle.flat_graph.specs.CodeGraph.{graph_of};
 ghost use Rattle.loop_regions.specs.Inner.Least.{IsLeastNumber};
 ghost use Rattle.loop_regions.specs.Stated.{IsSecondEntry};
-ghost use Rattle.loop_regions.specs.Inner.FoundRegions.{nest_in, is_inside_some, enters, EntersFrom, EntersBy, IsInsideStart};
+ghost use Rattle.loop_regions.specs.Inner.FoundRegions.{nest_in, is_inside_some, enters};
+ghost use Rattle.loop_regions.specs.Inner.FoundRegions.{EntersFrom, EntersBy, IsInsideStart};
 
 use crate::found::Regions;
 use crate::least::lesser;
@@ -38,7 +39,8 @@ pub(crate) fn next(graph: &Graph, u: u32, k: u8) -> Option<u32>
     graph.succ(NodeId(u), k).map(|id| id.0)
 }
 
-/// The first or second successor of a node, where that edge enters a region of which it is not the head.
+/// The first or second successor of a node, where that edge enters a region of which it is not the
+/// head.
 fn entered_by(graph: &Graph, regions: &Regions, u: u32, k: u8) -> Option<u32>
     requires nodes { length regions.now.holders ≡ (graph_of graph.now).size }
     requires node { u < (graph_of graph.now).size }
@@ -77,7 +79,8 @@ fn inside_start(graph: &Graph, regions: &Regions) -> Option<u32>
     }
 }
 
-/// The least node at which a region is entered of which it is not the head. Each edge is looked at once.
+/// The least node at which a region is entered of which it is not the head. Each edge is looked at
+/// once.
 pub(crate) fn least_second_entry(graph: &Graph, regions: &Regions) -> Option<u32>
     requires { length regions.now.holders ≡ (graph_of graph.now).size }
     ensures { IsLeastNumber (IsSecondEntry (graph_of graph.now) (nest_in regions.now)) result }

@@ -1,19 +1,23 @@
 // The laws on the steps of a task's jobs.
 ghost use Rattle.std.specs.Prelude.{◌<◌, length};
-ghost use Rattle.loop_regions.specs.TaskSteps.{IsGraphOfTask, IsNestOfTask, TaskPathLaw, TaskPathEndLaw, TaskReturnLaw, TaskWalkLaw, TaskWalkEndLaw};
+ghost use Rattle.loop_regions.specs.TaskSteps.{IsGraphOfTask, IsNestOfTask, TaskPathLaw};
+ghost use Rattle.loop_regions.specs.TaskSteps.{TaskPathEndLaw, TaskReturnLaw, TaskWalkLaw};
+ghost use Rattle.loop_regions.specs.TaskSteps.{TaskWalkEndLaw};
 
 use crate::nest::Nest;
 use code_map::CodeMap;
 use crpd_base::Task;
 use flat_graph::{Graph, flat_graph_law};
 
-/// A law on any list of steps of a task that starts at its entry: each step is an instruction of the code map, begins
-/// where the step before it ended, and goes where the instruction goes for some registers.
+/// A law on any list of steps of a task that starts at its entry: each step is an instruction of
+/// the code map, begins where the step before it ended, and goes where the instruction goes for
+/// some registers.
 ///
-/// While the watch by the task's plan is not broken and its bottom frame has not returned, the calls under way and
-/// the addresses of all moments are a walk of the task's graph, and those of the last moment name the walk's last
-/// node. Where the job then answers, by an ECALL or by a return of its bottom frame, the last node is an answering
-/// one. That return is the only step after which no frame is left; it goes to 0xFFFFFFFC. It takes no memory.
+/// While the watch by the task's plan is not broken and its bottom frame has not returned, the
+/// calls under way and the addresses of all moments are a walk of the task's graph, and those of
+/// the last moment name the walk's last node. Where the job then answers, by an ECALL or by a
+/// return of its bottom frame, the last node is an answering one. That return is the only step
+/// after which no frame is left; it goes to 0xFFFFFFFC. It takes no memory.
 pub fn path_law(code: &CodeMap, task: Task, graph: &Graph)
     requires task { task.0 < length code.now.plans }
     requires graph { IsGraphOfTask code.now task.0 graph.now }
@@ -25,8 +29,8 @@ pub fn path_law(code: &CodeMap, task: Task, graph: &Graph)
     flat_graph_law();
 }
 
-/// With the nest of the plan's loops, the same walk is a kept walk, and the open loops of the watch's frames have the
-/// counts of the walk. It takes no memory.
+/// With the nest of the plan's loops, the same walk is a kept walk, and the open loops of the
+/// watch's frames have the counts of the walk. It takes no memory.
 pub fn walk_law(code: &CodeMap, task: Task, graph: &Graph, nest: &Nest)
     requires task { task.0 < length code.now.plans }
     requires graph { IsGraphOfTask code.now task.0 graph.now }

@@ -7,6 +7,7 @@ pub enum Way {
     Back,
     /// It leads to none of their heads, and leaves none of them.
     Inside,
-    /// It leads to none of their heads, and leaves some of them: the number of the outermost that it leaves.
+    /// It leads to none of their heads, and leaves some of them: the number of the outermost that
+    /// it leaves.
     Exit(u32),
 }

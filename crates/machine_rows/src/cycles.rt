@@ -12,8 +12,8 @@ use preempt_machine::{End, Fetch, Machine};
 use std::process::Abort;
 use std::test::Fail;
 
-// What is seen after each cycle of a stretch, which ends when so many cycles were made: the owner, the pc of the low job
-// and of the high one, the fetch of the cycle, and how the two jobs stand.
+// What is seen after each cycle of a stretch, which ends when so many cycles were made: the owner,
+// the pc of the low job and of the high one, the fetch of the cycle, and how the two jobs stand.
 #[derive(Clone, Copy)]
 struct Stretch {
     until: u64,

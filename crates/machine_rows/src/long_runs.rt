@@ -32,8 +32,9 @@ type Long = (
 );
 
 static LONG: [Long; 3] = [
-    // stretches of cycles in which no job is ready, of a switch and of an instruction: the low job is switched to for 65,535
-    // cycles, and 34,465 of its first fetch are used when the high job comes
+    // stretches of cycles in which no job is ready, of a switch and of an instruction: the low job
+    // is switched to for 65,535 cycles, and 34,465 of its first fetch are used when the high job
+    // comes
     (
         &PAIR,
         DEAR,
@@ -51,8 +52,9 @@ static LONG: [Long; 3] = [
             End::Unreleased,
         ],
     ),
-    // a job that never ends, for 2^32 cycles: 131,070 for each of its instructions, which end at the multiples of these. The
-    // high job comes at 2^31. It takes the core at once, or at the instruction's end 131,070 * 16,385
+    // a job that never ends, for 2^32 cycles: 131,070 for each of its instructions, which end at
+    // the multiples of these. The high job comes at 2^31. It takes the core at once, or at the
+    // instruction's end 131,070 * 16,385
     (
         &SPINNER,
         DEAR,

@@ -3,9 +3,9 @@ use rv_core::DataMemory;
 use std::process::Abort;
 use std::test::Fail;
 
-// Where bytes are put, and the bytes, one after the other: over the end of a page of 64 bytes; fewer
-// over some of these; no byte; zeros where nothing is stored; zeros before another byte; more than a
-// page; and up to the end of memory.
+// Where bytes are put, and the bytes, one after the other: over the end of a page of 64 bytes;
+// fewer over some of these; no byte; zeros where nothing is stored; zeros before another byte; more
+// than a page; and up to the end of memory.
 static PUTS: [(u32, &[u8]); 7] = [
     (0x103C, &[1, 2, 3, 4, 5, 6, 7, 8]),
     (0x103F, &[0, 9, 0]),

@@ -15,8 +15,9 @@ use std::alloc::Global;
 use std::process::Abort;
 use std::test::Fail;
 
-// A script over programs: its cycles, the blocks that the cache begins with, and its jobs by task, arrival and release; and
-// what comes of it where that is told here: how the jobs end, and whether it is kept.
+// A script over programs: its cycles, the blocks that the cache begins with, and its jobs by task,
+// arrival and release; and what comes of it where that is told here: how the jobs end, and whether
+// it is kept.
 #[derive(Clone, Copy)]
 pub(crate) struct Case {
     pub(crate) programs: &'static [Program<'static>],

@@ -30,7 +30,8 @@ fn jobs_of(alloc: Global, jobs: &[(u8, u64, u64)]) -> Result<Vec<ScriptJob>, All
     Ok(lines)
 }
 
-// A script of a set's tasks: its cycles, the blocks that the cache begins with, and its jobs by task, arrival and release.
+// A script of a set's tasks: its cycles, the blocks that the cache begins with, and its jobs by
+// task, arrival and release.
 pub(crate) fn script_of(
     alloc: Global,
     set: &TaskSet,

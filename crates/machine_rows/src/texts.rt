@@ -185,7 +185,8 @@ static LATE: [Job; 7] = [
     (1, 1090, 1090, 2, End::Unreleased),
 ];
 
-// A job that is not answered is late from its arrival plus its response on, and one that is answered later than that.
+// A job that is not answered is late from its arrival plus its response on, and one that is
+// answered later than that.
 #[test]
 fn made_inputs(rt: HostRuntime) -> Result<(), Fail> {
     let alloc = rt.alloc();

@@ -1,5 +1,7 @@
--- One walk to each node, and in which sets an edge brings something else than the walk that was taken.
-use Rattle.std.specs.Prelude.{◌≡◌, ◌↔◌, ℕ, ◌<◌, List, length, slice_index_or, Option, Some, None, Bool, false}
+-- One walk to each node, and in which sets an edge brings something else than the walk that was
+-- taken.
+use Rattle.std.specs.Prelude.{◌≡◌, ◌↔◌, ℕ, ◌<◌, List, length, slice_index_or, Option, Some, None}
+use Rattle.std.specs.Prelude.{Bool, false}
 use Rattle.crpd_base.specs.Sets.{has}
 use Rattle.flat_graph.specs.Graph.{Graph, IsLeader}
 use Rattle.icache.specs.Cache.{Cache, held}
@@ -8,17 +10,22 @@ use Rattle.must_cache.specs.Marks.{sets_at}
 use Rattle.must_cache.specs.Sure.{Sure, CountsSureHits}
 use Rattle.must_cache.specs.States.{state_at}
 
--- what a leader surely holds: the set is not among the unsure ones, and the state at the leader's place has the block
-pub record IsSureLeader (g : Graph) (a : Accesses) (place : Option ℕ) (states : List Cache) (unsure : List ℕ) (y : ℕ) : Type 0 where
+-- what a leader surely holds: the set is not among the unsure ones, and the state at the leader's
+-- place has the block
+pub record IsSureLeader (g : Graph) (a : Accesses) (place : Option ℕ) (states : List Cache)
+    (unsure : List ℕ) (y : ℕ) : Type 0 where
   pub at : ℕ
   pub is : place ≡ Some at
   pub within : at < length states
-  pub each : (s m : ℕ) → ((has unsure s ≡ false) × (held (state_at states at) s ≡ Some m)) ↔ Sure g a y s m
+  pub each : (s m : ℕ) → ((has unsure s ≡ false) × (held (state_at states at) s ≡ Some m))
+      ↔ Sure g a y s m
 
 -- which nodes are hits by Sure, and what the leaders surely hold
-pub record AreSureParts (g : Graph) (a : Accesses) (places : List (Option ℕ)) (states : List Cache) (hits : List Bool) (unsure : List (List ℕ)) : Type 0 where
+pub record AreSureParts (g : Graph) (a : Accesses) (places : List (Option ℕ)) (states : List Cache)
+    (hits : List Bool) (unsure : List (List ℕ)) : Type 0 where
   pub hits_count : length hits ≡ g.size
   pub places_count : length places ≡ g.size
   pub unsure_count : length unsure ≡ g.size
   pub hit : CountsSureHits g a (λ y. slice_index_or hits y false)
-  pub leader : (y : ℕ) → y < g.size → IsLeader g y → IsSureLeader g a (slice_index_or places y None) states (sets_at unsure y) y
+  pub leader : (y : ℕ) → y < g.size → IsLeader g y
+      → IsSureLeader g a (slice_index_or places y None) states (sets_at unsure y) y

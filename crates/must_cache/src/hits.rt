@@ -11,8 +11,9 @@ use flat_graph::Graph;
 use icache::Geometry;
 use std::alloc::{AllocError, Global};
 
-/// Which nodes are hits on all walks, by the nodes' numbers, from their must states: their own cache set surely holds
-/// their block. The one error is want of memory. It looks at each node once and takes a byte for each.
+/// Which nodes are hits on all walks, by the nodes' numbers, from their must states: their own
+/// cache set surely holds their block. The one error is want of memory. It looks at each node once
+/// and takes a byte for each.
 pub fn hits_of_states<const S: usize>(
     alloc: Global,
     graph: &Graph,
@@ -20,7 +21,8 @@ pub fn hits_of_states<const S: usize>(
     must: &[MustState<S>],
 ) -> Result<Vec<bool>, AllocError>
     requires room { geometry.now.platform.sets ≤ S }
-    requires sure { AreSure (graph_of graph.now) (accesses geometry.now.platform (places_of graph.now).address) must.now }
+    requires sure { AreSure (graph_of graph.now)
+        (accesses geometry.now.platform (places_of graph.now).address) must.now }
     ensures count { IfOk result (λ hits. length hits.items ≡ (graph_of graph.now).size) }
     ensures each { IfOk result (λ hits. CountsSureHits (graph_of graph.now)
         (accesses geometry.now.platform (places_of graph.now).address)

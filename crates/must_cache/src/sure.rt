@@ -1,5 +1,7 @@
-// Which nodes are hits on all walks, and what leaders surely hold, from one walk to each node and the sets in which others differ.
-ghost use Rattle.std.specs.Prelude.{◌≡◌, ℕ, ◌<◌, ◌≤◌, ◌*◌, None, Some, IfOk, IsSome, IsTrue, ◌↔◌, length, slice_index_or, false};
+// Which nodes are hits on all walks, and what leaders surely hold, from one walk to each node and
+// the sets in which others differ.
+ghost use Rattle.std.specs.Prelude.{◌≡◌, ℕ, ◌<◌, ◌≤◌, ◌*◌, None, Some, IfOk, IsSome, IsTrue, ◌↔◌};
+ghost use Rattle.std.specs.Prelude.{length, slice_index_or, false};
 ghost use Rattle.crpd_base.specs.Sets.{has};
 ghost use Rattle.icache.specs.Accesses.{accesses};
 ghost use Rattle.flat_graph.specs.Graph.{IsLeader};
@@ -18,11 +20,12 @@ use flat_graph::Graph;
 use icache::Geometry;
 use std::alloc::{AllocError, Global};
 
-/// Which nodes of a graph are hits on all walks, and what its leaders surely hold. `sure_at` reads the latter.
+/// Which nodes of a graph are hits on all walks, and what its leaders surely hold. `sure_at` reads
+/// the latter.
 #[derive(Drop)]
 pub struct SureParts<const S: usize, const W: usize> {
-    /// For each node the place of its state among `states`, where it is a leader; the numbers of other nodes mean
-    /// nothing.
+    /// For each node the place of its state among `states`, where it is a leader; the numbers of
+    /// other nodes mean nothing.
     pub places: Vec<Option<usize>>,
     /// What one walk to each leader leaves in the cache sets.
     pub states: Vec<MustState<S>>,
@@ -39,7 +42,9 @@ fn all_sets<const W: usize>(
 ) -> Result<Vec<SetBits<W>>, AllocError>
     requires { (n : ℕ) → n < length facts.now → IsSome (slice_index_or facts.now n None) }
     ensures count { IfOk result (λ sets. length sets.items ≡ length facts.now) }
-    ensures each { IfOk result (λ sets. (n : ℕ) → n < length facts.now → slice_index_or facts.now n None ≡ Some (sets_at sets.items n)) }
+    ensures each { IfOk result
+        (λ sets. (n : ℕ) → n < length facts.now
+        → slice_index_or facts.now n None ≡ Some (sets_at sets.items n)) }
 {
     let mut all = Vec::with_capacity(alloc, facts.len())?;
     for fact in facts {
@@ -74,7 +79,8 @@ fn sure_ones<const W: usize>(
     ensures count { IfOk result (λ sure. length sure.items ≡ (graph_of graph.now).size) }
     ensures each { IfOk result (λ sure. (y : ℕ) → y < (graph_of graph.now).size →
         IsTrue (slice_index_or sure.items y false) ↔ (IsTrue (slice_index_or hits.now y false)
-        × (has (sets_at unsure.now y) ((accesses geometry.now.platform (places_of graph.now).address).set y) ≡ false))) }
+        × (has (sets_at unsure.now y)
+        ((accesses geometry.now.platform (places_of graph.now).address).set y) ≡ false))) }
 {
     let mut sure = Vec::with_capacity(alloc, hits.len())?;
     for node in 0..graph.len() {
@@ -84,12 +90,13 @@ fn sure_ones<const W: usize>(
     Ok(sure)
 }
 
-/// Which nodes are hits on all walks, and what leaders surely hold. One walk is taken to each node, and each edge to
-/// a leader that was met before is compared once; the sets in which it differs go along the edges.
+/// Which nodes are hits on all walks, and what leaders surely hold. One walk is taken to each node,
+/// and each edge to a leader that was met before is compared once; the sets in which it differs go
+/// along the edges.
 ///
-/// The one refusal is want of memory; a state for each leader is taken, of 8 bytes for each of S sets, one for each
-/// node of a walk whose edges are still to be followed, and some three sets of numbers for each node. An edge is
-/// followed again where the sets at its source have grown.
+/// The one refusal is want of memory; a state for each leader is taken, of 8 bytes for each of S
+/// sets, one for each node of a walk whose edges are still to be followed, and some three sets of
+/// numbers for each node. An edge is followed again where the sets at its source have grown.
 pub fn sure_parts<const S: usize, const W: usize>(
     alloc: Global,
     graph: &Graph,
@@ -98,7 +105,9 @@ pub fn sure_parts<const S: usize, const W: usize>(
     requires room { geometry.now.platform.sets ≤ S }
     requires few { 64 * W ≤ 65536 }
     requires room_for_sets { S ≤ 64 * W }
-    ensures { IfOk result (λ p. AreSureParts (graph_of graph.now) (accesses geometry.now.platform (places_of graph.now).address)
+    ensures { IfOk result (λ p.
+        AreSureParts (graph_of graph.now)
+        (accesses geometry.now.platform (places_of graph.now).address)
         p.places.items p.states.items p.hits.items p.unsure.items) }
 {
     graph.graph_law();
@@ -129,8 +138,8 @@ pub fn sure_parts<const S: usize, const W: usize>(
     })
 }
 
-/// The block that a cache set surely holds before a leader, None where none is known. It takes no memory. In constant
-/// time.
+/// The block that a cache set surely holds before a leader, None where none is known. It takes no
+/// memory. In constant time.
 pub fn sure_at<const S: usize, const W: usize>(
     parts: &SureParts<S, W>,
     graph: &Graph,
@@ -143,9 +152,12 @@ pub fn sure_at<const S: usize, const W: usize>(
     requires room_for_sets { S ≤ 64 * W }
     requires node { leader.0 < (graph_of graph.now).size }
     requires leader { IsLeader (graph_of graph.now) leader.0 }
-    requires parts { AreSureParts (graph_of graph.now) (accesses geometry.now.platform (places_of graph.now).address)
+    requires parts { AreSureParts (graph_of graph.now)
+        (accesses geometry.now.platform (places_of graph.now).address)
         parts.now.places.items parts.now.states.items parts.now.hits.items parts.now.unsure.items }
-    ensures { (m : ℕ) → (result ≡ Some m) ↔ Sure (graph_of graph.now) (accesses geometry.now.platform (places_of graph.now).address) leader.0 set m }
+    ensures { (m : ℕ) → (result ≡ Some m)
+        ↔ Sure (graph_of graph.now) (accesses geometry.now.platform (places_of graph.now).address)
+        leader.0 set m }
 {
     let node = leader.0 as usize;
     let Some(place) = parts.places[node] else {
@@ -158,8 +170,9 @@ pub fn sure_at<const S: usize, const W: usize>(
     }
 }
 
-/// Which nodes are hits on all walks, by the nodes' numbers: their own cache set surely holds their block. The one
-/// refusal is want of memory; time and memory are those of `sure_parts`, of which the hits alone are kept.
+/// Which nodes are hits on all walks, by the nodes' numbers: their own cache set surely holds their
+/// block. The one refusal is want of memory; time and memory are those of `sure_parts`, of which
+/// the hits alone are kept.
 pub fn sure_hits<const S: usize, const W: usize>(
     alloc: Global,
     graph: &Graph,

@@ -1,10 +1,12 @@
 // Which sets do not surely hold what one walk leaves there, as a dataflow problem along the edges.
-ghost use Rattle.std.specs.Prelude.{◌≡◌, ℕ, ◌<◌, ◌≤◌, ◌*◌, ◌==◌, if◌then◌else◌, Some, length, false};
+ghost use Rattle.std.specs.Prelude.{◌≡◌, ℕ, ◌<◌, ◌≤◌, ◌*◌, ◌==◌, if◌then◌else◌, Some, length};
+ghost use Rattle.std.specs.Prelude.{false};
 ghost use Rattle.crpd_base.specs.Sets.{has};
 ghost use Rattle.icache.specs.Accesses.{accesses};
 ghost use Rattle.flat_graph.specs.CodeGraph.{graph_of, places_of};
 ghost use Rattle.must_cache.specs.Marks.{sets_at};
-ghost use Rattle.must_cache.specs.Inner.Marks.{Marks, either_marks, marks_after_access, marks_below};
+ghost use Rattle.must_cache.specs.Inner.Marks.{Marks, either_marks, marks_after_access};
+ghost use Rattle.must_cache.specs.Inner.Marks.{marks_below};
 ghost use Rattle.must_cache.specs.Inner.MarkLaws.{either_joins, unmarked_distributes, few_marked};
 
 use crpd_base::{NodeId, SetBits};
@@ -40,7 +42,9 @@ impl<const W: usize> Domain for Unsure<'_, W> {
 
     ghost joined = { either_marks };
 
-    ghost passed = { λ d n before. marks_after_access (accesses d.geometry.now.platform (places_of d.graph.now).address) n before };
+    ghost passed = { λ d n before.
+        marks_after_access (accesses d.geometry.now.platform (places_of d.graph.now).address) n
+        before };
 
     ghost begins = { λ d n. Some (λ s. has (sets_at d.apart.now n) s) };
 
@@ -73,7 +77,9 @@ impl<const W: usize> Domain for Unsure<'_, W> {
 
     ghost joins = { either_joins };
 
-    ghost distributes = { λ d n a b. unmarked_distributes (accesses d.geometry.now.platform (places_of d.graph.now).address) n a b };
+    ghost distributes = { λ d n a b.
+        unmarked_distributes (accesses d.geometry.now.platform (places_of d.graph.now).address) n a
+        b };
 
     ghost bounded = { λ d v. few_marked v (64 * W) };
 }

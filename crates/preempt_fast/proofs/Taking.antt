@@ -1,5 +1,6 @@
 -- The moves of the parts.
-use Rattle.std.proofs.Common.{◌≡◌, ℕ, ◌+◌, ◌-◌, ◌<◌, ◌≤◌, true, List, length, Some, refl, sym, ◌∙◌, ap, subst, arith, get_or-set_same}
+use Rattle.std.proofs.Common.{◌≡◌, ℕ, ◌+◌, ◌-◌, ◌<◌, ◌≤◌, true, List, length, Some, refl, sym, ◌∙◌}
+use Rattle.std.proofs.Common.{ap, subst, arith, get_or-set_same}
 use Rattle.std.specs.Prelude.{slice_set}
 use Rattle.crpd_base.specs.declared.data.ScriptJob.{ScriptJob}
 use Rattle.icache.specs.declared.Geometry.{Geometry}
@@ -7,14 +8,17 @@ use Rattle.code_map.specs.Words.{Code}
 use Rattle.preempt_machine.specs.Machine.{System, Job, Machine, job_at, no_job}
 use Rattle.preempt_machine.specs.Step.{candidate, is_open, run, Turn, turn_of}
 use Rattle.preempt_machine.specs.Running.{system_by, HasPlan, HasPlans}
-use Rattle.preempt_machine.specs.Schedule.{script_line, script_lines, due_release, heads_after, completions_after, HasSettled, HasToldReleases, IsHead, IsNextRelease}
+use Rattle.preempt_machine.specs.Schedule.{script_line, script_lines, due_release, heads_after}
+use Rattle.preempt_machine.specs.Schedule.{completions_after, HasSettled, HasToldReleases, IsHead}
+use Rattle.preempt_machine.specs.Schedule.{IsNextRelease}
 use Rattle.preempt_machine.proofs.Firsts.{line_is, lines_long}
 use Rattle.preempt_machine.proofs.Taken.{kept_along}
 use Rattle.preempt_machine.proofs.CandidateTurns.{plans_set}
 use Rattle.preempt_fast.specs.declared.parts.Parts.{Parts}
 use Rattle.preempt_machine.specs.declared.queue.Queue.{Queue}
 use Rattle.preempt_machine.specs.declared.schedule.Schedule.{Schedule}
-use Rattle.preempt_fast.specs.Inner.Parts.{fast_machine_of, ComesByTurns, HasMadeFastSteps, HasTakenTurns, IsFastMachine}
+use Rattle.preempt_fast.specs.Inner.Parts.{fast_machine_of, ComesByTurns, HasMadeFastSteps}
+use Rattle.preempt_fast.specs.Inner.Parts.{HasTakenTurns, IsFastMachine}
 use Rattle.preempt_fast.specs.Stretch.{machine_after_turns}
 use Rattle.preempt_fast.specs.Inner.Stretch.{turn_after_steps, HasMoved}
 use Rattle.preempt_machine.proofs.Runs.{run_line, run_more, run_time}
@@ -22,7 +26,16 @@ use Rattle.preempt_fast.proofs.Keeping.{head_stays, kept_by, no_release}
 use Rattle.preempt_fast.proofs.Stretches.{left_by, owner_keeps_in, run_by, stays_by, IsStretch}
 
 -- a state by what a job's moves leave
-pub comes_by : (sys : System) (m new : Machine) (place until time : ℕ) (u : Turn) → HasMoved sys m.time time (turn_of sys m place) u → m.time < time → time ≤ until → new ≡ record { time = time; cache = u.cache; memory = u.memory; owner = Some place; switch_left = u.switch_left; jobs = slice_set m.jobs place u.job } → ComesByTurns sys until place m new
+pub comes_by : (sys : System) (m new : Machine) (place until time : ℕ) (u : Turn)
+    → HasMoved sys m.time time (turn_of sys m place) u → m.time < time → time ≤ until
+    → new ≡ record {
+      time = time;
+      cache = u.cache;
+      memory = u.memory;
+      owner = Some place;
+      switch_left = u.switch_left;
+      jobs = slice_set m.jobs place u.job;
+    } → ComesByTurns sys until place m new
 comes_by sys m new place until time u h later within e =
     let all : time ≡ m.time + (time - m.time) = omega arith in
     record {
@@ -30,7 +43,14 @@ comes_by sys m new place until time u h later within e =
       some = omega arith;
       within = omega arith;
       state = e
-          ∙ ap (λ n. record { time = n; cache = u.cache; memory = u.memory; owner = Some place; switch_left = u.switch_left; jobs = slice_set m.jobs place u.job }) all
+          ∙ ap (λ n. record {
+            time = n;
+            cache = u.cache;
+            memory = u.memory;
+            owner = Some place;
+            switch_left = u.switch_left;
+            jobs = slice_set m.jobs place u.job;
+          }) all
           ∙ ap (machine_after_turns m (time - m.time) place) h.turn;
       open_before = h.open_before;
     }
@@ -40,56 +60,94 @@ abbrev pub with_schedule : Parts → Schedule → Parts
 with_schedule p s = record p { schedule = s }
 
 -- the state is not changed by what is told
-told_state : (old : Parts) (told : Schedule) → HasToldReleases old.schedule told → fast_machine_of (with_schedule old told) ≡ fast_machine_of old
+told_state : (old : Parts) (told : Schedule) → HasToldReleases old.schedule told
+    → fast_machine_of (with_schedule old told) ≡ fast_machine_of old
 told_state old told h = rw (h.steps, h.owner, h.switch_left, h.jobs) refl
 
 -- what is known where the candidate had its turns
-pub record HasTaken (sys : System) (until : ℕ) (old : Parts) (told : Schedule) (turned : Parts) (place : ℕ) : Type 0 where
+pub record HasTaken (sys : System) (until : ℕ) (old : Parts) (told : Schedule) (turned : Parts)
+    (place : ℕ) : Type 0 where
   pub machine : IsFastMachine old
   pub is_candidate : candidate sys (fast_machine_of old) ≡ Some place
-  pub head : IsHead old.schedule.jobs.items old.schedule.queue.due.items old.schedule.queue.heads.items place
+  pub head : IsHead old.schedule.jobs.items old.schedule.queue.due.items
+      old.schedule.queue.heads.items place
   pub tell : HasToldReleases old.schedule told
   pub turn : HasTakenTurns sys until (with_schedule old told) turned place
-  pub next : told.queue.released < length told.queue.due.items → until ≤ due_release told.queue.due.items told.queue.released
-  pub reach : owner_keeps_in sys (fast_machine_of old) ≡ true → until ≤ old.schedule.steps + (job_at old.schedule.jobs.items place).left
+  pub next : told.queue.released < length told.queue.due.items
+      → until ≤ due_release told.queue.due.items told.queue.released
+  pub reach : owner_keeps_in sys (fast_machine_of old) ≡ true
+      → until ≤ old.schedule.steps + (job_at old.schedule.jobs.items place).left
 
-pub turns_of : (sys : System) (until : ℕ) (old : Parts) (told : Schedule) (turned : Parts) (place : ℕ) → HasTaken sys until old told turned place → ComesByTurns sys until place (fast_machine_of old) (fast_machine_of turned)
-turns_of sys until old told turned place h = subst (λ m. ComesByTurns sys until place m (fast_machine_of turned)) (told_state old told h.tell) h.turn.turns
+pub turns_of : (sys : System) (until : ℕ) (old : Parts) (told : Schedule) (turned : Parts)
+    (place : ℕ) → HasTaken sys until old told turned place
+    → ComesByTurns sys until place (fast_machine_of old) (fast_machine_of turned)
+turns_of sys until old told turned place h =
+    subst (λ m. ComesByTurns sys until place m (fast_machine_of turned))
+    (told_state old told h.tell) h.turn.turns
 
-next_of : (sys : System) (until : ℕ) (old : Parts) (told : Schedule) (turned : Parts) (place : ℕ) → HasTaken sys until old told turned place → told.queue.released < length old.schedule.queue.due.items → until ≤ due_release old.schedule.queue.due.items told.queue.released
-next_of sys until old told turned place h = subst (λ due. told.queue.released < length due → until ≤ due_release due told.queue.released) h.tell.due h.next
+next_of : (sys : System) (until : ℕ) (old : Parts) (told : Schedule) (turned : Parts) (place : ℕ)
+    → HasTaken sys until old told turned place
+    → told.queue.released < length old.schedule.queue.due.items
+    → until ≤ due_release old.schedule.queue.due.items told.queue.released
+next_of sys until old told turned place h =
+    subst (λ due. told.queue.released < length due → until ≤ due_release due told.queue.released)
+    h.tell.due h.next
 
-stretch_of : (sys : System) (until : ℕ) (old : Parts) (told : Schedule) (turned : Parts) (place : ℕ) (h : HasTaken sys until old told turned place) → IsStretch sys (fast_machine_of old) place (turns_of sys until old told turned place h).made
+stretch_of : (sys : System) (until : ℕ) (old : Parts) (told : Schedule) (turned : Parts) (place : ℕ)
+    (h : HasTaken sys until old told turned place)
+    → IsStretch sys (fast_machine_of old) place (turns_of sys until old told turned place h).made
 stretch_of sys until old told turned place h =
     let m = fast_machine_of old in
     let t = turns_of sys until old told turned place h in
     record {
       is_candidate = h.is_candidate;
-      none = no_release _ m old.schedule.queue.due.items _ _ old.schedule.queue.released told.queue.released _ told.completions.items t.made h.machine h.tell.released
+      none =
+          no_release _ m old.schedule.queue.due.items _ _ old.schedule.queue.released
+          told.queue.released _ told.completions.items t.made h.machine h.tell.released
           (λ w. omega (arith, next_of sys until old told turned place h w, t.within));
       open_before = t.open_before;
-      under_way = λ keep j l. omega (arith, left_by sys m.time (turn_of sys m place) j, h.reach keep, t.within);
+      under_way = λ keep j l.
+          omega (arith, left_by sys m.time (turn_of sys m place) j, h.reach keep, t.within);
     }
 
 -- the turns are as many steps
-pub turns_are_steps : (sys : System) (until : ℕ) (old : Parts) (told : Schedule) (turned : Parts) (place : ℕ) (h : HasTaken sys until old told turned place) → fast_machine_of turned ≡ run sys (fast_machine_of old) (turns_of sys until old told turned place h).made
+pub turns_are_steps : (sys : System) (until : ℕ) (old : Parts) (told : Schedule) (turned : Parts)
+    (place : ℕ) (h : HasTaken sys until old told turned place)
+    → fast_machine_of turned
+    ≡ run sys (fast_machine_of old) (turns_of sys until old told turned place h).made
 turns_are_steps sys until old told turned place h =
     let t = turns_of sys until old told turned place h in
-    t.state ∙ sym (run_by sys (fast_machine_of old) place t.made (stretch_of sys until old told turned place h) t.made t.some (omega arith))
+    t.state ∙ sym
+    (run_by sys (fast_machine_of old) place t.made (stretch_of sys until old told turned place h)
+    t.made t.some (omega arith))
 
-pub taken_made : (sys : System) (until most : ℕ) (old : Parts) (told : Schedule) (turned : Parts) (settled : Schedule) (place : ℕ) → HasTaken sys until old told turned place → until ≤ most → HasSettled turned.schedule settled place → HasMadeFastSteps sys most old (with_schedule turned settled)
+pub taken_made : (sys : System) (until most : ℕ) (old : Parts) (told : Schedule) (turned : Parts)
+    (settled : Schedule) (place : ℕ) → HasTaken sys until old told turned place → until ≤ most
+    → HasSettled turned.schedule settled place
+    → HasMadeFastSteps sys most old (with_schedule turned settled)
 taken_made sys until most old told turned settled place h within s =
     let t = turns_of sys until old told turned place h in
     record {
       made = t.made;
       some = t.some;
       within = omega (arith, t.within);
-      state = s.state turned.core.cache turned.core.memory ∙ turns_are_steps sys until old told turned place h;
+      state =
+          s.state turned.core.cache turned.core.memory
+          ∙ turns_are_steps sys until old told turned place h;
       geometry = h.turn.geometry;
     }
 
 -- it is known after its parts
-pub takes : (code : Code) (until most : ℕ) (old : Parts) (told : Schedule) (turned : Parts) (place : ℕ) → IsFastMachine old → candidate (system_by old.core.geometry.platform code) (fast_machine_of old) ≡ Some place → IsHead old.schedule.jobs.items old.schedule.queue.due.items old.schedule.queue.heads.items place → HasToldReleases old.schedule told → HasTakenTurns (system_by old.core.geometry.platform code) until (with_schedule old told) turned place → IsNextRelease told.queue.due.items told.queue.released most until → (owner_keeps_in (system_by old.core.geometry.platform code) (fast_machine_of old) ≡ true → most ≤ old.schedule.steps + (job_at old.schedule.jobs.items place).left) → HasTaken (system_by old.core.geometry.platform code) until old told turned place
+pub takes : (code : Code) (until most : ℕ) (old : Parts) (told : Schedule) (turned : Parts)
+    (place : ℕ) → IsFastMachine old
+    → candidate (system_by old.core.geometry.platform code) (fast_machine_of old) ≡ Some place
+    → IsHead old.schedule.jobs.items old.schedule.queue.due.items old.schedule.queue.heads.items
+    place → HasToldReleases old.schedule told
+    → HasTakenTurns (system_by old.core.geometry.platform code) until (with_schedule old told)
+    turned place → IsNextRelease told.queue.due.items told.queue.released most until
+    → (owner_keeps_in (system_by old.core.geometry.platform code) (fast_machine_of old) ≡ true
+    → most ≤ old.schedule.steps + (job_at old.schedule.jobs.items place).left)
+    → HasTaken (system_by old.core.geometry.platform code) until old told turned place
 takes code until most old told turned place machine is head tell turn next reach =
     record {
       machine = machine;
@@ -102,39 +160,68 @@ takes code until most old told turned place machine is head tell turn next reach
     }
 
 -- the order and the completions before it is told how the job stands
-heads_of : (sys : System) (until : ℕ) (old : Parts) (told : Schedule) (turned : Parts) (place : ℕ) → HasTaken sys until old told turned place → turned.schedule.queue.heads.items ≡ old.schedule.queue.heads.items
-heads_of sys until old told turned place h = ap (λ (q : Queue). q.heads.items) h.turn.queue ∙ h.tell.heads
+heads_of : (sys : System) (until : ℕ) (old : Parts) (told : Schedule) (turned : Parts) (place : ℕ)
+    → HasTaken sys until old told turned place
+    → turned.schedule.queue.heads.items ≡ old.schedule.queue.heads.items
+heads_of sys until old told turned place h =
+    ap (λ (q : Queue). q.heads.items) h.turn.queue ∙ h.tell.heads
 
-due_of : (sys : System) (until : ℕ) (old : Parts) (told : Schedule) (turned : Parts) (place : ℕ) → HasTaken sys until old told turned place → turned.schedule.queue.due.items ≡ old.schedule.queue.due.items
+due_of : (sys : System) (until : ℕ) (old : Parts) (told : Schedule) (turned : Parts) (place : ℕ)
+    → HasTaken sys until old told turned place
+    → turned.schedule.queue.due.items ≡ old.schedule.queue.due.items
 due_of sys until old told turned place h = ap (λ (q : Queue). q.due.items) h.turn.queue ∙ h.tell.due
 
-later_of : (sys : System) (until : ℕ) (old : Parts) (told : Schedule) (turned : Parts) (place : ℕ) → HasTaken sys until old told turned place → turned.schedule.queue.later.items ≡ old.schedule.queue.later.items
-later_of sys until old told turned place h = ap (λ (q : Queue). q.later.items) h.turn.queue ∙ h.tell.later
+later_of : (sys : System) (until : ℕ) (old : Parts) (told : Schedule) (turned : Parts) (place : ℕ)
+    → HasTaken sys until old told turned place
+    → turned.schedule.queue.later.items ≡ old.schedule.queue.later.items
+later_of sys until old told turned place h =
+    ap (λ (q : Queue). q.later.items) h.turn.queue ∙ h.tell.later
 
-head_along : (js ks : List Job) (due dues : List (ℕ × ℕ)) (heads hs : List ℕ) (i : ℕ) → ks ≡ js → dues ≡ due → hs ≡ heads → IsHead js due heads i → IsHead ks dues hs i
+head_along : (js ks : List Job) (due dues : List (ℕ × ℕ)) (heads hs : List ℕ) (i : ℕ) → ks ≡ js
+    → dues ≡ due → hs ≡ heads → IsHead js due heads i → IsHead ks dues hs i
 head_along js ks due dues heads hs i a b c h = rw (a, b, c) h
 
-pub taken_head : (sys : System) (until : ℕ) (old : Parts) (told : Schedule) (turned : Parts) (place : ℕ) → HasTaken sys until old told turned place → IsHead turned.schedule.jobs.items turned.schedule.queue.due.items turned.schedule.queue.heads.items place
+pub taken_head : (sys : System) (until : ℕ) (old : Parts) (told : Schedule) (turned : Parts)
+    (place : ℕ) → HasTaken sys until old told turned place
+    → IsHead turned.schedule.jobs.items turned.schedule.queue.due.items
+    turned.schedule.queue.heads.items place
 taken_head sys until old told turned place h =
     let m = fast_machine_of old in
     let t = turns_of sys until old told turned place h in
-    let jobs : turned.schedule.jobs.items ≡ (run sys m t.made).jobs = ap (λ (n : Machine). n.jobs) (turns_are_steps sys until old told turned place h) in
-    head_along (run sys m t.made).jobs turned.schedule.jobs.items old.schedule.queue.due.items turned.schedule.queue.due.items old.schedule.queue.heads.items turned.schedule.queue.heads.items place jobs (due_of sys until old told turned place h) (heads_of sys until old told turned place h) (head_stays sys m old.schedule.queue.due.items old.schedule.queue.heads.items place t.made h.head)
+    let jobs : turned.schedule.jobs.items ≡ (run sys m t.made).jobs =
+    ap (λ (n : Machine). n.jobs) (turns_are_steps sys until old told turned place h) in
+    head_along (run sys m t.made).jobs turned.schedule.jobs.items old.schedule.queue.due.items
+    turned.schedule.queue.due.items old.schedule.queue.heads.items turned.schedule.queue.heads.items
+    place jobs (due_of sys until old told turned place h)
+    (heads_of sys until old told turned place h)
+    (head_stays sys m old.schedule.queue.due.items old.schedule.queue.heads.items place
+    t.made h.head)
 
-pub taken_task : (sys : System) (until : ℕ) (old : Parts) (told : Schedule) (turned : Parts) (place : ℕ) → HasTaken sys until old told turned place → (job_at turned.schedule.jobs.items place).line.task.0 < length turned.schedule.queue.heads.items
+pub taken_task : (sys : System) (until : ℕ) (old : Parts) (told : Schedule) (turned : Parts)
+    (place : ℕ) → HasTaken sys until old told turned place
+    → (job_at turned.schedule.jobs.items place).line.task.0
+    < length turned.schedule.queue.heads.items
 taken_task sys until old told turned place h =
     let m = fast_machine_of old in
     let t = turns_of sys until old told turned place h in
-    let jobs : turned.schedule.jobs.items ≡ (run sys m t.made).jobs = ap (λ (n : Machine). n.jobs) (turns_are_steps sys until old told turned place h) in
-    let line = ap (λ js. (job_at js place).line) jobs ∙ run_line sys m t.made place ∙ sym (line_is m.jobs place) in
-    let below : (script_line (script_lines m.jobs) place).task.0 < length old.schedule.queue.heads.items = h.machine.waiting.tasks place (omega (arith, h.head.below, lines_long m.jobs)) in
-    rw (heads_of sys until old told turned place h) (subst (λ (l : ScriptJob). l.task.0 < length old.schedule.queue.heads.items) (sym line) below)
+    let jobs : turned.schedule.jobs.items ≡ (run sys m t.made).jobs =
+    ap (λ (n : Machine). n.jobs) (turns_are_steps sys until old told turned place h) in
+    let line = ap (λ js. (job_at js place).line) jobs ∙ run_line sys m t.made place
+    ∙ sym (line_is m.jobs place) in
+    let below : (script_line (script_lines m.jobs) place).task.0
+    < length old.schedule.queue.heads.items =
+    h.machine.waiting.tasks place (omega (arith, h.head.below, lines_long m.jobs)) in
+    rw (heads_of sys until old told turned place h)
+    (subst (λ (l : ScriptJob). l.task.0 < length old.schedule.queue.heads.items) (sym line) below)
 
 -- the job after its turns
-own_job : (m : Machine) (place made : ℕ) (u : Turn) → place < length m.jobs → job_at (machine_after_turns m made place u).jobs place ≡ u.job
+own_job : (m : Machine) (place made : ℕ) (u : Turn) → place < length m.jobs
+    → job_at (machine_after_turns m made place u).jobs place ≡ u.job
 own_job m place made u below = get_or-set_same m.jobs place u.job no_job below
 
-pub taken_kept : (sys : System) (until : ℕ) (old : Parts) (told : Schedule) (turned : Parts) (settled : Schedule) (place : ℕ) → HasTaken sys until old told turned place → HasSettled turned.schedule settled place → IsFastMachine (with_schedule turned settled)
+pub taken_kept : (sys : System) (until : ℕ) (old : Parts) (told : Schedule) (turned : Parts)
+    (settled : Schedule) (place : ℕ) → HasTaken sys until old told turned place
+    → HasSettled turned.schedule settled place → IsFastMachine (with_schedule turned settled)
 taken_kept sys until old told turned settled place h s =
     let m = fast_machine_of old in
     let t = turns_of sys until old told turned place h in
@@ -144,12 +231,18 @@ taken_kept sys until old told turned settled place h s =
     let later = old.schedule.queue.later.items in
     let heads = old.schedule.queue.heads.items in
     let told_ends = told.completions.items in
-    let jobs : turned.schedule.jobs.items ≡ n.jobs = ap (λ (x : Machine). x.jobs) (turns_are_steps sys until old told turned place h) in
-    let opening : (j : ℕ) → 1 ≤ j → j < t.made → is_open (job_at (run sys m j).jobs place).standing ≡ true = λ j a b.
-    ap (λ (x : Machine). is_open (job_at x.jobs place).standing) (run_by sys m place t.made stretch j a (omega arith))
-    ∙ ap (λ (x : Job). is_open x.standing) (own_job m place j (turn_after_steps sys m.time (turn_of sys m place) j) h.head.below)
+    let jobs : turned.schedule.jobs.items ≡ n.jobs =
+    ap (λ (x : Machine). x.jobs) (turns_are_steps sys until old told turned place h) in
+    let opening : (j : ℕ) → 1 ≤ j → j < t.made
+    → is_open (job_at (run sys m j).jobs place).standing ≡ true = λ j a b.
+    ap (λ (x : Machine). is_open (job_at x.jobs place).standing)
+    (run_by sys m place t.made stretch j a (omega arith))
+    ∙ ap (λ (x : Job). is_open x.standing)
+    (own_job m place j (turn_after_steps sys m.time (turn_of sys m place) j) h.head.below)
     ∙ t.open_before j b in
-    let kept = kept_by sys old.core.geometry.platform.sets m due later heads old.schedule.queue.released told.queue.released old.schedule.completions.items told_ends place t.made h.machine h.head h.tell.released
+    let kept = kept_by sys old.core.geometry.platform.sets m due later heads
+    old.schedule.queue.released told.queue.released old.schedule.completions.items told_ends place
+    t.made h.machine h.head h.tell.released
     (λ w. omega (arith, next_of sys until old told turned place h w, t.within))
     (stays_by sys m place t.made stretch) opening t.made t.some (omega arith) in
     kept_along old.core.geometry.platform.sets turned.core.geometry.platform.sets
@@ -159,13 +252,17 @@ taken_kept sys until old told turned settled place h s =
     told.queue.released settled.queue.released
     (completions_after n.jobs told_ends place) settled.completions.items
     (ap (λ (g : Geometry). g.platform.sets) h.turn.geometry)
-    (s.state turned.core.cache turned.core.memory ∙ turns_are_steps sys until old told turned place h)
+    (s.state turned.core.cache turned.core.memory
+    ∙ turns_are_steps sys until old told turned place h)
     (s.due ∙ due_of sys until old told turned place h)
     (s.later ∙ later_of sys until old told turned place h)
     (s.heads
-    ∙ ap (λ (js : List Job). heads_after js turned.schedule.queue.later.items turned.schedule.queue.heads.items place) jobs
-    ∙ ap (λ (ls : List ℕ). heads_after n.jobs ls turned.schedule.queue.heads.items place) (later_of sys until old told turned place h)
-    ∙ ap (λ (hs : List ℕ). heads_after n.jobs later hs place) (heads_of sys until old told turned place h))
+    ∙ ap (λ (js : List Job).
+    heads_after js turned.schedule.queue.later.items turned.schedule.queue.heads.items place) jobs
+    ∙ ap (λ (ls : List ℕ). heads_after n.jobs ls turned.schedule.queue.heads.items place)
+    (later_of sys until old told turned place h)
+    ∙ ap (λ (hs : List ℕ). heads_after n.jobs later hs place)
+    (heads_of sys until old told turned place h))
     (s.released ∙ ap (λ (q : Queue). q.released) h.turn.queue)
     (s.completions
     ∙ ap (λ (js : List Job). completions_after js turned.schedule.completions.items place) jobs
@@ -173,21 +270,35 @@ taken_kept sys until old told turned settled place h s =
     kept
 
 -- the plans after a job's turns
-pub taken_plans : (sys : System) (code : Code) (until : ℕ) (old : Parts) (told : Schedule) (turned : Parts) (settled : Schedule) (place : ℕ) → HasTaken sys until old told turned place → HasSettled turned.schedule settled place → HasPlans code (fast_machine_of old) → HasPlan code.plans (job_at turned.schedule.jobs.items place) → HasPlans code (fast_machine_of (with_schedule turned settled))
+pub taken_plans : (sys : System) (code : Code) (until : ℕ) (old : Parts) (told : Schedule)
+    (turned : Parts) (settled : Schedule) (place : ℕ) → HasTaken sys until old told turned place
+    → HasSettled turned.schedule settled place → HasPlans code (fast_machine_of old)
+    → HasPlan code.plans (job_at turned.schedule.jobs.items place)
+    → HasPlans code (fast_machine_of (with_schedule turned settled))
 taken_plans sys code until old told turned settled place h s all one =
     let m = fast_machine_of old in
     let t = turns_of sys until old told turned place h in
     let job = (turn_after_steps sys m.time (turn_of sys m place) t.made).job in
-    let jobs : turned.schedule.jobs.items ≡ slice_set m.jobs place job = ap (λ (n : Machine). n.jobs) t.state in
-    let own : job_at turned.schedule.jobs.items place ≡ job = ap (λ (js : List Job). job_at js place) jobs ∙ get_or-set_same m.jobs place job no_job h.head.below in
-    let settled_jobs : settled.jobs.items ≡ slice_set m.jobs place job = ap (λ (n : Machine). n.jobs) (s.state turned.core.cache turned.core.memory) ∙ jobs in
-    subst (λ (js : List Job). (x : ℕ) → x < length js → HasPlan code.plans (job_at js x)) (sym settled_jobs)
+    let jobs : turned.schedule.jobs.items ≡ slice_set m.jobs place job =
+    ap (λ (n : Machine). n.jobs) t.state in
+    let own : job_at turned.schedule.jobs.items place ≡ job =
+    ap (λ (js : List Job). job_at js place) jobs
+    ∙ get_or-set_same m.jobs place job no_job h.head.below in
+    let settled_jobs : settled.jobs.items ≡ slice_set m.jobs place job =
+    ap (λ (n : Machine). n.jobs) (s.state turned.core.cache turned.core.memory) ∙ jobs in
+    subst (λ (js : List Job). (x : ℕ) → x < length js → HasPlan code.plans (job_at js x))
+    (sym settled_jobs)
     (plans_set code.plans m.jobs place job all (subst (λ (j : Job). HasPlan code.plans j) own one))
 
 -- the time after moves
-pub made_time : (sys : System) (until : ℕ) (old new : Parts) (h : HasMadeFastSteps sys until old new) → new.schedule.steps ≡ old.schedule.steps + h.made
-made_time sys until old new h = ap (λ (m : Machine). m.time) h.state ∙ run_time sys (fast_machine_of old) h.made
+pub made_time : (sys : System) (until : ℕ) (old new : Parts)
+    (h : HasMadeFastSteps sys until old new) → new.schedule.steps ≡ old.schedule.steps + h.made
+made_time sys until old new h =
+    ap (λ (m : Machine). m.time) h.state ∙ run_time sys (fast_machine_of old) h.made
 
-pub made_more : (sys : System) (until : ℕ) (m : Machine) (old new : Parts) → fast_machine_of old ≡ run sys m old.schedule.steps → HasMadeFastSteps sys until old new → fast_machine_of new ≡ run sys m new.schedule.steps
+pub made_more : (sys : System) (until : ℕ) (m : Machine) (old new : Parts)
+    → fast_machine_of old ≡ run sys m old.schedule.steps → HasMadeFastSteps sys until old new
+    → fast_machine_of new ≡ run sys m new.schedule.steps
 made_more sys until m old new before h =
-    h.state ∙ ap (λ n. run sys n h.made) before ∙ run_more sys m old.schedule.steps h.made ∙ ap (run sys m) (sym (made_time sys until old new h))
+    h.state ∙ ap (λ n. run sys n h.made) before ∙ run_more sys m old.schedule.steps h.made
+    ∙ ap (run sys m) (sym (made_time sys until old new h))

@@ -1,5 +1,6 @@
 // The core, and what a job does with it while it has it.
-ghost use Rattle.std.specs.Prelude.{◌≡◌, ℕ, suc, ◌<◌, ◌≤◌, not, length, Some, IfOk, IfSome, IsTrue, OnOk};
+ghost use Rattle.std.specs.Prelude.{◌≡◌, ℕ, suc, ◌<◌, ◌≤◌, not, length, Some, IfOk, IfSome, IsTrue};
+ghost use Rattle.std.specs.Prelude.{OnOk};
 ghost use Rattle.rv_decode.specs.Range.{HasFieldsInRange};
 ghost use Rattle.rv_core.specs.Effect.{next_pc};
 ghost use Rattle.icache.specs.Cache.{cache_after_access, block_of, is_hit, set_of};
@@ -35,7 +36,8 @@ impl Core {
         requires room { self.old.geometry.platform.sets ≤ length self.old.cache }
         requires set { set ≡ set_of self.old.geometry.platform block }
         ensures missed { result ≡ not (is_hit self.old.geometry.platform self.old.cache block) }
-        ensures cache { self.new.cache ≡ cache_after_access self.old.geometry.platform self.old.cache block }
+        ensures cache { self.new.cache
+            ≡ cache_after_access self.old.geometry.platform self.old.cache block }
         ensures memory { self.new.memory ≡ self.old.memory }
         ensures geometry { self.new.geometry ≡ self.old.geometry }
         ensures decoded { self.new.decoded ≡ self.old.decoded }
@@ -45,13 +47,19 @@ impl Core {
 
     /// Fetches a job's instruction, after which it goes on so, and gives its cycles.
     fn fetch(&mut self, job: &Job, found: &Decoding, next: Next) -> u64
-        requires costs { IfSome found.now.meaning (AreCosts self.old.geometry.platform found.now.costs) }
-        requires next { IfSome found.now.meaning (λ ins. next ≡ next_pc ins job.now.pc job.now.registers) }
+        requires costs { IfSome found.now.meaning
+            (AreCosts self.old.geometry.platform found.now.costs) }
+        requires next { IfSome found.now.meaning
+            (λ ins. next ≡ next_pc ins job.now.pc job.now.registers) }
         requires room { self.old.geometry.platform.sets ≤ length self.old.cache }
         requires block { found.now.block ≡ block_of self.old.geometry.platform job.now.pc }
         requires set { found.now.set ≡ set_of self.old.geometry.platform found.now.block }
-        ensures cost { (sys : System) (k : ℕ) (ins : Ins) → sys.platform ≡ self.old.geometry.platform → found.now.meaning ≡ Some ins → result ≡ fetch_cost sys ins (turn_by self.old.cache self.old.memory k job.now) }
-        ensures cache { self.new.cache ≡ cache_after_access self.old.geometry.platform self.old.cache (block_of self.old.geometry.platform job.now.pc) }
+        ensures cost { (sys : System) (k : ℕ) (ins : Ins)
+            → sys.platform ≡ self.old.geometry.platform → found.now.meaning ≡ Some ins
+            → result ≡ fetch_cost sys ins (turn_by self.old.cache self.old.memory k job.now) }
+        ensures cache { self.new.cache
+            ≡ cache_after_access self.old.geometry.platform self.old.cache
+            (block_of self.old.geometry.platform job.now.pc) }
         ensures memory { self.new.memory ≡ self.old.memory }
         ensures geometry { self.new.geometry ≡ self.old.geometry }
         ensures decoded { self.new.decoded ≡ self.old.decoded }
@@ -62,12 +70,17 @@ impl Core {
 
     /// Fetches a job's instruction where none is under way.
     fn begin(&mut self, job: &mut Job, found: &Decoding, next: Next)
-        requires costs { IfSome found.now.meaning (AreCosts self.old.geometry.platform found.now.costs) }
-        requires next { IfSome found.now.meaning (λ ins. next ≡ next_pc ins job.old.pc job.old.registers) }
+        requires costs { IfSome found.now.meaning
+            (AreCosts self.old.geometry.platform found.now.costs) }
+        requires next { IfSome found.now.meaning
+            (λ ins. next ≡ next_pc ins job.old.pc job.old.registers) }
         requires room { self.old.geometry.platform.sets ≤ length self.old.cache }
         requires block { found.now.block ≡ block_of self.old.geometry.platform job.old.pc }
         requires set { found.now.set ≡ set_of self.old.geometry.platform found.now.block }
-        ensures fetched { (sys : System) (k : ℕ) (ins : Ins) → sys.platform ≡ self.old.geometry.platform → found.now.meaning ≡ Some ins → turn_by self.new.cache self.new.memory k job.new ≡ turn_after_fetch sys ins (turn_by self.old.cache self.old.memory k job.old) }
+        ensures fetched { (sys : System) (k : ℕ) (ins : Ins)
+            → sys.platform ≡ self.old.geometry.platform → found.now.meaning ≡ Some ins
+            → turn_by self.new.cache self.new.memory k job.new
+            ≡ turn_after_fetch sys ins (turn_by self.old.cache self.old.memory k job.old) }
         ensures job { job.new ≡ record job.old { left = job.new.left } }
         ensures geometry { self.new.geometry ≡ self.old.geometry }
         ensures decoded { self.new.decoded ≡ self.old.decoded }
@@ -78,8 +91,9 @@ impl Core {
         }
     }
 
-    /// The effect of a job's instruction, which ends at a time, and after which it goes on so. Its watch is not stepped where
-    /// it goes on within the addresses that are quiet for it; where it leaves them, they are found anew.
+    /// The effect of a job's instruction, which ends at a time, and after which it goes on so. Its
+    /// watch is not stepped where it goes on within the addresses that are quiet for it; where it
+    /// leaves them, they are found anew.
     fn finish(
         &mut self,
         job: &mut Job,
@@ -95,7 +109,11 @@ impl Core {
         requires turns { HasIterations (length plan.now.loops) job.old.watch }
         requires open { job.old.standing ≡ Open }
         requires quiet { AreQuiet plan.now job.old.watch quiet.old }
-        ensures ok { OnOk result ((sys : System) (k n : ℕ) → suc n ≡ time → plan_of sys job.old.line.task.0 ≡ plan.now → turn_by self.new.cache self.new.memory k job.new ≡ turn_after_effect sys n ins.now (turn_by self.old.cache self.old.memory k job.old) next) }
+        ensures ok { OnOk result
+            ((sys : System) (k n : ℕ) → suc n ≡ time → plan_of sys job.old.line.task.0 ≡ plan.now
+            → turn_by self.new.cache self.new.memory k job.new
+            ≡ turn_after_effect sys n ins.now
+            (turn_by self.old.cache self.old.memory k job.old) next) }
         ensures turns { OnOk result (HasIterations (length plan.now.loops) job.new.watch) }
         ensures quiet { OnOk result (AreQuiet plan.now job.new.watch quiet.new) }
         ensures geometry { self.new.geometry ≡ self.old.geometry }
@@ -113,10 +131,11 @@ impl Core {
         Ok(())
     }
 
-    /// A job's move: as many cycles of its instruction as are left, but none from a time on. It gives the time after it.
+    /// A job's move: as many cycles of its instruction as are left, but none from a time on. It
+    /// gives the time after it.
     ///
-    /// The job faults where no instruction can be fetched, which takes a cycle. An arrival at one of the addresses that are
-    /// quiet leaves its watch as it is.
+    /// The job faults where no instruction can be fetched, which takes a cycle. An arrival at one
+    /// of the addresses that are quiet leaves its watch as it is.
     fn advance(
         &mut self,
         job: &mut Job,
@@ -128,18 +147,25 @@ impl Core {
     ) -> Result<u64, Memory>
         requires before { now < until }
         requires room { self.old.geometry.platform.sets ≤ length self.old.cache }
-        requires decoded { AreDecodedAddresses self.old.geometry.platform code.now self.old.decoded.places.items }
-        requires plan { plan_of (system_by self.old.geometry.platform code.now) job.old.line.task.0 ≡ plan.now }
+        requires decoded { AreDecodedAddresses self.old.geometry.platform code.now
+            self.old.decoded.places.items }
+        requires plan { plan_of (system_by self.old.geometry.platform code.now) job.old.line.task.0
+            ≡ plan.now }
         requires turns { HasIterations (length plan.now.loops) job.old.watch }
         requires open { job.old.standing ≡ Open }
         requires quiet { AreQuiet plan.now job.old.watch quiet.old }
-        ensures moved { IfOk result (λ time. HasMoved (system_by self.old.geometry.platform code.now) now time (turn_by self.old.cache self.old.memory 0 job.old) (turn_by self.new.cache self.new.memory 0 job.new)) }
+        ensures moved { IfOk result
+            (λ time. HasMoved (system_by self.old.geometry.platform code.now) now time
+            (turn_by self.old.cache self.old.memory 0 job.old)
+            (turn_by self.new.cache self.new.memory 0 job.new)) }
         ensures later { IfOk result (λ time. now < time) }
         ensures within { IfOk result (λ time. time ≤ until) }
         ensures turns { OnOk result (HasIterations (length plan.now.loops) job.new.watch) }
         ensures quiet { OnOk result (AreQuiet plan.now job.new.watch quiet.new) }
         ensures geometry { OnOk result (self.new.geometry ≡ self.old.geometry) }
-        ensures decoded { OnOk result (AreDecodedAddresses self.old.geometry.platform code.now self.new.decoded.places.items) }
+        ensures decoded { OnOk result
+            (AreDecodedAddresses self.old.geometry.platform code.now
+            self.new.decoded.places.items) }
     {
         let found = self.decoded.find(code, &self.geometry, job.pc());
         let Some(ins) = found.meaning else {
@@ -158,8 +184,8 @@ impl Core {
         Ok(time)
     }
 
-    /// The moves of a job that has the core with no switch cycle left, up to a time or until it has answered or faulted.
-    /// It gives the time after them.
+    /// The moves of a job that has the core with no switch cycle left, up to a time or until it has
+    /// answered or faulted. It gives the time after them.
     pub(crate) fn run(
         &mut self,
         job: &mut Job,
@@ -169,15 +195,21 @@ impl Core {
     ) -> Result<u64, Memory>
         requires before { from < until }
         requires room { self.old.geometry.platform.sets ≤ length self.old.cache }
-        requires decoded { AreDecodedAddresses self.old.geometry.platform code.now self.old.decoded.places.items }
+        requires decoded { AreDecodedAddresses self.old.geometry.platform code.now
+            self.old.decoded.places.items }
         requires plan { HasPlan code.now.plans job.old }
         requires open { job.old.standing ≡ Open }
-        ensures moved { IfOk result (λ time. HasMoved (system_by self.old.geometry.platform code.now) from time (turn_by self.old.cache self.old.memory 0 job.old) (turn_by self.new.cache self.new.memory 0 job.new)) }
+        ensures moved { IfOk result
+            (λ time. HasMoved (system_by self.old.geometry.platform code.now) from time
+            (turn_by self.old.cache self.old.memory 0 job.old)
+            (turn_by self.new.cache self.new.memory 0 job.new)) }
         ensures later { IfOk result (λ time. from < time) }
         ensures within { IfOk result (λ time. time ≤ until) }
         ensures plan { OnOk result (HasPlan code.now.plans job.new) }
         ensures geometry { OnOk result (self.new.geometry ≡ self.old.geometry) }
-        ensures decoded { OnOk result (AreDecodedAddresses self.old.geometry.platform code.now self.new.decoded.places.items) }
+        ensures decoded { OnOk result
+            (AreDecodedAddresses self.old.geometry.platform code.now
+            self.new.decoded.places.items) }
     {
         let plan = code.plan(job.task());
         let mut now = from;

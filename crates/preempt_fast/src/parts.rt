@@ -6,7 +6,8 @@ ghost use Rattle.preempt_machine.specs.Running.{system_by, HasPlan};
 ghost use Rattle.preempt_machine.specs.Schedule.{owner_keeps, IsHead};
 ghost use Rattle.preempt_machine.specs.Inner.Schedule.{NoneIsReady};
 ghost use Rattle.preempt_fast.specs.Inner.Decodings.{AreDecodedAddresses};
-ghost use Rattle.preempt_fast.specs.Inner.Parts.{fast_machine_of, HasMadeFastSteps, HasTakenTurns, IsFastMachine, RunsCode};
+ghost use Rattle.preempt_fast.specs.Inner.Parts.{fast_machine_of, HasMadeFastSteps, HasTakenTurns};
+ghost use Rattle.preempt_fast.specs.Inner.Parts.{IsFastMachine, RunsCode};
 
 use crate::jobs::Core;
 use code_map::CodeMap;
@@ -21,15 +22,19 @@ pub(crate) struct Parts {
 }
 
 impl Parts {
-    /// A time up to which the candidate stays the same where no job is released: the end of the instruction under way of
-    /// an owner that keeps the core.
+    /// A time up to which the candidate stays the same where no job is released: the end of the
+    /// instruction under way of an owner that keeps the core.
     fn reach(&self, place: usize, until: u64) -> u64
         requires below { place < length self.now.schedule.jobs.items }
-        requires owner { (o : ℕ) → self.now.schedule.owner ≡ Some o → o < length self.now.schedule.jobs.items }
+        requires owner { (o : ℕ) → self.now.schedule.owner ≡ Some o
+            → o < length self.now.schedule.jobs.items }
         requires before { self.now.schedule.steps < until }
         ensures later { self.now.schedule.steps < result }
         ensures within { result ≤ until }
-        ensures keeps { owner_keeps self.now.core.geometry.platform.switching self.now.schedule.steps self.now.schedule.jobs.items self.now.schedule.owner ≡ true → self.now.schedule.owner ≡ Some place → result ≤ self.now.schedule.steps + (job_at self.now.schedule.jobs.items place).left }
+        ensures keeps { owner_keeps self.now.core.geometry.platform.switching
+            self.now.schedule.steps self.now.schedule.jobs.items self.now.schedule.owner ≡ true
+            → self.now.schedule.owner ≡ Some place
+            → result ≤ self.now.schedule.steps + (job_at self.now.schedule.jobs.items place).left }
     {
         let left = self.schedule.jobs[place].left();
         let keeps = self
@@ -42,18 +47,24 @@ impl Parts {
         }
     }
 
-    /// The turns of a job, up to a time or until it has answered or faulted: the switch cycles before it, and then its
-    /// moves.
+    /// The turns of a job, up to a time or until it has answered or faulted: the switch cycles
+    /// before it, and then its moves.
     fn turn(&mut self, code: &CodeMap, place: usize, until: u64) -> Result<(), Memory>
         requires room { self.old.core.geometry.platform.sets ≤ length self.old.core.cache }
-        requires decoded { AreDecodedAddresses self.old.core.geometry.platform code.now self.old.core.decoded.places.items }
+        requires decoded { AreDecodedAddresses self.old.core.geometry.platform code.now
+            self.old.core.decoded.places.items }
         requires plan { HasPlan code.now.plans (job_at self.old.schedule.jobs.items place) }
         requires below { place < length self.old.schedule.jobs.items }
         requires open { (job_at self.old.schedule.jobs.items place).standing ≡ Open }
         requires before { self.old.schedule.steps < until }
-        ensures turned { OnOk result (HasTakenTurns (system_by self.old.core.geometry.platform code.now) until self.old self.new place) }
-        ensures plan { OnOk result (HasPlan code.now.plans (job_at self.new.schedule.jobs.items place)) }
-        ensures decoded { OnOk result (AreDecodedAddresses self.old.core.geometry.platform code.now self.new.core.decoded.places.items) }
+        ensures turned { OnOk result
+            (HasTakenTurns (system_by self.old.core.geometry.platform code.now) until self.old
+            self.new place) }
+        ensures plan { OnOk result
+            (HasPlan code.now.plans (job_at self.new.schedule.jobs.items place)) }
+        ensures decoded { OnOk result
+            (AreDecodedAddresses self.old.core.geometry.platform code.now
+            self.new.core.decoded.places.items) }
     {
         let whole = self.core.geometry.platform.switch;
         let cycles = self.schedule.switch_cycles(whole, place);
@@ -77,22 +88,30 @@ impl Parts {
         requires run { RunsCode code.now self.old }
         requires idle { NoneIsReady self.old.schedule.steps self.old.schedule.jobs.items }
         requires before { self.old.schedule.steps < until }
-        ensures made { HasMadeFastSteps (system_by self.old.core.geometry.platform code.now) until self.old self.new }
+        ensures made { HasMadeFastSteps (system_by self.old.core.geometry.platform code.now) until
+            self.old self.new }
         ensures machine { IsFastMachine self.new }
         ensures run { RunsCode code.now self.new }
     {
         self.schedule.steps = self.schedule.queue.next_release(until);
     }
 
-    /// The steps of the candidate up to the next release, or until it has answered or faulted, none of them past a cycle.
+    /// The steps of the candidate up to the next release, or until it has answered or faulted, none
+    /// of them past a cycle.
     fn take(&mut self, code: &CodeMap, place: usize, until: u64) -> Result<(), Memory>
         requires machine { IsFastMachine self.old }
         requires run { RunsCode code.now self.old }
-        requires candidate { candidate (system_by self.old.core.geometry.platform code.now) (fast_machine_of self.old) ≡ Some place }
-        requires head { IsHead self.old.schedule.jobs.items self.old.schedule.queue.due.items self.old.schedule.queue.heads.items place }
+        requires candidate { candidate (system_by self.old.core.geometry.platform code.now)
+            (fast_machine_of self.old) ≡ Some place }
+        requires head { IsHead self.old.schedule.jobs.items self.old.schedule.queue.due.items
+            self.old.schedule.queue.heads.items place }
         requires before { self.old.schedule.steps < until }
-        requires reach { owner_keeps self.old.core.geometry.platform.switching self.old.schedule.steps self.old.schedule.jobs.items self.old.schedule.owner ≡ true → until ≤ self.old.schedule.steps + (job_at self.old.schedule.jobs.items place).left }
-        ensures made { OnOk result (HasMadeFastSteps (system_by self.old.core.geometry.platform code.now) until self.old self.new) }
+        requires reach { owner_keeps self.old.core.geometry.platform.switching
+            self.old.schedule.steps self.old.schedule.jobs.items self.old.schedule.owner ≡ true
+            → until ≤ self.old.schedule.steps + (job_at self.old.schedule.jobs.items place).left }
+        ensures made { OnOk result
+            (HasMadeFastSteps (system_by self.old.core.geometry.platform code.now) until
+            self.old self.new) }
         ensures machine { OnOk result (IsFastMachine self.new) }
         ensures run { OnOk result (RunsCode code.now self.new) }
     {
@@ -103,13 +122,15 @@ impl Parts {
         Ok(())
     }
 
-    /// The steps of the candidate as long as it surely stays the same, or where no job is ready the steps up to the next
-    /// release, none of them past a cycle.
+    /// The steps of the candidate as long as it surely stays the same, or where no job is ready the
+    /// steps up to the next release, none of them past a cycle.
     pub(crate) fn leap(&mut self, code: &CodeMap, until: u64) -> Result<(), Memory>
         requires machine { IsFastMachine self.old }
         requires run { RunsCode code.now self.old }
         requires before { self.old.schedule.steps < until }
-        ensures made { OnOk result (HasMadeFastSteps (system_by self.old.core.geometry.platform code.now) until self.old self.new) }
+        ensures made { OnOk result
+            (HasMadeFastSteps (system_by self.old.core.geometry.platform code.now) until
+            self.old self.new) }
         ensures machine { OnOk result (IsFastMachine self.new) }
         ensures run { OnOk result (RunsCode code.now self.new) }
     {

@@ -15,8 +15,8 @@ use icache::Geometry;
 use preempt_machine::{Completion, Schedule, start_cache, start_memory};
 use std::alloc::Global;
 
-/// The parts at the start of a script: from the script's cache and the bytes of the files, with no owner, and all jobs
-/// unreleased.
+/// The parts at the start of a script: from the script's cache and the bytes of the files, with no
+/// owner, and all jobs unreleased.
 fn load(alloc: Global, code: &CodeMap, set: &TaskSet, script: &Script) -> Result<Parts, Memory>
     requires line { 0 < set.now.platform.line }
     requires sets { 0 < set.now.platform.sets }
@@ -24,7 +24,10 @@ fn load(alloc: Global, code: &CodeMap, set: &TaskSet, script: &Script) -> Result
     requires plans { length code.now.plans ≡ length set.now.tasks }
     requires tasks { NamesTasks set.now script.now.jobs }
     requires jobs { length script.now.jobs < 2 ^ 32 }
-    ensures started { IfOk result (λ parts. fast_machine_of parts ≡ start_machine (system_of set.now code.now) (start_cache set.now.platform script.now.cache) (start_memory code.now.images) script.now.jobs) }
+    ensures started { IfOk result
+        (λ parts. fast_machine_of parts
+        ≡ start_machine (system_of set.now code.now) (start_cache set.now.platform script.now.cache)
+        (start_memory code.now.images) script.now.jobs) }
     ensures machine { IfOk result IsFastMachine }
     ensures run { IfOk result (RunsCode code.now) }
     ensures platform { IfOk result (λ parts. parts.core.geometry.platform ≡ set.now.platform) }
@@ -44,14 +47,15 @@ fn load(alloc: Global, code: &CodeMap, set: &TaskSet, script: &Script) -> Result
     })
 }
 
-/// How the jobs of a script stand after its cycles, in the order of the script, and whether no watch is broken: what the
-/// machine comes to from the script's cache and the bytes of the files.
+/// How the jobs of a script stand after its cycles, in the order of the script, and whether no
+/// watch is broken: what the machine comes to from the script's cache and the bytes of the files.
 ///
-/// The code map has a plan for each task of the set, and the script's jobs are of the set's tasks. Want of memory is the
-/// only error. It goes in one move over the cycles in which no job is ready, over those of a switch, and over those of an
-/// instruction in which no job is released. So its time is that of its instructions, and for each release, answer and
-/// fault a look at each task's first waiting job; besides n log n in the jobs, and the time of `start_memory`. An
-/// instruction is looked up and decoded where its address is met anew at its place in a table of 4,096.
+/// The code map has a plan for each task of the set, and the script's jobs are of the set's tasks.
+/// Want of memory is the only error. It goes in one move over the cycles in which no job is ready,
+/// over those of a switch, and over those of an instruction in which no job is released. So its
+/// time is that of its instructions, and for each release, answer and fault a look at each task's
+/// first waiting job; besides n log n in the jobs, and the time of `start_memory`. An instruction
+/// is looked up and decoded where its address is met anew at its place in a table of 4,096.
 pub fn run_fast(
     alloc: Global,
     code: &CodeMap,
@@ -64,7 +68,8 @@ pub fn run_fast(
     requires plans { length code.now.plans ≡ length set.now.tasks }
     requires tasks { NamesTasks set.now script.now.jobs }
     requires jobs { length script.now.jobs < 2 ^ 32 }
-    ensures { IfOk result (λ outcome. IsOutcome (script_end_state set.now code.now script.now) outcome.0.items outcome.1) }
+    ensures { IfOk result (λ outcome.
+        IsOutcome (script_end_state set.now code.now script.now) outcome.0.items outcome.1) }
 {
     let mut parts = load(alloc, code, set, script)?;
     while parts.schedule.steps < script.cycles {

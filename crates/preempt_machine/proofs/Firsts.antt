@@ -1,5 +1,6 @@
 -- The first job that has come is the first of the ready ones.
-use Rattle.std.proofs.Common.{◌≡◌, ℕ, ◌<◌, ◌≤◌, ◌⊎◌, true, false, List, length, Option, Some, None, refl, sym, ◌∙◌, ap, subst, inl, inr, arith}
+use Rattle.std.proofs.Common.{◌≡◌, ℕ, ◌<◌, ◌≤◌, ◌⊎◌, true, false, List, length, Option, Some, None}
+use Rattle.std.proofs.Common.{refl, sym, ◌∙◌, ap, subst, inl, inr, arith}
 use Rattle.std.specs.Prelude.{slice_index, slice_index_or, MatchOption}
 use Rattle.std.proofs.lemmas.Bool.{cases_Bool, cases_lt, cases_eq, false≢true}
 use Rattle.std.proofs.lemmas.Bool.Decides.{nat_tests}
@@ -8,11 +9,16 @@ use Rattle.std.proofs.lemmas.List.{length-map}
 use Rattle.crpd_base.specs.declared.data.ScriptJob.{ScriptJob}
 use Rattle.preempt_machine.specs.Machine.{Job, job_at, no_job}
 use Rattle.preempt_machine.specs.Step.{is_open, is_ready, comes_before, before, first_ready}
-use Rattle.preempt_machine.specs.Schedule.{script_line, due_task, due_place, due_release, script_lines, IsDueBefore, IsReleaseOrder, HasTaskHeads, IsReleasedBy, IsFirstReleased, NoneIsReleased}
+use Rattle.preempt_machine.specs.Schedule.{script_line, due_task, due_place, due_release}
+use Rattle.preempt_machine.specs.Schedule.{script_lines, IsDueBefore, IsReleaseOrder, HasTaskHeads}
+use Rattle.preempt_machine.specs.Schedule.{IsReleasedBy, IsFirstReleased, NoneIsReleased}
 use Rattle.preempt_machine.proofs.Order.{IsFirst, IsBest, comes_before_asym, first_ready_is}
 use Rattle.preempt_machine.proofs.Steps.{ready_open, ready_released, ready_from}
 
-comes : (a : ScriptJob) (x : ℕ) (b : ScriptJob) (y : ℕ) → (a.task.0 < b.task.0) ⊎ ((a.task.0 ≡ b.task.0) × ((a.release < b.release) ⊎ ((a.release ≡ b.release) × (x < y)))) → comes_before a x b y ≡ true
+comes : (a : ScriptJob) (x : ℕ) (b : ScriptJob) (y : ℕ)
+    → (a.task.0 < b.task.0)
+    ⊎ ((a.task.0 ≡ b.task.0) × ((a.release < b.release) ⊎ ((a.release ≡ b.release) × (x < y))))
+    → comes_before a x b y ≡ true
 unfolding comes_before
 comes a x b y (inl h) = grind (arith, nat_tests)
 comes a x b y (inr (e, inl h)) = grind (arith, nat_tests)
@@ -26,13 +32,19 @@ pub lines_long : (jobs : List Job) → length (script_lines jobs) ≡ length job
 lines_long jobs = length-map jobs (λ (job : Job). job.line)
 
 -- a position that waits is that of an open job
-ready_at : (due : List (ℕ × ℕ)) (heads : List ℕ) (jobs : List Job) (now p : ℕ) → IsReleaseOrder (script_lines jobs) due → HasTaskHeads (script_lines jobs) due heads jobs → slice_index heads (due_task (script_lines jobs) due p) ≤ p → IsReleasedBy due now p → is_ready now (job_at jobs (due_place due p)) ≡ true
+ready_at : (due : List (ℕ × ℕ)) (heads : List ℕ) (jobs : List Job) (now p : ℕ)
+    → IsReleaseOrder (script_lines jobs) due → HasTaskHeads (script_lines jobs) due heads jobs
+    → slice_index heads (due_task (script_lines jobs) due p) ≤ p → IsReleasedBy due now p
+    → is_ready now (job_at jobs (due_place due p)) ≡ true
 ready_at due heads jobs now p d w le come =
-    let release : due_release due p ≡ (job_at jobs (due_place due p)).line.release = d.releases p come.0 ∙ ap (λ (l : ScriptJob). l.release) (line_is jobs (due_place due p)) in
-    ready_from now (job_at jobs (due_place due p)) (w.open_still p come.0 le) (omega (arith, come.1))
+    let release : due_release due p ≡ (job_at jobs (due_place due p)).line.release =
+    d.releases p come.0 ∙ ap (λ (l : ScriptJob). l.release) (line_is jobs (due_place due p)) in
+    ready_from now (job_at jobs (due_place due p)) (w.open_still p come.0 le)
+    (omega (arith, come.1))
 
 -- where a ready job stands: not before the first one of its task that waits, which has come too
-record StandsAt (due : List (ℕ × ℕ)) (heads : List ℕ) (lines : List ScriptJob) (now x r : ℕ) : Type 0 where
+record StandsAt (due : List (ℕ × ℕ)) (heads : List ℕ) (lines : List ScriptJob)
+    (now x r : ℕ) : Type 0 where
   place : due_place due r ≡ x
   inside : r < length due
   waits : slice_index heads (due_task lines due r) ≤ r
@@ -42,20 +54,31 @@ earlier_release : (a b : ℕ × ℕ) → IsDueBefore a b → a.0 ≤ b.0
 earlier_release a b (inl h) = omega arith
 earlier_release a b (inr h) = omega (arith, h.0)
 
-pub release_le : (lines : List ScriptJob) (due : List (ℕ × ℕ)) (p r : ℕ) → IsReleaseOrder lines due → p ≤ r → r < length due → due_release due p ≤ due_release due r
+pub release_le : (lines : List ScriptJob) (due : List (ℕ × ℕ)) (p r : ℕ) → IsReleaseOrder lines due
+    → p ≤ r → r < length due → due_release due p ≤ due_release due r
 release_le lines due p r d le b =
     elim (cases_eq p r) [
       | inl e ↦ let f = ap (due_release due) e in omega (arith, f)
-      | inr ne ↦ earlier_release (slice_index_or due p (0, 0)) (slice_index_or due r (0, 0)) (d.ordered p r (omega arith) b)
+      | inr ne ↦
+          earlier_release (slice_index_or due p (0, 0)) (slice_index_or due r (0, 0))
+          (d.ordered p r (omega arith) b)
     ]
 
-stands : (due : List (ℕ × ℕ)) (heads : List ℕ) (jobs : List Job) (now x : ℕ) → IsReleaseOrder (script_lines jobs) due → HasTaskHeads (script_lines jobs) due heads jobs → x < length jobs → is_ready now (job_at jobs x) ≡ true → (r : ℕ) × StandsAt due heads (script_lines jobs) now x r
+stands : (due : List (ℕ × ℕ)) (heads : List ℕ) (jobs : List Job) (now x : ℕ)
+    → IsReleaseOrder (script_lines jobs) due → HasTaskHeads (script_lines jobs) due heads jobs
+    → x < length jobs → is_ready now (job_at jobs x) ≡ true
+    → (r : ℕ) × StandsAt due heads (script_lines jobs) now x r
 stands due heads jobs now x d w below ready =
     let (r, inside, place) = d.every x (omega (arith, lines_long jobs)) in
     let head = slice_index heads (due_task (script_lines jobs) due r) in
-    let release : due_release due r ≡ (job_at jobs x).line.release = d.releases r inside ∙ ap (λ (l : ScriptJob). l.release) (ap (script_line (script_lines jobs)) place ∙ line_is jobs x) in
+    let release : due_release due r ≡ (job_at jobs x).line.release =
+    d.releases r inside ∙ ap (λ (l : ScriptJob). l.release)
+    (ap (script_line (script_lines jobs)) place ∙ line_is jobs x) in
     let waits : head ≤ r = elim (cases_lt r head) [
-      | inl l ↦ absurd (false≢true (sym (ap (λ k. is_open (job_at jobs k).standing) (sym place) ∙ w.over r inside l) ∙ ready_open now (job_at jobs x) ready))
+      | inl l ↦
+          absurd (false≢true
+          (sym (ap (λ k. is_open (job_at jobs k).standing) (sym place) ∙ w.over r inside l)
+          ∙ ready_open now (job_at jobs x) ready))
       | inr g ↦ g
     ] in (
       r,
@@ -63,76 +86,127 @@ stands due heads jobs now x d w below ready =
         place = place;
         inside = inside;
         waits = waits;
-        come = (omega arith, omega (arith, release_le (script_lines jobs) due head r d waits inside, release, ready_released now (job_at jobs x) ready));
+        come = (
+          omega arith,
+          omega (
+            arith,
+            release_le (script_lines jobs) due head r d waits inside,
+            release,
+            ready_released now (job_at jobs x) ready,
+          ),
+        );
       },
     )
 
 -- an earlier position, or one of a higher task, is that of a job that comes before
-ahead : (due : List (ℕ × ℕ)) (jobs : List Job) (p r : ℕ) → IsReleaseOrder (script_lines jobs) due → p < length due → r < length due → (due_task (script_lines jobs) due p < due_task (script_lines jobs) due r) ⊎ ((due_task (script_lines jobs) due p ≡ due_task (script_lines jobs) due r) × IsDueBefore (slice_index_or due p (0, 0)) (slice_index_or due r (0, 0))) → before jobs (due_place due p) (due_place due r) ≡ true
+ahead : (due : List (ℕ × ℕ)) (jobs : List Job) (p r : ℕ) → IsReleaseOrder (script_lines jobs) due
+    → p < length due → r < length due
+    → (due_task (script_lines jobs) due p < due_task (script_lines jobs) due r)
+    ⊎ ((due_task (script_lines jobs) due p ≡ due_task (script_lines jobs) due r)
+    × IsDueBefore (slice_index_or due p (0, 0)) (slice_index_or due r (0, 0)))
+    → before jobs (due_place due p) (due_place due r) ≡ true
 ahead due jobs p r d a b h =
-    let task : (q : ℕ) → due_task (script_lines jobs) due q ≡ (job_at jobs (due_place due q)).line.task.0 = λ q. ap (λ (l : ScriptJob). l.task.0) (line_is jobs (due_place due q)) in
-    let release : (q : ℕ) → q < length due → due_release due q ≡ (job_at jobs (due_place due q)).line.release = λ q c. d.releases q c ∙ ap (λ (l : ScriptJob). l.release) (line_is jobs (due_place due q)) in
-    comes (job_at jobs (due_place due p)).line (due_place due p) (job_at jobs (due_place due r)).line (due_place due r)
+    let task : (q : ℕ) → due_task (script_lines jobs) due q
+    ≡ (job_at jobs (due_place due q)).line.task.0 = λ q.
+    ap (λ (l : ScriptJob). l.task.0) (line_is jobs (due_place due q)) in
+    let release : (q : ℕ) → q < length due
+    → due_release due q ≡ (job_at jobs (due_place due q)).line.release = λ q c.
+    d.releases q c ∙ ap (λ (l : ScriptJob). l.release) (line_is jobs (due_place due q)) in
+    comes (job_at jobs (due_place due p)).line (due_place due p)
+    (job_at jobs (due_place due r)).line (due_place due r)
     (elim h [
       | inl l ↦ inl (omega (arith, task p, task r))
-      | inr (e, inl l) ↦ inr (sym (task p) ∙ e ∙ task r, inl (omega (arith, release p a, release r b)))
-      | inr (e, inr (f, l)) ↦ inr (sym (task p) ∙ e ∙ task r, inr (sym (release p a) ∙ f ∙ release r b, l))
+      | inr (e, inl l) ↦
+          inr (sym (task p) ∙ e ∙ task r, inl (omega (arith, release p a, release r b)))
+      | inr (e, inr (f, l)) ↦
+          inr (sym (task p) ∙ e ∙ task r, inr (sym (release p a) ∙ f ∙ release r b, l))
     ])
 
 -- the first job of the first task of which it has come
-pub come_is_first : (due : List (ℕ × ℕ)) (heads : List ℕ) (jobs : List Job) (now place : ℕ) → IsReleaseOrder (script_lines jobs) due → HasTaskHeads (script_lines jobs) due heads jobs → IsFirstReleased due heads now place → IsFirst now jobs (length jobs) place
+pub come_is_first : (due : List (ℕ × ℕ)) (heads : List ℕ) (jobs : List Job) (now place : ℕ)
+    → IsReleaseOrder (script_lines jobs) due → HasTaskHeads (script_lines jobs) due heads jobs
+    → IsFirstReleased due heads now place → IsFirst now jobs (length jobs) place
 come_is_first due heads jobs now place d w f =
     let lines = script_lines jobs in
     let head = slice_index heads f.task in
     let task : due_task lines due head ≡ f.task = w.head f.task f.below f.come.0 in
     let same : slice_index heads (due_task lines due head) ≡ head = ap (slice_index heads) task in
     record {
-      below = subst (λ x. x < length jobs) (sym f.is) (omega (arith, d.places head f.come.0, lines_long jobs));
-      ready = subst (λ x. is_ready now (job_at jobs x) ≡ true) (sym f.is) (ready_at due heads jobs now head d w (omega (arith, same)) f.come);
+      below =
+          subst (λ x. x < length jobs) (sym f.is)
+          (omega (arith, d.places head f.come.0, lines_long jobs));
+      ready =
+          subst (λ x. is_ready now (job_at jobs x) ≡ true) (sym f.is)
+          (ready_at due heads jobs now head d w (omega (arith, same)) f.come);
       first = λ y b ready.
           let (r, s) = stands due heads jobs now y d w b ready in
           elim (cases_lt (due_task lines due r) f.task) [
             | inl l ↦ absurd (f.before (due_task lines due r) l s.come)
             | inr g ↦ elim (cases_lt f.task (due_task lines due r)) [
-              | inl l ↦ inr (rw (f.is, sym s.place) (ahead due jobs head r d f.come.0 s.inside (inl (omega (arith, task)))))
+              | inl l ↦
+                  inr (rw (f.is, sym s.place)
+                  (ahead due jobs head r d f.come.0 s.inside (inl (omega (arith, task)))))
               | inr k ↦
                   let even : due_task lines due r ≡ f.task = omega arith in
-                  let at : slice_index heads (due_task lines due r) ≡ head = ap (slice_index heads) even in
+                  let at : slice_index heads (due_task lines due r) ≡ head =
+                  ap (slice_index heads) even in
                   elim (cases_eq head r) [
                     | inl e ↦ inl (sym s.place ∙ ap (due_place due) (sym e) ∙ sym f.is)
-                    | inr ne ↦ inr (rw (f.is, sym s.place) (ahead due jobs head r d f.come.0 s.inside (inr (task ∙ sym even, d.ordered head r (omega (arith, s.waits)) s.inside))))
+                    | inr ne ↦
+                        inr (rw (f.is, sym s.place)
+                        (ahead due jobs head r d f.come.0 s.inside
+                        (inr (
+                          task ∙ sym even,
+                          d.ordered head r (omega (arith, s.waits)) s.inside,
+                        ))))
                   ]
             ]
           ];
     }
 
 -- and where none has come no job is ready
-pub none_come : (due : List (ℕ × ℕ)) (heads : List ℕ) (jobs : List Job) (now : ℕ) → IsReleaseOrder (script_lines jobs) due → HasTaskHeads (script_lines jobs) due heads jobs → NoneIsReleased due heads now → (x : ℕ) → x < length jobs → is_ready now (job_at jobs x) ≡ false
+pub none_come : (due : List (ℕ × ℕ)) (heads : List ℕ) (jobs : List Job) (now : ℕ)
+    → IsReleaseOrder (script_lines jobs) due → HasTaskHeads (script_lines jobs) due heads jobs
+    → NoneIsReleased due heads now → (x : ℕ) → x < length jobs
+    → is_ready now (job_at jobs x) ≡ false
 none_come due heads jobs now d w none x below =
     elim (cases_Bool (is_ready now (job_at jobs x))) [
       | inl t ↦
           let (r, s) = stands due heads jobs now x d w below t in
-          absurd (none (due_task (script_lines jobs) due r) (w.tasks (due_place due r) (d.places r s.inside)) s.come)
+          absurd (none (due_task (script_lines jobs) due r)
+          (w.tasks (due_place due r) (d.places r s.inside)) s.come)
       | inr f ↦ f
     ]
 
 -- the first of the ready jobs is the best of them
-pub best_is : (now : ℕ) (jobs : List Job) (place : ℕ) → IsFirst now jobs (length jobs) place → (best : Option ℕ) → IsBest now jobs (length jobs) best → best ≡ Some place
+pub best_is : (now : ℕ) (jobs : List Job) (place : ℕ) → IsFirst now jobs (length jobs) place
+    → (best : Option ℕ) → IsBest now jobs (length jobs) best → best ≡ Some place
 best_is now jobs place f None h = absurd (false≢true (sym (h place f.below) ∙ f.ready))
 best_is now jobs place f (Some i) h =
     elim (h.first place f.below f.ready) [
       | inl e ↦ ap Some (sym e)
       | inr b ↦ elim (f.first i h.below h.ready) [
         | inl e ↦ ap Some e
-        | inr k ↦ absurd (false≢true (sym (comes_before_asym (job_at jobs i).line i (job_at jobs place).line place b) ∙ k))
+        | inr k ↦
+            absurd (false≢true
+            (sym (comes_before_asym (job_at jobs i).line i (job_at jobs place).line place b) ∙ k))
       ]
     ]
 
-best_none : (now : ℕ) (jobs : List Job) → ((x : ℕ) → x < length jobs → is_ready now (job_at jobs x) ≡ false) → (best : Option ℕ) → IsBest now jobs (length jobs) best → best ≡ None
+best_none : (now : ℕ) (jobs : List Job)
+    → ((x : ℕ) → x < length jobs → is_ready now (job_at jobs x) ≡ false) → (best : Option ℕ)
+    → IsBest now jobs (length jobs) best → best ≡ None
 best_none now jobs none None h = refl
 best_none now jobs none (Some i) h = absurd (false≢true (sym (none i h.below) ∙ h.ready))
 
 -- what the order's first job is
-pub first_is : (due : List (ℕ × ℕ)) (heads : List ℕ) (jobs : List Job) (now : ℕ) (found : Option ℕ) → IsReleaseOrder (script_lines jobs) due → HasTaskHeads (script_lines jobs) due heads jobs → MatchOption found (NoneIsReleased due heads now) (IsFirstReleased due heads now) → first_ready now jobs (length jobs) ≡ found
-first_is due heads jobs now None d w h = best_none now jobs (none_come due heads jobs now d w h) _ (first_ready_is now jobs (length jobs))
-first_is due heads jobs now (Some place) d w h = best_is now jobs place (come_is_first due heads jobs now place d w h) _ (first_ready_is now jobs (length jobs))
+pub first_is : (due : List (ℕ × ℕ)) (heads : List ℕ) (jobs : List Job) (now : ℕ) (found : Option ℕ)
+    → IsReleaseOrder (script_lines jobs) due → HasTaskHeads (script_lines jobs) due heads jobs
+    → MatchOption found (NoneIsReleased due heads now) (IsFirstReleased due heads now)
+    → first_ready now jobs (length jobs) ≡ found
+first_is due heads jobs now None d w h =
+    best_none now jobs (none_come due heads jobs now d w h) _
+    (first_ready_is now jobs (length jobs))
+first_is due heads jobs now (Some place) d w h =
+    best_is now jobs place (come_is_first due heads jobs now place d w h) _
+    (first_ready_is now jobs (length jobs))

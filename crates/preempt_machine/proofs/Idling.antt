@@ -1,5 +1,6 @@
 -- Steps in which no job is ready.
-use Rattle.std.proofs.Common.{◌≡◌, ℕ, zero, suc, ◌+◌, ◌-◌, ◌<◌, ◌≤◌, ◌⊎◌, true, false, List, length, None, refl, sym, ◌∙◌, ap, subst, inl, inr, arith}
+use Rattle.std.proofs.Common.{◌≡◌, ℕ, zero, suc, ◌+◌, ◌-◌, ◌<◌, ◌≤◌, ◌⊎◌, true, false, List, length}
+use Rattle.std.proofs.Common.{None, refl, sym, ◌∙◌, ap, subst, inl, inr, arith}
 use Rattle.std.specs.Prelude.{nat_le}
 use Rattle.std.proofs.lemmas.Bool.{cases_Bool, cases_lt, false≢true}
 use Rattle.std.proofs.lemmas.Bool.Decides.{nat_tests}
@@ -10,46 +11,69 @@ use Rattle.preempt_machine.specs.Machine.{Standing, Open, Answered, Faulted, Mac
 use Rattle.preempt_machine.specs.Step.{is_open, is_ready, candidate}
 use Rattle.preempt_machine.specs.Candidate.{release_of}
 use Rattle.preempt_machine.specs.Safe.{end_by}
-use Rattle.preempt_machine.specs.Running.{Running, job_id, running_after_step, running_after_steps, system_by}
-use Rattle.preempt_machine.specs.Schedule.{script_line, script_lines, due_place, due_release, IsRepresented}
+use Rattle.preempt_machine.specs.Running.{Running, job_id, running_after_step, running_after_steps}
+use Rattle.preempt_machine.specs.Running.{system_by}
+use Rattle.preempt_machine.specs.Schedule.{script_line, script_lines, due_place, due_release}
+use Rattle.preempt_machine.specs.Schedule.{IsRepresented}
 use Rattle.preempt_machine.specs.Inner.Schedule.{HasMade, NoneIsReady}
 use Rattle.preempt_machine.proofs.Candidates.{none_candidate}
 use Rattle.preempt_machine.proofs.Firsts.{line_is, lines_long, release_le}
 use Rattle.preempt_machine.proofs.Steps.{open_is_below, ready_from, ready_open, ready_released}
 
 -- the next release is later than a time at which no job is ready
-pub next_is_later : (sets : ℕ) (m : Machine) (due : List (ℕ × ℕ)) (later heads : List ℕ) (count : ℕ) (cs : List Completion) → IsRepresented sets m due later heads count cs → NoneIsReady m.time m.jobs → count < length due → m.time < due_release due count
+pub next_is_later : (sets : ℕ) (m : Machine) (due : List (ℕ × ℕ)) (later heads : List ℕ) (count : ℕ)
+    (cs : List Completion) → IsRepresented sets m due later heads count cs
+    → NoneIsReady m.time m.jobs → count < length due → m.time < due_release due count
 next_is_later sets m due later heads count cs k none inside =
     let x = due_place due count in
-    let release : due_release due count ≡ (job_at m.jobs x).line.release = k.due.releases count inside ∙ ap (λ (l : ScriptJob). l.release) (line_is m.jobs x) in
+    let release : due_release due count ≡ (job_at m.jobs x).line.release =
+    k.due.releases count inside ∙ ap (λ (l : ScriptJob). l.release) (line_is m.jobs x) in
     let below : x < length m.jobs = omega (arith, k.due.places count inside, lines_long m.jobs) in
     let from : m.time ≤ due_release due count = k.released.after count (omega arith) inside in
     elim (cases_lt m.time (due_release due count)) [
       | inl l ↦ l
       | inr g ↦ elim (cases_Bool (is_open (job_at m.jobs x).standing)) [
-        | inl o ↦ absurd (false≢true (sym (none x) ∙ ready_from m.time (job_at m.jobs x) o (omega (arith, release))))
+        | inl o ↦
+            absurd (false≢true (sym (none x)
+            ∙ ready_from m.time (job_at m.jobs x) o (omega (arith, release))))
         | inr f ↦ absurd (omega (arith, k.over x below f, release))
       ]
     ]
 
 -- and before it no job is ready
-pub none_before : (sets : ℕ) (m : Machine) (due : List (ℕ × ℕ)) (later heads : List ℕ) (count : ℕ) (cs : List Completion) (time : ℕ) → IsRepresented sets m due later heads count cs → NoneIsReady m.time m.jobs → (count < length due → time < due_release due count) → NoneIsReady time m.jobs
+pub none_before : (sets : ℕ) (m : Machine) (due : List (ℕ × ℕ)) (later heads : List ℕ) (count : ℕ)
+    (cs : List Completion) (time : ℕ) → IsRepresented sets m due later heads count cs
+    → NoneIsReady m.time m.jobs → (count < length due → time < due_release due count)
+    → NoneIsReady time m.jobs
 none_before sets m due later heads count cs time k none before x =
     let job = job_at m.jobs x in
     elim (cases_Bool (is_ready time job)) [
       | inl t ↦
           let o = ready_open time job t in
-          let (r, inside, place) = k.due.every x (omega (arith, open_is_below m.jobs x o, lines_long m.jobs)) in
-          let release : due_release due r ≡ job.line.release = k.due.releases r inside ∙ ap (λ (l : ScriptJob). l.release) (ap (script_line (script_lines m.jobs)) place ∙ line_is m.jobs x) in
+          let (r, inside, place) = k.due.every x
+          (omega (arith, open_is_below m.jobs x o, lines_long m.jobs)) in
+          let release : due_release due r ≡ job.line.release =
+          k.due.releases r inside ∙ ap (λ (l : ScriptJob). l.release)
+          (ap (script_line (script_lines m.jobs)) place ∙ line_is m.jobs x) in
           elim (cases_lt r count) [
-            | inl l ↦ absurd (false≢true (sym (none x) ∙ ready_from m.time job o (omega (arith, k.released.before r l, release))))
-            | inr g ↦ absurd (omega (arith, before (omega arith), release_le (script_lines m.jobs) due count r k.due g inside, release, ready_released time job t))
+            | inl l ↦
+                absurd (false≢true (sym (none x)
+                ∙ ready_from m.time job o (omega (arith, k.released.before r l, release))))
+            | inr g ↦
+                absurd (omega (
+                  arith,
+                  before (omega arith),
+                  release_le (script_lines m.jobs) due count r k.due g inside,
+                  release,
+                  ready_released time job t,
+                ))
           ]
       | inr f ↦ f
     ]
 
 -- a job that was released before both times, or before neither, is told alike at both
-end_stays : (from to release : ℕ) (s : Standing) → from ≤ to → (release < from) ⊎ (to ≤ release) → end_by from release s ≡ end_by to release s
+end_stays : (from to release : ℕ) (s : Standing) → from ≤ to → (release < from) ⊎ (to ≤ release)
+    → end_by from release s ≡ end_by to release s
 end_stays from to release Open le (inl h) =
     let a : nat_le from release ≡ false = grind (arith, nat_tests) in
     let b : nat_le to release ≡ false = grind (arith, nat_tests) in
@@ -62,7 +86,10 @@ end_stays from to release (Answered t) le h = refl
 end_stays from to release Faulted le h = refl
 
 -- up to the next release a state is kept as it was
-pub kept_idle : (sets : ℕ) (m : Machine) (due : List (ℕ × ℕ)) (later heads : List ℕ) (count : ℕ) (cs : List Completion) (time : ℕ) → IsRepresented sets m due later heads count cs → m.time ≤ time → (count < length due → time ≤ due_release due count) → IsRepresented sets (record m { time = time }) due later heads count cs
+pub kept_idle : (sets : ℕ) (m : Machine) (due : List (ℕ × ℕ)) (later heads : List ℕ) (count : ℕ)
+    (cs : List Completion) (time : ℕ) → IsRepresented sets m due later heads count cs
+    → m.time ≤ time → (count < length due → time ≤ due_release due count)
+    → IsRepresented sets (record m { time = time }) due later heads count cs
 kept_idle sets m due later heads count cs time k le before =
     record {
       room = k.room;
@@ -72,38 +99,62 @@ kept_idle sets m due later heads count cs time k le before =
       released = record {
         within = k.released.within;
         before = λ p a. omega (arith, k.released.before p a);
-        after = λ p a b. omega (arith, before (omega arith), release_le (script_lines m.jobs) due count p k.due a b);
+        after = λ p a b.
+            omega (
+              arith,
+              before (omega arith),
+              release_le (script_lines m.jobs) due count p k.due a b,
+            );
       };
       over = λ x a b. omega (arith, k.over x a b);
       told = k.told;
-      completions = λ x a. k.completions x a ∙ ap (λ e. record { job = job_id m x; «end» = e }) (end_stays m.time time (release_of m x) (job_at m.jobs x).standing le (released x a));
+      completions = λ x a.
+          k.completions x a ∙ ap (λ e. record { job = job_id m x; «end» = e })
+          (end_stays m.time time (release_of m x) (job_at m.jobs x).standing le (released x a));
       owner = k.owner;
     }
   where
     released : (x : ℕ) → x < length m.jobs → (release_of m x < m.time) ⊎ (time ≤ release_of m x)
     released x a =
         let (r, inside, place) = k.due.every x (omega (arith, lines_long m.jobs)) in
-        let release : due_release due r ≡ release_of m x = k.due.releases r inside ∙ ap (λ (l : ScriptJob). l.release) (ap (script_line (script_lines m.jobs)) place ∙ line_is m.jobs x) in
+        let release : due_release due r ≡ release_of m x =
+        k.due.releases r inside ∙ ap (λ (l : ScriptJob). l.release)
+        (ap (script_line (script_lines m.jobs)) place ∙ line_is m.jobs x) in
         elim (cases_lt r count) [
           | inl l ↦ inl (omega (arith, k.released.before r l, release))
-          | inr g ↦ inr (omega (arith, before (omega arith), release_le (script_lines m.jobs) due count r k.due g inside, release))
+          | inr g ↦
+              inr (omega (
+                arith,
+                before (omega arith),
+                release_le (script_lines m.jobs) due count r k.due g inside,
+                release,
+              ))
         ]
 
 -- a machine at another time, after a step without a fetch
 abbrev pub waited : Running → ℕ → Running
-waited r time = record { platform = r.platform; state = record r.state { time = time }; fetch = None }
+waited r time = record {
+  platform = r.platform;
+  state = record r.state { time = time };
+  fetch = None;
+}
 
-idle_step : (code : Code) (r : Running) → NoneIsReady r.state.time r.state.jobs → running_after_step code r ≡ waited r (suc r.state.time)
+idle_step : (code : Code) (r : Running) → NoneIsReady r.state.time r.state.jobs
+    → running_after_step code r ≡ waited r (suc r.state.time)
 idle_step code r none =
-    let e : candidate (system_by r.platform code) r.state ≡ None = none_candidate (system_by r.platform code) r.state none in
+    let e : candidate (system_by r.platform code) r.state ≡ None =
+    none_candidate (system_by r.platform code) r.state none in
     rw e refl
 
 -- steps in which no job is ready change the number of steps alone
-idle_steps : (code : Code) (r : Running) (n : ℕ) → ((k : ℕ) → k ≤ n → NoneIsReady (r.state.time + k) r.state.jobs) → running_after_steps (suc n) code r ≡ waited r (r.state.time + suc n)
+idle_steps : (code : Code) (r : Running) (n : ℕ)
+    → ((k : ℕ) → k ≤ n → NoneIsReady (r.state.time + k) r.state.jobs)
+    → running_after_steps (suc n) code r ≡ waited r (r.state.time + suc n)
 idle_steps code r zero none =
     let start : r.state.time + 0 ≡ r.state.time = omega arith in
     let one : suc r.state.time ≡ r.state.time + suc zero = omega arith in
-    idle_step code r (subst (λ t. NoneIsReady t r.state.jobs) start (none 0 (omega arith))) ∙ ap (waited r) one
+    idle_step code r (subst (λ t. NoneIsReady t r.state.jobs) start (none 0 (omega arith)))
+    ∙ ap (waited r) one
 idle_steps code r (suc n) none =
     let more : suc (r.state.time + suc n) ≡ r.state.time + suc (suc n) = omega arith in
     ap (running_after_step code) (idle_steps code r n (λ k h. none k (omega arith)))
@@ -111,7 +162,8 @@ idle_steps code r (suc n) none =
     ∙ ap (waited r) more
 
 -- all steps up to a time before which no job is ready
-pub idle_made : (code : Code) (r : Running) (time until : ℕ) → r.state.time < time → time ≤ until → ((t : ℕ) → t < time → NoneIsReady t r.state.jobs) → HasMade code until r (waited r time)
+pub idle_made : (code : Code) (r : Running) (time until : ℕ) → r.state.time < time → time ≤ until
+    → ((t : ℕ) → t < time → NoneIsReady t r.state.jobs) → HasMade code until r (waited r time)
 idle_made code r time until less within none =
     let n = time - suc r.state.time in
     let all : r.state.time + suc n ≡ time = omega arith in
@@ -119,5 +171,7 @@ idle_made code r time until less within none =
       made = suc n;
       some = omega arith;
       within = omega arith;
-      state = ap (waited r) (sym all) ∙ sym (idle_steps code r n (λ k h. none (r.state.time + k) (omega arith)));
+      state =
+          ap (waited r) (sym all) ∙ sym
+          (idle_steps code r n (λ k h. none (r.state.time + k) (omega arith)));
     }

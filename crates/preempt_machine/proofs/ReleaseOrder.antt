@@ -1,60 +1,104 @@
 -- The order of the jobs of a script.
-use Rattle.std.proofs.Common.{◌≡◌, ℕ, ◌+◌, ◌<◌, ◌≤◌, ◌≢◌, List, length, refl, sym, ◌∙◌, ap, subst, inl, inr, arith, get_or-set_same, get_or-set_other, length-set}
+use Rattle.std.proofs.Common.{◌≡◌, ℕ, ◌+◌, ◌<◌, ◌≤◌, ◌≢◌, List, length, refl, sym, ◌∙◌, ap, subst}
+use Rattle.std.proofs.Common.{inl, inr, arith, get_or-set_same, get_or-set_other, length-set}
 use Rattle.std.specs.Prelude.{slice_index, slice_set}
 use Rattle.std.proofs.lemmas.Bool.{cases_eq}
 use Rattle.crpd_base.specs.declared.data.ScriptJob.{ScriptJob}
 use Rattle.preempt_machine.specs.declared.Completion.{Completion}
-use Rattle.preempt_machine.specs.Schedule.{due_task, due_place, IsFirstFrom, HasOpened, completion, open_completion}
+use Rattle.preempt_machine.specs.Schedule.{due_task, due_place, IsFirstFrom, HasOpened, completion}
+use Rattle.preempt_machine.specs.Schedule.{open_completion}
 
 -- the first position from here
-pub first_here : (lines : List ScriptJob) (due : List (ℕ × ℕ)) (p : ℕ) → IsFirstFrom lines due (due_task lines due p) p p
-first_here lines due p = record { from = omega arith; none = λ r a b c. absurd (omega arith); here = λ l. refl }
+pub first_here : (lines : List ScriptJob) (due : List (ℕ × ℕ)) (p : ℕ)
+    → IsFirstFrom lines due (due_task lines due p) p p
+first_here lines due p = record {
+  from = omega arith;
+  none = λ r a b c. absurd (omega arith);
+  here = λ l. refl;
+}
 
 -- and from one position earlier, of a job of another task
-pub first_earlier : (lines : List ScriptJob) (due : List (ℕ × ℕ)) (t p q : ℕ) → due_task lines due p ≢ t → IsFirstFrom lines due t (p + 1) q → IsFirstFrom lines due t p q
+pub first_earlier : (lines : List ScriptJob) (due : List (ℕ × ℕ)) (t p q : ℕ)
+    → due_task lines due p ≢ t → IsFirstFrom lines due t (p + 1) q → IsFirstFrom lines due t p q
 first_earlier lines due t p q other h =
     record {
       from = omega (arith, h.from);
-      none = λ r a b c. elim (cases_eq p r) [ inl e ↦ subst (λ z. due_task lines due z ≢ t) e other | inr ne ↦ h.none r (omega arith) b c ];
+      none = λ r a b c. elim (cases_eq p r) [
+        | inl e ↦ subst (λ z. due_task lines due z ≢ t) e other
+        | inr ne ↦ h.none r (omega arith) b c
+      ];
       here = h.here;
     }
 
 -- past the end there is none
-pub first_none : (lines : List ScriptJob) (due : List (ℕ × ℕ)) (t q : ℕ) → q ≡ length due → IsFirstFrom lines due t (length due) q
-first_none lines due t q e = record { from = omega arith; none = λ r a b c. absurd (omega arith); here = λ l. absurd (omega arith) }
+pub first_none : (lines : List ScriptJob) (due : List (ℕ × ℕ)) (t q : ℕ) → q ≡ length due
+    → IsFirstFrom lines due t (length due) q
+first_none lines due t q e = record {
+  from = omega arith;
+  none = λ r a b c. absurd (omega arith);
+  here = λ l. absurd (omega arith);
+}
 
 -- one more position is told
 pub opened_none : (due : List (ℕ × ℕ)) (p : ℕ) (cs : List Completion) → HasOpened due p p cs cs
-opened_none due p cs = record { long = refl; same = λ x. refl; those = λ q a b. absurd (omega arith); others = λ x h. refl }
+opened_none due p cs = record {
+  long = refl;
+  same = λ x. refl;
+  those = λ q a b. absurd (omega arith);
+  others = λ x h. refl;
+}
 
-pub opened_more : (due : List (ℕ × ℕ)) (p q : ℕ) (old cs : List Completion) → HasOpened due p q old cs → p ≤ q → due_place due q < length cs → HasOpened due p (q + 1) old (slice_set cs (due_place due q) (open_completion (completion cs (due_place due q))))
+pub opened_more : (due : List (ℕ × ℕ)) (p q : ℕ) (old cs : List Completion)
+    → HasOpened due p q old cs → p ≤ q → due_place due q < length cs
+    → HasOpened due p (q + 1) old
+    (slice_set cs (due_place due q) (open_completion (completion cs (due_place due q))))
 opened_more due p q old cs h le below =
     record {
       long = length-set cs (due_place due q) _ ∙ h.long;
       same = λ x. elim (cases_eq x (due_place due q)) [
-        | inl e ↦ rw e (ap (λ (c : Completion). c.job) (get_or-set_same cs (due_place due q) _ _ below) ∙ h.same (due_place due q))
-        | inr ne ↦ ap (λ (c : Completion). c.job) (get_or-set_other cs (due_place due q) x _ _ ne) ∙ h.same x
+        | inl e ↦
+            rw e (ap (λ (c : Completion). c.job) (get_or-set_same cs (due_place due q) _ _ below)
+            ∙ h.same (due_place due q))
+        | inr ne ↦
+            ap (λ (c : Completion). c.job) (get_or-set_other cs (due_place due q) x _ _ ne)
+            ∙ h.same x
       ];
       those = λ r a b. elim (cases_eq (due_place due r) (due_place due q)) [
-        | inl e ↦ rw e (get_or-set_same cs (due_place due q) _ _ below ∙ opens (completion cs (due_place due q)) (completion old (due_place due q)) (h.same (due_place due q)))
-        | inr ne ↦ get_or-set_other cs (due_place due q) (due_place due r) _ _ ne ∙ h.those r a (earlier r b ne)
+        | inl e ↦
+            rw e (get_or-set_same cs (due_place due q) _ _ below
+            ∙ opens (completion cs (due_place due q)) (completion old (due_place due q))
+            (h.same (due_place due q)))
+        | inr ne ↦
+            get_or-set_other cs (due_place due q) (due_place due r) _ _ ne
+            ∙ h.those r a (earlier r b ne)
       ];
-      others = λ x none. get_or-set_other cs (due_place due q) x _ _ (λ e. none q le (omega arith) (sym e)) ∙ h.others x (λ r a b. none r a (omega arith));
+      others = λ x none.
+          get_or-set_other cs (due_place due q) x _ _ (λ e. none q le (omega arith) (sym e))
+          ∙ h.others x (λ r a b. none r a (omega arith));
     }
   where
     opens : (c d : Completion) → c.job ≡ d.job → open_completion c ≡ open_completion d
     opens c d e = rw e refl
 
     earlier : (r : ℕ) → r < q + 1 → due_place due r ≢ due_place due q → r < q
-    earlier r b ne = elim (cases_eq r q) [ inl e ↦ absurd (ne (ap (due_place due) e)) | inr other ↦ omega arith ]
+    earlier r b ne = elim (cases_eq r q) [
+      | inl e ↦ absurd (ne (ap (due_place due) e))
+      | inr other ↦ omega arith
+    ]
 
--- one more position is linked: it is the first one of its task from here, and the next of its task is the first one so far
-pub record AreLinkedFrom (lines : List ScriptJob) (due : List (ℕ × ℕ)) (at : ℕ) (later heads : List ℕ) : Type 0 where
+-- one more position is linked: it is the first one of its task from here, and the next of its task
+-- is the first one so far
+pub record AreLinkedFrom (lines : List ScriptJob) (due : List (ℕ × ℕ)) (at : ℕ)
+    (later heads : List ℕ) : Type 0 where
   pub within : at ≤ length due
-  pub next : (p : ℕ) → at ≤ p → p < length due → IsFirstFrom lines due (due_task lines due p) (p + 1) (slice_index later p)
+  pub next : (p : ℕ) → at ≤ p → p < length due
+      → IsFirstFrom lines due (due_task lines due p) (p + 1) (slice_index later p)
   pub heads_are : (t : ℕ) → t < length heads → IsFirstFrom lines due t at (slice_index heads t)
 
-pub linked_more : (lines : List ScriptJob) (due : List (ℕ × ℕ)) (at n t : ℕ) (later heads : List ℕ) → at ≡ n + 1 → t ≡ due_task lines due n → t < length heads → length later ≡ length due → AreLinkedFrom lines due at later heads → AreLinkedFrom lines due n (slice_set later n (slice_index heads t)) (slice_set heads t n)
+pub linked_more : (lines : List ScriptJob) (due : List (ℕ × ℕ)) (at n t : ℕ) (later heads : List ℕ)
+    → at ≡ n + 1 → t ≡ due_task lines due n → t < length heads → length later ≡ length due
+    → AreLinkedFrom lines due at later heads
+    → AreLinkedFrom lines due n (slice_set later n (slice_index heads t)) (slice_set heads t n)
 linked_more lines due at n t later heads e is below long h =
     record {
       within = omega (arith, h.within);
@@ -62,18 +106,23 @@ linked_more lines due at n t later heads e is below long h =
         | inl same ↦
             rw same
             (rw (get_or-set_same later n (slice_index heads t) 0 (omega (arith, h.within)))
-            (subst (λ (k : ℕ). IsFirstFrom lines due (due_task lines due n) k (slice_index heads t)) e (subst (λ (k : ℕ). IsFirstFrom lines due k at (slice_index heads t)) is (h.heads_are t below))))
+            (subst (λ (k : ℕ). IsFirstFrom lines due (due_task lines due n) k (slice_index heads t))
+            e (subst (λ (k : ℕ). IsFirstFrom lines due k at (slice_index heads t)) is
+            (h.heads_are t below))))
         | inr ne ↦
-            subst (λ (k : ℕ). IsFirstFrom lines due (due_task lines due p) (p + 1) k) (sym (get_or-set_other later n p (slice_index heads t) 0 ne)) (h.next p (omega arith) b)
+            subst (λ (k : ℕ). IsFirstFrom lines due (due_task lines due p) (p + 1) k)
+            (sym (get_or-set_other later n p (slice_index heads t) 0 ne)) (h.next p (omega arith) b)
       ];
       heads_are = λ u b. elim (cases_eq u t) [
         | inl same ↦
             rw same
-            (subst (λ (k : ℕ). IsFirstFrom lines due t n k) (sym (get_or-set_same heads t n 0 below))
+            (subst (λ (k : ℕ). IsFirstFrom lines due t n k)
+            (sym (get_or-set_same heads t n 0 below))
             (subst (λ (k : ℕ). IsFirstFrom lines due k n n) (sym is) (first_here lines due n)))
         | inr ne ↦
             subst (λ (k : ℕ). IsFirstFrom lines due u n k) (sym (get_or-set_other heads t u n 0 ne))
             (first_earlier lines due u n (slice_index heads u) (λ q. ne (sym (is ∙ q)))
-            (subst (λ (k : ℕ). IsFirstFrom lines due u k (slice_index heads u)) e (h.heads_are u (omega (arith, length-set heads t n)))))
+            (subst (λ (k : ℕ). IsFirstFrom lines due u k (slice_index heads u)) e
+            (h.heads_are u (omega (arith, length-set heads t n)))))
       ];
     }

@@ -1,5 +1,6 @@
 -- The releases and places of a script's jobs in ascending order.
-use Rattle.std.proofs.Common.{◌≡◌, ℕ, zero, suc, ◌+◌, ◌<◌, ◌≤◌, ◌⊎◌, true, false, List, length, refl, sym, ◌∙◌, ap, subst, inl, inr, arith, get_or}
+use Rattle.std.proofs.Common.{◌≡◌, ℕ, zero, suc, ◌+◌, ◌<◌, ◌≤◌, ◌⊎◌, true, false, List, length}
+use Rattle.std.proofs.Common.{refl, sym, ◌∙◌, ap, subst, inl, inr, arith, get_or}
 use Rattle.std.specs.Prelude.{◌==◌, if◌then◌else◌}
 use Rattle.std.specs.List.{swap}
 use Rattle.std.specs.List.Sorted.{IsPermutation, IsSortedBy}
@@ -9,7 +10,8 @@ use Rattle.std.proofs.lemmas.Bool.Decides.{nat_tests}
 use Rattle.std.proofs.lemmas.List.Edits.{length-swap, swapped_from_swap}
 use Rattle.std.proofs.lemmas.List.Sorted.{IsPermutation-keeps}
 use Rattle.crpd_base.specs.declared.data.ScriptJob.{ScriptJob}
-use Rattle.preempt_machine.specs.Schedule.{script_line, due_place, due_release, IsDueBefore, IsReleaseOrder}
+use Rattle.preempt_machine.specs.Schedule.{script_line, due_place, due_release, IsDueBefore}
+use Rattle.preempt_machine.specs.Schedule.{IsReleaseOrder}
 use Rattle.preempt_machine.specs.Inner.Schedule.{AreListed}
 
 -- the entries are those of the lines, each at one position
@@ -19,14 +21,20 @@ record AreEntries (lines : List ScriptJob) (l : List (ℕ × ℕ)) : Type 0 wher
   one : (p r : ℕ) → p < length l → r < length l → due_place l p ≡ due_place l r → p ≡ r
   every : (x : ℕ) → x < length lines → (p : ℕ) × (p < length l) × (due_place l p ≡ x)
 
-listed_entries : (lines : List ScriptJob) (l : List (ℕ × ℕ)) → AreListed lines l → AreEntries lines l
+listed_entries : (lines : List ScriptJob) (l : List (ℕ × ℕ)) → AreListed lines l
+    → AreEntries lines l
 listed_entries lines l h =
     record {
-      places = λ p b. let e = ap (λ (x : ℕ × ℕ). x.1) (h.each p (omega (arith, h.long))) in omega (arith, e, h.long);
+      places = λ p b.
+          let e = ap (λ (x : ℕ × ℕ). x.1) (h.each p (omega (arith, h.long))) in
+          omega (arith, e, h.long);
       releases = λ p b.
           let is = h.each p (omega (arith, h.long)) in
-          ap (λ (x : ℕ × ℕ). x.0) is ∙ ap (λ k. (script_line lines k).release) (sym (ap (λ (x : ℕ × ℕ). x.1) is));
-      one = λ p r a b e. sym (ap (λ (x : ℕ × ℕ). x.1) (h.each p (omega (arith, h.long)))) ∙ e ∙ ap (λ (x : ℕ × ℕ). x.1) (h.each r (omega (arith, h.long)));
+          ap (λ (x : ℕ × ℕ). x.0) is
+          ∙ ap (λ k. (script_line lines k).release) (sym (ap (λ (x : ℕ × ℕ). x.1) is));
+      one = λ p r a b e.
+          sym (ap (λ (x : ℕ × ℕ). x.1) (h.each p (omega (arith, h.long)))) ∙ e
+          ∙ ap (λ (x : ℕ × ℕ). x.1) (h.each r (omega (arith, h.long)));
       every = λ x b. (x, omega (arith, h.long), ap (λ (y : ℕ × ℕ). y.1) (h.each x b));
     }
 
@@ -64,41 +72,54 @@ other_below i j p n a b c =
       | inr f ↦ elim (cases_Bool (p == j)) [ inl t ↦ rw (f, t) a | inr g ↦ rw (f, g) c ]
     ]
 
-swap_at : (l : List (ℕ × ℕ)) (i j p : ℕ) → i < length l → j < length l → get_or (swap l i j) p (0, 0) ≡ get_or l (other i j p) (0, 0)
+swap_at : (l : List (ℕ × ℕ)) (i j p : ℕ) → i < length l → j < length l
+    → get_or (swap l i j) p (0, 0) ≡ get_or l (other i j p) (0, 0)
 swap_at l i j p a b =
     let s = swapped_from_swap l (swap l i j) i j (0, 0) a b refl in
     elim (cases_eq p i) [
-      | inl e ↦ let t : (p == i) ≡ true = eq-eqb p i e in rw t (ap (λ k. get_or (swap l i j) k (0, 0)) e ∙ s.0)
+      | inl e ↦ let t : (p == i) ≡ true =
+          eq-eqb p i e in rw t (ap (λ k. get_or (swap l i j) k (0, 0)) e ∙ s.0)
       | inr ne ↦
           let t : (p == i) ≡ false = ne_eqb p i ne in
           elim (cases_eq p j) [
-            | inl e ↦ let u : (p == j) ≡ true = eq-eqb p j e in rw (t, u) (ap (λ k. get_or (swap l i j) k (0, 0)) e ∙ s.1)
-            | inr differ ↦ let u : (p == j) ≡ false = ne_eqb p j differ in rw (t, u) (s.2 p ne differ)
+            | inl e ↦ let u : (p == j) ≡ true =
+                eq-eqb p j e in rw (t, u) (ap (λ k. get_or (swap l i j) k (0, 0)) e ∙ s.1)
+            | inr differ ↦ let u : (p == j) ≡ false =
+                ne_eqb p j differ in rw (t, u) (s.2 p ne differ)
           ]
     ]
 
-swapped_entries : (lines : List ScriptJob) (l : List (ℕ × ℕ)) (i j : ℕ) → i < length l → j < length l → AreEntries lines l → AreEntries lines (swap l i j)
+swapped_entries : (lines : List ScriptJob) (l : List (ℕ × ℕ)) (i j : ℕ) → i < length l
+    → j < length l → AreEntries lines l → AreEntries lines (swap l i j)
 swapped_entries lines l i j a b h =
     let long = length-swap l i j in
-    let place : (p : ℕ) → due_place (swap l i j) p ≡ due_place l (other i j p) = λ p. ap (λ (x : ℕ × ℕ). x.1) (swap_at l i j p a b) in
-    let release : (p : ℕ) → due_release (swap l i j) p ≡ due_release l (other i j p) = λ p. ap (λ (x : ℕ × ℕ). x.0) (swap_at l i j p a b) in
-    let below : (p : ℕ) → p < length (swap l i j) → other i j p < length l = λ p c. other_below i j p (length l) a b (omega (arith, long)) in
+    let place : (p : ℕ) → due_place (swap l i j) p ≡ due_place l (other i j p) = λ p.
+    ap (λ (x : ℕ × ℕ). x.1) (swap_at l i j p a b) in
+    let release : (p : ℕ) → due_release (swap l i j) p ≡ due_release l (other i j p) = λ p.
+    ap (λ (x : ℕ × ℕ). x.0) (swap_at l i j p a b) in
+    let below : (p : ℕ) → p < length (swap l i j) → other i j p < length l = λ p c.
+    other_below i j p (length l) a b (omega (arith, long)) in
     record {
       places = λ p c. rw (place p) (h.places (other i j p) (below p c));
       releases = λ p c. rw (place p, release p) (h.releases (other i j p) (below p c));
       one = λ p r c d e.
-          let same = h.one (other i j p) (other i j r) (below p c) (below r d) (sym (place p) ∙ e ∙ place r) in
+          let same = h.one (other i j p) (other i j r) (below p c) (below r d)
+          (sym (place p) ∙ e ∙ place r) in
           sym (other_back i j p) ∙ ap (other i j) same ∙ other_back i j r;
       every = λ x c.
-          let (p, d, e) = h.every x c in
-          (other i j p, subst (λ n. other i j p < n) (sym long) (other_below i j p (length l) a b d), place (other i j p) ∙ ap (due_place l) (other_back i j p) ∙ e);
+          let (p, d, e) = h.every x c in (
+            other i j p,
+            subst (λ n. other i j p < n) (sym long) (other_below i j p (length l) a b d),
+            place (other i j p) ∙ ap (due_place l) (other_back i j p) ∙ e,
+          );
     }
 
 -- one entry stands before another, or is equal to it
 abbrev IsAtMost : ℕ × ℕ → ℕ × ℕ → Type 0
 IsAtMost a b = (a.0 < b.0) ⊎ ((a.0 ≡ b.0) × (a.1 ≤ b.1))
 
-at_most : (a b : ℕ × ℕ) → is_lt (ordering_then (nat_cmp b.0 a.0) (nat_cmp b.1 a.1)) ≡ false → IsAtMost a b
+at_most : (a b : ℕ × ℕ) → is_lt (ordering_then (nat_cmp b.0 a.0) (nat_cmp b.1 a.1)) ≡ false
+    → IsAtMost a b
 at_most a b h =
     elim (cases_lt a.0 b.0) [
       | inl l ↦ inl l
@@ -117,18 +138,33 @@ at_most_trans a b c (inl x) (inr (e, y)) = inl (omega arith)
 at_most_trans a b c (inr (e, x)) (inl y) = inl (omega arith)
 at_most_trans a b c (inr (e, x)) (inr (f, y)) = inr (e ∙ f, omega arith)
 
-far : (l : List (ℕ × ℕ)) → ((k : ℕ) → k + 1 < length l → IsAtMost (get_or l k (0, 0)) (get_or l (k + 1) (0, 0))) → (p r : ℕ) → p ≤ r → r < length l → IsAtMost (get_or l p (0, 0)) (get_or l r (0, 0))
-far l next p zero a b = let e : p ≡ 0 = omega arith in inr (ap (λ k. (get_or l k (0, 0)).0) e, let f = ap (λ k. (get_or l k (0, 0)).1) e in omega (arith, f))
+far : (l : List (ℕ × ℕ))
+    → ((k : ℕ) → k + 1 < length l → IsAtMost (get_or l k (0, 0)) (get_or l (k + 1) (0, 0)))
+    → (p r : ℕ) → p ≤ r → r < length l → IsAtMost (get_or l p (0, 0)) (get_or l r (0, 0))
+far l next p zero a b =
+    let e : p ≡ 0 = omega arith in
+    inr (
+      ap (λ k. (get_or l k (0, 0)).0) e,
+      let f = ap (λ k. (get_or l k (0, 0)).1) e in omega (arith, f),
+    )
 far l next p (suc r) a b =
     elim (cases_lt r p) [
-      | inl l1 ↦ let e : p ≡ suc r = omega arith in inr (ap (λ k. (get_or l k (0, 0)).0) e, let f = ap (λ k. (get_or l k (0, 0)).1) e in omega (arith, f))
+      | inl l1 ↦ let e : p ≡ suc r =
+          omega arith in
+          inr (
+            ap (λ k. (get_or l k (0, 0)).0) e,
+            let f = ap (λ k. (get_or l k (0, 0)).1) e in omega (arith, f),
+          )
       | inr g ↦
           let k : r + 1 ≡ suc r = omega arith in
-          at_most_trans (get_or l p (0, 0)) (get_or l r (0, 0)) (get_or l (suc r) (0, 0)) (far l next p r g (omega arith))
+          at_most_trans (get_or l p (0, 0)) (get_or l r (0, 0)) (get_or l (suc r) (0, 0))
+          (far l next p r g (omega arith))
           (subst (λ n. IsAtMost (get_or l r (0, 0)) (get_or l n (0, 0))) k (next r (omega arith)))
     ]
 
-strictly : (lines : List ScriptJob) (l : List (ℕ × ℕ)) (p r : ℕ) → AreEntries lines l → p < r → r < length l → IsAtMost (get_or l p (0, 0)) (get_or l r (0, 0)) → IsDueBefore (get_or l p (0, 0)) (get_or l r (0, 0))
+strictly : (lines : List ScriptJob) (l : List (ℕ × ℕ)) (p r : ℕ) → AreEntries lines l → p < r
+    → r < length l → IsAtMost (get_or l p (0, 0)) (get_or l r (0, 0))
+    → IsDueBefore (get_or l p (0, 0)) (get_or l r (0, 0))
 strictly lines l p r h a b (inl x) = inl x
 strictly lines l p r h a b (inr (e, x)) =
     elim (cases_lt (due_place l p) (due_place l r)) [
@@ -137,12 +173,19 @@ strictly lines l p r h a b (inr (e, x)) =
     ]
 
 -- a sorted list of the entries is the order by release
-pub sorted_due : (lines : List ScriptJob) (l m : List (ℕ × ℕ)) → AreListed lines l → IsPermutation l m → IsSortedBy (λ (x y : ℕ × ℕ). is_lt (ordering_then (nat_cmp x.0 y.0) (nat_cmp x.1 y.1))) m → IsReleaseOrder lines m
+pub sorted_due : (lines : List ScriptJob) (l m : List (ℕ × ℕ)) → AreListed lines l
+    → IsPermutation l m → IsSortedBy
+    (λ (x y : ℕ × ℕ). is_lt (ordering_then (nat_cmp x.0 y.0) (nat_cmp x.1 y.1))) m
+    → IsReleaseOrder lines m
 sorted_due lines l m h moved up =
-    let entries = IsPermutation-keeps l (AreEntries lines) (listed_entries lines l h) (λ k i j a b e. swapped_entries lines k i j a b e) m moved in
+    let entries = IsPermutation-keeps l (AreEntries lines) (listed_entries lines l h)
+    (λ k i j a b e. swapped_entries lines k i j a b e) m moved in
     record {
       places = entries.places;
       releases = entries.releases;
       every = entries.every;
-      ordered = λ p r a b. strictly lines m p r entries a b (far m (λ k c. at_most (get_or m k (0, 0)) (get_or m (k + 1) (0, 0)) (up k (0, 0) (omega arith) c)) p r (omega arith) b);
+      ordered = λ p r a b.
+          strictly lines m p r entries a b
+          (far m (λ k c. at_most (get_or m k (0, 0)) (get_or m (k + 1) (0, 0))
+          (up k (0, 0) (omega arith) c)) p r (omega arith) b);
     }

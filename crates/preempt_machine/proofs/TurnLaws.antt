@@ -1,7 +1,9 @@
 -- What a turn of a job does.
-use Rattle.std.proofs.Common.{◌≡◌, ℕ, ◌+◌, ◌-◌, ◌<◌, ◌≤◌, ◌≢◌, Bool, true, false, not, Some, refl, ◌∙◌, ap, inl, inr, arith}
+use Rattle.std.proofs.Common.{◌≡◌, ℕ, ◌+◌, ◌-◌, ◌<◌, ◌≤◌, ◌≢◌, Bool, true, false, not, Some, refl}
+use Rattle.std.proofs.Common.{◌∙◌, ap, inl, inr, arith}
 use Rattle.std.specs.Prelude.{◌==◌, ◌&&◌, nat_lt, if◌then◌else◌}
-use Rattle.std.proofs.lemmas.Bool.{cases_Bool, cases_eq, false≢true, ne_eqb, eq-eqb, ltb-true, ltb-false, lt-ltb}
+use Rattle.std.proofs.lemmas.Bool.{cases_Bool, cases_eq, false≢true, ne_eqb, eq-eqb, ltb-true}
+use Rattle.std.proofs.lemmas.Bool.{ltb-false, lt-ltb}
 use Rattle.crpd_base.specs.declared.data.Platform.{Platform}
 use Rattle.rv_decode.specs.declared.Ins.{Ins}
 use Rattle.rv_decode.specs.Cost.{cost}
@@ -10,7 +12,8 @@ use Rattle.rv_core.specs.declared.Next.TheVariants.{Goto, Answer, Fault}
 use Rattle.rv_core.specs.Effect.{next_pc}
 use Rattle.icache.specs.Cache.{block_of, cache_after_access}
 use Rattle.preempt_machine.specs.Machine.{System, Standing, Open, Answered, Faulted, Job, ins_at}
-use Rattle.preempt_machine.specs.Step.{is_open, Turn, turn_after_step, turn_after_cycle, turn_after_effect, turn_after_fetch, fetch_cost}
+use Rattle.preempt_machine.specs.Step.{is_open, Turn, turn_after_step, turn_after_cycle}
+use Rattle.preempt_machine.specs.Step.{turn_after_effect, turn_after_fetch, fetch_cost}
 
 pub not_faulted : (st : Standing) → is_open st ≡ true → st ≢ Faulted
 not_faulted Open h q = cc
@@ -32,28 +35,36 @@ with_fetch sys ins t =
       job = record t.job { left = fetch_cost sys ins t };
     }
 
-pub fetched_new : (sys : System) (ins : Ins) (t : Turn) → t.job.left ≡ 0 → turn_after_fetch sys ins t ≡ with_fetch sys ins t
+pub fetched_new : (sys : System) (ins : Ins) (t : Turn) → t.job.left ≡ 0
+    → turn_after_fetch sys ins t ≡ with_fetch sys ins t
 fetched_new sys ins t l = rw (eq-eqb _ _ l)
 
-pub fetched_none : (sys : System) (ins : Ins) (t : Turn) → t.job.left ≢ 0 → turn_after_fetch sys ins t ≡ t
+pub fetched_none : (sys : System) (ins : Ins) (t : Turn) → t.job.left ≢ 0
+    → turn_after_fetch sys ins t ≡ t
 fetched_none sys ins t ne = rw (ne_eqb _ _ ne)
 
 -- a fetch leaves the switch cycles, the standing and the watch
-pub fetched_switch : (sys : System) (ins : Ins) (t : Turn) → (turn_after_fetch sys ins t).switch_left ≡ t.switch_left
+pub fetched_switch : (sys : System) (ins : Ins) (t : Turn)
+    → (turn_after_fetch sys ins t).switch_left ≡ t.switch_left
 fetched_switch sys ins t = elim (cases_Bool (t.job.left == 0)) [ inl b ↦ rw b | inr b ↦ rw b ]
 
-pub fetched_standing : (sys : System) (ins : Ins) (t : Turn) → (turn_after_fetch sys ins t).job.standing ≡ t.job.standing
+pub fetched_standing : (sys : System) (ins : Ins) (t : Turn)
+    → (turn_after_fetch sys ins t).job.standing ≡ t.job.standing
 fetched_standing sys ins t = elim (cases_Bool (t.job.left == 0)) [ inl b ↦ rw b | inr b ↦ rw b ]
 
-pub fetched_watch : (sys : System) (ins : Ins) (t : Turn) → (turn_after_fetch sys ins t).job.watch ≡ t.job.watch
+pub fetched_watch : (sys : System) (ins : Ins) (t : Turn)
+    → (turn_after_fetch sys ins t).job.watch ≡ t.job.watch
 fetched_watch sys ins t = elim (cases_Bool (t.job.left == 0)) [ inl b ↦ rw b | inr b ↦ rw b ]
 
 -- a miss costs what a hit costs, and the reload
-cost_of_miss : (p : Platform) (ins : Ins) (t : Bool) → cost p ins true t ≡ cost p ins false t + p.miss
+cost_of_miss : (p : Platform) (ins : Ins) (t : Bool)
+    → cost p ins true t ≡ cost p ins false t + p.miss
 cost_of_miss p ins t = omega arith
 
 -- the cost of a fetch is at most as counted, with a reload where a word counted as a hit is missed
-pub cost_counted : (p : Platform) (ins : Ins) (counted hits t : Bool) → cost p ins (not hits) t ≤ cost p ins (not counted) t + (if counted && not hits then p.miss else 0)
+pub cost_counted : (p : Platform) (ins : Ins) (counted hits t : Bool)
+    → cost p ins (not hits) t
+    ≤ cost p ins (not counted) t + (if counted && not hits then p.miss else 0)
 cost_counted p ins true true t = omega arith
 cost_counted p ins true false t = omega (arith, cost_of_miss p ins t)
 cost_counted p ins false hits t = omega (arith, cost_miss p ins (not hits) t)
@@ -66,39 +77,63 @@ cost_taken p ins b false = omega arith
 abbrev pub begun : System → Ins → Turn → ℕ
 begun sys ins t = if t.job.left == 0 then fetch_cost sys ins t else t.job.left
 
--- a turn uses a switch cycle, or a cycle of the instruction, with the last of which it has its effect
+-- a turn uses a switch cycle, or a cycle of the instruction, with the last of which it has its
+-- effect
 pub data TurnOf (sys : System) (n : ℕ) (t : Turn) (ins : Ins) : Type 0 where
-  switches : 0 < t.switch_left → turn_after_step sys n t ≡ record t { switch_left = t.switch_left - 1 } → TurnOf sys n t ins
-  works : (k : ℕ) → t.switch_left ≡ 0 → 1 ≤ k → k + 1 ≡ begun sys ins t → (turn_after_step sys n t).job ≡ record t.job { left = k } → (turn_after_step sys n t).switch_left ≡ 0 → TurnOf sys n t ins
-  goes : t.switch_left ≡ 0 → begun sys ins t ≡ 1 → (turn_after_step sys n t).job ≡ (turn_after_effect sys n ins t (next_pc ins t.job.pc t.job.registers)).job → (turn_after_step sys n t).switch_left ≡ 0 → TurnOf sys n t ins
+  switches : 0 < t.switch_left → turn_after_step sys n t ≡ record t {
+    switch_left = t.switch_left - 1;
+  } → TurnOf sys n t ins
+  works : (k : ℕ) → t.switch_left ≡ 0 → 1 ≤ k → k + 1 ≡ begun sys ins t
+      → (turn_after_step sys n t).job ≡ record t.job { left = k }
+      → (turn_after_step sys n t).switch_left ≡ 0 → TurnOf sys n t ins
+  goes : t.switch_left ≡ 0 → begun sys ins t ≡ 1
+      → (turn_after_step sys n t).job
+      ≡ (turn_after_effect sys n ins t (next_pc ins t.job.pc t.job.registers)).job
+      → (turn_after_step sys n t).switch_left ≡ 0 → TurnOf sys n t ins
 
 -- the effect does not see what was left
-went_job : (sys : System) (n : ℕ) (ins : Ins) (t : Turn) (next : Next) → (turn_after_effect sys n ins (with_fetch sys ins t) next).job ≡ (turn_after_effect sys n ins t next).job
+went_job : (sys : System) (n : ℕ) (ins : Ins) (t : Turn) (next : Next)
+    → (turn_after_effect sys n ins (with_fetch sys ins t) next).job
+    ≡ (turn_after_effect sys n ins t next).job
 went_job sys n ins t (Goto to) = refl
 went_job sys n ins t Answer = refl
 went_job sys n ins t Fault = refl
 
-pub went_switch : (sys : System) (n : ℕ) (ins : Ins) (t : Turn) (next : Next) → (turn_after_effect sys n ins t next).switch_left ≡ t.switch_left
+pub went_switch : (sys : System) (n : ℕ) (ins : Ins) (t : Turn) (next : Next)
+    → (turn_after_effect sys n ins t next).switch_left ≡ t.switch_left
 went_switch sys n ins t (Goto to) = refl
 went_switch sys n ins t Answer = refl
 went_switch sys n ins t Fault = refl
 
 module _ (sys : System) (n : ℕ) (ins : Ins) where
   -- a turn that works with so many cycles left
-  worked_more : (t : Turn) → 1 < t.job.left → turn_after_cycle sys n ins t ≡ record t { job = record t.job { left = t.job.left - 1 } }
+  worked_more : (t : Turn) → 1 < t.job.left → turn_after_cycle sys n ins t ≡ record t {
+    job = record t.job { left = t.job.left - 1 };
+  }
   worked_more t l = let b : nat_lt 1 t.job.left ≡ true = lt-ltb 1 t.job.left l in rw b
 
-  worked_last : (t : Turn) → t.job.left ≡ 1 → turn_after_cycle sys n ins t ≡ turn_after_effect sys n ins t (next_pc ins t.job.pc t.job.registers)
+  worked_last : (t : Turn) → t.job.left ≡ 1
+      → turn_after_cycle sys n ins t
+      ≡ turn_after_effect sys n ins t (next_pc ins t.job.pc t.job.registers)
   worked_last t l = rw l
 
-  by_worked : (t before : Turn) → t.switch_left ≡ 0 → 1 ≤ t.job.left → begun sys ins before ≡ t.job.left → before.switch_left ≡ 0 → turn_after_step sys n before ≡ turn_after_cycle sys n ins t → record t.job { left = 0 } ≡ record before.job { left = 0 } → ((next : Next) → (turn_after_effect sys n ins t next).job ≡ (turn_after_effect sys n ins before next).job) → t.job.pc ≡ before.job.pc → t.job.registers ≡ before.job.registers → TurnOf sys n before ins
+  by_worked : (t before : Turn) → t.switch_left ≡ 0 → 1 ≤ t.job.left
+      → begun sys ins before ≡ t.job.left → before.switch_left ≡ 0
+      → turn_after_step sys n before ≡ turn_after_cycle sys n ins t
+      → record t.job { left = 0 } ≡ record before.job { left = 0 }
+      → ((next : Next) → (turn_after_effect sys n ins t next).job
+      ≡ (turn_after_effect sys n ins before next).job) → t.job.pc ≡ before.job.pc
+      → t.job.registers ≡ before.job.registers → TurnOf sys n before ins
   by_worked t before z pos is zb turn same goes_same pc regs =
       elim (cases_eq t.job.left 1) [
         | inl one ↦
             let w = turn ∙ worked_last t one in
             goes zb (is ∙ one)
-            (ap (λ (x : Turn). x.job) w ∙ goes_same (next_pc ins t.job.pc t.job.registers) ∙ ap (λ x. (turn_after_effect sys n ins before (next_pc ins x t.job.registers)).job) pc ∙ ap (λ x. (turn_after_effect sys n ins before (next_pc ins before.job.pc x)).job) regs)
-            (ap (λ (x : Turn). x.switch_left) w ∙ went_switch sys n ins t (next_pc ins t.job.pc t.job.registers) ∙ z)
+            (ap (λ (x : Turn). x.job) w ∙ goes_same (next_pc ins t.job.pc t.job.registers)
+            ∙ ap (λ x. (turn_after_effect sys n ins before (next_pc ins x t.job.registers)).job) pc
+            ∙ ap (λ x. (turn_after_effect sys n ins before (next_pc ins before.job.pc x)).job) regs)
+            (ap (λ (x : Turn). x.switch_left) w
+            ∙ went_switch sys n ins t (next_pc ins t.job.pc t.job.registers) ∙ z)
         | inr ne ↦
             let l : 1 < t.job.left = omega arith in
             let w = turn ∙ worked_more t l in
@@ -107,7 +142,8 @@ module _ (sys : System) (n : ℕ) (ins : Ins) where
             (ap (λ (x : Turn). x.switch_left) w ∙ z)
       ]
 
-  pub turn_of_job : (t : Turn) → ins_at sys t.job.pc ≡ Some ins → 1 ≤ begun sys ins t → TurnOf sys n t ins
+  pub turn_of_job : (t : Turn) → ins_at sys t.job.pc ≡ Some ins → 1 ≤ begun sys ins t
+      → TurnOf sys n t ins
   unfolding turn_after_step
   turn_of_job t at pos =
       elim (cases_Bool (nat_lt 0 t.switch_left)) [
@@ -115,15 +151,20 @@ module _ (sys : System) (n : ℕ) (ins : Ins) where
         | inr b ↦
             let z : t.switch_left ≤ 0 = ltb-false _ _ b in
             let zero : t.switch_left ≡ 0 = omega arith in
-            let turn : turn_after_step sys n t ≡ turn_after_cycle sys n ins (turn_after_fetch sys ins t) = rw (b, at) refl in
+            let turn : turn_after_step sys n t
+            ≡ turn_after_cycle sys n ins (turn_after_fetch sys ins t) = rw (b, at) refl in
             elim (cases_eq t.job.left 0) [
               | inl l ↦
                   let bit : (t.job.left == 0) ≡ true = eq-eqb _ _ l in
                   let is : begun sys ins t ≡ fetch_cost sys ins t = rw bit refl in
-                  by_worked (with_fetch sys ins t) t zero (omega (arith, pos, is)) is zero (turn ∙ ap (λ x. turn_after_cycle sys n ins x) (fetched_new sys ins t l)) refl (went_job sys n ins t) refl refl
+                  by_worked (with_fetch sys ins t) t zero (omega (arith, pos, is)) is zero
+                  (turn ∙ ap (λ x. turn_after_cycle sys n ins x) (fetched_new sys ins t l)) refl
+                  (went_job sys n ins t) refl refl
               | inr ne ↦
                   let bit : (t.job.left == 0) ≡ false = ne_eqb _ _ ne in
                   let is : begun sys ins t ≡ t.job.left = rw bit refl in
-                  by_worked t t zero (omega arith) is zero (turn ∙ ap (λ x. turn_after_cycle sys n ins x) (fetched_none sys ins t ne)) refl (λ next. refl) refl refl
+                  by_worked t t zero (omega arith) is zero
+                  (turn ∙ ap (λ x. turn_after_cycle sys n ins x) (fetched_none sys ins t ne)) refl
+                  (λ next. refl) refl refl
             ]
       ]

@@ -20,14 +20,16 @@ pub record IsReady (m : Machine) (x : ℕ) : Type 0 where
   pub released : release_of m x ≤ m.time
   pub open_still : (job_at m.jobs x).standing ≡ Open
 
--- a job comes before another: its task is higher, or within the task it was released earlier, or then as early with a
--- smaller number
+-- a job comes before another: its task is higher, or within the task it was released earlier, or
+-- then as early with a smaller number
 pub data ComesBefore (m : Machine) (x y : ℕ) : Type 0 where
   higher : task_of m x < task_of m y → ComesBefore m x y
   earlier : task_of m x ≡ task_of m y → release_of m x < release_of m y → ComesBefore m x y
-  smaller : task_of m x ≡ task_of m y → release_of m x ≡ release_of m y → job_number m x < job_number m y → ComesBefore m x y
+  smaller : task_of m x ≡ task_of m y → release_of m x ≡ release_of m y
+      → job_number m x < job_number m y → ComesBefore m x y
 
--- the owner keeps the core: switches wait for the end of an instruction, and it is ready and has one under way
+-- the owner keeps the core: switches wait for the end of an instruction, and it is ready and has
+-- one under way
 pub record KeepsCore (sys : System) (m : Machine) (x : ℕ) : Type 0 where
   pub waits : sys.platform.switching ≡ Instruction
   pub owner : m.owner ≡ Some x
@@ -46,12 +48,15 @@ pub data IsCandidate (sys : System) (m : Machine) (x : ℕ) : Type 0 where
 
 -- the step's function gives the candidate
 abbrev pub CandidateLaw : Type 0
-CandidateLaw = (sys : System) (m : Machine) (x : ℕ) → (candidate sys m ≡ Some x) ↔ IsCandidate sys m x
+CandidateLaw =
+    (sys : System) (m : Machine) (x : ℕ) → (candidate sys m ≡ Some x) ↔ IsCandidate sys m x
 
 -- there is none exactly where no job is ready
 abbrev pub NoCandidateLaw : Type 0
-NoCandidateLaw = (sys : System) (m : Machine) → (candidate sys m ≡ None) ↔ ((x : ℕ) → IsReady m x → ⊥)
+NoCandidateLaw =
+    (sys : System) (m : Machine) → (candidate sys m ≡ None) ↔ ((x : ℕ) → IsReady m x → ⊥)
 
 -- there is at most one
 abbrev pub OneCandidateLaw : Type 0
-OneCandidateLaw = (sys : System) (m : Machine) (x y : ℕ) → IsCandidate sys m x → IsCandidate sys m y → x ≡ y
+OneCandidateLaw =
+    (sys : System) (m : Machine) (x y : ℕ) → IsCandidate sys m x → IsCandidate sys m y → x ≡ y

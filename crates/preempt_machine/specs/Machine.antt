@@ -1,5 +1,6 @@
 -- The states of a run.
-use Rattle.std.specs.Prelude.{ℕ, suc, ◌+◌, ◌==◌, if◌then◌else◌, List, [], ◌∷◌, map, replicate, slice_index_or, zero, Option, Some, None, option_and_then}
+use Rattle.std.specs.Prelude.{ℕ, suc, ◌+◌, ◌==◌, if◌then◌else◌, List, [], ◌∷◌, map, replicate}
+use Rattle.std.specs.Prelude.{slice_index_or, zero, Option, Some, None, option_and_then}
 use Rattle.crpd_base.specs.declared.data.Platform.{Platform}
 use Rattle.crpd_base.specs.declared.data.ScriptJob.{ScriptJob}
 use Rattle.crpd_base.specs.declared.data.TaskPlan.{TaskPlan}
@@ -32,8 +33,8 @@ pub data Standing : Type 0 where
   Answered : ℕ → Standing
   Faulted : Standing
 
--- a job: its line of the script, its registers and pc, the cycles left of the instruction under way (0 where none is),
--- its watch, and its standing
+-- a job: its line of the script, its registers and pc, the cycles left of the instruction under way
+-- (0 where none is), its watch, and its standing
 pub record Job : Type 0 where
   pub line : ScriptJob
   pub registers : List ℕ
@@ -42,8 +43,8 @@ pub record Job : Type 0 where
   pub watch : Watch
   pub standing : Standing
 
--- the number of steps made, the cache and the data memory, the owner of the core by its place in the script, the
--- switch cycles left, and the jobs in the script's order
+-- the number of steps made, the cache and the data memory, the owner of the core by its place in
+-- the script, the switch cycles left, and the jobs in the script's order
 pub record Machine : Type 0 where
   pub time : ℕ
   pub cache : Cache
@@ -72,13 +73,21 @@ new_job sys line =
 -- the state at the start of a run
 abbrev pub start_machine : System → Cache → Memory → List ScriptJob → Machine
 start_machine sys cache memory lines =
-    record { time = 0; cache = cache; memory = memory; owner = None; switch_left = 0; jobs = map (new_job sys) lines }
+    record {
+      time = 0;
+      cache = cache;
+      memory = memory;
+      owner = None;
+      switch_left = 0;
+      jobs = map (new_job sys) lines;
+    }
 
 -- a job's number: how many jobs of its task stand before it in the script
 abbrev pub number_in_script : List ScriptJob → ℕ → ℕ → ℕ
 number_in_script [] task place = 0
 number_in_script (l ∷ lines) task zero = 0
-number_in_script (l ∷ lines) task (suc place) = (if l.task.0 == task then 1 else 0) + number_in_script lines task place
+number_in_script (l ∷ lines) task (suc place) =
+    (if l.task.0 == task then 1 else 0) + number_in_script lines task place
 
 -- the job at a place; past the end one that has faulted
 abbrev pub no_job : Job

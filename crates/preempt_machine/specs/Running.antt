@@ -1,5 +1,6 @@
 -- A machine that runs, and what its steps make of it.
-use Rattle.std.specs.Prelude.{◌≡◌, ℕ, zero, suc, ◌<◌, ◌≤◌, if◌then◌else◌, length, List, slice_index_or, [], Option, Some, None, option_map}
+use Rattle.std.specs.Prelude.{◌≡◌, ℕ, zero, suc, ◌<◌, ◌≤◌, if◌then◌else◌, length, List}
+use Rattle.std.specs.Prelude.{slice_index_or, [], Option, Some, None, option_map}
 use Rattle.crpd_base.specs.declared.data.JobId.{JobId}
 use Rattle.crpd_base.specs.declared.data.Platform.{Platform}
 use Rattle.crpd_base.specs.declared.data.ScriptJob.{ScriptJob}
@@ -29,7 +30,11 @@ pub record Running : Type 0 where
 
 -- the machine's system of a platform and the code of the tasks' files
 abbrev pub system_by : Platform → Code → System
-system_by platform code = record { platform = platform; plans = code.plans; word = word_at code.images }
+system_by platform code = record {
+  platform = platform;
+  plans = code.plans;
+  word = word_at code.images;
+}
 
 -- the job at a place of the script, by its task and its number
 abbrev pub job_id : Machine → ℕ → JobId
@@ -51,7 +56,11 @@ fetch_told sys m f =
 -- the machine at the start of a run
 abbrev pub start_of : TaskSet → Code → Cache → Memory → List ScriptJob → Running
 start_of set code cache memory lines =
-    record { platform = set.platform; state = start_machine (system_of set code) cache memory lines; fetch = None }
+    record {
+      platform = set.platform;
+      state = start_machine (system_of set code) cache memory lines;
+      fetch = None;
+    }
 
 -- after one step, and after n steps
 abbrev pub running_after_step : Code → Running → Running
@@ -70,7 +79,9 @@ running_after_steps (suc n) code r = running_after_step code (running_after_step
 -- a job's task has a plan, with as many stated loops as the job's watch follows
 pub record HasPlan (plans : List TaskPlan) (job : Job) : Type 0 where
   pub task : job.line.task.0 < length plans
-  pub loops : HasIterations (length (slice_index_or plans job.line.task.0 (record { entry = 0; stack = 0; global = 0; loops = [] })).loops) job.watch
+  pub loops : HasIterations
+      (length (slice_index_or plans job.line.task.0
+      (record { entry = 0; stack = 0; global = 0; loops = [] })).loops) job.watch
 
 -- each job's task has one
 abbrev pub HasPlans : Code → Machine → Type 0
@@ -83,7 +94,8 @@ pub record IsStoreNow (sys : System) (t : Turn) : Type 0 where
   pub last : (turn_after_fetch sys ins t).job.left ≤ 1
   pub store : IsStore ins
 
--- the step gives a store its effect: the last cycle of a store of the candidate, with no switch cycle left
+-- the step gives a store its effect: the last cycle of a store of the candidate, with no switch
+-- cycle left
 pub record GivesStore (sys : System) (m : Machine) : Type 0 where
   pub place : ℕ
   pub is_candidate : candidate sys m ≡ Some place
@@ -99,7 +111,10 @@ pub record StopsAtStore (code : Code) (n : ℕ) (old new : Running) : Type 0 whe
 
 -- the completion of the job at a place
 abbrev pub completion_at : Machine → ℕ → Completion
-completion_at m x = record { job = job_id m x; «end» = end_by m.time (release_of m x) (job_at m.jobs x).standing }
+completion_at m x = record {
+  job = job_id m x;
+  «end» = end_by m.time (release_of m x) (job_at m.jobs x).standing;
+}
 
 -- the job of this task and number stands at a place of the script
 pub record IsJobAt (m : Machine) (job : JobId) (x : ℕ) : Type 0 where

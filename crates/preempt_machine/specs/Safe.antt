@@ -1,5 +1,6 @@
 -- What is said of states: completions, kept, late, safe.
-use Rattle.std.specs.Prelude.{◌≡◌, ℕ, ◌+◌, ◌<◌, ◌≤◌, true, if◌then◌else◌, nat_le, List, length, map, slice_index, All}
+use Rattle.std.specs.Prelude.{◌≡◌, ℕ, ◌+◌, ◌<◌, ◌≤◌, true, if◌then◌else◌, nat_le, List, length, map}
+use Rattle.std.specs.Prelude.{slice_index, All}
 use Rattle.crpd_base.specs.declared.data.ScriptJob.{ScriptJob}
 use Rattle.crpd_base.specs.declared.data.TaskSet.{TaskSet}
 use Rattle.rv_core.specs.Memory.{IsMemory}
@@ -40,8 +41,8 @@ IsLate time response job =
 abbrev pub NamesTasks : TaskSet → List ScriptJob → Type 0
 NamesTasks set lines = All (λ (line : ScriptJob). line.task.0 < length set.tasks) lines
 
--- what is asked of a run: a cache with an entry for each of the platform's sets, a data memory, and jobs of the set's
--- tasks
+-- what is asked of a run: a cache with an entry for each of the platform's sets, a data memory, and
+-- jobs of the set's tasks
 pub record IsRunOf (set : TaskSet) (s : Start) : Type 0 where
   pub cache : s.system.platform.sets ≤ length s.cache
   pub memory : IsMemory s.memory
@@ -54,7 +55,8 @@ pub record IsLegalRun (set : TaskSet) (s : Start) : Type 0 where
   pub tasks : NamesTasks set s.lines
   pub legal : IsLegal set s.lines
 
--- from every cache and memory, for every legal script, after any number of steps: if the state is kept, no job is late
+-- from every cache and memory, for every legal script, after any number of steps: if the state is
+-- kept, no job is late
 abbrev pub IsSafe : System → TaskSet → List ℕ → Type 0
 IsSafe sys set responses =
     (s : Start) (n : ℕ) → s.system ≡ sys → IsLegalRun set s → IsKept (state s n) →
@@ -62,7 +64,11 @@ IsSafe sys set responses =
 
 -- the machine's system of a task set and its code
 abbrev pub system_of : TaskSet → Code → System
-system_of set code = record { platform = set.platform; plans = code.plans; word = word_at code.images }
+system_of set code = record {
+  platform = set.platform;
+  plans = code.plans;
+  word = word_at code.images;
+}
 
 -- a task set with its code is safe with a response time for each task
 abbrev pub IsSafeWith : TaskSet → Code → List ℕ → Type 0

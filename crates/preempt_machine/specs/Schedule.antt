@@ -1,5 +1,7 @@
 -- How the program keeps a machine.
-use Rattle.std.specs.Prelude.{◌≡◌, ◌≢◌, ℕ, ◌+◌, ◌<◌, ◌≤◌, ◌⊎◌, Bool, true, false, if◌then◌else◌, length, map, List, slice_index, slice_index_or, slice_set, Option, Some, None}
+use Rattle.std.specs.Prelude.{◌≡◌, ◌≢◌, ℕ, ◌+◌, ◌<◌, ◌≤◌, ◌⊎◌, Bool, true, false, if◌then◌else◌}
+use Rattle.std.specs.Prelude.{length, map, List, slice_index, slice_index_or, slice_set, Option}
+use Rattle.std.specs.Prelude.{Some, None}
 use Rattle.crpd_base.specs.declared.data.ScriptJob.{ScriptJob}
 use Rattle.crpd_base.specs.declared.data.Switching.{Switching}
 use Rattle.preempt_machine.specs.declared.Completion.{Completion}
@@ -33,9 +35,11 @@ IsDueBefore a b = (a.0 < b.0) ⊎ ((a.0 ≡ b.0) × (a.1 < b.1))
 -- the jobs of a script in the order of their releases
 pub record IsReleaseOrder (lines : List ScriptJob) (due : List (ℕ × ℕ)) : Type 0 where
   pub places : (p : ℕ) → p < length due → due_place due p < length lines
-  pub releases : (p : ℕ) → p < length due → due_release due p ≡ (script_line lines (due_place due p)).release
+  pub releases : (p : ℕ) → p < length due
+      → due_release due p ≡ (script_line lines (due_place due p)).release
   pub every : (x : ℕ) → x < length lines → (p : ℕ) × (p < length due) × (due_place due p ≡ x)
-  pub ordered : (p r : ℕ) → p < r → r < length due → IsDueBefore (slice_index_or due p (0, 0)) (slice_index_or due r (0, 0))
+  pub ordered : (p r : ℕ) → p < r → r < length due
+      → IsDueBefore (slice_index_or due p (0, 0)) (slice_index_or due r (0, 0))
 
 -- q is the first position from p on with a job of the task, or past the end where there is none
 pub record IsFirstFrom (lines : List ScriptJob) (due : List (ℕ × ℕ)) (task p q : ℕ) : Type 0 where
@@ -46,14 +50,20 @@ pub record IsFirstFrom (lines : List ScriptJob) (due : List (ℕ × ℕ)) (task 
 -- the position of the next job of the same task
 pub record IsLinked (lines : List ScriptJob) (due : List (ℕ × ℕ)) (later : List ℕ) : Type 0 where
   pub long : length later ≡ length due
-  pub next : (p : ℕ) → p < length due → IsFirstFrom lines due (due_task lines due p) (p + 1) (slice_index later p)
+  pub next : (p : ℕ) → p < length due
+      → IsFirstFrom lines due (due_task lines due p) (p + 1) (slice_index later p)
 
--- the position of each task's first job that is open, past the end where there is none; the jobs before it are over
-pub record HasTaskHeads (lines : List ScriptJob) (due : List (ℕ × ℕ)) (heads : List ℕ) (jobs : List Job) : Type 0 where
+-- the position of each task's first job that is open, past the end where there is none; the jobs
+-- before it are over
+pub record HasTaskHeads (lines : List ScriptJob) (due : List (ℕ × ℕ)) (heads : List ℕ)
+    (jobs : List Job) : Type 0 where
   pub tasks : (x : ℕ) → x < length lines → (script_line lines x).task.0 < length heads
-  pub head : (t : ℕ) → t < length heads → slice_index heads t < length due → due_task lines due (slice_index heads t) ≡ t
-  pub over : (p : ℕ) → p < length due → p < slice_index heads (due_task lines due p) → is_open (job_at jobs (due_place due p)).standing ≡ false
-  pub open_still : (p : ℕ) → p < length due → slice_index heads (due_task lines due p) ≤ p → is_open (job_at jobs (due_place due p)).standing ≡ true
+  pub head : (t : ℕ) → t < length heads → slice_index heads t < length due
+      → due_task lines due (slice_index heads t) ≡ t
+  pub over : (p : ℕ) → p < length due → p < slice_index heads (due_task lines due p)
+      → is_open (job_at jobs (due_place due p)).standing ≡ false
+  pub open_still : (p : ℕ) → p < length due → slice_index heads (due_task lines due p) ≤ p
+      → is_open (job_at jobs (due_place due p)).standing ≡ true
 
 -- a position is that of a job released at this time or earlier
 abbrev pub IsReleasedBy : List (ℕ × ℕ) → ℕ → ℕ → Type 0
@@ -69,21 +79,28 @@ pub record IsFirstReleased (due : List (ℕ × ℕ)) (heads : List ℕ) (now pla
 
 -- the first job of no task has come
 abbrev pub NoneIsReleased : List (ℕ × ℕ) → List ℕ → ℕ → Type 0
-NoneIsReleased due heads now = (u : ℕ) → u < length heads → IsReleasedBy due now (slice_index heads u) → ⊥
+NoneIsReleased due heads now =
+    (u : ℕ) → u < length heads → IsReleasedBy due now (slice_index heads u) → ⊥
 
 -- a completion of an open job
 abbrev pub open_completion : Completion → Completion
 open_completion c = record { job = c.job; «end» = «end».Open }
 
 abbrev pub completion : List Completion → ℕ → Completion
-completion cs x = slice_index_or cs x (record { job = record { task = record { 0 = 0 }; number = 0 }; «end» = «end».Unreleased })
+completion cs x =
+    slice_index_or cs x (record {
+      job = record { task = record { 0 = 0 }; number = 0 };
+      «end» = «end».Unreleased;
+    })
 
 -- the jobs at the positions from one up to another are told to be open, and no others
 pub record HasOpened (due : List (ℕ × ℕ)) (from to : ℕ) (old new : List Completion) : Type 0 where
   pub long : length new ≡ length old
   pub same : (x : ℕ) → (completion new x).job ≡ (completion old x).job
-  pub those : (p : ℕ) → from ≤ p → p < to → completion new (due_place due p) ≡ open_completion (completion old (due_place due p))
-  pub others : (x : ℕ) → ((p : ℕ) → from ≤ p → p < to → due_place due p ≢ x) → completion new x ≡ completion old x
+  pub those : (p : ℕ) → from ≤ p → p < to
+      → completion new (due_place due p) ≡ open_completion (completion old (due_place due p))
+  pub others : (x : ℕ) → ((p : ℕ) → from ≤ p → p < to → due_place due p ≢ x)
+      → completion new x ≡ completion old x
 
 -- the positions below this one are those of jobs released before a time
 pub record IsUpTo (due : List (ℕ × ℕ)) (time released : ℕ) : Type 0 where
@@ -116,7 +133,8 @@ machine_by cache memory s =
 -- an owner is a job of the script, and the first of its task while it is open
 pub record IsOwner (jobs : List Job) (due : List (ℕ × ℕ)) (heads : List ℕ) (o : ℕ) : Type 0 where
   pub below : o < length jobs
-  pub first : is_open (job_at jobs o).standing ≡ true → due_place due (slice_index heads (job_at jobs o).line.task.0) ≡ o
+  pub first : is_open (job_at jobs o).standing ≡ true
+      → due_place due (slice_index heads (job_at jobs o).line.task.0) ≡ o
 
 -- a job of the script is the first of its task that is open
 pub record IsHead (jobs : List Job) (due : List (ℕ × ℕ)) (heads : List ℕ) (x : ℕ) : Type 0 where
@@ -124,14 +142,17 @@ pub record IsHead (jobs : List Job) (due : List (ℕ × ℕ)) (heads : List ℕ)
   pub inside : slice_index heads (job_at jobs x).line.task.0 < length due
   pub first : due_place due (slice_index heads (job_at jobs x).line.task.0) ≡ x
 
--- how a state is kept beside the order of its jobs and their completions, in a cache with room for so many sets
-pub record IsRepresented (sets : ℕ) (m : Machine) (order : List (ℕ × ℕ)) (links firsts : List ℕ) (count : ℕ) (cs : List Completion) : Type 0 where
+-- how a state is kept beside the order of its jobs and their completions, in a cache with room for
+-- so many sets
+pub record IsRepresented (sets : ℕ) (m : Machine) (order : List (ℕ × ℕ)) (links firsts : List ℕ)
+    (count : ℕ) (cs : List Completion) : Type 0 where
   pub room : sets ≤ length m.cache
   pub due : IsReleaseOrder (script_lines m.jobs) order
   pub linked : IsLinked (script_lines m.jobs) order links
   pub waiting : HasTaskHeads (script_lines m.jobs) order firsts m.jobs
   pub released : IsUpTo order m.time count
-  pub over : (x : ℕ) → x < length m.jobs → is_open (job_at m.jobs x).standing ≡ false → (job_at m.jobs x).line.release < m.time
+  pub over : (x : ℕ) → x < length m.jobs → is_open (job_at m.jobs x).standing ≡ false
+      → (job_at m.jobs x).line.release < m.time
   pub told : length cs ≡ length m.jobs
   pub completions : (x : ℕ) → x < length m.jobs → completion cs x ≡ completion_at m x
   pub owner : (o : ℕ) → m.owner ≡ Some o → IsOwner m.jobs order firsts o
@@ -139,7 +160,8 @@ pub record IsRepresented (sets : ℕ) (m : Machine) (order : List (ℕ × ℕ)) 
 -- a schedule holds a state with its order and completions
 abbrev pub IsScheduled : ℕ → Cache → Memory → Schedule → Type 0
 IsScheduled sets cache memory s =
-    IsRepresented sets (machine_by cache memory s) s.queue.due.items s.queue.later.items s.queue.heads.items s.queue.released s.completions.items
+    IsRepresented sets (machine_by cache memory s) s.queue.due.items s.queue.later.items
+    s.queue.heads.items s.queue.released s.completions.items
 
 -- whether the owner keeps the core
 abbrev pub owner_keeps : Switching → ℕ → List Job → Option ℕ → Bool
@@ -147,7 +169,8 @@ owner_keeps switching time jobs None = false
 owner_keeps switching time jobs (Some o) = keeps_core switching time (job_at jobs o)
 
 -- the jobs that are released in a step are told to be open
-pub record AreReleased (due : List (ℕ × ℕ)) (time from to : ℕ) (cs new : List Completion) : Type 0 where
+pub record AreReleased (due : List (ℕ × ℕ)) (time from to : ℕ)
+    (cs new : List Completion) : Type 0 where
   pub opens : HasOpened due from to cs new
   pub rises : from ≤ to
   pub within : from ≤ length due → to ≤ length due
@@ -163,24 +186,33 @@ pub record HasToldReleases (old new : Schedule) : Type 0 where
   pub due : new.queue.due.items ≡ old.queue.due.items
   pub later : new.queue.later.items ≡ old.queue.later.items
   pub heads : new.queue.heads.items ≡ old.queue.heads.items
-  pub released : AreReleased old.queue.due.items old.steps old.queue.released new.queue.released old.completions.items new.completions.items
+  pub released : AreReleased old.queue.due.items old.steps old.queue.released new.queue.released
+      old.completions.items new.completions.items
 
--- the first open jobs of the tasks, and the completions, once it is told whether the job at a place is over
+-- the first open jobs of the tasks, and the completions, once it is told whether the job at a place
+-- is over
 abbrev pub heads_after : List Job → List ℕ → List ℕ → ℕ → List ℕ
 heads_after jobs later heads x =
     let task = (job_at jobs x).line.task.0 in
-    if is_open (job_at jobs x).standing then heads else slice_set heads task (slice_index later (slice_index heads task))
+    if is_open (job_at jobs x).standing then heads
+    else slice_set heads task (slice_index later (slice_index heads task))
 
 abbrev pub completions_after : List Job → List Completion → ℕ → List Completion
 completions_after jobs cs x =
     if is_open (job_at jobs x).standing then cs
-    else slice_set cs x (record { job = (completion cs x).job; «end» = end_of_standing (job_at jobs x).standing })
+    else slice_set cs x (record {
+      job = (completion cs x).job;
+      «end» = end_of_standing (job_at jobs x).standing;
+    })
 
 -- the first job of its task is told to be over, where it is, and nothing else changes
 pub record HasSettled (old new : Schedule) (place : ℕ) : Type 0 where
-  pub state : (cache : Cache) (memory : Memory) → machine_by cache memory new ≡ machine_by cache memory old
+  pub state : (cache : Cache) (memory : Memory)
+      → machine_by cache memory new ≡ machine_by cache memory old
   pub due : new.queue.due.items ≡ old.queue.due.items
   pub later : new.queue.later.items ≡ old.queue.later.items
   pub released : new.queue.released ≡ old.queue.released
-  pub heads : new.queue.heads.items ≡ heads_after old.jobs.items old.queue.later.items old.queue.heads.items place
-  pub completions : new.completions.items ≡ completions_after old.jobs.items old.completions.items place
+  pub heads : new.queue.heads.items
+      ≡ heads_after old.jobs.items old.queue.later.items old.queue.heads.items place
+  pub completions : new.completions.items
+      ≡ completions_after old.jobs.items old.completions.items place

@@ -1,5 +1,7 @@
 -- One step of the machine, and runs.
-use Rattle.std.specs.Prelude.{ℕ, zero, suc, ◌-◌, Bool, true, false, not, ◌&&◌, ◌||◌, ◌==◌, nat_lt, nat_le, if◌then◌else◌, List, length, slice_set, Option, Some, None, is_some}
+use Rattle.std.specs.Prelude.{ℕ, zero, suc, ◌-◌, Bool, true, false, not, ◌&&◌, ◌||◌, ◌==◌, nat_lt}
+use Rattle.std.specs.Prelude.{nat_le, if◌then◌else◌, List, length, slice_set, Option, Some, None}
+use Rattle.std.specs.Prelude.{is_some}
 use Rattle.crpd_base.specs.declared.data.Switching.{Switching}
 use Rattle.crpd_base.specs.declared.data.Switching.TheVariants.{Cycle, Instruction}
 use Rattle.crpd_base.specs.declared.data.ScriptJob.{ScriptJob}
@@ -12,7 +14,8 @@ use Rattle.rv_decode.specs.Address.{next_address, end_address}
 use Rattle.rv_core.specs.Memory.{Memory}
 use Rattle.icache.specs.Cache.{Cache, block_of, is_hit, cache_after_access}
 use Rattle.flow_watch.specs.Watch.{step as watch_step}
-use Rattle.preempt_machine.specs.Machine.{System, ins_at, Standing, Open, Answered, Faulted, Job, Machine, plan_of, start_machine, job_at}
+use Rattle.preempt_machine.specs.Machine.{System, ins_at, Standing, Open, Answered, Faulted, Job}
+use Rattle.preempt_machine.specs.Machine.{Machine, plan_of, start_machine, job_at}
 
 -- a job is ready from its release until it answers or faults
 abbrev pub is_open : Standing → Bool
@@ -23,31 +26,37 @@ is_open Faulted = false
 unfoldable pub is_ready : ℕ → Job → Bool
 is_ready time job = is_open job.standing && nat_le job.line.release time
 
--- the line a of the script, at place x, comes before the line b, at place y: a higher task, then an earlier release, then
--- a smaller place (a job's number grows with its place among the jobs of its task)
+-- the line a of the script, at place x, comes before the line b, at place y: a higher task, then an
+-- earlier release, then a smaller place (a job's number grows with its place among the jobs of its
+-- task)
 unfoldable pub comes_before : ScriptJob → ℕ → ScriptJob → ℕ → Bool
 comes_before a x b y =
     nat_lt a.task.0 b.task.0
-    || ((a.task.0 == b.task.0) && (nat_lt a.release b.release || ((a.release == b.release) && nat_lt x y)))
+    || ((a.task.0 == b.task.0)
+    && (nat_lt a.release b.release || ((a.release == b.release) && nat_lt x y)))
 
 abbrev pub before : List Job → ℕ → ℕ → Bool
 before jobs x y = comes_before (job_at jobs x).line x (job_at jobs y).line y
 
 -- the first in that order of the ready jobs below a place
 abbrev pub better_candidate : ℕ → List Job → ℕ → Option ℕ → Option ℕ
-better_candidate time jobs x best = if is_ready time (job_at jobs x) then (elim best [ None ↦ Some x | Some y ↦ if before jobs x y then Some x else Some y ]) else best
+better_candidate time jobs x best =
+    if is_ready time (job_at jobs x)
+    then (elim best [ None ↦ Some x | Some y ↦ if before jobs x y then Some x else Some y ])
+    else best
 
 abbrev pub first_ready : ℕ → List Job → ℕ → Option ℕ
 first_ready time jobs zero = None
 first_ready time jobs (suc n) = better_candidate time jobs n (first_ready time jobs n)
 
--- whether a job keeps the core: a ready one in the middle of an instruction, where switches wait for its end
+-- whether a job keeps the core: a ready one in the middle of an instruction, where switches wait
+-- for its end
 abbrev pub keeps_core : Switching → ℕ → Job → Bool
 keeps_core Cycle time job = false
 keeps_core Instruction time job = is_ready time job && nat_lt 0 job.left
 
--- the candidate, as it is found: the owner where it keeps the core, else the ready job that comes before all others.
--- Candidate has it as a relation
+-- the candidate, as it is found: the owner where it keeps the core, else the ready job that comes
+-- before all others. Candidate has it as a relation
 abbrev pub candidate_by : System → Machine → Option ℕ → Option ℕ
 candidate_by sys m None = first_ready m.time m.jobs (length m.jobs)
 candidate_by sys m (Some o) =
@@ -88,7 +97,8 @@ abbrev pub fetch_cost : System → Ins → Turn → ℕ
 fetch_cost sys ins t =
     let p = sys.platform in
     let pc = t.job.pc in
-    cost p ins (not (is_hit p t.cache (block_of p pc))) (not (goes_to_next (next_pc ins pc t.job.registers) pc))
+    cost p ins (not (is_hit p t.cache (block_of p pc)))
+    (not (goes_to_next (next_pc ins pc t.job.registers) pc))
 
 abbrev pub turn_after_fetch : System → Ins → Turn → Turn
 turn_after_fetch sys ins t =
@@ -114,8 +124,12 @@ turn_after_effect sys n ins t (Goto to) =
         standing = if to == end_address then Answered (suc n) else Open;
       };
     }
-turn_after_effect sys n ins t Answer = record t { job = record t.job { left = 0; standing = Answered (suc n) } }
-turn_after_effect sys n ins t Fault = record t { job = record t.job { left = 0; standing = Faulted } }
+turn_after_effect sys n ins t Answer = record t {
+  job = record t.job { left = 0; standing = Answered (suc n) };
+}
+turn_after_effect sys n ins t Fault = record t {
+  job = record t.job { left = 0; standing = Faulted };
+}
 
 -- one cycle of the instruction is used, and with the last one it has its effect
 abbrev pub turn_after_cycle : System → ℕ → Ins → Turn → Turn
@@ -181,7 +195,8 @@ makes_fetch sys t = (t.switch_left == 0) && (t.job.left == 0) && is_some (ins_at
 abbrev pub fetch_by : System → Machine → Option ℕ → Option Fetch
 fetch_by sys m None = None
 fetch_by sys m (Some i) =
-    if makes_fetch sys (turn_of sys m i) then Some (record { job = i; address = (job_at m.jobs i).pc }) else None
+    if makes_fetch sys (turn_of sys m i)
+    then Some (record { job = i; address = (job_at m.jobs i).pc }) else None
 
 -- the fetch of the step from a state, if there is one
 abbrev pub fetch : System → Machine → Option Fetch

@@ -8,7 +8,8 @@ use rv_decode::{Ins, decode};
 use std::alloc::Global;
 use std::marker::Model;
 
-/// How many words are kept. Words whose addresses differ by a multiple of four times this share a place.
+/// How many words are kept. Words whose addresses differ by a multiple of four times this share a
+/// place.
 const PLACES: usize = 2048;
 
 /// A word, and the instruction that it means.
@@ -48,8 +49,8 @@ impl Decoded {
         }
     }
 
-    /// The instruction that a word means, which stands at an address. Where the word was met last at its place it is not
-    /// decoded again.
+    /// The instruction that a word means, which stands at an address. Where the word was met last
+    /// at its place it is not decoded again.
     pub(crate) fn meaning(&mut self, word: u32, address: u32) -> Option<Ins>
         ensures row { result ≡ ins_of_word word }
         ensures in_range { IfSome result HasFieldsInRange }

@@ -1,5 +1,7 @@
 // The jobs, and what a job does with the core while it has it.
-ghost use Rattle.std.specs.Prelude.{◌≡◌, ℕ, suc, ◌+◌, ◌<◌, ◌≤◌, ◌^◌, ◌⊎◌, ◌∷◌, ◌==◌, if◌then◌else◌, not, replicate, length, Some, None, IfSome, IfOk, IsOk, OnOk, OnErr};
+ghost use Rattle.std.specs.Prelude.{◌≡◌, ℕ, suc, ◌+◌, ◌<◌, ◌≤◌, ◌^◌, ◌⊎◌, ◌∷◌, ◌==◌, if◌then◌else◌};
+ghost use Rattle.std.specs.Prelude.{not, replicate, length, Some, None, IfSome, IfOk, IsOk, OnOk};
+ghost use Rattle.std.specs.Prelude.{OnErr};
 ghost use Rattle.crpd_base.specs.declared.data.Platform.{Platform};
 ghost use Rattle.rv_decode.specs.Address.{end_address};
 ghost use Rattle.rv_decode.specs.Range.{HasFieldsInRange};
@@ -7,8 +9,11 @@ ghost use Rattle.rv_core.specs.Effect.{IsStore, next_pc};
 ghost use Rattle.icache.specs.Cache.{Cache as Blocks};
 ghost use Rattle.flow_watch.specs.Iterations.{HasIterations};
 ghost use Rattle.flow_watch.specs.Watch.{step as watch_step};
-ghost use Rattle.preempt_machine.specs.Machine.{System, Open, Faulted, Answered, ins_at, new_job, plan_of};
-ghost use Rattle.preempt_machine.specs.Step.{turn_after_execution, fetch_cost, turn_after_fetch, goes_to_next, is_open, is_ready, turn_after_effect, turn_after_cycle};
+ghost use Rattle.preempt_machine.specs.Machine.{System, Open, Faulted, Answered, ins_at, new_job};
+ghost use Rattle.preempt_machine.specs.Machine.{plan_of};
+ghost use Rattle.preempt_machine.specs.Step.{turn_after_execution, fetch_cost, turn_after_fetch};
+ghost use Rattle.preempt_machine.specs.Step.{goes_to_next, is_open, is_ready, turn_after_effect};
+ghost use Rattle.preempt_machine.specs.Step.{turn_after_cycle};
 ghost use Rattle.preempt_machine.specs.Running.{access_by, system_by, HasPlan, IsStoreNow};
 ghost use Rattle.preempt_machine.specs.Jobs.{end_of_standing, turn_by};
 ghost use Rattle.preempt_machine.specs.Inner.Jobs.{found_by};
@@ -35,9 +40,9 @@ enum Standing {
     Faulted,
 }
 
-/// A job of the script: its line, its registers and pc, the cycles left of the instruction under way, 0 where none is,
-/// its watch, and how it stands: open, answered at a time, or faulted.
-/// Each call but `start`, `next` and `finish` is in constant time and takes no memory.
+/// A job of the script: its line, its registers and pc, the cycles left of the instruction under
+/// way, 0 where none is, its watch, and how it stands: open, answered at a time, or faulted. Each
+/// call but `start`, `next` and `finish` is in constant time and takes no memory.
 #[derive(Drop)]
 pub struct Job {
     line: ScriptJob,
@@ -69,7 +74,8 @@ impl Model for Job {
     ghost invariant = { HasBottomFrame };
 }
 
-/// The registers of a job at its start: x1 is the address at which it ends, x2 the stack, x3 the global pointer.
+/// The registers of a job at its start: x1 is the address at which it ends, x2 the stack, x3 the
+/// global pointer.
 fn start_registers(plan: &TaskPlan) -> Regs
     ensures { result ≡ 0 ∷ end_address ∷ plan.now.stack ∷ plan.now.global ∷ replicate 28 0 }
 {
@@ -93,10 +99,11 @@ pub fn is_taken(next: Next, pc: u32) -> bool
 }
 
 impl Job {
-    /// A job before its first step: at its task's entry, with the registers of a start. Want of memory is the only error.
-    /// Time and memory are those of the watch.
+    /// A job before its first step: at its task's entry, with the registers of a start. Want of
+    /// memory is the only error. Time and memory are those of the watch.
     pub fn start(alloc: Global, line: ScriptJob, plan: &TaskPlan) -> Result<Self, Memory>
-        ensures is { IfOk result (λ job. (sys : System) → plan_of sys line.task.0 ≡ plan.now → job ≡ new_job sys line) }
+        ensures is { IfOk result
+            (λ job. (sys : System) → plan_of sys line.task.0 ≡ plan.now → job ≡ new_job sys line) }
         ensures line { IfOk result (λ job. job.line ≡ line) }
         ensures turns { IfOk result (λ job. HasIterations (length plan.now.loops) job.watch) }
     {
@@ -195,9 +202,14 @@ impl Job {
         self.standing = Standing::Answered(time);
     }
 
-    /// It is at an address from a time on, with no instruction under way. At the end it has answered then.
+    /// It is at an address from a time on, with no instruction under way. At the end it has
+    /// answered then.
     fn reach(&mut self, to: u32, time: u64)
-        ensures { self.new ≡ record self.old { pc = to; left = 0; standing = if to == end_address then Answered time else self.old.standing } }
+        ensures { self.new ≡ record self.old {
+          pc = to;
+          left = 0;
+          standing = if to == end_address then Answered time else self.old.standing;
+        } }
     {
         self.pc = to;
         self.left = 0;
@@ -218,7 +230,12 @@ impl Job {
         requires in_range { HasFieldsInRange ins.now }
         requires turns { HasIterations (length plan.now.loops) self.old.watch }
         requires open { self.old.standing ≡ Open }
-        ensures ok { OnOk result ((sys : System) (cache : Blocks) (k n : ℕ) → suc n ≡ time → plan_of sys self.old.line.task.0 ≡ plan.now → turn_by cache memory.new k self.new ≡ turn_after_effect sys n ins.now (turn_by cache memory.old k self.old) (Next.Goto to)) }
+        ensures ok { OnOk result
+            ((sys : System) (cache : Blocks) (k n : ℕ) → suc n ≡ time
+            → plan_of sys self.old.line.task.0 ≡ plan.now
+            → turn_by cache memory.new k self.new
+            ≡ turn_after_effect sys n ins.now (turn_by cache memory.old k self.old)
+            (Next.Goto to)) }
         ensures turns { OnOk result (HasIterations (length plan.now.loops) self.new.watch) }
         ensures err { OnErr result ((self.new ≡ self.old) × (memory.new ≡ memory.old)) }
         ensures only { IsStore ins.now ⊎ IsOk result }
@@ -230,9 +247,9 @@ impl Job {
         Ok(())
     }
 
-    /// The effect of its instruction, which ends at a time, and after which it goes on at an address. Its watch stays as it
-    /// is, so the caller has to know that the watch's step leaves it so. After an error all is as before. Memory is wanted
-    /// by a store alone.
+    /// The effect of its instruction, which ends at a time, and after which it goes on at an
+    /// address. Its watch stays as it is, so the caller has to know that the watch's step leaves it
+    /// so. After an error all is as before. Memory is wanted by a store alone.
     #[inline(always)]
     pub fn go_on(
         &mut self,
@@ -243,7 +260,12 @@ impl Job {
     ) -> Result<(), Memory>
         requires in_range { HasFieldsInRange ins.now }
         requires open { self.old.standing ≡ Open }
-        ensures ok { OnOk result ((sys : System) (cache : Blocks) (k n : ℕ) → suc n ≡ time → watch_step (plan_of sys self.old.line.task.0) self.old.watch self.old.pc ins.now to ≡ self.old.watch → turn_by cache memory.new k self.new ≡ turn_after_effect sys n ins.now (turn_by cache memory.old k self.old) (Next.Goto to)) }
+        ensures ok { OnOk result
+            ((sys : System) (cache : Blocks) (k n : ℕ) → suc n ≡ time
+            → watch_step (plan_of sys self.old.line.task.0) self.old.watch self.old.pc ins.now to
+            ≡ self.old.watch → turn_by cache memory.new k self.new
+            ≡ turn_after_effect sys n ins.now (turn_by cache memory.old k self.old)
+            (Next.Goto to)) }
         ensures watch { self.new.watch ≡ self.old.watch }
         ensures err { OnErr result ((self.new ≡ self.old) × (memory.new ≡ memory.old)) }
         ensures only { IsStore ins.now ⊎ IsOk result }
@@ -253,9 +275,9 @@ impl Job {
         Ok(())
     }
 
-    /// The effect of its instruction, which ends at a time, and after which it goes on so: it answers then, faults, or goes on.
-    /// After an error all is as before. Memory is wanted by a store alone.
-    /// Its time is that of the effect and of a step of the watch.
+    /// The effect of its instruction, which ends at a time, and after which it goes on so: it
+    /// answers then, faults, or goes on. After an error all is as before. Memory is wanted by a
+    /// store alone. Its time is that of the effect and of a step of the watch.
     pub fn finish(
         &mut self,
         memory: &mut DataMemory,
@@ -267,7 +289,11 @@ impl Job {
         requires in_range { HasFieldsInRange ins.now }
         requires turns { HasIterations (length plan.now.loops) self.old.watch }
         requires open { self.old.standing ≡ Open }
-        ensures ok { OnOk result ((sys : System) (cache : Blocks) (k n : ℕ) → suc n ≡ time → plan_of sys self.old.line.task.0 ≡ plan.now → turn_by cache memory.new k self.new ≡ turn_after_effect sys n ins.now (turn_by cache memory.old k self.old) next) }
+        ensures ok { OnOk result
+            ((sys : System) (cache : Blocks) (k n : ℕ) → suc n ≡ time
+            → plan_of sys self.old.line.task.0 ≡ plan.now
+            → turn_by cache memory.new k self.new
+            ≡ turn_after_effect sys n ins.now (turn_by cache memory.old k self.old) next) }
         ensures turns { OnOk result (HasIterations (length plan.now.loops) self.new.watch) }
         ensures err { OnErr result ((self.new ≡ self.old) × (memory.new ≡ memory.old)) }
         ensures only { IsStore ins.now ⊎ IsOk result }
@@ -296,7 +322,11 @@ impl Job {
         requires turns { HasIterations (length plan.now.loops) self.old.watch }
         requires open { self.old.standing ≡ Open }
         requires later { now + 1 < 2 ^ 64 }
-        ensures ok { OnOk result ((sys : System) (cache : Blocks) (k : ℕ) → plan_of sys self.old.line.task.0 ≡ plan.now → turn_by cache memory.new k self.new ≡ turn_after_cycle sys now ins.now (turn_by cache memory.old k (record self.old { left = left }))) }
+        ensures ok { OnOk result
+            ((sys : System) (cache : Blocks) (k : ℕ) → plan_of sys self.old.line.task.0 ≡ plan.now
+            → turn_by cache memory.new k self.new
+            ≡ turn_after_cycle sys now ins.now
+            (turn_by cache memory.old k (record self.old { left = left }))) }
         ensures turns { OnOk result (HasIterations (length plan.now.loops) self.new.watch) }
         ensures err { OnErr result ((self.new ≡ self.old) × (memory.new ≡ memory.old)) }
         ensures store { OnErr result (IsStore ins.now) }
@@ -327,7 +357,8 @@ impl Core {
     fn cost(&self, job: &Job, ins: &Ins) -> u64
         requires in_range { HasFieldsInRange ins.now }
         requires room { self.now.geometry.platform.sets ≤ length self.now.cache }
-        ensures { (sys : System) (k : ℕ) → sys.platform ≡ self.now.geometry.platform → result ≡ fetch_cost sys ins.now (turn_by self.now.cache self.now.memory k job.now) }
+        ensures { (sys : System) (k : ℕ) → sys.platform ≡ self.now.geometry.platform
+            → result ≡ fetch_cost sys ins.now (turn_by self.now.cache self.now.memory k job.now) }
     {
         let block = self.geometry.block(job.pc());
         let missed = match self.cache.holds(self.geometry.set(block)) {
@@ -338,8 +369,8 @@ impl Core {
         cost(&self.geometry.platform, ins, missed, taken)
     }
 
-    /// A cycle of a job's instruction. Without one under way it is fetched; then the answer is what the fetch found.
-    /// After an error all is as before.
+    /// A cycle of a job's instruction. Without one under way it is fetched; then the answer is what
+    /// the fetch found. After an error all is as before.
     fn execute(
         &mut self,
         job: &mut Job,
@@ -352,13 +383,23 @@ impl Core {
         requires open { job.old.standing ≡ Open }
         requires later { now + 1 < 2 ^ 64 }
         requires room { self.old.geometry.platform.sets ≤ length self.old.cache }
-        ensures ok { OnOk result ((sys : System) (k : ℕ) → sys.platform ≡ self.old.geometry.platform → plan_of sys job.old.line.task.0 ≡ plan.now → turn_by self.new.cache self.new.memory k job.new ≡ turn_after_cycle sys now ins.now (turn_after_fetch sys ins.now (turn_by self.old.cache self.old.memory k job.old))) }
-        ensures found { IfOk result (λ found. found ≡ (if job.old.left == 0 then Some (access_by self.old.geometry.platform self.old.cache job.old.pc) else None)) }
+        ensures ok { OnOk result
+            ((sys : System) (k : ℕ) → sys.platform ≡ self.old.geometry.platform
+            → plan_of sys job.old.line.task.0 ≡ plan.now
+            → turn_by self.new.cache self.new.memory k job.new
+            ≡ turn_after_cycle sys now ins.now
+            (turn_after_fetch sys ins.now (turn_by self.old.cache self.old.memory k job.old))) }
+        ensures found { IfOk result
+            (λ found. found ≡ (if job.old.left == 0
+            then Some (access_by self.old.geometry.platform self.old.cache job.old.pc) else None)) }
         ensures turns { OnOk result (HasIterations (length plan.now.loops) job.new.watch) }
         ensures geometry { self.new.geometry ≡ self.old.geometry }
         ensures err { OnErr result ((job.new ≡ job.old) × (self.new ≡ self.old)) }
         ensures store { OnErr result (IsStore ins.now) }
-        ensures last { OnErr result ((sys : System) (k : ℕ) → sys.platform ≡ self.old.geometry.platform → (turn_after_fetch sys ins.now (turn_by self.old.cache self.old.memory k job.old)).job.left ≤ 1) }
+        ensures last { OnErr result
+            ((sys : System) (k : ℕ) → sys.platform ≡ self.old.geometry.platform
+            → (turn_after_fetch sys ins.now
+            (turn_by self.old.cache self.old.memory k job.old)).job.left ≤ 1) }
     {
         let left = job.left();
         if left > 0 {
@@ -371,8 +412,8 @@ impl Core {
         Ok(Some(self.cache.access(&self.geometry, block)))
     }
 
-    /// A cycle of a job that has the core with no switch cycle left, and what it finds where it fetches. It faults where
-    /// no instruction can be fetched. After an error all is as before.
+    /// A cycle of a job that has the core with no switch cycle left, and what it finds where it
+    /// fetches. It faults where no instruction can be fetched. After an error all is as before.
     pub(crate) fn advance(
         &mut self,
         job: &mut Job,
@@ -383,12 +424,19 @@ impl Core {
         requires open { job.old.standing ≡ Open }
         requires later { now + 1 < 2 ^ 64 }
         requires room { self.old.geometry.platform.sets ≤ length self.old.cache }
-        ensures ok { OnOk result (let sys = system_by self.old.geometry.platform code.now in turn_by self.new.cache self.new.memory 0 job.new ≡ turn_after_execution sys now (turn_by self.old.cache self.old.memory 0 job.old) (ins_at sys job.old.pc)) }
-        ensures found { IfOk result (λ found. found ≡ found_by (system_by self.old.geometry.platform code.now) (turn_by self.old.cache self.old.memory 0 job.old)) }
+        ensures ok { OnOk result (let sys = system_by self.old.geometry.platform code.now in
+            turn_by self.new.cache self.new.memory 0 job.new
+            ≡ turn_after_execution sys now (turn_by self.old.cache self.old.memory 0 job.old)
+            (ins_at sys job.old.pc)) }
+        ensures found { IfOk result
+            (λ found. found ≡ found_by (system_by self.old.geometry.platform code.now)
+            (turn_by self.old.cache self.old.memory 0 job.old)) }
         ensures plan { OnOk result (HasPlan code.now.plans job.new) }
         ensures geometry { self.new.geometry ≡ self.old.geometry }
         ensures err { OnErr result ((job.new ≡ job.old) × (self.new ≡ self.old)) }
-        ensures store { OnErr result (IsStoreNow (system_by self.old.geometry.platform code.now) (turn_by self.old.cache self.old.memory 0 job.old)) }
+        ensures store { OnErr result
+            (IsStoreNow (system_by self.old.geometry.platform code.now)
+            (turn_by self.old.cache self.old.memory 0 job.old)) }
     {
         match instruction(&mut self.decoded, code, job.pc()) {
             Some(ins) => self.execute(job, code.plan(job.task()), &ins, now),

@@ -16,11 +16,11 @@ use rv_core::DataMemory;
 use std::alloc::Global;
 use std::marker::Model;
 
-/// A machine that runs the jobs of a script: one core with one instruction cache, on which the job of the highest task
-/// that is ready takes each cycle.
+/// A machine that runs the jobs of a script: one core with one instruction cache, on which the job
+/// of the highest task that is ready takes each cycle.
 ///
-/// Contracts see it as its platform, its state and the fetch of the last step made. Times are cycles from the run's
-/// start.
+/// Contracts see it as its platform, its state and the fetch of the last step made. Times are
+/// cycles from the run's start.
 #[derive(Drop)]
 pub struct Machine {
     parts: Parts,
@@ -55,19 +55,23 @@ fn place_of(completions: &[Completion], job: JobId) -> usize
 }
 
 impl Machine {
-    ghost use Rattle.std.specs.Prelude.{◌≡◌, ◌≢◌, ℕ, ◌+◌, ◌-◌, ◌<◌, ◌≤◌, ◌^◌, length, map, All, IsTrue, ◌↔◌, Some, None, option_map, IfOk, OnOk, OnErr};
+    ghost use Rattle.std.specs.Prelude.{◌≡◌, ◌≢◌, ℕ, ◌+◌, ◌-◌, ◌<◌, ◌≤◌, ◌^◌, length, map, All};
+    ghost use Rattle.std.specs.Prelude.{IsTrue, ◌↔◌, Some, None, option_map, IfOk, OnOk, OnErr};
     ghost use Rattle.preempt_machine.specs.Safe.{completions, IsKept, NamesTasks};
     ghost use Rattle.preempt_machine.specs.Starts.{start_cache, start_memory};
-    ghost use Rattle.preempt_machine.specs.Running.{completion_at, job_id, start_of, running_after_step, running_after_steps, system_by, GivesStore, HasPlans, IsJobAt, StopsAtStore};
+    ghost use Rattle.preempt_machine.specs.Running.{completion_at, job_id, start_of};
+    ghost use Rattle.preempt_machine.specs.Running.{running_after_step, running_after_steps};
+    ghost use Rattle.preempt_machine.specs.Running.{system_by, GivesStore, HasPlans, IsJobAt};
+    ghost use Rattle.preempt_machine.specs.Running.{StopsAtStore};
     ghost use Rattle.preempt_machine.specs.Machine.{job_at};
     ghost use Rattle.preempt_machine.specs.Schedule.{completion, HasMade};
 
-    /// The machine at the start of a run of a script, from any cache and data memory: no owner, and all jobs
-    /// unreleased. It makes all the room that steps fill, but that of the data memory.
+    /// The machine at the start of a run of a script, from any cache and data memory: no owner, and
+    /// all jobs unreleased. It makes all the room that steps fill, but that of the data memory.
     ///
-    /// The code map has a plan for each task of the set, the script's jobs are of the set's tasks, and the cache has
-    /// room for the platform's sets. Want of memory is the only error; then the data memory is dropped. Time is
-    /// n log n in the jobs.
+    /// The code map has a plan for each task of the set, the script's jobs are of the set's tasks,
+    /// and the cache has room for the platform's sets. Want of memory is the only error; then the
+    /// data memory is dropped. Time is n log n in the jobs.
     pub fn new(
         alloc: Global,
         code: &CodeMap,
@@ -83,7 +87,8 @@ impl Machine {
         requires plans { length code.now.plans ≡ length set.now.tasks }
         requires tasks { NamesTasks set.now script.now.jobs }
         requires jobs { length script.now.jobs < 2 ^ 32 }
-        ensures started { IfOk result (λ m. m ≡ start_of set.now code.now cache memory script.now.jobs) }
+        ensures started { IfOk result
+            (λ m. m ≡ start_of set.now code.now cache memory script.now.jobs) }
         ensures plans { IfOk result (λ m. HasPlans code.now m.state) }
     {
         let schedule = Schedule::new(alloc, code, set, script)?;
@@ -118,7 +123,9 @@ impl Machine {
         requires plans { length code.now.plans ≡ length set.now.tasks }
         requires tasks { NamesTasks set.now script.now.jobs }
         requires jobs { length script.now.jobs < 2 ^ 32 }
-        ensures started { IfOk result (λ m. m ≡ start_of set.now code.now (start_cache set.now.platform script.now.cache) (start_memory code.now.images) script.now.jobs) }
+        ensures started { IfOk result
+            (λ m. m ≡ start_of set.now code.now (start_cache set.now.platform script.now.cache)
+            (start_memory code.now.images) script.now.jobs) }
         ensures plans { IfOk result (λ m. HasPlans code.now m.state) }
     {
         let memory = start_memory(alloc, code)?;
@@ -126,48 +133,54 @@ impl Machine {
         Machine::new(alloc, code, set, script, cache, memory)
     }
 
-    /// One step of a job, or where no job is ready the steps up to the next release, none of them past a cycle. After an
-    /// error all is as before.
+    /// One step of a job, or where no job is ready the steps up to the next release, none of them
+    /// past a cycle. After an error all is as before.
     fn advance(&mut self, code: &CodeMap, cycle: u64) -> Result<(), Memory>
         requires before { self.old.state.time < cycle }
         requires plans { HasPlans code.now self.old.state }
         ensures ok { OnOk result (HasMade code.now cycle self.old self.new) }
         ensures plans { HasPlans code.now self.new.state }
         ensures err { OnErr result (self.new ≡ self.old) }
-        ensures only { OnErr result (GivesStore (system_by self.old.platform code.now) self.old.state) }
+        ensures only { OnErr result
+            (GivesStore (system_by self.old.platform code.now) self.old.state) }
     {
         self.parts.advance(code, cycle)?;
         self.kept = self.kept && self.parts.schedule.owner_is_kept();
         Ok(())
     }
 
-    /// One step: the next cycle. Fewer than 2^64 - 1 steps were made, and each job's task has a plan with as many
-    /// stated loops as at the start.
+    /// One step: the next cycle. Fewer than 2^64 - 1 steps were made, and each job's task has a
+    /// plan with as many stated loops as at the start.
     ///
-    /// `Memory` comes only where the step gives a store its effect, and then all is as before. Its time is that of its
-    /// work: of one instruction, of a look at each task's first waiting job, and of the jobs that this cycle releases.
+    /// `Memory` comes only where the step gives a store its effect, and then all is as before. Its
+    /// time is that of its work: of one instruction, of a look at each task's first waiting job,
+    /// and of the jobs that this cycle releases.
     pub fn cycle(&mut self, code: &CodeMap) -> Result<(), Memory>
         requires later { self.old.state.time + 1 < 2 ^ 64 }
         requires plans { HasPlans code.now self.old.state }
         ensures ok { OnOk result (self.new ≡ running_after_step code.now self.old) }
         ensures plans { HasPlans code.now self.new.state }
         ensures err { OnErr result (self.new ≡ self.old) }
-        ensures only { OnErr result (GivesStore (system_by self.old.platform code.now) self.old.state) }
+        ensures only { OnErr result
+            (GivesStore (system_by self.old.platform code.now) self.old.state) }
     {
         self.advance(code, self.steps() + 1)
     }
 
-    /// Makes steps until a cycle, and none where the machine stands at or past it. Each job's task has a plan with as
-    /// many stated loops as at the start.
+    /// Makes steps until a cycle, and none where the machine stands at or past it. Each job's task
+    /// has a plan with as many stated loops as at the start.
     ///
-    /// After `Memory` the machine stands after some of these steps, before one that gives a store its effect. Where no job
-    /// is ready the machine goes at once to the next release. So its time is that of `cycle` for each cycle in which a job
-    /// is ready, and once a look at each task's first waiting job for each stretch of cycles in which none is.
+    /// After `Memory` the machine stands after some of these steps, before one that gives a store
+    /// its effect. Where no job is ready the machine goes at once to the next release. So its time
+    /// is that of `cycle` for each cycle in which a job is ready, and once a look at each task's
+    /// first waiting job for each stretch of cycles in which none is.
     pub fn run_until(&mut self, code: &CodeMap, cycle: u64) -> Result<(), Memory>
         requires plans { HasPlans code.now self.old.state }
-        ensures ok { OnOk result (self.new ≡ running_after_steps (cycle - self.old.state.time) code.now self.old) }
+        ensures ok { OnOk result
+            (self.new ≡ running_after_steps (cycle - self.old.state.time) code.now self.old) }
         ensures plans { HasPlans code.now self.new.state }
-        ensures err { OnErr result (StopsAtStore code.now (cycle - self.old.state.time) self.old self.new) }
+        ensures err { OnErr result
+            (StopsAtStore code.now (cycle - self.old.state.time) self.old self.new) }
     {
         while self.steps() < cycle {
             self.advance(code, cycle)?;
@@ -188,7 +201,8 @@ impl Machine {
     pub fn completions(&self) -> &[Completion]
         ensures ends { map (λ c. c.«end») result.now ≡ completions self.now.state }
         ensures long { length result.now ≡ length self.now.state.jobs }
-        ensures each { (x : ℕ) → x < length self.now.state.jobs → completion result.now x ≡ completion_at self.now.state x }
+        ensures each { (x : ℕ) → x < length self.now.state.jobs
+            → completion result.now x ≡ completion_at self.now.state x }
     {
         self.parts.schedule.completions.as_slice()
     }
@@ -232,7 +246,8 @@ impl Machine {
     /// The pc of a job of the script, by a look through the jobs.
     pub fn pc(&self, job: JobId) -> u32
         requires { (x : ℕ) × IsJobAt self.now.state job x }
-        ensures { (x : ℕ) → IsJobAt self.now.state job x → result ≡ (job_at self.now.state.jobs x).pc }
+        ensures { (x : ℕ) → IsJobAt self.now.state job x
+            → result ≡ (job_at self.now.state.jobs x).pc }
     {
         let place = self.place(job);
         self.parts.schedule.jobs[place].pc()
@@ -241,7 +256,8 @@ impl Machine {
     /// The watch of a job of the script, by a look through the jobs.
     pub fn watch(&self, job: JobId) -> &Watch
         requires { (x : ℕ) × IsJobAt self.now.state job x }
-        ensures { (x : ℕ) → IsJobAt self.now.state job x → result.now ≡ (job_at self.now.state.jobs x).watch }
+        ensures { (x : ℕ) → IsJobAt self.now.state job x
+            → result.now ≡ (job_at self.now.state.jobs x).watch }
     {
         let place = self.place(job);
         self.parts.schedule.jobs[place].watch()

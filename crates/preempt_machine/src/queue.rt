@@ -1,15 +1,19 @@
 // The order in which the jobs of a script come to the core.
 
-ghost use Rattle.std.specs.Prelude.{◌≡◌, ℕ, ◌+◌, ◌<◌, ◌≤◌, length, replicate, slice_index, slice_set, IfOk, MatchOption};
-ghost use Rattle.preempt_machine.specs.Schedule.{script_line, due_release, due_place, IsReleaseOrder, IsLinked, IsFirstFrom, IsFirstReleased, NoneIsReleased, HasOpened, IsNextRelease};
+ghost use Rattle.std.specs.Prelude.{◌≡◌, ℕ, ◌+◌, ◌<◌, ◌≤◌, length, replicate, slice_index};
+ghost use Rattle.std.specs.Prelude.{slice_set, IfOk, MatchOption};
+ghost use Rattle.preempt_machine.specs.Schedule.{script_line, due_release, due_place};
+ghost use Rattle.preempt_machine.specs.Schedule.{IsReleaseOrder, IsLinked, IsFirstFrom};
+ghost use Rattle.preempt_machine.specs.Schedule.{IsFirstReleased, NoneIsReleased, HasOpened};
+ghost use Rattle.preempt_machine.specs.Schedule.{IsNextRelease};
 ghost use Rattle.preempt_machine.specs.Inner.Schedule.{AreListed};
 
 use crate::{Completion, End};
 use crpd_base::{Memory, ScriptJob, Task};
 use std::alloc::Global;
 
-/// The jobs of a script by release, and by place where they are released together. A number past the last job stands for
-/// none.
+/// The jobs of a script by release, and by place where they are released together. A number past
+/// the last job stands for none.
 #[derive(Drop)]
 pub struct Queue {
     /// Their releases and places, in ascending order.
@@ -47,11 +51,13 @@ fn release_order(alloc: Global, lines: &[ScriptJob]) -> Result<Vec<(u64, usize)>
 /// The next job of the same task for each job, and the first one for each task.
 fn link(lines: &[ScriptJob], due: &[(u64, usize)], later: &mut [usize], heads: &mut [usize])
     requires due { IsReleaseOrder lines.now due.now }
-    requires tasks { (x : ℕ) → x < length lines.now → (script_line lines.now x).task.0 < length heads.old }
+    requires tasks { (x : ℕ) → x < length lines.now
+        → (script_line lines.now x).task.0 < length heads.old }
     requires later { length later.old ≡ length due.now }
     requires heads { (t : ℕ) → t < length heads.old → slice_index heads.old t ≡ length due.now }
     ensures linked { IsLinked lines.now due.now later.new }
-    ensures heads { (t : ℕ) → t < length heads.old → IsFirstFrom lines.now due.now t 0 (slice_index heads.new t) }
+    ensures heads { (t : ℕ) → t < length heads.old
+        → IsFirstFrom lines.now due.now t 0 (slice_index heads.new t) }
 {
     let mut at = due.len();
     while at > 0 {
@@ -73,15 +79,20 @@ fn numbers(alloc: Global, number: usize, count: usize) -> Result<Vec<usize>, Mem
 }
 
 impl Queue {
-    /// The jobs of a script, all of them unreleased, with room for so many tasks. Want of memory is the only error. Time
-    /// is n log n in the jobs.
+    /// The jobs of a script, all of them unreleased, with room for so many tasks. Want of memory is
+    /// the only error. Time is n log n in the jobs.
     pub fn new(alloc: Global, lines: &[ScriptJob], tasks: usize) -> Result<Self, Memory>
         requires { (x : ℕ) → x < length lines.now → (script_line lines.now x).task.0 < tasks }
         ensures due { IfOk result (λ queue. IsReleaseOrder lines.now queue.due.items) }
-        ensures linked { IfOk result (λ queue. IsLinked lines.now queue.due.items queue.later.items) }
+        ensures linked { IfOk result
+            (λ queue. IsLinked lines.now queue.due.items queue.later.items) }
         ensures tasks { IfOk result (λ queue. length queue.heads.items ≡ tasks) }
-        ensures each { IfOk result (λ queue. (x : ℕ) → x < length lines.now → (script_line lines.now x).task.0 < length queue.heads.items) }
-        ensures heads { IfOk result (λ queue. (t : ℕ) → t < tasks → IsFirstFrom lines.now queue.due.items t 0 (slice_index queue.heads.items t)) }
+        ensures each { IfOk result
+            (λ queue. (x : ℕ) → x < length lines.now
+            → (script_line lines.now x).task.0 < length queue.heads.items) }
+        ensures heads { IfOk result
+            (λ queue. (t : ℕ) → t < tasks
+            → IsFirstFrom lines.now queue.due.items t 0 (slice_index queue.heads.items t)) }
         ensures released { IfOk result (λ queue. queue.released ≡ 0) }
     {
         let due = release_order(alloc, lines)?;
@@ -96,9 +107,11 @@ impl Queue {
         })
     }
 
-    /// The place of the first ready job, by task, release and place, by a look at each task's first waiting job.
+    /// The place of the first ready job, by task, release and place, by a look at each task's first
+    /// waiting job.
     pub fn first(&self, now: u64) -> Option<usize>
-        ensures { MatchOption result (NoneIsReleased self.now.due.items self.now.heads.items now) (IsFirstReleased self.now.due.items self.now.heads.items now) }
+        ensures { MatchOption result (NoneIsReleased self.now.due.items self.now.heads.items now)
+            (IsFirstReleased self.now.due.items self.now.heads.items now) }
     {
         for head in &self.heads {
             if *head < self.due.len() && self.due[*head].0 <= now {
@@ -108,8 +121,8 @@ impl Queue {
         None
     }
 
-    /// The release of the first job that is not told to be open, or a cycle where none comes before it.
-    /// In constant time.
+    /// The release of the first job that is not told to be open, or a cycle where none comes before
+    /// it. In constant time.
     pub fn next_release(&self, until: u64) -> u64
         ensures { IsNextRelease self.now.due.items self.now.released until result }
     {
@@ -125,7 +138,9 @@ impl Queue {
     pub fn finish(&mut self, task: Task)
         requires task { task.0 < length self.old.heads.items }
         requires head { slice_index self.old.heads.items task.0 < length self.old.later.items }
-        ensures heads { self.new.heads.items ≡ slice_set self.old.heads.items task.0 (slice_index self.old.later.items (slice_index self.old.heads.items task.0)) }
+        ensures heads { self.new.heads.items
+            ≡ slice_set self.old.heads.items task.0
+            (slice_index self.old.later.items (slice_index self.old.heads.items task.0)) }
         ensures due { self.new.due.items ≡ self.old.due.items }
         ensures later { self.new.later.items ≡ self.old.later.items }
         ensures released { self.new.released ≡ self.old.released }
@@ -137,12 +152,17 @@ impl Queue {
     /// Tells of the jobs that are released in this cycle that they are open.
     /// Linear in these; it takes no memory.
     pub fn release(&mut self, completions: &mut [Completion], now: u64)
-        requires { (p : ℕ) → p < length self.old.due.items → due_place self.old.due.items p < length completions.old }
-        ensures opened { HasOpened self.old.due.items self.old.released self.new.released completions.old completions.new }
+        requires { (p : ℕ) → p < length self.old.due.items
+            → due_place self.old.due.items p < length completions.old }
+        ensures opened { HasOpened self.old.due.items self.old.released self.new.released
+            completions.old completions.new }
         ensures from { self.old.released ≤ self.new.released }
-        ensures to { self.old.released ≤ length self.old.due.items → self.new.released ≤ length self.old.due.items }
-        ensures come { (p : ℕ) → self.old.released ≤ p → p < self.new.released → due_release self.old.due.items p ≤ now }
-        ensures wait { self.new.released < length self.old.due.items → now < due_release self.old.due.items self.new.released }
+        ensures to { self.old.released ≤ length self.old.due.items
+            → self.new.released ≤ length self.old.due.items }
+        ensures come { (p : ℕ) → self.old.released ≤ p → p < self.new.released
+            → due_release self.old.due.items p ≤ now }
+        ensures wait { self.new.released < length self.old.due.items
+            → now < due_release self.old.due.items self.new.released }
         ensures due { self.new.due.items ≡ self.old.due.items }
         ensures later { self.new.later.items ≡ self.old.later.items }
         ensures heads { self.new.heads.items ≡ self.old.heads.items }

@@ -1,14 +1,19 @@
 // The jobs of a run, and which of them has the core.
-ghost use Rattle.std.specs.Prelude.{◌≡◌, ℕ, ◌+◌, ◌<◌, ◌≤◌, ◌^◌, ◌↔◌, ◌++◌, ◌∷◌, [], true, map, length, replicate, All, IfOk, IfSome, OnOk, IsTrue};
+ghost use Rattle.std.specs.Prelude.{◌≡◌, ℕ, ◌+◌, ◌<◌, ◌≤◌, ◌^◌, ◌↔◌, ◌++◌, ◌∷◌, [], true, map};
+ghost use Rattle.std.specs.Prelude.{length, replicate, All, IfOk, IfSome, OnOk, IsTrue};
 ghost use Rattle.rv_core.specs.Memory.{Memory as Bytes};
 ghost use Rattle.icache.specs.Cache.{Cache};
 ghost use Rattle.flow_watch.specs.Watch.{is_unbroken};
-ghost use Rattle.preempt_machine.specs.Machine.{System, job_at, new_job, number_in_script, start_machine};
+ghost use Rattle.preempt_machine.specs.Machine.{System, job_at, new_job, number_in_script};
+ghost use Rattle.preempt_machine.specs.Machine.{start_machine};
 ghost use Rattle.preempt_machine.specs.Step.{candidate, keeps_core, turn_of};
 ghost use Rattle.preempt_machine.specs.Safe.{system_of, NamesTasks};
 ghost use Rattle.preempt_machine.specs.Running.{HasPlan};
 ghost use Rattle.preempt_machine.specs.Inner.KeptFlag.{kept_at};
-ghost use Rattle.preempt_machine.specs.Schedule.{completion, script_line, script_lines, machine_by, owner_keeps, due_place, HasSettled, HasToldReleases, IsReleaseOrder, IsHead, IsOwner, IsScheduled, HasTaskHeads};
+ghost use Rattle.preempt_machine.specs.Schedule.{completion, script_line, script_lines, machine_by};
+ghost use Rattle.preempt_machine.specs.Schedule.{owner_keeps, due_place, HasSettled};
+ghost use Rattle.preempt_machine.specs.Schedule.{HasToldReleases, IsReleaseOrder, IsHead, IsOwner};
+ghost use Rattle.preempt_machine.specs.Schedule.{IsScheduled, HasTaskHeads};
 ghost use Rattle.preempt_machine.specs.Inner.Schedule.{HasPassed};
 
 use crate::jobs::Job;
@@ -46,13 +51,16 @@ pub fn push<T: Drop>(list: &mut Vec<T>, item: T) -> Result<(), Memory>
     }
 }
 
-/// The jobs of a script before their first steps, in its order. The code map has a plan for each job's task. Want of memory
-/// is the only error.
-/// Linear in the jobs, each with its watch.
+/// The jobs of a script before their first steps, in its order. The code map has a plan for each
+/// job's task. Want of memory is the only error. Linear in the jobs, each with its watch.
 fn start_jobs(alloc: Global, code: &CodeMap, lines: &[ScriptJob]) -> Result<Vec<Job>, Memory>
-    requires { (x : ℕ) → x < length lines.now → (script_line lines.now x).task.0 < length code.now.plans }
-    ensures jobs { IfOk result (λ jobs. (sys : System) → sys.plans ≡ code.now.plans → jobs.items ≡ map (new_job sys) lines.now) }
-    ensures plans { IfOk result (λ jobs. (x : ℕ) → x < length jobs.items → HasPlan code.now.plans (job_at jobs.items x)) }
+    requires { (x : ℕ) → x < length lines.now
+        → (script_line lines.now x).task.0 < length code.now.plans }
+    ensures jobs { IfOk result
+        (λ jobs. (sys : System) → sys.plans ≡ code.now.plans
+        → jobs.items ≡ map (new_job sys) lines.now) }
+    ensures plans { IfOk result
+        (λ jobs. (x : ℕ) → x < length jobs.items → HasPlan code.now.plans (job_at jobs.items x)) }
 {
     let mut jobs = Vec::new(alloc);
     for line in lines {
@@ -72,9 +80,8 @@ fn zeros(alloc: Global, count: usize) -> Result<Vec<u32>, Memory>
     }
 }
 
-/// The jobs of a script by task and number, in its order, all of them unreleased. The jobs' tasks are among so many. Want
-/// of memory is the only error.
-/// Linear in the jobs and in the tasks.
+/// The jobs of a script by task and number, in its order, all of them unreleased. The jobs' tasks
+/// are among so many. Want of memory is the only error. Linear in the jobs and in the tasks.
 fn start_completions(
     alloc: Global,
     lines: &[ScriptJob],
@@ -83,7 +90,14 @@ fn start_completions(
     requires few { length lines.now < 2 ^ 32 }
     requires tasks { (x : ℕ) → x < length lines.now → (script_line lines.now x).task.0 < tasks }
     ensures long { IfOk result (λ cs. length cs.items ≡ length lines.now) }
-    ensures each { IfOk result (λ cs. (x : ℕ) → x < length lines.now → completion cs.items x ≡ record { job = record { task = (script_line lines.now x).task; number = number_in_script lines.now (script_line lines.now x).task.0 x }; «end» = End.Unreleased }) }
+    ensures each { IfOk result
+        (λ cs. (x : ℕ) → x < length lines.now → completion cs.items x ≡ record {
+          job = record {
+            task = (script_line lines.now x).task;
+            number = number_in_script lines.now (script_line lines.now x).task.0 x;
+          };
+          «end» = End.Unreleased;
+        }) }
 {
     let mut counts = zeros(alloc, tasks)?;
     let mut completions = Vec::new(alloc);
@@ -114,9 +128,16 @@ impl Schedule {
         requires plans { length code.now.plans ≡ length set.now.tasks }
         requires tasks { NamesTasks set.now script.now.jobs }
         requires jobs { length script.now.jobs < 2 ^ 32 }
-        ensures started { IfOk result (λ s. (cache : Cache) (memory : Bytes) → machine_by cache memory s ≡ start_machine (system_of set.now code.now) cache memory script.now.jobs) }
-        ensures scheduled { IfOk result (λ s. (sets : ℕ) (cache : Cache) (memory : Bytes) → sets ≤ length cache → IsScheduled sets cache memory s) }
-        ensures plans { IfOk result (λ s. (x : ℕ) → x < length s.jobs.items → HasPlan code.now.plans (job_at s.jobs.items x)) }
+        ensures started { IfOk result
+            (λ s. (cache : Cache) (memory : Bytes)
+            → machine_by cache memory s
+            ≡ start_machine (system_of set.now code.now) cache memory script.now.jobs) }
+        ensures scheduled { IfOk result
+            (λ s. (sets : ℕ) (cache : Cache) (memory : Bytes) → sets ≤ length cache
+            → IsScheduled sets cache memory s) }
+        ensures plans { IfOk result
+            (λ s. (x : ℕ) → x < length s.jobs.items
+            → HasPlan code.now.plans (job_at s.jobs.items x)) }
     {
         let lines = script.jobs.as_slice();
         let tasks = set.tasks.as_slice().len();
@@ -165,15 +186,20 @@ impl Schedule {
         }
     }
 
-    /// The place of the job that takes this cycle, None where no job is ready; whatever the cache and
-    /// the data memory hold. It is the first job of its task that is open.
-    /// By a look at each task's first waiting job.
+    /// The place of the job that takes this cycle, None where no job is ready; whatever the cache
+    /// and the data memory hold. It is the first job of its task that is open. By a look at each
+    /// task's first waiting job.
     pub fn candidate(&self, switching: Switching) -> Option<usize>
         requires due { IsReleaseOrder (script_lines self.now.jobs.items) self.now.queue.due.items }
-        requires waiting { HasTaskHeads (script_lines self.now.jobs.items) self.now.queue.due.items self.now.queue.heads.items self.now.jobs.items }
-        requires owner { (o : ℕ) → self.now.owner ≡ Some o → IsOwner self.now.jobs.items self.now.queue.due.items self.now.queue.heads.items o }
-        ensures is { (sys : System) (cache : Cache) (memory : Bytes) → sys.platform.switching ≡ switching → result ≡ candidate sys (machine_by cache memory self.now) }
-        ensures head { IfSome result (IsHead self.now.jobs.items self.now.queue.due.items self.now.queue.heads.items) }
+        requires waiting { HasTaskHeads (script_lines self.now.jobs.items) self.now.queue.due.items
+            self.now.queue.heads.items self.now.jobs.items }
+        requires owner { (o : ℕ) → self.now.owner ≡ Some o
+            → IsOwner self.now.jobs.items self.now.queue.due.items self.now.queue.heads.items o }
+        ensures is { (sys : System) (cache : Cache) (memory : Bytes)
+            → sys.platform.switching ≡ switching
+            → result ≡ candidate sys (machine_by cache memory self.now) }
+        ensures head { IfSome result
+            (IsHead self.now.jobs.items self.now.queue.due.items self.now.queue.heads.items) }
     {
         if self.owner_keeps(switching) {
             self.owner
@@ -186,7 +212,8 @@ impl Schedule {
     /// those of a whole switch.
     /// In constant time.
     pub fn switch_cycles(&self, whole: u32, place: usize) -> u32
-        ensures { (sys : System) (cache : Cache) (memory : Bytes) → sys.platform.switch ≡ whole → result ≡ (turn_of sys (machine_by cache memory self.now) place).switch_left }
+        ensures { (sys : System) (cache : Cache) (memory : Bytes) → sys.platform.switch ≡ whole
+            → result ≡ (turn_of sys (machine_by cache memory self.now) place).switch_left }
     {
         match self.owner {
             Some(owner) if owner == place => self.switch_left,
@@ -197,7 +224,8 @@ impl Schedule {
     /// Tells of the jobs that are released in this cycle that they are open.
     /// Linear in these; it takes no memory.
     pub fn tell(&mut self)
-        requires { (p : ℕ) → p < length self.old.queue.due.items → due_place self.old.queue.due.items p < length self.old.completions.items }
+        requires { (p : ℕ) → p < length self.old.queue.due.items
+            → due_place self.old.queue.due.items p < length self.old.completions.items }
         ensures { HasToldReleases self.old self.new }
     {
         self.queue
@@ -206,7 +234,8 @@ impl Schedule {
 
     /// The cycle passes: tells of the jobs that it releases that they are open, and counts it.
     pub(crate) fn pass(&mut self)
-        requires places { (p : ℕ) → p < length self.old.queue.due.items → due_place self.old.queue.due.items p < length self.old.completions.items }
+        requires places { (p : ℕ) → p < length self.old.queue.due.items
+            → due_place self.old.queue.due.items p < length self.old.completions.items }
         requires later { self.old.steps + 1 < 2 ^ 64 }
         ensures { HasPassed self.old self.new }
     {
@@ -217,8 +246,10 @@ impl Schedule {
     /// Tells how a job stands that had a turn, the first one of its task that was open.
     /// In constant time.
     pub fn settle(&mut self, place: usize)
-        requires head { IsHead self.old.jobs.items self.old.queue.due.items self.old.queue.heads.items place }
-        requires task { (job_at self.old.jobs.items place).line.task.0 < length self.old.queue.heads.items }
+        requires head { IsHead self.old.jobs.items self.old.queue.due.items
+            self.old.queue.heads.items place }
+        requires task { (job_at self.old.jobs.items place).line.task.0
+            < length self.old.queue.heads.items }
         requires later { length self.old.queue.later.items ≡ length self.old.queue.due.items }
         requires completions { length self.old.completions.items ≡ length self.old.jobs.items }
         ensures { HasSettled self.old self.new place }

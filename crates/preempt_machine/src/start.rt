@@ -1,6 +1,7 @@
 // The cache and the data memory that a script starts from.
 ghost use Rattle.std.specs.Prelude.{◌≡◌, ◌+◌, ◌<◌, ◌≤◌, ◌^◌, length, All, IfOk, OnOk};
-ghost use Rattle.preempt_machine.specs.Starts.{start_cache, start_memory, with_blocks, with_segment, with_segments};
+ghost use Rattle.preempt_machine.specs.Starts.{start_cache, start_memory, with_blocks};
+ghost use Rattle.preempt_machine.specs.Starts.{with_segment, with_segments};
 
 use code_map::CodeMap;
 use crpd_base::{Memory, SETS, Script, Segment, TaskSet};
@@ -8,8 +9,9 @@ use icache::{Cache, Geometry};
 use rv_core::DataMemory;
 use std::alloc::Global;
 
-/// The cache at the start of a script: each block of its list stands in its cache set, a later one over an earlier one,
-/// and all other sets are empty. It takes no memory; its time is linear in the list.
+/// The cache at the start of a script: each block of its list stands in its cache set, a later one
+/// over an earlier one, and all other sets are empty. It takes no memory; its time is linear in the
+/// list.
 pub fn start_cache(set: &TaskSet, script: &Script) -> Cache<SETS>
     requires line { 0 < set.now.platform.line }
     requires sets { 0 < set.now.platform.sets }
@@ -47,14 +49,16 @@ fn put_segments(memory: &mut DataMemory, segments: &[Segment]) -> Result<(), Mem
     Ok(())
 }
 
-/// The data memory at the start of a script: the bytes of the segments of all tasks' files, in the order of the tasks, a
-/// later file over an earlier one; a segment's addresses past its bytes of the file hold 0, and so do all others.
+/// The data memory at the start of a script: the bytes of the segments of all tasks' files, in the
+/// order of the tasks, a later file over an earlier one; a segment's addresses past its bytes of
+/// the file hold 0, and so do all others.
 ///
-/// Time is that of a walk over the segments and all their bytes of the files, with a look-up for each segment and for
-/// each 64 bytes that is logarithmic in the stored pages: a page that a later segment takes out was stored by an earlier
-/// one. Want of memory is the only error.
+/// Time is that of a walk over the segments and all their bytes of the files, with a look-up for
+/// each segment and for each 64 bytes that is logarithmic in the stored pages: a page that a later
+/// segment takes out was stored by an earlier one. Want of memory is the only error.
 ///
-/// Source: Tool Interface Standard, Executable and Linking Format, version 1.2, book I (p_filesz, p_memsz).
+/// Source: Tool Interface Standard, Executable and Linking Format, version 1.2, book I (p_filesz,
+/// p_memsz).
 pub fn start_memory(alloc: Global, code: &CodeMap) -> Result<DataMemory, Memory>
     ensures { IfOk result (λ memory. memory ≡ start_memory code.now.images) }
 {

@@ -234,8 +234,8 @@ const SYMBOL_SECTION: [u32; 5] = [2, 112, 224, 2, 16];
 
 const STRING_SECTION: [u32; 5] = [3, 92, 20, 0, 0];
 
-// The smallest program with the symbols, and sections of type, offset, size, link and entry size. The
-// strings are at 92, the symbols at 112, the section headers at 336, and the file's end at 456.
+// The smallest program with the symbols, and sections of type, offset, size, link and entry size.
+// The strings are at 92, the symbols at 112, the section headers at 336, and the file's end at 456.
 fn linked(alloc: Global, sections: &[[u32; 5]]) -> Result<Vec<u8>, AllocError> {
     let mut bytes = file(alloc, 1, 336, 3)?;
     bytes.extend_from_slice(&ONE[52..])?;

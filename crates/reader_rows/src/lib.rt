@@ -1,5 +1,5 @@
-//! The worked rows of the files: task sets, scripts, certificates and executables read, and those that are made. This crate
-//! has tests alone.
+//! The worked rows of the files: task sets, scripts, certificates and executables read, and those
+//! that are made. This crate has tests alone.
 #![tactic(auto)]
 
 #[cfg(test)]

@@ -4,7 +4,8 @@ use gen_tasks::{Generated, generate};
 use std::alloc::{AllocError, Global};
 use std::test::Fail;
 
-// The tasks with the lengths of their files, and the jobs, as a plain program of another language makes them.
+// The tasks with the lengths of their files, and the jobs, as a plain program of another language
+// makes them.
 const MADE: [(u32, &str); 4] = [
     (
         0,

@@ -1,30 +1,42 @@
 -- Lists of choices, and one choice more.
-use Rattle.std.proofs.Common.{◌≡◌, ℕ, suc, ◌+◌, ◌<◌, ◌≤◌, inl, inr, List, [], ◌∷◌, ◌++◌, length, get_or, refl, sym, ◌∙◌, ap, subst, arith}
+use Rattle.std.proofs.Common.{◌≡◌, ℕ, suc, ◌+◌, ◌<◌, ◌≤◌, inl, inr, List, [], ◌∷◌, ◌++◌, length}
+use Rattle.std.proofs.Common.{get_or, refl, sym, ◌∙◌, ap, subst, arith}
 use Rattle.std.specs.Prelude.{map}
 use Rattle.std.proofs.Math.ListN.{set as list_set}
 use Rattle.std.proofs.lemmas.Bool.{cases_eq}
-use Rattle.std.proofs.lemmas.List.{map-append, length-map, get_or_append_left, get_or_at, get_or-set_same, get_or-set_other}
+use Rattle.std.proofs.lemmas.List.{map-append, length-map, get_or_append_left, get_or_at}
+use Rattle.std.proofs.lemmas.List.{get_or-set_same, get_or-set_other}
 use Rattle.crpd_base.specs.declared.data.TaskSet.{TaskSet}
 use Rattle.crpd_base.specs.declared.data.Method.{Method}
 use Rattle.crpd_base.specs.declared.data.Method.TheVariants.{Ucb, Ecb}
 use Rattle.crpd_base.specs.Tasks.{jitter_of, deadline_of}
 use Rattle.response.specs.declared.choice.Choice.{Choice}
-use Rattle.response.specs.Windows.{Demand, IsSmallerWindow, window_at, method_at, AreChoices, AreAllChoices, IsFirstWithoutWindow}
+use Rattle.response.specs.Windows.{Demand, IsSmallerWindow, window_at, method_at, AreChoices}
+use Rattle.response.specs.Windows.{AreAllChoices, IsFirstWithoutWindow}
 use Rattle.response.proofs.WindowLaws.{smaller_too, none_too, never_smaller, one_choice}
 
 -- two demands are the same of the first tasks, where the windows of the higher ones are
 abbrev pub Agree : Demand → Demand → ℕ → Type 0
 Agree demand further n =
-    (window other : ℕ → ℕ) (i : ℕ) → i < n → ((k : ℕ) → k < i → window k ≡ other k) → (method : Method) (w : ℕ) → demand window i method w ≡ further other i method w
+    (window other : ℕ → ℕ) (i : ℕ) → i < n → ((k : ℕ) → k < i → window k ≡ other k)
+    → (method : Method) (w : ℕ) → demand window i method w ≡ further other i method w
 
 -- then so are the choices, and the first task without a window
-module _ (set : TaskSet) (demand further : Demand) (agree : Agree demand further (length set.tasks)) where
-  choices_too : (choices : List Choice) (n : ℕ) → n ≤ length set.tasks → AreChoices set demand choices n → AreChoices set further choices n
+module _ (set : TaskSet) (demand further : Demand)
+    (agree : Agree demand further (length set.tasks)) where
+  choices_too : (choices : List Choice) (n : ℕ) → n ≤ length set.tasks
+      → AreChoices set demand choices n → AreChoices set further choices n
   choices_too choices n le A k l =
-      smaller_too set (demand (window_at choices) k) (further (window_at choices) k) k (agree (window_at choices) (window_at choices) k (omega (arith, le, l)) (λ j h. refl)) (method_at choices k) (window_at choices k) (A k l)
+      smaller_too set (demand (window_at choices) k) (further (window_at choices) k) k
+      (agree (window_at choices) (window_at choices) k (omega (arith, le, l)) (λ j h. refl))
+      (method_at choices k) (window_at choices k) (A k l)
 
-  pub answer_too : (choices : List Choice) → AreAllChoices set demand choices → AreAllChoices set further choices
-  answer_too choices A = record { tasks = A.tasks; each = choices_too choices (length set.tasks) (omega arith) A.each }
+  pub answer_too : (choices : List Choice) → AreAllChoices set demand choices
+      → AreAllChoices set further choices
+  answer_too choices A = record {
+    tasks = A.tasks;
+    each = choices_too choices (length set.tasks) (omega arith) A.each;
+  }
 
   pub first_too : (i : ℕ) → IsFirstWithoutWindow set demand i → IsFirstWithoutWindow set further i
   first_too i F =
@@ -34,20 +46,30 @@ module _ (set : TaskSet) (demand further : Demand) (agree : Agree demand further
         higher = F.higher;
         size = F.size;
         each = choices_too F.higher i (let l = F.task in omega (arith, l)) F.each;
-        no_ucb = none_too set (demand (window_at F.higher) i Ucb) (further (window_at F.higher) i Ucb) i (same Ucb) F.no_ucb;
-        no_ecb = none_too set (demand (window_at F.higher) i Ecb) (further (window_at F.higher) i Ecb) i (same Ecb) F.no_ecb;
+        no_ucb =
+            none_too set (demand (window_at F.higher) i Ucb) (further (window_at F.higher) i Ucb) i
+            (same Ucb) F.no_ucb;
+        no_ecb =
+            none_too set (demand (window_at F.higher) i Ecb) (further (window_at F.higher) i Ecb) i
+            (same Ecb) F.no_ecb;
       }
 
   -- a task that has a window, as all higher ones, is not the first without
-  pub not_first : (i : ℕ) → IsFirstWithoutWindow set demand i → (window : ℕ → ℕ) (method : ℕ → Method) → ((k : ℕ) → k < suc i → IsSmallerWindow set (further window k) k (method k) (window k)) → ⊥
+  pub not_first : (i : ℕ) → IsFirstWithoutWindow set demand i
+      → (window : ℕ → ℕ) (method : ℕ → Method)
+      → ((k : ℕ) → k < suc i → IsSmallerWindow set (further window k) k (method k) (window k)) → ⊥
   not_first i F window method S =
       let lt = F.task in
       let above : (k : ℕ) → k < i → window_at F.higher k ≡ window k =
       λ k l.
-      (one_choice set (demand (window_at F.higher)) (further window) (window_at F.higher) window (method_at F.higher) method i
-      (λ j h same. agree (window_at F.higher) window j (omega (arith, h, lt)) same) F.each (λ j h. S j (omega (arith, h))) k l).1 in
+      (one_choice set (demand (window_at F.higher)) (further window) (window_at F.higher) window
+      (method_at F.higher) method i
+      (λ j h same. agree (window_at F.higher) window j (omega (arith, h, lt)) same) F.each
+      (λ j h. S j (omega (arith, h))) k l).1 in
       never_smaller set (demand (window_at F.higher) i) i (method i) (window i) F.no_ucb F.no_ecb
-      (smaller_too set (further window i) (demand (window_at F.higher) i) i (λ m v. sym (agree (window_at F.higher) window i lt above m v)) (method i) (window i) (S i (omega arith)))
+      (smaller_too set (further window i) (demand (window_at F.higher) i) i
+      (λ m v. sym (agree (window_at F.higher) window i lt above m v)) (method i) (window i)
+      (S i (omega arith)))
 
 -- one choice more
 module _ (choices : List Choice) (c : Choice) (i : ℕ) (size : length choices ≡ i) where
@@ -55,22 +77,32 @@ module _ (choices : List Choice) (c : Choice) (i : ℕ) (size : length choices �
   more = choices ++ c ∷ []
 
   pub window_before : (k : ℕ) → k < i → window_at more k ≡ window_at choices k
-  window_before k h = ap (λ z. get_or z k 0) (map-append (λ (x : Choice). x.window) choices (c ∷ [])) ∙ get_or_append_left (map (λ (x : Choice). x.window) choices) (c.window ∷ []) 0 k (mapped_window k h)
+  window_before k h =
+      ap (λ z. get_or z k 0) (map-append (λ (x : Choice). x.window) choices (c ∷ []))
+      ∙ get_or_append_left (map (λ (x : Choice). x.window) choices) (c.window ∷ []) 0 k
+      (mapped_window k h)
     where
       mapped_window : (k : ℕ) → k < i → k < length (map (λ (x : Choice). x.window) choices)
       mapped_window k h = simp length-map (omega arith)
 
   method_before : (k : ℕ) → k < i → method_at more k ≡ method_at choices k
-  method_before k h = ap (λ z. get_or z k Ucb) (map-append (λ (x : Choice). x.method) choices (c ∷ [])) ∙ get_or_append_left (map (λ (x : Choice). x.method) choices) (c.method ∷ []) Ucb k (mapped_method k h)
+  method_before k h =
+      ap (λ z. get_or z k Ucb) (map-append (λ (x : Choice). x.method) choices (c ∷ []))
+      ∙ get_or_append_left (map (λ (x : Choice). x.method) choices) (c.method ∷ []) Ucb k
+      (mapped_method k h)
     where
       mapped_method : (k : ℕ) → k < i → k < length (map (λ (x : Choice). x.method) choices)
       mapped_method k h = simp length-map (omega arith)
 
   pub window_last : window_at more i ≡ c.window
-  window_last = ap (λ z. get_or z i 0) (map-append (λ (x : Choice). x.window) choices (c ∷ [])) ∙ get_or_at (map (λ (x : Choice). x.window) choices) c.window [] 0 i (simp length-map size)
+  window_last =
+      ap (λ z. get_or z i 0) (map-append (λ (x : Choice). x.window) choices (c ∷ []))
+      ∙ get_or_at (map (λ (x : Choice). x.window) choices) c.window [] 0 i (simp length-map size)
 
   method_last : method_at more i ≡ c.method
-  method_last = ap (λ z. get_or z i Ucb) (map-append (λ (x : Choice). x.method) choices (c ∷ [])) ∙ get_or_at (map (λ (x : Choice). x.method) choices) c.method [] Ucb i (simp length-map size)
+  method_last =
+      ap (λ z. get_or z i Ucb) (map-append (λ (x : Choice). x.method) choices (c ∷ []))
+      ∙ get_or_at (map (λ (x : Choice). x.method) choices) c.method [] Ucb i (simp length-map size)
 
   -- all choices with it
   pub choices_more : (set : TaskSet) (demand : Demand) (found : ℕ → ℕ) → Agree demand demand (i + 1)
@@ -80,30 +112,50 @@ module _ (choices : List Choice) (c : Choice) (i : ℕ) (size : length choices �
   choices_more set demand found agree same before here k h =
       elim (cases_eq k i) [
         | inl e ↦
-            subst (λ (q : ℕ). IsSmallerWindow set (demand (window_at more) q) q (method_at more q) (window_at more q)) (sym e)
-            (subst (λ (m : Method). IsSmallerWindow set (demand (window_at more) i) i m (window_at more i)) (sym method_last)
-            (subst (λ (w : ℕ). IsSmallerWindow set (demand (window_at more) i) i c.method w) (sym window_last)
-            (smaller_too set (demand found i) (demand (window_at more) i) i (agree found (window_at more) i (omega arith) (λ q l. same q l ∙ sym (window_before q l))) c.method c.window here)))
+            subst (λ (q : ℕ). IsSmallerWindow set (demand (window_at more) q) q (method_at more q)
+            (window_at more q)) (sym e)
+            (subst (λ (m : Method). IsSmallerWindow set (demand (window_at more) i) i m
+            (window_at more i)) (sym method_last)
+            (subst (λ (w : ℕ). IsSmallerWindow set (demand (window_at more) i) i c.method w)
+            (sym window_last)
+            (smaller_too set (demand found i) (demand (window_at more) i) i
+            (agree found (window_at more) i (omega arith)
+            (λ q l. same q l ∙ sym (window_before q l))) c.method c.window here)))
         | inr ne ↦
             let l : k < i = omega arith in
-            subst (λ (m : Method). IsSmallerWindow set (demand (window_at more) k) k m (window_at more k)) (sym (method_before k l))
-            (subst (λ (w : ℕ). IsSmallerWindow set (demand (window_at more) k) k (method_at choices k) w) (sym (window_before k l))
-            (smaller_too set (demand (window_at choices) k) (demand (window_at more) k) k (agree (window_at choices) (window_at more) k (omega arith) (λ q m. sym (window_before q (omega arith)))) (method_at choices k) (window_at choices k) (before k l)))
+            subst (λ (m : Method). IsSmallerWindow set (demand (window_at more) k) k m
+            (window_at more k)) (sym (method_before k l))
+            (subst (λ (w : ℕ). IsSmallerWindow set (demand (window_at more) k) k
+            (method_at choices k) w) (sym (window_before k l))
+            (smaller_too set (demand (window_at choices) k) (demand (window_at more) k) k
+            (agree (window_at choices) (window_at more) k (omega arith)
+            (λ q m. sym (window_before q (omega arith)))) (method_at choices k)
+            (window_at choices k) (before k l)))
       ]
 
-  pub found_more : (found : List ℕ) → length found ≡ 32 → i < 32 → ((k : ℕ) → k < i → get_or found k 0 ≡ window_at choices k)
+  pub found_more : (found : List ℕ) → length found ≡ 32 → i < 32
+      → ((k : ℕ) → k < i → get_or found k 0 ≡ window_at choices k)
       → (k : ℕ) → k < i + 1 → get_or (list_set found i c.window) k 0 ≡ window_at more k
   found_more found room few same k h =
       elim (cases_eq k i) [
-        | inl e ↦ subst (λ (q : ℕ). get_or (list_set found i c.window) q 0 ≡ window_at more q) (sym e) (get_or-set_same found i c.window 0 (omega arith) ∙ sym window_last)
-        | inr ne ↦ get_or-set_other found i k c.window 0 ne ∙ same k (omega arith) ∙ sym (window_before k (omega arith))
+        | inl e ↦
+            subst (λ (q : ℕ). get_or (list_set found i c.window) q 0 ≡ window_at more q) (sym e)
+            (get_or-set_same found i c.window 0 (omega arith) ∙ sym window_last)
+        | inr ne ↦
+            get_or-set_other found i k c.window 0 ne ∙ same k (omega arith)
+            ∙ sym (window_before k (omega arith))
       ]
 
-  pub deadlines_more : (set : TaskSet) (found : List ℕ) → length found ≡ 32 → i < 32 → ((k : ℕ) → k < i → get_or found k 0 + jitter_of set k ≤ deadline_of set k)
+  pub deadlines_more : (set : TaskSet) (found : List ℕ) → length found ≡ 32 → i < 32
+      → ((k : ℕ) → k < i → get_or found k 0 + jitter_of set k ≤ deadline_of set k)
       → c.window + jitter_of set i ≤ deadline_of set i
-      → (k : ℕ) → k < i + 1 → get_or (list_set found i c.window) k 0 + jitter_of set k ≤ deadline_of set k
+      → (k : ℕ) → k < i + 1 → get_or (list_set found i c.window) k 0 + jitter_of set k
+      ≤ deadline_of set k
   deadlines_more set found room few before here k h =
       elim (cases_eq k i) [
-        | inl e ↦ subst (λ (q : ℕ). get_or (list_set found i c.window) q 0 + jitter_of set q ≤ deadline_of set q) (sym e) (omega (arith, get_or-set_same found i c.window 0 (omega arith)))
+        | inl e ↦
+            subst (λ (q : ℕ). get_or (list_set found i c.window) q 0 + jitter_of set q
+            ≤ deadline_of set q) (sym e)
+            (omega (arith, get_or-set_same found i c.window 0 (omega arith)))
         | inr ne ↦ omega (arith, get_or-set_other found i k c.window 0 ne, before k (omega arith))
       ]

@@ -1,5 +1,6 @@
 -- The windows of the tasks, by any demand.
-use Rattle.std.specs.Prelude.{◌≡◌, Option, Some, None, nat_le, if◌then◌else◌, ℕ, ◌+◌, ◌<◌, ◌≤◌, List, length, map, slice_index, slice_index_or}
+use Rattle.std.specs.Prelude.{◌≡◌, Option, Some, None, nat_le, if◌then◌else◌, ℕ, ◌+◌, ◌<◌, ◌≤◌}
+use Rattle.std.specs.Prelude.{List, length, map, slice_index, slice_index_or}
 use Rattle.crpd_base.specs.declared.data.TaskSet.{TaskSet}
 use Rattle.crpd_base.specs.declared.data.Method.{Method}
 use Rattle.crpd_base.specs.declared.data.Method.TheVariants.{Ucb, Ecb}
@@ -12,8 +13,8 @@ use Rattle.response.specs.declared.choice.WindowError.TheVariants.{Memory, Unsch
 abbrev pub Demand : Type 0
 Demand = (ℕ → ℕ) → ℕ → Method → ℕ → ℕ
 
--- the window of task i by what its windows need: the least number of cycles, at least 1, that the need does not exceed, and
--- in the task's deadline with its jitter
+-- the window of task i by what its windows need: the least number of cycles, at least 1, that the
+-- need does not exceed, and in the task's deadline with its jitter
 pub record IsWindow (set : TaskSet) (needs : ℕ → ℕ) (i w : ℕ) : Type 0 where
   pub some : 1 ≤ w
   pub enough : needs w ≤ w
@@ -24,17 +25,22 @@ pub record IsWindow (set : TaskSet) (needs : ℕ → ℕ) (i w : ℕ) : Type 0 w
 abbrev pub HasNoWindow : TaskSet → (ℕ → ℕ) → ℕ → Type 0
 HasNoWindow set needs i = (w : ℕ) → 1 ≤ w → w + jitter_of set i ≤ deadline_of set i → w < needs w
 
--- the smaller of the windows by the two methods that there are, and by which method, the UCB-union one where they are equal
+-- the smaller of the windows by the two methods that there are, and by which method, the UCB-union
+-- one where they are equal
 abbrev pub IsSmallerWindow : TaskSet → (Method → ℕ → ℕ) → ℕ → Method → ℕ → Type 0
-IsSmallerWindow set needs i Ucb w = IsWindow set (needs Ucb) i w × ((v : ℕ) → IsWindow set (needs Ecb) i v → w ≤ v)
-IsSmallerWindow set needs i Ecb w = IsWindow set (needs Ecb) i w × ((v : ℕ) → IsWindow set (needs Ucb) i v → w < v)
+IsSmallerWindow set needs i Ucb w =
+    IsWindow set (needs Ucb) i w × ((v : ℕ) → IsWindow set (needs Ecb) i v → w ≤ v)
+IsSmallerWindow set needs i Ecb w =
+    IsWindow set (needs Ecb) i w × ((v : ℕ) → IsWindow set (needs Ucb) i v → w < v)
 
 -- the same of two windows that there may be
 abbrev pub smaller_of : Option ℕ → Option ℕ → Option Choice
 smaller_of None None = None
 smaller_of (Some u) None = Some (record { window = u; method = Ucb })
 smaller_of None (Some e) = Some (record { window = e; method = Ecb })
-smaller_of (Some u) (Some e) = if nat_le u e then Some (record { window = u; method = Ucb }) else Some (record { window = e; method = Ecb })
+smaller_of (Some u) (Some e) =
+    if nat_le u e then Some (record { window = u; method = Ucb })
+    else Some (record { window = e; method = Ecb })
 
 -- the windows of a list
 abbrev pub window_at : List Choice → ℕ → ℕ
@@ -46,7 +52,8 @@ method_at choices k = slice_index_or (map (λ (c : Choice). c.method) choices) k
 -- the choices of the first tasks, each with the windows of the higher ones
 abbrev pub AreChoices : TaskSet → Demand → List Choice → ℕ → Type 0
 AreChoices set demand choices n =
-    (k : ℕ) → k < n → IsSmallerWindow set (demand (window_at choices) k) k (method_at choices k) (window_at choices k)
+    (k : ℕ) → k < n → IsSmallerWindow set (demand (window_at choices) k) k (method_at choices k)
+    (window_at choices k)
 
 -- the choices of all tasks
 pub record AreAllChoices (set : TaskSet) (demand : Demand) (choices : List Choice) : Type 0 where

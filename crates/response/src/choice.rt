@@ -1,5 +1,6 @@
 // The window of each task, by the better of the two methods.
-ghost use Rattle.std.specs.Prelude.{◌≡◌, ℕ, ◌<◌, ◌≤◌, length, slice_index, MatchResult, MatchOption};
+ghost use Rattle.std.specs.Prelude.{◌≡◌, ℕ, ◌<◌, ◌≤◌, length, slice_index, MatchResult};
+ghost use Rattle.std.specs.Prelude.{MatchOption};
 ghost use Rattle.crpd_base.specs.Tasks.{HasTimes};
 ghost use Rattle.delay_count.specs.Gamma.{part_at};
 ghost use Rattle.delay_count.specs.Demand.{HasLongest, demand};
@@ -27,14 +28,16 @@ pub enum WindowError {
     Unschedulable(Task),
 }
 
-/// The windows of all tasks, from the highest down: for each the smaller of the windows by the two methods, the
-/// UCB-union one where they are equal. A window is the least number of cycles that the task's demand does not exceed;
-/// with the task's jitter it is at most the deadline (Altmeyer, Davis and Maiza 2012).
+/// The windows of all tasks, from the highest down: for each the smaller of the windows by the two
+/// methods, the UCB-union one where they are equal. A window is the least number of cycles that the
+/// task's demand does not exceed; with the task's jitter it is at most the deadline (Altmeyer,
+/// Davis and Maiza 2012).
 ///
-/// It needs a part and the longest instruction, from 1 to 2^20 cycles, of each task. `Unschedulable` names the first
-/// task that has no window by either method; the only other error is want of memory, which is taken for the choices
-/// alone. The search goes on by lower bounds from the rates of the higher tasks, so it takes few steps also where
-/// these leave almost nothing; a step is the demand of one window.
+/// It needs a part and the longest instruction, from 1 to 2^20 cycles, of each task.
+/// `Unschedulable` names the first task that has no window by either method; the only other error
+/// is want of memory, which is taken for the choices alone. The search goes on by lower bounds from
+/// the rates of the higher tasks, so it takes few steps also where these leave almost nothing; a
+/// step is the demand of one window.
 pub fn windows(
     alloc: Global,
     set: &TaskSet,
@@ -45,8 +48,10 @@ pub fn windows(
     requires parts { length parts.now ≡ length set.now.tasks }
     requires longest { HasLongest set.now longest.now }
     ensures { MatchResult result
-        (λ choices. AreAllChoices set.now (demand set.now (part_at parts.now) (slice_index longest.now)) choices.items)
-        (λ e. IsWindowError set.now (demand set.now (part_at parts.now) (slice_index longest.now)) e) }
+        (λ choices. AreAllChoices set.now
+        (demand set.now (part_at parts.now) (slice_index longest.now)) choices.items)
+        (λ e. IsWindowError set.now (demand set.now (part_at parts.now) (slice_index longest.now))
+        e) }
 {
     let mut choices = Vec::new(alloc);
     let mut found = [0; MOST_TASKS];

@@ -17,16 +17,28 @@ module _ (r : Run) (R : HasAccountInput r) (nests : ℕ → Nest) where
   graphs_with : HasGraphs (run_start r) (with_nests r.graphs.now nests)
   graphs_with =
       let G = has_graphs r R in
-      record { code = G.code; hit = G.hit; graph = λ x h. let g = G.graph x h in record { follows = g.follows; no_errors = g.no_errors } }
+      record {
+        code = G.code;
+        hit = G.hit;
+        graph = λ x h. let g = G.graph x h in record {
+          follows = g.follows;
+          no_errors = g.no_errors;
+        };
+      }
 
-  sets_met : SetsAreMet r.set.now r.graphs.now r.certificate.now → AreSetsMet (run_start r) (with_nests r.graphs.now nests) (run_certificate r)
+  sets_met : SetsAreMet r.set.now r.graphs.now r.certificate.now
+      → AreSetsMet (run_start r) (with_nests r.graphs.now nests) (run_certificate r)
   sets_met U x h = U (job_task (run_start r) x) (task_below r R x h)
 
-  pub account_facts : SetsAreMet r.set.now r.graphs.now r.certificate.now → (n : ℕ) (a : Account) → IsAccount (run_start r) (with_nests r.graphs.now nests) (run_certificate r) n a → HasAccountFacts (run_start r) (with_nests r.graphs.now nests) (run_certificate r) n a
+  pub account_facts : SetsAreMet r.set.now r.graphs.now r.certificate.now → (n : ℕ) (a : Account)
+      → IsAccount (run_start r) (with_nests r.graphs.now nests) (run_certificate r) n a
+      → HasAccountFacts (run_start r) (with_nests r.graphs.now nests) (run_certificate r) n a
   account_facts U n a I =
       record {
         ledger = I.ledger;
         is_ledger = I.is_ledger;
         entries = I.entries;
-        facts = ledger_facts (run_start r) (with_nests r.graphs.now nests) (run_certificate r) n I.ledger (cached r R) graphs_with (states_met r R) (sets_met U) I.is_ledger;
+        facts =
+            ledger_facts (run_start r) (with_nests r.graphs.now nests) (run_certificate r) n
+            I.ledger (cached r R) graphs_with (states_met r R) (sets_met U) I.is_ledger;
       }

@@ -1,5 +1,6 @@
 -- The last number below another that passes a test.
-use Rattle.std.proofs.Common.{◌≡◌, ◌≢◌, ℕ, zero, suc, ◌<◌, ◌≤◌, Bool, true, false, ◌||◌, sym, ◌∙◌, subst, inl, inr, arith}
+use Rattle.std.proofs.Common.{◌≡◌, ◌≢◌, ℕ, zero, suc, ◌<◌, ◌≤◌, Bool, true, false, ◌||◌, sym, ◌∙◌}
+use Rattle.std.proofs.Common.{subst, inl, inr, arith}
 use Rattle.std.specs.Prelude.{if◌then◌else◌}
 use Rattle.std.proofs.lemmas.Bool.{cases_Bool, cases_eq, false≢true, or_cases, or_left, or_right}
 
@@ -13,13 +14,17 @@ found_below p zero = 0
 found_below p (suc n) = if p n then n else found_below p n
 
 -- it is below, and passes
-pub found_is : (p : ℕ → Bool) (n : ℕ) → some_below p n ≡ true → (found_below p n < n) × (p (found_below p n) ≡ true)
+pub found_is : (p : ℕ → Bool) (n : ℕ) → some_below p n ≡ true
+    → (found_below p n < n) × (p (found_below p n) ≡ true)
 found_is p zero h = absurd (false≢true h)
 found_is p (suc n) h =
     elim (cases_Bool (p n)) [
       | inl b ↦ rw b (omega arith, b)
       | inr b ↦
-          let rest : some_below p n ≡ true = elim (or_cases (p n) (some_below p n) h) [ inl q ↦ absurd (false≢true (sym b ∙ q)) | inr q ↦ q ] in
+          let rest : some_below p n ≡ true = elim (or_cases (p n) (some_below p n) h) [
+            | inl q ↦ absurd (false≢true (sym b ∙ q))
+            | inr q ↦ q
+          ] in
           let r = found_is p n rest in
           rw b (omega (arith, r.0), r.1)
     ]

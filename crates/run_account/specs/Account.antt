@@ -22,17 +22,21 @@ account_entry s e =
       preemptor = job_id (state s 0) e.preemptor;
     }
 
--- the ledger of the first n steps of a run, how the jobs then stand, in the script's order, and whether no watch is broken
-pub record IsAccount (s : Start) (graphs : ℕ → TaskGraph) (c : Certificate) (n : ℕ) (a : Account) : Type 0 where
+-- the ledger of the first n steps of a run, how the jobs then stand, in the script's order, and
+-- whether no watch is broken
+pub record IsAccount (s : Start) (graphs : ℕ → TaskGraph) (c : Certificate) (n : ℕ)
+    (a : Account) : Type 0 where
   pub ledger : List LedgerReload
   pub is_ledger : IsLedger s graphs c n ledger
   pub entries : a.entries ≡ map (account_entry s) ledger
   pub all_jobs : length a.completions ≡ length s.lines
-  pub completions : (x : ℕ) → x < length s.lines → completion a.completions x ≡ completion_at (state s n) x
+  pub completions : (x : ℕ) → x < length s.lines
+      → completion a.completions x ≡ completion_at (state s n) x
   pub kept : IsTrue a.kept ↔ IsKept (state s n)
 
 -- and the facts of its entries that hold of every run
-pub record HasAccountFacts (s : Start) (graphs : ℕ → TaskGraph) (c : Certificate) (n : ℕ) (a : Account) : Type 0 where
+pub record HasAccountFacts (s : Start) (graphs : ℕ → TaskGraph) (c : Certificate) (n : ℕ)
+    (a : Account) : Type 0 where
   pub ledger : List LedgerReload
   pub is_ledger : IsLedger s graphs c n ledger
   pub entries : a.entries ≡ map (account_entry s) ledger

@@ -19,7 +19,12 @@ use Rattle.preempt_machine.specs.Step.{Start}
 -- the task graph of each task; its regions play no part in a ledger, and may be any
 abbrev pub with_nests : List CodeGraph → (ℕ → Nest) → ℕ → TaskGraph
 with_nests graphs nests i =
-    record { graph = graph_of (graph_at graphs i); places = places_of (graph_at graphs i); ins = ins_of (graph_at graphs i); nest = nests i }
+    record {
+      graph = graph_of (graph_at graphs i);
+      places = places_of (graph_at graphs i);
+      ins = ins_of (graph_at graphs i);
+      nest = nests i;
+    }
 
 -- there is a graph for each task, which is the flat graph of its code
 pub record AreGraphsOf (code : Code) (set : TaskSet) (graphs : List CodeGraph) : Type 0 where
@@ -28,7 +33,8 @@ pub record AreGraphsOf (code : Code) (set : TaskSet) (graphs : List CodeGraph) :
 
 -- what a ledger rests on, at each task: the certificate has a part for it, which lists cache sets
 -- below 512 and meets the clauses on which full states rest
-pub record MeetsTask (set : TaskSet) (graphs : List CodeGraph) (c : Certificate) (i : ℕ) : Type 0 where
+pub record MeetsTask (set : TaskSet) (graphs : List CodeGraph) (c : Certificate)
+    (i : ℕ) : Type 0 where
   pub has_task : i < length c.tasks
   pub low_sets : HasLowSets (certified_task c i)
   pub listing : let g = graph_at graphs i in

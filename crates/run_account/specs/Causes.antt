@@ -20,10 +20,18 @@ AreListingsMet s graphs c =
     MeetsListing t.graph (accesses s.system.platform t.places.address) (listed_of p)
 
 -- with an evictor and a preemptor an entry of job x at step n is one of the ledger
-pub record HasCauses (s : Start) (graphs : ℕ → TaskGraph) (c : Certificate) (n x : ℕ) (f : Fetch) : Type 0 where
+pub record HasCauses (s : Start) (graphs : ℕ → TaskGraph) (c : Certificate) (n x : ℕ)
+    (f : Fetch) : Type 0 where
   pub evictor : ℕ
   pub preemptor : ℕ
-  pub is : IsOfRun s graphs c (record { job = x; set = fetched_set s f; time = n; evictor = evictor; preemptor = preemptor })
+  pub is : IsOfRun s graphs c
+      (record {
+        job = x;
+        set = fetched_set s f;
+        time = n;
+        evictor = evictor;
+        preemptor = preemptor;
+      })
 
 -- each entry has both, in every run, legal or not, kept or not
 abbrev pub ReloadHasCauses : Type 0

@@ -1,5 +1,5 @@
--- Facts of a ledger's entries that hold of every run: where an entry comes from, and how few there are of one evictor or
--- preemptor.
+-- Facts of a ledger's entries that hold of every run: where an entry comes from, and how few there
+-- are of one evictor or preemptor.
 use Rattle.std.specs.Prelude.{◌≡◌, ◌≢◌, ◌⊎◌, ℕ, ◌<◌, true, IsTrue, List, length, All, AllPairs}
 use Rattle.crpd_base.specs.declared.data.Certificate.{Certificate}
 use Rattle.crpd_base.specs.Sets.{has}
@@ -23,28 +23,36 @@ AreSetsMet s graphs c =
     MeetsSets t.graph (accesses s.system.platform t.places.address) (listed_of p)
     (has p.part.evicting) (has p.part.useful)
 
--- an entry's evictor and preemptor are of higher tasks than its job, and the evictor does not come after the preemptor.
--- Its set is in the evictor's evicting set, in its task's useful set, and in the useful set of the full state of the node
--- to which the job went on: that of the second of the two fetches between which the evictor's was made
-pub record IsOfHigher (s : Start) (graphs : ℕ → TaskGraph) (c : Certificate) (e : LedgerReload) (r : IsOfRun s graphs c e) : Type 0 where
+-- an entry's evictor and preemptor are of higher tasks than its job, and the evictor does not come
+-- after the preemptor. Its set is in the evictor's evicting set, in its task's useful set, and in
+-- the useful set of the full state of the node to which the job went on: that of the second of the
+-- two fetches between which the evictor's was made
+pub record IsOfHigher (s : Start) (graphs : ℕ → TaskGraph) (c : Certificate) (e : LedgerReload)
+    (r : IsOfRun s graphs c e) : Type 0 where
   pub evictor : job_task s e.evictor < job_task s e.job
   pub preemptor : job_task s e.preemptor < job_task s e.job
   pub not_after : (e.evictor ≡ e.preemptor) ⊎ (before (state s 0).jobs e.evictor e.preemptor ≡ true)
   pub evicts : IsTrue (has (certified_task c (job_task s e.evictor)).part.evicting e.set)
   pub in_set : IsTrue (has (certified_task c (job_task s e.job)).part.useful e.set)
   pub carried : let t = graphs (job_task s e.job) in
-      FullUseful t.graph (accesses s.system.platform t.places.address) (listed_of (certified_task c (job_task s e.job))) (node_of_job t (job_after s r.preempted.until e.job)) e.set
+      FullUseful t.graph (accesses s.system.platform t.places.address)
+      (listed_of (certified_task c (job_task s e.job)))
+      (node_of_job t (job_after s r.preempted.until e.job)) e.set
 
--- two entries do not have the same evictor and the same set; those of one preemptor are of one job, went on at one node,
--- and do not have the same set
-pub record AreDistinct (s : Start) (graphs : ℕ → TaskGraph) (c : Certificate) (d e : LedgerReload) : Type 0 where
+-- two entries do not have the same evictor and the same set; those of one preemptor are of one job,
+-- went on at one node, and do not have the same set
+pub record AreDistinct (s : Start) (graphs : ℕ → TaskGraph) (c : Certificate)
+    (d e : LedgerReload) : Type 0 where
   pub evictor : d.evictor ≡ e.evictor → d.set ≢ e.set
   pub job : d.preemptor ≡ e.preemptor → d.job ≡ e.job
   pub set : d.preemptor ≡ e.preemptor → d.set ≢ e.set
-  pub until : d.preemptor ≡ e.preemptor → (q : IsOfRun s graphs c d) (r : IsOfRun s graphs c e) → q.preempted.until ≡ r.preempted.until
+  pub until : d.preemptor ≡ e.preemptor → (q : IsOfRun s graphs c d) (r : IsOfRun s graphs c e)
+      → q.preempted.until ≡ r.preempted.until
 
-pub record HasFacts (s : Start) (graphs : ℕ → TaskGraph) (c : Certificate) (ledger : List LedgerReload) : Type 0 where
-  pub of_higher : All (λ (e : LedgerReload). (r : IsOfRun s graphs c e) → IsOfHigher s graphs c e r) ledger
+pub record HasFacts (s : Start) (graphs : ℕ → TaskGraph) (c : Certificate)
+    (ledger : List LedgerReload) : Type 0 where
+  pub of_higher : All (λ (e : LedgerReload). (r : IsOfRun s graphs c e) → IsOfHigher s graphs c e r)
+      ledger
   pub distinct : AllPairs (AreDistinct s graphs c) ledger
 
 -- the ledger of each run has them where clauses 3 to 5 hold

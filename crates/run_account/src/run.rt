@@ -1,5 +1,6 @@
 // The account of a run.
-ghost use Rattle.std.specs.Prelude.{◌≡◌, ◌<◌, ◌≤◌, ◌+◌, ◌^◌, ℕ, ◌↔◌, ◌⊎◌, Some, length, map, slice_get, IfOk, OnOk, IsTrue};
+ghost use Rattle.std.specs.Prelude.{◌≡◌, ◌<◌, ◌≤◌, ◌+◌, ◌^◌, ℕ, ◌↔◌, ◌⊎◌, Some, length, map};
+ghost use Rattle.std.specs.Prelude.{slice_get, IfOk, OnOk, IsTrue};
 ghost use Rattle.crpd_base.specs.Ranges.{IsTaskSet};
 ghost use Rattle.loop_regions.specs.Nest.{Nest};
 ghost use Rattle.preempt_machine.specs.Schedule.{completion, script_line};
@@ -10,7 +11,9 @@ ghost use Rattle.preempt_machine.specs.Step.{state};
 ghost use Rattle.run_account.specs.Account.{IsAccount, HasAccountFacts};
 ghost use Rattle.run_account.specs.Inner.Account.{entry_from_completions};
 ghost use Rattle.run_account.specs.Ledger.{IsLedger};
-ghost use Rattle.run_account.specs.Inner.Runs.{run_graphs, run_start, run_certificate, AreHits, IsFetched, IsQuick, HasAccountInput, IsRunning, IsSoFar};
+ghost use Rattle.run_account.specs.Inner.Runs.{run_graphs, run_start, run_certificate, AreHits};
+ghost use Rattle.run_account.specs.Inner.Runs.{IsFetched, IsQuick, HasAccountInput, IsRunning};
+ghost use Rattle.run_account.specs.Inner.Runs.{IsSoFar};
 ghost use Rattle.preempt_machine.specs.Starts.{start_of_script};
 ghost use Rattle.run_account.specs.AccountGraphs.{with_nests, AreGraphsOf, TasksAreMet, SetsAreMet};
 ghost use Rattle.run_account.specs.Inner.Trails.{ledger_reload_of, AreTrailsOf};
@@ -31,8 +34,8 @@ pub(crate) struct Hits {
     pub(crate) flags: Vec<bool>,
 }
 
-/// What stays the same along a run: the set with its code, the script, the tasks' graphs, the certificate, and which
-/// nodes are counted as hits.
+/// What stays the same along a run: the set with its code, the script, the tasks' graphs, the
+/// certificate, and which nodes are counted as hits.
 #[derive(Clone, Copy)]
 pub(crate) struct Run<'a> {
     pub(crate) code: &'a CodeMap,
@@ -74,12 +77,15 @@ impl Run<'_> {
     }
 }
 
-/// The first cycle from now on in which a job may be ready, at most a cycle behind it; jobs by their completions.
+/// The first cycle from now on in which a job may be ready, at most a cycle behind it; jobs by
+/// their completions.
 fn idle_until(lines: &[ScriptJob], completions: &[Completion], now: u64, cycles: u64) -> u64
     requires jobs { length lines.now ≡ length completions.now }
     requires later { now ≤ cycles }
     ensures within { result ≤ cycles }
-    ensures idle { now < result → (x : ℕ) → x < length completions.now → IsIdleUntil (completion completions.now x).«end» (script_line lines.now x).release result }
+    ensures idle { now < result → (x : ℕ) → x < length completions.now
+        → IsIdleUntil (completion completions.now x).«end»
+        (script_line lines.now x).release result }
 {
     let mut until = cycles;
     for place in 0..completions.len() {
@@ -107,7 +113,8 @@ fn is_reload(counted: bool, access: Access) -> bool
     counted && access == Access::Miss
 }
 
-/// Whether no watch was broken before a fetch that missed, as far as it has to be looked at after the fetch.
+/// Whether no watch was broken before a fetch that missed, as far as it has to be looked at after
+/// the fetch.
 fn was_kept(run: &Run<'_>, machine: &Machine) -> bool
     requires { HasAccountInput run.now }
     ensures { IsTrue result ↔ (IsQuick run.now.set.now.platform ⊎ IsKept machine.now.state) }
@@ -124,8 +131,9 @@ fn is_kept_so_far(run: &Run<'_>, machine: &Machine) -> bool
 }
 
 impl Trails {
-    /// Notes a fetch of the job at a place, after which the machine stands as it is. False where it finds that a
-    /// watch was broken before the fetch, so that neither this fetch nor a later one is a reload.
+    /// Notes a fetch of the job at a place, after which the machine stands as it is. False where it
+    /// finds that a watch was broken before the fetch, so that neither this fetch nor a later one
+    /// is a reload.
     fn note(
         &mut self,
         run: &Run<'_>,
@@ -138,7 +146,8 @@ impl Trails {
         requires running { IsRunning run.now (now + 1) machine.now }
         requires quick { IsQuick run.now.set.now.platform → IsKept (state (run_start run.now) now) }
         requires fetched { IsFetched run.now now place fetch.now }
-        requires noted { AreTrailsOf (run_start run.now) (run_graphs run.now) (run_certificate run.now) now self.old }
+        requires noted { AreTrailsOf (run_start run.now) (run_graphs run.now)
+            (run_certificate run.now) now self.old }
         ensures { IfOk result (λ on. IsSoFar run.now (now + 1) on self.new) }
     {
         let task = usize::from(fetch.job.task.0);
@@ -158,18 +167,21 @@ impl Trails {
         Ok(true)
     }
 
-    /// Makes a cycle of a run, and notes its fetch. False where it finds that a watch was broken before it.
+    /// Makes a cycle of a run, and notes its fetch. False where it finds that a watch was broken
+    /// before it.
     fn make_cycle(&mut self, machine: &mut Machine, run: &Run<'_>) -> Result<bool, Memory>
         requires ready { HasAccountInput run.now }
         requires running { IsRunning run.now machine.old.state.time machine.old }
         requires within { machine.old.state.time < run.now.script.now.cycles }
         requires later { machine.old.state.time + 1 < 2 ^ 64 }
         requires quick { IsQuick run.now.set.now.platform → IsKept machine.old.state }
-        requires noted { AreTrailsOf (run_start run.now) (run_graphs run.now) (run_certificate run.now) machine.old.state.time self.old }
+        requires noted { AreTrailsOf (run_start run.now) (run_graphs run.now)
+            (run_certificate run.now) machine.old.state.time self.old }
         ensures running { OnOk result (IsRunning run.now machine.new.state.time machine.new) }
         ensures within { OnOk result (machine.new.state.time ≤ run.now.script.now.cycles) }
         ensures so_far { IfOk result (λ on. IsSoFar run.now machine.new.state.time on self.new) }
-        ensures forth { IfOk result (λ on. IsTrue on → machine.old.state.time < machine.new.state.time) }
+        ensures forth { IfOk result
+            (λ on. IsTrue on → machine.old.state.time < machine.new.state.time) }
         ensures back { OnOk result (machine.old.state.time ≤ machine.new.state.time) }
     {
         let now = machine.steps();
@@ -184,8 +196,8 @@ impl Trails {
         Ok(on)
     }
 
-    /// The first cycle from now on in which a job may be ready, by a look through the jobs where the last one that
-    /// fetched is over and still owns the core.
+    /// The first cycle from now on in which a job may be ready, by a look through the jobs where
+    /// the last one that fetched is over and still owns the core.
     fn idle_until(&self, machine: &Machine, run: &Run<'_>) -> u64
         requires running { IsRunning run.now machine.now.state.time machine.now }
         requires within { machine.now.state.time < run.now.script.now.cycles }
@@ -214,18 +226,20 @@ impl Trails {
         }
     }
 
-    /// The steps up to the first one in which a job may be ready, where there are such, and else a cycle. False
-    /// without a step where a watch is found to be broken before it.
+    /// The steps up to the first one in which a job may be ready, where there are such, and else a
+    /// cycle. False without a step where a watch is found to be broken before it.
     fn step(&mut self, machine: &mut Machine, run: &Run<'_>) -> Result<bool, Memory>
         requires ready { HasAccountInput run.now }
         requires running { IsRunning run.now machine.old.state.time machine.old }
         requires within { machine.old.state.time < run.now.script.now.cycles }
         requires later { machine.old.state.time + 1 < 2 ^ 64 }
-        requires noted { AreTrailsOf (run_start run.now) (run_graphs run.now) (run_certificate run.now) machine.old.state.time self.old }
+        requires noted { AreTrailsOf (run_start run.now) (run_graphs run.now)
+            (run_certificate run.now) machine.old.state.time self.old }
         ensures running { OnOk result (IsRunning run.now machine.new.state.time machine.new) }
         ensures within { OnOk result (machine.new.state.time ≤ run.now.script.now.cycles) }
         ensures so_far { IfOk result (λ on. IsSoFar run.now machine.new.state.time on self.new) }
-        ensures forth { IfOk result (λ on. IsTrue on → machine.old.state.time < machine.new.state.time) }
+        ensures forth { IfOk result
+            (λ on. IsTrue on → machine.old.state.time < machine.new.state.time) }
         ensures back { OnOk result (machine.old.state.time ≤ machine.new.state.time) }
     {
         let until = self.idle_until(machine, run);
@@ -240,14 +254,18 @@ impl Trails {
         }
     }
 
-    /// Makes the cycles of a run from its start, and notes its fetches up to and including the first cycle in which a
-    /// watch breaks.
+    /// Makes the cycles of a run from its start, and notes its fetches up to and including the
+    /// first cycle in which a watch breaks.
     fn follow_run(&mut self, machine: &mut Machine, run: &Run<'_>) -> Result<(), Memory>
         requires ready { HasAccountInput run.now }
         requires started { IsRunning run.now 0 machine.old }
-        requires noted { AreTrailsOf (run_start run.now) (run_graphs run.now) (run_certificate run.now) 0 self.old }
-        ensures ledger { OnOk result (IsLedger (run_start run.now) (run_graphs run.now) (run_certificate run.now) run.now.script.now.cycles (map ledger_reload_of self.new.reloads.items)) }
-        ensures state { OnOk result (machine.new.state ≡ state (run_start run.now) run.now.script.now.cycles) }
+        requires noted { AreTrailsOf (run_start run.now) (run_graphs run.now)
+            (run_certificate run.now) 0 self.old }
+        ensures ledger { OnOk result
+            (IsLedger (run_start run.now) (run_graphs run.now) (run_certificate run.now)
+            run.now.script.now.cycles (map ledger_reload_of self.new.reloads.items)) }
+        ensures state { OnOk result
+            (machine.new.state ≡ state (run_start run.now) run.now.script.now.cycles) }
     {
         let mut on = true;
         while on && machine.steps() < run.script.cycles {
@@ -259,10 +277,14 @@ impl Trails {
 
 /// The reloads with their jobs by task and number.
 fn told(alloc: Global, completions: &[Completion], reloads: &[Reload]) -> Result<Vec<Entry>, Memory>
-    requires jobs { (k : ℕ) (r : Reload) → slice_get reloads.now k ≡ Some r → r.job < length completions.now }
-    requires evictors { (k : ℕ) (r : Reload) → slice_get reloads.now k ≡ Some r → r.evictor < length completions.now }
-    requires preemptors { (k : ℕ) (r : Reload) → slice_get reloads.now k ≡ Some r → r.preemptor < length completions.now }
-    ensures { IfOk result (λ entries. entries.items ≡ map (entry_from_completions completions.now) reloads.now) }
+    requires jobs { (k : ℕ) (r : Reload) → slice_get reloads.now k ≡ Some r
+        → r.job < length completions.now }
+    requires evictors { (k : ℕ) (r : Reload) → slice_get reloads.now k ≡ Some r
+        → r.evictor < length completions.now }
+    requires preemptors { (k : ℕ) (r : Reload) → slice_get reloads.now k ≡ Some r
+        → r.preemptor < length completions.now }
+    ensures { IfOk result (λ entries.
+        entries.items ≡ map (entry_from_completions completions.now) reloads.now) }
 {
     let mut entries = Vec::new(alloc);
     for reload in reloads {
@@ -278,22 +300,24 @@ fn told(alloc: Global, completions: &[Completion], reloads: &[Reload]) -> Result
     Ok(entries)
 }
 
-/// The reloads of the run of a script from the script's start, for the script's cycles: the fetches, up to and
-/// including the first cycle in which a watch breaks, that miss at a node that its full state counts as a hit, in the
-/// order of their times. Each has the job of the last fetch to the set before, the evictor. That fetch lies between
-/// two successive fetches of the job that misses; of the others that fetched between these two, the preemptor is the
-/// last in the order of jobs. Beside them stand the jobs' completions, and whether the run is kept.
+/// The reloads of the run of a script from the script's start, for the script's cycles: the
+/// fetches, up to and including the first cycle in which a watch breaks, that miss at a node that
+/// its full state counts as a hit, in the order of their times. Each has the job of the last fetch
+/// to the set before, the evictor. That fetch lies between two successive fetches of the job that
+/// misses; of the others that fetched between these two, the preemptor is the last in the order of
+/// jobs. Beside them stand the jobs' completions, and whether the run is kept.
 ///
-/// The code map has a plan for each task of the set, the graphs are the flat graphs of the tasks' code, the script's
-/// jobs are of the set's tasks, every leader of each graph is listed, and clause 3 holds at each node. Want of memory
-/// is the only error.
+/// The code map has a plan for each task of the set, the graphs are the flat graphs of the tasks'
+/// code, the script's jobs are of the set's tasks, every leader of each graph is listed, and clause
+/// 3 holds at each node. Want of memory is the only error.
 ///
-/// Where clauses 4 and 5 hold too, evictors and preemptors are of higher tasks, whatever the script, and there is at
-/// most one entry of an evictor, or of a preemptor, and a cache set; all entries of a preemptor are of one job.
+/// Where clauses 4 and 5 hold too, evictors and preemptors are of higher tasks, whatever the
+/// script, and there is at most one entry of an evictor, or of a preemptor, and a cache set; all
+/// entries of a preemptor are of one job.
 ///
-/// Its time is that of the machine's cycles in which a job is ready, with a look through the jobs where another job
-/// fetches than before and where a job is over. A flag is kept for each node, an entry for each reload, and a note for
-/// each time at which a job goes on behind others.
+/// Its time is that of the machine's cycles in which a job is ready, with a look through the jobs
+/// where another job fetches than before and where a job is over. A flag is kept for each node, an
+/// entry for each reload, and a note for each time at which a job goes on behind others.
 pub fn account(
     alloc: Global,
     code: &CodeMap,
@@ -308,8 +332,14 @@ pub fn account(
     requires met { TasksAreMet set.now graphs.now certificate.now }
     requires tasks { NamesTasks set.now script.now.jobs }
     requires jobs { length script.now.jobs < 2 ^ 32 }
-    ensures is { IfOk result (λ a. (nests : ℕ → Nest) → IsAccount (start_of_script set.now code.now script.now) (with_nests graphs.now nests) certificate.now script.now.cycles a) }
-    ensures facts { SetsAreMet set.now graphs.now certificate.now → IfOk result (λ a. (nests : ℕ → Nest) → HasAccountFacts (start_of_script set.now code.now script.now) (with_nests graphs.now nests) certificate.now script.now.cycles a) }
+    ensures is { IfOk result
+        (λ a. (nests : ℕ → Nest)
+        → IsAccount (start_of_script set.now code.now script.now) (with_nests graphs.now nests)
+        certificate.now script.now.cycles a) }
+    ensures facts { SetsAreMet set.now graphs.now certificate.now
+        → IfOk result (λ a. (nests : ℕ → Nest)
+        → HasAccountFacts (start_of_script set.now code.now script.now)
+        (with_nests graphs.now nests) certificate.now script.now.cycles a) }
 {
     code.words_law();
     let hits = all_hits(alloc, set, graphs, certificate)?;

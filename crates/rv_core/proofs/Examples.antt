@@ -2,7 +2,8 @@
 use Rattle.std.proofs.Common.{◌≡◌, refl, negsuc, ℕ, List, [], ◌∷◌, ◌-◌, ◌^◌}
 use Rattle.rv_core.specs.Effect.{written, next_pc, memory_after}
 use Rattle.rv_core.specs.declared.Next.TheVariants.{Goto}
-use Rattle.rv_decode.specs.declared.Ins.TheVariants.{Div, Rem, Mul, Mulh, Mulhsu, Mulhu, Bne, Sw, Lw, Srai}
+use Rattle.rv_decode.specs.declared.Ins.TheVariants.{Div, Rem, Mul, Mulh, Mulhsu, Mulhu, Bne, Sw}
+use Rattle.rv_decode.specs.declared.Ins.TheVariants.{Lw, Srai}
 
 -- registers 1 and 2 hold these
 registers : (a b : ℕ) → List ℕ
@@ -53,10 +54,12 @@ unfolding written registers
 shift_of_the_sign = refl
 
 -- a store over the end, and the load back
-over_the_end : written (Lw 3 0 (negsuc 1)) 0 (registers 0 0) (memory_after (Sw 0 1 (negsuc 1)) (registers 0x12003456 0) []) ≡ (3, 0x12003456)
+over_the_end : written (Lw 3 0 (negsuc 1)) 0 (registers 0 0)
+    (memory_after (Sw 0 1 (negsuc 1)) (registers 0x12003456 0) []) ≡ (3, 0x12003456)
 unfolding written memory_after registers
 over_the_end = refl
 
-stored_in_order : memory_after (Sw 0 1 (negsuc 1)) (registers 0x12003456 0) [] ≡ (1, 0x12) ∷ (0xFFFFFFFE, 0x56) ∷ (0xFFFFFFFF, 0x34) ∷ []
+stored_in_order : memory_after (Sw 0 1 (negsuc 1)) (registers 0x12003456 0) []
+    ≡ (1, 0x12) ∷ (0xFFFFFFFE, 0x56) ∷ (0xFFFFFFFF, 0x34) ∷ []
 unfolding memory_after registers
 stored_in_order = refl

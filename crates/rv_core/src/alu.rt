@@ -1,8 +1,10 @@
 // What the instructions compute, on words of 32 bits.
-ghost use Rattle.std.specs.Prelude.{◌≡◌, ℕ, ◌*◌, ◌+◌, ◌-◌, ◌/◌, ◌%◌, ◌^◌, ◌<◌, ◌==◌, ◌*ℤ◌, pos, if◌then◌else◌};
+ghost use Rattle.std.specs.Prelude.{◌≡◌, ℕ, ◌*◌, ◌+◌, ◌-◌, ◌/◌, ◌%◌, ◌^◌, ◌<◌, ◌==◌, ◌*ℤ◌, pos};
+ghost use Rattle.std.specs.Prelude.{if◌then◌else◌};
 ghost use Rattle.rv_decode.specs.Address.{next_address, int_word, plus, word};
 ghost use Rattle.crpd_base.specs.Sum.{one_if};
-ghost use Rattle.rv_core.specs.Effect.{sign_extension, high, quotient, remainder, shift_signed, signed_lt, to_signed};
+ghost use Rattle.rv_core.specs.Effect.{sign_extension, high, quotient, remainder, shift_signed};
+ghost use Rattle.rv_core.specs.Effect.{signed_lt, to_signed};
 
 /// A word and an immediate, modulo 2^32.
 pub(crate) fn plus(a: u32, imm: i32) -> u32

@@ -1,7 +1,8 @@
 // The effect of an instruction.
 ghost use Rattle.std.specs.Prelude.{◌<◌, ◌≡◌, ℕ, IfOk, IsOk, OnErr, OnOk, ◌⊎◌};
 ghost use Rattle.rv_decode.specs.Range.{HasFieldsInRange};
-ghost use Rattle.rv_core.specs.Effect.{IsStore, branch, next_pc, registers_after, memory_after, written};
+ghost use Rattle.rv_core.specs.Effect.{IsStore, branch, next_pc, registers_after, memory_after};
+ghost use Rattle.rv_core.specs.Effect.{written};
 
 use crate::Next;
 use crate::alu::{
@@ -24,8 +25,8 @@ fn branch(taken: bool, pc: u32, imm: i32) -> Next
     }
 }
 
-/// Where a job goes from an instruction at `pc`: ECALL answers, EBREAK faults. The fields are in range. In constant
-/// time; it takes no memory.
+/// Where a job goes from an instruction at `pc`: ECALL answers, EBREAK faults. The fields are in
+/// range. In constant time; it takes no memory.
 #[tactic(auto, unfolding(crate::specs::Effect::next_pc, rv_decode::specs::Range::HasFieldsInRange))]
 #[inline(always)]
 pub fn next_pc(ins: &Ins, pc: u32, regs: &Regs) -> Next
@@ -113,11 +114,11 @@ fn store(ins: &Ins, regs: &Regs, memory: &mut DataMemory) -> Result<(), Memory>
     }
 }
 
-/// Carries out an instruction at `pc`, whose fields are in range: what it does to registers and memory, for a caller
-/// that has computed where the job goes.
+/// Carries out an instruction at `pc`, whose fields are in range: what it does to registers and
+/// memory, for a caller that has computed where the job goes.
 ///
-/// Registers and memory change as by `effect`. Only a store may want memory; then nothing has changed. Time is
-/// constant, but for a load or store logarithmic in the stored pages.
+/// Registers and memory change as by `effect`. Only a store may want memory; then nothing has
+/// changed. Time is constant, but for a load or store logarithmic in the stored pages.
 #[inline(always)]
 pub fn carry_out(ins: &Ins, pc: u32, regs: &mut Regs, memory: &mut DataMemory) -> Result<(), Memory>
     requires { HasFieldsInRange ins.now }
@@ -134,10 +135,11 @@ pub fn carry_out(ins: &Ins, pc: u32, regs: &mut Regs, memory: &mut DataMemory) -
 
 /// Carries out an instruction at `pc`, whose fields are in range, and says where the job goes.
 ///
-/// Registers and memory change by the effect column of the instruction table (RISC-V unprivileged manual, RV32I and
-/// M): arithmetic is modulo 2^32, data is little-endian, an access that reaches the end of memory goes on at 0, and
-/// misaligned accesses are carried out. Only a store may want memory; then nothing has changed. Time is constant, but
-/// for a load or store logarithmic in the stored pages.
+/// Registers and memory change by the effect column of the instruction table (RISC-V unprivileged
+/// manual, RV32I and M): arithmetic is modulo 2^32, data is little-endian, an access that reaches
+/// the end of memory goes on at 0, and misaligned accesses are carried out. Only a store may want
+/// memory; then nothing has changed. Time is constant, but for a load or store logarithmic in the
+/// stored pages.
 pub fn effect(ins: &Ins, pc: u32, regs: &mut Regs, memory: &mut DataMemory) -> Result<Next, Memory>
     requires { HasFieldsInRange ins.now }
     ensures next { IfOk result (λ next. next ≡ next_pc ins.now pc regs.old) }

@@ -1,11 +1,16 @@
 // The data memory.
-ghost use Rattle.std.specs.Prelude.{◌≡◌, ◌↔◌, ℕ, false, ◌+◌, ◌*◌, ◌<◌, ◌≤◌, ◌^◌, ◌-◌, ◌%◌, List, [], length, slice_index, take, EachIndex, IfNone, IfSome, IsTrue, OnOk, OnErr};
+ghost use Rattle.std.specs.Prelude.{◌≡◌, ◌↔◌, ℕ, false, ◌+◌, ◌*◌, ◌<◌, ◌≤◌, ◌^◌, ◌-◌, ◌%◌, List};
+ghost use Rattle.std.specs.Prelude.{[], length, slice_index, take, EachIndex, IfNone, IfSome};
+ghost use Rattle.std.specs.Prelude.{IsTrue, OnOk, OnErr};
 ghost use Rattle.std.specs.BTreeMap.{ContainsKey};
 ghost use Rattle.std.specs.List.{filter};
 ghost use Rattle.std.specs.Ordering.{nat_cmp};
-ghost use Rattle.rv_core.specs.Memory.{IsMemory, ByteAfterPut, PutKeepsMemory, BytesTellMemory, ByteAfterClear, byte as byte_at, put_all, put_byte, clear_bytes, memory_half, memory_word};
+ghost use Rattle.rv_core.specs.Memory.{IsMemory, ByteAfterPut, PutKeepsMemory, BytesTellMemory};
+ghost use Rattle.rv_core.specs.Memory.{ByteAfterClear, byte as byte_at, put_all, put_byte};
+ghost use Rattle.rv_core.specs.Memory.{clear_bytes, memory_half, memory_word};
 ghost use Rattle.rv_core.specs.Inner.Memory.{put_bytes};
-ghost use Rattle.rv_core.specs.Inner.Pages.{is_not_between, little_endian_number, page_word, page_with_value};
+ghost use Rattle.rv_core.specs.Inner.Pages.{is_not_between, little_endian_number, page_word};
+ghost use Rattle.rv_core.specs.Inner.Pages.{page_with_value};
 
 use crpd_base::Memory;
 use std::alloc::Global;
@@ -56,7 +61,8 @@ fn write(page: &mut [u8; 64], at: usize, value: u32, count: u32)
 /// Copies bytes to a page, from a place on.
 fn copy(page: &mut [u8; 64], at: usize, bytes: &[u8])
     requires { at + length bytes.now ≤ 64 }
-    ensures { page.new ≡ page_with_value (length bytes.now) page.old at (little_endian_number bytes.now) }
+    ensures { page.new ≡ page_with_value (length bytes.now) page.old at
+        (little_endian_number bytes.now) }
 {
     page[at..at + bytes.len()].copy_from_slice(bytes);
 }
@@ -71,17 +77,21 @@ fn are_zero(bytes: &[u8]) -> bool
 /// The number of a page from one up to another, if there is such a page.
 fn page_between(pages: &BTreeMap<u32, [u8; 64]>, first: u32, last: u32) -> Option<u32>
     requires { first ≤ last }
-    ensures found { IfSome result (λ k. (is_not_between first last k ≡ false) × ContainsKey nat_cmp pages.now k) }
-    ensures none { IfNone result (filter (λ page. is_not_between first last page.0) pages.now.entries ≡ pages.now.entries) }
+    ensures found { IfSome result
+        (λ k. (is_not_between first last k ≡ false) × ContainsKey nat_cmp pages.now k) }
+    ensures none { IfNone result
+        (filter (λ page. is_not_between first last page.0) pages.now.entries ≡ pages.now.entries) }
 {
     let (number, _) = pages.range(first..last).next()?;
     Some(*number)
 }
 
-/// Takes out the pages from a number up to another, one by one, in time logarithmic in the pages for each.
+/// Takes out the pages from a number up to another, one by one, in time logarithmic in the pages
+/// for each.
 fn remove_pages(pages: &mut BTreeMap<u32, [u8; 64]>, first: u32, last: u32)
     requires { first ≤ last }
-    ensures { pages.new.entries ≡ filter (λ page. is_not_between first last page.0) pages.old.entries }
+    ensures { pages.new.entries
+        ≡ filter (λ page. is_not_between first last page.0) pages.old.entries }
 {
     while let Some(number) = page_between(pages, first, last) {
         pages.remove(&number);
@@ -109,8 +119,8 @@ impl DataMemory {
         }
     }
 
-    /// Changes one byte, in time logarithmic in the stored pages. After an error all is as before. Memory is wanted
-    /// only where a byte that was 0 becomes another.
+    /// Changes one byte, in time logarithmic in the stored pages. After an error all is as before.
+    /// Memory is wanted only where a byte that was 0 becomes another.
     pub fn put(&mut self, address: u32, byte: u8) -> Result<(), Memory>
         ensures ok { OnOk result (self.new ≡ put_byte self.old address byte) }
         ensures err { OnErr result (self.new ≡ self.old) }
@@ -119,8 +129,8 @@ impl DataMemory {
         self.store_within(address, byte as u32, 1)
     }
 
-    /// Stores the low `count` bytes of a value from an address on, all of them in one page. After an error all is as
-    /// before. Memory is wanted only for a page that is not stored yet.
+    /// Stores the low `count` bytes of a value from an address on, all of them in one page. After
+    /// an error all is as before. Memory is wanted only for a page that is not stored yet.
     fn store_within(&mut self, address: u32, value: u32, count: u32) -> Result<(), Memory>
         requires { address % 64 + count ≤ 64 }
         ensures ok { OnOk result (self.new ≡ put_bytes count self.old address value) }
@@ -143,8 +153,8 @@ impl DataMemory {
         }
     }
 
-    /// Puts bytes from an address on, all of them in one page. After an error all is as before. Memory is wanted only
-    /// for a page that is not stored yet.
+    /// Puts bytes from an address on, all of them in one page. After an error all is as before.
+    /// Memory is wanted only for a page that is not stored yet.
     fn put_within(&mut self, address: u32, bytes: &[u8]) -> Result<(), Memory>
         requires { address % 64 + length bytes.now ≤ 64 }
         ensures ok { OnOk result (self.new ≡ put_all self.old address bytes.now) }
@@ -167,13 +177,16 @@ impl DataMemory {
         }
     }
 
-    /// Puts bytes from an address on, in the time of a walk over them with one look-up for each of their pages, which is
-    /// logarithmic in the stored pages. After an error some of them stand, from the first one on. Memory is wanted only
-    /// for a page that is not stored yet and has a byte that is not 0.
+    /// Puts bytes from an address on, in the time of a walk over them with one look-up for each of
+    /// their pages, which is logarithmic in the stored pages. After an error some of them stand,
+    /// from the first one on. Memory is wanted only for a page that is not stored yet and has a
+    /// byte that is not 0.
     pub fn put_all(&mut self, address: u32, bytes: &[u8]) -> Result<(), Memory>
         requires { address + length bytes.now ≤ 2 ^ 32 }
         ensures ok { OnOk result (self.new ≡ put_all self.old address bytes.now) }
-        ensures err { OnErr result ((n : ℕ) × (n < length bytes.now) × (self.new ≡ put_all self.old address (take n bytes.now))) }
+        ensures err { OnErr result
+            ((n : ℕ) × (n < length bytes.now)
+            × (self.new ≡ put_all self.old address (take n bytes.now))) }
     {
         let mut from = 0;
         while from < bytes.len() {
@@ -195,8 +208,8 @@ impl DataMemory {
         }
     }
 
-    /// Makes the bytes of the pages from a number up to another 0, in time logarithmic in the stored pages for each of
-    /// them that is stored.
+    /// Makes the bytes of the pages from a number up to another 0, in time logarithmic in the
+    /// stored pages for each of them that is stored.
     fn clear_pages(&mut self, first: u32, last: u32)
         requires { first ≤ last }
         ensures { self.new ≡ clear_bytes self.old (64 * first) (64 * last - 64 * first) }
@@ -204,8 +217,9 @@ impl DataMemory {
         remove_pages(&mut self.pages, first, last);
     }
 
-    /// Makes `length` bytes from an address on 0, in time logarithmic in the stored pages, and once more so for each page
-    /// that it takes out, however many addresses have none. It takes no memory.
+    /// Makes `length` bytes from an address on 0, in time logarithmic in the stored pages, and once
+    /// more so for each page that it takes out, however many addresses have none. It takes no
+    /// memory.
     pub fn clear(&mut self, address: u32, length: u64)
         requires { address + length ≤ 2 ^ 32 }
         ensures { self.new ≡ clear_bytes self.old address length }
@@ -224,8 +238,8 @@ impl DataMemory {
         }
     }
 
-    /// Stores the low `count` bytes of a value from an address on, which wraps at 2^32. After an error all is as
-    /// before.
+    /// Stores the low `count` bytes of a value from an address on, which wraps at 2^32. After an
+    /// error all is as before.
     pub(crate) fn store(&mut self, address: u32, value: u32, count: u32) -> Result<(), Memory>
         requires { count ≤ 4 }
         ensures ok { OnOk result (self.new ≡ put_bytes count self.old address value) }
@@ -238,8 +252,8 @@ impl DataMemory {
         }
     }
 
-    /// The same, where the bytes may be in two pages: a byte that becomes 0 is put after the others, since it takes no
-    /// memory.
+    /// The same, where the bytes may be in two pages: a byte that becomes 0 is put after the
+    /// others, since it takes no memory.
     fn store_across(&mut self, address: u32, value: u32, count: u32) -> Result<(), Memory>
         requires { count ≤ 4 }
         ensures ok { OnOk result (self.new ≡ put_bytes count self.old address value) }

@@ -4,7 +4,8 @@ ghost use Rattle.rv_core.specs.Registers.{reg, put};
 
 use std::marker::Model;
 
-/// 32 registers of 32 bits (RISC-V unprivileged manual, "Programmers' Model for Base Integer ISA"). Register 0 reads
+/// 32 registers of 32 bits (RISC-V unprivileged manual, "Programmers' Model for Base Integer ISA").
+/// Register 0 reads
 /// 0. No call takes memory.
 #[derive(Clone, Copy, Debug, PartialEq, Eq)]
 pub struct Regs {
@@ -35,7 +36,8 @@ impl Regs {
         if n == 0 { 0 } else { self.values[n as usize] }
     }
 
-    /// Puts a value into register `n`, which is below 32. A write to register 0 is lost. In constant time.
+    /// Puts a value into register `n`, which is below 32. A write to register 0 is lost. In
+    /// constant time.
     pub fn put(&mut self, n: u8, value: u32)
         requires { n < 32 }
         ensures { self.new ≡ put self.old n value }

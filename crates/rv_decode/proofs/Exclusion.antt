@@ -1,5 +1,6 @@
 -- No word fits two rows: the keys of each two rows differ in a field that both of them name.
-use Rattle.std.proofs.Common.{◌≡◌, ℕ, ◌==◌, ◌&&◌, ◌||◌, not, Bool, true, false, List, [], ◌∷◌, Option, Some, None, arith, refl, sym, ap, ◌∙◌, inl, inr, IsTrue}
+use Rattle.std.proofs.Common.{◌≡◌, ℕ, ◌==◌, ◌&&◌, ◌||◌, not, Bool, true, false, List, [], ◌∷◌}
+use Rattle.std.proofs.Common.{Option, Some, None, arith, refl, sym, ap, ◌∙◌, inl, inr, IsTrue}
 use Rattle.std.specs.List.{AllPairs, AllByRecursion}
 use Rattle.std.proofs.lemmas.List.Kept.{AllPairs-cons}
 use Rattle.std.proofs.lemmas.List.Elements.{All-from_recursion}
@@ -51,11 +52,26 @@ record Agreement (k : Key) (w : ℕ) : Type 0 where
 
 agreement : (k : Key) (w : ℕ) → fits_key k w ≡ true → Agreement k w
 agreement (Opcode o) w h = record { opcode = opcode_is w o h; funct3 = tt; funct7 = tt; whole = tt }
-agreement (Funct3 o f) w h = let p = funct3_is w o f h in record { opcode = p.0; funct3 = p.1; funct7 = tt; whole = tt }
-agreement (Funct7 o f g) w h = let p = funct7_is w o f g h in record { opcode = p.0; funct3 = p.1; funct7 = p.2; whole = tt }
+agreement (Funct3 o f) w h = let p = funct3_is w o f h in record {
+  opcode = p.0;
+  funct3 = p.1;
+  funct7 = tt;
+  whole = tt;
+}
+agreement (Funct7 o f g) w h = let p = funct7_is w o f g h in record {
+  opcode = p.0;
+  funct3 = p.1;
+  funct7 = p.2;
+  whole = tt;
+}
 agreement (Whole v) w h =
     let e : w ≡ v = grind arith in
-    record { opcode = ap (bits 0 7) e; funct3 = ap (bits 12 3) e; funct7 = ap (bits 25 7) e; whole = e }
+    record {
+      opcode = ap (bits 0 7) e;
+      funct3 = ap (bits 12 3) e;
+      funct7 = ap (bits 25 7) e;
+      whole = e;
+    }
 
 not_both : (n : ℕ) (x y : Option ℕ) → differ x y ≡ true → Agrees n x → Agrees n y → ⊥
 not_both n None y d p q = cc
@@ -63,7 +79,10 @@ not_both n (Some x) None d p q = cc
 not_both n (Some x) (Some y) d p q = let e : x ≡ y = cc in grind arith
 
 abbrev excludes : Key → Key → Bool
-excludes k l = not (opcode_of k == opcode_of l) || (differ (funct3_of k) (funct3_of l) || (differ (funct7_of k) (funct7_of l) || differ (whole_of k) (whole_of l)))
+excludes k l =
+    not (opcode_of k == opcode_of l)
+    || (differ (funct3_of k) (funct3_of l)
+    || (differ (funct7_of k) (funct7_of l) || differ (whole_of k) (whole_of l)))
 
 excluded : (k l : Key) (w : ℕ) → excludes k l ≡ true → fits_key k w ≡ true → fits_key l w ≡ true → ⊥
 excluded k l w d p q =
@@ -94,7 +113,8 @@ all_exclude (r ∷ rows) = excludes_all r.0 rows && all_exclude rows
 abbrev Apart : ℕ → Key × (ℕ → Ins) → Key × (ℕ → Ins) → Type 0
 Apart w r s = IsTrue (fits_key r.0 w) → IsTrue (fits_key s.0 w) → ⊥
 
-apart_from : (w : ℕ) (r : Key × (ℕ → Ins)) (rows : List (Key × (ℕ → Ins))) → excludes_all r.0 rows ≡ true → AllByRecursion (Apart w r) rows
+apart_from : (w : ℕ) (r : Key × (ℕ → Ins)) (rows : List (Key × (ℕ → Ins)))
+    → excludes_all r.0 rows ≡ true → AllByRecursion (Apart w r) rows
 apart_from w r [] h = tt
 apart_from w r (s ∷ rows) h =
     let p = and_parts (excludes r.0 s.0) (excludes_all r.0 rows) h in
@@ -103,11 +123,13 @@ apart_from w r (s ∷ rows) h =
     true_of : {b : Bool} → IsTrue b → b ≡ true
     true_of h = grind arith
 
-each_apart : (w : ℕ) (rows : List (Key × (ℕ → Ins))) → all_exclude rows ≡ true → AllPairs (Apart w) rows
+each_apart : (w : ℕ) (rows : List (Key × (ℕ → Ins))) → all_exclude rows ≡ true
+    → AllPairs (Apart w) rows
 each_apart w [] h = λ i j d before within. absurd (omega arith)
 each_apart w (r ∷ rows) h =
     let p = and_parts (excludes_all r.0 rows) (all_exclude rows) h in
-    AllPairs-cons (Apart w) r rows (All-from_recursion _ _ (apart_from w r rows p.0)) (each_apart w rows p.1)
+    AllPairs-cons (Apart w) r rows (All-from_recursion _ _ (apart_from w r rows p.0))
+    (each_apart w rows p.1)
 
 pub table_excludes : ExcludeEachOther table
 unfolding table

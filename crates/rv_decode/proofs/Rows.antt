@@ -1,8 +1,12 @@
 -- The row of a word by its opcode, funct3 and funct7.
-use Rattle.std.proofs.Common.{◌≡◌, ℕ, ◌==◌, Bool, true, false, ◌&&◌, if◌then◌else◌, List, [], ◌∷◌, Option, Some, None, ℤ, refl, sym, ◌∙◌, ap, to_z, of_z, w32, SFits, arith}
+use Rattle.std.proofs.Common.{◌≡◌, ℕ, ◌==◌, Bool, true, false, ◌&&◌, if◌then◌else◌, List, [], ◌∷◌}
+use Rattle.std.proofs.Common.{Option, Some, None, ℤ, refl, sym, ◌∙◌, ap, to_z, of_z, w32, SFits}
+use Rattle.std.proofs.Common.{arith}
 use Rattle.std.proofs.lemmas.Int.{to_z-of_z}
 use Rattle.rv_decode.specs.declared.Ins.{Ins}
-use Rattle.rv_decode.specs.Table.{Key, bits, rd, rs1, rs2, i_imm, s_imm, b_imm, j_imm, r_form, i_form, s_form, b_form, u_form, j_form, fence_form, fits_key, table, row_of, ins_of_word}
+use Rattle.rv_decode.specs.Table.{Key, bits, rd, rs1, rs2, i_imm, s_imm, b_imm, j_imm, r_form}
+use Rattle.rv_decode.specs.Table.{i_form, s_form, b_form, u_form, j_form, fence_form, fits_key}
+use Rattle.rv_decode.specs.Table.{table, row_of, ins_of_word}
 use Rattle.rv_decode.specs.Table.Key.{Opcode, Funct3, Funct7, Whole}
 
 -- whether a word with this opcode, funct3 and funct7 fits
@@ -22,24 +26,32 @@ same_fit (Funct3 o f) w = refl
 same_fit (Funct7 o f g) w = refl
 same_fit (Whole v) w = refl
 
-same_row : (rows : List (Key × (ℕ → Ins))) (w : ℕ) → row_of rows w ≡ row_at rows (bits 0 7 w) (bits 12 3 w) (bits 25 7 w) w
+same_row : (rows : List (Key × (ℕ → Ins))) (w : ℕ)
+    → row_of rows w ≡ row_at rows (bits 0 7 w) (bits 12 3 w) (bits 25 7 w) w
 same_row [] w = refl
 same_row (r ∷ rows) w = rw (same_fit r.0 w) (rw (same_row rows w) refl)
 
-pub at_fields : (w o f g : ℕ) → bits 0 7 w ≡ o → bits 12 3 w ≡ f → bits 25 7 w ≡ g → ins_of_word w ≡ row_at table o f g w
+pub at_fields : (w o f g : ℕ) → bits 0 7 w ≡ o → bits 12 3 w ≡ f → bits 25 7 w ≡ g
+    → ins_of_word w ≡ row_at table o f g w
 unfolding ins_of_word
-at_fields w o f g p q r = same_row table w ∙ ap (λ n. row_at table n (bits 12 3 w) (bits 25 7 w) w) p ∙ ap (λ n. row_at table o n (bits 25 7 w) w) q ∙ ap (λ n. row_at table o f n w) r
+at_fields w o f g p q r =
+    same_row table w ∙ ap (λ n. row_at table n (bits 12 3 w) (bits 25 7 w) w) p
+    ∙ ap (λ n. row_at table o n (bits 25 7 w) w) q ∙ ap (λ n. row_at table o f n w) r
 
-pub at_opcode : (w o : ℕ) → true ≡ fits_key (Opcode o) w → ins_of_word w ≡ row_at table o (bits 12 3 w) (bits 25 7 w) w
-at_opcode w o h = let p : bits 0 7 w ≡ o = grind arith in at_fields w o (bits 12 3 w) (bits 25 7 w) p refl refl
+pub at_opcode : (w o : ℕ) → true ≡ fits_key (Opcode o) w
+    → ins_of_word w ≡ row_at table o (bits 12 3 w) (bits 25 7 w) w
+at_opcode w o h =
+    let p : bits 0 7 w ≡ o = grind arith in at_fields w o (bits 12 3 w) (bits 25 7 w) p refl refl
 
-pub at_funct3 : (w o f : ℕ) → true ≡ fits_key (Funct3 o f) w → ins_of_word w ≡ row_at table o f (bits 25 7 w) w
+pub at_funct3 : (w o f : ℕ) → true ≡ fits_key (Funct3 o f) w
+    → ins_of_word w ≡ row_at table o f (bits 25 7 w) w
 at_funct3 w o f h =
     let p : bits 0 7 w ≡ o = grind arith in
     let q : bits 12 3 w ≡ f = grind arith in
     at_fields w o f (bits 25 7 w) p q refl
 
-pub at_funct7 : (w o f g : ℕ) → true ≡ fits_key (Funct7 o f g) w → ins_of_word w ≡ row_at table o f g w
+pub at_funct7 : (w o f g : ℕ) → true ≡ fits_key (Funct7 o f g) w
+    → ins_of_word w ≡ row_at table o f g w
 at_funct7 w o f g h =
     let p : bits 0 7 w ≡ o = grind arith in
     let q : bits 12 3 w ≡ f = grind arith in
@@ -47,25 +59,35 @@ at_funct7 w o f g h =
     at_fields w o f g p q r
 
 -- an instruction of a row, with the fields that the code reads
-pub r_row : (make : ℕ → ℕ → ℕ → Ins) (w x y z : ℕ) → ins_of_word w ≡ Some (r_form make w) → x ≡ rd w → y ≡ rs1 w → z ≡ rs2 w → Some (make x y z) ≡ ins_of_word w
+pub r_row : (make : ℕ → ℕ → ℕ → Ins) (w x y z : ℕ) → ins_of_word w ≡ Some (r_form make w) → x ≡ rd w
+    → y ≡ rs1 w → z ≡ rs2 w → Some (make x y z) ≡ ins_of_word w
 r_row make w x y z found p q r = rw (p, q, r) (sym found)
 
-pub i_row : (make : ℕ → ℕ → ℤ → Ins) (w x y : ℕ) (i : ℤ) → ins_of_word w ≡ Some (i_form make w) → x ≡ rd w → y ≡ rs1 w → SFits w32 i → i ≡ i_imm w → Some (make x y (to_z w32 (of_z w32 i))) ≡ ins_of_word w
+pub i_row : (make : ℕ → ℕ → ℤ → Ins) (w x y : ℕ) (i : ℤ) → ins_of_word w ≡ Some (i_form make w)
+    → x ≡ rd w → y ≡ rs1 w → SFits w32 i → i ≡ i_imm w
+    → Some (make x y (to_z w32 (of_z w32 i))) ≡ ins_of_word w
 i_row make w x y i found p q within r = rw (to_z-of_z w32 i within, p, q, r) (sym found)
 
-pub s_row : (make : ℕ → ℕ → ℤ → Ins) (w x y : ℕ) (i : ℤ) → ins_of_word w ≡ Some (s_form make w) → x ≡ rs1 w → y ≡ rs2 w → SFits w32 i → i ≡ s_imm w → Some (make x y (to_z w32 (of_z w32 i))) ≡ ins_of_word w
+pub s_row : (make : ℕ → ℕ → ℤ → Ins) (w x y : ℕ) (i : ℤ) → ins_of_word w ≡ Some (s_form make w)
+    → x ≡ rs1 w → y ≡ rs2 w → SFits w32 i → i ≡ s_imm w
+    → Some (make x y (to_z w32 (of_z w32 i))) ≡ ins_of_word w
 s_row make w x y i found p q within r = rw (to_z-of_z w32 i within, p, q, r) (sym found)
 
-pub b_row : (make : ℕ → ℕ → ℤ → Ins) (w x y : ℕ) (i : ℤ) → ins_of_word w ≡ Some (b_form make w) → x ≡ rs1 w → y ≡ rs2 w → SFits w32 i → i ≡ b_imm w → Some (make x y (to_z w32 (of_z w32 i))) ≡ ins_of_word w
+pub b_row : (make : ℕ → ℕ → ℤ → Ins) (w x y : ℕ) (i : ℤ) → ins_of_word w ≡ Some (b_form make w)
+    → x ≡ rs1 w → y ≡ rs2 w → SFits w32 i → i ≡ b_imm w
+    → Some (make x y (to_z w32 (of_z w32 i))) ≡ ins_of_word w
 b_row make w x y i found p q within r = rw (to_z-of_z w32 i within, p, q, r) (sym found)
 
-pub u_row : (make : ℕ → ℕ → Ins) (w x y : ℕ) → ins_of_word w ≡ Some (u_form make w) → x ≡ rd w → y ≡ bits 12 20 w → Some (make x y) ≡ ins_of_word w
+pub u_row : (make : ℕ → ℕ → Ins) (w x y : ℕ) → ins_of_word w ≡ Some (u_form make w) → x ≡ rd w
+    → y ≡ bits 12 20 w → Some (make x y) ≡ ins_of_word w
 u_row make w x y found p q = rw (p, q) (sym found)
 
-pub j_row : (make : ℕ → ℤ → Ins) (w x : ℕ) (i : ℤ) → ins_of_word w ≡ Some (j_form make w) → x ≡ rd w → SFits w32 i → i ≡ j_imm w → Some (make x (to_z w32 (of_z w32 i))) ≡ ins_of_word w
+pub j_row : (make : ℕ → ℤ → Ins) (w x : ℕ) (i : ℤ) → ins_of_word w ≡ Some (j_form make w) → x ≡ rd w
+    → SFits w32 i → i ≡ j_imm w → Some (make x (to_z w32 (of_z w32 i))) ≡ ins_of_word w
 j_row make w x i found p within q = rw (to_z-of_z w32 i within, p, q) (sym found)
 
-pub fence_row : (make : ℕ → ℕ → ℕ → Ins) (w x y z : ℕ) → ins_of_word w ≡ Some (fence_form make w) → x ≡ rd w → y ≡ rs1 w → z ≡ bits 20 12 w → Some (make x y z) ≡ ins_of_word w
+pub fence_row : (make : ℕ → ℕ → ℕ → Ins) (w x y z : ℕ) → ins_of_word w ≡ Some (fence_form make w)
+    → x ≡ rd w → y ≡ rs1 w → z ≡ bits 20 12 w → Some (make x y z) ≡ ins_of_word w
 fence_row make w x y z found p q r = rw (p, q, r) (sym found)
 
 -- no row of these fits
@@ -81,7 +103,8 @@ pub no_row : (w : ℕ) → FitsNone table w → None ≡ ins_of_word w
 unfolding ins_of_word
 no_row w h = sym (none_of table w h)
 
-pub whole_row : (make : Ins) (w v : ℕ) → ins_of_word v ≡ Some make → w ≡ v → Some make ≡ ins_of_word w
+pub whole_row : (make : Ins) (w v : ℕ) → ins_of_word v ≡ Some make → w ≡ v
+    → Some make ≡ ins_of_word w
 whole_row make w v found e = sym (ap ins_of_word e ∙ found)
 
 pub not_whole : (w v : ℕ) → (w ≡ v → ⊥) → false ≡ fits_key (Whole v) w
@@ -93,5 +116,6 @@ opcode_is w o h = grind arith
 pub funct3_is : (w o f : ℕ) → fits_key (Funct3 o f) w ≡ true → (bits 0 7 w ≡ o) × (bits 12 3 w ≡ f)
 funct3_is w o f h = grind arith
 
-pub funct7_is : (w o f g : ℕ) → fits_key (Funct7 o f g) w ≡ true → (bits 0 7 w ≡ o) × (bits 12 3 w ≡ f) × (bits 25 7 w ≡ g)
+pub funct7_is : (w o f g : ℕ) → fits_key (Funct7 o f g) w ≡ true
+    → (bits 0 7 w ≡ o) × (bits 12 3 w ≡ f) × (bits 25 7 w ≡ g)
 funct7_is w o f g h = grind arith

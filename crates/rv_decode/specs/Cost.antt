@@ -2,9 +2,12 @@
 use Rattle.std.specs.Prelude.{ℕ, ◌+◌, Bool, true, false, ◌&&◌, if◌then◌else◌}
 use Rattle.crpd_base.specs.declared.data.Platform.{Platform}
 use Rattle.rv_decode.specs.declared.Ins.{Ins}
-use Rattle.rv_decode.specs.declared.Ins.TheVariants.{Jal, Jalr, Beq, Bne, Blt, Bge, Bltu, Bgeu, Lb, Lh, Lw, Lbu, Lhu, Sb, Sh, Sw, Mul, Mulh, Mulhsu, Mulhu, Div, Divu, Rem, Remu}
+use Rattle.rv_decode.specs.declared.Ins.TheVariants.{Jal, Jalr, Beq, Bne, Blt, Bge, Bltu, Bgeu, Lb}
+use Rattle.rv_decode.specs.declared.Ins.TheVariants.{Lh, Lw, Lbu, Lhu, Sb, Sh, Sw, Mul, Mulh}
+use Rattle.rv_decode.specs.declared.Ins.TheVariants.{Mulhsu, Mulhu, Div, Divu, Rem, Remu}
 
--- the cycles for what an instruction does: data for a load or a store, and those of a product or a quotient
+-- the cycles for what an instruction does: data for a load or a store, and those of a product or a
+-- quotient
 unfoldable pub work_cost : Platform → Ins → ℕ
 work_cost p (Lb _ _ _) = p.memory
 work_cost p (Lh _ _ _) = p.memory
@@ -38,4 +41,6 @@ changes_flow _ = false
 
 -- the cost, where the fetch missed or hit, and where the next address is another than pc + 4 or not
 abbrev pub cost : Platform → Ins → Bool → Bool → ℕ
-cost p ins missed taken = p.hit + (if missed then p.miss else 0) + work_cost p ins + (if taken && changes_flow ins then p.taken else 0)
+cost p ins missed taken =
+    p.hit + (if missed then p.miss else 0) + work_cost p ins
+    + (if taken && changes_flow ins then p.taken else 0)

@@ -11,4 +11,5 @@ pub record IsWordOf (ins : Ins) (w : ℕ) : Type 0 where
 
 -- of each two of these rows, no word fits both
 abbrev pub ExcludeEachOther : List (Key × (ℕ → Ins)) → Type 0
-ExcludeEachOther rows = (w : ℕ) → AllPairs (λ r s. IsTrue (fits_key r.0 w) → IsTrue (fits_key s.0 w) → ⊥) rows
+ExcludeEachOther rows =
+    (w : ℕ) → AllPairs (λ r s. IsTrue (fits_key r.0 w) → IsTrue (fits_key s.0 w) → ⊥) rows

@@ -1,7 +1,11 @@
 -- The registers that an instruction reads.
 use Rattle.std.specs.Prelude.{ℕ}
 use Rattle.rv_decode.specs.declared.Ins.{Ins}
-use Rattle.rv_decode.specs.declared.Ins.TheVariants.{Jalr, Beq, Bne, Blt, Bge, Bltu, Bgeu, Lb, Lh, Lw, Lbu, Lhu, Sb, Sh, Sw, Addi, Slti, Sltiu, Xori, Ori, Andi, Slli, Srli, Srai, Add, Sub, Sll, Slt, Sltu, Xor, Srl, Sra, Or, And, Mul, Mulh, Mulhsu, Mulhu, Div, Divu, Rem, Remu}
+use Rattle.rv_decode.specs.declared.Ins.TheVariants.{Jalr, Beq, Bne, Blt, Bge, Bltu, Bgeu, Lb, Lh}
+use Rattle.rv_decode.specs.declared.Ins.TheVariants.{Lw, Lbu, Lhu, Sb, Sh, Sw, Addi, Slti, Sltiu}
+use Rattle.rv_decode.specs.declared.Ins.TheVariants.{Xori, Ori, Andi, Slli, Srli, Srai, Add, Sub}
+use Rattle.rv_decode.specs.declared.Ins.TheVariants.{Sll, Slt, Sltu, Xor, Srl, Sra, Or, And, Mul}
+use Rattle.rv_decode.specs.declared.Ins.TheVariants.{Mulh, Mulhsu, Mulhu, Div, Divu, Rem, Remu}
 
 -- rs1 and rs2 where the effect reads them, else 0. FENCE reads none
 unfoldable pub sources : Ins → ℕ × ℕ

@@ -2,7 +2,12 @@
 use Rattle.std.specs.Prelude.{ℕ, ℤ, List, ◌++◌, codes}
 use Rattle.std.specs.Fmt.{decimal, signed_decimal}
 use Rattle.rv_decode.specs.declared.Ins.{Ins}
-use Rattle.rv_decode.specs.declared.Ins.TheVariants.{Lui, Auipc, Jal, Jalr, Beq, Bne, Blt, Bge, Bltu, Bgeu, Lb, Lh, Lw, Lbu, Lhu, Sb, Sh, Sw, Addi, Slti, Sltiu, Xori, Ori, Andi, Slli, Srli, Srai, Add, Sub, Sll, Slt, Sltu, Xor, Srl, Sra, Or, And, Mul, Mulh, Mulhsu, Mulhu, Div, Divu, Rem, Remu, Fence, Ecall, Ebreak}
+use Rattle.rv_decode.specs.declared.Ins.TheVariants.{Lui, Auipc, Jal, Jalr, Beq, Bne, Blt, Bge}
+use Rattle.rv_decode.specs.declared.Ins.TheVariants.{Bltu, Bgeu, Lb, Lh, Lw, Lbu, Lhu, Sb, Sh, Sw}
+use Rattle.rv_decode.specs.declared.Ins.TheVariants.{Addi, Slti, Sltiu, Xori, Ori, Andi, Slli, Srli}
+use Rattle.rv_decode.specs.declared.Ins.TheVariants.{Srai, Add, Sub, Sll, Slt, Sltu, Xor, Srl, Sra}
+use Rattle.rv_decode.specs.declared.Ins.TheVariants.{Or, And, Mul, Mulh, Mulhsu, Mulhu, Div, Divu}
+use Rattle.rv_decode.specs.declared.Ins.TheVariants.{Rem, Remu, Fence, Ecall, Ebreak}
 
 -- the register x0 to x31
 abbrev pub register : ℕ → List ℕ
@@ -29,7 +34,8 @@ shift_text name d a amount = three_operands name (register d) (register a) (deci
 
 -- `lw x5,12(x2)`: rd or rs2, the offset, rs1
 abbrev pub address_text : List ℕ → ℕ → ℤ → ℕ → List ℕ
-address_text name x imm base = two_operands name (register x) (signed_decimal imm ++ codes "(" ++ register base ++ codes ")")
+address_text name x imm base =
+    two_operands name (register x) (signed_decimal imm ++ codes "(" ++ register base ++ codes ")")
 
 -- `bne x5,x0,-4`: rs1, rs2, the offset
 abbrev pub b_text : List ℕ → ℕ → ℕ → ℤ → List ℕ

@@ -1,6 +1,7 @@
 // The fields of a word.
 ghost use Rattle.std.specs.Prelude.{◌≡◌, ℕ, ◌+◌, ◌-◌, ◌<◌, ◌≤◌, ◌^◌};
-ghost use Rattle.rv_decode.specs.Table.{bits, signed, rd, rs1, rs2, i_imm, s_imm, b_imm, j_imm, fits_key};
+ghost use Rattle.rv_decode.specs.Table.{bits, signed, rd, rs1, rs2, i_imm, s_imm, b_imm, j_imm};
+ghost use Rattle.rv_decode.specs.Table.{fits_key};
 ghost use Rattle.rv_decode.specs.Table.Key.{Opcode, Funct3, Funct7, Whole};
 
 /// The `count` bits of a word from bit `low` on.

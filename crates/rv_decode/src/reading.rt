@@ -96,9 +96,9 @@ macro_rules! decode_rows {
     };
 }
 
-/// The instruction that a word means, or None where it fits no row of the table of RV32I and the M extension (RISC-V
-/// unprivileged manual, "RV32/64G Instruction Set Listings"). In constant time: one test per row, 48 in all. It takes
-/// no memory.
+/// The instruction that a word means, or None where it fits no row of the table of RV32I and the M
+/// extension (RISC-V unprivileged manual, "RV32/64G Instruction Set Listings"). In constant time:
+/// one test per row, 48 in all. It takes no memory.
 #[tactic(none)]
 pub fn decode(word: u32) -> Option<Ins>
     ensures row { result ≡ ins_of_word word }

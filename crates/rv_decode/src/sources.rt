@@ -5,8 +5,8 @@ ghost use Rattle.rv_decode.specs.Sources.{sources};
 use crate::Ins;
 
 impl Ins {
-    /// The source registers: rs1 and rs2 where the instruction reads them, and 0 where it does not. FENCE reads none.
-    /// In constant time; it takes no memory.
+    /// The source registers: rs1 and rs2 where the instruction reads them, and 0 where it does not.
+    /// FENCE reads none. In constant time; it takes no memory.
     #[tactic(auto, unfolding(crate::specs::Sources::sources))]
     pub fn reads(&self) -> (u8, u8)
         ensures { result ≡ sources self.now }

@@ -1,7 +1,8 @@
 // The instruction table of RV32I and the M extension.
 
-/// The 48 rows, handed to another macro: form, variant and fields, name, opcode, funct3 and funct7, or the whole word.
-/// `address` is the I form of JALR and the loads, whose texts name an offset and a base register.
+/// The 48 rows, handed to another macro: form, variant and fields, name, opcode, funct3 and funct7,
+/// or the whole word. `address` is the I form of JALR and the loads, whose texts name an offset and
+/// a base register.
 macro_rules! instruction_table {
     ($then:ident $given:tt) => {
         $then! {

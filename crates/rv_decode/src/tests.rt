@@ -68,7 +68,8 @@ fn every_row(rt: HostRuntime) -> Result<(), Fail> {
     Ok(())
 }
 
-// A shift with another funct7, a JALR and a branch with another funct3, a system word, an M row with another bit, and others.
+// A shift with another funct7, a JALR and a branch with another funct3, a system word, an M row
+// with another bit, and others.
 const NO_ROWS: [u32; 8] = [
     0x2010_5013,
     0x0000_1067,
@@ -126,7 +127,8 @@ const PLATFORM: Platform = Platform {
     switching: Switching::Cycle,
 };
 
-// A word, whether it misses and whether it is taken, and its cycles: addi, sw, jal, bne, div, mul, jalr and ecall.
+// A word, whether it misses and whether it is taken, and its cycles: addi, sw, jal, bne, div, mul,
+// jalr and ecall.
 const COSTS: [(u32, bool, bool, u64); 10] = [
     (0x0010_0293, true, false, 11),
     (0x0010_0293, false, true, 1),

@@ -1,6 +1,7 @@
 // The texts of instructions.
 ghost use Rattle.std.specs.Prelude.{◌≡◌, IfOk, string_bytes};
-ghost use Rattle.rv_decode.specs.Text.{text, r_text, i_text, shift_text, address_text, b_text, j_text, u_text};
+ghost use Rattle.rv_decode.specs.Text.{text, r_text, i_text, shift_text, address_text, b_text};
+ghost use Rattle.rv_decode.specs.Text.{j_text, u_text};
 
 use crate::Ins;
 use crate::table::instruction_table;
@@ -128,9 +129,10 @@ macro_rules! text_rows {
 }
 
 impl Ins {
-    /// The text of the instruction, as an assembler reads it: the name, a space, and the operands with commas
-    /// between them. Registers are `x0` to `x31` and numbers decimal; a branch and JAL name their offset in bytes.
-    /// Time and memory are those of the text, fewer than 20 bytes. The only error is want of memory.
+    /// The text of the instruction, as an assembler reads it: the name, a space, and the operands
+    /// with commas between them. Registers are `x0` to `x31` and numbers decimal; a branch and JAL
+    /// name their offset in bytes. Time and memory are those of the text, fewer than 20 bytes. The
+    /// only error is want of memory.
     #[tactic(auto, unfolding(crate::specs::Text::text))]
     pub fn text(&self, alloc: Global) -> Result<String, Memory>
         ensures { IfOk result (λ s. string_bytes s ≡ text self.now) }

@@ -1,7 +1,8 @@
 // From an instruction to its word.
 ghost use Rattle.std.specs.Prelude.{◌≡◌, ◌+◌, ◌-◌, ◌<◌, ◌≤◌, ◌^◌, ◌/◌, ◌%◌, ◌*◌};
 ghost use Rattle.rv_decode.specs.Encoding.{IsWordOf};
-ghost use Rattle.rv_decode.specs.Inner.Encoding.{word_of_fields, signed_bits, i_word, s_word, b_word, u_word, j_word};
+ghost use Rattle.rv_decode.specs.Inner.Encoding.{word_of_fields, signed_bits, i_word, s_word};
+ghost use Rattle.rv_decode.specs.Inner.Encoding.{b_word, u_word, j_word};
 ghost use Rattle.rv_decode.specs.Range.{HasFieldsInRange, IsSigned};
 
 use crate::Ins;
@@ -145,7 +146,8 @@ macro_rules! write_row {
     (r { $rd:ident, $rs1:ident, $rs2:ident } $opcode:literal $funct3:literal $funct7:literal) => {
         r_word($opcode, $funct3, $funct7, $rd, $rs1, $rs2)
     };
-    (shift { $rd:ident, $rs1:ident, $amount:ident } $opcode:literal $funct3:literal $funct7:literal) => {
+    (shift {
+        $rd:ident, $rs1:ident, $amount:ident } $opcode:literal $funct3:literal $funct7:literal) => {
         r_word($opcode, $funct3, $funct7, $rd, $rs1, $amount)
     };
     (i { $rd:ident, $rs1:ident, $imm:ident } $opcode:literal $funct3:literal) => {
@@ -182,8 +184,8 @@ macro_rules! encode_rows {
     };
 }
 
-/// The word of an instruction whose fields are in range: the one word that is decoded to it. In constant time; it
-/// takes no memory.
+/// The word of an instruction whose fields are in range: the one word that is decoded to it. In
+/// constant time; it takes no memory.
 #[tactic(auto, unfolding(crate::specs::Range::HasFieldsInRange))]
 pub fn encode(ins: &Ins) -> u32
     requires { HasFieldsInRange ins.now }

@@ -1,5 +1,6 @@
 -- What a script that was read keeps: its tasks are in the set, and its jobs are few.
-use Rattle.std.proofs.Common.{◌≡◌, ℕ, ◌+◌, ◌<◌, ◌≤◌, ◌^◌, nat_lt, List, [], ◌∷◌, length, codes, Option, Some, None, Result, Ok, Err, ap, subst, arith, inl, inr}
+use Rattle.std.proofs.Common.{◌≡◌, ℕ, ◌+◌, ◌<◌, ◌≤◌, ◌^◌, nat_lt, List, [], ◌∷◌, length, codes}
+use Rattle.std.proofs.Common.{Option, Some, None, Result, Ok, Err, ap, subst, arith, inl, inr}
 use Rattle.std.specs.Prelude.{All, IfOk}
 use Rattle.std.specs.List.{AllByRecursion}
 use Rattle.std.specs.Str.{bytes_eq, is_utf8}
@@ -18,12 +19,15 @@ use Rattle.toml_keys.specs.Reading.{all_known, required, optional, whole, listed
 use Rattle.toml_keys.proofs.Laws.{guard_ok, each_all, each_length}
 use Rattle.script_reader.specs.declared.fault.ScriptError.{ScriptError}
 use Rattle.script_reader.specs.declared.fault.ScriptError.TheVariants.{Memory, TooLong}
-use Rattle.script_reader.specs.Reading.{of_script, job_keys, first_named, task_or_unknown, task_named, job_at, nth_job, jobs_at, script_keys, cycles_at, block, script_at, document, reading}
+use Rattle.script_reader.specs.Reading.{of_script, job_keys, first_named, task_or_unknown}
+use Rattle.script_reader.specs.Reading.{task_named, job_at, nth_job, jobs_at, script_keys}
+use Rattle.script_reader.specs.Reading.{cycles_at, block, script_at, document, reading}
 
 abbrev pub IsIn : TaskSet → ScriptJob → Type 0
 IsIn set job = job.task.0 < length set.tasks
 
-first_below : (name : List ℕ) (ts : List TaskSpec) (i k : ℕ) → first_named name ts i ≡ Some k → k < i + length ts
+first_below : (name : List ℕ) (ts : List TaskSpec) (i k : ℕ) → first_named name ts i ≡ Some k
+    → k < i + length ts
 first_below name [] i k e = absurd cc
 first_below name (t ∷ ts) i k e =
     elim (cases_Bool (bytes_eq name t.name)) [
@@ -39,50 +43,67 @@ told_is path (Some i) t e =
       | inr ge ↦ absurd (let f = rw ge at e in cc)
     ]
 
-named_below : (path name : List ℕ) (set : TaskSet) (t : ℕ) → task_named path name set ≡ Ok t → t < length set.tasks
+named_below : (path name : List ℕ) (set : TaskSet) (t : ℕ) → task_named path name set ≡ Ok t
+    → t < length set.tasks
 unfolding task_named
-named_below path name set t e = let b = first_below name set.tasks 0 t (told_is path _ t e) in omega arith
+named_below path name set t e =
+    let b = first_below name set.tasks 0 t (told_is path _ t e) in omega arith
 
-job_in : (set : TaskSet) (path : List ℕ) (ms : Members) (job : ScriptJob) → job_at set path ms ≡ Ok job → IsIn set job
+job_in : (set : TaskSet) (path : List ℕ) (ms : Members) (job : ScriptJob)
+    → job_at set path ms ≡ Ok job → IsIn set job
 unfolding job_at
 job_in set path ms job e =
     let keys = bind_ok (of_script (all_known job_keys path ms)) _ job e in
     let name = bind_ok (of_script (required as_str path (codes "task") ms)) _ job keys.2 in
     let task = bind_ok (task_named path name.0 set) _ job name.2 in
-    let arrival = bind_ok (of_script (required (whole 0 (2 ^ 40)) path (codes "arrival") ms)) _ job task.2 in
-    let release = bind_ok (of_script (required (whole 0 (2 ^ 40)) path (codes "release") ms)) _ job arrival.2 in
-    subst (IsIn set) (ok_is (record { task = record { 0 = task.0 }; arrival = arrival.0; release = release.0 }) job release.2) (named_below path name.0 set task.0 task.1)
+    let arrival = bind_ok (of_script (required (whole 0 (2 ^ 40)) path (codes "arrival") ms)) _
+    job task.2 in
+    let release = bind_ok (of_script (required (whole 0 (2 ^ 40)) path (codes "release") ms)) _ job
+    arrival.2 in
+    subst (IsIn set)
+    (ok_is (record { task = record { 0 = task.0 }; arrival = arrival.0; release = release.0 }) job
+    release.2) (named_below path name.0 set task.0 task.1)
 
 pub record AreFound (set : TaskSet) (jobs : List ScriptJob) : Type 0 where
   pub in_set : AllByRecursion (IsIn set) jobs
   pub few : length jobs ≤ 10000
 
-jobs_in : (set : TaskSet) (ms : Members) (jobs : List ScriptJob) → jobs_at set ms ≡ Ok jobs → AreFound set jobs
+jobs_in : (set : TaskSet) (ms : Members) (jobs : List ScriptJob) → jobs_at set ms ≡ Ok jobs
+    → AreFound set jobs
 unfolding jobs_at
 jobs_in set ms jobs e =
     let tables = bind_ok (of_script (optional [] (listed as_table) [] (codes "job") ms)) _ jobs e in
-    let few = guard_ok (nat_lt 10000 (length tables.0)) (TooLong (codes "job")) (each (nth_job set) 0 tables.0) jobs tables.2 in
+    let few = guard_ok (nat_lt 10000 (length tables.0)) (TooLong (codes "job"))
+    (each (nth_job set) 0 tables.0) jobs tables.2 in
     let short : length tables.0 ≤ 10000 = ltb-false _ _ few.0 in
     let same : length jobs ≡ length tables.0 = each_length (nth_job set) 0 tables.0 jobs few.1 in
     record {
-      in_set = each_all (IsIn set) (nth_job set) (λ i t job is. job_in set _ t job is) 0 tables.0 jobs few.1;
+      in_set =
+          each_all (IsIn set) (nth_job set) (λ i t job is. job_in set _ t job is) 0
+          tables.0 jobs few.1;
       few = omega arith;
     }
 
-script_in : (set : TaskSet) (ms : Members) (s : Script) → script_at set ms ≡ Ok s → AreFound set s.jobs
+script_in : (set : TaskSet) (ms : Members) (s : Script) → script_at set ms ≡ Ok s
+    → AreFound set s.jobs
 unfolding script_at
 script_in set ms s e =
     let keys = bind_ok (of_script (all_known script_keys [] ms)) _ s e in
     let cycles = bind_ok (cycles_at ms) _ s keys.2 in
-    let cache = bind_ok (of_script (optional [] (listed block) [] (codes "cache") ms)) _ s cycles.2 in
+    let cache = bind_ok (of_script (optional [] (listed block) [] (codes "cache") ms)) _
+    s cycles.2 in
     let jobs = bind_ok (jobs_at set ms) _ s cache.2 in
-    subst (λ (v : Script). AreFound set v.jobs) (ok_is (record { cycles = cycles.0; cache = cache.0; jobs = jobs.0 }) s jobs.2) (jobs_in set ms jobs.0 jobs.1)
+    subst (λ (v : Script). AreFound set v.jobs)
+    (ok_is (record { cycles = cycles.0; cache = cache.0; jobs = jobs.0 }) s jobs.2)
+    (jobs_in set ms jobs.0 jobs.1)
 
-document_in : (set : TaskSet) (o : Option Members) (s : Script) → document set o ≡ Ok s → AreFound set s.jobs
+document_in : (set : TaskSet) (o : Option Members) (s : Script) → document set o ≡ Ok s
+    → AreFound set s.jobs
 document_in set None s e = absurd cc
 document_in set (Some ms) s e = script_in set ms s e
 
-reading_in : (bytes : List ℕ) (set : TaskSet) (s : Script) → reading bytes set ≡ Ok s → AreFound set s.jobs
+reading_in : (bytes : List ℕ) (set : TaskSet) (s : Script) → reading bytes set ≡ Ok s
+    → AreFound set s.jobs
 unfolding reading
 reading_in bytes set s e =
     elim (cases_Bool (is_utf8 bytes)) [
@@ -90,10 +111,13 @@ reading_in bytes set s e =
       | inr not_text ↦ absurd (let f = rw not_text at e in cc)
     ]
 
-pub found_in : (bytes : List ℕ) (set : TaskSet) (r : Result Script ScriptError) → Gives Memory (λ x. x) r (reading bytes set) → IfOk r (λ s. All (λ (j : ScriptJob). j.task.0 < length set.tasks) s.jobs)
+pub found_in : (bytes : List ℕ) (set : TaskSet) (r : Result Script ScriptError)
+    → Gives Memory (λ x. x) r (reading bytes set)
+    → IfOk r (λ s. All (λ (j : ScriptJob). j.task.0 < length set.tasks) s.jobs)
 found_in bytes set (Ok s) h = All-from_recursion (IsIn set) s.jobs (reading_in bytes set s h).in_set
 found_in bytes set (Err e) h = tt
 
-pub found_few : (bytes : List ℕ) (set : TaskSet) (r : Result Script ScriptError) → Gives Memory (λ x. x) r (reading bytes set) → IfOk r (λ s. length s.jobs ≤ 10000)
+pub found_few : (bytes : List ℕ) (set : TaskSet) (r : Result Script ScriptError)
+    → Gives Memory (λ x. x) r (reading bytes set) → IfOk r (λ s. length s.jobs ≤ 10000)
 found_few bytes set (Ok s) h = (reading_in bytes set s h).few
 found_few bytes set (Err e) h = tt

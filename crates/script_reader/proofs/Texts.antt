@@ -9,11 +9,13 @@ use Rattle.toml.specs.Parse.{parse_document}
 use Rattle.script_reader.specs.declared.fault.ScriptError.TheVariants.{NotToml}
 use Rattle.script_reader.specs.Reading.{reading, document}
 
-pub reading_of_text : (bytes : List ℕ) (set : TaskSet) (o : Option Members) → IsUtf8 bytes → parse_document bytes ≡ o → reading bytes set ≡ document set o
+pub reading_of_text : (bytes : List ℕ) (set : TaskSet) (o : Option Members) → IsUtf8 bytes
+    → parse_document bytes ≡ o → reading bytes set ≡ document set o
 unfolding reading
 reading_of_text bytes set o text is = rw (is_utf8-from_IsUtf8 bytes text, is)
 
-pub reading_of_bytes : (bytes : List ℕ) (set : TaskSet) → ¬ (IsUtf8 bytes) → reading bytes set ≡ Err NotToml
+pub reading_of_bytes : (bytes : List ℕ) (set : TaskSet) → ¬ (IsUtf8 bytes)
+    → reading bytes set ≡ Err NotToml
 unfolding reading
 reading_of_bytes bytes set no_text =
     elim (cases_Bool (is_utf8 bytes)) [

@@ -14,7 +14,8 @@ AreSpaced set x y = x.task.0 ≡ y.task.0 → AreApart (period_of set x.task.0) 
 
 -- a job is released at its arrival or at most its task's jitter later
 abbrev pub IsReleasedInTime : TaskSet → ScriptJob → Type 0
-IsReleasedInTime set job = (job.arrival ≤ job.release) × (job.release ≤ job.arrival + jitter_of set job.task.0)
+IsReleasedInTime set job =
+    (job.arrival ≤ job.release) × (job.release ≤ job.arrival + jitter_of set job.task.0)
 
 -- legal by period and jitter
 pub record IsLegal (set : TaskSet) (jobs : List ScriptJob) : Type 0 where

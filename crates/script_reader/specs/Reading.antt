@@ -1,5 +1,6 @@
 -- What the text of a script stands for beside a task set, or the first refusal.
-use Rattle.std.specs.Prelude.{ℕ, pos, ◌+◌, ◌^◌, List, [], ◌∷◌, ◌++◌, length, codes, Bool, false, Option, Some, None, nat_lt, Result, Ok, Err, if◌then◌else◌}
+use Rattle.std.specs.Prelude.{ℕ, pos, ◌+◌, ◌^◌, List, [], ◌∷◌, ◌++◌, length, codes, Bool, false}
+use Rattle.std.specs.Prelude.{Option, Some, None, nat_lt, Result, Ok, Err, if◌then◌else◌}
 use Rattle.std.specs.Str.{bytes_eq, is_utf8}
 use Rattle.crpd_base.specs.declared.data.ScriptJob.{ScriptJob}
 use Rattle.crpd_base.specs.declared.data.Script.{Script}
@@ -10,9 +11,12 @@ use Rattle.toml.specs.Parse.{parse_document}
 use Rattle.toml_keys.specs.declared.fault.KeyError.{KeyError}
 use Rattle.toml_keys.specs.declared.fault.KeyError.TheVariants as fault
 use Rattle.crpd_base.specs.Outcome.{◌>>=◌}
-use Rattle.toml_keys.specs.Reading.{all_known, value_at_key, value_or_bad, required, optional, whole, listed, each, item_path}
+use Rattle.toml_keys.specs.Reading.{all_known, value_at_key, value_or_bad, required, optional}
+use Rattle.toml_keys.specs.Reading.{whole, listed, each, item_path}
 use Rattle.script_reader.specs.declared.fault.ScriptError.{ScriptError}
-use Rattle.script_reader.specs.declared.fault.ScriptError.TheVariants.{Memory, NotToml, Missing, BadValue, UnknownTask, TooLong, UnknownKey}
+use Rattle.script_reader.specs.declared.fault.ScriptError.TheVariants.{Memory, NotToml, Missing}
+use Rattle.script_reader.specs.declared.fault.ScriptError.TheVariants.{BadValue, UnknownTask}
+use Rattle.script_reader.specs.declared.fault.ScriptError.TheVariants.{TooLong, UnknownKey}
 
 -- a fault of a key as a refusal of the script
 abbrev pub script_error : KeyError → ScriptError
@@ -38,7 +42,8 @@ first_named name (t ∷ ts) i = if bytes_eq name t.name then Some i else first_n
 -- a task that was found, where a task's number can tell it
 abbrev pub task_or_unknown : List ℕ → Option ℕ → Result ℕ ScriptError
 task_or_unknown path None = Err (UnknownTask (path ++ codes "task"))
-task_or_unknown path (Some i) = if nat_lt i 256 then Ok i else Err (UnknownTask (path ++ codes "task"))
+task_or_unknown path (Some i) =
+    if nat_lt i 256 then Ok i else Err (UnknownTask (path ++ codes "task"))
 
 -- the task of a name
 unfoldable pub task_named : List ℕ → List ℕ → TaskSet → Result ℕ ScriptError
@@ -75,7 +80,8 @@ is_above n _ = false
 unfoldable pub cycles_at : Members → Result ℕ ScriptError
 cycles_at ms = do
   d ← of_script (value_at_key [] (codes "cycles") ms)
-  if is_above (2 ^ 40) d then Err (TooLong (codes "cycles")) else of_script (value_or_bad [] (codes "cycles") (whole 1 (2 ^ 40) d))
+  if is_above (2 ^ 40) d then Err (TooLong (codes "cycles"))
+      else of_script (value_or_bad [] (codes "cycles") (whole 1 (2 ^ 40) d))
 
 -- the number of a block
 abbrev pub block : Data → Option ℕ

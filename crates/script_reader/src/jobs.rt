@@ -1,4 +1,5 @@
-ghost use Rattle.std.specs.Prelude.{◌≡◌, ◌++◌, [], codes, length, map, option_map, IfOk, string_bytes};
+ghost use Rattle.std.specs.Prelude.{◌≡◌, ◌++◌, [], codes, length, map, option_map, IfOk};
+ghost use Rattle.std.specs.Prelude.{string_bytes};
 ghost use Rattle.toml.specs.Data.{as_str, as_table};
 ghost use Rattle.toml.specs.View.{view, table_view};
 ghost use Rattle.crpd_base.specs.Outcome.{Gives};
@@ -15,7 +16,8 @@ const KEYS: [&str; 3] = ["task", "arrival", "release"];
 
 #[tactic(auto, unfolding(crate::specs::Reading::job_keys))]
 fn job_keys(alloc: Global, keys: Keys) -> Result<(), KeyError>
-    ensures { Gives KeyError.Memory (λ x. x) result (all_known spec.job_keys keys.entry.path.now (table_view keys.entry.table.now)) }
+    ensures { Gives KeyError.Memory (λ x. x) result
+        (all_known spec.job_keys keys.entry.path.now (table_view keys.entry.table.now)) }
 {
     keys.all_known(alloc, &KEYS)
 }
@@ -35,7 +37,8 @@ fn first_named(name: &str, tasks: &[TaskSpec]) -> Option<usize>
 /// The task of a name.
 #[tactic(auto, unfolding(crate::specs::Reading::task_named))]
 fn task_named(alloc: Global, path: &str, name: &str, set: &TaskSet) -> Result<Task, ScriptError>
-    ensures { Gives ScriptError.Memory (λ t. t.0) result (spec.task_named path.now name.now set.now) }
+    ensures { Gives ScriptError.Memory (λ t. t.0) result
+        (spec.task_named path.now name.now set.now) }
 {
     match first_named(name, set.tasks.as_slice()) {
         Some(i) if i < 256 => Ok(Task(i as u8)),
@@ -45,7 +48,8 @@ fn task_named(alloc: Global, path: &str, name: &str, set: &TaskSet) -> Result<Ta
 
 #[tactic(auto, using(toml_keys::proofs::Seen::good_seen), unfolding(toml_keys::specs::Reading::required))]
 fn name_at<'a>(alloc: Global, keys: Keys<'a>) -> Result<&'a str, KeyError>
-    ensures { Gives KeyError.Memory (λ s. s.now) result (required as_str keys.entry.path.now (codes "task") (table_view keys.entry.table.now)) }
+    ensures { Gives KeyError.Memory (λ s. s.now) result
+        (required as_str keys.entry.path.now (codes "task") (table_view keys.entry.table.now)) }
 {
     let value = keys.present(alloc, "task")?;
     keys.good(alloc, "task", value.as_str())
@@ -54,7 +58,8 @@ fn name_at<'a>(alloc: Global, keys: Keys<'a>) -> Result<&'a str, KeyError>
 /// What the keys of a job say.
 #[tactic(auto, unfolding(crate::specs::Reading::job_at))]
 fn job_at(alloc: Global, keys: Keys, set: &TaskSet) -> Result<ScriptJob, ScriptError>
-    ensures { Gives ScriptError.Memory (λ x. x) result (spec.job_at set.now keys.entry.path.now (table_view keys.entry.table.now)) }
+    ensures { Gives ScriptError.Memory (λ x. x) result
+        (spec.job_at set.now keys.entry.path.now (table_view keys.entry.table.now)) }
 {
     job_keys(alloc, keys)?;
     let name = name_at(alloc, keys)?;
@@ -75,7 +80,8 @@ fn nth_job(
     place: usize,
     table: &Table,
 ) -> Result<ScriptJob, ScriptError>
-    ensures { Gives ScriptError.Memory (λ x. x) result (spec.nth_job set.now place (table_view table.now)) }
+    ensures { Gives ScriptError.Memory (λ x. x) result
+        (spec.nth_job set.now place (table_view table.now)) }
 {
     let path = item_path(alloc, "", "job", place)?;
     job_at(
@@ -91,7 +97,8 @@ fn nth_job(
 /// The jobs of a list, in order.
 #[tactic(auto, unfolding(toml_keys::specs::Reading::each))]
 fn each_job(alloc: Global, set: &TaskSet, tables: &[&Table]) -> Result<Vec<ScriptJob>, ScriptError>
-    ensures { Gives ScriptError.Memory (λ v. v.items) result (each (spec.nth_job set.now) 0 (map (λ t. table_view t.now) tables.now)) }
+    ensures { Gives ScriptError.Memory (λ v. v.items) result
+        (each (spec.nth_job set.now) 0 (map (λ t. table_view t.now) tables.now)) }
 {
     let mut jobs = Vec::new(alloc);
     for (i, table) in tables.iter().enumerate() {
@@ -102,7 +109,9 @@ fn each_job(alloc: Global, set: &TaskSet, tables: &[&Table]) -> Result<Vec<Scrip
 
 #[tactic(auto, using(toml_keys::proofs::Seen::good_seen), unfolding(toml_keys::specs::Reading::optional))]
 fn job_list<'a>(alloc: Global, keys: Keys<'a>) -> Result<Vec<&'a Table>, KeyError>
-    ensures { Gives KeyError.Memory (λ v. map (λ t. table_view t.now) v.items) result (optional [] (listed as_table) keys.entry.path.now (codes "job") (table_view keys.entry.table.now)) }
+    ensures { Gives KeyError.Memory (λ v. map (λ t. table_view t.now) v.items) result
+        (optional [] (listed as_table) keys.entry.path.now (codes "job")
+        (table_view keys.entry.table.now)) }
 {
     match keys.get("job") {
         None => Ok(Vec::new(alloc)),
@@ -110,12 +119,13 @@ fn job_list<'a>(alloc: Global, keys: Keys<'a>) -> Result<Vec<&'a Table>, KeyErro
     }
 }
 
-/// The jobs of a script, in its order: at most 10,000, else `TooLong`; none where the key is absent. A task is found
-/// by a look at the names of the set. The first thing that is wrong is the refusal; `Memory` may come in place of any
-/// answer.
+/// The jobs of a script, in its order: at most 10,000, else `TooLong`; none where the key is
+/// absent. A task is found by a look at the names of the set. The first thing that is wrong is the
+/// refusal; `Memory` may come in place of any answer.
 #[tactic(auto, unfolding(crate::specs::Reading::jobs_at))]
 pub fn jobs_at(alloc: Global, table: &Table, set: &TaskSet) -> Result<Vec<ScriptJob>, ScriptError>
-    ensures { Gives ScriptError.Memory (λ v. v.items) result (spec.jobs_at set.now (table_view table.now)) }
+    ensures { Gives ScriptError.Memory (λ v. v.items) result
+        (spec.jobs_at set.now (table_view table.now)) }
 {
     let tables = job_list(alloc, Keys { table, path: "" })?;
     if tables.len() > 10_000 {

@@ -1,7 +1,9 @@
-ghost use Rattle.std.specs.Prelude.{◌≡◌, ℕ, ◌<◌, ◌≤◌, ◌↔◌, IsTrue, length, take, map, slice_index, All};
+ghost use Rattle.std.specs.Prelude.{◌≡◌, ℕ, ◌<◌, ◌≤◌, ◌↔◌, IsTrue, length, take, map, slice_index};
+ghost use Rattle.std.specs.Prelude.{All};
 ghost use Rattle.std.specs.List.Sorted.{IsNonDecreasing};
 ghost use Rattle.script_reader.specs.Legal.{AreApart, IsReleasedInTime, IsLegal};
-ghost use Rattle.script_reader.specs.Inner.Legal.{AreAllApart, AreSpacedPairs, EachIsSpaced, IsSpacedBy, arrivals_of};
+ghost use Rattle.script_reader.specs.Inner.Legal.{AreAllApart, AreSpacedPairs, EachIsSpaced};
+ghost use Rattle.script_reader.specs.Inner.Legal.{IsSpacedBy, arrivals_of};
 
 use crpd_base::{Script, ScriptJob, TaskSet};
 
@@ -139,9 +141,10 @@ fn are_legal(set: &TaskSet, jobs: &[ScriptJob]) -> bool
     are_spaced_pairs(set, jobs) && are_in_time(set, jobs)
 }
 
-/// Whether a script is legal: any two jobs of one task arrive at least its period apart, and each job is released
-/// from its arrival on, at most its task's jitter later. Every job's task is one of the set. It takes no memory; up
-/// to 10,000 jobs are sorted task by task in a buffer on the stack, and more are compared in pairs.
+/// Whether a script is legal: any two jobs of one task arrive at least its period apart, and each
+/// job is released from its arrival on, at most its task's jitter later. Every job's task is one of
+/// the set. It takes no memory; up to 10,000 jobs are sorted task by task in a buffer on the stack,
+/// and more are compared in pairs.
 pub fn legal(set: &TaskSet, script: &Script) -> bool
     requires { All (λ j. j.task.0 < length set.now.tasks) script.now.jobs }
     ensures { IsTrue result ↔ IsLegal set.now script.now.jobs }

@@ -16,7 +16,8 @@ const KEYS: [&str; 3] = ["cycles", "cache", "job"];
 
 #[tactic(auto, unfolding(crate::specs::Reading::script_keys))]
 fn script_keys(alloc: Global, keys: Keys) -> Result<(), KeyError>
-    ensures { Gives KeyError.Memory (λ x. x) result (all_known spec.script_keys keys.entry.path.now (table_view keys.entry.table.now)) }
+    ensures { Gives KeyError.Memory (λ x. x) result
+        (all_known spec.script_keys keys.entry.path.now (table_view keys.entry.table.now)) }
 {
     keys.all_known(alloc, &KEYS)
 }
@@ -50,7 +51,8 @@ fn cycles_at(alloc: Global, table: &Table) -> Result<u64, ScriptError>
 
 /// The numbers of blocks.
 fn blocks(alloc: Global, value: &Value) -> Result<Option<Vec<u32>>, AllocError>
-    ensures { IfOk result (λ found. option_map (λ v. v.items) found ≡ listed spec.block (view value.now)) }
+    ensures { IfOk result (λ found.
+        option_map (λ v. v.items) found ≡ listed spec.block (view value.now)) }
 {
     let Value::Array(values) = value else {
         return Ok(None);
@@ -67,7 +69,9 @@ fn blocks(alloc: Global, value: &Value) -> Result<Option<Vec<u32>>, AllocError>
 
 #[tactic(auto, using(toml_keys::proofs::Seen::good_seen), unfolding(toml_keys::specs::Reading::optional))]
 fn cache_at(alloc: Global, keys: Keys) -> Result<Vec<u32>, KeyError>
-    ensures { Gives KeyError.Memory (λ v. v.items) result (optional [] (listed spec.block) keys.entry.path.now (codes "cache") (table_view keys.entry.table.now)) }
+    ensures { Gives KeyError.Memory (λ v. v.items) result
+        (optional [] (listed spec.block) keys.entry.path.now (codes "cache")
+        (table_view keys.entry.table.now)) }
 {
     match keys.get("cache") {
         None => Ok(Vec::new(alloc)),
@@ -77,7 +81,8 @@ fn cache_at(alloc: Global, keys: Keys) -> Result<Vec<u32>, KeyError>
 
 #[tactic(auto, unfolding(crate::specs::Reading::script_at))]
 fn script_at(alloc: Global, table: &Table, set: &TaskSet) -> Result<Script, ScriptError>
-    ensures { Gives ScriptError.Memory (λ x. x) result (spec.script_at set.now (table_view table.now)) }
+    ensures { Gives ScriptError.Memory (λ x. x) result
+        (spec.script_at set.now (table_view table.now)) }
 {
     let keys = Keys { table, path: "" };
     script_keys(alloc, keys)?;
@@ -102,10 +107,11 @@ fn script_of(alloc: Global, bytes: &[u8], set: &TaskSet) -> Result<Script, Scrip
     }
 }
 
-/// Reads a script beside a task set from the TOML text in the bytes. What it gives, and its first refusal, are those
-/// of `reading`: unknown keys of a table first, then cycles, cache, the count of jobs, and each job's keys. `Memory`
-/// may come in place of any answer. Beside the parse by `toml`, time is linear in the text, with a look at each
-/// task's name per job, and memory is linear in the text.
+/// Reads a script beside a task set from the TOML text in the bytes. What it gives, and its first
+/// refusal, are those of `reading`: unknown keys of a table first, then cycles, cache, the count of
+/// jobs, and each job's keys. `Memory` may come in place of any answer. Beside the parse by `toml`,
+/// time is linear in the text, with a look at each task's name per job, and memory is linear in the
+/// text.
 pub fn read_script(alloc: Global, bytes: &[u8], set: &TaskSet) -> Result<Script, ScriptError>
     ensures exact { Gives ScriptError.Memory (λ x. x) result (reading bytes.now set.now) }
 

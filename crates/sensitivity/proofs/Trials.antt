@@ -1,5 +1,6 @@
 -- A task set with another cost.
-use Rattle.std.proofs.Common.{◌≡◌, Bool, ℕ, suc, ◌-◌, ◌<◌, ◌≤◌, List, Option, Some, None, length, refl, sym, ◌∙◌, ap, subst, inl, inr, arith}
+use Rattle.std.proofs.Common.{◌≡◌, Bool, ℕ, suc, ◌-◌, ◌<◌, ◌≤◌, List, Option, Some, None, length}
+use Rattle.std.proofs.Common.{refl, sym, ◌∙◌, ap, subst, inl, inr, arith}
 use Rattle.std.specs.Option.{SomeIff}
 use Rattle.std.proofs.lemmas.Bool.{cases_eq}
 use Rattle.crpd_base.specs.declared.data.Platform.{Platform}
@@ -22,7 +23,8 @@ use Rattle.sensitivity.specs.Accepted.{IsLeastBound, IsAccepted, IsFirstTooLarge
 use Rattle.sensitivity.specs.Slack.{IsSlack}
 use Rattle.sensitivity.specs.Laws.{IsLoopBounded, StaysAccepted, NeverStops}
 use Rattle.crpd_base.specs.Tasks.{HasTimes}
-use Rattle.sensitivity.specs.Inner.Found.{HaveCacheBlocks, HaveHits, ListsParts, AreKnown, with_cost}
+use Rattle.sensitivity.specs.Inner.Found.{HaveCacheBlocks, HaveHits, ListsParts, AreKnown}
+use Rattle.sensitivity.specs.Inner.Found.{with_cost}
 use Rattle.loop_regions.proofs.Beside.{nested}
 use Rattle.sensitivity.proofs.Bounds.{meets_less}
 
@@ -32,90 +34,150 @@ IsBelow high None = high ≡ 0
 IsBelow high (Some g) = high ≡ suc g
 
 -- the bound does not depend on the cost of a switch
-pub same_bound : (p : Platform) (t : TaskGraph) (k s m c : ℕ) → IsLeastBound (platform_with_costs p k m) t c → IsLeastBound (platform_with_costs p s m) t c
+pub same_bound : (p : Platform) (t : TaskGraph) (k s m c : ℕ)
+    → IsLeastBound (platform_with_costs p k m) t c → IsLeastBound (platform_with_costs p s m) t c
 same_bound p t k s m c B =
     record {
       is_hit = B.is_hit;
       hits = B.hits;
       potentials = B.potentials;
       least = record {
-        meets = meets_less p t s k m m B.is_hit B.is_hit B.potentials (omega arith) (λ u lt. refl) B.least.meets;
-        nodes = λ q u M lt. B.least.nodes q u (meets_less p t k s m m B.is_hit B.is_hit q (omega arith) (λ u lt. refl) M) lt;
-        loops = λ q r M lt. B.least.loops q r (meets_less p t k s m m B.is_hit B.is_hit q (omega arith) (λ u lt. refl) M) lt;
+        meets =
+            meets_less p t s k m m B.is_hit B.is_hit B.potentials (omega arith)
+            (λ u lt. refl) B.least.meets;
+        nodes = λ q u M lt.
+            B.least.nodes q u
+            (meets_less p t k s m m B.is_hit B.is_hit q (omega arith) (λ u lt. refl) M) lt;
+        loops = λ q r M lt.
+            B.least.loops q r
+            (meets_less p t k s m m B.is_hit B.is_hit q (omega arith) (λ u lt. refl) M) lt;
       };
       first = B.first;
     }
 
-pub parts_with_switch : (set : TaskSet) (graphs : ℕ → TaskGraph) (parts : List Part) (c : ℕ) → ListsParts set graphs parts → ListsParts (with_cost Switch set c) graphs parts
+pub parts_with_switch : (set : TaskSet) (graphs : ℕ → TaskGraph) (parts : List Part) (c : ℕ)
+    → ListsParts set graphs parts → ListsParts (with_cost Switch set c) graphs parts
 parts_with_switch set graphs parts c L =
     record {
       count = L.count;
       are = record {
         each = λ k lt. let P = L.are.each k lt in record {
-          bound = same_bound set.platform (graphs k) set.platform.switch c set.platform.miss _ P.bound;
+          bound =
+              same_bound set.platform (graphs k) set.platform.switch c set.platform.miss _ P.bound;
           sets = record { evicting = P.sets.evicting; useful = P.sets.useful };
         };
         within = L.are.within;
       };
     }
 
-pub sets_with_miss : (set : TaskSet) (graphs : ℕ → TaskGraph) (parts : List Part) (c : ℕ) → HaveCacheBlocks set graphs parts → HaveCacheBlocks (with_cost Miss set c) graphs parts
+pub sets_with_miss : (set : TaskSet) (graphs : ℕ → TaskGraph) (parts : List Part) (c : ℕ)
+    → HaveCacheBlocks set graphs parts → HaveCacheBlocks (with_cost Miss set c) graphs parts
 sets_with_miss set graphs parts c H =
     record {
       count = H.count;
       each = λ k lt. let P = H.each k lt in record { evicting = P.evicting; useful = P.useful };
     }
 
-pub hits_with_miss : (set : TaskSet) (graphs : ℕ → TaskGraph) (hits : List (List Bool)) (c : ℕ) → HaveHits set graphs hits → HaveHits (with_cost Miss set c) graphs hits
+pub hits_with_miss : (set : TaskSet) (graphs : ℕ → TaskGraph) (hits : List (List Bool)) (c : ℕ)
+    → HaveHits set graphs hits → HaveHits (with_cost Miss set c) graphs hits
 hits_with_miss set graphs hits c H =
     record {
       count = H.count;
       each = λ k lt. let P = H.each k lt in record { count = P.count; sure = P.sure };
     }
 
-pub in_range_with : (cost : Cost) (set : TaskSet) (c : ℕ) → IsTaskSet set → c ≤ 65535 → IsTaskSet (with_cost cost set c)
+pub in_range_with : (cost : Cost) (set : TaskSet) (c : ℕ) → IsTaskSet set → c ≤ 65535
+    → IsTaskSet (with_cost cost set c)
 in_range_with Switch set c T le = record {
-  platform = record { line = T.platform.line; line_size = T.platform.line_size; sets = T.platform.sets; hit = T.platform.hit; miss = T.platform.miss; memory = T.platform.memory; taken = T.platform.taken; switch = le; mul = T.platform.mul; div = T.platform.div };
+  platform = record {
+    line = T.platform.line;
+    line_size = T.platform.line_size;
+    sets = T.platform.sets;
+    hit = T.platform.hit;
+    miss = T.platform.miss;
+    memory = T.platform.memory;
+    taken = T.platform.taken;
+    switch = le;
+    mul = T.platform.mul;
+    div = T.platform.div;
+  };
   some = T.some;
   few = T.few;
   each = T.each;
   names = T.names;
 }
 in_range_with Miss set c T le = record {
-  platform = record { line = T.platform.line; line_size = T.platform.line_size; sets = T.platform.sets; hit = T.platform.hit; miss = le; memory = T.platform.memory; taken = T.platform.taken; switch = T.platform.switch; mul = T.platform.mul; div = T.platform.div };
+  platform = record {
+    line = T.platform.line;
+    line_size = T.platform.line_size;
+    sets = T.platform.sets;
+    hit = T.platform.hit;
+    miss = le;
+    memory = T.platform.memory;
+    taken = T.platform.taken;
+    switch = T.platform.switch;
+    mul = T.platform.mul;
+    div = T.platform.div;
+  };
   some = T.some;
   few = T.few;
   each = T.each;
   names = T.names;
 }
 
-pub shown_with : (cost : Cost) (set : TaskSet) (c : ℕ) (graphs : List CodeGraph) (nests : List CodeNest) → AreTaskGraphs set graphs nests → AreTaskGraphs (with_cost cost set c) graphs nests
-shown_with Switch set c graphs nests A = record { all_graphs = A.all_graphs; all_nests = A.all_nests; each = A.each }
-shown_with Miss set c graphs nests A = record { all_graphs = A.all_graphs; all_nests = A.all_nests; each = A.each }
+pub shown_with : (cost : Cost) (set : TaskSet) (c : ℕ) (graphs : List CodeGraph)
+    (nests : List CodeNest) → AreTaskGraphs set graphs nests
+    → AreTaskGraphs (with_cost cost set c) graphs nests
+shown_with Switch set c graphs nests A = record {
+  all_graphs = A.all_graphs;
+  all_nests = A.all_nests;
+  each = A.each;
+}
+shown_with Miss set c graphs nests A = record {
+  all_graphs = A.all_graphs;
+  all_nests = A.all_nests;
+  each = A.each;
+}
 
 -- a copy of the set with the platform of another cost is the set with that cost
 abbrev pub made : Platform → List TaskSpec → TaskSet
 made p tasks = record { platform = p; tasks = tasks }
 
-pub is_with : (cost : Cost) (set : TaskSet) (c : ℕ) (p : Platform) (tasks : List TaskSpec) → p ≡ (with_cost cost set c).platform → tasks ≡ set.tasks → made p tasks ≡ with_cost cost set c
-is_with Switch set c p tasks e f = ap (λ (x : Platform). made x tasks) e ∙ ap (λ (xs : List TaskSpec). made (platform_with_costs set.platform c set.platform.miss) xs) f
-is_with Miss set c p tasks e f = ap (λ (x : Platform). made x tasks) e ∙ ap (λ (xs : List TaskSpec). made (platform_with_costs set.platform set.platform.switch c) xs) f
+pub is_with : (cost : Cost) (set : TaskSet) (c : ℕ) (p : Platform) (tasks : List TaskSpec)
+    → p ≡ (with_cost cost set c).platform → tasks ≡ set.tasks → made p tasks ≡ with_cost cost set c
+is_with Switch set c p tasks e f =
+    ap (λ (x : Platform). made x tasks) e
+    ∙ ap (λ (xs : List TaskSpec). made (platform_with_costs set.platform c set.platform.miss) xs) f
+is_with Miss set c p tasks e f =
+    ap (λ (x : Platform). made x tasks) e
+    ∙ ap (λ (xs : List TaskSpec). made (platform_with_costs set.platform set.platform.switch c) xs)
+    f
 
-module _ (cost : Cost) (set : TaskSet) (graphs : ℕ → TaskGraph) (parts : List Part) (hits : List (List Bool)) (c : ℕ) (p : Platform) (tasks : List TaskSpec) (e : p ≡ (with_cost cost set c).platform) (f : tasks ≡ set.tasks) (K : AreKnown cost set graphs parts hits) where
+module _ (cost : Cost) (set : TaskSet) (graphs : ℕ → TaskGraph) (parts : List Part)
+    (hits : List (List Bool)) (c : ℕ) (p : Platform) (tasks : List TaskSpec)
+    (e : p ≡ (with_cost cost set c).platform) (f : tasks ≡ set.tasks)
+    (K : AreKnown cost set graphs parts hits) where
   pub known_switch : cost ≡ Switch → ListsParts (made p tasks) graphs parts
-  known_switch is = subst (λ (s : TaskSet). ListsParts s graphs parts) (sym (is_with cost set c p tasks e f)) (by cost is K)
+  known_switch is =
+      subst (λ (s : TaskSet). ListsParts s graphs parts) (sym (is_with cost set c p tasks e f))
+      (by cost is K)
     where
-      by : (x : Cost) → x ≡ Switch → AreKnown x set graphs parts hits → ListsParts (with_cost x set c) graphs parts
+      by : (x : Cost) → x ≡ Switch → AreKnown x set graphs parts hits
+          → ListsParts (with_cost x set c) graphs parts
       by Switch is K = parts_with_switch set graphs parts c K
       by Miss is K = absurd (other is)
         where
           other : Miss ≡ Switch → ⊥
           other e = cc
 
-  known_miss : cost ≡ Miss → HaveCacheBlocks (with_cost cost set c) graphs parts × HaveHits (with_cost cost set c) graphs hits
+  known_miss : cost ≡ Miss
+      → HaveCacheBlocks (with_cost cost set c) graphs parts
+      × HaveHits (with_cost cost set c) graphs hits
   known_miss is = by cost is K
     where
-      by : (x : Cost) → x ≡ Miss → AreKnown x set graphs parts hits → HaveCacheBlocks (with_cost x set c) graphs parts × HaveHits (with_cost x set c) graphs hits
+      by : (x : Cost) → x ≡ Miss → AreKnown x set graphs parts hits
+          → HaveCacheBlocks (with_cost x set c) graphs parts
+          × HaveHits (with_cost x set c) graphs hits
       by Switch is K = absurd (other is)
         where
           other : Switch ≡ Miss → ⊥
@@ -123,30 +185,50 @@ module _ (cost : Cost) (set : TaskSet) (graphs : ℕ → TaskGraph) (parts : Lis
       by Miss is K = (sets_with_miss set graphs parts c K.0, hits_with_miss set graphs hits c K.1)
 
   pub known_sets : cost ≡ Miss → HaveCacheBlocks (made p tasks) graphs parts
-  known_sets is = subst (λ (s : TaskSet). HaveCacheBlocks s graphs parts) (sym (is_with cost set c p tasks e f)) (known_miss is).0
+  known_sets is =
+      subst (λ (s : TaskSet). HaveCacheBlocks s graphs parts) (sym (is_with cost set c p tasks e f))
+      (known_miss is).0
 
   pub known_hits : cost ≡ Miss → HaveHits (made p tasks) graphs hits
-  known_hits is = subst (λ (s : TaskSet). HaveHits s graphs hits) (sym (is_with cost set c p tasks e f)) (known_miss is).1
+  known_hits is =
+      subst (λ (s : TaskSet). HaveHits s graphs hits) (sym (is_with cost set c p tasks e f))
+      (known_miss is).1
 
 -- what is known of the set with another cost of one kind
-module _ (cost : Cost) (set : TaskSet) (graphs : ℕ → TaskGraph) (times : HasTimes set) (bounded : (k : ℕ) → k < length set.tasks → IsLoopBounded (graphs k)) where
-  pub stays_at : StaysAccepted → (c d : ℕ) → c ≤ d → IsAccepted (with_cost cost set d) graphs → IsAccepted (with_cost cost set c) graphs
+module _ (cost : Cost) (set : TaskSet) (graphs : ℕ → TaskGraph) (times : HasTimes set)
+    (bounded : (k : ℕ) → k < length set.tasks → IsLoopBounded (graphs k)) where
+  pub stays_at : StaysAccepted → (c d : ℕ) → c ≤ d → IsAccepted (with_cost cost set d) graphs
+      → IsAccepted (with_cost cost set c) graphs
   stays_at stays c d le A = stays_by cost c d le A
     where
-      stays_by : (by : Cost) (c d : ℕ) → c ≤ d → IsAccepted (with_cost by set d) graphs → IsAccepted (with_cost by set c) graphs
-      stays_by Switch c d le A = stays set graphs c set.platform.miss d set.platform.miss (record { times = times; bounded = bounded; switch = le; miss = omega arith }) A
-      stays_by Miss c d le A = stays set graphs set.platform.switch c set.platform.switch d (record { times = times; bounded = bounded; switch = omega arith; miss = le }) A
+      stays_by : (by : Cost) (c d : ℕ) → c ≤ d → IsAccepted (with_cost by set d) graphs
+          → IsAccepted (with_cost by set c) graphs
+      stays_by Switch c d le A =
+          stays set graphs c set.platform.miss d set.platform.miss
+          (record { times = times; bounded = bounded; switch = le; miss = omega arith }) A
+      stays_by Miss c d le A =
+          stays set graphs set.platform.switch c set.platform.switch d
+          (record { times = times; bounded = bounded; switch = omega arith; miss = le }) A
 
-  pub never_at : NeverStops → (c d : ℕ) (stop : Stop) → c ≤ d → IsStop (with_cost cost set c) graphs stop → IsAccepted (with_cost cost set d) graphs → ⊥
+  pub never_at : NeverStops → (c d : ℕ) (stop : Stop) → c ≤ d
+      → IsStop (with_cost cost set c) graphs stop → IsAccepted (with_cost cost set d) graphs → ⊥
   never_at never c d stop le S A = never_by cost c d le S A
     where
-      never_by : (by : Cost) (c d : ℕ) → c ≤ d → IsStop (with_cost by set c) graphs stop → IsAccepted (with_cost by set d) graphs → ⊥
-      never_by Switch c d le S A = never set graphs c set.platform.miss d set.platform.miss stop (record { times = times; bounded = bounded; switch = le; miss = omega arith }) A S
-      never_by Miss c d le S A = never set graphs set.platform.switch c set.platform.switch d stop (record { times = times; bounded = bounded; switch = omega arith; miss = le }) A S
+      never_by : (by : Cost) (c d : ℕ) → c ≤ d → IsStop (with_cost by set c) graphs stop
+          → IsAccepted (with_cost by set d) graphs → ⊥
+      never_by Switch c d le S A =
+          never set graphs c set.platform.miss d set.platform.miss stop
+          (record { times = times; bounded = bounded; switch = le; miss = omega arith }) A S
+      never_by Miss c d le S A =
+          never set graphs set.platform.switch c set.platform.switch d stop
+          (record { times = times; bounded = bounded; switch = omega arith; miss = le }) A S
 
   -- the slack, where the costs below `high` are accepted and `high` stops
-  pub slack_below : NeverStops → (high : ℕ) (stop : Stop) → high ≤ 65535 → ((c : ℕ) → c < high → IsAccepted (with_cost cost set c) graphs) → IsStop (with_cost cost set high) graphs stop
-      → (greatest : Option ℕ) → IsBelow high greatest → IsSlack (with_cost cost set) graphs (record { greatest = greatest; stop = stop })
+  pub slack_below : NeverStops → (high : ℕ) (stop : Stop) → high ≤ 65535
+      → ((c : ℕ) → c < high → IsAccepted (with_cost cost set c) graphs)
+      → IsStop (with_cost cost set high) graphs stop
+      → (greatest : Option ℕ) → IsBelow high greatest
+      → IsSlack (with_cost cost set) graphs (record { greatest = greatest; stop = stop })
   slack_below never high stop most accepted S None b =
       record {
         greatest = λ c le room A. never_at never high c stop (omega (arith, b)) S A;
@@ -154,39 +236,68 @@ module _ (cost : Cost) (set : TaskSet) (graphs : ℕ → TaskGraph) (times : Has
       }
   slack_below never high stop most accepted S (Some g) b =
       record {
-        greatest = (omega (arith, b, most), λ c le. accepted c (omega (arith, b, le)), λ c le room A. never_at never high c stop (omega (arith, b, le)) S A);
-        stop = inr (omega (arith, b, most), subst (λ (n : ℕ). IsStop (with_cost cost set n) graphs stop) b S);
+        greatest = (
+          omega (arith, b, most),
+          λ c le. accepted c (omega (arith, b, le)),
+          λ c le room A. never_at never high c stop (omega (arith, b, le)) S A,
+        );
+        stop =
+            inr (
+              omega (arith, b, most),
+              subst (λ (n : ℕ). IsStop (with_cost cost set n) graphs stop) b S,
+            );
       }
 
-  pub slack_at_limit : StaysAccepted → IsAccepted (with_cost cost set 65535) graphs → IsSlack (with_cost cost set) graphs (record { greatest = Some 65535; stop = Limit })
+  pub slack_at_limit : StaysAccepted → IsAccepted (with_cost cost set 65535) graphs
+      → IsSlack (with_cost cost set) graphs (record { greatest = Some 65535; stop = Limit })
   slack_at_limit stays A =
       record {
-        greatest = (omega arith, λ c le. stays_at stays c 65535 le A, λ c le room A. absurd (omega (arith, le, room)));
+        greatest = (
+          omega arith,
+          λ c le. stays_at stays c 65535 le A,
+          λ c le room A. absurd (omega (arith, le, room)),
+        );
         stop = inl (refl, refl);
       }
 
 -- the graphs of a task set have bounds
-pub all_bounded : (set : TaskSet) (graphs : List CodeGraph) (nests : List CodeNest) → AreTaskGraphs set graphs nests → ((k : ℕ) → k < length graphs → IsGraph (graph_of (graph_at graphs k)))
+pub all_bounded : (set : TaskSet) (graphs : List CodeGraph) (nests : List CodeNest)
+    → AreTaskGraphs set graphs nests
+    → ((k : ℕ) → k < length graphs → IsGraph (graph_of (graph_at graphs k)))
     → (k : ℕ) → k < length set.tasks → IsLoopBounded (task_graph_at graphs nests k)
 all_bounded set graphs nests A G k lt =
     let N = A.each k lt in
-    record { graph = G k (let e = A.all_graphs in omega (arith, e, lt)); nested = nested (graph_at graphs k) (nest_at nests k) N; no_cycle = N.accepted.no_cycle }
+    record {
+      graph = G k (let e = A.all_graphs in omega (arith, e, lt));
+      nested = nested (graph_at graphs k) (nest_at nests k) N;
+      no_cycle = N.accepted.no_cycle;
+    }
 
 -- the bound that is too large is so whatever a switch costs
-pub large_with_switch : (set : TaskSet) (graphs : ℕ → TaskGraph) (i c : ℕ) → IsFirstTooLarge set graphs i → IsFirstTooLarge (with_cost Switch set c) graphs i
+pub large_with_switch : (set : TaskSet) (graphs : ℕ → TaskGraph) (i c : ℕ)
+    → IsFirstTooLarge set graphs i → IsFirstTooLarge (with_cost Switch set c) graphs i
 large_with_switch set graphs i c F =
     record {
       task = F.task;
       cycles = F.cycles;
-      bound = same_bound set.platform (graphs i) set.platform.switch c set.platform.miss F.cycles F.bound;
+      bound =
+          same_bound set.platform (graphs i) set.platform.switch c set.platform.miss
+          F.cycles F.bound;
       large = F.large;
-      higher = λ k lt. let h = F.higher k lt in (h.0, same_bound set.platform (graphs k) set.platform.switch c set.platform.miss h.0 h.1, h.2);
+      higher = λ k lt.
+          let h = F.higher k lt in (
+            h.0,
+            same_bound set.platform (graphs k) set.platform.switch c set.platform.miss h.0 h.1,
+            h.2,
+          );
     }
 
-pub slack_none : NeverStops → (set : TaskSet) (graphs : ℕ → TaskGraph) (t : Task) → HasTimes set → ((k : ℕ) → k < length set.tasks → IsLoopBounded (graphs k)) → IsFirstTooLarge set graphs t.0
+pub slack_none : NeverStops → (set : TaskSet) (graphs : ℕ → TaskGraph) (t : Task) → HasTimes set
+    → ((k : ℕ) → k < length set.tasks → IsLoopBounded (graphs k)) → IsFirstTooLarge set graphs t.0
     → IsSlack (with_switch set) graphs (record { greatest = None; stop = Bound t })
 slack_none never set graphs t times bounded F =
-    let S = slack_below Switch set graphs times bounded never 0 (Bound t) (omega arith) (λ c lt. absurd (omega (arith, lt))) (large_with_switch set graphs t.0 0 F) None refl in
+    let S = slack_below Switch set graphs times bounded never 0 (Bound t) (omega arith)
+    (λ c lt. absurd (omega (arith, lt))) (large_with_switch set graphs t.0 0 F) None refl in
     record { greatest = S.greatest; stop = S.stop }
 
 pub below_by : (o : Option ℕ) (n : ℕ) → SomeIff o (1 ≤ n) (n - 1) → IsBelow n o

@@ -7,7 +7,8 @@ ghost use Rattle.loop_regions.specs.CodeNest.{CodeNest, IsNestOf};
 ghost use Rattle.cert_check.specs.TaskGraphs.{task_graph, task_graph_at, AreTaskGraphs};
 ghost use Rattle.exec_bound.specs.Costs.{greatest_bound};
 ghost use Rattle.sensitivity.specs.Accepted.{HasCacheBlocks, IsLeastBound};
-ghost use Rattle.sensitivity.specs.Inner.Found.{IsLarge, TellsHits, HaveCacheBlocks, HaveHits, GivesBounds};
+ghost use Rattle.sensitivity.specs.Inner.Found.{IsLarge, TellsHits, HaveCacheBlocks, HaveHits};
+ghost use Rattle.sensitivity.specs.Inner.Found.{GivesBounds};
 
 use crpd_base::{Items, Memory, Part, Platform, SETS, Task, TaskSet, WORDS};
 use evict_sets::evicting;
@@ -47,8 +48,12 @@ pub(crate) enum Bounded {
 /// What of a task does not depend on costs. Its must states are given back.
 fn task_known(alloc: Global, platform: &Platform, graph: &Graph) -> Result<TaskKnown, Memory>
     requires platform { IsPlatform platform.now }
-    ensures sets { IfOk result (λ known. (nest : CodeNest) → HasCacheBlocks platform.now (task_graph graph.now nest) known.part) }
-    ensures hits { IfOk result (λ known. (nest : CodeNest) → TellsHits platform.now (task_graph graph.now nest) known.hits) }
+    ensures sets { IfOk result
+        (λ known. (nest : CodeNest)
+        → HasCacheBlocks platform.now (task_graph graph.now nest) known.part) }
+    ensures hits { IfOk result
+        (λ known. (nest : CodeNest)
+        → TellsHits platform.now (task_graph graph.now nest) known.hits) }
 {
     let geometry = Geometry::new(platform);
     let hits = sure_hits::<SETS, WORDS>(alloc, graph, &geometry)?;
@@ -66,7 +71,8 @@ fn task_known(alloc: Global, platform: &Platform, graph: &Graph) -> Result<TaskK
     })
 }
 
-/// The bound of a task, in cycles, from which of its nodes are surely hits; None where it exceeds 2^40.
+/// The bound of a task, in cycles, from which of its nodes are surely hits; None where it exceeds
+/// 2^40.
 fn task_bound(
     alloc: Global,
     platform: &Platform,
@@ -78,7 +84,8 @@ fn task_bound(
     requires hits { TellsHits platform.now (task_graph graph.now nest.now) hits.now }
     ensures { IfOk result (λ found. MatchOption found
         (IsLarge platform.now (task_graph graph.now nest.now))
-        (λ cycles. IsLeastBound platform.now (task_graph graph.now nest.now) cycles × (cycles ≤ greatest_bound))) }
+        (λ cycles. IsLeastBound platform.now (task_graph graph.now nest.now) cycles
+        × (cycles ≤ greatest_bound))) }
 {
     match bound_by_hits(alloc, graph, nest, platform, hits) {
         Ok(found) => Ok(Some(found.cycles)),
@@ -91,8 +98,12 @@ fn task_bound(
 pub(crate) fn all_known(alloc: Global, set: &TaskSet, graphs: &[Graph]) -> Result<Known, Memory>
     requires set { IsTaskSet set.now }
     requires tasks { length graphs.now ≡ length set.now.tasks }
-    ensures sets { IfOk result (λ known. (nests : List CodeNest) → HaveCacheBlocks set.now (task_graph_at graphs.now nests) known.parts.items) }
-    ensures hits { IfOk result (λ known. (nests : List CodeNest) → HaveHits set.now (task_graph_at graphs.now nests) known.hits.items) }
+    ensures sets { IfOk result
+        (λ known. (nests : List CodeNest)
+        → HaveCacheBlocks set.now (task_graph_at graphs.now nests) known.parts.items) }
+    ensures hits { IfOk result
+        (λ known. (nests : List CodeNest)
+        → HaveHits set.now (task_graph_at graphs.now nests) known.hits.items) }
 {
     let mut parts = Vec::new(alloc);
     let mut hits = Vec::new(alloc);
@@ -108,8 +119,8 @@ pub(crate) fn all_known(alloc: Global, set: &TaskSet, graphs: &[Graph]) -> Resul
     Ok(Known { parts, hits })
 }
 
-/// With the bounds, where none is too large. `sets` has the parts but for their bounds, and `hits` which nodes of each
-/// task are surely hits.
+/// With the bounds, where none is too large. `sets` has the parts but for their bounds, and `hits`
+/// which nodes of each task are surely hits.
 pub(crate) fn with_bounds(
     alloc: Global,
     set: &TaskSet,
@@ -122,7 +133,8 @@ pub(crate) fn with_bounds(
     requires tasks { AreTaskGraphs set.now graphs.now nests.now }
     requires sets { HaveCacheBlocks set.now (task_graph_at graphs.now nests.now) sets.now }
     requires hits { HaveHits set.now (task_graph_at graphs.now nests.now) hits.now }
-    ensures { IfOk result (λ found. GivesBounds set.now (task_graph_at graphs.now nests.now) found) }
+    ensures { IfOk result (λ found.
+        GivesBounds set.now (task_graph_at graphs.now nests.now) found) }
 {
     let mut parts = Vec::new(alloc);
     for k in 0..graphs.len() {

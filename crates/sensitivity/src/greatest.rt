@@ -16,13 +16,14 @@ use flat_graph::Graph;
 use loop_regions::Nest;
 use std::alloc::Global;
 
-/// The greatest cost of a context switch, 0 to 65,535 cycles, with which the task set, all else equal, is accepted: each
-/// task has an execution bound of at most 2^40 cycles and a window. Each smaller cost is accepted, and each greater one
-/// refused. There is one graph and one nest for each task.
+/// The greatest cost of a context switch, 0 to 65,535 cycles, with which the task set, all else
+/// equal, is accepted: each task has an execution bound of at most 2^40 cycles and a window. Each
+/// smaller cost is accepted, and each greater one refused. There is one graph and one nest for each
+/// task.
 ///
-/// The one refusal is want of memory. The execution bounds do not depend on this cost, and are found once; the windows
-/// are found for at most 17 costs. A byte is kept for each node; the memory taken beside it at a time is that of the
-/// analysis of one task.
+/// The one refusal is want of memory. The execution bounds do not depend on this cost, and are
+/// found once; the windows are found for at most 17 costs. A byte is kept for each node; the memory
+/// taken beside it at a time is that of the analysis of one task.
 pub fn greatest_switch(
     alloc: Global,
     set: &TaskSet,
@@ -31,7 +32,8 @@ pub fn greatest_switch(
 ) -> Result<Slack, Memory>
     requires set { IsTaskSet set.now }
     requires tasks { AreTaskGraphs set.now graphs.now nests.now }
-    ensures { IfOk result (λ slack. IsSlack (with_switch set.now) (task_graph_at graphs.now nests.now) slack) }
+    ensures { IfOk result (λ slack.
+        IsSlack (with_switch set.now) (task_graph_at graphs.now nests.now) slack) }
 {
     acceptance_law();
     graphs_law(graphs);
@@ -55,13 +57,14 @@ pub fn greatest_switch(
     }
 }
 
-/// The greatest cost of a reload, 0 to 65,535 cycles, with which the task set, all else equal, is accepted: each task has
-/// an execution bound of at most 2^40 cycles and a window. Each smaller cost is accepted, and each greater one refused.
-/// There is one graph and one nest for each task.
+/// The greatest cost of a reload, 0 to 65,535 cycles, with which the task set, all else equal, is
+/// accepted: each task has an execution bound of at most 2^40 cycles and a window. Each smaller
+/// cost is accepted, and each greater one refused. There is one graph and one nest for each task.
 ///
-/// The one refusal is want of memory. The evicting and useful cache sets and the sure hits do not depend on this cost, and
-/// are found once; the execution bounds and the windows are found for at most 17 costs. A byte is kept for each node; the
-/// memory taken beside it at a time is that of the analysis of one task.
+/// The one refusal is want of memory. The evicting and useful cache sets and the sure hits do not
+/// depend on this cost, and are found once; the execution bounds and the windows are found for at
+/// most 17 costs. A byte is kept for each node; the memory taken beside it at a time is that of the
+/// analysis of one task.
 pub fn greatest_miss(
     alloc: Global,
     set: &TaskSet,
@@ -70,7 +73,8 @@ pub fn greatest_miss(
 ) -> Result<Slack, Memory>
     requires set { IsTaskSet set.now }
     requires tasks { AreTaskGraphs set.now graphs.now nests.now }
-    ensures { IfOk result (λ slack. IsSlack (with_miss set.now) (task_graph_at graphs.now nests.now) slack) }
+    ensures { IfOk result (λ slack.
+        IsSlack (with_miss set.now) (task_graph_at graphs.now nests.now) slack) }
 {
     let known = all_known(alloc, set, graphs)?;
     let search = Search {

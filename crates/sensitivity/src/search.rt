@@ -31,7 +31,8 @@ fn stop_of(
     requires set { IsTaskSet set.now }
     requires tasks { AreTaskGraphs set.now graphs.now nests.now }
     requires parts { ListsParts set.now (task_graph_at graphs.now nests.now) parts.now }
-    ensures { IfOk result (λ stop. IsAcceptedOrStops set.now (task_graph_at graphs.now nests.now) stop) }
+    ensures { IfOk result (λ stop.
+        IsAcceptedOrStops set.now (task_graph_at graphs.now nests.now) stop) }
 {
     let mut longest = [0; MOST_TASKS];
     write_longest(set, graphs, &mut longest);
@@ -42,8 +43,8 @@ fn stop_of(
     }
 }
 
-/// A task set with its graphs, its parts as far as they do not depend on the cost that is tried, which nodes of each task
-/// are surely hits, and that cost.
+/// A task set with its graphs, its parts as far as they do not depend on the cost that is tried,
+/// which nodes of each task are surely hits, and that cost.
 #[derive(Clone, Copy)]
 pub(crate) struct Search<'a> {
     pub(crate) set: &'a TaskSet,
@@ -55,7 +56,8 @@ pub(crate) struct Search<'a> {
 }
 
 impl Search<'_> {
-    /// Where the set with another cost stops, None where it is accepted. `trial` is a copy of the set, and gets that cost.
+    /// Where the set with another cost stops, None where it is accepted. `trial` is a copy of the
+    /// set, and gets that cost.
     fn stop_at(
         &self,
         alloc: Global,
@@ -64,11 +66,15 @@ impl Search<'_> {
     ) -> Result<Option<Stop>, Memory>
         requires set { IsTaskSet self.now.set.now }
         requires tasks { AreTaskGraphs self.now.set.now self.now.graphs.now self.now.nests.now }
-        requires known { AreKnown self.now.cost self.now.set.now (task_graph_at self.now.graphs.now self.now.nests.now) self.now.parts.now self.now.hits.now }
+        requires known { AreKnown self.now.cost self.now.set.now
+            (task_graph_at self.now.graphs.now self.now.nests.now) self.now.parts.now
+            self.now.hits.now }
         requires trial { trial.old.tasks ≡ self.now.set.now.tasks }
         requires cycles { cycles ≤ 65535 }
         ensures trial { trial.new.tasks ≡ trial.old.tasks }
-        ensures judged { IfOk result (λ stop. IsAcceptedOrStops (with_cost self.now.cost self.now.set.now cycles) (task_graph_at self.now.graphs.now self.now.nests.now) stop) }
+        ensures judged { IfOk result
+            (λ stop. IsAcceptedOrStops (with_cost self.now.cost self.now.set.now cycles)
+            (task_graph_at self.now.graphs.now self.now.nests.now) stop) }
     {
         trial.platform = platform_with(self.set, self.cost, cycles);
         match self.cost {
@@ -87,8 +93,12 @@ impl Search<'_> {
     pub(crate) fn greatest(&self, alloc: Global) -> Result<Slack, Memory>
         requires set { IsTaskSet self.now.set.now }
         requires tasks { AreTaskGraphs self.now.set.now self.now.graphs.now self.now.nests.now }
-        requires known { AreKnown self.now.cost self.now.set.now (task_graph_at self.now.graphs.now self.now.nests.now) self.now.parts.now self.now.hits.now }
-        ensures { IfOk result (λ slack. IsSlack (with_cost self.now.cost self.now.set.now) (task_graph_at self.now.graphs.now self.now.nests.now) slack) }
+        requires known { AreKnown self.now.cost self.now.set.now
+            (task_graph_at self.now.graphs.now self.now.nests.now) self.now.parts.now
+            self.now.hits.now }
+        ensures { IfOk result (λ slack.
+            IsSlack (with_cost self.now.cost self.now.set.now)
+            (task_graph_at self.now.graphs.now self.now.nests.now) slack) }
     {
         acceptance_law();
         graphs_law(self.graphs);

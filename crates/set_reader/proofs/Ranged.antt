@@ -1,5 +1,8 @@
--- What a set that was read keeps: the ranges of its numbers, and that its tasks have names of their own.
-use Rattle.std.proofs.Common.{◌≡◌, ◌≢◌, ◌⊎◌, ℕ, ◌≤◌, ◌<◌, ◌^◌, Bool, true, false, cond, nat_lt, nat_le, List, [], ◌∷◌, ◌++◌, length, codes, Option, Some, None, Result, Ok, Err, refl, sym, ap, subst, arith, inl, inr, get_or, pos}
+-- What a set that was read keeps: the ranges of its numbers, and that its tasks have names of their
+-- own.
+use Rattle.std.proofs.Common.{◌≡◌, ◌≢◌, ◌⊎◌, ℕ, ◌≤◌, ◌<◌, ◌^◌, Bool, true, false, cond, nat_lt}
+use Rattle.std.proofs.Common.{nat_le, List, [], ◌∷◌, ◌++◌, length, codes, Option, Some, None}
+use Rattle.std.proofs.Common.{Result, Ok, Err, refl, sym, ap, subst, arith, inl, inr, get_or, pos}
 use Rattle.std.specs.Prelude.{All, AllPairs, IfOk}
 use Rattle.std.specs.List.{AllByRecursion}
 use Rattle.std.specs.Str.{is_utf8, bytes_eq}
@@ -22,13 +25,20 @@ use Rattle.toml.specs.Data.{Data, integer, Members, as_table, as_str, get_member
 use Rattle.toml.specs.Parse.{parse_document}
 use Rattle.toml_keys.specs.declared.fault.KeyError.{KeyError}
 use Rattle.crpd_base.specs.Outcome.{Gives}
-use Rattle.toml_keys.specs.Reading.{all_known, required, optional, whole, listed, each, item_path, value_at_key, value_or_bad, at_most}
+use Rattle.toml_keys.specs.Reading.{all_known, required, optional, whole, listed, each, item_path}
+use Rattle.toml_keys.specs.Reading.{value_at_key, value_or_bad, at_most}
 use Rattle.toml_keys.proofs.Laws.{guard_ok, each_all, each_length}
-use Rattle.toml_keys.proofs.Ranged.{IsBetween, only_ok, whole_between, required_ok, optional_ok, required_between, optional_within, at_most_ok}
+use Rattle.toml_keys.proofs.Ranged.{IsBetween, only_ok, whole_between, required_ok, optional_ok}
+use Rattle.toml_keys.proofs.Ranged.{required_between, optional_within, at_most_ok}
 use Rattle.set_reader.specs.Kinds as kind
 use Rattle.set_reader.specs.declared.fault.SetError.{SetError}
-use Rattle.set_reader.specs.declared.fault.SetError.TheVariants.{Memory, TooManyTasks, DeadlineAfterPeriod}
-use Rattle.set_reader.specs.Reading.{of_set, cycles, fields_at, task_at, distinct_or_refused, distinct, task_tables, tasks_at, set_keys, platform_keys, platform_at, loop_keys, loop_at, nth_loop, loop_tables, loops_at, task_keys, entry_place, occurs, repeated_after, set_at, document, reading}
+use Rattle.set_reader.specs.declared.fault.SetError.TheVariants.{Memory, TooManyTasks}
+use Rattle.set_reader.specs.declared.fault.SetError.TheVariants.{DeadlineAfterPeriod}
+use Rattle.set_reader.specs.Reading.{of_set, cycles, fields_at, task_at, distinct_or_refused}
+use Rattle.set_reader.specs.Reading.{distinct, task_tables, tasks_at, set_keys, platform_keys}
+use Rattle.set_reader.specs.Reading.{platform_at, loop_keys, loop_at, nth_loop, loop_tables}
+use Rattle.set_reader.specs.Reading.{loops_at, task_keys, entry_place, occurs, repeated_after}
+use Rattle.set_reader.specs.Reading.{set_at, document, reading}
 
 -- the length of a line: within its range, and one of the five
 pub record IsLine (n : ℕ) : Type 0 where
@@ -51,7 +61,8 @@ file_ok d s e = (only_ok is_file (as_str d) s e).0
 
 -- ---- the platform
 
-platform_ranged : (path : List ℕ) (ms : Members) (p : Platform) → platform_at path ms ≡ Ok p → IsPlatform p
+platform_ranged : (path : List ℕ) (ms : Members) (p : Platform) → platform_at path ms ≡ Ok p
+    → IsPlatform p
 unfolding platform_at
 platform_ranged path ms p e =
     let known = bind_ok (all_known platform_keys path ms) _ p e in
@@ -99,7 +110,8 @@ pub record AreLoops (loops : List LoopSpec) : Type 0 where
   pub few : length loops ≤ 64
   pub each : AllByRecursion IsLoopSpec loops
 
-loops_ranged : (path : List ℕ) (ms : Members) (loops : List LoopSpec) → loops_at path ms ≡ Ok loops → AreLoops loops
+loops_ranged : (path : List ℕ) (ms : Members) (loops : List LoopSpec) → loops_at path ms ≡ Ok loops
+    → AreLoops loops
 unfolding loops_at
 loops_ranged path ms loops e =
     let tables = bind_ok (optional [] loop_tables path (codes "loop") ms) _ loops e in
@@ -108,10 +120,14 @@ loops_ranged path ms loops e =
       | inl none ↦ subst (λ (l : List Members). length l ≤ 64) none (omega arith)
       | inr d ↦ at_most_ok 64 (listed as_table d.0) tables.0 d.1
     ] in
-    let same : length loops ≡ length tables.0 = each_length (nth_loop path) 0 tables.0 loops tables.2 in
+    let same : length loops ≡ length tables.0 =
+    each_length (nth_loop path) 0 tables.0 loops tables.2 in
     record {
       few = omega arith;
-      each = each_all IsLoopSpec (nth_loop path) (λ i ms l h. loop_ranged (item_path path (codes "loop") i) ms l h) 0 tables.0 loops tables.2;
+      each =
+          each_all IsLoopSpec (nth_loop path)
+          (λ i ms l h. loop_ranged (item_path path (codes "loop") i) ms l h) 0 tables.0
+          loops tables.2;
     }
 
 -- ---- tasks
@@ -125,7 +141,8 @@ pub record HasRanges (t : TaskSpec) : Type 0 where
   pub jitter : t.jitter ≤ 2 ^ 40
   pub loops : AreLoops t.loops
 
-fields_ranged : (path : List ℕ) (ms : Members) (t : TaskSpec) → fields_at path ms ≡ Ok t → HasRanges t
+fields_ranged : (path : List ℕ) (ms : Members) (t : TaskSpec) → fields_at path ms ≡ Ok t
+    → HasRanges t
 unfolding fields_at
 fields_ranged path ms t e =
     let known = bind_ok (all_known task_keys path ms) _ t e in
@@ -158,8 +175,11 @@ task_ranged : (i : ℕ) (ms : Members) (t : TaskSpec) → task_at i ms ≡ Ok t 
 unfolding task_at
 task_ranged i ms t e =
     let fields = bind_ok (of_set (fields_at (item_path [] (codes "task") i) ms)) _ t e in
-    let test = guard_ok (nat_lt fields.0.period fields.0.deadline) (DeadlineAfterPeriod (item_path [] (codes "task") i ++ codes "deadline")) (Ok fields.0) t fields.2 in
-    let ranges = fields_ranged (item_path [] (codes "task") i) ms fields.0 (of_set_ok _ fields.0 fields.1) in
+    let test = guard_ok (nat_lt fields.0.period fields.0.deadline)
+    (DeadlineAfterPeriod (item_path [] (codes "task") i ++ codes "deadline"))
+    (Ok fields.0) t fields.2 in
+    let ranges = fields_ranged (item_path [] (codes "task") i) ms fields.0
+    (of_set_ok _ fields.0 fields.1) in
     subst IsTaskSpec (ok_is fields.0 t test.1)
     (record {
       name = ranges.name;
@@ -173,23 +193,31 @@ task_ranged i ms t e =
 
 -- ---- names
 
-not_occurring : (name : List ℕ) (tasks : List TaskSpec) → occurs name tasks ≡ false → (k : ℕ) (d : TaskSpec) → k < length tasks → (get_or tasks k d).name ≢ name
+not_occurring : (name : List ℕ) (tasks : List TaskSpec) → occurs name tasks ≡ false
+    → (k : ℕ) (d : TaskSpec) → k < length tasks → (get_or tasks k d).name ≢ name
 not_occurring name tasks none k d lt same =
-    let found : bytes_eq name (get_or tasks k d).name ≡ true = (bytes_eq-Decides name (get_or tasks k d).name).1 (sym same) in
-    let any : occurs name tasks ≡ true = list_any_at (λ (t : TaskSpec). bytes_eq name t.name) tasks k d lt found in
+    let found : bytes_eq name (get_or tasks k d).name ≡ true =
+    (bytes_eq-Decides name (get_or tasks k d).name).1 (sym same) in
+    let any : occurs name tasks
+    ≡ true = list_any_at (λ (t : TaskSpec). bytes_eq name t.name) tasks k d lt found in
     cc
 
-names_apart : (earlier tasks : List TaskSpec) → AllPairs HaveOwnNames earlier → repeated_after earlier tasks ≡ None → AllPairs HaveOwnNames (earlier ++ tasks)
-names_apart earlier [] apart e = subst (λ l. AllPairs HaveOwnNames l) (sym (append-nil earlier)) apart
+names_apart : (earlier tasks : List TaskSpec) → AllPairs HaveOwnNames earlier
+    → repeated_after earlier tasks ≡ None → AllPairs HaveOwnNames (earlier ++ tasks)
+names_apart earlier [] apart e =
+    subst (λ l. AllPairs HaveOwnNames l) (sym (append-nil earlier)) apart
 names_apart earlier (t ∷ ts) apart e =
     elim (cases_Bool (occurs t.name earlier)) [
       | inl again ↦ absurd (let f = rw again at e in cc)
       | inr new ↦ let f = rw new at e in
-          let more = all_pairs_push HaveOwnNames earlier t apart (not_occurring t.name earlier new) in
-          subst (λ l. AllPairs HaveOwnNames l) (append_assoc earlier (t ∷ []) ts) (names_apart (earlier ++ t ∷ []) ts more f)
+          let more = all_pairs_push HaveOwnNames earlier t apart
+          (not_occurring t.name earlier new) in
+          subst (λ l. AllPairs HaveOwnNames l) (append_assoc earlier (t ∷ []) ts)
+          (names_apart (earlier ++ t ∷ []) ts more f)
     ]
 
-told_none : (tasks : List TaskSpec) (o : Option ℕ) (xs : List TaskSpec) → distinct_or_refused tasks o ≡ Ok xs → (o ≡ None) × (tasks ≡ xs)
+told_none : (tasks : List TaskSpec) (o : Option ℕ) (xs : List TaskSpec)
+    → distinct_or_refused tasks o ≡ Ok xs → (o ≡ None) × (tasks ≡ xs)
 told_none tasks None xs e = (refl, ok_is tasks xs e)
 told_none tasks (Some i) xs e = absurd cc
 
@@ -204,27 +232,39 @@ pub record AreTasks (tasks : List TaskSpec) : Type 0 where
 no_pairs : AllPairs HaveOwnNames []
 no_pairs i j d lt le = absurd (omega (arith, lt, le))
 
-distinct_ranged : (tasks xs : List TaskSpec) → 1 ≤ length tasks → length tasks ≤ 32 → AllByRecursion IsTaskSpec tasks → distinct tasks ≡ Ok xs → AreTasks xs
+distinct_ranged : (tasks xs : List TaskSpec) → 1 ≤ length tasks → length tasks ≤ 32
+    → AllByRecursion IsTaskSpec tasks → distinct tasks ≡ Ok xs → AreTasks xs
 unfolding distinct
 distinct_ranged tasks xs some few each e =
     let own = told_none tasks (repeated_after [] tasks) xs e in
     subst AreTasks own.1
-    (record { some = some; few = few; each = All-from_recursion IsTaskSpec tasks each; names = names_apart [] tasks no_pairs own.0 })
+    (record {
+      some = some;
+      few = few;
+      each = All-from_recursion IsTaskSpec tasks each;
+      names = names_apart [] tasks no_pairs own.0;
+    })
 
 some_tables : (d : Data) (ts : List Members) → task_tables d ≡ Some ts → 1 ≤ length ts
-some_tables d ts e = leb-true _ _ (only_ok (λ (l : List Members). nat_le 1 (length l)) (listed as_table d) ts e).0
+some_tables d ts e =
+    leb-true _ _ (only_ok (λ (l : List Members). nat_le 1 (length l)) (listed as_table d) ts e).0
 
 tasks_ranged : (ms : Members) (tasks : List TaskSpec) → tasks_at ms ≡ Ok tasks → AreTasks tasks
 unfolding tasks_at
 tasks_ranged ms tasks e =
     let tables = bind_ok (of_set (required task_tables [] (codes "task") ms)) _ tasks e in
-    let read = bind_ok (cond (nat_lt 32 (length tables.0)) (Err (TooManyTasks (length tables.0))) (each task_at 0 tables.0)) distinct tasks tables.2 in
-    let test = guard_ok (nat_lt 32 (length tables.0)) (TooManyTasks (length tables.0)) (each task_at 0 tables.0) read.0 read.1 in
+    let read = bind_ok
+    (cond (nat_lt 32 (length tables.0)) (Err (TooManyTasks (length tables.0)))
+    (each task_at 0 tables.0)) distinct tasks tables.2 in
+    let test = guard_ok (nat_lt 32 (length tables.0)) (TooManyTasks (length tables.0))
+    (each task_at 0 tables.0) read.0 read.1 in
     let short : length tables.0 ≤ 32 = ltb-false _ _ test.0 in
-    let listed_data = required_ok task_tables [] (codes "task") ms tables.0 (of_set_ok _ tables.0 tables.1) in
+    let listed_data = required_ok task_tables [] (codes "task") ms tables.0
+    (of_set_ok _ tables.0 tables.1) in
     let some : 1 ≤ length tables.0 = some_tables listed_data.0 tables.0 listed_data.1 in
     let same : length read.0 ≡ length tables.0 = each_length task_at 0 tables.0 read.0 test.1 in
-    distinct_ranged read.0 tasks (omega arith) (omega arith) (each_all IsTaskSpec task_at task_ranged 0 tables.0 read.0 test.1) read.2
+    distinct_ranged read.0 tasks (omega arith) (omega arith)
+    (each_all IsTaskSpec task_at task_ranged 0 tables.0 read.0 test.1) read.2
 
 set_ranged : (ms : Members) (s : TaskSet) → set_at ms ≡ Ok s → IsTaskSet s
 unfolding set_at
@@ -236,7 +276,9 @@ set_ranged ms s e =
     let ranges = tasks_ranged ms tasks.0 tasks.1 in
     subst IsTaskSet (ok_is (record { platform = platform.0; tasks = tasks.0 }) s tasks.2)
     (record {
-      platform = platform_ranged (codes "platform.") table.0 platform.0 (of_set_ok _ platform.0 platform.1);
+      platform =
+          platform_ranged (codes "platform.") table.0 platform.0
+          (of_set_ok _ platform.0 platform.1);
       some = ranges.some;
       few = ranges.few;
       each = ranges.each;
@@ -256,6 +298,7 @@ reading_ranged bytes s e =
     ]
 
 -- a set that was read keeps the ranges of a task set
-pub found_ranged : (bytes : List ℕ) (r : Result TaskSet SetError) → Gives Memory (λ x. x) r (reading bytes) → IfOk r IsTaskSet
+pub found_ranged : (bytes : List ℕ) (r : Result TaskSet SetError)
+    → Gives Memory (λ x. x) r (reading bytes) → IfOk r IsTaskSet
 found_ranged bytes (Ok s) h = reading_ranged bytes s h
 found_ranged bytes (Err e) h = tt

@@ -1,5 +1,8 @@
--- The kinds of a task set's values: what a value stands for, or None where it is of another kind or outside its range.
-use Rattle.std.specs.Prelude.{ℕ, ◌+◌, ◌*◌, ◌-◌, ◌^◌, pos, List, [], ◌∷◌, length, drop, codes, Bool, false, ◌||◌, ◌&&◌, ◌==◌, nat_le, nat_lt, Option, Some, None, option_map, option_and_then, if◌then◌else◌}
+-- The kinds of a task set's values: what a value stands for, or None where it is of another kind or
+-- outside its range.
+use Rattle.std.specs.Prelude.{ℕ, ◌+◌, ◌*◌, ◌-◌, ◌^◌, pos, List, [], ◌∷◌, length, drop, codes, Bool}
+use Rattle.std.specs.Prelude.{false, ◌||◌, ◌&&◌, ◌==◌, nat_le, nat_lt, Option, Some, None}
+use Rattle.std.specs.Prelude.{option_map, option_and_then, if◌then◌else◌}
 use Rattle.std.specs.List.{list_all, position_or_len, before_first, after_first}
 use Rattle.std.specs.Str.{bytes_eq}
 use Rattle.toml.specs.Data.{Data, string, integer, Items, no_items, item, as_str, as_array}
@@ -39,7 +42,9 @@ digit radix c =
 -- the number that digits stand for, behind those for n, as far as it is below 2 ^ 32
 unfoldable pub digits : ℕ → ℕ → List ℕ → Option ℕ
 digits radix n [] = Some n
-digits radix n (c ∷ cs) = option_and_then (λ d. if nat_lt (n * radix + d) (2 ^ 32) then digits radix (n * radix + d) cs else None) (digit radix c)
+digits radix n (c ∷ cs) =
+    option_and_then (λ d. if nat_lt (n * radix + d) (2 ^ 32) then digits radix (n * radix + d) cs
+    else None) (digit radix c)
 
 -- at least one digit, and at most so many
 abbrev pub digits_number : ℕ → ℕ → List ℕ → Option ℕ

@@ -1,5 +1,7 @@
--- What the text of a task set stands for, or the first refusal: the tables of keys, each key with its kind, in their order.
-use Rattle.std.specs.Prelude.{ℕ, ◌^◌, List, [], ◌∷◌, ◌++◌, length, codes, Bool, Option, Some, None, option_map, nat_lt, nat_le, Result, Ok, Err, if◌then◌else◌}
+-- What the text of a task set stands for, or the first refusal: the tables of keys, each key with
+-- its kind, in their order.
+use Rattle.std.specs.Prelude.{ℕ, ◌^◌, List, [], ◌∷◌, ◌++◌, length, codes, Bool, Option, Some, None}
+use Rattle.std.specs.Prelude.{option_map, nat_lt, nat_le, Result, Ok, Err, if◌then◌else◌}
 use Rattle.std.specs.List.{list_any}
 use Rattle.std.specs.Str.{bytes_eq, is_utf8}
 use Rattle.crpd_base.specs.declared.data.Platform.{Platform}
@@ -15,15 +17,20 @@ use Rattle.toml_keys.specs.declared.fault.KeyError.{KeyError}
 use Rattle.toml_keys.specs.declared.fault.KeyError.TheVariants as fault
 use Rattle.toml_keys.specs.Kinds.{only}
 use Rattle.crpd_base.specs.Outcome.{◌>>=◌}
-use Rattle.toml_keys.specs.Reading.{all_known, required, optional, whole, listed, at_most, each, item_path}
+use Rattle.toml_keys.specs.Reading.{all_known, required, optional, whole, listed, at_most, each}
+use Rattle.toml_keys.specs.Reading.{item_path}
 use Rattle.set_reader.specs.declared.fault.SetError.{SetError}
-use Rattle.set_reader.specs.declared.fault.SetError.TheVariants.{Memory, NotToml, Missing, BadValue, TooManyTasks, SameName, DeadlineAfterPeriod, UnknownKey}
+use Rattle.set_reader.specs.declared.fault.SetError.TheVariants.{Memory, NotToml, Missing, BadValue}
+use Rattle.set_reader.specs.declared.fault.SetError.TheVariants.{TooManyTasks, SameName}
+use Rattle.set_reader.specs.declared.fault.SetError.TheVariants.{DeadlineAfterPeriod, UnknownKey}
 use Rattle.set_reader.specs.Kinds as kind
 
 -- ---- the platform
 
 unfoldable pub platform_keys : List (List ℕ)
-platform_keys = codes "line" ∷ codes "sets" ∷ codes "hit" ∷ codes "miss" ∷ codes "data" ∷ codes "taken" ∷ codes "switch" ∷ codes "mul" ∷ codes "div" ∷ codes "switching" ∷ []
+platform_keys =
+    codes "line" ∷ codes "sets" ∷ codes "hit" ∷ codes "miss" ∷ codes "data" ∷ codes "taken"
+    ∷ codes "switch" ∷ codes "mul" ∷ codes "div" ∷ codes "switching" ∷ []
 
 -- a number of cycles
 abbrev pub cycles : Data → Option ℕ
@@ -42,7 +49,18 @@ platform_at path ms = do
   mul ← optional 0 cycles path (codes "mul") ms
   div ← optional 0 cycles path (codes "div") ms
   switching ← optional Cycle kind.switching path (codes "switching") ms
-  Ok (record { line = line; sets = sets; hit = hit; miss = miss; memory = memory; taken = taken; switch = switch; mul = mul; div = div; switching = switching })
+  Ok (record {
+    line = line;
+    sets = sets;
+    hit = hit;
+    miss = miss;
+    memory = memory;
+    taken = taken;
+    switch = switch;
+    mul = mul;
+    div = div;
+    switching = switching;
+  })
 
 -- ---- loops
 
@@ -72,7 +90,9 @@ loops_at path ms = do
 -- ---- tasks
 
 unfoldable pub task_keys : List (List ℕ)
-task_keys = codes "name" ∷ codes "file" ∷ codes "entry" ∷ codes "period" ∷ codes "deadline" ∷ codes "jitter" ∷ codes "stack" ∷ codes "global" ∷ codes "loop" ∷ []
+task_keys =
+    codes "name" ∷ codes "file" ∷ codes "entry" ∷ codes "period" ∷ codes "deadline" ∷ codes "jitter"
+    ∷ codes "stack" ∷ codes "global" ∷ codes "loop" ∷ []
 
 abbrev pub entry_place : Data → Option (Option Place)
 entry_place d = option_map (λ p. Some p) (kind.place d)
@@ -89,7 +109,17 @@ fields_at path ms = do
   stack ← optional (Number 0) kind.place path (codes "stack") ms
   global ← optional (Number 0) kind.place path (codes "global") ms
   loops ← loops_at path ms
-  Ok (record { name = name; file = file; entry = entry; period = period; deadline = deadline; jitter = jitter; stack = stack; global = global; loops = loops })
+  Ok (record {
+    name = name;
+    file = file;
+    entry = entry;
+    period = period;
+    deadline = deadline;
+    jitter = jitter;
+    stack = stack;
+    global = global;
+    loops = loops;
+  })
 
 -- a fault of a key as a refusal of the set
 abbrev pub set_error : KeyError → SetError
@@ -107,7 +137,8 @@ unfoldable pub task_at : ℕ → Members → Result TaskSpec SetError
 task_at i ms = do
   let path = item_path [] (codes "task") i
   task ← of_set (fields_at path ms)
-  if nat_lt task.period task.deadline then Err (DeadlineAfterPeriod (path ++ codes "deadline")) else Ok task
+  if nat_lt task.period task.deadline then Err (DeadlineAfterPeriod (path ++ codes "deadline"))
+      else Ok task
 
 -- ---- the set
 
@@ -117,7 +148,8 @@ occurs name tasks = list_any (λ (t : TaskSpec). bytes_eq name t.name) tasks
 -- the place of the first task whose name occurs earlier
 abbrev pub repeated_after : List TaskSpec → List TaskSpec → Option ℕ
 repeated_after earlier [] = None
-repeated_after earlier (t ∷ ts) = if occurs t.name earlier then Some (length earlier) else repeated_after (earlier ++ t ∷ []) ts
+repeated_after earlier (t ∷ ts) =
+    if occurs t.name earlier then Some (length earlier) else repeated_after (earlier ++ t ∷ []) ts
 
 abbrev pub distinct_or_refused : List TaskSpec → Option ℕ → Result (List TaskSpec) SetError
 distinct_or_refused tasks None = Ok tasks
@@ -136,7 +168,8 @@ task_tables d = only (λ ts. nat_le 1 (length ts)) (listed as_table d)
 unfoldable pub tasks_at : Members → Result (List TaskSpec) SetError
 tasks_at ms = do
   tables ← of_set (required task_tables [] (codes "task") ms)
-  tasks ← if nat_lt 32 (length tables) then Err (TooManyTasks (length tables)) else each task_at 0 tables
+  tasks ← if nat_lt 32 (length tables) then Err (TooManyTasks (length tables))
+      else each task_at 0 tables
   distinct tasks
 
 unfoldable pub set_at : Members → Result TaskSet SetError

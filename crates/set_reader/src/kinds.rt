@@ -11,7 +11,8 @@ use toml_keys::{line_length, switching_named, task_name, whole};
 
 const LIMIT: u64 = 1 << 32;
 
-/// The length of a cache line in bytes: 4, 8, 16, 32 or 64; None for any other value. In constant time.
+/// The length of a cache line in bytes: 4, 8, 16, 32 or 64; None for any other value. In constant
+/// time.
 #[tactic(auto, unfolding(crate::specs::Kinds::line_bytes))]
 pub fn line(value: &Value) -> Option<u32>
     ensures { result ≡ spec.line_bytes (view value.now) }
@@ -19,7 +20,8 @@ pub fn line(value: &Value) -> Option<u32>
     line_length(whole(value, 4, 64)?)
 }
 
-/// Where a context switch may happen: `cycle` or `instruction`; None for any other value. In constant time.
+/// Where a context switch may happen: `cycle` or `instruction`; None for any other value. In
+/// constant time.
 #[tactic(auto, unfolding(crate::specs::Kinds::switching))]
 pub fn switching(value: &Value) -> Option<Switching>
     ensures { result ≡ spec.switching (view value.now) }
@@ -121,8 +123,8 @@ fn place_named(alloc: Global, text: &str) -> Result<Option<Place>, AllocError>
     }
 }
 
-/// An address from 0 to 2^32 - 1, or a symbol with an offset in bytes as `symbol+offset`; None for any other value.
-/// Linear in the text; the only error is want of memory.
+/// An address from 0 to 2^32 - 1, or a symbol with an offset in bytes as `symbol+offset`; None for
+/// any other value. Linear in the text; the only error is want of memory.
 #[tactic(auto, unfolding(crate::specs::Kinds::place))]
 pub fn place(alloc: Global, value: &Value) -> Result<Option<Place>, AllocError>
     ensures { IfOk result (λ p. p ≡ spec.place (view value.now)) }
@@ -160,10 +162,11 @@ fn range(alloc: Global, value: &Value) -> Result<Option<(Place, Place)>, AllocEr
     }
 }
 
-/// A list of ranges, each a list of two places; None for any other value. Linear in the list; the only error is want of
-/// memory.
+/// A list of ranges, each a list of two places; None for any other value. Linear in the list; the
+/// only error is want of memory.
 pub fn ranges(alloc: Global, value: &Value) -> Result<Option<Vec<(Place, Place)>>, AllocError>
-    ensures { IfOk result (λ found. option_map (λ v. v.items) found ≡ listed spec.range (view value.now)) }
+    ensures { IfOk result (λ found.
+        option_map (λ v. v.items) found ≡ listed spec.range (view value.now)) }
 {
     let Value::Array(values) = value else {
         return Ok(None);

@@ -15,14 +15,16 @@ const KEYS: [&str; 3] = ["head", "bound", "range"];
 
 #[tactic(auto, unfolding(crate::specs::Reading::loop_keys))]
 fn all_known(alloc: Global, keys: Keys) -> Result<(), KeyError>
-    ensures { Gives KeyError.Memory (λ x. x) result (all_known spec.loop_keys keys.entry.path.now (table_view keys.entry.table.now)) }
+    ensures { Gives KeyError.Memory (λ x. x) result
+        (all_known spec.loop_keys keys.entry.path.now (table_view keys.entry.table.now)) }
 {
     keys.all_known(alloc, &KEYS)
 }
 
 #[tactic(auto, unfolding(toml_keys::specs::Reading::required))]
 fn head_at(alloc: Global, keys: Keys) -> Result<Place, KeyError>
-    ensures { Gives KeyError.Memory (λ x. x) result (required kind.place keys.entry.path.now (codes "head") (table_view keys.entry.table.now)) }
+    ensures { Gives KeyError.Memory (λ x. x) result
+        (required kind.place keys.entry.path.now (codes "head") (table_view keys.entry.table.now)) }
 {
     let value = keys.present(alloc, "head")?;
     keys.good(alloc, "head", place(alloc, value)?)
@@ -30,7 +32,9 @@ fn head_at(alloc: Global, keys: Keys) -> Result<Place, KeyError>
 
 #[tactic(auto, using(toml_keys::proofs::Seen::good_seen), unfolding(toml_keys::specs::Reading::required))]
 fn ranges_at(alloc: Global, keys: Keys) -> Result<Vec<(Place, Place)>, KeyError>
-    ensures { Gives KeyError.Memory (λ v. v.items) result (required (listed kind.range) keys.entry.path.now (codes "range") (table_view keys.entry.table.now)) }
+    ensures { Gives KeyError.Memory (λ v. v.items) result
+        (required (listed kind.range) keys.entry.path.now (codes "range")
+        (table_view keys.entry.table.now)) }
 {
     let value = keys.present(alloc, "range")?;
     keys.good(alloc, "range", ranges(alloc, value)?)
@@ -39,7 +43,8 @@ fn ranges_at(alloc: Global, keys: Keys) -> Result<Vec<(Place, Place)>, KeyError>
 /// A stated loop.
 #[tactic(auto, unfolding(crate::specs::Reading::loop_at))]
 fn loop_at(alloc: Global, keys: Keys) -> Result<LoopSpec, KeyError>
-    ensures { Gives KeyError.Memory (λ x. x) result (spec.loop_at keys.entry.path.now (table_view keys.entry.table.now)) }
+    ensures { Gives KeyError.Memory (λ x. x) result
+        (spec.loop_at keys.entry.path.now (table_view keys.entry.table.now)) }
 {
     all_known(alloc, keys)?;
     Ok(LoopSpec {
@@ -51,7 +56,8 @@ fn loop_at(alloc: Global, keys: Keys) -> Result<LoopSpec, KeyError>
 
 /// The loop at a place of a task's list.
 fn nth_loop(alloc: Global, path: &str, place: usize, table: &Table) -> Result<LoopSpec, KeyError>
-    ensures { Gives KeyError.Memory (λ x. x) result (spec.nth_loop path.now place (table_view table.now)) }
+    ensures { Gives KeyError.Memory (λ x. x) result
+        (spec.nth_loop path.now place (table_view table.now)) }
 {
     let path = item_path(alloc, path, "loop", place)?;
     loop_at(
@@ -66,7 +72,8 @@ fn nth_loop(alloc: Global, path: &str, place: usize, table: &Table) -> Result<Lo
 /// The loops of a list, in order.
 #[tactic(auto, unfolding(toml_keys::specs::Reading::each))]
 fn each_loop(alloc: Global, path: &str, tables: &[&Table]) -> Result<Vec<LoopSpec>, KeyError>
-    ensures { Gives KeyError.Memory (λ v. v.items) result (each (spec.nth_loop path.now) 0 (map (λ t. table_view t.now) tables.now)) }
+    ensures { Gives KeyError.Memory (λ v. v.items) result
+        (each (spec.nth_loop path.now) 0 (map (λ t. table_view t.now) tables.now)) }
 {
     let mut loops = Vec::new(alloc);
     for (i, table) in tables.iter().enumerate() {
@@ -76,7 +83,8 @@ fn each_loop(alloc: Global, path: &str, tables: &[&Table]) -> Result<Vec<LoopSpe
 }
 
 fn loop_tables<'a>(alloc: Global, value: &'a Value) -> Result<Option<Vec<&'a Table>>, AllocError>
-    ensures { IfOk result (λ found. option_map (λ v. map (λ t. table_view t.now) v.items) found ≡ spec.loop_tables (view value.now)) }
+    ensures { IfOk result (λ found. option_map (λ v. map (λ t. table_view t.now) v.items) found
+        ≡ spec.loop_tables (view value.now)) }
 {
     match tables(alloc, value)? {
         Some(tables) if tables.len() <= MOST_LOOPS => Ok(Some(tables)),
@@ -86,7 +94,9 @@ fn loop_tables<'a>(alloc: Global, value: &'a Value) -> Result<Option<Vec<&'a Tab
 
 #[tactic(auto, using(toml_keys::proofs::Seen::good_seen), unfolding(toml_keys::specs::Reading::optional))]
 fn loop_list<'a>(alloc: Global, keys: Keys<'a>) -> Result<Vec<&'a Table>, KeyError>
-    ensures { Gives KeyError.Memory (λ v. map (λ t. table_view t.now) v.items) result (optional [] spec.loop_tables keys.entry.path.now (codes "loop") (table_view keys.entry.table.now)) }
+    ensures { Gives KeyError.Memory (λ v. map (λ t. table_view t.now) v.items) result
+        (optional [] spec.loop_tables keys.entry.path.now (codes "loop")
+        (table_view keys.entry.table.now)) }
 {
     match keys.get("loop") {
         None => Ok(Vec::new(alloc)),
@@ -94,11 +104,13 @@ fn loop_list<'a>(alloc: Global, keys: Keys<'a>) -> Result<Vec<&'a Table>, KeyErr
     }
 }
 
-/// The loops of a task, in their order: at most 64, and none where the key is absent. Linear in their ranges. The first
-/// thing that is wrong is the refusal; `Memory` may come in place of any answer.
+/// The loops of a task, in their order: at most 64, and none where the key is absent. Linear in
+/// their ranges. The first thing that is wrong is the refusal; `Memory` may come in place of any
+/// answer.
 #[tactic(auto, unfolding(crate::specs::Reading::loops_at))]
 pub fn loops_at(alloc: Global, keys: Keys) -> Result<Vec<LoopSpec>, KeyError>
-    ensures { Gives KeyError.Memory (λ v. v.items) result (spec.loops_at keys.entry.path.now (table_view keys.entry.table.now)) }
+    ensures { Gives KeyError.Memory (λ v. v.items) result
+        (spec.loops_at keys.entry.path.now (table_view keys.entry.table.now)) }
 {
     let tables = loop_list(alloc, keys)?;
     each_loop(alloc, keys.path, tables.as_slice())

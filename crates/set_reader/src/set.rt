@@ -1,4 +1,5 @@
-ghost use Rattle.std.specs.Prelude.{◌≡◌, ◌≤◌, All, [], ◌++◌, codes, string_bytes, length, map, option_map, IfOk};
+ghost use Rattle.std.specs.Prelude.{◌≡◌, ◌≤◌, All, [], ◌++◌, codes, string_bytes, length, map};
+ghost use Rattle.std.specs.Prelude.{option_map, IfOk};
 ghost use Rattle.toml.specs.Data.{as_table};
 ghost use Rattle.toml.specs.View.{view, table_view};
 ghost use Rattle.crpd_base.specs.Outcome.{Gives};
@@ -19,7 +20,8 @@ const KEYS: [&str; 2] = ["platform", "task"];
 
 #[tactic(auto, unfolding(crate::specs::Reading::set_keys))]
 fn all_known(alloc: Global, keys: Keys) -> Result<(), KeyError>
-    ensures { Gives KeyError.Memory (λ x. x) result (all_known spec.set_keys keys.entry.path.now (table_view keys.entry.table.now)) }
+    ensures { Gives KeyError.Memory (λ x. x) result
+        (all_known spec.set_keys keys.entry.path.now (table_view keys.entry.table.now)) }
 {
     keys.all_known(alloc, &KEYS)
 }
@@ -67,7 +69,8 @@ fn distinct(alloc: Global, tasks: Vec<TaskSpec>) -> Result<Vec<TaskSpec>, SetErr
 /// The tasks of a list, in order.
 #[tactic(auto, unfolding(toml_keys::specs::Reading::each))]
 fn each_task(alloc: Global, tables: &[&Table]) -> Result<Vec<TaskSpec>, SetError>
-    ensures { Gives SetError.Memory (λ v. v.items) result (each spec.task_at 0 (map (λ t. table_view t.now) tables.now)) }
+    ensures { Gives SetError.Memory (λ v. v.items) result
+        (each spec.task_at 0 (map (λ t. table_view t.now) tables.now)) }
 {
     let mut tasks = Vec::new(alloc);
     for (i, table) in tables.iter().enumerate() {
@@ -77,7 +80,8 @@ fn each_task(alloc: Global, tables: &[&Table]) -> Result<Vec<TaskSpec>, SetError
 }
 
 fn task_tables<'a>(alloc: Global, value: &'a Value) -> Result<Option<Vec<&'a Table>>, AllocError>
-    ensures { IfOk result (λ found. option_map (λ v. map (λ t. table_view t.now) v.items) found ≡ spec.task_tables (view value.now)) }
+    ensures { IfOk result (λ found. option_map (λ v. map (λ t. table_view t.now) v.items) found
+        ≡ spec.task_tables (view value.now)) }
 {
     match tables(alloc, value)? {
         Some(tables) if !tables.is_empty() => Ok(Some(tables)),
@@ -87,7 +91,9 @@ fn task_tables<'a>(alloc: Global, value: &'a Value) -> Result<Option<Vec<&'a Tab
 
 #[tactic(auto, using(toml_keys::proofs::Seen::good_seen), unfolding(toml_keys::specs::Reading::required))]
 fn task_list<'a>(alloc: Global, keys: Keys<'a>) -> Result<Vec<&'a Table>, KeyError>
-    ensures { Gives KeyError.Memory (λ v. map (λ t. table_view t.now) v.items) result (required spec.task_tables keys.entry.path.now (codes "task") (table_view keys.entry.table.now)) }
+    ensures { Gives KeyError.Memory (λ v. map (λ t. table_view t.now) v.items) result
+        (required spec.task_tables keys.entry.path.now (codes "task")
+        (table_view keys.entry.table.now)) }
 {
     let value = keys.present(alloc, "task")?;
     keys.good(alloc, "task", task_tables(alloc, value)?)
@@ -108,7 +114,9 @@ fn tasks_at(alloc: Global, table: &Table) -> Result<Vec<TaskSpec>, SetError>
 
 #[tactic(auto, using(toml_keys::proofs::Seen::good_seen), unfolding(toml_keys::specs::Reading::required))]
 fn platform_table<'a>(alloc: Global, keys: Keys<'a>) -> Result<&'a Table, KeyError>
-    ensures { Gives KeyError.Memory (λ t. table_view t.now) result (required as_table keys.entry.path.now (codes "platform") (table_view keys.entry.table.now)) }
+    ensures { Gives KeyError.Memory (λ t. table_view t.now) result
+        (required as_table keys.entry.path.now (codes "platform")
+        (table_view keys.entry.table.now)) }
 {
     let value = keys.present(alloc, "platform")?;
     keys.good(alloc, "platform", value.as_table())
@@ -149,9 +157,10 @@ fn set_of(alloc: Global, bytes: &[u8]) -> Result<TaskSet, SetError>
     }
 }
 
-/// Reads a task set from the TOML text in the bytes. What it gives, and its first refusal, are those of `reading`:
-/// unknown keys of a table first, then its keys in their order, the platform before the tasks, equal names last.
-/// `Memory` may come in place of any answer. Beside the parse by `toml`, time and memory are linear in the text.
+/// Reads a task set from the TOML text in the bytes. What it gives, and its first refusal, are
+/// those of `reading`: unknown keys of a table first, then its keys in their order, the platform
+/// before the tasks, equal names last. `Memory` may come in place of any answer. Beside the parse
+/// by `toml`, time and memory are linear in the text.
 pub fn read_set(alloc: Global, bytes: &[u8]) -> Result<TaskSet, SetError>
     ensures exact { Gives SetError.Memory (λ x. x) result (reading bytes.now) }
 

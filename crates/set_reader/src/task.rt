@@ -20,14 +20,16 @@ const KEYS: [&str; 9] = [
 
 #[tactic(auto, unfolding(crate::specs::Reading::task_keys))]
 fn all_known(alloc: Global, keys: Keys) -> Result<(), KeyError>
-    ensures { Gives KeyError.Memory (λ x. x) result (all_known spec.task_keys keys.entry.path.now (table_view keys.entry.table.now)) }
+    ensures { Gives KeyError.Memory (λ x. x) result
+        (all_known spec.task_keys keys.entry.path.now (table_view keys.entry.table.now)) }
 {
     keys.all_known(alloc, &KEYS)
 }
 
 #[tactic(auto, using(toml_keys::proofs::Seen::good_seen), unfolding(toml_keys::specs::Reading::required))]
 fn name_at(alloc: Global, keys: Keys) -> Result<String, KeyError>
-    ensures { Gives KeyError.Memory string_bytes result (required kind.name keys.entry.path.now (codes "name") (table_view keys.entry.table.now)) }
+    ensures { Gives KeyError.Memory string_bytes result
+        (required kind.name keys.entry.path.now (codes "name") (table_view keys.entry.table.now)) }
 {
     let value = keys.present(alloc, "name")?;
     keys.good(alloc, "name", name(alloc, value)?)
@@ -35,7 +37,8 @@ fn name_at(alloc: Global, keys: Keys) -> Result<String, KeyError>
 
 #[tactic(auto, using(toml_keys::proofs::Seen::good_seen), unfolding(toml_keys::specs::Reading::required))]
 fn file_at(alloc: Global, keys: Keys) -> Result<String, KeyError>
-    ensures { Gives KeyError.Memory string_bytes result (required kind.file keys.entry.path.now (codes "file") (table_view keys.entry.table.now)) }
+    ensures { Gives KeyError.Memory string_bytes result
+        (required kind.file keys.entry.path.now (codes "file") (table_view keys.entry.table.now)) }
 {
     let value = keys.present(alloc, "file")?;
     keys.good(alloc, "file", file(alloc, value)?)
@@ -43,7 +46,9 @@ fn file_at(alloc: Global, keys: Keys) -> Result<String, KeyError>
 
 #[tactic(auto, unfolding(toml_keys::specs::Reading::optional))]
 fn entry_at(alloc: Global, keys: Keys) -> Result<Option<Place>, KeyError>
-    ensures { Gives KeyError.Memory (λ x. x) result (optional None spec.entry_place keys.entry.path.now (codes "entry") (table_view keys.entry.table.now)) }
+    ensures { Gives KeyError.Memory (λ x. x) result
+        (optional None spec.entry_place keys.entry.path.now (codes "entry")
+        (table_view keys.entry.table.now)) }
 {
     match keys.get("entry") {
         None => Ok(None),
@@ -54,7 +59,9 @@ fn entry_at(alloc: Global, keys: Keys) -> Result<Option<Place>, KeyError>
 /// A place, the number 0 where the key is absent.
 #[tactic(auto, unfolding(toml_keys::specs::Reading::optional))]
 fn place_or_zero(alloc: Global, keys: Keys, key: &str) -> Result<Place, KeyError>
-    ensures { Gives KeyError.Memory (λ x. x) result (optional (Number 0) kind.place keys.entry.path.now key.now (table_view keys.entry.table.now)) }
+    ensures { Gives KeyError.Memory (λ x. x) result
+        (optional (Number 0) kind.place keys.entry.path.now key.now
+        (table_view keys.entry.table.now)) }
 {
     match keys.get(key) {
         None => Ok(Place::Number(0)),
@@ -65,7 +72,8 @@ fn place_or_zero(alloc: Global, keys: Keys, key: &str) -> Result<Place, KeyError
 /// What the keys of a task say.
 #[tactic(auto, unfolding(crate::specs::Reading::fields_at))]
 fn fields_at(alloc: Global, keys: Keys) -> Result<TaskSpec, KeyError>
-    ensures { Gives KeyError.Memory (λ x. x) result (spec.fields_at keys.entry.path.now (table_view keys.entry.table.now)) }
+    ensures { Gives KeyError.Memory (λ x. x) result
+        (spec.fields_at keys.entry.path.now (table_view keys.entry.table.now)) }
 {
     all_known(alloc, keys)?;
     Ok(TaskSpec {
@@ -81,9 +89,9 @@ fn fields_at(alloc: Global, keys: Keys) -> Result<TaskSpec, KeyError>
     })
 }
 
-/// The task at a place of the list, counted from 0. The deadline is compared with the period after all keys are read,
-/// those of the loops included. The first thing that is wrong is the refusal; `Memory` may come in place of any answer.
-/// Linear in what the keys say.
+/// The task at a place of the list, counted from 0. The deadline is compared with the period after
+/// all keys are read, those of the loops included. The first thing that is wrong is the refusal;
+/// `Memory` may come in place of any answer. Linear in what the keys say.
 #[tactic(auto, unfolding(crate::specs::Reading::task_at))]
 pub fn task_at(alloc: Global, place: usize, table: &Table) -> Result<TaskSpec, SetError>
     ensures { Gives SetError.Memory (λ x. x) result (spec.task_at place (table_view table.now)) }

@@ -1,4 +1,5 @@
--- Step 6: entries come from higher tasks, and those of a window are at most the counts of both delays.
+-- Step 6: entries come from higher tasks, and those of a window are at most the counts of both
+-- delays.
 mod FromHigher
 mod UnionCount
 mod Choices

@@ -1,6 +1,8 @@
--- After the judge's yes, what holds of a task set in its ranges with its code, beside that it is safe: an undisturbed job
--- answers within its bound, and the reloads of an account are within the certificate's delays.
-use Rattle.std.specs.Prelude.{◌≡◌, ℕ, ◌+◌, ◌*◌, ◌<◌, ◌≤◌, ◌==◌, ◌&&◌, nat_lt, nat_le, Bool, IsTrue, List, length, map, slice_index}
+-- After the judge's yes, what holds of a task set in its ranges with its code, beside that it is
+-- safe: an undisturbed job answers within its bound, and the reloads of an account are within the
+-- certificate's delays.
+use Rattle.std.specs.Prelude.{◌≡◌, ℕ, ◌+◌, ◌*◌, ◌<◌, ◌≤◌, ◌==◌, ◌&&◌, nat_lt, nat_le, Bool, IsTrue}
+use Rattle.std.specs.Prelude.{List, length, map, slice_index}
 use Rattle.std.specs.List.{count_by}
 use Rattle.crpd_base.specs.declared.data.Certificate.{Certificate}
 use Rattle.crpd_base.specs.declared.data.Script.{Script}
@@ -28,25 +30,31 @@ use Rattle.run_account.specs.Nodes.{job_task}
 use Rattle.preempt_machine.specs.Starts.{start_of_script}
 use Rattle.sound_laws.specs.Headline.{IsUndisturbed}
 
--- a task set in its ranges with its code, of which these are the graphs without refusals, and the judge says yes
-pub record IsChecked (set : TaskSet) (code : Code) (graphs : ℕ → TaskGraph) (c : Certificate) : Type 0 where
+-- a task set in its ranges with its code, of which these are the graphs without refusals, and the
+-- judge says yes
+pub record IsChecked (set : TaskSet) (code : Code) (graphs : ℕ → TaskGraph)
+    (c : Certificate) : Type 0 where
   pub ranges : IsTaskSet set
   pub words : IsCodeMap (word_at code.images)
-  pub graphs_of : (k : ℕ) → k < length set.tasks → IsGraphOf (word_at code.images) (plan_of (system_of set code) k) (graphs k)
+  pub graphs_of : (k : ℕ) → k < length set.tasks
+      → IsGraphOf (word_at code.images) (plan_of (system_of set code) k) (graphs k)
   pub says : IsYes set graphs c
 
 -- the reported bounds
 abbrev pub bounds : Certificate → List ℕ
 bounds c = map (λ (t : TaskPart). t.part.bound) c.tasks
 
--- from every cache and memory, in every kept run, legal or not: take the first step in which a job is the candidate, and as
--- many steps from it on as a switch and the job's bound take. If the run has all these steps, and in each of them the job
--- is the candidate or over, it has answered when they end
+-- from every cache and memory, in every kept run, legal or not: take the first step in which a job
+-- is the candidate, and as many steps from it on as a switch and the job's bound take. If the run
+-- has all these steps, and in each of them the job is the candidate or over, it has answered when
+-- they end
 abbrev pub IsBoundedWith : TaskSet → Code → List ℕ → Type 0
 IsBoundedWith set code bounds =
-    (s : Start) (n x first : ℕ) → s.system ≡ system_of set code → IsRunOf set s → IsKept (state s n) → x < length s.lines →
+    (s : Start) (n x first : ℕ) → s.system ≡ system_of set code → IsRunOf set s → IsKept (state s n)
+    → x < length s.lines →
     let steps = set.platform.switch + slice_index bounds (job_task s x) in
-    first + steps ≤ n → IsUndisturbed s x first steps → IsAnsweredBy (first + steps) (job_after s n x).standing
+    first + steps ≤ n → IsUndisturbed s x first steps
+    → IsAnsweredBy (first + steps) (job_after s n x).standing
 
 -- after a yes that holds with the reported bounds
 abbrev pub CheckedCodeIsBounded : Type 0
@@ -54,7 +62,8 @@ CheckedCodeIsBounded =
     (set : TaskSet) (code : Code) (graphs : ℕ → TaskGraph) (c : Certificate) →
     IsChecked set code graphs c → IsBoundedWith set code (bounds c)
 
--- the entries of the window of a job of task i: those made from its start to its answer by jobs of priority at least i's
+-- the entries of the window of a job of task i: those made from its start to its answer by jobs of
+-- priority at least i's
 abbrev pub is_in_window : ℕ → ℕ → ℕ → Entry → Bool
 is_in_window i start answer e = nat_le start e.time && nat_lt e.time answer && nat_le e.job.task.0 i
 
@@ -65,25 +74,32 @@ has_evictor j e = e.evictor.task.0 == j
 abbrev pub has_preemptor : ℕ → Entry → Bool
 has_preemptor j e = e.preemptor.task.0 == j
 
--- of an account of a script's run: take a job that has answered, the start of its window, and a task j above its task i. The
--- entries of the window with an evictor of j take at most the UCB-union delay of j in i's window, and those with a
--- preemptor of j at most the ECB-union delay, with the certificate's parts and windows
-pub record IsWithinDelays (set : TaskSet) (code : Code) (script : Script) (c : Certificate) (a : Account) : Type 0 where
-  pub ucb : (x start answer j : ℕ) → x < length script.jobs → (completion a.completions x).«end» ≡ «end».Answered answer →
+-- of an account of a script's run: take a job that has answered, the start of its window, and a
+-- task j above its task i. The entries of the window with an evictor of j take at most the
+-- UCB-union delay of j in i's window, and those with a preemptor of j at most the ECB-union delay,
+-- with the certificate's parts and windows
+pub record IsWithinDelays (set : TaskSet) (code : Code) (script : Script) (c : Certificate)
+    (a : Account) : Type 0 where
+  pub ucb : (x start answer j : ℕ) → x < length script.jobs
+      → (completion a.completions x).«end» ≡ «end».Answered answer →
       IsWindowStart (start_of_script set code script) x start →
       let i = (script_line script.jobs x).task.0 in j < i →
-      count_by (λ (e : Entry). is_in_window i start answer e && has_evictor j e) a.entries * set.platform.miss
+      count_by (λ (e : Entry). is_in_window i start answer e && has_evictor j e)
+      a.entries * set.platform.miss
       ≤ gamma_ucb set (certified_part c) (window_at c) (window_at c i) i j
-  pub ecb : (x start answer j : ℕ) → x < length script.jobs → (completion a.completions x).«end» ≡ «end».Answered answer →
+  pub ecb : (x start answer j : ℕ) → x < length script.jobs
+      → (completion a.completions x).«end» ≡ «end».Answered answer →
       IsWindowStart (start_of_script set code script) x start →
       let i = (script_line script.jobs x).task.0 in j < i →
-      count_by (λ (e : Entry). is_in_window i start answer e && has_preemptor j e) a.entries * set.platform.miss
+      count_by (λ (e : Entry). is_in_window i start answer e && has_preemptor j e)
+      a.entries * set.platform.miss
       ≤ gamma_ecb set (certified_part c) (window_at c) (window_at c i) i j
 
 -- after a yes that holds of the account of each legal and kept run from a script's start
 abbrev pub CheckedAccountIsWithinDelays : Type 0
 CheckedAccountIsWithinDelays =
-    (set : TaskSet) (code : Code) (graphs : ℕ → TaskGraph) (c : Certificate) (script : Script) (a : Account) →
+    (set : TaskSet) (code : Code) (graphs : ℕ → TaskGraph) (c : Certificate) (script : Script)
+    (a : Account) →
     IsChecked set code graphs c → NamesTasks set script.jobs → IsLegal set script.jobs →
     IsAccount (start_of_script set code script) graphs c script.cycles a → IsTrue a.kept →
     IsWithinDelays set code script c a

@@ -1,5 +1,6 @@
 -- The cycles that a job has to go, its entries, and the law of its execution.
-use Rattle.std.specs.Prelude.{◌≡◌, ℕ, ◌+◌, ◌*◌, ◌<◌, ◌≤◌, Bool, true, not, ◌&&◌, ◌==◌, if◌then◌else◌, List, ◌∷◌, length, Option, Some, None}
+use Rattle.std.specs.Prelude.{◌≡◌, ℕ, ◌+◌, ◌*◌, ◌<◌, ◌≤◌, Bool, true, not, ◌&&◌, ◌==◌}
+use Rattle.std.specs.Prelude.{if◌then◌else◌, List, ◌∷◌, length, Option, Some, None}
 use Rattle.crpd_base.specs.declared.data.TaskPlan.{TaskPlan}
 use Rattle.crpd_base.specs.declared.data.TaskSet.{TaskSet}
 use Rattle.crpd_base.specs.Sum.{sum_below}
@@ -19,60 +20,78 @@ use Rattle.cert_check.specs.PotentialClauses.{CountsHits}
 use Rattle.cert_check.specs.JudgeInput.{accesses_of}
 use Rattle.cert_check.specs.Verdict.{IsYes}
 use Rattle.preempt_machine.specs.Machine.{System, Job, ins_at}
-use Rattle.preempt_machine.specs.Step.{is_open, is_owner, candidate, Turn, turn_of, makes_fetch, Start, state}
+use Rattle.preempt_machine.specs.Step.{is_open, is_owner, candidate, Turn, turn_of, makes_fetch}
+use Rattle.preempt_machine.specs.Step.{Start, state}
 use Rattle.preempt_machine.specs.Safe.{NamesTasks}
 use Rattle.run_account.specs.Fetches.{job_after}
 use Rattle.run_account.specs.Nodes.{job_task, plan_at, node_number, node_of_job}
 use Rattle.run_account.specs.Walks.{fetched_nodes}
 use Rattle.sound_laws.specs.Walks.{HasTaskRanges, IsCodeOf, before_of}
 
--- the rest of the walk after the instruction that is under way; none where it answers or breaks the watch
+-- the rest of the walk after the instruction that is under way; none where it answers or breaks the
+-- watch
 abbrev pub rest_after : TaskPlan → TaskGraph → Potentials → Job → List ℕ → Ins → Next → ℕ
 rest_after plan t p job walk ins (Goto to) =
     let w = watch_step plan job.watch job.pc ins to in
-    if not (to == end_address) && is_unbroken w then rest t.nest p (node_number t w to ∷ walk) else 0
+    if not (to == end_address) && is_unbroken w then rest t.nest p (node_number t w to ∷ walk)
+    else 0
 rest_after plan t p job walk ins Answer = 0
 rest_after plan t p job walk ins Fault = 0
 
 abbrev pub rest_of_ins : TaskPlan → TaskGraph → Potentials → Job → List ℕ → Option Ins → ℕ
 rest_of_ins plan t p job walk None = 0
-rest_of_ins plan t p job walk (Some ins) = rest_after plan t p job walk ins (next_pc ins job.pc job.registers)
+rest_of_ins plan t p job walk (Some ins) =
+    rest_after plan t p job walk ins (next_pc ins job.pc job.registers)
 
 -- the walk to a job's node
 abbrev pub walk_of : TaskGraph → Job → List ℕ → List ℕ
 walk_of t job nodes = node_of_job t job ∷ before_of job nodes
 
--- the cycles that a job has to go at most, after fetches at these nodes: those left of its instruction, and the rest
+-- the cycles that a job has to go at most, after fetches at these nodes: those left of its
+-- instruction, and the rest
 abbrev pub cycles_to_go : System → TaskPlan → TaskGraph → Potentials → Job → List ℕ → ℕ
 cycles_to_go sys plan t p job nodes =
     if is_open job.standing then
-    (if job.left == 0 then rest t.nest p (walk_of t job nodes) else job.left + rest_of_ins plan t p job (walk_of t job nodes) (ins_at sys job.pc))
+    (if job.left == 0 then rest t.nest p (walk_of t job nodes)
+    else job.left + rest_of_ins plan t p job (walk_of t job nodes) (ins_at sys job.pc))
     else 0
 
 -- whether a turn is an entry: it fetches at a node that is counted as a hit, and misses
 abbrev pub misses_counted_hit : System → TaskGraph → (ℕ → Bool) → Turn → Bool
 misses_counted_hit sys t counted u =
-    makes_fetch sys u && (counted (node_of_job t u.job) && not (is_hit sys.platform u.cache (block_of sys.platform u.job.pc)))
+    makes_fetch sys u
+    && (counted (node_of_job t u.job)
+    && not (is_hit sys.platform u.cache (block_of sys.platform u.job.pc)))
 
 -- whether job x uses a cycle of an instruction at step n, and whether it makes an entry there
 abbrev pub executes : Start → ℕ → ℕ → Bool
-executes s x n = is_owner (candidate s.system (state s n)) x && ((turn_of s.system (state s n) x).switch_left == 0)
+executes s x n =
+    is_owner (candidate s.system (state s n)) x
+    && ((turn_of s.system (state s n) x).switch_left == 0)
 
 abbrev pub makes_reload : Start → TaskGraph → (ℕ → Bool) → ℕ → ℕ → Bool
-makes_reload s t counted x n = is_owner (candidate s.system (state s n)) x && misses_counted_hit s.system t counted (turn_of s.system (state s n) x)
+makes_reload s t counted x n =
+    is_owner (candidate s.system (state s n)) x && misses_counted_hit s.system t counted
+    (turn_of s.system (state s n) x)
 
 abbrev pub count_below : (ℕ → Bool) → ℕ → ℕ
 count_below p n = sum_below (λ x. if p x then 1 else 0) n
 
--- with any test of the hits that are counted: the cycles that a job has executed and those that it has to go are at most its
--- bound and a reload for each of its entries so far. Those that it has to go are at least 1 while it is open
+-- with any test of the hits that are counted: the cycles that a job has executed and those that it
+-- has to go are at most its bound and a reload for each of its entries so far. Those that it has to
+-- go are at least 1 while it is open
 abbrev pub ExecutionWithinBound : Type 0
 ExecutionWithinBound =
-    (s : Start) (set : TaskSet) (graphs : ℕ → TaskGraph) (c : Certificate) (n x : ℕ) (is_hit : ℕ → Bool) →
-    HasTaskRanges set → IsCodeOf s.system set graphs → NamesTasks set s.lines → IsYes set graphs c → x < length s.lines → job_task s x < length set.tasks →
+    (s : Start) (set : TaskSet) (graphs : ℕ → TaskGraph) (c : Certificate) (n x : ℕ)
+    (is_hit : ℕ → Bool) →
+    HasTaskRanges set → IsCodeOf s.system set graphs → NamesTasks set s.lines → IsYes set graphs c
+    → x < length s.lines → job_task s x < length set.tasks →
     let t = graphs (job_task s x) in
     let part = certified_task c (job_task s x) in
-    CountsHits t.graph (accesses_of s.system.platform t) (listed_of part) is_hit → is_unbroken (job_after s n x).watch ≡ true →
-    let to_go = cycles_to_go s.system (plan_at s x) t (potentials_of part) (job_after s n x) (fetched_nodes s graphs n x) in
-    (count_below (executes s x) n + to_go ≤ part.part.bound + s.system.platform.miss * count_below (makes_reload s t is_hit x) n)
+    CountsHits t.graph (accesses_of s.system.platform t) (listed_of part) is_hit
+    → is_unbroken (job_after s n x).watch ≡ true →
+    let to_go = cycles_to_go s.system (plan_at s x) t (potentials_of part) (job_after s n x)
+    (fetched_nodes s graphs n x) in
+    (count_below (executes s x) n + to_go
+    ≤ part.part.bound + s.system.platform.miss * count_below (makes_reload s t is_hit x) n)
     × (is_open (job_after s n x).standing ≡ true → 1 ≤ to_go)

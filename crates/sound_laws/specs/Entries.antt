@@ -21,16 +21,21 @@ use Rattle.run_account.specs.Nodes.{job_task, node_of_job}
 use Rattle.sound_laws.specs.Walks.{HasTaskRanges, IsCodeOf}
 use Rattle.sound_laws.specs.CyclesToGo.{makes_reload}
 
--- each block that the full state of a job's node gives to a set is that of the job's own last fetch to it; while an
--- instruction is under way, the same holds of the state after its node
+-- each block that the full state of a job's node gives to a set is that of the job's own last fetch
+-- to it; while an instruction is under way, the same holds of the state after its node
 pub record OwnFetchesAgree (s : Start) (t : TaskGraph) (c : TaskPart) (n x : ℕ) : Type 0 where
-  pub between : (job_after s n x).left ≡ 0 → (set m : ℕ) → FullState t.graph (accesses_of s.system.platform t) (listed_of c) (node_of_job t (job_after s n x)) set m → HasOwn s x set n m
-  pub within : (job_after s n x).left ≢ 0 → (set m : ℕ) → StateAfter t.graph (accesses_of s.system.platform t) (listed_of c) (node_of_job t (job_after s n x)) set m → HasOwn s x set n m
+  pub between : (job_after s n x).left ≡ 0 → (set m : ℕ)
+      → FullState t.graph (accesses_of s.system.platform t) (listed_of c)
+      (node_of_job t (job_after s n x)) set m → HasOwn s x set n m
+  pub within : (job_after s n x).left ≢ 0 → (set m : ℕ)
+      → StateAfter t.graph (accesses_of s.system.platform t) (listed_of c)
+      (node_of_job t (job_after s n x)) set m → HasOwn s x set n m
 
 abbrev pub OwnFetchesAgreeLaw : Type 0
 OwnFetchesAgreeLaw =
     (s : Start) (set : TaskSet) (graphs : ℕ → TaskGraph) (c : Certificate) (n x : ℕ) →
-    HasTaskRanges set → IsCodeOf s.system set graphs → NamesTasks set s.lines → IsYes set graphs c → x < length s.lines →
+    HasTaskRanges set → IsCodeOf s.system set graphs → NamesTasks set s.lines → IsYes set graphs c
+    → x < length s.lines →
     is_unbroken (job_after s n x).watch ≡ true → is_open (job_after s n x).standing ≡ true →
     OwnFetchesAgree s (graphs (job_task s x)) (certified_task c (job_task s x)) n x
 
@@ -39,15 +44,22 @@ pub record IsUsefulReload (s : Start) (t : TaskGraph) (c : TaskPart) (n x : ℕ)
   pub own_time : ℕ
   pub own : Fetch
   pub reload : IsOwnReload s x n own_time (record { job = x; address = (job_after s n x).pc }) own
-  pub useful : FullUseful t.graph (accesses_of s.system.platform t) (listed_of c) (node_of_job t (job_after s n x)) ((accesses_of s.system.platform t).set (node_of_job t (job_after s n x)))
-  pub in_set : IsTrue (has_set c.part.useful ((accesses_of s.system.platform t).set (node_of_job t (job_after s n x))))
+  pub useful : FullUseful t.graph (accesses_of s.system.platform t) (listed_of c)
+      (node_of_job t (job_after s n x))
+      ((accesses_of s.system.platform t).set (node_of_job t (job_after s n x)))
+  pub in_set : IsTrue
+      (has_set c.part.useful
+      ((accesses_of s.system.platform t).set (node_of_job t (job_after s n x))))
 
 -- with any test of the hits that are counted
 abbrev pub LedgerReloadsAreOwn : Type 0
 LedgerReloadsAreOwn =
-    (s : Start) (set : TaskSet) (graphs : ℕ → TaskGraph) (c : Certificate) (n x : ℕ) (is_hit : ℕ → Bool) →
-    HasTaskRanges set → IsCodeOf s.system set graphs → NamesTasks set s.lines → IsYes set graphs c → x < length s.lines → job_task s x < length set.tasks →
+    (s : Start) (set : TaskSet) (graphs : ℕ → TaskGraph) (c : Certificate) (n x : ℕ)
+    (is_hit : ℕ → Bool) →
+    HasTaskRanges set → IsCodeOf s.system set graphs → NamesTasks set s.lines → IsYes set graphs c
+    → x < length s.lines → job_task s x < length set.tasks →
     let t = graphs (job_task s x) in
     let part = certified_task c (job_task s x) in
-    CountsHits t.graph (accesses_of s.system.platform t) (listed_of part) is_hit → is_unbroken (job_after s n x).watch ≡ true →
+    CountsHits t.graph (accesses_of s.system.platform t) (listed_of part) is_hit
+    → is_unbroken (job_after s n x).watch ≡ true →
     makes_reload s t is_hit x n ≡ true → IsUsefulReload s t part n x

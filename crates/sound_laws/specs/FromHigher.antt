@@ -17,17 +17,24 @@ use Rattle.run_account.specs.Ledger.{IsPreempted}
 use Rattle.sound_laws.specs.Walks.{HasTaskRanges, IsCodeOf}
 use Rattle.sound_laws.specs.CyclesToGo.{count_below}
 
--- an entry's evictor and preemptor are of higher tasks than its job, and the evictor does not come after the preemptor.
--- Its set is in the evictor's evicting set, in its task's useful set, and in the useful set of the full state of the node
--- of the second of the two fetches between which the evictor's was made: the node to which the job went on
-pub record IsFromHigher (s : Start) (graphs : ℕ → TaskGraph) (c : Certificate) (n x p : ℕ) (e : IsPreempted s graphs c n x p) : Type 0 where
+-- an entry's evictor and preemptor are of higher tasks than its job, and the evictor does not come
+-- after the preemptor. Its set is in the evictor's evicting set, in its task's useful set, and in
+-- the useful set of the full state of the node of the second of the two fetches between which the
+-- evictor's was made: the node to which the job went on
+pub record IsFromHigher (s : Start) (graphs : ℕ → TaskGraph) (c : Certificate) (n x p : ℕ)
+    (e : IsPreempted s graphs c n x p) : Type 0 where
   pub evictor : job_task s e.is.evictor.job < job_task s x
   pub preemptor : job_task s p < job_task s x
   pub not_after : (e.is.evictor.job ≡ p) ⊎ (before (state s 0).jobs e.is.evictor.job p ≡ true)
-  pub evicts : IsTrue (has_set (certified_task c (job_task s e.is.evictor.job)).part.evicting (fetched_set s e.fetch))
-  pub in_set : IsTrue (has_set (certified_task c (job_task s x)).part.useful (fetched_set s e.fetch))
+  pub evicts : IsTrue
+      (has_set (certified_task c (job_task s e.is.evictor.job)).part.evicting
+      (fetched_set s e.fetch))
+  pub in_set : IsTrue
+      (has_set (certified_task c (job_task s x)).part.useful (fetched_set s e.fetch))
   pub carried : let t = graphs (job_task s x) in
-      FullUseful t.graph (accesses_of s.system.platform t) (listed_of (certified_task c (job_task s x))) (node_of_job t (job_after s e.until x)) (fetched_set s e.fetch)
+      FullUseful t.graph (accesses_of s.system.platform t)
+      (listed_of (certified_task c (job_task s x))) (node_of_job t (job_after s e.until x))
+      (fetched_set s e.fetch)
 
 -- after a yes, of every run, legal or not
 abbrev pub ReloadComesFromHigher : Type 0
@@ -36,12 +43,18 @@ ReloadComesFromHigher =
     HasTaskRanges set → IsCodeOf s.system set graphs → IsYes set graphs c → IsRunOf set s →
     (e : IsPreempted s graphs c n x p) → IsFromHigher s graphs c n x p e
 
--- the entries of a job with one preemptor are at most as many as the useful sets of the node to which the job went on
+-- the entries of a job with one preemptor are at most as many as the useful sets of the node to
+-- which the job went on
 abbrev pub PreemptorWithinUseful : Type 0
 PreemptorWithinUseful =
-    (s : Start) (set : TaskSet) (graphs : ℕ → TaskGraph) (c : Certificate) (until x p first : ℕ) (test useful : ℕ → Bool) →
-    HasTaskRanges set → IsCodeOf s.system set graphs → IsYes set graphs c → IsRunOf set s → IsKept (state s until) →
+    (s : Start) (set : TaskSet) (graphs : ℕ → TaskGraph) (c : Certificate) (until x p first : ℕ)
+    (test useful : ℕ → Bool) →
+    HasTaskRanges set → IsCodeOf s.system set graphs → IsYes set graphs c → IsRunOf set s
+    → IsKept (state s until) →
     (e : IsPreempted s graphs c first x p) →
     ((n : ℕ) → test n ≡ true → (n < until) × IsPreempted s graphs c n x p) →
-    ((z : ℕ) → FullUseful (graphs (job_task s x)).graph (accesses_of s.system.platform (graphs (job_task s x))) (listed_of (certified_task c (job_task s x))) (node_of_job (graphs (job_task s x)) (job_after s e.until x)) z → useful z ≡ true) →
+    ((z : ℕ) → FullUseful (graphs (job_task s x)).graph
+    (accesses_of s.system.platform (graphs (job_task s x)))
+    (listed_of (certified_task c (job_task s x)))
+    (node_of_job (graphs (job_task s x)) (job_after s e.until x)) z → useful z ≡ true) →
     count_below test until ≤ count_below useful s.system.platform.sets

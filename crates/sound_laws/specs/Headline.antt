@@ -22,24 +22,30 @@ YesIsSafe =
     (sys : System) (set : TaskSet) (graphs : ℕ → TaskGraph) (c : Certificate) →
     HasTaskRanges set → IsCodeOf sys set graphs → IsYes set graphs c → IsSafe sys set (responses c)
 
--- so a task set in its ranges, with its code, of which these are the graphs without refusals, is safe after a yes
+-- so a task set in its ranges, with its code, of which these are the graphs without refusals, is
+-- safe after a yes
 abbrev pub CheckedCodeIsSafe : Type 0
 CheckedCodeIsSafe =
     (set : TaskSet) (code : Code) (graphs : ℕ → TaskGraph) (c : Certificate) →
     IsTaskSet set → IsCodeMap (word_at code.images) →
-    ((k : ℕ) → k < length set.tasks → IsGraphOf (word_at code.images) (plan_of (system_of set code) k) (graphs k)) →
+    ((k : ℕ) → k < length set.tasks
+    → IsGraphOf (word_at code.images) (plan_of (system_of set code) k) (graphs k)) →
     IsYes set graphs c → IsSafeWith set code (responses c)
 
 -- from its first step as the candidate on, a job is the candidate of so many steps, or over
 pub record IsUndisturbed (s : Start) (x first steps : ℕ) : Type 0 where
   pub starts : candidate s.system (state s first) ≡ Some x
   pub first_time : (n : ℕ) → n < first → candidate s.system (state s n) ≢ Some x
-  pub alone : (n : ℕ) → first ≤ n → n < first + steps → (candidate s.system (state s n) ≡ Some x) ⊎ (is_open (job_after s n x).standing ≡ false)
+  pub alone : (n : ℕ) → first ≤ n → n < first + steps
+      → (candidate s.system (state s n) ≡ Some x) ⊎ (is_open (job_after s n x).standing ≡ false)
 
--- after a yes, in a kept run, legal or not, an undisturbed job answers within its switch and its bound
+-- after a yes, in a kept run, legal or not, an undisturbed job answers within its switch and its
+-- bound
 abbrev pub UndisturbedBound : Type 0
 UndisturbedBound =
     (s : Start) (set : TaskSet) (graphs : ℕ → TaskGraph) (c : Certificate) (n x first : ℕ) →
-    HasTaskRanges set → IsCodeOf s.system set graphs → IsYes set graphs c → IsRunOf set s → IsKept (state s n) → x < length s.lines →
+    HasTaskRanges set → IsCodeOf s.system set graphs → IsYes set graphs c → IsRunOf set s
+    → IsKept (state s n) → x < length s.lines →
     let steps = s.system.platform.switch + (certified_task c (job_task s x)).part.bound in
-    first + steps ≤ n → IsUndisturbed s x first steps → IsAnsweredBy (first + steps) (job_after s n x).standing
+    first + steps ≤ n → IsUndisturbed s x first steps
+    → IsAnsweredBy (first + steps) (job_after s n x).standing

@@ -15,8 +15,10 @@ use Rattle.run_account.specs.Nodes.{job_task}
 use Rattle.run_account.specs.Ledger.{IsWindowStart, LedgerReload, IsLedger}
 use Rattle.sound_laws.specs.Walks.{HasTaskRanges, IsCodeOf, RunsLegally}
 
--- after a yes, a legal run that is kept after n steps, with its ledger, and a job that has answered, with its window's start
-pub record HasAnswered (s : Start) (set : TaskSet) (graphs : ℕ → TaskGraph) (c : Certificate) (n : ℕ) (ledger : List LedgerReload) (x start answer : ℕ) : Type 0 where
+-- after a yes, a legal run that is kept after n steps, with its ledger, and a job that has
+-- answered, with its window's start
+pub record HasAnswered (s : Start) (set : TaskSet) (graphs : ℕ → TaskGraph) (c : Certificate)
+    (n : ℕ) (ledger : List LedgerReload) (x start answer : ℕ) : Type 0 where
   pub in_range : HasTaskRanges set
   pub code : IsCodeOf s.system set graphs
   pub says : IsYes set graphs c
@@ -27,9 +29,11 @@ pub record HasAnswered (s : Start) (set : TaskSet) (graphs : ℕ → TaskGraph) 
   pub answered : (job_after s n x).standing ≡ Answered answer
   pub starts : IsWindowStart s x start
 
--- the entries of the window: those made from its start to the answer by jobs of priority at least the job's
+-- the entries of the window: those made from its start to the answer by jobs of priority at least
+-- the job's
 abbrev pub is_reload_in_window : Start → ℕ → ℕ → ℕ → LedgerReload → Bool
-is_reload_in_window s x start answer e = nat_le start e.time && nat_lt e.time answer && nat_le (job_task s e.job) (job_task s x)
+is_reload_in_window s x start answer e =
+    nat_le start e.time && nat_lt e.time answer && nat_le (job_task s e.job) (job_task s x)
 
 -- those with an evictor of task j, and those with a preemptor of task j
 abbrev pub evicted_by : Start → ℕ → LedgerReload → Bool
@@ -40,11 +44,15 @@ preempted_by s j e = job_task s e.preemptor == j
 
 -- of each higher task j both delays hold, whichever method the certificate names
 pub record LedgerWithinDelays : Type 0 where
-  pub ucb : (s : Start) (set : TaskSet) (graphs : ℕ → TaskGraph) (c : Certificate) (n : ℕ) (ledger : List LedgerReload) (x start answer j : ℕ) →
+  pub ucb : (s : Start) (set : TaskSet) (graphs : ℕ → TaskGraph) (c : Certificate) (n : ℕ)
+      (ledger : List LedgerReload) (x start answer j : ℕ) →
       HasAnswered s set graphs c n ledger x start answer → j < job_task s x →
-      count_by (λ e. is_reload_in_window s x start answer e && evicted_by s j e) ledger * set.platform.miss
+      count_by (λ e. is_reload_in_window s x start answer e && evicted_by s j e)
+      ledger * set.platform.miss
       ≤ gamma_ucb set (certified_part c) (window_at c) (window_at c (job_task s x)) (job_task s x) j
-  pub ecb : (s : Start) (set : TaskSet) (graphs : ℕ → TaskGraph) (c : Certificate) (n : ℕ) (ledger : List LedgerReload) (x start answer j : ℕ) →
+  pub ecb : (s : Start) (set : TaskSet) (graphs : ℕ → TaskGraph) (c : Certificate) (n : ℕ)
+      (ledger : List LedgerReload) (x start answer j : ℕ) →
       HasAnswered s set graphs c n ledger x start answer → j < job_task s x →
-      count_by (λ e. is_reload_in_window s x start answer e && preempted_by s j e) ledger * set.platform.miss
+      count_by (λ e. is_reload_in_window s x start answer e && preempted_by s j e)
+      ledger * set.platform.miss
       ≤ gamma_ecb set (certified_part c) (window_at c) (window_at c (job_task s x)) (job_task s x) j

@@ -1,5 +1,6 @@
 -- The nodes of a job's fetches, and that they are a kept walk of its task's graph.
-use Rattle.std.specs.Prelude.{◌≡◌, ◌≢◌, ℕ, ◌<◌, ◌≤◌, true, ◌==◌, if◌then◌else◌, List, [], ◌∷◌, length, drop, Some}
+use Rattle.std.specs.Prelude.{◌≡◌, ◌≢◌, ℕ, ◌<◌, ◌≤◌, true, ◌==◌, if◌then◌else◌, List, [], ◌∷◌}
+use Rattle.std.specs.Prelude.{length, drop, Some}
 use Rattle.crpd_base.specs.declared.data.TaskPlan.{TaskPlan}
 use Rattle.crpd_base.specs.declared.data.TaskSet.{TaskSet}
 use Rattle.rv_decode.specs.Flow.{Words, IsCodeMap, flows}
@@ -26,7 +27,8 @@ pub record HasTaskRanges (set : TaskSet) : Type 0 where
   pub periods : (k : ℕ) → k < length set.tasks → 1 ≤ period_of set k
   pub deadlines : (k : ℕ) → k < length set.tasks → deadline_of set k ≤ period_of set k
 
--- what is asked of a run: a cache with an entry for each of the platform's sets, and jobs of the set's tasks
+-- what is asked of a run: a cache with an entry for each of the platform's sets, and jobs of the
+-- set's tasks
 pub record RunsJobsOf (set : TaskSet) (s : Start) : Type 0 where
   pub cache : s.system.platform.sets ≤ length s.cache
   pub tasks : NamesTasks set s.lines
@@ -43,15 +45,18 @@ pub record IsCodeOf (sys : System) (set : TaskSet) (graphs : ℕ → TaskGraph) 
   pub map : IsCodeMap sys.word
   pub graphs_of : (k : ℕ) → k < length set.tasks → IsGraphOf sys.word (plan_of sys k) (graphs k)
 
--- the nodes before the job's own node, of which it may be in the middle, where these are the nodes of its fetches
+-- the nodes before the job's own node, of which it may be in the middle, where these are the nodes
+-- of its fetches
 abbrev pub before_of : Job → List ℕ → List ℕ
 before_of job nodes = if job.left == 0 then nodes else drop 1 nodes
 
 -- a job stands at a node to which its fetches lead, with the open loops and counts of the walk
-pub record IsOnWalk (words : Words) (plan : TaskPlan) (t : TaskGraph) (job : Job) (nodes : List ℕ) : Type 0 where
+pub record IsOnWalk (words : Words) (plan : TaskPlan) (t : TaskGraph) (job : Job)
+    (nodes : List ℕ) : Type 0 where
   pub frames : List Frame
   pub watch : job.watch ≡ Some frames
-  pub walked : IsWatchedWalk (flows words) plan t.graph t.places t.nest (node_of_job t job) (before_of job nodes) job.pc frames
+  pub walked : IsWatchedWalk (flows words) plan t.graph t.places t.nest (node_of_job t job)
+      (before_of job nodes) job.pc frames
   pub under_way : job.left ≢ 0 → nodes ≡ node_of_job t job ∷ before_of job nodes
 
 -- no node yet, or a kept walk
@@ -59,11 +64,14 @@ abbrev pub IsNoneOrKeptWalk : TaskGraph → List ℕ → Type 0
 IsNoneOrKeptWalk t [] = Unit {0}
 IsNoneOrKeptWalk t (y ∷ before) = IsWalk t.graph (y ∷ before) × IsKeptWalk t.nest (y ∷ before)
 
--- while its watch is not broken, each job's fetches are a kept walk, and an open job goes on from it
+-- while its watch is not broken, each job's fetches are a kept walk, and an open job goes on from
+-- it
 abbrev pub FetchesAreKeptWalk : Type 0
 FetchesAreKeptWalk =
     (s : Start) (set : TaskSet) (graphs : ℕ → TaskGraph) (n x : ℕ) →
     HasTaskRanges set → IsCodeOf s.system set graphs → NamesTasks set s.lines → x < length s.lines →
     is_unbroken (job_after s n x).watch ≡ true →
     IsNoneOrKeptWalk (graphs (job_task s x)) (fetched_nodes s graphs n x)
-    × (is_open (job_after s n x).standing ≡ true → IsOnWalk s.system.word (plan_at s x) (graphs (job_task s x)) (job_after s n x) (fetched_nodes s graphs n x))
+    × (is_open (job_after s n x).standing ≡ true
+    → IsOnWalk s.system.word (plan_at s x) (graphs (job_task s x)) (job_after s n x)
+    (fetched_nodes s graphs n x))

@@ -14,8 +14,10 @@ use Rattle.run_account.specs.Ledger.{IsEvicted, IsPreempted, IsWindowStart}
 use Rattle.sound_laws.specs.Walks.{HasTaskRanges, IsCodeOf, RunsLegally}
 use Rattle.sound_laws.specs.CyclesToGo.{count_below}
 
--- after a yes, a legal run that is kept up to a step, and a job i that is open up to it, with its window's start
-pub record HasWindow (s : Start) (set : TaskSet) (graphs : ℕ → TaskGraph) (c : Certificate) (i t until : ℕ) : Type 0 where
+-- after a yes, a legal run that is kept up to a step, and a job i that is open up to it, with its
+-- window's start
+pub record HasWindow (s : Start) (set : TaskSet) (graphs : ℕ → TaskGraph) (c : Certificate)
+    (i t until : ℕ) : Type 0 where
   pub in_range : HasTaskRanges set
   pub code : IsCodeOf s.system set graphs
   pub says : IsYes set graphs c
@@ -27,19 +29,28 @@ pub record HasWindow (s : Start) (set : TaskSet) (graphs : ℕ → TaskGraph) (c
 
 -- entries of the window by jobs of priority at least i's, with an evictor of task j
 abbrev pub EvictedBy : Start → (ℕ → TaskGraph) → Certificate → ℕ → ℕ → ℕ → ℕ → Type 0
-EvictedBy s graphs c i t j n = (t ≤ n) × (x y : ℕ) × (job_task s x ≤ job_task s i) × (job_task s y ≡ j) × IsEvicted s graphs c n x y
+EvictedBy s graphs c i t j n =
+    (t ≤ n) × (x y : ℕ) × (job_task s x ≤ job_task s i) × (job_task s y ≡ j)
+    × IsEvicted s graphs c n x y
 
 -- and with a preemptor of task j
 abbrev pub PreemptedBy : Start → (ℕ → TaskGraph) → Certificate → ℕ → ℕ → ℕ → ℕ → Type 0
-PreemptedBy s graphs c i t j n = (t ≤ n) × (x p : ℕ) × (job_task s x ≤ job_task s i) × (job_task s p ≡ j) × IsPreempted s graphs c n x p
+PreemptedBy s graphs c i t j n =
+    (t ≤ n) × (x p : ℕ) × (job_task s x ≤ job_task s i) × (job_task s p ≡ j)
+    × IsPreempted s graphs c n x p
 
--- both delays hold, whichever method the certificate names: of steps that a test passes, each with such an entry
+-- both delays hold, whichever method the certificate names: of steps that a test passes, each with
+-- such an entry
 pub record ReloadsWithinDelays : Type 0 where
-  pub ucb : (s : Start) (set : TaskSet) (graphs : ℕ → TaskGraph) (c : Certificate) (i t until j : ℕ) (test : ℕ → Bool) →
+  pub ucb : (s : Start) (set : TaskSet) (graphs : ℕ → TaskGraph) (c : Certificate) (i t until j : ℕ)
+      (test : ℕ → Bool) →
       HasWindow s set graphs c i t until → j ≤ job_task s i →
       ((n : ℕ) → test n ≡ true → (n < until) × EvictedBy s graphs c i t j n) →
-      set.platform.miss * count_below test until ≤ gamma_ucb set (certified_part c) (window_at c) (window_at c (job_task s i)) (job_task s i) j
-  pub ecb : (s : Start) (set : TaskSet) (graphs : ℕ → TaskGraph) (c : Certificate) (i t until j : ℕ) (test : ℕ → Bool) →
+      set.platform.miss * count_below test until
+      ≤ gamma_ucb set (certified_part c) (window_at c) (window_at c (job_task s i)) (job_task s i) j
+  pub ecb : (s : Start) (set : TaskSet) (graphs : ℕ → TaskGraph) (c : Certificate) (i t until j : ℕ)
+      (test : ℕ → Bool) →
       HasWindow s set graphs c i t until → j ≤ job_task s i →
       ((n : ℕ) → test n ≡ true → (n < until) × PreemptedBy s graphs c i t j n) →
-      set.platform.miss * count_below test until ≤ gamma_ecb set (certified_part c) (window_at c) (window_at c (job_task s i)) (job_task s i) j
+      set.platform.miss * count_below test until
+      ≤ gamma_ecb set (certified_part c) (window_at c) (window_at c (job_task s i)) (job_task s i) j

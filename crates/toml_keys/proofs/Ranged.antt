@@ -1,5 +1,6 @@
 -- The ranges of what was read.
-use Rattle.std.proofs.Common.{◌≡◌, ◌⊎◌, ℕ, ◌≤◌, Bool, true, nat_le, List, length, Option, Some, None, Result, Ok, Err, refl, ap, subst, inl, inr, arith, pos}
+use Rattle.std.proofs.Common.{◌≡◌, ◌⊎◌, ℕ, ◌≤◌, Bool, true, nat_le, List, length, Option, Some}
+use Rattle.std.proofs.Common.{None, Result, Ok, Err, refl, ap, subst, inl, inr, arith, pos}
 use Rattle.std.proofs.lemmas.Bool.{cases_Bool, leb-true}
 use Rattle.std.proofs.lemmas.Bool.Decides.{nat_tests}
 use Rattle.std.proofs.lemmas.Option.{same_Some}
@@ -26,7 +27,8 @@ between_ok low high n e =
     ]
 
 -- a value that passed a test
-pub only_ok : {A : Type 0} (test : A → Bool) (o : Option A) (x : A) → only test o ≡ Some x → (test x ≡ true) × (o ≡ Some x)
+pub only_ok : {A : Type 0} (test : A → Bool) (o : Option A) (x : A) → only test o ≡ Some x
+    → (test x ≡ true) × (o ≡ Some x)
 only_ok test None x e = absurd cc
 only_ok test (Some y) x e =
     elim (cases_Bool (test y)) [
@@ -42,43 +44,55 @@ line_between n e = record { reaches = grind (arith, nat_tests); within = grind (
 
 -- ---- keys of a TOML table
 
-pub whole_between : (low high : ℕ) (d : Data) (n : ℕ) → whole low high d ≡ Some n → IsBetween low high n
-whole_between low high (integer (pos m)) n e = let passed = only_ok (is_between low high) (Some m) n e in between_ok low high n passed.0
+pub whole_between : (low high : ℕ) (d : Data) (n : ℕ) → whole low high d ≡ Some n
+    → IsBetween low high n
+whole_between low high (integer (pos m)) n e =
+    let passed = only_ok (is_between low high) (Some m) n e in between_ok low high n passed.0
 whole_between low high d n e = absurd cc
 
-good_ok : {A : Type 0} (path key : List ℕ) (o : Option A) (x : A) → value_or_bad path key o ≡ Ok x → o ≡ Some x
+good_ok : {A : Type 0} (path key : List ℕ) (o : Option A) (x : A) → value_or_bad path key o ≡ Ok x
+    → o ≡ Some x
 good_ok path key None x e = absurd cc
 good_ok path key (Some y) x e = ap (λ v. Some v) (ok_is y x e)
 
 -- the value of a key's kind
-pub required_ok : {A : Type 0} (read : Data → Option A) (path key : List ℕ) (ms : Members) (x : A) → required read path key ms ≡ Ok x → (d : Data) × (read d ≡ Some x)
+pub required_ok : {A : Type 0} (read : Data → Option A) (path key : List ℕ) (ms : Members) (x : A)
+    → required read path key ms ≡ Ok x → (d : Data) × (read d ≡ Some x)
 unfolding required
 required_ok read path key ms x e =
     let d = bind_ok (value_at_key path key ms) _ x e in
     (d.0, good_ok path key (read d.0) x d.2)
 
-optional_by : {A : Type 0} (default : A) (read : Data → Option A) (path key : List ℕ) (o : Option Data) (x : A)
-    → ◌≡◌ {A = Result A KeyError} (elim o [ None ↦ Ok default | Some d ↦ value_or_bad path key (read d) ]) (Ok x) → (default ≡ x) ⊎ ((d : Data) × (read d ≡ Some x))
+optional_by : {A : Type 0} (default : A) (read : Data → Option A) (path key : List ℕ)
+    (o : Option Data) (x : A)
+    → ◌≡◌ {A = Result A KeyError}
+    (elim o [ None ↦ Ok default | Some d ↦ value_or_bad path key (read d) ]) (Ok x)
+    → (default ≡ x) ⊎ ((d : Data) × (read d ≡ Some x))
 optional_by default read path key None x e = inl (ok_is default x e)
 optional_by default read path key (Some d) x e = inr (d, good_ok path key (read d) x e)
 
-pub optional_ok : {A : Type 0} (default : A) (read : Data → Option A) (path key : List ℕ) (ms : Members) (x : A) → optional default read path key ms ≡ Ok x → (default ≡ x) ⊎ ((d : Data) × (read d ≡ Some x))
+pub optional_ok : {A : Type 0} (default : A) (read : Data → Option A) (path key : List ℕ)
+    (ms : Members) (x : A) → optional default read path key ms ≡ Ok x
+    → (default ≡ x) ⊎ ((d : Data) × (read d ≡ Some x))
 unfolding optional
 optional_ok default read path key ms x e = optional_by default read path key (get_member key ms) x e
 
-pub required_between : (low high : ℕ) (path key : List ℕ) (ms : Members) (n : ℕ) → required (whole low high) path key ms ≡ Ok n → IsBetween low high n
+pub required_between : (low high : ℕ) (path key : List ℕ) (ms : Members) (n : ℕ)
+    → required (whole low high) path key ms ≡ Ok n → IsBetween low high n
 required_between low high path key ms n e =
     let d = required_ok (whole low high) path key ms n e in
     whole_between low high d.0 n d.1
 
-pub optional_within : (high : ℕ) (path key : List ℕ) (ms : Members) (n : ℕ) → optional 0 (whole 0 high) path key ms ≡ Ok n → n ≤ high
+pub optional_within : (high : ℕ) (path key : List ℕ) (ms : Members) (n : ℕ)
+    → optional 0 (whole 0 high) path key ms ≡ Ok n → n ≤ high
 optional_within high path key ms n e =
     elim (optional_ok 0 (whole 0 high) path key ms n e) [
       | inl zero ↦ omega (arith, zero)
       | inr d ↦ (whole_between 0 high d.0 n d.1).within
     ]
 
-pub at_most_ok : {A : Type 0} (n : ℕ) (o : Option (List A)) (xs : List A) → at_most n o ≡ Some xs → length xs ≤ n
+pub at_most_ok : {A : Type 0} (n : ℕ) (o : Option (List A)) (xs : List A) → at_most n o ≡ Some xs
+    → length xs ≤ n
 at_most_ok n None xs e = absurd cc
 at_most_ok n (Some ys) xs e =
     elim (cases_Bool (nat_le (length ys) n)) [

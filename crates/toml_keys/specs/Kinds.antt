@@ -11,4 +11,6 @@ only test (Some x) = if test x then Some x else None
 
 -- where a switch may happen, by its name
 abbrev pub switching_named : List ℕ → Option Switching
-switching_named s = if bytes_eq s (codes "cycle") then Some Cycle else if bytes_eq s (codes "instruction") then Some Instruction else None
+switching_named s =
+    if bytes_eq s (codes "cycle") then Some Cycle else if bytes_eq s (codes "instruction")
+    then Some Instruction else None

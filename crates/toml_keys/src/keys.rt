@@ -1,4 +1,5 @@
-ghost use Rattle.std.specs.Prelude.{◌≡◌, ℕ, ◌++◌, ◌≤◌, length, map, option_map, option_copied, string_bytes, None, IfOk};
+ghost use Rattle.std.specs.Prelude.{◌≡◌, ℕ, ◌++◌, ◌≤◌, length, map, option_map, option_copied};
+ghost use Rattle.std.specs.Prelude.{string_bytes, None, IfOk};
 ghost use Rattle.toml.specs.Data.{get_member};
 ghost use Rattle.toml.specs.View.{view, table_view};
 ghost use Rattle.toml_keys.specs.Reading as spec;
@@ -10,8 +11,8 @@ use crpd_base::Text;
 use std::alloc::{AllocError, Global};
 use toml::{Table, Value};
 
-/// The path of a key: that of its table, and the key. Time and memory are those of the path; the only error is want of
-/// memory.
+/// The path of a key: that of its table, and the key. Time and memory are those of the path; the
+/// only error is want of memory.
 pub fn key_path(alloc: Global, path: &str, key: &str) -> Result<Text, AllocError>
     ensures { IfOk result (λ t. t ≡ path.now ++ key.now) }
 {
@@ -20,8 +21,8 @@ pub fn key_path(alloc: Global, path: &str, key: &str) -> Result<Text, AllocError
     Ok(Text::new(text))
 }
 
-/// The path of the table at a place, counted from 0, in the list at a key, with a point at the end. Time and memory are
-/// those of the path; the only error is want of memory.
+/// The path of the table at a place, counted from 0, in the list at a key, with a point at the end.
+/// Time and memory are those of the path; the only error is want of memory.
 pub fn item_path(alloc: Global, path: &str, key: &str, place: usize) -> Result<String, AllocError>
     ensures { IfOk result (λ s. string_bytes s ≡ spec.item_path path.now key.now place) }
 {
@@ -42,7 +43,8 @@ fn is_listed(key: &str, keys: &[&str]) -> bool
 
 /// The lesser of two texts by bytes.
 fn lesser<'a>(least: Option<&'a str>, key: &'a str) -> Option<&'a str>
-    ensures { option_map (λ k. k.now) result ≡ spec.lesser_key (option_map (λ k. k.now) least.entry) key.now }
+    ensures { option_map (λ k. k.now) result
+        ≡ spec.lesser_key (option_map (λ k. k.now) least.entry) key.now }
 {
     match least {
         Some(other) if key >= other => Some(other),
@@ -52,7 +54,8 @@ fn lesser<'a>(least: Option<&'a str>, key: &'a str) -> Option<&'a str>
 
 /// The least key of a table, by bytes, that is not one of these.
 fn least_unknown<'a>(table: &'a Table, keys: &[&str]) -> Option<&'a str>
-    ensures { option_map (λ k. k.now) result ≡ spec.least_unknown (map (λ k. k.now) keys.now) None (table_view table.now) }
+    ensures { option_map (λ k. k.now) result
+        ≡ spec.least_unknown (map (λ k. k.now) keys.now) None (table_view table.now) }
 {
     let mut least: Option<&'a str> = None;
     for (key, _) in table {
@@ -69,21 +72,25 @@ fn least_unknown<'a>(table: &'a Table, keys: &[&str]) -> Option<&'a str>
 pub struct Keys<'a> {
     /// The table.
     pub table: &'a Table,
-    /// What stands before each of its keys in a path: empty for the whole file, else with a point at the end.
+    /// What stands before each of its keys in a path: empty for the whole file, else with a point
+    /// at the end.
     pub path: &'a str,
 }
 
 impl<'a> Keys<'a> {
     /// The value at a key, None where it is absent. It takes no memory.
     pub fn get(&self, key: &str) -> Option<&'a Value>
-        ensures { option_map (λ v. view v.now) result ≡ get_member key.now (table_view self.now.table.now) }
+        ensures { option_map (λ v. view v.now) result
+            ≡ get_member key.now (table_view self.now.table.now) }
     {
         self.table.get(key)
     }
 
-    /// The value at a key that has to be there, else `Missing`. Memory is taken for the path of a refusal alone.
+    /// The value at a key that has to be there, else `Missing`. Memory is taken for the path of a
+    /// refusal alone.
     pub fn present(&self, alloc: Global, key: &str) -> Result<&'a Value, KeyError>
-        ensures { Gives KeyError.Memory (λ v. view v.now) result (spec.value_at_key self.now.path.now key.now (table_view self.now.table.now)) }
+        ensures { Gives KeyError.Memory (λ v. view v.now) result
+            (spec.value_at_key self.now.path.now key.now (table_view self.now.table.now)) }
     {
         match self.get(key) {
             Some(value) => Ok(value),
@@ -91,9 +98,11 @@ impl<'a> Keys<'a> {
         }
     }
 
-    /// What was read from the value at a key, else `BadValue`. Memory is taken for the path of a refusal alone.
+    /// What was read from the value at a key, else `BadValue`. Memory is taken for the path of a
+    /// refusal alone.
     pub fn good<T: Drop>(&self, alloc: Global, key: &str, read: Option<T>) -> Result<T, KeyError>
-        ensures { Gives KeyError.Memory (λ x. x) result (spec.value_or_bad self.now.path.now key.now read) }
+        ensures { Gives KeyError.Memory (λ x. x) result
+            (spec.value_or_bad self.now.path.now key.now read) }
     {
         match read {
             Some(x) => Ok(x),
@@ -101,11 +110,13 @@ impl<'a> Keys<'a> {
         }
     }
 
-    /// Each key of the table is one of these, else `UnknownKey`. Time is that of all pairs of a key and a listed one;
-    /// memory is taken for the path of a refusal alone.
+    /// Each key of the table is one of these, else `UnknownKey`. Time is that of all pairs of a key
+    /// and a listed one; memory is taken for the path of a refusal alone.
     #[tactic(auto, unfolding(crate::specs::Reading::all_known))]
     pub fn all_known(&self, alloc: Global, keys: &[&str]) -> Result<(), KeyError>
-        ensures { Gives KeyError.Memory (λ x. x) result (spec.all_known (map (λ k. k.now) keys.now) self.now.path.now (table_view self.now.table.now)) }
+        ensures { Gives KeyError.Memory (λ x. x) result
+            (spec.all_known (map (λ k. k.now) keys.now) self.now.path.now
+            (table_view self.now.table.now)) }
     {
         match least_unknown(self.table, keys) {
             None => Ok(()),
@@ -113,19 +124,21 @@ impl<'a> Keys<'a> {
         }
     }
 
-    /// A required whole number from `low` to `high`, else `Missing` or `BadValue`. Memory is taken for the path of a
-    /// refusal alone.
+    /// A required whole number from `low` to `high`, else `Missing` or `BadValue`. Memory is taken
+    /// for the path of a refusal alone.
     #[tactic(auto, unfolding(crate::specs::Reading::required))]
     pub fn number(&self, alloc: Global, key: &str, low: u64, high: u64) -> Result<u64, KeyError>
-        ensures is { Gives KeyError.Memory (λ x. x) result (spec.required (spec.whole low high) self.now.path.now key.now (table_view self.now.table.now)) }
+        ensures is { Gives KeyError.Memory (λ x. x) result
+            (spec.required (spec.whole low high) self.now.path.now key.now
+            (table_view self.now.table.now)) }
         ensures bound { IfOk result (λ n. n ≤ high) }
     {
         let value = self.present(alloc, key)?;
         self.good(alloc, key, whole(value, low, high))
     }
 
-    /// A required whole number from `low` to `high`, else `Missing` or `BadValue`. Memory is taken for the path of a
-    /// refusal alone.
+    /// A required whole number from `low` to `high`, else `Missing` or `BadValue`. Memory is taken
+    /// for the path of a refusal alone.
     pub fn small_number(
         &self,
         alloc: Global,
@@ -133,14 +146,16 @@ impl<'a> Keys<'a> {
         low: u32,
         high: u32,
     ) -> Result<u32, KeyError>
-        ensures { Gives KeyError.Memory (λ x. x) result (spec.required (spec.whole low high) self.now.path.now key.now (table_view self.now.table.now)) }
+        ensures { Gives KeyError.Memory (λ x. x) result
+            (spec.required (spec.whole low high) self.now.path.now key.now
+            (table_view self.now.table.now)) }
     {
         let number = self.number(alloc, key, u64::from(low), u64::from(high))?;
         Ok(number as u32)
     }
 
-    /// An optional number from `low` to `high`, else `BadValue`; 0 where the key is absent. Memory is taken for the
-    /// path of a refusal alone.
+    /// An optional number from `low` to `high`, else `BadValue`; 0 where the key is absent. Memory
+    /// is taken for the path of a refusal alone.
     #[tactic(auto, unfolding(crate::specs::Reading::optional))]
     pub fn number_or_zero(
         &self,
@@ -149,7 +164,9 @@ impl<'a> Keys<'a> {
         low: u32,
         high: u32,
     ) -> Result<u32, KeyError>
-        ensures { Gives KeyError.Memory (λ x. x) result (spec.optional 0 (spec.whole low high) self.now.path.now key.now (table_view self.now.table.now)) }
+        ensures { Gives KeyError.Memory (λ x. x) result
+            (spec.optional 0 (spec.whole low high) self.now.path.now key.now
+            (table_view self.now.table.now)) }
     {
         match self.get(key) {
             None => Ok(0),

@@ -6,7 +6,8 @@ ghost use Rattle.toml_keys.specs.Kinds as spec;
 use crpd_base::{Switching, is_name};
 use std::alloc::{AllocError, Global};
 
-/// The length of a cache line in bytes: 4, 8, 16, 32 or 64; None for any other number. In constant time.
+/// The length of a cache line in bytes: 4, 8, 16, 32 or 64; None for any other number. In constant
+/// time.
 pub fn line_length(number: u64) -> Option<u32>
     ensures { result ≡ spec.only is_line_length (Some number) }
 {
@@ -17,7 +18,8 @@ pub fn line_length(number: u64) -> Option<u32>
     }
 }
 
-/// Where a context switch may happen: `cycle` or `instruction`; None for any other text. In constant time.
+/// Where a context switch may happen: `cycle` or `instruction`; None for any other text. In
+/// constant time.
 pub fn switching_named(text: &str) -> Option<Switching>
     ensures { result ≡ spec.switching_named text.now }
 {
@@ -28,9 +30,11 @@ pub fn switching_named(text: &str) -> Option<Switching>
     }
 }
 
-/// A copy of a task's name, 1 to 32 bytes; None for any other text, and for none. The only error is want of memory.
+/// A copy of a task's name, 1 to 32 bytes; None for any other text, and for none. The only error is
+/// want of memory.
 pub fn task_name(alloc: Global, text: Option<&str>) -> Result<Option<String>, AllocError>
-    ensures { IfOk result (λ s. option_map string_bytes s ≡ spec.only is_name (option_map (λ t. t.now) text.entry)) }
+    ensures { IfOk result (λ s.
+        option_map string_bytes s ≡ spec.only is_name (option_map (λ t. t.now) text.entry)) }
 {
     match text {
         Some(text) if is_name(text) => Ok(Some(String::from_str(alloc, text)?)),

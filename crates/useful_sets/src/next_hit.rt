@@ -1,5 +1,6 @@
 // Of which sets the next access is a hit, as a dataflow problem against the edges.
-ghost use Rattle.std.specs.Prelude.{◌≡◌, ℕ, ◌<◌, ◌≤◌, ◌*◌, ◌==◌, if◌then◌else◌, Some, None, IfOk, IsSome, length, slice_index_or, false};
+ghost use Rattle.std.specs.Prelude.{◌≡◌, ℕ, ◌<◌, ◌≤◌, ◌*◌, ◌==◌, if◌then◌else◌, Some, None, IfOk};
+ghost use Rattle.std.specs.Prelude.{IsSome, length, slice_index_or, false};
 ghost use Rattle.crpd_base.specs.Sets.{has};
 ghost use Rattle.icache.specs.Accesses.{accesses};
 ghost use Rattle.flat_graph.specs.CodeGraph.{graph_of, places_of};
@@ -30,8 +31,8 @@ fn put_where<const W: usize>(sets: &mut SetBits<W>, set: u16, keep: bool)
     }
 }
 
-/// The sets whose next access after a node is at a hit, on some path. In the flow, which is against the edges, that is
-/// the fact before the node.
+/// The sets whose next access after a node is at a hit, on some path. In the flow, which is against
+/// the edges, that is the fact before the node.
 #[derive(Clone, Copy)]
 struct NextHit<'a, const W: usize> {
     graph: &'a Graph,
@@ -51,7 +52,9 @@ impl<const W: usize> Domain for NextHit<'_, W> {
 
     ghost joined = { either_marks };
 
-    ghost passed = { λ d n after. before_access (accesses d.geometry.now.platform (places_of d.graph.now).address) (λ y. slice_index_or d.hits.now y false) n after };
+    ghost passed = { λ d n after.
+        before_access (accesses d.geometry.now.platform (places_of d.graph.now).address)
+        (λ y. slice_index_or d.hits.now y false) n after };
 
     ghost begins = { λ d n. Some (λ s. false) };
 
@@ -84,7 +87,9 @@ impl<const W: usize> Domain for NextHit<'_, W> {
 
     ghost joins = { either_joins };
 
-    ghost distributes = { λ d n a b. before_distributes (accesses d.geometry.now.platform (places_of d.graph.now).address) (λ y. slice_index_or d.hits.now y false) n a b };
+    ghost distributes = { λ d n a b.
+        before_distributes (accesses d.geometry.now.platform (places_of d.graph.now).address)
+        (λ y. slice_index_or d.hits.now y false) n a b };
 
     ghost bounded = { λ d v. few_marked v (64 * W) };
 }
@@ -98,9 +103,13 @@ fn all_before<const W: usize>(
     requires count { length after.now ≡ (graph_of domain.now.graph.now).size }
     requires there { (n : ℕ) → n < length after.now → IsSome (slice_index_or after.now n None) }
     ensures count { IfOk result (λ before. length before.items ≡ length after.now) }
-    ensures each { IfOk result (λ before. (n s : ℕ) (sets : _) → n < length after.now → slice_index_or after.now n None ≡ Some sets →
+    ensures each { IfOk result
+        (λ before. (n s : ℕ) (sets : _) → n < length after.now
+        → slice_index_or after.now n None ≡ Some sets →
         has (sets_at before.items n) s ≡
-        before_access (accesses domain.now.geometry.now.platform (places_of domain.now.graph.now).address) (λ y. slice_index_or domain.now.hits.now y false) n (has sets) s) }
+        before_access
+        (accesses domain.now.geometry.now.platform (places_of domain.now.graph.now).address)
+        (λ y. slice_index_or domain.now.hits.now y false) n (has sets) s) }
 {
     let mut before = Vec::with_capacity(alloc, after.len())?;
     for node in 0..domain.graph.len() {
@@ -114,8 +123,9 @@ fn all_before<const W: usize>(
     Ok(before)
 }
 
-/// The useful cache sets before each node, from which nodes are hits by Sure: `hits` is what `sure_hits` of
-/// `must_cache` gives for this graph and geometry. Time and memory are those of `useful`.
+/// The useful cache sets before each node, from which nodes are hits by Sure: `hits` is what
+/// `sure_hits` of `must_cache` gives for this graph and geometry. Time and memory are those of
+/// `useful`.
 pub fn useful_by_hits<const W: usize>(
     alloc: Global,
     graph: &Graph,
@@ -128,7 +138,9 @@ pub fn useful_by_hits<const W: usize>(
     requires each { CountsSureHits (graph_of graph.now)
         (accesses geometry.now.platform (places_of graph.now).address)
         (λ y. slice_index_or hits.now y false) }
-    ensures { IfOk result (λ sets. AreUseful (graph_of graph.now) (accesses geometry.now.platform (places_of graph.now).address) sets.items) }
+    ensures { IfOk result (λ sets.
+        AreUseful (graph_of graph.now)
+        (accesses geometry.now.platform (places_of graph.now).address) sets.items) }
 {
     let edges = edges(alloc, graph)?;
     let Some(flow) = EdgeList::new(graph.len(), &edges) else {
@@ -146,12 +158,13 @@ pub fn useful_by_hits<const W: usize>(
     }
 }
 
-/// The useful cache sets before each node, by the nodes' numbers: a set is useful where it surely holds a block that
-/// some path from the node on accesses next in this set, at an access that is surely a hit. `must` is what `must` of
-/// `must_cache` gives for this graph and geometry.
+/// The useful cache sets before each node, by the nodes' numbers: a set is useful where it surely
+/// holds a block that some path from the node on accesses next in this set, at an access that is
+/// surely a hit. `must` is what `must` of `must_cache` gives for this graph and geometry.
 ///
-/// The one refusal is want of memory; two sets of numbers for each node and one for each cache set are taken. An edge is
-/// followed once where the graph has no cycle, and else again where the sets at its target have grown.
+/// The one refusal is want of memory; two sets of numbers for each node and one for each cache set
+/// are taken. An edge is followed once where the graph has no cycle, and else again where the sets
+/// at its target have grown.
 pub fn useful<const S: usize, const W: usize>(
     alloc: Global,
     graph: &Graph,
@@ -161,8 +174,11 @@ pub fn useful<const S: usize, const W: usize>(
     requires room { geometry.now.platform.sets ≤ S }
     requires few { 64 * W ≤ 65536 }
     requires room_for_sets { geometry.now.platform.sets ≤ 64 * W }
-    requires sure { AreSure (graph_of graph.now) (accesses geometry.now.platform (places_of graph.now).address) must.now }
-    ensures { IfOk result (λ sets. AreUseful (graph_of graph.now) (accesses geometry.now.platform (places_of graph.now).address) sets.items) }
+    requires sure { AreSure (graph_of graph.now)
+        (accesses geometry.now.platform (places_of graph.now).address) must.now }
+    ensures { IfOk result (λ sets.
+        AreUseful (graph_of graph.now)
+        (accesses geometry.now.platform (places_of graph.now).address) sets.items) }
 {
     let Ok(hits) = hits_of_states(alloc, graph, geometry, must) else {
         return Err(Memory);

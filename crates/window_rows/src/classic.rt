@@ -8,7 +8,8 @@ use fixtures::sets_of;
 use std::alloc::Global;
 use std::test::Fail;
 
-// How many jobs evict the sets 1 to 4, the useful sets of two affected tasks, and the delays by both methods.
+// How many jobs evict the sets 1 to 4, the useful sets of two affected tasks, and the delays by
+// both methods.
 static DELAYS: [(u64, &[u16], &[u16], u128, u128); 6] = [
     (1, &[1, 2], &[3, 4], 40, 20),
     (1, &[1, 2], &[2, 3, 4, 5], 40, 30),

@@ -23,8 +23,8 @@ const LONG: u64 = 10_000;
 // A period of 2^20, of which a high task leaves one cycle or none.
 const FAST: u64 = 1_048_576;
 
-// Tasks that take all but ten cycles in 2^20, of which a sixth are reloads that the first brings the second, and a task
-// below them.
+// Tasks that take all but ten cycles in 2^20, of which a sixth are reloads that the first brings
+// the second, and a task below them.
 static DELAYED: [Row; 17] = [
     (64, 64, 0, 22, 1, 0),
     (64, 64, 0, 2, 0, 1),
@@ -104,7 +104,8 @@ static WINDOWS: [(Switching, &[Row], &str); 11] = [
         ],
         "windows ucb 55 ucb 95 ucb 165",
     ),
-    // below a task that leaves one cycle in 2^20 the windows are long, and there are none below one that leaves nothing
+    // below a task that leaves one cycle in 2^20 the windows are long, and there are none below one
+    // that leaves nothing
     (
         Switching::Cycle,
         &[
@@ -141,7 +142,8 @@ fn windows_below_many(rt: HostRuntime) -> Result<(), Fail> {
     let crowd = crowd_of(rt.alloc(), 27_129)?;
     let got = answer(rt.alloc(), Switching::Cycle, &crowd, 8)?;
     assert_eq!(rt; got.as_str(), "none of 31");
-    // where the load is that of delays between the higher tasks too, the window is found without creeping as well
+    // where the load is that of delays between the higher tasks too, the window is found without
+    // creeping as well
     let got = answer(rt.alloc(), Switching::Cycle, &DELAYED, 1)?;
     assert!(rt; got.as_str().ends_with(" ucb 68719476736"));
     Ok(())

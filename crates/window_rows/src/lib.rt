@@ -1,5 +1,5 @@
-//! The worked rows of windows: those with counted delays, and those with the plain union delays of older tools. This crate
-//! has tests alone.
+//! The worked rows of windows: those with counted delays, and those with the plain union delays of
+//! older tools. This crate has tests alone.
 #![tactic(auto)]
 
 #[cfg(test)]

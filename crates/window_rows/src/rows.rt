@@ -13,7 +13,8 @@ use response::{Choice, WindowError};
 use std::alloc::{AllocError, Global};
 use std::test::Fail;
 
-// A task's period, deadline, jitter and bound, and its evicting and useful cache sets in each word of 64, as bits.
+// A task's period, deadline, jitter and bound, and its evicting and useful cache sets in each word
+// of 64, as bits.
 pub(crate) type Row = (u64, u64, u64, u64, u64, u64);
 
 // A set with its parts and the longest cost of an instruction of each task.
@@ -102,7 +103,8 @@ fn has_longest(set: &TaskSet, longest: &[u64]) -> bool
 }
 
 fn has_bounds(parts: &[Part]) -> bool
-    ensures { IsTrue result → (k : ℕ) → k < length parts.now → (part_at parts.now k).bound ≤ 2 ^ 40 }
+    ensures { IsTrue result → (k : ℕ) → k < length parts.now
+        → (part_at parts.now k).bound ≤ 2 ^ 40 }
 {
     for k in 0..parts.len() {
         let part = &parts[k];
@@ -123,7 +125,8 @@ pub(crate) fn numbers_of(
     requires { words ≤ 8 }
     ensures times { IfOk result (λ n. HasTimes n.set) }
     ensures parts { IfOk result (λ n. length n.parts.items ≡ length n.set.tasks) }
-    ensures bounds { IfOk result (λ n. (k : ℕ) → k < length n.set.tasks → (part_at n.parts.items k).bound ≤ 2 ^ 40) }
+    ensures bounds { IfOk result
+        (λ n. (k : ℕ) → k < length n.set.tasks → (part_at n.parts.items k).bound ≤ 2 ^ 40) }
     ensures longest { IfOk result (λ n. HasLongest n.set n.longest) }
 {
     let set = set_of(alloc, switching, rows)?;
@@ -165,9 +168,10 @@ pub(crate) fn told(
     }
 }
 
-// Thirty-one tasks with this bound that evict and use all 512 sets, and a task of the longest period below them. Each job of
-// the crowd takes its bound, two switches and 512 reloads. Where these leave two cycles of each period, the last task has a
-// window after 503 periods; where they leave none, it has none. Both are found without creeping.
+// Thirty-one tasks with this bound that evict and use all 512 sets, and a task of the longest
+// period below them. Each job of the crowd takes its bound, two switches and 512 reloads. Where
+// these leave two cycles of each period, the last task has a window after 503 periods; where they
+// leave none, it has none. Both are found without creeping.
 pub(crate) fn crowd_of(alloc: Global, bound: u64) -> Result<Vec<Row>, AllocError> {
     let mut rows = Vec::new(alloc);
     for _ in 0..31 {

@@ -26,4 +26,5 @@ pub three_pairs : (P : ℕ → ℕ → Type 0) → P 0 1 → P 0 2 → P 1 2 →
 three_pairs P a b c zero zero m l = absurd (omega (arith, m))
 three_pairs P a b c zero (suc j) m l = two (λ z. P 0 (suc z)) a b j (omega (arith, l))
 three_pairs P a b c (suc i) zero m l = absurd (omega (arith, m))
-three_pairs P a b c (suc i) (suc j) m l = one_pair (λ x y. P (suc x) (suc y)) c i j (omega (arith, m)) (omega (arith, l))
+three_pairs P a b c (suc i) (suc j) m l =
+    one_pair (λ x y. P (suc x) (suc y)) c i j (omega (arith, m)) (omega (arith, l))

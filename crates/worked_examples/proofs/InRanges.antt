@@ -20,7 +20,8 @@ is_platform sets some few =
       div = omega arith;
     }
 
-pub is_task : (name : List ℕ) (period : ℕ) → is_name name ≡ true → is_file name ≡ true → 1 ≤ period → period ≤ 2 ^ 40 → IsTaskSpec (named_task name period)
+pub is_task : (name : List ℕ) (period : ℕ) → is_name name ≡ true → is_file name ≡ true → 1 ≤ period
+    → period ≤ 2 ^ 40 → IsTaskSpec (named_task name period)
 is_task name period n f some most =
     record {
       name = n;

@@ -1,7 +1,11 @@
 -- Tests by which a task that goes one way has its graph, and meets the judge's clauses.
-use Rattle.std.proofs.Common.{◌≡◌, ℕ, zero, suc, ◌+◌, ◌<◌, ◌≤◌, Bool, true, false, List, [], ◌∷◌, Option, Some, None, Contains, IsTrue, refl, sym, ◌∙◌, ap, subst, inl, inr, arith, length}
-use Rattle.std.specs.Prelude.{◌==◌, ◌&&◌, ◌||◌, not, nat_lt, nat_le, slice_index_or, get_or, option_and_then}
-use Rattle.std.proofs.lemmas.Bool.{cases_lt, eqb-true, eq-eqb, ltb-true, leb-true, and_parts, false≢true}
+use Rattle.std.proofs.Common.{◌≡◌, ℕ, zero, suc, ◌+◌, ◌<◌, ◌≤◌, Bool, true, false, List, [], ◌∷◌}
+use Rattle.std.proofs.Common.{Option, Some, None, Contains, IsTrue, refl, sym, ◌∙◌, ap, subst, inl}
+use Rattle.std.proofs.Common.{inr, arith, length}
+use Rattle.std.specs.Prelude.{◌==◌, ◌&&◌, ◌||◌, not, nat_lt, nat_le, slice_index_or, get_or}
+use Rattle.std.specs.Prelude.{option_and_then}
+use Rattle.std.proofs.lemmas.Bool.{cases_lt, eqb-true, eq-eqb, ltb-true, leb-true, and_parts}
+use Rattle.std.proofs.lemmas.Bool.{false≢true}
 use Rattle.crpd_base.specs.declared.data.Platform.{Platform}
 use Rattle.crpd_base.specs.declared.data.NodeState.{NodeState}
 use Rattle.crpd_base.specs.declared.data.TaskPart.{TaskPart}
@@ -26,8 +30,8 @@ use Rattle.cert_check.proofs.Clauses.{GraphMeets, clauses_of}
 use Rattle.worked_examples.specs.StraightCode.{plan, to_one, listed_graph, first_alone, named}
 use Rattle.worked_examples.proofs.StraightCode as law
 
--- the code of a task that goes one way: its nodes' addresses, instructions and successors, and the nodes before each, the
--- last one first
+-- the code of a task that goes one way: its nodes' addresses, instructions and successors, and the
+-- nodes before each, the last one first
 pub record Way : Type 0 where
   pub addresses : List ℕ
   pub instructions : List Ins
@@ -63,7 +67,8 @@ each_says (suc n) test t k l =
     let parts = and_parts (each n test) (test n) t in
     elim (cases_lt k n) [
       | inl below ↦ each_says n test parts.0 k below
-      | inr above ↦ let q : k ≡ n = omega (arith, l, above) in subst (λ z. IsTrue (test z)) (sym q) parts.1
+      | inr above ↦ let q : k ≡ n =
+          omega (arith, l, above) in subst (λ z. IsTrue (test z)) (sym q) parts.1
     ]
 
 -- where the first holds, the second does
@@ -96,7 +101,8 @@ abbrev pub at_next : (ℕ → Bool) → Option ℕ → Bool
 at_next test None = true
 at_next test (Some v) = test v
 
-pub at_next_says : (test : ℕ → Bool) (to : Option ℕ) (v : ℕ) → IsTrue (at_next test to) → Contains (to_one to) v → IsTrue (test v)
+pub at_next_says : (test : ℕ → Bool) (to : Option ℕ) (v : ℕ) → IsTrue (at_next test to)
+    → Contains (to_one to) v → IsTrue (test v)
 at_next_says test None v t (k, l, e) = absurd (omega (arith, l))
 at_next_says test (Some x) v t (zero, l, e) = subst (λ z. IsTrue (test z)) e t
 at_next_says test (Some x) v t (suc k, l, e) = absurd (omega (arith, l))
@@ -114,7 +120,8 @@ abbrev pub lead_to : Way → ℕ → List ℕ → Bool
 lead_to w y [] = y == 0
 lead_to w y (u ∷ walk) = nat_lt u (size w) && (is_next (next w u) y && lead_to w u walk)
 
-pub walk_of : (w : Way) (y : ℕ) (walk : List ℕ) → IsTrue (lead_to w y walk) → IsWalk (graph w).graph (y ∷ walk)
+pub walk_of : (w : Way) (y : ℕ) (walk : List ℕ) → IsTrue (lead_to w y walk)
+    → IsWalk (graph w).graph (y ∷ walk)
 walk_of w y [] t = eqb-true y 0 t
 walk_of w y (u ∷ walk) t =
     let a = and_parts (nat_lt u (size w)) (is_next (next w u) y && lead_to w u walk) t in
@@ -126,48 +133,67 @@ pub record IsWay (w : Way) : Type 0 where
   pub some : 0 < size w
   pub start : before w 0 ≡ []
   pub walks : IsTrue (each (size w) (λ y. lead_to w y (before w y)))
-  pub steps : IsTrue (each (size w) (λ u. at_next (λ v. nat_lt v (size w) && same (before w v) (u ∷ before w u)) (next w u)))
+  pub steps : IsTrue
+      (each (size w)
+      (λ u. at_next (λ v. nat_lt v (size w) && same (before w v) (u ∷ before w u)) (next w u)))
 
 pub line : (w : Way) → IsWay w → law.IsLine (graph w).graph (before w)
 line w way =
     record {
       some = way.some;
       start = way.start;
-      walks = λ y l. walk_of w y (before w y) (each_says (size w) (λ z. lead_to w z (before w z)) way.walks y l);
+      walks = λ y l.
+          walk_of w y (before w y)
+          (each_says (size w) (λ z. lead_to w z (before w z)) way.walks y l);
       step = λ u v e.
-          let t = each_says (size w) (λ z. at_next (λ x. nat_lt x (size w) && same (before w x) (z ∷ before w z)) (next w z)) way.steps u e.0 in
-          let parts = and_parts (nat_lt v (size w)) (same (before w v) (u ∷ before w u)) (at_next_says (λ x. nat_lt x (size w) && same (before w x) (u ∷ before w u)) (next w u) v t e.1) in
+          let t = each_says (size w)
+          (λ z. at_next (λ x. nat_lt x (size w) && same (before w x) (z ∷ before w z)) (next w z))
+          way.steps u e.0 in
+          let parts = and_parts (nat_lt v (size w)) (same (before w v) (u ∷ before w u))
+          (at_next_says (λ x. nat_lt x (size w) && same (before w x) (u ∷ before w u))
+          (next w u) v t e.1) in
           (ltb-true v (size w) parts.0, same_says (before w v) (u ∷ before w u) parts.1);
       one_next = λ u v z a b. law.same_next (size w) (next w) u v z a b;
     }
 
 -- what the code is at a node
 pub record IsAt (words : Words) (entry : ℕ) (w : Way) (u : ℕ) : Type 0 where
-  pub goes : successors (flows words) entry (law.node (address w u)) ≡ law.nodes_to (address w) (next w u)
+  pub goes : successors (flows words) entry (law.node (address w u))
+      ≡ law.nodes_to (address w) (next w u)
   pub no_error : error_of (flows words) entry (law.node (address w u)) ≡ None
   pub decodes : option_and_then ins_of_word (words (address w u)) ≡ Some (ins w u)
 
 pub record IsCode (words : Words) (entry : ℕ) (w : Way) : Type 0 where
   pub entry_at : address w 0 ≡ entry
   pub at : (u : ℕ) → u < size w → IsAt words entry w u
-  pub one_number : IsTrue (each (size w) (λ u. each (size w) (λ v. needs (address w u == address w v) (u == v))))
+  pub one_number : IsTrue
+      (each (size w) (λ u. each (size w) (λ v. needs (address w u == address w v) (u == v))))
 
-has_code : (words : Words) (entry : ℕ) (w : Way) → IsCode words entry w → law.HasCode words entry (size w) (next w) (address w) (ins w)
+has_code : (words : Words) (entry : ℕ) (w : Way) → IsCode words entry w
+    → law.HasCode words entry (size w) (next w) (address w) (ins w)
 has_code words entry w code =
     record {
       entry_at = code.entry_at;
       goes = λ u l. (code.at u l).goes;
       no_error = λ u l. (code.at u l).no_error;
       one_number = λ u v a b e.
-          let row_of = each_says (size w) (λ x. each (size w) (λ z. needs (address w x == address w z) (x == z))) code.one_number u a in
-          let t = each_says (size w) (λ z. needs (address w u == address w z) (u == z)) row_of v b in
-          eqb-true u v (needed (address w u == address w v) (u == v) t (eq-eqb (address w u) (address w v) e));
-      instructions = λ u x l e. subst (λ o. option_and_then ins_of_word o ≡ Some (ins w u)) e (code.at u l).decodes;
+          let row_of = each_says (size w)
+          (λ x. each (size w) (λ z. needs (address w x == address w z) (x == z)))
+          code.one_number u a in
+          let t = each_says (size w) (λ z. needs (address w u == address w z) (u == z))
+          row_of v b in
+          eqb-true u v
+          (needed (address w u == address w v) (u == v) t (eq-eqb (address w u) (address w v) e));
+      instructions = λ u x l e.
+          subst (λ o. option_and_then ins_of_word o ≡ Some (ins w u)) e (code.at u l).decodes;
     }
 
 -- the graph is that of the code
-pub is_graph_of : (words : Words) (entry : ℕ) (w : Way) → IsWay w → IsCode words entry w → IsGraphOf words (plan entry) (graph w)
-is_graph_of words entry w way code = law.is_graph_of words entry (size w) (next w) (address w) (ins w) (before w) (has_code words entry w code) (line w way)
+pub is_graph_of : (words : Words) (entry : ℕ) (w : Way) → IsWay w → IsCode words entry w
+    → IsGraphOf words (plan entry) (graph w)
+is_graph_of words entry w way code =
+    law.is_graph_of words entry (size w) (next w) (address w) (ins w) (before w)
+    (has_code words entry w code) (line w way)
 
 -- a node's cache set, and whether it is a hit
 abbrev pub set_at : Platform → Way → ℕ → ℕ
@@ -177,16 +203,29 @@ abbrev pub hit_at : Platform → Way → ℕ → Bool
 hit_at p w y = law.hit_at (before w) (accesses p (address w)) y
 
 -- the sets, the potentials and the bound of a certificate that lists the first node alone
-pub record IsCertified (p : Platform) (w : Way) (bound : ℕ) (evicting useful_sets potentials : List ℕ) : Type 0 where
+pub record IsCertified (p : Platform) (w : Way) (bound : ℕ)
+    (evicting useful_sets potentials : List ℕ) : Type 0 where
   pub evicts : IsTrue (each (size w) (λ y. has_set evicting (set_at p w y)))
-  pub reuses : IsTrue (each (size w) (λ y. needs (hit_at p w y) (has_set useful_sets (set_at p w y))))
-  pub pays : IsTrue (each (size w) (λ u. at_next (λ v. nat_le (edge_cost p (node_code_of (graph w)) (hit_at p w) u v + slice_index_or potentials v 0) (slice_index_or potentials u 0)) (next w u)))
-  pub ends : IsTrue (each (size w) (λ u. needs (answering (graph w) u) (nat_le (end_cost p (node_code_of (graph w)) (hit_at p w) u) (slice_index_or potentials u 0))))
+  pub reuses : IsTrue
+      (each (size w) (λ y. needs (hit_at p w y) (has_set useful_sets (set_at p w y))))
+  pub pays : IsTrue
+      (each (size w)
+      (λ u. at_next
+      (λ v. nat_le
+      (edge_cost p (node_code_of (graph w)) (hit_at p w) u v + slice_index_or potentials v 0)
+      (slice_index_or potentials u 0)) (next w u)))
+  pub ends : IsTrue
+      (each (size w)
+      (λ u. needs (answering (graph w) u)
+      (nat_le (end_cost p (node_code_of (graph w)) (hit_at p w) u)
+      (slice_index_or potentials u 0))))
   pub first : slice_index_or potentials 0 0 ≤ bound
   pub count : length potentials ≡ size w
 
 -- with the hits that are counted
-graph_meets : (p : Platform) (w : Way) (bound : ℕ) (evicting useful_sets potentials : List ℕ) (window : ℕ) → IsWay w → IsCertified p w bound evicting useful_sets potentials → GraphMeets p (graph w) (first_alone bound evicting useful_sets potentials window)
+graph_meets : (p : Platform) (w : Way) (bound : ℕ) (evicting useful_sets potentials : List ℕ)
+    (window : ℕ) → IsWay w → IsCertified p w bound evicting useful_sets potentials
+    → GraphMeets p (graph w) (first_alone bound evicting useful_sets potentials window)
 graph_meets p w bound evicting useful_sets potentials window way is =
     let g = (graph w).graph in
     let a = accesses p (address w) in
@@ -196,41 +235,62 @@ graph_meets p w bound evicting useful_sets potentials window way is =
     let on = line w way in
     let pot = λ (y : ℕ). slice_index_or potentials y 0 in
     record {
-      listing = record { leaders = law.leaders g (before w) l on f; states = law.states g (before w) a l on f };
+      listing = record {
+        leaders = law.leaders g (before w) l on f;
+        states = law.states g (before w) a l on f;
+      };
       sets = record {
         useful = law.useful g (before w) a l on f;
         sets = law.sets g (before w) a l evicting useful_sets on f
             (λ y k. (
               each_says (size w) (λ z. has_set evicting (set_at p w z)) is.evicts y k,
-              λ h. needed (hit_at p w y) (has_set useful_sets (set_at p w y)) (each_says (size w) (λ z. needs (hit_at p w z) (has_set useful_sets (set_at p w z))) is.reuses y k) h,
+              λ h. needed (hit_at p w y) (has_set useful_sets (set_at p w y))
+                  (each_says (size w) (λ z.
+                  needs (hit_at p w z) (has_set useful_sets (set_at p w z))) is.reuses y k) h,
             ));
       };
       is_hit = hit_at p w;
       hits = law.hits g (before w) a l on f;
-      potentials = law.potentials g (edge_costs p (node_code_of (graph w)) (answering (graph w)) (hit_at p w)) (potentials_of c)
+      potentials =
+          law.potentials g
+          (edge_costs p (node_code_of (graph w)) (answering (graph w)) (hit_at p w))
+          (potentials_of c)
           (λ u v e.
           leb-true (edge_cost p (node_code_of (graph w)) (hit_at p w) u v + pot v) (pot u)
-          (at_next_says (λ z. nat_le (edge_cost p (node_code_of (graph w)) (hit_at p w) u z + pot z) (pot u)) (next w u) v
-          (each_says (size w) (λ x. at_next (λ z. nat_le (edge_cost p (node_code_of (graph w)) (hit_at p w) x z + pot z) (pot x)) (next w x)) is.pays u e.0) e.1))
+          (at_next_says
+          (λ z. nat_le (edge_cost p (node_code_of (graph w)) (hit_at p w) u z + pot z) (pot u))
+          (next w u) v
+          (each_says (size w) (λ x.
+          at_next (λ z. nat_le (edge_cost p (node_code_of (graph w)) (hit_at p w) x z + pot z)
+          (pot x)) (next w x)) is.pays u e.0) e.1))
           (λ u k b.
           leb-true (end_cost p (node_code_of (graph w)) (hit_at p w) u) (pot u)
-          (needed (answering (graph w) u) (nat_le (end_cost p (node_code_of (graph w)) (hit_at p w) u) (pot u))
-          (each_says (size w) (λ x. needs (answering (graph w) x) (nat_le (end_cost p (node_code_of (graph w)) (hit_at p w) x) (pot x))) is.ends u k) b));
+          (needed (answering (graph w) u)
+          (nat_le (end_cost p (node_code_of (graph w)) (hit_at p w) u) (pot u))
+          (each_says (size w) (λ x.
+          needs (answering (graph w) x)
+          (nat_le (end_cost p (node_code_of (graph w)) (hit_at p w) x) (pot x))) is.ends u k) b));
       bound = law.bound_meets g (potentials_of c) bound is.first;
     }
 
 -- so its part meets the clauses of the graph
-pub part_holds : (p : Platform) (w : Way) (bound : ℕ) (evicting useful_sets potentials : List ℕ) (window : ℕ) → IsWay w → IsCertified p w bound evicting useful_sets potentials
-    → (k : Clause) → GraphHolds p (graph w) (first_alone bound evicting useful_sets potentials window) k
+pub part_holds : (p : Platform) (w : Way) (bound : ℕ) (evicting useful_sets potentials : List ℕ)
+    (window : ℕ) → IsWay w → IsCertified p w bound evicting useful_sets potentials
+    → (k : Clause) → GraphHolds p (graph w)
+    (first_alone bound evicting useful_sets potentials window) k
 part_holds p w bound evicting useful_sets potentials window way is =
     clauses_of p (graph w) (first_alone bound evicting useful_sets potentials window)
-    numbers_below is.count refl (graph_meets p w bound evicting useful_sets potentials window way is)
+    numbers_below is.count refl
+    (graph_meets p w bound evicting useful_sets potentials window way is)
   where
-    numbers_below : (k : ℕ) (d : NodeState) → k < 1 → (get_or (first_alone bound evicting useful_sets potentials window).states k d).node < size w
+    numbers_below : (k : ℕ) (d : NodeState) → k < 1
+        → (get_or (first_alone bound evicting useful_sets potentials window).states k d).node
+        < size w
     numbers_below zero d l = way.some
     numbers_below (suc k) d l = absurd (omega (arith, l))
 
 -- a name plays no part in it
-pub named_holds : (p : Platform) (t : TaskGraph) (c : TaskPart) (name : List ℕ) → ((k : Clause) → GraphHolds p t c k) → (k : Clause) → GraphHolds p t (named name c) k
+pub named_holds : (p : Platform) (t : TaskGraph) (c : TaskPart) (name : List ℕ)
+    → ((k : Clause) → GraphHolds p t c k) → (k : Clause) → GraphHolds p t (named name c) k
 named_holds p t c name holds Leaders = holds Leaders
 named_holds p t c name holds k = holds k

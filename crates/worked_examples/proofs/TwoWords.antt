@@ -13,10 +13,12 @@ use Rattle.cert_check.proofs.Clauses.{all_hold}
 use Rattle.preempt_machine.specs.Machine.{plan_of}
 use Rattle.sound_laws.specs.Headline.{YesIsSafe}
 use Rattle.sound_laws.specs.Walks.{HasTaskRanges, IsCodeOf}
-use Rattle.worked_examples.specs.TwoWords.{platform, words, system, set, graph, zero_alone, certificate, TwoWords}
+use Rattle.worked_examples.specs.TwoWords.{platform, words, system, set, graph, zero_alone}
+use Rattle.worked_examples.specs.TwoWords.{certificate, TwoWords}
 use Rattle.worked_examples.proofs.Few.{one, two}
 use Rattle.worked_examples.proofs.StraightCode.{code_map}
-use Rattle.worked_examples.proofs.StraightTests.{Way, IsWay, IsAt, IsCode, is_graph_of, IsCertified, part_holds}
+use Rattle.worked_examples.proofs.StraightTests.{Way, IsWay, IsAt, IsCode, is_graph_of, IsCertified}
+use Rattle.worked_examples.proofs.StraightTests.{part_holds}
 
 -- from node 0 to node 1
 abbrev pub way : ℕ → Way
@@ -34,14 +36,24 @@ is_way entry = record { some = omega arith; start = refl; walks = refl; steps = 
 -- both nodes are in cache set 0; the second one is a hit
 pub certified : IsCertified platform (way 0x1000) 12 zero_alone zero_alone (12 ∷ 1 ∷ [])
 unfolding work_cost flow
-certified = record { evicts = refl; reuses = refl; pays = refl; ends = refl; first = omega arith; count = refl }
+certified = record {
+  evicts = refl;
+  reuses = refl;
+  pays = refl;
+  ends = refl;
+  first = omega arith;
+  count = refl;
+}
 
 code : IsCode words 0x1000 (way 0x1000)
 unfolding flow ins_of_word table
 code =
     record {
       entry_at = refl;
-      at = two (IsAt words 0x1000 (way 0x1000)) (record { goes = refl; no_error = refl; decodes = refl }) (record { goes = refl; no_error = refl; decodes = refl });
+      at =
+          two (IsAt words 0x1000 (way 0x1000))
+          (record { goes = refl; no_error = refl; decodes = refl })
+          (record { goes = refl; no_error = refl; decodes = refl });
       one_number = refl;
     }
 
@@ -50,7 +62,9 @@ is_code =
     record {
       platform = refl;
       map = code_map ((0x1000, 0x00100293) ∷ (0x1004, 0x00000073) ∷ []) refl;
-      graphs_of = one (λ k. IsGraphOf words (plan_of system k) graph) (is_graph_of words 0x1000 (way 0x1000) (is_way 0x1000) code);
+      graphs_of =
+          one (λ k. IsGraphOf words (plan_of system k) graph)
+          (is_graph_of words 0x1000 (way 0x1000) (is_way 0x1000) code);
     }
 
 in_range : HasTaskRanges set
@@ -67,7 +81,8 @@ is_yes : IsYes set (λ k. graph) certificate
 is_yes i k l =
     one (λ j. (clause : Clause) → ClauseHolds set (λ k. graph) certificate j clause)
     (all_hold set (λ k. graph) certificate 0 (omega arith) refl refl refl
-    (part_holds platform (way 0x1000) 12 zero_alone zero_alone (12 ∷ 1 ∷ []) 17 (is_way 0x1000) certified)
+    (part_holds platform (way 0x1000) 12 zero_alone zero_alone (12 ∷ 1 ∷ []) 17
+    (is_way 0x1000) certified)
     (omega arith) (omega arith) refl (omega arith))
     i l k
 

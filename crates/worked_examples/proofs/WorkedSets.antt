@@ -1,23 +1,30 @@
 -- Rows of the cache analyses on graphs that go one way, by tests that compute.
-use Rattle.std.proofs.Common.{◌≡◌, ◌≢◌, ℕ, zero, suc, ◌%◌, ◌<◌, ◌≤◌, Bool, true, false, List, [], ◌∷◌, Option, Some, None, Contains, IsTrue, ◌↔◌, refl, sym, ◌∙◌, ap, subst, inl, inr, arith}
+use Rattle.std.proofs.Common.{◌≡◌, ◌≢◌, ℕ, zero, suc, ◌%◌, ◌<◌, ◌≤◌, Bool, true, false, List, []}
+use Rattle.std.proofs.Common.{◌∷◌, Option, Some, None, Contains, IsTrue, ◌↔◌, refl, sym, ◌∙◌, ap}
+use Rattle.std.proofs.Common.{subst, inl, inr, arith}
 use Rattle.std.specs.Prelude.{◌==◌, ◌&&◌, ◌||◌, nat_lt, slice_index_or}
 use Rattle.std.specs.List.{list_any}
-use Rattle.std.proofs.lemmas.Bool.{cases_lt, cases_eq, cases_Bool, eqb-true, eq-eqb, ne_eqb, ltb-true, and_parts, and_from, or_cases, false≢true}
+use Rattle.std.proofs.lemmas.Bool.{cases_lt, cases_eq, cases_Bool, eqb-true, eq-eqb, ne_eqb}
+use Rattle.std.proofs.lemmas.Bool.{ltb-true, and_parts, and_from, or_cases, false≢true}
 use Rattle.crpd_base.specs.declared.data.Platform.{Platform}
 use Rattle.flat_graph.specs.Graph.{Graph, Edge, IsWalk, GoesOn}
 use Rattle.icache.specs.Accesses.{Accesses, accesses, last_access, first_access}
 use Rattle.must_cache.specs.Sure.{Sure, IsSureHit}
 use Rattle.useful_sets.specs.Useful.{Useful, IsUcb, IsEcb}
 use Rattle.useful_sets.proofs.UsefulLaws.{ucb_law}
-use Rattle.evict_sets.specs.Full.{Listed, FullState, IsHit, FullUseful, listed_useful, used, used_later}
+use Rattle.evict_sets.specs.Full.{Listed, FullState, IsHit, FullUseful, listed_useful, used}
+use Rattle.evict_sets.specs.Full.{used_later}
 use Rattle.evict_sets.specs.ListedPart.{block_of_set, listed_of}
 use Rattle.evict_sets.proofs.WalkLaws.{first_here, first_on, carry_law}
 use Rattle.worked_examples.specs.StraightCode.{first_alone}
 use Rattle.worked_examples.specs.TwoWords as two_words
 use Rattle.worked_examples.specs.ThreeTasks as three
-use Rattle.worked_examples.specs.WorkedSets.{IsRow, HasSets, call_addresses, call_instructions, call_successors, zero_and_one, WorkedSets}
+use Rattle.worked_examples.specs.WorkedSets.{IsRow, HasSets, call_addresses, call_instructions}
+use Rattle.worked_examples.specs.WorkedSets.{call_successors, zero_and_one, WorkedSets}
 use Rattle.worked_examples.proofs.StraightCode as law
-use Rattle.worked_examples.proofs.StraightTests.{Way, size, next, address, before, graph, each, each_says, same, same_says, at_next, at_next_says, is_next, is_next_says, IsWay, line}
+use Rattle.worked_examples.proofs.StraightTests.{Way, size, next, address, before, graph, each}
+use Rattle.worked_examples.proofs.StraightTests.{each_says, same, same_says, at_next, at_next_says}
+use Rattle.worked_examples.proofs.StraightTests.{is_next, is_next_says, IsWay, line}
 use Rattle.worked_examples.proofs.ThreeTasks.{high, lower, high_way, lower_way}
 
 -- tests on lists and options
@@ -35,7 +42,10 @@ in_says (x ∷ xs) s t =
 says_in : (numbers : List ℕ) (s : ℕ) → Contains numbers s → IsTrue (is_in numbers s)
 says_in [] s (k, l, e) = absurd (omega (arith, l))
 says_in (x ∷ xs) s (zero, l, e) = rw (eq-eqb x s e) refl
-says_in (x ∷ xs) s (suc k, l, e) = elim (cases_Bool (x == s)) [ inl b ↦ rw b refl | inr b ↦ rw b (says_in xs s (k, omega (arith, l), e)) ]
+says_in (x ∷ xs) s (suc k, l, e) = elim (cases_Bool (x == s)) [
+  | inl b ↦ rw b refl
+  | inr b ↦ rw b (says_in xs s (k, omega (arith, l), e))
+]
 
 abbrev same_option : Option ℕ → Option ℕ → Bool
 same_option None None = true
@@ -63,7 +73,8 @@ abbrev some_of : ℕ → (ℕ → Bool) → Bool
 some_of zero test = false
 some_of (suc n) test = test n || some_of n test
 
-some_says : (n : ℕ) (test : ℕ → Bool) → IsTrue (some_of n test) → (k : ℕ) × (k < n) × IsTrue (test k)
+some_says : (n : ℕ) (test : ℕ → Bool) → IsTrue (some_of n test)
+    → (k : ℕ) × (k < n) × IsTrue (test k)
 some_says zero test t = absurd (false≢true t)
 some_says (suc n) test t =
     elim (or_cases (test n) (some_of n test) t) [
@@ -91,7 +102,8 @@ abbrev have_below : ℕ → List (ℕ × ℕ) → Bool
 have_below k [] = true
 have_below k (x ∷ xs) = nat_lt x.0 k && have_below k xs
 
-not_in : (k : ℕ) (numbers : List ℕ) (s : ℕ) → IsTrue (are_below k numbers) → k ≤ s → is_in numbers s ≡ false
+not_in : (k : ℕ) (numbers : List ℕ) (s : ℕ) → IsTrue (are_below k numbers) → k ≤ s
+    → is_in numbers s ≡ false
 not_in k [] s t le = refl
 not_in k (x ∷ xs) s t le =
     let p = and_parts (nat_lt x k) (are_below k xs) t in
@@ -99,7 +111,8 @@ not_in k (x ∷ xs) s t le =
     let other : x ≢ s = λ e. absurd (omega (arith, l, e, le)) in
     rw (ne_eqb x s other) (not_in k xs s p.1 le)
 
-no_block : (k : ℕ) (pairs : List (ℕ × ℕ)) (s : ℕ) → IsTrue (have_below k pairs) → k ≤ s → block_of_set pairs s ≡ None
+no_block : (k : ℕ) (pairs : List (ℕ × ℕ)) (s : ℕ) → IsTrue (have_below k pairs) → k ≤ s
+    → block_of_set pairs s ≡ None
 no_block k [] s t le = refl
 no_block k (x ∷ xs) s t le =
     let p = and_parts (nat_lt x.0 k) (have_below k xs) t in
@@ -124,7 +137,8 @@ abbrev goes : Way → ℕ → List ℕ → Bool
 goes w y [] = nat_lt y (size w)
 goes w y (z ∷ later) = nat_lt y (size w) && (is_next (next w y) z && goes w z later)
 
-goes_says : (w : Way) (y : ℕ) (later : List ℕ) → IsTrue (goes w y later) → GoesOn (graph w).graph y later
+goes_says : (w : Way) (y : ℕ) (later : List ℕ) → IsTrue (goes w y later)
+    → GoesOn (graph w).graph y later
 goes_says w y [] t = ltb-true y (size w) t
 goes_says w y (z ∷ later) t =
     let p = and_parts (nat_lt y (size w)) (is_next (next w y) z && goes w z later) t in
@@ -135,7 +149,8 @@ pub record HasRests (w : Way) (rest : ℕ → List ℕ) : Type 0 where
   pub on : IsTrue (each (size w) (λ y. goes w y (rest y)))
   pub steps : IsTrue (each (size w) (λ u. at_next (λ v. same (rest u) (v ∷ rest v)) (next w u)))
 
-module _ (w : Way) (way : IsWay w) (rest : ℕ → List ℕ) (R : HasRests w rest) (p : Platform) (below : (x : ℕ) → (accesses p (address w)).set x < p.sets) where
+module _ (w : Way) (way : IsWay w) (rest : ℕ → List ℕ) (R : HasRests w rest) (p : Platform)
+    (below : (x : ℕ) → (accesses p (address w)).set x < p.sets) where
   abbrev g : Graph
   g = (graph w).graph
 
@@ -147,7 +162,8 @@ module _ (w : Way) (way : IsWay w) (rest : ℕ → List ℕ) (R : HasRests w res
 
   only_walk : (b : List ℕ) (y : ℕ) → IsWalk (graph w).graph (y ∷ b) → b ≡ before w y
   only_walk [] y walk = sym (ap (before w) walk ∙ way.start)
-  only_walk (u ∷ b) y walk = ap (λ (x : List ℕ). u ∷ x) (only_walk b u walk.1) ∙ sym (on.step u y walk.0).1
+  only_walk (u ∷ b) y walk =
+      ap (λ (x : List ℕ). u ∷ x) (only_walk b u walk.1) ∙ sym (on.step u y walk.0).1
 
   sure_is : (y s m : ℕ) → y < size w → Sure g a y s m ↔ (last_access a s (before w y) ≡ Some m)
   sure_is y s m lt = (
@@ -157,20 +173,25 @@ module _ (w : Way) (way : IsWay w) (rest : ℕ → List ℕ) (R : HasRests w res
 
   hit_is : (z : ℕ) → z < size w → IsSureHit g a z ↔ IsTrue (law.hit_at (before w) a z)
   hit_is z lt = (
-    (λ h. let e = (sure_is z (a.set z) (a.block z) lt).0 h in rw e (eq-eqb (a.block z) (a.block z) refl)),
-    (λ t. (sure_is z (a.set z) (a.block z) lt).1 (law.block_says (last_access a (a.set z) (before w z)) (a.block z) t)),
+    (λ h. let e = (sure_is z (a.set z) (a.block z) lt).0 h in
+        rw e (eq-eqb (a.block z) (a.block z) refl)),
+    (λ t. (sure_is z (a.set z) (a.block z) lt).1
+        (law.block_says (last_access a (a.set z) (before w z)) (a.block z) t)),
   )
 
   rest_step : (u v : ℕ) → Edge (graph w).graph u v → rest u ≡ v ∷ rest v
   rest_step u v e =
       same_says (rest u) (v ∷ rest v)
-      (at_next_says (λ x. same (rest u) (x ∷ rest x)) (next w u) v (each_says (size w) (λ x. at_next (λ z. same (rest x) (z ∷ rest z)) (next w x)) R.steps u e.0) e.1)
+      (at_next_says (λ x. same (rest u) (x ∷ rest x)) (next w u) v
+      (each_says (size w) (λ x. at_next (λ z. same (rest x) (z ∷ rest z)) (next w x)) R.steps u e.0)
+      e.1)
 
   rest_goes : (y : ℕ) → y < size w → GoesOn (graph w).graph y (rest y)
   rest_goes y lt = goes_says w y (rest y) (each_says (size w) (λ x. goes w x (rest x)) R.on y lt)
 
   -- what goes on from a node is a part of the rest
-  on_to : (later : List ℕ) (y s z : ℕ) → GoesOn (graph w).graph y later → first_access a s (y ∷ later) ≡ Some z → first_access a s (y ∷ rest y) ≡ Some z
+  on_to : (later : List ℕ) (y s z : ℕ) → GoesOn (graph w).graph y later
+      → first_access a s (y ∷ later) ≡ Some z → first_access a s (y ∷ rest y) ≡ Some z
   on_to [] y s z o e =
       elim (cases_eq (a.set y) s) [
         | inl here ↦ first_here a s y (rest y) here ∙ sym (first_here a s y [] here) ∙ e
@@ -179,10 +200,13 @@ module _ (w : Way) (way : IsWay w) (rest : ℕ → List ℕ) (R : HasRests w res
   on_to (x ∷ later) y s z o e =
       elim (cases_eq (a.set y) s) [
         | inl here ↦ first_here a s y (rest y) here ∙ sym (first_here a s y (x ∷ later) here) ∙ e
-        | inr ne ↦ first_on a s y (rest y) ne ∙ ap (first_access a s) (rest_step y x o.0) ∙ on_to later x s z o.1 (sym (first_on a s y (x ∷ later) ne) ∙ e)
+        | inr ne ↦
+            first_on a s y (rest y) ne ∙ ap (first_access a s) (rest_step y x o.0)
+            ∙ on_to later x s z o.1 (sym (first_on a s y (x ∷ later) ne) ∙ e)
       ]
 
-  node_found : (later : List ℕ) (y s z : ℕ) → GoesOn (graph w).graph y later → first_access a s (y ∷ later) ≡ Some z → z < size w
+  node_found : (later : List ℕ) (y s z : ℕ) → GoesOn (graph w).graph y later
+      → first_access a s (y ∷ later) ≡ Some z → z < size w
   node_found [] y s z o e =
       elim (cases_eq (a.set y) s) [
         | inl here ↦ let q : y ≡ z = cc (first_here a s y [] here) in subst (λ x. x < size w) q o
@@ -190,7 +214,8 @@ module _ (w : Way) (way : IsWay w) (rest : ℕ → List ℕ) (R : HasRests w res
       ]
   node_found (x ∷ later) y s z o e =
       elim (cases_eq (a.set y) s) [
-        | inl here ↦ let q : y ≡ z = cc (first_here a s y (x ∷ later) here) in subst (λ n. n < size w) q o.0.0
+        | inl here ↦ let q : y ≡ z =
+            cc (first_here a s y (x ∷ later) here) in subst (λ n. n < size w) q o.0.0
         | inr ne ↦ node_found later x s z o.1 (sym (first_on a s y (x ∷ later) ne) ∙ e)
       ]
 
@@ -201,7 +226,8 @@ module _ (w : Way) (way : IsWay w) (rest : ℕ → List ℕ) (R : HasRests w res
   abbrev pub is_useful : ℕ → ℕ → Bool
   is_useful y s = is_hit_at (first_access a s (y ∷ rest y))
 
-  found : (o : Option ℕ) → IsTrue (is_hit_at o) → (z : ℕ) × (o ≡ Some z) × IsTrue (law.hit_at (before w) a z)
+  found : (o : Option ℕ) → IsTrue (is_hit_at o)
+      → (z : ℕ) × (o ≡ Some z) × IsTrue (law.hit_at (before w) a z)
   found None t = absurd (false≢true t)
   found (Some z) t = (z, refl, t)
 
@@ -222,9 +248,11 @@ module _ (w : Way) (way : IsWay w) (rest : ℕ → List ℕ) (R : HasRests w res
 
   -- the full states, where the first node alone is listed
   module _ (l : Listed) (f : law.ListsFirst (graph w).graph l) where
-    full_is : (y s m : ℕ) → y < size w → FullState g a l y s m ↔ (last_access a s (before w y) ≡ Some m)
+    full_is : (y s m : ℕ) → y < size w
+        → FullState g a l y s m ↔ (last_access a s (before w y) ≡ Some m)
     full_is y s m lt = (
-      λ st. law.state_says (graph w).graph (before w) a l on f (before w y) y s m (on.walks y lt) st,
+      λ st. law.state_says (graph w).graph (before w) a l on f (before w y) y s m
+          (on.walks y lt) st,
       λ e. law.state_made (graph w).graph (before w) a l on f (before w y) y s m (on.walks y lt) e,
     )
 
@@ -232,16 +260,20 @@ module _ (w : Way) (way : IsWay w) (rest : ℕ → List ℕ) (R : HasRests w res
     counts z lt = law.hits (graph w).graph (before w) a l on f z lt
 
     full_useful_says : (y s : ℕ) → y < size w → FullUseful g a l y s → IsTrue (is_useful y s)
-    full_useful_says y s lt (listed_useful _ _ t u) = absurd (f.no_useful s (subst (λ z. IsTrue (l.useful z s)) (f.alone y t) u))
-    full_useful_says y s lt (used _ _ out hit here) = rw (first_here a s y (rest y) here) ((counts y lt).1 hit)
+    full_useful_says y s lt (listed_useful _ _ t u) =
+        absurd (f.no_useful s (subst (λ z. IsTrue (l.useful z s)) (f.alone y t) u))
+    full_useful_says y s lt (used _ _ out hit here) =
+        rw (first_here a s y (rest y) here) ((counts y lt).1 hit)
     full_useful_says y s lt (used_later _ v _ out e ne later) =
-        rw (first_on a s y (rest y) ne ∙ ap (first_access a s) (rest_step y v e)) (full_useful_says v s (on.step y v e).0 later)
+        rw (first_on a s y (rest y) ne ∙ ap (first_access a s) (rest_step y v e))
+        (full_useful_says v s (on.step y v e).0 later)
 
     full_useful_is : (y s : ℕ) → y < size w → FullUseful g a l y s ↔ IsTrue (is_useful y s)
     full_useful_is y s lt = (
       full_useful_says y s lt,
       (λ t. let h = found (first_access a s (y ∷ rest y)) t in
-          carry_law (graph w).graph a l y s h.0 (rest y) (law.useful (graph w).graph (before w) a l on f) (rest_goes y lt) h.1
+          carry_law (graph w).graph a l y s h.0 (rest y)
+          (law.useful (graph w).graph (before w) a l on f) (rest_goes y lt) h.1
           ((counts h.0 (node_found (rest y) y s h.0 (rest_goes y lt) h.1)).0 h.2)),
     )
 
@@ -250,57 +282,90 @@ module _ (w : Way) (way : IsWay w) (rest : ℕ → List ℕ) (R : HasRests w res
       pub node : y < size w
       pub some_blocks : IsTrue (have_below p.sets blocks)
       pub some_sets : IsTrue (are_below p.sets useful)
-      pub states : IsTrue (each p.sets (λ s. same_option (last_access a s (before w y)) (block_of_set blocks s)))
+      pub states : IsTrue
+          (each p.sets (λ s. same_option (last_access a s (before w y)) (block_of_set blocks s)))
       pub reuses : IsTrue (each p.sets (λ s. same_test (is_useful y s) (is_in useful s)))
 
     module _ (y : ℕ) (blocks : List (ℕ × ℕ)) (useful : List ℕ) (T : IsTested y blocks useful) where
       state_at : (s : ℕ) → last_access a s (before w y) ≡ block_of_set blocks s
       state_at s =
           elim (cases_lt s p.sets) [
-            | inl lt ↦ option_says (last_access a s (before w y)) (block_of_set blocks s) (each_says p.sets (λ c. same_option (last_access a c (before w y)) (block_of_set blocks c)) T.states s lt)
-            | inr ge ↦ no_last a p.sets below s ge (before w y) ∙ sym (no_block p.sets blocks s T.some_blocks ge)
+            | inl lt ↦
+                option_says (last_access a s (before w y)) (block_of_set blocks s)
+                (each_says p.sets
+                (λ c. same_option (last_access a c (before w y)) (block_of_set blocks c))
+                T.states s lt)
+            | inr ge ↦
+                no_last a p.sets below s ge (before w y)
+                ∙ sym (no_block p.sets blocks s T.some_blocks ge)
           ]
 
       useful_at : (s : ℕ) → is_useful y s ≡ is_in useful s
       useful_at s =
           elim (cases_lt s p.sets) [
-            | inl lt ↦ test_says (is_useful y s) (is_in useful s) (each_says p.sets (λ c. same_test (is_useful y c) (is_in useful c)) T.reuses s lt)
-            | inr ge ↦ ap is_hit_at (no_first a p.sets below s ge (y ∷ rest y)) ∙ sym (not_in p.sets useful s T.some_sets ge)
+            | inl lt ↦
+                test_says (is_useful y s) (is_in useful s)
+                (each_says p.sets (λ c. same_test (is_useful y c) (is_in useful c)) T.reuses s lt)
+            | inr ge ↦
+                ap is_hit_at (no_first a p.sets below s ge (y ∷ rest y))
+                ∙ sym (not_in p.sets useful s T.some_sets ge)
           ]
 
       pub row : IsRow g a l y blocks useful
       row =
           record {
-            sure = λ s m. let i = sure_is y s m T.node in (λ h. sym (state_at s) ∙ i.0 h, λ e. i.1 (state_at s ∙ e));
-            useful_sets = λ s. let i = useful_is y s T.node in
-                (λ h. in_says useful s (subst (λ b. IsTrue b) (useful_at s) (i.0 h)), λ c. i.1 (subst (λ b. IsTrue b) (sym (useful_at s)) (says_in useful s c)));
-            full_state = λ s m. let i = full_is y s m T.node in (λ h. sym (state_at s) ∙ i.0 h, λ e. i.1 (state_at s ∙ e));
-            full_useful = λ s. let i = full_useful_is y s T.node in
-                (λ h. in_says useful s (subst (λ b. IsTrue b) (useful_at s) (i.0 h)), λ c. i.1 (subst (λ b. IsTrue b) (sym (useful_at s)) (says_in useful s c)));
+            sure = λ s m.
+                let i = sure_is y s m T.node in
+                (λ h. sym (state_at s) ∙ i.0 h, λ e. i.1 (state_at s ∙ e));
+            useful_sets = λ s. let i = useful_is y s T.node in (
+              λ h. in_says useful s (subst (λ b. IsTrue b) (useful_at s) (i.0 h)),
+              λ c. i.1 (subst (λ b. IsTrue b) (sym (useful_at s)) (says_in useful s c)),
+            );
+            full_state = λ s m.
+                let i = full_is y s m T.node in
+                (λ h. sym (state_at s) ∙ i.0 h, λ e. i.1 (state_at s ∙ e));
+            full_useful = λ s. let i = full_useful_is y s T.node in (
+              λ h. in_says useful s (subst (λ b. IsTrue b) (useful_at s) (i.0 h)),
+              λ c. i.1 (subst (λ b. IsTrue b) (sym (useful_at s)) (says_in useful s c)),
+            );
           }
 
   -- the sets of a task, by tests
   pub record AreTested (evicting useful : List ℕ) : Type 0 where
     pub some_sets : IsTrue (are_below p.sets evicting && are_below p.sets useful)
-    pub evicts : IsTrue (each p.sets (λ s. same_test (some_of (size w) (λ y. a.set y == s)) (is_in evicting s)))
-    pub reuses : IsTrue (each p.sets (λ s. same_test (some_of (size w) (λ y. law.hit_at (before w) a y && (a.set y == s))) (is_in useful s)))
+    pub evicts : IsTrue
+        (each p.sets (λ s. same_test (some_of (size w) (λ y. a.set y == s)) (is_in evicting s)))
+    pub reuses : IsTrue
+        (each p.sets
+        (λ s. same_test (some_of (size w) (λ y. law.hit_at (before w) a y && (a.set y == s)))
+        (is_in useful s)))
 
   module _ (evicting useful : List ℕ) (T : AreTested evicting useful) where
     limits : IsTrue (are_below p.sets evicting) × IsTrue (are_below p.sets useful)
-    limits = let q = and_parts (are_below p.sets evicting) (are_below p.sets useful) T.some_sets in (q.0, q.1)
+    limits =
+        let q = and_parts (are_below p.sets evicting) (are_below p.sets useful) T.some_sets in
+        (q.0, q.1)
 
     -- a set that is used is in the list, and one in the list is used
     evicted : (s : ℕ) → IsEcb g a s ↔ Contains evicting s
     evicted s =
         elim (cases_lt s p.sets) [
           | inl lt ↦
-              let same_tests = test_says (some_of (size w) (λ y. a.set y == s)) (is_in evicting s) (each_says p.sets (λ c. same_test (some_of (size w) (λ y. a.set y == c)) (is_in evicting c)) T.evicts s lt) in (
-                (λ e. in_says evicting s (subst (λ b. IsTrue b) same_tests (says_some (size w) (λ y. a.set y == s) e.0 e.1 (eq-eqb (a.set e.0) s e.2)))),
-                (λ c. let k = some_says (size w) (λ y. a.set y == s) (subst (λ b. IsTrue b) (sym same_tests) (says_in evicting s c)) in (k.0, k.1, eqb-true (a.set k.0) s k.2)),
+              let same_tests = test_says (some_of (size w) (λ y. a.set y == s)) (is_in evicting s)
+              (each_says p.sets
+              (λ c. same_test (some_of (size w) (λ y. a.set y == c)) (is_in evicting c))
+              T.evicts s lt) in (
+                (λ e. in_says evicting s
+                    (subst (λ b. IsTrue b) same_tests
+                    (says_some (size w) (λ y. a.set y == s) e.0 e.1 (eq-eqb (a.set e.0) s e.2)))),
+                (λ c. let k = some_says (size w) (λ y. a.set y == s)
+                    (subst (λ b. IsTrue b) (sym same_tests) (says_in evicting s c)) in
+                    (k.0, k.1, eqb-true (a.set k.0) s k.2)),
               )
           | inr ge ↦ (
             (λ e. absurd (other_set a p.sets below s ge e.0 e.2)),
-            (λ c. absurd (false≢true (sym (not_in p.sets evicting s limits.0 ge) ∙ says_in evicting s c))),
+            (λ c. absurd
+                (false≢true (sym (not_in p.sets evicting s limits.0 ge) ∙ says_in evicting s c))),
           )
         ]
 
@@ -309,17 +374,26 @@ module _ (w : Way) (way : IsWay w) (rest : ℕ → List ℕ) (R : HasRests w res
         let by = ucb_law g a s in
         elim (cases_lt s p.sets) [
           | inl lt ↦
-              let same_tests = test_says (some_of (size w) (λ y. law.hit_at (before w) a y && (a.set y == s))) (is_in useful s) (each_says p.sets (λ c. same_test (some_of (size w) (λ y. law.hit_at (before w) a y && (a.set y == c))) (is_in useful c)) T.reuses s lt) in (
+              let same_tests = test_says
+              (some_of (size w) (λ y. law.hit_at (before w) a y && (a.set y == s))) (is_in useful s)
+              (each_says p.sets
+              (λ c. same_test (some_of (size w) (λ y. law.hit_at (before w) a y && (a.set y == c)))
+              (is_in useful c)) T.reuses s lt) in (
                 (λ u. let z = by.0 u in
-                    in_says useful s (subst (λ b. IsTrue b) same_tests (says_some (size w) (λ y. law.hit_at (before w) a y && (a.set y == s)) z.0 z.1
-                    (and_from (law.hit_at (before w) a z.0) (a.set z.0 == s) ((hit_is z.0 z.1).0 z.2) (eq-eqb (a.set z.0) s z.3))))),
-                (λ c. let k = some_says (size w) (λ y. law.hit_at (before w) a y && (a.set y == s)) (subst (λ b. IsTrue b) (sym same_tests) (says_in useful s c)) in
+                    in_says useful s
+                    (subst (λ b. IsTrue b) same_tests
+                    (says_some (size w) (λ y. law.hit_at (before w) a y && (a.set y == s)) z.0 z.1
+                    (and_from (law.hit_at (before w) a z.0) (a.set z.0 == s)
+                    ((hit_is z.0 z.1).0 z.2) (eq-eqb (a.set z.0) s z.3))))),
+                (λ c. let k = some_says (size w) (λ y. law.hit_at (before w) a y && (a.set y == s))
+                    (subst (λ b. IsTrue b) (sym same_tests) (says_in useful s c)) in
                     let q = and_parts (law.hit_at (before w) a k.0) (a.set k.0 == s) k.2 in
                     by.1 (k.0, k.1, (hit_is k.0 k.1).1 q.0, eqb-true (a.set k.0) s q.1)),
               )
           | inr ge ↦ (
             (λ u. let z = by.0 u in absurd (other_set a p.sets below s ge z.0 z.3)),
-            (λ c. absurd (false≢true (sym (not_in p.sets useful s limits.1 ge) ∙ says_in useful s c))),
+            (λ c. absurd
+                (false≢true (sym (not_in p.sets useful s limits.1 ge) ∙ says_in useful s c))),
           )
         ]
 
@@ -339,14 +413,18 @@ call_way =
       addresses = call_addresses;
       instructions = call_instructions;
       successors = call_successors;
-      walks = [] ∷ (0 ∷ []) ∷ (1 ∷ 0 ∷ []) ∷ (7 ∷ 2 ∷ 1 ∷ 0 ∷ []) ∷ (8 ∷ 3 ∷ 7 ∷ 2 ∷ 1 ∷ 0 ∷ []) ∷ (4 ∷ 8 ∷ 3 ∷ 7 ∷ 2 ∷ 1 ∷ 0 ∷ []) ∷ (5 ∷ 4 ∷ 8 ∷ 3 ∷ 7 ∷ 2 ∷ 1 ∷ 0 ∷ [])
+      walks =
+          [] ∷ (0 ∷ []) ∷ (1 ∷ 0 ∷ []) ∷ (7 ∷ 2 ∷ 1 ∷ 0 ∷ []) ∷ (8 ∷ 3 ∷ 7 ∷ 2 ∷ 1 ∷ 0 ∷ [])
+          ∷ (4 ∷ 8 ∷ 3 ∷ 7 ∷ 2 ∷ 1 ∷ 0 ∷ []) ∷ (5 ∷ 4 ∷ 8 ∷ 3 ∷ 7 ∷ 2 ∷ 1 ∷ 0 ∷ [])
           ∷ (2 ∷ 1 ∷ 0 ∷ []) ∷ (3 ∷ 7 ∷ 2 ∷ 1 ∷ 0 ∷ []) ∷ [];
     }
 
 abbrev call_rest : ℕ → List ℕ
 call_rest y =
     slice_index_or
-    ((1 ∷ 2 ∷ 7 ∷ 3 ∷ 8 ∷ 4 ∷ 5 ∷ 6 ∷ []) ∷ (2 ∷ 7 ∷ 3 ∷ 8 ∷ 4 ∷ 5 ∷ 6 ∷ []) ∷ (7 ∷ 3 ∷ 8 ∷ 4 ∷ 5 ∷ 6 ∷ []) ∷ (8 ∷ 4 ∷ 5 ∷ 6 ∷ []) ∷ (5 ∷ 6 ∷ []) ∷ (6 ∷ []) ∷ [] ∷ (3 ∷ 8 ∷ 4 ∷ 5 ∷ 6 ∷ []) ∷ (4 ∷ 5 ∷ 6 ∷ []) ∷ [])
+    ((1 ∷ 2 ∷ 7 ∷ 3 ∷ 8 ∷ 4 ∷ 5 ∷ 6 ∷ []) ∷ (2 ∷ 7 ∷ 3 ∷ 8 ∷ 4 ∷ 5 ∷ 6 ∷ [])
+    ∷ (7 ∷ 3 ∷ 8 ∷ 4 ∷ 5 ∷ 6 ∷ []) ∷ (8 ∷ 4 ∷ 5 ∷ 6 ∷ []) ∷ (5 ∷ 6 ∷ []) ∷ (6 ∷ []) ∷ []
+    ∷ (3 ∷ 8 ∷ 4 ∷ 5 ∷ 6 ∷ []) ∷ (4 ∷ 5 ∷ 6 ∷ []) ∷ [])
     y []
 
 call_is_way : IsWay call_way
@@ -367,33 +445,146 @@ in_eight n = omega arith
 in_four : (n : ℕ) → n % 4 < 4
 in_four n = omega arith
 
-high_first : law.ListsFirst (graph high).graph (listed_of (first_alone 50 three.one_to_four three.nothing (50 ∷ 37 ∷ 24 ∷ 11 ∷ []) 55))
-high_first = law.lists_first 4 (next high) 50 three.one_to_four three.nothing (50 ∷ 37 ∷ 24 ∷ 11 ∷ []) 55
+high_first : law.ListsFirst (graph high).graph
+    (listed_of (first_alone 50 three.one_to_four three.nothing (50 ∷ 37 ∷ 24 ∷ 11 ∷ []) 55))
+high_first =
+    law.lists_first 4 (next high) 50 three.one_to_four three.nothing (50 ∷ 37 ∷ 24 ∷ 11 ∷ []) 55
 
-middle_first : law.ListsFirst (graph (lower 0x2010)).graph (listed_of (first_alone 30 three.one_and_two three.one_and_two (30 ∷ 4 ∷ 17 ∷ 1 ∷ []) 115))
-middle_first = law.lists_first 4 (next (lower 0x2010)) 30 three.one_and_two three.one_and_two (30 ∷ 4 ∷ 17 ∷ 1 ∷ []) 115
+middle_first : law.ListsFirst (graph (lower 0x2010)).graph
+    (listed_of (first_alone 30 three.one_and_two three.one_and_two (30 ∷ 4 ∷ 17 ∷ 1 ∷ []) 115))
+middle_first =
+    law.lists_first 4 (next (lower 0x2010)) 30 three.one_and_two three.one_and_two
+    (30 ∷ 4 ∷ 17 ∷ 1 ∷ []) 115
 
-low_first : law.ListsFirst (graph (lower 0x1030)).graph (listed_of (first_alone 30 three.three_and_four three.three_and_four (30 ∷ 4 ∷ 17 ∷ 1 ∷ []) 175))
-low_first = law.lists_first 4 (next (lower 0x1030)) 30 three.three_and_four three.three_and_four (30 ∷ 4 ∷ 17 ∷ 1 ∷ []) 175
+low_first : law.ListsFirst (graph (lower 0x1030)).graph
+    (listed_of
+    (first_alone 30 three.three_and_four three.three_and_four (30 ∷ 4 ∷ 17 ∷ 1 ∷ []) 175))
+low_first =
+    law.lists_first 4 (next (lower 0x1030)) 30 three.three_and_four three.three_and_four
+    (30 ∷ 4 ∷ 17 ∷ 1 ∷ []) 175
 
-call_first : law.ListsFirst (graph call_way).graph (listed_of (first_alone 45 zero_and_one zero_and_one (45 ∷ 34 ∷ 30 ∷ 14 ∷ 8 ∷ 4 ∷ 3 ∷ 27 ∷ 11 ∷ []) 50))
-call_first = law.lists_first 9 (next call_way) 45 zero_and_one zero_and_one (45 ∷ 34 ∷ 30 ∷ 14 ∷ 8 ∷ 4 ∷ 3 ∷ 27 ∷ 11 ∷ []) 50
+call_first : law.ListsFirst (graph call_way).graph
+    (listed_of
+    (first_alone 45 zero_and_one zero_and_one (45 ∷ 34 ∷ 30 ∷ 14 ∷ 8 ∷ 4 ∷ 3 ∷ 27 ∷ 11 ∷ []) 50))
+call_first =
+    law.lists_first 9 (next call_way) 45 zero_and_one zero_and_one
+    (45 ∷ 34 ∷ 30 ∷ 14 ∷ 8 ∷ 4 ∷ 3 ∷ 27 ∷ 11 ∷ []) 50
 
 pub worked_sets : WorkedSets
 worked_sets =
     record {
-      high = sets high high_way high_rest high_rests three.platform (λ x. in_eight _) (1 ∷ 2 ∷ 3 ∷ 4 ∷ []) [] (record { some_sets = refl; evicts = refl; reuses = refl });
-      high_last = row high high_way high_rest high_rests three.platform (λ x. in_eight _) _ high_first 3 ((1, 0x301) ∷ (2, 0x302) ∷ (3, 0x303) ∷ []) [] (record { node = omega arith; some_blocks = refl; some_sets = refl; states = refl; reuses = refl });
-      middle = sets (lower 0x2010) (lower_way 0x2010) lower_rest (lower_rests 0x2010) three.platform (λ x. in_eight _) (1 ∷ 2 ∷ []) (1 ∷ 2 ∷ []) (record { some_sets = refl; evicts = refl; reuses = refl });
-      middle_first = row (lower 0x2010) (lower_way 0x2010) lower_rest (lower_rests 0x2010) three.platform (λ x. in_eight _) _ middle_first 0 [] [] (record { node = omega arith; some_blocks = refl; some_sets = refl; states = refl; reuses = refl });
-      middle_second = row (lower 0x2010) (lower_way 0x2010) lower_rest (lower_rests 0x2010) three.platform (λ x. in_eight _) _ middle_first 2 ((1, 0x201) ∷ []) (1 ∷ []) (record { node = omega arith; some_blocks = refl; some_sets = refl; states = refl; reuses = refl });
-      middle_third = row (lower 0x2010) (lower_way 0x2010) lower_rest (lower_rests 0x2010) three.platform (λ x. in_eight _) _ middle_first 1 ((1, 0x201) ∷ (2, 0x202) ∷ []) (1 ∷ 2 ∷ []) (record { node = omega arith; some_blocks = refl; some_sets = refl; states = refl; reuses = refl });
-      middle_last = row (lower 0x2010) (lower_way 0x2010) lower_rest (lower_rests 0x2010) three.platform (λ x. in_eight _) _ middle_first 3 ((1, 0x201) ∷ (2, 0x202) ∷ []) (2 ∷ []) (record { node = omega arith; some_blocks = refl; some_sets = refl; states = refl; reuses = refl });
-      low = sets (lower 0x1030) (lower_way 0x1030) lower_rest (lower_rests 0x1030) three.platform (λ x. in_eight _) (3 ∷ 4 ∷ []) (3 ∷ 4 ∷ []) (record { some_sets = refl; evicts = refl; reuses = refl });
-      low_third = row (lower 0x1030) (lower_way 0x1030) lower_rest (lower_rests 0x1030) three.platform (λ x. in_eight _) _ low_first 1 ((3, 0x103) ∷ (4, 0x104) ∷ []) (3 ∷ 4 ∷ []) (record { node = omega arith; some_blocks = refl; some_sets = refl; states = refl; reuses = refl });
-      low_last = row (lower 0x1030) (lower_way 0x1030) lower_rest (lower_rests 0x1030) three.platform (λ x. in_eight _) _ low_first 3 ((3, 0x103) ∷ (4, 0x104) ∷ []) (4 ∷ []) (record { node = omega arith; some_blocks = refl; some_sets = refl; states = refl; reuses = refl });
-      calls = sets call_way call_is_way call_rest call_rests two_words.platform (λ x. in_four _) (0 ∷ 1 ∷ []) (0 ∷ 1 ∷ []) (record { some_sets = refl; evicts = refl; reuses = refl });
-      in_first = row call_way call_is_way call_rest call_rests two_words.platform (λ x. in_four _) _ call_first 7 ((0, 0x100) ∷ []) (0 ∷ []) (record { node = omega arith; some_blocks = refl; some_sets = refl; states = refl; reuses = refl });
-      between = row call_way call_is_way call_rest call_rests two_words.platform (λ x. in_four _) _ call_first 3 ((0, 0x100) ∷ (1, 0x101) ∷ []) (0 ∷ 1 ∷ []) (record { node = omega arith; some_blocks = refl; some_sets = refl; states = refl; reuses = refl });
-      in_second = row call_way call_is_way call_rest call_rests two_words.platform (λ x. in_four _) _ call_first 8 ((0, 0x100) ∷ (1, 0x101) ∷ []) (1 ∷ []) (record { node = omega arith; some_blocks = refl; some_sets = refl; states = refl; reuses = refl });
+      high =
+          sets high high_way high_rest high_rests three.platform (λ x. in_eight _)
+          (1 ∷ 2 ∷ 3 ∷ 4 ∷ []) [] (record { some_sets = refl; evicts = refl; reuses = refl });
+      high_last =
+          row high high_way high_rest high_rests three.platform (λ x. in_eight _) _ high_first 3
+          ((1, 0x301) ∷ (2, 0x302) ∷ (3, 0x303) ∷ []) []
+          (record {
+            node = omega arith;
+            some_blocks = refl;
+            some_sets = refl;
+            states = refl;
+            reuses = refl;
+          });
+      middle =
+          sets (lower 0x2010) (lower_way 0x2010) lower_rest (lower_rests 0x2010) three.platform
+          (λ x. in_eight _) (1 ∷ 2 ∷ []) (1 ∷ 2 ∷ [])
+          (record { some_sets = refl; evicts = refl; reuses = refl });
+      middle_first =
+          row (lower 0x2010) (lower_way 0x2010) lower_rest (lower_rests 0x2010) three.platform
+          (λ x. in_eight _) _ middle_first 0 [] []
+          (record {
+            node = omega arith;
+            some_blocks = refl;
+            some_sets = refl;
+            states = refl;
+            reuses = refl;
+          });
+      middle_second =
+          row (lower 0x2010) (lower_way 0x2010) lower_rest (lower_rests 0x2010) three.platform
+          (λ x. in_eight _) _ middle_first 2 ((1, 0x201) ∷ []) (1 ∷ [])
+          (record {
+            node = omega arith;
+            some_blocks = refl;
+            some_sets = refl;
+            states = refl;
+            reuses = refl;
+          });
+      middle_third =
+          row (lower 0x2010) (lower_way 0x2010) lower_rest (lower_rests 0x2010) three.platform
+          (λ x. in_eight _) _ middle_first 1 ((1, 0x201) ∷ (2, 0x202) ∷ []) (1 ∷ 2 ∷ [])
+          (record {
+            node = omega arith;
+            some_blocks = refl;
+            some_sets = refl;
+            states = refl;
+            reuses = refl;
+          });
+      middle_last =
+          row (lower 0x2010) (lower_way 0x2010) lower_rest (lower_rests 0x2010) three.platform
+          (λ x. in_eight _) _ middle_first 3 ((1, 0x201) ∷ (2, 0x202) ∷ []) (2 ∷ [])
+          (record {
+            node = omega arith;
+            some_blocks = refl;
+            some_sets = refl;
+            states = refl;
+            reuses = refl;
+          });
+      low =
+          sets (lower 0x1030) (lower_way 0x1030) lower_rest (lower_rests 0x1030) three.platform
+          (λ x. in_eight _) (3 ∷ 4 ∷ []) (3 ∷ 4 ∷ [])
+          (record { some_sets = refl; evicts = refl; reuses = refl });
+      low_third =
+          row (lower 0x1030) (lower_way 0x1030) lower_rest (lower_rests 0x1030) three.platform
+          (λ x. in_eight _) _ low_first 1 ((3, 0x103) ∷ (4, 0x104) ∷ []) (3 ∷ 4 ∷ [])
+          (record {
+            node = omega arith;
+            some_blocks = refl;
+            some_sets = refl;
+            states = refl;
+            reuses = refl;
+          });
+      low_last =
+          row (lower 0x1030) (lower_way 0x1030) lower_rest (lower_rests 0x1030) three.platform
+          (λ x. in_eight _) _ low_first 3 ((3, 0x103) ∷ (4, 0x104) ∷ []) (4 ∷ [])
+          (record {
+            node = omega arith;
+            some_blocks = refl;
+            some_sets = refl;
+            states = refl;
+            reuses = refl;
+          });
+      calls =
+          sets call_way call_is_way call_rest call_rests two_words.platform (λ x. in_four _)
+          (0 ∷ 1 ∷ []) (0 ∷ 1 ∷ []) (record { some_sets = refl; evicts = refl; reuses = refl });
+      in_first =
+          row call_way call_is_way call_rest call_rests two_words.platform
+          (λ x. in_four _) _ call_first 7 ((0, 0x100) ∷ []) (0 ∷ [])
+          (record {
+            node = omega arith;
+            some_blocks = refl;
+            some_sets = refl;
+            states = refl;
+            reuses = refl;
+          });
+      between =
+          row call_way call_is_way call_rest call_rests two_words.platform
+          (λ x. in_four _) _ call_first 3 ((0, 0x100) ∷ (1, 0x101) ∷ []) (0 ∷ 1 ∷ [])
+          (record {
+            node = omega arith;
+            some_blocks = refl;
+            some_sets = refl;
+            states = refl;
+            reuses = refl;
+          });
+      in_second =
+          row call_way call_is_way call_rest call_rests two_words.platform
+          (λ x. in_four _) _ call_first 8 ((0, 0x100) ∷ (1, 0x101) ∷ []) (1 ∷ [])
+          (record {
+            node = omega arith;
+            some_blocks = refl;
+            some_sets = refl;
+            states = refl;
+            reuses = refl;
+          });
     }

@@ -1,5 +1,6 @@
 -- The members of the empty set, and of the set of cache set 0 alone.
-use Rattle.std.proofs.Common.{◌≡◌, ◌∙◌, ℕ, suc, ◌-◌, ◌/◌, ◌%◌, IsTrue, ap, inl, inr, arith, get_or, replicate, length}
+use Rattle.std.proofs.Common.{◌≡◌, ◌∙◌, ℕ, suc, ◌-◌, ◌/◌, ◌%◌, IsTrue, ap, inl, inr, arith, get_or}
+use Rattle.std.proofs.Common.{replicate, length}
 use Rattle.std.specs.Int.{bit_at}
 use Rattle.std.proofs.lemmas.Bool.{cases_eq, cases_lt, eqb-true}
 use Rattle.std.proofs.lemmas.List.{get_or_past, get_or-replicate, length-replicate}
@@ -11,7 +12,9 @@ zeros_only : (n k : ℕ) → ◌≡◌ {A = ℕ} (get_or (replicate n 0) k 0) 0
 zeros_only n k =
     elim (cases_lt k n) [
       | inl l ↦ get_or-replicate n k 0 0 l
-      | inr g ↦ get_or_past (replicate n 0) k 0 (let e : length (replicate {A = ℕ} n 0) ≡ n = length-replicate n 0 in omega (arith, e, g))
+      | inr g ↦
+          get_or_past (replicate n 0) k 0
+          (let e : length (replicate {A = ℕ} n 0) ≡ n = length-replicate n 0 in omega (arith, e, g))
     ]
 
 none : (s : ℕ) → member (replicate 8 0) s ≡ 0
@@ -30,14 +33,17 @@ zero_only s h =
           elim (cases_eq (s % 64) 0) [
             | inl low ↦ omega (arith, first, low)
             | inr other ↦
-                let one : member zero_alone s ≡ bit_at 1 (s % 64) = ap (λ k. bit_at (get_or zero_alone k 0) (s % 64)) first in
+                let one : member zero_alone s ≡ bit_at 1 (s % 64) =
+                ap (λ k. bit_at (get_or zero_alone k 0) (s % 64)) first in
                 let nothing : bit_at 1 (s % 64) ≡ 0 = bit_at-pow_other 0 (s % 64) other in
                 absurd (omega (arith, h, one, nothing))
           ]
       | inr later ↦
           let past : s / 64 ≡ suc (s / 64 - 1) = omega (arith, later) in
-          let one : member zero_alone s ≡ bit_at (get_or (replicate 7 0) (s / 64 - 1) 0) (s % 64) = ap (λ k. bit_at (get_or zero_alone k 0) (s % 64)) past in
-          let nothing : bit_at (get_or (replicate 7 0) (s / 64 - 1) 0) (s % 64) ≡ 0 = ap (λ x. bit_at x (s % 64)) (zeros_only 7 (s / 64 - 1)) ∙ bit_at-zero (s % 64) in
+          let one : member zero_alone s ≡ bit_at (get_or (replicate 7 0) (s / 64 - 1) 0) (s % 64) =
+          ap (λ k. bit_at (get_or zero_alone k 0) (s % 64)) past in
+          let nothing : bit_at (get_or (replicate 7 0) (s / 64 - 1) 0) (s % 64) ≡ 0 =
+          ap (λ x. bit_at x (s % 64)) (zeros_only 7 (s / 64 - 1)) ∙ bit_at-zero (s % 64) in
           absurd (omega (arith, h, one, nothing))
     ]
 

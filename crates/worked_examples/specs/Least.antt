@@ -7,4 +7,5 @@ use Rattle.preempt_machine.specs.Safe.{IsSafe}
 -- whatever responses the set is safe with, they are at least these
 abbrev pub AreLeast : System → TaskSet → List ℕ → Type 0
 AreLeast sys set responses =
-    (others : List ℕ) → IsSafe sys set others → (k : ℕ) → k < length set.tasks → slice_index responses k ≤ slice_index others k
+    (others : List ℕ) → IsSafe sys set others → (k : ℕ) → k < length set.tasks
+    → slice_index responses k ≤ slice_index others k

@@ -1,5 +1,7 @@
--- A task with a loop: its system, its graph with a region, and its certificate as the analysis writes it.
-use Rattle.std.specs.Prelude.{ℕ, zero, suc, ◌==◌, ◌||◌, pos, negsuc, List, [], ◌∷◌, replicate, Option}
+-- A task with a loop: its system, its graph with a region, and its certificate as the analysis
+-- writes it.
+use Rattle.std.specs.Prelude.{ℕ, zero, suc, ◌==◌, ◌||◌, pos, negsuc, List, [], ◌∷◌, replicate}
+use Rattle.std.specs.Prelude.{Option}
 use Rattle.crpd_base.specs.declared.data.LoopAt.{LoopAt}
 use Rattle.crpd_base.specs.declared.data.TaskPlan.{TaskPlan}
 use Rattle.crpd_base.specs.declared.data.TaskSet.{TaskSet}
@@ -18,7 +20,9 @@ use Rattle.worked_examples.specs.TwoWords.{platform, zero_alone}
 
 -- three into x5, less one, back while it is not 0, ECALL
 abbrev pub words : ℕ → Option ℕ
-words = word_in ((0x1000, 0x00300293) ∷ (0x1004, 0xFFF28293) ∷ (0x1008, 0xFE029EE3) ∷ (0x100C, 0x00000073) ∷ [])
+words =
+    word_in ((0x1000, 0x00300293) ∷ (0x1004, 0xFFF28293) ∷ (0x1008, 0xFE029EE3)
+    ∷ (0x100C, 0x00000073) ∷ [])
 
 abbrev pub loop : LoopAt
 loop = record { head = 0x1004; bound = 3; ranges = (0x1004, 0x100C) ∷ [] }
@@ -56,7 +60,12 @@ graph =
       graph = record { size = 4; first = 0; next = next_of };
       places = record { context = λ y. []; address = address_of };
       ins = ins_of;
-      nest = record { size = 1; head = λ r. 1; bound = λ r. 3; holds = λ r y. (y == 1) || (y == 2) };
+      nest = record {
+        size = 1;
+        head = λ r. 1;
+        bound = λ r. 3;
+        holds = λ r y. (y == 1) || (y == 2);
+      };
     }
 
 abbrev pub task_certificate : TaskPart

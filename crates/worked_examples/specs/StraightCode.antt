@@ -1,5 +1,7 @@
--- Tasks whose code goes one way, without branches, calls and loops: their words, graphs and certificates.
-use Rattle.std.specs.Prelude.{ℕ, ◌*◌, ◌/◌, ◌%◌, ◌==◌, if◌then◌else◌, true, false, map, List, [], ◌∷◌, length, replicate, slice_index_or, Option, Some, None}
+-- Tasks whose code goes one way, without branches, calls and loops: their words, graphs and
+-- certificates.
+use Rattle.std.specs.Prelude.{ℕ, ◌*◌, ◌/◌, ◌%◌, ◌==◌, if◌then◌else◌, true, false, map, List, []}
+use Rattle.std.specs.Prelude.{◌∷◌, length, replicate, slice_index_or, Option, Some, None}
 use Rattle.crpd_base.specs.declared.data.Image.{Image}
 use Rattle.crpd_base.specs.declared.data.Segment.{Segment}
 use Rattle.crpd_base.specs.declared.data.TaskPlan.{TaskPlan}
@@ -19,13 +21,24 @@ abbrev pub word_in : List (ℕ × ℕ) → ℕ → Option ℕ
 word_in [] a = None
 word_in (e ∷ table) a = if a == e.0 then Some e.1 else word_in table a
 
--- a plan from an entry, and a task with a period that is its deadline: no stack, no jitter, no loops
+-- a plan from an entry, and a task with a period that is its deadline: no stack, no jitter, no
+-- loops
 abbrev pub plan : ℕ → TaskPlan
 plan entry = record { entry = entry; stack = 0; global = 0; loops = [] }
 
 abbrev pub task : ℕ → TaskSpec
 task period =
-    record { name = []; file = []; entry = None; period = period; deadline = period; jitter = 0; stack = Number 0; global = Number 0; loops = [] }
+    record {
+      name = [];
+      file = [];
+      entry = None;
+      period = period;
+      deadline = period;
+      jitter = 0;
+      stack = Number 0;
+      global = Number 0;
+      loops = [];
+    }
 
 -- the same of a name, which its file has too
 abbrev pub named_task : List ℕ → ℕ → TaskSpec
@@ -34,10 +47,16 @@ named_task name period = record (task period) { name = name; file = name }
 -- the bytes of words, of each the lowest first, and a file with words from some addresses on
 abbrev pub bytes_of : List ℕ → List ℕ
 bytes_of [] = []
-bytes_of (w ∷ ws) = (w % 256) ∷ ((w / 256) % 256) ∷ ((w / 65536) % 256) ∷ (w / 16777216) ∷ bytes_of ws
+bytes_of (w ∷ ws) =
+    (w % 256) ∷ ((w / 256) % 256) ∷ ((w / 65536) % 256) ∷ (w / 16777216) ∷ bytes_of ws
 
 abbrev pub segment_of : ℕ × List ℕ → Segment
-segment_of run = record { address = run.0; size = 4 * length run.1; bytes = bytes_of run.1; executable = true }
+segment_of run = record {
+  address = run.0;
+  size = 4 * length run.1;
+  bytes = bytes_of run.1;
+  executable = true;
+}
 
 abbrev pub file_of : List (ℕ × List ℕ) → Image
 file_of runs = record { entry = 0; segments = map segment_of runs; symbols = [] }
@@ -59,12 +78,18 @@ no_regions = record { size = 0; head = λ r. 0; bound = λ r. 0; holds = λ r y.
 
 -- the graph of a task outside calls, with the address and the instruction of each node
 abbrev pub graph_of : Graph → (ℕ → ℕ) → (ℕ → Ins) → TaskGraph
-graph_of g address ins = record { graph = g; places = record { context = λ y. []; address = address }; ins = ins; nest = no_regions }
+graph_of g address ins = record {
+  graph = g;
+  places = record { context = λ y. []; address = address };
+  ins = ins;
+  nest = no_regions;
+}
 
 -- the same by lists: the addresses, the instructions and the successors of the nodes 0, 1, ..
 abbrev pub listed_graph : List ℕ → List Ins → List (Option ℕ) → TaskGraph
 listed_graph addresses instructions successors =
-    graph_of (straight_graph (length addresses) (λ y. slice_index_or successors y None)) (λ y. slice_index_or addresses y 0) (λ y. slice_index_or instructions y Ecall)
+    graph_of (straight_graph (length addresses) (λ y. slice_index_or successors y None))
+    (λ y. slice_index_or addresses y 0) (λ y. slice_index_or instructions y Ecall)
 
 -- a certificate that lists the first node alone, with an empty state and no useful set
 abbrev pub first_alone : ℕ → List ℕ → List ℕ → List ℕ → ℕ → TaskPart

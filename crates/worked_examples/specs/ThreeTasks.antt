@@ -1,6 +1,7 @@
--- Three tasks, of which each higher one preempts the next: their code, graphs and certificate, and a run that takes the
--- responses whole.
-use Rattle.std.specs.Prelude.{◌≡◌, ℕ, zero, suc, ◌+◌, List, [], ◌∷◌, replicate, Some, None, pos, negsuc, codes}
+-- Three tasks, of which each higher one preempts the next: their code, graphs and certificate, and
+-- a run that takes the responses whole.
+use Rattle.std.specs.Prelude.{◌≡◌, ℕ, zero, suc, ◌+◌, List, [], ◌∷◌, replicate, Some, None, pos}
+use Rattle.std.specs.Prelude.{negsuc, codes}
 use Rattle.crpd_base.specs.declared.data.Platform.{Platform}
 use Rattle.crpd_base.specs.declared.data.TaskSet.{TaskSet}
 use Rattle.crpd_base.specs.declared.data.Certificate.{Certificate}
@@ -14,19 +15,25 @@ use Rattle.preempt_machine.specs.Safe.{system_of, IsSafeWith, IsLegalRun, IsKept
 use Rattle.sound_laws.specs.CheckedCode.{IsChecked}
 use Rattle.worked_examples.specs.TwoWords as two_words
 use Rattle.worked_examples.specs.Least.{AreLeast}
-use Rattle.worked_examples.specs.StraightCode.{plan, named_task, file_of, job, listed_graph, first_alone, named}
+use Rattle.worked_examples.specs.StraightCode.{plan, named_task, file_of, job, listed_graph}
+use Rattle.worked_examples.specs.StraightCode.{first_alone, named}
 
 -- the platform with eight cache sets
 abbrev pub platform : Platform
 platform = record two_words.platform { sets = 8 }
 
--- the highest task jumps through four lines; each other one jumps from its first line to its second, back, and there again
+-- the highest task jumps through four lines; each other one jumps from its first line to its
+-- second, back, and there again
 abbrev pub code : Code
 code =
     record {
-      images = file_of ((0x3010, 0x0100006F ∷ []) ∷ (0x3020, 0x0100006F ∷ []) ∷ (0x3030, 0x0100006F ∷ []) ∷ (0x3040, 0x00000073 ∷ []) ∷ [])
-          ∷ file_of ((0x2010, 0x0100006F ∷ 0x0100006F ∷ []) ∷ (0x2020, 0xFF5FF06F ∷ 0x00000073 ∷ []) ∷ [])
-          ∷ file_of ((0x1030, 0x0100006F ∷ 0x0100006F ∷ []) ∷ (0x1040, 0xFF5FF06F ∷ 0x00000073 ∷ []) ∷ []) ∷ [];
+      images =
+          file_of ((0x3010, 0x0100006F ∷ []) ∷ (0x3020, 0x0100006F ∷ []) ∷ (0x3030, 0x0100006F ∷ [])
+          ∷ (0x3040, 0x00000073 ∷ []) ∷ [])
+          ∷ file_of ((0x2010, 0x0100006F ∷ 0x0100006F ∷ [])
+          ∷ (0x2020, 0xFF5FF06F ∷ 0x00000073 ∷ []) ∷ [])
+          ∷ file_of ((0x1030, 0x0100006F ∷ 0x0100006F ∷ [])
+          ∷ (0x1040, 0xFF5FF06F ∷ 0x00000073 ∷ []) ∷ []) ∷ [];
       plans = plan 0x3010 ∷ plan 0x2010 ∷ plan 0x1030 ∷ [];
     }
 
@@ -40,19 +47,25 @@ abbrev pub low_name : List ℕ
 low_name = codes "low"
 
 abbrev pub set : TaskSet
-set = record { platform = platform; tasks = named_task high_name 10000 ∷ named_task middle_name 10000 ∷ named_task low_name 10000 ∷ [] }
+set = record {
+  platform = platform;
+  tasks =
+      named_task high_name 10000 ∷ named_task middle_name 10000 ∷ named_task low_name 10000 ∷ [];
+}
 
 abbrev pub system : System
 system = system_of set code
 
 abbrev pub lines : ℕ → TaskGraph
 lines entry =
-    listed_graph (entry ∷ (entry + 16) ∷ (entry + 32) ∷ (entry + 48) ∷ []) (Jal 0 (pos 16) ∷ Jal 0 (pos 16) ∷ Jal 0 (pos 16) ∷ Ecall ∷ [])
+    listed_graph (entry ∷ (entry + 16) ∷ (entry + 32) ∷ (entry + 48) ∷ [])
+    (Jal 0 (pos 16) ∷ Jal 0 (pos 16) ∷ Jal 0 (pos 16) ∷ Ecall ∷ [])
     (Some 1 ∷ Some 2 ∷ Some 3 ∷ None ∷ [])
 
 abbrev pub there_again : ℕ → TaskGraph
 there_again entry =
-    listed_graph (entry ∷ (entry + 4) ∷ (entry + 16) ∷ (entry + 20) ∷ []) (Jal 0 (pos 16) ∷ Jal 0 (pos 16) ∷ Jal 0 (negsuc 11) ∷ Ecall ∷ [])
+    listed_graph (entry ∷ (entry + 4) ∷ (entry + 16) ∷ (entry + 20) ∷ [])
+    (Jal 0 (pos 16) ∷ Jal 0 (pos 16) ∷ Jal 0 (negsuc 11) ∷ Ecall ∷ [])
     (Some 2 ∷ Some 3 ∷ Some 1 ∷ None ∷ [])
 
 abbrev pub graphs : ℕ → TaskGraph
@@ -79,16 +92,23 @@ certificate =
       platform = platform;
       tasks = named high_name (first_alone 50 one_to_four nothing (50 ∷ 37 ∷ 24 ∷ 11 ∷ []) 55)
           ∷ named middle_name (first_alone 30 one_and_two one_and_two (30 ∷ 4 ∷ 17 ∷ 1 ∷ []) 115)
-          ∷ named low_name (first_alone 30 three_and_four three_and_four (30 ∷ 4 ∷ 17 ∷ 1 ∷ []) 175) ∷ [];
+          ∷ named low_name (first_alone 30 three_and_four three_and_four (30 ∷ 4 ∷ 17 ∷ 1 ∷ []) 175)
+          ∷ [];
     }
 
--- the lowest task first, the middle one in the middle of it, and the highest one in the middle of that
+-- the lowest task first, the middle one in the middle of it, and the highest one in the middle of
+-- that
 abbrev pub start : Start
 start =
-    record { system = system; cache = replicate 8 None; memory = []; lines = job 2 0 ∷ job 1 31 ∷ job 0 62 ∷ [] }
+    record {
+      system = system;
+      cache = replicate 8 None;
+      memory = [];
+      lines = job 2 0 ∷ job 1 31 ∷ job 0 62 ∷ [];
+    }
 
--- the premises of the laws hold of the set with its code, so it is safe with the responses 55, 115 and 175, and with none that are shorter: a
--- legal run takes each whole
+-- the premises of the laws hold of the set with its code, so it is safe with the responses 55, 115
+-- and 175, and with none that are shorter: a legal run takes each whole
 pub record ThreeTasks : Type 0 where
   pub checked : IsChecked set code graphs certificate
   pub safe : IsSafeWith set code (55 ∷ 115 ∷ 175 ∷ [])

@@ -1,5 +1,5 @@
--- Two tasks on one cache set, of which the higher one preempts: their code, graphs and certificate, and a run that takes the
--- responses whole.
+-- Two tasks on one cache set, of which the higher one preempts: their code, graphs and certificate,
+-- and a run that takes the responses whole.
 use Rattle.std.specs.Prelude.{◌≡◌, ℕ, zero, suc, List, [], ◌∷◌, None, codes}
 use Rattle.crpd_base.specs.declared.data.TaskSet.{TaskSet}
 use Rattle.crpd_base.specs.declared.data.Certificate.{Certificate}
@@ -19,7 +19,10 @@ abbrev pub words : List ℕ
 words = 0x00100293 ∷ 0x00000073 ∷ []
 
 abbrev pub code : Code
-code = record { images = file_of ((0x2000, words) ∷ []) ∷ file_of ((0x1000, words) ∷ []) ∷ []; plans = plan 0x2000 ∷ plan 0x1000 ∷ [] }
+code = record {
+  images = file_of ((0x2000, words) ∷ []) ∷ file_of ((0x1000, words) ∷ []) ∷ [];
+  plans = plan 0x2000 ∷ plan 0x1000 ∷ [];
+}
 
 abbrev pub high_name : List ℕ
 high_name = codes "high"
@@ -28,7 +31,10 @@ abbrev pub low_name : List ℕ
 low_name = codes "low"
 
 abbrev pub set : TaskSet
-set = record { platform = platform; tasks = named_task high_name 100 ∷ named_task low_name 100 ∷ [] }
+set = record {
+  platform = platform;
+  tasks = named_task high_name 100 ∷ named_task low_name 100 ∷ [];
+}
 
 abbrev pub system : System
 system = system_of set code
@@ -37,20 +43,28 @@ abbrev pub graphs : ℕ → TaskGraph
 graphs zero = graph_from 0x2000
 graphs (suc k) = graph_from 0x1000
 
--- a reload by the one preemption, two switches and the higher bound are what the lower response has more
+-- a reload by the one preemption, two switches and the higher bound are what the lower response has
+-- more
 abbrev pub certificate : Certificate
 certificate =
     record {
       platform = platform;
-      tasks = named high_name (first_alone 12 zero_alone zero_alone (12 ∷ 1 ∷ []) 17) ∷ named low_name (first_alone 12 zero_alone zero_alone (12 ∷ 1 ∷ []) 49) ∷ [];
+      tasks =
+          named high_name (first_alone 12 zero_alone zero_alone (12 ∷ 1 ∷ []) 17)
+          ∷ named low_name (first_alone 12 zero_alone zero_alone (12 ∷ 1 ∷ []) 49) ∷ [];
     }
 
 -- the lower task first, and the higher one in the middle of it
 abbrev pub start : Start
-start = record { system = system; cache = None ∷ None ∷ None ∷ None ∷ []; memory = []; lines = job 1 0 ∷ job 0 16 ∷ [] }
+start = record {
+  system = system;
+  cache = None ∷ None ∷ None ∷ None ∷ [];
+  memory = [];
+  lines = job 1 0 ∷ job 0 16 ∷ [];
+}
 
--- the premises of the laws hold of the set with its code, so it is safe with the responses 17 and 49, and with none that are shorter: a legal
--- run takes both whole
+-- the premises of the laws hold of the set with its code, so it is safe with the responses 17 and
+-- 49, and with none that are shorter: a legal run takes both whole
 pub record TwoTasks : Type 0 where
   pub checked : IsChecked set code graphs certificate
   pub safe : IsSafeWith set code (17 ∷ 49 ∷ [])

@@ -14,7 +14,18 @@ use Rattle.sound_laws.specs.Walks.{HasTaskRanges, IsCodeOf}
 use Rattle.worked_examples.specs.StraightCode.{word_in, plan, task, listed_graph, first_alone}
 
 abbrev pub platform : Platform
-platform = record { line = 16; sets = 4; hit = 1; miss = 10; memory = 3; taken = 2; switch = 5; mul = 0; div = 0; switching = Cycle }
+platform = record {
+  line = 16;
+  sets = 4;
+  hit = 1;
+  miss = 10;
+  memory = 3;
+  taken = 2;
+  switch = 5;
+  mul = 0;
+  div = 0;
+  switching = Cycle;
+}
 
 -- one into x5, ECALL
 abbrev pub words : ℕ → Option ℕ
@@ -28,7 +39,8 @@ set = record { platform = platform; tasks = task 100 ∷ [] }
 
 -- the graph of these two instructions, from any entry
 abbrev pub graph_from : ℕ → TaskGraph
-graph_from entry = listed_graph (entry ∷ (entry + 4) ∷ []) (Addi 5 0 (pos 1) ∷ Ecall ∷ []) (Some 1 ∷ None ∷ [])
+graph_from entry =
+    listed_graph (entry ∷ (entry + 4) ∷ []) (Addi 5 0 (pos 1) ∷ Ecall ∷ []) (Some 1 ∷ None ∷ [])
 
 abbrev pub graph : TaskGraph
 graph = graph_from 0x1000

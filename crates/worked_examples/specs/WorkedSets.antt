@@ -1,5 +1,7 @@
--- Worked rows of the cache analyses: the three tasks that preempt each other, and a program that calls one function twice.
-use Rattle.std.specs.Prelude.{◌≡◌, ℕ, ◌↔◌, List, [], ◌∷◌, replicate, slice_index_or, Option, Some, None, Contains, pos, negsuc}
+-- Worked rows of the cache analyses: the three tasks that preempt each other, and a program that
+-- calls one function twice.
+use Rattle.std.specs.Prelude.{◌≡◌, ℕ, ◌↔◌, List, [], ◌∷◌, replicate, slice_index_or, Option, Some}
+use Rattle.std.specs.Prelude.{None, Contains, pos, negsuc}
 use Rattle.rv_decode.specs.declared.Ins.{Ins}
 use Rattle.rv_decode.specs.declared.Ins.TheVariants.{Addi, Sw, Lw, Jal, Jalr}
 use Rattle.flat_graph.specs.Graph.{Graph}
@@ -18,9 +20,10 @@ use Rattle.worked_examples.specs.ThreeTasks as three
 abbrev pub AreThese : List ℕ → (ℕ → Type 0) → Type 0
 AreThese numbers P = (s : ℕ) → P s ↔ Contains numbers s
 
--- what is known before a node, where the first node alone is listed: the blocks that sets surely hold and the useful sets,
--- and the full state with its useful set is the same
-pub record IsRow (g : Graph) (a : Accesses) (l : Listed) (y : ℕ) (blocks : List (ℕ × ℕ)) (useful : List ℕ) : Type 0 where
+-- what is known before a node, where the first node alone is listed: the blocks that sets surely
+-- hold and the useful sets, and the full state with its useful set is the same
+pub record IsRow (g : Graph) (a : Accesses) (l : Listed) (y : ℕ) (blocks : List (ℕ × ℕ))
+    (useful : List ℕ) : Type 0 where
   pub sure : (s m : ℕ) → Sure g a y s m ↔ (block_of_set blocks s ≡ Some m)
   pub useful_sets : AreThese useful (Useful g a y)
   pub full_state : (s m : ℕ) → FullState g a l y s m ↔ (block_of_set blocks s ≡ Some m)
@@ -41,24 +44,28 @@ uses k = accesses_of three.platform (three.graphs k)
 abbrev pub lists : ℕ → Listed
 lists k = listed_of (certified_task three.certificate k)
 
--- the program with two calls, on four cache sets: seven nodes outside calls, then the function's one instruction in the
--- context of each call
+-- the program with two calls, on four cache sets: seven nodes outside calls, then the function's
+-- one instruction in the context of each call
 abbrev pub call_addresses : List ℕ
 call_addresses = 0x1000 ∷ 0x1004 ∷ 0x1008 ∷ 0x100C ∷ 0x1010 ∷ 0x1014 ∷ 0x1018 ∷ 0x101C ∷ 0x101C ∷ []
 
 abbrev pub call_instructions : List Ins
 call_instructions =
-    Addi 2 2 (negsuc 15) ∷ Sw 2 1 (pos 12) ∷ Jal 1 (pos 20) ∷ Jal 1 (pos 16) ∷ Lw 1 2 (pos 12) ∷ Addi 2 2 (pos 16) ∷ Jalr 0 1 (pos 0)
+    Addi 2 2 (negsuc 15) ∷ Sw 2 1 (pos 12) ∷ Jal 1 (pos 20) ∷ Jal 1 (pos 16) ∷ Lw 1 2 (pos 12)
+    ∷ Addi 2 2 (pos 16) ∷ Jalr 0 1 (pos 0)
     ∷ Jalr 0 1 (pos 0) ∷ Jalr 0 1 (pos 0) ∷ []
 
 abbrev pub call_successors : List (Option ℕ)
 call_successors = Some 1 ∷ Some 2 ∷ Some 7 ∷ Some 8 ∷ Some 5 ∷ Some 6 ∷ None ∷ Some 3 ∷ Some 4 ∷ []
 
 abbrev pub call_context : ℕ → List ℕ
-call_context y = slice_index_or ([] ∷ [] ∷ [] ∷ [] ∷ [] ∷ [] ∷ [] ∷ (0x1008 ∷ []) ∷ (0x100C ∷ []) ∷ []) y []
+call_context y =
+    slice_index_or ([] ∷ [] ∷ [] ∷ [] ∷ [] ∷ [] ∷ [] ∷ (0x1008 ∷ []) ∷ (0x100C ∷ []) ∷ []) y []
 
 abbrev pub two_calls : TaskGraph
-two_calls = record (listed_graph call_addresses call_instructions call_successors) { places = record { context = call_context; address = λ y. slice_index_or call_addresses y 0 } }
+two_calls =
+    record (listed_graph call_addresses call_instructions call_successors)
+    { places = record { context = call_context; address = λ y. slice_index_or call_addresses y 0 } }
 
 abbrev pub call_uses : Accesses
 call_uses = accesses_of two_words.platform two_calls
@@ -67,17 +74,21 @@ abbrev pub zero_and_one : List ℕ
 zero_and_one = 3 ∷ replicate 7 0
 
 abbrev pub call_lists : Listed
-call_lists = listed_of (first_alone 45 zero_and_one zero_and_one (45 ∷ 34 ∷ 30 ∷ 14 ∷ 8 ∷ 4 ∷ 3 ∷ 27 ∷ 11 ∷ []) 50)
+call_lists =
+    listed_of
+    (first_alone 45 zero_and_one zero_and_one (45 ∷ 34 ∷ 30 ∷ 14 ∷ 8 ∷ 4 ∷ 3 ∷ 27 ∷ 11 ∷ []) 50)
 
 pub record WorkedSets : Type 0 where
   -- the highest task uses no block again
   pub high : HasSets (graph 0) (uses 0) (1 ∷ 2 ∷ 3 ∷ 4 ∷ []) []
-  pub high_last : IsRow (graph 0) (uses 0) (lists 0) 3 ((1, 0x301) ∷ (2, 0x302) ∷ (3, 0x303) ∷ []) []
+  pub high_last : IsRow (graph 0) (uses 0) (lists 0) 3
+      ((1, 0x301) ∷ (2, 0x302) ∷ (3, 0x303) ∷ []) []
   -- the middle one goes to its nodes 0, 2, 1 and 3, and uses both of its blocks again
   pub middle : HasSets (graph 1) (uses 1) (1 ∷ 2 ∷ []) (1 ∷ 2 ∷ [])
   pub middle_first : IsRow (graph 1) (uses 1) (lists 1) 0 [] []
   pub middle_second : IsRow (graph 1) (uses 1) (lists 1) 2 ((1, 0x201) ∷ []) (1 ∷ [])
-  pub middle_third : IsRow (graph 1) (uses 1) (lists 1) 1 ((1, 0x201) ∷ (2, 0x202) ∷ []) (1 ∷ 2 ∷ [])
+  pub middle_third : IsRow (graph 1) (uses 1) (lists 1) 1 ((1, 0x201) ∷ (2, 0x202) ∷ [])
+      (1 ∷ 2 ∷ [])
   pub middle_last : IsRow (graph 1) (uses 1) (lists 1) 3 ((1, 0x201) ∷ (2, 0x202) ∷ []) (2 ∷ [])
   -- and the lowest one does the same with its own
   pub low : HasSets (graph 2) (uses 2) (3 ∷ 4 ∷ []) (3 ∷ 4 ∷ [])
@@ -86,5 +97,7 @@ pub record WorkedSets : Type 0 where
   -- the calls: the function's block is used again in the second one, and the caller's after each
   pub calls : HasSets two_calls.graph call_uses (0 ∷ 1 ∷ []) (0 ∷ 1 ∷ [])
   pub in_first : IsRow two_calls.graph call_uses call_lists 7 ((0, 0x100) ∷ []) (0 ∷ [])
-  pub between : IsRow two_calls.graph call_uses call_lists 3 ((0, 0x100) ∷ (1, 0x101) ∷ []) (0 ∷ 1 ∷ [])
-  pub in_second : IsRow two_calls.graph call_uses call_lists 8 ((0, 0x100) ∷ (1, 0x101) ∷ []) (1 ∷ [])
+  pub between : IsRow two_calls.graph call_uses call_lists 3 ((0, 0x100) ∷ (1, 0x101) ∷ [])
+      (0 ∷ 1 ∷ [])
+  pub in_second : IsRow two_calls.graph call_uses call_lists 8
+      ((0, 0x100) ∷ (1, 0x101) ∷ []) (1 ∷ [])

@@ -1,5 +1,5 @@
-//! Worked examples of the laws of checked sets of tasks, each the contract of a function that does nothing: sets that
-//! meet all premises, with what the laws then say of them.
+//! Worked examples of the laws of checked sets of tasks, each the contract of a function that does
+//! nothing: sets that meet all premises, with what the laws then say of them.
 #![tactic(auto)]
 
 ghost use Rattle.worked_examples.specs.OneLoop.{OneLoop};
@@ -24,24 +24,24 @@ pub fn one_loop()
     yes_is_safe();
 }
 
-/// A law: the premises hold of two tasks of which the higher one preempts the lower one; a legal run takes both
-/// responses whole, so none that are shorter are safe. In constant time.
+/// A law: the premises hold of two tasks of which the higher one preempts the lower one; a legal
+/// run takes both responses whole, so none that are shorter are safe. In constant time.
 pub fn two_tasks()
     ensures { TwoTasks }
 {
     checked_code_is_safe();
 }
 
-/// A law: the premises hold of three tasks of which each higher one preempts the next; a legal run takes all
-/// responses whole, so none that are shorter are safe. In constant time.
+/// A law: the premises hold of three tasks of which each higher one preempts the next; a legal run
+/// takes all responses whole, so none that are shorter are safe. In constant time.
 pub fn three_tasks()
     ensures { ThreeTasks }
 {
     checked_code_is_safe();
 }
 
-/// A law: the surely held blocks, the useful and the evicting sets and the full states of the three tasks, and of a
-/// program with two calls. In constant time.
+/// A law: the surely held blocks, the useful and the evicting sets and the full states of the three
+/// tasks, and of a program with two calls. In constant time.
 pub fn worked_sets()
     ensures { WorkedSets }
 {}

@@ -10,13 +10,15 @@ use Rattle.cert_build.specs.declared.fault.BuildError.TheVariants.{Memory, TooLa
 use Rattle.cert_build.specs.Assembly.{analysis_at, entries_of}
 
 -- the analyses of the first n tasks
-pub record HaveAnalyses (set : TaskSet) (graphs : ℕ → TaskGraph) (n : ℕ) (analyses : List Analysis) : Type 0 where
+pub record HaveAnalyses (set : TaskSet) (graphs : ℕ → TaskGraph) (n : ℕ)
+    (analyses : List Analysis) : Type 0 where
   pub tasks : length analyses ≡ n
   pub each : (k : ℕ) → k < n → IsAnalysis set.platform (graphs k) (analysis_at analyses k)
   pub ranges : (k : ℕ) → k < n → KeepsRanges (analysis_at analyses k)
 
 -- so many state entries are found in them, and they are kept while these are not too many
-pub record CountsEntries (set : TaskSet) (graphs : ℕ → TaskGraph) (n found : ℕ) (kept : List Analysis) : Type 0 where
+pub record CountsEntries (set : TaskSet) (graphs : ℕ → TaskGraph) (n found : ℕ)
+    (kept : List Analysis) : Type 0 where
   pub all : List Analysis
   pub analysed : HaveAnalyses set graphs n all
   pub entries : found ≡ sum_by entries_of all
@@ -26,5 +28,6 @@ pub record CountsEntries (set : TaskSet) (graphs : ℕ → TaskGraph) (n found :
 -- why a task has no analysis, as a refusal of the certificate
 abbrev pub IsTaskError : Platform → TaskGraph → ℕ → BuildError → Type 0
 IsTaskError p t task Memory = Unit {0}
-IsTaskError p t task (TooLarge named address) = (named.0 ≡ task) × HasLargeBound p t × (address ≡ t.places.address t.graph.first)
+IsTaskError p t task (TooLarge named address) =
+    (named.0 ≡ task) × HasLargeBound p t × (address ≡ t.places.address t.graph.first)
 IsTaskError p t task _ = ⊥

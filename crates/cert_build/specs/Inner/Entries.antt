@@ -16,15 +16,18 @@ pub record ListsSure (g : Graph) (a : Accesses) (y n : ℕ) (pairs : List (ℕ �
   pub blocks : All (λ (p : ℕ × ℕ). p.1 < 2 ^ 32) pairs
 
 -- the entry of a node, of what the sets surely hold and of the useful ones
-pub record IsStateEntry (g : Graph) (a : Accesses) (y : ℕ) (words : List ℕ) (sets : ℕ) (e : NodeState) : Type 0 where
+pub record IsStateEntry (g : Graph) (a : Accesses) (y : ℕ) (words : List ℕ) (sets : ℕ)
+    (e : NodeState) : Type 0 where
   pub node : e.node ≡ y
   pub sure : ListsSure g a y sets e.sure
   pub useful : e.useful ≡ words
   pub size : AreWords 8 words
 
 -- the entries of the leaders below n, by ascending node, and of no other nodes
-pub record AreLeaderEntries (g : Graph) (a : Accesses) (n : ℕ) (states : List NodeState) : Type 0 where
-  pub leaders : (y : ℕ) → y < n → IsFalse (is_some (state_entry_of states y)) → (u : ℕ) × Continues g u y
+pub record AreLeaderEntries (g : Graph) (a : Accesses) (n : ℕ)
+    (states : List NodeState) : Type 0 where
+  pub leaders : (y : ℕ) → y < n → IsFalse (is_some (state_entry_of states y))
+      → (u : ℕ) × Continues g u y
   pub each : All (IsBestState g a) states
   pub rise : RiseFrom (λ (s : NodeState). s.node) 0 n states
   pub ranges : All IsState states

@@ -12,11 +12,14 @@ IsUsefulAt g a l y words = (s : ℕ) → FullUseful g a l y s ↔ IsTrue (has wo
 
 -- and what is useful at one of its successors
 abbrev pub IsUsefulBehind : Graph → Accesses → Listed → ℕ → List ℕ → Type 0
-IsUsefulBehind g a l y words = (s : ℕ) → ((v : ℕ) × Edge g y v × FullUseful g a l v s) ↔ IsTrue (has words s)
+IsUsefulBehind g a l y words =
+    (s : ℕ) → ((v : ℕ) × Edge g y v × FullUseful g a l v s) ↔ IsTrue (has words s)
 
 -- and at the end of one of its edges
 abbrev pub IsUsefulBy : Graph → Accesses → Listed → ℕ → ℕ → List ℕ → Type 0
-IsUsefulBy g a l y k words = (s : ℕ) → ((v : ℕ) × (slice_get (g.next y) k ≡ Some v) × FullUseful g a l v s) ↔ IsTrue (has words s)
+IsUsefulBy g a l y k words =
+    (s : ℕ) → ((v : ℕ) × (slice_get (g.next y) k ≡ Some v) × FullUseful g a l v s)
+    ↔ IsTrue (has words s)
 
 -- the least node at which a fact fails; the number of nodes where there is none
 pub record IsLeastFailing (P : ℕ → Type 0) (size least : ℕ) : Type 0 where

@@ -9,8 +9,10 @@ use Rattle.loop_regions.specs.Potentials.{Costs, Potentials, item_potential}
 use Rattle.evict_sets.specs.Answering.{answers_of}
 use Rattle.cert_check.specs.PotentialClauses.{edge_costs}
 
--- the nest is that of the graph, there is a potential for each node and each region, and each node is a hit or not
-pub record HasAllPotentials (g : CodeGraph) (n : CodeNest) (t : TaskPart) (hits : List Bool) : Type 0 where
+-- the nest is that of the graph, there is a potential for each node and each region, and each node
+-- is a hit or not
+pub record HasAllPotentials (g : CodeGraph) (n : CodeNest) (t : TaskPart)
+    (hits : List Bool) : Type 0 where
   pub beside : IsNestOf g n
   pub nodes : length t.potentials ≡ length g.nodes
   pub loops : length t.loops ≡ length n.heads
@@ -24,5 +26,7 @@ costs_at p g is_hit = edge_costs p (node_code g) (answers_of g) is_hit
 pub record EdgePaid (n : Nest) (c : Costs) (p : Potentials) (u v : ℕ) : Type 0 where
   pub edge : c.edge u v ≤ p.node u
   pub left : (r : ℕ) → Leaves n u v r → n.bound r * p.node (n.head r) ≤ p.loop r
-  pub inside : (i : Item) → (IsBackEdge n u v → ⊥) → ((r : ℕ) → Leaves n u v r → ⊥) → IsItem n v i → c.edge u v + item_potential p i ≤ p.node u
-  pub exit : (r : ℕ) (i : Item) → (IsBackEdge n u v → ⊥) → LeavesLast n u v r → IsItem n v i → n.bound r * p.node (n.head r) + item_potential p i ≤ p.loop r
+  pub inside : (i : Item) → (IsBackEdge n u v → ⊥) → ((r : ℕ) → Leaves n u v r → ⊥) → IsItem n v i
+      → c.edge u v + item_potential p i ≤ p.node u
+  pub exit : (r : ℕ) (i : Item) → (IsBackEdge n u v → ⊥) → LeavesLast n u v r → IsItem n v i
+      → n.bound r * p.node (n.head r) + item_potential p i ≤ p.loop r

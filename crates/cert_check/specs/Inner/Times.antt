@@ -1,4 +1,5 @@
--- What is known while the clauses of a task's times are judged: what only contracts inside the crate cite.
+-- What is known while the clauses of a task's times are judged: what only contracts inside the
+-- crate cite.
 use Rattle.std.specs.Prelude.{◌≡◌, ℕ, ◌+◌, ◌<◌, ◌≤◌, length}
 use Rattle.crpd_base.specs.Tasks.{jitter_of, deadline_of}
 use Rattle.crpd_base.specs.declared.data.TaskSet.{TaskSet}

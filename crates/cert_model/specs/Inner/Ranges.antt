@@ -1,4 +1,5 @@
--- The ranges of a certificate: those that a certificate which was read keeps, and within which one that is written reads back: what only contracts inside the crate cite.
+-- The ranges of a certificate: those that a certificate which was read keeps, and within which one
+-- that is written reads back: what only contracts inside the crate cite.
 use Rattle.std.specs.Prelude.{All}
 use Rattle.crpd_base.specs.Sets.{AreWords}
 use Rattle.crpd_base.specs.declared.data.NodeState.{NodeState}

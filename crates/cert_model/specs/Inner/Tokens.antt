@@ -1,4 +1,5 @@
--- For private clauses: what a function adds to the tokens of a writer, and the numbers of a set one after another.
+-- For private clauses: what a function adds to the tokens of a writer, and the numbers of a set one
+-- after another.
 use Rattle.std.specs.Prelude.{◌≡◌, ◌≤◌, ◌<◌, ℕ, ◌+◌, ◌*◌, ◌/◌, List, ◌∷◌, ◌++◌, OnOk, Result}
 use Rattle.std.specs.List.{flat_map}
 use Rattle.json.specs.Token.{Token, key}
@@ -26,7 +27,8 @@ abbrev pub Appends : {E : Type 0} → Result (Unit {0}) E → Written → Writte
 Appends r old new d = OnOk r (Adds old new (tokens_of d))
 
 -- and with its key
-abbrev pub AppendsAt : {E : Type 0} → Result (Unit {0}) E → Written → Written → List ℕ → Data → Type 0
+abbrev pub AppendsAt : {E : Type 0} → Result (Unit {0}) E → Written → Written → List ℕ
+    → Data → Type 0
 AppendsAt r old new name d = OnOk r (Adds old new (key name ∷ tokens_of d))
 
 -- s is the least number of the set from one on

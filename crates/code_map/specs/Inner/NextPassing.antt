@@ -4,4 +4,5 @@ use Rattle.code_map.specs.NextPassing.{IsNextPassing}
 
 -- the least address from a start on that passes a test, where one does
 abbrev pub IsNextAddress : (ℕ → Bool) → ℕ → Option ℕ → Type 0
-IsNextAddress p start o = MatchOption o ((a : ℕ) → start ≤ a → a < 2 ^ 32 → p a ≡ false) (IsNextPassing p start)
+IsNextAddress p start o =
+    MatchOption o ((a : ℕ) → start ≤ a → a < 2 ^ 32 → p a ≡ false) (IsNextPassing p start)

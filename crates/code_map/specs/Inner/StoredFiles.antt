@@ -10,7 +10,8 @@ use Rattle.code_map.specs.Words.{image_byte, code_byte}
 -- one index over all files, and one for each file by itself
 pub record AreStoredFiles (f : Inside) : Type 0 where
   pub all : IsByteIndex f.runs (code_byte f.images)
-  pub each : (k : ℕ) (r : List Run) (i : Image) → k < length f.images → IsByteIndex (slice_index_or f.own k r) (image_byte (slice_index_or f.images k i))
+  pub each : (k : ℕ) (r : List Run) (i : Image) → k < length f.images
+      → IsByteIndex (slice_index_or f.own k r) (image_byte (slice_index_or f.images k i))
   pub files : length f.own ≡ length f.images
   pub images : All IsImage f.images
   pub bytes : (a b : ℕ) → code_byte f.images a ≡ Some b → b < 256

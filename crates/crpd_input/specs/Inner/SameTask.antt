@@ -1,5 +1,6 @@
 -- Which tasks of a set have the graph and the stated loops of a task of another set.
-use Rattle.std.specs.Prelude.{◌≡◌, ℕ, ◌<◌, List, length, slice_get, slice_index_or, position, Option, None, Some}
+use Rattle.std.specs.Prelude.{◌≡◌, ℕ, ◌<◌, List, length, slice_get, slice_index_or, position}
+use Rattle.std.specs.Prelude.{Option, None, Some}
 use Rattle.std.specs.Str.{bytes_eq}
 use Rattle.crpd_base.specs.declared.data.TaskPlan.{TaskPlan}
 use Rattle.crpd_base.specs.declared.data.TaskSpec.{TaskSpec}
@@ -13,7 +14,8 @@ abbrev pub place_of_name : List TaskSpec → List ℕ → Option ℕ
 place_of_name tasks name = position (λ (t : TaskSpec). bytes_eq name t.name) tasks
 
 -- the graph of the old task j is that of the new task k, and both have the same loops
-pub record IsSameTask (old : Input) (graphs : List CodeGraph) (j : ℕ) (input : Input) (k : ℕ) : Type 0 where
+pub record IsSameTask (old : Input) (graphs : List CodeGraph) (j : ℕ) (input : Input)
+    (k : ℕ) : Type 0 where
   pub old_plan : TaskPlan
   pub plan : TaskPlan
   pub old_planned : slice_get old.code.plans j ≡ Some old_plan
@@ -24,10 +26,14 @@ pub record IsSameTask (old : Input) (graphs : List CodeGraph) (j : ℕ) (input :
 -- the old task of the new task's name, where it is the same, and else none
 abbrev pub IsSource : Input → List CodeGraph → Input → ℕ → Option ℕ → Type 0
 IsSource old graphs input k (Some j) =
-    (place_of_name old.set.tasks (name_at input k) ≡ Some j) × (j < length old.set.tasks) × IsSameTask old graphs j input k
-IsSource old graphs input k None = (j : ℕ) → place_of_name old.set.tasks (name_at input k) ≡ Some j → IsSameTask old graphs j input k → ⊥
+    (place_of_name old.set.tasks (name_at input k) ≡ Some j) × (j < length old.set.tasks)
+    × IsSameTask old graphs j input k
+IsSource old graphs input k None =
+    (j : ℕ) → place_of_name old.set.tasks (name_at input k) ≡ Some j
+    → IsSameTask old graphs j input k → ⊥
 
 -- those of the first n new tasks
-pub record AreSources (old : Input) (graphs : List CodeGraph) (input : Input) (n : ℕ) (sources : List (Option ℕ)) : Type 0 where
+pub record AreSources (old : Input) (graphs : List CodeGraph) (input : Input) (n : ℕ)
+    (sources : List (Option ℕ)) : Type 0 where
   pub count : length sources ≡ n
   pub each : (k : ℕ) → k < n → IsSource old graphs input k (slice_index_or sources k None)

@@ -1,5 +1,7 @@
 -- What the command words ask for: what only contracts inside the crate cite.
-use Rattle.crpd_tool.specs.declared.command.Command.TheVariants.{Check, Simulate, Sets, Analyze, Explain, Classic, Slack, Update, Generate}
+use Rattle.crpd_tool.specs.declared.command.Command.TheVariants.{Check, Simulate, Sets, Analyze}
+use Rattle.crpd_tool.specs.declared.command.Command.TheVariants.{Explain, Classic, Slack, Update}
+use Rattle.crpd_tool.specs.declared.command.Command.TheVariants.{Generate}
 use Rattle.crpd_tool.specs.Commands.{Command}
 
 -- the command that the code's value stands for
@@ -11,7 +13,8 @@ meant_by (Sets set) = sets set.now
 meant_by (Analyze set) = analyze set.now
 meant_by (Classic set) = classic set.now
 meant_by (Slack set) = slack set.now
-meant_by (Update old_set old_certificate new_set) = update old_set.now old_certificate.now new_set.now
+meant_by (Update old_set old_certificate new_set) =
+    update old_set.now old_certificate.now new_set.now
 meant_by (Generate seed) = generate seed.number
 meant_by (Explain set certificate script) = explain set.now certificate.now script.now
 

@@ -1,5 +1,7 @@
 -- What the search for the solution keeps.
-use Rattle.std.specs.Prelude.{◌≡◌, ◌≢◌, ℕ, ◌+◌, ◌-◌, ◌<◌, ◌⊎◌, List, ◌∷◌, Option, Some, None, option_map, slice_index_or, slice_index, length, ◌*◌, Bool, true, false, IsTrue, suc, if◌then◌else◌}
+use Rattle.std.specs.Prelude.{◌≡◌, ◌≢◌, ℕ, ◌+◌, ◌-◌, ◌<◌, ◌⊎◌, List, ◌∷◌, Option, Some, None}
+use Rattle.std.specs.Prelude.{option_map, slice_index_or, slice_index, length, ◌*◌, Bool, true}
+use Rattle.std.specs.Prelude.{false, IsTrue, suc, if◌then◌else◌}
 use Rattle.std.specs.List.{All, sum_by}
 use Rattle.crpd_base.specs.Sum.{one_if}
 use Rattle.dataflow.specs.Problem.{Problem, Brings, joined_all, IsAtLeast}
@@ -15,7 +17,8 @@ pub record IsLastEdge (ends : ℕ → ℕ × ℕ) (bound m : ℕ) (o : Option �
   pub last : (j : ℕ) → j < bound → (ends j).0 ≡ m → j < past_edge o
 
 -- the last edge of each node, and the last edge of each edge's source before it
-pub record IsChained (nodes edges : ℕ) (ends : ℕ → ℕ × ℕ) (last before : List (Option ℕ)) : Type 0 where
+pub record IsChained (nodes edges : ℕ) (ends : ℕ → ℕ × ℕ)
+    (last before : List (Option ℕ)) : Type 0 where
   pub all_nodes : length last ≡ nodes
   pub all_edges : length before ≡ edges
   pub of_node : (m : ℕ) → m < nodes → IsLastEdge ends edges m (slice_index_or last m None)
@@ -34,16 +37,21 @@ pub record IsJoinOfPaths (V : Type 0) (p : Problem V) (n : ℕ) (v : V) : Type 0
 
 -- edge k's target has what edge k's source brings
 abbrev pub IsCarried : {V : Type 0} → Problem V → (ℕ → Option V) → ℕ → Type 0
-IsCarried {V} p facts k = (v : V) → facts (p.ends k).0 ≡ Some v → IsAtLeast p (facts (p.ends k).1) (p.passed (p.ends k).0 v)
+IsCarried {V} p facts k =
+    (v : V) → facts (p.ends k).0 ≡ Some v
+    → IsAtLeast p (facts (p.ends k).1) (p.passed (p.ends k).0 v)
 
--- facts that paths bring and that hold what begins; each edge that is done is carried, or its source waits
-pub record IsPartialSolution (V : Type 0) (p : Problem V) (facts : ℕ → Option V) (waiting : ℕ → Bool) (done : ℕ → Type 0) : Type 0 where
+-- facts that paths bring and that hold what begins; each edge that is done is carried, or its
+-- source waits
+pub record IsPartialSolution (V : Type 0) (p : Problem V) (facts : ℕ → Option V)
+    (waiting : ℕ → Bool) (done : ℕ → Type 0) : Type 0 where
   pub sound : (n : ℕ) (v : V) → facts n ≡ Some v → IsJoinOfPaths V p n v
   pub begun : (n : ℕ) (v : V) → n < p.nodes → p.begins n ≡ Some v → IsAtLeast p (facts n) v
   pub carried : (k : ℕ) → k < p.edges → done k → IsTrue (waiting (p.ends k).0) ⊎ IsCarried p facts k
 
 -- the value u of node m is being passed on: it is that of the fact at m, or m waits again
-pub record IsPassedOn (V : Type 0) (p : Problem V) (facts : ℕ → Option V) (waiting : ℕ → Bool) (m : ℕ) (u : V) : Type 0 where
+pub record IsPassedOn (V : Type 0) (p : Problem V) (facts : ℕ → Option V) (waiting : ℕ → Bool)
+    (m : ℕ) (u : V) : Type 0 where
   pub from : V
   pub passed : p.passed m from ≡ u
   pub brought : IsJoinOfPaths V p m from
@@ -70,7 +78,8 @@ work_left view height tallest facts pending =
     2 * sum_by (λ o. suc tallest - rank height (option_map view o)) facts + sum_by one_if pending
 
 -- a value u has come in at node t, whose fact is as before or which waits; all others are as before
-pub record AbsorbsAt (V : Type 0) (p : Problem V) (facts new : ℕ → Option V) (waiting woken : ℕ → Bool) (t : ℕ) (u : V) : Type 0 where
+pub record AbsorbsAt (V : Type 0) (p : Problem V) (facts new : ℕ → Option V)
+    (waiting woken : ℕ → Bool) (t : ℕ) (u : V) : Type 0 where
   pub others : (n : ℕ) → n ≢ t → new n ≡ facts n
   pub here : new t ≡ Some (absorbed p.joined (facts t) u)
   pub kept : (n : ℕ) → IsTrue (waiting n) → IsTrue (woken n)
@@ -80,7 +89,8 @@ abbrev pub IsInList : ℕ → List ℕ → Type 0
 IsInList n xs = (i : ℕ) × (i < length xs) × (slice_index xs i ≡ n)
 
 -- a search in depth: each node found is on the path or left behind
-pub record IsInDepth (nodes edges : ℕ) (seen : List Bool) (next : List (Option ℕ)) (path work_left : List ℕ) : Type 0 where
+pub record IsInDepth (nodes edges : ℕ) (seen : List Bool) (next : List (Option ℕ))
+    (path work_left : List ℕ) : Type 0 where
   pub seen_nodes : length seen ≡ nodes
   pub next_nodes : length next ≡ nodes
   pub next_edges : (m k : ℕ) → slice_index_or next m None ≡ Some k → k < edges

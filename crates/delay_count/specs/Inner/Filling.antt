@@ -13,7 +13,9 @@ sum_at_value value count tasks v = sum_below (λ k. if value k == v then count k
 
 -- the counts of the first tasks that have at least a value, and what they bring
 abbrev pub sum_from_value : (ℕ → ℕ) → (ℕ → ℕ) → ℕ → ℕ → ℕ
-sum_from_value value count level tasks = sum_below (λ k. if nat_le level (value k) then count k else 0) tasks
+sum_from_value value count level tasks =
+    sum_below (λ k. if nat_le level (value k) then count k else 0) tasks
 
 abbrev pub worth_from : (ℕ → ℕ) → (ℕ → ℕ) → ℕ → ℕ → ℕ
-worth_from value count level tasks = sum_below (λ k. if nat_le level (value k) then count k * value k else 0) tasks
+worth_from value count level tasks =
+    sum_below (λ k. if nat_le level (value k) then count k * value k else 0) tasks

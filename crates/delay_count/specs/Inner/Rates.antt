@@ -1,4 +1,5 @@
--- At which rate a higher task takes of every window at least: what only contracts inside the crate cite.
+-- At which rate a higher task takes of every window at least: what only contracts inside the crate
+-- cite.
 use Rattle.std.specs.Prelude.{ℕ, suc, ◌*◌, ◌/◌, ◌^◌, ◌==◌, min, nat_lt, if◌then◌else◌}
 use Rattle.crpd_base.specs.declared.data.Part.{Part}
 use Rattle.crpd_base.specs.declared.data.TaskSet.{TaskSet}
@@ -9,10 +10,13 @@ use Rattle.crpd_base.specs.Tasks.{period_of}
 use Rattle.delay_count.specs.Counts.{jobs_of}
 use Rattle.delay_count.specs.Gamma.{union_count, greatest_choice, shared_sets}
 
--- the delay of task i by so many jobs of a higher task j, given how often the jobs of each task may be preempted
+-- the delay of task i by so many jobs of a higher task j, given how often the jobs of each task may
+-- be preempted
 abbrev pub gamma_by : Method → ℕ → (ℕ → Part) → (ℕ → ℕ) → ℕ → ℕ → ℕ → ℕ
-gamma_by Ucb miss parts count jobs i j = miss * union_count jobs (has (parts j).evicting) (λ k. has (parts k).useful) count (suc i) 512
-gamma_by Ecb miss parts count jobs i j = miss * greatest_choice (shared_sets parts j) count (suc i) jobs
+gamma_by Ucb miss parts count jobs i j =
+    miss * union_count jobs (has (parts j).evicting) (λ k. has (parts k).useful) count (suc i) 512
+gamma_by Ecb miss parts count jobs i j =
+    miss * greatest_choice (shared_sets parts j) count (suc i) jobs
 
 -- jobs of a task in each cycle, in parts of which 2 ^ 63 are one, rounded down
 abbrev pub release_rate : TaskSet → ℕ → ℕ
@@ -22,5 +26,6 @@ release_rate set k = 2 ^ 63 / period_of set k
 abbrev pub affected_rate : TaskSet → (ℕ → ℕ) → ℕ → ℕ → ℕ → ℕ
 affected_rate set window i j k =
     if nat_lt j k
-    then (if k == i then release_rate set j else min (release_rate set j) (jobs_of set j (window k) * release_rate set k))
+    then (if k == i then release_rate set j
+    else min (release_rate set j) (jobs_of set j (window k) * release_rate set k))
     else 0

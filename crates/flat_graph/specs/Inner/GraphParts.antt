@@ -13,17 +13,21 @@ abbrev pub AreNumbers : List FlatNode → List ℕ → List FlatNode → Type 0
 AreNumbers nodes numbers some = map (slice_get nodes) numbers ≡ map Some some
 
 -- the node has no error, and its instruction and the numbers of its successors are these
-pub record IsNodeLine (words : Words) (entry : ℕ) (nodes : List FlatNode) (n : FlatNode) (line : Line) : Type 0 where
+pub record IsNodeLine (words : Words) (entry : ℕ) (nodes : List FlatNode) (n : FlatNode)
+    (line : Line) : Type 0 where
   pub no_error : error_of (flows words) entry n ≡ None
   pub stands : HasInstructionAt words n.address line.ins
   pub next : AreNumbers nodes (onward line.next) (successors (flows words) entry n)
 
 abbrev pub AreNodeLines : Words → ℕ → List FlatNode → List Line → Type 0
 AreNodeLines words entry nodes lines =
-    (k : ℕ) (n : FlatNode) (line : Line) → slice_get nodes k ≡ Some n → slice_get lines k ≡ Some line → IsNodeLine words entry nodes n line
+    (k : ℕ) (n : FlatNode) (line : Line) → slice_get nodes k ≡ Some n
+    → slice_get lines k ≡ Some line → IsNodeLine words entry nodes n line
 
 -- the entries of nodes, put together from these parts
 abbrev pub AreStoredNodes : List Spot → List Line → List Bool → List Stand → Type 0
 AreStoredNodes spots lines leaders stands =
-    (k : ℕ) (s : Spot) (l : Line) (b : Bool) → slice_get spots k ≡ Some s → slice_get lines k ≡ Some l → slice_get leaders k ≡ Some b →
-    slice_get stands k ≡ Some (record { context = s.context; address = s.address; ins = l.ins; next = l.next; leader = b })
+    (k : ℕ) (s : Spot) (l : Line) (b : Bool) → slice_get spots k ≡ Some s
+    → slice_get lines k ≡ Some l → slice_get leaders k ≡ Some b →
+    slice_get stands k ≡ Some
+    (record { context = s.context; address = s.address; ins = l.ins; next = l.next; leader = b })

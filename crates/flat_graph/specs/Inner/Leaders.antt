@@ -1,5 +1,6 @@
 -- How leaders are found from the edges, node by node.
-use Rattle.std.specs.Prelude.{◌≡◌, ◌≢◌, ℕ, ◌<◌, List, [], ◌∷◌, length, Contains, All, Some, Bool, true, false, IsTrue, ◌↔◌, slice_get, if◌then◌else◌, ◌==◌, ◌||◌}
+use Rattle.std.specs.Prelude.{◌≡◌, ◌≢◌, ℕ, ◌<◌, List, [], ◌∷◌, length, Contains, All, Some, Bool}
+use Rattle.std.specs.Prelude.{true, false, IsTrue, ◌↔◌, slice_get, if◌then◌else◌, ◌==◌, ◌||◌}
 use Rattle.flat_graph.specs.Graph.{Graph, IsLeader}
 use Rattle.flat_graph.specs.Inner.StoredGraph.{onward}
 use Rattle.flat_graph.specs.declared.graph.Onward.{Onward}
@@ -39,12 +40,14 @@ mark_after_edges (Either a b) v m = if (v == a) || (v == b) then Leads else m
 abbrev pub IsMarked : Graph → ℕ → ℕ → Mark → Type 0
 IsMarked g count v Unmet = (v ≢ g.first) × ((u : ℕ) → u < count → Contains (g.next u) v → ⊥)
 IsMarked g count v Continues =
-    (v ≢ g.first) × (u : ℕ) × (u < count) × (g.next u ≡ v ∷ []) × ((w : ℕ) → w < count → Contains (g.next w) v → w ≡ u)
+    (v ≢ g.first) × (u : ℕ) × (u < count) × (g.next u ≡ v ∷ [])
+    × ((w : ℕ) → w < count → Contains (g.next w) v → w ≡ u)
 IsMarked g count v Leads = IsLeader g v
 
 abbrev pub AreMarked : List Line → ℕ → ℕ → List Mark → Type 0
 AreMarked lines first count marks =
-    (g : Graph) → IsGraphOfLines g lines first → (v : ℕ) (m : Mark) → slice_get marks v ≡ Some m → IsMarked g count v m
+    (g : Graph) → IsGraphOfLines g lines first → (v : ℕ) (m : Mark) → slice_get marks v ≡ Some m
+    → IsMarked g count v m
 
 -- a node with this mark leads, once all edges were met
 abbrev pub is_leading : Mark → Bool
@@ -53,4 +56,5 @@ is_leading _ = true
 
 abbrev pub HasLeaders : List Line → ℕ → List Bool → Type 0
 HasLeaders lines first leaders =
-    (g : Graph) → IsGraphOfLines g lines first → (v : ℕ) (b : Bool) → slice_get leaders v ≡ Some b → IsTrue b ↔ IsLeader g v
+    (g : Graph) → IsGraphOfLines g lines first → (v : ℕ) (b : Bool) → slice_get leaders v ≡ Some b
+    → IsTrue b ↔ IsLeader g v

@@ -15,4 +15,7 @@ flat_cmp n m = ordering_then (list_cmp n.context m.context) (nat_cmp n.address m
 
 -- the calls under way and the address of a kept node
 abbrev pub stand_node : List (List ℕ) → Stand → FlatNode
-stand_node contexts s = record { context = slice_index_or contexts s.context []; address = s.address }
+stand_node contexts s = record {
+  context = slice_index_or contexts s.context [];
+  address = s.address;
+}

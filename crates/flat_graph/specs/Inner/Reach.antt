@@ -1,5 +1,6 @@
 -- The spots that were found so far.
-use Rattle.std.specs.Prelude.{◌≡◌, ℕ, ◌<◌, List, [], ◌++◌, length, Contains, ◌↔◌, All, AllPairs, slice_get, Some}
+use Rattle.std.specs.Prelude.{◌≡◌, ℕ, ◌<◌, List, [], ◌++◌, length, Contains, ◌↔◌, All, AllPairs}
+use Rattle.std.specs.Prelude.{slice_get, Some}
 use Rattle.std.specs.BTreeMap.{BTreeMap, get}
 use Rattle.rv_decode.specs.Flow.{Flows}
 use Rattle.flat_graph.specs.Inner.NumberingOrder.{list_cmp}
@@ -8,7 +9,8 @@ use Rattle.flat_graph.specs.declared.spots.Spot.{Spot}
 
 -- each list of calls has the number at which it stands, and no other list has that number
 abbrev pub AreNumbered : BTreeMap (List ℕ) ℕ → List (List ℕ) → Type 0
-AreNumbered numbers lists = (c : List ℕ) (n : ℕ) → (get list_cmp numbers c ≡ Some n) ↔ (slice_get lists n ≡ Some c)
+AreNumbered numbers lists =
+    (c : List ℕ) (n : ℕ) → (get list_cmp numbers c ≡ Some n) ↔ (slice_get lists n ≡ Some c)
 
 -- the lists stand where they stood
 abbrev pub ExtendsLists : List (List ℕ) → List (List ℕ) → Type 0
@@ -32,4 +34,5 @@ pub record AreAdded (old some new : List FlatNode) : Type 0 where
 pub record IsExplored (code : Flows) (entry : ℕ) (place : ℕ) (nodes : List FlatNode) : Type 0 where
   pub all : (n : FlatNode) → Contains nodes n → IsNode code entry n
   pub first : Contains nodes (record { context = []; address = entry })
-  pub closed : (k : ℕ) (n m : FlatNode) → k < place → slice_get nodes k ≡ Some n → Contains (successors code entry n) m → Contains nodes m
+  pub closed : (k : ℕ) (n m : FlatNode) → k < place → slice_get nodes k ≡ Some n
+      → Contains (successors code entry n) m → Contains nodes m

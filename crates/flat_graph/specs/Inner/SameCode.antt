@@ -7,4 +7,5 @@ use Rattle.flat_graph.specs.Inner.GraphErrors.{HasInstructionAt}
 -- the graph begins at the entry, and in the code stand the instructions of its nodes
 pub record FitsCode (words : Words) (entry : ℕ) (g : CodeGraph) : Type 0 where
   pub first : (places_of g).address g.first ≡ entry
-  pub stands : (u : ℕ) → u < length g.nodes → HasInstructionAt words ((places_of g).address u) (ins_of g u)
+  pub stands : (u : ℕ) → u < length g.nodes
+      → HasInstructionAt words ((places_of g).address u) (ins_of g u)

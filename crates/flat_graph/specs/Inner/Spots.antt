@@ -1,4 +1,5 @@
--- Spots of the code as nodes of the flat graph, with the lists of calls to which their numbers point.
+-- Spots of the code as nodes of the flat graph, with the lists of calls to which their numbers
+-- point.
 use Rattle.std.specs.Prelude.{ℕ, ◌+◌, ◌≤◌, List, [], ◌∷◌, map, All, slice_index_or}
 use Rattle.rv_decode.specs.Address.{end_address}
 use Rattle.flat_graph.specs.FlatGraph.{FlatNode}
@@ -16,7 +17,8 @@ spot_nodes lists = map (spot_node lists)
 abbrev pub flat_steps : List ℕ → Steps → List FlatNode
 flat_steps c Ends = []
 flat_steps c (To a) = record { context = c; address = a } ∷ []
-flat_steps c (Either a b) = record { context = c; address = a } ∷ record { context = c; address = b } ∷ []
+flat_steps c (Either a b) =
+    record { context = c; address = a } ∷ record { context = c; address = b } ∷ []
 flat_steps c (Away d a) = record { context = d; address = a } ∷ []
 
 -- a word stands at each address

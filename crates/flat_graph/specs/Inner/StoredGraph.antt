@@ -1,5 +1,6 @@
 -- How a graph is kept.
-use Rattle.std.specs.Prelude.{◌≡◌, ℕ, ◌<◌, ◌≤◌, ◌↔◌, List, [], ◌∷◌, length, map, All, slice_index_or, slice_get, IsTrue}
+use Rattle.std.specs.Prelude.{◌≡◌, ℕ, ◌<◌, ◌≤◌, ◌↔◌, List, [], ◌∷◌, length, map, All}
+use Rattle.std.specs.Prelude.{slice_index_or, slice_get, IsTrue}
 use Rattle.std.specs.Prelude.{Some}
 use Rattle.flat_graph.specs.Graph.{IsGraph, IsLeader}
 use Rattle.flat_graph.specs.CodeGraph.{GraphNode, CodeGraph, graph_of, HasCode}
@@ -14,11 +15,19 @@ onward (Either v w) = v ∷ w ∷ []
 
 -- the node that an entry stands for, with the contexts that are kept beside
 abbrev pub stored_node : List (List ℕ) → Stand → GraphNode
-stored_node contexts n = record { context = slice_index_or contexts n.context []; address = n.address; ins = n.ins; next = onward n.next }
+stored_node contexts n = record {
+  context = slice_index_or contexts n.context [];
+  address = n.address;
+  ins = n.ins;
+  next = onward n.next;
+}
 
 -- the graph that contexts, nodes and the first node's number stand for
 abbrev pub stored_graph : List (List ℕ) → List Stand → ℕ → CodeGraph
-stored_graph contexts nodes first = record { nodes = map (stored_node contexts) nodes; first = first }
+stored_graph contexts nodes first = record {
+  nodes = map (stored_node contexts) nodes;
+  first = first;
+}
 
 -- it is the graph of some code, and the nodes have their leaders
 pub record IsStoredGraph (contexts : List (List ℕ)) (nodes : List Stand) (first : ℕ) : Type 0 where
@@ -26,4 +35,5 @@ pub record IsStoredGraph (contexts : List (List ℕ)) (nodes : List Stand) (firs
   pub graph : IsGraph (graph_of (stored_graph contexts nodes first))
   pub contexts_there : All (λ (n : Stand). n.context < length contexts) nodes
   pub few : length nodes ≤ 16384
-  pub leaders : (u : ℕ) (n : Stand) → slice_get nodes u ≡ Some n → IsTrue n.leader ↔ IsLeader (graph_of (stored_graph contexts nodes first)) u
+  pub leaders : (u : ℕ) (n : Stand) → slice_get nodes u ≡ Some n
+      → IsTrue n.leader ↔ IsLeader (graph_of (stored_graph contexts nodes first)) u

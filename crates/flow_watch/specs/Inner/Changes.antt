@@ -17,7 +17,8 @@ change_of _ = Stay
 
 -- the frames after a call at an address, with at most sixteen above the bottom
 abbrev pub frames_after_call : TaskPlan → ℕ → List Frame → Watch
-frames_after_call plan from frames = if nat_lt (length frames) 17 then Some (new_frame plan (next_address from) ∷ frames) else None
+frames_after_call plan from frames =
+    if nat_lt (length frames) 17 then Some (new_frame plan (next_address from) ∷ frames) else None
 
 -- the frames after a return to an address, which is the top frame's return address
 abbrev pub frames_after_return : ℕ → List Frame → Watch

@@ -1,5 +1,6 @@
 -- The fields of a watch: rows of turns, and the addresses of the calls.
-use Rattle.std.specs.Prelude.{◌≡◌, ℕ, zero, suc, ◌*◌, ◌^◌, ◌<◌, ◌≤◌, List, [], ◌∷◌, length, take, drop, slice_index, Option, option_map, IfSome}
+use Rattle.std.specs.Prelude.{◌≡◌, ℕ, zero, suc, ◌*◌, ◌^◌, ◌<◌, ◌≤◌, List, [], ◌∷◌, length, take}
+use Rattle.std.specs.Prelude.{drop, slice_index, Option, option_map, IfSome}
 use Rattle.rv_decode.specs.Address.{next_address, end_address}
 use Rattle.flow_watch.specs.Watch.{Frame, Watch}
 
@@ -21,7 +22,8 @@ frames_of loops calls turns (suc k) =
 abbrev pub watch_of : ℕ → List ℕ → List ℕ → Option ℕ → Watch
 watch_of loops calls turns frames = option_map (frames_of loops calls turns) frames
 
--- the room: seventeen rows, sixteen calls, each call's address a word, and at most seventeen frames in use
+-- the room: seventeen rows, sixteen calls, each call's address a word, and at most seventeen frames
+-- in use
 pub record IsRoom (loops : ℕ) (calls turns : List ℕ) (frames : Option ℕ) : Type 0 where
   pub rows : length turns ≡ 17 * loops
   pub most : length calls ≡ 16

@@ -1,5 +1,6 @@
 -- Ways by forward edges, and the search for them.
-use Rattle.std.specs.Prelude.{◌≡◌, ◌⊎◌, ℕ, suc, ◌+◌, ◌*◌, ◌<◌, ◌≤◌, Bool, true, false, List, [], ◌∷◌, length, slice_get, slice_index_or, IsTrue, Option, Some, None}
+use Rattle.std.specs.Prelude.{◌≡◌, ◌⊎◌, ℕ, suc, ◌+◌, ◌*◌, ◌<◌, ◌≤◌, Bool, true, false, List, []}
+use Rattle.std.specs.Prelude.{◌∷◌, length, slice_get, slice_index_or, IsTrue, Option, Some, None}
 use Rattle.flat_graph.specs.Graph.{Graph}
 use Rattle.loop_regions.specs.Nest.{Nest}
 use Rattle.loop_regions.specs.Stated.{IsForward, IsForwardPath, IsOnCycle}
@@ -26,14 +27,16 @@ was_seen seen v = slice_index_or seen v false
 abbrev pub IsStartOrSeen : ℕ → List Bool → ℕ → Type 0
 IsStartOrSeen y seen u = (u ≡ y) ⊎ IsTrue (was_seen seen u)
 
--- the nodes seen are reached from y; each forward edge from y or from a node seen was followed, or its source waits,
--- or the edge is still to be followed
-pub record IsSearch (g : Graph) (n : Nest) (y : ℕ) (seen : List Bool) (waiting : List ℕ) (left : ℕ → ℕ → Type 0) : Type 0 where
+-- the nodes seen are reached from y; each forward edge from y or from a node seen was followed, or
+-- its source waits, or the edge is still to be followed
+pub record IsSearch (g : Graph) (n : Nest) (y : ℕ) (seen : List Bool) (waiting : List ℕ)
+    (left : ℕ → ℕ → Type 0) : Type 0 where
   pub nodes : length seen ≡ g.size
   pub start : y < g.size
   pub sound : (v : ℕ) → IsTrue (was_seen seen v) → Reaches g n y v
   pub own : (u : ℕ) → IsTrue (has waiting u) → (u < g.size) × IsStartOrSeen y seen u
-  pub followed : (u v k : ℕ) → IsStartOrSeen y seen u → slice_get (g.next u) k ≡ Some v → IsForward g n u v → IsTrue (was_seen seen v) ⊎ IsTrue (has waiting u) ⊎ left u k
+  pub followed : (u v k : ℕ) → IsStartOrSeen y seen u → slice_get (g.next u) k ≡ Some v
+      → IsForward g n u v → IsTrue (was_seen seen v) ⊎ IsTrue (has waiting u) ⊎ left u k
 
 -- the edges of u from the k-th on
 abbrev pub EdgesFrom : ℕ → ℕ → ℕ → ℕ → Type 0

@@ -1,5 +1,7 @@
 -- The regions of a graph before they are known to be nested.
-use Rattle.std.specs.Prelude.{◌≡◌, ◌≢◌, ◌↔◌, ◌⊎◌, ℕ, ◌<◌, Bool, not, ◌&&◌, ◌==◌, nat_lt, List, length, slice_index, slice_get, IsTrue, IsFalse, Option, Some, None, true, if◌then◌else◌}
+use Rattle.std.specs.Prelude.{◌≡◌, ◌≢◌, ◌↔◌, ◌⊎◌, ℕ, ◌<◌, Bool, not, ◌&&◌, ◌==◌, nat_lt, List}
+use Rattle.std.specs.Prelude.{length, slice_index, slice_get, IsTrue, IsFalse, Option, Some, None}
+use Rattle.std.specs.Prelude.{true, if◌then◌else◌}
 use Rattle.std.specs.List.{list_any}
 use Rattle.flat_graph.specs.Graph.{Graph, Edge}
 use Rattle.loop_regions.specs.Nest.{Nest, IsInside}
@@ -23,7 +25,8 @@ is_inside_some r v = list_any (λ q. not (is_head r.heads v q)) (row r.holders v
 
 -- whether such a region does not hold u
 abbrev pub enters : Regions → ℕ → ℕ → Bool
-enters r u v = list_any (λ q. not (is_head r.heads v q) && not (has (row r.holders u) q)) (row r.holders v)
+enters r u v =
+    list_any (λ q. not (is_head r.heads v q) && not (has (row r.holders u) q)) (row r.holders v)
 
 -- whether an edge leads to the head of a region that holds its source
 abbrev pub is_back : Regions → ℕ → ℕ → Bool
@@ -31,7 +34,8 @@ is_back r u v = list_any (λ q. is_head r.heads v q) (row r.holders u)
 
 -- a node of region r other than its head is entered from u
 abbrev pub Enters : Nest → ℕ → ℕ → Type 0
-Enters n u v = (r : ℕ) × (r < n.size) × IsTrue (n.holds r v) × (v ≢ n.head r) × IsFalse (n.holds r u)
+Enters n u v =
+    (r : ℕ) × (r < n.size) × IsTrue (n.holds r v) × (v ≢ n.head r) × IsFalse (n.holds r u)
 
 -- the edges from u enter this node
 abbrev pub EntersFrom : Graph → Nest → ℕ → ℕ → Type 0
@@ -76,9 +80,12 @@ better rows besides best r = if is_other besides r && is_better rows best r then
 abbrev pub IsInnermost : List (List ℕ) → List ℕ → Option ℕ → Option ℕ → Type 0
 IsInnermost rows among besides None = (s : ℕ) → IsTrue (has among s) → besides ≡ Some s
 IsInnermost rows among besides (Some r) =
-    IsTrue (has among r) × (besides ≢ Some r) × ((s : ℕ) → IsTrue (has among s) → besides ≢ Some s → IsTrue (has (row rows r) s))
+    IsTrue (has among r) × (besides ≢ Some r)
+    × ((s : ℕ) → IsTrue (has among s) → besides ≢ Some s → IsTrue (has (row rows r) s))
 
 -- of two of these regions one holds the other, and so on from region to region
 pub record AreInLine (rows : List (List ℕ)) (among : List ℕ) : Type 0 where
-  pub either : (r s : ℕ) → IsTrue (has among r) → IsTrue (has among s) → IsTrue (has (row rows r) s) ⊎ IsTrue (has (row rows s) r)
-  pub onward : (r s t : ℕ) → IsTrue (has among r) → IsTrue (has (row rows r) s) → IsTrue (has (row rows s) t) → IsTrue (has (row rows r) t)
+  pub either : (r s : ℕ) → IsTrue (has among r) → IsTrue (has among s)
+      → IsTrue (has (row rows r) s) ⊎ IsTrue (has (row rows s) r)
+  pub onward : (r s t : ℕ) → IsTrue (has among r) → IsTrue (has (row rows r) s)
+      → IsTrue (has (row rows s) t) → IsTrue (has (row rows r) t)

@@ -1,5 +1,6 @@
 -- The heads of stated loops among the nodes, and which regions hold a node.
-use Rattle.std.specs.Prelude.{◌≡◌, ℕ, ◌<◌, ◌≤◌, Bool, is_some, List, length, slice_get, IsTrue, Option, Some, None, Contains}
+use Rattle.std.specs.Prelude.{◌≡◌, ℕ, ◌<◌, ◌≤◌, Bool, is_some, List, length, slice_get, IsTrue}
+use Rattle.std.specs.Prelude.{Option, Some, None, Contains}
 use Rattle.crpd_base.specs.declared.data.LoopAt.{LoopAt}
 use Rattle.flat_graph.specs.Graph.{Places}
 use Rattle.loop_regions.specs.Stated.{seen_from, region_holds}
@@ -11,12 +12,16 @@ IsLoopAt loops a None = (l : LoopAt) → Contains loops l → a ≡ l.head → �
 IsLoopAt loops a (Some i) = (l : LoopAt) × (slice_get loops i ≡ Some l) × (a ≡ l.head)
 
 -- the heads of stated loops among the nodes below `bound`, in their order
-pub record AreHeads (p : Places) (loops : List LoopAt) (bound : ℕ) (heads : List Head) : Type 0 where
+pub record AreHeads (p : Places) (loops : List LoopAt) (bound : ℕ)
+    (heads : List Head) : Type 0 where
   pub few : length heads ≤ bound
   pub node : (r : ℕ) (h : Head) → slice_get heads r ≡ Some h → h.node < bound
-  pub numbered : (r s : ℕ) (h k : Head) → r < s → slice_get heads r ≡ Some h → slice_get heads s ≡ Some k → h.node < k.node
-  pub stated : (r : ℕ) (h : Head) → slice_get heads r ≡ Some h → (l : LoopAt) × (slice_get loops h.stated ≡ Some l) × (p.address h.node ≡ l.head)
-  pub all : (l : LoopAt) (y : ℕ) → Contains loops l → y < bound → p.address y ≡ l.head → (r : ℕ) × (h : Head) × (slice_get heads r ≡ Some h) × (h.node ≡ y)
+  pub numbered : (r s : ℕ) (h k : Head) → r < s → slice_get heads r ≡ Some h
+      → slice_get heads s ≡ Some k → h.node < k.node
+  pub stated : (r : ℕ) (h : Head) → slice_get heads r ≡ Some h
+      → (l : LoopAt) × (slice_get loops h.stated ≡ Some l) × (p.address h.node ≡ l.head)
+  pub all : (l : LoopAt) (y : ℕ) → Contains loops l → y < bound → p.address y ≡ l.head
+      → (r : ℕ) × (h : Head) × (slice_get heads r ≡ Some h) × (h.node ≡ y)
 
 -- whether a node is seen from a context
 abbrev pub is_seen_from : Places → List ℕ → ℕ → Bool
@@ -25,4 +30,5 @@ is_seen_from p c y = is_some (seen_from c (p.context y) (p.address y))
 -- the region of this number holds the node
 abbrev pub IsHeldBy : Places → List LoopAt → List Head → ℕ → ℕ → Type 0
 IsHeldBy p loops heads y r =
-    (h : Head) × (l : LoopAt) × (slice_get heads r ≡ Some h) × (slice_get loops h.stated ≡ Some l) × IsTrue (region_holds p l (p.context h.node) y)
+    (h : Head) × (l : LoopAt) × (slice_get heads r ≡ Some h) × (slice_get loops h.stated ≡ Some l)
+    × IsTrue (region_holds p l (p.context h.node) y)

@@ -1,5 +1,6 @@
 -- Least numbers with a property.
-use Rattle.std.specs.Prelude.{◌≡◌, ℕ, ◌<◌, ◌≤◌, List, Option, Some, None, nat_lt, slice_get, if◌then◌else◌}
+use Rattle.std.specs.Prelude.{◌≡◌, ℕ, ◌<◌, ◌≤◌, List, Option, Some, None, nat_lt, slice_get}
+use Rattle.std.specs.Prelude.{if◌then◌else◌}
 use Rattle.crpd_base.specs.declared.data.LoopAt.{LoopAt}
 
 -- the least number with a property, None where no number has it
@@ -16,4 +17,5 @@ lesser (Some a) (Some b) = if nat_lt b a then Some b else Some a
 -- the stated loop at place j and one before it have this head
 abbrev pub IsHeadBefore : List LoopAt → ℕ → ℕ → Type 0
 IsHeadBefore loops j a =
-    (i : ℕ) × (l : LoopAt) × (m : LoopAt) × (i < j) × (slice_get loops i ≡ Some l) × (slice_get loops j ≡ Some m) × (l.head ≡ a) × (m.head ≡ a)
+    (i : ℕ) × (l : LoopAt) × (m : LoopAt) × (i < j) × (slice_get loops i ≡ Some l)
+    × (slice_get loops j ≡ Some m) × (l.head ≡ a) × (m.head ≡ a)

@@ -2,7 +2,8 @@
 use Rattle.std.specs.Prelude.{◌≡◌, ℕ, ◌<◌, ◌≤◌, List, length, slice_index, IsTrue}
 use Rattle.loop_regions.specs.CodeNest.{has, row}
 
--- there are as many bounds as heads; heads are nodes, held by their regions; and nodes are held by regions
+-- there are as many bounds as heads; heads are nodes, held by their regions; and nodes are held by
+-- regions
 pub record AreRegionLists (heads bounds : List ℕ) (holders : List (List ℕ)) : Type 0 where
   pub few : length heads ≤ 16384
   pub few_nodes : length holders ≤ 16384

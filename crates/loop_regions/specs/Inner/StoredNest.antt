@@ -9,5 +9,7 @@ pub record IsStoredNest (n : CodeNest) (parents innermost : List (Option ℕ)) :
   pub all_bounds : length n.bounds ≡ length n.heads
   pub all_parents : length parents ≡ length n.heads
   pub all_levels : length innermost ≡ length n.holders
-  pub is_parent : (r : ℕ) → r < length n.heads → IsParent (nest_of n) r (slice_index_or parents r None)
-  pub is_level : (y : ℕ) → y < length n.holders → IsLevel (nest_of n) y (slice_index_or innermost y None)
+  pub is_parent : (r : ℕ) → r < length n.heads
+      → IsParent (nest_of n) r (slice_index_or parents r None)
+  pub is_level : (y : ℕ) → y < length n.holders
+      → IsLevel (nest_of n) y (slice_index_or innermost y None)

@@ -1,5 +1,8 @@
--- One walk to each node, and in which sets an edge brings something else than the walk that was taken: what only contracts inside the crate cite.
-use Rattle.std.specs.Prelude.{◌≡◌, ◌≢◌, ◌↔◌, ◌⊎◌, ℕ, ◌+◌, ◌*◌, ◌<◌, ◌≤◌, List, [], ◌∷◌, ◌++◌, length, Contains, slice_index_or, Option, Some, None, Bool, true, false, IsTrue}
+-- One walk to each node, and in which sets an edge brings something else than the walk that was
+-- taken: what only contracts inside the crate cite.
+use Rattle.std.specs.Prelude.{◌≡◌, ◌≢◌, ◌↔◌, ◌⊎◌, ℕ, ◌+◌, ◌*◌, ◌<◌, ◌≤◌, List, [], ◌∷◌, ◌++◌}
+use Rattle.std.specs.Prelude.{length, Contains, slice_index_or, Option, Some, None, Bool, true}
+use Rattle.std.specs.Prelude.{false, IsTrue}
 use Rattle.std.specs.List.{All, sum_by}
 use Rattle.crpd_base.specs.Sets.{has}
 use Rattle.flat_graph.specs.Graph.{Graph, Edge, IsWalk, IsLeader}
@@ -13,8 +16,10 @@ use Rattle.must_cache.specs.States.{state_at}
 abbrev pub Taken : Type 0
 Taken = ℕ → Option (List ℕ)
 
--- the walk to v is taken, and after the walk to u the edge to v brings the same, but to sets that are marked at v
-pub record IsEdgeFollowed (a : Accesses) (taken : Taken) (marks : ℕ → Marks) (walk : List ℕ) (u v : ℕ) : Type 0 where
+-- the walk to v is taken, and after the walk to u the edge to v brings the same, but to sets that
+-- are marked at v
+pub record IsEdgeFollowed (a : Accesses) (taken : Taken) (marks : ℕ → Marks) (walk : List ℕ)
+    (u v : ℕ) : Type 0 where
   pub there : List ℕ
   pub is : taken v ≡ Some there
   pub agrees : (s : ℕ) → marks v s ≡ false → last_access a s (u ∷ walk) ≡ last_access a s there
@@ -39,14 +44,18 @@ pub record AreTaken (g : Graph) (a : Accesses) (taken : Taken) (marks : ℕ → 
 -- and each edge was followed
 pub record AreAllTaken (g : Graph) (a : Accesses) (taken : Taken) (marks : ℕ → Marks) : Type 0 where
   pub are : AreTaken g a taken marks
-  pub met : (u v : ℕ) (walk : List ℕ) → taken u ≡ Some walk → Edge g u v → IsEdgeFollowed a taken marks walk u v
+  pub met : (u v : ℕ) (walk : List ℕ) → taken u ≡ Some walk → Edge g u v
+      → IsEdgeFollowed a taken marks walk u v
 
--- the walk that was taken to a node, what it leaves, and whether it leaves the node's block in its set
-pub record IsStored (g : Graph) (a : Accesses) (taken : Taken) (states : List Cache) (hit : Bool) (v place : ℕ) : Type 0 where
+-- the walk that was taken to a node, what it leaves, and whether it leaves the node's block in its
+-- set
+pub record IsStored (g : Graph) (a : Accesses) (taken : Taken) (states : List Cache) (hit : Bool)
+    (v place : ℕ) : Type 0 where
   pub walk : List ℕ
   pub is : taken v ≡ Some walk
   pub hits : IsTrue hit ↔ (last_access a (a.set v) walk ≡ Some (a.block v))
-  pub leader : IsLeader g v → (place < length states) × ((s : ℕ) → held (state_at states place) s ≡ last_access a s walk)
+  pub leader : IsLeader g v
+      → (place < length states) × ((s : ℕ) → held (state_at states place) s ≡ last_access a s walk)
 
 -- a node whose edges are still to be followed, with what the walk to it leaves
 pub record IsToFollow (a : Accesses) (taken : Taken) (x : ℕ × Cache) : Type 0 where
@@ -57,28 +66,38 @@ pub record IsToFollow (a : Accesses) (taken : Taken) (x : ℕ × Cache) : Type 0
 abbrev pub Waits : List (ℕ × Cache) → ℕ → Type 0
 Waits todo u = (state : Cache) × Contains todo (u, state)
 
--- what is kept while walks are taken: each edge that is done leads to a node to which a walk was taken, or its source waits
-pub record IsWalkSearch (g : Graph) (a : Accesses) (taken : Taken) (met : List (Option ℕ)) (states : List Cache) (hits : List Bool) (apart : List (List ℕ)) (todo : List (ℕ × Cache)) (done : ℕ → ℕ → Type 0) : Type 0 where
+-- what is kept while walks are taken: each edge that is done leads to a node to which a walk was
+-- taken, or its source waits
+pub record IsWalkSearch (g : Graph) (a : Accesses) (taken : Taken) (met : List (Option ℕ))
+    (states : List Cache) (hits : List Bool) (apart : List (List ℕ)) (todo : List (ℕ × Cache))
+    (done : ℕ → ℕ → Type 0) : Type 0 where
   pub are : AreTaken g a taken (λ n s. has (sets_at apart n) s)
   pub met_count : length met ≡ g.size
   pub hits_count : length hits ≡ g.size
   pub apart_count : length apart ≡ g.size
   pub unmet : (v : ℕ) → slice_index_or met v None ≡ None → taken v ≡ None
-  pub stored : (v place : ℕ) → slice_index_or met v None ≡ Some place → IsStored g a taken states (slice_index_or hits v false) v place
+  pub stored : (v place : ℕ) → slice_index_or met v None ≡ Some place
+      → IsStored g a taken states (slice_index_or hits v false) v place
   pub waiting : All (IsToFollow a taken) todo
-  pub passed : (u v : ℕ) (walk : List ℕ) → taken u ≡ Some walk → Edge g u v → done u v → Waits todo u ⊎ IsEdgeFollowed a taken (λ n s. has (sets_at apart n) s) walk u v
+  pub passed : (u v : ℕ) (walk : List ℕ) → taken u ≡ Some walk → Edge g u v → done u v
+      → Waits todo u ⊎ IsEdgeFollowed a taken (λ n s. has (sets_at apart n) s) walk u v
 
 -- the edges from a node are followed, where these targets are done, and what is left after the node
-pub record IsFollowingEdges (g : Graph) (a : Accesses) (met : List (Option ℕ)) (states : List Cache) (hits : List Bool) (apart : List (List ℕ)) (todo : List (ℕ × Cache)) (source : ℕ) (state : Cache) (targets : List ℕ) : Type 0 where
+pub record IsFollowingEdges (g : Graph) (a : Accesses) (met : List (Option ℕ)) (states : List Cache)
+    (hits : List Bool) (apart : List (List ℕ)) (todo : List (ℕ × Cache)) (source : ℕ)
+    (state : Cache) (targets : List ℕ) : Type 0 where
   pub taken : Taken
-  pub under_way : IsWalkSearch g a taken met states hits apart todo (λ u v. (u ≢ source) ⊎ Contains targets v)
+  pub under_way : IsWalkSearch g a taken met states hits apart todo
+      (λ u v. (u ≢ source) ⊎ Contains targets v)
   pub walk : List ℕ
   pub from : taken source ≡ Some walk
   pub leaves : (s : ℕ) → held state s ≡ last_access a s (source ∷ walk)
 
 -- all edges are done, but of those that wait
-abbrev pub HasWalkSearch : Graph → Accesses → List (Option ℕ) → List Cache → List Bool → List (List ℕ) → List (ℕ × Cache) → Type 0
-HasWalkSearch g a met states hits apart todo = (taken : Taken) × IsWalkSearch g a taken met states hits apart todo (λ u v. Unit {0})
+abbrev pub HasWalkSearch : Graph → Accesses → List (Option ℕ) → List Cache → List Bool
+    → List (List ℕ) → List (ℕ × Cache) → Type 0
+HasWalkSearch g a met states hits apart todo =
+    (taken : Taken) × IsWalkSearch g a taken met states hits apart todo (λ u v. Unit {0})
 
 -- who waits, with the node to which a walk goes on, where it does
 abbrev pub with_next : List (ℕ × Cache) → Option ℕ → Cache → List (ℕ × Cache)
@@ -94,24 +113,30 @@ abbrev pub still_to_do : List (Option ℕ) → List (ℕ × Cache) → ℕ
 still_to_do met todo = 2 * sum_by one_if_unmet met + length todo
 
 -- the state at the place is what the walk leaves
-pub record IsStateLeft (a : Accesses) (walk : List ℕ) (place : Option ℕ) (states : List Cache) : Type 0 where
+pub record IsStateLeft (a : Accesses) (walk : List ℕ) (place : Option ℕ)
+    (states : List Cache) : Type 0 where
   pub at : ℕ
   pub is : place ≡ Some at
   pub within : at < length states
   pub each : (s : ℕ) → held (state_at states at) s ≡ last_access a s walk
 
--- a walk to each node: which sets an edge marks, which nodes' own walks leave their blocks in their sets, and what those to leaders leave
-pub record HaveWalks (g : Graph) (a : Accesses) (met : List (Option ℕ)) (states : List Cache) (hits : List Bool) (apart : List (List ℕ)) : Type 0 where
+-- a walk to each node: which sets an edge marks, which nodes' own walks leave their blocks in their
+-- sets, and what those to leaders leave
+pub record HaveWalks (g : Graph) (a : Accesses) (met : List (Option ℕ)) (states : List Cache)
+    (hits : List Bool) (apart : List (List ℕ)) : Type 0 where
   pub taken : Taken
   pub all : AreAllTaken g a taken (λ n s. has (sets_at apart n) s)
   pub hits_count : length hits ≡ g.size
   pub apart_count : length apart ≡ g.size
-  pub hit : (y : ℕ) (walk : List ℕ) → taken y ≡ Some walk → IsTrue (slice_index_or hits y false) ↔ (last_access a (a.set y) walk ≡ Some (a.block y))
+  pub hit : (y : ℕ) (walk : List ℕ) → taken y ≡ Some walk
+      → IsTrue (slice_index_or hits y false) ↔ (last_access a (a.set y) walk ≡ Some (a.block y))
   pub met_count : length met ≡ g.size
-  pub leader : (y : ℕ) (walk : List ℕ) → taken y ≡ Some walk → IsLeader g y → IsStateLeft a walk (slice_index_or met y None) states
+  pub leader : (y : ℕ) (walk : List ℕ) → taken y ≡ Some walk → IsLeader g y
+      → IsStateLeft a walk (slice_index_or met y None) states
 
 -- a state is kept where the node is a leader
-pub record KeepsLeaderState (g : Graph) (node : ℕ) (state : Cache) (states new : List Cache) : Type 0 where
+pub record KeepsLeaderState (g : Graph) (node : ℕ) (state : Cache)
+    (states new : List Cache) : Type 0 where
   pub kept : (k : ℕ) → k < length states → state_at new k ≡ state_at states k
   pub grown : length states ≤ length new
   pub own : IsLeader g node → (length states < length new) × (state_at new (length states) ≡ state)

@@ -1,5 +1,6 @@
 -- The laws of tests of sets: those of one set, at each.
-use Rattle.std.proofs.Common.{◌≡◌, ◌≤◌, ℕ, zero, suc, Bool, true, false, ◌||◌, if◌then◌else◌, ◌==◌, refl, arith}
+use Rattle.std.proofs.Common.{◌≡◌, ◌≤◌, ℕ, zero, suc, Bool, true, false, ◌||◌, if◌then◌else◌, ◌==◌}
+use Rattle.std.proofs.Common.{refl, arith}
 use Rattle.icache.specs.Accesses.{Accesses}
 use Rattle.dataflow.specs.Problem.{IsSemilattice}
 use Rattle.crpd_base.specs.Sum.{one_if}
@@ -13,11 +14,14 @@ either_joins = record {
   grouped = λ x y z i s. or_joins.grouped (x s) (y s) (z s) i;
 }
 
-either_way : (t x y : Bool) → (if t then false else x || y) ≡ ((if t then false else x) || (if t then false else y))
+either_way : (t x y : Bool)
+    → (if t then false else x || y) ≡ ((if t then false else x) || (if t then false else y))
 either_way true x y = refl
 either_way false x y = refl
 
-pub unmarked_distributes : (a : Accesses) (n : ℕ) (x y : Marks) → marks_after_access a n (either_marks x y) ≡ either_marks (marks_after_access a n x) (marks_after_access a n y)
+pub unmarked_distributes : (a : Accesses) (n : ℕ) (x y : Marks)
+    → marks_after_access a n (either_marks x y)
+    ≡ either_marks (marks_after_access a n x) (marks_after_access a n y)
 unmarked_distributes a n x y i s = either_way (a.set n == s) (x s) (y s) i
 
 at_most_one : (b : Bool) → one_if b ≤ 1

@@ -23,13 +23,16 @@ pub record RunsCode (code : Code) (p : Parts) : Type 0 where
   pub plans : HasPlans code (fast_machine_of p)
   pub decoded : AreDecodedAddresses p.core.geometry.platform code p.core.decoded.places.items
 
--- a state comes by turns of the job at a place from another, which is open before each, and none of them is past a time
+-- a state comes by turns of the job at a place from another, which is open before each, and none of
+-- them is past a time
 pub record ComesByTurns (sys : System) (until place : ℕ) (old new : Machine) : Type 0 where
   pub made : ℕ
   pub some : 1 ≤ made
   pub within : old.time + made ≤ until
-  pub state : new ≡ machine_after_turns old made place (turn_after_steps sys old.time (turn_of sys old place) made)
-  pub open_before : (j : ℕ) → j < made → is_open (turn_after_steps sys old.time (turn_of sys old place) j).job.standing ≡ true
+  pub state : new ≡ machine_after_turns old made place
+      (turn_after_steps sys old.time (turn_of sys old place) made)
+  pub open_before : (j : ℕ) → j < made
+      → is_open (turn_after_steps sys old.time (turn_of sys old place) j).job.standing ≡ true
 
 -- the job at a place had turns
 pub record HasTakenTurns (sys : System) (until : ℕ) (old new : Parts) (place : ℕ) : Type 0 where

@@ -12,4 +12,5 @@ turn_after_steps sys time t (suc k) = turn_after_step sys (time + k) (turn_after
 pub record HasMoved (sys : System) (from to : ℕ) (old new : Turn) : Type 0 where
   pub later : from ≤ to
   pub turn : new ≡ turn_after_steps sys from old (to - from)
-  pub open_before : (j : ℕ) → j < to - from → is_open (turn_after_steps sys from old j).job.standing ≡ true
+  pub open_before : (j : ℕ) → j < to - from
+      → is_open (turn_after_steps sys from old j).job.standing ≡ true

@@ -35,4 +35,5 @@ HasBottomFrame j = standing_of j.standing ≡ Open → j.watch ≢ Some []
 -- what the fetch of a turn finds, where it makes one
 abbrev pub found_by : System → Turn → Option Access
 found_by sys t =
-    if (t.job.left == 0) && is_some (ins_at sys t.job.pc) then Some (access_by sys.platform t.cache t.job.pc) else None
+    if (t.job.left == 0) && is_some (ins_at sys t.job.pc)
+    then Some (access_by sys.platform t.cache t.job.pc) else None

@@ -1,5 +1,6 @@
 -- How the program knows whether no watch is broken.
-use Rattle.std.specs.Prelude.{◌≡◌, ◌≢◌, ◌↔◌, ℕ, Bool, true, length, List, Option, Some, None, IsTrue}
+use Rattle.std.specs.Prelude.{◌≡◌, ◌≢◌, ◌↔◌, ℕ, Bool, true, length, List, Option, Some, None}
+use Rattle.std.specs.Prelude.{IsTrue}
 use Rattle.flow_watch.specs.Watch.{is_unbroken}
 use Rattle.preempt_machine.specs.declared.parts.Parts.{Parts}
 use Rattle.preempt_machine.specs.Machine.{Job, Machine, job_at}
@@ -18,7 +19,8 @@ owner_is_kept m = kept_at m.jobs m.owner
 pub record ChangesOwner (old new : Machine) : Type 0 where
   pub long : length new.jobs ≡ length old.jobs
   pub others : (x : ℕ) → new.owner ≢ Some x → job_at new.jobs x ≡ job_at old.jobs x
-  pub before : (x : ℕ) → is_unbroken (job_at new.jobs x).watch ≡ true → is_unbroken (job_at old.jobs x).watch ≡ true
+  pub before : (x : ℕ) → is_unbroken (job_at new.jobs x).watch ≡ true
+      → is_unbroken (job_at old.jobs x).watch ≡ true
 
 -- the parts, and a flag that says whether no watch is broken
 pub record IsFlagged (parts : Parts) (flag : Bool) : Type 0 where

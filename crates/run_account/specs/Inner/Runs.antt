@@ -1,5 +1,6 @@
 -- A run that is followed: what stays the same along it, and what is asked of it.
-use Rattle.std.specs.Prelude.{◌≡◌, ℕ, ◌<◌, ◌≤◌, ◌+◌, ◌^◌, Bool, true, false, List, [], length, map, Option, Some, None, slice_get}
+use Rattle.std.specs.Prelude.{◌≡◌, ℕ, ◌<◌, ◌≤◌, ◌+◌, ◌^◌, Bool, true, false, List, [], length, map}
+use Rattle.std.specs.Prelude.{Option, Some, None, slice_get}
 use Rattle.crpd_base.specs.Ranges.{IsTaskSet}
 use Rattle.crpd_base.specs.declared.data.Certificate.{Certificate}
 use Rattle.crpd_base.specs.declared.data.Platform.{Platform}
@@ -44,16 +45,21 @@ abbrev pub flags_of : List Hits → ℕ → List Bool
 flags_of all i = flags_by (slice_get all i)
 
 -- the flags of each task say which nodes of its graph are counted as hits
-pub record AreHits (p : Platform) (graphs : List CodeGraph) (c : Certificate) (all : List Hits) : Type 0 where
+pub record AreHits (p : Platform) (graphs : List CodeGraph) (c : Certificate)
+    (all : List Hits) : Type 0 where
   pub tasks : length all ≡ length graphs
-  pub nodes : (i : ℕ) → i < length graphs → length (flags_of all i) ≡ length (graph_at graphs i).nodes
-  pub each : (i : ℕ) → i < length graphs → CountsHits (graph_of (graph_at graphs i)) (node_accesses p (graph_at graphs i)) (listed_of (certified_task c i)) (counted (flags_of all i))
+  pub nodes : (i : ℕ) → i < length graphs
+      → length (flags_of all i) ≡ length (graph_at graphs i).nodes
+  pub each : (i : ℕ) → i < length graphs
+      → CountsHits (graph_of (graph_at graphs i)) (node_accesses p (graph_at graphs i))
+      (listed_of (certified_task c i)) (counted (flags_of all i))
 
 -- what an account asks, with the flags
 pub record HasAccountInput (r : Run) : Type 0 where
   pub set : IsTaskSet r.set.now
   pub plans : length r.code.now.plans ≡ length r.set.now.tasks
-  pub words : (a w : ℕ) → word_at r.code.now.images a ≡ Some w → (a + 4 ≤ end_address) × (w < 2 ^ 32)
+  pub words : (a w : ℕ) → word_at r.code.now.images a ≡ Some w
+      → (a + 4 ≤ end_address) × (w < 2 ^ 32)
   pub graphs : AreGraphsOf r.code.now r.set.now r.graphs.now
   pub met : TasksAreMet r.set.now r.graphs.now r.certificate.now
   pub tasks : NamesTasks r.set.now r.script.now.jobs
@@ -76,7 +82,10 @@ pub record IsRunning (r : Run) (n : ℕ) (m : Running) : Type 0 where
 abbrev pub IsQuick : Platform → Type 0
 IsQuick p = p.hit + p.miss < 2
 
--- the fetches of the first n steps are noted, or none of those that are not is an entry of the ledger
+-- the fetches of the first n steps are noted, or none of those that are not is an entry of the
+-- ledger
 abbrev pub IsSoFar : Run → ℕ → Bool → Trails → Type 0
 IsSoFar r n true t = AreTrailsOf (run_start r) (run_graphs r) (run_certificate r) n t
-IsSoFar r n false t = (m : ℕ) → n ≤ m → IsLedger (run_start r) (run_graphs r) (run_certificate r) m (map ledger_reload_of t.reloads.items)
+IsSoFar r n false t =
+    (m : ℕ) → n ≤ m → IsLedger (run_start r) (run_graphs r) (run_certificate r) m
+    (map ledger_reload_of t.reloads.items)

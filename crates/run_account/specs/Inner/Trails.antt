@@ -39,14 +39,16 @@ IsTouch s set n (Some w) = IsTouchOf s set n w
 
 -- no job but x fetched since x did
 abbrev pub IsAlone : Start → ℕ → ℕ → Type 0
-IsAlone s x n = (t : ℕ) → IsLastFetchOf s x n t → (u : ℕ) (f : Fetch) → t < u → u < n → fetch_at s u ≡ Some f → ⊥
+IsAlone s x n =
+    (t : ℕ) → IsLastFetchOf s x n t → (u : ℕ) (f : Fetch) → t < u → u < n
+    → fetch_at s u ≡ Some f → ⊥
 
 abbrev pub IsTrailOwner : Start → ℕ → Option ℕ → Type 0
 IsTrailOwner s n None = Unit {0}
 IsTrailOwner s n (Some x) = IsAlone s x n
 
--- job x fetches at a step and at the gap's end and not between them, and there the latest of those who did, in the order of
--- jobs, is the gap's
+-- job x fetches at a step and at the gap's end and not between them, and there the latest of those
+-- who did, in the order of jobs, is the gap's
 pub record IsGapOf (s : Start) (x n from : ℕ) (g : Gap) : Type 0 where
   pub after : from < g.until
   pub within : g.until < n
@@ -60,7 +62,8 @@ pub record IsGapOf (s : Start) (x n from : ℕ) (g : Gap) : Type 0 where
   pub since : from < at
   pub before_end : at < g.until
   pub by : FetchesAt s g.latest at fetch
-  pub latest : (w : ℕ) (f : Fetch) → from < w → w < g.until → fetch_at s w ≡ Some f → (f.job ≡ g.latest) ⊎ (before (state s 0).jobs f.job g.latest ≡ true)
+  pub latest : (w : ℕ) (f : Fetch) → from < w → w < g.until → fetch_at s w ≡ Some f
+      → (f.job ≡ g.latest) ⊎ (before (state s 0).jobs f.job g.latest ≡ true)
 
 -- a gap of the list holds the step
 pub record IsInGap (s : Start) (x n : ℕ) (gaps : List Gap) (v : ℕ) : Type 0 where
@@ -75,21 +78,33 @@ pub record IsInGap (s : Start) (x n : ℕ) (gaps : List Gap) (v : ℕ) : Type 0 
 pub record AreGapsOf (s : Start) (x n : ℕ) (gaps : List Gap) : Type 0 where
   pub each : (k : ℕ) → k < length gaps → (from : ℕ) × IsGapOf s x n from (gap_at gaps k)
   pub ordered : (j k : ℕ) → j < k → k < length gaps → (gap_at gaps j).until < (gap_at gaps k).until
-  pub complete : (u v c : ℕ) (f g h : Fetch) → u < v → v < c → c < n → FetchesAt s x u f → fetch_at s v ≡ Some g → g.job ≢ x → FetchesAt s x c h → IsInGap s x n gaps v
+  pub complete : (u v c : ℕ) (f g h : Fetch) → u < v → v < c → c < n → FetchesAt s x u f
+      → fetch_at s v ≡ Some g → g.job ≢ x → FetchesAt s x c h → IsInGap s x n gaps v
 
 abbrev pub ledger_reload_of : Reload → LedgerReload
-ledger_reload_of r = record { job = r.job; set = r.set; time = r.time; evictor = r.evictor; preemptor = r.preemptor }
+ledger_reload_of r = record {
+  job = r.job;
+  set = r.set;
+  time = r.time;
+  evictor = r.evictor;
+  preemptor = r.preemptor;
+}
 
--- what is kept of the first n steps of a run: the nodes are those of the last fetches while the state is kept
-pub record AreTrailsOf (s : Start) (graphs : ℕ → TaskGraph) (c : Certificate) (n : ℕ) (t : Trails) : Type 0 where
+-- what is kept of the first n steps of a run: the nodes are those of the last fetches while the
+-- state is kept
+pub record AreTrailsOf (s : Start) (graphs : ℕ → TaskGraph) (c : Certificate) (n : ℕ)
+    (t : Trails) : Type 0 where
   pub all_nodes : length t.nodes.items ≡ length s.lines
   pub all_lasts : length t.lasts.items ≡ length s.lines
   pub all_gaps : length t.gaps.items ≡ length s.lines
   pub all_sets : length t.sets.items ≡ s.system.platform.sets
-  pub nodes : IsKept (state s n) → (x : ℕ) → x < length s.lines → optional_at t.nodes.items x ≡ first_of (fetched_nodes s graphs n x)
-  pub in_graph : (x u : ℕ) → x < length s.lines → optional_at t.nodes.items x ≡ Some u → u < (graphs (job_task s x)).graph.size
+  pub nodes : IsKept (state s n) → (x : ℕ) → x < length s.lines
+      → optional_at t.nodes.items x ≡ first_of (fetched_nodes s graphs n x)
+  pub in_graph : (x u : ℕ) → x < length s.lines → optional_at t.nodes.items x ≡ Some u
+      → u < (graphs (job_task s x)).graph.size
   pub lasts : (x : ℕ) → x < length s.lines → IsLastFetch s x n (optional_at t.lasts.items x)
   pub gaps : (x : ℕ) → x < length s.lines → AreGapsOf s x n (gaps_of t.gaps.items x)
-  pub sets : (set : ℕ) → set < s.system.platform.sets → IsTouch s set n (optional_at t.sets.items set)
+  pub sets : (set : ℕ) → set < s.system.platform.sets
+      → IsTouch s set n (optional_at t.sets.items set)
   pub owner : IsTrailOwner s n t.owner
   pub ledger : IsLedger s graphs c n (map ledger_reload_of t.reloads.items)

@@ -1,4 +1,5 @@
--- The nodes of a job's fetches: a walk of its task's graph, and what the full states there say of its own fetches: what only contracts inside the crate cite.
+-- The nodes of a job's fetches: a walk of its task's graph, and what the full states there say of
+-- its own fetches: what only contracts inside the crate cite.
 use Rattle.std.specs.Prelude.{ℕ, List, [], ◌∷◌, Option, Some, None}
 
 abbrev pub first_of : List ℕ → Option ℕ

@@ -1,8 +1,10 @@
--- The data memory: a finite map, in the order of addresses, from addresses to the bytes that are not 0: what only contracts inside the crate cite.
+-- The data memory: a finite map, in the order of addresses, from addresses to the bytes that are
+-- not 0: what only contracts inside the crate cite.
 use Rattle.std.specs.Prelude.{ℕ, zero, suc, ◌/◌, ◌%◌, ◌^◌, not}
 use Rattle.rv_core.specs.Memory.{Memory, put_byte, next_byte}
 
 -- the memory after a store of the low n bytes of a value, one after another
 abbrev pub put_bytes : ℕ → Memory → ℕ → ℕ → Memory
 put_bytes zero memory a value = memory
-put_bytes (suc n) memory a value = put_bytes n (put_byte memory a (value % 2 ^ 8)) (next_byte a) (value / 2 ^ 8)
+put_bytes (suc n) memory a value =
+    put_bytes n (put_byte memory a (value % 2 ^ 8)) (next_byte a) (value / 2 ^ 8)

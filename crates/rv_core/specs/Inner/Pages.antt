@@ -1,5 +1,7 @@
 -- How the data memory is kept: pages of 64 bytes, each with its number.
-use Rattle.std.specs.Prelude.{ℕ, zero, suc, ◌≡◌, ◌+◌, ◌*◌, ◌/◌, ◌%◌, ◌^◌, ◌<◌, ◌≤◌, ◌||◌, nat_le, nat_lt, Bool, List, [], ◌∷◌, length, slice_index, slice_set, unwrap_or}
+use Rattle.std.specs.Prelude.{ℕ, zero, suc, ◌≡◌, ◌+◌, ◌*◌, ◌/◌, ◌%◌, ◌^◌, ◌<◌, ◌≤◌, ◌||◌, nat_le}
+use Rattle.std.specs.Prelude.{nat_lt, Bool, List, [], ◌∷◌, length, slice_index, slice_set}
+use Rattle.std.specs.Prelude.{unwrap_or}
 use Rattle.std.specs.BTreeMap.{is_at}
 use Rattle.std.specs.Map.{lookup}
 use Rattle.std.specs.Ordering.{nat_cmp}
@@ -49,11 +51,14 @@ byte_in page c = slice_index page (c % 64)
 -- a page with the low n bytes of a value from a place on
 abbrev pub page_with_value : ℕ → List ℕ → ℕ → ℕ → List ℕ
 page_with_value zero page at value = page
-page_with_value (suc n) page at value = page_with_value n (slice_set page at (value % 2 ^ 8)) (at + 1) (value / 2 ^ 8)
+page_with_value (suc n) page at value =
+    page_with_value n (slice_set page at (value % 2 ^ 8)) (at + 1) (value / 2 ^ 8)
 
 -- the little-endian number in four bytes of a page
 abbrev pub page_word : List ℕ → ℕ → ℕ
-page_word page at = slice_index page at + 2 ^ 8 * slice_index page (at + 1) + 2 ^ 16 * (slice_index page (at + 2) + 2 ^ 8 * slice_index page (at + 3))
+page_word page at =
+    slice_index page at + 2 ^ 8 * slice_index page (at + 1)
+    + 2 ^ 16 * (slice_index page (at + 2) + 2 ^ 8 * slice_index page (at + 3))
 
 -- the little-endian number in bytes
 abbrev pub little_endian_number : List ℕ → ℕ

@@ -1,5 +1,6 @@
 -- What is found of a task set with some costs.
-use Rattle.std.specs.Prelude.{◌≡◌, ℕ, ◌<◌, Bool, List, [], length, slice_index_or, Option, Some, None}
+use Rattle.std.specs.Prelude.{◌≡◌, ℕ, ◌<◌, Bool, List, [], length, slice_index_or, Option, Some}
+use Rattle.std.specs.Prelude.{None}
 use Rattle.crpd_base.specs.declared.data.Platform.{Platform}
 use Rattle.crpd_base.specs.declared.data.Part.{Part}
 use Rattle.crpd_base.specs.declared.data.TaskSet.{TaskSet}
@@ -15,16 +16,19 @@ use Rattle.sensitivity.specs.declared.cost.Cost.{Cost}
 use Rattle.sensitivity.specs.declared.cost.Cost.TheVariants.{Switch, Miss}
 use Rattle.sensitivity.specs.declared.slack.Stop.{Stop}
 use Rattle.sensitivity.specs.Costs.{with_switch, with_miss}
-use Rattle.sensitivity.specs.Accepted.{HasCacheBlocks, IsLeastBound, AreAnalysedParts, IsAccepted, IsFirstTooLarge, IsStop}
+use Rattle.sensitivity.specs.Accepted.{HasCacheBlocks, IsLeastBound, AreAnalysedParts, IsAccepted}
+use Rattle.sensitivity.specs.Accepted.{IsFirstTooLarge, IsStop}
 
 -- the bound is above 2^40
 abbrev pub IsLarge : Platform → TaskGraph → Type 0
 IsLarge p t = (c : ℕ) × IsLeastBound p t c × (greatest_bound < c)
 
 -- the parts of all tasks, but for their bounds
-pub record HaveCacheBlocks (set : TaskSet) (graphs : ℕ → TaskGraph) (parts : List Part) : Type 0 where
+pub record HaveCacheBlocks (set : TaskSet) (graphs : ℕ → TaskGraph)
+    (parts : List Part) : Type 0 where
   pub count : length parts ≡ length set.tasks
-  pub each : (k : ℕ) → k < length set.tasks → HasCacheBlocks set.platform (graphs k) (part_at parts k)
+  pub each : (k : ℕ) → k < length set.tasks
+      → HasCacheBlocks set.platform (graphs k) (part_at parts k)
 
 -- the list tells which nodes of a task are hits by Sure
 pub record TellsHits (p : Platform) (t : TaskGraph) (hits : List Bool) : Type 0 where
@@ -32,9 +36,11 @@ pub record TellsHits (p : Platform) (t : TaskGraph) (hits : List Bool) : Type 0 
   pub sure : CountsSureHits t.graph (accesses_of p t) (counted hits)
 
 -- and such a list of each task
-pub record HaveHits (set : TaskSet) (graphs : ℕ → TaskGraph) (hits : List (List Bool)) : Type 0 where
+pub record HaveHits (set : TaskSet) (graphs : ℕ → TaskGraph)
+    (hits : List (List Bool)) : Type 0 where
   pub count : length hits ≡ length set.tasks
-  pub each : (k : ℕ) → k < length set.tasks → TellsHits set.platform (graphs k) (slice_index_or hits k [])
+  pub each : (k : ℕ) → k < length set.tasks
+      → TellsHits set.platform (graphs k) (slice_index_or hits k [])
 
 -- the parts of all tasks, as a list
 pub record ListsParts (set : TaskSet) (graphs : ℕ → TaskGraph) (parts : List Part) : Type 0 where
@@ -51,7 +57,8 @@ abbrev pub with_cost : Cost → TaskSet → ℕ → TaskSet
 with_cost Switch set c = with_switch set c
 with_cost Miss set c = with_miss set c
 
--- what serves for all costs of this kind: the parts with their bounds, or, where these depend on the cost, without, and the hits
+-- what serves for all costs of this kind: the parts with their bounds, or, where these depend on
+-- the cost, without, and the hits
 abbrev pub AreKnown : Cost → TaskSet → (ℕ → TaskGraph) → List Part → List (List Bool) → Type 0
 AreKnown Switch set graphs parts hits = ListsParts set graphs parts
 AreKnown Miss set graphs parts hits = HaveCacheBlocks set graphs parts × HaveHits set graphs hits

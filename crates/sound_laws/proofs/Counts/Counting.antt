@@ -1,5 +1,6 @@
 -- For step 6: counting by sums.
-use Rattle.std.proofs.Common.{◌≡◌, ℕ, ◌*◌, ◌<◌, ◌≤◌, Bool, true, false, ◌&&◌, refl, sym, ◌∙◌, subst, inl, inr, arith}
+use Rattle.std.proofs.Common.{◌≡◌, ℕ, ◌*◌, ◌<◌, ◌≤◌, Bool, true, false, ◌&&◌, refl, sym, ◌∙◌, subst}
+use Rattle.std.proofs.Common.{inl, inr, arith}
 use Rattle.std.specs.Prelude.{◌==◌, if◌then◌else◌}
 use Rattle.std.proofs.lemmas.Bool.{cases_Bool, false≢true, and_parts, eq-eqb, eqb-true}
 use Rattle.crpd_base.proofs.Sums.{sum_le, sum_times, sum_ge, sum_swap}
@@ -10,9 +11,11 @@ abbrev one_if : Bool → ℕ
 one_if b = if b then 1 else 0
 
 -- what passes is counted with one of the values that it maps to
-pub spread : (p : ℕ → Bool) (f : ℕ → ℕ) (n m : ℕ) → ((x : ℕ) → x < n → p x ≡ true → f x < m) → count p n ≤ sum_below (λ y. count (λ x. p x && (f x == y)) n) m
+pub spread : (p : ℕ → Bool) (f : ℕ → ℕ) (n m : ℕ) → ((x : ℕ) → x < n → p x ≡ true → f x < m)
+    → count p n ≤ sum_below (λ y. count (λ x. p x && (f x == y)) n) m
 spread p f n m below =
-    let le = sum_le (λ x. if p x then 1 else 0) (λ x. sum_below (λ y. if p x && (f x == y) then 1 else 0) m) n (λ x l.
+    let le = sum_le (λ x. if p x then 1 else 0)
+    (λ x. sum_below (λ y. if p x && (f x == y) then 1 else 0) m) n (λ x l.
     elim (cases_Bool (p x)) [
       | inl b ↦
           let ge = sum_ge (λ y. if p x && (f x == y) then 1 else 0) m (f x) (below x l b) in
@@ -25,7 +28,9 @@ spread p f n m below =
     omega (arith, le, swapped)
 
 -- what passes and maps to different values that pass another test is at most as many as those
-pub inject : (p : ℕ → Bool) (f : ℕ → ℕ) (q : ℕ → Bool) (n m : ℕ) → ((x : ℕ) → x < n → p x ≡ true → f x < m) → ((x : ℕ) → x < n → p x ≡ true → q (f x) ≡ true) → ((x y : ℕ) → x < y → y < n → p x ≡ true → p y ≡ true → f x ≡ f y → ⊥) → count p n ≤ count q m
+pub inject : (p : ℕ → Bool) (f : ℕ → ℕ) (q : ℕ → Bool) (n m : ℕ)
+    → ((x : ℕ) → x < n → p x ≡ true → f x < m) → ((x : ℕ) → x < n → p x ≡ true → q (f x) ≡ true)
+    → ((x y : ℕ) → x < y → y < n → p x ≡ true → p y ≡ true → f x ≡ f y → ⊥) → count p n ≤ count q m
 inject p f q n m below passes differ =
     let le = sum_le (λ y. count (λ x. p x && (f x == y)) n) (λ y. if q y then 1 else 0) m (λ y l.
     elim (cases_Bool (q y)) [
@@ -41,7 +46,8 @@ inject p f q n m below passes differ =
           elim (cases_Bool (p x && (f x == y))) [
             | inl a ↦
                 let pa = and_parts (p x) (f x == y) a in
-                absurd (false≢true (sym b ∙ subst (λ k. q k ≡ true) (eqb-true (f x) y pa.1) (passes x h pa.0)))
+                absurd (false≢true (sym b
+                ∙ subst (λ k. q k ≡ true) (eqb-true (f x) y pa.1) (passes x h pa.0)))
             | inr a ↦ a
           ]) in
           omega (arith, none)
@@ -50,15 +56,20 @@ inject p f q n m below passes differ =
     omega (arith, s, le)
 
 -- at most c for each of those that pass
-pub each_at_most : (q : ℕ → Bool) (g : ℕ → ℕ) (c m : ℕ) → ((y : ℕ) → y < m → q y ≡ true → g y ≤ c) → ((y : ℕ) → y < m → q y ≡ false → g y ≡ 0) → sum_below g m ≤ c * count q m
+pub each_at_most : (q : ℕ → Bool) (g : ℕ → ℕ) (c m : ℕ) → ((y : ℕ) → y < m → q y ≡ true → g y ≤ c)
+    → ((y : ℕ) → y < m → q y ≡ false → g y ≡ 0) → sum_below g m ≤ c * count q m
 each_at_most q g c m most none =
     let le = sum_le g (λ y. c * (if q y then 1 else 0)) m (λ y l.
     elim (cases_Bool (q y)) [
-      | inl b ↦ let is : c * one_if (q y) ≡ c * 1 = rw b refl in let k = most y l b in omega (arith, is, k)
+      | inl b ↦ let is : c * one_if (q y) ≡ c * 1 =
+          rw b refl in let k = most y l b in omega (arith, is, k)
       | inr b ↦ let k = none y l b in omega (arith, k)
     ]) in
     let times = sum_times c (λ y. if q y then 1 else 0) m in
     omega (arith, le, times)
 
-pub count_le : (p q : ℕ → Bool) (n : ℕ) → ((x : ℕ) → x < n → p x ≡ true → q x ≡ true) → count p n ≤ count q n
-count_le p q n h = sum_le (λ x. if p x then 1 else 0) (λ x. if q x then 1 else 0) n (λ x l. one_le (p x) (q x) (h x l))
+pub count_le : (p q : ℕ → Bool) (n : ℕ) → ((x : ℕ) → x < n → p x ≡ true → q x ≡ true)
+    → count p n ≤ count q n
+count_le p q n h =
+    sum_le (λ x. if p x then 1 else 0) (λ x. if q x then 1 else 0) n
+    (λ x l. one_le (p x) (q x) (h x l))

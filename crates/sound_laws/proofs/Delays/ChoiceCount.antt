@@ -1,8 +1,11 @@
--- For step 6: the entries of a window with their preemptors are at most the ECB-union multiset counts.
-use Rattle.std.proofs.Common.{◌≡◌, ℕ, zero, suc, ◌+◌, ◌*◌, ◌<◌, ◌≤◌, Bool, true, ◌&&◌, length, refl, sym, ◌∙◌, ap, subst, inl, inr, arith}
+-- For step 6: the entries of a window with their preemptors are at most the ECB-union multiset
+-- counts.
+use Rattle.std.proofs.Common.{◌≡◌, ℕ, zero, suc, ◌+◌, ◌*◌, ◌<◌, ◌≤◌, Bool, true, ◌&&◌, length, refl}
+use Rattle.std.proofs.Common.{sym, ◌∙◌, ap, subst, inl, inr, arith}
 use Rattle.std.specs.Prelude.{◌==◌, nat_lt, if◌then◌else◌}
 use Rattle.std.proofs.Math.Nat.{mul-le-mul_left}
-use Rattle.std.proofs.lemmas.Bool.{cases_Bool, cases_eq, false≢true, and_parts, and_from, or_left, or_right, eq-eqb, eqb-true, ne_eqb, lt-ltb}
+use Rattle.std.proofs.lemmas.Bool.{cases_Bool, cases_eq, false≢true, and_parts, and_from, or_left}
+use Rattle.std.proofs.lemmas.Bool.{or_right, eq-eqb, eqb-true, ne_eqb, lt-ltb}
 use Rattle.crpd_base.proofs.Sums.{sum_le, sum_times, sum_swap}
 use Rattle.crpd_base.specs.declared.data.TaskSet.{TaskSet}
 use Rattle.script_reader.specs.Legal.{period_of, jitter_of}
@@ -21,30 +24,49 @@ use Rattle.sound_laws.proofs.Windows.Busy.{line_at, task_at, in_window}
 use Rattle.sound_laws.proofs.Windows.Demands.{is_member, releases_few}
 use Rattle.sound_laws.proofs.Delays.UnionCount.{inside_member, inside_task}
 
-pub evicted_by : (parts : ℕ → Part) (h j c : ℕ) → h ≤ j → has_set (parts h).evicting c ≡ true → evicted_from parts j c ≡ true
-evicted_by parts h zero c l e = let z : h ≡ 0 = omega arith in subst (λ k. has_set (parts k).evicting c ≡ true) z e
+pub evicted_by : (parts : ℕ → Part) (h j c : ℕ) → h ≤ j → has_set (parts h).evicting c ≡ true
+    → evicted_from parts j c ≡ true
+evicted_by parts h zero c l e =
+    let z : h ≡ 0 = omega arith in subst (λ k. has_set (parts k).evicting c ≡ true) z e
 evicted_by parts h (suc j) c l e =
     elim (cases_eq h (suc j)) [
-      | inl q ↦ or_left (has_set (parts (suc j)).evicting c) (evicted_from parts j c) (subst (λ k. has_set (parts k).evicting c ≡ true) q e)
-      | inr ne ↦ or_right (has_set (parts (suc j)).evicting c) (evicted_from parts j c) (evicted_by parts h j c (omega arith) e)
+      | inl q ↦
+          or_left (has_set (parts (suc j)).evicting c) (evicted_from parts j c)
+          (subst (λ k. has_set (parts k).evicting c ≡ true) q e)
+      | inr ne ↦
+          or_right (has_set (parts (suc j)).evicting c) (evicted_from parts j c)
+          (evicted_by parts h j c (omega arith) e)
     ]
 
--- the entries of a window: steps with a victim and a preemptor inside, of which the preemptor is of a higher task and is
--- released in the victim's life, and a cache set that the preemptor's task or one above it evicts, and that the victim
--- finds useful. All steps of a preemptor have one victim and different sets
-pub record ArePreempted (s : Start) (set : TaskSet) (parts : ℕ → Part) (window : ℕ → ℕ) (i t to : ℕ) (entry : ℕ → Bool) (victim preemptor cached : ℕ → ℕ) : Type 0 where
-  pub victims : (n : ℕ) → n < to → entry n ≡ true → (victim n < length s.lines) × (in_window s i t to (victim n) ≡ true)
-  pub preemptors : (n : ℕ) → n < to → entry n ≡ true → (preemptor n < length s.lines) × (in_window s i t to (preemptor n) ≡ true)
+-- the entries of a window: steps with a victim and a preemptor inside, of which the preemptor is of
+-- a higher task and is released in the victim's life, and a cache set that the preemptor's task or
+-- one above it evicts, and that the victim finds useful. All steps of a preemptor have one victim
+-- and different sets
+pub record ArePreempted (s : Start) (set : TaskSet) (parts : ℕ → Part) (window : ℕ → ℕ) (i t to : ℕ)
+    (entry : ℕ → Bool) (victim preemptor cached : ℕ → ℕ) : Type 0 where
+  pub victims : (n : ℕ) → n < to → entry n ≡ true
+      → (victim n < length s.lines) × (in_window s i t to (victim n) ≡ true)
+  pub preemptors : (n : ℕ) → n < to → entry n ≡ true
+      → (preemptor n < length s.lines) × (in_window s i t to (preemptor n) ≡ true)
   pub higher : (n : ℕ) → n < to → entry n ≡ true → task_at s (preemptor n) < task_at s (victim n)
-  pub in_life : (n : ℕ) → n < to → entry n ≡ true → task_at s (victim n) < task_at s i → lies_in (line_at s (victim n)).release ((line_at s (victim n)).release + window (task_at s (victim n))) (line_at s (preemptor n)).release ≡ true
+  pub in_life : (n : ℕ) → n < to → entry n ≡ true → task_at s (victim n) < task_at s i
+      → lies_in (line_at s (victim n)).release
+      ((line_at s (victim n)).release + window (task_at s (victim n)))
+      (line_at s (preemptor n)).release ≡ true
   pub places : (n : ℕ) → n < to → entry n ≡ true → cached n < 512
-  pub is_evicted : (n : ℕ) → n < to → entry n ≡ true → evicted_from parts (task_at s (preemptor n)) (cached n) ≡ true
-  pub is_useful : (n : ℕ) → n < to → entry n ≡ true → has_set (parts (task_at s (victim n))).useful (cached n) ≡ true
-  pub one_job : (n m : ℕ) → n < to → m < to → entry n ≡ true → entry m ≡ true → preemptor n ≡ preemptor m → victim n ≡ victim m
-  pub one_set : (n m : ℕ) → n < m → m < to → entry n ≡ true → entry m ≡ true → preemptor n ≡ preemptor m → cached n ≡ cached m → ⊥
+  pub is_evicted : (n : ℕ) → n < to → entry n ≡ true
+      → evicted_from parts (task_at s (preemptor n)) (cached n) ≡ true
+  pub is_useful : (n : ℕ) → n < to → entry n ≡ true
+      → has_set (parts (task_at s (victim n))).useful (cached n) ≡ true
+  pub one_job : (n m : ℕ) → n < to → m < to → entry n ≡ true → entry m ≡ true
+      → preemptor n ≡ preemptor m → victim n ≡ victim m
+  pub one_set : (n m : ℕ) → n < m → m < to → entry n ≡ true → entry m ≡ true
+      → preemptor n ≡ preemptor m → cached n ≡ cached m → ⊥
 
-module _ (s : Start) (set : TaskSet) (run : RunsLegally set s) (parts : ℕ → Part) (window : ℕ → ℕ) (i t : ℕ) (entry : ℕ → Bool) (victim preemptor cached : ℕ → ℕ)
-    (are : ArePreempted s set parts window i t (t + window (task_at s i)) entry victim preemptor cached) (periods : (k : ℕ) → k ≤ task_at s i → 0 < period_of set k) where
+module _ (s : Start) (set : TaskSet) (run : RunsLegally set s) (parts : ℕ → Part) (window : ℕ → ℕ)
+    (i t : ℕ) (entry : ℕ → Bool) (victim preemptor cached : ℕ → ℕ)
+    (are : ArePreempted s set parts window i t (t + window (task_at s i)) entry victim preemptor
+    cached) (periods : (k : ℕ) → k ≤ task_at s i → 0 < period_of set k) where
   abbrev to : ℕ
   to = t + window (task_at s i)
 
@@ -74,41 +96,58 @@ module _ (s : Start) (set : TaskSet) (run : RunsLegally set s) (parts : ℕ → 
   found j k p h =
       let both = and_parts (task_at s p == j) (some_below (of_pair p k) to) h in
       let f = found_is (of_pair p k) to both.1 in
-      let pair = and_parts (entry (at k p) && (preemptor (at k p) == p)) (task_at s (victim (at k p)) == k) f.1 in
+      let pair = and_parts (entry (at k p) && (preemptor (at k p) == p))
+      (task_at s (victim (at k p)) == k) f.1 in
       let one = and_parts (entry (at k p)) (preemptor (at k p) == p) pair.0 in
-      record { early = f.0; is_entry = one.0; is_preemptor = eqb-true _ _ one.1; is_victim = eqb-true _ _ pair.1; is_task = eqb-true _ _ both.0 }
+      record {
+        early = f.0;
+        is_entry = one.0;
+        is_preemptor = eqb-true _ _ one.1;
+        is_victim = eqb-true _ _ pair.1;
+        is_task = eqb-true _ _ both.0;
+      }
 
-  preemptor_member : (j n : ℕ) → n < to → entry n ≡ true → task_at s (preemptor n) ≡ j → is_member s t to j (preemptor n) ≡ true
+  preemptor_member : (j n : ℕ) → n < to → entry n ≡ true → task_at s (preemptor n) ≡ j
+      → is_member s t to j (preemptor n) ≡ true
   preemptor_member j n l b e =
       let is = are.preemptors n l b in
       let below = are.higher n l b in
       let top = inside_task s i t to (victim n) (are.victims n l b).1 in
       subst (λ k. is_member s t to k (preemptor n) ≡ true) e
-      (inside_member s i t to (preemptor n) is.1 (λ q. let same : task_at s (preemptor n) ≡ task_at s i = ap (λ k. task_at s k) q in omega arith))
+      (inside_member s i t to (preemptor n) is.1
+      (λ q. let same : task_at s (preemptor n) ≡ task_at s i = ap (λ k. task_at s k) q in
+      omega arith))
 
   has_member : (j k p : ℕ) → has j k p ≡ true → is_member s t to j p ≡ true
   has_member j k p h =
       let f = found j k p h in
-      subst (λ q. is_member s t to j q ≡ true) f.is_preemptor (preemptor_member j (at k p) f.early f.is_entry (ap (λ q. task_at s q) f.is_preemptor ∙ f.is_task))
+      subst (λ q. is_member s t to j q ≡ true) f.is_preemptor
+      (preemptor_member j (at k p) f.early f.is_entry
+      (ap (λ q. task_at s q) f.is_preemptor ∙ f.is_task))
 
   -- the entries of one preemptor and one victim's task are at most the shared sets
   pair_sets : (j k p : ℕ) → task_at s p ≡ j → count (of_pair p k) to ≤ shared_sets parts j k
   unfolding shared_count
   pair_sets j k p e =
       inject (of_pair p k) cached (λ c. has_set (parts k).useful c && evicted_from parts j c) to 512
-      (λ n l b. are.places n l (and_parts (entry n) _ (and_parts (entry n && (preemptor n == p)) _ b).0).0)
+      (λ n l b. are.places n l
+      (and_parts (entry n) _ (and_parts (entry n && (preemptor n == p)) _ b).0).0)
       (λ n l b.
       let pair = and_parts (entry n && (preemptor n == p)) (task_at s (victim n) == k) b in
       let one = and_parts (entry n) (preemptor n == p) pair.0 in
       let vk : task_at s (victim n) ≡ k = eqb-true _ _ pair.1 in
-      let pj : task_at s (preemptor n) ≡ j = ap (λ q. task_at s q) (eqb-true (preemptor n) p one.1) ∙ e in
+      let pj : task_at s (preemptor n) ≡ j =
+      ap (λ q. task_at s q) (eqb-true (preemptor n) p one.1) ∙ e in
       and_from (has_set (parts k).useful (cached n)) (evicted_from parts j (cached n))
       (subst (λ q. has_set (parts q).useful (cached n) ≡ true) vk (are.is_useful n l one.0))
       (subst (λ q. evicted_from parts q (cached n) ≡ true) pj (are.is_evicted n l one.0)))
       (λ n m l h a b q.
-      let pa = and_parts (entry n) (preemptor n == p) (and_parts (entry n && (preemptor n == p)) _ a).0 in
-      let pb = and_parts (entry m) (preemptor m == p) (and_parts (entry m && (preemptor m == p)) _ b).0 in
-      are.one_set n m l h pa.0 pb.0 (eqb-true (preemptor n) p pa.1 ∙ sym (eqb-true (preemptor m) p pb.1)) q)
+      let pa = and_parts (entry n) (preemptor n == p)
+      (and_parts (entry n && (preemptor n == p)) _ a).0 in
+      let pb = and_parts (entry m) (preemptor m == p)
+      (and_parts (entry m && (preemptor m == p)) _ b).0 in
+      are.one_set n m l h pa.0 pb.0
+      (eqb-true (preemptor n) p pa.1 ∙ sym (eqb-true (preemptor m) p pb.1)) q)
 
   -- how many jobs of j preempt jobs of k
   abbrev choice : ℕ → ℕ → ℕ
@@ -119,39 +158,62 @@ module _ (s : Start) (set : TaskSet) (run : RunsLegally set s) (parts : ℕ → 
   one_task j p = at_most_one (λ k. has j k p) (suc (task_at s i)) (λ k m l h a b.
       let f = found j k p a in
       let g = found j m p b in
-      let same = are.one_job (at k p) (at m p) f.early g.early f.is_entry g.is_entry (f.is_preemptor ∙ sym g.is_preemptor) in
+      let same = are.one_job (at k p) (at m p) f.early g.early f.is_entry g.is_entry
+      (f.is_preemptor ∙ sym g.is_preemptor) in
       let e : k ≡ m = sym f.is_victim ∙ ap (λ q. task_at s q) same ∙ g.is_victim in
       omega arith)
 
-  choice_all : (j : ℕ) → j ≤ task_at s i → sum_below (choice j) (suc (task_at s i)) ≤ jobs j (window (task_at s i))
+  choice_all : (j : ℕ) → j ≤ task_at s i
+      → sum_below (choice j) (suc (task_at s i)) ≤ jobs j (window (task_at s i))
   choice_all j h =
-      let swapped = sum_swap (λ k p. if has j k p then 1 else 0) (suc (task_at s i)) (length s.lines) in
-      let each = each_at_most (is_member s t to j) (λ p. count (λ k. has j k p) (suc (task_at s i))) 1 (length s.lines)
+      let swapped = sum_swap (λ k p. if has j k p then 1 else 0) (suc (task_at s i))
+      (length s.lines) in
+      let each = each_at_most (is_member s t to j) (λ p. count (λ k. has j k p) (suc (task_at s i)))
+      1 (length s.lines)
       (λ p l m. one_task j p)
-      (λ p l m. count_none (λ k. has j k p) (suc (task_at s i)) (λ k lk. elim (cases_Bool (has j k p)) [ inl q ↦ absurd (false≢true (sym m ∙ has_member j k p q)) | inr q ↦ q ])) in
+      (λ p l m. count_none (λ k. has j k p) (suc (task_at s i))
+      (λ k lk. elim (cases_Bool (has j k p)) [
+        | inl q ↦ absurd (false≢true (sym m ∙ has_member j k p q))
+        | inr q ↦ q
+      ])) in
       let few = releases_few s set run t (window (task_at s i)) j (periods j h) in
       omega (arith, swapped, each, few)
 
   -- the jobs of j that preempt one victim
-  of_victim : (j k x : ℕ) → j ≤ task_at s i → k < task_at s i → count (λ p. has j k p && (victim (at k p) == x)) (length s.lines) ≤ jobs j (window k)
+  of_victim : (j k x : ℕ) → j ≤ task_at s i → k < task_at s i
+      → count (λ p. has j k p && (victim (at k p) == x)) (length s.lines) ≤ jobs j (window k)
   of_victim j k x h hk =
-      let le = count_le (λ p. has j k p && (victim (at k p) == x)) (is_member s (line_at s x).release ((line_at s x).release + window k) j) (length s.lines) (λ p l b.
+      let le = count_le (λ p. has j k p && (victim (at k p) == x))
+      (is_member s (line_at s x).release ((line_at s x).release + window k) j)
+      (length s.lines) (λ p l b.
       let both = and_parts (has j k p) (victim (at k p) == x) b in
       let f = found j k p both.0 in
       let vx : victim (at k p) ≡ x = eqb-true _ _ both.1 in
       let life = are.in_life (at k p) f.early f.is_entry (let e = f.is_victim in omega arith) in
-      let life_k : lies_in (line_at s (victim (at k p))).release ((line_at s (victim (at k p))).release + window k) (line_at s (preemptor (at k p))).release ≡ true =
-      subst (λ q. lies_in (line_at s (victim (at k p))).release ((line_at s (victim (at k p))).release + window q) (line_at s (preemptor (at k p))).release ≡ true) f.is_victim life in
-      let life_x = subst (λ q. lies_in (line_at s q).release ((line_at s q).release + window k) (line_at s (preemptor (at k p))).release ≡ true) vx life_k in
-      let life_p = subst (λ q. lies_in (line_at s x).release ((line_at s x).release + window k) (line_at s q).release ≡ true) f.is_preemptor life_x in
+      let life_k : lies_in (line_at s (victim (at k p))).release
+      ((line_at s (victim (at k p))).release + window k) (line_at s (preemptor (at k p))).release
+      ≡ true =
+      subst (λ q. lies_in (line_at s (victim (at k p))).release
+      ((line_at s (victim (at k p))).release + window q) (line_at s (preemptor (at k p))).release
+      ≡ true) f.is_victim life in
+      let life_x = subst (λ q.
+      lies_in (line_at s q).release ((line_at s q).release + window k)
+      (line_at s (preemptor (at k p))).release ≡ true) vx life_k in
+      let life_p = subst (λ q.
+      lies_in (line_at s x).release ((line_at s x).release + window k) (line_at s q).release ≡ true)
+      f.is_preemptor life_x in
       and_from (task_at s p == j) _ (eq-eqb _ _ f.is_task) life_p) in
       let few = releases_few s set run (line_at s x).release (window k) j (periods j h) in
       omega (arith, le, few)
 
-  choice_higher : (j k : ℕ) → j ≤ task_at s i → k < task_at s i → choice j k ≤ jobs j (window k) * jobs k (window (task_at s i))
+  choice_higher : (j k : ℕ) → j ≤ task_at s i → k < task_at s i
+      → choice j k ≤ jobs j (window k) * jobs k (window (task_at s i))
   choice_higher j k h hk =
-      let all = spread (has j k) (λ p. victim (at k p)) (length s.lines) (length s.lines) (λ p l b. let f = found j k p b in (are.victims (at k p) f.early f.is_entry).0) in
-      let most = each_at_most (is_member s t to k) (λ x. count (λ p. has j k p && (victim (at k p) == x)) (length s.lines)) (jobs j (window k)) (length s.lines)
+      let all = spread (has j k) (λ p. victim (at k p)) (length s.lines) (length s.lines)
+      (λ p l b. let f = found j k p b in (are.victims (at k p) f.early f.is_entry).0) in
+      let most = each_at_most (is_member s t to k)
+      (λ x. count (λ p. has j k p && (victim (at k p) == x)) (length s.lines)) (jobs j (window k))
+      (length s.lines)
       (λ x l b. of_victim j k x h hk)
       (λ x l b. count_none (λ p. has j k p && (victim (at k p) == x)) (length s.lines) (λ p lp.
       elim (cases_Bool (has j k p && (victim (at k p) == x))) [
@@ -160,14 +222,22 @@ module _ (s : Start) (set : TaskSet) (run : RunsLegally set s) (parts : ℕ → 
             let both = and_parts (has j k p) (victim (at k p) == x) q in
             let f = found j k p both.0 in
             let vx : victim (at k p) ≡ x = eqb-true _ _ both.1 in
-            let member = inside_member s i t to (victim (at k p)) (are.victims (at k p) f.early f.is_entry).1 (λ e. let same : task_at s (victim (at k p)) ≡ task_at s i = ap (λ z. task_at s z) e in let v = f.is_victim in omega arith) in
-            let member_x : is_member s t to k x ≡ true = subst (λ z. is_member s t to k z ≡ true) vx (subst (λ z. is_member s t to z (victim (at k p)) ≡ true) f.is_victim member) in
+            let member = inside_member s i t to (victim (at k p))
+            (are.victims (at k p) f.early f.is_entry).1
+            (λ e. let same : task_at s (victim (at k p)) ≡ task_at s i = ap (λ z. task_at s z) e in
+            let v = f.is_victim in omega arith) in
+            let member_x : is_member s t to k x ≡ true =
+            subst (λ z. is_member s t to k z ≡ true) vx
+            (subst (λ z. is_member s t to z (victim (at k p)) ≡ true) f.is_victim member) in
             absurd (false≢true (sym b ∙ member_x))
       ])) in
-      let few = mul-le-mul_left (jobs j (window k)) (releases_few s set run t (window (task_at s i)) k (periods k (omega arith))) in
+      let few = mul-le-mul_left (jobs j (window k))
+      (releases_few s set run t (window (task_at s i)) k (periods k (omega arith))) in
       omega (arith, all, most, few)
 
-  choice_each : (j k : ℕ) → j ≤ task_at s i → k ≤ task_at s i → choice j k ≤ (if nat_lt j k then preemptions set window (window (task_at s i)) (task_at s i) j k else 0)
+  choice_each : (j k : ℕ) → j ≤ task_at s i → k ≤ task_at s i
+      → choice j k ≤ (if nat_lt j k
+      then preemptions set window (window (task_at s i)) (task_at s i) j k else 0)
   choice_each j k h hk =
       elim (cases_Bool (nat_lt j k)) [
         | inr b ↦
@@ -176,7 +246,8 @@ module _ (s : Start) (set : TaskSet) (run : RunsLegally set s) (parts : ℕ → 
               | inl q ↦
                   let f = found j k p q in
                   let up = are.higher (at k p) f.early f.is_entry in
-                  let tp : task_at s (preemptor (at k p)) ≡ j = ap (λ z. task_at s z) f.is_preemptor ∙ f.is_task in
+                  let tp : task_at s (preemptor (at k p)) ≡ j =
+                  ap (λ z. task_at s z) f.is_preemptor ∙ f.is_task in
                   let v = f.is_victim in
                   absurd (false≢true (sym b ∙ lt-ltb j k (omega arith)))
             ]) in
@@ -184,18 +255,23 @@ module _ (s : Start) (set : TaskSet) (run : RunsLegally set s) (parts : ℕ → 
         | inl b ↦
             elim (cases_eq k (task_at s i)) [
               | inl e ↦
-                  let le = count_le (has j k) (is_member s t to j) (length s.lines) (λ p l q. has_member j k p q) in
+                  let le = count_le (has j k) (is_member s t to j) (length s.lines)
+                  (λ p l q. has_member j k p q) in
                   let few = releases_few s set run t (window (task_at s i)) j (periods j h) in
-                  let is : preemptions set window (window (task_at s i)) (task_at s i) j k ≡ jobs j (window (task_at s i)) = rw (eq-eqb k (task_at s i) e) refl in
+                  let is : preemptions set window (window (task_at s i)) (task_at s i) j k
+                  ≡ jobs j (window (task_at s i)) = rw (eq-eqb k (task_at s i) e) refl in
                   rw b (omega (arith, le, few, is))
               | inr ne ↦
                   let most = choice_higher j k h (omega arith) in
-                  let is : preemptions set window (window (task_at s i)) (task_at s i) j k ≡ jobs j (window k) * jobs k (window (task_at s i)) = rw (ne_eqb k (task_at s i) ne) refl in
+                  let is : preemptions set window (window (task_at s i)) (task_at s i) j k
+                  ≡ jobs j (window k) * jobs k (window (task_at s i)) =
+                  rw (ne_eqb k (task_at s i) ne) refl in
                   rw b (omega (arith, most, is))
             ]
       ]
 
-  is_choice : (j : ℕ) → j ≤ task_at s i → IsChoice set window (window (task_at s i)) (task_at s i) j (choice j)
+  is_choice : (j : ℕ) → j ≤ task_at s i
+      → IsChoice set window (window (task_at s i)) (task_at s i) j (choice j)
   is_choice j h = record { each = λ k l. choice_each j k h l; all = choice_all j h }
 
   -- the entries with a preemptor of a task
@@ -203,56 +279,92 @@ module _ (s : Start) (set : TaskSet) (run : RunsLegally set s) (parts : ℕ → 
   by_task j n = entry n && (task_at s (preemptor n) == j)
 
   -- of one preemptor and one task of victims, none or at most the shared sets
-  pair_le : (j k p : ℕ) → count (λ n. ((by_task j n) && (preemptor n == p)) && (task_at s (victim n) == k)) to ≤ shared_sets parts j k * (if has j k p then 1 else 0)
+  pair_le : (j k p : ℕ) → count
+      (λ n. ((by_task j n) && (preemptor n == p)) && (task_at s (victim n) == k)) to
+      ≤ shared_sets parts j k * (if has j k p then 1 else 0)
   pair_le j k p =
-      let le = count_le (λ n. ((by_task j n) && (preemptor n == p)) && (task_at s (victim n) == k)) (of_pair p k) to (λ n l b.
+      let le = count_le (λ n. ((by_task j n) && (preemptor n == p)) && (task_at s (victim n) == k))
+      (of_pair p k) to (λ n l b.
       let one = and_parts (by_task j n && (preemptor n == p)) (task_at s (victim n) == k) b in
       let two = and_parts (by_task j n) (preemptor n == p) one.0 in
       let three = and_parts (entry n) (task_at s (preemptor n) == j) two.0 in
-      and_from (entry n && (preemptor n == p)) (task_at s (victim n) == k) (and_from (entry n) (preemptor n == p) three.0 two.1) one.1) in
+      and_from (entry n && (preemptor n == p)) (task_at s (victim n) == k)
+      (and_from (entry n) (preemptor n == p) three.0 two.1) one.1) in
       elim (cases_Bool (has j k p)) [
         | inl b ↦
             let sets_of = pair_sets j k p (found j k p b).is_task in
             rw b (omega (arith, le, sets_of))
         | inr b ↦
-            let none = count_none (λ n. ((by_task j n) && (preemptor n == p)) && (task_at s (victim n) == k)) to (λ n l. elim (cases_Bool (((by_task j n) && (preemptor n == p)) && (task_at s (victim n) == k))) [
+            let none = count_none (λ n.
+            ((by_task j n) && (preemptor n == p)) && (task_at s (victim n) == k)) to
+            (λ n l. elim (cases_Bool
+            (((by_task j n) && (preemptor n == p)) && (task_at s (victim n) == k))) [
               | inr q ↦ q
               | inl q ↦
-                  let one = and_parts (by_task j n && (preemptor n == p)) (task_at s (victim n) == k) q in
+                  let one = and_parts (by_task j n && (preemptor n == p))
+                  (task_at s (victim n) == k) q in
                   let two = and_parts (by_task j n) (preemptor n == p) one.0 in
                   let three = and_parts (entry n) (task_at s (preemptor n) == j) two.0 in
-                  let pj : task_at s p ≡ j = ap (λ z. task_at s z) (sym (eqb-true (preemptor n) p two.1)) ∙ eqb-true _ _ three.1 in
-                  let there : has j k p ≡ true = and_from (task_at s p == j) (some_below (of_pair p k) to) (eq-eqb _ _ pj) (some_from (of_pair p k) to n l (and_from (entry n && (preemptor n == p)) (task_at s (victim n) == k) (and_from (entry n) (preemptor n == p) three.0 two.1) one.1)) in
+                  let pj : task_at s p ≡ j =
+                  ap (λ z. task_at s z) (sym (eqb-true (preemptor n) p two.1))
+                  ∙ eqb-true _ _ three.1 in
+                  let there : has j k p ≡ true =
+                  and_from (task_at s p == j) (some_below (of_pair p k) to) (eq-eqb _ _ pj)
+                  (some_from (of_pair p k) to n l
+                  (and_from (entry n && (preemptor n == p)) (task_at s (victim n) == k)
+                  (and_from (entry n) (preemptor n == p) three.0 two.1) one.1)) in
                   absurd (false≢true (sym b ∙ there))
             ]) in
             omega (arith, none)
       ]
 
-  task_count : (j : ℕ) → j ≤ task_at s i → count (by_task j) to ≤ sum_below (λ k. shared_sets parts j k * choice j k) (suc (task_at s i))
+  task_count : (j : ℕ) → j ≤ task_at s i
+      → count (by_task j) to ≤ sum_below (λ k. shared_sets parts j k * choice j k)
+      (suc (task_at s i))
   task_count j h =
-      let all = spread (by_task j) preemptor to (length s.lines) (λ n l b. (are.preemptors n l (and_parts (entry n) _ b).0).0) in
-      let split = sum_le (λ p. count (λ n. by_task j n && (preemptor n == p)) to) (λ p. sum_below (λ k. shared_sets parts j k * (if has j k p then 1 else 0)) (suc (task_at s i))) (length s.lines) (λ p l.
-      let by_victims = spread (λ n. by_task j n && (preemptor n == p)) (λ n. task_at s (victim n)) to (suc (task_at s i)) (λ n ln b.
-      let top = inside_task s i t to (victim n) (are.victims n ln (and_parts (entry n) _ (and_parts (by_task j n) _ b).0).0).1 in omega arith) in
-      let le = sum_le (λ k. count (λ n. (by_task j n && (preemptor n == p)) && (task_at s (victim n) == k)) to) (λ k. shared_sets parts j k * (if has j k p then 1 else 0)) (suc (task_at s i)) (λ k lk. pair_le j k p) in
+      let all = spread (by_task j) preemptor to (length s.lines)
+      (λ n l b. (are.preemptors n l (and_parts (entry n) _ b).0).0) in
+      let split = sum_le (λ p. count (λ n. by_task j n && (preemptor n == p)) to)
+      (λ p. sum_below (λ k. shared_sets parts j k * (if has j k p then 1 else 0))
+      (suc (task_at s i))) (length s.lines) (λ p l.
+      let by_victims = spread (λ n. by_task j n && (preemptor n == p)) (λ n. task_at s (victim n))
+      to (suc (task_at s i)) (λ n ln b.
+      let top = inside_task s i t to (victim n)
+      (are.victims n ln (and_parts (entry n) _ (and_parts (by_task j n) _ b).0).0).1 in
+      omega arith) in
+      let le = sum_le
+      (λ k. count (λ n. (by_task j n && (preemptor n == p)) && (task_at s (victim n) == k)) to)
+      (λ k. shared_sets parts j k * (if has j k p then 1 else 0)) (suc (task_at s i))
+      (λ k lk. pair_le j k p) in
       omega (arith, by_victims, le)) in
-      let swapped = sum_swap (λ p k. shared_sets parts j k * (if has j k p then 1 else 0)) (length s.lines) (suc (task_at s i)) in
-      let times = sum_le (λ k. sum_below (λ p. shared_sets parts j k * (if has j k p then 1 else 0)) (length s.lines)) (λ k. shared_sets parts j k * choice j k) (suc (task_at s i)) (λ k l.
-      let e = sum_times (shared_sets parts j k) (λ p. if has j k p then 1 else 0) (length s.lines) in omega (arith, e)) in
+      let swapped = sum_swap (λ p k. shared_sets parts j k * (if has j k p then 1 else 0))
+      (length s.lines) (suc (task_at s i)) in
+      let times = sum_le (λ k.
+      sum_below (λ p. shared_sets parts j k * (if has j k p then 1 else 0)) (length s.lines))
+      (λ k. shared_sets parts j k * choice j k) (suc (task_at s i)) (λ k l.
+      let e = sum_times (shared_sets parts j k) (λ p. if has j k p then 1 else 0)
+      (length s.lines) in omega (arith, e)) in
       omega (arith, all, split, swapped, times)
 
   -- the entries of the window, where each g j bounds every choice
-  pub task_choice : (j : ℕ) → j ≤ task_at s i → count (by_task j) to ≤ ecb_count set parts window (window (task_at s i)) (task_at s i) j
+  pub task_choice : (j : ℕ) → j ≤ task_at s i
+      → count (by_task j) to ≤ ecb_count set parts window (window (task_at s i)) (task_at s i) j
   task_choice j h =
       let c = task_count j h in
-      let b = choice_le set parts window (window (task_at s i)) (task_at s i) j (choice j) (is_choice j h) in
+      let b = choice_le set parts window (window (task_at s i)) (task_at s i) j (choice j)
+      (is_choice j h) in
       omega (arith, c, b)
 
-  pub preempted_few : count entry to ≤ sum_below (ecb_count set parts window (window (task_at s i)) (task_at s i)) (task_at s i)
+  pub preempted_few : count entry to
+      ≤ sum_below (ecb_count set parts window (window (task_at s i)) (task_at s i)) (task_at s i)
   preempted_few =
-      let all = spread entry (λ n. task_at s (preemptor n)) to (task_at s i) (λ n l b. let up = are.higher n l b in let top = inside_task s i t to (victim n) (are.victims n l b).1 in omega arith) in
-      let le = sum_le (λ j. count (by_task j) to) (ecb_count set parts window (window (task_at s i)) (task_at s i)) (task_at s i) (λ j l.
+      let all = spread entry (λ n. task_at s (preemptor n)) to (task_at s i)
+      (λ n l b. let up = are.higher n l b in
+      let top = inside_task s i t to (victim n) (are.victims n l b).1 in omega arith) in
+      let le = sum_le (λ j. count (by_task j) to)
+      (ecb_count set parts window (window (task_at s i)) (task_at s i)) (task_at s i) (λ j l.
       let c = task_count j (omega arith) in
-      let b = choice_le set parts window (window (task_at s i)) (task_at s i) j (choice j) (is_choice j (omega arith)) in
+      let b = choice_le set parts window (window (task_at s i)) (task_at s i) j (choice j)
+      (is_choice j (omega arith)) in
       omega (arith, c, b)) in
       omega (arith, all, le)

@@ -1,5 +1,5 @@
--- Step 6, entry_from_higher and preemptor_within_useful: an entry comes from higher tasks, and those of a job with one
--- preemptor are at most the useful sets of one node.
+-- Step 6, entry_from_higher and preemptor_within_useful: an entry comes from higher tasks, and
+-- those of a job with one preemptor are at most the useful sets of one node.
 use Rattle.std.proofs.Common.{◌≡◌, ℕ, ◌<◌, ◌≤◌, Bool, true, refl, sym, ◌∙◌, ap, subst, arith}
 use Rattle.evict_sets.specs.Full.{FullUseful}
 use Rattle.evict_sets.specs.ListedPart.{listed_of, certified_task}
@@ -19,12 +19,23 @@ use Rattle.run_account.proofs.ReloadLaws.{one_job_per_preemptor}
 use Rattle.sound_laws.specs.FromHigher.{IsFromHigher, ReloadComesFromHigher, PreemptorWithinUseful}
 use Rattle.sound_laws.proofs.Windows.Releases.{count}
 use Rattle.sound_laws.proofs.Counts.Counting.{inject}
-use Rattle.sound_laws.proofs.Walks.CheckedRuns.{CheckedRun, cached_run, checked_run, runs_jobs, some_sets}
+use Rattle.sound_laws.proofs.Walks.CheckedRuns.{CheckedRun, cached_run, checked_run, runs_jobs}
+use Rattle.sound_laws.proofs.Walks.CheckedRuns.{some_sets}
 use Rattle.sound_laws.proofs.Reloads.Entries.{met, set_at}
 use Rattle.sound_laws.proofs.Reloads.OwnFetches.{has_graphs}
 
 module _ (K : CheckedRun) where
-  open K use {start as s, set, graphs, certificate as c, horizon, in_range as R, code as C, says, run}
+  open K use {
+    start as s,
+    set,
+    graphs,
+    certificate as c,
+    horizon,
+    in_range as R,
+    code as C,
+    says,
+    run,
+  }
 
   -- what the laws on ledgers ask of such a run
   graphs_here : HasGraphs s graphs
@@ -37,10 +48,23 @@ module _ (K : CheckedRun) where
   sets_met x h = (met K x h).all.sets
 
   -- an entry with its preemptor, and with its evictor
-  abbrev of_run : (n x p : ℕ) (e : IsPreempted s graphs c n x p) → IsOfRun s graphs c (record { job = x; set = fetched_set s e.fetch; time = n; evictor = e.is.evictor.job; preemptor = p })
+  abbrev of_run : (n x p : ℕ) (e : IsPreempted s graphs c n x p)
+      → IsOfRun s graphs c (record {
+        job = x;
+        set = fetched_set s e.fetch;
+        time = n;
+        evictor = e.is.evictor.job;
+        preemptor = p;
+      })
   of_run n x p e =
       record {
-        evicted = record { fetch = e.fetch; entry = e.entry; time = e.time; last = e.is.evictor; is = record { last = e.is.last; by = refl } };
+        evicted = record {
+          fetch = e.fetch;
+          entry = e.entry;
+          time = e.time;
+          last = e.is.evictor;
+          is = record { last = e.is.last; by = refl };
+        };
         preempted = e;
         to_set = refl;
       }
@@ -48,16 +72,44 @@ module _ (K : CheckedRun) where
   -- it comes from higher tasks
   from_higher : (n x p : ℕ) (e : IsPreempted s graphs c n x p) → IsFromHigher s graphs c n x p e
   from_higher n x p e =
-      let entry : LedgerReload = record { job = x; set = fetched_set s e.fetch; time = n; evictor = e.is.evictor.job; preemptor = p } in
-      let h = of_higher s graphs c (cached_run K) graphs_here states_met sets_met entry (of_run n x p e) in
-      record { evictor = h.evictor; preemptor = h.preemptor; not_after = h.not_after; evicts = h.evicts; in_set = h.in_set; carried = h.carried }
+      let entry : LedgerReload = record {
+        job = x;
+        set = fetched_set s e.fetch;
+        time = n;
+        evictor = e.is.evictor.job;
+        preemptor = p;
+      } in
+      let h = of_higher s graphs c (cached_run K) graphs_here states_met sets_met entry
+      (of_run n x p e) in
+      record {
+        evictor = h.evictor;
+        preemptor = h.preemptor;
+        not_after = h.not_after;
+        evicts = h.evicts;
+        in_set = h.in_set;
+        carried = h.carried;
+      }
 
 pub entry_from_higher : ReloadComesFromHigher
-entry_from_higher s set graphs c n x p R C says run e = from_higher (checked_run s set graphs c n R C says (runs_jobs run) e.entry.kept) n x p e
+entry_from_higher s set graphs c n x p R C says run e =
+    from_higher (checked_run s set graphs c n R C says (runs_jobs run) e.entry.kept) n x p e
 
 -- the entries of a job with one preemptor
-module _ (K : CheckedRun) (x p first : ℕ) (test useful : ℕ → Bool) (e : IsPreempted K.start K.graphs K.certificate first x p) (each : (n : ℕ) → test n ≡ true → (n < K.horizon) × IsPreempted K.start K.graphs K.certificate n x p) where
-  open K use {start as s, set, graphs, certificate as c, horizon, in_range as R, code as C, says, run}
+module _ (K : CheckedRun) (x p first : ℕ) (test useful : ℕ → Bool)
+    (e : IsPreempted K.start K.graphs K.certificate first x p)
+    (each : (n : ℕ) → test n ≡ true
+    → (n < K.horizon) × IsPreempted K.start K.graphs K.certificate n x p) where
+  open K use {
+    start as s,
+    set,
+    graphs,
+    certificate as c,
+    horizon,
+    in_range as R,
+    code as C,
+    says,
+    run,
+  }
 
   abbrev place_at : ℕ → ℕ
   place_at n = set_at K (job_after s n x).pc
@@ -67,27 +119,43 @@ module _ (K : CheckedRun) (x p first : ℕ) (test useful : ℕ → Bool) (e : Is
       let m = fetch_says s.system (state s n) f at.is in
       ap (λ a. set_at K a) (m.at ∙ ap (λ y. (job_after s n y).pc) at.by)
 
-  different : (n m : ℕ) → n < m → m < horizon → test n ≡ true → test m ≡ true → place_at n ≡ place_at m → ⊥
+  different : (n m : ℕ) → n < m → m < horizon → test n ≡ true → test m ≡ true
+      → place_at n ≡ place_at m → ⊥
   different n m l k a b q =
       let E = (each n a).1 in
       let F = (each m b).1 in
       let r = entry_is_reload s graphs c n x E.fetch (graphs_here K) (states_met K) E.entry in
       let t = entry_is_reload s graphs c m x F.fetch (graphs_here K) (states_met K) F.entry in
-      let same = one_job_per_preemptor.one_reload s x n r.time E.fetch r.own m t.time F.fetch t.own p E.from E.time E.until F.from F.time F.until (cached_run K) r.reload t.reload (place_is n E.fetch E.entry.fetches ∙ q ∙ sym (place_is m F.fetch F.entry.fetches)) E.is F.is in
+      let same = one_job_per_preemptor.one_reload s x n r.time E.fetch r.own m t.time F.fetch t.own
+      p E.from E.time E.until F.from F.time F.until (cached_run K) r.reload t.reload
+      (place_is n E.fetch E.entry.fetches ∙ q ∙ sym (place_is m F.fetch F.entry.fetches))
+      E.is F.is in
       omega arith
 
-  few_useful : ((z : ℕ) → FullUseful (graphs (job_task s x)).graph (accesses_of s.system.platform (graphs (job_task s x))) (listed_of (certified_task c (job_task s x))) (node_of_job (graphs (job_task s x)) (job_after s e.until x)) z → useful z ≡ true) → count test horizon ≤ count useful s.system.platform.sets
+  few_useful : ((z : ℕ) → FullUseful (graphs (job_task s x)).graph
+      (accesses_of s.system.platform (graphs (job_task s x)))
+      (listed_of (certified_task c (job_task s x)))
+      (node_of_job (graphs (job_task s x)) (job_after s e.until x)) z → useful z ≡ true)
+      → count test horizon ≤ count useful s.system.platform.sets
   few_useful covers =
       inject test place_at useful horizon s.system.platform.sets
       (λ n l b. let q = some_sets K in omega arith)
       (λ n l b.
       let E = (each n b).1 in
       let from = from_higher K n x p E in
-      let gap = one_gap_per_preemptor s x p n E.from E.time E.until first e.from e.time e.until E.fetch e.fetch E.is e.is in
-      let here = subst (λ m. FullUseful (graphs (job_task s x)).graph (accesses_of s.system.platform (graphs (job_task s x))) (listed_of (certified_task c (job_task s x))) (node_of_job (graphs (job_task s x)) (job_after s m x)) (fetched_set s E.fetch)) gap.1 from.carried in
-      subst (λ z. useful z ≡ true) (place_is n E.fetch E.entry.fetches) (covers (fetched_set s E.fetch) here))
+      let gap = one_gap_per_preemptor s x p n E.from E.time E.until first e.from e.time e.until
+      E.fetch e.fetch E.is e.is in
+      let here = subst
+      (λ m. FullUseful (graphs (job_task s x)).graph
+      (accesses_of s.system.platform (graphs (job_task s x)))
+      (listed_of (certified_task c (job_task s x)))
+      (node_of_job (graphs (job_task s x)) (job_after s m x)) (fetched_set s E.fetch)) gap.1
+      from.carried in
+      subst (λ z. useful z ≡ true) (place_is n E.fetch E.entry.fetches)
+      (covers (fetched_set s E.fetch) here))
       different
 
 pub preemptor_within_useful : PreemptorWithinUseful
 preemptor_within_useful s set graphs c until x p first test useful R C says run kept e each covers =
-    few_useful (checked_run s set graphs c until R C says (runs_jobs run) kept) x p first test useful e each covers
+    few_useful (checked_run s set graphs c until R C says (runs_jobs run) kept) x p first test
+    useful e each covers

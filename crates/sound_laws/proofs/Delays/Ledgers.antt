@@ -1,9 +1,12 @@
--- Step 6, ledger_within_delays: the ledger's entries of a window, counted as the steps at which they are made, are within
--- both delays.
-use Rattle.std.proofs.Common.{◌≡◌, ℕ, zero, suc, ◌+◌, ◌-◌, ◌*◌, ◌<◌, ◌≤◌, Bool, true, false, ◌&&◌, List, [], ◌∷◌, length, refl, sym, ◌∙◌, ap, subst, inl, inr, arith, nat_lt, nat_le, if◌then◌else◌, cond, mul-le-mul_left, mul_comm}
+-- Step 6, ledger_within_delays: the ledger's entries of a window, counted as the steps at which
+-- they are made, are within both delays.
+use Rattle.std.proofs.Common.{◌≡◌, ℕ, zero, suc, ◌+◌, ◌-◌, ◌*◌, ◌<◌, ◌≤◌, Bool, true, false, ◌&&◌}
+use Rattle.std.proofs.Common.{List, [], ◌∷◌, length, refl, sym, ◌∙◌, ap, subst, inl, inr, arith}
+use Rattle.std.proofs.Common.{nat_lt, nat_le, if◌then◌else◌, cond, mul-le-mul_left, mul_comm}
 use Rattle.std.specs.Prelude.{◌==◌, All, AllPairs}
 use Rattle.std.specs.List.{list_any, count_by}
-use Rattle.std.proofs.lemmas.Bool.{cases_Bool, false≢true, and_parts, or_cases, ltb-true, leb-true, eqb-true, eq-eqb, or_right}
+use Rattle.std.proofs.lemmas.Bool.{cases_Bool, false≢true, and_parts, or_cases, ltb-true, leb-true}
+use Rattle.std.proofs.lemmas.Bool.{eqb-true, eq-eqb, or_right}
 use Rattle.std.proofs.lemmas.List.{get_or_default}
 use Rattle.std.proofs.lemmas.List.Recursion.{is_count_by}
 use Rattle.crpd_base.proofs.Sums.{sum_change}
@@ -21,7 +24,8 @@ use Rattle.run_account.specs.Ledger.{LedgerReload, IsOfRun}
 use Rattle.run_account.proofs.Jobs.{jobs_length}
 use Rattle.run_account.proofs.AnswerTimes.{answered_by}
 use Rattle.sound_laws.specs.Windows.{HasWindow, EvictedBy, PreemptedBy}
-use Rattle.sound_laws.specs.Ledgers.{HasAnswered, is_reload_in_window, evicted_by, preempted_by, LedgerWithinDelays}
+use Rattle.sound_laws.specs.Ledgers.{HasAnswered, is_reload_in_window, evicted_by, preempted_by}
+use Rattle.sound_laws.specs.Ledgers.{LedgerWithinDelays}
 use Rattle.sound_laws.proofs.Windows.Releases.{count, one_le}
 use Rattle.sound_laws.proofs.Counts.Counting.{count_le}
 use Rattle.run_account.proofs.JobWalks.{kept_before}
@@ -45,11 +49,17 @@ pub record IsMade (P : LedgerReload → Type 0) (p : LedgerReload → Bool) (n :
   pub passes : p entry ≡ true
   pub holds : P entry
 
-made_by : (P : LedgerReload → Type 0) (p : LedgerReload → Bool) (es : List LedgerReload) (n : ℕ) → All P es → made_at p es n ≡ true → IsMade P p n
+made_by : (P : LedgerReload → Type 0) (p : LedgerReload → Bool) (es : List LedgerReload) (n : ℕ)
+    → All P es → made_at p es n ≡ true → IsMade P p n
 made_by P p [] n h m = absurd (false≢true m)
 made_by P p (e ∷ es) n h m =
     elim (or_cases ((e.time == n) && p e) (made_at p es n) m) [
-      | inl b ↦ let q = and_parts (e.time == n) (p e) b in record { entry = e; at = eqb-true e.time n q.0; passes = q.1; holds = h 0 e (omega arith) }
+      | inl b ↦ let q = and_parts (e.time == n) (p e) b in record {
+        entry = e;
+        at = eqb-true e.time n q.0;
+        passes = q.1;
+        holds = h 0 e (omega arith);
+      }
       | inr b ↦ made_by P p es n (λ k d l. h (suc k) d (omega (arith, l))) b
     ]
 
@@ -57,64 +67,88 @@ abbrev Rises : List LedgerReload → Type 0
 Rises es = AllPairs (λ (d e : LedgerReload). d.time < e.time) es
 
 -- none is made later at the first one's step
-none_later : (p : LedgerReload → Bool) (e : LedgerReload) (es : List LedgerReload) → Rises (e ∷ es) → made_at p es e.time ≡ false
+none_later : (p : LedgerReload → Bool) (e : LedgerReload) (es : List LedgerReload) → Rises (e ∷ es)
+    → made_at p es e.time ≡ false
 none_later p e es r =
     elim (cases_Bool (made_at p es e.time)) [
       | inr b ↦ b
       | inl b ↦
-          let m = made_by (λ (d : LedgerReload). e.time < d.time) p es e.time (λ k d l. r 0 (suc k) d (omega arith) (omega (arith, l))) b in
+          let m = made_by (λ (d : LedgerReload). e.time < d.time) p es e.time
+          (λ k d l. r 0 (suc k) d (omega arith) (omega (arith, l))) b in
           let late = m.holds in
           let at = m.at in
           absurd (omega (arith, late, at))
     ]
 
-one_more : (p : LedgerReload → Bool) (e : LedgerReload) (es : List LedgerReload) → p e ≡ true → how_many p (e ∷ es) ≡ 1 + how_many p es
+one_more : (p : LedgerReload → Bool) (e : LedgerReload) (es : List LedgerReload) → p e ≡ true
+    → how_many p (e ∷ es) ≡ 1 + how_many p es
 unfolding how_many
 one_more p e es b = rw b refl
 
-no_more : (p : LedgerReload → Bool) (e : LedgerReload) (es : List LedgerReload) → p e ≡ false → how_many p (e ∷ es) ≡ how_many p es
+no_more : (p : LedgerReload → Bool) (e : LedgerReload) (es : List LedgerReload) → p e ≡ false
+    → how_many p (e ∷ es) ≡ how_many p es
 unfolding how_many
 no_more p e es b = rw b refl
 
 -- the entries that pass are made at as many steps
-many_steps : (p : LedgerReload → Bool) (until : ℕ) (es : List LedgerReload) → Rises es → ((e : LedgerReload) → p e ≡ true → e.time < until) → how_many p es ≤ count (made_at p es) until
+many_steps : (p : LedgerReload → Bool) (until : ℕ) (es : List LedgerReload) → Rises es
+    → ((e : LedgerReload) → p e ≡ true → e.time < until)
+    → how_many p es ≤ count (made_at p es) until
 many_steps p until [] r early = unfold how_many in omega arith
 many_steps p until (e ∷ es) r early =
-    let rest = many_steps p until es (λ i j d l k. r (suc i) (suc j) d (omega (arith, l)) (omega (arith, k))) early in
+    let rest = many_steps p until es
+    (λ i j d l k. r (suc i) (suc j) d (omega (arith, l)) (omega (arith, k))) early in
     elim (cases_Bool (p e)) [
       | inl b ↦
           let none : one_if (made_at p es e.time) ≡ 0 = rw (none_later p e es r) refl in
-          let one : one_if (made_at p (e ∷ es) e.time) ≡ 1 = rw (eq-eqb e.time e.time refl, b) refl in
-          let more = sum_change (λ n. one_if (made_at p (e ∷ es) n)) (λ n. one_if (made_at p es n)) until e.time 1 0 (early e b) (omega (arith, none, one))
-          (λ n ne. one_le (made_at p es n) (made_at p (e ∷ es) n) (or_right ((e.time == n) && p e) (made_at p es n))) in
+          let one : one_if (made_at p (e ∷ es) e.time) ≡ 1 =
+          rw (eq-eqb e.time e.time refl, b) refl in
+          let more = sum_change (λ n. one_if (made_at p (e ∷ es) n)) (λ n. one_if (made_at p es n))
+          until e.time 1 0 (early e b) (omega (arith, none, one))
+          (λ n ne. one_le (made_at p es n) (made_at p (e ∷ es) n)
+          (or_right ((e.time == n) && p e) (made_at p es n))) in
           omega (arith, rest, more, one_more p e es b)
       | inr b ↦
-          let more = count_le (made_at p es) (made_at p (e ∷ es)) until (λ n l h. or_right ((e.time == n) && p e) (made_at p es n) h) in
+          let more = count_le (made_at p es) (made_at p (e ∷ es)) until
+          (λ n l h. or_right ((e.time == n) && p e) (made_at p es n) h) in
           omega (arith, rest, more, no_more p e es b)
     ]
 
-counted : (p : LedgerReload → Bool) (until : ℕ) (es : List LedgerReload) → Rises es → ((e : LedgerReload) → p e ≡ true → e.time < until) → count_by p es ≤ count (made_at p es) until
+counted : (p : LedgerReload → Bool) (until : ℕ) (es : List LedgerReload) → Rises es
+    → ((e : LedgerReload) → p e ≡ true → e.time < until)
+    → count_by p es ≤ count (made_at p es) until
 counted p until es r early =
-    subst (λ k. k ≤ count (made_at p es) until) (is_count_by (how_many p) p (unfold how_many in refl) (unfold how_many in λ e more. refl) es) (many_steps p until es r early)
+    subst (λ k. k ≤ count (made_at p es) until)
+    (is_count_by (how_many p) p (unfold how_many in refl) (unfold how_many in λ e more. refl) es)
+    (many_steps p until es r early)
 
-module _ (s : Start) (set : TaskSet) (graphs : ℕ → TaskGraph) (c : Certificate) (n : ℕ) (ledger : List LedgerReload) (x start answer : ℕ) (H : HasAnswered s set graphs c n ledger x start answer) where
+module _ (s : Start) (set : TaskSet) (graphs : ℕ → TaskGraph) (c : Certificate) (n : ℕ)
+    (ledger : List LedgerReload) (x start answer : ℕ)
+    (H : HasAnswered s set graphs c n ledger x start answer) where
   answer_by : answer ≤ n
   answer_by = answered_by s n x answer H.answered
 
-  kept_down : (d m y : ℕ) → is_unbroken (job_after s (m + d) y).watch ≡ true → is_unbroken (job_after s m y).watch ≡ true
-  kept_down zero m y k = let e : m + 0 ≡ m = omega arith in subst (λ u. is_unbroken (job_after s u y).watch ≡ true) e k
+  kept_down : (d m y : ℕ) → is_unbroken (job_after s (m + d) y).watch ≡ true
+      → is_unbroken (job_after s m y).watch ≡ true
+  kept_down zero m y k =
+      let e : m + 0 ≡ m = omega arith in subst (λ u. is_unbroken (job_after s u y).watch ≡ true) e k
   kept_down (suc d) m y k =
       let e : m + suc d ≡ suc (m + d) = omega arith in
-      kept_down d m y (kept_before s graphs (m + d) y (subst (λ u. is_unbroken (job_after s u y).watch ≡ true) e k))
+      kept_down d m y
+      (kept_before s graphs (m + d) y (subst (λ u. is_unbroken (job_after s u y).watch ≡ true) e k))
 
   kept_job : (y : ℕ) → y < length s.lines → is_unbroken (job_after s answer y).watch ≡ true
   kept_job y l =
       let b = answer_by in
       let e : answer + (n - answer) ≡ n = omega (arith, b) in
-      kept_down (n - answer) answer y (subst (λ u. is_unbroken (job_after s u y).watch ≡ true) (sym e) (H.kept y no_job (omega (arith, jobs_length s n, l))))
+      kept_down (n - answer) answer y
+      (subst (λ u. is_unbroken (job_after s u y).watch ≡ true) (sym e)
+      (H.kept y no_job (omega (arith, jobs_length s n, l))))
 
   kept : IsKept (state s answer)
-  kept y d l = rw (get_or_default (state s answer).jobs y d no_job l) (kept_job y (omega (arith, l, jobs_length s answer)))
+  kept y d l =
+      rw (get_or_default (state s answer).jobs y d no_job l)
+      (kept_job y (omega (arith, l, jobs_length s answer)))
 
   open_before : (m : ℕ) → m < answer → is_open (job_after s m x).standing ≡ true
   open_before m l =
@@ -123,7 +157,8 @@ module _ (s : Start) (set : TaskSet) (graphs : ℕ → TaskGraph) (c : Certifica
         | inr b ↦
             let by = answer_by in
             let same = over_stays s x m n (omega (arith, l, by)) b in
-            let early = answered_by s m x answer (ap (λ (j : Job). j.standing) (sym same) ∙ H.answered) in
+            let early = answered_by s m x answer
+            (ap (λ (j : Job). j.standing) (sym same) ∙ H.answered) in
             absurd (omega (arith, early, l))
       ]
 
@@ -154,17 +189,27 @@ module _ (s : Start) (set : TaskSet) (graphs : ℕ → TaskGraph) (c : Certifica
     in_window : (e : LedgerReload) → of_window e ≡ true → InWindow e
     in_window e b =
         let one = and_parts (is_reload_in_window s x start answer e) (test e) b in
-        let two = and_parts (nat_le start e.time && nat_lt e.time answer) (nat_le (job_task s e.job) (job_task s x)) one.0 in
+        let two = and_parts (nat_le start e.time && nat_lt e.time answer)
+        (nat_le (job_task s e.job) (job_task s x)) one.0 in
         let three = and_parts (nat_le start e.time) (nat_lt e.time answer) two.0 in
-        record { late = leb-true _ _ three.0; early = ltb-true _ _ three.1; by = leb-true _ _ two.1; passes = one.1 }
+        record {
+          late = leb-true _ _ three.0;
+          early = ltb-true _ _ three.1;
+          by = leb-true _ _ two.1;
+          passes = one.1;
+        }
 
-    made : (t : ℕ) → made_at of_window ledger t ≡ true → IsMade (λ (e : LedgerReload). (e.time < n) × IsOfRun s graphs c e) of_window t
-    made t b = made_by (λ (e : LedgerReload). (e.time < n) × IsOfRun s graphs c e) of_window ledger t H.entries.entries b
+    made : (t : ℕ) → made_at of_window ledger t ≡ true
+        → IsMade (λ (e : LedgerReload). (e.time < n) × IsOfRun s graphs c e) of_window t
+    made t b =
+        made_by (λ (e : LedgerReload). (e.time < n) × IsOfRun s graphs c e) of_window ledger t
+        H.entries.entries b
 
     few : count_by of_window ledger ≤ count (made_at of_window ledger) answer
     few = counted of_window answer ledger H.entries.in_order (λ e b. (in_window e b).early)
 
-  evicted_at : (j t : ℕ) → made_at (of_window (evicted_by s j)) ledger t ≡ true → (t < answer) × EvictedBy s graphs c x start j t
+  evicted_at : (j t : ℕ) → made_at (of_window (evicted_by s j)) ledger t ≡ true
+      → (t < answer) × EvictedBy s graphs c x start j t
   evicted_at j t b =
       let m = made (evicted_by s j) t b in
       let e = m.entry in
@@ -172,7 +217,8 @@ module _ (s : Start) (set : TaskSet) (graphs : ℕ → TaskGraph) (c : Certifica
       subst (λ u. (u < answer) × EvictedBy s graphs c x start j u) m.at
       (w.early, (w.late, e.job, e.evictor, w.by, eqb-true _ _ w.passes, m.holds.1.evicted))
 
-  preempted_at : (j t : ℕ) → made_at (of_window (preempted_by s j)) ledger t ≡ true → (t < answer) × PreemptedBy s graphs c x start j t
+  preempted_at : (j t : ℕ) → made_at (of_window (preempted_by s j)) ledger t ≡ true
+      → (t < answer) × PreemptedBy s graphs c x start j t
   preempted_at j t b =
       let m = made (preempted_by s j) t b in
       let e = m.entry in
@@ -190,9 +236,15 @@ pub ledger_within_delays : LedgerWithinDelays
 ledger_within_delays =
     record {
       ucb = λ s set graphs c n ledger x start answer j H l.
-          times_within _ _ set.platform.miss _ (few s set graphs c n ledger x start answer H (evicted_by s j))
-          (entries_within_delays.ucb s set graphs c x start answer j _ (has_window s set graphs c n ledger x start answer H) (omega (arith, l)) (evicted_at s set graphs c n ledger x start answer H j));
+          times_within _ _ set.platform.miss _
+          (few s set graphs c n ledger x start answer H (evicted_by s j))
+          (entries_within_delays.ucb s set graphs c x start answer j _
+          (has_window s set graphs c n ledger x start answer H) (omega (arith, l))
+          (evicted_at s set graphs c n ledger x start answer H j));
       ecb = λ s set graphs c n ledger x start answer j H l.
-          times_within _ _ set.platform.miss _ (few s set graphs c n ledger x start answer H (preempted_by s j))
-          (entries_within_delays.ecb s set graphs c x start answer j _ (has_window s set graphs c n ledger x start answer H) (omega (arith, l)) (preempted_at s set graphs c n ledger x start answer H j));
+          times_within _ _ set.platform.miss _
+          (few s set graphs c n ledger x start answer H (preempted_by s j))
+          (entries_within_delays.ecb s set graphs c x start answer j _
+          (has_window s set graphs c n ledger x start answer H) (omega (arith, l))
+          (preempted_at s set graphs c n ledger x start answer H j));
     }

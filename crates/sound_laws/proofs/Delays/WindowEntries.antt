@@ -1,7 +1,10 @@
--- For step 6: the entries of a window, while its job is open, are at most the counts, by evictors and by preemptors.
-use Rattle.std.proofs.Common.{◌≡◌, ℕ, ◌+◌, ◌<◌, ◌≤◌, Bool, true, ◌&&◌, length, refl, sym, ◌∙◌, ap, subst, inl, inr, arith}
+-- For step 6: the entries of a window, while its job is open, are at most the counts, by evictors
+-- and by preemptors.
+use Rattle.std.proofs.Common.{◌≡◌, ℕ, ◌+◌, ◌<◌, ◌≤◌, Bool, true, ◌&&◌, length, refl, sym, ◌∙◌, ap}
+use Rattle.std.proofs.Common.{subst, inl, inr, arith}
 use Rattle.std.specs.Prelude.{nat_lt, nat_le, ◌==◌}
-use Rattle.std.proofs.lemmas.Bool.{cases_lt, false≢true, and_parts, and_from, or_cases, or_left, or_right, lt-ltb, ltb-true, le-leb}
+use Rattle.std.proofs.lemmas.Bool.{cases_lt, false≢true, and_parts, and_from, or_cases, or_left}
+use Rattle.std.proofs.lemmas.Bool.{or_right, lt-ltb, ltb-true, le-leb}
 use Rattle.crpd_base.proofs.Options.{some_injective}
 use Rattle.crpd_base.specs.Sum.{sum_below}
 use Rattle.script_reader.specs.Legal.{IsLegal, period_of}
@@ -11,35 +14,53 @@ use Rattle.preempt_machine.specs.Step.{is_open, Fetch}
 use Rattle.run_account.specs.Fetches.{job_after}
 use Rattle.run_account.specs.Reloads.{FetchesAt, IsEvictor, RunsInGap}
 use Rattle.run_account.proofs.Moves.{stays_over}
-use Rattle.run_account.proofs.ReloadLaws.{fetcher_open, fetcher_released, gap_is_of_higher, evictor_is_other, one_reload_per_evictor_and_set}
+use Rattle.run_account.proofs.ReloadLaws.{fetcher_open, fetcher_released, gap_is_of_higher}
+use Rattle.run_account.proofs.ReloadLaws.{evictor_is_other, one_reload_per_evictor_and_set}
 use Rattle.run_account.proofs.OwnFetches.{own_candidate}
 use Rattle.sound_laws.specs.Walks.{RunsLegally}
 use Rattle.sound_laws.proofs.Windows.Rooms.{Covers}
 use Rattle.sound_laws.proofs.Windows.Busy.{before_task, line_at, task_at, in_window}
 use Rattle.sound_laws.proofs.Windows.Releases.{count, lies_in}
 use Rattle.sound_laws.proofs.Windows.Responses.{HigherAreOver}
-use Rattle.sound_laws.proofs.Delays.ChoiceCount.{ArePreempted, preempted_few, task_choice, evicted_by}
+use Rattle.sound_laws.proofs.Delays.ChoiceCount.{ArePreempted, preempted_few, task_choice}
+use Rattle.sound_laws.proofs.Delays.ChoiceCount.{evicted_by}
 use Rattle.run_account.proofs.Preemptors.{HasPreemptor, same_reload, same_job}
 use Rattle.sound_laws.proofs.Delays.UnionCount.{AreEntries, entries_few, task_share, inside_task}
-use Rattle.sound_laws.proofs.Walks.CheckedRuns.{CheckedRun, window, parts, some_sets, cached_run, below_tasks, is_below, sets_same}
+use Rattle.sound_laws.proofs.Walks.CheckedRuns.{CheckedRun, window, parts, some_sets, cached_run}
+use Rattle.sound_laws.proofs.Walks.CheckedRuns.{below_tasks, is_below, sets_same}
 use Rattle.sound_laws.proofs.Reloads.Entries.{victim, cached, IsEntry, fetch_evicts}
 
 module _ (K : CheckedRun) where
-  open K use {start as s, set, graphs, certificate as c, horizon, in_range as R, code as C, says, run, kept}
+  open K use {
+    start as s,
+    set,
+    graphs,
+    certificate as c,
+    horizon,
+    in_range as R,
+    code as C,
+    says,
+    run,
+    kept,
+  }
 
-  pub inside_more : (i t until to x : ℕ) → until ≤ to → in_window s i t until x ≡ true → in_window s i t to x ≡ true
+  pub inside_more : (i t until to x : ℕ) → until ≤ to → in_window s i t until x ≡ true
+      → in_window s i t to x ≡ true
   inside_more i t until to x l b =
       elim (or_cases _ _ b) [
         | inl q ↦ or_left (x == i) _ q
         | inr q ↦
             let both = and_parts (nat_lt (task_at s x) (task_at s i)) _ q in
-            let r = and_parts (nat_le t (line_at s x).release) (nat_lt (line_at s x).release until) both.1 in
+            let r = and_parts (nat_le t (line_at s x).release)
+            (nat_lt (line_at s x).release until) both.1 in
             let high : (line_at s x).release < until = ltb-true _ _ r.1 in
-            or_right (x == i) _ (and_from (nat_lt (task_at s x) (task_at s i)) _ both.0 (and_from (nat_le t (line_at s x).release) _ r.0 (lt-ltb _ _ (omega arith))))
+            or_right (x == i) _
+            (and_from (nat_lt (task_at s x) (task_at s i)) _ both.0
+            (and_from (nat_le t (line_at s x).release) _ r.0 (lt-ltb _ _ (omega arith))))
       ]
 
-  -- what is known of a step that a test passes: an entry, made from a step on and before another, with its evictor and
-  -- its preemptor
+  -- what is known of a step that a test passes: an entry, made from a step on and before another,
+  -- with its evictor and its preemptor
   pub record IsCounted (from until n y p : ℕ) : Type 0 where
     pub late : from ≤ n
     pub early : n < until
@@ -49,7 +70,8 @@ module _ (K : CheckedRun) where
     pub evicts : IsEvictor s y n last_time made.fetch last
     pub preempted : HasPreemptor s (victim K n) n p made.fetch
 
-  -- job y fetches between two fetches of the job of an entry, and before the entry, so it passes there as a whole
+  -- job y fetches between two fetches of the job of an entry, and before the entry, so it passes
+  -- there as a whole
   pub record PassesBefore (n y : ℕ) : Type 0 where
     pub begin : ℕ
     pub at : ℕ
@@ -63,8 +85,12 @@ module _ (K : CheckedRun) where
 
   evictor_passes : (from until n y p : ℕ) → IsCounted from until n y p → PassesBefore n y
   evictor_passes from until n y p e =
-      let others = evictor_is_other s (victim K n) n e.made.own_time e.made.fetch e.made.own y e.last_time e.last (cached_run K) e.made.reload e.evicts in
-      let at : FetchesAt s y e.last_time e.last = record { is = e.evicts.last.is; by = e.evicts.by } in
+      let others = evictor_is_other s (victim K n) n e.made.own_time e.made.fetch e.made.own y
+      e.last_time e.last (cached_run K) e.made.reload e.evicts in
+      let at : FetchesAt s y e.last_time e.last = record {
+        is = e.evicts.last.is;
+        by = e.evicts.by;
+      } in
       record {
         begin = e.made.own_time;
         at = e.last_time;
@@ -74,7 +100,10 @@ module _ (K : CheckedRun) where
         begins = e.made.reload.own.own;
         by = at;
         early = e.evicts.last.earlier;
-        passes = gap_is_of_higher s (victim K n) y e.made.own_time e.last_time n e.made.own e.last e.made.fetch others.since e.evicts.last.earlier e.made.reload.own.own at e.made.reload.fetches others.other;
+        passes =
+            gap_is_of_higher s (victim K n) y e.made.own_time e.last_time n e.made.own e.last
+            e.made.fetch others.since e.evicts.last.earlier e.made.reload.own.own at
+            e.made.reload.fetches others.other;
       }
 
   preemptor_passes : (from until n y p : ℕ) → IsCounted from until n y p → PassesBefore n p
@@ -92,7 +121,9 @@ module _ (K : CheckedRun) where
         begins = q.gap.begins;
         by = q.by;
         early = omega (arith, early, in_time);
-        passes = gap_is_of_higher s (victim K n) p w.a q.at w.c q.from q.fetch q.to q.after q.until q.gap.begins q.by q.gap.ends q.other;
+        passes =
+            gap_is_of_higher s (victim K n) p w.a q.at w.c q.from q.fetch q.to q.after q.until
+            q.gap.begins q.by q.gap.ends q.other;
       }
 
   module _ (legal : IsLegal set s.lines) where
@@ -100,7 +131,13 @@ module _ (K : CheckedRun) where
     legal_run = record { cache = run.cache; tasks = run.tasks; legal = legal }
 
     -- the entries of a window, while its job is open
-    module _ (i t from until : ℕ) (h : i < length s.lines) (after : t ≤ from) (shorter : until ≤ t + window K (task_at s i)) (by_horizon : until ≤ horizon) (covers : Covers s (in_window s i t until) i from until) (higher : HigherAreOver s (window K) horizon i) (o : (n : ℕ) → n < until → is_open (job_after s n i).standing ≡ true) (test : ℕ → Bool) (evictor preemptor : ℕ → ℕ) (facts : (n : ℕ) → test n ≡ true → IsCounted from until n (evictor n) (preemptor n)) where
+    module _ (i t from until : ℕ) (h : i < length s.lines) (after : t ≤ from)
+        (shorter : until ≤ t + window K (task_at s i)) (by_horizon : until ≤ horizon)
+        (covers : Covers s (in_window s i t until) i from until)
+        (higher : HigherAreOver s (window K) horizon i)
+        (o : (n : ℕ) → n < until → is_open (job_after s n i).standing ≡ true) (test : ℕ → Bool)
+        (evictor preemptor : ℕ → ℕ)
+        (facts : (n : ℕ) → test n ≡ true → IsCounted from until n (evictor n) (preemptor n)) where
       abbrev to : ℕ
       to = t + window K (task_at s i)
 
@@ -112,19 +149,25 @@ module _ (K : CheckedRun) where
           subst (λ k. in_window s i t until k ≡ true) same c.2
 
       victim_inside : (n : ℕ) → n < to → test n ≡ true → in_window s i t to (victim K n) ≡ true
-      victim_inside n l b = inside_more i t until (t + window K (task_at s i)) (victim K n) shorter (victim_inside_until n b)
+      victim_inside n l b =
+          inside_more i t until (t + window K (task_at s i)) (victim K n) shorter
+          (victim_inside_until n b)
 
-      -- what holds of a job that passes before an entry of the window, as its evictor and its preemptor do
+      -- what holds of a job that passes before an entry of the window, as its evictor and its
+      -- preemptor do
       begins_late : (n y : ℕ) → test n ≡ true → (p : PassesBefore n y) → from ≤ p.begin
       begins_late n y b p =
           elim (cases_lt p.begin from) [
             | inl early ↦
-                let out = covers.none_before p.begin (victim K n) early (own_candidate s (victim K n) p.begin p.first p.begins) in
+                let out = covers.none_before p.begin (victim K n) early
+                (own_candidate s (victim K n) p.begin p.first p.begins) in
                 absurd (false≢true (sym out ∙ victim_inside_until n b))
             | inr g ↦ g
           ]
 
-      times : (n y : ℕ) → test n ≡ true → PassesBefore n y → ((line_at s (victim K n)).release < (line_at s y).release) × (t ≤ (line_at s y).release) × ((line_at s y).release < n)
+      times : (n y : ℕ) → test n ≡ true → PassesBefore n y
+          → ((line_at s (victim K n)).release < (line_at s y).release) × (t ≤ (line_at s y).release)
+          × ((line_at s y).release < n)
       times n y b p =
           let released = p.passes.released in
           let r = fetcher_released s y p.at p.fetch p.by in
@@ -141,9 +184,14 @@ module _ (K : CheckedRun) where
           let at = times n y b p in
           let up = p.passes.higher in
           let top = inside_task s i t to (victim K n) (victim_inside n l b) in
-          or_right (y == i) _ (and_from _ _ (lt-ltb _ _ (omega arith)) (and_from _ _ (le-leb _ _ at.1) (lt-ltb _ _ (omega (arith, at.2)))))
+          or_right (y == i) _
+          (and_from _ _ (lt-ltb _ _ (omega arith))
+          (and_from _ _ (le-leb _ _ at.1) (lt-ltb _ _ (omega (arith, at.2)))))
 
-      life : (n y : ℕ) → test n ≡ true → PassesBefore n y → task_at s (victim K n) < task_at s i → lies_in (line_at s (victim K n)).release ((line_at s (victim K n)).release + window K (task_at s (victim K n))) (line_at s y).release ≡ true
+      life : (n y : ℕ) → test n ≡ true → PassesBefore n y → task_at s (victim K n) < task_at s i
+          → lies_in (line_at s (victim K n)).release
+          ((line_at s (victim K n)).release + window K (task_at s (victim K n)))
+          (line_at s y).release ≡ true
       life n y b p up =
           let e = facts n b in
           let at = times n y b p in
@@ -151,10 +199,17 @@ module _ (K : CheckedRun) where
           let early : n < (line_at s (victim K n)).release + window K (task_at s (victim K n)) =
           elim (cases_lt n ((line_at s (victim K n)).release + window K (task_at s (victim K n)))) [
             | inl k ↦ k
-            | inr g ↦ absurd (false≢true (sym (stays_over s _ n (victim K n) g (higher (victim K n) e.made.below up (let z = e.early in omega (arith, g, z, by_horizon)))) ∙ open_n))
+            | inr g ↦
+                absurd (false≢true
+                (sym (stays_over s _ n (victim K n) g
+                (higher (victim K n) e.made.below up (let z = e.early in
+                omega (arith, g, z, by_horizon)))) ∙ open_n))
           ] in
-          let low : (line_at s (victim K n)).release ≤ (line_at s y).release = omega (arith, at.0) in
-          let high : (line_at s y).release < (line_at s (victim K n)).release + window K (task_at s (victim K n)) = omega (arith, at.2, early) in
+          let low : (line_at s (victim K n)).release ≤ (line_at s y).release =
+          omega (arith, at.0) in
+          let high : (line_at s y).release
+          < (line_at s (victim K n)).release + window K (task_at s (victim K n)) =
+          omega (arith, at.2, early) in
           and_from _ _ (le-leb _ _ low) (lt-ltb _ _ high)
 
       evicts_before : (n : ℕ) → test n ≡ true → PassesBefore n (evictor n)
@@ -163,22 +218,33 @@ module _ (K : CheckedRun) where
       preempts_before : (n : ℕ) → test n ≡ true → PassesBefore n (preemptor n)
       preempts_before n b = preemptor_passes from until n (evictor n) (preemptor n) (facts n b)
 
-      evicted : (n : ℕ) → (b : test n ≡ true) → has_set (parts K (task_at s (evictor n))).evicting (cached K n) ≡ true
+      evicted : (n : ℕ) → (b : test n ≡ true)
+          → has_set (parts K (task_at s (evictor n))).evicting (cached K n) ≡ true
       evicted n b =
           let e = facts n b in
           let early = (facts n b).early in
           let before = e.evicts.last.earlier in
-          subst (λ k. has_set (parts K (task_at s (evictor n))).evicting k ≡ true) (e.evicts.last.to_set ∙ e.made.set_same) (fetch_evicts K e.last_time (evictor n) e.last (omega (arith, early, before, by_horizon)) (record { is = e.evicts.last.is; by = e.evicts.by }))
+          subst (λ k. has_set (parts K (task_at s (evictor n))).evicting k ≡ true)
+          (e.evicts.last.to_set ∙ e.made.set_same)
+          (fetch_evicts K e.last_time (evictor n) e.last (omega (arith, early, before, by_horizon))
+          (record { is = e.evicts.last.is; by = e.evicts.by }))
 
-      useful : (n : ℕ) → (b : test n ≡ true) → has_set (parts K (task_at s (victim K n))).useful (cached K n) ≡ true
+      useful : (n : ℕ) → (b : test n ≡ true)
+          → has_set (parts K (task_at s (victim K n))).useful (cached K n) ≡ true
       useful n b = (facts n b).made.useful
 
-      once : (n m : ℕ) → n < m → m < to → (b : test n ≡ true) → (c : test m ≡ true) → evictor n ≡ evictor m → cached K n ≡ cached K m → ⊥
+      once : (n m : ℕ) → n < m → m < to → (b : test n ≡ true) → (c : test m ≡ true)
+          → evictor n ≡ evictor m → cached K n ≡ cached K m → ⊥
       once n m l k b c ev ca =
           let e = facts n b in
           let f = facts m c in
-          let other : IsEvictor s (evictor n) m f.last_time f.made.fetch f.last = record { last = f.evicts.last; by = f.evicts.by ∙ sym ev } in
-          let same = one_reload_per_evictor_and_set s (victim K n) n e.made.own_time e.made.fetch e.made.own (victim K m) m f.made.own_time f.made.fetch f.made.own (evictor n) e.last_time f.last_time e.last f.last (cached_run K)
+          let other : IsEvictor s (evictor n) m f.last_time f.made.fetch f.last = record {
+            last = f.evicts.last;
+            by = f.evicts.by ∙ sym ev;
+          } in
+          let same = one_reload_per_evictor_and_set s (victim K n) n e.made.own_time e.made.fetch
+          e.made.own (victim K m) m f.made.own_time f.made.fetch f.made.own (evictor n) e.last_time
+          f.last_time e.last f.last (cached_run K)
           e.made.reload f.made.reload (e.made.set_same ∙ ca ∙ sym f.made.set_same) e.evicts other in
           omega arith
 
@@ -186,39 +252,58 @@ module _ (K : CheckedRun) where
       are_entries =
           record {
             victims = λ n l b. ((facts n b).made.below, victim_inside n l b);
-            evictors = λ n l b. (is_job n (evictor n) (evicts_before n b), inside n (evictor n) l b (evicts_before n b));
+            evictors = λ n l b. (
+              is_job n (evictor n) (evicts_before n b),
+              inside n (evictor n) l b (evicts_before n b),
+            );
             higher = λ n l b. (evicts_before n b).passes.higher;
             in_life = λ n l b up. life n (evictor n) b (evicts_before n b) up;
-            places = λ n l b. let p = sets_same K in let q = some_sets K in let few = R.few_sets in omega arith;
+            places = λ n l b.
+                let p = sets_same K in let q = some_sets K in let few = R.few_sets in omega arith;
             is_evicted = λ n l b. evicted n b;
             is_useful = λ n l b. useful n b;
             once = once;
           }
 
       -- the evictor in the gap is of the preemptor's task or of one above it
-      evicted_up : (n : ℕ) (b : test n ≡ true) → evicted_from (parts K) (task_at s (preemptor n)) (cached K n) ≡ true
+      evicted_up : (n : ℕ) (b : test n ≡ true)
+          → evicted_from (parts K) (task_at s (preemptor n)) (cached K n) ≡ true
       evicted_up n b =
           let e = facts n b in
           let q = (facts n b).preempted.is in
-          let at : FetchesAt s q.evictor.job (facts n b).preempted.v q.evictor = record { is = q.last.is; by = refl } in
+          let at : FetchesAt s q.evictor.job (facts n b).preempted.v q.evictor = record {
+            is = q.last.is;
+            by = refl;
+          } in
           let early = (facts n b).early in
           let before_n = q.last.earlier in
-          let evicts : has_set (parts K (task_at s q.evictor.job)).evicting (cached K n) ≡ true = subst (λ k. has_set (parts K (task_at s q.evictor.job)).evicting k ≡ true) (q.last.to_set ∙ e.made.set_same) (fetch_evicts K (facts n b).preempted.v q.evictor.job q.evictor (omega (arith, early, before_n, by_horizon)) at) in
+          let evicts : has_set (parts K (task_at s q.evictor.job)).evicting (cached K n) ≡ true =
+          subst (λ k. has_set (parts K (task_at s q.evictor.job)).evicting k ≡ true)
+          (q.last.to_set ∙ e.made.set_same)
+          (fetch_evicts K (facts n b).preempted.v q.evictor.job q.evictor
+          (omega (arith, early, before_n, by_horizon)) at) in
           let up : task_at s q.evictor.job ≤ task_at s (preemptor n) =
           elim (facts n b).preempted.up [
-            | inl same ↦ let z : task_at s q.evictor.job ≡ task_at s (preemptor n) = ap (λ k. task_at s k) same in omega arith
+            | inl same ↦ let z : task_at s q.evictor.job ≡ task_at s (preemptor n) =
+                ap (λ k. task_at s k) same in omega arith
             | inr first ↦ before_task _ _ _ _ first
           ] in
-          evicted_by (parts K) (task_at s q.evictor.job) (task_at s (preemptor n)) (cached K n) up evicts
+          evicted_by (parts K) (task_at s q.evictor.job) (task_at s (preemptor n))
+          (cached K n) up evicts
 
-      are_preempted : ArePreempted s set (parts K) (window K) i t to test (victim K) preemptor (cached K)
+      are_preempted : ArePreempted s set (parts K) (window K) i t to test
+          (victim K) preemptor (cached K)
       are_preempted =
           record {
             victims = λ n l b. ((facts n b).made.below, victim_inside n l b);
-            preemptors = λ n l b. (is_job n (preemptor n) (preempts_before n b), inside n (preemptor n) l b (preempts_before n b));
+            preemptors = λ n l b. (
+              is_job n (preemptor n) (preempts_before n b),
+              inside n (preemptor n) l b (preempts_before n b),
+            );
             higher = λ n l b. (preempts_before n b).passes.higher;
             in_life = λ n l b up. life n (preemptor n) b (preempts_before n b) up;
-            places = λ n l b. let p = sets_same K in let q = some_sets K in let few = R.few_sets in omega arith;
+            places = λ n l b.
+                let p = sets_same K in let q = some_sets K in let few = R.few_sets in omega arith;
             is_evicted = λ n l b. evicted_up n b;
             is_useful = λ n l b. useful n b;
             one_job = λ n m l k b c q.
@@ -226,28 +311,51 @@ module _ (K : CheckedRun) where
                 let f = facts m c in
                 let x = e.preempted in
                 let y = f.preempted in
-                same_job s (victim K n) n e.made.own_time e.made.fetch e.made.own (victim K m) m f.made.own_time f.made.fetch f.made.own (preemptor n) (preemptor m) x.a x.v x.c y.a y.v y.c (cached_run K) e.made.reload f.made.reload x.is y.is q;
+                same_job s (victim K n) n e.made.own_time e.made.fetch e.made.own
+                (victim K m) m f.made.own_time f.made.fetch f.made.own (preemptor n)
+                (preemptor m) x.a x.v x.c y.a y.v y.c (cached_run K) e.made.reload f.made.reload
+                x.is y.is q;
             one_set = λ n m l k b c q d.
                 let e = facts n b in
                 let f = facts m c in
                 let x = e.preempted in
                 let y = f.preempted in
-                let same = same_reload s (victim K n) n e.made.own_time e.made.fetch e.made.own (victim K m) m f.made.own_time f.made.fetch f.made.own (preemptor n) (preemptor m) x.a x.v x.c y.a y.v y.c (cached_run K) e.made.reload f.made.reload (e.made.set_same ∙ d ∙ sym f.made.set_same) x.is y.is q in
+                let same = same_reload s (victim K n) n e.made.own_time e.made.fetch e.made.own
+                (victim K m) m f.made.own_time f.made.fetch f.made.own (preemptor n)
+                (preemptor m) x.a x.v x.c y.a y.v y.c (cached_run K) e.made.reload f.made.reload
+                (e.made.set_same ∙ d ∙ sym f.made.set_same) x.is y.is q in
                 let z : n ≡ m = same.1 in omega arith;
           }
 
       periods_pos : (k : ℕ) → k ≤ task_at s i → 0 < period_of set k
       periods_pos k l = let tb = below_tasks K i h in R.periods k (omega arith)
 
-      -- the entries of the window are at most the counts, by either method, in all and for each higher task
-      pub by_ucb : count test to ≤ sum_below (ucb_count set (parts K) (window K) (window K (task_at s i)) (task_at s i)) (task_at s i)
-      by_ucb = entries_few s set legal_run (parts K) (window K) i t test (victim K) evictor (cached K) are_entries periods_pos
+      -- the entries of the window are at most the counts, by either method, in all and for each
+      -- higher task
+      pub by_ucb : count test to
+          ≤ sum_below (ucb_count set (parts K) (window K) (window K (task_at s i)) (task_at s i))
+          (task_at s i)
+      by_ucb =
+          entries_few s set legal_run (parts K) (window K) i t test (victim K) evictor
+          (cached K) are_entries periods_pos
 
-      pub by_ecb : count test to ≤ sum_below (ecb_count set (parts K) (window K) (window K (task_at s i)) (task_at s i)) (task_at s i)
-      by_ecb = preempted_few s set legal_run (parts K) (window K) i t test (victim K) preemptor (cached K) are_preempted periods_pos
+      pub by_ecb : count test to
+          ≤ sum_below (ecb_count set (parts K) (window K) (window K (task_at s i)) (task_at s i))
+          (task_at s i)
+      by_ecb =
+          preempted_few s set legal_run (parts K) (window K) i t test (victim K) preemptor
+          (cached K) are_preempted periods_pos
 
-      pub ucb_of : (j : ℕ) → j ≤ task_at s i → count (λ n. test n && (task_at s (evictor n) == j)) to ≤ ucb_count set (parts K) (window K) (window K (task_at s i)) (task_at s i) j
-      ucb_of j l = task_share s set legal_run (parts K) (window K) i t test (victim K) evictor (cached K) are_entries periods_pos j l
+      pub ucb_of : (j : ℕ) → j ≤ task_at s i
+          → count (λ n. test n && (task_at s (evictor n) == j)) to
+          ≤ ucb_count set (parts K) (window K) (window K (task_at s i)) (task_at s i) j
+      ucb_of j l =
+          task_share s set legal_run (parts K) (window K) i t test (victim K) evictor
+          (cached K) are_entries periods_pos j l
 
-      pub ecb_of : (j : ℕ) → j ≤ task_at s i → count (λ n. test n && (task_at s (preemptor n) == j)) to ≤ ecb_count set (parts K) (window K) (window K (task_at s i)) (task_at s i) j
-      ecb_of j l = task_choice s set legal_run (parts K) (window K) i t test (victim K) preemptor (cached K) are_preempted periods_pos j l
+      pub ecb_of : (j : ℕ) → j ≤ task_at s i
+          → count (λ n. test n && (task_at s (preemptor n) == j)) to
+          ≤ ecb_count set (parts K) (window K) (window K (task_at s i)) (task_at s i) j
+      ecb_of j l =
+          task_choice s set legal_run (parts K) (window K) i t test (victim K) preemptor
+          (cached K) are_preempted periods_pos j l

@@ -1,5 +1,8 @@
--- Step 5, execution_within_bound: the cycles executed and those to go are at most the bound and a reload for each entry.
-use Rattle.std.proofs.Common.{◌≡◌, ◌≢◌, ℕ, zero, suc, ◌+◌, ◌-◌, ◌*◌, ◌<◌, ◌≤◌, Bool, true, false, List, [], ◌∷◌, length, Some, refl, sym, ◌∙◌, ap, subst, inl, inr, arith}
+-- Step 5, execution_within_bound: the cycles executed and those to go are at most the bound and a
+-- reload for each entry.
+use Rattle.std.proofs.Common.{◌≡◌, ◌≢◌, ℕ, zero, suc, ◌+◌, ◌-◌, ◌*◌, ◌<◌, ◌≤◌, Bool, true, false}
+use Rattle.std.proofs.Common.{List, [], ◌∷◌, length, Some, refl, sym, ◌∙◌, ap, subst, inl, inr}
+use Rattle.std.proofs.Common.{arith}
 use Rattle.std.specs.Prelude.{◌==◌}
 use Rattle.std.proofs.lemmas.Bool.{cases_Bool, cases_eq, eq-eqb, ne_eqb, false≢true, or_parts}
 use Rattle.crpd_base.proofs.Options.{same_or_not}
@@ -25,7 +28,8 @@ use Rattle.cert_check.specs.Verdict.{GraphHolds, IsYes}
 use Rattle.cert_check.proofs.Clauses.{GraphMeets, graph_part, meets_with}
 use Rattle.evict_sets.specs.ListedPart.{certified_task}
 use Rattle.preempt_machine.specs.Machine.{Job}
-use Rattle.preempt_machine.specs.Step.{is_open, is_owner, Turn, turn_after_step, turn_of, Start, state}
+use Rattle.preempt_machine.specs.Step.{is_open, is_owner, Turn, turn_after_step, turn_of, Start}
+use Rattle.preempt_machine.specs.Step.{state}
 use Rattle.preempt_machine.specs.Safe.{NamesTasks}
 use Rattle.preempt_machine.proofs.Steps.{step_own, step_other}
 use Rattle.run_account.specs.Fetches.{job_after}
@@ -35,7 +39,8 @@ use Rattle.run_account.proofs.Moves.{never_moved}
 use Rattle.run_account.specs.Nodes.{job_task, plan_at, node_of_job}
 use Rattle.run_account.specs.Walks.{fetched_nodes}
 use Rattle.sound_laws.specs.Walks.{HasTaskRanges, IsCodeOf, before_of}
-use Rattle.sound_laws.specs.CyclesToGo.{walk_of, cycles_to_go, misses_counted_hit, executes, makes_reload, count_below, ExecutionWithinBound}
+use Rattle.sound_laws.specs.CyclesToGo.{walk_of, cycles_to_go, misses_counted_hit, executes}
+use Rattle.sound_laws.specs.CyclesToGo.{makes_reload, count_below, ExecutionWithinBound}
 use Rattle.run_account.proofs.JobWalks.{kept_before, nodes_other, nodes_own, opened, same_plan}
 use Rattle.sound_laws.proofs.Walks.KeptWalks.{ok, hit_some, left_zero, stands_at, walking}
 use Rattle.run_account.proofs.Stands.{nodes_after}
@@ -43,83 +48,130 @@ use Rattle.sound_laws.proofs.Execution.Spends.{extra_of, go_between, SpendTurn, 
 
 -- what the clauses give for a task, with these hits
 pub record IsMet (p : Platform) (t : TaskGraph) (c : TaskPart) (counted : ℕ → Bool) : Type 0 where
-  pub meets : Meets t.graph t.nest (edge_costs p (node_code_of t) (answering t) counted) (potentials_of c)
+  pub meets : Meets t.graph t.nest (edge_costs p (node_code_of t) (answering t) counted)
+      (potentials_of c)
   pub hits : CountsHits t.graph (accesses_of p t) (listed_of c) counted
   pub all : GraphMeets p t c
 
-module _ (s : Start) (set : TaskSet) (graphs : ℕ → TaskGraph) (R : HasTaskRanges set) (C : IsCodeOf s.system set graphs) (T : NamesTasks set s.lines) where
-  pub nested : (x : ℕ) → x < length s.lines → IsNested (graphs (job_task s x)).graph (graphs (job_task s x)).nest
+module _ (s : Start) (set : TaskSet) (graphs : ℕ → TaskGraph) (R : HasTaskRanges set)
+    (C : IsCodeOf s.system set graphs) (T : NamesTasks set s.lines) where
+  pub nested : (x : ℕ) → x < length s.lines
+      → IsNested (graphs (job_task s x)).graph (graphs (job_task s x)).nest
   nested x h =
       let g = ok s set graphs R C T x h in
-      regions_law (graphs (job_task s x)).graph (graphs (job_task s x)).places (plan_at s x).loops (graphs (job_task s x)).nest g.regions g.accepted
+      regions_law (graphs (job_task s x)).graph (graphs (job_task s x)).places (plan_at s x).loops
+      (graphs (job_task s x)).nest g.regions g.accepted
 
   -- after a yes, with any test of the hits that are counted
-  pub is_met : (c : Certificate) (x : ℕ) → x < length s.lines → IsYes set graphs c → job_task s x < length set.tasks → (counted : ℕ → Bool)
-      → CountsHits (graphs (job_task s x)).graph (accesses_of s.system.platform (graphs (job_task s x))) (listed_of (certified_task c (job_task s x))) counted → IsMet s.system.platform (graphs (job_task s x)) (certified_task c (job_task s x)) counted
+  pub is_met : (c : Certificate) (x : ℕ) → x < length s.lines → IsYes set graphs c
+      → job_task s x < length set.tasks → (counted : ℕ → Bool)
+      → CountsHits (graphs (job_task s x)).graph
+      (accesses_of s.system.platform (graphs (job_task s x)))
+      (listed_of (certified_task c (job_task s x))) counted
+      → IsMet s.system.platform (graphs (job_task s x)) (certified_task c (job_task s x)) counted
   is_met c x h says l counted counts =
       let t = graphs (job_task s x) in
       let N = nested x h in
       let here : (k : Clause) → GraphHolds set.platform t (certified_task c (job_task s x)) k =
       λ k. graph_part set graphs c (job_task s x) k (says (job_task s x) k l) in
-      let there : (k : Clause) → GraphHolds s.system.platform t (certified_task c (job_task s x)) k =
-      subst (λ (p : Platform). (k : Clause) → GraphHolds p t (certified_task c (job_task s x)) k) (sym C.platform) here in
+      let there : (k : Clause)
+      → GraphHolds s.system.platform t (certified_task c (job_task s x)) k =
+      subst (λ (p : Platform). (k : Clause) → GraphHolds p t (certified_task c (job_task s x)) k)
+      (sym C.platform) here in
       record {
         meets = record {
           nodes = λ u below. (there (Inequalities u) counted counts below).edges;
-          loops = λ r below. (there (Inequalities (t.nest.head r)) counted counts (N.holds_nodes r (t.nest.head r) below (N.holds_head r below))).loop r below refl;
+          loops = λ r below.
+              (there (Inequalities (t.nest.head r)) counted counts
+              (N.holds_nodes r (t.nest.head r) below (N.holds_head r below))).loop r below refl;
         };
         hits = counts;
         all = meets_with s.system.platform t (certified_task c (job_task s x)) there counted counts;
       }
 
   -- there is such a test
-  pub hit_test : (c : Certificate) (k : ℕ) → IsYes set graphs c → k < length set.tasks → (counted : ℕ → Bool) × CountsHits (graphs k).graph (accesses_of s.system.platform (graphs k)) (listed_of (certified_task c k)) counted
-  hit_test c k says l = hit_test_law (graphs k).graph (accesses_of s.system.platform (graphs k)) (listed_of (certified_task c k)) (C.graphs_of k l).follows.graph (says k Leaders l).1
+  pub hit_test : (c : Certificate) (k : ℕ) → IsYes set graphs c → k < length set.tasks
+      → (counted : ℕ → Bool) × CountsHits (graphs k).graph
+      (accesses_of s.system.platform (graphs k)) (listed_of (certified_task c k)) counted
+  hit_test c k says l =
+      hit_test_law (graphs k).graph (accesses_of s.system.platform (graphs k))
+      (listed_of (certified_task c k)) (C.graphs_of k l).follows.graph (says k Leaders l).1
 
-  module _ (c : TaskPart) (x : ℕ) (h : x < length s.lines) (counted : ℕ → Bool) (M : IsMet s.system.platform (graphs (job_task s x)) c counted) where
+  module _ (c : TaskPart) (x : ℕ) (h : x < length s.lines) (counted : ℕ → Bool)
+      (M : IsMet s.system.platform (graphs (job_task s x)) c counted) where
     abbrev pub nodes : ℕ → List ℕ
     nodes n = fetched_nodes s graphs n x
 
     abbrev pub go : ℕ → ℕ
-    go n = cycles_to_go s.system (plan_at s x) (graphs (job_task s x)) (potentials_of c) (job_after s n x) (fetched_nodes s graphs n x)
+    go n =
+        cycles_to_go s.system (plan_at s x) (graphs (job_task s x)) (potentials_of c)
+        (job_after s n x) (fetched_nodes s graphs n x)
 
     abbrev pub turn_now : ℕ → Turn
     turn_now n = turn_of s.system (state s n) x
 
-    pub spends_at : (n : ℕ) → is_open (job_after s n x).standing ≡ true → is_unbroken (job_after s n x).watch ≡ true → SpendTurn s.system (plan_at s x) (graphs (job_task s x)) counted (potentials_of c) (turn_now n) (fetched_nodes s graphs n x) (turn_after_step s.system (state s n).time (turn_now n)) (nodes_after s.system (graphs (job_task s x)) (turn_now n) (fetched_nodes s graphs n x))
+    pub spends_at : (n : ℕ) → is_open (job_after s n x).standing ≡ true
+        → is_unbroken (job_after s n x).watch ≡ true
+        → SpendTurn s.system (plan_at s x) (graphs (job_task s x)) counted (potentials_of c)
+        (turn_now n) (fetched_nodes s graphs n x)
+        (turn_after_step s.system (state s n).time (turn_now n))
+        (nodes_after s.system (graphs (job_task s x)) (turn_now n) (fetched_nodes s graphs n x))
     spends_at n o k =
         let W = (walking s set graphs R C T n x h k).on_walk o in
-        spend_turn s.system (plan_at s x) (graphs (job_task s x)) (ok s set graphs R C T x h) C.map (hit_some s set graphs R C T) counted (potentials_of c) (nested x h) M.meets
-        (state s n).time (turn_now n) (fetched_nodes s graphs n x) W (stands_at s set graphs R C T n x h W) (same_plan s graphs n x) o
+        spend_turn s.system (plan_at s x) (graphs (job_task s x)) (ok s set graphs R C T x h) C.map
+        (hit_some s set graphs R C T) counted (potentials_of c) (nested x h) M.meets
+        (state s n).time (turn_now n) (fetched_nodes s graphs n x) W
+        (stands_at s set graphs R C T n x h W) (same_plan s graphs n x) o
 
-    pub some_go : (n : ℕ) → is_open (job_after s n x).standing ≡ true → is_unbroken (job_after s n x).watch ≡ true → 1 ≤ go n
+    pub some_go : (n : ℕ) → is_open (job_after s n x).standing ≡ true
+        → is_unbroken (job_after s n x).watch ≡ true → 1 ≤ go n
     some_go n o k = (spends_at n o k).some
 
     pub go_other : (n : ℕ) → candidate_at s n ≢ Some x → go (suc n) ≡ go n
     go_other n ne =
-        ap (λ (j : Job). cycles_to_go s.system (plan_at s x) (graphs (job_task s x)) (potentials_of c) j (fetched_nodes s graphs (suc n) x)) (step_other s.system (state s n) x ne)
-        ∙ ap (λ b. cycles_to_go s.system (plan_at s x) (graphs (job_task s x)) (potentials_of c) (job_after s n x) b) (nodes_other s graphs n x ne)
+        ap (λ (j : Job). cycles_to_go s.system (plan_at s x) (graphs (job_task s x))
+        (potentials_of c) j (fetched_nodes s graphs (suc n) x))
+        (step_other s.system (state s n) x ne)
+        ∙ ap (λ b. cycles_to_go s.system (plan_at s x) (graphs (job_task s x)) (potentials_of c)
+        (job_after s n x) b) (nodes_other s graphs n x ne)
 
-    go_turned : (n : ℕ) → candidate_at s n ≡ Some x → go (suc n) ≡ cycles_to_go s.system (plan_at s x) (graphs (job_task s x)) (potentials_of c) (turn_after_step s.system (state s n).time (turn_now n)).job (nodes_after s.system (graphs (job_task s x)) (turn_now n) (fetched_nodes s graphs n x))
+    go_turned : (n : ℕ) → candidate_at s n ≡ Some x
+        → go (suc n) ≡ cycles_to_go s.system (plan_at s x) (graphs (job_task s x)) (potentials_of c)
+        (turn_after_step s.system (state s n).time (turn_now n)).job
+        (nodes_after s.system (graphs (job_task s x)) (turn_now n) (fetched_nodes s graphs n x))
     go_turned n e =
-        ap (λ (j : Job). cycles_to_go s.system (plan_at s x) (graphs (job_task s x)) (potentials_of c) j (fetched_nodes s graphs (suc n) x)) (step_own s.system (state s n) x e)
-        ∙ ap (λ b. cycles_to_go s.system (plan_at s x) (graphs (job_task s x)) (potentials_of c) (turn_after_step s.system (state s n).time (turn_now n)).job b) (nodes_own s graphs n x e)
+        ap (λ (j : Job). cycles_to_go s.system (plan_at s x) (graphs (job_task s x))
+        (potentials_of c) j (fetched_nodes s graphs (suc n) x)) (step_own s.system (state s n) x e)
+        ∙ ap (λ b. cycles_to_go s.system (plan_at s x) (graphs (job_task s x)) (potentials_of c)
+        (turn_after_step s.system (state s n).time (turn_now n)).job b) (nodes_own s graphs n x e)
 
-    kept_turned : (n : ℕ) → candidate_at s n ≡ Some x → is_unbroken (job_after s (suc n) x).watch ≡ true → is_unbroken (turn_after_step s.system (state s n).time (turn_now n)).job.watch ≡ true
-    kept_turned n e k = subst (λ (j : Job). is_unbroken j.watch ≡ true) (step_own s.system (state s n) x e) k
+    kept_turned : (n : ℕ) → candidate_at s n ≡ Some x
+        → is_unbroken (job_after s (suc n) x).watch ≡ true
+        → is_unbroken (turn_after_step s.system (state s n).time (turn_now n)).job.watch ≡ true
+    kept_turned n e k =
+        subst (λ (j : Job). is_unbroken j.watch ≡ true) (step_own s.system (state s n) x e) k
 
-    pub go_own : (n : ℕ) → candidate_at s n ≡ Some x → is_unbroken (job_after s (suc n) x).watch ≡ true → go (suc n) + (state s (suc n)).switch_left + 1 ≤ go n + (turn_now n).switch_left + extra_of s.system (graphs (job_task s x)) counted (turn_now n)
+    pub go_own : (n : ℕ) → candidate_at s n ≡ Some x
+        → is_unbroken (job_after s (suc n) x).watch ≡ true
+        → go (suc n) + (state s (suc n)).switch_left + 1
+        ≤ go n + (turn_now n).switch_left + extra_of s.system (graphs (job_task s x)) counted
+        (turn_now n)
     go_own n e k =
         let o = opened s graphs n x e in
         let t = spends_at n o (kept_before s graphs n x k) in
         let less = t.less (kept_turned n e k) in
-        let switch : (state s (suc n)).switch_left ≡ (turn_after_step s.system (state s n).time (turn_now n)).switch_left = rw e refl in
+        let switch : (state s (suc n)).switch_left
+        ≡ (turn_after_step s.system (state s n).time (turn_now n)).switch_left = rw e refl in
         omega (arith, less, switch, go_turned n e)
 
-    pub go_switched : (n : ℕ) → candidate_at s n ≡ Some x → is_unbroken (job_after s n x).watch ≡ true → 0 < (turn_now n).switch_left → go (suc n) ≡ go n
+    pub go_switched : (n : ℕ) → candidate_at s n ≡ Some x
+        → is_unbroken (job_after s n x).watch ≡ true → 0 < (turn_now n).switch_left
+        → go (suc n) ≡ go n
     go_switched n e k l = go_turned n e ∙ (spends_at n (opened s graphs n x e) k).switched l
 
-    pub short_at : (n : ℕ) → is_unbroken (job_after s n x).watch ≡ true → is_open (job_after s n x).standing ≡ true → (job_after s n x).left ≤ longest_of s.system.platform (graphs (job_task s x)) - 1
+    pub short_at : (n : ℕ) → is_unbroken (job_after s n x).watch ≡ true
+        → is_open (job_after s n x).standing ≡ true
+        → (job_after s n x).left ≤ longest_of s.system.platform (graphs (job_task s x)) - 1
     short_at zero k o = let z = left_zero s set graphs R C T x h in omega (arith, z)
     short_at (suc n) k o =
         let kn = kept_before s graphs n x k in
@@ -127,10 +179,12 @@ module _ (s : Start) (set : TaskSet) (graphs : ℕ → TaskGraph) (R : HasTaskRa
           | inl e ↦
               let op = opened s graphs n x e in
               let t = (spends_at n op kn).short (short_at n kn op) in
-              subst (λ (j : Job). j.left ≤ longest_of s.system.platform (graphs (job_task s x)) - 1) (sym (step_own s.system (state s n) x e)) t
+              subst (λ (j : Job). j.left ≤ longest_of s.system.platform (graphs (job_task s x)) - 1)
+              (sym (step_own s.system (state s n) x e)) t
           | inr ne ↦
               let same = step_other s.system (state s n) x ne in
-              subst (λ (j : Job). j.left ≤ longest_of s.system.platform (graphs (job_task s x)) - 1) (sym same)
+              subst (λ (j : Job). j.left ≤ longest_of s.system.platform (graphs (job_task s x)) - 1)
+              (sym same)
               (short_at n kn (subst (λ (j : Job). is_open j.standing ≡ true) same o))
         ]
 
@@ -138,30 +192,43 @@ module _ (s : Start) (set : TaskSet) (graphs : ℕ → TaskGraph) (R : HasTaskRa
     nodes_never zero w = refl
     nodes_never (suc n) w =
         let both = or_parts (is_owner (candidate_at s n) x) (was_owner s n x) w in
-        nodes_other s graphs n x (λ e. false≢true (sym both.0 ∙ (rw e (owns_same x)))) ∙ nodes_never n both.1
+        nodes_other s graphs n x (λ e. false≢true (sym both.0 ∙ (rw e (owns_same x))))
+        ∙ nodes_never n both.1
 
     -- at the start it has at most the bound to go
     pub go_start : is_unbroken (job_after s 0 x).watch ≡ true → go 0 ≤ c.part.bound
     go_start k =
         let t = graphs (job_task s x) in
-        let o : is_open (job_after s 0 x).standing ≡ true = ap (λ (j : Job). is_open j.standing) (new_at s x h) in
+        let o : is_open (job_after s 0 x).standing ≡ true =
+        ap (λ (j : Job). is_open j.standing) (new_at s x h) in
         let W = (walking s set graphs R C T 0 x h k).on_walk o in
         let l = left_zero s set graphs R C T x h in
         let bit : ((job_after s 0 x).left == 0) ≡ true = eq-eqb _ _ l in
         let before : before_of (job_after s 0 x) [] ≡ [] = rw bit refl in
         let i = item_law t.nest t.graph.first in
-        let walk = subst (λ b. IsWalk t.graph (node_of_job t (job_after s 0 x) ∷ b)) before W.walked.walk in
-        let kept = subst (λ b. IsKeptWalk t.nest (node_of_job t (job_after s 0 x) ∷ b)) before W.walked.kept in
-        let law = potential_law t.graph t.nest (edge_costs s.system.platform (node_code_of t) (answering t) counted) (potentials_of c) i.0 (node_of_job t (job_after s 0 x) ∷ []) (nested x h) M.meets i.1 walk kept in
+        let walk = subst (λ b. IsWalk t.graph (node_of_job t (job_after s 0 x) ∷ b)) before
+        W.walked.walk in
+        let kept = subst (λ b. IsKeptWalk t.nest (node_of_job t (job_after s 0 x) ∷ b)) before
+        W.walked.kept in
+        let law = potential_law t.graph t.nest
+        (edge_costs s.system.platform (node_code_of t) (answering t) counted) (potentials_of c) i.0
+        (node_of_job t (job_after s 0 x) ∷ []) (nested x h) M.meets i.1 walk kept in
         let is = go_between s.system (plan_at s x) t (potentials_of c) (job_after s 0 x) [] o l in
-        let same : rest t.nest (potentials_of c) (walk_of t (job_after s 0 x) []) ≡ rest t.nest (potentials_of c) (node_of_job t (job_after s 0 x) ∷ []) = ap (λ b. rest t.nest (potentials_of c) (node_of_job t (job_after s 0 x) ∷ b)) before in
+        let same : rest t.nest (potentials_of c) (walk_of t (job_after s 0 x) [])
+        ≡ rest t.nest (potentials_of c) (node_of_job t (job_after s 0 x) ∷ []) =
+        ap (λ b. rest t.nest (potentials_of c) (node_of_job t (job_after s 0 x) ∷ b)) before in
         let bound = M.all.bound i.0 i.1 in
         omega (arith, law, is, same, bound)
 
-    pub go_fresh : (n : ℕ) → is_unbroken (job_after s 0 x).watch ≡ true → was_owner s n x ≡ false → go n ≤ c.part.bound
+    pub go_fresh : (n : ℕ) → is_unbroken (job_after s 0 x).watch ≡ true → was_owner s n x ≡ false
+        → go n ≤ c.part.bound
     go_fresh n k w =
-        let same = ap (λ (j : Job). cycles_to_go s.system (plan_at s x) (graphs (job_task s x)) (potentials_of c) j (fetched_nodes s graphs n x)) (never_moved s n x w) in
-        let nodes = ap (λ b. cycles_to_go s.system (plan_at s x) (graphs (job_task s x)) (potentials_of c) (job_after s 0 x) b) (nodes_never n w) in
+        let same = ap (λ (j : Job).
+        cycles_to_go s.system (plan_at s x) (graphs (job_task s x)) (potentials_of c) j
+        (fetched_nodes s graphs n x)) (never_moved s n x w) in
+        let nodes = ap
+        (λ b. cycles_to_go s.system (plan_at s x) (graphs (job_task s x)) (potentials_of c)
+        (job_after s 0 x) b) (nodes_never n w) in
         let start = go_start k in
         omega (arith, same, nodes, start)
 
@@ -169,7 +236,11 @@ module _ (s : Start) (set : TaskSet) (graphs : ℕ → TaskGraph) (R : HasTaskRa
     abbrev entered : ℕ → Bool
     entered = makes_reload s (graphs (job_task s x)) counted x
 
-    execution_step : (n : ℕ) → is_unbroken (job_after s (suc n) x).watch ≡ true → count_below (executes s x) n + go n ≤ c.part.bound + s.system.platform.miss * count_below entered n → count_below (executes s x) (suc n) + go (suc n) ≤ c.part.bound + s.system.platform.miss * count_below entered (suc n)
+    execution_step : (n : ℕ) → is_unbroken (job_after s (suc n) x).watch ≡ true
+        → count_below (executes s x) n + go n
+        ≤ c.part.bound + s.system.platform.miss * count_below entered n
+        → count_below (executes s x) (suc n) + go (suc n)
+        ≤ c.part.bound + s.system.platform.miss * count_below entered (suc n)
     execution_step n k so_far =
         elim (same_or_not (candidate_at s n) (Some x)) [
           | inl e ↦
@@ -179,14 +250,17 @@ module _ (s : Start) (set : TaskSet) (graphs : ℕ → TaskGraph) (R : HasTaskRa
                     let bit : ((turn_now n).switch_left == 0) ≡ true = eq-eqb _ _ z in
                     let one : executes s x n ≡ true = rw (mine, bit) refl in
                     let less = go_own n e k in
-                    elim (cases_Bool (misses_counted_hit s.system (graphs (job_task s x)) counted (turn_now n))) [
+                    elim (cases_Bool
+                    (misses_counted_hit s.system (graphs (job_task s x)) counted (turn_now n))) [
                       | inl b ↦
                           let ent : entered n ≡ true = rw (mine, b) refl in
-                          let extra : extra_of s.system (graphs (job_task s x)) counted (turn_now n) ≡ s.system.platform.miss = rw b refl in
+                          let extra : extra_of s.system (graphs (job_task s x)) counted (turn_now n)
+                          ≡ s.system.platform.miss = rw b refl in
                           rw (one, ent) (omega (arith, less, so_far, extra, z))
                       | inr b ↦
                           let ent : entered n ≡ false = rw (mine, b) refl in
-                          let extra : extra_of s.system (graphs (job_task s x)) counted (turn_now n) ≡ 0 = rw b refl in
+                          let extra : extra_of s.system (graphs (job_task s x)) counted (turn_now n)
+                          ≡ 0 = rw b refl in
                           rw (one, ent) (omega (arith, less, so_far, extra, z))
                     ]
                 | inr ne ↦
@@ -197,14 +271,17 @@ module _ (s : Start) (set : TaskSet) (graphs : ℕ → TaskGraph) (R : HasTaskRa
                     rw (none, ent) (omega (arith, same, so_far))
               ]
           | inr ne ↦
-              let other : is_owner (candidate_at s n) x ≡ false = owns_none (candidate_at s n) x ne in
+              let other : is_owner (candidate_at s n) x ≡ false =
+              owns_none (candidate_at s n) x ne in
               let none : executes s x n ≡ false = rw other refl in
               let ent : entered n ≡ false = rw other refl in
               let same = go_other n ne in
               rw (none, ent) (omega (arith, same, so_far))
         ]
 
-    pub execution : (n : ℕ) → is_unbroken (job_after s n x).watch ≡ true → count_below (executes s x) n + go n ≤ c.part.bound + s.system.platform.miss * count_below entered n
+    pub execution : (n : ℕ) → is_unbroken (job_after s n x).watch ≡ true
+        → count_below (executes s x) n + go n
+        ≤ c.part.bound + s.system.platform.miss * count_below entered n
     execution zero k = let start = go_start k in omega (arith, start)
     execution (suc n) k = execution_step n k (execution n (kept_before s graphs n x k))
 

@@ -1,5 +1,6 @@
 -- For step 5: a turn of a job on a walk spends a cycle, with a reload at an entry.
-use Rattle.std.proofs.Common.{◌≡◌, ℕ, ◌+◌, ◌-◌, ◌<◌, ◌≤◌, Bool, true, false, not, ◌&&◌, List, ◌∷◌, Some, refl, sym, ◌∙◌, ap, subst, inl, inr, arith}
+use Rattle.std.proofs.Common.{◌≡◌, ℕ, ◌+◌, ◌-◌, ◌<◌, ◌≤◌, Bool, true, false, not, ◌&&◌, List, ◌∷◌}
+use Rattle.std.proofs.Common.{Some, refl, sym, ◌∙◌, ap, subst, inl, inr, arith}
 use Rattle.std.specs.Prelude.{◌==◌, if◌then◌else◌, drop}
 use Rattle.std.proofs.lemmas.Bool.{cases_Bool, cases_eq, and_from, eq-eqb, ne_eqb}
 use Rattle.crpd_base.specs.declared.data.TaskPlan.{TaskPlan}
@@ -17,12 +18,14 @@ use Rattle.cert_check.specs.PotentialClauses.{edge_costs}
 use Rattle.loop_regions.specs.TaskGraph.{TaskGraph, node_code_of, answering}
 use Rattle.cert_check.specs.JudgeInput.{IsGraphOf, longest_of}
 use Rattle.preempt_machine.specs.Machine.{System, Job, ins_at, plan_of}
-use Rattle.preempt_machine.specs.Step.{is_open, Turn, turn_after_step, turn_after_effect, makes_fetch, goes_to_next}
+use Rattle.preempt_machine.specs.Step.{is_open, Turn, turn_after_step, turn_after_effect}
+use Rattle.preempt_machine.specs.Step.{makes_fetch, goes_to_next}
 use Rattle.run_account.specs.Nodes.{node_of_job, node_number}
 use Rattle.rv_decode.specs.Flow.{IsCodeMap}
 use Rattle.sound_laws.specs.Walks.{before_of, IsOnWalk}
 use Rattle.sound_laws.specs.CyclesToGo.{rest_after, walk_of, cycles_to_go, misses_counted_hit}
-use Rattle.preempt_machine.proofs.TurnLaws.{TurnOf, switches, works, goes, begun, cost_hit, cost_miss, cost_counted, turn_of_job}
+use Rattle.preempt_machine.proofs.TurnLaws.{TurnOf, switches, works, goes, begun, cost_hit}
+use Rattle.preempt_machine.proofs.TurnLaws.{cost_miss, cost_counted, turn_of_job}
 use Rattle.sound_laws.proofs.Walks.Stands.{Stands}
 use Rattle.run_account.proofs.Stands.{nodes_after}
 use Rattle.sound_laws.proofs.Walks.Walked.{nodes_executed, nodes_switched, begun_pos}
@@ -33,28 +36,47 @@ use Rattle.sound_laws.proofs.Execution.Paid.{pays, pays_alone}
 abbrev pub extra_of : System → TaskGraph → (ℕ → Bool) → Turn → ℕ
 extra_of sys t counted u = if misses_counted_hit sys t counted u then sys.platform.miss else 0
 
-pub go_between : (sys : System) (plan : TaskPlan) (t : TaskGraph) (p : Potentials) (job : Job) (nodes : List ℕ) → is_open job.standing ≡ true → job.left ≡ 0 → cycles_to_go sys plan t p job nodes ≡ rest t.nest p (walk_of t job nodes)
+pub go_between : (sys : System) (plan : TaskPlan) (t : TaskGraph) (p : Potentials) (job : Job)
+    (nodes : List ℕ) → is_open job.standing ≡ true → job.left ≡ 0
+    → cycles_to_go sys plan t p job nodes ≡ rest t.nest p (walk_of t job nodes)
 go_between sys plan t p job nodes o l =
     let bit : (job.left == 0) ≡ true = eq-eqb _ _ l in
     rw (o, bit) refl
 
-pub go_within : (sys : System) (plan : TaskPlan) (t : TaskGraph) (p : Potentials) (job : Job) (nodes : List ℕ) (ins : Ins) → is_open job.standing ≡ true → 1 ≤ job.left → ins_at sys job.pc ≡ Some ins → cycles_to_go sys plan t p job nodes ≡ job.left + rest_after plan t p job (walk_of t job nodes) ins (next_pc ins job.pc job.registers)
+pub go_within : (sys : System) (plan : TaskPlan) (t : TaskGraph) (p : Potentials) (job : Job)
+    (nodes : List ℕ) (ins : Ins) → is_open job.standing ≡ true → 1 ≤ job.left
+    → ins_at sys job.pc ≡ Some ins
+    → cycles_to_go sys plan t p job nodes
+    ≡ job.left + rest_after plan t p job (walk_of t job nodes) ins
+    (next_pc ins job.pc job.registers)
 go_within sys plan t p job nodes ins o l at =
     let bit : (job.left == 0) ≡ false = ne_eqb _ _ (λ e. omega arith) in
     rw (o, bit, at) refl
 
-pub go_over : (sys : System) (plan : TaskPlan) (t : TaskGraph) (p : Potentials) (job : Job) (nodes : List ℕ) → is_open job.standing ≡ false → cycles_to_go sys plan t p job nodes ≡ 0
+pub go_over : (sys : System) (plan : TaskPlan) (t : TaskGraph) (p : Potentials) (job : Job)
+    (nodes : List ℕ) → is_open job.standing ≡ false → cycles_to_go sys plan t p job nodes ≡ 0
 go_over sys plan t p job nodes o = rw o refl
 
 -- what a turn spends
-pub record SpendTurn (sys : System) (plan : TaskPlan) (t : TaskGraph) (counted : ℕ → Bool) (p : Potentials) (u : Turn) (nodes : List ℕ) (after : Turn) (later : List ℕ) : Type 0 where
-  pub less : is_unbroken after.job.watch ≡ true → cycles_to_go sys plan t p after.job later + after.switch_left + 1 ≤ cycles_to_go sys plan t p u.job nodes + u.switch_left + extra_of sys t counted u
-  pub short : u.job.left ≤ longest_of sys.platform t - 1 → after.job.left ≤ longest_of sys.platform t - 1
+pub record SpendTurn (sys : System) (plan : TaskPlan) (t : TaskGraph) (counted : ℕ → Bool)
+    (p : Potentials) (u : Turn) (nodes : List ℕ) (after : Turn) (later : List ℕ) : Type 0 where
+  pub less : is_unbroken after.job.watch ≡ true
+      → cycles_to_go sys plan t p after.job later + after.switch_left + 1
+      ≤ cycles_to_go sys plan t p u.job nodes + u.switch_left + extra_of sys t counted u
+  pub short : u.job.left ≤ longest_of sys.platform t - 1
+      → after.job.left ≤ longest_of sys.platform t - 1
   pub some : 1 ≤ cycles_to_go sys plan t p u.job nodes
-  pub switched : 0 < u.switch_left → cycles_to_go sys plan t p after.job later ≡ cycles_to_go sys plan t p u.job nodes
+  pub switched : 0 < u.switch_left
+      → cycles_to_go sys plan t p after.job later ≡ cycles_to_go sys plan t p u.job nodes
 
-module _ (sys : System) (plan : TaskPlan) (t : TaskGraph) (ok : IsGraphOf sys.word plan t) (map : IsCodeMap sys.word) (hit : 1 ≤ sys.platform.hit) (counted : ℕ → Bool) (p : Potentials) (nested : IsNested t.graph t.nest) (meets : Meets t.graph t.nest (edge_costs sys.platform (node_code_of t) (answering t) counted) p) where
-  module _ (n : ℕ) (u : Turn) (nodes : List ℕ) (W : IsOnWalk sys.word plan t u.job nodes) (S : Stands sys t (node_of_job t u.job) u.job.pc) (same_plan : plan_of sys u.job.line.task.0 ≡ plan) (o : is_open u.job.standing ≡ true) where
+module _ (sys : System) (plan : TaskPlan) (t : TaskGraph) (ok : IsGraphOf sys.word plan t)
+    (map : IsCodeMap sys.word) (hit : 1 ≤ sys.platform.hit) (counted : ℕ → Bool) (p : Potentials)
+    (nested : IsNested t.graph t.nest)
+    (meets : Meets t.graph t.nest (edge_costs sys.platform (node_code_of t) (answering t) counted)
+    p) where
+  module _ (n : ℕ) (u : Turn) (nodes : List ℕ) (W : IsOnWalk sys.word plan t u.job nodes)
+      (S : Stands sys t (node_of_job t u.job) u.job.pc)
+      (same_plan : plan_of sys u.job.line.task.0 ≡ plan) (o : is_open u.job.standing ≡ true) where
     abbrev hits : Bool
     hits = is_hit sys.platform u.cache (block_of sys.platform u.job.pc)
 
@@ -65,15 +87,23 @@ module _ (sys : System) (plan : TaskPlan) (t : TaskGraph) (ok : IsGraphOf sys.wo
     after_it = rest_after plan t p u.job (walk_of t u.job nodes) S.ins next
 
     -- what is begun is paid
-    begin_pays : u.switch_left ≡ 0 → begun sys S.ins u + after_it ≤ cycles_to_go sys plan t p u.job nodes + extra_of sys t counted u
+    begin_pays : u.switch_left ≡ 0
+        → begun sys S.ins u + after_it
+        ≤ cycles_to_go sys plan t p u.job nodes + extra_of sys t counted u
     begin_pays z =
         elim (cases_eq u.job.left 0) [
           | inl l ↦
               let bit : (u.job.left == 0) ≡ true = eq-eqb _ _ l in
-              let m : makes_fetch sys u ≡ true = and_from _ _ (and_from _ _ (eq-eqb _ _ z) bit) (rw S.at refl) in
-              let is : begun sys S.ins u ≡ cost sys.platform S.ins (not hits) (not (goes_to_next next u.job.pc)) = rw bit refl in
-              let extra : extra_of sys t counted u ≡ (if counted (node_of_job t u.job) && not hits then sys.platform.miss else 0) = rw m refl in
-              let c = cost_counted sys.platform S.ins (counted (node_of_job t u.job)) hits (not (goes_to_next next u.job.pc)) in
+              let m : makes_fetch sys u ≡ true =
+              and_from _ _ (and_from _ _ (eq-eqb _ _ z) bit) (rw S.at refl) in
+              let is : begun sys S.ins u
+              ≡ cost sys.platform S.ins (not hits) (not (goes_to_next next u.job.pc)) =
+              rw bit refl in
+              let extra : extra_of sys t counted u
+              ≡ (if counted (node_of_job t u.job) && not hits then sys.platform.miss else 0) =
+              rw m refl in
+              let c = cost_counted sys.platform S.ins (counted (node_of_job t u.job)) hits
+              (not (goes_to_next next u.job.pc)) in
               let paid = pays sys plan t ok map counted p nested meets u.job nodes W S in
               let go = go_between sys plan t p u.job nodes o l in
               omega (arith, is, extra, c, paid, go)
@@ -89,7 +119,8 @@ module _ (sys : System) (plan : TaskPlan) (t : TaskGraph) (ok : IsGraphOf sys.wo
         elim (cases_eq u.job.left 0) [
           | inl l ↦
               let paid = pays sys plan t ok map counted p nested meets u.job nodes W S in
-              let c = cost_hit sys.platform S.ins (not (counted (node_of_job t u.job))) (not (goes_to_next next u.job.pc)) hit in
+              let c = cost_hit sys.platform S.ins (not (counted (node_of_job t u.job)))
+              (not (goes_to_next next u.job.pc)) hit in
               let go = go_between sys plan t p u.job nodes o l in
               omega (arith, paid, c, go)
           | inr ne ↦
@@ -97,15 +128,21 @@ module _ (sys : System) (plan : TaskPlan) (t : TaskGraph) (ok : IsGraphOf sys.wo
               omega (arith, go)
         ]
 
-    begun_short : u.job.left ≤ longest_of sys.platform t - 1 → begun sys S.ins u ≤ longest_of sys.platform t
+    begun_short : u.job.left ≤ longest_of sys.platform t - 1
+        → begun sys S.ins u ≤ longest_of sys.platform t
     begun_short h =
         elim (cases_eq u.job.left 0) [
           | inl l ↦
               let bit : (u.job.left == 0) ≡ true = eq-eqb _ _ l in
-              let is : begun sys S.ins u ≡ cost sys.platform S.ins (not hits) (not (goes_to_next next u.job.pc)) = rw bit refl in
-              let alone = pays_alone sys plan t ok map (λ y. false) (longest_of sys.platform t) (node_of_job t u.job) u.job.pc S W.walked.address
-              (λ v e. edge_longest sys.platform t.graph (node_code_of t) (answering t) (node_of_job t u.job) v e)
-              (λ b. end_longest sys.platform t.graph (node_code_of t) (answering t) (node_of_job t u.job) S.node b)
+              let is : begun sys S.ins u
+              ≡ cost sys.platform S.ins (not hits) (not (goes_to_next next u.job.pc)) =
+              rw bit refl in
+              let alone = pays_alone sys plan t ok map (λ y. false) (longest_of sys.platform t)
+              (node_of_job t u.job) u.job.pc S W.walked.address
+              (λ v e. edge_longest sys.platform t.graph (node_code_of t) (answering t)
+              (node_of_job t u.job) v e)
+              (λ b. end_longest sys.platform t.graph (node_code_of t) (answering t)
+              (node_of_job t u.job) S.node b)
               (before_of u.job nodes) W.frames W.walked u.job.registers in
               let c = cost_miss sys.platform S.ins (not hits) (not (goes_to_next next u.job.pc)) in
               omega (arith, is, alone, c)
@@ -116,25 +153,43 @@ module _ (sys : System) (plan : TaskPlan) (t : TaskGraph) (ok : IsGraphOf sys.wo
         ]
 
     -- in the middle of the instruction
-    go_working : (k : ℕ) (later : List ℕ) → 1 ≤ k → later ≡ walk_of t u.job nodes → cycles_to_go sys plan t p (record u.job { left = k }) later ≡ k + after_it
+    go_working : (k : ℕ) (later : List ℕ) → 1 ≤ k → later ≡ walk_of t u.job nodes
+        → cycles_to_go sys plan t p (record u.job { left = k }) later ≡ k + after_it
     go_working k later l e =
         let bit : (k == 0) ≡ false = ne_eqb _ _ (λ q. omega arith) in
-        let before : before_of (record u.job { left = k }) later ≡ before_of u.job nodes = rw bit (ap (drop 1) e) in
+        let before : before_of (record u.job { left = k }) later ≡ before_of u.job nodes =
+        rw bit (ap (drop 1) e) in
         go_within sys plan t p (record u.job { left = k }) later S.ins o l S.at
         ∙ ap (λ b. k + rest_after plan t p u.job (node_of_job t u.job ∷ b) S.ins next) before
 
     -- after it
-    go_arrived : (later : List ℕ) (next : Next) → later ≡ walk_of t u.job nodes → is_unbroken (turn_after_effect sys n S.ins u next).job.watch ≡ true → cycles_to_go sys plan t p (turn_after_effect sys n S.ins u next).job later ≤ rest_after plan t p u.job (walk_of t u.job nodes) S.ins next
+    go_arrived : (later : List ℕ) (next : Next) → later ≡ walk_of t u.job nodes
+        → is_unbroken (turn_after_effect sys n S.ins u next).job.watch ≡ true
+        → cycles_to_go sys plan t p (turn_after_effect sys n S.ins u next).job later
+        ≤ rest_after plan t p u.job (walk_of t u.job nodes) S.ins next
     go_arrived later (Goto to) e k =
         elim (cases_Bool (to == end_address)) [
           | inl q ↦ rw q (omega arith)
           | inr q ↦
-              let same : (turn_after_effect sys n S.ins u (Goto to)).job.watch ≡ watch_step plan u.job.watch u.job.pc S.ins to = ap (λ x. watch_step x u.job.watch u.job.pc S.ins to) same_plan in
-              let k' : is_unbroken (watch_step plan u.job.watch u.job.pc S.ins to) ≡ true = ap is_unbroken (sym same) ∙ k in
-              let go : cycles_to_go sys plan t p (turn_after_effect sys n S.ins u (Goto to)).job later ≡ rest t.nest p (node_number t (turn_after_effect sys n S.ins u (Goto to)).job.watch to ∷ later) = rw q refl in
-              let after : rest_after plan t p u.job (walk_of t u.job nodes) S.ins (Goto to) ≡ rest t.nest p (node_number t (watch_step plan u.job.watch u.job.pc S.ins to) to ∷ walk_of t u.job nodes) = rw (q, k') refl in
-              let mid : rest t.nest p (node_number t (turn_after_effect sys n S.ins u (Goto to)).job.watch to ∷ later) ≡ rest t.nest p (node_number t (watch_step plan u.job.watch u.job.pc S.ins to) to ∷ walk_of t u.job nodes) =
-              ap (λ w. rest t.nest p (node_number t w to ∷ later)) same ∙ ap (λ b. rest t.nest p (node_number t (watch_step plan u.job.watch u.job.pc S.ins to) to ∷ b)) e in
+              let same : (turn_after_effect sys n S.ins u (Goto to)).job.watch
+              ≡ watch_step plan u.job.watch u.job.pc S.ins to =
+              ap (λ x. watch_step x u.job.watch u.job.pc S.ins to) same_plan in
+              let k' : is_unbroken (watch_step plan u.job.watch u.job.pc S.ins to) ≡ true =
+              ap is_unbroken (sym same) ∙ k in
+              let go : cycles_to_go sys plan t p (turn_after_effect sys n S.ins u (Goto to)).job
+              later ≡ rest t.nest p
+              (node_number t (turn_after_effect sys n S.ins u (Goto to)).job.watch to ∷ later) =
+              rw q refl in
+              let after : rest_after plan t p u.job (walk_of t u.job nodes) S.ins (Goto to)
+              ≡ rest t.nest p (node_number t (watch_step plan u.job.watch u.job.pc S.ins to) to
+              ∷ walk_of t u.job nodes) = rw (q, k') refl in
+              let mid : rest t.nest p
+              (node_number t (turn_after_effect sys n S.ins u (Goto to)).job.watch to ∷ later)
+              ≡ rest t.nest p (node_number t (watch_step plan u.job.watch u.job.pc S.ins to) to
+              ∷ walk_of t u.job nodes) =
+              ap (λ w. rest t.nest p (node_number t w to ∷ later)) same
+              ∙ ap (λ b. rest t.nest p
+              (node_number t (watch_step plan u.job.watch u.job.pc S.ins to) to ∷ b)) e in
               omega (arith, go, after, mid)
         ]
     go_arrived later Answer e k = omega arith
@@ -145,12 +200,17 @@ module _ (sys : System) (plan : TaskPlan) (t : TaskGraph) (ok : IsGraphOf sys.wo
     went_left Answer = refl
     went_left Fault = refl
 
-    spend_turn_by : TurnOf sys n u S.ins → SpendTurn sys plan t counted p u nodes (turn_after_step sys n u) (nodes_after sys t u nodes)
+    spend_turn_by : TurnOf sys n u S.ins
+        → SpendTurn sys plan t counted p u nodes (turn_after_step sys n u)
+        (nodes_after sys t u nodes)
     spend_turn_by (switches l e) =
         let later = nodes_switched sys plan t ok map hit n u nodes W S same_plan o l in
-        let same : cycles_to_go sys plan t p (turn_after_step sys n u).job (nodes_after sys t u nodes) ≡ cycles_to_go sys plan t p u.job nodes =
-        ap (λ (x : Turn). cycles_to_go sys plan t p x.job (nodes_after sys t u nodes)) e ∙ ap (λ b. cycles_to_go sys plan t p u.job b) later in
-        let sw : (turn_after_step sys n u).switch_left ≡ u.switch_left - 1 = ap (λ (x : Turn). x.switch_left) e in
+        let same : cycles_to_go sys plan t p (turn_after_step sys n u).job
+        (nodes_after sys t u nodes) ≡ cycles_to_go sys plan t p u.job nodes =
+        ap (λ (x : Turn). cycles_to_go sys plan t p x.job (nodes_after sys t u nodes)) e
+        ∙ ap (λ b. cycles_to_go sys plan t p u.job b) later in
+        let sw : (turn_after_step sys n u).switch_left ≡ u.switch_left - 1 =
+        ap (λ (x : Turn). x.switch_left) e in
         record {
           less = λ k. omega (arith, same, sw);
           short = λ h. subst (λ (x : Turn). x.job.left ≤ longest_of sys.platform t - 1) (sym e) h;
@@ -160,11 +220,16 @@ module _ (sys : System) (plan : TaskPlan) (t : TaskGraph) (ok : IsGraphOf sys.wo
     spend_turn_by (works k z l b e zs) =
         let later = nodes_executed sys plan t ok map hit n u nodes W S same_plan o z in
         let paid = begin_pays z in
-        let go : cycles_to_go sys plan t p (turn_after_step sys n u).job (nodes_after sys t u nodes) ≡ k + after_it =
-        ap (λ (j : Job). cycles_to_go sys plan t p j (nodes_after sys t u nodes)) e ∙ go_working k (nodes_after sys t u nodes) l later in
+        let go : cycles_to_go sys plan t p (turn_after_step sys n u).job (nodes_after sys t u nodes)
+        ≡ k + after_it =
+        ap (λ (j : Job). cycles_to_go sys plan t p j (nodes_after sys t u nodes)) e
+        ∙ go_working k (nodes_after sys t u nodes) l later in
         record {
           less = λ kept. omega (arith, paid, go, b, zs, z);
-          short = λ h. let s = begun_short h in subst (λ (j : Job). j.left ≤ longest_of sys.platform t - 1) (sym e) (omega (arith, s, b));
+          short = λ h.
+              let s = begun_short h in
+              subst (λ (j : Job). j.left ≤ longest_of sys.platform t - 1) (sym e)
+              (omega (arith, s, b));
           some = some_left;
           switched = λ q. absurd (omega arith);
         }
@@ -173,13 +238,21 @@ module _ (sys : System) (plan : TaskPlan) (t : TaskGraph) (ok : IsGraphOf sys.wo
         let paid = begin_pays z in
         record {
           less = λ kept.
-              let go = go_arrived (nodes_after sys t u nodes) next later (subst (λ (j : Job). is_unbroken j.watch ≡ true) e kept) in
-              let same = ap (λ (j : Job). cycles_to_go sys plan t p j (nodes_after sys t u nodes)) e in
+              let go = go_arrived (nodes_after sys t u nodes) next later
+              (subst (λ (j : Job). is_unbroken j.watch ≡ true) e kept) in
+              let same = ap (λ (j : Job). cycles_to_go sys plan t p j (nodes_after sys t u nodes))
+              e in
               omega (arith, paid, go, same, b, zs, z);
-          short = λ h. let zero = went_left next in subst (λ (j : Job). j.left ≤ longest_of sys.platform t - 1) (sym e) (omega (arith, zero));
+          short = λ h.
+              let zero = went_left next in
+              subst (λ (j : Job). j.left ≤ longest_of sys.platform t - 1) (sym e)
+              (omega (arith, zero));
           some = some_left;
           switched = λ q. absurd (omega arith);
         }
 
-    pub spend_turn : SpendTurn sys plan t counted p u nodes (turn_after_step sys n u) (nodes_after sys t u nodes)
-    spend_turn = spend_turn_by (turn_of_job sys n S.ins u S.at (begun_pos sys plan t ok map hit n u nodes W S same_plan o))
+    pub spend_turn : SpendTurn sys plan t counted p u nodes (turn_after_step sys n u)
+        (nodes_after sys t u nodes)
+    spend_turn =
+        spend_turn_by
+        (turn_of_job sys n S.ins u S.at (begun_pos sys plan t ok map hit n u nodes W S same_plan o))

@@ -1,5 +1,7 @@
--- For step 7: in a checked run each step of a job spends a cycle of what it has to go, with a reload for an entry.
-use Rattle.std.proofs.Common.{◌≡◌, ℕ, zero, suc, ◌+◌, ◌*◌, ◌<◌, ◌≤◌, ◌≢◌, true, false, ◌&&◌, length, Some, inl, inr, arith}
+-- For step 7: in a checked run each step of a job spends a cycle of what it has to go, with a
+-- reload for an entry.
+use Rattle.std.proofs.Common.{◌≡◌, ℕ, zero, suc, ◌+◌, ◌*◌, ◌<◌, ◌≤◌, ◌≢◌, true, false, ◌&&◌, length}
+use Rattle.std.proofs.Common.{Some, inl, inr, arith}
 use Rattle.std.specs.Prelude.{nat_le}
 use Rattle.std.proofs.lemmas.Bool.{cases_Bool, cases_lt, le-leb}
 use Rattle.crpd_base.specs.Sum.{sum_below}
@@ -22,18 +24,36 @@ use Rattle.sound_laws.proofs.Walks.CheckedRuns.{CheckedRun, bound_of, is_below, 
 use Rattle.sound_laws.proofs.Reloads.Entries.{counted_at, met, entry, extra, extra_is}
 
 module _ (K : CheckedRun) where
-  open K use {start as s, set, graphs, certificate as c, horizon, in_range as R, code as C, says, run, kept}
+  open K use {
+    start as s,
+    set,
+    graphs,
+    certificate as c,
+    horizon,
+    in_range as R,
+    code as C,
+    says,
+    run,
+    kept,
+  }
 
   -- the cycles that a job has to go
   abbrev pub rest : ℕ → ℕ → ℕ
-  rest n x = cycles_to_go s.system (plan_at s x) (graphs (job_task s x)) (potentials_of (certified_task c (job_task s x))) (job_after s n x) (fetched_nodes s graphs n x)
+  rest n x =
+      cycles_to_go s.system (plan_at s x) (graphs (job_task s x))
+      (potentials_of (certified_task c (job_task s x))) (job_after s n x)
+      (fetched_nodes s graphs n x)
 
   pub rest_keeps : (n x : ℕ) → candidate_at s n ≢ Some x → rest (suc n) x ≤ rest n x
   rest_keeps n x ne =
       elim (cases_lt x (length s.lines)) [
-        | inl h ↦ let same = go_other s set graphs R C run.tasks (certified_task c (job_task s x)) x h (counted_at K x) (met K x h) n ne in omega (arith, same)
+        | inl h ↦ let same =
+            go_other s set graphs R C run.tasks (certified_task c (job_task s x)) x h
+            (counted_at K x) (met K x h) n ne in omega (arith, same)
         | inr g ↦
-            let none = go_over s.system (plan_at s x) (graphs (job_task s x)) (potentials_of (certified_task c (job_task s x))) (job_after s (suc n) x) (fetched_nodes s graphs (suc n) x) (past_over K (suc n) x g) in
+            let none = go_over s.system (plan_at s x) (graphs (job_task s x))
+            (potentials_of (certified_task c (job_task s x))) (job_after s (suc n) x)
+            (fetched_nodes s graphs (suc n) x) (past_over K (suc n) x g) in
             omega (arith, none)
       ]
 
@@ -42,25 +62,35 @@ module _ (K : CheckedRun) where
       record {
         spends = λ n y early e.
             let h = is_below K n y e in
-            let less = go_own s set graphs R C run.tasks (certified_task c (job_task s y)) y h (counted_at K y) (met K y h) n e (kept_at K (suc n) y early h) in
+            let less = go_own s set graphs R C run.tasks (certified_task c (job_task s y)) y h
+            (counted_at K y) (met K y h) n e (kept_at K (suc n) y early h) in
             omega (arith, less, extra_is K n y early e);
         keeps = λ n x early ne. rest_keeps n x ne;
         some = λ n x early o.
-            let h : x < length s.lines = let b = open_is_below (state s n).jobs x o in omega (arith, b, jobs_length s n) in
-            some_go s set graphs R C run.tasks (certified_task c (job_task s x)) x h (counted_at K x) (met K x h) n o (kept_at K n x early h);
+            let h : x < length s.lines = let b = open_is_below (state s n).jobs x o in
+            omega (arith, b, jobs_length s n) in
+            some_go s set graphs R C run.tasks (certified_task c (job_task s x)) x h
+            (counted_at K x) (met K x h) n o (kept_at K n x early h);
       }
 
   pub fresh : (n x : ℕ) → was_owner s n x ≡ false → rest n x ≤ bound_of K (task_at s x)
   fresh n x w =
       elim (cases_lt x (length s.lines)) [
-        | inl h ↦ go_fresh s set graphs R C run.tasks (certified_task c (job_task s x)) x h (counted_at K x) (met K x h) n (kept_at K 0 x (omega arith) h) w
+        | inl h ↦
+            go_fresh s set graphs R C run.tasks (certified_task c (job_task s x)) x h
+            (counted_at K x) (met K x h) n (kept_at K 0 x (omega arith) h) w
         | inr g ↦
-            let none = go_over s.system (plan_at s x) (graphs (job_task s x)) (potentials_of (certified_task c (job_task s x))) (job_after s n x) (fetched_nodes s graphs n x) (past_over K n x g) in
+            let none = go_over s.system (plan_at s x) (graphs (job_task s x))
+            (potentials_of (certified_task c (job_task s x))) (job_after s n x)
+            (fetched_nodes s graphs n x) (past_over K n x g) in
             omega (arith, none)
       ]
 
   -- the reloads since a time cost so much
-  pub extra_counts : (from to : ℕ) → from ≤ to → sum_below (extra K) to ≤ sum_below (extra K) from + s.system.platform.miss * count (λ n. nat_le from n && entry K n) to
+  pub extra_counts : (from to : ℕ) → from ≤ to
+      → sum_below (extra K) to
+      ≤ sum_below (extra K) from + s.system.platform.miss * count
+      (λ n. nat_le from n && entry K n) to
   extra_counts from zero h = let e : from ≡ 0 = omega arith in rw e (omega arith)
   extra_counts from (suc n) h =
       elim (cases_lt n from) [

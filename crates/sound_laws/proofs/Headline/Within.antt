@@ -1,5 +1,8 @@
--- An undisturbed job of checked code answers within its bound, and the entries of its account are within the delays.
-use Rattle.std.proofs.Common.{◌≡◌, ℕ, zero, suc, ◌+◌, ◌*◌, ◌<◌, ◌≤◌, Bool, true, false, ◌&&◌, List, [], ◌∷◌, length, get_or, map, cond, nat_le, if◌then◌else◌, IsTrue, refl, sym, ◌∙◌, ap, subst, arith}
+-- An undisturbed job of checked code answers within its bound, and the entries of its account are
+-- within the delays.
+use Rattle.std.proofs.Common.{◌≡◌, ℕ, zero, suc, ◌+◌, ◌*◌, ◌<◌, ◌≤◌, Bool, true, false, ◌&&◌, List}
+use Rattle.std.proofs.Common.{[], ◌∷◌, length, get_or, map, cond, nat_le, if◌then◌else◌, IsTrue}
+use Rattle.std.proofs.Common.{refl, sym, ◌∙◌, ap, subst, arith}
 use Rattle.std.specs.Prelude.{slice_index}
 use Rattle.std.specs.List.{count_by}
 use Rattle.std.proofs.lemmas.List.Recursion.{is_count_by}
@@ -32,13 +35,15 @@ use Rattle.preempt_machine.proofs.Loads.{start_cache_length}
 use Rattle.sound_laws.specs.Headline.{IsUndisturbed}
 use Rattle.sound_laws.specs.Ledgers.{HasAnswered}
 use Rattle.sound_laws.specs.Walks.{IsCodeOf, RunsLegally}
-use Rattle.sound_laws.specs.CheckedCode.{IsChecked, bounds, CheckedCodeIsBounded, is_in_window, has_evictor, has_preemptor, CheckedAccountIsWithinDelays}
+use Rattle.sound_laws.specs.CheckedCode.{IsChecked, bounds, CheckedCodeIsBounded, is_in_window}
+use Rattle.sound_laws.specs.CheckedCode.{has_evictor, has_preemptor, CheckedAccountIsWithinDelays}
 use Rattle.sound_laws.proofs.Headline.Undisturbed.{undisturbed_bound}
 use Rattle.sound_laws.proofs.Headline.InRange.{in_range}
 use Rattle.sound_laws.proofs.Delays.Ledgers.{ledger_within_delays}
 
 -- a number of each part, also past the end
-map_at : {A : Type 0} (f : A → ℕ) (d : A) (xs : List A) (k : ℕ) → f d ≡ 0 → get_or (map f xs) k 0 ≡ f (get_or xs k d)
+map_at : {A : Type 0} (f : A → ℕ) (d : A) (xs : List A) (k : ℕ) → f d ≡ 0
+    → get_or (map f xs) k 0 ≡ f (get_or xs k d)
 map_at f d [] k e = sym e
 map_at f d (x ∷ xs) zero e = refl
 map_at f d (x ∷ xs) (suc k) e = map_at f d xs k e
@@ -46,16 +51,21 @@ map_at f d (x ∷ xs) (suc k) e = map_at f d xs k e
 bound_is : (c : Certificate) (k : ℕ) → slice_index (bounds c) k ≡ (certified_task c k).part.bound
 bound_is c k = map_at (λ (t : TaskPart). t.part.bound) no_task_part c.tasks k refl
 
-pub code_of : (set : TaskSet) (code : Code) (graphs : ℕ → TaskGraph) (c : Certificate) → IsChecked set code graphs c → IsCodeOf (system_of set code) set graphs
+pub code_of : (set : TaskSet) (code : Code) (graphs : ℕ → TaskGraph) (c : Certificate)
+    → IsChecked set code graphs c → IsCodeOf (system_of set code) set graphs
 code_of set code graphs c K = record { platform = refl; map = K.words; graphs_of = K.graphs_of }
 
 pub checked_code_is_bounded : CheckedCodeIsBounded
 checked_code_is_bounded set code graphs c K s n x first same run kept h l still =
-    let C : IsCodeOf s.system set graphs = subst (λ y. IsCodeOf y set graphs) (sym same) (code_of set code graphs c K) in
-    let e : s.system.platform.switch + (certified_task c (job_task s x)).part.bound ≡ set.platform.switch + slice_index (bounds c) (job_task s x) =
-    ap (λ (y : System). y.platform.switch + (certified_task c (job_task s x)).part.bound) same ∙ ap (λ b. set.platform.switch + b) (sym (bound_is c (job_task s x))) in
+    let C : IsCodeOf s.system set graphs =
+    subst (λ y. IsCodeOf y set graphs) (sym same) (code_of set code graphs c K) in
+    let e : s.system.platform.switch + (certified_task c (job_task s x)).part.bound
+    ≡ set.platform.switch + slice_index (bounds c) (job_task s x) =
+    ap (λ (y : System). y.platform.switch + (certified_task c (job_task s x)).part.bound) same
+    ∙ ap (λ b. set.platform.switch + b) (sym (bound_is c (job_task s x))) in
     subst (λ k. IsAnsweredBy (first + k) (job_after s n x).standing) e
-    (undisturbed_bound s set graphs c n x first (in_range set K.ranges) C K.says run kept h (subst (λ k. first + k ≤ n) (sym e) l) (subst (λ k. IsUndisturbed s x first k) (sym e) still))
+    (undisturbed_bound s set graphs c n x first (in_range set K.ranges) C K.says run kept h
+    (subst (λ k. first + k ≤ n) (sym e) l) (subst (λ k. IsUndisturbed s x first k) (sym e) still))
 
 -- how many items pass a test
 counted : {X : Type 0} → (X → Bool) → List X → ℕ
@@ -63,14 +73,17 @@ counted p [] = 0
 counted p (x ∷ xs) = cond (p x) (1 + counted p xs) (counted p xs)
 
 counted_is : {X : Type 0} (p : X → Bool) (xs : List X) → counted p xs ≡ count_by p xs
-counted_is {X} p xs = is_count_by (counted p) p (unfold counted in refl) (unfold counted in λ x more. refl) xs
+counted_is {X} p xs =
+    is_count_by (counted p) p (unfold counted in refl) (unfold counted in λ x more. refl) xs
 
-counted_map : {X Y : Type 0} (p : Y → Bool) (f : X → Y) (xs : List X) → counted p (map f xs) ≡ counted (λ x. p (f x)) xs
+counted_map : {X Y : Type 0} (p : Y → Bool) (f : X → Y) (xs : List X)
+    → counted p (map f xs) ≡ counted (λ x. p (f x)) xs
 unfolding counted
 counted_map p f [] = refl
 counted_map p f (x ∷ xs) = ap (λ k. cond (p (f x)) (1 + k) k) (counted_map p f xs)
 
-count_map : {X Y : Type 0} (p : Y → Bool) (f : X → Y) (xs : List X) → count_by p (map f xs) ≡ count_by (λ x. p (f x)) xs
+count_map : {X Y : Type 0} (p : Y → Bool) (f : X → Y) (xs : List X)
+    → count_by p (map f xs) ≡ count_by (λ x. p (f x)) xs
 count_map p f xs = sym (counted_is p (map f xs)) ∙ counted_map p f xs ∙ counted_is (λ x. p (f x)) xs
 
 -- a job whose end is told to be an answer has answered
@@ -78,21 +91,32 @@ waiting : (b : Bool) (t : ℕ) → (if b then «end».Unreleased else «end».Op
 waiting true t e = cc
 waiting false t e = cc
 
-stands : (time release t : ℕ) (s : Standing) → end_by time release s ≡ «end».Answered t → s ≡ Answered t
+stands : (time release t : ℕ) (s : Standing) → end_by time release s ≡ «end».Answered t
+    → s ≡ Answered t
 stands time release t Open e = absurd (waiting (nat_le time release) t e)
 stands time release t (Answered u) e = let q : u ≡ t = cc in ap Answered q
 stands time release t Faulted e = absurd cc
 
-module _ (set : TaskSet) (code : Code) (graphs : ℕ → TaskGraph) (c : Certificate) (script : Script) (a : Account) (K : IsChecked set code graphs c) (T : NamesTasks set script.jobs) (legal : IsLegal set script.jobs) (I : IsAccount (start_of_script set code script) graphs c script.cycles a) (k : IsTrue a.kept) where
+module _ (set : TaskSet) (code : Code) (graphs : ℕ → TaskGraph) (c : Certificate) (script : Script)
+    (a : Account) (K : IsChecked set code graphs c) (T : NamesTasks set script.jobs)
+    (legal : IsLegal set script.jobs)
+    (I : IsAccount (start_of_script set code script) graphs c script.cycles a)
+    (k : IsTrue a.kept) where
   abbrev s : Start
   s = start_of_script set code script
 
   run : RunsLegally set s
   run =
       let few = K.ranges.platform.sets.1 in
-      record { cache = omega (arith, few, start_cache_length set.platform script.cache); tasks = T; legal = legal }
+      record {
+        cache = omega (arith, few, start_cache_length set.platform script.cache);
+        tasks = T;
+        legal = legal;
+      }
 
-  has_answered : (x start answer : ℕ) → x < length script.jobs → (completion a.completions x).«end» ≡ «end».Answered answer → IsWindowStart s x start → HasAnswered s set graphs c script.cycles I.ledger x start answer
+  has_answered : (x start answer : ℕ) → x < length script.jobs
+      → (completion a.completions x).«end» ≡ «end».Answered answer → IsWindowStart s x start
+      → HasAnswered s set graphs c script.cycles I.ledger x start answer
   has_answered x start answer h e w =
       record {
         in_range = in_range set K.ranges;
@@ -102,7 +126,10 @@ module _ (set : TaskSet) (code : Code) (graphs : ℕ → TaskGraph) (c : Certifi
         kept = I.kept.0 k;
         entries = I.is_ledger;
         job = h;
-        answered = stands (state s script.cycles).time (job_after s script.cycles x).line.release answer (job_after s script.cycles x).standing (sym (ap (λ (d : Completion). d.«end») (I.completions x h)) ∙ e);
+        answered =
+            stands (state s script.cycles).time (job_after s script.cycles x).line.release answer
+            (job_after s script.cycles x).standing
+            (sym (ap (λ (d : Completion). d.«end») (I.completions x h)) ∙ e);
         starts = w;
       }
 
@@ -110,28 +137,55 @@ module _ (set : TaskSet) (code : Code) (graphs : ℕ → TaskGraph) (c : Certifi
   task_is x h = ap (λ (l : ScriptJob). l.task.0) (line_is s 0 x h)
 
   -- the entries that pass, as they stand in the ledger
-  in_ledger : (p : Entry → Bool) → count_by p a.entries ≡ count_by (λ (e : LedgerReload). p (account_entry s e)) I.ledger
+  in_ledger : (p : Entry → Bool)
+      → count_by p a.entries ≡ count_by (λ (e : LedgerReload). p (account_entry s e)) I.ledger
   in_ledger p = ap (count_by p) I.entries ∙ count_map p (account_entry s) I.ledger
 
-  within_ucb : (x start answer j : ℕ) → x < length script.jobs → (completion a.completions x).«end» ≡ «end».Answered answer → IsWindowStart s x start → (i : ℕ) → job_task s x ≡ i → j < i
-      → count_by (λ (e : Entry). is_in_window i start answer e && has_evictor j e) a.entries * set.platform.miss ≤ gamma_ucb set (certified_part c) (window_at c) (window_at c i) i j
+  within_ucb : (x start answer j : ℕ) → x < length script.jobs
+      → (completion a.completions x).«end» ≡ «end».Answered answer → IsWindowStart s x start
+      → (i : ℕ) → job_task s x ≡ i → j < i
+      → count_by (λ (e : Entry). is_in_window i start answer e && has_evictor j e)
+      a.entries * set.platform.miss
+      ≤ gamma_ucb set (certified_part c) (window_at c) (window_at c i) i j
   within_ucb x start answer j h e w i at l =
-      subst (λ z. count_by (λ (d : Entry). is_in_window z start answer d && has_evictor j d) a.entries * set.platform.miss ≤ gamma_ucb set (certified_part c) (window_at c) (window_at c z) z j) at
-      (subst (λ m. m * set.platform.miss ≤ gamma_ucb set (certified_part c) (window_at c) (window_at c (job_task s x)) (job_task s x) j)
-      (sym (in_ledger (λ (d : Entry). is_in_window (job_task s x) start answer d && has_evictor j d)))
-      (ledger_within_delays.ucb s set graphs c script.cycles I.ledger x start answer j (has_answered x start answer h e w) (omega (arith, l, at))))
+      subst (λ z. count_by (λ (d : Entry). is_in_window z start answer d && has_evictor j d)
+      a.entries * set.platform.miss
+      ≤ gamma_ucb set (certified_part c) (window_at c) (window_at c z) z j) at
+      (subst (λ m. m * set.platform.miss
+      ≤ gamma_ucb set (certified_part c) (window_at c) (window_at c (job_task s x))
+      (job_task s x) j)
+      (sym (in_ledger (λ (d : Entry).
+      is_in_window (job_task s x) start answer d && has_evictor j d)))
+      (ledger_within_delays.ucb s set graphs c script.cycles I.ledger x start answer j
+      (has_answered x start answer h e w) (omega (arith, l, at))))
 
-  within_ecb : (x start answer j : ℕ) → x < length script.jobs → (completion a.completions x).«end» ≡ «end».Answered answer → IsWindowStart s x start → (i : ℕ) → job_task s x ≡ i → j < i
-      → count_by (λ (e : Entry). is_in_window i start answer e && has_preemptor j e) a.entries * set.platform.miss ≤ gamma_ecb set (certified_part c) (window_at c) (window_at c i) i j
+  within_ecb : (x start answer j : ℕ) → x < length script.jobs
+      → (completion a.completions x).«end» ≡ «end».Answered answer → IsWindowStart s x start
+      → (i : ℕ) → job_task s x ≡ i → j < i
+      → count_by (λ (e : Entry). is_in_window i start answer e && has_preemptor j e)
+      a.entries * set.platform.miss
+      ≤ gamma_ecb set (certified_part c) (window_at c) (window_at c i) i j
   within_ecb x start answer j h e w i at l =
-      subst (λ z. count_by (λ (d : Entry). is_in_window z start answer d && has_preemptor j d) a.entries * set.platform.miss ≤ gamma_ecb set (certified_part c) (window_at c) (window_at c z) z j) at
-      (subst (λ m. m * set.platform.miss ≤ gamma_ecb set (certified_part c) (window_at c) (window_at c (job_task s x)) (job_task s x) j)
-      (sym (in_ledger (λ (d : Entry). is_in_window (job_task s x) start answer d && has_preemptor j d)))
-      (ledger_within_delays.ecb s set graphs c script.cycles I.ledger x start answer j (has_answered x start answer h e w) (omega (arith, l, at))))
+      subst (λ z. count_by (λ (d : Entry). is_in_window z start answer d && has_preemptor j d)
+      a.entries * set.platform.miss
+      ≤ gamma_ecb set (certified_part c) (window_at c) (window_at c z) z j) at
+      (subst (λ m. m * set.platform.miss
+      ≤ gamma_ecb set (certified_part c) (window_at c) (window_at c (job_task s x))
+      (job_task s x) j)
+      (sym (in_ledger (λ (d : Entry).
+      is_in_window (job_task s x) start answer d && has_preemptor j d)))
+      (ledger_within_delays.ecb s set graphs c script.cycles I.ledger x start answer j
+      (has_answered x start answer h e w) (omega (arith, l, at))))
 
 pub checked_account_is_within_delays : CheckedAccountIsWithinDelays
 checked_account_is_within_delays set code graphs c script a K T legal I k =
     record {
-      ucb = λ x start answer j h e w l. within_ucb set code graphs c script a K T legal I k x start answer j h e w (script_line script.jobs x).task.0 (task_is set code graphs c script a K T legal I k x h) l;
-      ecb = λ x start answer j h e w l. within_ecb set code graphs c script a K T legal I k x start answer j h e w (script_line script.jobs x).task.0 (task_is set code graphs c script a K T legal I k x h) l;
+      ucb = λ x start answer j h e w l.
+          within_ucb set code graphs c script a K T legal I k x start answer j h e w
+          (script_line script.jobs x).task.0
+          (task_is set code graphs c script a K T legal I k x h) l;
+      ecb = λ x start answer j h e w l.
+          within_ecb set code graphs c script a K T legal I k x start answer j h e w
+          (script_line script.jobs x).task.0
+          (task_is set code graphs c script a K T legal I k x h) l;
     }

@@ -1,6 +1,7 @@
--- Step 4, own_fetches_agree and entries_are_reloads: a job's own last fetches are the last accesses of its walk, so they
--- agree with the full states, and an entry is a reload.
-use Rattle.std.proofs.Common.{◌≡◌, ◌≢◌, ℕ, zero, suc, ◌<◌, Bool, true, ◌∷◌, length, Some, refl, sym, ◌∙◌, ap, subst, inl, inr}
+-- Step 4, own_fetches_agree and entries_are_reloads: a job's own last fetches are the last accesses
+-- of its walk, so they agree with the full states, and an entry is a reload.
+use Rattle.std.proofs.Common.{◌≡◌, ◌≢◌, ℕ, zero, suc, ◌<◌, Bool, true, ◌∷◌, length, Some, refl, sym}
+use Rattle.std.proofs.Common.{◌∙◌, ap, subst, inl, inr}
 use Rattle.std.proofs.lemmas.Bool.{cases_Bool, and_parts, eqb-true, not-true}
 use Rattle.std.proofs.lemmas.Option.{none-some}
 use Rattle.crpd_base.proofs.Options.{none_some, same_or_not}
@@ -45,21 +46,32 @@ has_graphs s set graphs R C T =
           record { follows = g.follows; no_errors = g.no_errors };
     }
 
-module _ (s : Start) (set : TaskSet) (graphs : ℕ → TaskGraph) (R : HasTaskRanges set) (C : IsCodeOf s.system set graphs) (T : NamesTasks set s.lines) (x : ℕ) (h : x < length s.lines) where
+module _ (s : Start) (set : TaskSet) (graphs : ℕ → TaskGraph) (R : HasTaskRanges set)
+    (C : IsCodeOf s.system set graphs) (T : NamesTasks set s.lines) (x : ℕ)
+    (h : x < length s.lines) where
   abbrev tg : TaskGraph
   tg = graphs (job_task s x)
 
   abbrev pub acc : Accesses
   acc = accesses_of s.system.platform (graphs (job_task s x))
 
-  pub on_walk : (n : ℕ) → is_unbroken (job_after s n x).watch ≡ true → is_open (job_after s n x).standing ≡ true → IsOnWalk s.system.word (plan_at s x) (graphs (job_task s x)) (job_after s n x) (fetched_nodes s graphs n x)
+  pub on_walk : (n : ℕ) → is_unbroken (job_after s n x).watch ≡ true
+      → is_open (job_after s n x).standing ≡ true
+      → IsOnWalk s.system.word (plan_at s x) (graphs (job_task s x)) (job_after s n x)
+      (fetched_nodes s graphs n x)
   on_walk n k o = (walking s set graphs R C T n x h k).on_walk o
 
   -- the block and the set of a job's node are those of its pc
-  pub block_is : (n : ℕ) → is_unbroken (job_after s n x).watch ≡ true → is_open (job_after s n x).standing ≡ true → acc.block (node_of_job tg (job_after s n x)) ≡ block_of s.system.platform (job_after s n x).pc
+  pub block_is : (n : ℕ) → is_unbroken (job_after s n x).watch ≡ true
+      → is_open (job_after s n x).standing ≡ true
+      → acc.block (node_of_job tg (job_after s n x))
+      ≡ block_of s.system.platform (job_after s n x).pc
   block_is n k o = ap (block_of s.system.platform) (on_walk n k o).walked.address
 
-  pub set_is : (n : ℕ) → is_unbroken (job_after s n x).watch ≡ true → is_open (job_after s n x).standing ≡ true → acc.set (node_of_job tg (job_after s n x)) ≡ set_of s.system.platform (block_of s.system.platform (job_after s n x).pc)
+  pub set_is : (n : ℕ) → is_unbroken (job_after s n x).watch ≡ true
+      → is_open (job_after s n x).standing ≡ true
+      → acc.set (node_of_job tg (job_after s n x))
+      ≡ set_of s.system.platform (block_of s.system.platform (job_after s n x).pc)
   set_is n k o = ap (set_of s.system.platform) (block_is n k o)
 
   -- the last access of the fetched nodes is the own last fetch
@@ -68,40 +80,75 @@ module _ (s : Start) (set : TaskSet) (graphs : ℕ → TaskGraph) (R : HasTaskRa
   own_of n c b k e = own_of_nodes s graphs (has_graphs s set graphs R C T) x h n c b k e
 
   module _ (c : TaskPart) (counted : ℕ → Bool) (M : IsMet s.system.platform tg c counted) where
-    last_is : (n c' m : ℕ) (k : is_unbroken (job_after s n x).watch ≡ true) (o : is_open (job_after s n x).standing ≡ true) → FullState tg.graph acc (listed_of c) (node_of_job tg (job_after s n x)) c' m → last_access acc c' (before_of (job_after s n x) (fetched_nodes s graphs n x)) ≡ Some m
+    last_is : (n c' m : ℕ) (k : is_unbroken (job_after s n x).watch ≡ true)
+        (o : is_open (job_after s n x).standing ≡ true)
+        → FullState tg.graph acc (listed_of c) (node_of_job tg (job_after s n x)) c' m
+        → last_access acc c' (before_of (job_after s n x) (fetched_nodes s graphs n x)) ≡ Some m
     last_is n c' m k o st =
-        last_access_law tg.graph acc (listed_of c) (node_of_job tg (job_after s n x)) c' m (before_of (job_after s n x) (fetched_nodes s graphs n x)) (ok s set graphs R C T x h).follows.graph M.all.listing.states (on_walk n k o).walked.walk st
+        last_access_law tg.graph acc (listed_of c) (node_of_job tg (job_after s n x)) c' m
+        (before_of (job_after s n x) (fetched_nodes s graphs n x))
+        (ok s set graphs R C T x h).follows.graph M.all.listing.states
+        (on_walk n k o).walked.walk st
 
-    pub own_between : (n : ℕ) (k : is_unbroken (job_after s n x).watch ≡ true) (o : is_open (job_after s n x).standing ≡ true) → (job_after s n x).left ≡ 0 → (c' m : ℕ) → FullState tg.graph acc (listed_of c) (node_of_job tg (job_after s n x)) c' m → HasOwn s x c' n m
+    pub own_between : (n : ℕ) (k : is_unbroken (job_after s n x).watch ≡ true)
+        (o : is_open (job_after s n x).standing ≡ true) → (job_after s n x).left ≡ 0 → (c' m : ℕ)
+        → FullState tg.graph acc (listed_of c) (node_of_job tg (job_after s n x)) c' m
+        → HasOwn s x c' n m
     own_between n k o l c' m st =
-        own_of n c' m k (ap (last_access acc c') (sym (before_fresh (job_after s n x) (fetched_nodes s graphs n x) l)) ∙ last_is n c' m k o st)
+        own_of n c' m k
+        (ap (last_access acc c')
+        (sym (before_fresh (job_after s n x) (fetched_nodes s graphs n x) l))
+        ∙ last_is n c' m k o st)
 
-    pub own_within : (n : ℕ) (k : is_unbroken (job_after s n x).watch ≡ true) (o : is_open (job_after s n x).standing ≡ true) → (job_after s n x).left ≢ 0 → (c' m : ℕ) → StateAfter tg.graph acc (listed_of c) (node_of_job tg (job_after s n x)) c' m → HasOwn s x c' n m
+    pub own_within : (n : ℕ) (k : is_unbroken (job_after s n x).watch ≡ true)
+        (o : is_open (job_after s n x).standing ≡ true) → (job_after s n x).left ≢ 0 → (c' m : ℕ)
+        → StateAfter tg.graph acc (listed_of c) (node_of_job tg (job_after s n x)) c' m
+        → HasOwn s x c' n m
     own_within n k o l c' m after =
         let nodes = (on_walk n k o).under_way l in
         own_of n c' m k (ap (last_access acc c') nodes ∙
         elim after [
-          | inl here ↦ last_here acc c' (node_of_job tg (job_after s n x)) m (before_of (job_after s n x) (fetched_nodes s graphs n x)) here.0 here.1
-          | inr on ↦ last_on acc c' (node_of_job tg (job_after s n x)) (before_of (job_after s n x) (fetched_nodes s graphs n x)) on.0 ∙ last_is n c' m k o on.1
+          | inl here ↦
+              last_here acc c' (node_of_job tg (job_after s n x)) m
+              (before_of (job_after s n x) (fetched_nodes s graphs n x)) here.0 here.1
+          | inr on ↦
+              last_on acc c' (node_of_job tg (job_after s n x))
+              (before_of (job_after s n x) (fetched_nodes s graphs n x)) on.0
+              ∙ last_is n c' m k o on.1
         ])
 
-    pub entry_is : (n : ℕ) → is_unbroken (job_after s n x).watch ≡ true → candidate_at s n ≡ Some x → misses_counted_hit s.system tg counted (turn_of s.system (state s n) x) ≡ true → IsUsefulReload s tg c n x
+    pub entry_is : (n : ℕ) → is_unbroken (job_after s n x).watch ≡ true → candidate_at s n ≡ Some x
+        → misses_counted_hit s.system tg counted (turn_of s.system (state s n) x) ≡ true
+        → IsUsefulReload s tg c n x
     entry_is n k e b =
         let o = opened s graphs n x e in
         let both = and_parts (makes_fetch s.system (turn_of s.system (state s n) x)) _ b in
         let more = and_parts (counted (node_of_job tg (job_after s n x))) _ both.1 in
-        let l : (job_after s n x).left ≡ 0 = eqb-true _ _ (and_parts _ _ (and_parts _ _ both.0).0).1 in
+        let l : (job_after s n x).left ≡ 0 =
+        eqb-true _ _ (and_parts _ _ (and_parts _ _ both.0).0).1 in
         let W = on_walk n k o in
-        let node = walk_node s.system (plan_at s x) tg (ok s set graphs R C T x h) C.map (node_of_job tg (job_after s n x)) (before_of (job_after s n x) (fetched_nodes s graphs n x)) W.walked.walk in
-        let hit : IsHit tg.graph acc (listed_of c) (node_of_job tg (job_after s n x)) = (M.hits (node_of_job tg (job_after s n x)) node).0 more.0 in
-        let own_pc : HasOwn s x (set_of s.system.platform (block_of s.system.platform (job_after s n x).pc)) n (block_of s.system.platform (job_after s n x).pc) =
+        let node = walk_node s.system (plan_at s x) tg (ok s set graphs R C T x h) C.map
+        (node_of_job tg (job_after s n x))
+        (before_of (job_after s n x) (fetched_nodes s graphs n x)) W.walked.walk in
+        let hit : IsHit tg.graph acc (listed_of c) (node_of_job tg (job_after s n x)) =
+        (M.hits (node_of_job tg (job_after s n x)) node).0 more.0 in
+        let own_pc : HasOwn s x
+        (set_of s.system.platform (block_of s.system.platform (job_after s n x).pc)) n
+        (block_of s.system.platform (job_after s n x).pc) =
         subst (λ z. HasOwn s x z n (block_of s.system.platform (job_after s n x).pc)) (set_is n k o)
-        (subst (λ z. HasOwn s x (acc.set (node_of_job tg (job_after s n x))) n z) (block_is n k o) (own_between n k o l (acc.set (node_of_job tg (job_after s n x))) (acc.block (node_of_job tg (job_after s n x))) hit)) in
+        (subst (λ z. HasOwn s x (acc.set (node_of_job tg (job_after s n x))) n z) (block_is n k o)
+        (own_between n k o l (acc.set (node_of_job tg (job_after s n x)))
+        (acc.block (node_of_job tg (job_after s n x))) hit)) in
         let useful = (M.all.sets.useful (node_of_job tg (job_after s n x)) node).own hit in
         record {
           own_time = own_pc.time;
           own = own_pc.fetch;
-          reload = record { fetches = record { is = fetch_made s x n e both.0; by = refl }; own = own_pc.last; same_block = own_pc.is; misses = not-true _ more.1 };
+          reload = record {
+            fetches = record { is = fetch_made s x n e both.0; by = refl };
+            own = own_pc.last;
+            same_block = own_pc.is;
+            misses = not-true _ more.1;
+          };
           useful = useful;
           in_set = (M.all.sets.sets (node_of_job tg (job_after s n x)) node).all _ useful;
         }
@@ -120,4 +167,5 @@ pub entries_are_reloads : LedgerReloadsAreOwn
 entries_are_reloads s set graphs c n x is_hit R C T says h l counts k b =
     let M = is_met s set graphs R C T c x h says l is_hit counts in
     let both = and_parts (is_owner (candidate_at s n) x) _ b in
-    entry_is s set graphs R C T x h (certified_task c (job_task s x)) is_hit M n k (owns_true (candidate_at s n) x both.0) both.1
+    entry_is s set graphs R C T x h (certified_task c (job_task s x)) is_hit M n k
+    (owns_true (candidate_at s n) x both.0) both.1

@@ -1,5 +1,6 @@
 -- For steps 4 to 7: a kept run of a checked set, as one record, and what its jobs keep.
-use Rattle.std.proofs.Common.{◌≡◌, ℕ, zero, suc, ◌+◌, ◌-◌, ◌<◌, ◌≤◌, ◌≢◌, true, false, length, Some, refl, sym, ap, subst, arith}
+use Rattle.std.proofs.Common.{◌≡◌, ℕ, zero, suc, ◌+◌, ◌-◌, ◌<◌, ◌≤◌, ◌≢◌, true, false, length, Some}
+use Rattle.std.proofs.Common.{refl, sym, ap, subst, arith}
 use Rattle.std.proofs.lemmas.Bool.{true≢false}
 use Rattle.std.proofs.lemmas.List.{get_or_past}
 use Rattle.crpd_base.specs.declared.data.Platform.{Platform}
@@ -23,7 +24,8 @@ use Rattle.sound_laws.proofs.Windows.Busy.{task_at}
 use Rattle.run_account.proofs.JobWalks.{kept_before, opened}
 use Rattle.sound_laws.proofs.Walks.KeptWalks.{below_at, task_below}
 
--- a run of a set with its code, of which these are the graphs, after the judge's yes: it is kept up to the horizon
+-- a run of a set with its code, of which these are the graphs, after the judge's yes: it is kept up
+-- to the horizon
 pub record CheckedRun : Type 0 where
   pub start : Start
   pub set : TaskSet
@@ -37,12 +39,36 @@ pub record CheckedRun : Type 0 where
   pub kept : IsKept (state start horizon)
 
 -- the record of these parts
-abbrev pub checked_run : (s : Start) (set : TaskSet) (graphs : ℕ → TaskGraph) (c : Certificate) (n : ℕ) → HasTaskRanges set → IsCodeOf s.system set graphs → IsYes set graphs c → RunsJobsOf set s → IsKept (state s n) → CheckedRun
+abbrev pub checked_run : (s : Start) (set : TaskSet) (graphs : ℕ → TaskGraph) (c : Certificate)
+    (n : ℕ) → HasTaskRanges set → IsCodeOf s.system set graphs → IsYes set graphs c
+    → RunsJobsOf set s → IsKept (state s n) → CheckedRun
 checked_run s set graphs c n R C says run kept =
-    record { start = s; set = set; graphs = graphs; certificate = c; horizon = n; in_range = R; code = C; says = says; run = run; kept = kept }
+    record {
+      start = s;
+      set = set;
+      graphs = graphs;
+      certificate = c;
+      horizon = n;
+      in_range = R;
+      code = C;
+      says = says;
+      run = run;
+      kept = kept;
+    }
 
 module _ (K : CheckedRun) where
-  open K use {start as s, set, graphs, certificate as c, horizon, in_range as R, code as C, says, run, kept}
+  open K use {
+    start as s,
+    set,
+    graphs,
+    certificate as c,
+    horizon,
+    in_range as R,
+    code as C,
+    says,
+    run,
+    kept,
+  }
 
   abbrev pub window : ℕ → ℕ
   window k = window_at c k
@@ -71,24 +97,33 @@ module _ (K : CheckedRun) where
   pub is_below : (n x : ℕ) → candidate_at s n ≡ Some x → x < length s.lines
   is_below n x e = below_at s set graphs R C run.tasks n x e
 
-  pub kept_down : (d n x : ℕ) → is_unbroken (job_after s (n + d) x).watch ≡ true → is_unbroken (job_after s n x).watch ≡ true
-  kept_down zero n x k = let e : n + 0 ≡ n = omega arith in subst (λ m. is_unbroken (job_after s m x).watch ≡ true) e k
+  pub kept_down : (d n x : ℕ) → is_unbroken (job_after s (n + d) x).watch ≡ true
+      → is_unbroken (job_after s n x).watch ≡ true
+  kept_down zero n x k =
+      let e : n + 0 ≡ n = omega arith in subst (λ m. is_unbroken (job_after s m x).watch ≡ true) e k
   kept_down (suc d) n x k =
       let e : n + suc d ≡ suc (n + d) = omega arith in
-      kept_down d n x (kept_before s graphs (n + d) x (subst (λ m. is_unbroken (job_after s m x).watch ≡ true) e k))
+      kept_down d n x
+      (kept_before s graphs (n + d) x (subst (λ m. is_unbroken (job_after s m x).watch ≡ true) e k))
 
-  pub kept_at : (n x : ℕ) → n ≤ horizon → x < length s.lines → is_unbroken (job_after s n x).watch ≡ true
+  pub kept_at : (n x : ℕ) → n ≤ horizon → x < length s.lines
+      → is_unbroken (job_after s n x).watch ≡ true
   kept_at n x l h =
       let e : n + (horizon - n) ≡ horizon = omega arith in
-      kept_down (horizon - n) n x (subst (λ m. is_unbroken (job_after s m x).watch ≡ true) (sym e) (kept x no_job (omega (arith, jobs_length s horizon, h))))
+      kept_down (horizon - n) n x
+      (subst (λ m. is_unbroken (job_after s m x).watch ≡ true) (sym e)
+      (kept x no_job (omega (arith, jobs_length s horizon, h))))
 
   pub past_over : (n x : ℕ) → length s.lines ≤ x → is_open (job_after s n x).standing ≡ false
-  past_over n x g = ap (λ (j : Job). is_open j.standing) (get_or_past (state s n).jobs x no_job (omega (arith, jobs_length s n)))
+  past_over n x g =
+      ap (λ (j : Job). is_open j.standing)
+      (get_or_past (state s n).jobs x no_job (omega (arith, jobs_length s n)))
 
   pub sets_same : s.system.platform.sets ≡ set.platform.sets
   sets_same = ap (λ (p : Platform). p.sets) C.platform
 
-  pub answered_in_time : (m d x : ℕ) (st : Standing) → (job_after s m x).standing ≡ st → is_open st ≡ false → st ≢ Faulted → m ≤ d → IsAnsweredBy d st
+  pub answered_in_time : (m d x : ℕ) (st : Standing) → (job_after s m x).standing ≡ st
+      → is_open st ≡ false → st ≢ Faulted → m ≤ d → IsAnsweredBy d st
   answered_in_time m d x Open e o f l = absurd (true≢false o)
   answered_in_time m d x (Answered a) e o f l = let b = answered_by s m x a e in omega (arith, b)
   answered_in_time m d x Faulted e o f l = absurd (f refl)

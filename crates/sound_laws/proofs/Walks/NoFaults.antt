@@ -15,11 +15,18 @@ use Rattle.sound_laws.specs.Walks.{HasTaskRanges, IsCodeOf}
 use Rattle.run_account.proofs.JobWalks.{kept_before}
 use Rattle.sound_laws.proofs.Walks.KeptWalks.{walking, turn_walks}
 
-pub no_fault : (s : Start) (set : TaskSet) (graphs : ℕ → TaskGraph) → HasTaskRanges set → IsCodeOf s.system set graphs → NamesTasks set s.lines → (n x : ℕ) → x < length s.lines → is_unbroken (job_after s n x).watch ≡ true → (job_after s n x).standing ≢ Faulted
-no_fault s set graphs R C T zero x h k = let st = ap (λ (j : Job). j.standing) (new_at s x h) in λ q. cc
+pub no_fault : (s : Start) (set : TaskSet) (graphs : ℕ → TaskGraph) → HasTaskRanges set
+    → IsCodeOf s.system set graphs → NamesTasks set s.lines → (n x : ℕ) → x < length s.lines
+    → is_unbroken (job_after s n x).watch ≡ true → (job_after s n x).standing ≢ Faulted
+no_fault s set graphs R C T zero x h k =
+    let st = ap (λ (j : Job). j.standing) (new_at s x h) in λ q. cc
 no_fault s set graphs R C T (suc n) x h k =
     let kn = kept_before s graphs n x k in
     elim (same_or_not (candidate_at s n) (Some x)) [
-      | inl e ↦ subst (λ (j : Job). j.standing ≢ Faulted) (sym (step_own s.system (state s n) x e)) (turn_walks s set graphs R C T n x e (walking s set graphs R C T n x h kn)).no_fault
-      | inr ne ↦ subst (λ (j : Job). j.standing ≢ Faulted) (sym (step_other s.system (state s n) x ne)) (no_fault s set graphs R C T n x h kn)
+      | inl e ↦
+          subst (λ (j : Job). j.standing ≢ Faulted) (sym (step_own s.system (state s n) x e))
+          (turn_walks s set graphs R C T n x e (walking s set graphs R C T n x h kn)).no_fault
+      | inr ne ↦
+          subst (λ (j : Job). j.standing ≢ Faulted) (sym (step_other s.system (state s n) x ne))
+          (no_fault s set graphs R C T n x h kn)
     ]

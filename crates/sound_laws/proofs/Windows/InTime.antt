@@ -1,5 +1,7 @@
--- Step 7: each job of a legal and checked run is over at the end of its window, and answered at its response.
-use Rattle.std.proofs.Common.{◌≡◌, ℕ, ◌+◌, ◌-◌, ◌*◌, ◌<◌, ◌≤◌, true, false, length, Some, refl, sym, ◌∙◌, ap, subst, inl, inr, arith}
+-- Step 7: each job of a legal and checked run is over at the end of its window, and answered at its
+-- response.
+use Rattle.std.proofs.Common.{◌≡◌, ℕ, ◌+◌, ◌-◌, ◌*◌, ◌<◌, ◌≤◌, true, false, length, Some, refl, sym}
+use Rattle.std.proofs.Common.{◌∙◌, ap, subst, inl, inr, arith}
 use Rattle.std.proofs.lemmas.Bool.{cases_Bool, cases_lt, false≢true, lt-ltb}
 use Rattle.crpd_base.proofs.Sums.{sum_add}
 use Rattle.crpd_base.specs.declared.data.Platform.{Platform}
@@ -23,62 +25,99 @@ use Rattle.sound_laws.proofs.Windows.Busy.{line_at, task_at, IsLastQuiet, is_bus
 use Rattle.sound_laws.proofs.Windows.Demands.{in_time_at, base_demand}
 use Rattle.sound_laws.proofs.Windows.Responses.{HasShortFront, HasWindows, over_in_window}
 use Rattle.delay_count.proofs.Greatest.{greatest_ge}
-use Rattle.sound_laws.proofs.Windows.Fronts.{middle, middle_left, middle_over, cycle_front, instruction_front}
+use Rattle.sound_laws.proofs.Windows.Fronts.{middle, middle_left, middle_over, cycle_front}
+use Rattle.sound_laws.proofs.Windows.Fronts.{instruction_front}
 use Rattle.sound_laws.proofs.Execution.Executed.{short_at}
 use Rattle.sound_laws.proofs.Walks.NoFaults.{no_fault}
-use Rattle.sound_laws.proofs.Walks.CheckedRuns.{CheckedRun, window, parts, longest, bound_of, below_tasks, kept_at, answered_in_time}
+use Rattle.sound_laws.proofs.Walks.CheckedRuns.{CheckedRun, window, parts, longest, bound_of}
+use Rattle.sound_laws.proofs.Walks.CheckedRuns.{below_tasks, kept_at, answered_in_time}
 use Rattle.sound_laws.proofs.Reloads.Entries.{counted_at, met, extra}
 use Rattle.sound_laws.proofs.Execution.Spent.{rest, rest_spends, fresh}
 use Rattle.sound_laws.proofs.Delays.WindowEntries.{legal_run}
 use Rattle.sound_laws.proofs.Windows.Delayed.{delay, delayed}
 
 module _ (K : CheckedRun) where
-  open K use {start as s, set, graphs, certificate as c, horizon, in_range as R, code as C, says, run, kept}
+  open K use {
+    start as s,
+    set,
+    graphs,
+    certificate as c,
+    horizon,
+    in_range as R,
+    code as C,
+    says,
+    run,
+    kept,
+  }
 
   module _ (legal : IsLegal set s.lines) where
     abbrev pub block : ℕ → ℕ
     block k = blocking s.system.platform.switching (longest K) k (length set.tasks)
 
-    pub owner_short : (x t : ℕ) → x < length s.lines → t ≤ horizon → IsLastQuiet s x (line_at s x).release t → (o : ℕ) → (state s t).owner ≡ Some o → middle (job_after s t o) ≤ greatest_from (λ k. longest K k - 1) (task_at s x) (length set.tasks)
+    pub owner_short : (x t : ℕ) → x < length s.lines → t ≤ horizon
+        → IsLastQuiet s x (line_at s x).release t → (o : ℕ) → (state s t).owner ≡ Some o
+        → middle (job_after s t o)
+        ≤ greatest_from (λ k. longest K k - 1) (task_at s x) (length set.tasks)
     owner_short x t h early last o own =
         elim (cases_Bool (is_open (job_after s t o).standing)) [
           | inr over ↦ let z = middle_over (job_after s t o) over in omega (arith, z)
           | inl open_o ↦
               let was = owner_was s t o own in
               let below = was_below s t o was in
-              let short = short_at s set graphs R C run.tasks (certified_task c (job_task s o)) o below (counted_at K o) (met K o below) t (kept_at K t o early below) open_o in
-              let same : longest_of s.system.platform (graphs (job_task s o)) ≡ longest_of set.platform (graphs (job_task s o)) = ap (λ p. longest_of p (graphs (job_task s o))) C.platform in
+              let short = short_at s set graphs R C run.tasks (certified_task c (job_task s o)) o
+              below (counted_at K o) (met K o below) t (kept_at K t o early below) open_o in
+              let same : longest_of s.system.platform (graphs (job_task s o))
+              ≡ longest_of set.platform (graphs (job_task s o)) =
+              ap (λ p. longest_of p (graphs (job_task s o))) C.platform in
               let is = middle_left (job_after s t o) open_o in
               let not_higher : task_at s x ≤ task_at s o =
               elim (cases_lt (task_at s o) (task_at s x)) [
                 | inl up ↦
-                    let busy : is_busy_by s x t o ≡ true = rw (lt-ltb _ _ up, lt-ltb _ _ (was_released s t o was)) open_o in
-                    absurd (false≢true (sym (busy_none s x t (length s.lines) o last.quiet below) ∙ busy))
+                    let busy : is_busy_by s x t o ≡ true =
+                    rw (lt-ltb _ _ up, lt-ltb _ _ (was_released s t o was)) open_o in
+                    absurd (false≢true (sym (busy_none s x t (length s.lines) o last.quiet below)
+                    ∙ busy))
                 | inr g ↦ g
               ] in
-              let most = greatest_ge (λ k. longest K k - 1) (task_at s x) (length set.tasks) (task_at s o) not_higher (below_tasks K o below) in
+              let most = greatest_ge (λ k. longest K k - 1) (task_at s x) (length set.tasks)
+              (task_at s o) not_higher (below_tasks K o below) in
               omega (arith, short, same, is, most)
         ]
 
-    pub front_by : (mode : Switching) → s.system.platform.switching ≡ mode → (x t : ℕ) → x < length s.lines → t ≤ horizon → IsLastQuiet s x (line_at s x).release t → HasShortFront s x t (blocking mode (longest K) (task_at s x) (length set.tasks))
+    pub front_by : (mode : Switching) → s.system.platform.switching ≡ mode → (x t : ℕ)
+        → x < length s.lines → t ≤ horizon → IsLastQuiet s x (line_at s x).release t
+        → HasShortFront s x t (blocking mode (longest K) (task_at s x) (length set.tasks))
     front_by Cycle e x t h early last = cycle_front s x t 0 e
-    front_by Instruction e x t h early last = instruction_front s e x t (greatest_from (λ k. longest K k - 1) (task_at s x) (length set.tasks)) (owner_short x t h early last)
+    front_by Instruction e x t h early last =
+        instruction_front s e x t
+        (greatest_from (λ k. longest K k - 1) (task_at s x) (length set.tasks))
+        (owner_short x t h early last)
 
-    pub room_at : (k : ℕ) → k < length set.tasks → block k + base_demand set s.system.platform.switch (bound_of K) k (window K k) + delay K legal k ≤ window K k
+    pub room_at : (k : ℕ) → k < length set.tasks
+        → block k + base_demand set s.system.platform.switch (bound_of K) k (window K k)
+        + delay K legal k ≤ window K k
     room_at k h =
         let r = (says k Window h).1 in
-        let split = sum_add (λ j. jobs_of set j (window K k) * (bound_of K j + (set.platform.switch + set.platform.switch))) (gamma set (parts K) (window K) (window K k) (certified_task c k).method k) k in
-        let by_set : blocking set.platform.switching (longest K) k (length set.tasks) + base_demand set set.platform.switch (bound_of K) k (window K k) + delay K legal k ≤ window K k = omega (arith, r, split) in
-        subst (λ (p : Platform). blocking p.switching (longest K) k (length set.tasks) + base_demand set p.switch (bound_of K) k (window K k) + delay K legal k ≤ window K k) (sym C.platform) by_set
+        let split = sum_add (λ j.
+        jobs_of set j (window K k) * (bound_of K j + (set.platform.switch + set.platform.switch)))
+        (gamma set (parts K) (window K) (window K k) (certified_task c k).method k) k in
+        let by_set : blocking set.platform.switching (longest K) k (length set.tasks)
+        + base_demand set set.platform.switch (bound_of K) k (window K k) + delay K legal k
+        ≤ window K k = omega (arith, r, split) in
+        subst (λ (p : Platform).
+        blocking p.switching (longest K) k (length set.tasks) + base_demand set p.switch
+        (bound_of K) k (window K k) + delay K legal k ≤ window K k) (sym C.platform) by_set
 
-    pub response_at : (k : ℕ) → k < length set.tasks → window K k + jitter_of set k ≤ period_of set k
+    pub response_at : (k : ℕ) → k < length set.tasks
+        → window K k + jitter_of set k ≤ period_of set k
     response_at k h =
         let r = says k Response h in
         let d = says k Deadline h in
         let p = R.deadlines k h in
         omega (arith, r, d, p)
 
-    pub windows : HasWindows s set (rest K) (extra K) (bound_of K) (window K) block (delay K legal) horizon
+    pub windows : HasWindows s set (rest K) (extra K) (bound_of K) (window K) block
+        (delay K legal) horizon
     windows =
         record {
           fronts = front_by s.system.platform.switching refl;
@@ -86,19 +125,38 @@ module _ (K : CheckedRun) where
           room = room_at;
           response = response_at;
           periods = R.periods;
-          delays = λ x t from h q a b e covers higher o. delayed K legal x t from h a b e covers higher o;
+          delays = λ x t from h q a b e covers higher o.
+              delayed K legal x t from h a b e covers higher o;
         }
 
-    pub sure_over : (x : ℕ) → x < length s.lines → (line_at s x).release + window K (task_at s x) ≤ horizon → is_open (job_after s ((line_at s x).release + window K (task_at s x)) x).standing ≡ false
-    sure_over x h l = over_in_window s set (legal_run K legal) (rest K) (extra K) (bound_of K) (window K) block (delay K legal) horizon (rest_spends K) windows x h l
+    pub sure_over : (x : ℕ) → x < length s.lines
+        → (line_at s x).release + window K (task_at s x) ≤ horizon
+        → is_open (job_after s ((line_at s x).release + window K (task_at s x)) x).standing ≡ false
+    sure_over x h l =
+        over_in_window s set (legal_run K legal) (rest K) (extra K) (bound_of K) (window K) block
+        (delay K legal) horizon (rest_spends K) windows x h l
 
-    pub sure_not_late : (x : ℕ) → x < length s.lines → (line_at s x).arrival + (window K (task_at s x) + jitter_of set (task_at s x)) ≤ horizon → IsAnsweredBy ((line_at s x).arrival + (window K (task_at s x) + jitter_of set (task_at s x))) (job_after s horizon x).standing
+    pub sure_not_late : (x : ℕ) → x < length s.lines
+        → (line_at s x).arrival + (window K (task_at s x) + jitter_of set (task_at s x)) ≤ horizon
+        → IsAnsweredBy
+        ((line_at s x).arrival + (window K (task_at s x) + jitter_of set (task_at s x)))
+        (job_after s horizon x).standing
     sure_not_late x h late =
         let times = in_time_at s set (legal_run K legal) x h in
-        let by : (line_at s x).release + window K (task_at s x) ≤ (line_at s x).arrival + (window K (task_at s x) + jitter_of set (task_at s x)) = omega (arith, times.1) in
-        let early : (line_at s x).release + window K (task_at s x) ≤ horizon = omega (arith, by, late) in
+        let by : (line_at s x).release + window K (task_at s x)
+        ≤ (line_at s x).arrival + (window K (task_at s x) + jitter_of set (task_at s x)) =
+        omega (arith, times.1) in
+        let early : (line_at s x).release + window K (task_at s x) ≤ horizon =
+        omega (arith, by, late) in
         let over = sure_over x h early in
-        let same : (job_after s horizon x).standing ≡ (job_after s ((line_at s x).release + window K (task_at s x)) x).standing =
-        ap (λ (j : Job). j.standing) (over_stays s x ((line_at s x).release + window K (task_at s x)) horizon early over) in
-        subst (λ st. IsAnsweredBy ((line_at s x).arrival + (window K (task_at s x) + jitter_of set (task_at s x))) st) (sym same)
-        (answered_in_time K ((line_at s x).release + window K (task_at s x)) _ x (job_after s ((line_at s x).release + window K (task_at s x)) x).standing refl over (no_fault s set graphs R C run.tasks ((line_at s x).release + window K (task_at s x)) x h (kept_at K ((line_at s x).release + window K (task_at s x)) x early h)) by)
+        let same : (job_after s horizon x).standing
+        ≡ (job_after s ((line_at s x).release + window K (task_at s x)) x).standing =
+        ap (λ (j : Job). j.standing)
+        (over_stays s x ((line_at s x).release + window K (task_at s x)) horizon early over) in
+        subst (λ st. IsAnsweredBy
+        ((line_at s x).arrival + (window K (task_at s x) + jitter_of set (task_at s x))) st)
+        (sym same)
+        (answered_in_time K ((line_at s x).release + window K (task_at s x)) _ x
+        (job_after s ((line_at s x).release + window K (task_at s x)) x).standing refl over
+        (no_fault s set graphs R C run.tasks ((line_at s x).release + window K (task_at s x)) x h
+        (kept_at K ((line_at s x).release + window K (task_at s x)) x early h)) by)

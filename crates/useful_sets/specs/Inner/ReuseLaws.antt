@@ -8,10 +8,12 @@ or_self : (b : Bool) → b ≡ (b || b)
 or_self true = refl
 or_self false = refl
 
-either_way : (t b x y : Bool) → (if t then b else x || y) ≡ ((if t then b else x) || (if t then b else y))
+either_way : (t b x y : Bool)
+    → (if t then b else x || y) ≡ ((if t then b else x) || (if t then b else y))
 either_way true b x y = or_self b
 either_way false b x y = refl
 
 pub before_distributes : (a : Accesses) (is_hit : ℕ → Bool) (n : ℕ) (x y : Marks)
-    → before_access a is_hit n (either_marks x y) ≡ either_marks (before_access a is_hit n x) (before_access a is_hit n y)
+    → before_access a is_hit n (either_marks x y)
+    ≡ either_marks (before_access a is_hit n x) (before_access a is_hit n y)
 before_distributes a is_hit n x y i s = either_way (a.set n == s) (is_hit n) (x s) (y s) i

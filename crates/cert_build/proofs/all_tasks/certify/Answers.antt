@@ -10,29 +10,45 @@ use Rattle.cert_build.proofs.all_tasks.certify.Goals as goal
 
 pub returns-clause-exact : goal.returns-clause-exact
 returns-clause-exact c =
-    is_best c.args.set.now (task_graph_at c.args.graphs.now c.args.nests.now) c.in_ok-analyses.analyses.items c.in_ok-certificate.certificate c.in_ok-analyses.ensures (c.in_ok-certificate.ensures c.args.nests.now)
+    is_best c.args.set.now (task_graph_at c.args.graphs.now c.args.nests.now)
+    c.in_ok-analyses.analyses.items c.in_ok-certificate.certificate c.in_ok-analyses.ensures
+    (c.in_ok-certificate.ensures c.args.nests.now)
 
 pub returns-clause-few : goal.returns-clause-few
 returns-clause-few c =
-    few_entries c.args.set.now (task_graph_at c.args.graphs.now c.args.nests.now) c.in_ok-analyses.analyses.items c.in_ok-certificate.certificate c.in_ok-analyses.ensures (c.in_ok-certificate.ensures c.args.nests.now)
+    few_entries c.args.set.now (task_graph_at c.args.graphs.now c.args.nests.now)
+    c.in_ok-analyses.analyses.items c.in_ok-certificate.certificate c.in_ok-analyses.ensures
+    (c.in_ok-certificate.ensures c.args.nests.now)
 
 pub returns-clause-ranges : goal.returns-clause-ranges
 returns-clause-ranges c =
-    best_in_ranges c.args.set.now (task_graph_at c.args.graphs.now c.args.nests.now) c.in_ok-analyses.analyses.items c.in_ok-certificate.certificate c.in_ok-analyses.ensures (c.in_ok-certificate.ensures c.args.nests.now) c.requires.set
+    best_in_ranges c.args.set.now (task_graph_at c.args.graphs.now c.args.nests.now)
+    c.in_ok-analyses.analyses.items c.in_ok-certificate.certificate c.in_ok-analyses.ensures
+    (c.in_ok-certificate.ensures c.args.nests.now) c.requires.set
 
 pub returns-clause-judged : goal.returns-clause-judged
 returns-clause-judged c =
-    best_is_judged c.args.set.now (task_graph_at c.args.graphs.now c.args.nests.now) c.in_ok-certificate.certificate (λ k l. c.graphs_law.ensures k no_graph (omega (arith, l, c.requires.tasks.all_graphs)))
-    (is_best c.args.set.now (task_graph_at c.args.graphs.now c.args.nests.now) c.in_ok-analyses.analyses.items c.in_ok-certificate.certificate c.in_ok-analyses.ensures (c.in_ok-certificate.ensures c.args.nests.now))
+    best_is_judged c.args.set.now (task_graph_at c.args.graphs.now c.args.nests.now)
+    c.in_ok-certificate.certificate
+    (λ k l. c.graphs_law.ensures k no_graph (omega (arith, l, c.requires.tasks.all_graphs)))
+    (is_best c.args.set.now (task_graph_at c.args.graphs.now c.args.nests.now)
+    c.in_ok-analyses.analyses.items c.in_ok-certificate.certificate c.in_ok-analyses.ensures
+    (c.in_ok-certificate.ensures c.args.nests.now))
 
 pub returns-clause-one : goal.returns-clause-one
 returns-clause-one c d D =
-    one_best c.args.set.now (task_graph_at c.args.graphs.now c.args.nests.now) d c.in_ok-certificate.certificate (has_times c.args.set.now c.requires.set) D
-    (is_best c.args.set.now (task_graph_at c.args.graphs.now c.args.nests.now) c.in_ok-analyses.analyses.items c.in_ok-certificate.certificate c.in_ok-analyses.ensures (c.in_ok-certificate.ensures c.args.nests.now))
+    one_best c.args.set.now (task_graph_at c.args.graphs.now c.args.nests.now) d
+    c.in_ok-certificate.certificate (has_times c.args.set.now c.requires.set) D
+    (is_best c.args.set.now (task_graph_at c.args.graphs.now c.args.nests.now)
+    c.in_ok-analyses.analyses.items c.in_ok-certificate.certificate c.in_ok-analyses.ensures
+    (c.in_ok-certificate.ensures c.args.nests.now))
 
 pub returns-in_err-certificate-clause-exact : goal.returns-in_err-certificate-clause-exact
 returns-in_err-certificate-clause-exact c =
-    let p = err_from_is_err_and c.from_residual-in_err-certificate.result c.from_residual-in_err-certificate.ensures.1 in
+    let p = err_from_is_err_and c.from_residual-in_err-certificate.result
+    c.from_residual-in_err-certificate.ensures.1 in
     rw p.1
-    (not_scheduled c.args.set.now (task_graph_at c.args.graphs.now c.args.nests.now) c.in_ok-analyses.analyses.items (has_times c.args.set.now c.requires.set) c.in_ok-analyses.ensures
+    (not_scheduled c.args.set.now (task_graph_at c.args.graphs.now c.args.nests.now)
+    c.in_ok-analyses.analyses.items (has_times c.args.set.now c.requires.set)
+    c.in_ok-analyses.ensures
     c.in_err-certificate.field-0.0 p.0 (c.in_err-certificate.ensures c.args.nests.now) p.2)

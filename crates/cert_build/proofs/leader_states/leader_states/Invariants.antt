@@ -5,4 +5,6 @@ use Rattle.cert_build.specs.Inner.Entries.{AreLeaderEntries}
 use Rattle.cert_build.proofs.leader_states.leader_states.Given as goal
 
 abbrev pub invariant-loop-node : goal.invariant-loop-node
-invariant-loop-node l = AreLeaderEntries (graph_of l.graph) (accesses l.geometry.platform (places_of l.graph).address) l.node l.states.items
+invariant-loop-node l =
+    AreLeaderEntries (graph_of l.graph) (accesses l.geometry.platform (places_of l.graph).address)
+    l.node l.states.items

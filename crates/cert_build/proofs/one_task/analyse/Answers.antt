@@ -14,46 +14,84 @@ use Rattle.cert_build.proofs.one_task.analyse.Goals as goal
 
 pub bound_by_hits-requires-clause-hits : goal.bound_by_hits-requires-clause-hits
 bound_by_hits-requires-clause-hits c =
-    subst (λ (l : List Bool). CountsSureHits (graph_of c.args.graph.now) (accesses c.args.platform.now (places_of c.args.graph.now).address) (counted l)) (sym c.deref.ensures.value)
-    (subst (λ (p : Platform). CountsSureHits (graph_of c.args.graph.now) (accesses p (places_of c.args.graph.now).address) (counted c.in-Ok.parts.hits.items)) c.new-geometry.ensures c.in-Ok.ensures.hit)
+    subst (λ (l : List Bool).
+    CountsSureHits (graph_of c.args.graph.now)
+    (accesses c.args.platform.now (places_of c.args.graph.now).address) (counted l))
+    (sym c.deref.ensures.value)
+    (subst (λ (p : Platform).
+    CountsSureHits (graph_of c.args.graph.now) (accesses p (places_of c.args.graph.now).address)
+    (counted c.in-Ok.parts.hits.items)) c.new-geometry.ensures c.in-Ok.ensures.hit)
 
 pub returns-clause-exact : goal.returns-clause-exact
 returns-clause-exact c =
     let g = graph_of c.args.graph.now in
     let address = (places_of c.args.graph.now).address in
-    let hits : CountsSureHits g (accesses c.args.platform.now address) (counted c.in-Ok.parts.hits.items) =
-    subst (λ (p : Platform). CountsSureHits g (accesses p address) (counted c.in-Ok.parts.hits.items)) c.new-geometry.ensures c.in-Ok.ensures.hit in
+    let hits : CountsSureHits g (accesses c.args.platform.now address)
+    (counted c.in-Ok.parts.hits.items) =
+    subst (λ (p : Platform).
+    CountsSureHits g (accesses p address) (counted c.in-Ok.parts.hits.items)) c.new-geometry.ensures
+    c.in-Ok.ensures.hit in
     let entries : AreLeaderEntries g (accesses c.args.platform.now address) g.size c.new.result =
-    subst (λ (l : List NodeState). AreLeaderEntries g (accesses c.args.platform.now address) g.size l) (sym c.new.ensures)
-    (subst (λ (p : Platform). AreLeaderEntries g (accesses p address) g.size c.in_ok-states.states.items) c.new-geometry.ensures c.in_ok-states.ensures) in
-    let evicts : (s : ℕ) → IsTrue (has c.evicting-evicting.result s) ↔ IsEcb g (accesses c.args.platform.now address) s =
-    subst (λ (p : Platform). (s : ℕ) → IsTrue (has c.evicting-evicting.result s) ↔ IsEcb g (accesses p address) s) c.new-geometry.ensures c.evicting-evicting.ensures in
-    let uses : (s : ℕ) → IsTrue (has c.useful_of_hits-useful.result s) ↔ IsUcb g (accesses c.args.platform.now address) s =
-    subst (λ (p : Platform). (s : ℕ) → IsTrue (has c.useful_of_hits-useful.result s) ↔ IsUcb g (accesses p address) s) c.new-geometry.ensures c.useful_of_hits-useful.ensures in
-    analysed c.args.platform.now c.args.graph.now c.args.nest.now c.in-Ok.parts.hits.items _ hits entries evicts c.words_law.ensures uses c.words_law-2.ensures
+    subst (λ (l : List NodeState).
+    AreLeaderEntries g (accesses c.args.platform.now address) g.size l) (sym c.new.ensures)
+    (subst (λ (p : Platform).
+    AreLeaderEntries g (accesses p address) g.size c.in_ok-states.states.items)
+    c.new-geometry.ensures c.in_ok-states.ensures) in
+    let evicts : (s : ℕ) → IsTrue (has c.evicting-evicting.result s)
+    ↔ IsEcb g (accesses c.args.platform.now address) s =
+    subst (λ (p : Platform). (s : ℕ)
+    → IsTrue (has c.evicting-evicting.result s) ↔ IsEcb g (accesses p address) s)
+    c.new-geometry.ensures c.evicting-evicting.ensures in
+    let uses : (s : ℕ) → IsTrue (has c.useful_of_hits-useful.result s)
+    ↔ IsUcb g (accesses c.args.platform.now address) s =
+    subst (λ (p : Platform). (s : ℕ)
+    → IsTrue (has c.useful_of_hits-useful.result s) ↔ IsUcb g (accesses p address) s)
+    c.new-geometry.ensures c.useful_of_hits-useful.ensures in
+    analysed c.args.platform.now c.args.graph.now c.args.nest.now c.in-Ok.parts.hits.items _ hits
+    entries evicts c.words_law.ensures uses c.words_law-2.ensures
     (c.in_ok-cycles.ensures.least (counted c.in-Ok.parts.hits.items) hits)
 
 pub returns-in_err-cycles-clause-exact : goal.returns-in_err-cycles-clause-exact
 returns-in_err-cycles-clause-exact c =
     let g = graph_of c.args.graph.now in
     let address = (places_of c.args.graph.now).address in
-    let hits : CountsSureHits g (accesses c.args.platform.now address) (counted c.in-Ok.parts.hits.items) =
-    subst (λ (p : Platform). CountsSureHits g (accesses p address) (counted c.in-Ok.parts.hits.items)) c.new-geometry.ensures c.in-Ok.ensures.hit in
+    let hits : CountsSureHits g (accesses c.args.platform.now address)
+    (counted c.in-Ok.parts.hits.items) =
+    subst (λ (p : Platform).
+    CountsSureHits g (accesses p address) (counted c.in-Ok.parts.hits.items)) c.new-geometry.ensures
+    c.in-Ok.ensures.hit in
     let p = err_from_is_err_and c.from_residual.result c.from_residual.ensures.1 in
     rw (p.1, p.2)
-    (refused c.args.platform.now c.args.graph.now c.args.nest.now c.in-Ok.parts.hits.items c.in_err-cycles.field-0.0 hits
+    (refused c.args.platform.now c.args.graph.now c.args.nest.now c.in-Ok.parts.hits.items
+    c.in_err-cycles.field-0.0 hits
     (c.in_err-cycles.ensures.least (counted c.in-Ok.parts.hits.items) hits))
 
 pub returns-clause-ranges : goal.returns-clause-ranges
 returns-clause-ranges c =
     let g = graph_of c.args.graph.now in
     let address = (places_of c.args.graph.now).address in
-    let hits : CountsSureHits g (accesses c.args.platform.now address) (counted c.in-Ok.parts.hits.items) =
-    subst (λ (p : Platform). CountsSureHits g (accesses p address) (counted c.in-Ok.parts.hits.items)) c.new-geometry.ensures c.in-Ok.ensures.hit in
+    let hits : CountsSureHits g (accesses c.args.platform.now address)
+    (counted c.in-Ok.parts.hits.items) =
+    subst (λ (p : Platform).
+    CountsSureHits g (accesses p address) (counted c.in-Ok.parts.hits.items)) c.new-geometry.ensures
+    c.in-Ok.ensures.hit in
     let entries : AreLeaderEntries g (accesses c.args.platform.now address) g.size c.new.result =
-    subst (λ (l : List NodeState). AreLeaderEntries g (accesses c.args.platform.now address) g.size l) (sym c.new.ensures)
-    (subst (λ (p : Platform). AreLeaderEntries g (accesses p address) g.size c.in_ok-states.states.items) c.new-geometry.ensures c.in_ok-states.ensures) in
-    ranges c.args.platform.now c.args.graph.now c.args.nest.now c.in-Ok.parts.hits.items c.graph_law.ensures.few c.size_law.ensures
-    (record { part = record { bound = c.in_ok-cycles.field-0.cycles; evicting = c.evicting-evicting.result; useful = c.useful_of_hits-useful.result }; states = c.new.result; potentials = c.in_ok-cycles.field-0.nodes; loops = c.in_ok-cycles.field-0.loops })
+    subst (λ (l : List NodeState).
+    AreLeaderEntries g (accesses c.args.platform.now address) g.size l) (sym c.new.ensures)
+    (subst (λ (p : Platform).
+    AreLeaderEntries g (accesses p address) g.size c.in_ok-states.states.items)
+    c.new-geometry.ensures c.in_ok-states.ensures) in
+    ranges c.args.platform.now c.args.graph.now c.args.nest.now c.in-Ok.parts.hits.items
+    c.graph_law.ensures.few c.size_law.ensures
+    (record {
+      part = record {
+        bound = c.in_ok-cycles.field-0.cycles;
+        evicting = c.evicting-evicting.result;
+        useful = c.useful_of_hits-useful.result;
+      };
+      states = c.new.result;
+      potentials = c.in_ok-cycles.field-0.nodes;
+      loops = c.in_ok-cycles.field-0.loops;
+    })
     entries
     (c.in_ok-cycles.ensures.least (counted c.in-Ok.parts.hits.items) hits)

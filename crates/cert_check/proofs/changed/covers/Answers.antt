@@ -2,4 +2,6 @@ use Rattle.cert_check.proofs.Without.{covered}
 use Rattle.cert_check.proofs.changed.covers.Goals as goal
 
 pub returns : goal.returns
-returns c = covered c.args.sets.now c.args.others.now c.first_missing.result c.is_none.result c.within_law.ensures c.first_missing.ensures c.is_none.ensures
+returns c =
+    covered c.args.sets.now c.args.others.now c.first_missing.result c.is_none.result
+    c.within_law.ensures c.first_missing.ensures c.is_none.ensures

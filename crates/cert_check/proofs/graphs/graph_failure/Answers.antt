@@ -1,5 +1,6 @@
 use Rattle.std.proofs.Common.{length, Ok, Err, arith}
-use Rattle.cert_check.specs.declared.outcome.Clause.TheVariants.{Leaders, NodePotentials, LoopPotentials}
+use Rattle.cert_check.specs.declared.outcome.Clause.TheVariants.{Leaders, NodePotentials}
+use Rattle.cert_check.specs.declared.outcome.Clause.TheVariants.{LoopPotentials}
 use Rattle.cert_check.specs.TaskGraphs.{task_graph}
 use Rattle.cert_check.specs.Verdict.{GraphHolds}
 use Rattle.cert_check.proofs.Found.{found_first, then_found, handed_on}
@@ -8,14 +9,21 @@ use Rattle.cert_check.proofs.graphs.graph_failure.Goals as goal
 
 pub returns-in_err-list_failure : goal.returns-in_err-list_failure
 returns-in_err-list_failure c =
-    handed_on (GraphHolds c.args.platform.now (task_graph c.args.graph.now c.args.nest.now) c.args.part.now) 2 7 c.from_residual.result c.in_err-list_failure.field-0.0 c.from_residual.ensures.1
-    (found_first (GraphHolds c.args.platform.now (task_graph c.args.graph.now c.args.nest.now) c.args.part.now) 2 2 7 c.in_err-list_failure.field-0.0 (omega arith) c.in_err-list_failure.ensures)
+    handed_on
+    (GraphHolds c.args.platform.now (task_graph c.args.graph.now c.args.nest.now) c.args.part.now) 2
+    7 c.from_residual.result c.in_err-list_failure.field-0.0 c.from_residual.ensures.1
+    (found_first
+    (GraphHolds c.args.platform.now (task_graph c.args.graph.now c.args.nest.now) c.args.part.now) 2
+    2 7 c.in_err-list_failure.field-0.0 (omega arith) c.in_err-list_failure.ensures)
 
 pub write_order-requires-clause-case : goal.write_order-requires-clause-case
 write_order-requires-clause-case c = record {
   platform = c.requires.platform;
   sets = c.requires.sets;
-  index = index_of c.as_slice.result.now c.args.part.now.states c.len-size.result (length c.args.graph.now.nodes) c.index.new.places c.as_slice.ensures c.len-size.ensures c.index.ensures;
+  index =
+      index_of c.as_slice.result.now c.args.part.now.states c.len-size.result
+      (length c.args.graph.now.nodes) c.index.new.places c.as_slice.ensures c.len-size.ensures
+      c.index.ensures;
   leaders = (c.in_ok-list_failure.ensures Leaders (omega arith) (omega arith)).1;
 }
 
@@ -23,7 +31,10 @@ pub state_failure-requires-clause-case : goal.state_failure-requires-clause-case
 state_failure-requires-clause-case c = record {
   platform = c.requires.platform;
   sets = c.requires.sets;
-  index = index_of c.as_slice.result.now c.args.part.now.states c.len-size.result (length c.args.graph.now.nodes) c.index.new.places c.as_slice.ensures c.len-size.ensures c.index.ensures;
+  index =
+      index_of c.as_slice.result.now c.args.part.now.states c.len-size.result
+      (length c.args.graph.now.nodes) c.index.new.places c.as_slice.ensures c.len-size.ensures
+      c.index.ensures;
   leaders = (c.in_ok-list_failure.ensures Leaders (omega arith) (omega arith)).1;
 }
 
@@ -31,15 +42,27 @@ pub write_hits-requires-clause-case : goal.write_hits-requires-clause-case
 write_hits-requires-clause-case c = record {
   platform = c.requires.platform;
   sets = c.requires.sets;
-  index = index_of c.as_slice.result.now c.args.part.now.states c.len-size.result (length c.args.graph.now.nodes) c.index.new.places c.as_slice.ensures c.len-size.ensures c.index.ensures;
+  index =
+      index_of c.as_slice.result.now c.args.part.now.states c.len-size.result
+      (length c.args.graph.now.nodes) c.index.new.places c.as_slice.ensures c.len-size.ensures
+      c.index.ensures;
   leaders = (c.in_ok-list_failure.ensures Leaders (omega arith) (omega arith)).1;
 }
 
 pub returns-in_err-state_failure : goal.returns-in_err-state_failure
 returns-in_err-state_failure c =
-    handed_on (GraphHolds c.args.platform.now (task_graph c.args.graph.now c.args.nest.now) c.args.part.now) 2 7 c.from_residual-in_err-state_failure.result c.in_err-state_failure.field-0.0 c.from_residual-in_err-state_failure.ensures.1
-    (then_found (GraphHolds c.args.platform.now (task_graph c.args.graph.now c.args.nest.now) c.args.part.now) 2 2 7 (Err c.in_err-state_failure.field-0.0) (omega arith) (omega arith) c.in_ok-list_failure.ensures
-    (found_first (GraphHolds c.args.platform.now (task_graph c.args.graph.now c.args.nest.now) c.args.part.now) 3 5 7 c.in_err-state_failure.field-0.0 (omega arith) (c.in_err-state_failure.ensures c.args.nest.now)))
+    handed_on
+    (GraphHolds c.args.platform.now (task_graph c.args.graph.now c.args.nest.now) c.args.part.now) 2
+    7 c.from_residual-in_err-state_failure.result c.in_err-state_failure.field-0.0
+    c.from_residual-in_err-state_failure.ensures.1
+    (then_found
+    (GraphHolds c.args.platform.now (task_graph c.args.graph.now c.args.nest.now) c.args.part.now) 2
+    2 7 (Err c.in_err-state_failure.field-0.0) (omega arith)
+    (omega arith) c.in_ok-list_failure.ensures
+    (found_first
+    (GraphHolds c.args.platform.now (task_graph c.args.graph.now c.args.nest.now) c.args.part.now) 3
+    5 7 c.in_err-state_failure.field-0.0 (omega arith)
+    (c.in_err-state_failure.ensures c.args.nest.now)))
 
 pub potential_failure-requires-clause-paid : goal.potential_failure-requires-clause-paid
 potential_failure-requires-clause-paid c = record {
@@ -51,6 +74,11 @@ potential_failure-requires-clause-paid c = record {
 
 pub returns : goal.returns
 returns c =
-    then_found (GraphHolds c.args.platform.now (task_graph c.args.graph.now c.args.nest.now) c.args.part.now) 2 5 7 c.potential_failure.result (omega arith) (omega arith)
-    (then_found (GraphHolds c.args.platform.now (task_graph c.args.graph.now c.args.nest.now) c.args.part.now) 2 2 5 (Ok tt) (omega arith) (omega arith) c.in_ok-list_failure.ensures (c.in_ok-state_failure.ensures c.args.nest.now))
+    then_found
+    (GraphHolds c.args.platform.now (task_graph c.args.graph.now c.args.nest.now) c.args.part.now) 2
+    5 7 c.potential_failure.result (omega arith) (omega arith)
+    (then_found
+    (GraphHolds c.args.platform.now (task_graph c.args.graph.now c.args.nest.now) c.args.part.now) 2
+    2 5 (Ok tt) (omega arith) (omega arith) c.in_ok-list_failure.ensures
+    (c.in_ok-state_failure.ensures c.args.nest.now))
     c.potential_failure.ensures

@@ -8,10 +8,17 @@ use Rattle.cert_check.proofs.judge.verdict.Goals as goal
 
 pub returns-in-Err : goal.returns-in-Err
 returns-in-Err c =
-    judged_no c.args.set.now (task_graph_at c.args.graphs.now c.args.nests.now) c.args.certificate.now c.loop-i.i c.in-Err.clause c.number.result c.place.result c.number.ensures c.place.ensures
-    (subst (λ (xs : List TaskSpec). c.loop-i.i < length xs) c.as_slice-i-end.ensures c.loop-i-test.true) c.loop-i.invariant c.in-Err.ensures
+    judged_no c.args.set.now (task_graph_at c.args.graphs.now c.args.nests.now)
+    c.args.certificate.now c.loop-i.i c.in-Err.clause c.number.result c.place.result
+    c.number.ensures c.place.ensures
+    (subst (λ (xs : List TaskSpec). c.loop-i.i < length xs) c.as_slice-i-end.ensures
+    c.loop-i-test.true) c.loop-i.invariant c.in-Err.ensures
 
 pub loop-i-preserved : goal.loop-i-preserved
 loop-i-preserved c =
-    holds_more c.args.set.now (task_graph_at c.args.graphs.now c.args.nests.now) c.args.certificate.now c.loop-i.i
-    (subst (λ r. IsRangeJudged (ClauseHolds c.args.set.now (task_graph_at c.args.graphs.now c.args.nests.now) c.args.certificate.now c.loop-i.i) 1 9 r) c.in_default.is c.task_failure.ensures) c.loop-i.invariant
+    holds_more c.args.set.now (task_graph_at c.args.graphs.now c.args.nests.now)
+    c.args.certificate.now c.loop-i.i
+    (subst (λ r. IsRangeJudged
+    (ClauseHolds c.args.set.now (task_graph_at c.args.graphs.now c.args.nests.now)
+    c.args.certificate.now c.loop-i.i) 1 9 r) c.in_default.is c.task_failure.ensures)
+    c.loop-i.invariant

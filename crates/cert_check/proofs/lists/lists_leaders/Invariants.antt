@@ -5,4 +5,5 @@ use Rattle.cert_check.proofs.Leaders.{ListsBelow}
 use Rattle.cert_check.proofs.lists.lists_leaders.Given as goal
 
 abbrev pub invariant-loop-node : goal.invariant-loop-node
-invariant-loop-node l = ListsBelow (graph_of l.listing.graph.now) (listed_of l.listing.part.now) l.node
+invariant-loop-node l =
+    ListsBelow (graph_of l.listing.graph.now) (listed_of l.listing.part.now) l.node

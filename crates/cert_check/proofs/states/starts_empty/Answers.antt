@@ -9,8 +9,11 @@ use Rattle.cert_check.proofs.states.starts_empty.Goals as goal
 
 pub returns-in-Some : goal.returns-in-Some
 returns-in-Some c =
-    starts (graph_of c.args.listing.now.graph.now) (node_accesses c.args.listing.now.platform.now c.args.listing.now.graph.now) (listed_of c.args.listing.now.part.now) c.args.node.0 c.in-Some.entry.now.sure c.is_empty.result
+    starts (graph_of c.args.listing.now.graph.now)
+    (node_accesses c.args.listing.now.platform.now c.args.listing.now.graph.now)
+    (listed_of c.args.listing.now.part.now) c.args.node.0 c.in-Some.entry.now.sure c.is_empty.result
     (entry_listed c.args.listing.now.part.now c.args.node.0 c.in-Some.entry.now c.in-Some.ensures)
-    (λ s. entry_state c.args.listing.now.part.now c.args.node.0 c.in-Some.entry.now s c.in-Some.ensures)
+    (λ s. entry_state c.args.listing.now.part.now c.args.node.0 c.in-Some.entry.now s
+    c.in-Some.ensures)
     (c.is_empty.ensures ∙ ap (λ xs. length xs == 0) c.as_slice.ensures)
     (c.if-node-first.false ∙ c.first.ensures)

@@ -14,7 +14,10 @@ returns-else-edge_state_holds c =
     let l = listed_of c.args.listing.now.part.now in (
       (λ holds. absurd (false≢true (sym c.if-edge_state_holds.false ∙ holds))),
       (λ meets. elim c.if-starts_empty.branch [
-        | then-starts_empty w ↦ w.value-is ∙ w.edge_state_holds.ensures.1 (meets_at g a l c.args.node.0 0 c.requires.node meets)
-        | else-starts_empty w ↦ absurd (false≢true (sym w.if-starts_empty.false ∙ c.starts_empty.ensures.1 meets.first))
+        | then-starts_empty w ↦
+            w.value-is ∙ w.edge_state_holds.ensures.1
+            (meets_at g a l c.args.node.0 0 c.requires.node meets)
+        | else-starts_empty w ↦
+            absurd (false≢true (sym w.if-starts_empty.false ∙ c.starts_empty.ensures.1 meets.first))
       ]),
     )

@@ -8,6 +8,9 @@ use Rattle.cert_check.proofs.times.write_longest.Given as goal
 
 abbrev pub invariant-loop-k : goal.invariant-loop-k
 invariant-loop-k l = record {
-  each : (j : ℕ) → j < l.k → slice_index l.longest j ≡ longest l.set.platform (graph_of (graph_at l.graphs j)) (node_code (graph_at l.graphs j)) (answers_of (graph_at l.graphs j));
+  each : (j : ℕ) → j < l.k
+      → slice_index l.longest j
+      ≡ longest l.set.platform (graph_of (graph_at l.graphs j)) (node_code (graph_at l.graphs j))
+      (answers_of (graph_at l.graphs j));
   range : (j : ℕ) → j < l.k → (1 ≤ slice_index l.longest j) × (slice_index l.longest j ≤ 262144);
 }

@@ -9,4 +9,10 @@ use Rattle.cert_check.proofs.Judging.{UsefulFrom}
 use Rattle.cert_check.proofs.useful.judge_sets.Given as goal
 
 abbrev pub invariant-loop-done : goal.invariant-loop-done
-invariant-loop-done l = UsefulFrom (graph_of l.listing.graph.now) (node_accesses l.listing.platform.now l.listing.graph.now) (listed_of l.listing.part.now) (SetsMeet (graph_of l.listing.graph.now) (node_accesses l.listing.platform.now l.listing.graph.now) (listed_of l.listing.part.now) (has l.listing.part.now.part.evicting) (has l.listing.part.now.part.useful)) l.order l.useful l.least (length l.order - l.done)
+invariant-loop-done l =
+    UsefulFrom (graph_of l.listing.graph.now)
+    (node_accesses l.listing.platform.now l.listing.graph.now) (listed_of l.listing.part.now)
+    (SetsMeet (graph_of l.listing.graph.now)
+    (node_accesses l.listing.platform.now l.listing.graph.now) (listed_of l.listing.part.now)
+    (has l.listing.part.now.part.evicting) (has l.listing.part.now.part.useful)) l.order l.useful
+    l.least (length l.order - l.done)

@@ -8,6 +8,11 @@ use Rattle.cert_check.proofs.useful.sets_hold.Goals as goal
 
 pub returns-then-has : goal.returns-then-has
 returns-then-has c =
-    sets_test (graph_of c.args.listing.now.graph.now) (node_accesses c.args.listing.now.platform.now c.args.listing.now.graph.now) (listed_of c.args.listing.now.part.now) c.args.node.0 c.args.listing.now.part.now.part.evicting c.args.listing.now.part.now.part.useful c.args.useful.now c.covers.result c.requires.useful
-    (subst (λ x. IsTrue (has c.args.listing.now.part.now.part.evicting x)) c.cache_set.ensures.set (has_member c.args.listing.now.part.now.part.evicting c.cache_set.result (c.has.ensures.0 c.if-has.true)))
+    sets_test (graph_of c.args.listing.now.graph.now)
+    (node_accesses c.args.listing.now.platform.now c.args.listing.now.graph.now)
+    (listed_of c.args.listing.now.part.now) c.args.node.0 c.args.listing.now.part.now.part.evicting
+    c.args.listing.now.part.now.part.useful c.args.useful.now c.covers.result c.requires.useful
+    (subst (λ x. IsTrue (has c.args.listing.now.part.now.part.evicting x)) c.cache_set.ensures.set
+    (has_member c.args.listing.now.part.now.part.evicting c.cache_set.result
+    (c.has.ensures.0 c.if-has.true)))
     c.covers.ensures

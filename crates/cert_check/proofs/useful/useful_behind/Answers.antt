@@ -6,5 +6,8 @@ use Rattle.cert_check.proofs.useful.useful_behind.Goals as goal
 
 pub returns : goal.returns
 returns c =
-    behind_both (graph_of c.args.listing.now.graph.now) (node_accesses c.args.listing.now.platform.now c.args.listing.now.graph.now) (listed_of c.args.listing.now.part.now) c.args.node.0 c.useful_by-sets.result c.useful_by.result c.union.new.self c.requires.node (c.graph_law.ensures.successors c.args.node.0)
+    behind_both (graph_of c.args.listing.now.graph.now)
+    (node_accesses c.args.listing.now.platform.now c.args.listing.now.graph.now)
+    (listed_of c.args.listing.now.part.now) c.args.node.0 c.useful_by-sets.result c.useful_by.result
+    c.union.new.self c.requires.node (c.graph_law.ensures.successors c.args.node.0)
     c.useful_by-sets.ensures c.useful_by.ensures c.union.ensures

@@ -6,4 +6,6 @@ use Rattle.cert_model.proofs.kinds.all_objects.Given as goal
 
 abbrev pub invariant-loop-value : goal.invariant-loop-value
 invariant-loop-value l =
-    option_map (λ rest. map (λ t. members_view t.now.entries) l.found.items ++ rest) (all_of as_object (items_view (drop l.value-index l.value-items))) ≡ all_of as_object (items_view l.value-items)
+    option_map (λ rest. map (λ t. members_view t.now.entries) l.found.items ++ rest)
+    (all_of as_object (items_view (drop l.value-index l.value-items)))
+    ≡ all_of as_object (items_view l.value-items)

@@ -5,4 +5,6 @@ use Rattle.cert_model.proofs.kinds.numbers.Given as goal
 
 abbrev pub invariant-loop-value : goal.invariant-loop-value
 invariant-loop-value l =
-    option_map (λ rest. l.found.items ++ rest) (all_of (whole 0 (2 ^ 40)) (items_view (drop l.value-index l.value-items))) ≡ all_of (whole 0 (2 ^ 40)) (items_view l.value-items)
+    option_map (λ rest. l.found.items ++ rest)
+    (all_of (whole 0 (2 ^ 40)) (items_view (drop l.value-index l.value-items)))
+    ≡ all_of (whole 0 (2 ^ 40)) (items_view l.value-items)

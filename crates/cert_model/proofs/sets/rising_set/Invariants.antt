@@ -7,5 +7,6 @@ use Rattle.cert_model.proofs.sets.rising_set.Given as goal
 abbrev pub invariant-loop-value : goal.invariant-loop-value
 invariant-loop-value l = record {
   small : l.low ≤ 512;
-  rose : Rose l.limit l.low l.set (items_view (drop l.value-index l.values)) (rising 0 l.limit (items_view l.values));
+  rose : Rose l.limit l.low l.set (items_view (drop l.value-index l.values))
+      (rising 0 l.limit (items_view l.values));
 }

@@ -8,12 +8,17 @@ pub loop-i-preserved : goal.loop-i-preserved
 loop-i-preserved c = record {
   small = omega (arith, c.in-Some-pair.ensures.bound);
   read =
-      pairs_more c.loop-i.found.items _ c.loop-i.low c.args.limit c.in-Some.values.now.items c.loop-i.i c.from-low.result c.index.result.now c.index-in-loop-i.result.now c.in-Some-pair.next _
-      (omega (arith, c.len-i-end.ensures)) c.index.ensures c.index-in-loop-i.ensures c.in-Some-pair.ensures.is c.in_ok-push.ensures.items c.from-low.ensures c.loop-i.invariant.read;
+      pairs_more c.loop-i.found.items _ c.loop-i.low c.args.limit c.in-Some.values.now.items
+      c.loop-i.i c.from-low.result c.index.result.now c.index-in-loop-i.result.now
+      c.in-Some-pair.next _
+      (omega (arith, c.len-i-end.ensures)) c.index.ensures c.index-in-loop-i.ensures
+      c.in-Some-pair.ensures.is c.in_ok-push.ensures.items c.from-low.ensures
+      c.loop-i.invariant.read;
 }
 
 pub returns-else-len-eq0 : goal.returns-else-len-eq0
 unfolding sure_pairs
 returns-else-len-eq0 c =
-    sym (pairs_odd c.loop-i.found.items c.loop-i.low c.args.limit c.in-Some.values.now.items c.loop-i.i _ (omega (arith, c.len.ensures, c.len-i-end.ensures)) c.loop-i.invariant.read)
+    sym (pairs_odd c.loop-i.found.items c.loop-i.low c.args.limit c.in-Some.values.now.items
+    c.loop-i.i _ (omega (arith, c.len.ensures, c.len-i-end.ensures)) c.loop-i.invariant.read)
     ∙ ap (option_and_then (pairs_from 0 c.args.limit)) c.in-Some.ensures

@@ -7,4 +7,6 @@ use Rattle.cert_model.proofs.task.each_task.Given as goal
 
 abbrev pub invariant-loop-i : goal.invariant-loop-i
 invariant-loop-i l =
-    with_front l.tasks.items (each (task_at l.version) l.i (map (λ t. members_view t.now.entries) (drop l.i l.objects))) ≡ each (task_at l.version) 0 (map (λ t. members_view t.now.entries) l.objects)
+    with_front l.tasks.items
+    (each (task_at l.version) l.i (map (λ t. members_view t.now.entries) (drop l.i l.objects)))
+    ≡ each (task_at l.version) 0 (map (λ t. members_view t.now.entries) l.objects)

@@ -11,5 +11,8 @@ unfolding text
 returns-clause-text c =
     let whole = c.in_ok-certificate.ensures in
     let all = object (certificate_members c.args.whole.now) in
-    c.into_inner.ensures.items ∙ ap (λ b. b ++ print c.certificate.new.out.tokens) (whole.before ∙ c.new-out.ensures.before ∙ c.new.ensures.items)
-    ∙ ap print (whole.tokens ∙ ap (λ ts. ts ++ tokens_of all) c.new-out.ensures.tokens) ∙ print-outline all
+    c.into_inner.ensures.items
+    ∙ ap (λ b. b ++ print c.certificate.new.out.tokens)
+    (whole.before ∙ c.new-out.ensures.before ∙ c.new.ensures.items)
+    ∙ ap print (whole.tokens ∙ ap (λ ts. ts ++ tokens_of all) c.new-out.ensures.tokens)
+    ∙ print-outline all

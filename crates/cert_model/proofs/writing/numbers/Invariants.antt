@@ -4,4 +4,5 @@ use Rattle.cert_model.specs.Writing.{whole_number}
 use Rattle.cert_model.proofs.writing.numbers.Given as goal
 
 abbrev pub invariant-loop-number : goal.invariant-loop-number
-invariant-loop-number l = Adds l.initial.out l.out (tokens_by whole_number (take l.number-index l.list))
+invariant-loop-number l =
+    Adds l.initial.out l.out (tokens_by whole_number (take l.number-index l.list))

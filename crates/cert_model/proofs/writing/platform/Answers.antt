@@ -9,7 +9,8 @@ use Rattle.cert_model.proofs.writing.platform.Goals as goal
 pub returns : goal.returns
 unfolding platform_members
 returns c =
-    closes c.end_object.result c.args.out.now (tokens_of (object (platform_members c.args.platform.now)))
+    closes c.end_object.result c.args.out.now
+    (tokens_of (object (platform_members c.args.platform.now)))
     (λ end.
     (then (wrote c.in_ok-begin_object.ensures)
     (then c.in_ok-short_at.ensures
@@ -20,7 +21,8 @@ returns c =
     (then c.in_ok-short_at-6.ensures
     (then c.in_ok-short_at-7.ensures
     (then c.in_ok-short_at-8.ensures
-    (then (moved (λ s. key (codes "switching") ∷ string s ∷ []) c.switching_name.ensures c.in_ok-text_at.ensures)
+    (then (moved (λ s. key (codes "switching") ∷ string s ∷ []) c.switching_name.ensures
+    c.in_ok-text_at.ensures)
     (then c.in_ok-short_at-9.ensures
     end))))))))))))
     c.end_object.ensures

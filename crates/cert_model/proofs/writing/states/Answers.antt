@@ -6,4 +6,5 @@ use Rattle.cert_model.proofs.writing.states.Goals as goal
 pub returns : goal.returns
 returns c =
     list c.end_array.result state_data c.args.list.now (wrote c.in_ok-begin_array.ensures)
-    (all_of (λ s. tokens_of (state_data s)) c.args.list.now c.loop-node.node-index c.loop-node-test.false c.loop-node.invariant) c.end_array.ensures
+    (all_of (λ s. tokens_of (state_data s)) c.args.list.now c.loop-node.node-index
+    c.loop-node-test.false c.loop-node.invariant) c.end_array.ensures

@@ -15,12 +15,17 @@ returns c =
     (then (wrote c.in_ok-begin_object.ensures)
     (then c.in_ok-number_at.ensures
     (then c.in_ok-set_at.ensures
-    (then (moved (λ ns. key (codes "loops") ∷ tokens_of (numbers_data ns)) c.as_slice.ensures c.in_ok-numbers_at.ensures)
-    (then (moved (λ s. key (codes "method") ∷ string s ∷ []) c.method_name.ensures c.in_ok-text_at.ensures)
-    (then (moved (λ s. key (codes "name") ∷ string s ∷ []) c.as_str.ensures c.in_ok-text_at-2.ensures)
-    (then (moved (λ ns. key (codes "potentials") ∷ tokens_of (numbers_data ns)) c.as_slice-2.ensures c.in_ok-numbers_at-2.ensures)
+    (then (moved (λ ns. key (codes "loops") ∷ tokens_of (numbers_data ns)) c.as_slice.ensures
+    c.in_ok-numbers_at.ensures)
+    (then (moved (λ s. key (codes "method") ∷ string s ∷ []) c.method_name.ensures
+    c.in_ok-text_at.ensures)
+    (then (moved (λ s. key (codes "name") ∷ string s ∷ []) c.as_str.ensures
+    c.in_ok-text_at-2.ensures)
+    (then (moved (λ ns. key (codes "potentials") ∷ tokens_of (numbers_data ns)) c.as_slice-2.ensures
+    c.in_ok-numbers_at-2.ensures)
     (then c.in_ok-number_at-2.ensures
-    (then (moved (λ ss. key (codes "states") ∷ tokens_of (array (items_of (map state_data ss)))) c.as_slice-3.ensures c.in_ok-states_at.ensures)
+    (then (moved (λ ss. key (codes "states") ∷ tokens_of (array (items_of (map state_data ss))))
+    c.as_slice-3.ensures c.in_ok-states_at.ensures)
     (then c.in_ok-set_at-2.ensures
     (then c.in_ok-number_at-3.ensures
     end))))))))))))

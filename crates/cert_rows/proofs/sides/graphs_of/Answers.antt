@@ -7,5 +7,8 @@ loop-k-preserved c =
     rw (c.in_ok-push.ensures.items, c.in_ok-push-2.ensures.items) (record {
       graphs = simp length-append (omega (arith, c.loop-k.invariant.graphs));
       nests = simp length-append (omega (arith, c.loop-k.invariant.nests));
-      each = one_more c.loop-k.graphs.items c.loop-k.nests.items c.in_ok-graph.graph c.in_ok-graph.nest c.loop-k.k c.loop-k.invariant.graphs c.loop-k.invariant.nests c.loop-k.invariant.each c.in_ok-graph.ensures;
+      each =
+          one_more c.loop-k.graphs.items c.loop-k.nests.items c.in_ok-graph.graph c.in_ok-graph.nest
+          c.loop-k.k c.loop-k.invariant.graphs c.loop-k.invariant.nests c.loop-k.invariant.each
+          c.in_ok-graph.ensures;
     })

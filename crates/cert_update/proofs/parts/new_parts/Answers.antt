@@ -10,7 +10,8 @@ use Rattle.cert_build.proofs.Counting.{few_states, few_pairs}
 use Rattle.cert_update.proofs.NewParts.{kept_more, dropped_more, refused, many}
 use Rattle.cert_update.proofs.Pass.{is_graph}
 use Rattle.cert_update.proofs.parts.new_parts.Goals as goal
-use Rattle.cert_update.proofs.parts.new_parts.Goals.{then-found-le-MOST_ENTRIES+in_ok-push, else-found-le-MOST_ENTRIES}
+use Rattle.cert_update.proofs.parts.new_parts.Goals.{then-found-le-MOST_ENTRIES+in_ok-push}
+use Rattle.cert_update.proofs.parts.new_parts.Goals.{else-found-le-MOST_ENTRIES}
 
 pub returns-in_err-part-clause-parts : goal.returns-in_err-part-clause-parts
 returns-in_err-part-clause-parts c =
@@ -21,36 +22,49 @@ returns-in_err-part-clause-parts c =
     let count = c.requires.sources.tasks in
     let lt = c.loop-i-test.true in
     rw (p.1, p.2)
-    (refused old c.args.change.now.certificate.now new (λ j l. is_graph _ (codes.code j l)) c.loop-i.i c.loop-i.found c.loop-i.parts.items c.in_err-part.field-0.0
+    (refused old c.args.change.now.certificate.now new (λ j l. is_graph _ (codes.code j l))
+    c.loop-i.i c.loop-i.found c.loop-i.parts.items c.in_err-part.field-0.0
     (omega (arith, count, lt)) c.loop-i.invariant c.in_err-part.ensures)
 
 pub task_entries-found-requires-clause-few : goal.task_entries-found-requires-clause-few
 task_entries-found-requires-clause-few c =
-    subst (λ (l : List NodeState). length l ≤ 16384) (sym c.as_slice.ensures) (few_states c.in_ok-part.part c.in_ok-part.ensures.ranges)
+    subst (λ (l : List NodeState). length l ≤ 16384) (sym c.as_slice.ensures)
+    (few_states c.in_ok-part.part c.in_ok-part.ensures.ranges)
 
 pub task_entries-found-requires-clause-each : goal.task_entries-found-requires-clause-each
 task_entries-found-requires-clause-each c =
-    subst (λ (l : List NodeState). All HasFewPairs l) (sym c.as_slice.ensures) (few_pairs c.in_ok-part.part c.in_ok-part.ensures.ranges)
+    subst (λ (l : List NodeState). All HasFewPairs l) (sym c.as_slice.ensures)
+    (few_pairs c.in_ok-part.part c.in_ok-part.ensures.ranges)
 
 pub loop-i-preserved : goal.loop-i-preserved
 loop-i-preserved c =
     let old = coded_side c.args.change.now.old in
     let new = coded_side c.args.change.now.new in
-    let is = c.task_entries-found.ensures.is ∙ ap (λ (l : List NodeState). sum_by state_entries l) c.as_slice.ensures in
+    let is = c.task_entries-found.ensures.is
+    ∙ ap (λ (l : List NodeState). sum_by state_entries l) c.as_slice.ensures in
     elim c.if-found-le-MOST_ENTRIES.branch [
       | then-found-le-MOST_ENTRIES+in_ok-push w ↦
           rw w.parts-is
-          (kept_more old c.args.change.now.certificate.now new c.loop-i.i c.loop-i.found c.task_entries-found.result c.loop-i.parts.items _ c.in_ok-part.part c.loop-i.invariant c.in_ok-part.ensures is
+          (kept_more old c.args.change.now.certificate.now new c.loop-i.i c.loop-i.found
+          c.task_entries-found.result c.loop-i.parts.items _ c.in_ok-part.part c.loop-i.invariant
+          c.in_ok-part.ensures is
           c.task_entries-found.ensures.bound w.in_ok-push.ensures.items)
       | else-found-le-MOST_ENTRIES w ↦
           rw w.parts-is
-          (dropped_more old c.args.change.now.certificate.now new c.loop-i.i c.loop-i.found c.task_entries-found.result c.loop-i.parts.items _ c.in_ok-part.part c.loop-i.invariant c.in_ok-part.ensures is
+          (dropped_more old c.args.change.now.certificate.now new c.loop-i.i c.loop-i.found
+          c.task_entries-found.result c.loop-i.parts.items _ c.in_ok-part.part c.loop-i.invariant
+          c.in_ok-part.ensures is
           c.task_entries-found.ensures.bound w.if-found-le-MOST_ENTRIES.false)
     ]
 
-pub returns-then-found-gt-MOST_ENTRIES-clause-parts : goal.returns-then-found-gt-MOST_ENTRIES-clause-parts
+pub returns-then-found-gt-MOST_ENTRIES-clause-parts :
+    goal.returns-then-found-gt-MOST_ENTRIES-clause-parts
 returns-then-found-gt-MOST_ENTRIES-clause-parts c =
     let old = coded_side c.args.change.now.old in
     let new = coded_side c.args.change.now.new in
-    many old c.args.change.now.certificate.now new c.loop-i.found c.loop-i.parts.items (subst (λ n. CountsNewEntries old c.args.change.now.certificate.now new n c.loop-i.found c.loop-i.parts.items)
-    (let count = c.requires.sources.tasks in let over = c.loop-i-test.false in let end = c.loop-i.auto.i-end in omega (arith, count, over, end)) c.loop-i.invariant) c.if-found-gt-MOST_ENTRIES.true
+    many old c.args.change.now.certificate.now new c.loop-i.found c.loop-i.parts.items
+    (subst (λ n. CountsNewEntries old c.args.change.now.certificate.now new n c.loop-i.found
+    c.loop-i.parts.items)
+    (let count = c.requires.sources.tasks in let over = c.loop-i-test.false in
+    let end = c.loop-i.auto.i-end in omega (arith, count, over, end)) c.loop-i.invariant)
+    c.if-found-gt-MOST_ENTRIES.true

@@ -6,4 +6,8 @@ use Rattle.code_map.proofs.Indexed.{alone_index}
 use Rattle.code_map.proofs.files.own_index.Goals as goal
 
 pub returns : goal.returns
-returns c = subst (λ (rs : List Run). IsByteIndex rs (image_byte c.args.image.now)) (sym c.new.ensures) (alone_index c.args.image.now c.from_ref.result.now c.in_ok-joined.joined.runs.items c.in_ok-joined.joined.conflict c.from_ref.ensures.value c.in_ok-joined.ensures.conflict c.in_ok-joined.ensures.is)
+returns c =
+    subst (λ (rs : List Run). IsByteIndex rs (image_byte c.args.image.now)) (sym c.new.ensures)
+    (alone_index c.args.image.now c.from_ref.result.now c.in_ok-joined.joined.runs.items
+    c.in_ok-joined.joined.conflict c.from_ref.ensures.value c.in_ok-joined.ensures.conflict
+    c.in_ok-joined.ensures.is)

@@ -6,4 +6,7 @@ use Rattle.code_map.specs.Words.{image_byte}
 use Rattle.code_map.proofs.files.own_indexes.Given as goal
 
 abbrev pub invariant-loop-image : goal.invariant-loop-image
-invariant-loop-image l = (length l.own.items ≡ l.image-index) × ((k : ℕ) (r : List Run) (i : Image) → k < l.image-index → IsByteIndex (get_or l.own.items k r) (image_byte (get_or l.images k i)))
+invariant-loop-image l =
+    (length l.own.items ≡ l.image-index)
+    × ((k : ℕ) (r : List Run) (i : Image) → k < l.image-index
+    → IsByteIndex (get_or l.own.items k r) (image_byte (get_or l.images k i)))

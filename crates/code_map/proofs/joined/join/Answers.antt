@@ -8,7 +8,15 @@ use Rattle.code_map.proofs.Sweep.{swept_more, no_piece}
 use Rattle.code_map.proofs.joined.join.Goals as goal
 
 pub loop-piece-preserved : goal.loop-piece-preserved
-loop-piece-preserved c = rw c.lesser-conflict.ensures (swept_more c.args.pieces.now c.loop-piece.piece-index no_piece c.loop-piece.runs.items _ c.loop-piece.conflict c.in_ok-add.field-0 c.requires.ascending c.loop-piece-test.true c.loop-piece.invariant c.in_ok-add.ensures)
+loop-piece-preserved c =
+    rw c.lesser-conflict.ensures
+    (swept_more c.args.pieces.now c.loop-piece.piece-index no_piece c.loop-piece.runs.items _
+    c.loop-piece.conflict c.in_ok-add.field-0 c.requires.ascending c.loop-piece-test.true
+    c.loop-piece.invariant c.in_ok-add.ensures)
 
 pub returns-clause-conflict : goal.returns-clause-conflict
-returns-clause-conflict c = subst (λ (ps : List Piece). IsFirstPassing (λ a. disagree (λ p. piece_byte p a) ps) c.loop-piece.conflict) (take_all c.loop-piece.piece-index c.args.pieces.now (omega arith)) c.loop-piece.invariant.conflict
+returns-clause-conflict c =
+    subst (λ (ps : List Piece).
+    IsFirstPassing (λ a. disagree (λ p. piece_byte p a) ps) c.loop-piece.conflict)
+    (take_all c.loop-piece.piece-index c.args.pieces.now (omega arith))
+    c.loop-piece.invariant.conflict

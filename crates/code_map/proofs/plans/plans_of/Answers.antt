@@ -10,9 +10,16 @@ returns-in_err-plan_of-clause-is c =
     let n = c.loop-i.i in
     let image = c.index-images-i.result in
     let too : n < length c.args.files.now = omega arith in
-    let at = subst (λ (xs : List Image). image ≡ get_or xs n image) c.images-images.ensures c.index-images-i.is in
-    let p = err_from_is_err_and c.from_residual-in_err-plan_of.result c.from_residual-in_err-plan_of.ensures.1 in
-    rw (p.1, p.2) (λ ne. plan_refused (word_at c.args.files.now) c.loop-i.plans.items c.args.tasks.now c.args.files.now n c.index-tasks-i.result image c.loop-i-test.true too c.index-tasks-i.is at _ c.loop-i.invariant.0
+    let at = subst (λ (xs : List Image). image ≡ get_or xs n image) c.images-images.ensures
+    c.index-images-i.is in
+    let p = err_from_is_err_and c.from_residual-in_err-plan_of.result
+    c.from_residual-in_err-plan_of.ensures.1 in
+    rw (
+      p.1,
+      p.2,
+    ) (λ ne. plan_refused (word_at c.args.files.now) c.loop-i.plans.items c.args.tasks.now
+    c.args.files.now n c.index-tasks-i.result image c.loop-i-test.true too c.index-tasks-i.is at _
+    c.loop-i.invariant.0
     c.in_err-plan_of.field-0.0 (c.in_err-plan_of.ensures ne))
 
 pub loop-i-preserved : goal.loop-i-preserved
@@ -20,11 +27,17 @@ loop-i-preserved c =
     let n = c.loop-i.i in
     let image = c.index-images-i.result in
     let too : n < length c.args.files.now = omega arith in
-    let at = subst (λ (xs : List Image). image ≡ get_or xs n image) c.images-images.ensures c.index-images-i.is in (
-      rw c.in_ok-push.ensures.items (plan_more (word_at c.args.files.now) c.loop-i.plans.items c.args.tasks.now c.args.files.now n c.index-tasks-i.result image c.loop-i-test.true too c.index-tasks-i.is at _ c.loop-i.invariant.0
+    let at = subst (λ (xs : List Image). image ≡ get_or xs n image) c.images-images.ensures
+    c.index-images-i.is in (
+      rw c.in_ok-push.ensures.items
+          (plan_more (word_at c.args.files.now) c.loop-i.plans.items c.args.tasks.now
+          c.args.files.now n c.index-tasks-i.result image c.loop-i-test.true too c.index-tasks-i.is
+          at _ c.loop-i.invariant.0
           c.in_ok-plan_of.field-0 c.in_ok-plan_of.ensures),
       grind arith,
     )
 
 pub returns-clause-is : goal.returns-clause-is
-returns-clause-is c = plans_end (word_at c.args.files.now) c.loop-i.plans.items c.args.tasks.now c.args.files.now c.loop-i.i _ (grind arith) c.loop-i.invariant.0
+returns-clause-is c =
+    plans_end (word_at c.args.files.now) c.loop-i.plans.items c.args.tasks.now c.args.files.now
+    c.loop-i.i _ (grind arith) c.loop-i.invariant.0

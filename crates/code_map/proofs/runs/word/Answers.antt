@@ -7,18 +7,24 @@ use Rattle.code_map.proofs.runs.word.Goals as goal
 
 pub returns-then-count-eq0 : goal.returns-then-count-eq0
 returns-then-count-eq0 c =
-    no_number c.args.runs.now c.args.address (λ k d low high. c.runs_up_to-count.ensures.after k d (omega arith) high)
-    ∙ sym (word_there (runs_byte c.args.runs.now) c.args.address c.if-address-ne0.false c.if-address-eq-END.false)
+    no_number c.args.runs.now c.args.address
+    (λ k d low high. c.runs_up_to-count.ensures.after k d (omega arith) high)
+    ∙ sym (word_there (runs_byte c.args.runs.now) c.args.address c.if-address-ne0.false
+    c.if-address-eq-END.false)
 
 pub returns : goal.returns
 returns c =
     let n = c.runs_up_to-count.result - 1 in
     let lt : n < length c.args.runs.now = omega arith in
     let one : n + 1 ≡ c.runs_up_to-count.result = omega arith in
-    let same = c.index-runs-count.is ∙ get_or_same c.args.runs.now n c.index-runs-count.result blank lt in
+    let same = c.index-runs-count.is
+    ∙ get_or_same c.args.runs.now n c.index-runs-count.result blank lt in
     let a = c.args.address in
-    subst (λ (r : Run). c.number_in.result ≡ little_endian (run_byte r a) (run_byte r (a + 1)) (run_byte r (a + 2)) (run_byte r (a + 3))) same c.number_in.ensures
+    subst (λ (r : Run). c.number_in.result
+    ≡ little_endian (run_byte r a) (run_byte r (a + 1)) (run_byte r (a + 2)) (run_byte r (a + 3)))
+    same c.number_in.ensures
     ∙ (number_of_run c.args.runs.now n a c.requires lt
     (λ k d low high. c.runs_up_to-count.ensures.before k d low (omega arith))
     (λ k d low high. c.runs_up_to-count.ensures.after k d (omega arith) high)
-    ∙ sym (word_there (runs_byte c.args.runs.now) a c.if-address-ne0.false c.if-address-eq-END.false))
+    ∙ sym (word_there (runs_byte c.args.runs.now) a c.if-address-ne0.false
+    c.if-address-eq-END.false))

@@ -5,12 +5,19 @@ use Rattle.crpd_input.specs.Reading.{image_in}
 use Rattle.crpd_input.proofs.Each.{of_earlier}
 use Rattle.crpd_input.proofs.images.image_of.Goals as goal
 
-pub returns-in_ok-copy_image-in-Some-clause-exact : goal.returns-in_ok-copy_image-in-Some-clause-exact
+pub returns-in_ok-copy_image-in-Some-clause-exact :
+    goal.returns-in_ok-copy_image-in-Some-clause-exact
 returns-in_ok-copy_image-in-Some-clause-exact g c = λ contents told.
-    of_earlier (image_in contents) c.args.earlier.now c.args.images.now c.args.file.now c.in-Some.place c.index-images-place.result (c.requires.are contents told) (sym c.in-Some.ensures.is) c.in-Some.ensures.within
+    of_earlier (image_in contents) c.args.earlier.now c.args.images.now c.args.file.now
+    c.in-Some.place c.index-images-place.result (c.requires.are contents told)
+    (sym c.in-Some.ensures.is) c.in-Some.ensures.within
     ∙ ap (λ (i : Image). Ok i) (sym (c.in_ok-copy_image-in-Some.ensures ∙ c.index-images-place.is))
 
-pub returns-in_ok-copy_image-in-Some-clause-image : goal.returns-in_ok-copy_image-in-Some-clause-image
+pub returns-in_ok-copy_image-in-Some-clause-image :
+    goal.returns-in_ok-copy_image-in-Some-clause-image
 returns-in_ok-copy_image-in-Some-clause-image g c =
-    let within : c.in-Some.place < length c.args.images.now = omega (arith, c.in-Some.ensures.within, c.requires.count) in
-    subst (λ (i : Image). IsImage i) (sym (c.in_ok-copy_image-in-Some.ensures ∙ c.index-images-place.is)) (c.requires.images c.in-Some.place c.index-images-place.result within)
+    let within : c.in-Some.place < length c.args.images.now =
+    omega (arith, c.in-Some.ensures.within, c.requires.count) in
+    subst (λ (i : Image). IsImage i)
+    (sym (c.in_ok-copy_image-in-Some.ensures ∙ c.index-images-place.is))
+    (c.requires.images c.in-Some.place c.index-images-place.result within)

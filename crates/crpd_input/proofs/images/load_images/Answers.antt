@@ -11,9 +11,12 @@ pub loop-i-init : goal.loop-i-init
 loop-i-init g c = record {
   same = refl;
   later = omega arith;
-  are = λ contents told. start (λ (t : TaskSpec). image_in contents t.file) ∙ ap (λ (is : List Image). Ok is) (sym c.new-images.ensures.items);
+  are = λ contents told.
+      start (λ (t : TaskSpec). image_in contents t.file)
+      ∙ ap (λ (is : List Image). Ok is) (sym c.new-images.ensures.items);
   count = ap (λ (is : List Image). length is) c.new-images.ensures.items;
-  images = λ k d lt. absurd (omega (arith, lt, ap (λ (is : List Image). length is) c.new-images.ensures.items));
+  images = λ k d lt.
+      absurd (omega (arith, lt, ap (λ (is : List Image). length is) c.new-images.ensures.items));
 }
 
 pub image_of-requires-clause-images : goal.image_of-requires-clause-images
@@ -21,8 +24,10 @@ image_of-requires-clause-images g c = rw c.deref.ensures.value c.loop-i.invarian
 
 pub returns-in-Err-clause-exact : goal.returns-in-Err-clause-exact
 returns-in-Err-clause-exact g c = λ contents told.
-    stops_whole (image_in contents c.as_str.result.now) (images_in contents c.args.tasks.now) c.in-Err.halt
-    (λ r e. one_refused (λ (t : TaskSpec). image_in contents t.file) c.args.tasks.now c.loop-i.i c.index-tasks-i.result c.loop-i.images.items r c.loop-i-test.true c.index-tasks-i.is
+    stops_whole (image_in contents c.as_str.result.now) (images_in contents c.args.tasks.now)
+    c.in-Err.halt
+    (λ r e. one_refused (λ (t : TaskSpec). image_in contents t.file) c.args.tasks.now c.loop-i.i
+    c.index-tasks-i.result c.loop-i.images.items r c.loop-i-test.true c.index-tasks-i.is
     (c.loop-i.invariant.are contents told) (ap (image_in contents) (sym c.as_str.ensures) ∙ e))
     (c.in-Err.ensures.exact contents (c.loop-i.invariant.same ∙ told))
 
@@ -30,16 +35,31 @@ pub loop-i-preserved : goal.loop-i-preserved
 loop-i-preserved g c = record {
   same = c.in-Ok.ensures.same ∙ c.loop-i.invariant.same;
   later = omega (arith, c.in-Ok.ensures.later, c.loop-i.invariant.later);
-  are = λ contents told. one_more (λ (t : TaskSpec). image_in contents t.file) c.args.tasks.now c.loop-i.i c.index-tasks-i.result c.loop-i.images.items c.in-Ok.image c.loop-i-test.true c.index-tasks-i.is
-      (c.loop-i.invariant.are contents told) (ap (image_in contents) (sym c.as_str.ensures) ∙ c.in-Ok.ensures.exact contents (c.loop-i.invariant.same ∙ told))
+  are = λ contents told.
+      one_more (λ (t : TaskSpec). image_in contents t.file) c.args.tasks.now c.loop-i.i
+      c.index-tasks-i.result c.loop-i.images.items c.in-Ok.image c.loop-i-test.true
+      c.index-tasks-i.is
+      (c.loop-i.invariant.are contents told)
+      (ap (image_in contents) (sym c.as_str.ensures)
+      ∙ c.in-Ok.ensures.exact contents (c.loop-i.invariant.same ∙ told))
       ∙ ap (λ (is : List Image). Ok is) (sym c.in_ok-push.ensures.items);
-  count = omega (arith, ap (λ (is : List Image). length is) c.in_ok-push.ensures.items, length-append c.loop-i.images.items (c.in-Ok.image ∷ []), c.loop-i.invariant.count);
-  images = rw c.in_ok-push.ensures.items (All-push IsImage c.loop-i.images.items c.in-Ok.image c.loop-i.invariant.images c.in-Ok.ensures.image);
+  count =
+      omega (
+        arith,
+        ap (λ (is : List Image). length is) c.in_ok-push.ensures.items,
+        length-append c.loop-i.images.items (c.in-Ok.image ∷ []),
+        c.loop-i.invariant.count,
+      );
+  images =
+      rw c.in_ok-push.ensures.items
+      (All-push IsImage c.loop-i.images.items c.in-Ok.image c.loop-i.invariant.images
+      c.in-Ok.ensures.image);
 }
 
 pub returns-clause-exact : goal.returns-clause-exact
 returns-clause-exact g c = λ contents told.
-    all_read (λ (t : TaskSpec). image_in contents t.file) c.args.tasks.now c.loop-i.i c.loop-i.images.items c.loop-i-test.false (c.loop-i.invariant.are contents told)
+    all_read (λ (t : TaskSpec). image_in contents t.file) c.args.tasks.now c.loop-i.i
+    c.loop-i.images.items c.loop-i-test.false (c.loop-i.invariant.are contents told)
     ∙ ap (λ (is : List Image). Ok is) (sym c.new.ensures)
 
 pub returns-clause-images : goal.returns-clause-images

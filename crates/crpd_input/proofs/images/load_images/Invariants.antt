@@ -9,7 +9,8 @@ abbrev pub invariant-loop-i : goal.invariant-loop-i
 invariant-loop-i g l = record {
   same : g.F.Files.contents l.files ≡ g.F.Files.contents l.initial.files;
   later : g.F.Files.faults l.initial.files ≤ g.F.Files.faults l.files;
-  are : HoldsWhereTold (g.F.Files.contents l.initial.files) (λ c. images_in c (take l.i l.tasks) ≡ Ok l.images.items);
+  are : HoldsWhereTold (g.F.Files.contents l.initial.files)
+      (λ c. images_in c (take l.i l.tasks) ≡ Ok l.images.items);
   count : length l.images.items ≡ l.i;
   images : All IsImage l.images.items;
 }

@@ -11,21 +11,42 @@ pub returns-in-Ok-clause-exact : goal.returns-in-Ok-clause-exact
 returns-in-Ok-clause-exact c =
     let here : slice_get c.args.graphs.now c.args.task.0 ≡ Some c.index-graphs-from.result =
     slice_get-get_or c.args.graphs.now c.args.task.0 c.index-graphs-from.result c.requires.has_graph
-    ∙ ap (λ k. Some (get_or c.args.graphs.now k c.index-graphs-from.result)) (sym c.from.ensures) ∙ ap (λ (g : CodeGraph). Some g) (sym c.index-graphs-from.is) in
-    (c.plan.result.now, c.index-graphs-from.result, c.plan.ensures, here, (c.in-Ok.ensures.one_head, c.in-Ok.ensures.regions, c.in-Ok.ensures.accepted))
+    ∙ ap (λ k. Some (get_or c.args.graphs.now k c.index-graphs-from.result)) (sym c.from.ensures)
+    ∙ ap (λ (g : CodeGraph). Some g) (sym c.index-graphs-from.is) in (
+      c.plan.result.now,
+      c.index-graphs-from.result,
+      c.plan.ensures,
+      here,
+      (c.in-Ok.ensures.one_head, c.in-Ok.ensures.regions, c.in-Ok.ensures.accepted),
+    )
 
 pub returns-in-Err-clause-exact : goal.returns-in-Err-clause-exact
 returns-in-Err-clause-exact c =
     let here : slice_get c.args.graphs.now c.args.task.0 ≡ Some c.index-graphs-from.result =
     slice_get-get_or c.args.graphs.now c.args.task.0 c.index-graphs-from.result c.requires.has_graph
-    ∙ ap (λ k. Some (get_or c.args.graphs.now k c.index-graphs-from.result)) (sym c.from.ensures) ∙ ap (λ (g : CodeGraph). Some g) (sym c.index-graphs-from.is) in
-    stops_so (RegionsAt c.args.input.now c.args.graphs.now c.args.task.0) (loop_halt c.task_name.result.now c.in-Err.error) c.loop_halt.result c.loop_halt.ensures
-    (c.plan.result.now, c.index-graphs-from.result, c.plan.ensures, here, (c.in-Err.error, (search rules), c.in-Err.ensures.refused, ap (λ n. loop_halt n c.in-Err.error) c.task_name.ensures))
+    ∙ ap (λ k. Some (get_or c.args.graphs.now k c.index-graphs-from.result)) (sym c.from.ensures)
+    ∙ ap (λ (g : CodeGraph). Some g) (sym c.index-graphs-from.is) in
+    stops_so (RegionsAt c.args.input.now c.args.graphs.now c.args.task.0)
+    (loop_halt c.task_name.result.now c.in-Err.error) c.loop_halt.result c.loop_halt.ensures (
+      c.plan.result.now,
+      c.index-graphs-from.result,
+      c.plan.ensures,
+      here,
+      (
+        c.in-Err.error,
+        (search rules),
+        c.in-Err.ensures.refused,
+        ap (λ n. loop_halt n c.in-Err.error) c.task_name.ensures,
+      ),
+    )
 
 pub returns-in-Ok-clause-shown : goal.returns-in-Ok-clause-shown
 returns-in-Ok-clause-shown c =
     let here : slice_get c.args.graphs.now c.args.task.0 ≡ Some c.index-graphs-from.result =
     slice_get-get_or c.args.graphs.now c.args.task.0 c.index-graphs-from.result c.requires.has_graph
-    ∙ ap (λ k. Some (get_or c.args.graphs.now k c.index-graphs-from.result)) (sym c.from.ensures) ∙ ap (λ (g : CodeGraph). Some g) (sym c.index-graphs-from.is) in
+    ∙ ap (λ k. Some (get_or c.args.graphs.now k c.index-graphs-from.result)) (sym c.from.ensures)
+    ∙ ap (λ (g : CodeGraph). Some g) (sym c.index-graphs-from.is) in
     graph_there c.args.graphs.now c.args.task.0 c.index-graphs-from.result c.in-Ok.nest here
-    (c.in-Ok.ensures.nest (plan_bounded c.args.input.now.code c.args.task.0 c.plan.result.now c.requires.bounded c.requires.planned c.plan.ensures))
+    (c.in-Ok.ensures.nest
+    (plan_bounded c.args.input.now.code c.args.task.0 c.plan.result.now c.requires.bounded
+    c.requires.planned c.plan.ensures))

@@ -5,11 +5,23 @@ use Rattle.crpd_input.proofs.renewed.renewed_graphs.Goals as goal
 
 pub returns-in-Err-clause-exact : goal.returns-in-Err-clause-exact
 returns-in-Err-clause-exact c =
-    let below : c.loop-place.place < length c.args.input.now.set.tasks = omega (arith, c.loop-place-test.true, c.requires.sources.count) in
-    stopped_below (GraphAt c.args.input.now) c.loop-place.graphs.items (length c.args.input.now.set.tasks) c.loop-place.place c.in-Err.halt c.loop-place.invariant.are c.loop-place.invariant.count below c.in-Err.ensures.exact
+    let below : c.loop-place.place < length c.args.input.now.set.tasks =
+    omega (arith, c.loop-place-test.true, c.requires.sources.count) in
+    stopped_below (GraphAt c.args.input.now) c.loop-place.graphs.items
+    (length c.args.input.now.set.tasks) c.loop-place.place c.in-Err.halt c.loop-place.invariant.are
+    c.loop-place.invariant.count below c.in-Err.ensures.exact
 
 pub loop-place-preserved : goal.loop-place-preserved
 loop-place-preserved c = record {
-  count = omega (arith, ap length c.in_ok-push.ensures.items, length-append c.loop-place.graphs.items (c.in-Ok.graph ∷ []), c.loop-place.invariant.count);
-  are = value_more (GraphAt c.args.input.now) c.loop-place.graphs.items c.push.new.self.items c.loop-place.place c.in-Ok.graph c.loop-place.invariant.are c.loop-place.invariant.count c.in-Ok.ensures.exact c.in_ok-push.ensures.items;
+  count =
+      omega (
+        arith,
+        ap length c.in_ok-push.ensures.items,
+        length-append c.loop-place.graphs.items (c.in-Ok.graph ∷ []),
+        c.loop-place.invariant.count,
+      );
+  are =
+      value_more (GraphAt c.args.input.now) c.loop-place.graphs.items c.push.new.self.items
+      c.loop-place.place c.in-Ok.graph c.loop-place.invariant.are c.loop-place.invariant.count
+      c.in-Ok.ensures.exact c.in_ok-push.ensures.items;
 }

@@ -7,17 +7,41 @@ use Rattle.crpd_input.proofs.renewed.renewed_nests.Goals as goal
 
 pub returns-in-Err-clause-exact : goal.returns-in-Err-clause-exact
 returns-in-Err-clause-exact c =
-    let below : c.loop-place.place < length c.args.input.now.set.tasks = omega (arith, c.loop-place-test.true, c.requires.sources.count) in
-    stopped_below (RegionsAt c.args.input.now c.args.graphs.now) c.loop-place.nests.items (length c.args.input.now.set.tasks) c.loop-place.place c.in-Err.halt c.loop-place.invariant.are c.loop-place.invariant.count below c.in-Err.ensures.exact
+    let below : c.loop-place.place < length c.args.input.now.set.tasks =
+    omega (arith, c.loop-place-test.true, c.requires.sources.count) in
+    stopped_below (RegionsAt c.args.input.now c.args.graphs.now) c.loop-place.nests.items
+    (length c.args.input.now.set.tasks) c.loop-place.place c.in-Err.halt c.loop-place.invariant.are
+    c.loop-place.invariant.count below c.in-Err.ensures.exact
 
 pub loop-place-preserved : goal.loop-place-preserved
 loop-place-preserved c = record {
-  count = omega (arith, ap length c.in_ok-push.ensures.items, length-append c.loop-place.nests.items (c.in-Ok.nest ∷ []), c.loop-place.invariant.count);
-  are = value_more (RegionsAt c.args.input.now c.args.graphs.now) c.loop-place.nests.items c.push.new.self.items c.loop-place.place c.in-Ok.nest c.loop-place.invariant.are c.loop-place.invariant.count c.in-Ok.ensures.exact c.in_ok-push.ensures.items;
-  shown = value_more (ShownAt c.args.graphs.now) c.loop-place.nests.items c.push.new.self.items c.loop-place.place c.in-Ok.nest c.loop-place.invariant.shown c.loop-place.invariant.count c.in-Ok.ensures.shown c.in_ok-push.ensures.items;
+  count =
+      omega (
+        arith,
+        ap length c.in_ok-push.ensures.items,
+        length-append c.loop-place.nests.items (c.in-Ok.nest ∷ []),
+        c.loop-place.invariant.count,
+      );
+  are =
+      value_more (RegionsAt c.args.input.now c.args.graphs.now) c.loop-place.nests.items
+      c.push.new.self.items c.loop-place.place c.in-Ok.nest c.loop-place.invariant.are
+      c.loop-place.invariant.count c.in-Ok.ensures.exact c.in_ok-push.ensures.items;
+  shown =
+      value_more (ShownAt c.args.graphs.now) c.loop-place.nests.items c.push.new.self.items
+      c.loop-place.place c.in-Ok.nest c.loop-place.invariant.shown c.loop-place.invariant.count
+      c.in-Ok.ensures.shown c.in_ok-push.ensures.items;
 }
 
 pub returns-clause-shown : goal.returns-clause-shown
 returns-clause-shown c =
-    let all : length c.loop-place.nests.items ≡ length c.args.input.now.set.tasks = omega (arith, c.loop-place.invariant.count, c.loop-place-test.false, c.loop-place.auto.place-end, c.requires.sources.count) in
-    subst (AreTaskGraphs c.args.input.now.set c.args.graphs.now) (sym c.new.ensures) (all_shown c.args.input.now.set c.args.graphs.now c.loop-place.nests.items c.requires.graphs.0 all c.loop-place.invariant.shown)
+    let all : length c.loop-place.nests.items ≡ length c.args.input.now.set.tasks =
+    omega (
+      arith,
+      c.loop-place.invariant.count,
+      c.loop-place-test.false,
+      c.loop-place.auto.place-end,
+      c.requires.sources.count,
+    ) in
+    subst (AreTaskGraphs c.args.input.now.set c.args.graphs.now) (sym c.new.ensures)
+    (all_shown c.args.input.now.set c.args.graphs.now c.loop-place.nests.items c.requires.graphs.0
+    all c.loop-place.invariant.shown)

@@ -6,8 +6,10 @@ use Rattle.crpd_input.proofs.same_task.are_same_ranges.Goals as goal
 
 same_pair : (a b : ℕ × ℕ) → Decides (a.0 == b.0 && a.1 == b.1) (a ≡ b)
 same_pair a b = (
-  (λ t. let p = and_parts (a.0 == b.0) (a.1 == b.1) t in let x = eqb-true a.0 b.0 p.0 in let y = eqb-true a.1 b.1 p.1 in λ i. (x i, y i)),
-  (λ e. rw (eq-eqb a.0 b.0 (ap (λ (p : ℕ × ℕ). p.0) e)) (eq-eqb a.1 b.1 (ap (λ (p : ℕ × ℕ). p.1) e))),
+  (λ t. let p = and_parts (a.0 == b.0) (a.1 == b.1) t in let x = eqb-true a.0 b.0 p.0 in
+      let y = eqb-true a.1 b.1 p.1 in λ i. (x i, y i)),
+  (λ e. rw (eq-eqb a.0 b.0 (ap (λ (p : ℕ × ℕ). p.0) e))
+      (eq-eqb a.1 b.1 (ap (λ (p : ℕ × ℕ). p.1) e))),
 )
 
 pub returns : goal.returns

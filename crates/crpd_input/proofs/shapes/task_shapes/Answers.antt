@@ -11,15 +11,27 @@ returns-in-Ok-clause-exact c =
     inl (
       c.in_ok-graphs.graphs,
       c.in_ok-graphs.ensures.exact,
-      inl (c.in-Ok.nests, subst (λ (gs : List CodeGraph). RegionsIn c.args.input.now gs (Ok c.in-Ok.nests)) c.as_slice.ensures c.in-Ok.ensures.exact, refl),
+      inl (
+        c.in-Ok.nests,
+        subst (λ (gs : List CodeGraph). RegionsIn c.args.input.now gs (Ok c.in-Ok.nests))
+            c.as_slice.ensures c.in-Ok.ensures.exact,
+        refl,
+      ),
     )
 
 pub returns-in-Ok-clause-shown : goal.returns-in-Ok-clause-shown
-returns-in-Ok-clause-shown c = subst (λ (gs : List CodeGraph). AreTaskGraphs c.args.input.now.set gs c.in-Ok.nests) c.as_slice.ensures c.in-Ok.ensures.shown
+returns-in-Ok-clause-shown c =
+    subst (λ (gs : List CodeGraph). AreTaskGraphs c.args.input.now.set gs c.in-Ok.nests)
+    c.as_slice.ensures c.in-Ok.ensures.shown
 
 pub returns-in-Err-clause-exact : goal.returns-in-Err-clause-exact
 returns-in-Err-clause-exact c =
-    goes_on (GraphsIn c.args.input.now) (λ graphs. Then (RegionsIn c.args.input.now graphs) (λ nests. Exactly (Ok (record { graphs = graphs; nests = nests })))) c.in_ok-graphs.graphs (Err c.in-Err.halt)
+    goes_on (GraphsIn c.args.input.now)
+    (λ graphs. Then (RegionsIn c.args.input.now graphs)
+    (λ nests. Exactly (Ok (record { graphs = graphs; nests = nests })))) c.in_ok-graphs.graphs
+    (Err c.in-Err.halt)
     c.in_ok-graphs.ensures.exact
-    (stopped (RegionsIn c.args.input.now c.in_ok-graphs.graphs) (λ nests. Exactly (Ok (record { graphs = c.in_ok-graphs.graphs; nests = nests }))) c.in-Err.halt
-    (subst (λ (gs : List CodeGraph). StopsBy (RegionsIn c.args.input.now gs) c.in-Err.halt) c.as_slice.ensures c.in-Err.ensures.exact))
+    (stopped (RegionsIn c.args.input.now c.in_ok-graphs.graphs)
+    (λ nests. Exactly (Ok (record { graphs = c.in_ok-graphs.graphs; nests = nests }))) c.in-Err.halt
+    (subst (λ (gs : List CodeGraph). StopsBy (RegionsIn c.args.input.now gs) c.in-Err.halt)
+    c.as_slice.ensures c.in-Err.ensures.exact))

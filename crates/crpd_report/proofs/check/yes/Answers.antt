@@ -8,18 +8,33 @@ use Rattle.crpd_report.proofs.check.yes.Goals as goal
 
 pub loop-task-preserved : goal.loop-task-preserved
 loop-task-preserved c =
-    let first : iter_rest (zip_first c.into_iter-task-iterator.result) ≡ c.args.set.now.tasks = search rules in
-    let second : iter_rest (zip_second c.into_iter-task-iterator.result) ≡ c.args.certificate.now.tasks = search rules in
-    let turn = zip_turn c.args.set.now.tasks c.args.certificate.now.tasks c.loop-task.yielded c.into_iter-task-iterator.result c.loop-task.task-iterator c.next.new.self c.next.result first second c.loop-task.yielded_by (c.in-Some.task, c.in-Some.part) c.in-Some.is c.next.ensures.steps in
-    one_line_more task_line c.args.set.now.tasks c.args.certificate.now.tasks (codes "yes" ++ 10 ∷ []) (length c.loop-task.yielded) (length (c.loop-task.yielded ++ (c.in-Some.task, c.in-Some.part) ∷ [])) c.in-Some.task.now c.in-Some.part.now
-    c.loop-task.text.items c.add_task.new.text.items (length-append c.loop-task.yielded ((c.in-Some.task, c.in-Some.part) ∷ [])) turn.0 turn.1 (turn.2 c.in-Some.task.now) (turn.3 c.in-Some.part.now)
+    let first : iter_rest (zip_first c.into_iter-task-iterator.result) ≡ c.args.set.now.tasks =
+    search rules in
+    let second : iter_rest (zip_second c.into_iter-task-iterator.result)
+    ≡ c.args.certificate.now.tasks = search rules in
+    let turn = zip_turn c.args.set.now.tasks c.args.certificate.now.tasks c.loop-task.yielded
+    c.into_iter-task-iterator.result c.loop-task.task-iterator c.next.new.self c.next.result first
+    second c.loop-task.yielded_by (c.in-Some.task, c.in-Some.part) c.in-Some.is
+    c.next.ensures.steps in
+    one_line_more task_line c.args.set.now.tasks c.args.certificate.now.tasks
+    (codes "yes" ++ 10 ∷ []) (length c.loop-task.yielded)
+    (length (c.loop-task.yielded ++ (c.in-Some.task, c.in-Some.part) ∷ [])) c.in-Some.task.now
+    c.in-Some.part.now
+    c.loop-task.text.items c.add_task.new.text.items
+    (length-append c.loop-task.yielded ((c.in-Some.task, c.in-Some.part) ∷ [])) turn.0 turn.1
+    (turn.2 c.in-Some.task.now) (turn.3 c.in-Some.part.now)
     c.loop-task.invariant (search rules)
 
 pub returns : goal.returns
 unfolding yes_text
 returns c =
-    let first : iter_rest (zip_first c.into_iter-task-iterator.result) ≡ c.args.set.now.tasks = search rules in
-    let second : iter_rest (zip_second c.into_iter-task-iterator.result) ≡ c.args.certificate.now.tasks = search rules in
-    all_the_lines task_line c.args.set.now.tasks c.args.certificate.now.tasks (codes "yes" ++ 10 ∷ []) (length c.loop-task.yielded) c.loop-task.text.items
-    (zip_end c.args.set.now.tasks c.args.certificate.now.tasks c.loop-task.yielded c.into_iter-task-iterator.result c.loop-task.task-iterator c.next.new.self c.next.result first second c.loop-task.yielded_by c.in-None.is c.next.ensures.steps)
+    let first : iter_rest (zip_first c.into_iter-task-iterator.result) ≡ c.args.set.now.tasks =
+    search rules in
+    let second : iter_rest (zip_second c.into_iter-task-iterator.result)
+    ≡ c.args.certificate.now.tasks = search rules in
+    all_the_lines task_line c.args.set.now.tasks c.args.certificate.now.tasks
+    (codes "yes" ++ 10 ∷ []) (length c.loop-task.yielded) c.loop-task.text.items
+    (zip_end c.args.set.now.tasks c.args.certificate.now.tasks c.loop-task.yielded
+    c.into_iter-task-iterator.result c.loop-task.task-iterator c.next.new.self c.next.result first
+    second c.loop-task.yielded_by c.in-None.is c.next.ensures.steps)
     c.loop-task.invariant

@@ -4,4 +4,6 @@ use Rattle.crpd_report.specs.Check.{task_line}
 use Rattle.crpd_report.proofs.check.yes.Given as goal
 
 abbrev pub invariant-loop-task : goal.invariant-loop-task
-invariant-loop-task l = l.text.items ≡ (codes "yes" ++ 10 ∷ []) ++ flat_map task_line (take (length l.yielded) (zip l.set.tasks l.certificate.tasks))
+invariant-loop-task l =
+    l.text.items ≡ (codes "yes" ++ 10 ∷ [])
+    ++ flat_map task_line (take (length l.yielded) (zip l.set.tasks l.certificate.tasks))

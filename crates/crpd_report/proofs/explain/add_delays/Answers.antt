@@ -1,4 +1,5 @@
-use Rattle.std.proofs.Common.{◌≡◌, ◌<◌, [], ◌∷◌, ◌++◌, List, get_or, length, map, ap, subst, ◌∙◌, arith}
+use Rattle.std.proofs.Common.{◌≡◌, ◌<◌, [], ◌∷◌, ◌++◌, List, get_or, length, map, ap, subst, ◌∙◌}
+use Rattle.std.proofs.Common.{arith}
 use Rattle.std.specs.Prelude.{codes}
 use Rattle.std.specs.Fmt.{decimal}
 use Rattle.std.specs.List.{flat_map, range_with_len}
@@ -18,41 +19,84 @@ charged_delays-delay-requires-clause-times c = has_times c.args.set.now c.requir
 pub charged_delays-delay-requires-clause-windows : goal.charged_delays-delay-requires-clause-windows
 charged_delays-delay-requires-clause-windows c =
     let tasks = c.args.certificate.now.tasks in
-    let ps : c.deref.result.now ≡ map (λ (t : TaskPart). t.part) tasks = c.deref.ensures.value ∙ c.in_ok-parts.ensures ∙ ap (map (λ (t : TaskPart). t.part)) c.as_slice-tasks.ensures in
-    let ws : c.deref-in-loop-place.result.now ≡ map (λ (t : TaskPart). t.window) tasks = c.deref-in-loop-place.ensures.value ∙ c.in_ok-windows.ensures ∙ ap (map (λ (t : TaskPart). t.window)) c.as_slice-tasks.ensures in
-    has_windows c.args.certificate.now c.deref.result.now c.deref-in-loop-place.result.now ps ws c.args.set.now (has_times c.args.set.now c.requires.set) c.requires.certificate c.loop-place.place
-    (omega (arith, c.loop-place-test.true, ap length c.as_slice-tasks.ensures, c.requires.certificate.tasks))
+    let ps : c.deref.result.now ≡ map (λ (t : TaskPart). t.part) tasks =
+    c.deref.ensures.value ∙ c.in_ok-parts.ensures
+    ∙ ap (map (λ (t : TaskPart). t.part)) c.as_slice-tasks.ensures in
+    let ws : c.deref-in-loop-place.result.now ≡ map (λ (t : TaskPart). t.window) tasks =
+    c.deref-in-loop-place.ensures.value ∙ c.in_ok-windows.ensures
+    ∙ ap (map (λ (t : TaskPart). t.window)) c.as_slice-tasks.ensures in
+    has_windows c.args.certificate.now c.deref.result.now c.deref-in-loop-place.result.now ps ws
+    c.args.set.now (has_times c.args.set.now c.requires.set) c.requires.certificate
+    c.loop-place.place
+    (omega (
+      arith,
+      c.loop-place-test.true,
+      ap length c.as_slice-tasks.ensures,
+      c.requires.certificate.tasks,
+    ))
 
 pub charged_delays-delay-requires-clause-w : goal.charged_delays-delay-requires-clause-w
 charged_delays-delay-requires-clause-w c =
     let tasks = c.args.certificate.now.tasks in
-    let ps : c.deref.result.now ≡ map (λ (t : TaskPart). t.part) tasks = c.deref.ensures.value ∙ c.in_ok-parts.ensures ∙ ap (map (λ (t : TaskPart). t.part)) c.as_slice-tasks.ensures in
-    let ws : c.deref-in-loop-place.result.now ≡ map (λ (t : TaskPart). t.window) tasks = c.deref-in-loop-place.ensures.value ∙ c.in_ok-windows.ensures ∙ ap (map (λ (t : TaskPart). t.window)) c.as_slice-tasks.ensures in
+    let ps : c.deref.result.now ≡ map (λ (t : TaskPart). t.part) tasks =
+    c.deref.ensures.value ∙ c.in_ok-parts.ensures
+    ∙ ap (map (λ (t : TaskPart). t.part)) c.as_slice-tasks.ensures in
+    let ws : c.deref-in-loop-place.result.now ≡ map (λ (t : TaskPart). t.window) tasks =
+    c.deref-in-loop-place.ensures.value ∙ c.in_ok-windows.ensures
+    ∙ ap (map (λ (t : TaskPart). t.window)) c.as_slice-tasks.ensures in
     let long = ap length c.as_slice-tasks.ensures in
     let at : certified_task c.args.certificate.now c.loop-place.place ≡ c.index-tasks-place.result =
-    part_is c.args.certificate.now c.loop-place.place c.index-tasks-place.result (omega (arith, c.loop-place-test.true, long))
-    (subst (λ (xs : List TaskPart). c.index-tasks-place.result ≡ get_or xs c.loop-place.place c.index-tasks-place.result) c.as_slice-tasks.ensures c.index-tasks-place.is) in
-    small c.args.certificate.now c.deref.result.now c.deref-in-loop-place.result.now ps ws c.args.set.now (has_times c.args.set.now c.requires.set) c.requires.certificate c.loop-place.place c.index-tasks-place.result
+    part_is c.args.certificate.now c.loop-place.place c.index-tasks-place.result
+    (omega (arith, c.loop-place-test.true, long))
+    (subst (λ (xs : List TaskPart).
+    c.index-tasks-place.result ≡ get_or xs c.loop-place.place c.index-tasks-place.result)
+    c.as_slice-tasks.ensures c.index-tasks-place.is) in
+    small c.args.certificate.now c.deref.result.now c.deref-in-loop-place.result.now ps ws
+    c.args.set.now (has_times c.args.set.now c.requires.set) c.requires.certificate
+    c.loop-place.place c.index-tasks-place.result
     (omega (arith, c.loop-place-test.true, long, c.requires.certificate.tasks)) at
 
 pub loop-place-preserved : goal.loop-place-preserved
 loop-place-preserved c =
     let tasks = c.args.certificate.now.tasks in
-    let ps : c.deref.result.now ≡ map (λ (t : TaskPart). t.part) tasks = c.deref.ensures.value ∙ c.in_ok-parts.ensures ∙ ap (map (λ (t : TaskPart). t.part)) c.as_slice-tasks.ensures in
-    let ws : c.deref-in-loop-place.result.now ≡ map (λ (t : TaskPart). t.window) tasks = c.deref-in-loop-place.ensures.value ∙ c.in_ok-windows.ensures ∙ ap (map (λ (t : TaskPart). t.window)) c.as_slice-tasks.ensures in
+    let ps : c.deref.result.now ≡ map (λ (t : TaskPart). t.part) tasks =
+    c.deref.ensures.value ∙ c.in_ok-parts.ensures
+    ∙ ap (map (λ (t : TaskPart). t.part)) c.as_slice-tasks.ensures in
+    let ws : c.deref-in-loop-place.result.now ≡ map (λ (t : TaskPart). t.window) tasks =
+    c.deref-in-loop-place.ensures.value ∙ c.in_ok-windows.ensures
+    ∙ ap (map (λ (t : TaskPart). t.window)) c.as_slice-tasks.ensures in
     let at : certified_task c.args.certificate.now c.loop-place.place ≡ c.index-tasks-place.result =
-    part_is c.args.certificate.now c.loop-place.place c.index-tasks-place.result (omega (arith, c.loop-place-test.true, ap length c.as_slice-tasks.ensures))
-    (subst (λ (xs : List TaskPart). c.index-tasks-place.result ≡ get_or xs c.loop-place.place c.index-tasks-place.result) c.as_slice-tasks.ensures c.index-tasks-place.is) in
-    let delay : c.charged_delays-delay.result ≡ delay_of c.args.set.now c.args.certificate.now c.loop-place.place =
-    delay_is c.args.certificate.now c.deref.result.now c.deref-in-loop-place.result.now ps ws c.args.set.now c.loop-place.place c.index-tasks-place.result c.charged_delays-delay.result at c.charged_delays-delay.ensures in
-    one_place_more (delay_line c.args.set.now c.args.certificate.now) c.args.text.now.items c.loop-place.place c.loop-place.text.items c.add_delay.new.text.items c.loop-place.invariant
+    part_is c.args.certificate.now c.loop-place.place c.index-tasks-place.result
+    (omega (arith, c.loop-place-test.true, ap length c.as_slice-tasks.ensures))
+    (subst (λ (xs : List TaskPart).
+    c.index-tasks-place.result ≡ get_or xs c.loop-place.place c.index-tasks-place.result)
+    c.as_slice-tasks.ensures c.index-tasks-place.is) in
+    let delay : c.charged_delays-delay.result
+    ≡ delay_of c.args.set.now c.args.certificate.now c.loop-place.place =
+    delay_is c.args.certificate.now c.deref.result.now c.deref-in-loop-place.result.now ps ws
+    c.args.set.now c.loop-place.place c.index-tasks-place.result c.charged_delays-delay.result at
+    c.charged_delays-delay.ensures in
+    one_place_more (delay_line c.args.set.now c.args.certificate.now) c.args.text.now.items
+    c.loop-place.place c.loop-place.text.items c.add_delay.new.text.items c.loop-place.invariant
     (c.in_ok-add_delay.ensures
-    ∙ ap (λ name. c.loop-place.text.items ++ (codes "delay " ++ name ++ codes " " ++ decimal c.charged_delays-delay.result ++ 10 ∷ [])) c.task_name.ensures
-    ∙ ap (λ d. c.loop-place.text.items ++ (codes "delay " ++ name_of c.args.set.now (record { 0 = c.loop-place.place }) ++ codes " " ++ decimal d ++ 10 ∷ [])) delay)
+    ∙ ap (λ name. c.loop-place.text.items
+    ++ (codes "delay " ++ name ++ codes " " ++ decimal c.charged_delays-delay.result ++ 10 ∷ []))
+    c.task_name.ensures
+    ∙ ap (λ d. c.loop-place.text.items
+    ++ (codes "delay " ++ name_of c.args.set.now (record { 0 = c.loop-place.place }) ++ codes " "
+    ++ decimal d ++ 10 ∷ [])) delay)
 
 pub returns : goal.returns
 unfolding delay_lines
 returns c =
     let long : c.loop-place.place ≡ length c.args.set.now.tasks =
-    omega (arith, c.loop-place-test.false, c.loop-place.auto.place-end, ap length c.as_slice-tasks.ensures, c.requires.certificate.tasks) in
-    c.loop-place.invariant ∙ ap (λ n. c.args.text.now.items ++ flat_map (delay_line c.args.set.now c.args.certificate.now) (range_with_len 0 n)) long
+    omega (
+      arith,
+      c.loop-place-test.false,
+      c.loop-place.auto.place-end,
+      ap length c.as_slice-tasks.ensures,
+      c.requires.certificate.tasks,
+    ) in
+    c.loop-place.invariant ∙ ap
+    (λ n. c.args.text.now.items ++ flat_map (delay_line c.args.set.now c.args.certificate.now)
+    (range_with_len 0 n)) long

@@ -4,4 +4,6 @@ use Rattle.crpd_report.specs.Explain.{delay_line}
 use Rattle.crpd_report.proofs.explain.add_delays.Given as goal
 
 abbrev pub invariant-loop-place : goal.invariant-loop-place
-invariant-loop-place l = l.text.items ≡ l.fn.text.items ++ flat_map (delay_line l.set l.certificate) (range_with_len 0 l.place)
+invariant-loop-place l =
+    l.text.items ≡ l.fn.text.items ++ flat_map (delay_line l.set l.certificate)
+    (range_with_len 0 l.place)

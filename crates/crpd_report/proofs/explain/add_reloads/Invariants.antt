@@ -4,4 +4,5 @@ use Rattle.crpd_report.specs.Explain.{reload_line}
 use Rattle.crpd_report.proofs.explain.add_reloads.Given as goal
 
 abbrev pub invariant-loop-entry : goal.invariant-loop-entry
-invariant-loop-entry l = l.text.items ≡ l.fn.text.items ++ flat_map (reload_line l.set) (take l.entry-index l.entries)
+invariant-loop-entry l =
+    l.text.items ≡ l.fn.text.items ++ flat_map (reload_line l.set) (take l.entry-index l.entries)

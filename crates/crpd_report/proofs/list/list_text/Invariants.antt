@@ -7,7 +7,8 @@ use Rattle.crpd_report.proofs.list.list_text.Given as goal
 
 abbrev pub invariant-loop-address : goal.invariant-loop-address
 invariant-loop-address l = record {
-  lines : (image : Image) → slice_get l.code.images l.task.0 ≡ Some image → l.text.items ≡ word_lines l.code (those_below l.from (owns image));
+  lines : (image : Image) → slice_get l.code.images l.task.0 ≡ Some image
+      → l.text.items ≡ word_lines l.code (those_below l.from (owns image));
   below : l.from ≤ 2 ^ 32;
 }
 

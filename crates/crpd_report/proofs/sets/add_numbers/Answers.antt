@@ -13,18 +13,25 @@ loop-number-init c = none_yet number_text (has c.args.set.now) c.args.text.now.i
 pub loop-number-preserved : goal.loop-number-preserved
 loop-number-preserved c =
     let n = c.loop-number.number in
-    let same : c.has.result ≡ has c.args.set.now n = is_the_test c.args.set.now n c.has.result c.has.ensures in
+    let same : c.has.result ≡ has c.args.set.now n =
+    is_the_test c.args.set.now n c.has.result c.has.ensures in
     elim c.if-has.branch [
       | then-has+in_ok-add_number w ↦
-          let e = passed number_text (has c.args.set.now) c.args.text.now.items c.loop-number.text.items n (n + 1) refl (sym same ∙ w.if-has.true) c.loop-number.invariant in
+          let e = passed number_text (has c.args.set.now) c.args.text.now.items
+          c.loop-number.text.items n (n + 1) refl (sym same ∙ w.if-has.true)
+          c.loop-number.invariant in
           grind (arith, e, w.text-is, w.in_ok-add_number.ensures)
       | else-has w ↦
-          let e = failed number_text (has c.args.set.now) c.args.text.now.items c.loop-number.text.items n (n + 1) refl (sym same ∙ w.if-has.false) c.loop-number.invariant in
+          let e = failed number_text (has c.args.set.now) c.args.text.now.items
+          c.loop-number.text.items n (n + 1) refl (sym same ∙ w.if-has.false)
+          c.loop-number.invariant in
           grind (arith, e, w.text-is)
     ]
 
 pub returns : goal.returns
 unfolding numbers_text
 returns c =
-    let all : c.loop-number.number ≡ 512 = omega (arith, c.loop-number-test.false, c.loop-number.auto.number-end) in
-    c.loop-number.invariant ∙ ap (λ n. c.args.text.now.items ++ flat_map number_text (those_below n (has c.args.set.now))) all
+    let all : c.loop-number.number ≡ 512 =
+    omega (arith, c.loop-number-test.false, c.loop-number.auto.number-end) in
+    c.loop-number.invariant ∙ ap
+    (λ n. c.args.text.now.items ++ flat_map number_text (those_below n (has c.args.set.now))) all

@@ -6,4 +6,5 @@ use Rattle.crpd_report.specs.Sets.{number_text}
 use Rattle.crpd_report.proofs.sets.add_numbers.Given as goal
 
 abbrev pub invariant-loop-number : goal.invariant-loop-number
-invariant-loop-number l = l.text.items ≡ l.fn.text.items ++ flat_map number_text (those_below l.number (has l.set))
+invariant-loop-number l =
+    l.text.items ≡ l.fn.text.items ++ flat_map number_text (those_below l.number (has l.set))

@@ -4,4 +4,5 @@ use Rattle.crpd_report.specs.Sets.{task_lines}
 use Rattle.crpd_report.proofs.sets.lines.Given as goal
 
 abbrev pub invariant-loop-task : goal.invariant-loop-task
-invariant-loop-task l = l.text.items ≡ [] ++ flat_map task_lines (take (length l.yielded) (zip l.set.tasks l.parts))
+invariant-loop-task l =
+    l.text.items ≡ [] ++ flat_map task_lines (take (length l.yielded) (zip l.set.tasks l.parts))

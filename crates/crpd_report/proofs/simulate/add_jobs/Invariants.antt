@@ -4,4 +4,6 @@ use Rattle.crpd_report.specs.Simulate.{job_line}
 use Rattle.crpd_report.proofs.simulate.add_jobs.Given as goal
 
 abbrev pub invariant-loop-job : goal.invariant-loop-job
-invariant-loop-job l = l.text.items ≡ l.fn.text.items ++ flat_map (job_line l.set) (take (length l.yielded) (zip l.jobs l.completions))
+invariant-loop-job l =
+    l.text.items ≡ l.fn.text.items
+    ++ flat_map (job_line l.set) (take (length l.yielded) (zip l.jobs l.completions))

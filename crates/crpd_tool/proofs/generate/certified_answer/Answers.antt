@@ -27,16 +27,45 @@ returns c =
     let kept = c.in_ok-completions.kept in
     let m = run_of input script in
     let outcome = c.in_ok-completions.ensures in
-    let ends : c.as_slice-ends.result.now ≡ completions_of m = c.as_slice-ends.ensures.value ∙ told m c.in_ok-completions.completions.items outcome.long outcome.each in
-    let nodes : c.node_count-nodes.result ≡ node_count shapes.graphs = c.node_count-nodes.ensures ∙ ap node_count c.as_slice-graphs.ensures in
-    let judged : IsJudged input.set (task_graph_at shapes.graphs shapes.nests) certificate (answer_of found) =
-    subst (λ (gs : List CodeGraph). IsJudged input.set (task_graph_at gs shapes.nests) certificate (answer_of found)) c.as_slice-graphs.ensures
-    (subst (λ (ns : List CodeNest). IsJudged input.set (task_graph_at c.as_slice-graphs.result.now ns) certificate (answer_of found)) c.as_slice.ensures c.verdict-found.ensures) in
-    let text : c.new.result ≡ generate_text n (node_count shapes.graphs) input.set certificate found script (completions_of m) kept =
+    let ends : c.as_slice-ends.result.now ≡ completions_of m =
+    c.as_slice-ends.ensures.value
+    ∙ told m c.in_ok-completions.completions.items outcome.long outcome.each in
+    let nodes : c.node_count-nodes.result ≡ node_count shapes.graphs =
+    c.node_count-nodes.ensures ∙ ap node_count c.as_slice-graphs.ensures in
+    let judged : IsJudged input.set (task_graph_at shapes.graphs shapes.nests) certificate
+    (answer_of found) =
+    subst (λ (gs : List CodeGraph).
+    IsJudged input.set (task_graph_at gs shapes.nests) certificate (answer_of found))
+    c.as_slice-graphs.ensures
+    (subst (λ (ns : List CodeNest).
+    IsJudged input.set (task_graph_at c.as_slice-graphs.result.now ns) certificate
+    (answer_of found)) c.as_slice.ensures c.verdict-found.ensures) in
+    let text : c.new.result ≡ generate_text n (node_count shapes.graphs) input.set certificate found
+    script (completions_of m) kept =
     c.new.ensures ∙ c.in_ok-text.ensures
-    ∙ ap (λ (k : ℕ). generate_text n k input.set certificate found script c.as_slice-ends.result.now kept) nodes
-    ∙ ap (λ (cs : List Completion). generate_text n (node_count shapes.graphs) input.set certificate found script cs kept) ends in
-    let answer : ◌≡◌ {A = Answer} (record { text = c.new.result; outcome = c.verdict_outcome.result }) (made_answer n script input shapes certificate found kept) =
+    ∙ ap (λ (k : ℕ). generate_text n k input.set certificate found script
+    c.as_slice-ends.result.now kept) nodes
+    ∙ ap (λ (cs : List Completion).
+    generate_text n (node_count shapes.graphs) input.set certificate found script cs kept) ends in
+    let answer : ◌≡◌ {A = Answer}
+    (record { text = c.new.result; outcome = c.verdict_outcome.result })
+    (made_answer n script input shapes certificate found kept) =
     ap (λ (t : List ℕ). record { text = t; outcome = c.verdict_outcome.result }) text
-    ∙ ap (λ o. record { text = generate_text n (node_count shapes.graphs) input.set certificate found script (completions_of m) kept; outcome = o }) c.verdict_outcome.ensures in
-    inl (certificate, found, kept, record { best = c.requires.best; few = c.requires.ranges.entries; judged = judged; kept_so = outcome.kept_so }, ap (λ (a : Answer). Ok a) answer)
+    ∙ ap (λ o. record {
+      text =
+          generate_text n (node_count shapes.graphs) input.set certificate found script
+          (completions_of m) kept;
+      outcome = o;
+    }) c.verdict_outcome.ensures in
+    inl (
+      certificate,
+      found,
+      kept,
+      record {
+        best = c.requires.best;
+        few = c.requires.ranges.entries;
+        judged = judged;
+        kept_so = outcome.kept_so;
+      },
+      ap (λ (a : Answer). Ok a) answer,
+    )

@@ -11,10 +11,12 @@ pub returns-in-Ok-clause-exact : goal.returns-in-Ok-clause-exact
 returns-in-Ok-clause-exact c =
     let files = c.in_ok-kept.kept.files.items in
     subst (λ (contents : Contents). code_in contents made_name c.args.set.now ≡ Ok c.in-Ok.code)
-    (contents_are files ∙ ap contents_of_files c.in_ok-kept.ensures) (c.in-Ok.ensures.exact (file_named files) refl)
+    (contents_are files ∙ ap contents_of_files c.in_ok-kept.ensures)
+    (c.in-Ok.ensures.exact (file_named files) refl)
 
 pub returns-clause-exact : goal.returns-clause-exact
 returns-clause-exact c =
     let files = c.in_ok-kept.kept.files.items in
     subst (λ (contents : Contents). Stops (code_in contents made_name c.args.set.now) c.in-Err.halt)
-    (contents_are files ∙ ap contents_of_files c.in_ok-kept.ensures) (c.in-Err.ensures.exact (file_named files) refl)
+    (contents_are files ∙ ap contents_of_files c.in_ok-kept.ensures)
+    (c.in-Err.ensures.exact (file_named files) refl)

@@ -16,12 +16,17 @@ Rest contents script input = Then (Exactly (script_in contents script input.set)
 
 pub returns-clause-exact : goal.returns-clause-exact
 returns-clause-exact g c = λ contents told.
-    goes_on (Exactly (input_in contents c.args.set.now)) (Rest contents c.args.script.now) c.in_ok-input.input (Ok c.in_ok-answer.answer) (c.in_ok-input.ensures.exact contents told)
-    (goes_on (Exactly (script_in contents c.args.script.now c.in_ok-input.input.set)) (ReportOf c.in_ok-input.input) c.in-Ok.stated (Ok c.in_ok-answer.answer)
+    goes_on (Exactly (input_in contents c.args.set.now)) (Rest contents c.args.script.now)
+    c.in_ok-input.input (Ok c.in_ok-answer.answer) (c.in_ok-input.ensures.exact contents told)
+    (goes_on (Exactly (script_in contents c.args.script.now c.in_ok-input.input.set))
+    (ReportOf c.in_ok-input.input) c.in-Ok.stated (Ok c.in_ok-answer.answer)
     (c.in-Ok.ensures.exact contents (c.in_ok-input.ensures.same ∙ told)) c.in_ok-answer.ensures)
 
 pub returns-in-Err-clause-exact : goal.returns-in-Err-clause-exact
 returns-in-Err-clause-exact g c = λ contents told.
-    goes_on (Exactly (input_in contents c.args.set.now)) (Rest contents c.args.script.now) c.in_ok-input.input (Err c.in-Err.halt) (c.in_ok-input.ensures.exact contents told)
-    (stopped (Exactly (script_in contents c.args.script.now c.in_ok-input.input.set)) (ReportOf c.in_ok-input.input) c.in-Err.halt
-    (by_exactly (script_in contents c.args.script.now c.in_ok-input.input.set) (Err c.in-Err.halt) (c.in-Err.ensures.exact contents (c.in_ok-input.ensures.same ∙ told))))
+    goes_on (Exactly (input_in contents c.args.set.now)) (Rest contents c.args.script.now)
+    c.in_ok-input.input (Err c.in-Err.halt) (c.in_ok-input.ensures.exact contents told)
+    (stopped (Exactly (script_in contents c.args.script.now c.in_ok-input.input.set))
+    (ReportOf c.in_ok-input.input) c.in-Err.halt
+    (by_exactly (script_in contents c.args.script.now c.in_ok-input.input.set) (Err c.in-Err.halt)
+    (c.in-Err.ensures.exact contents (c.in_ok-input.ensures.same ∙ told))))

@@ -15,11 +15,14 @@ use Rattle.crpd_tool.specs.Update.{ChangeOf, UpdateOf}
 use Rattle.crpd_tool.proofs.update.judge_and_change.Goals as goal
 
 -- after the judge's yes the update is the whole answer
-after_yes : (file : List ℕ) (old : Input) (old_shapes : Shapes) (stated : Certificate) (input : Input) (shapes : Shapes) (result : Result Answer Halt)
+after_yes : (file : List ℕ) (old : Input) (old_shapes : Shapes) (stated : Certificate)
+    (input : Input) (shapes : Shapes) (result : Result Answer Halt)
     → IsJudged old.set (task_graph_at old_shapes.graphs old_shapes.nests) stated Yes
-    → MeansBy (ChangeOf file old old_shapes stated input shapes) result → MeansBy (UpdateOf file old old_shapes stated input shapes) result
+    → MeansBy (ChangeOf file old old_shapes stated input shapes) result
+    → MeansBy (UpdateOf file old old_shapes stated input shapes) result
 after_yes file old old_shapes stated input shapes (Ok answer) judged change = inr (judged, change)
-after_yes file old old_shapes stated input shapes (Err (Refused refusal)) judged change = inr (judged, change)
+after_yes file old old_shapes stated input shapes (Err (Refused refusal)) judged change =
+    inr (judged, change)
 after_yes file old old_shapes stated input shapes (Err Memory) judged change = tt
 after_yes file old old_shapes stated input shapes (Err Fault) judged change = tt
 
@@ -28,12 +31,21 @@ verdict-found-requires-clause-certificate c = in_range c.args.stated.now c.requi
 
 pub change-requires-clause-judged : goal.change-requires-clause-judged
 change-requires-clause-judged c =
-    subst (λ (gs : List CodeGraph). IsJudged c.args.old.now.set (task_graph_at gs c.args.old_shapes.now.nests) c.args.stated.now Yes) c.as_slice-graphs.ensures
-    (subst (λ (ns : List CodeNest). IsJudged c.args.old.now.set (task_graph_at c.as_slice-graphs.result.now ns) c.args.stated.now Yes) c.as_slice-nests.ensures c.in-Yes.ensures)
+    subst (λ (gs : List CodeGraph).
+    IsJudged c.args.old.now.set (task_graph_at gs c.args.old_shapes.now.nests) c.args.stated.now
+    Yes) c.as_slice-graphs.ensures
+    (subst (λ (ns : List CodeNest).
+    IsJudged c.args.old.now.set (task_graph_at c.as_slice-graphs.result.now ns) c.args.stated.now
+    Yes) c.as_slice-nests.ensures c.in-Yes.ensures)
 
 pub returns-in-Yes-clause-exact : goal.returns-in-Yes-clause-exact
 returns-in-Yes-clause-exact c =
-    after_yes c.args.file.now c.args.old.now c.args.old_shapes.now c.args.stated.now c.args.input.now c.args.shapes.now c.change.result
-    (subst (λ (gs : List CodeGraph). IsJudged c.args.old.now.set (task_graph_at gs c.args.old_shapes.now.nests) c.args.stated.now Yes) c.as_slice-graphs.ensures
-    (subst (λ (ns : List CodeNest). IsJudged c.args.old.now.set (task_graph_at c.as_slice-graphs.result.now ns) c.args.stated.now Yes) c.as_slice-nests.ensures c.in-Yes.ensures))
+    after_yes c.args.file.now c.args.old.now c.args.old_shapes.now c.args.stated.now
+    c.args.input.now c.args.shapes.now c.change.result
+    (subst (λ (gs : List CodeGraph).
+    IsJudged c.args.old.now.set (task_graph_at gs c.args.old_shapes.now.nests) c.args.stated.now
+    Yes) c.as_slice-graphs.ensures
+    (subst (λ (ns : List CodeNest).
+    IsJudged c.args.old.now.set (task_graph_at c.as_slice-graphs.result.now ns) c.args.stated.now
+    Yes) c.as_slice-nests.ensures c.in-Yes.ensures))
     c.change.ensures.exact

@@ -6,5 +6,6 @@ use Rattle.dataflow.proofs.order.visit_order.Goals as goal
 pub returns : goal.returns
 returns g c =
     subst (IsVisitOrder (g.G.Flow.node_count c.args.flow.now))
-    (sym (c.in_ok-extend_from_slice.ensures.items ∙ ap (λ (l : List ℕ). c.in_ok-order.order.items ++ l) c.deref.ensures.value))
+    (sym (c.in_ok-extend_from_slice.ensures.items
+    ∙ ap (λ (l : List ℕ). c.in_ok-order.order.items ++ l) c.deref.ensures.value))
     (both_orders _ _ _ c.in_ok-order.ensures c.in_ok-second.ensures)

@@ -7,5 +7,6 @@ use Rattle.dataflow.proofs.solver.first_facts.Given as goal
 abbrev pub invariant-loop-node : goal.invariant-loop-node
 invariant-loop-node g l = record {
   nodes : vec_len l.facts ≡ l.node;
-  begins : (n : ℕ) → n < l.node → fact_at g.D.Domain.view l.facts.items n ≡ g.D.Domain.begins l.domain n;
+  begins : (n : ℕ) → n < l.node
+      → fact_at g.D.Domain.view l.facts.items n ≡ g.D.Domain.begins l.domain n;
 }

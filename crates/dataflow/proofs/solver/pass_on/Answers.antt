@@ -1,4 +1,5 @@
-use Rattle.std.proofs.Common.{◌≡◌, ◌<◌, ◌≤◌, Some, None, length, ap, sym, ◌∙◌, subst, arith, option_map, true, false}
+use Rattle.std.proofs.Common.{◌≡◌, ◌<◌, ◌≤◌, Some, None, length, ap, sym, ◌∙◌, subst, arith}
+use Rattle.std.proofs.Common.{option_map, true, false}
 use Rattle.std.proofs.lemmas.List.{get_or_default}
 use Rattle.dataflow.specs.Problem.{problem, fact_at}
 use Rattle.dataflow.specs.Inner.Search.{IsPartialSolution, waits, past_edge, absorbed}
@@ -11,12 +12,17 @@ use Rattle.dataflow.proofs.solver.pass_on.Goals.{then-absorb, else-absorb}
 
 pub loop-next-init : goal.loop-next-init
 loop-next-init g c =
-    let last = read_last _ _ c.args.node (g.G.Flow.ends c.args.flow.now) _ _ c.index-next.result.now c.requires.edges c.requires.node c.index-next.ensures in
+    let last = read_last _ _ c.args.node (g.G.Flow.ends c.args.flow.now) _ _ c.index-next.result.now
+    c.requires.edges c.requires.node c.index-next.ensures in
     record {
       waiting = c.requires.waiting;
       edge = last.edge;
       source = c.requires.source;
-      under_way = none_passed _ _ (record { joins = g.met.D.Domain.joins; distributes = g.met.D.Domain.distributes c.args.domain.now }) _ _ _ _ last c.requires.under_way;
+      under_way =
+          none_passed _ _ (record {
+            joins = g.met.D.Domain.joins;
+            distributes = g.met.D.Domain.distributes c.args.domain.now;
+          }) _ _ _ _ last c.requires.under_way;
       left = omega arith;
     }
 
@@ -27,36 +33,75 @@ pub loop-next-smaller : goal.loop-next-smaller
 loop-next-smaller g c =
     let e = c.loop-next.invariant.edge c.in-Some.k c.in-Some.is in
     falls_back (g.G.Flow.ends c.args.flow.now) c.in-Some.k c.args.node _ _
-    (read_before _ _ c.in-Some.k c.args.node (g.G.Flow.ends c.args.flow.now) _ _ c.index-next-in-Some.result.now c.requires.edges e.0 e.1 c.index-next-in-Some.ensures)
+    (read_before _ _ c.in-Some.k c.args.node (g.G.Flow.ends c.args.flow.now) _ _
+    c.index-next-in-Some.result.now c.requires.edges e.0 e.1 c.index-next-in-Some.ensures)
     c.in-Some.is
 
 pub loop-next-preserved : goal.loop-next-preserved
 loop-next-preserved g c =
     let e = c.loop-next.invariant.edge c.in-Some.k c.in-Some.is in
-    let before = read_before _ _ c.in-Some.k c.args.node (g.G.Flow.ends c.args.flow.now) _ _ c.index-next-in-Some.result.now c.requires.edges e.0 e.1 c.index-next-in-Some.ensures in
-    let laws : HasLaws g.D.Domain.Value (problem g.D.Domain.joined (g.D.Domain.passed c.args.domain.now) (g.D.Domain.begins c.args.domain.now) (g.G.Flow.node_count c.args.flow.now) (g.G.Flow.edge_count c.args.flow.now) (g.G.Flow.ends c.args.flow.now))
-    = record { joins = g.met.D.Domain.joins; distributes = g.met.D.Domain.distributes c.args.domain.now } in
+    let before = read_before _ _ c.in-Some.k c.args.node (g.G.Flow.ends c.args.flow.now) _ _
+    c.index-next-in-Some.result.now c.requires.edges e.0 e.1 c.index-next-in-Some.ensures in
+    let laws : HasLaws g.D.Domain.Value
+    (problem g.D.Domain.joined (g.D.Domain.passed c.args.domain.now)
+    (g.D.Domain.begins c.args.domain.now) (g.G.Flow.node_count c.args.flow.now)
+    (g.G.Flow.edge_count c.args.flow.now) (g.G.Flow.ends c.args.flow.now))
+    = record {
+      joins = g.met.D.Domain.joins;
+      distributes = g.met.D.Domain.distributes c.args.domain.now;
+    } in
     let fits : c.edge-target.result.1 < length c.loop-next.facts = omega arith in
-    let read = get_or_default c.loop-next.facts c.edge-target.result.1 c.index-facts-target.result None fits in
+    let read = get_or_default c.loop-next.facts c.edge-target.result.1 c.index-facts-target.result
+    None fits in
     let fact = ap (option_map g.D.Domain.view) read in
-    let comes = c.absorb.ensures.value ∙ ap (λ o. Some (absorbed g.D.Domain.joined o (g.D.Domain.view c.args.value.now))) fact in
-    let how : Outcome g.row.D-Fact.Denot g.D.Domain.Value g.D.Domain.view (g.D.Domain.height c.args.domain.now) c.loop-next.facts c.loop-next.waiting c.if-absorb.waiting c.edge-target.result.1 c.absorb.new.fact
+    let comes = c.absorb.ensures.value
+    ∙ ap (λ o. Some (absorbed g.D.Domain.joined o (g.D.Domain.view c.args.value.now))) fact in
+    let how : Outcome g.row.D-Fact.Denot g.D.Domain.Value g.D.Domain.view
+    (g.D.Domain.height c.args.domain.now) c.loop-next.facts c.loop-next.waiting c.if-absorb.waiting
+    c.edge-target.result.1 c.absorb.new.fact
     = elim c.if-absorb.branch [
-      | then-absorb w ↦ outcome_of _ _ g.D.Domain.view (g.D.Domain.height c.args.domain.now) c.loop-next.facts c.loop-next.waiting c.if-absorb.waiting c.edge-target.result.1 c.absorb.new.fact c.index-facts-target.result c.absorb.result true fits c.absorb.ensures.changed w.if-absorb.true (w.waiting-is ∙ w.add.ensures)
-      | else-absorb w ↦ outcome_of _ _ g.D.Domain.view (g.D.Domain.height c.args.domain.now) c.loop-next.facts c.loop-next.waiting c.if-absorb.waiting c.edge-target.result.1 c.absorb.new.fact c.index-facts-target.result c.absorb.result false fits c.absorb.ensures.changed w.if-absorb.false w.waiting-is
+      | then-absorb w ↦
+          outcome_of _ _ g.D.Domain.view (g.D.Domain.height c.args.domain.now) c.loop-next.facts
+          c.loop-next.waiting c.if-absorb.waiting c.edge-target.result.1 c.absorb.new.fact
+          c.index-facts-target.result c.absorb.result true fits c.absorb.ensures.changed
+          w.if-absorb.true (w.waiting-is ∙ w.add.ensures)
+      | else-absorb w ↦
+          outcome_of _ _ g.D.Domain.view (g.D.Domain.height c.args.domain.now) c.loop-next.facts
+          c.loop-next.waiting c.if-absorb.waiting c.edge-target.result.1 c.absorb.new.fact
+          c.index-facts-target.result c.absorb.result false fits c.absorb.ensures.changed
+          w.if-absorb.false w.waiting-is
     ] in
-    let waits_there : c.edge-target.result.1 < length c.loop-next.waiting = omega (arith, c.loop-next.invariant.waiting, c.edge-target.ensures.target) in
-    let step = step_of g.row.D-Fact.Denot g.D.Domain.Value g.D.Domain.view (problem g.D.Domain.joined (g.D.Domain.passed c.args.domain.now) (g.D.Domain.begins c.args.domain.now) (g.G.Flow.node_count c.args.flow.now) (g.G.Flow.edge_count c.args.flow.now) (g.G.Flow.ends c.args.flow.now))
-    c.loop-next.facts c.loop-next.waiting c.edge-target.result.1 (g.D.Domain.view c.args.value.now) c.absorb.new.fact fits comes (g.D.Domain.height c.args.domain.now) c.if-absorb.waiting waits_there how in
+    let waits_there : c.edge-target.result.1 < length c.loop-next.waiting =
+    omega (arith, c.loop-next.invariant.waiting, c.edge-target.ensures.target) in
+    let step = step_of g.row.D-Fact.Denot g.D.Domain.Value g.D.Domain.view
+    (problem g.D.Domain.joined (g.D.Domain.passed c.args.domain.now)
+    (g.D.Domain.begins c.args.domain.now) (g.G.Flow.node_count c.args.flow.now)
+    (g.G.Flow.edge_count c.args.flow.now) (g.G.Flow.ends c.args.flow.now))
+    c.loop-next.facts c.loop-next.waiting c.edge-target.result.1 (g.D.Domain.view c.args.value.now)
+    c.absorb.new.fact fits comes (g.D.Domain.height c.args.domain.now) c.if-absorb.waiting
+    waits_there how in
     let ends : g.G.Flow.ends c.args.flow.now c.in-Some.k ≡ (c.args.node, c.edge-target.result.1)
-    = sym c.edge-target.ensures.ends ∙ ap (λ m. (m, c.edge-target.result.1)) (ap (λ q. q.0) c.edge-target.ensures.ends ∙ e.1) in
+    =
+    sym c.edge-target.ensures.ends
+    ∙ ap (λ m. (m, c.edge-target.result.1)) (ap (λ q. q.0) c.edge-target.ensures.ends ∙ e.1) in
     record {
       waiting = woken_length _ _ _ _ _ _ _ _ _ how ∙ c.loop-next.invariant.waiting;
       edge = λ k h. let b = before.edge k h in (omega (arith, b, e.0), b.1);
       source = still_source _ _ laws _ _ _ _ _ _ step _ _ c.loop-next.invariant.source;
-      under_way = stepped _ _ laws _ _ _ _ _ _ step c.args.node c.in-Some.k c.index-next-in-Some.result.now e.0 ends before c.loop-next.invariant.source
-          (subst (λ o. IsPartialSolution g.D.Domain.Value (problem g.D.Domain.joined (g.D.Domain.passed c.args.domain.now) (g.D.Domain.begins c.args.domain.now) (g.G.Flow.node_count c.args.flow.now) (g.G.Flow.edge_count c.args.flow.now) (g.G.Flow.ends c.args.flow.now))
-          (fact_at g.D.Domain.view c.loop-next.facts) (waits c.loop-next.waiting) (λ j. (g.G.Flow.ends c.args.flow.now j).0 ≡ c.args.node → past_edge o ≤ j)) c.in-Some.is c.loop-next.invariant.under_way);
-      left = let l = left_falls _ _ g.D.Domain.view (g.D.Domain.height c.args.domain.now) (g.D.Domain.tallest c.args.domain.now) (g.met.D.Domain.bounded c.args.domain.now) c.loop-next.facts c.loop-next.waiting c.if-absorb.waiting c.edge-target.result.1 c.absorb.new.fact fits waits_there how in
+      under_way =
+          stepped _ _ laws _ _ _ _ _ _ step c.args.node c.in-Some.k c.index-next-in-Some.result.now
+          e.0 ends before c.loop-next.invariant.source
+          (subst (λ o. IsPartialSolution g.D.Domain.Value
+          (problem g.D.Domain.joined (g.D.Domain.passed c.args.domain.now)
+          (g.D.Domain.begins c.args.domain.now) (g.G.Flow.node_count c.args.flow.now)
+          (g.G.Flow.edge_count c.args.flow.now) (g.G.Flow.ends c.args.flow.now))
+          (fact_at g.D.Domain.view c.loop-next.facts) (waits c.loop-next.waiting)
+          (λ j. (g.G.Flow.ends c.args.flow.now j).0 ≡ c.args.node → past_edge o ≤ j)) c.in-Some.is
+          c.loop-next.invariant.under_way);
+      left =
+          let l = left_falls _ _ g.D.Domain.view (g.D.Domain.height c.args.domain.now)
+          (g.D.Domain.tallest c.args.domain.now) (g.met.D.Domain.bounded c.args.domain.now)
+          c.loop-next.facts c.loop-next.waiting c.if-absorb.waiting c.edge-target.result.1
+          c.absorb.new.fact fits waits_there how in
           omega (arith, c.loop-next.invariant.left);
     }

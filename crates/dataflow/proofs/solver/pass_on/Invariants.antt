@@ -7,15 +7,21 @@ use Rattle.dataflow.proofs.solver.pass_on.Given as goal
 abbrev pub invariant-loop-next : goal.invariant-loop-next
 invariant-loop-next g l = record {
   waiting : length l.waiting ≡ g.G.Flow.node_count l.flow;
-  edge : (k : ℕ) → l.next ≡ Some k → (k < g.G.Flow.edge_count l.flow) × ((g.G.Flow.ends l.flow k).0 ≡ l.node);
+  edge : (k : ℕ) → l.next ≡ Some k
+      → (k < g.G.Flow.edge_count l.flow) × ((g.G.Flow.ends l.flow k).0 ≡ l.node);
   source : IsPassedOn g.D.Domain.Value
-      (problem g.D.Domain.joined (g.D.Domain.passed l.domain) (g.D.Domain.begins l.domain) (g.G.Flow.node_count l.flow) (g.G.Flow.edge_count l.flow) (g.G.Flow.ends l.flow))
+      (problem g.D.Domain.joined (g.D.Domain.passed l.domain) (g.D.Domain.begins l.domain)
+      (g.G.Flow.node_count l.flow) (g.G.Flow.edge_count l.flow) (g.G.Flow.ends l.flow))
       (fact_at g.D.Domain.view l.facts) (waits l.waiting) l.node (g.D.Domain.view l.value);
   under_way : IsPartialSolution g.D.Domain.Value
-      (problem g.D.Domain.joined (g.D.Domain.passed l.domain) (g.D.Domain.begins l.domain) (g.G.Flow.node_count l.flow) (g.G.Flow.edge_count l.flow) (g.G.Flow.ends l.flow))
-      (fact_at g.D.Domain.view l.facts) (waits l.waiting) (λ k. (g.G.Flow.ends l.flow k).0 ≡ l.node → past_edge l.next ≤ k);
-  left : work_left g.D.Domain.view (g.D.Domain.height l.domain) (g.D.Domain.tallest l.domain) l.facts l.waiting
-      ≤ work_left g.D.Domain.view (g.D.Domain.height l.domain) (g.D.Domain.tallest l.domain) l.initial.facts l.initial.waiting;
+      (problem g.D.Domain.joined (g.D.Domain.passed l.domain) (g.D.Domain.begins l.domain)
+      (g.G.Flow.node_count l.flow) (g.G.Flow.edge_count l.flow) (g.G.Flow.ends l.flow))
+      (fact_at g.D.Domain.view l.facts) (waits l.waiting)
+      (λ k. (g.G.Flow.ends l.flow k).0 ≡ l.node → past_edge l.next ≤ k);
+  left : work_left g.D.Domain.view (g.D.Domain.height l.domain) (g.D.Domain.tallest l.domain)
+      l.facts l.waiting
+      ≤ work_left g.D.Domain.view (g.D.Domain.height l.domain) (g.D.Domain.tallest l.domain)
+      l.initial.facts l.initial.waiting;
 }
 
 abbrev pub decreases-loop-next : goal.decreases-loop-next

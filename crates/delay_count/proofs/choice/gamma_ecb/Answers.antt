@@ -9,8 +9,13 @@ use Rattle.delay_count.proofs.choice.gamma_ecb.Goals as goal
 
 pub loop-values-init : goal.loop-values-init
 loop-values-init g c =
-    let none = none_from (slice_index c.shared_sets-values.result) (count_at c.args.lower.now) 65537 (length c.args.lower.now)
-    (λ k h. omega (arith, c.shared_sets-values.ensures k h, shared_most (useful_at c.args.lower.now k) (has c.args.evicting_up.now) (64 * g.row.W))) in
+    let none = none_from (slice_index c.shared_sets-values.result) (count_at c.args.lower.now) 65537
+    (length c.args.lower.now)
+    (λ k h. omega (
+      arith,
+      c.shared_sets-values.ensures k h,
+      shared_most (useful_at c.args.lower.now k) (has c.args.evicting_up.now) (64 * g.row.W),
+    )) in
     record {
       some = omega arith;
       least = omega arith;
@@ -22,24 +27,42 @@ loop-values-init g c =
 pub returns-then-value-eq0 : goal.returns-then-value-eq0
 returns-then-value-eq0 g c =
     product _ _ _ _ c.from.ensures
-    (finished (slice_index c.shared_sets-values.result) (count_at c.args.lower.now) c.loop-values.level c.next_value-value.result (length c.args.lower.now) c.args.jobs c.loop-values.charged c.loop-values.room
-    c.next_value-value.ensures c.if-value-eq0.true c.loop-values.invariant.worth c.loop-values.invariant.left
-    ∙ choice_same _ _ (count_at c.args.lower.now) (length c.args.lower.now) c.args.jobs c.shared_sets-values.ensures)
+    (finished (slice_index c.shared_sets-values.result) (count_at c.args.lower.now)
+    c.loop-values.level c.next_value-value.result (length c.args.lower.now) c.args.jobs
+    c.loop-values.charged c.loop-values.room
+    c.next_value-value.ensures c.if-value-eq0.true c.loop-values.invariant.worth
+    c.loop-values.invariant.left
+    ∙ choice_same _ _ (count_at c.args.lower.now) (length c.args.lower.now) c.args.jobs
+    c.shared_sets-values.ensures)
 
 pub returns-then-count-room : goal.returns-then-count-room
 returns-then-count-room g c =
     product _ _ _ _ c.from-then-count-room.ensures
     (ap (λ x. c.loop-values.charged + c.loop-values.room * x) c.from-then-count-room-2.ensures
-    ∙ full (slice_index c.shared_sets-values.result) (count_at c.args.lower.now) c.loop-values.level c.next_value-value.result (length c.args.lower.now) c.args.jobs c.loop-values.charged c.loop-values.room
-    c.next_value-value.ensures c.loop-values.invariant.worth c.loop-values.invariant.left (omega (arith, c.count_of_value-count.ensures))
-    ∙ choice_same _ _ (count_at c.args.lower.now) (length c.args.lower.now) c.args.jobs c.shared_sets-values.ensures)
+    ∙ full (slice_index c.shared_sets-values.result) (count_at c.args.lower.now) c.loop-values.level
+    c.next_value-value.result (length c.args.lower.now) c.args.jobs c.loop-values.charged
+    c.loop-values.room
+    c.next_value-value.ensures c.loop-values.invariant.worth c.loop-values.invariant.left
+    (omega (arith, c.count_of_value-count.ensures))
+    ∙ choice_same _ _ (count_at c.args.lower.now) (length c.args.lower.now) c.args.jobs
+    c.shared_sets-values.ensures)
 
 pub loop-values-preserved : goal.loop-values-preserved
 loop-values-preserved g c =
-    let both = joined (slice_index c.shared_sets-values.result) (count_at c.args.lower.now) c.loop-values.level c.next_value-value.result (length c.args.lower.now) c.next_value-value.ensures.below c.next_value-value.ensures.greatest in
-    let times : c.count_of_value-count.result * c.from-in-loop-values.result ≡ _ = product _ _ _ _ c.count_of_value-count.ensures c.from-in-loop-values.ensures in
-    let most : c.count_of_value-count.result * c.from-in-loop-values.result ≤ c.count_of_value-count.result * 65536 =
-    mul-le-mul_left c.count_of_value-count.result (omega (arith, c.from-in-loop-values.ensures, c.next_value-value.ensures.below, c.loop-values.invariant.least)) in
+    let both = joined (slice_index c.shared_sets-values.result) (count_at c.args.lower.now)
+    c.loop-values.level c.next_value-value.result (length c.args.lower.now)
+    c.next_value-value.ensures.below c.next_value-value.ensures.greatest in
+    let times : c.count_of_value-count.result * c.from-in-loop-values.result ≡ _ =
+    product _ _ _ _ c.count_of_value-count.ensures c.from-in-loop-values.ensures in
+    let most : c.count_of_value-count.result * c.from-in-loop-values.result
+    ≤ c.count_of_value-count.result * 65536 =
+    mul-le-mul_left c.count_of_value-count.result
+    (omega (
+      arith,
+      c.from-in-loop-values.ensures,
+      c.next_value-value.ensures.below,
+      c.loop-values.invariant.least,
+    )) in
     record {
       some = omega arith;
       least = omega (arith, c.next_value-value.ensures.below, c.loop-values.invariant.least);

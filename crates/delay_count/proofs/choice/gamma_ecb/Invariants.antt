@@ -9,7 +9,8 @@ invariant-loop-values g l = record {
   some : 0 < l.level;
   least : l.level ≤ 65537;
   worth : l.charged ≡ worth_from (slice_index l.values) (count_at l.lower) l.level (length l.lower);
-  left : sum_from_value (slice_index l.values) (count_at l.lower) l.level (length l.lower) + l.room ≡ l.jobs;
+  left : sum_from_value (slice_index l.values) (count_at l.lower) l.level (length l.lower) + l.room
+      ≡ l.jobs;
   bound : l.charged + 65536 * l.room ≤ 65536 * l.jobs;
 }
 

@@ -5,6 +5,9 @@ use Rattle.delay_count.proofs.choice.shared_sets.Goals as goal
 pub loop-k-preserved : goal.loop-k-preserved
 loop-k-preserved g c = record {
   room = simp length-set (c.loop-k.invariant.room);
-  done = shared_more c.args.lower.now c.loop-k.values c.meet.new.self c.args.evicting_up.now c.loop-k.k _ c.count.result c.index-lower-k.result c.loop-k-test.true
-      (omega (arith, c.loop-k.invariant.room)) c.index-lower-k.is c.meet.ensures c.count.ensures c.loop-k.invariant.done;
+  done =
+      shared_more c.args.lower.now c.loop-k.values c.meet.new.self c.args.evicting_up.now c.loop-k.k
+      _ c.count.result c.index-lower-k.result c.loop-k-test.true
+      (omega (arith, c.loop-k.invariant.room)) c.index-lower-k.is c.meet.ensures c.count.ensures
+      c.loop-k.invariant.done;
 }

@@ -8,6 +8,7 @@ use Rattle.delay_count.proofs.rates.rate_shares.Given as goal
 abbrev pub invariant-loop-k : goal.invariant-loop-k
 invariant-loop-k l = record {
   room : length l.shares ≡ 32;
-  counts : (k : ℕ) → k < l.k → count_at l.shares k ≡ affected_rate l.set (slice_index l.windows) l.i l.j k;
+  counts : (k : ℕ) → k < l.k
+      → count_at l.shares k ≡ affected_rate l.set (slice_index l.windows) l.i l.j k;
   useful : (k c : ℕ) → k < l.k → useful_at l.shares k c ≡ has (part_at l.parts k).useful c;
 }

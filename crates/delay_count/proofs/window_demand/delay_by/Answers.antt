@@ -7,7 +7,9 @@ use Rattle.delay_count.proofs.window_demand.delay_by.Goals as goal
 
 pub gamma_ucb-requires : goal.gamma_ucb-requires
 gamma_ucb-requires c =
-    let size : length (take (c.args.i + 1) c.args.shares.now) ≡ c.args.i + 1 = lower_length (part_at c.args.parts.now) c.args.i c.args.j c.args.shares.now c.requires.size c.requires.i c.requires.useful in (
+    let size : length (take (c.args.i + 1) c.args.shares.now) ≡ c.args.i + 1 =
+    lower_length (part_at c.args.parts.now) c.args.i c.args.j c.args.shares.now c.requires.size
+    c.requires.i c.requires.useful in (
       lit< tt,
       (
         lit< tt,
@@ -15,7 +17,12 @@ gamma_ucb-requires c =
           lit≤ tt,
           (
             omega (arith, size, c.requires.i),
-            λ k h. omega (arith, lower_count (part_at c.args.parts.now) c.args.i c.args.j c.args.shares.now c.requires.size c.requires.i c.requires.useful k (omega (arith, size)), c.requires.counts k (omega (arith, size))),
+            λ k h. omega (
+              arith,
+              lower_count (part_at c.args.parts.now) c.args.i c.args.j c.args.shares.now
+                  c.requires.size c.requires.i c.requires.useful k (omega (arith, size)),
+              c.requires.counts k (omega (arith, size)),
+            ),
           ),
         ),
       ),
@@ -23,7 +30,9 @@ gamma_ucb-requires c =
 
 pub gamma_ecb-requires : goal.gamma_ecb-requires
 gamma_ecb-requires c =
-    let size : length (take (c.args.i + 1) c.args.shares.now) ≡ c.args.i + 1 = lower_length (part_at c.args.parts.now) c.args.i c.args.j c.args.shares.now c.requires.size c.requires.i c.requires.useful in (
+    let size : length (take (c.args.i + 1) c.args.shares.now) ≡ c.args.i + 1 =
+    lower_length (part_at c.args.parts.now) c.args.i c.args.j c.args.shares.now c.requires.size
+    c.requires.i c.requires.useful in (
       lit< tt,
       (
         lit< tt,
@@ -31,7 +40,12 @@ gamma_ecb-requires c =
           lit≤ tt,
           (
             omega (arith, size, c.requires.i),
-            λ k h. omega (arith, lower_count (part_at c.args.parts.now) c.args.i c.args.j c.args.shares.now c.requires.size c.requires.i c.requires.useful k (omega (arith, size)), c.requires.counts k (omega (arith, size))),
+            λ k h. omega (
+              arith,
+              lower_count (part_at c.args.parts.now) c.args.i c.args.j c.args.shares.now
+                  c.requires.size c.requires.i c.requires.useful k (omega (arith, size)),
+              c.requires.counts k (omega (arith, size)),
+            ),
           ),
         ),
       ),
@@ -39,21 +53,29 @@ gamma_ecb-requires c =
 
 pub returns-in-Ucb-clause-is : goal.returns-in-Ucb-clause-is
 returns-in-Ucb-clause-is c =
-    let part : c.index-parts-j.result ≡ part_at c.args.parts.now c.args.j = get_or_read c.args.parts.now c.args.j c.index-parts-j.result (omega arith) c.index-parts-j.is _ in
+    let part : c.index-parts-j.result ≡ part_at c.args.parts.now c.args.j =
+    get_or_read c.args.parts.now c.args.j c.index-parts-j.result
+    (omega arith) c.index-parts-j.is _ in
     rw c.in-Ucb.is
-    (is_ucb (part_at c.args.parts.now) c.args.i c.args.j c.args.shares.now c.requires.size c.requires.i c.requires.useful
-    c.args.miss c.args.jobs c.index-parts-j.result.evicting _ (ap (λ (p : Part). p.evicting) part) c.gamma_ucb.ensures)
+    (is_ucb (part_at c.args.parts.now) c.args.i c.args.j c.args.shares.now c.requires.size
+    c.requires.i c.requires.useful
+    c.args.miss c.args.jobs c.index-parts-j.result.evicting _ (ap (λ (p : Part). p.evicting) part)
+    c.gamma_ucb.ensures)
 
 pub returns-in-Ucb-clause-most : goal.returns-in-Ucb-clause-most
 returns-in-Ucb-clause-most c =
-    ucb_fits c.args.miss c.args.jobs _ c.index-parts-j.result.evicting (take (c.args.i + 1) c.args.shares.now) (omega (arith, c.ranges.miss.fits)) (omega (arith, c.ranges.jobs.fits)) c.gamma_ucb.ensures
+    ucb_fits c.args.miss c.args.jobs _ c.index-parts-j.result.evicting
+    (take (c.args.i + 1) c.args.shares.now) (omega (arith, c.ranges.miss.fits))
+    (omega (arith, c.ranges.jobs.fits)) c.gamma_ucb.ensures
 
 pub returns-in-Ecb-clause-is : goal.returns-in-Ecb-clause-is
 returns-in-Ecb-clause-is c =
     rw c.in-Ecb.is
-    (is_ecb (part_at c.args.parts.now) c.args.i c.args.j c.args.shares.now c.requires.size c.requires.i c.requires.useful
+    (is_ecb (part_at c.args.parts.now) c.args.i c.args.j c.args.shares.now c.requires.size
+    c.requires.i c.requires.useful
     c.args.miss c.args.jobs c.evicted_up.result _ c.evicted_up.ensures c.gamma_ecb.ensures)
 
 pub returns-in-Ecb-clause-most : goal.returns-in-Ecb-clause-most
 returns-in-Ecb-clause-most c =
-    ecb_fits c.args.miss c.args.jobs _ c.evicted_up.result (take (c.args.i + 1) c.args.shares.now) (omega (arith, c.ranges.miss.fits)) (omega (arith, c.ranges.jobs.fits)) c.gamma_ecb.ensures
+    ecb_fits c.args.miss c.args.jobs _ c.evicted_up.result (take (c.args.i + 1) c.args.shares.now)
+    (omega (arith, c.ranges.miss.fits)) (omega (arith, c.ranges.jobs.fits)) c.gamma_ecb.ensures

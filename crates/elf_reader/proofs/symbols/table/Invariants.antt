@@ -4,4 +4,5 @@ use Rattle.elf_reader.specs.Fields.{section_header}
 use Rattle.elf_reader.proofs.symbols.table.Given as goal
 
 abbrev pub invariant-loop-i : goal.invariant-loop-i
-invariant-loop-i l = l.sections.items ≡ map (λ i. section_header l.bytes (l.start + 40 * i)) (range_with_len 0 l.i)
+invariant-loop-i l =
+    l.sections.items ≡ map (λ i. section_header l.bytes (l.start + 40 * i)) (range_with_len 0 l.i)

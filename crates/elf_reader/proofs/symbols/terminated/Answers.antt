@@ -6,5 +6,7 @@ use Rattle.elf_reader.proofs.symbols.terminated.Goals as goal
 pub loop-end-preserved : goal.loop-end-preserved
 loop-end-preserved c = record {
   within = omega arith;
-  same = λ place. text_shorter c.args.strings.now c.loop-end.end (omega arith) c.loop-end.invariant.within (grind (arith, nat_tests)) place ∙ c.loop-end.invariant.same place;
+  same = λ place.
+      text_shorter c.args.strings.now c.loop-end.end (omega arith) c.loop-end.invariant.within
+      (grind (arith, nat_tests)) place ∙ c.loop-end.invariant.same place;
 }

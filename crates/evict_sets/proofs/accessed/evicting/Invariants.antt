@@ -7,4 +7,6 @@ use Rattle.evict_sets.specs.Evicting.{IsAccessedBelow}
 use Rattle.evict_sets.proofs.accessed.evicting.Given as goal
 
 abbrev pub invariant-loop-node : goal.invariant-loop-node
-invariant-loop-node g l = (s : ℕ) → IsTrue (has l.accessed s) ↔ IsAccessedBelow (accesses l.geometry.platform (places_of l.graph).address) l.node s
+invariant-loop-node g l =
+    (s : ℕ) → IsTrue (has l.accessed s)
+    ↔ IsAccessedBelow (accesses l.geometry.platform (places_of l.graph).address) l.node s

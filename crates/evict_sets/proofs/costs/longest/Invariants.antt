@@ -6,4 +6,6 @@ use Rattle.evict_sets.specs.Answering.{answers_of}
 use Rattle.evict_sets.proofs.costs.longest.Given as goal
 
 abbrev pub invariant-loop-node : goal.invariant-loop-node
-invariant-loop-node l = l.greatest ≡ longest_below l.platform (graph_of l.graph) (node_code l.graph) (answers_of l.graph) l.node
+invariant-loop-node l =
+    l.greatest ≡ longest_below l.platform (graph_of l.graph) (node_code l.graph)
+    (answers_of l.graph) l.node

@@ -1,4 +1,5 @@
-use Rattle.std.proofs.Common.{◌≡◌, ℕ, ◌∙◌, ◌+◌, sym, ap, subst, arith, length, take, drop, ◌++◌, List, Some, slice_get, get_or}
+use Rattle.std.proofs.Common.{◌≡◌, ℕ, ◌∙◌, ◌+◌, sym, ap, subst, arith, length, take, drop, ◌++◌}
+use Rattle.std.proofs.Common.{List, Some, slice_get, get_or}
 use Rattle.std.proofs.lemmas.Option.{slice_get-get_or}
 use Rattle.flat_graph.specs.Inner.Leaders.{AreMarked, mark_after_edges}
 use Rattle.flat_graph.specs.declared.leaders.Mark.{Mark}
@@ -12,21 +13,29 @@ pub loop-line-preserved : goal.loop-line-preserved
 loop-line-preserved c =
     let old : List Mark = c.loop-line.marks.items in
     let new : List Mark = c.mark_ends.new.marks in
-    let same : length new ≡ length old = c.mark_ends.ensures.count ∙ ap length c.deref_mut.ensures.value in
-    let w : take c.loop-line.marks.len (new ++ drop (length new) old) ≡ new = whole new old c.loop-line.marks.len same (omega (arith, c.loop-line.marks.ok)) in
-    let line : Line = get_or c.args.lines.now c.loop-line.line-index (record { ins = Lui 0 0; next = Ends }) in
-    let at : slice_get c.args.lines.now c.loop-line.line-index ≡ Some line = slice_get-get_or c.args.lines.now c.loop-line.line-index _ c.loop-line-test.true in
-    let after = subst (λ l. (v : ℕ) (m n : Mark) → slice_get l v ≡ Some m → slice_get new v ≡ Some n → n ≡ mark_after_edges line.next v m) c.deref_mut.ensures.value c.mark_ends.ensures.marked in
+    let same : length new ≡ length old = c.mark_ends.ensures.count
+    ∙ ap length c.deref_mut.ensures.value in
+    let w : take c.loop-line.marks.len (new ++ drop (length new) old) ≡ new =
+    whole new old c.loop-line.marks.len same (omega (arith, c.loop-line.marks.ok)) in
+    let line : Line = get_or c.args.lines.now c.loop-line.line-index
+    (record { ins = Lui 0 0; next = Ends }) in
+    let at : slice_get c.args.lines.now c.loop-line.line-index ≡ Some line =
+    slice_get-get_or c.args.lines.now c.loop-line.line-index _ c.loop-line-test.true in
+    let after = subst (λ l. (v : ℕ) (m n : Mark) → slice_get l v ≡ Some m → slice_get new v ≡ Some n
+    → n ≡ mark_after_edges line.next v m) c.deref_mut.ensures.value c.mark_ends.ensures.marked in
     record {
       count = ap length w ∙ same ∙ c.loop-line.invariant.count;
       marked = subst (AreMarked c.args.lines.now c.args.first (c.loop-line.line-index + 1)) (sym w)
-          (all_more c.args.lines.now c.args.first c.loop-line.line-index line old new c.loop-line.invariant.marked at
+          (all_more c.args.lines.now c.args.first c.loop-line.line-index line old new
+          c.loop-line.invariant.marked at
           (c.requires.edges c.loop-line.line-index _ c.loop-line-test.true) same after);
     }
 
 pub returns-clause-marked : goal.returns-clause-marked
 returns-clause-marked c =
-    subst (λ k. AreMarked c.args.lines.now c.args.first k c.loop-line.marks.items) (the c.loop-line.line-index (length c.args.lines.now) (omega arith)) c.loop-line.invariant.marked
+    subst (λ k. AreMarked c.args.lines.now c.args.first k c.loop-line.marks.items)
+    (the c.loop-line.line-index (length c.args.lines.now) (omega arith))
+    c.loop-line.invariant.marked
   where
     the : (a b : ℕ) → a ≡ b → a ≡ b
     the a b e = e

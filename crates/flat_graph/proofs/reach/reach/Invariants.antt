@@ -9,7 +9,8 @@ abbrev pub invariant-loop-place : goal.invariant-loop-place
 invariant-loop-place l = record {
   numbered : AreNumbered l.found.contexts.numbers l.found.contexts.lists.items;
   found : AreSameSpots l.found.contexts.lists.items l.found.set.keys l.found.list.items;
-  explored : IsExplored (flows (word_at l.code.images)) l.entry l.place (spot_nodes l.found.contexts.lists.items l.found.list.items);
+  explored : IsExplored (flows (word_at l.code.images)) l.entry l.place
+      (spot_nodes l.found.contexts.lists.items l.found.list.items);
   within : l.place ≤ length l.found.list.items;
   lists : length l.found.contexts.lists.items ≤ l.place + 1;
 }

@@ -6,4 +6,6 @@ use Rattle.flat_graph.specs.Inner.GraphErrors.{HasInstructionAt}
 use Rattle.flat_graph.proofs.same_code.fits.Given as goal
 
 abbrev pub invariant-loop-u : goal.invariant-loop-u
-invariant-loop-u l = (v : ℕ) → v < l.u → HasInstructionAt (word_at l.code.images) ((places_of l.graph).address v) (ins_of l.graph v)
+invariant-loop-u l =
+    (v : ℕ) → v < l.u → HasInstructionAt (word_at l.code.images) ((places_of l.graph).address v)
+    (ins_of l.graph v)

@@ -10,4 +10,5 @@ returns-then-spot-other c =
     let calls = slice_index_or c.args.lists.now c.args.spot.now.context [] in
     c.cmp.ensures
     ∙ ap (λ o. ordering_then o (nat_cmp c.args.spot.now.address c.args.other.now.address))
-    (sym (list_same calls) ∙ ap (λ k. list_cmp calls (slice_index_or c.args.lists.now k [])) c.if-spot-other.true)
+    (sym (list_same calls) ∙ ap (λ k. list_cmp calls (slice_index_or c.args.lists.now k []))
+    c.if-spot-other.true)

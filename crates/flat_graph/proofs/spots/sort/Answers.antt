@@ -11,6 +11,8 @@ use Rattle.flat_graph.proofs.spots.sort.Goals as goal
 pub returns-clause-sorted : goal.returns-clause-sorted
 returns-clause-sorted c =
     on_ok_map c.sort_by.result _ _
-    (λ up. up (λ s t. is_lt (flat_cmp (spot_node c.args.lists.now s) (spot_node c.args.lists.now t))) (ranks_by flat_order (spot_node c.args.lists.now))
+    (λ up. up
+    (λ s t. is_lt (flat_cmp (spot_node c.args.lists.now s) (spot_node c.args.lists.now t)))
+    (ranks_by flat_order (spot_node c.args.lists.now))
     (always_returns_same _ _ _ (λ a r f' k. (ap is_lt k.met.1, λ j. record { 0 = k.met.0 j }))))
     c.sort_by.ensures.sorted

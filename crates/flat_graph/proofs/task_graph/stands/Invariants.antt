@@ -6,6 +6,14 @@ use Rattle.flat_graph.proofs.task_graph.stands.Given as goal
 abbrev pub invariant-loop-place : goal.invariant-loop-place
 invariant-loop-place l = record {
   count : length l.stands.items ≡ l.place;
-  stands : (k : ℕ) (s : Spot) (x : Line) (b : Bool) → k < l.place → slice_get l.spots k ≡ Some s → slice_get l.lines k ≡ Some x → slice_get l.leaders k ≡ Some b →
-      slice_get l.stands.items k ≡ Some (record { context = s.context; address = s.address; ins = x.ins; next = x.next; leader = b });
+  stands : (k : ℕ) (s : Spot) (x : Line) (b : Bool) → k < l.place → slice_get l.spots k ≡ Some s
+      → slice_get l.lines k ≡ Some x → slice_get l.leaders k ≡ Some b →
+      slice_get l.stands.items k
+      ≡ Some (record {
+        context = s.context;
+        address = s.address;
+        ins = x.ins;
+        next = x.next;
+        leader = b;
+      });
 }

@@ -1,4 +1,5 @@
-use Rattle.std.proofs.Common.{ℕ, ◌+◌, ◌-◌, ◌*◌, List, length, take, drop, ap, sym, subst, ◌∙◌, arith}
+use Rattle.std.proofs.Common.{ℕ, ◌+◌, ◌-◌, ◌*◌, List, length, take, drop, ap, sym, subst, ◌∙◌}
+use Rattle.std.proofs.Common.{arith}
 use Rattle.crpd_base.proofs.Rows.{row_ends}
 use Rattle.crpd_base.specs.declared.data.LoopAt.{LoopAt}
 use Rattle.flow_watch.specs.Inner.Rows.{frame_row}
@@ -10,13 +11,16 @@ pub quiet_range-requires : goal.quiet_range-requires
 quiet_range-requires c =
     let s = c.self.inside in
     let k = c.in-Some.frames - 1 in
-    let u = in_use s.loops s.calls s.turns.items s.frames c.in-Some.frames c.args.self.now c.self.invariant c.in-Some.is c.self.view_is in
+    let u = in_use s.loops s.calls s.turns.items s.frames c.in-Some.frames c.args.self.now
+    c.self.invariant c.in-Some.is c.self.view_is in
     let room = rows_fit s.loops c.in-Some.frames s.turns.items u.rows u.few in
     let ends = row_ends s.loops k c.in-Some.frames (omega arith) in
-    ap (λ (ts : List ℕ). length (take ((k * s.loops + s.loops) - k * s.loops) (drop (k * s.loops) ts))) c.deref.ensures.value
+    ap (λ (ts : List ℕ). length
+    (take ((k * s.loops + s.loops) - k * s.loops) (drop (k * s.loops) ts))) c.deref.ensures.value
     ∙ (ap length (lent s.loops k s.turns.items)
     ∙ (length-row s.loops s.turns.items k (omega arith)
-    ∙ (loops_told s.loops s.calls s.turns.items c.in-Some.frames c.args.self.now (length c.args.plan.now.loops) u c.if-frames-gt0.true c.requires.turns
+    ∙ (loops_told s.loops s.calls s.turns.items c.in-Some.frames c.args.self.now
+    (length c.args.plan.now.loops) u c.if-frames-gt0.true c.requires.turns
     ∙ sym (ap length c.as_slice.ensures))))
 
 pub returns-in-Some : goal.returns-in-Some
@@ -24,8 +28,14 @@ returns-in-Some c =
     λ a low high.
     let s = c.self.inside in
     let k = c.in-Some.frames - 1 in
-    let u = in_use s.loops s.calls s.turns.items s.frames c.in-Some.frames c.args.self.now c.self.invariant c.in-Some.is c.self.view_is in
-    let is_row = ap (λ (ts : List ℕ). take ((k * s.loops + s.loops) - k * s.loops) (drop (k * s.loops) ts)) c.deref.ensures.value ∙ lent s.loops k s.turns.items in
-    quiet_frames c.args.plan.now a s.loops s.calls s.turns.items c.in-Some.frames c.args.self.now u.is c.if-frames-gt0.true
-    (subst (λ (ls : List LoopAt). KeepsAllIterations a ls (frame_row s.loops s.turns.items k)) c.as_slice.ensures
-    (subst (λ (ts : List ℕ). KeepsAllIterations a c.as_slice.result.now ts) is_row (c.all_still.ensures a low high)))
+    let u = in_use s.loops s.calls s.turns.items s.frames c.in-Some.frames c.args.self.now
+    c.self.invariant c.in-Some.is c.self.view_is in
+    let is_row = ap (λ (ts : List ℕ).
+    take ((k * s.loops + s.loops) - k * s.loops) (drop (k * s.loops) ts)) c.deref.ensures.value
+    ∙ lent s.loops k s.turns.items in
+    quiet_frames c.args.plan.now a s.loops s.calls s.turns.items c.in-Some.frames c.args.self.now
+    u.is c.if-frames-gt0.true
+    (subst (λ (ls : List LoopAt). KeepsAllIterations a ls (frame_row s.loops s.turns.items k))
+    c.as_slice.ensures
+    (subst (λ (ts : List ℕ). KeepsAllIterations a c.as_slice.result.now ts) is_row
+    (c.all_still.ensures a low high)))

@@ -9,4 +9,6 @@ loop-i-preserved c =
     (c.loop-i.invariant a s.0 s.1) c.loop-i-test.true c.index-loops-i.is s.2
 
 pub returns : goal.returns
-returns c = λ a low high. counted_all a c.args.loops.now c.args.turns.now c.loop-i.i (c.loop-i.invariant a low high) c.loop-i-test.false
+returns c = λ a low high.
+    counted_all a c.args.loops.now c.args.turns.now c.loop-i.i (c.loop-i.invariant a low high)
+    c.loop-i-test.false

@@ -11,9 +11,11 @@ returns-then-turns-eq0 c =
 pub returns-in-Some : goal.returns-in-Some
 returns-in-Some c =
     λ a low high.
-    let s = c.beside_head-around.ensures a (omega (arith, low, c.max.ensures)) (omega (arith, high, c.min.ensures)) in (
+    let s = c.beside_head-around.ensures a (omega (arith, low, c.max.ensures))
+    (omega (arith, high, c.min.ensures)) in (
       s.0,
       s.1,
-      still_held a c.args.near c.args.stated.now c.args.turns c.in-Some.held s.2 c.if-turns-stated.false (sym c.range_around.ensures ∙ c.in-Some.is)
+      still_held a c.args.near c.args.stated.now c.args.turns c.in-Some.held s.2
+          c.if-turns-stated.false (sym c.range_around.ensures ∙ c.in-Some.is)
           (omega (arith, low, c.max.ensures)) (omega (arith, high, c.min.ensures)),
     )

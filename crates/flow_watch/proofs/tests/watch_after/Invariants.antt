@@ -3,4 +3,5 @@ use Rattle.flow_watch.specs.Iterations.{HasIterations}
 use Rattle.flow_watch.proofs.tests.watch_after.Given as goal
 
 abbrev pub invariant-loop-step : goal.invariant-loop-step
-invariant-loop-step l = record { turns : HasIterations (length l.plan.loops) l.watch; under_way : l.watch ≢ Some [] }
+invariant-loop-step l =
+    record { turns : HasIterations (length l.plan.loops) l.watch; under_way : l.watch ≢ Some [] }

@@ -5,4 +5,5 @@ use Rattle.loop_regions.proofs.around.at_heads.Given as goal
 abbrev pub invariant-loop-head : goal.invariant-loop-head
 invariant-loop-head l =
     (length l.rows.items ≡ l.head-index)
-    × ((r : ℕ) → r < l.head-index → row l.rows.items r ≡ row l.regions.holders (slice_index l.heads r))
+    × ((r : ℕ) → r < l.head-index
+    → row l.rows.items r ≡ row l.regions.holders (slice_index l.heads r))

@@ -6,7 +6,8 @@ use Rattle.loop_regions.proofs.around.narrow_rows.Goals as goal
 
 pub index_mut-around-requires : goal.index_mut-around-requires
 index_mut-around-requires c =
-    let lt = c.requires (get_or c.args.holders.now c.loop-r.r-index 0) (has_at c.args.holders.now c.loop-r.r-index (omega arith)) in
+    let lt = c.requires (get_or c.args.holders.now c.loop-r.r-index 0)
+    (has_at c.args.holders.now c.loop-r.r-index (omega arith)) in
     omega (arith, c.loop-r.invariant.0)
 
 pub loop-r-preserved : goal.loop-r-preserved
@@ -16,5 +17,10 @@ loop-r-preserved c =
     let lt = c.requires q (has_at c.args.holders.now c.loop-r.r-index i_lt) in
     let here : q < length c.loop-r.rows.items = omega (arith, c.loop-r.invariant.0) in (
       length-set c.loop-r.rows.items q c.keep.new.self ∙ c.loop-r.invariant.0,
-      λ r s. narrow_more c.args.rows.now.items c.loop-r.rows.items (set c.loop-r.rows.items q c.keep.new.self) c.args.holders.now c.index_mut-around.result.now c.loop-r.r-index r s i_lt here (c.index_mut-around.ensures.value ∙ get_or_default c.loop-r.rows.items q c.index_mut-around.result.now [] here) (ap (set c.loop-r.rows.items q) c.keep.ensures) (c.loop-r.invariant.1 r s),
+      λ r s. narrow_more c.args.rows.now.items c.loop-r.rows.items
+          (set c.loop-r.rows.items q c.keep.new.self) c.args.holders.now
+          c.index_mut-around.result.now c.loop-r.r-index r s i_lt here
+          (c.index_mut-around.ensures.value
+          ∙ get_or_default c.loop-r.rows.items q c.index_mut-around.result.now [] here)
+          (ap (set c.loop-r.rows.items q) c.keep.ensures) (c.loop-r.invariant.1 r s),
     )

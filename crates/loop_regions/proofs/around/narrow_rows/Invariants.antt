@@ -5,4 +5,5 @@ use Rattle.loop_regions.proofs.around.narrow_rows.Given as goal
 abbrev pub invariant-loop-r : goal.invariant-loop-r
 invariant-loop-r l =
     (length l.rows.items ≡ length l.initial.rows.items)
-    × ((r s : ℕ) → IsNarrowed l.initial.rows.items l.rows.items (take l.r-index l.holders) l.holders r s)
+    × ((r s : ℕ) → IsNarrowed l.initial.rows.items l.rows.items (take l.r-index l.holders)
+    l.holders r s)

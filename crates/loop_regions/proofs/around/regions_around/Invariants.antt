@@ -5,4 +5,5 @@ use Rattle.loop_regions.proofs.around.regions_around.Given as goal
 abbrev pub invariant-loop-y : goal.invariant-loop-y
 invariant-loop-y l =
     (length l.rows.items ≡ length l.regions.heads)
-    × ((r s : ℕ) → r < length l.regions.heads → IsRoundBelow l.regions.heads l.regions.holders l.rows.items l.y r s)
+    × ((r s : ℕ) → r < length l.regions.heads
+    → IsRoundBelow l.regions.heads l.regions.holders l.rows.items l.y r s)

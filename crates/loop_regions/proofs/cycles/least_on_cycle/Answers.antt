@@ -7,7 +7,9 @@ use Rattle.loop_regions.proofs.Searching.{no_cycle, cycle_within}
 use Rattle.loop_regions.proofs.cycles.least_on_cycle.Goals as goal
 
 pub returns-then-fall : goal.returns-then-fall
-returns-then-fall c = no_cycle (graph_of c.args.graph.now) (nest_in c.args.regions.now) c.deref.result.now (c.fall.ensures c.if-fall.true)
+returns-then-fall c =
+    no_cycle (graph_of c.args.graph.now) (nest_in c.args.regions.now) c.deref.result.now
+    (c.fall.ensures c.if-fall.true)
 
 pub returns-then-branch : goal.returns-then-branch
 returns-then-branch c = (
@@ -18,9 +20,13 @@ returns-then-branch c = (
 pub loop-y-preserved : goal.loop-y-preserved
 loop-y-preserved c z lt o =
     ⊎_elim
-    (λ e. both_ways c.in_ok-is_on_cycle.field-0 c.if-branch.false (c.in_ok-is_on_cycle.ensures.1 (subst (λ x. IsOnCycle (graph_of c.args.graph.now) (nest_in c.args.regions.now) x) e o)))
+    (λ e. both_ways c.in_ok-is_on_cycle.field-0 c.if-branch.false
+    (c.in_ok-is_on_cycle.ensures.1
+    (subst (λ x. IsOnCycle (graph_of c.args.graph.now) (nest_in c.args.regions.now) x) e o)))
     (λ ne. c.loop-y.invariant z (omega arith) o)
     (cases_eq z c.loop-y.y)
 
 pub returns : goal.returns
-returns c a o = c.loop-y.invariant a (let w = cycle_within (graph_of c.args.graph.now) (nest_in c.args.regions.now) a o in omega arith) o
+returns c a o =
+    c.loop-y.invariant a (let w =
+    cycle_within (graph_of c.args.graph.now) (nest_in c.args.regions.now) a o in omega arith) o

@@ -17,7 +17,9 @@ returns-in-Some-clause-refused c =
       c.requires.regions,
       (
         c.requires.one_head,
-        least_at g p (IsSecondEntry g n) c.in-Some.v c.node.result.address c.in-Some.ensures (entry_within g p c.args.loops.now n c.requires.regions c.in-Some.v c.in-Some.ensures.0) (sym c.node.ensures.address),
+        least_at g p (IsSecondEntry g n) c.in-Some.v c.node.result.address c.in-Some.ensures
+            (entry_within g p c.args.loops.now n c.requires.regions c.in-Some.v c.in-Some.ensures.0)
+            (sym c.node.ensures.address),
       ),
     )
 
@@ -31,7 +33,10 @@ returns-in-Some-not_nested-clause-refused c =
       (
         c.requires.one_head,
         c.in_default.ensures,
-        least_at g p (IsNotNested n) c.in-Some-not_nested.v c.node-in-Some-not_nested.result.address c.in-Some-not_nested.ensures (not_nested_within g p c.args.loops.now n c.requires.regions c.in-Some-not_nested.v c.in-Some-not_nested.ensures.0) (sym c.node-in-Some-not_nested.ensures.address),
+        least_at g p (IsNotNested n) c.in-Some-not_nested.v c.node-in-Some-not_nested.result.address
+            c.in-Some-not_nested.ensures
+            (not_nested_within g p c.args.loops.now n c.requires.regions c.in-Some-not_nested.v
+            c.in-Some-not_nested.ensures.0) (sym c.node-in-Some-not_nested.ensures.address),
       ),
     )
 
@@ -54,7 +59,8 @@ returns-in-Some-2-clause-refused c =
         c.requires.one_head,
         c.in_default.ensures,
         c.in_default-not_nested.ensures,
-        least_at g p (IsOnCycle g n) c.in-Some-2.v c.node-in-Some-2.result.address least (cycle_within g n c.in-Some-2.v least.0) (sym c.node-in-Some-2.ensures.address),
+        least_at g p (IsOnCycle g n) c.in-Some-2.v c.node-in-Some-2.result.address least
+            (cycle_within g n c.in-Some-2.v least.0) (sym c.node-in-Some-2.ensures.address),
       ),
     )
 
@@ -63,5 +69,9 @@ returns-clause-accepted c =
     let g = graph_of c.args.graph.now in
     let n = nest_in c.args.found in
     let least = subst (λ o. IsLeastNumber (IsOnCycle g n) o) c.in_default-2.is c.in_ok-v.ensures in
-    let accepted : HasNoLoopRefusals g n = record { one_entry = c.in_default.ensures; nested = c.in_default-not_nested.ensures; no_cycle = least } in
+    let accepted : HasNoLoopRefusals g n = record {
+      one_entry = c.in_default.ensures;
+      nested = c.in_default-not_nested.ensures;
+      no_cycle = least;
+    } in
     subst (λ x. HasNoLoopRefusals g (nest_of x)) (sym c.new.ensures) accepted

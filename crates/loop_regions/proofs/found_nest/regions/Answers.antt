@@ -10,9 +10,13 @@ whatever P (Ok x) h = h
 whatever P (Err e) h = tt
 
 pub returns-in-Some-clause-refused : goal.returns-in-Some-clause-refused
-returns-in-Some-clause-refused c = λ n. subst (λ (loops : List LoopAt). IsLoopRefused (graph_of c.args.graph.now) (places_of c.args.graph.now) loops n (SameHead c.in-Some.address)) c.as_slice-loops.ensures c.in-Some.ensures
+returns-in-Some-clause-refused c = λ n.
+    subst (λ (loops : List LoopAt).
+    IsLoopRefused (graph_of c.args.graph.now) (places_of c.args.graph.now) loops n
+    (SameHead c.in-Some.address)) c.as_slice-loops.ensures c.in-Some.ensures
 
 pub returns-clause-one_head : goal.returns-clause-one_head
 returns-clause-one_head c =
     whatever ((a : ℕ) → IsSameHead c.args.plan.now.loops a → ⊥) c.nest_of_found.result
-    (subst (λ (loops : List LoopAt). (a : ℕ) → IsSameHead loops a → ⊥) c.as_slice-loops.ensures c.in_default.ensures)
+    (subst (λ (loops : List LoopAt). (a : ℕ) → IsSameHead loops a → ⊥) c.as_slice-loops.ensures
+    c.in_default.ensures)

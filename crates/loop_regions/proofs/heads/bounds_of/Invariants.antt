@@ -6,4 +6,5 @@ use Rattle.loop_regions.proofs.heads.bounds_of.Given as goal
 abbrev pub invariant-loop-head : goal.invariant-loop-head
 invariant-loop-head l =
     (length l.bounds.items ≡ l.head-index)
-    × ((r : ℕ) (h : Head) (k : LoopAt) → r < l.head-index → slice_get l.heads r ≡ Some h → slice_get l.loops h.stated ≡ Some k → slice_index l.bounds.items r ≡ k.bound)
+    × ((r : ℕ) (h : Head) (k : LoopAt) → r < l.head-index → slice_get l.heads r ≡ Some h
+    → slice_get l.loops h.stated ≡ Some k → slice_index l.bounds.items r ≡ k.bound)

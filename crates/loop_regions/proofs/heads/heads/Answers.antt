@@ -15,9 +15,13 @@ loop-node-preserved c =
     let goes = λ (xs : List Head). AreHeads p loops (k + 1) xs in
     elim c.match-loop_at.branch [
       | in-Some+in_ok-push w ↦
-          subst goes (sym (ap (λ (v : Vec Head Global). v.items) w.heads-is ∙ w.in_ok-push.ensures.items))
-          (one_head p loops k w.in-Some.stated c.loop-node.heads.items c.loop-node.invariant (subst (λ a. IsLoopAt loops a (Some w.in-Some.stated)) c.address.ensures w.in-Some.ensures))
+          subst goes
+          (sym (ap (λ (v : Vec Head Global). v.items) w.heads-is ∙ w.in_ok-push.ensures.items))
+          (one_head p loops k w.in-Some.stated c.loop-node.heads.items c.loop-node.invariant
+          (subst (λ a. IsLoopAt loops a (Some w.in-Some.stated)) c.address.ensures
+          w.in-Some.ensures))
       | in_default w ↦
           subst goes (sym (ap (λ (v : Vec Head Global). v.items) w.heads-is))
-          (no_head p loops k c.loop-node.heads.items c.loop-node.invariant (subst (λ a. IsLoopAt loops a None) c.address.ensures w.in_default.ensures))
+          (no_head p loops k c.loop-node.heads.items c.loop-node.invariant
+          (subst (λ a. IsLoopAt loops a None) c.address.ensures w.in_default.ensures))
     ]

@@ -7,7 +7,8 @@ abbrev pub invariant-loop-first : goal.invariant-loop-first
 invariant-loop-first l = record {
   ordered : l.first ≤ l.found;
   below : l.found ≤ l.head;
-  before : (y : ℕ) → y < l.first → IsFalse (is_seen_from (places_of l.graph) ((places_of l.graph).context l.head) y);
+  before : (y : ℕ) → y < l.first
+      → IsFalse (is_seen_from (places_of l.graph) ((places_of l.graph).context l.head) y);
 }
 
 abbrev pub decreases-loop-first : goal.decreases-loop-first

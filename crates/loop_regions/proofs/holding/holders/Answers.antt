@@ -16,12 +16,18 @@ loop-r-preserved c =
     let eh = slice_get-get_or heads k none (omega arith) in
     let s = c.requires.stated k h eh in
     let stated = c.index.result.now in
-    let el = slice_get_read loops (length loops) h.stated stated refl (slice_get_within loops h.stated s.0 s.1) (c.index.ensures ∙ ap (λ l. get_or l h.stated stated) c.in_ok-ranged.ensures) in (
+    let el = slice_get_read loops (length loops) h.stated stated refl
+    (slice_get_within loops h.stated s.0 s.1)
+    (c.index.ensures ∙ ap (λ l. get_or l h.stated stated) c.in_ok-ranged.ensures) in (
       c.in_ok-place.ensures.nodes,
-      λ y r lt. placed (places_of c.args.graph.now) loops heads y k h stated (row c.loop-r.holders.items y) (row c.place.new.holders.items y) eh el (c.in_ok-place.ensures.placed y lt) (λ q. c.loop-r.invariant.1 y q lt) r,
+      λ y r lt. placed (places_of c.args.graph.now) loops heads y k h stated
+          (row c.loop-r.holders.items y) (row c.place.new.holders.items y) eh el
+          (c.in_ok-place.ensures.placed y lt) (λ q. c.loop-r.invariant.1 y q lt) r,
     )
 
 pub returns-clause-held : goal.returns-clause-held
 returns-clause-held c y r lt =
-    let i = c.loop-r.invariant.1 y r lt in
-    (λ t. (i.0 t).1, λ b. i.1 (let w = slice_get_within c.args.heads.now r b.0 b.2 in omega arith, b))
+    let i = c.loop-r.invariant.1 y r lt in (
+      λ t. (i.0 t).1,
+      λ b. i.1 (let w = slice_get_within c.args.heads.now r b.0 b.2 in omega arith, b),
+    )

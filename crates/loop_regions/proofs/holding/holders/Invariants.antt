@@ -7,4 +7,6 @@ use Rattle.loop_regions.proofs.holding.holders.Given as goal
 abbrev pub invariant-loop-r : goal.invariant-loop-r
 invariant-loop-r l =
     (length l.holders.items ≡ (graph_of l.graph).size)
-    × ((y r : ℕ) → y < (graph_of l.graph).size → IsTrue (has (row l.holders.items y) r) ↔ ((r < l.r) × IsHeldBy (places_of l.graph) l.loops l.heads y r))
+    × ((y r : ℕ) → y < (graph_of l.graph).size
+    → IsTrue (has (row l.holders.items y) r)
+    ↔ ((r < l.r) × IsHeldBy (places_of l.graph) l.loops l.heads y r))

@@ -8,7 +8,8 @@ invariant-loop-found l = record {
   above : l.head < l.found;
   ordered : l.found ≤ l.past;
   within : l.past ≤ (graph_of l.graph).size;
-  after : (y : ℕ) → l.past ≤ y → y < (graph_of l.graph).size → IsFalse (is_seen_from (places_of l.graph) ((places_of l.graph).context l.head) y);
+  after : (y : ℕ) → l.past ≤ y → y < (graph_of l.graph).size
+      → IsFalse (is_seen_from (places_of l.graph) ((places_of l.graph).context l.head) y);
 }
 
 abbrev pub decreases-loop-found : goal.decreases-loop-found

@@ -7,5 +7,8 @@ use Rattle.loop_regions.proofs.holding.place.Given as goal
 abbrev pub invariant-loop-y : goal.invariant-loop-y
 invariant-loop-y l =
     (length l.holders.items ≡ (graph_of l.graph).size)
-    × ((z : ℕ) → z < l.y → z < (graph_of l.graph).size → row l.holders.items z ≡ row l.initial.holders.items z ++ (if region_holds (places_of l.graph) l.stated ((places_of l.graph).context l.head) z then l.r ∷ [] else []))
+    × ((z : ℕ) → z < l.y → z < (graph_of l.graph).size
+    → row l.holders.items z ≡ row l.initial.holders.items z
+    ++ (if region_holds (places_of l.graph) l.stated ((places_of l.graph).context l.head) z
+    then l.r ∷ [] else []))
     × ((z : ℕ) → l.y ≤ z → row l.holders.items z ≡ row l.initial.holders.items z)

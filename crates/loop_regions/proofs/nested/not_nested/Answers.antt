@@ -10,9 +10,15 @@ returns-then-are_across c =
     let around = c.args.around.now in
     let holders = c.args.regions.now.holders in
     let y = c.loop-y.y in (
-      across_from c.args.regions.now.heads c.args.regions.now.bounds c.args.regions.now.holders around c.args.regions.now.sound c.requires y (ap (are_across around) (sym c.holders.ensures) ∙ sym c.are_across.ensures ∙ c.if-are_across.true),
+      across_from c.args.regions.now.heads c.args.regions.now.bounds c.args.regions.now.holders
+          around c.args.regions.now.sound c.requires y
+          (ap (are_across around) (sym c.holders.ensures) ∙ sym c.are_across.ensures
+          ∙ c.if-are_across.true),
       λ b n. ⊎_elim
-          (λ lt. absurd (both_ways (are_across around (row holders b)) (c.loop-y.invariant b lt) (across c.args.regions.now.heads c.args.regions.now.bounds c.args.regions.now.holders around c.args.regions.now.sound c.requires b n)))
+          (λ lt. absurd
+          (both_ways (are_across around (row holders b)) (c.loop-y.invariant b lt)
+          (across c.args.regions.now.heads c.args.regions.now.bounds c.args.regions.now.holders
+          around c.args.regions.now.sound c.requires b n)))
           (λ le. le)
           (cases_lt b y),
     )
@@ -22,6 +28,9 @@ returns c =
     let around = c.args.around.now in
     let holders = c.args.regions.now.holders in
     λ a n. ⊎_elim
-    (λ lt. both_ways (are_across around (row holders a)) (c.loop-y.invariant a lt) (across c.args.regions.now.heads c.args.regions.now.bounds c.args.regions.now.holders around c.args.regions.now.sound c.requires a n))
-    (λ le. none_across c.args.regions.now.heads c.args.regions.now.bounds c.args.regions.now.holders around c.args.regions.now.sound c.requires a (omega arith) n)
+    (λ lt. both_ways (are_across around (row holders a)) (c.loop-y.invariant a lt)
+    (across c.args.regions.now.heads c.args.regions.now.bounds c.args.regions.now.holders around
+    c.args.regions.now.sound c.requires a n))
+    (λ le. none_across c.args.regions.now.heads c.args.regions.now.bounds c.args.regions.now.holders
+    around c.args.regions.now.sound c.requires a (omega arith) n)
     (cases_lt a c.loop-y.y)

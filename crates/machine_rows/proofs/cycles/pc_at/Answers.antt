@@ -9,5 +9,6 @@ pc-requires c =
     let place = c.args.place in
     let told = completion c.completions.result.now place in (
       place,
-      at_place c.args.machine.now.state told.job place c.requires (sym (ap (λ (x : Completion). x.job) (c.completions.ensures.each place c.requires))),
+      at_place c.args.machine.now.state told.job place c.requires
+          (sym (ap (λ (x : Completion). x.job) (c.completions.ensures.each place c.requires))),
     )

@@ -1,4 +1,5 @@
-use Rattle.std.proofs.Common.{◌≡◌, ◌<◌, arith, List, ℕ, length, get_or, None, Some, refl, sym, ap, ◌∙◌, subst, false}
+use Rattle.std.proofs.Common.{◌≡◌, ◌<◌, arith, List, ℕ, length, get_or, None, Some, refl, sym, ap}
+use Rattle.std.proofs.Common.{◌∙◌, subst, false}
 use Rattle.crpd_base.specs.Sets.{has}
 use Rattle.flat_graph.specs.CodeGraph.{graph_of, places_of}
 use Rattle.icache.specs.Accesses.{accesses}
@@ -12,13 +13,26 @@ use Rattle.must_cache.proofs.sure.sure_parts.Goals as goal
 pub all_sets-requires : goal.all_sets-requires
 all_sets-requires g c =
     let a = accesses c.args.geometry.now.platform (places_of c.args.graph.now).address in
-    let edges = subst (AreGraphEdges (graph_of c.args.graph.now)) (sym (c.in-Some.ensures.graph.1 ∙ c.deref.ensures.value)) c.in_ok-edges.ensures in
-    let walks = subst (HaveWalks (graph_of c.args.graph.now) a c.in-Ok.walks.met.items c.in-Ok.walks.states.items c.in-Ok.walks.hits.items) (sym c.deref-2.ensures.value) c.in-Ok.ensures in (
+    let edges = subst (AreGraphEdges (graph_of c.args.graph.now))
+    (sym (c.in-Some.ensures.graph.1 ∙ c.deref.ensures.value)) c.in_ok-edges.ensures in
+    let walks = subst
+    (HaveWalks (graph_of c.args.graph.now) a c.in-Ok.walks.met.items c.in-Ok.walks.states.items
+    c.in-Ok.walks.hits.items) (sym c.deref-2.ensures.value) c.in-Ok.ensures in (
       omega (arith, c.requires.few),
       λ n lt.
-          let there = found_sure (graph_of c.args.graph.now) a c.in-Ok.walks.met.items c.in-Ok.walks.states.items c.in-Ok.walks.hits.items c.deref-2.result.now
-          c.in-Some.flow.nodes c.in-Some.flow.edges.now _ c.graph_law.ensures.graph edges (c.in-Some.ensures.graph.0 ∙ c.len.ensures) walks
-          c.in_ok-facts.ensures.facts c.in_ok-facts.ensures.least n (omega (arith, lt, c.in_ok-facts.ensures.nodes, c.in-Some.ensures.graph.0, c.len.ensures, c.deref-3.ensures.len)) in
+          let there = found_sure (graph_of c.args.graph.now) a c.in-Ok.walks.met.items
+          c.in-Ok.walks.states.items c.in-Ok.walks.hits.items c.deref-2.result.now
+          c.in-Some.flow.nodes c.in-Some.flow.edges.now _ c.graph_law.ensures.graph edges
+          (c.in-Some.ensures.graph.0 ∙ c.len.ensures) walks
+          c.in_ok-facts.ensures.facts c.in_ok-facts.ensures.least n
+          (omega (
+            arith,
+            lt,
+            c.in_ok-facts.ensures.nodes,
+            c.in-Some.ensures.graph.0,
+            c.len.ensures,
+            c.deref-3.ensures.len,
+          )) in
           rw (c.deref-3.ensures.value, there.is) refl,
     )
 
@@ -26,16 +40,32 @@ pub returns : goal.returns
 returns g c =
     let gr = graph_of c.args.graph.now in
     let a = accesses c.args.geometry.now.platform (places_of c.args.graph.now).address in
-    let edges = subst (AreGraphEdges (graph_of c.args.graph.now)) (sym (c.in-Some.ensures.graph.1 ∙ c.deref.ensures.value)) c.in_ok-edges.ensures in
-    let walks = subst (HaveWalks (graph_of c.args.graph.now) a c.in-Ok.walks.met.items c.in-Ok.walks.states.items c.in-Ok.walks.hits.items) (sym c.deref-2.ensures.value) c.in-Ok.ensures in
-    let found : (y : ℕ) → y < gr.size → IsFound gr a (get_or c.in-Ok.walks.met.items y None) c.in-Ok.walks.states.items (get_or c.in-Ok.walks.hits.items y false) (get_or c.in_ok-facts.facts.items y None) y =
-    found_sure gr a c.in-Ok.walks.met.items c.in-Ok.walks.states.items c.in-Ok.walks.hits.items c.deref-2.result.now
-    c.in-Some.flow.nodes c.in-Some.flow.edges.now _ c.graph_law.ensures.graph edges (c.in-Some.ensures.graph.0 ∙ c.len.ensures) walks
+    let edges = subst (AreGraphEdges (graph_of c.args.graph.now))
+    (sym (c.in-Some.ensures.graph.1 ∙ c.deref.ensures.value)) c.in_ok-edges.ensures in
+    let walks = subst
+    (HaveWalks (graph_of c.args.graph.now) a c.in-Ok.walks.met.items c.in-Ok.walks.states.items
+    c.in-Ok.walks.hits.items) (sym c.deref-2.ensures.value) c.in-Ok.ensures in
+    let found : (y : ℕ) → y < gr.size
+    → IsFound gr a (get_or c.in-Ok.walks.met.items y None) c.in-Ok.walks.states.items
+    (get_or c.in-Ok.walks.hits.items y false) (get_or c.in_ok-facts.facts.items y None) y =
+    found_sure gr a c.in-Ok.walks.met.items c.in-Ok.walks.states.items c.in-Ok.walks.hits.items
+    c.deref-2.result.now
+    c.in-Some.flow.nodes c.in-Some.flow.edges.now _ c.graph_law.ensures.graph edges
+    (c.in-Some.ensures.graph.0 ∙ c.len.ensures) walks
     c.in_ok-facts.ensures.facts c.in_ok-facts.ensures.least in
-    let count : length c.deref-3.result.now ≡ gr.size = omega (arith, c.in_ok-facts.ensures.nodes, c.in-Some.ensures.graph.0, c.len.ensures, c.deref-3.ensures.len) in
-    let sets : (y : ℕ) (lt : y < gr.size) → (found y lt).sets ≡ sets_at c.in-Ok-all_sets.unsure.items y = λ y lt.
+    let count : length c.deref-3.result.now ≡ gr.size =
+    omega (
+      arith,
+      c.in_ok-facts.ensures.nodes,
+      c.in-Some.ensures.graph.0,
+      c.len.ensures,
+      c.deref-3.ensures.len,
+    ) in
+    let sets : (y : ℕ) (lt : y < gr.size)
+    → (found y lt).sets ≡ sets_at c.in-Ok-all_sets.unsure.items y = λ y lt.
     let read : Some (found y lt).sets ≡ Some (sets_at c.in-Ok-all_sets.unsure.items y) =
-    sym (found y lt).is ∙ ap (λ l. get_or l y None) (sym c.deref-3.ensures.value) ∙ c.in-Ok-all_sets.ensures.each y (omega (arith, lt, count)) in cc in
+    sym (found y lt).is ∙ ap (λ l. get_or l y None) (sym c.deref-3.ensures.value)
+    ∙ c.in-Ok-all_sets.ensures.each y (omega (arith, lt, count)) in cc in
     record {
       hits_count = c.in-Ok-sure_ones.ensures.count;
       places_count = c.in-Ok.ensures.met_count;
@@ -44,9 +74,13 @@ returns g c =
           let made = c.in-Ok-sure_ones.ensures.each y lt in
           let f = found y lt in
           let same = ap (λ l. get_or l y false) c.deref-4.ensures.value in
-          let marks : has f.sets (a.set y) ≡ has (sets_at c.deref-5.result.now y) (a.set y) = ap (λ (w : List ℕ). has w (a.set y)) (sets y lt ∙ ap (λ l. sets_at l y) (sym c.deref-5.ensures.value)) in (
+          let marks : has f.sets (a.set y) ≡ has (sets_at c.deref-5.result.now y) (a.set y) =
+          ap (λ (w : List ℕ). has w (a.set y))
+          (sets y lt ∙ ap (λ l. sets_at l y) (sym c.deref-5.ensures.value)) in (
             λ t. let m = made.0 t in f.hits.0 (sym same ∙ m.0, marks ∙ m.1),
             λ s. let m = f.hits.1 s in made.1 (same ∙ m.0, sym marks ∙ m.1),
           );
-      leader = λ y lt l. subst (λ w. IsSureLeader gr a (get_or c.in-Ok.walks.met.items y None) c.in-Ok.walks.states.items w y) (sets y lt) ((found y lt).leader l);
+      leader = λ y lt l.
+          subst (λ w. IsSureLeader gr a (get_or c.in-Ok.walks.met.items y None)
+          c.in-Ok.walks.states.items w y) (sets y lt) ((found y lt).leader l);
     }

@@ -12,8 +12,10 @@ loop-at-preserved c =
     let next : at ≡ n + 1 = omega (arith, c.loop-at-test.true) in
     let inside : n < length due = omega (arith, c.loop-at-test.true, c.loop-at.invariant.within) in
     let task : c.from-task.result ≡ due_task lines due n = c.from-task.ensures in
-    let below : c.from-task.result < length c.loop-at.heads = omega (arith, c.requires.tasks _ (c.requires.due.places n inside), c.loop-at.auto.heads) in
-    let more = linked_more lines due at n c.from-task.result c.loop-at.later c.loop-at.heads next task below (omega (arith, c.loop-at.auto.later, c.requires.later))
+    let below : c.from-task.result < length c.loop-at.heads =
+    omega (arith, c.requires.tasks _ (c.requires.due.places n inside), c.loop-at.auto.heads) in
+    let more = linked_more lines due at n c.from-task.result c.loop-at.later c.loop-at.heads next
+    task below (omega (arith, c.loop-at.auto.later, c.requires.later))
     (record {
       within = c.loop-at.invariant.within;
       next = c.loop-at.invariant.next;

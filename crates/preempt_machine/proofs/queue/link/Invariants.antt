@@ -7,8 +7,10 @@ abbrev pub invariant-loop-at : goal.invariant-loop-at
 invariant-loop-at l =
     record {
       within : l.at ≤ length l.due;
-      next : (p : ℕ) → l.at ≤ p → p < length l.due → IsFirstFrom l.lines l.due (due_task l.lines l.due p) (p + 1) (slice_index l.later p);
-      heads : (t : ℕ) → t < length l.heads → IsFirstFrom l.lines l.due t l.at (slice_index l.heads t);
+      next : (p : ℕ) → l.at ≤ p → p < length l.due
+          → IsFirstFrom l.lines l.due (due_task l.lines l.due p) (p + 1) (slice_index l.later p);
+      heads : (t : ℕ) → t < length l.heads
+          → IsFirstFrom l.lines l.due t l.at (slice_index l.heads t);
     }
 
 abbrev pub decreases-loop-at : goal.decreases-loop-at

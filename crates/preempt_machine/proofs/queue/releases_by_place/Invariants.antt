@@ -7,5 +7,6 @@ abbrev pub invariant-loop-place : goal.invariant-loop-place
 invariant-loop-place l =
     record {
       long : length l.due.items ≡ l.place;
-      each : (x : ℕ) → x < l.place → slice_index_or l.due.items x (0, 0) ≡ ((script_line l.lines x).release, x);
+      each : (x : ℕ) → x < l.place
+          → slice_index_or l.due.items x (0, 0) ≡ ((script_line l.lines x).release, x);
     }

@@ -9,7 +9,14 @@ abbrev pub invariant-loop-line : goal.invariant-loop-line
 invariant-loop-line l =
     record {
       long : length l.completions.items ≡ l.line-index;
-      each : (x : ℕ) → x < l.line-index → completion l.completions.items x ≡ record { job = record { task = (script_line l.lines x).task; number = number_in_script l.lines (script_line l.lines x).task.0 x }; «end» = «end».Unreleased };
+      each : (x : ℕ) → x < l.line-index → completion l.completions.items x ≡ record {
+        job = record {
+          task = (script_line l.lines x).task;
+          number = number_in_script l.lines (script_line l.lines x).task.0 x;
+        };
+        «end» = «end».Unreleased;
+      };
       count : length l.counts.items ≡ l.tasks;
-      counts : (t : ℕ) → t < l.tasks → slice_index l.counts.items t ≡ number_in_script l.lines t l.line-index;
+      counts : (t : ℕ) → t < l.tasks
+          → slice_index l.counts.items t ≡ number_in_script l.lines t l.line-index;
     }

@@ -17,13 +17,22 @@ loop-line-preserved c =
     let plans = c.args.code.now.plans in
     let task = (script_line lines i).task.0 in
     let there : slice_get plans task ≡ Some c.plan.result.now = c.plan.ensures in
-    let pushed : c.push.new.list.items ≡ c.loop-line.jobs.items ++ job ∷ [] = c.in_ok-push.ensures in
+    let pushed : c.push.new.list.items ≡ c.loop-line.jobs.items ++ job ∷ [] =
+    c.in_ok-push.ensures in
     let line : job.line ≡ script_line lines i = c.in_ok-job.ensures.line in
     record {
       jobs = λ sys same.
           pushed
-          ∙ jobs_more sys lines c.loop-line.jobs.items job i inside (c.loop-line.invariant.jobs sys same)
-          (c.in_ok-job.ensures.is sys (plan_is sys task c.plan.result.now (subst (λ (ps : List TaskPlan). slice_get ps task ≡ Some c.plan.result.now) (sym same) there)));
-      plans = subst (λ (js : List Job). (x : ℕ) → x < length js → HasPlan plans (job_at js x)) (sym pushed)
-          (plans_more plans c.loop-line.jobs.items job c.loop-line.invariant.plans (has_plan plans (script_line lines i) c.plan.result.now job line (c.requires i inside) there c.in_ok-job.ensures.turns));
+          ∙ jobs_more sys lines c.loop-line.jobs.items job i inside
+          (c.loop-line.invariant.jobs sys same)
+          (c.in_ok-job.ensures.is sys
+          (plan_is sys task c.plan.result.now
+          (subst (λ (ps : List TaskPlan). slice_get ps task ≡ Some c.plan.result.now)
+          (sym same) there)));
+      plans =
+          subst (λ (js : List Job). (x : ℕ) → x < length js → HasPlan plans (job_at js x))
+          (sym pushed)
+          (plans_more plans c.loop-line.jobs.items job c.loop-line.invariant.plans
+          (has_plan plans (script_line lines i) c.plan.result.now job line (c.requires i inside)
+          there c.in_ok-job.ensures.turns));
     }

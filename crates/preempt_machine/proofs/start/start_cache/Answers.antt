@@ -13,7 +13,9 @@ loop-block-preserved c =
     let h = c.loop-block.invariant in
     let inside : i < length blocks = rw (sym h.items) c.loop-block-test.true in
     record {
-      cache = rw (c.access.ensures.after, h.geometry, h.items, h.cache) (sym (next_block p c.empty-cache.result blocks i inside));
+      cache =
+          rw (c.access.ensures.after, h.geometry, h.items, h.cache)
+          (sym (next_block p c.empty-cache.result blocks i inside));
       items = h.items;
       room = c.access.ensures.sets ∙ h.room;
       geometry = h.geometry;
@@ -29,4 +31,5 @@ returns-clause-is c =
     let past : length blocks ≤ i = rw (sym h.items) c.loop-block-test.false in
     h.cache
     ∙ ap (with_blocks p c.empty-cache.result) (take_all i blocks past)
-    ∙ ap (λ (cache : Cache). with_blocks p cache blocks) (empty_is 512 c.empty-cache.result c.empty-cache.ensures.sets c.empty-cache.ensures.none)
+    ∙ ap (λ (cache : Cache). with_blocks p cache blocks)
+    (empty_is 512 c.empty-cache.result c.empty-cache.ensures.sets c.empty-cache.ensures.none)

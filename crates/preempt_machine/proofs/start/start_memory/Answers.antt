@@ -11,20 +11,28 @@ use Rattle.preempt_machine.proofs.Loads.{next_image}
 use Rattle.preempt_machine.proofs.start.start_memory.Goals as goal
 
 -- an item of a list of images
-item_is : (items images : List Image) (i : ℕ) (image : Image) → items ≡ images → image ≡ get_or items i image → image ≡ get_or images i image
+item_is : (items images : List Image) (i : ℕ) (image : Image) → items ≡ images
+    → image ≡ get_or items i image → image ≡ get_or images i image
 item_is items images i image e h = subst (λ (l : List Image). image ≡ get_or l i image) e h
 
-item_good : (items images : List Image) (i : ℕ) (image : Image) → items ≡ images → image ≡ get_or items i image → i < length items → All IsImage images → IsImage image
-item_good items images i image e h inside all = subst IsImage (sym (item_is items images i image e h)) (All-get_or IsImage images i image (subst (λ (l : List Image). i < length l) e inside) all)
+item_good : (items images : List Image) (i : ℕ) (image : Image) → items ≡ images
+    → image ≡ get_or items i image → i < length items → All IsImage images → IsImage image
+item_good items images i image e h inside all =
+    subst IsImage (sym (item_is items images i image e h))
+    (All-get_or IsImage images i image (subst (λ (l : List Image). i < length l) e inside) all)
 
 pub put_segments-requires-clause-below : goal.put_segments-requires-clause-below
 put_segments-requires-clause-below c =
-    let good = item_good c.images-image-items.result.now c.args.code.now.images c.loop-image.image-index c.image-item.result c.loop-image.invariant.items c.image-item.is c.loop-image-test.true c.images_law.ensures in
+    let good = item_good c.images-image-items.result.now c.args.code.now.images
+    c.loop-image.image-index c.image-item.result c.loop-image.invariant.items c.image-item.is
+    c.loop-image-test.true c.images_law.ensures in
     rw c.as_slice.ensures good.below
 
 pub put_segments-requires-clause-sized : goal.put_segments-requires-clause-sized
 put_segments-requires-clause-sized c =
-    let good = item_good c.images-image-items.result.now c.args.code.now.images c.loop-image.image-index c.image-item.result c.loop-image.invariant.items c.image-item.is c.loop-image-test.true c.images_law.ensures in
+    let good = item_good c.images-image-items.result.now c.args.code.now.images
+    c.loop-image.image-index c.image-item.result c.loop-image.invariant.items c.image-item.is
+    c.loop-image-test.true c.images_law.ensures in
     rw c.as_slice.ensures good.sized
 
 pub loop-image-preserved : goal.loop-image-preserved
@@ -33,10 +41,12 @@ loop-image-preserved c =
     let i = c.loop-image.image-index in
     let image = c.image-item.result in
     let h = c.loop-image.invariant in
-    let inside : i < length images = subst (λ (l : List Image). i < length l) h.items c.loop-image-test.true in
+    let inside : i < length images = subst (λ (l : List Image). i < length l) h.items
+    c.loop-image-test.true in
     let is = item_is c.images-image-items.result.now images i image h.items c.image-item.is in
     let so_far = with_images [] (take i images) in
-    let put : c.put_segments.new.memory ≡ with_segments c.loop-image.memory c.as_slice.result.now = c.in_ok-put_segments.ensures in
+    let put : c.put_segments.new.memory ≡ with_segments c.loop-image.memory c.as_slice.result.now =
+    c.in_ok-put_segments.ensures in
     record {
       memory = put
           ∙ ap (λ (ss : List Segment). with_segments c.loop-image.memory ss) c.as_slice.ensures
@@ -51,5 +61,7 @@ unfolding start_memory
 returns c =
     let images = c.args.code.now.images in
     let i = c.loop-image.image-index in
-    let past : length images ≤ i = subst (λ (l : List Image). length l ≤ i) c.loop-image.invariant.items c.loop-image-test.false in
+    let past : length images
+    ≤ i =
+    subst (λ (l : List Image). length l ≤ i) c.loop-image.invariant.items c.loop-image-test.false in
     c.loop-image.invariant.memory ∙ ap (with_images []) (take_all i images past)

@@ -7,6 +7,7 @@ use Rattle.response.proofs.bounds.higher_demands.Given as goal
 abbrev pub invariant-loop-k : goal.invariant-loop-k
 invariant-loop-k l = record {
   size : length l.higher ≡ 32;
-  is : (k : ℕ) → k < l.k → get_or l.higher k 0 ≡ higher_demand l.set (part_at l.parts) (slice_index l.windows) l.w l.method l.task.0 k;
+  is : (k : ℕ) → k < l.k → get_or l.higher k 0
+      ≡ higher_demand l.set (part_at l.parts) (slice_index l.windows) l.w l.method l.task.0 k;
   most : (k : ℕ) → k < l.k → get_or l.higher k 0 ≤ 2 ^ 113;
 }

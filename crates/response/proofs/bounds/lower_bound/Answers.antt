@@ -7,5 +7,7 @@ pub loop-init : goal.loop-init
 loop-init c = record {
   onward = omega arith;
   most = c.requires.most;
-  lower = λ v takes more steep fits. demanded_low c.args.own c.args.demanded c.args.task.0 v (slice_index c.args.higher.now) takes c.requires.demanded more fits;
+  lower = λ v takes more steep fits.
+      demanded_low c.args.own c.args.demanded c.args.task.0 v (slice_index c.args.higher.now) takes
+      c.requires.demanded more fits;
 }

@@ -7,10 +7,21 @@ use Rattle.response.proofs.bounds.next_bound.Goals as goal
 use Rattle.response.proofs.bounds.next_bound.Goals.{then-higher-k, else-higher-k}
 
 pub overflow_mul-higher : goal.overflow_mul-higher
-overflow_mul-higher c = omega (arith, c.requires.taken, sum_part (slice_index c.args.higher.now) c.args.task.0 c.loop-k.k (omega arith))
+overflow_mul-higher c =
+    omega (
+      arith,
+      c.requires.taken,
+      sum_part (slice_index c.args.higher.now) c.args.task.0 c.loop-k.k (omega arith),
+    )
 
 pub overflow_add-fixed : goal.overflow_add-fixed
-overflow_add-fixed c = omega (arith, c.requires.taken, c.loop-k.invariant.few, sum_part (slice_index c.args.higher.now) c.args.task.0 c.loop-k.k (omega arith))
+overflow_add-fixed c =
+    omega (
+      arith,
+      c.requires.taken,
+      c.loop-k.invariant.few,
+      sum_part (slice_index c.args.higher.now) c.args.task.0 c.loop-k.k (omega arith),
+    )
 
 pub loop-k-preserved : goal.loop-k-preserved
 loop-k-preserved c =
@@ -18,25 +29,35 @@ loop-k-preserved c =
       | then-higher-k w ↦ rw (w.fixed-is, w.slope-is) (record {
         few = rw (add-one c.loop-k.k) (omega (arith, c.loop-k.invariant.few));
         flat = omega (arith, c.loop-k.invariant.flat, c.requires.flat c.loop-k.k (omega arith));
-        lower = λ v takes more steep. sloped c.args.own c.loop-k.fixed c.loop-k.slope (slice_index c.args.slopes.now c.loop-k.k) c.loop-k.k v takes (c.loop-k.invariant.lower v takes more steep) (steep c.loop-k.k (omega arith));
+        lower = λ v takes more steep.
+            sloped c.args.own c.loop-k.fixed c.loop-k.slope
+            (slice_index c.args.slopes.now c.loop-k.k) c.loop-k.k v takes
+            (c.loop-k.invariant.lower v takes more steep) (steep c.loop-k.k (omega arith));
       })
       | else-higher-k w ↦ rw (w.fixed-is, w.slope-is) (record {
         few = rw (add-one c.loop-k.k) (omega (arith, c.loop-k.invariant.few));
         flat = omega (arith, c.loop-k.invariant.flat);
-        lower = λ v takes more steep. taken c.args.own c.loop-k.fixed c.loop-k.slope (slice_index c.args.higher.now c.loop-k.k) c.loop-k.k v takes (c.loop-k.invariant.lower v takes more steep) (more c.loop-k.k (omega arith));
+        lower = λ v takes more steep.
+            taken c.args.own c.loop-k.fixed c.loop-k.slope
+            (slice_index c.args.higher.now c.loop-k.k) c.loop-k.k v takes
+            (c.loop-k.invariant.lower v takes more steep) (more c.loop-k.k (omega arith));
       })
     ]
 
 pub returns-then-slope-lt-SCALE-clause-lower : goal.returns-then-slope-lt-SCALE-clause-lower
 returns-then-slope-lt-SCALE-clause-lower c = λ v takes more steep fits.
-    let all : sum_below takes c.loop-k.k ≡ sum_below takes c.args.task.0 = ap (sum_below takes) (omega (arith, c.loop-k.auto.k-end)) in
-    let low = divided c.loop-k.fixed c.loop-k.slope v (omega arith) (omega (arith, c.loop-k.invariant.lower v takes more steep, fits, all)) in
+    let all : sum_below takes c.loop-k.k ≡ sum_below takes c.args.task.0 =
+    ap (sum_below takes) (omega (arith, c.loop-k.auto.k-end)) in
+    let low = divided c.loop-k.fixed c.loop-k.slope v (omega arith)
+    (omega (arith, c.loop-k.invariant.lower v takes more steep, fits, all)) in
     omega (arith, low, c.requires.known v takes more steep fits, c.max.ensures)
 
 pub returns-then-fixed-gt0-clause-lower : goal.returns-then-fixed-gt0-clause-lower
 returns-then-fixed-gt0-clause-lower c = λ v takes more steep fits.
-    let all : sum_below takes c.loop-k.k ≡ sum_below takes c.args.task.0 = ap (sum_below takes) (omega (arith, c.loop-k.auto.k-end)) in
-    absurd (too_steep c.loop-k.fixed c.loop-k.slope v (omega arith) (omega arith) (omega (arith, c.loop-k.invariant.lower v takes more steep, fits, all)))
+    let all : sum_below takes c.loop-k.k ≡ sum_below takes c.args.task.0 =
+    ap (sum_below takes) (omega (arith, c.loop-k.auto.k-end)) in
+    absurd (too_steep c.loop-k.fixed c.loop-k.slope v (omega arith) (omega arith)
+    (omega (arith, c.loop-k.invariant.lower v takes more steep, fits, all)))
 
 pub returns-else-fixed-gt0-clause-lower : goal.returns-else-fixed-gt0-clause-lower
 returns-else-fixed-gt0-clause-lower c = c.requires.known

@@ -7,6 +7,7 @@ abbrev pub invariant-loop-k : goal.invariant-loop-k
 invariant-loop-k l = record {
   few : l.fixed ≤ l.own + sum_below (slice_index l.higher) l.k;
   flat : l.slope ≤ l.k * 2 ^ 80;
-  lower : (w : ℕ) (takes : ℕ → ℕ) → ((k : ℕ) → k < l.fn.task.0 → slice_index l.higher k ≤ takes k) → ((k : ℕ) → k < l.fn.task.0 → slice_index l.slopes k * w ≤ takes k * 2 ^ 80)
+  lower : (w : ℕ) (takes : ℕ → ℕ) → ((k : ℕ) → k < l.fn.task.0 → slice_index l.higher k ≤ takes k)
+      → ((k : ℕ) → k < l.fn.task.0 → slice_index l.slopes k * w ≤ takes k * 2 ^ 80)
       → l.fixed * 2 ^ 80 + l.slope * w ≤ (l.own + sum_below takes l.k) * 2 ^ 80;
 }

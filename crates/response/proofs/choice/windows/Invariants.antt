@@ -12,5 +12,6 @@ invariant-loop-i l = record {
   room : length l.found ≡ 32;
   same : (k : ℕ) → k < l.i → get_or l.found k 0 ≡ window_at l.choices.items k;
   in_deadline : (k : ℕ) → k < l.i → get_or l.found k 0 + jitter_of l.set k ≤ deadline_of l.set k;
-  each : AreChoices l.set (demand l.set (part_at l.parts) (slice_index l.longest)) l.choices.items l.i;
+  each : AreChoices l.set (demand l.set (part_at l.parts) (slice_index l.longest))
+      l.choices.items l.i;
 }

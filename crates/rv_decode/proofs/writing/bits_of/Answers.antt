@@ -26,5 +26,6 @@ returns-then-imm-lt0-clause-value c =
     let small = power_small (c.args.count - 1) (omega arith) in
     let twice = power_twice c.args.count c.requires.some in
     let low = signed_low c.args.count c.args.imm c.requires.within in
-    let e = negative_bits c.args.count c.args.imm c.requires.some c.requires.within (omega (arith, ints)) in
+    let e = negative_bits c.args.count c.args.imm c.requires.some c.requires.within
+    (omega (arith, ints)) in
     omega (arith, ints)

@@ -4,4 +4,5 @@ use Rattle.script_reader.specs.Legal.{IsReleasedInTime}
 use Rattle.script_reader.proofs.legality.are_in_time.Given as goal
 
 abbrev pub invariant-loop-job : goal.invariant-loop-job
-invariant-loop-job l = (k : ℕ) (d : ScriptJob) → k < l.job-index → IsReleasedInTime l.set (get_or l.jobs k d)
+invariant-loop-job l =
+    (k : ℕ) (d : ScriptJob) → k < l.job-index → IsReleasedInTime l.set (get_or l.jobs k d)

@@ -1,4 +1,5 @@
-use Rattle.std.proofs.Common.{◌≡◌, Bool, List, ◌∷◌, [], ◌++◌, ◌∙◌, ap, subst, length, length-append, not, arith}
+use Rattle.std.proofs.Common.{◌≡◌, Bool, List, ◌∷◌, [], ◌++◌, ◌∙◌, ap, subst, length, length-append}
+use Rattle.std.proofs.Common.{not, arith}
 use Rattle.std.specs.Prelude.{if◌then◌else◌}
 use Rattle.crpd_base.proofs.Elements.{pushed_each}
 use Rattle.crpd_base.specs.declared.data.Part.{Part}
@@ -15,17 +16,33 @@ loop-k-preserved c =
     let part : Part = c.in_ok-known.known.part in
     let list : List Bool = c.in_ok-known.known.hits in
     let stored : c.push.new.self.items ≡ c.loop-k.parts.items ++ part ∷ [] =
-    c.push.ensures.items ∙ ap (λ b. if b then c.loop-k.parts.items ++ part ∷ [] else c.loop-k.parts.items) (c.is_err.ensures.negation ∙ ap not c.if-is_err.false) in
+    c.push.ensures.items ∙ ap (λ b. if b then c.loop-k.parts.items ++ part ∷ []
+    else c.loop-k.parts.items) (c.is_err.ensures.negation ∙ ap not c.if-is_err.false) in
     let kept : c.push-in-loop-k.new.self.items ≡ c.loop-k.hits.items ++ list ∷ [] =
-    c.push-in-loop-k.ensures.items ∙ ap (λ b. if b then c.loop-k.hits.items ++ list ∷ [] else c.loop-k.hits.items) (c.is_err-in-loop-k.ensures.negation ∙ ap not c.if-is_err-2.false) in
-    let here = graph_is c.args.graphs.now c.loop-k.k c.index-graphs-k.result c.loop-k-test.true c.index-graphs-k.is in
+    c.push-in-loop-k.ensures.items
+    ∙ ap (λ b. if b then c.loop-k.hits.items ++ list ∷ [] else c.loop-k.hits.items)
+    (c.is_err-in-loop-k.ensures.negation ∙ ap not c.if-is_err-2.false) in
+    let here = graph_is c.args.graphs.now c.loop-k.k c.index-graphs-k.result c.loop-k-test.true
+    c.index-graphs-k.is in
     record {
       parts = rw stored (simp length-append (omega (arith, c.loop-k.invariant.parts)));
-      sets = pushed_each (λ j (x : Part). (nest : CodeNest) → HasCacheBlocks c.args.set.now.platform (task_graph (graph_at c.args.graphs.now j) nest) x) c.loop-k.parts.items c.push.new.self.items part _ c.loop-k.k stored c.loop-k.invariant.parts c.loop-k.invariant.sets
-          (λ nest. subst (λ (g : CodeGraph). HasCacheBlocks c.args.set.now.platform (task_graph g nest) part) here (c.in_ok-known.ensures.sets nest));
+      sets =
+          pushed_each (λ j (x : Part). (nest : CodeNest)
+          → HasCacheBlocks c.args.set.now.platform (task_graph (graph_at c.args.graphs.now j) nest)
+          x) c.loop-k.parts.items c.push.new.self.items part _ c.loop-k.k stored
+          c.loop-k.invariant.parts c.loop-k.invariant.sets
+          (λ nest.
+          subst (λ (g : CodeGraph). HasCacheBlocks c.args.set.now.platform (task_graph g nest) part)
+          here (c.in_ok-known.ensures.sets nest));
       lists = rw kept (simp length-append (omega (arith, c.loop-k.invariant.lists)));
-      hits = pushed_each (λ j (x : List Bool). (nest : CodeNest) → TellsHits c.args.set.now.platform (task_graph (graph_at c.args.graphs.now j) nest) x) c.loop-k.hits.items c.push-in-loop-k.new.self.items list [] c.loop-k.k kept c.loop-k.invariant.lists c.loop-k.invariant.hits
-          (λ nest. subst (λ (g : CodeGraph). TellsHits c.args.set.now.platform (task_graph g nest) list) here (c.in_ok-known.ensures.hits nest));
+      hits =
+          pushed_each (λ j (x : List Bool). (nest : CodeNest)
+          → TellsHits c.args.set.now.platform (task_graph (graph_at c.args.graphs.now j) nest) x)
+          c.loop-k.hits.items c.push-in-loop-k.new.self.items list [] c.loop-k.k kept
+          c.loop-k.invariant.lists c.loop-k.invariant.hits
+          (λ nest.
+          subst (λ (g : CodeGraph). TellsHits c.args.set.now.platform (task_graph g nest) list) here
+          (c.in_ok-known.ensures.hits nest));
     }
 
 pub returns-clause-sets : goal.returns-clause-sets

@@ -11,7 +11,10 @@ use Rattle.sensitivity.proofs.analysis.all_known.Given as goal
 abbrev pub invariant-loop-k : goal.invariant-loop-k
 invariant-loop-k l = record {
   parts : length l.parts.items ≡ l.k;
-  sets : (j : ℕ) → j < l.k → (nest : CodeNest) → HasCacheBlocks l.set.platform (task_graph (graph_at l.graphs j) nest) (part_at l.parts.items j);
+  sets : (j : ℕ) → j < l.k → (nest : CodeNest)
+      → HasCacheBlocks l.set.platform (task_graph (graph_at l.graphs j) nest)
+      (part_at l.parts.items j);
   lists : length l.hits.items ≡ l.k;
-  hits : (j : ℕ) → j < l.k → (nest : CodeNest) → TellsHits l.set.platform (task_graph (graph_at l.graphs j) nest) (get_or l.hits.items j []);
+  hits : (j : ℕ) → j < l.k → (nest : CodeNest)
+      → TellsHits l.set.platform (task_graph (graph_at l.graphs j) nest) (get_or l.hits.items j []);
 }

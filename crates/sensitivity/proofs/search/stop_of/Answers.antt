@@ -17,16 +17,31 @@ returns-in-Ok c = record {
   parts = part_at c.args.parts.now;
   are = c.requires.parts.are;
   choices = c.in-Ok._choices.items;
-  windows = answer_too c.args.set.now (demand c.args.set.now (part_at c.args.parts.now) (slice_index c.write_longest.new.longest)) (demand c.args.set.now (part_at c.args.parts.now) (longest_at c.args.set.now.platform (task_graph_at c.args.graphs.now c.args.nests.now)))
-      (demands_agree c.args.set.now (part_at c.args.parts.now) (part_at c.args.parts.now) (slice_index c.write_longest.new.longest) (longest_at c.args.set.now.platform (task_graph_at c.args.graphs.now c.args.nests.now))
-      (length c.args.set.now.tasks) (has_times c.args.set.now c.requires.set) (omega arith) (λ k lt. refl) c.write_longest.ensures.each.each) c.in-Ok._choices.items c.in-Ok.ensures;
+  windows =
+      answer_too c.args.set.now
+      (demand c.args.set.now (part_at c.args.parts.now) (slice_index c.write_longest.new.longest))
+      (demand c.args.set.now (part_at c.args.parts.now)
+      (longest_at c.args.set.now.platform (task_graph_at c.args.graphs.now c.args.nests.now)))
+      (demands_agree c.args.set.now (part_at c.args.parts.now) (part_at c.args.parts.now)
+      (slice_index c.write_longest.new.longest)
+      (longest_at c.args.set.now.platform (task_graph_at c.args.graphs.now c.args.nests.now))
+      (length c.args.set.now.tasks) (has_times c.args.set.now c.requires.set) (omega arith)
+      (λ k lt. refl) c.write_longest.ensures.each.each) c.in-Ok._choices.items c.in-Ok.ensures;
 }
 
 pub returns-in-Err-Unschedulable : goal.returns-in-Err-Unschedulable
 returns-in-Err-Unschedulable c = record {
   parts = part_at c.args.parts.now;
   are = c.requires.parts.are;
-  first = first_too c.args.set.now (demand c.args.set.now (part_at c.args.parts.now) (slice_index c.write_longest.new.longest)) (demand c.args.set.now (part_at c.args.parts.now) (longest_at c.args.set.now.platform (task_graph_at c.args.graphs.now c.args.nests.now)))
-      (demands_agree c.args.set.now (part_at c.args.parts.now) (part_at c.args.parts.now) (slice_index c.write_longest.new.longest) (longest_at c.args.set.now.platform (task_graph_at c.args.graphs.now c.args.nests.now))
-      (length c.args.set.now.tasks) (has_times c.args.set.now c.requires.set) (omega arith) (λ k lt. refl) c.write_longest.ensures.each.each) c.in-Err-Unschedulable.task.0 (rw c.in-Err-Unschedulable.field-0-is at c.in-Err-Unschedulable.ensures);
+  first =
+      first_too c.args.set.now
+      (demand c.args.set.now (part_at c.args.parts.now) (slice_index c.write_longest.new.longest))
+      (demand c.args.set.now (part_at c.args.parts.now)
+      (longest_at c.args.set.now.platform (task_graph_at c.args.graphs.now c.args.nests.now)))
+      (demands_agree c.args.set.now (part_at c.args.parts.now) (part_at c.args.parts.now)
+      (slice_index c.write_longest.new.longest)
+      (longest_at c.args.set.now.platform (task_graph_at c.args.graphs.now c.args.nests.now))
+      (length c.args.set.now.tasks) (has_times c.args.set.now c.requires.set) (omega arith)
+      (λ k lt. refl) c.write_longest.ensures.each.each) c.in-Err-Unschedulable.task.0
+      (rw c.in-Err-Unschedulable.field-0-is at c.in-Err-Unschedulable.ensures);
 }

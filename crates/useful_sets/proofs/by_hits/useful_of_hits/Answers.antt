@@ -9,7 +9,10 @@ use Rattle.useful_sets.proofs.by_hits.useful_of_hits.Goals as goal
 use Rattle.useful_sets.proofs.by_hits.useful_of_hits.Goals.{then-hits-node, else-hits-node}
 
 pub loop-node-init : goal.loop-node-init
-loop-node-init g c = sets_none (λ y. get_or c.args.hits.now y false) (accesses c.args.geometry.now.platform (places_of c.args.graph.now).address).set 0 c.new-sets.result c.new-sets.result c.new-sets.ensures
+loop-node-init g c =
+    sets_none (λ y. get_or c.args.hits.now y false)
+    (accesses c.args.geometry.now.platform (places_of c.args.graph.now).address).set 0
+    c.new-sets.result c.new-sets.result c.new-sets.ensures
 
 pub loop-node-preserved : goal.loop-node-preserved
 loop-node-preserved g c =
@@ -20,12 +23,15 @@ loop-node-preserved g c =
       | then-hits-node w ↦
           rw w.sets-is
           (sets_more hit a.set c.loop-node.node c.loop-node.sets _ c.loop-node.invariant
-          (subst (λ k. (t : ℕ) → member w.insert.new.self t ≡ (if t == k then 1 else member c.loop-node.sets t))
-          (w.set.ensures ∙ ap (set_of p) (w.block.ensures ∙ ap (block_of p) w.address.ensures)) w.insert.ensures)
+          (subst (λ k. (t : ℕ) → member w.insert.new.self t
+          ≡ (if t == k then 1 else member c.loop-node.sets t))
+          (w.set.ensures ∙ ap (set_of p) (w.block.ensures ∙ ap (block_of p) w.address.ensures))
+          w.insert.ensures)
           w.if-hits-node.true)
       | else-hits-node w ↦
           rw w.sets-is
-          (sets_same hit a.set c.loop-node.node c.loop-node.sets c.loop-node.sets c.loop-node.invariant w.if-hits-node.false)
+          (sets_same hit a.set c.loop-node.node c.loop-node.sets c.loop-node.sets
+          c.loop-node.invariant w.if-hits-node.false)
     ]
 
 pub returns : goal.returns
@@ -35,6 +41,9 @@ returns g c s =
     let law = ucb_law gr a s in
     let last : c.loop-node.node ≡ gr.size = omega (arith, c.len-node-end.ensures) in
     let sets = c.loop-node.invariant s in (
-      λ t. let z = sets.0 t in law.1 (z.0, omega (arith, z.1), (c.requires.each z.0 (omega (arith, z.1))).0 z.2, z.3),
-      λ u. let z = law.0 u in sets.1 (z.0, omega (arith, z.1), (c.requires.each z.0 z.1).1 z.2, z.3),
+      λ t. let z =
+          sets.0 t in
+          law.1 (z.0, omega (arith, z.1), (c.requires.each z.0 (omega (arith, z.1))).0 z.2, z.3),
+      λ u. let z =
+          law.0 u in sets.1 (z.0, omega (arith, z.1), (c.requires.each z.0 z.1).1 z.2, z.3),
     )

@@ -6,4 +6,6 @@ use Rattle.useful_sets.proofs.HitSets.{AreSetsOf}
 use Rattle.useful_sets.proofs.by_hits.useful_of_hits.Given as goal
 
 abbrev pub invariant-loop-node : goal.invariant-loop-node
-invariant-loop-node g l = AreSetsOf (λ y. slice_index_or l.hits y false) (accesses l.geometry.platform (places_of l.graph).address).set l.node l.sets
+invariant-loop-node g l =
+    AreSetsOf (λ y. slice_index_or l.hits y false)
+    (accesses l.geometry.platform (places_of l.graph).address).set l.node l.sets

@@ -4,4 +4,5 @@ use Rattle.window_rows.proofs.Ranges.{InRange}
 use Rattle.window_rows.proofs.rows.has_times.Given as goal
 
 abbrev pub invariant-loop-k : goal.invariant-loop-k
-invariant-loop-k l = (k : ℕ) → k < l.k → InRange (period_of l.set k) (deadline_of l.set k) (jitter_of l.set k)
+invariant-loop-k l =
+    (k : ℕ) → k < l.k → InRange (period_of l.set k) (deadline_of l.set k) (jitter_of l.set k)

@@ -18,7 +18,10 @@ returns-then-not-node_pays c = record {
 pub loop-node-preserved : goal.loop-node-preserved
 loop-node-preserved c u lt =
     ⊎_elim
-    (λ e. subst (λ x. PotentialsMeet (graph_of c.args.self.now.graph.now) (nest_of c.args.self.now.nest.now) (costs_at c.args.self.now.platform.now c.args.self.now.graph.now (counted c.args.self.now.hits.now)) (potentials_of c.args.self.now.part.now) x) (sym e)
+    (λ e. subst
+    (λ x. PotentialsMeet (graph_of c.args.self.now.graph.now) (nest_of c.args.self.now.nest.now)
+    (costs_at c.args.self.now.platform.now c.args.self.now.graph.now
+    (counted c.args.self.now.hits.now)) (potentials_of c.args.self.now.part.now) x) (sym e)
     (c.node_pays.ensures.0 c.if-not-node_pays.false))
     (λ ne. c.loop-node.invariant u (omega arith))
     (cases_eq u c.loop-node.node)
@@ -27,5 +30,7 @@ pub returns : goal.returns
 returns c = record {
   within = omega (arith, c.len.ensures);
   fails = λ lt h. absurd (omega (arith, lt, c.len.ensures));
-  holds = λ u lt. c.loop-node.invariant u (omega (arith, lt, c.loop-node-test.false, c.len.ensures, c.len-node-end.ensures));
+  holds = λ u lt.
+      c.loop-node.invariant u
+      (omega (arith, lt, c.loop-node-test.false, c.len.ensures, c.len-node-end.ensures));
 }

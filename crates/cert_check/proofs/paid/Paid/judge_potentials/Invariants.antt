@@ -11,4 +11,6 @@ use Rattle.cert_check.proofs.paid.Paid.judge_potentials.Given as goal
 abbrev pub invariant-loop-node : goal.invariant-loop-node
 invariant-loop-node l =
     (u : ℕ) → u < l.node →
-    PotentialsMeet (graph_of l.self.graph.now) (nest_of l.self.nest.now) (costs_at l.self.platform.now l.self.graph.now (counted l.self.hits.now)) (potentials_of l.self.part.now) u
+    PotentialsMeet (graph_of l.self.graph.now) (nest_of l.self.nest.now)
+    (costs_at l.self.platform.now l.self.graph.now (counted l.self.hits.now))
+    (potentials_of l.self.part.now) u

@@ -6,14 +6,24 @@ use Rattle.cert_check.proofs.GraphClauses.{inequalities_fail, bound_fails, poten
 use Rattle.cert_check.proofs.paid.Paid.potential_failure.Goals as goal
 
 pub returns-then-node-len : goal.returns-then-node-len
-returns-then-node-len c = inequalities_fail c.args.self.now.platform.now (task_graph c.args.self.now.graph.now c.args.self.now.nest.now) c.args.self.now.part.now (counted c.args.self.now.hits.now) c.requires.hits c.judge_potentials-node.result c.judge_potentials-node.ensures (omega (arith, c.if-node-len.true, c.len.ensures))
+returns-then-node-len c =
+    inequalities_fail c.args.self.now.platform.now
+    (task_graph c.args.self.now.graph.now c.args.self.now.nest.now) c.args.self.now.part.now
+    (counted c.args.self.now.hits.now) c.requires.hits c.judge_potentials-node.result
+    c.judge_potentials-node.ensures (omega (arith, c.if-node-len.true, c.len.ensures))
 
 pub returns-then-not-bound_holds : goal.returns-then-not-bound_holds
 returns-then-not-bound_holds c =
-    bound_fails c.args.self.now.platform.now (task_graph c.args.self.now.graph.now c.args.self.now.nest.now) c.args.self.now.part.now (counted c.args.self.now.hits.now) c.requires.hits c.judge_potentials-node.result c.judge_potentials-node.ensures (omega (arith, c.if-node-len.false, c.len.ensures))
+    bound_fails c.args.self.now.platform.now
+    (task_graph c.args.self.now.graph.now c.args.self.now.nest.now) c.args.self.now.part.now
+    (counted c.args.self.now.hits.now) c.requires.hits c.judge_potentials-node.result
+    c.judge_potentials-node.ensures (omega (arith, c.if-node-len.false, c.len.ensures))
     (λ h. false≢true (sym c.if-not-bound_holds.true ∙ c.bound_holds.ensures.1 h))
 
 pub returns : goal.returns
 returns c =
-    potentials_hold c.args.self.now.platform.now (task_graph c.args.self.now.graph.now c.args.self.now.nest.now) c.args.self.now.part.now (counted c.args.self.now.hits.now) c.requires.hits c.judge_potentials-node.result c.judge_potentials-node.ensures (omega (arith, c.if-node-len.false, c.len.ensures))
+    potentials_hold c.args.self.now.platform.now
+    (task_graph c.args.self.now.graph.now c.args.self.now.nest.now) c.args.self.now.part.now
+    (counted c.args.self.now.hits.now) c.requires.hits c.judge_potentials-node.result
+    c.judge_potentials-node.ensures (omega (arith, c.if-node-len.false, c.len.ensures))
     (c.bound_holds.ensures.0 c.if-not-bound_holds.false)

@@ -4,6 +4,9 @@ use Rattle.code_map.proofs.files.Files.new.Goals as goal
 
 pub invariant_of-result : goal.invariant_of-result
 invariant_of-result c =
-    is_kept (record { images = c.new.result; runs = c.new-2.result; own = c.new-3.result }) c.deref.result.now c.deref-2.result.now c.in_ok-joined.joined.runs.items c.in_ok-own.own.items
-    (c.deref.ensures.value ∙ sym c.new.ensures) (c.deref-2.ensures.value ∙ sym c.new.ensures) c.new-2.ensures c.new-3.ensures
-    (c.in_ok-joined.ensures.is c.in_default.is) c.in_ok-own.ensures.each c.in_ok-own.ensures.count (rw c.deref.ensures.value c.requires) c.in_ok-joined.ensures.bytes
+    is_kept (record { images = c.new.result; runs = c.new-2.result; own = c.new-3.result })
+    c.deref.result.now c.deref-2.result.now c.in_ok-joined.joined.runs.items c.in_ok-own.own.items
+    (c.deref.ensures.value ∙ sym c.new.ensures) (c.deref-2.ensures.value ∙ sym c.new.ensures)
+    c.new-2.ensures c.new-3.ensures
+    (c.in_ok-joined.ensures.is c.in_default.is) c.in_ok-own.ensures.each c.in_ok-own.ensures.count
+    (rw c.deref.ensures.value c.requires) c.in_ok-joined.ensures.bytes

@@ -8,6 +8,10 @@ word-requires c = index_apart c.self.inside _ c.self.invariant c.as_slice.ensure
 
 pub returns : goal.returns
 returns c = record {
-  is = c.word.ensures ∙ kept_word c.self.inside c.args.self.now c.as_slice.result.now c.args.address c.self.invariant c.self.view_is c.as_slice.ensures;
-  within = within_end (runs_byte c.as_slice.result.now) c.args.address c.word.result c.ranges.address.fits c.word.ensures;
+  is =
+      c.word.ensures ∙ kept_word c.self.inside c.args.self.now c.as_slice.result.now c.args.address
+      c.self.invariant c.self.view_is c.as_slice.ensures;
+  within =
+      within_end (runs_byte c.as_slice.result.now) c.args.address c.word.result
+      c.ranges.address.fits c.word.ensures;
 }

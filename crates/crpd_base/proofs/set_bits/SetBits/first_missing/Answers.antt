@@ -5,7 +5,9 @@ use Rattle.crpd_base.proofs.set_bits.SetBits.first_missing.Goals as goal
 pub returns-then-missing-ne0 : goal.returns-then-missing-ne0
 returns-then-missing-ne0 g c =
     rw (← c.self.view_is, ← c.other.view_is)
-    (lowest_missing c.self.inside.words c.other.inside.words g.row.W c.loop-i.i (omega arith) (omega arith) (omega arith) c.loop-i.invariant (omega arith))
+    (lowest_missing c.self.inside.words c.other.inside.words g.row.W c.loop-i.i (omega arith)
+    (omega arith) (omega arith) c.loop-i.invariant (omega arith))
 
 pub loop-i-preserved : goal.loop-i-preserved
-loop-i-preserved g c = none_missing _ _ c.loop-i.i (omega arith) c.if-missing-ne0.false c.loop-i.invariant
+loop-i-preserved g c =
+    none_missing _ _ c.loop-i.i (omega arith) c.if-missing-ne0.false c.loop-i.invariant

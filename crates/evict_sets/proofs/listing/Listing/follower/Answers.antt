@@ -7,6 +7,8 @@ use Rattle.evict_sets.proofs.listing.Listing.follower.Goals as goal
 
 pub returns-then-is_listed : goal.returns-then-is_listed
 returns-then-is_listed c v e =
-    all_listed (graph_of c.args.self.now.graph.now) (listed_of c.args.self.now.part.now) c.args.node.0 c.in-Some.next.0 v c.graph_law.ensures.graph c.requires.case.leaders
-    (edge_at (graph_of c.args.self.now.graph.now) c.args.node.0 0 c.in-Some.next.0 c.requires.node c.in-Some.ensures.0)
+    all_listed (graph_of c.args.self.now.graph.now) (listed_of c.args.self.now.part.now)
+    c.args.node.0 c.in-Some.next.0 v c.graph_law.ensures.graph c.requires.case.leaders
+    (edge_at (graph_of c.args.self.now.graph.now) c.args.node.0 0 c.in-Some.next.0 c.requires.node
+    c.in-Some.ensures.0)
     (sym c.is_listed.ensures ∙ c.if-is_listed.true) e

@@ -7,13 +7,24 @@ use Rattle.evict_sets.proofs.HitsTo.{hits_more, hits_all}
 use Rattle.evict_sets.proofs.listing.Listing.write_hits.Goals as goal
 
 pub enter-requires-clause-follows : goal.enter-requires-clause-follows
-enter-requires-clause-follows c = c.loop-k.invariant.state.follows (omega (arith, c.loop-k-test.true, c.requires.order.count))
+enter-requires-clause-follows c =
+    c.loop-k.invariant.state.follows (omega (arith, c.loop-k-test.true, c.requires.order.count))
 
 pub loop-k-preserved : goal.loop-k-preserved
 loop-k-preserved c =
-    hits_more (graph_of c.args.self.now.graph.now) (node_accesses c.args.self.now.platform.now c.args.self.now.graph.now) (listed_of c.args.self.now.part.now) c.args.order.now c.loop-k.blocks c.leave.new.blocks c.loop-k.hits c.loop-k.k (slice_index_or c.args.order.now c.loop-k.k 0) c.leave.result c.requires.order c.requires.case.leaders
-    (omega (arith, c.loop-k-test.true, c.requires.order.count)) refl (omega (arith, c.loop-k.auto.hits, c.requires.count)) (omega (arith, c.leave.auto.blocks, c.enter.auto.blocks, c.loop-k.invariant.state.room))
+    hits_more (graph_of c.args.self.now.graph.now)
+    (node_accesses c.args.self.now.platform.now c.args.self.now.graph.now)
+    (listed_of c.args.self.now.part.now) c.args.order.now c.loop-k.blocks c.leave.new.blocks
+    c.loop-k.hits c.loop-k.k (slice_index_or c.args.order.now c.loop-k.k 0) c.leave.result
+    c.requires.order c.requires.case.leaders
+    (omega (arith, c.loop-k-test.true, c.requires.order.count)) refl
+    (omega (arith, c.loop-k.auto.hits, c.requires.count))
+    (omega (arith, c.leave.auto.blocks, c.enter.auto.blocks, c.loop-k.invariant.state.room))
     c.leave.ensures.after c.leave.ensures.hit c.loop-k.invariant
 
 pub returns : goal.returns
-returns c = hits_all (graph_of c.args.self.now.graph.now) (node_accesses c.args.self.now.platform.now c.args.self.now.graph.now) (listed_of c.args.self.now.part.now) c.args.order.now c.loop-k.blocks c.loop-k.hits c.loop-k.k c.requires.order (omega (arith, c.loop-k-test.false, c.requires.order.count)) c.loop-k.invariant
+returns c =
+    hits_all (graph_of c.args.self.now.graph.now)
+    (node_accesses c.args.self.now.platform.now c.args.self.now.graph.now)
+    (listed_of c.args.self.now.part.now) c.args.order.now c.loop-k.blocks c.loop-k.hits c.loop-k.k
+    c.requires.order (omega (arith, c.loop-k-test.false, c.requires.order.count)) c.loop-k.invariant

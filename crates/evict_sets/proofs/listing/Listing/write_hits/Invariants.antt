@@ -6,4 +6,6 @@ use Rattle.evict_sets.proofs.HitsTo.{HitsTo}
 use Rattle.evict_sets.proofs.listing.Listing.write_hits.Given as goal
 
 abbrev pub invariant-loop-k : goal.invariant-loop-k
-invariant-loop-k l = HitsTo (graph_of l.self.graph.now) (node_accesses l.self.platform.now l.self.graph.now) (listed_of l.self.part.now) l.order l.blocks l.hits l.k
+invariant-loop-k l =
+    HitsTo (graph_of l.self.graph.now) (node_accesses l.self.platform.now l.self.graph.now)
+    (listed_of l.self.part.now) l.order l.blocks l.hits l.k

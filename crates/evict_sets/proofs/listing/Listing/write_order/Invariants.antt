@@ -5,4 +5,5 @@ use Rattle.evict_sets.proofs.Chains.{OrderTo}
 use Rattle.evict_sets.proofs.listing.Listing.write_order.Given as goal
 
 abbrev pub invariant-loop-node : goal.invariant-loop-node
-invariant-loop-node l = OrderTo (graph_of l.self.graph.now) (listed_of l.self.part.now) l.order l.count l.node
+invariant-loop-node l =
+    OrderTo (graph_of l.self.graph.now) (listed_of l.self.part.now) l.order l.count l.node

@@ -10,8 +10,10 @@ returns-clause-numbered c =
     let lists = c.args.self.now.lists.items in
     let numbers = c.args.self.now.numbers in
     let pushed : c.push.new.self.items ≡ lists ++ c.args.calls ∷ [] =
-    c.in_ok-push.ensures.items ∙ ap (λ x. lists ++ x ∷ []) (c.in_ok-same.ensures.ok ∙ c.as_slice.ensures ∙ c.calls.view_is) in
+    c.in_ok-push.ensures.items
+    ∙ ap (λ x. lists ++ x ∷ []) (c.in_ok-same.ensures.ok ∙ c.as_slice.ensures ∙ c.calls.view_is) in
     let counted : c.len-number.result ≡ length lists = search rules in
     subst (AreNumbered c.insert.new.self) (sym pushed)
     (numbered_more numbers c.insert.new.self lists c.args.calls c.requires.numbered c.requires.unmet
-    (λ q. c.in_ok-insert.ensures.updates.0 q ∙ ap (λ n. cond (is_at (list_cmp c.args.calls) q) (Some n) (get list_cmp numbers q)) counted))
+    (λ q. c.in_ok-insert.ensures.updates.0 q
+    ∙ ap (λ n. cond (is_at (list_cmp c.args.calls) q) (Some n) (get list_cmp numbers q)) counted))

@@ -11,17 +11,25 @@ pub returns-in_ok-push-clause-found : goal.returns-in_ok-push-clause-found
 returns-in_ok-push-clause-found c =
     let lists = c.args.self.now.contexts.lists.items in
     subst (λ ks. AreSameSpots lists ks c.push.new.self.items) (sym c.in_ok-insert.ensures.keys)
-    (subst (λ l. AreSameSpots lists (insert_key order.cmp-value.it c.args.self.now.set.keys c.args.spot) l) (sym c.in_ok-push.ensures.items)
-    (reached_more order.cmp-value.it (λ s t. refl) lists c.args.self.now.set.keys c.args.self.now.list.items c.args.spot c.requires.found
-    (subst (IsStrictlySortedBy order.cmp-value.it) c.in_ok-insert.ensures.keys c.in_ok-insert.ensures.ordered)
-    (sym (ap length c.in_ok-insert.ensures.keys) ∙ c.in_ok-insert.ensures.len ∙ ap (λ b. length c.args.self.now.set.keys + cond b 1 0) c.if-branch.true)
+    (subst (λ l. AreSameSpots lists
+    (insert_key order.cmp-value.it c.args.self.now.set.keys c.args.spot) l)
+    (sym c.in_ok-push.ensures.items)
+    (reached_more order.cmp-value.it (λ s t. refl) lists c.args.self.now.set.keys
+    c.args.self.now.list.items c.args.spot c.requires.found
+    (subst (IsStrictlySortedBy order.cmp-value.it) c.in_ok-insert.ensures.keys
+    c.in_ok-insert.ensures.ordered)
+    (sym (ap length c.in_ok-insert.ensures.keys) ∙ c.in_ok-insert.ensures.len
+    ∙ ap (λ b. length c.args.self.now.set.keys + cond b 1 0) c.if-branch.true)
     c.requires.list))
 
 pub returns-in_ok-push-clause-added : goal.returns-in_ok-push-clause-added
 returns-in_ok-push-clause-added c =
-    added_one c.args.self.now.contexts.lists.items c.args.self.now.list.items c.push.new.self.items c.args.spot c.in_ok-push.ensures.items
+    added_one c.args.self.now.contexts.lists.items c.args.self.now.list.items c.push.new.self.items
+    c.args.spot c.in_ok-push.ensures.items
 
 pub returns-else-branch-clause-added : goal.returns-else-branch-clause-added
 returns-else-branch-clause-added c =
-    let there = found_spot order.cmp-value.it (λ s t. refl) c.args.self.now.set.keys c.args.spot (not-false _ (sym c.in_ok-insert.ensures.added ∙ c.if-branch.false)) in
-    added_there c.args.self.now.contexts.lists.items c.args.self.now.list.items c.args.spot ((c.requires.found.same c.args.spot).0 there)
+    let there = found_spot order.cmp-value.it (λ s t. refl) c.args.self.now.set.keys c.args.spot
+    (not-false _ (sym c.in_ok-insert.ensures.added ∙ c.if-branch.false)) in
+    added_there c.args.self.now.contexts.lists.items c.args.self.now.list.items c.args.spot
+    ((c.requires.found.same c.args.spot).0 there)

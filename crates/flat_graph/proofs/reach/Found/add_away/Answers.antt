@@ -11,11 +11,14 @@ pub add-requires-clause-found : goal.add-requires-clause-found
 add-requires-clause-found c = reached_lists _ _ c.in_ok-context.ensures.more _ _ c.requires.found
 
 pub add-requires-clause-list : goal.add-requires-clause-list
-add-requires-clause-list c = slice_get_within _ c.in_ok-context.context c.args.calls c.in_ok-context.ensures.number
+add-requires-clause-list c =
+    slice_get_within _ c.in_ok-context.context c.args.calls c.in_ok-context.ensures.number
 
 pub returns-clause-numbered : goal.returns-clause-numbered
 returns-clause-numbered c =
-    on_ok c.add.result _ (subst (λ (x : Contexts). AreNumbered x.numbers x.lists.items) (sym c.add.ensures.same) c.in_ok-context.ensures.numbered)
+    on_ok c.add.result _
+    (subst (λ (x : Contexts). AreNumbered x.numbers x.lists.items) (sym c.add.ensures.same)
+    c.in_ok-context.ensures.numbered)
 
 pub returns-clause-added : goal.returns-clause-added
 returns-clause-added c =
@@ -24,7 +27,16 @@ returns-clause-added c =
     let list = c.args.self.now.list.items in
     on_ok_map c.add.result _ _
     (λ a.
-    subst (λ (x : Contexts). AreAdded (spot_nodes old list) (record { context = c.args.calls; address = c.args.address } ∷ []) (spot_nodes x.lists.items c.add.new.self.list.items)) (sym c.add.ensures.same)
-    (subst (λ n. AreAdded (spot_nodes old list) (n ∷ []) (spot_nodes new c.add.new.self.list.items)) (flat_listed new c.in_ok-context.context c.args.address c.args.calls c.in_ok-context.ensures.number)
-    (subst (λ l. AreAdded l (spot_node new (record { context = c.in_ok-context.context; address = c.args.address }) ∷ []) (spot_nodes new c.add.new.self.list.items)) (flats_more old new c.in_ok-context.ensures.more list c.requires.found.inside) a)))
+    subst (λ (x : Contexts).
+    AreAdded (spot_nodes old list)
+    (record { context = c.args.calls; address = c.args.address } ∷ [])
+    (spot_nodes x.lists.items c.add.new.self.list.items)) (sym c.add.ensures.same)
+    (subst (λ n. AreAdded (spot_nodes old list) (n ∷ []) (spot_nodes new c.add.new.self.list.items))
+    (flat_listed new c.in_ok-context.context c.args.address c.args.calls
+    c.in_ok-context.ensures.number)
+    (subst (λ l.
+    AreAdded l
+    (spot_node new (record { context = c.in_ok-context.context; address = c.args.address }) ∷ [])
+    (spot_nodes new c.add.new.self.list.items))
+    (flats_more old new c.in_ok-context.ensures.more list c.requires.found.inside) a)))
     c.add.ensures.added

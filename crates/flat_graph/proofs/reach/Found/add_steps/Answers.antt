@@ -9,12 +9,15 @@ use Rattle.flat_graph.proofs.reach.Found.add_steps.Goals as goal
 
 pub returns-in-To-clause-numbered : goal.returns-in-To-clause-numbered
 returns-in-To-clause-numbered c =
-    on_ok c.add.result _ (subst (λ (x : Contexts). AreNumbered x.numbers x.lists.items) (sym c.add.ensures.same) c.requires.numbered)
+    on_ok c.add.result _
+    (subst (λ (x : Contexts). AreNumbered x.numbers x.lists.items) (sym c.add.ensures.same)
+    c.requires.numbered)
 
 pub returns-in_ok-add-in-Either-clause-numbered : goal.returns-in_ok-add-in-Either-clause-numbered
 returns-in_ok-add-in-Either-clause-numbered c =
     on_ok c.add-in-Either-2.result _
-    (subst (λ (x : Contexts). AreNumbered x.numbers x.lists.items) (sym (c.add-in-Either-2.ensures.same ∙ c.in_ok-add-in-Either.ensures.same)) c.requires.numbered)
+    (subst (λ (x : Contexts). AreNumbered x.numbers x.lists.items)
+    (sym (c.add-in-Either-2.ensures.same ∙ c.in_ok-add-in-Either.ensures.same)) c.requires.numbered)
 
 pub returns-in_ok-add-in-Either-clause-added : goal.returns-in_ok-add-in-Either-clause-added
 returns-in_ok-add-in-Either-clause-added c =
@@ -27,8 +30,15 @@ returns-in_ok-add-in-Either-clause-added c =
     let t : Spot = record { context = c.args.from; address = c.in-Either.other } in
     on_ok_map c.add-in-Either-2.result _ _
     (λ a.
-    subst (λ steps. AreAdded (spot_nodes lists old) (flat_steps calls steps) (spot_nodes c.add-in-Either-2.new.self.contexts.lists.items new)) (sym c.in-Either.is)
-    (subst (λ (x : Contexts). AreAdded (spot_nodes lists old) (spot_node lists s ∷ spot_node lists t ∷ []) (spot_nodes x.lists.items new)) (sym (c.add-in-Either-2.ensures.same ∙ c.in_ok-add-in-Either.ensures.same))
-    (added_then (spot_nodes lists old) (spot_nodes lists mid) (spot_nodes lists new) (spot_node lists s) (spot_node lists t) c.in_ok-add-in-Either.ensures.added
-    (subst (λ (x : Contexts). AreAdded (spot_nodes x.lists.items mid) (spot_node x.lists.items t ∷ []) (spot_nodes x.lists.items new)) c.in_ok-add-in-Either.ensures.same a))))
+    subst (λ steps. AreAdded (spot_nodes lists old) (flat_steps calls steps)
+    (spot_nodes c.add-in-Either-2.new.self.contexts.lists.items new)) (sym c.in-Either.is)
+    (subst (λ (x : Contexts).
+    AreAdded (spot_nodes lists old) (spot_node lists s ∷ spot_node lists t ∷ [])
+    (spot_nodes x.lists.items new))
+    (sym (c.add-in-Either-2.ensures.same ∙ c.in_ok-add-in-Either.ensures.same))
+    (added_then (spot_nodes lists old) (spot_nodes lists mid) (spot_nodes lists new)
+    (spot_node lists s) (spot_node lists t) c.in_ok-add-in-Either.ensures.added
+    (subst (λ (x : Contexts).
+    AreAdded (spot_nodes x.lists.items mid) (spot_node x.lists.items t ∷ [])
+    (spot_nodes x.lists.items new)) c.in_ok-add-in-Either.ensures.same a))))
     c.add-in-Either-2.ensures.added

@@ -7,7 +7,8 @@ use Rattle.loop_regions.proofs.nest.Nest.headed_by.Goals as goal
 pub returns-else-head-node : goal.returns-else-head-node
 returns-else-head-node c =
     heads_other (nest_of c.args.self.now) (graph_of c.args.graph.now) c.args.node.0 c.in-Some.region
-    c.graph_law.ensures.graph (nested c.args.graph.now c.args.self.now c.requires.nest) c.in-Some.ensures
+    c.graph_law.ensures.graph (nested c.args.graph.now c.args.self.now c.requires.nest)
+    c.in-Some.ensures
     (λ e. c.if-head-node.false (c.head.ensures ∙ e))
 
 pub returns-in-None : goal.returns-in-None

@@ -7,9 +7,12 @@ use Rattle.must_cache.proofs.first_walks.FirstWalks.walk_on.Given as goal
 
 abbrev pub invariant-loop-next : goal.invariant-loop-next
 invariant-loop-next g l = record {
-  under_way : HasWalkSearch (graph_of l.graph) (accesses l.geometry.platform (places_of l.graph).address)
-      l.self.met.items l.self.states.items l.self.hits.items l.self.apart.items (with_next l.self.todo.items l.next l.state);
-  falls : still_to_do l.self.met.items l.self.todo.items ≤ still_to_do l.initial.self.met.items l.initial.self.todo.items;
+  under_way : HasWalkSearch (graph_of l.graph)
+      (accesses l.geometry.platform (places_of l.graph).address)
+      l.self.met.items l.self.states.items l.self.hits.items l.self.apart.items
+      (with_next l.self.todo.items l.next l.state);
+  falls : still_to_do l.self.met.items l.self.todo.items
+      ≤ still_to_do l.initial.self.met.items l.initial.self.todo.items;
 }
 
 abbrev pub decreases-loop-next : goal.decreases-loop-next

@@ -8,5 +8,7 @@ returns-clause-decoded c =
     let places = c.args.self.now.places.items in
     record {
       long = length-set places _ _ ∙ c.requires.long;
-      each = All-set (IsDecoded c.args.geometry.now.platform c.args.code.now) places _ c.decoding_at-found.result c.decoding_at-found.ensures.is c.requires.each;
+      each =
+          All-set (IsDecoded c.args.geometry.now.platform c.args.code.now) places _
+          c.decoding_at-found.result c.decoding_at-found.ensures.is c.requires.each;
     }

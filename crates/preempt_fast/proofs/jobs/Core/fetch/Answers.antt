@@ -15,11 +15,19 @@ returns-clause-cost c sys k ins same found =
     let job = c.args.job.now in
     let old = c.args.self.now in
     let platform = old.geometry.platform in
-    let costs : AreCosts platform c.args.found.now.costs ins = subst (λ (m : Option Ins). IfSome m (AreCosts platform c.args.found.now.costs)) found c.requires.costs in
-    let next : c.args.next ≡ next_pc ins job.pc job.registers = subst (λ (m : Option Ins). IfSome m (λ i. c.args.next ≡ next_pc i job.pc job.registers)) found c.requires.next in
+    let costs : AreCosts platform c.args.found.now.costs ins =
+    subst (λ (m : Option Ins). IfSome m (AreCosts platform c.args.found.now.costs)) found
+    c.requires.costs in
+    let next : c.args.next ≡ next_pc ins job.pc job.registers =
+    subst (λ (m : Option Ins). IfSome m (λ i. c.args.next ≡ next_pc i job.pc job.registers)) found
+    c.requires.next in
     c.cycles.ensures
     ∙ costs c.misses-missed.result c.is_taken.result
-    ∙ ap (λ (b : Bool). cost platform ins b c.is_taken.result) (c.misses-missed.ensures.missed ∙ ap (λ b. not (is_hit platform old.cache b)) c.requires.block)
-    ∙ ap (λ (b : Bool). cost platform ins (not (is_hit platform old.cache (block_of platform job.pc))) b)
-    (c.is_taken.ensures ∙ ap (λ (n : Next). not (goes_to_next n c.pc.result)) next ∙ ap (λ p. not (goes_to_next (next_pc ins job.pc job.registers) p)) c.pc.ensures)
-    ∙ ap (λ (p : Platform). cost p ins (not (is_hit p old.cache (block_of p job.pc))) (not (goes_to_next (next_pc ins job.pc job.registers) job.pc))) (sym same)
+    ∙ ap (λ (b : Bool). cost platform ins b c.is_taken.result)
+    (c.misses-missed.ensures.missed ∙ ap (λ b. not (is_hit platform old.cache b)) c.requires.block)
+    ∙ ap (λ (b : Bool). cost platform ins
+    (not (is_hit platform old.cache (block_of platform job.pc))) b)
+    (c.is_taken.ensures ∙ ap (λ (n : Next). not (goes_to_next n c.pc.result)) next
+    ∙ ap (λ p. not (goes_to_next (next_pc ins job.pc job.registers) p)) c.pc.ensures)
+    ∙ ap (λ (p : Platform). cost p ins (not (is_hit p old.cache (block_of p job.pc)))
+    (not (goes_to_next (next_pc ins job.pc job.registers) job.pc))) (sym same)

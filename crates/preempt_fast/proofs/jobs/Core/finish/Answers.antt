@@ -19,14 +19,17 @@ returns-clause-ok c =
     (ap (λ (p : TaskPlan). step p job.watch job.pc ins to) plan
     ∙ c.requires.stays c.if-found.true c.args.plan.now job.watch job.pc to
     ∙ c.requires.quiet to c.if-quiet-to.true c.if-to-quiet.true)
-    ∙ ap (turn_after_effect sys n ins (turn_by cache c.args.self.now.memory k job)) (sym c.in-Goto.is))
+    ∙ ap (turn_after_effect sys n ins (turn_by cache c.args.self.now.memory k job))
+    (sym c.in-Goto.is))
     c.go_on.ensures.ok
 
 pub returns-clause-quiet : goal.returns-clause-quiet
 returns-clause-quiet c =
     on_ok_weaker c.go_on.result
-    (λ h. subst (λ (w : Watch). AreQuiet c.args.plan.now w c.args.quiet.now) (sym c.go_on.ensures.watch) c.requires.quiet)
+    (λ h. subst (λ (w : Watch). AreQuiet c.args.plan.now w c.args.quiet.now)
+    (sym c.go_on.ensures.watch) c.requires.quiet)
     c.go_on.ensures.ok
 
 pub returns-2-clause-quiet : goal.returns-2-clause-quiet
-returns-2-clause-quiet c = subst (λ (w : Watch). AreQuiet c.args.plan.now w c.quiet.result) c.watch.ensures c.quiet.ensures
+returns-2-clause-quiet c =
+    subst (λ (w : Watch). AreQuiet c.args.plan.now w c.quiet.result) c.watch.ensures c.quiet.ensures

@@ -13,25 +13,41 @@ use Rattle.preempt_machine.proofs.jobs.Core.advance.Goals as goal
 pub returns-in-Some-clause-ok : goal.returns-in-Some-clause-ok
 returns-in-Some-clause-ok c =
     let sys = system_by c.args.self.now.geometry.platform c.args.code.now in
-    let plan : plan_of sys c.args.job.now.line.task.0 ≡ c.plan.result.now = plan_is sys c.args.job.now.line.task.0 c.plan.result.now (rw c.task.ensures at c.plan.ensures) in
-    let found : Some c.in-Some.ins ≡ ins_at sys c.args.job.now.pc = rw c.pc.ensures at (c.in-Some.ensures.is c.args.self.now.geometry.platform) in
+    let plan : plan_of sys c.args.job.now.line.task.0 ≡ c.plan.result.now =
+    plan_is sys c.args.job.now.line.task.0 c.plan.result.now
+    (rw c.task.ensures at c.plan.ensures) in
+    let found : Some c.in-Some.ins ≡ ins_at sys c.args.job.now.pc =
+    rw c.pc.ensures at (c.in-Some.ensures.is c.args.self.now.geometry.platform) in
     on_ok_weaker c.execute.result
-    (λ h. h sys 0 refl plan ∙ ap (turn_after_execution sys c.args.now (turn_by c.args.self.now.cache c.args.self.now.memory 0 c.args.job.now)) found)
+    (λ h. h sys 0 refl plan ∙ ap
+    (turn_after_execution sys c.args.now
+    (turn_by c.args.self.now.cache c.args.self.now.memory 0 c.args.job.now)) found)
     c.execute.ensures.ok
 
 pub returns-in-Some-clause-plan : goal.returns-in-Some-clause-plan
 returns-in-Some-clause-plan c =
     let sys = system_by c.args.self.now.geometry.platform c.args.code.now in
-    let plan : plan_of sys c.args.job.now.line.task.0 ≡ c.plan.result.now = plan_is sys c.args.job.now.line.task.0 c.plan.result.now (rw c.task.ensures at c.plan.ensures) in
+    let plan : plan_of sys c.args.job.now.line.task.0 ≡ c.plan.result.now =
+    plan_is sys c.args.job.now.line.task.0 c.plan.result.now
+    (rw c.task.ensures at c.plan.ensures) in
     on_ok_both c.execute.result
-    (λ h turns. keeps_plan sys c.args.now c.args.self.now.cache c.execute.new.self.cache c.args.self.now.memory c.execute.new.self.memory c.args.job.now c.execute.new.job (Some c.in-Some.ins) (h sys 0 refl plan) c.requires.plan
-    (subst (λ (p : TaskPlan). HasIterations (length p.loops) c.execute.new.job.watch) (sym plan) turns))
+    (λ h turns. keeps_plan sys c.args.now c.args.self.now.cache c.execute.new.self.cache
+    c.args.self.now.memory c.execute.new.self.memory c.args.job.now c.execute.new.job
+    (Some c.in-Some.ins) (h sys 0 refl plan) c.requires.plan
+    (subst (λ (p : TaskPlan). HasIterations (length p.loops) c.execute.new.job.watch)
+    (sym plan) turns))
     c.execute.ensures.ok c.execute.ensures.turns
 
 pub returns-in-Some-clause-store : goal.returns-in-Some-clause-store
 returns-in-Some-clause-store c =
     let sys = system_by c.args.self.now.geometry.platform c.args.code.now in
-    let found : Some c.in-Some.ins ≡ ins_at sys c.args.job.now.pc = rw c.pc.ensures at (c.in-Some.ensures.is c.args.self.now.geometry.platform) in
+    let found : Some c.in-Some.ins ≡ ins_at sys c.args.job.now.pc =
+    rw c.pc.ensures at (c.in-Some.ensures.is c.args.self.now.geometry.platform) in
     on_err_both c.execute.result
-    (λ store last. record { ins = c.in-Some.ins; instruction = sym found; last = last sys 0 refl; store = store })
+    (λ store last. record {
+      ins = c.in-Some.ins;
+      instruction = sym found;
+      last = last sys 0 refl;
+      store = store;
+    })
     c.execute.ensures.store c.execute.ensures.last

@@ -7,19 +7,27 @@ use Rattle.preempt_machine.proofs.jobs.Core.execute.Goals as goal
 pub returns-then-left-gt0-clause-ok : goal.returns-then-left-gt0-clause-ok
 returns-then-left-gt0-clause-ok c sys k same plan =
     c.in_ok-work.ensures.ok sys c.args.self.now.cache k plan
-    ∙ ap (turn_after_cycle sys c.args.now c.args.ins.now) (under_way sys c.args.ins.now c.args.self.now.cache c.args.self.now.memory k c.left-left.result c.args.job.now c.left-left.ensures c.if-left-gt0.true)
+    ∙ ap (turn_after_cycle sys c.args.now c.args.ins.now)
+    (under_way sys c.args.ins.now c.args.self.now.cache c.args.self.now.memory k c.left-left.result
+    c.args.job.now c.left-left.ensures c.if-left-gt0.true)
 
 pub returns-in_err-work-2-clause-last : goal.returns-in_err-work-2-clause-last
 returns-in_err-work-2-clause-last c =
     on_err_of c.from_residual-in_err-work-2.result _ (λ sys k same.
     let none : c.args.job.now.left ≡ 0 = omega (arith, c.left-left.ensures, c.if-left-gt0.false) in
-    rw (newly_left sys c.args.ins.now c.args.self.now.cache c.args.self.now.memory k c.cost-cycles.result c.args.job.now none (c.cost-cycles.ensures sys k same)) c.in_err-work-2.ensures.last)
+    rw (newly_left sys c.args.ins.now c.args.self.now.cache c.args.self.now.memory k
+    c.cost-cycles.result c.args.job.now none (c.cost-cycles.ensures sys k same))
+    c.in_err-work-2.ensures.last)
 
 pub returns-clause-ok : goal.returns-clause-ok
 returns-clause-ok c sys k same plan =
     let none : c.args.job.now.left ≡ 0 = omega (arith, c.left-left.ensures, c.if-left-gt0.false) in
-    let cache = cache_after_access sys.platform c.args.self.now.cache (block_of sys.platform c.args.job.now.pc) in
-    let after : c.access.new.self ≡ cache = rw (c.access.ensures.after, c.block-block.ensures, c.pc.ensures, same) refl in
+    let cache = cache_after_access sys.platform c.args.self.now.cache
+    (block_of sys.platform c.args.job.now.pc) in
+    let after : c.access.new.self ≡ cache =
+    rw (c.access.ensures.after, c.block-block.ensures, c.pc.ensures, same) refl in
     rw after
     (c.in_ok-work-2.ensures.ok sys cache k plan
-    ∙ ap (turn_after_cycle sys c.args.now c.args.ins.now) (newly sys c.args.ins.now c.args.self.now.cache c.args.self.now.memory k c.cost-cycles.result c.args.job.now none (c.cost-cycles.ensures sys k same)))
+    ∙ ap (turn_after_cycle sys c.args.now c.args.ins.now)
+    (newly sys c.args.ins.now c.args.self.now.cache c.args.self.now.memory k c.cost-cycles.result
+    c.args.job.now none (c.cost-cycles.ensures sys k same)))

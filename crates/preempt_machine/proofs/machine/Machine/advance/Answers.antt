@@ -15,11 +15,18 @@ invariant_of-self-2 c =
     let new = machine_of c.advance.new.self in
     let flag = c.self.inside.kept in
     let both : c.if-self.self ≡ (flag && owner_is_kept new) = elim c.if-self.branch [
-      | then-self w ↦ w.self-is ∙ w.owner_is_kept-self-inside.ensures ∙ ap (λ b. b && owner_is_kept new) (sym w.if-self.true)
-      | else-self w ↦ w.self-is ∙ w.if-self.false ∙ ap (λ b. b && owner_is_kept new) (sym w.if-self.false)
+      | then-self w ↦
+          w.self-is ∙ w.owner_is_kept-self-inside.ensures
+          ∙ ap (λ b. b && owner_is_kept new) (sym w.if-self.true)
+      | else-self w ↦
+          w.self-is ∙ w.if-self.false ∙ ap (λ b. b && owner_is_kept new) (sym w.if-self.false)
     ] in
-    let below : (o : ℕ) → new.owner ≡ Some o → o < length new.jobs = λ o e. (c.in_ok-advance.ensures.machine.owner o e).below in
+    let below : (o : ℕ) → new.owner ≡ Some o → o < length new.jobs = λ o e.
+    (c.in_ok-advance.ensures.machine.owner o e).below in
     record {
       machine = c.in_ok-advance.ensures.machine;
-      kept = subst (λ (b : Bool). IsTrue b ↔ IsKept new) (sym both) (flag_goes_on (machine_of c.self.inside.parts) new flag c.in_ok-advance.ensures.owner below c.self.invariant.kept);
+      kept =
+          subst (λ (b : Bool). IsTrue b ↔ IsKept new) (sym both)
+          (flag_goes_on (machine_of c.self.inside.parts) new flag c.in_ok-advance.ensures.owner
+          below c.self.invariant.kept);
     }

@@ -8,5 +8,6 @@ use Rattle.preempt_machine.proofs.machine.Machine.completions.Goals as goal
 pub returns-clause-ends : goal.returns-clause-ends
 returns-clause-ends c =
     rw c.as_slice.ensures.value
-    (ends_are (machine_of c.self.inside.parts) c.self.inside.parts.schedule.completions.items c.self.invariant.machine.told c.self.invariant.machine.completions
+    (ends_are (machine_of c.self.inside.parts) c.self.inside.parts.schedule.completions.items
+    c.self.invariant.machine.told c.self.invariant.machine.completions
     ∙ ap (λ (r : Running). completions r.state) c.self.view_is)

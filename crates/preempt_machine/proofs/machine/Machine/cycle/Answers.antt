@@ -7,5 +7,7 @@ use Rattle.preempt_machine.proofs.machine.Machine.cycle.Goals as goal
 pub returns-clause-ok : goal.returns-clause-ok
 returns-clause-ok c =
     on_ok_weaker c.advance.result
-    (λ h. made_once c.args.code.now c.args.self.now c.advance.new.self (subst (λ n. HasMade c.args.code.now (n + 1) c.args.self.now c.advance.new.self) c.steps.ensures h))
+    (λ h. made_once c.args.code.now c.args.self.now c.advance.new.self
+    (subst (λ n. HasMade c.args.code.now (n + 1) c.args.self.now c.advance.new.self)
+    c.steps.ensures h))
     c.advance.ensures.ok

@@ -16,13 +16,22 @@ place_of-requires c =
     let value = c.as_slice.ensures.value in (
       x,
       omega (arith, at.below, c.self.invariant.machine.told, ap length value),
-      ap (λ cs. (completion cs x).job) value ∙ ap (λ (d : Completion). d.job) (c.self.invariant.machine.completions x at.below) ∙ id_at m c.args.job x at,
+      ap (λ cs. (completion cs x).job) value
+          ∙ ap (λ (d : Completion). d.job) (c.self.invariant.machine.completions x at.below)
+          ∙ id_at m c.args.job x at,
     )
 
 pub returns-clause-below : goal.returns-clause-below
 returns-clause-below c =
-    let state : machine_of c.self.inside.parts ≡ c.args.self.now.state = ap (λ (r : Running). r.state) c.self.view_is in
-    omega (arith, c.place_of.ensures.below, c.self.invariant.machine.told, ap length c.as_slice.ensures.value, ap (λ (n : Machine). length n.jobs) state)
+    let state : machine_of c.self.inside.parts ≡ c.args.self.now.state =
+    ap (λ (r : Running). r.state) c.self.view_is in
+    omega (
+      arith,
+      c.place_of.ensures.below,
+      c.self.invariant.machine.told,
+      ap length c.as_slice.ensures.value,
+      ap (λ (n : Machine). length n.jobs) state,
+    )
 
 pub returns-clause-is : goal.returns-clause-is
 returns-clause-is c x there =
@@ -31,6 +40,13 @@ returns-clause-is c x there =
     let at : IsJobAt m c.args.job x = subst (λ n. IsJobAt n c.args.job x) (sym state) there in
     let value = c.as_slice.ensures.value in
     let p = c.place_of.result in
-    let below : p < length m.jobs = omega (arith, c.place_of.ensures.below, c.self.invariant.machine.told, ap length value) in
-    let id : job_id m p ≡ c.args.job = sym (ap (λ (d : Completion). d.job) (c.self.invariant.machine.completions p below)) ∙ sym (ap (λ cs. (completion cs p).job) value) ∙ c.place_of.ensures.job in
+    let below : p < length m.jobs = omega (
+      arith,
+      c.place_of.ensures.below,
+      c.self.invariant.machine.told,
+      ap length value,
+    ) in
+    let id : job_id m p ≡ c.args.job = sym
+    (ap (λ (d : Completion). d.job) (c.self.invariant.machine.completions p below))
+    ∙ sym (ap (λ cs. (completion cs p).job) value) ∙ c.place_of.ensures.job in
     one_place m c.args.job p x (at_place m c.args.job p below id) at

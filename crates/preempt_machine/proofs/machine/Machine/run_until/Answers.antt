@@ -12,14 +12,19 @@ loop-self-preserved c =
     let h = c.loop-self.invariant in
     let done = c.in_ok-advance.ensures.ok in
     let before = now.state.time - first.state.time in
-    let time : next.state.time ≡ now.state.time + done.made = made_time code c.args.cycle now next done in
+    let time : next.state.time ≡ now.state.time + done.made =
+    made_time code c.args.cycle now next done in
     let less = c.loop-self-test.true in
-    let count : done.made + before ≡ next.state.time - first.state.time = omega (arith, time, h.from) in
+    let count : done.made + before ≡ next.state.time - first.state.time =
+    omega (arith, time, h.from) in
     record {
       from = omega (arith, time, h.from);
       to = λ w. omega (arith, time, done.within);
       past = λ w. absurd (omega (arith, h.past w, less, c.steps.ensures));
-      state = done.state ∙ ap (running_after_steps done.made code) h.state ∙ by_more done.made before code first ∙ ap (λ (n : ℕ). running_after_steps n code first) count;
+      state =
+          done.state ∙ ap (running_after_steps done.made code) h.state
+          ∙ by_more done.made before code first
+          ∙ ap (λ (n : ℕ). running_after_steps n code first) count;
       platform = made_platform code c.args.cycle now next done ∙ h.platform;
       plans = c.in_ok-advance.ensures.plans;
     }

@@ -8,7 +8,8 @@ invariant-loop-self l =
       from : l.initial.self.state.time ≤ l.self.state.time;
       to : l.initial.self.state.time ≤ l.cycle → l.self.state.time ≤ l.cycle;
       past : l.cycle ≤ l.initial.self.state.time → l.self.state.time ≡ l.initial.self.state.time;
-      state : l.self ≡ running_after_steps (l.self.state.time - l.initial.self.state.time) l.code l.initial.self;
+      state : l.self ≡ running_after_steps (l.self.state.time - l.initial.self.state.time) l.code
+          l.initial.self;
       platform : l.self.platform ≡ l.initial.self.platform;
       plans : HasPlans l.code l.self.state;
     }

@@ -14,7 +14,8 @@ returns-clause-made c code =
       | inr (inside, e) ↦ omega (arith, next_is_later _ m _ _ _ _ _ kept c.requires.idle inside)
     ] in
     idle_made code (running_of old) c.next_release-self.result c.args.until later next.within
-    (λ t h. none_before _ m _ _ _ _ _ t kept c.requires.idle (λ inside. omega (arith, next.before inside)))
+    (λ t h. none_before _ m _ _ _ _ _ t kept c.requires.idle
+    (λ inside. omega (arith, next.before inside)))
 
 pub returns-clause-machine : goal.returns-clause-machine
 returns-clause-machine c =
@@ -23,6 +24,7 @@ returns-clause-machine c =
     let m = machine_of old in
     let later : old.schedule.steps ≤ c.next_release-self.result = elim next.one [
       | inl e ↦ omega (arith, c.requires.before)
-      | inr (inside, e) ↦ omega (arith, next_is_later _ m _ _ _ _ _ c.requires.machine c.requires.idle inside)
+      | inr (inside, e) ↦
+          omega (arith, next_is_later _ m _ _ _ _ _ c.requires.machine c.requires.idle inside)
     ] in
     kept_idle _ m _ _ _ _ _ c.next_release-self.result c.requires.machine later next.before

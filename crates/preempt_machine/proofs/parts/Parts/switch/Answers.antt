@@ -10,7 +10,9 @@ returns-clause-turned c sys e =
     let m = machine_of c.args.self.now in
     let place = c.args.place in
     record {
-      state = rw (turned_off sys m place c.args.left e c.requires.left, set-get_or m.jobs place no_job) refl;
+      state =
+          rw (turned_off sys m place c.args.left e c.requires.left, set-get_or m.jobs place no_job)
+          refl;
       steps = refl;
       fetch = sym (no_fetch sys m place c.args.left e c.requires.left);
       geometry = refl;

@@ -7,41 +7,58 @@ use Rattle.preempt_machine.specs.Schedule.{script_line, script_lines}
 use Rattle.preempt_machine.specs.Inner.Schedule.{machine_of}
 use Rattle.preempt_machine.proofs.Firsts.{line_is, lines_long}
 use Rattle.preempt_machine.proofs.Steps.{step_line}
-use Rattle.preempt_machine.proofs.Taken.{taken_head, taken_jobs, taken_kept, taken_state, taken_step, taken_told}
+use Rattle.preempt_machine.proofs.Taken.{taken_head, taken_jobs, taken_kept, taken_state}
+use Rattle.preempt_machine.proofs.Taken.{taken_step, taken_told}
 use Rattle.preempt_machine.proofs.parts.Parts.take.Goals as goal
 
 pub settle-requires-clause-head : goal.settle-requires-clause-head
 settle-requires-clause-head c =
     let sys = system_by c.args.self.now.core.geometry.platform c.args.code.now in
-    taken_head sys c.args.self.now c.turn.new.self c.pass.new.self c.args.place c.requires.candidate c.requires.head c.in_ok-turn.ensures.ok c.pass.ensures
+    taken_head sys c.args.self.now c.turn.new.self c.pass.new.self c.args.place c.requires.candidate
+    c.requires.head c.in_ok-turn.ensures.ok c.pass.ensures
 
 pub settle-requires-clause-task : goal.settle-requires-clause-task
 settle-requires-clause-task c =
     let sys = system_by c.args.self.now.core.geometry.platform c.args.code.now in
     let m = machine_of c.args.self.now in
     let place = c.args.place in
-    let heads = c.pass.ensures.heads ∙ ap (λ (q : Queue). q.heads.items) c.in_ok-turn.ensures.ok.queue in
-    let jobs = ap (λ (n : Machine). n.jobs) (taken_state sys c.args.self.now c.turn.new.self c.pass.new.self place c.requires.candidate c.in_ok-turn.ensures.ok c.pass.ensures) in
-    let line = ap (λ js. (job_at js place).line) jobs ∙ step_line sys m place ∙ sym (line_is m.jobs place) in
-    let below : (script_line (script_lines m.jobs) place).task.0 < length c.args.self.now.schedule.queue.heads.items = c.requires.machine.waiting.tasks place (omega (arith, c.requires.head.below, lines_long m.jobs)) in
-    rw heads (subst (λ (l : ScriptJob). l.task.0 < length c.args.self.now.schedule.queue.heads.items) (sym line) below)
+    let heads = c.pass.ensures.heads
+    ∙ ap (λ (q : Queue). q.heads.items) c.in_ok-turn.ensures.ok.queue in
+    let jobs = ap (λ (n : Machine). n.jobs)
+    (taken_state sys c.args.self.now c.turn.new.self c.pass.new.self place c.requires.candidate
+    c.in_ok-turn.ensures.ok c.pass.ensures) in
+    let line = ap (λ js. (job_at js place).line) jobs ∙ step_line sys m place
+    ∙ sym (line_is m.jobs place) in
+    let below : (script_line (script_lines m.jobs) place).task.0
+    < length c.args.self.now.schedule.queue.heads.items =
+    c.requires.machine.waiting.tasks place
+    (omega (arith, c.requires.head.below, lines_long m.jobs)) in
+    rw heads
+    (subst (λ (l : ScriptJob). l.task.0 < length c.args.self.now.schedule.queue.heads.items)
+    (sym line) below)
 
 pub returns-clause-machine : goal.returns-clause-machine
 returns-clause-machine c =
     let sys = system_by c.args.self.now.core.geometry.platform c.args.code.now in
-    taken_kept sys c.args.self.now c.turn.new.self c.pass.new.self c.settle.new.self c.args.place c.requires.machine c.requires.candidate c.requires.head c.in_ok-turn.ensures.ok c.pass.ensures c.settle.ensures
+    taken_kept sys c.args.self.now c.turn.new.self c.pass.new.self c.settle.new.self c.args.place
+    c.requires.machine c.requires.candidate c.requires.head c.in_ok-turn.ensures.ok c.pass.ensures
+    c.settle.ensures
 
 pub settle-requires-clause-completions : goal.settle-requires-clause-completions
 settle-requires-clause-completions c =
     let sys = system_by c.args.self.now.core.geometry.platform c.args.code.now in
-    taken_told sys c.args.self.now c.turn.new.self c.pass.new.self c.args.place c.requires.machine c.requires.candidate c.in_ok-turn.ensures.ok c.pass.ensures
+    taken_told sys c.args.self.now c.turn.new.self c.pass.new.self c.args.place c.requires.machine
+    c.requires.candidate c.in_ok-turn.ensures.ok c.pass.ensures
 
 pub returns-clause-ok : goal.returns-clause-ok
 returns-clause-ok c =
     let sys = system_by c.args.self.now.core.geometry.platform c.args.code.now in
-    taken_step sys c.args.self.now c.turn.new.self c.pass.new.self c.settle.new.self c.args.place c.requires.candidate c.in_ok-turn.ensures.ok c.pass.ensures c.settle.ensures
+    taken_step sys c.args.self.now c.turn.new.self c.pass.new.self c.settle.new.self c.args.place
+    c.requires.candidate c.in_ok-turn.ensures.ok c.pass.ensures c.settle.ensures
 
 pub returns-clause-plans : goal.returns-clause-plans
 returns-clause-plans c =
-    let jobs = taken_jobs c.turn.new.self c.pass.new.self c.settle.new.self c.args.place c.pass.ensures c.settle.ensures in
-    subst (λ (js : List Job). (x : ℕ) → x < length js → HasPlan c.args.code.now.plans (job_at js x)) (sym jobs) c.in_ok-turn.ensures.plans
+    let jobs = taken_jobs c.turn.new.self c.pass.new.self c.settle.new.self c.args.place
+    c.pass.ensures c.settle.ensures in
+    subst (λ (js : List Job). (x : ℕ) → x < length js → HasPlan c.args.code.now.plans (job_at js x))
+    (sym jobs) c.in_ok-turn.ensures.plans

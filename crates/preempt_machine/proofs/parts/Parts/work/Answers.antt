@@ -18,14 +18,26 @@ returns-clause-ok c =
     let sys = system_by c.args.self.now.core.geometry.platform c.args.code.now in
     let place = c.args.place in
     let after = c.advance.new.self in
-    let own : c.index_mut-job.result.now ≡ job_at m.jobs place = c.index_mut-job.ensures.value ∙ get_or_default m.jobs place c.index_mut-job.result.now no_job c.requires.below in
-    let executes = subst (λ (j : Job). turn_by after.cache after.memory 0 c.advance.new.job ≡ turn_after_execution sys m.time (turn_by m.cache m.memory 0 j) (ins_at sys j.pc)) own c.in_ok-found.ensures.ok in
-    let found = subst (λ (j : Job). c.in_ok-found.found ≡ found_by sys (turn_by m.cache m.memory 0 j)) own c.in_ok-found.ensures.found in
-    let there = c.index.ensures ∙ get_or_default c.args.self.now.schedule.completions.items place c.index.result.now (completion [] 0) (omega (arith, c.requires.below, c.requires.machine.told)) ∙ c.requires.machine.completions place c.requires.below in
+    let own : c.index_mut-job.result.now ≡ job_at m.jobs place =
+    c.index_mut-job.ensures.value
+    ∙ get_or_default m.jobs place c.index_mut-job.result.now no_job c.requires.below in
+    let executes = subst (λ (j : Job). turn_by after.cache after.memory 0 c.advance.new.job
+    ≡ turn_after_execution sys m.time (turn_by m.cache m.memory 0 j) (ins_at sys j.pc)) own
+    c.in_ok-found.ensures.ok in
+    let found = subst (λ (j : Job).
+    c.in_ok-found.found ≡ found_by sys (turn_by m.cache m.memory 0 j)) own
+    c.in_ok-found.ensures.found in
+    let there = c.index.ensures
+    ∙ get_or_default c.args.self.now.schedule.completions.items place c.index.result.now
+    (completion [] 0) (omega (arith, c.requires.below, c.requires.machine.told))
+    ∙ c.requires.machine.completions place c.requires.below in
     let id : c.index.result.now.job ≡ job_id m place = ap (λ (x : Completion). x.job) there in
-    let pc : c.pc-address.result ≡ (job_at m.jobs place).pc = c.pc-address.ensures ∙ ap (λ (j : Job). j.pc) own in
+    let pc : c.pc-address.result ≡ (job_at m.jobs place).pc =
+    c.pc-address.ensures ∙ ap (λ (j : Job). j.pc) own in
     record {
-      state = rw (turned_on sys m place after.cache after.memory c.advance.new.job c.requires.switched executes) refl;
+      state =
+          rw (turned_on sys m place after.cache after.memory c.advance.new.job c.requires.switched
+          executes) refl;
       steps = refl;
       fetch = c.fetch_of-self.ensures
           ∙ ap (λ (i : JobId). fetches i c.pc-address.result c.in_ok-found.found) id

@@ -4,4 +4,6 @@ use Rattle.preempt_machine.specs.Schedule.{IsReleasedBy}
 use Rattle.preempt_machine.proofs.queue.Queue.first.Given as goal
 
 abbrev pub invariant-loop-head : goal.invariant-loop-head
-invariant-loop-head l = (u : ℕ) → u < l.head-index → IsReleasedBy l.self.due.items l.now (slice_index l.self.heads.items u) → ⊥
+invariant-loop-head l =
+    (u : ℕ) → u < l.head-index
+    → IsReleasedBy l.self.due.items l.now (slice_index l.self.heads.items u) → ⊥

@@ -11,19 +11,33 @@ loop-self-preserved c =
     let from = c.args.self.now.released in
     let at = c.loop-self.self.released in
     let h = c.loop-self.invariant in
-    let inside : at < length due = subst (λ ds. at < length ds) h.due (omega (arith, c.loop-self-test.true, c.len.ensures)) in
-    let item : c.index-in-loop-self.result.now ≡ get_or due at (0, 0) = subst (λ ds. c.index-in-loop-self.result.now ≡ get_or ds at c.index-in-loop-self.result.now) h.due c.index-in-loop-self.ensures ∙ get_or_default due at c.index-in-loop-self.result.now (0, 0) inside in
-    let first : c.index.result.now ≡ get_or due at (0, 0) = subst (λ ds. c.index.result.now ≡ get_or ds at c.index.result.now) h.due c.index.ensures ∙ get_or_default due at c.index.result.now (0, 0) inside in
-    let place : c.index-in-loop-self.result.now.1 ≡ due_place due at = ap (λ (x : ℕ × ℕ). x.1) item in
+    let inside : at < length due = subst (λ ds. at < length ds) h.due
+    (omega (arith, c.loop-self-test.true, c.len.ensures)) in
+    let item : c.index-in-loop-self.result.now ≡ get_or due at (0, 0) =
+    subst (λ ds. c.index-in-loop-self.result.now ≡ get_or ds at c.index-in-loop-self.result.now)
+    h.due c.index-in-loop-self.ensures
+    ∙ get_or_default due at c.index-in-loop-self.result.now (0, 0) inside in
+    let first : c.index.result.now ≡ get_or due at (0, 0) =
+    subst (λ ds. c.index.result.now ≡ get_or ds at c.index.result.now) h.due c.index.ensures
+    ∙ get_or_default due at c.index.result.now (0, 0) inside in
+    let place : c.index-in-loop-self.result.now.1 ≡ due_place due at =
+    ap (λ (x : ℕ × ℕ). x.1) item in
     let release : c.index.result.now.0 ≡ due_release due at = ap (λ (x : ℕ × ℕ). x.0) first in
-    let below : due_place due at < length c.loop-self.completions = omega (arith, c.requires at inside, c.loop-self.auto.completions) in
+    let below : due_place due at < length c.loop-self.completions =
+    omega (arith, c.requires at inside, c.loop-self.auto.completions) in
     record {
-      opened = rw place (opened_more due from at c.args.completions.now c.loop-self.completions h.opened h.from below);
+      opened =
+          rw place
+          (opened_more due from at c.args.completions.now c.loop-self.completions h.opened
+          h.from below);
       from = omega (arith, h.from);
       to = λ w. omega arith;
       come = λ p a b. elim (cases_lt p at) [
         | inl l ↦ h.come p a l
-        | inr g ↦ let e : at ≡ p = omega arith in subst (λ q. due_release due q ≤ c.args.now) e (omega (arith, release, c.if-index-now.true))
+        | inr g ↦ let e : at ≡ p =
+            omega arith in
+            subst (λ q. due_release due q ≤ c.args.now) e
+            (omega (arith, release, c.if-index-now.true))
       ];
       due = h.due;
       later = h.later;

@@ -7,7 +7,9 @@ pub returns-clause-scheduled : goal.returns-clause-scheduled
 returns-clause-scheduled c sets cache memory room =
     let queue = c.in_ok-queue.queue in
     let sys = system_of c.args.set.now c.args.code.now in
-    starts_kept sets sys cache memory c.as_slice-lines.result.now c.in_ok-jobs.jobs.items queue.released queue.due.items queue.later.items queue.heads.items c.in_ok-completions.completions.items
+    starts_kept sets sys cache memory c.as_slice-lines.result.now c.in_ok-jobs.jobs.items
+    queue.released queue.due.items queue.later.items queue.heads.items
+    c.in_ok-completions.completions.items
     (c.in_ok-jobs.ensures.jobs sys refl)
     c.in_ok-queue.ensures.released
     room

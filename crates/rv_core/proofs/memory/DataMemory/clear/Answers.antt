@@ -10,7 +10,8 @@ returns-then-end-last c =
     let first = 64 * ((a + 63) / 64) in
     let last = 64 * ((a + n) / 64) in
     c.zero-then-end-last.ensures
-    ∙ ap (λ (m : Memory). clear_bytes m last (a + n - last)) (c.zero-2.ensures ∙ ap (λ (m : Memory). clear_bytes m a (first - a)) c.clear_pages.ensures)
+    ∙ ap (λ (m : Memory). clear_bytes m last (a + n - last))
+    (c.zero-2.ensures ∙ ap (λ (m : Memory). clear_bytes m a (first - a)) c.clear_pages.ensures)
     ∙ parts_clear c.args.self.now a first last n (omega arith) (omega arith) (omega arith)
 
 pub returns-else-end-last : goal.returns-else-end-last

@@ -8,7 +8,10 @@ pub returns : goal.returns
 returns c =
     ap memory_of c.remove_pages.ensures
     ∙ outside_clear c.self.inside.pages.entries c.args.first c.args.last c.self.invariant c.requires
-    ∙ ap (λ (m : Memory). clear_bytes m (64 * c.args.first) (64 * c.args.last - 64 * c.args.first)) c.self.view_is
+    ∙ ap (λ (m : Memory). clear_bytes m (64 * c.args.first) (64 * c.args.last - 64 * c.args.first))
+    c.self.view_is
 
 pub invariant_of-self : goal.invariant_of-self
-invariant_of-self c = subst (ArePages 0) (sym c.remove_pages.ensures) (outside_pages 0 c.self.inside.pages.entries c.args.first c.args.last c.self.invariant)
+invariant_of-self c =
+    subst (ArePages 0) (sym c.remove_pages.ensures)
+    (outside_pages 0 c.self.inside.pages.entries c.args.first c.args.last c.self.invariant)

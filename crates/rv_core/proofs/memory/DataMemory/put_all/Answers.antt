@@ -12,6 +12,7 @@ loop-from-preserved c =
     record {
       within = omega arith;
       memory = c.in_ok-put_within.ensures.ok
-          ∙ ap (λ (m : Memory). put_all m (c.args.address + from) (slice_range bytes from to)) c.loop-from.invariant.memory
+          ∙ ap (λ (m : Memory). put_all m (c.args.address + from) (slice_range bytes from to))
+          c.loop-from.invariant.memory
           ∙ all_to bytes from to c.args.self.now c.args.address (omega arith) (omega arith);
     }

@@ -9,12 +9,15 @@ returns-in-Some c =
     let pages = c.self.inside.pages.entries in
     let a = c.args.address in
     c.word_of.ensures
-    ∙ sym (whole_read (memory_of pages) c.in-Some.page.now a (page_shows pages (a / 64) c.in-Some.page.now c.self.invariant (sym c.in-Some.ensures.value)) (omega arith) (omega arith))
+    ∙ sym (whole_read (memory_of pages) c.in-Some.page.now a
+    (page_shows pages (a / 64) c.in-Some.page.now c.self.invariant (sym c.in-Some.ensures.value))
+    (omega arith) (omega arith))
     ∙ ap (λ (m : Memory). memory_word m a) c.self.view_is
 
 pub returns-in-None : goal.returns-in-None
 returns-in-None c =
     let pages = c.self.inside.pages.entries in
     let a = c.args.address in
-    sym (whole_none (memory_of pages) a (omega arith) (omega arith) (none_shows pages (a / 64) c.self.invariant (sym c.in-None.ensures.value)))
+    sym (whole_none (memory_of pages) a (omega arith) (omega arith)
+    (none_shows pages (a / 64) c.self.invariant (sym c.in-None.ensures.value)))
     ∙ ap (λ (m : Memory). memory_word m a) c.self.view_is

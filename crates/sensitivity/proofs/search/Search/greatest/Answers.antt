@@ -7,8 +7,11 @@ use Rattle.sensitivity.proofs.search.Search.greatest.Goals as goal
 
 pub returns-in_default-2 : goal.returns-in_default-2
 returns-in_default-2 c =
-    slack_at_limit c.args.self.now.cost c.args.self.now.set.now (task_graph_at c.args.self.now.graphs.now c.args.self.now.nests.now) (has_times c.args.self.now.set.now c.requires.set)
-    (all_bounded c.args.self.now.set.now c.args.self.now.graphs.now c.args.self.now.nests.now c.requires.tasks (λ k l. c.graphs_law.ensures k no_graph l)) c.acceptance_law.ensures.stays
+    slack_at_limit c.args.self.now.cost c.args.self.now.set.now
+    (task_graph_at c.args.self.now.graphs.now c.args.self.now.nests.now)
+    (has_times c.args.self.now.set.now c.requires.set)
+    (all_bounded c.args.self.now.set.now c.args.self.now.graphs.now c.args.self.now.nests.now
+    c.requires.tasks (λ k l. c.graphs_law.ensures k no_graph l)) c.acceptance_law.ensures.stays
     (rw c.in_default-2.is at c.in_ok-stop.ensures.judged)
 
 pub loop-low-preserved-in-None : goal.loop-low-preserved-in-None
@@ -17,15 +20,23 @@ loop-low-preserved-in-None c = record {
   most = c.loop-low.invariant.most;
   trial = c.stop_at-in-loop-low.ensures.trial ∙ c.loop-low.invariant.trial;
   accepted = λ x lt.
-      stays_at c.args.self.now.cost c.args.self.now.set.now (task_graph_at c.args.self.now.graphs.now c.args.self.now.nests.now) (has_times c.args.self.now.set.now c.requires.set)
-      (all_bounded c.args.self.now.set.now c.args.self.now.graphs.now c.args.self.now.nests.now c.requires.tasks (λ k l. c.graphs_law.ensures k no_graph l)) c.acceptance_law.ensures.stays
+      stays_at c.args.self.now.cost c.args.self.now.set.now
+      (task_graph_at c.args.self.now.graphs.now c.args.self.now.nests.now)
+      (has_times c.args.self.now.set.now c.requires.set)
+      (all_bounded c.args.self.now.set.now c.args.self.now.graphs.now c.args.self.now.nests.now
+      c.requires.tasks (λ k l. c.graphs_law.ensures k no_graph l)) c.acceptance_law.ensures.stays
       x _ (omega (arith, lt)) (rw c.in-None.is at c.in_ok-stop_at.ensures.judged);
   stop = c.loop-low.invariant.stop;
 }
 
 pub returns : goal.returns
 returns c =
-    slack_below c.args.self.now.cost c.args.self.now.set.now (task_graph_at c.args.self.now.graphs.now c.args.self.now.nests.now) (has_times c.args.self.now.set.now c.requires.set)
-    (all_bounded c.args.self.now.set.now c.args.self.now.graphs.now c.args.self.now.nests.now c.requires.tasks (λ k l. c.graphs_law.ensures k no_graph l)) c.acceptance_law.ensures.never
-    c.loop-low.high c.loop-low.stop c.loop-low.invariant.most (λ x lt. c.loop-low.invariant.accepted x (omega (arith, lt, c.loop-low-test.false))) c.loop-low.invariant.stop
+    slack_below c.args.self.now.cost c.args.self.now.set.now
+    (task_graph_at c.args.self.now.graphs.now c.args.self.now.nests.now)
+    (has_times c.args.self.now.set.now c.requires.set)
+    (all_bounded c.args.self.now.set.now c.args.self.now.graphs.now c.args.self.now.nests.now
+    c.requires.tasks (λ k l. c.graphs_law.ensures k no_graph l)) c.acceptance_law.ensures.never
+    c.loop-low.high c.loop-low.stop c.loop-low.invariant.most
+    (λ x lt. c.loop-low.invariant.accepted x (omega (arith, lt, c.loop-low-test.false)))
+    c.loop-low.invariant.stop
     c.checked_sub.result (below_by c.checked_sub.result c.loop-low.high c.checked_sub.ensures)
