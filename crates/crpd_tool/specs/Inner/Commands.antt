@@ -1,4 +1,6 @@
 -- What the command words ask for: what only contracts inside the crate cite.
+use Rattle.crpd_tool.specs.declared.command.Command.{Command as Code}
+use Rattle.crpd_tool.specs.declared.command.Command.TheVariants.{List as Listing}
 use Rattle.crpd_tool.specs.declared.command.Command.TheVariants.{Check, Simulate, Sets, Analyze}
 use Rattle.crpd_tool.specs.declared.command.Command.TheVariants.{Explain, Classic, Slack, Update}
 use Rattle.crpd_tool.specs.declared.command.Command.TheVariants.{Generate}
