@@ -9,7 +9,7 @@ use Rattle.loop_regions.proofs.cycles.least_on_cycle.Goals as goal
 pub returns-then-fall : goal.returns-then-fall
 returns-then-fall c =
     no_cycle (graph_of c.args.graph.now) (nest_in c.args.regions.now) c.deref.result.now
-    (c.fall.ensures c.if-fall.true)
+    (c.all_fall.ensures c.if-fall.true)
 
 pub returns-then-branch : goal.returns-then-branch
 returns-then-branch c = (
