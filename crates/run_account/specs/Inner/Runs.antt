@@ -22,7 +22,6 @@ use Rattle.run_account.specs.Ledger.{IsLedger}
 use Rattle.run_account.specs.Inner.Trails.{ledger_reload_of, AreTrailsOf}
 use Rattle.preempt_machine.specs.Starts.{start_of_script}
 use Rattle.run_account.specs.AccountGraphs.{with_nests, AreGraphsOf, TasksAreMet}
-use Rattle.flat_graph.specs.CodeGraph.{graph_at}
 
 -- the start, the graphs and the certificate of a run. Regions play no part, so there are none
 abbrev pub no_nests : ℕ → Nest
