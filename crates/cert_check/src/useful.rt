@@ -138,9 +138,8 @@ fn sets_hold(listing: &Listing<'_>, node: NodeId, useful: &SetBits<WORDS>) -> bo
     part.evicting.has(listing.cache_set(node)) && covers(&part.useful, useful)
 }
 
-/// The least node at which clause 4 fails, the number of nodes where there is none. Linear in the
-/// nodes and edges.
-pub(crate) fn judge_useful(listing: &Listing<'_>, order: &[u32], hits: &[bool]) -> u32
+/// The least node at which clause 4 fails. Linear in the nodes and edges.
+pub(crate) fn judge_useful(listing: &Listing<'_>, order: &[u32], hits: &[bool]) -> Option<u32>
     requires case { IsListing listing.now.platform.now listing.now.graph.now listing.now.part.now
         listing.now.places.now }
     requires order { IsChainOrder (graph_of listing.now.graph.now)
@@ -154,7 +153,7 @@ pub(crate) fn judge_useful(listing: &Listing<'_>, order: &[u32], hits: &[bool]) 
         (node_accesses listing.now.platform.now listing.now.graph.now)
         (listed_of listing.now.part.now)) (graph_of listing.now.graph.now).size result }
 {
-    let mut least = listing.graph.len();
+    let mut least = None;
     let mut useful = SetBits::new();
     for done in 0..order.len() {
         let node = NodeId(order[order.len() - 1 - done]);
@@ -166,9 +165,8 @@ pub(crate) fn judge_useful(listing: &Listing<'_>, order: &[u32], hits: &[bool]) 
     least
 }
 
-/// The least node at which clause 5 fails, the number of nodes where there is none. Linear in the
-/// nodes and edges.
-pub(crate) fn judge_sets(listing: &Listing<'_>, order: &[u32], hits: &[bool]) -> u32
+/// The least node at which clause 5 fails. Linear in the nodes and edges.
+pub(crate) fn judge_sets(listing: &Listing<'_>, order: &[u32], hits: &[bool]) -> Option<u32>
     requires case { IsListing listing.now.platform.now listing.now.graph.now listing.now.part.now
         listing.now.places.now }
     requires order { IsChainOrder (graph_of listing.now.graph.now)
@@ -183,7 +181,7 @@ pub(crate) fn judge_sets(listing: &Listing<'_>, order: &[u32], hits: &[bool]) ->
         (listed_of listing.now.part.now) (has listing.now.part.now.part.evicting)
         (has listing.now.part.now.part.useful)) (graph_of listing.now.graph.now).size result }
 {
-    let mut least = listing.graph.len();
+    let mut least = None;
     let mut useful = SetBits::new();
     for done in 0..order.len() {
         let node = NodeId(order[order.len() - 1 - done]);
