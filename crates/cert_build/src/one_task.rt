@@ -14,10 +14,11 @@ use icache::Geometry;
 use loop_regions::Nest;
 use must_cache::sure_parts;
 use std::alloc::Global;
-use useful_sets::{useful_of_hits, useful_by_hits};
+use useful_sets::{useful_by_hits, useful_of_hits};
 
-/// What is found of a task's code alone: its execution bound in cycles, its evicting and its useful cache sets, the
-/// entries of its leaders by ascending node, and the least potentials of its nodes and regions in cycles.
+/// What is found of a task's code alone: its execution bound in cycles, its evicting and its useful
+/// cache sets, the entries of its leaders by ascending node, and the least potentials of its nodes
+/// and regions in cycles.
 #[derive(Drop)]
 pub struct Analysis {
     /// Its execution bound in cycles, 1 to 2^40, and its evicting and useful cache sets.
@@ -30,14 +31,15 @@ pub struct Analysis {
     pub loops: Items<u64>,
 }
 
-/// The analysis of a task's code: the must analysis and the useful cache sets (Lee et al. 1998) at each leader, the
-/// evicting and the useful cache sets of the task (Altmeyer, Davis and Maiza 2012), and the least potentials with the
-/// misses that the must analysis leaves.
+/// The analysis of a task's code: the must analysis and the useful cache sets (Lee et al. 1998) at
+/// each leader, the evicting and the useful cache sets of the task (Altmeyer, Davis and Maiza
+/// 2012), and the least potentials with the misses that the must analysis leaves.
 ///
-/// The refusals are want of memory, and `TooLarge` with the byte address of the task's entry exactly where the bound
-/// exceeds 2^40 cycles. While it works it takes 4 kB for each leader, some sets of cache sets for each node, and for
-/// each leader what its entry holds; it gives back all but the entries and 8 bytes for each node and region. The time
-/// is that of the must analysis, of the useful sets and of the bound, and one look at each cache set of each leader.
+/// The refusals are want of memory, and `TooLarge` with the byte address of the task's entry
+/// exactly where the bound exceeds 2^40 cycles. While it works it takes 4 kB for each leader, some
+/// sets of cache sets for each node, and for each leader what its entry holds; it gives back all
+/// but the entries and 8 bytes for each node and region. The time is that of the must analysis, of
+/// the useful sets and of the bound, and one look at each cache set of each leader.
 pub fn analyse(
     alloc: Global,
     graph: &Graph,

@@ -10,7 +10,7 @@ use Rattle.loop_regions.proofs.Beside.{one_last}
 use Rattle.cert_check.specs.PotentialClauses.{PotentialsMeet}
 use Rattle.cert_check.specs.Inner.JudgedPotentials.{EdgePaid}
 
--- a region pays for its turns
+-- a region pays for its iterations
 abbrev pub IsPaidTurns : Nest → Potentials → ℕ → Type 0
 IsPaidTurns n p r = n.bound r * p.node (n.head r) ≤ p.loop r
 

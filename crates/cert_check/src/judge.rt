@@ -56,10 +56,10 @@ fn task_failure(
 /// successor's state has nothing that is not in the state after the node (3); the node's useful set
 /// has its own cache set where it is counted as a hit, and every other one that is useful at a
 /// successor (4); the task's sets have those of the node (5); the potentials pay for the node's
-/// edges, for the regions that these leave, and for the turns of the region whose head it is (6).
-/// Clause 7: the bound is at least the potential of the first node, or of the region whose head
-/// that is. Clause 8: the window has room for the demand. Clause 9: the response is the window and
-/// the jitter (0), and at most the deadline (1).
+/// edges, for the regions that these leave, and for the iterations of the region whose head it is
+/// (6). Clause 7: the bound is at least the potential of the first node, or of the region whose
+/// head that is. Clause 8: the window has room for the demand. Clause 9: the response is the window
+/// and the jitter (0), and at most the deadline (1).
 ///
 /// The listed states may stand in any order; of two entries of a node, or of a cache set, the first
 /// counts. Listed cache sets are below 512, and windows are at most 2^40.

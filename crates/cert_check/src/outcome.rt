@@ -42,8 +42,8 @@ pub enum Clause {
     UsefulSets(u32),
     /// The task's sets have those of the node.
     TaskSets(u32),
-    /// The potentials pay for the node's edges, the regions that these leave, and the turns of the
-    /// one that it heads.
+    /// The potentials pay for the node's edges, the regions that these leave, and the iterations of
+    /// the one that it heads.
     Inequalities(u32),
     /// The bound is at least the potential of the first node's item.
     Bound,

@@ -64,7 +64,7 @@ impl Paid<'_> {
         }
     }
 
-    /// What the turns of a region cost: its bound times the potential of its head.
+    /// What the iterations of a region cost: its bound times the potential of its head.
     fn turns(&self, region: u32) -> u128
         requires paid { HasAllPotentials self.now.graph.now self.now.nest.now self.now.part.now
             self.now.hits.now }
@@ -77,7 +77,7 @@ impl Paid<'_> {
         u128::from(self.nest.bound(region)) * self.at_node(self.nest.head(region))
     }
 
-    /// Whether a region pays for its turns.
+    /// Whether a region pays for its iterations.
     fn region_pays(&self, region: u32) -> bool
         requires paid { HasAllPotentials self.now.graph.now self.now.nest.now self.now.part.now
             self.now.hits.now }
@@ -90,7 +90,7 @@ impl Paid<'_> {
         self.turns(region) <= self.at_region(region)
     }
 
-    /// Whether each region that an edge leaves pays for its turns. Its time is linear in these
+    /// Whether each region that an edge leaves pays for its iterations. Its time is linear in these
     /// regions.
     fn left_pay(&self, source: NodeId, target: NodeId) -> bool
         requires paid { HasAllPotentials self.now.graph.now self.now.nest.now self.now.part.now
@@ -176,7 +176,7 @@ impl Paid<'_> {
         at_most(cost, self.at_node(source))
     }
 
-    /// Whether a region pays for its turns and for the item that an edge out of it leads to.
+    /// Whether a region pays for its iterations and for the item that an edge out of it leads to.
     fn exit_pays(&self, region: u32, target: NodeId) -> bool
         requires paid { HasAllPotentials self.now.graph.now self.now.nest.now self.now.part.now
             self.now.hits.now }
@@ -228,7 +228,7 @@ impl Paid<'_> {
             .all(|next| self.edge_pays(node, next))
     }
 
-    /// Whether the region that a node heads, if any, pays for its turns.
+    /// Whether the region that a node heads, if any, pays for its iterations.
     fn head_pays(&self, node: NodeId) -> bool
         requires paid { HasAllPotentials self.now.graph.now self.now.nest.now self.now.part.now
             self.now.hits.now }

@@ -26,7 +26,7 @@ pub(crate) const ONE_TOLD: Told = Told {
     response: 17,
 };
 
-// The task `one` with a loop of its second word and its third, of at most three turns.
+// The task `one` with a loop of its second word and its third, of at most three iterations.
 pub(crate) const LOOPING: Program<'static> = Program {
     words: &LOOP,
     loops: &[(0x1004, 3, (0x1004, 0x100C))],

@@ -17,9 +17,9 @@ most_tasks = 32
 abbrev pub most_loops : ℕ
 most_loops = 64
 
--- the most turns that may be stated of a loop
-abbrev pub most_turns : ℕ
-most_turns = 1000000
+-- the most iterations that may be stated of a loop
+abbrev pub most_iterations : ℕ
+most_iterations = 1000000
 
 -- the most nodes of a task's flat graph
 abbrev pub most_nodes : ℕ

@@ -4,7 +4,7 @@ use Rattle.crpd_base.specs.declared.data.Platform.{Platform}
 use Rattle.crpd_base.specs.declared.data.LoopSpec.{LoopSpec}
 use Rattle.crpd_base.specs.declared.data.TaskSpec.{TaskSpec}
 use Rattle.crpd_base.specs.declared.data.TaskSet.{TaskSet}
-use Rattle.crpd_base.specs.Limits.{most_sets, most_cost, most_tasks, most_loops, most_turns}
+use Rattle.crpd_base.specs.Limits.{most_sets, most_cost, most_tasks, most_loops, most_iterations}
 use Rattle.crpd_base.specs.Limits.{longest_time}
 use Rattle.crpd_base.specs.Names.{is_line_length, is_name, is_file}
 
@@ -22,9 +22,9 @@ pub record IsPlatform (p : Platform) : Type 0 where
   pub mul : p.mul ≤ most_cost
   pub div : p.div ≤ most_cost
 
--- a stated loop: 1 to 1,000,000 turns
+-- a stated loop: 1 to 1,000,000 iterations
 abbrev pub IsLoopSpec : LoopSpec → Type 0
-IsLoopSpec l = (1 ≤ l.bound) × (l.bound ≤ most_turns)
+IsLoopSpec l = (1 ≤ l.bound) × (l.bound ≤ most_iterations)
 
 -- a task: a name and a file, a deadline of at most its period, times of at most 2^40 cycles, at
 -- most 64 loops

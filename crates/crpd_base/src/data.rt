@@ -75,7 +75,7 @@ pub enum Place {
 /// A loop that the user states, with its bound. It holds its head and the addresses in its ranges.
 #[derive(Drop)]
 pub struct LoopSpec {
-    /// The place of the instruction at which each turn begins.
+    /// The place of the instruction at which each iteration begins.
     pub head: Place,
     /// How often the head is reached at most each time the loop is entered: 1 to 1,000,000.
     pub bound: u32,
@@ -155,7 +155,7 @@ pub struct Image {
 /// A stated loop whose places are resolved to byte addresses.
 #[derive(Drop)]
 pub struct LoopAt {
-    /// The address at which each turn begins.
+    /// The address at which each iteration begins.
     pub head: u32,
     /// How often the head is reached at most each time the loop is entered: 1 to 1,000,000.
     pub bound: u32,
@@ -249,8 +249,8 @@ pub struct TaskPart {
     pub states: Items<NodeState>,
     /// Per node the most cycles from it to the end at its level of loop, 0 to 2^40; by node number.
     pub potentials: Items<u64>,
-    /// Per region (a loop in one context) the potential of all its turns and what follows, 0 to
-    /// 2^40; by region number.
+    /// Per region (a loop in one context) the potential of all its iterations and what follows, 0
+    /// to 2^40; by region number.
     pub loops: Items<u64>,
     /// By which delay the window holds.
     pub method: Method,

@@ -44,7 +44,7 @@ module _ (g : Graph) (p : Places) (loops : List LoopAt)
           false_too g p loops no_same _ _ (A.holds r v e.0) e.2,
         )
 
-    -- what the turns of a region cost by one of them
+    -- what the iterations of a region cost by one of them
     turns_too : (r low : ℕ) (f : ℕ → ℕ) (high : ℕ) → r < n.size
         → n.bound r * f (n.head r) + low ≤ high → m.bound r * f (m.head r) + low ≤ high
     turns_too r low f high lt e =

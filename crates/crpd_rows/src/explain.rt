@@ -143,7 +143,7 @@ const NESTED_DEEPLY: Case = Case {
     ..NESTED
 };
 
-// A loop of three turns that is preempted twice; its stated bound is kept, and then it is not.
+// A loop of three iterations that is preempted twice; its stated bound is kept, and then it is not.
 const THREE_TURNS: &str =
     "period = 10000\ndeadline = 10000\njitter = 0\n[[task.loop]]\nhead = 0x1004\nbound = 3\nrange = [[0x1004, 0x100C]]\n";
 

@@ -31,7 +31,7 @@ const PAIR: [Program; 2] = [
     ("low", 0x1000, &TWO_WORDS, ""),
 ];
 
-// A loop of three turns, which may make three, and two.
+// A loop of three iterations, which may make three, and two.
 const TURNS: [Program; 1] = [(
     "one",
     0x1000,

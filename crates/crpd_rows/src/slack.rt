@@ -89,7 +89,7 @@ const ROWS: [Row; 5] = [
         switch: Some(65535),
         miss: Some(65535),
     },
-    // each turn of the inner loop costs three cycles at least, and it has 10^12 of them
+    // each iteration of the inner loop costs three cycles at least, and it has 10^12 of them
     Row {
         case: Case {
             cache_sets: 4,

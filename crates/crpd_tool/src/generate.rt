@@ -1,5 +1,6 @@
 // The command `generate`.
-ghost use Rattle.std.specs.Prelude.{◌≡◌, ◌^◌, ◌<◌, ◌≤◌, length, map, string_bytes, IfOk, IsErrOf, Ok};
+ghost use Rattle.std.specs.Prelude.{◌≡◌, ◌^◌, ◌<◌, ◌≤◌, length, map, string_bytes, IfOk, IsErrOf};
+ghost use Rattle.std.specs.Prelude.{Ok};
 ghost use Rattle.cert_build.specs.Best.{IsBest};
 ghost use Rattle.cert_check.specs.TaskGraphs.{AreTaskGraphs, task_graph_at};
 ghost use Rattle.cert_model.specs.Ranges.{IsCertificate};
@@ -10,7 +11,8 @@ ghost use Rattle.crpd_input.specs.Graphs.{HasBoundedLoops};
 ghost use Rattle.crpd_input.specs.Reading.{code_in};
 ghost use Rattle.crpd_input.specs.Steps.{Means, MeansBy};
 ghost use Rattle.crpd_tool.specs.Generate as spec;
-ghost use Rattle.crpd_tool.specs.Generate.{EndsFrom, GenerateEnds, GeneratedOf, contents_of_files, made_name, named_files};
+ghost use Rattle.crpd_tool.specs.Generate.{EndsFrom, GenerateEnds, GeneratedOf, contents_of_files};
+ghost use Rattle.crpd_tool.specs.Generate.{made_name, named_files};
 
 use crate::answer::Answer;
 use crate::ending::without_certificate;
@@ -33,7 +35,9 @@ const NAME: &str = "generate";
 /// Files in memory, each under the name that its task has for it.
 fn hold(alloc: Global, set: &TaskSet, files: &[Items<u8>]) -> Result<SureFiles, AllocError>
     requires { length files.now ≡ length set.now.tasks }
-    ensures { IfOk result (λ kept. map (λ file. (string_bytes file.0, file.1.items)) kept.files.items ≡ named_files set.now files.now) }
+    ensures { IfOk result (λ kept.
+        map (λ file. (string_bytes file.0, file.1.items)) kept.files.items
+        ≡ named_files set.now files.now) }
 {
     let mut kept = Vec::new(alloc);
     for (i, bytes) in files.iter().enumerate() {
@@ -47,7 +51,8 @@ fn hold(alloc: Global, set: &TaskSet, files: &[Items<u8>]) -> Result<SureFiles, 
 fn code_of(alloc: Global, set: &TaskSet, files: &[Items<u8>]) -> Result<CodeMap, Halt>
     requires ranges { IsTaskSet set.now }
     requires count { length files.now ≡ length set.now.tasks }
-    ensures exact { Means (code_in (contents_of_files (named_files set.now files.now)) made_name set.now) result }
+    ensures exact { Means
+        (code_in (contents_of_files (named_files set.now files.now)) made_name set.now) result }
     ensures count { IfOk result (λ code. length code.images ≡ length set.now.tasks) }
     ensures bounded { IfOk result HasBoundedLoops }
     ensures no_fault { ¬ IsErrOf result Halt.Fault }
@@ -86,8 +91,10 @@ fn certified_answer(
     requires tasks { NamesTasks input.now.set script.now.jobs }
     requires jobs { length script.now.jobs < 2 ^ 32 }
     requires ranges { IsCertificate certificate.now }
-    requires best { IsBest input.now.set (task_graph_at shapes.now.graphs shapes.now.nests) certificate.now }
-    ensures { IfOk result (λ answer. GeneratedOf number script.now input.now shapes.now (Ok answer)) }
+    requires best { IsBest input.now.set (task_graph_at shapes.now.graphs shapes.now.nests)
+        certificate.now }
+    ensures { IfOk result (λ answer.
+        GeneratedOf number script.now input.now shapes.now (Ok answer)) }
 {
     let graphs = shapes.graphs.as_slice();
     let found = verdict(&input.set, graphs, shapes.nests.as_slice(), certificate);
@@ -114,8 +121,14 @@ fn certified_answer(
 }
 
 /// An answer behind the line of the made input.
-fn answer_behind_line(alloc: Global, number: u32, nodes: u64, answer: Answer) -> Result<Answer, AllocError>
-    ensures { IfOk result (λ whole. Ok whole ≡ spec.answer_behind_line (made_line number nodes) (Ok answer)) }
+fn answer_behind_line(
+    alloc: Global,
+    number: u32,
+    nodes: u64,
+    answer: Answer,
+) -> Result<Answer, AllocError>
+    ensures { IfOk result (λ whole.
+        Ok whole ≡ spec.answer_behind_line (made_line number nodes) (Ok answer)) }
 {
     let line = format!(in alloc; "generated {number} tasks 16 nodes {nodes}\n")?;
     let mut text = line.into_bytes();
@@ -144,7 +157,14 @@ fn analysis_answer(
 {
     let graphs = shapes.graphs.as_slice();
     match certify(alloc, &input.set, graphs, shapes.nests.as_slice()) {
-        Ok(certificate) => Ok(certified_answer(alloc, number, script, input, shapes, &certificate)?),
+        Ok(certificate) => Ok(certified_answer(
+            alloc,
+            number,
+            script,
+            input,
+            shapes,
+            &certificate,
+        )?),
         Err(BuildError::Memory) => Err(Halt::Memory),
         Err(error) => {
             let ending = without_certificate(alloc, NAME, &input.set, error)?;
@@ -180,7 +200,8 @@ fn answer_of(
     requires count { length files.now ≡ length set.tasks }
     requires tasks { NamesTasks set script.now.jobs }
     requires jobs { length script.now.jobs < 2 ^ 32 }
-    ensures exact { MeansBy (EndsFrom number (record { set = set; files = files.now; script = script.now })) result }
+    ensures exact { MeansBy
+        (EndsFrom number (record { set = set; files = files.now; script = script.now })) result }
     ensures no_fault { ¬ IsErrOf result Halt.Fault }
 {
     let input = input_of(alloc, set, files)?;
@@ -191,7 +212,8 @@ fn answer_of(
     }
 }
 
-/// Makes the input of a number, analyses its set, judges the certificate, and runs its script. No file is touched.
+/// Makes the input of a number, analyses its set, judges the certificate, and runs its script. No
+/// file is touched.
 pub(crate) fn generate(alloc: Global, seed: Seed) -> Result<Answer, Halt>
     ensures exact { MeansBy (GenerateEnds seed.number) result }
     ensures no_fault { ¬ IsErrOf result Halt.Fault }

@@ -1,5 +1,6 @@
 // The instructions and successors of the spots of a graph.
-ghost use Rattle.std.specs.Prelude.{◌≡◌, ◌≤◌, ◌<◌, ◌⊎◌, ℕ, Some, IfOk, IfErr, length, slice_get, slice_index_or, [], All, AllPairs, Contains, IsTrue};
+ghost use Rattle.std.specs.Prelude.{◌≡◌, ◌≤◌, ◌<◌, ◌⊎◌, ℕ, Some, IfOk, IfErr, length, slice_get};
+ghost use Rattle.std.specs.Prelude.{slice_index_or, [], All, AllPairs, Contains, IsTrue};
 ghost use Rattle.code_map.specs.Words.{word_at};
 ghost use Rattle.rv_decode.specs.Flow.{flows};
 ghost use Rattle.crpd_base.specs.Limits.{most_nodes};
@@ -28,17 +29,20 @@ pub(crate) struct Line {
     pub(crate) next: Onward,
 }
 
-/// The number of the spot with these calls under way at an address, which is its place in the order of numbering.
-/// Logarithmic in the number of spots.
+/// The number of the spot with these calls under way at an address, which is its place in the order
+/// of numbering. Logarithmic in the number of spots.
 pub(crate) fn number_of(lists: &[Context], spots: &[Spot], calls: &[u32], address: u32) -> u32
     requires few { length spots.now ≤ most_nodes }
     requires ordered { AllPairs IsNumberedBefore (spot_nodes lists.now spots.now) }
-    requires there { Contains (spot_nodes lists.now spots.now) (record { context = calls.now; address = address }) }
-    ensures { slice_get (spot_nodes lists.now spots.now) result ≡ Some (record { context = calls.now; address = address }) }
+    requires there { Contains (spot_nodes lists.now spots.now)
+        (record { context = calls.now; address = address }) }
+    ensures { slice_get (spot_nodes lists.now spots.now) result
+        ≡ Some (record { context = calls.now; address = address }) }
 {
     let found = spots.binary_search_by(
         |spot: &Spot| -> Ordering
-            ensures { result ≡ flat_cmp (spot_node lists.entry.now spot.now) (record { context = calls.entry.now; address = address }) }
+            ensures { result ≡ flat_cmp (spot_node lists.entry.now spot.now)
+                (record { context = calls.entry.now; address = address }) }
         {
             calls_of(lists, spot.context)
                 .cmp(calls)
@@ -48,17 +52,19 @@ pub(crate) fn number_of(lists: &[Context], spots: &[Spot], calls: &[u32], addres
     found.unwrap() as u32
 }
 
-/// The number of a spot, found by comparisons of addresses alone among the spots with the same calls under way.
-/// Logarithmic in the number of spots.
+/// The number of a spot, found by comparisons of addresses alone among the spots with the same
+/// calls under way. Logarithmic in the number of spots.
 fn number_at(lists: &[Context], spots: &[Spot], spot: &Spot) -> u32
     requires few { length spots.now ≤ most_nodes }
     requires ordered { AllPairs IsNumberedBefore (spot_nodes lists.now spots.now) }
     requires there { Contains (spot_nodes lists.now spots.now) (spot_node lists.now spot.now) }
-    ensures { slice_get (spot_nodes lists.now spots.now) result ≡ Some (spot_node lists.now spot.now) }
+    ensures { slice_get (spot_nodes lists.now spots.now) result
+        ≡ Some (spot_node lists.now spot.now) }
 {
     let found = spots.binary_search_by(
         |other: &Spot| -> Ordering
-            ensures { result ≡ flat_cmp (spot_node lists.entry.now other.now) (spot_node lists.entry.now spot.entry.now) }
+            ensures { result ≡ flat_cmp (spot_node lists.entry.now other.now)
+                (spot_node lists.entry.now spot.entry.now) }
         { compare(lists, other, spot) },
     );
     found.unwrap() as u32
@@ -80,7 +86,8 @@ fn number_from(lists: &[Context], spots: &[Spot], place: usize, spot: &Spot) -> 
     requires ordered { AllPairs IsNumberedBefore (spot_nodes lists.now spots.now) }
     requires there { Contains (spot_nodes lists.now spots.now) (spot_node lists.now spot.now) }
     requires place { place ≤ length spots.now }
-    ensures { slice_get (spot_nodes lists.now spots.now) result ≡ Some (spot_node lists.now spot.now) }
+    ensures { slice_get (spot_nodes lists.now spots.now) result
+        ≡ Some (spot_node lists.now spot.now) }
 {
     if is_at(spots, place, spot) {
         return place as u32;
@@ -88,14 +95,22 @@ fn number_from(lists: &[Context], spots: &[Spot], place: usize, spot: &Spot) -> 
     number_at(lists, spots, spot)
 }
 
-/// The numbers of the spots to which a spot leads whose calls have the number `from`. The first of them mostly stands at the
-/// place after the spot's own.
-fn successor_numbers(lists: &[Context], spots: &[Spot], next: usize, from: u32, steps: &Steps) -> Onward
+/// The numbers of the spots to which a spot leads whose calls have the number `from`. The first of
+/// them mostly stands at the place after the spot's own.
+fn successor_numbers(
+    lists: &[Context],
+    spots: &[Spot],
+    next: usize,
+    from: u32,
+    steps: &Steps,
+) -> Onward
     requires few { length spots.now ≤ most_nodes }
     requires ordered { AllPairs IsNumberedBefore (spot_nodes lists.now spots.now) }
-    requires there { All (Contains (spot_nodes lists.now spots.now)) (flat_steps (slice_index_or lists.now from []) steps.now) }
+    requires there { All (Contains (spot_nodes lists.now spots.now))
+        (flat_steps (slice_index_or lists.now from []) steps.now) }
     requires next { next ≤ length spots.now }
-    ensures { AreNumbers (spot_nodes lists.now spots.now) (onward result) (flat_steps (slice_index_or lists.now from []) steps.now) }
+    ensures { AreNumbers (spot_nodes lists.now spots.now) (onward result)
+        (flat_steps (slice_index_or lists.now from []) steps.now) }
 {
     match steps {
         Steps::Ends => Onward::Ends,
@@ -129,7 +144,8 @@ fn successor_numbers(lists: &[Context], spots: &[Spot], next: usize, from: u32, 
     }
 }
 
-/// The lines of the nodes in the order of numbering, or the error of the first one that has an error.
+/// The lines of the nodes in the order of numbering, or the error of the first one that has an
+/// error.
 pub(crate) fn lines(
     alloc: Global,
     code: &CodeMap,
@@ -138,8 +154,11 @@ pub(crate) fn lines(
     spots: &[Spot],
 ) -> Result<Vec<Line>, GraphError>
     requires few { length spots.now ≤ most_nodes }
-    requires numbering { IsNumbering (flows (word_at code.now.images)) entry (spot_nodes lists.now spots.now) }
-    ensures lines { IfOk result (λ v. AreNodeLines (word_at code.now.images) entry (spot_nodes lists.now spots.now) v.items) }
+    requires numbering { IsNumbering (flows (word_at code.now.images)) entry
+        (spot_nodes lists.now spots.now) }
+    ensures lines { IfOk result
+        (λ v. AreNodeLines (word_at code.now.images) entry
+        (spot_nodes lists.now spots.now) v.items) }
     ensures count { IfOk result (λ v. length v.items ≡ length spots.now) }
     ensures refused { IfErr result (IsGraphError (flows (word_at code.now.images)) entry) }
 {

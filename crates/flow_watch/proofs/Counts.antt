@@ -11,7 +11,7 @@ use Rattle.crpd_base.specs.declared.data.LoopAt.{LoopAt}
 use Rattle.flow_watch.specs.Watch.{in_range, all_iterations_after, within_bounds}
 use Rattle.flow_watch.specs.Inner.Quiet.{KeepsAllIterations, KeepsIterations}
 
--- the turns with those of the first i loops counted: what is left to count gives the whole
+-- the iterations with those of the first i loops counted: what is left to count gives the whole
 pub record IsCounted (a : ℕ) (loops : List LoopAt) (before : List ℕ) (i : ℕ)
     (turns : List ℕ) : Type 0 where
   pub same : length turns ≡ length loops
@@ -21,7 +21,7 @@ pub record IsCounted (a : ℕ) (loops : List LoopAt) (before : List ℕ) (i : �
       within_bounds loops (all_iterations_after a loops before)
       ≡ within_bounds (drop i loops) (all_iterations_after a (drop i loops) (drop i turns))
 
--- one more loop whose turns stay as they are
+-- one more loop whose iterations stay as they are
 pub counted_still :
     (a : ℕ) (loops : List LoopAt) (turns : List ℕ) (i : ℕ) (loop : LoopAt) →
     IsCounted a loops turns i turns → i < length loops → loop ≡ get_or loops i loop →
@@ -64,7 +64,7 @@ none_exceeds : (loops : List LoopAt) (turns : List ℕ) → loops ≡ []
 none_exceeds [] turns e = refl
 none_exceeds (loop ∷ loops) turns e = cc
 
--- when all loops are counted, all turns are as they were
+-- when all loops are counted, all iterations are as they were
 pub counted_all :
     (a : ℕ) (loops : List LoopAt) (turns : List ℕ) (i : ℕ) → IsCounted a loops turns i turns
     → length loops ≤ i →

@@ -1,4 +1,4 @@
--- Rows of turns, and the frames that they are.
+-- Rows of iterations, and the frames that they are.
 use Rattle.std.proofs.Common.{◌≡◌, ◌≢◌, ℕ, suc, zero, ◌+◌, ◌-◌, ◌*◌, ◌^◌, ◌<◌, ◌≤◌, ◌==◌, nat_lt}
 use Rattle.std.proofs.Common.{true, false, List, [], ◌∷◌, ◌++◌, length, take, drop, get_or, set}
 use Rattle.std.proofs.Common.{map, replicate, slice_index, IfSome, Option, Some, None}
@@ -109,7 +109,7 @@ frames-written n k calls old ws new w =
     frames-same n calls calls new old k (λ j lt. refl) w.below in
     rw (h, fs) refl
 
--- each of the frames has its turns
+-- each of the frames has its iterations
 pub turns_of :
     (n : ℕ) (calls turns : List ℕ) (d : ℕ) → d * n ≤ length turns
     → HasIterations n (Some (frames_of n calls turns d))
@@ -187,7 +187,7 @@ loops_told n calls turns frames w m u some has =
     loops_are m n calls turns frames some (rows_fit n frames turns u.rows u.few)
     (subst (HasIterations m) (sym u.is) has)
 
--- the arrival at an address, with and without a loop that has too many turns
+-- the arrival at an address, with and without a loop that has too many iterations
 pub arrived :
     (plan : TaskPlan) (a n : ℕ) (calls turns : List ℕ) (frames : ℕ) (w : Watch) (ws new : List ℕ) →
     IsInUse n calls turns frames w → 0 < frames → IsWritten n (frames - 1) turns ws new →
@@ -224,7 +224,7 @@ overran plan a n calls turns (suc k) w u some within =
     (all_iterations_after a plan.loops (frame_row n turns j))) at_k within in
     rw (← u.is, ← within_k) refl
 
--- so many frames in the room have the turns of so many loops
+-- so many frames in the room have the iterations of so many loops
 pub has_turns :
     (n m : ℕ) (calls turns : List ℕ) (frames : ℕ) → n ≡ m → frames ≤ 17 → length turns ≡ 17 * n →
     HasIterations m (Some (frames_of n calls turns frames))
@@ -352,8 +352,8 @@ closed loops n rows is len =
     take-replicate {X = ℕ} n (17 * n) 0 few in
     rw (none, is) (front_is ∙ splat_is_map loops n 0 (sym len))
 
--- an arrival at an address that leaves the turns of the top frame as they are leaves the watch as
--- it is
+-- an arrival at an address that leaves the iterations of the top frame as they are leaves the watch
+-- as it is
 pub quiet_frames :
     (plan : TaskPlan) (a n : ℕ) (calls turns : List ℕ) (frames : ℕ) (w : Watch) →
     Some (frames_of n calls turns frames) ≡ w → 0 < frames →

@@ -1,4 +1,4 @@
--- The watch over a job's flow: its calls, and the turns of its stated loops.
+-- The watch over a job's flow: its calls, and the iterations of its stated loops.
 use Rattle.std.specs.Prelude.{ℕ, suc, Bool, true, false, ◌&&◌, ◌||◌, ◌==◌, nat_lt, nat_le}
 use Rattle.std.specs.Prelude.{if◌then◌else◌, List, [], ◌∷◌, ◌++◌, length, map, Option, Some, None}
 use Rattle.std.specs.List.{list_any}
@@ -25,7 +25,7 @@ in_range a r = nat_le r.0 a && nat_lt a r.1
 abbrev pub holds : LoopAt → ℕ → Bool
 holds loop a = (a == loop.head) || list_any (in_range a) loop.ranges
 
--- a loop's turns after an arrival at the address
+-- a loop's iterations after an arrival at the address
 abbrev pub iterations_after : ℕ → LoopAt → ℕ → ℕ
 iterations_after a loop turns =
     if a == loop.head then suc turns else (if holds loop a then turns else 0)
@@ -36,7 +36,7 @@ all_iterations_after a (loop ∷ loops) (t ∷ turns) =
 all_iterations_after a [] turns = []
 all_iterations_after a (loop ∷ loops) [] = []
 
--- whether no loop has more turns than its bound
+-- whether no loop has more iterations than its bound
 abbrev pub within_bounds : List LoopAt → List ℕ → Bool
 within_bounds (loop ∷ loops) (t ∷ turns) = nat_le t loop.bound && within_bounds loops turns
 within_bounds [] turns = true

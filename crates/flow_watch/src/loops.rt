@@ -1,4 +1,4 @@
-// The turns of a frame's stated loops.
+// The iterations of a frame's stated loops.
 ghost use Rattle.std.specs.Prelude.{◌≡◌, ◌≢◌, ℕ, ◌<◌, ◌≤◌, Some, None, length, nat_le};
 ghost use Rattle.std.specs.Prelude.{if◌then◌else◌};
 ghost use Rattle.std.specs.Bool.{OnTrue};
@@ -26,8 +26,8 @@ fn is_in_ranges(stated: &LoopAt, address: u32) -> bool
     stated.ranges.iter().any(|range| in_range(address, range))
 }
 
-/// The turns of a stated loop after an arrival at an address, or None where they are more than its
-/// bound. Turns at the bound are not raised, so no sum wraps. Only of a loop that is open its
+/// The iterations of a stated loop after an arrival at an address, or None where they are more than
+/// its bound. Turns at the bound are not raised, so no sum wraps. Only of a loop that is open its
 /// ranges are looked through.
 fn iterations_after(stated: &LoopAt, turns: u32, address: u32) -> Option<u32>
     ensures { let after = iterations_after address stated.now turns in
@@ -45,8 +45,8 @@ fn iterations_after(stated: &LoopAt, turns: u32, address: u32) -> Option<u32>
     }
 }
 
-/// Counts an arrival at an address in a frame's turns, and says whether all are within their
-/// bounds. Where they are not, the turns may be left halfway.
+/// Counts an arrival at an address in a frame's iterations, and says whether all are within their
+/// bounds. Where they are not, the iterations may be left halfway.
 pub(crate) fn count_arrival(turns: &mut [u32], loops: &[LoopAt], address: u32) -> bool
     requires { length turns.old ≡ length loops.now }
     ensures within { result ≡ within_bounds loops.now
@@ -88,8 +88,8 @@ fn beside_head(range: (u32, u32), head: u32, near: u32) -> (u32, u32)
     }
 }
 
-/// The addresses of a range at which an arrival leaves a stated loop's turns as they are, of those
-/// around an address.
+/// The addresses of a range at which an arrival leaves a stated loop's iterations as they are, of
+/// those around an address.
 fn still_range(range: (u32, u32), stated: &LoopAt, turns: u32, near: u32) -> (u32, u32)
     ensures { (a : ℕ) → result.0 ≤ a → a < result.1
         → (range.0 ≤ a) × (a < range.1) × KeepsIterations a stated.now turns }
@@ -107,7 +107,7 @@ fn still_range(range: (u32, u32), stated: &LoopAt, turns: u32, near: u32) -> (u3
     }
 }
 
-/// A range of addresses around one, at which an arrival leaves a frame's turns as they are.
+/// A range of addresses around one, at which an arrival leaves a frame's iterations as they are.
 pub(crate) fn quiet_range(turns: &[u32], loops: &[LoopAt], near: u32) -> (u32, u32)
     requires { length turns.now ≡ length loops.now }
     ensures { (a : ℕ) → result.0 ≤ a → a < result.1 → KeepsAllIterations a loops.now turns.now }

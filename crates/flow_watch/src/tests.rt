@@ -128,7 +128,7 @@ const BACK: Step = (RETURN, 0x104);
 
 // Stated loops, steps, whether the watch is broken, and the calls under way.
 const FOLLOWED: [(&[Stated], &[Step], bool, &[u32]); 28] = [
-    // the entry is a first turn of a loop whose head it is
+    // the entry is a first iteration of a loop whose head it is
     (&[ONCE], &[], false, &[]),
     (&[ONCE], &[HEAD], true, &[]),
     (&[NEVER], &[], true, &[]),

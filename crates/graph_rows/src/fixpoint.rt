@@ -163,7 +163,8 @@ impl<const S: usize> Inequalities<'_, S> {
         }
     }
 
-    // What is asked of a region: all its turns, and the most that comes after one of its exits.
+    // What is asked of a region: all its iterations, and the most that comes after one of its
+    // exits.
     fn asked_of_region(&self, found: &Potentials, region: u32) -> u64
         requires region { region < (nest_of self.now.nest.now).size }
     {

@@ -60,7 +60,7 @@ const LEAVES_BOTH: [u32; 6] = [
     ECALL,
 ];
 
-// A loop round a loop that can go on with the outer one's next turn.
+// A loop round a loop that can go on with the outer one's next iteration.
 const NEXT_TURN: [u32; 6] = [
     0xFFF2_8293,
     0xFFF2_8293,

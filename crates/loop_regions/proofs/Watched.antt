@@ -65,7 +65,7 @@ bounded (m ∷ loops) (k ∷ turns) (suc i) l len h e =
     bounded loops turns i l (omega arith)
     (and_parts (leb k m.bound) (within_bounds loops turns) h).1 e
 
--- the turns of one loop after an arrival
+-- the iterations of one loop after an arrival
 turn_at : (a : ℕ) (loops : List LoopAt) (turns : List ℕ) (i : ℕ) (l : LoopAt)
     → length turns ≡ length loops → slice_get loops i ≡ Some l
     → slice_index_or (all_iterations_after a loops turns) i 0

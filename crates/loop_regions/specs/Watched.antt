@@ -22,7 +22,7 @@ CanGo from Exit to = ⊥
 CanGo from Break to = ⊥
 CanGo from _ to = Unit {0}
 
--- the turns that a frame counts of the loop at a place of the plan
+-- the iterations that a frame counts of the loop at a place of the plan
 abbrev pub iterations_of : Frame → ℕ → ℕ
 iterations_of f i = slice_index_or f.turns i 0
 

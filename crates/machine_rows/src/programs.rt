@@ -32,7 +32,7 @@ pub(crate) const THREE: [Program<'static>; 3] = [
     },
 ];
 
-// A loop of three turns, which may make three.
+// A loop of three iterations, which may make three.
 pub(crate) const TURNS: Program<'static> = Program {
     words: &LOOP,
     loops: &[(0x1004, 3, (0x1004, 0x100C))],
@@ -89,10 +89,10 @@ pub(crate) const SPINNER: [Program<'static>; 2] = [
     },
 ];
 
-// A loop of three turns that may make two, below a job of each kind.
+// A loop of three iterations that may make two, below a job of each kind.
 pub(crate) const ROUNDS: [Program<'static>; 2] = [HIGH, SHORT_TURNS];
 
-// The same loop, which its branch leaves, so that each turn begins it anew.
+// The same loop, which its branch leaves, so that each iteration begins it anew.
 pub(crate) const LEFT_ROUNDS: [Program<'static>; 2] = [
     HIGH,
     Program {

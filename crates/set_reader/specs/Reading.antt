@@ -4,7 +4,7 @@ use Rattle.std.specs.Prelude.{ℕ, ◌^◌, List, [], ◌∷◌, ◌++◌, lengt
 use Rattle.std.specs.Prelude.{option_map, nat_lt, nat_le, Result, Ok, Err, if◌then◌else◌}
 use Rattle.std.specs.List.{list_any}
 use Rattle.std.specs.Str.{bytes_eq, is_utf8}
-use Rattle.crpd_base.specs.Limits.{most_sets, most_cost, most_tasks, most_loops, most_turns}
+use Rattle.crpd_base.specs.Limits.{most_sets, most_cost, most_tasks, most_loops, most_iterations}
 use Rattle.crpd_base.specs.Limits.{longest_time}
 use Rattle.crpd_base.specs.declared.data.Platform.{Platform}
 use Rattle.crpd_base.specs.declared.data.Place.{Place}
@@ -73,7 +73,7 @@ unfoldable pub loop_at : List ℕ → Members → Result LoopSpec KeyError
 loop_at path ms = do
   _ ← all_known loop_keys path ms
   head ← required kind.place path (codes "head") ms
-  bound ← required (whole 1 most_turns) path (codes "bound") ms
+  bound ← required (whole 1 most_iterations) path (codes "bound") ms
   ranges ← required (listed kind.range) path (codes "range") ms
   Ok (record { head = head; bound = bound; ranges = ranges })
 

@@ -1,10 +1,10 @@
--- The fields of a watch: rows of turns, and the addresses of the calls.
+-- The fields of a watch: rows of iterations, and the addresses of the calls.
 use Rattle.std.specs.Prelude.{◌≡◌, ℕ, zero, suc, ◌*◌, ◌^◌, ◌<◌, ◌≤◌, List, [], ◌∷◌, length, take}
 use Rattle.std.specs.Prelude.{drop, slice_index, Option, option_map, IfSome}
 use Rattle.rv_decode.specs.Address.{next_address, end_address}
 use Rattle.flow_watch.specs.Watch.{Frame, Watch}
 
--- the turns of a frame, of the bottom one at 0: a row with a turn per stated loop
+-- the iterations of a frame, of the bottom one at 0: a row with an iteration per stated loop
 abbrev pub frame_row : ℕ → List ℕ → ℕ → List ℕ
 frame_row loops turns k = take loops (drop (k * loops) turns)
 
