@@ -89,7 +89,10 @@ fn state_holds(listing: &Listing<'_>, node: NodeId, after: &[Option<u32>]) -> bo
         (node_accesses listing.now.platform.now listing.now.graph.now)
         (listed_of listing.now.part.now) node.0 }
 {
-    starts_empty(listing, node) && edge_states_hold(listing, node, after)
+    if !starts_empty(listing, node) {
+        return false;
+    }
+    edge_states_hold(listing, node, after)
 }
 
 /// The least node at which clause 3 fails. Its time is that of the nodes and the listed states, and

@@ -1,5 +1,5 @@
 -- What is known while clauses 3 to 5 are judged at a task's nodes.
-use Rattle.std.specs.Prelude.{◌≡◌, ◌↔◌, ℕ, ◌<◌, min, List, Option, Some, None, slice_get, IsTrue}
+use Rattle.std.specs.Prelude.{◌↔◌, ℕ, ◌<◌, min, List, Option, Some, None, IsTrue}
 use Rattle.crpd_base.specs.Sets.{has}
 use Rattle.icache.specs.Accesses.{Accesses}
 use Rattle.flat_graph.specs.Graph.{Graph, Edge}
@@ -15,12 +15,6 @@ IsUsefulAt g a l y words = (s : ℕ) → FullUseful g a l y s ↔ IsTrue (has wo
 abbrev pub IsUsefulBehind : Graph → Accesses → Listed → ℕ → List ℕ → Type 0
 IsUsefulBehind g a l y words =
     (s : ℕ) → ((v : ℕ) × Edge g y v × FullUseful g a l v s) ↔ IsTrue (has words s)
-
--- and at the end of one of its edges
-abbrev pub IsUsefulBy : Graph → Accesses → Listed → ℕ → ℕ → List ℕ → Type 0
-IsUsefulBy g a l y k words =
-    (s : ℕ) → ((v : ℕ) × (slice_get (g.next y) k ≡ Some v) × FullUseful g a l v s)
-    ↔ IsTrue (has words s)
 
 -- the state of node v has nothing that the state after node u lacks
 abbrev pub EdgeStateMeets : Graph → Accesses → Listed → ℕ → ℕ → Type 0
