@@ -23,10 +23,10 @@ at_edges g u P few one two v e = ⊎_elim (λ h. one v h) (λ h. two v h) (place
 -- what holds of each successor holds at each edge, and the other way round
 pub all_at_edges : (g : Graph) (u : ℕ) (P : ℕ → Type 0) → All P (g.next u) → (v : ℕ)
     → Edge g u v → P v
-all_at_edges g u P all v (lt, (k, (below, e))) = subst P e (all k v below)
+all_at_edges g u P all v (lt, (k, below, e)) = subst P e (all k v below)
 
 pub edges_at_all : (g : Graph) (u : ℕ) (P : ℕ → Type 0) → u < g.size → ((v : ℕ) → Edge g u v → P v)
     → All P (g.next u)
 edges_at_all g u P lt each k d below =
     let v = get_or (g.next u) k d in
-    each v (lt, (k, (below, get_or_default (g.next u) k v d below)))
+    each v (lt, (k, below, get_or_default (g.next u) k v d below))

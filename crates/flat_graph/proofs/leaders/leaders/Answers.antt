@@ -6,9 +6,9 @@ use Rattle.flat_graph.proofs.leaders.leaders.Goals as goal
 
 pub returns-clause-leaders : goal.returns-clause-leaders
 returns-clause-leaders c =
-    IfOk-weaker c.leading.result (λ v. v.items ≡ map is_leading c.deref.result.now)
+    IfOk-weaker c.leader_flags.result (λ v. v.items ≡ map is_leading c.deref.result.now)
     (λ v. HasLeaders c.args.lines.now c.args.first v.items)
     (λ v e. subst (HasLeaders c.args.lines.now c.args.first)
     (sym (e ∙ ap (map is_leading) c.deref.ensures.value))
     (all_met c.args.lines.now c.args.first c.in_ok-marks.marks.items c.in_ok-marks.ensures.marked))
-    c.leading.ensures
+    c.leader_flags.ensures
