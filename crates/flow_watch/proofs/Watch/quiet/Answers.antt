@@ -38,4 +38,4 @@ returns-in-Some c =
     (subst (λ (ls : List LoopAt). KeepsAllIterations a ls (frame_row s.loops s.turns.items k))
     c.as_slice.ensures
     (subst (λ (ts : List ℕ). KeepsAllIterations a c.as_slice.result.now ts) is_row
-    (c.all_still.ensures a low high)))
+    (c.quiet_range.ensures a low high)))

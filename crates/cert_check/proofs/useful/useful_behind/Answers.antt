@@ -1,0 +1,34 @@
+use Rattle.std.proofs.Common.{◌≡◌, ◌∷◌, [], map, sym, subst, rules}
+use Rattle.std.proofs.lemmas.List.{map-append}
+use Rattle.crpd_base.specs.declared.data.NodeId.{NodeId}
+use Rattle.flat_graph.specs.CodeGraph.{graph_of}
+use Rattle.evict_sets.specs.ListedPart.{listed_of}
+use Rattle.evict_sets.specs.Listing.{node_accesses}
+use Rattle.cert_check.proofs.UsefulSets.{IsUsefulAtSome, none_useful, more_useful, all_useful}
+use Rattle.cert_check.proofs.useful.useful_behind.Goals as goal
+
+pub loop-next-init : goal.loop-next-init
+loop-next-init c =
+    none_useful (graph_of c.args.listing.now.graph.now)
+    (node_accesses c.args.listing.now.platform.now c.args.listing.now.graph.now)
+    (listed_of c.args.listing.now.part.now) c.new-sets.result c.new-sets.ensures
+
+pub loop-next-preserved : goal.loop-next-preserved
+loop-next-preserved c =
+    let g = graph_of c.args.listing.now.graph.now in
+    let a = node_accesses c.args.listing.now.platform.now c.args.listing.now.graph.now in
+    let l = listed_of c.args.listing.now.part.now in
+    subst (λ vs. IsUsefulAtSome g a l vs c.union.new.self)
+    (sym (map-append (λ (n : NodeId). n.0) c.loop-next.yielded (c.in-Some.next ∷ [])))
+    (more_useful g a l (map (λ (n : NodeId). n.0) c.loop-next.yielded) c.in-Some.next.0
+    c.loop-next.sets c.useful_next.result c.union.new.self c.loop-next.invariant
+    c.useful_next.ensures c.union.ensures)
+
+pub returns : goal.returns
+returns c =
+    let g = graph_of c.args.listing.now.graph.now in
+    let a = node_accesses c.args.listing.now.platform.now c.args.listing.now.graph.now in
+    let l = listed_of c.args.listing.now.part.now in
+    let all : map (λ (n : NodeId). n.0) c.loop-next.yielded ≡ g.next c.args.node.0 = search rules in
+    all_useful g a l c.args.node.0 c.loop-next.sets c.requires.node
+    (subst (λ vs. IsUsefulAtSome g a l vs c.loop-next.sets) all c.loop-next.invariant)
