@@ -3,7 +3,7 @@ use Rattle.std.proofs.Common.{◌≡◌, ◌⊎◌, ◌↔◌, ℕ, zero, suc, �
 use Rattle.std.proofs.Common.{[], ◌∷◌, ◌++◌, length, set, Some, None, Contains, slice_get}
 use Rattle.std.proofs.Common.{slice_index, IsTrue, refl, sym, ap, ◌∙◌, subst, inl, inr, ⊎_elim}
 use Rattle.std.proofs.Common.{arith, length-append, get_or-set_same, get_or-set_other}
-use Rattle.std.specs.List.{list_any}
+use Rattle.std.specs.List.{All, list_any}
 use Rattle.std.proofs.lemmas.Bool.{cases_eq, both_ways}
 use Rattle.std.proofs.lemmas.List.{length-set}
 use Rattle.std.proofs.lemmas.Option.{slice_get_within, slice_get-get_or, get_or_from_slice_get}
@@ -20,7 +20,7 @@ use Rattle.loop_regions.proofs.Has.{has_any, any_has, has_more, has_pushed, has_
 use Rattle.loop_regions.proofs.SecondEntries.{head_is, is_the_head}
 use Rattle.loop_regions.proofs.LeastOf.{nest_by}
 
-module _ (g : Graph) (heads bounds : List ℕ) (holders : List (List ℕ))
+module _ (heads bounds : List ℕ) (holders : List (List ℕ))
     (S : AreRegionLists heads bounds holders) where
   back_from : (u v : ℕ) → IsTrue (list_any (is_head heads v) (row holders u))
       → IsBackEdge (nest_by heads bounds holders) u v
@@ -37,13 +37,17 @@ module _ (g : Graph) (heads bounds : List ℕ) (holders : List (List ℕ))
       → (IsBackEdge (nest_by heads bounds holders) u v → ⊥) → ⊥
   not_back u v h other = other (back_from u v h)
 
+module _ (g : Graph) (heads bounds : List ℕ) (holders : List (List ℕ))
+    (S : AreRegionLists heads bounds holders) where
   pub not_forward : (u k v : ℕ) → slice_get (g.next u) k ≡ Some v
       → IsTrue (list_any (is_head heads v) (row holders u))
       → IsForwardBy g (nest_by heads bounds holders) u k None
   not_forward u k v e h w f fw =
       let q : Some v ≡ Some w = sym e ∙ f in
       let same : v ≡ w = cc in
-      fw.1 (subst (λ x. IsBackEdge (nest_by heads bounds holders) u x) same (back_from u v h))
+      fw.1
+      (subst (λ x. IsBackEdge (nest_by heads bounds holders) u x) same
+      (back_from heads bounds holders S u v h))
 
   pub is_forward : (u k v : ℕ) → u < g.size → slice_get (g.next u) k ≡ Some v
       → list_any (is_head heads v) (row holders u) ≡ false
@@ -52,7 +56,8 @@ module _ (g : Graph) (heads bounds : List ℕ) (holders : List (List ℕ))
     e,
     (
       (lt, (k, slice_get_within (g.next u) k v e, get_or_from_slice_get (g.next u) k v v e)),
-      λ b. both_ways (list_any (is_head heads v) (row holders u)) h (back_edge u v b),
+      λ b. both_ways (list_any (is_head heads v) (row holders u)) h
+          (back_edge heads bounds holders S u v b),
     ),
   )
 

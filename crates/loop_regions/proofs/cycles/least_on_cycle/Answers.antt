@@ -6,10 +6,10 @@ use Rattle.loop_regions.specs.Inner.FoundRegions.{nest_in}
 use Rattle.loop_regions.proofs.Searching.{no_cycle, cycle_within}
 use Rattle.loop_regions.proofs.cycles.least_on_cycle.Goals as goal
 
-pub returns-then-fall : goal.returns-then-fall
-returns-then-fall c =
+pub returns-then-all_fall : goal.returns-then-all_fall
+returns-then-all_fall c =
     no_cycle (graph_of c.args.graph.now) (nest_in c.args.regions.now) c.deref.result.now
-    (c.fall.ensures c.if-fall.true)
+    (c.all_fall.ensures c.if-all_fall.true)
 
 pub returns-then-branch : goal.returns-then-branch
 returns-then-branch c = (

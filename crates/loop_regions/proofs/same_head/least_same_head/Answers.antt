@@ -10,8 +10,8 @@ pub loop-j-preserved : goal.loop-j-preserved
 loop-j-preserved c =
     subst (λ o. IsLeastNumber (IsSameBelow c.args.loops.now (c.loop-j.j + 1)) o)
     (sym c.lesser-least.ensures)
-    (one_more c.args.loops.now c.loop-j.j c.loop-j.least c.repeated.result c.loop-j.invariant
-    c.repeated.ensures)
+    (one_more c.args.loops.now c.loop-j.j c.loop-j.least c.repeated_head.result c.loop-j.invariant
+    c.repeated_head.ensures)
 
 pub returns : goal.returns
 returns c = all_heads c.args.loops.now c.loop-j.j c.loop-j.least (omega arith) c.loop-j.invariant
