@@ -1,5 +1,6 @@
-use Rattle.std.proofs.Common.{◌≡◌, ◌∷◌, [], map, sym, subst, rules}
+use Rattle.std.proofs.Common.{◌∷◌, [], List, ℕ, map, sym, subst}
 use Rattle.std.proofs.lemmas.List.{map-append}
+use Rattle.std.proofs.lemmas.Iterator.Consumers.{YieldsList-end, YieldsList-from_first}
 use Rattle.crpd_base.specs.declared.data.NodeId.{NodeId}
 use Rattle.flat_graph.specs.CodeGraph.{graph_of}
 use Rattle.evict_sets.specs.ListedPart.{listed_of}
@@ -29,6 +30,8 @@ returns c =
     let g = graph_of c.args.listing.now.graph.now in
     let a = node_accesses c.args.listing.now.platform.now c.args.listing.now.graph.now in
     let l = listed_of c.args.listing.now.part.now in
-    let all : map (λ (n : NodeId). n.0) c.loop-next.yielded ≡ g.next c.args.node.0 = search rules in
+    let all = YieldsList-end
+    (YieldsList-from_first (λ (n : NodeId). n.0) (λ (left : List ℕ). left) (g.next c.args.node.0) cc)
+    c.loop-next.yielded _ c.loop-next.yielded_by _ _ c.in-None.is c.next.ensures.steps in
     all_useful g a l c.args.node.0 c.loop-next.sets c.requires.node
-    (subst (λ vs. IsUsefulAtSome g a l vs c.loop-next.sets) all c.loop-next.invariant)
+    (subst (λ vs. IsUsefulAtSome g a l vs c.loop-next.sets) all.0 c.loop-next.invariant)

@@ -1,5 +1,6 @@
-use Rattle.std.proofs.Common.{◌≡◌, ◌∷◌, ◌++◌, [], map, sym, subst, rules}
+use Rattle.std.proofs.Common.{◌∷◌, ◌++◌, [], List, ℕ, map, sym, subst}
 use Rattle.std.proofs.lemmas.List.{map-append}
+use Rattle.std.proofs.lemmas.Iterator.Consumers.{YieldsList-end, YieldsList-from_first}
 use Rattle.crpd_base.specs.declared.data.NodeId.{NodeId}
 use Rattle.flat_graph.specs.CodeGraph.{graph_of}
 use Rattle.loop_regions.specs.Inner.Least.{IsLeastNumber, lesser}
@@ -26,7 +27,9 @@ pub returns : goal.returns
 returns c =
     let n = nest_in c.args.regions.now in
     let g = graph_of c.args.graph.now in
-    let all : map (λ (n : NodeId). n.0) c.loop-next.yielded ≡ g.next c.args.u = search rules in
+    let all = YieldsList-end
+    (YieldsList-from_first (λ (n : NodeId). n.0) (λ (left : List ℕ). left) (g.next c.args.u) cc)
+    c.loop-next.yielded _ c.loop-next.yielded_by _ _ c.in-None.is c.next.ensures.steps in
     enters_all g n c.args.u c.loop-next.least c.requires.node
-    (subst (λ ws. IsLeastNumber (EntersSome n c.args.u ws) c.loop-next.least) all
+    (subst (λ ws. IsLeastNumber (EntersSome n c.args.u ws) c.loop-next.least) all.0
     c.loop-next.invariant)
