@@ -1,5 +1,6 @@
 -- The analysis of one task's code, and when there is none.
 use Rattle.std.specs.Prelude.{◌≡◌, ℕ, ◌≤◌, ◌^◌, Bool, List, [], true}
+use Rattle.crpd_base.specs.Limits.{longest_time}
 use Rattle.crpd_base.specs.declared.data.Platform.{Platform}
 use Rattle.crpd_base.specs.declared.data.Method.{Method}
 use Rattle.crpd_base.specs.declared.data.Method.TheVariants.{Ucb}
@@ -37,13 +38,13 @@ part_of_analysis a = part_with a [] Ucb 0 0
 -- the analysis of a task's code, whose bound is at most 2^40
 pub record IsAnalysis (p : Platform) (t : TaskGraph) (a : Analysis) : Type 0 where
   pub best : IsBestPart p t (part_of_analysis a)
-  pub within : a.part.bound ≤ 2 ^ 40
+  pub within : a.part.bound ≤ longest_time
 
 -- beside a name, and times in their ranges, it is in the ranges of a certificate's tasks
 abbrev pub KeepsRanges : Analysis → Type 0
 KeepsRanges a =
     (name : List ℕ) (method : Method) (window response : ℕ) →
-    is_name name ≡ true → window ≤ 2 ^ 40 → response ≤ 2 ^ 41
+    is_name name ≡ true → window ≤ longest_time → response ≤ 2 ^ 41
     → IsTaskPart (part_with a name method window response)
 
 -- the bound of a task's code, with the hits by Sure, exceeds 2^40

@@ -1,5 +1,6 @@
 -- The certificate that is made, and when there is none.
 use Rattle.std.specs.Prelude.{◌≡◌, ℕ, ◌+◌, ◌<◌, ◌≤◌, ◌^◌, List, length, slice_index_or}
+use Rattle.crpd_base.specs.Limits.{longest_time, most_entries}
 use Rattle.crpd_base.specs.declared.data.TaskSet.{TaskSet}
 use Rattle.crpd_base.specs.declared.data.Part.{Part}
 use Rattle.crpd_base.specs.declared.data.TaskPart.{TaskPart}
@@ -31,7 +32,7 @@ pub record AreBestParts (set : TaskSet) (graphs : ℕ → TaskGraph)
   pub tasks : length parts ≡ length set.tasks
   pub each : (k : ℕ) → k < length set.tasks
       → IsBestPart set.platform (graphs k) (slice_index_or parts k no_task_part)
-  pub within : (k : ℕ) → k < length set.tasks → (part_in parts k).bound ≤ 2 ^ 40
+  pub within : (k : ℕ) → k < length set.tasks → (part_in parts k).bound ≤ longest_time
 
 -- the first task whose bound exceeds 2^40
 pub record IsFirstLarge (set : TaskSet) (graphs : ℕ → TaskGraph) (i : ℕ) : Type 0 where
@@ -47,14 +48,15 @@ HaveNoAnalyses set graphs Memory = Unit {0}
 HaveNoAnalyses set graphs (TooLarge t address) =
     IsFirstLarge set graphs t.0 × (address ≡ (graphs t.0).places.address (graphs t.0).graph.first)
 HaveNoAnalyses set graphs (TooManyEntries n) =
-    (parts : List TaskPart) × AreBestParts set graphs parts × (n ≡ entries parts) × (4000000 < n)
+    (parts : List TaskPart) × AreBestParts set graphs parts × (n ≡ entries parts)
+    × (most_entries < n)
 HaveNoAnalyses set graphs (Unschedulable t) = ⊥
 
 -- when each refusal of a certificate comes: those of the analyses; else the first task without a
 -- window
 abbrev pub IsBuildError : TaskSet → (ℕ → TaskGraph) → BuildError → Type 0
 IsBuildError set graphs (Unschedulable t) =
-    (parts : List TaskPart) × AreBestParts set graphs parts × (entries parts ≤ 4000000)
+    (parts : List TaskPart) × AreBestParts set graphs parts × (entries parts ≤ most_entries)
     × IsFirstWithoutWindow set (demand set (part_in parts) (longest_at set.platform graphs)) t.0
 IsBuildError set graphs e = HaveNoAnalyses set graphs e
 

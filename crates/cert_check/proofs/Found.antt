@@ -10,7 +10,7 @@ use Rattle.cert_check.specs.declared.outcome.Clause.TheVariants.{LoopPotentials,
 use Rattle.cert_check.specs.declared.outcome.Clause.TheVariants.{Response, Deadline}
 use Rattle.cert_check.specs.Verdict.{clause_number, clause_place, IsEarlierClause}
 use Rattle.cert_check.specs.Inner.FirstFailing.{IsFirstFailingWithin, AllHold, IsRangeJudged}
-use Rattle.cert_check.specs.Inner.JudgedNodes.{IsLeastFailing}
+use Rattle.cert_check.specs.Inner.JudgedNodes.{IsFirst}
 
 module _ (H : Clause → Type 0) where
   -- first some clauses, which hold, then those of greater numbers
@@ -130,30 +130,31 @@ pub record IsOfNodes (H : Clause → Type 0) (P : ℕ → Type 0) (C : ℕ → C
   pub past : (u : ℕ) → size ≤ u → H (C u)
   pub back : (u : ℕ) → u < size → H (C u) → P u
 
-module _ (H : Clause → Type 0) (P : ℕ → Type 0) (C : ℕ → Clause) (n size least : ℕ)
-    (X : IsOfNodes H P C n size) (L : IsLeastFailing P size least) where
+module _ (H : Clause → Type 0) (P : ℕ → Type 0) (C : ℕ → Clause) (n size : ℕ)
+    (X : IsOfNodes H P C n size) where
   -- it fails at the least node
-  pub node_fails : least < size → IsFirstFailingWithin H n n (C least)
-  node_fails lt = record {
+  pub node_fails : (least : ℕ) → IsFirst P size least → IsFirstFailingWithin H n n (C least)
+  node_fails least L = record {
     from_low = (let e = X.number least in omega (arith, e));
     to_high = (let e = X.number least in omega (arith, e));
-    fails = λ h. L.fails lt (X.back least lt h);
+    fails = λ h. L.fails (X.back least L.within h);
     before = λ l low earlier. ⊎_elim
         (λ less. absurd (let e = X.number least in omega (arith, e, low, less)))
         (λ same.
         let b = same.1 in
         let p = X.place least in
+        let w = L.within in
         let before : clause_place l < least = omega (arith, b, p) in
         subst H (X.only l (same.0 ∙ X.number least))
-        (X.to (clause_place l) (omega (arith, before, lt)) (L.holds (clause_place l) before)))
+        (X.to (clause_place l) (omega (arith, before, w)) (L.holds (clause_place l) before)))
         earlier;
   }
 
-  -- and nowhere, where that is past all nodes
-  pub nodes_hold : size ≤ least → AllHold H n n
-  nodes_hold none k low high =
+  -- and nowhere, where it holds at each node
+  pub nodes_hold : ((u : ℕ) → u < size → P u) → AllHold H n n
+  nodes_hold all k low high =
       subst H (X.only k (omega (arith, low, high)))
-      (⊎_elim (λ lt. X.to (clause_place k) lt (L.holds (clause_place k) (omega (arith, lt, none))))
+      (⊎_elim (λ lt. X.to (clause_place k) lt (all (clause_place k) lt))
       (λ le. X.past (clause_place k) le) (cases_lt (clause_place k) size))
 
 not_later : (l k : Clause) → IsEarlierClause l k → clause_number l ≤ clause_number k

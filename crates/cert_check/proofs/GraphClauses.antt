@@ -14,7 +14,7 @@ use Rattle.cert_check.specs.declared.outcome.Clause.TheVariants.{States, UsefulS
 use Rattle.cert_check.specs.declared.outcome.Clause.TheVariants.{Inequalities, Bound}
 use Rattle.cert_check.specs.Verdict.{clause_number, clause_place, GraphHolds}
 use Rattle.cert_check.specs.Inner.FirstFailing.{IsFirstFailingWithin, AllHold}
-use Rattle.cert_check.specs.Inner.JudgedNodes.{IsLeastFailing}
+use Rattle.cert_check.specs.Inner.JudgedNodes.{IsFirst}
 use Rattle.cert_check.proofs.Found.{IsOfNodes, found_first, then_found, node_fails, nodes_hold}
 use Rattle.cert_check.proofs.Found.{fails_first, bound_holds}
 use Rattle.cert_check.proofs.Clauses.{tests_agree, same_meets}
@@ -93,67 +93,77 @@ module _ (p : Platform) (t : TaskGraph) (c : TaskPart) where
   abbrev H : Clause → Type 0
   H = GraphHolds p t c
 
+  -- a fact that holds at each node of the graph
+  abbrev Everywhere : (ℕ → Type 0) → Type 0
+  Everywhere P = (u : ℕ) → u < t.graph.size → P u
+
+  abbrev StatesHold : ℕ → Type 0
+  StatesHold = StatesMeet t.graph (accesses_of p t) (listed_of c)
+
+  abbrev UsefulHold : ℕ → Type 0
+  UsefulHold = UsefulMeets t.graph (accesses_of p t) (listed_of c)
+
+  abbrev SetsHold : ℕ → Type 0
+  SetsHold =
+      SetsMeet t.graph (accesses_of p t) (listed_of c) (has c.part.evicting) (has c.part.useful)
+
   -- the states and sets, judged in their order
-  module _ (states : ℕ)
-      (S : IsLeastFailing (StatesMeet t.graph (accesses_of p t) (listed_of c)) t.graph.size
-      states) where
-    pub states_fail : states < t.graph.size → IsFirstFailingWithin H 3 5 (States states)
-    states_fail lt =
-        found_first H 3 3 5 (States states) (omega arith)
-        (node_fails H _ _ 3 t.graph.size states of_states S lt)
+  pub states_fail : (u : ℕ) → IsFirst StatesHold t.graph.size u
+      → IsFirstFailingWithin H 3 5 (States u)
+  states_fail u F =
+      found_first H 3 3 5 (States u) (omega arith) (node_fails H _ _ 3 t.graph.size of_states u F)
 
-    module _ (le : t.graph.size ≤ states) (useful : ℕ)
-        (U : IsLeastFailing (UsefulMeets t.graph (accesses_of p t) (listed_of c)) t.graph.size
-        useful) where
-      states_hold : AllHold H 3 3
-      states_hold = nodes_hold H _ _ 3 t.graph.size states of_states S le
+  module _ (S : Everywhere StatesHold) where
+    states_hold : AllHold H 3 3
+    states_hold = nodes_hold H _ _ 3 t.graph.size of_states S
 
-      pub useful_fail : useful < t.graph.size → IsFirstFailingWithin H 3 5 (UsefulSets useful)
-      useful_fail lt =
-          then_found H 3 3 5 (Err (UsefulSets useful)) (omega arith) (omega arith) states_hold
-          (found_first H 4 4 5 (UsefulSets useful) (omega arith)
-          (node_fails H _ _ 4 t.graph.size useful of_useful U lt))
+    pub useful_fail : (u : ℕ) → IsFirst UsefulHold t.graph.size u
+        → IsFirstFailingWithin H 3 5 (UsefulSets u)
+    useful_fail u F =
+        then_found H 3 3 5 (Err (UsefulSets u)) (omega arith) (omega arith) states_hold
+        (found_first H 4 4 5 (UsefulSets u) (omega arith)
+        (node_fails H _ _ 4 t.graph.size of_useful u F))
 
-      module _ (more : t.graph.size ≤ useful) (sets : ℕ)
-          (T : IsLeastFailing
-          (SetsMeet t.graph (accesses_of p t) (listed_of c) (has c.part.evicting)
-          (has c.part.useful)) t.graph.size sets) where
-        useful_hold : AllHold H 3 4
-        useful_hold =
-            then_found H 3 3 4 (Ok tt) (omega arith) (omega arith) states_hold
-            (nodes_hold H _ _ 4 t.graph.size useful of_useful U more)
+    module _ (U : Everywhere UsefulHold) where
+      useful_hold : AllHold H 3 4
+      useful_hold =
+          then_found H 3 3 4 (Ok tt) (omega arith) (omega arith) states_hold
+          (nodes_hold H _ _ 4 t.graph.size of_useful U)
 
-        pub sets_fail : sets < t.graph.size → IsFirstFailingWithin H 3 5 (TaskSets sets)
-        sets_fail lt =
-            then_found H 3 4 5 (Err (TaskSets sets)) (omega arith) (omega arith) useful_hold
-            (node_fails H _ _ 5 t.graph.size sets of_sets T lt)
+      pub sets_fail : (u : ℕ) → IsFirst SetsHold t.graph.size u
+          → IsFirstFailingWithin H 3 5 (TaskSets u)
+      sets_fail u F =
+          then_found H 3 4 5 (Err (TaskSets u)) (omega arith) (omega arith) useful_hold
+          (node_fails H _ _ 5 t.graph.size of_sets u F)
 
-        pub sets_hold : t.graph.size ≤ sets → AllHold H 3 5
-        sets_hold most =
-            then_found H 3 4 5 (Ok tt) (omega arith) (omega arith) useful_hold
-            (nodes_hold H _ _ 5 t.graph.size sets of_sets T most)
+      pub sets_hold : Everywhere SetsHold → AllHold H 3 5
+      sets_hold T =
+          then_found H 3 4 5 (Ok tt) (omega arith) (omega arith) useful_hold
+          (nodes_hold H _ _ 5 t.graph.size of_sets T)
 
   -- and the potentials with the bound
-  module _ (is_hit : ℕ → Bool) (counts : CountsHits t.graph (accesses_of p t) (listed_of c) is_hit)
-      (least : ℕ)
-      (L : IsLeastFailing
-      (PotentialsMeet t.graph t.nest (edge_costs p (node_code_of t) (answering t) is_hit)
-      (potentials_of c)) t.graph.size least) where
-    pub inequalities_fail : least < t.graph.size → IsFirstFailingWithin H 6 7 (Inequalities least)
-    inequalities_fail lt =
-        found_first H 6 6 7 (Inequalities least) (omega arith)
-        (node_fails H _ _ 6 t.graph.size least (of_inequalities is_hit counts) L lt)
+  module _ (is_hit : ℕ → Bool)
+      (counts : CountsHits t.graph (accesses_of p t) (listed_of c) is_hit) where
+    abbrev PotentialsHold : ℕ → Type 0
+    PotentialsHold =
+        PotentialsMeet t.graph t.nest (edge_costs p (node_code_of t) (answering t) is_hit)
+        (potentials_of c)
 
-    inequalities_hold : t.graph.size ≤ least → AllHold H 6 6
-    inequalities_hold le =
-        nodes_hold H _ _ 6 t.graph.size least (of_inequalities is_hit counts) L le
+    pub inequalities_fail : (u : ℕ) → IsFirst PotentialsHold t.graph.size u
+        → IsFirstFailingWithin H 6 7 (Inequalities u)
+    inequalities_fail u F =
+        found_first H 6 6 7 (Inequalities u) (omega arith)
+        (node_fails H _ _ 6 t.graph.size (of_inequalities is_hit counts) u F)
 
-    pub bound_fails : t.graph.size ≤ least → (H Bound → ⊥) → IsFirstFailingWithin H 6 7 Bound
-    bound_fails le none =
-        then_found H 6 6 7 (Err Bound) (omega arith) (omega arith) (inequalities_hold le)
+    inequalities_hold : Everywhere PotentialsHold → AllHold H 6 6
+    inequalities_hold all = nodes_hold H _ _ 6 t.graph.size (of_inequalities is_hit counts) all
+
+    pub bound_fails : Everywhere PotentialsHold → (H Bound → ⊥) → IsFirstFailingWithin H 6 7 Bound
+    bound_fails all none =
+        then_found H 6 6 7 (Err Bound) (omega arith) (omega arith) (inequalities_hold all)
         (fails_first H Bound refl none)
 
-    pub potentials_hold : t.graph.size ≤ least → H Bound → AllHold H 6 7
-    potentials_hold le h =
-        then_found H 6 6 7 (Ok tt) (omega arith) (omega arith) (inequalities_hold le)
+    pub potentials_hold : Everywhere PotentialsHold → H Bound → AllHold H 6 7
+    potentials_hold all h =
+        then_found H 6 6 7 (Ok tt) (omega arith) (omega arith) (inequalities_hold all)
         (bound_holds H h)

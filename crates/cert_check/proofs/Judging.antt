@@ -1,6 +1,6 @@
 -- Clauses 3 to 5 judged along an order of the nodes.
-use Rattle.std.proofs.Common.{◌≡◌, ℕ, ◌+◌, ◌<◌, ◌≤◌, List, Option, IsFalse, sym, ap, ◌∙◌, subst}
-use Rattle.std.proofs.Common.{arith}
+use Rattle.std.proofs.Common.{◌≡◌, ℕ, ◌+◌, ◌<◌, ◌≤◌, List, Option, None, IsFalse, sym, ap, ◌∙◌}
+use Rattle.std.proofs.Common.{subst, arith}
 use Rattle.std.specs.Prelude.{slice_index}
 use Rattle.icache.specs.Accesses.{Accesses}
 use Rattle.flat_graph.specs.Graph.{Graph, Edge}
@@ -13,11 +13,12 @@ use Rattle.evict_sets.proofs.HitsTo.{BlocksTo}
 
 module _ (g : Graph) (a : Accesses) (l : Listed) where
   -- the nodes before place k are judged, and the blocks are the state of an unlisted node there
-  pub record StatesTo (order : List ℕ) (blocks : List (Option ℕ)) (least k : ℕ) : Type 0 where
+  pub record StatesTo (order : List ℕ) (blocks : List (Option ℕ)) (least : Option ℕ)
+      (k : ℕ) : Type 0 where
     pub state : BlocksTo g a l order blocks k
     pub seen : IsLeastSeen (StatesMeet g a l) (SeenTo order k) g.size least
 
-  pub states_least : (order : List ℕ) (blocks : List (Option ℕ)) (least k : ℕ)
+  pub states_least : (order : List ℕ) (blocks : List (Option ℕ)) (least : Option ℕ) (k : ℕ)
       → IsChainOrder g l order → g.size ≤ k
       → StatesTo order blocks least k → IsLeastFailing (StatesMeet g a l) g.size least
   states_least order blocks least k O le H =
@@ -26,14 +27,14 @@ module _ (g : Graph) (a : Accesses) (l : Listed) where
 
   -- the nodes from place k on are judged by P, and the set is the full useful set of the one at
   -- place k
-  pub record UsefulFrom (P : ℕ → Type 0) (order : List ℕ) (useful : List ℕ)
-      (least k : ℕ) : Type 0 where
+  pub record UsefulFrom (P : ℕ → Type 0) (order : List ℕ) (useful : List ℕ) (least : Option ℕ)
+      (k : ℕ) : Type 0 where
     pub within : k ≤ g.size
     pub here : k < g.size → IsUsefulAt g a l (slice_index order k) useful
     pub seen : IsLeastSeen P (SeenFrom order g.size k) g.size least
 
   pub useful_start : (P : ℕ → Type 0) (order useful : List ℕ) (k : ℕ) → k ≡ g.size
-      → UsefulFrom P order useful g.size k
+      → UsefulFrom P order useful None k
   useful_start P order useful k is = record {
     within = omega (arith, is);
     here = λ lt. absurd (omega (arith, is, lt));
@@ -42,8 +43,8 @@ module _ (g : Graph) (a : Accesses) (l : Listed) where
         (λ u s. absurd (let a = s.1 in let b = s.2 in omega (arith, is, a, b)));
   }
 
-  pub useful_follows : (P : ℕ → Type 0) (order useful : List ℕ) (least k place node : ℕ)
-      → IsChainOrder g l order → place + 1 ≡ k → slice_index order place ≡ node
+  pub useful_follows : (P : ℕ → Type 0) (order useful : List ℕ) (least : Option ℕ)
+      (k place node : ℕ) → IsChainOrder g l order → place + 1 ≡ k → slice_index order place ≡ node
       → UsefulFrom P order useful least k
       → (v : ℕ) → Edge g node v → IsFalse (l.is_listed v) → IsUsefulAt g a l v useful
   useful_follows P order useful least k place node O is at H v e out =
@@ -52,8 +53,9 @@ module _ (g : Graph) (a : Accesses) (l : Listed) where
       let same : slice_index order k ≡ v = ap (slice_index order) (sym is) ∙ b.1 in
       subst (λ x. IsUsefulAt g a l x useful) same (H.here (let c = b.0 in omega (arith, is, c)))
 
-  pub useful_more : (P : ℕ → Type 0) (order useful new : List ℕ) (least next k place node : ℕ)
-      → place + 1 ≡ k → slice_index order place ≡ node → IsUsefulAt g a l node new
+  pub useful_more : (P : ℕ → Type 0) (order useful new : List ℕ) (least next : Option ℕ)
+      (k place node : ℕ) → place + 1 ≡ k → slice_index order place ≡ node
+      → IsUsefulAt g a l node new
       → IsLeastSeen P (SeenFrom order g.size place) g.size next → UsefulFrom P order useful least k
       → UsefulFrom P order new next place
   useful_more P order useful new least next k place node is at U L H = record {
@@ -62,8 +64,9 @@ module _ (g : Graph) (a : Accesses) (l : Listed) where
     seen = L;
   }
 
-  pub useful_least : (P : ℕ → Type 0) (order useful : List ℕ) (least k : ℕ) → IsChainOrder g l order
-      → k ≡ 0 → UsefulFrom P order useful least k → IsLeastFailing P g.size least
+  pub useful_least : (P : ℕ → Type 0) (order useful : List ℕ) (least : Option ℕ) (k : ℕ)
+      → IsChainOrder g l order → k ≡ 0 → UsefulFrom P order useful least k
+      → IsLeastFailing P g.size least
   useful_least P order useful least k O zero_k H =
       finished P (SeenFrom order g.size k) g.size least (λ u lt. let p = O.every u lt in
       (p.0, omega (arith, zero_k), p.1, p.2)) H.seen

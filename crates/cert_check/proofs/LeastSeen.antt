@@ -1,15 +1,20 @@
 -- The least node at which a fact fails, found along an order of the nodes.
 use Rattle.std.proofs.Common.{◌≡◌, ◌≢◌, ◌↔◌, ℕ, ◌+◌, ◌<◌, ◌≤◌, min, Bool, true, false}
-use Rattle.std.proofs.Common.{if◌then◌else◌, IsTrue, refl, List, slice_index, sym, ap, ◌∙◌, subst}
-use Rattle.std.proofs.Common.{⊎_elim, arith}
+use Rattle.std.proofs.Common.{if◌then◌else◌, IsTrue, refl, List, Option, Some, None, slice_index}
+use Rattle.std.proofs.Common.{sym, ap, ◌∙◌, subst, ⊎_elim, arith}
 use Rattle.std.proofs.lemmas.Bool.{cases_eq, cases_lt, false≢true}
-use Rattle.cert_check.specs.Inner.JudgedNodes.{IsLeastFailing}
+use Rattle.cert_check.specs.Inner.JudgedNodes.{IsFirst, IsLeastFailing, lesser}
 
--- the least number of nodes seen at which the fact fails
-pub record IsLeastSeen (P : ℕ → Type 0) (seen : ℕ → Type 0) (size least : ℕ) : Type 0 where
-  pub within : least ≤ size
-  pub fails : least < size → P least → ⊥
+-- the least node seen at which the fact fails
+pub record IsFirstSeen (P : ℕ → Type 0) (seen : ℕ → Type 0) (size least : ℕ) : Type 0 where
+  pub within : least < size
+  pub fails : P least → ⊥
   pub holds : (u : ℕ) → seen u → u < least → P u
+
+-- that node; None where the fact holds at each node seen
+abbrev pub IsLeastSeen : (ℕ → Type 0) → (ℕ → Type 0) → ℕ → Option ℕ → Type 0
+IsLeastSeen P seen size None = (u : ℕ) → seen u → P u
+IsLeastSeen P seen size (Some least) = IsFirstSeen P seen size least
 
 -- among the first of an order
 abbrev pub SeenTo : List ℕ → ℕ → ℕ → Type 0
@@ -20,53 +25,73 @@ abbrev pub SeenFrom : List ℕ → ℕ → ℕ → ℕ → Type 0
 SeenFrom order size k u = (j : ℕ) × (k ≤ j) × (j < size) × (slice_index order j ≡ u)
 
 pub none_seen : (P : ℕ → Type 0) (seen : ℕ → Type 0) (size : ℕ) → ((u : ℕ) → seen u → ⊥)
-    → IsLeastSeen P seen size size
-none_seen P seen size none = record {
-  within = omega arith;
-  fails = λ lt. absurd (omega arith);
-  holds = λ u s. absurd (none u s);
-}
+    → IsLeastSeen P seen size None
+none_seen P seen size none = λ u s. absurd (none u s)
 
--- one node more, at or past the least, or where the fact holds
-pub passes : (P : ℕ → Type 0) (seen more : ℕ → Type 0) (size least x : ℕ)
-    → ((u : ℕ) → more u → u ≢ x → seen u) → (x < least → P x) → IsLeastSeen P seen size least
+-- one node more, at which the fact holds
+passes : (P : ℕ → Type 0) (seen more : ℕ → Type 0) (size : ℕ) (least : Option ℕ) (x : ℕ)
+    → ((u : ℕ) → more u → u ≢ x → seen u) → P x → IsLeastSeen P seen size least
     → IsLeastSeen P more size least
-passes P seen more size least x old here L = record {
+passes P seen more size None x old here L =
+    λ u s. ⊎_elim (λ (e : u ≡ x). subst P (sym e) here) (λ ne. L u (old u s ne)) (cases_eq u x)
+passes P seen more size (Some least) x old here L = record {
   within = L.within;
   fails = L.fails;
   holds = λ u s lt.
-      ⊎_elim (λ (e : u ≡ x). subst P (sym e) (here (subst (λ y. y < least) e lt)))
-      (λ ne. L.holds u (old u s ne) lt) (cases_eq u x);
+      ⊎_elim (λ (e : u ≡ x). subst P (sym e) here) (λ ne. L.holds u (old u s ne) lt) (cases_eq u x);
 }
 
--- one node more, below the least, at which it fails
-pub lowers : (P : ℕ → Type 0) (seen more : ℕ → Type 0) (size least x : ℕ)
-    → ((u : ℕ) → more u → u ≢ x → seen u) → x < least → (P x → ⊥) → IsLeastSeen P seen size least
-    → IsLeastSeen P more size x
+-- one node more at which it fails, below the least
+lowers : (P : ℕ → Type 0) (seen more : ℕ → Type 0) (size least x : ℕ)
+    → ((u : ℕ) → more u → u ≢ x → seen u) → x < least → (P x → ⊥) → IsFirstSeen P seen size least
+    → IsFirstSeen P more size x
 lowers P seen more size least x old below fails L = record {
   within = (let w = L.within in omega (arith, w, below));
-  fails = λ lt. fails;
+  fails = fails;
   holds = λ u s lt.
       L.holds u (old u s (λ e. absurd (omega (arith, lt, e)))) (omega (arith, lt, below));
 }
 
--- with the test of one node more
-pub lowest : (P : ℕ → Type 0) (seen more : ℕ → Type 0) (size least x : ℕ) (b : Bool)
-    → ((u : ℕ) → more u → u ≢ x → seen u) → IsTrue b ↔ P x → IsLeastSeen P seen size least
-    → IsLeastSeen P more size (if b then least else min least x)
-lowest P seen more size least x true old test L =
-    passes P seen more size least x old (λ lt. test.0 refl) L
-lowest P seen more size least x false old test L =
+-- and at or past the least
+stays : (P : ℕ → Type 0) (seen more : ℕ → Type 0) (size least x : ℕ)
+    → ((u : ℕ) → more u → u ≢ x → seen u) → least ≤ x → IsFirstSeen P seen size least
+    → IsFirstSeen P more size least
+stays P seen more size least x old le L = record {
+  within = L.within;
+  fails = L.fails;
+  holds = λ u s lt. L.holds u (old u s (λ e. absurd (omega (arith, lt, e, le)))) lt;
+}
+
+fails_there : (P : ℕ → Type 0) (seen more : ℕ → Type 0) (size : ℕ) (least : Option ℕ) (x : ℕ)
+    → x < size → ((u : ℕ) → more u → u ≢ x → seen u) → (P x → ⊥) → IsLeastSeen P seen size least
+    → IsFirstSeen P more size (lesser least x)
+fails_there P seen more size None x within old fails L = record {
+  within = within;
+  fails = fails;
+  holds = λ u s lt. L u (old u s (λ e. absurd (omega (arith, lt, e))));
+}
+fails_there P seen more size (Some least) x within old fails L =
     ⊎_elim
-    (λ (lt : x < least). subst (λ y. IsLeastSeen P more size y) (omega (arith, lt))
-    (lowers P seen more size least x old lt (λ p. false≢true (test.1 p)) L))
-    (λ le. subst (λ y. IsLeastSeen P more size y) (omega (arith, le))
-    (passes P seen more size least x old (λ lt. absurd (omega (arith, le, lt))) L))
+    (λ (lt : x < least). subst (λ y. IsFirstSeen P more size y) (omega (arith, lt))
+    (lowers P seen more size least x old lt fails L))
+    (λ le. subst (λ y. IsFirstSeen P more size y) (omega (arith, le))
+    (stays P seen more size least x old le L))
     (cases_lt x least)
 
-pub finished : (P : ℕ → Type 0) (seen : ℕ → Type 0) (size least : ℕ) → ((u : ℕ) → u < size → seen u)
-    → IsLeastSeen P seen size least → IsLeastFailing P size least
-finished P seen size least all L = record {
+-- with the test of one node more
+pub lowest : (P : ℕ → Type 0) (seen more : ℕ → Type 0) (size : ℕ) (least : Option ℕ) (x : ℕ)
+    (b : Bool) → x < size → ((u : ℕ) → more u → u ≢ x → seen u) → IsTrue b ↔ P x
+    → IsLeastSeen P seen size least
+    → IsLeastSeen P more size (if b then least else Some (lesser least x))
+lowest P seen more size least x true within old test L =
+    passes P seen more size least x old (test.0 refl) L
+lowest P seen more size least x false within old test L =
+    fails_there P seen more size least x within old (λ p. false≢true (test.1 p)) L
+
+pub finished : (P : ℕ → Type 0) (seen : ℕ → Type 0) (size : ℕ) (least : Option ℕ)
+    → ((u : ℕ) → u < size → seen u) → IsLeastSeen P seen size least → IsLeastFailing P size least
+finished P seen size None all L = λ u lt. L u (all u lt)
+finished P seen size (Some least) all L = record {
   within = L.within;
   fails = L.fails;
   holds = λ u lt. let w = L.within in L.holds u (all u (omega (arith, w, lt))) lt;

@@ -1,19 +1,19 @@
 -- Full useful sets kept as sets of cache sets.
-use Rattle.std.proofs.Common.{◌≡◌, ◌≢◌, ◌↔◌, ◌⊎◌, ℕ, ◌<◌, ◌≤◌, Bool, true, false, List, length}
-use Rattle.std.proofs.Common.{Some, None, IsTrue, IsFalse, max, refl, sym, ◌∙◌, subst, inl, inr}
+use Rattle.std.proofs.Common.{◌≡◌, ◌≢◌, ◌↔◌, ◌⊎◌, ℕ, ◌<◌, ◌≤◌, Bool, true, false, List, [], ◌∷◌, ◌++◌}
+use Rattle.std.proofs.Common.{Contains, IsTrue, IsFalse, max, refl, sym, ◌∙◌, subst, inl, inr}
 use Rattle.std.proofs.Common.{⊎_elim, arith, ne_eqb, eq-eqb, eqb-true}
-use Rattle.std.specs.Prelude.{slice_get, if◌then◌else◌, ◌==◌}
+use Rattle.std.specs.Prelude.{if◌then◌else◌, ◌==◌}
 use Rattle.std.proofs.lemmas.Bool.{cases_eq, both_ways}
-use Rattle.std.proofs.lemmas.Option.{same_Some, none-some}
+use Rattle.std.proofs.lemmas.List.Elements.{Contains-append_left, Contains-append_cases, Contains-push}
 use Rattle.crpd_base.proofs.Bits.{member_le_one}
+use Rattle.crpd_base.proofs.Elements.{in_none, in_one}
 use Rattle.crpd_base.specs.Sets.{member, has}
 use Rattle.icache.specs.Accesses.{Accesses}
 use Rattle.flat_graph.specs.Graph.{Graph, Edge}
 use Rattle.evict_sets.specs.Full.{Listed, FullUseful, listed_useful, used, used_later, IsHit}
 use Rattle.evict_sets.specs.CacheClauses.{UsefulMeets, SetsMeet}
 use Rattle.evict_sets.proofs.FullLaws.{unlisted_useful_law}
-use Rattle.cert_check.specs.Inner.JudgedNodes.{IsUsefulAt, IsUsefulBehind, IsUsefulBy}
-use Rattle.flat_graph.proofs.Nexts.{place_of, edge_at}
+use Rattle.cert_check.specs.Inner.JudgedNodes.{IsUsefulAt, IsUsefulBehind}
 
 -- membership as a number and as a test
 pub is_member : (words : List ℕ) (t : ℕ) → IsTrue (has words t) → member words t ≡ 1
@@ -95,34 +95,37 @@ module _ (g : Graph) (a : Accesses) (l : Listed) where
       later_of s (used y' s' o h own) ne = absurd (ne (sym own))
       later_of s (used_later y' v s' o e other later) ne = (v, e, later)
 
-  -- what is useful at the ends of both edges
-  pub behind_both : (y : ℕ) (one two new : List ℕ) → y < g.size → length (g.next y) ≤ 2
-      → IsUsefulBy g a l y 0 one → IsUsefulBy g a l y 1 two
-      → ((t : ℕ) → member new t ≡ max (member one t) (member two t)) → IsUsefulBehind g a l y new
-  behind_both y one two new lt few A B is s = (
-    λ b. ⊎_elim
-        (λ at. in_left one two new s (is s) ((A s).0 (b.0, at, b.2)))
-        (λ at. in_right one two new s (is s) ((B s).0 (b.0, at, b.2)))
-        (place_of g y b.0 few b.1),
-    λ h. ⊎_elim
-        (λ (x : IsTrue (has one s)). let r = (A s).1 x in (r.0, edge_at g y 0 r.0 lt r.1, r.2))
-        (λ (x : IsTrue (has two s)). let r = (B s).1 x in (r.0, edge_at g y 1 r.0 lt r.1, r.2))
-        (in_either one two new s (is s) h),
-  )
+  -- the words are what is useful at one of some nodes
+  abbrev pub IsUsefulAtSome : List ℕ → List ℕ → Type 0
+  IsUsefulAtSome vs words =
+      (s : ℕ) → ((v : ℕ) × Contains vs v × FullUseful g a l v s) ↔ IsTrue (has words s)
 
-  -- at the end of one
-  pub nothing_by : (y k : ℕ) (words : List ℕ) → slice_get (g.next y) k ≡ None
-      → ((t : ℕ) → member words t ≡ 0) → IsUsefulBy g a l y k words
-  nothing_by y k words none zero s = (
-    λ b. absurd (none-some b.0 (sym none ∙ b.1)),
+  pub none_useful : (words : List ℕ) → ((t : ℕ) → member words t ≡ 0) → IsUsefulAtSome [] words
+  none_useful words zero s = (
+    λ b. absurd (in_none b.0 b.1),
     λ h. absurd (let one = is_member words s h in let z = zero s in omega (arith, one, z)),
   )
 
-  pub something_by : (y k v : ℕ) (words : List ℕ) → slice_get (g.next y) k ≡ Some v
-      → IsUsefulAt g a l v words → IsUsefulBy g a l y k words
-  something_by y k v words at U s = (
-    λ b. (U s).0 (subst (λ x. FullUseful g a l x s) (same_Some b.0 v (sym b.1 ∙ at)) b.2),
-    λ h. (v, at, (U s).1 h),
+  pub more_useful : (vs : List ℕ) (v : ℕ) (old one new : List ℕ) → IsUsefulAtSome vs old
+      → IsUsefulAt g a l v one → ((t : ℕ) → member new t ≡ max (member old t) (member one t))
+      → IsUsefulAtSome (vs ++ v ∷ []) new
+  more_useful vs v old one new A B is s = (
+    λ b. ⊎_elim (λ c. in_left old one new s (is s) ((A s).0 (b.0, c, b.2)))
+        (λ c. in_right old one new s (is s)
+        ((B s).0 (subst (λ x. FullUseful g a l x s) (sym (in_one b.0 v c)) b.2)))
+        (Contains-append_cases vs (v ∷ []) b.0 b.1),
+    λ h. ⊎_elim
+        (λ (x : IsTrue (has old s)).
+        let r = (A s).1 x in (r.0, Contains-append_left vs (v ∷ []) r.0 r.1, r.2))
+        (λ (x : IsTrue (has one s)). (v, Contains-push vs v, (B s).1 x))
+        (in_either old one new s (is s) h),
+  )
+
+  pub all_useful : (y : ℕ) (words : List ℕ) → y < g.size → IsUsefulAtSome (g.next y) words
+      → IsUsefulBehind g a l y words
+  all_useful y words lt A s = (
+    λ b. (A s).0 (b.0, b.1.1, b.2),
+    λ h. let r = (A s).1 h in (r.0, (lt, r.1), r.2),
   )
 
   -- a listed node's useful set

@@ -1,5 +1,6 @@
 -- The task graphs that kept graphs and regions are seen as, and the ranges of a certificate.
 use Rattle.std.specs.Prelude.{◌≡◌, ℕ, ◌<◌, ◌≤◌, ◌^◌, List, [], length, All, slice_index_or}
+use Rattle.crpd_base.specs.Limits.{longest_time}
 use Rattle.crpd_base.specs.declared.data.TaskSet.{TaskSet}
 use Rattle.crpd_base.specs.declared.data.TaskPart.{TaskPart}
 use Rattle.crpd_base.specs.declared.data.Certificate.{Certificate}
@@ -37,4 +38,4 @@ pub record AreTaskGraphs (set : TaskSet) (graphs : List CodeGraph)
 -- the cache sets of the listed states are below 512, and the windows are at most 2^40
 pub record IsCertificateInRange (c : Certificate) : Type 0 where
   pub sets : All HasLowSets c.tasks
-  pub windows : All (λ (t : TaskPart). t.window ≤ 2 ^ 40) c.tasks
+  pub windows : All (λ (t : TaskPart). t.window ≤ longest_time) c.tasks

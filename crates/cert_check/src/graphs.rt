@@ -62,17 +62,13 @@ fn state_failure(listing: &Listing<'_>, order: &[u32], hits: &[bool]) -> Result<
         (GraphHolds listing.now.platform.now (task_graph listing.now.graph.now nest)
         listing.now.part.now) 3 5 result }
 {
-    let size = listing.graph.len();
-    let node = judge_states(listing, order);
-    if node < size {
+    if let Some(node) = judge_states(listing, order) {
         return Err(Clause::States(node));
     }
-    let node = judge_useful(listing, order, hits);
-    if node < size {
+    if let Some(node) = judge_useful(listing, order, hits) {
         return Err(Clause::UsefulSets(node));
     }
-    let node = judge_sets(listing, order, hits);
-    if node < size {
+    if let Some(node) = judge_sets(listing, order, hits) {
         return Err(Clause::TaskSets(node));
     }
     Ok(())
@@ -133,8 +129,7 @@ impl Paid<'_> {
             (GraphHolds self.now.platform.now (task_graph self.now.graph.now self.now.nest.now)
             self.now.part.now) 6 7 result }
     {
-        let node = self.judge_potentials();
-        if node < self.graph.len() {
+        if let Some(node) = self.judge_potentials() {
             return Err(Clause::Inequalities(node));
         }
         if !self.bound_holds() {

@@ -40,7 +40,7 @@ fn task_failure(
     growth_law();
     times_law(set);
     name_failure(set, certificate, i)?;
-    let part = &certificate.tasks.as_slice()[i];
+    let part = &certificate.tasks[i];
     let (graph, nest) = (&graphs[i], &nests[i]);
     graph_failure(&set.platform, graph, nest, part)?;
     time_failure(set, certificate, longest, i)
@@ -84,7 +84,7 @@ pub fn verdict(
 {
     let mut longest = [0; MOST_TASKS];
     write_longest(set, graphs, &mut longest);
-    for i in 0..set.tasks.as_slice().len() {
+    for i in 0..set.tasks.len() {
         if let Err(clause) = task_failure(set, graphs, nests, certificate, &longest, i) {
             return Verdict::No {
                 task: Task(i as u8),

@@ -1,11 +1,26 @@
 // The least node at which a clause fails.
-ghost use Rattle.std.specs.Prelude.{◌≡◌, ◌↔◌, ◌≤◌, min, if◌then◌else◌, IsTrue};
+ghost use Rattle.std.specs.Prelude.{◌≡◌, ◌↔◌, ◌≤◌, Some, if◌then◌else◌, IsTrue};
+ghost use Rattle.cert_check.specs.Inner.JudgedNodes.{lesser as lesser_of};
 
-/// The least node so far, with one node more, at which the clause holds or not.
-pub(crate) fn least_failing(least: u32, node: u32, holds: bool) -> u32
-    ensures { result ≡ (if holds then least else min least node) }
+/// The lesser of a node and another one that is known.
+fn lesser(least: Option<u32>, node: u32) -> u32
+    ensures { result ≡ lesser_of least node }
 {
-    if holds { least } else { least.min(node) }
+    match least {
+        Some(least) => least.min(node),
+        None => node,
+    }
+}
+
+/// The least node so far at which a clause fails, with one node more, at which it holds or not.
+pub(crate) fn least_failing(least: Option<u32>, node: u32, holds: bool) -> Option<u32>
+    ensures { result ≡ (if holds then least else Some (lesser_of least node)) }
+{
+    if holds {
+        least
+    } else {
+        Some(lesser(least, node))
+    }
 }
 
 /// Whether a number is at most another.

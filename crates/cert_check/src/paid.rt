@@ -1,6 +1,5 @@
 // Clauses 6 and 7: the potentials.
-ghost use Rattle.std.specs.Prelude.{◌≡◌, ◌↔◌, ◌<◌, ◌≤◌, ◌+◌, ◌*◌, ℕ, Some, slice_get, IsTrue};
-ghost use Rattle.flat_graph.specs.Graph.{Edge};
+ghost use Rattle.std.specs.Prelude.{◌≡◌, ◌↔◌, ◌<◌, ◌≤◌, ◌+◌, ◌*◌, ◌^◌, ℕ, All, IsTrue};
 ghost use Rattle.flat_graph.specs.CodeGraph.{graph_of};
 ghost use Rattle.loop_regions.specs.CodeNest.{nest_of};
 ghost use Rattle.loop_regions.specs.Nest.{Item, IsItem, Leaves};
@@ -12,7 +11,7 @@ ghost use Rattle.cert_check.specs.Inner.JudgedPotentials.{HasAllPotentials, cost
 
 use crate::least::at_most;
 use crpd_base::{NodeId, Platform, TaskPart};
-use evict_sets::{edge_cost, end_cost, successor};
+use evict_sets::{edge_cost, end_cost};
 use flat_graph::Graph;
 use loop_regions::{Nest, Way};
 
@@ -34,9 +33,9 @@ impl Paid<'_> {
             self.now.hits.now }
         requires node { node.0 < (graph_of self.now.graph.now).size }
         ensures is { result ≡ (potentials_of self.now.part.now).node node.0 }
-        ensures small { result < 18446744073709551616 }
+        ensures small { result < 2 ^ 64 }
     {
-        u128::from(self.part.potentials.as_slice()[node.0 as usize])
+        u128::from(self.part.potentials[node.0 as usize])
     }
 
     /// The potential of a region.
@@ -45,9 +44,9 @@ impl Paid<'_> {
             self.now.hits.now }
         requires region { region < (nest_of self.now.nest.now).size }
         ensures is { result ≡ (potentials_of self.now.part.now).loop region }
-        ensures small { result < 18446744073709551616 }
+        ensures small { result < 2 ^ 64 }
     {
-        u128::from(self.part.loops.as_slice()[region as usize])
+        u128::from(self.part.loops[region as usize])
     }
 
     /// The potential of a node's item: of the region that it heads, or its own.
@@ -57,7 +56,7 @@ impl Paid<'_> {
         requires node { node.0 < (graph_of self.now.graph.now).size }
         ensures is { (i : Item) → IsItem (nest_of self.now.nest.now) node.0 i
             → result ≡ item_potential (potentials_of self.now.part.now) i }
-        ensures small { result < 18446744073709551616 }
+        ensures small { result < 2 ^ 64 }
     {
         match self.nest.headed_by(self.graph, node) {
             Some(region) => self.at_region(region),
@@ -73,7 +72,7 @@ impl Paid<'_> {
         ensures is { result ≡ (nest_of self.now.nest.now).bound
             region * (potentials_of self.now.part.now).node
             ((nest_of self.now.nest.now).head region) }
-        ensures small { result < 4294967296 * 18446744073709551616 }
+        ensures small { result < 2 ^ 96 }
     {
         u128::from(self.nest.bound(region)) * self.at_node(self.nest.head(region))
     }
@@ -125,7 +124,7 @@ impl Paid<'_> {
         ensures is { result
             ≡ (costs_at self.now.platform.now self.now.graph.now (counted self.now.hits.now)).edge
             source.0 target.0 }
-        ensures small { result < 18446744073709551616 }
+        ensures small { result < 2 ^ 64 }
     {
         let hit = self.hits[source.0 as usize];
         u128::from(edge_cost(self.graph, self.platform, source, target, hit))
@@ -214,39 +213,19 @@ impl Paid<'_> {
         }
     }
 
-    /// Whether the first (0) or second (1) edge of a node is paid for, where there is one.
-    fn place_pays(&self, node: NodeId, k: u8) -> bool
-        requires paid { HasAllPotentials self.now.graph.now self.now.nest.now self.now.part.now
-            self.now.hits.now }
-        requires node { node.0 < (graph_of self.now.graph.now).size }
-        requires place { k < 2 }
-        ensures { IsTrue result
-            ↔ ((v : ℕ) → slice_get ((graph_of self.now.graph.now).next node.0) k ≡ Some v
-            → EdgePaid (nest_of self.now.nest.now)
-            (costs_at self.now.platform.now self.now.graph.now (counted self.now.hits.now))
-            (potentials_of self.now.part.now) node.0 v) }
-    {
-        match successor(self.graph, node, k) {
-            Some(next) => self.edge_pays(node, next),
-            None => true,
-        }
-    }
-
     /// Whether all edges of a node are paid for.
     fn edges_pay(&self, node: NodeId) -> bool
         requires paid { HasAllPotentials self.now.graph.now self.now.nest.now self.now.part.now
             self.now.hits.now }
         requires node { node.0 < (graph_of self.now.graph.now).size }
-        ensures { IsTrue result ↔ ((v : ℕ) → Edge (graph_of self.now.graph.now) node.0 v
-            → EdgePaid (nest_of self.now.nest.now)
+        ensures { IsTrue result ↔ All
+            (EdgePaid (nest_of self.now.nest.now)
             (costs_at self.now.platform.now self.now.graph.now (counted self.now.hits.now))
-            (potentials_of self.now.part.now) node.0 v) }
+            (potentials_of self.now.part.now) node.0) ((graph_of self.now.graph.now).next node.0) }
     {
-        self.graph.graph_law();
-        if !self.place_pays(node, 0) {
-            return false;
-        }
-        self.place_pays(node, 1)
+        self.graph
+            .successors(node)
+            .all(|next| self.edge_pays(node, next))
     }
 
     /// Whether the region that a node heads, if any, pays for its iterations.
@@ -281,9 +260,9 @@ impl Paid<'_> {
         self.head_pays(node)
     }
 
-    /// The least node at which clause 6 fails, the number of nodes where there is none. Its time is
-    /// that of the nodes, and of each edge with the regions that it leaves.
-    pub(crate) fn judge_potentials(&self) -> u32
+    /// The least node at which clause 6 fails. Its time is that of the nodes, and of each edge with
+    /// the regions that it leaves.
+    pub(crate) fn judge_potentials(&self) -> Option<u32>
         requires paid { HasAllPotentials self.now.graph.now self.now.nest.now self.now.part.now
             self.now.hits.now }
         ensures { IsLeastFailing
@@ -293,10 +272,10 @@ impl Paid<'_> {
     {
         for node in 0..self.graph.len() {
             if !self.node_pays(NodeId(node)) {
-                return node;
+                return Some(node);
             }
         }
-        self.graph.len()
+        None
     }
 
     /// Whether clause 7 holds: the bound is at least the potential of the first node's item.

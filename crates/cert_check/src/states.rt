@@ -1,17 +1,16 @@
 // Clause 3: the states.
-ghost use Rattle.std.specs.Prelude.{◌≡◌, ◌↔◌, ◌<◌, ◌≤◌, ℕ, Some, length, slice_set, slice_get};
-ghost use Rattle.std.specs.Prelude.{slice_index_or, false, IsTrue, IsFalse, All};
-ghost use Rattle.icache.specs.Cache.{held};
+ghost use Rattle.std.specs.Prelude.{◌≡◌, ◌↔◌, ◌<◌, ◌≤◌, ℕ, length, IsTrue, All};
+ghost use Rattle.flat_graph.specs.Graph.{Edge};
 ghost use Rattle.flat_graph.specs.CodeGraph.{graph_of};
 ghost use Rattle.evict_sets.specs.Full.{FullState};
-ghost use Rattle.evict_sets.specs.CacheClauses.{StateAfter, StatesMeet};
-ghost use Rattle.evict_sets.specs.ListedPart.{block_of_set, listed_of};
+ghost use Rattle.evict_sets.specs.CacheClauses.{StatesMeet};
+ghost use Rattle.evict_sets.specs.ListedPart.{listed_of};
 ghost use Rattle.evict_sets.specs.Listing.{IsListing, IsChainOrder, IsStateAfter, node_accesses};
-ghost use Rattle.cert_check.specs.Inner.JudgedNodes.{IsLeastFailing};
+ghost use Rattle.cert_check.specs.Inner.JudgedNodes.{EdgeStateMeets, IsLeastFailing};
 
 use crate::least::least_failing;
 use crpd_base::{NodeId, SETS};
-use evict_sets::{Listing, are_held, successor};
+use evict_sets::{Listing, are_held};
 
 /// Whether the state of a node is empty, where it is the first.
 fn starts_empty(listing: &Listing<'_>, node: NodeId) -> bool
@@ -27,38 +26,54 @@ fn starts_empty(listing: &Listing<'_>, node: NodeId) -> bool
         return true;
     }
     match listing.entry(node) {
-        Some(entry) => entry.sure.as_slice().is_empty(),
+        Some(entry) => entry.sure.is_empty(),
         None => true,
     }
 }
 
-/// Whether the state at the end of the first (0) or second (1) edge of a node has nothing that the
-/// state after the node lacks.
-fn edge_state_holds(listing: &Listing<'_>, node: NodeId, k: u8, after: &[Option<u32>]) -> bool
+/// Whether the state at a successor of a node has nothing that the state after the node lacks.
+fn edge_state_holds(
+    listing: &Listing<'_>,
+    node: NodeId,
+    next: NodeId,
+    after: &[Option<u32>],
+) -> bool
     requires case { IsListing listing.now.platform.now listing.now.graph.now listing.now.part.now
         listing.now.places.now }
-    requires node { node.0 < (graph_of listing.now.graph.now).size }
-    requires place { k < 2 }
+    requires edge { Edge (graph_of listing.now.graph.now) node.0 next.0 }
+    requires next { next.0 < (graph_of listing.now.graph.now).size }
     requires room { length after.now ≡ 512 }
     requires after { IsStateAfter (graph_of listing.now.graph.now)
         (node_accesses listing.now.platform.now listing.now.graph.now)
         (listed_of listing.now.part.now) node.0 after.now }
-    ensures { IsTrue result
-        ↔ ((v s m : ℕ) → slice_get ((graph_of listing.now.graph.now).next node.0) k ≡ Some v
-        → FullState (graph_of listing.now.graph.now)
+    ensures { IsTrue result ↔ EdgeStateMeets (graph_of listing.now.graph.now)
         (node_accesses listing.now.platform.now listing.now.graph.now)
-        (listed_of listing.now.part.now) v s m
-        → StateAfter (graph_of listing.now.graph.now)
-        (node_accesses listing.now.platform.now listing.now.graph.now)
-        (listed_of listing.now.part.now) node.0 s m) }
+        (listed_of listing.now.part.now) node.0 next.0 }
 {
-    let Some(next) = successor(listing.graph, node, k) else {
-        return true;
-    };
     match listing.entry(next) {
         Some(entry) => are_held(after, entry.sure.as_slice()),
         None => true,
     }
+}
+
+/// The same at all successors of a node.
+fn edge_states_hold(listing: &Listing<'_>, node: NodeId, after: &[Option<u32>]) -> bool
+    requires case { IsListing listing.now.platform.now listing.now.graph.now listing.now.part.now
+        listing.now.places.now }
+    requires node { node.0 < (graph_of listing.now.graph.now).size }
+    requires room { length after.now ≡ 512 }
+    requires after { IsStateAfter (graph_of listing.now.graph.now)
+        (node_accesses listing.now.platform.now listing.now.graph.now)
+        (listed_of listing.now.part.now) node.0 after.now }
+    ensures { IsTrue result ↔ All
+        (EdgeStateMeets (graph_of listing.now.graph.now)
+        (node_accesses listing.now.platform.now listing.now.graph.now)
+        (listed_of listing.now.part.now) node.0) ((graph_of listing.now.graph.now).next node.0) }
+{
+    listing
+        .graph
+        .successors(node)
+        .all(|next| edge_state_holds(listing, node, next, after))
 }
 
 /// Whether clause 3 holds at a node, by the state after it.
@@ -74,16 +89,15 @@ fn state_holds(listing: &Listing<'_>, node: NodeId, after: &[Option<u32>]) -> bo
         (node_accesses listing.now.platform.now listing.now.graph.now)
         (listed_of listing.now.part.now) node.0 }
 {
-    listing.graph.graph_law();
-    starts_empty(listing, node)
-        && edge_state_holds(listing, node, 0, after)
-        && edge_state_holds(listing, node, 1, after)
+    if !starts_empty(listing, node) {
+        return false;
+    }
+    edge_states_hold(listing, node, after)
 }
 
-/// The least node at which clause 3 fails, the number of nodes where there is none. Its time is
-/// that of the nodes and the listed states, and of each edge with the listed state that it leads
-/// to.
-pub(crate) fn judge_states(listing: &Listing<'_>, order: &[u32]) -> u32
+/// The least node at which clause 3 fails. Its time is that of the nodes and the listed states, and
+/// of each edge with the listed state that it leads to.
+pub(crate) fn judge_states(listing: &Listing<'_>, order: &[u32]) -> Option<u32>
     requires case { IsListing listing.now.platform.now listing.now.graph.now listing.now.part.now
         listing.now.places.now }
     requires order { IsChainOrder (graph_of listing.now.graph.now)
@@ -94,7 +108,7 @@ pub(crate) fn judge_states(listing: &Listing<'_>, order: &[u32]) -> u32
         (listed_of listing.now.part.now)) (graph_of listing.now.graph.now).size result }
 {
     let mut blocks = [None; SETS];
-    let mut least = listing.graph.len();
+    let mut least = None;
     for k in 0..order.len() {
         let node = NodeId(order[k]);
         listing.enter(&mut blocks, node);

@@ -127,8 +127,8 @@ pub(crate) fn time_failure(
     ensures { IsRangeJudged (TimesHold set.now (slice_index longest.now) certificate.now i)
         8 9 result }
 {
-    let task = &set.tasks.as_slice()[i];
-    let part = &certificate.tasks.as_slice()[i];
+    let task = &set.tasks[i];
+    let part = &certificate.tasks[i];
     if !has_room(set, certificate, longest, i) {
         return Err(Clause::Window);
     }

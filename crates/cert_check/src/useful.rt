@@ -15,10 +15,41 @@ ghost use Rattle.cert_check.specs.Inner.JudgedNodes.{IsLeastFailing};
 use crate::changed::{covers, with_member};
 use crate::least::least_failing;
 use crpd_base::{NodeId, SetBits, WORDS};
-use evict_sets::{Listing, successor};
+use evict_sets::Listing;
 
 /// What is useful at a successor of a node, from what is useful at the node behind it in the order.
-fn useful_behind(listing: &Listing<'_>, node: NodeId, follower: &SetBits<WORDS>) -> SetBits<WORDS>
+fn useful_next(
+    listing: &Listing<'_>,
+    node: NodeId,
+    next: NodeId,
+    follower: &SetBits<WORDS>,
+) -> SetBits<WORDS>
+    requires case { IsListing listing.now.platform.now listing.now.graph.now listing.now.part.now
+        listing.now.places.now }
+    requires edge { Edge (graph_of listing.now.graph.now) node.0 next.0 }
+    requires next { next.0 < (graph_of listing.now.graph.now).size }
+    requires follower { (v : ℕ) → Edge (graph_of listing.now.graph.now) node.0 v
+        → IsFalse ((listed_of listing.now.part.now).is_listed v)
+        → IsUsefulAt (graph_of listing.now.graph.now)
+        (node_accesses listing.now.platform.now listing.now.graph.now)
+        (listed_of listing.now.part.now) v follower.now }
+    ensures { IsUsefulAt (graph_of listing.now.graph.now)
+        (node_accesses listing.now.platform.now listing.now.graph.now)
+        (listed_of listing.now.part.now) next.0 result }
+{
+    match listing.entry(next) {
+        Some(entry) => entry.useful,
+        None => *follower,
+    }
+}
+
+/// What is useful at the successors of a node, from what is useful at the node behind it in the
+/// order.
+fn useful_behind(
+    listing: &Listing<'_>,
+    node: NodeId,
+    follower: &SetBits<WORDS>,
+) -> SetBits<WORDS>
     requires case { IsListing listing.now.platform.now listing.now.graph.now listing.now.part.now
         listing.now.places.now }
     requires node { node.0 < (graph_of listing.now.graph.now).size }
@@ -31,40 +62,11 @@ fn useful_behind(listing: &Listing<'_>, node: NodeId, follower: &SetBits<WORDS>)
         (node_accesses listing.now.platform.now listing.now.graph.now)
         (listed_of listing.now.part.now) node.0 result }
 {
-    listing.graph.graph_law();
-    let mut sets = useful_by(listing, node, 0, follower);
-    sets.union(&useful_by(listing, node, 1, follower));
-    sets
-}
-
-/// What is useful at the end of the first (0) or second (1) edge of a node; nothing where there is
-/// no such edge.
-fn useful_by(
-    listing: &Listing<'_>,
-    node: NodeId,
-    k: u8,
-    follower: &SetBits<WORDS>,
-) -> SetBits<WORDS>
-    requires case { IsListing listing.now.platform.now listing.now.graph.now listing.now.part.now
-        listing.now.places.now }
-    requires node { node.0 < (graph_of listing.now.graph.now).size }
-    requires place { k < 2 }
-    requires follower { (v : ℕ) → Edge (graph_of listing.now.graph.now) node.0 v
-        → IsFalse ((listed_of listing.now.part.now).is_listed v)
-        → IsUsefulAt (graph_of listing.now.graph.now)
-        (node_accesses listing.now.platform.now listing.now.graph.now)
-        (listed_of listing.now.part.now) v follower.now }
-    ensures { IsUsefulBy (graph_of listing.now.graph.now)
-        (node_accesses listing.now.platform.now listing.now.graph.now)
-        (listed_of listing.now.part.now) node.0 k result }
-{
-    let Some(next) = successor(listing.graph, node, k) else {
-        return SetBits::new();
-    };
-    match listing.entry(next) {
-        Some(entry) => entry.useful,
-        None => *follower,
+    let mut sets = SetBits::new();
+    for next in listing.graph.successors(node) {
+        sets.union(&useful_next(listing, node, next, follower));
     }
+    sets
 }
 
 /// The full useful set of a node.
@@ -138,9 +140,8 @@ fn sets_hold(listing: &Listing<'_>, node: NodeId, useful: &SetBits<WORDS>) -> bo
     part.evicting.has(listing.cache_set(node)) && covers(&part.useful, useful)
 }
 
-/// The least node at which clause 4 fails, the number of nodes where there is none. Linear in the
-/// nodes and edges.
-pub(crate) fn judge_useful(listing: &Listing<'_>, order: &[u32], hits: &[bool]) -> u32
+/// The least node at which clause 4 fails. Linear in the nodes and edges.
+pub(crate) fn judge_useful(listing: &Listing<'_>, order: &[u32], hits: &[bool]) -> Option<u32>
     requires case { IsListing listing.now.platform.now listing.now.graph.now listing.now.part.now
         listing.now.places.now }
     requires order { IsChainOrder (graph_of listing.now.graph.now)
@@ -154,7 +155,7 @@ pub(crate) fn judge_useful(listing: &Listing<'_>, order: &[u32], hits: &[bool]) 
         (node_accesses listing.now.platform.now listing.now.graph.now)
         (listed_of listing.now.part.now)) (graph_of listing.now.graph.now).size result }
 {
-    let mut least = listing.graph.len();
+    let mut least = None;
     let mut useful = SetBits::new();
     for done in 0..order.len() {
         let node = NodeId(order[order.len() - 1 - done]);
@@ -166,9 +167,8 @@ pub(crate) fn judge_useful(listing: &Listing<'_>, order: &[u32], hits: &[bool]) 
     least
 }
 
-/// The least node at which clause 5 fails, the number of nodes where there is none. Linear in the
-/// nodes and edges.
-pub(crate) fn judge_sets(listing: &Listing<'_>, order: &[u32], hits: &[bool]) -> u32
+/// The least node at which clause 5 fails. Linear in the nodes and edges.
+pub(crate) fn judge_sets(listing: &Listing<'_>, order: &[u32], hits: &[bool]) -> Option<u32>
     requires case { IsListing listing.now.platform.now listing.now.graph.now listing.now.part.now
         listing.now.places.now }
     requires order { IsChainOrder (graph_of listing.now.graph.now)
@@ -183,7 +183,7 @@ pub(crate) fn judge_sets(listing: &Listing<'_>, order: &[u32], hits: &[bool]) ->
         (listed_of listing.now.part.now) (has listing.now.part.now.part.evicting)
         (has listing.now.part.now.part.useful)) (graph_of listing.now.graph.now).size result }
 {
-    let mut least = listing.graph.len();
+    let mut least = None;
     let mut useful = SetBits::new();
     for done in 0..order.len() {
         let node = NodeId(order[order.len() - 1 - done]);

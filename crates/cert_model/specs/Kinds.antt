@@ -5,6 +5,7 @@ use Rattle.std.specs.Prelude.{◌&&◌, ◌==◌, nat_le, nat_lt, Option, Some, 
 use Rattle.std.specs.Prelude.{option_and_then, if◌then◌else◌}
 use Rattle.std.specs.List.{list_all, list_any}
 use Rattle.std.specs.Str.{bytes_eq}
+use Rattle.crpd_base.specs.Limits.{longest_time}
 use Rattle.serde_json.specs.Data.{Data, Items, no_items, item, Members}
 use Rattle.serde_json.specs.Find.{as_number, as_u64, as_str, as_array, as_object}
 use Rattle.crpd_base.specs.Names.{is_between, is_line_length, is_name}
@@ -65,7 +66,7 @@ listed kind d = as_array d >>= all_of kind
 
 -- at most so many potentials, each at most 2^40
 unfoldable pub potentials : ℕ → Data → Option (List ℕ)
-potentials most d = only (λ xs. nat_le (length xs) most) (listed (whole 0 (2 ^ 40)) d)
+potentials most d = only (λ xs. nat_le (length xs) most) (listed (whole 0 longest_time) d)
 
 -- 1 to so many objects
 unfoldable pub objects : ℕ → Data → Option (List Members)

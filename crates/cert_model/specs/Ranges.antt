@@ -1,6 +1,7 @@
 -- The ranges of a certificate: those that a certificate which was read keeps, and within which one
 -- that is written reads back.
 use Rattle.std.specs.Prelude.{◌≡◌, ℕ, ◌+◌, ◌<◌, ◌≤◌, ◌^◌, List, [], ◌∷◌, length, All, true}
+use Rattle.crpd_base.specs.Limits.{most_sets, most_tasks, most_nodes, longest_time, most_entries}
 use Rattle.crpd_base.specs.Ranges.{IsPlatform}
 use Rattle.crpd_base.specs.declared.data.Certificate.{Certificate}
 use Rattle.crpd_base.specs.declared.data.NodeState.{NodeState}
@@ -16,17 +17,17 @@ RiseFrom number low limit (x ∷ xs) =
 
 -- the sure pairs of a node: the sets rise, and the blocks have 32 bits
 pub record IsState (s : NodeState) : Type 0 where
-  pub sets : RiseFrom (λ (p : ℕ × ℕ). p.0) 0 512 s.sure
+  pub sets : RiseFrom (λ (p : ℕ × ℕ). p.0) 0 most_sets s.sure
   pub blocks : All (λ (p : ℕ × ℕ). p.1 < 2 ^ 32) s.sure
 
 -- a node with at most 512 sure pairs
 pub record HasFewPairs (s : NodeState) : Type 0 where
-  pub few : length s.sure ≤ 512
+  pub few : length s.sure ≤ most_sets
 
 -- at most 16,384 potentials, each at most 2^40
 pub record ArePotentials (numbers : List ℕ) : Type 0 where
-  pub few : length numbers ≤ 16384
-  pub each : All (λ n. n ≤ 2 ^ 40) numbers
+  pub few : length numbers ≤ most_nodes
+  pub each : All (λ n. n ≤ longest_time) numbers
 
 -- a task: its nodes rise
 pub record IsTaskPart (t : TaskPart) : Type 0 where
@@ -35,18 +36,18 @@ pub record IsTaskPart (t : TaskPart) : Type 0 where
   pub name : is_name t.name ≡ true
   pub potentials : ArePotentials t.potentials
   pub response : t.response ≤ 2 ^ 41
-  pub nodes : RiseFrom (λ (s : NodeState). s.node) 0 16384 t.states
+  pub nodes : RiseFrom (λ (s : NodeState). s.node) 0 most_nodes t.states
   pub states : All IsState t.states
-  pub window : t.window ≤ 2 ^ 40
+  pub window : t.window ≤ longest_time
 
 -- 1 to 32 tasks
 pub record AreTasks (tasks : List TaskPart) : Type 0 where
   pub some : 1 ≤ length tasks
-  pub few : length tasks ≤ 32
+  pub few : length tasks ≤ most_tasks
   pub each : All IsTaskPart tasks
 
 -- at most 4,000,000 state entries
 pub record IsCertificate (c : Certificate) : Type 0 where
   pub platform : IsPlatform c.platform
   pub tasks : AreTasks c.tasks
-  pub entries : entries c.tasks ≤ 4000000
+  pub entries : entries c.tasks ≤ most_entries

@@ -3,6 +3,7 @@
 use Rattle.std.specs.Prelude.{ℕ, ◌+◌, ◌^◌, List, [], length, codes, ◌==◌, Option, Some, None}
 use Rattle.std.specs.Prelude.{nat_lt, Result, Ok, Err, if◌then◌else◌, sum_by}
 use Rattle.std.specs.Str.{is_utf8}
+use Rattle.crpd_base.specs.Limits.{most_cost, longest_time, most_entries}
 use Rattle.crpd_base.specs.Sets.{members_below}
 use Rattle.crpd_base.specs.declared.data.Certificate.{Certificate}
 use Rattle.crpd_base.specs.declared.data.NodeState.{NodeState}
@@ -53,13 +54,13 @@ version_at ms = do
 
 -- a number of cycles
 abbrev pub cycles : Data → Option ℕ
-cycles = whole 0 65535
+cycles = whole 0 most_cost
 
 -- version 1: no cycles for multiplication and division, and a switch at each cycle
 unfoldable pub first_platform : List ℕ → Members → Result Platform CertError
 first_platform path ms = do
   memory ← required cycles path (codes "data") ms
-  hit ← required (whole 1 65535) path (codes "hit") ms
+  hit ← required (whole 1 most_cost) path (codes "hit") ms
   line ← required kind.line_bytes path (codes "line") ms
   miss ← required cycles path (codes "miss") ms
   sets ← required (whole 1 256) path (codes "sets") ms
@@ -82,7 +83,7 @@ unfoldable pub second_platform : List ℕ → Members → Result Platform CertEr
 second_platform path ms = do
   memory ← required cycles path (codes "data") ms
   div ← required cycles path (codes "div") ms
-  hit ← required (whole 1 65535) path (codes "hit") ms
+  hit ← required (whole 1 most_cost) path (codes "hit") ms
   line ← required kind.line_bytes path (codes "line") ms
   miss ← required cycles path (codes "miss") ms
   mul ← required cycles path (codes "mul") ms
@@ -120,7 +121,7 @@ fields_at version path ms = do
   response ← required (whole 0 (2 ^ 41)) path (codes "response") ms
   states ← required (kind.states (most_sets version) (most_nodes version)) path (codes "states") ms
   useful ← required (kind.set_numbers (most_sets version)) path (codes "useful") ms
-  window ← required (whole 0 (2 ^ 40)) path (codes "window") ms
+  window ← required (whole 0 longest_time) path (codes "window") ms
   Ok (record {
     name = name;
     part = record { bound = bound; evicting = evicting; useful = useful };
@@ -155,7 +156,7 @@ entries tasks = sum_by task_entries tasks
 
 unfoldable pub within_entry_limit : Certificate → Result Certificate CertError
 within_entry_limit c =
-    if nat_lt 4000000 (entries c.tasks) then Err (TooLong (entries c.tasks)) else Ok c
+    if nat_lt most_entries (entries c.tasks) then Err (TooLong (entries c.tasks)) else Ok c
 
 unfoldable pub tasks_at : Version → Members → Result (List TaskPart) CertError
 tasks_at version ms = do

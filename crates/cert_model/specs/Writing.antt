@@ -1,6 +1,7 @@
 -- The text of a certificate: version 2, on one line without spaces, with the keys of each object in
 -- byte order.
 use Rattle.std.specs.Prelude.{ℕ, zero, suc, List, [], ◌∷◌, ◌++◌, map, codes, if◌then◌else◌}
+use Rattle.crpd_base.specs.Limits.{most_sets}
 use Rattle.crpd_base.specs.Names.{method_name}
 use Rattle.crpd_base.specs.Sets.{has}
 use Rattle.crpd_base.specs.declared.data.Certificate.{Certificate}
@@ -27,7 +28,7 @@ numbers_below words (suc n) =
     if has words n then numbers_below words n ++ n ∷ [] else numbers_below words n
 
 unfoldable pub set_data : List ℕ → Data
-set_data words = numbers_data (numbers_below words 512)
+set_data words = numbers_data (numbers_below words most_sets)
 
 -- set, block, set, block
 abbrev pub pair_items : List (ℕ × ℕ) → Items

@@ -11,11 +11,8 @@ use crate::fault::CertError;
 use crate::keys::Keys;
 use crate::kinds::{line, switching};
 use crate::version::Version;
-use crpd_base::{Platform, SETS, Switching};
+use crpd_base::{MOST_COST, Platform, SETS, Switching};
 use std::alloc::Global;
-
-/// The greatest cost of a platform, in cycles.
-const MOST_CYCLES: u32 = 65_535;
 
 /// The most cache sets of a platform.
 const MOST_SETS: u32 = SETS as u32;
@@ -50,7 +47,7 @@ fn cycles_at(alloc: Global, keys: Keys, key: &str) -> Result<u32, CertError>
         (required spec.cycles keys.entry.path.now key.now
         (members_view keys.entry.object.now.entries)) }
 {
-    keys.small_number(alloc, key, 0, MOST_CYCLES)
+    keys.small_number(alloc, key, 0, MOST_COST)
 }
 
 /// A platform of version 1, which has no cycles for multiplication and division.
@@ -60,7 +57,7 @@ fn first_platform(alloc: Global, keys: Keys) -> Result<Platform, CertError>
         (spec.first_platform keys.entry.path.now (members_view keys.entry.object.now.entries)) }
 {
     let memory = cycles_at(alloc, keys, "data")?;
-    let hit = keys.small_number(alloc, "hit", 1, MOST_CYCLES)?;
+    let hit = keys.small_number(alloc, "hit", 1, MOST_COST)?;
     let line = line_at(alloc, keys)?;
     let miss = cycles_at(alloc, keys, "miss")?;
     let sets = keys.small_number(alloc, "sets", 1, FIRST_SETS)?;
@@ -88,7 +85,7 @@ fn second_platform(alloc: Global, keys: Keys) -> Result<Platform, CertError>
 {
     let memory = cycles_at(alloc, keys, "data")?;
     let div = cycles_at(alloc, keys, "div")?;
-    let hit = keys.small_number(alloc, "hit", 1, MOST_CYCLES)?;
+    let hit = keys.small_number(alloc, "hit", 1, MOST_COST)?;
     let line = line_at(alloc, keys)?;
     let miss = cycles_at(alloc, keys, "miss")?;
     let mul = cycles_at(alloc, keys, "mul")?;

@@ -70,7 +70,7 @@ pub fn task_entries(states: &[NodeState]) -> u64
 {
     let mut found = 0;
     for state in states {
-        let sure = state.sure.as_slice().len() as u64;
+        let sure = state.sure.len() as u64;
         found += sure + u64::from(set_size(&state.useful));
     }
     found

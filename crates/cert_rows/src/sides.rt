@@ -28,7 +28,7 @@ fn graphs_of(alloc: Global, code: &CodeMap, set: &TaskSet) -> Result<(Vec<Graph>
     ensures { IfOk result (λ all. AreTaskGraphs set.now all.0.items all.1.items) }
 {
     let (mut graphs, mut nests) = (Vec::new(alloc), Vec::new(alloc));
-    for k in 0..set.tasks.as_slice().len() {
+    for k in 0..set.tasks.len() {
         let (graph, nest) = graph_and_nest(alloc, code, Task(k as u8))?;
         graphs.push(graph)?;
         nests.push(nest)?;

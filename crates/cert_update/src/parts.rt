@@ -42,7 +42,7 @@ fn part(
         (λ e. IsPartError (coded_side change.now.old) (coded_side change.now.new) task.0 e) }
 {
     if let Some(k) = source {
-        return Ok(copy_analysis(alloc, &change.certificate.tasks.as_slice()[k])?);
+        return Ok(copy_analysis(alloc, &change.certificate.tasks[k])?);
     }
     let code = change.new.code(task.0 as usize);
     match analyse(alloc, code.graph, code.nest, code.platform) {

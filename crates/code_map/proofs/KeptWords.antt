@@ -28,11 +28,9 @@ unfolding word_at
 kept_word m is rs a kept view e = rw (e, ← view) (word_same (runs_byte m.runs) _ a kept.all.is)
 
 -- the index of the file at a place
-pub runs_are : (all kept : List (List Run)) (n k : _) (r rs : List Run) → all ≡ kept → n ≡ k
-    → r ≡ get_or all n r → rs ≡ r → rs ≡ get_or kept k rs
-runs_are all kept n k r rs a b c d =
-    subst (λ x. rs ≡ get_or kept k x) (sym d)
-    (d ∙ (c ∙ (ap (λ x. get_or x n r) a ∙ ap (λ i. get_or kept i r) b)))
+pub runs_at : (all : List (List Run)) (k : ℕ) (r rs : List Run) → r ≡ get_or all k r → rs ≡ r
+    → rs ≡ get_or all k rs
+runs_at all k r rs at same = subst (λ x. rs ≡ get_or all k x) (sym same) (same ∙ at)
 
 module _ (m : Inside) (is : List Image) (rs : List Run) (k : ℕ) (kept : AreStoredFiles m)
     (view : m.images ≡ is) (lt : k < length is) (e : rs ≡ get_or m.own k rs) where

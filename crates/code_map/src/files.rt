@@ -95,7 +95,7 @@ impl Files {
         requires { place < length self.now }
         ensures { option_map (λ i. owns i address) (slice_get self.now place) ≡ Some result }
     {
-        let runs = &self.own.as_slice()[place];
+        let runs = &self.own[place];
         word(runs.as_slice(), address).is_some()
     }
 
@@ -106,7 +106,7 @@ impl Files {
             → IsNextOf (owns i) from result }
         ensures within { IfSome result (λ a. a + 4 ≤ end) }
     {
-        let own = &self.own.as_slice()[place];
+        let own = &self.own[place];
         next_word(own.as_slice(), from)
     }
 

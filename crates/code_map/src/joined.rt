@@ -88,7 +88,7 @@ fn is_reached(run: &Run, piece: &Piece) -> bool
     requires { run.now.start ≤ piece.now.start }
     ensures { result ≡ nat_le piece.now.start (run_end run.now) }
 {
-    (piece.start - run.start) as usize <= run.bytes.as_slice().len()
+    (piece.start - run.start) as usize <= run.bytes.len()
 }
 
 /// Adds the bytes of a piece behind the last run, which is handed in by itself.

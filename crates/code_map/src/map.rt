@@ -84,7 +84,7 @@ impl CodeMap {
         ensures { slice_get self.now.plans task.0 ≡ Some result.now }
     {
         let place = usize::from(task.0);
-        &self.plans.as_slice()[place]
+        &self.plans[place]
     }
 
     /// Whether the word at an address stands wholly in the task's own file. Logarithmic in the

@@ -7,4 +7,3 @@ pub mod Sum
 pub mod Ranges
 pub mod Tasks
 pub mod Outcome
-pub mod Inner

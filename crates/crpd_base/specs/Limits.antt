@@ -21,6 +21,26 @@ most_loops = 64
 abbrev pub most_iterations : ℕ
 most_iterations = 1000000
 
+-- the most nodes of a task's flat graph
+abbrev pub most_nodes : ℕ
+most_nodes = 2 ^ 14
+
 -- the greatest period, deadline, jitter, potential and number of cycles of a script, in cycles
 abbrev pub longest_time : ℕ
 longest_time = 2 ^ 40
+
+-- the most state entries of a certificate
+abbrev pub most_entries : ℕ
+most_entries = 4000000
+
+-- the most jobs of a script
+abbrev pub most_jobs : ℕ
+most_jobs = 10000
+
+-- the most bytes of a set, a script and an ELF file
+abbrev pub file_bytes : ℕ
+file_bytes = 2 ^ 24
+
+-- the most bytes of a certificate
+abbrev pub certificate_bytes : ℕ
+certificate_bytes = 2 ^ 27

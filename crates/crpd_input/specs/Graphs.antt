@@ -1,5 +1,6 @@
 -- The steps on the tasks' graphs and loops, and why they stop.
 use Rattle.std.specs.Prelude.{◌≡◌, ◌≢◌, ℕ, ◌≤◌, List, All, length, slice_get, Result, Some, Ok, Err}
+use Rattle.crpd_base.specs.Limits.{most_nodes}
 use Rattle.crpd_base.specs.declared.data.TaskPlan.{TaskPlan}
 use Rattle.rv_decode.specs.Flow.{flows}
 use Rattle.code_map.specs.Words.{Code, word_at}
@@ -57,7 +58,7 @@ name_at input k = name_of input.set (record { 0 = k })
 -- the flat graph of a plan, of at most 16,384 nodes, or why there is none
 abbrev pub IsGraphOrNot : Input → ℕ → TaskPlan → Result CodeGraph Halt → Type 0
 IsGraphOrNot input k plan (Ok graph) =
-    IsCodeGraph (word_at input.code.images) plan.entry graph × (length graph.nodes ≤ 16384)
+    IsCodeGraph (word_at input.code.images) plan.entry graph × (length graph.nodes ≤ most_nodes)
 IsGraphOrNot input k plan (Err r) =
     (e : GraphError) × (e ≢ graph_fault.Memory)
     × IsGraphError (flows (word_at input.code.images)) plan.entry e

@@ -1,6 +1,7 @@
 -- A command is a list of steps. Each gives a value, or why the command stops.
 use Rattle.std.specs.Prelude.{◌≡◌, ◌⊎◌, ℕ, ◌<◌, List, [], ◌∷◌, length, slice_get, Option, Some}
 use Rattle.std.specs.Prelude.{Result, Ok, Err, codes}
+pub use Rattle.crpd_base.specs.Limits.{file_bytes, certificate_bytes}
 use Rattle.crpd_io.specs.Outside.{Contents}
 use Rattle.crpd_io.specs.Whole.{file_within, FileRefusal, no_file, too_long}
 use Rattle.crpd_input.specs.declared.cause.Cause.{Cause}
@@ -34,13 +35,6 @@ abbrev pub refused_file : {A : Type 0} → List ℕ → Result A FileRefusal →
 refused_file name (Ok bytes) = Ok bytes
 refused_file name (Err no_file) = Err (plain_refusal cause.NoFile name)
 refused_file name (Err too_long) = Err (plain_refusal cause.FileTooLong name)
-
--- the most bytes of a set, a script and an ELF file, and of a certificate
-abbrev pub file_bytes : ℕ
-file_bytes = 16777216
-
-abbrev pub certificate_bytes : ℕ
-certificate_bytes = 134217728
 
 -- a file's bytes, or why there are none
 abbrev pub bytes_in : ℕ → Contents → List ℕ → Result (List ℕ) Halt

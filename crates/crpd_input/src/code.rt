@@ -21,7 +21,7 @@ use std::alloc::Global;
 pub fn task_name(set: &TaskSet, task: Task) -> &str
     ensures { result.now ≡ task_name_of set.now task }
 {
-    match set.tasks.as_slice().get(usize::from(task.0)) {
+    match set.tasks.get(usize::from(task.0)) {
         Some(spec) => spec.name.as_str(),
         None => "",
     }

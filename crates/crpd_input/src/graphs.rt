@@ -75,7 +75,7 @@ pub fn task_graphs(alloc: Global, input: &Input) -> Result<Items<Graph>, Halt>
     ensures count { IfOk result (λ graphs. length graphs ≡ length input.now.set.tasks) }
 {
     let mut graphs = Vec::new(alloc);
-    for place in 0..input.set.tasks.as_slice().len() {
+    for place in 0..input.set.tasks.len() {
         let graph = match task_graph(alloc, input, Task(place as u8)) {
             Ok(graph) => graph,
             Err(halt) => return Err(halt),

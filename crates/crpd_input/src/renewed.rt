@@ -97,7 +97,7 @@ fn renewed_regions(
 {
     match source {
         Some(place) => {
-            let nest = &old_shapes.nests.as_slice()[place];
+            let nest = &old_shapes.nests[place];
             Ok(nest.copy(alloc)?)
         }
         None => task_regions(alloc, input, graphs, task),

@@ -108,7 +108,7 @@ pub(crate) fn sources(
         AreSources old.now graphs.now input.now (length input.now.set.tasks) s.items) }
 {
     let mut sources = Vec::new(alloc);
-    for place in 0..input.set.tasks.as_slice().len() {
+    for place in 0..input.set.tasks.len() {
         sources.push(source(old, graphs, input, Task(place as u8)))?;
     }
     Ok(sources)

@@ -2,6 +2,7 @@
 use Rattle.std.specs.Prelude.{ℕ, List, [], ◌∷◌, ◌++◌, codes}
 use Rattle.std.specs.Fmt.{decimal}
 use Rattle.std.specs.List.{flat_map, zip}
+use Rattle.crpd_base.specs.Limits.{most_sets}
 use Rattle.crpd_base.specs.declared.data.Part.{Part}
 use Rattle.crpd_base.specs.declared.data.TaskSet.{TaskSet}
 use Rattle.crpd_base.specs.declared.data.TaskSpec.{TaskSpec}
@@ -14,7 +15,7 @@ number_text number = codes " " ++ decimal number
 
 -- the numbers of a set, in increasing order
 unfoldable pub numbers_text : List ℕ → List ℕ
-numbers_text words = flat_map number_text (those_below 512 (has words))
+numbers_text words = flat_map number_text (those_below most_sets (has words))
 
 -- the two lines of a task of this name
 abbrev pub part_lines : List ℕ → Part → List ℕ

@@ -52,12 +52,7 @@ fn yes(alloc: Global, set: &TaskSet, certificate: &Certificate) -> Result<Vec<u8
     ensures { IfOk result (λ text. text.items ≡ spec.yes_text set.now certificate.now) }
 {
     let mut text = b"yes\n".to_vec(alloc)?;
-    for (task, part) in set
-        .tasks
-        .as_slice()
-        .iter()
-        .zip(certificate.tasks.as_slice())
-    {
+    for (task, part) in set.tasks.iter().zip(certificate.tasks.as_slice()) {
         add_task(alloc, &mut text, task.name.as_str(), part)?;
     }
     Ok(text)

@@ -60,7 +60,7 @@ fn lines(alloc: Global, set: &TaskSet, parts: &[Part]) -> Result<Vec<u8>, AllocE
     ensures { IfOk result (λ text. text.items ≡ spec.sets_text set.now parts.now) }
 {
     let mut text = Vec::new(alloc);
-    for (task, part) in set.tasks.as_slice().iter().zip(parts) {
+    for (task, part) in set.tasks.iter().zip(parts) {
         add_task(alloc, &mut text, task.name.as_str(), part)?;
     }
     Ok(text)

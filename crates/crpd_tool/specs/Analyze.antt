@@ -1,6 +1,7 @@
 -- The steps of `analyze SET`.
 use Rattle.std.specs.Prelude.{◌≡◌, ◌≢◌, ◌⊎◌, ℕ, ◌≤◌, List, Result, Ok, Err}
 use Rattle.std.specs.Fmt.{decimal}
+use Rattle.crpd_base.specs.Limits.{most_entries}
 use Rattle.crpd_base.specs.declared.data.Certificate.{Certificate}
 use Rattle.crpd_base.specs.declared.data.TaskSet.{TaskSet}
 use Rattle.loop_regions.specs.TaskGraph.{TaskGraph}
@@ -30,7 +31,7 @@ use Rattle.crpd_tool.specs.Texts.{with_line_feed, unschedulable_text}
 -- certificate
 pub record IsMade (set : TaskSet) (graphs : ℕ → TaskGraph) (c : Certificate) : Type 0 where
   pub best : IsBest set graphs c
-  pub few : entries c.tasks ≤ 4000000
+  pub few : entries c.tasks ≤ most_entries
   pub reads : reading (certificate_text c) ≡ Ok c
 
 -- the answer with a certificate

@@ -1,5 +1,6 @@
 -- The steps of `classic SET`.
 use Rattle.std.specs.Prelude.{◌≡◌, ◌≢◌, ◌⊎◌, ℕ, ◌≤◌, List, Result, Ok}
+use Rattle.crpd_base.specs.Limits.{most_entries}
 use Rattle.crpd_base.specs.declared.data.Certificate.{Certificate}
 use Rattle.crpd_base.specs.declared.data.TaskSet.{TaskSet}
 use Rattle.loop_regions.specs.TaskGraph.{TaskGraph}
@@ -24,7 +25,7 @@ use Rattle.crpd_tool.specs.Analyze.{certificate_answer, without_certificate}
 -- read as this certificate
 pub record IsMadeClassic (set : TaskSet) (graphs : ℕ → TaskGraph) (c : Certificate) : Type 0 where
   pub classic : IsClassic set graphs c
-  pub few : entries c.tasks ≤ 4000000
+  pub few : entries c.tasks ≤ most_entries
   pub reads : reading (certificate_text c) ≡ Ok c
 
 -- the analysis of all tasks with the plain union delays, over their graphs and the regions of their

@@ -3,6 +3,7 @@ use Rattle.std.specs.Prelude.{◌≡◌, ◌≢◌, ◌⊎◌, ◌↔◌, IsTrue
 use Rattle.std.specs.Prelude.{length, map, Some, None, Result, Ok, Err, if◌then◌else◌}
 use Rattle.std.specs.List.{sum_by, zip}
 use Rattle.std.specs.Str.{bytes_eq}
+use Rattle.crpd_base.specs.Limits.{most_entries}
 use Rattle.crpd_base.specs.declared.data.Certificate.{Certificate}
 use Rattle.crpd_base.specs.declared.data.Script.{Script}
 use Rattle.crpd_base.specs.declared.data.TaskSet.{TaskSet}
@@ -70,7 +71,7 @@ node_count graphs = sum_by (λ (g : CodeGraph). length g.nodes) graphs
 pub record IsRunJudged (script : Script) (input : Input) (shapes : Shapes) (c : Certificate)
     (verdict : Verdict) (kept : Bool) : Type 0 where
   pub best : IsBest input.set (task_graph_at shapes.graphs shapes.nests) c
-  pub few : entries c.tasks ≤ 4000000
+  pub few : entries c.tasks ≤ most_entries
   pub judged : IsJudged input.set (task_graph_at shapes.graphs shapes.nests) c (answer_of verdict)
   pub kept_so : IsTrue kept ↔ IsKept (run_of input script)
 

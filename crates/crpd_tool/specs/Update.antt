@@ -1,5 +1,6 @@
 -- The steps of `update OLDSET OLDCERT NEWSET`.
 use Rattle.std.specs.Prelude.{◌≡◌, ◌≢◌, ◌⊎◌, ℕ, ◌≤◌, List, Result, Ok}
+use Rattle.crpd_base.specs.Limits.{most_entries}
 use Rattle.crpd_base.specs.declared.data.Certificate.{Certificate}
 use Rattle.crpd_base.specs.declared.data.Task.{Task}
 use Rattle.cert_build.specs.declared.fault.BuildError.{BuildError}
@@ -37,7 +38,7 @@ input_side input shapes = side input.set shapes.graphs shapes.nests
 pub record IsMadeAnew (old : Side) (stated : Certificate) (new : Side)
     (c : Certificate) : Type 0 where
   pub update : IsUpdate old stated new c
-  pub few : entries c.tasks ≤ 4000000
+  pub few : entries c.tasks ≤ most_entries
   pub reads : reading (certificate_text c) ≡ Ok c
 
 -- an update ends without a certificate as an analysis does

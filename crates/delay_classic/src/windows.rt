@@ -41,7 +41,7 @@ pub fn classic_windows(
         (classic_demands set.now (part_at parts.now) (slice_index longest.now)) e) }
 {
     let mut choices = Vec::new(alloc);
-    for i in 0..set.tasks.as_slice().len() {
+    for i in 0..set.tasks.len() {
         let task = Task(i as u8);
         match choice(set, parts, longest, task) {
             None => return Err(WindowError::Unschedulable(task)),

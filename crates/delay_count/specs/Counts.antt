@@ -1,6 +1,7 @@
 -- Counts of jobs, in windows.
 use Rattle.std.specs.Prelude.{◌<◌, ◌≤◌, ◌^◌, List, length, slice_index, ℕ, ◌+◌, ◌-◌, ◌*◌, ◌/◌, ◌==◌}
 use Rattle.std.specs.Prelude.{nat_lt, if◌then◌else◌}
+use Rattle.crpd_base.specs.Limits.{longest_time}
 use Rattle.crpd_base.specs.declared.data.TaskSet.{TaskSet}
 use Rattle.crpd_base.specs.Tasks.{period_of, jitter_of, deadline_of}
 
@@ -26,5 +27,5 @@ affected_preemptions set window w i j k = if nat_lt j k then preemptions set win
 -- a window of each task above task i, in its deadline with its jitter
 pub record HasWindows (set : TaskSet) (windows : List ℕ) (i : ℕ) : Type 0 where
   pub tasks : i ≤ length windows
-  pub most : (k : ℕ) → k < i → slice_index windows k ≤ 2 ^ 40
+  pub most : (k : ℕ) → k < i → slice_index windows k ≤ longest_time
   pub in_deadline : (k : ℕ) → k < i → slice_index windows k + jitter_of set k ≤ deadline_of set k

@@ -1,6 +1,7 @@
 -- The UCB-union and the ECB-union multiset delays.
 use Rattle.std.specs.Prelude.{ℕ, zero, suc, ◌+◌, ◌-◌, ◌*◌, max, min, Bool, ◌&&◌, ◌||◌}
 use Rattle.std.specs.Prelude.{if◌then◌else◌, List, [], length, map, slice_index, slice_index_or}
+use Rattle.crpd_base.specs.Limits.{most_sets}
 use Rattle.crpd_base.specs.declared.data.Part.{Part}
 use Rattle.crpd_base.specs.declared.data.TaskSet.{TaskSet}
 use Rattle.crpd_base.specs.Sets.{has}
@@ -64,7 +65,7 @@ part_at parts k = slice_index_or parts k (record { bound = 0; evicting = []; use
 abbrev pub ucb_count : TaskSet → (ℕ → Part) → (ℕ → ℕ) → ℕ → ℕ → ℕ → ℕ
 ucb_count set parts window w i j =
     union_count (jobs_of set j w) (has (parts j).evicting) (λ k. has (parts k).useful)
-    (affected_preemptions set window w i j) (suc i) 512
+    (affected_preemptions set window w i j) (suc i) most_sets
 
 abbrev pub gamma_ucb : TaskSet → (ℕ → Part) → (ℕ → ℕ) → ℕ → ℕ → ℕ → ℕ
 gamma_ucb set parts window w i j = set.platform.miss * ucb_count set parts window w i j
@@ -76,7 +77,7 @@ evicted_from parts (suc j) c = has (parts (suc j)).evicting c || evicted_from pa
 
 -- how many sets are useful to task k and evicted by task j or one above it
 abbrev pub shared_sets : (ℕ → Part) → ℕ → ℕ → ℕ
-shared_sets parts j k = shared_count (has (parts k).useful) (evicted_from parts j) 512
+shared_sets parts j k = shared_count (has (parts k).useful) (evicted_from parts j) most_sets
 
 -- the ECB-union multiset count of task j in a window w of task i: of its jobs that preempt each
 -- affected task, at most that task's preemptions, and in all its jobs in the window, each evicting

@@ -16,7 +16,7 @@ pub fn jobs(set: &TaskSet, task: usize, window: u64) -> u64
     requires window { window ≤ 2 ^ 40 }
     ensures { result ≡ jobs_of set.now task window }
 {
-    let task = &set.tasks.as_slice()[task];
+    let task = &set.tasks[task];
     (window + task.jitter + (task.period - 1)) / task.period
 }
 

@@ -13,11 +13,11 @@ use crate::share::Share;
 use crate::window_demand::delay_by;
 use crpd_base::{MOST_TASKS, Method, Part, SetBits, Task, TaskSet, WORDS};
 
-// One cycle in each cycle, as a rate: 2^80.
-const ONE: u128 = 1_208_925_819_614_629_174_706_176;
+// One cycle in each cycle, as a rate.
+const ONE: u128 = 1 << 80;
 
-// One job in each cycle, as a rate: 2^63.
-const ONE_JOB: u64 = 9_223_372_036_854_775_808;
+// One job in each cycle, as a rate.
+const ONE_JOB: u64 = 1 << 63;
 
 /// A rate, with 2^80 to one, at which a higher task takes of every window of a task at least: its
 /// jobs as if they were released evenly, each with its bound and two switches, and the delay by the
@@ -169,6 +169,6 @@ fn period(set: &TaskSet, k: usize) -> u64
     ensures some { 1 ≤ result }
     ensures most { result ≤ 2 ^ 40 }
 {
-    let task = &set.tasks.as_slice()[k];
+    let task = &set.tasks[k];
     task.period
 }

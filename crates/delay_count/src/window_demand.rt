@@ -139,7 +139,7 @@ fn longest_begun(set: &TaskSet, longest: &[u64], i: usize) -> u64
 {
     match set.platform.switching {
         Switching::Cycle => 0,
-        Switching::Instruction => longest_from(longest, i, set.tasks.as_slice().len()),
+        Switching::Instruction => longest_from(longest, i, set.tasks.len()),
     }
 }
 

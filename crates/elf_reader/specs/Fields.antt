@@ -14,6 +14,20 @@ file_half file place = little_number 2 (drop place file)
 unfoldable pub file_word : List ℕ → ℕ → ℕ
 file_word file place = little_number 4 (drop place file)
 
+-- the bytes of the file's header, of a program header, of a section header, and of an entry of the
+-- symbol table
+abbrev pub file_header_bytes : ℕ
+file_header_bytes = 52
+
+abbrev pub program_header_bytes : ℕ
+program_header_bytes = 32
+
+abbrev pub section_header_bytes : ℕ
+section_header_bytes = 40
+
+abbrev pub symbol_bytes : ℕ
+symbol_bytes = 16
+
 -- ---- the file's header
 
 -- the file's type, 2 for an executable (ET_EXEC)

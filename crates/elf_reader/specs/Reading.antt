@@ -10,7 +10,8 @@ use Rattle.elf_reader.specs.declared.fault.ElfError.TheVariants.{Short, NotElf, 
 use Rattle.elf_reader.specs.declared.fault.ElfError.TheVariants.{NotRiscV, NotExecutable, NotStatic}
 use Rattle.elf_reader.specs.declared.fault.ElfError.TheVariants.{HeaderOutside, SegmentOutside}
 use Rattle.elf_reader.specs.declared.fault.ElfError.TheVariants.{SegmentsOverlap, NoCode}
-use Rattle.elf_reader.specs.Fields.{e_type, e_machine, e_entry, e_phoff, e_phentsize, e_phnum}
+use Rattle.elf_reader.specs.Fields.{file_header_bytes, program_header_bytes, e_type, e_machine}
+use Rattle.elf_reader.specs.Fields.{e_entry, e_phoff, e_phentsize, e_phnum}
 use Rattle.crpd_base.specs.Outcome.{◌>>=◌, ensure, nowhere}
 use Rattle.elf_reader.specs.Segments.{program_table, is_dynamic, is_outside, first_shared, is_code}
 use Rattle.elf_reader.specs.Segments.{segments}
@@ -24,7 +25,7 @@ magic = 127 ∷ 69 ∷ 76 ∷ 70 ∷ []
 -- (EM_RISCV)
 unfoldable pub file_header : List ℕ → Result (Unit {0}) ElfError
 file_header file = do
-  _ ← ensure (nat_le 52 (length file)) Short
+  _ ← ensure (nat_le file_header_bytes (length file)) Short
   _ ← ensure (bytes_eq (take 4 file) magic) NotElf
   _ ← ensure (slice_index file 4 == 1 && slice_index file 5 == 1 && slice_index file 6 == 1)
       NotElf32Little
@@ -34,9 +35,8 @@ file_header file = do
 -- the program headers; where there are some, each has 32 bytes, and their table lies in the file
 unfoldable pub program_headers : List ℕ → Result (List ProgramHeader) ElfError
 program_headers file = do
-  _ ← ensure
-      (e_phnum file == 0 || e_phentsize file == 32 && nat_le (e_phoff file + 32 * e_phnum file)
-      (length file)) HeaderOutside
+  _ ← ensure (e_phnum file == 0 || e_phentsize file == program_header_bytes
+      && nat_le (e_phoff file + program_header_bytes * e_phnum file) (length file)) HeaderOutside
   Ok (program_table file)
 
 -- the image, or the first refusal

@@ -5,12 +5,13 @@ use Rattle.std.specs.Prelude.{nat_le, Option, Some, None, if◌then◌else◌}
 use Rattle.std.specs.List.{list_any, range_with_len, AllByRecursion}
 use Rattle.crpd_base.specs.declared.data.Segment.{Segment}
 use Rattle.elf_reader.specs.declared.entries.ProgramHeader.{ProgramHeader}
-use Rattle.elf_reader.specs.Fields.{e_phoff, e_phnum, program_header}
+use Rattle.elf_reader.specs.Fields.{program_header_bytes, e_phoff, e_phnum, program_header}
 
 -- the program header table
 abbrev pub program_table : List ℕ → List ProgramHeader
 program_table file =
-    map (λ i. program_header file (e_phoff file + 32 * i)) (range_with_len 0 (e_phnum file))
+    map (λ i. program_header file (e_phoff file + program_header_bytes * i))
+    (range_with_len 0 (e_phnum file))
 
 -- PT_LOAD
 abbrev pub is_loaded : ProgramHeader → Bool

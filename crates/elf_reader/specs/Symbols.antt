@@ -9,7 +9,8 @@ use Rattle.elf_reader.specs.declared.entries.SectionHeader.{SectionHeader}
 use Rattle.elf_reader.specs.declared.entries.SymbolEntry.{SymbolEntry}
 use Rattle.elf_reader.specs.declared.fault.ElfError.{ElfError}
 use Rattle.elf_reader.specs.declared.fault.ElfError.TheVariants.{SymbolsOutside}
-use Rattle.elf_reader.specs.Fields.{e_shoff, e_shentsize, e_shnum, section_header, symbol_entry}
+use Rattle.elf_reader.specs.Fields.{section_header_bytes, symbol_bytes, e_shoff, e_shentsize}
+use Rattle.elf_reader.specs.Fields.{e_shnum, section_header, symbol_entry}
 use Rattle.crpd_base.specs.Outcome.{◌>>=◌, ensure}
 
 -- ---- sections
@@ -17,13 +18,15 @@ use Rattle.crpd_base.specs.Outcome.{◌>>=◌, ensure}
 -- the section header table
 abbrev pub section_table : List ℕ → List SectionHeader
 section_table file =
-    map (λ i. section_header file (e_shoff file + 40 * i)) (range_with_len 0 (e_shnum file))
+    map (λ i. section_header file (e_shoff file + section_header_bytes * i))
+    (range_with_len 0 (e_shnum file))
 
 -- the section headers; a file without a table has none
 unfoldable pub section_headers : List ℕ → Result (List SectionHeader) ElfError
 section_headers file =
     if e_shoff file == 0 || e_shnum file == 0 then Ok []
-    else if e_shentsize file == 40 && nat_le (e_shoff file + 40 * e_shnum file) (length file)
+    else if e_shentsize file == section_header_bytes
+    && nat_le (e_shoff file + section_header_bytes * e_shnum file) (length file)
     then Ok (section_table file)
     else Err SymbolsOutside
 
@@ -67,7 +70,8 @@ symbol strings entry =
 -- the whole entries of a symbol section
 abbrev pub symbol_table : List ℕ → SectionHeader → List SymbolEntry
 symbol_table file table =
-    map (λ i. symbol_entry file (table.sh_offset + 16 * i)) (range_with_len 0 (table.sh_size / 16))
+    map (λ i. symbol_entry file (table.sh_offset + symbol_bytes * i))
+    (range_with_len 0 (table.sh_size / symbol_bytes))
 
 -- the bytes of the string section at a place of the section header table
 unfoldable pub strings_at : List ℕ → Option SectionHeader → Result (List ℕ) ElfError
@@ -81,7 +85,7 @@ unfoldable pub symbols_of : List ℕ → List SectionHeader → Option SectionHe
     → Result (List Symbol) ElfError
 symbols_of file sections None = Ok []
 symbols_of file sections (Some table) = do
-  _ ← ensure (table.sh_entsize == 16 && is_inside (length file) table) SymbolsOutside
+  _ ← ensure (table.sh_entsize == symbol_bytes && is_inside (length file) table) SymbolsOutside
   strings ← strings_at file (slice_get sections table.sh_link)
   Ok (filter_map (symbol strings) (symbol_table file table))
 

@@ -36,6 +36,35 @@ pub(crate) const SECTION_HEADER: usize = 40;
 /// The bytes of an entry of the symbol table.
 pub(crate) const SYMBOL_ENTRY: usize = 16;
 
+// The places of the fields in a program header; its first field is `p_type`.
+const P_OFFSET: usize = 4;
+
+const P_VADDR: usize = 8;
+
+const P_FILESZ: usize = 16;
+
+const P_MEMSZ: usize = 20;
+
+const P_FLAGS: usize = 24;
+
+// In a section header.
+const SH_TYPE: usize = 4;
+
+const SH_OFFSET: usize = 16;
+
+const SH_SIZE: usize = 20;
+
+const SH_LINK: usize = 24;
+
+const SH_ENTSIZE: usize = 36;
+
+// In an entry of the symbol table; its first field is `st_name`.
+const ST_VALUE: usize = 4;
+
+const ST_INFO: usize = 12;
+
+const ST_SHNDX: usize = 14;
+
 /// The number in the two bytes at a place.
 #[tactic(auto, unfolding(crate::specs::Fields::file_half))]
 pub(crate) fn half(bytes: &[u8], place: usize) -> u16
@@ -56,42 +85,42 @@ pub(crate) fn word(bytes: &[u8], place: usize) -> u32
 
 /// The program header at a place of the file.
 pub(crate) fn program_header(bytes: &[u8], place: usize) -> ProgramHeader
-    requires { place + 32 ≤ length bytes.now }
+    requires { place + PROGRAM_HEADER ≤ length bytes.now }
     ensures { result ≡ spec.program_header bytes.now place }
 {
     ProgramHeader {
         p_type: word(bytes, place),
-        p_offset: word(bytes, place + 4),
-        p_vaddr: word(bytes, place + 8),
-        p_filesz: word(bytes, place + 16),
-        p_memsz: word(bytes, place + 20),
-        p_flags: word(bytes, place + 24),
+        p_offset: word(bytes, place + P_OFFSET),
+        p_vaddr: word(bytes, place + P_VADDR),
+        p_filesz: word(bytes, place + P_FILESZ),
+        p_memsz: word(bytes, place + P_MEMSZ),
+        p_flags: word(bytes, place + P_FLAGS),
     }
 }
 
 /// The section header at a place of the file.
 pub(crate) fn section_header(bytes: &[u8], place: usize) -> SectionHeader
-    requires { place + 40 ≤ length bytes.now }
+    requires { place + SECTION_HEADER ≤ length bytes.now }
     ensures { result ≡ spec.section_header bytes.now place }
 {
     SectionHeader {
-        sh_type: word(bytes, place + 4),
-        sh_offset: word(bytes, place + 16),
-        sh_size: word(bytes, place + 20),
-        sh_link: word(bytes, place + 24),
-        sh_entsize: word(bytes, place + 36),
+        sh_type: word(bytes, place + SH_TYPE),
+        sh_offset: word(bytes, place + SH_OFFSET),
+        sh_size: word(bytes, place + SH_SIZE),
+        sh_link: word(bytes, place + SH_LINK),
+        sh_entsize: word(bytes, place + SH_ENTSIZE),
     }
 }
 
 /// The symbol table's entry at a place of the file.
 pub(crate) fn symbol_entry(bytes: &[u8], place: usize) -> SymbolEntry
-    requires { place + 16 ≤ length bytes.now }
+    requires { place + SYMBOL_ENTRY ≤ length bytes.now }
     ensures { result ≡ spec.symbol_entry bytes.now place }
 {
     SymbolEntry {
         st_name: word(bytes, place),
-        st_value: word(bytes, place + 4),
-        st_info: bytes[place + 12],
-        st_shndx: half(bytes, place + 14),
+        st_value: word(bytes, place + ST_VALUE),
+        st_info: bytes[place + ST_INFO],
+        st_shndx: half(bytes, place + ST_SHNDX),
     }
 }

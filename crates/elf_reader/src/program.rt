@@ -35,9 +35,10 @@ fn table(
     start: usize,
     count: u16,
 ) -> Result<Vec<ProgramHeader>, AllocError>
-    requires { start + 32 * count ≤ length bytes.now }
+    requires { start + PROGRAM_HEADER * count ≤ length bytes.now }
     ensures headers { IfOk result
-        (λ hs. hs.items ≡ map (λ i. fields.program_header bytes.now (start + 32 * i))
+        (λ hs. hs.items
+        ≡ map (λ i. fields.program_header bytes.now (start + fields.program_header_bytes * i))
         (range_with_len 0 count)) }
     ensures count { IfOk result (λ hs. vec_len hs ≡ count) }
 {
@@ -51,7 +52,7 @@ fn table(
 /// The program headers of the file.
 #[tactic(auto, unfolding(crate::specs::Reading::program_headers))]
 pub(crate) fn program_headers(alloc: Global, bytes: &[u8]) -> Result<Vec<ProgramHeader>, ElfError>
-    requires { 52 ≤ length bytes.now }
+    requires { fields.file_header_bytes ≤ length bytes.now }
     ensures headers { Gives ElfError.Memory (λ hs. hs.items) result
         (reading.program_headers bytes.now) }
     ensures count { IfOk result (λ hs. vec_len hs < 2 ^ 16) }

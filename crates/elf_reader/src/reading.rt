@@ -15,6 +15,22 @@ use std::alloc::Global;
 /// 0x7F and the letters ELF.
 const MAGIC: [u8; 4] = [0x7F, 0x45, 0x4C, 0x46];
 
+// The places of the class, the data and the version behind them.
+const EI_CLASS: usize = 4;
+
+const EI_DATA: usize = 5;
+
+const EI_VERSION: usize = 6;
+
+/// Objects of 32 bits.
+const ELFCLASS32: u8 = 1;
+
+/// Little-endian order.
+const ELFDATA2LSB: u8 = 1;
+
+/// The one version.
+const EV_CURRENT: u8 = 1;
+
 /// An executable.
 const ET_EXEC: u16 = 2;
 
@@ -25,7 +41,7 @@ const EM_RISCV: u16 = 243;
 #[tactic(auto, unfolding(crate::specs::Reading::file_header))]
 fn check_file_header(bytes: &[u8]) -> Result<(), ElfError>
     ensures header { Gives ElfError.Memory (λ x. x) result (spec.file_header bytes.now) }
-    ensures long { OnOk result (52 ≤ length bytes.now) }
+    ensures long { OnOk result (FILE_HEADER ≤ length bytes.now) }
 {
     if bytes.len() < FILE_HEADER {
         return Err(ElfError::Short);
@@ -33,7 +49,10 @@ fn check_file_header(bytes: &[u8]) -> Result<(), ElfError>
     if &bytes[..4] != &MAGIC[..] {
         return Err(ElfError::NotElf);
     }
-    if bytes[4] != 1 || bytes[5] != 1 || bytes[6] != 1 {
+    if bytes[EI_CLASS] != ELFCLASS32
+        || bytes[EI_DATA] != ELFDATA2LSB
+        || bytes[EI_VERSION] != EV_CURRENT
+    {
         return Err(ElfError::NotElf32Little);
     }
     if half(bytes, E_MACHINE) != EM_RISCV {

@@ -36,9 +36,10 @@ fn table(
     start: usize,
     count: u16,
 ) -> Result<Vec<SectionHeader>, AllocError>
-    requires { start + 40 * count ≤ length bytes.now }
+    requires { start + SECTION_HEADER * count ≤ length bytes.now }
     ensures { IfOk result (λ ss.
-        ss.items ≡ map (λ i. fields.section_header bytes.now (start + 40 * i))
+        ss.items
+        ≡ map (λ i. fields.section_header bytes.now (start + fields.section_header_bytes * i))
         (range_with_len 0 count)) }
 {
     let mut sections = Vec::with_capacity(alloc, usize::from(count))?;
@@ -51,7 +52,7 @@ fn table(
 /// The section headers of the file.
 #[tactic(auto, unfolding(crate::specs::Symbols::section_headers))]
 fn section_headers(alloc: Global, bytes: &[u8]) -> Result<Vec<SectionHeader>, ElfError>
-    requires { 52 ≤ length bytes.now }
+    requires { fields.file_header_bytes ≤ length bytes.now }
     ensures { Gives ElfError.Memory (λ ss. ss.items) result (spec.section_headers bytes.now) }
 {
     let start = word(bytes, E_SHOFF) as usize;
@@ -161,10 +162,11 @@ fn each_symbol(
     start: usize,
     count: usize,
 ) -> Result<Vec<Symbol>, AllocError>
-    requires { start + 16 * count ≤ length bytes.now }
+    requires { start + SYMBOL_ENTRY * count ≤ length bytes.now }
     ensures { IfOk result (λ v.
         v.items ≡ filter_map (spec.symbol strings.now)
-        (map (λ i. fields.symbol_entry bytes.now (start + 16 * i)) (range_with_len 0 count))) }
+        (map (λ i. fields.symbol_entry bytes.now (start + fields.symbol_bytes * i))
+        (range_with_len 0 count))) }
 {
     let mut symbols = Vec::new(alloc);
     for i in 0..count {
@@ -187,10 +189,11 @@ fn all_symbols(
     start: usize,
     count: usize,
 ) -> Result<Vec<Symbol>, AllocError>
-    requires { start + 16 * count ≤ length bytes.now }
+    requires { start + SYMBOL_ENTRY * count ≤ length bytes.now }
     ensures { IfOk result (λ v.
         v.items ≡ filter_map (spec.symbol strings.now)
-        (map (λ i. fields.symbol_entry bytes.now (start + 16 * i)) (range_with_len 0 count))) }
+        (map (λ i. fields.symbol_entry bytes.now (start + fields.symbol_bytes * i))
+        (range_with_len 0 count))) }
 {
     each_symbol(alloc, bytes, terminated(strings), start, count)
 }
@@ -235,7 +238,7 @@ fn symbol_section(sections: &[SectionHeader]) -> Option<&SectionHeader>
 /// The symbols of the first symbol section; without one there are none.
 #[tactic(auto, unfolding(crate::specs::Symbols::symbols))]
 pub(crate) fn symbols(alloc: Global, bytes: &[u8]) -> Result<Vec<Symbol>, ElfError>
-    requires { 52 ≤ length bytes.now }
+    requires { fields.file_header_bytes ≤ length bytes.now }
     ensures { Gives ElfError.Memory (λ v. v.items) result (spec.symbols bytes.now) }
 {
     let sections = section_headers(alloc, bytes)?;

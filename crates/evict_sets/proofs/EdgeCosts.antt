@@ -1,9 +1,7 @@
 -- The costs of a node's edges.
 use Rattle.std.proofs.Common.{◌≡◌, ℕ, zero, suc, ◌<◌, ◌≤◌, Bool, true, false, max, pos, List, []}
-use Rattle.std.proofs.Common.{◌∷◌, Some, length, slice_get, refl, sym, arith}
+use Rattle.std.proofs.Common.{◌∷◌, ◌++◌, Some, refl, sym, arith}
 use Rattle.std.proofs.lemmas.Bool.{false≢true}
-use Rattle.std.proofs.lemmas.Option.{slice_get_within, get_or_from_slice_get}
-use Rattle.flat_graph.specs.Graph.{Graph, IsGraph}
 use Rattle.crpd_base.specs.declared.data.Platform.{Platform}
 use Rattle.rv_decode.specs.declared.Ins.{Ins}
 use Rattle.rv_decode.specs.declared.Ins.TheVariants.{Jal, Jalr, Ecall}
@@ -15,25 +13,12 @@ use Rattle.flat_graph.specs.EdgeCost.{is_return}
 use Rattle.flat_graph.specs.CodeGraph.{kind_of}
 use Rattle.flat_graph.specs.declared.node.Kind.TheVariants as kind
 use Rattle.evict_sets.specs.Longest.{greatest_of}
-use Rattle.evict_sets.specs.Inner.OptionalCost.{cost_or_zero}
 
--- a successor is a node
-pub succ_within : (g : Graph) (u k v : ℕ) → IsGraph g → u < g.size → Some v ≡ slice_get (g.next u) k
-    → v < g.size
-succ_within g u k v G lt e =
-    G.edges u v (
-      lt,
-      (k, slice_get_within (g.next u) k v (sym e), get_or_from_slice_get (g.next u) k v v (sym e)),
-    )
-
--- of at most two successors
-pub of_two : (f : ℕ → ℕ) (next : List ℕ) → length next ≤ 2
-    → max (cost_or_zero f (slice_get next 0)) (cost_or_zero f (slice_get next 1))
-    ≡ greatest_of f next
-of_two f [] le = omega arith
-of_two f (v ∷ []) le = omega arith
-of_two f (v ∷ w ∷ []) le = omega arith
-of_two f (v ∷ w ∷ x ∷ next) le = absurd (omega arith)
+-- of one number more
+pub greatest_more : (f : ℕ → ℕ) (xs : List ℕ) (v : ℕ)
+    → greatest_of f (xs ++ v ∷ []) ≡ max (f v) (greatest_of f xs)
+greatest_more f [] v = refl
+greatest_more f (x ∷ xs) v = let h = greatest_more f xs v in omega (arith, h)
 
 -- an answering node is one of that kind
 pub answers_kind : (c : List ℕ) (f : Flow) → kind_of c f ≡ kind.Answer

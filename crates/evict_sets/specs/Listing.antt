@@ -2,6 +2,7 @@
 -- sets, an order of the nodes, and which nodes are counted as hits.
 use Rattle.std.specs.Prelude.{◌≡◌, ◌↔◌, ℕ, ◌+◌, ◌<◌, Bool, false, List, length, All, Option, Some}
 use Rattle.std.specs.Prelude.{slice_get, slice_index, slice_index_or, IsTrue, IsFalse}
+use Rattle.crpd_base.specs.Limits.{most_sets}
 use Rattle.crpd_base.specs.Ranges.{IsPlatform}
 use Rattle.crpd_base.specs.declared.data.Platform.{Platform}
 use Rattle.crpd_base.specs.declared.data.NodeState.{NodeState}
@@ -26,7 +27,7 @@ pub record IsEntryIndex (states : List NodeState) (size : ℕ) (places : List �
 
 -- the cache sets of the listed states are below 512
 abbrev pub HasLowSets : TaskPart → Type 0
-HasLowSets t = All (λ (s : NodeState). All (λ (x : ℕ × ℕ). x.0 < 512) s.sure) t.states
+HasLowSets t = All (λ (s : NodeState). All (λ (x : ℕ × ℕ). x.0 < most_sets) s.sure) t.states
 
 -- the platform and the part are in their ranges, the places are those of the part's entries, and
 -- the leaders are listed

@@ -1,12 +1,11 @@
 // The costs of a graph's edges, and the longest cost of one instruction of a task.
-ghost use Rattle.std.specs.Prelude.{◌≡◌, ℕ, ◌<◌, ◌≤◌, ◌^◌, false, if◌then◌else◌, slice_get};
+ghost use Rattle.std.specs.Prelude.{◌≡◌, ℕ, ◌<◌, ◌≤◌, ◌^◌, false, if◌then◌else◌};
 ghost use Rattle.crpd_base.specs.Ranges.{IsPlatform};
 ghost use Rattle.rv_decode.specs.Cost.{cost};
 ghost use Rattle.flat_graph.specs.CodeGraph.{graph_of, node_code};
 ghost use Rattle.flat_graph.specs.EdgeCost.{edge_cost, end_cost};
 ghost use Rattle.evict_sets.specs.Longest.{longest_at_node, longest};
 ghost use Rattle.evict_sets.specs.Answering.{answers_of};
-ghost use Rattle.evict_sets.specs.Inner.OptionalCost.{cost_or_zero};
 ghost use Rattle.evict_sets.specs.Inner.CostRange.{HasWordCosts};
 
 use crpd_base::{NodeId, Platform};
@@ -69,31 +68,17 @@ pub fn end_cost(graph: &Graph, platform: &Platform, id: NodeId, hit: bool) -> u6
     }
 }
 
-/// The cost of the first (0) or second (1) edge of a node, with a miss; 0 where there is no such
-/// edge.
-fn edge_longest(graph: &Graph, platform: &Platform, id: NodeId, k: u8) -> u64
-    requires node { id.0 < (graph_of graph.now).size }
-    requires place { k < 2 }
-    ensures { result ≡ cost_or_zero (edge_cost platform.now (node_code graph.now) (λ y. false) id.0)
-        (slice_get ((graph_of graph.now).next id.0) k) }
-{
-    graph.graph_law();
-    match graph.succ(id, k) {
-        Some(next) => edge_cost(graph, platform, id, next, false),
-        None => 0,
-    }
-}
-
 /// The greatest cost of a node's edges, with a miss.
 fn node_longest(graph: &Graph, platform: &Platform, id: NodeId) -> u64
     requires { id.0 < (graph_of graph.now).size }
     ensures { result ≡ longest_at_node platform.now (graph_of graph.now) (node_code graph.now)
         (answers_of graph.now) id.0 }
 {
-    graph.graph_law();
-    let first = edge_longest(graph, platform, id, 0);
-    let second = edge_longest(graph, platform, id, 1);
-    first.max(second).max(end_cost(graph, platform, id, false))
+    let mut greatest = end_cost(graph, platform, id, false);
+    for next in graph.successors(id) {
+        greatest = edge_cost(graph, platform, id, next, false).max(greatest);
+    }
+    greatest
 }
 
 /// The longest cost in cycles of one instruction of a task: the greatest cost of any edge of its

@@ -33,10 +33,7 @@ impl Listing<'_> {
             (state_entry_of self.now.part.now.states node.0 ≡ None)
             (λ s. state_entry_of self.now.part.now.states node.0 ≡ Some s.now) }
     {
-        self.part
-            .states
-            .as_slice()
-            .get(self.places[node.0 as usize])
+        self.part.states.get(self.places[node.0 as usize])
     }
 
     /// Whether a node is listed. In constant time.

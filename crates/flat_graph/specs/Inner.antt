@@ -7,4 +7,5 @@ pub mod Reach
 pub mod SameCode
 pub mod Spots
 pub mod StoredGraph
+pub mod Successors
 pub mod Ways

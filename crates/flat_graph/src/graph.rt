@@ -1,16 +1,19 @@
 // A task's flat graph.
-ghost use Rattle.std.specs.Prelude.{IfSome, IsNone, ◌≡◌, ℕ, ◌<◌, ◌≤◌, ◌+◌, ◌↔◌, length, slice_get};
-ghost use Rattle.std.specs.Prelude.{option_map, IsTrue, MatchOption, nat_eq};
+ghost use Rattle.std.specs.Prelude.{All, IfSome, IsNone, ◌≡◌, ℕ, ◌<◌, ◌≤◌, ◌+◌, ◌↔◌, length};
+ghost use Rattle.std.specs.Prelude.{slice_get, option_map, IsTrue, MatchOption, nat_eq};
 ghost use Rattle.rv_decode.specs.Flow.{flow};
-ghost use Rattle.flat_graph.specs.Graph.{IsGraph, IsLeader};
+ghost use Rattle.crpd_base.specs.Limits.{most_nodes};
+ghost use Rattle.flat_graph.specs.Graph.{Edge, IsGraph, IsLeader};
 ghost use Rattle.flat_graph.specs.Numbered.{node_at};
 ghost use Rattle.std.proofs.Common.{rules};
 ghost use Rattle.std.specs.Cmp.Rules.{comparing};
+ghost use Rattle.std.specs.Iterator.{item_count};
 ghost use Rattle.std.specs.Cmp.Lexicographic.{slice_cmp, nat_list_cmp_total, pointwise, texts_ties};
 ghost use Rattle.std.specs.Cmp.Lexicographic.{texts_po};
 ghost use Rattle.std.specs.List.Sorted.{IsSearchInRange, IsBinarySearchResult};
 ghost use Rattle.std.specs.Ordering.{nat_cmp, as_partial_cmp};
 ghost use Rattle.flat_graph.specs.Inner.NumberingOrder.{flat_cmp, stand_node};
+ghost use Rattle.flat_graph.specs.Inner.Successors.{GivesFirst};
 ghost use Rattle.flat_graph.specs.CodeGraph.{HasCode, kind_of, graph_of, places_of, ins_of};
 
 use crate::node::{Node, kind_by};
@@ -79,6 +82,44 @@ pub(crate) enum Onward {
     Ends,
     To(u32),
     Either(u32, u32),
+}
+
+/// The successors of a node that are left, one after the other: at most two. Contracts see their
+/// numbers.
+#[derive(Drop)]
+pub struct Successors {
+    left: Onward,
+}
+
+impl Model for Successors {
+    ghost use Rattle.std.specs.Prelude.{List, ℕ};
+    ghost use Rattle.flat_graph.specs.Inner.StoredGraph.{onward};
+
+    ghost Value = { List ℕ };
+
+    ghost view = { λ s. onward s.left };
+}
+
+impl Iterator for Successors {
+    type Item = NodeId;
+
+    ghost next_gives = { GivesFirst };
+
+    ghost remaining = { item_count (λ left. left) };
+
+    fn next(&mut self) -> Option<NodeId> {
+        match self.left {
+            Onward::Ends => None,
+            Onward::To(only) => {
+                self.left = Onward::Ends;
+                Some(NodeId(only))
+            }
+            Onward::Either(first, second) => {
+                self.left = Onward::To(second);
+                Some(NodeId(first))
+            }
+        }
+    }
 }
 
 /// A node: the number of its context, its address, its instruction, its successors, and whether it
@@ -155,7 +196,7 @@ impl Graph {
     pub fn len(&self) -> u32
         ensures { result ≡ (graph_of self.now).size }
     {
-        self.nodes.as_slice().len() as u32
+        self.nodes.len() as u32
     }
 
     /// The node with no call under way at the task's entry. In constant time.
@@ -174,7 +215,7 @@ impl Graph {
             ≡ kind_of ((places_of self.now).context id.0)
             (flow ((places_of self.now).address id.0) (ins_of self.now id.0)) }
     {
-        let stand = &self.nodes.as_slice()[id.0 as usize];
+        let stand = &self.nodes[id.0 as usize];
         Node {
             address: stand.address,
             ins: stand.ins,
@@ -187,7 +228,7 @@ impl Graph {
         requires { id.0 < (graph_of self.now).size }
         ensures { result ≡ (places_of self.now).address id.0 }
     {
-        self.nodes.as_slice()[id.0 as usize].address
+        self.nodes[id.0 as usize].address
     }
 
     /// The instruction at a node. In constant time; it takes no memory.
@@ -195,7 +236,7 @@ impl Graph {
         requires { id.0 < (graph_of self.now).size }
         ensures { result ≡ ins_of self.now id.0 }
     {
-        self.nodes.as_slice()[id.0 as usize].ins
+        self.nodes[id.0 as usize].ins
     }
 
     /// The addresses of the calls under way at a node, the outermost first; at most 16. In constant
@@ -204,8 +245,8 @@ impl Graph {
         requires { id.0 < (graph_of self.now).size }
         ensures { result.now ≡ (places_of self.now).context id.0 }
     {
-        let stand = &self.nodes.as_slice()[id.0 as usize];
-        let context = &self.contexts.as_slice()[stand.context as usize];
+        let stand = &self.nodes[id.0 as usize];
+        let context = &self.contexts[stand.context as usize];
         context.calls.as_slice()
     }
 
@@ -216,11 +257,25 @@ impl Graph {
         requires place { k < 2 }
         ensures { option_map (λ v. v.0) result ≡ slice_get ((graph_of self.now).next id.0) k }
     {
-        match (self.nodes.as_slice()[id.0 as usize].next, k) {
+        match (self.nodes[id.0 as usize].next, k) {
             (Onward::To(only), 0) => Some(NodeId(only)),
             (Onward::Either(first, _), 0) => Some(NodeId(first)),
             (Onward::Either(_, second), _) => Some(NodeId(second)),
             _ => None,
+        }
+    }
+
+    /// The successors of a node, one after the other, as `succ` gives them. In constant time; it
+    /// takes no memory.
+    pub fn successors(&self, id: NodeId) -> Successors
+        requires { id.0 < (graph_of self.now).size }
+        ensures are { result ≡ (graph_of self.now).next id.0 }
+        ensures edges { All (Edge (graph_of self.now) id.0) ((graph_of self.now).next id.0) }
+        ensures nodes { All (λ v. v < (graph_of self.now).size) ((graph_of self.now).next id.0) }
+    {
+        self.graph_law();
+        Successors {
+            left: self.nodes[id.0 as usize].next,
         }
     }
 
@@ -251,7 +306,7 @@ impl Graph {
         requires { id.0 < (graph_of self.now).size }
         ensures { IsTrue result ↔ IsLeader (graph_of self.now) id.0 }
     {
-        self.nodes.as_slice()[id.0 as usize].leader
+        self.nodes[id.0 as usize].leader
     }
 
     /// What every such graph is: the flat graph of some code, in which each node is reached by a
@@ -259,7 +314,7 @@ impl Graph {
     pub fn graph_law(&self)
         ensures code { HasCode self.now }
         ensures graph { IsGraph (graph_of self.now) }
-        ensures few { (graph_of self.now).size ≤ 16384 }
+        ensures few { (graph_of self.now).size ≤ most_nodes }
         ensures successors { (u : ℕ) → length ((graph_of self.now).next u) ≤ 2 }
     {
         let _nodes = &self.nodes;

@@ -3,6 +3,7 @@ ghost use Rattle.std.specs.Prelude.{◌≡◌, ◌≤◌, ◌<◌, ◌⊎◌, �
 ghost use Rattle.std.specs.Prelude.{slice_index_or, [], All, AllPairs, Contains, IsTrue};
 ghost use Rattle.code_map.specs.Words.{word_at};
 ghost use Rattle.rv_decode.specs.Flow.{flows};
+ghost use Rattle.crpd_base.specs.Limits.{most_nodes};
 ghost use Rattle.flat_graph.specs.Inner.NumberingOrder.{flat_cmp};
 ghost use Rattle.flat_graph.specs.FlatGraph.{IsNumbering, IsNumberedBefore};
 ghost use Rattle.flat_graph.specs.Inner.StoredGraph.{onward};
@@ -31,7 +32,7 @@ pub(crate) struct Line {
 /// The number of the spot with these calls under way at an address, which is its place in the order
 /// of numbering. Logarithmic in the number of spots.
 pub(crate) fn number_of(lists: &[Context], spots: &[Spot], calls: &[u32], address: u32) -> u32
-    requires few { length spots.now ≤ 16384 }
+    requires few { length spots.now ≤ most_nodes }
     requires ordered { AllPairs IsNumberedBefore (spot_nodes lists.now spots.now) }
     requires there { Contains (spot_nodes lists.now spots.now)
         (record { context = calls.now; address = address }) }
@@ -54,7 +55,7 @@ pub(crate) fn number_of(lists: &[Context], spots: &[Spot], calls: &[u32], addres
 /// The number of a spot, found by comparisons of addresses alone among the spots with the same
 /// calls under way. Logarithmic in the number of spots.
 fn number_at(lists: &[Context], spots: &[Spot], spot: &Spot) -> u32
-    requires few { length spots.now ≤ 16384 }
+    requires few { length spots.now ≤ most_nodes }
     requires ordered { AllPairs IsNumberedBefore (spot_nodes lists.now spots.now) }
     requires there { Contains (spot_nodes lists.now spots.now) (spot_node lists.now spot.now) }
     ensures { slice_get (spot_nodes lists.now spots.now) result
@@ -81,7 +82,7 @@ fn is_at(spots: &[Spot], place: usize, spot: &Spot) -> bool
 
 /// The number of a spot, which mostly stands at the place where it is sought first.
 fn number_from(lists: &[Context], spots: &[Spot], place: usize, spot: &Spot) -> u32
-    requires few { length spots.now ≤ 16384 }
+    requires few { length spots.now ≤ most_nodes }
     requires ordered { AllPairs IsNumberedBefore (spot_nodes lists.now spots.now) }
     requires there { Contains (spot_nodes lists.now spots.now) (spot_node lists.now spot.now) }
     requires place { place ≤ length spots.now }
@@ -103,7 +104,7 @@ fn successor_numbers(
     from: u32,
     steps: &Steps,
 ) -> Onward
-    requires few { length spots.now ≤ 16384 }
+    requires few { length spots.now ≤ most_nodes }
     requires ordered { AllPairs IsNumberedBefore (spot_nodes lists.now spots.now) }
     requires there { All (Contains (spot_nodes lists.now spots.now))
         (flat_steps (slice_index_or lists.now from []) steps.now) }
@@ -152,7 +153,7 @@ pub(crate) fn lines(
     lists: &[Context],
     spots: &[Spot],
 ) -> Result<Vec<Line>, GraphError>
-    requires few { length spots.now ≤ 16384 }
+    requires few { length spots.now ≤ most_nodes }
     requires numbering { IsNumbering (flows (word_at code.now.images)) entry
         (spot_nodes lists.now spots.now) }
     ensures lines { IfOk result

@@ -5,6 +5,7 @@ ghost use Rattle.code_map.specs.Words.{word_at};
 ghost use Rattle.rv_decode.specs.Flow.{flows};
 ghost use Rattle.std.specs.List.Sorted.{IsPermutation, IsSortedBy};
 ghost use Rattle.std.specs.Ordering.{is_lt};
+ghost use Rattle.crpd_base.specs.Limits.{most_nodes};
 ghost use Rattle.flat_graph.specs.Inner.NumberingOrder.{flat_cmp};
 ghost use Rattle.flat_graph.specs.FlatGraph.{IsNode, IsNumbering, successors, HasMoreNodes};
 ghost use Rattle.flat_graph.specs.Inner.Reach.{AreNumbered, ExtendsLists, AreSameSpots, AreAdded};
@@ -179,7 +180,7 @@ pub(crate) fn reach(
     entry: u32,
     most: usize,
 ) -> Result<Ordered, GraphError>
-    requires { most ≤ 16384 }
+    requires { most ≤ most_nodes }
     ensures reached { IfOk result
         (λ o. IsNumbering (flows (word_at code.now.images)) entry
         (spot_nodes o.lists.items o.spots.items)) }

@@ -3,6 +3,7 @@ ghost use Rattle.std.specs.Prelude.{◌≡◌, ◌≤◌, ◌<◌, ℕ, Bool, So
 ghost use Rattle.std.specs.Prelude.{slice_get, slice_index};
 ghost use Rattle.code_map.specs.Words.{word_at};
 ghost use Rattle.rv_decode.specs.Flow.{flows};
+ghost use Rattle.crpd_base.specs.Limits.{most_nodes};
 ghost use Rattle.flat_graph.specs.Inner.GraphParts.{AreStoredNodes};
 ghost use Rattle.flat_graph.specs.CodeGraph.{IsCodeGraph};
 ghost use Rattle.flat_graph.specs.GraphErrors.{IsGraphError};
@@ -63,7 +64,7 @@ pub fn build(alloc: Global, code: &CodeMap, task: Task) -> Result<Graph, GraphEr
     ensures graph { IfOk result
         (λ g. IfSome (slice_get code.now.plans task.0)
         (λ p. IsCodeGraph (word_at code.now.images) p.entry g)) }
-    ensures few { IfOk result (λ g. length g.nodes ≤ 16384) }
+    ensures few { IfOk result (λ g. length g.nodes ≤ most_nodes) }
     ensures refused { IfErr result
         (λ e. IfSome (slice_get code.now.plans task.0)
         (λ p. IsGraphError (flows (word_at code.now.images)) p.entry e)) }
@@ -74,7 +75,7 @@ pub fn build(alloc: Global, code: &CodeMap, task: Task) -> Result<Graph, GraphEr
 /// The flat graph of the code from an entry.
 fn graph_from(alloc: Global, code: &CodeMap, entry: u32) -> Result<Graph, GraphError>
     ensures graph { IfOk result (IsCodeGraph (word_at code.now.images) entry) }
-    ensures few { IfOk result (λ g. length g.nodes ≤ 16384) }
+    ensures few { IfOk result (λ g. length g.nodes ≤ most_nodes) }
     ensures refused { IfErr result (IsGraphError (flows (word_at code.now.images)) entry) }
 {
     code.words_law();

@@ -23,11 +23,7 @@ fn in_range(address: u32, range: &(u32, u32)) -> bool
 fn is_in_ranges(stated: &LoopAt, address: u32) -> bool
     ensures { result ≡ list_any (in_range address) stated.now.ranges }
 {
-    stated
-        .ranges
-        .as_slice()
-        .iter()
-        .any(|range| in_range(address, range))
+    stated.ranges.iter().any(|range| in_range(address, range))
 }
 
 /// The iterations of a stated loop after an arrival at an address, or None where they are more than

@@ -65,7 +65,7 @@ fn fits(segment: &Segment) -> bool
     ensures sized { IsTrue result → length segment.now.bytes ≤ segment.now.size }
 {
     segment.size <= 0x1_0000_0000 - u64::from(segment.address)
-        && segment.bytes.as_slice().len() as u64 <= segment.size
+        && segment.bytes.len() as u64 <= segment.size
 }
 
 // The segments, the lower one first; none where they cannot lie in memory so.

@@ -3,11 +3,12 @@ use Rattle.std.proofs.Common.{◌≡◌, ◌⊎◌, ◌↔◌, ℕ, zero, suc, �
 use Rattle.std.proofs.Common.{[], ◌∷◌, ◌++◌, length, set, Some, None, Contains, slice_get}
 use Rattle.std.proofs.Common.{slice_index, IsTrue, refl, sym, ap, ◌∙◌, subst, inl, inr, ⊎_elim}
 use Rattle.std.proofs.Common.{arith, length-append, get_or-set_same, get_or-set_other}
-use Rattle.std.specs.List.{list_any}
+use Rattle.std.specs.List.{All, list_any}
 use Rattle.std.proofs.lemmas.Bool.{cases_eq, both_ways}
 use Rattle.std.proofs.lemmas.List.{length-set}
 use Rattle.std.proofs.lemmas.Option.{slice_get_within, slice_get-get_or, get_or_from_slice_get}
 use Rattle.flat_graph.specs.Graph.{Graph}
+use Rattle.flat_graph.proofs.Nexts.{all_at_edges}
 use Rattle.loop_regions.specs.Nest.{Nest, IsBackEdge}
 use Rattle.loop_regions.specs.Stated.{IsForward, IsForwardPath, IsOnCycle}
 use Rattle.loop_regions.specs.CodeNest.{has, row}
@@ -19,7 +20,7 @@ use Rattle.loop_regions.proofs.Has.{has_any, any_has, has_more, has_pushed, has_
 use Rattle.loop_regions.proofs.SecondEntries.{head_is, is_the_head}
 use Rattle.loop_regions.proofs.LeastOf.{nest_by}
 
-module _ (g : Graph) (heads bounds : List ℕ) (holders : List (List ℕ))
+module _ (heads bounds : List ℕ) (holders : List (List ℕ))
     (S : AreRegionLists heads bounds holders) where
   back_from : (u v : ℕ) → IsTrue (list_any (is_head heads v) (row holders u))
       → IsBackEdge (nest_by heads bounds holders) u v
@@ -32,13 +33,21 @@ module _ (g : Graph) (heads bounds : List ℕ) (holders : List (List ℕ))
   back_edge u v b =
       any_has (is_head heads v) (row holders u) b.0 b.2 (is_the_head heads v b.0 b.1 (sym b.3))
 
+  pub not_back : (u v : ℕ) → IsTrue (list_any (is_head heads v) (row holders u))
+      → (IsBackEdge (nest_by heads bounds holders) u v → ⊥) → ⊥
+  not_back u v h other = other (back_from u v h)
+
+module _ (g : Graph) (heads bounds : List ℕ) (holders : List (List ℕ))
+    (S : AreRegionLists heads bounds holders) where
   pub not_forward : (u k v : ℕ) → slice_get (g.next u) k ≡ Some v
       → IsTrue (list_any (is_head heads v) (row holders u))
       → IsForwardBy g (nest_by heads bounds holders) u k None
   not_forward u k v e h w f fw =
       let q : Some v ≡ Some w = sym e ∙ f in
       let same : v ≡ w = cc in
-      fw.1 (subst (λ x. IsBackEdge (nest_by heads bounds holders) u x) same (back_from u v h))
+      fw.1
+      (subst (λ x. IsBackEdge (nest_by heads bounds holders) u x) same
+      (back_from heads bounds holders S u v h))
 
   pub is_forward : (u k v : ℕ) → u < g.size → slice_get (g.next u) k ≡ Some v
       → list_any (is_head heads v) (row holders u) ≡ false
@@ -47,7 +56,8 @@ module _ (g : Graph) (heads bounds : List ℕ) (holders : List (List ℕ))
     e,
     (
       (lt, (k, slice_get_within (g.next u) k v e, get_or_from_slice_get (g.next u) k v v e)),
-      λ b. both_ways (list_any (is_head heads v) (row holders u)) h (back_edge u v b),
+      λ b. both_ways (list_any (is_head heads v) (row holders u)) h
+          (back_edge heads bounds holders S u v b),
     ),
   )
 
@@ -63,28 +73,21 @@ module _ (g : Graph) (n : Nest) (ranks : List ℕ)
   no_cycle y c = absurd (let lt = lower y c.0 y c.1 in omega arith)
 
 -- ranks fall along all edges of the nodes below k
-pub falls_more : (g : Graph) (n : Nest) (ranks : List ℕ) (k : ℕ) → length (g.next k) ≤ 2
-    → ((v : ℕ) → slice_get (g.next k) 0 ≡ Some v → IsForward g n k v
-    → slice_index ranks v < slice_index ranks k)
-    → ((v : ℕ) → slice_get (g.next k) 1 ≡ Some v → IsForward g n k v
-    → slice_index ranks v < slice_index ranks k)
+pub falls_more : (g : Graph) (n : Nest) (ranks : List ℕ) (k : ℕ)
+    → All (λ v. (IsBackEdge n k v → ⊥) → slice_index ranks v < slice_index ranks k) (g.next k)
     → ((u v : ℕ) → u < k → IsForward g n u v → slice_index ranks v < slice_index ranks u)
     → (u v : ℕ) → u < k + 1 → IsForward g n u v → slice_index ranks v < slice_index ranks u
-falls_more g n ranks k le A B R u v lt f =
+falls_more g n ranks k all R u v lt f =
     ⊎_elim
     (λ e. subst (λ x. slice_index ranks v < slice_index ranks x) (sym e)
     (at (subst (λ x. IsForward g n x v) e f)))
     (λ ne. R u v (omega arith) f)
     (cases_eq u k)
   where
-    place : (xs : List ℕ) → length xs ≤ 2 → Contains xs v
-        → (slice_get xs 0 ≡ Some v) ⊎ (slice_get xs 1 ≡ Some v)
-    place xs l (zero, lt', e) = inl (slice_get-get_or xs 0 v lt' ∙ ap Some e)
-    place xs l (suc zero, lt', e) = inr (slice_get-get_or xs 1 v lt' ∙ ap Some e)
-    place xs l (suc (suc j), lt', e) = absurd (omega arith)
-
     at : IsForward g n k v → slice_index ranks v < slice_index ranks k
-    at w = ⊎_elim (λ e. A v e w) (λ e. B v e w) (place (g.next k) le w.0.1)
+    at w =
+        all_at_edges g k (λ x. (IsBackEdge n k x → ⊥) → slice_index ranks x < slice_index ranks k)
+        all v w.0 w.1
 
 unseen_set : (seen : List Bool) (v : ℕ) → v < length seen → was_seen seen v ≡ false
     → suc (unseen (set seen v true)) ≡ unseen seen

@@ -1,20 +1,22 @@
 -- Regions that are entered elsewhere than at their heads.
-use Rattle.std.proofs.Common.{◌≡◌, ◌≢◌, ◌⊎◌, ℕ, ◌+◌, ◌<◌, ◌≤◌, Bool, false, not, ◌&&◌, List, length}
+use Rattle.std.proofs.Common.{◌≡◌, ◌≢◌, ◌⊎◌, ℕ, ◌+◌, ◌<◌, ◌≤◌, Bool, false, not, ◌&&◌, List, [], ◌∷◌, ◌++◌, length}
 use Rattle.std.proofs.Common.{Some, None, slice_get, slice_index, IsTrue, refl, sym, ◌∙◌, subst}
 use Rattle.std.proofs.Common.{inl, inr, ⊎_elim, arith, ◌==◌, eq-eqb}
 use Rattle.std.specs.Prelude.{Option, nat_lt}
 use Rattle.std.specs.List.{list_any}
 use Rattle.std.proofs.lemmas.Bool.{cases_eq, both_ways, eqb-true, ltb-true, lt-ltb, and_parts}
 use Rattle.std.proofs.lemmas.Bool.{and_from, not-true, not_from_false, false_from_ne_true}
-use Rattle.crpd_base.proofs.Elements.{at_contains, first_or_second}
+use Rattle.std.proofs.lemmas.List.Elements.{Contains-append_left, Contains-append_cases}
+use Rattle.std.proofs.lemmas.List.Elements.{Contains-push}
+use Rattle.crpd_base.proofs.Elements.{in_none, in_one}
 use Rattle.flat_graph.specs.Graph.{Graph}
 use Rattle.loop_regions.specs.Nest.{Nest}
 use Rattle.loop_regions.specs.Stated.{IsSecondEntry}
 use Rattle.loop_regions.specs.CodeNest.{has, row}
 use Rattle.loop_regions.specs.Inner.RegionLists.{AreRegionLists}
 use Rattle.loop_regions.specs.Inner.Least.{IsLeastNumber, lesser}
-use Rattle.loop_regions.specs.Inner.FoundRegions.{is_head, Enters, EntersFrom, EntersBy}
-use Rattle.loop_regions.specs.Inner.FoundRegions.{IsInsideStart}
+use Rattle.loop_regions.specs.Inner.FoundRegions.{is_head, Enters, EntersFrom, EntersAt}
+use Rattle.loop_regions.specs.Inner.FoundRegions.{EntersSome, IsInsideStart}
 use Rattle.loop_regions.proofs.Has.{has_any, any_has}
 use Rattle.loop_regions.proofs.LeastOf.{nest_by, least_same, least_or}
 
@@ -42,7 +44,32 @@ other_head heads v r lt h e =
     both_ways (is_head heads v r) (not-true (is_head heads v r) h)
     (is_the_head heads v r lt (sym e))
 
-module _ (g : Graph) (heads bounds : List ℕ) (holders : List (List ℕ))
+-- none of no nodes
+pub enters_none : (n : Nest) (u : ℕ) → IsLeastNumber (EntersSome n u []) None
+enters_none n u v s = in_none v s.0
+
+-- of one node more
+pub enters_more : (n : Nest) (u v : ℕ) (vs : List ℕ) (a b : Option ℕ)
+    → IsLeastNumber (EntersSome n u vs) a → IsLeastNumber (EntersAt n u v) b
+    → IsLeastNumber (EntersSome n u (vs ++ v ∷ [])) (lesser a b)
+enters_more n u v vs a b h i =
+    least_same (λ w. EntersSome n u vs w ⊎ EntersAt n u v w) (EntersSome n u (vs ++ v ∷ []))
+    (lesser a b)
+    (λ w s. ⊎_elim (λ p. (Contains-append_left vs (v ∷ []) w p.0, p.1))
+    (λ q. subst (λ x. EntersSome n u (vs ++ v ∷ []) x) (sym q.0) (Contains-push vs v, q.1)) s)
+    (λ w s. ⊎_elim (λ c. inl (c, s.1))
+    (λ c. let e = sym (in_one w v c) in inr (e, subst (λ x. Enters n u x) e s.1))
+    (Contains-append_cases vs (v ∷ []) w s.0))
+    (least_or (EntersSome n u vs) (EntersAt n u v) a b h i)
+
+-- of all successors
+pub enters_all : (g : Graph) (n : Nest) (u : ℕ) (o : Option ℕ) → u < g.size
+    → IsLeastNumber (EntersSome n u (g.next u)) o → IsLeastNumber (EntersFrom g n u) o
+enters_all g n u o lt h =
+    least_same (EntersSome n u (g.next u)) (EntersFrom g n u) o (λ v s. ((lt, s.0), s.1))
+    (λ v e. (e.0.1, e.1)) h
+
+module _ (heads bounds : List ℕ) (holders : List (List ℕ))
     (S : AreRegionLists heads bounds holders) where
   abbrev test : ℕ → ℕ → ℕ → Bool
   test u v q = not (is_head heads v q) && not (has (row holders u) q)
@@ -66,40 +93,22 @@ module _ (g : Graph) (heads bounds : List ℕ) (holders : List (List ℕ))
       (and_from (not (is_head heads v e.0)) (not (has (row holders u) e.0))
       (no_head heads v e.0 e.3) (not_from_false (has (row holders u) e.0) e.4))
 
-  pub entered_here : (u k v : ℕ) → slice_get (g.next u) k ≡ Some v
+  pub entered_here : (u v : ℕ)
       → IsTrue
       (list_any (λ q. not (is_head heads v q) && not (has (row holders u) q)) (row holders v))
-      → IsLeastNumber (EntersBy g (nest_by heads bounds holders) u k) (Some v)
-  entered_here u k v e h = (
-    (e, enters_from u v h),
-    λ b s. let q : Some v ≡ Some b = sym e ∙ s.0 in let same : v ≡ b = cc in omega arith,
-  )
+      → IsLeastNumber (EntersAt (nest_by heads bounds holders) u v) (Some v)
+  entered_here u v h = ((refl, enters_from u v h), λ b s. let e = s.0 in omega (arith, e))
 
-  pub not_entered : (u k v : ℕ) → slice_get (g.next u) k ≡ Some v
+  pub not_entered : (u v : ℕ)
       → list_any (λ q. not (is_head heads v q) && not (has (row holders u) q)) (row holders v)
-      ≡ false → IsLeastNumber (EntersBy g (nest_by heads bounds holders) u k) None
-  not_entered u k v e h b s =
-      let q : Some v ≡ Some b = sym e ∙ s.0 in
-      let same : v ≡ b = cc in
+      ≡ false → IsLeastNumber (EntersAt (nest_by heads bounds holders) u v) None
+  not_entered u v h b s =
       both_ways
       (list_any (λ q. not (is_head heads v q) && not (has (row holders u) q)) (row holders v)) h
-      (entered u v (subst (λ w. Enters (nest_by heads bounds holders) u w) (sym same) s.1))
+      (entered u v s.1)
 
-  pub both_edges : (u : ℕ) (a b : Option ℕ) → u < g.size → length (g.next u) ≤ 2
-      → IsLeastNumber (EntersBy g (nest_by heads bounds holders) u 0) a
-      → IsLeastNumber (EntersBy g (nest_by heads bounds holders) u 1) b
-      → IsLeastNumber (EntersFrom g (nest_by heads bounds holders) u) (lesser a b)
-  both_edges u a b lt le h i =
-      least_same (λ v. EntersBy g (nest_by heads bounds holders) u 0 v
-      ⊎ EntersBy g (nest_by heads bounds holders) u 1 v)
-      (EntersFrom g (nest_by heads bounds holders) u) (lesser a b)
-      (λ v s. ⊎_elim (λ p. ((lt, at_contains (g.next u) 0 v p.0), p.1))
-      (λ p. ((lt, at_contains (g.next u) 1 v p.0), p.1)) s)
-      (λ v e. ⊎_elim (λ p. inl (p, e.1)) (λ p. inr (p, e.1))
-      (first_or_second (g.next u) v le e.0.1))
-      (least_or (EntersBy g (nest_by heads bounds holders) u 0)
-      (EntersBy g (nest_by heads bounds holders) u 1) a b h i)
-
+module _ (g : Graph) (heads bounds : List ℕ) (holders : List (List ℕ))
+    (S : AreRegionLists heads bounds holders) where
   pub start_inside : IsTrue (list_any (λ q. not (is_head heads g.first q)) (row holders g.first))
       → IsLeastNumber (IsInsideStart g (nest_by heads bounds holders)) (Some g.first)
   start_inside h =

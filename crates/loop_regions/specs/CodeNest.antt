@@ -2,6 +2,7 @@
 use Rattle.std.specs.Prelude.{◌≡◌, ℕ, Bool, ◌==◌, ◌≤◌, List, [], length, slice_index}
 use Rattle.std.specs.Prelude.{slice_index_or}
 use Rattle.std.specs.List.{All, list_any}
+use Rattle.crpd_base.specs.Limits.{most_iterations}
 use Rattle.crpd_base.specs.declared.data.LoopAt.{LoopAt}
 use Rattle.flat_graph.specs.CodeGraph.{CodeGraph, graph_of, places_of}
 use Rattle.loop_regions.specs.Nest.{Nest}
@@ -32,7 +33,7 @@ nest_of n = record {
 
 -- each stated loop has a bound from 1 to 1,000,000
 abbrev pub AreBounded : List LoopAt → Type 0
-AreBounded = All (λ (l : LoopAt). (1 ≤ l.bound) × (l.bound ≤ 1000000))
+AreBounded = All (λ (l : LoopAt). (1 ≤ l.bound) × (l.bound ≤ most_iterations))
 
 -- it is the regions of the graph for some stated loops, with none of the refusals of loops
 pub record IsNestOf (g : CodeGraph) (n : CodeNest) : Type 0 where

@@ -50,14 +50,14 @@ impl Regions {
     pub(crate) fn len(&self) -> u32
         ensures { result ≡ length self.now.heads }
     {
-        self.heads.as_slice().len() as u32
+        self.heads.len() as u32
     }
 
     /// How many nodes there are.
     pub(crate) fn nodes(&self) -> u32
         ensures { result ≡ length self.now.holders }
     {
-        self.holders.as_slice().len() as u32
+        self.holders.len() as u32
     }
 
     /// The regions that hold a node.
@@ -65,7 +65,7 @@ impl Regions {
         requires { y < length self.now.holders }
         ensures { result.now ≡ row self.now.holders y }
     {
-        let holders = &self.holders.as_slice()[y as usize];
+        let holders = &self.holders[y as usize];
         holders.as_slice()
     }
 

@@ -87,7 +87,7 @@ impl Nest {
     pub fn len(&self) -> u32
         ensures { result ≡ (nest_of self.now).size }
     {
-        self.heads.as_slice().len() as u32
+        self.heads.len() as u32
     }
 
     /// A law: there are at most 16,384 regions. In constant time.
@@ -102,7 +102,7 @@ impl Nest {
         requires { r < (nest_of self.now).size }
         ensures { result.0 ≡ (nest_of self.now).head r }
     {
-        NodeId(self.heads.as_slice()[r as usize])
+        NodeId(self.heads[r as usize])
     }
 
     /// How often a kept walk may be at a region's head from an entry into the region until it
@@ -111,7 +111,7 @@ impl Nest {
         requires { r < (nest_of self.now).size }
         ensures { result ≡ (nest_of self.now).bound r }
     {
-        self.bounds.as_slice()[r as usize]
+        self.bounds[r as usize]
     }
 
     /// The innermost region round a region, None where there is none. In constant time.
@@ -119,7 +119,7 @@ impl Nest {
         requires { r < (nest_of self.now).size }
         ensures { IsParent (nest_of self.now) r result }
     {
-        self.parents.as_slice()[r as usize]
+        self.parents[r as usize]
     }
 
     /// Whether a region holds a node. Its time is at most the number of regions that hold the node.
@@ -128,7 +128,7 @@ impl Nest {
         requires { id.0 < length self.now.holders }
         ensures { result ≡ (nest_of self.now).holds r id.0 }
     {
-        let holders = &self.holders.as_slice()[id.0 as usize];
+        let holders = &self.holders[id.0 as usize];
         holders.has(r)
     }
 
@@ -137,6 +137,6 @@ impl Nest {
         requires { id.0 < length self.now.holders }
         ensures { IsLevel (nest_of self.now) id.0 result }
     {
-        self.innermost.as_slice()[id.0 as usize]
+        self.innermost[id.0 as usize]
     }
 }

@@ -1,13 +1,15 @@
 // Ranks that fall along forward edges, where no cycle is left without back edges.
-ghost use Rattle.std.specs.Prelude.{◌≡◌, ◌<◌, ◌^◌, ℕ, All, IfOk, IfSome, OnOk, IsTrue, Some};
-ghost use Rattle.std.specs.Prelude.{length, slice_get, slice_index};
+ghost use Rattle.std.specs.Prelude.{◌≡◌, ◌<◌, ◌^◌, ℕ, All, IfOk, IfSome, OnOk, IsTrue, length};
+ghost use Rattle.std.specs.Prelude.{slice_index};
 ghost use Rattle.flat_graph.specs.CodeGraph.{graph_of};
+ghost use Rattle.loop_regions.specs.Nest.{IsBackEdge};
 ghost use Rattle.loop_regions.specs.Stated.{IsForward};
 ghost use Rattle.loop_regions.specs.Inner.FoundRegions.{nest_in, is_back};
 ghost use Rattle.loop_regions.specs.Inner.ForwardPaths.{IsForwardBy};
 
 use crate::found::Regions;
 use crate::second_entry::next;
+use crpd_base::NodeId;
 use flat_graph::Graph;
 use std::alloc::{AllocError, Global};
 
@@ -36,16 +38,18 @@ pub(crate) fn forward(graph: &Graph, regions: &Regions, u: u32, k: u8) -> Option
     }
 }
 
-/// Counts one more edge that arrives at the first or second successor of a node.
-fn count(graph: &Graph, regions: &Regions, u: u32, k: u8, arrivals: &mut Vec<u32>)
+/// Counts one more edge that arrives at the end of each forward edge of a node.
+fn count(graph: &Graph, regions: &Regions, u: u32, arrivals: &mut Vec<u32>)
     requires nodes { length regions.now.holders ≡ (graph_of graph.now).size }
     requires node { u < (graph_of graph.now).size }
-    requires place { k < 2 }
     requires all { length arrivals.old.items ≡ (graph_of graph.now).size }
     ensures { length arrivals.new.items ≡ length arrivals.old.items }
 {
-    if let Some(v) = forward(graph, regions, u, k) {
-        arrivals[v as usize] = arrivals[v as usize].saturating_add(1);
+    for next in graph.successors(NodeId(u)) {
+        if !is_back(regions, u, next.0) {
+            let v = next.0 as usize;
+            arrivals[v] = arrivals[v].saturating_add(1);
+        }
     }
 }
 
@@ -56,8 +60,7 @@ fn count_arrivals(alloc: Global, graph: &Graph, regions: &Regions) -> Result<Vec
 {
     let mut arrivals = vec![in alloc; 0u32; graph.len() as usize]?;
     for u in 0..graph.len() {
-        count(graph, regions, u, 0, &mut arrivals);
-        count(graph, regions, u, 1, &mut arrivals);
+        count(graph, regions, u, &mut arrivals);
     }
     Ok(arrivals)
 }
@@ -76,29 +79,30 @@ fn without_arrivals(alloc: Global, arrivals: &[u32]) -> Result<Vec<u32>, AllocEr
     Ok(ready)
 }
 
-/// Takes an edge of a ranked node away. Its target is ready where that was the last edge that
-/// arrived there.
+/// Takes the forward edges of a ranked node away. A target is ready where that was the last edge
+/// that arrived there.
 fn take_away(
     graph: &Graph,
     regions: &Regions,
     u: u32,
-    k: u8,
     arrivals: &mut Vec<u32>,
     ready: &mut Vec<u32>,
 ) -> Result<(), AllocError>
     requires nodes { length regions.now.holders ≡ (graph_of graph.now).size }
     requires node { u < (graph_of graph.now).size }
-    requires place { k < 2 }
     requires all { length arrivals.old.items ≡ (graph_of graph.now).size }
     requires ready { All (λ v. v < (graph_of graph.now).size) ready.old.items }
     ensures all { length arrivals.new.items ≡ length arrivals.old.items }
     ensures ready { OnOk result (All (λ v. v < (graph_of graph.now).size) ready.new.items) }
 {
-    if let Some(v) = forward(graph, regions, u, k) {
-        let left = arrivals[v as usize].saturating_sub(1);
-        arrivals[v as usize] = left;
+    for next in graph.successors(NodeId(u)) {
+        if is_back(regions, u, next.0) {
+            continue;
+        }
+        let left = arrivals[next.0 as usize].saturating_sub(1);
+        arrivals[next.0 as usize] = left;
         if left == 0 {
-            ready.push(v)?;
+            ready.push(next.0)?;
         }
     }
     Ok(())
@@ -121,26 +125,34 @@ pub(crate) fn ranks(alloc: Global, graph: &Graph, regions: &Regions) -> Result<V
             break;
         };
         ranks[u as usize] = nodes - ranked;
-        take_away(graph, regions, u, 0, &mut arrivals, &mut ready)?;
-        take_away(graph, regions, u, 1, &mut arrivals, &mut ready)?;
+        take_away(graph, regions, u, &mut arrivals, &mut ready)?;
     }
     Ok(ranks)
 }
 
-/// Whether ranks fall along the first or second edge of a node, where that is a forward one.
-fn falls_along(graph: &Graph, regions: &Regions, ranks: &[u32], u: u32, k: u8) -> bool
-    requires nodes { length regions.now.holders ≡ (graph_of graph.now).size }
-    requires node { u < (graph_of graph.now).size }
-    requires place { k < 2 }
-    requires all { length ranks.now ≡ (graph_of graph.now).size }
-    ensures { IsTrue result → (v : ℕ) → slice_get ((graph_of graph.now).next u) k ≡ Some v
-        → IsForward (graph_of graph.now) (nest_in regions.now) u v
+/// Whether ranks fall along an edge from u to v, where that is a forward one.
+fn falls(regions: &Regions, ranks: &[u32], u: u32, v: u32) -> bool
+    requires node { u < length regions.now.holders }
+    requires source { u < length ranks.now }
+    requires target { v < length ranks.now }
+    ensures { IsTrue result → (IsBackEdge (nest_in regions.now) u v → ⊥)
         → slice_index ranks.now v < slice_index ranks.now u }
 {
-    match forward(graph, regions, u, k) {
-        Some(v) => ranks[v as usize] < ranks[u as usize],
-        None => true,
-    }
+    is_back(regions, u, v) || ranks[v as usize] < ranks[u as usize]
+}
+
+/// Whether ranks fall along the forward edges of a node.
+fn falls_along(graph: &Graph, regions: &Regions, ranks: &[u32], u: u32) -> bool
+    requires nodes { length regions.now.holders ≡ (graph_of graph.now).size }
+    requires node { u < (graph_of graph.now).size }
+    requires all { length ranks.now ≡ (graph_of graph.now).size }
+    ensures { IsTrue result → All
+        (λ v. (IsBackEdge (nest_in regions.now) u v → ⊥)
+        → slice_index ranks.now v < slice_index ranks.now u) ((graph_of graph.now).next u) }
+{
+    graph
+        .successors(NodeId(u))
+        .all(|next| falls(regions, ranks, u, next.0))
 }
 
 /// Whether ranks fall along all forward edges. Then no cycle is left without back edges.
@@ -152,10 +164,7 @@ pub(crate) fn all_fall(graph: &Graph, regions: &Regions, ranks: &[u32]) -> bool
 {
     graph.graph_law();
     for u in 0..graph.len() {
-        if !falls_along(graph, regions, ranks, u, 0) {
-            return false;
-        }
-        if !falls_along(graph, regions, ranks, u, 1) {
+        if !falls_along(graph, regions, ranks, u) {
             return false;
         }
     }

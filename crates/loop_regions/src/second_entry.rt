@@ -4,7 +4,7 @@ ghost use Rattle.flat_graph.specs.CodeGraph.{graph_of};
 ghost use Rattle.loop_regions.specs.Inner.Least.{IsLeastNumber};
 ghost use Rattle.loop_regions.specs.Stated.{IsSecondEntry};
 ghost use Rattle.loop_regions.specs.Inner.FoundRegions.{nest_in, is_inside_some, enters};
-ghost use Rattle.loop_regions.specs.Inner.FoundRegions.{EntersFrom, EntersBy, IsInsideStart};
+ghost use Rattle.loop_regions.specs.Inner.FoundRegions.{EntersFrom, EntersAt, IsInsideStart};
 
 use crate::found::Regions;
 use crate::least::lesser;
@@ -39,16 +39,11 @@ pub(crate) fn next(graph: &Graph, u: u32, k: u8) -> Option<u32>
     graph.succ(NodeId(u), k).map(|id| id.0)
 }
 
-/// The first or second successor of a node, where that edge enters a region of which it is not the
-/// head.
-fn entered_by(graph: &Graph, regions: &Regions, u: u32, k: u8) -> Option<u32>
-    requires nodes { length regions.now.holders ≡ (graph_of graph.now).size }
-    requires node { u < (graph_of graph.now).size }
-    requires place { k < 2 }
-    ensures { IsLeastNumber (EntersBy (graph_of graph.now) (nest_in regions.now) u k) result }
+/// A node v, where an edge from u to it enters a region of which it is not the head.
+fn entered_at(regions: &Regions, u: u32, v: u32) -> Option<u32>
+    requires { v < length regions.now.holders }
+    ensures { IsLeastNumber (EntersAt (nest_in regions.now) u v) result }
 {
-    graph.graph_law();
-    let v = next(graph, u, k)?;
     if enters(regions, u, v) { Some(v) } else { None }
 }
 
@@ -58,11 +53,11 @@ fn entered_from(graph: &Graph, regions: &Regions, u: u32) -> Option<u32>
     requires node { u < (graph_of graph.now).size }
     ensures { IsLeastNumber (EntersFrom (graph_of graph.now) (nest_in regions.now) u) result }
 {
-    graph.graph_law();
-    lesser(
-        entered_by(graph, regions, u, 0),
-        entered_by(graph, regions, u, 1),
-    )
+    let mut least = None;
+    for next in graph.successors(NodeId(u)) {
+        least = lesser(least, entered_at(regions, u, next.0));
+    }
+    least
 }
 
 /// The first node, where a region holds it of which it is not the head.

@@ -9,7 +9,7 @@ use std::test::Fail;
 fn are_named(set: &TaskSet, script: &Script) -> bool
     ensures { IsTrue result → NamesTasks set.now script.now.jobs }
 {
-    let tasks = set.tasks.as_slice().len();
+    let tasks = set.tasks.len();
     for job in script.jobs.as_slice() {
         if usize::from(job.task.0) >= tasks {
             return false;
@@ -47,7 +47,7 @@ pub(crate) fn script_of(
         cache: Items::new(Vec::from_slice(alloc, blocks)?),
         jobs: Items::new(jobs_of(alloc, jobs)?),
     };
-    if !are_named(set, &script) || script.jobs.as_slice().len() > 100 {
+    if !are_named(set, &script) || script.jobs.len() > 100 {
         return Err(Fail::from("no such task, or too many jobs"));
     }
     Ok(script)

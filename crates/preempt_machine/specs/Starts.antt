@@ -1,5 +1,6 @@
 -- What the run of a script starts from, and what it comes to.
 use Rattle.std.specs.Prelude.{ℕ, ◌+◌, List, [], ◌∷◌, replicate, None}
+use Rattle.crpd_base.specs.Limits.{most_sets}
 use Rattle.crpd_base.specs.declared.data.Image.{Image}
 use Rattle.crpd_base.specs.declared.data.Platform.{Platform}
 use Rattle.crpd_base.specs.declared.data.Script.{Script}
@@ -19,7 +20,7 @@ with_blocks p cache (b ∷ blocks) = with_blocks p (cache_after_access p cache b
 
 -- the cache at the start of a script, with room for 512 sets
 unfoldable pub start_cache : Platform → List ℕ → Cache
-start_cache p blocks = with_blocks p (replicate 512 None) blocks
+start_cache p blocks = with_blocks p (replicate most_sets None) blocks
 
 -- bytes from an address on
 abbrev pub with_bytes : Memory → ℕ → List ℕ → Memory

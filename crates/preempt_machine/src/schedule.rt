@@ -140,7 +140,7 @@ impl Schedule {
             → HasPlan code.now.plans (job_at s.jobs.items x)) }
     {
         let lines = script.jobs.as_slice();
-        let tasks = set.tasks.as_slice().len();
+        let tasks = set.tasks.len();
         let jobs = start_jobs(alloc, code, lines)?;
         let completions = start_completions(alloc, lines, tasks)?;
         let queue = Queue::new(alloc, lines, tasks)?;

@@ -266,7 +266,7 @@ fn symbols_by_name(rt: HostRuntime) -> Result<(), Fail> {
 
 fn symbol_count(alloc: Global, bytes: &[u8]) -> Result<usize, ElfError> {
     let image = read_elf(alloc, bytes)?;
-    Ok(image.symbols.as_slice().len())
+    Ok(image.symbols.len())
 }
 
 const OUTSIDE: Result<usize, ElfError> = Err(ElfError::SymbolsOutside);

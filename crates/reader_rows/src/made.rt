@@ -221,8 +221,8 @@ fn task_told(alloc: Global, task: &TaskSpec, bytes: usize) -> Result<String, All
 
 fn told(alloc: Global, made: &Generated) -> Result<String, AllocError> {
     let mut text = String::new(alloc);
-    for (task, file) in made.set.tasks.as_slice().iter().zip(made.files.as_slice()) {
-        let line = task_told(alloc, task, file.as_slice().len())?;
+    for (task, file) in made.set.tasks.iter().zip(made.files.as_slice()) {
+        let line = task_told(alloc, task, file.len())?;
         text.push_str(line.as_str())?;
     }
     for job in made.script.jobs.as_slice() {
@@ -237,7 +237,7 @@ fn tasks_and_jobs(rt: HostRuntime) -> Result<(), Fail> {
     for (n, expected) in MADE {
         let made = generate(rt.alloc(), n).expect(&rt, "there is memory");
         assert_eq!(rt; made.script.cycles, 500_000);
-        assert!(rt; made.script.cache.as_slice().is_empty());
+        assert!(rt; made.script.cache.is_empty());
         assert_eq!(rt; told(rt.alloc(), &made)?.as_str(), expected, "of {n}");
     }
     Ok(())
@@ -246,11 +246,7 @@ fn tasks_and_jobs(rt: HostRuntime) -> Result<(), Fail> {
 #[test]
 fn the_bytes_of_a_file(rt: HostRuntime) -> Result<(), Fail> {
     let made = generate(rt.alloc(), 1).expect(&rt, "there is memory");
-    let file = made
-        .files
-        .as_slice()
-        .get(4)
-        .expect(&rt, "there are 16 files");
+    let file = made.files.get(4).expect(&rt, "there are 16 files");
     assert_eq!(rt; file.as_slice(), FILE.as_slice());
     Ok(())
 }

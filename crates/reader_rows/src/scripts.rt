@@ -107,7 +107,7 @@ fn values(rt: HostRuntime) -> Result<(), Fail> {
     let script = read_script(rt.alloc(), text, &set)?;
     assert_eq!(rt; script.cycles, 9);
     assert_eq!(rt; script.cache.as_slice(), [7, 3].as_slice());
-    assert_eq!(rt; script.jobs.as_slice().len(), 1);
+    assert_eq!(rt; script.jobs.len(), 1);
     for job in script.jobs.as_slice() {
         assert_eq!(rt; job.task.0, 1);
         assert_eq!(rt; job.arrival, 1);

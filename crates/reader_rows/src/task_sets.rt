@@ -345,7 +345,7 @@ fn values(rt: HostRuntime) -> Result<(), Fail> {
     assert_eq!(rt; set.platform.memory, 3);
     assert_eq!(rt; set.platform.mul, 0);
     assert!(rt; set.platform.switching == Switching::Cycle);
-    assert_eq!(rt; set.tasks.as_slice().len(), 1);
+    assert_eq!(rt; set.tasks.len(), 1);
     for task in set.tasks.as_slice() {
         assert_eq!(rt; task.name.as_str(), "one");
         assert_eq!(rt; task.jitter, 7);
@@ -354,10 +354,10 @@ fn values(rt: HostRuntime) -> Result<(), Fail> {
         assert!(rt;
             matches!(&task.stack, Place::Symbol { name, offset: 16 } if name.as_str() == "top")
         );
-        assert_eq!(rt; task.loops.as_slice().len(), 1);
+        assert_eq!(rt; task.loops.len(), 1);
         for stated in task.loops.as_slice() {
             assert_eq!(rt; stated.bound, 3);
-            assert_eq!(rt; stated.ranges.as_slice().len(), 1);
+            assert_eq!(rt; stated.ranges.len(), 1);
             for (from, to) in stated.ranges.as_slice() {
                 assert!(rt; matches!(from, Place::Number(0x1004)));
                 assert!(rt; matches!(to, Place::Number(0x100C)));

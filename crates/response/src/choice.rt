@@ -55,7 +55,7 @@ pub fn windows(
 {
     let mut choices = Vec::new(alloc);
     let mut found = [0; MOST_TASKS];
-    for i in 0..set.tasks.as_slice().len() {
+    for i in 0..set.tasks.len() {
         let task = Task(i as u8);
         let ucb = window(set, parts, longest, &found, task, Method::Ucb);
         let ecb = window(set, parts, longest, &found, task, Method::Ecb);

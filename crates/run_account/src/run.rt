@@ -60,7 +60,7 @@ fn all_hits(
 {
     let mut all = Vec::new(alloc);
     for task in 0..graphs.len() {
-        let part = &certificate.tasks.as_slice()[task];
+        let part = &certificate.tasks[task];
         let flags = hits(alloc, &set.platform, &graphs[task], part)?;
         push(&mut all, Hits { flags })?;
     }
@@ -351,7 +351,7 @@ pub fn account(
         certificate,
         hits: hits.as_slice(),
     };
-    let jobs = script.jobs.as_slice().len();
+    let jobs = script.jobs.len();
     let mut trails = Trails::new(alloc, jobs, set.platform.sets as usize)?;
     let mut machine = Machine::load(alloc, code, set, script)?;
     trails.follow_run(&mut machine, &run)?;

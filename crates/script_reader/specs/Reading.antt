@@ -2,6 +2,7 @@
 use Rattle.std.specs.Prelude.{ℕ, pos, ◌+◌, ◌^◌, List, [], ◌∷◌, ◌++◌, length, codes, Bool, false}
 use Rattle.std.specs.Prelude.{Option, Some, None, nat_lt, Result, Ok, Err, if◌then◌else◌}
 use Rattle.std.specs.Str.{bytes_eq, is_utf8}
+use Rattle.crpd_base.specs.Limits.{longest_time, most_jobs}
 use Rattle.crpd_base.specs.declared.data.ScriptJob.{ScriptJob}
 use Rattle.crpd_base.specs.declared.data.Script.{Script}
 use Rattle.crpd_base.specs.declared.data.TaskSpec.{TaskSpec}
@@ -54,8 +55,8 @@ job_at set path ms = do
   _ ← of_script (all_known job_keys path ms)
   name ← of_script (required as_str path (codes "task") ms)
   task ← task_named path name set
-  arrival ← of_script (required (whole 0 (2 ^ 40)) path (codes "arrival") ms)
-  release ← of_script (required (whole 0 (2 ^ 40)) path (codes "release") ms)
+  arrival ← of_script (required (whole 0 longest_time) path (codes "arrival") ms)
+  release ← of_script (required (whole 0 longest_time) path (codes "release") ms)
   Ok (record { task = record { 0 = task }; arrival = arrival; release = release })
 
 -- the job at a place
@@ -65,7 +66,8 @@ nth_job set i = job_at set (item_path [] (codes "job") i)
 unfoldable pub jobs_at : TaskSet → Members → Result (List ScriptJob) ScriptError
 jobs_at set ms = do
   tables ← of_script (optional [] (listed as_table) [] (codes "job") ms)
-  if nat_lt 10000 (length tables) then Err (TooLong (codes "job")) else each (nth_job set) 0 tables
+  if nat_lt most_jobs (length tables) then Err (TooLong (codes "job"))
+      else each (nth_job set) 0 tables
 
 -- ---- the script
 
@@ -80,8 +82,8 @@ is_above n _ = false
 unfoldable pub cycles_at : Members → Result ℕ ScriptError
 cycles_at ms = do
   d ← of_script (value_at_key [] (codes "cycles") ms)
-  if is_above (2 ^ 40) d then Err (TooLong (codes "cycles"))
-      else of_script (value_or_bad [] (codes "cycles") (whole 1 (2 ^ 40) d))
+  if is_above longest_time d then Err (TooLong (codes "cycles"))
+      else of_script (value_or_bad [] (codes "cycles") (whole 1 longest_time d))
 
 -- the number of a block
 abbrev pub block : Data → Option ℕ

@@ -1,13 +1,12 @@
 ghost use Rattle.std.specs.Prelude.{◌≡◌, ℕ, ◌<◌, ◌≤◌, ◌↔◌, IsTrue, length, take, map, slice_index};
 ghost use Rattle.std.specs.Prelude.{All};
 ghost use Rattle.std.specs.List.Sorted.{IsNonDecreasing};
+ghost use Rattle.crpd_base.specs.Limits.{most_jobs};
 ghost use Rattle.script_reader.specs.Legal.{AreApart, IsReleasedInTime, IsLegal};
 ghost use Rattle.script_reader.specs.Inner.Legal.{AreAllApart, AreSpacedPairs, EachIsSpaced};
 ghost use Rattle.script_reader.specs.Inner.Legal.{IsSpacedBy, arrivals_of};
 
-use crpd_base::{Script, ScriptJob, TaskSet};
-
-const JOBS: usize = 10_000;
+use crpd_base::{MOST_JOBS, Script, ScriptJob, TaskSet};
 
 /// Puts the arrivals of a task's jobs at the front of the buffer, and tells how many they are.
 fn gather(jobs: &[ScriptJob], task: usize, into: &mut [u64]) -> usize
@@ -40,10 +39,10 @@ fn are_apart(times: &[u64], period: u64) -> bool
 
 /// Whether the jobs of a task arrive at least the period apart.
 fn is_spaced(jobs: &[ScriptJob], task: usize, period: u64) -> bool
-    requires { length jobs.now ≤ 10000 }
+    requires { length jobs.now ≤ most_jobs }
     ensures { IsTrue result ↔ AreAllApart period (arrivals_of task jobs.now) }
 {
-    let mut buffer = [0u64; JOBS];
+    let mut buffer = [0u64; MOST_JOBS];
     let count = gather(jobs, task, &mut buffer);
     let times = &mut buffer[..count];
     times.sort_unstable();
@@ -52,7 +51,7 @@ fn is_spaced(jobs: &[ScriptJob], task: usize, period: u64) -> bool
 
 /// Whether the jobs of each task arrive at least its period apart.
 fn are_spaced(set: &TaskSet, jobs: &[ScriptJob]) -> bool
-    requires { length jobs.now ≤ 10000 }
+    requires { length jobs.now ≤ most_jobs }
     ensures { IsTrue result ↔ EachIsSpaced set.now jobs.now }
 {
     let tasks = set.tasks.as_slice();
@@ -127,7 +126,7 @@ fn are_spaced_pairs(set: &TaskSet, jobs: &[ScriptJob]) -> bool
     requires { All (λ j. j.task.0 < length set.now.tasks) jobs.now }
     ensures { IsTrue result ↔ AreSpacedPairs set.now jobs.now }
 {
-    if jobs.len() <= JOBS {
+    if jobs.len() <= MOST_JOBS {
         are_spaced(set, jobs)
     } else {
         are_spaced_by_pairs(set, jobs)

@@ -1,4 +1,5 @@
 ghost use Rattle.std.specs.Prelude.{◌≡◌, ◌<◌, ◌≤◌, All, [], codes, length, map, option_map, IfOk};
+ghost use Rattle.crpd_base.specs.Limits.{most_jobs};
 ghost use Rattle.toml.specs.View.{view, table_view};
 ghost use Rattle.crpd_base.specs.Outcome.{Gives};
 ghost use Rattle.toml_keys.specs.Reading.{all_known, optional, listed};
@@ -117,7 +118,7 @@ pub fn read_script(alloc: Global, bytes: &[u8], set: &TaskSet) -> Result<Script,
 
     // What `legal` asks.
     ensures in_set { IfOk result (λ s. All (λ j. j.task.0 < length set.now.tasks) s.jobs) }
-    ensures few { IfOk result (λ s. length s.jobs ≤ 10000) }
+    ensures few { IfOk result (λ s. length s.jobs ≤ most_jobs) }
 {
     script_of(alloc, bytes, set)
 }

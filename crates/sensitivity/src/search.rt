@@ -1,5 +1,6 @@
 // The search for the greatest accepted cost.
 ghost use Rattle.std.specs.Prelude.{◌≡◌, ◌≤◌, IfOk};
+ghost use Rattle.crpd_base.specs.Limits.{most_cost};
 ghost use Rattle.crpd_base.specs.Ranges.{IsTaskSet};
 ghost use Rattle.cert_check.specs.TaskGraphs.{task_graph_at, AreTaskGraphs};
 ghost use Rattle.sensitivity.specs.Inner.Found.{ListsParts, AreKnown, IsAcceptedOrStops, with_cost};
@@ -11,14 +12,11 @@ use crate::laws::acceptance_law;
 use crate::slack::{Slack, Stop};
 use cert_build::graphs_law;
 use cert_check::write_longest;
-use crpd_base::{Items, MOST_TASKS, Memory, Part, TaskSet, copy_set};
+use crpd_base::{Items, MOST_COST, MOST_TASKS, Memory, Part, TaskSet, copy_set};
 use flat_graph::Graph;
 use loop_regions::Nest;
 use response::{WindowError, windows};
 use std::alloc::Global;
-
-/// The greatest cost that a platform may have, in cycles.
-const GREATEST: u32 = 65_535;
 
 /// Where a set with these parts stops, None where each task has a window.
 fn stop_of(
@@ -70,7 +68,7 @@ impl Search<'_> {
             (task_graph_at self.now.graphs.now self.now.nests.now) self.now.parts.now
             self.now.hits.now }
         requires trial { trial.old.tasks ≡ self.now.set.now.tasks }
-        requires cycles { cycles ≤ 65535 }
+        requires cycles { cycles ≤ most_cost }
         ensures trial { trial.new.tasks ≡ trial.old.tasks }
         ensures judged { IfOk result
             (λ stop. IsAcceptedOrStops (with_cost self.now.cost self.now.set.now cycles)
@@ -105,13 +103,13 @@ impl Search<'_> {
         let Ok(mut trial) = copy_set(alloc, self.set) else {
             return Err(Memory);
         };
-        let Some(mut stop) = self.stop_at(alloc, &mut trial, GREATEST)? else {
+        let Some(mut stop) = self.stop_at(alloc, &mut trial, MOST_COST)? else {
             return Ok(Slack {
-                greatest: Some(GREATEST),
+                greatest: Some(MOST_COST),
                 stop: Stop::Limit,
             });
         };
-        let (mut low, mut high) = (0, GREATEST);
+        let (mut low, mut high) = (0, MOST_COST);
         while low < high {
             let middle = (low + high) / 2;
             match self.stop_at(alloc, &mut trial, middle)? {

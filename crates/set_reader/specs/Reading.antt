@@ -4,6 +4,8 @@ use Rattle.std.specs.Prelude.{ℕ, ◌^◌, List, [], ◌∷◌, ◌++◌, lengt
 use Rattle.std.specs.Prelude.{option_map, nat_lt, nat_le, Result, Ok, Err, if◌then◌else◌}
 use Rattle.std.specs.List.{list_any}
 use Rattle.std.specs.Str.{bytes_eq, is_utf8}
+use Rattle.crpd_base.specs.Limits.{most_sets, most_cost, most_tasks, most_loops, most_iterations}
+use Rattle.crpd_base.specs.Limits.{longest_time}
 use Rattle.crpd_base.specs.declared.data.Platform.{Platform}
 use Rattle.crpd_base.specs.declared.data.Place.{Place}
 use Rattle.crpd_base.specs.declared.data.Place.TheVariants.{Number}
@@ -34,14 +36,14 @@ platform_keys =
 
 -- a number of cycles
 abbrev pub cycles : Data → Option ℕ
-cycles = whole 0 65535
+cycles = whole 0 most_cost
 
 unfoldable pub platform_at : List ℕ → Members → Result Platform KeyError
 platform_at path ms = do
   _ ← all_known platform_keys path ms
   line ← required kind.line_bytes path (codes "line") ms
-  sets ← required (whole 1 512) path (codes "sets") ms
-  hit ← required (whole 1 65535) path (codes "hit") ms
+  sets ← required (whole 1 most_sets) path (codes "sets") ms
+  hit ← required (whole 1 most_cost) path (codes "hit") ms
   miss ← required cycles path (codes "miss") ms
   memory ← required cycles path (codes "data") ms
   taken ← required cycles path (codes "taken") ms
@@ -71,7 +73,7 @@ unfoldable pub loop_at : List ℕ → Members → Result LoopSpec KeyError
 loop_at path ms = do
   _ ← all_known loop_keys path ms
   head ← required kind.place path (codes "head") ms
-  bound ← required (whole 1 1000000) path (codes "bound") ms
+  bound ← required (whole 1 most_iterations) path (codes "bound") ms
   ranges ← required (listed kind.range) path (codes "range") ms
   Ok (record { head = head; bound = bound; ranges = ranges })
 
@@ -80,7 +82,7 @@ abbrev pub nth_loop : List ℕ → ℕ → Members → Result LoopSpec KeyError
 nth_loop path i = loop_at (item_path path (codes "loop") i)
 
 abbrev pub loop_tables : Data → Option (List Members)
-loop_tables d = at_most 64 (listed as_table d)
+loop_tables d = at_most most_loops (listed as_table d)
 
 unfoldable pub loops_at : List ℕ → Members → Result (List LoopSpec) KeyError
 loops_at path ms = do
@@ -103,9 +105,9 @@ fields_at path ms = do
   name ← required kind.name path (codes "name") ms
   file ← required kind.file path (codes "file") ms
   entry ← optional None entry_place path (codes "entry") ms
-  period ← required (whole 1 (2 ^ 40)) path (codes "period") ms
-  deadline ← required (whole 1 (2 ^ 40)) path (codes "deadline") ms
-  jitter ← required (whole 0 (2 ^ 40)) path (codes "jitter") ms
+  period ← required (whole 1 longest_time) path (codes "period") ms
+  deadline ← required (whole 1 longest_time) path (codes "deadline") ms
+  jitter ← required (whole 0 longest_time) path (codes "jitter") ms
   stack ← optional (Number 0) kind.place path (codes "stack") ms
   global ← optional (Number 0) kind.place path (codes "global") ms
   loops ← loops_at path ms
@@ -168,7 +170,7 @@ task_tables d = only (λ ts. nat_le 1 (length ts)) (listed as_table d)
 unfoldable pub tasks_at : Members → Result (List TaskSpec) SetError
 tasks_at ms = do
   tables ← of_set (required task_tables [] (codes "task") ms)
-  tasks ← if nat_lt 32 (length tables) then Err (TooManyTasks (length tables))
+  tasks ← if nat_lt most_tasks (length tables) then Err (TooManyTasks (length tables))
       else each task_at 0 tables
   distinct tasks
 

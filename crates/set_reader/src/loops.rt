@@ -6,7 +6,7 @@ ghost use Rattle.set_reader.specs.Kinds as kind;
 ghost use Rattle.set_reader.specs.Reading as spec;
 
 use crate::kinds::{place, ranges};
-use crpd_base::{Items, LoopSpec, MOST_LOOPS, Place};
+use crpd_base::{Items, LoopSpec, MOST_LOOPS, MOST_ITERATIONS, Place};
 use std::alloc::{AllocError, Global};
 use toml::{Table, Value};
 use toml_keys::{KeyError, Keys, item_path, tables};
@@ -49,7 +49,7 @@ fn loop_at(alloc: Global, keys: Keys) -> Result<LoopSpec, KeyError>
     all_known(alloc, keys)?;
     Ok(LoopSpec {
         head: head_at(alloc, keys)?,
-        bound: keys.small_number(alloc, "bound", 1, 1_000_000)?,
+        bound: keys.small_number(alloc, "bound", 1, MOST_ITERATIONS)?,
         ranges: Items::new(ranges_at(alloc, keys)?),
     })
 }

@@ -1,6 +1,7 @@
 -- The nodes of a job's fetches, and that they are a kept walk of its task's graph.
 use Rattle.std.specs.Prelude.{◌≡◌, ◌≢◌, ℕ, ◌<◌, ◌≤◌, true, ◌==◌, if◌then◌else◌, List, [], ◌∷◌}
 use Rattle.std.specs.Prelude.{length, drop, Some}
+use Rattle.crpd_base.specs.Limits.{most_sets}
 use Rattle.crpd_base.specs.declared.data.TaskPlan.{TaskPlan}
 use Rattle.crpd_base.specs.declared.data.TaskSet.{TaskSet}
 use Rattle.rv_decode.specs.Flow.{Words, IsCodeMap, flows}
@@ -23,7 +24,7 @@ use Rattle.run_account.specs.Walks.{fetched_nodes}
 pub record HasTaskRanges (set : TaskSet) : Type 0 where
   pub hit : 1 ≤ set.platform.hit
   pub sets : 1 ≤ set.platform.sets
-  pub few_sets : set.platform.sets ≤ 512
+  pub few_sets : set.platform.sets ≤ most_sets
   pub periods : (k : ℕ) → k < length set.tasks → 1 ≤ period_of set k
   pub deadlines : (k : ℕ) → k < length set.tasks → deadline_of set k ≤ period_of set k
 

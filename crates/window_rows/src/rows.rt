@@ -90,7 +90,7 @@ fn has_times(set: &TaskSet) -> bool
 fn has_longest(set: &TaskSet, longest: &[u64]) -> bool
     ensures { IsTrue result → HasLongest set.now longest.now }
 {
-    let tasks = set.tasks.as_slice().len();
+    let tasks = set.tasks.len();
     if longest.len() < tasks {
         return false;
     }
@@ -132,7 +132,7 @@ pub(crate) fn numbers_of(
     let set = set_of(alloc, switching, rows)?;
     let parts = parts_of(alloc, rows, words)?;
     let longest = [11; MOST_TASKS];
-    if parts.len() != set.tasks.as_slice().len() || !has_times(&set) {
+    if parts.len() != set.tasks.len() || !has_times(&set) {
         return Err(Fail::from("times out of range"));
     }
     if !has_bounds(parts.as_slice()) || !has_longest(&set, &longest) {

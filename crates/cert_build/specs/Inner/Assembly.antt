@@ -1,5 +1,6 @@
 -- The parts of a certificate, put together task by task: what only contracts inside the crate cite.
-use Rattle.std.specs.Prelude.{◌≡◌, ℕ, ◌*◌, ◌<◌, ◌≤◌, List, length, sum_by}
+use Rattle.std.specs.Prelude.{◌≡◌, ℕ, ◌*◌, ◌<◌, ◌≤◌, ◌^◌, List, length, sum_by}
+use Rattle.crpd_base.specs.Limits.{most_entries}
 use Rattle.crpd_base.specs.declared.data.Platform.{Platform}
 use Rattle.crpd_base.specs.declared.data.TaskSet.{TaskSet}
 use Rattle.loop_regions.specs.TaskGraph.{TaskGraph}
@@ -22,8 +23,8 @@ pub record CountsEntries (set : TaskSet) (graphs : ℕ → TaskGraph) (n found :
   pub all : List Analysis
   pub analysed : HaveAnalyses set graphs n all
   pub entries : found ≡ sum_by entries_of all
-  pub same : found ≤ 4000000 → kept ≡ all
-  pub small : found ≤ 16777216 * n
+  pub same : found ≤ most_entries → kept ≡ all
+  pub small : found ≤ 2 ^ 24 * n
 
 -- why a task has no analysis, as a refusal of the certificate
 abbrev pub IsTaskError : Platform → TaskGraph → ℕ → BuildError → Type 0

@@ -2,6 +2,7 @@
 -- after another.
 use Rattle.std.specs.Prelude.{◌≡◌, ◌≤◌, ◌<◌, ℕ, ◌+◌, ◌*◌, ◌/◌, List, ◌∷◌, ◌++◌, OnOk, Result}
 use Rattle.std.specs.List.{flat_map}
+use Rattle.crpd_base.specs.Limits.{most_sets}
 use Rattle.json.specs.Token.{Token, key}
 use Rattle.json.specs.Tree.{json_tokens}
 use Rattle.json.specs.Written.{Written}
@@ -34,7 +35,7 @@ AppendsAt r old new name d = OnOk r (Adds old new (key name ∷ tokens_of d))
 -- s is the least number of the set from one on
 pub record IsNextMember (words : List ℕ) (from s : ℕ) : Type 0 where
   pub above : from ≤ s
-  pub below : s < 512
+  pub below : s < most_sets
   pub there : member words s ≡ 1
   pub least : (t : ℕ) → from ≤ t → t < s → member words t ≡ 0
 

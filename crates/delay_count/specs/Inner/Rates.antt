@@ -1,6 +1,7 @@
 -- At which rate a higher task takes of every window at least: what only contracts inside the crate
 -- cite.
 use Rattle.std.specs.Prelude.{ℕ, suc, ◌*◌, ◌/◌, ◌^◌, ◌==◌, min, nat_lt, if◌then◌else◌}
+use Rattle.crpd_base.specs.Limits.{most_sets}
 use Rattle.crpd_base.specs.declared.data.Part.{Part}
 use Rattle.crpd_base.specs.declared.data.TaskSet.{TaskSet}
 use Rattle.crpd_base.specs.declared.data.Method.{Method}
@@ -14,7 +15,8 @@ use Rattle.delay_count.specs.Gamma.{union_count, greatest_choice, shared_sets}
 -- be preempted
 abbrev pub gamma_by : Method → ℕ → (ℕ → Part) → (ℕ → ℕ) → ℕ → ℕ → ℕ → ℕ
 gamma_by Ucb miss parts count jobs i j =
-    miss * union_count jobs (has (parts j).evicting) (λ k. has (parts k).useful) count (suc i) 512
+    miss * union_count jobs (has (parts j).evicting) (λ k. has (parts k).useful) count
+    (suc i) most_sets
 gamma_by Ecb miss parts count jobs i j =
     miss * greatest_choice (shared_sets parts j) count (suc i) jobs
 

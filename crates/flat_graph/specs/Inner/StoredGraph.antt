@@ -2,6 +2,7 @@
 use Rattle.std.specs.Prelude.{◌≡◌, ℕ, ◌<◌, ◌≤◌, ◌↔◌, List, [], ◌∷◌, length, map, All}
 use Rattle.std.specs.Prelude.{slice_index_or, slice_get, IsTrue}
 use Rattle.std.specs.Prelude.{Some}
+use Rattle.crpd_base.specs.Limits.{most_nodes}
 use Rattle.flat_graph.specs.Graph.{IsGraph, IsLeader}
 use Rattle.flat_graph.specs.CodeGraph.{GraphNode, CodeGraph, graph_of, HasCode}
 use Rattle.flat_graph.specs.declared.graph.Onward.{Onward}
@@ -34,6 +35,6 @@ pub record IsStoredGraph (contexts : List (List ℕ)) (nodes : List Stand) (firs
   pub of_code : HasCode (stored_graph contexts nodes first)
   pub graph : IsGraph (graph_of (stored_graph contexts nodes first))
   pub contexts_there : All (λ (n : Stand). n.context < length contexts) nodes
-  pub few : length nodes ≤ 16384
+  pub few : length nodes ≤ most_nodes
   pub leaders : (u : ℕ) (n : Stand) → slice_get nodes u ≡ Some n
       → IsTrue n.leader ↔ IsLeader (graph_of (stored_graph contexts nodes first)) u

@@ -1,7 +1,7 @@
 -- The regions of a graph before they are known to be nested.
 use Rattle.std.specs.Prelude.{◌≡◌, ◌≢◌, ◌↔◌, ◌⊎◌, ℕ, ◌<◌, Bool, not, ◌&&◌, ◌==◌, nat_lt, List}
 use Rattle.std.specs.Prelude.{length, slice_index, slice_get, IsTrue, IsFalse, Option, Some, None}
-use Rattle.std.specs.Prelude.{true, if◌then◌else◌}
+use Rattle.std.specs.Prelude.{true, if◌then◌else◌, Contains}
 use Rattle.std.specs.List.{list_any}
 use Rattle.flat_graph.specs.Graph.{Graph, Edge}
 use Rattle.loop_regions.specs.Nest.{Nest, IsInside}
@@ -41,9 +41,13 @@ Enters n u v =
 abbrev pub EntersFrom : Graph → Nest → ℕ → ℕ → Type 0
 EntersFrom g n u v = Edge g u v × Enters n u v
 
--- so does its first (0) or second (1) edge
-abbrev pub EntersBy : Graph → Nest → ℕ → ℕ → ℕ → Type 0
-EntersBy g n u k v = (slice_get (g.next u) k ≡ Some v) × Enters n u v
+-- it is v, and the edge from u to v does so
+abbrev pub EntersAt : Nest → ℕ → ℕ → ℕ → Type 0
+EntersAt n u v w = (w ≡ v) × Enters n u v
+
+-- it is one of some nodes, and the edge from u to it does so
+abbrev pub EntersSome : Nest → ℕ → List ℕ → ℕ → Type 0
+EntersSome n u vs w = Contains vs w × Enters n u w
 
 -- it is the first node, and a region holds it of which it is not the head
 abbrev pub IsInsideStart : Graph → Nest → ℕ → Type 0

@@ -21,9 +21,8 @@ returns-in_err-name_failure c =
     c.args.certificate.now c.args.i) 1 1 9 c.in_err-name_failure.field-0.0 (omega arith)
     (c.in_err-name_failure.ensures (task_graph_at c.args.graphs.now c.args.nests.now)))
 
-pub bounds-as_slice-i : goal.bounds-as_slice-i
-bounds-as_slice-i c =
-    subst (λ (xs : List TaskPart). c.args.i < length xs) (sym c.as_slice.ensures)
+pub index-part-requires : goal.index-part-requires
+index-part-requires c =
     (c.in_ok-name_failure.ensures (task_graph_at c.args.graphs.now c.args.nests.now) HasTask
     (omega arith) (omega arith))
 
@@ -38,15 +37,12 @@ graph_failure-requires-clause-nest c =
 
 pub graph_failure-requires-clause-sets : goal.graph_failure-requires-clause-sets
 graph_failure-requires-clause-sets c =
-    low_sets c.args.certificate.now c.args.i c.index-as_slice-i.result c.requires.certificate
+    low_sets c.args.certificate.now c.args.i c.index-part.result.now c.requires.certificate
     (c.in_ok-name_failure.ensures (task_graph_at c.args.graphs.now c.args.nests.now) HasTask
     (omega arith) (omega arith))
-    (part_is c.args.certificate.now c.args.i c.index-as_slice-i.result
+    (part_is c.args.certificate.now c.args.i c.index-part.result.now
     (c.in_ok-name_failure.ensures (task_graph_at c.args.graphs.now c.args.nests.now) HasTask
-    (omega arith) (omega arith))
-    (subst (λ (xs : List TaskPart).
-    c.index-as_slice-i.result ≡ get_or xs c.args.i c.index-as_slice-i.result) c.as_slice.ensures
-    c.index-as_slice-i.is))
+    (omega arith) (omega arith)) c.index-part.ensures)
 
 pub returns-in_err-graph_failure : goal.returns-in_err-graph_failure
 returns-in_err-graph_failure c =
@@ -62,18 +58,15 @@ returns-in_err-graph_failure c =
     (ClauseHolds c.args.set.now (task_graph_at c.args.graphs.now c.args.nests.now)
     c.args.certificate.now c.args.i) 2 7 9 c.in_err-graph_failure.field-0.0 (omega arith)
     (found_task c.args.set.now c.args.graphs.now c.args.nests.now c.args.certificate.now c.args.i
-    c.index-graphs-i.result c.index-nests-i.result c.index-as_slice-i.result
+    c.index-graphs-i.result c.index-nests-i.result c.index-part.result.now
     (Err c.in_err-graph_failure.field-0.0)
     (graph_is c.args.graphs.now c.args.i c.index-graphs-i.result
     (omega (arith, c.requires.task, c.requires.tasks.all_graphs)) c.index-graphs-i.is)
     (nest_is c.args.nests.now c.args.i c.index-nests-i.result
     (omega (arith, c.requires.task, c.requires.tasks.all_nests)) c.index-nests-i.is)
-    (part_is c.args.certificate.now c.args.i c.index-as_slice-i.result
+    (part_is c.args.certificate.now c.args.i c.index-part.result.now
     (c.in_ok-name_failure.ensures (task_graph_at c.args.graphs.now c.args.nests.now) HasTask
-    (omega arith) (omega arith))
-    (subst (λ (xs : List TaskPart).
-    c.index-as_slice-i.result ≡ get_or xs c.args.i c.index-as_slice-i.result) c.as_slice.ensures
-    c.index-as_slice-i.is))
+    (omega arith) (omega arith)) c.index-part.ensures)
     c.in_err-graph_failure.ensures)))
 
 pub time_failure-requires-clause-higher : goal.time_failure-requires-clause-higher
@@ -93,17 +86,14 @@ returns c =
     c.args.certificate.now c.args.i) 1 1 7 (Ok tt) (omega arith) (omega arith)
     (c.in_ok-name_failure.ensures (task_graph_at c.args.graphs.now c.args.nests.now))
     (found_task c.args.set.now c.args.graphs.now c.args.nests.now c.args.certificate.now c.args.i
-    c.index-graphs-i.result c.index-nests-i.result c.index-as_slice-i.result (Ok tt)
+    c.index-graphs-i.result c.index-nests-i.result c.index-part.result.now (Ok tt)
     (graph_is c.args.graphs.now c.args.i c.index-graphs-i.result
     (omega (arith, c.requires.task, c.requires.tasks.all_graphs)) c.index-graphs-i.is)
     (nest_is c.args.nests.now c.args.i c.index-nests-i.result
     (omega (arith, c.requires.task, c.requires.tasks.all_nests)) c.index-nests-i.is)
-    (part_is c.args.certificate.now c.args.i c.index-as_slice-i.result
+    (part_is c.args.certificate.now c.args.i c.index-part.result.now
     (c.in_ok-name_failure.ensures (task_graph_at c.args.graphs.now c.args.nests.now) HasTask
-    (omega arith) (omega arith))
-    (subst (λ (xs : List TaskPart).
-    c.index-as_slice-i.result ≡ get_or xs c.args.i c.index-as_slice-i.result) c.as_slice.ensures
-    c.index-as_slice-i.is))
+    (omega arith) (omega arith)) c.index-part.ensures)
     c.in_ok-graph_failure.ensures))
     (found_as
     (TimesHold c.args.set.now (slice_index c.args.longest.now) c.args.certificate.now c.args.i)

@@ -11,8 +11,7 @@ returns-in-Err c =
     judged_no c.args.set.now (task_graph_at c.args.graphs.now c.args.nests.now)
     c.args.certificate.now c.loop-i.i c.in-Err.clause c.number.result c.place.result
     c.number.ensures c.place.ensures
-    (subst (λ (xs : List TaskSpec). c.loop-i.i < length xs) c.as_slice-i-end.ensures
-    c.loop-i-test.true) c.loop-i.invariant c.in-Err.ensures
+    (omega (arith, c.loop-i-test.true, c.len-i-end.ensures)) c.loop-i.invariant c.in-Err.ensures
 
 pub loop-i-preserved : goal.loop-i-preserved
 loop-i-preserved c =

@@ -39,6 +39,8 @@ loop-k-preserved c =
           (listed_of c.args.listing.now.part.now)) (SeenTo c.args.order.now c.loop-k.k)
           (SeenTo c.args.order.now (c.loop-k.k + 1)) (length c.args.listing.now.graph.now.nodes)
           c.loop-k.least (slice_index_or c.args.order.now c.loop-k.k 0) c.state_holds.result
+          (c.requires.order.nodes c.loop-k.k
+          (omega (arith, c.loop-k-test.true, c.requires.order.count)))
           (λ u s ne. seen_more c.args.order.now c.loop-k.k
           (slice_index_or c.args.order.now c.loop-k.k 0) u refl s ne) c.state_holds.ensures
           c.loop-k.invariant.seen);

@@ -15,5 +15,5 @@ returns-in-Some c =
     (entry_listed c.args.listing.now.part.now c.args.node.0 c.in-Some.entry.now c.in-Some.ensures)
     (λ s. entry_state c.args.listing.now.part.now c.args.node.0 c.in-Some.entry.now s
     c.in-Some.ensures)
-    (c.is_empty.ensures ∙ ap (λ xs. length xs == 0) c.as_slice.ensures)
+    c.is_empty.ensures
     (c.if-node-first.false ∙ c.first.ensures)

@@ -23,23 +23,17 @@ returns-then-not-has_room c =
 
 pub returns-then-from : goal.returns-then-from
 returns-then-from c =
-    let part : certified_task c.args.certificate.now c.args.i ≡ c.index-as_slice-i-2.result =
-    (part_is c.args.certificate.now c.args.i c.index-as_slice-i-2.result c.requires.higher.tasks
-    (subst (λ (xs : List TaskPart).
-    c.index-as_slice-i-2.result ≡ get_or xs c.args.i c.index-as_slice-i-2.result)
-    c.as_slice-2.ensures c.index-as_slice-i-2.is)) in
+    let part : certified_task c.args.certificate.now c.args.i ≡ c.index-part.result.now =
+    (part_is c.args.certificate.now c.args.i c.index-part.result.now c.requires.higher.tasks
+    c.index-part.ensures) in
     let r : (certified_task c.args.certificate.now c.args.i).response
-    ≡ c.index-as_slice-i-2.result.response = ap (λ (t : TaskPart). t.response) part in
+    ≡ c.index-part.result.now.response = ap (λ (t : TaskPart). t.response) part in
     let w : (certified_task c.args.certificate.now c.args.i).window
-    ≡ c.index-as_slice-i-2.result.window = ap (λ (t : TaskPart). t.window) part in
-    let j = jitter_is c.args.set.now c.args.i c.index-as_slice-i.result c.requires.task
-    (subst (λ (xs : List TaskSpec).
-    c.index-as_slice-i.result ≡ get_or xs c.args.i c.index-as_slice-i.result) c.as_slice.ensures
-    c.index-as_slice-i.is) in
-    let d = deadline_is c.args.set.now c.args.i c.index-as_slice-i.result c.requires.task
-    (subst (λ (xs : List TaskSpec).
-    c.index-as_slice-i.result ≡ get_or xs c.args.i c.index-as_slice-i.result) c.as_slice.ensures
-    c.index-as_slice-i.is) in
+    ≡ c.index-part.result.now.window = ap (λ (t : TaskPart). t.window) part in
+    let j = jitter_is c.args.set.now c.args.i c.index-task.result.now c.requires.task
+    c.index-task.ensures in
+    let d = deadline_is c.args.set.now c.args.i c.index-task.result.now c.requires.task
+    c.index-task.ensures in
     then_found
     (TimesHold c.args.set.now (slice_index c.args.longest.now) c.args.certificate.now c.args.i) 8 8
     9 (Err Response) (omega arith) (omega arith)
@@ -54,23 +48,17 @@ returns-then-from c =
 
 pub returns-then-part-task : goal.returns-then-part-task
 returns-then-part-task c =
-    let part : certified_task c.args.certificate.now c.args.i ≡ c.index-as_slice-i-2.result =
-    (part_is c.args.certificate.now c.args.i c.index-as_slice-i-2.result c.requires.higher.tasks
-    (subst (λ (xs : List TaskPart).
-    c.index-as_slice-i-2.result ≡ get_or xs c.args.i c.index-as_slice-i-2.result)
-    c.as_slice-2.ensures c.index-as_slice-i-2.is)) in
+    let part : certified_task c.args.certificate.now c.args.i ≡ c.index-part.result.now =
+    (part_is c.args.certificate.now c.args.i c.index-part.result.now c.requires.higher.tasks
+    c.index-part.ensures) in
     let r : (certified_task c.args.certificate.now c.args.i).response
-    ≡ c.index-as_slice-i-2.result.response = ap (λ (t : TaskPart). t.response) part in
+    ≡ c.index-part.result.now.response = ap (λ (t : TaskPart). t.response) part in
     let w : (certified_task c.args.certificate.now c.args.i).window
-    ≡ c.index-as_slice-i-2.result.window = ap (λ (t : TaskPart). t.window) part in
-    let j = jitter_is c.args.set.now c.args.i c.index-as_slice-i.result c.requires.task
-    (subst (λ (xs : List TaskSpec).
-    c.index-as_slice-i.result ≡ get_or xs c.args.i c.index-as_slice-i.result) c.as_slice.ensures
-    c.index-as_slice-i.is) in
-    let d = deadline_is c.args.set.now c.args.i c.index-as_slice-i.result c.requires.task
-    (subst (λ (xs : List TaskSpec).
-    c.index-as_slice-i.result ≡ get_or xs c.args.i c.index-as_slice-i.result) c.as_slice.ensures
-    c.index-as_slice-i.is) in
+    ≡ c.index-part.result.now.window = ap (λ (t : TaskPart). t.window) part in
+    let j = jitter_is c.args.set.now c.args.i c.index-task.result.now c.requires.task
+    c.index-task.ensures in
+    let d = deadline_is c.args.set.now c.args.i c.index-task.result.now c.requires.task
+    c.index-task.ensures in
     then_found
     (TimesHold c.args.set.now (slice_index c.args.longest.now) c.args.certificate.now c.args.i) 8 8
     9 (Err Deadline) (omega arith) (omega arith)
@@ -87,23 +75,17 @@ returns-then-part-task c =
 
 pub returns : goal.returns
 returns c =
-    let part : certified_task c.args.certificate.now c.args.i ≡ c.index-as_slice-i-2.result =
-    (part_is c.args.certificate.now c.args.i c.index-as_slice-i-2.result c.requires.higher.tasks
-    (subst (λ (xs : List TaskPart).
-    c.index-as_slice-i-2.result ≡ get_or xs c.args.i c.index-as_slice-i-2.result)
-    c.as_slice-2.ensures c.index-as_slice-i-2.is)) in
+    let part : certified_task c.args.certificate.now c.args.i ≡ c.index-part.result.now =
+    (part_is c.args.certificate.now c.args.i c.index-part.result.now c.requires.higher.tasks
+    c.index-part.ensures) in
     let r : (certified_task c.args.certificate.now c.args.i).response
-    ≡ c.index-as_slice-i-2.result.response = ap (λ (t : TaskPart). t.response) part in
+    ≡ c.index-part.result.now.response = ap (λ (t : TaskPart). t.response) part in
     let w : (certified_task c.args.certificate.now c.args.i).window
-    ≡ c.index-as_slice-i-2.result.window = ap (λ (t : TaskPart). t.window) part in
-    let j = jitter_is c.args.set.now c.args.i c.index-as_slice-i.result c.requires.task
-    (subst (λ (xs : List TaskSpec).
-    c.index-as_slice-i.result ≡ get_or xs c.args.i c.index-as_slice-i.result) c.as_slice.ensures
-    c.index-as_slice-i.is) in
-    let d = deadline_is c.args.set.now c.args.i c.index-as_slice-i.result c.requires.task
-    (subst (λ (xs : List TaskSpec).
-    c.index-as_slice-i.result ≡ get_or xs c.args.i c.index-as_slice-i.result) c.as_slice.ensures
-    c.index-as_slice-i.is) in
+    ≡ c.index-part.result.now.window = ap (λ (t : TaskPart). t.window) part in
+    let j = jitter_is c.args.set.now c.args.i c.index-task.result.now c.requires.task
+    c.index-task.ensures in
+    let d = deadline_is c.args.set.now c.args.i c.index-task.result.now c.requires.task
+    c.index-task.ensures in
     then_found
     (TimesHold c.args.set.now (slice_index c.args.longest.now) c.args.certificate.now c.args.i) 8 8
     9 (Ok tt) (omega arith) (omega arith)

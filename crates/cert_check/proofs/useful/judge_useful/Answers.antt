@@ -57,6 +57,8 @@ loop-done-preserved c =
     c.loop-done.least
     (slice_index_or c.args.order.now (length c.args.order.now - 1 - c.loop-done.done) 0)
     c.useful_holds.result
+    (c.requires.order.nodes (length c.args.order.now - 1 - c.loop-done.done)
+    (omega (arith, c.loop-done-test.true, c.requires.order.count)))
     (λ u s ne. seen_before c.args.order.now (length c.args.listing.now.graph.now.nodes)
     (length c.args.order.now - 1 - c.loop-done.done) (length c.args.order.now - c.loop-done.done)
     (slice_index_or c.args.order.now (length c.args.order.now - 1 - c.loop-done.done) 0) u

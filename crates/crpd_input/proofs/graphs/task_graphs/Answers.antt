@@ -6,7 +6,7 @@ use Rattle.crpd_input.proofs.graphs.task_graphs.Goals as goal
 pub returns-in-Err-clause-exact : goal.returns-in-Err-clause-exact
 returns-in-Err-clause-exact c =
     let below : c.loop-place.place < length c.args.input.now.set.tasks =
-    omega (arith, c.loop-place-test.true, ap length c.as_slice-place-end.ensures) in
+    omega (arith, c.loop-place-test.true, c.len-place-end.ensures) in
     stopped_below (GraphAt c.args.input.now) c.loop-place.graphs.items
     (length c.args.input.now.set.tasks) c.loop-place.place c.in-Err.halt c.loop-place.invariant.are
     c.loop-place.invariant.count below c.in-Err.ensures.exact

@@ -9,5 +9,5 @@ returns-clause-started c =
     let plan = c.args.plan.now in
     c.arrive.ensures.arrived
     ∙ ap (λ (ts : List ℕ). arrive plan plan.entry (record { back = end_address; turns = ts } ∷ []))
-    (closed plan.loops (length c.as_slice-loops.result.now) c.in_ok-closed_rows.field-0.items
-    c.in_ok-closed_rows.ensures (ap length c.as_slice-loops.ensures))
+    (closed plan.loops c.len-loops.result c.in_ok-closed_rows.field-0.items
+    c.in_ok-closed_rows.ensures c.len-loops.ensures)

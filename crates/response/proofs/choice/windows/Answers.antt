@@ -17,7 +17,7 @@ returns-in-None c =
     (slice_index c.loop-i.found) c.loop-i.i) c.loop-i.i c.window-ucb.result c.window-ecb.result
     c.smaller.result c.window-ucb.ensures c.window-ecb.ensures c.smaller.ensures c.in-None.is in
     let task : c.loop-i.i < length c.args.set.now.tasks =
-    rw c.as_slice-i-end.ensures at c.loop-i-test.true in
+    omega (arith, c.loop-i-test.true, c.len-i-end.ensures) in
     let same = looks_above c.args.set.now (part_at c.args.parts.now)
     (slice_index c.args.longest.now) (c.loop-i.i + 1) c.requires.times (omega (arith, task))
     (slice_index c.loop-i.found) (window_at c.loop-i.choices.items) c.loop-i.i
@@ -44,7 +44,7 @@ returns-in-None c =
 pub loop-i-preserved : goal.loop-i-preserved
 loop-i-preserved c =
     let task : c.loop-i.i < length c.args.set.now.tasks =
-    rw c.as_slice-i-end.ensures at c.loop-i-test.true in
+    omega (arith, c.loop-i-test.true, c.len-i-end.ensures) in
     let few : c.loop-i.i < 32 = omega (arith, task, c.requires.times.tasks) in
     let stored : c.push.new.self.items ≡ c.loop-i.choices.items ++ c.in-Some.choice ∷ [] =
     c.push.ensures.items ∙ ap (λ b. if b then c.loop-i.choices.items ++ c.in-Some.choice ∷ []

@@ -30,7 +30,7 @@ follow_run-requires-clause-noted c =
       hits = c.as_slice.result;
     } in
     let t = c.in_ok-trails.ensures in
-    let jobs = ap length c.as_slice-jobs.ensures in
+    let jobs = c.len-jobs.ensures in
     noted_start r c.in_ok-trails.trails (t.nodes ∙ ap (λ k. replicate k None) jobs)
     (t.lasts ∙ ap (λ k. replicate k None) jobs) (t.all_gaps ∙ jobs) t.gaps t.sets t.owner t.reloads
 

@@ -11,7 +11,7 @@ use Rattle.cert_check.proofs.paid.Paid.judge_potentials.Goals as goal
 pub returns-then-not-node_pays : goal.returns-then-not-node_pays
 returns-then-not-node_pays c = record {
   within = omega (arith, c.loop-node-test.true, c.len-node-end.ensures);
-  fails = λ lt h. false≢true (sym c.if-not-node_pays.true ∙ c.node_pays.ensures.1 h);
+  fails = λ h. false≢true (sym c.if-not-node_pays.true ∙ c.node_pays.ensures.1 h);
   holds = c.loop-node.invariant;
 }
 
@@ -27,10 +27,5 @@ loop-node-preserved c u lt =
     (cases_eq u c.loop-node.node)
 
 pub returns : goal.returns
-returns c = record {
-  within = omega (arith, c.len.ensures);
-  fails = λ lt h. absurd (omega (arith, lt, c.len.ensures));
-  holds = λ u lt.
-      c.loop-node.invariant u
-      (omega (arith, lt, c.loop-node-test.false, c.len.ensures, c.len-node-end.ensures));
-}
+returns c = λ u lt.
+    c.loop-node.invariant u (omega (arith, lt, c.loop-node-test.false, c.len-node-end.ensures))
