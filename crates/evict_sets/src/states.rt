@@ -67,7 +67,8 @@ impl Listing<'_> {
         requires order { IsChainOrder (graph_of self.now.graph.now)
             (listed_of self.now.part.now) order.now }
         requires count { length hits.old ≡ (graph_of self.now.graph.now).size }
-        ensures { CountsHits (graph_of self.now.graph.now)
+        ensures count { length hits.new ≡ (graph_of self.now.graph.now).size }
+        ensures hits { CountsHits (graph_of self.now.graph.now)
             (node_accesses self.now.platform.now self.now.graph.now) (listed_of self.now.part.now)
             (counted hits.new) }
     {

@@ -69,7 +69,7 @@ potential_failure-requires-clause-paid c = record {
   beside = c.requires.nest;
   nodes = c.in_ok-list_failure.ensures NodePotentials (omega arith) (omega arith);
   loops = c.in_ok-list_failure.ensures LoopPotentials (omega arith) (omega arith);
-  all_hits = omega (arith, c.write_hits.auto.hits);
+  all_hits = c.write_hits.ensures.count;
 }
 
 pub returns : goal.returns

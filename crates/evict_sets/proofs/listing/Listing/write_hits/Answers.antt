@@ -22,8 +22,8 @@ loop-k-preserved c =
     (omega (arith, c.leave.auto.blocks, c.enter.auto.blocks, c.loop-k.invariant.state.room))
     c.leave.ensures.after c.leave.ensures.hit c.loop-k.invariant
 
-pub returns : goal.returns
-returns c =
+pub returns-clause-hits : goal.returns-clause-hits
+returns-clause-hits c =
     hits_all (graph_of c.args.self.now.graph.now)
     (node_accesses c.args.self.now.platform.now c.args.self.now.graph.now)
     (listed_of c.args.self.now.part.now) c.args.order.now c.loop-k.blocks c.loop-k.hits c.loop-k.k
