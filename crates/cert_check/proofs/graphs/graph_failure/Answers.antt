@@ -1,4 +1,4 @@
-use Rattle.std.proofs.Common.{length, Ok, Err, arith}
+use Rattle.std.proofs.Common.{length, Ok, Err, arith, rules}
 use Rattle.cert_check.specs.declared.outcome.Clause.TheVariants.{Leaders, NodePotentials}
 use Rattle.cert_check.specs.declared.outcome.Clause.TheVariants.{LoopPotentials}
 use Rattle.cert_check.specs.TaskGraphs.{task_graph}
@@ -69,7 +69,7 @@ potential_failure-requires-clause-paid c = record {
   beside = c.requires.nest;
   nodes = c.in_ok-list_failure.ensures NodePotentials (omega arith) (omega arith);
   loops = c.in_ok-list_failure.ensures LoopPotentials (omega arith) (omega arith);
-  all_hits = omega (arith, c.write_hits.auto.hits);
+  all_hits = search (rules, c.write_hits.auto.hits);
 }
 
 pub returns : goal.returns

@@ -22,9 +22,9 @@ pub returns-in-None : goal.returns-in-None
 returns-in-None c =
     unlisted_at (graph_of c.args.listing.now.graph.now)
     (node_accesses c.args.listing.now.platform.now c.args.listing.now.graph.now)
-    (listed_of c.args.listing.now.part.now) c.args.node.0 c.args.hit c.args.behind.now c.with.result
+    (listed_of c.args.listing.now.part.now) c.args.node.0 c.args.hit c.args.behind.now c.with_member.result
     (entry_none c.args.listing.now.part.now c.args.node.0 c.in-None.ensures) c.requires.hit
     c.requires.behind
-    (λ t. subst (λ x. has c.with.result t
+    (λ t. subst (λ x. has c.with_member.result t
     ≡ (if t == x then c.args.hit else has c.args.behind.now t)) c.cache_set.ensures.set
-    (c.with.ensures t))
+    (c.with_member.ensures t))
