@@ -9,7 +9,7 @@ ghost use Rattle.evict_sets.specs.CacheClauses.{UsefulMeets, SetsMeet};
 ghost use Rattle.evict_sets.specs.ListedPart.{listed_of};
 ghost use Rattle.evict_sets.specs.Listing.{CountsHits, IsListing, IsChainOrder, counted};
 ghost use Rattle.evict_sets.specs.Listing.{node_accesses};
-ghost use Rattle.cert_check.specs.Inner.JudgedNodes.{IsUsefulAt, IsUsefulBehind, IsUsefulBy};
+ghost use Rattle.cert_check.specs.Inner.JudgedNodes.{IsUsefulAt, IsUsefulBehind};
 ghost use Rattle.cert_check.specs.Inner.JudgedNodes.{IsLeastFailing};
 
 use crate::changed::{covers, with_member};

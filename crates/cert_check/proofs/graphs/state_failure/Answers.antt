@@ -8,18 +8,18 @@ returns-in-Some c nest =
     states_fail c.args.listing.now.platform.now (task_graph c.args.listing.now.graph.now nest)
     c.args.listing.now.part.now c.in-Some.node c.in-Some.ensures
 
-pub returns-in-Some-2 : goal.returns-in-Some-2
-returns-in-Some-2 c nest =
+pub returns-in-Some-judge_useful : goal.returns-in-Some-judge_useful
+returns-in-Some-judge_useful c nest =
     useful_fail c.args.listing.now.platform.now (task_graph c.args.listing.now.graph.now nest)
-    c.args.listing.now.part.now c.in_default.ensures c.in-Some-2.node c.in-Some-2.ensures
+    c.args.listing.now.part.now c.in_default.ensures c.in-Some-judge_useful.node c.in-Some-judge_useful.ensures
 
-pub returns-in-Some-3 : goal.returns-in-Some-3
-returns-in-Some-3 c nest =
+pub returns-in-Some-judge_sets : goal.returns-in-Some-judge_sets
+returns-in-Some-judge_sets c nest =
     sets_fail c.args.listing.now.platform.now (task_graph c.args.listing.now.graph.now nest)
-    c.args.listing.now.part.now c.in_default.ensures c.in_default-2.ensures c.in-Some-3.node
-    c.in-Some-3.ensures
+    c.args.listing.now.part.now c.in_default.ensures c.in_default-judge_useful.ensures c.in-Some-judge_sets.node
+    c.in-Some-judge_sets.ensures
 
 pub returns : goal.returns
 returns c nest =
     sets_hold c.args.listing.now.platform.now (task_graph c.args.listing.now.graph.now nest)
-    c.args.listing.now.part.now c.in_default.ensures c.in_default-2.ensures c.in_default-3.ensures
+    c.args.listing.now.part.now c.in_default.ensures c.in_default-judge_useful.ensures c.in_default-judge_sets.ensures

@@ -1,5 +1,4 @@
-use Rattle.std.proofs.Common.{◌<◌, List, length, subst}
-use Rattle.crpd_base.specs.declared.data.TaskSpec.{TaskSpec}
+use Rattle.std.proofs.Common.{subst, arith}
 use Rattle.cert_check.specs.Verdict.{ClauseHolds}
 use Rattle.cert_check.specs.Inner.FirstFailing.{IsRangeJudged}
 use Rattle.cert_check.specs.TaskGraphs.{task_graph_at}
