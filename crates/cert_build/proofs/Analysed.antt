@@ -10,7 +10,6 @@ use Rattle.useful_sets.specs.Useful.{IsUcb, IsEcb}
 use Rattle.loop_regions.specs.CodeNest.{CodeNest, nest_of}
 use Rattle.evict_sets.specs.Listing.{counted}
 use Rattle.exec_bound.specs.Costs.{costs_of, greatest_bound, IsBound}
-use Rattle.exec_bound.specs.WalkCosts.{CountsSureHits}
 use Rattle.exec_bound.specs.BoundErrors.{IsBoundError}
 use Rattle.exec_bound.specs.declared.fault.BoundError.{BoundError}
 use Rattle.exec_bound.specs.declared.fault.BoundError.TheVariants.{Memory, TooLarge}

@@ -67,7 +67,7 @@ impl Model for Job {
 
     ghost Value = { Job_of };
 
-    ghost use Rattle.preempt_machine.specs.Jobs.{job_of, HasBottomFrame};
+    ghost use Rattle.preempt_machine.specs.Inner.Jobs.{job_of, HasBottomFrame};
 
     ghost view = { job_of };
 

@@ -32,7 +32,7 @@ impl Model for Machine {
 
     ghost Value = { Running };
 
-    ghost use Rattle.preempt_machine.specs.Schedule.{running_of};
+    ghost use Rattle.preempt_machine.specs.Inner.Schedule.{running_of};
     ghost use Rattle.preempt_machine.specs.Inner.KeptFlag.{IsFlagged};
 
     ghost view = { λ m. running_of m.parts };
@@ -64,7 +64,8 @@ impl Machine {
     ghost use Rattle.preempt_machine.specs.Running.{system_by, GivesStore, HasPlans, IsJobAt};
     ghost use Rattle.preempt_machine.specs.Running.{StopsAtStore};
     ghost use Rattle.preempt_machine.specs.Machine.{job_at};
-    ghost use Rattle.preempt_machine.specs.Schedule.{completion, HasMade};
+    ghost use Rattle.preempt_machine.specs.Schedule.{completion};
+    ghost use Rattle.preempt_machine.specs.Inner.Schedule.{HasMade};
 
     /// The machine at the start of a run of a script, from any cache and data memory: no owner, and
     /// all jobs unreleased. It makes all the room that steps fill, but that of the data memory.

@@ -13,7 +13,6 @@ use Rattle.evict_sets.proofs.FullLaws.{hit_test_law}
 use Rattle.preempt_machine.specs.Machine.{Job}
 use Rattle.preempt_machine.specs.Step.{Fetch, Start, state, fetch_at}
 use Rattle.run_account.specs.Causes.{ReloadHasCauses, RunHasLedger, AreListingsMet}
-use Rattle.preempt_machine.proofs.Steps.{none_some}
 use Rattle.run_account.specs.Fetches.{job_after, fetched_set, HasCache}
 use Rattle.run_account.specs.Ledger.{IsLedgerReload, LedgerReload, IsLedger}
 use Rattle.run_account.specs.Nodes.{job_task, node_of_job}

@@ -18,8 +18,7 @@ use Rattle.evict_sets.specs.ListedPart.{listed_of, certified_task}
 use Rattle.evict_sets.proofs.WalkLaws.{first_here, first_on, walk_carry_law}
 use Rattle.preempt_machine.specs.Safe.{IsKept}
 use Rattle.preempt_machine.specs.Step.{before, Fetch, Start, state}
-use Rattle.run_account.specs.Facts.{MeetsSets, AreSetsMet, IsOfHigher, AreDistinct, LedgerFacts}
-use Rattle.preempt_machine.proofs.Steps.{none_some}
+use Rattle.run_account.specs.Facts.{AreSetsMet, IsOfHigher, AreDistinct, LedgerFacts}
 use Rattle.run_account.specs.Fetches.{job_after, fetched_set, HasCache}
 use Rattle.run_account.specs.Ledger.{LedgerReload, IsOfRun}
 use Rattle.run_account.specs.Nodes.{job_task, node_of_job}

@@ -1,8 +1,11 @@
 -- What the command words ask for: what only contracts inside the crate cite.
+use Rattle.crpd_tool.specs.declared.command.Command.{Command as Code}
+use Rattle.crpd_tool.specs.declared.command.Command.TheVariants.{List as Listing}
 use Rattle.crpd_tool.specs.declared.command.Command.TheVariants.{Check, Simulate, Sets, Analyze}
 use Rattle.crpd_tool.specs.declared.command.Command.TheVariants.{Explain, Classic, Slack, Update}
 use Rattle.crpd_tool.specs.declared.command.Command.TheVariants.{Generate}
-use Rattle.crpd_tool.specs.Commands.{Command}
+use Rattle.crpd_tool.specs.Commands.{Command, check, list, simulate, sets, analyze, explain}
+use Rattle.crpd_tool.specs.Commands.{classic, slack, update, generate}
 
 -- the command that the code's value stands for
 abbrev pub meant_by : Code → Command

@@ -21,7 +21,7 @@ use Rattle.run_account.specs.declared.trails.Trails.{Trails}
 use Rattle.run_account.specs.Ledger.{IsLedger}
 use Rattle.run_account.specs.Inner.Trails.{ledger_reload_of, AreTrailsOf}
 use Rattle.preempt_machine.specs.Starts.{start_of_script}
-use Rattle.run_account.specs.AccountGraphs.{with_nests, AreGraphsOf, graph_at, TasksAreMet}
+use Rattle.run_account.specs.AccountGraphs.{with_nests, AreGraphsOf, TasksAreMet}
 
 -- the start, the graphs and the certificate of a run. Regions play no part, so there are none
 abbrev pub no_nests : ℕ → Nest
