@@ -45,11 +45,7 @@ fn useful_next(
 
 /// What is useful at the successors of a node, from what is useful at the node behind it in the
 /// order.
-fn useful_behind(
-    listing: &Listing<'_>,
-    node: NodeId,
-    follower: &SetBits<WORDS>,
-) -> SetBits<WORDS>
+fn useful_behind(listing: &Listing<'_>, node: NodeId, follower: &SetBits<WORDS>) -> SetBits<WORDS>
     requires case { IsListing listing.now.platform.now listing.now.graph.now listing.now.part.now
         listing.now.places.now }
     requires node { node.0 < (graph_of listing.now.graph.now).size }

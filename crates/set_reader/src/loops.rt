@@ -6,7 +6,7 @@ ghost use Rattle.set_reader.specs.Kinds as kind;
 ghost use Rattle.set_reader.specs.Reading as spec;
 
 use crate::kinds::{place, ranges};
-use crpd_base::{Items, LoopSpec, MOST_LOOPS, MOST_ITERATIONS, Place};
+use crpd_base::{Items, LoopSpec, MOST_ITERATIONS, MOST_LOOPS, Place};
 use std::alloc::{AllocError, Global};
 use toml::{Table, Value};
 use toml_keys::{KeyError, Keys, item_path, tables};

@@ -11,15 +11,18 @@ returns-in-Some c nest =
 pub returns-in-Some-judge_useful : goal.returns-in-Some-judge_useful
 returns-in-Some-judge_useful c nest =
     useful_fail c.args.listing.now.platform.now (task_graph c.args.listing.now.graph.now nest)
-    c.args.listing.now.part.now c.in_default.ensures c.in-Some-judge_useful.node c.in-Some-judge_useful.ensures
+    c.args.listing.now.part.now c.in_default.ensures c.in-Some-judge_useful.node
+    c.in-Some-judge_useful.ensures
 
 pub returns-in-Some-judge_sets : goal.returns-in-Some-judge_sets
 returns-in-Some-judge_sets c nest =
     sets_fail c.args.listing.now.platform.now (task_graph c.args.listing.now.graph.now nest)
-    c.args.listing.now.part.now c.in_default.ensures c.in_default-judge_useful.ensures c.in-Some-judge_sets.node
+    c.args.listing.now.part.now c.in_default.ensures c.in_default-judge_useful.ensures
+    c.in-Some-judge_sets.node
     c.in-Some-judge_sets.ensures
 
 pub returns : goal.returns
 returns c nest =
     sets_hold c.args.listing.now.platform.now (task_graph c.args.listing.now.graph.now nest)
-    c.args.listing.now.part.now c.in_default.ensures c.in_default-judge_useful.ensures c.in_default-judge_sets.ensures
+    c.args.listing.now.part.now c.in_default.ensures c.in_default-judge_useful.ensures
+    c.in_default-judge_sets.ensures

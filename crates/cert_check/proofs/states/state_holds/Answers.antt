@@ -18,8 +18,8 @@ returns c =
     let a = node_accesses c.args.listing.now.platform.now c.args.listing.now.graph.now in
     let l = listed_of c.args.listing.now.part.now in (
       (λ t.
-      meets g a l c.args.node.0 (c.starts_empty.ensures.0 c.if-not-starts_empty.false)
-      (c.edge_states_hold.ensures.0 t)),
+          meets g a l c.args.node.0 (c.starts_empty.ensures.0 c.if-not-starts_empty.false)
+          (c.edge_states_hold.ensures.0 t)),
       (λ M.
-      c.edge_states_hold.ensures.1 (meets_all g a l c.args.node.0 c.requires.node M)),
+          c.edge_states_hold.ensures.1 (meets_all g a l c.args.node.0 c.requires.node M)),
     )

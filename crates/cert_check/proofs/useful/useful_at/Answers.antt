@@ -22,7 +22,8 @@ pub returns-in-None : goal.returns-in-None
 returns-in-None c =
     unlisted_at (graph_of c.args.listing.now.graph.now)
     (node_accesses c.args.listing.now.platform.now c.args.listing.now.graph.now)
-    (listed_of c.args.listing.now.part.now) c.args.node.0 c.args.hit c.args.behind.now c.with_member.result
+    (listed_of c.args.listing.now.part.now) c.args.node.0 c.args.hit c.args.behind.now
+    c.with_member.result
     (entry_none c.args.listing.now.part.now c.args.node.0 c.in-None.ensures) c.requires.hit
     c.requires.behind
     (λ t. subst (λ x. has c.with_member.result t

@@ -31,7 +31,8 @@ returns c =
     let a = node_accesses c.args.listing.now.platform.now c.args.listing.now.graph.now in
     let l = listed_of c.args.listing.now.part.now in
     let all = YieldsList-end
-    (YieldsList-from_first (λ (n : NodeId). n.0) (λ (left : List ℕ). left) (g.next c.args.node.0) cc)
+    (YieldsList-from_first (λ (n : NodeId). n.0) (λ (left : List ℕ). left)
+    (g.next c.args.node.0) cc)
     c.loop-next.yielded _ c.loop-next.yielded_by _ _ c.in-None.is c.next.ensures.steps in
     all_useful g a l c.args.node.0 c.loop-next.sets c.requires.node
     (subst (λ vs. IsUsefulAtSome g a l vs c.loop-next.sets) all.0 c.loop-next.invariant)

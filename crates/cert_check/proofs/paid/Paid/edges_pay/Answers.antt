@@ -19,7 +19,8 @@ returns c =
     (costs_at c.args.self.now.platform.now c.args.self.now.graph.now
     (counted c.args.self.now.hits.now)) (potentials_of c.args.self.now.part.now) c.args.node.0 in
     let r = cases_from_all _ _ _ P (λ v. P v → ⊥) c.all.ensures.ran
-    (YieldsList-from_first (λ (n : NodeId). n.0) (λ (left : List ℕ). left) (g.next c.args.node.0) cc)
+    (YieldsList-from_first (λ (n : NodeId). n.0) (λ (left : List ℕ). left)
+    (g.next c.args.node.0) cc)
     (λ x q k. search (rules, tests)) (λ x q k. search (rules, tests, false≢true)) in (
       (λ t. All-from_all_within P (g.next c.args.node.0) (MatchBool-at_true _ _ t r)),
       (λ h. true_from_All P (λ v. P v → ⊥) _ _ (λ x p q. q p) r h),
