@@ -1,2 +1,2 @@
 -- Counts, which several steps use.
-mod Counting
+pub mod Counting

@@ -1,6 +1,6 @@
 -- Step 5: execution is paid for by the bound and a reload for each entry.
-mod Longests
-mod Paid
-mod Spends
-mod Executed
-mod Spent
+pub mod Longests
+pub mod Paid
+pub mod Spends
+pub mod Executed
+pub mod Spent

@@ -1,3 +1,3 @@
 -- Step 4: what a full state gives a set was the job's own last fetch there, so entries are reloads.
 pub mod OwnFetches
-mod Entries
+pub mod Entries
