@@ -1,9 +1,9 @@
 -- The least node at which a fact fails, found along an order of the nodes.
-use Rattle.std.proofs.Common.{◌≡◌, ◌≢◌, ◌↔◌, ℕ, ◌+◌, ◌<◌, ◌≤◌, min, Bool, true, false}
+use Rattle.std.proofs.Common.{◌≡◌, ◌≢◌, ◌↔◌, ℕ, ◌+◌, ◌<◌, ◌≤◌, Bool, true, false}
 use Rattle.std.proofs.Common.{if◌then◌else◌, IsTrue, refl, List, Option, Some, None, slice_index}
 use Rattle.std.proofs.Common.{sym, ap, ◌∙◌, subst, ⊎_elim, arith}
 use Rattle.std.proofs.lemmas.Bool.{cases_eq, cases_lt, false≢true}
-use Rattle.cert_check.specs.Inner.JudgedNodes.{IsFirst, IsLeastFailing, lesser}
+use Rattle.cert_check.specs.Inner.JudgedNodes.{IsLeastFailing, lesser}
 
 -- the least node seen at which the fact fails
 pub record IsFirstSeen (P : ℕ → Type 0) (seen : ℕ → Type 0) (size least : ℕ) : Type 0 where

@@ -1,13 +1,13 @@
 -- The tests of clause 3.
-use Rattle.std.proofs.Common.{◌≡◌, ◌↔◌, ℕ, ◌<◌, ◌≤◌, Bool, true, List, [], ◌∷◌, length, All, Option}
-use Rattle.std.proofs.Common.{Some, IsTrue, IsFalse, refl, sym, ◌∙◌, subst, arith, ne_eqb, eq-eqb}
-use Rattle.std.specs.Prelude.{slice_get, ◌==◌}
+use Rattle.std.proofs.Common.{◌≡◌, ◌↔◌, ℕ, ◌<◌, Bool, true, List, [], ◌∷◌, length, All, Option}
+use Rattle.std.proofs.Common.{IsTrue, IsFalse, refl, sym, ◌∙◌, arith, ne_eqb, eq-eqb}
+use Rattle.std.specs.Prelude.{◌==◌}
 use Rattle.std.proofs.lemmas.Bool.{false≢true}
-use Rattle.std.proofs.lemmas.Option.{same_Some, none-some}
+use Rattle.std.proofs.lemmas.Option.{none-some}
 use Rattle.icache.specs.Accesses.{Accesses}
 use Rattle.flat_graph.specs.Graph.{Graph, Edge}
 use Rattle.evict_sets.specs.Full.{Listed, FullState, listed}
-use Rattle.evict_sets.specs.CacheClauses.{ListsLeaders, StateAfter, StatesMeet}
+use Rattle.evict_sets.specs.CacheClauses.{ListsLeaders, StatesMeet}
 use Rattle.evict_sets.specs.ListedPart.{block_of_set}
 use Rattle.evict_sets.proofs.FullLaws.{unlisted_state_law}
 use Rattle.evict_sets.specs.Listing.{IsStateAfter}

@@ -1,5 +1,5 @@
 -- Full useful sets kept as sets of cache sets.
-use Rattle.std.proofs.Common.{◌≡◌, ◌≢◌, ◌↔◌, ◌⊎◌, ℕ, ◌<◌, ◌≤◌, Bool, true, false, List, [], ◌∷◌}
+use Rattle.std.proofs.Common.{◌≡◌, ◌≢◌, ◌↔◌, ◌⊎◌, ℕ, ◌<◌, Bool, true, false, List, [], ◌∷◌}
 use Rattle.std.proofs.Common.{◌++◌}
 use Rattle.std.proofs.Common.{Contains, IsTrue, IsFalse, max, refl, sym, ◌∙◌, subst, inl, inr}
 use Rattle.std.proofs.Common.{⊎_elim, arith, ne_eqb, eq-eqb, eqb-true}

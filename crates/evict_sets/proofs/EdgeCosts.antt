@@ -1,6 +1,6 @@
 -- The costs of a node's edges.
-use Rattle.std.proofs.Common.{◌≡◌, ℕ, zero, suc, ◌<◌, ◌≤◌, Bool, true, false, max, pos, List, []}
-use Rattle.std.proofs.Common.{◌∷◌, ◌++◌, Some, refl, sym, arith}
+use Rattle.std.proofs.Common.{◌≡◌, ℕ, zero, suc, Bool, true, false, max, pos, List, []}
+use Rattle.std.proofs.Common.{◌∷◌, ◌++◌, Some, refl, arith}
 use Rattle.std.proofs.lemmas.Bool.{false≢true}
 use Rattle.crpd_base.specs.declared.data.Platform.{Platform}
 use Rattle.rv_decode.specs.declared.Ins.{Ins}

@@ -1,6 +1,6 @@
 -- Forward edges, ranks that fall along them, and the search along them.
 use Rattle.std.proofs.Common.{◌≡◌, ◌⊎◌, ◌↔◌, ℕ, zero, suc, ◌+◌, ◌<◌, ◌≤◌, Bool, true, false, List}
-use Rattle.std.proofs.Common.{[], ◌∷◌, ◌++◌, length, set, Some, None, Contains, slice_get}
+use Rattle.std.proofs.Common.{[], ◌∷◌, ◌++◌, length, set, Some, None, slice_get}
 use Rattle.std.proofs.Common.{slice_index, IsTrue, refl, sym, ap, ◌∙◌, subst, inl, inr, ⊎_elim}
 use Rattle.std.proofs.Common.{arith, length-append, get_or-set_same, get_or-set_other}
 use Rattle.std.specs.List.{All, list_any}

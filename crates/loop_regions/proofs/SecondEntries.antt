@@ -1,7 +1,7 @@
 -- Regions that are entered elsewhere than at their heads.
 use Rattle.std.proofs.Common.{◌≡◌, ◌≢◌, ◌⊎◌, ℕ, ◌+◌, ◌<◌, ◌≤◌, Bool, false, not, ◌&&◌, List, []}
 use Rattle.std.proofs.Common.{◌∷◌, ◌++◌, length}
-use Rattle.std.proofs.Common.{Some, None, slice_get, slice_index, IsTrue, refl, sym, ◌∙◌, subst}
+use Rattle.std.proofs.Common.{Some, None, slice_index, IsTrue, refl, sym, subst}
 use Rattle.std.proofs.Common.{inl, inr, ⊎_elim, arith, ◌==◌, eq-eqb}
 use Rattle.std.specs.Prelude.{Option, nat_lt}
 use Rattle.std.specs.List.{list_any}

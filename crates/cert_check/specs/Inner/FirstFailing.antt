@@ -1,8 +1,6 @@
 -- The judge's answer and its failures, as the code gives them: what only contracts inside the crate
 -- cite.
 use Rattle.std.specs.Prelude.{ℕ, ◌≤◌, Result, Ok, Err}
-use Rattle.cert_check.specs.declared.outcome.Verdict.{Verdict}
-use Rattle.cert_check.specs.declared.outcome.Verdict.TheVariants as verdict
 use Rattle.cert_check.specs.declared.outcome.Clause.{Clause}
 use Rattle.cert_check.specs.Verdict.{clause_number, IsEarlierClause}
 

@@ -1,6 +1,6 @@
 -- The regions of a graph before they are known to be nested.
 use Rattle.std.specs.Prelude.{◌≡◌, ◌≢◌, ◌↔◌, ◌⊎◌, ℕ, ◌<◌, Bool, not, ◌&&◌, ◌==◌, nat_lt, List}
-use Rattle.std.specs.Prelude.{length, slice_index, slice_get, IsTrue, IsFalse, Option, Some, None}
+use Rattle.std.specs.Prelude.{length, slice_index, IsTrue, IsFalse, Option, Some, None}
 use Rattle.std.specs.Prelude.{true, if◌then◌else◌, Contains}
 use Rattle.std.specs.List.{list_any}
 use Rattle.flat_graph.specs.Graph.{Graph, Edge}

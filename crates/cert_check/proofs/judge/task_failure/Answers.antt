@@ -1,6 +1,5 @@
-use Rattle.std.proofs.Common.{◌≡◌, ◌<◌, List, length, get_or, Ok, Err, sym, subst, arith}
+use Rattle.std.proofs.Common.{Ok, Err, arith}
 use Rattle.std.specs.Prelude.{slice_index}
-use Rattle.crpd_base.specs.declared.data.TaskPart.{TaskPart}
 use Rattle.cert_check.specs.declared.outcome.Clause.TheVariants.{HasTask}
 use Rattle.cert_check.specs.Verdict.{TimesHold, ClauseHolds}
 use Rattle.cert_check.specs.TaskGraphs.{task_graph_at}

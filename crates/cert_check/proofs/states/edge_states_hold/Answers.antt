@@ -1,4 +1,4 @@
-use Rattle.std.proofs.Common.{List, ℕ, IsTrue, rules, tests}
+use Rattle.std.proofs.Common.{List, ℕ, rules, tests}
 use Rattle.std.proofs.lemmas.Bool.{MatchBool-at_true, false≢true}
 use Rattle.std.proofs.lemmas.Iterator.{cases_from_all}
 use Rattle.std.proofs.lemmas.Iterator.Consumers.{YieldsList-from_first}

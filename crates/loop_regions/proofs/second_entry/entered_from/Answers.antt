@@ -3,7 +3,7 @@ use Rattle.std.proofs.lemmas.List.{map-append}
 use Rattle.std.proofs.lemmas.Iterator.Consumers.{YieldsList-end, YieldsList-from_first}
 use Rattle.crpd_base.specs.declared.data.NodeId.{NodeId}
 use Rattle.flat_graph.specs.CodeGraph.{graph_of}
-use Rattle.loop_regions.specs.Inner.Least.{IsLeastNumber, lesser}
+use Rattle.loop_regions.specs.Inner.Least.{IsLeastNumber}
 use Rattle.loop_regions.specs.Inner.FoundRegions.{nest_in, EntersSome}
 use Rattle.loop_regions.proofs.SecondEntries.{enters_none, enters_more, enters_all}
 use Rattle.loop_regions.proofs.second_entry.entered_from.Goals as goal
