@@ -41,7 +41,7 @@ fn hold(alloc: Global, set: &TaskSet, files: &[Items<u8>]) -> Result<SureFiles, 
 {
     let mut kept = Vec::new(alloc);
     for (i, bytes) in files.iter().enumerate() {
-        let name = String::from_str(alloc, set.tasks[i].file.as_str())?;
+        let name = String::from_str(alloc, set.tasks.as_slice()[i].file.as_str())?;
         kept.push((name, Vec::from_slice(alloc, bytes.as_slice())?))?;
     }
     Ok(SureFiles::new(kept))

@@ -8,12 +8,14 @@ pub loop-i-preserved : goal.loop-i-preserved
 loop-i-preserved c =
     let tasks = c.args.set.now.tasks in
     let files = c.args.files.now in
-    let task = c.index.result.now in
+    let task = c.index-as_slice-i.result in
     let i = c.loop-i.i in
     seen_more tasks files c.loop-i.kept.items c.push.new.self.items i task c.index-files-i.result
     c.in_ok-name.name c.in_ok-from_slice.field-0
-    (omega arith) (omega arith) c.index.ensures c.index-files-i.is
+    (omega arith) (omega arith)
+    (c.index-as_slice-i.is ∙ ap (λ (l : List TaskSpec). get_or l i task) c.as_slice.ensures)
+    c.index-files-i.is
     (c.in_ok-name.ensures.ok ∙ c.as_str.ensures
-    ∙ ap (λ (t : TaskSpec). t.file) (sym c.index.ensures))
+    ∙ ap (λ (t : TaskSpec). t.file) (sym c.index-as_slice-i.is))
     (c.in_ok-from_slice.ensures.items ∙ c.as_slice-in-loop-i.ensures) c.in_ok-push.ensures.items
     c.loop-i.invariant
