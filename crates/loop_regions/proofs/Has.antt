@@ -1,10 +1,12 @@
 -- Which numbers are in a list.
 use Rattle.std.proofs.Common.{◌≡◌, ◌⊎◌, ℕ, ◌+◌, ◌<◌, Bool, true, false, List, [], ◌∷◌, ◌++◌, length}
 use Rattle.std.proofs.Common.{take, get_or, IsTrue, refl, sym, ◌∙◌, subst, inl, inr, ⊎_elim, eq-eqb}
-use Rattle.std.proofs.Common.{if◌then◌else◌, ◌==◌, cond}
+use Rattle.std.proofs.Common.{if◌then◌else◌, ◌==◌, ◌||◌, ap, cond}
+use Rattle.std.proofs.Math.Bool.{or_comm}
 use Rattle.std.specs.List.{list_any, filter}
 use Rattle.std.proofs.lemmas.Bool.{cases_Bool, false≢true, eqb-true, or_cases, or_left, or_right}
 use Rattle.std.proofs.lemmas.List.Folds.{list_any-append, list_any_at, list_any_more}
+use Rattle.crpd_base.proofs.Bools.{or_false}
 use Rattle.loop_regions.specs.CodeNest.{has}
 
 -- a test that holds of an element
@@ -42,6 +44,12 @@ has_push_cases xs r q h =
     (λ t. ⊎_elim (λ e. inr (eqb-true r q e)) (λ f. absurd (false≢true f))
     (or_cases (r == q) false t))
     (or_cases (has xs q) (has (r ∷ []) q) (sym (list_any-append (λ s. s == q) xs (r ∷ [])) ∙ h))
+
+-- the last number put first
+pub has_turned : (xs : List ℕ) (r q : ℕ) → has (xs ++ r ∷ []) q ≡ has (r ∷ xs) q
+has_turned xs r q =
+    list_any-append (λ s. s == q) xs (r ∷ []) ∙ ap (λ b. has xs q || b) (or_false (r == q))
+    ∙ or_comm (has xs q) (r == q)
 
 -- a number that is put at the end where a test holds
 pub has_placed : (xs : List ℕ) (r q : ℕ) (b : Bool)

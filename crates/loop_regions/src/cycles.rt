@@ -1,14 +1,14 @@
 // Cycles without back edges.
-ghost use Rattle.std.specs.Prelude.{◌≡◌, ◌+◌, ◌≤◌, ◌↔◌, ◌<◌, IfOk, OnOk, IsTrue, length};
+ghost use Rattle.std.specs.Prelude.{◌≡◌, ◌∷◌, ◌≤◌, ◌↔◌, ◌<◌, ℕ, IfOk, OnOk, IsTrue, length};
 ghost use Rattle.flat_graph.specs.CodeGraph.{graph_of};
 ghost use Rattle.loop_regions.specs.Inner.Least.{IsLeastNumber};
 ghost use Rattle.loop_regions.specs.Stated.{IsOnCycle};
 ghost use Rattle.loop_regions.specs.Inner.FoundRegions.{nest_in};
-ghost use Rattle.loop_regions.specs.Inner.ForwardPaths.{IsSearch, IsStartOrSeen, EdgesFrom};
-ghost use Rattle.loop_regions.specs.Inner.ForwardPaths.{to_search};
+ghost use Rattle.loop_regions.specs.Inner.ForwardPaths.{IsSearch, to_search};
 
 use crate::found::Regions;
-use crate::ranks::{all_fall, forward, ranks};
+use crate::ranks::{all_fall, is_back, ranks};
+use crpd_base::NodeId;
 use flat_graph::Graph;
 use std::alloc::{AllocError, Global};
 
@@ -16,37 +16,33 @@ use std::alloc::{AllocError, Global};
 /// it has not followed yet.
 #[derive(Drop)]
 struct Search {
-    start: u32,
     seen: Vec<bool>,
     waiting: Vec<u32>,
 }
 
 impl Search {
-    /// Follows the first or second edge of a node, where that is a forward one.
-    fn follow(&mut self, graph: &Graph, regions: &Regions, u: u32, k: u8) -> Result<(), AllocError>
-        requires nodes { length regions.now.holders ≡ (graph_of graph.now).size }
+    /// Follows the forward edges of a node that was taken from those that waited.
+    fn follow(&mut self, graph: &Graph, regions: &Regions, u: u32) -> Result<(), AllocError>
+        requires regions { length regions.now.holders ≡ (graph_of graph.now).size }
+        requires nodes { length self.old.seen.items ≡ (graph_of graph.now).size }
         requires node { u < (graph_of graph.now).size }
-        requires place { k < 2 }
-        requires met { IsStartOrSeen self.old.start self.old.seen.items u }
-        requires search { IsSearch (graph_of graph.now) (nest_in regions.now) self.old.start
-            self.old.seen.items self.old.waiting.items (EdgesFrom u k) }
-        ensures search { OnOk result
-            (IsSearch (graph_of graph.now) (nest_in regions.now) self.new.start self.new.seen.items
-            self.new.waiting.items (EdgesFrom u (k + 1))) }
+        ensures search { OnOk result ((y : ℕ) →
+            IsSearch (graph_of graph.now) (nest_in regions.now) y self.old.seen.items
+            (u ∷ self.old.waiting.items)
+            → IsSearch (graph_of graph.now) (nest_in regions.now) y self.new.seen.items
+            self.new.waiting.items) }
         ensures falls { OnOk result
             (to_search self.new.seen.items self.new.waiting.items
             ≤ to_search self.old.seen.items self.old.waiting.items) }
-        ensures start { self.new.start ≡ self.old.start }
-        ensures met { OnOk result (IsStartOrSeen self.new.start self.new.seen.items u) }
     {
-        let Some(v) = forward(graph, regions, u, k) else {
-            return Ok(());
-        };
-        if self.seen[v as usize] {
-            return Ok(());
+        for next in graph.successors(NodeId(u)) {
+            let v = next.0;
+            if is_back(regions, u, v) || self.seen[v as usize] {
+                continue;
+            }
+            self.seen[v as usize] = true;
+            self.waiting.push(v)?;
         }
-        self.seen[v as usize] = true;
-        self.waiting.push(v)?;
         Ok(())
     }
 }
@@ -60,13 +56,11 @@ fn is_on_cycle(alloc: Global, graph: &Graph, regions: &Regions, y: u32) -> Resul
 {
     graph.graph_law();
     let mut search = Search {
-        start: y,
         seen: vec![in alloc; false; graph.len() as usize]?,
         waiting: vec![in alloc; y]?,
     };
     while let Some(u) = search.waiting.pop() {
-        search.follow(graph, regions, u, 0)?;
-        search.follow(graph, regions, u, 1)?;
+        search.follow(graph, regions, u)?;
     }
     Ok(search.seen[y as usize])
 }

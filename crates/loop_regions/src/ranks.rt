@@ -1,41 +1,22 @@
 // Ranks that fall along forward edges, where no cycle is left without back edges.
-ghost use Rattle.std.specs.Prelude.{◌≡◌, ◌<◌, ◌^◌, ℕ, All, IfOk, IfSome, OnOk, IsTrue, length};
+ghost use Rattle.std.specs.Prelude.{◌≡◌, ◌↔◌, ◌<◌, ◌^◌, ℕ, All, IfOk, OnOk, IsTrue, length};
 ghost use Rattle.std.specs.Prelude.{slice_index};
 ghost use Rattle.flat_graph.specs.CodeGraph.{graph_of};
 ghost use Rattle.loop_regions.specs.Nest.{IsBackEdge};
 ghost use Rattle.loop_regions.specs.Stated.{IsForward};
-ghost use Rattle.loop_regions.specs.Inner.FoundRegions.{nest_in, is_back};
-ghost use Rattle.loop_regions.specs.Inner.ForwardPaths.{IsForwardBy};
+ghost use Rattle.loop_regions.specs.Inner.FoundRegions.{nest_in};
 
 use crate::found::Regions;
-use crate::second_entry::next;
 use crpd_base::NodeId;
 use flat_graph::Graph;
 use std::alloc::{AllocError, Global};
 
 /// Whether an edge from u to v leads to the head of a region that holds u.
-fn is_back(regions: &Regions, u: u32, v: u32) -> bool
+pub(crate) fn is_back(regions: &Regions, u: u32, v: u32) -> bool
     requires { u < length regions.now.holders }
-    ensures { result ≡ is_back regions.now u v }
+    ensures { IsTrue result ↔ IsBackEdge (nest_in regions.now) u v }
 {
     regions.holders(u).iter().any(|r| regions.is_head(*r, v))
-}
-
-/// The first (0) or second (1) successor of a node, where that edge is no back edge.
-pub(crate) fn forward(graph: &Graph, regions: &Regions, u: u32, k: u8) -> Option<u32>
-    requires nodes { length regions.now.holders ≡ (graph_of graph.now).size }
-    requires node { u < (graph_of graph.now).size }
-    requires place { k < 2 }
-    ensures edge { IsForwardBy (graph_of graph.now) (nest_in regions.now) u k result }
-    ensures within { IfSome result (λ v. v < (graph_of graph.now).size) }
-{
-    graph.graph_law();
-    let v = next(graph, u, k)?;
-    if is_back(regions, u, v) {
-        None
-    } else {
-        Some(v)
-    }
 }
 
 /// Counts one more edge that arrives at the end of each forward edge of a node.

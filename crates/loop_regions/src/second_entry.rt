@@ -1,5 +1,5 @@
 // Regions that are entered elsewhere than at their heads.
-ghost use Rattle.std.specs.Prelude.{◌≡◌, ◌<◌, length, slice_get};
+ghost use Rattle.std.specs.Prelude.{◌≡◌, ◌<◌, length};
 ghost use Rattle.flat_graph.specs.CodeGraph.{graph_of};
 ghost use Rattle.loop_regions.specs.Inner.Least.{IsLeastNumber};
 ghost use Rattle.loop_regions.specs.Stated.{IsSecondEntry};
@@ -28,15 +28,6 @@ fn enters(regions: &Regions, u: u32, v: u32) -> bool
         .holders(v)
         .iter()
         .any(|r| !regions.is_head(*r, v) && !regions.holds(*r, u))
-}
-
-/// The first (0) or second (1) successor of a node.
-pub(crate) fn next(graph: &Graph, u: u32, k: u8) -> Option<u32>
-    requires node { u < (graph_of graph.now).size }
-    requires place { k < 2 }
-    ensures { result ≡ slice_get ((graph_of graph.now).next u) k }
-{
-    graph.succ(NodeId(u), k).map(|id| id.0)
 }
 
 /// A node v, where an edge from u to it enters a region of which it is not the head.

@@ -1,15 +1,10 @@
 -- Ways by forward edges, and the search for them.
-use Rattle.std.specs.Prelude.{◌≡◌, ◌⊎◌, ℕ, suc, ◌+◌, ◌*◌, ◌<◌, ◌≤◌, Bool, true, false, List, []}
-use Rattle.std.specs.Prelude.{◌∷◌, length, slice_get, slice_index_or, IsTrue, Option, Some, None}
+use Rattle.std.specs.Prelude.{◌≡◌, ◌⊎◌, ℕ, suc, ◌+◌, ◌<◌, Bool, true, false, List, [], ◌∷◌, length}
+use Rattle.std.specs.Prelude.{slice_index_or, IsTrue}
 use Rattle.flat_graph.specs.Graph.{Graph}
 use Rattle.loop_regions.specs.Nest.{Nest}
 use Rattle.loop_regions.specs.Stated.{IsForward, IsForwardPath, IsOnCycle}
 use Rattle.loop_regions.specs.CodeNest.{has}
-
--- the first (0) or second (1) successor, where that edge is a forward one
-abbrev pub IsForwardBy : Graph → Nest → ℕ → ℕ → Option ℕ → Type 0
-IsForwardBy g n u k None = (v : ℕ) → slice_get (g.next u) k ≡ Some v → IsForward g n u v → ⊥
-IsForwardBy g n u k (Some v) = (slice_get (g.next u) k ≡ Some v) × IsForward g n u v
 
 -- some way by forward edges leads from y to v
 abbrev pub Reaches : Graph → Nest → ℕ → ℕ → Type 0
@@ -23,27 +18,19 @@ NoneBelow g n k = (z : ℕ) → z < k → IsOnCycle g n z → ⊥
 abbrev pub was_seen : List Bool → ℕ → Bool
 was_seen seen v = slice_index_or seen v false
 
--- it is y, or it was seen
-abbrev pub IsStartOrSeen : ℕ → List Bool → ℕ → Type 0
-IsStartOrSeen y seen u = (u ≡ y) ⊎ IsTrue (was_seen seen u)
-
--- the nodes seen are reached from y; each forward edge from y or from a node seen was followed, or
--- its source waits, or the edge is still to be followed
+-- the nodes seen are reached from y, and those that wait are y or reached; each forward edge from y
+-- or from a node seen leads to a node seen, or its source waits
 pub record IsSearch (g : Graph) (n : Nest) (y : ℕ) (seen : List Bool) (waiting : List ℕ)
-    (left : ℕ → ℕ → Type 0) : Type 0 where
+    : Type 0 where
   pub nodes : length seen ≡ g.size
-  pub start : y < g.size
   pub sound : (v : ℕ) → IsTrue (was_seen seen v) → Reaches g n y v
-  pub own : (u : ℕ) → IsTrue (has waiting u) → (u < g.size) × IsStartOrSeen y seen u
-  pub followed : (u v k : ℕ) → IsStartOrSeen y seen u → slice_get (g.next u) k ≡ Some v
-      → IsForward g n u v → IsTrue (was_seen seen v) ⊎ IsTrue (has waiting u) ⊎ left u k
+  pub own : (u : ℕ) → IsTrue (has waiting u) → (u < g.size) × ((u ≡ y) ⊎ Reaches g n y u)
+  pub followed : (u v : ℕ) → (u ≡ y) ⊎ IsTrue (was_seen seen u) → IsForward g n u v
+      → IsTrue (was_seen seen v) ⊎ IsTrue (has waiting u)
 
--- the edges of u from the k-th on
-abbrev pub EdgesFrom : ℕ → ℕ → ℕ → ℕ → Type 0
-EdgesFrom u k w j = (w ≡ u) × (k ≤ j)
-
-abbrev pub NoEdges : ℕ → ℕ → Type 0
-NoEdges w j = ⊥
+-- the edge from u to v, if it is a forward one, leads to a node seen
+abbrev pub IsFollowed : Graph → Nest → List Bool → ℕ → ℕ → Type 0
+IsFollowed g n seen u v = IsForward g n u v → IsTrue (was_seen seen v)
 
 -- how many nodes were not seen
 unfoldable pub unseen : List Bool → ℕ
@@ -51,6 +38,6 @@ unseen [] = 0
 unseen (true ∷ seen) = unseen seen
 unseen (false ∷ seen) = suc (unseen seen)
 
--- how much there is left to do: twice the nodes not seen, and those that wait
+-- how much there is left to do: the nodes not seen, and those that wait
 abbrev pub to_search : List Bool → List ℕ → ℕ
-to_search seen waiting = 2 * unseen seen + length waiting
+to_search seen waiting = unseen seen + length waiting

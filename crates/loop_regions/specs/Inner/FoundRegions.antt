@@ -28,10 +28,6 @@ abbrev pub enters : Regions → ℕ → ℕ → Bool
 enters r u v =
     list_any (λ q. not (is_head r.heads v q) && not (has (row r.holders u) q)) (row r.holders v)
 
--- whether an edge leads to the head of a region that holds its source
-abbrev pub is_back : Regions → ℕ → ℕ → Bool
-is_back r u v = list_any (λ q. is_head r.heads v q) (row r.holders u)
-
 -- a node of region r other than its head is entered from u
 abbrev pub Enters : Nest → ℕ → ℕ → Type 0
 Enters n u v =
