@@ -51,16 +51,6 @@ fn raise(numbers: &mut [u64], place: u32, asked: u64) -> bool {
 }
 
 impl<const S: usize> Inequalities<'_, S> {
-    // The end of the first (0) or second (1) edge of a node.
-    fn next(&self, node: NodeId, k: u8) -> Option<NodeId>
-        requires node { node.0 < (graph_of self.now.graph.now).size }
-        requires place { k < 2 }
-        ensures { IfSome result (λ v. v.0 < (graph_of self.now.graph.now).size) }
-    {
-        self.graph.graph_law();
-        self.graph.succ(node, k)
-    }
-
     // The level of a node: the innermost region that holds it.
     fn level(&self, node: NodeId) -> Option<u32>
         requires { node.0 < (graph_of self.now.graph.now).size }
@@ -123,14 +113,11 @@ impl<const S: usize> Inequalities<'_, S> {
         cost(self.platform, &stand.ins, !hit, taken)
     }
 
-    // What a node's first (0) or second (1) edge asks of the node, 0 where there is no such edge.
-    fn asked_by_edge(&self, found: &Potentials, node: NodeId, k: u8) -> u64
+    // What an edge from a node to the next one asks of the node.
+    fn asked_by_edge(&self, found: &Potentials, node: NodeId, next: NodeId) -> u64
         requires node { node.0 < (graph_of self.now.graph.now).size }
-        requires place { k < 2 }
+        requires next { next.0 < (graph_of self.now.graph.now).size }
     {
-        let Some(next) = self.next(node, k) else {
-            return 0;
-        };
         let straight = u64::from(self.graph.node(node).address) + 4;
         let taken = u64::from(self.graph.node(next).address) != straight;
         let after = self.after(found, self.level(node), next);
@@ -149,18 +136,32 @@ impl<const S: usize> Inequalities<'_, S> {
         }
     }
 
-    // What comes after a node's first (0) or second (1) edge where that leaves the region, else 0.
-    fn after_exit(&self, found: &Potentials, region: u32, node: NodeId, k: u8) -> u64
+    // The most that the edges of a node ask of it, the one to the end among them.
+    fn asked_of_node(&self, found: &Potentials, node: NodeId) -> u64
+        requires { node.0 < (graph_of self.now.graph.now).size }
+    {
+        let mut most = self.asked_by_end(node);
+        for next in self.graph.successors(node) {
+            most = self.asked_by_edge(found, node, next).max(most);
+        }
+        most
+    }
+
+    // The most that comes after an edge of a node out of a region that holds it, else 0.
+    fn after_exits(&self, found: &Potentials, region: u32, node: NodeId) -> u64
         requires region { region < (nest_of self.now.nest.now).size }
         requires node { node.0 < (graph_of self.now.graph.now).size }
-        requires place { k < 2 }
     {
-        match self.next(node, k) {
-            Some(next) if self.nest.holds(region, node) && !self.nest.holds(region, next) => {
-                self.after(found, self.parent(region), next)
-            }
-            _ => 0,
+        if !self.nest.holds(region, node) {
+            return 0;
         }
+        let mut most = 0;
+        for next in self.graph.successors(node) {
+            if !self.nest.holds(region, next) {
+                most = self.after(found, self.parent(region), next).max(most);
+            }
+        }
+        most
     }
 
     // What is asked of a region: all its iterations, and the most that comes after one of its
@@ -170,9 +171,7 @@ impl<const S: usize> Inequalities<'_, S> {
     {
         let mut most = 0;
         for node in 0..self.graph.len() {
-            let first = self.after_exit(found, region, NodeId(node), 0);
-            let second = self.after_exit(found, region, NodeId(node), 1);
-            most = first.max(second).max(most);
+            most = self.after_exits(found, region, NodeId(node)).max(most);
         }
         let turn = number_at(&found.nodes, self.nest.head(region).0);
         u64::from(self.nest.bound(region))
@@ -184,10 +183,7 @@ impl<const S: usize> Inequalities<'_, S> {
     fn raise_nodes(&self, found: &mut Potentials) -> bool {
         let mut raised = false;
         for node in 0..self.graph.len() {
-            let id = NodeId(node);
-            let first = self.asked_by_edge(found, id, 0);
-            let second = self.asked_by_edge(found, id, 1);
-            let asked = self.asked_by_end(id).max(first).max(second);
+            let asked = self.asked_of_node(found, NodeId(node));
             raised = raise(&mut found.nodes, node, asked) || raised;
         }
         raised

@@ -34,10 +34,8 @@ fn node_told(alloc: Global, graph: &Graph, id: NodeId) -> Result<String, AllocEr
     }
     let leads = if graph.leader(id) { "*" } else { "" };
     text.push_str(format!(in alloc; "{:x}{leads}", graph.node(id).address)?.as_str())?;
-    for k in 0..2 {
-        if let Some(next) = graph.succ(id, k) {
-            text.push_str(format!(in alloc; ">{}", next.0)?.as_str())?;
-        }
+    for next in graph.successors(id) {
+        text.push_str(format!(in alloc; ">{}", next.0)?.as_str())?;
     }
     if graph.find(graph.context(id), graph.node(id).address) != Some(id) {
         text.push_str("?")?;
