@@ -54,7 +54,6 @@ fn is_on_cycle(alloc: Global, graph: &Graph, regions: &Regions, y: u32) -> Resul
     ensures { IfOk result (λ says. IsTrue says
         ↔ IsOnCycle (graph_of graph.now) (nest_in regions.now) y) }
 {
-    graph.graph_law();
     let mut search = Search {
         seen: vec![in alloc; false; graph.len() as usize]?,
         waiting: vec![in alloc; y]?,
