@@ -64,7 +64,7 @@ fn task_failure(
 /// The listed states may stand in any order; of two entries of a node, or of a cache set, the first
 /// counts. Listed cache sets are below 512, and windows are at most 2^40.
 ///
-/// Takes no memory but some 220 kB of the stack. Its time is that of the nodes, each edge with the
+/// Takes no memory but some 350 kB of the stack. Its time is that of the nodes, each edge with the
 /// regions that it leaves and with the listed state that it leads to, the listed states, and for
 /// each task the demand of its window.
 ///

@@ -1,7 +1,8 @@
 -- A task's graph with what its part of a certificate lists: full states as the blocks of the cache
 -- sets, an order of the nodes, and which nodes are counted as hits.
 use Rattle.std.specs.Prelude.{◌≡◌, ◌↔◌, ℕ, ◌+◌, ◌<◌, Bool, false, List, length, All, Option, Some}
-use Rattle.std.specs.Prelude.{slice_get, slice_index, slice_index_or, IsTrue, IsFalse}
+use Rattle.std.specs.Prelude.{None, MatchOption, slice_get, slice_index, slice_index_or, IsTrue}
+use Rattle.std.specs.Prelude.{IsFalse}
 use Rattle.crpd_base.specs.Limits.{most_sets}
 use Rattle.crpd_base.specs.Ranges.{IsPlatform}
 use Rattle.crpd_base.specs.declared.data.Platform.{Platform}
@@ -19,11 +20,17 @@ use Rattle.evict_sets.specs.ListedPart.{state_entry_of, listed_of}
 abbrev pub node_accesses : Platform → CodeGraph → Accesses
 node_accesses p g = accesses p (places_of g).address
 
--- each node has the place of its entry among the listed states; a node that is not listed has a
--- place past them
-pub record IsEntryIndex (states : List NodeState) (size : ℕ) (places : List ℕ) : Type 0 where
-  pub count : length places ≡ size
-  pub each : (y : ℕ) → y < size → slice_get states (slice_index places y) ≡ state_entry_of states y
+-- the place of an entry among the listed states; None where there is no entry
+abbrev pub IsEntryPlace : List NodeState → Option NodeState → Option ℕ → Type 0
+IsEntryPlace states entry place =
+    MatchOption place (entry ≡ None) (λ k. (k < length states) × (slice_get states k ≡ entry))
+
+-- each node has the place of its entry
+pub record IsEntryIndex (states : List NodeState) (size : ℕ) (places : List (Option ℕ)) : Type 0
+  where
+    pub count : length places ≡ size
+    pub each : (y : ℕ) → y < size
+        → IsEntryPlace states (state_entry_of states y) (slice_index_or places y None)
 
 -- the cache sets of the listed states are below 512
 abbrev pub HasLowSets : TaskPart → Type 0
@@ -31,7 +38,8 @@ HasLowSets t = All (λ (s : NodeState). All (λ (x : ℕ × ℕ). x.0 < most_set
 
 -- the platform and the part are in their ranges, the places are those of the part's entries, and
 -- the leaders are listed
-pub record IsListing (p : Platform) (g : CodeGraph) (t : TaskPart) (places : List ℕ) : Type 0 where
+pub record IsListing (p : Platform) (g : CodeGraph) (t : TaskPart) (places : List (Option ℕ))
+    : Type 0 where
   pub platform : IsPlatform p
   pub sets : HasLowSets t
   pub index : IsEntryIndex t.states (length g.nodes) places

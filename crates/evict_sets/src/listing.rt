@@ -18,9 +18,9 @@ pub struct Listing<'a> {
     pub graph: &'a Graph,
     /// The task's part of the certificate.
     pub part: &'a TaskPart,
-    /// For each node the place of its entry among the part's states, past them all for a node that
-    /// is not listed: what `index` writes.
-    pub places: &'a [usize],
+    /// For each node the place of its entry among the part's states, counted from 0, None exactly
+    /// where the node has no entry: what `index` writes.
+    pub places: &'a [Option<usize>],
 }
 
 impl Listing<'_> {
@@ -33,7 +33,8 @@ impl Listing<'_> {
             (state_entry_of self.now.part.now.states node.0 ≡ None)
             (λ s. state_entry_of self.now.part.now.states node.0 ≡ Some s.now) }
     {
-        self.part.states.get(self.places[node.0 as usize])
+        let place = self.places[node.0 as usize]?;
+        Some(&self.part.states[place])
     }
 
     /// Whether a node is listed. In constant time.

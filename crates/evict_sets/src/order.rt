@@ -9,7 +9,6 @@ ghost use Rattle.evict_sets.specs.Inner.OrderPrefix.{IsOrderPrefix, IsChainCompl
 ghost use Rattle.evict_sets.specs.Inner.OrderPrefix.{HasListedBelow};
 
 use crate::listing::Listing;
-use crate::steps::successor;
 use crpd_base::NodeId;
 
 impl Listing<'_> {
@@ -24,17 +23,9 @@ impl Listing<'_> {
             (λ v. Edge (graph_of self.now.graph.now) node.0 v.0
             × IsFalse ((listed_of self.now.part.now).is_listed v.0)) }
     {
-        self.graph.graph_law();
-        match successor(self.graph, node, 0) {
-            Some(next) => {
-                if self.is_listed(next) {
-                    None
-                } else {
-                    Some(next)
-                }
-            }
-            None => None,
-        }
+        self.graph
+            .successors(node)
+            .find(|next| !self.is_listed(*next))
     }
 
     /// Writes a listed node behind the first so many, and the unlisted nodes that continue it;

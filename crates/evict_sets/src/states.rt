@@ -86,7 +86,7 @@ impl Listing<'_> {
 /// The listed cache sets are below 512, and every leader is listed.
 ///
 /// It looks at each node, edge and listed state once. It keeps a flag for each node, and takes some
-/// 200 kB of the stack. Want of memory is the only error.
+/// 330 kB of the stack. Want of memory is the only error.
 pub fn hits(
     alloc: Global,
     platform: &Platform,
@@ -103,7 +103,7 @@ pub fn hits(
 {
     graph.graph_law();
     let size = graph.len() as usize;
-    let mut table = [0; MOST_NODES];
+    let table = &mut [None; MOST_NODES];
     let places = &mut table[..size];
     index(part.states.as_slice(), size, places);
     let listing = Listing {
