@@ -1,6 +1,10 @@
 -- What is read of the lists of graphs, regions and parts.
-use Rattle.std.proofs.Common.{◌≡◌, ℕ, ◌<◌, List, length, get_or, Result, sym, ◌∙◌, subst}
+use Rattle.std.proofs.Common.{◌≡◌, ℕ, ◌<◌, List, length, get_or, Option, Result, sym, ◌∙◌, subst}
+use Rattle.std.proofs.Common.{arith}
 use Rattle.std.proofs.lemmas.List.{get_or_default}
+use Rattle.crpd_base.specs.Ranges.{IsPlatform}
+use Rattle.crpd_base.specs.declared.data.Platform.{Platform}
+use Rattle.crpd_base.specs.declared.data.NodeState.{NodeState}
 use Rattle.crpd_base.specs.declared.data.TaskSet.{TaskSet}
 use Rattle.crpd_base.specs.declared.data.TaskPart.{TaskPart}
 use Rattle.crpd_base.specs.declared.data.Certificate.{Certificate}
@@ -9,11 +13,11 @@ use Rattle.loop_regions.specs.CodeNest.{CodeNest, IsNestOf}
 use Rattle.evict_sets.specs.ListedPart.{certified_task, no_task_part}
 use Rattle.cert_check.specs.TaskGraphs.{task_graph, task_graph_at, nest_at, no_nest, HasLowSets}
 use Rattle.cert_check.specs.TaskGraphs.{AreTaskGraphs, IsCertificateInRange}
-use Rattle.crpd_base.specs.declared.data.NodeState.{NodeState}
-use Rattle.evict_sets.specs.Listing.{IsEntryIndex}
+use Rattle.evict_sets.specs.Listing.{IsEntryIndex, IsListing}
 use Rattle.cert_check.specs.declared.outcome.Clause.{Clause}
+use Rattle.cert_check.specs.declared.outcome.Clause.TheVariants.{Leaders}
 use Rattle.cert_check.specs.Verdict.{GraphHolds, ClauseHolds}
-use Rattle.cert_check.specs.Inner.FirstFailing.{IsRangeJudged}
+use Rattle.cert_check.specs.Inner.FirstFailing.{AllHold, IsRangeJudged}
 use Rattle.cert_check.proofs.Found.{found_as}
 use Rattle.cert_check.proofs.Judgements.{graph_same}
 
@@ -51,7 +55,16 @@ found_task set graphs nests c i g n t r g_is n_is at F =
     r) n_is
     (subst (λ x. IsRangeJudged (GraphHolds set.platform (task_graph g n) x) 2 7 r) (sym at) F)))
 
-pub index_of : (xs ys : List NodeState) (n m : ℕ) (places : List ℕ) → xs ≡ ys → n ≡ m
-    → IsEntryIndex xs n places → IsEntryIndex ys m places
-index_of xs ys n m places e f I =
-    subst (λ zs. IsEntryIndex zs m places) e (subst (λ k. IsEntryIndex xs k places) f I)
+-- the index of a part's states is that of a listing, where what is listed was judged
+pub to_listing : (p : Platform) (g : CodeGraph) (n : CodeNest) (t : TaskPart)
+    (states : List NodeState) (nodes : ℕ) (places : List (Option ℕ)) → IsPlatform p → HasLowSets t
+    → states ≡ t.states → nodes ≡ length g.nodes → IsEntryIndex states nodes places
+    → AllHold (GraphHolds p (task_graph g n) t) 2 2 → IsListing p g t places
+to_listing p g n t states nodes places in_range sets same count index holds = record {
+  platform = in_range;
+  sets = sets;
+  index =
+      subst (λ k. IsEntryIndex t.states k places) count
+      (subst (λ xs. IsEntryIndex xs nodes places) same index);
+  leaders = (holds Leaders (omega arith) (omega arith)).1;
+}

@@ -90,7 +90,7 @@ pub(crate) fn graph_failure(
 {
     graph.graph_law();
     let size = graph.len() as usize;
-    let mut table = [None; MOST_NODES];
+    let table = &mut [None; MOST_NODES];
     let places = &mut table[..size];
     index(part.states.as_slice(), size, places);
     let listing = Listing {

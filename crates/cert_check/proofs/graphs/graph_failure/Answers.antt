@@ -1,10 +1,9 @@
-use Rattle.std.proofs.Common.{length, Ok, Err, arith}
-use Rattle.cert_check.specs.declared.outcome.Clause.TheVariants.{Leaders, NodePotentials}
-use Rattle.cert_check.specs.declared.outcome.Clause.TheVariants.{LoopPotentials}
+use Rattle.std.proofs.Common.{Ok, Err, arith}
+use Rattle.cert_check.specs.declared.outcome.Clause.TheVariants.{NodePotentials, LoopPotentials}
 use Rattle.cert_check.specs.TaskGraphs.{task_graph}
 use Rattle.cert_check.specs.Verdict.{GraphHolds}
 use Rattle.cert_check.proofs.Found.{found_first, then_found, handed_on}
-use Rattle.cert_check.proofs.Tasks.{index_of}
+use Rattle.cert_check.proofs.Tasks.{to_listing}
 use Rattle.cert_check.proofs.graphs.graph_failure.Goals as goal
 
 pub returns-in_err-list_failure : goal.returns-in_err-list_failure
@@ -17,37 +16,22 @@ returns-in_err-list_failure c =
     2 7 c.in_err-list_failure.field-0.0 (omega arith) c.in_err-list_failure.ensures)
 
 pub write_order-requires-clause-case : goal.write_order-requires-clause-case
-write_order-requires-clause-case c = record {
-  platform = c.requires.platform;
-  sets = c.requires.sets;
-  index =
-      index_of c.as_slice.result.now c.args.part.now.states c.len-size.result
-      (length c.args.graph.now.nodes) c.index.new.places c.as_slice.ensures c.len-size.ensures
-      c.index.ensures;
-  leaders = (c.in_ok-list_failure.ensures Leaders (omega arith) (omega arith)).1;
-}
-
-pub state_failure-requires-clause-case : goal.state_failure-requires-clause-case
-state_failure-requires-clause-case c = record {
-  platform = c.requires.platform;
-  sets = c.requires.sets;
-  index =
-      index_of c.as_slice.result.now c.args.part.now.states c.len-size.result
-      (length c.args.graph.now.nodes) c.index.new.places c.as_slice.ensures c.len-size.ensures
-      c.index.ensures;
-  leaders = (c.in_ok-list_failure.ensures Leaders (omega arith) (omega arith)).1;
-}
+write_order-requires-clause-case c =
+    to_listing c.args.platform.now c.args.graph.now c.args.nest.now c.args.part.now
+    c.as_slice.result.now c.len-size.result c.index.new.places c.requires.platform c.requires.sets
+    c.as_slice.ensures c.len-size.ensures c.index.ensures c.in_ok-list_failure.ensures
 
 pub write_hits-requires-clause-case : goal.write_hits-requires-clause-case
-write_hits-requires-clause-case c = record {
-  platform = c.requires.platform;
-  sets = c.requires.sets;
-  index =
-      index_of c.as_slice.result.now c.args.part.now.states c.len-size.result
-      (length c.args.graph.now.nodes) c.index.new.places c.as_slice.ensures c.len-size.ensures
-      c.index.ensures;
-  leaders = (c.in_ok-list_failure.ensures Leaders (omega arith) (omega arith)).1;
-}
+write_hits-requires-clause-case c =
+    to_listing c.args.platform.now c.args.graph.now c.args.nest.now c.args.part.now
+    c.as_slice.result.now c.len-size.result c.index.new.places c.requires.platform c.requires.sets
+    c.as_slice.ensures c.len-size.ensures c.index.ensures c.in_ok-list_failure.ensures
+
+pub state_failure-requires-clause-case : goal.state_failure-requires-clause-case
+state_failure-requires-clause-case c =
+    to_listing c.args.platform.now c.args.graph.now c.args.nest.now c.args.part.now
+    c.as_slice.result.now c.len-size.result c.index.new.places c.requires.platform c.requires.sets
+    c.as_slice.ensures c.len-size.ensures c.index.ensures c.in_ok-list_failure.ensures
 
 pub returns-in_err-state_failure : goal.returns-in_err-state_failure
 returns-in_err-state_failure c =

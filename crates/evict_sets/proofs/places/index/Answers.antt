@@ -16,8 +16,9 @@ loop-done-preserved c =
     let s = get_or states place c.index-states-place.result in
     let is = ap (get_or states place) c.index-states-place.is in
     let below : place < length states = omega (arith, c.loop-done-test.true) in
-    let last : length states - c.loop-done.done ≡ suc place = omega (arith, c.loop-done-test.true) in
-    let before = subst (ArePlaced states places) last c.loop-done.invariant in
+    let behind : length states - c.loop-done.done ≡ suc place =
+    omega (arith, c.loop-done-test.true) in
+    let before = subst (ArePlaced states places) behind c.loop-done.invariant in
     let next : place ≡ length states - (c.loop-done.done + 1) = omega arith in
     subst (ArePlaced states c.if-node-nodes.places) next
     (elim c.if-node-nodes.branch [
