@@ -20,7 +20,7 @@ use Rattle.evict_sets.specs.ListedPart.{state_entry_of, listed_of}
 abbrev pub node_accesses : Platform → CodeGraph → Accesses
 node_accesses p g = accesses p (places_of g).address
 
--- the place of an entry among the listed states; None where there is no entry
+-- the place of an entry among the listed states; None exactly where there is no entry
 abbrev pub IsEntryPlace : List NodeState → Option NodeState → Option ℕ → Type 0
 IsEntryPlace states entry place =
     MatchOption place (entry ≡ None) (λ k. (k < length states) × (slice_get states k ≡ entry))
