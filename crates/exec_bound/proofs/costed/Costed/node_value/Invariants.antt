@@ -4,13 +4,12 @@ use Rattle.crpd_base.specs.declared.data.NodeId.{NodeId}
 use Rattle.loop_regions.specs.CodeNest.{nest_of}
 use Rattle.evict_sets.specs.Listing.{counted}
 use Rattle.exec_bound.specs.Costs.{costs_of, listed_potentials}
-use Rattle.exec_bound.specs.Inner.Settled.{IsLeast, Covers}
+use Rattle.exec_bound.specs.Inner.Settled.{IsNodeValue}
 use Rattle.exec_bound.proofs.costed.Costed.node_value.Given as goal
 
 abbrev pub invariant-loop-next : goal.invariant-loop-next
 invariant-loop-next l =
-    IsLeast
-    (Covers (nest_of l.self.nest.now)
+    IsNodeValue (nest_of l.self.nest.now)
     (costs_of l.self.platform.now l.self.graph.now (counted l.self.hits.now))
     (listed_potentials l.values.nodes.items l.values.loops.items) l.node.0
-    (map (λ (n : NodeId). n.0) l.yielded)) l.value
+    (map (λ (n : NodeId). n.0) l.yielded) l.value
