@@ -33,7 +33,7 @@ abbrev pub reload_line : TaskSet → Entry → List ℕ
 reload_line set e = miss_text set e ++ codes " " ++ cause_text set e ++ 10 ∷ []
 
 unfoldable pub reload_lines : TaskSet → List Entry → List ℕ
-reload_lines set entries = flat_map (reload_line set) entries
+reload_lines set reloads = flat_map (reload_line set) reloads
 
 -- the delays that a certificate charges to the task at a place, of all higher tasks together: at
 -- the task's window, by its method, with the certificate's parts and windows

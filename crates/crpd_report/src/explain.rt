@@ -26,32 +26,32 @@ fn job_name(alloc: Global, set: &TaskSet, job: JobId) -> Result<String, AllocErr
 }
 
 /// What a reload's line tells of the miss.
-fn miss_text(alloc: Global, set: &TaskSet, entry: &Entry) -> Result<String, AllocError>
-    ensures { IfOk result (λ text. string_bytes text ≡ spec.miss_text set.now entry.now) }
+fn miss_text(alloc: Global, set: &TaskSet, reload: &Entry) -> Result<String, AllocError>
+    ensures { IfOk result (λ text. string_bytes text ≡ spec.miss_text set.now reload.now) }
 {
-    let job = job_name(alloc, set, entry.job)?;
-    let number = entry.set;
-    let time = entry.time;
+    let job = job_name(alloc, set, reload.job)?;
+    let number = reload.set;
+    let time = reload.time;
     let text = format!(in alloc; "reload {job} set {number} cycle {time}")?;
     Ok(text)
 }
 
 /// What a reload's line tells of its cause.
-fn cause_text(alloc: Global, set: &TaskSet, entry: &Entry) -> Result<String, AllocError>
-    ensures { IfOk result (λ text. string_bytes text ≡ spec.cause_text set.now entry.now) }
+fn cause_text(alloc: Global, set: &TaskSet, reload: &Entry) -> Result<String, AllocError>
+    ensures { IfOk result (λ text. string_bytes text ≡ spec.cause_text set.now reload.now) }
 {
-    let evictor = job_name(alloc, set, entry.evictor)?;
-    let preemptor = job_name(alloc, set, entry.preemptor)?;
+    let evictor = job_name(alloc, set, reload.evictor)?;
+    let preemptor = job_name(alloc, set, reload.preemptor)?;
     let text = format!(in alloc; "evictor {evictor} preemptor {preemptor}")?;
     Ok(text)
 }
 
 /// The line of a reload.
-fn reload_line(alloc: Global, set: &TaskSet, entry: &Entry) -> Result<String, AllocError>
-    ensures { IfOk result (λ line. string_bytes line ≡ spec.reload_line set.now entry.now) }
+fn reload_line(alloc: Global, set: &TaskSet, reload: &Entry) -> Result<String, AllocError>
+    ensures { IfOk result (λ line. string_bytes line ≡ spec.reload_line set.now reload.now) }
 {
-    let miss = miss_text(alloc, set, entry)?;
-    let cause = cause_text(alloc, set, entry)?;
+    let miss = miss_text(alloc, set, reload)?;
+    let cause = cause_text(alloc, set, reload)?;
     let line = format!(in alloc; "{miss} {cause}\n")?;
     Ok(line)
 }
@@ -62,13 +62,13 @@ fn add_reloads(
     alloc: Global,
     text: &mut Vec<u8>,
     set: &TaskSet,
-    entries: &[Entry],
+    reloads: &[Entry],
 ) -> Result<(), AllocError>
     ensures { IfOk result (λ _.
-        text.new.items ≡ text.old.items ++ spec.reload_lines set.now entries.now) }
+        text.new.items ≡ text.old.items ++ spec.reload_lines set.now reloads.now) }
 {
-    for entry in entries {
-        let line = reload_line(alloc, set, entry)?;
+    for reload in reloads {
+        let line = reload_line(alloc, set, reload)?;
         text.extend_from_slice(line.as_bytes())?;
     }
     Ok(())

@@ -31,10 +31,10 @@ use Rattle.crpd_tool.proofs.Reported.{one_line}
 
 -- regions play no part in a ledger
 module _ (s : Start) (graphs : List CodeGraph) (c : Certificate) where
-  entry_too : (ns ms : List CodeNest) (n x : ℕ) (f : Fetch)
+  reload_too : (ns ms : List CodeNest) (n x : ℕ) (f : Fetch)
       → IsLedgerReload s (task_graph_at graphs ns) c n x f
       → IsLedgerReload s (task_graph_at graphs ms) c n x f
-  entry_too ns ms n x f e = record {
+  reload_too ns ms n x f e = record {
     kept = e.kept;
     fetches = e.fetches;
     counted = e.counted;
@@ -45,7 +45,7 @@ module _ (s : Start) (graphs : List CodeGraph) (c : Certificate) where
       → IsEvicted s (task_graph_at graphs ms) c n x y
   evicted_too ns ms n x y e = record {
     fetch = e.fetch;
-    entry = entry_too ns ms n x e.fetch e.entry;
+    reload = reload_too ns ms n x e.fetch e.reload;
     time = e.time;
     last = e.last;
     is = e.is;
@@ -57,7 +57,7 @@ module _ (s : Start) (graphs : List CodeGraph) (c : Certificate) where
   preempted_too ns ms n x p e =
       record {
         fetch = e.fetch;
-        entry = entry_too ns ms n x e.fetch e.entry;
+        reload = reload_too ns ms n x e.fetch e.reload;
         from = e.from;
         time = e.time;
         until = e.until;
@@ -78,12 +78,12 @@ module _ (s : Start) (graphs : List CodeGraph) (c : Certificate) where
       → IsLedger s (task_graph_at graphs ns) c n es → IsLedger s (task_graph_at graphs ms) c n es
   ledger_too ns ms n es L =
       record {
-        entries = λ k d lt. let e = L.entries k d lt in (e.0, of_run_too ns ms (get_or es k d) e.1);
+        reloads = λ k d lt. let e = L.reloads k d lt in (e.0, of_run_too ns ms (get_or es k d) e.1);
         in_order = L.in_order;
-        complete = λ t x f lt e. L.complete t x f lt (entry_too ms ns t x f e);
+        complete = λ t x f lt e. L.complete t x f lt (reload_too ms ns t x f e);
       }
 
-  -- so two accounts of a run have the same entries
+  -- so two accounts of a run have the same reloads
   same_entries : (ns ms : List CodeNest) (n : ℕ) (a b : Account)
       → IsAccount s (task_graph_at graphs ns) c n a → IsAccount s (task_graph_at graphs ms) c n b
       → a.entries ≡ b.entries

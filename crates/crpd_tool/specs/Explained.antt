@@ -24,9 +24,9 @@ use Rattle.crpd_tool.specs.Commands.{command_of, explain}
 use Rattle.crpd_tool.specs.declared.status.Status.TheVariants.{Done}
 
 -- the files mean a set with its code, which has graphs and regions, a certificate that the judge
--- says yes to, and a script; the text is a line for each entry of an account of the script's run, a
--- line with the certificate's delays for each task, and a line that says `legal` exactly where the
--- script is legal and `kept` exactly where no watch is broken in the end
+-- says yes to, and a script; the text is a line for each reload of an account of the script's run,
+-- a line with the certificate's delays for each task, and a line that says `legal` exactly where
+-- the script is legal and `kept` exactly where no watch is broken in the end
 pub record IsExplained (contents : Contents) (set certificate script text : List ℕ) : Type 0 where
   pub input : Input
   pub shapes : Shapes
@@ -44,13 +44,13 @@ pub record IsExplained (contents : Contents) (set certificate script text : List
   pub line : IsRunLine input.set given (run_of input given) last
   pub text_is : text ≡ reload_lines input.set account.entries
       ++ delay_lines input.set stated ++ last
-  -- whatever the script is, an entry's evictor and preemptor are of higher tasks, and its set is in
+  -- whatever the script is, a reload's evictor and preemptor are of higher tasks, and its set is in
   -- the evictor's evicting set and in the useful set of the node to which the job went on. No two
-  -- entries have one evictor and one set, and those of one preemptor are of one job and one node,
+  -- reloads have one evictor and one set, and those of one preemptor are of one job and one node,
   -- and of different sets
   pub facts : HasAccountFacts (start_of_script input.set input.code given)
       (task_graph_at shapes.graphs shapes.nests) stated given.cycles account
-  -- after a legal and kept run, of the entries of a job's window those with an evictor of a higher
+  -- after a legal and kept run, of the reloads of a job's window those with an evictor of a higher
   -- task take at most its UCB-union delay, and those with a preemptor of it at most its ECB-union
   -- delay, whichever method the certificate names
   pub within : IsLegal input.set given.jobs → IsKept (run_of input given)

@@ -124,7 +124,7 @@ impl Parts {
 
     /// The steps of the candidate as long as it surely stays the same, or where no job is ready the
     /// steps up to the next release, none of them past a cycle.
-    pub(crate) fn leap(&mut self, code: &CodeMap, until: u64) -> Result<(), Memory>
+    pub(crate) fn make_fast_steps(&mut self, code: &CodeMap, until: u64) -> Result<(), Memory>
         requires machine { IsFastMachine self.old }
         requires run { RunsCode code.now self.old }
         requires before { self.old.schedule.steps < until }

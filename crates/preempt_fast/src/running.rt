@@ -73,7 +73,7 @@ pub fn run_fast(
 {
     let mut parts = load(alloc, code, set, script)?;
     while parts.schedule.steps < script.cycles {
-        parts.leap(code, script.cycles)?;
+        parts.make_fast_steps(code, script.cycles)?;
     }
     let schedule = parts.schedule;
     let kept = schedule.are_kept();

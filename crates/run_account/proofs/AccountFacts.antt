@@ -1,4 +1,4 @@
--- The facts of an account's entries.
+-- The facts of an account's reloads.
 use Rattle.std.proofs.Common.{ℕ}
 use Rattle.loop_regions.specs.Nest.{Nest}
 use Rattle.run_account.specs.declared.run.Run.{Run}
@@ -9,7 +9,7 @@ use Rattle.run_account.specs.Nodes.{job_task}
 use Rattle.run_account.specs.Inner.Runs.{run_start, run_certificate, HasAccountInput}
 use Rattle.run_account.specs.AccountGraphs.{with_nests, SetsAreMet}
 use Rattle.run_account.specs.Walks.{HasGraphs}
-use Rattle.run_account.proofs.EntryFacts.{ledger_facts}
+use Rattle.run_account.proofs.ReloadFacts.{ledger_facts}
 use Rattle.run_account.proofs.Ready.{cached, task_below, has_graphs, states_met}
 
 module _ (r : Run) (R : HasAccountInput r) (nests : ℕ → Nest) where

@@ -1,4 +1,4 @@
--- The evictor and the preemptor of each entry, and the ledger of a run.
+-- The evictor and the preemptor of each reload, and the ledger of a run.
 use Rattle.std.proofs.Common.{◌≡◌, ◌⊎◌, ℕ, zero, suc, true, All, List, [], ◌∷◌, ◌++◌, Option, Some}
 use Rattle.std.proofs.Common.{None, refl, sym, ◌∙◌, ap, subst, inl, inr, arith}
 use Rattle.std.proofs.lemmas.Bool.{cases_Bool, false≢true}
@@ -18,15 +18,15 @@ use Rattle.run_account.specs.Ledger.{IsLedgerReload, LedgerReload, IsLedger}
 use Rattle.run_account.specs.Nodes.{job_task, node_of_job}
 use Rattle.run_account.specs.Reloads.{fetched_block, FetchesAt}
 use Rattle.run_account.specs.Walks.{HasGraphs}
-use Rattle.run_account.proofs.JobWalks.{address_at, each_kept, fetcher_below, entry_is_reload}
+use Rattle.run_account.proofs.JobWalks.{address_at, each_kept, fetcher_below, ledger_reload_is_own}
 use Rattle.run_account.proofs.Ledgers.{no_ledger, ledger_same, ledger_more}
 use Rattle.run_account.proofs.OwnFetches.{last_fetcher, last_fetcher_is}
 use Rattle.run_account.proofs.Preemptors.{preemptor_of, preemptor_is}
 use Rattle.run_account.proofs.ReloadLaws.{same_fetch}
 
-pub entry_has_causes : ReloadHasCauses
-entry_has_causes s graphs c n x f cached A S E =
-    let R = entry_is_reload s graphs c n x f A (λ k h. (S k h).states) E in
+pub reload_has_causes : ReloadHasCauses
+reload_has_causes s graphs c n x f cached A S E =
+    let R = ledger_reload_is_own s graphs c n x f A (λ k h. (S k h).states) E in
     let last = last_fetcher_is s (fetched_set s f) n R.time R.own R.reload.own.earlier
     R.reload.own.own.is R.reload.own.to_set in
     let p = preemptor_is s x n R.time f R.own cached R.reload in
@@ -36,12 +36,19 @@ entry_has_causes s graphs c n x f cached A S E =
       is = record {
         evicted = record {
           fetch = f;
-          entry = E;
+          reload = E;
           time = last.time;
           last = last.fetch;
           is = record { last = last.last; by = last.by };
         };
-        preempted = record { fetch = f; entry = E; from = p.a; time = p.v; until = p.c; is = p.is };
+        preempted = record {
+          fetch = f;
+          reload = E;
+          from = p.a;
+          time = p.v;
+          until = p.c;
+          is = p.is;
+        };
         to_set = refl;
       };
     }
@@ -68,14 +75,14 @@ kept_or_not (j ∷ jobs) =
 
 module _ (s : Start) (graphs : ℕ → TaskGraph) (c : Certificate) (cached : HasCache s)
     (A : HasGraphs s graphs) (S : AreListingsMet s graphs c) where
-  -- an entry of step n, and none
-  abbrev SomeEntry : ℕ → Type 0
-  SomeEntry n = (x : ℕ) × (f : Fetch) × IsLedgerReload s graphs c n x f
+  -- a reload of step n, and none
+  abbrev SomeReload : ℕ → Type 0
+  SomeReload n = (x : ℕ) × (f : Fetch) × IsLedgerReload s graphs c n x f
 
-  abbrev NoEntry : ℕ → Type 0
-  NoEntry n = (x : ℕ) (f : Fetch) → IsLedgerReload s graphs c n x f → ⊥
+  abbrev NoReload : ℕ → Type 0
+  NoReload n = (x : ℕ) (f : Fetch) → IsLedgerReload s graphs c n x f → ⊥
 
-  -- an entry of a step is of the job that fetches there
+  -- a reload of a step is of the job that fetches there
   as_fetched : (n : ℕ) (f : Fetch) → fetch_at s n ≡ Some f → (x : ℕ) (g : Fetch)
       → IsLedgerReload s graphs c n x g → IsLedgerReload s graphs c n f.job f
   as_fetched n f at x g E =
@@ -84,7 +91,7 @@ module _ (s : Start) (graphs : ℕ → TaskGraph) (c : Certificate) (cached : Ha
       subst (λ k. IsLedgerReload s graphs c n f.job k) same
       (subst (λ k. IsLedgerReload s graphs c n k g) who E)
 
-  by_fetch : (n : ℕ) (o : Option Fetch) → fetch_at s n ≡ o → SomeEntry n ⊎ NoEntry n
+  by_fetch : (n : ℕ) (o : Option Fetch) → fetch_at s n ≡ o → SomeReload n ⊎ NoReload n
   by_fetch n None at = inr (λ x f E. none_some (sym at ∙ E.fetches.is))
   by_fetch n (Some f) at =
       elim (kept_or_not (state s n).jobs) [
@@ -122,7 +129,7 @@ module _ (s : Start) (graphs : ℕ → TaskGraph) (c : Certificate) (cached : Ha
       elim (by_fetch n (fetch_at s n) refl) [
         | inr none ↦ (L.0, ledger_same s graphs c n L.0 none L.1)
         | inl E ↦
-            let C = entry_has_causes s graphs c n E.0 E.1 cached A S E.2 in
+            let C = reload_has_causes s graphs c n E.0 E.1 cached A S E.2 in
             let e : LedgerReload = record {
               job = E.0;
               set = fetched_set s E.1;

@@ -1,4 +1,4 @@
--- Each job's fetches are a walk, and an entry's block is that of the job's own last fetch to the
+-- Each job's fetches are a walk, and a reload's block is that of the job's own last fetch to the
 -- set.
 use Rattle.std.proofs.Common.{◌≡◌, ◌≢◌, ◌⊎◌, ℕ, zero, suc, ◌<◌, true, false, List, [], ◌∷◌, length}
 use Rattle.std.proofs.Common.{Option, Some, None, refl, sym, ◌∙◌, ap, subst, inl, inr, arith}
@@ -322,8 +322,8 @@ pub fetcher_below : (s : Start) (x n : ℕ) (f : Fetch) → FetchesAt s x n f �
 fetcher_below s x n f made =
     omega (arith, open_is_below (state s n).jobs x (fetcher_open s x n f made), jobs_length s n)
 
-pub entry_is_reload : LedgerReloadIsOwn
-entry_is_reload s graphs c n x f A M E =
+pub ledger_reload_is_own : LedgerReloadIsOwn
+ledger_reload_is_own s graphs c n x f A M E =
     let h = fetcher_below s x n f E.fetches in
     let own = own_block s graphs A x h c (M x h) n f E.fetches (each_kept s graphs n x h E.kept)
     E.counted in

@@ -11,7 +11,7 @@ use Rattle.run_account.specs.declared.told.Entry.{Entry}
 use Rattle.run_account.specs.Ledger.{LedgerReload, IsLedger}
 use Rattle.run_account.specs.Facts.{HasFacts}
 
--- an entry of the ledger with its jobs by task and number
+-- a reload of the ledger as the account tells it: its jobs by task and number
 abbrev pub account_entry : Start → LedgerReload → Entry
 account_entry s e =
     record {
@@ -34,7 +34,7 @@ pub record IsAccount (s : Start) (graphs : ℕ → TaskGraph) (c : Certificate) 
       → completion a.completions x ≡ completion_at (state s n) x
   pub kept : IsTrue a.kept ↔ IsKept (state s n)
 
--- and the facts of its entries that hold of every run
+-- and the facts of its reloads that hold of every run
 pub record HasAccountFacts (s : Start) (graphs : ℕ → TaskGraph) (c : Certificate) (n : ℕ)
     (a : Account) : Type 0 where
   pub ledger : List LedgerReload

@@ -43,7 +43,7 @@ pub record MeetsTask (set : TaskSet) (graphs : List CodeGraph) (c : Certificate)
 abbrev pub TasksAreMet : TaskSet → List CodeGraph → Certificate → Type 0
 TasksAreMet set graphs c = (i : ℕ) → i < length set.tasks → MeetsTask set graphs c i
 
--- and what the facts of its entries rest on besides: the part meets the clauses on useful sets
+-- and what the facts of its reloads rest on besides: the part meets the clauses on useful sets
 abbrev pub SetsAreMet : TaskSet → List CodeGraph → Certificate → Type 0
 SetsAreMet set graphs c =
     (i : ℕ) → i < length set.tasks →

@@ -1,4 +1,4 @@
--- Every entry of a run has an evictor and a preemptor, so a run has a ledger.
+-- Every reload of a run has an evictor and a preemptor, so a run has a ledger.
 use Rattle.std.specs.Prelude.{ℕ, ◌<◌, List, length}
 use Rattle.crpd_base.specs.declared.data.Certificate.{Certificate}
 use Rattle.icache.specs.Accesses.{accesses}
@@ -19,7 +19,7 @@ AreListingsMet s graphs c =
     let p = certified_task c (job_task s x) in
     MeetsListing t.graph (accesses s.system.platform t.places.address) (listed_of p)
 
--- with an evictor and a preemptor an entry of job x at step n is one of the ledger
+-- with an evictor and a preemptor a reload of job x at step n is one of the ledger
 pub record HasCauses (s : Start) (graphs : ℕ → TaskGraph) (c : Certificate) (n x : ℕ)
     (f : Fetch) : Type 0 where
   pub evictor : ℕ
@@ -33,7 +33,7 @@ pub record HasCauses (s : Start) (graphs : ℕ → TaskGraph) (c : Certificate) 
         preemptor = preemptor;
       })
 
--- each entry has both, in every run, legal or not, kept or not
+-- each reload has both, in every run, legal or not, kept or not
 abbrev pub ReloadHasCauses : Type 0
 ReloadHasCauses =
     (s : Start) (graphs : ℕ → TaskGraph) (c : Certificate) (n x : ℕ) (f : Fetch) →

@@ -1,5 +1,5 @@
--- Facts of a ledger's entries that hold of every run: where an entry comes from, and how few there
--- are of one evictor or preemptor.
+-- Facts of a ledger's reloads that hold of every run: where they come from, and how few there are
+-- of one evictor or preemptor.
 use Rattle.std.specs.Prelude.{◌≡◌, ◌≢◌, ◌⊎◌, ℕ, ◌<◌, true, IsTrue, List, length, All, AllPairs}
 use Rattle.crpd_base.specs.declared.data.Certificate.{Certificate}
 use Rattle.crpd_base.specs.Sets.{has}
@@ -23,7 +23,7 @@ AreSetsMet s graphs c =
     MeetsSets t.graph (accesses s.system.platform t.places.address) (listed_of p)
     (has p.part.evicting) (has p.part.useful)
 
--- an entry's evictor and preemptor are of higher tasks than its job, and the evictor does not come
+-- a reload's evictor and preemptor are of higher tasks than its job, and the evictor does not come
 -- after the preemptor. Its set is in the evictor's evicting set, in its task's useful set, and in
 -- the useful set of the full state of the node to which the job went on: that of the second of the
 -- two fetches between which the evictor's was made
@@ -39,7 +39,7 @@ pub record IsOfHigher (s : Start) (graphs : ℕ → TaskGraph) (c : Certificate)
       (listed_of (certified_task c (job_task s e.job)))
       (node_of_job t (job_after s r.preempted.until e.job)) e.set
 
--- two entries do not have the same evictor and the same set; those of one preemptor are of one job,
+-- two reloads do not have the same evictor and the same set; those of one preemptor are of one job,
 -- went on at one node, and do not have the same set
 pub record AreDistinct (s : Start) (graphs : ℕ → TaskGraph) (c : Certificate)
     (d e : LedgerReload) : Type 0 where

@@ -312,12 +312,12 @@ fn told(alloc: Global, completions: &[Completion], reloads: &[Reload]) -> Result
 /// 3 holds at each node. Want of memory is the only error.
 ///
 /// Where clauses 4 and 5 hold too, evictors and preemptors are of higher tasks, whatever the
-/// script, and there is at most one entry of an evictor, or of a preemptor, and a cache set; all
-/// entries of a preemptor are of one job.
+/// script, and there is at most one reload of an evictor, or of a preemptor, and a cache set; all
+/// reloads of a preemptor are of one job.
 ///
 /// Its time is that of the machine's cycles in which a job is ready, with a look through the jobs
 /// where another job fetches than before and where a job is over. A flag is kept for each node, an
-/// entry for each reload, and a note for each time at which a job goes on behind others.
+/// `Entry` for each reload, and a note for each time at which a job goes on behind others.
 pub fn account(
     alloc: Global,
     code: &CodeMap,

@@ -1,4 +1,4 @@
--- Step 5: execution is paid for by the bound and a reload for each entry.
+-- Step 5: execution is paid for by the bound and the cost of a miss for each reload.
 pub mod Longests
 pub mod Paid
 pub mod Spends

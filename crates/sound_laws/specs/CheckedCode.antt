@@ -62,7 +62,7 @@ CheckedCodeIsBounded =
     (set : TaskSet) (code : Code) (graphs : ℕ → TaskGraph) (c : Certificate) →
     IsChecked set code graphs c → IsBoundedWith set code (bounds c)
 
--- the entries of the window of a job of task i: those made from its start to its answer by jobs of
+-- the reloads of the window of a job of task i: those made from its start to its answer by jobs of
 -- priority at least i's
 abbrev pub is_in_window : ℕ → ℕ → ℕ → Entry → Bool
 is_in_window i start answer e = nat_le start e.time && nat_lt e.time answer && nat_le e.job.task.0 i
@@ -75,7 +75,7 @@ abbrev pub has_preemptor : ℕ → Entry → Bool
 has_preemptor j e = e.preemptor.task.0 == j
 
 -- of an account of a script's run: take a job that has answered, the start of its window, and a
--- task j above its task i. The entries of the window with an evictor of j take at most the
+-- task j above its task i. The reloads of the window with an evictor of j take at most the
 -- UCB-union delay of j in i's window, and those with a preemptor of j at most the ECB-union delay,
 -- with the certificate's parts and windows
 pub record IsWithinDelays (set : TaskSet) (code : Code) (script : Script) (c : Certificate)

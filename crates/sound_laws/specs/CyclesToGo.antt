@@ -1,4 +1,4 @@
--- The cycles that a job has to go, its entries, and the law of its execution.
+-- The cycles that a job has to go, its reloads, and the law of its execution.
 use Rattle.std.specs.Prelude.{◌≡◌, ℕ, ◌+◌, ◌*◌, ◌<◌, ◌≤◌, Bool, true, not, ◌&&◌, ◌==◌}
 use Rattle.std.specs.Prelude.{if◌then◌else◌, List, ◌∷◌, length, Option, Some, None}
 use Rattle.crpd_base.specs.declared.data.TaskPlan.{TaskPlan}
@@ -56,14 +56,14 @@ cycles_to_go sys plan t p job nodes =
     else job.left + rest_of_ins plan t p job (walk_of t job nodes) (ins_at sys job.pc))
     else 0
 
--- whether a turn is an entry: it fetches at a node that is counted as a hit, and misses
+-- whether a turn makes a reload: it fetches at a node that is counted as a hit, and misses
 abbrev pub misses_counted_hit : System → TaskGraph → (ℕ → Bool) → Turn → Bool
 misses_counted_hit sys t counted u =
     makes_fetch sys u
     && (counted (node_of_job t u.job)
     && not (is_hit sys.platform u.cache (block_of sys.platform u.job.pc)))
 
--- whether job x uses a cycle of an instruction at step n, and whether it makes an entry there
+-- whether job x uses a cycle of an instruction at step n, and whether it makes a reload there
 abbrev pub executes : Start → ℕ → ℕ → Bool
 executes s x n =
     is_owner (candidate s.system (state s n)) x
@@ -78,8 +78,8 @@ abbrev pub count_below : (ℕ → Bool) → ℕ → ℕ
 count_below p n = sum_below (λ x. if p x then 1 else 0) n
 
 -- with any test of the hits that are counted: the cycles that a job has executed and those that it
--- has to go are at most its bound and a reload for each of its entries so far. Those that it has to
--- go are at least 1 while it is open
+-- has to go are at most its bound and the cost of a miss for each of its reloads so far. Those that
+-- it has to go are at least 1 while it is open
 abbrev pub ExecutionWithinBound : Type 0
 ExecutionWithinBound =
     (s : Start) (set : TaskSet) (graphs : ℕ → TaskGraph) (c : Certificate) (n x : ℕ)

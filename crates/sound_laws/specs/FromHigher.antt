@@ -1,4 +1,4 @@
--- Where an entry comes from.
+-- Where a reload comes from.
 use Rattle.std.specs.Prelude.{◌≡◌, ◌⊎◌, ℕ, ◌<◌, true, IsTrue, Bool, ◌≤◌}
 use Rattle.crpd_base.specs.declared.data.TaskSet.{TaskSet}
 use Rattle.evict_sets.specs.Full.{FullUseful}
@@ -17,7 +17,7 @@ use Rattle.run_account.specs.Ledger.{IsPreempted}
 use Rattle.sound_laws.specs.Walks.{HasTaskRanges, IsCodeOf}
 use Rattle.sound_laws.specs.CyclesToGo.{count_below}
 
--- an entry's evictor and preemptor are of higher tasks than its job, and the evictor does not come
+-- a reload's evictor and preemptor are of higher tasks than its job, and the evictor does not come
 -- after the preemptor. Its set is in the evictor's evicting set, in its task's useful set, and in
 -- the useful set of the full state of the node of the second of the two fetches between which the
 -- evictor's was made: the node to which the job went on
@@ -43,7 +43,7 @@ ReloadComesFromHigher =
     HasTaskRanges set → IsCodeOf s.system set graphs → IsYes set graphs c → IsRunOf set s →
     (e : IsPreempted s graphs c n x p) → IsFromHigher s graphs c n x p e
 
--- the entries of a job with one preemptor are at most as many as the useful sets of the node to
+-- the reloads of a job with one preemptor are at most as many as the useful sets of the node to
 -- which the job went on
 abbrev pub PreemptorWithinUseful : Type 0
 PreemptorWithinUseful =

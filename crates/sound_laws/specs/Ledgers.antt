@@ -1,4 +1,4 @@
--- The ledger's entries of a job's window are at most the delays.
+-- The ledger's reloads of a job's window are at most the delays.
 use Rattle.std.specs.Prelude.{◌≡◌, ℕ, ◌*◌, ◌<◌, ◌≤◌, ◌==◌, ◌&&◌, nat_lt, nat_le, Bool, List, length}
 use Rattle.std.specs.List.{count_by}
 use Rattle.crpd_base.specs.declared.data.TaskSet.{TaskSet}
@@ -24,12 +24,12 @@ pub record HasAnswered (s : Start) (set : TaskSet) (graphs : ℕ → TaskGraph) 
   pub says : IsYes set graphs c
   pub run : RunsLegally set s
   pub kept : IsKept (state s n)
-  pub entries : IsLedger s graphs c n ledger
+  pub is_ledger : IsLedger s graphs c n ledger
   pub job : x < length s.lines
   pub answered : (job_after s n x).standing ≡ Answered answer
   pub starts : IsWindowStart s x start
 
--- the entries of the window: those made from its start to the answer by jobs of priority at least
+-- the reloads of the window: those made from its start to the answer by jobs of priority at least
 -- the job's
 abbrev pub is_reload_in_window : Start → ℕ → ℕ → ℕ → LedgerReload → Bool
 is_reload_in_window s x start answer e =

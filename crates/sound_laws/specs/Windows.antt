@@ -1,4 +1,4 @@
--- The entries of a window are at most the delays.
+-- The reloads of a window are at most the delays.
 use Rattle.std.specs.Prelude.{◌≡◌, ℕ, ◌*◌, ◌<◌, ◌≤◌, Bool, true, length}
 use Rattle.crpd_base.specs.declared.data.TaskSet.{TaskSet}
 use Rattle.delay_count.specs.Gamma.{gamma_ucb, gamma_ecb}
@@ -27,7 +27,7 @@ pub record HasWindow (s : Start) (set : TaskSet) (graphs : ℕ → TaskGraph) (c
   pub starts : IsWindowStart s i t
   pub open_before : (n : ℕ) → n < until → is_open (job_after s n i).standing ≡ true
 
--- entries of the window by jobs of priority at least i's, with an evictor of task j
+-- reloads of the window by jobs of priority at least i's, with an evictor of task j
 abbrev pub EvictedBy : Start → (ℕ → TaskGraph) → Certificate → ℕ → ℕ → ℕ → ℕ → Type 0
 EvictedBy s graphs c i t j n =
     (t ≤ n) × (x y : ℕ) × (job_task s x ≤ job_task s i) × (job_task s y ≡ j)
@@ -40,7 +40,7 @@ PreemptedBy s graphs c i t j n =
     × IsPreempted s graphs c n x p
 
 -- both delays hold, whichever method the certificate names: of steps that a test passes, each with
--- such an entry
+-- such a reload
 pub record ReloadsWithinDelays : Type 0 where
   pub ucb : (s : Start) (set : TaskSet) (graphs : ℕ → TaskGraph) (c : Certificate) (i t until j : ℕ)
       (test : ℕ → Bool) →

@@ -1,4 +1,4 @@
-use Rattle.run_account.proofs.EntryFacts.{ledger_facts}
+use Rattle.run_account.proofs.ReloadFacts.{ledger_facts}
 use Rattle.run_account.proofs.ledger_facts.Goals as goal
 
 pub returns : goal.returns

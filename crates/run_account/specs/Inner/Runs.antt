@@ -82,7 +82,7 @@ pub record IsRunning (r : Run) (n : ℕ) (m : Running) : Type 0 where
 abbrev pub IsQuick : Platform → Type 0
 IsQuick p = p.hit + p.miss < 2
 
--- the fetches of the first n steps are noted, or none of those that are not is an entry of the
+-- the fetches of the first n steps are noted, or none of those that are not is a reload of the
 -- ledger
 abbrev pub IsSoFar : Run → ℕ → Bool → Trails → Type 0
 IsSoFar r n true t = AreTrailsOf (run_start r) (run_graphs r) (run_certificate r) n t

@@ -1,4 +1,4 @@
--- For step 6: the entries of a window with their preemptors are at most the ECB-union multiset
+-- For step 6: the reloads of a window with their preemptors are at most the ECB-union multiset
 -- counts.
 use Rattle.std.proofs.Common.{◌≡◌, ℕ, zero, suc, ◌+◌, ◌*◌, ◌<◌, ◌≤◌, Bool, true, ◌&&◌, length, refl}
 use Rattle.std.proofs.Common.{sym, ◌∙◌, ap, subst, inl, inr, arith}
@@ -38,34 +38,35 @@ evicted_by parts h (suc j) c l e =
           (evicted_by parts h j c (omega arith) e)
     ]
 
--- the entries of a window: steps with a victim and a preemptor inside, of which the preemptor is of
+-- the reloads of a window: steps with a victim and a preemptor inside, of which the preemptor is of
 -- a higher task and is released in the victim's life, and a cache set that the preemptor's task or
 -- one above it evicts, and that the victim finds useful. All steps of a preemptor have one victim
 -- and different sets
 pub record ArePreempted (s : Start) (set : TaskSet) (parts : ℕ → Part) (window : ℕ → ℕ) (i t to : ℕ)
-    (entry : ℕ → Bool) (victim preemptor cached : ℕ → ℕ) : Type 0 where
-  pub victims : (n : ℕ) → n < to → entry n ≡ true
+    (is_reload : ℕ → Bool) (victim preemptor cached : ℕ → ℕ) : Type 0 where
+  pub victims : (n : ℕ) → n < to → is_reload n ≡ true
       → (victim n < length s.lines) × (in_window s i t to (victim n) ≡ true)
-  pub preemptors : (n : ℕ) → n < to → entry n ≡ true
+  pub preemptors : (n : ℕ) → n < to → is_reload n ≡ true
       → (preemptor n < length s.lines) × (in_window s i t to (preemptor n) ≡ true)
-  pub higher : (n : ℕ) → n < to → entry n ≡ true → task_at s (preemptor n) < task_at s (victim n)
-  pub in_life : (n : ℕ) → n < to → entry n ≡ true → task_at s (victim n) < task_at s i
+  pub higher : (n : ℕ) → n < to → is_reload n ≡ true
+      → task_at s (preemptor n) < task_at s (victim n)
+  pub in_life : (n : ℕ) → n < to → is_reload n ≡ true → task_at s (victim n) < task_at s i
       → lies_in (line_at s (victim n)).release
       ((line_at s (victim n)).release + window (task_at s (victim n)))
       (line_at s (preemptor n)).release ≡ true
-  pub places : (n : ℕ) → n < to → entry n ≡ true → cached n < 512
-  pub is_evicted : (n : ℕ) → n < to → entry n ≡ true
+  pub places : (n : ℕ) → n < to → is_reload n ≡ true → cached n < 512
+  pub is_evicted : (n : ℕ) → n < to → is_reload n ≡ true
       → evicted_from parts (task_at s (preemptor n)) (cached n) ≡ true
-  pub is_useful : (n : ℕ) → n < to → entry n ≡ true
+  pub is_useful : (n : ℕ) → n < to → is_reload n ≡ true
       → has_set (parts (task_at s (victim n))).useful (cached n) ≡ true
-  pub one_job : (n m : ℕ) → n < to → m < to → entry n ≡ true → entry m ≡ true
+  pub one_job : (n m : ℕ) → n < to → m < to → is_reload n ≡ true → is_reload m ≡ true
       → preemptor n ≡ preemptor m → victim n ≡ victim m
-  pub one_set : (n m : ℕ) → n < m → m < to → entry n ≡ true → entry m ≡ true
+  pub one_set : (n m : ℕ) → n < m → m < to → is_reload n ≡ true → is_reload m ≡ true
       → preemptor n ≡ preemptor m → cached n ≡ cached m → ⊥
 
 module _ (s : Start) (set : TaskSet) (run : RunsLegally set s) (parts : ℕ → Part) (window : ℕ → ℕ)
-    (i t : ℕ) (entry : ℕ → Bool) (victim preemptor cached : ℕ → ℕ)
-    (are : ArePreempted s set parts window i t (t + window (task_at s i)) entry victim preemptor
+    (i t : ℕ) (is_reload : ℕ → Bool) (victim preemptor cached : ℕ → ℕ)
+    (are : ArePreempted s set parts window i t (t + window (task_at s i)) is_reload victim preemptor
     cached) (periods : (k : ℕ) → k ≤ task_at s i → 0 < period_of set k) where
   abbrev to : ℕ
   to = t + window (task_at s i)
@@ -73,21 +74,21 @@ module _ (s : Start) (set : TaskSet) (run : RunsLegally set s) (parts : ℕ → 
   abbrev jobs : ℕ → ℕ → ℕ
   jobs j w = jobs_in (period_of set j) (jitter_of set j) w
 
-  -- the entries of a preemptor whose victim is of a task
+  -- the reloads of a preemptor whose victim is of a task
   abbrev of_pair : ℕ → ℕ → ℕ → Bool
-  of_pair p k n = (entry n && (preemptor n == p)) && (task_at s (victim n) == k)
+  of_pair p k n = (is_reload n && (preemptor n == p)) && (task_at s (victim n) == k)
 
-  -- whether the job p of task j has such an entry
+  -- whether the job p of task j has such a reload
   abbrev has : ℕ → ℕ → ℕ → Bool
   has j k p = (task_at s p == j) && some_below (of_pair p k) to
 
   abbrev at : ℕ → ℕ → ℕ
   at k p = found_below (of_pair p k) to
 
-  -- what the found entry says
+  -- what the found reload says
   record Found (j k p : ℕ) : Type 0 where
     early : at k p < to
-    is_entry : entry (at k p) ≡ true
+    reload : is_reload (at k p) ≡ true
     is_preemptor : preemptor (at k p) ≡ p
     is_victim : task_at s (victim (at k p)) ≡ k
     is_task : task_at s p ≡ j
@@ -96,18 +97,18 @@ module _ (s : Start) (set : TaskSet) (run : RunsLegally set s) (parts : ℕ → 
   found j k p h =
       let both = and_parts (task_at s p == j) (some_below (of_pair p k) to) h in
       let f = found_is (of_pair p k) to both.1 in
-      let pair = and_parts (entry (at k p) && (preemptor (at k p) == p))
+      let pair = and_parts (is_reload (at k p) && (preemptor (at k p) == p))
       (task_at s (victim (at k p)) == k) f.1 in
-      let one = and_parts (entry (at k p)) (preemptor (at k p) == p) pair.0 in
+      let one = and_parts (is_reload (at k p)) (preemptor (at k p) == p) pair.0 in
       record {
         early = f.0;
-        is_entry = one.0;
+        reload = one.0;
         is_preemptor = eqb-true _ _ one.1;
         is_victim = eqb-true _ _ pair.1;
         is_task = eqb-true _ _ both.0;
       }
 
-  preemptor_member : (j n : ℕ) → n < to → entry n ≡ true → task_at s (preemptor n) ≡ j
+  preemptor_member : (j n : ℕ) → n < to → is_reload n ≡ true → task_at s (preemptor n) ≡ j
       → is_member s t to j (preemptor n) ≡ true
   preemptor_member j n l b e =
       let is = are.preemptors n l b in
@@ -122,19 +123,19 @@ module _ (s : Start) (set : TaskSet) (run : RunsLegally set s) (parts : ℕ → 
   has_member j k p h =
       let f = found j k p h in
       subst (λ q. is_member s t to j q ≡ true) f.is_preemptor
-      (preemptor_member j (at k p) f.early f.is_entry
+      (preemptor_member j (at k p) f.early f.reload
       (ap (λ q. task_at s q) f.is_preemptor ∙ f.is_task))
 
-  -- the entries of one preemptor and one victim's task are at most the shared sets
+  -- the reloads of one preemptor and one victim's task are at most the shared sets
   pair_sets : (j k p : ℕ) → task_at s p ≡ j → count (of_pair p k) to ≤ shared_sets parts j k
   unfolding shared_count
   pair_sets j k p e =
       inject (of_pair p k) cached (λ c. has_set (parts k).useful c && evicted_from parts j c) to 512
       (λ n l b. are.places n l
-      (and_parts (entry n) _ (and_parts (entry n && (preemptor n == p)) _ b).0).0)
+      (and_parts (is_reload n) _ (and_parts (is_reload n && (preemptor n == p)) _ b).0).0)
       (λ n l b.
-      let pair = and_parts (entry n && (preemptor n == p)) (task_at s (victim n) == k) b in
-      let one = and_parts (entry n) (preemptor n == p) pair.0 in
+      let pair = and_parts (is_reload n && (preemptor n == p)) (task_at s (victim n) == k) b in
+      let one = and_parts (is_reload n) (preemptor n == p) pair.0 in
       let vk : task_at s (victim n) ≡ k = eqb-true _ _ pair.1 in
       let pj : task_at s (preemptor n) ≡ j =
       ap (λ q. task_at s q) (eqb-true (preemptor n) p one.1) ∙ e in
@@ -142,10 +143,10 @@ module _ (s : Start) (set : TaskSet) (run : RunsLegally set s) (parts : ℕ → 
       (subst (λ q. has_set (parts q).useful (cached n) ≡ true) vk (are.is_useful n l one.0))
       (subst (λ q. evicted_from parts q (cached n) ≡ true) pj (are.is_evicted n l one.0)))
       (λ n m l h a b q.
-      let pa = and_parts (entry n) (preemptor n == p)
-      (and_parts (entry n && (preemptor n == p)) _ a).0 in
-      let pb = and_parts (entry m) (preemptor m == p)
-      (and_parts (entry m && (preemptor m == p)) _ b).0 in
+      let pa = and_parts (is_reload n) (preemptor n == p)
+      (and_parts (is_reload n && (preemptor n == p)) _ a).0 in
+      let pb = and_parts (is_reload m) (preemptor m == p)
+      (and_parts (is_reload m && (preemptor m == p)) _ b).0 in
       are.one_set n m l h pa.0 pb.0
       (eqb-true (preemptor n) p pa.1 ∙ sym (eqb-true (preemptor m) p pb.1)) q)
 
@@ -158,7 +159,7 @@ module _ (s : Start) (set : TaskSet) (run : RunsLegally set s) (parts : ℕ → 
   one_task j p = at_most_one (λ k. has j k p) (suc (task_at s i)) (λ k m l h a b.
       let f = found j k p a in
       let g = found j m p b in
-      let same = are.one_job (at k p) (at m p) f.early g.early f.is_entry g.is_entry
+      let same = are.one_job (at k p) (at m p) f.early g.early f.reload g.reload
       (f.is_preemptor ∙ sym g.is_preemptor) in
       let e : k ≡ m = sym f.is_victim ∙ ap (λ q. task_at s q) same ∙ g.is_victim in
       omega arith)
@@ -189,7 +190,7 @@ module _ (s : Start) (set : TaskSet) (run : RunsLegally set s) (parts : ℕ → 
       let both = and_parts (has j k p) (victim (at k p) == x) b in
       let f = found j k p both.0 in
       let vx : victim (at k p) ≡ x = eqb-true _ _ both.1 in
-      let life = are.in_life (at k p) f.early f.is_entry (let e = f.is_victim in omega arith) in
+      let life = are.in_life (at k p) f.early f.reload (let e = f.is_victim in omega arith) in
       let life_k : lies_in (line_at s (victim (at k p))).release
       ((line_at s (victim (at k p))).release + window k) (line_at s (preemptor (at k p))).release
       ≡ true =
@@ -210,7 +211,7 @@ module _ (s : Start) (set : TaskSet) (run : RunsLegally set s) (parts : ℕ → 
       → choice j k ≤ jobs j (window k) * jobs k (window (task_at s i))
   choice_higher j k h hk =
       let all = spread (has j k) (λ p. victim (at k p)) (length s.lines) (length s.lines)
-      (λ p l b. let f = found j k p b in (are.victims (at k p) f.early f.is_entry).0) in
+      (λ p l b. let f = found j k p b in (are.victims (at k p) f.early f.reload).0) in
       let most = each_at_most (is_member s t to k)
       (λ x. count (λ p. has j k p && (victim (at k p) == x)) (length s.lines)) (jobs j (window k))
       (length s.lines)
@@ -223,7 +224,7 @@ module _ (s : Start) (set : TaskSet) (run : RunsLegally set s) (parts : ℕ → 
             let f = found j k p both.0 in
             let vx : victim (at k p) ≡ x = eqb-true _ _ both.1 in
             let member = inside_member s i t to (victim (at k p))
-            (are.victims (at k p) f.early f.is_entry).1
+            (are.victims (at k p) f.early f.reload).1
             (λ e. let same : task_at s (victim (at k p)) ≡ task_at s i = ap (λ z. task_at s z) e in
             let v = f.is_victim in omega arith) in
             let member_x : is_member s t to k x ≡ true =
@@ -245,7 +246,7 @@ module _ (s : Start) (set : TaskSet) (run : RunsLegally set s) (parts : ℕ → 
               | inr q ↦ q
               | inl q ↦
                   let f = found j k p q in
-                  let up = are.higher (at k p) f.early f.is_entry in
+                  let up = are.higher (at k p) f.early f.reload in
                   let tp : task_at s (preemptor (at k p)) ≡ j =
                   ap (λ z. task_at s z) f.is_preemptor ∙ f.is_task in
                   let v = f.is_victim in
@@ -274,9 +275,9 @@ module _ (s : Start) (set : TaskSet) (run : RunsLegally set s) (parts : ℕ → 
       → IsChoice set window (window (task_at s i)) (task_at s i) j (choice j)
   is_choice j h = record { each = λ k l. choice_each j k h l; all = choice_all j h }
 
-  -- the entries with a preemptor of a task
+  -- the reloads with a preemptor of a task
   abbrev by_task : ℕ → ℕ → Bool
-  by_task j n = entry n && (task_at s (preemptor n) == j)
+  by_task j n = is_reload n && (task_at s (preemptor n) == j)
 
   -- of one preemptor and one task of victims, none or at most the shared sets
   pair_le : (j k p : ℕ) → count
@@ -287,9 +288,9 @@ module _ (s : Start) (set : TaskSet) (run : RunsLegally set s) (parts : ℕ → 
       (of_pair p k) to (λ n l b.
       let one = and_parts (by_task j n && (preemptor n == p)) (task_at s (victim n) == k) b in
       let two = and_parts (by_task j n) (preemptor n == p) one.0 in
-      let three = and_parts (entry n) (task_at s (preemptor n) == j) two.0 in
-      and_from (entry n && (preemptor n == p)) (task_at s (victim n) == k)
-      (and_from (entry n) (preemptor n == p) three.0 two.1) one.1) in
+      let three = and_parts (is_reload n) (task_at s (preemptor n) == j) two.0 in
+      and_from (is_reload n && (preemptor n == p)) (task_at s (victim n) == k)
+      (and_from (is_reload n) (preemptor n == p) three.0 two.1) one.1) in
       elim (cases_Bool (has j k p)) [
         | inl b ↦
             let sets_of = pair_sets j k p (found j k p b).is_task in
@@ -304,15 +305,15 @@ module _ (s : Start) (set : TaskSet) (run : RunsLegally set s) (parts : ℕ → 
                   let one = and_parts (by_task j n && (preemptor n == p))
                   (task_at s (victim n) == k) q in
                   let two = and_parts (by_task j n) (preemptor n == p) one.0 in
-                  let three = and_parts (entry n) (task_at s (preemptor n) == j) two.0 in
+                  let three = and_parts (is_reload n) (task_at s (preemptor n) == j) two.0 in
                   let pj : task_at s p ≡ j =
                   ap (λ z. task_at s z) (sym (eqb-true (preemptor n) p two.1))
                   ∙ eqb-true _ _ three.1 in
                   let there : has j k p ≡ true =
                   and_from (task_at s p == j) (some_below (of_pair p k) to) (eq-eqb _ _ pj)
                   (some_from (of_pair p k) to n l
-                  (and_from (entry n && (preemptor n == p)) (task_at s (victim n) == k)
-                  (and_from (entry n) (preemptor n == p) three.0 two.1) one.1)) in
+                  (and_from (is_reload n && (preemptor n == p)) (task_at s (victim n) == k)
+                  (and_from (is_reload n) (preemptor n == p) three.0 two.1) one.1)) in
                   absurd (false≢true (sym b ∙ there))
             ]) in
             omega (arith, none)
@@ -323,14 +324,14 @@ module _ (s : Start) (set : TaskSet) (run : RunsLegally set s) (parts : ℕ → 
       (suc (task_at s i))
   task_count j h =
       let all = spread (by_task j) preemptor to (length s.lines)
-      (λ n l b. (are.preemptors n l (and_parts (entry n) _ b).0).0) in
+      (λ n l b. (are.preemptors n l (and_parts (is_reload n) _ b).0).0) in
       let split = sum_le (λ p. count (λ n. by_task j n && (preemptor n == p)) to)
       (λ p. sum_below (λ k. shared_sets parts j k * (if has j k p then 1 else 0))
       (suc (task_at s i))) (length s.lines) (λ p l.
       let by_victims = spread (λ n. by_task j n && (preemptor n == p)) (λ n. task_at s (victim n))
       to (suc (task_at s i)) (λ n ln b.
       let top = inside_task s i t to (victim n)
-      (are.victims n ln (and_parts (entry n) _ (and_parts (by_task j n) _ b).0).0).1 in
+      (are.victims n ln (and_parts (is_reload n) _ (and_parts (by_task j n) _ b).0).0).1 in
       omega arith) in
       let le = sum_le
       (λ k. count (λ n. (by_task j n && (preemptor n == p)) && (task_at s (victim n) == k)) to)
@@ -346,7 +347,7 @@ module _ (s : Start) (set : TaskSet) (run : RunsLegally set s) (parts : ℕ → 
       (length s.lines) in omega (arith, e)) in
       omega (arith, all, split, swapped, times)
 
-  -- the entries of the window, where each g j bounds every choice
+  -- the reloads of the window, where each g j bounds every choice
   pub task_choice : (j : ℕ) → j ≤ task_at s i
       → count (by_task j) to ≤ ecb_count set parts window (window (task_at s i)) (task_at s i) j
   task_choice j h =
@@ -355,10 +356,10 @@ module _ (s : Start) (set : TaskSet) (run : RunsLegally set s) (parts : ℕ → 
       (is_choice j h) in
       omega (arith, c, b)
 
-  pub preempted_few : count entry to
+  pub preempted_few : count is_reload to
       ≤ sum_below (ecb_count set parts window (window (task_at s i)) (task_at s i)) (task_at s i)
   preempted_few =
-      let all = spread entry (λ n. task_at s (preemptor n)) to (task_at s i)
+      let all = spread is_reload (λ n. task_at s (preemptor n)) to (task_at s i)
       (λ n l b. let up = are.higher n l b in
       let top = inside_task s i t to (victim n) (are.victims n l b).1 in omega arith) in
       let le = sum_le (λ j. count (by_task j) to)

@@ -1,5 +1,5 @@
--- Step 6, entry_from_higher and preemptor_within_useful: an entry comes from higher tasks, and
--- those of a job with one preemptor are at most the useful sets of one node.
+-- Step 6, reload_comes_from_higher and preemptor_within_useful: a reload comes from higher tasks,
+-- and those of a job with one preemptor are at most the useful sets of one node.
 use Rattle.std.proofs.Common.{◌≡◌, ℕ, ◌<◌, ◌≤◌, Bool, true, refl, sym, ◌∙◌, ap, subst, arith}
 use Rattle.evict_sets.specs.Full.{FullUseful}
 use Rattle.evict_sets.specs.ListedPart.{listed_of, certified_task}
@@ -12,16 +12,16 @@ use Rattle.run_account.specs.Ledger.{IsPreempted, IsOfRun, LedgerReload}
 use Rattle.run_account.specs.Nodes.{job_task, node_of_job}
 use Rattle.run_account.specs.Reloads.{FetchesAt}
 use Rattle.run_account.specs.Walks.{HasGraphs, AreStatesMet}
-use Rattle.run_account.proofs.EntryFacts.{of_higher}
+use Rattle.run_account.proofs.ReloadFacts.{of_higher}
 use Rattle.run_account.proofs.Gaps.{one_gap_per_preemptor}
-use Rattle.run_account.proofs.JobWalks.{entry_is_reload}
+use Rattle.run_account.proofs.JobWalks.{ledger_reload_is_own}
 use Rattle.run_account.proofs.ReloadLaws.{one_job_per_preemptor}
 use Rattle.sound_laws.specs.FromHigher.{IsFromHigher, ReloadComesFromHigher, PreemptorWithinUseful}
 use Rattle.sound_laws.proofs.Windows.Releases.{count}
 use Rattle.sound_laws.proofs.Counts.Counting.{inject}
 use Rattle.sound_laws.proofs.Walks.CheckedRuns.{CheckedRun, cached_run, checked_run, runs_jobs}
 use Rattle.sound_laws.proofs.Walks.CheckedRuns.{some_sets}
-use Rattle.sound_laws.proofs.Reloads.Entries.{met, set_at}
+use Rattle.sound_laws.proofs.Reloads.Checked.{met, set_at}
 use Rattle.sound_laws.proofs.Reloads.OwnFetches.{has_graphs}
 
 module _ (K : CheckedRun) where
@@ -47,7 +47,7 @@ module _ (K : CheckedRun) where
   sets_met : AreSetsMet s graphs c
   sets_met x h = (met K x h).all.sets
 
-  -- an entry with its preemptor, and with its evictor
+  -- a reload with its preemptor, and with its evictor
   abbrev of_run : (n x p : ℕ) (e : IsPreempted s graphs c n x p)
       → IsOfRun s graphs c (record {
         job = x;
@@ -60,7 +60,7 @@ module _ (K : CheckedRun) where
       record {
         evicted = record {
           fetch = e.fetch;
-          entry = e.entry;
+          reload = e.reload;
           time = e.time;
           last = e.is.evictor;
           is = record { last = e.is.last; by = refl };
@@ -72,14 +72,14 @@ module _ (K : CheckedRun) where
   -- it comes from higher tasks
   from_higher : (n x p : ℕ) (e : IsPreempted s graphs c n x p) → IsFromHigher s graphs c n x p e
   from_higher n x p e =
-      let entry : LedgerReload = record {
+      let reload : LedgerReload = record {
         job = x;
         set = fetched_set s e.fetch;
         time = n;
         evictor = e.is.evictor.job;
         preemptor = p;
       } in
-      let h = of_higher s graphs c (cached_run K) graphs_here states_met sets_met entry
+      let h = of_higher s graphs c (cached_run K) graphs_here states_met sets_met reload
       (of_run n x p e) in
       record {
         evictor = h.evictor;
@@ -90,11 +90,11 @@ module _ (K : CheckedRun) where
         carried = h.carried;
       }
 
-pub entry_from_higher : ReloadComesFromHigher
-entry_from_higher s set graphs c n x p R C says run e =
-    from_higher (checked_run s set graphs c n R C says (runs_jobs run) e.entry.kept) n x p e
+pub reload_comes_from_higher : ReloadComesFromHigher
+reload_comes_from_higher s set graphs c n x p R C says run e =
+    from_higher (checked_run s set graphs c n R C says (runs_jobs run) e.reload.kept) n x p e
 
--- the entries of a job with one preemptor
+-- the reloads of a job with one preemptor
 module _ (K : CheckedRun) (x p first : ℕ) (test useful : ℕ → Bool)
     (e : IsPreempted K.start K.graphs K.certificate first x p)
     (each : (n : ℕ) → test n ≡ true
@@ -124,11 +124,11 @@ module _ (K : CheckedRun) (x p first : ℕ) (test useful : ℕ → Bool)
   different n m l k a b q =
       let E = (each n a).1 in
       let F = (each m b).1 in
-      let r = entry_is_reload s graphs c n x E.fetch (graphs_here K) (states_met K) E.entry in
-      let t = entry_is_reload s graphs c m x F.fetch (graphs_here K) (states_met K) F.entry in
+      let r = ledger_reload_is_own s graphs c n x E.fetch (graphs_here K) (states_met K) E.reload in
+      let t = ledger_reload_is_own s graphs c m x F.fetch (graphs_here K) (states_met K) F.reload in
       let same = one_job_per_preemptor.one_reload s x n r.time E.fetch r.own m t.time F.fetch t.own
       p E.from E.time E.until F.from F.time F.until (cached_run K) r.reload t.reload
-      (place_is n E.fetch E.entry.fetches ∙ q ∙ sym (place_is m F.fetch F.entry.fetches))
+      (place_is n E.fetch E.reload.fetches ∙ q ∙ sym (place_is m F.fetch F.reload.fetches))
       E.is F.is in
       omega arith
 
@@ -151,7 +151,7 @@ module _ (K : CheckedRun) (x p first : ℕ) (test useful : ℕ → Bool)
       (listed_of (certified_task c (job_task s x)))
       (node_of_job (graphs (job_task s x)) (job_after s m x)) (fetched_set s E.fetch)) gap.1
       from.carried in
-      subst (λ z. useful z ≡ true) (place_is n E.fetch E.entry.fetches)
+      subst (λ z. useful z ≡ true) (place_is n E.fetch E.reload.fetches)
       (covers (fetched_set s E.fetch) here))
       different
 

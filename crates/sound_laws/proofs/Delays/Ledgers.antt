@@ -1,4 +1,4 @@
--- Step 6, ledger_within_delays: the ledger's entries of a window, counted as the steps at which
+-- Step 6, ledger_within_delays: the ledger's reloads of a window, counted as the steps at which
 -- they are made, are within both delays.
 use Rattle.std.proofs.Common.{◌≡◌, ℕ, zero, suc, ◌+◌, ◌-◌, ◌*◌, ◌<◌, ◌≤◌, Bool, true, false, ◌&&◌}
 use Rattle.std.proofs.Common.{List, [], ◌∷◌, length, refl, sym, ◌∙◌, ap, subst, inl, inr, arith}
@@ -29,9 +29,9 @@ use Rattle.sound_laws.specs.Ledgers.{LedgerWithinDelays}
 use Rattle.sound_laws.proofs.Windows.Releases.{count, one_le}
 use Rattle.sound_laws.proofs.Counts.Counting.{count_le}
 use Rattle.run_account.proofs.JobWalks.{kept_before}
-use Rattle.sound_laws.proofs.Delays.WindowDelays.{entries_within_delays}
+use Rattle.sound_laws.proofs.Delays.WindowDelays.{reloads_within_delays}
 
--- how many entries pass a test, and whether one that passes is made at a step
+-- how many reloads pass a test, and whether one that passes is made at a step
 how_many : (LedgerReload → Bool) → List LedgerReload → ℕ
 how_many p [] = 0
 how_many p (e ∷ es) = cond (p e) (1 + how_many p es) (how_many p es)
@@ -42,12 +42,12 @@ made_at p es n = list_any (λ (e : LedgerReload). (e.time == n) && p e) es
 abbrev one_if : Bool → ℕ
 one_if b = if b then 1 else 0
 
--- the entry at a step
+-- the reload at a step
 pub record IsMade (P : LedgerReload → Type 0) (p : LedgerReload → Bool) (n : ℕ) : Type 0 where
-  pub entry : LedgerReload
-  pub at : entry.time ≡ n
-  pub passes : p entry ≡ true
-  pub holds : P entry
+  pub reload : LedgerReload
+  pub at : reload.time ≡ n
+  pub passes : p reload ≡ true
+  pub holds : P reload
 
 made_by : (P : LedgerReload → Type 0) (p : LedgerReload → Bool) (es : List LedgerReload) (n : ℕ)
     → All P es → made_at p es n ≡ true → IsMade P p n
@@ -55,7 +55,7 @@ made_by P p [] n h m = absurd (false≢true m)
 made_by P p (e ∷ es) n h m =
     elim (or_cases ((e.time == n) && p e) (made_at p es n) m) [
       | inl b ↦ let q = and_parts (e.time == n) (p e) b in record {
-        entry = e;
+        reload = e;
         at = eqb-true e.time n q.0;
         passes = q.1;
         holds = h 0 e (omega arith);
@@ -90,7 +90,7 @@ no_more : (p : LedgerReload → Bool) (e : LedgerReload) (es : List LedgerReload
 unfolding how_many
 no_more p e es b = rw b refl
 
--- the entries that pass are made at as many steps
+-- the reloads that pass are made at as many steps
 many_steps : (p : LedgerReload → Bool) (until : ℕ) (es : List LedgerReload) → Rises es
     → ((e : LedgerReload) → p e ≡ true → e.time < until)
     → how_many p es ≤ count (made_at p es) until
@@ -203,16 +203,16 @@ module _ (s : Start) (set : TaskSet) (graphs : ℕ → TaskGraph) (c : Certifica
         → IsMade (λ (e : LedgerReload). (e.time < n) × IsOfRun s graphs c e) of_window t
     made t b =
         made_by (λ (e : LedgerReload). (e.time < n) × IsOfRun s graphs c e) of_window ledger t
-        H.entries.entries b
+        H.is_ledger.reloads b
 
     few : count_by of_window ledger ≤ count (made_at of_window ledger) answer
-    few = counted of_window answer ledger H.entries.in_order (λ e b. (in_window e b).early)
+    few = counted of_window answer ledger H.is_ledger.in_order (λ e b. (in_window e b).early)
 
   evicted_at : (j t : ℕ) → made_at (of_window (evicted_by s j)) ledger t ≡ true
       → (t < answer) × EvictedBy s graphs c x start j t
   evicted_at j t b =
       let m = made (evicted_by s j) t b in
-      let e = m.entry in
+      let e = m.reload in
       let w = in_window (evicted_by s j) e m.passes in
       subst (λ u. (u < answer) × EvictedBy s graphs c x start j u) m.at
       (w.early, (w.late, e.job, e.evictor, w.by, eqb-true _ _ w.passes, m.holds.1.evicted))
@@ -221,7 +221,7 @@ module _ (s : Start) (set : TaskSet) (graphs : ℕ → TaskGraph) (c : Certifica
       → (t < answer) × PreemptedBy s graphs c x start j t
   preempted_at j t b =
       let m = made (preempted_by s j) t b in
-      let e = m.entry in
+      let e = m.reload in
       let w = in_window (preempted_by s j) e m.passes in
       subst (λ u. (u < answer) × PreemptedBy s graphs c x start j u) m.at
       (w.early, (w.late, e.job, e.preemptor, w.by, eqb-true _ _ w.passes, m.holds.1.preempted))
@@ -238,13 +238,13 @@ ledger_within_delays =
       ucb = λ s set graphs c n ledger x start answer j H l.
           times_within _ _ set.platform.miss _
           (few s set graphs c n ledger x start answer H (evicted_by s j))
-          (entries_within_delays.ucb s set graphs c x start answer j _
+          (reloads_within_delays.ucb s set graphs c x start answer j _
           (has_window s set graphs c n ledger x start answer H) (omega (arith, l))
           (evicted_at s set graphs c n ledger x start answer H j));
       ecb = λ s set graphs c n ledger x start answer j H l.
           times_within _ _ set.platform.miss _
           (few s set graphs c n ledger x start answer H (preempted_by s j))
-          (entries_within_delays.ecb s set graphs c x start answer j _
+          (reloads_within_delays.ecb s set graphs c x start answer j _
           (has_window s set graphs c n ledger x start answer H) (omega (arith, l))
           (preempted_at s set graphs c n ledger x start answer H j));
     }

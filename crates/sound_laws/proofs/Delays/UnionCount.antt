@@ -1,4 +1,4 @@
--- For step 6: the entries of a window with their evictors are at most the UCB-union multiset
+-- For step 6: the reloads of a window with their evictors are at most the UCB-union multiset
 -- counts.
 use Rattle.std.proofs.Common.{◌≡◌, ℕ, suc, ◌+◌, ◌*◌, ◌<◌, ◌≤◌, ◌≢◌, Bool, true, false, ◌&&◌, length}
 use Rattle.std.proofs.Common.{refl, sym, ◌∙◌, ap, subst, inl, inr, arith}
@@ -21,26 +21,27 @@ use Rattle.sound_laws.proofs.Counts.Counting.{spread, inject, each_at_most, coun
 use Rattle.sound_laws.proofs.Windows.Busy.{line_at, task_at, in_window}
 use Rattle.sound_laws.proofs.Windows.Demands.{is_member, releases_few}
 
--- the entries of a window: steps with a victim and an evictor inside, of which the evictor is of a
+-- the reloads of a window: steps with a victim and an evictor inside, of which the evictor is of a
 -- higher task and is released in the victim's life, and a cache set that the one evicts and the
 -- other finds useful. No two steps have the same evictor and set
-pub record AreEntries (s : Start) (set : TaskSet) (parts : ℕ → Part) (window : ℕ → ℕ) (i t to : ℕ)
-    (entry : ℕ → Bool) (victim evictor cached : ℕ → ℕ) : Type 0 where
-  pub victims : (n : ℕ) → n < to → entry n ≡ true
+pub record AreEvicted (s : Start) (set : TaskSet) (parts : ℕ → Part) (window : ℕ → ℕ) (i t to : ℕ)
+    (is_reload : ℕ → Bool) (victim evictor cached : ℕ → ℕ) : Type 0 where
+  pub victims : (n : ℕ) → n < to → is_reload n ≡ true
       → (victim n < length s.lines) × (in_window s i t to (victim n) ≡ true)
-  pub evictors : (n : ℕ) → n < to → entry n ≡ true
+  pub evictors : (n : ℕ) → n < to → is_reload n ≡ true
       → (evictor n < length s.lines) × (in_window s i t to (evictor n) ≡ true)
-  pub higher : (n : ℕ) → n < to → entry n ≡ true → task_at s (evictor n) < task_at s (victim n)
-  pub in_life : (n : ℕ) → n < to → entry n ≡ true → task_at s (victim n) < task_at s i
+  pub higher : (n : ℕ) → n < to → is_reload n ≡ true → task_at s (evictor n) < task_at s (victim n)
+  pub in_life : (n : ℕ) → n < to → is_reload n ≡ true → task_at s (victim n) < task_at s i
       → lies_in (line_at s (victim n)).release
       ((line_at s (victim n)).release + window (task_at s (victim n)))
       (line_at s (evictor n)).release ≡ true
-  pub places : (n : ℕ) → n < to → entry n ≡ true → cached n < 512
-  pub is_evicted : (n : ℕ) → n < to → entry n ≡ true
+  pub places : (n : ℕ) → n < to → is_reload n ≡ true → cached n < 512
+  pub is_evicted : (n : ℕ) → n < to → is_reload n ≡ true
       → has_set (parts (task_at s (evictor n))).evicting (cached n) ≡ true
-  pub is_useful : (n : ℕ) → n < to → entry n ≡ true
+  pub is_useful : (n : ℕ) → n < to → is_reload n ≡ true
       → has_set (parts (task_at s (victim n))).useful (cached n) ≡ true
-  pub once : (n m : ℕ) → n < m → m < to → entry n ≡ true → entry m ≡ true → evictor n ≡ evictor m
+  pub once : (n m : ℕ) → n < m → m < to → is_reload n ≡ true → is_reload m ≡ true
+      → evictor n ≡ evictor m
       → cached n ≡ cached m → ⊥
 
 -- two tests in either order
@@ -72,8 +73,9 @@ inside_task s i t to x h =
     ]
 
 module _ (s : Start) (set : TaskSet) (run : RunsLegally set s) (parts : ℕ → Part) (window : ℕ → ℕ)
-    (i t : ℕ) (entry : ℕ → Bool) (victim evictor cached : ℕ → ℕ)
-    (are : AreEntries s set parts window i t (t + window (task_at s i)) entry victim evictor cached)
+    (i t : ℕ) (is_reload : ℕ → Bool) (victim evictor cached : ℕ → ℕ)
+    (are : AreEvicted s set parts window i t (t + window (task_at s i)) is_reload victim evictor
+    cached)
     (periods : (k : ℕ) → k ≤ task_at s i → 0 < period_of set k) where
   abbrev to : ℕ
   to = t + window (task_at s i)
@@ -81,9 +83,9 @@ module _ (s : Start) (set : TaskSet) (run : RunsLegally set s) (parts : ℕ → 
   abbrev jobs : ℕ → ℕ → ℕ
   jobs j w = jobs_in (period_of set j) (jitter_of set j) w
 
-  -- the entries with an evictor of a task
+  -- the reloads with an evictor of a task
   abbrev by_task : ℕ → ℕ → Bool
-  by_task j n = entry n && (task_at s (evictor n) == j)
+  by_task j n = is_reload n && (task_at s (evictor n) == j)
 
   -- and with a cache set
   abbrev by_set : ℕ → ℕ → ℕ → Bool
@@ -95,7 +97,7 @@ module _ (s : Start) (set : TaskSet) (run : RunsLegally set s) (parts : ℕ → 
 
   evictor_member : (j n : ℕ) → n < to → by_task j n ≡ true → is_member s t to j (evictor n) ≡ true
   evictor_member j n l b =
-      let both = and_parts (entry n) (task_at s (evictor n) == j) b in
+      let both = and_parts (is_reload n) (task_at s (evictor n) == j) b in
       let is = are.evictors n l both.0 in
       let e = eqb-true (task_at s (evictor n)) j both.1 in
       let below = are.higher n l both.0 in
@@ -105,7 +107,7 @@ module _ (s : Start) (set : TaskSet) (run : RunsLegally set s) (parts : ℕ → 
       (λ q. let same : task_at s (evictor n) ≡ task_at s i = ap (λ k. task_at s k) q in
       omega arith))
 
-  -- the evictors of the entries of a task and a set are different
+  -- the evictors of the reloads of a task and a set are different
   few_evictors : (j c : ℕ) (p : ℕ → Bool) (low w : ℕ) → j ≤ task_at s i
       → ((n : ℕ) → n < to → p n ≡ true → by_set j c n ≡ true)
       → ((n : ℕ) → n < to → p n ≡ true → is_member s low (low + w) j (evictor n) ≡ true)
@@ -117,7 +119,7 @@ module _ (s : Start) (set : TaskSet) (run : RunsLegally set s) (parts : ℕ → 
       (λ n m l k a b e.
       let pa = and_parts (by_task j n) (cached n == c) (is n (omega arith) a) in
       let pb = and_parts (by_task j m) (cached m == c) (is m k b) in
-      are.once n m l k (and_parts (entry n) _ pa.0).0 (and_parts (entry m) _ pb.0).0 e
+      are.once n m l k (and_parts (is_reload n) _ pa.0).0 (and_parts (is_reload m) _ pb.0).0 e
       (eqb-true (cached n) c pa.1 ∙ sym (eqb-true (cached m) c pb.1))) in
       let few = releases_few s set run low w j (periods j h) in
       omega (arith, inj, few)
@@ -128,7 +130,7 @@ module _ (s : Start) (set : TaskSet) (run : RunsLegally set s) (parts : ℕ → 
       few_evictors j c (by_set j c) t (window (task_at s i)) h (λ n l b. b)
       (λ n l b. evictor_member j n l (and_parts (by_task j n) _ b).0)
 
-  -- the entries of one victim
+  -- the reloads of one victim
   abbrev by_job : ℕ → ℕ → ℕ → ℕ → ℕ → Bool
   by_job j c k x n = by_victim j c k n && (victim n == x)
 
@@ -141,7 +143,7 @@ module _ (s : Start) (set : TaskSet) (run : RunsLegally set s) (parts : ℕ → 
       let vb = and_parts (by_victim j c k n) (victim n == x) b in
       let sb = and_parts (by_set j c n) (task_at s (victim n) == k) vb.0 in
       let tb = and_parts (by_task j n) (cached n == c) sb.0 in
-      let eb = and_parts (entry n) (task_at s (evictor n) == j) tb.0 in
+      let eb = and_parts (is_reload n) (task_at s (evictor n) == j) tb.0 in
       let vx : victim n ≡ x = eqb-true (victim n) x vb.1 in
       let vk : task_at s (victim n) ≡ k = eqb-true (task_at s (victim n)) k sb.1 in
       let life = are.in_life n l eb.0 (omega arith) in
@@ -153,7 +155,7 @@ module _ (s : Start) (set : TaskSet) (run : RunsLegally set s) (parts : ℕ → 
       (subst (λ q. lies_in (line_at s q).release ((line_at s q).release + window k)
       (line_at s (evictor n)).release ≡ true) vx life_k))
 
-  -- the entries whose victims are of a higher task than i's
+  -- the reloads whose victims are of a higher task than i's
   by_higher : (j c k : ℕ) → j ≤ task_at s i → k < task_at s i
       → count (by_victim j c k) to ≤ jobs j (window k) * jobs k (window (task_at s i))
   by_higher j c k h hk =
@@ -168,7 +170,7 @@ module _ (s : Start) (set : TaskSet) (run : RunsLegally set s) (parts : ℕ → 
         | inl q ↦
             let vb = and_parts (by_victim j c k n) (victim n == x) q in
             let sb = and_parts (by_set j c n) (task_at s (victim n) == k) vb.0 in
-            let eb = and_parts (entry n) _ (and_parts (by_task j n) _ sb.0).0 in
+            let eb = and_parts (is_reload n) _ (and_parts (by_task j n) _ sb.0).0 in
             let vx : victim n ≡ x = eqb-true (victim n) x vb.1 in
             let vk : task_at s (victim n) ≡ k = eqb-true (task_at s (victim n)) k sb.1 in
             let member = inside_member s i t to (victim n) (are.victims n ln eb.0).1
@@ -197,7 +199,7 @@ module _ (s : Start) (set : TaskSet) (run : RunsLegally set s) (parts : ℕ → 
               | inl q ↦
                   let sb = and_parts (by_set j c n) (task_at s (victim n) == k) q in
                   let tb = and_parts (by_task j n) (cached n == c) sb.0 in
-                  let eb = and_parts (entry n) (task_at s (evictor n) == j) tb.0 in
+                  let eb = and_parts (is_reload n) (task_at s (evictor n) == j) tb.0 in
                   let vk : task_at s (victim n) ≡ k = eqb-true (task_at s (victim n)) k sb.1 in
                   let ej : task_at s (evictor n) ≡ j = eqb-true (task_at s (evictor n)) j eb.1 in
                   let cc' : cached n ≡ c = eqb-true (cached n) c tb.1 in
@@ -266,7 +268,7 @@ module _ (s : Start) (set : TaskSet) (run : RunsLegally set s) (parts : ℕ → 
               | inr q ↦ q
               | inl q ↦
                   let tb = and_parts (by_task j n) (cached n == c) q in
-                  let eb = and_parts (entry n) (task_at s (evictor n) == j) tb.0 in
+                  let eb = and_parts (is_reload n) (task_at s (evictor n) == j) tb.0 in
                   let ev : has_set (parts j).evicting c ≡ true =
                   subst (λ z. has_set (parts j).evicting z ≡ true) (eqb-true (cached n) c tb.1)
                   (subst (λ z. has_set (parts z).evicting (cached n) ≡ true)
@@ -277,11 +279,11 @@ module _ (s : Start) (set : TaskSet) (run : RunsLegally set s) (parts : ℕ → 
       ]
 
   all_shares : (j limit : ℕ) → j ≤ task_at s i
-      → ((n : ℕ) → n < to → entry n ≡ true → cached n < limit)
+      → ((n : ℕ) → n < to → is_reload n ≡ true → cached n < limit)
       → count (by_task j) to ≤ sum_below (share j) limit
   all_shares j limit h places =
       let all = spread (by_task j) cached to limit
-      (λ n l b. places n l (and_parts (entry n) _ b).0) in
+      (λ n l b. places n l (and_parts (is_reload n) _ b).0) in
       let le = sum_le (λ c. count (by_set j c) to) (share j) limit (λ c l. set_share j c h) in
       omega (arith, all, le)
 
@@ -290,11 +292,11 @@ module _ (s : Start) (set : TaskSet) (run : RunsLegally set s) (parts : ℕ → 
   unfolding union_count
   task_share j h = all_shares j 512 h are.places
 
-  -- the entries of the window
-  pub entries_few : count entry to
+  -- the reloads of the window
+  pub evicted_few : count is_reload to
       ≤ sum_below (ucb_count set parts window (window (task_at s i)) (task_at s i)) (task_at s i)
-  entries_few =
-      let all = spread entry (λ n. task_at s (evictor n)) to (task_at s i)
+  evicted_few =
+      let all = spread is_reload (λ n. task_at s (evictor n)) to (task_at s i)
       (λ n l b. let up = are.higher n l b in
       let top = inside_task s i t to (victim n) (are.victims n l b).1 in omega arith) in
       let le = sum_le (λ j. count (by_task j) to)

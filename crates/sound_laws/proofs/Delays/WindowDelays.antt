@@ -1,4 +1,4 @@
--- Step 6, entries_within_delays: the entries of a window, up to a step before which its job is
+-- Step 6, reloads_within_delays: the reloads of a window, up to a step before which its job is
 -- open, are within both delays.
 use Rattle.std.proofs.Common.{◌≡◌, ℕ, ◌+◌, ◌<◌, ◌≤◌, ◌⊎◌, Bool, true, false, ◌&&◌, length, sym, ◌∙◌}
 use Rattle.std.proofs.Common.{subst, inl, inr, arith}
@@ -25,10 +25,11 @@ use Rattle.sound_laws.proofs.Windows.Responses.{over_after_quiet, quiet_covers}
 use Rattle.run_account.proofs.Preemptors.{IsUpTo, preemptor_of, HasPreemptor, preemptor_is}
 use Rattle.sound_laws.proofs.Walks.CheckedRuns.{CheckedRun, checked_run, run_of, window, parts}
 use Rattle.sound_laws.proofs.Walks.CheckedRuns.{bound_of, cached_run}
-use Rattle.sound_laws.proofs.Reloads.Entries.{extra, victim, evictor_at, preemptor_at, IsEntry}
-use Rattle.sound_laws.proofs.Reloads.Entries.{entry_says, ledger_test, fetch_same, victim_is}
+use Rattle.sound_laws.proofs.Reloads.Checked.{extra, victim, evictor_at, preemptor_at}
+use Rattle.sound_laws.proofs.Reloads.Checked.{IsCheckedReload, reload_says, ledger_test}
+use Rattle.sound_laws.proofs.Reloads.Checked.{fetch_same, victim_is}
 use Rattle.sound_laws.proofs.Execution.Spent.{rest, rest_spends}
-use Rattle.sound_laws.proofs.Delays.WindowEntries.{legal_run, IsCounted, ucb_of, ecb_of}
+use Rattle.sound_laws.proofs.Delays.WindowReloads.{legal_run, IsCounted, ucb_of, ecb_of}
 use Rattle.sound_laws.proofs.Windows.Delayed.{delay}
 use Rattle.sound_laws.proofs.Windows.InTime.{block, windows}
 
@@ -109,7 +110,7 @@ module _ (K : CheckedRun) where
         | inr g ↦ g
       ]
 
-      own_preemptor : (n : ℕ) (e : IsEntry K n)
+      own_preemptor : (n : ℕ) (e : IsCheckedReload K n)
           → HasPreemptor s (victim K n) n (preemptor_at K n) e.fetch
       own_preemptor n e =
           subst (λ c. HasPreemptor s (victim K n) n (preemptor_of s (victim K n) c n) e.fetch)
@@ -147,18 +148,18 @@ module _ (K : CheckedRun) where
           unfolding picked
           picked_is n b = pick_is n (cases_Bool (test n)) b
 
-        -- an entry with its evictor, and with its preemptor
+        -- a reload with its evictor, and with its preemptor
         evicted_at : (n : ℕ) → (n < horizon) × EvictedBy s graphs c i t j n
             → (y : ℕ) × (task_at s y ≡ j) × IsCounted K front.from horizon n y (preemptor_at K n)
         evicted_at n w =
             let E = w.1.5 in
-            let e = entry_says K n (ledger_test K n w.1.1 E.fetch w.0 E.entry) in
-            let same = fetch_same K n w.1.1 (victim K n) E.fetch e.fetch E.entry.fetches
+            let e = reload_says K n (ledger_test K n w.1.1 E.fetch w.0 E.reload) in
+            let same = fetch_same K n w.1.1 (victim K n) E.fetch e.fetch E.reload.fetches
             e.reload.fetches in (
               w.1.2,
               w.1.4,
               record {
-                late = late_of n w.1.1 E.fetch w.1.0 E.entry.fetches;
+                late = late_of n w.1.1 E.fetch w.1.0 E.reload.fetches;
                 early = w.0;
                 made = e;
                 last_time = E.time;
@@ -172,12 +173,12 @@ module _ (K : CheckedRun) where
             → (y : ℕ) × (task_at s y ≡ j) × IsCounted K front.from horizon n (evictor_at K n) y
         preempted_at n w =
             let E = w.1.5 in
-            let e = entry_says K n (ledger_test K n w.1.1 E.fetch w.0 E.entry) in
-            let same = fetch_same K n w.1.1 (victim K n) E.fetch e.fetch E.entry.fetches
+            let e = reload_says K n (ledger_test K n w.1.1 E.fetch w.0 E.reload) in
+            let same = fetch_same K n w.1.1 (victim K n) E.fetch e.fetch E.reload.fetches
             e.reload.fetches in
             let is_x : IsPreemptor s (victim K n) w.1.2 n E.from E.time E.until E.fetch =
             subst (λ x. IsPreemptor s x w.1.2 n E.from E.time E.until E.fetch)
-            (victim_is K n w.1.1 E.fetch E.entry.fetches) E.is in
+            (victim_is K n w.1.1 E.fetch E.reload.fetches) E.is in
             let up : IsUpTo s is_x.evictor.job w.1.2 =
             is_x.latest E.time is_x.evictor is_x.gap.after is_x.gap.until is_x.last.is in
             let has : HasPreemptor s (victim K n) n w.1.2 E.fetch =
@@ -185,7 +186,7 @@ module _ (K : CheckedRun) where
               w.1.2,
               w.1.4,
               record {
-                late = late_of n w.1.1 E.fetch w.1.0 E.entry.fetches;
+                late = late_of n w.1.1 E.fetch w.1.0 E.reload.fetches;
                 early = w.0;
                 made = e;
                 last_time = e.last_time;
@@ -229,8 +230,8 @@ none_counted t until test l each =
       | inl b ↦ let w = each n b in absurd (omega (arith, w.0, w.1))
     ])
 
-pub entries_within_delays : ReloadsWithinDelays
-entries_within_delays =
+pub reloads_within_delays : ReloadsWithinDelays
+reloads_within_delays =
     record {
       ucb = λ s set graphs c i t until j test H top each.
           elim (cases_lt until t) [

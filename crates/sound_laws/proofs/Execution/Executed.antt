@@ -1,5 +1,5 @@
--- Step 5, execution_within_bound: the cycles executed and those to go are at most the bound and a
--- reload for each entry.
+-- Step 5, execution_within_bound: the cycles executed and those to go are at most the bound and
+-- the cost of a miss for each reload.
 use Rattle.std.proofs.Common.{◌≡◌, ◌≢◌, ℕ, zero, suc, ◌+◌, ◌-◌, ◌*◌, ◌<◌, ◌≤◌, Bool, true, false}
 use Rattle.std.proofs.Common.{List, [], ◌∷◌, length, Some, refl, sym, ◌∙◌, ap, subst, inl, inr}
 use Rattle.std.proofs.Common.{arith}

@@ -1,4 +1,4 @@
--- For step 5: a turn of a job on a walk spends a cycle, with a reload at an entry.
+-- For step 5: a turn of a job on a walk spends a cycle, and at a reload the cost of a miss.
 use Rattle.std.proofs.Common.{◌≡◌, ℕ, ◌+◌, ◌-◌, ◌<◌, ◌≤◌, Bool, true, false, not, ◌&&◌, List, ◌∷◌}
 use Rattle.std.proofs.Common.{Some, refl, sym, ◌∙◌, ap, subst, inl, inr, arith}
 use Rattle.std.specs.Prelude.{◌==◌, if◌then◌else◌, drop}
@@ -32,7 +32,7 @@ use Rattle.sound_laws.proofs.Walks.Walked.{nodes_executed, nodes_switched, begun
 use Rattle.sound_laws.proofs.Execution.Longests.{edge_longest, end_longest}
 use Rattle.sound_laws.proofs.Execution.Paid.{pays, pays_alone}
 
--- the reload of an entry
+-- the cost of a reload
 abbrev pub extra_of : System → TaskGraph → (ℕ → Bool) → Turn → ℕ
 extra_of sys t counted u = if misses_counted_hit sys t counted u then sys.platform.miss else 0
 

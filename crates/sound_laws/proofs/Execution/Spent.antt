@@ -1,5 +1,5 @@
--- For step 7: in a checked run each step of a job spends a cycle of what it has to go, with a
--- reload for an entry.
+-- For step 7: in a checked run each step of a job spends a cycle of what it has to go, and at
+-- a reload the cost of a miss.
 use Rattle.std.proofs.Common.{◌≡◌, ℕ, zero, suc, ◌+◌, ◌*◌, ◌<◌, ◌≤◌, ◌≢◌, true, false, ◌&&◌, length}
 use Rattle.std.proofs.Common.{Some, inl, inr, arith}
 use Rattle.std.specs.Prelude.{nat_le}
@@ -21,7 +21,7 @@ use Rattle.sound_laws.proofs.Windows.Releases.{count}
 use Rattle.sound_laws.proofs.Execution.Spends.{go_over}
 use Rattle.sound_laws.proofs.Execution.Executed.{some_go, go_other, go_own, go_fresh}
 use Rattle.sound_laws.proofs.Walks.CheckedRuns.{CheckedRun, bound_of, is_below, kept_at, past_over}
-use Rattle.sound_laws.proofs.Reloads.Entries.{counted_at, met, entry, extra, extra_is}
+use Rattle.sound_laws.proofs.Reloads.Checked.{counted_at, met, is_reload, extra, extra_is}
 
 module _ (K : CheckedRun) where
   open K use {
@@ -90,7 +90,7 @@ module _ (K : CheckedRun) where
   pub extra_counts : (from to : ℕ) → from ≤ to
       → sum_below (extra K) to
       ≤ sum_below (extra K) from + s.system.platform.miss * count
-      (λ n. nat_le from n && entry K n) to
+      (λ n. nat_le from n && is_reload K n) to
   extra_counts from zero h = let e : from ≡ 0 = omega arith in rw e (omega arith)
   extra_counts from (suc n) h =
       elim (cases_lt n from) [
@@ -98,7 +98,7 @@ module _ (K : CheckedRun) where
         | inr g ↦
             let r = extra_counts from n g in
             let b : nat_le from n ≡ true = le-leb from n g in
-            elim (cases_Bool (entry K n)) [
+            elim (cases_Bool (is_reload K n)) [
               | inl q ↦ rw (b, q) (omega (arith, r))
               | inr q ↦ rw (b, q) (omega (arith, r))
             ]

@@ -19,7 +19,7 @@ use Rattle.sound_laws.proofs.Windows.Busy.{task_at}
 use Rattle.sound_laws.proofs.Walks.NoFaults.{no_fault}
 use Rattle.sound_laws.proofs.Walks.CheckedRuns.{CheckedRun, checked_run, runs_jobs, bound_of}
 use Rattle.sound_laws.proofs.Walks.CheckedRuns.{cached_run, kept_at, answered_in_time}
-use Rattle.sound_laws.proofs.Reloads.Entries.{entry, extra, victim, evictor_at, entry_says}
+use Rattle.sound_laws.proofs.Reloads.Checked.{is_reload, extra, victim, evictor_at, reload_says}
 use Rattle.sound_laws.proofs.Execution.Spent.{rest, rest_spends, fresh}
 
 module _ (K : CheckedRun) where
@@ -65,13 +65,13 @@ module _ (K : CheckedRun) where
     fresh_at_first : was_owner s first x ≡ false
     fresh_at_first = never_was first x still.first_time
 
-    no_entry : (k : ℕ) → first ≤ k → k < first + all → is_open (job_after s k x).standing ≡ true
-        → entry K k ≡ false
-    no_entry k f l o =
-        elim (cases_Bool (entry K k)) [
+    no_reload : (k : ℕ) → first ≤ k → k < first + all → is_open (job_after s k x).standing ≡ true
+        → is_reload K k ≡ false
+    no_reload k f l o =
+        elim (cases_Bool (is_reload K k)) [
           | inr b ↦ b
           | inl b ↦
-              let e = entry_says K k b in
+              let e = reload_says K k b in
               let mine : candidate_at s k ≡ Some x = elim (still.alone k f l) [
                 | inl c ↦ c
                 | inr over ↦ absurd (false≢true (sym over ∙ o))
@@ -104,7 +104,7 @@ module _ (K : CheckedRun) where
 
     no_extra : (k : ℕ) → first ≤ k → k < first + all → is_open (job_after s k x).standing ≡ true
         → extra K k ≡ 0
-    no_extra k f l o = rw (no_entry k f l o) refl
+    no_extra k f l o = rw (no_reload k f l o) refl
 
     -- what is left after k steps more
     spent_alone : (k : ℕ) → suc (first + k) ≤ first + all → first + all ≤ horizon

@@ -1,4 +1,4 @@
--- An undisturbed job of checked code answers within its bound, and the entries of its account are
+-- An undisturbed job of checked code answers within its bound, and the reloads of its account are
 -- within the delays.
 use Rattle.std.proofs.Common.{◌≡◌, ℕ, zero, suc, ◌+◌, ◌*◌, ◌<◌, ◌≤◌, Bool, true, false, ◌&&◌, List}
 use Rattle.std.proofs.Common.{[], ◌∷◌, length, get_or, map, cond, nat_le, if◌then◌else◌, IsTrue}
@@ -124,7 +124,7 @@ module _ (set : TaskSet) (code : Code) (graphs : ℕ → TaskGraph) (c : Certifi
         says = K.says;
         run = run;
         kept = I.kept.0 k;
-        entries = I.is_ledger;
+        is_ledger = I.is_ledger;
         job = h;
         answered =
             stands (state s script.cycles).time (job_after s script.cycles x).line.release answer
@@ -136,7 +136,7 @@ module _ (set : TaskSet) (code : Code) (graphs : ℕ → TaskGraph) (c : Certifi
   task_is : (x : ℕ) → x < length script.jobs → job_task s x ≡ (script_line script.jobs x).task.0
   task_is x h = ap (λ (l : ScriptJob). l.task.0) (line_is s 0 x h)
 
-  -- the entries that pass, as they stand in the ledger
+  -- the reloads that pass, as they stand in the ledger
   in_ledger : (p : Entry → Bool)
       → count_by p a.entries ≡ count_by (λ (e : LedgerReload). p (account_entry s e)) I.ledger
   in_ledger p = ap (count_by p) I.entries ∙ count_map p (account_entry s) I.ledger

@@ -1,5 +1,5 @@
--- Step 4, own_fetches_agree and entries_are_reloads: a job's own last fetches are the last accesses
--- of its walk, so they agree with the full states, and an entry is a reload.
+-- Step 4, own_fetches_agree and ledger_reloads_are_own: a job's own last fetches are the last
+-- accesses of its walk, so they agree with the full states, and a ledger's reload is its job's own.
 use Rattle.std.proofs.Common.{◌≡◌, ◌≢◌, ℕ, zero, suc, ◌<◌, Bool, true, ◌∷◌, length, Some, refl, sym}
 use Rattle.std.proofs.Common.{◌∙◌, ap, subst, inl, inr}
 use Rattle.std.proofs.lemmas.Bool.{cases_Bool, and_parts, eqb-true, not-true}
@@ -27,7 +27,7 @@ use Rattle.run_account.specs.Nodes.{job_task, plan_at, node_of_job}
 use Rattle.run_account.specs.Walks.{fetched_nodes, HasGraphs}
 use Rattle.sound_laws.specs.Walks.{HasTaskRanges, IsCodeOf, before_of, IsOnWalk}
 use Rattle.sound_laws.specs.CyclesToGo.{misses_counted_hit}
-use Rattle.sound_laws.specs.Entries.{OwnFetchesAgreeLaw, IsUsefulReload, LedgerReloadsAreOwn}
+use Rattle.sound_laws.specs.OwnFetches.{OwnFetchesAgreeLaw, IsUsefulReload, LedgerReloadsAreOwn}
 use Rattle.sound_laws.proofs.Walks.Walked.{before_fresh}
 use Rattle.run_account.proofs.JobWalks.{opened, own_of_nodes}
 use Rattle.sound_laws.proofs.Walks.KeptWalks.{hit_some, task_below, ok, walking}
@@ -117,10 +117,10 @@ module _ (s : Start) (set : TaskSet) (graphs : ℕ → TaskGraph) (R : HasTaskRa
               ∙ last_is n c' m k o on.1
         ])
 
-    pub entry_is : (n : ℕ) → is_unbroken (job_after s n x).watch ≡ true → candidate_at s n ≡ Some x
+    pub reload_is : (n : ℕ) → is_unbroken (job_after s n x).watch ≡ true → candidate_at s n ≡ Some x
         → misses_counted_hit s.system tg counted (turn_of s.system (state s n) x) ≡ true
         → IsUsefulReload s tg c n x
-    entry_is n k e b =
+    reload_is n k e b =
         let o = opened s graphs n x e in
         let both = and_parts (makes_fetch s.system (turn_of s.system (state s n) x)) _ b in
         let more = and_parts (counted (node_of_job tg (job_after s n x))) _ both.1 in
@@ -163,9 +163,9 @@ own_fetches_agree s set graphs c n x R C T says h k o =
       within = own_within s set graphs R C T x h (certified_task c (job_task s x)) test.0 M n k o;
     }
 
-pub entries_are_reloads : LedgerReloadsAreOwn
-entries_are_reloads s set graphs c n x is_hit R C T says h l counts k b =
+pub ledger_reloads_are_own : LedgerReloadsAreOwn
+ledger_reloads_are_own s set graphs c n x is_hit R C T says h l counts k b =
     let M = is_met s set graphs R C T c x h says l is_hit counts in
     let both = and_parts (is_owner (candidate_at s n) x) _ b in
-    entry_is s set graphs R C T x h (certified_task c (job_task s x)) is_hit M n k
+    reload_is s set graphs R C T x h (certified_task c (job_task s x)) is_hit M n k
     (owns_true (candidate_at s n) x both.0) both.1

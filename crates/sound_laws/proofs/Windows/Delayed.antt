@@ -23,10 +23,10 @@ use Rattle.sound_laws.proofs.Counts.Counting.{count_le}
 use Rattle.sound_laws.proofs.Windows.Responses.{HigherAreOver}
 use Rattle.run_account.proofs.Preemptors.{preemptor_of, HasPreemptor, preemptor_is}
 use Rattle.sound_laws.proofs.Walks.CheckedRuns.{CheckedRun, window, parts, cached_run}
-use Rattle.sound_laws.proofs.Reloads.Entries.{entry, extra, victim, evictor_at, preemptor_at}
-use Rattle.sound_laws.proofs.Reloads.Entries.{entry_says}
+use Rattle.sound_laws.proofs.Reloads.Checked.{is_reload, extra, victim, evictor_at, preemptor_at}
+use Rattle.sound_laws.proofs.Reloads.Checked.{reload_says}
 use Rattle.sound_laws.proofs.Execution.Spent.{extra_counts}
-use Rattle.sound_laws.proofs.Delays.WindowEntries.{IsCounted, by_ucb, by_ecb}
+use Rattle.sound_laws.proofs.Delays.WindowReloads.{IsCounted, by_ucb, by_ecb}
 
 module _ (K : CheckedRun) where
   open K use {
@@ -50,7 +50,7 @@ module _ (K : CheckedRun) where
     abbrev pub delay : ℕ → ℕ
     delay k = delay_by (certified_task c k).method k
 
-    -- the entries of a whole window
+    -- the reloads of a whole window
     module _ (i t from : ℕ) (h : i < length s.lines) (after : t ≤ from)
         (fits : from ≤ t + window K (task_at s i))
         (in_horizon : t + window K (task_at s i) ≤ horizon)
@@ -60,15 +60,15 @@ module _ (K : CheckedRun) where
       abbrev until : ℕ
       until = t + window K (task_at s i)
 
-      abbrev counted_entry : ℕ → Bool
-      counted_entry n = nat_le from n && (nat_lt n (t + window K (task_at s i)) && entry K n)
+      abbrev counted_reload : ℕ → Bool
+      counted_reload n = nat_le from n && (nat_lt n (t + window K (task_at s i)) && is_reload K n)
 
-      counted_facts : (n : ℕ) → counted_entry n ≡ true
+      counted_facts : (n : ℕ) → counted_reload n ≡ true
           → IsCounted K from (t + window K (task_at s i)) n (evictor_at K n) (preemptor_at K n)
       counted_facts n b =
           let one = and_parts (nat_le from n) _ b in
-          let two = and_parts (nat_lt n (t + window K (task_at s i))) (entry K n) one.1 in
-          let e = entry_says K n two.1 in
+          let two = and_parts (nat_lt n (t + window K (task_at s i))) (is_reload K n) one.1 in
+          let e = reload_says K n two.1 in
           record {
             late = leb-true from n one.0;
             early = ltb-true n _ two.0;
@@ -87,10 +87,10 @@ module _ (K : CheckedRun) where
       open_until n l = was_open s n (t + window K (task_at s i)) i (omega arith) o
 
       delayed_by : (m : Method)
-          → set.platform.miss * count counted_entry until ≤ delay_by m (task_at s i)
+          → set.platform.miss * count counted_reload until ≤ delay_by m (task_at s i)
       delayed_by Ucb =
           let few = by_ucb K legal i t from (t + window K (task_at s i)) h after
-          (omega arith) in_horizon covers higher open_until counted_entry (evictor_at K)
+          (omega arith) in_horizon covers higher open_until counted_reload (evictor_at K)
           (preemptor_at K) counted_facts in
           let times = mul-le-mul_left set.platform.miss few in
           let all = sum_times set.platform.miss
@@ -99,7 +99,7 @@ module _ (K : CheckedRun) where
           omega (arith, times, all)
       delayed_by Ecb =
           let few = by_ecb K legal i t from (t + window K (task_at s i)) h after
-          (omega arith) in_horizon covers higher open_until counted_entry (evictor_at K)
+          (omega arith) in_horizon covers higher open_until counted_reload (evictor_at K)
           (preemptor_at K) counted_facts in
           let times = mul-le-mul_left set.platform.miss few in
           let all = sum_times set.platform.miss
@@ -110,14 +110,15 @@ module _ (K : CheckedRun) where
       pub delayed : sum_below (extra K) until ≤ sum_below (extra K) from + delay (task_at s i)
       delayed =
           let times = delayed_by (certified_task c (task_at s i)).method in
-          let same : s.system.platform.miss * count counted_entry until
-          ≡ set.platform.miss * count counted_entry until =
-          ap (λ (p : Platform). p.miss * count counted_entry until) C.platform in
+          let same : s.system.platform.miss * count counted_reload until
+          ≡ set.platform.miss * count counted_reload until =
+          ap (λ (p : Platform). p.miss * count counted_reload until) C.platform in
           let counts = extra_counts K from (t + window K (task_at s i)) fits in
-          let le = count_le (λ n. nat_le from n && entry K n) counted_entry
+          let le = count_le (λ n. nat_le from n && is_reload K n) counted_reload
           (t + window K (task_at s i)) (λ n l b.
-          let both = and_parts (nat_le from n) (entry K n) b in
+          let both = and_parts (nat_le from n) (is_reload K n) b in
           and_from (nat_le from n) _ both.0
-          (and_from (nat_lt n (t + window K (task_at s i))) (entry K n) (lt-ltb n _ l) both.1)) in
+          (and_from (nat_lt n (t + window K (task_at s i))) (is_reload K n) (lt-ltb n _ l)
+          both.1)) in
           let more = mul-le-mul_left s.system.platform.miss le in
           omega (arith, times, counts, same, more)

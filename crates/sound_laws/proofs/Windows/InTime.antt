@@ -31,9 +31,9 @@ use Rattle.sound_laws.proofs.Execution.Executed.{short_at}
 use Rattle.sound_laws.proofs.Walks.NoFaults.{no_fault}
 use Rattle.sound_laws.proofs.Walks.CheckedRuns.{CheckedRun, window, parts, longest, bound_of}
 use Rattle.sound_laws.proofs.Walks.CheckedRuns.{below_tasks, kept_at, answered_in_time}
-use Rattle.sound_laws.proofs.Reloads.Entries.{counted_at, met, extra}
+use Rattle.sound_laws.proofs.Reloads.Checked.{counted_at, met, extra}
 use Rattle.sound_laws.proofs.Execution.Spent.{rest, rest_spends, fresh}
-use Rattle.sound_laws.proofs.Delays.WindowEntries.{legal_run}
+use Rattle.sound_laws.proofs.Delays.WindowReloads.{legal_run}
 use Rattle.sound_laws.proofs.Windows.Delayed.{delay, delayed}
 
 module _ (K : CheckedRun) where

@@ -3,6 +3,6 @@ use Rattle.std.specs.List.{flat_map}
 use Rattle.crpd_report.specs.Explain.{reload_line}
 use Rattle.crpd_report.proofs.explain.add_reloads.Given as goal
 
-abbrev pub invariant-loop-entry : goal.invariant-loop-entry
-invariant-loop-entry l =
-    l.text.items ≡ l.fn.text.items ++ flat_map (reload_line l.set) (take l.entry-index l.entries)
+abbrev pub invariant-loop-reload : goal.invariant-loop-reload
+invariant-loop-reload l =
+    l.text.items ≡ l.fn.text.items ++ flat_map (reload_line l.set) (take l.reload-index l.reloads)

@@ -1,4 +1,4 @@
--- Where a ledger's entries come from, and that they are distinct.
+-- Where a ledger's reloads come from, and that they are distinct.
 use Rattle.std.proofs.Common.{◌≡◌, ◌≢◌, ◌⊎◌, ℕ, zero, suc, ◌<◌, ◌≤◌, true, List, [], ◌∷◌, ◌++◌}
 use Rattle.std.proofs.Common.{length, get_or, Some, None, refl, sym, ◌∙◌, ap, subst, inl, inr}
 use Rattle.std.proofs.Common.{arith}
@@ -26,7 +26,7 @@ use Rattle.run_account.specs.Reloads.{FetchesAt, IsOwnReload, IsEvictor, IsPreem
 use Rattle.run_account.specs.Walks.{fetched_nodes, HasGraphs, AreStatesMet, IsReloaded}
 use Rattle.run_account.proofs.Gaps.{one_gap_per_preemptor}
 use Rattle.run_account.proofs.JobWalks.{nodes_fetch, kept_one, each_kept, address_at, pc_of}
-use Rattle.run_account.proofs.JobWalks.{fetcher_below, entry_is_reload, nodes_step}
+use Rattle.run_account.proofs.JobWalks.{fetcher_below, ledger_reload_is_own, nodes_step}
 use Rattle.run_account.proofs.OneLedger.{last_job}
 use Rattle.run_account.proofs.ReloadLaws.{same_fetch, gap_is_of_higher, evictor_is_other}
 use Rattle.run_account.proofs.ReloadLaws.{one_reload_per_evictor_and_set, one_job_per_preemptor}
@@ -167,15 +167,15 @@ module _ (s : Start) (graphs : ℕ → TaskGraph) (A : HasGraphs s graphs) (x : 
 module _ (s : Start) (graphs : ℕ → TaskGraph) (c : Certificate)
     (cached : HasCache s) (A : HasGraphs s graphs)
     (S : AreStatesMet s graphs c) (M : AreSetsMet s graphs c) where
-  -- an entry is a reload
+  -- a ledger's reload is its job's own
   reload_of : (e : LedgerReload) (r : IsOfRun s graphs c e)
       → IsReloaded s e.job e.time r.evicted.fetch
-  reload_of e r = entry_is_reload s graphs c e.time e.job r.evicted.fetch A S r.evicted.entry
+  reload_of e r = ledger_reload_is_own s graphs c e.time e.job r.evicted.fetch A S r.evicted.reload
 
   fetch_of : (e : LedgerReload) (r : IsOfRun s graphs c e) → r.preempted.fetch ≡ r.evicted.fetch
   fetch_of e r =
-      same_fetch s e.time r.preempted.fetch r.evicted.fetch r.preempted.entry.fetches.is
-      r.evicted.entry.fetches.is
+      same_fetch s e.time r.preempted.fetch r.evicted.fetch r.preempted.reload.fetches.is
+      r.evicted.reload.fetches.is
 
   -- its preemptor, by the fetch of its evictor
   preemptor_of : (e : LedgerReload) (r : IsOfRun s graphs c e)
@@ -195,10 +195,10 @@ module _ (s : Start) (graphs : ℕ → TaskGraph) (c : Certificate)
     P = preemptor_of e r
 
     below : e.job < length s.lines
-    below = fetcher_below s e.job e.time r.evicted.fetch r.evicted.entry.fetches
+    below = fetcher_below s e.job e.time r.evicted.fetch r.evicted.reload.fetches
 
     kept : (m : ℕ) → m ≤ e.time → IsKept (state s m)
-    kept m l = kept_at s graphs m e.time l r.evicted.entry.kept
+    kept m l = kept_at s graphs m e.time l r.evicted.reload.kept
 
     evictor_passes : RunsInGap s e.job e.evictor E.time e.time
     evictor_passes =
@@ -246,8 +246,8 @@ module _ (s : Start) (graphs : ℕ → TaskGraph) (c : Certificate)
         (set_fetched s graphs A e.evictor hy r.evicted.time r.evicted.last k made
         ∙ r.evicted.is.last.to_set ∙ r.to_set) own
 
-    -- the job does not fetch to the set from the gap's end until the entry: so its end comes by the
-    -- entry's step
+    -- the job does not fetch to the set from the gap's end until the reload: so its end comes by
+    -- the reload's step
     away : (m : ℕ) (g : Fetch) → r.preempted.until ≤ m → m < e.time → FetchesAt s e.job m g
         → fetched_set s g ≢ e.set
     away m g l k f q =
@@ -260,7 +260,7 @@ module _ (s : Start) (graphs : ℕ → TaskGraph) (c : Certificate)
     carried =
         carried_to s graphs A e.job below r.preempted.until e.time e.set P.to P.gap.ends kept away
         (certified_task c (job_task s e.job)) (M e.job below) P.in_time r.evicted.fetch
-        r.evicted.entry.fetches r.to_set r.evicted.entry.counted
+        r.evicted.reload.fetches r.to_set r.evicted.reload.counted
 
     node_below : node_of_job (graphs (job_task s e.job)) (job_after s r.preempted.until e.job)
         < (graphs (job_task s e.job)).graph.size
@@ -283,7 +283,7 @@ module _ (s : Start) (graphs : ℕ → TaskGraph) (c : Certificate)
           carried = carried;
         }
 
-  -- of two entries
+  -- of two reloads
   module _ (d e : LedgerReload) (q : IsOfRun s graphs c d) (r : IsOfRun s graphs c e)
       (earlier : d.time < e.time) where
     same_set : d.set ≡ e.set → fetched_set s q.evicted.fetch ≡ fetched_set s r.evicted.fetch
@@ -302,7 +302,7 @@ module _ (s : Start) (graphs : ℕ → TaskGraph) (c : Certificate)
         D.reload E.reload (same_set k) q.evicted.is evictor in
         omega arith
 
-    -- the second entry's preemptor, as the first one's
+    -- the second reload's preemptor, as the first one's
     by_first : d.preemptor ≡ e.preemptor
         → IsPreemptor s e.job d.preemptor e.time r.preempted.from r.preempted.time r.preempted.until
         r.evicted.fetch
@@ -364,5 +364,5 @@ ledger_facts s graphs c n ledger cached A S M L =
       distinct = λ i j d l m.
           let early : i < length ledger = omega arith in
           distinct s graphs c cached A S M (get_or ledger i d) (get_or ledger j d)
-          (L.entries i d early).1 (L.entries j d m).1 (L.in_order i j d l m);
+          (L.reloads i d early).1 (L.reloads j d m).1 (L.in_order i j d l m);
     }

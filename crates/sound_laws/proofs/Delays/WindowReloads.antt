@@ -1,4 +1,4 @@
--- For step 6: the entries of a window, while its job is open, are at most the counts, by evictors
+-- For step 6: the reloads of a window, while its job is open, are at most the counts, by evictors
 -- and by preemptors.
 use Rattle.std.proofs.Common.{◌≡◌, ℕ, ◌+◌, ◌<◌, ◌≤◌, Bool, true, ◌&&◌, length, refl, sym, ◌∙◌, ap}
 use Rattle.std.proofs.Common.{subst, inl, inr, arith}
@@ -25,10 +25,10 @@ use Rattle.sound_laws.proofs.Windows.Responses.{HigherAreOver}
 use Rattle.sound_laws.proofs.Delays.ChoiceCount.{ArePreempted, preempted_few, task_choice}
 use Rattle.sound_laws.proofs.Delays.ChoiceCount.{evicted_by}
 use Rattle.run_account.proofs.Preemptors.{HasPreemptor, same_reload, same_job}
-use Rattle.sound_laws.proofs.Delays.UnionCount.{AreEntries, entries_few, task_share, inside_task}
+use Rattle.sound_laws.proofs.Delays.UnionCount.{AreEvicted, evicted_few, task_share, inside_task}
 use Rattle.sound_laws.proofs.Walks.CheckedRuns.{CheckedRun, window, parts, some_sets, cached_run}
 use Rattle.sound_laws.proofs.Walks.CheckedRuns.{below_tasks, is_below, sets_same}
-use Rattle.sound_laws.proofs.Reloads.Entries.{victim, cached, IsEntry, fetch_evicts}
+use Rattle.sound_laws.proofs.Reloads.Checked.{victim, cached, IsCheckedReload, fetch_evicts}
 
 module _ (K : CheckedRun) where
   open K use {
@@ -59,18 +59,18 @@ module _ (K : CheckedRun) where
             (and_from (nat_le t (line_at s x).release) _ r.0 (lt-ltb _ _ (omega arith))))
       ]
 
-  -- what is known of a step that a test passes: an entry, made from a step on and before another,
+  -- what is known of a step that a test passes: a reload, made from a step on and before another,
   -- with its evictor and its preemptor
   pub record IsCounted (from until n y p : ℕ) : Type 0 where
     pub late : from ≤ n
     pub early : n < until
-    pub made : IsEntry K n
+    pub made : IsCheckedReload K n
     pub last_time : ℕ
     pub last : Fetch
     pub evicts : IsEvictor s y n last_time made.fetch last
     pub preempted : HasPreemptor s (victim K n) n p made.fetch
 
-  -- job y fetches between two fetches of the job of an entry, and before the entry, so it passes
+  -- job y fetches between two fetches of the job of a reload, and before the reload, so it passes
   -- there as a whole
   pub record PassesBefore (n y : ℕ) : Type 0 where
     pub begin : ℕ
@@ -130,7 +130,7 @@ module _ (K : CheckedRun) where
     pub legal_run : RunsLegally set s
     legal_run = record { cache = run.cache; tasks = run.tasks; legal = legal }
 
-    -- the entries of a window, while its job is open
+    -- the reloads of a window, while its job is open
     module _ (i t from until : ℕ) (h : i < length s.lines) (after : t ≤ from)
         (shorter : until ≤ t + window K (task_at s i)) (by_horizon : until ≤ horizon)
         (covers : Covers s (in_window s i t until) i from until)
@@ -153,7 +153,7 @@ module _ (K : CheckedRun) where
           inside_more i t until (t + window K (task_at s i)) (victim K n) shorter
           (victim_inside_until n b)
 
-      -- what holds of a job that passes before an entry of the window, as its evictor and its
+      -- what holds of a job that passes before a reload of the window, as its evictor and its
       -- preemptor do
       begins_late : (n y : ℕ) → test n ≡ true → (p : PassesBefore n y) → from ≤ p.begin
       begins_late n y b p =
@@ -248,8 +248,8 @@ module _ (K : CheckedRun) where
           e.made.reload f.made.reload (e.made.set_same ∙ ca ∙ sym f.made.set_same) e.evicts other in
           omega arith
 
-      are_entries : AreEntries s set (parts K) (window K) i t to test (victim K) evictor (cached K)
-      are_entries =
+      are_evicted : AreEvicted s set (parts K) (window K) i t to test (victim K) evictor (cached K)
+      are_evicted =
           record {
             victims = λ n l b. ((facts n b).made.below, victim_inside n l b);
             evictors = λ n l b. (
@@ -330,14 +330,14 @@ module _ (K : CheckedRun) where
       periods_pos : (k : ℕ) → k ≤ task_at s i → 0 < period_of set k
       periods_pos k l = let tb = below_tasks K i h in R.periods k (omega arith)
 
-      -- the entries of the window are at most the counts, by either method, in all and for each
+      -- the reloads of the window are at most the counts, by either method, in all and for each
       -- higher task
       pub by_ucb : count test to
           ≤ sum_below (ucb_count set (parts K) (window K) (window K (task_at s i)) (task_at s i))
           (task_at s i)
       by_ucb =
-          entries_few s set legal_run (parts K) (window K) i t test (victim K) evictor
-          (cached K) are_entries periods_pos
+          evicted_few s set legal_run (parts K) (window K) i t test (victim K) evictor
+          (cached K) are_evicted periods_pos
 
       pub by_ecb : count test to
           ≤ sum_below (ecb_count set (parts K) (window K) (window K (task_at s i)) (task_at s i))
@@ -351,7 +351,7 @@ module _ (K : CheckedRun) where
           ≤ ucb_count set (parts K) (window K) (window K (task_at s i)) (task_at s i) j
       ucb_of j l =
           task_share s set legal_run (parts K) (window K) i t test (victim K) evictor
-          (cached K) are_entries periods_pos j l
+          (cached K) are_evicted periods_pos j l
 
       pub ecb_of : (j : ℕ) → j ≤ task_at s i
           → count (λ n. test n && (task_at s (preemptor n) == j)) to

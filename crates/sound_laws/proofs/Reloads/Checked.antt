@@ -1,5 +1,5 @@
--- For steps 5 and 6: the entries of a checked run. Each is a reload, with its evictor, and the
--- ledger's entries are such.
+-- For steps 5 and 6: the reloads of a checked run. Each is its job's own, with its evictor, and the
+-- ledger's reloads are such.
 use Rattle.std.proofs.Common.{◌≡◌, ℕ, ◌<◌, ◌≤◌, ◌⊎◌, Bool, true, false, ◌&&◌, length, Option, Some}
 use Rattle.std.proofs.Common.{None, refl, sym, ◌∙◌, ap, subst, inl, inr, arith}
 use Rattle.std.specs.Prelude.{nat_lt, if◌then◌else◌, unwrap_or}
@@ -26,7 +26,7 @@ use Rattle.sound_laws.proofs.Walks.Stands.{walk_node}
 use Rattle.sound_laws.proofs.Walks.KeptWalks.{ok, walking}
 use Rattle.sound_laws.proofs.Execution.Spends.{extra_of}
 use Rattle.sound_laws.proofs.Execution.Executed.{IsMet, is_met, hit_test}
-use Rattle.sound_laws.proofs.Reloads.OwnFetches.{entry_is, set_is}
+use Rattle.sound_laws.proofs.Reloads.OwnFetches.{reload_is, set_is}
 use Rattle.sound_laws.proofs.Walks.CheckedRuns.{CheckedRun, parts, below_tasks, is_opened, is_below}
 use Rattle.sound_laws.proofs.Walks.CheckedRuns.{kept_at}
 
@@ -71,18 +71,18 @@ module _ (K : CheckedRun) where
   abbrev pub set_at : ℕ → ℕ
   set_at a = set_of s.system.platform (block_of s.system.platform a)
 
-  -- the entries: steps that miss at a node that is counted as a hit
-  abbrev pub entry_by : Option ℕ → ℕ → Bool
-  entry_by None n = false
-  entry_by (Some y) n =
+  -- the reloads: steps that miss at a node that is counted as a hit
+  abbrev pub reload_by : Option ℕ → ℕ → Bool
+  reload_by None n = false
+  reload_by (Some y) n =
       misses_counted_hit s.system (graphs (job_task s y)) (counted_at y)
       (turn_of s.system (state s n) y)
 
-  abbrev pub entry : ℕ → Bool
-  entry n = nat_lt n horizon && entry_by (candidate_at s n) n
+  abbrev pub is_reload : ℕ → Bool
+  is_reload n = nat_lt n horizon && reload_by (candidate_at s n) n
 
   abbrev pub extra : ℕ → ℕ
-  extra n = if entry n then s.system.platform.miss else 0
+  extra n = if is_reload n then s.system.platform.miss else 0
 
   abbrev pub victim : ℕ → ℕ
   victim n = unwrap_or (candidate_at s n) 0
@@ -96,8 +96,8 @@ module _ (K : CheckedRun) where
   abbrev pub preemptor_at : ℕ → ℕ
   preemptor_at n = preemptor_of s (victim n) (cached n) n
 
-  -- what an entry is: a reload, with its evictor
-  pub record IsEntry (n : ℕ) : Type 0 where
+  -- what such a reload is: its job's own, with its evictor
+  pub record IsCheckedReload (n : ℕ) : Type 0 where
     pub is_candidate : candidate_at s n ≡ Some (victim n)
     pub below : victim n < length s.lines
     pub own_time : ℕ
@@ -110,13 +110,13 @@ module _ (K : CheckedRun) where
     pub last : Fetch
     pub evicts : IsEvictor s (evictor_at n) n last_time fetch last
 
-  pub entry_at : (n x : ℕ) → n ≤ horizon → candidate_at s n ≡ Some x → victim n ≡ x
+  pub reload_at : (n x : ℕ) → n ≤ horizon → candidate_at s n ≡ Some x → victim n ≡ x
       → misses_counted_hit s.system (graphs (job_task s x)) (counted_at x)
-      (turn_of s.system (state s n) x) ≡ true → IsEntry n
-  entry_at n x early e vx b =
+      (turn_of s.system (state s n) x) ≡ true → IsCheckedReload n
+  reload_at n x early e vx b =
       let h = is_below K n x e in
       let k = kept_at K n x early h in
-      let r = entry_is s set graphs R C run.tasks x h (certified_task c (job_task s x))
+      let r = reload_is s set graphs R C run.tasks x h (certified_task c (job_task s x))
       (counted_at x) (met x h) n k e b in
       let last = last_fetcher_is s (set_at (job_after s n x).pc) n r.own_time r.own
       r.reload.own.earlier r.reload.own.own.is r.reload.own.to_set in
@@ -144,29 +144,29 @@ module _ (K : CheckedRun) where
         };
       }
 
-  pub entry_says_by : (n : ℕ) (o : Option ℕ) → n ≤ horizon → candidate_at s n ≡ o
-      → entry_by o n ≡ true → IsEntry n
-  entry_says_by n None l e b = absurd (false≢true b)
-  entry_says_by n (Some x) l e b = entry_at n x l e (ap (λ c. unwrap_or c 0) e) b
+  pub reload_says_by : (n : ℕ) (o : Option ℕ) → n ≤ horizon → candidate_at s n ≡ o
+      → reload_by o n ≡ true → IsCheckedReload n
+  reload_says_by n None l e b = absurd (false≢true b)
+  reload_says_by n (Some x) l e b = reload_at n x l e (ap (λ c. unwrap_or c 0) e) b
 
-  pub entry_early : (n : ℕ) → entry n ≡ true → n < horizon
-  entry_early n b =
-      ltb-true n horizon (and_parts (nat_lt n horizon) (entry_by (candidate_at s n) n) b).0
+  pub reload_early : (n : ℕ) → is_reload n ≡ true → n < horizon
+  reload_early n b =
+      ltb-true n horizon (and_parts (nat_lt n horizon) (reload_by (candidate_at s n) n) b).0
 
-  pub entry_says : (n : ℕ) → entry n ≡ true → IsEntry n
-  entry_says n b =
-      let l = entry_early n b in
-      entry_says_by n (candidate_at s n) (omega arith) refl
-      (and_parts (nat_lt n horizon) (entry_by (candidate_at s n) n) b).1
+  pub reload_says : (n : ℕ) → is_reload n ≡ true → IsCheckedReload n
+  reload_says n b =
+      let l = reload_early n b in
+      reload_says_by n (candidate_at s n) (omega arith) refl
+      (and_parts (nat_lt n horizon) (reload_by (candidate_at s n) n) b).1
 
   pub extra_is : (n y : ℕ) → n < horizon → candidate_at s n ≡ Some y
       → extra n ≡ extra_of s.system (graphs (job_task s y)) (counted_at y)
       (turn_of s.system (state s n) y)
   extra_is n y l e =
       let b : nat_lt n horizon ≡ true = lt-ltb n horizon l in
-      let one : extra n ≡ (if entry_by (candidate_at s n) n then s.system.platform.miss else 0) =
+      let one : extra n ≡ (if reload_by (candidate_at s n) n then s.system.platform.miss else 0) =
       rw b refl in
-      one ∙ ap (λ c. if entry_by c n then s.system.platform.miss else 0) e
+      one ∙ ap (λ c. if reload_by c n then s.system.platform.miss else 0) e
 
   -- a fetch is to a set that the job's task evicts
   pub fetch_evicts : (m y : ℕ) (f : Fetch) → m ≤ horizon → FetchesAt s y m f
@@ -191,9 +191,9 @@ module _ (K : CheckedRun) where
       ap (λ z. (job_after s m z).pc) (sym at.by) ∙ sym says_at.at in
       subst (λ a. has_set (parts K (task_at s y)).evicting (set_at a) ≡ true) address at_pc
 
-  -- an entry of the ledger passes the test of the account
+  -- a reload of the ledger passes the test of the account
   pub ledger_test : (n x : ℕ) (f : Fetch) → n < horizon → Ledger.IsLedgerReload s graphs c n x f
-      → entry n ≡ true
+      → is_reload n ≡ true
   ledger_test n x f l e =
       let mine = own_candidate s x n f e.fetches in
       let hx = is_below K n x mine in
@@ -219,7 +219,7 @@ module _ (K : CheckedRun) where
       let is : misses_counted_hit s.system (graphs (job_task s x)) (counted_at x)
       (turn_of s.system (state s n) x) ≡ true = rw (makes, counted, misses) refl in
       and_from (nat_lt n horizon) _ (lt-ltb n horizon l)
-      (subst (λ q. entry_by q n ≡ true) (sym mine) is)
+      (subst (λ q. reload_by q n ≡ true) (sym mine) is)
 
   pub fetch_same : (n x y : ℕ) (f g : Fetch) → FetchesAt s x n f → FetchesAt s y n g → f ≡ g
   fetch_same n x y f g a b = some_injective (sym a.is ∙ b.is)

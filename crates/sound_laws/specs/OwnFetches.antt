@@ -1,4 +1,4 @@
--- A job's own last fetches agree with the full states, and its entries are reloads.
+-- A job's own last fetches agree with the full states, and a ledger's reloads are own ones.
 use Rattle.std.specs.Prelude.{◌≡◌, ◌≢◌, ℕ, ◌<◌, Bool, true, IsTrue, length}
 use Rattle.crpd_base.specs.declared.data.TaskSet.{TaskSet}
 use Rattle.flow_watch.specs.Watch.{is_unbroken}
@@ -39,7 +39,7 @@ OwnFetchesAgreeLaw =
     is_unbroken (job_after s n x).watch ≡ true → is_open (job_after s n x).standing ≡ true →
     OwnFetchesAgree s (graphs (job_task s x)) (certified_task c (job_task s x)) n x
 
--- an entry is a reload, and its set is in the useful set of its node and of its task
+-- a ledger's reload is its job's own, and its set is in the useful set of its node and of its task
 pub record IsUsefulReload (s : Start) (t : TaskGraph) (c : TaskPart) (n x : ℕ) : Type 0 where
   pub own_time : ℕ
   pub own : Fetch
