@@ -13,6 +13,3 @@ pub use edges::{Against, EdgeList};
 pub use problem::{Domain, Flow, order_law};
 pub use solver::solve;
 pub use variable::{Known, Live, Use};
-
-#[cfg(test)]
-mod tests;

@@ -6,8 +6,6 @@ mod jobs;
 mod laws;
 mod rates;
 mod share;
-#[cfg(test)]
-mod tests;
 mod union;
 mod window_demand;
 

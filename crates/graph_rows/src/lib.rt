@@ -1,5 +1,5 @@
 //! The worked rows of what is built of a task's code: code maps, flat graphs, regions, useful sets
-//! and bounds. This crate has tests alone.
+//! and bounds; and of the solver that finds facts of graphs. This crate has tests alone.
 #![tactic(auto)]
 
 #[cfg(test)]
@@ -14,6 +14,8 @@ mod flows;
 mod maps;
 #[cfg(test)]
 mod nests;
+#[cfg(test)]
+mod solver;
 #[cfg(test)]
 mod useful;
 #[cfg(test)]

@@ -7,4 +7,6 @@ mod classic;
 #[cfg(test)]
 mod counted;
 #[cfg(test)]
+mod delays;
+#[cfg(test)]
 mod rows;

@@ -1,8 +1,8 @@
 // The delays of small sets of shares.
 ghost use Rattle.std.specs.Prelude.{◌≡◌};
 
-use crate::*;
 use crpd_base::SetBits;
+use delay_count::{Share, gamma_ecb, gamma_ucb};
 
 fn set_of(numbers: &[u16]) -> SetBits<1> {
     let mut set = SetBits::new();

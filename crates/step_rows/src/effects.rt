@@ -1,4 +1,5 @@
-use crate::{DataMemory, Next, Regs, effect, next_pc};
+// What instructions do to registers and data memory, and where they go on.
+use rv_core::{DataMemory, Next, Regs, effect, next_pc};
 use rv_decode::decode;
 use std::process::Abort;
 use std::test::Fail;

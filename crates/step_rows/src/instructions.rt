@@ -1,5 +1,6 @@
-use crate::{Ins, cost, decode, encode};
+// Words and instructions, their texts and their cycles.
 use crpd_base::{Platform, Switching};
+use rv_decode::{Ins, cost, decode, encode};
 use std::test::Fail;
 
 // Each row once: words as LLVM's assembler makes them of the texts.

@@ -1,8 +1,8 @@
 // Accesses of a small cache, one after the other.
 ghost use Rattle.std.specs.Prelude.{◌≡◌};
 
-use super::*;
-use crpd_base::Switching;
+use crpd_base::{Platform, Switching};
+use icache::{Access, Cache, Geometry};
 
 // Four cache sets of lines of 16 bytes.
 fn geometry() -> Geometry

@@ -6,7 +6,7 @@ ghost use Rattle.dataflow.specs.Inner.Variable.{first_unknown};
 ghost use Rattle.dataflow.specs.VariableLaws.{both_joins, known_distributes, unknown_bounded};
 ghost use Rattle.dataflow.specs.declared.variable.Use.{Use};
 
-use super::*;
+use dataflow::{Against, Domain, EdgeList, Known, Live, Use, solve};
 use std::alloc::Global;
 use std::cell::Cell;
 use std::test::Fail;

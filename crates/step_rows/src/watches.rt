@@ -2,10 +2,14 @@
 ghost use Rattle.std.specs.Prelude.{length, IfOk};
 ghost use Rattle.flow_watch.specs.Iterations.{HasIterations};
 
-use super::*;
-use crpd_base::{Items, LoopAt};
-use std::alloc::AllocError;
+use crpd_base::{Items, LoopAt, TaskPlan};
+use flow_watch::{Watch, stays_in_frame};
+use rv_decode::Ins;
+use std::alloc::{AllocError, Global};
 use std::test::Fail;
+
+// The address at which a job ends.
+const END: u32 = 0xFFFF_FFFC;
 
 const NEXT: Ins = Ins::Addi {
     rd: 0,
