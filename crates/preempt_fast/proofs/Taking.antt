@@ -9,7 +9,7 @@ use Rattle.preempt_machine.specs.Machine.{System, Job, Machine, job_at, no_job}
 use Rattle.preempt_machine.specs.Step.{candidate, is_open, run, Turn, turn_of}
 use Rattle.preempt_machine.specs.Running.{system_by, HasPlan, HasPlans}
 use Rattle.preempt_machine.specs.Schedule.{script_line, script_lines, due_release, heads_after}
-use Rattle.preempt_machine.specs.Schedule.{completions_after, HasSettled, HasToldReleases, IsHead}
+use Rattle.preempt_machine.specs.Schedule.{completions_after, HasToldEnd, HasToldReleases, IsHead}
 use Rattle.preempt_machine.specs.Schedule.{IsNextRelease}
 use Rattle.preempt_machine.proofs.Firsts.{line_is, lines_long}
 use Rattle.preempt_machine.proofs.Taken.{kept_along}
@@ -123,7 +123,7 @@ turns_are_steps sys until old told turned place h =
 
 pub taken_made : (sys : System) (until most : ℕ) (old : Parts) (told : Schedule) (turned : Parts)
     (settled : Schedule) (place : ℕ) → HasTaken sys until old told turned place → until ≤ most
-    → HasSettled turned.schedule settled place
+    → HasToldEnd turned.schedule settled place
     → HasMadeFastSteps sys most old (with_schedule turned settled)
 taken_made sys until most old told turned settled place h within s =
     let t = turns_of sys until old told turned place h in
@@ -221,7 +221,7 @@ own_job m place made u below = get_or-set_same m.jobs place u.job no_job below
 
 pub taken_kept : (sys : System) (until : ℕ) (old : Parts) (told : Schedule) (turned : Parts)
     (settled : Schedule) (place : ℕ) → HasTaken sys until old told turned place
-    → HasSettled turned.schedule settled place → IsFastMachine (with_schedule turned settled)
+    → HasToldEnd turned.schedule settled place → IsFastMachine (with_schedule turned settled)
 taken_kept sys until old told turned settled place h s =
     let m = fast_machine_of old in
     let t = turns_of sys until old told turned place h in
@@ -272,7 +272,7 @@ taken_kept sys until old told turned settled place h s =
 -- the plans after a job's turns
 pub taken_plans : (sys : System) (code : Code) (until : ℕ) (old : Parts) (told : Schedule)
     (turned : Parts) (settled : Schedule) (place : ℕ) → HasTaken sys until old told turned place
-    → HasSettled turned.schedule settled place → HasPlans code (fast_machine_of old)
+    → HasToldEnd turned.schedule settled place → HasPlans code (fast_machine_of old)
     → HasPlan code.plans (job_at turned.schedule.jobs.items place)
     → HasPlans code (fast_machine_of (with_schedule turned settled))
 taken_plans sys code until old told turned settled place h s all one =

@@ -115,10 +115,10 @@ impl Parts {
         ensures machine { OnOk result (IsFastMachine self.new) }
         ensures run { OnOk result (RunsCode code.now self.new) }
     {
-        self.schedule.tell();
+        self.schedule.tell_releases();
         let until = self.schedule.queue.next_release(until);
         self.turn(code, place, until)?;
-        self.schedule.settle(place);
+        self.schedule.tell_end(place);
         Ok(())
     }
 

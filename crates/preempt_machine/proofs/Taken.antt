@@ -12,7 +12,7 @@ use Rattle.preempt_machine.specs.Machine.{System, Job, Machine, job_at}
 use Rattle.preempt_machine.specs.Step.{candidate, fetch_by, step, step_by}
 use Rattle.preempt_machine.specs.Running.{fetch_told}
 use Rattle.preempt_machine.specs.Schedule.{machine_by, due_place, heads_after, completions_after}
-use Rattle.preempt_machine.specs.Schedule.{AreReleased, HasSettled, IsHead, IsRepresented}
+use Rattle.preempt_machine.specs.Schedule.{AreReleased, HasToldEnd, IsHead, IsRepresented}
 use Rattle.preempt_machine.specs.Schedule.{IsScheduled}
 use Rattle.preempt_machine.specs.Inner.Schedule.{machine_of, HasPassed, HasStepped, HasTurned}
 use Rattle.preempt_machine.specs.Inner.Schedule.{IsMachine}
@@ -77,7 +77,7 @@ pub taken_kept : (sys : System) (old turn : Parts) (pass settle : Schedule) (pla
     → IsMachine old → candidate sys (machine_of old) ≡ Some place
     → IsHead old.schedule.jobs.items old.schedule.queue.due.items old.schedule.queue.heads.items
     place → HasTurned sys old turn place → HasPassed turn.schedule pass
-    → HasSettled pass settle place
+    → HasToldEnd pass settle place
     → IsScheduled turn.core.geometry.platform.sets turn.core.cache turn.core.memory settle
 taken_kept sys old turn pass settle place k e h t p s =
     let m = machine_of old in
@@ -135,7 +135,7 @@ taken_told sys old turn pass place k e t p =
 -- a turn, its cycle and what is told of it are a step
 pub taken_step : (sys : System) (old turn : Parts) (pass settle : Schedule) (place : ℕ)
     → candidate sys (machine_of old) ≡ Some place → HasTurned sys old turn place
-    → HasPassed turn.schedule pass → HasSettled pass settle place
+    → HasPassed turn.schedule pass → HasToldEnd pass settle place
     → HasStepped sys old (record turn { schedule = settle })
 taken_step sys old turn pass settle place e t p s =
     let m = machine_of old in
@@ -147,7 +147,7 @@ taken_step sys old turn pass settle place e t p s =
     }
 
 pub taken_jobs : (turn : Parts) (pass settle : Schedule) (place : ℕ) → HasPassed turn.schedule pass
-    → HasSettled pass settle place → settle.jobs.items ≡ turn.schedule.jobs.items
+    → HasToldEnd pass settle place → settle.jobs.items ≡ turn.schedule.jobs.items
 taken_jobs turn pass settle place p s =
     ap (λ (n : Machine). n.jobs)
     (s.state turn.core.cache turn.core.memory ∙ p.state turn.core.cache turn.core.memory)

@@ -206,7 +206,7 @@ completions_after jobs cs x =
     })
 
 -- the first job of its task is told to be over, where it is, and nothing else changes
-pub record HasSettled (old new : Schedule) (place : ℕ) : Type 0 where
+pub record HasToldEnd (old new : Schedule) (place : ℕ) : Type 0 where
   pub state : (cache : Cache) (memory : Memory)
       → machine_by cache memory new ≡ machine_by cache memory old
   pub due : new.queue.due.items ≡ old.queue.due.items

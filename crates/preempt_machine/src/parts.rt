@@ -145,7 +145,7 @@ impl Parts {
     {
         self.turn(code, place)?;
         self.schedule.pass();
-        self.schedule.settle(place);
+        self.schedule.tell_end(place);
         Ok(())
     }
 

@@ -11,7 +11,7 @@ ghost use Rattle.preempt_machine.specs.Safe.{system_of, NamesTasks};
 ghost use Rattle.preempt_machine.specs.Running.{HasPlan};
 ghost use Rattle.preempt_machine.specs.Inner.KeptFlag.{kept_at};
 ghost use Rattle.preempt_machine.specs.Schedule.{completion, script_line, script_lines, machine_by};
-ghost use Rattle.preempt_machine.specs.Schedule.{owner_keeps, due_place, HasSettled};
+ghost use Rattle.preempt_machine.specs.Schedule.{owner_keeps, due_place, HasToldEnd};
 ghost use Rattle.preempt_machine.specs.Schedule.{HasToldReleases, IsReleaseOrder, IsHead, IsOwner};
 ghost use Rattle.preempt_machine.specs.Schedule.{IsScheduled, HasTaskHeads};
 ghost use Rattle.preempt_machine.specs.Inner.Schedule.{HasPassed};
@@ -223,7 +223,7 @@ impl Schedule {
 
     /// Tells of the jobs that are released in this cycle that they are open.
     /// Linear in these; it takes no memory.
-    pub fn tell(&mut self)
+    pub fn tell_releases(&mut self)
         requires { (p : ℕ) → p < length self.old.queue.due.items
             → due_place self.old.queue.due.items p < length self.old.completions.items }
         ensures { HasToldReleases self.old self.new }
@@ -239,20 +239,20 @@ impl Schedule {
         requires later { self.old.steps + 1 < 2 ^ 64 }
         ensures { HasPassed self.old self.new }
     {
-        self.tell();
+        self.tell_releases();
         self.steps += 1;
     }
 
     /// Tells how a job stands that had a turn, the first one of its task that was open.
     /// In constant time.
-    pub fn settle(&mut self, place: usize)
+    pub fn tell_end(&mut self, place: usize)
         requires head { IsHead self.old.jobs.items self.old.queue.due.items
             self.old.queue.heads.items place }
         requires task { (job_at self.old.jobs.items place).line.task.0
             < length self.old.queue.heads.items }
         requires later { length self.old.queue.later.items ≡ length self.old.queue.due.items }
         requires completions { length self.old.completions.items ≡ length self.old.jobs.items }
-        ensures { HasSettled self.old self.new place }
+        ensures { HasToldEnd self.old self.new place }
     {
         let job = &self.jobs[place];
         let end = job.end();

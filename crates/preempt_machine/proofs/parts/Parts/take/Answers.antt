@@ -11,14 +11,14 @@ use Rattle.preempt_machine.proofs.Taken.{taken_head, taken_jobs, taken_kept, tak
 use Rattle.preempt_machine.proofs.Taken.{taken_step, taken_told}
 use Rattle.preempt_machine.proofs.parts.Parts.take.Goals as goal
 
-pub settle-requires-clause-head : goal.settle-requires-clause-head
-settle-requires-clause-head c =
+pub tell_end-requires-clause-head : goal.tell_end-requires-clause-head
+tell_end-requires-clause-head c =
     let sys = system_by c.args.self.now.core.geometry.platform c.args.code.now in
     taken_head sys c.args.self.now c.turn.new.self c.pass.new.self c.args.place c.requires.candidate
     c.requires.head c.in_ok-turn.ensures.ok c.pass.ensures
 
-pub settle-requires-clause-task : goal.settle-requires-clause-task
-settle-requires-clause-task c =
+pub tell_end-requires-clause-task : goal.tell_end-requires-clause-task
+tell_end-requires-clause-task c =
     let sys = system_by c.args.self.now.core.geometry.platform c.args.code.now in
     let m = machine_of c.args.self.now in
     let place = c.args.place in
@@ -40,12 +40,12 @@ settle-requires-clause-task c =
 pub returns-clause-machine : goal.returns-clause-machine
 returns-clause-machine c =
     let sys = system_by c.args.self.now.core.geometry.platform c.args.code.now in
-    taken_kept sys c.args.self.now c.turn.new.self c.pass.new.self c.settle.new.self c.args.place
+    taken_kept sys c.args.self.now c.turn.new.self c.pass.new.self c.tell_end.new.self c.args.place
     c.requires.machine c.requires.candidate c.requires.head c.in_ok-turn.ensures.ok c.pass.ensures
-    c.settle.ensures
+    c.tell_end.ensures
 
-pub settle-requires-clause-completions : goal.settle-requires-clause-completions
-settle-requires-clause-completions c =
+pub tell_end-requires-clause-completions : goal.tell_end-requires-clause-completions
+tell_end-requires-clause-completions c =
     let sys = system_by c.args.self.now.core.geometry.platform c.args.code.now in
     taken_told sys c.args.self.now c.turn.new.self c.pass.new.self c.args.place c.requires.machine
     c.requires.candidate c.in_ok-turn.ensures.ok c.pass.ensures
@@ -53,12 +53,12 @@ settle-requires-clause-completions c =
 pub returns-clause-ok : goal.returns-clause-ok
 returns-clause-ok c =
     let sys = system_by c.args.self.now.core.geometry.platform c.args.code.now in
-    taken_step sys c.args.self.now c.turn.new.self c.pass.new.self c.settle.new.self c.args.place
-    c.requires.candidate c.in_ok-turn.ensures.ok c.pass.ensures c.settle.ensures
+    taken_step sys c.args.self.now c.turn.new.self c.pass.new.self c.tell_end.new.self c.args.place
+    c.requires.candidate c.in_ok-turn.ensures.ok c.pass.ensures c.tell_end.ensures
 
 pub returns-clause-plans : goal.returns-clause-plans
 returns-clause-plans c =
-    let jobs = taken_jobs c.turn.new.self c.pass.new.self c.settle.new.self c.args.place
-    c.pass.ensures c.settle.ensures in
+    let jobs = taken_jobs c.turn.new.self c.pass.new.self c.tell_end.new.self c.args.place
+    c.pass.ensures c.tell_end.ensures in
     subst (λ (js : List Job). (x : ℕ) → x < length js → HasPlan c.args.code.now.plans (job_at js x))
     (sym jobs) c.in_ok-turn.ensures.plans
