@@ -74,6 +74,12 @@ fn a_diamond(rt: HostRuntime) -> Result<(), Fail> {
         known(rt.alloc(), &other, &edges)?.as_slice(),
         [Some(None), Some(None), Some(None), Some(None), Some(None)].as_slice()
     );
+    Ok(())
+}
+
+#[test]
+fn a_diamond_with_one_side_that_writes(rt: HostRuntime) -> Result<(), Fail> {
+    let edges = [(0, 1), (0, 2), (1, 3), (2, 3), (3, 4)];
     let one_side = [
         Use::Neither,
         Use::Writes(7),
