@@ -46,6 +46,15 @@ fn push_numbers(alloc: Global, text: &mut String, numbers: &[u64]) -> Result<(),
 }
 
 // The bound, the potentials of the nodes, and those of the regions.
+fn bound_told(alloc: Global, bound: &Bound) -> Result<String, AllocError> {
+    let mut text = format!(in alloc; "{}:", bound.cycles)?;
+    push_numbers(alloc, &mut text, bound.nodes.as_slice())?;
+    text.push_str(";")?;
+    push_numbers(alloc, &mut text, bound.loops.as_slice())?;
+    Ok(text)
+}
+
+// The same, or the refusal.
 pub(crate) fn told(
     alloc: Global,
     platform: &Platform,
@@ -57,13 +66,7 @@ pub(crate) fn told(
     requires room { platform.now.sets ≤ 4 }
 {
     match answer::<4>(alloc, platform, words, stated)? {
-        Ok(bound) => {
-            let mut text = format!(in alloc; "{}:", bound.cycles)?;
-            push_numbers(alloc, &mut text, bound.nodes.as_slice())?;
-            text.push_str(";")?;
-            push_numbers(alloc, &mut text, bound.loops.as_slice())?;
-            Ok(text)
-        }
+        Ok(bound) => Ok(bound_told(alloc, &bound)?),
         Err(BoundError::TooLarge(address)) => Ok(format!(in alloc; "64 {address:08x}")?),
         Err(BoundError::Memory) => Ok(String::from_str(alloc, "no memory")?),
     }

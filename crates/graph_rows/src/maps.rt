@@ -5,7 +5,7 @@ ghost use Rattle.crpd_base.specs.Images.{IsImage};
 
 use code_map::{CodeMap, MapError};
 use crpd_base::{
-    Image, Items, LoopSpec, Place, Segment, Symbol, Task, TaskPlan, TaskSet, TaskSpec, Text,
+    Image, Items, LoopAt, LoopSpec, Place, Segment, Symbol, Task, TaskPlan, TaskSet, TaskSpec, Text,
 };
 use fixtures::PLATFORM;
 use std::alloc::{AllocError, Global};
@@ -85,7 +85,7 @@ fn segments(alloc: Global, first: Segment, second: Segment) -> Result<Vec<Segmen
 }
 
 // The symbols of each file.
-const SYMBOLS: [(&[u8], u32); 4] = [
+static SYMBOLS: [(&[u8], u32); 4] = [
     (b"a", 0x1000),
     (b"b", 0x1004),
     (b"a", 0x1008),
@@ -94,7 +94,7 @@ const SYMBOLS: [(&[u8], u32); 4] = [
 
 fn symbols(alloc: Global) -> Result<Vec<Symbol>, AllocError> {
     let mut symbols = Vec::new(alloc);
-    for (name, value) in SYMBOLS {
+    for &(name, value) in &SYMBOLS {
         symbols.push(Symbol {
             name: Items::new(Vec::from_slice(alloc, name)?),
             value,
@@ -210,7 +210,7 @@ const HIGH: Part = Part(0xFFFF_FFF8, 8, &ONE, true);
 const LATE: Part = Part(0x1002, 8, &ONE, true);
 
 // A file beside the plain one, and what comes of the two.
-const REFUSALS: [(File, &str); 18] = [
+static REFUSALS: [(File, &str); 18] = [
     (PLAIN, "code"),
     (
         File {
@@ -343,7 +343,7 @@ const REFUSALS: [(File, &str); 18] = [
 
 #[test]
 fn refusals(rt: HostRuntime) -> Result<(), Fail> {
-    for (file, want) in REFUSALS {
+    for &(file, want) in &REFUSALS {
         let got = outcome(rt.alloc(), &[PLAIN, file])?;
         assert_eq!(rt; got.as_str(), want);
     }
@@ -367,7 +367,7 @@ fn told(alloc: Global, code: &CodeMap, address: u32) -> Result<String, AllocErro
 }
 
 // Words that stand in one file, in two pieces, in two files, and at the end of memory.
-const FILES: [File; 4] = [
+static FILES: [File; 4] = [
     File {
         parts: (NONE, Part(0x1000, 12, &ONE, true)),
         ..PLAIN
@@ -390,7 +390,7 @@ const FILES: [File; 4] = [
 ];
 
 // Addresses with the words there.
-const WORDS: [(u32, &str); 12] = [
+static WORDS: [(u32, &str); 12] = [
     (0x0FFC, "none"),
     (0x1000, "00100293 0"),
     (0x1001, "none"),
@@ -406,7 +406,7 @@ const WORDS: [(u32, &str); 12] = [
 ];
 
 // Each task's next address of a word of its own from an address on.
-const NEXT: [(u8, u32, Option<u32>); 8] = [
+static NEXT: [(u8, u32, Option<u32>); 8] = [
     (0, 0, Some(0x1000)),
     (0, 0x1005, None),
     (1, 0x1FFF, Some(0x2000)),
@@ -420,11 +420,11 @@ const NEXT: [(u8, u32, Option<u32>); 8] = [
 #[test]
 fn words(rt: HostRuntime) -> Result<(), Fail> {
     let code = code(rt.alloc(), &FILES).map_err(|_| "refused")?;
-    for (address, want) in WORDS {
+    for &(address, want) in &WORDS {
         let got = told(rt.alloc(), &code, address)?;
         assert_eq!(rt; got.as_str(), want, "at {address:x}");
     }
-    for (task, from, want) in NEXT {
+    for &(task, from, want) in &NEXT {
         assert!(rt; usize::from(task) < code.images().len());
         assert_eq!(rt;
             code.next_own(Task(task), from),
@@ -435,22 +435,27 @@ fn words(rt: HostRuntime) -> Result<(), Fail> {
     Ok(())
 }
 
+// A loop of a plan: its head, its bound and its ranges.
+fn loop_told(alloc: Global, stated: &LoopAt) -> Result<String, AllocError> {
+    let mut text = format!(in alloc; ", {:x} {}", stated.head, stated.bound)?;
+    for range in stated.ranges.as_slice() {
+        let (first, last) = *range;
+        let line = format!(in alloc; " {first:x} to {last:x}")?;
+        text.push_str(line.as_str())?;
+    }
+    Ok(text)
+}
+
 fn plan_told(alloc: Global, plan: &TaskPlan) -> Result<String, AllocError> {
     let mut text = format!(in alloc; "{:x} {:x} {:x}", plan.entry, plan.stack, plan.global)?;
     for stated in plan.loops.as_slice() {
-        let line = format!(in alloc; ", {:x} {}", stated.head, stated.bound)?;
-        text.push_str(line.as_str())?;
-        for range in stated.ranges.as_slice() {
-            let (first, last) = *range;
-            let line = format!(in alloc; " {first:x} to {last:x}")?;
-            text.push_str(line.as_str())?;
-        }
+        text.push_str(loop_told(alloc, stated)?.as_str())?;
     }
     Ok(text)
 }
 
 // Numbers, symbols with offsets, and the file's own entry.
-const PLACES: [File; 3] = [
+static PLACES: [File; 3] = [
     PLAIN,
     File {
         entry: At("a", 4),
@@ -465,7 +470,7 @@ const PLACES: [File; 3] = [
 ];
 
 // The plans of files with such places.
-const PLANS: [(u8, &str); 3] = [
+static PLANS: [(u8, &str); 3] = [
     (0, "1000 0 7, 0 3 0 to 0"),
     (1, "1004 1014 7, 1004 3 1004 to ffffffff"),
     (2, "1004 0 7, 0 3 0 to 0"),
@@ -475,7 +480,7 @@ const PLANS: [(u8, &str); 3] = [
 fn plans(rt: HostRuntime) -> Result<(), Fail> {
     let code = code(rt.alloc(), &PLACES).map_err(|_| "refused")?;
     code.plans_law();
-    for (task, want) in PLANS {
+    for &(task, want) in &PLANS {
         assert!(rt; usize::from(task) < code.images().len());
         let got = plan_told(rt.alloc(), code.plan(Task(task)))?;
         assert_eq!(rt; got.as_str(), want, "task {task}");

@@ -90,7 +90,7 @@ fn answer_told<'a>(alloc: Global, words: &'a [u32], loops: &'a [Stated]) -> Resu
 const BODY: (u32, u32) = (0x1004, 0x100C);
 
 // Words, stated loops, and the regions or the refusal.
-const REGIONS: [(&[u32], &[Stated], &str); 16] = [
+static REGIONS: [(&[u32], &[Stated], &str); 16] = [
     (
         &LOOP,
         &[(0x1004, 3, BODY)],
@@ -147,7 +147,7 @@ const REGIONS: [(&[u32], &[Stated], &str); 16] = [
 
 #[test]
 fn regions_of_small_programs(rt: HostRuntime) -> Result<(), Fail> {
-    for (words, stated, want) in REGIONS {
+    for &(words, stated, want) in &REGIONS {
         let got = answer_told(rt.alloc(), words, stated)?;
         assert_eq!(rt; got.as_str(), want);
     }

@@ -47,19 +47,38 @@ fn held(alloc: Global, state: &MustState<8>) -> Result<String, AllocError> {
     Ok(text)
 }
 
-// The sets and the longest cost of a task, and each node's state and useful sets.
+// The state and the useful sets of a node.
+fn node_told(
+    alloc: Global,
+    state: &MustState<8>,
+    useful: &SetBits<1>,
+) -> Result<String, AllocError> {
+    let sure = held(alloc, state)?;
+    let sets = numbers(alloc, useful)?;
+    format!(in alloc; ";{sure} |{sets}")
+}
+
+// The sets and the longest cost of a task.
+fn task_told(
+    alloc: Global,
+    evicting: &SetBits<1>,
+    useful: &SetBits<1>,
+    cost: u64,
+) -> Result<String, AllocError> {
+    let evicted = numbers(alloc, evicting)?;
+    let reused = numbers(alloc, useful)?;
+    format!(in alloc; "evicting{evicted} useful{reused} longest {cost}")
+}
+
+// The same, and each node's state and useful sets.
 fn told(alloc: Global, graph: &Graph) -> Result<String, Fail> {
     let geometry = Geometry::new(&EIGHT_SETS);
     let states = must::<8>(alloc, graph, &geometry)?;
     let useful = useful::<8, 1>(alloc, graph, &geometry, &states)?;
-    let evicted = numbers(alloc, &evicting::<1>(graph, &geometry))?;
-    let reused = numbers(alloc, &all(&useful))?;
-    let cost = longest(graph, &EIGHT_SETS);
-    let mut text = format!(in alloc; "evicting{evicted} useful{reused} longest {cost}")?;
+    let evicting = evicting::<1>(graph, &geometry);
+    let mut text = task_told(alloc, &evicting, &all(&useful), longest(graph, &EIGHT_SETS))?;
     for (state, sets) in states.iter().zip(useful.iter()) {
-        let sure = held(alloc, state)?;
-        let sets = numbers(alloc, sets)?;
-        text.push_str(format!(in alloc; ";{sure} |{sets}")?.as_str())?;
+        text.push_str(node_told(alloc, state, sets)?.as_str())?;
     }
     Ok(text)
 }
@@ -106,7 +125,7 @@ const CONFLICT: [u32; 33] = [
 ];
 
 // Where words begin, the words, and what is told of them.
-const SETS: [(u32, &[u32], &str); 8] = [
+static SETS: [(u32, &[u32], &str); 8] = [
     (
         0x1000,
         &TWO_WORDS,
@@ -151,7 +170,7 @@ const SETS: [(u32, &[u32], &str); 8] = [
 
 #[test]
 fn small_programs(rt: HostRuntime) -> Result<(), Fail> {
-    for (start, words, text) in SETS {
+    for &(start, words, text) in &SETS {
         let graph = graph_of(rt.alloc(), start, words)?;
         assert_eq!(rt; told(rt.alloc(), &graph)?.as_str(), text);
     }

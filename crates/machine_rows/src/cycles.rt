@@ -20,7 +20,7 @@ struct Stretch {
     owner: JobId,
     pcs: [u32; 2],
     fetch: Option<(JobId, u32, Access)>,
-    ends: [End; 2],
+    ends: &'static [End],
 }
 
 const LOW_JOB: JobId = JobId {
@@ -33,14 +33,14 @@ const HIGH_JOB: JobId = JobId {
     number: 0,
 };
 
-const STRETCHES: [Stretch; 14] = [
+static STRETCHES: [Stretch; 14] = [
     // the switch to the low job
     Stretch {
         until: 5,
         owner: LOW_JOB,
         pcs: [0x1000, 0x2000],
         fetch: None,
-        ends: [End::Open, End::Unreleased],
+        ends: &[End::Open, End::Unreleased],
     },
     // its first instruction: a miss and ten cycles more, of which the last is kept from it
     Stretch {
@@ -48,14 +48,14 @@ const STRETCHES: [Stretch; 14] = [
         owner: LOW_JOB,
         pcs: [0x1000, 0x2000],
         fetch: Some((LOW_JOB, 0x1000, Access::Miss)),
-        ends: [End::Open, End::Unreleased],
+        ends: &[End::Open, End::Unreleased],
     },
     Stretch {
         until: 15,
         owner: LOW_JOB,
         pcs: [0x1000, 0x2000],
         fetch: None,
-        ends: [End::Open, End::Unreleased],
+        ends: &[End::Open, End::Unreleased],
     },
     // the switch to the high job, its first instruction, and its second, a hit that answers
     Stretch {
@@ -63,35 +63,35 @@ const STRETCHES: [Stretch; 14] = [
         owner: HIGH_JOB,
         pcs: [0x1000, 0x2000],
         fetch: None,
-        ends: [End::Open, End::Open],
+        ends: &[End::Open, End::Open],
     },
     Stretch {
         until: 21,
         owner: HIGH_JOB,
         pcs: [0x1000, 0x2000],
         fetch: Some((HIGH_JOB, 0x2000, Access::Miss)),
-        ends: [End::Open, End::Open],
+        ends: &[End::Open, End::Open],
     },
     Stretch {
         until: 30,
         owner: HIGH_JOB,
         pcs: [0x1000, 0x2000],
         fetch: None,
-        ends: [End::Open, End::Open],
+        ends: &[End::Open, End::Open],
     },
     Stretch {
         until: 31,
         owner: HIGH_JOB,
         pcs: [0x1000, 0x2004],
         fetch: None,
-        ends: [End::Open, End::Open],
+        ends: &[End::Open, End::Open],
     },
     Stretch {
         until: 32,
         owner: HIGH_JOB,
         pcs: [0x1000, 0x2004],
         fetch: Some((HIGH_JOB, 0x2004, Access::Hit)),
-        ends: [End::Open, End::Answered(32)],
+        ends: &[End::Open, End::Answered(32)],
     },
     // the switch back, and the cycle that was left, without a fetch
     Stretch {
@@ -99,14 +99,14 @@ const STRETCHES: [Stretch; 14] = [
         owner: LOW_JOB,
         pcs: [0x1000, 0x2004],
         fetch: None,
-        ends: [End::Open, End::Answered(32)],
+        ends: &[End::Open, End::Answered(32)],
     },
     Stretch {
         until: 38,
         owner: LOW_JOB,
         pcs: [0x1004, 0x2004],
         fetch: None,
-        ends: [End::Open, End::Answered(32)],
+        ends: &[End::Open, End::Answered(32)],
     },
     // the second instruction: the high job took the block from the cache
     Stretch {
@@ -114,21 +114,21 @@ const STRETCHES: [Stretch; 14] = [
         owner: LOW_JOB,
         pcs: [0x1004, 0x2004],
         fetch: Some((LOW_JOB, 0x1004, Access::Miss)),
-        ends: [End::Open, End::Answered(32)],
+        ends: &[End::Open, End::Answered(32)],
     },
     Stretch {
         until: 48,
         owner: LOW_JOB,
         pcs: [0x1004, 0x2004],
         fetch: None,
-        ends: [End::Open, End::Answered(32)],
+        ends: &[End::Open, End::Answered(32)],
     },
     Stretch {
         until: 49,
         owner: LOW_JOB,
         pcs: [0x1004, 0x2004],
         fetch: None,
-        ends: [End::Answered(49), End::Answered(32)],
+        ends: &[End::Answered(49), End::Answered(32)],
     },
     // no job is ready, and the owner stays
     Stretch {
@@ -136,7 +136,7 @@ const STRETCHES: [Stretch; 14] = [
         owner: LOW_JOB,
         pcs: [0x1004, 0x2004],
         fetch: None,
-        ends: [End::Answered(49), End::Answered(32)],
+        ends: &[End::Answered(49), End::Answered(32)],
     },
 ];
 
@@ -163,14 +163,12 @@ fn compare_sight(rt: &impl Abort, machine: &Machine, stretch: &Stretch) {
     assert_eq!(rt; machine.last_fetch(), fetch, "after {steps}");
     let completions = machine.completions();
     assert_eq!(rt; completions.len(), 2);
+    let (pcs, ends) = (stretch.pcs, stretch.ends);
+    assert_eq!(rt; ends.len(), 2);
     for (place, job) in [LOW_JOB, HIGH_JOB].iter().enumerate() {
         assert_eq!(rt; completions[place].job, *job);
-        assert_eq!(rt;
-            completions[place].end,
-            stretch.ends[place],
-            "after {steps}"
-        );
-        assert_eq!(rt; pc_at(machine, place), stretch.pcs[place], "after {steps}");
+        assert_eq!(rt; completions[place].end, ends[place], "after {steps}");
+        assert_eq!(rt; pc_at(machine, place), pcs[place], "after {steps}");
     }
 }
 
@@ -197,8 +195,7 @@ fn pass(
 fn pass_all(rt: &impl Abort, machine: &mut Machine, code: &CodeMap) -> Result<(), Fail>
     requires { HasPlans code.now machine.old.state }
 {
-    let stretches = STRETCHES;
-    for stretch in &stretches {
+    for stretch in &STRETCHES {
         pass(rt, machine, code, stretch)?;
         assert_eq!(rt; machine.steps(), stretch.until);
     }

@@ -33,7 +33,7 @@ fn told(alloc: Global, text: &[u8]) -> Result<String, AllocError> {
 }
 
 // Texts, and what is told of them.
-const WHOLE: [(&str, &str); 16] = [
+static WHOLE: [(&str, &str); 16] = [
     ("", "not JSON"),
     ("{", "not JSON"),
     ("3", "- has a bad value"),
@@ -69,7 +69,7 @@ const WHOLE: [(&str, &str); 16] = [
 
 #[test]
 fn whole_texts(rt: HostRuntime) -> Result<(), Fail> {
-    for (text, want) in WHOLE {
+    for &(text, want) in &WHOLE {
         let got = told(rt.alloc(), text.as_bytes())?;
         assert_eq!(rt; got.as_str(), want, "at {text}");
     }
@@ -79,7 +79,7 @@ fn whole_texts(rt: HostRuntime) -> Result<(), Fail> {
 }
 
 // A part of the first text, what stands in its place, and what is told of the text.
-const FIRST_CHANGED: [(&str, &str, &str); 17] = [
+static FIRST_CHANGED: [(&str, &str, &str); 17] = [
     ("\"data\":3,", "\"data\":3,", "read"),
     ("\"data\":3,", "", "platform.data is missing"),
     (
@@ -120,7 +120,7 @@ const FIRST_CHANGED: [(&str, &str, &str); 17] = [
 ];
 
 // The same of the second text.
-const SECOND_CHANGED: [(&str, &str, &str); 35] = [
+static SECOND_CHANGED: [(&str, &str, &str); 35] = [
     ("\"data\":3,", "\"data\":3,", "read"),
     ("\"div\":0,", "", "platform.div is missing"),
     (
@@ -266,7 +266,7 @@ fn repeated(alloc: Global, text: &str, times: usize) -> Result<String, AllocErro
 }
 
 // A text, how often it has the task, and what is told of it.
-const TASKS: [(&str, usize, &str); 5] = [
+static TASKS: [(&str, usize, &str); 5] = [
     (FIRST, 0, "tasks has a bad value"),
     (FIRST, 16, "read"),
     (FIRST, 17, "tasks has a bad value"),
@@ -276,7 +276,7 @@ const TASKS: [(&str, usize, &str); 5] = [
 
 #[test]
 fn counts_of_tasks(rt: HostRuntime) -> Result<(), Fail> {
-    for (text, times, want) in TASKS {
+    for &(text, times, want) in &TASKS {
         let text = repeated(rt.alloc(), text, times)?;
         let got = told(rt.alloc(), text.as_bytes())?;
         assert_eq!(rt; got.as_str(), want, "at {times} tasks");
@@ -328,7 +328,7 @@ fn rewritten(alloc: Global, text: &str) -> Result<Option<Vec<u8>>, AllocError> {
 }
 
 // A part of the second text, and what stands in its place.
-const WRITTEN: [(&str, &str); 6] = [
+static WRITTEN: [(&str, &str); 6] = [
     ("\"cycle\"", "\"cycle\""),
     ("\"cycle\"", "\"instruction\""),
     (
@@ -342,7 +342,7 @@ const WRITTEN: [(&str, &str); 6] = [
 
 #[test]
 fn written_texts(rt: HostRuntime) -> Result<(), Fail> {
-    for (old, new) in WRITTEN {
+    for &(old, new) in &WRITTEN {
         let text = changed(rt.alloc(), SECOND, old, new)?;
         match rewritten(rt.alloc(), text.as_str())? {
             Some(bytes) => assert!(rt; bytes.as_slice() == text.as_bytes(), "at {new}"),

@@ -6,7 +6,7 @@ use std::alloc::{AllocError, Global};
 use std::test::Fail;
 
 // Two instructions at 0x1000: `addi x5,x0,1` and `ecall`.
-const ONE: [u8; 92] = [
+static ONE: [u8; 92] = [
     0x7f, 0x45, 0x4c, 0x46, 0x01, 0x01, 0x01, 0x00, 0x00, 0x00, 0x00, 0x00, 0x00, 0x00, 0x00, 0x00,
     0x02, 0x00, 0xf3, 0x00, 0x01, 0x00, 0x00, 0x00, 0x00, 0x10, 0x00, 0x00, 0x34, 0x00, 0x00, 0x00,
     0x00, 0x00, 0x00, 0x00, 0x00, 0x00, 0x00, 0x00, 0x34, 0x00, 0x20, 0x00, 0x01, 0x00, 0x00, 0x00,
@@ -89,7 +89,7 @@ fn cut_to_each_length(rt: HostRuntime) {
 }
 
 // A place, the word there, and the outcome.
-const FIELDS: [(usize, u32, Result<(), ElfError>); 28] = [
+static FIELDS: [(usize, u32, Result<(), ElfError>); 28] = [
     (0, 0x464c4500, Err(ElfError::NotElf)),
     (3, 0x01010147, Err(ElfError::NotElf)),
     (4, 0x00010102, Err(ElfError::NotElf32Little)),
@@ -122,7 +122,7 @@ const FIELDS: [(usize, u32, Result<(), ElfError>); 28] = [
 
 #[test]
 fn changed_fields(rt: HostRuntime) -> Result<(), Fail> {
-    for (place, word, want) in FIELDS {
+    for &(place, word, want) in &FIELDS {
         let bytes = with_word(rt.alloc(), &ONE, place, word)?;
         assert_eq!(rt; outcome(rt.alloc(), &bytes), want, "{word:x} at {place}");
     }
@@ -147,73 +147,73 @@ fn loading(alloc: Global, headers: &[Header]) -> Result<Vec<u8>, AllocError> {
 const CODE: Header = (1, 0x1000, 8, 8, 5);
 
 // The headers of a file, and the outcome.
-const SEGMENTS: [([Header; 3], Result<(), ElfError>); 13] = [
+static SEGMENTS: [(&[Header], Result<(), ElfError>); 13] = [
     // Adjacent segments share nothing, in whichever order they stand.
-    ([CODE, (1, 0x1008, 0, 8, 6), (1, 0xff8, 0, 8, 6)], Ok(())),
+    (&[CODE, (1, 0x1008, 0, 8, 6), (1, 0xff8, 0, 8, 6)], Ok(())),
     (
-        [CODE, (1, 0x1007, 0, 8, 6), (1, 0x1000, 0, 8, 6)],
+        &[CODE, (1, 0x1007, 0, 8, 6), (1, 0x1000, 0, 8, 6)],
         Err(ElfError::SegmentsOverlap(1)),
     ),
     // The first that shares an address with any earlier one, not with the one before it alone.
     (
-        [CODE, (1, 0x2000, 0, 8, 6), (1, 0xff9, 0, 8, 6)],
+        &[CODE, (1, 0x2000, 0, 8, 6), (1, 0xff9, 0, 8, 6)],
         Err(ElfError::SegmentsOverlap(2)),
     ),
     (
-        [(1, 0x1002, 0, 2, 6), (1, 0x1006, 0, 1, 6), CODE],
+        &[(1, 0x1002, 0, 2, 6), (1, 0x1006, 0, 1, 6), CODE],
         Err(ElfError::SegmentsOverlap(2)),
     ),
     (
-        [(1, 0, 0, 0xffffffff, 6), (4, 0x1000, 0, 8, 5), CODE],
+        &[(1, 0, 0, 0xffffffff, 6), (4, 0x1000, 0, 8, 5), CODE],
         Err(ElfError::SegmentsOverlap(2)),
     ),
     // No addresses are shared with none, and headers of other kinds load nothing.
-    ([CODE, (1, 0x1004, 0, 0, 6), (1, 0x1004, 0, 0, 6)], Ok(())),
+    (&[CODE, (1, 0x1004, 0, 0, 6), (1, 0x1004, 0, 0, 6)], Ok(())),
     (
-        [(0x70000003, 0x1000, 99, 8, 4), CODE, (6, 0x1000, 99, 1, 5)],
+        &[(0x70000003, 0x1000, 99, 8, 4), CODE, (6, 0x1000, 99, 1, 5)],
         Ok(()),
     ),
     (
-        [(0x70000003, 0, 99, 8, 4), CODE, (1, 0x2000, 99, 100, 5)],
+        &[(0x70000003, 0, 99, 8, 4), CODE, (1, 0x2000, 99, 100, 5)],
         Err(ElfError::SegmentOutside(2)),
     ),
     // All addresses up to 2^32.
     (
-        [CODE, (1, 0xfffffff8, 8, 8, 6), CODE],
+        &[CODE, (1, 0xfffffff8, 8, 8, 6), CODE],
         Err(ElfError::SegmentsOverlap(2)),
     ),
     (
-        [CODE, (1, 0xfffffff8, 8, 8, 6), (1, 0, 8, 0x1000, 6)],
+        &[CODE, (1, 0xfffffff8, 8, 8, 6), (1, 0, 8, 0x1000, 6)],
         Ok(()),
     ),
     // Which refusal comes first.
     (
-        [(1, 0x1000, 9, 8, 5), CODE, (3, 0, 0, 0, 0)],
+        &[(1, 0x1000, 9, 8, 5), CODE, (3, 0, 0, 0, 0)],
         Err(ElfError::NotStatic(2)),
     ),
     (
-        [CODE, CODE, (1, 0xffffffff, 0, 2, 0)],
+        &[CODE, CODE, (1, 0xffffffff, 0, 2, 0)],
         Err(ElfError::SegmentOutside(2)),
     ),
     (
-        [(1, 0, 0, 8, 5), (1, 4, 0, 8, 5), (1, 5, 0, 8, 5)],
+        &[(1, 0, 0, 8, 5), (1, 4, 0, 8, 5), (1, 5, 0, 8, 5)],
         Err(ElfError::SegmentsOverlap(1)),
     ),
 ];
 
 #[test]
 fn several_segments(rt: HostRuntime) -> Result<(), Fail> {
-    for (headers, want) in SEGMENTS {
-        let bytes = loading(rt.alloc(), &headers)?;
+    for &(headers, want) in &SEGMENTS {
+        let bytes = loading(rt.alloc(), headers)?;
         assert_eq!(rt; outcome(rt.alloc(), &bytes), want, "{headers:?}");
     }
     Ok(())
 }
 
-const STRINGS: [u8; 20] = *b"\0a.c\0main\0_end\0table";
+static STRINGS: [u8; 20] = *b"\0a.c\0main\0_end\0table";
 
 // Name, value, type and section of each symbol.
-const SYMBOLS: [(u32, u32, u8, u16); 14] = [
+static SYMBOLS: [(u32, u32, u8, u16); 14] = [
     (0, 0, 0, 0),
     (1, 0, 4, 0xfff1),
     (1, 0, 0x14, 1),
@@ -240,7 +240,7 @@ fn linked(alloc: Global, sections: &[[u32; 5]]) -> Result<Vec<u8>, AllocError> {
     let mut bytes = file(alloc, 1, 336, 3)?;
     bytes.extend_from_slice(&ONE[52..])?;
     bytes.extend_from_slice(&STRINGS)?;
-    for (name, value, info, section) in SYMBOLS {
+    for &(name, value, info, section) in &SYMBOLS {
         push_words(&mut bytes, &[name, value, 0])?;
         bytes.extend_from_slice(&[info, 0])?;
         push_half(&mut bytes, section)?;
@@ -272,7 +272,7 @@ fn symbol_count(alloc: Global, bytes: &[u8]) -> Result<usize, ElfError> {
 const OUTSIDE: Result<usize, ElfError> = Err(ElfError::SymbolsOutside);
 
 // The sections of symbols and of strings, and how many symbols there are.
-const SECTIONS: [([u32; 5], [u32; 5], Result<usize, ElfError>); 18] = [
+static SECTIONS: [([u32; 5], [u32; 5], Result<usize, ElfError>); 18] = [
     ([2, 112, 239, 2, 16], STRING_SECTION, Ok(4)),
     ([2, 112, 223, 2, 16], STRING_SECTION, Ok(3)),
     ([2, 112, 344, 2, 16], STRING_SECTION, Ok(4)),
@@ -295,7 +295,7 @@ const SECTIONS: [([u32; 5], [u32; 5], Result<usize, ElfError>); 18] = [
 
 #[test]
 fn changed_sections(rt: HostRuntime) -> Result<(), Fail> {
-    for (symbols, strings, want) in SECTIONS {
+    for &(symbols, strings, want) in &SECTIONS {
         let bytes = linked(rt.alloc(), &[[0; 5], symbols, strings])?;
         assert_eq!(rt;
             symbol_count(rt.alloc(), &bytes),
@@ -317,7 +317,7 @@ fn changed_sections(rt: HostRuntime) -> Result<(), Fail> {
 }
 
 // A place in the header, the word there, and how many symbols there are.
-const TABLE: [(usize, u32, Result<usize, ElfError>); 9] = [
+static TABLE: [(usize, u32, Result<usize, ElfError>); 9] = [
     (32, 0, Ok(0)),
     (32, 337, Err(ElfError::SymbolsOutside)),
     (32, 0xffffffff, Err(ElfError::SymbolsOutside)),
@@ -332,7 +332,7 @@ const TABLE: [(usize, u32, Result<usize, ElfError>); 9] = [
 #[test]
 fn changed_section_table(rt: HostRuntime) -> Result<(), Fail> {
     let good = linked(rt.alloc(), &[[0; 5], SYMBOL_SECTION, STRING_SECTION])?;
-    for (place, word, want) in TABLE {
+    for &(place, word, want) in &TABLE {
         let bytes = with_word(rt.alloc(), &good, place, word)?;
         assert_eq!(rt;
             symbol_count(rt.alloc(), &bytes),

@@ -6,7 +6,7 @@ use std::test::Fail;
 
 // The tasks with the lengths of their files, and the jobs, as a plain program of another language
 // makes them.
-const MADE: [(u32, &str); 4] = [
+static MADE: [(u32, &str); 4] = [
     (
         0,
         "\
@@ -178,7 +178,7 @@ t15 t15.elf 1600000 1600000 1000 1049332 16 1049332 1049412 172\n\
 ];
 
 // The file of task 4 of 1.
-const FILE: [u8; 192] = [
+static FILE: [u8; 192] = [
     0x7f, 0x45, 0x4c, 0x46, 0x01, 0x01, 0x01, 0x00, 0x00, 0x00, 0x00, 0x00, 0x00, 0x00, 0x00, 0x00,
     0x02, 0x00, 0xf3, 0x00, 0x01, 0x00, 0x00, 0x00, 0x10, 0x00, 0x05, 0x00, 0x34, 0x00, 0x00, 0x00,
     0x00, 0x00, 0x00, 0x00, 0x00, 0x00, 0x00, 0x00, 0x34, 0x00, 0x20, 0x00, 0x01, 0x00, 0x00, 0x00,
@@ -234,7 +234,7 @@ fn told(alloc: Global, made: &Generated) -> Result<String, AllocError> {
 
 #[test]
 fn tasks_and_jobs(rt: HostRuntime) -> Result<(), Fail> {
-    for (n, expected) in MADE {
+    for &(n, expected) in &MADE {
         let made = generate(rt.alloc(), n).expect(&rt, "there is memory");
         assert_eq!(rt; made.script.cycles, 500_000);
         assert!(rt; made.script.cache.is_empty());

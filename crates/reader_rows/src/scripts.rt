@@ -29,7 +29,7 @@ fn told(alloc: Global, text: &[u8]) -> Result<String, Fail> {
 }
 
 // Texts, and what is told of them.
-const KEYS: [(&str, &str); 23] = [
+static KEYS: [(&str, &str); 23] = [
     ("cycles = 1", "read"),
     ("", "cycles is missing"),
     ("cycle = 1", "cycle is no key"),
@@ -78,7 +78,7 @@ const KEYS: [(&str, &str); 23] = [
 
 #[test]
 fn keys_and_ranges(rt: HostRuntime) -> Result<(), Fail> {
-    for (text, want) in KEYS {
+    for &(text, want) in &KEYS {
         let got = told(rt.alloc(), text.as_bytes())?;
         assert_eq!(rt; got.as_str(), want, "at {text}");
     }
@@ -131,7 +131,7 @@ fn is_legal(alloc: Global, jobs: &[(&str, u64, u64)]) -> Result<bool, Fail> {
 }
 
 // Jobs by task, arrival and release, and whether their script is legal.
-const LEGAL: [(&[(&str, u64, u64)], bool); 10] = [
+static LEGAL: [(&[(&str, u64, u64)], bool); 10] = [
     (&[], true),
     (&[("low", 0, 0), ("low", 100, 100)], true),
     (&[("low", 0, 0), ("low", 99, 99)], false),
@@ -146,7 +146,7 @@ const LEGAL: [(&[(&str, u64, u64)], bool); 10] = [
 
 #[test]
 fn legality(rt: HostRuntime) -> Result<(), Fail> {
-    for (jobs, want) in LEGAL {
+    for &(jobs, want) in &LEGAL {
         assert_eq!(rt; is_legal(rt.alloc(), jobs)?, want);
     }
     Ok(())

@@ -4,7 +4,7 @@ use set_reader::read_set;
 use std::alloc::{AllocError, Global};
 use std::test::Fail;
 
-const LINES: [&str; 18] = [
+static LINES: [&str; 18] = [
     "[platform]",
     "line = 16",
     "sets = 4",
@@ -48,7 +48,7 @@ fn told(alloc: Global, text: &[u8]) -> Result<String, AllocError> {
 }
 
 // A line, what stands in its place, and what is told of the text.
-const KEYS: [(&str, &str, &str); 30] = [
+static KEYS: [(&str, &str, &str); 30] = [
     ("", "", "read"),
     (
         "jitter = 0",
@@ -126,7 +126,7 @@ const KEYS: [(&str, &str, &str); 30] = [
 ];
 
 // The same of names, files, places and loops.
-const PLACES: [(&str, &str, &str); 32] = [
+static PLACES: [(&str, &str, &str); 32] = [
     (
         "name = \"one\"",
         "name = \"\"",
@@ -277,7 +277,7 @@ const LATE: &str =
     "[[task]]\nname = \"one\"\nfile = \"one.elf\"\nperiod = 100\ndeadline = 101\njitter = 0\n";
 
 // Pieces with how often each stands, and what is told of the text of them.
-const COUNTS: [(&[(&str, usize)], &str); 12] = [
+static COUNTS: [(&[(&str, usize)], &str); 12] = [
     (
         &[(PLATFORM, 1), (TASK, 2)],
         "task.1.name is the name of an earlier task",
@@ -328,7 +328,7 @@ fn text_of(alloc: Global, pieces: &[(&str, usize)]) -> Result<String, AllocError
 #[test]
 fn order_and_counts(rt: HostRuntime) -> Result<(), Fail> {
     let alloc = rt.alloc();
-    for (pieces, want) in COUNTS {
+    for &(pieces, want) in &COUNTS {
         let text = text_of(alloc, pieces)?;
         assert_eq!(rt; told(alloc, text.as_bytes())?.as_str(), want);
     }
