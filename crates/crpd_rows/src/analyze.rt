@@ -1,6 +1,6 @@
 // The command `analyze`, on worked examples, and `check` of what it wrote.
-use crpd_io::{MemFiles, MemSink};
-use crpd_tool::{Status, run};
+use crate::command::{Held, NEVER, Outside, WHOLE, outcome, push_file, push_program};
+use crpd_tool::Status;
 use fixtures::{BACK, LINES, LOOP, NESTED, TWO_WORDS, file_of};
 use std::alloc::{AllocError, Global};
 use std::process::Abort;
@@ -40,7 +40,7 @@ pub(crate) const PLAIN: &str = "period = 100\ndeadline = 100\njitter = 0\n";
 
 pub(crate) const LONG: &str = "period = 10000\ndeadline = 10000\njitter = 0\n";
 
-const CASES: [Case; 9] = [
+static CASES: [Case; 9] = [
     Case {
         cache_sets: 4,
         platform: "",
@@ -223,48 +223,52 @@ pub(crate) fn files_with(
     miss: u32,
     switch: u32,
     certificate: &[u8],
-) -> Result<Vec<(String, Vec<u8>)>, AllocError> {
+) -> Result<Held, AllocError> {
     let mut files = Vec::new(alloc);
     let set = set_text(alloc, case, miss, switch)?;
-    files.push((String::from_str(alloc, "set.toml")?, set.into_bytes()))?;
+    push_file(alloc, &mut files, "set.toml", set.into_bytes())?;
     for program in case.programs {
-        let name = program.name;
-        let file = format!(in alloc; "{name}.elf")?;
-        files.push((file, file_of(alloc, program.start, program.words)?))?;
+        let bytes = file_of(alloc, program.start, program.words)?;
+        push_program(alloc, &mut files, program.name, bytes)?;
     }
-    let stated = certificate.to_vec(alloc)?;
-    files.push((String::from_str(alloc, "cert.json")?, stated))?;
+    push_file(alloc, &mut files, "cert.json", certificate.to_vec(alloc)?)?;
     Ok(files)
 }
 
 // The same with a reload of 10 cycles and a switch of 5.
-fn files_of(
-    alloc: Global,
-    case: &Case,
-    certificate: &[u8],
-) -> Result<Vec<(String, Vec<u8>)>, AllocError> {
+fn files_of(alloc: Global, case: &Case, certificate: &[u8]) -> Result<Held, AllocError> {
     files_with(alloc, case, 10, 5, certificate)
 }
-
-pub(crate) const NEVER: u64 = u64::MAX;
 
 // How words end over files of which a call fails, and what they write.
 pub(crate) fn ends(
     alloc: Global,
     words: &[&str],
-    files: Vec<(String, Vec<u8>)>,
-    failing: u64,
+    files: Held,
+    failing_file: u64,
 ) -> Result<(Status, Vec<u8>), Fail> {
-    let mut list = Vec::new(alloc);
-    for word in words {
-        list.push(String::from_str(alloc, word)?)?;
-    }
-    let mut files = MemFiles::new(files, [failing].to_vec(alloc)?);
-    let Ok(mut out) = MemSink::new(alloc, 10000, 700, Vec::new(alloc)) else {
-        return Err(Fail::from("no memory"));
+    let outside = Outside {
+        room: 10_000,
+        taken: 700,
+        failing_file,
+        ..WHOLE
     };
-    let found = run(alloc, list.as_slice(), &mut files, &mut out);
-    Ok((found, out.written().to_vec(alloc)?))
+    outcome(alloc, words, files, &outside)
+}
+
+// What a command ends with over the files of a case, of which a call fails.
+pub(crate) fn command_ends(
+    rt: &impl Abort,
+    alloc: Global,
+    words: &[&str],
+    files: Held,
+    failing_file: u64,
+    want: (Status, &str),
+) -> Result<Vec<u8>, Fail> {
+    let (status, written) = ends(alloc, words, files, failing_file)?;
+    assert_eq!(rt; written.as_slice(), want.1.as_bytes());
+    assert_eq!(rt; status, want.0);
+    Ok(written)
 }
 
 // Makes the certificate of a case by a command, and checks what this wrote.
@@ -274,15 +278,20 @@ pub(crate) fn make_then_check(
     command: &str,
     case: &Case,
 ) -> Result<(), Fail> {
+    let words = [command, "set.toml"];
     let files = files_of(alloc, case, b"")?;
-    let (status, written) = ends(alloc, &[command, "set.toml"], files, NEVER)?;
-    assert_eq!(rt; written.as_slice(), case.text.as_bytes());
-    assert_eq!(rt; status, case.status);
-    if status == Status::Done {
-        let files = files_of(alloc, case, &written)?;
-        let (status, text) = ends(alloc, &["check", "set.toml", "cert.json"], files, NEVER)?;
-        assert_eq!(rt; text.as_slice(), case.checked.as_bytes());
-        assert_eq!(rt; status, Status::Done);
+    let made = command_ends(rt, alloc, &words, files, NEVER, (case.status, case.text))?;
+    if case.status == Status::Done {
+        let words = ["check", "set.toml", "cert.json"];
+        let files = files_of(alloc, case, &made)?;
+        command_ends(
+            rt,
+            alloc,
+            &words,
+            files,
+            NEVER,
+            (Status::Done, case.checked),
+        )?;
     }
     Ok(())
 }
@@ -319,9 +328,8 @@ static OTHER_ENDS: [(&[&str], u64, Status, &str); 4] = [
 fn other_ends(rt: HostRuntime) -> Result<(), Fail> {
     let alloc = rt.alloc();
     for &(words, failing, status, text) in &OTHER_ENDS {
-        let (found, written) = ends(alloc, words, files_of(alloc, &CASES[0], b"")?, failing)?;
-        assert_eq!(rt; written.as_slice(), text.as_bytes());
-        assert_eq!(rt; found, status);
+        let files = files_of(alloc, &CASES[0], b"")?;
+        command_ends(&rt, alloc, words, files, failing, (status, text))?;
     }
     Ok(())
 }

@@ -1,5 +1,6 @@
 // The command `classic`, on worked examples, and `check` of what it wrote.
-use crate::analyze::{Case, LONG, NEVER, Program, ends, files_with, make_then_check};
+use crate::analyze::{Case, LONG, Program, command_ends, ends, files_with, make_then_check};
+use crate::command::NEVER;
 use crpd_tool::Status;
 use fixtures::{BACK, LINES, NESTED, TWO_WORDS};
 use std::test::Fail;
@@ -8,7 +9,7 @@ const OFTEN: &str = "period = 120\ndeadline = 120\njitter = 0\n";
 
 // Two jobs of the highest task reload the sets of the middle one, which this can be made to do once
 // alone.
-const CASES: [Case; 3] = [
+static CASES: [Case; 3] = [
     Case {
         cache_sets: 8,
         platform: "",
@@ -98,9 +99,9 @@ fn analysed_where_plain_delays_are_too_long(rt: HostRuntime) -> Result<(), Fail>
     let (status, written) = ends(alloc, &["analyze", "set.toml"], files, NEVER)?;
     assert_eq!(rt; status, Status::Done);
     let files = files_with(alloc, &CASES[1], 10, 5, &written)?;
-    let (status, text) = ends(alloc, &["check", "set.toml", "cert.json"], files, NEVER)?;
-    assert_eq!(rt; text.as_slice(), WITH_ANALYSIS.as_bytes());
-    assert_eq!(rt; status, Status::Done);
+    let words = ["check", "set.toml", "cert.json"];
+    let want = (Status::Done, WITH_ANALYSIS);
+    command_ends(&rt, alloc, &words, files, NEVER, want)?;
     Ok(())
 }
 
@@ -122,9 +123,7 @@ fn other_ends(rt: HostRuntime) -> Result<(), Fail> {
     let alloc = rt.alloc();
     for &(words, failing, status, text) in &OTHER_ENDS {
         let files = files_with(alloc, &CASES[0], 10, 5, b"")?;
-        let (found, written) = ends(alloc, words, files, failing)?;
-        assert_eq!(rt; written.as_slice(), text.as_bytes());
-        assert_eq!(rt; found, status);
+        command_ends(&rt, alloc, words, files, failing, (status, text))?;
     }
     Ok(())
 }

@@ -1,8 +1,8 @@
 // The command `explain`: a certificate and a script in, the reloads of the script's run and the
 // certificate's delays out.
-use crate::simulate::{Held, Job, NEVER};
-use crpd_io::{MemFiles, MemSink};
-use crpd_tool::{Status, run};
+use crate::command::{Held, NEVER, Outside, WHOLE, ends, push_file, push_program};
+use crate::simulate::Job;
+use crpd_tool::Status;
 use fixtures::{BACK, LINES, LOOP, TWO_WORDS, file_of};
 use std::alloc::{AllocError, Global};
 use std::process::Abort;
@@ -236,7 +236,7 @@ const QUICK_TURNS_TOO_OFTEN: Case = Case {
     ..QUICK_TURNS
 };
 
-const CASES: [Case; 11] = [
+static CASES: [Case; 11] = [
     PAIRED,
     Case {
         parts: &ALL_PARTS,
@@ -324,67 +324,69 @@ fn script_text(alloc: Global, case: &Case) -> Result<String, AllocError> {
     Ok(text)
 }
 
-// The files of a case with this certificate and this script; one without bytes is not there.
-fn files_of(
-    alloc: Global,
-    case: &Case,
-    certificate: Vec<u8>,
-    script: Vec<u8>,
-) -> Result<Held, AllocError> {
+// What a file holds beside a set and its programs.
+#[derive(Clone, Copy)]
+enum Content {
+    // There is no such file.
+    Missing,
+    Bytes(&'static [u8]),
+    Certificate(&'static Case),
+    Script(&'static Case),
+}
+
+fn bytes_of(alloc: Global, content: Content) -> Result<Vec<u8>, AllocError> {
+    match content {
+        Content::Missing => Ok(Vec::new(alloc)),
+        Content::Bytes(bytes) => bytes.to_vec(alloc),
+        Content::Certificate(case) => Ok(certificate_text(alloc, case)?.into_bytes()),
+        Content::Script(case) => Ok(script_text(alloc, case)?.into_bytes()),
+    }
+}
+
+fn push(alloc: Global, files: &mut Held, name: &str, content: Content) -> Result<(), AllocError> {
+    if matches!(&content, Content::Missing) {
+        return Ok(());
+    }
+    push_file(alloc, files, name, bytes_of(alloc, content)?)
+}
+
+// The set and the programs of a case.
+fn files_of(alloc: Global, case: &Case) -> Result<Held, AllocError> {
     let mut files = Vec::new(alloc);
     let set = set_text(alloc, case)?;
-    files.push((String::from_str(alloc, "set.toml")?, set.into_bytes()))?;
+    push_file(alloc, &mut files, "set.toml", set.into_bytes())?;
     for (name, start, words, _keys) in case.programs {
-        let file = format!(in alloc; "{name}.elf")?;
-        files.push((file, file_of(alloc, *start, words)?))?;
-    }
-    for (name, bytes) in [("cert.json", certificate), ("script.toml", script)] {
-        if bytes.len() > 0 {
-            files.push((String::from_str(alloc, name)?, bytes))?;
-        }
+        push_program(alloc, &mut files, name, file_of(alloc, *start, words)?)?;
     }
     Ok(files)
 }
 
-fn whole_files(alloc: Global, case: &Case) -> Result<Held, AllocError> {
-    let certificate = certificate_text(alloc, case)?.into_bytes();
-    files_of(
-        alloc,
-        case,
-        certificate,
-        script_text(alloc, case)?.into_bytes(),
-    )
-}
+// Files are read and an output is written in pieces.
+const PIECES: Outside = Outside { read: 64, ..WHOLE };
 
-// What `explain` ends with over files of which a call fails, read and written in pieces.
-fn ends(
+// What `explain` ends with over the set and the programs of a case, a certificate and a script.
+fn explain_ends(
     rt: &impl Abort,
     alloc: Global,
-    files: Held,
-    failing: (u64, u64),
-    ended: (Status, &str),
+    case: &Case,
+    contents: (Content, Content),
+    outside: &Outside,
+    want: (Status, &str),
 ) -> Result<(), Fail> {
-    let mut words = Vec::new(alloc);
-    for word in ["explain", "set.toml", "cert.json", "script.toml"] {
-        words.push(String::from_str(alloc, word)?)?;
-    }
-    let mut files = MemFiles::with_most(files, [failing.0].to_vec(alloc)?, 64);
-    let Ok(mut out) = MemSink::new(alloc, 1000, 7, [failing.1].to_vec(alloc)?) else {
-        return Err(Fail::from("no memory"));
-    };
-    let (status, text) = ended;
-    let found = run(alloc, words.as_slice(), &mut files, &mut out);
-    assert_eq!(rt; out.written(), text.as_bytes());
-    assert_eq!(rt; found, status);
-    Ok(())
+    let mut files = files_of(alloc, case)?;
+    let (certificate, script) = contents;
+    push(alloc, &mut files, "cert.json", certificate)?;
+    push(alloc, &mut files, "script.toml", script)?;
+    let words = ["explain", "set.toml", "cert.json", "script.toml"];
+    ends(rt, alloc, &words, files, outside, want)
 }
 
 #[test]
 fn accounts(rt: HostRuntime) -> Result<(), Fail> {
-    let alloc = rt.alloc();
     for case in &CASES {
-        let files = whole_files(alloc, case)?;
-        ends(&rt, alloc, files, (NEVER, NEVER), (Status::Done, case.text))?;
+        let contents = (Content::Certificate(case), Content::Script(case));
+        let want = (Status::Done, case.text);
+        explain_ends(&rt, rt.alloc(), case, contents, &PIECES, want)?;
     }
     Ok(())
 }
@@ -397,51 +399,56 @@ const TOO_SHORT: Case = Case {
 
 const NO: &str = "no low clause 8 place 0\n";
 
+const GOOD: Content = Content::Certificate(&PAIRED);
+
+const SHORTER: Content = Content::Certificate(&TOO_SHORT);
+
+const SCRIPT: Content = Content::Script(&PAIRED);
+
+const BAD: Content = Content::Bytes(b"cycles = 1\n[[job]]\ntask = \"one\"");
+
+// A certificate and a script, and what `explain` ends with.
+static REFUSALS: [((Content, Content), Status, &str); 6] = [
+    ((SHORTER, SCRIPT), Status::No, NO),
+    (
+        (SHORTER, BAD),
+        Status::Refused,
+        "refused 33 UnknownTask script.toml job.0.task\n",
+    ),
+    (
+        (SHORTER, Content::Missing),
+        Status::Refused,
+        "refused 80 NoFile script.toml -\n",
+    ),
+    (
+        (Content::Missing, SCRIPT),
+        Status::Refused,
+        "refused 80 NoFile cert.json -\n",
+    ),
+    (
+        (Content::Bytes(b"{}"), BAD),
+        Status::Refused,
+        "refused 71 Missing cert.json version\n",
+    ),
+    (
+        (GOOD, BAD),
+        Status::Refused,
+        "refused 33 UnknownTask script.toml job.0.task\n",
+    ),
+];
+
 // The certificate comes before the script, and the script before the verdict.
 #[test]
 fn refusals(rt: HostRuntime) -> Result<(), Fail> {
-    let alloc = rt.alloc();
-    let good = certificate_text(alloc, &PAIRED)?.into_bytes();
-    let short = certificate_text(alloc, &TOO_SHORT)?.into_bytes();
-    let script = script_text(alloc, &PAIRED)?.into_bytes();
-    let bad = b"cycles = 1\n[[job]]\ntask = \"one\"".to_vec(alloc)?;
-    let none = Vec::new(alloc);
-    let cases = [
-        (short.clone()?, script.clone()?, Status::No, NO),
-        (
-            short.clone()?,
-            bad.clone()?,
-            Status::Refused,
-            "refused 33 UnknownTask script.toml job.0.task\n",
-        ),
-        (
-            short,
-            none.clone()?,
-            Status::Refused,
-            "refused 80 NoFile script.toml -\n",
-        ),
-        (
-            none,
-            script,
-            Status::Refused,
-            "refused 80 NoFile cert.json -\n",
-        ),
-        (
-            b"{}".to_vec(alloc)?,
-            bad.clone()?,
-            Status::Refused,
-            "refused 71 Missing cert.json version\n",
-        ),
-        (
-            good,
-            bad,
-            Status::Refused,
-            "refused 33 UnknownTask script.toml job.0.task\n",
-        ),
-    ];
-    for (certificate, script, status, text) in cases {
-        let files = files_of(alloc, &PAIRED, certificate, script)?;
-        ends(&rt, alloc, files, (NEVER, NEVER), (status, text))?;
+    for &(contents, status, text) in &REFUSALS {
+        explain_ends(
+            &rt,
+            rt.alloc(),
+            &CASES[0],
+            contents,
+            &PIECES,
+            (status, text),
+        )?;
     }
     Ok(())
 }
@@ -458,10 +465,14 @@ static FAULTS: [((u64, u64), Status, &str); 5] = [
 // A call that fails comes before any text, and ends it where it is one of the sink's.
 #[test]
 fn faults(rt: HostRuntime) -> Result<(), Fail> {
-    let alloc = rt.alloc();
     for &(failing, status, text) in &FAULTS {
-        let files = whole_files(alloc, &PAIRED)?;
-        ends(&rt, alloc, files, failing, (status, text))?;
+        let outside = Outside {
+            failing_file: failing.0,
+            failing_output: failing.1,
+            ..PIECES
+        };
+        let want = (status, text);
+        explain_ends(&rt, rt.alloc(), &CASES[0], (GOOD, SCRIPT), &outside, want)?;
     }
     Ok(())
 }

@@ -1,13 +1,13 @@
 // The command `generate`, on numbers and on other words. No call of the files is made: the first
 // one would fail.
-use crpd_io::{MemFiles, MemSink};
-use crpd_tool::{Status, run};
+use crate::command::{Outside, WHOLE, ends};
+use crpd_tool::Status;
 use std::alloc::Global;
 use std::process::Abort;
 use std::test::Fail;
 
 // A number, and the whole text of its made input.
-const NUMBERS: [(&str, &str); 5] = [
+static NUMBERS: [(&str, &str); 5] = [
     (
         "0",
         "generated 0 tasks 16 nodes 573\n\
@@ -126,7 +126,7 @@ const NUMBERS: [(&str, &str); 5] = [
 ];
 
 // Words that are no number below 2^31 in its own digits.
-const NO_NUMBERS: [&str; 12] = [
+static NO_NUMBERS: [&str; 12] = [
     "2147483648",
     "4294967296",
     "9999999999",
@@ -141,27 +141,27 @@ const NO_NUMBERS: [&str; 12] = [
     "1 ",
 ];
 
-// What words end with, over files whose first call fails.
-fn ends(rt: &impl Abort, alloc: Global, words: &[&str], ended: (Status, &str)) -> Result<(), Fail> {
-    let mut list = Vec::new(alloc);
-    for word in words {
-        list.push(String::from_str(alloc, word)?)?;
-    }
-    let mut files = MemFiles::new(Vec::new(alloc), [0].to_vec(alloc)?);
-    let Ok(mut out) = MemSink::new(alloc, 2000, 7, Vec::new(alloc)) else {
-        return Err(Fail::from("no memory"));
-    };
-    let (status, text) = ended;
-    let found = run(alloc, list.as_slice(), &mut files, &mut out);
-    assert_eq!(rt; out.written(), text.as_bytes());
-    assert_eq!(rt; found, status);
-    Ok(())
+// Files whose first call fails.
+const UNREAD: Outside = Outside {
+    failing_file: 0,
+    room: 2000,
+    ..WHOLE
+};
+
+// What words end with over such files.
+fn unread_end(
+    rt: &impl Abort,
+    alloc: Global,
+    words: &[&str],
+    want: (Status, &str),
+) -> Result<(), Fail> {
+    ends(rt, alloc, words, Vec::new(alloc), &UNREAD, want)
 }
 
 #[test]
 fn made_inputs(rt: HostRuntime) -> Result<(), Fail> {
     for (number, text) in &NUMBERS {
-        ends(&rt, rt.alloc(), &["generate", number], (Status::Done, text))?;
+        unread_end(&rt, rt.alloc(), &["generate", number], (Status::Done, text))?;
     }
     Ok(())
 }
@@ -170,9 +170,8 @@ fn made_inputs(rt: HostRuntime) -> Result<(), Fail> {
 fn other_words(rt: HostRuntime) -> Result<(), Fail> {
     let bad = (Status::BadWords, "bad words\n");
     for word in &NO_NUMBERS {
-        ends(&rt, rt.alloc(), &["generate", word], bad)?;
+        unread_end(&rt, rt.alloc(), &["generate", word], bad)?;
     }
-    ends(&rt, rt.alloc(), &["generate"], bad)?;
-    ends(&rt, rt.alloc(), &["generate", "1", "2"], bad)?;
-    Ok(())
+    unread_end(&rt, rt.alloc(), &["generate"], bad)?;
+    unread_end(&rt, rt.alloc(), &["generate", "1", "2"], bad)
 }

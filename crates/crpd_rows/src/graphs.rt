@@ -1,10 +1,23 @@
 // The command `check` at the graphs and the loops of its tasks, on worked examples.
-use crate::list::{File, NEVER, TIMES, Task, ends, set_of};
+use crate::command::{Held, ends, push_file};
+use crate::list::{LARGE, ONE_TASK, TIMES, Task, set_of};
 use crpd_tool::Status;
 use fixtures::{ECALL, LOOP, NEXT, RET, file_of};
 use std::alloc::{AllocError, Global};
 use std::process::Abort;
 use std::test::Fail;
+
+static CHECK: [&str; 3] = ["check", "set.toml", "cert.json"];
+
+// The set of one task with these stated loops, and its file with these words.
+fn one_file(alloc: Global, words: &[u32], loops: &str) -> Result<Held, AllocError> {
+    let mut set = set_of(alloc, &ONE_TASK)?;
+    set.extend_from_slice(loops.as_bytes())?;
+    let mut files = Vec::new(alloc);
+    push_file(alloc, &mut files, "set.toml", set)?;
+    push_file(alloc, &mut files, "one.elf", file_of(alloc, 0x1000, words)?)?;
+    Ok(files)
+}
 
 // `check` of one task with these words and these stated loops, without a certificate.
 fn one_ends(
@@ -14,14 +27,8 @@ fn one_ends(
     loops: &str,
     text: &str,
 ) -> Result<(), Fail> {
-    let table = set_of(alloc, &[("one", "one.elf", TIMES)])?;
-    let mut set = table;
-    set.extend_from_slice(loops.as_bytes())?;
-    let mut files: Vec<File> = Vec::new(alloc);
-    files.push(("set.toml", set))?;
-    files.push(("one.elf", file_of(alloc, 0x1000, words)?))?;
-    let words = ["check", "set.toml", "cert.json"];
-    ends(rt, alloc, &words, files, NEVER, (Status::Refused, text))
+    let files = one_file(alloc, words, loops)?;
+    ends(rt, alloc, &CHECK, files, &LARGE, (Status::Refused, text))
 }
 
 // Words, and what `check` ends with.
@@ -139,19 +146,36 @@ static FIRST_REFUSED: [(&[Task], &str); 4] = [
     ),
 ];
 
+// The files of those tasks: where each begins, and its words.
+static PROGRAMS: [(&str, u32, &[u32]); 4] = [
+    ("turn.elf", 0x1000, &LOOP),
+    ("one.elf", 0x1000, &[LOOP[0], LOOP[1]]),
+    ("ends.elf", 0x1010, &[0x0010_0073, ECALL]),
+    ("past.elf", 0x1018, &[NEXT]),
+];
+
+fn four_files(alloc: Global, tasks: &[Task]) -> Result<Held, AllocError> {
+    let mut files = Vec::new(alloc);
+    push_file(alloc, &mut files, "set.toml", set_of(alloc, tasks)?)?;
+    for (name, start, words) in &PROGRAMS {
+        push_file(alloc, &mut files, name, file_of(alloc, *start, words)?)?;
+    }
+    Ok(files)
+}
+
 // The graphs of all tasks come before the loops of all tasks, each by task.
 #[test]
 fn graphs_before_loops(rt: HostRuntime) -> Result<(), Fail> {
-    let alloc = rt.alloc();
     for &(tasks, text) in &FIRST_REFUSED {
-        let mut files: Vec<File> = Vec::new(alloc);
-        files.push(("set.toml", set_of(alloc, tasks)?))?;
-        files.push(("turn.elf", file_of(alloc, 0x1000, &LOOP)?))?;
-        files.push(("one.elf", file_of(alloc, 0x1000, &LOOP[..2])?))?;
-        files.push(("ends.elf", file_of(alloc, 0x1010, &[0x0010_0073, ECALL])?))?;
-        files.push(("past.elf", file_of(alloc, 0x1018, &[NEXT])?))?;
-        let words = ["check", "set.toml", "cert.json"];
-        ends(&rt, alloc, &words, files, NEVER, (Status::Refused, text))?;
+        let files = four_files(rt.alloc(), tasks)?;
+        ends(
+            &rt,
+            rt.alloc(),
+            &CHECK,
+            files,
+            &LARGE,
+            (Status::Refused, text),
+        )?;
     }
     Ok(())
 }
@@ -178,14 +202,14 @@ static JUDGED: [(u64, Status, &str); 2] = [
 fn a_loop_judged(rt: HostRuntime) -> Result<(), Fail> {
     let alloc = rt.alloc();
     for &(potential, status, text) in &JUDGED {
-        let mut set = set_of(alloc, &[("one", "one.elf", TIMES)])?;
-        set.extend_from_slice(STATED.as_bytes())?;
-        let mut files: Vec<File> = Vec::new(alloc);
-        files.push(("set.toml", set))?;
-        files.push(("one.elf", file_of(alloc, 0x1000, &LOOP)?))?;
-        files.push(("cert.json", certificate_of(alloc, potential)?))?;
-        let words = ["check", "set.toml", "cert.json"];
-        ends(&rt, alloc, &words, files, NEVER, (status, text))?;
+        let mut files = one_file(alloc, &LOOP, STATED)?;
+        push_file(
+            alloc,
+            &mut files,
+            "cert.json",
+            certificate_of(alloc, potential)?,
+        )?;
+        ends(&rt, alloc, &CHECK, files, &LARGE, (status, text))?;
     }
     Ok(())
 }

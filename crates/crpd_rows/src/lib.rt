@@ -9,6 +9,8 @@ mod check;
 #[cfg(test)]
 mod classic;
 #[cfg(test)]
+mod command;
+#[cfg(test)]
 mod explain;
 #[cfg(test)]
 mod generate;

@@ -1,6 +1,6 @@
 // The command `list`, on worked examples.
-use crpd_io::{MemFiles, MemSink};
-use crpd_tool::{Status, run};
+use crate::command::{Held, Outside, WHOLE, ends, push_file};
+use crpd_tool::Status;
 use fixtures::{TWO_WORDS, file_of, push_words};
 use std::alloc::{AllocError, Global};
 use std::process::Abort;
@@ -54,58 +54,30 @@ fn straddling(alloc: Global) -> Result<Vec<u8>, AllocError> {
     Ok(bytes)
 }
 
-pub(crate) type File = (&'static str, Vec<u8>);
-
-// What words end with over files of which a call fails, with a sink of which none does.
-pub(crate) fn ends(
-    rt: &impl Abort,
-    alloc: Global,
-    words: &[&str],
-    files: Vec<File>,
-    failing: u64,
-    ended: (Status, &str),
-) -> Result<(), Fail> {
-    let mut list = Vec::new(alloc);
-    for word in words {
-        list.push(String::from_str(alloc, word)?)?;
-    }
-    let mut held = Vec::new(alloc);
-    for (name, bytes) in files {
-        held.push((String::from_str(alloc, name)?, bytes))?;
-    }
-    let mut files = MemFiles::new(held, [failing].to_vec(alloc)?);
-    let Ok(mut out) = MemSink::new(alloc, 200_000, 1000, Vec::new(alloc)) else {
-        return Err(Fail::from("no memory"));
-    };
-    let (status, text) = ended;
-    let found = run(alloc, list.as_slice(), &mut files, &mut out);
-    assert_eq!(rt; out.written(), text.as_bytes());
-    assert_eq!(rt; found, status);
-    Ok(())
-}
-
-pub(crate) const NEVER: u64 = u64::MAX;
+// Whole files, and an output that takes much at once.
+pub(crate) const LARGE: Outside = Outside {
+    room: 200_000,
+    taken: 1000,
+    ..WHOLE
+};
 
 const TWO_WORDS_TEXT: &str = "00001000 00100293 addi x5,x0,1\n00001004 00000073 ecall\n";
 
-// `list` of the task `one` alone, over its file.
+// The task `one`.
+pub(crate) static ONE_TASK: [Task; 1] = [("one", "one.elf", TIMES)];
+
+// `list` of that task alone, over its file.
 fn one_ends(rt: &impl Abort, alloc: Global, file: Vec<u8>, text: &str) -> Result<(), Fail> {
-    let mut files: Vec<File> = Vec::new(alloc);
-    files.push(("set.toml", set_of(alloc, &[("one", "one.elf", TIMES)])?))?;
-    files.push(("one.elf", file))?;
+    let mut files = Vec::new(alloc);
+    push_file(alloc, &mut files, "set.toml", set_of(alloc, &ONE_TASK)?)?;
+    push_file(alloc, &mut files, "one.elf", file)?;
     let status = if text == TWO_WORDS_TEXT {
         Status::Done
     } else {
         Status::Refused
     };
-    ends(
-        rt,
-        alloc,
-        &["list", "set.toml", "one"],
-        files,
-        NEVER,
-        (status, text),
-    )
+    let words = ["list", "set.toml", "one"];
+    ends(rt, alloc, &words, files, &LARGE, (status, text))
 }
 
 // The two words, cut to each length.
@@ -218,34 +190,42 @@ static REFUSALS: [(&[Task], &str, &str); 11] = [
     ),
 ];
 
+// The set of these tasks, and files of which the last has another first word.
+fn four_files(alloc: Global, tasks: &[Task]) -> Result<Held, AllocError> {
+    let mut files = Vec::new(alloc);
+    push_file(alloc, &mut files, "set.toml", set_of(alloc, tasks)?)?;
+    push_file(alloc, &mut files, "one.elf", program_with(alloc, &[])?)?;
+    push_file(alloc, &mut files, "copy.elf", program_with(alloc, &[])?)?;
+    let other = program_with(alloc, &[(21, 0x0030_0293)])?;
+    push_file(alloc, &mut files, "two.elf", other)?;
+    Ok(files)
+}
+
 // The keys of the set, the tasks' names, and the order of refusals: the set, the task, the files by
 // task, the code.
 #[test]
 fn refusals_in_order(rt: HostRuntime) -> Result<(), Fail> {
     let alloc = rt.alloc();
     for &(tasks, name, text) in &REFUSALS {
-        let mut files: Vec<File> = Vec::new(alloc);
-        files.push(("set.toml", set_of(alloc, tasks)?))?;
-        files.push(("one.elf", program_with(alloc, &[])?))?;
-        files.push(("copy.elf", program_with(alloc, &[])?))?;
-        files.push(("two.elf", program_with(alloc, &[(21, 0x0030_0293)])?))?;
+        let files = four_files(alloc, tasks)?;
         let words = ["list", "set.toml", name];
-        ends(&rt, alloc, &words, files, NEVER, (Status::Refused, text))?;
+        ends(&rt, alloc, &words, files, &LARGE, (Status::Refused, text))?;
     }
     Ok(())
 }
 
+static THREE_TASKS: [Task; 3] = [
+    ("one", "one.elf", TIMES),
+    ("again", "one.elf", TIMES),
+    ("low", "low.elf", TIMES),
+];
+
 // A set of three tasks, two of which name one file.
-fn three_files(alloc: Global) -> Result<Vec<File>, AllocError> {
-    let tasks = [
-        ("one", "one.elf", TIMES),
-        ("again", "one.elf", TIMES),
-        ("low", "low.elf", TIMES),
-    ];
-    let mut files: Vec<File> = Vec::new(alloc);
-    files.push(("set.toml", set_of(alloc, &tasks)?))?;
-    files.push(("one.elf", program_with(alloc, &[])?))?;
-    files.push(("low.elf", straddling(alloc)?))?;
+fn three_files(alloc: Global) -> Result<Held, AllocError> {
+    let mut files = Vec::new(alloc);
+    push_file(alloc, &mut files, "set.toml", set_of(alloc, &THREE_TASKS)?)?;
+    push_file(alloc, &mut files, "one.elf", program_with(alloc, &[])?)?;
+    push_file(alloc, &mut files, "low.elf", straddling(alloc)?)?;
     Ok(files)
 }
 
@@ -259,19 +239,38 @@ static LISTED: [(&str, &str); 3] = [
     ("low", STRADDLING),
 ];
 
+// `list` of a task of that set, where a call of the files fails.
+fn listed_ends(
+    rt: &impl Abort,
+    alloc: Global,
+    name: &str,
+    failing_file: u64,
+    want: (Status, &str),
+) -> Result<(), Fail> {
+    let outside = Outside {
+        failing_file,
+        ..LARGE
+    };
+    let files = three_files(alloc)?;
+    ends(
+        rt,
+        alloc,
+        &["list", "set.toml", name],
+        files,
+        &outside,
+        want,
+    )
+}
+
 // Each file is measured once and read once: six calls in all.
 #[test]
 fn files_are_read_once(rt: HostRuntime) -> Result<(), Fail> {
     let alloc = rt.alloc();
     for n in 0..6 {
-        let files = three_files(alloc)?;
-        let words = ["list", "set.toml", "low"];
-        ends(&rt, alloc, &words, files, n, (Status::ReadFault, ""))?;
+        listed_ends(&rt, alloc, "low", n, (Status::ReadFault, ""))?;
     }
     for &(name, text) in &LISTED {
-        let words = ["list", "set.toml", name];
-        let files = three_files(alloc)?;
-        ends(&rt, alloc, &words, files, 6, (Status::Done, text))?;
+        listed_ends(&rt, alloc, name, 6, (Status::Done, text))?;
     }
     Ok(())
 }
@@ -279,7 +278,7 @@ fn files_are_read_once(rt: HostRuntime) -> Result<(), Fail> {
 // The words, by their places, of an image as a linker writes it: its first segment begins with the
 // headers, at 0x10000; then comes a program header of a processor's kind; a symbol table has a
 // file's symbol, a section's, and the functions `a`, `b` and `c`; all other words are 0.
-const LINKED: [(usize, u32); 53] = [
+static LINKED: [(usize, u32); 53] = [
     (0, 0x464C_457F),
     (4, 0x0001_0101),
     (16, 0x00F3_0002),
@@ -360,24 +359,31 @@ static ENTRIES: [(&str, Status, &str); 5] = [
     ),
 ];
 
+// A set whose tasks name that image, but for the first; the second begins at this entry.
+fn linked_set(alloc: Global, entry: &str) -> Result<Vec<u8>, AllocError> {
+    let keys = format!(in alloc; "{TIMES}entry = \"{entry}\"\n")?;
+    let mut text = set_of(alloc, &ONE_TASK)?;
+    for (name, keys) in [("a", keys.as_str()), ("b", TIMES), ("c", TIMES)] {
+        let table = format!(in alloc; "[[task]]\nname = \"{name}\"\nfile = \"abc.elf\"\n{keys}")?;
+        text.extend_from_slice(table.as_bytes())?;
+    }
+    Ok(text)
+}
+
+fn linked_files(alloc: Global, entry: &str) -> Result<Held, AllocError> {
+    let mut files = Vec::new(alloc);
+    push_file(alloc, &mut files, "set.toml", linked_set(alloc, entry)?)?;
+    push_file(alloc, &mut files, "one.elf", program_with(alloc, &[])?)?;
+    push_file(alloc, &mut files, "abc.elf", linked(alloc)?)?;
+    Ok(files)
+}
+
 #[test]
 fn a_linked_image(rt: HostRuntime) -> Result<(), Fail> {
-    let alloc = rt.alloc();
     for &(entry, status, text) in &ENTRIES {
-        let entry = format!(in alloc; "{TIMES}entry = \"{entry}\"\n")?;
-        let mut text_of_set = set_of(alloc, &[("one", "one.elf", TIMES)])?;
-        for (name, keys) in [("a", entry.as_str()), ("b", TIMES), ("c", TIMES)] {
-            let table = format!(in alloc;
-                "[[task]]\nname = \"{name}\"\nfile = \"abc.elf\"\n{keys}"
-            )?;
-            text_of_set.extend_from_slice(table.as_bytes())?;
-        }
-        let mut files: Vec<File> = Vec::new(alloc);
-        files.push(("set.toml", text_of_set))?;
-        files.push(("one.elf", program_with(alloc, &[])?))?;
-        files.push(("abc.elf", linked(alloc)?))?;
+        let files = linked_files(rt.alloc(), entry)?;
         let words = ["list", "set.toml", "one"];
-        ends(&rt, alloc, &words, files, NEVER, (status, text))?;
+        ends(&rt, rt.alloc(), &words, files, &LARGE, (status, text))?;
     }
     Ok(())
 }

@@ -1,9 +1,8 @@
 // The command `sets`, on worked examples.
-use crpd_io::{MemFiles, MemSink};
-use crpd_tool::{Status, run};
+use crate::command::{Held, NEVER, Outside, WHOLE, ends, push_file, push_program};
+use crpd_tool::Status;
 use fixtures::{BACK, CALLS, ECALL, LINES, file_of};
 use std::alloc::{AllocError, Global};
-use std::process::Abort;
 use std::test::Fail;
 
 // A task with its program: the name, the address of its first word, its words.
@@ -22,7 +21,7 @@ const TURNS: [u32; 2] = [0x0002_8063, ECALL];
 
 const BREAKPOINT: [u32; 1] = [0x0010_0073];
 
-const CASES: [Case; 5] = [
+static CASES: [Case; 5] = [
     Case {
         cache_sets: 8,
         programs: &[
@@ -74,50 +73,23 @@ fn set_text(alloc: Global, case: &Case) -> Result<String, AllocError> {
 }
 
 // The set and the files of a case.
-fn files_of(alloc: Global, case: &Case) -> Result<Vec<(String, Vec<u8>)>, AllocError> {
+fn files_of(alloc: Global, case: &Case) -> Result<Held, AllocError> {
     let mut files = Vec::new(alloc);
     let set = set_text(alloc, case)?;
-    files.push((String::from_str(alloc, "set.toml")?, set.into_bytes()))?;
+    push_file(alloc, &mut files, "set.toml", set.into_bytes())?;
     for (name, start, words) in case.programs {
-        let file = format!(in alloc; "{name}.elf")?;
-        files.push((file, file_of(alloc, *start, words)?))?;
+        push_program(alloc, &mut files, name, file_of(alloc, *start, words)?)?;
     }
     Ok(files)
 }
-
-// What words end with over files of which a call fails.
-fn ends(
-    rt: &impl Abort,
-    alloc: Global,
-    words: &[&str],
-    files: Vec<(String, Vec<u8>)>,
-    failing: u64,
-    ended: (Status, &str),
-) -> Result<(), Fail> {
-    let mut list = Vec::new(alloc);
-    for word in words {
-        list.push(String::from_str(alloc, word)?)?;
-    }
-    let mut files = MemFiles::new(files, [failing].to_vec(alloc)?);
-    let Ok(mut out) = MemSink::new(alloc, 1000, 7, Vec::new(alloc)) else {
-        return Err(Fail::from("no memory"));
-    };
-    let (status, text) = ended;
-    let found = run(alloc, list.as_slice(), &mut files, &mut out);
-    assert_eq!(rt; out.written(), text.as_bytes());
-    assert_eq!(rt; found, status);
-    Ok(())
-}
-
-const NEVER: u64 = u64::MAX;
 
 #[test]
 fn sets_of_programs(rt: HostRuntime) -> Result<(), Fail> {
     let alloc = rt.alloc();
     for case in &CASES {
-        let words = ["sets", "set.toml"];
         let files = files_of(alloc, case)?;
-        ends(&rt, alloc, &words, files, NEVER, (case.status, case.text))?;
+        let want = (case.status, case.text);
+        ends(&rt, alloc, &["sets", "set.toml"], files, &WHOLE, want)?;
     }
     Ok(())
 }
@@ -136,15 +108,13 @@ static OTHER_ENDS: [(&[&str], u64, (Status, &str)); 4] = [
 #[test]
 fn other_ends(rt: HostRuntime) -> Result<(), Fail> {
     let alloc = rt.alloc();
-    for &(words, failing, ended) in &OTHER_ENDS {
-        ends(
-            &rt,
-            alloc,
-            words,
-            files_of(alloc, &CASES[1])?,
-            failing,
-            ended,
-        )?;
+    for &(words, failing_file, want) in &OTHER_ENDS {
+        let outside = Outside {
+            failing_file,
+            ..WHOLE
+        };
+        let files = files_of(alloc, &CASES[1])?;
+        ends(&rt, alloc, words, files, &outside, want)?;
     }
     Ok(())
 }

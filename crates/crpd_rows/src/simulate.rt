@@ -1,5 +1,6 @@
-use crpd_io::{MemFiles, MemSink};
-use crpd_tool::{Status, run};
+// The command `simulate`, on worked examples.
+use crate::command::{Held, NEVER, Outside, WHOLE, ends, push_file, push_program};
+use crpd_tool::Status;
 use fixtures::{BACK, CALL_LOOP, CALLS, LINES, LOOP, LOST, TWO_WORDS, file_of};
 use std::alloc::{AllocError, Global};
 use std::process::Abort;
@@ -77,7 +78,7 @@ const ALONE: Case = Case {
 
 const BETWEEN: &str = "sets = 4\nswitching = \"instruction\"\n";
 
-const CASES: [Case; 18] = [
+static CASES: [Case; 18] = [
     Case {
         programs: &TURNS,
         jobs: &[("one", 0)],
@@ -218,57 +219,56 @@ fn script_text(alloc: Global, case: &Case) -> Result<String, AllocError> {
     Ok(text)
 }
 
-pub(crate) type Held = Vec<(String, Vec<u8>)>;
-
 // The set and the files of a case, without its script.
 fn files_of(alloc: Global, case: &Case) -> Result<Held, AllocError> {
     let mut files = Vec::new(alloc);
     let set = set_text(alloc, case)?;
-    files.push((String::from_str(alloc, "set.toml")?, set.into_bytes()))?;
+    push_file(alloc, &mut files, "set.toml", set.into_bytes())?;
     for (name, start, words, _keys) in case.programs {
-        let file = format!(in alloc; "{name}.elf")?;
-        files.push((file, file_of(alloc, *start, words)?))?;
+        push_program(alloc, &mut files, name, file_of(alloc, *start, words)?)?;
     }
     Ok(files)
 }
 
-fn push_script(alloc: Global, files: &mut Held, script: Vec<u8>) -> Result<(), AllocError> {
-    files.push((String::from_str(alloc, "script.toml")?, script))?;
-    Ok(())
-}
+// Files are read and an output is written in pieces.
+const PIECES: Outside = Outside { read: 64, ..WHOLE };
 
-// What `simulate` ends with over files of which a call fails, read and written in pieces.
-fn ends(
+// What `simulate` ends with over the files of a case and this script.
+fn script_ends(
     rt: &impl Abort,
     alloc: Global,
-    files: Held,
-    failing: (u64, u64),
-    ended: (Status, &str),
+    case: &Case,
+    script: &str,
+    outside: &Outside,
+    want: (Status, &str),
 ) -> Result<(), Fail> {
-    let mut words = Vec::new(alloc);
-    for word in ["simulate", "set.toml", "script.toml"] {
-        words.push(String::from_str(alloc, word)?)?;
-    }
-    let mut files = MemFiles::with_most(files, [failing.0].to_vec(alloc)?, 64);
-    let Ok(mut out) = MemSink::new(alloc, 1000, 7, [failing.1].to_vec(alloc)?) else {
-        return Err(Fail::from("no memory"));
-    };
-    let (status, text) = ended;
-    let found = run(alloc, words.as_slice(), &mut files, &mut out);
-    assert_eq!(rt; out.written(), text.as_bytes());
-    assert_eq!(rt; found, status);
-    Ok(())
+    let mut files = files_of(alloc, case)?;
+    push_file(
+        alloc,
+        &mut files,
+        "script.toml",
+        script.as_bytes().to_vec(alloc)?,
+    )?;
+    let words = ["simulate", "set.toml", "script.toml"];
+    ends(rt, alloc, &words, files, outside, want)
 }
 
-pub(crate) const NEVER: u64 = u64::MAX;
+// What `simulate` ends with over the files of a case and its script.
+fn case_ends(
+    rt: &impl Abort,
+    alloc: Global,
+    case: &Case,
+    outside: &Outside,
+    want: (Status, &str),
+) -> Result<(), Fail> {
+    let script = script_text(alloc, case)?;
+    script_ends(rt, alloc, case, script.as_str(), outside, want)
+}
 
 #[test]
 fn runs(rt: HostRuntime) -> Result<(), Fail> {
-    let alloc = rt.alloc();
     for case in &CASES {
-        let mut files = files_of(alloc, case)?;
-        push_script(alloc, &mut files, script_text(alloc, case)?.into_bytes())?;
-        ends(&rt, alloc, files, (NEVER, NEVER), (Status::Done, case.text))?;
+        case_ends(&rt, rt.alloc(), case, &PIECES, (Status::Done, case.text))?;
     }
     Ok(())
 }
@@ -315,17 +315,13 @@ static REFUSALS: [(&Case, &str, &str); 8] = [
 fn refusals(rt: HostRuntime) -> Result<(), Fail> {
     let alloc = rt.alloc();
     for &(case, script, text) in &REFUSALS {
-        let mut files = files_of(alloc, case)?;
-        push_script(alloc, &mut files, script.as_bytes().to_vec(alloc)?)?;
-        ends(&rt, alloc, files, (NEVER, NEVER), (Status::Refused, text))?;
+        let want = (Status::Refused, text);
+        script_ends(&rt, alloc, case, script, &PIECES, want)?;
     }
-    ends(
-        &rt,
-        alloc,
-        files_of(alloc, &ALONE)?,
-        (NEVER, NEVER),
-        (Status::Refused, "refused 80 NoFile script.toml -\n"),
-    )
+    let files = files_of(alloc, &ALONE)?;
+    let words = ["simulate", "set.toml", "script.toml"];
+    let want = (Status::Refused, "refused 80 NoFile script.toml -\n");
+    ends(&rt, alloc, &words, files, &PIECES, want)
 }
 
 // The calls of the files and of the sink that fail, and what `simulate` ends with.
@@ -341,11 +337,13 @@ static FAULTS: [((u64, u64), Status, &str); 5] = [
 #[test]
 fn faults(rt: HostRuntime) -> Result<(), Fail> {
     let alloc = rt.alloc();
-    let case = &CASES[0];
     for &(failing, status, text) in &FAULTS {
-        let mut files = files_of(alloc, case)?;
-        push_script(alloc, &mut files, script_text(alloc, case)?.into_bytes())?;
-        ends(&rt, alloc, files, failing, (status, text))?;
+        let outside = Outside {
+            failing_file: failing.0,
+            failing_output: failing.1,
+            ..PIECES
+        };
+        case_ends(&rt, alloc, &CASES[0], &outside, (status, text))?;
     }
     Ok(())
 }

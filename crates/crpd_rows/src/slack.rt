@@ -1,8 +1,10 @@
 // The command `slack`, on worked examples, and `analyze` at each greatest cost and at the next one.
-use crate::analyze::{Case, NEVER, PLAIN, Program, ends, files_with};
+use crate::analyze::{Case, PLAIN, Program, command_ends, ends, files_with};
+use crate::command::NEVER;
 use crpd_tool::Status;
 use fixtures::{NESTED, TWO_WORDS};
 use std::alloc::Global;
+use std::process::Abort;
 use std::test::Fail;
 
 // A set, and the greatest accepted costs of a switch and of a reload.
@@ -12,7 +14,7 @@ struct Row {
     miss: Option<u32>,
 }
 
-const ROWS: [Row; 5] = [
+static ROWS: [Row; 5] = [
     Row {
         case: Case {
             cache_sets: 4,
@@ -130,9 +132,23 @@ fn greatest_costs_of_programs(rt: HostRuntime) -> Result<(), Fail> {
     let alloc = rt.alloc();
     for row in &ROWS {
         let files = files_with(alloc, &row.case, 10, 5, b"")?;
-        let (status, text) = ends(alloc, &["slack", "set.toml"], files, NEVER)?;
-        assert_eq!(rt; text.as_slice(), row.case.text.as_bytes());
-        assert_eq!(rt; status, row.case.status);
+        let want = (row.case.status, row.case.text);
+        command_ends(&rt, alloc, &["slack", "set.toml"], files, NEVER, want)?;
+    }
+    Ok(())
+}
+
+// The set has a certificate with these costs, where they are told, or has none.
+fn costs_end(
+    rt: &impl Abort,
+    alloc: Global,
+    case: &Case,
+    miss: Option<u32>,
+    switch: Option<u32>,
+    accepted: bool,
+) -> Result<(), Fail> {
+    if let (Some(miss), Some(switch)) = (miss, switch) {
+        assert_eq!(rt; is_accepted(alloc, case, miss, switch)?, accepted);
     }
     Ok(())
 }
@@ -142,18 +158,10 @@ fn greatest_costs_of_programs(rt: HostRuntime) -> Result<(), Fail> {
 fn analysed_up_to_the_greatest_costs(rt: HostRuntime) -> Result<(), Fail> {
     let alloc = rt.alloc();
     for row in &ROWS {
-        if let Some(switch) = row.switch {
-            assert!(rt; is_accepted(alloc, &row.case, 10, switch)?);
-        }
-        if let Some(switch) = next_of(row.switch) {
-            assert!(rt; !is_accepted(alloc, &row.case, 10, switch)?);
-        }
-        if let Some(miss) = row.miss {
-            assert!(rt; is_accepted(alloc, &row.case, miss, 5)?);
-        }
-        if let Some(miss) = next_of(row.miss) {
-            assert!(rt; !is_accepted(alloc, &row.case, miss, 5)?);
-        }
+        costs_end(&rt, alloc, &row.case, Some(10), row.switch, true)?;
+        costs_end(&rt, alloc, &row.case, Some(10), next_of(row.switch), false)?;
+        costs_end(&rt, alloc, &row.case, row.miss, Some(5), true)?;
+        costs_end(&rt, alloc, &row.case, next_of(row.miss), Some(5), false)?;
     }
     Ok(())
 }
@@ -176,9 +184,7 @@ fn other_ends(rt: HostRuntime) -> Result<(), Fail> {
     let alloc = rt.alloc();
     for &(words, failing, status, text) in &OTHER_ENDS {
         let files = files_with(alloc, &ROWS[0].case, 10, 5, b"")?;
-        let (found, written) = ends(alloc, words, files, failing)?;
-        assert_eq!(rt; written.as_slice(), text.as_bytes());
-        assert_eq!(rt; found, status);
+        command_ends(&rt, alloc, words, files, failing, (status, text))?;
     }
     Ok(())
 }

@@ -1,9 +1,9 @@
 // The command `update`, on worked examples.
-use crpd_io::{MemFiles, MemSink};
-use crpd_tool::{Status, run};
+use crate::analyze::{command_ends, ends};
+use crate::command::{Held, NEVER, push_file};
+use crpd_tool::Status;
 use fixtures::{LOOP, NESTED, TWO_WORDS, file_of};
 use std::alloc::{AllocError, Global};
-use std::process::Abort;
 use std::test::Fail;
 
 // A task as a set states it: its name, its file, and its times and loops.
@@ -94,7 +94,7 @@ const SAME: Case = Case {
     text: "",
 };
 
-const CASES: [Case; 20] = [
+static CASES: [Case; 20] = [
     // What the old certificate says of the code is kept; its windows are not.
     SAME,
     Case {
@@ -325,7 +325,7 @@ const CASES: [Case; 20] = [
 
 const BREAKPOINT: [u32; 1] = [0x0010_0073];
 
-const PROGRAMS: [(&str, u32, &[u32]); 7] = [
+static PROGRAMS: [(&str, u32, &[u32]); 7] = [
     ("high.elf", 0x2000, &TWO_WORDS),
     ("low.elf", 0x1000, &TWO_WORDS),
     ("again.elf", 0x1000, &TWO_WORDS),
@@ -388,49 +388,37 @@ fn part_text(alloc: Global, part: &Part) -> Result<String, AllocError> {
     )
 }
 
+// The set that the old certificate is of.
+fn old_set(alloc: Global) -> Result<Vec<u8>, AllocError> {
+    Ok(set_text(alloc, 16, "cycle", &[HIGH, LOW])?.into_bytes())
+}
+
+fn old_certificate(alloc: Global, case: &Case) -> Result<Vec<u8>, AllocError> {
+    Ok(certificate_text(alloc, case.version, 16, "cycle", case.old)?.into_bytes())
+}
+
+fn new_set(alloc: Global, case: &Case) -> Result<Vec<u8>, AllocError> {
+    Ok(set_text(alloc, case.line, case.switching, case.tasks)?.into_bytes())
+}
+
 // The two sets, the old certificate and the programs.
-fn files_of(alloc: Global, case: &Case) -> Result<Vec<(String, Vec<u8>)>, AllocError> {
+fn files_of(alloc: Global, case: &Case) -> Result<Held, AllocError> {
     let mut files = Vec::new(alloc);
-    let old = set_text(alloc, 16, "cycle", &[HIGH, LOW])?;
-    files.push((String::from_str(alloc, "old.toml")?, old.into_bytes()))?;
-    let certificate = certificate_text(alloc, case.version, 16, "cycle", case.old)?;
-    files.push((
-        String::from_str(alloc, "cert.json")?,
-        certificate.into_bytes(),
-    ))?;
-    let new = set_text(alloc, case.line, case.switching, case.tasks)?;
-    files.push((String::from_str(alloc, "new.toml")?, new.into_bytes()))?;
+    push_file(alloc, &mut files, "old.toml", old_set(alloc)?)?;
+    push_file(
+        alloc,
+        &mut files,
+        "cert.json",
+        old_certificate(alloc, case)?,
+    )?;
+    push_file(alloc, &mut files, "new.toml", new_set(alloc, case)?)?;
     for (name, start, words) in &PROGRAMS {
-        files.push((
-            String::from_str(alloc, name)?,
-            file_of(alloc, *start, words)?,
-        ))?;
+        push_file(alloc, &mut files, name, file_of(alloc, *start, words)?)?;
     }
     Ok(files)
 }
 
-const NEVER: u64 = u64::MAX;
-
 const WORDS: [&str; 4] = ["update", "old.toml", "cert.json", "new.toml"];
-
-// How words end over files of which a call fails, and what they write.
-fn ends(
-    alloc: Global,
-    words: &[&str],
-    files: Vec<(String, Vec<u8>)>,
-    failing: u64,
-) -> Result<(Status, Vec<u8>), Fail> {
-    let mut list = Vec::new(alloc);
-    for word in words {
-        list.push(String::from_str(alloc, word)?)?;
-    }
-    let mut files = MemFiles::new(files, [failing].to_vec(alloc)?);
-    let Ok(mut out) = MemSink::new(alloc, 10000, 700, Vec::new(alloc)) else {
-        return Err(Fail::from("no memory"));
-    };
-    let found = run(alloc, list.as_slice(), &mut files, &mut out);
-    Ok((found, out.written().to_vec(alloc)?))
-}
 
 // What a case writes.
 fn wanted(alloc: Global, case: &Case) -> Result<String, AllocError> {
@@ -446,11 +434,33 @@ fn wanted(alloc: Global, case: &Case) -> Result<String, AllocError> {
 fn updates(rt: HostRuntime) -> Result<(), Fail> {
     let alloc = rt.alloc();
     for case in &CASES {
-        let (status, written) = ends(alloc, &WORDS, files_of(alloc, case)?, NEVER)?;
-        assert_eq!(rt; written.as_slice(), wanted(alloc, case)?.as_bytes());
-        assert_eq!(rt; status, case.status);
+        let text = wanted(alloc, case)?;
+        let files = files_of(alloc, case)?;
+        command_ends(
+            &rt,
+            alloc,
+            &WORDS,
+            files,
+            NEVER,
+            (case.status, text.as_str()),
+        )?;
     }
     Ok(())
+}
+
+// A change of the order of the tasks.
+static TURNED: Case = Case {
+    old: &[FIRST, SECOND],
+    tasks: &[LOW, HIGH],
+    ..SAME
+};
+
+const TURNED_TEXT: &str =
+    "yes\nlow bound 12 window 17 response 17 method ucb\nhigh bound 12 window 49 response 49 method ucb\n";
+
+// What words write over the files of that change.
+fn turned(alloc: Global, words: &[&str]) -> Result<(Status, Vec<u8>), Fail> {
+    ends(alloc, words, files_of(alloc, &TURNED)?, NEVER)
 }
 
 // `check` says yes to the new certificate for the new set, and where the old one is that of
@@ -458,26 +468,22 @@ fn updates(rt: HostRuntime) -> Result<(), Fail> {
 #[test]
 fn updates_are_checked_and_analysed(rt: HostRuntime) -> Result<(), Fail> {
     let alloc = rt.alloc();
-    let case = Case {
-        old: &[FIRST, SECOND],
-        tasks: &[LOW, HIGH],
-        ..SAME
-    };
-    let (status, made) = ends(alloc, &WORDS, files_of(alloc, &case)?, NEVER)?;
+    let (status, made) = turned(alloc, &WORDS)?;
     assert_eq!(rt; status, Status::Done);
-    let words = ["analyze", "new.toml"];
-    let (status, analysed) = ends(alloc, &words, files_of(alloc, &case)?, NEVER)?;
+    let (status, analysed) = turned(alloc, &["analyze", "new.toml"])?;
     assert_eq!(rt; status, Status::Done);
     assert_eq!(rt; made.as_slice(), analysed.as_slice());
-    let mut files = files_of(alloc, &case)?;
-    files.push((String::from_str(alloc, "made.json")?, made))?;
+    let mut files = files_of(alloc, &TURNED)?;
+    push_file(alloc, &mut files, "made.json", made)?;
     let words = ["check", "new.toml", "made.json"];
-    let (status, text) = ends(alloc, &words, files, NEVER)?;
-    assert_eq!(rt;
-        text.as_slice(),
-        "yes\nlow bound 12 window 17 response 17 method ucb\nhigh bound 12 window 49 response 49 method ucb\n".as_bytes()
-    );
-    assert_eq!(rt; status, Status::Done);
+    command_ends(
+        &rt,
+        alloc,
+        &words,
+        files,
+        NEVER,
+        (Status::Done, TURNED_TEXT),
+    )?;
     Ok(())
 }
 
@@ -522,9 +528,8 @@ static OTHER_ENDS: [(&[&str], u64, Status, &str); 6] = [
 fn other_ends(rt: HostRuntime) -> Result<(), Fail> {
     let alloc = rt.alloc();
     for &(words, failing, status, text) in &OTHER_ENDS {
-        let (found, written) = ends(alloc, words, files_of(alloc, &SAME)?, failing)?;
-        assert_eq!(rt; written.as_slice(), text.as_bytes());
-        assert_eq!(rt; found, status);
+        let files = files_of(alloc, &CASES[0])?;
+        command_ends(&rt, alloc, words, files, failing, (status, text))?;
     }
     Ok(())
 }
