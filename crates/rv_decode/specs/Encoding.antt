@@ -1,5 +1,5 @@
 -- The word of an instruction, and the law on the table's rows.
-use Rattle.std.specs.Prelude.{ℕ, ◌≡◌, ◌^◌, ◌<◌, ◌-◌, Some, List, IsTrue}
+use Rattle.std.specs.Prelude.{ℕ, ◌≡◌, ◌^◌, ◌<◌, Some, List, IsTrue}
 use Rattle.std.specs.List.{AllPairs}
 use Rattle.rv_decode.specs.declared.Ins.{Ins}
 use Rattle.rv_decode.specs.Table.{Key, fits_key, ins_of_word}

@@ -23,7 +23,7 @@ fn geometry() -> Geometry
 }
 
 // Addresses with their blocks and their cache sets.
-const PLACES: [(u32, u32, u16); 6] = [
+static PLACES: [(u32, u32, u16); 6] = [
     (0, 0, 0),
     (15, 0, 0),
     (16, 1, 1),
@@ -33,7 +33,7 @@ const PLACES: [(u32, u32, u16); 6] = [
 ];
 
 // Blocks that are asked for one after another, and how each is found.
-const FOUND: [(u32, Access); 8] = [
+static FOUND: [(u32, Access); 8] = [
     (0x100, Access::Miss),
     (0x100, Access::Hit),
     (0x101, Access::Miss),
@@ -47,7 +47,7 @@ const FOUND: [(u32, Access); 8] = [
 #[test]
 fn blocks_and_sets(rt: HostRuntime) {
     let geometry = geometry();
-    for (address, block, set) in PLACES {
+    for &(address, block, set) in &PLACES {
         assert_eq!(rt; geometry.block(address), block);
         assert_eq!(rt; geometry.set(block), set);
     }
@@ -57,7 +57,7 @@ fn blocks_and_sets(rt: HostRuntime) {
 fn hits_and_misses(rt: HostRuntime) {
     let geometry = geometry();
     let mut cache = Cache::<4>::empty();
-    for (block, found) in FOUND {
+    for &(block, found) in &FOUND {
         assert!(rt; cache.access(&geometry, block) == found);
     }
     assert_eq!(rt; cache.holds(0), Some(0));

@@ -30,7 +30,7 @@ fn carry_out(rt: &impl Abort, word: u32, regs: &mut Regs, memory: &mut DataMemor
 }
 
 // The words on x5, x6 and x7, the values of x6 and x7, and what x5 is then.
-const COMPUTED: [(u32, u32, u32, u32); 30] = [
+static COMPUTED: [(u32, u32, u32, u32); 30] = [
     (0x0273_42B3, 7, 0, 0xFFFF_FFFF),
     (0x0273_62B3, 7, 0, 7),
     (0x0273_42B3, 0xFFFF_FFF9, 2, 0xFFFF_FFFD),
@@ -66,7 +66,7 @@ const COMPUTED: [(u32, u32, u32, u32); 30] = [
 #[test]
 fn computed(rt: HostRuntime) {
     let mut memory = DataMemory::new(rt.alloc());
-    for (word, a, b, value) in COMPUTED {
+    for &(word, a, b, value) in &COMPUTED {
         let mut regs = Regs::new();
         regs.put(6, a);
         regs.put(7, b);
@@ -76,7 +76,7 @@ fn computed(rt: HostRuntime) {
 }
 
 // Loads into x5 from x6 = 0x7FF, over the bytes 0x80, 0xFF there.
-const LOADED: [(u32, u32); 4] = [
+static LOADED: [(u32, u32); 4] = [
     (0x0003_0283, 0xFFFF_FF80),
     (0x0003_4283, 0x80),
     (0x0003_1283, 0xFFFF_FF80),
@@ -84,34 +84,55 @@ const LOADED: [(u32, u32); 4] = [
 ];
 
 #[test]
-fn loads_and_stores(rt: HostRuntime) -> Result<(), Fail> {
+fn loads(rt: HostRuntime) -> Result<(), Fail> {
     let mut memory = DataMemory::new(rt.alloc());
     let mut regs = Regs::new();
     memory.put(0x7FF, 0x80)?;
     memory.put(0x800, 0xFF)?;
     regs.put(6, 0x7FF);
-    for (word, value) in LOADED {
+    for &(word, value) in &LOADED {
         let _ = carry_out(&rt, word, &mut regs, &mut memory);
         assert_eq!(rt; regs.get(5), value);
     }
     memory.clear(0x800, 0x8000_0000);
     assert_eq!(rt; memory.byte(0x7FF), 0x80);
     assert_eq!(rt; memory.byte(0x800), 0);
-    // over the end of memory: a word with a zero byte, then its low half
+    Ok(())
+}
+
+// sw x7,-1(x0) and sh x7,-1(x0), over the end of memory, with x7 and the word there afterwards, of
+// which one byte is zero.
+static STORED: [(u32, u32, u32); 2] = [
+    (0xFE70_2FA3, 0x1200_3456, 0x1200_3456),
+    (0xFE70_1FA3, 0xFFFF_0001, 0x1200_0001),
+];
+
+#[test]
+fn stores(rt: HostRuntime) {
+    let mut memory = DataMemory::new(rt.alloc());
+    let mut regs = Regs::new();
+    for &(word, x7, stored) in &STORED {
+        regs.put(7, x7);
+        let _ = carry_out(&rt, word, &mut regs, &mut memory);
+        let _ = carry_out(&rt, 0xFFF0_2283, &mut regs, &mut memory);
+        assert_eq!(rt; regs.get(5), stored);
+    }
+}
+
+// The bytes of words and of bytes that are stored, in their order in memory.
+#[test]
+fn bytes_of_stores(rt: HostRuntime) {
+    let mut memory = DataMemory::new(rt.alloc());
+    let mut regs = Regs::new();
     regs.put(7, 0x1200_3456);
     let _ = carry_out(&rt, 0xFE70_2FA3, &mut regs, &mut memory);
     assert_eq!(rt; memory.byte(0xFFFF_FFFF), 0x56);
     assert_eq!(rt; memory.byte(0), 0x34);
     assert_eq!(rt; memory.byte(2), 0x12);
-    let _ = carry_out(&rt, 0xFFF0_2283, &mut regs, &mut memory);
-    assert_eq!(rt; regs.get(5), 0x1200_3456);
+    regs.put(6, 0x7FF);
     regs.put(7, 0xFFFF_0001);
-    let _ = carry_out(&rt, 0xFE70_1FA3, &mut regs, &mut memory);
-    let _ = carry_out(&rt, 0xFFF0_2283, &mut regs, &mut memory);
-    assert_eq!(rt; regs.get(5), 0x1200_0001);
     let _ = carry_out(&rt, 0x0073_0023, &mut regs, &mut memory);
     assert_eq!(rt; memory.byte(0x7FF), 1);
-    Ok(())
 }
 
 #[test]

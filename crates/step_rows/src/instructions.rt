@@ -4,7 +4,7 @@ use rv_decode::{Ins, cost, decode, encode};
 use std::test::Fail;
 
 // Each row once: words as LLVM's assembler makes them of the texts.
-const ROWS: [(u32, &str); 48] = [
+static ROWS: [(u32, &str); 48] = [
     (0x1234_52B7, "lui x5,74565"),
     (0xFFFF_F317, "auipc x6,1048575"),
     (0x0140_00EF, "jal x1,20"),
@@ -57,7 +57,7 @@ const ROWS: [(u32, &str); 48] = [
 
 #[test]
 fn every_row(rt: HostRuntime) -> Result<(), Fail> {
-    for (word, text) in ROWS {
+    for &(word, text) in &ROWS {
         match decode(word) {
             Some(ins) => {
                 assert_eq!(rt; encode(&ins), word);
@@ -71,7 +71,7 @@ fn every_row(rt: HostRuntime) -> Result<(), Fail> {
 
 // A shift with another funct7, a JALR and a branch with another funct3, a system word, an M row
 // with another bit, and others.
-const NO_ROWS: [u32; 8] = [
+static NO_ROWS: [u32; 8] = [
     0x2010_5013,
     0x0000_1067,
     0x0000_2063,
@@ -84,7 +84,7 @@ const NO_ROWS: [u32; 8] = [
 
 #[test]
 fn words_of_no_row(rt: HostRuntime) {
-    for word in NO_ROWS {
+    for &word in &NO_ROWS {
         assert!(rt; decode(word).is_none());
     }
 }
@@ -115,7 +115,7 @@ fn fields(rt: HostRuntime) {
     assert!(rt; store.reads() == (2, 1));
 }
 
-const PLATFORM: Platform = Platform {
+static PLATFORM: Platform = Platform {
     line: 16,
     sets: 4,
     hit: 1,
@@ -130,7 +130,7 @@ const PLATFORM: Platform = Platform {
 
 // A word, whether it misses and whether it is taken, and its cycles: addi, sw, jal, bne, div, mul,
 // jalr and ecall.
-const COSTS: [(u32, bool, bool, u64); 10] = [
+static COSTS: [(u32, bool, bool, u64); 10] = [
     (0x0010_0293, true, false, 11),
     (0x0010_0293, false, true, 1),
     (0x0011_2623, false, false, 4),
@@ -145,7 +145,7 @@ const COSTS: [(u32, bool, bool, u64); 10] = [
 
 #[test]
 fn costs(rt: HostRuntime) {
-    for (word, miss, taken, cycles) in COSTS {
+    for &(word, miss, taken, cycles) in &COSTS {
         match decode(word) {
             Some(ins) => assert_eq!(rt; cost(&PLATFORM, &ins, miss, taken), cycles),
             None => assert!(rt; false, "no row"),

@@ -131,7 +131,7 @@ const CALLED: Step = (CALL, 0x200);
 const BACK: Step = (RETURN, 0x104);
 
 // Stated loops, steps, whether the watch is broken, and the calls under way.
-const FOLLOWED: [(&[Stated], &[Step], bool, &[u32]); 28] = [
+static FOLLOWED: [(&[Stated], &[Step], bool, &[u32]); 28] = [
     // the entry is a first iteration of a loop whose head it is
     (&[ONCE], &[], false, &[]),
     (&[ONCE], &[HEAD], true, &[]),
@@ -212,7 +212,7 @@ const FOLLOWED: [(&[Stated], &[Step], bool, &[u32]); 28] = [
 
 #[test]
 fn follows(rt: HostRuntime) -> Result<(), Fail> {
-    for (loops, steps, broken, calls) in FOLLOWED {
+    for &(loops, steps, broken, calls) in &FOLLOWED {
         let plan = plan(rt.alloc(), loops)?;
         let watch = watch_after(rt.alloc(), &plan, steps)?;
         assert_eq!(rt; watch.broken(), broken);
@@ -222,7 +222,7 @@ fn follows(rt: HostRuntime) -> Result<(), Fail> {
 }
 
 // The addresses that are quiet around an address after steps, also where there are no loops.
-const QUIET: [(&[Stated], &[Step], u32, (u32, u32)); 11] = [
+static QUIET: [(&[Stated], &[Step], u32, (u32, u32)); 11] = [
     (&[], &[], 0x100, (0, u32::MAX)),
     // an open loop, from after its head to the end of its range
     (&[TWICE], &[], 0x100, (0x101, 0x110)),
@@ -248,7 +248,7 @@ const QUIET: [(&[Stated], &[Step], u32, (u32, u32)); 11] = [
 
 #[test]
 fn quiet_addresses(rt: HostRuntime) -> Result<(), Fail> {
-    for (loops, steps, near, quiet) in QUIET {
+    for &(loops, steps, near, quiet) in &QUIET {
         let plan = plan(rt.alloc(), loops)?;
         let watch = watch_after(rt.alloc(), &plan, steps)?;
         assert_eq!(rt; watch.quiet(&plan, near), quiet);
@@ -257,7 +257,7 @@ fn quiet_addresses(rt: HostRuntime) -> Result<(), Fail> {
 }
 
 // Whether an instruction stays in its frame.
-const STAY: [(Ins, bool); 6] = [
+static STAY: [(Ins, bool); 6] = [
     (NEXT, true),
     (JUMP, true),
     (CALL, false),
@@ -268,7 +268,7 @@ const STAY: [(Ins, bool); 6] = [
 
 #[test]
 fn frames_that_stay(rt: HostRuntime) {
-    for (ins, stays) in STAY {
-        assert_eq!(rt; stays_in_frame(&ins), stays);
+    for (ins, stays) in &STAY {
+        assert_eq!(rt; stays_in_frame(ins), *stays);
     }
 }
