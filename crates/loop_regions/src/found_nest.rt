@@ -2,21 +2,22 @@
 ghost use Rattle.std.specs.Prelude.{◌≡◌, ℕ, IfOk, IfErr, length};
 ghost use Rattle.flat_graph.specs.CodeGraph.{graph_of, places_of};
 ghost use Rattle.loop_regions.specs.CodeNest.{nest_of, AreBounded, IsNestOf};
-ghost use Rattle.loop_regions.specs.Stated.{IsRegions, HasNoLoopRefusals, IsSameHead};
-ghost use Rattle.loop_regions.specs.Inner.FoundRegions.{nest_in};
+ghost use Rattle.loop_regions.specs.Stated.{IsRegions, HasNoLoopRefusals, IsSameHead, IsNotNested};
+ghost use Rattle.loop_regions.specs.Inner.FoundRegions.{nest_in, code_nest, AreAround};
 ghost use Rattle.loop_regions.specs.LoopErrors.{IsLoopError};
 
 use crate::around::regions_around;
 use crate::cycles::least_on_cycle;
 use crate::fault::LoopError;
 use crate::found::Regions;
+use crate::holders::Holders;
 use crate::nest::Nest;
 use crate::nested::{levels, not_nested, parents};
 use crate::same_head::least_same_head;
 use crate::second_entry::least_second_entry;
 use crpd_base::{LoopAt, NodeId, TaskPlan};
 use flat_graph::Graph;
-use std::alloc::Global;
+use std::alloc::{AllocError, Global};
 
 /// The nest of regions that were found for stated loops with heads of their own, or the first
 /// refusal.
@@ -48,8 +49,18 @@ fn nest_of_found(
     if let Some(v) = least_on_cycle(alloc, graph, &found)? {
         return Err(LoopError::CycleWithoutBound(graph.node(NodeId(v)).address));
     }
-    let innermost = levels(alloc, &found, &around)?;
-    let parents = parents(alloc, &found, &around)?;
+    let nest = nest_of_nested(alloc, found, &around)?;
+    Ok(nest)
+}
+
+/// The nest of regions that are nested, given the regions that hold each region's nodes.
+fn nest_of_nested(alloc: Global, found: Regions, around: &[Holders]) -> Result<Nest, AllocError>
+    requires around { AreAround (nest_in found) around.now }
+    requires nested { (y : ℕ) → ¬ IsNotNested (nest_in found) y }
+    ensures { IfOk result (λ nest. nest ≡ code_nest found) }
+{
+    let innermost = levels(alloc, &found, around)?;
+    let parents = parents(alloc, &found, around)?;
     Ok(Nest::new(found, parents, innermost))
 }
 

@@ -1,4 +1,5 @@
 use Rattle.std.proofs.Common.{◌≡◌, ◌<◌, ◌∙◌, false, length, subst, arith}
+use Rattle.std.proofs.lemmas.Grind.{common_steps}
 use Rattle.std.proofs.lemmas.List.{get_or_default, nil_from_length}
 use Rattle.flat_graph.specs.CodeGraph.{graph_of}
 use Rattle.loop_regions.specs.Inner.FoundRegions.{nest_in}
@@ -6,6 +7,9 @@ use Rattle.loop_regions.specs.Inner.ForwardPaths.{IsSearch, was_seen}
 use Rattle.loop_regions.proofs.Has.{has_pushed}
 use Rattle.loop_regions.proofs.Searching.{taken, found_cycle}
 use Rattle.loop_regions.proofs.cycles.is_on_cycle.Goals as goal
+
+pub loop-u-init : goal.loop-u-init
+loop-u-init c = grind (arith, common_steps)
 
 pub follow-requires-clause-node : goal.follow-requires-clause-node
 follow-requires-clause-node c =

@@ -74,4 +74,4 @@ returns-clause-accepted c =
       nested = c.in_default-not_nested.ensures;
       no_cycle = least;
     } in
-    subst (λ x. HasNoLoopRefusals g (nest_of x)) (sym c.new.ensures) accepted
+    subst (λ x. HasNoLoopRefusals g (nest_of x)) (sym c.in_ok-nest.ensures) accepted

@@ -1,4 +1,5 @@
 use Rattle.std.proofs.Common.{◌∙◌, refl, ap, arith, length, get_or}
+use Rattle.std.proofs.lemmas.Grind.{elements}
 use Rattle.std.proofs.lemmas.Option.{slice_get_within, slice_get-get_or, slice_get_read}
 use Rattle.flat_graph.specs.CodeGraph.{places_of}
 use Rattle.loop_regions.specs.CodeNest.{row}
@@ -31,3 +32,9 @@ returns-clause-held c y r lt =
       λ t. (i.0 t).1,
       λ b. i.1 (let w = slice_get_within c.args.heads.now r b.0 b.2 in omega arith, b),
     )
+
+pub index-requires : goal.index-requires
+index-requires c = grind (arith, elements)
+
+pub place-requires-clause-head : goal.place-requires-clause-head
+place-requires-clause-head c = grind (arith, elements)
