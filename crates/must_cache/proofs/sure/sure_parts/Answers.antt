@@ -1,5 +1,6 @@
 use Rattle.std.proofs.Common.{◌≡◌, ◌<◌, arith, List, ℕ, length, get_or, None, Some, refl, sym, ap}
 use Rattle.std.proofs.Common.{◌∙◌, subst, false}
+use Rattle.std.proofs.lemmas.Grind.{common_steps}
 use Rattle.crpd_base.specs.Sets.{has}
 use Rattle.flat_graph.specs.CodeGraph.{graph_of, places_of}
 use Rattle.icache.specs.Accesses.{accesses}
@@ -84,3 +85,6 @@ returns g c =
           subst (λ w. IsSureLeader gr a (get_or c.in-Ok.walks.met.items y None)
           c.in-Ok.walks.states.items w y) (sets y lt) ((found y lt).leader l);
     }
+
+pub unreachable-requires : goal.unreachable-requires
+unreachable-requires g c = grind (arith, common_steps)
