@@ -1,25 +1,31 @@
 // Each call of the files and of the sink failing in turn, over three tasks that preempt each other.
+use crate::command::status_of;
 use crpd_io::{MemFiles, MemSink};
-use crpd_tool::{Status, run};
+use crpd_tool::Status;
 use fixtures::{BACK, LINES, file_of};
 use std::alloc::{AllocError, Global};
 use std::process::Abort;
 use std::test::Fail;
 
-const SET: &str =
+static SET: &str =
     "[platform]\nline = 16\nsets = 8\nhit = 1\nmiss = 10\ndata = 3\ntaken = 2\nswitch = 5\n\n[[task]]\nname = \"a\"\nfile = \"a.elf\"\nperiod = 10000\ndeadline = 10000\njitter = 0\n\n[[task]]\nname = \"b\"\nfile = \"b.elf\"\nperiod = 10000\ndeadline = 10000\njitter = 0\n\n[[task]]\nname = \"c\"\nfile = \"c.elf\"\nperiod = 10000\ndeadline = 10000\njitter = 0\n";
 
-const SCRIPT: &str =
+// A set of which two tasks name one file.
+static AGAIN: &str =
+    "[platform]\nline = 16\nsets = 8\nhit = 1\nmiss = 10\ndata = 3\ntaken = 2\nswitch = 5\n\n[[task]]\nname = \"b\"\nfile = \"b.elf\"\nperiod = 10000\ndeadline = 10000\njitter = 0\n\n[[task]]\nname = \"again\"\nfile = \"b.elf\"\nperiod = 10000\ndeadline = 10000\njitter = 0\n\n[[task]]\nname = \"c\"\nfile = \"c.elf\"\nperiod = 10000\ndeadline = 10000\njitter = 0\n";
+
+static SCRIPT: &str =
     "cycles = 1000\n\n[[job]]\ntask = \"c\"\narrival = 0\nrelease = 0\n\n[[job]]\ntask = \"b\"\narrival = 31\nrelease = 31\n\n[[job]]\ntask = \"a\"\narrival = 62\nrelease = 62\n";
 
 const CERTIFICATE: &str =
     "{\"platform\":{\"data\":3,\"div\":0,\"hit\":1,\"line\":16,\"miss\":10,\"mul\":0,\"sets\":8,\"switch\":5,\"switching\":\"cycle\",\"taken\":2},\"tasks\":[{\"bound\":50,\"evicting\":[1,2,3,4],\"loops\":[],\"method\":\"ucb\",\"name\":\"a\",\"potentials\":[50,37,24,11],\"response\":55,\"states\":[[0,[],[]]],\"useful\":[],\"window\":55},{\"bound\":30,\"evicting\":[1,2],\"loops\":[],\"method\":\"ucb\",\"name\":\"b\",\"potentials\":[30,4,17,1],\"response\":115,\"states\":[[0,[],[]]],\"useful\":[1,2],\"window\":115},{\"bound\":30,\"evicting\":[3,4],\"loops\":[],\"method\":\"ucb\",\"name\":\"c\",\"potentials\":[30,4,17,1],\"response\":175,\"states\":[[0,[],[]]],\"useful\":[3,4],\"window\":175}],\"version\":2}\n";
 
-// The set, its files, the certificate and the script.
+// The sets, their files, the certificate and the script.
 fn files_of(alloc: Global) -> Result<Vec<(String, Vec<u8>)>, AllocError> {
     let mut files = Vec::new(alloc);
     for (name, bytes) in [
         ("set.toml", SET.as_bytes().to_vec(alloc)?),
+        ("again.toml", AGAIN.as_bytes().to_vec(alloc)?),
         ("a.elf", file_of(alloc, 0x3010, &LINES)?),
         ("b.elf", file_of(alloc, 0x2010, &BACK)?),
         ("c.elf", file_of(alloc, 0x1030, &BACK)?),
@@ -32,42 +38,59 @@ fn files_of(alloc: Global) -> Result<Vec<(String, Vec<u8>)>, AllocError> {
 }
 
 // Words, the sizes of the files in the order in which they are read, and the text.
-#[derive(Clone, Copy)]
 struct Case {
     words: &'static [&'static str],
     sizes: &'static [u64],
     text: &'static str,
 }
 
-const CHECK: Case = Case {
-    words: &["check", "set.toml", "cert.json"],
-    sizes: &[315, 136, 108, 108, 609],
-    text: "yes\na bound 50 window 55 response 55 method ucb\nb bound 30 window 115 response 115 method ucb\nc bound 30 window 175 response 175 method ucb\n",
-};
-
-const ANALYZE: Case = Case {
-    words: &["analyze", "set.toml"],
-    sizes: &[315, 136, 108, 108],
-    text: CERTIFICATE,
-};
-
-const SIMULATE: Case = Case {
-    words: &["simulate", "set.toml", "script.toml"],
-    sizes: &[315, 136, 108, 108, 150],
-    text: "job c 0 arrival 0 release 0 answer 175\njob b 0 arrival 31 release 31 answer 146\njob a 0 arrival 62 release 62 answer 117\nrun legal kept\n",
-};
-
-const EXPLAIN: Case = Case {
-    words: &["explain", "set.toml", "cert.json", "script.toml"],
-    sizes: &[315, 136, 108, 108, 609, 150],
-    text: "reload b 0 set 1 cycle 122 evictor a 0 preemptor a 0\nreload b 0 set 2 cycle 135 evictor a 0 preemptor a 0\nreload c 0 set 3 cycle 151 evictor a 0 preemptor b 0\nreload c 0 set 4 cycle 164 evictor a 0 preemptor b 0\ndelay a 0\ndelay b 20\ndelay c 40\nrun legal kept\n",
-};
-
-const UPDATE: Case = Case {
-    words: &["update", "set.toml", "cert.json", "set.toml"],
-    sizes: &[315, 136, 108, 108, 609, 315, 136, 108, 108],
-    text: CERTIFICATE,
-};
+static CASES: [Case; 9] = [
+    Case {
+        words: &["check", "set.toml", "cert.json"],
+        sizes: &[315, 136, 108, 108, 609],
+        text: "yes\na bound 50 window 55 response 55 method ucb\nb bound 30 window 115 response 115 method ucb\nc bound 30 window 175 response 175 method ucb\n",
+    },
+    Case {
+        words: &["analyze", "set.toml"],
+        sizes: &[315, 136, 108, 108],
+        text: CERTIFICATE,
+    },
+    Case {
+        words: &["simulate", "set.toml", "script.toml"],
+        sizes: &[315, 136, 108, 108, 150],
+        text: "job c 0 arrival 0 release 0 answer 175\njob b 0 arrival 31 release 31 answer 146\njob a 0 arrival 62 release 62 answer 117\nrun legal kept\n",
+    },
+    Case {
+        words: &["explain", "set.toml", "cert.json", "script.toml"],
+        sizes: &[315, 136, 108, 108, 609, 150],
+        text: "reload b 0 set 1 cycle 122 evictor a 0 preemptor a 0\nreload b 0 set 2 cycle 135 evictor a 0 preemptor a 0\nreload c 0 set 3 cycle 151 evictor a 0 preemptor b 0\nreload c 0 set 4 cycle 164 evictor a 0 preemptor b 0\ndelay a 0\ndelay b 20\ndelay c 40\nrun legal kept\n",
+    },
+    Case {
+        words: &["update", "set.toml", "cert.json", "set.toml"],
+        sizes: &[315, 136, 108, 108, 609, 315, 136, 108, 108],
+        text: CERTIFICATE,
+    },
+    Case {
+        words: &["classic", "set.toml"],
+        sizes: &[315, 136, 108, 108],
+        text: CERTIFICATE,
+    },
+    Case {
+        words: &["sets", "set.toml"],
+        sizes: &[315, 136, 108, 108],
+        text: "a evicting 1 2 3 4\na useful\nb evicting 1 2\nb useful 1 2\nc evicting 3 4\nc useful 3 4\n",
+    },
+    Case {
+        words: &["slack", "set.toml"],
+        sizes: &[315, 136, 108, 108],
+        text: "switch 1970 window c\nmiss 828 window c\n",
+    },
+    Case {
+        words: &["list", "again.toml", "c"],
+        sizes: &[319, 108, 108],
+        text: "00001030 0100006f jal x0,16\n00001034 0100006f jal x0,16\n00001038 00000000 .word\n0000103c 00000000 .word\n00001040 ff5ff06f jal x0,-12\n00001044 00000073 ecall\n",
+    },
+];
 
 const NEVER: u64 = u64::MAX;
 
@@ -81,16 +104,12 @@ fn ends(
     failing: (u64, u64),
     ended: (Status, &[u8]),
 ) -> Result<(), Fail> {
-    let mut words = Vec::new(alloc);
-    for word in case.words {
-        words.push(String::from_str(alloc, word)?)?;
-    }
     let most = most.max(1);
     let mut files = MemFiles::with_most(files_of(alloc)?, [failing.0].to_vec(alloc)?, most);
     let Ok(mut out) = MemSink::new(alloc, 1000, most, [failing.1].to_vec(alloc)?) else {
         return Err(Fail::from("no memory"));
     };
-    let found = run(alloc, words.as_slice(), &mut files, &mut out);
+    let found = status_of(alloc, case.words, &mut files, &mut out)?;
     assert_eq!(rt; out.written(), ended.1, "{failing:?} of {most}");
     assert_eq!(rt; found, ended.0, "{failing:?} of {most}");
     Ok(())
@@ -144,43 +163,19 @@ fn each_write_failing(rt: &impl Abort, alloc: Global, case: &Case) -> Result<(),
     Ok(())
 }
 
+// A file that two tasks name is read once.
 #[test]
-fn reads_of_check(rt: HostRuntime) -> Result<(), Fail> {
-    each_read_failing(&rt, rt.alloc(), &CHECK)
-}
-
-#[test]
-fn reads_of_analyze(rt: HostRuntime) -> Result<(), Fail> {
-    each_read_failing(&rt, rt.alloc(), &ANALYZE)
-}
-
-#[test]
-fn reads_of_simulate(rt: HostRuntime) -> Result<(), Fail> {
-    each_read_failing(&rt, rt.alloc(), &SIMULATE)
-}
-
-#[test]
-fn reads_of_explain(rt: HostRuntime) -> Result<(), Fail> {
-    each_read_failing(&rt, rt.alloc(), &EXPLAIN)
-}
-
-#[test]
-fn reads_of_update(rt: HostRuntime) -> Result<(), Fail> {
-    each_read_failing(&rt, rt.alloc(), &UPDATE)
-}
-
-#[test]
-fn writes_of_lines(rt: HostRuntime) -> Result<(), Fail> {
-    for case in [CHECK, SIMULATE, EXPLAIN] {
-        each_write_failing(&rt, rt.alloc(), &case)?;
+fn reads(rt: HostRuntime) -> Result<(), Fail> {
+    for case in &CASES {
+        each_read_failing(&rt, rt.alloc(), case)?;
     }
     Ok(())
 }
 
 #[test]
-fn writes_of_certificates(rt: HostRuntime) -> Result<(), Fail> {
-    for case in [ANALYZE, UPDATE] {
-        each_write_failing(&rt, rt.alloc(), &case)?;
+fn writes(rt: HostRuntime) -> Result<(), Fail> {
+    for case in &CASES {
+        each_write_failing(&rt, rt.alloc(), case)?;
     }
     Ok(())
 }

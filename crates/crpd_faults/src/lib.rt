@@ -1,6 +1,9 @@
-//! Damaged files and failing calls, through the top call. This crate has tests alone.
+//! Damaged files, failing calls and words that touch no file, through the top call. This crate has
+//! tests alone.
 #![tactic(auto)]
 
+#[cfg(test)]
+mod command;
 #[cfg(test)]
 mod damaged;
 #[cfg(test)]
@@ -9,3 +12,5 @@ mod ending;
 mod failing;
 #[cfg(test)]
 mod limits;
+#[cfg(test)]
+mod words;

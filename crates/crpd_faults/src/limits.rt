@@ -1,5 +1,5 @@
-// Certificates at the limits of what is read.
-use crate::damaged::{Held, SET, ends, program};
+// Files at the limits of what is read.
+use crate::damaged::{Held, ends, files_of, program};
 use crpd_io::SureFiles;
 use crpd_tool::Status;
 use std::alloc::{AllocError, Global};
@@ -42,18 +42,17 @@ fn many_entries(alloc: Global, useful: &str) -> Result<String, AllocError> {
     Ok(text)
 }
 
-// `check` of one task with this certificate.
+// The files of one task, and this certificate.
 fn files_with(alloc: Global, certificate: String) -> Result<Held, AllocError> {
-    let mut files = Vec::new(alloc);
-    for (name, bytes) in [
-        ("set.toml", SET.as_bytes().to_vec(alloc)?),
-        ("one.elf", program(alloc)?),
-        ("cert.json", certificate.into_bytes()),
-    ] {
-        files.push((String::from_str(alloc, name)?, bytes))?;
-    }
+    let mut files = files_of(alloc, program(alloc)?)?;
+    files.push((
+        String::from_str(alloc, "cert.json")?,
+        certificate.into_bytes(),
+    ))?;
     Ok(files)
 }
+
+static CHECK: [&str; 3] = ["check", "set.toml", "cert.json"];
 
 // The useful sets of the first node, and what `check` ends with.
 static ENTRIES: [(&str, Status, &str); 2] = [
@@ -71,8 +70,19 @@ fn state_entries(rt: HostRuntime) -> Result<(), Fail> {
     for &(useful, status, text) in &ENTRIES {
         let certificate = many_entries(alloc, useful)?;
         let mut files = SureFiles::new(files_with(alloc, certificate)?);
-        let words = ["check", "set.toml", "cert.json"];
-        ends(&rt, alloc, &words, &mut files, (status, text))?;
+        ends(&rt, alloc, &CHECK, &mut files, (status, text))?;
     }
     Ok(())
+}
+
+// A set of a byte more than is read.
+#[test]
+fn a_long_set(rt: HostRuntime) -> Result<(), Fail> {
+    let alloc = rt.alloc();
+    let mut held = Vec::new(alloc);
+    let bytes = vec![in alloc; b'\n'; 16_777_217]?;
+    held.push((String::from_str(alloc, "set.toml")?, bytes))?;
+    let mut files = SureFiles::new(held);
+    let text = "refused 81 FileTooLong set.toml -\n";
+    ends(&rt, alloc, &CHECK, &mut files, (Status::Refused, text))
 }
