@@ -1,11 +1,15 @@
 // The bounds of small programs.
 ghost use Rattle.std.specs.Prelude.{◌<◌, ◌≤◌};
+ghost use Rattle.loop_regions.specs.CodeNest.{IsNestOf};
 
-use crate::analysed::analysed;
+use crate::analysed::{analysed, states_of};
 use crpd_base::Platform;
 use exec_bound::{Bound, BoundError, bound};
 use fixtures::{CALL_LOOP, CALLS, ECALL, LOOP, NESTED, PLATFORM, Stated, TWO_WORDS};
+use flat_graph::Graph;
+use loop_regions::Nest;
 use std::alloc::{AllocError, Global};
+use std::process::Abort;
 use std::test::Fail;
 
 // A multiplication costs 4 cycles more.
@@ -22,54 +26,87 @@ const PLAIN: Platform = Platform {
     ..PLATFORM
 };
 
-// The bound of a program with these loops.
-fn answer<'a, const S: usize>(
-    alloc: Global,
-    platform: &Platform,
-    words: &'a [u32],
-    loops: &'a [Stated],
-) -> Result<Result<Bound, BoundError>, Fail>
-    requires line { 0 < platform.now.line }
-    requires sets { 0 < platform.now.sets }
-    requires room { platform.now.sets ≤ S }
-    requires few { S ≤ 65536 }
-{
-    let of = analysed::<S>(alloc, platform, words, loops)?;
-    Ok(bound(alloc, &of.graph, &of.nest, platform, &of.states))
-}
-
-fn push_numbers(alloc: Global, text: &mut String, numbers: &[u64]) -> Result<(), AllocError> {
+fn push_numbers(text: &mut String, numbers: &[u64]) -> Result<(), AllocError> {
     for number in numbers {
-        text.push_str(format!(in alloc; " {number}")?.as_str())?;
+        write!(text, " {number}")?;
     }
     Ok(())
 }
 
 // The bound, the potentials of the nodes, and those of the regions.
-fn bound_told(alloc: Global, bound: &Bound) -> Result<String, AllocError> {
-    let mut text = format!(in alloc; "{}:", bound.cycles)?;
-    push_numbers(alloc, &mut text, bound.nodes.as_slice())?;
+fn push_bound(text: &mut String, bound: &Bound) -> Result<(), AllocError> {
+    write!(text, "{}:", bound.cycles)?;
+    push_numbers(text, bound.nodes.as_slice())?;
     text.push_str(";")?;
-    push_numbers(alloc, &mut text, bound.loops.as_slice())?;
+    push_numbers(text, bound.loops.as_slice())
+}
+
+fn bound_told(alloc: Global, bound: &Bound) -> Result<String, Fail> {
+    let mut text = String::new(alloc);
+    push_bound(&mut text, bound)?;
     Ok(text)
 }
 
-// The same, or the refusal.
-pub(crate) fn told(
+fn refusal_told(alloc: Global, error: BoundError) -> Result<String, Fail> {
+    match error {
+        BoundError::TooLarge(address) => Ok(format!(in alloc; "64 {address:08x}")?),
+        BoundError::Memory => Err(Fail::from("no memory")),
+    }
+}
+
+// The bound of a graph, or the refusal.
+fn graph_told(
     alloc: Global,
     platform: &Platform,
-    words: &[u32],
-    stated: &[Stated],
+    graph: &Graph,
+    nest: &Nest,
+) -> Result<String, Fail>
+    requires line { 0 < platform.now.line }
+    requires sets { 0 < platform.now.sets }
+    requires room { platform.now.sets ≤ 4 }
+    requires nest { IsNestOf graph.now nest.now }
+{
+    let states = states_of::<4>(alloc, platform, graph)?;
+    match bound(alloc, graph, nest, platform, &states) {
+        Ok(bound) => bound_told(alloc, &bound),
+        Err(error) => refusal_told(alloc, error),
+    }
+}
+
+// The same of these words from 0x1000 on, with these loops.
+fn told<'a>(
+    alloc: Global,
+    platform: &Platform,
+    words: &'a [u32],
+    loops: &'a [Stated],
 ) -> Result<String, Fail>
     requires line { 0 < platform.now.line }
     requires sets { 0 < platform.now.sets }
     requires room { platform.now.sets ≤ 4 }
 {
-    match answer::<4>(alloc, platform, words, stated)? {
-        Ok(bound) => Ok(bound_told(alloc, &bound)?),
-        Err(BoundError::TooLarge(address)) => Ok(format!(in alloc; "64 {address:08x}")?),
-        Err(BoundError::Memory) => Ok(String::from_str(alloc, "no memory")?),
+    let of = analysed(alloc, platform, words, loops)?;
+    graph_told(alloc, platform, &of.0, &of.1)
+}
+
+// Words, stated loops, and the bound with the potentials, or the refusal.
+pub(crate) type Row = (&'static [u32], &'static [Stated], &'static str);
+
+// Compares the bounds of programs with what is wanted.
+pub(crate) fn compare_bounds(
+    rt: &impl Abort,
+    alloc: Global,
+    platform: &Platform,
+    rows: &[Row],
+) -> Result<(), Fail>
+    requires line { 0 < platform.now.line }
+    requires sets { 0 < platform.now.sets }
+    requires room { platform.now.sets ≤ 4 }
+{
+    for &(words, loops, want) in rows {
+        let got = told(alloc, platform, words, loops)?;
+        assert_eq!(rt; got.as_str(), want);
     }
+    Ok(())
 }
 
 // The body of the outer of two loops, and that of the loop of two instructions.
@@ -77,8 +114,7 @@ const TURN: (u32, u32) = (0x1000, 0x100C);
 
 const BODY: (u32, u32) = (0x1004, 0x100C);
 
-// Words, stated loops, and the bound with the potentials, or the refusal.
-static BOUNDS: [(&[u32], &[Stated], &str); 10] = [
+static BOUNDS: [Row; 10] = [
     (&TWO_WORDS, &[], "12: 12 1;"),
     (&LOOP, &[(0x1004, 3, BODY)], "24: 24 4 3 1; 13"),
     (&LOOP, &[(0x1004, 2, BODY)], "20: 20 4 3 1; 9"),
@@ -114,11 +150,7 @@ static BOUNDS: [(&[u32], &[Stated], &str); 10] = [
 
 #[test]
 fn bounds_of_small_programs(rt: HostRuntime) -> Result<(), Fail> {
-    for &(words, stated, want) in &BOUNDS {
-        let got = told(rt.alloc(), &COSTS, words, stated)?;
-        assert_eq!(rt; got.as_str(), want);
-    }
-    Ok(())
+    compare_bounds(&rt, rt.alloc(), &COSTS, &BOUNDS)
 }
 
 // This many instructions before an ECALL.
@@ -128,14 +160,28 @@ fn line(alloc: Global, count: usize) -> Result<Vec<u32>, AllocError> {
     Ok(words)
 }
 
+// The cycles of the bound of a graph in which every instruction costs one.
+fn graph_cycles(alloc: Global, graph: &Graph, nest: &Nest) -> Result<Option<u64>, Fail>
+    requires { IsNestOf graph.now nest.now }
+{
+    let states = states_of::<1>(alloc, &PLAIN, graph)?;
+    match bound(alloc, graph, nest, &PLAIN, &states) {
+        Ok(bound) => Ok(Some(bound.cycles)),
+        Err(_) => Ok(None),
+    }
+}
+
+fn plain_cycles(alloc: Global, words: &[u32]) -> Result<Option<u64>, Fail> {
+    let of = analysed(alloc, &PLAIN, words, &[])?;
+    graph_cycles(alloc, &of.0, &of.1)
+}
+
 #[test]
 fn bounds_of_long_programs(rt: HostRuntime) -> Result<(), Fail> {
     for count in [4_095, 4_096, 16_383] {
         let words = line(rt.alloc(), count)?;
-        match answer::<1>(rt.alloc(), &PLAIN, &words, &[])? {
-            Ok(bound) => assert_eq!(rt; bound.cycles, count as u64 + 1),
-            Err(_) => assert!(rt; false),
-        }
+        let cycles = plain_cycles(rt.alloc(), &words)?;
+        assert_eq!(rt; cycles, Some(count as u64 + 1));
     }
     Ok(())
 }

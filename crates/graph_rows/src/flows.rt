@@ -1,10 +1,13 @@
 // The flat graphs of small programs.
 ghost use Rattle.std.specs.Prelude.{◌<◌, length};
 
+use crate::analysed::code_of;
+use code_map::CodeMap;
 use crpd_base::{MOST_NODES, NodeId, Task};
-use fixtures::{ECALL, LOOP, ONE, PLATFORM, Program, RET, load};
+use fixtures::{ECALL, LOOP, ONE, PLATFORM, Program, RET};
 use flat_graph::{Graph, GraphError, build};
 use std::alloc::{AllocError, Global};
+use std::process::Abort;
 use std::test::Fail;
 
 // `addi x5,x5,0`, and `jal x1,8`.
@@ -12,51 +15,38 @@ const NEXT: u32 = 0x0002_8293;
 
 const CALL: u32 = 0x0080_00EF;
 
-// The graph of these words from 0x1000 on, from an entry on.
-fn graph_of(alloc: Global, words: &[u32], entry: u32) -> Result<Result<Graph, GraphError>, Fail> {
-    let program = Program {
-        words,
-        entry: Some(entry),
-        ..ONE
-    };
-    let loaded = load(alloc, PLATFORM, &[program])?;
-    Ok(build(alloc, &loaded.code, Task(0)))
-}
-
 // A node: the calls under way, its address, `*` for a leader, and the numbers of its successors;
 // `?` where it is not found.
-fn node_told(alloc: Global, graph: &Graph, id: NodeId) -> Result<String, AllocError>
+fn push_node(text: &mut String, graph: &Graph, id: NodeId) -> Result<(), AllocError>
     requires { id.0 < length graph.now.nodes }
 {
-    let mut text = String::new(alloc);
+    text.push_str(" ")?;
     for call in graph.context(id) {
-        text.push_str(format!(in alloc; "{call:x}/")?.as_str())?;
+        write!(text, "{call:x}/")?;
     }
     let leads = if graph.leader(id) { "*" } else { "" };
-    text.push_str(format!(in alloc; "{:x}{leads}", graph.node(id).address)?.as_str())?;
+    write!(text, "{:x}{leads}", graph.node(id).address)?;
     for next in graph.successors(id) {
-        text.push_str(format!(in alloc; ">{}", next.0)?.as_str())?;
+        write!(text, ">{}", next.0)?;
     }
     if graph.find(graph.context(id), graph.node(id).address) != Some(id) {
         text.push_str("?")?;
     }
-    Ok(text)
+    Ok(())
 }
 
-fn told(alloc: Global, graph: &Graph) -> Result<String, AllocError> {
-    let mut text = format!(in alloc; "from {}:", graph.first().0)?;
+fn push_graph(text: &mut String, graph: &Graph) -> Result<(), AllocError> {
+    write!(text, "from {}:", graph.first().0)?;
     for number in 0..graph.len() {
-        let node = node_told(alloc, graph, NodeId(number))?;
-        text.push_str(" ")?;
-        text.push_str(node.as_str())?;
+        push_node(text, graph, NodeId(number))?;
     }
     if graph.find(&[], 1).is_some() || graph.find(&[1], 0x1000).is_some() {
         text.push_str(" and more")?;
     }
-    Ok(text)
+    Ok(())
 }
 
-fn refusal_told(alloc: Global, error: GraphError) -> Result<String, AllocError> {
+fn refusal_told(alloc: Global, error: GraphError) -> Result<String, Fail> {
     let (number, address) = match error {
         GraphError::Memory => (0, 0),
         GraphError::Undecodable(address) => (50, address),
@@ -69,11 +59,59 @@ fn refusal_told(alloc: Global, error: GraphError) -> Result<String, AllocError> 
         GraphError::TooDeep(address) => (57, address),
         GraphError::Misaligned(address) => (58, address),
     };
-    format!(in alloc; "{number} {address:08x}")
+    Ok(format!(in alloc; "{number} {address:08x}")?)
+}
+
+fn graph_told(alloc: Global, graph: &Graph) -> Result<String, Fail> {
+    let mut text = String::new(alloc);
+    push_graph(&mut text, graph)?;
+    Ok(text)
+}
+
+// The number of nodes and of leaders.
+fn counts_told(alloc: Global, graph: &Graph) -> Result<String, Fail> {
+    let mut leaders: u32 = 0;
+    for number in 0..graph.len() {
+        if graph.leader(NodeId(number)) {
+            leaders = leaders.saturating_add(1);
+        }
+    }
+    Ok(format!(in alloc; "{} nodes {leaders} leaders", graph.len())?)
+}
+
+// Whether a graph is told whole, or only its numbers of nodes and of leaders.
+#[derive(Clone, Copy)]
+enum Telling {
+    Whole,
+    Counts,
+}
+
+// The graph of the code, or the refusal.
+fn code_told(alloc: Global, code: &CodeMap, telling: Telling) -> Result<String, Fail>
+    requires { 0 < length code.now.plans }
+{
+    match build(alloc, code, Task(0)) {
+        Ok(graph) => match telling {
+            Telling::Whole => graph_told(alloc, &graph),
+            Telling::Counts => counts_told(alloc, &graph),
+        },
+        Err(error) => refusal_told(alloc, error),
+    }
+}
+
+// The same of these words from 0x1000 on, from an entry on.
+fn told(alloc: Global, words: &[u32], entry: u32, telling: Telling) -> Result<String, Fail> {
+    let program = Program {
+        words,
+        entry: Some(entry),
+        ..ONE
+    };
+    let code = code_of(alloc, &PLATFORM, program)?;
+    code_told(alloc, &code, telling)
 }
 
 // Words, an entry, and the graph or the refusal.
-const GRAPHS: [(&[u32], u32, &str); 18] = [
+static GRAPHS: [(&[u32], u32, &str); 18] = [
     (&[NEXT, ECALL], 0x1000, "from 0: 1000*>1 1004"),
     (&LOOP, 0x1000, "from 0: 1000*>1 1004*>2 1008>3>1 100c*"),
     (&[0x0000_0263, ECALL], 0x1000, "from 0: 1000*>1 1004"),
@@ -104,30 +142,17 @@ const GRAPHS: [(&[u32], u32, &str); 18] = [
 
 #[test]
 fn small_programs(rt: HostRuntime) -> Result<(), Fail> {
-    for (words, entry, want) in GRAPHS {
-        let got = match graph_of(rt.alloc(), words, entry)? {
-            Ok(graph) => told(rt.alloc(), &graph)?,
-            Err(error) => refusal_told(rt.alloc(), error)?,
-        };
+    for &(words, entry, want) in &GRAPHS {
+        let got = told(rt.alloc(), words, entry, Telling::Whole)?;
         assert_eq!(rt; got.as_str(), want);
     }
     Ok(())
 }
 
-// The number of nodes and of leaders, or the refusal.
-fn counts_told(alloc: Global, words: &[u32]) -> Result<String, Fail> {
-    match graph_of(alloc, words, 0x1000)? {
-        Ok(graph) => {
-            let mut leaders: u32 = 0;
-            for number in 0..graph.len() {
-                if graph.leader(NodeId(number)) {
-                    leaders = leaders.saturating_add(1);
-                }
-            }
-            Ok(format!(in alloc; "{} nodes {leaders} leaders", graph.len())?)
-        }
-        Err(error) => Ok(refusal_told(alloc, error)?),
-    }
+fn compare_counts(rt: &impl Abort, alloc: Global, words: &[u32], want: &str) -> Result<(), Fail> {
+    let got = told(alloc, words, 0x1000, Telling::Counts)?;
+    assert_eq!(rt; got.as_str(), want);
+    Ok(())
 }
 
 // As many plain instructions, and then a last word if there is one.
@@ -140,7 +165,7 @@ fn plain_words(alloc: Global, count: usize, last: Option<u32>) -> Result<Vec<u32
 }
 
 // How many plain instructions and which last word, and what comes of them.
-const COUNTS: [(usize, Option<u32>, &str); 4] = [
+static COUNTS: [(usize, Option<u32>, &str); 4] = [
     (MOST_NODES - 1, Some(ECALL), "16384 nodes 1 leaders"),
     (MOST_NODES, Some(ECALL), "56 00001000"),
     (MOST_NODES - 1, None, "51 00010ffc"),
@@ -149,10 +174,9 @@ const COUNTS: [(usize, Option<u32>, &str); 4] = [
 
 #[test]
 fn limit_of_nodes(rt: HostRuntime) -> Result<(), Fail> {
-    for (count, last, want) in COUNTS {
+    for &(count, last, want) in &COUNTS {
         let words = plain_words(rt.alloc(), count, last)?;
-        let got = counts_told(rt.alloc(), &words)?;
-        assert_eq!(rt; got.as_str(), want);
+        compare_counts(&rt, rt.alloc(), &words, want)?;
     }
     Ok(())
 }
@@ -161,22 +185,20 @@ fn limit_of_nodes(rt: HostRuntime) -> Result<(), Fail> {
 fn chain(alloc: Global, calls: usize) -> Result<Vec<u32>, AllocError> {
     let mut words = Vec::new(alloc);
     for _ in 0..calls {
-        words.push(CALL)?;
-        words.push(RET)?;
+        words.extend_from_slice(&[CALL, RET])?;
     }
     words.push(RET)?;
     Ok(words)
 }
 
 // Calls in a chain, and what comes of them.
-const CHAINS: [(usize, &str); 2] = [(16, "33 nodes 1 leaders"), (17, "57 00001080")];
+static CHAINS: [(usize, &str); 2] = [(16, "33 nodes 1 leaders"), (17, "57 00001080")];
 
 #[test]
 fn chains_of_calls(rt: HostRuntime) -> Result<(), Fail> {
-    for (calls, want) in CHAINS {
+    for &(calls, want) in &CHAINS {
         let words = chain(rt.alloc(), calls)?;
-        let got = counts_told(rt.alloc(), &words)?;
-        assert_eq!(rt; got.as_str(), want);
+        compare_counts(&rt, rt.alloc(), &words, want)?;
     }
     Ok(())
 }

@@ -9,6 +9,7 @@ use crpd_base::{
 };
 use fixtures::PLATFORM;
 use std::alloc::{AllocError, Global};
+use std::process::Abort;
 use std::test::Fail;
 
 // A segment: its address, size, bytes, and whether it is executable.
@@ -138,31 +139,48 @@ fn place(alloc: Global, at: At) -> Result<Place, AllocError> {
     })
 }
 
-fn task(alloc: Global, file: &File) -> Result<TaskSpec, AllocError> {
-    let (from, to) = file.range;
+fn ranges_of(alloc: Global, from: At, to: At) -> Result<Vec<(Place, Place)>, AllocError> {
+    let range = (place(alloc, from)?, place(alloc, to)?);
     let mut ranges = Vec::new(alloc);
-    ranges.push((place(alloc, from)?, place(alloc, to)?))?;
-    let mut loops = Vec::new(alloc);
-    loops.push(LoopSpec {
+    ranges.push(range)?;
+    Ok(ranges)
+}
+
+// A loop at the first of two places, of the addresses from it to the second.
+fn loops_of(alloc: Global, from: At, to: At) -> Result<Vec<LoopSpec>, AllocError> {
+    let stated = LoopSpec {
         head: place(alloc, from)?,
         bound: 3,
-        ranges: Items::new(ranges),
-    })?;
-    let entry = if file.entry.0 == "e_entry" {
-        None
-    } else {
-        Some(place(alloc, file.entry)?)
+        ranges: Items::new(ranges_of(alloc, from, to)?),
     };
+    let mut loops = Vec::new(alloc);
+    loops.push(stated)?;
+    Ok(loops)
+}
+
+fn entry_of(alloc: Global, entry: At) -> Result<Option<Place>, AllocError> {
+    if entry.0 == "e_entry" {
+        return Ok(None);
+    }
+    Ok(Some(place(alloc, entry)?))
+}
+
+fn text_of(alloc: Global, text: &str) -> Result<Text, AllocError> {
+    Ok(Text::new(String::from_str(alloc, text)?))
+}
+
+fn task(alloc: Global, file: &File) -> Result<TaskSpec, AllocError> {
+    let (from, to) = file.range;
     Ok(TaskSpec {
-        name: Text::new(String::from_str(alloc, "one")?),
-        file: Text::new(String::from_str(alloc, file.name)?),
-        entry,
+        name: text_of(alloc, "one")?,
+        file: text_of(alloc, file.name)?,
+        entry: entry_of(alloc, file.entry)?,
         period: 100,
         deadline: 100,
         jitter: 0,
         stack: place(alloc, file.stack)?,
         global: Place::Number(7),
-        loops: Items::new(loops),
+        loops: Items::new(loops_of(alloc, from, to)?),
     })
 }
 
@@ -188,19 +206,21 @@ fn code(alloc: Global, files: &[File]) -> Result<CodeMap, MapError>
     CodeMap::new(alloc, &set, images)
 }
 
+fn refusal_told(alloc: Global, error: &MapError) -> Result<String, AllocError> {
+    match error {
+        MapError::Memory => format!(in alloc; "memory"),
+        MapError::CodeConflict(address) => format!(in alloc; "40 {address:08x}"),
+        MapError::UnknownSymbol(task, text) => format!(in alloc; "41 {} {}", task.0, text.as_str()),
+        MapError::EntryOutside(task, address) => format!(in alloc; "42 {} {address:08x}", task.0),
+    }
+}
+
 fn outcome(alloc: Global, files: &[File]) -> Result<String, AllocError>
     requires { length files.now ≤ 256 }
 {
     match code(alloc, files) {
-        Ok(_) => format!(in alloc; "code"),
-        Err(MapError::Memory) => format!(in alloc; "memory"),
-        Err(MapError::CodeConflict(address)) => format!(in alloc; "40 {address:08x}"),
-        Err(MapError::UnknownSymbol(task, text)) => {
-            format!(in alloc; "41 {} {}", task.0, text.as_str())
-        }
-        Err(MapError::EntryOutside(task, address)) => {
-            format!(in alloc; "42 {} {address:08x}", task.0)
-        }
+        Ok(_) => String::from_str(alloc, "code"),
+        Err(error) => refusal_told(alloc, &error),
     }
 }
 
@@ -350,17 +370,26 @@ fn refusals(rt: HostRuntime) -> Result<(), Fail> {
     Ok(())
 }
 
+// The code of files that are not refused.
+fn files_code(alloc: Global, files: &[File]) -> Result<CodeMap, Fail>
+    requires { length files.now ≤ 256 }
+{
+    match code(alloc, files) {
+        Ok(code) => Ok(code),
+        Err(_) => Err(Fail::from("refused")),
+    }
+}
+
 // Where the words of these files stand, and in which of the files each stands wholly.
 fn told(alloc: Global, code: &CodeMap, address: u32) -> Result<String, AllocError> {
     code.words_law();
     let Some(word) = code.word(address) else {
-        return format!(in alloc; "none");
+        return String::from_str(alloc, "none");
     };
     let mut text = format!(in alloc; "{word:08x}")?;
     for task in 0..4 {
         if usize::from(task) < code.images().len() && code.own(Task(task), address) {
-            let own = format!(in alloc; " {task}")?;
-            text.push_str(own.as_str())?;
+            write!(text, " {task}")?;
         }
     }
     Ok(text)
@@ -417,13 +446,15 @@ static NEXT: [(u8, u32, Option<u32>); 8] = [
     (3, 0xFFFF_FFF9, None),
 ];
 
-#[test]
-fn words(rt: HostRuntime) -> Result<(), Fail> {
-    let code = code(rt.alloc(), &FILES).map_err(|_| "refused")?;
+fn compare_words(rt: &impl Abort, alloc: Global, code: &CodeMap) -> Result<(), Fail> {
     for &(address, want) in &WORDS {
-        let got = told(rt.alloc(), &code, address)?;
+        let got = told(alloc, code, address)?;
         assert_eq!(rt; got.as_str(), want, "at {address:x}");
     }
+    Ok(())
+}
+
+fn compare_next(rt: &impl Abort, code: &CodeMap) {
     for &(task, from, want) in &NEXT {
         assert!(rt; usize::from(task) < code.images().len());
         assert_eq!(rt;
@@ -432,24 +463,29 @@ fn words(rt: HostRuntime) -> Result<(), Fail> {
             "task {task} from {from:x}"
         );
     }
-    Ok(())
 }
 
-// A loop of a plan: its head, its bound and its ranges.
-fn loop_told(alloc: Global, stated: &LoopAt) -> Result<String, AllocError> {
-    let mut text = format!(in alloc; ", {:x} {}", stated.head, stated.bound)?;
+#[test]
+fn words(rt: HostRuntime) -> Result<(), Fail> {
+    let code = files_code(rt.alloc(), &FILES)?;
+    compare_next(&rt, &code);
+    compare_words(&rt, rt.alloc(), &code)
+}
+
+// Writes a loop of a plan: its head, its bound and its ranges.
+fn push_loop(text: &mut String, stated: &LoopAt) -> Result<(), AllocError> {
+    write!(text, ", {:x} {}", stated.head, stated.bound)?;
     for range in stated.ranges.as_slice() {
         let (first, last) = *range;
-        let line = format!(in alloc; " {first:x} to {last:x}")?;
-        text.push_str(line.as_str())?;
+        write!(text, " {first:x} to {last:x}")?;
     }
-    Ok(text)
+    Ok(())
 }
 
 fn plan_told(alloc: Global, plan: &TaskPlan) -> Result<String, AllocError> {
     let mut text = format!(in alloc; "{:x} {:x} {:x}", plan.entry, plan.stack, plan.global)?;
     for stated in plan.loops.as_slice() {
-        text.push_str(loop_told(alloc, stated)?.as_str())?;
+        push_loop(&mut text, stated)?;
     }
     Ok(text)
 }
@@ -476,14 +512,18 @@ static PLANS: [(u8, &str); 3] = [
     (2, "1004 0 7, 0 3 0 to 0"),
 ];
 
-#[test]
-fn plans(rt: HostRuntime) -> Result<(), Fail> {
-    let code = code(rt.alloc(), &PLACES).map_err(|_| "refused")?;
+fn compare_plans(rt: &impl Abort, alloc: Global, code: &CodeMap) -> Result<(), Fail> {
     code.plans_law();
     for &(task, want) in &PLANS {
         assert!(rt; usize::from(task) < code.images().len());
-        let got = plan_told(rt.alloc(), code.plan(Task(task)))?;
+        let got = plan_told(alloc, code.plan(Task(task)))?;
         assert_eq!(rt; got.as_str(), want, "task {task}");
     }
     Ok(())
+}
+
+#[test]
+fn plans(rt: HostRuntime) -> Result<(), Fail> {
+    let code = files_code(rt.alloc(), &PLACES)?;
+    compare_plans(&rt, rt.alloc(), &code)
 }

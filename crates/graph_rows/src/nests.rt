@@ -2,8 +2,10 @@
 ghost use Rattle.std.specs.Prelude.{◌≡◌, ◌<◌, length};
 ghost use Rattle.flat_graph.specs.CodeGraph.{graph_of};
 
-use crpd_base::{NodeId, Task};
-use fixtures::{CALL_LOOP, ECALL, LOOP, NESTED, NEXT, ONE, PLATFORM, Program, RET, Stated, load};
+use crate::analysed::code_of;
+use code_map::CodeMap;
+use crpd_base::{NodeId, Task, TaskPlan};
+use fixtures::{CALL_LOOP, ECALL, LOOP, NESTED, NEXT, ONE, PLATFORM, Program, RET, Stated};
 use flat_graph::{Graph, build};
 use loop_regions::{LoopError, Nest, regions};
 use std::alloc::{AllocError, Global};
@@ -20,46 +22,45 @@ const TWO_CALLS: [u32; 6] = [0x00C0_00EF, 0x0080_00EF, ECALL, DOWN, JUMP, RET];
 // A loop round a call of a function with a loop.
 const LOOP_IN_CALL: [u32; 6] = [0x00C0_00EF, 0xFE03_1EE3, ECALL, DOWN, JUMP, RET];
 
-fn number_told(alloc: Global, number: Option<u32>) -> Result<String, AllocError> {
+fn push_number(text: &mut String, number: Option<u32>) -> Result<(), AllocError> {
     match number {
-        Some(number) => format!(in alloc; " {number}"),
-        None => String::from_str(alloc, " -"),
+        Some(number) => write!(text, " {number}"),
+        None => text.push_str(" -"),
     }
 }
 
-// A region: its head, its bound, its parent, and the nodes that it holds.
-fn region_told(alloc: Global, graph: &Graph, nest: &Nest, r: u32) -> Result<String, AllocError>
+// Writes a region: its head, its bound, its parent, and the nodes that it holds.
+fn push_region(text: &mut String, graph: &Graph, nest: &Nest, r: u32) -> Result<(), AllocError>
     requires region { r < length nest.now.heads }
     requires nodes { length nest.now.holders ≡ (graph_of graph.now).size }
 {
-    let mut text = format!(in alloc; " {} times {} in", nest.head(r).0, nest.bound(r))?;
-    text.push_str(number_told(alloc, nest.parent(r))?.as_str())?;
+    write!(text, " {} times {} in", nest.head(r).0, nest.bound(r))?;
+    push_number(text, nest.parent(r))?;
     text.push_str(":")?;
     for y in 0..graph.len() {
         if nest.holds(r, NodeId(y)) {
-            text.push_str(number_told(alloc, Some(y))?.as_str())?;
+            push_number(text, Some(y))?;
         }
     }
-    text.push_str(";")?;
-    Ok(text)
+    text.push_str(";")
 }
 
-// The regions, and the innermost region of each node.
-fn told(alloc: Global, graph: &Graph, nest: &Nest) -> Result<String, AllocError>
+// Writes the regions, and the innermost region of each node.
+fn push_nest(text: &mut String, graph: &Graph, nest: &Nest) -> Result<(), AllocError>
     requires { length nest.now.holders ≡ (graph_of graph.now).size }
 {
-    let mut text = format!(in alloc; "{}:", nest.len())?;
+    write!(text, "{}:", nest.len())?;
     for r in 0..nest.len() {
-        text.push_str(region_told(alloc, graph, nest, r)?.as_str())?;
+        push_region(text, graph, nest, r)?;
     }
     text.push_str(" of")?;
     for y in 0..graph.len() {
-        text.push_str(number_told(alloc, nest.innermost(NodeId(y)))?.as_str())?;
+        push_number(text, nest.innermost(NodeId(y)))?;
     }
-    Ok(text)
+    Ok(())
 }
 
-fn refusal_told(alloc: Global, error: LoopError) -> Result<String, AllocError> {
+fn refusal_told(alloc: Global, error: LoopError) -> Result<String, Fail> {
     let (number, address) = match error {
         LoopError::Memory => (0, 0),
         LoopError::SecondEntry(address) => (60, address),
@@ -67,7 +68,32 @@ fn refusal_told(alloc: Global, error: LoopError) -> Result<String, AllocError> {
         LoopError::SameHead(address) => (62, address),
         LoopError::CycleWithoutBound(address) => (63, address),
     };
-    format!(in alloc; "{number} {address:08x}")
+    Ok(format!(in alloc; "{number} {address:08x}")?)
+}
+
+fn nest_told(alloc: Global, graph: &Graph, nest: &Nest) -> Result<String, Fail>
+    requires { length nest.now.holders ≡ (graph_of graph.now).size }
+{
+    let mut text = String::new(alloc);
+    push_nest(&mut text, graph, nest)?;
+    Ok(text)
+}
+
+// The regions of a plan's loops, or the refusal.
+fn regions_told(alloc: Global, graph: &Graph, plan: &TaskPlan) -> Result<String, Fail> {
+    match regions(alloc, graph, plan) {
+        Ok(nest) => nest_told(alloc, graph, &nest),
+        Err(error) => refusal_told(alloc, error),
+    }
+}
+
+fn code_told(alloc: Global, code: &CodeMap) -> Result<String, Fail>
+    requires { 0 < length code.now.plans }
+{
+    match build(alloc, code, Task(0)) {
+        Ok(graph) => regions_told(alloc, &graph, code.plan(Task(0))),
+        Err(_) => Err(Fail::from("no graph")),
+    }
 }
 
 fn answer_told<'a>(alloc: Global, words: &'a [u32], loops: &'a [Stated]) -> Result<String, Fail> {
@@ -76,14 +102,8 @@ fn answer_told<'a>(alloc: Global, words: &'a [u32], loops: &'a [Stated]) -> Resu
         loops,
         ..ONE
     };
-    let code = load(alloc, PLATFORM, &[program])?.code;
-    match build(alloc, &code, Task(0)) {
-        Err(_) => Ok(String::from_str(alloc, "no graph")?),
-        Ok(graph) => match regions(alloc, &graph, code.plan(Task(0))) {
-            Ok(nest) => Ok(told(alloc, &graph, &nest)?),
-            Err(error) => Ok(refusal_told(alloc, error)?),
-        },
-    }
+    let code = code_of(alloc, &PLATFORM, program)?;
+    code_told(alloc, &code)
 }
 
 // The body of the loop of two instructions.

@@ -7,8 +7,9 @@ ghost use Rattle.dataflow.specs.VariableLaws.{both_joins, known_distributes, unk
 ghost use Rattle.dataflow.specs.declared.variable.Use.{Use};
 
 use dataflow::{Against, Domain, EdgeList, Known, Live, Use, solve};
-use std::alloc::Global;
+use std::alloc::{AllocError, Global};
 use std::cell::Cell;
+use std::process::Abort;
 use std::test::Fail;
 
 fn known(
@@ -27,122 +28,139 @@ fn live(alloc: Global, uses: &[Use], edges: &[(u32, u32)]) -> Result<Vec<Option<
     Ok(solve(alloc, &Against::new(&graph), &Live { uses })?)
 }
 
-#[test]
-fn a_chain(rt: HostRuntime) -> Result<(), Fail> {
-    let uses = [Use::Neither, Use::Writes(7), Use::Reads, Use::Neither];
-    let edges = [(2, 3), (1, 2), (0, 1)];
-    assert_eq!(rt;
-        known(rt.alloc(), &uses, &edges)?.as_slice(),
-        [Some(None), Some(None), Some(Some(7)), Some(Some(7))].as_slice()
-    );
-    assert_eq!(rt;
-        live(rt.alloc(), &uses, &edges)?.as_slice(),
-        [Some(false), Some(true), Some(false), Some(false)].as_slice()
-    );
-    Ok(())
+// What a small graph's nodes do, its edges, what is known at each node, and, where that is told
+// here, whether each is live.
+#[derive(Clone, Copy)]
+struct Case {
+    uses: &'static [Use],
+    edges: &'static [(u32, u32)],
+    known: &'static [Option<Option<u32>>],
+    live: Option<&'static [Option<bool>]>,
 }
 
-#[test]
-fn a_diamond(rt: HostRuntime) -> Result<(), Fail> {
-    let edges = [(0, 1), (0, 2), (1, 3), (2, 3), (3, 4)];
-    let same = [
-        Use::Neither,
-        Use::Writes(7),
-        Use::Writes(7),
-        Use::Reads,
-        Use::Neither,
-    ];
-    assert_eq!(rt;
-        known(rt.alloc(), &same, &edges)?.as_slice(),
-        [
+const DIAMOND: [(u32, u32); 5] = [(0, 1), (0, 2), (1, 3), (2, 3), (3, 4)];
+
+const LOOP: [(u32, u32); 5] = [(0, 1), (1, 2), (2, 1), (1, 3), (4, 3)];
+
+static CASES: [Case; 7] = [
+    // a chain
+    Case {
+        uses: &[Use::Neither, Use::Writes(7), Use::Reads, Use::Neither],
+        edges: &[(2, 3), (1, 2), (0, 1)],
+        known: &[Some(None), Some(None), Some(Some(7)), Some(Some(7))],
+        live: Some(&[Some(false), Some(true), Some(false), Some(false)]),
+    },
+    // a diamond whose sides write the same, and one whose sides write other numbers
+    Case {
+        uses: &[
+            Use::Neither,
+            Use::Writes(7),
+            Use::Writes(7),
+            Use::Reads,
+            Use::Neither,
+        ],
+        edges: &DIAMOND,
+        known: &[
             Some(None),
             Some(None),
             Some(None),
             Some(Some(7)),
-            Some(Some(7))
-        ]
-        .as_slice()
-    );
-    let other = [
-        Use::Reads,
-        Use::Writes(7),
-        Use::Writes(8),
-        Use::Neither,
-        Use::Reads,
-    ];
-    assert_eq!(rt;
-        known(rt.alloc(), &other, &edges)?.as_slice(),
-        [Some(None), Some(None), Some(None), Some(None), Some(None)].as_slice()
-    );
-    Ok(())
-}
-
-#[test]
-fn a_diamond_with_one_side_that_writes(rt: HostRuntime) -> Result<(), Fail> {
-    let edges = [(0, 1), (0, 2), (1, 3), (2, 3), (3, 4)];
-    let one_side = [
-        Use::Neither,
-        Use::Writes(7),
-        Use::Neither,
-        Use::Neither,
-        Use::Reads,
-    ];
-    assert_eq!(rt;
-        known(rt.alloc(), &one_side, &edges)?.as_slice(),
-        [Some(None), Some(None), Some(None), Some(None), Some(None)].as_slice()
-    );
-    assert_eq!(rt;
-        live(rt.alloc(), &one_side, &edges)?.as_slice(),
-        [Some(true), Some(true), Some(true), Some(true), Some(false)].as_slice()
-    );
-    Ok(())
-}
-
-#[test]
-fn a_loop_and_a_node_that_no_path_reaches(rt: HostRuntime) -> Result<(), Fail> {
-    let uses = [
-        Use::Writes(7),
-        Use::Neither,
-        Use::Writes(8),
-        Use::Reads,
-        Use::Writes(9),
-    ];
-    let edges = [(0, 1), (1, 2), (2, 1), (1, 3), (4, 3)];
-    assert_eq!(rt;
-        known(rt.alloc(), &uses, &edges)?.as_slice(),
-        [Some(None), Some(None), Some(None), Some(None), None].as_slice()
-    );
-    assert_eq!(rt;
-        live(rt.alloc(), &uses, &edges)?.as_slice(),
-        [Some(true), Some(true), Some(true), Some(false), Some(true)].as_slice()
-    );
-    let kept = [
-        Use::Writes(7),
-        Use::Neither,
-        Use::Writes(7),
-        Use::Reads,
-        Use::Writes(9),
-    ];
-    assert_eq!(rt;
-        known(rt.alloc(), &kept, &edges)?.as_slice(),
-        [
+            Some(Some(7)),
+        ],
+        live: None,
+    },
+    Case {
+        uses: &[
+            Use::Reads,
+            Use::Writes(7),
+            Use::Writes(8),
+            Use::Neither,
+            Use::Reads,
+        ],
+        edges: &DIAMOND,
+        known: &[Some(None), Some(None), Some(None), Some(None), Some(None)],
+        live: None,
+    },
+    // a diamond with one side that writes
+    Case {
+        uses: &[
+            Use::Neither,
+            Use::Writes(7),
+            Use::Neither,
+            Use::Neither,
+            Use::Reads,
+        ],
+        edges: &DIAMOND,
+        known: &[Some(None), Some(None), Some(None), Some(None), Some(None)],
+        live: Some(&[Some(true), Some(true), Some(true), Some(true), Some(false)]),
+    },
+    // a loop that writes, and a node that no path reaches
+    Case {
+        uses: &[
+            Use::Writes(7),
+            Use::Neither,
+            Use::Writes(8),
+            Use::Reads,
+            Use::Writes(9),
+        ],
+        edges: &LOOP,
+        known: &[Some(None), Some(None), Some(None), Some(None), None],
+        live: Some(&[Some(true), Some(true), Some(true), Some(false), Some(true)]),
+    },
+    Case {
+        uses: &[
+            Use::Writes(7),
+            Use::Neither,
+            Use::Writes(7),
+            Use::Reads,
+            Use::Writes(9),
+        ],
+        edges: &LOOP,
+        known: &[
             Some(None),
             Some(Some(7)),
             Some(Some(7)),
             Some(Some(7)),
-            None
-        ]
-        .as_slice()
-    );
+            None,
+        ],
+        live: None,
+    },
+    // no nodes
+    Case {
+        uses: &[],
+        edges: &[],
+        known: &[],
+        live: None,
+    },
+];
+
+fn compare_known(rt: &impl Abort, alloc: Global, case: &Case) -> Result<(), Fail> {
+    let got = known(alloc, case.uses, case.edges)?;
+    assert_eq!(rt; got.as_slice(), case.known);
+    Ok(())
+}
+
+fn compare_live(rt: &impl Abort, alloc: Global, case: &Case) -> Result<(), Fail> {
+    if let Some(want) = case.live {
+        let got = live(alloc, case.uses, case.edges)?;
+        assert_eq!(rt; got.as_slice(), want);
+    }
     Ok(())
 }
 
 #[test]
-fn no_nodes_and_no_graph(rt: HostRuntime) -> Result<(), Fail> {
-    assert_eq!(rt; known(rt.alloc(), &[], &[])?.len(), 0);
+fn facts_of_small_graphs(rt: HostRuntime) -> Result<(), Fail> {
+    for case in &CASES {
+        compare_known(&rt, rt.alloc(), case)?;
+        compare_live(&rt, rt.alloc(), case)?;
+    }
+    Ok(())
+}
+
+#[test]
+fn ends_that_are_no_nodes(rt: HostRuntime) {
     assert!(rt; EdgeList::new(2, &[(0, 2)]).is_none());
     assert!(rt; EdgeList::new(2, &[(2, 0)]).is_none());
-    Ok(())
 }
 
 // Known, with a count of its transfers.
@@ -192,35 +210,56 @@ impl Domain for Counted<'_> {
     ghost bounded = { λ d v. unknown_bounded v };
 }
 
-// Of a graph with no cycle each node is visited once, whatever the numbers of nodes and edges are.
-#[test]
-fn each_node_of_a_loop_free_graph_is_visited_once(rt: HostRuntime) -> Result<(), Fail> {
-    let mut uses = Vec::new(rt.alloc());
-    let mut edges = Vec::new(rt.alloc());
-    for i in 0..1000u32 {
+// As many nodes, of which each third one writes its number.
+fn thirds(alloc: Global, nodes: u32) -> Result<Vec<Use>, AllocError> {
+    let mut uses = Vec::new(alloc);
+    for i in 0..nodes {
         uses.push(if i % 3 == 0 {
             Use::Writes(i)
         } else {
             Use::Neither
         })?;
-        if i < 998 {
-            edges.push((i * 7 % 1000, (i + 1) * 7 % 1000))?;
-            edges.push((i * 7 % 1000, (i + 2) * 7 % 1000))?;
-        }
+    }
+    Ok(uses)
+}
+
+// Edges between 1,000 nodes in an order of their own, from each but the last two to the next two,
+// the last edge first.
+fn edges_onward(alloc: Global) -> Result<Vec<(u32, u32)>, AllocError> {
+    let mut edges = Vec::new(alloc);
+    for i in 0..998u32 {
+        edges.push((i * 7 % 1000, (i + 1) * 7 % 1000))?;
+        edges.push((i * 7 % 1000, (i + 2) * 7 % 1000))?;
     }
     edges.reverse();
+    Ok(edges)
+}
+
+// How often the 1,000 nodes are visited in all.
+fn visits_of(
+    rt: &impl Abort,
+    alloc: Global,
+    uses: &[Use],
+    edges: &[(u32, u32)],
+) -> Result<u32, Fail> {
     assert_eq!(rt; uses.len(), 1000);
-    let graph = EdgeList::new(1000, edges.as_slice()).ok_or("an end of an edge is no node")?;
+    let graph = EdgeList::new(1000, edges).ok_or("an end of an edge is no node")?;
     let visits = Cell::new(0);
-    let facts = solve(
-        rt.alloc(),
-        &graph,
-        &Counted {
-            uses: uses.as_slice(),
-            visits: &visits,
-        },
-    )?;
+    let counted = Counted {
+        uses,
+        visits: &visits,
+    };
+    let facts = solve(alloc, &graph, &counted)?;
     assert!(rt; facts.iter().all(|fact| fact.is_some()));
-    assert_eq!(rt; visits.get(), 1000);
+    Ok(visits.get())
+}
+
+// Of a graph with no cycle each node is visited once, whatever the numbers of nodes and edges are.
+#[test]
+fn each_node_of_a_loop_free_graph_is_visited_once(rt: HostRuntime) -> Result<(), Fail> {
+    let uses = thirds(rt.alloc(), 1000)?;
+    let edges = edges_onward(rt.alloc())?;
+    let visits = visits_of(&rt, rt.alloc(), &uses, &edges)?;
+    assert_eq!(rt; visits, 1000);
     Ok(())
 }

@@ -1,11 +1,15 @@
 // What the caches of small programs surely hold and reuse, which sets they evict, and their longest
 // cost.
+ghost use Rattle.std.specs.Prelude.{◌<◌, length};
+
+use crate::analysed::{code_of, states_of};
+use code_map::CodeMap;
 use crpd_base::{Platform, SetBits, Task};
 use evict_sets::{evicting, longest};
-use fixtures::{BACK, CALLS, LINES, LOOP, ONE, PLATFORM, Program, TWO_WORDS, load};
+use fixtures::{BACK, CALLS, LINES, LOOP, ONE, PLATFORM, Program, TWO_WORDS};
 use flat_graph::{Graph, build};
 use icache::Geometry;
-use must_cache::{MustState, must};
+use must_cache::MustState;
 use std::alloc::{AllocError, Global};
 use std::test::Fail;
 use useful_sets::{all, useful};
@@ -15,47 +19,36 @@ const EIGHT_SETS: Platform = Platform {
     ..PLATFORM
 };
 
-fn graph_of(alloc: Global, start: u32, words: &[u32]) -> Result<Graph, Fail> {
-    let program = Program {
-        start,
-        words,
-        ..ONE
-    };
-    let code = load(alloc, EIGHT_SETS, &[program])?.code;
-    Ok(build(alloc, &code, Task(0)).or(Err("a graph"))?)
-}
-
-// The numbers of a set.
-fn numbers(alloc: Global, sets: &SetBits<1>) -> Result<String, AllocError> {
-    let mut text = String::new(alloc);
+// Writes the numbers of a set.
+fn push_numbers(text: &mut String, sets: &SetBits<1>) -> Result<(), AllocError> {
     for set in 0u16..8 {
         if sets.has(set) {
-            text.push_str(format!(in alloc; " {set}")?.as_str())?;
+            write!(text, " {set}")?;
         }
     }
-    Ok(text)
+    Ok(())
 }
 
-// The blocks that the sets surely hold.
-fn held(alloc: Global, state: &MustState<8>) -> Result<String, AllocError> {
-    let mut text = String::new(alloc);
+// Writes the blocks that the sets surely hold.
+fn push_held(text: &mut String, state: &MustState<8>) -> Result<(), AllocError> {
     for set in 0u16..8 {
         if let Some(block) = state.at(set) {
-            text.push_str(format!(in alloc; " {set}={block:x}")?.as_str())?;
+            write!(text, " {set}={block:x}")?;
         }
     }
-    Ok(text)
+    Ok(())
 }
 
-// The state and the useful sets of a node.
-fn node_told(
-    alloc: Global,
+// Writes the state and the useful sets of a node.
+fn push_node(
+    text: &mut String,
     state: &MustState<8>,
     useful: &SetBits<1>,
-) -> Result<String, AllocError> {
-    let sure = held(alloc, state)?;
-    let sets = numbers(alloc, useful)?;
-    format!(in alloc; ";{sure} |{sets}")
+) -> Result<(), AllocError> {
+    text.push_str(";")?;
+    push_held(text, state)?;
+    text.push_str(" |")?;
+    push_numbers(text, useful)
 }
 
 // The sets and the longest cost of a task.
@@ -65,22 +58,45 @@ fn task_told(
     useful: &SetBits<1>,
     cost: u64,
 ) -> Result<String, AllocError> {
-    let evicted = numbers(alloc, evicting)?;
-    let reused = numbers(alloc, useful)?;
-    format!(in alloc; "evicting{evicted} useful{reused} longest {cost}")
+    let mut text = String::from_str(alloc, "evicting")?;
+    push_numbers(&mut text, evicting)?;
+    text.push_str(" useful")?;
+    push_numbers(&mut text, useful)?;
+    write!(text, " longest {cost}")?;
+    Ok(text)
 }
 
-// The same, and each node's state and useful sets.
+// The sets and the longest cost of a graph, and each node's state and useful sets.
 fn told(alloc: Global, graph: &Graph) -> Result<String, Fail> {
     let geometry = Geometry::new(&EIGHT_SETS);
-    let states = must::<8>(alloc, graph, &geometry)?;
+    let states = states_of::<8>(alloc, &EIGHT_SETS, graph)?;
     let useful = useful::<8, 1>(alloc, graph, &geometry, &states)?;
     let evicting = evicting::<1>(graph, &geometry);
     let mut text = task_told(alloc, &evicting, &all(&useful), longest(graph, &EIGHT_SETS))?;
     for (state, sets) in states.iter().zip(useful.iter()) {
-        text.push_str(node_told(alloc, state, sets)?.as_str())?;
+        push_node(&mut text, state, sets)?;
     }
     Ok(text)
+}
+
+fn code_told(alloc: Global, code: &CodeMap) -> Result<String, Fail>
+    requires { 0 < length code.now.plans }
+{
+    match build(alloc, code, Task(0)) {
+        Ok(graph) => told(alloc, &graph),
+        Err(_) => Err(Fail::from("no graph")),
+    }
+}
+
+// The same of these words from an address on.
+fn words_told(alloc: Global, start: u32, words: &[u32]) -> Result<String, Fail> {
+    let program = Program {
+        start,
+        words,
+        ..ONE
+    };
+    let code = code_of(alloc, &EIGHT_SETS, program)?;
+    code_told(alloc, &code)
 }
 
 // `beq x0,x0,16`, the one way by `jal x0,4` and the other by `jal x0,-8` in the next line, to one
@@ -170,9 +186,9 @@ static SETS: [(u32, &[u32], &str); 8] = [
 
 #[test]
 fn small_programs(rt: HostRuntime) -> Result<(), Fail> {
-    for &(start, words, text) in &SETS {
-        let graph = graph_of(rt.alloc(), start, words)?;
-        assert_eq!(rt; told(rt.alloc(), &graph)?.as_str(), text);
+    for &(start, words, want) in &SETS {
+        let got = words_told(rt.alloc(), start, words)?;
+        assert_eq!(rt; got.as_str(), want);
     }
     Ok(())
 }

@@ -1,14 +1,17 @@
 // The bounds of programs of several ways, as numbers and as the least potentials by a slow
 // fixpoint.
-ghost use Rattle.std.specs.Prelude.{◌≡◌, ◌<◌, ◌≤◌};
+ghost use Rattle.std.specs.Prelude.{◌<◌, ◌≤◌};
+ghost use Rattle.loop_regions.specs.CodeNest.{IsNestOf};
 
-use crate::analysed::analysed;
-use crate::bounds::{COSTS, told};
-use crate::fixpoint::Inequalities;
+use crate::analysed::{analysed, states_of};
+use crate::bounds::{COSTS, Row, compare_bounds};
+use crate::fixpoint::{Inequalities, Potentials};
 use crpd_base::{Platform, Switching};
-use exec_bound::bound;
+use exec_bound::{Bound, bound};
 use fixtures::{CALL_LOOP, CALLS, ECALL, LOOP, NESTED, RET, Stated};
+use flat_graph::Graph;
 use icache::Geometry;
+use loop_regions::Nest;
 use std::alloc::Global;
 use std::process::Abort;
 use std::test::Fail;
@@ -117,7 +120,7 @@ const SMALL: Platform = Platform {
 
 // Words, stated loops, and the bound with the potentials: ways that meet, loops with several exits,
 // and loops in loops and calls.
-static WAYS: [(&[u32], &[Stated], &str); 16] = [
+static WAYS: [Row; 16] = [
     (&STRAIGHT, &[], "51: 51 32 19;"),
     (&RETURN, &[], "24: 24 5;"),
     (&DIAMOND, &[], "73: 73 54 41 38 19;"),
@@ -190,51 +193,76 @@ static WAYS: [(&[u32], &[Stated], &str); 16] = [
 
 #[test]
 fn bounds_of_ways(rt: HostRuntime) -> Result<(), Fail> {
-    for &(words, stated, want) in &WAYS {
-        let got = told(rt.alloc(), &SMALL, words, stated)?;
-        assert_eq!(rt; got.as_str(), want);
-    }
-    Ok(())
+    compare_bounds(&rt, rt.alloc(), &SMALL, &WAYS)
 }
 
-// Compares the bound of a program and all potentials with the fixpoint.
-fn compare<'a>(
+// Compares a bound and all its potentials with those of the fixpoint.
+fn compare_potentials(
+    rt: &impl Abort,
+    inequalities: &Inequalities<4>,
+    found: &Bound,
+    least: &Potentials,
+) {
+    let graph = inequalities.graph;
+    graph.graph_law();
+    assert_eq!(rt; found.nodes.as_slice(), least.nodes.as_slice());
+    assert_eq!(rt; found.loops.as_slice(), least.loops.as_slice());
+    assert_eq!(rt; found.cycles, inequalities.item(least, None, graph.first()));
+}
+
+// Compares the bound of a graph with the fixpoint.
+fn compare_fixpoint(
+    rt: &impl Abort,
+    alloc: Global,
+    platform: &Platform,
+    graph: &Graph,
+    nest: &Nest,
+) -> Result<(), Fail>
+    requires line { 0 < platform.now.line }
+    requires sets { 0 < platform.now.sets }
+    requires room { platform.now.sets ≤ 4 }
+    requires nest { IsNestOf graph.now nest.now }
+{
+    let states = states_of::<4>(alloc, platform, graph)?;
+    let geometry = Geometry::new(platform);
+    let inequalities = Inequalities {
+        graph,
+        nest,
+        platform,
+        geometry: &geometry,
+        states: &states,
+    };
+    let least = inequalities.fixpoint(alloc)?;
+    match bound(alloc, graph, nest, platform, &states) {
+        Ok(found) => {
+            compare_potentials(rt, &inequalities, &found, &least);
+            Ok(())
+        }
+        Err(_) => Err(Fail::from("no bound")),
+    }
+}
+
+// Compares the bound of a program with the fixpoint.
+fn compare_way<'a>(
     rt: &impl Abort,
     alloc: Global,
     platform: &Platform,
     words: &'a [u32],
-    stated: &'a [Stated],
+    loops: &'a [Stated],
 ) -> Result<(), Fail>
     requires line { 0 < platform.now.line }
     requires sets { 0 < platform.now.sets }
     requires room { platform.now.sets ≤ 4 }
 {
-    let of = analysed::<4>(alloc, platform, words, stated)?;
-    of.graph.graph_law();
-    let geometry = Geometry::new(platform);
-    let inequalities = Inequalities {
-        graph: &of.graph,
-        nest: &of.nest,
-        platform,
-        geometry: &geometry,
-        states: &of.states,
-    };
-    let least = inequalities.fixpoint(alloc)?;
-    let cycles = inequalities.item(&least, None, of.graph.first());
-    let Ok(found) = bound(alloc, &of.graph, &of.nest, platform, &of.states) else {
-        return Err(Fail::from("no bound"));
-    };
-    assert_eq!(rt; found.nodes.as_slice(), least.nodes.as_slice());
-    assert_eq!(rt; found.loops.as_slice(), least.loops.as_slice());
-    assert_eq!(rt; found.cycles, cycles);
-    Ok(())
+    let of = analysed(alloc, platform, words, loops)?;
+    compare_fixpoint(rt, alloc, platform, &of.0, &of.1)
 }
 
 #[test]
 fn bounds_are_least_potentials(rt: HostRuntime) -> Result<(), Fail> {
-    for &(words, stated, _) in &WAYS {
-        compare(&rt, rt.alloc(), &COSTS, words, stated)?;
-        compare(&rt, rt.alloc(), &SMALL, words, stated)?;
+    for &(words, loops, _) in &WAYS {
+        compare_way(&rt, rt.alloc(), &COSTS, words, loops)?;
+        compare_way(&rt, rt.alloc(), &SMALL, words, loops)?;
     }
     Ok(())
 }

@@ -40,10 +40,8 @@ fn answer(alloc: Global, rows: &[Row], words: u16) -> Result<String, Fail>
     requires { words ≤ 8 }
 {
     let n = numbers_of(alloc, Switching::Cycle, rows, words)?;
-    Ok(told(
-        alloc,
-        classic_windows(alloc, &n.set, n.parts.as_slice(), &n.longest),
-    )?)
+    let windows = classic_windows(alloc, &n.set, n.parts.as_slice(), &n.longest);
+    told(alloc, &windows)
 }
 
 const LONG: u64 = 10_000;
@@ -83,11 +81,20 @@ fn windows_of_small_sets(rt: HostRuntime) -> Result<(), Fail> {
         let got = answer(rt.alloc(), rows, 1)?;
         assert_eq!(rt; got.as_str(), want);
     }
-    let crowd = crowd_of(rt.alloc(), 27_128)?;
-    let got = answer(rt.alloc(), &crowd, 8)?;
-    assert!(rt; got.as_str().ends_with(" ucb 502999999"));
-    let crowd = crowd_of(rt.alloc(), 27_129)?;
-    let got = answer(rt.alloc(), &crowd, 8)?;
-    assert_eq!(rt; got.as_str(), "none of 31");
+    Ok(())
+}
+
+// The windows of a crowd of tasks with this bound.
+fn crowd_told(alloc: Global, bound: u64) -> Result<String, Fail> {
+    let crowd = crowd_of(alloc, bound)?;
+    answer(alloc, &crowd, 8)
+}
+
+#[test]
+fn windows_below_many(rt: HostRuntime) -> Result<(), Fail> {
+    let found = crowd_told(rt.alloc(), 27_128)?;
+    assert!(rt; found.as_str().ends_with(" ucb 502999999"));
+    let none = crowd_told(rt.alloc(), 27_129)?;
+    assert_eq!(rt; none.as_str(), "none of 31");
     Ok(())
 }

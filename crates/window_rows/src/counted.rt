@@ -12,10 +12,8 @@ fn answer(alloc: Global, switching: Switching, rows: &[Row], words: u16) -> Resu
     requires { words ≤ 8 }
 {
     let n = numbers_of(alloc, switching, rows, words)?;
-    Ok(told(
-        alloc,
-        windows(alloc, &n.set, n.parts.as_slice(), &n.longest),
-    )?)
+    let windows = windows(alloc, &n.set, n.parts.as_slice(), &n.longest);
+    told(alloc, &windows)
 }
 
 const LONG: u64 = 10_000;
@@ -134,16 +132,25 @@ fn windows_of_small_sets(rt: HostRuntime) -> Result<(), Fail> {
     Ok(())
 }
 
+// The windows of a crowd of tasks with this bound.
+fn crowd_told(alloc: Global, bound: u64) -> Result<String, Fail> {
+    let crowd = crowd_of(alloc, bound)?;
+    answer(alloc, Switching::Cycle, &crowd, 8)
+}
+
 #[test]
 fn windows_below_many(rt: HostRuntime) -> Result<(), Fail> {
-    let crowd = crowd_of(rt.alloc(), 27_128)?;
-    let got = answer(rt.alloc(), Switching::Cycle, &crowd, 8)?;
-    assert!(rt; got.as_str().ends_with(" ucb 502999999"));
-    let crowd = crowd_of(rt.alloc(), 27_129)?;
-    let got = answer(rt.alloc(), Switching::Cycle, &crowd, 8)?;
-    assert_eq!(rt; got.as_str(), "none of 31");
-    // where the load is that of delays between the higher tasks too, the window is found without
-    // creeping as well
+    let found = crowd_told(rt.alloc(), 27_128)?;
+    assert!(rt; found.as_str().ends_with(" ucb 502999999"));
+    let none = crowd_told(rt.alloc(), 27_129)?;
+    assert_eq!(rt; none.as_str(), "none of 31");
+    Ok(())
+}
+
+// Where the load is that of delays between the higher tasks too, the window is found without
+// creeping as well.
+#[test]
+fn windows_below_delayed(rt: HostRuntime) -> Result<(), Fail> {
     let got = answer(rt.alloc(), Switching::Cycle, &DELAYED, 1)?;
     assert!(rt; got.as_str().ends_with(" ucb 68719476736"));
     Ok(())

@@ -34,7 +34,7 @@ fn delays(jobs: u64, first: u8, second: u8) -> (u128, u128) {
 }
 
 // How many jobs evict, the jobs of two affected tasks, and the delays.
-const DELAYS: [(u64, u8, u8, (u128, u128)); 6] = [
+static DELAYS: [(u64, u8, u8, (u128, u128)); 6] = [
     (1, 1, 1, (40, 30)),
     (3, 1, 1, (50, 50)),
     (2, 5, 1, (60, 50)),
@@ -45,7 +45,7 @@ const DELAYS: [(u64, u8, u8, (u128, u128)); 6] = [
 
 #[test]
 fn delays_of_two_tasks(rt: HostRuntime) {
-    for (jobs, first, second, want) in DELAYS {
+    for &(jobs, first, second, want) in &DELAYS {
         assert_eq!(rt;
             delays(jobs, first, second),
             want,

@@ -5,8 +5,8 @@ ghost use Rattle.delay_count.specs.Demand.{HasLongest};
 ghost use Rattle.delay_count.specs.Gamma.{part_at};
 
 use crpd_base::{
-    Items, LONGEST_TIME, MOST_TASKS, Method, Part, Place, Platform, Switching, Task, TaskSet,
-    TaskSpec, Text,
+    Items, LONGEST_TIME, MOST_TASKS, Method, Part, Place, Platform, Switching, TaskSet, TaskSpec,
+    Text,
 };
 use fixtures::{PLATFORM, bits_of};
 use response::{Choice, WindowError};
@@ -145,27 +145,31 @@ pub(crate) fn numbers_of(
     })
 }
 
+fn push_choices(text: &mut String, choices: &[Choice]) -> Result<(), AllocError> {
+    text.push_str("windows")?;
+    for choice in choices {
+        let method = if choice.method == Method::Ucb {
+            "ucb"
+        } else {
+            "ecb"
+        };
+        write!(text, " {method} {}", choice.window)?;
+    }
+    Ok(())
+}
+
 // Each window with its method, or the first task without one.
 pub(crate) fn told(
     alloc: Global,
-    windows: Result<Vec<Choice>, WindowError>,
-) -> Result<String, AllocError> {
+    windows: &Result<Vec<Choice>, WindowError>,
+) -> Result<String, Fail> {
+    let mut text = String::new(alloc);
     match windows {
-        Ok(choices) => {
-            let mut text = String::from_str(alloc, "windows")?;
-            for choice in choices.as_slice() {
-                let method = if choice.method == Method::Ucb {
-                    "ucb"
-                } else {
-                    "ecb"
-                };
-                text.push_str(format!(in alloc; " {method} {}", choice.window)?.as_str())?;
-            }
-            Ok(text)
-        }
-        Err(WindowError::Unschedulable(Task(task))) => format!(in alloc; "none of {task}"),
-        Err(WindowError::Memory) => String::from_str(alloc, "no memory"),
+        Ok(choices) => push_choices(&mut text, choices.as_slice())?,
+        Err(WindowError::Unschedulable(task)) => write!(text, "none of {}", task.0)?,
+        Err(WindowError::Memory) => text.push_str("no memory")?,
     }
+    Ok(text)
 }
 
 // Thirty-one tasks with this bound that evict and use all 512 sets, and a task of the longest
