@@ -1,3 +1,4 @@
 -- What contracts inside the crate alone cite; no clause of a public call reaches it.
 pub mod Commands
 pub mod Output
+pub mod Shaped

@@ -8,8 +8,9 @@ ghost use Rattle.crpd_tool.specs.Analyze.{AnalysisOf, AnalyzeEnds};
 
 use crate::answer::Answer;
 use crate::ending::{certificate_answer, without_certificate};
+use crate::shaped::load_shaped;
 use cert_build::{BuildError, certify};
-use crpd_input::{Halt, Input, Shapes, load_input, task_shapes};
+use crpd_input::{Halt, Input, Shapes};
 use crpd_io::Files;
 use std::alloc::Global;
 
@@ -37,10 +38,6 @@ pub(crate) fn analyze<F: Files>(alloc: Global, files: &mut F, set: &str) -> Resu
     ensures later { F.faults files.old ≤ F.faults files.new }
     ensures fault { IsErrOf result Halt.Fault → Rose (F.faults files.old) (F.faults files.new) }
 {
-    let input = load_input(alloc, files, set)?;
-    let shapes = task_shapes(alloc, &input)?;
-    match analysis(alloc, set, &input, &shapes) {
-        Ok(answer) => Ok(answer),
-        Err(halt) => Err(halt),
-    }
+    let shaped = load_shaped(alloc, files, set)?;
+    analysis(alloc, set, &shaped.input, &shaped.shapes)
 }

@@ -8,7 +8,8 @@ ghost use Rattle.crpd_tool.specs.Classic.{ClassicEnds, ClassicOf};
 
 use crate::answer::Answer;
 use crate::ending::{certificate_answer, without_certificate};
-use crpd_input::{Halt, Input, Shapes, load_input, task_shapes};
+use crate::shaped::load_shaped;
+use crpd_input::{Halt, Input, Shapes};
 use crpd_io::Files;
 use delay_classic::ClassicError;
 use std::alloc::Global;
@@ -38,10 +39,6 @@ pub(crate) fn classic<F: Files>(alloc: Global, files: &mut F, set: &str) -> Resu
     ensures later { F.faults files.old ≤ F.faults files.new }
     ensures fault { IsErrOf result Halt.Fault → Rose (F.faults files.old) (F.faults files.new) }
 {
-    let input = load_input(alloc, files, set)?;
-    let shapes = task_shapes(alloc, &input)?;
-    match plain_analysis(alloc, set, &input, &shapes) {
-        Ok(answer) => Ok(answer),
-        Err(halt) => Err(halt),
-    }
+    let shaped = load_shaped(alloc, files, set)?;
+    plain_analysis(alloc, set, &shaped.input, &shaped.shapes)
 }

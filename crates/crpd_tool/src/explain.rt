@@ -6,15 +6,18 @@ ghost use Rattle.cert_model.specs.Ranges.{IsCertificate};
 ghost use Rattle.crpd_base.specs.Ranges.{IsTaskSet};
 ghost use Rattle.crpd_io.specs.Outside.{Rose};
 ghost use Rattle.crpd_input.specs.Shapes.{ShapesIn};
-ghost use Rattle.crpd_input.specs.Steps.{MeansBy, HoldsWhereTold};
+ghost use Rattle.crpd_input.specs.Reading.{certificate_in};
+ghost use Rattle.crpd_input.specs.Script.{script_in};
+ghost use Rattle.crpd_input.specs.Steps.{Exactly, MeansBy, HoldsWhereTold, Then};
 ghost use Rattle.preempt_machine.specs.Safe.{NamesTasks};
 ghost use Rattle.crpd_tool.specs.Explain.{AccountOf, ExplainEnds, ExplanationOf};
 
 use crate::answer::{Answer, Outcome};
+use crate::shaped::{Shaped, load_shaped};
 use crate::texts::write_verdict;
 use cert_check::{Verdict, verdict};
 use crpd_base::{Certificate, Items, Memory, Script};
-use crpd_input::{Halt, Input, Shapes, load_certificate, load_input, load_script, task_shapes};
+use crpd_input::{Halt, Input, Shapes, load_certificate, load_script};
 use crpd_io::Files;
 use crpd_report::explain_text;
 use std::alloc::Global;
@@ -82,6 +85,58 @@ fn explanation(
     }
 }
 
+/// The account of the run of a file's script, or the judge's no to the certificate.
+fn explain_script<F: Files>(
+    alloc: Global,
+    files: &mut F,
+    shaped: &Shaped,
+    stated: &Certificate,
+    script: &str,
+) -> Result<Answer, Halt>
+    requires set { IsTaskSet shaped.now.input.set }
+    requires count { length shaped.now.input.code.images ≡ length shaped.now.input.set.tasks }
+    requires shaped { ShapesIn shaped.now.input (Ok shaped.now.shapes) }
+    requires shown { AreTaskGraphs shaped.now.input.set shaped.now.shapes.graphs
+        shaped.now.shapes.nests }
+    requires ranges { IsCertificate stated.now }
+    ensures exact { HoldsWhereTold (F.contents files.old)
+        (λ c. MeansBy (Then (Exactly (script_in c script.now shaped.now.input.set))
+        (ExplanationOf shaped.now.input shaped.now.shapes stated.now)) result) }
+    ensures same { F.contents files.new ≡ F.contents files.old }
+    ensures later { F.faults files.old ≤ F.faults files.new }
+    ensures fault { IsErrOf result Halt.Fault → Rose (F.faults files.old) (F.faults files.new) }
+{
+    let given = load_script(alloc, files, script, &shaped.input.set)?;
+    let answer = explanation(alloc, &shaped.input, &shaped.shapes, stated, &given)?;
+    Ok(answer)
+}
+
+/// The account of a script's run, or the judge's no, after the certificate and the script were read
+/// from their files.
+fn explain_certificate<F: Files>(
+    alloc: Global,
+    files: &mut F,
+    shaped: &Shaped,
+    certificate: &str,
+    script: &str,
+) -> Result<Answer, Halt>
+    requires set { IsTaskSet shaped.now.input.set }
+    requires count { length shaped.now.input.code.images ≡ length shaped.now.input.set.tasks }
+    requires shaped { ShapesIn shaped.now.input (Ok shaped.now.shapes) }
+    requires shown { AreTaskGraphs shaped.now.input.set shaped.now.shapes.graphs
+        shaped.now.shapes.nests }
+    ensures exact { HoldsWhereTold (F.contents files.old)
+        (λ c. MeansBy (Then (Exactly (certificate_in c certificate.now)) (λ stated.
+        Then (Exactly (script_in c script.now shaped.now.input.set))
+        (ExplanationOf shaped.now.input shaped.now.shapes stated))) result) }
+    ensures same { F.contents files.new ≡ F.contents files.old }
+    ensures later { F.faults files.old ≤ F.faults files.new }
+    ensures fault { IsErrOf result Halt.Fault → Rose (F.faults files.old) (F.faults files.new) }
+{
+    let stated = load_certificate(alloc, files, certificate)?;
+    explain_script(alloc, files, shaped, &stated, script)
+}
+
 /// Tells the reloads of a script's run and the delays that a certificate charges, where the judge
 /// says yes to it: after the graphs of all tasks and the regions of their loops, the certificate
 /// and the script.
@@ -98,16 +153,6 @@ pub(crate) fn explain<F: Files>(
     ensures later { F.faults files.old ≤ F.faults files.new }
     ensures fault { IsErrOf result Halt.Fault → Rose (F.faults files.old) (F.faults files.new) }
 {
-    let input = load_input(alloc, files, set)?;
-    let shapes = task_shapes(alloc, &input)?;
-    let stated = match load_certificate(alloc, files, certificate) {
-        Ok(stated) => stated,
-        Err(halt) => return Err(halt),
-    };
-    let given = match load_script(alloc, files, script, &input.set) {
-        Ok(given) => given,
-        Err(halt) => return Err(halt),
-    };
-    let answer = explanation(alloc, &input, &shapes, &stated, &given)?;
-    Ok(answer)
+    let shaped = load_shaped(alloc, files, set)?;
+    explain_certificate(alloc, files, &shaped, certificate, script)
 }

@@ -7,9 +7,10 @@ ghost use Rattle.crpd_input.specs.Steps.{MeansBy, HoldsWhereTold};
 ghost use Rattle.crpd_tool.specs.Slack.{SlackEnds, SlackOf};
 
 use crate::answer::{Answer, Outcome};
+use crate::shaped::load_shaped;
 use crate::slack_lines::slack_text;
 use crpd_base::{Items, Memory};
-use crpd_input::{Halt, Input, Shapes, load_input, task_shapes};
+use crpd_input::{Halt, Input, Shapes};
 use crpd_io::Files;
 use sensitivity::{greatest_miss, greatest_switch};
 use std::alloc::Global;
@@ -42,8 +43,7 @@ pub(crate) fn slack<F: Files>(alloc: Global, files: &mut F, set: &str) -> Result
     ensures later { F.faults files.old ≤ F.faults files.new }
     ensures fault { IsErrOf result Halt.Fault → Rose (F.faults files.old) (F.faults files.new) }
 {
-    let input = load_input(alloc, files, set)?;
-    let shapes = task_shapes(alloc, &input)?;
-    let answer = greatest_costs(alloc, &input, &shapes)?;
+    let shaped = load_shaped(alloc, files, set)?;
+    let answer = greatest_costs(alloc, &shaped.input, &shaped.shapes)?;
     Ok(answer)
 }

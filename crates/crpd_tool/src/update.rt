@@ -1,21 +1,25 @@
 // The command `update`.
-ghost use Rattle.std.specs.Prelude.{◌≡◌, ◌≤◌, IsErrOf};
+ghost use Rattle.std.specs.Prelude.{◌≡◌, ◌≤◌, length, IsErrOf, Ok};
 ghost use Rattle.cert_check.specs.TaskGraphs.{AreTaskGraphs, task_graph_at};
 ghost use Rattle.cert_check.specs.Verdict.{IsJudged, Yes};
 ghost use Rattle.cert_model.specs.Ranges.{IsCertificate};
 ghost use Rattle.crpd_base.specs.Ranges.{IsTaskSet};
 ghost use Rattle.crpd_io.specs.Outside.{Rose};
-ghost use Rattle.crpd_input.specs.Steps.{MeansBy, HoldsWhereTold};
+ghost use Rattle.crpd_input.specs.Graphs.{HasBoundedLoops};
+ghost use Rattle.crpd_input.specs.Reading.{certificate_in, input_in};
+ghost use Rattle.crpd_input.specs.Shapes.{ShapesIn};
+ghost use Rattle.crpd_input.specs.Steps.{Exactly, MeansBy, HoldsWhereTold, Then};
 ghost use Rattle.crpd_tool.specs.Update.{ChangeOf, UpdateEnds, UpdateOf, as_of_analysis};
 
 use crate::answer::Answer;
 use crate::ending::{certificate_answer, without_certificate};
+use crate::shaped::{Shaped, load_shaped};
 use crate::texts::write_verdict;
 use cert_build::BuildError;
 use cert_check::{Verdict, verdict};
 use cert_update::UpdateError;
 use crpd_base::Certificate;
-use crpd_input::{Halt, Input, Shapes, load_certificate, load_input, renewed_shapes, task_shapes};
+use crpd_input::{Halt, Input, Shapes, load_certificate, load_input, renewed_shapes};
 use crpd_io::Files;
 use std::alloc::Global;
 
@@ -94,6 +98,82 @@ fn judge_and_change(
     }
 }
 
+/// The answer to a certificate of an old set, for a new set with its code that was read from this
+/// file.
+fn update_to_input(
+    alloc: Global,
+    file: &str,
+    old: &Shaped,
+    stated: &Certificate,
+    input: &Input,
+) -> Result<Answer, Halt>
+    requires old { IsTaskSet old.now.input.set }
+    requires old_plans { length old.now.input.code.plans ≡ length old.now.input.set.tasks }
+    requires old_shapes { ShapesIn old.now.input (Ok old.now.shapes) }
+    requires old_shown { AreTaskGraphs old.now.input.set old.now.shapes.graphs
+        old.now.shapes.nests }
+    requires stated { IsCertificate stated.now }
+    requires set { IsTaskSet input.now.set }
+    requires plans { length input.now.code.plans ≡ length input.now.set.tasks }
+    requires bounded { HasBoundedLoops input.now.code }
+    ensures exact { MeansBy (Then (ShapesIn input.now)
+        (UpdateOf file.now old.now.input old.now.shapes stated.now input.now)) result }
+    ensures no_fault { ¬ IsErrOf result Halt.Fault }
+{
+    let shapes = renewed_shapes(alloc, &old.input, &old.shapes, input)?;
+    judge_and_change(alloc, file, &old.input, &old.shapes, stated, input, &shapes)
+}
+
+/// The answer to a certificate of an old set, for the new set of a file.
+fn update_to_set<F: Files>(
+    alloc: Global,
+    files: &mut F,
+    old: &Shaped,
+    stated: &Certificate,
+    new_set: &str,
+) -> Result<Answer, Halt>
+    requires old { IsTaskSet old.now.input.set }
+    requires old_plans { length old.now.input.code.plans ≡ length old.now.input.set.tasks }
+    requires old_shapes { ShapesIn old.now.input (Ok old.now.shapes) }
+    requires old_shown { AreTaskGraphs old.now.input.set old.now.shapes.graphs
+        old.now.shapes.nests }
+    requires stated { IsCertificate stated.now }
+    ensures exact { HoldsWhereTold (F.contents files.old)
+        (λ c. MeansBy (Then (Exactly (input_in c new_set.now)) (λ input. Then (ShapesIn input)
+        (UpdateOf new_set.now old.now.input old.now.shapes stated.now input))) result) }
+    ensures same { F.contents files.new ≡ F.contents files.old }
+    ensures later { F.faults files.old ≤ F.faults files.new }
+    ensures fault { IsErrOf result Halt.Fault → Rose (F.faults files.old) (F.faults files.new) }
+{
+    let input = load_input(alloc, files, new_set)?;
+    update_to_input(alloc, new_set, old, stated, &input)
+}
+
+/// The answer to the certificate of a file for an old set, for the new set of a file.
+fn update_certificate<F: Files>(
+    alloc: Global,
+    files: &mut F,
+    old: &Shaped,
+    old_certificate: &str,
+    new_set: &str,
+) -> Result<Answer, Halt>
+    requires old { IsTaskSet old.now.input.set }
+    requires old_plans { length old.now.input.code.plans ≡ length old.now.input.set.tasks }
+    requires old_shapes { ShapesIn old.now.input (Ok old.now.shapes) }
+    requires old_shown { AreTaskGraphs old.now.input.set old.now.shapes.graphs
+        old.now.shapes.nests }
+    ensures exact { HoldsWhereTold (F.contents files.old)
+        (λ c. MeansBy (Then (Exactly (certificate_in c old_certificate.now)) (λ stated.
+        Then (Exactly (input_in c new_set.now)) (λ input. Then (ShapesIn input)
+        (UpdateOf new_set.now old.now.input old.now.shapes stated input)))) result) }
+    ensures same { F.contents files.new ≡ F.contents files.old }
+    ensures later { F.faults files.old ≤ F.faults files.new }
+    ensures fault { IsErrOf result Halt.Fault → Rose (F.faults files.old) (F.faults files.new) }
+{
+    let stated = load_certificate(alloc, files, old_certificate)?;
+    update_to_set(alloc, files, old, &stated, new_set)
+}
+
 /// Updates an old certificate to a new set: after the old set with its graphs and regions, its
 /// certificate, and the new set with its graphs and regions.
 pub(crate) fn update<F: Files>(
@@ -109,19 +189,6 @@ pub(crate) fn update<F: Files>(
     ensures later { F.faults files.old ≤ F.faults files.new }
     ensures fault { IsErrOf result Halt.Fault → Rose (F.faults files.old) (F.faults files.new) }
 {
-    let old = load_input(alloc, files, old_set)?;
-    let old_shapes = task_shapes(alloc, &old)?;
-    let stated = match load_certificate(alloc, files, old_certificate) {
-        Ok(stated) => stated,
-        Err(halt) => return Err(halt),
-    };
-    let input = match load_input(alloc, files, new_set) {
-        Ok(input) => input,
-        Err(halt) => return Err(halt),
-    };
-    let shapes = match renewed_shapes(alloc, &old, &old_shapes, &input) {
-        Ok(shapes) => shapes,
-        Err(halt) => return Err(halt),
-    };
-    judge_and_change(alloc, new_set, &old, &old_shapes, &stated, &input, &shapes)
+    let old = load_shaped(alloc, files, old_set)?;
+    update_certificate(alloc, files, &old, old_certificate, new_set)
 }
