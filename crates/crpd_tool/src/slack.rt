@@ -1,5 +1,5 @@
 // The command `slack`.
-ghost use Rattle.std.specs.Prelude.{◌≡◌, ◌≤◌, IfOk, IsErrOf, Ok};
+ghost use Rattle.std.specs.Prelude.{◌≡◌, ◌≤◌, IsErrOf};
 ghost use Rattle.cert_check.specs.TaskGraphs.{AreTaskGraphs};
 ghost use Rattle.crpd_base.specs.Ranges.{IsTaskSet};
 ghost use Rattle.crpd_io.specs.Outside.{Rose};
@@ -9,17 +9,18 @@ ghost use Rattle.crpd_tool.specs.Slack.{SlackEnds, SlackOf};
 use crate::answer::{Answer, Outcome};
 use crate::shaped::load_shaped;
 use crate::slack_lines::slack_text;
-use crpd_base::{Items, Memory};
+use crpd_base::Items;
 use crpd_input::{Halt, Input, Shapes};
 use crpd_io::Files;
 use sensitivity::{greatest_miss, greatest_switch};
 use std::alloc::Global;
 
 /// The answer with the greatest costs of a set.
-fn greatest_costs(alloc: Global, input: &Input, shapes: &Shapes) -> Result<Answer, Memory>
+fn greatest_costs(alloc: Global, input: &Input, shapes: &Shapes) -> Result<Answer, Halt>
     requires set { IsTaskSet input.now.set }
     requires shown { AreTaskGraphs input.now.set shapes.now.graphs shapes.now.nests }
-    ensures { IfOk result (λ answer. SlackOf input.now shapes.now (Ok answer)) }
+    ensures exact { MeansBy (SlackOf input.now shapes.now) result }
+    ensures no_fault { ¬ IsErrOf result Halt.Fault }
 {
     let graphs = shapes.graphs.as_slice();
     let nests = shapes.nests.as_slice();
@@ -30,7 +31,7 @@ fn greatest_costs(alloc: Global, input: &Input, shapes: &Shapes) -> Result<Answe
             text: Items::new(text),
             outcome: Outcome::Done,
         }),
-        Err(_) => Err(Memory),
+        Err(_) => Err(Halt::Memory),
     }
 }
 
@@ -44,6 +45,5 @@ pub(crate) fn slack<F: Files>(alloc: Global, files: &mut F, set: &str) -> Result
     ensures fault { IsErrOf result Halt.Fault → Rose (F.faults files.old) (F.faults files.new) }
 {
     let shaped = load_shaped(alloc, files, set)?;
-    let answer = greatest_costs(alloc, &shaped.input, &shaped.shapes)?;
-    Ok(answer)
+    greatest_costs(alloc, &shaped.input, &shaped.shapes)
 }
