@@ -1,10 +1,12 @@
 // Certificates of one task, and changes of them.
-use crate::sides::{certificate_of, side_of};
-use crate::texts::{LOOP_TOLD, LOOPING, ONE_TOLD, Told, text_of};
+ghost use Rattle.cert_check.specs.TaskGraphs.{IsCertificateInRange};
+
+use crate::sides::{side_of, told_certificate};
+use crate::texts::{LOOP_TOLD, LOOPING, ONE_TOLD, Told};
 use cert_check::{Verdict, verdict};
-use crpd_base::Task;
+use crpd_base::{Certificate, Task};
 use fixtures::{ONE, PLATFORM, Program};
-use std::alloc::{AllocError, Global};
+use std::alloc::Global;
 use std::test::Fail;
 
 // What a certificate says of a program, and the verdict.
@@ -86,24 +88,36 @@ static VERDICTS: [(Program<'static>, Told, &str); 11] = [
     ),
 ];
 
-pub(crate) fn told(alloc: Global, verdict: Verdict) -> Result<String, AllocError> {
+fn told(alloc: Global, verdict: Verdict) -> Result<String, Fail> {
     match verdict {
-        Verdict::Yes => String::from_str(alloc, "yes"),
+        Verdict::Yes => Ok(String::from_str(alloc, "yes")?),
         Verdict::No {
             task: Task(task),
             clause,
             place,
-        } => format!(in alloc; "{task} {clause} {place}"),
+        } => Ok(format!(in alloc; "{task} {clause} {place}")?),
     }
+}
+
+// The verdict on a certificate of a program.
+pub(crate) fn verdict_told(
+    alloc: Global,
+    program: Program,
+    certificate: &Certificate,
+) -> Result<String, Fail>
+    requires { IsCertificateInRange certificate.now }
+{
+    let side = side_of(alloc, PLATFORM, &[program])?;
+    let verdict = verdict(&side.set, &side.graphs, &side.nests, certificate);
+    told(alloc, verdict)
 }
 
 #[test]
 fn verdicts(rt: HostRuntime) -> Result<(), Fail> {
     for &(program, part, want) in &VERDICTS {
-        let side = side_of(rt.alloc(), PLATFORM, &[program])?;
-        let certificate = certificate_of(rt.alloc(), text_of(rt.alloc(), &[part])?.as_str())?;
-        let verdict = verdict(&side.set, &side.graphs, &side.nests, &certificate);
-        assert_eq!(rt; told(rt.alloc(), verdict)?.as_str(), want);
+        let certificate = told_certificate(rt.alloc(), &[part])?;
+        let got = verdict_told(rt.alloc(), program, &certificate)?;
+        assert_eq!(rt; got.as_str(), want);
     }
     Ok(())
 }

@@ -5,12 +5,11 @@ ghost use Rattle.crpd_base.specs.declared.data.NodeState.{NodeState};
 ghost use Rattle.crpd_base.specs.declared.data.TaskPart.{TaskPart};
 ghost use Rattle.cert_check.specs.TaskGraphs.{HasLowSets, IsCertificateInRange};
 
-use crate::judged::told;
-use crate::sides::{certificate_of, side_of};
-use crate::texts::{LOOP_TOLD, LOOPING, ONE_TOLD, Told, text_of};
-use cert_check::verdict;
+use crate::judged::verdict_told;
+use crate::sides::told_certificate;
+use crate::texts::{LOOP_TOLD, LOOPING, ONE_TOLD, Told};
 use crpd_base::{Certificate, Items, NodeState, TaskPart};
-use fixtures::{ONE, PLATFORM, Program, sets_of};
+use fixtures::{ONE, Program, sets_of};
 use std::alloc::{AllocError, Global};
 use std::test::Fail;
 
@@ -96,35 +95,42 @@ fn is_in_range(certificate: &Certificate) -> bool
     low && short
 }
 
+// What a certificate says of tasks, with these states of each.
+fn parts_with(
+    alloc: Global,
+    parts: Vec<TaskPart>,
+    entries: &[Entry],
+) -> Result<Vec<TaskPart>, AllocError> {
+    let mut tasks = Vec::new(alloc);
+    for part in parts {
+        let states = Items::new(states_of(alloc, entries)?);
+        tasks.push(TaskPart { states, ..part })?;
+    }
+    Ok(tasks)
+}
+
 // The certificate of one task with these states.
 fn listed(alloc: Global, told: Told, entries: &[Entry]) -> Result<Certificate, Fail>
     ensures { IfOk result IsCertificateInRange }
 {
-    let certificate = certificate_of(alloc, text_of(alloc, &[told])?.as_str())?;
-    let mut tasks = Vec::new(alloc);
-    for part in certificate.tasks.into_vec() {
-        tasks.push(TaskPart {
-            states: Items::new(states_of(alloc, entries)?),
-            ..part
-        })?;
-    }
+    let old = told_certificate(alloc, &[told])?;
     let certificate = Certificate {
-        platform: certificate.platform,
-        tasks: Items::new(tasks),
+        platform: old.platform,
+        tasks: Items::new(parts_with(alloc, old.tasks.into_vec(), entries)?),
     };
-    if !is_in_range(&certificate) {
-        return Err(Fail::from("out of range"));
+    if is_in_range(&certificate) {
+        Ok(certificate)
+    } else {
+        Err(Fail::from("out of range"))
     }
-    Ok(certificate)
 }
 
 #[test]
 fn orders_of_states(rt: HostRuntime) -> Result<(), Fail> {
     for &(program, part, entries, want) in &ORDERS {
-        let side = side_of(rt.alloc(), PLATFORM, &[program])?;
         let certificate = listed(rt.alloc(), part, entries)?;
-        let verdict = verdict(&side.set, &side.graphs, &side.nests, &certificate);
-        assert_eq!(rt; told(rt.alloc(), verdict)?.as_str(), want);
+        let got = verdict_told(rt.alloc(), program, &certificate)?;
+        assert_eq!(rt; got.as_str(), want);
     }
     Ok(())
 }

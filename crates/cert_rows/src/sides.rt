@@ -4,6 +4,7 @@ ghost use Rattle.crpd_base.specs.Ranges.{IsTaskSet};
 ghost use Rattle.cert_model.specs.Ranges.{IsCertificate};
 ghost use Rattle.cert_check.specs.TaskGraphs.{AreTaskGraphs, IsCertificateInRange};
 
+use crate::texts::{Told, text_of};
 use cert_model::read_certificate;
 use code_map::CodeMap;
 use crpd_base::{Certificate, Platform, Task, TaskSet};
@@ -56,11 +57,24 @@ fn in_range_law(certificate: &Certificate)
 {}
 
 // The certificate of a text.
-pub(crate) fn certificate_of(alloc: Global, text: &str) -> Result<Certificate, Fail>
+fn certificate_of(alloc: Global, text: &str) -> Result<Certificate, Fail>
     ensures certificate { IfOk result IsCertificate }
     ensures range { IfOk result IsCertificateInRange }
 {
-    let certificate = read_certificate(alloc, text.as_bytes()).map_err(|_| "no certificate")?;
-    in_range_law(&certificate);
-    Ok(certificate)
+    match read_certificate(alloc, text.as_bytes()) {
+        Ok(certificate) => {
+            in_range_law(&certificate);
+            Ok(certificate)
+        }
+        Err(_) => Err(Fail::from("no certificate")),
+    }
+}
+
+// The certificate that says this of tasks.
+pub(crate) fn told_certificate(alloc: Global, parts: &[Told]) -> Result<Certificate, Fail>
+    ensures certificate { IfOk result IsCertificate }
+    ensures range { IfOk result IsCertificateInRange }
+{
+    let text = text_of(alloc, parts)?;
+    certificate_of(alloc, text.as_str())
 }

@@ -68,30 +68,35 @@ static SLACKS: [(&[Program<'static>], &str); 6] = [
     ),
 ];
 
-fn told(alloc: Global, slack: &Slack) -> Result<String, AllocError> {
-    let mut text = match slack.greatest {
-        Some(greatest) => format!(in alloc; "{greatest} ")?,
-        None => String::from_str(alloc, "none ")?,
-    };
-    match slack.stop {
-        Stop::Limit => text.push_str("limit")?,
-        Stop::Window(task) => text.push_str(format!(in alloc; "window {}", task.0)?.as_str())?,
-        Stop::Bound(task) => text.push_str(format!(in alloc; "bound {}", task.0)?.as_str())?,
+fn push_slack(text: &mut String, slack: &Slack) -> Result<(), AllocError> {
+    match slack.greatest {
+        Some(greatest) => write!(text, "{greatest} ")?,
+        None => text.push_str("none ")?,
     }
+    match slack.stop {
+        Stop::Limit => text.push_str("limit"),
+        Stop::Window(task) => write!(text, "window {}", task.0),
+        Stop::Bound(task) => write!(text, "bound {}", task.0),
+    }
+}
+
+fn told(alloc: Global, switch: Slack, miss: Slack) -> Result<String, Fail> {
+    let mut text = String::new(alloc);
+    push_slack(&mut text, &switch)?;
+    text.push_str(", ")?;
+    push_slack(&mut text, &miss)?;
     Ok(text)
 }
 
 // The greatest costs of a switch and of a reload.
 fn slacks(alloc: Global, programs: &[Program]) -> Result<String, Fail> {
     let side = side_of(alloc, ONE_SET, programs)?;
-    let Ok(switch) = greatest_switch(alloc, &side.set, &side.graphs, &side.nests) else {
-        return Err(Fail::from("no memory"));
-    };
-    let Ok(miss) = greatest_miss(alloc, &side.set, &side.graphs, &side.nests) else {
-        return Err(Fail::from("no memory"));
-    };
-    let (switch, miss) = (told(alloc, &switch)?, told(alloc, &miss)?);
-    Ok(format!(in alloc; "{switch}, {miss}")?)
+    let switch = greatest_switch(alloc, &side.set, &side.graphs, &side.nests);
+    let miss = greatest_miss(alloc, &side.set, &side.graphs, &side.nests);
+    match (switch, miss) {
+        (Ok(switch), Ok(miss)) => told(alloc, switch, miss),
+        _ => Err(Fail::from("no memory")),
+    }
 }
 
 #[test]

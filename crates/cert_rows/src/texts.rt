@@ -57,8 +57,9 @@ pub(crate) const LOW_TOLD: Told = Told {
     ..ONE_TOLD
 };
 
-fn part_text(alloc: Global, told: &Told) -> Result<String, AllocError> {
-    format!(in alloc;
+fn push_part(text: &mut String, told: &Told) -> Result<(), AllocError> {
+    write!(
+        text,
         "{{\"bound\":{},\"evicting\":[0],\"loops\":{},\"method\":\"ucb\",\"name\":\"{}\",\"potentials\":{},\"response\":{},\"states\":{},\"useful\":[0],\"window\":{}}}",
         told.bound, told.loops, told.name, told.potentials, told.response, told.states, told.window
     )
@@ -73,7 +74,7 @@ pub(crate) fn text_of(alloc: Global, parts: &[Told]) -> Result<String, AllocErro
     let mut comma = "";
     for told in parts {
         text.push_str(comma)?;
-        text.push_str(part_text(alloc, told)?.as_str())?;
+        push_part(&mut text, told)?;
         comma = ",";
     }
     text.push_str("],\"version\":2}")?;

@@ -1,14 +1,14 @@
 // Certificates of two small programs, updated to changed sets.
-ghost use Rattle.std.specs.Prelude.{◌≡◌};
 ghost use Rattle.crpd_base.specs.Ranges.{IsTaskSet};
-ghost use Rattle.cert_check.specs.TaskGraphs.{AreTaskGraphs};
+ghost use Rattle.cert_model.specs.Ranges.{IsCertificate};
+ghost use Rattle.cert_check.specs.TaskGraphs.{AreTaskGraphs, IsCertificateInRange};
 
-use crate::sides::{Side, certificate_of, side_of};
+use crate::made::written;
+use crate::sides::{Side, side_of, told_certificate};
 use crate::texts::{HIGH_TOLD, LOOP_TOLD, LOW_TOLD, Told, text_of};
 use cert_check::{Verdict, verdict};
-use cert_model::write_certificate;
-use cert_update::{UpdateError, update};
-use crpd_base::{Platform, Switching};
+use cert_update::{UpdateError, Updated, update};
+use crpd_base::{Certificate, Platform, Switching};
 use fixtures::{LOOP, NESTED, ONE, PLATFORM, Program};
 use std::alloc::{AllocError, Global};
 use std::process::Abort;
@@ -186,7 +186,7 @@ static CASES: [Case; 11] = [
     },
 ];
 
-fn refusal(alloc: Global, e: UpdateError) -> Result<String, AllocError> {
+fn refusal_told(alloc: Global, e: UpdateError) -> Result<String, AllocError> {
     match e {
         UpdateError::Memory => String::from_str(alloc, "memory"),
         UpdateError::TooLarge { task, address } => format!(in alloc;
@@ -198,17 +198,42 @@ fn refusal(alloc: Global, e: UpdateError) -> Result<String, AllocError> {
     }
 }
 
-// The text of the updated certificate and the tasks that were analysed, or the refusal; or the
-// judge's no.
-fn updated(alloc: Global, old: &Side, text: &str, new: &Side) -> Result<String, Fail>
+fn refusal(alloc: Global, e: UpdateError) -> Result<String, Fail> {
+    Ok(refusal_told(alloc, e)?)
+}
+
+fn text_from(bytes: Vec<u8>) -> Result<String, Fail> {
+    match String::from_utf8(bytes) {
+        Ok(text) => Ok(text),
+        Err(_) => Err(Fail::from("no text")),
+    }
+}
+
+// The text of the updated certificate and the tasks that were analysed.
+fn updated_told(alloc: Global, updated: &Updated) -> Result<String, Fail> {
+    let mut text = text_from(written(alloc, &updated.certificate)?)?;
+    for task in updated.analysed.as_slice() {
+        write!(text, " {}", task.0)?;
+    }
+    Ok(text)
+}
+
+// The same, or the refusal; or the judge's no.
+fn answer_told(
+    alloc: Global,
+    old: &Side,
+    certificate: &Certificate,
+    new: &Side,
+) -> Result<String, Fail>
     requires old { IsTaskSet old.now.set }
     requires old_tasks { AreTaskGraphs old.now.set old.now.graphs.items old.now.nests.items }
+    requires certificate { IsCertificate certificate.now }
+    requires range { IsCertificateInRange certificate.now }
     requires new { IsTaskSet new.now.set }
     requires new_tasks { AreTaskGraphs new.now.set new.now.graphs.items new.now.nests.items }
 {
-    let certificate = certificate_of(alloc, text)?;
     let (graphs, nests) = (old.graphs.as_slice(), old.nests.as_slice());
-    match verdict(&old.set, graphs, nests, &certificate) {
+    match verdict(&old.set, graphs, nests, certificate) {
         Verdict::No {
             task,
             clause,
@@ -216,45 +241,52 @@ fn updated(alloc: Global, old: &Side, text: &str, new: &Side) -> Result<String, 
         } => return Ok(format!(in alloc; "no {} {clause} {place}", task.0)?),
         Verdict::Yes => {}
     }
-    let answer = update(
+    match update(
         alloc,
         &old.set,
         graphs,
         nests,
-        &certificate,
+        certificate,
         &new.set,
         &new.graphs,
         &new.nests,
-    );
-    match answer {
-        Ok(updated) => {
-            let bytes = write_certificate(alloc, &updated.certificate).map_err(|_| "no memory")?;
-            let mut text = String::from_utf8(bytes).map_err(|_| "no text")?;
-            for task in updated.analysed.as_slice() {
-                text.push_str(format!(in alloc; " {}", task.0)?.as_str())?;
-            }
-            Ok(text)
-        }
-        Err(e) => Ok(refusal(alloc, e)?),
+    ) {
+        Ok(updated) => updated_told(alloc, &updated),
+        Err(e) => refusal(alloc, e),
     }
 }
 
-// Updates the old certificate of a case, and compares what comes of it.
+// Compares what comes of a case with what is wanted.
+fn compare_told(rt: &impl Abort, alloc: Global, got: &str, case: &Case) -> Result<(), Fail> {
+    if case.told.is_empty() {
+        assert!(rt; got.ends_with(case.end));
+    } else {
+        let mut want = text_of(alloc, case.told)?;
+        want.push_str(case.end)?;
+        assert!(rt; got == want.as_str());
+    }
+    Ok(())
+}
+
+// What comes of the old certificate of a case.
+fn case_told(alloc: Global, old: &Side, new: &Side, low: Told) -> Result<String, Fail>
+    requires old { IsTaskSet old.now.set }
+    requires old_tasks { AreTaskGraphs old.now.set old.now.graphs.items old.now.nests.items }
+    requires new { IsTaskSet new.now.set }
+    requires new_tasks { AreTaskGraphs new.now.set new.now.graphs.items new.now.nests.items }
+{
+    let certificate = told_certificate(alloc, &[HIGH_TOLD, low])?;
+    answer_told(alloc, old, &certificate, new)
+}
+
+// Updates the old certificate of a case to its new set, and compares what comes of it.
 fn compare(rt: &impl Abort, alloc: Global, old: &Side, case: &Case) -> Result<(), Fail>
     requires old { IsTaskSet old.now.set }
     requires old_tasks { AreTaskGraphs old.now.set old.now.graphs.items old.now.nests.items }
 {
-    let text = text_of(alloc, &[HIGH_TOLD, case.low])?;
     let new = side_of(alloc, case.platform, case.programs)?;
-    let got = updated(alloc, old, text.as_str(), &new)?;
-    if case.told.is_empty() {
-        assert!(rt; got.as_str().ends_with(case.end));
-    } else {
-        let mut want = text_of(alloc, case.told)?;
-        want.push_str(case.end)?;
-        assert!(rt; got.as_str() == want.as_str());
-    }
-    Ok(())
+    let got = case_told(alloc, old, &new, case.low)?;
+    compare_told(rt, alloc, got.as_str(), case)
 }
 
 #[test]
