@@ -1,14 +1,16 @@
 // One interrupted run, cycle by cycle.
-ghost use Rattle.std.specs.Prelude.{◌<◌, length};
+ghost use Rattle.std.specs.Prelude.{◌≡◌, ◌<◌, ◌≤◌, ◌^◌, length};
 ghost use Rattle.preempt_machine.specs.Running.{HasPlans};
+ghost use Rattle.preempt_machine.specs.Safe.{NamesTasks};
 
 use crate::runs::{INTERRUPTED, compare_ends};
 use crate::scripts::script_of;
 use code_map::CodeMap;
-use crpd_base::{JobId, Task};
-use fixtures::load;
+use crpd_base::{JobId, Script, Task};
+use fixtures::{Loaded, load};
 use icache::Access;
 use preempt_machine::{End, Fetch, Machine};
+use std::alloc::Global;
 use std::process::Abort;
 use std::test::Fail;
 
@@ -20,7 +22,7 @@ struct Stretch {
     owner: JobId,
     pcs: [u32; 2],
     fetch: Option<(JobId, u32, Access)>,
-    ends: &'static [End],
+    ends: (End, End),
 }
 
 const LOW_JOB: JobId = JobId {
@@ -40,7 +42,7 @@ static STRETCHES: [Stretch; 14] = [
         owner: LOW_JOB,
         pcs: [0x1000, 0x2000],
         fetch: None,
-        ends: &[End::Open, End::Unreleased],
+        ends: (End::Open, End::Unreleased),
     },
     // its first instruction: a miss and ten cycles more, of which the last is kept from it
     Stretch {
@@ -48,14 +50,14 @@ static STRETCHES: [Stretch; 14] = [
         owner: LOW_JOB,
         pcs: [0x1000, 0x2000],
         fetch: Some((LOW_JOB, 0x1000, Access::Miss)),
-        ends: &[End::Open, End::Unreleased],
+        ends: (End::Open, End::Unreleased),
     },
     Stretch {
         until: 15,
         owner: LOW_JOB,
         pcs: [0x1000, 0x2000],
         fetch: None,
-        ends: &[End::Open, End::Unreleased],
+        ends: (End::Open, End::Unreleased),
     },
     // the switch to the high job, its first instruction, and its second, a hit that answers
     Stretch {
@@ -63,35 +65,35 @@ static STRETCHES: [Stretch; 14] = [
         owner: HIGH_JOB,
         pcs: [0x1000, 0x2000],
         fetch: None,
-        ends: &[End::Open, End::Open],
+        ends: (End::Open, End::Open),
     },
     Stretch {
         until: 21,
         owner: HIGH_JOB,
         pcs: [0x1000, 0x2000],
         fetch: Some((HIGH_JOB, 0x2000, Access::Miss)),
-        ends: &[End::Open, End::Open],
+        ends: (End::Open, End::Open),
     },
     Stretch {
         until: 30,
         owner: HIGH_JOB,
         pcs: [0x1000, 0x2000],
         fetch: None,
-        ends: &[End::Open, End::Open],
+        ends: (End::Open, End::Open),
     },
     Stretch {
         until: 31,
         owner: HIGH_JOB,
         pcs: [0x1000, 0x2004],
         fetch: None,
-        ends: &[End::Open, End::Open],
+        ends: (End::Open, End::Open),
     },
     Stretch {
         until: 32,
         owner: HIGH_JOB,
         pcs: [0x1000, 0x2004],
         fetch: Some((HIGH_JOB, 0x2004, Access::Hit)),
-        ends: &[End::Open, End::Answered(32)],
+        ends: (End::Open, End::Answered(32)),
     },
     // the switch back, and the cycle that was left, without a fetch
     Stretch {
@@ -99,14 +101,14 @@ static STRETCHES: [Stretch; 14] = [
         owner: LOW_JOB,
         pcs: [0x1000, 0x2004],
         fetch: None,
-        ends: &[End::Open, End::Answered(32)],
+        ends: (End::Open, End::Answered(32)),
     },
     Stretch {
         until: 38,
         owner: LOW_JOB,
         pcs: [0x1004, 0x2004],
         fetch: None,
-        ends: &[End::Open, End::Answered(32)],
+        ends: (End::Open, End::Answered(32)),
     },
     // the second instruction: the high job took the block from the cache
     Stretch {
@@ -114,21 +116,21 @@ static STRETCHES: [Stretch; 14] = [
         owner: LOW_JOB,
         pcs: [0x1004, 0x2004],
         fetch: Some((LOW_JOB, 0x1004, Access::Miss)),
-        ends: &[End::Open, End::Answered(32)],
+        ends: (End::Open, End::Answered(32)),
     },
     Stretch {
         until: 48,
         owner: LOW_JOB,
         pcs: [0x1004, 0x2004],
         fetch: None,
-        ends: &[End::Open, End::Answered(32)],
+        ends: (End::Open, End::Answered(32)),
     },
     Stretch {
         until: 49,
         owner: LOW_JOB,
         pcs: [0x1004, 0x2004],
         fetch: None,
-        ends: &[End::Answered(49), End::Answered(32)],
+        ends: (End::Answered(49), End::Answered(32)),
     },
     // no job is ready, and the owner stays
     Stretch {
@@ -136,7 +138,7 @@ static STRETCHES: [Stretch; 14] = [
         owner: LOW_JOB,
         pcs: [0x1004, 0x2004],
         fetch: None,
-        ends: &[End::Answered(49), End::Answered(32)],
+        ends: (End::Answered(49), End::Answered(32)),
     },
 ];
 
@@ -148,28 +150,37 @@ fn pc_at(machine: &Machine, place: usize) -> u32
     machine.pc(job)
 }
 
-// Compares what is seen of the two jobs and of the last cycle.
-fn compare_sight(rt: &impl Abort, machine: &Machine, stretch: &Stretch) {
-    let steps = machine.steps();
-    assert_eq!(rt; machine.owner(), Some(stretch.owner), "after {steps}");
-    let fetch = match stretch.fetch {
+fn fetch_of(stretch: &Stretch) -> Option<Fetch> {
+    match stretch.fetch {
         Some((job, address, access)) => Some(Fetch {
             job,
             address,
             access,
         }),
         None => None,
-    };
-    assert_eq!(rt; machine.last_fetch(), fetch, "after {steps}");
-    let completions = machine.completions();
-    assert_eq!(rt; completions.len(), 2);
-    let (pcs, ends) = (stretch.pcs, stretch.ends);
-    assert_eq!(rt; ends.len(), 2);
-    for (place, job) in [LOW_JOB, HIGH_JOB].iter().enumerate() {
-        assert_eq!(rt; completions[place].job, *job);
-        assert_eq!(rt; completions[place].end, ends[place], "after {steps}");
-        assert_eq!(rt; pc_at(machine, place), pcs[place], "after {steps}");
     }
+}
+
+// Compares what is seen of the job at a place.
+fn compare_job(rt: &impl Abort, machine: &Machine, place: usize, job: JobId, pc: u32, end: End)
+    requires { place < length machine.now.state.jobs }
+{
+    let steps = machine.steps();
+    let completion = &machine.completions()[place];
+    assert_eq!(rt; completion.job, job);
+    assert_eq!(rt; completion.end, end, "after {steps}");
+    assert_eq!(rt; pc_at(machine, place), pc, "after {steps}");
+}
+
+// Compares what is seen of the two jobs and of the last cycle.
+fn compare_sight(rt: &impl Abort, machine: &Machine, stretch: &Stretch) {
+    let steps = machine.steps();
+    assert_eq!(rt; machine.owner(), Some(stretch.owner), "after {steps}");
+    assert_eq!(rt; machine.last_fetch(), fetch_of(stretch), "after {steps}");
+    assert_eq!(rt; machine.completions().len(), 2);
+    let ([low, high], (low_end, high_end)) = (stretch.pcs, stretch.ends);
+    compare_job(rt, machine, 0, LOW_JOB, low, low_end);
+    compare_job(rt, machine, 1, HIGH_JOB, high, high_end);
 }
 
 // Makes the cycles of a stretch by themselves, and compares after each.
@@ -191,31 +202,37 @@ fn pass(
     Ok(())
 }
 
-// Makes the cycles of all stretches, one after another.
+// Makes the cycles of all stretches from the start on, one after another.
 fn pass_all(rt: &impl Abort, machine: &mut Machine, code: &CodeMap) -> Result<(), Fail>
     requires { HasPlans code.now machine.old.state }
 {
+    assert_eq!(rt; machine.steps(), 0);
+    assert_eq!(rt; machine.owner(), None);
+    assert_eq!(rt; machine.last_fetch(), None);
     for stretch in &STRETCHES {
         pass(rt, machine, code, stretch)?;
         assert_eq!(rt; machine.steps(), stretch.until);
     }
+    let ends = [End::Answered(49), End::Answered(32)];
+    compare_ends(rt, machine.completions(), &ends);
     Ok(())
+}
+
+// Makes the cycles of a script, and compares after each.
+fn pass_script(rt: &impl Abort, alloc: Global, loaded: &Loaded, script: &Script) -> Result<(), Fail>
+    requires line { 0 < loaded.now.set.platform.line }
+    requires sets { (0 < loaded.now.set.platform.sets) × (loaded.now.set.platform.sets ≤ 512) }
+    requires plans { length loaded.now.code.plans ≡ length loaded.now.set.tasks }
+    requires tasks { NamesTasks loaded.now.set script.now.jobs }
+    requires jobs { length script.now.jobs < 2 ^ 32 }
+{
+    let mut machine = Machine::load(alloc, &loaded.code, &loaded.set, script)?;
+    pass_all(rt, &mut machine, &loaded.code)
 }
 
 #[test]
 fn interrupted_instruction(rt: HostRuntime) -> Result<(), Fail> {
-    let alloc = rt.alloc();
-    let loaded = load(alloc, INTERRUPTED.platform, INTERRUPTED.programs)?;
-    let script = script_of(alloc, &loaded.set, 100, &[], INTERRUPTED.jobs)?;
-    let mut machine = Machine::load(alloc, &loaded.code, &loaded.set, &script)?;
-    assert_eq!(rt; machine.steps(), 0);
-    assert_eq!(rt; machine.owner(), None);
-    assert_eq!(rt; machine.last_fetch(), None);
-    pass_all(&rt, &mut machine, &loaded.code)?;
-    compare_ends(
-        &rt,
-        machine.completions(),
-        &[End::Answered(49), End::Answered(32)],
-    );
-    Ok(())
+    let loaded = load(rt.alloc(), INTERRUPTED.platform, INTERRUPTED.programs)?;
+    let script = script_of(rt.alloc(), &loaded.set, 100, &[], INTERRUPTED.jobs)?;
+    pass_script(&rt, rt.alloc(), &loaded, &script)
 }

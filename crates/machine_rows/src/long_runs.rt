@@ -1,11 +1,16 @@
 // Long stretches, which `run_fast` passes at once.
+ghost use Rattle.std.specs.Prelude.{◌≡◌, ◌<◌, ◌≤◌, ◌^◌, length};
+ghost use Rattle.preempt_machine.specs.Safe.{NamesTasks};
+
 use crate::programs::{PAIR, SPINNER};
 use crate::runs::compare_ends;
 use crate::scripts::script_of;
-use crpd_base::{Platform, Switching};
-use fixtures::{PLATFORM, Program, load};
+use crpd_base::{Platform, Script, Switching};
+use fixtures::{Loaded, PLATFORM, Program, load};
 use preempt_fast::run_fast;
 use preempt_machine::End;
+use std::alloc::Global;
+use std::process::Abort;
 use std::test::Fail;
 
 // Each cost is the greatest.
@@ -71,14 +76,37 @@ static LONG: [Long; 3] = [
     ),
 ];
 
+// Runs a script by long stretches, and compares how its jobs end.
+fn compare_long(
+    rt: &impl Abort,
+    alloc: Global,
+    loaded: &Loaded,
+    script: &Script,
+    ends: &[End],
+) -> Result<(), Fail>
+    requires line { 0 < loaded.now.set.platform.line }
+    requires sets { (0 < loaded.now.set.platform.sets) × (loaded.now.set.platform.sets ≤ 512) }
+    requires plans { length loaded.now.code.plans ≡ length loaded.now.set.tasks }
+    requires tasks { NamesTasks loaded.now.set script.now.jobs }
+    requires jobs { length script.now.jobs < 2 ^ 32 }
+{
+    let (completions, kept) = run_fast(alloc, &loaded.code, &loaded.set, script)?;
+    assert!(rt; kept);
+    compare_ends(rt, &completions, ends);
+    Ok(())
+}
+
+fn compare_row(rt: &impl Abort, alloc: Global, row: &Long) -> Result<(), Fail> {
+    let &(programs, platform, cycles, jobs, ends) = row;
+    let loaded = load(alloc, platform, programs)?;
+    let script = script_of(alloc, &loaded.set, cycles, &[], jobs)?;
+    compare_long(rt, alloc, &loaded, &script, ends)
+}
+
 #[test]
 fn long_stretches(rt: HostRuntime) -> Result<(), Fail> {
-    for &(programs, platform, cycles, jobs, ends) in &LONG {
-        let loaded = load(rt.alloc(), platform, programs)?;
-        let script = script_of(rt.alloc(), &loaded.set, cycles, &[], jobs)?;
-        let (completions, kept) = run_fast(rt.alloc(), &loaded.code, &loaded.set, &script)?;
-        assert!(rt; kept);
-        compare_ends(&rt, &completions, ends);
+    for row in &LONG {
+        compare_row(&rt, rt.alloc(), row)?;
     }
     Ok(())
 }

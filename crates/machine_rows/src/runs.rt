@@ -440,13 +440,24 @@ static BROKEN: [Case; 11] = [
     },
 ];
 
-// How the jobs end and whether all watches are kept, in which both machines agree.
-fn compare(
+// Compares how jobs end.
+pub(crate) fn compare_ends(rt: &impl Abort, completions: &[Completion], ends: &[End]) {
+    assert_eq!(rt; completions.len(), ends.len());
+    for (completion, end) in completions.iter().zip(ends.iter()) {
+        assert_eq!(rt; completion.end, *end);
+    }
+}
+
+// Makes the cycles of a script in two parts, and compares how its jobs end and whether all watches
+// are kept.
+fn compare_cycles(
     rt: &impl Abort,
     alloc: Global,
     loaded: &Loaded,
     script: &Script,
-) -> Result<(Vec<Completion>, bool), Fail>
+    completions: &[Completion],
+    kept: bool,
+) -> Result<(), Fail>
     requires line { 0 < loaded.now.set.platform.line }
     requires sets { (0 < loaded.now.set.platform.sets) × (loaded.now.set.platform.sets ≤ 512) }
     requires plans { length loaded.now.code.plans ≡ length loaded.now.set.tasks }
@@ -456,80 +467,97 @@ fn compare(
     let mut machine = Machine::load(alloc, &loaded.code, &loaded.set, script)?;
     machine.run_until(&loaded.code, script.cycles / 2)?;
     machine.run_until(&loaded.code, script.cycles)?;
-    let (completions, kept) = run_fast(alloc, &loaded.code, &loaded.set, script)?;
-    assert_eq!(rt; completions.as_slice(), machine.completions());
+    assert_eq!(rt; completions, machine.completions());
     assert_eq!(rt; kept, machine.kept());
-    Ok((completions, kept))
+    Ok(())
+}
+
+// Runs a script by both machines, which agree, and compares with what is told.
+fn compare(
+    rt: &impl Abort,
+    alloc: Global,
+    loaded: &Loaded,
+    script: &Script,
+    told: Option<(&[End], bool)>,
+) -> Result<(), Fail>
+    requires line { 0 < loaded.now.set.platform.line }
+    requires sets { (0 < loaded.now.set.platform.sets) × (loaded.now.set.platform.sets ≤ 512) }
+    requires plans { length loaded.now.code.plans ≡ length loaded.now.set.tasks }
+    requires tasks { NamesTasks loaded.now.set script.now.jobs }
+    requires jobs { length script.now.jobs < 2 ^ 32 }
+{
+    let (completions, kept) = run_fast(alloc, &loaded.code, &loaded.set, script)?;
+    if let Some((ends, whole)) = told {
+        compare_ends(rt, &completions, ends);
+        assert_eq!(rt; kept, whole);
+    }
+    compare_cycles(rt, alloc, loaded, script, &completions, kept)
 }
 
 fn compare_case(rt: &impl Abort, alloc: Global, case: &Case) -> Result<(), Fail> {
     let loaded = load(alloc, case.platform, case.programs)?;
     let script = script_of(alloc, &loaded.set, case.cycles, case.blocks, case.jobs)?;
-    let (completions, kept) = compare(rt, alloc, &loaded, &script)?;
-    if let Some((ends, whole)) = case.told {
-        compare_ends(rt, &completions, ends);
-        assert_eq!(rt; kept, whole);
-    }
-    Ok(())
+    compare(rt, alloc, &loaded, &script, case.told)
 }
 
-// Compares how jobs end.
-pub(crate) fn compare_ends(rt: &impl Abort, completions: &[Completion], ends: &[End]) {
-    assert_eq!(rt; completions.len(), ends.len());
-    for (completion, end) in completions.iter().zip(ends.iter()) {
-        assert_eq!(rt; completion.end, *end);
+fn compare_cases(rt: &impl Abort, alloc: Global, cases: &[Case]) -> Result<(), Fail> {
+    for case in cases {
+        compare_case(rt, alloc, case)?;
     }
+    Ok(())
 }
 
 #[test]
 fn told_scripts(rt: HostRuntime) -> Result<(), Fail> {
-    for case in &TOLD {
-        compare_case(&rt, rt.alloc(), case)?;
-    }
-    Ok(())
+    compare_cases(&rt, rt.alloc(), &TOLD)
 }
 
 #[test]
 fn single_scripts(rt: HostRuntime) -> Result<(), Fail> {
-    for case in &SINGLE {
-        compare_case(&rt, rt.alloc(), case)?;
-    }
-    Ok(())
+    compare_cases(&rt, rt.alloc(), &SINGLE)
 }
 
 #[test]
 fn shared_scripts(rt: HostRuntime) -> Result<(), Fail> {
-    for case in &SHARED {
-        compare_case(&rt, rt.alloc(), case)?;
-    }
-    Ok(())
+    compare_cases(&rt, rt.alloc(), &SHARED)
 }
 
 #[test]
 fn broken_watches(rt: HostRuntime) -> Result<(), Fail> {
-    for case in &BROKEN {
-        compare_case(&rt, rt.alloc(), case)?;
+    compare_cases(&rt, rt.alloc(), &BROKEN)
+}
+
+// The high job is released at a time and again at another one.
+fn compare_released(
+    rt: &impl Abort,
+    alloc: Global,
+    loaded: &Loaded,
+    release: u64,
+    again: u64,
+) -> Result<(), Fail>
+    requires line { 0 < loaded.now.set.platform.line }
+    requires sets { (0 < loaded.now.set.platform.sets) × (loaded.now.set.platform.sets ≤ 512) }
+    requires plans { length loaded.now.code.plans ≡ length loaded.now.set.tasks }
+{
+    let jobs = [(1u8, 0u64, 0u64), (0, release, release), (0, again, again)];
+    let script = script_of(alloc, &loaded.set, 120, &[], &jobs)?;
+    compare(rt, alloc, loaded, &script, None)
+}
+
+// The high job is released in each cycle of the low job's switch and instructions.
+fn compare_releases(rt: &impl Abort, alloc: Global, platform: Platform) -> Result<(), Fail> {
+    let loaded = load(alloc, platform, &PAIR)?;
+    for release in 0u64..50 {
+        compare_released(rt, alloc, &loaded, release, release + 1)?;
+        compare_released(rt, alloc, &loaded, release, release + 7)?;
     }
     Ok(())
 }
 
-// The high job is released in each cycle of the low job's switch and instructions.
 #[test]
 fn releases(rt: HostRuntime) -> Result<(), Fail> {
-    for platform in [
-        PLATFORM,
-        EACH_INSTRUCTION,
-        FREE_SWITCH,
-        FREE_SWITCH_AT_INSTRUCTION,
-    ] {
-        let loaded = load(rt.alloc(), platform, &PAIR)?;
-        for release in 0u64..50 {
-            for again in [release + 1, release + 7] {
-                let jobs = [(1u8, 0u64, 0u64), (0, release, release), (0, again, again)];
-                let script = script_of(rt.alloc(), &loaded.set, 120, &[], &jobs)?;
-                compare(&rt, rt.alloc(), &loaded, &script)?;
-            }
-        }
-    }
-    Ok(())
+    compare_releases(&rt, rt.alloc(), PLATFORM)?;
+    compare_releases(&rt, rt.alloc(), EACH_INSTRUCTION)?;
+    compare_releases(&rt, rt.alloc(), FREE_SWITCH)?;
+    compare_releases(&rt, rt.alloc(), FREE_SWITCH_AT_INSTRUCTION)
 }

@@ -118,16 +118,21 @@ static RUNS: [(&[Job], bool, &str); 5] = [
     ),
 ];
 
+// The text of a run.
+fn run_text(alloc: Global, set: &TaskSet, jobs: &[Job], kept: bool) -> Result<Vec<u8>, Fail> {
+    let script = script_for(alloc, set, jobs)?;
+    let completions = completions_of(alloc, jobs)?;
+    match simulate_text(alloc, set, &script, completions.as_slice(), kept) {
+        Ok(text) => Ok(text),
+        Err(_) => Err(Fail::from("no memory")),
+    }
+}
+
 #[test]
 fn simulations(rt: HostRuntime) -> Result<(), Fail> {
-    let alloc = rt.alloc();
+    let set = two_tasks(rt.alloc())?;
     for &(jobs, kept, text) in &RUNS {
-        let set = two_tasks(alloc)?;
-        let script = script_for(alloc, &set, jobs)?;
-        let completions = completions_of(alloc, jobs)?;
-        let Ok(made) = simulate_text(alloc, &set, &script, completions.as_slice(), kept) else {
-            return Err(Fail::from("no memory"));
-        };
+        let made = run_text(rt.alloc(), &set, jobs, kept)?;
         assert_eq!(rt; made.as_slice(), text.as_bytes());
     }
     Ok(())
@@ -185,34 +190,49 @@ static LATE: [Job; 7] = [
     (1, 1090, 1090, 2, End::Unreleased),
 ];
 
-// A job that is not answered is late from its arrival plus its response on, and one that is
-// answered later than that.
-#[test]
-fn made_inputs(rt: HostRuntime) -> Result<(), Fail> {
-    let alloc = rt.alloc();
-    let set = two_tasks(alloc)?;
-    let script = script_for(alloc, &set, &LATE)?;
-    let completions = completions_of(alloc, &LATE)?;
+// A certificate of the two tasks.
+fn two_parts(alloc: Global) -> Result<Certificate, AllocError> {
     let mut parts = Vec::new(alloc);
     parts.push(part(alloc, "high", Method::Ucb, 50)?)?;
     parts.push(part(alloc, "low", Method::Ecb, 20)?)?;
-    let certificate = Certificate {
-        platform: set.platform,
+    Ok(Certificate {
+        platform: PLATFORM,
         tasks: Items::new(parts),
-    };
-    let Ok(made) = generate_text(
+    })
+}
+
+// The text of a made set with the late jobs.
+fn late_text(alloc: Global, set: &TaskSet, certificate: &Certificate) -> Result<Vec<u8>, Fail> {
+    let script = script_for(alloc, set, &LATE)?;
+    let completions = completions_of(alloc, &LATE)?;
+    match generate_text(
         alloc,
         7,
         120,
-        &set,
-        &certificate,
+        set,
+        certificate,
         &Verdict::Yes,
         &script,
         completions.as_slice(),
         true,
-    ) else {
-        return Err(Fail::from("no memory"));
-    };
+    ) {
+        Ok(text) => Ok(text),
+        Err(_) => Err(Fail::from("no memory")),
+    }
+}
+
+// The same with the certificate of the two tasks.
+fn late_told(alloc: Global, set: &TaskSet) -> Result<Vec<u8>, Fail> {
+    let certificate = two_parts(alloc)?;
+    late_text(alloc, set, &certificate)
+}
+
+// A job that is not answered is late from its arrival plus its response on, and one that is
+// answered later than that.
+#[test]
+fn made_inputs(rt: HostRuntime) -> Result<(), Fail> {
+    let set = two_tasks(rt.alloc())?;
+    let made = late_told(rt.alloc(), &set)?;
     let text = "generated 7 tasks 16 nodes 120\nyes\n\
         high bound 10 window 15 response 50 method ucb\n\
         low bound 10 window 15 response 20 method ecb\n\
