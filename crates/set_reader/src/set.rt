@@ -11,10 +11,10 @@ ghost use Rattle.set_reader.specs.Reading.{reading};
 use crate::fault::SetError;
 use crate::platform::platform_at;
 use crate::task::task_at;
-use crpd_base::{Items, MOST_TASKS, Platform, TaskSet, TaskSpec, Text};
+use crpd_base::{Items, MOST_TASKS, Platform, TaskSet, TaskSpec};
 use std::alloc::{AllocError, Global};
 use toml::{Table, Value};
-use toml_keys::{KeyError, Keys, item_path, tables};
+use toml_keys::{KeyError, Keys, item_path, key_path, tables};
 
 const KEYS: [&str; 2] = ["platform", "task"];
 
@@ -59,9 +59,8 @@ fn distinct(alloc: Global, tasks: Vec<TaskSpec>) -> Result<Vec<TaskSpec>, SetErr
     match first_repeated(tasks.as_slice()) {
         None => Ok(tasks),
         Some(i) => {
-            let mut path = item_path(alloc, "", "task", i)?;
-            path.push_str("name")?;
-            Err(SetError::SameName(Text::new(path)))
+            let path = item_path(alloc, "", "task", i)?;
+            Err(SetError::SameName(key_path(alloc, path.as_str(), "name")?))
         }
     }
 }

@@ -4,15 +4,16 @@ ghost use Rattle.crpd_base.specs.Outcome.{Gives};
 ghost use Rattle.toml_keys.specs.Reading.{all_known, required, optional};
 ghost use Rattle.crpd_base.specs.declared.data.Place.TheVariants.{Number};
 ghost use Rattle.set_reader.specs.Kinds as kind;
+ghost use Rattle.set_reader.specs.Inner.Parts as part;
 ghost use Rattle.set_reader.specs.Reading as spec;
 
 use crate::fault::SetError;
 use crate::kinds::{file, name, place};
 use crate::loops::loops_at;
-use crpd_base::{Items, LONGEST_TIME, Place, TaskSpec, Text};
+use crpd_base::{Items, LONGEST_TIME, LoopSpec, Place, TaskSpec, Text};
 use std::alloc::Global;
 use toml::Table;
-use toml_keys::{KeyError, Keys, item_path};
+use toml_keys::{KeyError, Keys, item_path, key_path};
 
 const KEYS: [&str; 9] = [
     "name", "file", "entry", "period", "deadline", "jitter", "stack", "global", "loop",
@@ -69,17 +70,43 @@ fn place_or_zero(alloc: Global, keys: Keys, key: &str) -> Result<Place, KeyError
     }
 }
 
-/// What the keys of a task say.
-#[tactic(auto, unfolding(crate::specs::Reading::fields_at))]
-fn fields_at(alloc: Global, keys: Keys) -> Result<TaskSpec, KeyError>
+/// The program of a task: its name, its file, and where it is entered.
+#[derive(Drop)]
+struct Program {
+    name: Text,
+    file: Text,
+    entry: Option<Place>,
+}
+
+#[tactic(auto, unfolding(crate::specs::Inner::Parts::program_at))]
+fn program_at(alloc: Global, keys: Keys) -> Result<Program, KeyError>
     ensures { Gives KeyError.Memory (λ x. x) result
-        (spec.fields_at keys.entry.path.now (table_view keys.entry.table.now)) }
+        (part.program_at keys.entry.path.now (table_view keys.entry.table.now)) }
 {
-    all_known(alloc, keys)?;
-    Ok(TaskSpec {
+    Ok(Program {
         name: Text::new(name_at(alloc, keys)?),
         file: Text::new(file_at(alloc, keys)?),
         entry: entry_at(alloc, keys)?,
+    })
+}
+
+/// What else a task is: its times, where its stack and its global data begin, and its loops.
+#[derive(Drop)]
+struct Load {
+    period: u64,
+    deadline: u64,
+    jitter: u64,
+    stack: Place,
+    global: Place,
+    loops: Items<LoopSpec>,
+}
+
+#[tactic(auto, unfolding(crate::specs::Inner::Parts::load_at))]
+fn load_at(alloc: Global, keys: Keys) -> Result<Load, KeyError>
+    ensures { Gives KeyError.Memory (λ x. x) result
+        (part.load_at keys.entry.path.now (table_view keys.entry.table.now)) }
+{
+    Ok(Load {
         period: keys.number(alloc, "period", 1, LONGEST_TIME)?,
         deadline: keys.number(alloc, "deadline", 1, LONGEST_TIME)?,
         jitter: keys.number(alloc, "jitter", 0, LONGEST_TIME)?,
@@ -89,6 +116,38 @@ fn fields_at(alloc: Global, keys: Keys) -> Result<TaskSpec, KeyError>
     })
 }
 
+/// What the keys of a task say.
+fn fields_at(alloc: Global, keys: Keys) -> Result<TaskSpec, KeyError>
+    ensures { Gives KeyError.Memory (λ x. x) result
+        (spec.fields_at keys.entry.path.now (table_view keys.entry.table.now)) }
+{
+    all_known(alloc, keys)?;
+    let program = program_at(alloc, keys)?;
+    let load = load_at(alloc, keys)?;
+    Ok(TaskSpec {
+        name: program.name,
+        file: program.file,
+        entry: program.entry,
+        period: load.period,
+        deadline: load.deadline,
+        jitter: load.jitter,
+        stack: load.stack,
+        global: load.global,
+        loops: load.loops,
+    })
+}
+
+/// The deadline of a task may not exceed its period.
+fn deadline_in_period(alloc: Global, path: &str, task: &TaskSpec) -> Result<(), SetError>
+    ensures { Gives SetError.Memory (λ x. x) result
+        (part.deadline_in_period path.now task.now) }
+{
+    if task.deadline > task.period {
+        return Err(SetError::DeadlineAfterPeriod(key_path(alloc, path, "deadline")?));
+    }
+    Ok(())
+}
+
 /// The task at a place of the list, counted from 0. The deadline is compared with the period after
 /// all keys are read, those of the loops included. The first thing that is wrong is the refusal;
 /// `Memory` may come in place of any answer. Linear in what the keys say.
@@ -96,17 +155,9 @@ fn fields_at(alloc: Global, keys: Keys) -> Result<TaskSpec, KeyError>
 pub fn task_at(alloc: Global, place: usize, table: &Table) -> Result<TaskSpec, SetError>
     ensures { Gives SetError.Memory (λ x. x) result (spec.task_at place (table_view table.now)) }
 {
-    let mut path = item_path(alloc, "", "task", place)?;
-    let task = fields_at(
-        alloc,
-        Keys {
-            table,
-            path: path.as_str(),
-        },
-    )?;
-    if task.deadline > task.period {
-        path.push_str("deadline")?;
-        return Err(SetError::DeadlineAfterPeriod(Text::new(path)));
-    }
+    let path = item_path(alloc, "", "task", place)?;
+    let path = path.as_str();
+    let task = fields_at(alloc, Keys { table, path })?;
+    deadline_in_period(alloc, path, &task)?;
     Ok(task)
 }

@@ -1,0 +1,46 @@
+-- The parts in which the keys of a task are read: what only contracts inside the crate cite.
+use Rattle.std.specs.Prelude.{ℕ, List, ◌++◌, codes, None, nat_lt, Result, Ok, Err}
+use Rattle.std.specs.Prelude.{if◌then◌else◌}
+use Rattle.crpd_base.specs.Limits.{longest_time}
+use Rattle.crpd_base.specs.Outcome.{◌>>=◌}
+use Rattle.crpd_base.specs.declared.data.Place.TheVariants.{Number}
+use Rattle.crpd_base.specs.declared.data.TaskSpec.{TaskSpec}
+use Rattle.toml.specs.Data.{Members}
+use Rattle.toml_keys.specs.declared.fault.KeyError.{KeyError}
+use Rattle.toml_keys.specs.Reading.{required, optional, whole}
+use Rattle.set_reader.specs.declared.fault.SetError.{SetError}
+use Rattle.set_reader.specs.declared.fault.SetError.TheVariants.{DeadlineAfterPeriod}
+use Rattle.set_reader.specs.declared.task.Load.{Load}
+use Rattle.set_reader.specs.declared.task.Program.{Program}
+use Rattle.set_reader.specs.Kinds as kind
+use Rattle.set_reader.specs.Reading.{entry_place, loops_at}
+
+unfoldable pub program_at : List ℕ → Members → Result Program KeyError
+program_at path ms = do
+  name ← required kind.name path (codes "name") ms
+  file ← required kind.file path (codes "file") ms
+  entry ← optional None entry_place path (codes "entry") ms
+  Ok (record { name = name; file = file; entry = entry })
+
+unfoldable pub load_at : List ℕ → Members → Result Load KeyError
+load_at path ms = do
+  period ← required (whole 1 longest_time) path (codes "period") ms
+  deadline ← required (whole 1 longest_time) path (codes "deadline") ms
+  jitter ← required (whole 0 longest_time) path (codes "jitter") ms
+  stack ← optional (Number 0) kind.place path (codes "stack") ms
+  global ← optional (Number 0) kind.place path (codes "global") ms
+  loops ← loops_at path ms
+  Ok (record {
+    period = period;
+    deadline = deadline;
+    jitter = jitter;
+    stack = stack;
+    global = global;
+    loops = loops;
+  })
+
+-- a deadline after the period is refused, by its path
+abbrev pub deadline_in_period : List ℕ → TaskSpec → Result (Unit {0}) SetError
+deadline_in_period path task =
+    if nat_lt task.period task.deadline then Err (DeadlineAfterPeriod (path ++ codes "deadline"))
+    else Ok tt
