@@ -7,7 +7,7 @@ ghost use Rattle.toml_keys.specs.Reading.{all_known, required, optional, each, l
 ghost use Rattle.script_reader.specs.Reading as spec;
 
 use crate::fault::ScriptError;
-use crpd_base::{LONGEST_TIME, ScriptJob, Task, TaskSet, TaskSpec, Text};
+use crpd_base::{LONGEST_TIME, MOST_JOBS, ScriptJob, Task, TaskSet, TaskSpec, Text};
 use std::alloc::{AllocError, Global};
 use toml::Table;
 use toml_keys::{KeyError, Keys, item_path, key_path, tables};
@@ -128,7 +128,7 @@ pub fn jobs_at(alloc: Global, table: &Table, set: &TaskSet) -> Result<Vec<Script
         (spec.jobs_at set.now (table_view table.now)) }
 {
     let tables = job_list(alloc, Keys { table, path: "" })?;
-    if tables.len() > 10_000 {
+    if tables.len() > MOST_JOBS {
         return Err(ScriptError::TooLong(Text::new(String::from_str(alloc, "job")?)));
     }
     each_job(alloc, set, tables.as_slice())

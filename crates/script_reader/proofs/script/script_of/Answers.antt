@@ -1,0 +1,15 @@
+use Rattle.std.proofs.Common.{arith, refl}
+use Rattle.script_reader.proofs.Texts.{reading_of_text, reading_of_bytes}
+use Rattle.script_reader.proofs.script.script_of.Goals as goal
+
+pub returns-in_default : goal.returns-in_default
+returns-in_default c = grind (arith, reading_of_text, reading_of_bytes)
+
+pub returns-in-Ok-table_from_str : goal.returns-in-Ok-table_from_str
+returns-in-Ok-table_from_str c = grind (arith, reading_of_text, reading_of_bytes)
+
+pub returns-in-Err : goal.returns-in-Err
+returns-in-Err c = λ is_other. absurd (is_other refl)
+
+pub returns-in-Err-2 : goal.returns-in-Err-2
+returns-in-Err-2 c = grind (arith, reading_of_text, reading_of_bytes)
