@@ -1,7 +1,8 @@
 -- What is explored, step by step; and that words stand at the calls under way of every node.
 use Rattle.std.proofs.Common.{◌≡◌, ℕ, ◌+◌, ◌<◌, ◌≤◌, List, [], ◌∷◌, ◌++◌, reverse, length, Option}
 use Rattle.std.proofs.Common.{Some, None, Contains, slice_get, refl, sym, ap, ◌∙◌, subst, ⊎_elim}
-use Rattle.std.proofs.Common.{arith, All, Bool, true, false, ◌==◌, if◌then◌else◌}
+use Rattle.std.proofs.Common.{arith, All, Bool, true, false, ◌==◌, if◌then◌else◌, Result, Ok, Err}
+use Rattle.std.specs.Prelude.{OnOk}
 use Rattle.std.proofs.lemmas.Bool.{cases_lt}
 use Rattle.std.proofs.lemmas.List.{get_or_append_left, length-append, reverse-reverse}
 use Rattle.std.proofs.lemmas.List.{reverse-append}
@@ -15,8 +16,10 @@ use Rattle.rv_decode.specs.Flow.{Flow, Plain, Branch, Jump, Call, Return, Exit, 
 use Rattle.rv_decode.specs.Flow.{OtherJal, Flows, Words, IsCodeMap, flows, flow_of_word}
 use Rattle.flat_graph.specs.FlatGraph.{FlatNode, NodeError, IsNode, the_first, a_successor}
 use Rattle.flat_graph.specs.FlatGraph.{successors, returns_to, goes_to, successors_by, error_of}
-use Rattle.flat_graph.specs.Inner.Reach.{AreAdded, IsExplored}
-use Rattle.flat_graph.specs.Inner.Spots.{IsBelowEnd}
+use Rattle.flat_graph.specs.Inner.Reach.{AreNumbered, AreSameSpots, AreAdded, IsExplored}
+use Rattle.flat_graph.specs.Inner.Reach.{AreFollowed}
+use Rattle.flat_graph.specs.Inner.Spots.{IsBelowEnd, spot_nodes}
+use Rattle.flat_graph.specs.declared.reach.Found.{Found}
 
 pub explored_first : (code : Flows) (entry : ℕ) (nodes : List FlatNode)
     → AreAdded [] (record { context = []; address = entry } ∷ []) nodes
@@ -64,9 +67,26 @@ explored_more code entry place old new n E at A = record {
         let p = subst (λ j. slice_get old j ≡ Some x) here o in
         cc (p, at)
 
-pub more_within : (old some new : List FlatNode) → AreAdded old some new → length old ≤ length new
-more_within old some new A =
-    subst (λ l. length old ≤ length l) (sym A.behind) (simp length-append (omega arith))
+-- the spot at a place was followed too
+pub followed_more : {T E : Type 0} (r : Result T E) (code : Flows) (entry place : ℕ)
+    (old new : Found) (n : FlatNode) → AreFollowed code entry place old →
+    slice_get (spot_nodes old.contexts.lists.items old.list.items) place ≡ Some n
+    → OnOk r (AreNumbered new.contexts.numbers new.contexts.lists.items) →
+    OnOk r (AreSameSpots new.contexts.lists.items new.set.keys new.list.items)
+    → OnOk r
+    (AreAdded (spot_nodes old.contexts.lists.items old.list.items) (successors code entry n)
+    (spot_nodes new.contexts.lists.items new.list.items)) →
+    OnOk r (length new.contexts.lists.items ≤ length old.contexts.lists.items + 1)
+    → OnOk r (AreFollowed code entry (place + 1) new)
+followed_more (Ok x) code entry place old new n F at numbered spots added count = record {
+  numbered = numbered;
+  spots = spots;
+  explored =
+      explored_more code entry place (spot_nodes old.contexts.lists.items old.list.items)
+      (spot_nodes new.contexts.lists.items new.list.items) n F.explored at added;
+  lists = omega (arith, count, F.lists);
+}
+followed_more (Err e) code entry place old new n F at numbered spots added count = tt
 
 -- where the successors of all nodes are there, these are all nodes
 pub explored_all : (code : Flows) (entry place : ℕ) (nodes : List FlatNode)

@@ -7,7 +7,7 @@ use std::alloc::{AllocError, AllocFailed};
 
 /// Why a task has no flat graph. All but `Memory` have an address: that of the least node with an
 /// error, in the order of numbering, and for `TooManyNodes` the task's entry.
-#[derive(Clone, Copy, Debug, PartialEq, Eq)]
+#[derive(Clone, Copy)]
 pub enum GraphError {
     /// There is no memory for the graph.
     Memory,

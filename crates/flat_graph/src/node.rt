@@ -7,7 +7,7 @@ use rv_decode::Ins;
 
 /// How a job goes on from a node. A job ends at an answering node, by an ECALL or by a return with
 /// no call under way.
-#[derive(Clone, Copy, Debug, PartialEq, Eq)]
+#[derive(Clone, Copy)]
 pub enum Kind {
     /// To the next address, or by a branch or a jump to another, with the same calls under way.
     Plain,

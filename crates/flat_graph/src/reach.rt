@@ -2,13 +2,14 @@
 ghost use Rattle.std.specs.Prelude.{◌≡◌, ◌<◌, ◌≤◌, ◌+◌, ◌⊎◌, ◌^◌, All, length, IfOk, OnOk, IfErr};
 ghost use Rattle.std.specs.Prelude.{[], ◌∷◌, slice_index_or};
 ghost use Rattle.code_map.specs.Words.{word_at};
-ghost use Rattle.rv_decode.specs.Flow.{flows};
+ghost use Rattle.rv_decode.specs.Flow.{Flows, flows};
 ghost use Rattle.std.specs.List.Sorted.{IsPermutation, IsSortedBy};
 ghost use Rattle.std.specs.Ordering.{is_lt};
 ghost use Rattle.crpd_base.specs.Limits.{most_nodes};
 ghost use Rattle.flat_graph.specs.Inner.NumberingOrder.{flat_cmp};
 ghost use Rattle.flat_graph.specs.FlatGraph.{IsNode, IsNumbering, successors, HasMoreNodes};
 ghost use Rattle.flat_graph.specs.Inner.Reach.{AreNumbered, ExtendsLists, AreSameSpots, AreAdded};
+ghost use Rattle.flat_graph.specs.Inner.Reach.{AreFollowed, AreAllFollowed};
 ghost use Rattle.flat_graph.specs.Inner.Spots.{spot_node, spot_nodes, flat_steps};
 ghost use Rattle.flat_graph.specs.declared.fault.GraphError.TheVariants.{Memory, TooManyNodes};
 
@@ -172,6 +173,60 @@ fn steps_from(
     }
 }
 
+impl Found {
+    /// The spot at an entry with no call under way, before it is followed.
+    fn start(alloc: Global, entry: u32) -> Result<Self, AllocError>
+        ensures { IfOk result (λ found. (code : Flows) → AreFollowed code entry 0 found) }
+    {
+        let mut found = Found::new(alloc);
+        let calls = SmallVec::new(alloc);
+        found.add_away(alloc, Context { calls }, entry)?;
+        Ok(found)
+    }
+
+    /// Adds the spots to which the spot at a place leads.
+    fn follow(
+        &mut self,
+        alloc: Global,
+        code: &CodeMap,
+        entry: u32,
+        place: usize,
+    ) -> Result<(), AllocError>
+        requires there { place < length self.old.list.items }
+        requires few { place < most_nodes }
+        requires before { AreFollowed (flows (word_at code.now.images)) entry place self.old }
+        ensures { OnOk result
+            (AreFollowed (flows (word_at code.now.images)) entry (place + 1) self.new) }
+    {
+        let spot = self.list[place];
+        let calls = calls_of(self.contexts.lists.as_slice(), spot.context);
+        let steps = steps_from(alloc, code, entry, calls, spot.address)?;
+        self.add_steps(alloc, spot.context, steps)
+    }
+
+    /// Follows the spots in the order in which they are found, until none is left or more than the
+    /// most are found.
+    fn follow_all(
+        &mut self,
+        alloc: Global,
+        code: &CodeMap,
+        entry: u32,
+        most: usize,
+    ) -> Result<(), AllocError>
+        requires most { most ≤ most_nodes }
+        requires start { AreFollowed (flows (word_at code.now.images)) entry 0 self.old }
+        ensures { OnOk result
+            (AreAllFollowed (flows (word_at code.now.images)) entry most self.new) }
+    {
+        let mut place = 0;
+        while place < self.list.len() && self.list.len() <= most {
+            self.follow(alloc, code, entry, place)?;
+            place += 1;
+        }
+        Ok(())
+    }
+}
+
 /// The spots of the nodes of the graph from an entry, in the order of numbering: `TooManyNodes`
 /// where they are more than the most.
 pub(crate) fn reach(
@@ -190,17 +245,8 @@ pub(crate) fn reach(
         (λ e. (e ≡ Memory)
         ⊎ ((e ≡ TooManyNodes entry) × HasMoreNodes (flows (word_at code.now.images)) entry most)) }
 {
-    let mut found = Found::new(alloc);
-    let none = SmallVec::new(alloc);
-    found.add_away(alloc, Context { calls: none }, entry)?;
-    let mut place = 0;
-    while place < found.list.len() && found.list.len() <= most {
-        let spot = found.list[place];
-        let calls = calls_of(found.contexts.lists.as_slice(), spot.context);
-        let steps = steps_from(alloc, code, entry, calls, spot.address)?;
-        found.add_steps(alloc, spot.context, steps)?;
-        place += 1;
-    }
+    let mut found = Found::start(alloc, entry)?;
+    found.follow_all(alloc, code, entry, most)?;
     let ordered = found.ordered(alloc)?;
     if ordered.spots.len() > most {
         return Err(GraphError::TooManyNodes(entry));

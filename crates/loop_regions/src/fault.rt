@@ -7,7 +7,7 @@ use std::alloc::AllocError;
 /// The first thing that is wrong with the stated loops of a task. `SameHead` has the least such
 /// head; the others have the byte address of the least node, in the order of numbering, at which it
 /// is.
-#[derive(Clone, Copy, Debug, PartialEq, Eq)]
+#[derive(Clone, Copy)]
 pub enum LoopError {
     /// There is no memory for the regions.
     Memory,

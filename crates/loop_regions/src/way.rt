@@ -1,7 +1,7 @@
 // How edges lie to regions.
 
 /// How an edge lies to the regions round its source.
-#[derive(Clone, Copy, Debug, PartialEq, Eq)]
+#[derive(Clone, Copy)]
 pub enum Way {
     /// It leads back to the head of one of them.
     Back,

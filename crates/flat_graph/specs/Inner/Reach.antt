@@ -1,10 +1,12 @@
 -- The spots that were found so far.
-use Rattle.std.specs.Prelude.{◌≡◌, ℕ, ◌<◌, List, [], ◌++◌, length, Contains, ◌↔◌, All, AllPairs}
-use Rattle.std.specs.Prelude.{slice_get, Some}
+use Rattle.std.specs.Prelude.{◌≡◌, ℕ, ◌+◌, ◌<◌, ◌≤◌, List, [], ◌++◌, length, Contains, ◌↔◌, ◌⊎◌}
+use Rattle.std.specs.Prelude.{slice_get, Some, All, AllPairs}
 use Rattle.std.specs.BTreeMap.{BTreeMap, get}
 use Rattle.rv_decode.specs.Flow.{Flows}
 use Rattle.flat_graph.specs.Inner.NumberingOrder.{list_cmp}
 use Rattle.flat_graph.specs.FlatGraph.{FlatNode, IsNode, successors}
+use Rattle.flat_graph.specs.Inner.Spots.{spot_nodes}
+use Rattle.flat_graph.specs.declared.reach.Found.{Found}
 use Rattle.flat_graph.specs.declared.spots.Spot.{Spot}
 
 -- each list of calls has the number at which it stands, and no other list has that number
@@ -36,3 +38,17 @@ pub record IsExplored (code : Flows) (entry : ℕ) (place : ℕ) (nodes : List F
   pub first : Contains nodes (record { context = []; address = entry })
   pub closed : (k : ℕ) (n m : FlatNode) → k < place → slice_get nodes k ≡ Some n
       → Contains (successors code entry n) m → Contains nodes m
+
+-- what was found, once the spots before a place were followed
+pub record AreFollowed (code : Flows) (entry place : ℕ) (found : Found) : Type 0 where
+  pub numbered : AreNumbered found.contexts.numbers found.contexts.lists.items
+  pub spots : AreSameSpots found.contexts.lists.items found.set.keys found.list.items
+  pub explored : IsExplored code entry place
+      (spot_nodes found.contexts.lists.items found.list.items)
+  pub lists : length found.contexts.lists.items ≤ place + 1
+
+-- each spot was followed, or more than the most were found
+pub record AreAllFollowed (code : Flows) (entry most : ℕ) (found : Found) : Type 0 where
+  pub place : ℕ
+  pub so_far : AreFollowed code entry place found
+  pub ended : (length found.list.items ≤ place) ⊎ (most < length found.list.items)

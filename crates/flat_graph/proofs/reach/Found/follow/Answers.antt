@@ -1,0 +1,73 @@
+use Rattle.std.proofs.Common.{◌≡◌, ◌<◌, ap, ◌∙◌, sym, subst, [], refl, length, arith, Some}
+use Rattle.std.proofs.Common.{slice_get, option_map}
+use Rattle.std.specs.Prelude.{slice_index_or}
+use Rattle.std.proofs.lemmas.Option.{slice_get_read, slice_get-map, get_or_from_slice_get}
+use Rattle.std.proofs.lemmas.Result.{on_ok_weaker}
+use Rattle.crpd_base.proofs.Elements.{at_contains}
+use Rattle.code_map.specs.Words.{word_at}
+use Rattle.rv_decode.specs.Flow.{flows}
+use Rattle.flat_graph.specs.FlatGraph.{IsNode, successors}
+use Rattle.flat_graph.specs.Inner.Reach.{AreAdded}
+use Rattle.flat_graph.specs.Inner.Spots.{spot_node, spot_nodes, flat_steps}
+use Rattle.flat_graph.specs.declared.spots.Spot.{Spot}
+use Rattle.flat_graph.proofs.Explored.{followed_more}
+use Rattle.flat_graph.proofs.reach.Found.follow.Goals as goal
+
+pub steps_from-requires : goal.steps_from-requires
+steps_from-requires c =
+    let lists = c.args.self.now.contexts.lists.items in
+    let items = c.args.self.now.list.items in
+    let spot = c.index-spot.result.now in
+    let read : slice_get items c.args.place ≡ Some spot =
+    slice_get_read items (length items) c.args.place spot refl c.requires.there
+    c.index-spot.ensures in
+    let at : slice_get (spot_nodes lists items) c.args.place ≡ Some (spot_node lists spot) =
+    slice_get-map (spot_node lists) items c.args.place ∙ ap (option_map (spot_node lists)) read in
+    let calls : c.calls_of-calls.result.now ≡ slice_index_or lists spot.context [] =
+    c.calls_of-calls.ensures
+    ∙ ap (λ l. slice_index_or l spot.context []) c.as_slice.ensures.value in
+    subst (λ k. IsNode (flows (word_at c.args.code.now.images)) c.args.entry
+    (record { context = k; address = spot.address })) (sym calls)
+    (c.requires.before.explored.all (spot_node lists spot)
+    (at_contains (spot_nodes lists items) c.args.place (spot_node lists spot) at))
+
+pub add_steps-requires-clause-few : goal.add_steps-requires-clause-few
+add_steps-requires-clause-few c = omega (arith, c.requires.before.lists)
+
+pub add_steps-requires-clause-from : goal.add_steps-requires-clause-from
+add_steps-requires-clause-from c =
+    let lists = c.args.self.now.contexts.lists.items in
+    let items = c.args.self.now.list.items in
+    let spot = c.index-spot.result.now in
+    let read : slice_get items c.args.place ≡ Some spot =
+    slice_get_read items (length items) c.args.place spot refl c.requires.there
+    c.index-spot.ensures in
+    subst (λ (s : Spot). s.context < length lists)
+    (get_or_from_slice_get items c.args.place spot spot read)
+    (c.requires.before.spots.inside c.args.place spot c.requires.there)
+
+pub returns : goal.returns
+returns c =
+    let code = flows (word_at c.args.code.now.images) in
+    let lists = c.args.self.now.contexts.lists.items in
+    let items = c.args.self.now.list.items in
+    let spot = c.index-spot.result.now in
+    let read : slice_get items c.args.place ≡ Some spot =
+    slice_get_read items (length items) c.args.place spot refl c.requires.there
+    c.index-spot.ensures in
+    let at : slice_get (spot_nodes lists items) c.args.place ≡ Some (spot_node lists spot) =
+    slice_get-map (spot_node lists) items c.args.place ∙ ap (option_map (spot_node lists)) read in
+    let calls : c.calls_of-calls.result.now ≡ slice_index_or lists spot.context [] =
+    c.calls_of-calls.ensures
+    ∙ ap (λ l. slice_index_or l spot.context []) c.as_slice.ensures.value in
+    let steps = subst (λ k. flat_steps k c.in_ok-steps.steps
+    ≡ successors code c.args.entry (record { context = k; address = spot.address })) calls
+    c.in_ok-steps.ensures in
+    let nodes = spot_nodes c.add_steps.new.self.contexts.lists.items
+    c.add_steps.new.self.list.items in
+    followed_more c.add_steps.result code c.args.entry c.args.place c.args.self.now
+    c.add_steps.new.self (spot_node lists spot) c.requires.before at c.add_steps.ensures.numbered
+    c.add_steps.ensures.found
+    (on_ok_weaker c.add_steps.result (subst (λ l. AreAdded (spot_nodes lists items) l nodes) steps)
+    c.add_steps.ensures.added)
+    c.add_steps.ensures.count
