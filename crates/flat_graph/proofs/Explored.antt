@@ -2,13 +2,13 @@
 use Rattle.std.proofs.Common.{◌≡◌, ℕ, ◌+◌, ◌<◌, ◌≤◌, List, [], ◌∷◌, ◌++◌, reverse, length, Option}
 use Rattle.std.proofs.Common.{Some, None, Contains, slice_get, refl, sym, ap, ◌∙◌, subst, ⊎_elim}
 use Rattle.std.proofs.Common.{arith, All, Bool, true, false, ◌==◌, if◌then◌else◌, Result, Ok, Err}
-use Rattle.std.specs.Prelude.{OnOk}
+use Rattle.std.specs.Prelude.{OnOk, option_map}
 use Rattle.std.proofs.lemmas.Bool.{cases_lt}
 use Rattle.std.proofs.lemmas.List.{get_or_append_left, length-append, reverse-reverse}
 use Rattle.std.proofs.lemmas.List.{reverse-append}
 use Rattle.std.proofs.lemmas.List.Elements.{Contains-append_left, Contains-append_cases, All-nil}
 use Rattle.std.proofs.lemmas.List.Elements.{All-push}
-use Rattle.std.proofs.lemmas.Option.{slice_get_within}
+use Rattle.std.proofs.lemmas.Option.{slice_get_within, slice_get-map}
 use Rattle.crpd_base.proofs.Elements.{head_or_rest, in_none, in_one, contains_at, at_contains}
 use Rattle.crpd_base.proofs.Elements.{slice_get_left}
 use Rattle.rv_decode.specs.Address.{end_address}
@@ -18,8 +18,15 @@ use Rattle.flat_graph.specs.FlatGraph.{FlatNode, NodeError, IsNode, the_first, a
 use Rattle.flat_graph.specs.FlatGraph.{successors, returns_to, goes_to, successors_by, error_of}
 use Rattle.flat_graph.specs.Inner.Reach.{AreNumbered, AreSameSpots, AreAdded, IsExplored}
 use Rattle.flat_graph.specs.Inner.Reach.{AreFollowed}
-use Rattle.flat_graph.specs.Inner.Spots.{IsBelowEnd, spot_nodes}
+use Rattle.flat_graph.specs.Inner.Spots.{IsBelowEnd, spot_node, spot_nodes}
 use Rattle.flat_graph.specs.declared.reach.Found.{Found}
+use Rattle.flat_graph.specs.declared.spots.Spot.{Spot}
+
+-- the node of the spot at a place
+pub node_of_spot : (lists : List (List ℕ)) (spots : List Spot) (k : ℕ) (s : Spot)
+    → slice_get spots k ≡ Some s → slice_get (spot_nodes lists spots) k ≡ Some (spot_node lists s)
+node_of_spot lists spots k s e =
+    slice_get-map (spot_node lists) spots k ∙ ap (option_map (spot_node lists)) e
 
 pub explored_first : (code : Flows) (entry : ℕ) (nodes : List FlatNode)
     → AreAdded [] (record { context = []; address = entry } ∷ []) nodes

@@ -1,7 +1,6 @@
 -- The lines of nodes, one by one.
 use Rattle.std.proofs.Common.{◌≡◌, ℕ, ◌<◌, ◌≤◌, List, [], ◌∷◌, ◌++◌, length, Some, None, Contains}
-use Rattle.std.proofs.Common.{slice_get, get_or, sym, ap, ◌∙◌, subst, ⊎_elim, All, option_map}
-use Rattle.std.proofs.lemmas.Option.{slice_get-get_or, slice_get-map}
+use Rattle.std.proofs.Common.{slice_get, sym, ap, ◌∙◌, subst, ⊎_elim, All, option_map}
 use Rattle.std.proofs.lemmas.List.Elements.{All-contains_itself, All-weaker}
 use Rattle.crpd_base.proofs.Elements.{at_contains, some_at, at_more}
 use Rattle.rv_decode.specs.declared.Ins.{Ins}
@@ -11,18 +10,9 @@ use Rattle.flat_graph.specs.FlatGraph.{successors, goes_to, successors_by}
 use Rattle.flat_graph.specs.GraphErrors.{IsGraphError}
 use Rattle.flat_graph.specs.Inner.GraphErrors.{HasInstructionAt, graph_error}
 use Rattle.flat_graph.specs.Inner.GraphParts.{IsNodeLine, AreNodeLines}
-use Rattle.flat_graph.specs.Inner.Spots.{spot_node, spot_nodes}
 use Rattle.flat_graph.specs.declared.fault.GraphError.{GraphError}
 use Rattle.flat_graph.specs.declared.lines.Line.{Line}
-use Rattle.flat_graph.specs.declared.spots.Spot.{Spot}
 use Rattle.flat_graph.proofs.Numbers.{refused_at, refused_by}
-
--- the spot at a place, as a node
-pub flat_at : (lists : List (List ℕ)) (spots : List Spot) (k : ℕ) (d : Spot) → k < length spots
-    → slice_get (spot_nodes lists spots) k ≡ Some (spot_node lists (get_or spots k d))
-flat_at lists spots k d lt =
-    slice_get-map (spot_node lists) spots k
-    ∙ ap (option_map (spot_node lists)) (slice_get-get_or spots k d lt)
 
 pub node_at : (code : Flows) (entry : ℕ) (nodes : List FlatNode) (k : ℕ) (n : FlatNode)
     → IsNumbering code entry nodes → slice_get nodes k ≡ Some n → IsNode code entry n
@@ -47,6 +37,9 @@ successors_there code entry nodes k n N e =
     (λ m c. (N.all m).0 (a_successor n m (node_at code entry nodes k n N e) c))
     (successors code entry n) (All-contains_itself (successors code entry n))
 
+pub one_node : (a b : FlatNode) → Some a ≡ Some b → a ≡ b
+one_node a b s = cc
+
 pub lines_more : (words : Words) (entry : ℕ) (nodes : List FlatNode) (lines : List Line)
     (line : Line) (n : FlatNode) → AreNodeLines words entry nodes lines →
     slice_get nodes (length lines) ≡ Some n → IsNodeLine words entry nodes n line
@@ -55,13 +48,10 @@ lines_more words entry nodes lines line n L at I k m l e f =
     ⊎_elim
     (λ old. L k m l e old)
     (λ new.
-    let same : m ≡ n = one m n (sym e ∙ ap (slice_get nodes) new.0 ∙ at) in
+    let same : m ≡ n = one_node m n (sym e ∙ ap (slice_get nodes) new.0 ∙ at) in
     subst (IsNodeLine words entry nodes m) new.1
     (subst (λ x. IsNodeLine words entry nodes x line) (sym same) I))
     (at_more lines line k l f)
-  where
-    one : (a b : FlatNode) → Some a ≡ Some b → a ≡ b
-    one a b s = cc
 
 -- the error of the first node that has no line
 pub refused_line : (words : Words) (entry : ℕ) (nodes : List FlatNode) (lines : List Line)

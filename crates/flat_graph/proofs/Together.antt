@@ -174,3 +174,9 @@ module _ (words : Words) (entry : ℕ) (spots : List Spot) (lines : List Line) (
             ap (λ (x : GraphNode). x.next) (node_is u p)
             ∙ ap (λ (x : Line). onward x.next) (one p.line l (sym p.line_at ∙ e));
       }
+
+-- the graph has as many nodes as are kept
+pub few_kept : (node : Stand → GraphNode) (nodes kept : List Stand) → nodes ≡ kept
+    → length kept ≤ 16384 → length (map node nodes) ≤ 16384
+few_kept node nodes kept same few =
+    subst (λ l. l ≤ 16384) (sym (length-map nodes node ∙ ap length same)) few

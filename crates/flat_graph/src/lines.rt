@@ -9,7 +9,8 @@ ghost use Rattle.flat_graph.specs.FlatGraph.{IsNumbering, IsNumberedBefore};
 ghost use Rattle.flat_graph.specs.Inner.StoredGraph.{onward};
 ghost use Rattle.flat_graph.specs.Inner.Spots.{spot_node, spot_nodes, flat_steps};
 ghost use Rattle.flat_graph.specs.GraphErrors.{IsGraphError};
-ghost use Rattle.flat_graph.specs.Inner.GraphParts.{IsNodeLine, AreNodeLines, AreNumbers};
+ghost use Rattle.flat_graph.specs.Inner.GraphParts.{IsLineAt, IsErrorAt, AreNodeLines, AreNumbers};
+ghost use Rattle.flat_graph.specs.declared.fault.GraphError.TheVariants.{Memory};
 
 use crate::checks::check;
 use crate::contexts::calls_of;
@@ -144,6 +145,35 @@ fn successor_numbers(
     }
 }
 
+/// The line of the node at a place, or the node's error.
+fn node_line(
+    alloc: Global,
+    code: &CodeMap,
+    entry: u32,
+    lists: &[Context],
+    spots: &[Spot],
+    place: usize,
+) -> Result<Line, GraphError>
+    requires few { length spots.now ≤ most_nodes }
+    requires numbering { IsNumbering (flows (word_at code.now.images)) entry
+        (spot_nodes lists.now spots.now) }
+    requires there { place < length spots.now }
+    ensures line { IfOk result
+        (IsLineAt (word_at code.now.images) entry (spot_nodes lists.now spots.now) place) }
+    ensures refused { IfErr result
+        (λ e. (e ≡ Memory)
+        ⊎ IsErrorAt (flows (word_at code.now.images)) entry (spot_nodes lists.now spots.now) place
+        e) }
+{
+    code.words_law();
+    let Spot { context, address } = spots[place];
+    let calls = calls_of(lists, context);
+    let ins = check(code, entry, calls, address)?;
+    let steps = steps_of(alloc, calls, address, way_of(address, &ins))?;
+    let next = successor_numbers(lists, spots, place + 1, context, &steps);
+    Ok(Line { ins, next })
+}
+
 /// The lines of the nodes in the order of numbering, or the error of the first one that has an
 /// error.
 pub(crate) fn lines(
@@ -162,15 +192,9 @@ pub(crate) fn lines(
     ensures count { IfOk result (λ v. length v.items ≡ length spots.now) }
     ensures refused { IfErr result (IsGraphError (flows (word_at code.now.images)) entry) }
 {
-    code.words_law();
     let mut lines = Vec::new(alloc);
-    for spot in spots {
-        let Spot { context, address } = *spot;
-        let calls = calls_of(lists, context);
-        let ins = check(code, entry, calls, address)?;
-        let steps = steps_of(alloc, calls, address, way_of(address, &ins))?;
-        let next = successor_numbers(lists, spots, lines.len() + 1, context, &steps);
-        lines.push(Line { ins, next })?;
+    for place in 0..spots.len() {
+        lines.push(node_line(alloc, code, entry, lists, spots, place)?)?;
     }
     Ok(lines)
 }

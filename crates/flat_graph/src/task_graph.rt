@@ -1,15 +1,17 @@
 // The flat graph of a task from the code.
 ghost use Rattle.std.specs.Prelude.{◌≡◌, ◌≤◌, ◌<◌, ℕ, Bool, Some, IfOk, IfErr, IfSome, length};
-ghost use Rattle.std.specs.Prelude.{slice_get, slice_index};
+ghost use Rattle.std.specs.Prelude.{slice_get, slice_index, All, []};
 ghost use Rattle.code_map.specs.Words.{word_at};
 ghost use Rattle.rv_decode.specs.Flow.{flows};
 ghost use Rattle.crpd_base.specs.Limits.{most_nodes};
-ghost use Rattle.flat_graph.specs.Inner.GraphParts.{AreStoredNodes};
+ghost use Rattle.flat_graph.specs.FlatGraph.{IsNumbering};
+ghost use Rattle.flat_graph.specs.Inner.GraphParts.{AreStoredNodes, AreKeptNodes};
+ghost use Rattle.flat_graph.specs.Inner.Spots.{spot_nodes};
 ghost use Rattle.flat_graph.specs.CodeGraph.{IsCodeGraph};
 ghost use Rattle.flat_graph.specs.GraphErrors.{IsGraphError};
 
 use crate::fault::GraphError;
-use crate::graph::{Graph, Stand};
+use crate::graph::{Context, Graph, Stand};
 use crate::leaders::leaders;
 use crate::lines::{Line, lines, number_of};
 use crate::reach::reach;
@@ -72,23 +74,47 @@ pub fn build(alloc: Global, code: &CodeMap, task: Task) -> Result<Graph, GraphEr
     graph_from(alloc, code, code.plan(task).entry)
 }
 
+/// The nodes of spots in the order of numbering, of which one stands at the entry with no call under
+/// way; or the error of the first node that has one.
+fn nodes_from(
+    alloc: Global,
+    code: &CodeMap,
+    entry: u32,
+    lists: &[Context],
+    spots: &[Spot],
+    first: u32,
+) -> Result<Vec<Stand>, GraphError>
+    requires few { length spots.now ≤ most_nodes }
+    requires numbering { IsNumbering (flows (word_at code.now.images)) entry
+        (spot_nodes lists.now spots.now) }
+    requires inside { All (λ s. s.context < length lists.now) spots.now }
+    requires first { slice_get (spot_nodes lists.now spots.now) first
+        ≡ Some (record { context = []; address = entry }) }
+    ensures kept { IfOk result
+        (λ nodes. AreKeptNodes (word_at code.now.images) entry lists.now first nodes.items) }
+    ensures refused { IfErr result (IsGraphError (flows (word_at code.now.images)) entry) }
+{
+    code.words_law();
+    let lines = lines(alloc, code, entry, lists, spots)?;
+    let leaders = leaders(alloc, &lines, first)?;
+    let nodes = stands(alloc, spots, &lines, &leaders)?;
+    Ok(nodes)
+}
+
 /// The flat graph of the code from an entry.
 fn graph_from(alloc: Global, code: &CodeMap, entry: u32) -> Result<Graph, GraphError>
     ensures graph { IfOk result (IsCodeGraph (word_at code.now.images) entry) }
     ensures few { IfOk result (λ g. length g.nodes ≤ most_nodes) }
     ensures refused { IfErr result (IsGraphError (flows (word_at code.now.images)) entry) }
 {
-    code.words_law();
     let ordered = reach(alloc, code, entry, MOST_NODES)?;
     let lists = ordered.lists;
     let spots = ordered.spots;
-    let lines = lines(alloc, code, entry, &lists, &spots)?;
     let first = number_of(&lists, &spots, &[], entry);
-    let leaders = leaders(alloc, &lines, first)?;
-    let stands = stands(alloc, &spots, &lines, &leaders)?;
+    let nodes = nodes_from(alloc, code, entry, &lists, &spots, first)?;
     Ok(Graph {
         contexts: Items::new(lists),
-        nodes: Items::new(stands),
+        nodes: Items::new(nodes),
         first,
     })
 }

@@ -1,9 +1,11 @@
 -- The parts from which a task's graph is put together.
-use Rattle.std.specs.Prelude.{◌≡◌, ℕ, Bool, List, map, Some, None, slice_get}
-use Rattle.rv_decode.specs.Flow.{Words, flows}
+use Rattle.std.specs.Prelude.{◌≡◌, ℕ, Bool, List, map, Some, None, slice_get, option_map}
+use Rattle.rv_decode.specs.Flow.{Flows, Words, flows}
 use Rattle.flat_graph.specs.FlatGraph.{FlatNode, error_of, successors}
-use Rattle.flat_graph.specs.Inner.StoredGraph.{onward}
-use Rattle.flat_graph.specs.Inner.GraphErrors.{HasInstructionAt}
+use Rattle.flat_graph.specs.CodeGraph.{IsCodeGraph}
+use Rattle.flat_graph.specs.Inner.StoredGraph.{onward, stored_graph, IsStoredGraph}
+use Rattle.flat_graph.specs.Inner.GraphErrors.{HasInstructionAt, graph_error}
+use Rattle.flat_graph.specs.declared.fault.GraphError.{GraphError}
 use Rattle.flat_graph.specs.declared.graph.Stand.{Stand}
 use Rattle.flat_graph.specs.declared.lines.Line.{Line}
 use Rattle.flat_graph.specs.declared.spots.Spot.{Spot}
@@ -19,6 +21,17 @@ pub record IsNodeLine (words : Words) (entry : ℕ) (nodes : List FlatNode) (n :
   pub stands : HasInstructionAt words n.address line.ins
   pub next : AreNumbers nodes (onward line.next) (successors (flows words) entry n)
 
+-- the line is that of the node at a place
+abbrev pub IsLineAt : Words → ℕ → List FlatNode → ℕ → Line → Type 0
+IsLineAt words entry nodes k line =
+    (n : FlatNode) → slice_get nodes k ≡ Some n → IsNodeLine words entry nodes n line
+
+-- the error is that of the node at a place
+abbrev pub IsErrorAt : Flows → ℕ → List FlatNode → ℕ → GraphError → Type 0
+IsErrorAt code entry nodes k e =
+    (n : FlatNode) → slice_get nodes k ≡ Some n
+    → option_map (λ x. graph_error x n.address) (error_of code entry n) ≡ Some e
+
 abbrev pub AreNodeLines : Words → ℕ → List FlatNode → List Line → Type 0
 AreNodeLines words entry nodes lines =
     (k : ℕ) (n : FlatNode) (line : Line) → slice_get nodes k ≡ Some n
@@ -31,3 +44,9 @@ AreStoredNodes spots lines leaders stands =
     → slice_get lines k ≡ Some l → slice_get leaders k ≡ Some b →
     slice_get stands k ≡ Some
     (record { context = s.context; address = s.address; ins = l.ins; next = l.next; leader = b })
+
+-- the nodes are kept, with their contexts, as those of the graph of the code
+pub record AreKeptNodes (words : Words) (entry : ℕ) (contexts : List (List ℕ)) (first : ℕ)
+    (nodes : List Stand) : Type 0 where
+  pub kept : IsStoredGraph contexts nodes first
+  pub of_code : IsCodeGraph words entry (stored_graph contexts nodes first)

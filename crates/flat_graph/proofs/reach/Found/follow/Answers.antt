@@ -1,7 +1,7 @@
 use Rattle.std.proofs.Common.{◌≡◌, ◌<◌, ap, ◌∙◌, sym, subst, [], refl, length, arith, Some}
-use Rattle.std.proofs.Common.{slice_get, option_map}
+use Rattle.std.proofs.Common.{slice_get}
 use Rattle.std.specs.Prelude.{slice_index_or}
-use Rattle.std.proofs.lemmas.Option.{slice_get_read, slice_get-map, get_or_from_slice_get}
+use Rattle.std.proofs.lemmas.Option.{slice_get_read, get_or_from_slice_get}
 use Rattle.std.proofs.lemmas.Result.{on_ok_weaker}
 use Rattle.crpd_base.proofs.Elements.{at_contains}
 use Rattle.code_map.specs.Words.{word_at}
@@ -10,7 +10,7 @@ use Rattle.flat_graph.specs.FlatGraph.{IsNode, successors}
 use Rattle.flat_graph.specs.Inner.Reach.{AreAdded}
 use Rattle.flat_graph.specs.Inner.Spots.{spot_node, spot_nodes, flat_steps}
 use Rattle.flat_graph.specs.declared.spots.Spot.{Spot}
-use Rattle.flat_graph.proofs.Explored.{followed_more}
+use Rattle.flat_graph.proofs.Explored.{followed_more, node_of_spot}
 use Rattle.flat_graph.proofs.reach.Found.follow.Goals as goal
 
 pub steps_from-requires : goal.steps_from-requires
@@ -21,8 +21,7 @@ steps_from-requires c =
     let read : slice_get items c.args.place ≡ Some spot =
     slice_get_read items (length items) c.args.place spot refl c.requires.there
     c.index-spot.ensures in
-    let at : slice_get (spot_nodes lists items) c.args.place ≡ Some (spot_node lists spot) =
-    slice_get-map (spot_node lists) items c.args.place ∙ ap (option_map (spot_node lists)) read in
+    let at = node_of_spot lists items c.args.place spot read in
     let calls : c.calls_of-calls.result.now ≡ slice_index_or lists spot.context [] =
     c.calls_of-calls.ensures
     ∙ ap (λ l. slice_index_or l spot.context []) c.as_slice.ensures.value in
@@ -55,8 +54,7 @@ returns c =
     let read : slice_get items c.args.place ≡ Some spot =
     slice_get_read items (length items) c.args.place spot refl c.requires.there
     c.index-spot.ensures in
-    let at : slice_get (spot_nodes lists items) c.args.place ≡ Some (spot_node lists spot) =
-    slice_get-map (spot_node lists) items c.args.place ∙ ap (option_map (spot_node lists)) read in
+    let at = node_of_spot lists items c.args.place spot read in
     let calls : c.calls_of-calls.result.now ≡ slice_index_or lists spot.context [] =
     c.calls_of-calls.ensures
     ∙ ap (λ l. slice_index_or l spot.context []) c.as_slice.ensures.value in
