@@ -84,6 +84,22 @@ round_more heads holders now new k r s N R = (
   (λ p. N.1 (R.1 (p.0, λ y lt. p.1 y (omega arith)), p.1 k (omega arith))),
 )
 
+-- a node that has the regions of one before it
+pub round_like : (heads : List ℕ) (holders rows : List (List ℕ)) (k z r s : ℕ) → z < k
+    → row holders k ≡ row holders z → IsRoundBelow heads holders rows k r s
+    → IsRoundBelow heads holders rows (k + 1) r s
+round_like heads holders rows k z r s lt e R =
+    round_more heads holders rows rows k r s
+    (
+      (λ t. (
+        t,
+        λ h. subst (λ xs. IsTrue (has xs s)) (sym e)
+            ((R.0 t).1 z lt (subst (λ xs. IsTrue (has xs r)) e h)),
+      )),
+      (λ p. p.0),
+    )
+    R
+
 pub all_round : (heads bounds : List ℕ) (holders rows : List (List ℕ)) (k : ℕ)
     → AreRegionLists heads bounds holders → length holders ≤ k → length rows ≡ length heads
     → ((r s : ℕ) → r < length heads → IsRoundBelow heads holders rows k r s)

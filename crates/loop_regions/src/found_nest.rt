@@ -1,5 +1,5 @@
 // The regions of a task's graph, or the first refusal.
-ghost use Rattle.std.specs.Prelude.{◌≡◌, ℕ, IfOk, IfErr, length};
+ghost use Rattle.std.specs.Prelude.{◌≡◌, ℕ, IfOk, IfErr, OnOk, length};
 ghost use Rattle.flat_graph.specs.CodeGraph.{graph_of, places_of};
 ghost use Rattle.loop_regions.specs.CodeNest.{nest_of, AreBounded, IsNestOf};
 ghost use Rattle.loop_regions.specs.Stated.{IsRegions, HasNoLoopRefusals, IsSameHead, IsNotNested};
@@ -18,6 +18,37 @@ use crate::second_entry::least_second_entry;
 use crpd_base::{LoopAt, NodeId, TaskPlan};
 use flat_graph::Graph;
 use std::alloc::{AllocError, Global};
+
+/// Fails with the first refusal of the regions that were found for stated loops with heads of their
+/// own, given the regions that hold each region's nodes.
+fn accept(
+    alloc: Global,
+    graph: &Graph,
+    loops: &[LoopAt],
+    found: &Regions,
+    around: &[Holders],
+) -> Result<(), LoopError>
+    requires nodes { length found.now.holders ≡ (graph_of graph.now).size }
+    requires one_head { (a : ℕ) → ¬ IsSameHead loops.now a }
+    requires regions { IsRegions (graph_of graph.now) (places_of graph.now) loops.now
+        (nest_in found.now) }
+    requires around { AreAround (nest_in found.now) around.now }
+    ensures accepted { OnOk result (HasNoLoopRefusals (graph_of graph.now) (nest_in found.now)) }
+    ensures refused { IfErr result
+        (IsLoopError (graph_of graph.now) (places_of graph.now) loops.now) }
+{
+    graph.graph_law();
+    if let Some(v) = least_second_entry(graph, found) {
+        return Err(LoopError::SecondEntry(graph.node(NodeId(v)).address));
+    }
+    if let Some(v) = not_nested(found, around) {
+        return Err(LoopError::NotNested(graph.node(NodeId(v)).address));
+    }
+    if let Some(v) = least_on_cycle(alloc, graph, found)? {
+        return Err(LoopError::CycleWithoutBound(graph.node(NodeId(v)).address));
+    }
+    Ok(())
+}
 
 /// The nest of regions that were found for stated loops with heads of their own, or the first
 /// refusal.
@@ -38,17 +69,8 @@ fn nest_of_found(
     ensures refused { IfErr result
         (IsLoopError (graph_of graph.now) (places_of graph.now) loops.now) }
 {
-    graph.graph_law();
-    if let Some(v) = least_second_entry(graph, &found) {
-        return Err(LoopError::SecondEntry(graph.node(NodeId(v)).address));
-    }
     let around = regions_around(alloc, &found)?;
-    if let Some(v) = not_nested(&found, &around) {
-        return Err(LoopError::NotNested(graph.node(NodeId(v)).address));
-    }
-    if let Some(v) = least_on_cycle(alloc, graph, &found)? {
-        return Err(LoopError::CycleWithoutBound(graph.node(NodeId(v)).address));
-    }
+    accept(alloc, graph, loops, &found, &around)?;
     let nest = nest_of_nested(alloc, found, &around)?;
     Ok(nest)
 }

@@ -1,77 +1,31 @@
-use Rattle.std.proofs.Common.{sym, subst}
+use Rattle.std.proofs.Common.{◌∙◌, sym, ap, subst, length}
 use Rattle.flat_graph.specs.CodeGraph.{graph_of, places_of}
-use Rattle.loop_regions.specs.Stated.{IsSecondEntry, IsNotNested, IsOnCycle, HasNoLoopRefusals}
-use Rattle.loop_regions.specs.CodeNest.{nest_of}
-use Rattle.loop_regions.specs.Inner.Least.{IsLeastNumber}
-use Rattle.loop_regions.specs.Inner.FoundRegions.{nest_in}
-use Rattle.loop_regions.proofs.LeastNodes.{least_at, entry_within, not_nested_within}
-use Rattle.loop_regions.proofs.Searching.{cycle_within}
+use Rattle.loop_regions.specs.CodeNest.{CodeNest, nest_of}
+use Rattle.loop_regions.specs.Stated.{IsRegions, HasNoLoopRefusals}
+use Rattle.loop_regions.specs.Inner.FoundRegions.{nest_in, AreAround}
 use Rattle.loop_regions.proofs.found_nest.nest_of_found.Goals as goal
 
-pub returns-in-Some-clause-refused : goal.returns-in-Some-clause-refused
-returns-in-Some-clause-refused c =
-    let g = graph_of c.args.graph.now in
-    let p = places_of c.args.graph.now in
-    let n = nest_in c.args.found in (
-      n,
-      c.requires.regions,
-      (
-        c.requires.one_head,
-        least_at g p (IsSecondEntry g n) c.in-Some.v c.node.result.address c.in-Some.ensures
-            (entry_within g p c.args.loops.now n c.requires.regions c.in-Some.v c.in-Some.ensures.0)
-            (sym c.node.ensures.address),
-      ),
-    )
+pub accept-requires-clause-around : goal.accept-requires-clause-around
+accept-requires-clause-around c =
+    subst (AreAround (nest_in c.args.found)) (sym c.deref.ensures.value) c.in_ok-around.ensures
 
-pub returns-in-Some-not_nested-clause-refused : goal.returns-in-Some-not_nested-clause-refused
-returns-in-Some-not_nested-clause-refused c =
-    let g = graph_of c.args.graph.now in
-    let p = places_of c.args.graph.now in
-    let n = nest_in c.args.found in (
-      n,
-      c.requires.regions,
-      (
-        c.requires.one_head,
-        c.in_default.ensures,
-        least_at g p (IsNotNested n) c.in-Some-not_nested.v c.node-in-Some-not_nested.result.address
-            c.in-Some-not_nested.ensures
-            (not_nested_within g p c.args.loops.now n c.requires.regions c.in-Some-not_nested.v
-            c.in-Some-not_nested.ensures.0) (sym c.node-in-Some-not_nested.ensures.address),
-      ),
-    )
+pub nest_of_nested-requires-clause-around : goal.nest_of_nested-requires-clause-around
+nest_of_nested-requires-clause-around c =
+    subst (AreAround (nest_in c.args.found)) (sym c.deref-2.ensures.value) c.in_ok-around.ensures
 
-pub node-requires-in-Some-2 : goal.node-requires-in-Some-2
-node-requires-in-Some-2 c =
-    let g = graph_of c.args.graph.now in
-    let n = nest_in c.args.found in
-    let least = subst (λ o. IsLeastNumber (IsOnCycle g n) o) c.in-Some-2.is c.in_ok-v.ensures in
-    cycle_within g n c.in-Some-2.v least.0
+pub nest_of_nested-requires-clause-nested : goal.nest_of_nested-requires-clause-nested
+nest_of_nested-requires-clause-nested c = c.in_ok-accept.ensures.accepted.nested
 
-pub returns-in-Some-2-clause-refused : goal.returns-in-Some-2-clause-refused
-returns-in-Some-2-clause-refused c =
-    let g = graph_of c.args.graph.now in
-    let p = places_of c.args.graph.now in
-    let n = nest_in c.args.found in
-    let least = subst (λ o. IsLeastNumber (IsOnCycle g n) o) c.in-Some-2.is c.in_ok-v.ensures in (
-      n,
-      c.requires.regions,
-      (
-        c.requires.one_head,
-        c.in_default.ensures,
-        c.in_default-not_nested.ensures,
-        least_at g p (IsOnCycle g n) c.in-Some-2.v c.node-in-Some-2.result.address least
-            (cycle_within g n c.in-Some-2.v least.0) (sym c.node-in-Some-2.ensures.address),
-      ),
-    )
+pub returns-clause-regions : goal.returns-clause-regions
+returns-clause-regions c =
+    subst (λ (n : CodeNest). IsRegions (graph_of c.args.graph.now) (places_of c.args.graph.now)
+    c.args.loops.now (nest_of n)) (sym c.in_ok-nest.ensures) c.requires.regions
 
 pub returns-clause-accepted : goal.returns-clause-accepted
 returns-clause-accepted c =
-    let g = graph_of c.args.graph.now in
-    let n = nest_in c.args.found in
-    let least = subst (λ o. IsLeastNumber (IsOnCycle g n) o) c.in_default-2.is c.in_ok-v.ensures in
-    let accepted : HasNoLoopRefusals g n = record {
-      one_entry = c.in_default.ensures;
-      nested = c.in_default-not_nested.ensures;
-      no_cycle = least;
-    } in
-    subst (λ x. HasNoLoopRefusals g (nest_of x)) (sym c.in_ok-nest.ensures) accepted
+    subst (λ (n : CodeNest). HasNoLoopRefusals (graph_of c.args.graph.now) (nest_of n))
+    (sym c.in_ok-nest.ensures) c.in_ok-accept.ensures.accepted
+
+pub returns-clause-nodes : goal.returns-clause-nodes
+returns-clause-nodes c =
+    ap (λ (n : CodeNest). length n.holders) c.in_ok-nest.ensures ∙ c.requires.nodes

@@ -1,5 +1,4 @@
 use Rattle.std.proofs.Common.{◌∙◌, refl, ap, arith, length, get_or}
-use Rattle.std.proofs.lemmas.Grind.{elements}
 use Rattle.std.proofs.lemmas.Option.{slice_get_within, slice_get-get_or, slice_get_read}
 use Rattle.flat_graph.specs.CodeGraph.{places_of}
 use Rattle.loop_regions.specs.CodeNest.{row}
@@ -34,7 +33,20 @@ returns-clause-held c y r lt =
     )
 
 pub index-requires : goal.index-requires
-index-requires c = grind (arith, elements)
+index-requires c =
+    let none : Head = record { node = 0; stated = 0 } in
+    let h = get_or c.args.heads.now c.loop-r.r none in
+    let eh = slice_get-get_or c.args.heads.now c.loop-r.r none (omega arith) in
+    let s = c.requires.stated c.loop-r.r h eh in
+    omega (
+      arith,
+      slice_get_within c.args.loops.now h.stated s.0 s.1,
+      c.in_ok-ranged.ranged.ok,
+      ap length c.in_ok-ranged.ensures,
+    )
 
 pub place-requires-clause-head : goal.place-requires-clause-head
-place-requires-clause-head c = grind (arith, elements)
+place-requires-clause-head c =
+    let none : Head = record { node = 0; stated = 0 } in
+    c.requires.node c.loop-r.r (get_or c.args.heads.now c.loop-r.r none)
+    (slice_get-get_or c.args.heads.now c.loop-r.r none (omega arith))

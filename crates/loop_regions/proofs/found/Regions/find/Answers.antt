@@ -1,4 +1,8 @@
+use Rattle.std.proofs.Common.{◌≡◌, List, Some, slice_get, sym, subst}
+use Rattle.std.proofs.lemmas.Option.{slice_get_within}
 use Rattle.flat_graph.specs.CodeGraph.{graph_of, places_of}
+use Rattle.loop_regions.specs.Inner.Heads.{AreHeads}
+use Rattle.loop_regions.specs.declared.heads.Head.{Head}
 use Rattle.loop_regions.proofs.FoundRegions.{found}
 use Rattle.loop_regions.proofs.found.Regions.find.Goals as goal
 
@@ -27,3 +31,14 @@ returns-clause-regions c =
     c.new.ensures c.in_ok-nodes.ensures c.new-2.ensures c.in_ok-bounds.ensures.all
     c.in_ok-bounds.ensures.bounds
     c.new-3.ensures c.in_ok-holders.ensures.nodes c.in_ok-holders.ensures.held in both.1
+
+pub holders-requires : goal.holders-requires
+holders-requires c =
+    subst (AreHeads (places_of c.args.graph.now) c.args.loops.now (graph_of c.args.graph.now).size)
+    (sym c.deref.ensures.value) c.in_ok-heads.ensures
+
+pub bounds_of-requires : goal.bounds_of-requires
+bounds_of-requires c r h e =
+    let stated = c.in_ok-heads.ensures.stated r h
+    (subst (λ (heads : List Head). slice_get heads r ≡ Some h) c.deref-3.ensures.value e) in
+    slice_get_within c.args.loops.now h.stated stated.0 stated.1
