@@ -1,7 +1,9 @@
--- A kept node has at most two successors.
-use Rattle.std.proofs.Common.{ℕ, zero, suc, ◌≤◌, List, [], ◌∷◌, length, map, slice_index_or, arith}
-use Rattle.flat_graph.specs.CodeGraph.{no_node}
-use Rattle.flat_graph.specs.Inner.StoredGraph.{onward, stored_node}
+-- The nodes of a graph as they are kept. A kept node has at most two successors.
+use Rattle.std.proofs.Common.{◌≡◌, ℕ, zero, suc, ◌<◌, ◌≤◌, List, [], ◌∷◌, length, map, slice_index_or}
+use Rattle.std.proofs.Common.{get_or, sym, ap, ◌∙◌, subst, arith}
+use Rattle.std.proofs.lemmas.List.{length-map, get_or-map}
+use Rattle.flat_graph.specs.CodeGraph.{CodeGraph, node_of, no_node}
+use Rattle.flat_graph.specs.Inner.StoredGraph.{onward, stored_node, stored_graph}
 use Rattle.flat_graph.specs.declared.graph.Onward.{Onward}
 use Rattle.flat_graph.specs.declared.graph.Onward.TheVariants.{Ends, To, Either}
 use Rattle.flat_graph.specs.declared.graph.Stand.{Stand}
@@ -17,3 +19,17 @@ pub two_at : (contexts : List (List ℕ)) (nodes : List Stand) (u : ℕ)
 two_at contexts [] u = omega arith
 two_at contexts (n ∷ nodes) zero = at_most_two n.next
 two_at contexts (n ∷ nodes) (suc u) = two_at contexts nodes u
+
+module _ (contexts : List (List ℕ)) (nodes : List Stand) (first : ℕ) (g : CodeGraph)
+    (is : stored_graph contexts nodes first ≡ g) (u : ℕ) (lt : u < length g.nodes) where
+  pub kept_within : u < length nodes
+  kept_within =
+      subst (λ n. u < n) (length-map nodes (stored_node contexts))
+      (subst (λ (x : CodeGraph). u < length x.nodes) (sym is) lt)
+
+  -- the node of a number is the one that is kept at its place
+  pub kept_node : (n : Stand) → n ≡ get_or nodes u n → stored_node contexts n ≡ node_of g u
+  kept_node n at =
+      ap (stored_node contexts) at
+      ∙ sym (get_or-map (stored_node contexts) nodes u n no_node kept_within)
+      ∙ ap (λ (x : CodeGraph). node_of x u) is

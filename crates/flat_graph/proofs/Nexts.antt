@@ -1,5 +1,5 @@
 -- What holds of the ends of a node's edges.
-use Rattle.std.proofs.Common.{◌≡◌, ℕ, ◌<◌, length, get_or, All, subst}
+use Rattle.std.proofs.Common.{ℕ, ◌<◌, get_or, All, subst}
 use Rattle.std.proofs.lemmas.List.{get_or_default}
 use Rattle.flat_graph.specs.Graph.{Graph, Edge}
 

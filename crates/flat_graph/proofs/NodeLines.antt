@@ -1,5 +1,5 @@
 -- The lines of nodes, one by one.
-use Rattle.std.proofs.Common.{◌≡◌, ℕ, ◌<◌, ◌≤◌, List, [], ◌∷◌, ◌++◌, length, Some, None, Contains}
+use Rattle.std.proofs.Common.{◌≡◌, ℕ, ◌≤◌, List, [], ◌∷◌, ◌++◌, length, Some, None, Contains}
 use Rattle.std.proofs.Common.{slice_get, sym, ap, ◌∙◌, subst, ⊎_elim, All, option_map}
 use Rattle.std.proofs.lemmas.List.Elements.{All-contains_itself, All-weaker}
 use Rattle.crpd_base.proofs.Elements.{at_contains, some_at, at_more}

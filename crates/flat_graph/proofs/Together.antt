@@ -1,9 +1,11 @@
 -- The graph that is put together from its parts.
-use Rattle.std.proofs.Common.{◌≡◌, ℕ, ◌<◌, ◌≤◌, ◌↔◌, Bool, List, [], length, map, Some, slice_get}
-use Rattle.std.proofs.Common.{refl, sym, ap, ◌∙◌, subst, arith, option_map, IsTrue, All}
+use Rattle.std.proofs.Common.{◌≡◌, ℕ, ◌+◌, ◌<◌, ◌≤◌, ◌↔◌, Bool, List, [], ◌∷◌, ◌++◌, length, map}
+use Rattle.std.proofs.Common.{Some, slice_get, refl, sym, ap, ◌∙◌, subst, arith, option_map, IsTrue}
+use Rattle.std.proofs.Common.{All, ⊎_elim}
+use Rattle.std.proofs.lemmas.Bool.{cases_eq}
 use Rattle.std.proofs.lemmas.List.{length-map}
 use Rattle.std.proofs.lemmas.Option.{slice_get_within, slice_get-map, get_or_from_slice_get}
-use Rattle.crpd_base.proofs.Elements.{contains_at, some_at}
+use Rattle.crpd_base.proofs.Elements.{contains_at, some_at, at_end, at_kept}
 use Rattle.rv_decode.specs.Table.{ins_of_word}
 use Rattle.rv_decode.specs.Flow.{Words, IsCodeMap, flows}
 use Rattle.flat_graph.specs.FlatGraph.{FlatNode, IsNumbering, error_of, successors}
@@ -19,6 +21,39 @@ use Rattle.flat_graph.specs.declared.graph.Stand.{Stand}
 use Rattle.flat_graph.specs.declared.lines.Line.{Line}
 use Rattle.flat_graph.specs.declared.spots.Spot.{Spot}
 use Rattle.flat_graph.proofs.Numbered.{flat_graph_law}
+
+-- the node that is put together from these
+abbrev stored : Spot → Line → Bool → Stand
+stored s l b =
+    record { context = s.context; address = s.address; ins = l.ins; next = l.next; leader = b }
+
+abbrev pub AreStoredBelow : List Spot → List Line → List Bool → ℕ → List Stand → Type 0
+AreStoredBelow spots lines leaders place stands =
+    (k : ℕ) (s : Spot) (l : Line) (b : Bool) → k < place → slice_get spots k ≡ Some s
+    → slice_get lines k ≡ Some l → slice_get leaders k ≡ Some b →
+    slice_get stands k ≡ Some (stored s l b)
+
+pub stored_more : (spots : List Spot) (lines : List Line) (leaders : List Bool)
+    (old new : List Stand) (place : ℕ) (t : Spot) (m : Line) (c : Bool) → length old ≡ place →
+    slice_get spots place ≡ Some t → slice_get lines place ≡ Some m
+    → slice_get leaders place ≡ Some c → new ≡ old ++ stored t m c ∷ [] →
+    AreStoredBelow spots lines leaders place old
+    → AreStoredBelow spots lines leaders (place + 1) new
+stored_more spots lines leaders old new place t m c count at_t at_m at_c is below k s l b lt es el eb =
+    subst (λ xs. slice_get xs k ≡ Some (stored s l b)) (sym is)
+    (⊎_elim
+    (λ e.
+    let spot = same spots k place t s e at_t es in
+    let line = same lines k place m l e at_m el in
+    let leader = same leaders k place c b e at_c eb in
+    ap (slice_get (old ++ stored t m c ∷ [])) (e ∙ sym count) ∙ at_end old (stored t m c)
+    ∙ (λ i. Some (stored (spot i) (line i) (leader i))))
+    (λ ne. at_kept old (stored t m c) k (stored s l b) (below k s l b (omega arith) es el eb))
+    (cases_eq k place))
+  where
+    same : {X : Type 0} (xs : List X) (i j : ℕ) (x y : X) → i ≡ j → slice_get xs j ≡ Some x
+        → slice_get xs i ≡ Some y → x ≡ y
+    same xs i j x y e a b = let both = sym a ∙ ap (slice_get xs) (sym e) ∙ b in cc
 
 -- what stands at a place
 record Part (spots : List Spot) (lines : List Line) (leaders : List Bool) (k : ℕ) : Type 0 where

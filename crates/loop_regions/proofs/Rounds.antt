@@ -89,8 +89,7 @@ pub round_like : (heads : List ℕ) (holders rows : List (List ℕ)) (k z r s : 
     → row holders k ≡ row holders z → IsRoundBelow heads holders rows k r s
     → IsRoundBelow heads holders rows (k + 1) r s
 round_like heads holders rows k z r s lt e R =
-    round_more heads holders rows rows k r s
-    (
+    round_more heads holders rows rows k r s (
       (λ t. (
         t,
         λ h. subst (λ xs. IsTrue (has xs s)) (sym e)

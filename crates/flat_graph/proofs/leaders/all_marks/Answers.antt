@@ -1,13 +1,21 @@
 use Rattle.std.proofs.Common.{◌≡◌, ℕ, ◌∙◌, ◌+◌, sym, ap, subst, arith, length, take, drop, ◌++◌}
 use Rattle.std.proofs.Common.{List, Some, slice_get, get_or}
 use Rattle.std.proofs.lemmas.Option.{slice_get-get_or}
-use Rattle.flat_graph.specs.Inner.Leaders.{AreMarked, mark_after_edges}
+use Rattle.flat_graph.specs.Inner.Leaders.{AreEnds, AreMarked, mark_after_edges}
 use Rattle.flat_graph.specs.declared.leaders.Mark.{Mark}
 use Rattle.flat_graph.specs.declared.lines.Line.{Line}
 use Rattle.flat_graph.specs.declared.graph.Onward.TheVariants.{Ends}
 use Rattle.rv_decode.specs.declared.Ins.TheVariants.{Lui}
 use Rattle.flat_graph.proofs.Marks.{all_more, whole}
 use Rattle.flat_graph.proofs.leaders.all_marks.Goals as goal
+
+pub mark_ends-requires : goal.mark_ends-requires
+mark_ends-requires c =
+    let line : Line = get_or c.args.lines.now c.loop-line.line-index
+    (record { ins = Lui 0 0; next = Ends }) in
+    subst (λ n. AreEnds n line.next)
+    (sym (ap length c.deref_mut.ensures.value ∙ c.loop-line.invariant.count))
+    (c.requires.edges c.loop-line.line-index _ c.loop-line-test.true)
 
 pub loop-line-preserved : goal.loop-line-preserved
 loop-line-preserved c =

@@ -1,4 +1,4 @@
-use Rattle.std.proofs.Common.{◌≡◌, sym, subst, ⊎_elim, length, arith, slice_get, Some}
+use Rattle.std.proofs.Common.{◌≡◌, sym, subst, ⊎_elim, arith, slice_get, Some}
 use Rattle.std.proofs.lemmas.List.{length-map}
 use Rattle.std.proofs.lemmas.Result.{err_from_is_err_and}
 use Rattle.crpd_base.proofs.Elements.{some_at}

@@ -1,4 +1,4 @@
-use Rattle.std.proofs.Common.{◌≡◌, ◌∙◌, sym, subst, refl, inr, Some, None, slice_get, length, All}
+use Rattle.std.proofs.Common.{◌≡◌, ◌∙◌, sym, subst, inr, Some, None, All}
 use Rattle.std.proofs.Common.{Contains, option_map}
 use Rattle.std.specs.Prelude.{slice_index_or}
 use Rattle.std.proofs.lemmas.Option.{slice_get-get_or}

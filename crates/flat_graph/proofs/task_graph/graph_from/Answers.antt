@@ -1,4 +1,4 @@
-use Rattle.std.proofs.Common.{◌≡◌, ◌∙◌, ◌<◌, sym, ap, subst, arith, Some, slice_get, All}
+use Rattle.std.proofs.Common.{◌≡◌, ◌∙◌, ◌<◌, sym, subst, Some, slice_get, All}
 use Rattle.std.proofs.Common.{Contains, [], length}
 use Rattle.code_map.specs.Words.{word_at}
 use Rattle.rv_decode.specs.Flow.{flows}

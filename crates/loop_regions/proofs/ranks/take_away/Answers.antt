@@ -25,9 +25,8 @@ loop-next-preserved-in-Continue-1 c =
     c.loop-next.yielded _ c.loop-next.yielded_by _ _ c.in-Some.next c.in-Some.is
     c.next.ensures.steps in
     let lt : c.in-Some.next.0 < (graph_of c.args.graph.now).size =
-     subst (λ v. v < (graph_of c.args.graph.now).size) (sym turn.1)
-    (c.successors-next-items.ensures.nodes (length c.loop-next.yielded) _ turn.0) in
-    (
+    subst (λ v. v < (graph_of c.args.graph.now).size) (sym turn.1)
+    (c.successors-next-items.ensures.nodes (length c.loop-next.yielded) _ turn.0) in (
       length-set c.loop-next.arrivals.items c.in-Some.next.0 c.saturating_sub-left.result
           ∙ c.loop-next.invariant.0,
       subst (All (λ v. v < (graph_of c.args.graph.now).size)) (sym c.in_ok-push.ensures.items)
