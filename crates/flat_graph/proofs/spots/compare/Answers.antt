@@ -1,4 +1,5 @@
 use Rattle.std.proofs.Common.{◌∙◌, sym, ap}
+use Rattle.std.proofs.Common.{rules}
 use Rattle.std.specs.Prelude.{slice_index_or, []}
 use Rattle.std.specs.Ordering.{nat_cmp, ordering_then}
 use Rattle.flat_graph.specs.Inner.NumberingOrder.{list_cmp}
@@ -12,3 +13,6 @@ returns-then-spot-other c =
     ∙ ap (λ o. ordering_then o (nat_cmp c.args.spot.now.address c.args.other.now.address))
     (sym (list_same calls) ∙ ap (λ k. list_cmp calls (slice_index_or c.args.lists.now k []))
     c.if-spot-other.true)
+
+pub returns : goal.returns
+returns c = search rules
