@@ -1,6 +1,6 @@
 -- The nodes of a graph as they are kept. A kept node has at most two successors.
-use Rattle.std.proofs.Common.{◌≡◌, ℕ, zero, suc, ◌<◌, ◌≤◌, List, [], ◌∷◌, length, map, slice_index_or}
-use Rattle.std.proofs.Common.{get_or, sym, ap, ◌∙◌, subst, arith}
+use Rattle.std.proofs.Common.{◌≡◌, ℕ, zero, suc, ◌<◌, ◌≤◌, List, [], ◌∷◌, length, map}
+use Rattle.std.proofs.Common.{slice_index_or, get_or, sym, ap, ◌∙◌, subst, arith}
 use Rattle.std.proofs.lemmas.List.{length-map, get_or-map}
 use Rattle.flat_graph.specs.CodeGraph.{CodeGraph, node_of, no_node}
 use Rattle.flat_graph.specs.Inner.StoredGraph.{onward, stored_node, stored_graph}

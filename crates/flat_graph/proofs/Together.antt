@@ -39,16 +39,16 @@ pub stored_more : (spots : List Spot) (lines : List Line) (leaders : List Bool)
     → slice_get leaders place ≡ Some c → new ≡ old ++ stored t m c ∷ [] →
     AreStoredBelow spots lines leaders place old
     → AreStoredBelow spots lines leaders (place + 1) new
-stored_more spots lines leaders old new place t m c count at_t at_m at_c is below k s l b lt es el eb =
+stored_more spots lines leaders old new place t m c all at_t at_m at_c is kept k s l b lt es el eb =
     subst (λ xs. slice_get xs k ≡ Some (stored s l b)) (sym is)
     (⊎_elim
     (λ e.
     let spot = same spots k place t s e at_t es in
     let line = same lines k place m l e at_m el in
     let leader = same leaders k place c b e at_c eb in
-    ap (slice_get (old ++ stored t m c ∷ [])) (e ∙ sym count) ∙ at_end old (stored t m c)
+    ap (slice_get (old ++ stored t m c ∷ [])) (e ∙ sym all) ∙ at_end old (stored t m c)
     ∙ (λ i. Some (stored (spot i) (line i) (leader i))))
-    (λ ne. at_kept old (stored t m c) k (stored s l b) (below k s l b (omega arith) es el eb))
+    (λ ne. at_kept old (stored t m c) k (stored s l b) (kept k s l b (omega arith) es el eb))
     (cases_eq k place))
   where
     same : {X : Type 0} (xs : List X) (i j : ℕ) (x y : X) → i ≡ j → slice_get xs j ≡ Some x

@@ -74,8 +74,8 @@ pub fn build(alloc: Global, code: &CodeMap, task: Task) -> Result<Graph, GraphEr
     graph_from(alloc, code, code.plan(task).entry)
 }
 
-/// The nodes of spots in the order of numbering, of which one stands at the entry with no call under
-/// way; or the error of the first node that has one.
+/// The nodes of spots in the order of numbering, of which one stands at the entry with no call
+/// under way; or the error of the first node that has one.
 fn nodes_from(
     alloc: Global,
     code: &CodeMap,

@@ -97,4 +97,5 @@ returns-in_err-ins-clause-refused c =
     rw (p.1, p.2)
     (inr (λ m e.
     subst (λ n. option_map (λ x. graph_error x n.address) (error_of code c.args.entry n)
-    ≡ Some c.in_err-ins.field-0.0) (one_node (spot_node c.args.lists.now spot) m (sym at ∙ e)) error))
+    ≡ Some c.in_err-ins.field-0.0) (one_node (spot_node c.args.lists.now spot) m (sym at ∙ e))
+    error))
