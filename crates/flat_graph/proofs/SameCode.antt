@@ -10,7 +10,9 @@ use Rattle.crpd_base.proofs.Elements.{head_or_rest, in_none, in_one, contains_at
 use Rattle.crpd_base.proofs.Elements.{some_at, at_more}
 use Rattle.rv_decode.specs.Flow.{Flow, Plain, Branch, Jump, Call, Return, Exit, Break, OtherJalr}
 use Rattle.rv_decode.specs.Flow.{OtherJal, Flows, Words, flow_of_row, flow_of_word, flows}
+use Rattle.rv_decode.specs.Range.{HasFieldsInRange}
 use Rattle.rv_decode.specs.Table.{ins_of_word}
+use Rattle.rv_decode.proofs.Ranges.{row_in_range}
 use Rattle.flat_graph.specs.CodeGraph.{CodeGraph, HasCode, IsCodeGraph, ins_of, places_of}
 use Rattle.flat_graph.specs.FlatGraph.{FlatNode, IsNode, NodeError, the_first, a_successor}
 use Rattle.flat_graph.specs.FlatGraph.{call_error, error_of, successors_by, goes_to, ins_error}
@@ -238,6 +240,13 @@ module _ (words others : Words) (entry : ℕ) (g : CodeGraph) (X : IsCodeGraph w
           let same : s.0 ≡ w = cc in
           subst (λ v. ins_of_word v ≡ Some (ins_of g u)) same s.2;
     }
+
+-- the instructions at the nodes of a graph have their fields in range
+pub ins_in_range : (g : CodeGraph) → HasCode g → (u : ℕ) → u < length g.nodes
+    → HasFieldsInRange (ins_of g u)
+ins_in_range g has u lt =
+    let s = own has.words has.words has.entry g has.of_code u lt in
+    row_in_range s.0 (ins_of g u) (sym s.2)
 
 -- the first node stands at the entry
 first_at : (words : Words) (entry : ℕ) (g : CodeGraph) → IsCodeGraph words entry g

@@ -1,24 +1,25 @@
 // Whether the graph of some code is that of other code too.
-ghost use Rattle.std.specs.Prelude.{◌≡◌, ◌↔◌, IsTrue};
+ghost use Rattle.std.specs.Prelude.{◌≡◌, ◌<◌, ◌↔◌, IsTrue};
 ghost use Rattle.code_map.specs.Words.{word_at};
-ghost use Rattle.flat_graph.specs.CodeGraph.{IsCodeGraph};
+ghost use Rattle.flat_graph.specs.CodeGraph.{IsCodeGraph, graph_of, ins_of, places_of};
 ghost use Rattle.flat_graph.specs.Inner.GraphErrors.{HasInstructionAt};
 ghost use Rattle.flat_graph.specs.Inner.SameCode.{FitsCode};
 
 use crate::graph::Graph;
 use code_map::CodeMap;
 use crpd_base::NodeId;
-use rv_decode::{Ins, decode};
+use rv_decode::encode;
 
-/// Whether an instruction stands at an address.
-fn stands(code: &CodeMap, address: u32, ins: &Ins) -> bool
-    ensures { IsTrue result ↔ HasInstructionAt (word_at code.now.images) address ins.now }
+/// Whether a node's instruction stands in the code at its address: whether its word does.
+fn stands(graph: &Graph, code: &CodeMap, id: NodeId) -> bool
+    requires { id.0 < (graph_of graph.now).size }
+    ensures { IsTrue result
+        ↔ HasInstructionAt (word_at code.now.images) ((places_of graph.now).address id.0)
+        (ins_of graph.now id.0) }
 {
-    let Some(word) = code.word(address) else {
-        return false;
-    };
-    match decode(word) {
-        Some(own) => own == *ins,
+    graph.graph_law();
+    match code.word(graph.address(id)) {
+        Some(word) => encode(&graph.ins(id)) == word,
         None => false,
     }
 }
@@ -32,8 +33,7 @@ fn fits(graph: &Graph, code: &CodeMap, entry: u32) -> bool
         return false;
     }
     for u in 0..graph.len() {
-        let id = NodeId(u);
-        if !stands(code, graph.address(id), &graph.ins(id)) {
+        if !stands(graph, code, NodeId(u)) {
             return false;
         }
     }

@@ -131,7 +131,7 @@ impl<const S: usize> Inequalities<'_, S> {
     {
         let stand = self.graph.node(node);
         match stand.kind {
-            Kind::Answer => self.cycles(node, stand.ins != Ins::Ecall),
+            Kind::Answer => self.cycles(node, !matches!(stand.ins, Ins::Ecall)),
             Kind::Plain | Kind::Call | Kind::Return => 0,
         }
     }

@@ -101,9 +101,27 @@ fn fields(rt: HostRuntime) {
         rs1: 2,
         bits: 0x8AB,
     };
-    assert!(rt; decode(0x4010_5013) == Some(srai));
-    assert!(rt; decode(0x0010_0073) == Some(Ins::Ebreak));
-    assert!(rt; decode(0x8AB1_008F) == Some(fence));
+    assert!(rt;
+        matches!(
+            decode(0x4010_5013),
+            Some(Ins::Srai {
+                rd: 0,
+                rs1: 0,
+                amount: 1
+            })
+        )
+    );
+    assert!(rt; matches!(decode(0x0010_0073), Some(Ins::Ebreak)));
+    assert!(rt;
+        matches!(
+            decode(0x8AB1_008F),
+            Some(Ins::Fence {
+                rd: 1,
+                rs1: 2,
+                bits: 0x8AB
+            })
+        )
+    );
     assert_eq!(rt; encode(&fence), 0x8AB1_008F);
     assert!(rt; fence.reads() == (0, 0));
     assert!(rt; srai.reads() == (0, 0));
