@@ -2,8 +2,10 @@
 ghost use Rattle.std.specs.Prelude.{◌≡◌, IfOk, string_bytes};
 ghost use Rattle.rv_decode.specs.Text.{text, r_text, i_text, shift_text, address_text, b_text};
 ghost use Rattle.rv_decode.specs.Text.{j_text, u_text};
+ghost use Rattle.rv_decode.specs.Inner.Names.{name};
 
 use crate::Ins;
+use crate::operands::Operands;
 use crate::table::instruction_table;
 use crpd_base::Memory;
 use std::alloc::Global;
@@ -86,58 +88,41 @@ fn name_text(alloc: Global, name: &str) -> Result<String, Memory>
     }
 }
 
-/// The text of a row and its fields.
-macro_rules! text_row {
-    ([$alloc:ident $name:literal] r { $rd:ident, $rs1:ident, $rs2:ident }) => {
-        r_text($alloc, $name, $rd, $rs1, $rs2)
-    };
-    ([$alloc:ident $name:literal] i { $rd:ident, $rs1:ident, $imm:ident }) => {
-        i_text($alloc, $name, $rd, $rs1, $imm)
-    };
-    ([$alloc:ident $name:literal] shift { $rd:ident, $rs1:ident, $amount:ident }) => {
-        shift_text($alloc, $name, $rd, $rs1, $amount)
-    };
-    ([$alloc:ident $name:literal] address { $rd:ident, $rs1:ident, $imm:ident }) => {
-        address_text($alloc, $name, $rd, $imm, $rs1)
-    };
-    ([$alloc:ident $name:literal] s { $rs1:ident, $rs2:ident, $imm:ident }) => {
-        address_text($alloc, $name, $rs2, $imm, $rs1)
-    };
-    ([$alloc:ident $name:literal] b { $rs1:ident, $rs2:ident, $imm:ident }) => {
-        b_text($alloc, $name, $rs1, $rs2, $imm)
-    };
-    ([$alloc:ident $name:literal] u { $rd:ident, $upper:ident }) => {
-        u_text($alloc, $name, $rd, $upper)
-    };
-    ([$alloc:ident $name:literal] j { $rd:ident, $imm:ident }) => {
-        j_text($alloc, $name, $rd, $imm)
-    };
-    ([$alloc:ident $name:literal] fence $fields:tt) => {
-        name_text($alloc, $name)
-    };
-    ([$alloc:ident $name:literal] whole $fields:tt) => {
-        name_text($alloc, $name)
-    };
-}
-
-macro_rules! text_rows {
-    ([$ins:ident $alloc:ident] $({ $form:ident $variant:ident $fields:tt $name:literal $($key:literal)* })*) => {
-        match $ins {
-            $(Ins::$variant $fields => text_row!([$alloc $name] $form $fields),)*
+macro_rules! name_rows {
+    ([$ins:ident] $({ $form:ident $variant:ident $fields:tt $name:literal $($key:literal)* })*) => {
+        match *$ins {
+            $(Ins::$variant { .. } => $name,)*
         }
     };
 }
 
 impl Ins {
+    /// The name of the instruction's row.
+    #[tactic(auto, unfolding(crate::specs::Inner::Names::name))]
+    fn name(&self) -> &'static str
+        ensures { result.now ≡ name self.now }
+    {
+        instruction_table!(name_rows[self])
+    }
+
     /// The text of the instruction, as an assembler reads it: the name, a space, and the operands
     /// with commas between them. Registers are `x0` to `x31` and numbers decimal; a branch and JAL
     /// name their offset in bytes. Time and memory are those of the text, fewer than 20 bytes. The
     /// only error is want of memory.
-    #[tactic(auto, unfolding(crate::specs::Text::text))]
     pub fn text(&self, alloc: Global) -> Result<String, Memory>
         ensures { IfOk result (λ s. string_bytes s ≡ text self.now) }
     {
-        let ins = *self;
-        instruction_table!(text_rows [ins alloc])
+        let name = self.name();
+        match self.operands() {
+            Operands::R { rd, rs1, rs2 } => r_text(alloc, name, rd, rs1, rs2),
+            Operands::Shift { rd, rs1, amount } => shift_text(alloc, name, rd, rs1, amount),
+            Operands::I { rd, rs1, imm } => i_text(alloc, name, rd, rs1, imm),
+            Operands::Address { rd, rs1, imm } => address_text(alloc, name, rd, imm, rs1),
+            Operands::S { rs1, rs2, imm } => address_text(alloc, name, rs2, imm, rs1),
+            Operands::B { rs1, rs2, imm } => b_text(alloc, name, rs1, rs2, imm),
+            Operands::U { rd, upper } => u_text(alloc, name, rd, upper),
+            Operands::J { rd, imm } => j_text(alloc, name, rd, imm),
+            Operands::Plain { .. } => name_text(alloc, name),
+        }
     }
 }

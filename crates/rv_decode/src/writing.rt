@@ -4,8 +4,10 @@ ghost use Rattle.rv_decode.specs.Encoding.{IsWordOf};
 ghost use Rattle.rv_decode.specs.Inner.Encoding.{word_of_fields, signed_bits, i_word, s_word};
 ghost use Rattle.rv_decode.specs.Inner.Encoding.{b_word, u_word, j_word};
 ghost use Rattle.rv_decode.specs.Range.{HasFieldsInRange, IsSigned};
+ghost use Rattle.rv_decode.specs.Inner.Operations.{operation};
 
 use crate::Ins;
+use crate::operands::Operands;
 use crate::table::instruction_table;
 
 /// What stands in the places of rd, rs1, rs2 and funct7.
@@ -141,55 +143,72 @@ fn j_word(opcode: u32, rd: u8, imm: i32) -> u32
     )
 }
 
-/// The word of a row and its fields.
-macro_rules! write_row {
-    (r { $rd:ident, $rs1:ident, $rs2:ident } $opcode:literal $funct3:literal $funct7:literal) => {
-        r_word($opcode, $funct3, $funct7, $rd, $rs1, $rs2)
-    };
-    (shift {
-        $rd:ident, $rs1:ident, $amount:ident } $opcode:literal $funct3:literal $funct7:literal) => {
-        r_word($opcode, $funct3, $funct7, $rd, $rs1, $amount)
-    };
-    (i { $rd:ident, $rs1:ident, $imm:ident } $opcode:literal $funct3:literal) => {
-        i_word($opcode, $funct3, $rd, $rs1, bits_of($imm, 12))
-    };
-    (address { $rd:ident, $rs1:ident, $imm:ident } $opcode:literal $funct3:literal) => {
-        i_word($opcode, $funct3, $rd, $rs1, bits_of($imm, 12))
-    };
-    (s { $rs1:ident, $rs2:ident, $imm:ident } $opcode:literal $funct3:literal) => {
-        s_word($opcode, $funct3, $rs1, $rs2, $imm)
-    };
-    (b { $rs1:ident, $rs2:ident, $imm:ident } $opcode:literal $funct3:literal) => {
-        b_word($opcode, $funct3, $rs1, $rs2, $imm)
-    };
-    (u { $rd:ident, $upper:ident } $opcode:literal) => {
-        u_word($opcode, $rd, $upper)
-    };
-    (j { $rd:ident, $imm:ident } $opcode:literal) => {
-        j_word($opcode, $rd, $imm)
-    };
-    (fence { $rd:ident, $rs1:ident, $bits:ident } $opcode:literal $funct3:literal) => {
-        i_word($opcode, $funct3, $rd, $rs1, $bits as u32)
-    };
-    (whole {} $whole:literal) => {
-        $whole
-    };
+/// What the bits of a word besides its operands say: its operation.
+#[derive(Clone, Copy)]
+struct Operation {
+    opcode: u32,
+    funct3: u32,
+    funct7: u32,
 }
 
-macro_rules! encode_rows {
-    ([$ins:ident] $({ $form:ident $variant:ident $fields:tt $name:literal $($key:literal)* })*) => {
-        match *$ins {
-            $(Ins::$variant $fields => write_row!($form $fields $($key)*),)*
+/// The operation of a row. ECALL and EBREAK are of one opcode.
+macro_rules! operation_row {
+    (whole $whole:literal) => {
+        operation_row!(i 0x73)
+    };
+    ($form:ident $opcode:literal) => {
+        operation_row!($form $opcode 0)
+    };
+    ($form:ident $opcode:literal $funct3:literal) => {
+        operation_row!($form $opcode $funct3 0)
+    };
+    ($form:ident $opcode:literal $funct3:literal $funct7:literal) => {
+        Operation {
+            opcode: $opcode,
+            funct3: $funct3,
+            funct7: $funct7,
         }
     };
 }
 
+macro_rules! operation_rows {
+    ([$ins:ident] $({ $form:ident $variant:ident $fields:tt $name:literal $($key:literal)* })*) => {
+        match *$ins {
+            $(Ins::$variant { .. } => operation_row!($form $($key)*),)*
+        }
+    };
+}
+
+impl Ins {
+    /// What its row says of the bits besides the operands; 0 where the form has none there.
+    #[tactic(auto, unfolding(crate::specs::Inner::Operations::operation))]
+    fn operation(&self) -> Operation
+        ensures { result ≡ operation self.now }
+    {
+        instruction_table!(operation_rows[self])
+    }
+}
+
 /// The word of an instruction whose fields are in range: the one word that is decoded to it. In
 /// constant time; it takes no memory.
-#[tactic(auto, unfolding(crate::specs::Range::HasFieldsInRange))]
 pub fn encode(ins: &Ins) -> u32
     requires { HasFieldsInRange ins.now }
     ensures { IsWordOf ins.now result }
 {
-    instruction_table!(encode_rows[ins])
+    let Operation {
+        opcode,
+        funct3,
+        funct7,
+    } = ins.operation();
+    match ins.operands() {
+        Operands::R { rd, rs1, rs2 } => r_word(opcode, funct3, funct7, rd, rs1, rs2),
+        Operands::Shift { rd, rs1, amount } => r_word(opcode, funct3, funct7, rd, rs1, amount),
+        Operands::I { rd, rs1, imm } => i_word(opcode, funct3, rd, rs1, bits_of(imm, 12)),
+        Operands::Address { rd, rs1, imm } => i_word(opcode, funct3, rd, rs1, bits_of(imm, 12)),
+        Operands::S { rs1, rs2, imm } => s_word(opcode, funct3, rs1, rs2, imm),
+        Operands::B { rs1, rs2, imm } => b_word(opcode, funct3, rs1, rs2, imm),
+        Operands::U { rd, upper } => u_word(opcode, rd, upper),
+        Operands::J { rd, imm } => j_word(opcode, rd, imm),
+        Operands::Plain { rd, rs1, bits } => i_word(opcode, funct3, rd, rs1, bits as u32),
+    }
 }
