@@ -1,7 +1,7 @@
 // The texts of instructions.
 ghost use Rattle.std.specs.Prelude.{◌≡◌, IfOk, string_bytes};
-ghost use Rattle.rv_decode.specs.Text.{text, r_text, i_text, shift_text, address_text, b_text};
-ghost use Rattle.rv_decode.specs.Text.{j_text, u_text};
+ghost use Rattle.rv_decode.specs.Text.{text, r_text, i_text, shift_text, address_text, j_text};
+ghost use Rattle.rv_decode.specs.Text.{u_text};
 ghost use Rattle.rv_decode.specs.Inner.Names.{name};
 
 use crate::Ins;
@@ -19,6 +19,7 @@ fn r_text(alloc: Global, name: &str, rd: u8, rs1: u8, rs2: u8) -> Result<String,
     }
 }
 
+/// Two registers and a number: the I form, and branches.
 fn i_text(alloc: Global, name: &str, rd: u8, rs1: u8, imm: i32) -> Result<String, Memory>
     ensures { IfOk result (λ s. string_bytes s ≡ i_text name.now rd rs1 imm) }
 {
@@ -47,15 +48,6 @@ fn address_text(
     ensures { IfOk result (λ s. string_bytes s ≡ address_text name.now register imm base) }
 {
     match format!(in alloc; "{name} x{register},{imm}(x{base})") {
-        Ok(text) => Ok(text),
-        Err(_) => Err(Memory),
-    }
-}
-
-fn b_text(alloc: Global, name: &str, rs1: u8, rs2: u8, imm: i32) -> Result<String, Memory>
-    ensures { IfOk result (λ s. string_bytes s ≡ b_text name.now rs1 rs2 imm) }
-{
-    match format!(in alloc; "{name} x{rs1},x{rs2},{imm}") {
         Ok(text) => Ok(text),
         Err(_) => Err(Memory),
     }
@@ -119,7 +111,7 @@ impl Ins {
             Operands::I { rd, rs1, imm } => i_text(alloc, name, rd, rs1, imm),
             Operands::Address { rd, rs1, imm } => address_text(alloc, name, rd, imm, rs1),
             Operands::S { rs1, rs2, imm } => address_text(alloc, name, rs2, imm, rs1),
-            Operands::B { rs1, rs2, imm } => b_text(alloc, name, rs1, rs2, imm),
+            Operands::B { rs1, rs2, imm } => i_text(alloc, name, rs1, rs2, imm),
             Operands::U { rd, upper } => u_text(alloc, name, rd, upper),
             Operands::J { rd, imm } => j_text(alloc, name, rd, imm),
             Operands::Plain { .. } => name_text(alloc, name),

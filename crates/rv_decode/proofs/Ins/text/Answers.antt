@@ -31,8 +31,8 @@ returns-in-S c =
 
 pub returns-in-B : goal.returns-in-B
 returns-in-B c =
-    text_arm _ _ _ c.b_text.result string_bytes c.name-name.ensures
-    (imm_again (form.B c.in-B.rs1 c.in-B.rs2) c.in-B.imm _ (search rules) c.in-B.ensures) c.b_text.ensures
+    text_arm _ _ _ c.i_text-in-B.result string_bytes c.name-name.ensures
+    (imm_again (form.B c.in-B.rs1 c.in-B.rs2) c.in-B.imm _ (search rules) c.in-B.ensures) c.i_text-in-B.ensures
 
 pub returns-in-U : goal.returns-in-U
 returns-in-U c =

@@ -23,3 +23,9 @@ returns-else-number-half c =
     let small = power_small (c.args.count - 1) (omega arith) in
     let twice = power_twice c.args.count c.requires.some in
     grind (arith, ints)
+
+pub returns-then-number-half : goal.returns-then-number-half
+returns-then-number-half c =
+    let h = one_shl (c.args.count - 1) 32 (omega arith) in
+    let small = power_small (c.args.count - 1) (omega arith) in
+    grind (arith, ints)
