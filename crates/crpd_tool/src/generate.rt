@@ -9,7 +9,8 @@ ghost use Rattle.preempt_machine.specs.Safe.{NamesTasks};
 ghost use Rattle.crpd_report.specs.Generate.{made_line};
 ghost use Rattle.crpd_input.specs.Graphs.{HasBoundedLoops};
 ghost use Rattle.crpd_input.specs.Reading.{code_in};
-ghost use Rattle.crpd_input.specs.Steps.{Means, MeansBy};
+ghost use Rattle.crpd_input.specs.Shapes.{ShapesIn};
+ghost use Rattle.crpd_input.specs.Steps.{Means, MeansBy, Then};
 ghost use Rattle.crpd_tool.specs.Generate as spec;
 ghost use Rattle.crpd_tool.specs.Generate.{EndsFrom, GenerateEnds, GeneratedOf, contents_of_files};
 ghost use Rattle.crpd_tool.specs.Generate.{made_name, named_files};
@@ -58,10 +59,7 @@ fn code_of(alloc: Global, set: &TaskSet, files: &[Items<u8>]) -> Result<CodeMap,
     ensures no_fault { ¬ IsErrOf result Halt.Fault }
 {
     let mut kept = hold(alloc, set, files)?;
-    match load_code(alloc, &mut kept, NAME, set) {
-        Ok(code) => Ok(code),
-        Err(halt) => Err(halt),
-    }
+    load_code(alloc, &mut kept, NAME, set)
 }
 
 /// The nodes of all graphs together.
@@ -188,6 +186,23 @@ fn input_of(alloc: Global, set: TaskSet, files: &[Items<u8>]) -> Result<Input, H
     Ok(Input { set, code })
 }
 
+/// The answer of a made set with its code: that of its analysis, after the graphs of all tasks and
+/// the regions of their loops.
+fn input_answer(alloc: Global, number: u32, script: &Script, input: &Input) -> Result<Answer, Halt>
+    requires set { IsTaskSet input.now.set }
+    requires count { length input.now.code.images ≡ length input.now.set.tasks }
+    requires bounded { HasBoundedLoops input.now.code }
+    requires tasks { NamesTasks input.now.set script.now.jobs }
+    requires jobs { length script.now.jobs < 2 ^ 32 }
+    ensures exact { MeansBy
+        (Then (ShapesIn input.now) (GeneratedOf number script.now input.now)) result }
+    ensures no_fault { ¬ IsErrOf result Halt.Fault }
+{
+    input.code.plans_law();
+    let shapes = task_shapes(alloc, input)?;
+    analysis_answer(alloc, number, script, input, &shapes)
+}
+
 /// The answer of a made input.
 fn answer_of(
     alloc: Global,
@@ -205,11 +220,7 @@ fn answer_of(
     ensures no_fault { ¬ IsErrOf result Halt.Fault }
 {
     let input = input_of(alloc, set, files)?;
-    let shapes = task_shapes(alloc, &input)?;
-    match analysis_answer(alloc, number, script, &input, &shapes) {
-        Ok(answer) => Ok(answer),
-        Err(halt) => Err(halt),
-    }
+    input_answer(alloc, number, script, &input)
 }
 
 /// Makes the input of a number, analyses its set, judges the certificate, and runs its script. No
@@ -220,8 +231,5 @@ pub(crate) fn generate(alloc: Global, seed: Seed) -> Result<Answer, Halt>
 {
     let made = gen_tasks::generate(alloc, seed.number)?;
     let set = made.set;
-    match answer_of(alloc, seed.number, set, made.files.as_slice(), &made.script) {
-        Ok(answer) => Ok(answer),
-        Err(halt) => Err(halt),
-    }
+    answer_of(alloc, seed.number, set, made.files.as_slice(), &made.script)
 }

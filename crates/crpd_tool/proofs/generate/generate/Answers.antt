@@ -1,4 +1,4 @@
-use Rattle.std.proofs.Common.{◌≡◌, ◌∙◌, ◌<◌, ◌^◌, ℕ, List, Result, Ok, Err, ap, length, subst, sym}
+use Rattle.std.proofs.Common.{◌≡◌, ◌∙◌, ◌<◌, ◌^◌, ℕ, List, Result, ap, length, subst, sym}
 use Rattle.gen_tasks.specs.GeneratedInput.{made}
 use Rattle.gen_tasks.specs.declared.Generated.{Generated}
 use Rattle.crpd_input.specs.Steps.{MeansBy}
@@ -18,15 +18,10 @@ from_made n g files r is held here =
     (subst (λ (fs : List (List ℕ)).
     MeansBy (EndsFrom n (record { set = g.set; files = fs; script = g.script })) r) held here)
 
-pub returns-in-Ok-clause-exact : goal.returns-in-Ok-clause-exact
-returns-in-Ok-clause-exact c =
-    from_made c.args.seed.number c.in_ok-made.made c.as_slice.result.now (Ok c.in-Ok.answer)
-    c.in_ok-made.ensures.is c.as_slice.ensures c.in-Ok.ensures.exact
-
 pub returns-clause-exact : goal.returns-clause-exact
 returns-clause-exact c =
-    from_made c.args.seed.number c.in_ok-made.made c.as_slice.result.now (Err c.in-Err.halt)
-    c.in_ok-made.ensures.is c.as_slice.ensures c.in-Err.ensures.exact
+    from_made c.args.seed.number c.in_ok-made.made c.as_slice.result.now c.answer_of.result
+    c.in_ok-made.ensures.is c.as_slice.ensures c.answer_of.ensures.exact
 
 pub answer_of-requires-clause-count : goal.answer_of-requires-clause-count
 answer_of-requires-clause-count c =
