@@ -1,34 +1,24 @@
 // Texts of certificates.
+use crate::reading::{
+    Change, Kind, Pieces, changed, compare_changes, compare_pieces, compare_text, compare_texts,
+};
 use cert_model::{read_certificate, write_certificate};
 use crpd_base::Certificate;
 use std::alloc::{AllocError, Global};
+use std::process::Abort;
 use std::test::Fail;
 
-const FIRST: &str =
+static FIRST: &str =
     "{\"platform\":{\"data\":3,\"hit\":1,\"line\":16,\"miss\":10,\"sets\":4,\"switch\":5,\"taken\":2},\"tasks\":[{\"bound\":12,\"evicting\":[0],\"loops\":[],\"method\":\"ucb\",\"name\":\"one\",\"potentials\":[12,1],\"response\":17,\"states\":[[0,[],[]],[1,[0,256],[0]]],\"useful\":[0],\"window\":17}],\"version\":1}";
 
-const SECOND: &str =
+static SECOND: &str =
     "{\"platform\":{\"data\":3,\"div\":0,\"hit\":1,\"line\":16,\"miss\":10,\"mul\":0,\"sets\":4,\"switch\":5,\"switching\":\"cycle\",\"taken\":2},\"tasks\":[{\"bound\":12,\"evicting\":[0],\"loops\":[],\"method\":\"ucb\",\"name\":\"one\",\"potentials\":[12,1],\"response\":17,\"states\":[[0,[],[]]],\"useful\":[0],\"window\":17}],\"version\":2}";
 
-// The text, with `new` in place of the part `old`.
-fn changed(alloc: Global, text: &str, old: &str, new: &str) -> Result<String, AllocError> {
-    let mut made = String::new(alloc);
-    match text.split_once(old) {
-        Some((before, after)) => {
-            made.push_str(before)?;
-            made.push_str(new)?;
-            made.push_str(after)?;
-        }
-        None => made.push_str("no such part")?,
-    }
-    Ok(made)
-}
-
-// What is told of a text.
-fn told(alloc: Global, text: &[u8]) -> Result<String, AllocError> {
+// `read`, or why the text is refused.
+pub(crate) fn told(alloc: Global, text: &[u8]) -> Result<String, AllocError> {
     match read_certificate(alloc, text) {
         Ok(_) => String::from_str(alloc, "read"),
-        Err(e) => format!(in alloc; "{e}"),
+        Err(error) => format!(in alloc; "{error}"),
     }
 }
 
@@ -69,17 +59,30 @@ static WHOLE: [(&str, &str); 16] = [
 
 #[test]
 fn whole_texts(rt: HostRuntime) -> Result<(), Fail> {
-    for &(text, want) in &WHOLE {
-        let got = told(rt.alloc(), text.as_bytes())?;
-        assert_eq!(rt; got.as_str(), want, "at {text}");
-    }
-    assert!(rt; told(rt.alloc(), &[b'['; 200])?.as_str() == "not JSON");
-    assert!(rt; told(rt.alloc(), &[0xFF])?.as_str() == "not JSON");
-    Ok(())
+    compare_texts(&rt, rt.alloc(), Kind::Certificate, &WHOLE)
 }
 
-// A part of the first text, what stands in its place, and what is told of the text.
-static FIRST_CHANGED: [(&str, &str, &str); 17] = [
+static DEEP: [Pieces; 1] = [(&[("[", 200)], "not JSON")];
+
+#[test]
+fn a_deep_text(rt: HostRuntime) -> Result<(), Fail> {
+    compare_pieces(&rt, rt.alloc(), Kind::Certificate, &DEEP)
+}
+
+#[test]
+fn a_byte_of_no_text(rt: HostRuntime) -> Result<(), Fail> {
+    compare_text(
+        &rt,
+        rt.alloc(),
+        Kind::Certificate,
+        b"\xff",
+        "not JSON",
+        "a byte",
+    )
+}
+
+// Changes of the first text.
+static FIRST_CHANGED: [Change; 17] = [
     ("\"data\":3,", "\"data\":3,", "read"),
     ("\"data\":3,", "", "platform.data is missing"),
     (
@@ -119,8 +122,8 @@ static FIRST_CHANGED: [(&str, &str, &str); 17] = [
     ),
 ];
 
-// The same of the second text.
-static SECOND_CHANGED: [(&str, &str, &str); 35] = [
+// Changes of the second text.
+static SECOND_CHANGED: [Change; 35] = [
     ("\"data\":3,", "\"data\":3,", "read"),
     ("\"div\":0,", "", "platform.div is missing"),
     (
@@ -232,56 +235,82 @@ static SECOND_CHANGED: [(&str, &str, &str); 35] = [
 
 #[test]
 fn changed_parts(rt: HostRuntime) -> Result<(), Fail> {
-    for (text, cases) in [(FIRST, &FIRST_CHANGED[..]), (SECOND, &SECOND_CHANGED)] {
-        for (old, new, want) in cases {
-            let text = changed(rt.alloc(), text, old, new)?;
-            let got = told(rt.alloc(), text.as_bytes())?;
-            assert_eq!(rt; got.as_str(), *want, "at {new}");
-        }
+    compare_changes(&rt, rt.alloc(), Kind::Certificate, FIRST, &FIRST_CHANGED)
+}
+
+#[test]
+fn changed_parts_of_the_second(rt: HostRuntime) -> Result<(), Fail> {
+    compare_changes(&rt, rt.alloc(), Kind::Certificate, SECOND, &SECOND_CHANGED)
+}
+
+// A list of as many tasks.
+fn task_list(alloc: Global, task: &str, times: usize) -> Result<String, AllocError> {
+    let mut list = String::new(alloc);
+    let mut comma = "";
+    for _ in 0..times {
+        write!(&mut list, "{comma}{{{task}}}")?;
+        comma = ",";
+    }
+    Ok(list)
+}
+
+// The text with its task so many times.
+fn repeated(alloc: Global, text: &str, times: usize) -> Result<String, AllocError> {
+    let Some((before, rest)) = text.split_once("[{") else {
+        return String::from_str(alloc, "no tasks");
+    };
+    let Some((task, after)) = rest.split_once("}]") else {
+        return String::from_str(alloc, "no end");
+    };
+    let list = task_list(alloc, task, times)?;
+    format!(in alloc; "{before}[{list}]{after}")
+}
+
+// How often the first text has its task, and what is told of the text.
+static FIRST_TIMES: [(usize, &str); 3] = [
+    (0, "tasks has a bad value"),
+    (16, "read"),
+    (17, "tasks has a bad value"),
+];
+
+// The same of the second text.
+static SECOND_TIMES: [(usize, &str); 2] = [(32, "read"), (33, "tasks has a bad value")];
+
+fn compare_repeated(
+    rt: &impl Abort,
+    alloc: Global,
+    text: &str,
+    times: usize,
+    want: &str,
+) -> Result<(), Fail> {
+    let text = repeated(alloc, text, times)?;
+    compare_text(
+        rt,
+        alloc,
+        Kind::Certificate,
+        text.as_bytes(),
+        want,
+        "so many tasks",
+    )
+}
+
+// Compares what is told of the text with its task so many times.
+fn compare_times(
+    rt: &impl Abort,
+    alloc: Global,
+    text: &str,
+    rows: &[(usize, &str)],
+) -> Result<(), Fail> {
+    for &(times, want) in rows {
+        compare_repeated(rt, alloc, text, times, want)?;
     }
     Ok(())
 }
-
-// The text with the task so many times.
-fn repeated(alloc: Global, text: &str, times: usize) -> Result<String, AllocError> {
-    let mut made = String::new(alloc);
-    let Some((before, rest)) = text.split_once("{\"bound\"") else {
-        return Ok(made);
-    };
-    let Some((task, after)) = rest.split_once("}]") else {
-        return Ok(made);
-    };
-    made.push_str(before)?;
-    for i in 0..times {
-        if i > 0 {
-            made.push_str(",")?;
-        }
-        made.push_str("{\"bound\"")?;
-        made.push_str(task)?;
-        made.push_str("}")?;
-    }
-    made.push_str("]")?;
-    made.push_str(after)?;
-    Ok(made)
-}
-
-// A text, how often it has the task, and what is told of it.
-static TASKS: [(&str, usize, &str); 5] = [
-    (FIRST, 0, "tasks has a bad value"),
-    (FIRST, 16, "read"),
-    (FIRST, 17, "tasks has a bad value"),
-    (SECOND, 32, "read"),
-    (SECOND, 33, "tasks has a bad value"),
-];
 
 #[test]
 fn counts_of_tasks(rt: HostRuntime) -> Result<(), Fail> {
-    for &(text, times, want) in &TASKS {
-        let text = repeated(rt.alloc(), text, times)?;
-        let got = told(rt.alloc(), text.as_bytes())?;
-        assert_eq!(rt; got.as_str(), want, "at {times} tasks");
-    }
-    Ok(())
+    compare_times(&rt, rt.alloc(), FIRST, &FIRST_TIMES)?;
+    compare_times(&rt, rt.alloc(), SECOND, &SECOND_TIMES)
 }
 
 fn is_as_told(certificate: &Certificate) -> bool {
@@ -307,23 +336,32 @@ fn is_as_told(certificate: &Certificate) -> bool {
         && certificate.platform.memory == 3
 }
 
-#[test]
-fn values(rt: HostRuntime) -> Result<(), Fail> {
-    match read_certificate(rt.alloc(), FIRST.as_bytes()) {
-        Ok(certificate) => assert!(rt; is_as_told(&certificate)),
-        Err(_) => assert!(rt; false),
+// Whether the first text is read, and says what is told of it.
+fn is_first_as_told(alloc: Global) -> bool {
+    match read_certificate(alloc, FIRST.as_bytes()) {
+        Ok(certificate) => is_as_told(&certificate),
+        Err(_) => false,
     }
-    Ok(())
 }
 
-// The text that is written for what a text says.
-fn rewritten(alloc: Global, text: &str) -> Result<Option<Vec<u8>>, AllocError> {
+#[test]
+fn values(rt: HostRuntime) {
+    assert!(rt; is_first_as_told(rt.alloc()));
+}
+
+// Whether the text is written for a certificate.
+fn is_written(alloc: Global, certificate: &Certificate, text: &str) -> bool {
+    match write_certificate(alloc, certificate) {
+        Ok(bytes) => bytes.as_slice() == text.as_bytes(),
+        Err(_) => false,
+    }
+}
+
+// Whether a text is read, and another is written for what it says.
+fn is_rewritten(alloc: Global, text: &str, want: &str) -> bool {
     match read_certificate(alloc, text.as_bytes()) {
-        Ok(certificate) => match write_certificate(alloc, &certificate) {
-            Ok(bytes) => Ok(Some(bytes)),
-            Err(_) => Err(AllocError),
-        },
-        Err(_) => Ok(None),
+        Ok(certificate) => is_written(alloc, &certificate, want),
+        Err(_) => false,
     }
 }
 
@@ -340,14 +378,16 @@ static WRITTEN: [(&str, &str); 6] = [
     ("\"loops\":[]", "\"loops\":[0,1099511627776]"),
 ];
 
+// Whether the second text with a change is written as it is read.
+fn is_kept(alloc: Global, old: &str, new: &str) -> Result<bool, AllocError> {
+    let text = changed(alloc, SECOND, old, new)?;
+    Ok(is_rewritten(alloc, text.as_str(), text.as_str()))
+}
+
 #[test]
 fn written_texts(rt: HostRuntime) -> Result<(), Fail> {
     for &(old, new) in &WRITTEN {
-        let text = changed(rt.alloc(), SECOND, old, new)?;
-        match rewritten(rt.alloc(), text.as_str())? {
-            Some(bytes) => assert!(rt; bytes.as_slice() == text.as_bytes(), "at {new}"),
-            None => assert!(rt; false, "at {new}"),
-        }
+        assert!(rt; is_kept(rt.alloc(), old, new)?, "at {new}");
     }
     Ok(())
 }
@@ -357,44 +397,60 @@ fn first_version_as_second(rt: HostRuntime) -> Result<(), Fail> {
     let old = "\"states\":[[0,[],[]]]";
     let new = "\"states\":[[0,[],[]],[1,[0,256],[0]]]";
     let want = changed(rt.alloc(), SECOND, old, new)?;
-    match rewritten(rt.alloc(), FIRST)? {
-        Some(bytes) => assert!(rt; bytes.as_slice() == want.as_bytes()),
-        None => assert!(rt; false),
-    }
+    assert!(rt; is_rewritten(rt.alloc(), FIRST, want.as_str()));
     Ok(())
 }
 
-// The text with so many states, each with the useful sets 0 to 511.
+// The numbers 0 to 511.
+fn numbers(alloc: Global) -> Result<String, AllocError> {
+    let mut list = String::from_str(alloc, "0")?;
+    for number in 1..512 {
+        write!(&mut list, ",{number}")?;
+    }
+    Ok(list)
+}
+
+// As many states, at least one, each with these useful sets.
+fn state_list(alloc: Global, states: usize, useful: &str) -> Result<String, AllocError> {
+    let mut list = format!(in alloc; "[0,[],[{useful}]]")?;
+    for node in 1..states {
+        write!(&mut list, ",[{node},[],[{useful}]]")?;
+    }
+    Ok(list)
+}
+
+// The second text with as many states, each with the useful sets 0 to 511.
 fn with_states(alloc: Global, states: usize) -> Result<String, AllocError> {
-    let mut useful = String::new(alloc);
-    for set in 0..512 {
-        let number = format!(in alloc; "{set}")?;
-        if set > 0 {
-            useful.push_str(",")?;
-        }
-        useful.push_str(number.as_str())?;
-    }
-    let mut list = String::new(alloc);
-    for node in 0..states {
-        if node > 0 {
-            list.push_str(",")?;
-        }
-        let state = format!(in alloc; "[{node},[],[{useful}]]")?;
-        list.push_str(state.as_str())?;
-    }
+    let useful = numbers(alloc)?;
+    let list = state_list(alloc, states, useful.as_str())?;
     changed(alloc, SECOND, "[0,[],[]]", list.as_str())
 }
 
+// As many states, and changes of the text with them.
+static STATES: [(usize, &[Change]); 2] = [
+    (
+        7813,
+        &[
+            (
+                "\"data\":3,",
+                "\"data\":3,",
+                "4000256 state entries are too many",
+            ),
+            (
+                "\"window\":17",
+                "\"window\":-1",
+                "tasks.0.window has a bad value",
+            ),
+        ],
+    ),
+    (7812, &[("\"data\":3,", "\"data\":3,", "read")]),
+];
+
 #[test]
 fn counts_of_entries(rt: HostRuntime) -> Result<(), Fail> {
-    let long = with_states(rt.alloc(), 7813)?;
-    let got = told(rt.alloc(), long.as_bytes())?;
-    assert_eq!(rt; got.as_str(), "4000256 state entries are too many");
-    let bad = changed(rt.alloc(), long.as_str(), "\"window\":17", "\"window\":-1")?;
-    let got = told(rt.alloc(), bad.as_bytes())?;
-    assert_eq!(rt; got.as_str(), "tasks.0.window has a bad value");
-    let short = with_states(rt.alloc(), 7812)?;
-    let got = told(rt.alloc(), short.as_bytes())?;
-    assert_eq!(rt; got.as_str(), "read");
+    for &(states, changes) in &STATES {
+        let text = with_states(rt.alloc(), states)?;
+        compare_changes(&rt, rt.alloc(), Kind::Certificate, text.as_str(), changes)?;
+    }
     Ok(())
 }

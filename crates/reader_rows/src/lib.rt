@@ -9,6 +9,8 @@ mod executables;
 #[cfg(test)]
 mod made;
 #[cfg(test)]
+mod reading;
+#[cfg(test)]
 mod scripts;
 #[cfg(test)]
 mod task_sets;

@@ -1,7 +1,9 @@
 // Made task sets, files and scripts.
-use crpd_base::{Place, TaskSpec};
+use crate::reading::compare;
+use crpd_base::{LoopSpec, Place, ScriptJob, TaskSpec};
 use gen_tasks::{Generated, generate};
 use std::alloc::{AllocError, Global};
+use std::process::Abort;
 use std::test::Fail;
 
 // The tasks with the lengths of their files, and the jobs, as a plain program of another language
@@ -200,53 +202,81 @@ fn address(place: &Place) -> u32 {
     }
 }
 
-fn task_told(alloc: Global, task: &TaskSpec, bytes: usize) -> Result<String, AllocError> {
-    let (name, file) = (task.name.as_str(), task.file.as_str());
-    let (period, deadline, jitter) = (task.period, task.deadline, task.jitter);
-    let mut text = format!(in alloc; "{name} {file} {period} {deadline} {jitter}")?;
-    for stated in task.loops.as_slice() {
-        let (head, bound) = (address(&stated.head), stated.bound);
-        let line = format!(in alloc; " {head} {bound}")?;
-        text.push_str(line.as_str())?;
-        for (from, to) in stated.ranges.as_slice() {
-            let (from, to) = (address(from), address(to));
-            let line = format!(in alloc; " {from} {to}")?;
-            text.push_str(line.as_str())?;
-        }
+fn push_loop(text: &mut String, stated: &LoopSpec) -> Result<(), AllocError> {
+    write!(text, " {} {}", address(&stated.head), stated.bound)?;
+    for (from, to) in stated.ranges.as_slice() {
+        write!(text, " {} {}", address(from), address(to))?;
     }
-    let line = format!(in alloc; " {bytes}\n")?;
-    text.push_str(line.as_str())?;
-    Ok(text)
+    Ok(())
+}
+
+fn push_task(text: &mut String, task: &TaskSpec, bytes: usize) -> Result<(), AllocError> {
+    write!(text, "{} {}", task.name.as_str(), task.file.as_str())?;
+    write!(text, " {} {} {}", task.period, task.deadline, task.jitter)?;
+    for stated in task.loops.as_slice() {
+        push_loop(text, stated)?;
+    }
+    write!(text, " {bytes}\n")
+}
+
+fn push_job(text: &mut String, job: &ScriptJob) -> Result<(), AllocError> {
+    write!(text, "{} {} {}\n", job.task.0, job.arrival, job.release)
 }
 
 fn told(alloc: Global, made: &Generated) -> Result<String, AllocError> {
     let mut text = String::new(alloc);
     for (task, file) in made.set.tasks.iter().zip(made.files.as_slice()) {
-        let line = task_told(alloc, task, file.len())?;
-        text.push_str(line.as_str())?;
+        push_task(&mut text, task, file.len())?;
     }
     for job in made.script.jobs.as_slice() {
-        let line = format!(in alloc; "{} {} {}\n", job.task.0, job.arrival, job.release)?;
-        text.push_str(line.as_str())?;
+        push_job(&mut text, job)?;
     }
     Ok(text)
 }
 
+// What is made of a number.
+fn made_of(alloc: Global, number: u32) -> Result<Generated, Fail> {
+    if number > 2_147_483_647 {
+        return Err(Fail::from("a number of 2^31 or more"));
+    }
+    match generate(alloc, number) {
+        Ok(made) => Ok(made),
+        Err(_) => Err(Fail::from("no memory")),
+    }
+}
+
+fn compare_made(rt: &impl Abort, alloc: Global, made: &Generated, want: &str) -> Result<(), Fail> {
+    assert!(rt; made.script.cycles == 500_000);
+    assert!(rt; made.script.cache.is_empty());
+    let got = told(alloc, made)?;
+    compare(rt, got.as_str(), want, "what is made");
+    Ok(())
+}
+
+fn compare_row(rt: &impl Abort, alloc: Global, number: u32, want: &str) -> Result<(), Fail> {
+    let made = made_of(alloc, number)?;
+    compare_made(rt, alloc, &made, want)
+}
+
 #[test]
 fn tasks_and_jobs(rt: HostRuntime) -> Result<(), Fail> {
-    for &(n, expected) in &MADE {
-        let made = generate(rt.alloc(), n).expect(&rt, "there is memory");
-        assert_eq!(rt; made.script.cycles, 500_000);
-        assert!(rt; made.script.cache.is_empty());
-        assert_eq!(rt; told(rt.alloc(), &made)?.as_str(), expected, "of {n}");
+    for &(number, want) in &MADE {
+        compare_row(&rt, rt.alloc(), number, want)?;
     }
     Ok(())
 }
 
+// Whether the file of a task has these bytes.
+fn has_file(made: &Generated, task: usize, bytes: &[u8]) -> bool {
+    match made.files.get(task) {
+        Some(file) => file.as_slice() == bytes,
+        None => false,
+    }
+}
+
 #[test]
 fn the_bytes_of_a_file(rt: HostRuntime) -> Result<(), Fail> {
-    let made = generate(rt.alloc(), 1).expect(&rt, "there is memory");
-    let file = made.files.get(4).expect(&rt, "there are 16 files");
-    assert_eq!(rt; file.as_slice(), FILE.as_slice());
+    let made = made_of(rt.alloc(), 1)?;
+    assert!(rt; has_file(&made, 4, &FILE));
     Ok(())
 }

@@ -1,30 +1,51 @@
 // Texts of scripts, and whether scripts are legal.
-use crpd_base::TaskSet;
-use fixtures::{ONE, PLATFORM, Program, load};
+use crate::reading::{Kind, Pieces, compare, compare_pieces, compare_texts};
+use crpd_base::{Script, TaskSet};
 use script_reader::{legal, read_script};
-use std::alloc::Global;
+use set_reader::{SetError, read_set};
+use std::alloc::{AllocError, Global};
 use std::test::Fail;
 
+static TWO_TASKS: &str = "\
+[platform]\n\
+line = 16\n\
+sets = 4\n\
+hit = 1\n\
+miss = 10\n\
+data = 3\n\
+taken = 2\n\
+switch = 5\n\
+[[task]]\n\
+name = \"high\"\n\
+file = \"high.elf\"\n\
+period = 100\n\
+deadline = 100\n\
+jitter = 5\n\
+[[task]]\n\
+name = \"low\"\n\
+file = \"low.elf\"\n\
+period = 100\n\
+deadline = 100\n\
+jitter = 5\n\
+";
+
 // A set of the tasks `high` and `low`.
-fn two_tasks(alloc: Global) -> Result<TaskSet, Fail> {
-    let low = Program {
-        name: "low",
-        jitter: 5,
-        ..ONE
-    };
-    let high = Program {
-        name: "high",
-        ..low
-    };
-    Ok(load(alloc, PLATFORM, &[high, low])?.set)
+fn two_tasks(alloc: Global) -> Result<TaskSet, SetError> {
+    read_set(alloc, TWO_TASKS.as_bytes())
 }
 
-// What is told of a text.
-fn told(alloc: Global, text: &[u8]) -> Result<String, Fail> {
-    let set = two_tasks(alloc)?;
-    match read_script(alloc, text, &set) {
-        Ok(_) => Ok(String::from_str(alloc, "read")?),
-        Err(e) => Ok(format!(in alloc; "{e}")?),
+fn told_for(alloc: Global, set: &TaskSet, text: &[u8]) -> Result<String, AllocError> {
+    match read_script(alloc, text, set) {
+        Ok(_) => String::from_str(alloc, "read"),
+        Err(error) => format!(in alloc; "{error}"),
+    }
+}
+
+// `read`, or why the text is refused.
+pub(crate) fn told(alloc: Global, text: &[u8]) -> Result<String, AllocError> {
+    match two_tasks(alloc) {
+        Ok(set) => told_for(alloc, &set, text),
+        Err(error) => format!(in alloc; "{error}"),
     }
 }
 
@@ -78,56 +99,81 @@ static KEYS: [(&str, &str); 23] = [
 
 #[test]
 fn keys_and_ranges(rt: HostRuntime) -> Result<(), Fail> {
-    for &(text, want) in &KEYS {
-        let got = told(rt.alloc(), text.as_bytes())?;
-        assert_eq!(rt; got.as_str(), want, "at {text}");
-    }
-    Ok(())
+    compare_texts(&rt, rt.alloc(), Kind::Script, &KEYS)
 }
+
+const JOB: &str = "[[job]]\ntask = \"low\"\narrival = 0\nrelease = 0\n";
+
+// As many jobs as there may be, and one more.
+static MANY: [Pieces; 2] = [
+    (&[("cycles = 1\n", 1), (JOB, 10_000)], "read"),
+    (
+        &[("cycles = 1\n", 1), (JOB, 10_000), ("[[job]]\n", 1)],
+        "job is too long",
+    ),
+];
 
 #[test]
 fn many_jobs(rt: HostRuntime) -> Result<(), Fail> {
-    let mut text = String::from_str(rt.alloc(), "cycles = 1\n")?;
-    for _ in 0..10_000 {
-        text.push_str("[[job]]\ntask = \"low\"\narrival = 0\nrelease = 0\n")?;
+    compare_pieces(&rt, rt.alloc(), Kind::Script, &MANY)
+}
+
+// The cycles, the blocks and the jobs of a script.
+fn script_told(alloc: Global, script: &Script) -> Result<String, AllocError> {
+    let mut text = format!(in alloc; "{} {:?}", script.cycles, script.cache.as_slice())?;
+    for job in script.jobs.as_slice() {
+        write!(
+            &mut text,
+            ", {} {} {}",
+            job.task.0, job.arrival, job.release
+        )?;
     }
-    assert_eq!(rt; told(rt.alloc(), text.as_bytes())?.as_str(), "read");
-    text.push_str("[[job]]\n")?;
-    assert_eq!(rt;
-        told(rt.alloc(), text.as_bytes())?.as_str(),
-        "job is too long"
-    );
-    Ok(())
+    Ok(text)
+}
+
+fn values_told(alloc: Global, set: &TaskSet, text: &[u8]) -> Result<String, AllocError> {
+    match read_script(alloc, text, set) {
+        Ok(script) => script_told(alloc, &script),
+        Err(error) => format!(in alloc; "{error}"),
+    }
 }
 
 #[test]
 fn values(rt: HostRuntime) -> Result<(), Fail> {
     let set = two_tasks(rt.alloc())?;
     let text = b"cycles = 9\ncache = [7, 3]\n[[job]]\ntask = \"low\"\narrival = 1\nrelease = 2\n";
-    let script = read_script(rt.alloc(), text, &set)?;
-    assert_eq!(rt; script.cycles, 9);
-    assert_eq!(rt; script.cache.as_slice(), [7, 3].as_slice());
-    assert_eq!(rt; script.jobs.len(), 1);
-    for job in script.jobs.as_slice() {
-        assert_eq!(rt; job.task.0, 1);
-        assert_eq!(rt; job.arrival, 1);
-        assert_eq!(rt; job.release, 2);
-    }
+    let got = values_told(rt.alloc(), &set, text)?;
+    compare(&rt, got.as_str(), "9 [7, 3], 1 1 2", "values");
     Ok(())
 }
 
-// Whether the script of these jobs is legal, with the period 100 and the jitter 5.
-fn is_legal(alloc: Global, jobs: &[(&str, u64, u64)]) -> Result<bool, Fail> {
-    let set = two_tasks(alloc)?;
+fn text_of(alloc: Global, jobs: &[(&str, u64, u64)]) -> Result<String, AllocError> {
     let mut text = String::from_str(alloc, "cycles = 1000\n")?;
     for (task, arrival, release) in jobs {
-        let job = format!(in alloc;
+        write!(
+            &mut text,
             "[[job]]\ntask = \"{task}\"\narrival = {arrival}\nrelease = {release}\n"
         )?;
-        text.push_str(job.as_str())?;
     }
-    let script = read_script(alloc, text.as_bytes(), &set)?;
-    Ok(legal(&set, &script))
+    Ok(text)
+}
+
+// Whether the script of a text is legal, None where it is refused.
+fn is_legal(alloc: Global, set: &TaskSet, text: &str) -> Option<bool> {
+    match read_script(alloc, text.as_bytes(), set) {
+        Ok(script) => Some(legal(set, &script)),
+        Err(_) => None,
+    }
+}
+
+// The same of the script of these jobs, with the period 100 and the jitter 5.
+fn are_legal(
+    alloc: Global,
+    set: &TaskSet,
+    jobs: &[(&str, u64, u64)],
+) -> Result<Option<bool>, AllocError> {
+    let text = text_of(alloc, jobs)?;
+    Ok(is_legal(alloc, set, text.as_str()))
 }
 
 // Jobs by task, arrival and release, and whether their script is legal.
@@ -146,8 +192,9 @@ static LEGAL: [(&[(&str, u64, u64)], bool); 10] = [
 
 #[test]
 fn legality(rt: HostRuntime) -> Result<(), Fail> {
+    let set = two_tasks(rt.alloc())?;
     for &(jobs, want) in &LEGAL {
-        assert_eq!(rt; is_legal(rt.alloc(), jobs)?, want);
+        assert!(rt; are_legal(rt.alloc(), &set, jobs)? == Some(want));
     }
     Ok(())
 }

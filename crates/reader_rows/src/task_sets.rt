@@ -1,54 +1,43 @@
 // Texts of task sets.
-use crpd_base::{Place, Switching};
+use crate::reading::{
+    Change, Kind, Pieces, changed, compare, compare_changes, compare_pieces, compare_text,
+};
+use crpd_base::{LoopSpec, Place, Platform, Switching, TaskSet, TaskSpec};
 use set_reader::read_set;
 use std::alloc::{AllocError, Global};
 use std::test::Fail;
 
-static LINES: [&str; 18] = [
-    "[platform]",
-    "line = 16",
-    "sets = 4",
-    "hit = 1",
-    "miss = 10",
-    "data = 3",
-    "taken = 2",
-    "switch = 5",
-    "[[task]]",
-    "name = \"one\"",
-    "file = \"one.elf\"",
-    "period = 100",
-    "deadline = 100",
-    "jitter = 0",
-    "[[task.loop]]",
-    "head = 0x1004",
-    "bound = 3",
-    "range = [[0x1004, 0x100C]]",
-];
+static TEXT: &str = "\
+[platform]\n\
+line = 16\n\
+sets = 4\n\
+hit = 1\n\
+miss = 10\n\
+data = 3\n\
+taken = 2\n\
+switch = 5\n\
+[[task]]\n\
+name = \"one\"\n\
+file = \"one.elf\"\n\
+period = 100\n\
+deadline = 100\n\
+jitter = 0\n\
+[[task.loop]]\n\
+head = 0x1004\n\
+bound = 3\n\
+range = [[0x1004, 0x100C]]\n\
+";
 
-// The lines, with `new` in place of the line `old`.
-fn changed(alloc: Global, old: &str, new: &str) -> Result<String, AllocError> {
-    let mut text = String::new(alloc);
-    for line in LINES.iter() {
-        if *line == old {
-            text.push_str(new)?;
-        } else {
-            text.push_str(line)?;
-        }
-        text.push_str("\n")?;
-    }
-    Ok(text)
-}
-
-// What is told of a text.
-fn told(alloc: Global, text: &[u8]) -> Result<String, AllocError> {
+// `read`, or why the text is refused.
+pub(crate) fn told(alloc: Global, text: &[u8]) -> Result<String, AllocError> {
     match read_set(alloc, text) {
         Ok(_) => String::from_str(alloc, "read"),
-        Err(e) => format!(in alloc; "{e}"),
+        Err(error) => format!(in alloc; "{error}"),
     }
 }
 
 // A line, what stands in its place, and what is told of the text.
-static KEYS: [(&str, &str, &str); 30] = [
+static KEYS: [Change; 30] = [
     ("", "", "read"),
     (
         "jitter = 0",
@@ -126,7 +115,7 @@ static KEYS: [(&str, &str, &str); 30] = [
 ];
 
 // The same of names, files, places and loops.
-static PLACES: [(&str, &str, &str); 32] = [
+static PLACES: [Change; 32] = [
     (
         "name = \"one\"",
         "name = \"\"",
@@ -254,15 +243,13 @@ static PLACES: [(&str, &str, &str); 32] = [
 ];
 
 #[test]
-fn changed_lines(rt: HostRuntime) -> Result<(), Fail> {
-    for cases in [&KEYS[..], &PLACES] {
-        for (old, new, want) in cases {
-            let text = changed(rt.alloc(), old, new)?;
-            let got = told(rt.alloc(), text.as_bytes())?;
-            assert_eq!(rt; got.as_str(), *want, "at {new}");
-        }
-    }
-    Ok(())
+fn changed_keys(rt: HostRuntime) -> Result<(), Fail> {
+    compare_changes(&rt, rt.alloc(), Kind::TaskSet, TEXT, &KEYS)
+}
+
+#[test]
+fn changed_places(rt: HostRuntime) -> Result<(), Fail> {
+    compare_changes(&rt, rt.alloc(), Kind::TaskSet, TEXT, &PLACES)
 }
 
 const PLATFORM: &str =
@@ -276,8 +263,8 @@ const LOOP: &str = "[[task.loop]]\nhead = 0\nbound = 1\nrange = []\n";
 const LATE: &str =
     "[[task]]\nname = \"one\"\nfile = \"one.elf\"\nperiod = 100\ndeadline = 101\njitter = 0\n";
 
-// Pieces with how often each stands, and what is told of the text of them.
-static COUNTS: [(&[(&str, usize)], &str); 12] = [
+// What is counted, and in which order a text is refused.
+static COUNTS: [Pieces; 13] = [
     (
         &[(PLATFORM, 1), (TASK, 2)],
         "task.1.name is the name of an earlier task",
@@ -313,56 +300,94 @@ static COUNTS: [(&[(&str, usize)], &str); 12] = [
         &[(PLATFORM, 1), (LATE, 1), ("[[task]]\n", 1)],
         "task.0.deadline exceeds the period",
     ),
+    (&[("[", 1)], "not TOML"),
 ];
 
-fn text_of(alloc: Global, pieces: &[(&str, usize)]) -> Result<String, AllocError> {
+#[test]
+fn order_and_counts(rt: HostRuntime) -> Result<(), Fail> {
+    compare_pieces(&rt, rt.alloc(), Kind::TaskSet, &COUNTS)
+}
+
+#[test]
+fn a_byte_of_no_text(rt: HostRuntime) -> Result<(), Fail> {
+    compare_text(
+        &rt,
+        rt.alloc(),
+        Kind::TaskSet,
+        b"\xff",
+        "not TOML",
+        "a byte",
+    )
+}
+
+fn push_platform(text: &mut String, platform: &Platform) -> Result<(), AllocError> {
+    let (line, data, mul) = (platform.line, platform.memory, platform.mul);
+    write!(text, "line {line} data {data} mul {mul} switching ")?;
+    match platform.switching {
+        Switching::Cycle => text.push_str("cycle"),
+        Switching::Instruction => text.push_str("instruction"),
+    }
+}
+
+fn push_place(text: &mut String, place: &Place) -> Result<(), AllocError> {
+    match place {
+        Place::Number(number) => write!(text, " {number:x}"),
+        Place::Symbol { name, offset } => write!(text, " {}+{offset:x}", name.as_str()),
+    }
+}
+
+fn push_loop(text: &mut String, stated: &LoopSpec) -> Result<(), AllocError> {
+    push_place(text, &stated.head)?;
+    write!(text, " times {}:", stated.bound)?;
+    for (from, to) in stated.ranges.as_slice() {
+        push_place(text, from)?;
+        push_place(text, to)?;
+    }
+    Ok(())
+}
+
+// The name, the jitter, the entry, the stack, the global pointer, and the loops.
+fn push_task(text: &mut String, task: &TaskSpec) -> Result<(), AllocError> {
+    write!(text, "; {} jitter {}", task.name.as_str(), task.jitter)?;
+    match &task.entry {
+        Some(entry) => push_place(text, entry)?,
+        None => text.push_str(" none")?,
+    }
+    push_place(text, &task.stack)?;
+    push_place(text, &task.global)?;
+    for stated in task.loops.as_slice() {
+        push_loop(text, stated)?;
+    }
+    Ok(())
+}
+
+fn set_told(alloc: Global, set: &TaskSet) -> Result<String, AllocError> {
     let mut text = String::new(alloc);
-    for (piece, count) in pieces {
-        for _ in 0..*count {
-            text.push_str(piece)?;
-        }
+    push_platform(&mut text, &set.platform)?;
+    for task in set.tasks.as_slice() {
+        push_task(&mut text, task)?;
     }
     Ok(text)
 }
 
-#[test]
-fn order_and_counts(rt: HostRuntime) -> Result<(), Fail> {
-    let alloc = rt.alloc();
-    for &(pieces, want) in &COUNTS {
-        let text = text_of(alloc, pieces)?;
-        assert_eq!(rt; told(alloc, text.as_bytes())?.as_str(), want);
+fn values_told(alloc: Global, text: &str) -> Result<String, AllocError> {
+    match read_set(alloc, text.as_bytes()) {
+        Ok(set) => set_told(alloc, &set),
+        Err(error) => format!(in alloc; "{error}"),
     }
-    assert_eq!(rt; told(alloc, b"\xff")?.as_str(), "not TOML");
-    assert_eq!(rt; told(alloc, b"[")?.as_str(), "not TOML");
-    Ok(())
 }
 
 #[test]
 fn values(rt: HostRuntime) -> Result<(), Fail> {
-    let text = changed(rt.alloc(), "jitter = 0", "jitter = 7\nstack = \"top+0x10\"")?;
-    let set = read_set(rt.alloc(), text.as_bytes())?;
-    assert_eq!(rt; set.platform.line, 16);
-    assert_eq!(rt; set.platform.memory, 3);
-    assert_eq!(rt; set.platform.mul, 0);
-    assert!(rt; set.platform.switching == Switching::Cycle);
-    assert_eq!(rt; set.tasks.len(), 1);
-    for task in set.tasks.as_slice() {
-        assert_eq!(rt; task.name.as_str(), "one");
-        assert_eq!(rt; task.jitter, 7);
-        assert!(rt; task.entry.is_none());
-        assert!(rt; matches!(&task.global, Place::Number(0)));
-        assert!(rt;
-            matches!(&task.stack, Place::Symbol { name, offset: 16 } if name.as_str() == "top")
-        );
-        assert_eq!(rt; task.loops.len(), 1);
-        for stated in task.loops.as_slice() {
-            assert_eq!(rt; stated.bound, 3);
-            assert_eq!(rt; stated.ranges.len(), 1);
-            for (from, to) in stated.ranges.as_slice() {
-                assert!(rt; matches!(from, Place::Number(0x1004)));
-                assert!(rt; matches!(to, Place::Number(0x100C)));
-            }
-        }
-    }
+    let text = changed(
+        rt.alloc(),
+        TEXT,
+        "jitter = 0",
+        "jitter = 7\nstack = \"top+0x10\"",
+    )?;
+    let got = values_told(rt.alloc(), text.as_str())?;
+    let want =
+        "line 16 data 3 mul 0 switching cycle; one jitter 7 none top+10 0 1004 times 3: 1004 100c";
+    compare(&rt, got.as_str(), want, "values");
     Ok(())
 }
