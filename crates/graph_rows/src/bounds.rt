@@ -3,6 +3,7 @@ ghost use Rattle.std.specs.Prelude.{◌<◌, ◌≤◌};
 ghost use Rattle.loop_regions.specs.CodeNest.{IsNestOf};
 
 use crate::analysed::{analysed, states_of};
+use crate::comparison::compare;
 use crpd_base::Platform;
 use exec_bound::{Bound, BoundError, bound};
 use fixtures::{CALL_LOOP, CALLS, ECALL, LOOP, NESTED, PLATFORM, Stated, TWO_WORDS};
@@ -91,6 +92,18 @@ fn told<'a>(
 // Words, stated loops, and the bound with the potentials, or the refusal.
 pub(crate) type Row = (&'static [u32], &'static [Stated], &'static str);
 
+// Compares the bound of a program with what is wanted.
+fn compare_bound(rt: &impl Abort, alloc: Global, platform: &Platform, row: &Row) -> Result<(), Fail>
+    requires line { 0 < platform.now.line }
+    requires sets { 0 < platform.now.sets }
+    requires room { platform.now.sets ≤ 4 }
+{
+    let &(words, loops, want) = row;
+    let got = told(alloc, platform, words, loops)?;
+    compare(rt, got.as_str(), want);
+    Ok(())
+}
+
 // Compares the bounds of programs with what is wanted.
 pub(crate) fn compare_bounds(
     rt: &impl Abort,
@@ -102,9 +115,8 @@ pub(crate) fn compare_bounds(
     requires sets { 0 < platform.now.sets }
     requires room { platform.now.sets ≤ 4 }
 {
-    for &(words, loops, want) in rows {
-        let got = told(alloc, platform, words, loops)?;
-        assert_eq!(rt; got.as_str(), want);
+    for row in rows {
+        compare_bound(rt, alloc, platform, row)?;
     }
     Ok(())
 }
@@ -171,17 +183,24 @@ fn graph_cycles(alloc: Global, graph: &Graph, nest: &Nest) -> Result<Option<u64>
     }
 }
 
-fn plain_cycles(alloc: Global, words: &[u32]) -> Result<Option<u64>, Fail> {
+fn words_cycles(alloc: Global, words: &[u32]) -> Result<Option<u64>, Fail> {
     let of = analysed(alloc, &PLAIN, words, &[])?;
     graph_cycles(alloc, &of.0, &of.1)
+}
+
+// The cycles of the bound of this many instructions before an ECALL.
+fn line_cycles(alloc: Global, count: usize) -> Result<Option<u64>, Fail> {
+    let words = line(alloc, count)?;
+    words_cycles(alloc, &words)
 }
 
 #[test]
 fn bounds_of_long_programs(rt: HostRuntime) -> Result<(), Fail> {
     for count in [4_095, 4_096, 16_383] {
-        let words = line(rt.alloc(), count)?;
-        let cycles = plain_cycles(rt.alloc(), &words)?;
-        assert_eq!(rt; cycles, Some(count as u64 + 1));
+        assert!(rt;
+            line_cycles(rt.alloc(), count)? == Some(count as u64 + 1),
+            "of {count}"
+        );
     }
     Ok(())
 }

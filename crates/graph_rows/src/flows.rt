@@ -2,6 +2,7 @@
 ghost use Rattle.std.specs.Prelude.{◌<◌, length};
 
 use crate::analysed::code_of;
+use crate::comparison::compare;
 use code_map::CodeMap;
 use crpd_base::{MOST_NODES, NodeId, Task};
 use fixtures::{ECALL, LOOP, ONE, PLATFORM, Program, RET};
@@ -110,6 +111,20 @@ fn told(alloc: Global, words: &[u32], entry: u32, telling: Telling) -> Result<St
     code_told(alloc, &code, telling)
 }
 
+// Compares the graph of these words or the refusal with what is wanted.
+fn compare_told(
+    rt: &impl Abort,
+    alloc: Global,
+    words: &[u32],
+    entry: u32,
+    telling: Telling,
+    want: &str,
+) -> Result<(), Fail> {
+    let got = told(alloc, words, entry, telling)?;
+    compare(rt, got.as_str(), want);
+    Ok(())
+}
+
 // Words, an entry, and the graph or the refusal.
 static GRAPHS: [(&[u32], u32, &str); 18] = [
     (&[NEXT, ECALL], 0x1000, "from 0: 1000*>1 1004"),
@@ -143,15 +158,8 @@ static GRAPHS: [(&[u32], u32, &str); 18] = [
 #[test]
 fn small_programs(rt: HostRuntime) -> Result<(), Fail> {
     for &(words, entry, want) in &GRAPHS {
-        let got = told(rt.alloc(), words, entry, Telling::Whole)?;
-        assert_eq!(rt; got.as_str(), want);
+        compare_told(&rt, rt.alloc(), words, entry, Telling::Whole, want)?;
     }
-    Ok(())
-}
-
-fn compare_counts(rt: &impl Abort, alloc: Global, words: &[u32], want: &str) -> Result<(), Fail> {
-    let got = told(alloc, words, 0x1000, Telling::Counts)?;
-    assert_eq!(rt; got.as_str(), want);
     Ok(())
 }
 
@@ -162,6 +170,17 @@ fn plain_words(alloc: Global, count: usize, last: Option<u32>) -> Result<Vec<u32
         words.push(last)?;
     }
     Ok(words)
+}
+
+fn compare_plain(
+    rt: &impl Abort,
+    alloc: Global,
+    count: usize,
+    last: Option<u32>,
+    want: &str,
+) -> Result<(), Fail> {
+    let words = plain_words(alloc, count, last)?;
+    compare_told(rt, alloc, &words, 0x1000, Telling::Counts, want)
 }
 
 // How many plain instructions and which last word, and what comes of them.
@@ -175,8 +194,7 @@ static COUNTS: [(usize, Option<u32>, &str); 4] = [
 #[test]
 fn limit_of_nodes(rt: HostRuntime) -> Result<(), Fail> {
     for &(count, last, want) in &COUNTS {
-        let words = plain_words(rt.alloc(), count, last)?;
-        compare_counts(&rt, rt.alloc(), &words, want)?;
+        compare_plain(&rt, rt.alloc(), count, last, want)?;
     }
     Ok(())
 }
@@ -191,14 +209,18 @@ fn chain(alloc: Global, calls: usize) -> Result<Vec<u32>, AllocError> {
     Ok(words)
 }
 
+fn compare_chain(rt: &impl Abort, alloc: Global, calls: usize, want: &str) -> Result<(), Fail> {
+    let words = chain(alloc, calls)?;
+    compare_told(rt, alloc, &words, 0x1000, Telling::Counts, want)
+}
+
 // Calls in a chain, and what comes of them.
 static CHAINS: [(usize, &str); 2] = [(16, "33 nodes 1 leaders"), (17, "57 00001080")];
 
 #[test]
 fn chains_of_calls(rt: HostRuntime) -> Result<(), Fail> {
     for &(calls, want) in &CHAINS {
-        let words = chain(rt.alloc(), calls)?;
-        compare_counts(&rt, rt.alloc(), &words, want)?;
+        compare_chain(&rt, rt.alloc(), calls, want)?;
     }
     Ok(())
 }

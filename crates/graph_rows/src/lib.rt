@@ -7,6 +7,8 @@ mod analysed;
 #[cfg(test)]
 mod bounds;
 #[cfg(test)]
+mod comparison;
+#[cfg(test)]
 mod fixpoint;
 #[cfg(test)]
 mod flows;

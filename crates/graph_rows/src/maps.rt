@@ -3,6 +3,7 @@ ghost use Rattle.std.specs.Prelude.{◌≡◌, ◌≤◌, ◌<◌, ◌+◌, ◌^
 ghost use Rattle.std.specs.Prelude.{vec_len};
 ghost use Rattle.crpd_base.specs.Images.{IsImage};
 
+use crate::comparison::compare;
 use code_map::{CodeMap, MapError};
 use crpd_base::{
     Image, Items, LoopAt, LoopSpec, Place, Segment, Symbol, Task, TaskPlan, TaskSet, TaskSpec, Text,
@@ -224,6 +225,13 @@ fn outcome(alloc: Global, files: &[File]) -> Result<String, AllocError>
     }
 }
 
+// Compares what comes of a file beside the plain one with what is wanted.
+fn compare_outcome(rt: &impl Abort, alloc: Global, file: File, want: &str) -> Result<(), Fail> {
+    let got = outcome(alloc, &[PLAIN, file])?;
+    compare(rt, got.as_str(), want);
+    Ok(())
+}
+
 // The last bytes of memory, and bytes that overlap the plain file's.
 const HIGH: Part = Part(0xFFFF_FFF8, 8, &ONE, true);
 
@@ -364,8 +372,7 @@ static REFUSALS: [(File, &str); 18] = [
 #[test]
 fn refusals(rt: HostRuntime) -> Result<(), Fail> {
     for &(file, want) in &REFUSALS {
-        let got = outcome(rt.alloc(), &[PLAIN, file])?;
-        assert_eq!(rt; got.as_str(), want);
+        compare_outcome(&rt, rt.alloc(), file, want)?;
     }
     Ok(())
 }
@@ -446,10 +453,21 @@ static NEXT: [(u8, u32, Option<u32>); 8] = [
     (3, 0xFFFF_FFF9, None),
 ];
 
+fn compare_word(
+    rt: &impl Abort,
+    alloc: Global,
+    code: &CodeMap,
+    address: u32,
+    want: &str,
+) -> Result<(), Fail> {
+    let got = told(alloc, code, address)?;
+    compare(rt, got.as_str(), want);
+    Ok(())
+}
+
 fn compare_words(rt: &impl Abort, alloc: Global, code: &CodeMap) -> Result<(), Fail> {
     for &(address, want) in &WORDS {
-        let got = told(alloc, code, address)?;
-        assert_eq!(rt; got.as_str(), want, "at {address:x}");
+        compare_word(rt, alloc, code, address, want)?;
     }
     Ok(())
 }
@@ -457,11 +475,8 @@ fn compare_words(rt: &impl Abort, alloc: Global, code: &CodeMap) -> Result<(), F
 fn compare_next(rt: &impl Abort, code: &CodeMap) {
     for &(task, from, want) in &NEXT {
         assert!(rt; usize::from(task) < code.images().len());
-        assert_eq!(rt;
-            code.next_own(Task(task), from),
-            want,
-            "task {task} from {from:x}"
-        );
+        let got = code.next_own(Task(task), from);
+        assert!(rt; got == want, "task {task} from {from:x}");
     }
 }
 
@@ -512,12 +527,17 @@ static PLANS: [(u8, &str); 3] = [
     (2, "1004 0 7, 0 3 0 to 0"),
 ];
 
+fn compare_plan(rt: &impl Abort, alloc: Global, plan: &TaskPlan, want: &str) -> Result<(), Fail> {
+    let got = plan_told(alloc, plan)?;
+    compare(rt, got.as_str(), want);
+    Ok(())
+}
+
 fn compare_plans(rt: &impl Abort, alloc: Global, code: &CodeMap) -> Result<(), Fail> {
     code.plans_law();
     for &(task, want) in &PLANS {
         assert!(rt; usize::from(task) < code.images().len());
-        let got = plan_told(alloc, code.plan(Task(task)))?;
-        assert_eq!(rt; got.as_str(), want, "task {task}");
+        compare_plan(rt, alloc, code.plan(Task(task)), want)?;
     }
     Ok(())
 }

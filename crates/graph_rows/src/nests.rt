@@ -3,12 +3,14 @@ ghost use Rattle.std.specs.Prelude.{◌≡◌, ◌<◌, length};
 ghost use Rattle.flat_graph.specs.CodeGraph.{graph_of};
 
 use crate::analysed::code_of;
+use crate::comparison::compare;
 use code_map::CodeMap;
 use crpd_base::{NodeId, Task, TaskPlan};
 use fixtures::{CALL_LOOP, ECALL, LOOP, NESTED, NEXT, ONE, PLATFORM, Program, RET, Stated};
 use flat_graph::{Graph, build};
 use loop_regions::{LoopError, Nest, regions};
 use std::alloc::{AllocError, Global};
+use std::process::Abort;
 use std::test::Fail;
 
 // `addi x5,x5,-1` and `bne x5,x0,-4`.
@@ -106,6 +108,18 @@ fn answer_told<'a>(alloc: Global, words: &'a [u32], loops: &'a [Stated]) -> Resu
     code_told(alloc, &code)
 }
 
+fn compare_answer<'a>(
+    rt: &impl Abort,
+    alloc: Global,
+    words: &'a [u32],
+    loops: &'a [Stated],
+    want: &str,
+) -> Result<(), Fail> {
+    let got = answer_told(alloc, words, loops)?;
+    compare(rt, got.as_str(), want);
+    Ok(())
+}
+
 // The body of the loop of two instructions.
 const BODY: (u32, u32) = (0x1004, 0x100C);
 
@@ -168,8 +182,7 @@ static REGIONS: [(&[u32], &[Stated], &str); 16] = [
 #[test]
 fn regions_of_small_programs(rt: HostRuntime) -> Result<(), Fail> {
     for &(words, stated, want) in &REGIONS {
-        let got = answer_told(rt.alloc(), words, stated)?;
-        assert_eq!(rt; got.as_str(), want);
+        compare_answer(&rt, rt.alloc(), words, stated, want)?;
     }
     Ok(())
 }

@@ -3,6 +3,7 @@
 ghost use Rattle.std.specs.Prelude.{◌<◌, length};
 
 use crate::analysed::{code_of, states_of};
+use crate::comparison::compare;
 use code_map::CodeMap;
 use crpd_base::{Platform, SetBits, Task};
 use evict_sets::{evicting, longest};
@@ -11,6 +12,7 @@ use flat_graph::{Graph, build};
 use icache::Geometry;
 use must_cache::MustState;
 use std::alloc::{AllocError, Global};
+use std::process::Abort;
 use std::test::Fail;
 use useful_sets::{all, useful};
 
@@ -97,6 +99,18 @@ fn words_told(alloc: Global, start: u32, words: &[u32]) -> Result<String, Fail> 
     };
     let code = code_of(alloc, &EIGHT_SETS, program)?;
     code_told(alloc, &code)
+}
+
+fn compare_words(
+    rt: &impl Abort,
+    alloc: Global,
+    start: u32,
+    words: &[u32],
+    want: &str,
+) -> Result<(), Fail> {
+    let got = words_told(alloc, start, words)?;
+    compare(rt, got.as_str(), want);
+    Ok(())
 }
 
 // `beq x0,x0,16`, the one way by `jal x0,4` and the other by `jal x0,-8` in the next line, to one
@@ -187,8 +201,7 @@ static SETS: [(u32, &[u32], &str); 8] = [
 #[test]
 fn small_programs(rt: HostRuntime) -> Result<(), Fail> {
     for &(start, words, want) in &SETS {
-        let got = words_told(rt.alloc(), start, words)?;
-        assert_eq!(rt; got.as_str(), want);
+        compare_words(&rt, rt.alloc(), start, words, want)?;
     }
     Ok(())
 }

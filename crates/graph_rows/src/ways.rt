@@ -205,9 +205,9 @@ fn compare_potentials(
 ) {
     let graph = inequalities.graph;
     graph.graph_law();
-    assert_eq!(rt; found.nodes.as_slice(), least.nodes.as_slice());
-    assert_eq!(rt; found.loops.as_slice(), least.loops.as_slice());
-    assert_eq!(rt; found.cycles, inequalities.item(least, None, graph.first()));
+    assert!(rt; found.nodes.as_slice() == least.nodes.as_slice());
+    assert!(rt; found.loops.as_slice() == least.loops.as_slice());
+    assert!(rt; found.cycles == inequalities.item(least, None, graph.first()));
 }
 
 // Compares the bound of a graph with the fixpoint.
