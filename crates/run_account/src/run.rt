@@ -275,6 +275,22 @@ impl Trails {
     }
 }
 
+/// A reload with its jobs by task and number.
+fn entry(completions: &[Completion], reload: &Reload) -> Entry
+    requires job { reload.now.job < length completions.now }
+    requires evictor { reload.now.evictor < length completions.now }
+    requires preemptor { reload.now.preemptor < length completions.now }
+    ensures { result ≡ entry_from_completions completions.now reload.now }
+{
+    Entry {
+        job: completions[reload.job].job,
+        set: reload.set,
+        time: reload.time,
+        evictor: completions[reload.evictor].job,
+        preemptor: completions[reload.preemptor].job,
+    }
+}
+
 /// The reloads with their jobs by task and number.
 fn told(alloc: Global, completions: &[Completion], reloads: &[Reload]) -> Result<Vec<Entry>, Memory>
     requires jobs { (k : ℕ) (r : Reload) → slice_get reloads.now k ≡ Some r
@@ -288,14 +304,7 @@ fn told(alloc: Global, completions: &[Completion], reloads: &[Reload]) -> Result
 {
     let mut entries = Vec::new(alloc);
     for reload in reloads {
-        let entry = Entry {
-            job: completions[reload.job].job,
-            set: reload.set,
-            time: reload.time,
-            evictor: completions[reload.evictor].job,
-            preemptor: completions[reload.preemptor].job,
-        };
-        push(&mut entries, entry)?;
+        push(&mut entries, entry(completions, reload))?;
     }
     Ok(entries)
 }
