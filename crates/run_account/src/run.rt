@@ -9,7 +9,7 @@ ghost use Rattle.preempt_machine.specs.Running.{HasPlans};
 ghost use Rattle.preempt_machine.specs.Safe.{IsKept, NamesTasks};
 ghost use Rattle.preempt_machine.specs.Step.{state};
 ghost use Rattle.run_account.specs.Account.{IsAccount, HasAccountFacts};
-ghost use Rattle.run_account.specs.Inner.Account.{entry_from_completions};
+ghost use Rattle.run_account.specs.Inner.Account.{entry_from_completions, IsTold};
 ghost use Rattle.run_account.specs.Ledger.{IsLedger};
 ghost use Rattle.run_account.specs.Inner.Runs.{run_graphs, run_start, run_certificate, AreHits};
 ghost use Rattle.run_account.specs.Inner.Runs.{IsFetched, IsQuick, HasAccountInput, IsRunning};
@@ -309,6 +309,71 @@ fn told(alloc: Global, completions: &[Completion], reloads: &[Reload]) -> Result
     Ok(entries)
 }
 
+/// The account of a run, from the machine at its end and the reloads.
+fn tell(alloc: Global, machine: &Machine, reloads: &[Reload]) -> Result<Account, Memory>
+    requires jobs { (k : ℕ) (r : Reload) → slice_get reloads.now k ≡ Some r
+        → r.job < length machine.now.state.jobs }
+    requires evictors { (k : ℕ) (r : Reload) → slice_get reloads.now k ≡ Some r
+        → r.evictor < length machine.now.state.jobs }
+    requires preemptors { (k : ℕ) (r : Reload) → slice_get reloads.now k ≡ Some r
+        → r.preemptor < length machine.now.state.jobs }
+    ensures { IfOk result (IsTold machine.now.state reloads.now) }
+{
+    let completions = machine.completions();
+    let entries = told(alloc, completions, reloads)?;
+    let Ok(completions) = Vec::from_slice(alloc, completions) else {
+        return Err(Memory);
+    };
+    Ok(Account {
+        entries: Items::new(entries),
+        completions: Items::new(completions),
+        kept: machine.kept(),
+    })
+}
+
+impl Run<'_> {
+    /// Makes the run on a machine at its start, and gives what is noted of its fetches.
+    fn follow(&self, alloc: Global, machine: &mut Machine) -> Result<Trails, Memory>
+        requires ready { HasAccountInput self.now }
+        requires started { IsRunning self.now 0 machine.old }
+        ensures ledger { IfOk result
+            (λ trails. IsLedger (run_start self.now) (run_graphs self.now)
+            (run_certificate self.now) self.now.script.now.cycles
+            (map ledger_reload_of trails.reloads.items)) }
+        ensures state { OnOk result
+            (machine.new.state ≡ state (run_start self.now) self.now.script.now.cycles) }
+    {
+        let sets = self.set.platform.sets as usize;
+        let mut trails = Trails::new(alloc, self.script.jobs.len(), sets)?;
+        trails.follow_run(machine, self)?;
+        Ok(trails)
+    }
+
+    /// The account of the run, which a machine makes from its start.
+    fn account_on(&self, alloc: Global, machine: &mut Machine) -> Result<Account, Memory>
+        requires ready { HasAccountInput self.now }
+        requires started { IsRunning self.now 0 machine.old }
+        ensures { IfOk result
+            (IsAccount (run_start self.now) (run_graphs self.now) (run_certificate self.now)
+            self.now.script.now.cycles) }
+    {
+        let trails = self.follow(alloc, machine)?;
+        tell(alloc, machine, trails.reloads.as_slice())
+    }
+
+    /// The account of the run.
+    fn account(&self, alloc: Global) -> Result<Account, Memory>
+        requires ready { HasAccountInput self.now }
+        requires jobs { length self.now.script.now.jobs < 2 ^ 32 }
+        ensures { IfOk result
+            (IsAccount (run_start self.now) (run_graphs self.now) (run_certificate self.now)
+            self.now.script.now.cycles) }
+    {
+        let mut machine = Machine::load(alloc, self.code, self.set, self.script)?;
+        self.account_on(alloc, &mut machine)
+    }
+}
+
 /// The reloads of the run of a script from the script's start, for the script's cycles: the
 /// fetches, up to and including the first cycle in which a watch breaks, that miss at a node that
 /// its full state counts as a hit, in the order of their times. Each has the job of the last fetch
@@ -360,18 +425,5 @@ pub fn account(
         certificate,
         hits: hits.as_slice(),
     };
-    let jobs = script.jobs.len();
-    let mut trails = Trails::new(alloc, jobs, set.platform.sets as usize)?;
-    let mut machine = Machine::load(alloc, code, set, script)?;
-    trails.follow_run(&mut machine, &run)?;
-    let completions = machine.completions();
-    let entries = told(alloc, completions, trails.reloads.as_slice())?;
-    let Ok(completions) = Vec::from_slice(alloc, completions) else {
-        return Err(Memory);
-    };
-    Ok(Account {
-        entries: Items::new(entries),
-        completions: Items::new(completions),
-        kept: machine.kept(),
-    })
+    run.account(alloc)
 }
