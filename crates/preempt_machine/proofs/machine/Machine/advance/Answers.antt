@@ -1,7 +1,8 @@
 use Rattle.std.proofs.Common.{◌≡◌, ◌<◌, ◌&&◌, Bool, Some, ℕ, length, sym, ◌∙◌, ap, subst}
 use Rattle.std.specs.Prelude.{◌↔◌, IsTrue}
 use Rattle.preempt_machine.specs.Inner.KeptFlag.{owner_is_kept}
-use Rattle.preempt_machine.specs.Inner.Schedule.{machine_of}
+use Rattle.preempt_machine.specs.Inner.Schedule.{machine_of, running_of, HasMade}
+use Rattle.preempt_machine.specs.Running.{Running, HasPlans}
 use Rattle.preempt_machine.specs.Safe.{IsKept}
 use Rattle.preempt_machine.proofs.Watches.{flag_goes_on}
 use Rattle.preempt_machine.proofs.machine.Machine.advance.Goals as goal
@@ -30,3 +31,22 @@ invariant_of-self-2 c =
           (flag_goes_on (machine_of c.self.inside.parts) new flag c.in_ok-advance.ensures.owner
           below c.self.invariant.kept);
     }
+
+pub advance-requires-clause-machine : goal.advance-requires-clause-machine
+advance-requires-clause-machine c = c.self.invariant.machine
+
+pub advance-requires-clause-plans : goal.advance-requires-clause-plans
+advance-requires-clause-plans c =
+    subst (λ (m : Running). HasPlans c.args.code.now m.state) (sym c.self.view_is) c.requires.plans
+
+pub advance-requires-clause-before : goal.advance-requires-clause-before
+advance-requires-clause-before c =
+    subst (λ (m : Running). m.state.time < c.args.cycle) (sym c.self.view_is) c.requires.before
+
+pub returns-clause-ok : goal.returns-clause-ok
+returns-clause-ok c =
+    subst (λ (m : Running). HasMade c.args.code.now c.args.cycle m (running_of c.advance.new.self))
+    c.self.view_is c.in_ok-advance.ensures.ok
+
+pub returns-clause-plans : goal.returns-clause-plans
+returns-clause-plans c = c.in_ok-advance.ensures.plans
