@@ -1,5 +1,7 @@
 mod Back
 mod Adds
+mod Platforms
+mod Listed
 mod Next
 mod Pairs
 pub mod Ranged

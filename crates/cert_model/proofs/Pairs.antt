@@ -10,7 +10,7 @@ use Rattle.serde_json.specs.Data.{Data, Items, item}
 use Rattle.serde_json.specs.View.{view, items_view}
 use Rattle.serde_json.specs.declared.value.Value.{Value}
 use Rattle.cert_model.specs.Kinds.{pair, pairs_from, three_items}
-use Rattle.cert_model.proofs.Rising.{items_from}
+use Rattle.cert_model.proofs.Rising.{items_from, same_option}
 
 -- the two values at a place, and those behind them
 two_at : (vs : List Value) (i : ℕ) (a b : Value) → 2 * i + 1 < length vs → a ≡ get_or vs (2 * i) a
@@ -23,7 +23,7 @@ two_at vs i a b n p q =
     ∙ ap (item (view a)) (items_from vs (2 * i + 1) b n q
     ∙ ap (λ k. item (view b) (items_view (drop k vs))) e)
 
-front_moved : {A : Type 0} (front : List A) (x : A) (o : Option (List A))
+pub front_moved : {A : Type 0} (front : List A) (x : A) (o : Option (List A))
     → option_map (λ xs. front ++ xs) (option_map (λ xs. x ∷ xs) o)
     ≡ option_map (λ xs. (front ++ x ∷ []) ++ xs) o
 front_moved front x None = refl
@@ -33,6 +33,11 @@ abbrev with_pair : List (ℕ × ℕ) → ℕ → Items → Option (ℕ × ℕ) �
 with_pair front limit ds o =
     option_map (λ more. front ++ more)
     (option_and_then (λ p. option_map (λ more. p ∷ more) (pairs_from (p.0 + 1) limit ds)) o)
+
+pub pairs_start : (front : List (ℕ × ℕ)) (limit : ℕ) (vs : List Value) → front ≡ []
+    → option_map (λ more. front ++ more) (pairs_from 0 limit (items_view (drop (2 * 0) vs)))
+    ≡ pairs_from 0 limit (items_view vs)
+pairs_start front limit vs e = rw e (same_option (pairs_from 0 limit (items_view vs)))
 
 pub pairs_more : (front new : List (ℕ × ℕ)) (low limit : ℕ) (vs : List Value) (i set : ℕ)
     (a b : Value) (p : ℕ × ℕ) (all : Option (List (ℕ × ℕ))) → 2 * i + 1 < length vs

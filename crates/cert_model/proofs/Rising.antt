@@ -102,9 +102,9 @@ pub record Rose (limit low : ℕ) (set : List ℕ) (rest : Items) (all : Option 
   pub numbers : (t : ℕ) → member set t ≡ flag (is_in t front)
   pub read : option_map (λ ns. front ++ ns) (rising low limit rest) ≡ all
 
-same_option : (o : Option (List ℕ)) → option_map (λ ns. [] ++ ns) o ≡ o
+pub same_option : {A : Type 0} (o : Option (List A)) → option_map (λ xs. [] ++ xs) o ≡ o
 same_option None = refl
-same_option (Some ns) = refl
+same_option (Some xs) = refl
 
 pub rose_none : (limit : ℕ) (set : List ℕ) (items : Items) → ((t : ℕ) → member set t ≡ 0)
     → Rose limit 0 set items (rising 0 limit items)

@@ -1,3 +1,4 @@
 -- What contracts inside the crate alone cite; no clause of a public call reaches it.
+pub mod Platforms
 pub mod Ranges
 pub mod Tokens

@@ -5,20 +5,15 @@ ghost use Rattle.serde_json.specs.View.{members_view};
 ghost use Rattle.crpd_base.specs.Outcome.{Gives};
 ghost use Rattle.cert_model.specs.Keys.{required};
 ghost use Rattle.cert_model.specs.Kinds as kind;
+ghost use Rattle.cert_model.specs.Inner.Platforms as inner;
 ghost use Rattle.cert_model.specs.Reading as spec;
 
 use crate::fault::CertError;
 use crate::keys::Keys;
 use crate::kinds::{line, switching};
 use crate::version::Version;
-use crpd_base::{MOST_COST, Platform, SETS, Switching};
+use crpd_base::{MOST_COST, Platform, Switching};
 use std::alloc::Global;
-
-/// The most cache sets of a platform.
-const MOST_SETS: u32 = SETS as u32;
-
-/// The most cache sets of a platform of version 1.
-const FIRST_SETS: u32 = 256;
 
 #[tactic(auto, unfolding(crate::specs::Keys::required))]
 fn line_at(alloc: Global, keys: Keys) -> Result<u32, CertError>
@@ -26,7 +21,8 @@ fn line_at(alloc: Global, keys: Keys) -> Result<u32, CertError>
         (required kind.line_bytes keys.entry.path.now (codes "line")
         (members_view keys.entry.object.now.entries)) }
 {
-    keys.good(alloc, "line", line(keys.present(alloc, "line")?))
+    let value = keys.present(alloc, "line")?;
+    keys.good(alloc, "line", line(value))
 }
 
 #[tactic(auto, unfolding(crate::specs::Keys::required))]
@@ -35,11 +31,20 @@ fn switching_at(alloc: Global, keys: Keys) -> Result<Switching, CertError>
         (required kind.switching keys.entry.path.now (codes "switching")
         (members_view keys.entry.object.now.entries)) }
 {
-    keys.good(
-        alloc,
-        "switching",
-        switching(keys.present(alloc, "switching")?),
-    )
+    let value = keys.present(alloc, "switching")?;
+    keys.good(alloc, "switching", switching(value))
+}
+
+/// Where a switch may happen: in version 1, which has no key for it, in every cycle.
+fn later_switching_at(alloc: Global, version: Version, keys: Keys) -> Result<Switching, CertError>
+    ensures { Gives CertError.Memory (λ x. x) result
+        (inner.later_switching version keys.entry.path.now
+        (members_view keys.entry.object.now.entries)) }
+{
+    match version {
+        Version::First => Ok(Switching::Cycle),
+        Version::Second => switching_at(alloc, keys),
+    }
 }
 
 fn cycles_at(alloc: Global, keys: Keys, key: &str) -> Result<u32, CertError>
@@ -50,48 +55,34 @@ fn cycles_at(alloc: Global, keys: Keys, key: &str) -> Result<u32, CertError>
     keys.small_number(alloc, key, 0, MOST_COST)
 }
 
-/// A platform of version 1, which has no cycles for multiplication and division.
-#[tactic(auto, unfolding(crate::specs::Reading::first_platform))]
-fn first_platform(alloc: Global, keys: Keys) -> Result<Platform, CertError>
+/// A number of cycles: in version 1, which has no key for it, 0.
+fn later_cycles_at(alloc: Global, version: Version, keys: Keys, key: &str) -> Result<u32, CertError>
     ensures { Gives CertError.Memory (λ x. x) result
-        (spec.first_platform keys.entry.path.now (members_view keys.entry.object.now.entries)) }
+        (inner.later_cycles version keys.entry.path.now key.now
+        (members_view keys.entry.object.now.entries)) }
 {
-    let memory = cycles_at(alloc, keys, "data")?;
-    let hit = keys.small_number(alloc, "hit", 1, MOST_COST)?;
-    let line = line_at(alloc, keys)?;
-    let miss = cycles_at(alloc, keys, "miss")?;
-    let sets = keys.small_number(alloc, "sets", 1, FIRST_SETS)?;
-    let switch = cycles_at(alloc, keys, "switch")?;
-    let taken = cycles_at(alloc, keys, "taken")?;
-    Ok(Platform {
-        line,
-        sets,
-        hit,
-        miss,
-        memory,
-        taken,
-        switch,
-        mul: 0,
-        div: 0,
-        switching: Switching::Cycle,
-    })
+    match version {
+        Version::First => Ok(0),
+        Version::Second => cycles_at(alloc, keys, key),
+    }
 }
 
-/// A platform of version 2.
-#[tactic(auto, unfolding(crate::specs::Reading::second_platform))]
-fn second_platform(alloc: Global, keys: Keys) -> Result<Platform, CertError>
+/// What the keys of a platform say.
+#[tactic(auto, unfolding(crate::specs::Inner::Platforms::platform_keys))]
+fn platform_keys(alloc: Global, version: Version, keys: Keys) -> Result<Platform, CertError>
     ensures { Gives CertError.Memory (λ x. x) result
-        (spec.second_platform keys.entry.path.now (members_view keys.entry.object.now.entries)) }
+        (inner.platform_keys version keys.entry.path.now
+        (members_view keys.entry.object.now.entries)) }
 {
     let memory = cycles_at(alloc, keys, "data")?;
-    let div = cycles_at(alloc, keys, "div")?;
+    let div = later_cycles_at(alloc, version, keys, "div")?;
     let hit = keys.small_number(alloc, "hit", 1, MOST_COST)?;
     let line = line_at(alloc, keys)?;
     let miss = cycles_at(alloc, keys, "miss")?;
-    let mul = cycles_at(alloc, keys, "mul")?;
-    let sets = keys.small_number(alloc, "sets", 1, MOST_SETS)?;
+    let mul = later_cycles_at(alloc, version, keys, "mul")?;
+    let sets = keys.small_number(alloc, "sets", 1, version.most_sets() as u32)?;
     let switch = cycles_at(alloc, keys, "switch")?;
-    let switching = switching_at(alloc, keys)?;
+    let switching = later_switching_at(alloc, version, keys)?;
     let taken = cycles_at(alloc, keys, "taken")?;
     Ok(Platform {
         line,
@@ -115,8 +106,5 @@ pub fn platform_at(alloc: Global, version: Version, keys: Keys) -> Result<Platfo
         (spec.platform_at version keys.entry.path.now
         (members_view keys.entry.object.now.entries)) }
 {
-    match version {
-        Version::First => first_platform(alloc, keys),
-        Version::Second => second_platform(alloc, keys),
-    }
+    platform_keys(alloc, version, keys)
 }

@@ -95,7 +95,8 @@ fn counted(certificate: Certificate) -> Result<Certificate, CertError>
     ensures { result ≡ spec.within_entry_limit certificate }
 {
     let entries = entries(certificate.tasks.as_slice());
-    if entries > MOST_ENTRIES {
+    let too_many = entries > MOST_ENTRIES;
+    if too_many {
         return Err(CertError::TooLong(entries));
     }
     Ok(certificate)

@@ -48,7 +48,8 @@ fn potentials_at(
         (members_view keys.entry.object.now.entries)) }
 {
     let value = keys.present(alloc, key)?;
-    keys.good(alloc, key, potentials(alloc, version.most_nodes(), value)?)
+    let found = potentials(alloc, version.most_nodes(), value)?;
+    keys.good(alloc, key, found)
 }
 
 #[tactic(auto, unfolding(crate::specs::Keys::required))]
@@ -57,7 +58,8 @@ fn method_at(alloc: Global, keys: Keys) -> Result<Method, CertError>
         (required kind.method keys.entry.path.now (codes "method")
         (members_view keys.entry.object.now.entries)) }
 {
-    keys.good(alloc, "method", method(keys.present(alloc, "method")?))
+    let value = keys.present(alloc, "method")?;
+    keys.good(alloc, "method", method(value))
 }
 
 #[tactic(auto, using(crate::proofs::Seen::good_seen), unfolding(crate::specs::Keys::required))]
@@ -67,7 +69,8 @@ fn name_at(alloc: Global, keys: Keys) -> Result<String, CertError>
         (members_view keys.entry.object.now.entries)) }
 {
     let value = keys.present(alloc, "name")?;
-    keys.good(alloc, "name", name(alloc, value)?)
+    let found = name(alloc, value)?;
+    keys.good(alloc, "name", found)
 }
 
 #[tactic(auto, using(crate::proofs::Seen::good_seen), unfolding(crate::specs::Keys::required))]
@@ -140,7 +143,8 @@ fn each_task(
 {
     let mut tasks = Vec::new(alloc);
     for (i, object) in objects.iter().enumerate() {
-        tasks.push(task_at(alloc, version, i, object)?)?;
+        let task = task_at(alloc, version, i, object)?;
+        tasks.push(task)?;
     }
     Ok(tasks)
 }
@@ -156,7 +160,8 @@ fn task_objects<'a>(
         (members_view keys.entry.object.now.entries)) }
 {
     let value = keys.present(alloc, "tasks")?;
-    keys.good(alloc, "tasks", objects(alloc, version.most_tasks(), value)?)
+    let found = objects(alloc, version.most_tasks(), value)?;
+    keys.good(alloc, "tasks", found)
 }
 
 #[tactic(auto, unfolding(crate::specs::Reading::tasks_at))]

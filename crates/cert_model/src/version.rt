@@ -6,7 +6,7 @@ ghost use Rattle.cert_model.specs.Reading as spec;
 use crpd_base::{MOST_NODES, MOST_TASKS, SETS};
 
 /// The form of a certificate's text.
-#[derive(Clone, Copy, Debug, PartialEq, Eq)]
+#[derive(Clone, Copy)]
 pub enum Version {
     /// Version 1, which is read and never written.
     First,

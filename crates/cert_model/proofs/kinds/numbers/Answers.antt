@@ -1,9 +1,39 @@
-use Rattle.std.proofs.Common.{arith}
-use Rattle.std.proofs.lemmas.Grind.{common_steps}
+use Rattle.std.proofs.Common.{◌^◌, ℕ, Option, ◌∙◌, ap}
+use Rattle.std.specs.Prelude.{option_and_then}
+use Rattle.serde_json.specs.Data.{Data}
+use Rattle.serde_json.specs.View.{view}
+use Rattle.cert_model.specs.Kinds.{all_of, whole}
+use Rattle.cert_model.proofs.Listed.{items_start, item_more, item_fault, items_all, of_list}
 use Rattle.cert_model.proofs.kinds.numbers.Goals as goal
 
+abbrev time : Data → Option ℕ
+time = whole 0 (2 ^ 40)
+
+pub returns-in_default : goal.returns-in_default
+returns-in_default c = ap (option_and_then (all_of time)) c.in_default.ensures
+
+pub loop-value-init : goal.loop-value-init
+loop-value-init c =
+    items_start time c.new-found.result.items c.deref-value-items.result.now
+    c.new-found.ensures.items
+
+pub returns-in_default-whole : goal.returns-in_default-whole
+returns-in_default-whole c =
+    item_fault time c.loop-value.found.items c.deref-value-items.result.now c.loop-value.value-index
+    c.value-item.result _ c.loop-value-test.true c.value-item.is c.in_default-whole.ensures.is
+    c.loop-value.invariant
+    ∙ of_list time (view c.args.value.now) c.deref-value-items.result.now
+    c.in-Some.values.now.items c.deref-value-items.ensures.value c.in-Some.ensures
+
 pub loop-value-preserved : goal.loop-value-preserved
-loop-value-preserved c = grind (arith, common_steps)
+loop-value-preserved c =
+    item_more time c.loop-value.found.items c.push.new.self.items c.deref-value-items.result.now
+    c.loop-value.value-index c.value-item.result c.in-Some-whole.number _ c.loop-value-test.true
+    c.value-item.is c.in-Some-whole.ensures.is c.in_ok-push.ensures.items c.loop-value.invariant
 
 pub returns : goal.returns
-returns c = grind (arith, common_steps)
+returns c =
+    items_all time c.loop-value.found.items c.deref-value-items.result.now c.loop-value.value-index
+    _ c.loop-value-test.false c.loop-value.invariant
+    ∙ of_list time (view c.args.value.now) c.deref-value-items.result.now
+    c.in-Some.values.now.items c.deref-value-items.ensures.value c.in-Some.ensures
