@@ -8,4 +8,5 @@ pub mod Ranged
 mod Trees
 mod Rising
 mod Seen
+mod Steps
 mod Texts

@@ -1,6 +1,5 @@
--- The keys of a platform in one order for both versions are those of each version; and steps up to
--- the first refusal.
-use Rattle.std.proofs.Common.{◌≡◌, List, ℕ, Result, Ok, Err, refl}
+-- The keys of a platform in one order for both versions are those of each version.
+use Rattle.std.proofs.Common.{◌≡◌, List, ℕ, refl}
 use Rattle.serde_json.specs.Data.{Members}
 use Rattle.cert_model.specs.declared.version.Version.{Version}
 use Rattle.cert_model.specs.declared.version.Version.TheVariants.{First, Second}

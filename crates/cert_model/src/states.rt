@@ -47,11 +47,8 @@ fn sure_pairs(
         low = u64::from(next.0) + 1;
         found.push(next)?;
     }
-    if values.len() % 2 == 0 {
-        Ok(Some(found))
-    } else {
-        Ok(None)
-    }
+    let even = values.len() % 2 == 0;
+    if even { Ok(Some(found)) } else { Ok(None) }
 }
 
 /// A node with its sure pairs and its useful sets.

@@ -7,6 +7,7 @@ pub mod OneGraph
 pub mod OneNest
 pub mod OneJudgement
 pub mod Plans
+mod Readers
 mod Nests
 mod Bounds
 pub mod Built

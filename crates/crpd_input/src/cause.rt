@@ -3,7 +3,7 @@ ghost use Rattle.std.specs.Prelude.{◌≡◌};
 ghost use Rattle.crpd_input.specs.Causes.{cause_row as row_of};
 
 /// Why something is refused. Where nothing else is said, the refusal has no detail.
-#[derive(Clone, Copy, Debug, PartialEq, Eq)]
+#[derive(Clone, Copy)]
 pub enum Cause {
     /// An ELF file has fewer than 52 bytes.
     Short,
@@ -114,7 +114,7 @@ pub enum Cause {
 }
 
 // The number and the name of each cause, in the order of the causes.
-const ROWS: [(u32, &str); 50] = [
+static ROWS: [(u32, &str); 50] = [
     (1, "Short"),
     (2, "NotElf"),
     (3, "NotElf32Little"),

@@ -1,4 +1,4 @@
-use Rattle.std.proofs.Common.{Result, sym, subst}
+use Rattle.std.proofs.Common.{Result, subst}
 use Rattle.crpd_base.specs.Outcome.{Gives}
 use Rattle.crpd_base.specs.declared.data.Platform.{Platform}
 use Rattle.serde_json.specs.View.{members_view}

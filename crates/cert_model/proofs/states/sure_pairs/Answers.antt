@@ -37,16 +37,16 @@ loop-i-preserved c = record {
       c.loop-i.invariant.read;
 }
 
-pub returns-else-len-eq0 : goal.returns-else-len-eq0
+pub returns-else-even : goal.returns-else-even
 unfolding sure_pairs
-returns-else-len-eq0 c =
+returns-else-even c =
     sym (pairs_odd c.loop-i.found.items c.loop-i.low c.args.limit c.in-Some.values.now.items
     c.loop-i.i _ (omega (arith, c.len.ensures, c.len-i-end.ensures)) c.loop-i.invariant.read)
     ∙ ap (option_and_then (pairs_from 0 c.args.limit)) c.in-Some.ensures
 
-pub returns-then-len-eq0 : goal.returns-then-len-eq0
+pub returns-then-even : goal.returns-then-even
 unfolding sure_pairs
-returns-then-len-eq0 c =
+returns-then-even c =
     sym (pairs_all c.loop-i.found.items c.loop-i.low c.args.limit c.in-Some.values.now.items
     c.loop-i.i _ (omega (arith, c.len.ensures, c.len-i-end.ensures)) c.loop-i.invariant.read)
     ∙ ap (option_and_then (pairs_from 0 c.args.limit)) c.in-Some.ensures

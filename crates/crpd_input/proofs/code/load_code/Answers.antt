@@ -1,8 +1,11 @@
-use Rattle.std.proofs.Common.{◌∙◌, List, length, ap}
+use Rattle.std.proofs.Common.{◌∙◌, List, Ok, length, ap, sym, rules}
 use Rattle.crpd_base.specs.declared.data.Image.{Image}
 use Rattle.crpd_base.specs.declared.data.TaskSpec.{TaskSpec}
+use Rattle.code_map.specs.Reading.{code_of}
+use Rattle.crpd_input.specs.Reading.{images_in, map_halt}
 use Rattle.crpd_input.proofs.Bounds.{code_bounded}
 use Rattle.crpd_input.proofs.OwnImages.{images_count}
+use Rattle.crpd_input.proofs.Readers.{read, refused, no_fault}
 use Rattle.crpd_input.proofs.code.load_code.Goals as goal
 
 pub returns-in-Ok-clause-count : goal.returns-in-Ok-clause-count
@@ -15,3 +18,25 @@ pub returns-in-Ok-clause-bounded : goal.returns-in-Ok-clause-bounded
 returns-in-Ok-clause-bounded g c =
     code_bounded c.args.set.now c.into_vec.result.items c.in-Ok.code c.requires.ranges.each
     c.in-Ok.ensures
+
+pub returns-in-Ok-clause-exact : goal.returns-in-Ok-clause-exact
+returns-in-Ok-clause-exact g c = λ contents told.
+    read (map_halt c.args.name.now c.args.set.now) (code_of c.args.set.now) (images_in contents c.args.set.now.tasks)
+    c.into_vec.result.items c.in-Ok.code
+    (ap (images_in contents) (sym c.as_slice.ensures)
+    ∙ c.in_ok-images.ensures.exact contents told
+    ∙ ap (λ (is : List Image). Ok is) (sym c.into_vec.ensures))
+    c.in-Ok.ensures
+
+pub returns-in-Err-clause-exact : goal.returns-in-Err-clause-exact
+returns-in-Err-clause-exact g c = λ contents told.
+    refused (map_halt c.args.name.now c.args.set.now) (code_of c.args.set.now) (images_in contents c.args.set.now.tasks)
+    c.into_vec.result.items c.in-Err.error c.map_halt.result
+    (ap (images_in contents) (sym c.as_slice.ensures)
+    ∙ c.in_ok-images.ensures.exact contents told
+    ∙ ap (λ (is : List Image). Ok is) (sym c.into_vec.ensures))
+    (c.in-Err.ensures (search rules)) c.map_halt.ensures
+
+pub returns-in-Err-clause-fault : goal.returns-in-Err-clause-fault
+returns-in-Err-clause-fault g c = λ e.
+    absurd (no_fault (map_halt c.args.name.now c.args.set.now c.in-Err.error) c.map_halt.result c.map_halt.ensures e)

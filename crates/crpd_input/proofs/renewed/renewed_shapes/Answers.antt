@@ -1,4 +1,5 @@
-use Rattle.std.proofs.Common.{List, Ok, Err, subst}
+use Rattle.std.proofs.Common.{List, Ok, Err, inl, refl, subst}
+use Rattle.cert_check.specs.TaskGraphs.{AreTaskGraphs}
 use Rattle.flat_graph.specs.CodeGraph.{CodeGraph}
 use Rattle.crpd_input.specs.Graphs.{GraphsIn, RegionsIn}
 use Rattle.crpd_input.specs.Steps.{Exactly, StopsBy, Then}
@@ -16,3 +17,21 @@ returns-clause-exact c =
     (λ nests. Exactly (Ok (record { graphs = c.in_ok-graphs.graphs; nests = nests }))) c.in-Err.halt
     (subst (λ (gs : List CodeGraph). StopsBy (RegionsIn c.args.input.now gs) c.in-Err.halt)
     c.as_slice.ensures c.in-Err.ensures.exact))
+
+pub returns-in-Ok-clause-exact : goal.returns-in-Ok-clause-exact
+returns-in-Ok-clause-exact c =
+    inl (
+      c.in_ok-graphs.graphs,
+      c.in_ok-graphs.ensures.exact,
+      inl (
+        c.in-Ok.nests,
+        subst (λ (gs : List CodeGraph). RegionsIn c.args.input.now gs (Ok c.in-Ok.nests))
+            c.as_slice.ensures c.in-Ok.ensures.exact,
+        refl,
+      ),
+    )
+
+pub returns-in-Ok-clause-shown : goal.returns-in-Ok-clause-shown
+returns-in-Ok-clause-shown c =
+    subst (λ (gs : List CodeGraph). AreTaskGraphs c.args.input.now.set gs c.in-Ok.nests)
+    c.as_slice.ensures c.in-Ok.ensures.shown

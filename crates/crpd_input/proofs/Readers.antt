@@ -1,0 +1,27 @@
+-- A step, and then a reader of what it gave.
+use Rattle.std.proofs.Common.{◌≡◌, Result, Ok, Err, refl, ap, sym}
+use Rattle.std.specs.Prelude.{IsErrOf}
+use Rattle.crpd_input.specs.declared.halt.Halt.{Halt}
+use Rattle.crpd_input.specs.declared.halt.Halt.TheVariants.{Refused, Memory, Fault}
+use Rattle.crpd_input.specs.Steps.{IsRefusal, Stops, and_then, or_refused}
+
+module _ {X A E : Type 0} (halt_of : E → Halt) (reading : X → Result A E) where
+  -- the step gave a value, and so did the reader
+  pub read : (step : Result X Halt) (x : X) (a : A) → step ≡ Ok x → reading x ≡ Ok a
+      → and_then step (λ y. or_refused halt_of (reading y)) ≡ Ok a
+  read step x a given is = rw (given, is) refl
+
+  -- the step gave a value, and the reader refused it
+  pub refused : (step : Result X Halt) (x : X) (e : E) (halt : Halt) → step ≡ Ok x
+      → reading x ≡ Err e → IsRefusal (halt_of e) halt
+      → Stops (and_then step (λ y. or_refused halt_of (reading y))) halt
+  refused step x e (Refused r) given is stop = rw (given, is) (ap (λ h. Err h) (sym stop))
+  refused step x e Memory given is stop = tt
+  refused step x e Fault given is stop = tt
+
+-- a refusal, or want of memory, is no fault
+pub no_fault : {A : Type 0} (meant halt : Halt) → IsRefusal meant halt
+    → IsErrOf {T = A} (Err halt) Fault → ⊥
+no_fault meant (Refused r) stop e = absurd cc
+no_fault meant Memory stop e = absurd cc
+no_fault meant Fault stop e = stop
