@@ -18,6 +18,9 @@ returns-in_err-number c =
     (items_from c.args.values.now c.loop-value.value-index c.value-item.result
     c.loop-value-test.true c.value-item.is) c.loop-value.invariant.rose c.in_err-number.ensures.is))
 
+pub insert-requires : goal.insert-requires
+insert-requires c = omega (arith, c.in_ok-number.ensures.bound, c.requires)
+
 pub loop-value-preserved : goal.loop-value-preserved
 loop-value-preserved c = record {
   small = omega (arith, c.in_ok-number.ensures.bound);
