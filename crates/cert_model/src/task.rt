@@ -143,8 +143,7 @@ fn each_task(
 {
     let mut tasks = Vec::new(alloc);
     for (i, object) in objects.iter().enumerate() {
-        let task = task_at(alloc, version, i, object)?;
-        tasks.push(task)?;
+        tasks.push(task_at(alloc, version, i, object)?)?;
     }
     Ok(tasks)
 }
