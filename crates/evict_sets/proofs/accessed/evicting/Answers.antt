@@ -1,7 +1,6 @@
-use Rattle.std.proofs.Common.{◌≡◌, ◌↔◌, IsTrue, length, ◌∙◌, sym, ap, subst, arith}
+use Rattle.std.proofs.Common.{◌≡◌, ◌↔◌, IsTrue, length, subst, arith}
 use Rattle.crpd_base.specs.Sets.{has}
 use Rattle.icache.specs.Accesses.{accesses}
-use Rattle.icache.specs.Cache.{block_of, set_of}
 use Rattle.flat_graph.specs.CodeGraph.{places_of}
 use Rattle.evict_sets.specs.Evicting.{IsAccessedBelow}
 use Rattle.evict_sets.proofs.Collected.{none_accessed, more_accessed}
@@ -16,9 +15,7 @@ pub loop-node-preserved : goal.loop-node-preserved
 loop-node-preserved g c =
     let p = c.args.geometry.now.platform in
     let a = accesses p (places_of c.args.graph.now).address in
-    let at : a.set c.loop-node.node ≡ c.set.result =
-    sym (c.set.ensures
-    ∙ ap (set_of p) (c.block.ensures ∙ ap (block_of p) c.address-address.ensures)) in
+    let at : a.set c.loop-node.node ≡ c.set.result = cc in
     more_accessed a c.loop-node.accessed c.insert.new.self c.loop-node.node c.set.result at
     c.insert.ensures c.loop-node.invariant
 
