@@ -1,7 +1,7 @@
 use Rattle.std.proofs.Common.{arith, ◌≡◌, suc, ap, ◌∙◌, ◌*◌, ◌-◌}
 use Rattle.std.specs.Prelude.{slice_index}
 use Rattle.delay_count.proofs.Bits.{share_none, share_full, share_last, share_split, share_within}
-use Rattle.delay_count.proofs.Bits.{product, sum_of}
+use Rattle.delay_count.proofs.Bits.{product}
 use Rattle.delay_count.proofs.union.+share_of_word.Goals as goal
 
 pub returns-then-word-eq0 : goal.returns-then-word-eq0
@@ -61,7 +61,8 @@ overflow_add-result t c =
 pub returns : goal.returns
 returns t c =
     let e : c.args.tasks ≡ suc (c.args.tasks - 1) = omega arith in
-    sum_of _ _ _ _ c.share_of_word.ensures c.share_of_word-2.ensures
-    ∙ share_split c.args.jobs (slice_index c.args.useful.now) (slice_index c.args.counts.now)
+    let split =
+    share_split c.args.jobs (slice_index c.args.useful.now) (slice_index c.args.counts.now)
     c.args.word c.args.tasks (c.args.tasks - 1) c.args.counted
-    (omega (arith, c.type_inv.useful (c.args.tasks - 1))) e
+    (omega (arith, c.type_inv.useful (c.args.tasks - 1))) e in
+    omega (arith, split)
