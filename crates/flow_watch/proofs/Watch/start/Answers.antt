@@ -1,4 +1,4 @@
-use Rattle.std.proofs.Common.{ℕ, List, [], ◌∷◌, length, ap, ◌∙◌}
+use Rattle.std.proofs.Common.{ℕ, List, [], ◌∷◌, ap, ◌∙◌}
 use Rattle.rv_decode.specs.Address.{end_address}
 use Rattle.flow_watch.specs.Watch.{arrive}
 use Rattle.flow_watch.proofs.Frames.{closed}
