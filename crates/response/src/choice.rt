@@ -87,7 +87,8 @@ pub fn smaller(ucb: Option<u64>, ecb: Option<u64>) -> Option<Choice>
             method: Method::Ecb,
         }),
         (Some(first), Some(second)) => {
-            if first <= second {
+            let ucb_first = first <= second;
+            if ucb_first {
                 Some(Choice {
                     window: first,
                     method: Method::Ucb,

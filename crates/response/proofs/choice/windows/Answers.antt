@@ -1,14 +1,19 @@
 use Rattle.std.proofs.Common.{arith, ◌≡◌, ◌+◌, ◌++◌, ◌∷◌, [], ◌∙◌, ap, length, length-set}
-use Rattle.std.proofs.Common.{length-append, not, ◌<◌}
+use Rattle.std.proofs.Common.{length-append, not, ◌<◌, ℕ, refl}
 use Rattle.std.specs.Prelude.{slice_index, if◌then◌else◌}
+use Rattle.crpd_base.specs.declared.data.TaskSet.{TaskSet}
 use Rattle.crpd_base.specs.declared.data.Method.TheVariants.{Ucb, Ecb}
 use Rattle.delay_count.specs.Gamma.{part_at}
 use Rattle.delay_count.specs.Demand.{demand}
-use Rattle.response.specs.Windows.{window_at}
+use Rattle.response.specs.Windows.{Demand, IsFirstWithoutWindow, window_at}
 use Rattle.response.proofs.WindowLaws.{chosen_none, chosen_some, none_too, smaller_is_window}
 use Rattle.response.proofs.Choices.{choices_more, found_more, deadlines_more}
 use Rattle.response.proofs.Least.{looks_above}
 use Rattle.response.proofs.choice.windows.Goals as goal
+
+first_at : (set : TaskSet) (demand : Demand) (i n : ℕ) → n ≡ i
+    → IsFirstWithoutWindow set demand i → IsFirstWithoutWindow set demand n
+first_at set demand i n is first = rw is first
 
 pub returns-in-None : goal.returns-in-None
 returns-in-None c =
@@ -22,7 +27,9 @@ returns-in-None c =
     (slice_index c.args.longest.now) (c.loop-i.i + 1) c.requires.times (omega (arith, task))
     (slice_index c.loop-i.found) (window_at c.loop-i.choices.items) c.loop-i.i
     (omega arith) c.loop-i.invariant.same in
-    record {
+    first_at c.args.set.now
+    (demand c.args.set.now (part_at c.args.parts.now) (slice_index c.args.longest.now)) c.loop-i.i _
+    refl (record {
       task = task;
       higher = c.loop-i.choices.items;
       size = c.loop-i.invariant.size;
@@ -39,7 +46,7 @@ returns-in-None c =
           (slice_index c.loop-i.found) c.loop-i.i Ecb)
           (demand c.args.set.now (part_at c.args.parts.now) (slice_index c.args.longest.now)
           (window_at c.loop-i.choices.items) c.loop-i.i Ecb) c.loop-i.i (same Ecb) none.1;
-    }
+    })
 
 pub loop-i-preserved : goal.loop-i-preserved
 loop-i-preserved c =
