@@ -4,7 +4,7 @@ use Rattle.std.proofs.Common.{true, false, List, [], ◌∷◌, ◌++◌, length
 use Rattle.std.proofs.Common.{map, replicate, slice_index, IfSome, Option, Some, None}
 use Rattle.std.proofs.Common.{option_and_then, refl, sym, ◌∙◌, ap, subst, arith, length-append}
 use Rattle.std.proofs.Common.{eq-eqb, get_or-set_same, get_or-set_other}
-use Rattle.std.proofs.lemmas.Bool.{lt-ltb, ne_eqb}
+use Rattle.std.proofs.lemmas.Bool.{lt-ltb, le-ltb, ne_eqb}
 use Rattle.std.proofs.Math.Nat.{mul-le-mul_right}
 use Rattle.std.proofs.Math.Seq.{take-suc}
 use Rattle.std.proofs.lemmas.List.{drop-take, take-take, take_at, drop_at, length-take-le}
@@ -267,6 +267,16 @@ pushed_frames plan n from calls turns (suc k) w ws new u some room loops clear w
     lt-ltb (length (frames_of n calls turns (suc k))) 17 (omega arith) in
     let top : frame_row n new (suc k) ≡ ws = wrote.here in
     rw (at_k, at_top, top, here, below, zeros, ← u.is, few) refl
+
+-- with seventeen frames a call breaks the watch
+pub full :
+    (plan : TaskPlan) (n from : ℕ) (calls turns : List ℕ) (frames : ℕ) (w : Watch)
+    → IsInUse n calls turns frames w → 17 ≤ frames
+    → None ≡ option_and_then (frames_after_call plan from) w
+full plan n from calls turns frames w u many =
+    let len = length-frames_of n calls turns frames in
+    let b = le-ltb (length (frames_of n calls turns frames)) 17 (omega (arith, len)) in
+    rw (← u.is) (rw b refl)
 
 -- a watch whose bottom frame was not popped has a frame in use
 pub some_frames :
