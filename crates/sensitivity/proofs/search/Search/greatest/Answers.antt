@@ -1,4 +1,5 @@
-use Rattle.std.proofs.Common.{◌∙◌, arith}
+use Rattle.std.proofs.Common.{◌∙◌, ap, arith}
+use Rattle.crpd_base.specs.declared.data.TaskSet.{TaskSet}
 use Rattle.flat_graph.specs.CodeGraph.{no_graph}
 use Rattle.cert_check.specs.TaskGraphs.{task_graph_at}
 use Rattle.crpd_base.proofs.Times.{has_times}
@@ -40,3 +41,21 @@ returns c =
     (λ x lt. c.loop-low.invariant.accepted x (omega (arith, lt, c.loop-low-test.false)))
     c.loop-low.invariant.stop
     c.checked_sub.result (below_by c.checked_sub.result c.loop-low.high c.checked_sub.ensures)
+
+pub loop-low-init : goal.loop-low-init
+loop-low-init c = record {
+  order = omega arith;
+  most = omega arith;
+  trial = c.stop_at.ensures.trial ∙ ap (λ (set : TaskSet). set.tasks) c.in-Ok.ensures;
+  accepted = λ x lt. absurd (omega (arith, lt));
+  stop = rw c.in-Some.is at c.in_ok-stop.ensures.judged;
+}
+
+pub loop-low-preserved : goal.loop-low-preserved
+loop-low-preserved c = record {
+  order = omega arith;
+  most = omega (arith, c.loop-low.invariant.most);
+  trial = c.stop_at-in-loop-low.ensures.trial ∙ c.loop-low.invariant.trial;
+  accepted = c.loop-low.invariant.accepted;
+  stop = rw c.in-Some-2.is at c.in_ok-stop_at.ensures.judged;
+}
