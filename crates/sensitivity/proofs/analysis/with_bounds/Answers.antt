@@ -1,10 +1,9 @@
 use Rattle.std.proofs.Common.{◌≡◌, ◌≤◌, ◌<◌, Bool, List, length, get_or, ◌∷◌, [], ◌++◌, ◌∙◌, sym}
-use Rattle.std.proofs.Common.{ℕ, ap, subst, length-append, not, arith, refl}
+use Rattle.std.proofs.Common.{ap, subst, length-append, not, arith}
 use Rattle.std.proofs.lemmas.List.{get_or_default}
 use Rattle.std.specs.Prelude.{if◌then◌else◌}
 use Rattle.crpd_base.proofs.Elements.{pushed_each}
 use Rattle.crpd_base.specs.declared.data.Part.{Part}
-use Rattle.crpd_base.specs.declared.data.TaskSet.{TaskSet}
 use Rattle.delay_count.specs.Gamma.{part_at}
 use Rattle.loop_regions.specs.TaskGraph.{TaskGraph}
 use Rattle.flat_graph.specs.CodeGraph.{CodeGraph}
@@ -12,7 +11,7 @@ use Rattle.loop_regions.specs.CodeNest.{CodeNest}
 use Rattle.cert_check.specs.TaskGraphs.{task_graph, task_graph_at, nest_at}
 use Rattle.cert_check.proofs.Tasks.{graph_is, nest_is}
 use Rattle.exec_bound.specs.Costs.{greatest_bound}
-use Rattle.sensitivity.specs.Accepted.{IsLeastBound, IsAnalysedPart, IsFirstTooLarge}
+use Rattle.sensitivity.specs.Accepted.{IsLeastBound, IsAnalysedPart}
 use Rattle.sensitivity.specs.Inner.Found.{IsLarge, TellsHits}
 use Rattle.sensitivity.proofs.Parts.{moved, with_bound}
 use Rattle.sensitivity.proofs.analysis.with_bounds.Goals as goal
@@ -40,10 +39,6 @@ task_bound-requires-clause-hits c =
     (get_or c.args.hits.now c.loop-k.k [])) (sym graph)
     (c.requires.hits.each c.loop-k.k task)))
 
-first_at : (set : TaskSet) (graphs : ℕ → TaskGraph) (k n : ℕ) → n ≡ k
-    → IsFirstTooLarge set graphs k → IsFirstTooLarge set graphs n
-first_at set graphs k n is first = rw is first
-
 pub returns-in_default : goal.returns-in_default
 returns-in_default c =
     let task : c.loop-k.k < length c.args.set.now.tasks =
@@ -55,8 +50,7 @@ returns-in_default c =
     (nest_is c.args.nests.now c.loop-k.k c.index-nests-k.result
     (omega (arith, task, c.requires.tasks.all_nests)) c.index-nests-k.is)
     (rw c.in_default.is at c.in_ok-cycles.ensures) in
-    first_at c.args.set.now (task_graph_at c.args.graphs.now c.args.nests.now) c.loop-k.k _
-    refl (record {
+    record {
       task = task;
       cycles = large.0;
       bound = large.1;
@@ -66,7 +60,7 @@ returns-in_default c =
         (c.loop-k.invariant.each j lt).bound,
         c.loop-k.invariant.within j lt,
       );
-    })
+    }
 
 pub loop-k-preserved : goal.loop-k-preserved
 loop-k-preserved c =
