@@ -1,5 +1,5 @@
 use Rattle.std.proofs.Common.{arith, ◌≡◌, ◌+◌, ◌++◌, ◌∷◌, [], ◌∙◌, ap, length, length-set}
-use Rattle.std.proofs.Common.{length-append, not, ◌<◌, ℕ, refl}
+use Rattle.std.proofs.Common.{length-append, not, ◌<◌, ℕ}
 use Rattle.std.specs.Prelude.{slice_index, if◌then◌else◌}
 use Rattle.crpd_base.specs.declared.data.TaskSet.{TaskSet}
 use Rattle.crpd_base.specs.declared.data.Method.TheVariants.{Ucb, Ecb}
@@ -29,7 +29,7 @@ returns-in-None c =
     (omega arith) c.loop-i.invariant.same in
     first_at c.args.set.now
     (demand c.args.set.now (part_at c.args.parts.now) (slice_index c.args.longest.now)) c.loop-i.i _
-    refl (record {
+    (omega arith) (record {
       task = task;
       higher = c.loop-i.choices.items;
       size = c.loop-i.invariant.size;

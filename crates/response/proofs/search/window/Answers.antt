@@ -1,4 +1,4 @@
-use Rattle.std.proofs.Common.{arith, refl}
+use Rattle.std.proofs.Common.{arith}
 use Rattle.std.specs.Prelude.{slice_index}
 use Rattle.delay_count.specs.Gamma.{part_at}
 use Rattle.delay_count.specs.Demand.{demand}
@@ -17,7 +17,7 @@ returns-then-demanded-from c =
     c.own_demand-own.result c.total-demanded.result c.loop-w.w
     (slice_index c.higher_demands-higher.result) c.own_demand-own.ensures.is
     c.higher_demands-higher.ensures.is c.total-demanded.ensures)
-    (omega (arith, c.from.ensures)) c.loop-w.invariant.some c.loop-w-test.true refl
+    (omega (arith, c.from.ensures)) c.loop-w.invariant.some c.loop-w-test.true (omega arith)
 
 pub returns-then-demanded-from-2 : goal.returns-then-demanded-from-2
 returns-then-demanded-from-2 c =
