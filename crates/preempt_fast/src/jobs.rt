@@ -1,12 +1,12 @@
 // The core, and what a job does with it while it has it.
-ghost use Rattle.std.specs.Prelude.{◌≡◌, ℕ, suc, ◌<◌, ◌≤◌, not, length, Some, IfOk, IfSome, IsTrue};
-ghost use Rattle.std.specs.Prelude.{OnOk};
+ghost use Rattle.std.specs.Prelude.{◌≡◌, ℕ, suc, ◌+◌, ◌-◌, ◌^◌, ◌<◌, ◌≤◌, not, length, Some, IfOk, IfSome};
+ghost use Rattle.std.specs.Prelude.{IsTrue, MatchBool, OnOk};
 ghost use Rattle.rv_decode.specs.Range.{HasFieldsInRange};
 ghost use Rattle.rv_core.specs.Effect.{next_pc};
 ghost use Rattle.icache.specs.Cache.{cache_after_access, block_of, is_hit, set_of};
 ghost use Rattle.flow_watch.specs.Iterations.{HasIterations};
 ghost use Rattle.flow_watch.specs.Quiet.{AreQuiet, IsArrival};
-ghost use Rattle.preempt_machine.specs.Machine.{System, Open, plan_of};
+ghost use Rattle.preempt_machine.specs.Machine.{System, Open, Faulted, plan_of};
 ghost use Rattle.preempt_machine.specs.Step.{fetch_cost, turn_after_fetch, turn_after_effect};
 ghost use Rattle.preempt_machine.specs.Running.{system_by, HasPlan};
 ghost use Rattle.preempt_machine.specs.Jobs.{turn_by};
@@ -28,6 +28,39 @@ pub(crate) struct Core {
     pub(crate) cache: Cache<SETS>,
     pub(crate) memory: DataMemory,
     pub(crate) decoded: Decoded,
+}
+
+/// Whether an address is one of those from one up to another.
+fn is_within(range: (u32, u32), at: u32) -> bool
+    ensures { IsTrue result → (range.0 ≤ at) × (at < range.1) }
+{
+    range.0 <= at && at < range.1
+}
+
+/// Addresses that are quiet for a job, from one up to another.
+fn quiet_of(job: &Job, plan: &TaskPlan) -> (u32, u32)
+    requires { HasIterations (length plan.now.loops) job.now.watch }
+    ensures { AreQuiet plan.now job.now.watch result }
+{
+    job.watch().quiet(plan, job.pc())
+}
+
+/// Whether more cycles are left than there are up to a time.
+fn outlasts(left: u64, now: u64, until: u64) -> bool
+    requires { now < until }
+    ensures { MatchBool result (until - now < left) (left ≤ until - now) }
+{
+    left > until - now
+}
+
+/// A job faults, which takes a cycle. It gives the time after it.
+fn fault(job: &mut Job, now: u64) -> u64
+    requires { now + 1 < 2 ^ 64 }
+    ensures job { job.new ≡ record job.old { standing = Faulted } }
+    ensures time { result ≡ now + 1 }
+{
+    job.fault();
+    now + 1
 }
 
 impl Core {
@@ -121,13 +154,12 @@ impl Core {
     {
         if let Next::Goto(to) = next
             && found.stays
-            && quiet.0 <= to
-            && to < quiet.1
+            && is_within(*quiet, to)
         {
             return job.go_on(&mut self.memory, ins, to, time);
         }
         job.finish(&mut self.memory, plan, ins, next, time)?;
-        *quiet = job.watch().quiet(plan, job.pc());
+        *quiet = quiet_of(job, plan);
         Ok(())
     }
 
@@ -169,13 +201,12 @@ impl Core {
     {
         let found = self.decoded.find(code, &self.geometry, job.pc());
         let Some(ins) = found.meaning else {
-            job.fault();
-            return Ok(now + 1);
+            return Ok(fault(job, now));
         };
         let next = job.next(&ins);
         self.begin(job, &found, next);
         let left = job.left();
-        if left > until - now {
+        if outlasts(left, now, until) {
             job.set_left(left - (until - now));
             return Ok(until);
         }
@@ -213,7 +244,7 @@ impl Core {
     {
         let plan = code.plan(job.task());
         let mut now = from;
-        let mut quiet = job.watch().quiet(plan, job.pc());
+        let mut quiet = quiet_of(job, plan);
         while now < until && job.is_open() {
             now = self.advance(job, code, plan, now, until, &mut quiet)?;
         }

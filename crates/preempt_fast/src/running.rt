@@ -1,5 +1,6 @@
 // The run of a script.
-ghost use Rattle.std.specs.Prelude.{◌≡◌, ◌<◌, ◌≤◌, ◌^◌, length, IfOk};
+ghost use Rattle.std.specs.Prelude.{◌≡◌, ◌↔◌, ◌<◌, ◌≤◌, ◌^◌, true, length, All, IfOk, IsTrue};
+ghost use Rattle.flow_watch.specs.Watch.{is_unbroken};
 ghost use Rattle.preempt_machine.specs.Machine.{start_machine};
 ghost use Rattle.preempt_machine.specs.Safe.{system_of, NamesTasks};
 ghost use Rattle.preempt_machine.specs.Starts.{start_cache, start_memory, script_end_state};
@@ -47,6 +48,15 @@ fn load(alloc: Global, code: &CodeMap, set: &TaskSet, script: &Script) -> Result
     })
 }
 
+/// How the jobs stand, and whether no watch is broken.
+fn outcome(schedule: Schedule) -> (Vec<Completion>, bool)
+    ensures completions { result.0.items ≡ schedule.completions.items }
+    ensures kept { IsTrue result.1 ↔ All (λ job. is_unbroken job.watch ≡ true) schedule.jobs.items }
+{
+    let kept = schedule.are_kept();
+    (schedule.completions, kept)
+}
+
 /// How the jobs of a script stand after its cycles, in the order of the script, and whether no
 /// watch is broken: what the machine comes to from the script's cache and the bytes of the files.
 ///
@@ -75,7 +85,5 @@ pub fn run_fast(
     while parts.schedule.steps < script.cycles {
         parts.make_fast_steps(code, script.cycles)?;
     }
-    let schedule = parts.schedule;
-    let kept = schedule.are_kept();
-    Ok((schedule.completions, kept))
+    Ok(outcome(parts.schedule))
 }

@@ -12,3 +12,6 @@ returns-clause-decoded c =
           All-set (IsDecoded c.args.geometry.now.platform c.args.code.now) places _
           c.decoding_at-found.result c.decoding_at-found.ensures.is c.requires.each;
     }
+
+pub returns-then-kept-address-clause-address : goal.returns-then-kept-address-clause-address
+returns-then-kept-address-clause-address c = c.if-kept-address.true

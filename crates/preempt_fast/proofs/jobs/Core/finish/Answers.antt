@@ -13,12 +13,13 @@ returns-clause-ok c =
     let ins = c.args.ins.now in
     let to = c.in-Goto.to in
     let cache = c.args.self.now.cache in
+    let inside = c.is_within.ensures c.if-is_within.true in
     on_ok_weaker c.go_on.result
     (λ h sys k n at plan.
     h sys cache k n at
     (ap (λ (p : TaskPlan). step p job.watch job.pc ins to) plan
     ∙ c.requires.stays c.if-found.true c.args.plan.now job.watch job.pc to
-    ∙ c.requires.quiet to c.if-quiet-to.true c.if-to-quiet.true)
+    ∙ c.requires.quiet to inside.0 inside.1)
     ∙ ap (turn_after_effect sys n ins (turn_by cache c.args.self.now.memory k job))
     (sym c.in-Goto.is))
     c.go_on.ensures.ok
@@ -31,5 +32,4 @@ returns-clause-quiet c =
     c.go_on.ensures.ok
 
 pub returns-2-clause-quiet : goal.returns-2-clause-quiet
-returns-2-clause-quiet c =
-    subst (λ (w : Watch). AreQuiet c.args.plan.now w c.quiet.result) c.watch.ensures c.quiet.ensures
+returns-2-clause-quiet c = c.quiet_of.ensures
