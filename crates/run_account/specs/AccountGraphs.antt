@@ -1,7 +1,6 @@
 -- The graphs of tasks as they are kept, and what an account asks of them and of a certificate.
 use Rattle.std.specs.Prelude.{◌≡◌, ℕ, ◌<◌, List, length}
 use Rattle.crpd_base.specs.declared.data.Certificate.{Certificate}
-use Rattle.crpd_base.specs.declared.data.Script.{Script}
 use Rattle.crpd_base.specs.declared.data.TaskSet.{TaskSet}
 use Rattle.crpd_base.specs.Sets.{has}
 use Rattle.code_map.specs.Words.{Code}
@@ -12,9 +11,6 @@ use Rattle.loop_regions.specs.TaskSteps.{IsGraphOfTask}
 use Rattle.evict_sets.specs.ListedPart.{listed_of, certified_task}
 use Rattle.evict_sets.specs.CacheClauses.{MeetsListing, MeetsSets}
 use Rattle.evict_sets.specs.Listing.{HasLowSets, node_accesses}
-use Rattle.preempt_machine.specs.Safe.{system_of}
-use Rattle.preempt_machine.specs.Starts.{start_cache, start_memory}
-use Rattle.preempt_machine.specs.Step.{Start}
 
 -- the task graph of each task; its regions play no part in a ledger, and may be any
 abbrev pub with_nests : List CodeGraph → (ℕ → Nest) → ℕ → TaskGraph

@@ -110,7 +110,10 @@ fn is_over(end: End) -> bool {
 fn is_reload(counted: bool, access: Access) -> bool
     ensures { IsTrue result ↔ (IsTrue counted × (access ≡ Access.Miss)) }
 {
-    counted && access == Access::Miss
+    match access {
+        Access::Miss => counted,
+        Access::Hit => false,
+    }
 }
 
 /// Whether no watch was broken before a fetch that missed, as far as it has to be looked at after
