@@ -42,7 +42,8 @@ impl Regs {
         requires { n < 32 }
         ensures { self.new ≡ put self.old n value }
     {
-        if n != 0 {
+        let kept = n != 0;
+        if kept {
             self.values[n as usize] = value;
         }
     }
