@@ -256,7 +256,8 @@ impl Schedule {
     {
         let job = &self.jobs[place];
         let end = job.end();
-        if end != End::Open {
+        let over = end != End::Open;
+        if over {
             self.queue.finish(job.task());
             self.completions[place].end = end;
         }

@@ -1,4 +1,4 @@
-use Rattle.std.proofs.Common.{◌≡◌, Some, refl, sym, ◌∙◌, ap, subst}
+use Rattle.std.proofs.Common.{◌≡◌, Some, None, refl, sym, ◌∙◌, ap, subst}
 use Rattle.std.specs.Prelude.{length}
 use Rattle.crpd_base.specs.declared.data.TaskPlan.{TaskPlan}
 use Rattle.std.proofs.lemmas.Result.{on_ok_weaker}
@@ -51,3 +51,10 @@ returns-in-Some-clause-store c =
       store = store;
     })
     c.execute.ensures.store c.execute.ensures.last
+
+pub returns-in-None-clause-ok : goal.returns-in-None-clause-ok
+returns-in-None-clause-ok c =
+    let sys = system_by c.args.self.now.geometry.platform c.args.code.now in
+    let none : None ≡ ins_at sys c.args.job.now.pc =
+    rw c.pc.ensures at (c.in-None.ensures.is c.args.self.now.geometry.platform) in
+    rw (sym none, c.fault.ensures) refl

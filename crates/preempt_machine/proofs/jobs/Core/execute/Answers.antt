@@ -1,4 +1,4 @@
-use Rattle.std.proofs.Common.{◌≡◌, refl, ◌∙◌, ap, arith}
+use Rattle.std.proofs.Common.{◌≡◌, refl, ◌∙◌, ap, arith, rules, tests}
 use Rattle.icache.specs.Cache.{cache_after_access, block_of}
 use Rattle.preempt_machine.specs.Step.{turn_after_cycle}
 use Rattle.preempt_machine.proofs.Turns.{on_err_of, newly, newly_left, under_way}
@@ -31,3 +31,6 @@ returns-clause-ok c sys k same plan =
     ∙ ap (turn_after_cycle sys c.args.now c.args.ins.now)
     (newly sys c.args.ins.now c.args.self.now.cache c.args.self.now.memory k c.cost-cycles.result
     c.args.job.now none (c.cost-cycles.ensures sys k same)))
+
+pub returns-then-left-gt0-clause-found : goal.returns-then-left-gt0-clause-found
+returns-then-left-gt0-clause-found c = search (rules, tests)

@@ -7,3 +7,6 @@ returns-then-index-now c = grind (arith, common_steps)
 
 pub returns : goal.returns
 returns c = search rules
+
+pub loop-head-preserved : goal.loop-head-preserved
+loop-head-preserved c = grind (arith, common_steps)
