@@ -1,5 +1,7 @@
-use Rattle.std.proofs.Common.{◌≡◌, ℕ, ◌≤◌, ◌*◌, ◌∙◌, arith, mul-le-mul_left, mul-le-mul_right}
+use Rattle.std.proofs.Common.{◌≡◌, ℕ, ◌≤◌, ◌+◌, ◌*◌, ◌∙◌, ap, arith, mul-le-mul_left}
+use Rattle.std.proofs.Common.{mul-le-mul_right}
 use Rattle.std.proofs.lemmas.Grind.{get_or_default_zero}
+use Rattle.loop_regions.specs.CodeNest.{nest_of}
 use Rattle.exec_bound.specs.Costs.{greatest_bound}
 use Rattle.loop_regions.proofs.Beside.{turns}
 use Rattle.exec_bound.proofs.Steps.{greatest_is}
@@ -31,3 +33,10 @@ overflow_add-result c =
     let read = c.index.ensures ∙ get_or_default_zero c.args.values.now.exits.items c.args.region
     c.index.result.now (omega (arith, c.requires.region, c.requires.exits)) in
     omega (arith, m, is, read, c.requires.exit)
+
+pub returns : goal.returns
+returns c =
+    let read = c.index.ensures ∙ get_or_default_zero c.args.values.now.exits.items c.args.region
+    c.index.result.now (omega (arith, c.requires.region, c.requires.exits)) in
+    ap (λ x. x * c.args.value + c.index.result.now) (c.from.ensures ∙ c.bound.ensures)
+    ∙ ap (λ x. (nest_of c.args.self.now.nest.now).bound c.args.region * c.args.value + x) read
