@@ -1,6 +1,6 @@
 // The core, and what a job does with it while it has it.
-ghost use Rattle.std.specs.Prelude.{◌≡◌, ℕ, suc, ◌+◌, ◌-◌, ◌^◌, ◌<◌, ◌≤◌, not, length, Some, IfOk, IfSome};
-ghost use Rattle.std.specs.Prelude.{IsTrue, MatchBool, OnOk};
+ghost use Rattle.std.specs.Prelude.{◌≡◌, ℕ, suc, ◌+◌, ◌-◌, ◌^◌, ◌<◌, ◌≤◌, not, length, Some, IfOk};
+ghost use Rattle.std.specs.Prelude.{IfSome, IsTrue, MatchBool, OnOk};
 ghost use Rattle.rv_decode.specs.Range.{HasFieldsInRange};
 ghost use Rattle.rv_core.specs.Effect.{next_pc};
 ghost use Rattle.icache.specs.Cache.{cache_after_access, block_of, is_hit, set_of};
