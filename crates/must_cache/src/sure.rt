@@ -163,7 +163,8 @@ pub fn sure_at<const S: usize, const W: usize>(
     let Some(place) = parts.places[node] else {
         unreachable!()
     };
-    if parts.unsure[node].has(set) {
+    let is_unsure = parts.unsure[node].has(set);
+    if is_unsure {
         None
     } else {
         parts.states[place].at(set)

@@ -1,0 +1,5 @@
+use Rattle.std.proofs.Common.{rules}
+use Rattle.must_cache.proofs.state.is_hit.Goals as goal
+
+pub returns : goal.returns
+returns g c = search rules
