@@ -66,3 +66,9 @@ returns c =
     2 5 (Ok tt) (omega arith) (omega arith) c.in_ok-list_failure.ensures
     (c.in_ok-state_failure.ensures c.args.nest.now))
     c.potential_failure.ensures
+
+pub state_failure-requires-clause-hits : goal.state_failure-requires-clause-hits
+state_failure-requires-clause-hits c = c.write_hits.ensures.hits
+
+pub potential_failure-requires-clause-hits : goal.potential_failure-requires-clause-hits
+potential_failure-requires-clause-hits c = c.write_hits.ensures.hits

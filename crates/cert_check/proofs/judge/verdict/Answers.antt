@@ -20,3 +20,6 @@ loop-i-preserved c =
     (ClauseHolds c.args.set.now (task_graph_at c.args.graphs.now c.args.nests.now)
     c.args.certificate.now c.loop-i.i) 1 9 r) c.in_default.is c.task_failure.ensures)
     c.loop-i.invariant
+
+pub returns : goal.returns
+returns c = λ i k lt. c.loop-i.invariant i k (omega (arith, lt))
