@@ -7,20 +7,14 @@ use Rattle.crpd_input.specs.declared.input.Input.{Input}
 use Rattle.crpd_input.specs.declared.shapes.Shapes.{Shapes}
 use Rattle.crpd_input.specs.Reading.{input_in}
 use Rattle.crpd_input.specs.Shapes.{ShapesIn}
-use Rattle.crpd_input.specs.Steps.{Exactly, MeansBy, Stops, StopsBy, Then}
+use Rattle.crpd_input.specs.Steps.{Exactly, MeansBy, StopsBy, Then}
 use Rattle.crpd_input.proofs.Chain.{goes_on}
 use Rattle.crpd_tool.specs.Inner.Shaped.{ShapedIn}
 use Rattle.crpd_tool.specs.declared.answer.Answer.{Answer}
 use Rattle.crpd_tool.specs.declared.shaped.Shaped.{Shaped}
 
 module _ (contents : Contents) (set : List ℕ) where
-  -- there is no set with its code, or there are no graphs with regions
-  pub no_input : (halt : Halt) → Stops (input_in contents set) halt
-      → StopsBy (ShapedIn contents set) halt
-  no_input (Refused r) is = inl is
-  no_input Memory is = tt
-  no_input Fault is = tt
-
+  -- there are no graphs with regions
   pub no_shapes : (input : Input) (halt : Halt) → input_in contents set ≡ Ok input
       → StopsBy (ShapesIn input) halt → StopsBy (ShapedIn contents set) halt
   no_shapes input (Refused r) is stop = inr (input, is, stop)

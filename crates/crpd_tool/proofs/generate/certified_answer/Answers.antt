@@ -1,15 +1,12 @@
-use Rattle.std.proofs.Common.{◌≡◌, ◌∙◌, ℕ, List, Ok, ap, inl, subst}
-use Rattle.flat_graph.specs.CodeGraph.{CodeGraph}
-use Rattle.loop_regions.specs.CodeNest.{CodeNest}
+use Rattle.std.proofs.Common.{◌≡◌, ◌∙◌, ℕ, List, Ok, ap, inl}
 use Rattle.cert_check.specs.FirstFailing.{answer_of}
-use Rattle.cert_check.specs.TaskGraphs.{task_graph_at}
-use Rattle.cert_check.specs.Verdict.{IsJudged}
 use Rattle.preempt_machine.specs.declared.Completion.{Completion}
 use Rattle.crpd_report.specs.Generate.{generate_text}
 use Rattle.cert_build.proofs.InRange.{in_range}
 use Rattle.crpd_tool.specs.declared.answer.Answer.{Answer}
 use Rattle.crpd_tool.specs.Generate.{made_answer, node_count}
 use Rattle.crpd_tool.specs.Simulate.{completions_of, run_of}
+use Rattle.crpd_tool.proofs.Judged.{judged_over}
 use Rattle.crpd_tool.proofs.Simulated.{told}
 use Rattle.crpd_tool.proofs.generate.certified_answer.Goals as goal
 
@@ -32,14 +29,6 @@ returns c =
     ∙ told m c.in_ok-completions.completions.items outcome.long outcome.each in
     let nodes : c.node_count-nodes.result ≡ node_count shapes.graphs =
     c.node_count-nodes.ensures ∙ ap node_count c.as_slice-graphs.ensures in
-    let judged : IsJudged input.set (task_graph_at shapes.graphs shapes.nests) certificate
-    (answer_of found) =
-    subst (λ (gs : List CodeGraph).
-    IsJudged input.set (task_graph_at gs shapes.nests) certificate (answer_of found))
-    c.as_slice-graphs.ensures
-    (subst (λ (ns : List CodeNest).
-    IsJudged input.set (task_graph_at c.as_slice-graphs.result.now ns) certificate
-    (answer_of found)) c.as_slice.ensures c.verdict-found.ensures) in
     let text : c.new.result ≡ generate_text n (node_count shapes.graphs) input.set certificate found
     script (completions_of m) kept =
     c.new.ensures ∙ c.in_ok-text.ensures
@@ -64,7 +53,9 @@ returns c =
       record {
         best = c.requires.best;
         few = c.requires.ranges.entries;
-        judged = judged;
+        judged =
+            judged_over input.set certificate (answer_of found) c.as_slice-graphs.ensures
+            c.as_slice.ensures c.verdict-found.ensures;
         kept_so = outcome.kept_so;
       },
       ap (λ (a : Answer). Ok a) answer,

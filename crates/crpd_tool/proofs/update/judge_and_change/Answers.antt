@@ -1,9 +1,9 @@
-use Rattle.std.proofs.Common.{ℕ, List, Result, Ok, Err, inr, subst}
+use Rattle.std.proofs.Common.{◌∙◌, ℕ, List, Result, Ok, Err, ap, inl, inr}
 use Rattle.crpd_base.specs.declared.data.Certificate.{Certificate}
-use Rattle.flat_graph.specs.CodeGraph.{CodeGraph}
-use Rattle.loop_regions.specs.CodeNest.{CodeNest}
+use Rattle.cert_check.specs.FirstFailing.{answer_of}
 use Rattle.cert_check.specs.TaskGraphs.{task_graph_at}
 use Rattle.cert_check.specs.Verdict.{IsJudged, Yes}
+use Rattle.cert_check.specs.declared.outcome.Verdict.TheVariants as verdict
 use Rattle.crpd_input.specs.declared.halt.Halt.{Halt}
 use Rattle.crpd_input.specs.declared.halt.Halt.TheVariants.{Refused, Memory, Fault}
 use Rattle.crpd_input.specs.declared.input.Input.{Input}
@@ -11,7 +11,9 @@ use Rattle.crpd_input.specs.declared.shapes.Shapes.{Shapes}
 use Rattle.crpd_input.specs.Steps.{MeansBy}
 use Rattle.cert_build.proofs.InRange.{in_range}
 use Rattle.crpd_tool.specs.declared.answer.Answer.{Answer}
+use Rattle.crpd_tool.specs.Check.{verdict_answer}
 use Rattle.crpd_tool.specs.Update.{ChangeOf, UpdateOf}
+use Rattle.crpd_tool.proofs.Judged.{judged_over}
 use Rattle.crpd_tool.proofs.update.judge_and_change.Goals as goal
 
 -- after the judge's yes the update is the whole answer
@@ -31,21 +33,27 @@ verdict-found-requires-clause-certificate c = in_range c.args.stated.now c.requi
 
 pub change-requires-clause-judged : goal.change-requires-clause-judged
 change-requires-clause-judged c =
-    subst (λ (gs : List CodeGraph).
-    IsJudged c.args.old.now.set (task_graph_at gs c.args.old_shapes.now.nests) c.args.stated.now
-    Yes) c.as_slice-graphs.ensures
-    (subst (λ (ns : List CodeNest).
-    IsJudged c.args.old.now.set (task_graph_at c.as_slice-graphs.result.now ns) c.args.stated.now
-    Yes) c.as_slice-nests.ensures c.in-Yes.ensures)
+    judged_over c.args.old.now.set c.args.stated.now Yes c.as_slice-graphs.ensures
+    c.as_slice-nests.ensures c.in-Yes.ensures
 
 pub returns-in-Yes-clause-exact : goal.returns-in-Yes-clause-exact
 returns-in-Yes-clause-exact c =
     after_yes c.args.file.now c.args.old.now c.args.old_shapes.now c.args.stated.now
     c.args.input.now c.args.shapes.now c.change.result
-    (subst (λ (gs : List CodeGraph).
-    IsJudged c.args.old.now.set (task_graph_at gs c.args.old_shapes.now.nests) c.args.stated.now
-    Yes) c.as_slice-graphs.ensures
-    (subst (λ (ns : List CodeNest).
-    IsJudged c.args.old.now.set (task_graph_at c.as_slice-graphs.result.now ns) c.args.stated.now
-    Yes) c.as_slice-nests.ensures c.in-Yes.ensures))
+    (judged_over c.args.old.now.set c.args.stated.now Yes c.as_slice-graphs.ensures
+    c.as_slice-nests.ensures c.in-Yes.ensures)
     c.change.ensures.exact
+
+pub returns-in_ok-write_verdict-in-No-clause-exact :
+    goal.returns-in_ok-write_verdict-in-No-clause-exact
+returns-in_ok-write_verdict-in-No-clause-exact c =
+    let answer = answer_of (verdict.No c.in-No.task c.in-No.clause c.in-No.place) in
+    inl (
+      c.in-No.task,
+      c.in-No.clause,
+      c.in-No.place,
+      judged_over c.args.old.now.set c.args.stated.now answer c.as_slice-graphs.ensures
+          c.as_slice-nests.ensures c.in-No.ensures,
+      ap (λ (a : Answer). Ok a) (c.in_ok-write_verdict-in-No.ensures
+          ∙ ap (verdict_answer c.args.old.now.set c.args.stated.now) c.in-No.is),
+    )
