@@ -141,7 +141,8 @@ fn is_executable(header: &ProgramHeader) -> bool
 fn is_code(header: &ProgramHeader) -> bool
     ensures { result ≡ spec.is_code header.now }
 {
-    header.p_type == PT_LOAD && is_executable(header) && header.p_filesz > 0
+    let executable = is_executable(header);
+    header.p_type == PT_LOAD && executable && header.p_filesz > 0
 }
 
 /// Whether some header has code.

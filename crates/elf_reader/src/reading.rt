@@ -1,5 +1,6 @@
 // The whole file.
-ghost use Rattle.std.specs.Prelude.{◌≡◌, ◌≤◌, length, IfOk, OnOk};
+ghost use Rattle.std.specs.Prelude.{◌≡◌, ◌==◌, ◌<◌, ◌≤◌, ◌&&◌, length, slice_index};
+ghost use Rattle.std.specs.Prelude.{IfOk, OnOk};
 ghost use Rattle.crpd_base.specs.Images.{IsImage};
 ghost use Rattle.crpd_base.specs.Outcome.{Gives};
 ghost use Rattle.elf_reader.specs.Reading as spec;
@@ -37,6 +38,15 @@ const ET_EXEC: u16 = 2;
 /// RISC-V.
 const EM_RISCV: u16 = 243;
 
+fn is_elf32_little(bytes: &[u8]) -> bool
+    requires { 6 < length bytes.now }
+    ensures { result ≡ (slice_index bytes.now 4 == 1 && slice_index bytes.now 5 == 1
+        && slice_index bytes.now 6 == 1) }
+{
+    let class = bytes[EI_CLASS];
+    class == ELFCLASS32 && bytes[EI_DATA] == ELFDATA2LSB && bytes[EI_VERSION] == EV_CURRENT
+}
+
 /// The file begins with the header of an executable of 32 bits, little-endian, for RISC-V.
 #[tactic(auto, unfolding(crate::specs::Reading::file_header))]
 fn check_file_header(bytes: &[u8]) -> Result<(), ElfError>
@@ -49,10 +59,7 @@ fn check_file_header(bytes: &[u8]) -> Result<(), ElfError>
     if &bytes[..4] != &MAGIC[..] {
         return Err(ElfError::NotElf);
     }
-    if bytes[EI_CLASS] != ELFCLASS32
-        || bytes[EI_DATA] != ELFDATA2LSB
-        || bytes[EI_VERSION] != EV_CURRENT
-    {
+    if !is_elf32_little(bytes) {
         return Err(ElfError::NotElf32Little);
     }
     if half(bytes, E_MACHINE) != EM_RISCV {

@@ -120,7 +120,8 @@ fn text(bytes: &[u8]) -> Option<&[u8]>
     ensures { option_map (λ t. t.now) result ≡ spec.symbol_text bytes.entry.now }
 {
     match first_zero(bytes) {
-        None | Some(0) => None,
+        None => None,
+        Some(0) => None,
         Some(len) => Some(&bytes[..len]),
     }
 }
@@ -137,12 +138,19 @@ fn name(strings: &[u8], place: u32) -> Option<&[u8]>
     }
 }
 
+fn is_passed_over(entry: SymbolEntry) -> bool
+    ensures { result ≡ spec.is_passed_over entry }
+{
+    let undefined = entry.st_shndx == SHN_UNDEF;
+    undefined || entry.st_info % 16 == STT_FILE
+}
+
 /// The symbol of an entry.
 #[tactic(auto, unfolding(crate::specs::Symbols::symbol))]
 fn symbol(alloc: Global, strings: &[u8], entry: SymbolEntry) -> Result<Option<Symbol>, AllocError>
     ensures { IfOk result (λ s. s ≡ spec.symbol strings.now entry) }
 {
-    if entry.st_shndx == SHN_UNDEF || entry.st_info % 16 == STT_FILE {
+    if is_passed_over(entry) {
         return Ok(None);
     }
     let Some(name) = name(strings, entry.st_name) else {
