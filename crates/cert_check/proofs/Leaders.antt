@@ -6,7 +6,6 @@ use Rattle.flat_graph.specs.Graph.{Graph, Edge, Continues, IsLeader, IsGraph}
 use Rattle.flat_graph.proofs.Decided.{Decided, is_below, «both», never, some_below, all_below}
 use Rattle.flat_graph.proofs.Decided.{same_fact, implied}
 use Rattle.evict_sets.specs.Full.{Listed}
-use Rattle.evict_sets.specs.CacheClauses.{ListsLeaders}
 
 not_in : (x : ℕ) (xs : List ℕ) (v : ℕ) → (x ≡ v → ⊥) → (Contains xs v → ⊥) → Contains (x ∷ xs) v → ⊥
 not_in x xs v ne none (zero, lt, e) = ne e
@@ -72,8 +71,3 @@ other_more g l n G h below y lt out =
     (λ e. continues_one g G y (subst (λ x. IsLeader g x → ⊥) (sym e) h))
     (λ ne. below y (omega arith) out)
     (cases_eq y n)
-
--- a leader that is not listed
-pub unlisted_leader : (g : Graph) (l : Listed) (n : ℕ) → n < g.size → IsLeader g n
-    → IsFalse (l.is_listed n) → ListsLeaders g l → ⊥
-unlisted_leader g l n lt leads out all = leads (all n lt out)

@@ -24,26 +24,6 @@ pub record AreHanded (c : Certificate) (parts : List Part) (windows : List ℕ) 
   pub part : (j : ℕ) → j < k → part_at parts j ≡ certified_part c j
   pub window : (j : ℕ) → j < k → slice_index windows j ≡ window_at c j
 
-pub handed_more : (c : Certificate) (parts : List Part) (windows : List ℕ) (k : ℕ) (p : Part)
-    (w : ℕ) → k < 32 → p ≡ certified_part c k → w ≡ window_at c k → AreHanded c parts windows k
-    → AreHanded c (set parts k p) (set windows k w) (k + 1)
-handed_more c parts windows k p w lt p_is w_is H = record {
-  all_parts = length-set parts k p ∙ H.all_parts;
-  all_windows = length-set windows k w ∙ H.all_windows;
-  part = λ j j_lt. ⊎_elim
-      (λ (e : j ≡ k). subst (λ x. part_at (set parts k p) x ≡ certified_part c x) (sym e)
-      (get_or-set_same parts k p nothing (omega (arith, lt, H.all_parts)) ∙ p_is))
-      (λ ne. get_or-set_other parts k j p nothing ne ∙ H.part j (omega arith))
-      (cases_eq j k);
-  window = λ j j_lt. ⊎_elim
-      (λ (e : j ≡ k). subst (λ x. slice_index (set windows k w) x ≡ window_at c x) (sym e)
-      (get_or-set_same windows k w 0 (omega (arith, lt, H.all_windows)) ∙ w_is))
-      (λ ne. get_or-set_other windows k j w 0 ne ∙ H.window j (omega arith))
-      (cases_eq j k);
-} where
-  nothing : Part
-  nothing = record { bound = 0; evicting = []; useful = [] }
-
 -- the test of a window
 pub room_test : (task_set : TaskSet) (times : HasTimes task_set) (c : Certificate) (i k : ℕ)
     (l : i < length task_set.tasks) (parts : List Part) (windows costs : List ℕ) (t : TaskPart)

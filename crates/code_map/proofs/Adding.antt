@@ -134,15 +134,3 @@ module _ (front : List Run) (last : Run) (p : Piece)
         (λ (le : p.start ≤ a). rw (past_none last.start last.bytes a (omega arith)) refl)
         (cases_lt a p.start);
   })
-
--- the first piece
-pub first_run : (next : Run) (p : Piece) (new : List Run) → next.start ≡ p.start
-    → ((a : ℕ) → run_byte next a ≡ piece_byte p a) → new ≡ next ∷ [] → HasPiece [] p new None
-first_run next p new same bytes e = rw e (record {
-  apart = λ i j d lt in'. absurd (omega arith);
-  starts =
-      All-push (λ (r : Run). r.start ≤ p.start) [] next (λ k d lt. absurd (omega arith))
-      (omega arith);
-  bytes = λ a. or_nothing (run_byte next a) ∙ bytes a;
-  conflict = λ a. refl;
-})

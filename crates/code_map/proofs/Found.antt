@@ -79,11 +79,6 @@ little_2 : (o c d : Option ℕ) → little_endian o None c d ≡ None
 little_2 None c d = refl
 little_2 (Some x) c d = refl
 
-little_3 : (o p d : Option ℕ) → little_endian o p None d ≡ None
-little_3 None p d = refl
-little_3 (Some x) None d = refl
-little_3 (Some x) (Some y) d = refl
-
 -- bytes that are the same up to where one of the two ends give the same number
 pub same_number : (f g : ℕ → Option ℕ) (a e : ℕ) → f a ≡ g a → ((x : ℕ) → a ≤ x → x ≤ e → f x ≡ g x)
     → ((x : ℕ) → e ≤ x → g x ≡ None)

@@ -1,5 +1,5 @@
 -- Lists: what is in them and where, and one element more.
-use Rattle.std.proofs.Common.{◌≡◌, ◌≢◌, ◌⊎◌, ℕ, zero, suc, ◌+◌, ◌<◌, ◌≤◌, List, [], ◌∷◌, ◌++◌, map}
+use Rattle.std.proofs.Common.{◌≡◌, ◌≢◌, ◌⊎◌, ℕ, zero, suc, ◌+◌, ◌<◌, List, [], ◌∷◌, ◌++◌, map}
 use Rattle.std.proofs.Common.{length, get_or, slice_get, Some, Contains, refl, sym, ap, ◌∙◌, subst}
 use Rattle.std.proofs.Common.{inl, inr, ⊎_elim, arith}
 use Rattle.std.specs.Prelude.{All, AllPairs}
@@ -94,13 +94,6 @@ contains_mapped f (x ∷ xs) y (zero, lt, e) = (x, (0, omega arith, refl), e)
 contains_mapped f (x ∷ xs) y (suc k, lt, e) =
     let r = contains_mapped f xs y (k, omega arith, e) in
     (r.0, (suc r.1.0, omega (arith, r.1.1), r.1.2), r.2)
-
--- what is in a list of at most two stands at the first or the second place
-pub first_or_second : {X : Type 0} (xs : List X) (v : X) → length xs ≤ 2 → Contains xs v
-    → (slice_get xs 0 ≡ Some v) ⊎ (slice_get xs 1 ≡ Some v)
-first_or_second xs v few (zero, lt, e) = inl (slice_get-get_or xs 0 v lt ∙ ap Some e)
-first_or_second xs v few (suc zero, lt, e) = inr (slice_get-get_or xs 1 v lt ∙ ap Some e)
-first_or_second xs v few (suc (suc k), lt, e) = absurd (omega arith)
 
 -- what holds of each element, by its place, holds after one more
 pub pushed_each : {X : Type 0} (P : ℕ → X → Type 0) (xs new : List X) (x d : X) (k : ℕ)

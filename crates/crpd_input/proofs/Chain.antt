@@ -2,7 +2,7 @@
 use Rattle.std.proofs.Common.{Result, Ok, Err, refl, inl, inr}
 use Rattle.crpd_input.specs.declared.halt.Halt.{Halt}
 use Rattle.crpd_input.specs.declared.halt.Halt.TheVariants.{Refused, Memory, Fault}
-use Rattle.crpd_input.specs.Steps.{Exactly, Means, MeansBy, StopsBy, Then}
+use Rattle.crpd_input.specs.Steps.{MeansBy, StopsBy, Then}
 
 module _ {A B : Type 0} (P : Result A Halt → Type 0) (next : A → Result B Halt → Type 0) where
   -- a step gave a value, and the next ones end so
@@ -18,11 +18,3 @@ module _ {A B : Type 0} (P : Result A Halt → Type 0) (next : A → Result B Ha
   stopped (Refused r) here = inr (Refused r, here, refl)
   stopped Memory here = tt
   stopped Fault here = tt
-
--- a step with one end
-pub by_exactly : {A : Type 0} (meant : Result A Halt) (result : Result A Halt) → Means meant result
-    → MeansBy (Exactly meant) result
-by_exactly meant (Ok x) is = is
-by_exactly meant (Err (Refused r)) is = is
-by_exactly meant (Err Memory) is = tt
-by_exactly meant (Err Fault) is = tt

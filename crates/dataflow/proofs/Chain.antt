@@ -8,18 +8,6 @@ use Rattle.std.proofs.Math.Seq.{get_or-append_seam}
 use Rattle.std.proofs.lemmas.List.{length-set, get_or_default}
 use Rattle.dataflow.specs.Inner.Search.{past_edge, IsLastEdge, IsChained}
 
-no_edge : (ends : ℕ → ℕ × ℕ) (m : ℕ) → IsLastEdge ends 0 m None
-no_edge ends m = record { edge = λ k e. cc; last = λ j lt s. absurd (omega arith) }
-
-pub chain_none : (nodes : ℕ) (ends : ℕ → ℕ × ℕ) (last : List (Option ℕ)) → length last ≡ nodes
-    → ((m : ℕ) → m < nodes → get_or last m None ≡ None) → IsChained nodes 0 ends last []
-chain_none nodes ends last len none = record {
-  all_nodes = len;
-  all_edges = refl;
-  of_node = λ m lt. subst (λ o. IsLastEdge ends 0 m o) (sym (none m lt)) (no_edge ends m);
-  of_edge = λ k lt. absurd (omega arith);
-}
-
 -- the next edge is its source's last
 here : (ends : ℕ → ℕ × ℕ) (k : ℕ) → IsLastEdge ends (k + 1) (ends k).0 (Some k)
 here ends k = record {

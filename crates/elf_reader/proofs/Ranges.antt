@@ -1,6 +1,6 @@
 -- Ranges of addresses that are apart.
 use Rattle.std.proofs.Common.{◌≡◌, ℕ, ◌+◌, ◌<◌, ◌≤◌, ◌⊎◌, min, max, Bool, true, false, cond, not}
-use Rattle.std.proofs.Common.{◌&&◌, ◌||◌, ltb, List, [], ◌∷◌, ◌++◌, refl, ap, sym, subst, ◌∙◌, inl}
+use Rattle.std.proofs.Common.{◌&&◌, ◌||◌, ltb, List, [], ◌∷◌, ◌++◌, refl, ap, subst, ◌∙◌, inl}
 use Rattle.std.proofs.Common.{inr, ⊎_elim, arith}
 use Rattle.std.specs.Prelude.{filter}
 use Rattle.std.specs.List.{list_any, AllByRecursion}
@@ -215,9 +215,6 @@ insert_any a b from to some (r ∷ rs) apart m =
 pub empty_meets : (at : ℕ) (rs : List (ℕ × ℕ)) → list_any (meets at at) rs ≡ false
 empty_meets at [] = refl
 empty_meets at (r ∷ rs) = rw (le-ltb (max at r.0) (min at r.1) (omega arith)) (empty_meets at rs)
-
-pub nothing_more : (x : Bool) → x ≡ (x || false)
-nothing_more x = sym (or_false x)
 
 pub free_empty : (b : Bool) (at size : ℕ) (rs : List (ℕ × ℕ)) → at ≡ at + size
     → true ≡ not (b && list_any (meets at (at + size)) rs)

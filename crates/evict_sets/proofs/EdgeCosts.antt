@@ -1,5 +1,5 @@
 -- The costs of a node's edges.
-use Rattle.std.proofs.Common.{◌≡◌, ℕ, zero, suc, Bool, true, false, max, pos, List, []}
+use Rattle.std.proofs.Common.{◌≡◌, ℕ, zero, suc, Bool, true, max, pos, List, []}
 use Rattle.std.proofs.Common.{◌∷◌, ◌++◌, Some, refl, arith}
 use Rattle.std.proofs.lemmas.Bool.{false≢true}
 use Rattle.crpd_base.specs.declared.data.Platform.{Platform}
@@ -33,19 +33,6 @@ answers_kind c Exit e = refl
 answers_kind c Break e = cc
 answers_kind c OtherJalr e = cc
 answers_kind c OtherJal e = cc
-
-pub other_kind : (c : List ℕ) (f : Flow) → (kind_of c f ≡ kind.Answer → ⊥)
-    → answers_by c (Some (Some f)) ≡ false
-other_kind c Plain ne = refl
-other_kind c (Branch t) ne = refl
-other_kind c (Jump t) ne = refl
-other_kind c (Call t) ne = refl
-other_kind [] Return ne = absurd (ne refl)
-other_kind (b ∷ c) Return ne = refl
-other_kind c Exit ne = absurd (ne refl)
-other_kind c Break ne = refl
-other_kind c OtherJalr ne = refl
-other_kind c OtherJal ne = refl
 
 -- where a job answers by an ECALL, no change of flow is paid for
 pub end_cost_is : (p : Platform) (a : ℕ) (c : List ℕ) (ins : Ins) (missed : Bool)

@@ -1,9 +1,8 @@
 -- Full states kept as the blocks of the cache sets.
-use Rattle.std.proofs.Common.{◌≡◌, ◌≢◌, ◌↔◌, ℕ, zero, suc, ◌-◌, ◌<◌, ◌≤◌, true, false, List, []}
+use Rattle.std.proofs.Common.{◌≡◌, ◌≢◌, ◌↔◌, ℕ, zero, suc, ◌-◌, ◌<◌, ◌≤◌, List, []}
 use Rattle.std.proofs.Common.{◌∷◌, length, set, get_or, drop, Option, Some, None, IsTrue, IsFalse}
-use Rattle.std.proofs.Common.{refl, sym, ap, ◌∙◌, subst, inl, inr, ⊎_elim, arith, ne_eqb, eq-eqb}
-use Rattle.std.proofs.Common.{get_or-set_same, get_or-set_other, drop-cons}
-use Rattle.std.specs.Prelude.{◌==◌}
+use Rattle.std.proofs.Common.{refl, sym, ap, ◌∙◌, subst, inl, inr, ⊎_elim, arith}
+use Rattle.std.proofs.Common.{get_or-set_same, get_or-set_other}
 use Rattle.std.proofs.lemmas.List.{drop_all}
 use Rattle.std.proofs.lemmas.Bool.{cases_eq, both_ways}
 use Rattle.std.proofs.lemmas.Option.{same_Some}
@@ -27,32 +26,6 @@ pub none_held : (blocks : List (Option ℕ)) (sure : List (ℕ × ℕ)) → ((s 
 none_held blocks sure none s =
     let empty : drop (length sure - 0) sure ≡ [] = drop_all (length sure - 0) sure (omega arith) in
     none s ∙ sym (ap (λ xs. block_of_set xs s) empty)
-
--- one more block, in front of those so far
-pub block_more : (blocks : List (Option ℕ)) (sure : List (ℕ × ℕ)) (j k place : ℕ) (x : ℕ × ℕ)
-    → j ≡ suc k → place ≡ k → k < length sure → x ≡ get_or sure place (0, 0) → x.0 < length blocks
-    → ((s : ℕ) → held blocks s ≡ block_of_set (drop j sure) s) → (s : ℕ)
-    → held (set blocks x.0 (Some x.1)) s ≡ block_of_set (drop k sure) s
-block_more blocks sure j k place x after at lt is room before s =
-    let rest : drop (suc k) sure ≡ drop j sure = ap (λ i. drop i sure) (sym after) in
-    let here : get_or sure k (0, 0) ≡ x = ap (λ i. get_or sure i (0, 0)) (sym at) ∙ sym is in
-    let parts : drop k sure ≡ x ∷ drop (suc k) sure =
-    drop-cons sure k (0, 0) lt ∙ ap (λ y. y ∷ drop (suc k) sure) here in
-    ⊎_elim
-    (λ (same : x.0 ≡ s).
-    let t : (x.0 == s) ≡ true = eq-eqb x.0 s same in
-    let there : held (set blocks x.0 (Some x.1)) s ≡ Some x.1 =
-    subst (λ z. held (set blocks x.0 (Some x.1)) z ≡ Some x.1) same
-    (get_or-set_same blocks x.0 (Some x.1) None room) in
-    let listed : block_of_set (x ∷ drop (suc k) sure) s ≡ Some x.1 = rw t refl in
-    there ∙ sym (ap (λ xs. block_of_set xs s) parts ∙ listed))
-    (λ (ne : x.0 ≢ s).
-    let f : (x.0 == s) ≡ false = ne_eqb x.0 s ne in
-    let listed : block_of_set (x ∷ drop (suc k) sure) s ≡ block_of_set (drop (suc k) sure) s =
-    rw f refl in
-    get_or-set_other blocks x.0 s (Some x.1) None (λ e. ne (sym e)) ∙ before s
-    ∙ sym (ap (λ xs. block_of_set xs s) parts ∙ listed ∙ ap (λ xs. block_of_set xs s) rest))
-    (cases_eq x.0 s)
 
 module _ (g : Graph) (a : Accesses) (l : Listed) where
   -- a listed node's state is what is listed

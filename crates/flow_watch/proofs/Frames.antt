@@ -376,10 +376,3 @@ quiet_frames plan a n calls turns (suc k) w is some still =
     let same = stands.same in
     let within = stands.within in
     rw (← is, same, within) refl
-
--- a watch with no frame in use makes no arrival
-pub quiet_empty :
-    (plan : TaskPlan) (a n : ℕ) (calls turns : List ℕ) (frames : ℕ) (w : Watch) →
-    Some (frames_of n calls turns frames) ≡ w → frames ≤ 0 → IsQuiet plan w a
-quiet_empty plan a n calls turns zero w is none = rw (← is) refl
-quiet_empty plan a n calls turns (suc k) w is none = absurd (omega arith)

@@ -1,6 +1,6 @@
 -- For each region the regions that hold all of its nodes.
 use Rattle.std.proofs.Common.{◌≡◌, ◌↔◌, ℕ, ◌+◌, ◌<◌, ◌≤◌, List, [], length, take, set, slice_index}
-use Rattle.std.proofs.Common.{get_or, IsTrue, refl, sym, ap, ◌∙◌, subst, inl, inr, ⊎_elim, arith}
+use Rattle.std.proofs.Common.{get_or, IsTrue, sym, ap, ◌∙◌, subst, inl, inr, ⊎_elim, arith}
 use Rattle.std.proofs.Common.{get_or-set_same, get_or-set_other}
 use Rattle.std.specs.List.{filter}
 use Rattle.std.proofs.lemmas.Bool.{cases_eq, cases_lt, both_ways}
@@ -16,10 +16,6 @@ abbrev pub IsNarrowed : List (List ℕ) → List (List ℕ) → List ℕ → Lis
 IsNarrowed old new seen holders r s =
     IsTrue (has (row new r) s)
     ↔ (IsTrue (has (row old r) s) × (IsTrue (has seen r) → IsTrue (has holders s)))
-
-pub narrow_start : (rows : List (List ℕ)) (holders : List ℕ) (r s : ℕ)
-    → IsNarrowed rows rows (take 0 holders) holders r s
-narrow_start rows holders r s = ((λ t. (t, λ f. absurd (both_ways (has [] r) refl f))), (λ p. p.0))
 
 pub narrow_more : (old now new : List (List ℕ)) (holders here : List ℕ) (i r s : ℕ)
     → i < length holders → get_or holders i 0 < length now
@@ -60,13 +56,6 @@ IsRoundBelow heads holders rows k r s =
     IsTrue (has (row rows r) s)
     ↔ (IsTrue (has (row holders (slice_index heads r)) s)
     × ((y : ℕ) → y < k → IsTrue (has (row holders y) r) → IsTrue (has (row holders y) s)))
-
-pub round_start : (heads : List ℕ) (holders rows : List (List ℕ)) (r s : ℕ)
-    → row rows r ≡ row holders (slice_index heads r) → IsRoundBelow heads holders rows 0 r s
-round_start heads holders rows r s e = (
-  (λ t. (subst (λ xs. IsTrue (has xs s)) e t, λ y lt. absurd (omega arith))),
-  (λ p. subst (λ xs. IsTrue (has xs s)) (sym e) p.0),
-)
 
 pub round_more : (heads : List ℕ) (holders now new : List (List ℕ)) (k r s : ℕ)
     → IsTrue (has (row new r) s)

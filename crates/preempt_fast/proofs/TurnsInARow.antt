@@ -3,7 +3,7 @@ use Rattle.std.proofs.Common.{◌≡◌, ℕ, zero, suc, ◌+◌, ◌-◌, ◌<�
 use Rattle.std.proofs.Common.{None, refl, sym, ◌∙◌, ap, subst, inl, inr, arith, List, [], length}
 use Rattle.std.proofs.Common.{length-set}
 use Rattle.std.specs.Prelude.{◌==◌, nat_lt, slice_index_or}
-use Rattle.std.proofs.lemmas.Bool.{cases_Bool, cases_lt, false≢true}
+use Rattle.std.proofs.lemmas.Bool.{cases_Bool, cases_lt}
 use Rattle.std.proofs.lemmas.Bool.Decides.{nat_tests}
 use Rattle.crpd_base.specs.declared.data.TaskPlan.{TaskPlan}
 use Rattle.flow_watch.specs.Iterations.{HasIterations}
@@ -270,20 +270,6 @@ moved_line sys a b t u h = ap (λ (x : Turn). x.job.line) h.turn ∙ turned_by_l
 pub moved_long : (sys : System) (a b : ℕ) (t u : Turn) → HasMoved sys a b t u
     → length u.cache ≡ length t.cache
 moved_long sys a b t u h = ap (λ (x : Turn). length x.cache) h.turn ∙ turned_by_long sys a t (b - a)
-
--- a job that is open and has moved has moved by a cycle
-pub moved_later : (sys : System) (a b : ℕ) (t u : Turn) → HasMoved sys a b t u
-    → is_open t.job.standing ≡ true → (is_open u.job.standing ≡ false) ⊎ (a < b) → a < b
-moved_later sys a b t u h o (inr l) = l
-moved_later sys a b t u h o (inl f) =
-    elim (cases_lt a b) [
-      | inl l ↦ l
-      | inr g ↦
-          let none : b - a ≡ 0 = omega arith in
-          absurd (false≢true (sym f
-          ∙ ap (λ (x : Turn). is_open x.job.standing) (h.turn ∙ ap (turn_after_steps sys a t) none)
-          ∙ o))
-    ]
 
 -- another job of the same line has its plan too
 pub has_plan_of : (plans : List TaskPlan) (old job : Job) → job.line ≡ old.line → HasPlan plans old

@@ -30,15 +30,6 @@ first_earlier lines due t p q other h =
       here = h.here;
     }
 
--- past the end there is none
-pub first_none : (lines : List ScriptJob) (due : List (ℕ × ℕ)) (t q : ℕ) → q ≡ length due
-    → IsFirstFrom lines due t (length due) q
-first_none lines due t q e = record {
-  from = omega arith;
-  none = λ r a b c. absurd (omega arith);
-  here = λ l. absurd (omega arith);
-}
-
 -- one more position is told
 pub opened_none : (due : List (ℕ × ℕ)) (p : ℕ) (cs : List Completion) → HasOpened due p p cs cs
 opened_none due p cs = record {

@@ -74,12 +74,6 @@ pub newly_left : (sys : System) (ins : Ins) (cache : Cache) (memory : Memory) (k
 newly_left sys ins cache memory k l job h e =
     ap (λ (t : Turn). t.job.left) (sym (newly sys ins cache memory k l job h e))
 
-pub under_way_left : (sys : System) (ins : Ins) (cache : Cache) (memory : Memory) (k l : ℕ)
-    (job : Job) → l ≡ job.left → 0 < l
-    → (turn_after_fetch sys ins (turn_by cache memory k job)).job.left ≡ l
-under_way_left sys ins cache memory k l job e h =
-    ap (λ (t : Turn). t.job.left) (sym (under_way sys ins cache memory k l job e h))
-
 -- the plan of a task by its place
 pub plan_is : (sys : System) (task : ℕ) (plan : TaskPlan) → slice_get sys.plans task ≡ Some plan
     → plan_of sys task ≡ plan

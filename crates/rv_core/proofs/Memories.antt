@@ -265,10 +265,6 @@ put_bytes_from (suc n) memory a value h ha =
     put_bytes_from n (put_byte memory a (value % 2 ^ 8)) (next_byte a) (value / 2 ^ 8)
     (put_from 0 memory a (value % 2 ^ 8) h (omega arith) ha (omega arith)) (omega arith)
 
--- the stores of two and of four bytes
-pub put_two : (memory : Memory) (a value : ℕ) → put_bytes 2 memory a value ≡ put_half memory a value
-put_two memory a value = refl
-
 pub put_four : (memory : Memory) (a value : ℕ)
     → put_bytes 4 memory a value ≡ put_whole memory a value
 put_four memory a value =
@@ -334,13 +330,6 @@ store_zero (suc n) memory a value h ha few some z =
       m,
       z,
     ) (put_beside n memory a 1 0 (value / 2 ^ 8) h ha (omega arith) (omega arith) (omega arith))
-
--- a byte that is another before the bytes behind it
-pub store_some : (count : ℕ) (memory : Memory) (a value : ℕ) → (count ≡ 0 → ⊥)
-    → put_bytes (count - 1) (put_byte memory a (value % 2 ^ 8)) (next_byte a) (value / 2 ^ 8)
-    ≡ put_bytes count memory a value
-store_some zero memory a value some = absurd (some refl)
-store_some (suc n) memory a value some = let m : suc n - 1 ≡ n = omega arith in rw m refl
 
 -- putting back what was there, which can't want memory
 pub put_undone : {A E : Type 0} (r : Result A E) (memory after last : Memory) (a low before : ℕ)

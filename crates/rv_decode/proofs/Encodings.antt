@@ -1,9 +1,7 @@
 -- The word of each instruction, that it is decoded to it, and that no other word is.
 use Rattle.std.proofs.Common.{◌≡◌, ℕ, ◌+◌, ◌*◌, ◌/◌, ◌%◌, ◌^◌, ◌<◌, ℤ, true, List, [], ◌∷◌, Some}
-use Rattle.std.proofs.Common.{arith, refl, ap, sym, ◌∙◌, inl, inr, lit<, lit≤, to_z, of_z, w32}
-use Rattle.std.proofs.Common.{SFits}
+use Rattle.std.proofs.Common.{arith, refl, ap, sym, ◌∙◌, inl, inr, lit<, lit≤}
 use Rattle.std.proofs.lemmas.Bool.{cases_Bool}
-use Rattle.std.proofs.lemmas.Int.{to_z-of_z}
 use Rattle.crpd_base.proofs.Options.{some_injective, none_some}
 use Rattle.rv_decode.specs.declared.Ins.{Ins}
 use Rattle.rv_decode.specs.declared.Ins.TheVariants.{Lui, Auipc, Jal, Jalr, Beq, Bne, Blt, Bge}
@@ -357,31 +355,3 @@ is_word_of ins w h e = record {
   decoded = ap ins_of_word e ∙ encoding_decoded ins h;
   only = λ v within found. e ∙ encoding_again v ins within found;
 }
-
--- what the code of a row with an immediate writes
-pub i_arm : (ins : Ins) (o f d a w b : ℕ) (imm : ℤ) → HasFieldsInRange ins → w ≡ i_word o f d a b
-    → b ≡ signed_bits 12 (to_z w32 (of_z w32 imm)) → SFits w32 imm
-    → i_word o f d a (signed_bits 12 imm) ≡ encoding ins → IsWordOf ins w
-i_arm ins o f d a w b imm h p q within e =
-    is_word_of ins w h (p ∙ ap (i_word o f d a) (q ∙ ap (signed_bits 12) (to_z-of_z w32 imm within))
-    ∙ e)
-
-pub s_arm : (ins : Ins) (o f a b w : ℕ) (imm : ℤ) → HasFieldsInRange ins
-    → w ≡ s_word o f a b (signed_bits 12 (to_z w32 (of_z w32 imm))) → SFits w32 imm
-    → s_word o f a b (signed_bits 12 imm) ≡ encoding ins → IsWordOf ins w
-s_arm ins o f a b w imm h p within e =
-    is_word_of ins w h (p ∙ ap (λ z. s_word o f a b (signed_bits 12 z)) (to_z-of_z w32 imm within)
-    ∙ e)
-
-pub b_arm : (ins : Ins) (o f a b w : ℕ) (imm : ℤ) → HasFieldsInRange ins
-    → w ≡ b_word o f a b (signed_bits 13 (to_z w32 (of_z w32 imm))) → SFits w32 imm
-    → b_word o f a b (signed_bits 13 imm) ≡ encoding ins → IsWordOf ins w
-b_arm ins o f a b w imm h p within e =
-    is_word_of ins w h (p ∙ ap (λ z. b_word o f a b (signed_bits 13 z)) (to_z-of_z w32 imm within)
-    ∙ e)
-
-pub j_arm : (ins : Ins) (o d w : ℕ) (imm : ℤ) → HasFieldsInRange ins
-    → w ≡ j_word o d (signed_bits 21 (to_z w32 (of_z w32 imm))) → SFits w32 imm
-    → j_word o d (signed_bits 21 imm) ≡ encoding ins → IsWordOf ins w
-j_arm ins o d w imm h p within e =
-    is_word_of ins w h (p ∙ ap (λ z. j_word o d (signed_bits 21 z)) (to_z-of_z w32 imm within) ∙ e)

@@ -56,10 +56,6 @@ pub signed_low : (n : ℕ) (imm : ℤ) → IsSigned n imm → pos 0 ≤ℤ (imm 
 signed_low n (pos k) h = omega (arith, ints)
 signed_low n (negsuc k) h = omega (arith, ints)
 
-pub signed_high : (n : ℕ) (imm : ℤ) → IsSigned n imm → imm <ℤ pos (2 ^ (n - 1))
-signed_high n (pos k) h = omega (arith, ints)
-signed_high n (negsuc k) h = omega (arith, ints)
-
 pub negative_bits : (n : ℕ) (imm : ℤ) → 1 ≤ n → IsSigned n imm → imm <ℤ pos 0
     → pos (signed_bits n imm) ≡ (imm +ℤ pos (2 ^ n))
 negative_bits n (pos k) low h neg = absurd (omega (arith, ints))

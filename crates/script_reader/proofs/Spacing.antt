@@ -5,7 +5,7 @@ use Rattle.std.proofs.Common.{◌∷◌, length, take, drop, get_or, set, refl, 
 use Rattle.std.proofs.Common.{arith, get_or-set_same, get_or-set_other, length-set}
 use Rattle.std.specs.Prelude.{All, AllPairs}
 use Rattle.std.specs.List.{swap, AllByRecursion}
-use Rattle.std.specs.List.Sorted.{IsPermutation, IsNonDecreasing}
+use Rattle.std.specs.List.Sorted.{IsPermutation}
 use Rattle.std.proofs.lemmas.Bool.{cases_eq, cases_lt}
 use Rattle.std.proofs.lemmas.Bool.Decides.{nat_tests}
 use Rattle.std.proofs.lemmas.List.{get_or_default, length-drop, get_or-drop, take_all}
@@ -238,21 +238,3 @@ pub rest_of : (jobs : List ScriptJob) (i : ℕ)
     → take (length jobs - (i + 1)) (drop (i + 1) jobs) ≡ drop (i + 1) jobs
 rest_of jobs i =
     take_all (length jobs - (i + 1)) (drop (i + 1) jobs) (omega (arith, length-drop (i + 1) jobs))
-
--- ---- neighbours
-
-pub from_neighbours : (p : ℕ) (xs : List ℕ) → IsNonDecreasing xs
-    → ((k : ℕ) → k + 1 < length xs → get_or xs k 0 + p ≤ get_or xs (k + 1) 0)
-    → AllPairs (AreApart p) xs
-from_neighbours p xs up gaps i j d lt le =
-    let a = get_or_default xs i d 0 (omega arith) in
-    let b = get_or_default xs j d 0 le in
-    let g = gaps i (omega arith) in
-    let u = up (i + 1) j 0 (omega arith) le in
-    inl (omega arith)
-
-pub no_neighbours : (p : ℕ) (xs : List ℕ) (i : ℕ) → IsNonDecreasing xs → i + 1 < length xs
-    → get_or xs (i + 1) 0 - get_or xs i 0 < p → AllPairs (AreApart p) xs → ⊥
-no_neighbours p xs i up lt near pairs =
-    let u = up i (i + 1) 0 (omega arith) lt in
-    elim (pairs i (i + 1) 0 (omega arith) lt) [ inl h ↦ omega arith | inr h ↦ omega arith ]

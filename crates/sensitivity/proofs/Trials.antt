@@ -86,59 +86,6 @@ hits_with_miss set graphs hits c H =
       each = λ k lt. let P = H.each k lt in record { count = P.count; sure = P.sure };
     }
 
-pub in_range_with : (cost : Cost) (set : TaskSet) (c : ℕ) → IsTaskSet set → c ≤ 65535
-    → IsTaskSet (with_cost cost set c)
-in_range_with Switch set c T le = record {
-  platform = record {
-    line = T.platform.line;
-    line_size = T.platform.line_size;
-    sets = T.platform.sets;
-    hit = T.platform.hit;
-    miss = T.platform.miss;
-    memory = T.platform.memory;
-    taken = T.platform.taken;
-    switch = le;
-    mul = T.platform.mul;
-    div = T.platform.div;
-  };
-  some = T.some;
-  few = T.few;
-  each = T.each;
-  names = T.names;
-}
-in_range_with Miss set c T le = record {
-  platform = record {
-    line = T.platform.line;
-    line_size = T.platform.line_size;
-    sets = T.platform.sets;
-    hit = T.platform.hit;
-    miss = le;
-    memory = T.platform.memory;
-    taken = T.platform.taken;
-    switch = T.platform.switch;
-    mul = T.platform.mul;
-    div = T.platform.div;
-  };
-  some = T.some;
-  few = T.few;
-  each = T.each;
-  names = T.names;
-}
-
-pub shown_with : (cost : Cost) (set : TaskSet) (c : ℕ) (graphs : List CodeGraph)
-    (nests : List CodeNest) → AreTaskGraphs set graphs nests
-    → AreTaskGraphs (with_cost cost set c) graphs nests
-shown_with Switch set c graphs nests A = record {
-  all_graphs = A.all_graphs;
-  all_nests = A.all_nests;
-  each = A.each;
-}
-shown_with Miss set c graphs nests A = record {
-  all_graphs = A.all_graphs;
-  all_nests = A.all_nests;
-  each = A.each;
-}
-
 -- a copy of the set with the platform of another cost is the set with that cost
 abbrev pub made : Platform → List TaskSpec → TaskSet
 made p tasks = record { platform = p; tasks = tasks }
