@@ -83,7 +83,8 @@ pub(crate) fn new_parts(
             parts.push(part)?;
         }
     }
-    if found > MOST_ENTRIES {
+    let too_many = found > MOST_ENTRIES;
+    if too_many {
         return Err(UpdateError::TooManyEntries(found));
     }
     Ok(parts)

@@ -1,5 +1,5 @@
 // The updated certificate of a task set.
-ghost use Rattle.std.specs.Prelude.{◌≡◌, ◌<◌, ℕ, List, length, IfOk, MatchResult, All};
+ghost use Rattle.std.specs.Prelude.{◌≡◌, ◌<◌, ◌≤◌, ℕ, List, length, IfOk, MatchResult, All, sum_by};
 ghost use Rattle.crpd_base.specs.Ranges.{IsTaskSet};
 ghost use Rattle.crpd_base.specs.declared.data.Certificate.{Certificate};
 ghost use Rattle.flat_graph.specs.CodeGraph.{CodeGraph, HasCode};
@@ -7,9 +7,13 @@ ghost use Rattle.cert_check.specs.TaskGraphs.{task_graph_at, AreTaskGraphs};
 ghost use Rattle.cert_check.specs.Verdict.{IsJudged, Yes};
 ghost use Rattle.cert_model.specs.Ranges.{IsCertificate};
 ghost use Rattle.cert_build.specs.Best.{IsBest};
+ghost use Rattle.cert_build.specs.Assembly.{analysis_at, entries_of};
+ghost use Rattle.cert_build.specs.Certify.{IsCompleted};
 ghost use Rattle.cert_update.specs.Laws.{side, HasCodes};
 ghost use Rattle.cert_update.specs.Update.{IsUpdate};
 ghost use Rattle.cert_update.specs.Answer.{IsUpdated, IsUpdateError};
+ghost use Rattle.cert_update.specs.Inner.Coded.{coded_side};
+ghost use Rattle.cert_update.specs.Inner.Parts.{AreNewParts};
 
 use crate::analysed::without_source;
 use crate::answer::Updated;
@@ -17,7 +21,7 @@ use crate::coded::{Change, CodedSet};
 use crate::fault::UpdateError;
 use crate::parts::new_parts;
 use crate::sources::sources;
-use cert_build::complete;
+use cert_build::{Analysis, complete};
 use crpd_base::{Certificate, Items, TaskSet};
 use flat_graph::Graph;
 use loop_regions::Nest;
@@ -30,6 +34,31 @@ fn codes_law(graphs: &[Graph])
 {
     for graph in graphs {
         graph.graph_law();
+    }
+}
+
+/// The certificate of the new set with these parts, whose windows are the least ones with them.
+fn completed(
+    alloc: Global,
+    change: &Change,
+    parts: Vec<Analysis>,
+) -> Result<Certificate, UpdateError>
+    requires range { IsTaskSet change.now.new.set.now }
+    requires shown { AreTaskGraphs change.now.new.set.now change.now.new.graphs.now
+        change.now.new.nests.now }
+    requires parts { AreNewParts (coded_side change.now.old) change.now.certificate.now
+        (coded_side change.now.new) (length change.now.new.set.now.tasks) parts.items }
+    requires few { sum_by entries_of parts.items ≤ 4000000 }
+    ensures { MatchResult result
+        (λ c. IsCompleted change.now.new.set.now (coded_side change.now.new).graphs
+        (analysis_at parts.items) c)
+        (λ e. IsUpdateError (coded_side change.now.old) change.now.certificate.now
+        (coded_side change.now.new) e) }
+{
+    match complete(alloc, change.new.set, change.new.graphs, parts) {
+        Ok(certificate) => Ok(certificate),
+        Err(WindowError::Memory) => Err(UpdateError::Memory),
+        Err(WindowError::Unschedulable(task)) => Err(UpdateError::Unschedulable(task)),
     }
 }
 
@@ -100,12 +129,9 @@ pub fn update(
     let sources = sources(alloc, &change.old, &change.new)?;
     let parts = new_parts(alloc, &change, &sources)?;
     let analysed = without_source(alloc, &sources)?;
-    match complete(alloc, set, graphs, parts) {
-        Ok(certificate) => Ok(Updated {
-            certificate,
-            analysed: Items::new(analysed),
-        }),
-        Err(WindowError::Memory) => Err(UpdateError::Memory),
-        Err(WindowError::Unschedulable(task)) => Err(UpdateError::Unschedulable(task)),
-    }
+    let certificate = completed(alloc, &change, parts)?;
+    Ok(Updated {
+        certificate,
+        analysed: Items::new(analysed),
+    })
 }

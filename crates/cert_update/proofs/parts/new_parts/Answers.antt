@@ -57,9 +57,9 @@ loop-i-preserved c =
           c.task_entries-found.ensures.bound w.if-found-le-MOST_ENTRIES.false)
     ]
 
-pub returns-then-found-gt-MOST_ENTRIES-clause-parts :
-    goal.returns-then-found-gt-MOST_ENTRIES-clause-parts
-returns-then-found-gt-MOST_ENTRIES-clause-parts c =
+pub returns-then-too_many-clause-parts :
+    goal.returns-then-too_many-clause-parts
+returns-then-too_many-clause-parts c =
     let old = coded_side c.args.change.now.old in
     let new = coded_side c.args.change.now.new in
     many old c.args.change.now.certificate.now new c.loop-i.found c.loop-i.parts.items
@@ -67,4 +67,9 @@ returns-then-found-gt-MOST_ENTRIES-clause-parts c =
     c.loop-i.parts.items)
     (let count = c.requires.sources.tasks in let over = c.loop-i-test.false in
     let end = c.loop-i.auto.i-end in omega (arith, count, over, end)) c.loop-i.invariant)
-    c.if-found-gt-MOST_ENTRIES.true
+    (omega arith)
+
+pub part-requires-clause-source : goal.part-requires-clause-source
+part-requires-clause-source c =
+    c.requires.sources.each c.loop-i.i
+    (omega (arith, c.requires.sources.tasks, c.loop-i-test.true))
