@@ -74,11 +74,13 @@ pub fn analyse_all(
         let task = Task(k as u8);
         let analysis = analyse_task(alloc, &graphs[k], &nests[k], &set.platform, task)?;
         found += task_entries(analysis.states.as_slice());
-        if found <= MOST_ENTRIES {
+        let few = found <= MOST_ENTRIES;
+        if few {
             kept.push(analysis)?;
         }
     }
-    if found > MOST_ENTRIES {
+    let too_many = found > MOST_ENTRIES;
+    if too_many {
         return Err(BuildError::TooManyEntries(found));
     }
     Ok(kept)

@@ -12,8 +12,8 @@ use Rattle.cert_build.specs.Inner.Assembly.{IsTaskError}
 use Rattle.cert_build.proofs.Counting.{at_task, few_states, few_pairs, counted_more, all_kept}
 use Rattle.cert_build.proofs.Counting.{too_many, task_refused}
 use Rattle.cert_build.proofs.all_tasks.analyse_all.Goals as goal
-use Rattle.cert_build.proofs.all_tasks.analyse_all.Goals.{then-found-le-MOST_ENTRIES+in_ok-push}
-use Rattle.cert_build.proofs.all_tasks.analyse_all.Goals.{else-found-le-MOST_ENTRIES}
+use Rattle.cert_build.proofs.all_tasks.analyse_all.Goals.{then-few+in_ok-push}
+use Rattle.cert_build.proofs.all_tasks.analyse_all.Goals.{else-few}
 
 pub task_entries-found-requires-clause-few : goal.task_entries-found-requires-clause-few
 task_entries-found-requires-clause-few c =
@@ -37,16 +37,16 @@ loop-k-preserved c =
     nl c.index-graphs-k.is c.index-nests-k.is c.in_ok-analysis.ensures.exact in
     counted_more c.args.set.now (task_graph_at c.args.graphs.now c.args.nests.now) c.loop-k.k
     c.loop-k.found c.task_entries-found.result c.loop-k.kept.items
-    c.if-found-le-MOST_ENTRIES.kept.items c.in_ok-analysis.analysis
+    c.if-few.kept.items c.in_ok-analysis.analysis
     analysis c.in_ok-analysis.ensures.ranges
     (c.task_entries-found.ensures.is
     ∙ ap (λ (l : List NodeState). sum_by state_entries l) c.as_slice.ensures)
     c.task_entries-found.ensures.bound
-    (elim c.if-found-le-MOST_ENTRIES.branch [
-      | then-found-le-MOST_ENTRIES+in_ok-push w ↦ λ few.
+    (elim c.if-few.branch [
+      | then-few+in_ok-push w ↦ λ few.
           ap (λ v. v.items) w.kept-is ∙ w.in_ok-push.ensures.items
-      | else-found-le-MOST_ENTRIES w ↦ λ few.
-          absurd (omega (arith, few, w.if-found-le-MOST_ENTRIES.false))
+      | else-few w ↦ λ few.
+          absurd (omega (arith, few, w.if-few.false))
     ])
     c.loop-k.invariant
 
@@ -56,8 +56,8 @@ returns c =
     c.loop-k.found c.loop-k.kept.items (omega (arith, c.requires.tasks.all_graphs))
     (omega arith) c.loop-k.invariant
 
-pub returns-then-found-gt-MOST_ENTRIES : goal.returns-then-found-gt-MOST_ENTRIES
-returns-then-found-gt-MOST_ENTRIES c =
+pub returns-then-too_many : goal.returns-then-too_many
+returns-then-too_many c =
     too_many c.args.set.now (task_graph_at c.args.graphs.now c.args.nests.now) c.loop-k.k
     c.loop-k.found c.loop-k.kept.items (omega (arith, c.requires.tasks.all_graphs))
     (omega arith) c.loop-k.invariant
