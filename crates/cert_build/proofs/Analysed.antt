@@ -1,8 +1,7 @@
 -- The analysis of a task's code, from its parts.
-use Rattle.std.proofs.Common.{◌≡◌, ℕ, ◌≤◌, ◌^◌, Bool, List, IsTrue, ◌↔◌, refl, subst, arith}
+use Rattle.std.proofs.Common.{◌≡◌, ℕ, ◌≤◌, ◌^◌, Bool, List, ◌∙◌, refl, subst, arith}
 use Rattle.crpd_base.specs.declared.data.Platform.{Platform}
 use Rattle.crpd_base.specs.declared.data.NodeState.{NodeState}
-use Rattle.crpd_base.specs.Sets.{has, AreWords}
 use Rattle.flat_graph.specs.CodeGraph.{CodeGraph, graph_of, places_of}
 use Rattle.icache.specs.Accesses.{Accesses, accesses}
 use Rattle.must_cache.specs.Sure.{CountsSureHits}
@@ -16,6 +15,7 @@ use Rattle.exec_bound.specs.declared.fault.BoundError.TheVariants.{Memory, TooLa
 use Rattle.cert_check.specs.TaskGraphs.{task_graph}
 use Rattle.cert_model.proofs.Ranged.{rise_wider}
 use Rattle.cert_build.specs.Inner.Entries.{AreLeaderEntries}
+use Rattle.cert_build.specs.Best.{IsSetOf}
 use Rattle.cert_build.specs.Analysis.{part_of_analysis, IsAnalysis, KeepsRanges, HasNoAnalysis}
 use Rattle.cert_build.specs.declared.one_task.Analysis.{Analysis}
 use Rattle.cert_build.proofs.EntryLaws.{all_entries}
@@ -28,30 +28,34 @@ module _ (p : Platform) (g : CodeGraph) (n : CodeNest) (hits : List Bool) where
   abbrev pub uses : Accesses
   uses = accesses p (places_of g).address
 
-  pub analysed : (a : Analysis) → CountsSureHits (graph_of g) uses (counted hits)
+  within : (cycles : ℕ) (nodes loops : List ℕ)
+      → IsBound (graph_of g) (nest_of n) (costs_of p g (counted hits)) cycles nodes loops
+      → cycles ≤ 2 ^ 40
+  within cycles nodes loops B = subst (λ k. cycles ≤ k) bound_number B.within
+
+  pub analysed : (a : Analysis) (cycles : ℕ) → a.part.bound ≡ cycles
+      → CountsSureHits (graph_of g) uses (counted hits)
       → AreLeaderEntries (graph_of g) uses (graph_of g).size a.states
-      → ((s : ℕ) → IsTrue (has a.part.evicting s) ↔ IsEcb (graph_of g) uses s)
-      → AreWords 8 a.part.evicting
-      → ((s : ℕ) → IsTrue (has a.part.useful s) ↔ IsUcb (graph_of g) uses s)
-      → AreWords 8 a.part.useful
-      → IsBound (graph_of g) (nest_of n) (costs_of p g (counted hits)) a.part.bound a.potentials
-      a.loops → IsAnalysis p (task_graph g n) a
-  analysed a H E ecb evicting ucb reused B =
+      → IsSetOf a.part.evicting (IsEcb (graph_of g) uses)
+      → IsSetOf a.part.useful (IsUcb (graph_of g) uses)
+      → IsBound (graph_of g) (nest_of n) (costs_of p g (counted hits)) cycles a.potentials a.loops
+      → IsAnalysis p (task_graph g n) a
+  analysed a cycles is H E ecb ucb B =
       record {
         best = record {
           states = all_entries (graph_of g) uses (part_of_analysis a) E;
-          evicting = record { size = evicting; numbers = ecb };
-          useful = record { size = reused; numbers = ucb };
+          evicting = ecb;
+          useful = ucb;
           is_hit = counted hits;
           hits = H;
           potentials = record {
             nodes = B.all_nodes;
             regions = B.all_loops;
             least = B.least;
-            bound = B.first;
+            bound = λ i item. is ∙ B.first i item;
           };
         };
-        within = subst (λ k. a.part.bound ≤ k) bound_number B.within;
+        within = let top = within cycles a.potentials a.loops B in omega (arith, is, top);
       }
 
   pub refused : (e : BoundError) → CountsSureHits (graph_of g) uses (counted hits)
@@ -61,15 +65,13 @@ module _ (p : Platform) (g : CodeGraph) (n : CodeNest) (hits : List Bool) where
   refused (TooLarge address) H R = (record { is_hit = counted hits; hits = H; exceeds = R.1 }, R.0)
 
   -- the parts keep the ranges of a certificate
-  pub ranges : (graph_of g).size ≤ 16384 → (nest_of n).size ≤ 16384 → (a : Analysis)
-      → AreLeaderEntries (graph_of g) uses (graph_of g).size a.states
-      → IsBound (graph_of g) (nest_of n) (costs_of p g (counted hits)) a.part.bound a.potentials
-      a.loops → KeepsRanges a
-  ranges few few_regions a E B name method window response is_name window_le response_le =
+  pub ranges : (graph_of g).size ≤ 16384 → (nest_of n).size ≤ 16384 → (a : Analysis) (cycles : ℕ)
+      → a.part.bound ≡ cycles → AreLeaderEntries (graph_of g) uses (graph_of g).size a.states
+      → IsBound (graph_of g) (nest_of n) (costs_of p g (counted hits)) cycles a.potentials a.loops
+      → KeepsRanges a
+  ranges few few_regions a cycles is E B name method window response is_name window_le response_le =
       record {
-        bound =
-            let top : a.part.bound ≤ 2 ^ 40 = subst (λ k. a.part.bound ≤ k) bound_number B.within in
-            omega (arith, top);
+        bound = let top = within cycles a.potentials a.loops B in omega (arith, is, top);
         loops = record {
           few = let count = B.all_loops in omega (arith, count, few_regions);
           each = B.small_loops;

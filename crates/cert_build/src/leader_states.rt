@@ -7,11 +7,12 @@ ghost use Rattle.must_cache.specs.FirstWalks.{AreSureParts};
 ghost use Rattle.useful_sets.specs.Sets.{AreUseful};
 ghost use Rattle.cert_build.specs.Inner.Entries.{ListsSure, IsStateEntry, AreLeaderEntries};
 
-use crpd_base::{Items, NodeId, NodeState, SETS, SetBits, WORDS};
+use crpd_base::{Items, Memory, NodeId, NodeState, SETS, SetBits, WORDS};
 use flat_graph::Graph;
 use icache::Geometry;
 use must_cache::{SureParts, sure_at};
 use std::alloc::{AllocError, Global};
+use useful_sets::useful_by_hits;
 
 /// Adds a cache set with its block, a number of 32 bits.
 fn push_pair(pairs: &mut Vec<(u16, u32)>, set: u16, block: u32) -> Result<(), AllocError>
@@ -79,9 +80,9 @@ fn entry(
     })
 }
 
-/// The entries of all leaders, by ascending node: what surely is in the cache before each, and the
-/// useful cache sets. It looks once at each node, and once at each cache set of a leader.
-pub(crate) fn leader_states(
+/// The entries of all leaders, by ascending node: what surely is in the cache before each, and
+/// these useful cache sets. It looks once at each node, and once at each cache set of a leader.
+fn leader_states(
     alloc: Global,
     graph: &Graph,
     geometry: &Geometry,
@@ -110,4 +111,29 @@ pub(crate) fn leader_states(
         }
     }
     Ok(states)
+}
+
+/// The entries of all leaders, by ascending node: what surely is in the cache before each, and the
+/// useful cache sets.
+pub(crate) fn leader_entries(
+    alloc: Global,
+    graph: &Graph,
+    geometry: &Geometry,
+    parts: &SureParts<SETS, WORDS>,
+) -> Result<Vec<NodeState>, Memory>
+    requires some { 0 < geometry.now.platform.sets }
+    requires few { geometry.now.platform.sets ≤ 512 }
+    requires parts { AreSureParts (graph_of graph.now)
+        (accesses geometry.now.platform (places_of graph.now).address)
+        parts.now.places.items parts.now.states.items parts.now.hits.items parts.now.unsure.items }
+    ensures { IfOk result (λ states.
+        AreLeaderEntries (graph_of graph.now)
+        (accesses geometry.now.platform (places_of graph.now).address)
+        (graph_of graph.now).size states.items) }
+{
+    let useful = useful_by_hits::<WORDS>(alloc, graph, geometry, &parts.hits)?;
+    match leader_states(alloc, graph, geometry, parts, &useful) {
+        Ok(states) => Ok(states),
+        Err(_) => Err(Memory),
+    }
 }

@@ -1,11 +1,19 @@
 // The analysis of one task's code.
-ghost use Rattle.std.specs.Prelude.{MatchResult, IfOk};
+ghost use Rattle.std.specs.Prelude.{◌≡◌, ◌≤◌, MatchResult, IfOk, false, length, slice_index_or};
 ghost use Rattle.crpd_base.specs.Ranges.{IsPlatform};
-ghost use Rattle.loop_regions.specs.CodeNest.{IsNestOf};
+ghost use Rattle.icache.specs.Accesses.{accesses};
+ghost use Rattle.flat_graph.specs.CodeGraph.{graph_of, places_of};
+ghost use Rattle.must_cache.specs.Sure.{CountsSureHits};
+ghost use Rattle.useful_sets.specs.Useful.{IsEcb, IsUcb};
+ghost use Rattle.loop_regions.specs.CodeNest.{IsNestOf, nest_of};
+ghost use Rattle.evict_sets.specs.Listing.{counted};
+ghost use Rattle.exec_bound.specs.Costs.{costs_of, IsBound};
+ghost use Rattle.exec_bound.specs.BoundErrors.{IsBoundError};
 ghost use Rattle.cert_check.specs.TaskGraphs.{task_graph};
+ghost use Rattle.cert_build.specs.Best.{IsSetOf};
 ghost use Rattle.cert_build.specs.Analysis.{IsAnalysis, KeepsRanges, HasNoAnalysis};
 
-use crate::leader_states::leader_states;
+use crate::leader_states::leader_entries;
 use crpd_base::{Items, NodeState, Part, Platform, SETS, WORDS};
 use evict_sets::evicting;
 use exec_bound::{Bound, BoundError, bound_by_hits};
@@ -14,7 +22,7 @@ use icache::Geometry;
 use loop_regions::Nest;
 use must_cache::sure_parts;
 use std::alloc::Global;
-use useful_sets::{useful_by_hits, useful_of_hits};
+use useful_sets::useful_of_hits;
 
 /// What is found of a task's code alone: its execution bound in cycles, its evicting and its useful
 /// cache sets, the entries of its leaders by ascending node, and the least potentials of its nodes
@@ -29,6 +37,51 @@ pub struct Analysis {
     pub potentials: Items<u64>,
     /// The least potentials of its regions, 0 to 2^40 cycles, by region number.
     pub loops: Items<u64>,
+}
+
+/// The execution bound of a task, where these nodes are the hits by Sure.
+fn found_bound(
+    alloc: Global,
+    graph: &Graph,
+    nest: &Nest,
+    platform: &Platform,
+    hits: &[bool],
+) -> Result<Bound, BoundError>
+    requires nest { IsNestOf graph.now nest.now }
+    requires count { length hits.now ≡ (graph_of graph.now).size }
+    requires hits { CountsSureHits (graph_of graph.now)
+        (accesses platform.now (places_of graph.now).address) (counted hits.now) }
+    ensures { MatchResult result
+        (λ b. IsBound (graph_of graph.now) (nest_of nest.now)
+        (costs_of platform.now graph.now (counted hits.now)) b.cycles b.nodes b.loops)
+        (λ e. IsBoundError graph.now (nest_of nest.now)
+        (costs_of platform.now graph.now (counted hits.now)) e) }
+{
+    bound_by_hits(alloc, graph, nest, platform, hits)
+}
+
+/// A task's bound, with its evicting and its useful cache sets.
+fn found_part(graph: &Graph, geometry: &Geometry, hits: &[bool], cycles: u64) -> Part
+    requires room { geometry.now.platform.sets ≤ 512 }
+    requires count { length hits.now ≡ (graph_of graph.now).size }
+    requires hits { CountsSureHits (graph_of graph.now)
+        (accesses geometry.now.platform (places_of graph.now).address)
+        (λ y. slice_index_or hits.now y false) }
+    ensures bound { result.bound ≡ cycles }
+    ensures evicting { IsSetOf result.evicting (IsEcb (graph_of graph.now)
+        (accesses geometry.now.platform (places_of graph.now).address)) }
+    ensures useful { IsSetOf result.useful (IsUcb (graph_of graph.now)
+        (accesses geometry.now.platform (places_of graph.now).address)) }
+{
+    let evicting = evicting::<WORDS>(graph, geometry);
+    let useful = useful_of_hits::<WORDS>(graph, geometry, hits);
+    evicting.words_law();
+    useful.words_law();
+    Part {
+        bound: cycles,
+        evicting,
+        useful,
+    }
 }
 
 /// The analysis of a task's code: the must analysis and the useful cache sets (Lee et al. 1998) at
@@ -63,21 +116,12 @@ pub fn analyse(
         cycles,
         nodes,
         loops,
-    } = bound_by_hits(alloc, graph, nest, platform, &parts.hits)?;
-    let Ok(useful) = useful_by_hits::<WORDS>(alloc, graph, &geometry, &parts.hits) else {
+    } = found_bound(alloc, graph, nest, platform, &parts.hits)?;
+    let Ok(states) = leader_entries(alloc, graph, &geometry, &parts) else {
         return Err(BoundError::Memory);
     };
-    let states = leader_states(alloc, graph, &geometry, &parts, &useful)?;
-    let evicting = evicting::<WORDS>(graph, &geometry);
-    let useful = useful_of_hits::<WORDS>(graph, &geometry, &parts.hits);
-    evicting.words_law();
-    useful.words_law();
     Ok(Analysis {
-        part: Part {
-            bound: cycles,
-            evicting,
-            useful,
-        },
+        part: found_part(graph, &geometry, &parts.hits, cycles),
         states: Items::new(states),
         potentials: nodes,
         loops,

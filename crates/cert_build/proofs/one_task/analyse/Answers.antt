@@ -1,19 +1,19 @@
-use Rattle.std.proofs.Common.{ℕ, List, Bool, IsTrue, ◌↔◌, sym, subst}
+use Rattle.std.proofs.Common.{List, Bool, sym, subst}
 use Rattle.std.proofs.lemmas.Result.{err_from_is_err_and}
 use Rattle.crpd_base.specs.declared.data.Platform.{Platform}
 use Rattle.crpd_base.specs.declared.data.NodeState.{NodeState}
-use Rattle.crpd_base.specs.Sets.{has}
 use Rattle.flat_graph.specs.CodeGraph.{graph_of, places_of}
 use Rattle.icache.specs.Accesses.{accesses}
 use Rattle.evict_sets.specs.Listing.{counted}
 use Rattle.must_cache.specs.Sure.{CountsSureHits}
 use Rattle.useful_sets.specs.Useful.{IsEcb, IsUcb}
+use Rattle.cert_build.specs.Best.{IsSetOf}
 use Rattle.cert_build.specs.Inner.Entries.{AreLeaderEntries}
 use Rattle.cert_build.proofs.Analysed.{analysed, refused, ranges}
 use Rattle.cert_build.proofs.one_task.analyse.Goals as goal
 
-pub bound_by_hits-requires-clause-hits : goal.bound_by_hits-requires-clause-hits
-bound_by_hits-requires-clause-hits c =
+pub found_bound-requires-clause-hits : goal.found_bound-requires-clause-hits
+found_bound-requires-clause-hits c =
     subst (λ (l : List Bool).
     CountsSureHits (graph_of c.args.graph.now)
     (accesses c.args.platform.now (places_of c.args.graph.now).address) (counted l))
@@ -26,72 +26,59 @@ pub returns-clause-exact : goal.returns-clause-exact
 returns-clause-exact c =
     let g = graph_of c.args.graph.now in
     let address = (places_of c.args.graph.now).address in
-    let hits : CountsSureHits g (accesses c.args.platform.now address)
-    (counted c.in-Ok.parts.hits.items) =
-    subst (λ (p : Platform).
+    let hits : CountsSureHits g (accesses c.args.platform.now address) (counted c.deref.result.now) =
+    subst (λ (l : List Bool). CountsSureHits g (accesses c.args.platform.now address) (counted l))
+    (sym c.deref.ensures.value)
+    (subst (λ (p : Platform).
     CountsSureHits g (accesses p address) (counted c.in-Ok.parts.hits.items)) c.new-geometry.ensures
-    c.in-Ok.ensures.hit in
+    c.in-Ok.ensures.hit) in
     let entries : AreLeaderEntries g (accesses c.args.platform.now address) g.size c.new.result =
     subst (λ (l : List NodeState).
     AreLeaderEntries g (accesses c.args.platform.now address) g.size l) (sym c.new.ensures)
     (subst (λ (p : Platform).
-    AreLeaderEntries g (accesses p address) g.size c.in_ok-states.states.items)
-    c.new-geometry.ensures c.in_ok-states.ensures) in
-    let evicts : (s : ℕ) → IsTrue (has c.evicting-evicting.result s)
-    ↔ IsEcb g (accesses c.args.platform.now address) s =
-    subst (λ (p : Platform). (s : ℕ)
-    → IsTrue (has c.evicting-evicting.result s) ↔ IsEcb g (accesses p address) s)
-    c.new-geometry.ensures c.evicting-evicting.ensures in
-    let uses : (s : ℕ) → IsTrue (has c.useful_of_hits-useful.result s)
-    ↔ IsUcb g (accesses c.args.platform.now address) s =
-    subst (λ (p : Platform). (s : ℕ)
-    → IsTrue (has c.useful_of_hits-useful.result s) ↔ IsUcb g (accesses p address) s)
-    c.new-geometry.ensures c.useful_of_hits-useful.ensures in
-    analysed c.args.platform.now c.args.graph.now c.args.nest.now c.in-Ok.parts.hits.items _ hits
-    entries evicts c.words_law.ensures uses c.words_law-2.ensures
-    (c.in_ok-cycles.ensures.least (counted c.in-Ok.parts.hits.items) hits)
+    AreLeaderEntries g (accesses p address) g.size c.in-Ok-leader_entries.states.items)
+    c.new-geometry.ensures c.in-Ok-leader_entries.ensures) in
+    let evicts : IsSetOf c.found_part.result.evicting
+    (IsEcb g (accesses c.args.platform.now address)) =
+    subst (λ (p : Platform). IsSetOf c.found_part.result.evicting (IsEcb g (accesses p address)))
+    c.new-geometry.ensures c.found_part.ensures.evicting in
+    let uses : IsSetOf c.found_part.result.useful (IsUcb g (accesses c.args.platform.now address)) =
+    subst (λ (p : Platform). IsSetOf c.found_part.result.useful (IsUcb g (accesses p address)))
+    c.new-geometry.ensures c.found_part.ensures.useful in
+    analysed c.args.platform.now c.args.graph.now c.args.nest.now c.deref.result.now _ _
+    c.found_part.ensures.bound hits entries evicts uses c.in_ok-cycles.ensures
 
 pub returns-in_err-cycles-clause-exact : goal.returns-in_err-cycles-clause-exact
 returns-in_err-cycles-clause-exact c =
     let g = graph_of c.args.graph.now in
     let address = (places_of c.args.graph.now).address in
-    let hits : CountsSureHits g (accesses c.args.platform.now address)
-    (counted c.in-Ok.parts.hits.items) =
-    subst (λ (p : Platform).
+    let hits : CountsSureHits g (accesses c.args.platform.now address) (counted c.deref.result.now) =
+    subst (λ (l : List Bool). CountsSureHits g (accesses c.args.platform.now address) (counted l))
+    (sym c.deref.ensures.value)
+    (subst (λ (p : Platform).
     CountsSureHits g (accesses p address) (counted c.in-Ok.parts.hits.items)) c.new-geometry.ensures
-    c.in-Ok.ensures.hit in
+    c.in-Ok.ensures.hit) in
     let p = err_from_is_err_and c.from_residual.result c.from_residual.ensures.1 in
     rw (p.1, p.2)
-    (refused c.args.platform.now c.args.graph.now c.args.nest.now c.in-Ok.parts.hits.items
-    c.in_err-cycles.field-0.0 hits
-    (c.in_err-cycles.ensures.least (counted c.in-Ok.parts.hits.items) hits))
+    (refused c.args.platform.now c.args.graph.now c.args.nest.now c.deref.result.now
+    c.in_err-cycles.field-0.0 hits c.in_err-cycles.ensures)
 
 pub returns-clause-ranges : goal.returns-clause-ranges
 returns-clause-ranges c =
     let g = graph_of c.args.graph.now in
     let address = (places_of c.args.graph.now).address in
-    let hits : CountsSureHits g (accesses c.args.platform.now address)
-    (counted c.in-Ok.parts.hits.items) =
-    subst (λ (p : Platform).
-    CountsSureHits g (accesses p address) (counted c.in-Ok.parts.hits.items)) c.new-geometry.ensures
-    c.in-Ok.ensures.hit in
     let entries : AreLeaderEntries g (accesses c.args.platform.now address) g.size c.new.result =
     subst (λ (l : List NodeState).
     AreLeaderEntries g (accesses c.args.platform.now address) g.size l) (sym c.new.ensures)
     (subst (λ (p : Platform).
-    AreLeaderEntries g (accesses p address) g.size c.in_ok-states.states.items)
-    c.new-geometry.ensures c.in_ok-states.ensures) in
-    ranges c.args.platform.now c.args.graph.now c.args.nest.now c.in-Ok.parts.hits.items
+    AreLeaderEntries g (accesses p address) g.size c.in-Ok-leader_entries.states.items)
+    c.new-geometry.ensures c.in-Ok-leader_entries.ensures) in
+    ranges c.args.platform.now c.args.graph.now c.args.nest.now c.deref.result.now
     c.graph_law.ensures.few c.size_law.ensures
     (record {
-      part = record {
-        bound = c.in_ok-cycles.field-0.cycles;
-        evicting = c.evicting-evicting.result;
-        useful = c.useful_of_hits-useful.result;
-      };
+      part = c.found_part.result;
       states = c.new.result;
       potentials = c.in_ok-cycles.field-0.nodes;
       loops = c.in_ok-cycles.field-0.loops;
     })
-    entries
-    (c.in_ok-cycles.ensures.least (counted c.in-Ok.parts.hits.items) hits)
+    _ c.found_part.ensures.bound entries c.in_ok-cycles.ensures
