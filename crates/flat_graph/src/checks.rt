@@ -1,6 +1,6 @@
 // Which spots of the code have an error.
 ghost use Rattle.std.specs.Prelude.{◌≡◌, ℕ, ◌≤◌, ◌+◌, Some, None, IfOk, MatchResult, IsTrue};
-ghost use Rattle.std.specs.Prelude.{option_map};
+ghost use Rattle.std.specs.Prelude.{option_map, ◌==◌, ◌||◌};
 ghost use Rattle.std.specs.List.{list_any};
 ghost use Rattle.code_map.specs.Words.{word_at};
 ghost use Rattle.rv_decode.specs.Address.{end_address};
@@ -39,6 +39,14 @@ fn is_under_way(code: &CodeMap, under_way: &[u32], target: u32) -> bool
     under_way.iter().any(|a| calls(code, *a, target))
 }
 
+/// Whether a call to this target is recursive: the target is the entry or that of a call under way.
+fn is_recursive(code: &CodeMap, entry: u32, under_way: &[u32], target: u32) -> bool
+    ensures { result ≡ ((target == entry)
+        || list_any (λ a. calls (flows (word_at code.now.images) a) target) under_way.now) }
+{
+    target == entry || is_under_way(code, under_way, target)
+}
+
 /// The error of a call: its target is the entry or the target of a call under way, or sixteen calls
 /// are under way.
 fn call_error(
@@ -52,7 +60,7 @@ fn call_error(
         MatchResult result (λ _. error ≡ None)
         (λ e. option_map (λ x. graph_error x address) error ≡ Some e) }
 {
-    if target == entry || is_under_way(code, under_way, target) {
+    if is_recursive(code, entry, under_way, target) {
         return Err(GraphError::Recursive(address));
     }
     if under_way.len() == MOST_CALLS {

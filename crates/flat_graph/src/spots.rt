@@ -1,11 +1,13 @@
 // Spots of the code of a task: the calls under way and an address.
 ghost use Rattle.std.specs.Prelude.{◌≡◌, ◌≤◌, ◌+◌, ◌++◌, ◌∷◌, [], reverse, IfOk, OnOk};
+ghost use Rattle.std.specs.Prelude.{List, ℕ};
 ghost use Rattle.std.proofs.Common.{rules};
 ghost use Rattle.std.specs.Cmp.{partial_order_from_own_ties};
 ghost use Rattle.std.specs.Cmp.Rules.{comparing};
 ghost use Rattle.std.specs.List.Sorted.{IsPermutation, IsSortedBy};
 ghost use Rattle.std.specs.Ordering.{nat_cmp, on, then_cmp, as_partial_cmp, is_lt};
 ghost use Rattle.rv_decode.specs.Address.{end_address};
+ghost use Rattle.rv_decode.specs.Flow.{Branch};
 ghost use Rattle.flat_graph.specs.Inner.NumberingOrder.{flat_cmp};
 ghost use Rattle.flat_graph.specs.FlatGraph.{goes_to, returns_to};
 ghost use Rattle.flat_graph.specs.Inner.Spots.{spot_node, flat_steps, IsBelowEnd};
@@ -113,6 +115,20 @@ fn after_return(alloc: Global, calls: &[u32]) -> Result<Steps, AllocError>
     Ok(Steps::Away(Context { calls: rest }, *last + 4))
 }
 
+/// Where a branch at an address leads: its target may be the next address.
+fn branch_steps(address: u32, target: u32) -> Steps
+    requires { address + 4 ≤ end_address }
+    ensures { (calls : List ℕ) → flat_steps calls result ≡ goes_to calls address (Branch target) }
+{
+    let next = address + 4;
+    let is_next = target == next;
+    if is_next {
+        Steps::To(next)
+    } else {
+        Steps::Either(next, target)
+    }
+}
+
 /// Where a spot with these calls under way leads, by the way that its instruction leads.
 pub(crate) fn steps_of(
     alloc: Global,
@@ -127,8 +143,7 @@ pub(crate) fn steps_of(
     let next = address + 4;
     Ok(match way {
         Way::Next => Steps::To(next),
-        Way::Branch(target) if target == next => Steps::To(next),
-        Way::Branch(target) => Steps::Either(next, target),
+        Way::Branch(target) => branch_steps(address, target),
         Way::Jump(target) => Steps::To(target),
         Way::Call(target) => Steps::Away(into_call(alloc, calls, address)?, target),
         Way::Return => after_return(alloc, calls)?,
