@@ -44,7 +44,8 @@ fn is_recursive(code: &CodeMap, entry: u32, under_way: &[u32], target: u32) -> b
     ensures { result ≡ ((target == entry)
         || list_any (λ a. calls (flows (word_at code.now.images) a) target) under_way.now) }
 {
-    target == entry || is_under_way(code, under_way, target)
+    let is_entry = target == entry;
+    is_entry || is_under_way(code, under_way, target)
 }
 
 /// The error of a call: its target is the entry or the target of a call under way, or sixteen calls
