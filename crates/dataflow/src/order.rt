@@ -135,7 +135,8 @@ fn depth_order<G: Flow>(
     let mut search = DepthFirst::new(alloc, outgoing)?;
     for k in 0..flow.nodes() {
         let root = root_at(flow.nodes(), from_last, k);
-        if !search.seen[root as usize] {
+        let is_new = !search.seen[root as usize];
+        if is_new {
             search.run(flow, outgoing, root)?;
         }
     }

@@ -1,7 +1,11 @@
-use Rattle.std.proofs.Common.{◌≡◌, get_or, true, false, length, ap, arith, subst, sym}
-use Rattle.dataflow.specs.Inner.Search.{IsVisitOrder}
+use Rattle.std.proofs.Common.{◌≡◌, get_or, true, false, length, ap, arith, subst, sym, ◌∙◌}
+use Rattle.std.proofs.lemmas.Grind.{common_steps}
+use Rattle.std.proofs.lemmas.List.{get_or_default}
+use borrow.Author.Count.{below_more}
+use Rattle.dataflow.specs.Inner.Search.{IsVisitOrder, root_at}
 use Rattle.dataflow.proofs.Depth.{none_found, all_left, backwards, each_root}
 use Rattle.dataflow.proofs.order.depth_order.Goals as goal
+use Rattle.dataflow.proofs.order.depth_order.Goals.{then-is_new+in_ok-run, else-is_new}
 
 pub loop-k-init : goal.loop-k-init
 loop-k-init g c =
@@ -26,3 +30,37 @@ returns g c =
     c.loop-k.invariant.search in
     subst (λ xs. IsVisitOrder (g.G.Flow.node_count c.args.flow.now) xs)
     (sym c.reverse.ensures.items) (backwards _ _ all)
+
+pub loop-k-preserved : goal.loop-k-preserved
+loop-k-preserved g c =
+    let n = g.G.Flow.node_count c.args.flow.now in
+    let root : c.root_at-root.result ≡ root_at c.args.from_last n c.loop-k.k =
+    c.root_at-root.ensures ∙ ap (λ m. root_at c.args.from_last m c.loop-k.k) c.nodes.ensures in
+    elim c.if-is_new.branch [
+      | then-is_new+in_ok-run w ↦
+          rw w.search-is
+          (record {
+            search = w.in_ok-run.ensures.search;
+            path = w.in_ok-run.ensures.path;
+            found =
+                below_more
+                (λ j. get_or w.run.new.self.seen.items (root_at c.args.from_last n j) false ≡ true)
+                c.loop-k.k (λ j lt. w.in_ok-run.ensures.seen _ (c.loop-k.invariant.found j lt))
+                (subst (λ r. get_or w.run.new.self.seen.items r false ≡ true) root
+                w.in_ok-run.ensures.root);
+          })
+      | else-is_new w ↦
+          rw w.search-is
+          (record {
+            search = c.loop-k.invariant.search;
+            path = c.loop-k.invariant.path;
+            found =
+                below_more
+                (λ j. get_or c.loop-k.search.seen.items (root_at c.args.from_last n j) false ≡ true)
+                c.loop-k.k c.loop-k.invariant.found
+                (subst (λ r. get_or c.loop-k.search.seen.items r false ≡ true) root
+                (get_or_default c.loop-k.search.seen.items c.root_at-root.result false
+                c.index.result.now (grind (arith, common_steps)) ∙ sym c.index.ensures
+                ∙ w.if-is_new.false));
+          })
+    ]
