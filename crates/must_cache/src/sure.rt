@@ -163,11 +163,12 @@ pub fn sure_at<const S: usize, const W: usize>(
     let Some(place) = parts.places[node] else {
         unreachable!()
     };
-    let is_unsure = parts.unsure[node].has(set);
-    if is_unsure {
-        None
-    } else {
+    let marked = parts.unsure[node].has(set);
+    let is_sure = !marked;
+    if is_sure {
         parts.states[place].at(set)
+    } else {
+        None
     }
 }
 
