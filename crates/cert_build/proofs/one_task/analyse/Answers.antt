@@ -26,7 +26,8 @@ pub returns-clause-exact : goal.returns-clause-exact
 returns-clause-exact c =
     let g = graph_of c.args.graph.now in
     let address = (places_of c.args.graph.now).address in
-    let hits : CountsSureHits g (accesses c.args.platform.now address) (counted c.deref.result.now) =
+    let hits : CountsSureHits g (accesses c.args.platform.now address) (counted
+    c.deref.result.now) =
     subst (λ (l : List Bool). CountsSureHits g (accesses c.args.platform.now address) (counted l))
     (sym c.deref.ensures.value)
     (subst (λ (p : Platform).
@@ -52,7 +53,8 @@ pub returns-in_err-cycles-clause-exact : goal.returns-in_err-cycles-clause-exact
 returns-in_err-cycles-clause-exact c =
     let g = graph_of c.args.graph.now in
     let address = (places_of c.args.graph.now).address in
-    let hits : CountsSureHits g (accesses c.args.platform.now address) (counted c.deref.result.now) =
+    let hits : CountsSureHits g (accesses c.args.platform.now address) (counted
+    c.deref.result.now) =
     subst (λ (l : List Bool). CountsSureHits g (accesses c.args.platform.now address) (counted l))
     (sym c.deref.ensures.value)
     (subst (λ (p : Platform).
