@@ -1,5 +1,5 @@
 -- The delays over shares, and those of the tasks of a set.
-use Rattle.std.proofs.Common.{◌≡◌, ℕ, suc, ◌+◌, ◌*◌, ◌<◌, ◌≤◌, ◌^◌, List, [], take, length, inr}
+use Rattle.std.proofs.Common.{◌≡◌, ℕ, suc, ◌+◌, ◌*◌, ◌<◌, ◌≤◌, ◌^◌, ◌×◌, List, [], take, length, inr}
 use Rattle.std.proofs.Common.{refl, sym, ◌∙◌, ap, arith, Bool}
 use Rattle.std.specs.Prelude.{min, ◌&&◌, if◌then◌else◌}
 use Rattle.std.proofs.lemmas.List.{length-take-le}
@@ -63,6 +63,12 @@ module _ (parts : ℕ → Part) (i j : ℕ) (shares : List (Share 8)) (size : le
 
   pub lower_count : (k : ℕ) → k < suc i → count_at lower k ≡ count_at shares k
   lower_count k h = first_same (λ (s : Share 8). s.count) shares (i + 1) k 0 (omega arith)
+
+  pub lower_in_range : ((k : ℕ) → k ≤ i → count_at shares k < 2 ^ 81)
+      → (length lower ≤ 32) × ((k : ℕ) → k < length lower → count_at lower k < 2 ^ 81)
+  lower_in_range counts = (omega (arith, lower_length),
+      λ k l. omega (arith, lower_count k (omega (arith, lower_length)),
+      counts k (omega (arith, lower_length))))
 
   pub lower_useful : (k c : ℕ) → k < suc i → useful_at lower k c ≡ has (parts k).useful c
   lower_useful k c h =

@@ -1,55 +1,19 @@
-use Rattle.std.proofs.Common.{arith, lit<, lit≤, ◌≡◌, ◌+◌, length, take, ap}
+use Rattle.std.proofs.Common.{arith, lit<, lit≤, ◌≡◌, ◌+◌, take, ap}
 use Rattle.std.proofs.lemmas.List.{get_or_read}
 use Rattle.crpd_base.specs.declared.data.Part.{Part}
 use Rattle.delay_count.specs.Gamma.{part_at}
-use Rattle.delay_count.proofs.Delays.{lower_length, lower_count, is_ucb, is_ecb, ucb_fits, ecb_fits}
+use Rattle.delay_count.proofs.Delays.{lower_in_range, is_ucb, is_ecb, ucb_fits, ecb_fits}
 use Rattle.delay_count.proofs.window_demand.delay_by.Goals as goal
 
 pub gamma_ucb-requires : goal.gamma_ucb-requires
 gamma_ucb-requires c =
-    let size : length (take (c.args.i + 1) c.args.shares.now) ≡ c.args.i + 1 =
-    lower_length (part_at c.args.parts.now) c.args.i c.args.j c.args.shares.now c.requires.size
-    c.requires.i c.requires.useful in (
-      lit< tt,
-      (
-        lit< tt,
-        (
-          lit≤ tt,
-          (
-            omega (arith, size, c.requires.i),
-            λ k h. omega (
-              arith,
-              lower_count (part_at c.args.parts.now) c.args.i c.args.j c.args.shares.now
-                  c.requires.size c.requires.i c.requires.useful k (omega (arith, size)),
-              c.requires.counts k (omega (arith, size)),
-            ),
-          ),
-        ),
-      ),
-    )
+    (lit< tt, (lit< tt, (lit≤ tt, lower_in_range (part_at c.args.parts.now) c.args.i c.args.j
+    c.args.shares.now c.requires.size c.requires.i c.requires.useful c.requires.counts)))
 
 pub gamma_ecb-requires : goal.gamma_ecb-requires
 gamma_ecb-requires c =
-    let size : length (take (c.args.i + 1) c.args.shares.now) ≡ c.args.i + 1 =
-    lower_length (part_at c.args.parts.now) c.args.i c.args.j c.args.shares.now c.requires.size
-    c.requires.i c.requires.useful in (
-      lit< tt,
-      (
-        lit< tt,
-        (
-          lit≤ tt,
-          (
-            omega (arith, size, c.requires.i),
-            λ k h. omega (
-              arith,
-              lower_count (part_at c.args.parts.now) c.args.i c.args.j c.args.shares.now
-                  c.requires.size c.requires.i c.requires.useful k (omega (arith, size)),
-              c.requires.counts k (omega (arith, size)),
-            ),
-          ),
-        ),
-      ),
-    )
+    (lit< tt, (lit< tt, (lit≤ tt, lower_in_range (part_at c.args.parts.now) c.args.i c.args.j
+    c.args.shares.now c.requires.size c.requires.i c.requires.useful c.requires.counts)))
 
 pub returns-in-Ucb-clause-is : goal.returns-in-Ucb-clause-is
 returns-in-Ucb-clause-is c =
