@@ -1,5 +1,5 @@
 -- There is one update of a certificate at most.
-use Rattle.std.proofs.Common.{◌≡◌, ◌≢◌, ℕ, ◌<◌, List, [], length, get_or, refl, sym, ap, ◌∙◌, subst}
+use Rattle.std.proofs.Common.{◌≡◌, ◌≢◌, ℕ, ◌<◌, [], length, get_or, refl, sym, ap, ◌∙◌, subst}
 use Rattle.std.proofs.Common.{inl, inr, ⊎_elim, arith}
 use Rattle.std.proofs.lemmas.Bool.{cases_order}
 use Rattle.std.proofs.lemmas.List.{ext_get_or, get_or-map}
@@ -8,17 +8,14 @@ use Rattle.crpd_base.specs.Ranges.{IsTaskSet}
 use Rattle.crpd_base.specs.declared.data.TaskSpec.{TaskSpec}
 use Rattle.crpd_base.specs.declared.data.TaskSet.{TaskSet}
 use Rattle.crpd_base.specs.declared.data.TaskPart.{TaskPart}
-use Rattle.crpd_base.specs.declared.data.NodeState.{NodeState}
 use Rattle.crpd_base.specs.declared.data.Certificate.{Certificate}
-use Rattle.crpd_base.specs.declared.data.Part.{Part}
-use Rattle.crpd_base.specs.declared.data.Method.{Method}
 use Rattle.evict_sets.specs.ListedPart.{no_task_part, certified_task}
 use Rattle.response.proofs.WindowLaws.{one_choice}
 use Rattle.response.proofs.Least.{demands_agree}
 use Rattle.cert_check.specs.JudgeInput.{window_at, certified_part, longest_at, task_name}
 use Rattle.crpd_base.proofs.Times.{has_times}
 use Rattle.cert_build.specs.Best.{demand_of}
-use Rattle.cert_build.proofs.OneBest.{same_task}
+use Rattle.cert_build.proofs.OneBest.{made, same_task}
 use Rattle.cert_build.proofs.Certified.{beside as with_others}
 use Rattle.cert_update.specs.Unchanged.{Side, IsUnchanged}
 use Rattle.cert_update.specs.Update.{IsUpdate, IsUpdatedPart, HasSameAnalysis}
@@ -46,19 +43,6 @@ module _ (set : TaskSet) (S : IsTaskSet set) where
       (cases_order i j)
 
 -- parts that say the same of the code, beside the same
-abbrev made : List ℕ → Part → List NodeState → List ℕ → List ℕ → Method → ℕ → ℕ → TaskPart
-made name part states potentials loops method window response =
-    record {
-      name = name;
-      part = part;
-      states = states;
-      potentials = potentials;
-      loops = loops;
-      method = method;
-      window = window;
-      response = response;
-    }
-
 kept_task : (c d e : TaskPart) → HasSameAnalysis c d → HasSameAnalysis c e → d.name ≡ e.name
     → d.method ≡ e.method → d.window ≡ e.window → d.response ≡ e.response → d ≡ e
 kept_task c d e D E names methods windows responses =

@@ -25,6 +25,7 @@ use Rattle.cert_check.specs.declared.outcome.Clause.TheVariants.{Inequalities, B
 use Rattle.cert_check.specs.Verdict.{GraphHolds}
 use Rattle.loop_regions.proofs.Stated.{regions_law}
 use Rattle.cert_build.specs.Best.{IsBestPart, AreBestPotentials}
+use Rattle.cert_build.proofs.Certified.{beside}
 use Rattle.cert_update.specs.Unchanged.{AreAlike, HasSameNodes, HasSameRegions}
 use Rattle.cert_update.specs.Update.{HasSameAnalysis}
 use Rattle.cert_update.specs.Laws.{HasRegions, SameGraphLaw, PassLaw, BestPassLaw}
@@ -235,28 +236,10 @@ module _ (p : Platform) (t : TaskGraph) (c d : TaskPart) (K : HasSameAnalysis c 
   pub part_holds : (k : Clause) → GraphHolds p t c k → GraphHolds p t d k
   part_holds k h = subst (λ (x : TaskPart). GraphHolds p t x k) kept_is (kept_holds k h)
 
-  kept_best : IsBestPart p t c → IsBestPart p t kept
-  kept_best B =
-      record {
-        states = record {
-          leaders = B.states.leaders;
-          each = B.states.each;
-          ascending = B.states.ascending;
-        };
-        evicting = B.evicting;
-        useful = B.useful;
-        is_hit = B.is_hit;
-        hits = B.hits;
-        potentials = record {
-          nodes = B.potentials.nodes;
-          regions = B.potentials.regions;
-          least = B.potentials.least;
-          bound = B.potentials.bound;
-        };
-      }
-
   pub part_best : IsBestPart p t c → IsBestPart p t d
-  part_best B = subst (λ (x : TaskPart). IsBestPart p t x) kept_is (kept_best B)
+  part_best B =
+      subst (λ (x : TaskPart). IsBestPart p t x) kept_is
+      (beside p t c d.name d.method d.window d.response B)
 
 pub pass_law : PassLaw
 pass_law p q g h n m c d k G H N M S K holds =

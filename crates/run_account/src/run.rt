@@ -4,14 +4,17 @@ ghost use Rattle.std.specs.Prelude.{slice_get, IfOk, OnOk, IsTrue};
 ghost use Rattle.crpd_base.specs.Ranges.{IsTaskSet};
 ghost use Rattle.loop_regions.specs.Nest.{Nest};
 ghost use Rattle.preempt_machine.specs.Schedule.{completion, script_line};
+ghost use Rattle.flat_graph.specs.CodeGraph.{graph_at};
 ghost use Rattle.run_account.specs.Inner.Idle.{IsIdle, IsIdleUntil};
+ghost use Rattle.run_account.specs.Inner.Notes.{HasMovedToNode};
+ghost use Rattle.run_account.specs.Nodes.{job_task};
 ghost use Rattle.preempt_machine.specs.Running.{HasPlans};
 ghost use Rattle.preempt_machine.specs.Safe.{IsKept, NamesTasks};
 ghost use Rattle.preempt_machine.specs.Step.{state};
 ghost use Rattle.run_account.specs.Account.{IsAccount, HasAccountFacts};
 ghost use Rattle.run_account.specs.Inner.Account.{entry_from_completions, IsTold};
 ghost use Rattle.run_account.specs.Ledger.{IsLedger};
-ghost use Rattle.run_account.specs.Inner.Runs.{run_graphs, run_start, run_certificate, AreHits};
+ghost use Rattle.run_account.specs.Inner.Runs.{run_graphs, run_start, run_certificate, flags_of, AreHits};
 ghost use Rattle.run_account.specs.Inner.Runs.{IsFetched, IsQuick, HasAccountInput, IsRunning};
 ghost use Rattle.run_account.specs.Inner.Runs.{IsSoFar};
 ghost use Rattle.preempt_machine.specs.Starts.{start_of_script};
@@ -134,6 +137,24 @@ fn is_kept_so_far(run: &Run<'_>, machine: &Machine) -> bool
 }
 
 impl Trails {
+    /// Goes on to the node of a fetch of the job at a place, in its task's graph; gives whether the
+    /// node is counted as a hit.
+    fn follow_fetch(&mut self, run: &Run<'_>, fetch: &Fetch, place: usize) -> bool
+        requires ready { HasAccountInput run.now }
+        requires noted { (n : ℕ) × IsFetched run.now n place fetch.now
+            × AreTrailsOf (run_start run.now) (run_graphs run.now) (run_certificate run.now) n
+            self.old }
+        ensures followed { HasMovedToNode
+            (graph_at run.now.graphs.now (job_task (run_start run.now) place))
+            (flags_of run.now.hits.now (job_task (run_start run.now) place)) place
+            fetch.now.address self.old.nodes.items self.new.nodes.items result }
+        ensures same { self.new ≡ record self.old { nodes = self.new.nodes } }
+    {
+        let task = usize::from(fetch.job.task.0);
+        let hits = run.hits[task].flags.as_slice();
+        self.follow(&run.graphs[task], hits, place, fetch.address)
+    }
+
     /// Notes a fetch of the job at a place, after which the machine stands as it is. False where it
     /// finds that a watch was broken before the fetch, so that neither this fetch nor a later one
     /// is a reload.
@@ -153,9 +174,7 @@ impl Trails {
             (run_certificate run.now) now self.old }
         ensures { IfOk result (λ on. IsSoFar run.now (now + 1) on self.new) }
     {
-        let task = usize::from(fetch.job.task.0);
-        let hits = run.hits[task].flags.as_slice();
-        let counted = self.follow(&run.graphs[task], hits, place, fetch.address);
+        let counted = self.follow_fetch(run, fetch, place);
         self.close_gap(run.script.jobs.as_slice(), place, now)?;
         let geometry = Geometry::new(&run.set.platform);
         let set = geometry.set(geometry.block(fetch.address));
