@@ -1,8 +1,8 @@
 -- Where runs have their bytes.
 use Rattle.std.proofs.Common.{◌≡◌, ℕ, ◌+◌, ◌-◌, ◌%◌, ◌<◌, ◌≤◌, eq-eqb, List, [], ◌∷◌, ◌⊎◌, length}
 use Rattle.std.proofs.Common.{get_or, Option, Some, None, refl, ap, sym, subst, ◌∙◌, inl, inr}
-use Rattle.std.proofs.Common.{⊎_elim, arith, suc, zero}
-use Rattle.std.specs.Prelude.{AllPairs}
+use Rattle.std.proofs.Common.{⊎_elim, arith, suc, zero, Bool, true, false, ◌&&◌, ◌==◌}
+use Rattle.std.specs.Prelude.{AllPairs, not, slice_get}
 use Rattle.std.specs.List.{AllWithin}
 use Rattle.std.specs.List.Sorted.{IsNonDecreasingBy}
 use Rattle.std.proofs.Math.Nat.{eq-or-lt_of_le}
@@ -130,6 +130,30 @@ no_number rs a after =
     rw (found_none (λ r. run_byte r a) rs
     (λ k d lt. before_none (get_or rs k d).start (get_or rs k d).bytes a
     (after k d (omega arith) lt))) refl
+
+-- the byte of a run some places behind an address
+byte_at : (r : Run) (a k : ℕ) → r.start ≤ a → run_byte r (a + k) ≡ slice_get r.bytes (a - r.start + k)
+byte_at r a k le =
+    let at : a + k - r.start ≡ a - r.start + k = omega arith in
+    rw (le-leb r.start (a + k) (omega arith), at) refl
+
+-- the number of four bytes of a run
+pub number_there : (r : Run) (a : ℕ) → r.start ≤ a → let n : ℕ = a - r.start in
+    little_endian (slice_get r.bytes n) (slice_get r.bytes (n + 1)) (slice_get r.bytes (n + 2))
+    (slice_get r.bytes (n + 3))
+    ≡ little_endian (run_byte r a) (run_byte r (a + 1)) (run_byte r (a + 2)) (run_byte r (a + 3))
+number_there r a le =
+    rw (byte_at r a 1 le, byte_at r a 2 le, byte_at r a 3 le, le-leb r.start a le) refl
+
+-- the word at an address at which one may stand
+pub word_taken : (byte : ℕ → Option ℕ) (a : ℕ) (b : Bool) → b ≡ (a % 4 == 0 && not (a == end))
+    → b ≡ true
+    → word_by byte a ≡ little_endian (byte a) (byte (a + 1)) (byte (a + 2)) (byte (a + 3))
+word_taken byte a b is e = rw (sym is ∙ e) refl
+
+pub word_refused : (byte : ℕ → Option ℕ) (a : ℕ) (b : Bool)
+    → b ≡ (a % 4 == 0 && not (a == end)) → b ≡ false → None ≡ word_by byte a
+word_refused byte a b is e = rw (sym is ∙ e) refl
 
 -- the word at a multiple of 4 that is not the end
 pub word_there : (byte : ℕ → Option ℕ) (a : ℕ) → a % 4 ≡ 0 → (a ≡ end → ⊥)

@@ -1,9 +1,42 @@
 -- The pieces of files.
 use Rattle.std.proofs.Common.{◌≡◌, ℕ, ◌+◌, ◌<◌, List, [], ◌∷◌, ◌++◌, length, get_or, take, ap, sym}
-use Rattle.std.proofs.Common.{◌∙◌, append_assoc}
-use Rattle.std.proofs.lemmas.List.{append-nil, take_more}
+use Rattle.std.proofs.Common.{◌∙◌, append_assoc, Bool, true, false, cond, map, refl}
+use Rattle.std.specs.Prelude.{filter}
+use Rattle.std.proofs.lemmas.List.{append-nil, map_push, take_more}
+use Rattle.std.proofs.lemmas.List.Elements.{filter_more}
 use Rattle.crpd_base.specs.declared.data.Image.{Image}
-use Rattle.code_map.specs.Inner.Pieces.{all_pieces, pieces_of}
+use Rattle.crpd_base.specs.declared.data.Segment.{Segment}
+use Rattle.code_map.specs.declared.pieces.Piece.{Piece}
+use Rattle.code_map.specs.Inner.Pieces.{all_pieces, piece_content, piece_of, pieces_of}
+
+-- the segments that give pieces
+abbrev code : List Segment → List Segment
+code ss = filter (λ s. s.executable) ss
+
+code_more : (ss : List Segment) (i : ℕ) (s : Segment) (b : Bool) → i < length ss
+    → s ≡ get_or ss i s → s.executable ≡ b
+    → code (take (i + 1) ss) ≡ code (take i ss) ++ cond b (s ∷ []) []
+code_more ss i s b lt item e =
+    filter_more (λ s. s.executable) ss i s lt ∙ rw (← item, e) refl
+
+pub piece_passed : (ss : List Segment) (i : ℕ) (s : Segment) (before now : List (ℕ × List ℕ))
+    → i < length ss → s ≡ get_or ss i s → s.executable ≡ false
+    → now ≡ before ++ map piece_of (code (take i ss))
+    → now ≡ before ++ map piece_of (code (take (i + 1) ss))
+piece_passed ss i s before now lt item e is =
+    is ∙ ap (λ xs. before ++ map piece_of xs)
+    (sym (append-nil (code (take i ss))) ∙ sym (code_more ss i s false lt item e))
+
+pub piece_taken : (ss : List Segment) (i : ℕ) (s : Segment) (ps : List Piece) (p : Piece)
+    (before : List (ℕ × List ℕ)) → i < length ss → s ≡ get_or ss i s → s.executable ≡ true
+    → piece_content p ≡ piece_of s
+    → map piece_content ps ≡ before ++ map piece_of (code (take i ss))
+    → map piece_content (ps ++ p ∷ []) ≡ before ++ map piece_of (code (take (i + 1) ss))
+piece_taken ss i s ps p before lt item e one is =
+    map_push piece_content ps p
+    ∙ (rw (is, one) (append_assoc before (map piece_of (code (take i ss))) (piece_of s ∷ []))
+    ∙ ap (λ xs. before ++ xs) (sym (map_push piece_of (code (take i ss)) s))
+    ∙ ap (λ xs. before ++ map piece_of xs) (sym (code_more ss i s true lt item e)))
 
 pieces_more : (is : List Image) (i : Image)
     → all_pieces (is ++ i ∷ []) ≡ all_pieces is ++ pieces_of i

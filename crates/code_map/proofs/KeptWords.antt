@@ -1,15 +1,17 @@
 -- What the indexes of files tell of words.
 use Rattle.std.proofs.Common.{◌≡◌, ℕ, ◌+◌, ◌*◌, ◌%◌, ◌^◌, ◌<◌, ◌≤◌, eqb, true, false, List, length}
 use Rattle.std.proofs.Common.{get_or, Option, Some, None, inl, inr, ⊎_elim, refl, ap, sym, subst}
-use Rattle.std.proofs.Common.{◌∙◌, arith}
+use Rattle.std.proofs.Common.{◌∙◌, arith, None, Ok}
 use Rattle.std.specs.Prelude.{slice_get, option_map, is_some, All, AllPairs, IfSome}
 use Rattle.std.proofs.lemmas.Bool.{cases_Bool, eqb-true, eqb-false, ne_eqb}
 use Rattle.std.proofs.lemmas.Option.{none-some, same_Some, slice_get-get_or}
 use Rattle.crpd_base.specs.Images.{IsImage}
+use Rattle.crpd_base.specs.Outcome.{nowhere}
 use Rattle.crpd_base.specs.declared.data.Image.{Image}
 use Rattle.code_map.proofs.Has.{has_found}
 use Rattle.code_map.proofs.Indexed.{byte_below, no_image}
 use Rattle.code_map.specs.declared.files.Files.TheInside.{Inside}
+use Rattle.code_map.specs.declared.fault.MapError.TheVariants.{CodeConflict}
 use Rattle.code_map.specs.declared.runs.Run.{Run}
 use Rattle.code_map.specs.Inner.StoredFiles.{AreStoredFiles}
 use Rattle.code_map.specs.Inner.Runs.{runs_byte, IsRunBefore, IsByteIndex}
@@ -69,6 +71,10 @@ within_end byte a (Some w) below e = ⊎_elim
     (λ (e : eqb (a % 4) 0 ≡ false). inr (eqb-false (a % 4) 0 e)) (cases_Bool (eqb (a % 4) 0)))
 
 -- the files that are made
+pub no_conflict : (o : Option ℕ) (u : Unit {0}) → Ok u ≡ nowhere CodeConflict o → o ≡ None
+no_conflict None u e = refl
+no_conflict (Some a) u e = absurd cc
+
 pub is_kept : (m : Inside) (is js : List Image) (rs : List Run) (own : List (List Run))
     → is ≡ m.images → js ≡ m.images → m.runs ≡ rs → m.own ≡ own
     → IsByteIndex rs (code_byte is)

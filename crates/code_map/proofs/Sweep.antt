@@ -96,6 +96,14 @@ pub record IsSwept (pieces : List Piece) (i : ℕ) (runs : List Run) (o : Option
   pub bytes : (a : ℕ) → runs_byte runs a ≡ find_map (λ p. piece_byte p a) (take i pieces)
   pub conflict : IsFirstPassing (λ a. disagree (λ p. piece_byte p a) (take i pieces)) o
 
+pub swept_none : (pieces : List Piece) → IsSwept pieces 0 [] None
+swept_none pieces = record {
+  apart = λ i j d lt in'. absurd (omega arith);
+  starts = λ k d le lt n r small. absurd (omega arith);
+  bytes = λ a. refl;
+  conflict = λ a. refl;
+}
+
 pub takes : (pieces : List Piece) (i : ℕ) (d : Piece) (runs : List Run) (o : Option ℕ)
     → IsSwept pieces i runs o → i < length pieces
     → (get_or pieces i d).start + length (get_or pieces i d).bytes.now ≤ 2 ^ 32

@@ -4,7 +4,7 @@ ghost use Rattle.std.specs.Prelude.{option_map, is_some, All, List, Some, IfOk, 
 ghost use Rattle.crpd_base.specs.Images.{IsImage};
 ghost use Rattle.crpd_base.specs.declared.data.Image.{Image};
 ghost use Rattle.code_map.specs.declared.runs.Run.{Run};
-ghost use Rattle.crpd_base.specs.Outcome.{Gives};
+ghost use Rattle.crpd_base.specs.Outcome.{Gives, nowhere};
 ghost use Rattle.code_map.specs.Reading.{files_of};
 ghost use Rattle.code_map.specs.NextPassing.{IsNextOf};
 ghost use Rattle.code_map.specs.Inner.Runs.{IsByteIndex};
@@ -63,6 +63,16 @@ fn own_indexes(alloc: Global, images: &[Image]) -> Result<Vec<Items<Run>>, Alloc
     Ok(own)
 }
 
+/// Refuses files with different bytes at an address.
+fn refuse_conflict(conflict: Option<u32>) -> Result<(), MapError>
+    ensures { result ≡ nowhere MapError.CodeConflict conflict }
+{
+    match conflict {
+        Some(address) => Err(MapError::CodeConflict(address)),
+        None => Ok(()),
+    }
+}
+
 impl Files {
     #[tactic(auto, unfolding(crate::specs::Reading::files_of))]
     pub(crate) fn new(alloc: Global, images: Vec<Image>) -> Result<Self, MapError>
@@ -71,9 +81,7 @@ impl Files {
         ensures images { IfOk result (λ f. f ≡ images.items) }
     {
         let joined = index(alloc, &images)?;
-        if let Some(address) = joined.conflict {
-            return Err(MapError::CodeConflict(address));
-        }
+        refuse_conflict(joined.conflict)?;
         let own = own_indexes(alloc, &images)?;
         Ok(Files {
             images: Items::new(images),

@@ -2,9 +2,9 @@
 ghost use Rattle.std.specs.Prelude.{◌≡◌, ◌+◌, ◌≤◌, ◌^◌, ◌++◌, length, map, All, IfOk, OnOk};
 ghost use Rattle.std.specs.List.Sorted.{IsNonDecreasingBy, IsPermutation};
 ghost use Rattle.crpd_base.specs.Images.{IsImage};
-ghost use Rattle.code_map.specs.Inner.Pieces.{pieces_of, all_pieces, piece_content, HasBytes};
+ghost use Rattle.code_map.specs.Inner.Pieces.{pieces_of, all_pieces, piece_content, piece_of, HasBytes};
 
-use crpd_base::Image;
+use crpd_base::{Image, Segment};
 use std::alloc::{AllocError, Global};
 
 /// The code bytes of a segment and the address of the first.
@@ -12,6 +12,18 @@ use std::alloc::{AllocError, Global};
 pub(crate) struct Piece<'a> {
     pub(crate) start: u32,
     pub(crate) bytes: &'a [u8],
+}
+
+/// The piece of a segment.
+fn piece_of(segment: &Segment) -> Piece<'_>
+    ensures is { piece_content result ≡ piece_of segment.now }
+    ensures bytes { HasBytes result }
+{
+    let bytes = segment.bytes.as_slice();
+    Piece {
+        start: segment.address,
+        bytes,
+    }
 }
 
 /// Adds the pieces of a file.
@@ -24,11 +36,7 @@ fn add_pieces<'a>(pieces: &mut Vec<Piece<'a>>, image: &'a Image) -> Result<(), A
 {
     for segment in image.segments.as_slice() {
         if segment.executable {
-            let bytes = segment.bytes.as_slice();
-            pieces.push(Piece {
-                start: segment.address,
-                bytes,
-            })?;
+            pieces.push(piece_of(segment))?;
         }
     }
     Ok(())

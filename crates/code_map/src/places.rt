@@ -20,11 +20,18 @@ fn place_text(alloc: Global, name: &str, offset: u32) -> Result<Text, AllocError
     Ok(Text::new(format!(in alloc; "{name}+{offset}")?))
 }
 
+/// A value with an offset, where the sum is below 2^32.
+fn with_offset(value: u32, offset: u32) -> Option<u32>
+    ensures { result ≡ places.value_with_offset offset value }
+{
+    value.checked_add(offset)
+}
+
 /// A symbol's value with an offset, where the file has the symbol and the sum is below 2^32.
 fn symbol_address(names: &Names, name: &str, offset: u32) -> Option<u32>
     ensures { result ≡ places.symbol_address names.now name.now offset }
 {
-    names.value(name.as_bytes())?.checked_add(offset)
+    with_offset(names.value(name.as_bytes())?, offset)
 }
 
 /// The address that a place stands for.

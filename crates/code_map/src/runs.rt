@@ -1,7 +1,7 @@
 // Code bytes kept as runs of bytes at successive addresses, so that a byte is found by the starts
 // of the runs.
 ghost use Rattle.std.specs.Prelude.{◌≡◌, ℕ, ◌+◌, ◌*◌, ◌<◌, ◌≤◌, length, slice_index, AllPairs};
-ghost use Rattle.std.specs.Prelude.{Some, IfSome};
+ghost use Rattle.std.specs.Prelude.{Some, IfSome, ◌%◌, ◌==◌, ◌&&◌, not, slice_get};
 ghost use Rattle.std.specs.List.{AllWithin};
 ghost use Rattle.code_map.specs.Words.{little_endian, word_by, end};
 ghost use Rattle.code_map.specs.Inner.NextPassing.{IsNextAddress};
@@ -40,6 +40,17 @@ fn number(bytes: &[u8]) -> u32
     low + 256 * high + 65536 * third + 16_777_216 * fourth
 }
 
+/// The number of four bytes from a place on.
+fn number_at(bytes: &[u8], from: usize) -> Option<u32>
+    ensures { result ≡ little_endian (slice_get bytes.now from) (slice_get bytes.now (from + 1))
+        (slice_get bytes.now (from + 2)) (slice_get bytes.now (from + 3)) }
+{
+    if bytes.len() < 4 || bytes.len() - 4 < from {
+        return None;
+    }
+    Some(number(&bytes[from..from + 4]))
+}
+
 /// The number of the four bytes of a run from an address on.
 fn number_in(run: &Run, address: u32) -> Option<u32>
     requires { run.now.start ≤ address }
@@ -48,10 +59,14 @@ fn number_in(run: &Run, address: u32) -> Option<u32>
 {
     let bytes = run.bytes.as_slice();
     let from = (address - run.start) as usize;
-    if bytes.len() < 4 || bytes.len() - 4 < from {
-        return None;
-    }
-    Some(number(&bytes[from..from + 4]))
+    number_at(bytes, from)
+}
+
+/// Whether a word may stand at an address.
+fn takes_word(address: u32) -> bool
+    ensures { result ≡ (address % 4 == 0 && not (address == end)) }
+{
+    address % 4 == 0 && address != END
 }
 
 /// The word at an address.
@@ -59,7 +74,7 @@ pub(crate) fn word(runs: &[Run], address: u32) -> Option<u32>
     requires { AllPairs IsRunBefore runs.now }
     ensures { result ≡ word_by (runs_byte runs.now) address }
 {
-    if address % 4 != 0 || address == END {
+    if !takes_word(address) {
         return None;
     }
     let count = runs_up_to(runs, address);

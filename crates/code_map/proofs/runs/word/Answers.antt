@@ -2,15 +2,20 @@ use Rattle.std.proofs.Common.{◌≡◌, ◌+◌, ◌-◌, ◌<◌, ◌∙◌, l
 use Rattle.code_map.specs.declared.runs.Run.{Run}
 use Rattle.code_map.specs.Inner.Runs.{run_byte, runs_byte}
 use Rattle.code_map.specs.Words.{little_endian}
-use Rattle.code_map.proofs.Found.{blank, get_or_same, no_number, number_of_run, word_there}
+use Rattle.code_map.proofs.Found.{blank, get_or_same, no_number, number_of_run, word_taken, word_refused}
 use Rattle.code_map.proofs.runs.word.Goals as goal
+
+pub returns-then-not-takes_word : goal.returns-then-not-takes_word
+returns-then-not-takes_word c =
+    word_refused (runs_byte c.args.runs.now) c.args.address _ c.takes_word.ensures
+    c.if-not-takes_word.true
 
 pub returns-then-count-eq0 : goal.returns-then-count-eq0
 returns-then-count-eq0 c =
     no_number c.args.runs.now c.args.address
     (λ k d low high. c.runs_up_to-count.ensures.after k d (omega arith) high)
-    ∙ sym (word_there (runs_byte c.args.runs.now) c.args.address c.if-address-ne0.false
-    c.if-address-eq-END.false)
+    ∙ sym (word_taken (runs_byte c.args.runs.now) c.args.address _ c.takes_word.ensures
+    c.if-not-takes_word.false)
 
 pub returns : goal.returns
 returns c =
@@ -26,5 +31,5 @@ returns c =
     ∙ (number_of_run c.args.runs.now n a c.requires lt
     (λ k d low high. c.runs_up_to-count.ensures.before k d low (omega arith))
     (λ k d low high. c.runs_up_to-count.ensures.after k d (omega arith) high)
-    ∙ sym (word_there (runs_byte c.args.runs.now) a c.if-address-ne0.false
-    c.if-address-eq-END.false))
+    ∙ sym (word_taken (runs_byte c.args.runs.now) a _ c.takes_word.ensures
+    c.if-not-takes_word.false))
