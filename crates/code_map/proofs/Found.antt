@@ -132,7 +132,8 @@ no_number rs a after =
     (after k d (omega arith) lt))) refl
 
 -- the byte of a run some places behind an address
-byte_at : (r : Run) (a k : ℕ) → r.start ≤ a → run_byte r (a + k) ≡ slice_get r.bytes (a - r.start + k)
+byte_at : (r : Run) (a k : ℕ) → r.start ≤ a
+    → run_byte r (a + k) ≡ slice_get r.bytes (a - r.start + k)
 byte_at r a k le =
     let at : a + k - r.start ≡ a - r.start + k = omega arith in
     rw (le-leb r.start (a + k) (omega arith), at) refl

@@ -2,7 +2,8 @@
 ghost use Rattle.std.specs.Prelude.{◌≡◌, ◌+◌, ◌≤◌, ◌^◌, ◌++◌, length, map, All, IfOk, OnOk};
 ghost use Rattle.std.specs.List.Sorted.{IsNonDecreasingBy, IsPermutation};
 ghost use Rattle.crpd_base.specs.Images.{IsImage};
-ghost use Rattle.code_map.specs.Inner.Pieces.{pieces_of, all_pieces, piece_content, piece_of, HasBytes};
+ghost use Rattle.code_map.specs.Inner.Pieces.{pieces_of, all_pieces, piece_content, piece_of};
+ghost use Rattle.code_map.specs.Inner.Pieces.{HasBytes};
 
 use crpd_base::{Image, Segment};
 use std::alloc::{AllocError, Global};

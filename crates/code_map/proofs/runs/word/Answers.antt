@@ -2,7 +2,8 @@ use Rattle.std.proofs.Common.{◌≡◌, ◌+◌, ◌-◌, ◌<◌, ◌∙◌, l
 use Rattle.code_map.specs.declared.runs.Run.{Run}
 use Rattle.code_map.specs.Inner.Runs.{run_byte, runs_byte}
 use Rattle.code_map.specs.Words.{little_endian}
-use Rattle.code_map.proofs.Found.{blank, get_or_same, no_number, number_of_run, word_taken, word_refused}
+use Rattle.code_map.proofs.Found.{blank, get_or_same, no_number, number_of_run, word_refused}
+use Rattle.code_map.proofs.Found.{word_taken}
 use Rattle.code_map.proofs.runs.word.Goals as goal
 
 pub returns-then-not-takes_word : goal.returns-then-not-takes_word

@@ -8,5 +8,6 @@ invariant_of-result c =
     c.deref.result.now c.deref-2.result.now c.in_ok-joined.joined.runs.items c.in_ok-own.own.items
     (c.deref.ensures.value ∙ sym c.new.ensures) (c.deref-2.ensures.value ∙ sym c.new.ensures)
     c.new-2.ensures c.new-3.ensures
-    (c.in_ok-joined.ensures.is (no_conflict _ _ c.in_ok-refuse_conflict.ensures)) c.in_ok-own.ensures.each c.in_ok-own.ensures.count
+    (c.in_ok-joined.ensures.is (no_conflict _ _ c.in_ok-refuse_conflict.ensures))
+    c.in_ok-own.ensures.each c.in_ok-own.ensures.count
     (rw c.deref.ensures.value c.requires) c.in_ok-joined.ensures.bytes
