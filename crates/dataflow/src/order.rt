@@ -1,7 +1,7 @@
 // The orders in which nodes are visited: each node before those that its edges lead to, but for
 // cycles.
 ghost use Rattle.std.specs.Prelude.{◌≡◌, ◌<◌, ◌≤◌, ℕ, IfOk, OnOk, None, [], ◌∷◌, ◌++◌, length};
-ghost use Rattle.std.specs.Prelude.{vec_len, slice_index_or, slice_set, true, false};
+ghost use Rattle.std.specs.Prelude.{vec_len, slice_index_or, not, slice_set, true, false};
 ghost use Rattle.dataflow.specs.Inner.Search.{IsChained, IsVisitOrder, IsInDepth, root_at};
 ghost use Rattle.dataflow.specs.Inner.Search.{to_follow};
 
@@ -37,6 +37,14 @@ impl DepthFirst {
             path: Vec::new(alloc),
             left: Vec::new(alloc),
         })
+    }
+
+    /// Whether a node was not found yet.
+    fn is_new(&self, node: u32) -> bool
+        requires { node < vec_len self.now.seen }
+        ensures { result ≡ not (slice_index_or self.now.seen.items node false) }
+    {
+        !self.seen[node as usize]
     }
 
     /// Puts a node at the end of the path.
@@ -135,8 +143,7 @@ fn depth_order<G: Flow>(
     let mut search = DepthFirst::new(alloc, outgoing)?;
     for k in 0..flow.nodes() {
         let root = root_at(flow.nodes(), from_last, k);
-        let is_new = !search.seen[root as usize];
-        if is_new {
+        if search.is_new(root) {
             search.run(flow, outgoing, root)?;
         }
     }

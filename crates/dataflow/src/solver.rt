@@ -49,6 +49,16 @@ fn first_facts<G: Flow, D: Domain>(
     Ok(facts)
 }
 
+/// The value after a node, from the fact before it.
+fn fact_after<D: Domain>(domain: &D, node: u32, before: &D::Fact) -> D::Fact
+    requires { D.is_own domain.now node }
+    ensures { D.view result ≡ D.passed domain.now node (D.view before.now) }
+{
+    let mut value = *before;
+    domain.transfer(node, &mut value);
+    value
+}
+
 /// Joins the value after a node into the fact of each node that an edge leads to from there.
 /// The nodes whose facts change wait.
 fn pass_on<G: Flow, D: Domain>(
@@ -116,8 +126,7 @@ fn search<G: Flow, D: Domain>(
     let mut facts = first_facts(alloc, flow, domain)?;
     while let Some(node) = waiting.take() {
         if let Some(before) = &facts[node as usize] {
-            let mut value = *before;
-            domain.transfer(node, &mut value);
+            let value = fact_after(domain, node, before);
             pass_on(
                 flow,
                 domain,

@@ -1,6 +1,5 @@
 use Rattle.std.proofs.Common.{◌≡◌, get_or, true, false, length, ap, arith, subst, sym, ◌∙◌}
-use Rattle.std.proofs.lemmas.Grind.{common_steps}
-use Rattle.std.proofs.lemmas.List.{get_or_default}
+use Rattle.std.proofs.lemmas.Bool.{not-false}
 use borrow.Author.Count.{below_more}
 use Rattle.dataflow.specs.Inner.Search.{IsVisitOrder, root_at}
 use Rattle.dataflow.proofs.Depth.{none_found, all_left, backwards, each_root}
@@ -59,8 +58,6 @@ loop-k-preserved g c =
                 (λ j. get_or c.loop-k.search.seen.items (root_at c.args.from_last n j) false ≡ true)
                 c.loop-k.k c.loop-k.invariant.found
                 (subst (λ r. get_or c.loop-k.search.seen.items r false ≡ true) root
-                (get_or_default c.loop-k.search.seen.items c.root_at-root.result false
-                c.index.result.now (grind (arith, common_steps)) ∙ sym c.index.ensures
-                ∙ w.if-is_new.false));
+                (not-false _ (sym c.is_new.ensures ∙ w.if-is_new.false)));
           })
     ]

@@ -4,9 +4,10 @@ use Rattle.std.proofs.Common.{MatchOption, Option, List, Bool}
 use Rattle.std.proofs.Math.Seq.{take-append_seam}
 use Rattle.std.proofs.lemmas.List.{get_or_default, get_or_past, length-set}
 use Rattle.dataflow.specs.Problem.{Problem, fact_at}
-use Rattle.dataflow.specs.Inner.Search.{IsPartialSolution, IsPassedOn, waits}
+use Rattle.dataflow.specs.Inner.Search.{IsPartialSolution, IsPassedOn, waits, work_left}
 use Rattle.dataflow.proofs.Solution.{is_fact, is_least}
 use Rattle.dataflow.proofs.Steps.{at_start, taken, taken_empty, its_source, solved}
+use Rattle.dataflow.proofs.Left.{left_taken}
 use Rattle.dataflow.proofs.solver.search.Goals as goal
 
 -- the fact that is passed on
@@ -66,7 +67,7 @@ pass_on-requires-clause-source g c =
     get_or_default c.loop-node.facts.items c.in-Some.node None c.index.result.now in_facts
     ∙ sym c.index.ensures ∙ c.in-Some-index.is in
     source_in _ _ g.D.Domain.view c.loop-node.facts.items c.deref_mut.result.now _ c.take.new.self
-    c.in-Some.node c.in-Some-index.before _ c.deref_mut.ensures.value here c.transfer.ensures
+    c.in-Some.node c.in-Some-index.before _ c.deref_mut.ensures.value here c.fact_after-value.ensures
     (its_source _ _ (record {
       joins = g.met.D.Domain.joins;
       distributes = g.met.D.Domain.distributes c.args.domain.now;
@@ -152,3 +153,28 @@ returns-clause-least g c =
             distributes = g.met.D.Domain.distributes c.args.domain.now;
           }) _ other c.loop-node.invariant.under_way.sound s n v e;
     }
+
+pub visit_order-requires : goal.visit_order-requires
+visit_order-requires g c = c.in_ok-outgoing.ensures
+
+pub pass_on-requires-clause-edges : goal.pass_on-requires-clause-edges
+pass_on-requires-clause-edges g c = c.in_ok-outgoing.ensures
+
+pub pass_on-requires-clause-waiting : goal.pass_on-requires-clause-waiting
+pass_on-requires-clause-waiting g c =
+    ap length c.in-Some.ensures.2 ∙ length-set c.loop-node.waiting c.in-Some.node false
+    ∙ c.loop-node.invariant.waiting
+
+pub loop-node-smaller : goal.loop-node-smaller
+loop-node-smaller g c =
+    let d = c.args.domain.now in
+    subst (λ w. work_left g.D.Domain.view (g.D.Domain.height d) (g.D.Domain.tallest d)
+    c.loop-node.facts.items w
+    < work_left g.D.Domain.view (g.D.Domain.height d) (g.D.Domain.tallest d)
+    c.loop-node.facts.items c.loop-node.waiting) (sym c.in-Some.ensures.2)
+    (left_taken _ _ g.D.Domain.view (g.D.Domain.height d) (g.D.Domain.tallest d)
+    (g.met.D.Domain.bounded d) c.loop-node.facts.items c.loop-node.waiting c.in-Some.node
+    c.in-Some.ensures.0 c.in-Some.ensures.1)
+
+pub returns-clause-nodes : goal.returns-clause-nodes
+returns-clause-nodes g c = c.loop-node.invariant.nodes
