@@ -20,11 +20,8 @@ impl Nest {
         graph.graph_law();
         match self.innermost(node) {
             Some(region) => {
-                if self.head(region).0 == node.0 {
-                    Some(region)
-                } else {
-                    None
-                }
+                let is_head = self.head(region).0 == node.0;
+                if is_head { Some(region) } else { None }
             }
             None => None,
         }

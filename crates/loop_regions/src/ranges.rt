@@ -1,5 +1,5 @@
 // Stated loops with their ranges in an order in which an address is soon found.
-ghost use Rattle.std.specs.Prelude.{◌≡◌, IfOk, length, nat_le};
+ghost use Rattle.std.specs.Prelude.{◌≡◌, IfOk, length, nat_le, nat_lt};
 ghost use Rattle.std.specs.List.Sorted.{IsNonDecreasingBy, IsPermutation};
 ghost use Rattle.flow_watch.specs.Watch.{holds};
 ghost use Rattle.loop_regions.specs.Inner.Ranges.{AreReaches};
@@ -51,6 +51,13 @@ fn reaches(alloc: Global, ranges: &[(u32, u32)]) -> Result<Vec<u32>, AllocError>
     Ok(reaches)
 }
 
+/// Whether an address lies before a reach.
+fn is_before(address: u32, reach: u32) -> bool
+    ensures { result ≡ nat_lt address reach }
+{
+    address < reach
+}
+
 impl<'a> RangedLoop<'a> {
     /// A stated loop with its ranges in order. Time is n log n in its ranges.
     pub(crate) fn new(alloc: Global, stated: &'a LoopAt) -> Result<Self, AllocError>
@@ -78,7 +85,7 @@ impl<'a> RangedLoop<'a> {
                 ensures { result ≡ nat_le range.now.0 address }
             { range.0 <= address },
         );
-        begun > 0 && address < self.reaches[begun - 1]
+        begun > 0 && is_before(address, self.reaches[begun - 1])
     }
 }
 

@@ -29,7 +29,8 @@ returns-then-begun-gt0 c =
     let lt : begun - 1 < length reaches = omega (arith, c.self.invariant.reach.count_is, bound) in
     let value = c.index.ensures ∙ get_or_default reaches (begun - 1) c.index.result.now 0 lt in
     let some : 0 < begun = omega arith in
-    subst (λ l. nat_lt a c.index.result.now ≡ holds l a) c.self.view_is
+    c.is_before.ensures
+    ∙ subst (λ l. nat_lt a c.index.result.now ≡ holds l a) c.self.view_is
     (by_ranges stated a (nat_lt a c.index.result.now) c.if-address-self.false
     (below_reach stated.ranges ranges reaches c.self.invariant a begun bound point
     c.index.result.now some value))
