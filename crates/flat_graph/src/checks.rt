@@ -64,7 +64,8 @@ fn call_error(
     if is_recursive(code, entry, under_way, target) {
         return Err(GraphError::Recursive(address));
     }
-    if under_way.len() == MOST_CALLS {
+    let is_full = under_way.len() == MOST_CALLS;
+    if is_full {
         return Err(GraphError::TooDeep(address));
     }
     Ok(())
