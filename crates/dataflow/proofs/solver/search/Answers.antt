@@ -67,7 +67,8 @@ pass_on-requires-clause-source g c =
     get_or_default c.loop-node.facts.items c.in-Some.node None c.index.result.now in_facts
     ∙ sym c.index.ensures ∙ c.in-Some-index.is in
     source_in _ _ g.D.Domain.view c.loop-node.facts.items c.deref_mut.result.now _ c.take.new.self
-    c.in-Some.node c.in-Some-index.before _ c.deref_mut.ensures.value here c.fact_after-value.ensures
+    c.in-Some.node c.in-Some-index.before _ c.deref_mut.ensures.value here
+    c.fact_after-value.ensures
     (its_source _ _ (record {
       joins = g.met.D.Domain.joins;
       distributes = g.met.D.Domain.distributes c.args.domain.now;
