@@ -1,5 +1,5 @@
 -- Where runs have their bytes.
-use Rattle.std.proofs.Common.{◌≡◌, ℕ, ◌+◌, ◌-◌, ◌%◌, ◌<◌, ◌≤◌, eq-eqb, List, [], ◌∷◌, ◌⊎◌, length}
+use Rattle.std.proofs.Common.{◌≡◌, ℕ, ◌+◌, ◌-◌, ◌%◌, ◌<◌, ◌≤◌, eq-eqb, List, [], ◌∷◌, length}
 use Rattle.std.proofs.Common.{get_or, Option, Some, None, refl, ap, sym, subst, ◌∙◌, inl, inr}
 use Rattle.std.proofs.Common.{⊎_elim, arith, suc, zero, Bool, true, false, ◌&&◌, ◌==◌}
 use Rattle.std.specs.Prelude.{AllPairs, not, slice_get}

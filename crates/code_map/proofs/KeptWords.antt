@@ -1,7 +1,7 @@
 -- What the indexes of files tell of words.
 use Rattle.std.proofs.Common.{◌≡◌, ℕ, ◌+◌, ◌*◌, ◌%◌, ◌^◌, ◌<◌, ◌≤◌, eqb, true, false, List, length}
 use Rattle.std.proofs.Common.{get_or, Option, Some, None, inl, inr, ⊎_elim, refl, ap, sym, subst}
-use Rattle.std.proofs.Common.{◌∙◌, arith, None, Ok}
+use Rattle.std.proofs.Common.{◌∙◌, arith, None, Ok, Err}
 use Rattle.std.specs.Prelude.{slice_get, option_map, is_some, All, AllPairs, IfSome}
 use Rattle.std.proofs.lemmas.Bool.{cases_Bool, eqb-true, eqb-false, ne_eqb}
 use Rattle.std.proofs.lemmas.Option.{none-some, same_Some, slice_get-get_or}
@@ -11,6 +11,9 @@ use Rattle.crpd_base.specs.declared.data.Image.{Image}
 use Rattle.code_map.proofs.Has.{has_found}
 use Rattle.code_map.proofs.Indexed.{byte_below, no_image}
 use Rattle.code_map.specs.declared.files.Files.TheInside.{Inside}
+use Rattle.code_map.specs.Conflicts.{first_conflict}
+use Rattle.code_map.specs.Reading.{files_of}
+use Rattle.code_map.specs.declared.fault.MapError.{MapError}
 use Rattle.code_map.specs.declared.fault.MapError.TheVariants.{CodeConflict}
 use Rattle.code_map.specs.declared.runs.Run.{Run}
 use Rattle.code_map.specs.Inner.StoredFiles.{AreStoredFiles}
@@ -71,6 +74,11 @@ within_end byte a (Some w) below e = ⊎_elim
     (λ (e : eqb (a % 4) 0 ≡ false). inr (eqb-false (a % 4) 0 e)) (cases_Bool (eqb (a % 4) 0)))
 
 -- the files that are made
+pub conflict_refused : (is js : List Image) (o : Option ℕ) (e : MapError) → js ≡ is
+    → o ≡ first_conflict js → Err e ≡ nowhere CodeConflict o → files_of is ≡ Err e
+unfolding files_of
+conflict_refused is js o e same first refused = rw (← same, ← first, ← refused) refl
+
 pub no_conflict : (o : Option ℕ) (u : Unit {0}) → Ok u ≡ nowhere CodeConflict o → o ≡ None
 no_conflict None u e = refl
 no_conflict (Some a) u e = absurd cc

@@ -1,5 +1,6 @@
 use Rattle.std.proofs.Common.{◌∙◌, sym}
-use Rattle.code_map.proofs.KeptWords.{is_kept, no_conflict}
+use Rattle.std.proofs.lemmas.Result.{err_from_is_err_and}
+use Rattle.code_map.proofs.KeptWords.{conflict_refused, is_kept, no_conflict}
 use Rattle.code_map.proofs.files.Files.new.Goals as goal
 
 pub invariant_of-result : goal.invariant_of-result
@@ -11,3 +12,11 @@ invariant_of-result c =
     (c.in_ok-joined.ensures.is (no_conflict _ _ c.in_ok-refuse_conflict.ensures))
     c.in_ok-own.ensures.each c.in_ok-own.ensures.count
     (rw c.deref.ensures.value c.requires) c.in_ok-joined.ensures.bytes
+
+pub returns-in_err-refuse_conflict-clause-is : goal.returns-in_err-refuse_conflict-clause-is
+returns-in_err-refuse_conflict-clause-is c =
+    let p = err_from_is_err_and c.from_residual-in_err-refuse_conflict.result
+    c.from_residual-in_err-refuse_conflict.ensures.1 in
+    rw (p.1, p.2) (λ ne. conflict_refused c.args.images.items c.deref.result.now
+    c.in_ok-joined.joined.conflict c.in_err-refuse_conflict.field-0.0 c.deref.ensures.value
+    c.in_ok-joined.ensures.conflict c.in_err-refuse_conflict.ensures)
