@@ -1,5 +1,6 @@
 -- What contracts inside the crate alone cite; no clause of a public call reaches it.
 pub mod Commands
+pub mod Further
 pub mod Listed
 pub mod Output
 pub mod Shaped

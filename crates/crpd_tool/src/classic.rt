@@ -1,21 +1,23 @@
 // The command `classic`.
-ghost use Rattle.std.specs.Prelude.{◌≡◌, ◌≤◌, IsErrOf};
+ghost use Rattle.std.specs.Prelude.{IsErrOf};
 ghost use Rattle.cert_check.specs.TaskGraphs.{AreTaskGraphs};
 ghost use Rattle.crpd_base.specs.Ranges.{IsTaskSet};
-ghost use Rattle.crpd_io.specs.Outside.{Rose};
-ghost use Rattle.crpd_input.specs.Steps.{MeansBy, HoldsWhereTold};
-ghost use Rattle.crpd_tool.specs.Classic.{ClassicEnds, ClassicOf};
+ghost use Rattle.crpd_input.specs.Steps.{MeansBy};
+ghost use Rattle.crpd_tool.specs.Classic.{ClassicOf};
 
 use crate::answer::Answer;
 use crate::ending::{certificate_answer, without_certificate};
-use crate::shaped::load_shaped;
 use crpd_input::{Halt, Input, Shapes};
-use crpd_io::Files;
 use delay_classic::ClassicError;
 use std::alloc::Global;
 
 /// The answer of the analysis with the plain union delays of a set that was read from this file.
-fn plain_analysis(alloc: Global, file: &str, input: &Input, shapes: &Shapes) -> Result<Answer, Halt>
+pub(crate) fn plain_analysis(
+    alloc: Global,
+    file: &str,
+    input: &Input,
+    shapes: &Shapes,
+) -> Result<Answer, Halt>
     requires set { IsTaskSet input.now.set }
     requires shown { AreTaskGraphs input.now.set shapes.now.graphs shapes.now.nests }
     ensures exact { MeansBy (ClassicOf file.now input.now shapes.now) result }
@@ -28,17 +30,4 @@ fn plain_analysis(alloc: Global, file: &str, input: &Input, shapes: &Shapes) -> 
         Err(ClassicError::Memory) => Err(Halt::Memory),
         Err(error) => without_certificate(alloc, file, &input.set, error),
     }
-}
-
-/// Analyses a set with its code by the plain union delays, after the graphs of all tasks and the
-/// regions of their loops.
-pub(crate) fn classic<F: Files>(alloc: Global, files: &mut F, set: &str) -> Result<Answer, Halt>
-    ensures exact { HoldsWhereTold (F.contents files.old)
-        (λ c. MeansBy (ClassicEnds c set.now) result) }
-    ensures same { F.contents files.new ≡ F.contents files.old }
-    ensures later { F.faults files.old ≤ F.faults files.new }
-    ensures fault { IsErrOf result Halt.Fault → Rose (F.faults files.old) (F.faults files.new) }
-{
-    let shaped = load_shaped(alloc, files, set)?;
-    plain_analysis(alloc, set, &shaped.input, &shaped.shapes)
 }

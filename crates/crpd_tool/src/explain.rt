@@ -10,10 +10,10 @@ ghost use Rattle.crpd_input.specs.Reading.{certificate_in};
 ghost use Rattle.crpd_input.specs.Script.{script_in};
 ghost use Rattle.crpd_input.specs.Steps.{Exactly, MeansBy, HoldsWhereTold, Then};
 ghost use Rattle.preempt_machine.specs.Safe.{NamesTasks};
-ghost use Rattle.crpd_tool.specs.Explain.{AccountOf, ExplainEnds, ExplanationOf};
+ghost use Rattle.crpd_tool.specs.Explain.{AccountOf, ExplanationOf};
 
 use crate::answer::{Answer, Outcome};
-use crate::shaped::{Shaped, load_shaped};
+use crate::shaped::Shaped;
 use crate::texts::write_verdict;
 use cert_check::{Verdict, verdict};
 use crpd_base::{Certificate, Items, Memory, Script};
@@ -113,7 +113,7 @@ fn explain_script<F: Files>(
 
 /// The account of a script's run, or the judge's no, after the certificate and the script were read
 /// from their files.
-fn explain_certificate<F: Files>(
+pub(crate) fn explain_certificate<F: Files>(
     alloc: Global,
     files: &mut F,
     shaped: &Shaped,
@@ -135,24 +135,4 @@ fn explain_certificate<F: Files>(
 {
     let stated = load_certificate(alloc, files, certificate)?;
     explain_script(alloc, files, shaped, &stated, script)
-}
-
-/// Tells the reloads of a script's run and the delays that a certificate charges, where the judge
-/// says yes to it: after the graphs of all tasks and the regions of their loops, the certificate
-/// and the script.
-pub(crate) fn explain<F: Files>(
-    alloc: Global,
-    files: &mut F,
-    set: &str,
-    certificate: &str,
-    script: &str,
-) -> Result<Answer, Halt>
-    ensures exact { HoldsWhereTold (F.contents files.old)
-        (λ c. MeansBy (ExplainEnds c set.now certificate.now script.now) result) }
-    ensures same { F.contents files.new ≡ F.contents files.old }
-    ensures later { F.faults files.old ≤ F.faults files.new }
-    ensures fault { IsErrOf result Halt.Fault → Rose (F.faults files.old) (F.faults files.new) }
-{
-    let shaped = load_shaped(alloc, files, set)?;
-    explain_certificate(alloc, files, &shaped, certificate, script)
 }

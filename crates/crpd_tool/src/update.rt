@@ -9,11 +9,11 @@ ghost use Rattle.crpd_input.specs.Graphs.{HasBoundedLoops};
 ghost use Rattle.crpd_input.specs.Reading.{certificate_in, input_in};
 ghost use Rattle.crpd_input.specs.Shapes.{ShapesIn};
 ghost use Rattle.crpd_input.specs.Steps.{Exactly, MeansBy, HoldsWhereTold, Then};
-ghost use Rattle.crpd_tool.specs.Update.{ChangeOf, UpdateEnds, UpdateOf, as_of_analysis};
+ghost use Rattle.crpd_tool.specs.Update.{ChangeOf, UpdateOf, as_of_analysis};
 
 use crate::answer::Answer;
 use crate::ending::{certificate_answer, without_certificate};
-use crate::shaped::{Shaped, load_shaped};
+use crate::shaped::Shaped;
 use crate::texts::write_verdict;
 use cert_build::BuildError;
 use cert_check::{Verdict, verdict};
@@ -150,7 +150,7 @@ fn update_to_set<F: Files>(
 }
 
 /// The answer to the certificate of a file for an old set, for the new set of a file.
-fn update_certificate<F: Files>(
+pub(crate) fn update_certificate<F: Files>(
     alloc: Global,
     files: &mut F,
     old: &Shaped,
@@ -172,23 +172,4 @@ fn update_certificate<F: Files>(
 {
     let stated = load_certificate(alloc, files, old_certificate)?;
     update_to_set(alloc, files, old, &stated, new_set)
-}
-
-/// Updates an old certificate to a new set: after the old set with its graphs and regions, its
-/// certificate, and the new set with its graphs and regions.
-pub(crate) fn update<F: Files>(
-    alloc: Global,
-    files: &mut F,
-    old_set: &str,
-    old_certificate: &str,
-    new_set: &str,
-) -> Result<Answer, Halt>
-    ensures exact { HoldsWhereTold (F.contents files.old)
-        (λ c. MeansBy (UpdateEnds c old_set.now old_certificate.now new_set.now) result) }
-    ensures same { F.contents files.new ≡ F.contents files.old }
-    ensures later { F.faults files.old ≤ F.faults files.new }
-    ensures fault { IsErrOf result Halt.Fault → Rose (F.faults files.old) (F.faults files.new) }
-{
-    let old = load_shaped(alloc, files, old_set)?;
-    update_certificate(alloc, files, &old, old_certificate, new_set)
 }
