@@ -35,3 +35,6 @@ returns-in-No c =
     (subst (λ v. IfOk c.write_verdict.result
     (λ a. a ≡ verdict_answer c.args.input.now.set c.args.certificate.now v)) c.in-No.is
     c.write_verdict.ensures)
+
+pub verdict-found-requires-clause-tasks : goal.verdict-found-requires-clause-tasks
+verdict-found-requires-clause-tasks c = rw (c.as_slice-graphs.ensures, c.as_slice-nests.ensures) c.requires.shown

@@ -60,3 +60,6 @@ returns c =
       },
       ap (λ (a : Answer). Ok a) answer,
     )
+
+pub verdict-found-requires-clause-tasks : goal.verdict-found-requires-clause-tasks
+verdict-found-requires-clause-tasks c = rw (c.as_slice-graphs.ensures, c.as_slice.ensures) c.requires.shown

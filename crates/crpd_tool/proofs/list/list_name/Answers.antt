@@ -1,5 +1,5 @@
-use Rattle.std.proofs.Common.{◌≡◌, ◌∙◌, Err, Result, ap, sym}
-use Rattle.std.specs.Prelude.{Option, ok_or}
+use Rattle.std.proofs.Common.{◌≡◌, ◌∙◌, Err, Result, ap, arith, refl, sym}
+use Rattle.std.specs.Prelude.{IsErrOf, Option, ok_or}
 use Rattle.crpd_base.specs.declared.data.Task.{Task}
 use Rattle.crpd_input.specs.Steps.{IsRefusal, Stops, and_then, refusal}
 use Rattle.crpd_input.specs.declared.cause.Cause.TheVariants.{NoSuchTask}
@@ -16,6 +16,12 @@ refused meant stop (Refused refusal) is here = is ∙ ap (λ (h : Halt). Err h) 
 refused meant stop Memory is here = tt
 refused meant stop Fault is here = absurd here
 
+-- and it is no fault
+no_fault : (stop halt : Halt) → IsRefusal stop halt → IsErrOf {T = Answer} (Err halt) Fault → ⊥
+no_fault stop (Refused refusal) here e = absurd cc
+no_fault stop Memory here e = absurd cc
+no_fault stop Fault here e = here
+
 pub returns-in-None-clause-exact : goal.returns-in-None-clause-exact
 returns-in-None-clause-exact g c = λ contents told.
     refused (listed_of_set contents c.args.file.now c.args.name.now c.args.set.now) _
@@ -24,3 +30,13 @@ returns-in-None-clause-exact g c = λ contents told.
     (ok_or task (refusal NoSuchTask c.args.file.now c.args.name.now))
     (listed_of_task contents c.args.file.now c.args.set.now)) (sym c.in-None.ensures.is))
     c.refuse_name.ensures
+
+pub returns-in-None-clause-same : goal.returns-in-None-clause-same
+returns-in-None-clause-same g c = refl
+
+pub returns-in-None-clause-later : goal.returns-in-None-clause-later
+returns-in-None-clause-later g c = omega arith
+
+pub returns-in-None-clause-fault : goal.returns-in-None-clause-fault
+returns-in-None-clause-fault g c = λ e.
+    absurd (no_fault _ c.refuse_name.result c.refuse_name.ensures e)

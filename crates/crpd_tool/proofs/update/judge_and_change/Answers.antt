@@ -57,3 +57,6 @@ returns-in_ok-write_verdict-in-No-clause-exact c =
       ap (λ (a : Answer). Ok a) (c.in_ok-write_verdict-in-No.ensures
           ∙ ap (verdict_answer c.args.old.now.set c.args.stated.now) c.in-No.is),
     )
+
+pub verdict-found-requires-clause-tasks : goal.verdict-found-requires-clause-tasks
+verdict-found-requires-clause-tasks c = rw (c.as_slice-graphs.ensures, c.as_slice-nests.ensures) c.requires.old_shown
