@@ -1,8 +1,7 @@
 -- Steps one after another, of which each has one end.
-use Rattle.std.proofs.Common.{◌≡◌, Result, Ok, ap, subst, sym}
+use Rattle.std.proofs.Common.{◌≡◌, Result, Ok, subst, sym}
 use Rattle.crpd_input.specs.declared.halt.Halt.{Halt}
-use Rattle.crpd_input.specs.declared.halt.Halt.TheVariants.{Refused, Memory, Fault}
-use Rattle.crpd_input.specs.Steps.{Means, Stops, and_then}
+use Rattle.crpd_input.specs.Steps.{Means, and_then}
 
 module _ {A B : Type 0} (meant : Result A Halt) (next : A → Result B Halt) where
   -- a step gave a value, and the next ones end so
@@ -10,9 +9,3 @@ module _ {A B : Type 0} (meant : Result A Halt) (next : A → Result B Halt) whe
       → Means (next value) result → Means (and_then meant next) result
   goes_on value result is later =
       subst (λ (m : Result A Halt). Means (and_then m next) result) (sym is) later
-
-  -- a step stopped
-  pub stopped : (halt : Halt) → Stops meant halt → Stops (and_then meant next) halt
-  stopped (Refused refusal) is = ap (λ (m : Result A Halt). and_then m next) is
-  stopped Memory is = tt
-  stopped Fault is = tt
