@@ -1,10 +1,9 @@
 -- Over the same graphs, a set has the analysis' certificate or one refusal of it.
-use Rattle.std.proofs.Common.{◌≡◌, ◌≢◌, ℕ, zero, suc, ◌+◌, ◌<◌, ◌≤◌, List, [], ◌∷◌, length, refl}
-use Rattle.std.proofs.Common.{sym, ap, ◌∙◌, subst, inl, inr, arith, ◌^◌}
-use Rattle.std.proofs.lemmas.Bool.{cases_eq, cases_lt}
+use Rattle.std.proofs.Common.{◌≡◌, ◌≢◌, ℕ, suc, ◌+◌, ◌<◌, ◌≤◌, List, [], ◌∷◌, length, refl}
+use Rattle.std.proofs.Common.{sym, ap, ◌∙◌, inl, inr, arith, ◌^◌}
+use Rattle.std.proofs.lemmas.Bool.{cases_lt}
 use Rattle.std.proofs.lemmas.List.Sums.{sum_by-cons}
 use Rattle.std.specs.Prelude.{slice_index_or, sum_by}
-use Rattle.crpd_base.specs.declared.data.Platform.{Platform}
 use Rattle.crpd_base.specs.declared.data.Part.{Part}
 use Rattle.crpd_base.specs.declared.data.Method.{Method}
 use Rattle.crpd_base.specs.declared.data.NodeState.{NodeState}
@@ -24,8 +23,7 @@ use Rattle.response.specs.Windows.{IsSmallerWindow, IsFirstWithoutWindow, method
 use Rattle.response.specs.Windows.{window_at as chosen_window}
 use Rattle.cert_check.specs.JudgeInput.{accesses_of, longest_at, certified_part, window_at}
 use Rattle.cert_model.specs.Reading.{entries, state_entries, task_entries}
-use Rattle.cert_build.specs.Best.{IsBest, IsBestPart, demand_of}
-use Rattle.cert_build.specs.Analysis.{HasLargeBound}
+use Rattle.cert_build.specs.Best.{IsBest, demand_of}
 use Rattle.cert_build.specs.Certify.{AreBestParts, IsBuildError, IsFirstLarge, part_in}
 use Rattle.cert_build.specs.declared.fault.BuildError.{BuildError}
 use Rattle.cert_build.specs.declared.fault.BuildError.TheVariants.{Memory, TooLarge, TooManyEntries}

@@ -2,8 +2,6 @@
 -- only contracts inside the crate cite.
 use Rattle.std.specs.Prelude.{◌≡◌, ℕ, List, Option}
 use Rattle.crpd_io.specs.Outside.{Rose, AppendsPrefix, output_after}
-use Rattle.crpd_input.specs.declared.halt.Halt.TheVariants.{Refused}
-use Rattle.crpd_tool.specs.declared.answer.Outcome.TheVariants.{Done, No}
 use Rattle.crpd_tool.specs.declared.status.Status.{Status}
 use Rattle.crpd_tool.specs.declared.status.Status.TheVariants as exit
 use Rattle.crpd_tool.specs.Output.{IsWhole}
