@@ -1,4 +1,4 @@
-// What commands do with a set, its code, and the graphs of its tasks with the regions of their loops.
+// What commands do with a set, its code, and the graphs and regions of its tasks.
 ghost use Rattle.std.specs.Prelude.{◌≡◌, ◌≤◌, length, IsErrOf, Ok};
 ghost use Rattle.cert_check.specs.TaskGraphs.{AreTaskGraphs};
 ghost use Rattle.crpd_base.specs.Ranges.{IsTaskSet};
@@ -86,8 +86,8 @@ fn further_answer<F: Files>(
     }
 }
 
-/// The answer of a command that reads a set with its code, and finds the graphs of all tasks and the
-/// regions of their loops, before all else.
+/// The answer of a command that reads a set with its code, and finds the graphs of all tasks and
+/// the regions of their loops, before all else.
 pub(crate) fn answer_further<F: Files>(
     alloc: Global,
     files: &mut F,

@@ -1,5 +1,5 @@
--- What commands do with a set, its code, and the graphs of its tasks with the regions of their loops:
--- what only contracts inside the crate cite.
+-- What commands do with a set, its code, and the graphs of its tasks with the regions of their
+-- loops: what only contracts inside the crate cite.
 use Rattle.std.specs.Prelude.{ℕ, List, Result}
 use Rattle.crpd_io.specs.Outside.{Contents}
 use Rattle.crpd_input.specs.declared.halt.Halt.{Halt}

@@ -3,7 +3,8 @@ use Rattle.crpd_tool.specs.declared.answer.Answer.{Answer}
 use Rattle.crpd_tool.proofs.classic.plain_analysis.Goals as goal
 
 pub classic-requires-clause-tasks : goal.classic-requires-clause-tasks
-classic-requires-clause-tasks c = rw (c.as_slice-graphs.ensures, c.as_slice-nests.ensures) c.requires.shown
+classic-requires-clause-tasks c =
+    rw (c.as_slice-graphs.ensures, c.as_slice-nests.ensures) c.requires.shown
 
 pub returns-in_ok-certificate_answer-in-Ok-clause-exact :
     goal.returns-in_ok-certificate_answer-in-Ok-clause-exact
@@ -11,7 +12,8 @@ returns-in_ok-certificate_answer-in-Ok-clause-exact c =
     inl (
       c.in-Ok.certificate,
       record {
-        classic = rw (sym c.as_slice-graphs.ensures, sym c.as_slice-nests.ensures) c.in-Ok.ensures.exact;
+        classic =
+            rw (sym c.as_slice-graphs.ensures, sym c.as_slice-nests.ensures) c.in-Ok.ensures.exact;
         few = c.in-Ok.ensures.few;
         reads = c.in_ok-certificate_answer-in-Ok.ensures.reads_back;
       },

@@ -37,4 +37,5 @@ returns-in-No c =
     c.write_verdict.ensures)
 
 pub verdict-found-requires-clause-tasks : goal.verdict-found-requires-clause-tasks
-verdict-found-requires-clause-tasks c = rw (c.as_slice-graphs.ensures, c.as_slice-nests.ensures) c.requires.shown
+verdict-found-requires-clause-tasks c =
+    rw (c.as_slice-graphs.ensures, c.as_slice-nests.ensures) c.requires.shown

@@ -62,4 +62,5 @@ returns c =
     )
 
 pub verdict-found-requires-clause-tasks : goal.verdict-found-requires-clause-tasks
-verdict-found-requires-clause-tasks c = rw (c.as_slice-graphs.ensures, c.as_slice.ensures) c.requires.shown
+verdict-found-requires-clause-tasks c =
+    rw (c.as_slice-graphs.ensures, c.as_slice.ensures) c.requires.shown

@@ -59,4 +59,5 @@ returns-in_ok-write_verdict-in-No-clause-exact c =
     )
 
 pub verdict-found-requires-clause-tasks : goal.verdict-found-requires-clause-tasks
-verdict-found-requires-clause-tasks c = rw (c.as_slice-graphs.ensures, c.as_slice-nests.ensures) c.requires.old_shown
+verdict-found-requires-clause-tasks c =
+    rw (c.as_slice-graphs.ensures, c.as_slice-nests.ensures) c.requires.old_shown
