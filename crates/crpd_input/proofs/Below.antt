@@ -1,5 +1,5 @@
 -- A step for each number below one, up to the first stop.
-use Rattle.std.proofs.Common.{◌≡◌, ℕ, ◌<◌, ◌≤◌, List, [], ◌∷◌, ◌++◌, length, Some, Ok, Err, ap, sym}
+use Rattle.std.proofs.Common.{◌≡◌, ℕ, ◌<◌, List, [], ◌∷◌, ◌++◌, length, Some, Ok, Err, ap, sym}
 use Rattle.std.proofs.Common.{◌∙◌, subst, inl, inr, arith}
 use Rattle.std.specs.Prelude.{Result, slice_get}
 use Rattle.crpd_base.proofs.Elements.{some_at, at_more}
@@ -12,11 +12,6 @@ abbrev pub HasValues : {B : Type 0} → (ℕ → Result B Halt → Type 0) → L
 HasValues {B} P ys = (k : ℕ) (y : B) → slice_get ys k ≡ Some y → P k (Ok y)
 
 module _ {B : Type 0} (P : ℕ → Result B Halt → Type 0) where
-  pub no_values : (ys : List B) → ys ≡ [] → HasValues P ys
-  no_values ys e k y at =
-      let none : slice_get {X = B} [] k ≡ Some y =
-      ap (λ (l : List B). slice_get l k) (sym e) ∙ at in absurd cc
-
   pub value_more : (ys zs : List B) (n : ℕ) (y : B) → HasValues P ys → length ys ≡ n → P n (Ok y)
       → zs ≡ ys ++ y ∷ [] → HasValues P zs
   value_more ys zs n y has count here e k x at =
@@ -25,10 +20,6 @@ module _ {B : Type 0} (P : ℕ → Result B Halt → Type 0) where
         | inr new ↦
             subst (λ i. P i (Ok x)) (sym (new.0 ∙ count)) (subst (λ z. P n (Ok z)) new.1 here)
       ]
-
-  pub all_values : (ys : List B) (n m : ℕ) → HasValues P ys → length ys ≡ m → n ≤ m → m ≤ n
-      → EachBelow P n (Ok ys)
-  all_values ys n m has count low high = (omega (arith, count), has)
 
   pub refused_below : (ys : List B) (n m : ℕ) (r : Halt) → HasValues P ys → length ys ≡ m → m < n
       → P m (Err r) → EachBelow P n (Err r)

@@ -1,5 +1,5 @@
 -- The stated loops of a set's plans have bounds from 1 to 1,000,000.
-use Rattle.std.proofs.Common.{◌≡◌, ℕ, ◌+◌, ◌≤◌, List, [], ◌∷◌, Ok, Err, refl, subst}
+use Rattle.std.proofs.Common.{◌≡◌, ℕ, ◌+◌, ◌≤◌, List, [], ◌∷◌, Ok, subst}
 use Rattle.std.specs.Prelude.{All, is_some}
 use Rattle.std.proofs.lemmas.List.Elements.{All-nil, All-cons, All-head, All-tail}
 use Rattle.crpd_base.proofs.Results.{bind_ok, ok_is}
@@ -13,7 +13,7 @@ use Rattle.crpd_base.specs.declared.data.TaskPlan.{TaskPlan}
 use Rattle.crpd_base.specs.declared.data.TaskSet.{TaskSet}
 use Rattle.crpd_base.specs.declared.data.TaskSpec.{TaskSpec}
 use Rattle.rv_decode.specs.Flow.{Words}
-use Rattle.crpd_base.specs.Outcome.{◌>>=◌, ensure, each}
+use Rattle.crpd_base.specs.Outcome.{ensure, each}
 use Rattle.code_map.specs.Places as place
 use Rattle.code_map.specs.Places.{address_of, entry_of, loop_of, plans_of, range_of}
 use Rattle.code_map.specs.Reading.{code_of, files_of}

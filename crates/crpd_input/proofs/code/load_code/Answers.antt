@@ -40,3 +40,11 @@ returns-in-Err-clause-exact g c = λ contents told.
 pub returns-in-Err-clause-fault : goal.returns-in-Err-clause-fault
 returns-in-Err-clause-fault g c = λ e.
     absurd (no_fault (map_halt c.args.name.now c.args.set.now c.in-Err.error) c.map_halt.result c.map_halt.ensures e)
+
+pub new-requires-clause-one : goal.new-requires-clause-one
+new-requires-clause-one g c =
+    ap (λ (is : List Image). length is) c.into_vec.ensures ∙ c.in_ok-images.ensures.count
+    ∙ ap (λ (ts : List TaskSpec). length ts) c.as_slice.ensures
+
+pub new-requires-clause-images : goal.new-requires-clause-images
+new-requires-clause-images g c = rw c.into_vec.ensures c.in_ok-images.ensures.images

@@ -1,4 +1,4 @@
-use Rattle.std.proofs.Common.{◌<◌, [], ◌∷◌, ap, arith, length, length-append}
+use Rattle.std.proofs.Common.{◌≡◌, ◌<◌, [], ◌∷◌, ap, arith, length, length-append}
 use Rattle.crpd_input.specs.Graphs.{GraphAt}
 use Rattle.crpd_input.proofs.Below.{stopped_below, value_more}
 use Rattle.crpd_input.proofs.graphs.task_graphs.Goals as goal
@@ -25,3 +25,15 @@ loop-place-preserved c = record {
       c.loop-place.place c.in-Ok.graph c.loop-place.invariant.are c.loop-place.invariant.count
       c.in-Ok.ensures.exact c.in_ok-push.ensures.items;
 }
+
+pub returns-clause-exact : goal.returns-clause-exact
+returns-clause-exact c =
+    let all : length c.loop-place.graphs.items ≡ length c.args.input.now.set.tasks =
+    omega (
+      arith,
+      c.loop-place.invariant.count,
+      c.loop-place-test.false,
+      c.loop-place.auto.place-end,
+      c.len-place-end.ensures,
+    ) in
+    rw c.new.ensures (all, c.loop-place.invariant.are)

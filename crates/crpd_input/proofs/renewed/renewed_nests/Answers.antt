@@ -45,3 +45,15 @@ returns-clause-shown c =
     subst (AreTaskGraphs c.args.input.now.set c.args.graphs.now) (sym c.new.ensures)
     (all_shown c.args.input.now.set c.args.graphs.now c.loop-place.nests.items c.requires.graphs.0
     all c.loop-place.invariant.shown)
+
+pub returns-clause-exact : goal.returns-clause-exact
+returns-clause-exact c =
+    let all : length c.loop-place.nests.items ≡ length c.args.input.now.set.tasks =
+    omega (
+      arith,
+      c.loop-place.invariant.count,
+      c.loop-place-test.false,
+      c.loop-place.auto.place-end,
+      c.requires.sources.count,
+    ) in
+    rw c.new.ensures (all, c.loop-place.invariant.are)

@@ -1,4 +1,4 @@
-use Rattle.std.proofs.Common.{List, Ok, Err, inl, refl, subst}
+use Rattle.std.proofs.Common.{List, Ok, Err, inl, refl, subst, sym}
 use Rattle.cert_check.specs.TaskGraphs.{AreTaskGraphs}
 use Rattle.flat_graph.specs.CodeGraph.{CodeGraph}
 use Rattle.crpd_input.specs.Graphs.{GraphsIn, RegionsIn}
@@ -35,3 +35,21 @@ pub returns-in-Ok-clause-shown : goal.returns-in-Ok-clause-shown
 returns-in-Ok-clause-shown c =
     subst (λ (gs : List CodeGraph). AreTaskGraphs c.args.input.now.set gs c.in-Ok.nests)
     c.as_slice.ensures c.in-Ok.ensures.shown
+
+pub sources-requires-clause-graphs : goal.sources-requires-clause-graphs
+sources-requires-clause-graphs c =
+    rw c.as_slice-old_graphs.ensures c.requires.old_shown.all_graphs
+
+pub renewed_graphs-requires-clause-old_graphs : goal.renewed_graphs-requires-clause-old_graphs
+renewed_graphs-requires-clause-old_graphs c =
+    rw c.as_slice-old_graphs.ensures c.requires.old_shown.all_graphs
+
+pub renewed_graphs-requires-clause-sources : goal.renewed_graphs-requires-clause-sources
+renewed_graphs-requires-clause-sources c = rw c.deref.ensures.value c.in_ok-sources.ensures
+
+pub renewed_nests-requires-clause-sources : goal.renewed_nests-requires-clause-sources
+renewed_nests-requires-clause-sources c =
+    rw (c.deref-2.ensures.value, sym c.as_slice-old_graphs.ensures) c.in_ok-sources.ensures
+
+pub renewed_nests-requires-clause-graphs : goal.renewed_nests-requires-clause-graphs
+renewed_nests-requires-clause-graphs c = rw c.as_slice.ensures c.in_ok-graphs.ensures.exact
