@@ -1,43 +1,53 @@
-//! The certifier over real files: a command line from each line of standard input, with what it
-//! writes and its status. Lines that begin with `#` are headings.
+//! The certifier over files. A line of standard input is one of these, and each but the first is
+//! answered by what the command writes and its status:
+//!
+//! - `# TEXT` is a heading.
+//! - `COMMAND WORD ..` is carried out over the files that lie where this program runs.
+//! - `untouched "COMMAND" "WORD" ..` has the words between the quotes, over files of which the
+//!   first call fails. Such words may be empty, or hold a space.
+//! - `failing COMMAND WORD .. with FILE ..` is carried out over copies of these files in memory:
+//!   each call of the files and each call of the output fails in turn.
+//! - `cut COMMAND WORD .. with FILE ..` has the first of these files cut to each length, `ended`
+//!   ends its reads there though its size is told whole, and `turned` turns the highest bit of each
+//!   of its bytes. The places with one answer stand together.
+//! - `entries COMMAND WORD .. with FILE ..` has besides these files `many.json`, certificates with
+//!   as many entries of states as may be, and one more.
+//! - `long COMMAND WORD ..` has one file, `long.toml`, of a byte more than is read.
 #![tactic(auto)]
 
-use crpd_io::{DiskFiles, StdSink};
-use crpd_tool::run;
-use std::alloc::{AllocError, Global};
+mod answer;
+mod command;
+mod damaged;
+mod ending;
+mod failing;
+mod limits;
+mod trial;
+
+use command::{print_command, print_untouched};
+use damaged::{Damage, print_damaged};
+use failing::print_failing;
+use limits::{print_entries, print_long};
 use std::io;
 
-// The words of a command line.
-fn words_of(alloc: Global, line: &str) -> Result<Vec<String>, AllocError> {
-    let mut words = Vec::new(alloc);
-    for word in line.split_whitespace() {
-        words.push(String::from_str(alloc, word)?)?;
+fn print_answer(rt: &HostRuntime, line: &str) -> io::Result<()> {
+    let (kind, rest) = line.split_once(' ').unwrap_or((line, ""));
+    match kind {
+        "#" => println!(rt; "{line}"),
+        "untouched" => print_untouched(rt, rest),
+        "failing" => print_failing(rt, rest),
+        "cut" => print_damaged(rt, rest, Damage::Cut),
+        "ended" => print_damaged(rt, rest, Damage::Ended),
+        "turned" => print_damaged(rt, rest, Damage::Turned),
+        "entries" => print_entries(rt, rest),
+        "long" => print_long(rt, rest),
+        _ => print_command(rt, line),
     }
-    Ok(words)
-}
-
-// Runs a command over the files that lie where this program runs.
-fn run_line(rt: &HostRuntime, line: &str) -> io::Result<()> {
-    let words = words_of(rt.alloc(), line)?;
-    print!(rt; "$ crpd")?;
-    for word in &words {
-        print!(rt; " {word}")?;
-    }
-    println!(rt;)?;
-    let mut files = DiskFiles::new(rt);
-    let mut out = StdSink::new(rt);
-    let status = run(rt.alloc(), words.as_slice(), &mut files, &mut out);
-    println!(rt; "{status:?} {}", status.code())
 }
 
 fn main(rt: HostRuntime) -> io::Result<()> {
     for line in rt.lines(rt.alloc()) {
         let line = line?;
-        if line.starts_with('#') {
-            println!(rt; "{line}")?;
-        } else {
-            run_line(&rt, line.as_str())?;
-        }
+        print_answer(&rt, line.as_str())?;
     }
     Ok(())
 }

@@ -1,18 +1,19 @@
 // Files that tell no contents, of which one ends before its size.
 ghost use Rattle.std.specs.Prelude.{None};
 
+use crate::trial::Held;
 use crpd_io::{Fault, Files, SureFiles};
 
 /// Files of which the reads of one name end at a place, whatever its size is said to be.
 #[derive(Drop)]
-pub(crate) struct Ending {
+pub(crate) struct Ending<'a> {
     files: SureFiles,
-    name: &'static str,
+    name: &'a str,
     end: u64,
 }
 
-impl Ending {
-    pub(crate) fn new(files: Vec<(String, Vec<u8>)>, name: &'static str, end: u64) -> Self {
+impl<'a> Ending<'a> {
+    pub(crate) fn new(files: Held, name: &'a str, end: u64) -> Self {
         Ending {
             files: SureFiles::new(files),
             name,
@@ -21,7 +22,7 @@ impl Ending {
     }
 }
 
-impl Files for Ending {
+impl Files for Ending<'_> {
     ghost contents = { λ _. None };
 
     ghost faults = { λ _. 0 };

@@ -1,0 +1,105 @@
+// Files at the limits of what is read.
+use crate::answer::{carry_out, sink};
+use crate::command::words_of;
+use crate::trial::{Held, Trial, copy_of};
+use crpd_io::SureFiles;
+use std::alloc::{AllocError, Global};
+use std::io;
+
+// The blocks of 500 sets.
+fn sure_of(alloc: Global) -> Result<String, AllocError> {
+    let mut text = String::from_str(alloc, "0,0")?;
+    for set in 1..500 {
+        write!(&mut text, ",{set},0")?;
+    }
+    Ok(text)
+}
+
+// The states of 500 nodes, each with these blocks, the first node with these useful sets.
+fn push_states(text: &mut String, sure: &str, useful: &str) -> Result<(), AllocError> {
+    write!(text, "[0,[{sure}],[{useful}]]")?;
+    for node in 1..500 {
+        write!(text, ",[{node},[{sure}],[]]")?;
+    }
+    Ok(())
+}
+
+// A task's part, with such states.
+fn push_part(text: &mut String, name: &str, sure: &str, useful: &str) -> Result<(), AllocError> {
+    write!(
+        text,
+        "{{\"bound\":12,\"evicting\":[0],\"loops\":[],\"method\":\"ucb\",\"name\":\"{name}\",\
+         \"potentials\":[12,1],\"response\":17,\"states\":["
+    )?;
+    push_states(text, sure, useful)?;
+    text.push_str("],\"useful\":[0],\"window\":17}")
+}
+
+static FIRST: &str = "{\"platform\":{\"data\":3,\"div\":0,\"hit\":1,\"line\":16,\"miss\":10,\
+     \"mul\":0,\"sets\":4,\"switch\":5,\"switching\":\"cycle\",\"taken\":2},\"tasks\":[";
+
+static NAMES: [&str; 15] = [
+    "t1", "t2", "t3", "t4", "t5", "t6", "t7", "t8", "t9", "t10", "t11", "t12", "t13", "t14", "t15",
+];
+
+// The certificate of these blocks and useful sets.
+fn push_tasks(text: &mut String, sure: &str, useful: &str) -> Result<(), AllocError> {
+    text.push_str(FIRST)?;
+    push_part(text, "one", sure, useful)?;
+    for &name in &NAMES {
+        text.push_str(",")?;
+        push_part(text, name, sure, "")?;
+    }
+    text.push_str("],\"version\":2}")
+}
+
+// A certificate of sixteen tasks with 4,000,000 entries, and those of these useful sets.
+fn many_entries(alloc: Global, useful: &str) -> Result<String, AllocError> {
+    let sure = sure_of(alloc)?;
+    let mut text = String::new(alloc);
+    push_tasks(&mut text, sure.as_str(), useful)?;
+    Ok(text)
+}
+
+// Carries out a command over these files and one more.
+fn print_with(
+    rt: &HostRuntime,
+    words: &[String],
+    mut held: Held,
+    name: &str,
+    bytes: Vec<u8>,
+) -> io::Result<()> {
+    held.push((String::from_str(rt.alloc(), name)?, bytes))?;
+    let mut files = SureFiles::new(held);
+    let out = sink(rt.alloc(), usize::MAX, u64::MAX)?;
+    carry_out(rt.alloc(), words, &mut files, out).print(rt)
+}
+
+// Carries out a command over its files and this certificate.
+fn print_entries_of(rt: &HostRuntime, trial: &Trial, useful: &str) -> io::Result<()> {
+    let bytes = many_entries(rt.alloc(), useful)?.into_bytes();
+    let held = copy_of(rt.alloc(), trial.held.as_slice())?;
+    print_with(rt, trial.words.as_slice(), held, "many.json", bytes)
+}
+
+/// A certificate with as many entries as may be, and one with a useful set more.
+pub(crate) fn print_entries(rt: &HostRuntime, line: &str) -> io::Result<()> {
+    println!(rt; "$ entries {line}")?;
+    let trial = Trial::read(rt, line)?;
+    print_entries_of(rt, &trial, "")?;
+    print_entries_of(rt, &trial, "7")
+}
+
+/// A file of a byte more than is read.
+pub(crate) fn print_long(rt: &HostRuntime, line: &str) -> io::Result<()> {
+    println!(rt; "$ long {line}")?;
+    let words = words_of(rt.alloc(), line)?;
+    let bytes = vec![in rt.alloc(); b'\n'; 16_777_217]?;
+    print_with(
+        rt,
+        words.as_slice(),
+        Vec::new(rt.alloc()),
+        "long.toml",
+        bytes,
+    )
+}
