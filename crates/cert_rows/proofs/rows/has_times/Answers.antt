@@ -1,6 +1,6 @@
 use Rattle.std.proofs.Common.{arith, ◌≡◌, ◌<◌, get_or, length}
-use Rattle.window_rows.proofs.Ranges.{range_more}
-use Rattle.window_rows.proofs.rows.has_times.Goals as goal
+use Rattle.cert_rows.proofs.Ranges.{range_more}
+use Rattle.cert_rows.proofs.rows.has_times.Goals as goal
 
 pub loop-k-preserved : goal.loop-k-preserved
 loop-k-preserved c =

@@ -1,7 +1,7 @@
 use Rattle.std.proofs.Common.{ℕ, ◌<◌}
 use Rattle.crpd_base.specs.Tasks.{period_of, jitter_of, deadline_of}
-use Rattle.window_rows.proofs.Ranges.{InRange}
-use Rattle.window_rows.proofs.rows.has_times.Given as goal
+use Rattle.cert_rows.proofs.Ranges.{InRange}
+use Rattle.cert_rows.proofs.rows.has_times.Given as goal
 
 abbrev pub invariant-loop-k : goal.invariant-loop-k
 invariant-loop-k l =

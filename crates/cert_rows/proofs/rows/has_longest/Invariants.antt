@@ -1,5 +1,5 @@
 use Rattle.std.proofs.Common.{ℕ, ◌<◌, ◌≤◌, ◌^◌, get_or}
-use Rattle.window_rows.proofs.rows.has_longest.Given as goal
+use Rattle.cert_rows.proofs.rows.has_longest.Given as goal
 
 abbrev pub invariant-loop-k : goal.invariant-loop-k
 invariant-loop-k l = record {
