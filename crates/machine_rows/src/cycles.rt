@@ -3,7 +3,7 @@ ghost use Rattle.std.specs.Prelude.{◌≡◌, ◌<◌, ◌≤◌, ◌^◌, leng
 ghost use Rattle.preempt_machine.specs.Running.{HasPlans};
 ghost use Rattle.preempt_machine.specs.Safe.{NamesTasks};
 
-use crate::runs::{INTERRUPTED, compare_ends};
+use crate::runs::{Case, INTERRUPTED, compare_ends};
 use crate::scripts::script_of;
 use code_map::CodeMap;
 use crpd_base::{JobId, Script, Task};
@@ -161,26 +161,26 @@ fn fetch_of(stretch: &Stretch) -> Option<Fetch> {
     }
 }
 
-// Compares what is seen of the job at a place.
-fn compare_job(rt: &impl Abort, machine: &Machine, place: usize, job: JobId, pc: u32, end: End)
+// Whether this is seen of the job at a place.
+fn is_job_seen(machine: &Machine, place: usize, job: JobId, pc: u32, end: End) -> bool
     requires { place < length machine.now.state.jobs }
 {
-    let steps = machine.steps();
     let completion = &machine.completions()[place];
-    assert_eq!(rt; completion.job, job);
-    assert_eq!(rt; completion.end, end, "after {steps}");
-    assert_eq!(rt; pc_at(machine, place), pc, "after {steps}");
+    completion.job == job && completion.end == end && pc_at(machine, place) == pc
 }
 
-// Compares what is seen of the two jobs and of the last cycle.
-fn compare_sight(rt: &impl Abort, machine: &Machine, stretch: &Stretch) {
-    let steps = machine.steps();
-    assert_eq!(rt; machine.owner(), Some(stretch.owner), "after {steps}");
-    assert_eq!(rt; machine.last_fetch(), fetch_of(stretch), "after {steps}");
-    assert_eq!(rt; machine.completions().len(), 2);
-    let ([low, high], (low_end, high_end)) = (stretch.pcs, stretch.ends);
-    compare_job(rt, machine, 0, LOW_JOB, low, low_end);
-    compare_job(rt, machine, 1, HIGH_JOB, high, high_end);
+// Whether this is seen of the two jobs.
+fn are_jobs_seen(machine: &Machine, pcs: &[u32; 2], ends: &(End, End)) -> bool {
+    machine.completions().len() == 2
+        && is_job_seen(machine, 0, LOW_JOB, pcs[0], ends.0)
+        && is_job_seen(machine, 1, HIGH_JOB, pcs[1], ends.1)
+}
+
+// Whether this is seen of the two jobs and of the last cycle.
+fn is_seen(machine: &Machine, stretch: &Stretch) -> bool {
+    machine.owner() == Some(stretch.owner)
+        && machine.last_fetch() == fetch_of(stretch)
+        && are_jobs_seen(machine, &stretch.pcs, &stretch.ends)
 }
 
 // Makes the cycles of a stretch by themselves, and compares after each.
@@ -194,27 +194,33 @@ fn pass(
     ensures { HasPlans code.now machine.new.state }
 {
     for step in machine.steps()..stretch.until {
-        assert_eq!(rt; machine.steps(), step);
+        assert!(rt; machine.steps() == step);
         machine.cycle(code)?;
-        assert_eq!(rt; machine.steps(), step + 1);
-        compare_sight(rt, machine, stretch);
+        assert!(rt;
+            machine.steps() == step + 1 && is_seen(machine, stretch),
+            "after {step}"
+        );
     }
     Ok(())
 }
+
+// Whether no cycle was made.
+fn is_new(machine: &Machine) -> bool {
+    machine.steps() == 0 && machine.owner().is_none() && machine.last_fetch().is_none()
+}
+
+static ENDS: [End; 2] = [End::Answered(49), End::Answered(32)];
 
 // Makes the cycles of all stretches from the start on, one after another.
 fn pass_all(rt: &impl Abort, machine: &mut Machine, code: &CodeMap) -> Result<(), Fail>
     requires { HasPlans code.now machine.old.state }
 {
-    assert_eq!(rt; machine.steps(), 0);
-    assert_eq!(rt; machine.owner(), None);
-    assert_eq!(rt; machine.last_fetch(), None);
+    assert!(rt; is_new(machine));
     for stretch in &STRETCHES {
         pass(rt, machine, code, stretch)?;
-        assert_eq!(rt; machine.steps(), stretch.until);
+        assert!(rt; machine.steps() == stretch.until);
     }
-    let ends = [End::Answered(49), End::Answered(32)];
-    compare_ends(rt, machine.completions(), &ends);
+    compare_ends(rt, machine.completions(), &ENDS);
     Ok(())
 }
 
@@ -230,9 +236,15 @@ fn pass_script(rt: &impl Abort, alloc: Global, loaded: &Loaded, script: &Script)
     pass_all(rt, &mut machine, &loaded.code)
 }
 
+fn pass_case(rt: &impl Abort, alloc: Global, case: &Case) -> Result<(), Fail> {
+    let loaded = load(alloc, case.platform, case.programs)?;
+    let script = script_of(alloc, &loaded.set, case.cycles, case.blocks, case.jobs)?;
+    pass_script(rt, alloc, &loaded, &script)
+}
+
+static CASE: Case = INTERRUPTED;
+
 #[test]
 fn interrupted_instruction(rt: HostRuntime) -> Result<(), Fail> {
-    let loaded = load(rt.alloc(), INTERRUPTED.platform, INTERRUPTED.programs)?;
-    let script = script_of(rt.alloc(), &loaded.set, 100, &[], INTERRUPTED.jobs)?;
-    pass_script(&rt, rt.alloc(), &loaded, &script)
+    pass_case(&rt, rt.alloc(), &CASE)
 }

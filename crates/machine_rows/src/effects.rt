@@ -83,20 +83,23 @@ static LOADED: [(u32, u32); 4] = [
     (0x0003_5283, 0xFF80),
 ];
 
+fn compare_loaded(rt: &impl Abort, memory: &mut DataMemory) {
+    let mut regs = Regs::new();
+    regs.put(6, 0x7FF);
+    for &(word, value) in &LOADED {
+        let _ = carry_out(rt, word, &mut regs, memory);
+        assert!(rt; regs.get(5) == value, "after {word:x}");
+    }
+}
+
 #[test]
 fn loads(rt: HostRuntime) -> Result<(), Fail> {
     let mut memory = DataMemory::new(rt.alloc());
-    let mut regs = Regs::new();
     memory.put(0x7FF, 0x80)?;
     memory.put(0x800, 0xFF)?;
-    regs.put(6, 0x7FF);
-    for &(word, value) in &LOADED {
-        let _ = carry_out(&rt, word, &mut regs, &mut memory);
-        assert_eq!(rt; regs.get(5), value);
-    }
+    compare_loaded(&rt, &mut memory);
     memory.clear(0x800, 0x8000_0000);
-    assert_eq!(rt; memory.byte(0x7FF), 0x80);
-    assert_eq!(rt; memory.byte(0x800), 0);
+    assert!(rt; memory.byte(0x7FF) == 0x80 && memory.byte(0x800) == 0);
     Ok(())
 }
 
@@ -119,41 +122,80 @@ fn stores(rt: HostRuntime) {
     }
 }
 
-// The bytes of words and of bytes that are stored, in their order in memory.
+// The bytes of a word and of a byte that are stored, in their order in memory.
+static BYTES: [(u32, u8); 4] = [(0xFFFF_FFFF, 0x56), (0, 0x34), (2, 0x12), (0x7FF, 1)];
+
 #[test]
 fn bytes_of_stores(rt: HostRuntime) {
     let mut memory = DataMemory::new(rt.alloc());
     let mut regs = Regs::new();
     regs.put(7, 0x1200_3456);
     let _ = carry_out(&rt, 0xFE70_2FA3, &mut regs, &mut memory);
-    assert_eq!(rt; memory.byte(0xFFFF_FFFF), 0x56);
-    assert_eq!(rt; memory.byte(0), 0x34);
-    assert_eq!(rt; memory.byte(2), 0x12);
     regs.put(6, 0x7FF);
     regs.put(7, 0xFFFF_0001);
     let _ = carry_out(&rt, 0x0073_0023, &mut regs, &mut memory);
-    assert_eq!(rt; memory.byte(0x7FF), 1);
+    for &(address, byte) in &BYTES {
+        assert!(rt; memory.byte(address) == byte, "at {address:x}");
+    }
 }
+
+// The words one after the other, the values of x6 and x7, where each goes on, and what x1 and x6
+// are then.
+static FLOWS: [(u32, (u32, u32), Next, (u32, u32)); 7] = [
+    // jalr x6,5(x6): the target is taken before x6 is written, and its bit 0 is cleared
+    (0x0053_0367, (0x2000, 0), Next::Goto(0x2004), (0, 0x1004)),
+    // jal x1,-4
+    (
+        0xFFDF_F0EF,
+        (0x1004, 0),
+        Next::Goto(0xFFC),
+        (0x1004, 0x1004),
+    ),
+    // bge x6,x7,-8 and blt x6,x7,-8
+    (
+        0xFE73_5CE3,
+        (0xFFFF_FFFF, 1),
+        Next::Goto(0x1004),
+        (0x1004, 0xFFFF_FFFF),
+    ),
+    (
+        0xFE73_4CE3,
+        (0xFFFF_FFFF, 1),
+        Next::Goto(0xFF8),
+        (0x1004, 0xFFFF_FFFF),
+    ),
+    // addi x0,x6,1
+    (
+        0x0013_0013,
+        (0xFFFF_FFFF, 1),
+        Next::Goto(0x1004),
+        (0x1004, 0xFFFF_FFFF),
+    ),
+    (
+        0x0000_0073,
+        (0xFFFF_FFFF, 1),
+        Next::Answer,
+        (0x1004, 0xFFFF_FFFF),
+    ),
+    (
+        0x0010_0073,
+        (0xFFFF_FFFF, 1),
+        Next::Fault,
+        (0x1004, 0xFFFF_FFFF),
+    ),
+];
 
 #[test]
 fn flow(rt: HostRuntime) {
     let mut memory = DataMemory::new(rt.alloc());
     let mut regs = Regs::new();
-    // jalr x6,5(x6): the target is taken before x6 is written, and its bit 0 is cleared
-    regs.put(6, 0x2000);
-    assert!(rt; carry_out(&rt, 0x0053_0367, &mut regs, &mut memory) == Next::Goto(0x2004));
-    assert_eq!(rt; regs.get(6), 0x1004);
-    // jal x1,-4
-    assert!(rt; carry_out(&rt, 0xFFDF_F0EF, &mut regs, &mut memory) == Next::Goto(0xFFC));
-    assert_eq!(rt; regs.get(1), 0x1004);
-    // bge x6,x7,-8 and blt x6,x7,-8 with -1 and 1
-    regs.put(6, 0xFFFF_FFFF);
-    regs.put(7, 1);
-    assert!(rt; carry_out(&rt, 0xFE73_5CE3, &mut regs, &mut memory) == Next::Goto(0x1004));
-    assert!(rt; carry_out(&rt, 0xFE73_4CE3, &mut regs, &mut memory) == Next::Goto(0xFF8));
-    // addi x0,x6,1
-    assert!(rt; carry_out(&rt, 0x0013_0013, &mut regs, &mut memory) == Next::Goto(0x1004));
-    assert_eq!(rt; regs.get(0), 0);
-    assert!(rt; carry_out(&rt, 0x0000_0073, &mut regs, &mut memory) == Next::Answer);
-    assert!(rt; carry_out(&rt, 0x0010_0073, &mut regs, &mut memory) == Next::Fault);
+    for (word, (a, b), next, (x1, x6)) in &FLOWS {
+        regs.put(6, *a);
+        regs.put(7, *b);
+        assert!(rt;
+            carry_out(&rt, *word, &mut regs, &mut memory) == *next,
+            "of {word:x}"
+        );
+        assert!(rt; regs.get(0) == 0 && regs.get(1) == *x1 && regs.get(6) == *x6);
+    }
 }

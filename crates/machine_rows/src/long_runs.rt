@@ -97,9 +97,9 @@ fn compare_long(
 }
 
 fn compare_row(rt: &impl Abort, alloc: Global, row: &Long) -> Result<(), Fail> {
-    let &(programs, platform, cycles, jobs, ends) = row;
-    let loaded = load(alloc, platform, programs)?;
-    let script = script_of(alloc, &loaded.set, cycles, &[], jobs)?;
+    let (programs, platform, cycles, jobs, ends) = row;
+    let loaded = load(alloc, *platform, programs)?;
+    let script = script_of(alloc, &loaded.set, *cycles, &[], jobs)?;
     compare_long(rt, alloc, &loaded, &script, ends)
 }
 
