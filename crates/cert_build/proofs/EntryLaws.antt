@@ -225,15 +225,6 @@ not_last (s ∷ states) e y out =
     ]
 
 module _ (g : Graph) (a : Accesses) where
-  pub no_entries : AreLeaderEntries g a 0 []
-  no_entries =
-      record {
-        leaders = λ y l out. absurd (omega (arith, l));
-        each = λ k d l. absurd (omega (arith, l));
-        rise = tt;
-        ranges = λ k d l. absurd (omega (arith, l));
-      }
-
   pub entries_more : (n : ℕ) (states new : List NodeState) (e : NodeState) → new ≡ states ++ e ∷ []
       → e.node ≡ n → IsBestState g a e → IsState e → AreLeaderEntries g a n states
       → AreLeaderEntries g a (n + 1) new

@@ -1,5 +1,5 @@
 -- Clauses 3 to 5 judged along an order of the nodes.
-use Rattle.std.proofs.Common.{◌≡◌, ℕ, ◌+◌, ◌<◌, ◌≤◌, List, Option, None, IsFalse, sym, ap, ◌∙◌}
+use Rattle.std.proofs.Common.{◌≡◌, ℕ, ◌+◌, ◌<◌, ◌≤◌, List, Option, IsFalse, sym, ap, ◌∙◌}
 use Rattle.std.proofs.Common.{subst, arith}
 use Rattle.std.specs.Prelude.{slice_index}
 use Rattle.icache.specs.Accesses.{Accesses}
@@ -8,7 +8,7 @@ use Rattle.evict_sets.specs.Full.{Listed}
 use Rattle.evict_sets.specs.CacheClauses.{StatesMeet}
 use Rattle.evict_sets.specs.Listing.{IsChainOrder}
 use Rattle.cert_check.specs.Inner.JudgedNodes.{IsUsefulAt, IsLeastFailing}
-use Rattle.cert_check.proofs.LeastSeen.{IsLeastSeen, SeenTo, SeenFrom, none_seen, finished}
+use Rattle.cert_check.proofs.LeastSeen.{IsLeastSeen, SeenTo, SeenFrom, finished}
 use Rattle.evict_sets.proofs.HitsTo.{BlocksTo}
 
 module _ (g : Graph) (a : Accesses) (l : Listed) where
@@ -32,16 +32,6 @@ module _ (g : Graph) (a : Accesses) (l : Listed) where
     pub within : k ≤ g.size
     pub here : k < g.size → IsUsefulAt g a l (slice_index order k) useful
     pub seen : IsLeastSeen P (SeenFrom order g.size k) g.size least
-
-  pub useful_start : (P : ℕ → Type 0) (order useful : List ℕ) (k : ℕ) → k ≡ g.size
-      → UsefulFrom P order useful None k
-  useful_start P order useful k is = record {
-    within = omega (arith, is);
-    here = λ lt. absurd (omega (arith, is, lt));
-    seen =
-        none_seen P (SeenFrom order g.size k) g.size
-        (λ u s. absurd (let a = s.1 in let b = s.2 in omega (arith, is, a, b)));
-  }
 
   pub useful_follows : (P : ℕ → Type 0) (order useful : List ℕ) (least : Option ℕ)
       (k place node : ℕ) → IsChainOrder g l order → place + 1 ≡ k → slice_index order place ≡ node

@@ -24,10 +24,6 @@ SeenTo order k u = (j : ℕ) × (j < k) × (slice_index order j ≡ u)
 abbrev pub SeenFrom : List ℕ → ℕ → ℕ → ℕ → Type 0
 SeenFrom order size k u = (j : ℕ) × (k ≤ j) × (j < size) × (slice_index order j ≡ u)
 
-pub none_seen : (P : ℕ → Type 0) (seen : ℕ → Type 0) (size : ℕ) → ((u : ℕ) → seen u → ⊥)
-    → IsLeastSeen P seen size None
-none_seen P seen size none = λ u s. absurd (none u s)
-
 -- one node more, at which the fact holds
 passes : (P : ℕ → Type 0) (seen more : ℕ → Type 0) (size : ℕ) (least : Option ℕ) (x : ℕ)
     → ((u : ℕ) → more u → u ≢ x → seen u) → P x → IsLeastSeen P seen size least

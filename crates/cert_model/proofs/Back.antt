@@ -28,8 +28,8 @@ use Rattle.crpd_base.specs.Outcome.{◌>>=◌}
 use Rattle.toml_keys.specs.Reading.{each, item_path}
 use Rattle.cert_model.specs.Keys.{value_at_key, value_or_bad, required}
 use Rattle.cert_model.specs.Kinds as kind
-use Rattle.crpd_base.specs.Names.{is_between, is_line_length, is_name, method_name}
-use Rattle.cert_model.specs.Kinds.{whole, below, all_of, listed, rising, words_of, is_in, pair}
+use Rattle.crpd_base.specs.Names.{is_line_length, is_name, method_name}
+use Rattle.cert_model.specs.Kinds.{whole, below, all_of, rising, words_of, is_in, pair}
 use Rattle.cert_model.specs.Kinds.{pairs_from, state_of, states_from}
 use Rattle.cert_model.specs.Ranges.{RiseFrom, IsState, ArePotentials, IsTaskPart, AreTasks}
 use Rattle.cert_model.specs.Ranges.{IsCertificate}

@@ -1,12 +1,11 @@
 -- What a certificate that was read keeps: the ranges of its numbers, and the order of its lists.
-use Rattle.std.proofs.Common.{◌≡◌, ℕ, ◌+◌, ◌≤◌, ◌<◌, ◌^◌, Bool, true, nat_lt, nat_le, List, [], ◌∷◌}
+use Rattle.std.proofs.Common.{◌≡◌, ℕ, ◌+◌, ◌≤◌, ◌<◌, ◌^◌, true, nat_lt, nat_le, List, [], ◌∷◌}
 use Rattle.std.proofs.Common.{length, get_or, codes, Option, Some, None, Result, Ok, Err, refl, sym}
 use Rattle.std.proofs.Common.{ap, subst, arith, inl, inr}
 use Rattle.std.specs.Prelude.{All, IfOk, option_and_then, ◌&&◌}
 use Rattle.std.specs.List.{AllByRecursion}
 use Rattle.std.specs.Str.{is_utf8}
 use Rattle.std.proofs.lemmas.Bool.{cases_Bool, ltb-false, ltb-true, leb-true}
-use Rattle.std.proofs.lemmas.Bool.Decides.{nat_tests}
 use Rattle.std.proofs.lemmas.List.Elements.{All-from_recursion}
 use Rattle.std.proofs.lemmas.Option.{same_Some}
 use Rattle.crpd_base.proofs.Results.{bind_ok, ok_is}
@@ -23,7 +22,6 @@ use Rattle.cert_model.specs.declared.fault.CertError.{CertError}
 use Rattle.cert_model.specs.declared.fault.CertError.TheVariants.{Memory, TooLong}
 use Rattle.cert_model.specs.declared.version.Version.{Version}
 use Rattle.cert_model.specs.declared.version.Version.TheVariants.{First, Second}
-use Rattle.toml_keys.specs.Kinds.{only}
 use Rattle.crpd_base.specs.Outcome.{Gives}
 use Rattle.toml_keys.specs.Reading.{item_path}
 use Rattle.toml_keys.proofs.Laws.{guard_ok, each_all, each_length}

@@ -1,5 +1,5 @@
 -- The test of legality decides it.
-use Rattle.std.proofs.Common.{◌≡◌, ℕ, suc, ◌+◌, ◌<◌, ◌≤◌, Bool, true, false, List, [], ◌∷◌, length}
+use Rattle.std.proofs.Common.{◌≡◌, ℕ, suc, ◌+◌, ◌≤◌, Bool, true, false, List, [], ◌∷◌}
 use Rattle.std.proofs.Common.{refl, sym, arith}
 use Rattle.std.specs.Prelude.{All, AllPairs, not, ◌||◌, ◌↔◌, ◌==◌, nat_le, IsTrue}
 use Rattle.std.specs.Bool.{Decides}
@@ -10,7 +10,7 @@ use Rattle.std.proofs.lemmas.Bool.Decides.{nat_tests, same_from_decides}
 use Rattle.std.proofs.lemmas.List.Kept.{AllPairs-cons}
 use Rattle.crpd_base.specs.declared.data.ScriptJob.{ScriptJob}
 use Rattle.crpd_base.specs.declared.data.TaskSet.{TaskSet}
-use Rattle.script_reader.specs.Legal.{AreApart, AreSpaced, IsLegal, IsReleasedInTime, jitter_of}
+use Rattle.script_reader.specs.Legal.{AreSpaced, IsLegal, IsReleasedInTime, jitter_of}
 use Rattle.script_reader.specs.Legal.{period_of}
 use Rattle.crpd_report.specs.Simulate.{are_spaced, is_in_time, is_legal, list_all_pairs}
 

@@ -37,15 +37,6 @@ zip_more (x ∷ xs) (y ∷ ys) (suc i) c d h k =
     let more = zip_more xs ys i c d (omega arith) (omega arith) in
     rw add-one (ap (λ zs. (x, y) ∷ zs) (rw add-one at more))
 
-pub zip_all : {A B : Type 0} (xs : List A) (ys : List B) (n : ℕ) → length xs ≡ n → length ys ≡ n
-    → zip (take n xs) (take n ys) ≡ zip xs ys
-zip_all [] ys zero h k = refl
-zip_all [] ys (suc n) h k = absurd (omega arith)
-zip_all (x ∷ xs) [] n h k = absurd (omega arith)
-zip_all (x ∷ xs) (y ∷ ys) zero h k = absurd (omega arith)
-zip_all (x ∷ xs) (y ∷ ys) (suc n) h k =
-    ap (λ zs. (x, y) ∷ zs) (zip_all xs ys n (omega arith) (omega arith))
-
 -- the files' names
 abbrev pub names_of : List TaskSpec → List (List ℕ)
 names_of tasks = map (λ (t : TaskSpec). t.file) tasks

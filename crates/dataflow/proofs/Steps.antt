@@ -152,16 +152,6 @@ module _ (V : Type 0) (p : Problem V) (laws : HasLaws V p) where
         let early = last.last j below of_m in let late = done of_m in omega arith);
   }
 
-  -- and all are passed
-  pub all_passed_on : (facts : ℕ → Option V) (waiting : ℕ → Bool) (m : ℕ)
-      → IsPartialSolution V p facts waiting (λ j. (p.ends j).0 ≡ m → 0 ≤ j)
-      → IsPartialSolution V p facts waiting (λ j. Unit {0})
-  all_passed_on facts waiting m way = record {
-    sound = way.sound;
-    begun = way.begun;
-    carried = λ j below _. way.carried j below (λ of_m. omega arith);
-  }
-
   -- a node is taken that waits
   pub taken : (facts : ℕ → Option V) (waiting now : ℕ → Bool) (m : ℕ)
       → ((n : ℕ) → n ≢ m → now n ≡ waiting n)

@@ -23,7 +23,7 @@ use Rattle.cert_check.specs.JudgeInput.{window_at, certified_part, longest_at, t
 use Rattle.cert_model.specs.Ranges.{IsCertificate}
 use Rattle.cert_model.specs.Reading.{entries}
 use Rattle.cert_build.specs.Analysis.{part_with, part_of_analysis}
-use Rattle.cert_build.specs.Assembly.{no_analysis, analysis_at, HaveResponses, IsAssembled}
+use Rattle.cert_build.specs.Assembly.{no_analysis, analysis_at, IsAssembled}
 use Rattle.cert_build.specs.Assembly.{AreAnalysed}
 use Rattle.cert_build.specs.Certify.{part_in}
 use Rattle.cert_build.specs.Inner.Certify.{window_build_error}
@@ -31,7 +31,7 @@ use Rattle.cert_build.specs.declared.one_task.Analysis.{Analysis}
 use Rattle.cert_build.specs.declared.fault.BuildError.{BuildError}
 use Rattle.cert_build.proofs.Assembly.{has_parts}
 use Rattle.cert_build.proofs.Counting.{best_parts, entries_map}
-use Rattle.cert_build.proofs.FoundWindows.{part_of_list, responses}
+use Rattle.cert_build.proofs.FoundWindows.{part_of_list}
 use Rattle.cert_build.proofs.Certified.{part_best, entries_are, in_ranges}
 use Rattle.delay_classic.specs.Demand.{classic_demand, classic_demands}
 use Rattle.delay_classic.specs.ClassicErrors.{IsClassicError}
@@ -97,11 +97,6 @@ module _ (set : TaskSet) (graphs : ℕ → TaskGraph) (analyses : List Analysis)
     in_deadlines k l =
         (smaller_is_window set (classic_demand set (part_at parts) (slice_index longest) k) k
         (method_at choices k) (chosen_window choices k) (answer.each k l)).in_deadline
-
-    pub have_responses : HasTimes set → HaveResponses set choices
-    have_responses times =
-        responses set (classic_demands set (part_at parts) (slice_index longest)) choices
-        times answer
 
     module _ (c : Certificate) (C : IsAssembled set analyses choices c) where
       at : (k : ℕ) → k < length set.tasks

@@ -1,5 +1,5 @@
 -- The multiset delays are at most the plain ones.
-use Rattle.std.proofs.Common.{◌≡◌, ℕ, zero, suc, ◌+◌, ◌-◌, ◌*◌, ◌<◌, ◌≤◌, inl, inr, refl, sym}
+use Rattle.std.proofs.Common.{◌≡◌, ℕ, zero, suc, ◌+◌, ◌*◌, ◌<◌, ◌≤◌, inl, inr, refl, sym}
 use Rattle.std.proofs.Common.{arith, false}
 use Rattle.std.specs.Prelude.{Bool, nat_le, if◌then◌else◌, ◌&&◌}
 use Rattle.std.proofs.lemmas.Nat.{mul-le}

@@ -66,9 +66,14 @@ module _ (parts : ℕ → Part) (i j : ℕ) (shares : List (Share 8)) (size : le
 
   pub lower_in_range : ((k : ℕ) → k ≤ i → count_at shares k < 2 ^ 81)
       → (length lower ≤ 32) × ((k : ℕ) → k < length lower → count_at lower k < 2 ^ 81)
-  lower_in_range counts = (omega (arith, lower_length),
-      λ k l. omega (arith, lower_count k (omega (arith, lower_length)),
-      counts k (omega (arith, lower_length))))
+  lower_in_range counts = (
+    omega (arith, lower_length),
+    λ k l. omega (
+      arith,
+      lower_count k (omega (arith, lower_length)),
+      counts k (omega (arith, lower_length)),
+    ),
+  )
 
   pub lower_useful : (k c : ℕ) → k < suc i → useful_at lower k c ≡ has (parts k).useful c
   lower_useful k c h =

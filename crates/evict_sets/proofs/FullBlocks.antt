@@ -1,6 +1,6 @@
 -- Full states kept as the blocks of the cache sets.
 use Rattle.std.proofs.Common.{◌≡◌, ◌≢◌, ◌↔◌, ℕ, zero, suc, ◌-◌, ◌<◌, ◌≤◌, List, []}
-use Rattle.std.proofs.Common.{◌∷◌, length, set, get_or, drop, Option, Some, None, IsTrue, IsFalse}
+use Rattle.std.proofs.Common.{◌∷◌, length, set, drop, Option, Some, None, IsTrue, IsFalse}
 use Rattle.std.proofs.Common.{refl, sym, ap, ◌∙◌, subst, inl, inr, ⊎_elim, arith}
 use Rattle.std.proofs.Common.{get_or-set_same, get_or-set_other}
 use Rattle.std.proofs.lemmas.List.{drop_all}

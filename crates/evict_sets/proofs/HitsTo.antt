@@ -3,7 +3,7 @@ use Rattle.std.proofs.Common.{◌≡◌, ◌≢◌, ◌↔◌, ℕ, ◌+◌, ◌
 use Rattle.std.proofs.Common.{Option, IsTrue, IsFalse, sym, ap, ◌∙◌, subst, ⊎_elim, arith}
 use Rattle.std.proofs.Common.{get_or-set_same, get_or-set_other}
 use Rattle.std.specs.Prelude.{slice_index}
-use Rattle.std.proofs.lemmas.Bool.{cases_eq, both_ways}
+use Rattle.std.proofs.lemmas.Bool.{cases_eq}
 use Rattle.icache.specs.Accesses.{Accesses}
 use Rattle.flat_graph.specs.Graph.{Graph, Edge}
 use Rattle.evict_sets.specs.Full.{Listed, IsHit}
@@ -17,13 +17,6 @@ module _ (g : Graph) (a : Accesses) (l : Listed) where
     pub room : length blocks ≡ 512
     pub follows : k < g.size → IsFalse (l.is_listed (slice_index order k))
         → IsStateAt g a l (slice_index order k) blocks
-
-  pub blocks_start : (order : List ℕ) (blocks : List (Option ℕ))
-      → IsChainOrder g l order → length blocks ≡ 512 → BlocksTo order blocks 0
-  blocks_start order blocks O room = record {
-    room = room;
-    follows = λ lt out. absurd (both_ways (l.is_listed (slice_index order 0)) out (O.start lt));
-  }
 
   -- the state after a node is that of an unlisted one behind it
   pub blocks_more : (order : List ℕ) (new : List (Option ℕ)) (k node : ℕ)

@@ -15,7 +15,7 @@ use Rattle.rv_decode.specs.Table.{ins_of_word}
 use Rattle.rv_decode.proofs.Ranges.{row_in_range}
 use Rattle.flat_graph.specs.CodeGraph.{CodeGraph, HasCode, IsCodeGraph, ins_of, places_of}
 use Rattle.flat_graph.specs.FlatGraph.{FlatNode, IsNode, NodeError, the_first, a_successor}
-use Rattle.flat_graph.specs.FlatGraph.{call_error, error_of, successors_by, goes_to, ins_error}
+use Rattle.flat_graph.specs.FlatGraph.{error_of, successors_by, goes_to, ins_error}
 use Rattle.flat_graph.specs.FlatGraph.{returns_to, successors, calls}
 use Rattle.flat_graph.specs.FlatGraph as flat
 use Rattle.flat_graph.specs.Inner.GraphErrors.{HasInstructionAt}

@@ -38,9 +38,6 @@ IsBest rows among seen besides (Some r) =
 
 module _ (rows : List (List ℕ)) (among : List ℕ) (besides : Option ℕ)
     (L : AreInLine rows among) where
-  pub best_start : IsBest rows among (take 0 among) besides None
-  best_start s h = absurd (both_ways (has [] s) refl h)
-
   -- a region that is the new best
   takes : (i : ℕ) (best : Option ℕ) → i < length among
       → IsTrue (is_other besides (get_or among i 0))

@@ -4,12 +4,11 @@ use Rattle.std.proofs.Common.{refl, sym, ◌∙◌, ap, subst, inl, inr, arith, 
 use Rattle.std.proofs.Common.{get_or-set_other, length-set}
 use Rattle.std.specs.Prelude.{◌==◌, ◌&&◌, nat_lt, is_some, option_map, slice_index, slice_set}
 use Rattle.std.specs.Prelude.{if◌then◌else◌, IfSome, MatchOption}
-use Rattle.std.proofs.lemmas.Bool.{cases_Bool, cases_eq, cases_lt, false≢true, and_parts}
+use Rattle.std.proofs.lemmas.Bool.{cases_Bool, cases_eq, cases_lt, false≢true}
 use Rattle.std.proofs.lemmas.Bool.Decides.{nat_tests}
 use Rattle.crpd_base.specs.declared.data.JobId.{JobId}
 use Rattle.crpd_base.specs.declared.data.ScriptJob.{ScriptJob}
 use Rattle.crpd_base.specs.declared.data.Switching.{Switching}
-use Rattle.crpd_base.specs.declared.data.Switching.TheVariants.{Cycle, Instruction}
 use Rattle.crpd_base.specs.declared.data.TaskPlan.{TaskPlan}
 use Rattle.code_map.specs.Words.{Code}
 use Rattle.icache.specs.Cache.{Cache}
@@ -17,7 +16,7 @@ use Rattle.icache.specs.declared.Access.{Access}
 use Rattle.rv_core.specs.Memory.{Memory}
 use Rattle.preempt_machine.specs.declared.Fetch.{Fetch}
 use Rattle.preempt_machine.specs.Machine.{System, Job, Machine, ins_at, job_at, no_job}
-use Rattle.preempt_machine.specs.Step.{is_open, is_ready, keeps_core, candidate, candidate_by}
+use Rattle.preempt_machine.specs.Step.{is_open, candidate, candidate_by}
 use Rattle.preempt_machine.specs.Step.{first_ready, turn_of, turn_after_step, turn_after_execution}
 use Rattle.preempt_machine.specs.Step.{makes_fetch, fetch_by}
 use Rattle.preempt_machine.specs.Jobs.{turn_by}

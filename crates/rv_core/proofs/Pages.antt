@@ -361,20 +361,6 @@ set_put old after k page w h e is same = rw same (record {
   others = λ q ne. ap (λ o. unwrap_or o []) (set_others old k q w ne);
 })
 
-insert_here : (es : Pages) (k : ℕ) (w : List ℕ)
-    → lookup (is_at (nat_cmp k)) (insert_entry nat_cmp es k w) ≡ Some w
-insert_here [] k w = rw (at_same k k refl) refl
-insert_here (e ∷ es) k w = elim (order_cases k e.0) [
-  | inl lt ↦ rw (lt-ltb k e.0 lt) (rw (at_same k k refl) refl)
-  | inr rest ↦ elim rest [
-    | inl gt ↦
-        let ne : k ≡ e.0 → ⊥ = λ q. absurd (omega (arith, q, gt)) in
-        rw (le-ltb k e.0 (omega (arith, gt)), ne_eqb k e.0 ne)
-        (rw (at_other k e.0 ne) (insert_here es k w))
-    | inr q ↦ rw (le-ltb k e.0 (omega (arith, q)), eq-eqb k e.0 q) (rw (at_same k e.0 q) refl)
-  ]
-]
-
 pub insert_put : (old after : Pages) (k : ℕ) (w : List ℕ) → ArePages 0 old → k < 2 ^ 26 → IsPage w
     → after ≡ insert_entry nat_cmp old k w
     → ((q : ℕ) → lookup (is_at (nat_cmp q)) after

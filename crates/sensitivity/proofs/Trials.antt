@@ -8,7 +8,6 @@ use Rattle.crpd_base.specs.declared.data.Part.{Part}
 use Rattle.crpd_base.specs.declared.data.TaskSpec.{TaskSpec}
 use Rattle.crpd_base.specs.declared.data.Task.{Task}
 use Rattle.crpd_base.specs.declared.data.TaskSet.{TaskSet}
-use Rattle.crpd_base.specs.Ranges.{IsTaskSet}
 use Rattle.flat_graph.specs.Graph.{IsGraph}
 use Rattle.flat_graph.specs.CodeGraph.{CodeGraph, graph_of, graph_at}
 use Rattle.loop_regions.specs.CodeNest.{CodeNest}

@@ -1,8 +1,8 @@
 -- What a set that was read keeps: the ranges of its numbers, and that its tasks have names of their
 -- own.
-use Rattle.std.proofs.Common.{◌≡◌, ◌≢◌, ◌⊎◌, ℕ, ◌≤◌, ◌<◌, ◌^◌, Bool, true, false, cond, nat_lt}
+use Rattle.std.proofs.Common.{◌≡◌, ◌≢◌, ℕ, ◌≤◌, ◌<◌, ◌^◌, true, false, cond, nat_lt}
 use Rattle.std.proofs.Common.{nat_le, List, [], ◌∷◌, ◌++◌, length, codes, Option, Some, None}
-use Rattle.std.proofs.Common.{Result, Ok, Err, refl, sym, ap, subst, arith, inl, inr, get_or, pos}
+use Rattle.std.proofs.Common.{Result, Ok, Err, refl, sym, ap, subst, arith, inl, inr, get_or}
 use Rattle.std.specs.Prelude.{All, AllPairs, IfOk}
 use Rattle.std.specs.List.{AllByRecursion}
 use Rattle.std.specs.Str.{is_utf8, bytes_eq}
@@ -21,12 +21,11 @@ use Rattle.crpd_base.specs.declared.data.Place.TheVariants.{Number}
 use Rattle.crpd_base.specs.declared.data.Switching.TheVariants.{Cycle}
 use Rattle.crpd_base.specs.Names.{is_line_length, is_name, is_file}
 use Rattle.crpd_base.specs.Ranges.{IsPlatform, IsLoopSpec, IsTaskSpec, HaveOwnNames, IsTaskSet}
-use Rattle.toml.specs.Data.{Data, integer, Members, as_table, as_str, get_member}
+use Rattle.toml.specs.Data.{Data, Members, as_table, as_str}
 use Rattle.toml.specs.Parse.{parse_document}
 use Rattle.toml_keys.specs.declared.fault.KeyError.{KeyError}
 use Rattle.crpd_base.specs.Outcome.{Gives}
 use Rattle.toml_keys.specs.Reading.{all_known, required, optional, whole, listed, each, item_path}
-use Rattle.toml_keys.specs.Reading.{value_at_key, value_or_bad, at_most}
 use Rattle.toml_keys.proofs.Laws.{guard_ok, each_all, each_length}
 use Rattle.toml_keys.proofs.Ranged.{IsBetween, only_ok, whole_between, required_ok, optional_ok}
 use Rattle.toml_keys.proofs.Ranged.{required_between, optional_within, at_most_ok}

@@ -1,6 +1,6 @@
 -- The ranges of what was read.
 use Rattle.std.proofs.Common.{◌≡◌, ◌⊎◌, ℕ, ◌≤◌, Bool, true, nat_le, List, length, Option, Some}
-use Rattle.std.proofs.Common.{None, Result, Ok, Err, refl, ap, subst, inl, inr, arith, pos}
+use Rattle.std.proofs.Common.{None, Result, Ok, refl, ap, subst, inl, inr, arith, pos}
 use Rattle.std.proofs.lemmas.Bool.{cases_Bool, leb-true}
 use Rattle.std.proofs.lemmas.Bool.Decides.{nat_tests}
 use Rattle.std.proofs.lemmas.Option.{same_Some}

@@ -14,7 +14,6 @@ use Rattle.run_account.specs.Fetches.{job_after}
 use Rattle.run_account.specs.Reloads.{FetchesAt, IsEvictor, IsPreemptor}
 use Rattle.run_account.specs.Ledger.{IsWindowStart}
 use Rattle.sound_laws.specs.Windows.{EvictedBy, PreemptedBy, ReloadsWithinDelays}
-use Rattle.sound_laws.proofs.Windows.Accounts.{Spends}
 use Rattle.sound_laws.proofs.Windows.Rooms.{Covers}
 use Rattle.sound_laws.proofs.Windows.Busy.{line_at, task_at, in_window, IsLastQuiet, is_busy_by}
 use Rattle.sound_laws.proofs.Windows.Busy.{all_quiet, some_busy}
@@ -78,9 +77,6 @@ module _ (K : CheckedRun) where
 
       front : HasShortFront s i t (block K legal (task_at s i))
       front = (windows K legal).fronts i t h begun last
-
-      abbrev has_spends : Spends s (rest K) (extra K) horizon
-      has_spends = rest_spends K
 
       in_time : horizon ≤ t + window K (task_at s i)
       in_time =

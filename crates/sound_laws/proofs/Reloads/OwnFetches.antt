@@ -1,10 +1,8 @@
 -- Step 4, own_fetches_agree and ledger_reloads_are_own: a job's own last fetches are the last
 -- accesses of its walk, so they agree with the full states, and a ledger's reload is its job's own.
-use Rattle.std.proofs.Common.{◌≡◌, ◌≢◌, ℕ, zero, suc, ◌<◌, Bool, true, ◌∷◌, length, Some, refl, sym}
+use Rattle.std.proofs.Common.{◌≡◌, ◌≢◌, ℕ, ◌<◌, Bool, true, length, Some, refl, sym}
 use Rattle.std.proofs.Common.{◌∙◌, ap, subst, inl, inr}
-use Rattle.std.proofs.lemmas.Bool.{cases_Bool, and_parts, eqb-true, not-true}
-use Rattle.std.proofs.lemmas.Option.{none-some}
-use Rattle.crpd_base.proofs.Options.{none_some, same_or_not}
+use Rattle.std.proofs.lemmas.Bool.{and_parts, eqb-true, not-true}
 use Rattle.crpd_base.specs.declared.data.TaskSet.{TaskSet}
 use Rattle.icache.specs.Accesses.{Accesses, last_access}
 use Rattle.icache.specs.Cache.{block_of, set_of}
@@ -22,7 +20,7 @@ use Rattle.preempt_machine.specs.Safe.{NamesTasks}
 use Rattle.run_account.specs.Fetches.{job_after}
 use Rattle.run_account.specs.Reloads.{HasOwn}
 use Rattle.run_account.proofs.Owners.{candidate_at, owns_true}
-use Rattle.run_account.proofs.OwnFetches.{own_keeps, own_candidate, fetch_made, fetch_not_made}
+use Rattle.run_account.proofs.OwnFetches.{fetch_made}
 use Rattle.run_account.specs.Nodes.{job_task, plan_at, node_of_job}
 use Rattle.run_account.specs.Walks.{fetched_nodes, HasGraphs}
 use Rattle.sound_laws.specs.Walks.{HasTaskRanges, IsCodeOf, before_of, IsOnWalk}

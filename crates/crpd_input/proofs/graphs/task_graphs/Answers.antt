@@ -1,6 +1,6 @@
-use Rattle.std.proofs.Common.{◌≡◌, ◌<◌, [], ◌∷◌, ap, arith, length, length-append}
+use Rattle.std.proofs.Common.{◌≡◌, ◌<◌, arith, length}
 use Rattle.crpd_input.specs.Graphs.{GraphAt}
-use Rattle.crpd_input.proofs.Below.{stopped_below, value_more}
+use Rattle.crpd_input.proofs.Below.{count_more, stopped_below, value_more}
 use Rattle.crpd_input.proofs.graphs.task_graphs.Goals as goal
 
 pub returns-in-Err-clause-exact : goal.returns-in-Err-clause-exact
@@ -14,12 +14,8 @@ returns-in-Err-clause-exact c =
 pub loop-place-preserved : goal.loop-place-preserved
 loop-place-preserved c = record {
   count =
-      omega (
-        arith,
-        ap length c.in_ok-push.ensures.items,
-        length-append c.loop-place.graphs.items (c.in-Ok.graph ∷ []),
-        c.loop-place.invariant.count,
-      );
+      count_more c.loop-place.graphs.items c.push.new.self.items c.loop-place.place c.in-Ok.graph
+      c.loop-place.invariant.count c.in_ok-push.ensures.items;
   are =
       value_more (GraphAt c.args.input.now) c.loop-place.graphs.items c.push.new.self.items
       c.loop-place.place c.in-Ok.graph c.loop-place.invariant.are c.loop-place.invariant.count
@@ -28,12 +24,7 @@ loop-place-preserved c = record {
 
 pub returns-clause-exact : goal.returns-clause-exact
 returns-clause-exact c =
-    let all : length c.loop-place.graphs.items ≡ length c.args.input.now.set.tasks =
-    omega (
-      arith,
-      c.loop-place.invariant.count,
-      c.loop-place-test.false,
-      c.loop-place.auto.place-end,
-      c.len-place-end.ensures,
-    ) in
+    let l = c.loop-place in
+    let all : length l.graphs.items ≡ length c.args.input.now.set.tasks =
+    omega (arith, l.invariant.count, c.loop-place-test.false, l.auto.place-end, c.len-place-end.ensures) in
     rw c.new.ensures (all, c.loop-place.invariant.are)

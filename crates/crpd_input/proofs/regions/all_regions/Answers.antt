@@ -1,7 +1,7 @@
-use Rattle.std.proofs.Common.{◌≡◌, ◌<◌, [], ◌∷◌, ap, sym, subst, arith, length, length-append}
+use Rattle.std.proofs.Common.{◌≡◌, ◌<◌, sym, subst, arith, length}
 use Rattle.cert_check.specs.TaskGraphs.{AreTaskGraphs}
 use Rattle.crpd_input.specs.Graphs.{RegionsAt}
-use Rattle.crpd_input.proofs.Below.{stopped_below, value_more}
+use Rattle.crpd_input.proofs.Below.{count_more, stopped_below, value_more}
 use Rattle.crpd_input.proofs.Nests.{ShownAt, all_shown}
 use Rattle.crpd_input.proofs.regions.all_regions.Goals as goal
 
@@ -16,12 +16,8 @@ returns-in-Err-clause-exact c =
 pub loop-place-preserved : goal.loop-place-preserved
 loop-place-preserved c = record {
   count =
-      omega (
-        arith,
-        ap length c.in_ok-push.ensures.items,
-        length-append c.loop-place.nests.items (c.in-Ok.nest ∷ []),
-        c.loop-place.invariant.count,
-      );
+      count_more c.loop-place.nests.items c.push.new.self.items c.loop-place.place c.in-Ok.nest
+      c.loop-place.invariant.count c.in_ok-push.ensures.items;
   are =
       value_more (RegionsAt c.args.input.now c.args.graphs.now) c.loop-place.nests.items
       c.push.new.self.items c.loop-place.place c.in-Ok.nest c.loop-place.invariant.are
@@ -34,26 +30,16 @@ loop-place-preserved c = record {
 
 pub returns-clause-shown : goal.returns-clause-shown
 returns-clause-shown c =
-    let all : length c.loop-place.nests.items ≡ length c.args.input.now.set.tasks =
-    omega (
-      arith,
-      c.loop-place.invariant.count,
-      c.loop-place-test.false,
-      c.loop-place.auto.place-end,
-      c.requires.graphs,
-    ) in
+    let l = c.loop-place in
+    let all : length l.nests.items ≡ length c.args.input.now.set.tasks =
+    omega (arith, l.invariant.count, c.loop-place-test.false, l.auto.place-end, c.requires.graphs) in
     subst (AreTaskGraphs c.args.input.now.set c.args.graphs.now) (sym c.new.ensures)
     (all_shown c.args.input.now.set c.args.graphs.now c.loop-place.nests.items c.requires.graphs all
     c.loop-place.invariant.shown)
 
 pub returns-clause-exact : goal.returns-clause-exact
 returns-clause-exact c =
-    let all : length c.loop-place.nests.items ≡ length c.args.input.now.set.tasks =
-    omega (
-      arith,
-      c.loop-place.invariant.count,
-      c.loop-place-test.false,
-      c.loop-place.auto.place-end,
-      c.requires.graphs,
-    ) in
+    let l = c.loop-place in
+    let all : length l.nests.items ≡ length c.args.input.now.set.tasks =
+    omega (arith, l.invariant.count, c.loop-place-test.false, l.auto.place-end, c.requires.graphs) in
     rw c.new.ensures (all, c.loop-place.invariant.are)

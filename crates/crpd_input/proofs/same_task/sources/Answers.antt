@@ -1,9 +1,10 @@
 use Rattle.std.proofs.Common.{◌≡◌, ◌<◌, ◌+◌, ◌∙◌, ℕ, [], ◌∷◌, ◌++◌, List, None, ap, arith, inl, inr}
-use Rattle.std.proofs.Common.{length, length-append, subst, sym}
+use Rattle.std.proofs.Common.{length, subst, sym}
 use Rattle.std.specs.Prelude.{Option, slice_index_or}
 use Rattle.std.proofs.lemmas.Bool.{cases_lt}
 use Rattle.std.proofs.lemmas.List.{get_or_append_left, get_or_push}
 use Rattle.crpd_input.specs.Inner.SameTask.{IsSource}
+use Rattle.crpd_input.proofs.Below.{count_more}
 use Rattle.crpd_input.proofs.same_task.sources.Goals as goal
 
 -- one new task more
@@ -26,12 +27,8 @@ one_more P some more n o count each here e k lt =
 pub loop-place-preserved : goal.loop-place-preserved
 loop-place-preserved c = record {
   count =
-      omega (
-        arith,
-        ap length c.in_ok-push.ensures.items,
-        length-append c.loop-place.sources.items (c.source.result ∷ []),
-        c.loop-place.invariant.count,
-      );
+      count_more c.loop-place.sources.items c.push.new.self.items c.loop-place.place c.source.result
+      c.loop-place.invariant.count c.in_ok-push.ensures.items;
   each =
       λ k lt. one_more (IsSource c.args.old.now c.args.graphs.now c.args.input.now)
       c.loop-place.sources.items c.push.new.self.items c.loop-place.place c.source.result

@@ -1,7 +1,6 @@
 -- The facts so far are those where paths begin.
 use Rattle.std.proofs.Common.{◌≡◌, ℕ, ◌<◌, vec_len}
 use Rattle.dataflow.specs.Problem.{fact_at}
-use Rattle.dataflow.specs.Inner.Search.{}
 use Rattle.dataflow.proofs.solver.first_facts.Given as goal
 
 abbrev pub invariant-loop-node : goal.invariant-loop-node

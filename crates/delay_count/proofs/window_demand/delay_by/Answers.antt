@@ -6,14 +6,30 @@ use Rattle.delay_count.proofs.Delays.{lower_in_range, is_ucb, is_ecb, ucb_fits, 
 use Rattle.delay_count.proofs.window_demand.delay_by.Goals as goal
 
 pub gamma_ucb-requires : goal.gamma_ucb-requires
-gamma_ucb-requires c =
-    (lit< tt, (lit< tt, (lit≤ tt, lower_in_range (part_at c.args.parts.now) c.args.i c.args.j
-    c.args.shares.now c.requires.size c.requires.i c.requires.useful c.requires.counts)))
+gamma_ucb-requires c = (
+  lit< tt,
+  (
+    lit< tt,
+    (
+      lit≤ tt,
+      lower_in_range (part_at c.args.parts.now) c.args.i c.args.j
+          c.args.shares.now c.requires.size c.requires.i c.requires.useful c.requires.counts,
+    ),
+  ),
+)
 
 pub gamma_ecb-requires : goal.gamma_ecb-requires
-gamma_ecb-requires c =
-    (lit< tt, (lit< tt, (lit≤ tt, lower_in_range (part_at c.args.parts.now) c.args.i c.args.j
-    c.args.shares.now c.requires.size c.requires.i c.requires.useful c.requires.counts)))
+gamma_ecb-requires c = (
+  lit< tt,
+  (
+    lit< tt,
+    (
+      lit≤ tt,
+      lower_in_range (part_at c.args.parts.now) c.args.i c.args.j
+          c.args.shares.now c.requires.size c.requires.i c.requires.useful c.requires.counts,
+    ),
+  ),
+)
 
 pub returns-in-Ucb-clause-is : goal.returns-in-Ucb-clause-is
 returns-in-Ucb-clause-is c =

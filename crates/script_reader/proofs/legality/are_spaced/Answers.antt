@@ -2,7 +2,6 @@ use Rattle.std.proofs.Common.{◌≡◌, ℕ, ◌<◌, ◌∙◌, List, sym, ref
 use Rattle.std.proofs.Common.{below_more}
 use Rattle.std.proofs.lemmas.Bool.{false≢true}
 use Rattle.crpd_base.proofs.Times.{period_is}
-use Rattle.crpd_base.specs.declared.data.TaskSet.{TaskSet}
 use Rattle.crpd_base.specs.declared.data.TaskSpec.{TaskSpec}
 use Rattle.script_reader.specs.Legal.{period_of}
 use Rattle.script_reader.specs.Inner.Legal.{AreAllApart, arrivals_of}

@@ -5,7 +5,6 @@ use Rattle.std.proofs.lemmas.Bool.{false≢true}
 use Rattle.std.proofs.lemmas.List.{get_or_default}
 use Rattle.crpd_base.proofs.Times.{period_is}
 use Rattle.crpd_base.specs.declared.data.ScriptJob.{ScriptJob}
-use Rattle.crpd_base.specs.declared.data.TaskSet.{TaskSet}
 use Rattle.crpd_base.specs.declared.data.TaskSpec.{TaskSpec}
 use Rattle.script_reader.specs.Legal.{period_of}
 use Rattle.script_reader.specs.Inner.Legal.{IsSpacedBy}

@@ -1,4 +1,4 @@
-use Rattle.std.proofs.Common.{arith, rules}
+use Rattle.std.proofs.Common.{arith}
 use Rattle.std.proofs.lemmas.Grind.{common_steps}
 use Rattle.set_reader.specs.Kinds.{digits}
 use Rattle.set_reader.proofs.kinds.digits.Goals as goal
