@@ -278,13 +278,12 @@ module _ (w : Way) (way : IsWay w) (rest : ℕ → List ℕ) (R : HasRests w res
     )
 
     -- a row, by its tests at the cache sets
-    pub record IsTested (y : ℕ) (blocks : List (ℕ × ℕ)) (useful : List ℕ) : Type 0 where
-      pub node : y < size w
-      pub some_blocks : IsTrue (have_below p.sets blocks)
-      pub some_sets : IsTrue (are_below p.sets useful)
-      pub states : IsTrue
-          (each p.sets (λ s. same_option (last_access a s (before w y)) (block_of_set blocks s)))
-      pub reuses : IsTrue (each p.sets (λ s. same_test (is_useful y s) (is_in useful s)))
+    abbrev pub IsTested : ℕ → List (ℕ × ℕ) → List ℕ → Type 0
+    IsTested y blocks useful =
+        (y < size w) × IsTrue (have_below p.sets blocks) × IsTrue (are_below p.sets useful)
+        × IsTrue (each p.sets (λ s.
+        same_option (last_access a s (before w y)) (block_of_set blocks s)))
+        × IsTrue (each p.sets (λ s. same_test (is_useful y s) (is_in useful s)))
 
     module _ (y : ℕ) (blocks : List (ℕ × ℕ)) (useful : List ℕ) (T : IsTested y blocks useful) where
       state_at : (s : ℕ) → last_access a s (before w y) ≡ block_of_set blocks s
@@ -294,10 +293,10 @@ module _ (w : Way) (way : IsWay w) (rest : ℕ → List ℕ) (R : HasRests w res
                 option_says (last_access a s (before w y)) (block_of_set blocks s)
                 (each_says p.sets
                 (λ c. same_option (last_access a c (before w y)) (block_of_set blocks c))
-                T.states s lt)
+                T.3 s lt)
             | inr ge ↦
                 no_last a p.sets below s ge (before w y)
-                ∙ sym (no_block p.sets blocks s T.some_blocks ge)
+                ∙ sym (no_block p.sets blocks s T.1 ge)
           ]
 
       useful_at : (s : ℕ) → is_useful y s ≡ is_in useful s
@@ -305,26 +304,26 @@ module _ (w : Way) (way : IsWay w) (rest : ℕ → List ℕ) (R : HasRests w res
           elim (cases_lt s p.sets) [
             | inl lt ↦
                 test_says (is_useful y s) (is_in useful s)
-                (each_says p.sets (λ c. same_test (is_useful y c) (is_in useful c)) T.reuses s lt)
+                (each_says p.sets (λ c. same_test (is_useful y c) (is_in useful c)) T.4 s lt)
             | inr ge ↦
                 ap is_hit_at (no_first a p.sets below s ge (y ∷ rest y))
-                ∙ sym (not_in p.sets useful s T.some_sets ge)
+                ∙ sym (not_in p.sets useful s T.2 ge)
           ]
 
       pub row : IsRow g a l y blocks useful
       row =
           record {
             sure = λ s m.
-                let i = sure_is y s m T.node in
+                let i = sure_is y s m T.0 in
                 (λ h. sym (state_at s) ∙ i.0 h, λ e. i.1 (state_at s ∙ e));
-            useful_sets = λ s. let i = useful_is y s T.node in (
+            useful_sets = λ s. let i = useful_is y s T.0 in (
               λ h. in_says useful s (subst (λ b. IsTrue b) (useful_at s) (i.0 h)),
               λ c. i.1 (subst (λ b. IsTrue b) (sym (useful_at s)) (says_in useful s c)),
             );
             full_state = λ s m.
-                let i = full_is y s m T.node in
+                let i = full_is y s m T.0 in
                 (λ h. sym (state_at s) ∙ i.0 h, λ e. i.1 (state_at s ∙ e));
-            full_useful = λ s. let i = full_useful_is y s T.node in (
+            full_useful = λ s. let i = full_useful_is y s T.0 in (
               λ h. in_says useful s (subst (λ b. IsTrue b) (useful_at s) (i.0 h)),
               λ c. i.1 (subst (λ b. IsTrue b) (sym (useful_at s)) (says_in useful s c)),
             );
@@ -479,13 +478,7 @@ worked_sets =
       high_last =
           row high high_way high_rest high_rests three.platform (λ x. in_eight _) _ high_first 3
           ((1, 0x301) ∷ (2, 0x302) ∷ (3, 0x303) ∷ []) []
-          (record {
-            node = omega arith;
-            some_blocks = refl;
-            some_sets = refl;
-            states = refl;
-            reuses = refl;
-          });
+          (omega arith, refl, refl, refl, refl);
       middle =
           sets (lower 0x2010) (lower_way 0x2010) lower_rest (lower_rests 0x2010) three.platform
           (λ x. in_eight _) (1 ∷ 2 ∷ []) (1 ∷ 2 ∷ [])
@@ -493,43 +486,19 @@ worked_sets =
       middle_first =
           row (lower 0x2010) (lower_way 0x2010) lower_rest (lower_rests 0x2010) three.platform
           (λ x. in_eight _) _ middle_first 0 [] []
-          (record {
-            node = omega arith;
-            some_blocks = refl;
-            some_sets = refl;
-            states = refl;
-            reuses = refl;
-          });
+          (omega arith, refl, refl, refl, refl);
       middle_second =
           row (lower 0x2010) (lower_way 0x2010) lower_rest (lower_rests 0x2010) three.platform
           (λ x. in_eight _) _ middle_first 2 ((1, 0x201) ∷ []) (1 ∷ [])
-          (record {
-            node = omega arith;
-            some_blocks = refl;
-            some_sets = refl;
-            states = refl;
-            reuses = refl;
-          });
+          (omega arith, refl, refl, refl, refl);
       middle_third =
           row (lower 0x2010) (lower_way 0x2010) lower_rest (lower_rests 0x2010) three.platform
           (λ x. in_eight _) _ middle_first 1 ((1, 0x201) ∷ (2, 0x202) ∷ []) (1 ∷ 2 ∷ [])
-          (record {
-            node = omega arith;
-            some_blocks = refl;
-            some_sets = refl;
-            states = refl;
-            reuses = refl;
-          });
+          (omega arith, refl, refl, refl, refl);
       middle_last =
           row (lower 0x2010) (lower_way 0x2010) lower_rest (lower_rests 0x2010) three.platform
           (λ x. in_eight _) _ middle_first 3 ((1, 0x201) ∷ (2, 0x202) ∷ []) (2 ∷ [])
-          (record {
-            node = omega arith;
-            some_blocks = refl;
-            some_sets = refl;
-            states = refl;
-            reuses = refl;
-          });
+          (omega arith, refl, refl, refl, refl);
       low =
           sets (lower 0x1030) (lower_way 0x1030) lower_rest (lower_rests 0x1030) three.platform
           (λ x. in_eight _) (3 ∷ 4 ∷ []) (3 ∷ 4 ∷ [])
@@ -537,54 +506,24 @@ worked_sets =
       low_third =
           row (lower 0x1030) (lower_way 0x1030) lower_rest (lower_rests 0x1030) three.platform
           (λ x. in_eight _) _ low_first 1 ((3, 0x103) ∷ (4, 0x104) ∷ []) (3 ∷ 4 ∷ [])
-          (record {
-            node = omega arith;
-            some_blocks = refl;
-            some_sets = refl;
-            states = refl;
-            reuses = refl;
-          });
+          (omega arith, refl, refl, refl, refl);
       low_last =
           row (lower 0x1030) (lower_way 0x1030) lower_rest (lower_rests 0x1030) three.platform
           (λ x. in_eight _) _ low_first 3 ((3, 0x103) ∷ (4, 0x104) ∷ []) (4 ∷ [])
-          (record {
-            node = omega arith;
-            some_blocks = refl;
-            some_sets = refl;
-            states = refl;
-            reuses = refl;
-          });
+          (omega arith, refl, refl, refl, refl);
       calls =
           sets call_way call_is_way call_rest call_rests two_words.platform (λ x. in_four _)
           (0 ∷ 1 ∷ []) (0 ∷ 1 ∷ []) (record { some_sets = refl; evicts = refl; reuses = refl });
       in_first =
           row call_way call_is_way call_rest call_rests two_words.platform
           (λ x. in_four _) _ call_first 7 ((0, 0x100) ∷ []) (0 ∷ [])
-          (record {
-            node = omega arith;
-            some_blocks = refl;
-            some_sets = refl;
-            states = refl;
-            reuses = refl;
-          });
+          (omega arith, refl, refl, refl, refl);
       between =
           row call_way call_is_way call_rest call_rests two_words.platform
           (λ x. in_four _) _ call_first 3 ((0, 0x100) ∷ (1, 0x101) ∷ []) (0 ∷ 1 ∷ [])
-          (record {
-            node = omega arith;
-            some_blocks = refl;
-            some_sets = refl;
-            states = refl;
-            reuses = refl;
-          });
+          (omega arith, refl, refl, refl, refl);
       in_second =
           row call_way call_is_way call_rest call_rests two_words.platform
           (λ x. in_four _) _ call_first 8 ((0, 0x100) ∷ (1, 0x101) ∷ []) (1 ∷ [])
-          (record {
-            node = omega arith;
-            some_blocks = refl;
-            some_sets = refl;
-            states = refl;
-            reuses = refl;
-          });
+          (omega arith, refl, refl, refl, refl);
     }
