@@ -25,12 +25,11 @@ use Rattle.crpd_tool.specs.Analyzed.{DoneIsBest, IsAnalyzed}
 use Rattle.crpd_tool.specs.Output.{Output, ending_output}
 use Rattle.crpd_input.specs.Reading.{input_in}
 use Rattle.crpd_input.specs.Shapes.{ShapesIn}
-use Rattle.crpd_input.specs.Steps.{Exactly, Then}
 use Rattle.crpd_tool.specs.Commands.{analyze}
 use Rattle.crpd_input.proofs.Built.{shapes_built}
 use Rattle.crpd_tool.proofs.Finish.{some-out}
 use Rattle.crpd_input.proofs.Given.{input_good, input_planned}
-use Rattle.crpd_tool.proofs.Safety.{then_done}
+use Rattle.crpd_tool.proofs.Safety.{shapes_done}
 
 -- without a certificate the status is another
 pub not_done : (file : List ℕ) (set : TaskSet) (e : BuildError)
@@ -78,11 +77,9 @@ module _ (contents : Contents) (set : List ℕ) where
   ended : (ending : Result Answer Halt) → AnalyzeEnds contents set ending
       → (ending_output ending).status ≡ Done → IsAnalyzed contents set (ending_output ending).text
   ended ending is e =
-      let input = then_done (Exactly (input_in contents set))
-      (λ input. Then (ShapesIn input) (AnalysisOf set input)) ending is e in
-      let shapes = then_done (ShapesIn input.0) (AnalysisOf set input.0) ending input.2 e in
-      let found = made input.0 shapes.0 ending shapes.2 e in
-      analyzed input.0 shapes.0 found.0 ending input.1 shapes.1 found.1 found.2
+      let given = shapes_done contents set (AnalysisOf set) ending is e in
+      let found = made given.0 given.1 ending given.4 e in
+      analyzed given.0 given.1 found.0 ending given.2 given.3 found.1 found.2
 
 pub done_is_best : (words : List (List ℕ)) (contents : Contents) → DoneIsBest words contents
 done_is_best words contents set output is out e =

@@ -10,6 +10,7 @@ use Rattle.crpd_input.specs.Shapes.{ShapesIn}
 use Rattle.crpd_input.specs.Steps.{Exactly, MeansBy, StopsBy, Then}
 use Rattle.crpd_input.proofs.Chain.{goes_on}
 use Rattle.crpd_tool.specs.Inner.Shaped.{ShapedIn}
+use Rattle.crpd_tool.specs.Shaped.{WithShapes}
 use Rattle.crpd_tool.specs.declared.answer.Answer.{Answer}
 use Rattle.crpd_tool.specs.declared.shaped.Shaped.{Shaped}
 
@@ -22,19 +23,18 @@ module _ (contents : Contents) (set : List ℕ) where
   no_shapes input Fault is stop = tt
 
   module _ (next : Input → Shapes → Result Answer Halt → Type 0) where
-    abbrev Whole : Result Answer Halt → Type 0
-    Whole = Then (Exactly (input_in contents set)) (λ input. Then (ShapesIn input) (next input))
-
     -- the next steps end so
     pub behind : (shaped : Shaped) (result : Result Answer Halt) → ShapedIn contents set (Ok shaped)
-        → MeansBy (next shaped.input shaped.shapes) result → MeansBy Whole result
+        → MeansBy (next shaped.input shaped.shapes) result
+        → MeansBy (WithShapes contents set next) result
     behind shaped result given later =
         goes_on (Exactly (input_in contents set)) (λ input. Then (ShapesIn input) (next input))
         shaped.input result given.0
         (goes_on (ShapesIn shaped.input) (next shaped.input) shaped.shapes result given.1 later)
 
     -- there are no next steps
-    pub without : (halt : Halt) → StopsBy (ShapedIn contents set) halt → StopsBy Whole halt
+    pub without : (halt : Halt) → StopsBy (ShapedIn contents set) halt
+        → StopsBy (WithShapes contents set next) halt
     without (Refused r) (inl is) = inr (Refused r, is, refl)
     without (Refused r) (inr made) = inl (made.0, made.1, inr (Refused r, made.2, refl))
     without Memory stop = tt

@@ -22,7 +22,6 @@ use Rattle.crpd_input.specs.declared.halt.Halt.{Halt}
 use Rattle.crpd_input.specs.declared.shapes.Shapes.{Shapes}
 use Rattle.crpd_input.specs.Reading.{input_in}
 use Rattle.crpd_input.specs.Shapes.{ShapesIn}
-use Rattle.crpd_input.specs.Steps.{Exactly, Then}
 use Rattle.crpd_input.proofs.Built.{shapes_built}
 use Rattle.crpd_input.proofs.Given.{input_good, input_planned}
 use Rattle.crpd_tool.specs.Analyze.{certificate_answer}
@@ -32,7 +31,7 @@ use Rattle.crpd_tool.specs.Output.{Output, ending_output}
 use Rattle.crpd_tool.specs.Commands.{classic}
 use Rattle.crpd_tool.proofs.Analyzed.{not_done}
 use Rattle.crpd_tool.proofs.Finish.{some-out}
-use Rattle.crpd_tool.proofs.Safety.{then_done}
+use Rattle.crpd_tool.proofs.Safety.{shapes_done}
 
 module _ (safe_law : CheckedCodeIsSafe) (judged_law : ClassicIsJudged) (one_law : OneClassic)
     (best_law : ClassicHasBest) (contents : Contents) (set : List ℕ) where
@@ -84,11 +83,9 @@ module _ (safe_law : CheckedCodeIsSafe) (judged_law : ClassicIsJudged) (one_law 
       → (ending_output ending).status ≡ Done
       → IsSoundClassic contents set (ending_output ending).text
   ended ending is e =
-      let input = then_done (Exactly (input_in contents set))
-      (λ input. Then (ShapesIn input) (ClassicOf set input)) ending is e in
-      let shapes = then_done (ShapesIn input.0) (ClassicOf set input.0) ending input.2 e in
-      let found = made input.0 shapes.0 ending shapes.2 e in
-      sound input.0 shapes.0 found.0 ending input.1 shapes.1 found.1 found.2
+      let given = shapes_done contents set (ClassicOf set) ending is e in
+      let found = made given.0 given.1 ending given.4 e in
+      sound given.0 given.1 found.0 ending given.2 given.3 found.1 found.2
 
 pub done_is_classic : CheckedCodeIsSafe → ClassicIsJudged → OneClassic → ClassicHasBest
     → (words : List (List ℕ)) (contents : Contents) → DoneIsClassic words contents

@@ -41,11 +41,12 @@ use Rattle.crpd_input.specs.declared.shapes.Shapes.{Shapes}
 use Rattle.crpd_input.specs.Reading.{certificate_in, input_in}
 use Rattle.crpd_input.specs.Script.{script_in, script_halt}
 use Rattle.crpd_input.specs.Shapes.{ShapesIn}
-use Rattle.crpd_input.specs.Steps.{Exactly, Then, bytes_in, file_bytes, or_refused}
+use Rattle.crpd_input.specs.Steps.{Exactly, bytes_in, file_bytes, or_refused}
 use Rattle.crpd_input.proofs.Built.{shapes_built}
 use Rattle.crpd_input.proofs.Given.{IsInput, input_good, input_planned, read_ok, step_ok}
 use Rattle.crpd_tool.specs.Check.{verdict_answer}
-use Rattle.crpd_tool.specs.Explain.{AccountOf, ExplainEnds, ExplainedBy, ExplanationOf}
+use Rattle.crpd_tool.specs.Explain.{AccountOf, ExplainEnds, ExplainFromCertificate}
+use Rattle.crpd_tool.specs.Explain.{ExplainFromShapes, ExplainedBy, ExplanationOf}
 use Rattle.crpd_tool.specs.Explained.{DoneIsExplained, IsExplained}
 use Rattle.crpd_tool.specs.Output.{Output, ending_output}
 use Rattle.crpd_tool.specs.Simulate.{run_of}
@@ -53,7 +54,7 @@ use Rattle.crpd_tool.specs.Commands.{explain}
 use Rattle.crpd_tool.specs.declared.answer.Answer.{Answer}
 use Rattle.crpd_tool.specs.declared.status.Status.TheVariants.{Done}
 use Rattle.crpd_tool.proofs.Finish.{some-out}
-use Rattle.crpd_tool.proofs.Safety.{then_done}
+use Rattle.crpd_tool.proofs.Safety.{shapes_done, then_done}
 
 -- the jobs of a script that was read are of the set's tasks
 script_named : (contents : Contents) (name : List ℕ) (set : TaskSet) (given : Script)
@@ -185,26 +186,17 @@ module _ (facts_law : LedgerFacts) (within_law : CheckedAccountIsWithinDelays) (
             account.0 account.2;
       }
 
-  abbrev Scripts : Input → Shapes → Certificate → Result Answer Halt → Type 0
-  Scripts input shapes stated =
-      Then (Exactly (script_in contents script input.set)) (ExplanationOf input shapes stated)
-
-  abbrev Certificates : Input → Shapes → Result Answer Halt → Type 0
-  Certificates input shapes =
-      Then (Exactly (certificate_in contents certificate)) (Scripts input shapes)
-
   ended : (ending : Result Answer Halt) → ExplainEnds contents set certificate script ending
       → (ending_output ending).status ≡ Done
       → IsExplained contents set certificate script (ending_output ending).text
   ended ending is e =
-      let input = then_done (Exactly (input_in contents set))
-      (λ input. Then (ShapesIn input) (Certificates input)) ending is e in
-      let shapes = then_done (ShapesIn input.0) (Certificates input.0) ending input.2 e in
+      let found = shapes_done contents set (ExplainFromShapes contents certificate script) ending is
+      e in
       let stated = then_done (Exactly (certificate_in contents certificate))
-      (Scripts input.0 shapes.0) ending shapes.2 e in
-      let given = then_done (Exactly (script_in contents script input.0.set))
-      (ExplanationOf input.0 shapes.0 stated.0) ending stated.2 e in
-      explained input.0 shapes.0 stated.0 given.0 ending input.1 shapes.1 stated.1 given.1 given.2 e
+      (ExplainFromCertificate contents script found.0 found.1) ending found.4 e in
+      let given = then_done (Exactly (script_in contents script found.0.set))
+      (ExplanationOf found.0 found.1 stated.0) ending stated.2 e in
+      explained found.0 found.1 stated.0 given.0 ending found.2 found.3 stated.1 given.1 given.2 e
 
 pub done_is_explained : LedgerFacts → CheckedAccountIsWithinDelays → (words : List (List ℕ))
     (contents : Contents) → DoneIsExplained words contents

@@ -14,7 +14,6 @@ use Rattle.crpd_input.specs.declared.halt.Halt.{Halt}
 use Rattle.crpd_input.specs.declared.shapes.Shapes.{Shapes}
 use Rattle.crpd_input.specs.Reading.{input_in}
 use Rattle.crpd_input.specs.Shapes.{ShapesIn}
-use Rattle.crpd_input.specs.Steps.{Exactly, Then}
 use Rattle.crpd_input.proofs.Built.{shapes_built}
 use Rattle.crpd_input.proofs.Given.{input_good, input_planned}
 use Rattle.crpd_tool.specs.Output.{Output, ending_output}
@@ -23,7 +22,7 @@ use Rattle.crpd_tool.specs.SlackExact.{DoneIsSlack, HasGreatestCosts}
 use Rattle.crpd_tool.specs.Commands.{slack}
 use Rattle.crpd_tool.proofs.Finish.{some-out}
 use Rattle.crpd_tool.proofs.OneSlack.{loop_bounded, one_pair}
-use Rattle.crpd_tool.proofs.Safety.{then_done}
+use Rattle.crpd_tool.proofs.Safety.{shapes_done}
 
 module _ (stays_law : StaysAccepted) (contents : Contents) (set : List ℕ) where
   greatest : (input : Input) (shapes : Shapes) (ending : Result Answer Halt)
@@ -63,10 +62,8 @@ module _ (stays_law : StaysAccepted) (contents : Contents) (set : List ℕ) wher
       → (ending_output ending).status ≡ Done
       → HasGreatestCosts contents set (ending_output ending).text
   ended ending is e =
-      let input = then_done (Exactly (input_in contents set))
-      (λ input. Then (ShapesIn input) (SlackOf input)) ending is e in
-      let shapes = then_done (ShapesIn input.0) (SlackOf input.0) ending input.2 e in
-      greatest input.0 shapes.0 ending input.1 shapes.1 shapes.2
+      let given = shapes_done contents set SlackOf ending is e in
+      greatest given.0 given.1 ending given.2 given.3 given.4
 
 pub done_is_slack : StaysAccepted → (words : List (List ℕ)) (contents : Contents)
     → DoneIsSlack words contents

@@ -19,7 +19,7 @@ use Rattle.crpd_input.specs.declared.halt.Halt.{Halt}
 use Rattle.crpd_input.specs.declared.shapes.Shapes.{Shapes}
 use Rattle.crpd_input.specs.Reading.{certificate_in, input_in}
 use Rattle.crpd_input.specs.Shapes.{ShapesIn}
-use Rattle.crpd_input.specs.Steps.{Exactly, Then}
+use Rattle.crpd_input.specs.Steps.{Exactly}
 use Rattle.crpd_input.proofs.Built.{shapes_built}
 use Rattle.crpd_input.proofs.Given.{input_good, input_planned}
 use Rattle.crpd_tool.specs.declared.answer.Answer.{Answer}
@@ -28,13 +28,14 @@ use Rattle.crpd_tool.specs.declared.status.Status.TheVariants.{Done}
 use Rattle.crpd_tool.specs.Analyze.{certificate_answer}
 use Rattle.crpd_tool.specs.Check.{verdict_answer}
 use Rattle.crpd_tool.specs.Output.{Output, ending_output}
-use Rattle.crpd_tool.specs.Update.{IsMadeAnew, UpdateEnds, UpdateOf, as_of_analysis, input_side}
+use Rattle.crpd_tool.specs.Update.{IsMadeAnew, UpdateEnds, UpdateFromCertificate, UpdateFromShapes}
+use Rattle.crpd_tool.specs.Update.{UpdateOf, as_of_analysis, input_side}
 use Rattle.crpd_tool.specs.Updated.{DoneIsUpdate, IsUpdateWritten}
 use Rattle.crpd_tool.specs.Commands.{update}
 use Rattle.crpd_tool.proofs.Analyzed.{not_done}
 use Rattle.crpd_tool.proofs.Finish.{some-out}
 use Rattle.crpd_tool.proofs.OneAnswer.{shapes_parts}
-use Rattle.crpd_tool.proofs.Safety.{then_done}
+use Rattle.crpd_tool.proofs.Safety.{shapes_done, then_done}
 
 -- a no has another status
 no_done : (set : TaskSet) (c : Certificate) (task : Task) (clause place : ℕ)
@@ -148,24 +149,13 @@ module _ (judges : UpdateIsJudgedLaw) (bests : UpdateIsBestLaw) (contents : Cont
       → (ending_output ending).status ≡ Done
       → IsUpdateWritten contents old_set old_certificate new_set (ending_output ending).text
   ending_done ending is e =
-      let old = then_done (Exactly (input_in contents old_set))
-      (λ old. Then (ShapesIn old)
-      (λ x. Then (Exactly (certificate_in contents old_certificate))
-      (λ c. Then (Exactly (input_in contents new_set))
-      (λ input. Then (ShapesIn input) (UpdateOf new_set old x c input))))) ending is e in
-      let x = then_done (ShapesIn old.0)
-      (λ x. Then (Exactly (certificate_in contents old_certificate))
-      (λ c. Then (Exactly (input_in contents new_set))
-      (λ input. Then (ShapesIn input) (UpdateOf new_set old.0 x c input)))) ending old.2 e in
+      let old = shapes_done contents old_set
+      (UpdateFromShapes contents old_certificate new_set) ending is e in
       let c = then_done (Exactly (certificate_in contents old_certificate))
-      (λ c. Then (Exactly (input_in contents new_set))
-      (λ input. Then (ShapesIn input) (UpdateOf new_set old.0 x.0 c input))) ending x.2 e in
-      let input = then_done (Exactly (input_in contents new_set))
-      (λ input. Then (ShapesIn input) (UpdateOf new_set old.0 x.0 c.0 input)) ending c.2 e in
-      let shapes = then_done (ShapesIn input.0) (UpdateOf new_set old.0 x.0 c.0 input.0) ending
-      input.2 e in
-      let found = made old.0 x.0 c.0 input.0 shapes.0 ending shapes.2 e in
-      updated old.0 x.0 c.0 input.0 shapes.0 old.1 x.1 c.1 input.1 shapes.1 found.1.0 ending found.0
+      (UpdateFromCertificate contents new_set old.0 old.1) ending old.4 e in
+      let new = shapes_done contents new_set (UpdateOf new_set old.0 old.1 c.0) ending c.2 e in
+      let found = made old.0 old.1 c.0 new.0 new.1 ending new.4 e in
+      updated old.0 old.1 c.0 new.0 new.1 old.2 old.3 c.1 new.2 new.3 found.1.0 ending found.0
       found.1.1 found.1.2
 
 pub done_is_update : UpdateIsJudgedLaw → UpdateIsBestLaw → (words : List (List ℕ))

@@ -22,9 +22,8 @@ use Rattle.crpd_input.specs.declared.halt.Halt.TheVariants as halt
 use Rattle.crpd_input.specs.declared.shapes.Shapes.{Shapes}
 use Rattle.crpd_input.specs.Graphs.{refused_at}
 use Rattle.crpd_base.specs.Tasks.{name_of}
-use Rattle.crpd_input.specs.Reading.{input_in}
-use Rattle.crpd_input.specs.Shapes.{ShapesIn}
-use Rattle.crpd_input.specs.Steps.{Exactly, Then, refusal}
+use Rattle.crpd_input.specs.Steps.{refusal}
+use Rattle.crpd_tool.specs.Shaped.{WithShapes}
 use Rattle.crpd_tool.specs.Texts.{with_line_feed, unschedulable_text}
 
 -- the certificate of the analysis, with at most 4,000,000 state entries; its text is read as this
@@ -63,5 +62,4 @@ AnalysisOf file input shapes r =
 -- the whole command: the set with its code, the graphs of all tasks and the regions of their loops,
 -- and then the analysis
 abbrev pub AnalyzeEnds : Contents → List ℕ → Result Answer Halt → Type 0
-AnalyzeEnds contents set =
-    Then (Exactly (input_in contents set)) (λ input. Then (ShapesIn input) (AnalysisOf set input))
+AnalyzeEnds contents set = WithShapes contents set (AnalysisOf set)

@@ -16,10 +16,8 @@ use Rattle.crpd_tool.specs.declared.answer.Answer.{Answer}
 use Rattle.crpd_input.specs.declared.input.Input.{Input}
 use Rattle.crpd_input.specs.declared.halt.Halt.{Halt}
 use Rattle.crpd_input.specs.declared.shapes.Shapes.{Shapes}
-use Rattle.crpd_input.specs.Reading.{input_in}
-use Rattle.crpd_input.specs.Shapes.{ShapesIn}
-use Rattle.crpd_input.specs.Steps.{Exactly, Then}
 use Rattle.crpd_tool.specs.Analyze.{certificate_answer, without_certificate}
+use Rattle.crpd_tool.specs.Shaped.{WithShapes}
 
 -- the certificate with the plain union delays, with at most 4,000,000 state entries; its text is
 -- read as this certificate
@@ -41,5 +39,4 @@ ClassicOf file input shapes r =
 -- the whole command: the set with its code, the graphs of all tasks and the regions of their loops,
 -- and then the analysis
 abbrev pub ClassicEnds : Contents → List ℕ → Result Answer Halt → Type 0
-ClassicEnds contents set =
-    Then (Exactly (input_in contents set)) (λ input. Then (ShapesIn input) (ClassicOf set input))
+ClassicEnds contents set = WithShapes contents set (ClassicOf set)

@@ -16,11 +16,11 @@ use Rattle.crpd_report.specs.Explain.{delay_lines, reload_lines}
 use Rattle.crpd_input.specs.declared.input.Input.{Input}
 use Rattle.crpd_input.specs.declared.halt.Halt.{Halt}
 use Rattle.crpd_input.specs.declared.shapes.Shapes.{Shapes}
-use Rattle.crpd_input.specs.Reading.{certificate_in, input_in}
+use Rattle.crpd_input.specs.Reading.{certificate_in}
 use Rattle.crpd_input.specs.Script.{script_in}
-use Rattle.crpd_input.specs.Shapes.{ShapesIn}
 use Rattle.crpd_input.specs.Steps.{Exactly, Then}
 use Rattle.crpd_tool.specs.Check.{verdict_answer}
+use Rattle.crpd_tool.specs.Shaped.{WithShapes}
 use Rattle.crpd_tool.specs.Simulate.{IsRunLine, run_of}
 use Rattle.crpd_tool.specs.declared.answer.Answer.{Answer}
 use Rattle.crpd_tool.specs.declared.answer.Outcome.TheVariants.{Done}
@@ -59,11 +59,21 @@ ExplanationOf input shapes certificate script r =
     (answer_of verdict)
     × ExplainedBy input shapes certificate script verdict r
 
+-- from the certificate on: the script, and then the verdict
+abbrev pub ExplainFromCertificate : Contents → List ℕ → Input → Shapes → Certificate
+    → Result Answer Halt → Type 0
+ExplainFromCertificate contents script input shapes stated =
+    Then (Exactly (script_in contents script input.set)) (ExplanationOf input shapes stated)
+
+-- from the graphs and regions on: the certificate, the script, and then the verdict
+abbrev pub ExplainFromShapes : Contents → List ℕ → List ℕ → Input → Shapes
+    → Result Answer Halt → Type 0
+ExplainFromShapes contents certificate script input shapes =
+    Then (Exactly (certificate_in contents certificate))
+    (ExplainFromCertificate contents script input shapes)
+
 -- the whole command: the set with its code, the graphs of all tasks and the regions of their loops,
 -- the certificate, the script, and then the verdict
 abbrev pub ExplainEnds : Contents → List ℕ → List ℕ → List ℕ → Result Answer Halt → Type 0
 ExplainEnds contents set certificate script =
-    Then (Exactly (input_in contents set)) (λ input.
-    Then (ShapesIn input) (λ shapes.
-    Then (Exactly (certificate_in contents certificate)) (λ stated.
-    Then (Exactly (script_in contents script input.set)) (ExplanationOf input shapes stated))))
+    WithShapes contents set (ExplainFromShapes contents certificate script)

@@ -12,9 +12,7 @@ use Rattle.crpd_tool.specs.declared.answer.Outcome.TheVariants.{Done}
 use Rattle.crpd_input.specs.declared.input.Input.{Input}
 use Rattle.crpd_input.specs.declared.halt.Halt.{Halt}
 use Rattle.crpd_input.specs.declared.shapes.Shapes.{Shapes}
-use Rattle.crpd_input.specs.Reading.{input_in}
-use Rattle.crpd_input.specs.Shapes.{ShapesIn}
-use Rattle.crpd_input.specs.Steps.{Exactly, Then}
+use Rattle.crpd_tool.specs.Shaped.{WithShapes}
 use Rattle.crpd_tool.specs.SlackText.{slack_text}
 
 -- the greatest accepted costs of a switch and of a reload, each with the stop of the next one
@@ -35,5 +33,4 @@ SlackOf input shapes r =
 -- the whole command: the set with its code, the graphs of all tasks and the regions of their loops,
 -- and then the text
 abbrev pub SlackEnds : Contents → List ℕ → Result Answer Halt → Type 0
-SlackEnds contents set =
-    Then (Exactly (input_in contents set)) (λ input. Then (ShapesIn input) (SlackOf input))
+SlackEnds contents set = WithShapes contents set SlackOf

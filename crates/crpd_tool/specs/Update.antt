@@ -21,12 +21,12 @@ use Rattle.crpd_io.specs.Outside.{Contents}
 use Rattle.crpd_input.specs.declared.input.Input.{Input}
 use Rattle.crpd_input.specs.declared.halt.Halt.{Halt}
 use Rattle.crpd_input.specs.declared.shapes.Shapes.{Shapes}
-use Rattle.crpd_input.specs.Reading.{certificate_in, input_in}
-use Rattle.crpd_input.specs.Shapes.{ShapesIn}
+use Rattle.crpd_input.specs.Reading.{certificate_in}
 use Rattle.crpd_input.specs.Steps.{Exactly, Then}
 use Rattle.crpd_tool.specs.declared.answer.Answer.{Answer}
 use Rattle.crpd_tool.specs.Analyze.{certificate_answer, without_certificate}
 use Rattle.crpd_tool.specs.Check.{verdict_answer}
+use Rattle.crpd_tool.specs.Shaped.{WithShapes}
 
 -- a set, with the graphs of its tasks and the regions of their loops, as it is compared with
 -- another
@@ -74,13 +74,23 @@ UpdateOf file old old_shapes stated input shapes r =
     ⊎ (IsJudged old.set (task_graph_at old_shapes.graphs old_shapes.nests) stated Yes
     × ChangeOf file old old_shapes stated input shapes r)
 
+-- from the old certificate on: the new set with its code, its graphs and regions; then the verdict
+-- on the old certificate, and the update
+abbrev pub UpdateFromCertificate : Contents → List ℕ → Input → Shapes → Certificate
+    → Result Answer Halt → Type 0
+UpdateFromCertificate contents new_set old old_shapes stated =
+    WithShapes contents new_set (UpdateOf new_set old old_shapes stated)
+
+-- from the old graphs and regions on: the old certificate, and then the same
+abbrev pub UpdateFromShapes : Contents → List ℕ → List ℕ → Input → Shapes
+    → Result Answer Halt → Type 0
+UpdateFromShapes contents old_certificate new_set old old_shapes =
+    Then (Exactly (certificate_in contents old_certificate))
+    (UpdateFromCertificate contents new_set old old_shapes)
+
 -- the whole command: the old set with its code, its graphs and regions, the old certificate; the
 -- new set with its code, its graphs and regions; then the verdict on the old certificate, and the
 -- update
 abbrev pub UpdateEnds : Contents → List ℕ → List ℕ → List ℕ → Result Answer Halt → Type 0
 UpdateEnds contents old_set old_certificate new_set =
-    Then (Exactly (input_in contents old_set)) (λ old.
-    Then (ShapesIn old) (λ old_shapes.
-    Then (Exactly (certificate_in contents old_certificate)) (λ stated.
-    Then (Exactly (input_in contents new_set)) (λ input.
-    Then (ShapesIn input) (UpdateOf new_set old old_shapes stated input)))))
+    WithShapes contents old_set (UpdateFromShapes contents old_certificate new_set)

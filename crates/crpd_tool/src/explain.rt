@@ -6,11 +6,10 @@ ghost use Rattle.cert_model.specs.Ranges.{IsCertificate};
 ghost use Rattle.crpd_base.specs.Ranges.{IsTaskSet};
 ghost use Rattle.crpd_io.specs.Outside.{Rose};
 ghost use Rattle.crpd_input.specs.Shapes.{ShapesIn};
-ghost use Rattle.crpd_input.specs.Reading.{certificate_in};
-ghost use Rattle.crpd_input.specs.Script.{script_in};
-ghost use Rattle.crpd_input.specs.Steps.{Exactly, MeansBy, HoldsWhereTold, Then};
+ghost use Rattle.crpd_input.specs.Steps.{MeansBy, HoldsWhereTold};
 ghost use Rattle.preempt_machine.specs.Safe.{NamesTasks};
 ghost use Rattle.crpd_tool.specs.Explain.{AccountOf, ExplanationOf};
+ghost use Rattle.crpd_tool.specs.Explain.{ExplainFromCertificate, ExplainFromShapes};
 
 use crate::answer::{Answer, Outcome};
 use crate::shaped::Shaped;
@@ -100,8 +99,8 @@ fn explain_script<F: Files>(
         shaped.now.shapes.nests }
     requires ranges { IsCertificate stated.now }
     ensures exact { HoldsWhereTold (F.contents files.old)
-        (λ c. MeansBy (Then (Exactly (script_in c script.now shaped.now.input.set))
-        (ExplanationOf shaped.now.input shaped.now.shapes stated.now)) result) }
+        (λ c. MeansBy (ExplainFromCertificate c script.now shaped.now.input shaped.now.shapes
+        stated.now) result) }
     ensures same { F.contents files.new ≡ F.contents files.old }
     ensures later { F.faults files.old ≤ F.faults files.new }
     ensures fault { IsErrOf result Halt.Fault → Rose (F.faults files.old) (F.faults files.new) }
@@ -126,9 +125,8 @@ pub(crate) fn explain_certificate<F: Files>(
     requires shown { AreTaskGraphs shaped.now.input.set shaped.now.shapes.graphs
         shaped.now.shapes.nests }
     ensures exact { HoldsWhereTold (F.contents files.old)
-        (λ c. MeansBy (Then (Exactly (certificate_in c certificate.now)) (λ stated.
-        Then (Exactly (script_in c script.now shaped.now.input.set))
-        (ExplanationOf shaped.now.input shaped.now.shapes stated))) result) }
+        (λ c. MeansBy (ExplainFromShapes c certificate.now script.now shaped.now.input
+        shaped.now.shapes) result) }
     ensures same { F.contents files.new ≡ F.contents files.old }
     ensures later { F.faults files.old ≤ F.faults files.new }
     ensures fault { IsErrOf result Halt.Fault → Rose (F.faults files.old) (F.faults files.new) }

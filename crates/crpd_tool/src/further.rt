@@ -3,10 +3,10 @@ ghost use Rattle.std.specs.Prelude.{◌≡◌, ◌≤◌, length, IsErrOf, Ok};
 ghost use Rattle.cert_check.specs.TaskGraphs.{AreTaskGraphs};
 ghost use Rattle.crpd_base.specs.Ranges.{IsTaskSet};
 ghost use Rattle.crpd_io.specs.Outside.{Rose};
-ghost use Rattle.crpd_input.specs.Reading.{input_in};
 ghost use Rattle.crpd_input.specs.Shapes.{ShapesIn};
-ghost use Rattle.crpd_input.specs.Steps.{Exactly, MeansBy, HoldsWhereTold, Then};
+ghost use Rattle.crpd_input.specs.Steps.{MeansBy, HoldsWhereTold};
 ghost use Rattle.crpd_tool.specs.Inner.Further.{FurtherOf};
+ghost use Rattle.crpd_tool.specs.Shaped.{WithShapes};
 
 use crate::analyze::analysis;
 use crate::answer::Answer;
@@ -95,8 +95,7 @@ pub(crate) fn answer_further<F: Files>(
     further: Further<'_>,
 ) -> Result<Answer, Halt>
     ensures exact { HoldsWhereTold (F.contents files.old)
-        (λ c. MeansBy (Then (Exactly (input_in c set.now)) (λ input. Then (ShapesIn input)
-        (FurtherOf further.entry c set.now input))) result) }
+        (λ c. MeansBy (WithShapes c set.now (FurtherOf further.entry c set.now)) result) }
     ensures same { F.contents files.new ≡ F.contents files.old }
     ensures later { F.faults files.old ≤ F.faults files.new }
     ensures fault { IsErrOf result Halt.Fault → Rose (F.faults files.old) (F.faults files.new) }

@@ -6,10 +6,10 @@ ghost use Rattle.cert_model.specs.Ranges.{IsCertificate};
 ghost use Rattle.crpd_base.specs.Ranges.{IsTaskSet};
 ghost use Rattle.crpd_io.specs.Outside.{Rose};
 ghost use Rattle.crpd_input.specs.Graphs.{HasBoundedLoops};
-ghost use Rattle.crpd_input.specs.Reading.{certificate_in, input_in};
 ghost use Rattle.crpd_input.specs.Shapes.{ShapesIn};
-ghost use Rattle.crpd_input.specs.Steps.{Exactly, MeansBy, HoldsWhereTold, Then};
-ghost use Rattle.crpd_tool.specs.Update.{ChangeOf, UpdateOf, as_of_analysis};
+ghost use Rattle.crpd_input.specs.Steps.{MeansBy, HoldsWhereTold, Then};
+ghost use Rattle.crpd_tool.specs.Update.{ChangeOf, UpdateFromCertificate, UpdateFromShapes};
+ghost use Rattle.crpd_tool.specs.Update.{UpdateOf, as_of_analysis};
 
 use crate::answer::Answer;
 use crate::ending::{certificate_answer, without_certificate};
@@ -139,8 +139,8 @@ fn update_to_set<F: Files>(
         old.now.shapes.nests }
     requires stated { IsCertificate stated.now }
     ensures exact { HoldsWhereTold (F.contents files.old)
-        (λ c. MeansBy (Then (Exactly (input_in c new_set.now)) (λ input. Then (ShapesIn input)
-        (UpdateOf new_set.now old.now.input old.now.shapes stated.now input))) result) }
+        (λ c. MeansBy (UpdateFromCertificate c new_set.now old.now.input old.now.shapes stated.now)
+        result) }
     ensures same { F.contents files.new ≡ F.contents files.old }
     ensures later { F.faults files.old ≤ F.faults files.new }
     ensures fault { IsErrOf result Halt.Fault → Rose (F.faults files.old) (F.faults files.new) }
@@ -163,9 +163,8 @@ pub(crate) fn update_certificate<F: Files>(
     requires old_shown { AreTaskGraphs old.now.input.set old.now.shapes.graphs
         old.now.shapes.nests }
     ensures exact { HoldsWhereTold (F.contents files.old)
-        (λ c. MeansBy (Then (Exactly (certificate_in c old_certificate.now)) (λ stated.
-        Then (Exactly (input_in c new_set.now)) (λ input. Then (ShapesIn input)
-        (UpdateOf new_set.now old.now.input old.now.shapes stated input)))) result) }
+        (λ c. MeansBy (UpdateFromShapes c old_certificate.now new_set.now old.now.input
+        old.now.shapes) result) }
     ensures same { F.contents files.new ≡ F.contents files.old }
     ensures later { F.faults files.old ≤ F.faults files.new }
     ensures fault { IsErrOf result Halt.Fault → Rose (F.faults files.old) (F.faults files.new) }

@@ -5,16 +5,12 @@ use Rattle.crpd_io.specs.Outside.{Contents}
 use Rattle.crpd_input.specs.declared.halt.Halt.{Halt}
 use Rattle.crpd_input.specs.declared.input.Input.{Input}
 use Rattle.crpd_input.specs.declared.shapes.Shapes.{Shapes}
-use Rattle.crpd_input.specs.Reading.{certificate_in, input_in}
-use Rattle.crpd_input.specs.Script.{script_in}
-use Rattle.crpd_input.specs.Shapes.{ShapesIn}
-use Rattle.crpd_input.specs.Steps.{Exactly, Then}
 use Rattle.crpd_tool.specs.Analyze.{AnalysisOf}
-use Rattle.crpd_tool.specs.Check.{VerdictOf}
+use Rattle.crpd_tool.specs.Check.{CheckFromShapes}
 use Rattle.crpd_tool.specs.Classic.{ClassicOf}
-use Rattle.crpd_tool.specs.Explain.{ExplanationOf}
+use Rattle.crpd_tool.specs.Explain.{ExplainFromShapes}
 use Rattle.crpd_tool.specs.Slack.{SlackOf}
-use Rattle.crpd_tool.specs.Update.{UpdateOf}
+use Rattle.crpd_tool.specs.Update.{UpdateFromShapes}
 use Rattle.crpd_tool.specs.declared.answer.Answer.{Answer}
 use Rattle.crpd_tool.specs.declared.further.Further.{Further}
 use Rattle.crpd_tool.specs.declared.further.Further.TheVariants.{Check, Analyze, Classic, Slack}
@@ -23,14 +19,11 @@ use Rattle.crpd_tool.specs.declared.further.Further.TheVariants.{Update, Explain
 -- how a command may end, with the set of a file
 abbrev pub FurtherOf : Further → Contents → List ℕ → Input → Shapes → Result Answer Halt → Type 0
 FurtherOf (Check certificate) contents file input shapes =
-    Then (Exactly (certificate_in contents certificate.now)) (VerdictOf input shapes)
+    CheckFromShapes contents certificate.now input shapes
 FurtherOf Analyze contents file input shapes = AnalysisOf file input shapes
 FurtherOf Classic contents file input shapes = ClassicOf file input shapes
 FurtherOf Slack contents file input shapes = SlackOf input shapes
-FurtherOf (Update certificate new_set) contents file old shapes =
-    Then (Exactly (certificate_in contents certificate.now)) (λ stated.
-    Then (Exactly (input_in contents new_set.now)) (λ input.
-    Then (ShapesIn input) (UpdateOf new_set.now old shapes stated input)))
+FurtherOf (Update certificate new_set) contents file input shapes =
+    UpdateFromShapes contents certificate.now new_set.now input shapes
 FurtherOf (Explain certificate script) contents file input shapes =
-    Then (Exactly (certificate_in contents certificate.now)) (λ stated.
-    Then (Exactly (script_in contents script.now input.set)) (ExplanationOf input shapes stated))
+    ExplainFromShapes contents certificate.now script.now input shapes
