@@ -65,7 +65,8 @@ of_list kind d vs ws e is =
 abbrev with_state : ℕ → ℕ → List NodeState → Items → Option NodeState → Option (List NodeState)
 with_state sets nodes front ds o =
     in_front front
-    (option_and_then (λ s. option_map (λ more. s ∷ more) (states_from sets nodes (s.node + 1) ds)) o)
+    (option_and_then (λ s. option_map (λ more. s ∷ more) (states_from sets nodes (s.node + 1) ds))
+    o)
 
 pub states_start : (sets nodes : ℕ) (front : List NodeState) (vs : List Value) → front ≡ []
     → in_front front (states_from sets nodes 0 (items_view (drop 0 vs)))

@@ -165,7 +165,9 @@ found g p loops heads a b d nodes nodes' bounds bounds' holders holders' few H e
     let mapped = n ∙ N ∙ ap (map (λ (x : Head). x.node)) eb in
     let all = ap length e ∙ B ∙ ap length ed in
     let states =
-    λ (r : ℕ) (x : Head) (l : LoopAt) (t : slice_get heads r ≡ Some x) (u : slice_get loops x.stated ≡ Some l). ap (λ xs. slice_index xs r) e ∙ C r x l (ap (λ xs. slice_get xs r) ed ∙ t) u in
+    λ (r : ℕ) (x : Head) (l : LoopAt) (t : slice_get heads r ≡ Some x)
+    (u : slice_get loops x.stated ≡ Some l).
+    ap (λ xs. slice_index xs r) e ∙ C r x l (ap (λ xs. slice_get xs r) ed ∙ t) u in
     let held : (y r : ℕ) → y < g.size
     → IsTrue (has (row holders y) r) ↔ IsHeldBy p loops heads y r =
     λ y r lt. (

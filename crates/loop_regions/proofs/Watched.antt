@@ -321,7 +321,9 @@ module _ (code : Flows) (plan : TaskPlan) (g : Graph) (p : Places) (n : Nest)
         (λ (fits : fits_now).
         let same : arrived plan (p.address v) f ∷ fs ≡ frames = let r = rw fits at e' in cc in
         subst (λ z. IsWatchedWalk code plan g p n v w (p.address v) z) same (arrives fits))
-        (λ (breaks : IsFalse (within_bounds loops (all_iterations_after (p.address v) loops f.turns))). absurd (let r = rw breaks at e' in cc))
+        (λ (breaks : IsFalse
+        (within_bounds loops (all_iterations_after (p.address v) loops f.turns))).
+        absurd (let r = rw breaks at e' in cc))
         (cases_Bool (within_bounds loops (all_iterations_after (p.address v) loops f.turns))))
         e
 

@@ -1,5 +1,6 @@
 -- For step 7: no job on a walk faults.
-use Rattle.std.proofs.Common.{◌≡◌, ◌≢◌, ℕ, zero, suc, ◌<◌, true, length, Some, sym, ap, subst, inl, inr}
+use Rattle.std.proofs.Common.{◌≡◌, ◌≢◌, ℕ, zero, suc, ◌<◌, true, length, Some, sym, ap, subst, inl}
+use Rattle.std.proofs.Common.{inr}
 use Rattle.crpd_base.proofs.Options.{same_or_not}
 use Rattle.crpd_base.specs.declared.data.TaskSet.{TaskSet}
 use Rattle.flow_watch.specs.Watch.{is_unbroken}

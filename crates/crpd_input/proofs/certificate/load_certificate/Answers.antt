@@ -7,18 +7,23 @@ use Rattle.crpd_input.proofs.certificate.load_certificate.Goals as goal
 
 pub returns-in-Ok-clause-exact : goal.returns-in-Ok-clause-exact
 returns-in-Ok-clause-exact g c = λ contents told.
-    read (certificate_halt c.args.name.now) reading (bytes_in certificate_bytes contents c.args.name.now)
+    read (certificate_halt c.args.name.now) reading
+    (bytes_in certificate_bytes contents c.args.name.now)
     c.as_slice.result.now c.in-Ok.certificate
-    (c.in_ok-bytes.ensures.exact contents told ∙ ap (λ (bs : List ℕ). Ok bs) (sym c.as_slice.ensures))
+    (c.in_ok-bytes.ensures.exact contents told ∙ ap (λ (bs : List ℕ). Ok bs)
+    (sym c.as_slice.ensures))
     c.in-Ok.ensures.exact
 
 pub returns-clause-exact : goal.returns-clause-exact
 returns-clause-exact g c = λ contents told.
-    refused (certificate_halt c.args.name.now) reading (bytes_in certificate_bytes contents c.args.name.now)
+    refused (certificate_halt c.args.name.now) reading
+    (bytes_in certificate_bytes contents c.args.name.now)
     c.as_slice.result.now c.in-Err.error c.certificate_halt.result
-    (c.in_ok-bytes.ensures.exact contents told ∙ ap (λ (bs : List ℕ). Ok bs) (sym c.as_slice.ensures))
+    (c.in_ok-bytes.ensures.exact contents told ∙ ap (λ (bs : List ℕ). Ok bs)
+    (sym c.as_slice.ensures))
     (c.in-Err.ensures.exact (search rules)) c.certificate_halt.ensures
 
 pub returns-clause-fault : goal.returns-clause-fault
 returns-clause-fault g c = λ e.
-    absurd (no_fault (certificate_halt c.args.name.now c.in-Err.error) c.certificate_halt.result c.certificate_halt.ensures e)
+    absurd (no_fault (certificate_halt c.args.name.now c.in-Err.error) c.certificate_halt.result
+    c.certificate_halt.ensures e)

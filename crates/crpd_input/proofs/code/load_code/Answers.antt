@@ -21,7 +21,8 @@ returns-in-Ok-clause-bounded g c =
 
 pub returns-in-Ok-clause-exact : goal.returns-in-Ok-clause-exact
 returns-in-Ok-clause-exact g c = λ contents told.
-    read (map_halt c.args.name.now c.args.set.now) (code_of c.args.set.now) (images_in contents c.args.set.now.tasks)
+    read (map_halt c.args.name.now c.args.set.now) (code_of c.args.set.now)
+    (images_in contents c.args.set.now.tasks)
     c.into_vec.result.items c.in-Ok.code
     (ap (images_in contents) (sym c.as_slice.ensures)
     ∙ c.in_ok-images.ensures.exact contents told
@@ -30,7 +31,8 @@ returns-in-Ok-clause-exact g c = λ contents told.
 
 pub returns-in-Err-clause-exact : goal.returns-in-Err-clause-exact
 returns-in-Err-clause-exact g c = λ contents told.
-    refused (map_halt c.args.name.now c.args.set.now) (code_of c.args.set.now) (images_in contents c.args.set.now.tasks)
+    refused (map_halt c.args.name.now c.args.set.now) (code_of c.args.set.now)
+    (images_in contents c.args.set.now.tasks)
     c.into_vec.result.items c.in-Err.error c.map_halt.result
     (ap (images_in contents) (sym c.as_slice.ensures)
     ∙ c.in_ok-images.ensures.exact contents told
@@ -39,7 +41,8 @@ returns-in-Err-clause-exact g c = λ contents told.
 
 pub returns-in-Err-clause-fault : goal.returns-in-Err-clause-fault
 returns-in-Err-clause-fault g c = λ e.
-    absurd (no_fault (map_halt c.args.name.now c.args.set.now c.in-Err.error) c.map_halt.result c.map_halt.ensures e)
+    absurd (no_fault (map_halt c.args.name.now c.args.set.now c.in-Err.error) c.map_halt.result
+    c.map_halt.ensures e)
 
 pub new-requires-clause-one : goal.new-requires-clause-one
 new-requires-clause-one g c =

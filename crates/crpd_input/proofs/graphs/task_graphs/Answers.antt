@@ -26,5 +26,11 @@ pub returns-clause-exact : goal.returns-clause-exact
 returns-clause-exact c =
     let l = c.loop-place in
     let all : length l.graphs.items ≡ length c.args.input.now.set.tasks =
-    omega (arith, l.invariant.count, c.loop-place-test.false, l.auto.place-end, c.len-place-end.ensures) in
+    omega (
+      arith,
+      l.invariant.count,
+      c.loop-place-test.false,
+      l.auto.place-end,
+      c.len-place-end.ensures,
+    ) in
     rw c.new.ensures (all, c.loop-place.invariant.are)

@@ -32,7 +32,13 @@ pub returns-clause-shown : goal.returns-clause-shown
 returns-clause-shown c =
     let l = c.loop-place in
     let all : length l.nests.items ≡ length c.args.input.now.set.tasks =
-    omega (arith, l.invariant.count, c.loop-place-test.false, l.auto.place-end, c.requires.graphs) in
+    omega (
+      arith,
+      l.invariant.count,
+      c.loop-place-test.false,
+      l.auto.place-end,
+      c.requires.graphs,
+    ) in
     subst (AreTaskGraphs c.args.input.now.set c.args.graphs.now) (sym c.new.ensures)
     (all_shown c.args.input.now.set c.args.graphs.now c.loop-place.nests.items c.requires.graphs all
     c.loop-place.invariant.shown)
@@ -41,5 +47,11 @@ pub returns-clause-exact : goal.returns-clause-exact
 returns-clause-exact c =
     let l = c.loop-place in
     let all : length l.nests.items ≡ length c.args.input.now.set.tasks =
-    omega (arith, l.invariant.count, c.loop-place-test.false, l.auto.place-end, c.requires.graphs) in
+    omega (
+      arith,
+      l.invariant.count,
+      c.loop-place-test.false,
+      l.auto.place-end,
+      c.requires.graphs,
+    ) in
     rw c.new.ensures (all, c.loop-place.invariant.are)

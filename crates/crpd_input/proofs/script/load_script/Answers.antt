@@ -7,18 +7,23 @@ use Rattle.crpd_input.proofs.script.load_script.Goals as goal
 
 pub returns-in-Ok-clause-exact : goal.returns-in-Ok-clause-exact
 returns-in-Ok-clause-exact g c = λ contents told.
-    read (script_halt c.args.name.now) (λ bs. reading bs c.args.set.now) (bytes_in file_bytes contents c.args.name.now)
+    read (script_halt c.args.name.now) (λ bs. reading bs c.args.set.now)
+    (bytes_in file_bytes contents c.args.name.now)
     c.as_slice.result.now c.in-Ok.script
-    (c.in_ok-bytes.ensures.exact contents told ∙ ap (λ (bs : List ℕ). Ok bs) (sym c.as_slice.ensures))
+    (c.in_ok-bytes.ensures.exact contents told ∙ ap (λ (bs : List ℕ). Ok bs)
+    (sym c.as_slice.ensures))
     c.in-Ok.ensures.exact
 
 pub returns-clause-exact : goal.returns-clause-exact
 returns-clause-exact g c = λ contents told.
-    refused (script_halt c.args.name.now) (λ bs. reading bs c.args.set.now) (bytes_in file_bytes contents c.args.name.now)
+    refused (script_halt c.args.name.now) (λ bs. reading bs c.args.set.now)
+    (bytes_in file_bytes contents c.args.name.now)
     c.as_slice.result.now c.in-Err.error c.script_halt.result
-    (c.in_ok-bytes.ensures.exact contents told ∙ ap (λ (bs : List ℕ). Ok bs) (sym c.as_slice.ensures))
+    (c.in_ok-bytes.ensures.exact contents told ∙ ap (λ (bs : List ℕ). Ok bs)
+    (sym c.as_slice.ensures))
     (c.in-Err.ensures.exact (search rules)) c.script_halt.ensures
 
 pub returns-clause-fault : goal.returns-clause-fault
 returns-clause-fault g c = λ e.
-    absurd (no_fault (script_halt c.args.name.now c.in-Err.error) c.script_halt.result c.script_halt.ensures e)
+    absurd (no_fault (script_halt c.args.name.now c.in-Err.error) c.script_halt.result
+    c.script_halt.ensures e)

@@ -9,16 +9,19 @@ pub returns-in-Ok-clause-exact : goal.returns-in-Ok-clause-exact
 returns-in-Ok-clause-exact g c = λ contents told.
     read (set_halt c.args.name.now) reading (bytes_in file_bytes contents c.args.name.now)
     c.as_slice.result.now c.in-Ok.set
-    (c.in_ok-bytes.ensures.exact contents told ∙ ap (λ (bs : List ℕ). Ok bs) (sym c.as_slice.ensures))
+    (c.in_ok-bytes.ensures.exact contents told ∙ ap (λ (bs : List ℕ). Ok bs)
+    (sym c.as_slice.ensures))
     c.in-Ok.ensures.exact
 
 pub returns-clause-exact : goal.returns-clause-exact
 returns-clause-exact g c = λ contents told.
     refused (set_halt c.args.name.now) reading (bytes_in file_bytes contents c.args.name.now)
     c.as_slice.result.now c.in-Err.error c.set_halt.result
-    (c.in_ok-bytes.ensures.exact contents told ∙ ap (λ (bs : List ℕ). Ok bs) (sym c.as_slice.ensures))
+    (c.in_ok-bytes.ensures.exact contents told ∙ ap (λ (bs : List ℕ). Ok bs)
+    (sym c.as_slice.ensures))
     (c.in-Err.ensures.exact (search rules)) c.set_halt.ensures
 
 pub returns-clause-fault : goal.returns-clause-fault
 returns-clause-fault g c = λ e.
-    absurd (no_fault (set_halt c.args.name.now c.in-Err.error) c.set_halt.result c.set_halt.ensures e)
+    absurd (no_fault (set_halt c.args.name.now c.in-Err.error) c.set_halt.result
+    c.set_halt.ensures e)

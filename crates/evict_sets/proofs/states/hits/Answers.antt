@@ -38,7 +38,8 @@ returns-clause-hits c =
     let new = c.write_hits.new.hits in
     let all : length new ≡ c.in_ok-hits.hits.len =
     omega (arith, c.write_hits.auto.hits, c.as_mut_slice.ensures.len) in
-    subst (λ (hits : List Bool). CountsHits (graph_of graph) (node_accesses c.args.platform.now graph)
+    subst (λ (hits : List Bool). CountsHits (graph_of graph)
+    (node_accesses c.args.platform.now graph)
     (listed_of c.args.part.now) (counted hits))
     (sym (take_at new (drop (length new) c.in_ok-hits.hits.items) c.in_ok-hits.hits.len all))
     c.write_hits.ensures.hits

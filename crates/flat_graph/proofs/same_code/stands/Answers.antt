@@ -17,7 +17,8 @@ returns-in-Some c = (
       let same : c.encode.result ≡ c.in-Some.word = eqb-true _ _ t in (
         c.in-Some.word,
         cc,
-        ap ins_of_word (sym same) ∙ c.encode.ensures.decoded ∙ ap (λ (i : Ins). Some i) c.ins.ensures,
+        ap ins_of_word (sym same) ∙ c.encode.ensures.decoded ∙ ap (λ (i : Ins). Some i)
+            c.ins.ensures,
       )),
   (λ s.
       let word : s.0 ≡ c.in-Some.word = cc (s.1, c.in-Some.ensures.is) in

@@ -49,5 +49,6 @@ returns c =
     let m = c.follow.new.machine.state in
     IfOk-weaker c.tell.result _ _ (λ (a : Account).
     account_told (run_start r) (run_graphs r) (run_certificate r) n m
-    c.in_ok-trails.trails.reloads.items a c.in_ok-trails.ensures.ledger c.in_ok-trails.ensures.state)
+    c.in_ok-trails.trails.reloads.items a c.in_ok-trails.ensures.ledger
+    c.in_ok-trails.ensures.state)
     (subst (λ rs. IfOk c.tell.result (IsTold m rs)) c.as_slice.ensures.value c.tell.ensures)
