@@ -26,7 +26,8 @@ use useful_sets::useful_of_hits;
 
 /// What is found of a task's code alone: its execution bound in cycles, its evicting and its useful
 /// cache sets, the entries of its leaders by ascending node, and the least potentials of its nodes
-/// and regions in cycles.
+/// and regions in cycles. An update that keeps the part of an accepted certificate of the same code
+/// puts that in its place: it may list more nodes and have greater potentials.
 #[derive(Drop)]
 pub struct Analysis {
     /// Its execution bound in cycles, 1 to 2^40, and its evicting and useful cache sets.

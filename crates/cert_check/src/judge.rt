@@ -65,8 +65,8 @@ fn task_failure(
 /// counts. Listed cache sets are below 512, and windows are at most 2^40.
 ///
 /// Takes no memory but some 350 kB of the stack. Its time is that of the nodes, each edge with the
-/// regions that it leaves and with the listed state that it leads to, the listed states, and for
-/// each task the demand of its window.
+/// listed state that it leads to and with the regions that it leaves and one more, looked for among
+/// those round its target, the listed states, and for each task the demand of its window.
 ///
 /// Source: Altmeyer, Davis and Maiza 2012 (the demand of a window); Lee et al. 1998 (useful cache
 /// blocks).

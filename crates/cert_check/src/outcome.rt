@@ -37,8 +37,8 @@ pub enum Clause {
     /// The first node's state is empty; a successor's state has nothing that is not in the state
     /// after the node.
     States(u32),
-    /// The node's useful set has its own set where it is counted as a hit, and what is useful at a
-    /// successor.
+    /// The node's useful set has its own set where it is counted as a hit, and every other one that
+    /// is useful at a successor.
     UsefulSets(u32),
     /// The task's sets have those of the node.
     TaskSets(u32),

@@ -244,10 +244,11 @@ pub struct TaskPart {
     pub name: Text,
     /// Its execution bound, its evicting and its useful cache sets.
     pub part: Part,
-    /// The states of the listed nodes, all leaders among them, by strictly increasing node; at most
-    /// 16,384.
+    /// The states of the listed nodes, by strictly increasing node; at most 16,384. All leaders are
+    /// among them where the certificate is accepted.
     pub states: Items<NodeState>,
-    /// Per node the most cycles from it to the end at its level of loop, 0 to 2^40; by node number.
+    /// Per node the most cycles from it to the end of the task, or, within a region, to the end of
+    /// the iteration of the innermost one round it, 0 to 2^40; by node number.
     pub potentials: Items<u64>,
     /// Per region (a loop in one context) the potential of all its iterations and what follows, 0
     /// to 2^40; by region number.

@@ -56,8 +56,8 @@ pub enum Cause {
     ScriptUnknownKey,
     /// Two files have different code at an address; the detail is the least such address.
     CodeConflict,
-    /// A task's file has no such symbol, or symbol and offset together pass 2^32; the detail is
-    /// the place.
+    /// A task's file has no such symbol, or symbol and offset together are 2^32 or more; the detail
+    /// is the symbol, with `+` and the offset in decimal where it is not 0.
     UnknownSymbol,
     /// There is no word of code at a task's entry; the detail is the entry.
     EntryOutside,

@@ -1,4 +1,4 @@
--- Files and output that are kept in memory, and what reading a whole file answers.
+-- Files that are kept in memory.
 use Rattle.std.specs.Prelude.{ℕ, List, [], ◌∷◌, Option, Some, None, String, Vec, string_bytes}
 use Rattle.std.specs.Prelude.{if◌then◌else◌}
 use Rattle.std.specs.Str.{bytes_eq}

@@ -17,8 +17,8 @@ use std::alloc::Global;
 
 impl Listing<'_> {
     /// Makes the full state of a node, as the blocks of the 512 cache sets, from the state after
-    /// the node before it in the order. Its time is that of the node's entry; an unlisted node's
-    /// state is what stands there.
+    /// the node before it in the order. Its time is that of the 512 sets and of the node's entry;
+    /// an unlisted node's state is what stands there.
     pub fn enter(&self, blocks: &mut [Option<u32>], node: NodeId)
         requires case { IsListing self.now.platform.now self.now.graph.now self.now.part.now
             self.now.places.now }

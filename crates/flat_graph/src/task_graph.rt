@@ -54,10 +54,10 @@ fn stands(
 /// order `Misaligned`, `OutsideCode`, `Undecodable`, `Breakpoint`, `IndirectJump`, `OtherLink`,
 /// `Recursive`, `TooDeep`. Addresses are in bytes. `Memory` may come in place of any answer.
 ///
-/// Time is n log n in the nodes, each step of it a comparison of two numbers; lists of at most 16
-/// calls are compared only at calls and returns, and to put the lists in order. Besides the graph,
-/// each node is kept twice more while the graph is built. A list of calls is kept once for all
-/// nodes of it.
+/// Time is n log n in the nodes. While they are reached, a step of it compares two numbers; lists
+/// of at most 16 calls are compared at calls and returns, where the lists are put in order, and
+/// where successors are looked up in that order. Besides the graph, each node is kept twice more
+/// while the graph is built. A list of calls is kept once for all nodes of it.
 ///
 /// Source: RISC-V unprivileged manual (JAL, JALR and the return-address register x1 of the standard
 /// calling convention).

@@ -94,10 +94,12 @@ fn nest_of_nested(alloc: Global, found: Regions, around: &[Holders]) -> Result<N
 /// least such node. `Memory` may come in place of any answer.
 ///
 /// A region holds the nodes of its context whose addresses the loop holds, and the nodes of the
-/// calls made there. Time is linear in the nodes and edges, times the number of regions of their
-/// contexts, with a search among the ranges of a loop for each node that its regions may hold, and
-/// n log n in the ranges; where a node lies on a cycle without back edges, each node up to the
-/// least such node is searched from. The ranges are kept twice while the regions are found.
+/// calls made there. Time is that of the nodes, each with the stated loops, with a search among the
+/// ranges of a loop for each node that its regions may hold; of the edges, each with the regions of
+/// its target looked for among those of its source; and n log n in the ranges. A node whose regions
+/// are others than those of the node before it costs up to the cube of their number. Where a node
+/// lies on a cycle without back edges, each node up to the least such node is searched from. The
+/// ranges are kept twice while the regions are found.
 pub fn regions(alloc: Global, graph: &Graph, plan: &TaskPlan) -> Result<Nest, LoopError>
     ensures regions { IfOk result
         (λ nest. IsRegions (graph_of graph.now) (places_of graph.now) plan.now.loops

@@ -42,7 +42,7 @@ enum Standing {
 
 /// A job of the script: its line, its registers and pc, the cycles left of the instruction under
 /// way, 0 where none is, its watch, and how it stands: open, answered at a time, or faulted. Each
-/// call but `start`, `next` and `finish` is in constant time and takes no memory.
+/// call but `start`, `finish` and `go_on` is in constant time and takes no memory.
 #[derive(Drop)]
 pub struct Job {
     line: ScriptJob,

@@ -17,7 +17,8 @@ use std::alloc::Global;
 use std::marker::Model;
 
 /// A machine that runs the jobs of a script: one core with one instruction cache, on which the job
-/// of the highest task that is ready takes each cycle.
+/// of the highest task that is ready takes each cycle, but that the owner ends its instruction
+/// first where switches wait for that.
 ///
 /// Contracts see it as its platform, its state and the fetch of the last step made. Times are
 /// cycles from the run's start.

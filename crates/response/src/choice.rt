@@ -36,8 +36,8 @@ pub enum WindowError {
 /// It needs a part and the longest instruction, from 1 to 2^20 cycles, of each task.
 /// `Unschedulable` names the first task that has no window by either method; the only other error
 /// is want of memory, which is taken for the choices alone. The search goes on by lower bounds from
-/// the rates of the higher tasks, so it takes few steps also where these leave almost nothing; a
-/// step is the demand of one window.
+/// the rates of the higher tasks, so it mostly takes few steps also where these leave almost
+/// nothing; a step is the demand of one window.
 pub fn windows(
     alloc: Global,
     set: &TaskSet,

@@ -403,9 +403,10 @@ impl Run<'_> {
 /// misses; of the others that fetched between these two, the preemptor is the last in the order of
 /// jobs. Beside them stand the jobs' completions, and whether the run is kept.
 ///
-/// The code map has a plan for each task of the set, the graphs are the flat graphs of the tasks'
-/// code, the script's jobs are of the set's tasks, every leader of each graph is listed, and clause
-/// 3 holds at each node. Want of memory is the only error.
+/// The set is in its ranges, the code map has a plan for each of its tasks, the graphs are the flat
+/// graphs of the tasks' code, and the script's jobs are of the set's tasks. The certificate has a
+/// part for each task, whose cache sets are below 512, every leader of each graph is listed, and
+/// clause 3 holds at each node. Want of memory is the only error.
 ///
 /// Where clauses 4 and 5 hold too, evictors and preemptors are of higher tasks, whatever the
 /// script, and there is at most one reload of an evictor, or of a preemptor, and a cache set; all

@@ -22,8 +22,8 @@ use std::alloc::Global;
 /// task.
 ///
 /// The one refusal is want of memory. The execution bounds do not depend on this cost, and are
-/// found once; the windows are found for at most 17 costs. A byte is kept for each node; the memory
-/// taken beside it at a time is that of the analysis of one task.
+/// found once; the windows are found for at most 17 costs. A byte is kept for each node, and a copy
+/// of the set; the memory taken beside these at a time is that of the analysis of one task.
 pub fn greatest_switch(
     alloc: Global,
     set: &TaskSet,
@@ -63,8 +63,8 @@ pub fn greatest_switch(
 ///
 /// The one refusal is want of memory. The evicting and useful cache sets and the sure hits do not
 /// depend on this cost, and are found once; the execution bounds and the windows are found for at
-/// most 17 costs. A byte is kept for each node; the memory taken beside it at a time is that of the
-/// analysis of one task.
+/// most 17 costs. A byte is kept for each node, and a copy of the set; the memory taken beside
+/// these at a time is that of the analysis of one task.
 pub fn greatest_miss(
     alloc: Global,
     set: &TaskSet,

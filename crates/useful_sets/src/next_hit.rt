@@ -162,8 +162,8 @@ pub fn useful_by_hits<const W: usize>(
 /// holds a block that some path from the node on accesses next in this set, at an access that is
 /// surely a hit. `must` is what `must` of `must_cache` gives for this graph and geometry.
 ///
-/// The one refusal is want of memory; two sets of numbers for each node and one for each cache set
-/// are taken. An edge is followed once where the graph has no cycle, and else again where the sets
+/// The one refusal is want of memory; two sets of numbers for each node are taken, and a list of
+/// the edges. An edge is followed once where the graph has no cycle, and else again where the sets
 /// at its target have grown.
 pub fn useful<const S: usize, const W: usize>(
     alloc: Global,
