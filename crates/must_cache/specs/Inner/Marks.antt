@@ -1,5 +1,5 @@
--- Tests of the cache sets, and how they go along the edges: what only contracts inside the crate
--- cite.
+-- Tests of the cache sets, and how they go along the edges: what contracts of this crate's and
+-- `useful_sets`' own functions cite.
 use Rattle.std.specs.Prelude.{ℕ, Bool, false, ◌||◌, ◌==◌, if◌then◌else◌}
 use Rattle.crpd_base.specs.Sum.{sum_below, one_if}
 use Rattle.icache.specs.Accesses.{Accesses}
