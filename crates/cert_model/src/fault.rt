@@ -14,7 +14,8 @@ pub enum CertError {
     /// There is no memory for the certificate or for what the text says.
     #[error("out of memory")]
     Memory,
-    /// The bytes are no JSON.
+    /// The bytes are no JSON, or have lists and objects more than 127 deep in one another, or a
+    /// number beyond the floats of 64 bits.
     #[error("not JSON")]
     NotJson,
     /// A key is absent.
@@ -26,7 +27,7 @@ pub enum CertError {
     /// There are more than 4,000,000 state entries: their number.
     #[error("{0} state entries are too many")]
     TooLong(u64),
-    /// The version is a whole number other than 1 and 2.
+    /// The version is a whole number below 2^64 other than 1 and 2.
     #[error("version {0} is not known")]
     OtherVersion(u64),
 }

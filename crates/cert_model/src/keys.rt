@@ -13,7 +13,8 @@ use serde_json::Value;
 use std::alloc::Global;
 use toml_keys::key_path;
 
-/// An object that is read, and the path of its keys.
+/// An object that is read, and the path of its keys. A call takes at most the time of one look-up,
+/// logarithmic in the object's keys, and of the path of a refusal.
 #[derive(Clone, Copy)]
 pub struct Keys<'a> {
     /// The object.

@@ -66,7 +66,8 @@ pub fn method(value: &Value) -> Option<Method>
     }
 }
 
-/// A task's name, 1 to 32 bytes, None for any other value. The only error is want of memory.
+/// A task's name, 1 to 32 bytes, None for any other value. In constant time; the only error is want
+/// of memory.
 #[tactic(auto, unfolding(crate::specs::Kinds::name))]
 pub fn name(alloc: Global, value: &Value) -> Result<Option<String>, AllocError>
     ensures { IfOk result (λ s. option_map string_bytes s ≡ spec.name (view value.now)) }

@@ -100,7 +100,7 @@ fn platform_keys(alloc: Global, version: Version, keys: Keys) -> Result<Platform
 
 /// The platform of a certificate, its keys in byte order. In version 1 `mul` and `div` are 0, and
 /// switches may happen in every cycle. The first key that is absent or has a bad value is the
-/// refusal; memory is taken for its path alone.
+/// refusal; memory is taken for its path alone. Time is that of at most ten look-ups of a key.
 pub fn platform_at(alloc: Global, version: Version, keys: Keys) -> Result<Platform, CertError>
     ensures { Gives CertError.Memory (λ x. x) result
         (spec.platform_at version keys.entry.path.now

@@ -60,8 +60,9 @@ fn set_size(set: &SetBits<WORDS>) -> u32
     set.count()
 }
 
-/// How many state entries a task has: the sure pairs and the useful sets of its listed nodes.
-/// Linear in the states.
+/// How many state entries a task has: the sure pairs and the useful sets of its listed nodes. There
+/// are at most 16,384 states, each with at most 512 sure pairs. Linear in the states; it takes no
+/// memory.
 pub fn task_entries(states: &[NodeState]) -> u64
     requires few { length states.now ≤ 16384 }
     requires each { All HasFewPairs states.now }
@@ -148,9 +149,11 @@ fn certificate_of(alloc: Global, bytes: &[u8]) -> Result<Certificate, CertError>
 
 /// Reads a certificate of version 1 or 2 from JSON text. What it gives, and its first refusal, are
 /// those of `reading`: of the version, the platform and the tasks, each with its keys in byte
-/// order, and last of the count of the state entries. Times are cycles. One pass is made over the
-/// text and one over its tree, which takes a small multiple of the text's size. JSON is that of
-/// RFC 8259.
+/// order, and last of the count of the state entries. `Memory` may come in place of any answer.
+/// Times are cycles. JSON is that of RFC 8259, as far as `NotJson` leaves it; of a key that comes
+/// twice the last value counts. Beside the parse by `serde_json`, time is linear in the text. The
+/// parsed tree takes some 30 bytes for each value and several hundred for each object with members,
+/// which can be many times the text's size.
 pub fn read_certificate(alloc: Global, bytes: &[u8]) -> Result<Certificate, CertError>
     ensures exact { Gives CertError.Memory (λ x. x) result (reading bytes.now) }
 

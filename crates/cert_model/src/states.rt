@@ -107,7 +107,8 @@ fn state(
 }
 
 /// The states of a task, each node above the one before, with nodes and cache sets below these
-/// limits; None for any other value. Linear in the text's tree; the only error is want of memory.
+/// limits, which are at most 16,384 and 512; None for any other value. Linear in the text's tree;
+/// the only error is want of memory.
 #[tactic(auto, unfolding(crate::specs::Kinds::states))]
 pub fn states(
     alloc: Global,

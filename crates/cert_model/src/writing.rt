@@ -241,9 +241,9 @@ fn task_sets(tasks: &[TaskPart])
 }
 
 /// Writes a certificate as JSON text of version 2: one line without spaces, with the keys of each
-/// object in byte order. Within the ranges of a certificate it reads back as the same. One pass is
-/// made over the certificate, and the memory taken is a small multiple of the text's size. The only
-/// error is want of memory.
+/// object in byte order. Within the ranges of a certificate it reads back as the same. Time is
+/// linear in the certificate and its text, and the memory taken is a small multiple of the text's
+/// size. The only error is want of memory.
 pub fn write_certificate(alloc: Global, certificate: &Certificate) -> Result<Vec<u8>, Memory>
     ensures exact { IfOk result (λ b. b.items ≡ spec.text certificate.now) }
 

@@ -1,5 +1,5 @@
--- Addresses at which files have different code bytes. Tasks that name one file have one image, so
--- they never do.
+-- Addresses at which files have different code bytes. Tasks that name one file have equal images,
+-- which never conflict.
 use Rattle.std.specs.Prelude.{ℕ, ◌^◌, ◌==◌, Bool, false, not, List, zero, suc, Option, Some, None}
 use Rattle.std.specs.Prelude.{if◌then◌else◌}
 use Rattle.std.specs.Option.{option_or}

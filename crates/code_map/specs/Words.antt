@@ -8,7 +8,7 @@ use Rattle.crpd_base.specs.declared.data.Image.{Image}
 use Rattle.crpd_base.specs.declared.data.Segment.{Segment}
 use Rattle.crpd_base.specs.declared.data.TaskPlan.{TaskPlan}
 
--- the address at which jobs end; no code stands there
+-- the address at which jobs end; no word stands there
 abbrev pub end : ℕ
 end = 0xFFFFFFFC
 

@@ -124,7 +124,8 @@ impl Files {
         self.images.as_slice()
     }
 
-    /// The images are those of ELF files.
+    /// Each image has its segments in the address space, apart from each other, and none with more
+    /// bytes than its size.
     pub(crate) fn images_law(&self)
         ensures { All IsImage self.now }
     {

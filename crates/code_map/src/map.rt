@@ -35,7 +35,9 @@ impl Model for CodeMap {
 
 impl CodeMap {
     /// The code of a task set whose tasks have these images, one each, in the order of the tasks:
-    /// its words, and each task's entry, stack, global and stated loops as addresses.
+    /// its words, and each task's entry, stack, global and stated loops as addresses. There are at
+    /// most 256 tasks. Each image has its segments in the address space, apart from each other, and
+    /// none with more bytes than its size.
     ///
     /// An `Err` is the first refusal: `CodeConflict`, and then by task `UnknownSymbol` for the
     /// entry, the stack, the global and each loop with its head and ranges, and `EntryOutside`. The
@@ -45,9 +47,11 @@ impl CodeMap {
     /// bytes alone: tasks that name one file have equal images, which never conflict. An address is
     /// in bytes and below 2^32.
     ///
-    /// Time is linear in the bytes of code, and n log n in the segments and symbols; equal symbols
-    /// of several images are sorted once. The code map holds the code bytes twice beside the
-    /// images.
+    /// Time is linear in the bytes of code, n log n in the segments and symbols, and for each place
+    /// of a task logarithmic in the symbols of its image. The symbols of an image are compared with
+    /// those of the images before it; equal ones are sorted once. The code map holds the plans, and
+    /// the code bytes at most twice, beside the images. While it is made, it also takes a list of
+    /// the executable segments and a tree of the symbols.
     ///
     /// Source: Tool Interface Standard, Executable and Linking Format, version 1.2, book I
     /// (p_vaddr, p_filesz, PF_X, st_value), and the RISC-V unprivileged manual (instructions are

@@ -1,5 +1,5 @@
--- The kinds of a set's lines and texts: the lengths that a cache line may have, and what a task and
--- its file may be called.
+-- The kinds of a set's lines and texts: the lengths that a cache line may have, what a task and its
+-- file may be called, and the names of the methods.
 use Rattle.std.specs.Prelude.{ℕ, List, length, codes, Bool, ◌||◌, ◌&&◌, ◌==◌, nat_le, nat_lt}
 use Rattle.std.specs.List.{list_all}
 use Rattle.crpd_base.specs.declared.data.Method.{Method}
@@ -30,7 +30,7 @@ is_file_byte b = nat_le 33 b && (nat_lt b 127 || nat_lt 127 b)
 abbrev pub is_file : List ℕ → Bool
 is_file s = is_between 1 255 (length s) && list_all is_file_byte s
 
--- a way of counting delays, by its name
+-- the name of a way of counting delays
 abbrev pub method_name : Method → List ℕ
 method_name Ucb = codes "ucb"
 method_name Ecb = codes "ecb"

@@ -49,8 +49,7 @@ pub struct Platform {
     pub miss: u32,
     /// Further cycles of a load or store: 0 to 65,535. Files give it under the key `data`.
     pub memory: u32,
-    /// Further cycles where the next instruction is not the one that follows in memory: 0 to
-    /// 65,535.
+    /// Further cycles of a branch or jump whose next address is not the one behind it: 0 to 65,535.
     pub taken: u32,
     /// Cycles of a context switch: 0 to 65,535.
     pub switch: u32,
@@ -145,10 +144,10 @@ pub struct Symbol {
 pub struct Image {
     /// The byte address at which it starts (`e_entry`).
     pub entry: u32,
-    /// Its PT_LOAD segments in the order of the file; no two share an address.
+    /// Its PT_LOAD segments in the order of the program headers; no two share an address.
     pub segments: Items<Segment>,
-    /// Its named symbols in the order of the first symbol table; of those with one name the first
-    /// counts.
+    /// Its symbols in the order of the first symbol table, but for those that are undefined, name a
+    /// source file or have no name; of those with one name the first counts.
     pub symbols: Items<Symbol>,
 }
 
@@ -248,10 +247,10 @@ pub struct TaskPart {
     /// among them where the certificate is accepted.
     pub states: Items<NodeState>,
     /// Per node the most cycles from it to the end of the task, or, within a region, to the end of
-    /// the iteration of the innermost one round it, 0 to 2^40; by node number.
+    /// the iteration of the innermost one round it, 0 to 2^40; by node number, at most 16,384.
     pub potentials: Items<u64>,
     /// Per region (a loop in one context) the potential of all its iterations and what follows, 0
-    /// to 2^40; by region number.
+    /// to 2^40; by region number, at most 16,384.
     pub loops: Items<u64>,
     /// By which delay the window holds.
     pub method: Method,

@@ -34,8 +34,8 @@ pub enum ElfError {
     /// There are program headers, and `e_phentsize` is not 32 or their table passes the file's end.
     #[error("the program headers lie outside the file")]
     HeaderOutside,
-    /// A PT_LOAD whose bytes pass the file's end or are more than its size, or whose addresses pass
-    /// 2^32.
+    /// A PT_LOAD whose bytes begin or end past the file's end (also where it has none) or are more
+    /// than its size, or whose addresses pass 2^32.
     #[error("segment {0} lies outside the file or the addresses")]
     SegmentOutside(u32),
     /// A PT_LOAD that shares an address with a PT_LOAD before it in the table.

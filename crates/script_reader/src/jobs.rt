@@ -120,8 +120,8 @@ fn job_list<'a>(alloc: Global, keys: Keys<'a>) -> Result<Vec<&'a Table>, KeyErro
 }
 
 /// The jobs of a script, in its order: at most 10,000, else `TooLong`; none where the key is
-/// absent. A task is found by a look at the names of the set. The first thing that is wrong is the
-/// refusal; `Memory` may come in place of any answer.
+/// absent. Linear in what the keys say, with a look at the names of the set for each job. The first
+/// thing that is wrong is the refusal; `Memory` may come in place of any answer.
 #[tactic(auto, unfolding(crate::specs::Reading::jobs_at))]
 pub fn jobs_at(alloc: Global, table: &Table, set: &TaskSet) -> Result<Vec<ScriptJob>, ScriptError>
     ensures { Gives ScriptError.Memory (λ v. v.items) result

@@ -142,8 +142,9 @@ fn are_legal(set: &TaskSet, jobs: &[ScriptJob]) -> bool
 
 /// Whether a script is legal: any two jobs of one task arrive at least its period apart, and each
 /// job is released from its arrival on, at most its task's jitter later. Every job's task is one of
-/// the set. It takes no memory; up to 10,000 jobs are sorted task by task in a buffer on the stack,
-/// and more are compared in pairs.
+/// the set. Up to 10,000 jobs are looked through task by task, and those of a task sorted, in a
+/// buffer of 80,000 bytes on the stack; more are compared in pairs, in time that grows with the
+/// square of their number. It takes no memory.
 pub fn legal(set: &TaskSet, script: &Script) -> bool
     requires { All (λ j. j.task.0 < length set.now.tasks) script.now.jobs }
     ensures { IsTrue result ↔ IsLegal set.now script.now.jobs }

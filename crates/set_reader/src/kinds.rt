@@ -29,7 +29,8 @@ pub fn switching(value: &Value) -> Option<Switching>
     switching_named(value.as_str()?)
 }
 
-/// A task's name, 1 to 32 bytes; None for any other value. The only error is want of memory.
+/// A task's name, 1 to 32 bytes; None for any other value. In constant time; the only error is want
+/// of memory.
 #[tactic(auto, unfolding(crate::specs::Kinds::name))]
 pub fn name(alloc: Global, value: &Value) -> Result<Option<String>, AllocError>
     ensures { IfOk result (λ s. option_map string_bytes s ≡ spec.name (view value.now)) }
@@ -37,7 +38,8 @@ pub fn name(alloc: Global, value: &Value) -> Result<Option<String>, AllocError>
     task_name(alloc, value.as_str())
 }
 
-/// The name of a file, 1 to 255 bytes; None for any other value. The only error is want of memory.
+/// The name of a file, 1 to 255 bytes; None for any other value. In constant time; the only error
+/// is want of memory.
 #[tactic(auto, unfolding(crate::specs::Kinds::file))]
 pub fn file(alloc: Global, value: &Value) -> Result<Option<String>, AllocError>
     ensures { IfOk result (λ s. option_map string_bytes s ≡ spec.file (view value.now)) }
@@ -123,8 +125,9 @@ fn place_named(alloc: Global, text: &str) -> Result<Option<Place>, AllocError>
     }
 }
 
-/// An address from 0 to 2^32 - 1, or a symbol with an offset in bytes as `symbol+offset`; None for
-/// any other value. Linear in the text; the only error is want of memory.
+/// An address from 0 to 2^32 - 1, or a symbol as `symbol` or `symbol+offset`, with an offset in
+/// bytes from 0 to 2^32 - 1; None for any other value. Linear in the text; the only error is want
+/// of memory.
 #[tactic(auto, unfolding(crate::specs::Kinds::place))]
 pub fn place(alloc: Global, value: &Value) -> Result<Option<Place>, AllocError>
     ensures { IfOk result (λ p. p ≡ spec.place (view value.now)) }

@@ -104,9 +104,9 @@ fn loop_list<'a>(alloc: Global, keys: Keys<'a>) -> Result<Vec<&'a Table>, KeyErr
     }
 }
 
-/// The loops of a task, in their order: at most 64, and none where the key is absent. Linear in
-/// their ranges. The first thing that is wrong is the refusal; `Memory` may come in place of any
-/// answer.
+/// The loops of a task, in their order: at most 64, else `BadValue`, and none where the key is
+/// absent. Linear in what the keys say. The first thing that is wrong is the refusal; `Memory` may
+/// come in place of any answer.
 #[tactic(auto, unfolding(crate::specs::Reading::loops_at))]
 pub fn loops_at(alloc: Global, keys: Keys) -> Result<Vec<LoopSpec>, KeyError>
     ensures { Gives KeyError.Memory (λ v. v.items) result

@@ -67,7 +67,8 @@ fn least_unknown<'a>(table: &'a Table, keys: &[&str]) -> Option<&'a str>
     least
 }
 
-/// A table that is read, and the path of its keys.
+/// A table that is read, and the path of its keys. But for `all_known`, a call takes at most the
+/// time of one look-up, logarithmic in the table's keys, and of the path of a refusal.
 #[derive(Clone, Copy)]
 pub struct Keys<'a> {
     /// The table.

@@ -1,5 +1,5 @@
--- The ranges of a certificate: those that a certificate which was read keeps, and within which one
--- that is written reads back: what only contracts inside the crate cite.
+-- The sets of tasks and nodes as words of sets of numbers below 512: what only contracts inside the
+-- crate cite.
 use Rattle.std.specs.Prelude.{All}
 use Rattle.crpd_base.specs.Sets.{AreWords}
 use Rattle.crpd_base.specs.declared.data.NodeState.{NodeState}

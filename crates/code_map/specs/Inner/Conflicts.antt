@@ -1,5 +1,4 @@
--- Addresses at which files have different code bytes. Tasks that name one file have one image, so
--- they never do: what only contracts inside the crate cite.
+-- The least number that passes a test: what only contracts inside the crate cite.
 use Rattle.std.specs.Prelude.{◌≡◌, ℕ, ◌<◌, Bool, true, false, Option, MatchOption}
 
 -- a is the least number that passes a test

@@ -5,7 +5,7 @@ use Rattle.crpd_base.specs.declared.data.TaskSet.{TaskSet}
 pub use Rattle.crpd_base.specs.Tasks.{period_of, jitter_of}
 use Rattle.script_reader.specs.Legal.{AreApart, AreSpaced}
 
--- any two of the times are
+-- any two of the times are at least so far apart
 pub record AreAllApart (period : ℕ) (times : List ℕ) : Type 0 where
   pub pairs : AllPairs (AreApart period) times
 
