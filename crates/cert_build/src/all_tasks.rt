@@ -54,7 +54,9 @@ fn analyse_task(
 ///
 /// The refusals are want of memory; then `TooLarge` for the first task whose bound exceeds 2^40
 /// cycles, with the byte address of its entry; then `TooManyEntries` with the number of the state
-/// entries where it exceeds 4,000,000. The time is that of the analyses.
+/// entries where it exceeds 4,000,000. The time is that of the analyses. One task is analysed at a
+/// time, with the memory that `analyse` takes; of the others only their entries and potentials are
+/// kept.
 pub fn analyse_all(
     alloc: Global,
     set: &TaskSet,
@@ -104,12 +106,9 @@ pub fn graphs_law(graphs: &[Graph])
 /// The refusals are want of memory; then `TooLarge` for the first task whose bound exceeds 2^40
 /// cycles, with the byte address of its entry; then `TooManyEntries` with the number of the state
 /// entries where it exceeds 4,000,000; then `Unschedulable` for the first task without a window.
-/// One task is analysed at a time, with 4 kB for each leader; of the others only their entries and
-/// potentials are kept. `write_certificate` writes it, and reading gives it back. The time is that
-/// of the analyses, one after the other, and of the windows.
-///
-/// Source: Lee et al. 1998 (useful cache blocks); Altmeyer, Davis and Maiza 2012 (the demand of a
-/// window).
+/// One task is analysed at a time, with the memory that `analyse` takes; of the others only their
+/// entries and potentials are kept. `write_certificate` writes it, and reading gives it back. The
+/// time is that of the analyses, one after the other, and of the windows.
 pub fn certify(
     alloc: Global,
     set: &TaskSet,

@@ -77,8 +77,8 @@ fn task_parts(
 
 /// The certificate of a task set with these analyses and choices, one of each for each task: each
 /// task's part has its analysis, the method and the window of its choice, and as response the
-/// window with the task's jitter. Linear in the tasks; the analyses are moved. The only error is
-/// want of memory.
+/// window with the task's jitter, which together are below 2^64. Linear in the tasks; the analyses
+/// are moved. The only error is want of memory.
 pub fn assemble(
     alloc: Global,
     set: &TaskSet,
@@ -102,7 +102,8 @@ pub fn assemble(
 /// finds them. The regions of the graphs do not matter.
 ///
 /// The refusals are want of memory, and `Unschedulable` exactly for the first task without a
-/// window. The time is that of the windows and one look at each node.
+/// window. There is one graph for each task. The time is that of the windows and one look at each
+/// node. Memory is taken for each task's name, part and choice; the analyses are moved.
 pub fn complete(
     alloc: Global,
     set: &TaskSet,

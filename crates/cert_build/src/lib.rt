@@ -19,7 +19,8 @@ pub use fault::BuildError;
 pub use one_task::{Analysis, analyse};
 
 /// A law: the full states and useful sets of a listing of Sure and Useful are Sure and Useful at
-/// all nodes, and meet the clauses on them. In constant time.
+/// all nodes, and meet the clauses on them; the clause on the task's sets holds at all nodes
+/// exactly where these have at least its evicting and its useful cache blocks. In constant time.
 pub fn best_laws()
     ensures best_state { BestStateLaw }
     ensures best_useful { BestUsefulLaw }

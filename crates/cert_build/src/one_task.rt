@@ -27,7 +27,8 @@ use useful_sets::useful_of_hits;
 /// What is found of a task's code alone: its execution bound in cycles, its evicting and its useful
 /// cache sets, the entries of its leaders by ascending node, and the least potentials of its nodes
 /// and regions in cycles. An update that keeps the part of an accepted certificate of the same code
-/// puts that in its place: it may list more nodes and have greater potentials.
+/// puts that in its place: it may list more nodes, hold fewer blocks before a node, and have more
+/// cache sets, greater potentials and a greater bound, which is still at most 2^40.
 #[derive(Drop)]
 pub struct Analysis {
     /// Its execution bound in cycles, 1 to 2^40, and its evicting and useful cache sets.
@@ -90,10 +91,11 @@ fn found_part(graph: &Graph, geometry: &Geometry, hits: &[bool], cycles: u64) ->
 /// 2012), and the least potentials with the misses that the must analysis leaves.
 ///
 /// The refusals are want of memory, and `TooLarge` with the byte address of the task's entry
-/// exactly where the bound exceeds 2^40 cycles. While it works it takes 4 kB for each leader, some
-/// sets of cache sets for each node, and for each leader what its entry holds; it gives back all
-/// but the entries and 8 bytes for each node and region. The time is that of the must analysis, of
-/// the useful sets and of the bound, and one look at each cache set of each leader.
+/// exactly where the bound exceeds 2^40 cycles. While it works it takes 4 kB for each leader, as
+/// much for each node of a walk whose edges are still to be followed, some sets of cache sets for
+/// each node, and for each leader what its entry holds; it gives back all but the entries and 8
+/// bytes for each node and region. The time is that of the must analysis, of the useful sets and of
+/// the bound, and one look at each cache set of each leader.
 pub fn analyse(
     alloc: Global,
     graph: &Graph,

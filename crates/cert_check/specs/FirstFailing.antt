@@ -1,4 +1,4 @@
--- The judge's answer and its failures, as the code gives them.
+-- The judge's answer, as the code gives it.
 use Rattle.cert_check.specs.declared.outcome.Verdict.{Verdict}
 use Rattle.cert_check.specs.declared.outcome.Verdict.TheVariants as verdict
 use Rattle.cert_check.specs.Verdict.{Answer, Yes, No}

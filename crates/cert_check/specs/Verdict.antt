@@ -148,7 +148,7 @@ IsJudged set graphs c Yes = IsYes set graphs c
 IsJudged set graphs c (No i n p) =
     (k : Clause) × (clause_number k ≡ n) × (clause_place k ≡ p) × IsFirstFailure set graphs c i k
 
--- there is one such answer
+-- there is one such answer at most
 abbrev pub OneAnswerLaw : Type 0
 OneAnswerLaw =
     (set : TaskSet) (graphs : ℕ → TaskGraph) (c : Certificate) (a b : Answer) →

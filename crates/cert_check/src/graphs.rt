@@ -74,8 +74,9 @@ fn state_failure(listing: &Listing<'_>, order: &[u32], hits: &[bool]) -> Result<
     Ok(())
 }
 
-/// The first failure of the clauses of a task's graph, as an error. Near linear in the nodes and
-/// edges of its graph, the regions that edges leave, and the listed states.
+/// The first failure of the clauses of a task's graph, as an error. Its time is that of the nodes
+/// and the listed states, and of each edge with the listed state that it leads to and with the
+/// regions that it leaves and one more, looked for among those round its target.
 pub(crate) fn graph_failure(
     platform: &Platform,
     graph: &Graph,

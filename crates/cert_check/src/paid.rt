@@ -90,8 +90,8 @@ impl Paid<'_> {
         self.turns(region) <= self.at_region(region)
     }
 
-    /// Whether each region that an edge leaves pays for its iterations. Its time is linear in these
-    /// regions.
+    /// Whether each region that an edge leaves pays for its iterations. Each of these, and the next
+    /// one out, is looked for among those that hold the target.
     fn left_pay(&self, source: NodeId, target: NodeId) -> bool
         requires paid { HasAllPotentials self.now.graph.now self.now.nest.now self.now.part.now
             self.now.hits.now }
@@ -261,7 +261,7 @@ impl Paid<'_> {
     }
 
     /// The least node at which clause 6 fails. Its time is that of the nodes, and of each edge with
-    /// the regions that it leaves.
+    /// the regions that it leaves and one more, looked for among those round its target.
     pub(crate) fn judge_potentials(&self) -> Option<u32>
         requires paid { HasAllPotentials self.now.graph.now self.now.nest.now self.now.part.now
             self.now.hits.now }

@@ -69,8 +69,9 @@ fn longest_cost(graph: &Graph, platform: &Platform) -> u64
     longest(graph, platform)
 }
 
-/// Writes the longest cost of one instruction of each task. Linear in the nodes of all graphs. It
-/// takes no memory.
+/// Writes the longest cost of one instruction of each task, from 1 to 2^18 cycles, at the task's
+/// place in a list with at least as many places. There is one graph for each task. Linear in the
+/// nodes of all graphs. It takes no memory.
 pub fn write_longest(set: &TaskSet, graphs: &[Graph], longest: &mut [u64])
     requires platform { IsPlatform set.now.platform }
     requires graphs { length graphs.now ≡ length set.now.tasks }

@@ -1,4 +1,4 @@
--- What an updated certificate is.
+-- The laws on an updated certificate, and what they ask of both sides.
 use Rattle.std.specs.Prelude.{◌≡◌, ℕ, ◌<◌, List, length}
 use Rattle.crpd_base.specs.Ranges.{IsTaskSet}
 use Rattle.crpd_base.specs.declared.data.Platform.{Platform}

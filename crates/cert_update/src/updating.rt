@@ -79,10 +79,9 @@ fn completed(
 /// task without a window.
 ///
 /// The time is linear in the nodes and regions of both sides and in what is kept, and that of the
-/// analyses of the changed tasks and of the windows.
-///
-/// Source: Lee et al. 1998 (useful cache blocks); Altmeyer, Davis and Maiza 2012 (the demand of a
-/// window).
+/// analyses of the changed tasks and of the windows. What is kept is copied; one changed task is
+/// analysed at a time, with the memory that `analyse` takes, and of the others only their entries
+/// and potentials are held.
 pub fn update(
     alloc: Global,
     old: &TaskSet,

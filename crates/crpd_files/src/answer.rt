@@ -35,7 +35,8 @@ impl Answer {
     }
 }
 
-/// An output whose calls take at most so many bytes, and of which the call of this number fails.
+/// An output with room for 2,000 bytes, whose calls take at most so many bytes, and at least one.
+/// The call of this number fails, and so does each call once the room is full.
 pub(crate) fn sink(alloc: Global, most: usize, failing: u64) -> Result<MemSink, AllocError> {
     match MemSink::new(alloc, 2000, most.max(1), [failing].to_vec(alloc)?) {
         Ok(out) => Ok(out),

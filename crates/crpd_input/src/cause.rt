@@ -13,20 +13,21 @@ pub enum Cause {
     NotElf32Little,
     /// It is for another machine.
     NotRiscV,
-    /// It is an object file or a shared one.
+    /// It is no executable file: an object file, a shared one or one of another type.
     NotExecutable,
     /// It asks for dynamic linking; the detail is the program header's place.
     NotStatic,
     /// Its program headers are not of 32 bytes, or not inside the file.
     HeaderOutside,
-    /// A segment is not inside the file or the addresses; the detail is the program header's
-    /// place.
+    /// A segment is not inside the file or the addresses, or has more bytes in the file than in
+    /// memory; the detail is the program header's place.
     SegmentOutside,
     /// A segment shares an address with an earlier one; the detail is the program header's place.
     SegmentsOverlap,
     /// It has no executable segment with bytes.
     NoCode,
-    /// Its sections, symbols or their names are not inside the file, or not of their sizes.
+    /// Its sections, symbols or their names are not inside the file, or not of their sizes; or the
+    /// symbols name no string section for their names.
     SymbolsOutside,
     /// A task set is no TOML text.
     SetNotToml,
@@ -90,13 +91,14 @@ pub enum Cause {
     SameHead,
     /// A cycle has no stated loop; the detail is the address of the least node on one.
     CycleWithoutBound,
-    /// A task's bound exceeds 2^40; the detail is the entry.
+    /// A task's bound exceeds 2^40 cycles; the detail is the entry.
     BoundTooLarge,
     /// A certificate is no JSON text.
     NotJson,
-    /// A key of a certificate is absent; the detail is the key, as in the next one.
+    /// A key of a certificate is absent; the detail is the key.
     CertificateMissing,
-    /// A value of a certificate is of another kind or outside its range.
+    /// A value of a certificate is of another kind or outside its range; the detail is the key, or
+    /// `-` where the whole text is no object.
     CertificateBadValue,
     /// A certificate has more than 4,000,000 state entries; the detail is their number.
     CertificateTooLong,

@@ -55,9 +55,13 @@ fn map_halt(alloc: Global, file: &str, set: &TaskSet, error: MapError) -> Halt
 /// task its plan.
 ///
 /// It is refused with 80 or 81 for a task's file that is not there or is longer than 16,777,216
-/// bytes, with 1 to 11 for one that is no ELF file of this kind, and then with 40 to 42 for the
-/// code of all of them. A file that several tasks name is read once. A fault comes only where the
-/// files counted one. Cost: linear in the files, n log n in their segments and symbols.
+/// bytes, and with 1 to 11 for one that is no ELF file of this kind; the subject is the file. Then
+/// it is refused with 40 for the code of all of them, where the subject is the set's file, and with
+/// 41 and 42, where it is the task. A file that several tasks name is read once, and its image is
+/// copied for each further one. A fault comes only where the files counted one. Cost: linear in the
+/// files and in the images of all tasks, n log n in their segments and symbols. An image has a copy
+/// of each symbol's name, and names may share their bytes in the file, so it may be far larger than
+/// the file. The code bytes are held twice beside the images.
 pub fn load_code<F: Files>(
     alloc: Global,
     files: &mut F,

@@ -6,11 +6,11 @@ use crate::refusal::Refusal;
 use crpd_base::Memory as NoMemory;
 use std::alloc::{AllocError, AllocFailed};
 
-/// Why a command stops before its text: what it reads is refused, there is no memory, or a call of
-/// the files failed, which they counted.
+/// Why a command stops before its text: what it reads or would make of that is refused, there is no
+/// memory, or a call of the files failed, which they counted.
 #[derive(Drop)]
 pub enum Halt {
-    /// What it reads is refused, for this first reason.
+    /// What it reads, or what it would make of that, is refused, for this first reason.
     Refused(Refusal),
     /// There is no memory; this may come at any place.
     Memory,

@@ -100,8 +100,8 @@ fn image_of<F: Files>(
 
 /// The images of the tasks' files, in the order of the tasks. A file that several tasks name is
 /// read and parsed once. Refused with 80, 81 and 1 to 11 for the first file that is; the subject is
-/// the file. A fault comes only where the files counted one. Cost: linear in the files, and in the
-/// images that are copied.
+/// the file. A fault comes only where the files counted one. Cost: linear in the files and in the
+/// images, those that are copied among them.
 pub fn load_images<F: Files>(
     alloc: Global,
     files: &mut F,

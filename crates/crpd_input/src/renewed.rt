@@ -140,11 +140,13 @@ fn renewed_nests(
 }
 
 /// The graphs of all tasks, and then the regions of all tasks' loops, as `task_shapes` gives them
-/// for this set: those of the tasks that are the same in an old set, whose graphs and regions are
-/// given, are copied.
+/// for this set, with its refusals: those of the tasks that are the same in an old set, whose
+/// graphs and regions are given, are copied.
 ///
-/// Cost: linear in the nodes and regions of the same tasks, and for the others that of building
-/// each graph and its regions.
+/// Cost: for each old task with the name of a new one, a look-up of a word of the code for each
+/// node at most, and a look through its stated loops with their ranges; for the same tasks, linear
+/// in the nodes, the regions and, for each node, the regions that hold it; for the others that of
+/// building each graph and its regions.
 pub fn renewed_shapes(
     alloc: Global,
     old: &Input,

@@ -91,8 +91,8 @@ fn source(old: &Input, graphs: &[Graph], input: &Input, task: Task) -> Option<us
     }
 }
 
-/// For each new task the old task of its name, where it is the same. Linear in the nodes of these
-/// old tasks.
+/// For each new task the old task of its name, where it is the same. At most a look-up of a word
+/// for each node of these old tasks, and a look through their stated loops with their ranges.
 pub(crate) fn sources(
     alloc: Global,
     old: &Input,

@@ -1,4 +1,5 @@
-//! The texts that the certifier writes.
+//! Texts that the certifier writes: of refusals, of verdicts, and of the commands `list`, `sets`,
+//! `simulate`, `explain` and `generate`.
 #![tactic(auto)]
 
 mod address;

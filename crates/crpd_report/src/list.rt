@@ -55,13 +55,10 @@ fn add_line(
 }
 
 /// The list of a task's own words: one line per address at which a whole word stands in the task's
-/// own file, in increasing order, with the word itself. An address and a word are 8 lower-case
-/// hexadecimal digits, and a word that is no instruction is `.word`. A word may straddle two
-/// segments of the file that adjoin. `Memory` is the only error.
-///
-/// A step per word, each logarithmic in the number of segments, and linear in the text.
-///
-/// Source: the RISC-V unprivileged manual (words are little-endian, at multiples of 4).
+/// own file, in increasing order, with the address, the word, and the text of its instruction or
+/// `.word` where it is none. An address and a word are 8 lower-case hexadecimal digits. A word may
+/// straddle two segments of the file that adjoin. The task is one of those of the code. `Memory` is
+/// the only error. Linear in the text, with a look-up of each word.
 #[tactic(auto, unfolding(crate::specs::List::list_text))]
 pub fn list_text(alloc: Global, code: &CodeMap, task: Task) -> Result<Vec<u8>, Memory>
     requires { task.0 < length code.now.images }

@@ -4,8 +4,8 @@ use Rattle.std.specs.Prelude.{Option, Some, None, option_map, if◌then◌else�
 use Rattle.std.specs.Str.{bytes_eq}
 use Rattle.crpd_tool.specs.Numbers.{command_number}
 
--- a command with its files; each further command is a constructor here, a line in `command_of`, and
--- a case of `Ends`
+-- a command with its files, with the name of a task by `list` and with a number by `generate`; each
+-- further command is a constructor here, a line in `command_of`, and a case of `Ends`
 pub data Command : Type 0 where
   check : List ℕ → List ℕ → Command
   list : List ℕ → List ℕ → Command

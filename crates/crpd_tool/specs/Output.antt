@@ -73,7 +73,7 @@ IsOut words contents output =
     MatchOption (command_of words) (output ≡ bad_words)
     (λ command. IsOutputOf contents command output)
 
--- any words have one output
+-- any words have one output at most
 abbrev pub OneAnswer : Type 0
 OneAnswer =
     (words : List (List ℕ)) (contents : Contents) (one other : Output) → IsOut words contents one

@@ -56,7 +56,7 @@ pub trait Domain {
     /// A number that rises where a join changes a value.
     ghost height: { Self → Value → ℕ };
 
-    /// The greatest such number.
+    /// A number that no height exceeds.
     ghost tallest: { Self → ℕ };
 
     /// Which numbers are its nodes.

@@ -151,7 +151,9 @@ fn search<G: Flow, D: Domain>(
 /// a search in depth leaves them: of a search from the first node on, and of one from the last node
 /// back. Each is visited only when its fact has risen since. So each edge is followed at most once
 /// more often than a fact can rise, and once where the edges have no cycle (Kam and Ullman 1976).
-/// By the second order a fact goes back through a chain of loops that overlap in one round.
+/// By the second order a fact goes back through a chain of loops that overlap in one round. A visit
+/// costs a copy of a fact and a transfer, an edge that is followed a join; a round looks at each
+/// node twice.
 pub fn solve<G: Flow, D: Domain>(
     alloc: Global,
     flow: &G,

@@ -28,9 +28,8 @@ use std::alloc::Global;
 /// 2^40 cycles, with the byte address of its entry; `TooManyEntries` with the number of the state
 /// entries where it exceeds 4,000,000; `Unschedulable` for the first task without a window. The
 /// first that applies is given, in this order. The time is that of the analyses, and of the
-/// windows.
-///
-/// Source: Altmeyer, Davis and Maiza 2012.
+/// windows. One task is analysed at a time, with the memory that `analyse` takes; of the others
+/// only their entries and potentials are kept.
 pub fn classic(
     alloc: Global,
     set: &TaskSet,

@@ -22,8 +22,8 @@ use std::alloc::Global;
 /// It needs a part, with a bound of at most 2^40 cycles, and the longest instruction, from 1 to
 /// 2^20 cycles, of each task. `Unschedulable` names the first task that has no window by either
 /// method. The search goes on by lower bounds from the rates of the higher tasks, so it mostly
-/// takes few steps also where these leave almost nothing. The only other error is want of memory,
-/// which is taken for the choices alone.
+/// takes few steps also where these leave almost nothing; a step is the demand of one window. The
+/// only other error is want of memory, which is taken for the choices alone.
 pub fn classic_windows(
     alloc: Global,
     set: &TaskSet,

@@ -20,7 +20,8 @@ abbrev pub preemptions : TaskSet → (ℕ → ℕ) → ℕ → ℕ → ℕ → �
 preemptions set window w i j k =
     if k == i then jobs_of set j w else jobs_of set j (window k) * jobs_of set k w
 
--- the same of the tasks that j can affect in a window of i: below j's priority, and at least i's
+-- the same of the tasks below j's priority, and 0 of the others; of tasks of at least i's priority
+-- these are those that j can affect in a window of i
 abbrev pub affected_preemptions : TaskSet → (ℕ → ℕ) → ℕ → ℕ → ℕ → ℕ → ℕ
 affected_preemptions set window w i j k = if nat_lt j k then preemptions set window w i j k else 0
 

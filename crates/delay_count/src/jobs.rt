@@ -8,8 +8,8 @@ ghost use Rattle.delay_count.specs.Gamma.{count_at, useful_at, part_at};
 use crate::share::Share;
 use crpd_base::{MOST_TASKS, Part, SetBits, TaskSet, WORDS};
 
-/// The jobs of a task that are released in a window of so many cycles, at most 2^40: the window and
-/// the task's jitter over its period, rounded up. In constant time.
+/// At most how many jobs of a task are released in a window of so many cycles, at most 2^40: the
+/// window and the task's jitter over its period, rounded up. In constant time.
 pub fn jobs(set: &TaskSet, task: usize, window: u64) -> u64
     requires times { HasTimes set.now }
     requires task { task < length set.now.tasks }
@@ -20,9 +20,10 @@ pub fn jobs(set: &TaskSet, task: usize, window: u64) -> u64
     (window + task.jitter + (task.period - 1)) / task.period
 }
 
-/// How often jobs of task `j` may preempt those of each task in a window of `window` cycles of task
-/// `i`, 0 for the tasks that they do not preempt, and the useful sets of that task. Linear in the
-/// tasks, each with its set; it takes no memory.
+/// How often jobs of task `j` may preempt those of each task in a window of `window` cycles, at
+/// most 2^40, of task `i` below `j`, 0 for the tasks that they do not preempt, and the useful sets
+/// of that task, for the tasks down to `i`. It needs a window of each task above `i`, at most 2^40
+/// and in its deadline with its jitter. Linear in the tasks, each with its set; it takes no memory.
 pub fn affected_shares(
     set: &TaskSet,
     parts: &[Part],

@@ -19,10 +19,11 @@ const ONE: u128 = 1 << 80;
 // One job in each cycle, as a rate.
 const ONE_JOB: u64 = 1 << 63;
 
-/// A rate, with 2^80 to one, at which a higher task takes of every window of a task at least: its
-/// jobs as if they were released evenly, each with its bound and two switches, and the delay by the
-/// evictions of so many jobs. The higher task is one above the task. It needs what `demand` needs
-/// but the longest instructions. Its time is that of the delay; it takes no memory.
+/// A rate, with 2^80 to one and at most one, at which a higher task takes of every window of a task
+/// at least: its jobs as if they were released evenly, each with its bound and two switches, and
+/// the delay by the evictions of so many jobs. The higher task is any of those above the task. It
+/// needs what `demand` needs but the longest instructions. Its time is that of the delay; it takes
+/// no memory.
 pub fn least_rate(
     set: &TaskSet,
     parts: &[Part],

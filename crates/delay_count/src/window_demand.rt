@@ -16,8 +16,8 @@ use crpd_base::{Method, Part, SetBits, Switching, Task, TaskSet, WORDS};
 
 /// The cycles that the jobs of a window of `w` cycles may demand of the core until a job of the
 /// task has answered: its context switch, its execution bound, what an instruction begun before may
-/// take, and for each job of a higher task its bound, two switches and the delay by the cache sets
-/// that it evicts (Altmeyer, Davis and Maiza, 2012).
+/// take, and of each higher task its jobs in the window, each with its bound and two switches, and
+/// the delay by the cache sets that they evict (Altmeyer, Davis and Maiza, 2012).
 ///
 /// It needs the longest instruction of each task, from 1 to 2^20 cycles; a part of the task and of
 /// all higher ones; and a window of each higher task, at most 2^40 and in that task's deadline with
@@ -49,9 +49,10 @@ pub fn demand(
     total
 }
 
-/// What a task takes of its window by itself, in cycles: a context switch, its execution bound, and
-/// what an instruction begun before the window may take of it. Linear in the tasks; it takes no
-/// memory.
+/// What a task takes of its window by itself, in cycles, at most 2^66: a context switch, its
+/// execution bound, and what an instruction begun before the window may take of it. It needs a part
+/// of the task, and the longest instruction of each task, from 1 to 2^20 cycles. Linear in the
+/// tasks; it takes no memory.
 pub fn own_demand(set: &TaskSet, parts: &[Part], longest: &[u64], task: Task) -> u128
     requires task { task.0 < length set.now.tasks }
     requires parts { task.0 < length parts.now }
@@ -67,10 +68,10 @@ pub fn own_demand(set: &TaskSet, parts: &[Part], longest: &[u64], task: Task) ->
         + u128::from(longest_begun(set, longest, i))
 }
 
-/// What a higher task takes of a window of `w` cycles of a task, in cycles: its jobs in the window,
-/// each with its bound and two switches, and the delay by the cache sets that they evict. The
-/// higher task is one above the task. It needs what `demand` needs but the longest instructions.
-/// Its time is that of the delay; it takes no memory.
+/// What a higher task takes of a window of `w` cycles of a task, in cycles, at most 2^113: its jobs
+/// in the window, each with its bound and two switches, and the delay by the cache sets that they
+/// evict. The higher task is any of those above the task. It needs what `demand` needs but the
+/// longest instructions. Its time is that of the delay; it takes no memory.
 pub fn higher_demand(
     set: &TaskSet,
     parts: &[Part],
@@ -183,8 +184,9 @@ fn delay(
     delay_by(platform.miss, parts, i, j, method, jobs(set, j, w), &shares)
 }
 
-/// The delay of task `i` by the evictions of so many jobs of a higher task `j`, in cycles, given
-/// the shares of the task and of all higher ones. It takes no memory.
+/// The delay of task `i` by the evictions of so many jobs of a higher task `j`, in cycles, at most
+/// 2^112, given 32 shares: first those of the higher tasks and of the task, each with a count below
+/// 2^81. Its time is that of `gamma_ucb` or `gamma_ecb`, by the method. It takes no memory.
 pub fn delay_by(
     miss: u32,
     parts: &[Part],

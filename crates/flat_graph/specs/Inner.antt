@@ -1,4 +1,5 @@
--- What contracts inside the crate alone cite; no clause of a public call reaches it.
+-- What contracts inside the crate alone cite. Of it clauses of public calls reach `GivesFirst`
+-- alone: what a step of `Successors` gives.
 pub mod GraphErrors
 pub mod GraphParts
 pub mod Leaders

@@ -1,4 +1,4 @@
-// Lists of calls under way, each kept once and numbered as it is met.
+// Lists of calls under way, each numbered as it is met, and kept at its number and as a key.
 ghost use Rattle.std.specs.Prelude.{◌≡◌, ◌<◌, ◌≤◌, ◌+◌, ◌^◌, ◌++◌, ◌∷◌, Some, None, IfOk, OnOk};
 ghost use Rattle.std.specs.Prelude.{length, slice_get, slice_index_or, []};
 ghost use Rattle.std.specs.BTreeMap.{get};
@@ -29,7 +29,8 @@ impl Contexts {
         }
     }
 
-    /// The number of a list of calls. Logarithmic in the number of lists.
+    /// The number of a list of calls, which is added where it was not met yet. Logarithmic in the
+    /// number of lists.
     pub(crate) fn number(&mut self, alloc: Global, calls: Context) -> Result<u32, AllocError>
         requires numbered { AreNumbered self.old.numbers self.old.lists.items }
         requires few { length self.old.lists.items < 2 ^ 32 }

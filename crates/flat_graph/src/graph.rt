@@ -309,8 +309,8 @@ impl Graph {
         self.nodes[id.0 as usize].leader
     }
 
-    /// What every such graph is: the flat graph of some code, in which each node is reached by a
-    /// walk from the first. In constant time.
+    /// What every such graph is: the flat graph of some code, with at most 16,384 nodes, each
+    /// reached by a walk from the first and with at most two successors. In constant time.
     pub fn graph_law(&self)
         ensures code { HasCode self.now }
         ensures graph { IsGraph (graph_of self.now) }

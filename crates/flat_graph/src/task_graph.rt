@@ -55,9 +55,11 @@ fn stands(
 /// `Recursive`, `TooDeep`. Addresses are in bytes. `Memory` may come in place of any answer.
 ///
 /// Time is n log n in the nodes. While they are reached, a step of it compares two numbers; lists
-/// of at most 16 calls are compared at calls and returns, where the lists are put in order, and
-/// where successors are looked up in that order. Besides the graph, each node is kept twice more
-/// while the graph is built. A list of calls is kept once for all nodes of it.
+/// of at most 16 calls are compared at calls and returns, where the nodes are put in order, and
+/// where successors are looked up in that order. The word of each node is looked up twice, and at a
+/// call those of the calls under way too, each in time logarithmic in the segments of the code.
+/// Besides the graph, each node is kept twice more while the graph is built. A list of calls is
+/// kept once for all nodes of it, and once more while they are reached.
 ///
 /// Source: RISC-V unprivileged manual (JAL, JALR and the return-address register x1 of the standard
 /// calling convention).

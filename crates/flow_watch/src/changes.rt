@@ -37,7 +37,7 @@ pub(crate) fn change_by(ins: &Ins) -> Change
 }
 
 /// Whether an instruction stays in its frame: it neither calls nor returns, and is followed. Then a
-/// step of a watch by it is the arrival alone.
+/// step of a watch by it is the arrival alone. In constant time; it takes no memory.
 pub fn stays_in_frame(ins: &Ins) -> bool
     ensures is { (a : ℕ) → result ≡ stays (flow a ins.now) }
     ensures arrival { OnTrue result (IsArrival ins.now) }

@@ -4,9 +4,9 @@ ghost use Rattle.loop_regions.specs.declared.fault.LoopError.TheVariants.{Memory
 
 use std::alloc::AllocError;
 
-/// The first thing that is wrong with the stated loops of a task. `SameHead` has the least such
-/// head; the others have the byte address of the least node, in the order of numbering, at which it
-/// is.
+/// The first thing that is wrong with the stated loops of a task, or want of memory. `SameHead` has
+/// the least such head; the others but `Memory` have the byte address of the least node, in the
+/// order of numbering, at which it is.
 #[derive(Clone, Copy)]
 pub enum LoopError {
     /// There is no memory for the regions.

@@ -98,8 +98,9 @@ fn nest_of_nested(alloc: Global, found: Regions, around: &[Holders]) -> Result<N
 /// ranges of a loop for each node that its regions may hold; of the edges, each with the regions of
 /// its target looked for among those of its source; and n log n in the ranges. A node whose regions
 /// are others than those of the node before it costs up to the cube of their number. Where a node
-/// lies on a cycle without back edges, each node up to the least such node is searched from. The
-/// ranges are kept twice while the regions are found.
+/// lies on a cycle without back edges, each node up to the least such node is searched from. For
+/// each node the numbers of the regions that hold it are kept, and while the regions are found the
+/// ranges once more, and for each region the numbers of those round it.
 pub fn regions(alloc: Global, graph: &Graph, plan: &TaskPlan) -> Result<Nest, LoopError>
     ensures regions { IfOk result
         (λ nest. IsRegions (graph_of graph.now) (places_of graph.now) plan.now.loops

@@ -64,8 +64,8 @@ impl Nest {
         }
     }
 
-    /// The nest once more. Linear in the regions and, for each node, those that hold it. The only
-    /// error is want of memory.
+    /// The nest once more. Linear in the regions and in the nodes, each with the regions that hold
+    /// it. The only error is want of memory.
     pub fn copy(&self, alloc: Global) -> Result<Nest, AllocError>
         ensures { IfOk result (λ nest. nest ≡ self.now) }
     {
@@ -106,7 +106,8 @@ impl Nest {
     }
 
     /// How often a kept walk may be at a region's head from an entry into the region until it
-    /// leaves it: 1 to 1,000,000. In constant time.
+    /// leaves it: the bound of the stated loop, 1 to 1,000,000 where the plan's bounds are. In
+    /// constant time.
     pub fn bound(&self, r: u32) -> u32
         requires { r < (nest_of self.now).size }
         ensures { result ≡ (nest_of self.now).bound r }

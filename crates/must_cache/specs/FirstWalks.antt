@@ -1,5 +1,5 @@
--- One walk to each node, and in which sets an edge brings something else than the walk that was
--- taken.
+-- Which nodes are hits by Sure, and what leaders surely hold: by a state of each leader, and the
+-- sets in which it is not sure.
 use Rattle.std.specs.Prelude.{◌≡◌, ◌↔◌, ℕ, ◌<◌, List, length, slice_index_or, Option, Some, None}
 use Rattle.std.specs.Prelude.{Bool, false}
 use Rattle.crpd_base.specs.Sets.{has}

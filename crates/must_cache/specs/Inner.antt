@@ -1,4 +1,5 @@
--- What contracts inside the crate alone cite; no clause of a public call reaches it.
+-- What contracts inside the crate cite, and of `Marks` and `MarkLaws` those inside `useful_sets`
+-- too; no clause of a public call reaches it.
 pub mod EdgeLists
 pub mod FirstWalks
 pub mod Held

@@ -1,4 +1,4 @@
--- Tests of the cache sets, and how they go along the edges.
+-- Sets of cache sets, one for each node.
 use Rattle.std.specs.Prelude.{ℕ, List, [], slice_index_or}
 
 -- the set of a node; past the last one an empty one

@@ -96,7 +96,8 @@ fn sure_ones<const W: usize>(
 ///
 /// The one refusal is want of memory; a state for each leader is taken, of 8 bytes for each of S
 /// sets, one for each node of a walk whose edges are still to be followed, and some three sets of
-/// numbers for each node. An edge is followed again where the sets at its source have grown.
+/// numbers for each node. A comparison looks at each of S sets. An edge is followed again where the
+/// sets at its source have grown, each time over W words.
 pub fn sure_parts<const S: usize, const W: usize>(
     alloc: Global,
     graph: &Graph,

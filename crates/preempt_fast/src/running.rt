@@ -63,9 +63,12 @@ fn outcome(schedule: Schedule) -> (Vec<Completion>, bool)
 /// The code map has a plan for each task of the set, and the script's jobs are of the set's tasks.
 /// Want of memory is the only error. It goes in one move over the cycles in which no job is ready,
 /// over those of a switch, and over those of an instruction in which no job is released. So its
-/// time is that of its instructions, and for each release, answer and fault a look at each task's
-/// first waiting job; besides n log n in the jobs, and the time of `start_memory`. An instruction
-/// is looked up and decoded where its address is met anew at its place in a table of 4,096.
+/// time is that of its instructions, each with a step of the watch and a look through the ranges of
+/// the stated loops where it calls, returns or leaves the addresses that are quiet; for each
+/// release, answer and fault a look at each task's first waiting job and through the ranges of the
+/// stated loops of the job that goes on; besides the time of `Schedule::new` and of `start_memory`.
+/// An instruction is looked up and decoded where its address is met anew at its place in a table of
+/// 4,096. Beside the schedule, the cache and the data memory it keeps that table alone.
 pub fn run_fast(
     alloc: Global,
     code: &CodeMap,

@@ -1,4 +1,5 @@
--- What contracts inside the crate alone cite; no clause of a public call reaches it.
+-- What contracts of private calls alone cite, of this crate and of preempt_fast; no clause of a
+-- public call reaches it.
 pub mod Decodings
 pub mod Jobs
 pub mod KeptFlag

@@ -109,7 +109,8 @@ turn_after_fetch sys ins t =
     }
     else t
 
--- the instruction has its effect: an ECALL answers, and any other goes on, under the watch
+-- the instruction has its effect: an ECALL answers, an EBREAK faults, and any other goes on, under
+-- the watch, and answers where it comes to the address at which jobs end
 abbrev pub turn_after_effect : System → ℕ → Ins → Turn → Next → Turn
 turn_after_effect sys n ins t (Goto to) =
     let job = t.job in

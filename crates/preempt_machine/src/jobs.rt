@@ -86,7 +86,8 @@ fn start_registers(plan: &TaskPlan) -> Regs
     registers
 }
 
-/// Whether a branch or a jump at an address is taken, where it goes on so.
+/// Whether a job goes on at another address than the one after its instruction's. So a branch or a
+/// jump to the address after its own is not taken, nor are ECALL and EBREAK.
 /// In constant time.
 #[inline(always)]
 pub fn is_taken(next: Next, pc: u32) -> bool
@@ -248,8 +249,9 @@ impl Job {
     }
 
     /// The effect of its instruction, which ends at a time, and after which it goes on at an
-    /// address. Its watch stays as it is, so the caller has to know that the watch's step leaves it
-    /// so. After an error all is as before. Memory is wanted by a store alone.
+    /// address. The job is open, and the fields are in range. Its watch stays as it is, so the
+    /// caller has to know that the watch's step leaves it so. After an error all is as before.
+    /// Memory is wanted by a store alone. Its time is that of the effect.
     #[inline(always)]
     pub fn go_on(
         &mut self,
@@ -276,8 +278,9 @@ impl Job {
     }
 
     /// The effect of its instruction, which ends at a time, and after which it goes on so: it
-    /// answers then, faults, or goes on. After an error all is as before. Memory is wanted by a
-    /// store alone. Its time is that of the effect and of a step of the watch.
+    /// answers then, faults, or goes on. The job is open, the fields are in range, and the plan has
+    /// as many stated loops as the one at the start. After an error all is as before. Memory is
+    /// wanted by a store alone. Its time is that of the effect and of a step of the watch.
     pub fn finish(
         &mut self,
         memory: &mut DataMemory,

@@ -71,9 +71,10 @@ impl Machine {
     /// The machine at the start of a run of a script, from any cache and data memory: no owner, and
     /// all jobs unreleased. It makes all the room that steps fill, but that of the data memory.
     ///
-    /// The code map has a plan for each task of the set, the script's jobs are of the set's tasks,
-    /// and the cache has room for the platform's sets. Want of memory is the only error; then the
-    /// data memory is dropped. Time is n log n in the jobs.
+    /// The code map has a plan for each task of the set, the script's jobs, fewer than 2^32, are of
+    /// the set's tasks, and the cache has room for the platform's sets. Want of memory is the only
+    /// error; then the data memory is dropped. Time and memory are those of `Schedule::new`, and of
+    /// a table of 2,048 decoded words.
     pub fn new(
         alloc: Global,
         code: &CodeMap,
@@ -112,7 +113,8 @@ impl Machine {
 
     /// The machine at the start of a script: from the script's cache and the bytes of the files.
     ///
-    /// It asks of set, code map and script what `new` asks. Want of memory is the only error.
+    /// It asks of set, code map and script what `new` asks. Want of memory is the only error. Time
+    /// and memory are those of `start_memory`, `start_cache` and `new`.
     pub fn load(
         alloc: Global,
         code: &CodeMap,

@@ -13,7 +13,8 @@ use crpd_base::{Memory, ScriptJob, Task};
 use std::alloc::Global;
 
 /// The jobs of a script by release, and by place where they are released together. A number past
-/// the last job stands for none.
+/// the last job stands for none. Its calls ask that its lists belong together, as `new` makes them,
+/// and `finish` that the task has a job that is not over.
 #[derive(Drop)]
 pub struct Queue {
     /// Their releases and places, in ascending order.
@@ -79,8 +80,9 @@ fn numbers(alloc: Global, number: usize, count: usize) -> Result<Vec<usize>, Mem
 }
 
 impl Queue {
-    /// The jobs of a script, all of them unreleased, with room for so many tasks. Want of memory is
-    /// the only error. Time is n log n in the jobs.
+    /// The jobs of a script, all of them unreleased, with room for so many tasks; the jobs' tasks
+    /// are below that number. Want of memory is the only error. Time is n log n in the jobs, and
+    /// linear in the tasks; memory is linear in both.
     pub fn new(alloc: Global, lines: &[ScriptJob], tasks: usize) -> Result<Self, Memory>
         requires { (x : ℕ) → x < length lines.now → (script_line lines.now x).task.0 < tasks }
         ensures due { IfOk result (λ queue. IsReleaseOrder lines.now queue.due.items) }

@@ -135,11 +135,10 @@ pub fn carry_out(ins: &Ins, pc: u32, regs: &mut Regs, memory: &mut DataMemory) -
 
 /// Carries out an instruction at `pc`, whose fields are in range, and says where the job goes.
 ///
-/// Registers and memory change by the effect column of the instruction table (RISC-V unprivileged
-/// manual, RV32I and M): arithmetic is modulo 2^32, data is little-endian, an access that reaches
-/// the end of memory goes on at 0, and misaligned accesses are carried out. Only a store may want
-/// memory; then nothing has changed. Time is constant, but for a load or store logarithmic in the
-/// stored pages.
+/// Registers and memory change as the variants of `Ins` say (RISC-V unprivileged manual, RV32I and
+/// M): arithmetic is modulo 2^32, data is little-endian, an access that reaches the end of memory
+/// goes on at 0, and misaligned accesses are carried out. Only a store may want memory; then
+/// nothing has changed. Time is constant, but for a load or store logarithmic in the stored pages.
 pub fn effect(ins: &Ins, pc: u32, regs: &mut Regs, memory: &mut DataMemory) -> Result<Next, Memory>
     requires { HasFieldsInRange ins.now }
     ensures next { IfOk result (λ next. next ≡ next_pc ins.now pc regs.old) }

@@ -177,10 +177,10 @@ impl DataMemory {
         }
     }
 
-    /// Puts bytes from an address on, in the time of a walk over them with one look-up for each of
-    /// their pages, which is logarithmic in the stored pages. After an error some of them stand,
-    /// from the first one on. Memory is wanted only for a page that is not stored yet and has a
-    /// byte that is not 0.
+    /// Puts bytes from an address on, all of them below 2^32, in the time of a walk over them with
+    /// one look-up for each of their pages, which is logarithmic in the stored pages. After an
+    /// error some of them stand, from the first one on, or none. Memory is wanted only for a page
+    /// that is not stored yet and has a byte that is not 0.
     pub fn put_all(&mut self, address: u32, bytes: &[u8]) -> Result<(), Memory>
         requires { address + length bytes.now ≤ 2 ^ 32 }
         ensures ok { OnOk result (self.new ≡ put_all self.old address bytes.now) }
@@ -217,9 +217,9 @@ impl DataMemory {
         remove_pages(&mut self.pages, first, last);
     }
 
-    /// Makes `length` bytes from an address on 0, in time logarithmic in the stored pages, and once
-    /// more so for each page that it takes out, however many addresses have none. It takes no
-    /// memory.
+    /// Makes `length` bytes from an address on 0, all of them below 2^32, in time logarithmic in
+    /// the stored pages, and once more so for each page that it takes out, however many addresses
+    /// have none. It takes no memory.
     pub fn clear(&mut self, address: u32, length: u64)
         requires { address + length ≤ 2 ^ 32 }
         ensures { self.new ≡ clear_bytes self.old address length }

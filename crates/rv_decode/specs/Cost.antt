@@ -6,8 +6,8 @@ use Rattle.rv_decode.specs.declared.Ins.TheVariants.{Jal, Jalr, Beq, Bne, Blt, B
 use Rattle.rv_decode.specs.declared.Ins.TheVariants.{Lh, Lw, Lbu, Lhu, Sb, Sh, Sw, Mul, Mulh}
 use Rattle.rv_decode.specs.declared.Ins.TheVariants.{Mulhsu, Mulhu, Div, Divu, Rem, Remu}
 
--- the cycles for what an instruction does: data for a load or a store, and those of a product or a
--- quotient
+-- the cycles for what an instruction does besides its fetch: `memory` for a load or a store, `mul`
+-- for the products, `div` for the quotients and remainders
 unfoldable pub work_cost : Platform → Ins → ℕ
 work_cost p (Lb _ _ _) = p.memory
 work_cost p (Lh _ _ _) = p.memory

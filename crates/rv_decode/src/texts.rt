@@ -97,10 +97,12 @@ impl Ins {
         instruction_table!(name_rows[self])
     }
 
-    /// The text of the instruction, as an assembler reads it: the name, a space, and the operands
-    /// with commas between them. Registers are `x0` to `x31` and numbers decimal; a branch and JAL
-    /// name their offset in bytes. Time and memory are those of the text, fewer than 20 bytes. The
-    /// only error is want of memory.
+    /// The text of the instruction: the name, a space, and the operands with commas between them;
+    /// JALR, loads and stores name offset and base as in `12(x2)`. FENCE, ECALL and EBREAK are
+    /// their names alone, so the fields of a FENCE are not told. Registers are `x0` to `x31` and
+    /// numbers decimal; a branch and JAL name their offset in bytes. Time and memory are those of
+    /// the text, fewer than 20 bytes where the fields are in range. The only error is want of
+    /// memory.
     pub fn text(&self, alloc: Global) -> Result<String, Memory>
         ensures { IfOk result (λ s. string_bytes s ≡ text self.now) }
     {

@@ -1,6 +1,6 @@
 -- After the judge's yes, what holds of a task set in its ranges with its code, beside that it is
--- safe: an undisturbed job answers within its bound, and the reloads of an account are within the
--- certificate's delays.
+-- safe: an undisturbed job answers within a switch and its bound, and the reloads of an account are
+-- within the certificate's delays.
 use Rattle.std.specs.Prelude.{◌≡◌, ℕ, ◌+◌, ◌*◌, ◌<◌, ◌≤◌, ◌==◌, ◌&&◌, nat_lt, nat_le, Bool, IsTrue}
 use Rattle.std.specs.Prelude.{List, length, map, slice_index}
 use Rattle.std.specs.List.{count_by}

@@ -28,8 +28,8 @@ use Rattle.run_account.specs.Nodes.{job_task, plan_at, node_number, node_of_job}
 use Rattle.run_account.specs.Walks.{fetched_nodes}
 use Rattle.sound_laws.specs.Walks.{HasTaskRanges, IsCodeOf, before_of}
 
--- the rest of the walk after the instruction that is under way; none where it answers or breaks the
--- watch
+-- the rest of the walk after the instruction that is under way; none where it answers, faults or
+-- breaks the watch
 abbrev pub rest_after : TaskPlan → TaskGraph → Potentials → Job → List ℕ → Ins → Next → ℕ
 rest_after plan t p job walk ins (Goto to) =
     let w = watch_step plan job.watch job.pc ins to in

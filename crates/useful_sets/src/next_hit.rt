@@ -123,9 +123,9 @@ fn all_before<const W: usize>(
     Ok(before)
 }
 
-/// The useful cache sets before each node, from which nodes are hits by Sure: `hits` is what
-/// `sure_hits` of `must_cache` gives for this graph and geometry. Time and memory are those of
-/// `useful`.
+/// The useful cache sets before each node, by the nodes' numbers, from which nodes are hits by
+/// Sure: `hits` is what `sure_hits` of `must_cache` gives for this graph and geometry. The one
+/// refusal is want of memory; time and memory are those of `useful`.
 pub fn useful_by_hits<const W: usize>(
     alloc: Global,
     graph: &Graph,
@@ -164,7 +164,7 @@ pub fn useful_by_hits<const W: usize>(
 ///
 /// The one refusal is want of memory; two sets of numbers for each node are taken, and a list of
 /// the edges. An edge is followed once where the graph has no cycle, and else again where the sets
-/// at its target have grown.
+/// at its target have grown, each time over W words.
 pub fn useful<const S: usize, const W: usize>(
     alloc: Global,
     graph: &Graph,

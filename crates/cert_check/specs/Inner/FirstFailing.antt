@@ -1,5 +1,5 @@
--- The judge's answer and its failures, as the code gives them: what only contracts inside the crate
--- cite.
+-- The first failures of a task's clauses, as the code finds them: what only contracts inside the
+-- crate cite.
 use Rattle.std.specs.Prelude.{ℕ, ◌≤◌, Result, Ok, Err}
 use Rattle.cert_check.specs.declared.outcome.Clause.{Clause}
 use Rattle.cert_check.specs.Verdict.{clause_number, IsEarlierClause}

@@ -62,7 +62,7 @@ abbrev pub absorbed : {V : Type 0} → (V → V → V) → Option V → V → V
 absorbed joined None u = u
 absorbed joined (Some v) u = joined v u
 
--- how often a fact has risen at least
+-- how often a fact has risen at most: one more than the height of its value, 0 without one
 abbrev pub rank : {V : Type 0} → (V → ℕ) → Option V → ℕ
 rank height None = 0
 rank height (Some v) = suc (height v)
@@ -102,6 +102,6 @@ pub record IsInDepth (nodes edges : ℕ) (seen : List Bool) (next : List (Option
 abbrev pub root_at : Bool → ℕ → ℕ → ℕ
 root_at from_last nodes k = if from_last then nodes - 1 - k else k
 
--- twice the edges still to follow, and the path
+-- twice the numbers, each one more, of the next edges to follow, and the path
 abbrev pub to_follow : List (Option ℕ) → List ℕ → ℕ
 to_follow next path = 2 * sum_by past_edge next + length path

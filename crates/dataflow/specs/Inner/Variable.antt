@@ -1,4 +1,4 @@
--- A variable that nodes read and write: what only contracts inside the crate cite.
+-- A variable that nodes read and write: where the paths of `Known` begin.
 use Rattle.std.specs.Prelude.{ℕ, ◌==◌, if◌then◌else◌, Option, Some, None}
 
 -- paths begin at node 0, with an unknown variable

@@ -2,7 +2,7 @@
 use Rattle.std.specs.Prelude.{ℕ, ◌*◌, ◌<◌, ◌≤◌, ◌==◌, nat_le, if◌then◌else◌}
 use Rattle.crpd_base.specs.Sum.{sum_below}
 
--- the greatest of the first values below a level, or 0
+-- a number below a level that is at least each of the first values below the level
 pub record IsNextValue (value : ℕ → ℕ) (tasks level next : ℕ) : Type 0 where
   pub below : next < level
   pub greatest : (k : ℕ) → k < tasks → value k < level → value k ≤ next

@@ -28,7 +28,7 @@ job_of j =
       standing = standing_of j.standing;
     }
 
--- the watch of an open job still has its bottom frame
+-- the watch of an open job is broken, or still has its bottom frame
 abbrev pub HasBottomFrame : Inside → Type 0
 HasBottomFrame j = standing_of j.standing ≡ Open → j.watch ≢ Some []
 

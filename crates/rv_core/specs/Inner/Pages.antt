@@ -36,7 +36,7 @@ abbrev pub ArePages : ℕ → Pages → Type 0
 ArePages low [] = Unit {0}
 ArePages low (p ∷ pages) = IsNumbered low p × ArePages (p.0 + 1) pages
 
--- the page of a number, none where all its bytes are 0
+-- the page of a number, empty where none is stored; a stored one may have no byte but 0
 abbrev pub page_at : Pages → ℕ → List ℕ
 page_at pages k = unwrap_or (lookup (is_at (nat_cmp k)) pages) []
 
