@@ -219,8 +219,8 @@ impl Trails {
     }
 
     /// The first cycle from now on in which a job may be ready, by a look through the jobs where
-    /// the last one that fetched is over and still owns the core.
-    fn idle_until(&self, machine: &Machine, run: &Run<'_>) -> u64
+    /// the owner of the core is over, or none had it yet.
+    fn idle_until(machine: &Machine, run: &Run<'_>) -> u64
         requires running { IsRunning run.now machine.now.state.time machine.now }
         requires within { machine.now.state.time < run.now.script.now.cycles }
         ensures within { result ≤ run.now.script.now.cycles }
@@ -228,13 +228,9 @@ impl Trails {
     {
         let now = machine.steps();
         let completions = machine.completions();
-        let idle = match self.owner {
-            Some(place) => {
-                place < completions.len()
-                    && machine.owner() == Some(completions[place].job)
-                    && is_over(completions[place].end)
-            }
-            None => machine.owner().is_none(),
+        let idle = match machine.owner_place() {
+            Some(place) => place < completions.len() && is_over(completions[place].end),
+            None => true,
         };
         if idle {
             idle_until(
@@ -264,7 +260,7 @@ impl Trails {
             (λ on. IsTrue on → machine.old.state.time < machine.new.state.time) }
         ensures back { OnOk result (machine.old.state.time ≤ machine.new.state.time) }
     {
-        let until = self.idle_until(machine, run);
+        let until = Self::idle_until(machine, run);
         if until > machine.steps() {
             machine.run_until(run.code, until)?;
             Ok(true)
@@ -412,9 +408,11 @@ impl Run<'_> {
 /// script, and there is at most one reload of an evictor, or of a preemptor, and a cache set; all
 /// reloads of a preemptor are of one job.
 ///
-/// Its time is that of the machine's cycles in which a job is ready, with a look through the jobs
-/// where another job fetches than before and where a job is over. A flag is kept for each node, an
-/// `Entry` for each reload, and a note for each time at which a job goes on behind others.
+/// Its time is that of `Machine::load`, of `hits` for each task, and of the machine's cycles in
+/// which a job is ready, with a look through the jobs where another job fetches than before and
+/// where a job is over, and a search in the job's gaps for each reload. Beside the machine a flag is
+/// kept for each node, a note and an `Entry` for each reload, and a note for each time at which a
+/// job goes on behind others.
 pub fn account(
     alloc: Global,
     code: &CodeMap,
