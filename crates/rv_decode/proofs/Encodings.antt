@@ -1,4 +1,4 @@
--- The word of each instruction, that it is decoded to it, and that no other word is.
+-- The word of each instruction is decoded to it, and no other word is.
 use Rattle.std.proofs.Common.{◌≡◌, ℕ, ◌+◌, ◌*◌, ◌/◌, ◌%◌, ◌^◌, ◌<◌, ℤ, true, List, [], ◌∷◌, Some}
 use Rattle.std.proofs.Common.{arith, refl, ap, sym, ◌∙◌, inl, inr, lit<, lit≤}
 use Rattle.std.proofs.lemmas.Bool.{cases_Bool}
@@ -15,9 +15,8 @@ use Rattle.rv_decode.specs.Table.{fits_key, table, row_of, ins_of_word, r_form, 
 use Rattle.rv_decode.specs.Table.{b_form, u_form, j_form, fence_form}
 use Rattle.rv_decode.specs.Table.Key.{Opcode, Funct3, Funct7, Whole}
 use Rattle.rv_decode.specs.Range.{HasFieldsInRange, IsSigned, IsEven}
-use Rattle.rv_decode.specs.Encoding.{IsWordOf}
-use Rattle.rv_decode.specs.Inner.Encoding.{word_of_fields, signed_bits, i_word, s_word, b_word}
-use Rattle.rv_decode.specs.Inner.Encoding.{u_word, j_word}
+use Rattle.rv_decode.specs.Encoding.{IsWordOf, encoding, word_of_fields, signed_bits, i_word}
+use Rattle.rv_decode.specs.Encoding.{s_word, b_word, u_word, j_word}
 use Rattle.rv_decode.proofs.Rows.{row_at, at_fields, opcode_is, funct3_is, funct7_is}
 use Rattle.rv_decode.proofs.Pieces.{Pieces, pieces, whole, high_bits, bit_31, bits_30_25, bit_7}
 use Rattle.rv_decode.proofs.Pieces.{bits_11_8, bits_small, bits_again, signed_again, UpperPieces}
@@ -25,57 +24,6 @@ use Rattle.rv_decode.proofs.Pieces.{upper_pieces, upper_whole, top_of_upper, low
 use Rattle.rv_decode.proofs.Pieces.{bits_30_21, high_joined, rs2_of_high, funct7_of_high, s_joined}
 use Rattle.rv_decode.proofs.Pieces.{s_low, s_high, b_joined, BranchParts, branch_parts, j_joined}
 use Rattle.rv_decode.proofs.Pieces.{JumpParts, jump_parts, even_bits_13, even_bits_21}
-
--- the word of each instruction
-abbrev pub encoding : Ins → ℕ
-encoding (Lui d upper) = u_word 0x37 d upper
-encoding (Auipc d upper) = u_word 0x17 d upper
-encoding (Jal d imm) = j_word 0x6F d (signed_bits 21 imm)
-encoding (Jalr d a imm) = i_word 0x67 0 d a (signed_bits 12 imm)
-encoding (Beq a b imm) = b_word 0x63 0 a b (signed_bits 13 imm)
-encoding (Bne a b imm) = b_word 0x63 1 a b (signed_bits 13 imm)
-encoding (Blt a b imm) = b_word 0x63 4 a b (signed_bits 13 imm)
-encoding (Bge a b imm) = b_word 0x63 5 a b (signed_bits 13 imm)
-encoding (Bltu a b imm) = b_word 0x63 6 a b (signed_bits 13 imm)
-encoding (Bgeu a b imm) = b_word 0x63 7 a b (signed_bits 13 imm)
-encoding (Lb d a imm) = i_word 0x03 0 d a (signed_bits 12 imm)
-encoding (Lh d a imm) = i_word 0x03 1 d a (signed_bits 12 imm)
-encoding (Lw d a imm) = i_word 0x03 2 d a (signed_bits 12 imm)
-encoding (Lbu d a imm) = i_word 0x03 4 d a (signed_bits 12 imm)
-encoding (Lhu d a imm) = i_word 0x03 5 d a (signed_bits 12 imm)
-encoding (Sb a b imm) = s_word 0x23 0 a b (signed_bits 12 imm)
-encoding (Sh a b imm) = s_word 0x23 1 a b (signed_bits 12 imm)
-encoding (Sw a b imm) = s_word 0x23 2 a b (signed_bits 12 imm)
-encoding (Addi d a imm) = i_word 0x13 0 d a (signed_bits 12 imm)
-encoding (Slti d a imm) = i_word 0x13 2 d a (signed_bits 12 imm)
-encoding (Sltiu d a imm) = i_word 0x13 3 d a (signed_bits 12 imm)
-encoding (Xori d a imm) = i_word 0x13 4 d a (signed_bits 12 imm)
-encoding (Ori d a imm) = i_word 0x13 6 d a (signed_bits 12 imm)
-encoding (Andi d a imm) = i_word 0x13 7 d a (signed_bits 12 imm)
-encoding (Slli d a k) = word_of_fields 0x13 d 1 a k 0
-encoding (Srli d a k) = word_of_fields 0x13 d 5 a k 0
-encoding (Srai d a k) = word_of_fields 0x13 d 5 a k 0x20
-encoding (Add d a b) = word_of_fields 0x33 d 0 a b 0
-encoding (Sub d a b) = word_of_fields 0x33 d 0 a b 0x20
-encoding (Sll d a b) = word_of_fields 0x33 d 1 a b 0
-encoding (Slt d a b) = word_of_fields 0x33 d 2 a b 0
-encoding (Sltu d a b) = word_of_fields 0x33 d 3 a b 0
-encoding (Xor d a b) = word_of_fields 0x33 d 4 a b 0
-encoding (Srl d a b) = word_of_fields 0x33 d 5 a b 0
-encoding (Sra d a b) = word_of_fields 0x33 d 5 a b 0x20
-encoding (Or d a b) = word_of_fields 0x33 d 6 a b 0
-encoding (And d a b) = word_of_fields 0x33 d 7 a b 0
-encoding (Mul d a b) = word_of_fields 0x33 d 0 a b 1
-encoding (Mulh d a b) = word_of_fields 0x33 d 1 a b 1
-encoding (Mulhsu d a b) = word_of_fields 0x33 d 2 a b 1
-encoding (Mulhu d a b) = word_of_fields 0x33 d 3 a b 1
-encoding (Div d a b) = word_of_fields 0x33 d 4 a b 1
-encoding (Divu d a b) = word_of_fields 0x33 d 5 a b 1
-encoding (Rem d a b) = word_of_fields 0x33 d 6 a b 1
-encoding (Remu d a b) = word_of_fields 0x33 d 7 a b 1
-encoding (Fence d a bits) = i_word 0x0F 0 d a bits
-encoding Ecall = 0x00000073
-encoding Ebreak = 0x00100073
 
 three_same : {A B C : Type 0} (make : A → B → C → Ins) {x x' : A} {y y' : B} {z z' : C} → x ≡ x'
     → y ≡ y' → z ≡ z' → Some (make x y z) ≡ Some (make x' y' z')
@@ -346,7 +294,7 @@ encoded_by (r ∷ rows) w ins h within found = elim (cases_Bool (fits_key r.0 w)
 ]
 
 -- the encoding of what a word is decoded to is the word
-pub encoding_again : (w : ℕ) (ins : Ins) → w < 2 ^ 32 → ins_of_word w ≡ Some ins → encoding ins ≡ w
+encoding_again : (w : ℕ) (ins : Ins) → w < 2 ^ 32 → ins_of_word w ≡ Some ins → encoding ins ≡ w
 unfolding ins_of_word
 encoding_again w ins within found = encoded_by table w ins each_encoded within found
 

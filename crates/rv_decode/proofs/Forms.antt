@@ -10,9 +10,8 @@ use Rattle.rv_decode.specs.declared.Ins.TheVariants.{Addi, Slti, Sltiu, Xori, Or
 use Rattle.rv_decode.specs.declared.Ins.TheVariants.{Srai, Add, Sub, Sll, Slt, Sltu, Xor, Srl, Sra}
 use Rattle.rv_decode.specs.declared.Ins.TheVariants.{Or, And, Mul, Mulh, Mulhsu, Mulhu, Div, Divu}
 use Rattle.rv_decode.specs.declared.Ins.TheVariants.{Rem, Remu, Fence, Ecall, Ebreak}
-use Rattle.rv_decode.specs.Encoding.{IsWordOf}
-use Rattle.rv_decode.specs.Inner.Encoding.{word_of_fields, signed_bits, i_word, s_word, b_word}
-use Rattle.rv_decode.specs.Inner.Encoding.{u_word, j_word}
+use Rattle.rv_decode.specs.Encoding.{encoding, word_of_fields, signed_bits, i_word, s_word, b_word}
+use Rattle.rv_decode.specs.Encoding.{u_word, j_word}
 use Rattle.rv_decode.specs.Inner.Names.{name}
 use Rattle.rv_decode.specs.Inner.Operands.{operands}
 use Rattle.rv_decode.specs.Inner.Operations.{operation}
@@ -24,7 +23,6 @@ use Rattle.rv_decode.specs.Text.{u_text}
 use Rattle.rv_decode.specs.declared.operands.Operands.{Operands}
 use Rattle.rv_decode.specs.declared.operands.Operands.TheVariants as form
 use Rattle.rv_decode.specs.declared.writing.Operation.{Operation}
-use Rattle.rv_decode.proofs.Encodings.{encoding, is_word_of}
 
 -- a number that is passed on as 32 bits is the number again
 pub imm_again : (make : ℤ → Operands) (imm : ℤ) (o : Operands) → SFits w32 imm → make imm ≡ o
@@ -362,7 +360,6 @@ operands_fit ins o e h = subst (λ x. AreInRange x) (sym e) (operands_in_range i
 
 -- what an arm writes of the operation and the operands is the instruction's word
 pub word_arm : (ins : Ins) (p : Operation) (o : Operands) (w : ℕ) → p ≡ operation ins
-    → o ≡ operands ins → HasFieldsInRange ins → w ≡ word_by p o → IsWordOf ins w
-word_arm ins p o w e f h written =
-    let is : word_by p o ≡ encoding ins = rw (e, f) (word_is ins) in
-    is_word_of ins w h (written ∙ is)
+    → o ≡ operands ins → w ≡ word_by p o → w ≡ encoding ins
+word_arm ins p o w e f written =
+    let is : word_by p o ≡ encoding ins = rw (e, f) (word_is ins) in written ∙ is

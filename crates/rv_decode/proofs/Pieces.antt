@@ -7,7 +7,7 @@ use Rattle.std.proofs.lemmas.Int.{ints}
 use Rattle.rv_decode.proofs.Bits.{power_twice}
 use Rattle.rv_decode.specs.Table.{bits, signed}
 use Rattle.rv_decode.specs.Range.{IsSigned, IsEven}
-use Rattle.rv_decode.specs.Inner.Encoding.{word_of_fields, signed_bits, u_word}
+use Rattle.rv_decode.specs.Encoding.{word_of_fields, signed_bits, u_word}
 
 -- the six fields of an assembled word
 pub record Pieces (w o d f a b g : ℕ) : Type 0 where

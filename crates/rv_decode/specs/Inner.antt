@@ -1,5 +1,4 @@
 -- What contracts inside the crate alone cite; no clause of a public call reaches it.
-pub mod Encoding
 pub mod Operands
 pub mod Names
 pub mod Operations

@@ -1,8 +1,7 @@
 // From an instruction to its word.
 ghost use Rattle.std.specs.Prelude.{◌≡◌, ◌+◌, ◌-◌, ◌<◌, ◌≤◌, ◌^◌, ◌/◌, ◌%◌, ◌*◌};
-ghost use Rattle.rv_decode.specs.Encoding.{IsWordOf};
-ghost use Rattle.rv_decode.specs.Inner.Encoding.{word_of_fields, signed_bits, i_word, s_word};
-ghost use Rattle.rv_decode.specs.Inner.Encoding.{b_word, u_word, j_word};
+ghost use Rattle.rv_decode.specs.Encoding.{IsWordOf, encoding, word_of_fields, signed_bits, i_word};
+ghost use Rattle.rv_decode.specs.Encoding.{s_word, b_word, u_word, j_word};
 ghost use Rattle.rv_decode.specs.Range.{HasFieldsInRange, IsSigned};
 ghost use Rattle.rv_decode.specs.Inner.Operations.{operation};
 
@@ -193,7 +192,8 @@ impl Ins {
 /// constant time; it takes no memory.
 pub fn encode(ins: &Ins) -> u32
     requires { HasFieldsInRange ins.now }
-    ensures { IsWordOf ins.now result }
+    ensures value { result ≡ encoding ins.now }
+    ensures is_word { IsWordOf ins.now result }
 {
     let Operation {
         opcode,

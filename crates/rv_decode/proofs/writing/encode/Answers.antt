@@ -1,7 +1,8 @@
 -- The word of each form is the one that is decoded to the instruction.
 use Rattle.std.proofs.Common.{ap, ◌∙◌, rules, lit≤}
-use Rattle.rv_decode.specs.Inner.Encoding.{i_word}
+use Rattle.rv_decode.specs.Encoding.{i_word}
 use Rattle.rv_decode.specs.declared.operands.Operands.TheVariants as form
+use Rattle.rv_decode.proofs.Encodings.{is_word_of}
 use Rattle.rv_decode.proofs.Forms.{imm_again, operation_fits, operands_fit, word_arm}
 use Rattle.rv_decode.proofs.writing.encode.Goals as goal
 
@@ -120,36 +121,45 @@ i_word-requires-in-Plain c =
 
 pub returns-in-R : goal.returns-in-R
 returns-in-R c =
-    word_arm _ _ _ _ c.operation-opcode.ensures c.in-R.ensures c.requires c.r_word.ensures
+    let e = word_arm _ _ _ _ c.operation-opcode.ensures c.in-R.ensures c.r_word.ensures in
+    record { value = e; is_word = is_word_of _ _ c.requires e }
 
 pub returns-in-Shift : goal.returns-in-Shift
 returns-in-Shift c =
-    word_arm _ _ _ _ c.operation-opcode.ensures c.in-Shift.ensures c.requires c.r_word-in-Shift.ensures
+    let e = word_arm _ _ _ _ c.operation-opcode.ensures c.in-Shift.ensures c.r_word-in-Shift.ensures in
+    record { value = e; is_word = is_word_of _ _ c.requires e }
 
 pub returns-in-I : goal.returns-in-I
 returns-in-I c =
-    word_arm _ _ _ _ c.operation-opcode.ensures (imm_again (form.I c.in-I.rd c.in-I.rs1) c.in-I.imm _ (search rules) c.in-I.ensures) c.requires (c.i_word.ensures ∙ ap (i_word _ _ _ _) c.bits_of.ensures.value)
+    let e = word_arm _ _ _ _ c.operation-opcode.ensures (imm_again (form.I c.in-I.rd c.in-I.rs1) c.in-I.imm _ (search rules) c.in-I.ensures) (c.i_word.ensures ∙ ap (i_word _ _ _ _) c.bits_of.ensures.value) in
+    record { value = e; is_word = is_word_of _ _ c.requires e }
 
 pub returns-in-Address : goal.returns-in-Address
 returns-in-Address c =
-    word_arm _ _ _ _ c.operation-opcode.ensures (imm_again (form.Address c.in-Address.rd c.in-Address.rs1) c.in-Address.imm _ (search rules) c.in-Address.ensures) c.requires (c.i_word-in-Address.ensures ∙ ap (i_word _ _ _ _) c.bits_of-in-Address.ensures.value)
+    let e = word_arm _ _ _ _ c.operation-opcode.ensures (imm_again (form.Address c.in-Address.rd c.in-Address.rs1) c.in-Address.imm _ (search rules) c.in-Address.ensures) (c.i_word-in-Address.ensures ∙ ap (i_word _ _ _ _) c.bits_of-in-Address.ensures.value) in
+    record { value = e; is_word = is_word_of _ _ c.requires e }
 
 pub returns-in-S : goal.returns-in-S
 returns-in-S c =
-    word_arm _ _ _ _ c.operation-opcode.ensures (imm_again (form.S c.in-S.rs1 c.in-S.rs2) c.in-S.imm _ (search rules) c.in-S.ensures) c.requires c.s_word.ensures
+    let e = word_arm _ _ _ _ c.operation-opcode.ensures (imm_again (form.S c.in-S.rs1 c.in-S.rs2) c.in-S.imm _ (search rules) c.in-S.ensures) c.s_word.ensures in
+    record { value = e; is_word = is_word_of _ _ c.requires e }
 
 pub returns-in-B : goal.returns-in-B
 returns-in-B c =
-    word_arm _ _ _ _ c.operation-opcode.ensures (imm_again (form.B c.in-B.rs1 c.in-B.rs2) c.in-B.imm _ (search rules) c.in-B.ensures) c.requires c.b_word.ensures
+    let e = word_arm _ _ _ _ c.operation-opcode.ensures (imm_again (form.B c.in-B.rs1 c.in-B.rs2) c.in-B.imm _ (search rules) c.in-B.ensures) c.b_word.ensures in
+    record { value = e; is_word = is_word_of _ _ c.requires e }
 
 pub returns-in-U : goal.returns-in-U
 returns-in-U c =
-    word_arm _ _ _ _ c.operation-opcode.ensures c.in-U.ensures c.requires c.u_word.ensures
+    let e = word_arm _ _ _ _ c.operation-opcode.ensures c.in-U.ensures c.u_word.ensures in
+    record { value = e; is_word = is_word_of _ _ c.requires e }
 
 pub returns-in-J : goal.returns-in-J
 returns-in-J c =
-    word_arm _ _ _ _ c.operation-opcode.ensures (imm_again (form.J c.in-J.rd) c.in-J.imm _ (search rules) c.in-J.ensures) c.requires c.j_word.ensures
+    let e = word_arm _ _ _ _ c.operation-opcode.ensures (imm_again (form.J c.in-J.rd) c.in-J.imm _ (search rules) c.in-J.ensures) c.j_word.ensures in
+    record { value = e; is_word = is_word_of _ _ c.requires e }
 
 pub returns-in-Plain : goal.returns-in-Plain
 returns-in-Plain c =
-    word_arm _ _ _ _ c.operation-opcode.ensures c.in-Plain.ensures c.requires c.i_word-in-Plain.ensures
+    let e = word_arm _ _ _ _ c.operation-opcode.ensures c.in-Plain.ensures c.i_word-in-Plain.ensures in
+    record { value = e; is_word = is_word_of _ _ c.requires e }
