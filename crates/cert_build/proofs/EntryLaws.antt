@@ -6,7 +6,7 @@ use Rattle.std.specs.Prelude.{◌==◌, is_some, All, AllPairs}
 use Rattle.std.proofs.lemmas.Bool.{cases_Bool, cases_eq, cases_lt, eqb-true, eq-eqb, ne_eqb}
 use Rattle.std.proofs.lemmas.Bool.{false≢true}
 use Rattle.std.proofs.lemmas.List.Elements.{All-append}
-use Rattle.crpd_base.proofs.Options.{not_none}
+use Rattle.crpd_base.proofs.Options.{none_some, not_none}
 use Rattle.crpd_base.specs.declared.data.Platform.{Platform}
 use Rattle.crpd_base.specs.declared.data.NodeState.{NodeState}
 use Rattle.crpd_base.specs.declared.data.TaskPart.{TaskPart}
@@ -142,10 +142,7 @@ module _ (g : Graph) (a : Accesses) (y n : ℕ) where
 -- the sets that surely hold a block are the platform's
 last_set : (p : Platform) (address : ℕ → ℕ) (s m : ℕ) (before : List ℕ) → 0 < p.sets
     → last_access (accesses p address) s before ≡ Some m → s < p.sets
-last_set p address s m [] some e = absurd (not_none e)
-  where
-    not_none : None ≡ Some m → ⊥
-    not_none e = cc
+last_set p address s m [] some e = absurd (none_some e)
 last_set p address s m (x ∷ before) some e =
     elim (cases_Bool ((accesses p address).set x == s)) [
       | inl b ↦ let same : (accesses p address).set x ≡ s =

@@ -5,10 +5,9 @@ use Rattle.std.specs.Prelude.{◌&&◌, ◌==◌, not}
 use Rattle.crpd_base.specs.declared.data.Platform.{Platform}
 use Rattle.crpd_base.specs.declared.data.TaskPart.{TaskPart}
 use Rattle.rv_decode.specs.declared.Ins.{Ins}
-use Rattle.rv_decode.specs.declared.Ins.TheVariants.{Lb, Lh, Lw, Lbu, Lhu, Sb, Sh, Sw, Mul, Mulh}
-use Rattle.rv_decode.specs.declared.Ins.TheVariants.{Mulhsu, Mulhu, Div, Divu, Rem, Remu}
-use Rattle.rv_decode.specs.Cost.{cost, work_cost, changes_flow}
+use Rattle.rv_decode.specs.Cost.{cost, changes_flow}
 use Rattle.rv_decode.specs.Flow.{flow}
+use Rattle.rv_decode.proofs.WorkCost.{same_work}
 use Rattle.flat_graph.specs.Graph.{IsGraph}
 use Rattle.flat_graph.specs.EdgeCost.{NodeCode, is_return}
 use Rattle.flat_graph.specs.CodeGraph.{CodeGraph, graph_of, HasCode}
@@ -101,31 +100,12 @@ same_graph_law p q g h n m G H N M S =
 abbrev pub seen : Platform → Platform → Platform
 seen p q = record p { switch = q.switch; switching = q.switching }
 
-work_same : (p q : Platform) (ins : Ins) → work_cost (seen p q) ins ≡ work_cost p ins
-unfolding work_cost
-work_same p q (Lb _ _ _) = refl
-work_same p q (Lh _ _ _) = refl
-work_same p q (Lw _ _ _) = refl
-work_same p q (Lbu _ _ _) = refl
-work_same p q (Lhu _ _ _) = refl
-work_same p q (Sb _ _ _) = refl
-work_same p q (Sh _ _ _) = refl
-work_same p q (Sw _ _ _) = refl
-work_same p q (Mul _ _ _) = refl
-work_same p q (Mulh _ _ _) = refl
-work_same p q (Mulhsu _ _ _) = refl
-work_same p q (Mulhu _ _ _) = refl
-work_same p q (Div _ _ _) = refl
-work_same p q (Divu _ _ _) = refl
-work_same p q (Rem _ _ _) = refl
-work_same p q (Remu _ _ _) = refl
-work_same p q _ = refl
-
 cost_same : (p q : Platform) (ins : Ins) (missed taken : Bool)
     → cost p ins missed taken ≡ cost (seen p q) ins missed taken
 cost_same p q ins missed taken =
     ap (λ w. p.hit + (if missed then p.miss else 0) + w
-    + (if taken && changes_flow ins then p.taken else 0)) (sym (work_same p q ins))
+    + (if taken && changes_flow ins then p.taken else 0))
+    (same_work p (seen p q) ins refl refl refl)
 
 costs_same : (p q : Platform) (l : NodeCode) (answers is_hit : ℕ → Bool)
     → edge_costs p l answers is_hit ≡ edge_costs (seen p q) l answers is_hit

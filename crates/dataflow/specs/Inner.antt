@@ -1,4 +1,2 @@
--- What contracts inside the crate cite. Of it clauses of public calls reach `first_unknown` alone:
--- where the paths of `Known` begin. Tests in `graph_rows` cite it too.
+-- What contracts inside the crate alone cite; no clause of a public call reaches it.
 pub mod Search
-pub mod Variable

@@ -21,6 +21,10 @@ common_value None o = None
 common_value (Some j) None = None
 common_value (Some j) (Some k) = if j == k then Some j else None
 
+-- paths begin at node 0, with an unknown variable
+abbrev pub first_unknown : ℕ → Option (Option ℕ)
+first_unknown n = if n == 0 then Some None else None
+
 abbrev pub one_if_unknown : Option ℕ → ℕ
 one_if_unknown None = 1
 one_if_unknown (Some k) = 0

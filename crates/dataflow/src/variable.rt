@@ -2,8 +2,7 @@
 ghost use Rattle.std.specs.Prelude.{◌≡◌, ◌<◌, ◌||◌, ℕ, Option, Some, None, Bool, false, length};
 ghost use Rattle.std.specs.Prelude.{slice_index_or};
 ghost use Rattle.dataflow.specs.Variable.{common_value, known_after, live_before, one_if_unknown};
-ghost use Rattle.dataflow.specs.Variable.{one_if_live};
-ghost use Rattle.dataflow.specs.Inner.Variable.{first_unknown};
+ghost use Rattle.dataflow.specs.Variable.{one_if_live, first_unknown};
 ghost use Rattle.dataflow.specs.declared.variable.Use.{Use};
 ghost use Rattle.dataflow.specs.VariableLaws.{or_joins, live_distributes, both_joins};
 ghost use Rattle.dataflow.specs.VariableLaws.{known_distributes, live_bounded, unknown_bounded};

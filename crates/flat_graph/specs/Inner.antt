@@ -1,5 +1,4 @@
--- What contracts inside the crate alone cite. Of it clauses of public calls reach `GivesFirst`
--- alone: what a step of `Successors` gives.
+-- What contracts inside the crate alone cite; no clause of a public call reaches it.
 pub mod GraphErrors
 pub mod GraphParts
 pub mod Leaders
@@ -8,5 +7,4 @@ pub mod Reach
 pub mod SameCode
 pub mod Spots
 pub mod StoredGraph
-pub mod Successors
 pub mod Ways

@@ -1,7 +1,13 @@
 -- The successors of a node.
-use Rattle.std.specs.Prelude.{◌≡◌, ℕ}
+use Rattle.std.specs.Prelude.{◌≡◌, ℕ, List, Option}
+use Rattle.std.specs.Iterator.{YieldsFirstBy}
+use Rattle.crpd_base.specs.declared.data.NodeId.{NodeId}
 use Rattle.flat_graph.specs.CodeGraph.{CodeGraph, graph_of, places_of, HasCode}
 use Rattle.flat_graph.specs.Graph.{Edge}
+
+-- a step gives the first of the nodes that are left
+abbrev pub GivesFirst : List ℕ → Option NodeId → List ℕ → Type 0
+GivesFirst = YieldsFirstBy (λ (n : NodeId). n.0) (λ left. left)
 
 -- two successors of a node at one address are one
 abbrev pub OneSuccessorLaw : Type 0

@@ -13,7 +13,7 @@ ghost use Rattle.std.specs.Cmp.Lexicographic.{texts_po};
 ghost use Rattle.std.specs.List.Sorted.{IsSearchInRange, IsBinarySearchResult};
 ghost use Rattle.std.specs.Ordering.{nat_cmp, as_partial_cmp};
 ghost use Rattle.flat_graph.specs.Inner.NumberingOrder.{flat_cmp, stand_node};
-ghost use Rattle.flat_graph.specs.Inner.Successors.{GivesFirst};
+ghost use Rattle.flat_graph.specs.Successors.{GivesFirst};
 ghost use Rattle.flat_graph.specs.CodeGraph.{HasCode, kind_of, graph_of, places_of, ins_of};
 
 use crate::node::{Node, kind_by};

@@ -1,8 +1,8 @@
 // Facts of small graphs, along the edges and against them, and how often nodes are visited. Against
 // the edges the fact before a node is what holds after it.
 ghost use Rattle.std.specs.Prelude.{ℕ, ◌<◌, Option, length, slice_index_or};
-ghost use Rattle.dataflow.specs.Variable.{common_value, known_after, one_if_unknown};
-ghost use Rattle.dataflow.specs.Inner.Variable.{first_unknown};
+ghost use Rattle.dataflow.specs.Variable.{common_value, first_unknown, known_after};
+ghost use Rattle.dataflow.specs.Variable.{one_if_unknown};
 ghost use Rattle.dataflow.specs.VariableLaws.{both_joins, known_distributes, unknown_bounded};
 ghost use Rattle.dataflow.specs.declared.variable.Use.{Use};
 

@@ -1,7 +1,7 @@
-use Rattle.std.proofs.Common.{◌≡◌, ℕ, ◌∙◌, ◌<◌, ◌^◌, Some, sym, ap, subst}
+use Rattle.std.proofs.Common.{◌≡◌, ℕ, ◌∙◌, sym, ap, subst}
 use Rattle.std.proofs.lemmas.Bool.{eqb-true, eq-eqb}
 use Rattle.crpd_base.proofs.Options.{some_injective}
-use Rattle.rv_decode.specs.Encoding.{IsWordOf}
+use Rattle.rv_decode.specs.Encoding.{IsWordOf, encoding}
 use Rattle.rv_decode.specs.Range.{HasFieldsInRange}
 use Rattle.rv_decode.specs.Table.{ins_of_word}
 use Rattle.rv_decode.specs.declared.Ins.{Ins}
@@ -12,11 +12,6 @@ use Rattle.cert_update.proofs.same.has_same_instruction.Goals as goal
 of_one_word : (a b : Ins) (v w : ℕ) → IsWordOf a v → IsWordOf b w → v ≡ w → a ≡ b
 of_one_word a b v w A B same =
     some_injective (sym A.decoded ∙ ap ins_of_word same ∙ B.decoded)
-
--- the same instruction has one word
-one_word : (a b : Ins) (v w : ℕ) → w < 2 ^ 32 → IsWordOf a v → IsWordOf b w → a ≡ b → v ≡ w
-one_word a b v w below A B same =
-    A.only w below (B.decoded ∙ ap (λ (i : Ins). Some i) (sym same))
 
 pub encode-requires : goal.encode-requires
 encode-requires c =
@@ -32,10 +27,10 @@ pub returns : goal.returns
 returns c = (
   (λ t.
       sym c.ins.ensures
-      ∙ of_one_word _ _ _ _ c.encode.ensures c.encode-2.ensures (eqb-true _ _ t)
+      ∙ of_one_word _ _ _ _ c.encode.ensures.is_word c.encode-2.ensures.is_word (eqb-true _ _ t)
       ∙ c.ins-2.ensures),
   (λ e.
       eq-eqb _ _
-      (one_word _ _ _ _ c.encode-2.type_inv c.encode.ensures c.encode-2.ensures
-      (c.ins.ensures ∙ e ∙ sym c.ins-2.ensures))),
+      (c.encode.ensures.value ∙ ap encoding (c.ins.ensures ∙ e ∙ sym c.ins-2.ensures)
+      ∙ sym c.encode-2.ensures.value)),
 )

@@ -17,13 +17,14 @@ returns-in-Some c = (
       let same : c.encode.result ≡ c.in-Some.word = eqb-true _ _ t in (
         c.in-Some.word,
         cc,
-        ap ins_of_word (sym same) ∙ c.encode.ensures.decoded ∙ ap (λ (i : Ins). Some i)
+        ap ins_of_word (sym same) ∙ c.encode.ensures.is_word.decoded ∙ ap (λ (i : Ins). Some i)
             c.ins.ensures,
       )),
   (λ s.
       let word : s.0 ≡ c.in-Some.word = cc (s.1, c.in-Some.ensures.is) in
       let below : s.0 < 2 ^ 32 = omega arith in
       let same : c.encode.result ≡ c.in-Some.word =
-      c.encode.ensures.only s.0 below (s.2 ∙ ap (λ (i : Ins). Some i) (sym c.ins.ensures)) ∙ word in
+      c.encode.ensures.is_word.only s.0 below (s.2 ∙ ap (λ (i : Ins). Some i) (sym c.ins.ensures))
+      ∙ word in
       eq-eqb _ _ same),
 )
