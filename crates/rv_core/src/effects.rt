@@ -3,6 +3,7 @@ ghost use Rattle.std.specs.Prelude.{◌<◌, ◌≡◌, ℕ, IfOk, IsOk, OnErr, 
 ghost use Rattle.rv_decode.specs.Range.{HasFieldsInRange};
 ghost use Rattle.rv_core.specs.Effect.{IsStore, branch, next_pc, registers_after, memory_after};
 ghost use Rattle.rv_core.specs.Effect.{written};
+ghost use Rattle.rv_core.specs.Sources.{SourcesTellEffect};
 
 use crate::Next;
 use crate::alu::{
@@ -151,3 +152,9 @@ pub fn effect(ins: &Ins, pc: u32, regs: &mut Regs, memory: &mut DataMemory) -> R
     carry_out(ins, pc, regs, memory)?;
     Ok(next)
 }
+
+/// A law: registers that hold the same in an instruction's sources tell its effect. In constant
+/// time.
+pub fn sources_tell_effect()
+    ensures { SourcesTellEffect }
+{}

@@ -1,6 +1,6 @@
 -- The data memory: a finite map, in the order of addresses, from addresses to the bytes that are
 -- not 0: what only contracts inside the crate cite.
-use Rattle.std.specs.Prelude.{ℕ, zero, suc, ◌/◌, ◌%◌, ◌^◌, not}
+use Rattle.std.specs.Prelude.{ℕ, zero, suc, ◌/◌, ◌%◌, ◌^◌}
 use Rattle.rv_core.specs.Memory.{Memory, put_byte, next_byte}
 
 -- the memory after a store of the low n bytes of a value, one after another
