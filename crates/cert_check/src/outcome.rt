@@ -6,7 +6,7 @@ use crpd_base::Task;
 
 /// Whether every clause holds for every task, or the first that does not, by its task, its number
 /// and its place.
-#[derive(Clone, Copy, Debug, PartialEq, Eq)]
+#[derive(Clone, Copy)]
 pub enum Verdict {
     /// Every clause holds for every task.
     Yes,

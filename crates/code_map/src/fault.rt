@@ -7,7 +7,7 @@ use crpd_base::{Task, Text};
 use std::alloc::{AllocError, AllocFailed};
 
 /// The first thing that is wrong with a task set and its files.
-#[derive(Debug, Drop)]
+#[derive(Drop)]
 pub enum MapError {
     /// There is no memory for the code map.
     Memory,

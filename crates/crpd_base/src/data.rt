@@ -4,7 +4,7 @@ use crate::lists::{Items, Text};
 use crate::set_bits::SetBits;
 
 /// Want of memory: an allocation was refused.
-#[derive(Clone, Copy, Debug, PartialEq, Eq)]
+#[derive(Clone, Copy, Debug)]
 pub struct Memory;
 
 /// A task's place in priority order, 0 the highest, at most 31.
@@ -177,7 +177,7 @@ pub struct TaskPlan {
 }
 
 /// A job of a script. Times are cycles from the run's start.
-#[derive(Clone, Copy, Debug, PartialEq, Eq)]
+#[derive(Clone, Copy)]
 pub struct ScriptJob {
     /// Its task, one of the set.
     pub task: Task,
@@ -201,7 +201,7 @@ pub struct Script {
 }
 
 /// By which delay a window is computed: the multiset methods of Altmeyer, Davis and Maiza (2012).
-#[derive(Clone, Copy, Debug, PartialEq, Eq)]
+#[derive(Clone, Copy, PartialEq, Eq)]
 pub enum Method {
     /// UCB-union multiset: the useful cache sets of the preempted tasks that the preempting task
     /// evicts.

@@ -11,7 +11,7 @@ use crpd_base::{MOST_TASKS, Method, Part, Task, TaskSet};
 use std::alloc::Global;
 
 /// A window in cycles, and the method by which it was found.
-#[derive(Clone, Copy, Debug, PartialEq, Eq)]
+#[derive(Clone, Copy)]
 pub struct Choice {
     /// Cycles from a release to the answer at most: 1 to the deadline less the jitter.
     pub window: u64,
@@ -20,7 +20,7 @@ pub struct Choice {
 }
 
 /// Why there are no windows: no memory, or the first task that has none by either method.
-#[derive(Clone, Copy, Debug, PartialEq, Eq)]
+#[derive(Clone, Copy)]
 pub enum WindowError {
     /// There is no memory for the choices.
     Memory,

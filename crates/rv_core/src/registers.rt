@@ -7,7 +7,7 @@ use std::marker::Model;
 /// 32 registers of 32 bits (RISC-V unprivileged manual, "Programmers' Model for Base Integer ISA").
 /// Register 0 reads
 /// 0. No call takes memory.
-#[derive(Clone, Copy, Debug, PartialEq, Eq)]
+#[derive(Clone, Copy)]
 pub struct Regs {
     values: [u32; 32],
 }
