@@ -1,6 +1,7 @@
 use Rattle.std.proofs.Common.{arith, ◌≡◌, ◌≤◌, ◌+◌, ◌*◌, length, ap, ◌∙◌, sym}
 use Rattle.std.specs.Prelude.{slice_index}
 use Rattle.std.proofs.Math.Nat.{mul-le-mul_left}
+use Rattle.std.proofs.lemmas.Grind.{common_steps}
 use Rattle.crpd_base.specs.Sets.{has}
 use Rattle.delay_count.specs.Gamma.{count_at, useful_at}
 use Rattle.delay_count.proofs.Bits.{product, shared_most}
@@ -70,3 +71,21 @@ loop-values-preserved g c =
       left = omega (arith, both.0, c.count_of_value-count.ensures, c.loop-values.invariant.left);
       bound = omega (arith, most, c.loop-values.invariant.bound);
     }
+
+pub overflow_add-charged : goal.overflow_add-charged
+overflow_add-charged g c = grind (arith, common_steps)
+
+pub overflow_add-result : goal.overflow_add-result
+overflow_add-result g c = grind (arith, common_steps)
+
+pub overflow_mul-charged : goal.overflow_mul-charged
+overflow_mul-charged g c = grind (arith, common_steps)
+
+pub overflow_mul-result : goal.overflow_mul-result
+overflow_mul-result g c = grind (arith, common_steps)
+
+pub overflow_mul-result-then-count-room : goal.overflow_mul-result-then-count-room
+overflow_mul-result-then-count-room g c = grind (arith, common_steps)
+
+pub overflow_mul-result-then-count-room-2 : goal.overflow_mul-result-then-count-room-2
+overflow_mul-result-then-count-room-2 g c = grind (arith, common_steps)
