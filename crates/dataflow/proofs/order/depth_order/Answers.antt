@@ -17,7 +17,12 @@ loop-k-init g c =
           (omega (arith, c.in_ok-search.ensures.seen)) c.in_ok-search.ensures.none
           c.in_ok-search.ensures.path c.in_ok-search.ensures.left;
       path = c.in_ok-search.ensures.path;
-      found = λ n lt. absurd (omega arith);
+      found = λ n lt.
+          absurd {
+          A = get_or c.in_ok-search.search.seen.items
+          (root_at c.args.from_last (g.G.Flow.node_count c.args.flow.now) n) false ≡ true
+          }
+          (omega arith);
     }
 
 pub returns : goal.returns
