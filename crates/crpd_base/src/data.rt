@@ -8,16 +8,16 @@ use crate::set_bits::SetBits;
 pub struct Memory;
 
 /// A task's place in priority order, 0 the highest, at most 31.
-#[derive(Clone, Copy, Debug, PartialEq, Eq)]
+#[derive(Clone, Copy, PartialEq, Eq)]
 pub struct Task(pub u8);
 
 /// A node's number in its task's flat graph, from 0, below 16,384. Nodes are ordered by context,
 /// then by address.
-#[derive(Clone, Copy, Debug, PartialEq, Eq)]
+#[derive(Clone, Copy, PartialEq, Eq)]
 pub struct NodeId(pub u32);
 
 /// A job: the job of this number of its task in the script.
-#[derive(Clone, Copy, Debug, PartialEq, Eq)]
+#[derive(Clone, Copy, PartialEq, Eq)]
 pub struct JobId {
     /// The job's task.
     pub task: Task,
@@ -26,7 +26,7 @@ pub struct JobId {
 }
 
 /// Where a switch from one job to another may happen.
-#[derive(Clone, Copy, Debug, PartialEq, Eq)]
+#[derive(Clone, Copy, PartialEq, Eq)]
 pub enum Switching {
     /// In every cycle; an interrupted instruction goes on later with the cycles it has left.
     Cycle,
@@ -36,7 +36,7 @@ pub enum Switching {
 
 /// The core and its direct-mapped instruction cache. Costs are in cycles, the further ones on top
 /// of `hit`.
-#[derive(Clone, Copy, Debug, PartialEq, Eq)]
+#[derive(Clone, Copy, PartialEq, Eq)]
 pub struct Platform {
     /// Length of a cache line in bytes: 4, 8, 16, 32 or 64. The block of a byte address is the
     /// address over it.

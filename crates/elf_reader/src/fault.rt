@@ -8,7 +8,7 @@ use thiserror::Error;
 
 /// The first thing that is wrong with the bytes of an ELF file. A number is the place of the first
 /// program header at fault, counted from 0 over the whole table, headers of every type included.
-#[derive(Clone, Copy, Debug, PartialEq, Eq, Error)]
+#[derive(Clone, Copy, Debug, Error)]
 pub enum ElfError {
     /// There is no memory for the image or for the tables that are read.
     #[error("out of memory")]
