@@ -58,11 +58,21 @@ fn shared_sets<const W: usize>(evicting_up: &SetBits<W>, lower: &[Share<W>]) -> 
     let mut values = [0; MOST_TASKS];
     for k in 0..lower.len() {
         let share = &lower[k];
-        let mut shared = share.useful;
-        shared.meet(evicting_up);
-        values[k] = shared.count();
+        values[k] = shared(&share.useful, evicting_up);
     }
     values
+}
+
+/// How many cache sets are in both: useful, and evicted. At most 64 * W, the number of cache sets
+/// there are. Its time is linear in W, which is at most 1,024; it takes no memory.
+pub fn shared<const W: usize>(useful: &SetBits<W>, evicted: &SetBits<W>) -> u32
+    requires { 64 * W ≤ 65536 }
+    ensures is { result ≡ shared_count (has useful.now) (has evicted.now) (64 * W) }
+    ensures most { result ≤ 64 * W }
+{
+    let mut sets = *useful;
+    sets.meet(evicted);
+    sets.count()
 }
 
 // The greatest of the first values below a level, or 0.

@@ -9,7 +9,7 @@ mod share;
 mod union;
 mod window_demand;
 
-pub use choice::gamma_ecb;
+pub use choice::{gamma_ecb, shared};
 pub use laws::growth_law;
 pub use rates::least_rate;
 pub use share::Share;

@@ -1,7 +1,7 @@
 use Rattle.std.proofs.Common.{arith, ◌*◌, ◌∙◌}
 use Rattle.crpd_base.specs.Sets.{has}
 use Rattle.delay_count.proofs.Bits.{shared_members, shared_most}
-use Rattle.delay_classic.proofs.delays.shared.Goals as goal
+use Rattle.delay_count.proofs.choice.shared.Goals as goal
 
 pub returns-clause-is : goal.returns-clause-is
 returns-clause-is g c =
