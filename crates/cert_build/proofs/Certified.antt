@@ -22,7 +22,7 @@ use Rattle.cert_check.specs.JudgeInput.{window_at, longest_at, task_name}
 use Rattle.crpd_base.proofs.Times.{has_times}
 use Rattle.crpd_base.specs.Names.{is_name}
 use Rattle.cert_model.specs.Reading.{task_entries, entries}
-use Rattle.cert_model.specs.Ranges.{IsTaskPart, IsCertificate}
+use Rattle.crpd_base.specs.CertificateRanges.{IsTaskPart, IsCertificate}
 use Rattle.cert_build.specs.Best.{IsBestPart, IsBest, demand_of}
 use Rattle.cert_build.specs.Analysis.{part_of_analysis, IsAnalysis, KeepsRanges}
 use Rattle.cert_build.specs.Assembly.{no_analysis, analysis_at, entries_of, AreAnalysed}

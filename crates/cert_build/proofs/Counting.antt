@@ -26,8 +26,8 @@ use Rattle.cert_check.specs.TaskGraphs.{task_graph, task_graph_at, nest_at}
 use Rattle.cert_check.proofs.Tasks.{graph_is, nest_is}
 use Rattle.crpd_base.specs.Names.{is_name}
 use Rattle.cert_model.specs.Reading.{task_entries, state_entries, entries}
-use Rattle.cert_model.specs.Ranges.{HasFewPairs, IsTaskPart}
-use Rattle.cert_model.proofs.Ranged.{rise_length}
+use Rattle.crpd_base.specs.CertificateRanges.{HasFewPairs, IsTaskPart}
+use Rattle.cert_model.proofs.Ranged.{few_nodes, few_of}
 use Rattle.cert_build.specs.Best.{IsBestPart}
 use Rattle.cert_build.specs.Analysis.{part_with, part_of_analysis, IsAnalysis, KeepsRanges}
 use Rattle.cert_build.specs.Analysis.{HasLargeBound}
@@ -79,17 +79,10 @@ ranged : (a : Analysis) → KeepsRanges a → IsTaskPart (part_with a (97 ∷ []
 ranged a R = R (97 ∷ []) Ucb 0 0 some_name (omega arith) (omega arith)
 
 pub few_states : (a : Analysis) → KeepsRanges a → length a.states ≤ 16384
-few_states a R =
-    let l = rise_length (λ (s : NodeState). s.node) 0 16384 a.states (omega arith)
-    (ranged a R).nodes in omega (arith, l)
+few_states a R = few_nodes (part_with a (97 ∷ []) Ucb 0 0) (ranged a R)
 
 pub few_pairs : (a : Analysis) → KeepsRanges a → All HasFewPairs a.states
-few_pairs a R k d l =
-    record {
-      few =
-          let n = rise_length (λ (x : ℕ × ℕ). x.0) 0 512 (get_or a.states k d).sure (omega arith)
-          ((ranged a R).states k d l).sets in omega (arith, n);
-    }
+few_pairs a R = few_of (part_with a (97 ∷ []) Ucb 0 0) (ranged a R)
 
 pub entries_map : (all : List Analysis) → entries (map part_of_analysis all) ≡ sum_by entries_of all
 entries_map [] = refl

@@ -18,7 +18,7 @@ use Rattle.useful_sets.specs.Sets.{AreUseful, sets_at}
 use Rattle.useful_sets.specs.Useful.{Useful}
 use Rattle.evict_sets.specs.ListedPart.{state_entry_of, block_of_set}
 use Rattle.cert_check.proofs.Leaders.{continues_one}
-use Rattle.cert_model.specs.Ranges.{RiseFrom, IsState}
+use Rattle.crpd_base.specs.CertificateRanges.{RiseFrom, IsState}
 use Rattle.cert_model.proofs.Ranged.{rise_wider}
 use Rattle.cert_build.specs.Best.{IsBestState, AreBestStates}
 use Rattle.cert_build.specs.Inner.Entries.{ListsSure, IsStateEntry, AreLeaderEntries}

@@ -13,7 +13,7 @@ use Rattle.exec_bound.specs.declared.fault.BoundError.TheVariants.{Memory, TooLa
 use Rattle.cert_check.specs.PotentialClauses.{edge_costs}
 use Rattle.cert_check.specs.JudgeInput.{accesses_of}
 use Rattle.crpd_base.specs.Names.{is_name}
-use Rattle.cert_model.specs.Ranges.{IsTaskPart}
+use Rattle.crpd_base.specs.CertificateRanges.{IsTaskPart}
 use Rattle.cert_build.specs.Best.{IsBestPart}
 use Rattle.cert_build.specs.declared.one_task.Analysis.{Analysis}
 

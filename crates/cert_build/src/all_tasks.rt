@@ -9,7 +9,7 @@ ghost use Rattle.loop_regions.specs.CodeNest.{IsNestOf};
 ghost use Rattle.cert_check.specs.TaskGraphs.{task_graph, task_graph_at, AreTaskGraphs};
 ghost use Rattle.cert_check.specs.Verdict.{IsJudged, Yes};
 ghost use Rattle.cert_model.specs.Reading.{entries};
-ghost use Rattle.cert_model.specs.Ranges.{IsCertificate};
+ghost use Rattle.crpd_base.specs.CertificateRanges.{IsCertificate};
 ghost use Rattle.cert_build.specs.Best.{IsBest};
 ghost use Rattle.cert_build.specs.declared.one_task.Analysis.{Analysis};
 ghost use Rattle.cert_build.specs.Analysis.{IsAnalysis, KeepsRanges};

@@ -31,8 +31,8 @@ use Rattle.cert_model.specs.Kinds as kind
 use Rattle.crpd_base.specs.Names.{is_line_length, is_name, method_name}
 use Rattle.cert_model.specs.Kinds.{whole, below, all_of, rising, words_of, is_in, pair}
 use Rattle.cert_model.specs.Kinds.{pairs_from, state_of, states_from}
-use Rattle.cert_model.specs.Ranges.{RiseFrom, IsState, ArePotentials, IsTaskPart, AreTasks}
-use Rattle.cert_model.specs.Ranges.{IsCertificate}
+use Rattle.crpd_base.specs.CertificateRanges.{RiseFrom, IsState, ArePotentials, IsTaskPart}
+use Rattle.crpd_base.specs.CertificateRanges.{AreTasks, IsCertificate}
 use Rattle.cert_model.specs.Inner.Ranges.{HasSetWords}
 use Rattle.cert_model.specs.Reading.{cycles, version_at, second_platform, fields_at, task_at}
 use Rattle.cert_model.specs.Reading.{tasks_at, entries, within_entry_limit, certificate_at}

@@ -31,8 +31,8 @@ use Rattle.cert_model.specs.Kinds as kind
 use Rattle.crpd_base.specs.Names.{is_between, is_line_length, is_name}
 use Rattle.cert_model.specs.Kinds.{whole, below, unsigned_number, all_of, listed, pair, pairs_from}
 use Rattle.cert_model.specs.Kinds.{state_of, three_items, states_from}
-use Rattle.cert_model.specs.Ranges.{RiseFrom, IsState, ArePotentials, IsTaskPart, AreTasks}
-use Rattle.cert_model.specs.Ranges.{HasFewPairs, IsCertificate}
+use Rattle.crpd_base.specs.CertificateRanges.{RiseFrom, IsState, ArePotentials, IsTaskPart}
+use Rattle.crpd_base.specs.CertificateRanges.{AreTasks, HasFewPairs, IsCertificate}
 use Rattle.cert_model.specs.Reading.{most_sets, most_nodes, most_tasks, cycles, version_at}
 use Rattle.cert_model.specs.Reading.{first_platform, second_platform, platform_at, fields_at}
 use Rattle.cert_model.specs.Reading.{task_at, tasks_at, entries, within_entry_limit, certificate_at}
@@ -425,24 +425,28 @@ task_of : (tasks : List TaskPart) (i : ℕ) (t : TaskPart) → AreTasks tasks �
     → t ≡ get_or tasks i t → IsTaskPart t
 task_of tasks i t are lt is = subst IsTaskPart (sym is) (are.each i t lt)
 
--- a task of a certificate has few nodes, and each of them few pairs
+-- a task has few nodes, and each of them few pairs
+pub few_nodes : (t : TaskPart) → IsTaskPart t → length t.states ≤ 16384
+few_nodes t is =
+    omega (arith, rise_length (λ (s : NodeState). s.node) 0 16384 t.states (omega arith) is.nodes)
+
+pub few_of : (t : TaskPart) → IsTaskPart t → All HasFewPairs t.states
+few_of t is k d h = record {
+  few =
+      omega (
+        arith,
+        rise_length (λ (p : ℕ × ℕ). p.0) 0 512 _ (omega arith) (is.states k d h).sets,
+      );
+}
+
+-- so each task of a certificate
 pub few_states : (tasks : List TaskPart) (i : ℕ) (t : TaskPart) → AreTasks tasks → i < length tasks
     → t ≡ get_or tasks i t → length t.states ≤ 16384
-few_states tasks i t are lt is =
-    omega (
-      arith,
-      rise_length (λ (s : NodeState). s.node) 0 16384 t.states (omega arith)
-          (task_of tasks i t are lt is).nodes,
-    )
-
-few_of : (s : NodeState) → IsState s → HasFewPairs s
-few_of s is = record {
-  few = omega (arith, rise_length (λ (p : ℕ × ℕ). p.0) 0 512 s.sure (omega arith) is.sets);
-}
+few_states tasks i t are lt is = few_nodes t (task_of tasks i t are lt is)
 
 pub few_pairs : (tasks : List TaskPart) (i : ℕ) (t : TaskPart) → AreTasks tasks → i < length tasks
     → t ≡ get_or tasks i t → All HasFewPairs t.states
-few_pairs tasks i t are lt is = λ k d h. few_of _ ((task_of tasks i t are lt is).states k d h)
+few_pairs tasks i t are lt is = few_of t (task_of tasks i t are lt is)
 
 -- ---- the certificate
 

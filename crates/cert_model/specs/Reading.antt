@@ -4,9 +4,8 @@ use Rattle.std.specs.Prelude.{ℕ, ◌+◌, ◌^◌, List, [], length, codes, �
 use Rattle.std.specs.Prelude.{nat_lt, Result, Ok, Err, if◌then◌else◌, sum_by}
 use Rattle.std.specs.Str.{is_utf8}
 use Rattle.crpd_base.specs.Limits.{most_cost, longest_time, most_entries}
-use Rattle.crpd_base.specs.Sets.{members_below}
+pub use Rattle.crpd_base.specs.Entries.{set_size, state_entries, task_entries, entries}
 use Rattle.crpd_base.specs.declared.data.Certificate.{Certificate}
-use Rattle.crpd_base.specs.declared.data.NodeState.{NodeState}
 use Rattle.crpd_base.specs.declared.data.Platform.{Platform}
 use Rattle.crpd_base.specs.declared.data.Switching.TheVariants.{Cycle}
 use Rattle.crpd_base.specs.declared.data.TaskPart.{TaskPart}
@@ -138,21 +137,6 @@ abbrev pub task_at : Version → ℕ → Members → Result TaskPart CertError
 task_at version i = fields_at version (item_path [] (codes "tasks") i)
 
 -- ---- the certificate
-
--- how many numbers a set of cache sets has
-unfoldable pub set_size : List ℕ → ℕ
-set_size words = members_below words 512
-
--- the sure pairs and the useful sets of a node
-abbrev pub state_entries : NodeState → ℕ
-state_entries s = length s.sure + set_size s.useful
-
-abbrev pub task_entries : TaskPart → ℕ
-task_entries t = sum_by state_entries t.states
-
--- the state entries of a certificate
-abbrev pub entries : List TaskPart → ℕ
-entries tasks = sum_by task_entries tasks
 
 unfoldable pub within_entry_limit : Certificate → Result Certificate CertError
 within_entry_limit c =

@@ -6,7 +6,7 @@ ghost use Rattle.serde_json.specs.View.{view, members_view};
 ghost use Rattle.crpd_base.specs.Outcome.{Gives};
 ghost use Rattle.cert_model.specs.Keys.{required};
 ghost use Rattle.cert_model.specs.Kinds as kind;
-ghost use Rattle.cert_model.specs.Ranges.{AreTasks, HasFewPairs, IsCertificate};
+ghost use Rattle.crpd_base.specs.CertificateRanges.{AreTasks, HasFewPairs, IsCertificate};
 ghost use Rattle.cert_model.specs.Reading as spec;
 ghost use Rattle.cert_model.specs.Reading.{reading};
 

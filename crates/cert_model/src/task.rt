@@ -6,7 +6,7 @@ ghost use Rattle.crpd_base.specs.Outcome.{Gives};
 ghost use Rattle.toml_keys.specs.Reading.{each};
 ghost use Rattle.cert_model.specs.Keys.{required};
 ghost use Rattle.cert_model.specs.Kinds as kind;
-ghost use Rattle.cert_model.specs.Ranges.{AreTasks};
+ghost use Rattle.crpd_base.specs.CertificateRanges.{AreTasks};
 ghost use Rattle.cert_model.specs.Reading as spec;
 
 use crate::fault::CertError;

@@ -7,7 +7,7 @@ ghost use Rattle.crpd_base.specs.declared.data.NodeState.{NodeState};
 ghost use Rattle.json.specs.Lex.{tokens};
 ghost use Rattle.serde_json.specs.Data.{array, object, string};
 ghost use Rattle.serde_json.specs.View.{items_of};
-ghost use Rattle.cert_model.specs.Ranges.{IsCertificate};
+ghost use Rattle.crpd_base.specs.CertificateRanges.{IsCertificate};
 ghost use Rattle.cert_model.specs.Inner.Ranges.{HasSetWords};
 ghost use Rattle.cert_model.specs.Reading.{reading};
 ghost use Rattle.cert_model.specs.Inner.Tokens.{Appends, AppendsAt, IsNextMember, NoneInWord};

@@ -1,7 +1,7 @@
 // Task sets with all that is built for them, and certificates in range.
 ghost use Rattle.std.specs.Prelude.{◌≡◌, IfOk, length};
 ghost use Rattle.crpd_base.specs.Ranges.{IsTaskSet};
-ghost use Rattle.cert_model.specs.Ranges.{IsCertificate};
+ghost use Rattle.crpd_base.specs.CertificateRanges.{IsCertificate};
 ghost use Rattle.cert_check.specs.TaskGraphs.{AreTaskGraphs, IsCertificateInRange};
 
 use crate::texts::{Told, text_of};

@@ -1,6 +1,6 @@
 // Certificates of two small programs, updated to changed sets.
 ghost use Rattle.crpd_base.specs.Ranges.{IsTaskSet};
-ghost use Rattle.cert_model.specs.Ranges.{IsCertificate};
+ghost use Rattle.crpd_base.specs.CertificateRanges.{IsCertificate};
 ghost use Rattle.cert_check.specs.TaskGraphs.{AreTaskGraphs, IsCertificateInRange};
 
 use crate::made::written;

@@ -16,7 +16,7 @@ use Rattle.response.specs.Windows.{IsFirstWithoutWindow}
 use Rattle.cert_check.specs.JudgeInput.{longest_at}
 use Rattle.cert_check.specs.TaskGraphs.{AreTaskGraphs}
 use Rattle.crpd_base.proofs.Times.{has_times}
-use Rattle.cert_model.specs.Ranges.{IsCertificate}
+use Rattle.crpd_base.specs.CertificateRanges.{IsCertificate}
 use Rattle.cert_model.specs.Reading.{entries}
 use Rattle.cert_build.specs.Analysis.{part_with, part_of_analysis}
 use Rattle.cert_build.specs.Assembly.{analysis_at, entries_of}

@@ -5,7 +5,7 @@ ghost use Rattle.crpd_base.specs.declared.data.Certificate.{Certificate};
 ghost use Rattle.flat_graph.specs.CodeGraph.{CodeGraph, HasCode};
 ghost use Rattle.cert_check.specs.TaskGraphs.{task_graph_at, AreTaskGraphs};
 ghost use Rattle.cert_check.specs.Verdict.{IsJudged, Yes};
-ghost use Rattle.cert_model.specs.Ranges.{IsCertificate};
+ghost use Rattle.crpd_base.specs.CertificateRanges.{IsCertificate};
 ghost use Rattle.cert_build.specs.Best.{IsBest};
 ghost use Rattle.cert_build.specs.Assembly.{analysis_at, entries_of};
 ghost use Rattle.cert_build.specs.Certify.{IsCompleted};

@@ -5,5 +5,7 @@ pub mod Numbers
 pub mod Sets
 pub mod Sum
 pub mod Ranges
+pub mod Entries
+pub mod CertificateRanges
 pub mod Tasks
 pub mod Outcome

@@ -1,6 +1,6 @@
 // The certificate of a file.
 ghost use Rattle.std.specs.Prelude.{◌≡◌, ◌≤◌, IsErrOf, IfOk};
-ghost use Rattle.cert_model.specs.Ranges.{IsCertificate};
+ghost use Rattle.crpd_base.specs.CertificateRanges.{IsCertificate};
 ghost use Rattle.crpd_io.specs.Outside.{Rose};
 ghost use Rattle.crpd_input.specs.Steps.{IsRefusal, Means, HoldsWhereTold};
 ghost use Rattle.crpd_input.specs.Reading.{certificate_in, certificate_halt as certificate_stop};

@@ -22,13 +22,13 @@ use Rattle.cert_check.specs.declared.outcome.Clause.TheVariants.{Deadline, HasTa
 use Rattle.cert_check.specs.Verdict.{IsJudged, Yes}
 use Rattle.cert_check.proofs.Clauses.{yes_meets_listing}
 use Rattle.cert_check.specs.declared.outcome.Verdict.TheVariants as verdict
-use Rattle.cert_model.specs.Ranges.{IsCertificate}
+use Rattle.crpd_base.specs.CertificateRanges.{IsCertificate}
 use Rattle.run_account.specs.AccountGraphs.{AreGraphsOf, TasksAreMet}
 use Rattle.crpd_input.specs.declared.input.Input.{Input}
 use Rattle.crpd_input.specs.declared.shapes.Shapes.{Shapes}
 use Rattle.crpd_input.specs.declared.halt.Halt.{Halt}
 use Rattle.crpd_input.specs.Shapes.{ShapesIn}
-use Rattle.cert_build.proofs.InRange.{in_range}
+use Rattle.cert_check.proofs.InRange.{in_range}
 use Rattle.crpd_report.specs.Explain.{HasWindowOfEach}
 use Rattle.crpd_tool.specs.Check.{verdict_answer}
 use Rattle.crpd_tool.specs.Explain.{AccountOf, ExplanationOf}

@@ -1,6 +1,6 @@
 // How commands that make a certificate end.
 ghost use Rattle.std.specs.Prelude.{◌≡◌, IfOk, IsErrOf, Ok};
-ghost use Rattle.cert_model.specs.Ranges.{IsCertificate};
+ghost use Rattle.crpd_base.specs.CertificateRanges.{IsCertificate};
 ghost use Rattle.cert_model.specs.Reading.{reading};
 ghost use Rattle.cert_model.specs.Writing.{text as text_of};
 ghost use Rattle.crpd_input.specs.Steps.{Exactly, MeansBy};

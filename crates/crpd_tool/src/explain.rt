@@ -2,7 +2,7 @@
 ghost use Rattle.std.specs.Prelude.{◌≡◌, ◌≤◌, length, IfOk, IsErrOf, Ok};
 ghost use Rattle.cert_check.specs.TaskGraphs.{AreTaskGraphs, task_graph_at};
 ghost use Rattle.cert_check.specs.Verdict.{IsJudged, Yes};
-ghost use Rattle.cert_model.specs.Ranges.{IsCertificate};
+ghost use Rattle.crpd_base.specs.CertificateRanges.{IsCertificate};
 ghost use Rattle.crpd_base.specs.Ranges.{IsTaskSet};
 ghost use Rattle.crpd_io.specs.Outside.{Rose};
 ghost use Rattle.crpd_input.specs.Shapes.{ShapesIn};

@@ -3,7 +3,7 @@ ghost use Rattle.std.specs.Prelude.{◌≡◌, ◌^◌, ◌<◌, ◌≤◌, leng
 ghost use Rattle.std.specs.Prelude.{Ok};
 ghost use Rattle.cert_build.specs.Best.{IsBest};
 ghost use Rattle.cert_check.specs.TaskGraphs.{AreTaskGraphs, task_graph_at};
-ghost use Rattle.cert_model.specs.Ranges.{IsCertificate};
+ghost use Rattle.crpd_base.specs.CertificateRanges.{IsCertificate};
 ghost use Rattle.crpd_base.specs.Ranges.{IsTaskSet};
 ghost use Rattle.preempt_machine.specs.Safe.{NamesTasks};
 ghost use Rattle.crpd_report.specs.Generate.{made_line};

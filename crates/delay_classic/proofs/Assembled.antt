@@ -20,7 +20,7 @@ use Rattle.response.specs.Windows.{IsFirstWithoutWindow, method_at, window_at as
 use Rattle.response.proofs.WindowLaws.{smaller_is_window, smaller_too}
 use Rattle.response.proofs.Choices.{first_too}
 use Rattle.cert_check.specs.JudgeInput.{window_at, certified_part, longest_at, task_name}
-use Rattle.cert_model.specs.Ranges.{IsCertificate}
+use Rattle.crpd_base.specs.CertificateRanges.{IsCertificate}
 use Rattle.cert_model.specs.Reading.{entries}
 use Rattle.cert_build.specs.Analysis.{part_with, part_of_analysis}
 use Rattle.cert_build.specs.Assembly.{no_analysis, analysis_at, IsAssembled}

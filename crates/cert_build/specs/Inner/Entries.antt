@@ -6,7 +6,7 @@ use Rattle.flat_graph.specs.Graph.{Graph, Continues}
 use Rattle.icache.specs.Accesses.{Accesses}
 use Rattle.must_cache.specs.Sure.{Sure}
 use Rattle.evict_sets.specs.ListedPart.{block_of_set, state_entry_of}
-use Rattle.cert_model.specs.Ranges.{RiseFrom, IsState}
+use Rattle.crpd_base.specs.CertificateRanges.{RiseFrom, IsState}
 use Rattle.cert_build.specs.Best.{IsBestState}
 
 -- the pairs of the sets below n that surely hold a block before node y, by ascending set

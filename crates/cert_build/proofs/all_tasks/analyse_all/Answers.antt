@@ -6,7 +6,7 @@ use Rattle.loop_regions.specs.TaskGraph.{TaskGraph}
 use Rattle.flat_graph.specs.CodeGraph.{no_graph}
 use Rattle.cert_check.specs.TaskGraphs.{task_graph_at}
 use Rattle.cert_model.specs.Reading.{state_entries}
-use Rattle.cert_model.specs.Ranges.{HasFewPairs}
+use Rattle.crpd_base.specs.CertificateRanges.{HasFewPairs}
 use Rattle.cert_build.specs.Analysis.{IsAnalysis}
 use Rattle.cert_build.specs.Inner.Assembly.{IsTaskError}
 use Rattle.cert_build.proofs.Counting.{at_task, few_states, few_pairs, counted_more, all_kept}

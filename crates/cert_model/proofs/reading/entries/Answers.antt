@@ -1,7 +1,7 @@
 use Rattle.std.proofs.Common.{◌≤◌, length, subst, sym}
 use Rattle.std.specs.Prelude.{All, List}
 use Rattle.crpd_base.specs.declared.data.NodeState.{NodeState}
-use Rattle.cert_model.specs.Ranges.{HasFewPairs}
+use Rattle.crpd_base.specs.CertificateRanges.{HasFewPairs}
 use Rattle.cert_model.proofs.Ranged.{few_states, few_pairs}
 use Rattle.cert_model.proofs.reading.entries.Goals as goal
 

@@ -1,6 +1,6 @@
 use Rattle.std.proofs.Common.{ℕ, ◌≤◌, subst, sym}
 use Rattle.crpd_base.proofs.Bits.{members_below-le}
-use Rattle.cert_model.specs.Reading.{set_size}
+use Rattle.crpd_base.specs.Entries.{set_size}
 use Rattle.cert_model.proofs.reading.set_size.Goals as goal
 
 pub returns-clause-is : goal.returns-clause-is

@@ -2,7 +2,7 @@ use Rattle.std.proofs.Common.{◌≤◌, List, length, sym, ap, ◌∙◌, subst
 use Rattle.std.specs.Prelude.{sum_by}
 use Rattle.std.proofs.lemmas.Result.{err_from_is_err_and}
 use Rattle.crpd_base.specs.declared.data.NodeState.{NodeState}
-use Rattle.cert_model.specs.Ranges.{HasFewPairs}
+use Rattle.crpd_base.specs.CertificateRanges.{HasFewPairs}
 use Rattle.cert_model.specs.Reading.{state_entries}
 use Rattle.cert_update.specs.Inner.Coded.{coded_side}
 use Rattle.cert_update.specs.Inner.Parts.{CountsNewEntries}

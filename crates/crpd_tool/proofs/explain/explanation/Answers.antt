@@ -3,7 +3,7 @@ use Rattle.std.specs.Prelude.{IfOk}
 use Rattle.cert_check.specs.FirstFailing.{answer_of}
 use Rattle.cert_check.specs.Verdict.{Yes}
 use Rattle.cert_check.specs.declared.outcome.Verdict.TheVariants as verdict
-use Rattle.cert_build.proofs.InRange.{in_range}
+use Rattle.cert_check.proofs.InRange.{in_range}
 use Rattle.crpd_tool.specs.Check.{verdict_answer}
 use Rattle.crpd_tool.proofs.Explaining.{after_no, after_yes}
 use Rattle.crpd_tool.proofs.Judged.{judged_over}

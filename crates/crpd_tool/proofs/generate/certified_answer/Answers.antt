@@ -2,7 +2,7 @@ use Rattle.std.proofs.Common.{◌≡◌, ◌∙◌, ℕ, List, Ok, ap, inl}
 use Rattle.cert_check.specs.FirstFailing.{answer_of}
 use Rattle.preempt_machine.specs.declared.Completion.{Completion}
 use Rattle.crpd_report.specs.Generate.{generate_text}
-use Rattle.cert_build.proofs.InRange.{in_range}
+use Rattle.cert_check.proofs.InRange.{in_range}
 use Rattle.crpd_tool.specs.declared.answer.Answer.{Answer}
 use Rattle.crpd_tool.specs.Generate.{made_answer, node_count}
 use Rattle.crpd_tool.specs.Simulate.{completions_of, run_of}

@@ -9,7 +9,7 @@ use Rattle.crpd_input.specs.declared.halt.Halt.TheVariants.{Refused, Memory, Fau
 use Rattle.crpd_input.specs.declared.input.Input.{Input}
 use Rattle.crpd_input.specs.declared.shapes.Shapes.{Shapes}
 use Rattle.crpd_input.specs.Steps.{MeansBy}
-use Rattle.cert_build.proofs.InRange.{in_range}
+use Rattle.cert_check.proofs.InRange.{in_range}
 use Rattle.crpd_tool.specs.declared.answer.Answer.{Answer}
 use Rattle.crpd_tool.specs.Check.{verdict_answer}
 use Rattle.crpd_tool.specs.Update.{ChangeOf, UpdateOf}

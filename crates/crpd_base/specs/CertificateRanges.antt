@@ -7,7 +7,7 @@ use Rattle.crpd_base.specs.declared.data.Certificate.{Certificate}
 use Rattle.crpd_base.specs.declared.data.NodeState.{NodeState}
 use Rattle.crpd_base.specs.declared.data.TaskPart.{TaskPart}
 use Rattle.crpd_base.specs.Names.{is_name}
-use Rattle.cert_model.specs.Reading.{entries}
+use Rattle.crpd_base.specs.Entries.{entries}
 
 -- each number is above the one before: from low on, below a limit
 abbrev pub RiseFrom : {A : Type 0} → (A → ℕ) → ℕ → ℕ → List A → Type 0

@@ -1,0 +1,20 @@
+-- The state entries of a certificate.
+use Rattle.std.specs.Prelude.{ℕ, ◌+◌, List, length, sum_by}
+use Rattle.crpd_base.specs.Sets.{members_below}
+use Rattle.crpd_base.specs.declared.data.NodeState.{NodeState}
+use Rattle.crpd_base.specs.declared.data.TaskPart.{TaskPart}
+
+-- how many numbers a set of cache sets has
+unfoldable pub set_size : List ℕ → ℕ
+set_size words = members_below words 512
+
+-- the sure pairs and the useful sets of a node
+abbrev pub state_entries : NodeState → ℕ
+state_entries s = length s.sure + set_size s.useful
+
+abbrev pub task_entries : TaskPart → ℕ
+task_entries t = sum_by state_entries t.states
+
+-- the state entries of a certificate
+abbrev pub entries : List TaskPart → ℕ
+entries tasks = sum_by task_entries tasks
