@@ -12,7 +12,7 @@ use Rattle.flat_graph.specs.EdgeCost.{is_return}
 use Rattle.evict_sets.specs.Full.{Listed}
 use Rattle.icache.specs.Accesses.{Accesses}
 use Rattle.evict_sets.proofs.FullLaws.{hit_test_law}
-use Rattle.loop_regions.specs.Potentials.{Potentials, item_potential}
+use Rattle.loop_regions.specs.Potentials.{Potentials, item_potential, MeetsAt}
 use Rattle.crpd_base.specs.declared.data.Certificate.{Certificate}
 use Rattle.evict_sets.specs.ListedPart.{listed_of, certified_task}
 use Rattle.cert_check.specs.ListedPotentials.{potentials_of}
@@ -41,28 +41,29 @@ tests_agree g a l one two u p q h =
     both_ways (one u) (two u) (λ t. (q u h).1 ((p u h).0 t)) (λ t. (p u h).1 ((q u h).0 t))
 
 -- the inequalities at a node see the test at that node only
-pub same_meets : (p : Platform) (t : TaskGraph) (pot : Potentials) (one two : ℕ → Bool) (u : ℕ)
-    → one u ≡ two u → PotentialsMeet t.graph t.nest
-    (edge_costs p (node_code_of t) (answering t) one) pot u
-    → PotentialsMeet t.graph t.nest (edge_costs p (node_code_of t) (answering t) two) pot u
-same_meets p t pot one two u e m =
-    record {
-      edges = record {
+module _ (p : Platform) (t : TaskGraph) (pot : Potentials) (one two : ℕ → Bool) (u : ℕ)
+    (same : one u ≡ two u) where
+  pub same_edges : MeetsAt t.graph t.nest (edge_costs p (node_code_of t) (answering t) one) pot u
+      → MeetsAt t.graph t.nest (edge_costs p (node_code_of t) (answering t) two) pot u
+  same_edges m =
+      record {
         edge = λ v w.
             subst (λ b. cost p (t.ins u) (not b)
-            (not (t.places.address v == t.places.address u + 4)) ≤ pot.node u) e (m.edges.edge v w);
+            (not (t.places.address v == t.places.address u + 4)) ≤ pot.node u) same (m.edge v w);
         end = λ a.
             subst (λ b. cost p (t.ins u) (not b) (is_return (flow (t.places.address u) (t.ins u)))
-            ≤ pot.node u) e (m.edges.end a);
+            ≤ pot.node u) same (m.end a);
         inside = λ v i w n o it.
             subst (λ b. cost p (t.ins u) (not b)
             (not (t.places.address v == t.places.address u + 4)) + item_potential pot i
-            ≤ pot.node u) e (m.edges.inside v i w n o it);
-        exit = m.edges.exit;
-      };
-      left = m.left;
-      loop = m.loop;
-    }
+            ≤ pot.node u) same (m.inside v i w n o it);
+        exit = m.exit;
+      }
+
+  pub same_meets : PotentialsMeet t.graph t.nest
+      (edge_costs p (node_code_of t) (answering t) one) pot u
+      → PotentialsMeet t.graph t.nest (edge_costs p (node_code_of t) (answering t) two) pot u
+  same_meets m = record { edges = same_edges m.edges; left = m.left; loop = m.loop }
 
 -- the clauses of the nodes and the bound, with a test of the hits that are counted
 pub record GraphMeets (p : Platform) (t : TaskGraph) (c : TaskPart) : Type 0 where
