@@ -1,12 +1,12 @@
 -- Lists: what is in them and where, and one element more.
 use Rattle.std.proofs.Common.{◌≡◌, ◌≢◌, ◌⊎◌, ℕ, zero, suc, ◌+◌, ◌<◌, List, [], ◌∷◌, ◌++◌, map}
-use Rattle.std.proofs.Common.{length, get_or, slice_get, Some, Contains, refl, sym, ap, ◌∙◌, subst}
-use Rattle.std.proofs.Common.{inl, inr, ⊎_elim, arith}
+use Rattle.std.proofs.Common.{length, get_or, slice_get, Option, Some, Contains, refl, sym, ap}
+use Rattle.std.proofs.Common.{◌∙◌, subst, inl, inr, ⊎_elim, arith}
 use Rattle.std.specs.Prelude.{All, AllPairs}
 use Rattle.std.specs.List.{range_with_len}
 use Rattle.std.proofs.Math.Seq.{get_or-append_seam}
 use Rattle.std.proofs.lemmas.Bool.{cases_eq}
-use Rattle.std.proofs.lemmas.List.{get_or_append_left}
+use Rattle.std.proofs.lemmas.List.{get_or_append_left, length_push}
 use Rattle.std.proofs.lemmas.List.FromFn.{map-range_with_len_more}
 use Rattle.std.proofs.lemmas.Option.{same_Some, slice_get_within, slice_get-get_or}
 use Rattle.std.proofs.lemmas.Option.{get_or_from_slice_get}
@@ -110,6 +110,30 @@ pushed_each P xs new x d k is count each here y lt =
     ap (λ l. get_or l y d) is ∙ get_or_append_left xs (x ∷ []) d y (omega arith) in
     subst (P y) (sym before) (each y (omega arith)))
     (cases_eq y k)
+
+-- one more at the end: as many as before, and one
+pub count_more : {X : Type 0} (xs new : List X) (x : X) (k : ℕ) → new ≡ xs ++ x ∷ []
+    → length xs ≡ k → length new ≡ k + 1
+count_more xs new x k is count =
+    ap length is ∙ length_push xs x ∙ ap (λ n. n + 1) count
+
+-- places at which the same stands one after the other, where it has one place, are the same
+pub same_places : {X : Type 0} (f g : ℕ → Option X)
+    → ((i j : ℕ) (x : X) → f i ≡ Some x → g j ≡ Some x → i ≡ j) → (is js : List ℕ) (xs : List X)
+    → map f is ≡ map Some xs → map g js ≡ map Some xs → is ≡ js
+same_places f g one [] [] xs a b = refl
+same_places f g one [] (j ∷ js) [] a b = absurd cc
+same_places f g one [] (j ∷ js) (x ∷ xs) a b = absurd cc
+same_places f g one (i ∷ is) [] [] a b = absurd cc
+same_places f g one (i ∷ is) [] (x ∷ xs) a b = absurd cc
+same_places f g one (i ∷ is) (j ∷ js) [] a b = absurd cc
+same_places f g one (i ∷ is) (j ∷ js) (x ∷ xs) a b =
+    let first : f i ≡ Some x = cc in
+    let second : g j ≡ Some x = cc in
+    let rest : map f is ≡ map Some xs = cc in
+    let others : map g js ≡ map Some xs = cc in
+    ap (λ n. n ∷ is) (one i j x first second)
+    ∙ ap (λ l. j ∷ l) (same_places f g one is js xs rest others)
 
 -- what holds of each pair holds of the first and each later one
 pub pairs_head : {X : Type 0} (R : X → X → Type 0) (x : X) (xs : List X) → AllPairs R (x ∷ xs)

@@ -2,7 +2,6 @@
 use Rattle.std.proofs.Common.{◌≡◌, ℕ, ◌+◌, ◌<◌, List, [], ◌∷◌, ◌++◌, length, Some, Ok, Err, ap, sym}
 use Rattle.std.proofs.Common.{◌∙◌, subst, inl, inr, arith}
 use Rattle.std.specs.Prelude.{Result, slice_get}
-use Rattle.std.proofs.lemmas.List.{length_push}
 use Rattle.crpd_base.proofs.Elements.{some_at, at_more}
 use Rattle.crpd_input.specs.declared.halt.Halt.{Halt}
 use Rattle.crpd_input.specs.declared.halt.Halt.TheVariants.{Refused, Memory, Fault}
@@ -11,10 +10,6 @@ use Rattle.crpd_input.specs.Steps.{EachBelow, IsRefusal, StopsBy}
 -- values for the first numbers
 abbrev pub HasValues : {B : Type 0} → (ℕ → Result B Halt → Type 0) → List B → Type 0
 HasValues {B} P ys = (k : ℕ) (y : B) → slice_get ys k ≡ Some y → P k (Ok y)
-
-pub count_more : {B : Type 0} (ys zs : List B) (n : ℕ) (y : B) → length ys ≡ n → zs ≡ ys ++ y ∷ []
-    → length zs ≡ n + 1
-count_more ys zs n y count e = ap length e ∙ length_push ys y ∙ ap (λ k. k + 1) count
 
 module _ {B : Type 0} (P : ℕ → Result B Halt → Type 0) where
   pub value_more : (ys zs : List B) (n : ℕ) (y : B) → HasValues P ys → length ys ≡ n → P n (Ok y)

@@ -11,7 +11,7 @@ use Rattle.std.proofs.lemmas.List.{ext_get_or}
 use Rattle.std.proofs.lemmas.List.Elements.{All-contains}
 use Rattle.flat_graph.proofs.SameCode.{some_word}
 use Rattle.crpd_base.proofs.Elements.{at_head, at_rest, head_or_rest, in_none, at_contains, some_at}
-use Rattle.crpd_base.proofs.Elements.{pairs_head, pairs_tail}
+use Rattle.crpd_base.proofs.Elements.{pairs_head, pairs_tail, same_places}
 use Rattle.crpd_base.proofs.Options.{not_none}
 use Rattle.crpd_base.specs.declared.data.TaskPlan.{TaskPlan}
 use Rattle.rv_decode.specs.Flow.{Flow, Flows, Words, flows}
@@ -134,19 +134,8 @@ one_place (x ∷ xs) (suc i) (suc j) n h a b =
 
 one_row : (xs : List FlatNode) (is js : List ℕ) (ns : List FlatNode) → AllPairs IsNumberedBefore xs
     → map (slice_get xs) is ≡ map Some ns → map (slice_get xs) js ≡ map Some ns → is ≡ js
-one_row xs [] [] ns h a b = refl
-one_row xs [] (j ∷ js) [] h a b = absurd cc
-one_row xs [] (j ∷ js) (n ∷ ns) h a b = absurd cc
-one_row xs (i ∷ is) [] [] h a b = absurd cc
-one_row xs (i ∷ is) [] (n ∷ ns) h a b = absurd cc
-one_row xs (i ∷ is) (j ∷ js) [] h a b = absurd cc
-one_row xs (i ∷ is) (j ∷ js) (n ∷ ns) h a b =
-    let first : slice_get xs i ≡ Some n = cc in
-    let other : slice_get xs j ≡ Some n = cc in
-    let rest : map (slice_get xs) is ≡ map Some ns = cc in
-    let others : map (slice_get xs) js ≡ map Some ns = cc in
-    ap (λ k. k ∷ is) (one_place xs i j n h first other)
-    ∙ ap (λ l. j ∷ l) (one_row xs is js ns h rest others)
+one_row xs is js ns h = same_places (slice_get xs) (slice_get xs)
+    (λ i j n. one_place xs i j n h) is js ns
 
 -- ---- graphs
 

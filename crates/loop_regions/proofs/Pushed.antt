@@ -1,13 +1,8 @@
 -- Lists that grow by one element.
 use Rattle.std.proofs.Common.{◌≡◌, ℕ, zero, suc, ◌+◌, ◌<◌, List, [], ◌∷◌, ◌++◌, length, take}
 use Rattle.std.proofs.Common.{get_or, refl, sym, ap, ◌∙◌}
-use Rattle.std.proofs.lemmas.List.{take_more, length_push}
+use Rattle.std.proofs.lemmas.List.{take_more}
 use Rattle.loop_regions.specs.CodeNest.{row}
-
-pub count_more : {X : Type 0} (xs new : List X) (x : X) (k : ℕ) → new ≡ xs ++ x ∷ []
-    → length xs ≡ k → length new ≡ k + 1
-count_more xs new x k is count =
-    ap length is ∙ length_push xs x ∙ ap (λ n. n + 1) count
 
 -- the first elements of a list, with the next one
 pub taken_more : {X : Type 0} (xs old new : List X) (x : X) (k : ℕ) → k < length xs

@@ -1,7 +1,8 @@
 use Rattle.std.proofs.Common.{◌≡◌, ◌<◌, sym, subst, arith, length}
 use Rattle.cert_check.specs.TaskGraphs.{AreTaskGraphs}
 use Rattle.crpd_input.specs.Graphs.{RegionsAt}
-use Rattle.crpd_input.proofs.Below.{count_more, stopped_below, value_more}
+use Rattle.crpd_base.proofs.Elements.{count_more}
+use Rattle.crpd_input.proofs.Below.{stopped_below, value_more}
 use Rattle.crpd_input.proofs.Nests.{ShownAt, all_shown}
 use Rattle.crpd_input.proofs.regions.all_regions.Goals as goal
 
@@ -16,8 +17,8 @@ returns-in-Err-clause-exact c =
 pub loop-place-preserved : goal.loop-place-preserved
 loop-place-preserved c = record {
   count =
-      count_more c.loop-place.nests.items c.push.new.self.items c.loop-place.place c.in-Ok.nest
-      c.loop-place.invariant.count c.in_ok-push.ensures.items;
+      count_more c.loop-place.nests.items c.push.new.self.items c.in-Ok.nest c.loop-place.place
+      c.in_ok-push.ensures.items c.loop-place.invariant.count;
   are =
       value_more (RegionsAt c.args.input.now c.args.graphs.now) c.loop-place.nests.items
       c.push.new.self.items c.loop-place.place c.in-Ok.nest c.loop-place.invariant.are

@@ -1,6 +1,7 @@
 use Rattle.std.proofs.Common.{◌≡◌, ◌<◌, arith, length}
 use Rattle.crpd_input.specs.Graphs.{GraphAt}
-use Rattle.crpd_input.proofs.Below.{count_more, stopped_below, value_more}
+use Rattle.crpd_base.proofs.Elements.{count_more}
+use Rattle.crpd_input.proofs.Below.{stopped_below, value_more}
 use Rattle.crpd_input.proofs.renewed.renewed_graphs.Goals as goal
 
 pub returns-in-Err-clause-exact : goal.returns-in-Err-clause-exact
@@ -14,8 +15,8 @@ returns-in-Err-clause-exact c =
 pub loop-place-preserved : goal.loop-place-preserved
 loop-place-preserved c = record {
   count =
-      count_more c.loop-place.graphs.items c.push.new.self.items c.loop-place.place c.in-Ok.graph
-      c.loop-place.invariant.count c.in_ok-push.ensures.items;
+      count_more c.loop-place.graphs.items c.push.new.self.items c.in-Ok.graph c.loop-place.place
+      c.in_ok-push.ensures.items c.loop-place.invariant.count;
   are =
       value_more (GraphAt c.args.input.now) c.loop-place.graphs.items c.push.new.self.items
       c.loop-place.place c.in-Ok.graph c.loop-place.invariant.are c.loop-place.invariant.count

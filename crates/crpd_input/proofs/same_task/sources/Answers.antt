@@ -4,7 +4,7 @@ use Rattle.std.specs.Prelude.{Option, slice_index_or}
 use Rattle.std.proofs.lemmas.Bool.{cases_lt}
 use Rattle.std.proofs.lemmas.List.{get_or_append_left, get_or_push}
 use Rattle.crpd_input.specs.Inner.SameTask.{IsSource}
-use Rattle.crpd_input.proofs.Below.{count_more}
+use Rattle.crpd_base.proofs.Elements.{count_more}
 use Rattle.crpd_input.proofs.same_task.sources.Goals as goal
 
 -- one new task more
@@ -27,8 +27,8 @@ one_more P some more n o count each here e k lt =
 pub loop-place-preserved : goal.loop-place-preserved
 loop-place-preserved c = record {
   count =
-      count_more c.loop-place.sources.items c.push.new.self.items c.loop-place.place c.source.result
-      c.loop-place.invariant.count c.in_ok-push.ensures.items;
+      count_more c.loop-place.sources.items c.push.new.self.items c.source.result c.loop-place.place
+      c.in_ok-push.ensures.items c.loop-place.invariant.count;
   each =
       λ k lt. one_more (IsSource c.args.old.now c.args.graphs.now c.args.input.now)
       c.loop-place.sources.items c.push.new.self.items c.loop-place.place c.source.result

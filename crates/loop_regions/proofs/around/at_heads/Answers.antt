@@ -1,7 +1,7 @@
 use Rattle.std.proofs.Common.{◌≡◌, ◌∙◌, ◌<◌, List, ℕ, [], sym, subst, length, slice_index}
 use Rattle.crpd_base.proofs.Elements.{pushed_each}
 use Rattle.loop_regions.specs.CodeNest.{row}
-use Rattle.loop_regions.proofs.Pushed.{count_more}
+use Rattle.crpd_base.proofs.Elements.{count_more}
 use Rattle.loop_regions.proofs.around.at_heads.Goals as goal
 
 pub holders-requires : goal.holders-requires

@@ -1,6 +1,7 @@
 use Rattle.std.proofs.Common.{◌≡◌, List, ℕ, [], sym, subst}
 use Rattle.loop_regions.specs.CodeNest.{row}
-use Rattle.loop_regions.proofs.Pushed.{count_more, empty_more}
+use Rattle.crpd_base.proofs.Elements.{count_more}
+use Rattle.loop_regions.proofs.Pushed.{empty_more}
 use Rattle.loop_regions.proofs.holding.no_holders.Goals as goal
 
 pub loop-preserved : goal.loop-preserved
