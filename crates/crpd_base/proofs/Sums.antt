@@ -117,12 +117,12 @@ sum_only y c (suc n) h =
 
 -- one term may grow by b less a, and the others don't grow
 pub sum_change : (f g : ℕ → ℕ) (n y a b : ℕ) → y < n → g y + a ≤ f y + b
-    → ((x : ℕ) → x ≢ y → g x ≤ f x) → sum_below g n + a ≤ sum_below f n + b
+    → ((x : ℕ) → x < n → x ≢ y → g x ≤ f x) → sum_below g n + a ≤ sum_below f n + b
 sum_change f g n y a b l here others =
     let all : sum_below (λ x. g x + only y a x) n ≤ sum_below (λ x. f x + only y b x) n =
     sum_le (λ x. g x + only y a x) (λ x. f x + only y b x) n (λ x below. elim (cases_eq x y) [
       | inl e ↦ rw (e, only_same y a, only_same y b) here
-      | inr ne ↦ omega (arith, others x ne, only_other y a x ne, only_other y b x ne)
+      | inr ne ↦ omega (arith, others x below ne, only_other y a x ne, only_other y b x ne)
     ]) in
     omega (
       arith,
@@ -140,7 +140,7 @@ pub sum_change_two : (f g : ℕ → ℕ) (n y a b o c : ℕ) → y < n → o < n
 sum_change_two f g n y a b o c l lo ne here there others =
     let one : sum_below (λ x. g x + only o c x) n + a ≤ sum_below f n + b =
     sum_change f (λ x. g x + only o c x) n y a b l (omega (arith, here, only_other o c y ne))
-    (λ x nx. elim (cases_eq x o) [
+    (λ x below nx. elim (cases_eq x o) [
       | inl e ↦ rw (e, only_same o c) there
       | inr away ↦ omega (arith, others x nx away, only_other o c x away)
     ]) in

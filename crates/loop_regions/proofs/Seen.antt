@@ -1,13 +1,14 @@
 -- Nodes as they are seen from a context: those that are seen stand together.
-use Rattle.std.proofs.Common.{◌≡◌, ◌⊎◌, ℕ, zero, suc, ◌<◌, ◌≤◌, true, false, List, [], ◌∷◌, length}
+use Rattle.std.proofs.Common.{◌≡◌, ◌⊎◌, ℕ, ◌<◌, ◌≤◌, true, false, List, [], ◌∷◌, length}
 use Rattle.std.proofs.Common.{get_or, Some, None, slice_get, IsTrue, IsFalse, refl, sym, ◌∙◌, subst}
 use Rattle.std.proofs.Common.{inl, inr, ⊎_elim, arith, eq-eqb, ◌==◌, nat_eq}
 use Rattle.std.specs.Prelude.{is_some}
 use Rattle.std.specs.List.{starts_with}
 use Rattle.std.proofs.lemmas.Bool.{cases_eq, cases_Bool, both_ways, false≢true, eqb-true, ltb-true}
 use Rattle.std.proofs.lemmas.Option.{slice_get_within, get_or_from_slice_get}
+use Rattle.crpd_base.proofs.Elements.{some_at}
 use Rattle.flat_graph.specs.FlatGraph.{FlatNode, list_lt, IsNumberedBefore}
-use Rattle.flat_graph.specs.Numbered.{ArePlaces, node_at}
+use Rattle.flat_graph.specs.Numbered.{node_at}
 use Rattle.flat_graph.specs.CodeGraph.{CodeGraph, graph_of, places_of, HasCode}
 use Rattle.loop_regions.specs.Stated.{seen_from}
 use Rattle.loop_regions.specs.Inner.Heads.{is_seen_from}
@@ -123,19 +124,9 @@ module _ (g : CodeGraph) (H : HasCode g) where
   there : (u : ℕ) → u < (graph_of g).size
       → (n : FlatNode) × (slice_get H.of_code.nodes u ≡ Some n) × (node_at (places_of g) u ≡ n)
   there u lt =
-      by_length H.of_code.nodes u (subst (λ k. u < k) H.of_code.flat.size lt) H.of_code.places
-    where
-      get : (xs : List FlatNode) (k : ℕ) → k < length xs
-          → (n : FlatNode) × (slice_get xs k ≡ Some n)
-      get [] k l = absurd (omega arith)
-      get (x ∷ xs) zero l = (x, refl)
-      get (x ∷ xs) (suc k) l = get xs k (omega arith)
-
-      by_length : (xs : List FlatNode) (k : ℕ) → k < length xs → ArePlaces xs (places_of g)
-          → (n : FlatNode) × (slice_get xs k ≡ Some n) × (node_at (places_of g) k ≡ n)
-      by_length xs k l P =
-          let n = get xs k l in
-          let h = P.node k n.0 n.1 in (n.0, n.1, λ i. record { context = h.0 i; address = h.1 i })
+      let n = some_at H.of_code.nodes u (subst (λ k. u < k) H.of_code.flat.size lt) in
+      let h = H.of_code.places.node u n.0 n.1 in
+      (n.0, n.1, λ i. record { context = h.0 i; address = h.1 i })
 
   before : (u v : ℕ) → u < v → v < (graph_of g).size
       → IsNumberedBefore (node_at (places_of g) u) (node_at (places_of g) v)

@@ -38,13 +38,15 @@ inside_below n r s (suc k) =
     (λ more. inr more)
     (inside_below n r s k)
 
+-- a region holds nodes
+pub holds_nodes : (g : Graph) (p : Places) (loops : List LoopAt) (n : Nest) → IsRegions g p loops n
+    → (r y : ℕ) → IsTrue (n.holds r y) → y < g.size
+holds_nodes g p loops n R r y h =
+    ⊎_elim (λ lt. lt) (λ le. absurd (both_ways (n.holds r y) (R.nodes_only r y le) h))
+    (cases_lt y g.size)
+
 module _ (g : Graph) (p : Places) (loops : List LoopAt) (n : Nest) (R : IsRegions g p loops n)
     (A : HasNoLoopRefusals g n) where
-  holds_nodes : (r y : ℕ) → IsTrue (n.holds r y) → y < g.size
-  holds_nodes r y h =
-      ⊎_elim (λ lt. lt) (λ le. absurd (both_ways (n.holds r y) (R.nodes_only r y le) h))
-      (cases_lt y g.size)
-
   holds_head : (r : ℕ) → r < n.size → IsTrue (n.holds r (n.head r))
   holds_head r lt =
       let s = R.stated r lt in
@@ -54,7 +56,7 @@ module _ (g : Graph) (p : Places) (loops : List LoopAt) (n : Nest) (R : IsRegion
 
   inside : (r s : ℕ) → IsInside n r s ⊎ HoldsMore n r s
   inside r s =
-      ⊎_elim (λ f. inl (λ y h. f y (holds_nodes r y h) h)) (λ more. inr more)
+      ⊎_elim (λ f. inl (λ y h. f y (holds_nodes g p loops n R r y h) h)) (λ more. inr more)
       (inside_below n r s g.size)
 
   nested : (r s y : ℕ) → r < n.size → s < n.size → IsTrue (n.holds r y) → IsTrue (n.holds s y)
@@ -68,7 +70,7 @@ module _ (g : Graph) (p : Places) (loops : List LoopAt) (n : Nest) (R : IsRegion
 
   is_nested : IsNested g n
   is_nested = record {
-    holds_nodes = λ r y lt h. holds_nodes r y h;
+    holds_nodes = λ r y lt h. holds_nodes g p loops n R r y h;
     holds_head = holds_head;
     one_head = λ r s r_lt s_lt e.
         ⊎_elim (λ same. same) (λ o.

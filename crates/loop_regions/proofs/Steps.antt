@@ -85,7 +85,7 @@ pub flow_there : (words : Words) (a : ℕ) (ins : Ins) → StandsAt words a ins
     → flows words a ≡ Some (Some (flow a ins))
 flow_there words a ins S = ap (flow_of_word a) S.here ∙ ap (λ r. Some (flow_of_row a r)) S.reads
 
-exit_answers : (c : List ℕ) → answers_by c (Some (Some Exit)) ≡ true
+pub exit_answers : (c : List ℕ) → answers_by c (Some (Some Exit)) ≡ true
 exit_answers [] = refl
 exit_answers (x ∷ c) = refl
 

@@ -23,6 +23,7 @@ use Rattle.loop_regions.specs.Nest.{Nest, head_count, IsKeptWalk}
 use Rattle.loop_regions.specs.Stated.{seen_from, holds_seen, IsRegionOf, IsRegions}
 use Rattle.loop_regions.specs.Watched.{CanGo, iterations_of, IsBehindCall, AreFrames, CountsAgree}
 use Rattle.loop_regions.specs.Watched.{IsWatchedWalk, GoesTo, WatchStartLaw, WatchStepLaw}
+use Rattle.loop_regions.proofs.Potential.{count_on, count_out}
 use Rattle.loop_regions.proofs.Stated.{seen_here}
 
 -- a node further in, seen from a context
@@ -164,13 +165,6 @@ module _ (code : Flows) (plan : TaskPlan) (g : Graph) (p : Places) (n : Nest)
   abbrev loops : List LoopAt
   loops = plan.loops
 
-  outside : (r y : ℕ) (before : List ℕ) → IsFalse (n.holds r y) → head_count n r (y ∷ before) ≡ 0
-  outside r y before h = rw h
-
-  inside : (r y : ℕ) (before : List ℕ) → IsTrue (n.holds r y) → y ≢ n.head r
-      → head_count n r (y ∷ before) ≡ head_count n r before
-  inside r y before h ne = rw (h, ne_eqb y (n.head r) ne)
-
   kept_so_far : (w : List ℕ) (r : ℕ) → r < n.size → IsKeptWalk n w → head_count n r w ≤ n.bound r
   kept_so_far [] r lt k = omega arith
   kept_so_far (x ∷ w) r lt k = k.0 r lt
@@ -212,8 +206,8 @@ module _ (code : Flows) (plan : TaskPlan) (g : Graph) (p : Places) (n : Nest)
       let same : n.holds r v ≡ n.holds r y =
       O.holds v v_lt ∙ ap (holds_seen l) seen ∙ sym (O.holds y y_lt) in
       ⊎_elim
-      (λ h. inside r v (y ∷ before) h ne)
-      (λ h. outside r v (y ∷ before) h ∙ sym (outside r y before (sym same ∙ h)))
+      (λ h. count_on n r v (y ∷ before) h ne)
+      (λ h. count_out n r v (y ∷ before) h ∙ sym (count_out n r y before (sym same ∙ h)))
       (cases_Bool (n.holds r v))
 
   -- the frames below
@@ -279,7 +273,7 @@ module _ (code : Flows) (plan : TaskPlan) (g : Graph) (p : Places) (n : Nest)
         let seen = seen_prefix s.0 (p.context (n.head r)) (p.context v) (p.address v)
         (sym (s.2.holds v v_lt) ∙ h) in
         further r lt s.0 s.2 at.0 at.1 fits h seen.0 seen.1)
-        (λ (h : IsFalse (n.holds r v)). omega (arith, outside r v w h))
+        (λ (h : IsFalse (n.holds r v)). omega (arith, count_out n r v w h))
         (cases_Bool (n.holds r v))
       where
         further : (r : ℕ) → r < n.size → (l : LoopAt) → IsRegionOf g p n r l → (i : ℕ)
@@ -291,7 +285,7 @@ module _ (code : Flows) (plan : TaskPlan) (g : Graph) (p : Places) (n : Nest)
             (turns_length (p.address v) loops f.turns (top_length code plan f fs are)) fits at in
             omega (arith, now, ok, O.bound)
         further r lt l O i at fits h (x ∷ ext) e =
-            let on = inside r v w h (λ here.
+            let on = count_on n r v w h (λ here.
             longer (p.context (n.head r)) ext x (ap p.context (sym here) ∙ e)) in
             let before = kept_so_far w r lt kept in
             omega (arith, on, before)
@@ -383,7 +377,7 @@ module _ (code : Flows) (plan : TaskPlan) (g : Graph) (p : Places) (n : Nest)
         → IsRegionOf g p n r l → p.context (n.head r) ≡ p.context v
         → head_count n r (y ∷ before) ≡ 0
     none_yet v cv r l O e =
-        outside r y before
+        count_out n r y before
         (O.holds y y_lt
         ∙ ap (λ c. holds_seen l (seen_from c (p.context y) (p.address y))) (e ∙ cv)
         ∙ ap (holds_seen l) (seen_out (p.context y) [] (p.address y) (p.address y)))

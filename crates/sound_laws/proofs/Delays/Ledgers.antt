@@ -105,7 +105,7 @@ many_steps p until (e ∷ es) r early =
           rw (eq-eqb e.time e.time refl, b) refl in
           let more = sum_change (λ n. one_if (made_at p (e ∷ es) n)) (λ n. one_if (made_at p es n))
           until e.time 1 0 (early e b) (omega (arith, none, one))
-          (λ n ne. one_le (made_at p es n) (made_at p (e ∷ es) n)
+          (λ n below ne. one_le (made_at p es n) (made_at p (e ∷ es) n)
           (or_right ((e.time == n) && p e) (made_at p es n))) in
           omega (arith, rest, more, one_more p e es b)
       | inr b ↦

@@ -24,7 +24,7 @@ use Rattle.loop_regions.specs.Potentials.{Potentials, Meets, rest}
 use Rattle.loop_regions.specs.Nest.{IsNested}
 use Rattle.loop_regions.proofs.Watched.{behind_is, returns_from, in_one, to_next, to_target, next}
 use Rattle.loop_regions.proofs.Potential.{step_rest_law}
-use Rattle.loop_regions.proofs.Steps.{step_some}
+use Rattle.loop_regions.proofs.Steps.{exit_answers, step_some}
 use Rattle.cert_check.specs.PotentialClauses.{edge_costs}
 use Rattle.loop_regions.specs.TaskGraph.{TaskGraph, node_code_of, answering}
 use Rattle.cert_check.specs.JudgeInput.{IsGraphOf}
@@ -77,10 +77,6 @@ module _ (sys : System) (plan : TaskPlan) (t : TaskGraph) (ok : IsGraphOf sys.wo
         ∙ ap (λ z. cost sys.platform S.ins (not (counted y)) z)
         (ap is_return flow_same ∙ returns) in
         omega (arith, same, le)
-
-    exit_answers : (c : List ℕ) → answers_by c (Some (Some Exit)) ≡ true
-    exit_answers [] = refl
-    exit_answers (x ∷ c) = refl
 
     behind_other : (back : ℕ) → flow a S.ins ≡ Return → IsBehindCall (flows sys.word) back
         → back ≢ a + 4

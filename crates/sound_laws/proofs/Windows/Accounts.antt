@@ -170,7 +170,8 @@ module _ (s : Start) (rest : ℕ → ℕ → ℕ) (extra : ℕ → ℕ) (horizon
         omega (arith, own_after n y e h, own_before n y y_open h, sp, kept, p, q) in
         let all = sum_change (weight s rest inside i n) (weight s rest inside i (suc n))
         (length s.lines) y (pending s rest inside i (suc n) + 1)
-        (pending s rest inside i n + extra n) y_below here (λ x ne. others_le n y x early e ne) in
+        (pending s rest inside i n + extra n) y_below here
+        (λ x below ne. others_le n y x early e ne) in
         omega (arith, all)
 
     switch_full : (state s n).owner ≢ Some y
@@ -189,7 +190,7 @@ module _ (s : Start) (rest : ℕ → ℕ → ℕ) (extra : ℕ → ℕ) (horizon
         omega (arith, own_after n y e h, own_before n y y_open h, sp, f, q) in
         let all = sum_change (weight s rest inside i n) (weight s rest inside i (suc n))
         (length s.lines) y (pending s rest inside i (suc n) + 1) (extra n) y_below here
-        (λ x away. others_le n y x early e away) in
+        (λ x below away. others_le n y x early e away) in
         omega (arith, all)
 
     -- a job becomes the owner again: then the owner before it is over, and its switch back is spent
