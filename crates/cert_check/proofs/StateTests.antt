@@ -13,7 +13,8 @@ use Rattle.evict_sets.proofs.FullLaws.{unlisted_state_law}
 use Rattle.evict_sets.specs.Listing.{IsStateAfter}
 use Rattle.flat_graph.proofs.Nexts.{all_at_edges, edges_at_all}
 use Rattle.cert_check.specs.Inner.JudgedNodes.{EdgeStateMeets}
-use Rattle.evict_sets.proofs.FullBlocks.{as_listed, AreHeld, held_at}
+use Rattle.evict_sets.proofs.FullBlocks.{AreHeld, held_at}
+use Rattle.evict_sets.proofs.FullLaws.{as_listed}
 
 module _ (g : Graph) (a : Accesses) (l : Listed) where
   -- a listed state is empty where it has no pairs

@@ -4,7 +4,7 @@ use Rattle.std.proofs.Common.{◌∷◌, length, set, drop, Option, Some, None, 
 use Rattle.std.proofs.Common.{refl, sym, ap, ◌∙◌, subst, inl, inr, ⊎_elim, arith}
 use Rattle.std.proofs.Common.{get_or-set_same, get_or-set_other}
 use Rattle.std.proofs.lemmas.List.{drop_all}
-use Rattle.std.proofs.lemmas.Bool.{cases_eq, both_ways}
+use Rattle.std.proofs.lemmas.Bool.{cases_eq}
 use Rattle.std.proofs.lemmas.Option.{same_Some}
 use Rattle.icache.specs.Cache.{held}
 use Rattle.icache.specs.Accesses.{Accesses}
@@ -12,7 +12,7 @@ use Rattle.flat_graph.specs.Graph.{Graph, Edge}
 use Rattle.evict_sets.specs.Full.{Listed, FullState, listed, accessed, passed}
 use Rattle.evict_sets.specs.CacheClauses.{ListsLeaders, StateAfter}
 use Rattle.evict_sets.specs.ListedPart.{block_of_set}
-use Rattle.evict_sets.proofs.FullLaws.{unlisted_state_law}
+use Rattle.evict_sets.proofs.FullLaws.{as_listed, unlisted_state_law}
 use Rattle.evict_sets.specs.Listing.{IsStateAt, IsStateAfter}
 
 pub past : (blocks : List (Option ℕ)) (s : ℕ) → length blocks ≤ s → held blocks s ≡ None
@@ -28,17 +28,10 @@ none_held blocks sure none s =
     none s ∙ sym (ap (λ xs. block_of_set xs s) empty)
 
 module _ (g : Graph) (a : Accesses) (l : Listed) where
-  -- a listed node's state is what is listed
-  pub as_listed : (y s m : ℕ) → IsTrue (l.is_listed y) → FullState g a l y s m
-      → l.state y s ≡ Some m
-  as_listed y s m t (listed y' s' m' t' at) = at
-  as_listed y s m t (accessed w y' s' m' o f same block) = absurd (both_ways (l.is_listed y) o t)
-  as_listed y s m t (passed w y' s' m' o f other st) = absurd (both_ways (l.is_listed y) o t)
-
   pub listed_state : (y : ℕ) (blocks : List (Option ℕ)) → IsTrue (l.is_listed y)
       → ((s : ℕ) → held blocks s ≡ l.state y s) → IsStateAt g a l y blocks
   listed_state y blocks t is s m = (
-    λ st. is s ∙ as_listed y s m t st,
+    λ st. is s ∙ as_listed g a l y s m t st,
     λ e. listed y s m t (sym (is s) ∙ e),
   )
 
@@ -80,6 +73,6 @@ module _ (g : Graph) (a : Accesses) (l : Listed) where
       → IsStateAfter g a l u after
       → AreHeld after (l.state v) ↔ ((s m : ℕ) → FullState g a l v s m → StateAfter g a l u s m)
   held_at u v after t S = (
-    λ h s m st. (S s m).1 (h s m (as_listed v s m t st)),
+    λ h s m st. (S s m).1 (h s m (as_listed g a l v s m t st)),
     λ h s m e. (S s m).0 (h s m (listed v s m t e)),
   )

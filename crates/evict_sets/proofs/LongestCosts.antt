@@ -19,7 +19,7 @@ use Rattle.flat_graph.specs.Numbered.{node_at}
 use Rattle.flat_graph.specs.CodeGraph.{CodeGraph, graph_of, places_of, node_code, IsCodeGraph}
 use Rattle.flat_graph.specs.CodeGraph.{HasCode}
 use Rattle.flat_graph.specs.EdgeCost.{NodeCode, edge_cost, end_cost, is_return}
-use Rattle.flat_graph.proofs.Numbered.{follows_law}
+use Rattle.flat_graph.proofs.CodeGraphs.{code_follows}
 use Rattle.evict_sets.specs.Answering.{answers_of}
 use Rattle.evict_sets.specs.Longest.{greatest_of, longest_at_node, longest_below, longest}
 use Rattle.evict_sets.proofs.Amounts.{small_cost, small_work}
@@ -149,8 +149,7 @@ pub some_longest : (p : Platform) (g : CodeGraph) → IsPlatform p → HasCode g
     → 1 ≤ longest p (graph_of g) (node_code g) (answers_of g)
 some_longest p g P H =
     let C = H.of_code in
-    let F = follows_law (flows H.words) H.entry C.nodes (graph_of g)
-    (places_of g) C.flat C.places in
+    let F = code_follows H.words H.entry g C in
     let n : FlatNode = node_at (places_of g) g.first in
     let lt = F.graph.first in
     let there = goes_by (flows H.words) H.entry n (C.no_errors n (F.nodes g.first lt)) in
