@@ -1,5 +1,5 @@
 -- The analysis of a task's code, from its parts.
-use Rattle.std.proofs.Common.{◌≡◌, ℕ, ◌≤◌, ◌^◌, Bool, List, ◌∙◌, refl, subst, arith}
+use Rattle.std.proofs.Common.{◌≡◌, ℕ, ◌≤◌, ◌^◌, Bool, List, ◌∙◌, subst, arith}
 use Rattle.crpd_base.specs.declared.data.Platform.{Platform}
 use Rattle.crpd_base.specs.declared.data.NodeState.{NodeState}
 use Rattle.flat_graph.specs.CodeGraph.{CodeGraph, graph_of, places_of}
@@ -8,10 +8,11 @@ use Rattle.must_cache.specs.Sure.{CountsSureHits}
 use Rattle.useful_sets.specs.Useful.{IsUcb, IsEcb}
 use Rattle.loop_regions.specs.CodeNest.{CodeNest, nest_of}
 use Rattle.evict_sets.specs.Listing.{counted}
-use Rattle.exec_bound.specs.Costs.{costs_of, greatest_bound, IsBound}
+use Rattle.exec_bound.specs.Costs.{costs_of, IsBound}
 use Rattle.exec_bound.specs.BoundErrors.{IsBoundError}
 use Rattle.exec_bound.specs.declared.fault.BoundError.{BoundError}
 use Rattle.exec_bound.specs.declared.fault.BoundError.TheVariants.{Memory, TooLarge}
+use Rattle.exec_bound.proofs.GreatestBound.{greatest_is}
 use Rattle.cert_check.specs.TaskGraphs.{task_graph}
 use Rattle.cert_model.proofs.Ranged.{rise_wider}
 use Rattle.cert_build.specs.Inner.Entries.{AreLeaderEntries}
@@ -20,10 +21,6 @@ use Rattle.cert_build.specs.Analysis.{part_of_analysis, IsAnalysis, KeepsRanges,
 use Rattle.cert_build.specs.declared.one_task.Analysis.{Analysis}
 use Rattle.cert_build.proofs.EntryLaws.{all_entries}
 
-pub bound_number : greatest_bound ≡ 2 ^ 40
-unfolding greatest_bound
-bound_number = refl
-
 module _ (p : Platform) (g : CodeGraph) (n : CodeNest) (hits : List Bool) where
   abbrev pub uses : Accesses
   uses = accesses p (places_of g).address
@@ -31,7 +28,7 @@ module _ (p : Platform) (g : CodeGraph) (n : CodeNest) (hits : List Bool) where
   within : (cycles : ℕ) (nodes loops : List ℕ)
       → IsBound (graph_of g) (nest_of n) (costs_of p g (counted hits)) cycles nodes loops
       → cycles ≤ 2 ^ 40
-  within cycles nodes loops B = subst (λ k. cycles ≤ k) bound_number B.within
+  within cycles nodes loops B = subst (λ k. cycles ≤ k) greatest_is B.within
 
   pub analysed : (a : Analysis) (cycles : ℕ) → a.part.bound ≡ cycles
       → CountsSureHits (graph_of g) uses (counted hits)

@@ -38,7 +38,7 @@ use Rattle.cert_build.specs.declared.one_task.Analysis.{Analysis}
 use Rattle.cert_build.specs.declared.fault.BuildError.{BuildError}
 use Rattle.cert_build.specs.declared.fault.BuildError.TheVariants.{Memory, TooLarge, TooManyEntries}
 use Rattle.cert_build.specs.declared.fault.BuildError.TheVariants.{Unschedulable}
-use Rattle.cert_build.proofs.Analysed.{bound_number}
+use Rattle.exec_bound.proofs.GreatestBound.{greatest_is}
 use Rattle.cert_build.proofs.OneBest.{meets_by}
 
 -- what holds of the graph and the regions that are read holds of the task's
@@ -67,7 +67,7 @@ not_large p t c G B most H =
     let le = no_more t (edge_costs p (node_code_of t) (answering t) H.is_hit) H.exceeds.0
     (potentials_of c) i G.first H.exceeds.2 meets H.exceeds.3 in
     let e = P.bound i H.exceeds.3 in
-    let more = subst (λ k. k < item_potential H.exceeds.0 i) bound_number H.exceeds.4 in
+    let more = subst (λ k. k < item_potential H.exceeds.0 i) greatest_is H.exceeds.4 in
     absurd (omega (arith, le, e, most, more))
 
 -- ---- what an analysis counts

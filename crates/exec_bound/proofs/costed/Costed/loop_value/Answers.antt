@@ -4,7 +4,7 @@ use Rattle.std.proofs.lemmas.Grind.{get_or_default_zero}
 use Rattle.loop_regions.specs.CodeNest.{nest_of}
 use Rattle.exec_bound.specs.Costs.{greatest_bound}
 use Rattle.loop_regions.proofs.Beside.{turns}
-use Rattle.exec_bound.proofs.Steps.{greatest_is}
+use Rattle.exec_bound.proofs.GreatestBound.{greatest_is}
 use Rattle.exec_bound.proofs.costed.Costed.loop_value.Goals as goal
 
 -- iterations of at most 2^40 cycles
