@@ -1,9 +1,7 @@
 // The certificate of a task set.
-ghost use Rattle.std.specs.Prelude.{◌≡◌, ◌≤◌, IfOk, MatchResult, All};
+ghost use Rattle.std.specs.Prelude.{◌≡◌, ◌≤◌, IfOk, MatchResult};
 ghost use Rattle.crpd_base.specs.Ranges.{IsTaskSet};
 ghost use Rattle.crpd_base.specs.declared.data.Certificate.{Certificate};
-ghost use Rattle.flat_graph.specs.CodeGraph.{CodeGraph, graph_of};
-ghost use Rattle.flat_graph.specs.Graph.{IsGraph};
 ghost use Rattle.crpd_base.specs.Ranges.{IsPlatform};
 ghost use Rattle.loop_regions.specs.CodeNest.{IsNestOf};
 ghost use Rattle.cert_check.specs.TaskGraphs.{task_graph, task_graph_at, AreTaskGraphs};
@@ -23,7 +21,7 @@ use crate::one_task::{Analysis, analyse};
 use cert_model::task_entries;
 use crpd_base::{Certificate, MOST_ENTRIES, Platform, Task, TaskSet};
 use exec_bound::BoundError;
-use flat_graph::Graph;
+use flat_graph::{Graph, graphs_law};
 use loop_regions::Nest;
 use std::alloc::Global;
 
@@ -86,16 +84,6 @@ pub fn analyse_all(
         return Err(BuildError::TooManyEntries(found));
     }
     Ok(kept)
-}
-
-/// A law: the end of an edge is a node in each of the graphs, and each node is reached. Linear in
-/// the graphs.
-pub fn graphs_law(graphs: &[Graph])
-    ensures { All (λ (g : CodeGraph). IsGraph (graph_of g)) graphs.now }
-{
-    for graph in graphs {
-        graph.graph_law();
-    }
 }
 
 /// The certificate of the analysis: for each task its execution bound, the evicting and the useful

@@ -13,7 +13,7 @@ mod fault;
 mod leader_states;
 mod one_task;
 
-pub use all_tasks::{analyse_all, certify, graphs_law};
+pub use all_tasks::{analyse_all, certify};
 pub use completed::{assemble, complete, parts_of};
 pub use fault::BuildError;
 pub use one_task::{Analysis, analyse};

@@ -4,6 +4,7 @@ use Rattle.std.proofs.Common.{ℕ, ◌<◌, List, length, inl, inr}
 use Rattle.crpd_base.specs.declared.data.TaskSet.{TaskSet}
 use Rattle.crpd_base.specs.declared.data.Certificate.{Certificate}
 use Rattle.flat_graph.specs.CodeGraph.{CodeGraph, graph_at}
+use Rattle.flat_graph.proofs.CodeGraphs.{code_is_graph}
 use Rattle.loop_regions.specs.CodeNest.{CodeNest}
 use Rattle.evict_sets.specs.ListedPart.{certified_task}
 use Rattle.cert_check.specs.declared.outcome.Clause.{Clause}
@@ -16,7 +17,7 @@ use Rattle.response.proofs.WindowLaws.{smaller_is_window}
 use Rattle.cert_build.proofs.Judged.{best_holds}
 use Rattle.cert_update.specs.Update.{IsUpdate}
 use Rattle.cert_update.specs.Laws.{side, HasCodes, UpdateIsJudgedLaw, UpdateIsBestLaw}
-use Rattle.cert_update.proofs.Pass.{is_graph, pass_law, best_pass_law}
+use Rattle.cert_update.proofs.Pass.{pass_law, best_pass_law}
 
 module _ (old set : TaskSet) (old_graphs graphs : List CodeGraph) (old_nests nests : List CodeNest)
     (c d : Certificate) (O : HasCodes old old_graphs old_nests) (N : HasCodes set graphs nests)
@@ -36,7 +37,7 @@ module _ (old set : TaskSet) (old_graphs graphs : List CodeGraph) (old_nests nes
             (graph_part old (task_graph_at old_graphs old_nests) c from k (judges from k u.task))
         | inr x ↦
             best_holds set.platform (task_graph_at graphs nests i) (certified_task d i)
-            (is_graph (graph_at graphs i) (N.code i lt)) x.1 k
+            (code_is_graph (graph_at graphs i) (N.code i lt)) x.1 k
       ]
 
   pub judged : IsYes old (task_graph_at old_graphs old_nests) c

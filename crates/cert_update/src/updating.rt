@@ -1,8 +1,7 @@
 // The updated certificate of a task set.
-ghost use Rattle.std.specs.Prelude.{◌≡◌, ◌<◌, ◌≤◌, ℕ, List, length, IfOk, MatchResult, All, sum_by};
+ghost use Rattle.std.specs.Prelude.{◌≡◌, ◌<◌, ◌≤◌, ℕ, length, IfOk, MatchResult, sum_by};
 ghost use Rattle.crpd_base.specs.Ranges.{IsTaskSet};
 ghost use Rattle.crpd_base.specs.declared.data.Certificate.{Certificate};
-ghost use Rattle.flat_graph.specs.CodeGraph.{CodeGraph, HasCode};
 ghost use Rattle.cert_check.specs.TaskGraphs.{task_graph_at, AreTaskGraphs};
 ghost use Rattle.cert_check.specs.Verdict.{IsJudged, Yes};
 ghost use Rattle.crpd_base.specs.CertificateRanges.{IsCertificate};
@@ -23,19 +22,10 @@ use crate::parts::new_parts;
 use crate::sources::sources;
 use cert_build::{Analysis, complete};
 use crpd_base::{Certificate, Items, TaskSet};
-use flat_graph::Graph;
+use flat_graph::{Graph, graphs_law};
 use loop_regions::Nest;
 use response::WindowError;
 use std::alloc::Global;
-
-/// Each graph is that of some code.
-fn codes_law(graphs: &[Graph])
-    ensures { All HasCode graphs.now }
-{
-    for graph in graphs {
-        graph.graph_law();
-    }
-}
 
 /// The certificate of the new set with these parts, whose windows are the least ones with them.
 fn completed(
@@ -114,8 +104,8 @@ pub fn update(
         (side set.now graphs.now nests.now) d → d ≡ u.certificate) }
     ensures ranges { IfOk result (λ u. IsCertificate u.certificate) }
 {
-    codes_law(old_graphs);
-    codes_law(graphs);
+    graphs_law(old_graphs);
+    graphs_law(graphs);
     let change = Change {
         old: CodedSet {
             set: old,

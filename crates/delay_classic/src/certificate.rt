@@ -11,10 +11,10 @@ ghost use Rattle.delay_classic.specs.ClassicErrors.{IsClassicError};
 
 use crate::laws::certificate_law;
 use crate::windows::classic_windows;
-use cert_build::{BuildError as ClassicError, analyse_all, assemble, graphs_law, parts_of};
+use cert_build::{BuildError as ClassicError, analyse_all, assemble, parts_of};
 use cert_check::write_longest;
 use crpd_base::{Certificate, MOST_TASKS, TaskSet, times_law};
-use flat_graph::Graph;
+use flat_graph::{Graph, graphs_law};
 use loop_regions::Nest;
 use std::alloc::Global;
 

@@ -320,3 +320,12 @@ impl Graph {
         let _nodes = &self.nodes;
     }
 }
+
+/// A law: each of the graphs is that of some code. Linear in the graphs.
+pub fn graphs_law(graphs: &[Graph])
+    ensures { All HasCode graphs.now }
+{
+    for graph in graphs {
+        graph.graph_law();
+    }
+}

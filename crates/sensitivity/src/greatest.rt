@@ -10,9 +10,8 @@ use crate::cost::Cost;
 use crate::laws::acceptance_law;
 use crate::search::Search;
 use crate::slack::{Slack, Stop};
-use cert_build::graphs_law;
 use crpd_base::{Memory, TaskSet};
-use flat_graph::Graph;
+use flat_graph::{Graph, graphs_law};
 use loop_regions::Nest;
 use std::alloc::Global;
 

@@ -4,6 +4,7 @@ use Rattle.std.proofs.lemmas.Result.{err_from_is_err_and}
 use Rattle.crpd_base.specs.declared.data.NodeState.{NodeState}
 use Rattle.loop_regions.specs.TaskGraph.{TaskGraph}
 use Rattle.flat_graph.specs.CodeGraph.{no_graph}
+use Rattle.flat_graph.proofs.CodeGraphs.{code_is_graph}
 use Rattle.cert_check.specs.TaskGraphs.{task_graph_at}
 use Rattle.cert_model.specs.Reading.{state_entries}
 use Rattle.crpd_base.specs.CertificateRanges.{HasFewPairs}
@@ -78,5 +79,6 @@ returns-in_err-analysis c =
     rw (p.1, p.2)
     (task_refused c.args.set.now (task_graph_at c.args.graphs.now c.args.nests.now) c.loop-k.k
     c.loop-k.found c.loop-k.kept.items c.in_err-analysis.field-0.0
-    (λ j l. c.graphs_law.ensures j no_graph (omega (arith, l, c.requires.tasks.all_graphs)))
+    (λ j l. code_is_graph _
+    (c.graphs_law.ensures j no_graph (omega (arith, l, c.requires.tasks.all_graphs))))
     (omega (arith, gl, c.requires.tasks.all_graphs)) c.loop-k.invariant refused)

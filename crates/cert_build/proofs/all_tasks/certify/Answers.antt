@@ -1,6 +1,7 @@
 use Rattle.std.proofs.Common.{arith}
 use Rattle.std.proofs.lemmas.Result.{err_from_is_err_and}
 use Rattle.flat_graph.specs.CodeGraph.{no_graph}
+use Rattle.flat_graph.proofs.CodeGraphs.{code_is_graph}
 use Rattle.cert_check.specs.TaskGraphs.{task_graph_at}
 use Rattle.crpd_base.proofs.Times.{has_times}
 use Rattle.cert_build.proofs.OneBest.{one_best}
@@ -30,7 +31,8 @@ pub returns-clause-judged : goal.returns-clause-judged
 returns-clause-judged c =
     best_is_judged c.args.set.now (task_graph_at c.args.graphs.now c.args.nests.now)
     c.in_ok-certificate.certificate
-    (λ k l. c.graphs_law.ensures k no_graph (omega (arith, l, c.requires.tasks.all_graphs)))
+    (λ k l. code_is_graph _
+    (c.graphs_law.ensures k no_graph (omega (arith, l, c.requires.tasks.all_graphs))))
     (is_best c.args.set.now (task_graph_at c.args.graphs.now c.args.nests.now)
     c.in_ok-analyses.analyses.items c.in_ok-certificate.certificate c.in_ok-analyses.ensures
     (c.in_ok-certificate.ensures c.args.nests.now))

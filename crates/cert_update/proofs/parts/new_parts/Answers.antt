@@ -4,11 +4,11 @@ use Rattle.std.proofs.lemmas.Result.{err_from_is_err_and}
 use Rattle.crpd_base.specs.declared.data.NodeState.{NodeState}
 use Rattle.crpd_base.specs.CertificateRanges.{HasFewPairs}
 use Rattle.cert_model.specs.Reading.{state_entries}
+use Rattle.flat_graph.proofs.CodeGraphs.{code_is_graph}
 use Rattle.cert_update.specs.Inner.Coded.{coded_side}
 use Rattle.cert_update.specs.Inner.Parts.{CountsNewEntries}
 use Rattle.cert_build.proofs.Counting.{few_states, few_pairs}
 use Rattle.cert_update.proofs.NewParts.{kept_more, dropped_more, refused, many}
-use Rattle.cert_update.proofs.Pass.{is_graph}
 use Rattle.cert_update.proofs.parts.new_parts.Goals as goal
 use Rattle.cert_update.proofs.parts.new_parts.Goals.{then-found-le-MOST_ENTRIES+in_ok-push}
 use Rattle.cert_update.proofs.parts.new_parts.Goals.{else-found-le-MOST_ENTRIES}
@@ -22,7 +22,7 @@ returns-in_err-part-clause-parts c =
     let count = c.requires.sources.tasks in
     let lt = c.loop-i-test.true in
     rw (p.1, p.2)
-    (refused old c.args.change.now.certificate.now new (λ j l. is_graph _ (codes.code j l))
+    (refused old c.args.change.now.certificate.now new (λ j l. code_is_graph _ (codes.code j l))
     c.loop-i.i c.loop-i.found c.loop-i.parts.items c.in_err-part.field-0.0
     (omega (arith, count, lt)) c.loop-i.invariant c.in_err-part.ensures)
 

@@ -1,6 +1,7 @@
 use Rattle.std.proofs.Common.{Bool, List, sym, subst}
 use Rattle.crpd_base.specs.declared.data.Part.{Part}
 use Rattle.flat_graph.specs.CodeGraph.{no_graph}
+use Rattle.flat_graph.proofs.CodeGraphs.{code_is_graph}
 use Rattle.cert_check.specs.TaskGraphs.{task_graph_at}
 use Rattle.crpd_base.proofs.Times.{has_times}
 use Rattle.sensitivity.specs.Inner.Found.{HaveCacheBlocks, HaveHits}
@@ -25,4 +26,5 @@ returns-in-TooLarge c =
     (task_graph_at c.args.graphs.now c.args.nests.now) c.in-TooLarge.task
     (has_times c.args.set.now c.requires.set)
     (all_bounded c.args.set.now c.args.graphs.now c.args.nests.now c.requires.tasks
-    (λ k l. c.graphs_law.ensures k no_graph l)) (rw c.in-TooLarge.is at c.in_ok-task.ensures)
+    (λ k l. code_is_graph _ (c.graphs_law.ensures k no_graph l)))
+    (rw c.in-TooLarge.is at c.in_ok-task.ensures)

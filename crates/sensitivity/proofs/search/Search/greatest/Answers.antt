@@ -1,6 +1,7 @@
 use Rattle.std.proofs.Common.{◌∙◌, ap, arith}
 use Rattle.crpd_base.specs.declared.data.TaskSet.{TaskSet}
 use Rattle.flat_graph.specs.CodeGraph.{no_graph}
+use Rattle.flat_graph.proofs.CodeGraphs.{code_is_graph}
 use Rattle.cert_check.specs.TaskGraphs.{task_graph_at}
 use Rattle.crpd_base.proofs.Times.{has_times}
 use Rattle.sensitivity.proofs.Trials.{all_bounded, stays_at, slack_at_limit, slack_below, below_by}
@@ -12,7 +13,8 @@ returns-in_default-2 c =
     (task_graph_at c.args.self.now.graphs.now c.args.self.now.nests.now)
     (has_times c.args.self.now.set.now c.requires.set)
     (all_bounded c.args.self.now.set.now c.args.self.now.graphs.now c.args.self.now.nests.now
-    c.requires.tasks (λ k l. c.graphs_law.ensures k no_graph l)) c.acceptance_law.ensures.stays
+    c.requires.tasks (λ k l. code_is_graph _ (c.graphs_law.ensures k no_graph l)))
+    c.acceptance_law.ensures.stays
     (rw c.in_default-2.is at c.in_ok-stop.ensures.judged)
 
 pub loop-low-preserved-in-None : goal.loop-low-preserved-in-None
@@ -25,7 +27,8 @@ loop-low-preserved-in-None c = record {
       (task_graph_at c.args.self.now.graphs.now c.args.self.now.nests.now)
       (has_times c.args.self.now.set.now c.requires.set)
       (all_bounded c.args.self.now.set.now c.args.self.now.graphs.now c.args.self.now.nests.now
-      c.requires.tasks (λ k l. c.graphs_law.ensures k no_graph l)) c.acceptance_law.ensures.stays
+      c.requires.tasks (λ k l. code_is_graph _ (c.graphs_law.ensures k no_graph l)))
+      c.acceptance_law.ensures.stays
       x _ (omega (arith, lt)) (rw c.in-None.is at c.in_ok-stop_at.ensures.judged);
   stop = c.loop-low.invariant.stop;
 }
@@ -36,7 +39,8 @@ returns c =
     (task_graph_at c.args.self.now.graphs.now c.args.self.now.nests.now)
     (has_times c.args.self.now.set.now c.requires.set)
     (all_bounded c.args.self.now.set.now c.args.self.now.graphs.now c.args.self.now.nests.now
-    c.requires.tasks (λ k l. c.graphs_law.ensures k no_graph l)) c.acceptance_law.ensures.never
+    c.requires.tasks (λ k l. code_is_graph _ (c.graphs_law.ensures k no_graph l)))
+    c.acceptance_law.ensures.never
     c.loop-low.high c.loop-low.stop c.loop-low.invariant.most
     (λ x lt. c.loop-low.invariant.accepted x (omega (arith, lt, c.loop-low-test.false)))
     c.loop-low.invariant.stop
