@@ -1,14 +1,15 @@
 -- Clauses 2 to 7 of a part, and that it is the analysis', pass from an old task to the unchanged
 -- new one.
-use Rattle.std.proofs.Common.{◌≡◌, ℕ, ◌+◌, Bool, if◌then◌else◌, length, refl, sym, ap, ◌∙◌, subst}
+use Rattle.std.proofs.Common.{◌≡◌, ℕ, ◌+◌, ◌≤◌, Bool, IsFalse, if◌then◌else◌, length, refl, sym, ap}
+use Rattle.std.proofs.Common.{◌∙◌, subst, inl, inr, arith}
 use Rattle.std.specs.Prelude.{◌&&◌, ◌==◌, not}
+use Rattle.std.proofs.lemmas.Bool.{cases_lt}
 use Rattle.crpd_base.specs.declared.data.Platform.{Platform}
 use Rattle.crpd_base.specs.declared.data.TaskPart.{TaskPart}
 use Rattle.rv_decode.specs.declared.Ins.{Ins}
 use Rattle.rv_decode.specs.Cost.{cost, changes_flow}
 use Rattle.rv_decode.specs.Flow.{flow}
 use Rattle.rv_decode.proofs.WorkCost.{same_work}
-use Rattle.flat_graph.specs.Graph.{IsGraph}
 use Rattle.flat_graph.specs.EdgeCost.{NodeCode, is_return}
 use Rattle.flat_graph.specs.CodeGraph.{CodeGraph, graph_of, HasCode}
 use Rattle.loop_regions.specs.Nest.{IsNested}
@@ -19,31 +20,41 @@ use Rattle.cert_check.specs.ListedPotentials.{potentials_of}
 use Rattle.cert_check.specs.PotentialClauses.{edge_costs, PotentialsMeet}
 use Rattle.cert_check.specs.TaskGraphs.{task_graph}
 use Rattle.cert_check.specs.declared.outcome.Clause.{Clause}
-use Rattle.cert_check.specs.declared.outcome.Clause.TheVariants.{Leaders, LoopPotentials}
-use Rattle.cert_check.specs.declared.outcome.Clause.TheVariants.{Inequalities, Bound}
+use Rattle.cert_check.specs.declared.outcome.Clause.TheVariants.{Leaders, Inequalities}
 use Rattle.cert_check.specs.Verdict.{GraphHolds}
+use Rattle.flat_graph.proofs.CodeGraphs.{code_is_graph}
+use Rattle.loop_regions.proofs.Alike.{Alike, turned}
 use Rattle.loop_regions.proofs.Stated.{regions_law}
+use Rattle.cert_check.proofs.Alike.{graph_holds_too}
+use Rattle.cert_build.proofs.Alike.{part_too}
 use Rattle.cert_build.specs.Best.{IsBestPart, AreBestPotentials}
 use Rattle.cert_build.proofs.Certified.{beside}
 use Rattle.cert_update.specs.Unchanged.{AreAlike, HasSameNodes, HasSameRegions}
 use Rattle.cert_update.specs.Update.{HasSameAnalysis}
 use Rattle.cert_update.specs.Laws.{HasRegions, SameGraphLaw, PassLaw, BestPassLaw}
-use Rattle.cert_update.proofs.SameNodes.{AreSameNodes, same_lists, code_follows}
-use Rattle.cert_update.proofs.FirstNodes.{IsAhead, reached_ahead, one_first}
-use Rattle.cert_update.proofs.AlikeNests.{Alike, potentials_too, bound_too, first_too, ahead_back}
-use Rattle.cert_update.proofs.AlikeNests.{least_too}
+use Rattle.cert_update.proofs.SameNodes.{AreSameNodes, same_lists}
+use Rattle.cert_update.proofs.FirstNodes.{IsAhead, ahead_too, reached_ahead, one_first}
 
 -- ---- the graphs are the same
-
-pub is_graph : (g : CodeGraph) → HasCode g → IsGraph (graph_of g)
-is_graph g H = (code_follows g H.words H.entry H.of_code).graph
 
 nested : (g : CodeGraph) (n : CodeNest) → HasRegions g n → IsNested (graph_of g) (nest_of n)
 nested g n N = regions_law (graph_of g) _ N.loops (nest_of n) N.regions N.accepted
 
-pub alike : (g h : CodeGraph) (n m : CodeNest) → HasSameRegions (task_graph g n) (task_graph h m)
-    → Alike (length g.nodes) (nest_of n) (nest_of m)
-alike g h n m R = record { size = R.size; head = R.head; bound = R.bound; holds = R.holds }
+-- past the nodes no region holds anything
+pub alike : (g h : CodeGraph) (n m : CodeNest)
+    → ((r y : ℕ) → length g.nodes ≤ y → IsFalse ((nest_of n).holds r y))
+    → ((r y : ℕ) → length h.nodes ≤ y → IsFalse ((nest_of m).holds r y))
+    → length g.nodes ≡ length h.nodes → HasSameRegions (task_graph g n) (task_graph h m)
+    → Alike (nest_of n) (nest_of m)
+alike g h n m g_only h_only size R = record {
+  size = R.size;
+  head = R.head;
+  bound = R.bound;
+  holds = λ r y lt. elim (cases_lt y (length g.nodes)) [
+    | inl below ↦ R.holds r y lt below
+    | inr past ↦ g_only r y past ∙ sym (h_only r y (omega (arith, past, size)))
+  ];
+}
 
 same_nodes : (g h : CodeGraph) (n m : CodeNest) → HasSameNodes (task_graph g n) (task_graph h m)
     → AreSameNodes g h
@@ -72,17 +83,18 @@ module _ (g h : CodeGraph) (n m : CodeNest) (G : HasCode g) (H : HasCode h) (N :
   first_same =
       let H1 : HasCode moved = subst (λ (x : CodeGraph). HasCode x) moved_is H in
       let M1 : HasRegions moved m = subst (λ (x : CodeGraph). HasRegions x m) moved_is M in
-      let one = is_graph g G in
-      let two = is_graph moved H1 in
+      let one = code_is_graph g G in
+      let two = code_is_graph moved H1 in
       let n_nested = nested g n N in
       let m_nested = nested moved m M1 in
-      let A = alike g h n m R in
+      let A = alike g h n m N.regions.nodes_only M.regions.nodes_only S.size R in
       let out : IsAhead (graph_of g) (nest_of n) g.first h.first =
       reached_ahead (graph_of g) (nest_of n) n_nested one h.first two.first in
       let back : IsAhead (graph_of moved) (nest_of m) h.first g.first =
       reached_ahead (graph_of moved) (nest_of m) m_nested two g.first one.first in
       one_first (graph_of g) (nest_of n) g.first h.first N.accepted.no_cycle out
-      (ahead_back (graph_of g) one (nest_of n) (nest_of m) n_nested A h.first g.first back)
+      (ahead_too (graph_of g) (nest_of m) (nest_of n) (turned (nest_of n) (nest_of m) A) h.first
+      g.first back)
 
   pub same_graph : g ≡ h
   same_graph = λ i. record { nodes = nodes_same i; first = first_same i }
@@ -146,41 +158,6 @@ module _ (p q : Platform) (same : AreAlike p q) (t : TaskGraph) (c : TaskPart) w
   pub platform_best : IsBestPart p t c → IsBestPart q t c
   platform_best B = subst (λ (x : Platform). IsBestPart x t c) same (seen_best B)
 
--- ---- the regions are the same
-
-module _ (p : Platform) (g : CodeGraph) (n m : CodeNest) (G : IsGraph (graph_of g))
-    (N : IsNested (graph_of g) (nest_of n)) (A : Alike (length g.nodes) (nest_of n) (nest_of m))
-    (c : TaskPart) where
-  pub nest_holds : (k : Clause) → GraphHolds p (task_graph g n) c k
-      → GraphHolds p (task_graph g m) c k
-  nest_holds LoopPotentials h = h ∙ A.size
-  nest_holds (Inequalities u) h = λ is_hit hits below.
-      potentials_too (graph_of g) G (nest_of n) (nest_of m) N A _ _ u below (h is_hit hits below)
-  nest_holds Bound h = bound_too (graph_of g) G (nest_of n) (nest_of m) N A _ _ h
-  nest_holds k h = h
-
-  pub nest_best : IsNested (graph_of g) (nest_of m) → IsBestPart p (task_graph g n) c
-      → IsBestPart p (task_graph g m) c
-  nest_best M B =
-      record {
-        states = record {
-          leaders = B.states.leaders;
-          each = B.states.each;
-          ascending = B.states.ascending;
-        };
-        evicting = B.evicting;
-        useful = B.useful;
-        is_hit = B.is_hit;
-        hits = B.hits;
-        potentials = record {
-          nodes = B.potentials.nodes;
-          regions = B.potentials.regions ∙ A.size;
-          least = least_too (graph_of g) (nest_of n) (nest_of m) _ _ G N M A B.potentials.least;
-          bound = λ i is.
-              B.potentials.bound i (first_too (graph_of g) G (nest_of n) (nest_of m) N A i is);
-        };
-      }
-
 -- ---- the parts say the same
 
 module _ (p : Platform) (t : TaskGraph) (c d : TaskPart) (K : HasSameAnalysis c d) where
@@ -224,17 +201,15 @@ module _ (p : Platform) (t : TaskGraph) (c d : TaskPart) (K : HasSameAnalysis c 
 pub pass_law : PassLaw
 pass_law p q g h n m c d k G H N M S K holds =
     let e = same_graph g h n m G H N M S.nodes S.regions in
-    let A = alike g h n m S.regions in
-    let here = nest_holds p g n m (is_graph g G) (nested g n N) A c k holds in
+    let A = alike g h n m N.regions.nodes_only M.regions.nodes_only S.nodes.size S.regions in
+    let here = graph_holds_too p g n m A c k holds in
     let there = subst (λ (x : CodeGraph). GraphHolds p (task_graph x m) c k) e here in
     part_holds q (task_graph h m) c d K k (platform_holds p q S.platform (task_graph h m) c k there)
 
 pub best_pass_law : BestPassLaw
 best_pass_law p q g h n m c d G H N M S K best =
     let e = same_graph g h n m G H N M S.nodes S.regions in
-    let A = alike g h n m S.regions in
-    let M1 : IsNested (graph_of g) (nest_of m) =
-    subst (λ (x : CodeGraph). IsNested (graph_of x) (nest_of m)) (sym e) (nested h m M) in
-    let here = nest_best p g n m (is_graph g G) (nested g n N) A c M1 best in
+    let A = alike g h n m N.regions.nodes_only M.regions.nodes_only S.nodes.size S.regions in
+    let here = part_too p g n m A c best in
     let there = subst (λ (x : CodeGraph). IsBestPart p (task_graph x m) c) e here in
     part_best q (task_graph h m) c d K (platform_best p q S.platform (task_graph h m) c there)

@@ -4,8 +4,6 @@ pub mod Given
 mod Below
 pub mod Chain
 pub mod OneGraph
-pub mod OneNest
-pub mod OneJudgement
 pub mod Plans
 mod Readers
 mod Nests

@@ -1,7 +1,6 @@
 -- Over the same graphs, a set has the analysis' certificate or one refusal of it.
 use Rattle.std.proofs.Common.{◌≡◌, ◌≢◌, ℕ, suc, ◌+◌, ◌<◌, ◌≤◌, List, [], ◌∷◌, length, refl}
-use Rattle.std.proofs.Common.{sym, ap, ◌∙◌, inl, inr, arith, ◌^◌}
-use Rattle.std.proofs.lemmas.Bool.{cases_lt}
+use Rattle.std.proofs.Common.{sym, ap, ◌∙◌, arith, ◌^◌}
 use Rattle.std.proofs.lemmas.List.Sums.{sum_by-cons}
 use Rattle.std.specs.Prelude.{slice_index_or, sum_by}
 use Rattle.crpd_base.specs.declared.data.Part.{Part}
@@ -22,6 +21,7 @@ use Rattle.response.proofs.Least.{demands_agree}
 use Rattle.response.specs.Windows.{IsSmallerWindow, IsFirstWithoutWindow, method_at}
 use Rattle.response.specs.Windows.{window_at as chosen_window}
 use Rattle.cert_check.specs.JudgeInput.{accesses_of, longest_at, certified_part, window_at}
+use Rattle.cert_check.proofs.OneAnswer.{neither_less}
 use Rattle.cert_model.specs.Reading.{entries, state_entries, task_entries}
 use Rattle.cert_build.specs.Best.{IsBest, demand_of}
 use Rattle.cert_build.specs.Certify.{AreBestParts, IsBuildError, IsFirstLarge, part_in}
@@ -135,24 +135,13 @@ module _ (set : TaskSet) (graphs : ℕ → TaskGraph) (times : HasTimes set)
       (same_parts xs ys X Y) i F
       (chosen_window H.higher) (method_at H.higher) (λ k l. H.each k (omega (arith, l, lt)))
 
-  -- numbers of which neither is less
-  pub neither : (i j : ℕ) → (i < j → ⊥) → (j < i → ⊥) → i ≡ j
-  neither i j low high =
-      elim (cases_lt i j) [
-        | inl lt ↦ absurd (low lt)
-        | inr ge ↦ elim (cases_lt j i) [
-          | inl lt ↦ absurd (high lt)
-          | inr le ↦ omega (arith, ge, le)
-        ]
-      ]
-
   -- and there is one refusal beside want of memory
   pub one_refusal : (e d : BuildError) → e ≢ Memory → d ≢ Memory → IsBuildError set graphs e
       → IsBuildError set graphs d → e ≡ d
   one_refusal Memory d free other E D = absurd (free refl)
   one_refusal e Memory free other E D = absurd (other refl)
   one_refusal (TooLarge t a) (TooLarge u b) free other E D =
-      let task : t.0 ≡ u.0 = neither t.0 u.0 (λ lt. D.0.before t.0 lt E.0.large)
+      let task : t.0 ≡ u.0 = neither_less t.0 u.0 (λ lt. D.0.before t.0 lt E.0.large)
       (λ lt. E.0.before u.0 lt D.0.large) in
       let address : a ≡ b = E.1 ∙ ap (λ k. (graphs k).places.address (graphs k).graph.first) task
       ∙ sym D.1 in
@@ -171,6 +160,6 @@ module _ (set : TaskSet) (graphs : ℕ → TaskGraph) (times : HasTimes set)
       let same = same_entries E.0 D.0 E.1 D.1 in
       let is = D.2 in let many = D.3 in let few = E.2 in absurd (omega (arith, same, is, many, few))
   one_refusal (Unschedulable t) (Unschedulable u) free other E D =
-      let task : t.0 ≡ u.0 = neither t.0 u.0 (first_is E.0 D.0 t.0 u.0 E.1 D.1 E.3 D.3)
+      let task : t.0 ≡ u.0 = neither_less t.0 u.0 (first_is E.0 D.0 t.0 u.0 E.1 D.1 E.3 D.3)
       (first_is D.0 E.0 u.0 t.0 D.1 E.1 D.3 E.3) in
       λ i. Unschedulable (record { 0 = task i })

@@ -10,7 +10,7 @@ use Rattle.crpd_base.specs.declared.data.Task.{Task}
 use Rattle.crpd_base.specs.declared.data.TaskPart.{TaskPart}
 use Rattle.crpd_base.specs.declared.data.TaskSet.{TaskSet}
 use Rattle.crpd_base.proofs.Times.{has_times}
-use Rattle.flat_graph.specs.CodeGraph.{CodeGraph, graph_of, places_of, graph_at}
+use Rattle.flat_graph.specs.CodeGraph.{CodeGraph, graph_of, graph_at}
 use Rattle.flat_graph.specs.Graph.{IsGraph}
 use Rattle.loop_regions.specs.CodeNest.{CodeNest, nest_of}
 use Rattle.evict_sets.specs.ListedPart.{certified_task}
@@ -36,31 +36,29 @@ use Rattle.cert_update.specs.declared.fault.UpdateError.TheVariants.{TooManyEntr
 use Rattle.cert_update.proofs.OneUpdate.{one_name, one_update_by}
 use Rattle.crpd_input.specs.declared.input.Input.{Input}
 use Rattle.crpd_input.specs.declared.halt.Halt.{Halt}
-use Rattle.crpd_input.proofs.OneJudgement.{AreSame, judged_too, size_same}
-use Rattle.crpd_input.proofs.OneNest.{alike}
-use Rattle.cert_check.proofs.OneAnswer.{one_verdict}
+use Rattle.loop_regions.proofs.Alike.{Alike, turned, there}
+use Rattle.cert_check.proofs.Alike.{AllAlike, all_turned, judged_too}
+use Rattle.cert_build.proofs.Alike.{large_too, part_too}
+use Rattle.cert_check.proofs.OneAnswer.{neither_less, one_verdict}
 use Rattle.crpd_tool.specs.declared.answer.Answer.{Answer}
 use Rattle.crpd_tool.specs.Analyze.{certificate_answer, without_certificate}
 use Rattle.crpd_tool.specs.Check.{verdict_answer}
 use Rattle.crpd_tool.specs.Update.{ChangeOf, UpdateOf, as_of_analysis}
-use Rattle.crpd_tool.proofs.OneBuild.{bound_in, entries_same, has_window, neither}
-use Rattle.crpd_tool.proofs.OneMade.{Same, back, large_too, part_too}
+use Rattle.crpd_tool.proofs.OneBuild.{bound_in, entries_same, has_window}
 
 -- ---- by other regions of the same loops
 
-module _ (p q : Platform) (g h : CodeGraph) (n v m w : CodeNest) (s : AreSame g n v)
-    (t : AreSame h m w) where
+module _ (p q : Platform) (g h : CodeGraph) (n v m w : CodeNest)
+    (s : Alike (nest_of n) (nest_of v)) (B : Alike (nest_of m) (nest_of w)) where
   code_too : IsSameCode p (task_graph g n) q (task_graph h m)
       → IsSameCode p (task_graph g v) q (task_graph h w)
   code_too C =
       let S = C.nodes in
       let R = C.regions in
-      let A = alike (graph_of g) (places_of g) s.loops s.one_head (nest_of v)
-      (nest_of n) s.second s.first in
-      let B = alike (graph_of h) (places_of h) t.loops t.one_head (nest_of m)
-      (nest_of w) t.first t.second in
-      let there : (r : ℕ) → r < (nest_of v).size → r < (nest_of m).size = λ r lt.
-      subst (λ k. r < k) R.size (A.there r lt) in
+      let A = turned (nest_of n) (nest_of v) s in
+      let in_n = there (nest_of v) (nest_of n) A in
+      let in_m : (r : ℕ) → r < (nest_of v).size → r < (nest_of m).size = λ r lt.
+      subst (λ k. r < k) R.size (in_n r lt) in
       record {
         platform = C.platform;
         nodes = record {
@@ -70,21 +68,17 @@ module _ (p q : Platform) (g h : CodeGraph) (n v m w : CodeNest) (s : AreSame g 
           instruction = S.instruction;
         };
         regions = record {
-          size =
-              size_same (graph_of g) (places_of g) s.loops s.one_head (nest_of v)
-              (nest_of n) s.second s.first ∙ R.size
-              ∙ size_same (graph_of h) (places_of h) t.loops t.one_head (nest_of m)
-              (nest_of w) t.first t.second;
-          head = λ r lt. A.head r lt ∙ R.head r (A.there r lt) ∙ B.head r (there r lt);
-          bound = λ r lt. A.bound r lt ∙ R.bound r (A.there r lt) ∙ B.bound r (there r lt);
+          size = A.size ∙ R.size ∙ B.size;
+          head = λ r lt. A.head r lt ∙ R.head r (in_n r lt) ∙ B.head r (in_m r lt);
+          bound = λ r lt. A.bound r lt ∙ R.bound r (in_n r lt) ∙ B.bound r (in_m r lt);
           holds = λ r y lt below.
-              A.holds r y lt ∙ R.holds r y (A.there r lt) below ∙ B.holds r y (there r lt);
+              A.holds r y lt ∙ R.holds r y (in_n r lt) below ∙ B.holds r y (in_m r lt);
         };
       }
 
 module _ (old_set set : TaskSet) (gs hs : List CodeGraph) where
-  module _ (ns vs ms ws : List CodeNest) (before : Same old_set gs ns vs)
-      (after : Same set hs ms ws) where
+  module _ (ns vs ms ws : List CodeNest) (before : AllAlike old_set ns vs)
+      (after : AllAlike set ms ws) where
     unchanged_too : (k i : ℕ) → i < length set.tasks
         → IsUnchanged (side old_set gs ns) (side set hs ms) k i
         → IsUnchanged (side old_set gs vs) (side set hs ws) k i
@@ -96,13 +90,13 @@ module _ (old_set set : TaskSet) (gs hs : List CodeGraph) where
           (nest_at vs k) (nest_at ms i) (nest_at ws i) (before k U.task) (after i lt) U.code;
     }
 
-  module _ (ns vs ms ws : List CodeNest) (before : Same old_set gs ns vs)
-      (after : Same set hs ms ws) where
+  module _ (ns vs ms ws : List CodeNest) (before : AllAlike old_set ns vs)
+      (after : AllAlike set ms ws) where
     changed_too : (i : ℕ) → i < length set.tasks → IsChanged (side old_set gs ns) (side set hs ms) i
         → IsChanged (side old_set gs vs) (side set hs ws) i
     changed_too i lt C k U =
-        C k (unchanged_too vs ns ws ms (back old_set gs ns vs before)
-        (back set hs ms ws after) k i lt U)
+        C k (unchanged_too vs ns ws ms (all_turned old_set ns vs before)
+        (all_turned set ms ws after) k i lt U)
 
     updated_too : (c : Certificate) (i : ℕ) → i < length set.tasks → (d : TaskPart)
         → IsUpdatedPart (side old_set gs ns) c (side set hs ms) i d
@@ -137,8 +131,8 @@ module _ (old_set set : TaskSet) (gs hs : List CodeGraph) where
       large_too set.platform (graph_at hs i) (nest_at ms i) (nest_at ws i) (after i lt) L.1,
     )
 
-  module _ (ns vs ms ws : List CodeNest) (before : Same old_set gs ns vs)
-      (after : Same set hs ms ws) (c : Certificate) where
+  module _ (ns vs ms ws : List CodeNest) (before : AllAlike old_set ns vs)
+      (after : AllAlike set ms ws) (c : Certificate) where
     parts_too : (parts : List TaskPart)
         → AreUpdatedParts (side old_set gs ns) c (side set hs ms) parts
         → AreUpdatedParts (side old_set gs vs) c (side set hs ws) parts
@@ -148,7 +142,7 @@ module _ (old_set set : TaskSet) (gs hs : List CodeGraph) where
           updated_too ns vs ms ws before after c i lt (task_part_at parts i) (P.each i lt);
       within = λ i lt changed.
           P.within i lt
-          (changed_too vs ns ws ms (back old_set gs ns vs before) (back set hs ms ws after) i
+          (changed_too vs ns ws ms (all_turned old_set ns vs before) (all_turned set ms ws after) i
           lt changed);
     }
 
@@ -160,7 +154,7 @@ module _ (old_set set : TaskSet) (gs hs : List CodeGraph) where
       large = large_at ns vs ms ws before after t.0 R.task R.large;
       first = λ j lt large.
           R.first j lt
-          (large_at vs ns ws ms (back old_set gs ns vs before) (back set hs ms ws after) j
+          (large_at vs ns ws ms (all_turned old_set ns vs before) (all_turned set ms ws after) j
           (let l = R.task in omega (arith, l, lt)) large);
       at = R.at;
     }
@@ -267,7 +261,7 @@ module _ (old new : Side) (c : Certificate) (O : IsTaskSet old.set) (S : IsTaskS
   one_refusal Memory d free other E D = absurd (free refl)
   one_refusal e Memory free other E D = absurd (other refl)
   one_refusal (TooLarge t a) (TooLarge u b) free other E D =
-      let task : t.0 ≡ u.0 = neither new.set new.graphs times G t.0 u.0
+      let task : t.0 ≡ u.0 = neither_less t.0 u.0
       (λ lt. D.first t.0 lt E.large) (λ lt. E.first u.0 lt D.large) in
       let address : a ≡ b = E.at
       ∙ ap (λ k. (new.graphs k).places.address (new.graphs k).graph.first) task ∙ sym D.at in
@@ -292,7 +286,7 @@ module _ (old new : Side) (c : Certificate) (O : IsTaskSet old.set) (S : IsTaskS
       let is = D.count_is in
       let many = D.many in let few = E.few in absurd (omega (arith, same, is, many, few))
   one_refusal (Unschedulable t) (Unschedulable u) free other E D =
-      let task : t.0 ≡ u.0 = neither new.set new.graphs times G t.0 u.0
+      let task : t.0 ≡ u.0 = neither_less t.0 u.0
       (not_before E.parts D.parts E.are D.are t.0 u.0 E.without D.without)
       (not_before D.parts E.parts D.are E.are u.0 t.0 D.without E.without) in
       λ i. Unschedulable (record { 0 = task i })
@@ -306,7 +300,7 @@ module _ (file : List ℕ) (old input : Input) (c : Certificate) (gs hs : List C
     (ns vs ms ws : List CodeNest)
     (O : IsTaskSet old.set) (S : IsTaskSet input.set)
     (G : (k : ℕ) → k < length input.set.tasks → IsGraph (graph_of (graph_at hs k)))
-    (before : Same old.set gs ns vs) (after : Same input.set hs ms ws) where
+    (before : AllAlike old.set ns vs) (after : AllAlike input.set ms ws) where
   abbrev OldSide : Side
   OldSide = side old.set gs vs
 

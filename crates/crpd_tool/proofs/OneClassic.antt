@@ -33,9 +33,12 @@ use Rattle.crpd_input.specs.declared.input.Input.{Input}
 use Rattle.crpd_input.specs.declared.halt.Halt.{Halt}
 use Rattle.crpd_tool.specs.Analyze.{certificate_answer, without_certificate}
 use Rattle.crpd_tool.specs.Classic.{ClassicOf}
-use Rattle.crpd_tool.proofs.OneBuild.{neither, none_large, same_entries, same_parts}
+use Rattle.crpd_tool.proofs.OneBuild.{none_large, same_entries, same_parts}
 use Rattle.crpd_tool.proofs.OneBuild.{one_refusal as one_analysis_refusal}
-use Rattle.crpd_tool.proofs.OneMade.{Same, part_too, parts_too, refused_too as analysis_refused_too}
+use Rattle.cert_check.proofs.Alike.{AllAlike}
+use Rattle.cert_check.proofs.OneAnswer.{neither_less}
+use Rattle.cert_build.proofs.Alike.{part_too}
+use Rattle.crpd_tool.proofs.OneMade.{parts_too, refused_too as analysis_refused_too}
 
 -- a task with a window is not the first without one, by parts that are the same
 has_window : (set : TaskSet) (longest : ℕ → ℕ) (parts others : ℕ → Part)
@@ -125,14 +128,14 @@ module _ (set : TaskSet) (graphs : ℕ → TaskGraph) (times : HasTimes set)
       let same = same_entries set graphs times G E.0 D.0 E.1 D.1 in
       let is = D.2 in let many = D.3 in let few = E.2 in absurd (omega (arith, same, is, many, few))
   one_refusal (Unschedulable t) (Unschedulable u) free other E D =
-      let task : t.0 ≡ u.0 = neither set graphs times G t.0 u.0
+      let task : t.0 ≡ u.0 = neither_less t.0 u.0
       (first_is E.0 D.0 t.0 u.0 E.1 D.1 E.3 D.3) (first_is D.0 E.0 u.0 t.0 D.1 E.1 D.3 E.3) in
       λ i. Unschedulable (record { 0 = task i })
 
 -- ---- other regions of the same loops
 
 module _ (set : TaskSet) (graphs : List CodeGraph) (ns ms : List CodeNest)
-    (same : Same set graphs ns ms) where
+    (same : AllAlike set ns ms) where
   classic_too : (c : Certificate) → IsClassic set (task_graph_at graphs ns) c
       → IsClassic set (task_graph_at graphs ms) c
   classic_too c C = record {
@@ -163,7 +166,7 @@ module _ (set : TaskSet) (graphs : List CodeGraph) (ns ms : List CodeNest)
 module _ (file : List ℕ) (input : Input) (graphs : List CodeGraph) (ns ms : List CodeNest)
     (times : HasTimes input.set)
     (G : (k : ℕ) → k < length input.set.tasks → IsGraph (graph_of (graph_at graphs k)))
-    (same : Same input.set graphs ns ms) where
+    (same : AllAlike input.set ns ms) where
   pub one_classic_end : (r s : Result Answer Halt)
       → ClassicOf file input (record { graphs = graphs; nests = ns }) r
       → ClassicOf file input (record { graphs = graphs; nests = ms }) s → r ≡ s

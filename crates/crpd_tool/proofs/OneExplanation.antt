@@ -1,13 +1,13 @@
 -- A certificate and a script have one explanation, whatever the regions of the same loops are.
-use Rattle.std.proofs.Common.{◌≡◌, ℕ, ◌<◌, List, ◌++◌, length, get_or, map, Result, Ok, sym, ap}
+use Rattle.std.proofs.Common.{◌≡◌, ℕ, List, ◌++◌, get_or, map, Result, Ok, sym, ap}
 use Rattle.std.proofs.Common.{◌∙◌, subst}
 use Rattle.crpd_base.specs.declared.data.Certificate.{Certificate}
 use Rattle.crpd_base.specs.declared.data.Script.{Script}
 use Rattle.cert_check.specs.FirstFailing.{answer_of}
-use Rattle.cert_check.specs.TaskGraphs.{nest_at, task_graph_at}
+use Rattle.cert_check.specs.TaskGraphs.{task_graph_at}
 use Rattle.cert_check.specs.declared.outcome.Verdict.{Verdict}
 use Rattle.cert_check.specs.declared.outcome.Verdict.TheVariants.{Yes, No}
-use Rattle.flat_graph.specs.CodeGraph.{CodeGraph, graph_at}
+use Rattle.flat_graph.specs.CodeGraph.{CodeGraph}
 use Rattle.loop_regions.specs.CodeNest.{CodeNest}
 use Rattle.preempt_machine.specs.Step.{Fetch, Start}
 use Rattle.run_account.specs.Account.{IsAccount, account_entry}
@@ -20,7 +20,7 @@ use Rattle.run_account.proofs.OneLedger.{one_ledger}
 use Rattle.crpd_input.specs.declared.input.Input.{Input}
 use Rattle.crpd_input.specs.declared.halt.Halt.{Halt}
 use Rattle.crpd_input.specs.declared.shapes.Shapes.{Shapes}
-use Rattle.crpd_input.proofs.OneJudgement.{AreSame, judged_too}
+use Rattle.cert_check.proofs.Alike.{AllAlike, judged_too}
 use Rattle.cert_check.proofs.OneAnswer.{one_verdict}
 use Rattle.crpd_report.specs.Explain.{delay_lines, reload_lines}
 use Rattle.crpd_tool.specs.Explain.{AccountOf, ExplainedBy, ExplanationOf}
@@ -121,8 +121,7 @@ module _ (input : Input) (graphs : List CodeGraph) (c : Certificate) (script : S
   one_by Yes r s a b = one_account r s a b
   one_by (No task clause place) r s a b = a ∙ sym b
 
-  pub one_explanation : ((k : ℕ) → k < length input.set.tasks
-      → AreSame (graph_at graphs k) (nest_at ms k) (nest_at ns k)) → (r s : Result Answer Halt)
+  pub one_explanation : AllAlike input.set ms ns → (r s : Result Answer Halt)
       → ExplanationOf input first c script r → ExplanationOf input second c script s → r ≡ s
   one_explanation same r s a b =
       let judged = judged_too input.set graphs c ms ns same (answer_of b.0) b.1 in

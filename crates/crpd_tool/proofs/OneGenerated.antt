@@ -18,17 +18,17 @@ use Rattle.crpd_tool.specs.declared.answer.Answer.{Answer}
 use Rattle.crpd_input.specs.declared.input.Input.{Input}
 use Rattle.crpd_input.specs.declared.halt.Halt.{Halt}
 use Rattle.crpd_input.specs.declared.shapes.Shapes.{Shapes}
-use Rattle.crpd_input.proofs.OneJudgement.{judged_too}
+use Rattle.cert_check.proofs.Alike.{AllAlike, judged_too}
 use Rattle.cert_check.proofs.OneAnswer.{one_verdict}
 use Rattle.crpd_tool.specs.Generate.{GeneratedOf, IsRunJudged, made_answer, without_made}
 use Rattle.crpd_tool.specs.Simulate.{run_of}
 use Rattle.crpd_tool.proofs.OneBuild.{not_refused, one_refusal}
-use Rattle.crpd_tool.proofs.OneMade.{Same, best_too, refused_too}
+use Rattle.crpd_tool.proofs.OneMade.{best_too, refused_too}
 
 module _ (n : ℕ) (script : Script) (input : Input) (graphs : List CodeGraph) (ns ms : List CodeNest)
     (times : HasTimes input.set)
     (G : (k : ℕ) → k < length input.set.tasks → IsGraph (graph_of (graph_at graphs k)))
-    (same : Same input.set graphs ns ms) where
+    (same : AllAlike input.set ns ms) where
   abbrev by_first : Shapes
   by_first = record { graphs = graphs; nests = ns }
 

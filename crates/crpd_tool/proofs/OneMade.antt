@@ -1,82 +1,33 @@
 -- The analysis has one end by all regions of the same loops.
 use Rattle.std.proofs.Common.{◌≡◌, ℕ, ◌<◌, List, length, Result, Ok, sym, ap, ◌∙◌, inl, inr, arith}
 use Rattle.crpd_base.specs.declared.data.Certificate.{Certificate}
-use Rattle.crpd_base.specs.declared.data.Platform.{Platform}
 use Rattle.crpd_base.specs.declared.data.TaskPart.{TaskPart}
 use Rattle.crpd_base.specs.declared.data.TaskSet.{TaskSet}
 use Rattle.crpd_base.specs.Tasks.{HasTimes}
-use Rattle.flat_graph.specs.CodeGraph.{CodeGraph, graph_of, places_of, graph_at}
+use Rattle.flat_graph.specs.CodeGraph.{CodeGraph, graph_of, graph_at}
 use Rattle.flat_graph.specs.Graph.{IsGraph}
-use Rattle.loop_regions.specs.CodeNest.{CodeNest, nest_of}
+use Rattle.loop_regions.specs.CodeNest.{CodeNest}
 use Rattle.evict_sets.specs.ListedPart.{certified_task}
-use Rattle.cert_check.specs.TaskGraphs.{nest_at, task_graph, task_graph_at}
+use Rattle.cert_check.specs.TaskGraphs.{nest_at, task_graph_at}
+use Rattle.cert_check.proofs.Alike.{AllAlike, all_turned}
 use Rattle.cert_build.specs.Analysis.{HasLargeBound}
-use Rattle.cert_build.specs.Best.{IsBest, IsBestPart}
+use Rattle.cert_build.specs.Best.{IsBest}
 use Rattle.cert_build.specs.Certify.{AreBestParts, IsBuildError}
 use Rattle.cert_build.specs.declared.fault.BuildError.{BuildError}
 use Rattle.cert_build.specs.declared.fault.BuildError.TheVariants.{Memory, TooLarge, TooManyEntries}
 use Rattle.cert_build.specs.declared.fault.BuildError.TheVariants.{Unschedulable}
+use Rattle.cert_build.proofs.Alike.{large_too, part_too}
 use Rattle.cert_build.proofs.OneBest.{one_best}
 use Rattle.crpd_tool.specs.declared.answer.Answer.{Answer}
 use Rattle.crpd_input.specs.declared.input.Input.{Input}
 use Rattle.crpd_input.specs.declared.halt.Halt.{Halt}
 use Rattle.crpd_tool.specs.Analyze.{AnalysisOf, certificate_answer, without_certificate}
 use Rattle.crpd_tool.proofs.OneBuild.{not_refused, one_refusal}
-use Rattle.crpd_input.proofs.OneJudgement.{AreSame, item_too, least_too, size_same, turned}
-
--- ---- one task
-
-module _ (p : Platform) (g : CodeGraph) (n m : CodeNest) (s : AreSame g n m) where
-  pub part_too : (c : TaskPart) → IsBestPart p (task_graph g n) c → IsBestPart p (task_graph g m) c
-  part_too c B = record {
-    states = B.states;
-    evicting = B.evicting;
-    useful = B.useful;
-    is_hit = B.is_hit;
-    hits = B.hits;
-    potentials = record {
-      nodes = B.potentials.nodes;
-      regions =
-          B.potentials.regions ∙ size_same (graph_of g) (places_of g) s.loops s.one_head (nest_of n)
-          (nest_of m) s.first s.second;
-      least =
-          least_too (graph_of g) (places_of g) s.loops s.one_head (nest_of n) (nest_of m) s.first
-          s.second _ _ B.potentials.least;
-      bound = λ i is.
-          B.potentials.bound i
-          (item_too (graph_of g) (places_of g) s.loops s.one_head (nest_of m) (nest_of n) s.second
-          s.first g.first i is);
-    };
-  }
-
-  pub large_too : HasLargeBound p (task_graph g n) → HasLargeBound p (task_graph g m)
-  large_too L =
-      let e = L.exceeds in
-      record {
-        is_hit = L.is_hit;
-        hits = L.hits;
-        exceeds = (
-          e.0,
-          e.1,
-          least_too (graph_of g) (places_of g) s.loops s.one_head (nest_of n) (nest_of m) s.first
-              s.second _ _ e.2,
-          item_too (graph_of g) (places_of g) s.loops s.one_head (nest_of n) (nest_of m) s.first
-              s.second g.first e.1 e.3,
-          e.4,
-        );
-      }
 
 -- ---- all tasks
 
 module _ (set : TaskSet) (graphs : List CodeGraph) where
-  abbrev pub Same : List CodeNest → List CodeNest → Type 0
-  Same ns ms =
-      (i : ℕ) → i < length set.tasks → AreSame (graph_at graphs i) (nest_at ns i) (nest_at ms i)
-
-  pub back : (ns ms : List CodeNest) → Same ns ms → Same ms ns
-  back ns ms same = λ i lt. turned (graph_at graphs i) (nest_at ns i) (nest_at ms i) (same i lt)
-
-  module _ (ns ms : List CodeNest) (same : Same ns ms) where
+  module _ (ns ms : List CodeNest) (same : AllAlike set ns ms) where
     pub best_too : (c : Certificate) → IsBest set (task_graph_at graphs ns) c
         → IsBest set (task_graph_at graphs ms) c
     best_too c B = record {
@@ -110,7 +61,7 @@ module _ (set : TaskSet) (graphs : List CodeGraph) where
     large_at i lt =
         large_too set.platform (graph_at graphs i) (nest_at ns i) (nest_at ms i) (same i lt)
 
-  pub refused_too : (ns ms : List CodeNest) → Same ns ms → (e : BuildError)
+  pub refused_too : (ns ms : List CodeNest) → AllAlike set ns ms → (e : BuildError)
       → IsBuildError set (task_graph_at graphs ns) e → IsBuildError set (task_graph_at graphs ms) e
   refused_too ns ms same Memory R = tt
   refused_too ns ms same (TooLarge t address) R = (
@@ -119,7 +70,8 @@ module _ (set : TaskSet) (graphs : List CodeGraph) where
       large = large_at ns ms same t.0 R.0.task R.0.large;
       before = λ k lt large.
           R.0.before k lt
-          (large_at ms ns (back ns ms same) k (let l = R.0.task in omega (arith, l, lt)) large);
+          (large_at ms ns (all_turned set ns ms same) k (let l = R.0.task in omega (arith, l, lt))
+          large);
     },
     R.1,
   )
@@ -131,7 +83,7 @@ module _ (set : TaskSet) (graphs : List CodeGraph) where
 module _ (file : List ℕ) (input : Input) (graphs : List CodeGraph) (ns ms : List CodeNest)
     (times : HasTimes input.set)
     (G : (k : ℕ) → k < length input.set.tasks → IsGraph (graph_of (graph_at graphs k)))
-    (same : Same input.set graphs ns ms) where
+    (same : AllAlike input.set ns ms) where
   pub one_analysis : (r s : Result Answer Halt)
       → AnalysisOf file input (record { graphs = graphs; nests = ns }) r
       → AnalysisOf file input (record { graphs = graphs; nests = ms }) s → r ≡ s

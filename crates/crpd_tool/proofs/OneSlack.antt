@@ -7,12 +7,15 @@ use Rattle.crpd_base.specs.declared.data.TaskPlan.{TaskPlan}
 use Rattle.crpd_base.specs.declared.data.TaskSet.{TaskSet}
 use Rattle.crpd_base.specs.Tasks.{HasTimes}
 use Rattle.rv_decode.specs.Flow.{Words}
-use Rattle.flat_graph.specs.CodeGraph.{CodeGraph, graph_of, places_of, graph_at}
+use Rattle.flat_graph.specs.CodeGraph.{CodeGraph, graph_of, graph_at}
 use Rattle.loop_regions.specs.CodeNest.{CodeNest, nest_of}
 use Rattle.loop_regions.specs.TaskGraph.{TaskGraph}
+use Rattle.loop_regions.proofs.Alike.{Alike, turned, item_too}
 use Rattle.loop_regions.proofs.Stated.{regions_law}
+use Rattle.exec_bound.proofs.Alike.{least_too}
 use Rattle.cert_check.specs.JudgeInput.{IsGraphOf}
 use Rattle.cert_check.specs.TaskGraphs.{nest_at, task_graph, task_graph_at}
+use Rattle.cert_check.proofs.Alike.{AllAlike, all_turned}
 use Rattle.sensitivity.specs.Accepted.{AreAnalysedParts, IsAccepted, IsLeastBound, IsAnalysedPart}
 use Rattle.sensitivity.specs.Accepted.{IsStop}
 use Rattle.sensitivity.specs.Costs.{with_miss, with_switch}
@@ -25,9 +28,7 @@ use Rattle.sensitivity.proofs.Slacks.{one_slack_by}
 use Rattle.crpd_tool.specs.declared.answer.Answer.{Answer}
 use Rattle.crpd_input.specs.declared.input.Input.{Input}
 use Rattle.crpd_input.specs.declared.halt.Halt.{Halt}
-use Rattle.crpd_input.proofs.OneJudgement.{AreSame, item_too, least_too}
 use Rattle.crpd_tool.specs.Slack.{AreSlacks, SlackOf, slack_answer}
-use Rattle.crpd_tool.proofs.OneMade.{Same, back}
 
 -- a task's code has nested regions outside whose back edges no cycle is left
 pub loop_bounded : (words : Words) (plan : TaskPlan) (t : TaskGraph) → IsGraphOf words plan t
@@ -41,20 +42,17 @@ loop_bounded words plan t B =
 
 -- ---- one task
 
-module _ (p : Platform) (g : CodeGraph) (n m : CodeNest) (s : AreSame g n m) where
+module _ (p : Platform) (g : CodeGraph) (n m : CodeNest) (A : Alike (nest_of n) (nest_of m)) where
   bound_too : (cycles : ℕ) → IsLeastBound p (task_graph g n) cycles
       → IsLeastBound p (task_graph g m) cycles
   bound_too cycles B = record {
     is_hit = B.is_hit;
     hits = B.hits;
     potentials = B.potentials;
-    least =
-        least_too (graph_of g) (places_of g) s.loops s.one_head (nest_of n) (nest_of m) s.first
-        s.second _ _ B.least;
+    least = least_too (graph_of g) (nest_of n) (nest_of m) A _ _ B.least;
     first = λ i is.
         B.first i
-        (item_too (graph_of g) (places_of g) s.loops s.one_head (nest_of m) (nest_of n) s.second
-        s.first g.first i is);
+        (item_too (nest_of m) (nest_of n) (turned (nest_of n) (nest_of m) A) g.first i is);
   }
 
   part_too : (part : Part) → IsAnalysedPart p (task_graph g n) part
@@ -67,7 +65,7 @@ module _ (p : Platform) (g : CodeGraph) (n m : CodeNest) (s : AreSame g n m) whe
 -- ---- all tasks
 
 module _ (set : TaskSet) (graphs : List CodeGraph) (ns ms : List CodeNest)
-    (same : Same set graphs ns ms) where
+    (same : AllAlike set ns ms) where
   parts_too : (parts : ℕ → Part) → AreAnalysedParts set (task_graph_at graphs ns) parts
       → AreAnalysedParts set (task_graph_at graphs ms) parts
   parts_too parts A = record {
@@ -108,7 +106,7 @@ module _ (set : TaskSet) (graphs : List CodeGraph) (ns ms : List CodeNest)
 -- ---- the greatest costs
 
 module _ (at : ℕ → TaskSet) (graphs : List CodeGraph) (ns ms : List CodeNest)
-    (there : (c : ℕ) → Same (at c) graphs ns ms) (again : (c : ℕ) → Same (at c) graphs ms ns) where
+    (there : (c : ℕ) → AllAlike (at c) ns ms) (again : (c : ℕ) → AllAlike (at c) ms ns) where
   refused_too : (least : ℕ) → AreRefusedFrom at (task_graph_at graphs ns) least
       → AreRefusedFrom at (task_graph_at graphs ms) least
   refused_too least R c from most A = R c from most (accepted_too (at c) graphs ms ns (again c) A)
@@ -148,15 +146,15 @@ one_pair set graphs times bounded one two first second A B = (
 module _ (input : Input) (graphs : List CodeGraph) (ns ms : List CodeNest)
     (times : HasTimes input.set)
     (bounded : (k : ℕ) → k < length input.set.tasks → IsLoopBounded (task_graph_at graphs ns k))
-    (same : Same input.set graphs ns ms) where
+    (same : AllAlike input.set ns ms) where
   slacks_back : (first second : Slack) → AreSlacks input.set (task_graph_at graphs ms) first second
       → AreSlacks input.set (task_graph_at graphs ns) first second
   slacks_back first second S = record {
     by_switch =
         slack_too (λ c. with_switch input.set c) graphs ms ns
-        (λ c. back input.set graphs ns ms same) (λ c. same) first S.by_switch;
+        (λ c. all_turned input.set ns ms same) (λ c. same) first S.by_switch;
     by_miss =
-        slack_too (λ c. with_miss input.set c) graphs ms ns (λ c. back input.set graphs ns ms same)
+        slack_too (λ c. with_miss input.set c) graphs ms ns (λ c. all_turned input.set ns ms same)
         (λ c. same) second S.by_miss;
   }
 

@@ -25,7 +25,7 @@ use Rattle.loop_regions.proofs.Steps.{returned}
 abbrev bare : TaskPlan → TaskPlan
 bare plan = record plan { loops = [] }
 
-abbrev no_nest : Nest
+abbrev pub no_nest : Nest
 no_nest = record { size = 0; head = λ r. 0; bound = λ r. 0; holds = λ r y. false }
 
 strip : List Frame → List Frame
