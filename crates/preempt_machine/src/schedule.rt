@@ -1,6 +1,7 @@
 // The jobs of a run, and which of them has the core.
 ghost use Rattle.std.specs.Prelude.{◌≡◌, ℕ, ◌+◌, ◌<◌, ◌≤◌, ◌^◌, ◌↔◌, ◌++◌, ◌∷◌, [], true, map};
-ghost use Rattle.std.specs.Prelude.{length, replicate, All, IfOk, IfSome, OnOk, IsTrue};
+ghost use Rattle.std.specs.Prelude.{length, replicate, All, IfOk, IfSome, IsTrue, is_ok};
+ghost use Rattle.std.specs.Prelude.{if◌then◌else◌};
 ghost use Rattle.rv_core.specs.Memory.{Memory as Bytes};
 ghost use Rattle.icache.specs.Cache.{Cache};
 ghost use Rattle.flow_watch.specs.Watch.{is_unbroken};
@@ -42,11 +43,12 @@ pub struct Schedule {
     pub queue: Queue,
 }
 
-/// Adds an item at the end of a list. Want of memory is the only error; of the list after it
-/// nothing is said. In constant time, but where the list has no room left: then in time and memory
-/// linear in the list.
+/// Adds an item at the end of a list. Want of memory is the only error; the list's items stay then.
+/// In constant time, but where the list has no room left: then in time and memory linear in the
+/// list.
 pub fn push<T: Drop>(list: &mut Vec<T>, item: T) -> Result<(), Memory>
-    ensures { OnOk result (list.new.items ≡ list.old.items ++ item ∷ []) }
+    ensures { list.new.items
+        ≡ (if is_ok result then list.old.items ++ item ∷ [] else list.old.items) }
 {
     match list.push(item) {
         Ok(()) => Ok(()),
