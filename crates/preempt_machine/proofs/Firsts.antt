@@ -31,6 +31,19 @@ line_is jobs x = get_or-map (λ (job : Job). job.line) jobs x no_job
 pub lines_long : (jobs : List Job) → length (script_lines jobs) ≡ length jobs
 lines_long jobs = length-map jobs (λ (job : Job). job.line)
 
+-- the position of a job in the order of releases
+pub position_of : (jobs : List Job) (due : List (ℕ × ℕ)) → IsReleaseOrder (script_lines jobs) due
+    → (x : ℕ) → x < length jobs → (r : ℕ) × (r < length due) × (due_place due r ≡ x)
+    × (due_release due r ≡ (job_at jobs x).line.release)
+position_of jobs due d x below =
+    let (r, inside, place) = d.every x (omega (arith, lines_long jobs)) in (
+      r,
+      inside,
+      place,
+      d.releases r inside ∙ ap (λ (l : ScriptJob). l.release)
+          (ap (script_line (script_lines jobs)) place ∙ line_is jobs x),
+    )
+
 -- a position that waits is that of an open job
 ready_at : (due : List (ℕ × ℕ)) (heads : List ℕ) (jobs : List Job) (now p : ℕ)
     → IsReleaseOrder (script_lines jobs) due → HasTaskHeads (script_lines jobs) due heads jobs
@@ -64,16 +77,33 @@ release_le lines due p r d le b =
           (d.ordered p r (omega arith) b)
     ]
 
+-- a job is released before one time or from another on, where the jobs below a position are
+-- released before the one, and its own job is not released before the other
+pub before_or_from : (jobs : List Job) (due : List (ℕ × ℕ)) (count one other : ℕ)
+    → IsReleaseOrder (script_lines jobs) due
+    → ((p : ℕ) → p < count → due_release due p < one)
+    → (count < length due → other ≤ due_release due count) → (x : ℕ) → x < length jobs
+    → ((job_at jobs x).line.release < one) ⊎ (other ≤ (job_at jobs x).line.release)
+before_or_from jobs due count one other d before next x below =
+    let (r, inside, place, release) = position_of jobs due d x below in
+    elim (cases_lt r count) [
+      | inl l ↦ inl (omega (arith, before r l, release))
+      | inr g ↦
+          inr (omega (
+            arith,
+            next (omega arith),
+            release_le (script_lines jobs) due count r d g inside,
+            release,
+          ))
+    ]
+
 stands : (due : List (ℕ × ℕ)) (heads : List ℕ) (jobs : List Job) (now x : ℕ)
     → IsReleaseOrder (script_lines jobs) due → HasTaskHeads (script_lines jobs) due heads jobs
     → x < length jobs → is_ready now (job_at jobs x) ≡ true
     → (r : ℕ) × StandsAt due heads (script_lines jobs) now x r
 stands due heads jobs now x d w below ready =
-    let (r, inside, place) = d.every x (omega (arith, lines_long jobs)) in
+    let (r, inside, place, release) = position_of jobs due d x below in
     let head = slice_index heads (due_task (script_lines jobs) due r) in
-    let release : due_release due r ≡ (job_at jobs x).line.release =
-    d.releases r inside ∙ ap (λ (l : ScriptJob). l.release)
-    (ap (script_line (script_lines jobs)) place ∙ line_is jobs x) in
     let waits : head ≤ r = elim (cases_lt r head) [
       | inl l ↦
           absurd (false≢true

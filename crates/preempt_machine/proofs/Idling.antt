@@ -13,11 +13,11 @@ use Rattle.preempt_machine.specs.Candidate.{release_of}
 use Rattle.preempt_machine.specs.Safe.{end_by}
 use Rattle.preempt_machine.specs.Running.{Running, job_id, running_after_step, running_after_steps}
 use Rattle.preempt_machine.specs.Running.{system_by}
-use Rattle.preempt_machine.specs.Schedule.{script_line, script_lines, due_place, due_release}
+use Rattle.preempt_machine.specs.Schedule.{script_lines, due_place, due_release}
 use Rattle.preempt_machine.specs.Schedule.{IsRepresented}
 use Rattle.preempt_machine.specs.Inner.Schedule.{HasMade, NoneIsReady}
 use Rattle.preempt_machine.proofs.Candidates.{none_candidate}
-use Rattle.preempt_machine.proofs.Firsts.{line_is, lines_long, release_le}
+use Rattle.preempt_machine.proofs.Firsts.{line_is, lines_long, release_le, before_or_from}
 use Rattle.preempt_machine.proofs.Steps.{open_is_below, ready_from, ready_open, ready_released}
 
 -- the next release is later than a time at which no job is ready
@@ -50,23 +50,11 @@ none_before sets m due later heads count cs time k none before x =
     elim (cases_Bool (is_ready time job)) [
       | inl t ↦
           let o = ready_open time job t in
-          let (r, inside, place) = k.due.every x
-          (omega (arith, open_is_below m.jobs x o, lines_long m.jobs)) in
-          let release : due_release due r ≡ job.line.release =
-          k.due.releases r inside ∙ ap (λ (l : ScriptJob). l.release)
-          (ap (script_line (script_lines m.jobs)) place ∙ line_is m.jobs x) in
-          elim (cases_lt r count) [
+          elim (before_or_from m.jobs due count m.time (time + 1) k.due k.released.before
+          (λ l. let b = before l in omega (arith, b)) x (open_is_below m.jobs x o)) [
             | inl l ↦
-                absurd (false≢true (sym (none x)
-                ∙ ready_from m.time job o (omega (arith, k.released.before r l, release))))
-            | inr g ↦
-                absurd (omega (
-                  arith,
-                  before (omega arith),
-                  release_le (script_lines m.jobs) due count r k.due g inside,
-                  release,
-                  ready_released time job t,
-                ))
+                absurd (false≢true (sym (none x) ∙ ready_from m.time job o (omega (arith, l))))
+            | inr g ↦ let r = ready_released time job t in absurd (omega (arith, g, r))
           ]
       | inr f ↦ f
     ]
@@ -110,26 +98,10 @@ kept_idle sets m due later heads count cs time k le before =
       told = k.told;
       completions = λ x a.
           k.completions x a ∙ ap (λ e. record { job = job_id m x; «end» = e })
-          (end_stays m.time time (release_of m x) (job_at m.jobs x).standing le (released x a));
+          (end_stays m.time time (release_of m x) (job_at m.jobs x).standing le
+          (before_or_from m.jobs due count m.time time k.due k.released.before before x a));
       owner = k.owner;
     }
-  where
-    released : (x : ℕ) → x < length m.jobs → (release_of m x < m.time) ⊎ (time ≤ release_of m x)
-    released x a =
-        let (r, inside, place) = k.due.every x (omega (arith, lines_long m.jobs)) in
-        let release : due_release due r ≡ release_of m x =
-        k.due.releases r inside ∙ ap (λ (l : ScriptJob). l.release)
-        (ap (script_line (script_lines m.jobs)) place ∙ line_is m.jobs x) in
-        elim (cases_lt r count) [
-          | inl l ↦ inl (omega (arith, k.released.before r l, release))
-          | inr g ↦
-              inr (omega (
-                arith,
-                before (omega arith),
-                release_le (script_lines m.jobs) due count r k.due g inside,
-                release,
-              ))
-        ]
 
 -- a machine at another time, after a step without a fetch
 abbrev pub waited : Running → ℕ → Running

@@ -18,13 +18,13 @@ use Rattle.preempt_machine.specs.Candidate.{release_of}
 use Rattle.preempt_machine.specs.Safe.{end_by}
 use Rattle.preempt_machine.specs.Jobs.{end_of_standing}
 use Rattle.preempt_machine.specs.Running.{job_id, completion_at}
-use Rattle.preempt_machine.specs.Schedule.{script_line, due_task, due_place, due_release}
+use Rattle.preempt_machine.specs.Schedule.{script_line, due_task, due_place}
 use Rattle.preempt_machine.specs.Schedule.{script_lines, heads_after, completions_after, completion}
 use Rattle.preempt_machine.specs.Schedule.{open_completion, IsReleaseOrder, IsFirstFrom, IsLinked}
 use Rattle.preempt_machine.specs.Schedule.{HasTaskHeads, IsRepresented, IsUpTo, IsHead, IsOwner}
 use Rattle.preempt_machine.specs.Schedule.{HasOpened, AreReleased}
 use Rattle.preempt_machine.proofs.Candidates.{open_is}
-use Rattle.preempt_machine.proofs.Firsts.{line_is, lines_long, release_le}
+use Rattle.preempt_machine.proofs.Firsts.{line_is, release_le, position_of}
 use Rattle.preempt_machine.proofs.Steps.{cache_after, candidate_some, ready_open, ready_released}
 use Rattle.preempt_machine.proofs.Steps.{step_length, step_line, step_other, step_time}
 use Rattle.preempt_machine.proofs.Steps.{turned_cache, turned_line}
@@ -119,10 +119,7 @@ pub told_next : (m : Machine) (due : List (ℕ × ℕ)) (from to : ℕ) (cs new 
     → ((x : ℕ) → x < length m.jobs → completion cs x ≡ completion_at m x) → (x : ℕ)
     → x < length m.jobs → completion new x ≡ told_at m (suc m.time) x
 told_next m due from to cs new d h k over o told x below =
-    let (r, inside, place) = d.every x (omega (arith, lines_long m.jobs)) in
-    let release : due_release due r ≡ release_of m x =
-    d.releases r inside ∙ ap (λ (l : ScriptJob). l.release)
-    (ap (script_line (script_lines m.jobs)) place ∙ line_is m.jobs x) in
+    let (r, inside, place, release) = position_of m.jobs due d x below in
     let s = (job_at m.jobs x).standing in
     let job = job_id m x in
     elim (cases_lt r from) [
