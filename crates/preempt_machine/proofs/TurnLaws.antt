@@ -10,10 +10,11 @@ use Rattle.rv_decode.specs.Cost.{cost}
 use Rattle.rv_core.specs.declared.Next.{Next}
 use Rattle.rv_core.specs.declared.Next.TheVariants.{Goto, Answer, Fault}
 use Rattle.rv_core.specs.Effect.{next_pc}
-use Rattle.icache.specs.Cache.{block_of, cache_after_access}
+use Rattle.icache.specs.Cache.{block_of, cache_after_access, is_hit}
 use Rattle.preempt_machine.specs.Machine.{System, Standing, Open, Answered, Faulted, Job, ins_at}
 use Rattle.preempt_machine.specs.Step.{is_open, Turn, turn_after_step, turn_after_cycle}
 use Rattle.preempt_machine.specs.Step.{turn_after_effect, turn_after_fetch, fetch_cost}
+use Rattle.preempt_machine.specs.Step.{goes_to_next}
 
 pub not_faulted : (st : Standing) → is_open st ≡ true → st ≢ Faulted
 not_faulted Open h q = cc
@@ -76,6 +77,17 @@ cost_taken p ins b false = omega arith
 -- the cycles of the instruction that a turn works on
 abbrev pub begun : System → Ins → Turn → ℕ
 begun sys ins t = if t.job.left == 0 then fetch_cost sys ins t else t.job.left
+
+pub begun_pos : (sys : System) (ins : Ins) (t : Turn) → 1 ≤ sys.platform.hit → 1 ≤ begun sys ins t
+begun_pos sys ins t hit =
+    elim (cases_eq t.job.left 0) [
+      | inl l ↦
+          let c = cost_hit sys.platform ins
+          (not (is_hit sys.platform t.cache (block_of sys.platform t.job.pc)))
+          (not (goes_to_next (next_pc ins t.job.pc t.job.registers) t.job.pc)) hit in
+          rw (eq-eqb _ _ l) c
+      | inr ne ↦ rw (ne_eqb _ _ ne) (omega arith)
+    ]
 
 -- a turn uses a switch cycle, or a cycle of the instruction, with the last of which it has its
 -- effect

@@ -24,11 +24,11 @@ use Rattle.run_account.specs.Nodes.{node_of_job, node_number}
 use Rattle.rv_decode.specs.Flow.{IsCodeMap}
 use Rattle.sound_laws.specs.Walks.{before_of, IsOnWalk}
 use Rattle.sound_laws.specs.CyclesToGo.{rest_after, walk_of, cycles_to_go, misses_counted_hit}
-use Rattle.preempt_machine.proofs.TurnLaws.{TurnOf, switches, works, goes, begun, cost_hit}
-use Rattle.preempt_machine.proofs.TurnLaws.{cost_miss, cost_counted, turn_of_job}
+use Rattle.preempt_machine.proofs.TurnLaws.{TurnOf, switches, works, goes, begun, begun_pos}
+use Rattle.preempt_machine.proofs.TurnLaws.{cost_hit, cost_miss, cost_counted, turn_of_job}
 use Rattle.sound_laws.proofs.Walks.Stands.{Stands}
-use Rattle.run_account.proofs.Stands.{nodes_after}
-use Rattle.sound_laws.proofs.Walks.Walked.{nodes_executed, nodes_switched, begun_pos}
+use Rattle.run_account.proofs.Stands.{nodes_after, nodes_switched}
+use Rattle.sound_laws.proofs.Walks.Walked.{executed}
 use Rattle.sound_laws.proofs.Execution.Longests.{edge_longest, end_longest}
 use Rattle.sound_laws.proofs.Execution.Paid.{pays, pays_alone}
 
@@ -204,7 +204,7 @@ module _ (sys : System) (plan : TaskPlan) (t : TaskGraph) (ok : IsGraphOf sys.wo
         → SpendTurn sys plan t counted p u nodes (turn_after_step sys n u)
         (nodes_after sys t u nodes)
     spend_turn_by (switches l e) =
-        let later = nodes_switched sys plan t ok map hit n u nodes W S same_plan o l in
+        let later = nodes_switched sys t u nodes l in
         let same : cycles_to_go sys plan t p (turn_after_step sys n u).job
         (nodes_after sys t u nodes) ≡ cycles_to_go sys plan t p u.job nodes =
         ap (λ (x : Turn). cycles_to_go sys plan t p x.job (nodes_after sys t u nodes)) e
@@ -218,7 +218,7 @@ module _ (sys : System) (plan : TaskPlan) (t : TaskGraph) (ok : IsGraphOf sys.wo
           switched = λ q. same;
         }
     spend_turn_by (works k z l b e zs) =
-        let later = nodes_executed sys plan t ok map hit n u nodes W S same_plan o z in
+        let later = executed sys plan t u nodes W S z in
         let paid = begin_pays z in
         let go : cycles_to_go sys plan t p (turn_after_step sys n u).job (nodes_after sys t u nodes)
         ≡ k + after_it =
@@ -234,7 +234,7 @@ module _ (sys : System) (plan : TaskPlan) (t : TaskGraph) (ok : IsGraphOf sys.wo
           switched = λ q. absurd (omega arith);
         }
     spend_turn_by (goes z b e zs) =
-        let later = nodes_executed sys plan t ok map hit n u nodes W S same_plan o z in
+        let later = executed sys plan t u nodes W S z in
         let paid = begin_pays z in
         record {
           less = λ kept.
@@ -255,4 +255,4 @@ module _ (sys : System) (plan : TaskPlan) (t : TaskGraph) (ok : IsGraphOf sys.wo
         (nodes_after sys t u nodes)
     spend_turn =
         spend_turn_by
-        (turn_of_job sys n S.ins u S.at (begun_pos sys plan t ok map hit n u nodes W S same_plan o))
+        (turn_of_job sys n S.ins u S.at (begun_pos sys S.ins u hit))

@@ -1,8 +1,8 @@
 -- For step 3: a turn of a job on a walk goes on with the walk.
-use Rattle.std.proofs.Common.{◌≡◌, ◌≢◌, ℕ, ◌<◌, ◌≤◌, true, false, not, List, [], ◌∷◌, Some, None}
+use Rattle.std.proofs.Common.{◌≡◌, ◌≢◌, ℕ, ◌≤◌, true, false, List, [], ◌∷◌, Some, None}
 use Rattle.std.proofs.Common.{refl, sym, ◌∙◌, ap, subst, inl, inr, arith}
-use Rattle.std.specs.Prelude.{◌==◌, drop}
-use Rattle.std.proofs.lemmas.Bool.{cases_Bool, cases_eq, and_from, eqb-false, eq-eqb, ne_eqb}
+use Rattle.std.specs.Prelude.{◌==◌, drop, if◌then◌else◌}
+use Rattle.std.proofs.lemmas.Bool.{cases_Bool, cases_eq, eqb-false, eq-eqb, ne_eqb}
 use Rattle.std.proofs.lemmas.Bool.{false≢true}
 use Rattle.crpd_base.specs.declared.data.TaskPlan.{TaskPlan}
 use Rattle.rv_decode.specs.Address.{end_address}
@@ -10,7 +10,6 @@ use Rattle.rv_decode.specs.Flow.{flow, flows}
 use Rattle.rv_core.specs.declared.Next.{Next}
 use Rattle.rv_core.specs.declared.Next.TheVariants.{Goto, Answer, Fault}
 use Rattle.rv_core.specs.Effect.{next_pc}
-use Rattle.icache.specs.Cache.{block_of, is_hit}
 use Rattle.flow_watch.specs.Watch.{Frame, Watch, is_unbroken, step as watch_step}
 use Rattle.flat_graph.specs.Graph.{IsWalk}
 use Rattle.loop_regions.specs.Nest.{IsKeptWalk}
@@ -20,13 +19,12 @@ use Rattle.loop_regions.specs.TaskGraph.{TaskGraph}
 use Rattle.cert_check.specs.JudgeInput.{IsGraphOf}
 use Rattle.preempt_machine.specs.Machine.{System, Faulted, Job, plan_of}
 use Rattle.preempt_machine.specs.Step.{is_open, Turn, turn_after_step, turn_after_effect}
-use Rattle.preempt_machine.specs.Step.{makes_fetch, goes_to_next}
 use Rattle.run_account.specs.Nodes.{node_of_job, node_number}
 use Rattle.rv_decode.specs.Flow.{IsCodeMap}
 use Rattle.sound_laws.specs.Walks.{before_of, IsOnWalk, IsNoneOrKeptWalk}
-use Rattle.preempt_machine.proofs.TurnLaws.{TurnOf, switches, works, goes, begun, cost_hit}
+use Rattle.preempt_machine.proofs.TurnLaws.{TurnOf, switches, works, goes, begun_pos}
 use Rattle.preempt_machine.proofs.TurnLaws.{turn_of_job, not_faulted}
-use Rattle.run_account.proofs.Stands.{nodes_after}
+use Rattle.run_account.proofs.Stands.{nodes_after, nodes_switched, nodes_executed}
 use Rattle.sound_laws.proofs.Walks.Stands.{Stands, no_fault_next, empty_at_end, goes_on_walk}
 use Rattle.sound_laws.proofs.Walks.Stands.{number_there}
 
@@ -46,6 +44,22 @@ tail_walk t y (x ∷ before) walk kept = (walk.1, kept.1)
 pub before_fresh : (job : Job) (nodes : List ℕ) → job.left ≡ 0 → before_of job nodes ≡ nodes
 before_fresh job nodes l = rw (eq-eqb _ _ l)
 
+module _ (sys : System) (plan : TaskPlan) (t : TaskGraph) (u : Turn) (nodes : List ℕ)
+    (W : IsOnWalk sys.word plan t u.job nodes) where
+  -- in the middle of the instruction the job's node is in its fetches
+  fetched : nodes ≡ (if u.job.left == 0 then before_of u.job nodes
+      else node_of_job t u.job ∷ before_of u.job nodes)
+  fetched =
+      elim (cases_eq u.job.left 0) [
+        | inl l ↦ rw (eq-eqb _ _ l) refl
+        | inr ne ↦ rw (ne_eqb _ _ ne) (rw (ne_eqb _ _ ne) at (W.under_way ne))
+      ]
+
+  -- and without a switch cycle after the turn
+  pub executed : Stands sys t (node_of_job t u.job) u.job.pc → u.switch_left ≡ 0
+      → nodes_after sys t u nodes ≡ node_of_job t u.job ∷ before_of u.job nodes
+  executed S = nodes_executed sys t u nodes (before_of u.job nodes) S.ins fetched S.at
+
 module _ (sys : System) (plan : TaskPlan) (t : TaskGraph) (ok : IsGraphOf sys.word plan t)
     (map : IsCodeMap sys.word) (hit : 1 ≤ sys.platform.hit) where
   pub nodes_are : (job : Job) (nodes : List ℕ) → IsOnWalk sys.word plan t job nodes
@@ -62,46 +76,6 @@ module _ (sys : System) (plan : TaskPlan) (t : TaskGraph) (ok : IsGraphOf sys.wo
   module _ (n : ℕ) (u : Turn) (nodes : List ℕ) (W : IsOnWalk sys.word plan t u.job nodes)
       (S : Stands sys t (node_of_job t u.job) u.job.pc)
       (same_plan : plan_of sys u.job.line.task.0 ≡ plan) (o : is_open u.job.standing ≡ true) where
-    -- without a switch cycle the job's node is in its fetches
-    pub nodes_executed : u.switch_left ≡ 0
-        → nodes_after sys t u nodes ≡ node_of_job t u.job ∷ before_of u.job nodes
-    nodes_executed z =
-        elim (cases_eq u.job.left 0) [
-          | inl l ↦
-              let m : makes_fetch sys u ≡ true =
-              and_from _ _ (and_from _ _ (eq-eqb _ _ z) (eq-eqb _ _ l)) (rw S.at refl) in
-              let bit : (u.job.left == 0) ≡ true = eq-eqb _ _ l in
-              rw (m, bit) refl
-          | inr ne ↦
-              let bit : (u.job.left == 0) ≡ false = ne_eqb _ _ ne in
-              let m : makes_fetch sys u ≡ false = elim (cases_Bool (u.switch_left == 0)) [
-                | inl q ↦ rw (q, bit) refl
-                | inr q ↦ rw q refl
-              ] in
-              let none : nodes_after sys t u nodes ≡ nodes = rw m refl in
-              none ∙ W.under_way ne
-        ]
-
-    pub nodes_switched : 0 < u.switch_left → nodes_after sys t u nodes ≡ nodes
-    nodes_switched l =
-        let bit : (u.switch_left == 0) ≡ false = ne_eqb _ _ (λ e. omega arith) in
-        let m : makes_fetch sys u ≡ false = rw bit refl in
-        rw m refl
-
-    pub begun_pos : 1 ≤ begun sys S.ins u
-    begun_pos =
-        elim (cases_eq u.job.left 0) [
-          | inl l ↦
-              let bit : (u.job.left == 0) ≡ true = eq-eqb _ _ l in
-              let c = cost_hit sys.platform S.ins
-              (not (is_hit sys.platform u.cache (block_of sys.platform u.job.pc)))
-              (not (goes_to_next (next_pc S.ins u.job.pc u.job.registers) u.job.pc)) hit in
-              rw bit c
-          | inr ne ↦
-              let bit : (u.job.left == 0) ≡ false = ne_eqb _ _ ne in
-              rw bit (omega arith)
-        ]
-
     -- in the middle of the instruction
     working : (k : ℕ) (later : List ℕ) → 1 ≤ k → later ≡ node_of_job t u.job ∷ before_of u.job nodes
         → IsOnWalk sys.word plan t (record u.job { left = k }) later
@@ -159,7 +133,7 @@ module _ (sys : System) (plan : TaskPlan) (t : TaskGraph) (ok : IsGraphOf sys.wo
         ∙ ap (λ p. watch_step p u.job.watch u.job.pc S.ins to) (sym same_plan) ∙ w)))
     by_watch later to (Some (h ∷ hs)) e next w k ne = arrived later to h hs e next w
 
-    went_on_walk : (later : List ℕ) (next : Next)
+    pub went_on_walk : (later : List ℕ) (next : Next)
         → later ≡ node_of_job t u.job ∷ before_of u.job nodes
         → next_pc S.ins u.job.pc u.job.registers ≡ next
         → is_unbroken (turn_after_effect sys n S.ins u next).job.watch ≡ true
@@ -187,7 +161,7 @@ module _ (sys : System) (plan : TaskPlan) (t : TaskGraph) (ok : IsGraphOf sys.wo
     walk_turn_by : TurnOf sys n u S.ins
         → WalkTurn sys plan t (nodes_after sys t u nodes) (turn_after_step sys n u)
     walk_turn_by (switches l e) =
-        let later = nodes_switched l in
+        let later = nodes_switched sys t u nodes l in
         record {
           nodes_kept = subst (λ b. IsNoneOrKeptWalk t b) (sym later) (nodes_are u.job nodes W);
           stays = λ k op.
@@ -196,7 +170,7 @@ module _ (sys : System) (plan : TaskPlan) (t : TaskGraph) (ok : IsGraphOf sys.wo
           no_fault = subst (λ (x : Turn). x.job.standing ≢ Faulted) (sym e) (not_faulted _ o);
         }
     walk_turn_by (works k z l b e zs) =
-        let later = nodes_executed z in
+        let later = executed sys plan t u nodes W S z in
         record {
           nodes_kept = subst (λ b. IsNoneOrKeptWalk t b) (sym later) (W.walked.walk, W.walked.kept);
           stays = λ kept op.
@@ -205,7 +179,7 @@ module _ (sys : System) (plan : TaskPlan) (t : TaskGraph) (ok : IsGraphOf sys.wo
           no_fault = subst (λ (j : Job). j.standing ≢ Faulted) (sym e) (not_faulted _ o);
         }
     walk_turn_by (goes z b e zs) =
-        let later = nodes_executed z in
+        let later = executed sys plan t u nodes W S z in
         record {
           nodes_kept = subst (λ b. IsNoneOrKeptWalk t b) (sym later) (W.walked.walk, W.walked.kept);
           stays = λ kept op.
@@ -219,4 +193,4 @@ module _ (sys : System) (plan : TaskPlan) (t : TaskGraph) (ok : IsGraphOf sys.wo
         }
 
     pub walk_turn : WalkTurn sys plan t (nodes_after sys t u nodes) (turn_after_step sys n u)
-    walk_turn = walk_turn_by (turn_of_job sys n S.ins u S.at begun_pos)
+    walk_turn = walk_turn_by (turn_of_job sys n S.ins u S.at (begun_pos sys S.ins u hit))
