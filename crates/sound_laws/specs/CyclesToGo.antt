@@ -1,5 +1,5 @@
 -- The cycles that a job has to go, its reloads, and the law of its execution.
-use Rattle.std.specs.Prelude.{◌≡◌, ℕ, ◌+◌, ◌*◌, ◌<◌, ◌≤◌, Bool, true, not, ◌&&◌, ◌==◌}
+use Rattle.std.specs.Prelude.{◌≡◌, ℕ, ◌+◌, ◌*◌, ◌<◌, ◌≤◌, Bool, true, false, not, ◌&&◌, ◌||◌, ◌==◌}
 use Rattle.std.specs.Prelude.{if◌then◌else◌, List, ◌∷◌, length, Option, Some, None}
 use Rattle.crpd_base.specs.declared.data.TaskPlan.{TaskPlan}
 use Rattle.crpd_base.specs.declared.data.TaskSet.{TaskSet}
@@ -47,14 +47,32 @@ rest_of_ins plan t p job walk (Some ins) =
 abbrev pub walk_of : TaskGraph → Job → List ℕ → List ℕ
 walk_of t job nodes = node_of_job t job ∷ before_of job nodes
 
--- the cycles that a job has to go at most, after fetches at these nodes: those left of its
--- instruction, and the rest
+-- the rest of a job's walk after fetches at these nodes: from its node on, or where an instruction
+-- is under way, after it
+abbrev pub rest_of_walk : System → TaskPlan → TaskGraph → Potentials → Job → List ℕ → ℕ
+rest_of_walk sys plan t p job nodes =
+    if job.left == 0 then rest t.nest p (walk_of t job nodes)
+    else rest_of_ins plan t p job (walk_of t job nodes) (ins_at sys job.pc)
+
+-- the cycles that a job has to go at most: those left of its instruction, and the rest
 abbrev pub cycles_to_go : System → TaskPlan → TaskGraph → Potentials → Job → List ℕ → ℕ
 cycles_to_go sys plan t p job nodes =
-    if is_open job.standing then
-    (if job.left == 0 then rest t.nest p (walk_of t job nodes)
-    else job.left + rest_of_ins plan t p job (walk_of t job nodes) (ins_at sys job.pc))
-    else 0
+    if is_open job.standing then job.left + rest_of_walk sys plan t p job nodes else 0
+
+-- whether the instruction under way leaves the job open, with its watch unbroken
+abbrev pub goes_on : TaskPlan → Job → Ins → Next → Bool
+goes_on plan job ins (Goto to) =
+    not (to == end_address) && is_unbroken (watch_step plan job.watch job.pc ins to)
+goes_on plan job ins Answer = false
+goes_on plan job ins Fault = false
+
+abbrev pub ins_goes_on : TaskPlan → Job → Option Ins → Bool
+ins_goes_on plan job None = false
+ins_goes_on plan job (Some ins) = goes_on plan job ins (next_pc ins job.pc job.registers)
+
+-- whether an open job has a rest: no instruction is under way, or one after which it goes on
+abbrev pub has_rest : System → TaskPlan → Job → Bool
+has_rest sys plan job = (job.left == 0) || ins_goes_on plan job (ins_at sys job.pc)
 
 -- whether a turn makes a reload: it fetches at a node that is counted as a hit, and misses
 abbrev pub misses_counted_hit : System → TaskGraph → (ℕ → Bool) → Turn → Bool
@@ -78,8 +96,8 @@ abbrev pub count_below : (ℕ → Bool) → ℕ → ℕ
 count_below p n = sum_below (λ x. if p x then 1 else 0) n
 
 -- with any test of the hits that are counted: the cycles that a job has executed and those that it
--- has to go are at most its bound and the cost of a miss for each of its reloads so far. Those that
--- it has to go are at least 1 while it is open
+-- has to go are at most its bound and the cost of a miss for each of its reloads so far. The rest
+-- of an open job that has one is at least 1
 abbrev pub ExecutionWithinBound : Type 0
 ExecutionWithinBound =
     (s : Start) (set : TaskSet) (graphs : ℕ → TaskGraph) (c : Certificate) (n x : ℕ)
@@ -90,8 +108,10 @@ ExecutionWithinBound =
     let part = certified_task c (job_task s x) in
     CountsHits t.graph (accesses_of s.system.platform t) (listed_of part) is_hit
     → is_unbroken (job_after s n x).watch ≡ true →
-    let to_go = cycles_to_go s.system (plan_at s x) t (potentials_of part) (job_after s n x)
-    (fetched_nodes s graphs n x) in
-    (count_below (executes s x) n + to_go
+    let job = job_after s n x in
+    let nodes = fetched_nodes s graphs n x in
+    (count_below (executes s x) n
+    + cycles_to_go s.system (plan_at s x) t (potentials_of part) job nodes
     ≤ part.part.bound + s.system.platform.miss * count_below (makes_reload s t is_hit x) n)
-    × (is_open (job_after s n x).standing ≡ true → 1 ≤ to_go)
+    × (is_open job.standing ≡ true → has_rest s.system (plan_at s x) job ≡ true
+    → 1 ≤ rest_of_walk s.system (plan_at s x) t (potentials_of part) job nodes)

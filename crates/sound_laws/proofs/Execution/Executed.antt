@@ -40,11 +40,13 @@ use Rattle.run_account.specs.Nodes.{job_task, plan_at, node_of_job}
 use Rattle.run_account.specs.Walks.{fetched_nodes}
 use Rattle.sound_laws.specs.Walks.{HasTaskRanges, IsCodeOf, before_of}
 use Rattle.sound_laws.specs.CyclesToGo.{walk_of, cycles_to_go, misses_counted_hit, executes}
-use Rattle.sound_laws.specs.CyclesToGo.{makes_reload, count_below, ExecutionWithinBound}
+use Rattle.sound_laws.specs.CyclesToGo.{makes_reload, count_below, rest_of_walk, has_rest}
+use Rattle.sound_laws.specs.CyclesToGo.{ExecutionWithinBound}
 use Rattle.run_account.proofs.JobWalks.{kept_before, nodes_other, nodes_own, opened, same_plan}
 use Rattle.sound_laws.proofs.Walks.KeptWalks.{ok, hit_some, left_zero, stands_at, walking}
 use Rattle.run_account.proofs.Stands.{nodes_after}
 use Rattle.sound_laws.proofs.Execution.Spends.{extra_of, go_between, SpendTurn, spend_turn}
+use Rattle.sound_laws.proofs.Execution.Spends.{rest_some}
 
 -- what the clauses give for a task, with these hits
 pub record IsMet (p : Platform) (t : TaskGraph) (c : TaskPart) (counted : ℕ → Bool) : Type 0 where
@@ -126,6 +128,18 @@ module _ (s : Start) (set : TaskSet) (graphs : ℕ → TaskGraph) (R : HasTaskRa
     pub some_go : (n : ℕ) → is_open (job_after s n x).standing ≡ true
         → is_unbroken (job_after s n x).watch ≡ true → 1 ≤ go n
     some_go n o k = (spends_at n o k).some
+
+    some_rest : (n : ℕ) → is_open (job_after s n x).standing ≡ true
+        → is_unbroken (job_after s n x).watch ≡ true
+        → has_rest s.system (plan_at s x) (job_after s n x) ≡ true
+        → 1 ≤ rest_of_walk s.system (plan_at s x) (graphs (job_task s x)) (potentials_of c)
+        (job_after s n x) (fetched_nodes s graphs n x)
+    some_rest n o k =
+        let W = (walking s set graphs R C T n x h k).on_walk o in
+        rest_some s.system (plan_at s x) (graphs (job_task s x)) (ok s set graphs R C T x h) C.map
+        (hit_some s set graphs R C T) counted (potentials_of c) (nested x h) M.meets (turn_now n)
+        (fetched_nodes s graphs n x) W (stands_at s set graphs R C T n x h W)
+        (same_plan s graphs n x) o
 
     pub go_other : (n : ℕ) → candidate_at s n ≢ Some x → go (suc n) ≡ go n
     go_other n ne =
@@ -289,5 +303,5 @@ pub execution_within_bound : ExecutionWithinBound
 execution_within_bound s set graphs c n x is_hit R C T says h l counts k =
     let M = is_met s set graphs R C T c x h says l is_hit counts in (
       execution s set graphs R C T (certified_task c (job_task s x)) x h is_hit M n k,
-      λ o. some_go s set graphs R C T (certified_task c (job_task s x)) x h is_hit M n o k,
+      λ o. some_rest s set graphs R C T (certified_task c (job_task s x)) x h is_hit M n o k,
     )

@@ -2,7 +2,8 @@
 use Rattle.std.proofs.Common.{◌≡◌, ℕ, ◌+◌, ◌-◌, ◌<◌, ◌≤◌, Bool, true, false, not, ◌&&◌, List, ◌∷◌}
 use Rattle.std.proofs.Common.{Some, refl, sym, ◌∙◌, ap, subst, inl, inr, arith}
 use Rattle.std.specs.Prelude.{◌==◌, if◌then◌else◌, drop}
-use Rattle.std.proofs.lemmas.Bool.{cases_Bool, cases_eq, and_from, eq-eqb, ne_eqb}
+use Rattle.std.proofs.lemmas.Bool.{cases_Bool, cases_eq, and_from, and_parts, eq-eqb, ne_eqb}
+use Rattle.std.proofs.lemmas.Bool.{not-true, false≢true}
 use Rattle.crpd_base.specs.declared.data.TaskPlan.{TaskPlan}
 use Rattle.rv_decode.specs.declared.Ins.{Ins}
 use Rattle.rv_decode.specs.Address.{end_address}
@@ -24,11 +25,12 @@ use Rattle.run_account.specs.Nodes.{node_of_job, node_number}
 use Rattle.rv_decode.specs.Flow.{IsCodeMap}
 use Rattle.sound_laws.specs.Walks.{before_of, IsOnWalk}
 use Rattle.sound_laws.specs.CyclesToGo.{rest_after, walk_of, cycles_to_go, misses_counted_hit}
+use Rattle.sound_laws.specs.CyclesToGo.{rest_of_walk, goes_on, has_rest}
 use Rattle.preempt_machine.proofs.TurnLaws.{TurnOf, switches, works, goes, begun, begun_pos}
 use Rattle.preempt_machine.proofs.TurnLaws.{cost_hit, cost_miss, cost_counted, turn_of_job}
-use Rattle.sound_laws.proofs.Walks.Stands.{Stands}
+use Rattle.sound_laws.proofs.Walks.Stands.{Stands, stands_on}
 use Rattle.run_account.proofs.Stands.{nodes_after, nodes_switched}
-use Rattle.sound_laws.proofs.Walks.Walked.{executed}
+use Rattle.sound_laws.proofs.Walks.Walked.{executed, went_on_walk}
 use Rattle.sound_laws.proofs.Execution.Longests.{edge_longest, end_longest}
 use Rattle.sound_laws.proofs.Execution.Paid.{pays, pays_alone}
 
@@ -41,7 +43,7 @@ pub go_between : (sys : System) (plan : TaskPlan) (t : TaskGraph) (p : Potential
     → cycles_to_go sys plan t p job nodes ≡ rest t.nest p (walk_of t job nodes)
 go_between sys plan t p job nodes o l =
     let bit : (job.left == 0) ≡ true = eq-eqb _ _ l in
-    rw (o, bit) refl
+    rw (o, bit) (omega arith)
 
 pub go_within : (sys : System) (plan : TaskPlan) (t : TaskGraph) (p : Potentials) (job : Job)
     (nodes : List ℕ) (ins : Ins) → is_open job.standing ≡ true → 1 ≤ job.left
@@ -179,7 +181,7 @@ module _ (sys : System) (plan : TaskPlan) (t : TaskGraph) (ok : IsGraphOf sys.wo
               let go : cycles_to_go sys plan t p (turn_after_effect sys n S.ins u (Goto to)).job
               later ≡ rest t.nest p
               (node_number t (turn_after_effect sys n S.ins u (Goto to)).job.watch to ∷ later) =
-              rw q refl in
+              rw q (omega arith) in
               let after : rest_after plan t p u.job (walk_of t u.job nodes) S.ins (Goto to)
               ≡ rest t.nest p (node_number t (watch_step plan u.job.watch u.job.pc S.ins to) to
               ∷ walk_of t u.job nodes) = rw (q, k') refl in
@@ -256,3 +258,49 @@ module _ (sys : System) (plan : TaskPlan) (t : TaskGraph) (ok : IsGraphOf sys.wo
     spend_turn =
         spend_turn_by
         (turn_of_job sys n S.ins u S.at (begun_pos sys S.ins u hit))
+
+  -- the rest is at least 1 where there is one
+  rest_by : (u : Turn) (nodes : List ℕ) (W : IsOnWalk sys.word plan t u.job nodes)
+      (S : Stands sys t (node_of_job t u.job) u.job.pc)
+      → plan_of sys u.job.line.task.0 ≡ plan → is_open u.job.standing ≡ true → (next : Next)
+      → next_pc S.ins u.job.pc u.job.registers ≡ next → goes_on plan u.job S.ins next ≡ true
+      → 1 ≤ rest_after plan t p u.job (walk_of t u.job nodes) S.ins next
+  rest_by u nodes W S same_plan o (Goto to) e going =
+      let parts = and_parts _ _ going in
+      let after : Turn = turn_after_effect sys 0 S.ins u (Goto to) in
+      let later = walk_of t u.job nodes in
+      let off : (to == end_address) ≡ false = not-true _ parts.0 in
+      let op : is_open after.job.standing ≡ true = rw off refl in
+      let kept : is_unbroken after.job.watch ≡ true =
+      ap (λ x. is_unbroken (watch_step x u.job.watch u.job.pc S.ins to)) same_plan ∙ parts.1 in
+      let on = went_on_walk sys plan t ok map hit 0 u nodes W S same_plan o later (Goto to) refl e
+      kept op in
+      let there = stands_on sys plan t ok map after.job later on in
+      let some = some_left 0 after later on there same_plan op in
+      let go = go_arrived 0 u nodes W S same_plan o later (Goto to) refl kept in
+      omega (arith, some, go)
+  rest_by u nodes W S same_plan o Answer e going = absurd (false≢true going)
+  rest_by u nodes W S same_plan o Fault e going = absurd (false≢true going)
+
+  pub rest_some : (u : Turn) (nodes : List ℕ) (W : IsOnWalk sys.word plan t u.job nodes)
+      (S : Stands sys t (node_of_job t u.job) u.job.pc)
+      → plan_of sys u.job.line.task.0 ≡ plan → is_open u.job.standing ≡ true
+      → has_rest sys plan u.job ≡ true → 1 ≤ rest_of_walk sys plan t p u.job nodes
+  rest_some u nodes W S same_plan o has =
+      elim (cases_eq u.job.left 0) [
+        | inl l ↦
+            let some = some_left 0 u nodes W S same_plan o in
+            let go = go_between sys plan t p u.job nodes o l in
+            let is : rest_of_walk sys plan t p u.job nodes
+            ≡ rest t.nest p (walk_of t u.job nodes) = rw (eq-eqb _ _ l) refl in
+            omega (arith, some, go, is)
+        | inr ne ↦
+            let bit : (u.job.left == 0) ≡ false = ne_eqb _ _ ne in
+            let next = next_pc S.ins u.job.pc u.job.registers in
+            let going : goes_on plan u.job S.ins next ≡ true = rw (bit, S.at) at has in
+            let is : rest_of_walk sys plan t p u.job nodes
+            ≡ rest_after plan t p u.job (walk_of t u.job nodes) S.ins next =
+            rw (bit, S.at) refl in
+            let some = rest_by u nodes W S same_plan o next refl going in
+            omega (arith, some, is)
+      ]
