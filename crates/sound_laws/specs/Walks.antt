@@ -28,13 +28,8 @@ pub record HasTaskRanges (set : TaskSet) : Type 0 where
   pub periods : (k : ℕ) → k < length set.tasks → 1 ≤ period_of set k
   pub deadlines : (k : ℕ) → k < length set.tasks → deadline_of set k ≤ period_of set k
 
--- what is asked of a run: a cache with an entry for each of the platform's sets, and jobs of the
--- set's tasks
-pub record RunsJobsOf (set : TaskSet) (s : Start) : Type 0 where
-  pub cache : s.system.platform.sets ≤ length s.cache
-  pub tasks : NamesTasks set s.lines
-
--- and a legal script
+-- what is asked of a run: a cache with an entry for each of the platform's sets, jobs of the set's
+-- tasks, and a legal script
 pub record RunsLegally (set : TaskSet) (s : Start) : Type 0 where
   pub cache : s.system.platform.sets ≤ length s.cache
   pub tasks : NamesTasks set s.lines

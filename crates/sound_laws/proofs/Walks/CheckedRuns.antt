@@ -14,15 +14,21 @@ use Rattle.cert_check.specs.Verdict.{IsYes}
 use Rattle.evict_sets.specs.ListedPart.{certified_task}
 use Rattle.preempt_machine.specs.Machine.{Standing, Open, Answered, Faulted, Job, no_job}
 use Rattle.preempt_machine.specs.Step.{is_open, Start, state}
-use Rattle.preempt_machine.specs.Safe.{IsRunOf, IsLegalRun, IsAnsweredBy, IsKept}
+use Rattle.preempt_machine.specs.Safe.{NamesTasks, IsRunOf, IsLegalRun, IsAnsweredBy, IsKept}
 use Rattle.run_account.specs.Fetches.{job_after, HasCache}
 use Rattle.run_account.proofs.Jobs.{jobs_length}
 use Rattle.run_account.proofs.Owners.{candidate_at}
 use Rattle.run_account.proofs.AnswerTimes.{answered_by}
-use Rattle.sound_laws.specs.Walks.{HasTaskRanges, IsCodeOf, RunsJobsOf, RunsLegally}
+use Rattle.sound_laws.specs.Walks.{HasTaskRanges, IsCodeOf, RunsLegally}
 use Rattle.sound_laws.proofs.Windows.Busy.{task_at}
 use Rattle.run_account.proofs.JobWalks.{kept_before, opened}
 use Rattle.sound_laws.proofs.Walks.KeptWalks.{below_at, task_below}
+
+-- what is asked of a run: a cache with an entry for each of the platform's sets, and jobs of the
+-- set's tasks
+pub record RunsJobsOf (set : TaskSet) (s : Start) : Type 0 where
+  pub cache : s.system.platform.sets ≤ length s.cache
+  pub tasks : NamesTasks set s.lines
 
 -- a run of a set with its code, of which these are the graphs, after the judge's yes: it is kept up
 -- to the horizon
