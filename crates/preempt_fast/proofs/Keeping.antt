@@ -7,12 +7,11 @@ use Rattle.crpd_base.specs.declared.data.ScriptJob.{ScriptJob}
 use Rattle.preempt_machine.specs.declared.Completion.{Completion}
 use Rattle.preempt_machine.specs.Machine.{System, Job, Machine, job_at}
 use Rattle.preempt_machine.specs.Step.{candidate, is_open, run}
-use Rattle.preempt_machine.specs.Candidate.{release_of}
-use Rattle.preempt_machine.specs.Schedule.{script_line, script_lines, due_place, due_release}
+use Rattle.preempt_machine.specs.Schedule.{due_place, due_release}
 use Rattle.preempt_machine.specs.Schedule.{heads_after, completions_after, AreReleased, IsHead}
 use Rattle.preempt_machine.specs.Schedule.{IsRepresented}
 use Rattle.preempt_machine.proofs.ReleaseOrder.{opened_none}
-use Rattle.preempt_machine.proofs.Firsts.{line_is, lines_long, release_le}
+use Rattle.preempt_machine.proofs.Firsts.{before_or_from}
 use Rattle.preempt_machine.proofs.Runs.{run_length, run_line, run_time}
 use Rattle.preempt_machine.proofs.Stepping.{kept_some}
 use Rattle.preempt_fast.specs.Stretch.{NoRelease}
@@ -23,23 +22,14 @@ pub no_release : (sets : ℕ) (m : Machine) (due : List (ℕ × ℕ)) (later hea
     → AreReleased due m.time from to cs new → (to < length due → m.time + k ≤ due_release due to)
     → NoRelease m k
 no_release sets m due later heads from to cs new k kept r next x below =
-    let (p, inside, place) = kept.due.every x (omega (arith, lines_long m.jobs)) in
-    let release : due_release due p ≡ release_of m x =
-    kept.due.releases p inside
-    ∙ ap (λ (l : ScriptJob). l.release)
-    (ap (script_line (script_lines m.jobs)) place ∙ line_is m.jobs x) in
+    let come : (p : ℕ) → p < to → due_release due p < m.time + 1 = λ p l.
     elim (cases_lt p from) [
-      | inl l ↦ inl (omega (arith, kept.released.before p l, release))
-      | inr g ↦ elim (cases_lt p to) [
-        | inl l ↦ inl (omega (arith, r.come p g l, release))
-        | inr h ↦
-            inr (omega (
-              arith,
-              next (omega arith),
-              release_le (script_lines m.jobs) due to p kept.due h inside,
-              release,
-            ))
-      ]
+      | inl b ↦ let e = kept.released.before p b in omega (arith, e)
+      | inr g ↦ let e = r.come p g l in omega (arith, e)
+    ] in
+    elim (before_or_from m.jobs due to (m.time + 1) (m.time + k) kept.due come next x below) [
+      | inl l ↦ inl (omega (arith, l))
+      | inr g ↦ inr g
     ]
 
 -- while a job is open the order and the completions stay
