@@ -4,7 +4,7 @@ use Rattle.preempt_machine.specs.Starts.{start_of_script}
 use Rattle.run_account.specs.declared.run.Run.{Run}
 use Rattle.run_account.specs.declared.told.Account.{Account}
 use Rattle.run_account.specs.Inner.Runs.{no_nests, AreHits, HasAccountInput}
-use Rattle.run_account.proofs.Accounts.{account_by}
+use Rattle.run_account.proofs.AnyRegions.{account_by}
 use Rattle.run_account.proofs.AccountFacts.{account_facts}
 use Rattle.run_account.proofs.run.account.Goals as goal
 
