@@ -1,5 +1,5 @@
 // Task sets with all that is built for them, and certificates in range.
-ghost use Rattle.std.specs.Prelude.{◌≡◌, IfOk, length};
+ghost use Rattle.std.specs.Prelude.{◌≡◌, [], IfOk, OnOk, length};
 ghost use Rattle.crpd_base.specs.Ranges.{IsTaskSet};
 ghost use Rattle.crpd_base.specs.CertificateRanges.{IsCertificate};
 ghost use Rattle.cert_check.specs.TaskGraphs.{AreTaskGraphs, IsCertificateInRange};
@@ -8,7 +8,7 @@ use crate::texts::{Told, text_of};
 use cert_model::read_certificate;
 use code_map::CodeMap;
 use crpd_base::{Certificate, Platform, Task, TaskSet};
-use fixtures::{Program, graph_and_nest, load};
+use fixtures::{Loaded, Program, graph_and_nest, load};
 use flat_graph::Graph;
 use loop_regions::Nest;
 use std::alloc::Global;
@@ -22,19 +22,26 @@ pub(crate) struct Side {
     pub(crate) nests: Vec<Nest>,
 }
 
-// The graphs and the regions of all tasks.
-fn graphs_of(alloc: Global, code: &CodeMap, set: &TaskSet) -> Result<(Vec<Graph>, Vec<Nest>), Fail>
+// Puts the graphs and the regions of all tasks into empty lists.
+fn push_graphs(
+    alloc: Global,
+    code: &CodeMap,
+    set: &TaskSet,
+    graphs: &mut Vec<Graph>,
+    nests: &mut Vec<Nest>,
+) -> Result<(), Fail>
     requires set { IsTaskSet set.now }
     requires plans { length code.now.plans ≡ length set.now.tasks }
-    ensures { IfOk result (λ all. AreTaskGraphs set.now all.0.items all.1.items) }
+    requires no_graphs { graphs.old.items ≡ [] }
+    requires no_nests { nests.old.items ≡ [] }
+    ensures { OnOk result (AreTaskGraphs set.now graphs.new.items nests.new.items) }
 {
-    let (mut graphs, mut nests) = (Vec::new(alloc), Vec::new(alloc));
     for k in 0..set.tasks.len() {
         let (graph, nest) = graph_and_nest(alloc, code, Task(k as u8))?;
         graphs.push(graph)?;
         nests.push(nest)?;
     }
-    Ok((graphs, nests))
+    Ok(())
 }
 
 // The set of these programs, with all that is built for it.
@@ -42,13 +49,10 @@ pub(crate) fn side_of(alloc: Global, platform: Platform, programs: &[Program]) -
     ensures range { IfOk result (λ s. IsTaskSet s.set) }
     ensures shown { IfOk result (λ s. AreTaskGraphs s.set s.graphs.items s.nests.items) }
 {
-    let loaded = load(alloc, platform, programs)?;
-    let (graphs, nests) = graphs_of(alloc, &loaded.code, &loaded.set)?;
-    Ok(Side {
-        set: loaded.set,
-        graphs,
-        nests,
-    })
+    let Loaded { set, code } = load(alloc, platform, programs)?;
+    let (mut graphs, mut nests) = (Vec::new(alloc), Vec::new(alloc));
+    push_graphs(alloc, &code, &set, &mut graphs, &mut nests)?;
+    Ok(Side { set, graphs, nests })
 }
 
 fn in_range_law(certificate: &Certificate)

@@ -3,7 +3,7 @@ use Rattle.std.proofs.Common.{◌≡◌, ℕ, ◌<◌, length}
 use Rattle.loop_regions.specs.CodeNest.{IsNestOf}
 use Rattle.flat_graph.specs.CodeGraph.{graph_at}
 use Rattle.cert_check.specs.TaskGraphs.{nest_at}
-use Rattle.cert_rows.proofs.sides.graphs_of.Given as goal
+use Rattle.cert_rows.proofs.sides.push_graphs.Given as goal
 
 abbrev pub invariant-loop-k : goal.invariant-loop-k
 invariant-loop-k l = record {

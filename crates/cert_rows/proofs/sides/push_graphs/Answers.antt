@@ -1,6 +1,6 @@
 use Rattle.std.proofs.Common.{arith, length-append}
 use Rattle.cert_rows.proofs.Graphs.{one_more}
-use Rattle.cert_rows.proofs.sides.graphs_of.Goals as goal
+use Rattle.cert_rows.proofs.sides.push_graphs.Goals as goal
 
 pub loop-k-preserved : goal.loop-k-preserved
 loop-k-preserved c =
