@@ -1,11 +1,13 @@
 // The plain union delays of small lists of sets, and the windows with them.
 ghost use Rattle.std.specs.Prelude.{◌≤◌};
 
+use crate::comparison::{compare, compare_end};
 use crate::rows::{Row, crowd_of, numbers_of, told};
 use crpd_base::Switching;
 use delay_classic::{classic_ecb, classic_ucb, classic_windows};
 use fixtures::sets_of;
 use std::alloc::Global;
+use std::process::Abort;
 use std::test::Fail;
 
 // How many jobs evict the sets 1 to 4, the useful sets of two affected tasks, and the delays by
@@ -30,8 +32,8 @@ fn delays_of_two_tasks(rt: HostRuntime) {
     let evicting = sets_of(&[1, 2, 3, 4]);
     for &(jobs, first, second, ucb, ecb) in &DELAYS {
         let lower = [sets_of(first), sets_of(second)];
-        assert_eq!(rt; classic_ucb(10, jobs, &evicting, &lower), ucb);
-        assert_eq!(rt; classic_ecb(10, jobs, &evicting, &lower), ecb);
+        assert!(rt; classic_ucb(10, jobs, &evicting, &lower) == ucb);
+        assert!(rt; classic_ecb(10, jobs, &evicting, &lower) == ecb);
     }
 }
 
@@ -45,6 +47,12 @@ fn answer(alloc: Global, rows: &[Row], words: u16) -> Result<String, Fail>
 }
 
 const LONG: u64 = 10_000;
+
+fn compare_answer(rt: &impl Abort, alloc: Global, rows: &[Row], want: &str) -> Result<(), Fail> {
+    let got = answer(alloc, rows, 1)?;
+    compare(rt, got.as_str(), want);
+    Ok(())
+}
 
 static WINDOWS: [(&[Row], &str); 3] = [
     // two jobs of the highest task reload the middle one's sets, once each
@@ -78,8 +86,7 @@ static WINDOWS: [(&[Row], &str); 3] = [
 #[test]
 fn windows_of_small_sets(rt: HostRuntime) -> Result<(), Fail> {
     for &(rows, want) in &WINDOWS {
-        let got = answer(rt.alloc(), rows, 1)?;
-        assert_eq!(rt; got.as_str(), want);
+        compare_answer(&rt, rt.alloc(), rows, want)?;
     }
     Ok(())
 }
@@ -93,8 +100,8 @@ fn crowd_told(alloc: Global, bound: u64) -> Result<String, Fail> {
 #[test]
 fn windows_below_many(rt: HostRuntime) -> Result<(), Fail> {
     let found = crowd_told(rt.alloc(), 27_128)?;
-    assert!(rt; found.as_str().ends_with(" ucb 502999999"));
+    compare_end(&rt, found.as_str(), " ucb 502999999");
     let none = crowd_told(rt.alloc(), 27_129)?;
-    assert_eq!(rt; none.as_str(), "none of 31");
+    compare(&rt, none.as_str(), "none of 31");
     Ok(())
 }

@@ -1,10 +1,12 @@
 // The windows of small sets, and of sets whose higher tasks leave almost nothing.
 ghost use Rattle.std.specs.Prelude.{◌≤◌};
 
+use crate::comparison::{compare, compare_end};
 use crate::rows::{Row, crowd_of, numbers_of, told};
 use crpd_base::{LONGEST_TIME, Switching};
 use response::windows;
 use std::alloc::Global;
+use std::process::Abort;
 use std::test::Fail;
 
 // The windows with cache sets in this many words, or the first task without one.
@@ -14,6 +16,18 @@ fn answer(alloc: Global, switching: Switching, rows: &[Row], words: u16) -> Resu
     let n = numbers_of(alloc, switching, rows, words)?;
     let windows = windows(alloc, &n.set, n.parts.as_slice(), &n.longest);
     told(alloc, &windows)
+}
+
+fn compare_answer(
+    rt: &impl Abort,
+    alloc: Global,
+    switching: Switching,
+    rows: &[Row],
+    want: &str,
+) -> Result<(), Fail> {
+    let got = answer(alloc, switching, rows, 1)?;
+    compare(rt, got.as_str(), want);
+    Ok(())
 }
 
 const LONG: u64 = 10_000;
@@ -126,8 +140,7 @@ static WINDOWS: [(Switching, &[Row], &str); 11] = [
 #[test]
 fn windows_of_small_sets(rt: HostRuntime) -> Result<(), Fail> {
     for &(switching, rows, want) in &WINDOWS {
-        let got = answer(rt.alloc(), switching, rows, 1)?;
-        assert_eq!(rt; got.as_str(), want);
+        compare_answer(&rt, rt.alloc(), switching, rows, want)?;
     }
     Ok(())
 }
@@ -141,9 +154,9 @@ fn crowd_told(alloc: Global, bound: u64) -> Result<String, Fail> {
 #[test]
 fn windows_below_many(rt: HostRuntime) -> Result<(), Fail> {
     let found = crowd_told(rt.alloc(), 27_128)?;
-    assert!(rt; found.as_str().ends_with(" ucb 502999999"));
+    compare_end(&rt, found.as_str(), " ucb 502999999");
     let none = crowd_told(rt.alloc(), 27_129)?;
-    assert_eq!(rt; none.as_str(), "none of 31");
+    compare(&rt, none.as_str(), "none of 31");
     Ok(())
 }
 
@@ -152,6 +165,6 @@ fn windows_below_many(rt: HostRuntime) -> Result<(), Fail> {
 #[test]
 fn windows_below_delayed(rt: HostRuntime) -> Result<(), Fail> {
     let got = answer(rt.alloc(), Switching::Cycle, &DELAYED, 1)?;
-    assert!(rt; got.as_str().ends_with(" ucb 68719476736"));
+    compare_end(&rt, got.as_str(), " ucb 68719476736");
     Ok(())
 }

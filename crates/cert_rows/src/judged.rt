@@ -1,16 +1,20 @@
 // Certificates of one task, and changes of them.
 ghost use Rattle.cert_check.specs.TaskGraphs.{IsCertificateInRange};
 
+use crate::comparison::compare;
 use crate::sides::{side_of, told_certificate};
 use crate::texts::{LOOP_TOLD, LOOPING, ONE_TOLD, Told};
 use cert_check::{Verdict, verdict};
 use crpd_base::{Certificate, Task};
 use fixtures::{ONE, PLATFORM, Program};
-use std::alloc::Global;
+use std::alloc::{AllocError, Global};
+use std::process::Abort;
 use std::test::Fail;
 
-// What a certificate says of a program, and the verdict.
-static VERDICTS: [(Program<'static>, Told, &str); 11] = [
+// A program, what a certificate says of it, and the verdict.
+type Row = (Program<'static>, Told, &'static str);
+
+static VERDICTS: [Row; 11] = [
     (ONE, ONE_TOLD, "yes"),
     (
         ONE,
@@ -88,36 +92,51 @@ static VERDICTS: [(Program<'static>, Told, &str); 11] = [
     ),
 ];
 
-fn told(alloc: Global, verdict: Verdict) -> Result<String, Fail> {
+fn told(alloc: Global, verdict: Verdict) -> Result<String, AllocError> {
     match verdict {
-        Verdict::Yes => Ok(String::from_str(alloc, "yes")?),
+        Verdict::Yes => String::from_str(alloc, "yes"),
         Verdict::No {
             task: Task(task),
             clause,
             place,
-        } => Ok(format!(in alloc; "{task} {clause} {place}")?),
+        } => format!(in alloc; "{task} {clause} {place}"),
     }
 }
 
 // The verdict on a certificate of a program.
-pub(crate) fn verdict_told(
-    alloc: Global,
-    program: Program,
-    certificate: &Certificate,
-) -> Result<String, Fail>
+fn verdict_told(alloc: Global, program: Program, certificate: &Certificate) -> Result<String, Fail>
     requires { IsCertificateInRange certificate.now }
 {
     let side = side_of(alloc, PLATFORM, &[program])?;
     let verdict = verdict(&side.set, &side.graphs, &side.nests, certificate);
-    told(alloc, verdict)
+    Ok(told(alloc, verdict)?)
+}
+
+// Compares the verdict on a certificate of a program with what is wanted.
+pub(crate) fn compare_verdict(
+    rt: &impl Abort,
+    alloc: Global,
+    program: Program,
+    certificate: &Certificate,
+    want: &str,
+) -> Result<(), Fail>
+    requires { IsCertificateInRange certificate.now }
+{
+    let got = verdict_told(alloc, program, certificate)?;
+    compare(rt, got.as_str(), want);
+    Ok(())
+}
+
+fn compare_row(rt: &impl Abort, alloc: Global, row: &Row) -> Result<(), Fail> {
+    let &(program, part, want) = row;
+    let certificate = told_certificate(alloc, &[part])?;
+    compare_verdict(rt, alloc, program, &certificate, want)
 }
 
 #[test]
 fn verdicts(rt: HostRuntime) -> Result<(), Fail> {
-    for &(program, part, want) in &VERDICTS {
-        let certificate = told_certificate(rt.alloc(), &[part])?;
-        let got = verdict_told(rt.alloc(), program, &certificate)?;
-        assert_eq!(rt; got.as_str(), want);
+    for row in &VERDICTS {
+        compare_row(&rt, rt.alloc(), row)?;
     }
     Ok(())
 }

@@ -6,6 +6,8 @@
 #[cfg(test)]
 mod classic;
 #[cfg(test)]
+mod comparison;
+#[cfg(test)]
 mod counted;
 #[cfg(test)]
 mod delays;

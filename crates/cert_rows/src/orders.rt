@@ -5,12 +5,13 @@ ghost use Rattle.crpd_base.specs.declared.data.NodeState.{NodeState};
 ghost use Rattle.crpd_base.specs.declared.data.TaskPart.{TaskPart};
 ghost use Rattle.cert_check.specs.TaskGraphs.{HasLowSets, IsCertificateInRange};
 
-use crate::judged::verdict_told;
+use crate::judged::compare_verdict;
 use crate::sides::told_certificate;
 use crate::texts::{LOOP_TOLD, LOOPING, ONE_TOLD, Told};
 use crpd_base::{Certificate, Items, NodeState, TaskPart};
 use fixtures::{ONE, Program, sets_of};
 use std::alloc::{AllocError, Global};
+use std::process::Abort;
 use std::test::Fail;
 
 // What is listed at a node: its number, the blocks of cache sets, and the useful cache sets.
@@ -22,7 +23,9 @@ const SECOND: Entry = (1, &[(0, 256)], &[0]);
 
 // A program, what a certificate says of it but for its states, these in their order, and the
 // verdict.
-static ORDERS: [(Program<'static>, Told, &[Entry], &str); 9] = [
+type Order = (Program<'static>, Told, &'static [Entry], &'static str);
+
+static ORDERS: [Order; 9] = [
     (ONE, ONE_TOLD, &[SECOND, FIRST], "yes"),
     (
         LOOPING,
@@ -125,12 +128,16 @@ fn listed(alloc: Global, told: Told, entries: &[Entry]) -> Result<Certificate, F
     }
 }
 
+fn compare_order(rt: &impl Abort, alloc: Global, order: &Order) -> Result<(), Fail> {
+    let &(program, part, entries, want) = order;
+    let certificate = listed(alloc, part, entries)?;
+    compare_verdict(rt, alloc, program, &certificate, want)
+}
+
 #[test]
 fn orders_of_states(rt: HostRuntime) -> Result<(), Fail> {
-    for &(program, part, entries, want) in &ORDERS {
-        let certificate = listed(rt.alloc(), part, entries)?;
-        let got = verdict_told(rt.alloc(), program, &certificate)?;
-        assert_eq!(rt; got.as_str(), want);
+    for order in &ORDERS {
+        compare_order(&rt, rt.alloc(), order)?;
     }
     Ok(())
 }

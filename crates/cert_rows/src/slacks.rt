@@ -1,9 +1,11 @@
 // The greatest costs of small task sets.
+use crate::comparison::compare;
 use crate::sides::side_of;
 use crpd_base::{LONGEST_TIME, Platform};
 use fixtures::{NESTED, ONE, PLATFORM, Program};
 use sensitivity::{Slack, Stop, greatest_miss, greatest_switch};
 use std::alloc::{AllocError, Global};
+use std::process::Abort;
 use std::test::Fail;
 
 // One cache set, with a line of two words.
@@ -99,11 +101,21 @@ fn slacks(alloc: Global, programs: &[Program]) -> Result<String, Fail> {
     }
 }
 
+fn compare_slacks(
+    rt: &impl Abort,
+    alloc: Global,
+    programs: &[Program],
+    want: &str,
+) -> Result<(), Fail> {
+    let got = slacks(alloc, programs)?;
+    compare(rt, got.as_str(), want);
+    Ok(())
+}
+
 #[test]
 fn greatest_costs(rt: HostRuntime) -> Result<(), Fail> {
     for &(programs, want) in &SLACKS {
-        let got = slacks(rt.alloc(), programs)?;
-        assert_eq!(rt; got.as_str(), want);
+        compare_slacks(&rt, rt.alloc(), programs, want)?;
     }
     Ok(())
 }

@@ -3,6 +3,7 @@ ghost use Rattle.crpd_base.specs.Ranges.{IsTaskSet};
 ghost use Rattle.crpd_base.specs.CertificateRanges.{IsCertificate};
 ghost use Rattle.cert_check.specs.TaskGraphs.{AreTaskGraphs, IsCertificateInRange};
 
+use crate::comparison::{compare, compare_end};
 use crate::made::written;
 use crate::sides::{Side, side_of, told_certificate};
 use crate::texts::{HIGH_TOLD, LOOP_TOLD, LOW_TOLD, Told, text_of};
@@ -259,11 +260,11 @@ fn answer_told(
 // Compares what comes of a case with what is wanted.
 fn compare_told(rt: &impl Abort, alloc: Global, got: &str, case: &Case) -> Result<(), Fail> {
     if case.told.is_empty() {
-        assert!(rt; got.ends_with(case.end));
+        compare_end(rt, got, case.end);
     } else {
         let mut want = text_of(alloc, case.told)?;
         want.push_str(case.end)?;
-        assert!(rt; got == want.as_str());
+        compare(rt, got, want.as_str());
     }
     Ok(())
 }
@@ -280,7 +281,7 @@ fn case_told(alloc: Global, old: &Side, new: &Side, low: Told) -> Result<String,
 }
 
 // Updates the old certificate of a case to its new set, and compares what comes of it.
-fn compare(rt: &impl Abort, alloc: Global, old: &Side, case: &Case) -> Result<(), Fail>
+fn compare_case(rt: &impl Abort, alloc: Global, old: &Side, case: &Case) -> Result<(), Fail>
     requires old { IsTaskSet old.now.set }
     requires old_tasks { AreTaskGraphs old.now.set old.now.graphs.items old.now.nests.items }
 {
@@ -293,7 +294,7 @@ fn compare(rt: &impl Abort, alloc: Global, old: &Side, case: &Case) -> Result<()
 fn changed_sets(rt: HostRuntime) -> Result<(), Fail> {
     let old = side_of(rt.alloc(), PLATFORM, &[HIGH, LOW])?;
     for case in &CASES {
-        compare(&rt, rt.alloc(), &old, case)?;
+        compare_case(&rt, rt.alloc(), &old, case)?;
     }
     Ok(())
 }
