@@ -16,24 +16,41 @@ const NEXT: u32 = 0x0002_8293;
 
 const CALL: u32 = 0x0080_00EF;
 
+fn push_calls(text: &mut String, calls: &[u32]) -> Result<(), AllocError> {
+    for call in calls {
+        write!(text, "{call:x}/")?;
+    }
+    Ok(())
+}
+
+fn push_successors(text: &mut String, graph: &Graph, id: NodeId) -> Result<(), AllocError>
+    requires { id.0 < length graph.now.nodes }
+{
+    for next in graph.successors(id) {
+        write!(text, ">{}", next.0)?;
+    }
+    Ok(())
+}
+
+// Whether a node is found by its calls under way and its address.
+fn is_found(graph: &Graph, id: NodeId) -> bool
+    requires { id.0 < length graph.now.nodes }
+{
+    graph.find(graph.context(id), graph.node(id).address) == Some(id)
+}
+
 // A node: the calls under way, its address, `*` for a leader, and the numbers of its successors;
 // `?` where it is not found.
 fn push_node(text: &mut String, graph: &Graph, id: NodeId) -> Result<(), AllocError>
     requires { id.0 < length graph.now.nodes }
 {
-    text.push_str(" ")?;
-    for call in graph.context(id) {
-        write!(text, "{call:x}/")?;
-    }
     let leads = if graph.leader(id) { "*" } else { "" };
+    let end = if is_found(graph, id) { "" } else { "?" };
+    text.push_str(" ")?;
+    push_calls(text, graph.context(id))?;
     write!(text, "{:x}{leads}", graph.node(id).address)?;
-    for next in graph.successors(id) {
-        write!(text, ">{}", next.0)?;
-    }
-    if graph.find(graph.context(id), graph.node(id).address) != Some(id) {
-        text.push_str("?")?;
-    }
-    Ok(())
+    push_successors(text, graph, id)?;
+    text.push_str(end)
 }
 
 fn push_graph(text: &mut String, graph: &Graph) -> Result<(), AllocError> {

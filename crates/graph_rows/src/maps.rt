@@ -170,19 +170,36 @@ fn text_of(alloc: Global, text: &str) -> Result<Text, AllocError> {
     Ok(Text::new(String::from_str(alloc, text)?))
 }
 
-fn task(alloc: Global, file: &File) -> Result<TaskSpec, AllocError> {
-    let (from, to) = file.range;
-    Ok(TaskSpec {
-        name: text_of(alloc, "one")?,
-        file: text_of(alloc, file.name)?,
-        entry: entry_of(alloc, file.entry)?,
+// A task without texts, places and loops.
+fn bare_task(alloc: Global) -> TaskSpec {
+    TaskSpec {
+        name: Text::new(String::new(alloc)),
+        file: Text::new(String::new(alloc)),
+        entry: None,
         period: 100,
         deadline: 100,
         jitter: 0,
-        stack: place(alloc, file.stack)?,
+        stack: Place::Number(0),
         global: Place::Number(7),
-        loops: Items::new(loops_of(alloc, from, to)?),
-    })
+        loops: Items::new(Vec::new(alloc)),
+    }
+}
+
+// Puts what a file says of its task into the task.
+fn put_file(alloc: Global, task: &mut TaskSpec, file: &File) -> Result<(), AllocError> {
+    let (from, to) = file.range;
+    task.name = text_of(alloc, "one")?;
+    task.file = text_of(alloc, file.name)?;
+    task.entry = entry_of(alloc, file.entry)?;
+    task.stack = place(alloc, file.stack)?;
+    task.loops = Items::new(loops_of(alloc, from, to)?);
+    Ok(())
+}
+
+fn task(alloc: Global, file: &File) -> Result<TaskSpec, AllocError> {
+    let mut task = bare_task(alloc);
+    put_file(alloc, &mut task, file)?;
+    Ok(task)
 }
 
 fn tasks(alloc: Global, files: &[File]) -> Result<Vec<TaskSpec>, AllocError>
@@ -225,9 +242,12 @@ fn outcome(alloc: Global, files: &[File]) -> Result<String, AllocError>
     }
 }
 
+static FIRST: File = PLAIN;
+
 // Compares what comes of a file beside the plain one with what is wanted.
-fn compare_outcome(rt: &impl Abort, alloc: Global, file: File, want: &str) -> Result<(), Fail> {
-    let got = outcome(alloc, &[PLAIN, file])?;
+fn compare_outcome(rt: &impl Abort, alloc: Global, row: &(File, &str)) -> Result<(), Fail> {
+    let &(file, want) = row;
+    let got = outcome(alloc, &[FIRST, file])?;
     compare(rt, got.as_str(), want);
     Ok(())
 }
@@ -371,8 +391,8 @@ static REFUSALS: [(File, &str); 18] = [
 
 #[test]
 fn refusals(rt: HostRuntime) -> Result<(), Fail> {
-    for &(file, want) in &REFUSALS {
-        compare_outcome(&rt, rt.alloc(), file, want)?;
+    for row in &REFUSALS {
+        compare_outcome(&rt, rt.alloc(), row)?;
     }
     Ok(())
 }

@@ -53,6 +53,17 @@ fn push_node(
     push_numbers(text, useful)
 }
 
+fn push_nodes(
+    text: &mut String,
+    states: &[MustState<8>],
+    useful: &[SetBits<1>],
+) -> Result<(), AllocError> {
+    for (state, sets) in states.iter().zip(useful.iter()) {
+        push_node(text, state, sets)?;
+    }
+    Ok(())
+}
+
 // The sets and the longest cost of a task.
 fn task_told(
     alloc: Global,
@@ -75,9 +86,7 @@ fn told(alloc: Global, graph: &Graph) -> Result<String, Fail> {
     let useful = useful::<8, 1>(alloc, graph, &geometry, &states)?;
     let evicting = evicting::<1>(graph, &geometry);
     let mut text = task_told(alloc, &evicting, &all(&useful), longest(graph, &EIGHT_SETS))?;
-    for (state, sets) in states.iter().zip(useful.iter()) {
-        push_node(&mut text, state, sets)?;
-    }
+    push_nodes(&mut text, &states, &useful)?;
     Ok(text)
 }
 

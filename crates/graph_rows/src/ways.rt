@@ -210,6 +210,18 @@ fn compare_potentials(
     assert!(rt; found.cycles == inequalities.item(least, None, graph.first()));
 }
 
+// Compares a bound with the fixpoint.
+fn compare_least(
+    rt: &impl Abort,
+    alloc: Global,
+    inequalities: &Inequalities<4>,
+    found: &Bound,
+) -> Result<(), Fail> {
+    let least = inequalities.fixpoint(alloc)?;
+    compare_potentials(rt, inequalities, found, &least);
+    Ok(())
+}
+
 // Compares the bound of a graph with the fixpoint.
 fn compare_fixpoint(
     rt: &impl Abort,
@@ -232,12 +244,8 @@ fn compare_fixpoint(
         geometry: &geometry,
         states: &states,
     };
-    let least = inequalities.fixpoint(alloc)?;
     match bound(alloc, graph, nest, platform, &states) {
-        Ok(found) => {
-            compare_potentials(rt, &inequalities, &found, &least);
-            Ok(())
-        }
+        Ok(found) => compare_least(rt, alloc, &inequalities, &found),
         Err(_) => Err(Fail::from("no bound")),
     }
 }
