@@ -1,6 +1,8 @@
 // Words and instructions, their texts and their cycles.
 use crpd_base::{Platform, Switching};
 use rv_decode::{Ins, cost, decode, encode};
+use std::alloc::Global;
+use std::process::Abort;
 use std::test::Fail;
 
 // Each row once: words as LLVM's assembler makes them of the texts.
@@ -55,13 +57,19 @@ static ROWS: [(u32, &str); 48] = [
     (0x0010_0073, "ebreak"),
 ];
 
+fn compare_text(rt: &impl Abort, alloc: Global, ins: &Ins, want: &str) -> Result<(), Fail> {
+    let text = ins.text(alloc)?;
+    assert_eq!(rt; text.as_str(), want);
+    Ok(())
+}
+
 #[test]
 fn every_row(rt: HostRuntime) -> Result<(), Fail> {
     for &(word, text) in &ROWS {
         match decode(word) {
             Some(ins) => {
-                assert_eq!(rt; encode(&ins), word);
-                assert_eq!(rt; ins.text(rt.alloc())?.as_str(), text);
+                assert!(rt; encode(&ins) == word, "{word:x}");
+                compare_text(&rt, rt.alloc(), &ins, text)?;
             }
             None => assert!(rt; false, "no row"),
         }

@@ -448,6 +448,19 @@ pub(crate) fn compare_ends(rt: &impl Abort, completions: &[Completion], ends: &[
     }
 }
 
+// Compares a run with what is told of it.
+fn compare_run(
+    rt: &impl Abort,
+    completions: &[Completion],
+    kept: bool,
+    told: Option<(&[End], bool)>,
+) {
+    if let Some((ends, whole)) = told {
+        compare_ends(rt, completions, ends);
+        assert!(rt; kept == whole);
+    }
+}
+
 // Makes the cycles of a script in two parts, and compares how its jobs end and whether all watches
 // are kept.
 fn compare_cycles(
@@ -486,10 +499,7 @@ fn compare(
     requires jobs { length script.now.jobs < 2 ^ 32 }
 {
     let (completions, kept) = run_fast(alloc, &loaded.code, &loaded.set, script)?;
-    if let Some((ends, whole)) = told {
-        compare_ends(rt, &completions, ends);
-        assert_eq!(rt; kept, whole);
-    }
+    compare_run(rt, &completions, kept, told);
     compare_cycles(rt, alloc, loaded, script, &completions, kept)
 }
 

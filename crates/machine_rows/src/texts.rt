@@ -11,10 +11,17 @@ use crpd_report::{generate_text, refusal_text, sets_text, simulate_text};
 use fixtures::{PLATFORM, sets_of};
 use preempt_machine::{Completion, End};
 use std::alloc::{AllocError, Global};
+use std::process::Abort;
 use std::test::Fail;
 
+fn compare(rt: &impl Abort, made: &[u8], text: &str) {
+    assert_eq!(rt; made, text.as_bytes());
+}
+
 // A refusal's number, name, subject and detail, and its text.
-static REFUSALS: [(u32, &str, &str, &str, &str); 2] = [
+type Refusal = (u32, &'static str, &'static str, &'static str, &'static str);
+
+static REFUSALS: [Refusal; 2] = [
     (1, "Short", "one.elf", "-", "refused 1 Short one.elf -\n"),
     (
         41,
@@ -25,14 +32,21 @@ static REFUSALS: [(u32, &str, &str, &str, &str); 2] = [
     ),
 ];
 
+fn compare_refusal(rt: &impl Abort, alloc: Global, refusal: &Refusal) -> Result<(), Fail> {
+    let &(number, name, subject, detail, text) = refusal;
+    match refusal_text(alloc, number, name, subject, detail) {
+        Ok(line) => {
+            compare(rt, &line, text);
+            Ok(())
+        }
+        Err(_) => Err(Fail::from("no memory")),
+    }
+}
+
 #[test]
 fn refusals(rt: HostRuntime) -> Result<(), Fail> {
-    let alloc = rt.alloc();
-    for &(number, name, subject, detail, text) in &REFUSALS {
-        let Ok(line) = refusal_text(alloc, number, name, subject, detail) else {
-            return Err(Fail::from("no memory"));
-        };
-        assert_eq!(rt; line.as_slice(), text.as_bytes());
+    for refusal in &REFUSALS {
+        compare_refusal(&rt, rt.alloc(), refusal)?;
     }
     Ok(())
 }
@@ -128,19 +142,30 @@ fn run_text(alloc: Global, set: &TaskSet, jobs: &[Job], kept: bool) -> Result<Ve
     }
 }
 
-#[test]
-fn simulations(rt: HostRuntime) -> Result<(), Fail> {
-    let set = two_tasks(rt.alloc())?;
-    for &(jobs, kept, text) in &RUNS {
-        let made = run_text(rt.alloc(), &set, jobs, kept)?;
-        assert_eq!(rt; made.as_slice(), text.as_bytes());
-    }
+fn compare_run(
+    rt: &impl Abort,
+    alloc: Global,
+    set: &TaskSet,
+    jobs: &[Job],
+    kept: bool,
+    text: &str,
+) -> Result<(), Fail> {
+    let made = run_text(alloc, set, jobs, kept)?;
+    compare(rt, &made, text);
     Ok(())
 }
 
 #[test]
-fn cache_sets(rt: HostRuntime) -> Result<(), Fail> {
-    let alloc = rt.alloc();
+fn simulations(rt: HostRuntime) -> Result<(), Fail> {
+    let set = two_tasks(rt.alloc())?;
+    for &(jobs, kept, text) in &RUNS {
+        compare_run(&rt, rt.alloc(), &set, jobs, kept, text)?;
+    }
+    Ok(())
+}
+
+// The text of the cache sets of two tasks.
+fn sets_told(alloc: Global, set: &TaskSet) -> Result<Vec<u8>, Fail> {
     let parts = [
         Part {
             bound: 50,
@@ -153,12 +178,18 @@ fn cache_sets(rt: HostRuntime) -> Result<(), Fail> {
             useful: sets_of(&[2]),
         },
     ];
-    let set = two_tasks(alloc)?;
-    let Ok(made) = sets_text(alloc, &set, &parts) else {
-        return Err(Fail::from("no memory"));
-    };
+    match sets_text(alloc, set, &parts) {
+        Ok(text) => Ok(text),
+        Err(_) => Err(Fail::from("no memory")),
+    }
+}
+
+#[test]
+fn cache_sets(rt: HostRuntime) -> Result<(), Fail> {
+    let set = two_tasks(rt.alloc())?;
+    let made = sets_told(rt.alloc(), &set)?;
     let text = "high evicting 0 63 64 511\nhigh useful\nlow evicting 1 2\nlow useful 2\n";
-    assert_eq!(rt; made.as_slice(), text.as_bytes());
+    compare(&rt, &made, text);
     Ok(())
 }
 
@@ -237,6 +268,6 @@ fn made_inputs(rt: HostRuntime) -> Result<(), Fail> {
         high bound 10 window 15 response 50 method ucb\n\
         low bound 10 window 15 response 20 method ecb\n\
         jobs 7 answered 3 late 4\nrun legal kept\n";
-    assert_eq!(rt; made.as_slice(), text.as_bytes());
+    compare(&rt, &made, text);
     Ok(())
 }

@@ -6,6 +6,7 @@ use crpd_base::{Items, LoopAt, TaskPlan};
 use flow_watch::{Watch, stays_in_frame};
 use rv_decode::Ins;
 use std::alloc::{AllocError, Global};
+use std::process::Abort;
 use std::test::Fail;
 
 // The address at which a job ends.
@@ -131,7 +132,9 @@ const CALLED: Step = (CALL, 0x200);
 const BACK: Step = (RETURN, 0x104);
 
 // Stated loops, steps, whether the watch is broken, and the calls under way.
-static FOLLOWED: [(&[Stated], &[Step], bool, &[u32]); 28] = [
+type Followed = (&'static [Stated], &'static [Step], bool, &'static [u32]);
+
+static FOLLOWED: [Followed; 28] = [
     // the entry is a first iteration of a loop whose head it is
     (&[ONCE], &[], false, &[]),
     (&[ONCE], &[HEAD], true, &[]),
@@ -210,19 +213,31 @@ static FOLLOWED: [(&[Stated], &[Step], bool, &[u32]); 28] = [
     (&[ONCE], &[(NEXT, END)], false, &[]),
 ];
 
+fn compare_watch(rt: &impl Abort, watch: &Watch, broken: bool, calls: &[u32]) {
+    assert!(rt; watch.broken() == broken);
+    assert_eq!(rt; watch.context(), calls);
+}
+
+fn compare_followed(rt: &impl Abort, alloc: Global, row: &Followed) -> Result<(), Fail> {
+    let &(loops, steps, broken, calls) = row;
+    let plan = plan(alloc, loops)?;
+    let watch = watch_after(alloc, &plan, steps)?;
+    compare_watch(rt, &watch, broken, calls);
+    Ok(())
+}
+
 #[test]
 fn follows(rt: HostRuntime) -> Result<(), Fail> {
-    for &(loops, steps, broken, calls) in &FOLLOWED {
-        let plan = plan(rt.alloc(), loops)?;
-        let watch = watch_after(rt.alloc(), &plan, steps)?;
-        assert_eq!(rt; watch.broken(), broken);
-        assert_eq!(rt; watch.context(), calls);
+    for row in &FOLLOWED {
+        compare_followed(&rt, rt.alloc(), row)?;
     }
     Ok(())
 }
 
 // The addresses that are quiet around an address after steps, also where there are no loops.
-static QUIET: [(&[Stated], &[Step], u32, (u32, u32)); 11] = [
+type Quiet = (&'static [Stated], &'static [Step], u32, (u32, u32));
+
+static QUIET: [Quiet; 11] = [
     (&[], &[], 0x100, (0, u32::MAX)),
     // an open loop, from after its head to the end of its range
     (&[TWICE], &[], 0x100, (0x101, 0x110)),
@@ -246,12 +261,18 @@ static QUIET: [(&[Stated], &[Step], u32, (u32, u32)); 11] = [
     (&[TWICE], &[(RETURN, END)], END, (0, u32::MAX)),
 ];
 
+fn compare_quiet(rt: &impl Abort, alloc: Global, row: &Quiet) -> Result<(), Fail> {
+    let &(loops, steps, near, quiet) = row;
+    let plan = plan(alloc, loops)?;
+    let watch = watch_after(alloc, &plan, steps)?;
+    assert!(rt; watch.quiet(&plan, near) == quiet, "near {near:x}");
+    Ok(())
+}
+
 #[test]
 fn quiet_addresses(rt: HostRuntime) -> Result<(), Fail> {
-    for &(loops, steps, near, quiet) in &QUIET {
-        let plan = plan(rt.alloc(), loops)?;
-        let watch = watch_after(rt.alloc(), &plan, steps)?;
-        assert_eq!(rt; watch.quiet(&plan, near), quiet);
+    for row in &QUIET {
+        compare_quiet(&rt, rt.alloc(), row)?;
     }
     Ok(())
 }
