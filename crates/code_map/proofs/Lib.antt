@@ -7,7 +7,6 @@ mod Gathered
 pub mod Has
 pub mod Indexed
 mod Valued
-mod Turns
 mod Planned
 mod Meaning
 mod NextWord
