@@ -17,10 +17,9 @@ use Rattle.elf_reader.specs.Reading as elf
 use Rattle.elf_reader.specs.declared.fault.ElfError.{ElfError}
 use Rattle.code_map.specs.Reading.{code_of}
 use Rattle.code_map.specs.Words.{Code}
-use Rattle.rv_core.specs.Memory.{IsMemory, Memory, clear_bytes, put_byte}
+use Rattle.rv_core.specs.Memory.{IsMemory, Memory, clear_bytes, put_all, put_byte}
 use Rattle.rv_core.proofs.Memories.{clear_from, put_from}
-use Rattle.preempt_machine.specs.Starts.{start_memory, with_bytes, with_images, with_segment}
-use Rattle.preempt_machine.specs.Starts.{with_segments}
+use Rattle.preempt_machine.specs.Starts.{start_memory, with_images, with_segment, with_segments}
 use Rattle.crpd_io.specs.Outside.{Contents}
 use Rattle.crpd_io.specs.Whole.{FileRefusal, file_within}
 use Rattle.gen_tasks.specs.Files.{words}
@@ -45,7 +44,7 @@ HasBytes image = All (λ (s : Segment). All IsByte s.bytes) image.segments
 -- ---- the memory of images
 
 bytes_kept : (memory : Memory) (a : ℕ) (bytes : List ℕ) → IsMemory memory
-    → a + length bytes ≤ 2 ^ 32 → All IsByte bytes → IsMemory (with_bytes memory a bytes)
+    → a + length bytes ≤ 2 ^ 32 → All IsByte bytes → IsMemory (put_all memory a bytes)
 bytes_kept memory a [] h fits small = h
 bytes_kept memory a (b ∷ bytes) h fits small =
     bytes_kept (put_byte memory a b) (a + 1) bytes

@@ -1,4 +1,4 @@
--- What loops over blocks, bytes, segments and files have put so far.
+-- What loops over blocks, segments and files have put so far.
 use Rattle.std.proofs.Common.{◌≡◌, ℕ, ◌+◌, ◌<◌, List, [], ◌∷◌, ◌++◌, length, take, Option, Some}
 use Rattle.std.proofs.Common.{None, refl, sym, ◌∙◌, ap, arith, get_or, length-set}
 use Rattle.std.specs.Prelude.{replicate}
@@ -7,8 +7,8 @@ use Rattle.crpd_base.specs.declared.data.Image.{Image}
 use Rattle.crpd_base.specs.declared.data.Platform.{Platform}
 use Rattle.crpd_base.specs.declared.data.Segment.{Segment}
 use Rattle.icache.specs.Cache.{Cache, cache_after_access, held, set_of}
-use Rattle.rv_core.specs.Memory.{Memory, put_all, put_byte}
-use Rattle.preempt_machine.specs.Starts.{start_cache, with_blocks, with_bytes, with_images}
+use Rattle.rv_core.specs.Memory.{Memory}
+use Rattle.preempt_machine.specs.Starts.{start_cache, with_blocks, with_images}
 use Rattle.preempt_machine.specs.Starts.{with_segment, with_segments}
 
 -- one more at the end
@@ -16,12 +16,6 @@ blocks_more : (p : Platform) (cache : Cache) (xs : List ℕ) (b : ℕ)
     → with_blocks p cache (xs ++ b ∷ []) ≡ cache_after_access p (with_blocks p cache xs) b
 blocks_more p cache [] b = refl
 blocks_more p cache (x ∷ xs) b = blocks_more p (cache_after_access p cache x) xs b
-
--- the bytes of a segment
-pub bytes_are : (memory : Memory) (a : ℕ) (bytes : List ℕ)
-    → put_all memory a bytes ≡ with_bytes memory a bytes
-bytes_are memory a [] = refl
-bytes_are memory a (b ∷ bytes) = bytes_are (put_byte memory a b) (a + 1) bytes
 
 segments_more : (memory : Memory) (xs : List Segment) (s : Segment)
     → with_segments memory (xs ++ s ∷ []) ≡ with_segment (with_segments memory xs) s

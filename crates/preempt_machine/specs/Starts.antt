@@ -1,5 +1,5 @@
 -- What the run of a script starts from, and what it comes to.
-use Rattle.std.specs.Prelude.{ℕ, ◌+◌, List, [], ◌∷◌, replicate, None}
+use Rattle.std.specs.Prelude.{ℕ, List, [], ◌∷◌, replicate, None}
 use Rattle.crpd_base.specs.Limits.{most_sets}
 use Rattle.crpd_base.specs.declared.data.Image.{Image}
 use Rattle.crpd_base.specs.declared.data.Platform.{Platform}
@@ -7,7 +7,7 @@ use Rattle.crpd_base.specs.declared.data.Script.{Script}
 use Rattle.crpd_base.specs.declared.data.Segment.{Segment}
 use Rattle.crpd_base.specs.declared.data.TaskSet.{TaskSet}
 use Rattle.icache.specs.Cache.{Cache, cache_after_access}
-use Rattle.rv_core.specs.Memory.{Memory, put_byte, clear_bytes}
+use Rattle.rv_core.specs.Memory.{Memory, put_all, clear_bytes}
 use Rattle.code_map.specs.Words.{Code}
 use Rattle.preempt_machine.specs.Machine.{Machine}
 use Rattle.preempt_machine.specs.Safe.{system_of}
@@ -22,14 +22,9 @@ with_blocks p cache (b ∷ blocks) = with_blocks p (cache_after_access p cache b
 unfoldable pub start_cache : Platform → List ℕ → Cache
 start_cache p blocks = with_blocks p (replicate most_sets None) blocks
 
--- bytes from an address on
-abbrev pub with_bytes : Memory → ℕ → List ℕ → Memory
-with_bytes memory a [] = memory
-with_bytes memory a (b ∷ bytes) = with_bytes (put_byte memory a b) (a + 1) bytes
-
 -- a segment's bytes of its file, and 0 at its addresses after them
 abbrev pub with_segment : Memory → Segment → Memory
-with_segment memory s = with_bytes (clear_bytes memory s.address s.size) s.address s.bytes
+with_segment memory s = put_all (clear_bytes memory s.address s.size) s.address s.bytes
 
 abbrev pub with_segments : Memory → List Segment → Memory
 with_segments memory [] = memory
