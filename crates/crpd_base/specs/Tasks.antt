@@ -1,6 +1,8 @@
--- The numbers of a task of a set, and their ranges.
-use Rattle.std.specs.Prelude.{ℕ, ◌<◌, ◌≤◌, List, [], length, map, slice_index, slice_get}
+-- The name and the numbers of a task of a set, and their ranges.
+use Rattle.std.specs.Prelude.{ℕ, ◌<◌, ◌≤◌, List, [], length, map, position, slice_index, slice_get}
+use Rattle.std.specs.Prelude.{Option}
 use Rattle.std.specs.Option.{option_map_or}
+use Rattle.std.specs.Str.{bytes_eq}
 use Rattle.crpd_base.specs.declared.data.Task.{Task}
 use Rattle.crpd_base.specs.Limits.{most_tasks, longest_time}
 use Rattle.crpd_base.specs.declared.data.TaskSpec.{TaskSpec}
@@ -9,6 +11,10 @@ use Rattle.crpd_base.specs.declared.data.TaskSet.{TaskSet}
 -- the name of a task
 abbrev pub name_of : TaskSet → Task → List ℕ
 name_of set task = option_map_or (λ (t : TaskSpec). t.name) (slice_get set.tasks task.0) []
+
+-- the place of the first task with a name
+abbrev pub place_of_name : List TaskSpec → List ℕ → Option ℕ
+place_of_name tasks name = position (λ (t : TaskSpec). bytes_eq name t.name) tasks
 
 -- the period, the jitter and the deadline of the task at a place
 abbrev pub period_of : TaskSet → ℕ → ℕ

@@ -4,7 +4,6 @@ ghost use Rattle.crpd_base.specs.Ranges.{IsTaskSet};
 ghost use Rattle.crpd_io.specs.Outside.{Rose};
 ghost use Rattle.crpd_input.specs.Graphs.{HasBoundedLoops};
 ghost use Rattle.crpd_input.specs.Steps.{IsRefusal, Means, HoldsWhereTold};
-ghost use Rattle.crpd_base.specs.Tasks.{name_of as task_name_of};
 ghost use Rattle.crpd_input.specs.Reading.{code_in, map_halt as map_stop};
 
 use crate::cause::Cause;
@@ -12,20 +11,9 @@ use crate::halt::Halt;
 use crate::images::load_images;
 use crate::refuse::{refuse, refuse_address};
 use code_map::{CodeMap, MapError};
-use crpd_base::{Task, TaskSet};
+use crpd_base::{TaskSet, task_name};
 use crpd_io::Files;
 use std::alloc::Global;
-
-/// The name of a task, empty where the set has no such task.
-/// In constant time; it takes no memory.
-pub fn task_name(set: &TaskSet, task: Task) -> &str
-    ensures { result.now ≡ task_name_of set.now task }
-{
-    match set.tasks.get(usize::from(task.0)) {
-        Some(spec) => spec.name.as_str(),
-        None => "",
-    }
-}
 
 /// Why a command stops at a set's code.
 fn map_halt(alloc: Global, file: &str, set: &TaskSet, error: MapError) -> Halt

@@ -4,11 +4,10 @@ ghost use Rattle.crpd_input.specs.Steps.{IsRefusal, MeansBy};
 ghost use Rattle.crpd_input.specs.Graphs.{GraphAt, GraphsIn, graph_halt as graph_stop};
 
 use crate::cause::Cause;
-use crate::code::task_name;
 use crate::halt::Halt;
 use crate::input::Input;
 use crate::refuse::refuse_address;
-use crpd_base::{Items, Task};
+use crpd_base::{Items, Task, task_name};
 use flat_graph::{Graph, GraphError, build};
 use std::alloc::Global;
 

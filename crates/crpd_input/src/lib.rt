@@ -22,7 +22,7 @@ mod shapes;
 
 pub use cause::Cause;
 pub use certificate::load_certificate;
-pub use code::{load_code, task_name};
+pub use code::load_code;
 pub use graphs::task_graphs;
 pub use halt::Halt;
 pub use input::{Input, load_input};

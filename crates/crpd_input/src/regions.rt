@@ -8,11 +8,10 @@ ghost use Rattle.cert_check.specs.TaskGraphs.{AreTaskGraphs};
 ghost use Rattle.loop_regions.specs.CodeNest.{IsNestOf};
 
 use crate::cause::Cause;
-use crate::code::task_name;
 use crate::halt::Halt;
 use crate::input::Input;
 use crate::refuse::refuse_address;
-use crpd_base::{Items, Task};
+use crpd_base::{Items, Task, task_name};
 use flat_graph::Graph;
 use loop_regions::{LoopError, Nest, regions};
 use std::alloc::Global;

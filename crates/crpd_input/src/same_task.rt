@@ -1,20 +1,11 @@
 // Which tasks of a set have the graph and the stated loops of a task of another set.
 ghost use Rattle.std.specs.Prelude.{◌≡◌, ◌↔◌, ◌<◌, ◌≤◌, length, IfOk, IfSome, IsTrue};
-ghost use Rattle.crpd_input.specs.Inner.SameTask.{AreSources, IsSameTask, IsSource, place_of_name};
+ghost use Rattle.crpd_input.specs.Inner.SameTask.{AreSources, IsSameTask, IsSource};
 
-use crate::code::task_name;
 use crate::input::Input;
-use crpd_base::{LoopAt, Task, TaskSpec};
+use crpd_base::{LoopAt, Task, place_of_name, task_name};
 use flat_graph::Graph;
 use std::alloc::{AllocError, Global};
-
-/// The place of the first of these tasks that has a name.
-fn place_of_name(tasks: &[TaskSpec], name: &str) -> Option<usize>
-    ensures is { result ≡ place_of_name tasks.now name.now }
-    ensures within { IfSome result (λ place. place < length tasks.now) }
-{
-    tasks.iter().position(|task| name == task.name.as_str())
-}
 
 /// Whether two lists have the same pairs of addresses in the same order.
 fn are_same_ranges(old: &[(u32, u32)], new: &[(u32, u32)]) -> bool

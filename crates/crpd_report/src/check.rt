@@ -3,9 +3,8 @@ ghost use Rattle.std.specs.Prelude.{◌≡◌, [], ◌∷◌, ◌++◌, codes, s
 ghost use Rattle.crpd_base.specs.Names as names;
 ghost use Rattle.crpd_report.specs.Check as spec;
 
-use crate::simulate::task_name;
 use cert_check::Verdict;
-use crpd_base::{Certificate, Memory, Method, TaskPart, TaskSet};
+use crpd_base::{Certificate, Memory, Method, TaskPart, TaskSet, task_name};
 use std::alloc::{AllocError, Global};
 
 fn method_name(method: Method) -> &'static str

@@ -8,8 +8,8 @@ ghost use Rattle.preempt_machine.specs.Safe.{NamesTasks};
 ghost use Rattle.crpd_report.specs.Explain as spec;
 ghost use Rattle.crpd_report.specs.Explain.{HasWindowOfEach};
 
-use crate::simulate::{run_line, task_name};
-use crpd_base::{Certificate, JobId, Memory, Part, Script, Task, TaskPart, TaskSet};
+use crate::simulate::run_line;
+use crpd_base::{Certificate, JobId, Memory, Part, Script, Task, TaskPart, TaskSet, task_name};
 use delay_count::charged_delays;
 use run_account::{Account, Entry};
 use script_reader::legal;

@@ -10,8 +10,8 @@ ghost use Rattle.crpd_tool.specs.Analyze.{without_certificate as ending_of};
 use crate::answer::{Answer, Outcome};
 use crate::texts::{certificate_text, no_window_text};
 use cert_build::BuildError;
-use crpd_base::{Certificate, Memory, TaskSet};
-use crpd_input::{Cause, Halt, refuse_address, refuse_count, task_name};
+use crpd_base::{Certificate, Memory, TaskSet, task_name};
+use crpd_input::{Cause, Halt, refuse_address, refuse_count};
 use std::alloc::Global;
 
 /// The answer with a certificate.

@@ -2,8 +2,7 @@
 ghost use Rattle.std.specs.Prelude.{◌≡◌, string_bytes, IfOk};
 ghost use Rattle.crpd_tool.specs.SlackText as spec;
 
-use crpd_base::TaskSet;
-use crpd_input::task_name;
+use crpd_base::{TaskSet, task_name};
 use sensitivity::{Slack, Stop};
 use std::alloc::{AllocError, Global};
 

@@ -1,17 +1,17 @@
 -- What a script that was read keeps: its tasks are in the set, and its jobs are few.
-use Rattle.std.proofs.Common.{◌≡◌, ℕ, ◌+◌, ◌<◌, ◌≤◌, ◌^◌, nat_lt, List, [], ◌∷◌, length, codes}
+use Rattle.std.proofs.Common.{◌≡◌, ℕ, ◌<◌, ◌≤◌, ◌^◌, nat_lt, List, [], ◌∷◌, length, codes}
 use Rattle.std.proofs.Common.{Option, Some, None, Result, Ok, Err, ap, subst, arith, inl, inr}
 use Rattle.std.specs.Prelude.{All, IfOk}
 use Rattle.std.specs.List.{AllByRecursion}
-use Rattle.std.specs.Str.{bytes_eq, is_utf8}
+use Rattle.std.specs.Str.{is_utf8}
 use Rattle.std.proofs.lemmas.Bool.{cases_Bool, ltb-false}
-use Rattle.std.proofs.lemmas.Option.{same_Some}
+use Rattle.std.proofs.lemmas.Grind.{common_steps}
 use Rattle.std.proofs.lemmas.List.Elements.{All-from_recursion}
 use Rattle.crpd_base.proofs.Results.{bind_ok, ok_is}
 use Rattle.crpd_base.specs.declared.data.ScriptJob.{ScriptJob}
 use Rattle.crpd_base.specs.declared.data.Script.{Script}
 use Rattle.crpd_base.specs.declared.data.TaskSet.{TaskSet}
-use Rattle.crpd_base.specs.declared.data.TaskSpec.{TaskSpec}
+use Rattle.crpd_base.specs.Tasks.{place_of_name}
 use Rattle.toml.specs.Data.{Members, as_str, as_table}
 use Rattle.toml.specs.Parse.{parse_document}
 use Rattle.crpd_base.specs.Outcome.{Gives}
@@ -19,21 +19,12 @@ use Rattle.toml_keys.specs.Reading.{all_known, required, optional, whole, listed
 use Rattle.toml_keys.proofs.Laws.{guard_ok, each_all, each_length}
 use Rattle.script_reader.specs.declared.fault.ScriptError.{ScriptError}
 use Rattle.script_reader.specs.declared.fault.ScriptError.TheVariants.{Memory, TooLong}
-use Rattle.script_reader.specs.Reading.{of_script, job_keys, first_named, task_or_unknown}
+use Rattle.script_reader.specs.Reading.{of_script, job_keys, task_or_unknown}
 use Rattle.script_reader.specs.Reading.{task_named, job_at, nth_job, jobs_at, script_keys}
 use Rattle.script_reader.specs.Reading.{cycles_at, block, script_at, document, reading}
 
 abbrev pub IsIn : TaskSet → ScriptJob → Type 0
 IsIn set job = job.task.0 < length set.tasks
-
-first_below : (name : List ℕ) (ts : List TaskSpec) (i k : ℕ) → first_named name ts i ≡ Some k
-    → k < i + length ts
-first_below name [] i k e = absurd cc
-first_below name (t ∷ ts) i k e =
-    elim (cases_Bool (bytes_eq name t.name)) [
-      | inl is ↦ let s : i ≡ k = same_Some i k (rw is at e) in omega arith
-      | inr other ↦ let r = first_below name ts (i + 1) k (rw other at e) in omega arith
-    ]
 
 told_is : (path : List ℕ) (o : Option ℕ) (t : ℕ) → task_or_unknown path o ≡ Ok t → o ≡ Some t
 told_is path None t e = absurd cc
@@ -47,7 +38,8 @@ named_below : (path name : List ℕ) (set : TaskSet) (t : ℕ) → task_named pa
     → t < length set.tasks
 unfolding task_named
 named_below path name set t e =
-    let b = first_below name set.tasks 0 t (told_is path _ t e) in omega arith
+    let found : place_of_name set.tasks name ≡ Some t = told_is path _ t e in
+    grind (arith, common_steps)
 
 job_in : (set : TaskSet) (path : List ℕ) (ms : Members) (job : ScriptJob)
     → job_at set path ms ≡ Ok job → IsIn set job

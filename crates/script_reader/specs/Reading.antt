@@ -1,11 +1,11 @@
 -- What the text of a script stands for beside a task set, or the first refusal.
-use Rattle.std.specs.Prelude.{ℕ, pos, ◌+◌, ◌^◌, List, [], ◌∷◌, ◌++◌, length, codes, Bool, false}
+use Rattle.std.specs.Prelude.{ℕ, pos, ◌^◌, List, [], ◌∷◌, ◌++◌, length, codes, Bool, false}
 use Rattle.std.specs.Prelude.{Option, Some, None, nat_lt, Result, Ok, Err, if◌then◌else◌}
-use Rattle.std.specs.Str.{bytes_eq, is_utf8}
+use Rattle.std.specs.Str.{is_utf8}
 use Rattle.crpd_base.specs.Limits.{longest_time, most_jobs}
+use Rattle.crpd_base.specs.Tasks.{place_of_name}
 use Rattle.crpd_base.specs.declared.data.ScriptJob.{ScriptJob}
 use Rattle.crpd_base.specs.declared.data.Script.{Script}
-use Rattle.crpd_base.specs.declared.data.TaskSpec.{TaskSpec}
 use Rattle.crpd_base.specs.declared.data.TaskSet.{TaskSet}
 use Rattle.toml.specs.Data.{Data, integer, Members, as_str, as_table}
 use Rattle.toml.specs.Parse.{parse_document}
@@ -35,11 +35,6 @@ of_script (Err e) = Err (script_error e)
 unfoldable pub job_keys : List (List ℕ)
 job_keys = codes "task" ∷ codes "arrival" ∷ codes "release" ∷ []
 
--- the place of the first task of a name, counted from i
-abbrev pub first_named : List ℕ → List TaskSpec → ℕ → Option ℕ
-first_named name [] i = None
-first_named name (t ∷ ts) i = if bytes_eq name t.name then Some i else first_named name ts (i + 1)
-
 -- a task that was found, where a task's number can tell it
 abbrev pub task_or_unknown : List ℕ → Option ℕ → Result ℕ ScriptError
 task_or_unknown path None = Err (UnknownTask (path ++ codes "task"))
@@ -48,7 +43,7 @@ task_or_unknown path (Some i) =
 
 -- the task of a name
 unfoldable pub task_named : List ℕ → List ℕ → TaskSet → Result ℕ ScriptError
-task_named path name set = task_or_unknown path (first_named name set.tasks 0)
+task_named path name set = task_or_unknown path (place_of_name set.tasks name)
 
 unfoldable pub job_at : TaskSet → List ℕ → Members → Result ScriptJob ScriptError
 job_at set path ms = do

@@ -7,7 +7,7 @@ ghost use Rattle.toml_keys.specs.Reading.{all_known, required, optional, each, l
 ghost use Rattle.script_reader.specs.Reading as spec;
 
 use crate::fault::ScriptError;
-use crpd_base::{LONGEST_TIME, MOST_JOBS, ScriptJob, Task, TaskSet, TaskSpec, Text};
+use crpd_base::{LONGEST_TIME, MOST_JOBS, ScriptJob, Task, TaskSet, Text, place_of_name};
 use std::alloc::{AllocError, Global};
 use toml::Table;
 use toml_keys::{KeyError, Keys, item_path, key_path, tables};
@@ -22,25 +22,13 @@ fn job_keys(alloc: Global, keys: Keys) -> Result<(), KeyError>
     keys.all_known(alloc, &KEYS)
 }
 
-/// The place of the first task of a name.
-fn first_named(name: &str, tasks: &[TaskSpec]) -> Option<usize>
-    ensures { result ≡ spec.first_named name.now tasks.now 0 }
-{
-    for (i, task) in tasks.iter().enumerate() {
-        if name == task.name.as_str() {
-            return Some(i);
-        }
-    }
-    None
-}
-
 /// The task of a name.
 #[tactic(auto, unfolding(crate::specs::Reading::task_named))]
 fn task_named(alloc: Global, path: &str, name: &str, set: &TaskSet) -> Result<Task, ScriptError>
     ensures { Gives ScriptError.Memory (λ t. t.0) result
         (spec.task_named path.now name.now set.now) }
 {
-    match first_named(name, set.tasks.as_slice()) {
+    match place_of_name(set.tasks.as_slice(), name) {
         Some(i) if i < 256 => Ok(Task(i as u8)),
         _ => Err(ScriptError::UnknownTask(key_path(alloc, path, "task")?)),
     }

@@ -1,17 +1,12 @@
 -- Which tasks of a set have the graph and the stated loops of a task of another set.
-use Rattle.std.specs.Prelude.{◌≡◌, ℕ, ◌<◌, List, length, slice_get, slice_index_or, position}
+use Rattle.std.specs.Prelude.{◌≡◌, ℕ, ◌<◌, List, length, slice_get, slice_index_or}
 use Rattle.std.specs.Prelude.{Option, None, Some}
-use Rattle.std.specs.Str.{bytes_eq}
 use Rattle.crpd_base.specs.declared.data.TaskPlan.{TaskPlan}
-use Rattle.crpd_base.specs.declared.data.TaskSpec.{TaskSpec}
+use Rattle.crpd_base.specs.Tasks.{place_of_name}
 use Rattle.code_map.specs.Words.{word_at}
 use Rattle.flat_graph.specs.CodeGraph.{CodeGraph, IsCodeGraph, graph_at}
 use Rattle.crpd_input.specs.declared.input.Input.{Input}
 use Rattle.crpd_input.specs.Graphs.{name_at}
-
--- the place of the first task with a name
-abbrev pub place_of_name : List TaskSpec → List ℕ → Option ℕ
-place_of_name tasks name = position (λ (t : TaskSpec). bytes_eq name t.name) tasks
 
 -- the graph of the old task j is that of the new task k, and both have the same loops
 pub record IsSameTask (old : Input) (graphs : List CodeGraph) (j : ℕ) (input : Input)
