@@ -1,60 +1,59 @@
 -- Stated loops with one head.
-use Rattle.std.proofs.Common.{◌≡◌, ◌⊎◌, ℕ, zero, suc, ◌+◌, ◌<◌, ◌≤◌, Bool, false, List, [], ◌∷◌}
-use Rattle.std.proofs.Common.{length, take, Some, None, slice_get, IsTrue, refl, sym, ap, ◌∙◌}
-use Rattle.std.proofs.Common.{subst, inl, inr, ⊎_elim, arith, ◌==◌, eq-eqb}
-use Rattle.std.specs.Prelude.{Option}
-use Rattle.std.specs.List.{list_any}
-use Rattle.std.proofs.lemmas.Bool.{cases_eq, both_ways, false≢true, eqb-true, or_cases, or_left}
-use Rattle.std.proofs.lemmas.Bool.{or_right}
+use Rattle.std.proofs.Common.{◌≡◌, ◌⊎◌, ℕ, zero, suc, ◌+◌, ◌<◌, ◌≤◌, true, false, List, [], ◌∷◌}
+use Rattle.std.proofs.Common.{length, take, Some, None, slice_get, refl, sym, ap, ◌∙◌}
+use Rattle.std.proofs.Common.{subst, inl, inr, ⊎_elim, arith}
+use Rattle.std.specs.Prelude.{Option, is_some}
+use Rattle.std.proofs.lemmas.Bool.{cases_eq, false≢true}
 use Rattle.std.proofs.lemmas.Option.{slice_get_within}
 use Rattle.crpd_base.specs.declared.data.LoopAt.{LoopAt}
+use Rattle.crpd_base.proofs.Elements.{at_contains}
 use Rattle.loop_regions.specs.Stated.{IsSameHead}
+use Rattle.loop_regions.specs.Inner.Heads.{IsLoopAt}
 use Rattle.loop_regions.specs.Inner.Least.{IsLeastNumber, lesser, IsHeadBefore}
 use Rattle.loop_regions.proofs.LeastOf.{least_same, least_or}
 
-abbrev has_head : List LoopAt → ℕ → Bool
-has_head loops a = list_any (λ (l : LoopAt). l.head == a) loops
+-- a loop before place j is among the first j
+taken : (loops : List LoopAt) (i j : ℕ) (l : LoopAt) → i < j → slice_get loops i ≡ Some l
+    → slice_get (take j loops) i ≡ Some l
+taken loops i zero l lt e = absurd (omega arith)
+taken [] i (suc j) l lt e = e
+taken (x ∷ loops) zero (suc j) l lt e = e
+taken (x ∷ loops) (suc i) (suc j) l lt e = taken loops i j l (omega arith) e
 
-found_before : (loops : List LoopAt) (j a : ℕ) → IsTrue (has_head (take j loops) a)
-    → (i : ℕ) × (l : LoopAt) × (i < j) × (slice_get loops i ≡ Some l) × (l.head ≡ a)
-found_before loops zero a h = absurd (false≢true h)
-found_before [] (suc j) a h = absurd (false≢true h)
-found_before (x ∷ loops) (suc j) a h =
-    ⊎_elim
-    (λ e. (0, x, omega arith, refl, eqb-true x.head a e))
-    (λ t. let r = found_before loops j a t in (suc r.0, r.1, omega (arith, r.2), r.3, r.4))
-    (or_cases (x.head == a) (has_head (take j loops) a) h)
+from_taken : (loops : List LoopAt) (i j : ℕ) (l : LoopAt) → slice_get (take j loops) i ≡ Some l
+    → (i < j) × (slice_get loops i ≡ Some l)
+from_taken loops i zero l e = absurd (let w = slice_get_within [] i l e in omega arith)
+from_taken [] i (suc j) l e = absurd (let w = slice_get_within [] i l e in omega arith)
+from_taken (x ∷ loops) zero (suc j) l e = (omega arith, e)
+from_taken (x ∷ loops) (suc i) (suc j) l e =
+    let r = from_taken loops i j l e in (omega (arith, r.0), r.1)
 
-before_found : (loops : List LoopAt) (i j a : ℕ) (l : LoopAt) → i < j → slice_get loops i ≡ Some l
-    → l.head ≡ a → IsTrue (has_head (take j loops) a)
-before_found loops i zero a l lt e h = absurd (omega arith)
-before_found [] i (suc j) a l lt e h = absurd (let w = slice_get_within [] i l e in omega arith)
-before_found (x ∷ loops) zero (suc j) a l lt e h =
-    let same : x ≡ l = cc in
-    or_left (x.head == a) (has_head (take j loops) a)
-    (eq-eqb x.head a (ap (λ (z : LoopAt). z.head) same ∙ h))
-before_found (x ∷ loops) (suc i) (suc j) a l lt e h =
-    or_right (x.head == a) (has_head (take j loops) a)
-    (before_found loops i j a l (omega arith) e h)
+-- the loop m at place j has the head of one before it, as far as the first such one is found
+module _ (loops : List LoopAt) (j : ℕ) (m : LoopAt) where
+  same_loop : (n : LoopAt) → slice_get loops j ≡ Some m → slice_get loops j ≡ Some n
+      → m.head ≡ n.head
+  same_loop n e f =
+      let q : Some m ≡ Some n = sym e ∙ f in
+      let same : m ≡ n = cc in
+      ap (λ (z : LoopAt). z.head) same
 
-pub repeated_here : (loops : List LoopAt) (j : ℕ) (m : LoopAt) → slice_get loops j ≡ Some m
-    → IsTrue (has_head (take j loops) m.head) → IsLeastNumber (IsHeadBefore loops j) (Some m.head)
-repeated_here loops j m e t =
-    let f = found_before loops j m.head t in (
-      (f.0, f.1, m, f.2, f.3, e, f.4, refl),
-      λ b s. let q : Some m ≡ Some s.2 =
-          sym e ∙ s.5 in let same : m ≡ s.2 =
-          cc in let h = ap (λ (z : LoopAt). z.head) same ∙ s.7 in omega (arith, h),
-    )
+  pub repeated_here : (o : Option ℕ) → slice_get loops j ≡ Some m
+      → IsLoopAt (take j loops) m.head o → is_some o ≡ true
+      → IsLeastNumber (IsHeadBefore loops j) (Some m.head)
+  repeated_here None e at h = absurd (false≢true h)
+  repeated_here (Some i) e at h =
+      let f = from_taken loops i j at.0 at.1 in (
+        (i, at.0, m, f.0, f.1, e, sym at.2, refl),
+        λ b s. let same = same_loop s.2 e s.5 ∙ s.7 in omega (arith, same),
+      )
 
-pub repeated_not : (loops : List LoopAt) (j : ℕ) (m : LoopAt) → slice_get loops j ≡ Some m
-    → has_head (take j loops) m.head ≡ false → IsLeastNumber (IsHeadBefore loops j) None
-repeated_not loops j m e t b s =
-    let q : Some m ≡ Some s.2 = sym e ∙ s.5 in
-    let same : m ≡ s.2 = cc in
-    both_ways (has_head (take j loops) m.head) t
-    (before_found loops s.0 j m.head s.1 s.3 s.4
-    (s.6 ∙ sym s.7 ∙ sym (ap (λ (z : LoopAt). z.head) same)))
+  pub repeated_not : (o : Option ℕ) → slice_get loops j ≡ Some m
+      → IsLoopAt (take j loops) m.head o → is_some o ≡ false
+      → IsLeastNumber (IsHeadBefore loops j) None
+  repeated_not None e at h b s =
+      at s.1 (at_contains (take j loops) s.0 s.1 (taken loops s.0 j s.1 s.3 s.4))
+      (same_loop s.2 e s.5 ∙ s.7 ∙ sym s.6)
+  repeated_not (Some i) e at h b s = absurd (false≢true (sym h))
 
 -- two loops below place k have this head
 abbrev pub IsSameBelow : List LoopAt → ℕ → ℕ → Type 0

@@ -17,7 +17,7 @@ pub(crate) struct Head {
 }
 
 /// The first stated loop with this head.
-fn loop_at(loops: &[LoopAt], address: u32) -> Option<usize>
+pub(crate) fn loop_at(loops: &[LoopAt], address: u32) -> Option<usize>
     ensures { IsLoopAt loops.now address result }
 {
     loops.iter().position(|stated| stated.head == address)

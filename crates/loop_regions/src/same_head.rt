@@ -1,18 +1,11 @@
 // Stated loops with one head.
-ghost use Rattle.std.specs.Prelude.{◌≡◌, ◌<◌, ◌==◌, length};
-ghost use Rattle.std.specs.List.{list_any};
+ghost use Rattle.std.specs.Prelude.{◌<◌, length};
 ghost use Rattle.loop_regions.specs.Inner.Least.{IsLeastNumber, IsHeadBefore};
 ghost use Rattle.loop_regions.specs.Stated.{IsSameHead};
 
+use crate::heads::loop_at;
 use crate::least::lesser;
 use crpd_base::LoopAt;
-
-/// Whether one of these loops has this head.
-fn has_head(loops: &[LoopAt], address: u32) -> bool
-    ensures { result ≡ list_any (λ l. l.head == address) loops.now }
-{
-    loops.iter().any(|stated| stated.head == address)
-}
 
 /// The head of a stated loop, where one before it has this head too.
 fn repeated_head(loops: &[LoopAt], j: usize) -> Option<u32>
@@ -20,7 +13,7 @@ fn repeated_head(loops: &[LoopAt], j: usize) -> Option<u32>
     ensures { IsLeastNumber (IsHeadBefore loops.now j) result }
 {
     let head = loops[j].head;
-    if has_head(&loops[..j], head) {
+    if loop_at(&loops[..j], head).is_some() {
         Some(head)
     } else {
         None
