@@ -1,6 +1,6 @@
 -- Each nest is that of the graph at its place.
 use Rattle.std.proofs.Common.{◌≡◌, ℕ, ◌<◌, List, length, get_or, Some, Ok, Err, sym, subst, arith}
-use Rattle.std.specs.Prelude.{Result, slice_get}
+use Rattle.std.specs.Prelude.{Result, Option, None, slice_get, slice_index_or}
 use Rattle.std.proofs.lemmas.Option.{get_or_from_slice_get, slice_get-get_or}
 use Rattle.crpd_base.specs.declared.data.TaskPlan.{TaskPlan}
 use Rattle.crpd_base.specs.declared.data.TaskSet.{TaskSet}
@@ -10,12 +10,18 @@ use Rattle.loop_regions.specs.CodeNest.{AreBounded, CodeNest, IsNestOf}
 use Rattle.cert_check.specs.TaskGraphs.{AreTaskGraphs, no_nest}
 use Rattle.crpd_input.specs.declared.halt.Halt.{Halt}
 use Rattle.crpd_input.specs.Graphs.{HasBoundedLoops}
+use Rattle.crpd_input.specs.Inner.SameTask.{IsTaken}
 use Rattle.crpd_input.proofs.Below.{HasValues}
 
 -- a nest is that of the graph at a place
 abbrev pub ShownAt : List CodeGraph → ℕ → Result CodeNest Halt → Type 0
 ShownAt graphs k (Ok nest) = IsNestOf (graph_at graphs k) nest
 ShownAt graphs k (Err refusal) = Unit {0}
+
+-- a nest is that of the source of the task at a place
+abbrev pub TakenAt : List CodeNest → List (Option ℕ) → ℕ → Result CodeNest Halt → Type 0
+TakenAt nests sources k (Ok nest) = IsTaken nests (slice_index_or sources k None) nest
+TakenAt nests sources k (Err refusal) = Unit {0}
 
 pub all_shown : (set : TaskSet) (graphs : List CodeGraph) (nests : List CodeNest)
     → length graphs ≡ length set.tasks → length nests ≡ length set.tasks

@@ -1,8 +1,9 @@
 -- The graph and the regions of an old task are those of a new task that is the same.
 use Rattle.std.proofs.Common.{◌≡◌, ℕ, ◌<◌, ◌≤◌, List, length, Some, Ok, sym, ap, ◌∙◌, subst, inl}
 use Rattle.std.proofs.Common.{inr, arith}
-use Rattle.std.specs.Prelude.{slice_get}
+use Rattle.std.specs.Prelude.{Option, None, slice_get}
 use Rattle.std.proofs.lemmas.Option.{get_or_from_slice_get, slice_get_within, same_Some}
+use Rattle.crpd_base.specs.Tasks.{place_of_name}
 use Rattle.crpd_base.proofs.Elements.{some_at}
 use Rattle.crpd_base.specs.declared.data.TaskPlan.{TaskPlan}
 use Rattle.crpd_base.specs.declared.data.LoopAt.{LoopAt}
@@ -14,8 +15,9 @@ use Rattle.loop_regions.specs.Stated.{HasNoLoopRefusals, IsRegions, IsSameHead}
 use Rattle.cert_check.specs.TaskGraphs.{AreTaskGraphs, no_nest}
 use Rattle.crpd_input.specs.declared.input.Input.{Input}
 use Rattle.crpd_input.specs.declared.shapes.Shapes.{Shapes}
-use Rattle.crpd_input.specs.Graphs.{GraphAt, GraphsIn, RegionsAt, RegionsIn}
-use Rattle.crpd_input.specs.Inner.SameTask.{IsSameTask}
+use Rattle.crpd_input.specs.Graphs.{GraphAt, GraphsIn, RegionsAt, RegionsIn, name_at}
+use Rattle.crpd_input.specs.SameTask.{IsSameTask}
+use Rattle.crpd_input.specs.Inner.SameTask.{IsSource}
 use Rattle.crpd_input.specs.Shapes.{ShapesIn}
 use Rattle.crpd_input.proofs.OneGraph.{one_graph_at}
 
@@ -45,6 +47,15 @@ graph_serves old input graphs j k g S is few = (
   (subst (IsCodeGraph (word_at input.code.images) S.plan.entry) is S.graph, few),
 )
 
+-- the source of a task that is the same as the old task of its name is that task
+pub source_is : (old input : Input) (graphs : List CodeGraph) (j k : ℕ) (o : Option ℕ)
+    → IsSource old graphs input k o → place_of_name old.set.tasks (name_at input k) ≡ Some j
+    → IsSameTask old graphs j input k → (o ≡ Some j) × (j < length old.set.tasks)
+source_is old input graphs j k None is named same = absurd (is j named same)
+source_is old input graphs j k (Some i) is named same =
+    let e : i ≡ j = same_Some i j (sym is.0 ∙ named) in
+    (ap Some e, subst (λ x. x < length old.set.tasks) e is.1)
+
 -- the regions of the same loops in the same graph
 abbrev AreRegions : CodeGraph → List LoopAt → CodeNest → Type 0
 AreRegions g loops n =
@@ -61,7 +72,7 @@ module _ (old input : Input) (s : Shapes) (graphs : List CodeGraph) (j k : ℕ)
     (shapes : ShapesIn old (Ok s)) (S : IsSameTask old s.graphs j input k)
     (all : GraphsIn input (Ok graphs)) (there : k < length graphs) where
   -- so it is the graph that was found for the new task
-  same_graph : j < length s.graphs → graph_at graphs k ≡ graph_at s.graphs j
+  pub same_graph : j < length s.graphs → graph_at graphs k ≡ graph_at s.graphs j
   same_graph lt =
       let o = some_at s.graphs j lt in
       let h = some_at graphs k there in

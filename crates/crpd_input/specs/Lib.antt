@@ -4,4 +4,5 @@ pub mod Reading
 pub mod Script
 pub mod Graphs
 pub mod Shapes
+pub mod SameTask
 pub mod Inner

@@ -1,11 +1,13 @@
 // The graphs of the tasks with the regions of their loops, taken over from an old set where they
 // are the same.
-ghost use Rattle.std.specs.Prelude.{◌≡◌, ◌≤◌, ◌<◌, length, None, Ok, slice_index_or, IfOk, IsErrOf};
+ghost use Rattle.std.specs.Prelude.{◌≡◌, ◌≤◌, ◌<◌, ℕ, length, None, Ok, slice_index_or, IfOk};
+ghost use Rattle.std.specs.Prelude.{IsErrOf};
 ghost use Rattle.flat_graph.specs.CodeGraph.{graph_at};
-ghost use Rattle.cert_check.specs.TaskGraphs.{AreTaskGraphs};
+ghost use Rattle.cert_check.specs.TaskGraphs.{AreTaskGraphs, nest_at};
 ghost use Rattle.loop_regions.specs.CodeNest.{IsNestOf};
 ghost use Rattle.crpd_input.specs.Graphs.{GraphAt, GraphsIn, HasBoundedLoops, RegionsAt, RegionsIn};
-ghost use Rattle.crpd_input.specs.Inner.SameTask.{AreSources, IsSource};
+ghost use Rattle.crpd_input.specs.SameTask.{AreTaken};
+ghost use Rattle.crpd_input.specs.Inner.SameTask.{AreSources, IsSource, IsTaken};
 ghost use Rattle.crpd_input.specs.Shapes.{ShapesIn};
 ghost use Rattle.crpd_input.specs.Steps.{MeansBy};
 
@@ -94,6 +96,7 @@ fn renewed_regions(
     ensures exact { MeansBy (RegionsAt input.now graphs.now task.0) result }
     ensures no_fault { ¬ IsErrOf result Halt.Fault }
     ensures shown { IfOk result (λ nest. IsNestOf (graph_at graphs.now task.0) nest) }
+    ensures taken { IfOk result (IsTaken old_shapes.now.nests source) }
 {
     match source {
         Some(place) => {
@@ -125,6 +128,8 @@ fn renewed_nests(
     ensures exact { MeansBy (RegionsIn input.now graphs.now) result }
     ensures no_fault { ¬ IsErrOf result Halt.Fault }
     ensures shown { IfOk result (AreTaskGraphs input.now.set graphs.now) }
+    ensures taken { IfOk result (λ nests. (k : ℕ) → k < length input.now.set.tasks
+        → IsTaken old_shapes.now.nests (slice_index_or sources.now k None) (nest_at nests k)) }
 {
     let mut nests = Vec::new(alloc);
     for place in 0..sources.len() {
@@ -163,6 +168,7 @@ pub fn renewed_shapes(
     ensures exact { MeansBy (ShapesIn input.now) result }
     ensures no_fault { ¬ IsErrOf result Halt.Fault }
     ensures shown { IfOk result (λ shapes. AreTaskGraphs input.now.set shapes.graphs shapes.nests) }
+    ensures taken { IfOk result (AreTaken old.now old_shapes.now input.now) }
 {
     let old_graphs = old_shapes.graphs.as_slice();
     let sources = sources(alloc, old, old_graphs, input)?;

@@ -1,6 +1,7 @@
 // Which tasks of a set have the graph and the stated loops of a task of another set.
 ghost use Rattle.std.specs.Prelude.{◌≡◌, ◌↔◌, ◌<◌, ◌≤◌, length, IfOk, IfSome, IsTrue};
-ghost use Rattle.crpd_input.specs.Inner.SameTask.{AreSources, IsSameTask, IsSource};
+ghost use Rattle.crpd_input.specs.SameTask.{IsSameTask};
+ghost use Rattle.crpd_input.specs.Inner.SameTask.{AreSources, IsSource};
 
 use crate::input::Input;
 use crpd_base::{LoopAt, Task, place_of_name, task_name};

@@ -1,22 +1,13 @@
--- Which tasks of a set have the graph and the stated loops of a task of another set.
-use Rattle.std.specs.Prelude.{◌≡◌, ℕ, ◌<◌, List, length, slice_get, slice_index_or}
-use Rattle.std.specs.Prelude.{Option, None, Some}
-use Rattle.crpd_base.specs.declared.data.TaskPlan.{TaskPlan}
+-- Which old task each new task is the same as, and what is taken over from it.
+use Rattle.std.specs.Prelude.{◌≡◌, ℕ, ◌<◌, List, length, slice_index_or, Option, None, Some}
+use Rattle.std.specs.Prelude.{IfSome}
 use Rattle.crpd_base.specs.Tasks.{place_of_name}
-use Rattle.code_map.specs.Words.{word_at}
-use Rattle.flat_graph.specs.CodeGraph.{CodeGraph, IsCodeGraph, graph_at}
+use Rattle.flat_graph.specs.CodeGraph.{CodeGraph}
+use Rattle.loop_regions.specs.CodeNest.{CodeNest}
+use Rattle.cert_check.specs.TaskGraphs.{nest_at}
 use Rattle.crpd_input.specs.declared.input.Input.{Input}
 use Rattle.crpd_input.specs.Graphs.{name_at}
-
--- the graph of the old task j is that of the new task k, and both have the same loops
-pub record IsSameTask (old : Input) (graphs : List CodeGraph) (j : ℕ) (input : Input)
-    (k : ℕ) : Type 0 where
-  pub old_plan : TaskPlan
-  pub plan : TaskPlan
-  pub old_planned : slice_get old.code.plans j ≡ Some old_plan
-  pub planned : slice_get input.code.plans k ≡ Some plan
-  pub graph : IsCodeGraph (word_at input.code.images) plan.entry (graph_at graphs j)
-  pub loops : old_plan.loops ≡ plan.loops
+use Rattle.crpd_input.specs.SameTask.{IsSameTask}
 
 -- the old task of the new task's name, where it is the same, and else none
 abbrev pub IsSource : Input → List CodeGraph → Input → ℕ → Option ℕ → Type 0
@@ -32,3 +23,7 @@ pub record AreSources (old : Input) (graphs : List CodeGraph) (input : Input) (n
     (sources : List (Option ℕ)) : Type 0 where
   pub count : length sources ≡ n
   pub each : (k : ℕ) → k < n → IsSource old graphs input k (slice_index_or sources k None)
+
+-- the regions are those of the source, where there is one
+abbrev pub IsTaken : List CodeNest → Option ℕ → CodeNest → Type 0
+IsTaken nests source nest = IfSome source (λ j. nest ≡ nest_at nests j)

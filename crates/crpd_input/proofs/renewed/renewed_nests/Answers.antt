@@ -1,9 +1,13 @@
-use Rattle.std.proofs.Common.{◌≡◌, ◌<◌, sym, subst, arith, length}
-use Rattle.cert_check.specs.TaskGraphs.{AreTaskGraphs}
+use Rattle.std.proofs.Common.{◌≡◌, ◌<◌, List, None, sym, subst, arith, length}
+use Rattle.std.specs.Prelude.{slice_index_or}
+use Rattle.std.proofs.lemmas.Option.{slice_get-get_or}
+use Rattle.loop_regions.specs.CodeNest.{CodeNest}
+use Rattle.cert_check.specs.TaskGraphs.{AreTaskGraphs, nest_at, no_nest}
 use Rattle.crpd_input.specs.Graphs.{RegionsAt}
 use Rattle.crpd_base.proofs.Elements.{count_more}
+use Rattle.crpd_input.specs.Inner.SameTask.{IsTaken}
 use Rattle.crpd_input.proofs.Below.{stopped_below, value_more}
-use Rattle.crpd_input.proofs.Nests.{ShownAt, all_shown}
+use Rattle.crpd_input.proofs.Nests.{ShownAt, TakenAt, all_shown}
 use Rattle.crpd_input.proofs.renewed.renewed_nests.Goals as goal
 
 pub returns-in-Err-clause-exact : goal.returns-in-Err-clause-exact
@@ -27,6 +31,10 @@ loop-place-preserved c = record {
       value_more (ShownAt c.args.graphs.now) c.loop-place.nests.items c.push.new.self.items
       c.loop-place.place c.in-Ok.nest c.loop-place.invariant.shown c.loop-place.invariant.count
       c.in-Ok.ensures.shown c.in_ok-push.ensures.items;
+  taken =
+      value_more (TakenAt c.args.old_shapes.now.nests c.args.sources.now) c.loop-place.nests.items
+      c.push.new.self.items c.loop-place.place c.in-Ok.nest c.loop-place.invariant.taken
+      c.loop-place.invariant.count c.in-Ok.ensures.taken c.in_ok-push.ensures.items;
 }
 
 pub returns-clause-shown : goal.returns-clause-shown
@@ -56,3 +64,19 @@ returns-clause-exact c =
       c.requires.sources.count,
     ) in
     rw c.new.ensures (all, c.loop-place.invariant.are)
+
+pub returns-clause-taken : goal.returns-clause-taken
+returns-clause-taken c k lt =
+    let l = c.loop-place in
+    let all : length l.nests.items ≡ length c.args.input.now.set.tasks =
+    omega (
+      arith,
+      l.invariant.count,
+      c.loop-place-test.false,
+      l.auto.place-end,
+      c.requires.sources.count,
+    ) in
+    subst (λ (nests : List CodeNest). IsTaken c.args.old_shapes.now.nests
+    (slice_index_or c.args.sources.now k None) (nest_at nests k)) (sym c.new.ensures)
+    (c.loop-place.invariant.taken k (nest_at c.loop-place.nests.items k)
+    (slice_get-get_or c.loop-place.nests.items k no_nest (omega (arith, lt, all))))
