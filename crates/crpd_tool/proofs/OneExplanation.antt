@@ -1,21 +1,20 @@
 -- A certificate and a script have one explanation, whatever the regions of the same loops are.
-use Rattle.std.proofs.Common.{◌≡◌, ℕ, List, ◌++◌, get_or, map, Result, Ok, sym, ap}
+use Rattle.std.proofs.Common.{◌≡◌, ℕ, List, ◌++◌, map, Result, Ok, sym, ap}
 use Rattle.std.proofs.Common.{◌∙◌, subst}
 use Rattle.crpd_base.specs.declared.data.Certificate.{Certificate}
 use Rattle.crpd_base.specs.declared.data.Script.{Script}
 use Rattle.cert_check.specs.FirstFailing.{answer_of}
-use Rattle.cert_check.specs.TaskGraphs.{task_graph_at}
+use Rattle.cert_check.specs.TaskGraphs.{nest_at, task_graph_at}
 use Rattle.cert_check.specs.declared.outcome.Verdict.{Verdict}
 use Rattle.cert_check.specs.declared.outcome.Verdict.TheVariants.{Yes, No}
 use Rattle.flat_graph.specs.CodeGraph.{CodeGraph}
-use Rattle.loop_regions.specs.CodeNest.{CodeNest}
-use Rattle.preempt_machine.specs.Step.{Fetch, Start}
+use Rattle.loop_regions.specs.CodeNest.{CodeNest, nest_of}
+use Rattle.preempt_machine.specs.Step.{Start}
 use Rattle.run_account.specs.Account.{IsAccount, account_entry}
-use Rattle.run_account.specs.Ledger.{IsLedgerReload, IsEvicted, IsLedger, IsOfRun, IsPreempted}
-use Rattle.run_account.specs.Ledger.{LedgerReload}
 use Rattle.preempt_machine.specs.Starts.{start_of_script}
 use Rattle.run_account.specs.declared.told.Account.{Account}
 use Rattle.run_account.specs.declared.told.Entry.{Entry}
+use Rattle.run_account.proofs.AnyRegions.{ledger_by}
 use Rattle.run_account.proofs.OneLedger.{one_ledger}
 use Rattle.crpd_input.specs.declared.input.Input.{Input}
 use Rattle.crpd_input.specs.declared.halt.Halt.{Halt}
@@ -29,69 +28,16 @@ use Rattle.crpd_tool.specs.declared.answer.Answer.{Answer}
 use Rattle.crpd_tool.specs.declared.answer.Outcome.TheVariants.{Done}
 use Rattle.crpd_tool.proofs.Reported.{one_line}
 
--- regions play no part in a ledger
-module _ (s : Start) (graphs : List CodeGraph) (c : Certificate) where
-  reload_too : (ns ms : List CodeNest) (n x : ℕ) (f : Fetch)
-      → IsLedgerReload s (task_graph_at graphs ns) c n x f
-      → IsLedgerReload s (task_graph_at graphs ms) c n x f
-  reload_too ns ms n x f e = record {
-    kept = e.kept;
-    fetches = e.fetches;
-    counted = e.counted;
-    misses = e.misses;
-  }
-
-  evicted_too : (ns ms : List CodeNest) (n x y : ℕ) → IsEvicted s (task_graph_at graphs ns) c n x y
-      → IsEvicted s (task_graph_at graphs ms) c n x y
-  evicted_too ns ms n x y e = record {
-    fetch = e.fetch;
-    reload = reload_too ns ms n x e.fetch e.reload;
-    time = e.time;
-    last = e.last;
-    is = e.is;
-  }
-
-  preempted_too : (ns ms : List CodeNest) (n x p : ℕ)
-      → IsPreempted s (task_graph_at graphs ns) c n x p
-      → IsPreempted s (task_graph_at graphs ms) c n x p
-  preempted_too ns ms n x p e =
-      record {
-        fetch = e.fetch;
-        reload = reload_too ns ms n x e.fetch e.reload;
-        from = e.from;
-        time = e.time;
-        until = e.until;
-        is = e.is;
-      }
-
-  of_run_too : (ns ms : List CodeNest) (e : LedgerReload) → IsOfRun s (task_graph_at graphs ns) c e
-      → IsOfRun s (task_graph_at graphs ms) c e
-  unfolding evicted_too
-  of_run_too ns ms e r =
-      record {
-        evicted = evicted_too ns ms e.time e.job e.evictor r.evicted;
-        preempted = preempted_too ns ms e.time e.job e.preemptor r.preempted;
-        to_set = r.to_set;
-      }
-
-  ledger_too : (ns ms : List CodeNest) (n : ℕ) (es : List LedgerReload)
-      → IsLedger s (task_graph_at graphs ns) c n es → IsLedger s (task_graph_at graphs ms) c n es
-  ledger_too ns ms n es L =
-      record {
-        reloads = λ k d lt. let e = L.reloads k d lt in (e.0, of_run_too ns ms (get_or es k d) e.1);
-        in_order = L.in_order;
-        complete = λ t x f lt e. L.complete t x f lt (reload_too ms ns t x f e);
-      }
-
-  -- so two accounts of a run have the same reloads
-  same_entries : (ns ms : List CodeNest) (n : ℕ) (a b : Account)
-      → IsAccount s (task_graph_at graphs ns) c n a → IsAccount s (task_graph_at graphs ms) c n b
-      → a.entries ≡ b.entries
-  same_entries ns ms n a b A B =
+-- two accounts of a run have the same reloads: regions play no part in a ledger
+module _ (s : Start) (graphs : List CodeGraph) (c : Certificate) (ns ms : List CodeNest) where
+  same_entries : (n : ℕ) (a b : Account) → IsAccount s (task_graph_at graphs ns) c n a
+      → IsAccount s (task_graph_at graphs ms) c n b → a.entries ≡ b.entries
+  same_entries n a b A B =
       A.entries
       ∙ ap (map (account_entry s))
       (one_ledger s (task_graph_at graphs ms) c n A.ledger B.ledger
-      (ledger_too ns ms n A.ledger A.is_ledger) B.is_ledger)
+      (ledger_by s graphs c (λ k. nest_of (nest_at ns k)) (λ k. nest_of (nest_at ms k)) n A.ledger
+      A.is_ledger) B.is_ledger)
       ∙ sym B.entries
 
 module _ (input : Input) (graphs : List CodeGraph) (c : Certificate) (script : Script)
