@@ -1,7 +1,33 @@
 -- Tests.
-use Rattle.std.proofs.Common.{◌≡◌, Bool, true, false, ◌||◌, refl}
+use Rattle.std.proofs.Common.{◌≡◌, ℕ, zero, suc, ◌<◌, Bool, true, false, ◌&&◌, ◌||◌, IsTrue, refl}
+use Rattle.std.proofs.Common.{sym, subst, inl, inr, arith}
+use Rattle.std.proofs.lemmas.Bool.{cases_lt, and_parts, false≢true}
 
 -- a test or false is the test
 pub or_false : (b : Bool) → (b || false) ≡ b
 or_false true = refl
 or_false false = refl
+
+-- a test at each number below a bound
+abbrev pub each : ℕ → (ℕ → Bool) → Bool
+each zero test = true
+each (suc n) test = each n test && test n
+
+pub each_says : (n : ℕ) (test : ℕ → Bool) → IsTrue (each n test) → (k : ℕ) → k < n → IsTrue (test k)
+each_says zero test t k l = absurd (omega (arith, l))
+each_says (suc n) test t k l =
+    let parts = and_parts (each n test) (test n) t in
+    elim (cases_lt k n) [
+      | inl below ↦ each_says n test parts.0 k below
+      | inr above ↦ let q : k ≡ n =
+          omega (arith, l, above) in subst (λ z. IsTrue (test z)) (sym q) parts.1
+    ]
+
+-- where the first holds, the second does
+abbrev pub needs : Bool → Bool → Bool
+needs true b = b
+needs false b = true
+
+pub needed : (a b : Bool) → IsTrue (needs a b) → IsTrue a → IsTrue b
+needed true b t h = t
+needed false b t h = absurd (false≢true h)

@@ -1,4 +1,3 @@
-mod Few
 mod InRanges
 mod ZeroAlone
 mod StraightCode

@@ -37,7 +37,7 @@ use Rattle.crpd_base.specs.Tasks.{deadline_of}
 use Rattle.preempt_machine.specs.Machine.{plan_of}
 use Rattle.sound_laws.specs.Walks.{HasTaskRanges, IsCodeOf}
 use Rattle.worked_examples.specs.TwoWords.{platform, zero_alone}
-use Rattle.worked_examples.proofs.Few.{one, three, four}
+use Rattle.crpd_base.proofs.Few.{one, three, four}
 use Rattle.worked_examples.proofs.StraightCode.{code_map}
 use Rattle.worked_examples.proofs.ZeroAlone.{has_says, no_member}
 use Rattle.worked_examples.specs.OneLoop.{words, loop, system, set, address_of, ins_of, graph}

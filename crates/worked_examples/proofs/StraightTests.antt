@@ -1,15 +1,16 @@
 -- Tests by which a task that goes one way has its graph, and meets the judge's clauses.
 use Rattle.std.proofs.Common.{◌≡◌, ℕ, zero, suc, ◌+◌, ◌<◌, ◌≤◌, Bool, true, false, List, [], ◌∷◌}
-use Rattle.std.proofs.Common.{Option, Some, None, Contains, IsTrue, refl, sym, ◌∙◌, ap, subst, inl}
-use Rattle.std.proofs.Common.{inr, arith, length}
-use Rattle.std.specs.Prelude.{◌==◌, ◌&&◌, ◌||◌, not, nat_lt, nat_le, slice_index_or, get_or}
+use Rattle.std.proofs.Common.{Option, Some, None, Contains, IsTrue, refl, ◌∙◌, ap, subst}
+use Rattle.std.proofs.Common.{arith, length}
+use Rattle.std.specs.Prelude.{◌==◌, ◌&&◌, nat_lt, nat_le, slice_index_or, get_or}
 use Rattle.std.specs.Prelude.{option_and_then}
-use Rattle.std.proofs.lemmas.Bool.{cases_lt, eqb-true, eq-eqb, ltb-true, leb-true, and_parts}
+use Rattle.std.proofs.lemmas.Bool.{eqb-true, eq-eqb, ltb-true, leb-true, and_parts}
 use Rattle.std.proofs.lemmas.Bool.{false≢true}
 use Rattle.crpd_base.specs.declared.data.Platform.{Platform}
 use Rattle.crpd_base.specs.declared.data.NodeState.{NodeState}
 use Rattle.crpd_base.specs.declared.data.TaskPart.{TaskPart}
 use Rattle.crpd_base.specs.Sets.{has as has_set}
+use Rattle.crpd_base.proofs.Bools.{each, each_says, needs, needed}
 use Rattle.rv_decode.specs.declared.Ins.{Ins}
 use Rattle.rv_decode.specs.declared.Ins.TheVariants.{Ecall}
 use Rattle.rv_decode.specs.Flow.{Words, flows}
@@ -55,29 +56,6 @@ before w y = slice_index_or w.walks y []
 
 abbrev pub graph : Way → TaskGraph
 graph w = listed_graph w.addresses w.instructions w.successors
-
--- a test at each number below a bound
-abbrev pub each : ℕ → (ℕ → Bool) → Bool
-each zero test = true
-each (suc n) test = each n test && test n
-
-pub each_says : (n : ℕ) (test : ℕ → Bool) → IsTrue (each n test) → (k : ℕ) → k < n → IsTrue (test k)
-each_says zero test t k l = absurd (omega (arith, l))
-each_says (suc n) test t k l =
-    let parts = and_parts (each n test) (test n) t in
-    elim (cases_lt k n) [
-      | inl below ↦ each_says n test parts.0 k below
-      | inr above ↦ let q : k ≡ n =
-          omega (arith, l, above) in subst (λ z. IsTrue (test z)) (sym q) parts.1
-    ]
-
--- where the first holds, the second does
-abbrev pub needs : Bool → Bool → Bool
-needs a b = not a || b
-
-needed : (a b : Bool) → IsTrue (needs a b) → IsTrue a → IsTrue b
-needed true b t h = t
-needed false b t h = absurd (false≢true h)
 
 -- two lists are the same
 abbrev pub same : List ℕ → List ℕ → Bool

@@ -30,7 +30,7 @@ use Rattle.worked_examples.specs.ThreeTasks.{system, set, lines, there_again, gr
 use Rattle.worked_examples.specs.ThreeTasks.{one_and_two, three_and_four, nothing, certificate}
 use Rattle.worked_examples.specs.ThreeTasks.{start, ThreeTasks}
 use Rattle.sound_laws.specs.Headline.{CheckedCodeIsSafe}
-use Rattle.worked_examples.proofs.Few.{three, four, three_pairs}
+use Rattle.crpd_base.proofs.Few.{three, four, three_pairs}
 use Rattle.worked_examples.proofs.InRanges.{is_platform, is_task}
 use Rattle.worked_examples.proofs.LowFiles.{low_code}
 use Rattle.worked_examples.proofs.StraightTests.{Way, IsWay, IsAt, IsCode, is_graph_of, IsCertified}

@@ -28,7 +28,7 @@ use Rattle.worked_examples.specs.StraightCode.{first_alone}
 use Rattle.worked_examples.specs.TwoTasks.{code, high_name, low_name, system, set, graphs}
 use Rattle.worked_examples.specs.TwoTasks.{certificate, start, TwoTasks}
 use Rattle.sound_laws.specs.Headline.{CheckedCodeIsSafe}
-use Rattle.worked_examples.proofs.Few.{two, one_pair}
+use Rattle.crpd_base.proofs.Few.{two, one_pair}
 use Rattle.worked_examples.proofs.InRanges.{is_platform, is_task}
 use Rattle.worked_examples.proofs.TwoWords.{way, is_way, certified}
 use Rattle.worked_examples.proofs.LowFiles.{low_code}

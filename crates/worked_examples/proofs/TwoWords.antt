@@ -15,7 +15,7 @@ use Rattle.sound_laws.specs.Headline.{YesIsSafe}
 use Rattle.sound_laws.specs.Walks.{HasTaskRanges, IsCodeOf}
 use Rattle.worked_examples.specs.TwoWords.{platform, words, system, set, graph, zero_alone}
 use Rattle.worked_examples.specs.TwoWords.{certificate, TwoWords}
-use Rattle.worked_examples.proofs.Few.{one, two}
+use Rattle.crpd_base.proofs.Few.{one, two}
 use Rattle.worked_examples.proofs.StraightCode.{code_map}
 use Rattle.worked_examples.proofs.StraightTests.{Way, IsWay, IsAt, IsCode, is_graph_of, IsCertified}
 use Rattle.worked_examples.proofs.StraightTests.{part_holds}

@@ -7,6 +7,7 @@ use Rattle.std.specs.List.{list_any}
 use Rattle.std.proofs.lemmas.Bool.{cases_lt, cases_eq, cases_Bool, eqb-true, eq-eqb, ne_eqb}
 use Rattle.std.proofs.lemmas.Bool.{ltb-true, and_parts, and_from, or_cases, false≢true}
 use Rattle.crpd_base.specs.declared.data.Platform.{Platform}
+use Rattle.crpd_base.proofs.Bools.{each, each_says}
 use Rattle.flat_graph.specs.Graph.{Graph, Edge, IsWalk, GoesOn}
 use Rattle.icache.specs.Accesses.{Accesses, accesses, last_access, first_access}
 use Rattle.must_cache.specs.Sure.{Sure, IsSureHit}
@@ -22,8 +23,8 @@ use Rattle.worked_examples.specs.ThreeTasks as three
 use Rattle.worked_examples.specs.WorkedSets.{IsRow, HasSets, call_addresses, call_instructions}
 use Rattle.worked_examples.specs.WorkedSets.{call_successors, zero_and_one, WorkedSets}
 use Rattle.worked_examples.proofs.StraightCode as law
-use Rattle.worked_examples.proofs.StraightTests.{Way, size, next, address, before, graph, each}
-use Rattle.worked_examples.proofs.StraightTests.{each_says, same, same_says, at_next, at_next_says}
+use Rattle.worked_examples.proofs.StraightTests.{Way, size, next, address, before, graph}
+use Rattle.worked_examples.proofs.StraightTests.{same, same_says, at_next, at_next_says}
 use Rattle.worked_examples.proofs.StraightTests.{is_next, is_next_says, IsWay, line}
 use Rattle.worked_examples.proofs.ThreeTasks.{high, lower, high_way, lower_way}
 
