@@ -23,7 +23,7 @@ use Rattle.flat_graph.specs.declared.spots.Spot.{Spot}
 use Rattle.flat_graph.proofs.Numbered.{flat_graph_law}
 
 -- the node that is put together from these
-abbrev stored : Spot → Line → Bool → Stand
+abbrev pub stored : Spot → Line → Bool → Stand
 stored s l b =
     record { context = s.context; address = s.address; ins = l.ins; next = l.next; leader = b }
 

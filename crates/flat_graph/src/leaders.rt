@@ -1,8 +1,7 @@
 // The leaders of a graph.
-ghost use Rattle.std.specs.Prelude.{◌≡◌, ◌<◌, ℕ, Some, IfOk, length, map, slice_get, All};
+ghost use Rattle.std.specs.Prelude.{◌≡◌, ◌<◌, ℕ, Some, IfOk, length, slice_get, All};
 ghost use Rattle.flat_graph.specs.declared.leaders.Mark.{Mark};
-ghost use Rattle.flat_graph.specs.Inner.Leaders.{AreEnds, AreMarked, HasLeaders, mark_after_edges};
-ghost use Rattle.flat_graph.specs.Inner.Leaders.{is_leading};
+ghost use Rattle.flat_graph.specs.Inner.Leaders.{AreEnds, AreMarked, mark_after_edges, is_leading};
 
 use crate::graph::Onward;
 use crate::lines::Line;
@@ -11,7 +10,7 @@ use std::alloc::{AllocError, Global};
 /// What is known of a node from the edges towards it that were met: none, one from a node with one
 /// successor, or that the node is a leader.
 #[derive(Clone, Copy)]
-enum Mark {
+pub(crate) enum Mark {
     Unmet,
     Continues,
     Leads,
@@ -39,8 +38,9 @@ fn mark_ends(marks: &mut [Mark], next: Onward)
     }
 }
 
-/// The marks of all nodes, after the edges that the lines say.
-fn all_marks(alloc: Global, lines: &[Line], first: u32) -> Result<Vec<Mark>, AllocError>
+/// The marks of all nodes, for nodes that go on as the lines say; they tell which nodes are leaders.
+/// Time is linear.
+pub(crate) fn all_marks(alloc: Global, lines: &[Line], first: u32) -> Result<Vec<Mark>, AllocError>
     requires first { first < length lines.now }
     requires edges { All (λ l. AreEnds (length lines.now) l.next) lines.now }
     ensures count { IfOk result (λ v. length v.items ≡ length lines.now) }
@@ -54,31 +54,13 @@ fn all_marks(alloc: Global, lines: &[Line], first: u32) -> Result<Vec<Mark>, All
     Ok(marks)
 }
 
-/// Whether a node with a mark is a leader, once all edges were met.
-fn is_leader(mark: Mark) -> bool
+/// Whether a node with a mark is a leader, once all edges were met: it is none where its one edge
+/// comes from a node with one successor and it is not the first.
+pub(crate) fn is_leader(mark: Mark) -> bool
     ensures { result ≡ is_leading mark }
 {
     match mark {
         Mark::Continues => false,
         _ => true,
     }
-}
-
-/// Which of the nodes with these marks are leaders.
-fn leader_flags(alloc: Global, marks: &[Mark]) -> Result<Vec<bool>, AllocError>
-    ensures { IfOk result (λ v. v.items ≡ map is_leading marks.now) }
-{
-    marks.iter().map(|mark| is_leader(*mark)).collect(alloc)
-}
-
-/// Which nodes are leaders, for nodes that go on as the lines say: a node is none where its one
-/// edge comes from a node with one successor and it is not the first. Time is linear.
-pub(crate) fn leaders(alloc: Global, lines: &[Line], first: u32) -> Result<Vec<bool>, AllocError>
-    requires first { first < length lines.now }
-    requires edges { All (λ l. AreEnds (length lines.now) l.next) lines.now }
-    ensures count { IfOk result (λ v. length v.items ≡ length lines.now) }
-    ensures leaders { IfOk result (λ v. HasLeaders lines.now first v.items) }
-{
-    let marks = all_marks(alloc, lines, first)?;
-    leader_flags(alloc, &marks)
 }

@@ -1,18 +1,19 @@
 // The flat graph of a task from the code.
 ghost use Rattle.std.specs.Prelude.{◌≡◌, ◌≤◌, ◌<◌, ℕ, Bool, Some, IfOk, IfErr, IfSome, length};
-ghost use Rattle.std.specs.Prelude.{slice_get, slice_index, All, []};
+ghost use Rattle.std.specs.Prelude.{slice_get, slice_index, All, [], map};
 ghost use Rattle.code_map.specs.Words.{word_at};
 ghost use Rattle.rv_decode.specs.Flow.{flows};
 ghost use Rattle.crpd_base.specs.Limits.{most_nodes};
 ghost use Rattle.flat_graph.specs.FlatGraph.{IsNumbering};
 ghost use Rattle.flat_graph.specs.Inner.GraphParts.{AreStoredNodes, AreKeptNodes};
+ghost use Rattle.flat_graph.specs.Inner.Leaders.{is_leading};
 ghost use Rattle.flat_graph.specs.Inner.Spots.{spot_nodes};
 ghost use Rattle.flat_graph.specs.CodeGraph.{IsCodeGraph};
 ghost use Rattle.flat_graph.specs.GraphErrors.{IsGraphError};
 
 use crate::fault::GraphError;
 use crate::graph::{Context, Graph, Stand};
-use crate::leaders::leaders;
+use crate::leaders::{Mark, all_marks, is_leader};
 use crate::lines::{Line, lines, number_of};
 use crate::reach::reach;
 use crate::spots::Spot;
@@ -20,17 +21,18 @@ use code_map::CodeMap;
 use crpd_base::{Items, MOST_NODES, Task};
 use std::alloc::{AllocError, Global};
 
-/// The nodes of the spots, with their lines, and whether they are leaders.
+/// The nodes of the spots, with their lines, and whether they are leaders by their marks.
 fn stands(
     alloc: Global,
     spots: &[Spot],
     lines: &[Line],
-    leaders: &[bool],
+    marks: &[Mark],
 ) -> Result<Vec<Stand>, AllocError>
     requires lines { length lines.now ≡ length spots.now }
-    requires leaders { length leaders.now ≡ length spots.now }
+    requires marks { length marks.now ≡ length spots.now }
     ensures count { IfOk result (λ v. length v.items ≡ length spots.now) }
-    ensures stands { IfOk result (λ v. AreStoredNodes spots.now lines.now leaders.now v.items) }
+    ensures stands { IfOk result
+        (λ v. AreStoredNodes spots.now lines.now (map is_leading marks.now) v.items) }
 {
     let mut stands = Vec::new(alloc);
     for (place, spot) in spots.iter().enumerate() {
@@ -40,7 +42,7 @@ fn stands(
             address: spot.address,
             ins: line.ins,
             next: line.next,
-            leader: leaders[place],
+            leader: is_leader(marks[place]),
         })?;
     }
     Ok(stands)
@@ -98,8 +100,8 @@ fn nodes_from(
 {
     code.words_law();
     let lines = lines(alloc, code, entry, lists, spots)?;
-    let leaders = leaders(alloc, &lines, first)?;
-    let nodes = stands(alloc, spots, &lines, &leaders)?;
+    let marks = all_marks(alloc, &lines, first)?;
+    let nodes = stands(alloc, spots, &lines, &marks)?;
     Ok(nodes)
 }
 

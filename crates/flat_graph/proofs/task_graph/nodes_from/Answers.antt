@@ -1,16 +1,17 @@
-use Rattle.std.proofs.Common.{◌∙◌, sym, ap, subst, arith, length, All}
+use Rattle.std.proofs.Common.{◌∙◌, sym, ap, subst, arith, length, map, All}
 use Rattle.std.proofs.lemmas.List.{length-map}
 use Rattle.std.proofs.lemmas.Option.{slice_get_within}
 use Rattle.code_map.specs.Words.{word_at}
 use Rattle.flat_graph.specs.Inner.GraphParts.{AreStoredNodes}
-use Rattle.flat_graph.specs.Inner.Leaders.{AreEnds, HasLeaders}
+use Rattle.flat_graph.specs.Inner.Leaders.{AreEnds, AreMarked, is_leading}
 use Rattle.flat_graph.specs.Inner.Spots.{spot_node, spot_nodes}
 use Rattle.flat_graph.proofs.Ends.{all_ends}
+use Rattle.flat_graph.proofs.Marks.{all_met}
 use Rattle.flat_graph.proofs.Together.{AreParts, code_graph, is_kept}
 use Rattle.flat_graph.proofs.task_graph.nodes_from.Goals as goal
 
-pub leaders-requires-clause-first : goal.leaders-requires-clause-first
-leaders-requires-clause-first c =
+pub all_marks-requires-clause-first : goal.all_marks-requires-clause-first
+all_marks-requires-clause-first c =
     omega (
       arith,
       slice_get_within (spot_nodes c.args.lists.now c.args.spots.now) c.args.first _
@@ -20,8 +21,8 @@ leaders-requires-clause-first c =
       c.in_ok-lines.ensures.count,
     )
 
-pub leaders-requires-clause-edges : goal.leaders-requires-clause-edges
-leaders-requires-clause-edges c =
+pub all_marks-requires-clause-edges : goal.all_marks-requires-clause-edges
+all_marks-requires-clause-edges c =
     subst (λ l. All (λ x. AreEnds (length l) x.next) l) (sym c.deref.ensures.value)
     (all_ends (word_at c.args.code.now.images) c.args.entry
     (spot_nodes c.args.lists.now c.args.spots.now) c.in_ok-lines.lines.items
@@ -34,7 +35,8 @@ returns-clause-kept c =
     let lists = c.args.lists.now in
     let spots = c.args.spots.now in
     let lines = c.in_ok-lines.lines.items in
-    let leaders = c.in_ok-leaders.leaders.items in
+    let marks = c.in_ok-marks.marks.items in
+    let leaders = map is_leading marks in
     let nodes = c.in_ok-nodes.nodes.items in
     let parts : AreParts words c.args.entry spots lines c.args.first leaders lists nodes = record {
       word_places = λ a w e. (c.words_law.ensures a w e).0;
@@ -44,13 +46,17 @@ returns-clause-kept c =
       line_count = c.in_ok-lines.ensures.count;
       first_at = c.requires.first;
       leader_of =
-          subst (λ l. HasLeaders l c.args.first leaders) c.deref.ensures.value
-          c.in_ok-leaders.ensures.leaders;
-      leader_count = c.in_ok-leaders.ensures.count ∙ ap length c.deref.ensures.value;
+          all_met lines c.args.first marks
+          (subst (λ l. AreMarked l c.args.first (length l) marks) c.deref.ensures.value
+          c.in_ok-marks.ensures.marked);
+      leader_count =
+          length-map marks is_leading ∙ c.in_ok-marks.ensures.count
+          ∙ ap length c.deref.ensures.value;
       context_of = c.requires.inside;
       stand_of =
           subst (λ l. AreStoredNodes spots l leaders nodes) c.deref-2.ensures.value
-          (subst (λ b. AreStoredNodes spots c.deref-2.result.now b nodes) c.deref-3.ensures.value
+          (subst (λ b. AreStoredNodes spots c.deref-2.result.now (map is_leading b) nodes)
+          c.deref-3.ensures.value
           c.in_ok-nodes.ensures.stands);
       stand_count = c.in_ok-nodes.ensures.count;
     } in
