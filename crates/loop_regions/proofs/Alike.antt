@@ -85,7 +85,8 @@ module _ (g : Graph) (n m : Nest) (A : Alike n m) (c : Costs) (q : Potentials) w
         exit = λ v r i edge no_back last is.
             let l = last_too m n (B n m A) u v r last in
             more_turns_too n m A r (item_potential q i) (q.loop r) q.node l.0.0
-            (e.exit v r i edge (λ b. no_back (back_too n m A u v b)) l (item_too m n (B n m A) v i is));
+            (e.exit v r i edge (λ b. no_back (back_too n m A u v b)) l
+            (item_too m n (B n m A) v i is));
       }
 
   pub meets_too : Meets g n c q → Meets g m c q
