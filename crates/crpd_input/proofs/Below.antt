@@ -38,9 +38,12 @@ module _ {B : Type 0} (P : ℕ → Result B Halt → Type 0) where
   stopped_below ys n m Memory has count below here = tt
   stopped_below ys n m Fault has count below here = tt
 
--- this stop ends a step
-pub stops_so : {A : Type 0} (P : Result A Halt → Type 0) (r : Halt) (halt : Halt) → IsRefusal r halt
-    → P (Err r) → StopsBy P halt
-stops_so P r (Refused q) is here = subst (λ x. P (Err x)) (sym is) here
-stops_so P r Memory is here = tt
-stops_so P r Fault is here = absurd is
+-- the stop of this error, or want of memory, ends a step
+pub stops_so : {A E : Type 0} (P : Result A Halt → Type 0) (halt_of : E → Halt) (memory e : E)
+    (halt : Halt) → IsRefusal (halt_of e) halt → halt_of memory ≡ Memory
+    → ((e ≡ memory → ⊥) → P (Err (halt_of e))) → StopsBy P halt
+stops_so P halt_of memory e (Refused r) is want here =
+    subst (λ x. P (Err x)) (sym is)
+    (here (λ same. let no : Refused r ≡ Memory = is ∙ ap halt_of same ∙ want in absurd cc))
+stops_so P halt_of memory e Memory is want here = tt
+stops_so P halt_of memory e Fault is want here = absurd is

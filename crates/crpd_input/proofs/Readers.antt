@@ -1,5 +1,5 @@
 -- A step, and then a reader of what it gave.
-use Rattle.std.proofs.Common.{◌≡◌, Result, Ok, Err, refl, ap, sym}
+use Rattle.std.proofs.Common.{◌≡◌, ◌∙◌, Result, Ok, Err, refl, ap, sym}
 use Rattle.std.specs.Prelude.{IsErrOf}
 use Rattle.crpd_input.specs.declared.halt.Halt.{Halt}
 use Rattle.crpd_input.specs.declared.halt.Halt.TheVariants.{Refused, Memory, Fault}
@@ -11,13 +11,17 @@ module _ {X A E : Type 0} (halt_of : E → Halt) (reading : X → Result A E) wh
       → and_then step (λ y. or_refused halt_of (reading y)) ≡ Ok a
   read step x a given is = rw (given, is) refl
 
-  -- the step gave a value, and the reader refused it
-  pub refused : (step : Result X Halt) (x : X) (e : E) (halt : Halt) → step ≡ Ok x
-      → reading x ≡ Err e → IsRefusal (halt_of e) halt
+  -- the step gave a value, and the reader refused it, or wanted memory
+  pub refused : (step : Result X Halt) (x : X) (memory e : E) (halt : Halt) → step ≡ Ok x
+      → halt_of memory ≡ Memory → ((e ≡ memory → ⊥) → reading x ≡ Err e)
+      → IsRefusal (halt_of e) halt
       → Stops (and_then step (λ y. or_refused halt_of (reading y))) halt
-  refused step x e (Refused r) given is stop = rw (given, is) (ap (λ h. Err h) (sym stop))
-  refused step x e Memory given is stop = tt
-  refused step x e Fault given is stop = tt
+  refused step x memory e (Refused r) given want is stop =
+      let told : reading x ≡ Err e =
+      is (λ same. let no : Refused r ≡ Memory = stop ∙ ap halt_of same ∙ want in absurd cc) in
+      rw (given, told) (ap (λ h. Err h) (sym stop))
+  refused step x memory e Memory given want is stop = tt
+  refused step x memory e Fault given want is stop = tt
 
 -- a refusal, or want of memory, is no fault
 pub no_fault : {A : Type 0} (meant halt : Halt) → IsRefusal meant halt

@@ -48,7 +48,6 @@ pub fn load_certificate<F: Files>(
     let bytes = load(alloc, files, name, CERTIFICATE_BYTES)?;
     match read_certificate(alloc, bytes.as_slice()) {
         Ok(certificate) => Ok(certificate),
-        Err(CertError::Memory) => Err(Halt::Memory),
         Err(error) => Err(certificate_halt(alloc, name, error)),
     }
 }

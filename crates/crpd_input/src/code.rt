@@ -69,7 +69,6 @@ pub fn load_code<F: Files>(
     let images = load_images(alloc, files, set.tasks.as_slice())?;
     match CodeMap::new(alloc, set, images.into_vec()) {
         Ok(code) => Ok(code),
-        Err(MapError::Memory) => Err(Halt::Memory),
         Err(error) => Err(map_halt(alloc, name, set, error)),
     }
 }

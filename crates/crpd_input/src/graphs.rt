@@ -57,7 +57,6 @@ pub(crate) fn task_graph(alloc: Global, input: &Input, task: Task) -> Result<Gra
 {
     match build(alloc, &input.code, task) {
         Ok(graph) => Ok(graph),
-        Err(GraphError::Memory) => Err(Halt::Memory),
         Err(error) => Err(graph_halt(alloc, task_name(&input.set, task), error)),
     }
 }

@@ -59,7 +59,6 @@ fn load_image<F: Files>(alloc: Global, files: &mut F, name: &str) -> Result<Imag
     let bytes = load(alloc, files, name, FILE_BYTES)?;
     match read_elf(alloc, bytes.as_slice()) {
         Ok(image) => Ok(image),
-        Err(ElfError::Memory) => Err(Halt::Memory),
         Err(error) => Err(elf_halt(alloc, name, error)),
     }
 }

@@ -51,7 +51,6 @@ pub(crate) fn task_regions(
     let graph = &graphs[usize::from(task.0)];
     match regions(alloc, graph, input.code.plan(task)) {
         Ok(nest) => Ok(nest),
-        Err(LoopError::Memory) => Err(Halt::Memory),
         Err(error) => Err(loop_halt(alloc, task_name(&input.set, task), error)),
     }
 }

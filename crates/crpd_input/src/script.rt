@@ -52,7 +52,6 @@ pub fn load_script<F: Files>(
     let bytes = load(alloc, files, name, FILE_BYTES)?;
     match read_script(alloc, bytes.as_slice(), set) {
         Ok(script) => Ok(script),
-        Err(ScriptError::Memory) => Err(Halt::Memory),
         Err(error) => Err(script_halt(alloc, name, error)),
     }
 }

@@ -45,7 +45,6 @@ pub fn load_task_set<F: Files>(alloc: Global, files: &mut F, name: &str) -> Resu
     let bytes = load(alloc, files, name, FILE_BYTES)?;
     match read_set(alloc, bytes.as_slice()) {
         Ok(set) => Ok(set),
-        Err(SetError::Memory) => Err(Halt::Memory),
         Err(error) => Err(set_halt(alloc, name, error)),
     }
 }

@@ -1,5 +1,6 @@
-use Rattle.std.proofs.Common.{◌∙◌, ℕ, List, Ok, ap, sym, rules}
+use Rattle.std.proofs.Common.{◌∙◌, ℕ, List, Ok, ap, sym, refl}
 use Rattle.cert_model.specs.Reading.{reading}
+use Rattle.cert_model.specs.declared.fault.CertError.TheVariants.{Memory}
 use Rattle.crpd_input.specs.Reading.{certificate_halt}
 use Rattle.crpd_input.specs.Steps.{bytes_in, certificate_bytes}
 use Rattle.crpd_input.proofs.Readers.{read, refused, no_fault}
@@ -18,10 +19,10 @@ pub returns-clause-exact : goal.returns-clause-exact
 returns-clause-exact g c = λ contents told.
     refused (certificate_halt c.args.name.now) reading
     (bytes_in certificate_bytes contents c.args.name.now)
-    c.as_slice.result.now c.in-Err.error c.certificate_halt.result
+    c.as_slice.result.now Memory c.in-Err.error c.certificate_halt.result
     (c.in_ok-bytes.ensures.exact contents told ∙ ap (λ (bs : List ℕ). Ok bs)
     (sym c.as_slice.ensures))
-    (c.in-Err.ensures.exact (search rules)) c.certificate_halt.ensures
+    refl c.in-Err.ensures.exact c.certificate_halt.ensures
 
 pub returns-clause-fault : goal.returns-clause-fault
 returns-clause-fault g c = λ e.

@@ -1,7 +1,8 @@
-use Rattle.std.proofs.Common.{◌∙◌, List, Ok, length, ap, sym, rules}
+use Rattle.std.proofs.Common.{◌∙◌, List, Ok, length, ap, sym, refl}
 use Rattle.crpd_base.specs.declared.data.Image.{Image}
 use Rattle.crpd_base.specs.declared.data.TaskSpec.{TaskSpec}
 use Rattle.code_map.specs.Reading.{code_of}
+use Rattle.code_map.specs.declared.fault.MapError.TheVariants.{Memory}
 use Rattle.crpd_input.specs.Reading.{images_in, map_halt}
 use Rattle.crpd_input.proofs.Bounds.{code_bounded}
 use Rattle.crpd_input.proofs.OwnImages.{images_count}
@@ -33,11 +34,11 @@ pub returns-in-Err-clause-exact : goal.returns-in-Err-clause-exact
 returns-in-Err-clause-exact g c = λ contents told.
     refused (map_halt c.args.name.now c.args.set.now) (code_of c.args.set.now)
     (images_in contents c.args.set.now.tasks)
-    c.into_vec.result.items c.in-Err.error c.map_halt.result
+    c.into_vec.result.items Memory c.in-Err.error c.map_halt.result
     (ap (images_in contents) (sym c.as_slice.ensures)
     ∙ c.in_ok-images.ensures.exact contents told
     ∙ ap (λ (is : List Image). Ok is) (sym c.into_vec.ensures))
-    (c.in-Err.ensures (search rules)) c.map_halt.ensures
+    refl c.in-Err.ensures c.map_halt.ensures
 
 pub returns-in-Err-clause-fault : goal.returns-in-Err-clause-fault
 returns-in-Err-clause-fault g c = λ e.

@@ -1,5 +1,6 @@
-use Rattle.std.proofs.Common.{◌∙◌, ℕ, List, Ok, ap, sym, rules}
+use Rattle.std.proofs.Common.{◌∙◌, ℕ, List, Ok, ap, sym, refl}
 use Rattle.elf_reader.specs.Reading.{reading}
+use Rattle.elf_reader.specs.declared.fault.ElfError.TheVariants.{Memory}
 use Rattle.crpd_input.specs.Reading.{elf_halt}
 use Rattle.crpd_input.specs.Steps.{bytes_in, file_bytes}
 use Rattle.crpd_input.proofs.Readers.{read, refused, no_fault}
@@ -16,10 +17,10 @@ returns-in-Ok-clause-exact g c = λ contents told.
 pub returns-clause-exact : goal.returns-clause-exact
 returns-clause-exact g c = λ contents told.
     refused (elf_halt c.args.name.now) reading (bytes_in file_bytes contents c.args.name.now)
-    c.as_slice.result.now c.in-Err.error c.elf_halt.result
+    c.as_slice.result.now Memory c.in-Err.error c.elf_halt.result
     (c.in_ok-bytes.ensures.exact contents told ∙ ap (λ (bs : List ℕ). Ok bs)
     (sym c.as_slice.ensures))
-    (c.in-Err.ensures.is (search rules)) c.elf_halt.ensures
+    refl c.in-Err.ensures.is c.elf_halt.ensures
 
 pub returns-clause-fault : goal.returns-clause-fault
 returns-clause-fault g c = λ e.

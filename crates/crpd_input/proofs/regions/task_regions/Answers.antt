@@ -1,7 +1,8 @@
-use Rattle.std.proofs.Common.{◌≡◌, ◌∙◌, ap, sym, get_or, Some, rules}
+use Rattle.std.proofs.Common.{◌≡◌, ◌∙◌, ap, sym, refl, get_or, Some}
 use Rattle.std.specs.Prelude.{slice_get}
 use Rattle.std.proofs.lemmas.Option.{slice_get-get_or}
 use Rattle.flat_graph.specs.CodeGraph.{CodeGraph}
+use Rattle.loop_regions.specs.declared.fault.LoopError.TheVariants.{Memory}
 use Rattle.crpd_input.specs.Graphs.{RegionsAt, loop_halt}
 use Rattle.crpd_input.proofs.Below.{stops_so}
 use Rattle.crpd_input.proofs.Nests.{graph_there, plan_bounded}
@@ -27,18 +28,20 @@ returns-in-Err-clause-exact c =
     ∙ ap (λ k. Some (get_or c.args.graphs.now k c.index-graphs-from.result)) (sym c.from.ensures)
     ∙ ap (λ (g : CodeGraph). Some g) (sym c.index-graphs-from.is) in
     stops_so (RegionsAt c.args.input.now c.args.graphs.now c.args.task.0)
-    (loop_halt c.task_name.result.now c.in-Err.error) c.loop_halt.result c.loop_halt.ensures (
+    (loop_halt c.task_name.result.now) Memory c.in-Err.error c.loop_halt.result
+    c.loop_halt.ensures refl
+    (λ no_want. (
       c.plan.result.now,
       c.index-graphs-from.result,
       c.plan.ensures,
       here,
       (
         c.in-Err.error,
-        (search rules),
+        no_want,
         c.in-Err.ensures.refused,
         ap (λ n. loop_halt n c.in-Err.error) c.task_name.ensures,
       ),
-    )
+    ))
 
 pub returns-in-Ok-clause-shown : goal.returns-in-Ok-clause-shown
 returns-in-Ok-clause-shown c =

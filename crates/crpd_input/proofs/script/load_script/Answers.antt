@@ -1,5 +1,6 @@
-use Rattle.std.proofs.Common.{◌∙◌, ℕ, List, Ok, ap, sym, rules}
+use Rattle.std.proofs.Common.{◌∙◌, ℕ, List, Ok, ap, sym, refl}
 use Rattle.script_reader.specs.Reading.{reading}
+use Rattle.script_reader.specs.declared.fault.ScriptError.TheVariants.{Memory}
 use Rattle.crpd_input.specs.Script.{script_halt}
 use Rattle.crpd_input.specs.Steps.{bytes_in, file_bytes}
 use Rattle.crpd_input.proofs.Readers.{read, refused, no_fault}
@@ -18,10 +19,10 @@ pub returns-clause-exact : goal.returns-clause-exact
 returns-clause-exact g c = λ contents told.
     refused (script_halt c.args.name.now) (λ bs. reading bs c.args.set.now)
     (bytes_in file_bytes contents c.args.name.now)
-    c.as_slice.result.now c.in-Err.error c.script_halt.result
+    c.as_slice.result.now Memory c.in-Err.error c.script_halt.result
     (c.in_ok-bytes.ensures.exact contents told ∙ ap (λ (bs : List ℕ). Ok bs)
     (sym c.as_slice.ensures))
-    (c.in-Err.ensures.exact (search rules)) c.script_halt.ensures
+    refl c.in-Err.ensures.exact c.script_halt.ensures
 
 pub returns-clause-fault : goal.returns-clause-fault
 returns-clause-fault g c = λ e.
