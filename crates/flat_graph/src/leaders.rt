@@ -38,8 +38,8 @@ fn mark_ends(marks: &mut [Mark], next: Onward)
     }
 }
 
-/// The marks of all nodes, for nodes that go on as the lines say; they tell which nodes are leaders.
-/// Time is linear.
+/// The marks of all nodes, for nodes that go on as the lines say; they tell which nodes are
+/// leaders. Time is linear.
 pub(crate) fn all_marks(alloc: Global, lines: &[Line], first: u32) -> Result<Vec<Mark>, AllocError>
     requires first { first < length lines.now }
     requires edges { All (λ l. AreEnds (length lines.now) l.next) lines.now }
