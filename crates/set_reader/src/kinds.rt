@@ -145,13 +145,9 @@ pub fn place(alloc: Global, value: &Value) -> Result<Option<Place>, AllocError>
 fn both(alloc: Global, from: &Value, to: &Value) -> Result<Option<(Place, Place)>, AllocError>
     ensures { IfOk result (λ p. p ≡ spec.place_pair (view from.now) (view to.now)) }
 {
-    let Some(from) = place(alloc, from)? else {
-        return Ok(None);
-    };
-    let Some(to) = place(alloc, to)? else {
-        return Ok(None);
-    };
-    Ok(Some((from, to)))
+    let from = place(alloc, from)?;
+    let to = place(alloc, to)?;
+    Ok(from.zip(to))
 }
 
 /// A list of two places.
