@@ -1,4 +1,4 @@
-use Rattle.std.proofs.Common.{◌≡◌, ℕ, ◌<◌, ◌≤◌, length, ◌∙◌, ap, subst, inl, inr, arith, get_or}
+use Rattle.std.proofs.Common.{◌≡◌, ℕ, ◌<◌, ◌≤◌, length, refl, ◌∙◌, ap, subst, inl, inr, arith, get_or}
 use Rattle.std.proofs.lemmas.Bool.{cases_lt}
 use Rattle.std.proofs.lemmas.List.{get_or_default}
 use Rattle.preempt_machine.specs.Schedule.{due_place, due_release}
@@ -43,3 +43,76 @@ loop-self-preserved c =
       later = h.later;
       heads = h.heads;
     }
+
+pub loop-self-init : goal.loop-self-init
+loop-self-init c = record {
+  opened = record {
+    long = refl;
+    same = λ x. refl;
+    those = λ p a b. absurd (omega arith);
+    others = λ x f. refl;
+  };
+  from = omega arith;
+  to = λ w. w;
+  come = λ p a b. omega arith;
+  due = refl;
+  later = refl;
+  heads = refl;
+}
+
+pub bounds-completions-index : goal.bounds-completions-index
+bounds-completions-index c =
+    let due = c.args.self.now.due.items in
+    let at = c.loop-self.self.released in
+    let h = c.loop-self.invariant in
+    let inside : at < length due = subst (λ ds. at < length ds) h.due
+    (omega (arith, c.loop-self-test.true, c.len.ensures)) in
+    let item : c.index-in-loop-self.result.now ≡ get_or due at (0, 0) =
+    subst (λ ds. c.index-in-loop-self.result.now ≡ get_or ds at c.index-in-loop-self.result.now)
+    h.due c.index-in-loop-self.ensures
+    ∙ get_or_default due at c.index-in-loop-self.result.now (0, 0) inside in
+    let place : c.index-in-loop-self.result.now.1 ≡ due_place due at =
+    ap (λ (x : ℕ × ℕ). x.1) item in
+    omega (arith, place, c.requires at inside, c.loop-self.auto.completions)
+
+pub returns-else-index-now-clause-opened : goal.returns-else-index-now-clause-opened
+returns-else-index-now-clause-opened c = c.loop-self.invariant.opened
+
+pub returns-else-index-now-clause-from : goal.returns-else-index-now-clause-from
+returns-else-index-now-clause-from c = c.loop-self.invariant.from
+
+pub returns-else-index-now-clause-to : goal.returns-else-index-now-clause-to
+returns-else-index-now-clause-to c = c.loop-self.invariant.to
+
+pub returns-else-index-now-clause-come : goal.returns-else-index-now-clause-come
+returns-else-index-now-clause-come c = c.loop-self.invariant.come
+
+pub returns-else-index-now-clause-due : goal.returns-else-index-now-clause-due
+returns-else-index-now-clause-due c = c.loop-self.invariant.due
+
+pub returns-else-index-now-clause-later : goal.returns-else-index-now-clause-later
+returns-else-index-now-clause-later c = c.loop-self.invariant.later
+
+pub returns-else-index-now-clause-heads : goal.returns-else-index-now-clause-heads
+returns-else-index-now-clause-heads c = c.loop-self.invariant.heads
+
+pub returns-after-loop-self-clause-opened : goal.returns-after-loop-self-clause-opened
+returns-after-loop-self-clause-opened c = c.loop-self.invariant.opened
+
+pub returns-after-loop-self-clause-from : goal.returns-after-loop-self-clause-from
+returns-after-loop-self-clause-from c = c.loop-self.invariant.from
+
+pub returns-after-loop-self-clause-to : goal.returns-after-loop-self-clause-to
+returns-after-loop-self-clause-to c = c.loop-self.invariant.to
+
+pub returns-after-loop-self-clause-come : goal.returns-after-loop-self-clause-come
+returns-after-loop-self-clause-come c = c.loop-self.invariant.come
+
+pub returns-after-loop-self-clause-due : goal.returns-after-loop-self-clause-due
+returns-after-loop-self-clause-due c = c.loop-self.invariant.due
+
+pub returns-after-loop-self-clause-later : goal.returns-after-loop-self-clause-later
+returns-after-loop-self-clause-later c = c.loop-self.invariant.later
+
+pub returns-after-loop-self-clause-heads : goal.returns-after-loop-self-clause-heads
+returns-after-loop-self-clause-heads c = c.loop-self.invariant.heads
