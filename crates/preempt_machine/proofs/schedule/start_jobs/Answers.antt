@@ -1,7 +1,9 @@
-use Rattle.std.proofs.Common.{◌≡◌, ℕ, ◌<◌, ◌++◌, ◌∷◌, [], List, Some, length, sym, ◌∙◌, subst}
-use Rattle.std.specs.Prelude.{slice_get}
+use Rattle.std.proofs.Common.{◌≡◌, ℕ, ◌<◌, ◌++◌, ◌∷◌, [], List, Some, length, sym, ◌∙◌, ap, subst}
+use Rattle.std.proofs.Common.{arith}
+use Rattle.std.specs.Prelude.{map, slice_get}
+use Rattle.std.proofs.lemmas.List.{take_all}
 use Rattle.crpd_base.specs.declared.data.TaskPlan.{TaskPlan}
-use Rattle.preempt_machine.specs.Machine.{Job, job_at}
+use Rattle.preempt_machine.specs.Machine.{Job, job_at, new_job}
 use Rattle.preempt_machine.specs.Running.{HasPlan}
 use Rattle.preempt_machine.specs.Schedule.{script_line}
 use Rattle.preempt_machine.proofs.Starting.{has_plan, jobs_more, plans_more}
@@ -36,3 +38,17 @@ loop-line-preserved c =
           (has_plan plans (script_line lines i) c.plan.result.now job line (c.requires i inside)
           there c.in_ok-job.ensures.turns));
     }
+
+pub loop-line-init : goal.loop-line-init
+loop-line-init c = record {
+  jobs = λ sys same. c.new-jobs.ensures.items;
+  plans = λ x a. absurd (omega (arith, ap length c.new-jobs.ensures.items));
+}
+
+pub returns-clause-jobs : goal.returns-clause-jobs
+returns-clause-jobs c sys same =
+    c.loop-line.invariant.jobs sys same
+    ∙ ap (map (new_job sys)) (take_all c.loop-line.line-index c.args.lines.now (omega arith))
+
+pub returns-clause-plans : goal.returns-clause-plans
+returns-clause-plans c = c.loop-line.invariant.plans

@@ -58,3 +58,9 @@ returns-in-None-clause-ok c =
     let none : None ≡ ins_at sys c.args.job.now.pc =
     rw c.pc.ensures at (c.in-None.ensures.is c.args.self.now.geometry.platform) in
     rw (sym none, c.fault.ensures) refl
+
+pub returns-in-Some-clause-geometry : goal.returns-in-Some-clause-geometry
+returns-in-Some-clause-geometry c = c.execute.ensures.geometry
+
+pub returns-in-Some-clause-err : goal.returns-in-Some-clause-err
+returns-in-Some-clause-err c = c.execute.ensures.err

@@ -1,9 +1,11 @@
 use Rattle.std.proofs.Common.{◌≡◌, ◌<◌, ◌&&◌, Bool, Some, ℕ, length, sym, ◌∙◌, ap, subst}
 use Rattle.std.specs.Prelude.{◌↔◌, IsTrue}
+use Rattle.preempt_machine.specs.declared.parts.Parts.{Parts}
 use Rattle.preempt_machine.specs.Inner.KeptFlag.{owner_is_kept}
-use Rattle.preempt_machine.specs.Inner.Schedule.{machine_of, running_of, HasMade}
-use Rattle.preempt_machine.specs.Running.{Running, HasPlans}
+use Rattle.preempt_machine.specs.Inner.Schedule.{machine_of, running_of, HasMade, HasSameState}
+use Rattle.preempt_machine.specs.Running.{Running, GivesStore, HasPlans, system_by}
 use Rattle.preempt_machine.specs.Safe.{IsKept}
+use Rattle.preempt_machine.proofs.Turns.{on_err_of}
 use Rattle.preempt_machine.proofs.Watches.{flag_goes_on}
 use Rattle.preempt_machine.proofs.machine.Machine.advance.Goals as goal
 use Rattle.preempt_machine.proofs.machine.Machine.advance.Goals.{then-self, else-self}
@@ -50,3 +52,24 @@ returns-clause-ok c =
 
 pub returns-clause-plans : goal.returns-clause-plans
 returns-clause-plans c = c.in_ok-advance.ensures.plans
+
+same_running : (old new : Parts) → HasSameState old new → running_of new ≡ running_of old
+same_running old new h = cc (h.state, h.fetch, h.geometry)
+
+pub returns-in_err-advance-clause-plans : goal.returns-in_err-advance-clause-plans
+returns-in_err-advance-clause-plans c =
+    let same = same_running c.self.inside.parts c.advance.new.self c.in_err-advance.ensures.err in
+    subst (λ (m : Running). HasPlans c.args.code.now m.state) (sym (same ∙ c.self.view_is))
+    c.requires.plans
+
+pub returns-in_err-advance-clause-err : goal.returns-in_err-advance-clause-err
+returns-in_err-advance-clause-err c =
+    on_err_of c.from_residual.result _
+    (same_running c.self.inside.parts c.advance.new.self c.in_err-advance.ensures.err
+    ∙ c.self.view_is)
+
+pub returns-in_err-advance-clause-only : goal.returns-in_err-advance-clause-only
+returns-in_err-advance-clause-only c =
+    on_err_of c.from_residual.result _
+    (subst (λ (m : Running). GivesStore (system_by m.platform c.args.code.now) m.state)
+    c.self.view_is c.in_err-advance.ensures.only)

@@ -9,6 +9,7 @@ use Rattle.preempt_machine.proofs.Firsts.{line_is, lines_long}
 use Rattle.preempt_machine.proofs.Steps.{step_line}
 use Rattle.preempt_machine.proofs.Taken.{taken_head, taken_jobs, taken_kept, taken_state}
 use Rattle.preempt_machine.proofs.Taken.{taken_step, taken_told}
+use Rattle.preempt_machine.proofs.Turns.{on_err_of}
 use Rattle.preempt_machine.proofs.parts.Parts.take.Goals as goal
 
 pub tell_end-requires-clause-head : goal.tell_end-requires-clause-head
@@ -62,3 +63,7 @@ returns-clause-plans c =
     c.pass.ensures c.tell_end.ensures in
     subst (λ (js : List Job). (x : ℕ) → x < length js → HasPlan c.args.code.now.plans (job_at js x))
     (sym jobs) c.in_ok-turn.ensures.plans
+
+pub returns-in_err-turn-clause-err : goal.returns-in_err-turn-clause-err
+returns-in_err-turn-clause-err c =
+    on_err_of c.from_residual.result _ c.in_err-turn.ensures.err

@@ -1,5 +1,5 @@
-use Rattle.std.proofs.Common.{◌≡◌, ℕ, [], refl, sym, ◌∙◌, ap, subst, arith}
-use Rattle.std.proofs.lemmas.List.{get_or_default}
+use Rattle.std.proofs.Common.{◌≡◌, ℕ, [], set, refl, sym, ◌∙◌, ap, subst, arith}
+use Rattle.std.proofs.lemmas.List.{get_or_default, set-get_or}
 use Rattle.crpd_base.specs.declared.data.JobId.{JobId}
 use Rattle.preempt_machine.specs.declared.Completion.{Completion}
 use Rattle.preempt_machine.specs.Machine.{Job, ins_at, job_at, no_job}
@@ -10,6 +10,7 @@ use Rattle.preempt_machine.specs.Running.{job_id, system_by}
 use Rattle.preempt_machine.specs.Schedule.{completion}
 use Rattle.preempt_machine.specs.Inner.Schedule.{machine_of}
 use Rattle.preempt_machine.proofs.CandidateTurns.{fetches, fetch_made, turned_on}
+use Rattle.preempt_machine.proofs.Turns.{on_err_of}
 use Rattle.preempt_machine.proofs.parts.Parts.work.Goals as goal
 
 pub returns-clause-ok : goal.returns-clause-ok
@@ -48,3 +49,22 @@ returns-clause-ok c =
       completions = refl;
       queue = refl;
     }
+
+pub returns-in_err-found-clause-err : goal.returns-in_err-found-clause-err
+returns-in_err-found-clause-err c =
+    let m = machine_of c.args.self.now in
+    let place = c.args.place in
+    let err = c.in_err-found.ensures.err in
+    let own : c.index_mut-job.result.now ≡ job_at m.jobs place =
+    c.index_mut-job.ensures.value
+    ∙ get_or_default m.jobs place c.index_mut-job.result.now no_job c.requires.below in
+    let jobs : set m.jobs place c.advance.new.job ≡ m.jobs =
+    ap (set m.jobs place) (err.0 ∙ own) ∙ set-get_or m.jobs place no_job in
+    on_err_of c.from_residual.result _
+    (record {
+      state = cc (jobs, err.1);
+      fetch = refl;
+      geometry = cc err.1;
+      completions = refl;
+      queue = refl;
+    })
