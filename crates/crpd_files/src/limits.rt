@@ -24,7 +24,7 @@ fn push_states(text: &mut String, sure: &str, useful: &str) -> Result<(), AllocE
     Ok(())
 }
 
-// A task's part, with such states.
+// A task's part up to its window, with such states.
 fn push_part(text: &mut String, name: &str, sure: &str, useful: &str) -> Result<(), AllocError> {
     write!(
         text,
@@ -32,7 +32,7 @@ fn push_part(text: &mut String, name: &str, sure: &str, useful: &str) -> Result<
          \"potentials\":[12,1],\"response\":17,\"states\":["
     )?;
     push_states(text, sure, useful)?;
-    text.push_str("],\"useful\":[0],\"window\":17}")
+    text.push_str("],\"useful\":[0],\"window\":17")
 }
 
 static FIRST: &str = "{\"platform\":{\"data\":3,\"div\":0,\"hit\":1,\"line\":16,\"miss\":10,\
@@ -42,22 +42,34 @@ static NAMES: [&str; 15] = [
     "t1", "t2", "t3", "t4", "t5", "t6", "t7", "t8", "t9", "t10", "t11", "t12", "t13", "t14", "t15",
 ];
 
-// The certificate of these blocks and useful sets.
-fn push_tasks(text: &mut String, sure: &str, useful: &str) -> Result<(), AllocError> {
+// Useful sets of the first node, and what stands behind the last window.
+type Ends = (&'static str, &'static str);
+
+// As many entries as may be, one more, and the same with a window that is no whole number: entries
+// are counted last.
+static ENDS: [Ends; 3] = [
+    ("", "}],\"version\":2}"),
+    ("7", "}],\"version\":2}"),
+    ("7", ".0}],\"version\":2}"),
+];
+
+// The certificate of these blocks.
+fn push_tasks(text: &mut String, sure: &str, ends: &Ends) -> Result<(), AllocError> {
+    let &(useful, last) = ends;
     text.push_str(FIRST)?;
     push_part(text, "one", sure, useful)?;
     for &name in &NAMES {
-        text.push_str(",")?;
+        text.push_str("},")?;
         push_part(text, name, sure, "")?;
     }
-    text.push_str("],\"version\":2}")
+    text.push_str(last)
 }
 
 // A certificate of sixteen tasks with 4,000,000 entries, and those of these useful sets.
-fn many_entries(alloc: Global, useful: &str) -> Result<String, AllocError> {
+fn many_entries(alloc: Global, ends: &Ends) -> Result<String, AllocError> {
     let sure = sure_of(alloc)?;
     let mut text = String::new(alloc);
-    push_tasks(&mut text, sure.as_str(), useful)?;
+    push_tasks(&mut text, sure.as_str(), ends)?;
     Ok(text)
 }
 
@@ -76,18 +88,21 @@ fn print_with(
 }
 
 // Carries out a command over its files and this certificate.
-fn print_entries_of(rt: &HostRuntime, trial: &Trial, useful: &str) -> io::Result<()> {
-    let bytes = many_entries(rt.alloc(), useful)?.into_bytes();
+fn print_entries_of(rt: &HostRuntime, trial: &Trial, ends: &Ends) -> io::Result<()> {
+    let bytes = many_entries(rt.alloc(), ends)?.into_bytes();
     let held = copy_of(rt.alloc(), trial.held.as_slice())?;
     print_with(rt, trial.words.as_slice(), held, "many.json", bytes)
 }
 
-/// A certificate with as many entries as may be, and one with a useful set more.
+/// A certificate with as many entries as may be, one with a useful set more, and that one with a
+/// value besides that is refused.
 pub(crate) fn print_entries(rt: &HostRuntime, line: &str) -> io::Result<()> {
     println!(rt; "$ entries {line}")?;
     let trial = Trial::read(rt, line)?;
-    print_entries_of(rt, &trial, "")?;
-    print_entries_of(rt, &trial, "7")
+    for ends in &ENDS {
+        print_entries_of(rt, &trial, ends)?;
+    }
+    Ok(())
 }
 
 /// A file of a byte more than is read.

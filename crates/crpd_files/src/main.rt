@@ -11,7 +11,7 @@
 //!   ends its reads there though its size is told whole, and `turned` turns the highest bit of each
 //!   of its bytes. The places with one answer stand together.
 //! - `entries COMMAND WORD .. with FILE ..` has besides these files `many.json`, certificates with
-//!   as many entries of states as may be, and one more.
+//!   as many entries of states as may be, and one more, and with one more and a bad value.
 //! - `long COMMAND WORD ..` has one file, `long.toml`, of a byte more than is read.
 #![tactic(auto)]
 
