@@ -1,16 +1,8 @@
-//! The worked rows of the files: task sets, scripts, certificates and executables read, and those
-//! that are made. This crate has tests alone.
+//! The worked rows of the files that no command shows: certificates written as they are read, and
+//! task sets, files and scripts that are made. This crate has tests alone.
 #![tactic(auto)]
 
 #[cfg(test)]
 mod certificates;
 #[cfg(test)]
-mod executables;
-#[cfg(test)]
 mod made;
-#[cfg(test)]
-mod reading;
-#[cfg(test)]
-mod scripts;
-#[cfg(test)]
-mod task_sets;
