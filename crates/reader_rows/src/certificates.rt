@@ -5,8 +5,15 @@ use std::alloc::Global;
 
 // The second has cache sets at the ends of words of bits, and numbers at the ends of their ranges.
 static WRITTEN: [&str; 2] = [
-    "{\"platform\":{\"data\":3,\"div\":0,\"hit\":1,\"line\":16,\"miss\":10,\"mul\":0,\"sets\":4,\"switch\":5,\"switching\":\"cycle\",\"taken\":2},\"tasks\":[{\"bound\":12,\"evicting\":[0],\"loops\":[],\"method\":\"ucb\",\"name\":\"one\",\"potentials\":[12,1],\"response\":17,\"states\":[[0,[],[]]],\"useful\":[0],\"window\":17}],\"version\":2}",
-    "{\"platform\":{\"data\":3,\"div\":0,\"hit\":1,\"line\":16,\"miss\":10,\"mul\":0,\"sets\":4,\"switch\":5,\"switching\":\"instruction\",\"taken\":2},\"tasks\":[{\"bound\":12,\"evicting\":[1,127,128,510],\"loops\":[0,1099511627776],\"method\":\"ecb\",\"name\":\"one\",\"potentials\":[12,1],\"response\":17,\"states\":[[0,[0,256,511,4294967295],[0,63,64,511]],[16383,[],[]]],\"useful\":[0],\"window\":17}],\"version\":2}",
+    "{\"platform\":{\"data\":3,\"div\":0,\"hit\":1,\"line\":16,\"miss\":10,\"mul\":0,\"sets\":4,\
+     \"switch\":5,\"switching\":\"cycle\",\"taken\":2},\"tasks\":[{\"bound\":12,\"evicting\":[0],\
+     \"loops\":[],\"method\":\"ucb\",\"name\":\"one\",\"potentials\":[12,1],\"response\":17,\
+     \"states\":[[0,[],[]]],\"useful\":[0],\"window\":17}],\"version\":2}",
+    "{\"platform\":{\"data\":3,\"div\":0,\"hit\":1,\"line\":16,\"miss\":10,\"mul\":0,\"sets\":4,\
+     \"switch\":5,\"switching\":\"instruction\",\"taken\":2},\"tasks\":[{\"bound\":12,\
+     \"evicting\":[1,127,128,510],\"loops\":[0,1099511627776],\"method\":\"ecb\",\"name\":\"one\",\
+     \"potentials\":[12,1],\"response\":17,\"states\":[[0,[0,256,511,4294967295],[0,63,64,511]],\
+     [16383,[],[]]],\"useful\":[0],\"window\":17}],\"version\":2}",
 ];
 
 // Whether the text is written for a certificate.
