@@ -15,9 +15,10 @@ use std::test::Fail;
 // More rounds than the potentials of a small program take to come to rest.
 const MOST_ROUNDS: u32 = 1_000;
 
-// A number for each node and each region.
+// A number for each node and each region, and that of the item of the first node.
 #[derive(Drop)]
 pub(crate) struct Potentials {
+    pub(crate) cycles: u64,
     pub(crate) nodes: Vec<u64>,
     pub(crate) loops: Vec<u64>,
 }
@@ -80,7 +81,7 @@ impl<const S: usize> Inequalities<'_, S> {
 
     // The potential of a node's item at a level: of the region of the next level below that holds
     // it, or its own.
-    pub(crate) fn item(&self, found: &Potentials, level: Option<u32>, node: NodeId) -> u64
+    fn item(&self, found: &Potentials, level: Option<u32>, node: NodeId) -> u64
         requires node { node.0 < (graph_of self.now.graph.now).size }
     {
         for region in 0..self.nest.len() {
@@ -201,7 +202,9 @@ impl<const S: usize> Inequalities<'_, S> {
 
     // The potentials, from 0 on, when a whole round over nodes and regions raises none.
     pub(crate) fn fixpoint(&self, alloc: Global) -> Result<Potentials, Fail> {
+        self.graph.graph_law();
         let mut found = Potentials {
+            cycles: 0,
             nodes: vec![in alloc; 0; self.graph.len() as usize]?,
             loops: vec![in alloc; 0; self.nest.len() as usize]?,
         };
@@ -209,6 +212,7 @@ impl<const S: usize> Inequalities<'_, S> {
             let nodes = self.raise_nodes(&mut found);
             let regions = self.raise_regions(&mut found);
             if !nodes && !regions {
+                found.cycles = self.item(&found, None, self.graph.first());
                 return Ok(found);
             }
         }

@@ -3,8 +3,6 @@
 #![tactic(auto)]
 
 #[cfg(test)]
-mod analysed;
-#[cfg(test)]
 mod fixpoint;
 #[cfg(test)]
 mod nodes;

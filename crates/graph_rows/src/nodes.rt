@@ -1,16 +1,15 @@
 // The nodes of small programs: where each stands and goes on, what the cache surely holds before it,
 // and which of that is useful.
-ghost use Rattle.std.specs.Prelude.{◌<◌};
+ghost use Rattle.std.specs.Prelude.{◌<◌, IfOk, length};
 ghost use Rattle.flat_graph.specs.CodeGraph.{graph_of};
 
-use crate::analysed::{code_of, states_of};
-use crpd_base::{NodeId, Platform, SetBits, Task};
-use fixtures::{BACK, CALLS, LINES, LOOP, ONE, PLATFORM, Program, TWO_WORDS};
+use code_map::CodeMap;
+use crpd_base::{Memory, NodeId, Platform, SetBits, Task};
+use fixtures::{BACK, CALLS, LINES, LOOP, ONE, PLATFORM, Program, TWO_WORDS, load};
 use flat_graph::{Graph, build};
 use icache::Geometry;
-use must_cache::MustState;
+use must_cache::{MustState, must};
 use std::alloc::Global;
-use std::process::Abort;
 use std::test::Fail;
 use useful_sets::useful;
 
@@ -42,76 +41,83 @@ fn successor(graph: &Graph, id: NodeId, place: u8) -> Option<u32>
     }
 }
 
-fn compare_place(rt: &impl Abort, graph: &Graph, id: NodeId, row: &Row)
+fn is_place(graph: &Graph, id: NodeId, row: &Row) -> bool
     requires { id.0 < (graph_of graph.now).size }
 {
     let &(calls, address, leads, next, _, _) = row;
-    assert!(rt; graph.context(id) == calls);
-    assert!(rt; graph.node(id).address == address);
-    assert!(rt; graph.leader(id) == leads);
-    assert!(rt; graph.find(calls, address) == Some(id));
-    assert!(rt; successor(graph, id, 0) == next.first().copied());
-    assert!(rt; successor(graph, id, 1) == next.get(1).copied());
+    graph.context(id) == calls
+        && graph.node(id).address == address
+        && graph.leader(id) == leads
+        && graph.find(calls, address) == Some(id)
+        && successor(graph, id, 0) == next.first().copied()
+        && successor(graph, id, 1) == next.get(1).copied()
 }
 
-fn compare_cache(rt: &impl Abort, state: &MustState<8>, useful: &SetBits<1>, row: &Row) {
-    let &(_, address, _, _, held, sets) = row;
+// Whether a state surely holds these blocks, from the first set on, and no others.
+fn holds(state: &MustState<8>, held: &[u32]) -> bool {
     for set in 0..8u16 {
         let block = held.get(set as usize).copied().unwrap_or(0);
-        assert!(rt;
-            state.at(set).unwrap_or(0) == block,
-            "set {set} at {address:x}"
-        );
+        if state.at(set).unwrap_or(0) != block {
+            return false;
+        }
     }
-    assert!(rt; useful.word(0) == sets, "useful at {address:x}");
+    true
 }
 
-fn compare_nodes(
-    rt: &impl Abort,
-    graph: &Graph,
-    states: &[MustState<8>],
-    useful: &[SetBits<1>],
-    rows: &[Row],
-) {
+// Whether these are the nodes of a graph, with their states and useful sets.
+fn are_nodes(graph: &Graph, states: &[MustState<8>], useful: &[SetBits<1>], rows: &[Row]) -> bool {
     let count = graph.len() as usize;
-    assert!(rt; rows.len() == count);
-    assert!(rt; states.len() == count);
-    assert!(rt; useful.len() == count);
+    if rows.len() != count || states.len() != count || useful.len() != count {
+        return false;
+    }
     for (number, row) in rows.iter().enumerate() {
-        compare_place(rt, graph, NodeId(number as u32), row);
-        compare_cache(rt, &states[number], &useful[number], row);
+        let place = is_place(graph, NodeId(number as u32), row);
+        if !place || !holds(&states[number], row.4) || useful[number].word(0) != row.5 {
+            return false;
+        }
+    }
+    true
+}
+
+// Whether no node is found for calls and addresses of none.
+fn finds_no_others(graph: &Graph) -> bool {
+    graph.find(&[], 1).is_none() && graph.find(&[1], 0x1000).is_none()
+}
+
+// Whether a graph has these nodes.
+fn graph_has(alloc: Global, graph: &Graph, rows: &[Row]) -> Result<bool, Memory> {
+    let geometry = Geometry::new(&EIGHT_SETS);
+    let states = must::<8>(alloc, graph, &geometry)?;
+    let useful = useful::<8, 1>(alloc, graph, &geometry, &states)?;
+    Ok(finds_no_others(graph) && are_nodes(graph, &states, &useful, rows))
+}
+
+// Whether the graph of the code has these nodes.
+fn code_has(alloc: Global, code: &CodeMap, rows: &[Row]) -> Result<bool, Fail>
+    requires { 0 < length code.now.plans }
+{
+    match build(alloc, code, Task(0)) {
+        Ok(graph) => Ok(graph_has(alloc, &graph, rows)?),
+        Err(_) => Err(Fail::from("no graph")),
     }
 }
 
-// Compares the nodes of a graph with these rows, and looks for calls and addresses of no node.
-fn compare_graph(rt: &impl Abort, alloc: Global, graph: &Graph, rows: &[Row]) -> Result<(), Fail> {
-    let geometry = Geometry::new(&EIGHT_SETS);
-    let states = states_of::<8>(alloc, &EIGHT_SETS, graph)?;
-    let useful = useful::<8, 1>(alloc, graph, &geometry, &states)?;
-    compare_nodes(rt, graph, &states, &useful, rows);
-    assert!(rt; graph.find(&[], 1).is_none());
-    assert!(rt; graph.find(&[1], 0x1000).is_none());
-    Ok(())
-}
-
-// Compares the nodes of these words from an address on with these rows.
-fn compare_program(
-    rt: &impl Abort,
-    alloc: Global,
-    start: u32,
-    words: &[u32],
-    rows: &[Row],
-) -> Result<(), Fail> {
+// The code of these words from an address on.
+fn code_of(alloc: Global, start: u32, words: &[u32]) -> Result<CodeMap, Fail>
+    ensures { IfOk result (λ code. 0 < length code.plans) }
+{
     let program = Program {
         start,
         words,
         ..ONE
     };
-    let code = code_of(alloc, &EIGHT_SETS, program)?;
-    match build(alloc, &code, Task(0)) {
-        Ok(graph) => compare_graph(rt, alloc, &graph, rows),
-        Err(_) => Err(Fail::from("no graph")),
-    }
+    Ok(load(alloc, PLATFORM, &[program])?.code)
+}
+
+// Whether the graph of these words from an address on has these nodes.
+fn words_have(alloc: Global, start: u32, words: &[u32], rows: &[Row]) -> Result<bool, Fail> {
+    let code = code_of(alloc, start, words)?;
+    code_has(alloc, &code, rows)
 }
 
 // `beq x0,x0,16`, the one way by `jal x0,4` and the other by `jal x0,-8` in the next line, to one
@@ -244,7 +250,8 @@ static PROGRAMS: [(u32, &[u32], &[Row]); 8] = [
 #[test]
 fn nodes_of_small_programs(rt: HostRuntime) -> Result<(), Fail> {
     for &(start, words, rows) in &PROGRAMS {
-        compare_program(&rt, rt.alloc(), start, words, rows)?;
+        let same = words_have(rt.alloc(), start, words, rows)?;
+        assert!(rt; same, "from {start:x}");
     }
     Ok(())
 }
@@ -258,12 +265,22 @@ static NEXT: [(u32, Option<u32>); 5] = [
     (0xFFFF_FFF9, None),
 ];
 
+// Whether the next addresses are these.
+fn has_next(code: &CodeMap) -> bool
+    requires { 0 < length code.now.images }
+{
+    for &(from, want) in &NEXT {
+        if code.next_own(Task(0), from) != want {
+            return false;
+        }
+    }
+    true
+}
+
 #[test]
 fn next_words(rt: HostRuntime) -> Result<(), Fail> {
-    let code = code_of(rt.alloc(), &PLATFORM, ONE)?;
+    let code = code_of(rt.alloc(), 0x1000, &TWO_WORDS)?;
     assert!(rt; code.images().len() == 1);
-    for &(from, want) in &NEXT {
-        assert!(rt; code.next_own(Task(0), from) == want, "from {from:x}");
-    }
+    assert!(rt; has_next(&code));
     Ok(())
 }

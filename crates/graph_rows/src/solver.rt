@@ -1,6 +1,6 @@
 // Facts of small graphs, along the edges and against them, and how often nodes are visited. Against
 // the edges the fact before a node is what holds after it.
-ghost use Rattle.std.specs.Prelude.{ℕ, ◌<◌, Option, length, slice_index_or};
+ghost use Rattle.std.specs.Prelude.{◌≡◌, ℕ, ◌<◌, IfOk, Option, length, slice_index_or};
 ghost use Rattle.dataflow.specs.Variable.{common_value, first_unknown, known_after};
 ghost use Rattle.dataflow.specs.Variable.{one_if_unknown};
 ghost use Rattle.dataflow.specs.VariableLaws.{both_joins, known_distributes, unknown_bounded};
@@ -12,20 +12,17 @@ use std::cell::Cell;
 use std::process::Abort;
 use std::test::Fail;
 
-fn known(
-    alloc: Global,
-    uses: &[Use],
-    edges: &[(u32, u32)],
-) -> Result<Vec<Option<Option<u32>>>, Fail> {
-    let nodes = u32::try_from(uses.len()).or(Err("more nodes than numbers"))?;
-    let graph = EdgeList::new(nodes, edges).ok_or("an end of an edge is no node")?;
-    Ok(solve(alloc, &graph, &Known { uses })?)
-}
-
-fn live(alloc: Global, uses: &[Use], edges: &[(u32, u32)]) -> Result<Vec<Option<bool>>, Fail> {
-    let nodes = u32::try_from(uses.len()).or(Err("more nodes than numbers"))?;
-    let graph = EdgeList::new(nodes, edges).ok_or("an end of an edge is no node")?;
-    Ok(solve(alloc, &Against::new(&graph), &Live { uses })?)
+// The graph of these edges, with a node for each use.
+fn graph_of<'a>(uses: &[Use], edges: &'a [(u32, u32)]) -> Result<EdgeList<'a>, Fail>
+    ensures { IfOk result (λ graph. graph.nodes ≡ length uses.now) }
+{
+    let Ok(nodes) = u32::try_from(uses.len()) else {
+        return Err(Fail::from("more nodes than numbers"));
+    };
+    match EdgeList::new(nodes, edges) {
+        Some(graph) => Ok(graph),
+        None => Err(Fail::from("an end of an edge is no node")),
+    }
 }
 
 // What a small graph's nodes do, its edges, what is known at each node, and, where that is told
@@ -134,25 +131,34 @@ static CASES: [Case; 7] = [
     },
 ];
 
-fn compare_known(rt: &impl Abort, alloc: Global, case: &Case) -> Result<(), Fail> {
-    let got = known(alloc, case.uses, case.edges)?;
+fn compare_known(rt: &impl Abort, alloc: Global, graph: &EdgeList, case: &Case) -> Result<(), Fail>
+    requires { graph.now.nodes ≡ length case.now.uses.now }
+{
+    let got = solve(alloc, graph, &Known { uses: case.uses })?;
     assert!(rt; got.as_slice() == case.known);
     Ok(())
 }
 
-fn compare_live(rt: &impl Abort, alloc: Global, case: &Case) -> Result<(), Fail> {
+fn compare_live(rt: &impl Abort, alloc: Global, graph: &EdgeList, case: &Case) -> Result<(), Fail>
+    requires { graph.now.nodes ≡ length case.now.uses.now }
+{
     if let Some(want) = case.live {
-        let got = live(alloc, case.uses, case.edges)?;
+        let got = solve(alloc, &Against::new(graph), &Live { uses: case.uses })?;
         assert!(rt; got.as_slice() == want);
     }
     Ok(())
 }
 
+fn compare_case(rt: &impl Abort, alloc: Global, case: &Case) -> Result<(), Fail> {
+    let graph = graph_of(case.uses, case.edges)?;
+    compare_known(rt, alloc, &graph, case)?;
+    compare_live(rt, alloc, &graph, case)
+}
+
 #[test]
 fn facts_of_small_graphs(rt: HostRuntime) -> Result<(), Fail> {
     for case in &CASES {
-        compare_known(&rt, rt.alloc(), case)?;
-        compare_live(&rt, rt.alloc(), case)?;
+        compare_case(&rt, rt.alloc(), case)?;
     }
     Ok(())
 }
@@ -228,38 +234,48 @@ fn thirds(alloc: Global, nodes: u32) -> Result<Vec<Use>, AllocError> {
 fn edges_onward(alloc: Global) -> Result<Vec<(u32, u32)>, AllocError> {
     let mut edges = Vec::new(alloc);
     for i in 0..998u32 {
-        edges.push((i * 7 % 1000, (i + 1) * 7 % 1000))?;
-        edges.push((i * 7 % 1000, (i + 2) * 7 % 1000))?;
+        let (one, two) = ((i + 1) * 7 % 1000, (i + 2) * 7 % 1000);
+        edges.extend_from_slice(&[(i * 7 % 1000, one), (i * 7 % 1000, two)])?;
     }
     edges.reverse();
     Ok(edges)
 }
 
-// How often the 1,000 nodes are visited in all.
-fn visits_of(
-    rt: &impl Abort,
+// Solves for what is known, and counts the visits. Fails where a node has no fact.
+fn count_visits(
     alloc: Global,
+    graph: &EdgeList,
     uses: &[Use],
-    edges: &[(u32, u32)],
-) -> Result<u32, Fail> {
-    assert_eq!(rt; uses.len(), 1000);
-    let graph = EdgeList::new(1000, edges).ok_or("an end of an edge is no node")?;
+    visits: &Cell<u32>,
+) -> Result<(), Fail>
+    requires { graph.now.nodes ≡ length uses.now }
+{
+    let facts = solve(alloc, graph, &Counted { uses, visits })?;
+    if facts.contains(&None) {
+        return Err(Fail::from("a node without a fact"));
+    }
+    Ok(())
+}
+
+// How often the nodes of a graph are visited in all.
+fn visits_of(alloc: Global, uses: &[Use], edges: &[(u32, u32)]) -> Result<u32, Fail> {
+    let graph = graph_of(uses, edges)?;
     let visits = Cell::new(0);
-    let counted = Counted {
-        uses,
-        visits: &visits,
-    };
-    let facts = solve(alloc, &graph, &counted)?;
-    assert!(rt; facts.iter().all(|fact| fact.is_some()));
+    count_visits(alloc, &graph, uses, &visits)?;
     Ok(visits.get())
+}
+
+// How often the 1,000 nodes are visited in all.
+fn visits_onward(alloc: Global) -> Result<u32, Fail> {
+    let uses = thirds(alloc, 1000)?;
+    let edges = edges_onward(alloc)?;
+    visits_of(alloc, &uses, &edges)
 }
 
 // Of a graph with no cycle each node is visited once, whatever the numbers of nodes and edges are.
 #[test]
 fn each_node_of_a_loop_free_graph_is_visited_once(rt: HostRuntime) -> Result<(), Fail> {
-    let uses = thirds(rt.alloc(), 1000)?;
-    let edges = edges_onward(rt.alloc())?;
-    let visits = visits_of(&rt, rt.alloc(), &uses, &edges)?;
-    assert_eq!(rt; visits, 1000);
+    let visits = visits_onward(rt.alloc())?;
+    assert!(rt; visits == 1000, "{visits}");
     Ok(())
 }

@@ -1,15 +1,21 @@
 // The bounds of programs of several ways, as the least potentials by a slow fixpoint.
-ghost use Rattle.std.specs.Prelude.{◌<◌, ◌≤◌};
+ghost use Rattle.std.specs.Prelude.{◌<◌, ◌≤◌, IfOk, length};
+ghost use Rattle.icache.specs.Accesses.{accesses};
+ghost use Rattle.flat_graph.specs.CodeGraph.{graph_of, places_of};
 ghost use Rattle.loop_regions.specs.CodeNest.{IsNestOf};
+ghost use Rattle.must_cache.specs.States.{AreSure};
 
-use crate::analysed::{analysed, states_of};
 use crate::fixpoint::{Inequalities, Potentials};
-use crpd_base::{Platform, Switching};
+use crpd_base::{Platform, Switching, Task};
 use exec_bound::{Bound, bound};
-use fixtures::{CALL_LOOP, CALLS, ECALL, LOOP, NESTED, PLATFORM, RET, Stated};
+use fixtures::{
+    CALL_LOOP, CALLS, ECALL, LOOP, Loaded, NESTED, ONE, PLATFORM, Program, RET, Stated,
+    graph_and_nest, load,
+};
 use flat_graph::Graph;
 use icache::Geometry;
 use loop_regions::Nest;
+use must_cache::{MustState, must};
 use std::alloc::Global;
 use std::process::Abort;
 use std::test::Fail;
@@ -103,10 +109,10 @@ const THREE: [u32; 6] = [
 ];
 
 // A multiplication costs 4 cycles more.
-const COSTS: Platform = Platform { mul: 4, ..PLATFORM };
+static COSTS: Platform = Platform { mul: 4, ..PLATFORM };
 
 // Two sets of two words each, and costs that differ from each other.
-const SMALL: Platform = Platform {
+static SMALL: Platform = Platform {
     line: 8,
     sets: 2,
     hit: 2,
@@ -161,46 +167,52 @@ static WAYS: [(&[u32], &[Stated]); 16] = [
     ),
 ];
 
-// Compares a bound and all its potentials with those of the fixpoint.
-fn compare_potentials(
-    rt: &impl Abort,
-    inequalities: &Inequalities<4>,
-    found: &Bound,
-    least: &Potentials,
-) {
-    let graph = inequalities.graph;
-    graph.graph_law();
-    assert!(rt; found.nodes.as_slice() == least.nodes.as_slice());
-    assert!(rt; found.loops.as_slice() == least.loops.as_slice());
-    assert!(rt; found.cycles == inequalities.item(least, None, graph.first()));
-}
-
-// Compares a bound with the fixpoint.
-fn compare_least(
-    rt: &impl Abort,
+// The must states, with room for S cache sets.
+fn states_of<const S: usize>(
     alloc: Global,
-    inequalities: &Inequalities<4>,
-    found: &Bound,
-) -> Result<(), Fail> {
-    let least = inequalities.fixpoint(alloc)?;
-    compare_potentials(rt, inequalities, found, &least);
-    Ok(())
+    platform: &Platform,
+    graph: &Graph,
+) -> Result<Vec<MustState<S>>, Fail>
+    requires line { 0 < platform.now.line }
+    requires sets { 0 < platform.now.sets }
+    requires room { platform.now.sets ≤ S }
+    requires few { S ≤ 65536 }
+    ensures { IfOk result (λ states. AreSure (graph_of graph.now)
+        (accesses platform.now (places_of graph.now).address) states.items) }
+{
+    match must::<S>(alloc, graph, &Geometry::new(platform)) {
+        Ok(states) => Ok(states),
+        Err(_) => Err(Fail::from("no memory")),
+    }
 }
 
-// Compares the bound of a graph with the fixpoint.
-fn compare_fixpoint(
-    rt: &impl Abort,
+// The bound of a graph.
+fn bound_of(alloc: Global, platform: &Platform, graph: &Graph, nest: &Nest) -> Result<Bound, Fail>
+    requires line { 0 < platform.now.line }
+    requires sets { 0 < platform.now.sets }
+    requires room { platform.now.sets ≤ 512 }
+    requires nest { IsNestOf graph.now nest.now }
+{
+    let states = states_of::<512>(alloc, platform, graph)?;
+    match bound(alloc, graph, nest, platform, &states) {
+        Ok(found) => Ok(found),
+        Err(_) => Err(Fail::from("no bound")),
+    }
+}
+
+// The same by the fixpoint.
+fn least_of(
     alloc: Global,
     platform: &Platform,
     graph: &Graph,
     nest: &Nest,
-) -> Result<(), Fail>
+) -> Result<Potentials, Fail>
     requires line { 0 < platform.now.line }
     requires sets { 0 < platform.now.sets }
-    requires room { platform.now.sets ≤ 4 }
+    requires room { platform.now.sets ≤ 512 }
     requires nest { IsNestOf graph.now nest.now }
 {
-    let states = states_of::<4>(alloc, platform, graph)?;
+    let states = states_of::<512>(alloc, platform, graph)?;
     let geometry = Geometry::new(platform);
     let inequalities = Inequalities {
         graph,
@@ -209,33 +221,72 @@ fn compare_fixpoint(
         geometry: &geometry,
         states: &states,
     };
-    match bound(alloc, graph, nest, platform, &states) {
-        Ok(found) => compare_least(rt, alloc, &inequalities, &found),
-        Err(_) => Err(Fail::from("no bound")),
-    }
+    inequalities.fixpoint(alloc)
 }
 
-// Compares the bound of a program with the fixpoint.
-fn compare_way<'a>(
+// Compares a bound and all its potentials with those of the fixpoint.
+fn compare_potentials(rt: &impl Abort, found: &Bound, least: &Potentials) {
+    assert!(rt; found.cycles == least.cycles);
+    assert!(rt; found.nodes.as_slice() == least.nodes.as_slice());
+    assert!(rt; found.loops.as_slice() == least.loops.as_slice());
+}
+
+// Compares the bound of a graph with the fixpoint.
+fn compare_graph(
     rt: &impl Abort,
     alloc: Global,
     platform: &Platform,
-    words: &'a [u32],
-    loops: &'a [Stated],
+    graph: &Graph,
+    nest: &Nest,
 ) -> Result<(), Fail>
     requires line { 0 < platform.now.line }
     requires sets { 0 < platform.now.sets }
-    requires room { platform.now.sets ≤ 4 }
+    requires room { platform.now.sets ≤ 512 }
+    requires nest { IsNestOf graph.now nest.now }
 {
-    let of = analysed(alloc, platform, words, loops)?;
-    compare_fixpoint(rt, alloc, platform, &of.0, &of.1)
+    let found = bound_of(alloc, platform, graph, nest)?;
+    let least = least_of(alloc, platform, graph, nest)?;
+    compare_potentials(rt, &found, &least);
+    Ok(())
+}
+
+// Compares the bound of what was loaded with the fixpoint.
+fn compare_loaded(rt: &impl Abort, alloc: Global, loaded: &Loaded) -> Result<(), Fail>
+    requires plans { 0 < length loaded.now.code.plans }
+    requires line { 0 < loaded.now.set.platform.line }
+    requires sets { 0 < loaded.now.set.platform.sets }
+    requires room { loaded.now.set.platform.sets ≤ 512 }
+{
+    let of = graph_and_nest(alloc, &loaded.code, Task(0))?;
+    compare_graph(rt, alloc, &loaded.set.platform, &of.0, &of.1)
+}
+
+// Compares the bound of a program with the fixpoint.
+fn compare_way(
+    rt: &impl Abort,
+    alloc: Global,
+    platform: &Platform,
+    program: Program,
+) -> Result<(), Fail> {
+    let loaded = load(alloc, *platform, &[program])?;
+    compare_loaded(rt, alloc, &loaded)
+}
+
+// Compares the bounds of all ways with the fixpoint.
+fn compare_ways(rt: &impl Abort, alloc: Global, platform: &Platform) -> Result<(), Fail> {
+    for &(words, loops) in &WAYS {
+        let program = Program {
+            words,
+            loops,
+            ..ONE
+        };
+        compare_way(rt, alloc, platform, program)?;
+    }
+    Ok(())
 }
 
 #[test]
 fn bounds_are_least_potentials(rt: HostRuntime) -> Result<(), Fail> {
-    for &(words, loops) in &WAYS {
-        compare_way(&rt, rt.alloc(), &COSTS, words, loops)?;
-        compare_way(&rt, rt.alloc(), &SMALL, words, loops)?;
-    }
-    Ok(())
+    compare_ways(&rt, rt.alloc(), &COSTS)?;
+    compare_ways(&rt, rt.alloc(), &SMALL)
 }
