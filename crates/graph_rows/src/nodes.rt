@@ -1,5 +1,5 @@
-// The nodes of small programs: where each stands and goes on, what the cache surely holds before it,
-// and which of that is useful.
+// The nodes of small programs: where each stands and goes on, what the cache surely holds before
+// it, and which of that is useful.
 ghost use Rattle.std.specs.Prelude.{◌<◌, IfOk, length};
 ghost use Rattle.flat_graph.specs.CodeGraph.{graph_of};
 
@@ -41,6 +41,7 @@ fn successor(graph: &Graph, id: NodeId, place: u8) -> Option<u32>
     }
 }
 
+// Whether a node stands where the row says, is found there, and goes on as it says.
 fn is_place(graph: &Graph, id: NodeId, row: &Row) -> bool
     requires { id.0 < (graph_of graph.now).size }
 {
@@ -256,21 +257,26 @@ fn nodes_of_small_programs(rt: HostRuntime) -> Result<(), Fail> {
     Ok(())
 }
 
-// Addresses, and the next address of a word of the task's own.
-static NEXT: [(u32, Option<u32>); 5] = [
-    (0, Some(0x1000)),
-    (0x1000, Some(0x1000)),
-    (0x1001, Some(0x1004)),
-    (0x1005, None),
-    (0xFFFF_FFF9, None),
+// Addresses, the words there, whether they are the task's own, and the next address of such a word.
+static WORDS: [(u32, Option<u32>, bool, Option<u32>); 7] = [
+    (0, None, false, Some(0x1000)),
+    (0x1000, Some(0x0010_0293), true, Some(0x1000)),
+    (0x1001, None, false, Some(0x1004)),
+    (0x1004, Some(0x0000_0073), true, Some(0x1004)),
+    (0x1005, None, false, None),
+    (0x1008, None, false, None),
+    (0xFFFF_FFF9, None, false, None),
 ];
 
-// Whether the next addresses are these.
-fn has_next(code: &CodeMap) -> bool
+// Whether the code has these words.
+fn has_words(code: &CodeMap) -> bool
     requires { 0 < length code.now.images }
 {
-    for &(from, want) in &NEXT {
-        if code.next_own(Task(0), from) != want {
+    for &(address, word, own, next) in &WORDS {
+        if code.word(address) != word || code.own(Task(0), address) != own {
+            return false;
+        }
+        if code.next_own(Task(0), address) != next {
             return false;
         }
     }
@@ -278,9 +284,9 @@ fn has_next(code: &CodeMap) -> bool
 }
 
 #[test]
-fn next_words(rt: HostRuntime) -> Result<(), Fail> {
+fn words_of_a_program(rt: HostRuntime) -> Result<(), Fail> {
     let code = code_of(rt.alloc(), 0x1000, &TWO_WORDS)?;
     assert!(rt; code.images().len() == 1);
-    assert!(rt; has_next(&code));
+    assert!(rt; has_words(&code));
     Ok(())
 }
