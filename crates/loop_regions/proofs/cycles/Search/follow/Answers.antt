@@ -82,3 +82,25 @@ returns-clause-search c y R =
     c.loop-next.self.waiting.items c.args.u
     (subst (All P) all.0 (All-map P (λ (n : NodeId). n.0) done c.loop-next.invariant.followed))
     (c.loop-next.invariant.search y R)
+
+pub index-requires : goal.index-requires
+index-requires c =
+    let turn = YieldsList-turn
+    (YieldsList-from_first (λ (n : NodeId). n.0) (λ (left : List ℕ). left)
+    ((graph_of c.args.graph.now).next c.args.u) cc)
+    c.loop-next.yielded _ c.loop-next.yielded_by _ _ c.in-Some.next c.in-Some.is
+    c.next.ensures.steps in
+    let lt = subst (λ v. v < (graph_of c.args.graph.now).size) (sym turn.1)
+    (c.successors-next-items.ensures.nodes (length c.loop-next.yielded) _ turn.0) in
+    omega (arith, lt, c.loop-next.invariant.nodes)
+
+pub index_mut-requires : goal.index_mut-requires
+index_mut-requires c =
+    let turn = YieldsList-turn
+    (YieldsList-from_first (λ (n : NodeId). n.0) (λ (left : List ℕ). left)
+    ((graph_of c.args.graph.now).next c.args.u) cc)
+    c.loop-next.yielded _ c.loop-next.yielded_by _ _ c.in-Some.next c.in-Some.is
+    c.next.ensures.steps in
+    let lt = subst (λ v. v < (graph_of c.args.graph.now).size) (sym turn.1)
+    (c.successors-next-items.ensures.nodes (length c.loop-next.yielded) _ turn.0) in
+    omega (arith, lt, c.loop-next.invariant.nodes)
