@@ -1,2 +1,1 @@
 mod Graphs
-mod Ranges

@@ -46,10 +46,6 @@ static DELAYS: [(u64, u8, u8, (u128, u128)); 6] = [
 #[test]
 fn delays_of_two_tasks(rt: HostRuntime) {
     for &(jobs, first, second, want) in &DELAYS {
-        assert_eq!(rt;
-            delays(jobs, first, second),
-            want,
-            "at {jobs} {first} {second}"
-        );
+        assert!(rt; delays(jobs, first, second) == want);
     }
 }

@@ -1,29 +1,11 @@
-//! The worked rows of windows, with counted delays and with the plain union delays of older tools,
-//! and of certificates: judged, made and updated, and how far a set's costs can grow. This crate
-//! has tests alone.
+//! The worked rows of what no command shows: delays of sets of shares, counted and by the plain
+//! unions of older tools, and certificates whose states stand in another order than a text may have
+//! them. This crate has tests alone.
 #![tactic(auto)]
 
 #[cfg(test)]
 mod classic;
 #[cfg(test)]
-mod comparison;
-#[cfg(test)]
-mod counted;
-#[cfg(test)]
 mod delays;
 #[cfg(test)]
-mod judged;
-#[cfg(test)]
-mod made;
-#[cfg(test)]
 mod orders;
-#[cfg(test)]
-mod rows;
-#[cfg(test)]
-mod sides;
-#[cfg(test)]
-mod slacks;
-#[cfg(test)]
-mod texts;
-#[cfg(test)]
-mod updated;

@@ -1,17 +1,17 @@
 // Certificates whose states stand in another order than a text may have them, or have several
 // entries of a node or of a cache set.
-ghost use Rattle.std.specs.Prelude.{◌<◌, ◌↔◌, ℕ, IfOk, All, IsTrue};
+ghost use Rattle.std.specs.Prelude.{◌≡◌, ◌<◌, ◌↔◌, ℕ, IfOk, All, IsTrue, length};
 ghost use Rattle.crpd_base.specs.declared.data.NodeState.{NodeState};
 ghost use Rattle.crpd_base.specs.declared.data.TaskPart.{TaskPart};
+ghost use Rattle.crpd_base.specs.Ranges.{IsTaskSet};
 ghost use Rattle.cert_check.specs.TaskGraphs.{HasLowSets, IsCertificateInRange};
 
-use crate::judged::compare_verdict;
-use crate::sides::told_certificate;
-use crate::texts::{LOOP_TOLD, LOOPING, ONE_TOLD, Told};
-use crpd_base::{Certificate, Items, NodeState, TaskPart};
-use fixtures::{ONE, Program, sets_of};
+use cert_check::{Verdict, verdict};
+use crpd_base::{Certificate, Items, LONGEST_TIME, Method, NodeState, Part, Task, TaskPart, Text};
+use fixtures::{LOOP, Loaded, ONE, PLATFORM, Program, graph_and_nest, load, sets_of};
 use std::alloc::{AllocError, Global};
 use std::process::Abort;
+use std::slice;
 use std::test::Fail;
 
 // What is listed at a node: its number, the blocks of cache sets, and the useful cache sets.
@@ -21,46 +21,61 @@ const FIRST: Entry = (0, &[], &[]);
 
 const SECOND: Entry = (1, &[(0, 256)], &[0]);
 
-// A program, what a certificate says of it but for its states, these in their order, and the
-// verdict.
-type Order = (Program<'static>, Told, &'static [Entry], &'static str);
+// The task `one`, and what a certificate says of it but for its states. Its evicting sets are the
+// set 0, and so are its useful sets.
+#[derive(Clone, Copy)]
+struct Told {
+    programs: &'static [Program<'static>; 1],
+    bound: u64,
+    potentials: &'static [u64],
+    loops: &'static [u64],
+    window: u64,
+}
+
+const ONE_TOLD: Told = Told {
+    programs: &[ONE],
+    bound: 12,
+    potentials: &[12, 1],
+    loops: &[],
+    window: 17,
+};
+
+// A loop of its second word and its third, of at most three iterations.
+const LOOP_TOLD: Told = Told {
+    programs: &[Program {
+        words: &LOOP,
+        loops: &[(0x1004, 3, (0x1004, 0x100C))],
+        ..ONE
+    }],
+    bound: 24,
+    potentials: &[24, 4, 3, 1],
+    loops: &[13],
+    window: 29,
+};
+
+// What a certificate says, its states in their order, and the clause and the place of the verdict
+// where that is no.
+type Order = (Told, &'static [Entry], Option<(u8, u32)>);
 
 static ORDERS: [Order; 9] = [
-    (ONE, ONE_TOLD, &[SECOND, FIRST], "yes"),
-    (
-        LOOPING,
-        LOOP_TOLD,
-        &[(3, &[(0, 256)], &[0]), SECOND, FIRST],
-        "yes",
-    ),
-    (ONE, ONE_TOLD, &[SECOND], "0 2 0"),
+    (ONE_TOLD, &[SECOND, FIRST], None),
+    (LOOP_TOLD, &[(3, &[(0, 256)], &[0]), SECOND, FIRST], None),
+    (ONE_TOLD, &[SECOND], Some((2, 0))),
     // the first of two entries of a node counts
-    (ONE, ONE_TOLD, &[FIRST, (0, &[(0, 256)], &[])], "yes"),
-    (ONE, ONE_TOLD, &[(0, &[(0, 256)], &[]), FIRST], "0 3 0"),
+    (ONE_TOLD, &[FIRST, (0, &[(0, 256)], &[])], None),
+    (ONE_TOLD, &[(0, &[(0, 256)], &[]), FIRST], Some((3, 0))),
+    (ONE_TOLD, &[SECOND, FIRST, (1, &[(0, 256)], &[])], None),
     (
-        ONE,
-        ONE_TOLD,
-        &[SECOND, FIRST, (1, &[(0, 256)], &[])],
-        "yes",
-    ),
-    (
-        ONE,
         ONE_TOLD,
         &[(1, &[(0, 256)], &[]), FIRST, SECOND],
-        "0 4 1",
+        Some((4, 1)),
     ),
     // and the first of two blocks of a cache set
+    (ONE_TOLD, &[FIRST, (1, &[(0, 256), (0, 257)], &[0])], None),
     (
-        ONE,
-        ONE_TOLD,
-        &[FIRST, (1, &[(0, 256), (0, 257)], &[0])],
-        "yes",
-    ),
-    (
-        ONE,
         ONE_TOLD,
         &[FIRST, (1, &[(0, 257), (0, 256)], &[0])],
-        "0 3 0",
+        Some((3, 0)),
     ),
 ];
 
@@ -74,6 +89,23 @@ fn states_of(alloc: Global, entries: &[Entry]) -> Result<Vec<NodeState>, AllocEr
         })?;
     }
     Ok(states)
+}
+
+fn part_of(alloc: Global, told: &Told, entries: &[Entry]) -> Result<TaskPart, AllocError> {
+    Ok(TaskPart {
+        name: Text::new(String::from_str(alloc, "one")?),
+        part: Part {
+            bound: told.bound,
+            evicting: sets_of(&[0]),
+            useful: sets_of(&[0]),
+        },
+        states: Items::new(states_of(alloc, entries)?),
+        potentials: Items::new(Vec::from_slice(alloc, told.potentials)?),
+        loops: Items::new(Vec::from_slice(alloc, told.loops)?),
+        method: Method::Ucb,
+        window: told.window,
+        response: told.window,
+    })
 }
 
 fn is_low(sure: &[(u16, u32)]) -> bool
@@ -94,32 +126,19 @@ fn is_in_range(certificate: &Certificate) -> bool
 {
     let parts = certificate.tasks.as_slice();
     let low = parts.iter().all(|part| has_low_sets(part));
-    let short = parts.iter().all(|part| part.window <= 1_099_511_627_776);
+    let short = parts.iter().all(|part| part.window <= LONGEST_TIME);
     low && short
 }
 
-// What a certificate says of tasks, with these states of each.
-fn parts_with(
-    alloc: Global,
-    parts: Vec<TaskPart>,
-    entries: &[Entry],
-) -> Result<Vec<TaskPart>, AllocError> {
-    let mut tasks = Vec::new(alloc);
-    for part in parts {
-        let states = Items::new(states_of(alloc, entries)?);
-        tasks.push(TaskPart { states, ..part })?;
-    }
-    Ok(tasks)
-}
-
-// The certificate of one task with these states.
-fn listed(alloc: Global, told: Told, entries: &[Entry]) -> Result<Certificate, Fail>
+// The certificate of one task.
+fn certificate_of(alloc: Global, part: TaskPart) -> Result<Certificate, Fail>
     ensures { IfOk result IsCertificateInRange }
 {
-    let old = told_certificate(alloc, &[told])?;
+    let mut tasks = Vec::new(alloc);
+    tasks.push(part)?;
     let certificate = Certificate {
-        platform: old.platform,
-        tasks: Items::new(parts_with(alloc, old.tasks.into_vec(), entries)?),
+        platform: PLATFORM,
+        tasks: Items::new(tasks),
     };
     if is_in_range(&certificate) {
         Ok(certificate)
@@ -128,10 +147,49 @@ fn listed(alloc: Global, told: Told, entries: &[Entry]) -> Result<Certificate, F
     }
 }
 
+// The verdict on a certificate of a set of one task.
+fn verdict_on(alloc: Global, loaded: &Loaded, certificate: &Certificate) -> Result<Verdict, Fail>
+    requires set { IsTaskSet loaded.now.set }
+    requires one { length loaded.now.set.tasks ≡ 1 }
+    requires plans { length loaded.now.code.plans ≡ 1 }
+    requires certificate { IsCertificateInRange certificate.now }
+{
+    let (graph, nest) = graph_and_nest(alloc, &loaded.code, Task(0))?;
+    let (graphs, nests) = (slice::from_ref(&graph), slice::from_ref(&nest));
+    Ok(verdict(&loaded.set, graphs, nests, certificate))
+}
+
+// The verdict on a certificate of one program.
+fn judged(
+    alloc: Global,
+    programs: &[Program; 1],
+    certificate: &Certificate,
+) -> Result<Verdict, Fail>
+    requires { IsCertificateInRange certificate.now }
+{
+    let loaded = load(alloc, PLATFORM, programs)?;
+    verdict_on(alloc, &loaded, certificate)
+}
+
+// The verdict on the certificate of these states.
+fn verdict_of(alloc: Global, told: &Told, entries: &[Entry]) -> Result<Verdict, Fail> {
+    let part = part_of(alloc, told, entries)?;
+    let certificate = certificate_of(alloc, part)?;
+    judged(alloc, told.programs, &certificate)
+}
+
+// The clause and the place where the verdict is no.
+fn refused(verdict: Verdict) -> Option<(u8, u32)> {
+    match verdict {
+        Verdict::Yes => None,
+        Verdict::No { clause, place, .. } => Some((clause, place)),
+    }
+}
+
 fn compare_order(rt: &impl Abort, alloc: Global, order: &Order) -> Result<(), Fail> {
-    let &(program, part, entries, want) = order;
-    let certificate = listed(alloc, part, entries)?;
-    compare_verdict(rt, alloc, program, &certificate, want)
+    let verdict = verdict_of(alloc, &order.0, order.1)?;
+    assert!(rt; refused(verdict) == order.2);
+    Ok(())
 }
 
 #[test]

@@ -3,7 +3,7 @@ ghost use Rattle.std.specs.Prelude.{◌≡◌, ◌<◌, ◌≤◌, ◌^◌, leng
 ghost use Rattle.preempt_machine.specs.Running.{HasPlans};
 ghost use Rattle.preempt_machine.specs.Safe.{NamesTasks};
 
-use crate::runs::{Case, INTERRUPTED, compare_ends};
+use crate::runs::{Case, INTERRUPTED};
 use crate::scripts::script_of;
 use code_map::CodeMap;
 use crpd_base::{JobId, Script, Task};
@@ -209,8 +209,6 @@ fn is_new(machine: &Machine) -> bool {
     machine.steps() == 0 && machine.owner().is_none() && machine.last_fetch().is_none()
 }
 
-static ENDS: [End; 2] = [End::Answered(49), End::Answered(32)];
-
 // Makes the cycles of all stretches from the start on, one after another.
 fn pass_all(rt: &impl Abort, machine: &mut Machine, code: &CodeMap) -> Result<(), Fail>
     requires { HasPlans code.now machine.old.state }
@@ -220,7 +218,6 @@ fn pass_all(rt: &impl Abort, machine: &mut Machine, code: &CodeMap) -> Result<()
         pass(rt, machine, code, stretch)?;
         assert!(rt; machine.steps() == stretch.until);
     }
-    compare_ends(rt, machine.completions(), &ENDS);
     Ok(())
 }
 
@@ -242,7 +239,7 @@ fn pass_case(rt: &impl Abort, alloc: Global, case: &Case) -> Result<(), Fail> {
     pass_script(rt, alloc, &loaded, &script)
 }
 
-static CASE: Case = INTERRUPTED;
+static CASE: Case<'static> = INTERRUPTED;
 
 #[test]
 fn interrupted_instruction(rt: HostRuntime) -> Result<(), Fail> {

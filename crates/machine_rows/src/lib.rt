@@ -1,6 +1,7 @@
-//! The worked rows of single steps: words and instructions, what they do, the watch over a job's
-//! flow, and accesses of the cache; of runs, cycle by cycle, by long stretches, and as their texts;
-//! and of the data memory that they begin with. This crate has tests alone.
+//! The worked rows of what no command shows of single steps and of runs: words and the cycles of
+//! instructions, the watch over a job's flow, accesses of the cache and bytes of the data memory;
+//! what a run shows after each cycle, and that both machines agree; and the text of a made input
+//! with late jobs. This crate has tests alone.
 #![tactic(auto)]
 
 #[cfg(test)]
@@ -8,11 +9,7 @@ mod accesses;
 #[cfg(test)]
 mod cycles;
 #[cfg(test)]
-mod effects;
-#[cfg(test)]
 mod instructions;
-#[cfg(test)]
-mod long_runs;
 #[cfg(test)]
 mod memory;
 #[cfg(test)]
