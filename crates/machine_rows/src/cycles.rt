@@ -21,7 +21,7 @@ struct Stretch {
     until: u64,
     owner: JobId,
     pcs: [u32; 2],
-    fetch: Option<(JobId, u32, Access)>,
+    fetch: Option<Fetch>,
     ends: (End, End),
 }
 
@@ -49,7 +49,11 @@ static STRETCHES: [Stretch; 14] = [
         until: 6,
         owner: LOW_JOB,
         pcs: [0x1000, 0x2000],
-        fetch: Some((LOW_JOB, 0x1000, Access::Miss)),
+        fetch: Some(Fetch {
+            job: LOW_JOB,
+            address: 0x1000,
+            access: Access::Miss,
+        }),
         ends: (End::Open, End::Unreleased),
     },
     Stretch {
@@ -71,7 +75,11 @@ static STRETCHES: [Stretch; 14] = [
         until: 21,
         owner: HIGH_JOB,
         pcs: [0x1000, 0x2000],
-        fetch: Some((HIGH_JOB, 0x2000, Access::Miss)),
+        fetch: Some(Fetch {
+            job: HIGH_JOB,
+            address: 0x2000,
+            access: Access::Miss,
+        }),
         ends: (End::Open, End::Open),
     },
     Stretch {
@@ -92,7 +100,11 @@ static STRETCHES: [Stretch; 14] = [
         until: 32,
         owner: HIGH_JOB,
         pcs: [0x1000, 0x2004],
-        fetch: Some((HIGH_JOB, 0x2004, Access::Hit)),
+        fetch: Some(Fetch {
+            job: HIGH_JOB,
+            address: 0x2004,
+            access: Access::Hit,
+        }),
         ends: (End::Open, End::Answered(32)),
     },
     // the switch back, and the cycle that was left, without a fetch
@@ -115,7 +127,11 @@ static STRETCHES: [Stretch; 14] = [
         until: 39,
         owner: LOW_JOB,
         pcs: [0x1004, 0x2004],
-        fetch: Some((LOW_JOB, 0x1004, Access::Miss)),
+        fetch: Some(Fetch {
+            job: LOW_JOB,
+            address: 0x1004,
+            access: Access::Miss,
+        }),
         ends: (End::Open, End::Answered(32)),
     },
     Stretch {
@@ -150,17 +166,6 @@ fn pc_at(machine: &Machine, place: usize) -> u32
     machine.pc(job)
 }
 
-fn fetch_of(stretch: &Stretch) -> Option<Fetch> {
-    match stretch.fetch {
-        Some((job, address, access)) => Some(Fetch {
-            job,
-            address,
-            access,
-        }),
-        None => None,
-    }
-}
-
 // Whether this is seen of the job at a place.
 fn is_job_seen(machine: &Machine, place: usize, job: JobId, pc: u32, end: End) -> bool
     requires { place < length machine.now.state.jobs }
@@ -179,7 +184,7 @@ fn are_jobs_seen(machine: &Machine, pcs: &[u32; 2], ends: &(End, End)) -> bool {
 // Whether this is seen of the two jobs and of the last cycle.
 fn is_seen(machine: &Machine, stretch: &Stretch) -> bool {
     machine.owner() == Some(stretch.owner)
-        && machine.last_fetch() == fetch_of(stretch)
+        && machine.last_fetch() == stretch.fetch
         && are_jobs_seen(machine, &stretch.pcs, &stretch.ends)
 }
 

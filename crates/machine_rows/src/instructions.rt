@@ -66,27 +66,21 @@ fn every_row(rt: HostRuntime) {
 
 #[test]
 fn fields(rt: HostRuntime) {
-    let srai = Ins::Srai {
-        rd: 0,
-        rs1: 0,
-        amount: 1,
-    };
     let fence = Ins::Fence {
         rd: 1,
         rs1: 2,
         bits: 0x8AB,
     };
-    assert!(rt;
-        matches!(
-            decode(0x4010_5013),
-            Some(Ins::Srai {
-                rd: 0,
-                rs1: 0,
-                amount: 1
-            })
-        )
-    );
-    assert!(rt; matches!(decode(0x0010_0073), Some(Ins::Ebreak)));
+    let srai = Ins::Srai {
+        rd: 0,
+        rs1: 0,
+        amount: 1,
+    };
+    let store = Ins::Sw {
+        rs1: 2,
+        rs2: 1,
+        imm: 12,
+    };
     assert!(rt;
         matches!(
             decode(0x8AB1_008F),
@@ -97,15 +91,8 @@ fn fields(rt: HostRuntime) {
             })
         )
     );
-    assert_eq!(rt; encode(&fence), 0x8AB1_008F);
-    assert!(rt; fence.reads() == (0, 0));
-    assert!(rt; srai.reads() == (0, 0));
-    let store = Ins::Sw {
-        rs1: 2,
-        rs2: 1,
-        imm: 12,
-    };
-    assert!(rt; store.reads() == (2, 1));
+    assert!(rt; encode(&fence) == 0x8AB1_008F);
+    assert!(rt; fence.reads() == (0, 0) && srai.reads() == (0, 0) && store.reads() == (2, 1));
 }
 
 static PLATFORM: Platform = Platform {
@@ -140,7 +127,7 @@ static COSTS: [(u32, bool, bool, u64); 10] = [
 fn costs(rt: HostRuntime) {
     for &(word, miss, taken, cycles) in &COSTS {
         match decode(word) {
-            Some(ins) => assert_eq!(rt; cost(&PLATFORM, &ins, miss, taken), cycles),
+            Some(ins) => assert!(rt; cost(&PLATFORM, &ins, miss, taken) == cycles),
             None => assert!(rt; false, "no row"),
         }
     }

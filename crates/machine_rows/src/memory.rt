@@ -52,7 +52,7 @@ fn put(memory: &mut DataMemory, address: u32, bytes: &[u8]) -> Result<(), Fail> 
 
 fn compare(rt: &impl Abort, memory: &DataMemory) {
     for &(address, byte) in &BYTES {
-        assert_eq!(rt; memory.byte(address), byte, "at {address:x}");
+        assert!(rt; memory.byte(address) == byte);
     }
 }
 

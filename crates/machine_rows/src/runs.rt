@@ -396,19 +396,38 @@ fn compare_cycles(
 }
 
 // Runs a script by both machines.
+fn compare_script(
+    rt: &impl Abort,
+    alloc: Global,
+    loaded: &Loaded,
+    script: &Script,
+) -> Result<(), Fail>
+    requires line { 0 < loaded.now.set.platform.line }
+    requires sets { (0 < loaded.now.set.platform.sets) × (loaded.now.set.platform.sets ≤ 512) }
+    requires plans { length loaded.now.code.plans ≡ length loaded.now.set.tasks }
+    requires tasks { NamesTasks loaded.now.set script.now.jobs }
+    requires jobs { length script.now.jobs < 2 ^ 32 }
+{
+    let (completions, kept) = run_fast(alloc, &loaded.code, &loaded.set, script)?;
+    compare_cycles(rt, alloc, loaded, script, &completions, kept)
+}
+
 fn compare(rt: &impl Abort, alloc: Global, case: &Case) -> Result<(), Fail> {
     let loaded = load(alloc, case.platform, case.programs)?;
     let script = script_of(alloc, &loaded.set, case.cycles, case.blocks, case.jobs)?;
-    let (completions, kept) = run_fast(alloc, &loaded.code, &loaded.set, &script)?;
-    compare_cycles(rt, alloc, &loaded, &script, &completions, kept)
+    compare_script(rt, alloc, &loaded, &script)
+}
+
+fn compare_cases(rt: &impl Abort, alloc: Global, cases: &[Case]) -> Result<(), Fail> {
+    for case in cases {
+        compare(rt, alloc, case)?;
+    }
+    Ok(())
 }
 
 #[test]
 fn scripts(rt: HostRuntime) -> Result<(), Fail> {
-    for case in &CASES {
-        compare(&rt, rt.alloc(), case)?;
-    }
-    Ok(())
+    compare_cases(&rt, rt.alloc(), &CASES)
 }
 
 static PLATFORMS: [Platform; 4] = [

@@ -101,16 +101,27 @@ fn late_text(alloc: Global, set: &TaskSet, certificate: &Certificate) -> Result<
     }
 }
 
+// The same with the certificate.
+fn late_told(alloc: Global, set: &TaskSet) -> Result<Vec<u8>, Fail> {
+    let certificate = certificate(alloc)?;
+    late_text(alloc, set, &certificate)
+}
+
+// The same with the set.
+fn told(alloc: Global) -> Result<Vec<u8>, Fail> {
+    let loaded = load(alloc, PLATFORM, &PROGRAMS)?;
+    late_told(alloc, &loaded.set)
+}
+
+static TEXT: &str = "generated 7 tasks 16 nodes 120\nyes\n\
+     high bound 10 window 15 response 50 method ucb\n\
+     jobs 7 answered 3 late 4\nrun legal kept\n";
+
 // A job that is not answered is late from its arrival plus its response on, and one that is
 // answered later than that.
 #[test]
 fn late_jobs(rt: HostRuntime) -> Result<(), Fail> {
-    let loaded = load(rt.alloc(), PLATFORM, &PROGRAMS)?;
-    let certificate = certificate(rt.alloc())?;
-    let made = late_text(rt.alloc(), &loaded.set, &certificate)?;
-    let text = "generated 7 tasks 16 nodes 120\nyes\n\
-        high bound 10 window 15 response 50 method ucb\n\
-        jobs 7 answered 3 late 4\nrun legal kept\n";
-    assert_eq!(rt; made.as_slice(), text.as_bytes());
+    let made = told(rt.alloc())?;
+    assert!(rt; made.as_slice() == TEXT.as_bytes());
     Ok(())
 }
