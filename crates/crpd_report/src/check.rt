@@ -16,53 +16,47 @@ fn method_name(method: Method) -> &'static str
     }
 }
 
-/// The times that a certificate states for a task.
-fn times_text(alloc: Global, part: &TaskPart) -> Result<String, AllocError>
-    ensures { IfOk result (λ text. string_bytes text ≡ spec.times_text part.now) }
+/// Adds the times that a certificate states for a task, and ends the line.
+fn add_times(text: &mut String, part: &TaskPart) -> Result<(), AllocError>
+    ensures { IfOk result (λ _.
+        string_bytes text.new ≡ string_bytes text.old ++ (spec.times_text part.now ++ 10 ∷ [])) }
 {
     let bound = part.part.bound;
     let window = part.window;
     let response = part.response;
     let method = method_name(part.method);
-    let text = format!(in alloc;
-        "bound {bound} window {window} response {response} method {method}"
-    )?;
-    Ok(text)
+    write!(
+        text,
+        "bound {bound} window {window} response {response} method {method}\n"
+    )
 }
 
 /// Adds the line of a task of this name.
-fn add_task(
-    alloc: Global,
-    text: &mut Vec<u8>,
-    name: &str,
-    part: &TaskPart,
-) -> Result<(), AllocError>
+fn add_task(text: &mut String, name: &str, part: &TaskPart) -> Result<(), AllocError>
     ensures { IfOk result (λ _.
-        text.new.items ≡ text.old.items
+        string_bytes text.new ≡ string_bytes text.old
         ++ (name.now ++ codes " " ++ spec.times_text part.now ++ 10 ∷ [])) }
 {
-    let times = times_text(alloc, part)?;
-    let line = format!(in alloc; "{name} {times}\n")?;
-    text.extend_from_slice(line.as_bytes())?;
-    Ok(())
+    write!(text, "{name} ")?;
+    add_times(text, part)
 }
 
-fn yes(alloc: Global, set: &TaskSet, certificate: &Certificate) -> Result<Vec<u8>, AllocError>
-    ensures { IfOk result (λ text. text.items ≡ spec.yes_text set.now certificate.now) }
+fn yes(alloc: Global, set: &TaskSet, certificate: &Certificate) -> Result<String, AllocError>
+    ensures { IfOk result (λ text. string_bytes text ≡ spec.yes_text set.now certificate.now) }
 {
-    let mut text = b"yes\n".to_vec(alloc)?;
+    let mut text = String::from_str(alloc, "yes\n")?;
     for (task, part) in set.tasks.iter().zip(certificate.tasks.as_slice()) {
-        add_task(alloc, &mut text, task.name.as_str(), part)?;
+        add_task(&mut text, task.name.as_str(), part)?;
     }
     Ok(text)
 }
 
 /// The line of a certificate that is not accepted.
-fn no(alloc: Global, name: &str, clause: u8, place: u32) -> Result<Vec<u8>, AllocError>
-    ensures { IfOk result (λ text. text.items ≡ spec.no_text name.now clause place) }
+fn no(alloc: Global, name: &str, clause: u8, place: u32) -> Result<String, AllocError>
+    ensures { IfOk result (λ text. string_bytes text ≡ spec.no_text name.now clause place) }
 {
     let text = format!(in alloc; "no {name} clause {clause} place {place}\n")?;
-    Ok(text.into_bytes())
+    Ok(text)
 }
 
 fn lines(
@@ -70,9 +64,9 @@ fn lines(
     set: &TaskSet,
     certificate: &Certificate,
     verdict: &Verdict,
-) -> Result<Vec<u8>, AllocError>
+) -> Result<String, AllocError>
     ensures { IfOk result (λ text.
-        text.items ≡ spec.check_text set.now certificate.now verdict.now) }
+        string_bytes text ≡ spec.check_text set.now certificate.now verdict.now) }
 {
     match *verdict {
         Verdict::Yes => yes(alloc, set, certificate),
@@ -101,7 +95,7 @@ pub fn check_text(
         text.items ≡ spec.check_text set.now certificate.now verdict.now) }
 {
     match lines(alloc, set, certificate, verdict) {
-        Ok(text) => Ok(text),
+        Ok(text) => Ok(text.into_bytes()),
         Err(_) => Err(Memory),
     }
 }

@@ -15,61 +15,58 @@ use run_account::{Account, Entry};
 use script_reader::legal;
 use std::alloc::{AllocError, Global};
 
-/// A job, by its task's name and its number.
-fn job_name(alloc: Global, set: &TaskSet, job: JobId) -> Result<String, AllocError>
-    ensures { IfOk result (λ text. string_bytes text ≡ spec.job_name set.now job) }
+/// Adds a job, by its task's name and its number.
+fn add_job_name(text: &mut String, set: &TaskSet, job: JobId) -> Result<(), AllocError>
+    ensures { IfOk result (λ _.
+        string_bytes text.new ≡ string_bytes text.old ++ spec.job_name set.now job) }
 {
     let name = task_name(set, job.task);
     let number = job.number;
-    let text = format!(in alloc; "{name} {number}")?;
-    Ok(text)
+    write!(text, "{name} {number}")
 }
 
-/// What a reload's line tells of the miss.
-fn miss_text(alloc: Global, set: &TaskSet, reload: &Entry) -> Result<String, AllocError>
-    ensures { IfOk result (λ text. string_bytes text ≡ spec.miss_text set.now reload.now) }
+/// Adds what a reload's line tells of the miss.
+fn add_miss(text: &mut String, set: &TaskSet, reload: &Entry) -> Result<(), AllocError>
+    ensures { IfOk result (λ _.
+        string_bytes text.new ≡ string_bytes text.old ++ spec.miss_text set.now reload.now) }
 {
-    let job = job_name(alloc, set, reload.job)?;
     let number = reload.set;
     let time = reload.time;
-    let text = format!(in alloc; "reload {job} set {number} cycle {time}")?;
-    Ok(text)
+    text.push_str("reload ")?;
+    add_job_name(text, set, reload.job)?;
+    write!(text, " set {number} cycle {time}")
 }
 
-/// What a reload's line tells of its cause.
-fn cause_text(alloc: Global, set: &TaskSet, reload: &Entry) -> Result<String, AllocError>
-    ensures { IfOk result (λ text. string_bytes text ≡ spec.cause_text set.now reload.now) }
+/// Adds what a reload's line tells of its cause.
+fn add_cause(text: &mut String, set: &TaskSet, reload: &Entry) -> Result<(), AllocError>
+    ensures { IfOk result (λ _.
+        string_bytes text.new ≡ string_bytes text.old ++ spec.cause_text set.now reload.now) }
 {
-    let evictor = job_name(alloc, set, reload.evictor)?;
-    let preemptor = job_name(alloc, set, reload.preemptor)?;
-    let text = format!(in alloc; "evictor {evictor} preemptor {preemptor}")?;
-    Ok(text)
+    text.push_str("evictor ")?;
+    add_job_name(text, set, reload.evictor)?;
+    text.push_str(" preemptor ")?;
+    add_job_name(text, set, reload.preemptor)
 }
 
-/// The line of a reload.
-fn reload_line(alloc: Global, set: &TaskSet, reload: &Entry) -> Result<String, AllocError>
-    ensures { IfOk result (λ line. string_bytes line ≡ spec.reload_line set.now reload.now) }
+/// Adds the line of a reload.
+fn add_reload(text: &mut String, set: &TaskSet, reload: &Entry) -> Result<(), AllocError>
+    ensures { IfOk result (λ _.
+        string_bytes text.new ≡ string_bytes text.old ++ spec.reload_line set.now reload.now) }
 {
-    let miss = miss_text(alloc, set, reload)?;
-    let cause = cause_text(alloc, set, reload)?;
-    let line = format!(in alloc; "{miss} {cause}\n")?;
-    Ok(line)
+    add_miss(text, set, reload)?;
+    text.push_str(" ")?;
+    add_cause(text, set, reload)?;
+    text.push_str("\n")
 }
 
 /// Adds a line for each reload.
 #[tactic(auto, unfolding(crate::specs::Explain::reload_lines))]
-fn add_reloads(
-    alloc: Global,
-    text: &mut Vec<u8>,
-    set: &TaskSet,
-    reloads: &[Entry],
-) -> Result<(), AllocError>
+fn add_reloads(text: &mut String, set: &TaskSet, reloads: &[Entry]) -> Result<(), AllocError>
     ensures { IfOk result (λ _.
-        text.new.items ≡ text.old.items ++ spec.reload_lines set.now reloads.now) }
+        string_bytes text.new ≡ string_bytes text.old ++ spec.reload_lines set.now reloads.now) }
 {
     for reload in reloads {
-        let line = reload_line(alloc, set, reload)?;
-        text.extend_from_slice(line.as_bytes())?;
+        add_reload(text, set, reload)?;
     }
     Ok(())
 }
@@ -89,27 +86,25 @@ fn windows_of(alloc: Global, tasks: &[TaskPart]) -> Result<Vec<u64>, AllocError>
 }
 
 /// Adds the line of the delays that are charged to a task of this name.
-fn add_delay(alloc: Global, text: &mut Vec<u8>, name: &str, delay: u128) -> Result<(), AllocError>
+fn add_delay(text: &mut String, name: &str, delay: u128) -> Result<(), AllocError>
     ensures { IfOk result (λ _.
-        text.new.items ≡ text.old.items
+        string_bytes text.new ≡ string_bytes text.old
         ++ (codes "delay " ++ name.now ++ codes " " ++ decimal delay ++ 10 ∷ [])) }
 {
-    let line = format!(in alloc; "delay {name} {delay}\n")?;
-    text.extend_from_slice(line.as_bytes())?;
-    Ok(())
+    write!(text, "delay {name} {delay}\n")
 }
 
 /// Adds a line for each task of the set, with the delays that the certificate charges to it.
 fn add_delays(
     alloc: Global,
-    text: &mut Vec<u8>,
+    text: &mut String,
     set: &TaskSet,
     certificate: &Certificate,
 ) -> Result<(), AllocError>
     requires set { IsTaskSet set.now }
     requires certificate { HasWindowOfEach set.now certificate.now }
     ensures { IfOk result (λ _.
-        text.new.items ≡ text.old.items ++ spec.delay_lines set.now certificate.now) }
+        string_bytes text.new ≡ string_bytes text.old ++ spec.delay_lines set.now certificate.now) }
 {
     let tasks = certificate.tasks.as_slice();
     let parts = parts_of(alloc, tasks)?;
@@ -118,7 +113,7 @@ fn add_delays(
         let part = &tasks[place];
         let task = Task(place as u8);
         let delay = charged_delays(set, &parts, &windows, task, part.method, part.window);
-        add_delay(alloc, text, task_name(set, task), delay)?;
+        add_delay(text, task_name(set, task), delay)?;
     }
     Ok(())
 }
@@ -129,18 +124,18 @@ fn lines(
     certificate: &Certificate,
     script: &Script,
     account: &Account,
-) -> Result<Vec<u8>, AllocError>
+) -> Result<String, AllocError>
     requires set { IsTaskSet set.now }
     requires certificate { HasWindowOfEach set.now certificate.now }
     requires script { NamesTasks set.now script.now.jobs }
     ensures { IfOk result (λ text.
-        text.items ≡ spec.explain_text set.now certificate.now script.now account.now) }
+        string_bytes text ≡ spec.explain_text set.now certificate.now script.now account.now) }
 {
-    let mut text = Vec::new(alloc);
-    add_reloads(alloc, &mut text, set, account.entries.as_slice())?;
+    let mut text = String::new(alloc);
+    add_reloads(&mut text, set, account.entries.as_slice())?;
     add_delays(alloc, &mut text, set, certificate)?;
     let line = run_line(legal(set, script), account.kept);
-    text.extend_from_slice(line.as_bytes())?;
+    text.push_str(line)?;
     Ok(text)
 }
 
@@ -167,7 +162,7 @@ pub fn explain_text(
         text.items ≡ spec.explain_text set.now certificate.now script.now account.now) }
 {
     match lines(alloc, set, certificate, script, account) {
-        Ok(text) => Ok(text),
+        Ok(text) => Ok(text.into_bytes()),
         Err(_) => Err(Memory),
     }
 }

@@ -1,26 +1,26 @@
 // The text of the evicting and useful cache sets of tasks.
-ghost use Rattle.std.specs.Prelude.{◌≡◌, [], ◌∷◌, ◌++◌, codes, IfOk};
+ghost use Rattle.std.specs.Prelude.{◌≡◌, [], ◌∷◌, ◌++◌, codes, string_bytes, IfOk};
 ghost use Rattle.crpd_report.specs.Sets as spec;
 
 use crpd_base::{Memory, Part, SETS, SetBits, TaskSet, WORDS};
 use std::alloc::{AllocError, Global};
 
 /// Adds a number with a space before it.
-fn add_number(alloc: Global, text: &mut Vec<u8>, number: usize) -> Result<(), AllocError>
-    ensures { IfOk result (λ _. text.new.items ≡ text.old.items ++ spec.number_text number) }
+fn add_number(text: &mut String, number: usize) -> Result<(), AllocError>
+    ensures { IfOk result (λ _.
+        string_bytes text.new ≡ string_bytes text.old ++ spec.number_text number) }
 {
-    let item = format!(in alloc; " {number}")?;
-    text.extend_from_slice(item.as_bytes())?;
-    Ok(())
+    write!(text, " {number}")
 }
 
 /// Adds the numbers of a set, in increasing order.
-fn add_numbers(alloc: Global, text: &mut Vec<u8>, set: &SetBits<WORDS>) -> Result<(), AllocError>
-    ensures { IfOk result (λ _. text.new.items ≡ text.old.items ++ spec.numbers_text set.now) }
+fn add_numbers(text: &mut String, set: &SetBits<WORDS>) -> Result<(), AllocError>
+    ensures { IfOk result (λ _.
+        string_bytes text.new ≡ string_bytes text.old ++ spec.numbers_text set.now) }
 {
     for number in 0..SETS {
         if set.has(number as u16) {
-            add_number(alloc, text, number)?;
+            add_number(text, number)?;
         }
     }
     Ok(())
@@ -28,40 +28,35 @@ fn add_numbers(alloc: Global, text: &mut Vec<u8>, set: &SetBits<WORDS>) -> Resul
 
 /// Adds the line of a task of this name with its sets of one kind.
 fn add_line(
-    alloc: Global,
-    text: &mut Vec<u8>,
+    text: &mut String,
     name: &str,
     kind: &str,
     set: &SetBits<WORDS>,
 ) -> Result<(), AllocError>
     ensures { IfOk result (λ _.
-        text.new.items ≡ text.old.items
+        string_bytes text.new ≡ string_bytes text.old
         ++ (name.now ++ codes " " ++ kind.now ++ spec.numbers_text set.now ++ 10 ∷ [])) }
 {
-    text.extend_from_slice(name.as_bytes())?;
-    text.extend_from_slice(b" ")?;
-    text.extend_from_slice(kind.as_bytes())?;
-    add_numbers(alloc, text, set)?;
-    text.extend_from_slice(b"\n")?;
-    Ok(())
+    write!(text, "{name} {kind}")?;
+    add_numbers(text, set)?;
+    text.push_str("\n")
 }
 
 /// Adds the two lines of a task of this name.
-fn add_task(alloc: Global, text: &mut Vec<u8>, name: &str, part: &Part) -> Result<(), AllocError>
+fn add_task(text: &mut String, name: &str, part: &Part) -> Result<(), AllocError>
     ensures { IfOk result (λ _.
-        text.new.items ≡ text.old.items ++ spec.part_lines name.now part.now) }
+        string_bytes text.new ≡ string_bytes text.old ++ spec.part_lines name.now part.now) }
 {
-    add_line(alloc, text, name, "evicting", &part.evicting)?;
-    add_line(alloc, text, name, "useful", &part.useful)?;
-    Ok(())
+    add_line(text, name, "evicting", &part.evicting)?;
+    add_line(text, name, "useful", &part.useful)
 }
 
-fn lines(alloc: Global, set: &TaskSet, parts: &[Part]) -> Result<Vec<u8>, AllocError>
-    ensures { IfOk result (λ text. text.items ≡ spec.sets_text set.now parts.now) }
+fn lines(alloc: Global, set: &TaskSet, parts: &[Part]) -> Result<String, AllocError>
+    ensures { IfOk result (λ text. string_bytes text ≡ spec.sets_text set.now parts.now) }
 {
-    let mut text = Vec::new(alloc);
+    let mut text = String::new(alloc);
     for (task, part) in set.tasks.iter().zip(parts) {
-        add_task(alloc, &mut text, task.name.as_str(), part)?;
+        add_task(&mut text, task.name.as_str(), part)?;
     }
     Ok(text)
 }
@@ -78,7 +73,7 @@ pub fn sets_text(alloc: Global, set: &TaskSet, parts: &[Part]) -> Result<Vec<u8>
     ensures { IfOk result (λ text. text.items ≡ spec.sets_text set.now parts.now) }
 {
     match lines(alloc, set, parts) {
-        Ok(text) => Ok(text),
+        Ok(text) => Ok(text.into_bytes()),
         Err(_) => Err(Memory),
     }
 }

@@ -1,9 +1,10 @@
 use Rattle.std.proofs.Common.{◌≡◌, [], ◌∷◌, ◌++◌, codes, length, take}
+use Rattle.std.specs.Prelude.{string_bytes}
 use Rattle.std.specs.List.{flat_map, zip}
 use Rattle.crpd_report.specs.Check.{task_line}
 use Rattle.crpd_report.proofs.check.yes.Given as goal
 
 abbrev pub invariant-loop-task : goal.invariant-loop-task
 invariant-loop-task l =
-    l.text.items ≡ (codes "yes" ++ 10 ∷ [])
+    string_bytes l.text ≡ (codes "yes" ++ 10 ∷ [])
     ++ flat_map task_line (take (length l.yielded) (zip l.set.tasks l.certificate.tasks))

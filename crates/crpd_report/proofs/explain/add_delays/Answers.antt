@@ -1,6 +1,6 @@
 use Rattle.std.proofs.Common.{◌≡◌, [], ◌∷◌, ◌++◌, List, get_or, length, map, ap, subst, ◌∙◌}
 use Rattle.std.proofs.Common.{arith}
-use Rattle.std.specs.Prelude.{codes}
+use Rattle.std.specs.Prelude.{codes, string_bytes}
 use Rattle.std.specs.Fmt.{decimal}
 use Rattle.std.specs.List.{flat_map, range_with_len}
 use Rattle.cert_check.proofs.Names.{part_is}
@@ -76,13 +76,14 @@ loop-place-preserved c =
     delay_is c.args.certificate.now c.deref.result.now c.deref-in-loop-place.result.now ps ws
     c.args.set.now c.loop-place.place c.index-tasks-place.result c.charged_delays-delay.result at
     c.charged_delays-delay.ensures in
-    one_place_more (delay_line c.args.set.now c.args.certificate.now) c.args.text.now.items
-    c.loop-place.place c.loop-place.text.items c.add_delay.new.text.items c.loop-place.invariant
+    one_place_more (delay_line c.args.set.now c.args.certificate.now) (string_bytes c.args.text.now)
+    c.loop-place.place (string_bytes c.loop-place.text) (string_bytes c.add_delay.new.text)
+    c.loop-place.invariant
     (c.in_ok-add_delay.ensures
-    ∙ ap (λ name. c.loop-place.text.items
+    ∙ ap (λ name. string_bytes c.loop-place.text
     ++ (codes "delay " ++ name ++ codes " " ++ decimal c.charged_delays-delay.result ++ 10 ∷ []))
     c.task_name.ensures
-    ∙ ap (λ d. c.loop-place.text.items
+    ∙ ap (λ d. string_bytes c.loop-place.text
     ++ (codes "delay " ++ name_of c.args.set.now (record { 0 = c.loop-place.place }) ++ codes " "
     ++ decimal d ++ 10 ∷ [])) delay)
 
@@ -98,5 +99,5 @@ returns c =
       c.requires.certificate.tasks,
     ) in
     c.loop-place.invariant ∙ ap
-    (λ n. c.args.text.now.items ++ flat_map (delay_line c.args.set.now c.args.certificate.now)
-    (range_with_len 0 n)) long
+    (λ n. string_bytes c.args.text.now
+    ++ flat_map (delay_line c.args.set.now c.args.certificate.now) (range_with_len 0 n)) long

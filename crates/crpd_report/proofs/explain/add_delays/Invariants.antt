@@ -1,9 +1,10 @@
 use Rattle.std.proofs.Common.{◌≡◌, ◌++◌}
+use Rattle.std.specs.Prelude.{string_bytes}
 use Rattle.std.specs.List.{flat_map, range_with_len}
 use Rattle.crpd_report.specs.Explain.{delay_line}
 use Rattle.crpd_report.proofs.explain.add_delays.Given as goal
 
 abbrev pub invariant-loop-place : goal.invariant-loop-place
 invariant-loop-place l =
-    l.text.items ≡ l.fn.text.items ++ flat_map (delay_line l.set l.certificate)
+    string_bytes l.text ≡ string_bytes l.fn.text ++ flat_map (delay_line l.set l.certificate)
     (range_with_len 0 l.place)

@@ -1,8 +1,10 @@
 use Rattle.std.proofs.Common.{◌≡◌, ◌++◌, take}
+use Rattle.std.specs.Prelude.{string_bytes}
 use Rattle.std.specs.List.{flat_map}
 use Rattle.crpd_report.specs.Explain.{reload_line}
 use Rattle.crpd_report.proofs.explain.add_reloads.Given as goal
 
 abbrev pub invariant-loop-reload : goal.invariant-loop-reload
 invariant-loop-reload l =
-    l.text.items ≡ l.fn.text.items ++ flat_map (reload_line l.set) (take l.reload-index l.reloads)
+    string_bytes l.text ≡ string_bytes l.fn.text
+    ++ flat_map (reload_line l.set) (take l.reload-index l.reloads)

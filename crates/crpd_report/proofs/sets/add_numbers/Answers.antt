@@ -1,4 +1,5 @@
 use Rattle.std.proofs.Common.{◌≡◌, ◌+◌, ◌++◌, ◌∙◌, refl, sym, ap, arith}
+use Rattle.std.specs.Prelude.{string_bytes}
 use Rattle.std.specs.List.{flat_map}
 use Rattle.crpd_base.specs.Sets.{has}
 use Rattle.crpd_report.specs.List.{those_below}
@@ -8,7 +9,7 @@ use Rattle.crpd_report.proofs.sets.add_numbers.Goals as goal
 use Rattle.crpd_report.proofs.sets.add_numbers.Goals.{then-has+in_ok-add_number, else-has}
 
 pub loop-number-init : goal.loop-number-init
-loop-number-init c = none_yet number_text (has c.args.set.now) c.args.text.now.items
+loop-number-init c = none_yet number_text (has c.args.set.now) (string_bytes c.args.text.now)
 
 pub loop-number-preserved : goal.loop-number-preserved
 loop-number-preserved c =
@@ -17,13 +18,13 @@ loop-number-preserved c =
     is_the_test c.args.set.now n c.has.result c.has.ensures in
     elim c.if-has.branch [
       | then-has+in_ok-add_number w ↦
-          let e = passed number_text (has c.args.set.now) c.args.text.now.items
-          c.loop-number.text.items n (n + 1) refl (sym same ∙ w.if-has.true)
+          let e = passed number_text (has c.args.set.now) (string_bytes c.args.text.now)
+          (string_bytes c.loop-number.text) n (n + 1) refl (sym same ∙ w.if-has.true)
           c.loop-number.invariant in
           grind (arith, e, w.text-is, w.in_ok-add_number.ensures)
       | else-has w ↦
-          let e = failed number_text (has c.args.set.now) c.args.text.now.items
-          c.loop-number.text.items n (n + 1) refl (sym same ∙ w.if-has.false)
+          let e = failed number_text (has c.args.set.now) (string_bytes c.args.text.now)
+          (string_bytes c.loop-number.text) n (n + 1) refl (sym same ∙ w.if-has.false)
           c.loop-number.invariant in
           grind (arith, e, w.text-is)
     ]
@@ -34,4 +35,5 @@ returns c =
     let all : c.loop-number.number ≡ 512 =
     omega (arith, c.loop-number-test.false, c.loop-number.auto.number-end) in
     c.loop-number.invariant ∙ ap
-    (λ n. c.args.text.now.items ++ flat_map number_text (those_below n (has c.args.set.now))) all
+    (λ n. string_bytes c.args.text.now
+    ++ flat_map number_text (those_below n (has c.args.set.now))) all

@@ -1,4 +1,5 @@
 use Rattle.std.proofs.Common.{◌≡◌, ◌++◌}
+use Rattle.std.specs.Prelude.{string_bytes}
 use Rattle.std.specs.List.{flat_map}
 use Rattle.crpd_base.specs.Sets.{has}
 use Rattle.crpd_report.specs.List.{those_below}
@@ -7,4 +8,5 @@ use Rattle.crpd_report.proofs.sets.add_numbers.Given as goal
 
 abbrev pub invariant-loop-number : goal.invariant-loop-number
 invariant-loop-number l =
-    l.text.items ≡ l.fn.text.items ++ flat_map number_text (those_below l.number (has l.set))
+    string_bytes l.text ≡ string_bytes l.fn.text
+    ++ flat_map number_text (those_below l.number (has l.set))

@@ -1,4 +1,5 @@
 use Rattle.std.proofs.Common.{◌≡◌, [], ◌∷◌, ◌++◌, length, length-append, rules}
+use Rattle.std.specs.Prelude.{string_bytes}
 use Rattle.std.specs.Iterator.Adapters.{zip_first, zip_second}
 use Rattle.std.specs.Slice.Iter.{iter_rest}
 use Rattle.std.proofs.lemmas.Slice.Zip.{zip_end, zip_turn}
@@ -19,7 +20,7 @@ loop-task-preserved c =
     one_line_more task_lines c.args.set.now.tasks c.args.parts.now [] (length c.loop-task.yielded)
     (length (c.loop-task.yielded ++ (c.in-Some.task, c.in-Some.part) ∷ [])) c.in-Some.task.now
     c.in-Some.part.now
-    c.loop-task.text.items c.add_task.new.text.items
+    (string_bytes c.loop-task.text) (string_bytes c.add_task.new.text)
     (length-append c.loop-task.yielded ((c.in-Some.task, c.in-Some.part) ∷ [])) turn.0 turn.1
     (turn.2 c.in-Some.task.now) (turn.3 c.in-Some.part.now)
     c.loop-task.invariant (search rules)
@@ -32,7 +33,7 @@ returns c =
     let second : iter_rest (zip_second c.into_iter-task-iterator.result) ≡ c.args.parts.now =
     search rules in
     all_the_lines task_lines c.args.set.now.tasks c.args.parts.now [] (length c.loop-task.yielded)
-    c.loop-task.text.items
+    (string_bytes c.loop-task.text)
     (zip_end c.args.set.now.tasks c.args.parts.now c.loop-task.yielded
     c.into_iter-task-iterator.result c.loop-task.task-iterator c.next.new.self c.next.result first
     second c.loop-task.yielded_by c.in-None.is c.next.ensures.steps)

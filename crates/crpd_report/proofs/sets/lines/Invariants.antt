@@ -1,8 +1,10 @@
 use Rattle.std.proofs.Common.{◌≡◌, [], ◌++◌, length, take}
+use Rattle.std.specs.Prelude.{string_bytes}
 use Rattle.std.specs.List.{flat_map, zip}
 use Rattle.crpd_report.specs.Sets.{task_lines}
 use Rattle.crpd_report.proofs.sets.lines.Given as goal
 
 abbrev pub invariant-loop-task : goal.invariant-loop-task
 invariant-loop-task l =
-    l.text.items ≡ [] ++ flat_map task_lines (take (length l.yielded) (zip l.set.tasks l.parts))
+    string_bytes l.text
+    ≡ [] ++ flat_map task_lines (take (length l.yielded) (zip l.set.tasks l.parts))

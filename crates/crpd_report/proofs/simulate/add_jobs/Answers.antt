@@ -1,4 +1,5 @@
 use Rattle.std.proofs.Common.{◌≡◌, [], ◌∷◌, ◌++◌, length, length-append, rules}
+use Rattle.std.specs.Prelude.{string_bytes}
 use Rattle.std.specs.Iterator.Adapters.{zip_first, zip_second}
 use Rattle.std.specs.Slice.Iter.{iter_rest}
 use Rattle.std.proofs.lemmas.Slice.Zip.{zip_end, zip_turn}
@@ -17,10 +18,10 @@ loop-job-preserved c =
     second c.loop-job.yielded_by (c.in-Some.job, c.in-Some.completion) c.in-Some.is
     c.next.ensures.steps in
     one_line_more (job_line c.args.set.now) c.args.jobs.now c.args.completions.now
-    c.args.text.now.items (length c.loop-job.yielded)
+    (string_bytes c.args.text.now) (length c.loop-job.yielded)
     (length (c.loop-job.yielded ++ (c.in-Some.job, c.in-Some.completion) ∷ [])) c.in-Some.job.now
     c.in-Some.completion.now
-    c.loop-job.text.items c.add_job.new.text.items
+    (string_bytes c.loop-job.text) (string_bytes c.add_job.new.text)
     (length-append c.loop-job.yielded ((c.in-Some.job, c.in-Some.completion) ∷ [])) turn.0 turn.1
     (turn.2 c.in-Some.job.now) (turn.3 c.in-Some.completion.now)
     c.loop-job.invariant (search rules)
@@ -33,7 +34,7 @@ returns c =
     let second : iter_rest (zip_second c.into_iter-job-iterator.result) ≡ c.args.completions.now =
     search rules in
     all_the_lines (job_line c.args.set.now) c.args.jobs.now c.args.completions.now
-    c.args.text.now.items (length c.loop-job.yielded) c.loop-job.text.items
+    (string_bytes c.args.text.now) (length c.loop-job.yielded) (string_bytes c.loop-job.text)
     (zip_end c.args.jobs.now c.args.completions.now c.loop-job.yielded
     c.into_iter-job-iterator.result c.loop-job.job-iterator c.next.new.self c.next.result first
     second c.loop-job.yielded_by c.in-None.is c.next.ensures.steps)

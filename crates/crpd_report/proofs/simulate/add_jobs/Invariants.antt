@@ -1,9 +1,10 @@
 use Rattle.std.proofs.Common.{◌≡◌, ◌++◌, length, take}
+use Rattle.std.specs.Prelude.{string_bytes}
 use Rattle.std.specs.List.{flat_map, zip}
 use Rattle.crpd_report.specs.Simulate.{job_line}
 use Rattle.crpd_report.proofs.simulate.add_jobs.Given as goal
 
 abbrev pub invariant-loop-job : goal.invariant-loop-job
 invariant-loop-job l =
-    l.text.items ≡ l.fn.text.items
+    string_bytes l.text ≡ string_bytes l.fn.text
     ++ flat_map (job_line l.set) (take (length l.yielded) (zip l.jobs l.completions))
