@@ -41,40 +41,44 @@ fn add_task(text: &mut String, name: &str, part: &TaskPart) -> Result<(), AllocE
     add_times(text, part)
 }
 
-fn yes(alloc: Global, set: &TaskSet, certificate: &Certificate) -> Result<String, AllocError>
-    ensures { IfOk result (λ text. string_bytes text ≡ spec.yes_text set.now certificate.now) }
+/// Adds the lines of a certificate that is accepted.
+fn add_yes(text: &mut String, set: &TaskSet, certificate: &Certificate) -> Result<(), AllocError>
+    ensures { IfOk result (λ _.
+        string_bytes text.new ≡ string_bytes text.old ++ spec.yes_text set.now certificate.now) }
 {
-    let mut text = String::from_str(alloc, "yes\n")?;
+    text.push_str("yes\n")?;
     for (task, part) in set.tasks.iter().zip(certificate.tasks.as_slice()) {
-        add_task(&mut text, task.name.as_str(), part)?;
+        add_task(text, task.name.as_str(), part)?;
     }
-    Ok(text)
+    Ok(())
 }
 
-/// The line of a certificate that is not accepted.
-fn no(alloc: Global, name: &str, clause: u8, place: u32) -> Result<String, AllocError>
-    ensures { IfOk result (λ text. string_bytes text ≡ spec.no_text name.now clause place) }
+/// Adds the line of a certificate that is not accepted.
+fn add_no(text: &mut String, name: &str, clause: u8, place: u32) -> Result<(), AllocError>
+    ensures { IfOk result (λ _.
+        string_bytes text.new ≡ string_bytes text.old ++ spec.no_text name.now clause place) }
 {
-    let text = format!(in alloc; "no {name} clause {clause} place {place}\n")?;
-    Ok(text)
+    write!(text, "no {name} clause {clause} place {place}\n")
 }
 
-fn lines(
-    alloc: Global,
+/// Adds the text of a verdict on a certificate.
+pub(crate) fn add_verdict(
+    text: &mut String,
     set: &TaskSet,
     certificate: &Certificate,
     verdict: &Verdict,
-) -> Result<String, AllocError>
-    ensures { IfOk result (λ text.
-        string_bytes text ≡ spec.check_text set.now certificate.now verdict.now) }
+) -> Result<(), AllocError>
+    ensures { IfOk result (λ _.
+        string_bytes text.new ≡ string_bytes text.old
+        ++ spec.check_text set.now certificate.now verdict.now) }
 {
     match *verdict {
-        Verdict::Yes => yes(alloc, set, certificate),
+        Verdict::Yes => add_yes(text, set, certificate),
         Verdict::No {
             task,
             clause,
             place,
-        } => no(alloc, task_name(set, task), clause, place),
+        } => add_no(text, task_name(set, task), clause, place),
     }
 }
 
@@ -94,8 +98,9 @@ pub fn check_text(
     ensures { IfOk result (λ text.
         text.items ≡ spec.check_text set.now certificate.now verdict.now) }
 {
-    match lines(alloc, set, certificate, verdict) {
-        Ok(text) => Ok(text.into_bytes()),
+    let mut text = String::new(alloc);
+    match add_verdict(&mut text, set, certificate, verdict) {
+        Ok(()) => Ok(text.into_bytes()),
         Err(_) => Err(Memory),
     }
 }

@@ -1,5 +1,5 @@
 use Rattle.std.proofs.Common.{rules}
-use Rattle.crpd_report.proofs.check.lines.Goals as goal
+use Rattle.crpd_report.proofs.check.add_verdict.Goals as goal
 
 pub returns-in-Yes : goal.returns-in-Yes
 returns-in-Yes c = search rules

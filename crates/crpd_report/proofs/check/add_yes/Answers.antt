@@ -1,11 +1,12 @@
 use Rattle.std.proofs.Common.{◌≡◌, [], ◌∷◌, ◌++◌, codes, length, length-append, rules}
+use Rattle.std.proofs.Common.{◌∙◌, append_assoc}
 use Rattle.std.specs.Prelude.{string_bytes}
 use Rattle.std.specs.Iterator.Adapters.{zip_first, zip_second}
 use Rattle.std.specs.Slice.Iter.{iter_rest}
 use Rattle.std.proofs.lemmas.Slice.Zip.{zip_end, zip_turn}
 use Rattle.crpd_report.specs.Check.{task_line, yes_text}
 use Rattle.crpd_report.proofs.Zipped.{all_the_lines, one_line_more}
-use Rattle.crpd_report.proofs.check.yes.Goals as goal
+use Rattle.crpd_report.proofs.check.add_yes.Goals as goal
 
 pub loop-task-preserved : goal.loop-task-preserved
 loop-task-preserved c =
@@ -18,7 +19,7 @@ loop-task-preserved c =
     second c.loop-task.yielded_by (c.in-Some.task, c.in-Some.part) c.in-Some.is
     c.next.ensures.steps in
     one_line_more task_line c.args.set.now.tasks c.args.certificate.now.tasks
-    (codes "yes" ++ 10 ∷ []) (length c.loop-task.yielded)
+    (string_bytes c.args.text.now ++ (codes "yes" ++ 10 ∷ [])) (length c.loop-task.yielded)
     (length (c.loop-task.yielded ++ (c.in-Some.task, c.in-Some.part) ∷ [])) c.in-Some.task.now
     c.in-Some.part.now
     (string_bytes c.loop-task.text) (string_bytes c.add_task.new.text)
@@ -34,8 +35,10 @@ returns c =
     let second : iter_rest (zip_second c.into_iter-task-iterator.result)
     ≡ c.args.certificate.now.tasks = search rules in
     all_the_lines task_line c.args.set.now.tasks c.args.certificate.now.tasks
-    (codes "yes" ++ 10 ∷ []) (length c.loop-task.yielded) (string_bytes c.loop-task.text)
+    (string_bytes c.args.text.now ++ (codes "yes" ++ 10 ∷ [])) (length c.loop-task.yielded)
+    (string_bytes c.loop-task.text)
     (zip_end c.args.set.now.tasks c.args.certificate.now.tasks c.loop-task.yielded
     c.into_iter-task-iterator.result c.loop-task.task-iterator c.next.new.self c.next.result first
     second c.loop-task.yielded_by c.in-None.is c.next.ensures.steps)
     c.loop-task.invariant
+    ∙ append_assoc (string_bytes c.args.text.now) (codes "yes" ++ 10 ∷ []) _

@@ -1,6 +1,6 @@
 use Rattle.std.proofs.Common.{arith}
 use Rattle.std.proofs.lemmas.Grind.{common_steps}
-use Rattle.crpd_report.proofs.generate.made_text.Goals as goal
+use Rattle.crpd_report.proofs.simulate.add_job.Goals as goal
 
 pub returns : goal.returns
 returns c = grind (arith, common_steps)

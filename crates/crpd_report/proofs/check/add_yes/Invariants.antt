@@ -2,9 +2,9 @@ use Rattle.std.proofs.Common.{◌≡◌, [], ◌∷◌, ◌++◌, codes, length,
 use Rattle.std.specs.Prelude.{string_bytes}
 use Rattle.std.specs.List.{flat_map, zip}
 use Rattle.crpd_report.specs.Check.{task_line}
-use Rattle.crpd_report.proofs.check.yes.Given as goal
+use Rattle.crpd_report.proofs.check.add_yes.Given as goal
 
 abbrev pub invariant-loop-task : goal.invariant-loop-task
 invariant-loop-task l =
-    string_bytes l.text ≡ (codes "yes" ++ 10 ∷ [])
+    string_bytes l.text ≡ (string_bytes l.fn.text ++ (codes "yes" ++ 10 ∷ []))
     ++ flat_map task_line (take (length l.yielded) (zip l.set.tasks l.certificate.tasks))
