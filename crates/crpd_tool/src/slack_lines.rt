@@ -1,46 +1,51 @@
 // The text of the greatest costs.
-ghost use Rattle.std.specs.Prelude.{◌≡◌, string_bytes, IfOk};
+ghost use Rattle.std.specs.Prelude.{◌≡◌, ◌++◌, string_bytes, IfOk};
 ghost use Rattle.crpd_tool.specs.SlackText as spec;
 
 use crpd_base::{TaskSet, task_name};
 use sensitivity::{Slack, Stop};
 use std::alloc::{AllocError, Global};
 
-/// The greatest cost in decimal, or `none`.
-fn cost_text(alloc: Global, greatest: Option<u32>) -> Result<String, AllocError>
-    ensures { IfOk result (λ text. string_bytes text ≡ spec.cost_text greatest) }
+/// Adds the greatest cost in decimal, or `none`.
+fn add_cost(text: &mut String, greatest: Option<u32>) -> Result<(), AllocError>
+    ensures { IfOk result (λ _.
+        string_bytes text.new ≡ string_bytes text.old ++ spec.cost_text greatest) }
 {
     match greatest {
-        None => Ok(String::from_str(alloc, "none")?),
-        Some(cost) => Ok(format!(in alloc; "{cost}")?),
+        None => text.push_str("none"),
+        Some(cost) => write!(text, "{cost}"),
     }
 }
 
-/// Why a cost is not greater.
-fn stop_text(alloc: Global, set: &TaskSet, stop: Stop) -> Result<String, AllocError>
-    ensures { IfOk result (λ text. string_bytes text ≡ spec.stop_text set.now stop) }
+/// Adds why a cost is not greater.
+fn add_stop(text: &mut String, set: &TaskSet, stop: Stop) -> Result<(), AllocError>
+    ensures { IfOk result (λ _.
+        string_bytes text.new ≡ string_bytes text.old ++ spec.stop_text set.now stop) }
 {
     match stop {
-        Stop::Limit => Ok(String::from_str(alloc, "limit")?),
+        Stop::Limit => text.push_str("limit"),
         Stop::Window(task) => {
             let name = task_name(set, task);
-            Ok(format!(in alloc; "window {name}")?)
+            write!(text, "window {name}")
         }
         Stop::Bound(task) => {
             let name = task_name(set, task);
-            Ok(format!(in alloc; "bound {name}")?)
+            write!(text, "bound {name}")
         }
     }
 }
 
-/// The line of a kind of cost.
-fn slack_line(alloc: Global, kind: &str, set: &TaskSet, slack: &Slack) -> Result<String, AllocError>
-    ensures { IfOk result (λ text. string_bytes text ≡ spec.slack_line kind.now set.now slack.now) }
+/// Adds the line of a kind of cost.
+fn add_line(text: &mut String, kind: &str, set: &TaskSet, slack: &Slack) -> Result<(), AllocError>
+    ensures { IfOk result (λ _.
+        string_bytes text.new ≡ string_bytes text.old
+        ++ spec.slack_line kind.now set.now slack.now) }
 {
-    let cost = cost_text(alloc, slack.greatest)?;
-    let stop = stop_text(alloc, set, slack.stop)?;
-    let line = format!(in alloc; "{kind} {cost} {stop}\n")?;
-    Ok(line)
+    write!(text, "{kind} ")?;
+    add_cost(text, slack.greatest)?;
+    text.push_str(" ")?;
+    add_stop(text, set, slack.stop)?;
+    text.push_str("\n")
 }
 
 /// The two lines of the greatest costs of a switch and of a reload.
@@ -52,8 +57,8 @@ pub(crate) fn slack_text(
 ) -> Result<Vec<u8>, AllocError>
     ensures { IfOk result (λ text. text.items ≡ spec.slack_text set.now by_switch.now by_miss.now) }
 {
-    let mut text = slack_line(alloc, "switch", set, by_switch)?.into_bytes();
-    let line = slack_line(alloc, "miss", set, by_miss)?;
-    text.extend_from_slice(line.as_bytes())?;
-    Ok(text)
+    let mut text = String::new(alloc);
+    add_line(&mut text, "switch", set, by_switch)?;
+    add_line(&mut text, "miss", set, by_miss)?;
+    Ok(text.into_bytes())
 }

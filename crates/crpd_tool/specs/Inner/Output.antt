@@ -1,10 +1,13 @@
 -- What the program writes and with which status, for its words and the contents of the files: what
 -- only contracts inside the crate cite.
-use Rattle.std.specs.Prelude.{◌≡◌, ℕ, List, Option}
+use Rattle.std.specs.Prelude.{◌≡◌, ◌≢◌, ℕ, List, Option, Result, IsErrOf}
 use Rattle.crpd_io.specs.Outside.{Rose, AppendsPrefix, output_after}
+use Rattle.crpd_input.specs.declared.halt.Halt.{Halt}
+use Rattle.crpd_input.specs.declared.halt.Halt.TheVariants.{Fault}
+use Rattle.crpd_tool.specs.declared.answer.Answer.{Answer}
 use Rattle.crpd_tool.specs.declared.status.Status.{Status}
 use Rattle.crpd_tool.specs.declared.status.Status.TheVariants as exit
-use Rattle.crpd_tool.specs.Output.{IsWhole}
+use Rattle.crpd_tool.specs.Output.{IsWhole, ending_output}
 
 -- the statuses with which writing a text ends
 abbrev pub IsWritten : Status → Type 0
@@ -23,3 +26,16 @@ pub record Finished (old new : Option (List ℕ)) (before now : ℕ) (text : Lis
   pub written : IsWritten s
   pub whole : IsWhole s → (s ≡ wanted) × (new ≡ output_after old text)
   pub fault : s ≡ exit.WriteFault → Rose before now × AppendsPrefix old new text
+
+-- After it was written what the steps of a command came to: with a status that says what was
+-- found, the whole text and its status; with a fault of the output, a prefix of a text; and nothing
+-- after a fault of the files, or for want of memory.
+pub record Told (ending : Result Answer Halt) (old new : Option (List ℕ)) (before now : ℕ)
+    (s : Status) : Type 0 where
+  pub whole : IsWhole s → (s ≡ (ending_output ending).status)
+      × (new ≡ output_after old (ending_output ending).text)
+  pub fault : s ≡ exit.WriteFault → IsWhole (ending_output ending).status × Rose before now
+      × AppendsPrefix old new (ending_output ending).text
+  pub unread : s ≡ exit.ReadFault → IsErrOf ending Fault × (new ≡ old)
+  pub no_memory : s ≡ exit.NoMemory → new ≡ old
+  pub of_words : s ≢ exit.BadWords

@@ -5,7 +5,7 @@ use Rattle.crpd_tool.specs.Output.{IsWhole}
 use Rattle.crpd_tool.specs.declared.status.Status.{Status}
 use Rattle.crpd_tool.specs.declared.status.Status.TheVariants.{BadWords}
 use Rattle.crpd_tool.proofs.Finish.{finished-as}
-use Rattle.crpd_tool.proofs.front.write_answer.Goals as goal
+use Rattle.crpd_tool.proofs.writing.write_answer.Goals as goal
 
 -- writing another status does not end with BadWords
 of_wanted : {old new : Option (List ℕ)} {before now : ℕ} {text : List ℕ} {wanted s : Status}
