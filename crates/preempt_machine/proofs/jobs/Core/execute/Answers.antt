@@ -37,16 +37,21 @@ returns-then-left-gt0-clause-found c = search (rules, tests)
 
 pub returns-in_err-work-clause-err : goal.returns-in_err-work-clause-err
 returns-in_err-work-clause-err c =
-    on_err_of c.from_residual.result _
-    (c.in_err-work.ensures.err.0, ap (λ m. record c.args.self.now { memory = m }) c.in_err-work.ensures.err.1)
+    on_err_of c.from_residual.result _ (
+      c.in_err-work.ensures.err.0,
+      ap (λ m. record c.args.self.now { memory = m }) c.in_err-work.ensures.err.1,
+    )
 
 pub returns-in_err-work-clause-store : goal.returns-in_err-work-clause-store
 returns-in_err-work-clause-store c = on_err_of c.from_residual.result _ c.in_err-work.ensures.store
 
 pub returns-in_err-work-2-clause-err : goal.returns-in_err-work-2-clause-err
 returns-in_err-work-2-clause-err c =
-    on_err_of c.from_residual-in_err-work-2.result _
-    (c.in_err-work-2.ensures.err.0, ap (λ m. record c.args.self.now { memory = m }) c.in_err-work-2.ensures.err.1)
+    on_err_of c.from_residual-in_err-work-2.result _ (
+      c.in_err-work-2.ensures.err.0,
+      ap (λ m. record c.args.self.now { memory = m }) c.in_err-work-2.ensures.err.1,
+    )
 
 pub returns-in_err-work-2-clause-store : goal.returns-in_err-work-2-clause-store
-returns-in_err-work-2-clause-store c = on_err_of c.from_residual-in_err-work-2.result _ c.in_err-work-2.ensures.store
+returns-in_err-work-2-clause-store c =
+    on_err_of c.from_residual-in_err-work-2.result _ c.in_err-work-2.ensures.store
