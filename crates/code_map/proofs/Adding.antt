@@ -71,7 +71,7 @@ runs_more rs r a =
 
 module _ (front : List Run) (last : Run) (p : Piece)
     (takes : TakesPiece (front ++ last ∷ []) p) where
-  from : last.start ≤ p.start
+  pub from : last.start ≤ p.start
   from = all_last (λ (r : Run). r.start ≤ p.start) front last takes.starts
 
   -- behind the start of the piece the runs have what the last one has

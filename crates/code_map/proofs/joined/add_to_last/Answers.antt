@@ -1,5 +1,5 @@
 use Rattle.std.proofs.Common.{◌∙◌, ◌++◌, ◌∷◌, [], ap, sym, leb-false}
-use Rattle.code_map.proofs.Adding.{begun, joined_last}
+use Rattle.code_map.proofs.Adding.{begun, from, joined_last}
 use Rattle.code_map.proofs.joined.add_to_last.Goals as goal
 
 pub returns-then-is_reached : goal.returns-then-is_reached
@@ -16,3 +16,15 @@ returns c =
     c.in_ok-next.ensures.start c.in_ok-next.ensures.bytes
     (c.in_ok-push-3.ensures.items
     ∙ ap (λ xs. xs ++ c.in_ok-next.next ∷ []) c.in_ok-push-2.ensures.items)
+
+pub is_reached-requires : goal.is_reached-requires
+is_reached-requires c =
+    from c.args.front.now.items c.args.last c.args.piece.now c.requires
+
+pub conflict_with-conflict-requires-clause-from : goal.conflict_with-conflict-requires-clause-from
+conflict_with-conflict-requires-clause-from c =
+    from c.args.front.now.items c.args.last c.args.piece.now c.requires
+
+pub extended_run-requires-clause-from : goal.extended_run-requires-clause-from
+extended_run-requires-clause-from c =
+    from c.args.front.now.items c.args.last c.args.piece.now c.requires

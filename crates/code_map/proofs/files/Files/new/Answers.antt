@@ -20,3 +20,9 @@ returns-in_err-refuse_conflict-clause-is c =
     rw (p.1, p.2) (λ ne. conflict_refused c.args.images.items c.deref.result.now
     c.in_ok-joined.joined.conflict c.in_err-refuse_conflict.field-0.0 c.deref.ensures.value
     c.in_ok-joined.ensures.conflict c.in_err-refuse_conflict.ensures)
+
+pub index-requires : goal.index-requires
+index-requires c = rw c.deref.ensures.value c.requires
+
+pub own_indexes-requires : goal.own_indexes-requires
+own_indexes-requires c = rw c.deref-2.ensures.value c.requires
