@@ -21,3 +21,6 @@ loop-segment-preserved c =
         c.loop-segment.invariant.1,
       )
     ]
+
+pub returns-clause-bytes : goal.returns-clause-bytes
+returns-clause-bytes c = c.loop-segment.invariant.1

@@ -1,3 +1,6 @@
+use Rattle.std.proofs.Common.{ap, arith, ◌∙◌}
+use Rattle.std.proofs.lemmas.List.{take_all}
+use Rattle.code_map.specs.Inner.Pieces.{all_pieces}
 use Rattle.code_map.proofs.Gathered.{pieces_taken}
 use Rattle.code_map.proofs.pieces.all_pieces.Goals as goal
 
@@ -8,3 +11,14 @@ loop-image-preserved c = (
       c.in_ok-add_pieces.ensures.same,
   c.in_ok-add_pieces.ensures.bytes,
 )
+
+pub add_pieces-requires : goal.add_pieces-requires
+add_pieces-requires c = c.loop-image.invariant.1
+
+pub returns-clause-same : goal.returns-clause-same
+returns-clause-same c =
+    c.loop-image.invariant.0
+    ∙ ap all_pieces (take_all c.loop-image.image-index c.args.images.now (omega arith))
+
+pub returns-clause-bytes : goal.returns-clause-bytes
+returns-clause-bytes c = c.loop-image.invariant.1

@@ -1,4 +1,4 @@
-use Rattle.std.proofs.Common.{◌≡◌, ◌<◌, List, length, get_or, subst, arith}
+use Rattle.std.proofs.Common.{◌≡◌, ◌<◌, List, length, get_or, subst, arith, ◌∙◌}
 use Rattle.std.proofs.lemmas.Result.{err_from_is_err_and}
 use Rattle.crpd_base.specs.declared.data.Image.{Image}
 use Rattle.code_map.specs.Words.{word_at}
@@ -41,3 +41,15 @@ pub returns-clause-is : goal.returns-clause-is
 returns-clause-is c =
     plans_end (word_at c.args.files.now) c.loop-i.plans.items c.args.tasks.now c.args.files.now
     c.loop-i.i _ (grind arith) c.loop-i.invariant.0
+
+pub plan_of-requires : goal.plan_of-requires
+plan_of-requires c =
+    c.index-names.ensures
+    ∙ (c.in_ok-place.ensures.is c.index-names.result.now ∙ c.as_slice.ensures)
+
+pub bounds-images-i : goal.bounds-images-i
+bounds-images-i c =
+    rw c.images-images.ensures (omega (arith, c.requires.one, c.loop-i-test.true))
+
+pub index-names-requires : goal.index-names-requires
+index-names-requires c = c.in_ok-place.ensures.within
