@@ -37,3 +37,6 @@ loop-reload-preserved c =
     c.push.new.list.items c.args.reloads.now c.loop-reload.reload-index
     (record { job = 0; set = 0; time = 0; evictor = 0; preemptor = 0 }) c.entry.result
     c.loop-reload-test.true c.loop-reload.invariant c.entry.ensures c.in_ok-push.ensures
+
+pub bounds-reloads-reload-index : goal.bounds-reloads-reload-index
+bounds-reloads-reload-index c = c.loop-reload-test.true
