@@ -1,5 +1,6 @@
 // What a command ends with.
-use crpd_io::{Files, MemSink};
+use crate::ending::Ending;
+use crpd_io::MemSink;
 use crpd_tool::{Status, run};
 use std::alloc::{AllocError, Global};
 use std::{io, str};
@@ -45,12 +46,12 @@ pub(crate) fn sink(alloc: Global, most: usize, failing: u64) -> Result<MemSink, 
 }
 
 /// Carries out a command.
-pub(crate) fn carry_out<F: Files>(
+pub(crate) fn carry_out(
     alloc: Global,
     words: &[String],
-    files: &mut F,
+    mut files: Ending,
     mut out: MemSink,
 ) -> Answer {
-    let status = run(alloc, words, files, &mut out);
+    let status = run(alloc, words, &mut files, &mut out);
     Answer { status, out }
 }

@@ -1,6 +1,7 @@
 // Command lines over the files of the disk, and over files that may not be touched.
 use crate::answer::{carry_out, sink};
-use crpd_io::{DiskFiles, MemFiles, StdSink};
+use crate::ending::Ending;
+use crpd_io::{DiskFiles, StdSink};
 use crpd_tool::run;
 use std::alloc::{AllocError, Global};
 use std::io;
@@ -38,9 +39,9 @@ pub(crate) fn print_command(rt: &HostRuntime, line: &str) -> io::Result<()> {
 }
 
 fn print_without_files(rt: &HostRuntime, words: &[String]) -> io::Result<()> {
-    let mut files = MemFiles::new(Vec::new(rt.alloc()), [0].to_vec(rt.alloc())?);
+    let files = Ending::failing(rt.alloc(), Vec::new(rt.alloc()), usize::MAX, 0)?;
     let out = sink(rt.alloc(), usize::MAX, u64::MAX)?;
-    carry_out(rt.alloc(), words, &mut files, out).print(rt)
+    carry_out(rt.alloc(), words, files, out).print(rt)
 }
 
 /// Runs a command over files of which the first call fails.

@@ -61,9 +61,9 @@ fn ends(alloc: Global, trial: &Trial, damage: Damage, place: usize) -> Result<An
     if let Some(first) = held.first_mut() {
         damage.put(&mut first.1, place);
     }
-    let mut files = Ending::new(held, trial.first_name(), damage.end(place));
+    let files = Ending::new(alloc, held, trial.first_name(), damage.end(place));
     let out = sink(alloc, usize::MAX, u64::MAX)?;
-    Ok(carry_out(alloc, trial.words.as_slice(), &mut files, out))
+    Ok(carry_out(alloc, trial.words.as_slice(), files, out))
 }
 
 // The first place from this one on at which a command ends otherwise.

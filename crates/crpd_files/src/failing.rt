@@ -1,7 +1,7 @@
 // Each call of the files and of the output failing in turn.
 use crate::answer::{Answer, carry_out, sink};
+use crate::ending::Ending;
 use crate::trial::{Trial, copy_of};
-use crpd_io::MemFiles;
 use crpd_tool::Status;
 use std::alloc::{AllocError, Global};
 use std::io;
@@ -20,10 +20,9 @@ struct Calls {
 // What a command ends with where these calls fail.
 fn ends(alloc: Global, trial: &Trial, calls: Calls) -> Result<Answer, AllocError> {
     let held = copy_of(alloc, trial.held.as_slice())?;
-    let failing = [calls.of_files].to_vec(alloc)?;
-    let mut files = MemFiles::with_most(held, failing, calls.most.max(1));
+    let files = Ending::failing(alloc, held, calls.most, calls.of_files)?;
     let out = sink(alloc, calls.most, calls.of_output)?;
-    Ok(carry_out(alloc, trial.words.as_slice(), &mut files, out))
+    Ok(carry_out(alloc, trial.words.as_slice(), files, out))
 }
 
 // The first call of the files that is not made, or whose failing is no read fault before any text.

@@ -1,8 +1,8 @@
 // Files at the limits of what is read.
 use crate::answer::{carry_out, sink};
 use crate::command::words_of;
+use crate::ending::Ending;
 use crate::trial::{Held, Trial, copy_of};
-use crpd_io::SureFiles;
 use std::alloc::{AllocError, Global};
 use std::io;
 
@@ -82,9 +82,9 @@ fn print_with(
     bytes: Vec<u8>,
 ) -> io::Result<()> {
     held.push((String::from_str(rt.alloc(), name)?, bytes))?;
-    let mut files = SureFiles::new(held);
+    let files = Ending::whole(rt.alloc(), held);
     let out = sink(rt.alloc(), usize::MAX, u64::MAX)?;
-    carry_out(rt.alloc(), words, &mut files, out).print(rt)
+    carry_out(rt.alloc(), words, files, out).print(rt)
 }
 
 // Carries out a command over its files and this certificate.
