@@ -50,7 +50,7 @@ impl<'a> Ending<'a> {
 impl Files for Ending<'_> {
     ghost contents = { λ _. None };
 
-    ghost faults = { λ s. MemFiles.faults s.files };
+    ghost faults = { λ s. s.files.faults };
 
     fn size(&mut self, name: &str) -> Result<Option<u64>, Fault> {
         self.files.size(name)
