@@ -1,12 +1,12 @@
 -- Lists: what is in them and where, and one element more.
 use Rattle.std.proofs.Common.{◌≡◌, ◌≢◌, ◌⊎◌, ℕ, zero, suc, ◌+◌, ◌<◌, List, [], ◌∷◌, ◌++◌, map}
 use Rattle.std.proofs.Common.{length, get_or, slice_get, Option, Some, Contains, refl, sym, ap}
-use Rattle.std.proofs.Common.{◌∙◌, subst, inl, inr, ⊎_elim, arith}
+use Rattle.std.proofs.Common.{◌∙◌, subst, inl, inr, ⊎_elim, arith, take}
 use Rattle.std.specs.Prelude.{All, AllPairs}
 use Rattle.std.specs.List.{range_with_len}
 use Rattle.std.proofs.Math.Seq.{get_or-append_seam}
 use Rattle.std.proofs.lemmas.Bool.{cases_eq}
-use Rattle.std.proofs.lemmas.List.{get_or_append_left, length_push}
+use Rattle.std.proofs.lemmas.List.{get_or_append_left, length_push, take_more}
 use Rattle.std.proofs.lemmas.List.FromFn.{map-range_with_len_more}
 use Rattle.std.proofs.lemmas.Option.{same_Some, slice_get_within, slice_get-get_or}
 use Rattle.std.proofs.lemmas.Option.{get_or_from_slice_get}
@@ -152,3 +152,11 @@ pub map_range_more : {X : Type 0} (f : ℕ → X) (xs ys : List X) (i : ℕ) (x 
 map_range_more f xs ys i x e h is =
     h ∙ ap (λ zs. zs ++ x ∷ []) e ∙ ap (λ z. map f (range_with_len 0 i) ++ z ∷ []) is
     ∙ sym (map-range_with_len_more f 0 i i (omega arith))
+
+-- a list that a loop copies, with one element more
+pub copied_more : {X : Type 0} (xs copy more : List X) (i : ℕ) (x y : X) → i < length xs
+    → copy ≡ take i xs → x ≡ get_or xs i x → y ≡ x → more ≡ copy ++ y ∷ []
+    → more ≡ take (i + 1) xs
+copied_more xs copy more i x y h before is same pushed =
+    pushed ∙ ap (λ c. c ++ y ∷ []) before ∙ ap (λ z. take i xs ++ z ∷ []) (same ∙ is)
+    ∙ sym (take_more xs i x h)

@@ -32,6 +32,12 @@ fn copy_entry(alloc: Global, entry: &Option<Place>) -> Result<Option<Place>, All
     }
 }
 
+fn copy_places(alloc: Global, first: &Place, second: &Place) -> Result<(Place, Place), AllocError>
+    ensures { IfOk result (λ copy. copy ≡ (first.now, second.now)) }
+{
+    Ok((copy_place(alloc, first)?, copy_place(alloc, second)?))
+}
+
 fn copy_ranges(
     alloc: Global,
     ranges: &[(Place, Place)],
@@ -40,8 +46,7 @@ fn copy_ranges(
 {
     let mut copy = Vec::new(alloc);
     for range in ranges {
-        let (from, to) = (copy_place(alloc, &range.0)?, copy_place(alloc, &range.1)?);
-        copy.push((from, to))?;
+        copy.push(copy_places(alloc, &range.0, &range.1)?)?;
     }
     Ok(Items::new(copy))
 }
@@ -60,19 +65,29 @@ fn copy_loops(alloc: Global, loops: &[LoopSpec]) -> Result<Items<LoopSpec>, Allo
     Ok(Items::new(copy))
 }
 
+fn copy_names(alloc: Global, task: &TaskSpec) -> Result<(Text, Text), AllocError>
+    ensures { IfOk result (λ copy. copy ≡ (task.now.name, task.now.file)) }
+{
+    Ok((copy_text(alloc, &task.name)?, copy_text(alloc, &task.file)?))
+}
+
 fn copy_task(alloc: Global, task: &TaskSpec) -> Result<TaskSpec, AllocError>
     ensures { IfOk result (λ copy. copy ≡ task.now) }
 {
+    let entry = copy_entry(alloc, &task.entry)?;
+    let loops = copy_loops(alloc, task.loops.as_slice())?;
+    let (name, file) = copy_names(alloc, task)?;
+    let (stack, global) = copy_places(alloc, &task.stack, &task.global)?;
     Ok(TaskSpec {
-        name: copy_text(alloc, &task.name)?,
-        file: copy_text(alloc, &task.file)?,
-        entry: copy_entry(alloc, &task.entry)?,
+        name,
+        file,
+        entry,
         period: task.period,
         deadline: task.deadline,
         jitter: task.jitter,
-        stack: copy_place(alloc, &task.stack)?,
-        global: copy_place(alloc, &task.global)?,
-        loops: copy_loops(alloc, task.loops.as_slice())?,
+        stack,
+        global,
+        loops,
     })
 }
 
