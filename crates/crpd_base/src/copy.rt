@@ -5,6 +5,22 @@ use crate::data::{LoopSpec, Place, TaskSet, TaskSpec};
 use crate::lists::{Items, Text};
 use std::alloc::{AllocError, Global};
 
+// What can be copied with the memory that it owns.
+trait Copied: Sized {
+    fn copied(&self, alloc: Global) -> Result<Self, AllocError>
+        ensures { IfOk result (λ copy. copy ≡ self.now) };
+}
+
+fn copy_items<T: Copied + Drop>(alloc: Global, items: &[T]) -> Result<Items<T>, AllocError>
+    ensures { IfOk result (λ copy. copy ≡ items.now) }
+{
+    let mut copy = Vec::new(alloc);
+    for item in items {
+        copy.push(item.copied(alloc)?)?;
+    }
+    Ok(Items::new(copy))
+}
+
 fn copy_text(alloc: Global, text: &Text) -> Result<Text, AllocError>
     ensures { IfOk result (λ copy. copy ≡ text.now) }
 {
@@ -38,31 +54,21 @@ fn copy_places(alloc: Global, first: &Place, second: &Place) -> Result<(Place, P
     Ok((copy_place(alloc, first)?, copy_place(alloc, second)?))
 }
 
-fn copy_ranges(
-    alloc: Global,
-    ranges: &[(Place, Place)],
-) -> Result<Items<(Place, Place)>, AllocError>
-    ensures { IfOk result (λ copy. copy ≡ ranges.now) }
-{
-    let mut copy = Vec::new(alloc);
-    for range in ranges {
-        copy.push(copy_places(alloc, &range.0, &range.1)?)?;
+impl Copied for (Place, Place) {
+    fn copied(&self, alloc: Global) -> Result<Self, AllocError> {
+        copy_places(alloc, &self.0, &self.1)
     }
-    Ok(Items::new(copy))
 }
 
-fn copy_loops(alloc: Global, loops: &[LoopSpec]) -> Result<Items<LoopSpec>, AllocError>
-    ensures { IfOk result (λ copy. copy ≡ loops.now) }
-{
-    let mut copy = Vec::new(alloc);
-    for stated in loops {
-        copy.push(LoopSpec {
-            head: copy_place(alloc, &stated.head)?,
-            bound: stated.bound,
-            ranges: copy_ranges(alloc, stated.ranges.as_slice())?,
-        })?;
+impl Copied for LoopSpec {
+    fn copied(&self, alloc: Global) -> Result<Self, AllocError> {
+        let ranges = copy_items(alloc, self.ranges.as_slice())?;
+        Ok(LoopSpec {
+            head: copy_place(alloc, &self.head)?,
+            bound: self.bound,
+            ranges,
+        })
     }
-    Ok(Items::new(copy))
 }
 
 fn copy_names(alloc: Global, task: &TaskSpec) -> Result<(Text, Text), AllocError>
@@ -71,24 +77,24 @@ fn copy_names(alloc: Global, task: &TaskSpec) -> Result<(Text, Text), AllocError
     Ok((copy_text(alloc, &task.name)?, copy_text(alloc, &task.file)?))
 }
 
-fn copy_task(alloc: Global, task: &TaskSpec) -> Result<TaskSpec, AllocError>
-    ensures { IfOk result (λ copy. copy ≡ task.now) }
-{
-    let entry = copy_entry(alloc, &task.entry)?;
-    let loops = copy_loops(alloc, task.loops.as_slice())?;
-    let (name, file) = copy_names(alloc, task)?;
-    let (stack, global) = copy_places(alloc, &task.stack, &task.global)?;
-    Ok(TaskSpec {
-        name,
-        file,
-        entry,
-        period: task.period,
-        deadline: task.deadline,
-        jitter: task.jitter,
-        stack,
-        global,
-        loops,
-    })
+impl Copied for TaskSpec {
+    fn copied(&self, alloc: Global) -> Result<Self, AllocError> {
+        let loops = copy_items(alloc, self.loops.as_slice())?;
+        let (name, file) = copy_names(alloc, self)?;
+        let entry = copy_entry(alloc, &self.entry)?;
+        let (stack, global) = copy_places(alloc, &self.stack, &self.global)?;
+        Ok(TaskSpec {
+            name,
+            file,
+            entry,
+            period: self.period,
+            deadline: self.deadline,
+            jitter: self.jitter,
+            stack,
+            global,
+            loops,
+        })
+    }
 }
 
 /// The same task set once more, for a caller that changes one of its numbers. Time and memory are
@@ -96,12 +102,8 @@ fn copy_task(alloc: Global, task: &TaskSpec) -> Result<TaskSpec, AllocError>
 pub fn copy_set(alloc: Global, set: &TaskSet) -> Result<TaskSet, AllocError>
     ensures { IfOk result (λ copy. copy ≡ set.now) }
 {
-    let mut tasks = Vec::new(alloc);
-    for task in set.tasks.as_slice() {
-        tasks.push(copy_task(alloc, task)?)?;
-    }
     Ok(TaskSet {
         platform: set.platform,
-        tasks: Items::new(tasks),
+        tasks: copy_items(alloc, set.tasks.as_slice())?,
     })
 }

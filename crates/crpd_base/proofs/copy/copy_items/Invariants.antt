@@ -1,0 +1,6 @@
+-- What is copied so far.
+use Rattle.std.proofs.Common.{◌≡◌, take}
+use Rattle.crpd_base.proofs.copy.copy_items.Given as goal
+
+abbrev pub invariant-loop-item : goal.invariant-loop-item
+invariant-loop-item g l = l.copy.items ≡ take l.item-index l.items
