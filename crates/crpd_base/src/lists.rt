@@ -27,7 +27,7 @@ impl fmt::Display for Text {
     ghost output = { λ t. Some t };
 
     fn fmt<W: fmt::Write>(&self, f: &mut fmt::Formatter<W>) -> fmt::Result {
-        write!(f, "{}", self.text)
+        f.write_str(self.text.as_str())
     }
 }
 
