@@ -11,3 +11,8 @@ returns-then-missing-ne0 g c =
 pub loop-i-preserved : goal.loop-i-preserved
 loop-i-preserved g c =
     none_missing _ _ c.loop-i.i (omega arith) c.if-missing-ne0.false c.loop-i.invariant
+
+pub returns : goal.returns
+returns g c =
+    rw (← c.self.view_is, ← c.other.view_is)
+    (λ t lt there. c.loop-i.invariant t (omega (arith, c.loop-i.auto)) there)
