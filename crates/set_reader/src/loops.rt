@@ -14,27 +14,27 @@ use toml_keys::{KeyError, Keys, item_path, tables};
 const KEYS: [&str; 3] = ["head", "bound", "range"];
 
 #[tactic(auto, unfolding(crate::specs::Reading::loop_keys))]
-fn all_known(alloc: Global, keys: Keys) -> Result<(), KeyError>
+fn all_known(alloc: Global, keys: &Keys) -> Result<(), KeyError>
     ensures { Gives KeyError.Memory (λ x. x) result
-        (all_known spec.loop_keys keys.entry.path.now (table_view keys.entry.table.now)) }
+        (all_known spec.loop_keys keys.now.path.now (table_view keys.now.table.now)) }
 {
     keys.all_known(alloc, &KEYS)
 }
 
 #[tactic(auto, unfolding(toml_keys::specs::Reading::required))]
-fn head_at(alloc: Global, keys: Keys) -> Result<Place, KeyError>
+fn head_at(alloc: Global, keys: &Keys) -> Result<Place, KeyError>
     ensures { Gives KeyError.Memory (λ x. x) result
-        (required kind.place keys.entry.path.now (codes "head") (table_view keys.entry.table.now)) }
+        (required kind.place keys.now.path.now (codes "head") (table_view keys.now.table.now)) }
 {
     let value = keys.present(alloc, "head")?;
     keys.good(alloc, "head", place(alloc, value)?)
 }
 
 #[tactic(auto, using(toml_keys::proofs::Seen::good_seen), unfolding(toml_keys::specs::Reading::required))]
-fn ranges_at(alloc: Global, keys: Keys) -> Result<Vec<(Place, Place)>, KeyError>
+fn ranges_at(alloc: Global, keys: &Keys) -> Result<Vec<(Place, Place)>, KeyError>
     ensures { Gives KeyError.Memory (λ v. v.items) result
-        (required (listed kind.range) keys.entry.path.now (codes "range")
-        (table_view keys.entry.table.now)) }
+        (required (listed kind.range) keys.now.path.now (codes "range")
+        (table_view keys.now.table.now)) }
 {
     let value = keys.present(alloc, "range")?;
     keys.good(alloc, "range", ranges(alloc, value)?)
@@ -42,9 +42,9 @@ fn ranges_at(alloc: Global, keys: Keys) -> Result<Vec<(Place, Place)>, KeyError>
 
 /// A stated loop.
 #[tactic(auto, unfolding(crate::specs::Reading::loop_at))]
-fn loop_at(alloc: Global, keys: Keys) -> Result<LoopSpec, KeyError>
+fn loop_at(alloc: Global, keys: &Keys) -> Result<LoopSpec, KeyError>
     ensures { Gives KeyError.Memory (λ x. x) result
-        (spec.loop_at keys.entry.path.now (table_view keys.entry.table.now)) }
+        (spec.loop_at keys.now.path.now (table_view keys.now.table.now)) }
 {
     all_known(alloc, keys)?;
     Ok(LoopSpec {
@@ -62,7 +62,7 @@ fn nth_loop(alloc: Global, path: &str, place: usize, table: &Table) -> Result<Lo
     let path = item_path(alloc, path, "loop", place)?;
     loop_at(
         alloc,
-        Keys {
+        &Keys {
             table,
             path: path.as_str(),
         },
@@ -93,10 +93,10 @@ fn loop_tables<'a>(alloc: Global, value: &'a Value) -> Result<Option<Vec<&'a Tab
 }
 
 #[tactic(auto, using(toml_keys::proofs::Seen::good_seen), unfolding(toml_keys::specs::Reading::optional))]
-fn loop_list<'a>(alloc: Global, keys: Keys<'a>) -> Result<Vec<&'a Table>, KeyError>
+fn loop_list<'a>(alloc: Global, keys: &Keys<'a>) -> Result<Vec<&'a Table>, KeyError>
     ensures { Gives KeyError.Memory (λ v. map (λ t. table_view t.now) v.items) result
-        (optional [] spec.loop_tables keys.entry.path.now (codes "loop")
-        (table_view keys.entry.table.now)) }
+        (optional [] spec.loop_tables keys.now.path.now (codes "loop")
+        (table_view keys.now.table.now)) }
 {
     match keys.get("loop") {
         None => Ok(Vec::new(alloc)),
@@ -108,9 +108,9 @@ fn loop_list<'a>(alloc: Global, keys: Keys<'a>) -> Result<Vec<&'a Table>, KeyErr
 /// absent. Linear in what the keys say. The first thing that is wrong is the refusal; `Memory` may
 /// come in place of any answer.
 #[tactic(auto, unfolding(crate::specs::Reading::loops_at))]
-pub fn loops_at(alloc: Global, keys: Keys) -> Result<Vec<LoopSpec>, KeyError>
+pub fn loops_at(alloc: Global, keys: &Keys) -> Result<Vec<LoopSpec>, KeyError>
     ensures { Gives KeyError.Memory (λ v. v.items) result
-        (spec.loops_at keys.entry.path.now (table_view keys.entry.table.now)) }
+        (spec.loops_at keys.now.path.now (table_view keys.now.table.now)) }
 {
     let tables = loop_list(alloc, keys)?;
     each_loop(alloc, keys.path, tables.as_slice())

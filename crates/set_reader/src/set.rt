@@ -19,9 +19,9 @@ use toml_keys::{KeyError, Keys, item_path, key_path, tables};
 const KEYS: [&str; 2] = ["platform", "task"];
 
 #[tactic(auto, unfolding(crate::specs::Reading::set_keys))]
-fn all_known(alloc: Global, keys: Keys) -> Result<(), KeyError>
+fn all_known(alloc: Global, keys: &Keys) -> Result<(), KeyError>
     ensures { Gives KeyError.Memory (λ x. x) result
-        (all_known spec.set_keys keys.entry.path.now (table_view keys.entry.table.now)) }
+        (all_known spec.set_keys keys.now.path.now (table_view keys.now.table.now)) }
 {
     keys.all_known(alloc, &KEYS)
 }
@@ -89,10 +89,10 @@ fn task_tables<'a>(alloc: Global, value: &'a Value) -> Result<Option<Vec<&'a Tab
 }
 
 #[tactic(auto, using(toml_keys::proofs::Seen::good_seen), unfolding(toml_keys::specs::Reading::required))]
-fn task_list<'a>(alloc: Global, keys: Keys<'a>) -> Result<Vec<&'a Table>, KeyError>
+fn task_list<'a>(alloc: Global, keys: &Keys<'a>) -> Result<Vec<&'a Table>, KeyError>
     ensures { Gives KeyError.Memory (λ v. map (λ t. table_view t.now) v.items) result
-        (required spec.task_tables keys.entry.path.now (codes "task")
-        (table_view keys.entry.table.now)) }
+        (required spec.task_tables keys.now.path.now (codes "task")
+        (table_view keys.now.table.now)) }
 {
     let value = keys.present(alloc, "task")?;
     keys.good(alloc, "task", task_tables(alloc, value)?)
@@ -103,7 +103,7 @@ fn task_list<'a>(alloc: Global, keys: Keys<'a>) -> Result<Vec<&'a Table>, KeyErr
 fn tasks_at(alloc: Global, table: &Table) -> Result<Vec<TaskSpec>, SetError>
     ensures { Gives SetError.Memory (λ v. v.items) result (spec.tasks_at (table_view table.now)) }
 {
-    let tables = task_list(alloc, Keys { table, path: "" })?;
+    let tables = task_list(alloc, &Keys { table, path: "" })?;
     if tables.len() > MOST_TASKS {
         return Err(SetError::TooManyTasks(tables.len() as u64));
     }
@@ -112,10 +112,10 @@ fn tasks_at(alloc: Global, table: &Table) -> Result<Vec<TaskSpec>, SetError>
 }
 
 #[tactic(auto, using(toml_keys::proofs::Seen::good_seen), unfolding(toml_keys::specs::Reading::required))]
-fn platform_table<'a>(alloc: Global, keys: Keys<'a>) -> Result<&'a Table, KeyError>
+fn platform_table<'a>(alloc: Global, keys: &Keys<'a>) -> Result<&'a Table, KeyError>
     ensures { Gives KeyError.Memory (λ t. table_view t.now) result
-        (required as_table keys.entry.path.now (codes "platform")
-        (table_view keys.entry.table.now)) }
+        (required as_table keys.now.path.now (codes "platform")
+        (table_view keys.now.table.now)) }
 {
     let value = keys.present(alloc, "platform")?;
     keys.good(alloc, "platform", value.as_table())
@@ -125,12 +125,12 @@ fn platform_table<'a>(alloc: Global, keys: Keys<'a>) -> Result<&'a Table, KeyErr
 fn set_at(alloc: Global, table: &Table) -> Result<TaskSet, SetError>
     ensures { Gives SetError.Memory (λ x. x) result (spec.set_at (table_view table.now)) }
 {
-    let keys = Keys { table, path: "" };
+    let keys = &Keys { table, path: "" };
     all_known(alloc, keys)?;
     let platform = platform_table(alloc, keys)?;
     let platform = platform_at(
         alloc,
-        Keys {
+        &Keys {
             table: platform,
             path: "platform.",
         },

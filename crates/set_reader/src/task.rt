@@ -20,36 +20,36 @@ const KEYS: [&str; 9] = [
 ];
 
 #[tactic(auto, unfolding(crate::specs::Reading::task_keys))]
-fn all_known(alloc: Global, keys: Keys) -> Result<(), KeyError>
+fn all_known(alloc: Global, keys: &Keys) -> Result<(), KeyError>
     ensures { Gives KeyError.Memory (λ x. x) result
-        (all_known spec.task_keys keys.entry.path.now (table_view keys.entry.table.now)) }
+        (all_known spec.task_keys keys.now.path.now (table_view keys.now.table.now)) }
 {
     keys.all_known(alloc, &KEYS)
 }
 
 #[tactic(auto, using(toml_keys::proofs::Seen::good_seen), unfolding(toml_keys::specs::Reading::required))]
-fn name_at(alloc: Global, keys: Keys) -> Result<String, KeyError>
+fn name_at(alloc: Global, keys: &Keys) -> Result<String, KeyError>
     ensures { Gives KeyError.Memory string_bytes result
-        (required kind.name keys.entry.path.now (codes "name") (table_view keys.entry.table.now)) }
+        (required kind.name keys.now.path.now (codes "name") (table_view keys.now.table.now)) }
 {
     let value = keys.present(alloc, "name")?;
     keys.good(alloc, "name", name(alloc, value)?)
 }
 
 #[tactic(auto, using(toml_keys::proofs::Seen::good_seen), unfolding(toml_keys::specs::Reading::required))]
-fn file_at(alloc: Global, keys: Keys) -> Result<String, KeyError>
+fn file_at(alloc: Global, keys: &Keys) -> Result<String, KeyError>
     ensures { Gives KeyError.Memory string_bytes result
-        (required kind.file keys.entry.path.now (codes "file") (table_view keys.entry.table.now)) }
+        (required kind.file keys.now.path.now (codes "file") (table_view keys.now.table.now)) }
 {
     let value = keys.present(alloc, "file")?;
     keys.good(alloc, "file", file(alloc, value)?)
 }
 
 #[tactic(auto, unfolding(toml_keys::specs::Reading::optional))]
-fn entry_at(alloc: Global, keys: Keys) -> Result<Option<Place>, KeyError>
+fn entry_at(alloc: Global, keys: &Keys) -> Result<Option<Place>, KeyError>
     ensures { Gives KeyError.Memory (λ x. x) result
-        (optional None spec.entry_place keys.entry.path.now (codes "entry")
-        (table_view keys.entry.table.now)) }
+        (optional None spec.entry_place keys.now.path.now (codes "entry")
+        (table_view keys.now.table.now)) }
 {
     match keys.get("entry") {
         None => Ok(None),
@@ -59,10 +59,10 @@ fn entry_at(alloc: Global, keys: Keys) -> Result<Option<Place>, KeyError>
 
 /// A place, the number 0 where the key is absent.
 #[tactic(auto, unfolding(toml_keys::specs::Reading::optional))]
-fn place_or_zero(alloc: Global, keys: Keys, key: &str) -> Result<Place, KeyError>
+fn place_or_zero(alloc: Global, keys: &Keys, key: &str) -> Result<Place, KeyError>
     ensures { Gives KeyError.Memory (λ x. x) result
-        (optional (Number 0) kind.place keys.entry.path.now key.now
-        (table_view keys.entry.table.now)) }
+        (optional (Number 0) kind.place keys.now.path.now key.now
+        (table_view keys.now.table.now)) }
 {
     match keys.get(key) {
         None => Ok(Place::Number(0)),
@@ -79,9 +79,9 @@ struct Program {
 }
 
 #[tactic(auto, unfolding(crate::specs::Inner::Parts::program_at))]
-fn program_at(alloc: Global, keys: Keys) -> Result<Program, KeyError>
+fn program_at(alloc: Global, keys: &Keys) -> Result<Program, KeyError>
     ensures { Gives KeyError.Memory (λ x. x) result
-        (part.program_at keys.entry.path.now (table_view keys.entry.table.now)) }
+        (part.program_at keys.now.path.now (table_view keys.now.table.now)) }
 {
     Ok(Program {
         name: Text::new(name_at(alloc, keys)?),
@@ -102,9 +102,9 @@ struct Load {
 }
 
 #[tactic(auto, unfolding(crate::specs::Inner::Parts::load_at))]
-fn load_at(alloc: Global, keys: Keys) -> Result<Load, KeyError>
+fn load_at(alloc: Global, keys: &Keys) -> Result<Load, KeyError>
     ensures { Gives KeyError.Memory (λ x. x) result
-        (part.load_at keys.entry.path.now (table_view keys.entry.table.now)) }
+        (part.load_at keys.now.path.now (table_view keys.now.table.now)) }
 {
     Ok(Load {
         period: keys.number(alloc, "period", 1, LONGEST_TIME)?,
@@ -117,9 +117,9 @@ fn load_at(alloc: Global, keys: Keys) -> Result<Load, KeyError>
 }
 
 /// What the keys of a task say.
-fn fields_at(alloc: Global, keys: Keys) -> Result<TaskSpec, KeyError>
+fn fields_at(alloc: Global, keys: &Keys) -> Result<TaskSpec, KeyError>
     ensures { Gives KeyError.Memory (λ x. x) result
-        (spec.fields_at keys.entry.path.now (table_view keys.entry.table.now)) }
+        (spec.fields_at keys.now.path.now (table_view keys.now.table.now)) }
 {
     all_known(alloc, keys)?;
     let program = program_at(alloc, keys)?;
@@ -157,7 +157,7 @@ pub fn task_at(alloc: Global, place: usize, table: &Table) -> Result<TaskSpec, S
 {
     let path = item_path(alloc, "", "task", place)?;
     let path = path.as_str();
-    let task = fields_at(alloc, Keys { table, path })?;
+    let task = fields_at(alloc, &Keys { table, path })?;
     deadline_in_period(alloc, path, &task)?;
     Ok(task)
 }
