@@ -16,30 +16,30 @@ use crpd_base::{MOST_COST, Platform, Switching};
 use std::alloc::Global;
 
 #[tactic(auto, unfolding(crate::specs::Keys::required))]
-fn line_at(alloc: Global, keys: Keys) -> Result<u32, CertError>
+fn line_at(alloc: Global, keys: &Keys) -> Result<u32, CertError>
     ensures { Gives CertError.Memory (λ x. x) result
-        (required kind.line_bytes keys.entry.path.now (codes "line")
-        (members_view keys.entry.object.now.entries)) }
+        (required kind.line_bytes keys.now.path.now (codes "line")
+        (members_view keys.now.object.now.entries)) }
 {
     let value = keys.present(alloc, "line")?;
     keys.good(alloc, "line", line(value))
 }
 
 #[tactic(auto, unfolding(crate::specs::Keys::required))]
-fn switching_at(alloc: Global, keys: Keys) -> Result<Switching, CertError>
+fn switching_at(alloc: Global, keys: &Keys) -> Result<Switching, CertError>
     ensures { Gives CertError.Memory (λ x. x) result
-        (required kind.switching keys.entry.path.now (codes "switching")
-        (members_view keys.entry.object.now.entries)) }
+        (required kind.switching keys.now.path.now (codes "switching")
+        (members_view keys.now.object.now.entries)) }
 {
     let value = keys.present(alloc, "switching")?;
     keys.good(alloc, "switching", switching(value))
 }
 
 /// Where a switch may happen: in version 1, which has no key for it, in every cycle.
-fn later_switching_at(alloc: Global, version: Version, keys: Keys) -> Result<Switching, CertError>
+fn later_switching_at(alloc: Global, version: Version, keys: &Keys) -> Result<Switching, CertError>
     ensures { Gives CertError.Memory (λ x. x) result
-        (inner.later_switching version keys.entry.path.now
-        (members_view keys.entry.object.now.entries)) }
+        (inner.later_switching version keys.now.path.now
+        (members_view keys.now.object.now.entries)) }
 {
     match version {
         Version::First => Ok(Switching::Cycle),
@@ -47,19 +47,19 @@ fn later_switching_at(alloc: Global, version: Version, keys: Keys) -> Result<Swi
     }
 }
 
-fn cycles_at(alloc: Global, keys: Keys, key: &str) -> Result<u32, CertError>
+fn cycles_at(alloc: Global, keys: &Keys, key: &str) -> Result<u32, CertError>
     ensures { Gives CertError.Memory (λ x. x) result
-        (required spec.cycles keys.entry.path.now key.now
-        (members_view keys.entry.object.now.entries)) }
+        (required spec.cycles keys.now.path.now key.now
+        (members_view keys.now.object.now.entries)) }
 {
     keys.small_number(alloc, key, 0, MOST_COST)
 }
 
 /// A number of cycles: in version 1, which has no key for it, 0.
-fn later_cycles_at(alloc: Global, version: Version, keys: Keys, key: &str) -> Result<u32, CertError>
+fn later_cycles_at(alloc: Global, version: Version, keys: &Keys, key: &str) -> Result<u32, CertError>
     ensures { Gives CertError.Memory (λ x. x) result
-        (inner.later_cycles version keys.entry.path.now key.now
-        (members_view keys.entry.object.now.entries)) }
+        (inner.later_cycles version keys.now.path.now key.now
+        (members_view keys.now.object.now.entries)) }
 {
     match version {
         Version::First => Ok(0),
@@ -69,10 +69,10 @@ fn later_cycles_at(alloc: Global, version: Version, keys: Keys, key: &str) -> Re
 
 /// What the keys of a platform say.
 #[tactic(auto, unfolding(crate::specs::Inner::Platforms::platform_keys))]
-fn platform_keys(alloc: Global, version: Version, keys: Keys) -> Result<Platform, CertError>
+fn platform_keys(alloc: Global, version: Version, keys: &Keys) -> Result<Platform, CertError>
     ensures { Gives CertError.Memory (λ x. x) result
-        (inner.platform_keys version keys.entry.path.now
-        (members_view keys.entry.object.now.entries)) }
+        (inner.platform_keys version keys.now.path.now
+        (members_view keys.now.object.now.entries)) }
 {
     let memory = cycles_at(alloc, keys, "data")?;
     let div = later_cycles_at(alloc, version, keys, "div")?;
@@ -101,10 +101,10 @@ fn platform_keys(alloc: Global, version: Version, keys: Keys) -> Result<Platform
 /// The platform of a certificate, its keys in byte order. In version 1 `mul` and `div` are 0, and
 /// switches may happen in every cycle. The first key that is absent or has a bad value is the
 /// refusal; memory is taken for its path alone. Time is that of at most ten look-ups of a key.
-pub fn platform_at(alloc: Global, version: Version, keys: Keys) -> Result<Platform, CertError>
+pub fn platform_at(alloc: Global, version: Version, keys: &Keys) -> Result<Platform, CertError>
     ensures { Gives CertError.Memory (λ x. x) result
-        (spec.platform_at version keys.entry.path.now
-        (members_view keys.entry.object.now.entries)) }
+        (spec.platform_at version keys.now.path.now
+        (members_view keys.now.object.now.entries)) }
 {
     platform_keys(alloc, version, keys)
 }

@@ -43,10 +43,10 @@ fn version_at(alloc: Global, object: &Object) -> Result<Version, CertError>
 }
 
 #[tactic(auto, using(crate::proofs::Seen::good_seen), unfolding(crate::specs::Keys::required))]
-fn platform_object<'a>(alloc: Global, keys: Keys<'a>) -> Result<&'a Object, CertError>
+fn platform_object<'a>(alloc: Global, keys: &Keys<'a>) -> Result<&'a Object, CertError>
     ensures { Gives CertError.Memory (λ t. members_view t.now.entries) result
-        (required as_object keys.entry.path.now (codes "platform")
-        (members_view keys.entry.object.now.entries)) }
+        (required as_object keys.now.path.now (codes "platform")
+        (members_view keys.now.object.now.entries)) }
 {
     let value = keys.present(alloc, "platform")?;
     keys.good(alloc, "platform", value.as_object())
@@ -109,12 +109,12 @@ fn certificate_at(alloc: Global, object: &Object) -> Result<Certificate, CertErr
         (spec.certificate_at (members_view object.now.entries)) }
 {
     let version = version_at(alloc, object)?;
-    let platform = platform_object(alloc, Keys { object, path: "" })?;
+    let platform = platform_object(alloc, &Keys { object, path: "" })?;
     let path = "platform.";
     let platform = platform_at(
         alloc,
         version,
-        Keys {
+        &Keys {
             object: platform,
             path,
         },

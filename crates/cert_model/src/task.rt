@@ -25,12 +25,12 @@ const LONGEST_BOUND: u64 = 1 << 41;
 fn set_at(
     alloc: Global,
     version: Version,
-    keys: Keys,
+    keys: &Keys,
     key: &str,
 ) -> Result<SetBits<WORDS>, CertError>
     ensures { Gives CertError.Memory (λ x. x) result
-        (required (kind.set_numbers (spec.most_sets version)) keys.entry.path.now key.now
-        (members_view keys.entry.object.now.entries)) }
+        (required (kind.set_numbers (spec.most_sets version)) keys.now.path.now key.now
+        (members_view keys.now.object.now.entries)) }
 {
     let value = keys.present(alloc, key)?;
     keys.good(alloc, key, set_numbers(version.most_sets(), value))
@@ -40,12 +40,12 @@ fn set_at(
 fn potentials_at(
     alloc: Global,
     version: Version,
-    keys: Keys,
+    keys: &Keys,
     key: &str,
 ) -> Result<Vec<u64>, CertError>
     ensures { Gives CertError.Memory (λ v. v.items) result
-        (required (kind.potentials (spec.most_nodes version)) keys.entry.path.now key.now
-        (members_view keys.entry.object.now.entries)) }
+        (required (kind.potentials (spec.most_nodes version)) keys.now.path.now key.now
+        (members_view keys.now.object.now.entries)) }
 {
     let value = keys.present(alloc, key)?;
     let found = potentials(alloc, version.most_nodes(), value)?;
@@ -53,20 +53,20 @@ fn potentials_at(
 }
 
 #[tactic(auto, unfolding(crate::specs::Keys::required))]
-fn method_at(alloc: Global, keys: Keys) -> Result<Method, CertError>
+fn method_at(alloc: Global, keys: &Keys) -> Result<Method, CertError>
     ensures { Gives CertError.Memory (λ x. x) result
-        (required kind.method keys.entry.path.now (codes "method")
-        (members_view keys.entry.object.now.entries)) }
+        (required kind.method keys.now.path.now (codes "method")
+        (members_view keys.now.object.now.entries)) }
 {
     let value = keys.present(alloc, "method")?;
     keys.good(alloc, "method", method(value))
 }
 
 #[tactic(auto, using(crate::proofs::Seen::good_seen), unfolding(crate::specs::Keys::required))]
-fn name_at(alloc: Global, keys: Keys) -> Result<String, CertError>
+fn name_at(alloc: Global, keys: &Keys) -> Result<String, CertError>
     ensures { Gives CertError.Memory string_bytes result
-        (required kind.name keys.entry.path.now (codes "name")
-        (members_view keys.entry.object.now.entries)) }
+        (required kind.name keys.now.path.now (codes "name")
+        (members_view keys.now.object.now.entries)) }
 {
     let value = keys.present(alloc, "name")?;
     let found = name(alloc, value)?;
@@ -74,10 +74,10 @@ fn name_at(alloc: Global, keys: Keys) -> Result<String, CertError>
 }
 
 #[tactic(auto, using(crate::proofs::Seen::good_seen), unfolding(crate::specs::Keys::required))]
-fn states_at(alloc: Global, version: Version, keys: Keys) -> Result<Vec<NodeState>, CertError>
+fn states_at(alloc: Global, version: Version, keys: &Keys) -> Result<Vec<NodeState>, CertError>
     ensures { Gives CertError.Memory (λ v. v.items) result
         (required (kind.states (spec.most_sets version) (spec.most_nodes version))
-        keys.entry.path.now (codes "states") (members_view keys.entry.object.now.entries)) }
+        keys.now.path.now (codes "states") (members_view keys.now.object.now.entries)) }
 {
     let value = keys.present(alloc, "states")?;
     let found = states(alloc, version.most_sets(), version.most_nodes(), value)?;
@@ -86,9 +86,9 @@ fn states_at(alloc: Global, version: Version, keys: Keys) -> Result<Vec<NodeStat
 
 /// What the keys of a task say.
 #[tactic(auto, unfolding(crate::specs::Reading::fields_at))]
-fn fields_at(alloc: Global, version: Version, keys: Keys) -> Result<TaskPart, CertError>
+fn fields_at(alloc: Global, version: Version, keys: &Keys) -> Result<TaskPart, CertError>
     ensures { Gives CertError.Memory (λ x. x) result
-        (spec.fields_at version keys.entry.path.now (members_view keys.entry.object.now.entries)) }
+        (spec.fields_at version keys.now.path.now (members_view keys.now.object.now.entries)) }
 {
     let bound = keys.number(alloc, "bound", 0, LONGEST_BOUND)?;
     let evicting = set_at(alloc, version, keys, "evicting")?;
@@ -128,7 +128,7 @@ fn task_at(
 {
     let path = item_path(alloc, "", "tasks", place)?;
     let path = path.as_str();
-    fields_at(alloc, version, Keys { object, path })
+    fields_at(alloc, version, &Keys { object, path })
 }
 
 /// The tasks of a list, in order.
@@ -152,11 +152,11 @@ fn each_task(
 fn task_objects<'a>(
     alloc: Global,
     version: Version,
-    keys: Keys<'a>,
+    keys: &Keys<'a>,
 ) -> Result<Vec<&'a Object>, CertError>
     ensures { Gives CertError.Memory (λ v. map (λ t. members_view t.now.entries) v.items) result
-        (required (kind.objects (spec.most_tasks version)) keys.entry.path.now (codes "tasks")
-        (members_view keys.entry.object.now.entries)) }
+        (required (kind.objects (spec.most_tasks version)) keys.now.path.now (codes "tasks")
+        (members_view keys.now.object.now.entries)) }
 {
     let value = keys.present(alloc, "tasks")?;
     let found = objects(alloc, version.most_tasks(), value)?;
@@ -172,7 +172,7 @@ fn listed_tasks(
     ensures { Gives CertError.Memory (λ v. v.items) result
         (spec.tasks_at version (members_view object.now.entries)) }
 {
-    let objects = task_objects(alloc, version, Keys { object, path: "" })?;
+    let objects = task_objects(alloc, version, &Keys { object, path: "" })?;
     each_task(alloc, version, objects.as_slice())
 }
 

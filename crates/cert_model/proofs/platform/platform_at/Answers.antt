@@ -10,5 +10,5 @@ use Rattle.cert_model.proofs.platform.platform_at.Goals as goal
 pub returns : goal.returns
 returns c =
     subst (λ (r : Result Platform CertError). Gives Memory (λ x. x) c.platform_keys.result r)
-    (one_order c.args.version c.args.keys.path.now
-    (members_view c.args.keys.object.now.entries)) c.platform_keys.ensures
+    (one_order c.args.version c.args.keys.now.path.now
+    (members_view c.args.keys.now.object.now.entries)) c.platform_keys.ensures
