@@ -25,17 +25,8 @@ fn line_at(alloc: Global, keys: &Keys) -> Result<u32, CertError>
     keys.good(alloc, "line", line(value))
 }
 
-#[tactic(auto, unfolding(crate::specs::Keys::required))]
-fn switching_at(alloc: Global, keys: &Keys) -> Result<Switching, CertError>
-    ensures { Gives CertError.Memory (λ x. x) result
-        (required kind.switching keys.now.path.now (codes "switching")
-        (members_view keys.now.object.now.entries)) }
-{
-    let value = keys.present(alloc, "switching")?;
-    keys.good(alloc, "switching", switching(value))
-}
-
 /// Where a switch may happen: in version 1, which has no key for it, in every cycle.
+#[tactic(auto, unfolding(crate::specs::Keys::required))]
 fn later_switching_at(alloc: Global, version: Version, keys: &Keys) -> Result<Switching, CertError>
     ensures { Gives CertError.Memory (λ x. x) result
         (inner.later_switching version keys.now.path.now
@@ -43,27 +34,27 @@ fn later_switching_at(alloc: Global, version: Version, keys: &Keys) -> Result<Sw
 {
     match version {
         Version::First => Ok(Switching::Cycle),
-        Version::Second => switching_at(alloc, keys),
+        Version::Second => {
+            let value = keys.present(alloc, "switching")?;
+            keys.good(alloc, "switching", switching(value))
+        }
     }
 }
 
-fn cycles_at(alloc: Global, keys: &Keys, key: &str) -> Result<u32, CertError>
-    ensures { Gives CertError.Memory (λ x. x) result
-        (required spec.cycles keys.now.path.now key.now
-        (members_view keys.now.object.now.entries)) }
-{
-    keys.small_number(alloc, key, 0, MOST_COST)
-}
-
 /// A number of cycles: in version 1, which has no key for it, 0.
-fn later_cycles_at(alloc: Global, version: Version, keys: &Keys, key: &str) -> Result<u32, CertError>
+fn later_cycles_at(
+    alloc: Global,
+    version: Version,
+    keys: &Keys,
+    key: &str,
+) -> Result<u32, CertError>
     ensures { Gives CertError.Memory (λ x. x) result
         (inner.later_cycles version keys.now.path.now key.now
         (members_view keys.now.object.now.entries)) }
 {
     match version {
         Version::First => Ok(0),
-        Version::Second => cycles_at(alloc, keys, key),
+        Version::Second => keys.small_number(alloc, key, 0, MOST_COST),
     }
 }
 
@@ -74,16 +65,16 @@ fn platform_keys(alloc: Global, version: Version, keys: &Keys) -> Result<Platfor
         (inner.platform_keys version keys.now.path.now
         (members_view keys.now.object.now.entries)) }
 {
-    let memory = cycles_at(alloc, keys, "data")?;
+    let memory = keys.small_number(alloc, "data", 0, MOST_COST)?;
     let div = later_cycles_at(alloc, version, keys, "div")?;
     let hit = keys.small_number(alloc, "hit", 1, MOST_COST)?;
     let line = line_at(alloc, keys)?;
-    let miss = cycles_at(alloc, keys, "miss")?;
+    let miss = keys.small_number(alloc, "miss", 0, MOST_COST)?;
     let mul = later_cycles_at(alloc, version, keys, "mul")?;
     let sets = keys.small_number(alloc, "sets", 1, version.most_sets() as u32)?;
-    let switch = cycles_at(alloc, keys, "switch")?;
+    let switch = keys.small_number(alloc, "switch", 0, MOST_COST)?;
     let switching = later_switching_at(alloc, version, keys)?;
-    let taken = cycles_at(alloc, keys, "taken")?;
+    let taken = keys.small_number(alloc, "taken", 0, MOST_COST)?;
     Ok(Platform {
         line,
         sets,
