@@ -1,25 +1,18 @@
-ghost use Rattle.std.specs.Prelude.{◌≡◌, [], codes, length, map, option_map, IfOk};
-ghost use Rattle.toml.specs.View.{view, table_view};
+ghost use Rattle.std.specs.Prelude.{◌≡◌, [], codes, length, map, option_map};
+ghost use Rattle.toml.specs.View.{table_view};
+ghost use Rattle.crpd_base.specs.Limits.{most_loops};
 ghost use Rattle.crpd_base.specs.Outcome.{Gives};
-ghost use Rattle.toml_keys.specs.Reading.{all_known, required, optional, each, listed};
+ghost use Rattle.toml_keys.specs.Reading.{required, optional, each, listed, at_most};
 ghost use Rattle.set_reader.specs.Kinds as kind;
 ghost use Rattle.set_reader.specs.Reading as spec;
 
 use crate::kinds::{place, ranges};
 use crpd_base::{Items, LoopSpec, MOST_ITERATIONS, MOST_LOOPS, Place};
-use std::alloc::{AllocError, Global};
-use toml::{Table, Value};
+use std::alloc::Global;
+use toml::Table;
 use toml_keys::{KeyError, Keys, item_path, tables};
 
 const KEYS: [&str; 3] = ["head", "bound", "range"];
-
-#[tactic(auto, unfolding(crate::specs::Reading::loop_keys))]
-fn all_known(alloc: Global, keys: &Keys) -> Result<(), KeyError>
-    ensures { Gives KeyError.Memory (λ x. x) result
-        (all_known spec.loop_keys keys.now.path.now (table_view keys.now.table.now)) }
-{
-    keys.all_known(alloc, &KEYS)
-}
 
 #[tactic(auto, unfolding(toml_keys::specs::Reading::required))]
 fn head_at(alloc: Global, keys: &Keys) -> Result<Place, KeyError>
@@ -41,12 +34,12 @@ fn ranges_at(alloc: Global, keys: &Keys) -> Result<Vec<(Place, Place)>, KeyError
 }
 
 /// A stated loop.
-#[tactic(auto, unfolding(crate::specs::Reading::loop_at))]
+#[tactic(auto, unfolding(crate::specs::Reading::loop_at, crate::specs::Reading::loop_keys))]
 fn loop_at(alloc: Global, keys: &Keys) -> Result<LoopSpec, KeyError>
     ensures { Gives KeyError.Memory (λ x. x) result
         (spec.loop_at keys.now.path.now (table_view keys.now.table.now)) }
 {
-    all_known(alloc, keys)?;
+    keys.all_known(alloc, &KEYS)?;
     Ok(LoopSpec {
         head: head_at(alloc, keys)?,
         bound: keys.small_number(alloc, "bound", 1, MOST_ITERATIONS)?,
@@ -82,13 +75,14 @@ fn each_loop(alloc: Global, path: &str, tables: &[&Table]) -> Result<Vec<LoopSpe
     Ok(loops)
 }
 
-fn loop_tables<'a>(alloc: Global, value: &'a Value) -> Result<Option<Vec<&'a Table>>, AllocError>
-    ensures { IfOk result (λ found. option_map (λ v. map (λ t. table_view t.now) v.items) found
-        ≡ spec.loop_tables (view value.now)) }
+/// The tables of a list, where they are few enough.
+fn few<'a>(tables: Option<Vec<&'a Table>>) -> Option<Vec<&'a Table>>
+    ensures { option_map (λ v. map (λ t. table_view t.now) v.items) result
+        ≡ at_most most_loops (option_map (λ v. map (λ t. table_view t.now) v.items) tables.entry) }
 {
-    match tables(alloc, value)? {
-        Some(tables) if tables.len() <= MOST_LOOPS => Ok(Some(tables)),
-        _ => Ok(None),
+    match tables {
+        Some(tables) if tables.len() <= MOST_LOOPS => Some(tables),
+        _ => None,
     }
 }
 
@@ -100,7 +94,7 @@ fn loop_list<'a>(alloc: Global, keys: &Keys<'a>) -> Result<Vec<&'a Table>, KeyEr
 {
     match keys.get("loop") {
         None => Ok(Vec::new(alloc)),
-        Some(value) => keys.good(alloc, "loop", loop_tables(alloc, value)?),
+        Some(value) => keys.good(alloc, "loop", few(tables(alloc, value)?)),
     }
 }
 

@@ -1,9 +1,10 @@
 ghost use Rattle.std.specs.Prelude.{◌≡◌, ◌≤◌, All, [], ◌++◌, codes, string_bytes, length, map};
-ghost use Rattle.std.specs.Prelude.{option_map, IfOk};
+ghost use Rattle.std.specs.Prelude.{nat_le, option_map, IfOk};
 ghost use Rattle.toml.specs.Data.{as_table};
-ghost use Rattle.toml.specs.View.{view, table_view};
+ghost use Rattle.toml.specs.View.{table_view};
 ghost use Rattle.crpd_base.specs.Outcome.{Gives};
-ghost use Rattle.toml_keys.specs.Reading.{all_known, required, each};
+ghost use Rattle.toml_keys.specs.Kinds.{only};
+ghost use Rattle.toml_keys.specs.Reading.{required, each};
 ghost use Rattle.crpd_base.specs.Ranges.{IsTaskSet};
 ghost use Rattle.set_reader.specs.Reading as spec;
 ghost use Rattle.set_reader.specs.Reading.{reading};
@@ -12,19 +13,11 @@ use crate::fault::SetError;
 use crate::platform::platform_at;
 use crate::task::task_at;
 use crpd_base::{Items, MOST_TASKS, Platform, TaskSet, TaskSpec};
-use std::alloc::{AllocError, Global};
-use toml::{Table, Value};
+use std::alloc::Global;
+use toml::Table;
 use toml_keys::{KeyError, Keys, item_path, key_path, tables};
 
 const KEYS: [&str; 2] = ["platform", "task"];
-
-#[tactic(auto, unfolding(crate::specs::Reading::set_keys))]
-fn all_known(alloc: Global, keys: &Keys) -> Result<(), KeyError>
-    ensures { Gives KeyError.Memory (λ x. x) result
-        (all_known spec.set_keys keys.now.path.now (table_view keys.now.table.now)) }
-{
-    keys.all_known(alloc, &KEYS)
-}
 
 /// Whether a task has this name.
 fn occurs(name: &str, tasks: &[TaskSpec]) -> bool
@@ -78,13 +71,15 @@ fn each_task(alloc: Global, tables: &[&Table]) -> Result<Vec<TaskSpec>, SetError
     Ok(tasks)
 }
 
-fn task_tables<'a>(alloc: Global, value: &'a Value) -> Result<Option<Vec<&'a Table>>, AllocError>
-    ensures { IfOk result (λ found. option_map (λ v. map (λ t. table_view t.now) v.items) found
-        ≡ spec.task_tables (view value.now)) }
+/// The tables of a list, where there are any.
+fn some<'a>(tables: Option<Vec<&'a Table>>) -> Option<Vec<&'a Table>>
+    ensures { option_map (λ v. map (λ t. table_view t.now) v.items) result
+        ≡ only (λ ts. nat_le 1 (length ts))
+        (option_map (λ v. map (λ t. table_view t.now) v.items) tables.entry) }
 {
-    match tables(alloc, value)? {
-        Some(tables) if !tables.is_empty() => Ok(Some(tables)),
-        _ => Ok(None),
+    match tables {
+        Some(tables) if !tables.is_empty() => Some(tables),
+        _ => None,
     }
 }
 
@@ -95,7 +90,7 @@ fn task_list<'a>(alloc: Global, keys: &Keys<'a>) -> Result<Vec<&'a Table>, KeyEr
         (table_view keys.now.table.now)) }
 {
     let value = keys.present(alloc, "task")?;
-    keys.good(alloc, "task", task_tables(alloc, value)?)
+    keys.good(alloc, "task", some(tables(alloc, value)?))
 }
 
 /// The tasks of a set.
@@ -121,12 +116,12 @@ fn platform_table<'a>(alloc: Global, keys: &Keys<'a>) -> Result<&'a Table, KeyEr
     keys.good(alloc, "platform", value.as_table())
 }
 
-#[tactic(auto, unfolding(crate::specs::Reading::set_at))]
+#[tactic(auto, unfolding(crate::specs::Reading::set_at, crate::specs::Reading::set_keys))]
 fn set_at(alloc: Global, table: &Table) -> Result<TaskSet, SetError>
     ensures { Gives SetError.Memory (λ x. x) result (spec.set_at (table_view table.now)) }
 {
     let keys = &Keys { table, path: "" };
-    all_known(alloc, keys)?;
+    keys.all_known(alloc, &KEYS)?;
     let platform = platform_table(alloc, keys)?;
     let platform = platform_at(
         alloc,

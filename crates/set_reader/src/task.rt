@@ -148,16 +148,23 @@ fn deadline_in_period(alloc: Global, path: &str, task: &TaskSpec) -> Result<(), 
     Ok(())
 }
 
+/// What the keys of a task with this path say, and that its deadline is within its period.
+fn task_of(alloc: Global, path: &str, table: &Table) -> Result<TaskSpec, SetError>
+    ensures { Gives SetError.Memory (λ x. x) result
+        (part.task_of path.now (table_view table.now)) }
+{
+    let task = fields_at(alloc, &Keys { table, path })?;
+    deadline_in_period(alloc, path, &task)?;
+    Ok(task)
+}
+
 /// The task at a place of the list, counted from 0. The deadline is compared with the period after
 /// all keys are read, those of the loops included. The first thing that is wrong is the refusal;
 /// `Memory` may come in place of any answer. Linear in what the keys say.
-#[tactic(auto, unfolding(crate::specs::Reading::task_at))]
+#[tactic(auto, unfolding(crate::specs::Reading::task_at, crate::specs::Inner::Parts::task_of))]
 pub fn task_at(alloc: Global, place: usize, table: &Table) -> Result<TaskSpec, SetError>
     ensures { Gives SetError.Memory (λ x. x) result (spec.task_at place (table_view table.now)) }
 {
     let path = item_path(alloc, "", "task", place)?;
-    let path = path.as_str();
-    let task = fields_at(alloc, &Keys { table, path })?;
-    deadline_in_period(alloc, path, &task)?;
-    Ok(task)
+    task_of(alloc, path.as_str(), table)
 }

@@ -13,7 +13,7 @@ use Rattle.set_reader.specs.declared.fault.SetError.TheVariants.{DeadlineAfterPe
 use Rattle.set_reader.specs.declared.task.Load.{Load}
 use Rattle.set_reader.specs.declared.task.Program.{Program}
 use Rattle.set_reader.specs.Kinds as kind
-use Rattle.set_reader.specs.Reading.{entry_place, loops_at}
+use Rattle.set_reader.specs.Reading.{entry_place, loops_at, fields_at, of_set}
 
 unfoldable pub program_at : List ℕ → Members → Result Program KeyError
 program_at path ms = do
@@ -44,3 +44,10 @@ abbrev pub deadline_in_period : List ℕ → TaskSpec → Result (Unit {0}) SetE
 deadline_in_period path task =
     if nat_lt task.period task.deadline then Err (DeadlineAfterPeriod (path ++ codes "deadline"))
     else Ok tt
+
+-- the task whose keys have this path; its deadline is compared after all of its keys
+unfoldable pub task_of : List ℕ → Members → Result TaskSpec SetError
+task_of path ms = do
+  task ← of_set (fields_at path ms)
+  if nat_lt task.period task.deadline then Err (DeadlineAfterPeriod (path ++ codes "deadline"))
+      else Ok task
