@@ -1,12 +1,13 @@
 -- Regions that are entered elsewhere than at their heads.
 use Rattle.std.proofs.Common.{◌≡◌, ◌≢◌, ◌⊎◌, ℕ, ◌+◌, ◌<◌, ◌≤◌, Bool, false, not, ◌&&◌, List, []}
 use Rattle.std.proofs.Common.{◌∷◌, ◌++◌, length}
-use Rattle.std.proofs.Common.{Some, None, slice_index, IsTrue, refl, sym, subst}
+use Rattle.std.proofs.Common.{Some, None, slice_index, IsTrue, refl, sym, subst, ap}
 use Rattle.std.proofs.Common.{inl, inr, ⊎_elim, arith, ◌==◌, eq-eqb}
 use Rattle.std.specs.Prelude.{Option, nat_lt}
 use Rattle.std.specs.List.{list_any}
 use Rattle.std.proofs.lemmas.Bool.{cases_eq, both_ways, eqb-true, ltb-true, lt-ltb, and_parts}
 use Rattle.std.proofs.lemmas.Bool.{and_from, not-true, not_from_false, false_from_ne_true}
+use Rattle.std.proofs.lemmas.List.{get_or_past}
 use Rattle.std.proofs.lemmas.List.Elements.{Contains-append_left, Contains-append_cases}
 use Rattle.std.proofs.lemmas.List.Elements.{Contains-push}
 use Rattle.crpd_base.proofs.Elements.{in_none, in_one}
@@ -108,22 +109,26 @@ module _ (heads bounds : List ℕ) (holders : List (List ℕ))
       (list_any (λ q. not (is_head heads v q) && not (has (row holders u) q)) (row holders v)) h
       (entered u v s.1)
 
-module _ (g : Graph) (heads bounds : List ℕ) (holders : List (List ℕ))
-    (S : AreRegionLists heads bounds holders) where
-  pub start_inside : IsTrue (list_any (λ q. not (is_head heads g.first q)) (row holders g.first))
-      → IsLeastNumber (IsInsideStart g (nest_by heads bounds holders)) (Some g.first)
-  start_inside h =
-      let f = has_any (λ q. not (is_head heads g.first q)) (row holders g.first) h in
-      let lt = S.within g.first f.0 f.1 in
-      ((refl, f.0, lt, f.1, other_head heads g.first f.0 lt f.2), λ b s. let e = s.0 in omega arith)
-
-  pub start_not_inside : list_any (λ q. not (is_head heads g.first q)) (row holders g.first) ≡ false
-      → IsLeastNumber (IsInsideStart g (nest_by heads bounds holders)) None
-  start_not_inside h b s =
-      both_ways (list_any (λ q. not (is_head heads g.first q)) (row holders g.first)) h
-      (any_has (λ q. not (is_head heads g.first q)) (row holders g.first) s.1
-      (subst (λ v. IsTrue (has (row holders v) s.1)) s.0 s.3)
-      (no_head heads g.first s.1 (subst (λ v. v ≢ slice_index heads s.1) s.0 s.4)))
+-- the first node is entered as by an edge from what is no node
+pub start_entered : (g : Graph) (heads bounds : List ℕ) (holders : List (List ℕ)) (o : Option ℕ)
+    → length holders ≡ g.size
+    → IsLeastNumber (EntersAt (nest_by heads bounds holders) g.size g.first) o
+    → IsLeastNumber (IsInsideStart g (nest_by heads bounds holders)) o
+start_entered g heads bounds holders o e h =
+    let n = nest_by heads bounds holders in
+    least_same (EntersAt n g.size g.first) (IsInsideStart g n) o
+    (λ v s. subst (λ w. IsInsideStart g n w) (sym s.0) (refl, s.1.0, s.1.1, s.1.2, s.1.3))
+    (λ v s. (
+      s.0,
+      (
+        s.1,
+        s.2,
+        subst (λ w. IsTrue (n.holds s.1 w)) s.0 s.3,
+        subst (λ w. w ≢ n.head s.1) s.0 s.4,
+        ap (λ xs. has xs s.1) (get_or_past holders g.size [] (omega (arith, e))),
+      ),
+    ))
+    h
 
 -- an entry at the first node, or by an edge from a node below k
 abbrev pub IsEntryBelow : Graph → Nest → ℕ → ℕ → Type 0

@@ -16,7 +16,7 @@ fn at_heads(alloc: Global, regions: &Regions) -> Result<Vec<Holders>, AllocError
     let heads = regions.heads.as_slice();
     let mut rows = Vec::with_capacity(alloc, heads.len())?;
     for head in heads {
-        rows.push(Holders::from_slice(alloc, regions.holders(*head))?)?;
+        rows.push(regions.holders[*head as usize].clone()?)?;
     }
     Ok(rows)
 }

@@ -20,7 +20,12 @@ pub(crate) struct Head {
 pub(crate) fn loop_at(loops: &[LoopAt], address: u32) -> Option<usize>
     ensures { IsLoopAt loops.now address result }
 {
-    loops.iter().position(|stated| stated.head == address)
+    for (number, stated) in loops.iter().enumerate() {
+        if stated.head == address {
+            return Some(number);
+        }
+    }
+    None
 }
 
 /// The nodes at the heads of stated loops, in the order of their numbers: nodes times loops in

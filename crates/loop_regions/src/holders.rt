@@ -1,5 +1,5 @@
 // The regions that hold a node.
-ghost use Rattle.std.specs.Prelude.{◌≡◌, [], ◌∷◌, ◌++◌, OnOk, IfOk};
+ghost use Rattle.std.specs.Prelude.{◌≡◌, [], ◌∷◌, ◌++◌, OnOk};
 ghost use Rattle.std.specs.List.{filter};
 ghost use Rattle.loop_regions.specs.CodeNest.{has, row};
 
@@ -20,6 +20,16 @@ impl Model for Holders {
     ghost view = { λ h. h.regions.items };
 }
 
+impl Clone for Holders {
+    ghost is_clone = { λ holders copy. copy ≡ holders };
+
+    fn clone(&self) -> Result<Self, AllocError> {
+        Ok(Holders {
+            regions: self.regions.clone()?,
+        })
+    }
+}
+
 impl Holders {
     /// No regions.
     pub(crate) fn new(alloc: Global) -> Self
@@ -28,15 +38,6 @@ impl Holders {
         Holders {
             regions: Vec::new(alloc),
         }
-    }
-
-    /// A copy of these regions.
-    pub(crate) fn from_slice(alloc: Global, regions: &[u32]) -> Result<Self, AllocError>
-        ensures { IfOk result (λ holders. holders ≡ regions.now) }
-    {
-        Ok(Holders {
-            regions: Vec::from_slice(alloc, regions)?,
-        })
     }
 
     /// The numbers of the regions.
@@ -67,17 +68,6 @@ impl Holders {
     {
         self.regions.retain(|r| others.contains(r));
     }
-}
-
-/// Copies of rows of regions.
-pub(crate) fn copy_holders(alloc: Global, rows: &[Holders]) -> Result<Vec<Holders>, AllocError>
-    ensures { IfOk result (λ copies. copies.items ≡ rows.now) }
-{
-    let mut copies = Vec::with_capacity(alloc, rows.len())?;
-    for row in rows {
-        copies.push(Holders::from_slice(alloc, row.as_slice())?)?;
-    }
-    Ok(copies)
 }
 
 /// Whether a row of a table has a region; there is none in a row past the last.

@@ -119,18 +119,6 @@ fn place(
     Ok(())
 }
 
-/// No regions for each of some nodes.
-fn no_holders(alloc: Global, nodes: u32) -> Result<Vec<Holders>, AllocError>
-    ensures nodes { IfOk result (λ holders. length holders.items ≡ nodes) }
-    ensures none { IfOk result (λ holders. (y : ℕ) → row holders.items y ≡ []) }
-{
-    let mut holders = Vec::with_capacity(alloc, nodes as usize)?;
-    for _ in 0..nodes {
-        holders.push(Holders::new(alloc))?;
-    }
-    Ok(holders)
-}
-
 /// For each node the regions that hold it, where the regions are those of these heads.
 pub(crate) fn holders(
     alloc: Global,
@@ -146,7 +134,7 @@ pub(crate) fn holders(
 {
     graph.graph_law();
     let ranged = ranged_loops(alloc, loops)?;
-    let mut holders = no_holders(alloc, graph.len())?;
+    let mut holders = vec![in alloc; Holders::new(alloc); graph.len() as usize]?;
     for (r, head) in heads.iter().enumerate() {
         place(
             graph,

@@ -1,6 +1,6 @@
 // The regions of a task's graph.
 use crate::found::Regions;
-use crate::holders::{Holders, copy_holders};
+use crate::holders::Holders;
 use crpd_base::{Items, NodeId};
 use std::alloc::{AllocError, Global};
 use std::marker::Model;
@@ -71,7 +71,7 @@ impl Nest {
     {
         let heads = Vec::from_slice(alloc, self.heads.as_slice())?;
         let bounds = Vec::from_slice(alloc, self.bounds.as_slice())?;
-        let holders = copy_holders(alloc, self.holders.as_slice())?;
+        let holders = Vec::from_clones(alloc, self.holders.as_slice())?;
         let parents = Vec::from_slice(alloc, self.parents.as_slice())?;
         let innermost = Vec::from_slice(alloc, self.innermost.as_slice())?;
         Ok(Nest {

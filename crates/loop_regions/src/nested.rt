@@ -25,14 +25,24 @@ fn lie_across(around: &[Holders], r: u32, s: u32) -> bool
 fn lies_across_any(around: &[Holders], among: &[u32], r: u32) -> bool
     ensures { result ≡ list_any (lie_across around.now r) among.now }
 {
-    among.iter().any(|s| lie_across(around, r, *s))
+    for s in among {
+        if lie_across(around, r, *s) {
+            return true;
+        }
+    }
+    false
 }
 
 /// Whether one of these regions lies across another.
 fn are_across(around: &[Holders], among: &[u32]) -> bool
     ensures { result ≡ are_across around.now among.now }
 {
-    among.iter().any(|r| lies_across_any(around, among, *r))
+    for r in among {
+        if lies_across_any(around, among, *r) {
+            return true;
+        }
+    }
+    false
 }
 
 /// The least node in two regions of which neither holds the other. The pairs of a node's regions

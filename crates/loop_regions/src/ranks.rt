@@ -16,7 +16,13 @@ pub(crate) fn is_back(regions: &Regions, u: u32, v: u32) -> bool
     requires { u < length regions.now.holders }
     ensures { IsTrue result ↔ IsBackEdge (nest_in regions.now) u v }
 {
-    regions.holders(u).iter().any(|r| regions.is_head(*r, v))
+    let around = regions.holders(u);
+    for r in around {
+        if regions.is_head(*r, v) {
+            return true;
+        }
+    }
+    false
 }
 
 /// Counts one more edge that arrives at the end of each forward edge of a node.
@@ -131,9 +137,12 @@ fn falls_along(graph: &Graph, regions: &Regions, ranks: &[u32], u: u32) -> bool
         (λ v. (IsBackEdge (nest_in regions.now) u v → ⊥)
         → slice_index ranks.now v < slice_index ranks.now u) ((graph_of graph.now).next u) }
 {
-    graph
-        .successors(NodeId(u))
-        .all(|next| falls(regions, ranks, u, next.0))
+    for next in graph.successors(NodeId(u)) {
+        if !falls(regions, ranks, u, next.0) {
+            return false;
+        }
+    }
+    true
 }
 
 /// Whether ranks fall along all forward edges. Then no cycle is left without back edges.

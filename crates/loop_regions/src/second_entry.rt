@@ -3,7 +3,7 @@ ghost use Rattle.std.specs.Prelude.{◌≡◌, ◌<◌, length};
 ghost use Rattle.flat_graph.specs.CodeGraph.{graph_of};
 ghost use Rattle.loop_regions.specs.Inner.Least.{IsLeastNumber};
 ghost use Rattle.loop_regions.specs.Stated.{IsSecondEntry};
-ghost use Rattle.loop_regions.specs.Inner.FoundRegions.{nest_in, is_inside_some, enters};
+ghost use Rattle.loop_regions.specs.Inner.FoundRegions.{nest_in, enters};
 ghost use Rattle.loop_regions.specs.Inner.FoundRegions.{EntersFrom, EntersAt, IsInsideStart};
 
 use crate::found::Regions;
@@ -11,23 +11,19 @@ use crate::least::lesser;
 use crpd_base::NodeId;
 use flat_graph::Graph;
 
-/// Whether a region of which v is not the head holds it.
-fn is_inside_some(regions: &Regions, v: u32) -> bool
-    requires { v < length regions.now.holders }
-    ensures { result ≡ is_inside_some regions.now v }
-{
-    regions.holders(v).iter().any(|r| !regions.is_head(*r, v))
-}
-
-/// Whether an edge from u to v enters a region of which v is not the head.
+/// Whether an edge from u to v enters a region of which v is not the head. No region holds what is
+/// no node.
 fn enters(regions: &Regions, u: u32, v: u32) -> bool
     requires { v < length regions.now.holders }
     ensures { result ≡ enters regions.now u v }
 {
-    regions
-        .holders(v)
-        .iter()
-        .any(|r| !regions.is_head(*r, v) && !regions.holds(*r, u))
+    let around = regions.holders(v);
+    for r in around {
+        if !regions.is_head(*r, v) && !regions.holds(*r, u) {
+            return true;
+        }
+    }
+    false
 }
 
 /// A node v, where an edge from u to it enters a region of which it is not the head.
@@ -51,18 +47,14 @@ fn entered_from(graph: &Graph, regions: &Regions, u: u32) -> Option<u32>
     least
 }
 
-/// The first node, where a region holds it of which it is not the head.
+/// The first node, where a region holds it of which it is not the head: an edge from outside the
+/// graph would enter that region.
 fn inside_start(graph: &Graph, regions: &Regions) -> Option<u32>
     requires { length regions.now.holders ≡ (graph_of graph.now).size }
     ensures { IsLeastNumber (IsInsideStart (graph_of graph.now) (nest_in regions.now)) result }
 {
     graph.graph_law();
-    let first = graph.first().0;
-    if is_inside_some(regions, first) {
-        Some(first)
-    } else {
-        None
-    }
+    entered_at(regions, graph.len(), graph.first().0)
 }
 
 /// The least node at which a region is entered of which it is not the head. Each edge is looked at

@@ -19,11 +19,7 @@ nest_in r = nest_of (code_nest r)
 abbrev pub is_head : List ℕ → ℕ → ℕ → Bool
 is_head heads v r = nat_lt r (length heads) && (slice_index heads r == v)
 
--- whether a region that holds v has another head
-abbrev pub is_inside_some : Regions → ℕ → Bool
-is_inside_some r v = list_any (λ q. not (is_head r.heads v q)) (row r.holders v)
-
--- whether such a region does not hold u
+-- whether a region that holds v has another head, and does not hold u
 abbrev pub enters : Regions → ℕ → ℕ → Bool
 enters r u v =
     list_any (λ q. not (is_head r.heads v q) && not (has (row r.holders u) q)) (row r.holders v)

@@ -1,7 +1,6 @@
-use Rattle.std.proofs.Common.{◌↔◌, ℕ, IsTrue, sym, rules, tests}
+use Rattle.std.proofs.Common.{◌↔◌, ℕ, Bool, IsTrue, sym, subst, arith}
 use Rattle.std.specs.List.{list_any}
-use Rattle.std.proofs.lemmas.Iterator.{YieldsList-from_slice}
-use Rattle.std.proofs.lemmas.Iterator.Search.{any_from_yields_List}
+use Rattle.std.proofs.lemmas.Grind.{common_steps}
 use Rattle.loop_regions.specs.Nest.{IsBackEdge}
 use Rattle.loop_regions.specs.CodeNest.{row}
 use Rattle.loop_regions.specs.declared.found.Regions.{Regions}
@@ -21,10 +20,14 @@ back_edge r u v = (
       (is_the_head r.heads v b.0 b.1 (sym b.3)),
 )
 
+pub returns-then-is_head : goal.returns-then-is_head
+returns-then-is_head c =
+    let r = c.args.regions.now in
+    subst (λ (b : Bool). IsTrue b ↔ IsBackEdge (nest_in r) c.args.u c.args.v)
+    (grind (arith, common_steps)) (back_edge r c.args.u c.args.v)
+
 pub returns : goal.returns
 returns c =
     let r = c.args.regions.now in
-    rw
-    (any_from_yields_List (is_head r.heads c.args.v) _ _ _ c.any.ensures.ran
-    (YieldsList-from_slice (row r.holders c.args.u) cc) (λ x b q k. search (rules, tests)))
-    (back_edge r c.args.u c.args.v)
+    subst (λ (b : Bool). IsTrue b ↔ IsBackEdge (nest_in r) c.args.u c.args.v)
+    (grind (arith, common_steps)) (back_edge r c.args.u c.args.v)
