@@ -36,7 +36,12 @@ fn is_under_way(code: &CodeMap, under_way: &[u32], target: u32) -> bool
     ensures { result ≡ list_any (λ a. calls (flows (word_at code.now.images) a) target)
         under_way.now }
 {
-    under_way.iter().any(|a| calls(code, *a, target))
+    for call in under_way {
+        if calls(code, *call, target) {
+            return true;
+        }
+    }
+    false
 }
 
 /// Whether a call to this target is recursive: the target is the entry or that of a call under way.

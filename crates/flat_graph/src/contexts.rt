@@ -6,7 +6,6 @@ ghost use Rattle.flat_graph.specs.Inner.NumberingOrder.{list_cmp};
 ghost use Rattle.flat_graph.specs.Inner.Reach.{AreNumbered, ExtendsLists};
 
 use crate::graph::Context;
-use smallvec::SmallVec;
 use std::alloc::{AllocError, Global};
 use std::collections::BTreeMap;
 
@@ -31,7 +30,7 @@ impl Contexts {
 
     /// The number of a list of calls, which is added where it was not met yet. Logarithmic in the
     /// number of lists.
-    pub(crate) fn number(&mut self, alloc: Global, calls: Context) -> Result<u32, AllocError>
+    pub(crate) fn number(&mut self, calls: Context) -> Result<u32, AllocError>
         requires numbered { AreNumbered self.old.numbers self.old.lists.items }
         requires few { length self.old.lists.items < 2 ^ 32 }
         ensures numbered { OnOk result (AreNumbered self.new.numbers self.new.lists.items) }
@@ -42,12 +41,12 @@ impl Contexts {
     {
         match self.numbers.get(&calls) {
             Some(number) => Ok(*number),
-            None => self.add(alloc, calls),
+            None => self.add(calls),
         }
     }
 
     /// Adds a list of calls that was not met yet.
-    fn add(&mut self, alloc: Global, calls: Context) -> Result<u32, AllocError>
+    fn add(&mut self, calls: Context) -> Result<u32, AllocError>
         requires numbered { AreNumbered self.old.numbers self.old.lists.items }
         requires few { length self.old.lists.items < 2 ^ 32 }
         requires unmet { get list_cmp self.old.numbers calls ≡ None }
@@ -56,9 +55,9 @@ impl Contexts {
         ensures number { IfOk result (λ n. n ≡ length self.old.lists.items) }
     {
         let number = self.lists.len() as u32;
-        let same = SmallVec::from_slice(alloc, calls.calls.as_slice())?;
+        let same = calls.clone()?;
         self.numbers.insert(calls, number)?;
-        self.lists.push(Context { calls: same })?;
+        self.lists.push(same)?;
         Ok(number)
     }
 }

@@ -20,6 +20,7 @@ use crate::node::{Node, kind_by};
 use crpd_base::{Items, NodeId};
 use rv_decode::Ins;
 use smallvec::SmallVec;
+use std::alloc::AllocError;
 use std::cmp::Ordering;
 use std::marker::Model;
 
@@ -35,6 +36,16 @@ impl Model for Context {
     ghost Value = { List ℕ };
 
     ghost view = { λ c. c.calls.items };
+}
+
+impl Clone for Context {
+    ghost is_clone = { λ context copy. copy ≡ context };
+
+    fn clone(&self) -> Result<Self, AllocError> {
+        Ok(Context {
+            calls: self.calls.clone()?,
+        })
+    }
 }
 
 impl PartialEq for Context {

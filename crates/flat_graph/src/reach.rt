@@ -74,7 +74,7 @@ impl Found {
     }
 
     /// Adds the spot with these calls under way at an address, if it is not found yet.
-    fn add_away(&mut self, alloc: Global, calls: Context, address: u32) -> Result<(), AllocError>
+    fn add_away(&mut self, calls: Context, address: u32) -> Result<(), AllocError>
         requires numbered { AreNumbered self.old.contexts.numbers self.old.contexts.lists.items }
         requires few { length self.old.contexts.lists.items < 2 ^ 32 }
         requires found { AreSameSpots self.old.contexts.lists.items self.old.set.keys
@@ -92,12 +92,12 @@ impl Found {
         ensures count { OnOk result
             (length self.new.contexts.lists.items ≤ length self.old.contexts.lists.items + 1) }
     {
-        let context = self.contexts.number(alloc, calls)?;
+        let context = self.contexts.number(calls)?;
         self.add(Spot { context, address })
     }
 
     /// Adds the spots to which a spot leads whose calls have this number.
-    fn add_steps(&mut self, alloc: Global, from: u32, steps: Steps) -> Result<(), AllocError>
+    fn add_steps(&mut self, from: u32, steps: Steps) -> Result<(), AllocError>
         requires numbered { AreNumbered self.old.contexts.numbers self.old.contexts.lists.items }
         requires few { length self.old.contexts.lists.items < 2 ^ 32 }
         requires found { AreSameSpots self.old.contexts.lists.items self.old.set.keys
@@ -130,7 +130,7 @@ impl Found {
                     address: other,
                 })
             }
-            Steps::Away(calls, address) => self.add_away(alloc, calls, address),
+            Steps::Away(calls, address) => self.add_away(calls, address),
         }
     }
 
@@ -180,7 +180,7 @@ impl Found {
     {
         let mut found = Found::new(alloc);
         let calls = SmallVec::new(alloc);
-        found.add_away(alloc, Context { calls }, entry)?;
+        found.add_away(Context { calls }, entry)?;
         Ok(found)
     }
 
@@ -201,7 +201,7 @@ impl Found {
         let spot = self.list[place];
         let calls = calls_of(self.contexts.lists.as_slice(), spot.context);
         let steps = steps_from(alloc, code, entry, calls, spot.address)?;
-        self.add_steps(alloc, spot.context, steps)
+        self.add_steps(spot.context, steps)
     }
 
     /// Follows the spots in the order in which they are found, until none is left or more than the

@@ -11,7 +11,7 @@ returns-clause-numbered c =
     let numbers = c.args.self.now.numbers in
     let pushed : c.push.new.self.items ≡ lists ++ c.args.calls ∷ [] =
     c.in_ok-push.ensures.items
-    ∙ ap (λ x. lists ++ x ∷ []) (c.in_ok-same.ensures.ok ∙ c.as_slice.ensures ∙ c.calls.view_is) in
+    ∙ ap (λ x. lists ++ x ∷ []) c.in_ok-same.ensures.cases in
     let counted : c.len-number.result ≡ length lists = search rules in
     subst (AreNumbered c.insert.new.self) (sym pushed)
     (numbered_more numbers c.insert.new.self lists c.args.calls c.requires.numbered c.requires.unmet
