@@ -66,6 +66,16 @@ fn without_arrivals(alloc: Global, arrivals: &[u32]) -> Result<Vec<u32>, AllocEr
     Ok(ready)
 }
 
+/// Takes away an edge to a node: whether it was the last that arrived there.
+fn was_last(arrivals: &mut Vec<u32>, v: u32) -> bool
+    requires { v < length arrivals.old.items }
+    ensures { length arrivals.new.items ≡ length arrivals.old.items }
+{
+    let left = arrivals[v as usize].saturating_sub(1);
+    arrivals[v as usize] = left;
+    left == 0
+}
+
 /// Takes the forward edges of a ranked node away. A target is ready where that was the last edge
 /// that arrived there.
 fn take_away(
@@ -86,9 +96,7 @@ fn take_away(
         if is_back(regions, u, next.0) {
             continue;
         }
-        let left = arrivals[next.0 as usize].saturating_sub(1);
-        arrivals[next.0 as usize] = left;
-        if left == 0 {
+        if was_last(arrivals, next.0) {
             ready.push(next.0)?;
         }
     }

@@ -1,8 +1,7 @@
-use Rattle.std.proofs.Common.{◌<◌, ◌∙◌, List, ℕ, length, sym, subst, arith}
+use Rattle.std.proofs.Common.{◌∙◌, arith}
 use Rattle.std.proofs.lemmas.List.{length-set}
-use Rattle.std.proofs.lemmas.Iterator.Consumers.{YieldsList-from_first, YieldsList-turn}
-use Rattle.crpd_base.specs.declared.data.NodeId.{NodeId}
 use Rattle.flat_graph.specs.CodeGraph.{graph_of}
+use Rattle.loop_regions.proofs.Turns.{next_below}
 use Rattle.loop_regions.proofs.ranks.count.Goals as goal
 
 pub loop-next-preserved : goal.loop-next-preserved
@@ -15,22 +14,16 @@ loop-next-preserved-then-not-is_back c =
 
 pub index-requires : goal.index-requires
 index-requires c =
-    let turn = YieldsList-turn
-    (YieldsList-from_first (λ (n : NodeId). n.0) (λ (left : List ℕ). left)
-    ((graph_of c.args.graph.now).next c.args.u) cc)
+    let g = graph_of c.args.graph.now in
+    let lt = next_below g.size (g.next c.args.u) (cc) c.successors-next-items.ensures.nodes
     c.loop-next.yielded _ c.loop-next.yielded_by _ _ c.in-Some.next c.in-Some.is
     c.next.ensures.steps in
-    let lt = subst (λ v. v < (graph_of c.args.graph.now).size) (sym turn.1)
-    (c.successors-next-items.ensures.nodes (length c.loop-next.yielded) _ turn.0) in
     omega (arith, lt, c.loop-next.arrivals.ok, c.loop-next.invariant, c.requires.all)
 
 pub index_mut-requires : goal.index_mut-requires
 index_mut-requires c =
-    let turn = YieldsList-turn
-    (YieldsList-from_first (λ (n : NodeId). n.0) (λ (left : List ℕ). left)
-    ((graph_of c.args.graph.now).next c.args.u) cc)
+    let g = graph_of c.args.graph.now in
+    let lt = next_below g.size (g.next c.args.u) (cc) c.successors-next-items.ensures.nodes
     c.loop-next.yielded _ c.loop-next.yielded_by _ _ c.in-Some.next c.in-Some.is
     c.next.ensures.steps in
-    let lt = subst (λ v. v < (graph_of c.args.graph.now).size) (sym turn.1)
-    (c.successors-next-items.ensures.nodes (length c.loop-next.yielded) _ turn.0) in
     omega (arith, lt, c.loop-next.arrivals.ok, c.loop-next.invariant, c.requires.all)

@@ -1,63 +1,12 @@
-use Rattle.std.proofs.Common.{◌<◌, ◌∙◌, List, ℕ, length, sym, subst, arith}
-use Rattle.std.specs.List.{All}
-use Rattle.std.proofs.lemmas.List.{length-set}
-use Rattle.std.proofs.lemmas.List.Elements.{All-push}
-use Rattle.std.proofs.lemmas.Iterator.Consumers.{YieldsList-from_first, YieldsList-turn}
-use Rattle.crpd_base.specs.declared.data.NodeId.{NodeId}
+use Rattle.std.proofs.Common.{arith}
 use Rattle.flat_graph.specs.CodeGraph.{graph_of}
+use Rattle.loop_regions.proofs.Turns.{next_below}
 use Rattle.loop_regions.proofs.ranks.take_away.Goals as goal
 
-pub loop-next-preserved-then-is_back : goal.loop-next-preserved-then-is_back
-loop-next-preserved-then-is_back c = c.loop-next.invariant
-
-pub loop-next-preserved : goal.loop-next-preserved
-loop-next-preserved c = (
-  length-set c.loop-next.arrivals.items c.in-Some.next.0 c.saturating_sub-left.result
-      ∙ c.loop-next.invariant.0,
-  c.loop-next.invariant.1,
-)
-
-pub loop-next-preserved-in-Continue-1 : goal.loop-next-preserved-in-Continue-1
-loop-next-preserved-in-Continue-1 c =
-    let turn = YieldsList-turn
-    (YieldsList-from_first (λ (n : NodeId). n.0) (λ (left : List ℕ). left)
-    ((graph_of c.args.graph.now).next c.args.u) cc)
+pub was_last-requires : goal.was_last-requires
+was_last-requires c =
+    let g = graph_of c.args.graph.now in
+    let lt = next_below g.size (g.next c.args.u) (cc) c.successors-next-items.ensures.nodes
     c.loop-next.yielded _ c.loop-next.yielded_by _ _ c.in-Some.next c.in-Some.is
     c.next.ensures.steps in
-    let lt : c.in-Some.next.0 < (graph_of c.args.graph.now).size =
-    subst (λ v. v < (graph_of c.args.graph.now).size) (sym turn.1)
-    (c.successors-next-items.ensures.nodes (length c.loop-next.yielded) _ turn.0) in (
-      length-set c.loop-next.arrivals.items c.in-Some.next.0 c.saturating_sub-left.result
-          ∙ c.loop-next.invariant.0,
-      subst (All (λ v. v < (graph_of c.args.graph.now).size)) (sym c.in_ok-push.ensures.items)
-          (All-push (λ v. v < (graph_of c.args.graph.now).size) c.loop-next.ready.items
-          c.in-Some.next.0 c.loop-next.invariant.1 lt),
-    )
-
-pub index-requires : goal.index-requires
-index-requires c =
-    let turn = YieldsList-turn
-    (YieldsList-from_first (λ (n : NodeId). n.0) (λ (left : List ℕ). left)
-    ((graph_of c.args.graph.now).next c.args.u) cc)
-    c.loop-next.yielded _ c.loop-next.yielded_by _ _ c.in-Some.next c.in-Some.is
-    c.next.ensures.steps in
-    let lt = subst (λ v. v < (graph_of c.args.graph.now).size) (sym turn.1)
-    (c.successors-next-items.ensures.nodes (length c.loop-next.yielded) _ turn.0) in
-    omega (arith, lt, c.loop-next.arrivals.ok, c.loop-next.invariant.0, c.requires.all)
-
-pub index_mut-requires : goal.index_mut-requires
-index_mut-requires c =
-    let turn = YieldsList-turn
-    (YieldsList-from_first (λ (n : NodeId). n.0) (λ (left : List ℕ). left)
-    ((graph_of c.args.graph.now).next c.args.u) cc)
-    c.loop-next.yielded _ c.loop-next.yielded_by _ _ c.in-Some.next c.in-Some.is
-    c.next.ensures.steps in
-    let lt = subst (λ v. v < (graph_of c.args.graph.now).size) (sym turn.1)
-    (c.successors-next-items.ensures.nodes (length c.loop-next.yielded) _ turn.0) in
-    omega (arith, lt, c.loop-next.arrivals.ok, c.loop-next.invariant.0, c.requires.all)
-
-pub returns-clause-all : goal.returns-clause-all
-returns-clause-all c = c.loop-next.invariant.0
-
-pub returns-clause-ready : goal.returns-clause-ready
-returns-clause-ready c = c.loop-next.invariant.1
+    omega (arith, lt, c.loop-next.invariant.0, c.requires.all)

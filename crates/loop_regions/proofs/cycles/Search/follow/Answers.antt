@@ -13,6 +13,7 @@ use Rattle.flat_graph.proofs.Nexts.{all_at_edges}
 use Rattle.loop_regions.specs.Inner.FoundRegions.{nest_in}
 use Rattle.loop_regions.specs.Inner.ForwardPaths.{IsFollowed}
 use Rattle.loop_regions.proofs.Searching.{edge_found, all_followed, seen_stays, search_falls}
+use Rattle.loop_regions.proofs.Turns.{next_below}
 use Rattle.loop_regions.proofs.cycles.Search.follow.Goals as goal
 use Rattle.loop_regions.proofs.cycles.Search.follow.Goals.{then-is_back-via-then-is_back}
 use Rattle.loop_regions.proofs.cycles.Search.follow.Goals.{then-is_back-via-else-is_back+then-index}
@@ -85,22 +86,16 @@ returns-clause-search c y R =
 
 pub index-requires : goal.index-requires
 index-requires c =
-    let turn = YieldsList-turn
-    (YieldsList-from_first (λ (n : NodeId). n.0) (λ (left : List ℕ). left)
-    ((graph_of c.args.graph.now).next c.args.u) cc)
+    let g = graph_of c.args.graph.now in
+    let lt = next_below g.size (g.next c.args.u) (cc) c.successors-next-items.ensures.nodes
     c.loop-next.yielded _ c.loop-next.yielded_by _ _ c.in-Some.next c.in-Some.is
     c.next.ensures.steps in
-    let lt = subst (λ v. v < (graph_of c.args.graph.now).size) (sym turn.1)
-    (c.successors-next-items.ensures.nodes (length c.loop-next.yielded) _ turn.0) in
     omega (arith, lt, c.loop-next.invariant.nodes)
 
 pub index_mut-requires : goal.index_mut-requires
 index_mut-requires c =
-    let turn = YieldsList-turn
-    (YieldsList-from_first (λ (n : NodeId). n.0) (λ (left : List ℕ). left)
-    ((graph_of c.args.graph.now).next c.args.u) cc)
+    let g = graph_of c.args.graph.now in
+    let lt = next_below g.size (g.next c.args.u) (cc) c.successors-next-items.ensures.nodes
     c.loop-next.yielded _ c.loop-next.yielded_by _ _ c.in-Some.next c.in-Some.is
     c.next.ensures.steps in
-    let lt = subst (λ v. v < (graph_of c.args.graph.now).size) (sym turn.1)
-    (c.successors-next-items.ensures.nodes (length c.loop-next.yielded) _ turn.0) in
     omega (arith, lt, c.loop-next.invariant.nodes)
