@@ -5,8 +5,10 @@ use Rattle.std.proofs.Common.{length, Contains, Some, slice_get, refl, sym, ◌�
 use Rattle.std.proofs.Common.{⊎_elim, ◌⊎◌, arith, IsTrue}
 use Rattle.std.proofs.lemmas.Bool.{cases_lt, cases_eq}
 use Rattle.std.proofs.lemmas.Bool.Decides.{nat_tests}
-use Rattle.std.proofs.lemmas.List.{take_at}
-use Rattle.std.proofs.lemmas.Option.{slice_get_within}
+use Rattle.std.proofs.Common.{ap, get_or, set, replicate, get_or-set_other}
+use Rattle.std.proofs.lemmas.Grind.{get_or-set_at}
+use Rattle.std.proofs.lemmas.List.{take_at, length-set, get_or-replicate}
+use Rattle.std.proofs.lemmas.Option.{slice_get_within, slice_get-get_or}
 use Rattle.crpd_base.proofs.Elements.{at_head, at_rest, head_or_rest, in_none, in_one, some_at}
 use Rattle.flat_graph.specs.declared.lines.Line.{Line}
 use Rattle.flat_graph.specs.Graph.{Graph, Edge, Continues, IsLeader}
@@ -143,6 +145,25 @@ all_met lines first marks M g E v b e =
     some_mark [] k x s = cc
     some_mark (m ∷ ms) zero x s = (m, refl, cc)
     some_mark (m ∷ ms) (suc k) x s = some_mark ms k x s
+
+-- marks before any edge was met
+pub first_marked : (lines : List Line) (first n : ℕ) (marks : List Mark)
+    → marks ≡ replicate n mark.Unmet → length marks ≡ n → first < n
+    → AreMarked lines first 0 (set marks first mark.Leads)
+first_marked lines first n marks all size lt g E v m e =
+    let new = set marks first mark.Leads in
+    let within = slice_get_within new v m e in
+    let at = slice_get-get_or new v m within in
+    let is : m ≡ get_or new v m = cc in
+    ⊎_elim
+    (λ same. subst (IsMarked g 0 v)
+    (sym (is ∙ get_or-set_at marks first v mark.Leads m same (omega (arith, size))))
+    (λ c. c.1.not_first (same ∙ sym E.start)))
+    (λ other. subst (IsMarked g 0 v)
+    (sym (is ∙ get_or-set_other marks first v mark.Leads m other ∙ ap (λ l. get_or l v m) all
+    ∙ get_or-replicate n v mark.Unmet m (omega (arith, size, length-set marks first mark.Leads))))
+    (λ s. other (s ∙ E.start), λ u below. absurd (omega (arith, below))))
+    (cases_eq v first)
 
 -- marks after the edges of one more line
 pub all_more : (lines : List Line) (first k : ℕ) (l : Line) (old new : List Mark)

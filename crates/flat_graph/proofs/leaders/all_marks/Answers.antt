@@ -1,13 +1,26 @@
 use Rattle.std.proofs.Common.{◌≡◌, ℕ, ◌∙◌, ◌+◌, sym, ap, subst, arith, length, take, drop, ◌++◌}
 use Rattle.std.proofs.Common.{List, Some, slice_get, get_or}
+use Rattle.std.proofs.lemmas.List.{length-set, length-replicate}
 use Rattle.std.proofs.lemmas.Option.{slice_get-get_or}
 use Rattle.flat_graph.specs.Inner.Leaders.{AreEnds, AreMarked, mark_after_edges}
 use Rattle.flat_graph.specs.declared.leaders.Mark.{Mark}
 use Rattle.flat_graph.specs.declared.lines.Line.{Line}
 use Rattle.flat_graph.specs.declared.graph.Onward.TheVariants.{Ends}
 use Rattle.rv_decode.specs.declared.Ins.TheVariants.{Lui}
-use Rattle.flat_graph.proofs.Marks.{all_more, whole}
+use Rattle.flat_graph.specs.declared.leaders.Mark.TheVariants.{Unmet, Leads}
+use Rattle.flat_graph.proofs.Marks.{first_marked, all_more, whole}
 use Rattle.flat_graph.proofs.leaders.all_marks.Goals as goal
+
+pub loop-line-init : goal.loop-line-init
+loop-line-init c =
+    let marks = c.in_ok-marks.marks.items in
+    let n = length c.args.lines.now in
+    let all = c.in_ok-marks.ensures.items_if_clones_equal (λ y e. e) in
+    let size = ap length all ∙ length-replicate n Unmet in
+    record {
+      count = length-set marks c.args.first Leads ∙ size;
+      marked = first_marked c.args.lines.now c.args.first n marks all size c.requires.first;
+    }
 
 pub mark_ends-requires : goal.mark_ends-requires
 mark_ends-requires c =

@@ -1,6 +1,6 @@
 use Rattle.std.proofs.Common.{◌∙◌, ◌++◌, ◌∷◌, [], ap, map, get_or, arith}
 use Rattle.std.specs.Prelude.{option_map}
-use Rattle.std.proofs.lemmas.Option.{slice_get-get_or, slice_get-map}
+use Rattle.std.proofs.lemmas.Option.{slice_get-get_or, slice_get-map, slice_get_within}
 use Rattle.rv_decode.specs.declared.Ins.TheVariants.{Lui}
 use Rattle.flat_graph.specs.Inner.Leaders.{is_leading}
 use Rattle.flat_graph.specs.declared.graph.Onward.TheVariants.{Ends}
@@ -32,3 +32,8 @@ loop-place-preserved c =
           ∙ ap (λ b. c.loop-place.stands.items ++ stored spot line b ∷ []) c.is_leader.ensures)
           c.loop-place.invariant.stands;
     }
+
+pub returns-clause-stands : goal.returns-clause-stands
+returns-clause-stands c k s x b es =
+    let within = slice_get_within c.args.spots.now k s es in
+    c.loop-place.invariant.stands k s x b (omega arith) es
