@@ -1,0 +1,6 @@
+-- The cache keeps its four entries.
+use Rattle.std.proofs.Common.{◌≡◌, length}
+use Rattle.layer_rows.proofs.accesses.hits_and_misses.Given as goal
+
+abbrev pub invariant-loop-block : goal.invariant-loop-block
+invariant-loop-block g l = length l.cache ≡ 4

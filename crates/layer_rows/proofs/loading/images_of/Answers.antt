@@ -1,0 +1,12 @@
+use Rattle.std.proofs.Common.{List, sym, subst}
+use Rattle.std.specs.Prelude.{All}
+use Rattle.std.proofs.lemmas.List.Elements.{All-push}
+use Rattle.crpd_base.specs.declared.data.Image.{Image}
+use Rattle.crpd_base.specs.Images.{IsImage}
+use Rattle.layer_rows.proofs.loading.images_of.Goals as goal
+
+pub loop-program-preserved : goal.loop-program-preserved
+loop-program-preserved c =
+    subst (λ (images : List Image). All IsImage images) (sym c.in_ok-push.ensures.items)
+    (All-push IsImage c.loop-program.images.items c.in_ok-image_of.field-0 c.loop-program.invariant
+    c.in_ok-image_of.ensures)

@@ -1,0 +1,7 @@
+use Rattle.std.proofs.Common.{◌≢◌, Some, [], length}
+use Rattle.flow_watch.specs.Iterations.{HasIterations}
+use Rattle.layer_rows.proofs.watches.watch_after.Given as goal
+
+abbrev pub invariant-loop-step : goal.invariant-loop-step
+invariant-loop-step l =
+    record { turns : HasIterations (length l.plan.loops) l.watch; under_way : l.watch ≢ Some [] }

@@ -1,0 +1,228 @@
+// Certificates whose states stand in another order than a text may have them, or have several
+// entries of a node or of a cache set.
+ghost use Rattle.std.specs.Prelude.{◌≡◌, ◌<◌, ◌↔◌, ℕ, IfOk, All, IsTrue, length};
+ghost use Rattle.crpd_base.specs.declared.data.NodeState.{NodeState};
+ghost use Rattle.crpd_base.specs.declared.data.TaskPart.{TaskPart};
+ghost use Rattle.loop_regions.specs.CodeNest.{IsNestOf};
+ghost use Rattle.cert_check.specs.TaskGraphs.{HasLowSets, IsCertificateInRange};
+
+use crate::graphs::graph_and_nest;
+use crate::loading::{Loaded, ONE, PLATFORM, Program, load};
+use crate::ranges::is_set_of_one;
+use crate::sets::sets_of;
+use crate::words::LOOP;
+use cert_check::{Verdict, verdict};
+use crpd_base::{
+    Certificate, Items, LONGEST_TIME, Method, NodeState, Part, Task, TaskPart, TaskSet, Text,
+};
+use flat_graph::Graph;
+use loop_regions::Nest;
+use std::alloc::{AllocError, Global};
+use std::process::Abort;
+use std::slice;
+use std::test::Fail;
+
+// What is listed at a node: its number, the blocks of cache sets, and the useful cache sets.
+type Entry = (u32, &'static [(u16, u32)], &'static [u16]);
+
+const FIRST: Entry = (0, &[], &[]);
+
+const SECOND: Entry = (1, &[(0, 256)], &[0]);
+
+// The task `one`, and what a certificate says of it but for its states. Its evicting sets are the
+// set 0, and so are its useful sets.
+#[derive(Clone, Copy)]
+struct Told {
+    programs: &'static [Program<'static>; 1],
+    bound: u64,
+    potentials: &'static [u64],
+    loops: &'static [u64],
+    window: u64,
+}
+
+const ONE_TOLD: Told = Told {
+    programs: &[ONE],
+    bound: 12,
+    potentials: &[12, 1],
+    loops: &[],
+    window: 17,
+};
+
+// A loop of its second word and its third, of at most three iterations.
+const LOOP_TOLD: Told = Told {
+    programs: &[Program {
+        words: &LOOP,
+        loops: &[(0x1004, 3, (0x1004, 0x100C))],
+        ..ONE
+    }],
+    bound: 24,
+    potentials: &[24, 4, 3, 1],
+    loops: &[13],
+    window: 29,
+};
+
+// What a certificate says, its states in their order, and the clause and the place of the verdict
+// where that is no.
+type Order = (Told, &'static [Entry], Option<(u8, u32)>);
+
+static ORDERS: [Order; 9] = [
+    (ONE_TOLD, &[SECOND, FIRST], None),
+    (LOOP_TOLD, &[(3, &[(0, 256)], &[0]), SECOND, FIRST], None),
+    (ONE_TOLD, &[SECOND], Some((2, 0))),
+    // the first of two entries of a node counts
+    (ONE_TOLD, &[FIRST, (0, &[(0, 256)], &[])], None),
+    (ONE_TOLD, &[(0, &[(0, 256)], &[]), FIRST], Some((3, 0))),
+    (ONE_TOLD, &[SECOND, FIRST, (1, &[(0, 256)], &[])], None),
+    (
+        ONE_TOLD,
+        &[(1, &[(0, 256)], &[]), FIRST, SECOND],
+        Some((4, 1)),
+    ),
+    // and the first of two blocks of a cache set
+    (ONE_TOLD, &[FIRST, (1, &[(0, 256), (0, 257)], &[0])], None),
+    (
+        ONE_TOLD,
+        &[FIRST, (1, &[(0, 257), (0, 256)], &[0])],
+        Some((3, 0)),
+    ),
+];
+
+fn states_of(alloc: Global, entries: &[Entry]) -> Result<Vec<NodeState>, AllocError> {
+    let mut states = Vec::new(alloc);
+    for (node, sure, useful) in entries {
+        states.push(NodeState {
+            node: *node,
+            sure: Items::new(Vec::from_slice(alloc, sure)?),
+            useful: sets_of(useful),
+        })?;
+    }
+    Ok(states)
+}
+
+fn part_of(alloc: Global, told: &Told, entries: &[Entry]) -> Result<TaskPart, AllocError> {
+    Ok(TaskPart {
+        name: Text::new(String::from_str(alloc, "one")?),
+        part: Part {
+            bound: told.bound,
+            evicting: sets_of(&[0]),
+            useful: sets_of(&[0]),
+        },
+        states: Items::new(states_of(alloc, entries)?),
+        potentials: Items::new(Vec::from_slice(alloc, told.potentials)?),
+        loops: Items::new(Vec::from_slice(alloc, told.loops)?),
+        method: Method::Ucb,
+        window: told.window,
+        response: told.window,
+    })
+}
+
+fn is_low(pair: &(u16, u32)) -> bool
+    ensures { IsTrue result ↔ pair.now.0 < 512 }
+{
+    pair.0 < 512
+}
+
+fn is_low_state(state: &NodeState) -> bool
+    ensures { IsTrue result ↔ All (λ (x : ℕ × ℕ). x.0 < 512) state.now.sure }
+{
+    state.sure.iter().all(is_low)
+}
+
+fn has_low_sets(part: &TaskPart) -> bool
+    ensures { IsTrue result ↔ HasLowSets part.now }
+{
+    part.states.iter().all(is_low_state)
+}
+
+fn is_in_range(certificate: &Certificate) -> bool
+    ensures { IsTrue result → IsCertificateInRange certificate.now }
+{
+    match certificate.tasks.as_slice() {
+        [part] => has_low_sets(part) && part.window <= LONGEST_TIME,
+        _ => false,
+    }
+}
+
+// The certificate of one task.
+fn certificate_of(alloc: Global, part: TaskPart) -> Result<Certificate, Fail>
+    ensures { IfOk result IsCertificateInRange }
+{
+    let mut tasks = Vec::new(alloc);
+    tasks.push(part)?;
+    let certificate = Certificate {
+        platform: PLATFORM,
+        tasks: Items::new(tasks),
+    };
+    if is_in_range(&certificate) {
+        Ok(certificate)
+    } else {
+        Err(Fail::from("out of range"))
+    }
+}
+
+// The verdict on a certificate of a set of one task, whose graph and regions these are.
+fn verdict_over(
+    set: &TaskSet,
+    graph: &Graph,
+    nest: &Nest,
+    certificate: &Certificate,
+) -> Result<Verdict, Fail>
+    requires nest { IsNestOf graph.now nest.now }
+    requires certificate { IsCertificateInRange certificate.now }
+{
+    if !is_set_of_one(set) {
+        return Err(Fail::from("no set of one task"));
+    }
+    let (graphs, nests) = (slice::from_ref(graph), slice::from_ref(nest));
+    Ok(verdict(set, graphs, nests, certificate))
+}
+
+// The verdict on a certificate of what was loaded.
+fn verdict_on(alloc: Global, loaded: &Loaded, certificate: &Certificate) -> Result<Verdict, Fail>
+    requires plans { 0 < length loaded.now.code.plans }
+    requires certificate { IsCertificateInRange certificate.now }
+{
+    let of = graph_and_nest(alloc, &loaded.code, Task(0))?;
+    verdict_over(&loaded.set, &of.0, &of.1, certificate)
+}
+
+// The verdict on a certificate of one program.
+fn judged(
+    alloc: Global,
+    programs: &[Program; 1],
+    certificate: &Certificate,
+) -> Result<Verdict, Fail>
+    requires { IsCertificateInRange certificate.now }
+{
+    let loaded = load(alloc, &PLATFORM, programs)?;
+    verdict_on(alloc, &loaded, certificate)
+}
+
+// The verdict on the certificate of these states.
+fn verdict_of(alloc: Global, told: &Told, entries: &[Entry]) -> Result<Verdict, Fail> {
+    let part = part_of(alloc, told, entries)?;
+    let certificate = certificate_of(alloc, part)?;
+    judged(alloc, told.programs, &certificate)
+}
+
+// The clause and the place where the verdict is no.
+fn refused(verdict: Verdict) -> Option<(u8, u32)> {
+    match verdict {
+        Verdict::Yes => None,
+        Verdict::No { clause, place, .. } => Some((clause, place)),
+    }
+}
+
+fn compare_order(rt: &impl Abort, alloc: Global, order: &Order) -> Result<(), Fail> {
+    let verdict = verdict_of(alloc, &order.0, order.1)?;
+    assert!(rt; refused(verdict) == order.2);
+    Ok(())
+}
+
+#[test]
+fn orders_of_states(rt: HostRuntime) -> Result<(), Fail> {
+    for order in &ORDERS {
+        compare_order(&rt, rt.alloc(), order)?;
+    }
+    Ok(())
+}

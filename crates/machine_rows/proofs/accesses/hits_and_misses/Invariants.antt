@@ -1,6 +1,0 @@
--- The cache keeps its four entries.
-use Rattle.std.proofs.Common.{◌≡◌, length}
-use Rattle.machine_rows.proofs.accesses.hits_and_misses.Given as goal
-
-abbrev pub invariant-loop-block : goal.invariant-loop-block
-invariant-loop-block g l = length l.cache ≡ 4
