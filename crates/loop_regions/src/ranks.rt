@@ -25,6 +25,15 @@ pub(crate) fn is_back(regions: &Regions, u: u32, v: u32) -> bool
     false
 }
 
+/// Counts one more edge to a node.
+fn add_edge(arrivals: &mut Vec<u32>, v: u32)
+    requires { v < length arrivals.old.items }
+    ensures { length arrivals.new.items ≡ length arrivals.old.items }
+{
+    let at = v as usize;
+    arrivals[at] = arrivals[at].saturating_add(1);
+}
+
 /// Counts one more edge that arrives at the end of each forward edge of a node.
 fn count(graph: &Graph, regions: &Regions, u: u32, arrivals: &mut Vec<u32>)
     requires nodes { length regions.now.holders ≡ (graph_of graph.now).size }
@@ -34,8 +43,7 @@ fn count(graph: &Graph, regions: &Regions, u: u32, arrivals: &mut Vec<u32>)
 {
     for next in graph.successors(NodeId(u)) {
         if !is_back(regions, u, next.0) {
-            let v = next.0 as usize;
-            arrivals[v] = arrivals[v].saturating_add(1);
+            add_edge(arrivals, next.0);
         }
     }
 }
