@@ -11,7 +11,7 @@ ghost use Rattle.cert_model.specs.Reading as spec;
 
 use crate::fault::CertError;
 use crate::keys::Keys;
-use crate::kinds::{Object, method, name, objects, potentials};
+use crate::kinds::{Object, all_objects, few_numbers, few_objects, method, name, numbers};
 use crate::sets::set_numbers;
 use crate::states::states;
 use crate::version::Version;
@@ -36,7 +36,7 @@ fn set_at(
     keys.good(alloc, key, set_numbers(version.most_sets(), value))
 }
 
-#[tactic(auto, using(crate::proofs::Seen::good_seen), unfolding(crate::specs::Keys::required))]
+#[tactic(auto, using(crate::proofs::Seen::good_seen), unfolding(crate::specs::Keys::required, crate::specs::Kinds::potentials))]
 fn potentials_at(
     alloc: Global,
     version: Version,
@@ -48,7 +48,7 @@ fn potentials_at(
         (members_view keys.now.object.now.entries)) }
 {
     let value = keys.present(alloc, key)?;
-    let found = potentials(alloc, version.most_nodes(), value)?;
+    let found = few_numbers(version.most_nodes(), numbers(alloc, value)?);
     keys.good(alloc, key, found)
 }
 
@@ -148,7 +148,7 @@ fn each_task(
     Ok(tasks)
 }
 
-#[tactic(auto, using(crate::proofs::Seen::good_seen), unfolding(crate::specs::Keys::required))]
+#[tactic(auto, using(crate::proofs::Seen::good_seen), unfolding(crate::specs::Keys::required, crate::specs::Kinds::objects))]
 fn task_objects<'a>(
     alloc: Global,
     version: Version,
@@ -159,7 +159,7 @@ fn task_objects<'a>(
         (members_view keys.now.object.now.entries)) }
 {
     let value = keys.present(alloc, "tasks")?;
-    let found = objects(alloc, version.most_tasks(), value)?;
+    let found = few_objects(version.most_tasks(), all_objects(alloc, value)?);
     keys.good(alloc, "tasks", found)
 }
 
