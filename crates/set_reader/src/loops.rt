@@ -1,4 +1,4 @@
-ghost use Rattle.std.specs.Prelude.{◌≡◌, [], codes, length, map, option_map};
+ghost use Rattle.std.specs.Prelude.{◌≡◌, [], codes, map, option_map};
 ghost use Rattle.toml.specs.View.{table_view};
 ghost use Rattle.crpd_base.specs.Limits.{most_loops};
 ghost use Rattle.crpd_base.specs.Outcome.{Gives};
