@@ -78,8 +78,8 @@ pub fn name(alloc: Global, value: &Value) -> Result<Option<String>, AllocError>
     task_name(alloc, value.as_str())
 }
 
-/// The numbers of a list, each from 0 to 2^40, None for any other value. Linear in the list; the only
-/// error is want of memory.
+/// The numbers of a list, each from 0 to 2^40, None for any other value. Linear in the list; the
+/// only error is want of memory.
 pub fn numbers(alloc: Global, value: &Value) -> Result<Option<Vec<u64>>, AllocError>
     ensures { IfOk result (λ found.
         option_map (λ v. v.items) found
