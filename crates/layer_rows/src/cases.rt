@@ -1,11 +1,9 @@
 // Scripts over programs.
-ghost use Rattle.std.specs.Prelude.{◌≡◌, ◌<◌, ◌≤◌, IfOk, length};
-
 use crate::loading::{Loaded, PLATFORM, load};
 use crate::programs::Programs;
 use crpd_base::{Platform, Switching};
 use std::alloc::Global;
-use std::test::Fail;
+use std::process::Abort;
 
 // A script over programs: how many cache sets there are, the cycles of a switch and where one may
 // happen; its cycles, the blocks that the cache begins with, and its jobs by task, arrival and
@@ -22,23 +20,15 @@ pub(crate) struct Case<'a> {
 }
 
 impl Case<'_> {
-    fn platform(&self) -> Platform {
-        Platform {
+    // What is loaded of its programs.
+    pub(crate) fn load(&self, rt: &impl Abort, alloc: Global) -> Loaded {
+        let platform = Platform {
             sets: self.sets,
             switch: self.switch,
             switching: self.switching,
             ..PLATFORM
-        }
-    }
-
-    // What is loaded of its programs.
-    pub(crate) fn load(&self, alloc: Global) -> Result<Box<Loaded>, Fail>
-        ensures plans { IfOk result (λ l. length l.value.code.plans ≡ length l.value.set.tasks) }
-        ensures line { IfOk result (λ l. 0 < l.value.set.platform.line) }
-        ensures sets { IfOk result (λ l.
-            (0 < l.value.set.platform.sets) × (l.value.set.platform.sets ≤ 512)) }
-    {
-        load(alloc, &self.platform(), self.programs.list())
+        };
+        load(rt, alloc, &platform, self.programs.list())
     }
 }
 

@@ -1,5 +1,5 @@
 // One interrupted run, cycle by cycle.
-ghost use Rattle.std.specs.Prelude.{◌≡◌, ◌<◌, ◌≤◌, ◌^◌, length};
+ghost use Rattle.std.specs.Prelude.{◌<◌, ◌^◌, length};
 ghost use Rattle.preempt_machine.specs.Running.{HasPlans};
 ghost use Rattle.preempt_machine.specs.Safe.{NamesTasks};
 
@@ -12,7 +12,6 @@ use icache::Access;
 use preempt_machine::{End, Fetch, Machine};
 use std::alloc::Global;
 use std::process::Abort;
-use std::test::Fail;
 
 // What is seen after each cycle of a stretch, which ends when so many cycles were made: the owner,
 // the pc of the low job and of the high one, the fetch of the cycle, and how the two jobs stand.
@@ -189,24 +188,18 @@ fn is_seen(machine: &Machine, stretch: &Stretch) -> bool {
 }
 
 // Makes the cycles of a stretch by themselves, and compares after each.
-fn pass(
-    rt: &impl Abort,
-    machine: &mut Machine,
-    code: &CodeMap,
-    stretch: &Stretch,
-) -> Result<(), Fail>
+fn pass(rt: &impl Abort, machine: &mut Machine, code: &CodeMap, stretch: &Stretch)
     requires { HasPlans code.now machine.old.state }
     ensures { HasPlans code.now machine.new.state }
 {
     for step in machine.steps()..stretch.until {
         assert!(rt; machine.steps() == step);
-        machine.cycle(code)?;
+        machine.cycle(code).expect(rt, "memory");
         assert!(rt;
             machine.steps() == step + 1 && is_seen(machine, stretch),
             "after {step}"
         );
     }
-    Ok(())
 }
 
 // Whether no cycle was made.
@@ -215,46 +208,41 @@ fn is_new(machine: &Machine) -> bool {
 }
 
 // Makes the cycles of all stretches from the start on, one after another.
-fn pass_all(rt: &impl Abort, machine: &mut Machine, code: &CodeMap) -> Result<(), Fail>
+fn pass_all(rt: &impl Abort, machine: &mut Machine, code: &CodeMap)
     requires { HasPlans code.now machine.old.state }
 {
     assert!(rt; is_new(machine));
     for stretch in &STRETCHES {
-        pass(rt, machine, code, stretch)?;
+        pass(rt, machine, code, stretch);
         assert!(rt; machine.steps() == stretch.until);
     }
-    Ok(())
 }
 
 // Makes the cycles of a script, and compares after each.
-fn pass_script(rt: &impl Abort, alloc: Global, loaded: &Loaded, script: &Script) -> Result<(), Fail>
-    requires line { 0 < loaded.now.set.platform.line }
-    requires sets { (0 < loaded.now.set.platform.sets) × (loaded.now.set.platform.sets ≤ 512) }
-    requires plans { length loaded.now.code.plans ≡ length loaded.now.set.tasks }
+fn pass_script(rt: &impl Abort, alloc: Global, loaded: &Loaded, script: &Script)
     requires tasks { NamesTasks loaded.now.set script.now.jobs }
     requires jobs { length script.now.jobs < 2 ^ 32 }
 {
-    let mut machine = Machine::load(alloc, &loaded.code, &loaded.set, script)?;
-    pass_all(rt, &mut machine, &loaded.code)
+    let code = &loaded.code;
+    let mut machine = Machine::load(alloc, code, &loaded.set, script).expect(rt, "memory");
+    pass_all(rt, &mut machine, code);
 }
 
-fn pass_loaded(rt: &impl Abort, alloc: Global, loaded: &Loaded, case: &Case) -> Result<(), Fail>
-    requires line { 0 < loaded.now.set.platform.line }
-    requires sets { (0 < loaded.now.set.platform.sets) × (loaded.now.set.platform.sets ≤ 512) }
-    requires plans { length loaded.now.code.plans ≡ length loaded.now.set.tasks }
-{
-    let script = script_of(alloc, &loaded.set, case.cycles, case.blocks, case.jobs)?;
-    pass_script(rt, alloc, loaded, &script)
+// Makes the cycles of the script of a case.
+fn pass_loaded(rt: &impl Abort, alloc: Global, loaded: &Loaded, case: &Case) {
+    let set = &loaded.set;
+    let script = script_of(rt, alloc, set, case.cycles, case.blocks, case.jobs);
+    pass_script(rt, alloc, loaded, &script);
 }
 
-fn pass_case(rt: &impl Abort, alloc: Global, case: &Case) -> Result<(), Fail> {
-    let loaded = case.load(alloc)?;
-    pass_loaded(rt, alloc, &loaded, case)
+fn pass_case(rt: &impl Abort, alloc: Global, case: &Case) {
+    let loaded = case.load(rt, alloc);
+    pass_loaded(rt, alloc, &loaded, case);
 }
 
 static CASE: Case<'static> = INTERRUPTED;
 
 #[test]
-fn interrupted_instruction(rt: HostRuntime) -> Result<(), Fail> {
-    pass_case(&rt, rt.alloc(), &CASE)
+fn interrupted_instruction(rt: HostRuntime) {
+    pass_case(&rt, rt.alloc(), &CASE);
 }

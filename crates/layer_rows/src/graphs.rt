@@ -1,6 +1,6 @@
 // What is built of a task's code.
-ghost use Rattle.std.specs.Prelude.{◌≡◌, ◌<◌, ◌≤◌, ◌↔◌, ◌&&◌, nat_le};
-ghost use Rattle.std.specs.Prelude.{IfOk, IsTrue, length};
+ghost use Rattle.std.specs.Prelude.{◌≡◌, ◌<◌, ◌↔◌, ◌&&◌, nat_le};
+ghost use Rattle.std.specs.Prelude.{IsTrue, length};
 ghost use Rattle.loop_regions.specs.CodeNest.{AreBounded, IsNestOf};
 
 use code_map::CodeMap;
@@ -8,7 +8,7 @@ use crpd_base::{LoopAt, Task, TaskPlan};
 use flat_graph::{Graph, build};
 use loop_regions::{Nest, regions};
 use std::alloc::Global;
-use std::test::Fail;
+use std::process::Abort;
 
 fn is_bounded(l: &LoopAt) -> bool
     ensures { result ≡ (nat_le 1 l.now.bound && nat_le l.now.bound 1000000) }
@@ -22,34 +22,33 @@ fn are_bounded(loops: &[LoopAt]) -> bool
     loops.iter().all(is_bounded)
 }
 
-// The regions of a plan's loops. Fails where a bound is out of range, the loops are refused or
-// there is no memory. Its cost is that of `regions`.
-fn nest_of(alloc: Global, graph: &Graph, plan: &TaskPlan) -> Result<Nest, Fail>
-    ensures { IfOk result (λ nest. IsNestOf graph.now nest) }
+// The graph of the first task.
+pub(crate) fn graph_of(rt: &impl Abort, alloc: Global, code: &CodeMap) -> Graph
+    requires { 0 < length code.now.plans }
 {
-    if !are_bounded(plan.loops.as_slice()) {
-        return Err(Fail::from("a bound out of range"));
-    }
-    match regions(alloc, graph, plan) {
-        Ok(nest) => Ok(nest),
-        Err(_) => Err(Fail::from("no regions")),
-    }
+    let Ok(graph) = build(alloc, code, Task(0)) else {
+        panic!(rt; "no graph");
+    };
+    graph
 }
 
-// The graph of a task, and its regions. Fails where one of them is refused, a bound is out of
-// range or there is no memory. The code has a plan for the task. Its cost is that of `build` and
-// `regions`.
-pub(crate) fn graph_and_nest(
-    alloc: Global,
-    code: &CodeMap,
-    task: Task,
-) -> Result<(Graph, Nest), Fail>
-    requires { task.0 < length code.now.plans }
-    ensures { IfOk result (λ both. IsNestOf both.0 both.1) }
+// The regions of a plan's loops.
+fn nest_of(rt: &impl Abort, alloc: Global, graph: &Graph, plan: &TaskPlan) -> Nest
+    ensures { IsNestOf graph.now result }
 {
-    let Ok(graph) = build(alloc, code, task) else {
-        return Err(Fail::from("no graph"));
+    assert!(rt; are_bounded(plan.loops.as_slice()));
+    let Ok(nest) = regions(alloc, graph, plan) else {
+        panic!(rt; "no regions");
     };
-    let nest = nest_of(alloc, &graph, code.plan(task))?;
-    Ok((graph, nest))
+    nest
+}
+
+// The graph of the first task, and its regions.
+pub(crate) fn graph_and_nest(rt: &impl Abort, alloc: Global, code: &CodeMap) -> (Graph, Nest)
+    requires { 0 < length code.now.plans }
+    ensures { IsNestOf result.0 result.1 }
+{
+    let graph = graph_of(rt, alloc, code);
+    let nest = nest_of(rt, alloc, &graph, code.plan(Task(0)));
+    (graph, nest)
 }

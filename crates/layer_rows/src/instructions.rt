@@ -57,10 +57,10 @@ static ROWS: [u32; 48] = [
 #[test]
 fn every_row(rt: HostRuntime) {
     for &word in &ROWS {
-        match decode(word) {
-            Some(ins) => assert!(rt; encode(&ins) == word, "{word:x}"),
-            None => assert!(rt; false, "no row"),
-        }
+        let Some(ins) = decode(word) else {
+            panic!(rt; "no row");
+        };
+        assert!(rt; encode(&ins) == word);
     }
 }
 
@@ -126,9 +126,9 @@ static COSTS: [(u32, bool, bool, u64); 10] = [
 #[test]
 fn costs(rt: HostRuntime) {
     for &(word, miss, taken, cycles) in &COSTS {
-        match decode(word) {
-            Some(ins) => assert!(rt; cost(&PLATFORM, &ins, miss, taken) == cycles),
-            None => assert!(rt; false, "no row"),
-        }
+        let Some(ins) = decode(word) else {
+            panic!(rt; "no row");
+        };
+        assert!(rt; cost(&PLATFORM, &ins, miss, taken) == cycles);
     }
 }

@@ -1,5 +1,5 @@
 //! The worked rows of what no command shows: what is built of small programs' code, node by node,
-//! and their bounds beside those of a slow program; the solver that finds facts of graphs; delays
+//! and their bounds beside those that a slow program finds; the solver that finds facts of graphs; delays
 //! of sets of shares, counted and by the plain unions of older tools; certificates whose states
 //! stand in another order than a text may have them, and those written as they are read; task sets,
 //! files and scripts that are made; words and the cycles of instructions, the watch over a job's
@@ -28,8 +28,6 @@ mod sets;
 mod words;
 
 // What is built of code.
-#[cfg(test)]
-mod fixpoint;
 #[cfg(test)]
 mod nodes;
 #[cfg(test)]

@@ -1,5 +1,5 @@
 // Programs of tasks, and task sets of them with their code.
-ghost use Rattle.std.specs.Prelude.{◌≡◌, ◌<◌, ◌≤◌, IfOk, IsTrue, All, length};
+ghost use Rattle.std.specs.Prelude.{◌≡◌, ◌<◌, ◌≤◌, IfOk, All, length};
 ghost use Rattle.crpd_base.specs.Images.{IsImage};
 
 use crate::words::TWO_WORDS;
@@ -8,7 +8,7 @@ use crpd_base::{
     Image, Items, LoopSpec, Place, Platform, Segment, Switching, TaskSet, TaskSpec, Text,
 };
 use std::alloc::{AllocError, Global};
-use std::test::Fail;
+use std::process::Abort;
 
 // Four cache sets of lines of 16 bytes; a switch costs 5 cycles, and loading a line 10.
 pub(crate) const PLATFORM: Platform = Platform {
@@ -66,157 +66,147 @@ pub(crate) const ONE: Program<'static> = Program {
 };
 
 // The bytes of words, the low byte of each first.
-fn bytes_of(alloc: Global, words: &[u32]) -> Result<Vec<u8>, AllocError> {
+fn bytes_of(rt: &impl Abort, alloc: Global, words: &[u32]) -> Vec<u8> {
     let mut bytes = Vec::new(alloc);
     for word in words {
-        bytes.extend_from_slice(&word.to_le_bytes())?;
+        bytes
+            .extend_from_slice(&word.to_le_bytes())
+            .expect(rt, "memory");
     }
-    Ok(bytes)
+    bytes
 }
 
-// The segments of a program: one of code. There is none where it begins at 1,000,000 or above, or
-// has 1,000,000 bytes or more.
-fn image_of(alloc: Global, program: &Program) -> Result<Image, AllocError>
-    ensures { IfOk result IsImage }
+// The segments of a program: one of code. It begins below 1,000,000 and has fewer bytes.
+fn image_of(rt: &impl Abort, alloc: Global, program: &Program) -> Image
+    ensures { IsImage result }
 {
-    let bytes = bytes_of(alloc, program.words)?;
+    let bytes = bytes_of(rt, alloc, program.words);
+    assert!(rt; program.start < 1_000_000 && bytes.len() < 1_000_000);
+    let segment = Segment {
+        address: program.start,
+        size: bytes.len() as u64,
+        bytes: Items::new(bytes),
+        executable: true,
+    };
     let mut segments = Vec::new(alloc);
-    if program.start < 1_000_000 && bytes.len() < 1_000_000 {
-        segments.push(Segment {
-            address: program.start,
-            size: bytes.len() as u64,
-            bytes: Items::new(bytes),
-            executable: true,
-        })?;
-    }
-    Ok(Image {
+    segments.push(segment).expect(rt, "memory");
+    Image {
         entry: program.start,
         segments: Items::new(segments),
         symbols: Items::new(Vec::new(alloc)),
-    })
+    }
 }
 
-fn images_of(alloc: Global, programs: &[Program]) -> Result<Vec<Image>, AllocError>
+fn images_of(rt: &impl Abort, alloc: Global, programs: &[Program]) -> Result<Vec<Image>, AllocError>
     ensures { IfOk result (λ images. All IsImage images.items) }
 {
     let mut images = Vec::new(alloc);
     for program in programs {
-        images.push(image_of(alloc, program)?)?;
+        images.push(image_of(rt, alloc, program))?;
     }
     Ok(images)
 }
 
 // A loop with one range.
-fn loop_of(alloc: Global, stated: &Stated) -> Result<LoopSpec, AllocError> {
+fn loop_of(rt: &impl Abort, alloc: Global, stated: &Stated) -> LoopSpec {
     let (head, bound, (from, to)) = *stated;
     let mut ranges = Vec::new(alloc);
-    ranges.push((Place::Number(from), Place::Number(to)))?;
-    Ok(LoopSpec {
+    ranges
+        .push((Place::Number(from), Place::Number(to)))
+        .expect(rt, "memory");
+    LoopSpec {
         head: Place::Number(head),
         bound,
         ranges: Items::new(ranges),
-    })
+    }
 }
 
-fn loops_of(alloc: Global, stated: &[Stated]) -> Result<Vec<LoopSpec>, AllocError> {
+fn loops_of(rt: &impl Abort, alloc: Global, stated: &[Stated]) -> Vec<LoopSpec> {
     let mut loops = Vec::new(alloc);
     for stated in stated {
-        loops.push(loop_of(alloc, stated)?)?;
+        let stated = loop_of(rt, alloc, stated);
+        loops.push(stated).expect(rt, "memory");
     }
-    Ok(loops)
+    loops
 }
 
-fn text_of(alloc: Global, text: &str) -> Result<Text, AllocError> {
-    Ok(Text::new(String::from_str(alloc, text)?))
+pub(crate) fn text_of(rt: &impl Abort, alloc: Global, text: &str) -> Text {
+    Text::new(String::from_str(alloc, text).expect(rt, "memory"))
 }
 
-fn task_of(alloc: Global, program: &Program) -> Result<TaskSpec, AllocError> {
-    let name = text_of(alloc, program.name)?;
-    let file = text_of(alloc, program.name)?;
-    let loops = loops_of(alloc, program.loops)?;
+fn task_of(rt: &impl Abort, alloc: Global, program: &Program) -> TaskSpec {
     let entry = match program.entry {
         Some(address) => Some(Place::Number(address)),
         None => None,
     };
-    Ok(TaskSpec {
-        name,
-        file,
+    TaskSpec {
+        name: text_of(rt, alloc, program.name),
+        file: text_of(rt, alloc, program.name),
         entry,
         period: program.period,
         deadline: program.deadline,
         jitter: program.jitter,
         stack: Place::Number(program.stack),
         global: Place::Number(0),
-        loops: Items::new(loops),
-    })
+        loops: Items::new(loops_of(rt, alloc, program.loops)),
+    }
 }
 
-fn set_of(alloc: Global, platform: &Platform, programs: &[Program]) -> Result<TaskSet, AllocError> {
+fn set_of(rt: &impl Abort, alloc: Global, platform: &Platform, programs: &[Program]) -> TaskSet {
     let mut tasks = Vec::new(alloc);
     for program in programs {
-        tasks.push(task_of(alloc, program)?)?;
+        let task = task_of(rt, alloc, program);
+        tasks.push(task).expect(rt, "memory");
     }
-    Ok(TaskSet {
+    TaskSet {
         platform: *platform,
         tasks: Items::new(tasks),
-    })
+    }
 }
 
 // The code of a set's tasks, whose programs these are.
-fn code_of(alloc: Global, set: &TaskSet, programs: &[Program]) -> Result<CodeMap, Fail> {
-    let images = images_of(alloc, programs)?;
-    if images.len() != set.tasks.len() || images.len() > 32 {
-        return Err(Fail::from("too many tasks"));
-    }
-    match CodeMap::new(alloc, set, images) {
-        Ok(code) => Ok(code),
-        Err(_) => Err(Fail::from("no code map")),
-    }
+fn code_of(rt: &impl Abort, alloc: Global, set: &TaskSet, programs: &[Program]) -> CodeMap {
+    let images = images_of(rt, alloc, programs).expect(rt, "memory");
+    assert!(rt; images.len() == set.tasks.len() && images.len() <= 32);
+    let Ok(code) = CodeMap::new(alloc, set, images) else {
+        panic!(rt; "no code map");
+    };
+    code
 }
 
-// A task set, and the code of its files.
+// A task set, and the code of its files: a plan for each of its tasks, lines that have bytes, and
+// 1 to 512 cache sets.
 #[derive(Drop)]
 pub(crate) struct Loaded {
     // The task set, of 1 to 32 tasks.
     pub(crate) set: TaskSet,
     // The code of its tasks, with a plan for each.
     pub(crate) code: CodeMap,
+    ghost some: { 0 < length set.tasks },
+    ghost plans: { length code.plans ≡ length set.tasks },
+    ghost line: { 0 < set.platform.line },
+    ghost sets: { 0 < set.platform.sets },
+    ghost few: { set.platform.sets ≤ 512 },
 }
 
-// Whether there are tasks, with a plan for each, lines that have bytes, and 1 to 512 cache sets.
-fn is_whole(loaded: &Loaded) -> bool
-    ensures some { IsTrue result → 0 < length loaded.now.set.tasks }
-    ensures plans { IsTrue result → length loaded.now.code.plans ≡ length loaded.now.set.tasks }
-    ensures line { IsTrue result → 0 < loaded.now.set.platform.line }
-    ensures sets { IsTrue result →
-        (0 < loaded.now.set.platform.sets) × (loaded.now.set.platform.sets ≤ 512) }
-{
-    loaded.code.plans_law();
-    let platform = &loaded.set.platform;
-    let tasks = loaded.set.tasks.len();
-    let whole = 0 < tasks && loaded.code.images().len() == tasks;
-    whole && 0 < platform.line && 0 < platform.sets && platform.sets <= 512
+// A set and its code, in the ranges of what is loaded.
+fn loaded_of(rt: &impl Abort, set: TaskSet, code: CodeMap) -> Loaded {
+    code.plans_law();
+    let platform = &set.platform;
+    assert!(rt; 0 < platform.line && 0 < platform.sets && platform.sets <= 512);
+    let tasks = set.tasks.len();
+    assert!(rt; 0 < tasks && code.images().len() == tasks);
+    Loaded { set, code }
 }
 
-// The set of these programs, in the order of their priorities, with its code. Fails where there is
-// no code map, and where the platform is out of range.
+// The set of these programs, in the order of their priorities, with its code.
 pub(crate) fn load(
+    rt: &impl Abort,
     alloc: Global,
     platform: &Platform,
     programs: &[Program],
-) -> Result<Box<Loaded>, Fail>
-    ensures some { IfOk result (λ l. 0 < length l.value.set.tasks) }
-    ensures plans { IfOk result (λ l. length l.value.code.plans ≡ length l.value.set.tasks) }
-    ensures line { IfOk result (λ l. 0 < l.value.set.platform.line) }
-    ensures sets { IfOk result (λ l.
-        (0 < l.value.set.platform.sets) × (l.value.set.platform.sets ≤ 512)) }
-{
-    let set = set_of(alloc, platform, programs)?;
-    let code = code_of(alloc, &set, programs)?;
-    let loaded = Box::new(alloc, Loaded { set, code })?;
-    if is_whole(&loaded) {
-        Ok(loaded)
-    } else {
-        Err(Fail::from("no tasks, or a platform out of range"))
-    }
+) -> Loaded {
+    let set = set_of(rt, alloc, platform, programs);
+    let code = code_of(rt, alloc, &set, programs);
+    loaded_of(rt, set, code)
 }

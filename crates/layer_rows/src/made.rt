@@ -1,7 +1,8 @@
 // Made task sets, files and scripts.
-use crpd_base::{Items, LoopSpec, Place, Script, ScriptJob, TaskSpec};
+use crpd_base::{Items, LoopSpec, Place, Script, TaskSpec};
 use gen_tasks::{Generated, generate};
 use std::alloc::Global;
+use std::process::Abort;
 
 // A task's name, which its file's name begins with; its period, which is its deadline, and jitter;
 // its loop's head, at which its range begins, bound and end; and the length of its file.
@@ -10,8 +11,11 @@ type Task = (&'static str, [u64; 2], [u32; 3], usize);
 // A job's task, arrival and release.
 type Job = (u8, u64, u64);
 
+// A number, and the tasks and the jobs that are made of it.
+type Made = (u32, &'static [Task], &'static [Job]);
+
 // The tasks and the jobs of a number, as a plain program of another language makes them.
-static MADE: [(u32, &[Task], &[Job]); 4] = [
+static MADE: [Made; 4] = [
     (
         0,
         &[
@@ -213,107 +217,80 @@ fn is_number(place: &Place, want: u32) -> bool {
     }
 }
 
-fn is_loop(stated: &LoopSpec, want: [u32; 3]) -> bool {
+fn compare_loop(rt: &impl Abort, stated: &LoopSpec, want: [u32; 3]) {
     let [head, bound, end] = want;
+    assert!(rt; is_number(&stated.head, head) && stated.bound == bound);
     let [(first, last)] = stated.ranges.as_slice() else {
-        return false;
+        panic!(rt; "not one range");
     };
-    is_number(&stated.head, head)
-        && stated.bound == bound
-        && is_number(first, head)
-        && is_number(last, end)
+    assert!(rt; is_number(first, head) && is_number(last, end));
 }
 
-fn is_task(task: &TaskSpec, want: &Task) -> bool {
-    let &(name, times, stated, _) = want;
+fn compare_task(rt: &impl Abort, task: &TaskSpec, want: &Task) {
+    let &(name, [period, jitter], stated, _) = want;
     let [only] = task.loops.as_slice() else {
-        return false;
+        panic!(rt; "not one loop");
     };
-    task.name.as_str() == name
-        && task.file.as_str().strip_suffix(".elf") == Some(name)
-        && [task.period, task.jitter] == times
-        && task.deadline == task.period
-        && is_loop(only, stated)
+    compare_loop(rt, only, stated);
+    assert!(rt; task.name.as_str() == name);
+    assert!(rt; task.file.as_str().strip_suffix(".elf") == Some(name));
+    assert!(rt; task.period == period && task.deadline == period && task.jitter == jitter);
 }
 
-fn are_tasks(tasks: &[TaskSpec], want: &[Task]) -> bool {
-    for (task, want) in tasks.iter().zip(want) {
-        if !is_task(task, want) {
-            return false;
-        }
+// Compares the tasks, and the lengths of their files.
+fn compare_tasks(rt: &impl Abort, tasks: &[TaskSpec], files: &[Items<u8>], want: &[Task]) {
+    assert!(rt; tasks.len() == want.len() && files.len() == want.len());
+    for i in 0..want.len() {
+        compare_task(rt, &tasks[i], &want[i]);
+        assert!(rt; files[i].len() == want[i].3);
     }
-    tasks.len() == want.len()
 }
 
-// Whether the files of the tasks have these lengths.
-fn are_files(files: &[Items<u8>], want: &[Task]) -> bool {
-    for (file, want) in files.iter().zip(want) {
-        if file.len() != want.3 {
-            return false;
-        }
+fn compare_script(rt: &impl Abort, script: &Script, want: &[Job]) {
+    let jobs = script.jobs.as_slice();
+    assert!(rt; script.cycles == 500_000 && script.cache.is_empty() && jobs.len() == want.len());
+    for i in 0..want.len() {
+        let (task, arrival, release) = want[i];
+        assert!(rt; jobs[i].task.0 == task);
+        assert!(rt; jobs[i].arrival == arrival && jobs[i].release == release);
     }
-    files.len() == want.len()
-}
-
-fn is_job(job: &ScriptJob, want: &Job) -> bool {
-    (job.task.0, job.arrival, job.release) == *want
-}
-
-fn is_script(script: &Script, want: &[Job]) -> bool {
-    for (job, want) in script.jobs.iter().zip(want) {
-        if !is_job(job, want) {
-            return false;
-        }
-    }
-    script.jobs.len() == want.len() && script.cycles == 500_000 && script.cache.is_empty()
 }
 
 // What is made of a number below 2^31.
-fn made_of(alloc: Global, number: u32) -> Option<Generated> {
-    if number > 2_147_483_647 {
-        return None;
-    }
-    generate(alloc, number).ok()
+fn made_of(rt: &impl Abort, alloc: Global, number: u32) -> Generated {
+    assert!(rt; number <= 2_147_483_647);
+    let Ok(made) = generate(alloc, number) else {
+        panic!(rt; "not made");
+    };
+    made
 }
 
-fn is_made(made: &Generated, tasks: &[Task], jobs: &[Job]) -> bool {
-    are_tasks(made.set.tasks.as_slice(), tasks)
-        && are_files(made.files.as_slice(), tasks)
-        && is_script(&made.script, jobs)
-}
-
-// Whether these tasks and jobs are made of a number.
-fn are_made(alloc: Global, number: u32, tasks: &[Task], jobs: &[Job]) -> bool {
-    match made_of(alloc, number) {
-        Some(made) => is_made(&made, tasks, jobs),
-        None => false,
-    }
+fn compare_made(rt: &impl Abort, alloc: Global, row: &Made) {
+    let &(number, tasks, jobs) = row;
+    let made = made_of(rt, alloc, number);
+    compare_tasks(rt, made.set.tasks.as_slice(), made.files.as_slice(), tasks);
+    compare_script(rt, &made.script, jobs);
 }
 
 #[test]
 fn tasks_and_jobs(rt: HostRuntime) {
-    for &(number, tasks, jobs) in &MADE {
-        assert!(rt; are_made(rt.alloc(), number, tasks, jobs), "at {number}");
+    for row in &MADE {
+        compare_made(&rt, rt.alloc(), row);
     }
 }
 
-// Whether the file of a task has these bytes.
-fn is_file(made: &Generated, task: usize, bytes: &[u8]) -> bool {
-    match made.files.get(task) {
-        Some(file) => file.as_slice() == bytes,
-        None => false,
-    }
+fn compare_bytes(rt: &impl Abort, files: &[Items<u8>], bytes: &[u8]) {
+    assert!(rt; files.len() > 4);
+    assert!(rt; files[4].as_slice() == bytes);
 }
 
-// Whether the file of a task is made with these bytes.
-fn has_file(alloc: Global, number: u32, task: usize, bytes: &[u8]) -> bool {
-    match made_of(alloc, number) {
-        Some(made) => is_file(&made, task, bytes),
-        None => false,
-    }
+// Compares the bytes of the file of task 4 of 1.
+fn compare_file(rt: &impl Abort, alloc: Global, bytes: &[u8]) {
+    let made = made_of(rt, alloc, 1);
+    compare_bytes(rt, made.files.as_slice(), bytes);
 }
 
 #[test]
 fn the_bytes_of_a_file(rt: HostRuntime) {
-    assert!(rt; has_file(rt.alloc(), 1, 4, &FILE));
+    compare_file(&rt, rt.alloc(), &FILE);
 }

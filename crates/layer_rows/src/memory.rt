@@ -1,7 +1,5 @@
 // Bytes put into the data memory, many at once.
 use rv_core::DataMemory;
-use std::process::Abort;
-use std::test::Fail;
 
 // Where bytes are put, and the bytes, one after the other: over the end of a page of 64 bytes;
 // fewer over some of these; no byte; zeros where nothing is stored; zeros before another byte; more
@@ -41,27 +39,14 @@ static BYTES: [(u32, u8); 21] = [
     (0xFFFF_FFFF, 14),
 ];
 
-// Puts bytes from an address on. Fails where they do not fit below 2^32.
-fn put(memory: &mut DataMemory, address: u32, bytes: &[u8]) -> Result<(), Fail> {
-    if bytes.len() as u64 > 0x1_0000_0000 - u64::from(address) {
-        return Err(Fail::from("past the end of memory"));
+#[test]
+fn bytes_put(rt: HostRuntime) {
+    let mut memory = DataMemory::new(rt.alloc());
+    for &(address, bytes) in &PUTS {
+        assert!(rt; bytes.len() as u64 <= 0x1_0000_0000 - u64::from(address));
+        memory.put_all(address, bytes).expect(&rt, "memory");
     }
-    memory.put_all(address, bytes)?;
-    Ok(())
-}
-
-fn compare(rt: &impl Abort, memory: &DataMemory) {
     for &(address, byte) in &BYTES {
         assert!(rt; memory.byte(address) == byte);
     }
-}
-
-#[test]
-fn bytes_put(rt: HostRuntime) -> Result<(), Fail> {
-    let mut memory = DataMemory::new(rt.alloc());
-    for &(address, bytes) in &PUTS {
-        put(&mut memory, address, bytes)?;
-    }
-    compare(&rt, &memory);
-    Ok(())
 }

@@ -1,17 +1,19 @@
 // The nodes of small programs: where each stands and goes on, what the cache surely holds before
 // it, and which of that is useful.
-ghost use Rattle.std.specs.Prelude.{◌<◌, IfOk, length};
-ghost use Rattle.flat_graph.specs.CodeGraph.{graph_of};
+ghost use Rattle.std.specs.Prelude.{◌<◌, length};
+ghost use Rattle.flat_graph.specs.CodeGraph as code_graph;
 
+use crate::graphs::graph_of;
 use crate::loading::{Loaded, ONE, PLATFORM, Program, load};
 use crate::words::{BACK, CALLS, LINES, LOOP, TWO_WORDS};
 use code_map::CodeMap;
-use crpd_base::{Memory, NodeId, Platform, SetBits, Task};
-use flat_graph::{Graph, build};
+use crpd_base::{NodeId, Platform, SetBits, Task};
+use flat_graph::Graph;
 use icache::Geometry;
 use must_cache::{MustState, must};
 use std::alloc::Global;
-use std::test::Fail;
+use std::process::Abort;
+use std::slice;
 use useful_sets::useful;
 
 const EIGHT_SETS: Platform = Platform {
@@ -20,20 +22,12 @@ const EIGHT_SETS: Platform = Platform {
 };
 
 // A node: the calls under way, its address, whether it is a leader, its successors, the blocks that
-// the cache sets surely hold, from the first set on, with 0 where none is known, and the useful
-// sets as bits.
-type Row = (
-    &'static [u32],
-    u32,
-    bool,
-    &'static [u32],
-    &'static [u32],
-    u64,
-);
+// the cache sets surely hold, with 0 where none is known, and the useful sets as bits.
+type Row = (&'static [u32], u32, bool, [Option<u32>; 2], [u32; 8], u64);
 
 // A node's successor of this place.
 fn successor(graph: &Graph, id: NodeId, place: u8) -> Option<u32>
-    requires node { id.0 < (graph_of graph.now).size }
+    requires node { id.0 < (code_graph.graph_of graph.now).size }
     requires place { place < 2 }
 {
     match graph.succ(id, place) {
@@ -44,22 +38,21 @@ fn successor(graph: &Graph, id: NodeId, place: u8) -> Option<u32>
 
 // Whether a node stands where the row says, is found there, and goes on as it says.
 fn is_place(graph: &Graph, id: NodeId, row: &Row) -> bool
-    requires { id.0 < (graph_of graph.now).size }
+    requires { id.0 < (code_graph.graph_of graph.now).size }
 {
     let &(calls, address, leads, next, _, _) = row;
     graph.context(id) == calls
         && graph.node(id).address == address
         && graph.leader(id) == leads
         && graph.find(calls, address) == Some(id)
-        && successor(graph, id, 0) == next.first().copied()
-        && successor(graph, id, 1) == next.get(1).copied()
+        && successor(graph, id, 0) == next[0]
+        && successor(graph, id, 1) == next[1]
 }
 
 // Whether a state surely holds these blocks, from the first set on, and no others.
-fn holds(state: &MustState<8>, held: &[u32]) -> bool {
+fn holds(state: &MustState<8>, held: &[u32; 8]) -> bool {
     for set in 0..8u16 {
-        let block = held.get(set as usize).copied().unwrap_or(0);
-        if state.at(set).unwrap_or(0) != block {
+        if state.at(set).unwrap_or(0) != held[set as usize] {
             return false;
         }
     }
@@ -74,7 +67,7 @@ fn are_nodes(graph: &Graph, states: &[MustState<8>], useful: &[SetBits<1>], rows
     }
     for (number, row) in rows.iter().enumerate() {
         let place = is_place(graph, NodeId(number as u32), row);
-        if !place || !holds(&states[number], row.4) || useful[number].word(0) != row.5 {
+        if !place || !holds(&states[number], &row.4) || useful[number].word(0) != row.5 {
             return false;
         }
     }
@@ -86,40 +79,38 @@ fn finds_no_others(graph: &Graph) -> bool {
     graph.find(&[], 1).is_none() && graph.find(&[1], 0x1000).is_none()
 }
 
-// Whether a graph has these nodes.
-fn graph_has(alloc: Global, graph: &Graph, rows: &[Row]) -> Result<bool, Memory> {
+// Compares the nodes of a graph.
+fn compare_nodes(rt: &impl Abort, alloc: Global, graph: &Graph, rows: &[Row]) {
     let geometry = Geometry::new(&EIGHT_SETS);
-    let states = must::<8>(alloc, graph, &geometry)?;
-    let useful = useful::<8, 1>(alloc, graph, &geometry, &states)?;
-    Ok(finds_no_others(graph) && are_nodes(graph, &states, &useful, rows))
-}
-
-// Whether the graph of the code has these nodes.
-fn code_has(alloc: Global, code: &CodeMap, rows: &[Row]) -> Result<bool, Fail>
-    requires { 0 < length code.now.plans }
-{
-    match build(alloc, code, Task(0)) {
-        Ok(graph) => Ok(graph_has(alloc, &graph, rows)?),
-        Err(_) => Err(Fail::from("no graph")),
-    }
+    let states = must::<8>(alloc, graph, &geometry).expect(rt, "memory");
+    let useful = useful::<8, 1>(alloc, graph, &geometry, &states).expect(rt, "memory");
+    assert!(rt; finds_no_others(graph));
+    assert!(rt; are_nodes(graph, &states, &useful, rows));
 }
 
 // What is loaded of these words from an address on.
-fn loaded_of(alloc: Global, start: u32, words: &[u32]) -> Result<Box<Loaded>, Fail>
-    ensures { IfOk result (λ l. 0 < length l.value.code.plans) }
-{
+fn loaded_of(rt: &impl Abort, alloc: Global, start: u32, words: &[u32]) -> Loaded {
     let program = Program {
         start,
         words,
         ..ONE
     };
-    load(alloc, &PLATFORM, &[program])
+    load(rt, alloc, &PLATFORM, slice::from_ref(&program))
 }
 
-// Whether the graph of these words from an address on has these nodes.
-fn words_have(alloc: Global, start: u32, words: &[u32], rows: &[Row]) -> Result<bool, Fail> {
-    let loaded = loaded_of(alloc, start, words)?;
-    code_has(alloc, &loaded.code, rows)
+// Compares the nodes of the graph of the code.
+fn compare_code(rt: &impl Abort, alloc: Global, code: &CodeMap, rows: &[Row])
+    requires { 0 < length code.now.plans }
+{
+    let graph = graph_of(rt, alloc, code);
+    compare_nodes(rt, alloc, &graph, rows);
+}
+
+// Compares the nodes of the graph of words.
+fn compare_flow(rt: &impl Abort, alloc: Global, flow: &Flow) {
+    let &(start, words, rows) = flow;
+    let loaded = loaded_of(rt, alloc, start, words);
+    compare_code(rt, alloc, &loaded.code, rows);
 }
 
 // `beq x0,x0,16`, the one way by `jal x0,4` and the other by `jal x0,-8` in the next line, to one
@@ -164,98 +155,336 @@ const SAME_SET: [u32; 33] = [
 ];
 
 // Where words begin, the words, and their nodes.
-static PROGRAMS: [(u32, &[u32], &[Row]); 8] = [
+type Flow = (u32, &'static [u32], &'static [Row]);
+
+static PROGRAMS: [Flow; 8] = [
     (
         0x1000,
         &TWO_WORDS,
         &[
-            (&[], 0x1000, true, &[1], &[], 0b0),
-            (&[], 0x1004, false, &[], &[0x100], 0b1),
+            (
+                &[],
+                0x1000,
+                true,
+                [Some(1), None],
+                [0, 0, 0, 0, 0, 0, 0, 0],
+                0b0,
+            ),
+            (
+                &[],
+                0x1004,
+                false,
+                [None, None],
+                [0x100, 0, 0, 0, 0, 0, 0, 0],
+                0b1,
+            ),
         ],
     ),
     (
         0x1000,
         &LOOP,
         &[
-            (&[], 0x1000, true, &[1], &[], 0b0),
-            (&[], 0x1004, true, &[2], &[0x100], 0b1),
-            (&[], 0x1008, false, &[3, 1], &[0x100], 0b1),
-            (&[], 0x100C, true, &[], &[0x100], 0b1),
+            (
+                &[],
+                0x1000,
+                true,
+                [Some(1), None],
+                [0, 0, 0, 0, 0, 0, 0, 0],
+                0b0,
+            ),
+            (
+                &[],
+                0x1004,
+                true,
+                [Some(2), None],
+                [0x100, 0, 0, 0, 0, 0, 0, 0],
+                0b1,
+            ),
+            (
+                &[],
+                0x1008,
+                false,
+                [Some(3), Some(1)],
+                [0x100, 0, 0, 0, 0, 0, 0, 0],
+                0b1,
+            ),
+            (
+                &[],
+                0x100C,
+                true,
+                [None, None],
+                [0x100, 0, 0, 0, 0, 0, 0, 0],
+                0b1,
+            ),
         ],
     ),
     (
         0x3010,
         &LINES,
         &[
-            (&[], 0x3010, true, &[1], &[], 0b0),
-            (&[], 0x3020, false, &[2], &[0, 0x301], 0b0),
-            (&[], 0x3030, false, &[3], &[0, 0x301, 0x302], 0b0),
-            (&[], 0x3040, false, &[], &[0, 0x301, 0x302, 0x303], 0b0),
+            (
+                &[],
+                0x3010,
+                true,
+                [Some(1), None],
+                [0, 0, 0, 0, 0, 0, 0, 0],
+                0b0,
+            ),
+            (
+                &[],
+                0x3020,
+                false,
+                [Some(2), None],
+                [0, 0x301, 0, 0, 0, 0, 0, 0],
+                0b0,
+            ),
+            (
+                &[],
+                0x3030,
+                false,
+                [Some(3), None],
+                [0, 0x301, 0x302, 0, 0, 0, 0, 0],
+                0b0,
+            ),
+            (
+                &[],
+                0x3040,
+                false,
+                [None, None],
+                [0, 0x301, 0x302, 0x303, 0, 0, 0, 0],
+                0b0,
+            ),
         ],
     ),
     (
         0x2010,
         &BACK,
         &[
-            (&[], 0x2010, true, &[2], &[], 0b0),
-            (&[], 0x2014, false, &[3], &[0, 0x201, 0x202], 0b110),
-            (&[], 0x2020, false, &[1], &[0, 0x201], 0b10),
-            (&[], 0x2024, false, &[], &[0, 0x201, 0x202], 0b100),
+            (
+                &[],
+                0x2010,
+                true,
+                [Some(2), None],
+                [0, 0, 0, 0, 0, 0, 0, 0],
+                0b0,
+            ),
+            (
+                &[],
+                0x2014,
+                false,
+                [Some(3), None],
+                [0, 0x201, 0x202, 0, 0, 0, 0, 0],
+                0b110,
+            ),
+            (
+                &[],
+                0x2020,
+                false,
+                [Some(1), None],
+                [0, 0x201, 0, 0, 0, 0, 0, 0],
+                0b10,
+            ),
+            (
+                &[],
+                0x2024,
+                false,
+                [None, None],
+                [0, 0x201, 0x202, 0, 0, 0, 0, 0],
+                0b100,
+            ),
         ],
     ),
     (
         0x1030,
         &BACK,
         &[
-            (&[], 0x1030, true, &[2], &[], 0b0),
-            (&[], 0x1034, false, &[3], &[0, 0, 0, 0x103, 0x104], 0b11000),
-            (&[], 0x1040, false, &[1], &[0, 0, 0, 0x103], 0b1000),
-            (&[], 0x1044, false, &[], &[0, 0, 0, 0x103, 0x104], 0b10000),
+            (
+                &[],
+                0x1030,
+                true,
+                [Some(2), None],
+                [0, 0, 0, 0, 0, 0, 0, 0],
+                0b0,
+            ),
+            (
+                &[],
+                0x1034,
+                false,
+                [Some(3), None],
+                [0, 0, 0, 0x103, 0x104, 0, 0, 0],
+                0b11000,
+            ),
+            (
+                &[],
+                0x1040,
+                false,
+                [Some(1), None],
+                [0, 0, 0, 0x103, 0, 0, 0, 0],
+                0b1000,
+            ),
+            (
+                &[],
+                0x1044,
+                false,
+                [None, None],
+                [0, 0, 0, 0x103, 0x104, 0, 0, 0],
+                0b10000,
+            ),
         ],
     ),
     (
         0x1000,
         &CALLS,
         &[
-            (&[], 0x1000, true, &[1], &[], 0b0),
-            (&[], 0x1004, false, &[2], &[0x100], 0b1),
-            (&[], 0x1008, false, &[7], &[0x100], 0b1),
-            (&[], 0x100C, false, &[8], &[0x100, 0x101], 0b11),
-            (&[], 0x1010, false, &[5], &[0x100, 0x101], 0b10),
-            (&[], 0x1014, false, &[6], &[0x100, 0x101], 0b10),
-            (&[], 0x1018, false, &[], &[0x100, 0x101], 0b10),
-            (&[0x1008], 0x101C, false, &[3], &[0x100], 0b1),
-            (&[0x100C], 0x101C, false, &[4], &[0x100, 0x101], 0b10),
+            (
+                &[],
+                0x1000,
+                true,
+                [Some(1), None],
+                [0, 0, 0, 0, 0, 0, 0, 0],
+                0b0,
+            ),
+            (
+                &[],
+                0x1004,
+                false,
+                [Some(2), None],
+                [0x100, 0, 0, 0, 0, 0, 0, 0],
+                0b1,
+            ),
+            (
+                &[],
+                0x1008,
+                false,
+                [Some(7), None],
+                [0x100, 0, 0, 0, 0, 0, 0, 0],
+                0b1,
+            ),
+            (
+                &[],
+                0x100C,
+                false,
+                [Some(8), None],
+                [0x100, 0x101, 0, 0, 0, 0, 0, 0],
+                0b11,
+            ),
+            (
+                &[],
+                0x1010,
+                false,
+                [Some(5), None],
+                [0x100, 0x101, 0, 0, 0, 0, 0, 0],
+                0b10,
+            ),
+            (
+                &[],
+                0x1014,
+                false,
+                [Some(6), None],
+                [0x100, 0x101, 0, 0, 0, 0, 0, 0],
+                0b10,
+            ),
+            (
+                &[],
+                0x1018,
+                false,
+                [None, None],
+                [0x100, 0x101, 0, 0, 0, 0, 0, 0],
+                0b10,
+            ),
+            (
+                &[0x1008],
+                0x101C,
+                false,
+                [Some(3), None],
+                [0x100, 0, 0, 0, 0, 0, 0, 0],
+                0b1,
+            ),
+            (
+                &[0x100C],
+                0x101C,
+                false,
+                [Some(4), None],
+                [0x100, 0x101, 0, 0, 0, 0, 0, 0],
+                0b10,
+            ),
         ],
     ),
     (
         0x1000,
         &MEETING,
         &[
-            (&[], 0x1000, true, &[1, 3], &[], 0b0),
-            (&[], 0x1004, true, &[2], &[0x100], 0b1),
-            (&[], 0x1008, true, &[], &[0x100], 0b1),
-            (&[], 0x1010, true, &[2], &[0x100], 0b1),
+            (
+                &[],
+                0x1000,
+                true,
+                [Some(1), Some(3)],
+                [0, 0, 0, 0, 0, 0, 0, 0],
+                0b0,
+            ),
+            (
+                &[],
+                0x1004,
+                true,
+                [Some(2), None],
+                [0x100, 0, 0, 0, 0, 0, 0, 0],
+                0b1,
+            ),
+            (
+                &[],
+                0x1008,
+                true,
+                [None, None],
+                [0x100, 0, 0, 0, 0, 0, 0, 0],
+                0b1,
+            ),
+            (
+                &[],
+                0x1010,
+                true,
+                [Some(2), None],
+                [0x100, 0, 0, 0, 0, 0, 0, 0],
+                0b1,
+            ),
         ],
     ),
     (
         0x1000,
         &SAME_SET,
         &[
-            (&[], 0x1000, true, &[2], &[], 0b0),
-            (&[], 0x1004, false, &[], &[0x108], 0b0),
-            (&[], 0x1080, false, &[1], &[0x100], 0b0),
+            (
+                &[],
+                0x1000,
+                true,
+                [Some(2), None],
+                [0, 0, 0, 0, 0, 0, 0, 0],
+                0b0,
+            ),
+            (
+                &[],
+                0x1004,
+                false,
+                [None, None],
+                [0x108, 0, 0, 0, 0, 0, 0, 0],
+                0b0,
+            ),
+            (
+                &[],
+                0x1080,
+                false,
+                [Some(1), None],
+                [0x100, 0, 0, 0, 0, 0, 0, 0],
+                0b0,
+            ),
         ],
     ),
 ];
 
 #[test]
-fn nodes_of_small_programs(rt: HostRuntime) -> Result<(), Fail> {
-    for &(start, words, rows) in &PROGRAMS {
-        let same = words_have(rt.alloc(), start, words, rows)?;
-        assert!(rt; same, "from {start:x}");
+fn nodes_of_small_programs(rt: HostRuntime) {
+    for flow in &PROGRAMS {
+        compare_flow(&rt, rt.alloc(), flow);
     }
-    Ok(())
 }
 
 // Addresses, the words there, whether they are the task's own, and the next address of such a word.
@@ -285,9 +514,8 @@ fn has_words(code: &CodeMap) -> bool
 }
 
 #[test]
-fn words_of_a_program(rt: HostRuntime) -> Result<(), Fail> {
-    let loaded = loaded_of(rt.alloc(), 0x1000, &TWO_WORDS)?;
+fn words_of_a_program(rt: HostRuntime) {
+    let loaded = loaded_of(&rt, rt.alloc(), 0x1000, &TWO_WORDS);
     assert!(rt; loaded.code.images().len() == 1);
     assert!(rt; has_words(&loaded.code));
-    Ok(())
 }

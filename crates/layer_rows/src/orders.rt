@@ -1,26 +1,23 @@
 // Certificates whose states stand in another order than a text may have them, or have several
 // entries of a node or of a cache set.
-ghost use Rattle.std.specs.Prelude.{◌≡◌, ◌<◌, ◌↔◌, ℕ, IfOk, All, IsTrue, length};
+ghost use Rattle.std.specs.Prelude.{◌≡◌, ◌<◌, ◌↔◌, ℕ, All, IsTrue, length};
 ghost use Rattle.crpd_base.specs.declared.data.NodeState.{NodeState};
 ghost use Rattle.crpd_base.specs.declared.data.TaskPart.{TaskPart};
 ghost use Rattle.loop_regions.specs.CodeNest.{IsNestOf};
 ghost use Rattle.cert_check.specs.TaskGraphs.{HasLowSets, IsCertificateInRange};
 
 use crate::graphs::graph_and_nest;
-use crate::loading::{Loaded, ONE, PLATFORM, Program, load};
+use crate::loading::{Loaded, ONE, PLATFORM, Program, load, text_of};
 use crate::ranges::is_set_of_one;
 use crate::sets::sets_of;
 use crate::words::LOOP;
 use cert_check::{Verdict, verdict};
-use crpd_base::{
-    Certificate, Items, LONGEST_TIME, Method, NodeState, Part, Task, TaskPart, TaskSet, Text,
-};
+use crpd_base::{Certificate, Items, LONGEST_TIME, Method, NodeState, Part, TaskPart, TaskSet};
 use flat_graph::Graph;
 use loop_regions::Nest;
-use std::alloc::{AllocError, Global};
+use std::alloc::Global;
 use std::process::Abort;
 use std::slice;
-use std::test::Fail;
 
 // What is listed at a node: its number, the blocks of cache sets, and the useful cache sets.
 type Entry = (u32, &'static [(u16, u32)], &'static [u16]);
@@ -87,33 +84,39 @@ static ORDERS: [Order; 9] = [
     ),
 ];
 
-fn states_of(alloc: Global, entries: &[Entry]) -> Result<Vec<NodeState>, AllocError> {
+fn states_of(rt: &impl Abort, alloc: Global, entries: &[Entry]) -> Vec<NodeState> {
     let mut states = Vec::new(alloc);
     for (node, sure, useful) in entries {
-        states.push(NodeState {
+        let sure = Vec::from_slice(alloc, sure).expect(rt, "memory");
+        let state = NodeState {
             node: *node,
-            sure: Items::new(Vec::from_slice(alloc, sure)?),
+            sure: Items::new(sure),
             useful: sets_of(useful),
-        })?;
+        };
+        states.push(state).expect(rt, "memory");
     }
-    Ok(states)
+    states
 }
 
-fn part_of(alloc: Global, told: &Told, entries: &[Entry]) -> Result<TaskPart, AllocError> {
-    Ok(TaskPart {
-        name: Text::new(String::from_str(alloc, "one")?),
+fn numbers_of(rt: &impl Abort, alloc: Global, numbers: &[u64]) -> Items<u64> {
+    Items::new(Vec::from_slice(alloc, numbers).expect(rt, "memory"))
+}
+
+fn part_of(rt: &impl Abort, alloc: Global, told: &Told, entries: &[Entry]) -> TaskPart {
+    TaskPart {
+        name: text_of(rt, alloc, "one"),
         part: Part {
             bound: told.bound,
             evicting: sets_of(&[0]),
             useful: sets_of(&[0]),
         },
-        states: Items::new(states_of(alloc, entries)?),
-        potentials: Items::new(Vec::from_slice(alloc, told.potentials)?),
-        loops: Items::new(Vec::from_slice(alloc, told.loops)?),
+        states: Items::new(states_of(rt, alloc, entries)),
+        potentials: numbers_of(rt, alloc, told.potentials),
+        loops: numbers_of(rt, alloc, told.loops),
         method: Method::Ucb,
         window: told.window,
         response: told.window,
-    })
+    }
 }
 
 fn is_low(pair: &(u16, u32)) -> bool
@@ -144,65 +147,17 @@ fn is_in_range(certificate: &Certificate) -> bool
 }
 
 // The certificate of one task.
-fn certificate_of(alloc: Global, part: TaskPart) -> Result<Certificate, Fail>
-    ensures { IfOk result IsCertificateInRange }
+fn certificate_of(rt: &impl Abort, alloc: Global, part: TaskPart) -> Certificate
+    ensures { IsCertificateInRange result }
 {
     let mut tasks = Vec::new(alloc);
-    tasks.push(part)?;
+    tasks.push(part).expect(rt, "memory");
     let certificate = Certificate {
         platform: PLATFORM,
         tasks: Items::new(tasks),
     };
-    if is_in_range(&certificate) {
-        Ok(certificate)
-    } else {
-        Err(Fail::from("out of range"))
-    }
-}
-
-// The verdict on a certificate of a set of one task, whose graph and regions these are.
-fn verdict_over(
-    set: &TaskSet,
-    graph: &Graph,
-    nest: &Nest,
-    certificate: &Certificate,
-) -> Result<Verdict, Fail>
-    requires nest { IsNestOf graph.now nest.now }
-    requires certificate { IsCertificateInRange certificate.now }
-{
-    if !is_set_of_one(set) {
-        return Err(Fail::from("no set of one task"));
-    }
-    let (graphs, nests) = (slice::from_ref(graph), slice::from_ref(nest));
-    Ok(verdict(set, graphs, nests, certificate))
-}
-
-// The verdict on a certificate of what was loaded.
-fn verdict_on(alloc: Global, loaded: &Loaded, certificate: &Certificate) -> Result<Verdict, Fail>
-    requires plans { 0 < length loaded.now.code.plans }
-    requires certificate { IsCertificateInRange certificate.now }
-{
-    let of = graph_and_nest(alloc, &loaded.code, Task(0))?;
-    verdict_over(&loaded.set, &of.0, &of.1, certificate)
-}
-
-// The verdict on a certificate of one program.
-fn judged(
-    alloc: Global,
-    programs: &[Program; 1],
-    certificate: &Certificate,
-) -> Result<Verdict, Fail>
-    requires { IsCertificateInRange certificate.now }
-{
-    let loaded = load(alloc, &PLATFORM, programs)?;
-    verdict_on(alloc, &loaded, certificate)
-}
-
-// The verdict on the certificate of these states.
-fn verdict_of(alloc: Global, told: &Told, entries: &[Entry]) -> Result<Verdict, Fail> {
-    let part = part_of(alloc, told, entries)?;
-    let certificate = certificate_of(alloc, part)?;
-    judged(alloc, told.programs, &certificate)
+    assert!(rt; is_in_range(&certificate));
+    certificate
 }
 
 // The clause and the place where the verdict is no.
@@ -213,16 +168,55 @@ fn refused(verdict: Verdict) -> Option<(u8, u32)> {
     }
 }
 
-fn compare_order(rt: &impl Abort, alloc: Global, order: &Order) -> Result<(), Fail> {
-    let verdict = verdict_of(alloc, &order.0, order.1)?;
-    assert!(rt; refused(verdict) == order.2);
-    Ok(())
+// Compares the verdict on a certificate of a set of one task, whose graph and regions these are.
+fn compare_verdict(
+    rt: &impl Abort,
+    set: &TaskSet,
+    graph: &Graph,
+    nest: &Nest,
+    certificate: &Certificate,
+    want: Option<(u8, u32)>,
+)
+    requires nest { IsNestOf graph.now nest.now }
+    requires certificate { IsCertificateInRange certificate.now }
+{
+    assert!(rt; is_set_of_one(set));
+    let (graphs, nests) = (slice::from_ref(graph), slice::from_ref(nest));
+    assert!(rt; refused(verdict(set, graphs, nests, certificate)) == want);
+}
+
+// Compares the verdict on a certificate of what was loaded.
+fn compare_loaded(
+    rt: &impl Abort,
+    alloc: Global,
+    loaded: &Loaded,
+    certificate: &Certificate,
+    want: Option<(u8, u32)>,
+)
+    requires { IsCertificateInRange certificate.now }
+{
+    let of = graph_and_nest(rt, alloc, &loaded.code);
+    compare_verdict(rt, &loaded.set, &of.0, &of.1, certificate, want);
+}
+
+// Compares the verdict on a certificate of one program.
+fn compare_program(rt: &impl Abort, alloc: Global, order: &Order, certificate: &Certificate)
+    requires { IsCertificateInRange certificate.now }
+{
+    let programs = order.0.programs;
+    let loaded = load(rt, alloc, &PLATFORM, programs);
+    compare_loaded(rt, alloc, &loaded, certificate, order.2);
+}
+
+fn compare_order(rt: &impl Abort, alloc: Global, order: &Order) {
+    let part = part_of(rt, alloc, &order.0, order.1);
+    let certificate = certificate_of(rt, alloc, part);
+    compare_program(rt, alloc, order, &certificate);
 }
 
 #[test]
-fn orders_of_states(rt: HostRuntime) -> Result<(), Fail> {
+fn orders_of_states(rt: HostRuntime) {
     for order in &ORDERS {
-        compare_order(&rt, rt.alloc(), order)?;
+        compare_order(&rt, rt.alloc(), order);
     }
-    Ok(())
 }

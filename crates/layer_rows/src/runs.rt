@@ -1,90 +1,57 @@
 // Runs of scripts by both machines: the one that makes one cycle at a time, and `run_fast`.
-ghost use Rattle.std.specs.Prelude.{◌≡◌, ◌<◌, ◌≤◌, ◌^◌, length};
-ghost use Rattle.preempt_machine.specs.Running.{HasPlans};
+ghost use Rattle.std.specs.Prelude.{◌<◌, ◌^◌, length};
 ghost use Rattle.preempt_machine.specs.Safe.{NamesTasks};
 
 use crate::cases::{BOTH, CASES, Case};
 use crate::loading::Loaded;
 use crate::scripts::script_of;
-use code_map::CodeMap;
-use crpd_base::{Memory, Script, Switching};
+use crpd_base::{Script, Switching};
 use preempt_fast::run_fast;
-use preempt_machine::{Completion, Machine};
+use preempt_machine::Machine;
 use std::alloc::Global;
 use std::process::Abort;
-use std::test::Fail;
 
-// Makes the cycles up to a number in two parts.
-fn run_in_parts(machine: &mut Machine, code: &CodeMap, cycles: u64) -> Result<(), Memory>
-    requires { HasPlans code.now machine.old.state }
-{
-    machine.run_until(code, cycles / 2)?;
-    machine.run_until(code, cycles)
-}
-
-// Makes the cycles of a script in two parts, and compares how its jobs end and whether all watches
-// are kept.
-fn compare_cycles(
-    rt: &impl Abort,
-    alloc: Global,
-    loaded: &Loaded,
-    script: &Script,
-    completions: &[Completion],
-    kept: bool,
-) -> Result<(), Fail>
-    requires line { 0 < loaded.now.set.platform.line }
-    requires sets { (0 < loaded.now.set.platform.sets) × (loaded.now.set.platform.sets ≤ 512) }
-    requires plans { length loaded.now.code.plans ≡ length loaded.now.set.tasks }
+// The machine that made the cycles of a script, in two parts.
+fn machine_after(rt: &impl Abort, alloc: Global, loaded: &Loaded, script: &Script) -> Machine
     requires tasks { NamesTasks loaded.now.set script.now.jobs }
     requires jobs { length script.now.jobs < 2 ^ 32 }
 {
-    let mut machine = Machine::load(alloc, &loaded.code, &loaded.set, script)?;
-    run_in_parts(&mut machine, &loaded.code, script.cycles)?;
-    assert!(rt; completions == machine.completions() && kept == machine.kept());
-    Ok(())
+    let code = &loaded.code;
+    let mut machine = Machine::load(alloc, code, &loaded.set, script).expect(rt, "memory");
+    machine
+        .run_until(code, script.cycles / 2)
+        .expect(rt, "memory");
+    machine.run_until(code, script.cycles).expect(rt, "memory");
+    machine
 }
 
-// Runs a script by both machines.
-fn compare_script(
-    rt: &impl Abort,
-    alloc: Global,
-    loaded: &Loaded,
-    script: &Script,
-) -> Result<(), Fail>
-    requires line { 0 < loaded.now.set.platform.line }
-    requires sets { (0 < loaded.now.set.platform.sets) × (loaded.now.set.platform.sets ≤ 512) }
-    requires plans { length loaded.now.code.plans ≡ length loaded.now.set.tasks }
+// Runs a script by both machines, and compares how its jobs end and whether all watches are kept.
+fn compare_run(rt: &impl Abort, alloc: Global, loaded: &Loaded, script: &Script)
     requires tasks { NamesTasks loaded.now.set script.now.jobs }
     requires jobs { length script.now.jobs < 2 ^ 32 }
 {
-    let (completions, kept) = run_fast(alloc, &loaded.code, &loaded.set, script)?;
-    compare_cycles(rt, alloc, loaded, script, &completions, kept)
+    let machine = machine_after(rt, alloc, loaded, script);
+    let ended = run_fast(alloc, &loaded.code, &loaded.set, script).expect(rt, "memory");
+    assert!(rt; ended.0.as_slice() == machine.completions() && ended.1 == machine.kept());
 }
 
-fn compare_loaded(rt: &impl Abort, alloc: Global, loaded: &Loaded, case: &Case) -> Result<(), Fail>
-    requires line { 0 < loaded.now.set.platform.line }
-    requires sets { (0 < loaded.now.set.platform.sets) × (loaded.now.set.platform.sets ≤ 512) }
-    requires plans { length loaded.now.code.plans ≡ length loaded.now.set.tasks }
-{
-    let script = script_of(alloc, &loaded.set, case.cycles, case.blocks, case.jobs)?;
-    compare_script(rt, alloc, loaded, &script)
+// Runs the script of a case.
+fn compare_script(rt: &impl Abort, alloc: Global, loaded: &Loaded, case: &Case) {
+    let set = &loaded.set;
+    let script = script_of(rt, alloc, set, case.cycles, case.blocks, case.jobs);
+    compare_run(rt, alloc, loaded, &script);
 }
 
-fn compare(rt: &impl Abort, alloc: Global, case: &Case) -> Result<(), Fail> {
-    let loaded = case.load(alloc)?;
-    compare_loaded(rt, alloc, &loaded, case)
-}
-
-fn compare_cases(rt: &impl Abort, alloc: Global, cases: &[Case]) -> Result<(), Fail> {
-    for case in cases {
-        compare(rt, alloc, case)?;
-    }
-    Ok(())
+fn compare(rt: &impl Abort, alloc: Global, case: &Case) {
+    let loaded = case.load(rt, alloc);
+    compare_script(rt, alloc, &loaded, case);
 }
 
 #[test]
-fn scripts(rt: HostRuntime) -> Result<(), Fail> {
-    compare_cases(&rt, rt.alloc(), &CASES)
+fn scripts(rt: HostRuntime) {
+    for case in &CASES {
+        compare(&rt, rt.alloc(), case);
+    }
 }
 
 // The cycles of a switch, and where one may happen.
@@ -102,12 +69,7 @@ static PAIR_RELEASED: Case<'static> = Case {
 
 // The high job is released in each cycle of the low job's switch and instructions, and again so
 // many cycles later.
-fn compare_releases(
-    rt: &impl Abort,
-    alloc: Global,
-    switches: (u32, Switching),
-    later: u64,
-) -> Result<(), Fail>
+fn compare_releases(rt: &impl Abort, alloc: Global, switches: (u32, Switching), later: u64)
     requires { later < 100 }
 {
     let (switch, switching) = switches;
@@ -120,16 +82,14 @@ fn compare_releases(
             jobs: &jobs,
             ..PAIR_RELEASED
         };
-        compare(rt, alloc, &case)?;
+        compare(rt, alloc, &case);
     }
-    Ok(())
 }
 
 #[test]
-fn releases(rt: HostRuntime) -> Result<(), Fail> {
+fn releases(rt: HostRuntime) {
     for &switches in &SWITCHES {
-        compare_releases(&rt, rt.alloc(), switches, 1)?;
-        compare_releases(&rt, rt.alloc(), switches, 7)?;
+        compare_releases(&rt, rt.alloc(), switches, 1);
+        compare_releases(&rt, rt.alloc(), switches, 7);
     }
-    Ok(())
 }

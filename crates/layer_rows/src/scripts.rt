@@ -1,10 +1,10 @@
 // Scripts of the tasks of a set.
-ghost use Rattle.std.specs.Prelude.{◌<◌, ◌≤◌, ◌^◌, IfOk, IsTrue, length};
+ghost use Rattle.std.specs.Prelude.{◌<◌, ◌^◌, IsTrue, length};
 ghost use Rattle.preempt_machine.specs.Safe.{NamesTasks};
 
 use crpd_base::{Items, Script, ScriptJob, Task, TaskSet};
-use std::alloc::{AllocError, Global};
-use std::test::Fail;
+use std::alloc::Global;
+use std::process::Abort;
 
 fn are_named(set: &TaskSet, script: &Script) -> bool
     ensures { IsTrue result → NamesTasks set.now script.now.jobs }
@@ -18,37 +18,38 @@ fn are_named(set: &TaskSet, script: &Script) -> bool
     true
 }
 
-fn jobs_of(alloc: Global, jobs: &[(u8, u64, u64)]) -> Result<Vec<ScriptJob>, AllocError> {
+fn jobs_of(rt: &impl Abort, alloc: Global, jobs: &[(u8, u64, u64)]) -> Vec<ScriptJob> {
     let mut lines = Vec::new(alloc);
-    for (task, arrival, release) in jobs {
-        lines.push(ScriptJob {
-            task: Task(*task),
-            arrival: *arrival,
-            release: *release,
-        })?;
+    for &(task, arrival, release) in jobs {
+        let job = ScriptJob {
+            task: Task(task),
+            arrival,
+            release,
+        };
+        lines.push(job).expect(rt, "memory");
     }
-    Ok(lines)
+    lines
 }
 
 // A script of a set's tasks: its cycles, the blocks that the cache begins with, and its jobs by
 // task, arrival and release.
 pub(crate) fn script_of(
+    rt: &impl Abort,
     alloc: Global,
     set: &TaskSet,
     cycles: u64,
     blocks: &[u32],
     jobs: &[(u8, u64, u64)],
-) -> Result<Script, Fail>
-    ensures tasks { IfOk result (λ s. NamesTasks set.now s.jobs) }
-    ensures jobs { IfOk result (λ s. length s.jobs < 2 ^ 32) }
+) -> Script
+    ensures tasks { NamesTasks set.now result.jobs }
+    ensures jobs { length result.jobs < 2 ^ 32 }
 {
+    let blocks = Vec::from_slice(alloc, blocks).expect(rt, "memory");
     let script = Script {
         cycles,
-        cache: Items::new(Vec::from_slice(alloc, blocks)?),
-        jobs: Items::new(jobs_of(alloc, jobs)?),
+        cache: Items::new(blocks),
+        jobs: Items::new(jobs_of(rt, alloc, jobs)),
     };
-    if !are_named(set, &script) || script.jobs.len() > 100 {
-        return Err(Fail::from("no such task, or too many jobs"));
-    }
-    Ok(script)
+    assert!(rt; are_named(set, &script) && script.jobs.len() <= 100);
+    script
 }

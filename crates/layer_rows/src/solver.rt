@@ -1,28 +1,25 @@
 // Facts of small graphs, along the edges and against them, and how often nodes are visited. Against
 // the edges the fact before a node is what holds after it.
-ghost use Rattle.std.specs.Prelude.{◌≡◌, ℕ, ◌<◌, IfOk, Option, length, slice_index_or};
+ghost use Rattle.std.specs.Prelude.{◌≡◌, ℕ, ◌<◌, Option, length, slice_index_or};
 ghost use Rattle.dataflow.specs.Variable.{common_value, first_unknown, known_after};
 ghost use Rattle.dataflow.specs.Variable.{one_if_unknown};
 ghost use Rattle.dataflow.specs.VariableLaws.{both_joins, known_distributes, unknown_bounded};
 ghost use Rattle.dataflow.specs.declared.variable.Use.{Use};
 
 use dataflow::{Against, Domain, EdgeList, Known, Live, Use, solve};
-use std::alloc::{AllocError, Global};
+use std::alloc::Global;
 use std::cell::Cell;
 use std::process::Abort;
-use std::test::Fail;
 
 // The graph of these edges, with a node for each use.
-fn graph_of<'a>(uses: &[Use], edges: &'a [(u32, u32)]) -> Result<EdgeList<'a>, Fail>
-    ensures { IfOk result (λ graph. graph.nodes ≡ length uses.now) }
+fn graph_of<'a>(rt: &impl Abort, uses: &[Use], edges: &'a [(u32, u32)]) -> EdgeList<'a>
+    ensures { result.nodes ≡ length uses.now }
 {
-    let Ok(nodes) = u32::try_from(uses.len()) else {
-        return Err(Fail::from("more nodes than numbers"));
+    assert!(rt; uses.len() <= NODES);
+    let Some(graph) = EdgeList::new(uses.len() as u32, edges) else {
+        panic!(rt; "an end of an edge is no node");
     };
-    match EdgeList::new(nodes, edges) {
-        Some(graph) => Ok(graph),
-        None => Err(Fail::from("an end of an edge is no node")),
-    }
+    graph
 }
 
 // What a small graph's nodes do, its edges, what is known at each node, and, where that is told
@@ -131,36 +128,34 @@ static CASES: [Case; 7] = [
     },
 ];
 
-fn compare_known(rt: &impl Abort, alloc: Global, graph: &EdgeList, case: &Case) -> Result<(), Fail>
+fn compare_known(rt: &impl Abort, alloc: Global, graph: &EdgeList, case: &Case)
     requires { graph.now.nodes ≡ length case.now.uses.now }
 {
-    let got = solve(alloc, graph, &Known { uses: case.uses })?;
+    let got = solve(alloc, graph, &Known { uses: case.uses }).expect(rt, "memory");
     assert!(rt; got.as_slice() == case.known);
-    Ok(())
 }
 
-fn compare_live(rt: &impl Abort, alloc: Global, graph: &EdgeList, case: &Case) -> Result<(), Fail>
+fn compare_live(rt: &impl Abort, alloc: Global, graph: &EdgeList, case: &Case)
     requires { graph.now.nodes ≡ length case.now.uses.now }
 {
     if let Some(want) = case.live {
-        let got = solve(alloc, &Against::new(graph), &Live { uses: case.uses })?;
+        let live = Live { uses: case.uses };
+        let got = solve(alloc, &Against::new(graph), &live).expect(rt, "memory");
         assert!(rt; got.as_slice() == want);
     }
-    Ok(())
 }
 
-fn compare_case(rt: &impl Abort, alloc: Global, case: &Case) -> Result<(), Fail> {
-    let graph = graph_of(case.uses, case.edges)?;
-    compare_known(rt, alloc, &graph, case)?;
-    compare_live(rt, alloc, &graph, case)
+fn compare_case(rt: &impl Abort, alloc: Global, case: &Case) {
+    let graph = graph_of(rt, case.uses, case.edges);
+    compare_known(rt, alloc, &graph, case);
+    compare_live(rt, alloc, &graph, case);
 }
 
 #[test]
-fn facts_of_small_graphs(rt: HostRuntime) -> Result<(), Fail> {
+fn facts_of_small_graphs(rt: HostRuntime) {
     for case in &CASES {
-        compare_case(&rt, rt.alloc(), case)?;
+        compare_case(&rt, rt.alloc(), case);
     }
-    Ok(())
 }
 
 #[test]
@@ -216,66 +211,44 @@ impl Domain for Counted<'_> {
     ghost bounded = { λ d v. unknown_bounded v };
 }
 
+// As many nodes as the largest graph here has.
+const NODES: usize = 1000;
+
 // As many nodes, of which each third one writes its number.
-fn thirds(alloc: Global, nodes: u32) -> Result<Vec<Use>, AllocError> {
-    let mut uses = Vec::new(alloc);
-    for i in 0..nodes {
-        uses.push(if i % 3 == 0 {
-            Use::Writes(i)
-        } else {
-            Use::Neither
-        })?;
+fn thirds() -> [Use; NODES] {
+    let mut uses = [Use::Neither; NODES];
+    for i in 0..NODES {
+        if i % 3 == 0 {
+            uses[i] = Use::Writes(i as u32);
+        }
     }
-    Ok(uses)
+    uses
 }
 
-// Edges between 1,000 nodes in an order of their own, from each but the last two to the next two,
-// the last edge first.
-fn edges_onward(alloc: Global) -> Result<Vec<(u32, u32)>, AllocError> {
-    let mut edges = Vec::new(alloc);
+// Edges between the nodes in an order of their own, from each but the last two to the next two, the
+// last edge first.
+fn edges_onward() -> [(u32, u32); 1996] {
+    let mut edges = [(0, 0); 1996];
     for i in 0..998u32 {
-        let (one, two) = ((i + 1) * 7 % 1000, (i + 2) * 7 % 1000);
-        edges.extend_from_slice(&[(i * 7 % 1000, one), (i * 7 % 1000, two)])?;
+        let from = i * 7 % 1000;
+        let place = 2 * (997 - i as usize);
+        edges[place + 1] = (from, (i + 1) * 7 % 1000);
+        edges[place] = (from, (i + 2) * 7 % 1000);
     }
-    edges.reverse();
-    Ok(edges)
-}
-
-// Solves for what is known, and counts the visits. Fails where a node has no fact.
-fn count_visits(
-    alloc: Global,
-    graph: &EdgeList,
-    uses: &[Use],
-    visits: &Cell<u32>,
-) -> Result<(), Fail>
-    requires { graph.now.nodes ≡ length uses.now }
-{
-    let facts = solve(alloc, graph, &Counted { uses, visits })?;
-    if facts.contains(&None) {
-        return Err(Fail::from("a node without a fact"));
-    }
-    Ok(())
-}
-
-// How often the nodes of a graph are visited in all.
-fn visits_of(alloc: Global, uses: &[Use], edges: &[(u32, u32)]) -> Result<u32, Fail> {
-    let graph = graph_of(uses, edges)?;
-    let visits = Cell::new(0);
-    count_visits(alloc, &graph, uses, &visits)?;
-    Ok(visits.get())
-}
-
-// How often the 1,000 nodes are visited in all.
-fn visits_onward(alloc: Global) -> Result<u32, Fail> {
-    let uses = thirds(alloc, 1000)?;
-    let edges = edges_onward(alloc)?;
-    visits_of(alloc, &uses, &edges)
+    edges
 }
 
 // Of a graph with no cycle each node is visited once, whatever the numbers of nodes and edges are.
 #[test]
-fn each_node_of_a_loop_free_graph_is_visited_once(rt: HostRuntime) -> Result<(), Fail> {
-    let visits = visits_onward(rt.alloc())?;
-    assert!(rt; visits == 1000, "{visits}");
-    Ok(())
+fn each_node_of_a_loop_free_graph_is_visited_once(rt: HostRuntime) {
+    let (uses, edges) = (thirds(), edges_onward());
+    let graph = graph_of(&rt, &uses, &edges);
+    let visits = Cell::new(0);
+    let counted = Counted {
+        uses: &uses,
+        visits: &visits,
+    };
+    let facts = solve(rt.alloc(), &graph, &counted).expect(&rt, "memory");
+    assert!(rt; !facts.contains(&None));
+    assert!(rt; visits.get() == 1000);
 }

@@ -1,14 +1,16 @@
 // The text of a made input of which jobs are late, as those that the certifier makes never are.
-use crate::loading::{PLATFORM, Program, load};
+ghost use Rattle.preempt_machine.specs.Safe.{NamesTasks};
+
+use crate::loading::{PLATFORM, Program, load, text_of};
 use crate::programs::HIGH;
 use crate::scripts::script_of;
 use crate::sets::sets_of;
 use cert_check::Verdict;
-use crpd_base::{Certificate, Items, JobId, Method, Part, Task, TaskPart, TaskSet, Text};
+use crpd_base::{Certificate, Items, JobId, Method, Part, Script, Task, TaskPart, TaskSet};
 use crpd_report::generate_text;
 use preempt_machine::{Completion, End};
-use std::alloc::{AllocError, Global};
-use std::test::Fail;
+use std::alloc::Global;
+use std::process::Abort;
 
 static PROGRAMS: [Program<'static>; 1] = [Program { jitter: 5, ..HIGH }];
 
@@ -61,10 +63,9 @@ static COMPLETIONS: [Completion; 7] = [
 ];
 
 // A certificate of the task with a response time of 50 cycles.
-fn certificate(alloc: Global) -> Result<Certificate, AllocError> {
-    let mut parts = Vec::new(alloc);
-    parts.push(TaskPart {
-        name: Text::new(String::from_str(alloc, "high")?),
+fn certificate(rt: &impl Abort, alloc: Global) -> Certificate {
+    let part = TaskPart {
+        name: text_of(rt, alloc, "high"),
         part: Part {
             bound: 10,
             evicting: sets_of(&[]),
@@ -76,42 +77,40 @@ fn certificate(alloc: Global) -> Result<Certificate, AllocError> {
         method: Method::Ucb,
         window: 15,
         response: 50,
-    })?;
-    Ok(Certificate {
+    };
+    let mut parts = Vec::new(alloc);
+    parts.push(part).expect(rt, "memory");
+    Certificate {
         platform: PLATFORM,
         tasks: Items::new(parts),
-    })
-}
-
-// The text of a made input with these jobs.
-fn late_text(alloc: Global, set: &TaskSet, certificate: &Certificate) -> Result<Vec<u8>, Fail> {
-    let script = script_of(alloc, set, 1000, &[], &JOBS)?;
-    match generate_text(
-        alloc,
-        7,
-        120,
-        set,
-        certificate,
-        &Verdict::Yes,
-        &script,
-        &COMPLETIONS,
-        true,
-    ) {
-        Ok(text) => Ok(text),
-        Err(_) => Err(Fail::from("no memory")),
     }
 }
 
-// The same with the certificate.
-fn late_told(alloc: Global, set: &TaskSet) -> Result<Vec<u8>, Fail> {
-    let certificate = certificate(alloc)?;
-    late_text(alloc, set, &certificate)
+// Compares the text of a made input with the jobs of a script.
+fn compare_text(
+    rt: &impl Abort,
+    alloc: Global,
+    set: &TaskSet,
+    certificate: &Certificate,
+    script: &Script,
+)
+    requires { NamesTasks set.now script.now.jobs }
+{
+    let (yes, ends) = (&Verdict::Yes, &COMPLETIONS);
+    match generate_text(alloc, 7, 120, set, certificate, yes, script, ends, true) {
+        Ok(text) => assert!(rt; text.as_slice() == TEXT.as_bytes()),
+        Err(_) => panic!(rt; "no memory"),
+    }
 }
 
-// The same with the set.
-fn told(alloc: Global) -> Result<Vec<u8>, Fail> {
-    let loaded = load(alloc, &PLATFORM, &PROGRAMS)?;
-    late_told(alloc, &loaded.set)
+fn compare_jobs(rt: &impl Abort, alloc: Global, set: &TaskSet, certificate: &Certificate) {
+    let script = script_of(rt, alloc, set, 1000, &[], &JOBS);
+    compare_text(rt, alloc, set, certificate, &script);
+}
+
+fn compare_set(rt: &impl Abort, alloc: Global, set: &TaskSet) {
+    let certificate = certificate(rt, alloc);
+    compare_jobs(rt, alloc, set, &certificate);
 }
 
 static TEXT: &str = "generated 7 tasks 16 nodes 120\nyes\n\
@@ -121,8 +120,7 @@ static TEXT: &str = "generated 7 tasks 16 nodes 120\nyes\n\
 // A job that is not answered is late from its arrival plus its response on, and one that is
 // answered later than that.
 #[test]
-fn late_jobs(rt: HostRuntime) -> Result<(), Fail> {
-    let made = told(rt.alloc())?;
-    assert!(rt; made.as_slice() == TEXT.as_bytes());
-    Ok(())
+fn late_jobs(rt: HostRuntime) {
+    let loaded = load(&rt, rt.alloc(), &PLATFORM, &PROGRAMS);
+    compare_set(&rt, rt.alloc(), &loaded.set);
 }

@@ -1,13 +1,12 @@
 // Watches over short lists of instructions.
-ghost use Rattle.std.specs.Prelude.{length, IfOk};
+ghost use Rattle.std.specs.Prelude.{length};
 ghost use Rattle.flow_watch.specs.Iterations.{HasIterations};
 
 use crpd_base::{Items, LoopAt, TaskPlan};
 use flow_watch::{Watch, stays_in_frame};
 use rv_decode::Ins;
-use std::alloc::{AllocError, Global};
+use std::alloc::Global;
 use std::process::Abort;
-use std::test::Fail;
 
 // The address at which a job ends.
 const END: u32 = 0xFFFF_FFFC;
@@ -34,30 +33,38 @@ struct Stated {
     range: (u32, u32),
 }
 
+// A stated loop of a plan.
+fn loop_of(rt: &impl Abort, alloc: Global, stated: &Stated) -> LoopAt {
+    let mut ranges = Vec::new(alloc);
+    ranges.push(stated.range).expect(rt, "memory");
+    LoopAt {
+        head: stated.head,
+        bound: stated.bound,
+        ranges: Items::new(ranges),
+    }
+}
+
 // A plan with the entry 0x100.
-fn plan(alloc: Global, loops: &[Stated]) -> Result<TaskPlan, AllocError> {
+fn plan(rt: &impl Abort, alloc: Global, loops: &[Stated]) -> TaskPlan {
     let mut list = Vec::new(alloc);
     for stated in loops {
-        list.push(LoopAt {
-            head: stated.head,
-            bound: stated.bound,
-            ranges: Items::new(vec![in alloc; stated.range]?),
-        })?;
+        let stated = loop_of(rt, alloc, stated);
+        list.push(stated).expect(rt, "memory");
     }
-    Ok(TaskPlan {
+    TaskPlan {
         entry: 0x100,
         stack: 0,
         global: 0,
         loops: Items::new(list),
-    })
+    }
 }
 
 // The watch after the steps, each an instruction and the address after it, up to the end of the
 // job.
-fn watch_after(alloc: Global, plan: &TaskPlan, steps: &[(Ins, u32)]) -> Result<Watch, Fail>
-    ensures { IfOk result (HasIterations (length plan.now.loops)) }
+fn watch_after(rt: &impl Abort, alloc: Global, plan: &TaskPlan, steps: &[Step]) -> Watch
+    ensures { HasIterations (length plan.now.loops) result }
 {
-    let mut watch = Watch::start(alloc, plan)?;
+    let mut watch = Watch::start(alloc, plan).expect(rt, "memory");
     let mut from = plan.entry;
     for step in steps {
         watch.step(plan, from, &step.0, step.1);
@@ -66,7 +73,7 @@ fn watch_after(alloc: Global, plan: &TaskPlan, steps: &[(Ins, u32)]) -> Result<W
         }
         from = step.1;
     }
-    Ok(watch)
+    watch
 }
 
 const ONCE: Stated = Stated {
@@ -213,25 +220,22 @@ static FOLLOWED: [Followed; 28] = [
     (&[ONCE], &[(NEXT, END)], false, &[]),
 ];
 
-fn compare_watch(rt: &impl Abort, watch: &Watch, broken: bool, calls: &[u32]) {
-    assert!(rt; watch.broken() == broken);
-    assert_eq!(rt; watch.context(), calls);
+fn compare_watch(rt: &impl Abort, alloc: Global, plan: &TaskPlan, row: &Followed) {
+    let &(_, steps, broken, calls) = row;
+    let watch = watch_after(rt, alloc, plan, steps);
+    assert!(rt; watch.broken() == broken && watch.context() == calls);
 }
 
-fn compare_followed(rt: &impl Abort, alloc: Global, row: &Followed) -> Result<(), Fail> {
-    let &(loops, steps, broken, calls) = row;
-    let plan = plan(alloc, loops)?;
-    let watch = watch_after(alloc, &plan, steps)?;
-    compare_watch(rt, &watch, broken, calls);
-    Ok(())
+fn compare_followed(rt: &impl Abort, alloc: Global, row: &Followed) {
+    let plan = plan(rt, alloc, row.0);
+    compare_watch(rt, alloc, &plan, row);
 }
 
 #[test]
-fn follows(rt: HostRuntime) -> Result<(), Fail> {
+fn follows(rt: HostRuntime) {
     for row in &FOLLOWED {
-        compare_followed(&rt, rt.alloc(), row)?;
+        compare_followed(&rt, rt.alloc(), row);
     }
-    Ok(())
 }
 
 // The addresses that are quiet around an address after steps, also where there are no loops.
@@ -261,20 +265,22 @@ static QUIET: [Quiet; 11] = [
     (&[TWICE], &[(RETURN, END)], END, (0, u32::MAX)),
 ];
 
-fn compare_quiet(rt: &impl Abort, alloc: Global, row: &Quiet) -> Result<(), Fail> {
-    let &(loops, steps, near, quiet) = row;
-    let plan = plan(alloc, loops)?;
-    let watch = watch_after(alloc, &plan, steps)?;
-    assert!(rt; watch.quiet(&plan, near) == quiet, "near {near:x}");
-    Ok(())
+fn compare_addresses(rt: &impl Abort, alloc: Global, plan: &TaskPlan, row: &Quiet) {
+    let &(_, steps, near, quiet) = row;
+    let watch = watch_after(rt, alloc, plan, steps);
+    assert!(rt; watch.quiet(plan, near) == quiet);
+}
+
+fn compare_quiet(rt: &impl Abort, alloc: Global, row: &Quiet) {
+    let plan = plan(rt, alloc, row.0);
+    compare_addresses(rt, alloc, &plan, row);
 }
 
 #[test]
-fn quiet_addresses(rt: HostRuntime) -> Result<(), Fail> {
+fn quiet_addresses(rt: HostRuntime) {
     for row in &QUIET {
-        compare_quiet(&rt, rt.alloc(), row)?;
+        compare_quiet(&rt, rt.alloc(), row);
     }
-    Ok(())
 }
 
 // Whether an instruction stays in its frame.
@@ -290,6 +296,6 @@ static STAY: [(Ins, bool); 6] = [
 #[test]
 fn frames_that_stay(rt: HostRuntime) {
     for (ins, stays) in &STAY {
-        assert_eq!(rt; stays_in_frame(ins), *stays);
+        assert!(rt; stays_in_frame(ins) == *stays);
     }
 }

@@ -1,15 +1,15 @@
-// The bounds of programs of several ways, as the least potentials by a slow fixpoint.
-ghost use Rattle.std.specs.Prelude.{◌<◌, ◌≤◌, IfOk, length};
+// The bounds of programs of several ways are their least potentials.
+ghost use Rattle.std.specs.Prelude.{◌<◌, ◌≤◌};
 ghost use Rattle.icache.specs.Accesses.{accesses};
-ghost use Rattle.flat_graph.specs.CodeGraph.{graph_of, places_of};
+ghost use Rattle.flat_graph.specs.CodeGraph as code_graph;
+ghost use Rattle.flat_graph.specs.CodeGraph.{places_of};
 ghost use Rattle.loop_regions.specs.CodeNest.{IsNestOf};
 ghost use Rattle.must_cache.specs.States.{AreSure};
 
-use crate::fixpoint::{Inequalities, Potentials};
 use crate::graphs::graph_and_nest;
 use crate::loading::{Loaded, ONE, PLATFORM, Program, Stated, load};
 use crate::words::{CALL_LOOP, CALLS, ECALL, LOOP, NESTED, RET};
-use crpd_base::{Platform, Switching, Task};
+use crpd_base::{Platform, Switching};
 use exec_bound::{Bound, bound};
 use flat_graph::Graph;
 use icache::Geometry;
@@ -17,7 +17,7 @@ use loop_regions::Nest;
 use must_cache::{MustState, must};
 use std::alloc::Global;
 use std::process::Abort;
-use std::test::Fail;
+use std::slice;
 
 // Three instructions in a row.
 const STRAIGHT: [u32; 3] = [0xFFF2_8293, 0x0273_02B3, ECALL];
@@ -124,37 +124,99 @@ static SMALL: Platform = Platform {
     switching: Switching::Cycle,
 };
 
-// Words and stated loops: ways that meet, loops with several exits, and loops in loops and calls.
-static WAYS: [(&[u32], &[Stated]); 16] = [
-    (&STRAIGHT, &[]),
-    (&RETURN, &[]),
-    (&DIAMOND, &[]),
-    (&LOOP, &[(0x1004, 3, (0x1004, 0x100C))]),
+// A bound, and the potentials of the nodes and of the regions.
+type Potentials = (u64, &'static [u64], &'static [u64]);
+
+// Words, stated loops, and the least potentials with the costs of each of the two platforms.
+type Way = (&'static [u32], &'static [Stated], Potentials, Potentials);
+
+// Ways that meet, loops with several exits, and loops in loops and calls, with the potentials that a
+// plain program of another language finds by a slow fixpoint.
+static WAYS: [Way; 16] = [
+    (
+        &STRAIGHT,
+        &[],
+        (17, &[17, 6, 1], &[]),
+        (51, &[51, 32, 19], &[]),
+    ),
+    (&RETURN, &[], (14, &[14, 3], &[]), (24, &[24, 5], &[])),
+    (
+        &DIAMOND,
+        &[],
+        (30, &[30, 19, 14, 12, 11], &[]),
+        (73, &[73, 54, 41, 38, 19], &[]),
+    ),
+    (
+        &LOOP,
+        &[(0x1004, 3, (0x1004, 0x100C))],
+        (24, &[24, 4, 3, 1], &[13]),
+        (93, &[93, 24, 22, 2], &[74]),
+    ),
     (
         &NESTED,
         &[(0x1000, 2, (0x1000, 0x100C)), (0x1004, 3, (0, 0))],
+        (47, &[23, 3, 3, 1], &[47, 12]),
+        (114, &[56, 5, 22, 2], &[114, 37]),
     ),
-    (&TWO_EXITS, &[(0x1004, 5, (0x1004, 0x1014))]),
-    (&LOOPED_DIAMOND, &[(0x1004, 4, (0x1004, 0x1018))]),
-    (&CALLS, &[]),
-    (&CALL_LOOP, &[(0x1004, 2, (0x1004, 0x1010))]),
+    (
+        &TWO_EXITS,
+        &[(0x1004, 5, (0x1004, 0x1014))],
+        (117, &[117, 16, 15, 14, 13, 26, 11], &[106]),
+        (378, &[378, 62, 43, 24, 22, 49, 19], &[359]),
+    ),
+    (
+        &LOOPED_DIAMOND,
+        &[(0x1004, 4, (0x1004, 0x1018))],
+        (120, &[120, 27, 21, 16, 24, 13, 1], &[109]),
+        (342, &[342, 76, 57, 27, 41, 22, 19], &[323]),
+    ),
+    (
+        &CALLS,
+        &[],
+        (45, &[45, 34, 30, 14, 8, 4, 3, 27, 11], &[]),
+        (145, &[145, 126, 119, 75, 31, 7, 5, 97, 53], &[]),
+    ),
+    (
+        &CALL_LOOP,
+        &[(0x1004, 2, (0x1004, 0x1010))],
+        (52, &[52, 20, 4, 3, 1, 17], &[41]),
+        (140, &[140, 51, 24, 5, 19, 46], &[121]),
+    ),
     (
         &ROW,
         &[(0x1000, 3, (0x1000, 0x1008)), (0x1008, 7, (0x1008, 0x1010))],
+        (81, &[14, 3, 4, 3, 11], &[81, 39]),
+        (259, &[24, 5, 24, 5, 19], &[259, 187]),
     ),
-    (&ANSWER_INSIDE, &[(0x1004, 6, (0x1004, 0x1010))]),
+    (
+        &ANSWER_INSIDE,
+        &[(0x1004, 6, (0x1004, 0x1010))],
+        (35, &[35, 4, 3, 1], &[24]),
+        (163, &[163, 24, 22, 19], &[144]),
+    ),
     (
         &LEAVES_BOTH,
         &[(0x1000, 3, (0x1000, 0x1010)), (0x1004, 4, (0x1004, 0x100C))],
+        (112, &[30, 4, 3, 3, 22, 11], &[112, 19]),
+        (398, &[120, 24, 22, 5, 38, 19], &[398, 101]),
     ),
     (
         &NEXT_TURN,
         &[(0x1000, 3, (0x1000, 0x1014)), (0x1004, 4, (0x1004, 0x1010))],
+        (133, &[44, 5, 4, 3, 13, 1], &[133, 33]),
+        (437, &[145, 26, 24, 5, 22, 2], &[437, 126]),
     ),
-    (&CALLED_LOOP, &[(0x1010, 5, (0x1010, 0x1018))]),
+    (
+        &CALLED_LOOP,
+        &[(0x1010, 5, (0x1010, 0x1018))],
+        (113, &[113, 27, 1, 14, 3, 30, 4, 3, 4], &[100, 24]),
+        (330, &[330, 166, 19, 24, 5, 188, 24, 5, 24], &[308, 144]),
+    ),
     (
         &LOOP_IN_CALL,
         &[(0x1000, 3, (0x1000, 0x1008)), (0x100C, 4, (0x100C, 0x1014))],
+        (226, &[75, 3, 1, 14, 13, 6], &[226, 62]),
+        (641, &[213, 22, 2, 41, 22, 27], &[641, 191]),
     ),
     (
         &THREE,
@@ -163,129 +225,109 @@ static WAYS: [(&[u32], &[Stated]); 16] = [
             (0x1004, 3, (0x1004, 0x1010)),
             (0x1008, 1_000, (0, 0)),
         ],
+        (18_073, &[9036, 3004, 3, 3, 13, 1], &[18_073, 9025, 3003]),
+        (
+            132_126,
+            &[66_062, 22_007, 22, 5, 22, 2],
+            &[132_126, 66_043, 22_005],
+        ),
     ),
 ];
 
-// The must states, with room for S cache sets.
-fn states_of<const S: usize>(
+// The must states, with room for 512 cache sets.
+fn states_of(
+    rt: &impl Abort,
     alloc: Global,
     platform: &Platform,
     graph: &Graph,
-) -> Result<Vec<MustState<S>>, Fail>
-    requires line { 0 < platform.now.line }
-    requires sets { 0 < platform.now.sets }
-    requires room { platform.now.sets ≤ S }
-    requires few { S ≤ 65536 }
-    ensures { IfOk result (λ states. AreSure (graph_of graph.now)
-        (accesses platform.now (places_of graph.now).address) states.items) }
-{
-    match must::<S>(alloc, graph, &Geometry::new(platform)) {
-        Ok(states) => Ok(states),
-        Err(_) => Err(Fail::from("no memory")),
-    }
-}
-
-// The bound of a graph.
-fn bound_of(alloc: Global, platform: &Platform, graph: &Graph, nest: &Nest) -> Result<Bound, Fail>
+) -> Vec<MustState<512>>
     requires line { 0 < platform.now.line }
     requires sets { 0 < platform.now.sets }
     requires room { platform.now.sets ≤ 512 }
-    requires nest { IsNestOf graph.now nest.now }
+    ensures { AreSure (code_graph.graph_of graph.now)
+        (accesses platform.now (places_of graph.now).address) result.items }
 {
-    let states = states_of::<512>(alloc, platform, graph)?;
-    match bound(alloc, graph, nest, platform, &states) {
-        Ok(found) => Ok(found),
-        Err(_) => Err(Fail::from("no bound")),
-    }
+    must::<512>(alloc, graph, &Geometry::new(platform)).expect(rt, "memory")
 }
 
-// The same by the fixpoint.
-fn least_of(
+// The bound of a graph.
+fn bound_of(
+    rt: &impl Abort,
     alloc: Global,
     platform: &Platform,
     graph: &Graph,
     nest: &Nest,
-) -> Result<Potentials, Fail>
+) -> Bound
     requires line { 0 < platform.now.line }
     requires sets { 0 < platform.now.sets }
     requires room { platform.now.sets ≤ 512 }
     requires nest { IsNestOf graph.now nest.now }
 {
-    let states = states_of::<512>(alloc, platform, graph)?;
-    let geometry = Geometry::new(platform);
-    let inequalities = Inequalities {
-        graph,
-        nest,
-        platform,
-        geometry: &geometry,
-        states: &states,
+    let states = states_of(rt, alloc, platform, graph);
+    let Ok(found) = bound(alloc, graph, nest, platform, &states) else {
+        panic!(rt; "no bound");
     };
-    inequalities.fixpoint(alloc)
+    found
 }
 
-// Compares a bound and all its potentials with those of the fixpoint.
-fn compare_potentials(rt: &impl Abort, found: &Bound, least: &Potentials) {
-    assert!(rt; found.cycles == least.cycles);
-    assert!(rt; found.nodes.as_slice() == least.nodes.as_slice());
-    assert!(rt; found.loops.as_slice() == least.loops.as_slice());
+// Compares a bound and all its potentials.
+fn compare_bound(rt: &impl Abort, found: &Bound, want: &Potentials) {
+    let (cycles, nodes, loops) = *want;
+    assert!(rt; found.cycles == cycles);
+    assert!(rt; found.nodes.as_slice() == nodes && found.loops.as_slice() == loops);
 }
 
-// Compares the bound of a graph with the fixpoint.
+// Compares the bound of a graph.
 fn compare_graph(
     rt: &impl Abort,
     alloc: Global,
     platform: &Platform,
     graph: &Graph,
     nest: &Nest,
-) -> Result<(), Fail>
+    want: &Potentials,
+)
     requires line { 0 < platform.now.line }
     requires sets { 0 < platform.now.sets }
     requires room { platform.now.sets ≤ 512 }
     requires nest { IsNestOf graph.now nest.now }
 {
-    let found = bound_of(alloc, platform, graph, nest)?;
-    let least = least_of(alloc, platform, graph, nest)?;
-    compare_potentials(rt, &found, &least);
-    Ok(())
+    let found = bound_of(rt, alloc, platform, graph, nest);
+    compare_bound(rt, &found, want);
 }
 
-// Compares the bound of what was loaded with the fixpoint.
-fn compare_loaded(rt: &impl Abort, alloc: Global, loaded: &Loaded) -> Result<(), Fail>
-    requires plans { 0 < length loaded.now.code.plans }
-    requires line { 0 < loaded.now.set.platform.line }
-    requires sets { 0 < loaded.now.set.platform.sets }
-    requires room { loaded.now.set.platform.sets ≤ 512 }
-{
-    let of = graph_and_nest(alloc, &loaded.code, Task(0))?;
-    compare_graph(rt, alloc, &loaded.set.platform, &of.0, &of.1)
+// Compares the bound of what was loaded.
+fn compare_loaded(rt: &impl Abort, alloc: Global, loaded: &Loaded, want: &Potentials) {
+    let of = graph_and_nest(rt, alloc, &loaded.code);
+    compare_graph(rt, alloc, &loaded.set.platform, &of.0, &of.1, want);
 }
 
-// Compares the bound of a program with the fixpoint.
+// Compares the bound of a program.
 fn compare_way(
     rt: &impl Abort,
     alloc: Global,
     platform: &Platform,
-    program: Program,
-) -> Result<(), Fail> {
-    let loaded = load(alloc, platform, &[program])?;
-    compare_loaded(rt, alloc, &loaded)
+    program: &Program,
+    want: &Potentials,
+) {
+    let loaded = load(rt, alloc, platform, slice::from_ref(program));
+    compare_loaded(rt, alloc, &loaded, want);
 }
 
-// Compares the bounds of all ways with the fixpoint.
-fn compare_ways(rt: &impl Abort, alloc: Global, platform: &Platform) -> Result<(), Fail> {
-    for &(words, loops) in &WAYS {
-        let program = Program {
-            words,
-            loops,
-            ..ONE
-        };
-        compare_way(rt, alloc, platform, program)?;
-    }
-    Ok(())
+// Compares the bounds of a way with the costs of both platforms.
+fn compare_row(rt: &impl Abort, alloc: Global, way: &Way) {
+    let &(words, loops, costs, small) = way;
+    let program = Program {
+        words,
+        loops,
+        ..ONE
+    };
+    compare_way(rt, alloc, &COSTS, &program, &costs);
+    compare_way(rt, alloc, &SMALL, &program, &small);
 }
 
 #[test]
-fn bounds_are_least_potentials(rt: HostRuntime) -> Result<(), Fail> {
-    compare_ways(&rt, rt.alloc(), &COSTS)?;
-    compare_ways(&rt, rt.alloc(), &SMALL)
+fn bounds_are_least_potentials(rt: HostRuntime) {
+    for way in &WAYS {
+        compare_row(&rt, rt.alloc(), way);
+    }
 }

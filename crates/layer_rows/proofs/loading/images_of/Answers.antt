@@ -6,7 +6,7 @@ use Rattle.crpd_base.specs.Images.{IsImage}
 use Rattle.layer_rows.proofs.loading.images_of.Goals as goal
 
 pub loop-program-preserved : goal.loop-program-preserved
-loop-program-preserved c =
+loop-program-preserved g c =
     subst (λ (images : List Image). All IsImage images) (sym c.in_ok-push.ensures.items)
-    (All-push IsImage c.loop-program.images.items c.in_ok-image_of.field-0 c.loop-program.invariant
-    c.in_ok-image_of.ensures)
+    (All-push IsImage c.loop-program.images.items c.image_of.result c.loop-program.invariant
+    c.image_of.ensures)

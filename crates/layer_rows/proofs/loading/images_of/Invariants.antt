@@ -3,4 +3,4 @@ use Rattle.crpd_base.specs.Images.{IsImage}
 use Rattle.layer_rows.proofs.loading.images_of.Given as goal
 
 abbrev pub invariant-loop-program : goal.invariant-loop-program
-invariant-loop-program l = All IsImage l.images.items
+invariant-loop-program g l = All IsImage l.images.items

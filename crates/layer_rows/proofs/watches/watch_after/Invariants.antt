@@ -3,5 +3,5 @@ use Rattle.flow_watch.specs.Iterations.{HasIterations}
 use Rattle.layer_rows.proofs.watches.watch_after.Given as goal
 
 abbrev pub invariant-loop-step : goal.invariant-loop-step
-invariant-loop-step l =
+invariant-loop-step g l =
     record { turns : HasIterations (length l.plan.loops) l.watch; under_way : l.watch ≢ Some [] }
