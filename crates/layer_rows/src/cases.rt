@@ -21,7 +21,7 @@ pub(crate) struct Case<'a> {
 
 impl Case<'_> {
     // What is loaded of its programs.
-    pub(crate) fn load(&self, rt: &impl Abort, alloc: Global) -> Loaded {
+    pub(crate) fn load(&self, rt: &impl Abort, alloc: Global) -> Box<Loaded> {
         let platform = Platform {
             sets: self.sets,
             switch: self.switch,

@@ -26,10 +26,7 @@ fn are_bounded(loops: &[LoopAt]) -> bool
 pub(crate) fn graph_of(rt: &impl Abort, alloc: Global, code: &CodeMap) -> Graph
     requires { 0 < length code.now.plans }
 {
-    let Ok(graph) = build(alloc, code, Task(0)) else {
-        panic!(rt; "no graph");
-    };
-    graph
+    build(alloc, code, Task(0)).ok().expect(rt, "a graph")
 }
 
 // The regions of a plan's loops.
@@ -44,11 +41,11 @@ fn nest_of(rt: &impl Abort, alloc: Global, graph: &Graph, plan: &TaskPlan) -> Ne
 }
 
 // The graph of the first task, and its regions.
-pub(crate) fn graph_and_nest(rt: &impl Abort, alloc: Global, code: &CodeMap) -> (Graph, Nest)
+pub(crate) fn graph_and_nest(rt: &impl Abort, alloc: Global, code: &CodeMap) -> Box<(Graph, Nest)>
     requires { 0 < length code.now.plans }
-    ensures { IsNestOf result.0 result.1 }
+    ensures { IsNestOf result.value.0 result.value.1 }
 {
     let graph = graph_of(rt, alloc, code);
     let nest = nest_of(rt, alloc, &graph, code.plan(Task(0)));
-    (graph, nest)
+    Box::new(alloc, (graph, nest)).expect(rt, "memory")
 }

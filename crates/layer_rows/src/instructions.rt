@@ -57,9 +57,7 @@ static ROWS: [u32; 48] = [
 #[test]
 fn every_row(rt: HostRuntime) {
     for &word in &ROWS {
-        let Some(ins) = decode(word) else {
-            panic!(rt; "no row");
-        };
+        let ins = decode(word).expect(&rt, "a row");
         assert!(rt; encode(&ins) == word);
     }
 }
@@ -126,9 +124,7 @@ static COSTS: [(u32, bool, bool, u64); 10] = [
 #[test]
 fn costs(rt: HostRuntime) {
     for &(word, miss, taken, cycles) in &COSTS {
-        let Some(ins) = decode(word) else {
-            panic!(rt; "no row");
-        };
+        let ins = decode(word).expect(&rt, "a row");
         assert!(rt; cost(&PLATFORM, &ins, miss, taken) == cycles);
     }
 }

@@ -168,10 +168,9 @@ fn set_of(rt: &impl Abort, alloc: Global, platform: &Platform, programs: &[Progr
 fn code_of(rt: &impl Abort, alloc: Global, set: &TaskSet, programs: &[Program]) -> CodeMap {
     let images = images_of(rt, alloc, programs).expect(rt, "memory");
     assert!(rt; images.len() == set.tasks.len() && images.len() <= 32);
-    let Ok(code) = CodeMap::new(alloc, set, images) else {
-        panic!(rt; "no code map");
-    };
-    code
+    CodeMap::new(alloc, set, images)
+        .ok()
+        .expect(rt, "a code map")
 }
 
 // A task set, and the code of its files: a plan for each of its tasks, lines that have bytes, and
@@ -205,8 +204,8 @@ pub(crate) fn load(
     alloc: Global,
     platform: &Platform,
     programs: &[Program],
-) -> Loaded {
+) -> Box<Loaded> {
     let set = set_of(rt, alloc, platform, programs);
     let code = code_of(rt, alloc, &set, programs);
-    loaded_of(rt, set, code)
+    Box::new(alloc, loaded_of(rt, set, code)).expect(rt, "memory")
 }

@@ -1,5 +1,5 @@
 // Made task sets, files and scripts.
-use crpd_base::{Items, LoopSpec, Place, Script, TaskSpec};
+use crpd_base::{Items, LoopSpec, Place, Script, ScriptJob, TaskSpec};
 use gen_tasks::{Generated, generate};
 use std::alloc::Global;
 use std::process::Abort;
@@ -217,52 +217,55 @@ fn is_number(place: &Place, want: u32) -> bool {
     }
 }
 
-fn compare_loop(rt: &impl Abort, stated: &LoopSpec, want: [u32; 3]) {
+fn is_loop(stated: &LoopSpec, want: [u32; 3]) -> bool {
     let [head, bound, end] = want;
-    assert!(rt; is_number(&stated.head, head) && stated.bound == bound);
     let [(first, last)] = stated.ranges.as_slice() else {
-        panic!(rt; "not one range");
+        return false;
     };
-    assert!(rt; is_number(first, head) && is_number(last, end));
+    is_number(&stated.head, head)
+        && stated.bound == bound
+        && is_number(first, head)
+        && is_number(last, end)
 }
 
-fn compare_task(rt: &impl Abort, task: &TaskSpec, want: &Task) {
+fn is_task(task: &TaskSpec, want: &Task) -> bool {
     let &(name, [period, jitter], stated, _) = want;
     let [only] = task.loops.as_slice() else {
-        panic!(rt; "not one loop");
+        return false;
     };
-    compare_loop(rt, only, stated);
-    assert!(rt; task.name.as_str() == name);
-    assert!(rt; task.file.as_str().strip_suffix(".elf") == Some(name));
-    assert!(rt; task.period == period && task.deadline == period && task.jitter == jitter);
+    task.name.as_str() == name
+        && task.file.as_str().strip_suffix(".elf") == Some(name)
+        && task.period == period
+        && task.deadline == period
+        && task.jitter == jitter
+        && is_loop(only, stated)
 }
 
 // Compares the tasks, and the lengths of their files.
 fn compare_tasks(rt: &impl Abort, tasks: &[TaskSpec], files: &[Items<u8>], want: &[Task]) {
     assert!(rt; tasks.len() == want.len() && files.len() == want.len());
     for i in 0..want.len() {
-        compare_task(rt, &tasks[i], &want[i]);
-        assert!(rt; files[i].len() == want[i].3);
+        assert!(rt; is_task(&tasks[i], &want[i]) && files[i].len() == want[i].3);
     }
+}
+
+fn is_job(job: &ScriptJob, want: &Job) -> bool {
+    (job.task.0, job.arrival, job.release) == *want
 }
 
 fn compare_script(rt: &impl Abort, script: &Script, want: &[Job]) {
     let jobs = script.jobs.as_slice();
     assert!(rt; script.cycles == 500_000 && script.cache.is_empty() && jobs.len() == want.len());
     for i in 0..want.len() {
-        let (task, arrival, release) = want[i];
-        assert!(rt; jobs[i].task.0 == task);
-        assert!(rt; jobs[i].arrival == arrival && jobs[i].release == release);
+        assert!(rt; is_job(&jobs[i], &want[i]));
     }
 }
 
 // What is made of a number below 2^31.
-fn made_of(rt: &impl Abort, alloc: Global, number: u32) -> Generated {
+fn made_of(rt: &impl Abort, alloc: Global, number: u32) -> Box<Generated> {
     assert!(rt; number <= 2_147_483_647);
-    let Ok(made) = generate(alloc, number) else {
-        panic!(rt; "not made");
-    };
-    made
+    let made = generate(alloc, number).ok().expect(rt, "a made set");
+    Box::new(alloc, made).expect(rt, "memory")
 }
 
 fn compare_made(rt: &impl Abort, alloc: Global, row: &Made) {

@@ -89,7 +89,7 @@ fn compare_nodes(rt: &impl Abort, alloc: Global, graph: &Graph, rows: &[Row]) {
 }
 
 // What is loaded of these words from an address on.
-fn loaded_of(rt: &impl Abort, alloc: Global, start: u32, words: &[u32]) -> Loaded {
+fn loaded_of(rt: &impl Abort, alloc: Global, start: u32, words: &[u32]) -> Box<Loaded> {
     let program = Program {
         start,
         words,

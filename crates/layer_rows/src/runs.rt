@@ -12,7 +12,7 @@ use std::alloc::Global;
 use std::process::Abort;
 
 // The machine that made the cycles of a script, in two parts.
-fn machine_after(rt: &impl Abort, alloc: Global, loaded: &Loaded, script: &Script) -> Machine
+fn machine_after(rt: &impl Abort, alloc: Global, loaded: &Loaded, script: &Script) -> Box<Machine>
     requires tasks { NamesTasks loaded.now.set script.now.jobs }
     requires jobs { length script.now.jobs < 2 ^ 32 }
 {
@@ -22,7 +22,7 @@ fn machine_after(rt: &impl Abort, alloc: Global, loaded: &Loaded, script: &Scrip
         .run_until(code, script.cycles / 2)
         .expect(rt, "memory");
     machine.run_until(code, script.cycles).expect(rt, "memory");
-    machine
+    Box::new(alloc, machine).expect(rt, "memory")
 }
 
 // Runs a script by both machines, and compares how its jobs end and whether all watches are kept.

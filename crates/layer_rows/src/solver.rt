@@ -16,10 +16,7 @@ fn graph_of<'a>(rt: &impl Abort, uses: &[Use], edges: &'a [(u32, u32)]) -> EdgeL
     ensures { result.nodes ≡ length uses.now }
 {
     assert!(rt; uses.len() <= NODES);
-    let Some(graph) = EdgeList::new(uses.len() as u32, edges) else {
-        panic!(rt; "an end of an edge is no node");
-    };
-    graph
+    EdgeList::new(uses.len() as u32, edges).expect(rt, "ends that are nodes")
 }
 
 // What a small graph's nodes do, its edges, what is known at each node, and, where that is told

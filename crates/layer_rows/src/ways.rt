@@ -264,10 +264,9 @@ fn bound_of(
     requires nest { IsNestOf graph.now nest.now }
 {
     let states = states_of(rt, alloc, platform, graph);
-    let Ok(found) = bound(alloc, graph, nest, platform, &states) else {
-        panic!(rt; "no bound");
-    };
-    found
+    bound(alloc, graph, nest, platform, &states)
+        .ok()
+        .expect(rt, "a bound")
 }
 
 // Compares a bound and all its potentials.
