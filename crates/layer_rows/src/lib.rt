@@ -1,11 +1,11 @@
 //! The worked rows of what no command shows: what is built of small programs' code, node by node,
-//! and their bounds beside those that a slow program finds; the solver that finds facts of graphs; delays
-//! of sets of shares, counted and by the plain unions of older tools; certificates whose states
-//! stand in another order than a text may have them, and those written as they are read; task sets,
-//! files and scripts that are made; words and the cycles of instructions, the watch over a job's
-//! flow, accesses of the cache and bytes of the data memory; what a run shows after each cycle, and
-//! that both machines agree; and the text of a made input with late jobs. This crate has tests
-//! alone.
+//! and their bounds beside those that a slow program finds; the solver that finds facts of graphs;
+//! delays of sets of shares, counted and by the plain unions of older tools; certificates whose
+//! states stand in another order than a text may have them, and those written as they are read;
+//! task sets, files and scripts that are made; words and the cycles of instructions, the watch over
+//! a job's flow, accesses of the cache and bytes of the data memory; what a run shows after each
+//! cycle, and that both machines agree; and the text of a made input with late jobs. This crate has
+//! tests alone.
 #![tactic(auto)]
 
 // Small programs, and what is loaded and built of them, in the ranges that the calls under test ask

@@ -22,8 +22,16 @@ const EIGHT_SETS: Platform = Platform {
 };
 
 // A node: the calls under way, its address, whether it is a leader, its successors, the blocks that
-// the cache sets surely hold, with 0 where none is known, and the useful sets as bits.
-type Row = (&'static [u32], u32, bool, [Option<u32>; 2], [u32; 8], u64);
+// the cache sets surely hold, from the first set on, with 0 where none is known, and the useful
+// sets as bits.
+type Row = (
+    &'static [u32],
+    u32,
+    bool,
+    &'static [u32],
+    &'static [u32],
+    u64,
+);
 
 // A node's successor of this place.
 fn successor(graph: &Graph, id: NodeId, place: u8) -> Option<u32>
@@ -45,14 +53,15 @@ fn is_place(graph: &Graph, id: NodeId, row: &Row) -> bool
         && graph.node(id).address == address
         && graph.leader(id) == leads
         && graph.find(calls, address) == Some(id)
-        && successor(graph, id, 0) == next[0]
-        && successor(graph, id, 1) == next[1]
+        && successor(graph, id, 0) == next.first().copied()
+        && successor(graph, id, 1) == next.get(1).copied()
 }
 
 // Whether a state surely holds these blocks, from the first set on, and no others.
-fn holds(state: &MustState<8>, held: &[u32; 8]) -> bool {
+fn holds(state: &MustState<8>, held: &[u32]) -> bool {
     for set in 0..8u16 {
-        if state.at(set).unwrap_or(0) != held[set as usize] {
+        let block = held.get(set as usize).copied().unwrap_or(0);
+        if state.at(set).unwrap_or(0) != block {
             return false;
         }
     }
@@ -67,7 +76,7 @@ fn are_nodes(graph: &Graph, states: &[MustState<8>], useful: &[SetBits<1>], rows
     }
     for (number, row) in rows.iter().enumerate() {
         let place = is_place(graph, NodeId(number as u32), row);
-        if !place || !holds(&states[number], &row.4) || useful[number].word(0) != row.5 {
+        if !place || !holds(&states[number], row.4) || useful[number].word(0) != row.5 {
             return false;
         }
     }
@@ -162,320 +171,82 @@ static PROGRAMS: [Flow; 8] = [
         0x1000,
         &TWO_WORDS,
         &[
-            (
-                &[],
-                0x1000,
-                true,
-                [Some(1), None],
-                [0, 0, 0, 0, 0, 0, 0, 0],
-                0b0,
-            ),
-            (
-                &[],
-                0x1004,
-                false,
-                [None, None],
-                [0x100, 0, 0, 0, 0, 0, 0, 0],
-                0b1,
-            ),
+            (&[], 0x1000, true, &[1], &[], 0b0),
+            (&[], 0x1004, false, &[], &[0x100], 0b1),
         ],
     ),
     (
         0x1000,
         &LOOP,
         &[
-            (
-                &[],
-                0x1000,
-                true,
-                [Some(1), None],
-                [0, 0, 0, 0, 0, 0, 0, 0],
-                0b0,
-            ),
-            (
-                &[],
-                0x1004,
-                true,
-                [Some(2), None],
-                [0x100, 0, 0, 0, 0, 0, 0, 0],
-                0b1,
-            ),
-            (
-                &[],
-                0x1008,
-                false,
-                [Some(3), Some(1)],
-                [0x100, 0, 0, 0, 0, 0, 0, 0],
-                0b1,
-            ),
-            (
-                &[],
-                0x100C,
-                true,
-                [None, None],
-                [0x100, 0, 0, 0, 0, 0, 0, 0],
-                0b1,
-            ),
+            (&[], 0x1000, true, &[1], &[], 0b0),
+            (&[], 0x1004, true, &[2], &[0x100], 0b1),
+            (&[], 0x1008, false, &[3, 1], &[0x100], 0b1),
+            (&[], 0x100C, true, &[], &[0x100], 0b1),
         ],
     ),
     (
         0x3010,
         &LINES,
         &[
-            (
-                &[],
-                0x3010,
-                true,
-                [Some(1), None],
-                [0, 0, 0, 0, 0, 0, 0, 0],
-                0b0,
-            ),
-            (
-                &[],
-                0x3020,
-                false,
-                [Some(2), None],
-                [0, 0x301, 0, 0, 0, 0, 0, 0],
-                0b0,
-            ),
-            (
-                &[],
-                0x3030,
-                false,
-                [Some(3), None],
-                [0, 0x301, 0x302, 0, 0, 0, 0, 0],
-                0b0,
-            ),
-            (
-                &[],
-                0x3040,
-                false,
-                [None, None],
-                [0, 0x301, 0x302, 0x303, 0, 0, 0, 0],
-                0b0,
-            ),
+            (&[], 0x3010, true, &[1], &[], 0b0),
+            (&[], 0x3020, false, &[2], &[0, 0x301], 0b0),
+            (&[], 0x3030, false, &[3], &[0, 0x301, 0x302], 0b0),
+            (&[], 0x3040, false, &[], &[0, 0x301, 0x302, 0x303], 0b0),
         ],
     ),
     (
         0x2010,
         &BACK,
         &[
-            (
-                &[],
-                0x2010,
-                true,
-                [Some(2), None],
-                [0, 0, 0, 0, 0, 0, 0, 0],
-                0b0,
-            ),
-            (
-                &[],
-                0x2014,
-                false,
-                [Some(3), None],
-                [0, 0x201, 0x202, 0, 0, 0, 0, 0],
-                0b110,
-            ),
-            (
-                &[],
-                0x2020,
-                false,
-                [Some(1), None],
-                [0, 0x201, 0, 0, 0, 0, 0, 0],
-                0b10,
-            ),
-            (
-                &[],
-                0x2024,
-                false,
-                [None, None],
-                [0, 0x201, 0x202, 0, 0, 0, 0, 0],
-                0b100,
-            ),
+            (&[], 0x2010, true, &[2], &[], 0b0),
+            (&[], 0x2014, false, &[3], &[0, 0x201, 0x202], 0b110),
+            (&[], 0x2020, false, &[1], &[0, 0x201], 0b10),
+            (&[], 0x2024, false, &[], &[0, 0x201, 0x202], 0b100),
         ],
     ),
     (
         0x1030,
         &BACK,
         &[
-            (
-                &[],
-                0x1030,
-                true,
-                [Some(2), None],
-                [0, 0, 0, 0, 0, 0, 0, 0],
-                0b0,
-            ),
-            (
-                &[],
-                0x1034,
-                false,
-                [Some(3), None],
-                [0, 0, 0, 0x103, 0x104, 0, 0, 0],
-                0b11000,
-            ),
-            (
-                &[],
-                0x1040,
-                false,
-                [Some(1), None],
-                [0, 0, 0, 0x103, 0, 0, 0, 0],
-                0b1000,
-            ),
-            (
-                &[],
-                0x1044,
-                false,
-                [None, None],
-                [0, 0, 0, 0x103, 0x104, 0, 0, 0],
-                0b10000,
-            ),
+            (&[], 0x1030, true, &[2], &[], 0b0),
+            (&[], 0x1034, false, &[3], &[0, 0, 0, 0x103, 0x104], 0b11000),
+            (&[], 0x1040, false, &[1], &[0, 0, 0, 0x103], 0b1000),
+            (&[], 0x1044, false, &[], &[0, 0, 0, 0x103, 0x104], 0b10000),
         ],
     ),
     (
         0x1000,
         &CALLS,
         &[
-            (
-                &[],
-                0x1000,
-                true,
-                [Some(1), None],
-                [0, 0, 0, 0, 0, 0, 0, 0],
-                0b0,
-            ),
-            (
-                &[],
-                0x1004,
-                false,
-                [Some(2), None],
-                [0x100, 0, 0, 0, 0, 0, 0, 0],
-                0b1,
-            ),
-            (
-                &[],
-                0x1008,
-                false,
-                [Some(7), None],
-                [0x100, 0, 0, 0, 0, 0, 0, 0],
-                0b1,
-            ),
-            (
-                &[],
-                0x100C,
-                false,
-                [Some(8), None],
-                [0x100, 0x101, 0, 0, 0, 0, 0, 0],
-                0b11,
-            ),
-            (
-                &[],
-                0x1010,
-                false,
-                [Some(5), None],
-                [0x100, 0x101, 0, 0, 0, 0, 0, 0],
-                0b10,
-            ),
-            (
-                &[],
-                0x1014,
-                false,
-                [Some(6), None],
-                [0x100, 0x101, 0, 0, 0, 0, 0, 0],
-                0b10,
-            ),
-            (
-                &[],
-                0x1018,
-                false,
-                [None, None],
-                [0x100, 0x101, 0, 0, 0, 0, 0, 0],
-                0b10,
-            ),
-            (
-                &[0x1008],
-                0x101C,
-                false,
-                [Some(3), None],
-                [0x100, 0, 0, 0, 0, 0, 0, 0],
-                0b1,
-            ),
-            (
-                &[0x100C],
-                0x101C,
-                false,
-                [Some(4), None],
-                [0x100, 0x101, 0, 0, 0, 0, 0, 0],
-                0b10,
-            ),
+            (&[], 0x1000, true, &[1], &[], 0b0),
+            (&[], 0x1004, false, &[2], &[0x100], 0b1),
+            (&[], 0x1008, false, &[7], &[0x100], 0b1),
+            (&[], 0x100C, false, &[8], &[0x100, 0x101], 0b11),
+            (&[], 0x1010, false, &[5], &[0x100, 0x101], 0b10),
+            (&[], 0x1014, false, &[6], &[0x100, 0x101], 0b10),
+            (&[], 0x1018, false, &[], &[0x100, 0x101], 0b10),
+            (&[0x1008], 0x101C, false, &[3], &[0x100], 0b1),
+            (&[0x100C], 0x101C, false, &[4], &[0x100, 0x101], 0b10),
         ],
     ),
     (
         0x1000,
         &MEETING,
         &[
-            (
-                &[],
-                0x1000,
-                true,
-                [Some(1), Some(3)],
-                [0, 0, 0, 0, 0, 0, 0, 0],
-                0b0,
-            ),
-            (
-                &[],
-                0x1004,
-                true,
-                [Some(2), None],
-                [0x100, 0, 0, 0, 0, 0, 0, 0],
-                0b1,
-            ),
-            (
-                &[],
-                0x1008,
-                true,
-                [None, None],
-                [0x100, 0, 0, 0, 0, 0, 0, 0],
-                0b1,
-            ),
-            (
-                &[],
-                0x1010,
-                true,
-                [Some(2), None],
-                [0x100, 0, 0, 0, 0, 0, 0, 0],
-                0b1,
-            ),
+            (&[], 0x1000, true, &[1, 3], &[], 0b0),
+            (&[], 0x1004, true, &[2], &[0x100], 0b1),
+            (&[], 0x1008, true, &[], &[0x100], 0b1),
+            (&[], 0x1010, true, &[2], &[0x100], 0b1),
         ],
     ),
     (
         0x1000,
         &SAME_SET,
         &[
-            (
-                &[],
-                0x1000,
-                true,
-                [Some(2), None],
-                [0, 0, 0, 0, 0, 0, 0, 0],
-                0b0,
-            ),
-            (
-                &[],
-                0x1004,
-                false,
-                [None, None],
-                [0x108, 0, 0, 0, 0, 0, 0, 0],
-                0b0,
-            ),
-            (
-                &[],
-                0x1080,
-                false,
-                [Some(1), None],
-                [0x100, 0, 0, 0, 0, 0, 0, 0],
-                0b0,
-            ),
+            (&[], 0x1000, true, &[2], &[], 0b0),
+            (&[], 0x1004, false, &[], &[0x108], 0b0),
+            (&[], 0x1080, false, &[1], &[0x100], 0b0),
         ],
     ),
 ];

@@ -1,6 +1,6 @@
 // Certificates whose states stand in another order than a text may have them, or have several
 // entries of a node or of a cache set.
-ghost use Rattle.std.specs.Prelude.{◌≡◌, ◌<◌, ◌↔◌, ℕ, All, IsTrue, length};
+ghost use Rattle.std.specs.Prelude.{◌<◌, ◌↔◌, ℕ, All, IsTrue, length};
 ghost use Rattle.crpd_base.specs.declared.data.NodeState.{NodeState};
 ghost use Rattle.crpd_base.specs.declared.data.TaskPart.{TaskPart};
 ghost use Rattle.loop_regions.specs.CodeNest.{IsNestOf};

@@ -130,8 +130,8 @@ type Potentials = (u64, &'static [u64], &'static [u64]);
 // Words, stated loops, and the least potentials with the costs of each of the two platforms.
 type Way = (&'static [u32], &'static [Stated], Potentials, Potentials);
 
-// Ways that meet, loops with several exits, and loops in loops and calls, with the potentials that a
-// plain program of another language finds by a slow fixpoint.
+// Ways that meet, loops with several exits, and loops in loops and calls, with the potentials that
+// a plain program of another language finds from the words by a slow fixpoint.
 static WAYS: [Way; 16] = [
     (
         &STRAIGHT,
