@@ -9,4 +9,5 @@ mod Trees
 mod Rising
 mod Seen
 mod Steps
+mod Tasks
 mod Texts

@@ -1,6 +1,6 @@
 -- A list that is read item by item, each in its turn.
 use Rattle.std.proofs.Common.{◌≡◌, ℕ, ◌+◌, ◌<◌, ◌≤◌, List, [], ◌∷◌, ◌++◌, length, get_or, drop}
-use Rattle.std.proofs.Common.{Option, Some, None, option_map, ap, sym, ◌∙◌}
+use Rattle.std.proofs.Common.{Bool, true, false, Option, Some, None, option_map, ap, subst, sym, ◌∙◌}
 use Rattle.std.specs.Prelude.{option_and_then}
 use Rattle.std.proofs.Math.ListN.{drop_of_length-le}
 use Rattle.std.proofs.lemmas.List.{append-nil}
@@ -9,6 +9,7 @@ use Rattle.serde_json.specs.Data.{Data, Items}
 use Rattle.serde_json.specs.Find.{as_array}
 use Rattle.serde_json.specs.View.{view, items_view}
 use Rattle.serde_json.specs.declared.value.Value.{Value}
+use Rattle.toml_keys.specs.Kinds.{only}
 use Rattle.cert_model.specs.Kinds.{all_of, listed, state_value, states_from}
 use Rattle.cert_model.proofs.Pairs.{front_moved}
 use Rattle.cert_model.proofs.Rising.{items_from, same_option}
@@ -59,6 +60,15 @@ pub of_list : {A : Type 0} (kind : Data → Option A) (d : Data) (vs ws : List V
     → Some (items_view ws) ≡ as_array d → all_of kind (items_view vs) ≡ listed kind d
 of_list kind d vs ws e is =
     ap (λ l. all_of kind (items_view l)) e ∙ ap (option_and_then (all_of kind)) is
+
+-- a list is kept where it passes the test
+pub kept : {A : Type 0} (test : A → Bool) (x : A) (o : Option A) → test x ≡ true → Some x ≡ o
+    → Some x ≡ only test o
+kept test x o is e = subst (λ p. Some x ≡ only test p) e (rw is)
+
+pub left_out : {A : Type 0} (test : A → Bool) (x : A) (o : Option A) → test x ≡ false → Some x ≡ o
+    → None ≡ only test o
+left_out test x o is e = subst (λ p. None ≡ only test p) e (rw is)
 
 -- ---- states, each with its node above the one before
 

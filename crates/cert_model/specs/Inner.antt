@@ -1,4 +1,5 @@
 -- What contracts inside the crate alone cite; no clause of a public call reaches it.
 pub mod Platforms
 pub mod Ranges
+pub mod Tasks
 pub mod Tokens

@@ -1,12 +1,8 @@
 //! Numbers, texts and lists of a certificate.
 
-ghost use Rattle.std.specs.Prelude.{◌≡◌, ◌≤◌, ◌<◌, length, map, nat_le, option_map};
-ghost use Rattle.std.specs.Prelude.{string_bytes, IfOk, IfSome};
+ghost use Rattle.std.specs.Prelude.{◌≡◌, ◌≤◌, ◌<◌, map, option_map, string_bytes, IfOk, IfSome};
 ghost use Rattle.std.specs.List.{list_all};
-ghost use Rattle.serde_json.specs.Find.{as_object};
 ghost use Rattle.serde_json.specs.View.{view, members_view};
-ghost use Rattle.crpd_base.specs.Names.{is_between};
-ghost use Rattle.toml_keys.specs.Kinds.{only};
 ghost use Rattle.cert_model.specs.Kinds as spec;
 
 use crpd_base::{LONGEST_TIME, Method, Switching};
@@ -78,12 +74,12 @@ pub fn name(alloc: Global, value: &Value) -> Result<Option<String>, AllocError>
     task_name(alloc, value.as_str())
 }
 
-/// The numbers of a list, each from 0 to 2^40, None for any other value. Linear in the list; the
-/// only error is want of memory.
-pub fn numbers(alloc: Global, value: &Value) -> Result<Option<Vec<u64>>, AllocError>
+/// The numbers of a list of at most so many, each from 0 to 2^40; None for any other value. Linear in
+/// the list; the only error is want of memory.
+#[tactic(auto, unfolding(crate::specs::Kinds::potentials))]
+pub fn potentials(alloc: Global, most: u64, value: &Value) -> Result<Option<Vec<u64>>, AllocError>
     ensures { IfOk result (λ found.
-        option_map (λ v. v.items) found
-        ≡ spec.listed (spec.whole 0 LONGEST_TIME) (view value.now)) }
+        option_map (λ v. v.items) found ≡ spec.potentials most (view value.now)) }
 {
     let Some(values) = value.as_array() else {
         return Ok(None);
@@ -95,29 +91,21 @@ pub fn numbers(alloc: Global, value: &Value) -> Result<Option<Vec<u64>>, AllocEr
         };
         found.push(number)?;
     }
-    Ok(Some(found))
+    let few = found.len() as u64 <= most;
+    if few { Ok(Some(found)) } else { Ok(None) }
 }
 
-/// The numbers, where they are at most so many.
-pub fn few_numbers(most: u64, numbers: Option<Vec<u64>>) -> Option<Vec<u64>>
-    ensures { option_map (λ v. v.items) result
-        ≡ only (λ ns. nat_le (length ns) most) (option_map (λ v. v.items) numbers) }
-{
-    match numbers {
-        Some(numbers) if numbers.len() as u64 <= most => Some(numbers),
-        _ => None,
-    }
-}
-
-/// The objects of a list that has nothing else in it, None for any other value. Linear in the list;
-/// the only error is want of memory.
-pub fn all_objects<'a>(
+/// The objects of a list of 1 to so many that has nothing else in it; None for any other value.
+/// Linear in the list; the only error is want of memory.
+#[tactic(auto, unfolding(crate::specs::Kinds::objects))]
+pub fn objects<'a>(
     alloc: Global,
+    most: u64,
     value: &'a Value,
 ) -> Result<Option<Vec<&'a Object>>, AllocError>
     ensures { IfOk result (λ found.
         option_map (λ v. map (λ t. members_view t.now.entries) v.items) found
-        ≡ spec.listed as_object (view value.now)) }
+        ≡ spec.objects most (view value.now)) }
 {
     let Some(values) = value.as_array() else {
         return Ok(None);
@@ -129,17 +117,6 @@ pub fn all_objects<'a>(
         };
         found.push(object)?;
     }
-    Ok(Some(found))
-}
-
-/// The objects, where they are 1 to so many.
-pub fn few_objects<'a>(most: u64, objects: Option<Vec<&'a Object>>) -> Option<Vec<&'a Object>>
-    ensures { option_map (λ v. map (λ t. members_view t.now.entries) v.items) result
-        ≡ only (λ ts. is_between 1 most (length ts))
-        (option_map (λ v. map (λ t. members_view t.now.entries) v.items) objects.entry) }
-{
-    match objects {
-        Some(objects) if !objects.is_empty() && objects.len() as u64 <= most => Some(objects),
-        _ => None,
-    }
+    let few = !found.is_empty() && found.len() as u64 <= most;
+    if few { Ok(Some(found)) } else { Ok(None) }
 }

@@ -6,7 +6,6 @@ ghost use Rattle.crpd_base.specs.Outcome.{Gives};
 ghost use Rattle.cert_model.specs.Keys.{required};
 ghost use Rattle.cert_model.specs.Kinds as kind;
 ghost use Rattle.cert_model.specs.Inner.Platforms as inner;
-ghost use Rattle.cert_model.specs.Reading as spec;
 
 use crate::fault::CertError;
 use crate::keys::Keys;
@@ -58,9 +57,11 @@ fn later_cycles_at(
     }
 }
 
-/// What the keys of a platform say.
+/// The platform of a certificate, its keys in byte order. In version 1 `mul` and `div` are 0, and
+/// switches may happen in every cycle. The first key that is absent or has a bad value is the
+/// refusal; memory is taken for its path alone. Time is that of at most ten look-ups of a key.
 #[tactic(auto, unfolding(crate::specs::Inner::Platforms::platform_keys))]
-fn platform_keys(alloc: Global, version: Version, keys: &Keys) -> Result<Platform, CertError>
+pub fn platform_at(alloc: Global, version: Version, keys: &Keys) -> Result<Platform, CertError>
     ensures { Gives CertError.Memory (λ x. x) result
         (inner.platform_keys version keys.now.path.now
         (members_view keys.now.object.now.entries)) }
@@ -87,15 +88,4 @@ fn platform_keys(alloc: Global, version: Version, keys: &Keys) -> Result<Platfor
         div,
         switching,
     })
-}
-
-/// The platform of a certificate, its keys in byte order. In version 1 `mul` and `div` are 0, and
-/// switches may happen in every cycle. The first key that is absent or has a bad value is the
-/// refusal; memory is taken for its path alone. Time is that of at most ten look-ups of a key.
-pub fn platform_at(alloc: Global, version: Version, keys: &Keys) -> Result<Platform, CertError>
-    ensures { Gives CertError.Memory (λ x. x) result
-        (spec.platform_at version keys.now.path.now
-        (members_view keys.now.object.now.entries)) }
-{
-    platform_keys(alloc, version, keys)
 }

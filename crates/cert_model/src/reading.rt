@@ -103,7 +103,7 @@ fn counted(certificate: Certificate) -> Result<Certificate, CertError>
     Ok(certificate)
 }
 
-#[tactic(auto, unfolding(crate::specs::Reading::certificate_at))]
+#[tactic(auto, using(crate::proofs::Platforms::one_order), unfolding(crate::specs::Reading::certificate_at))]
 fn certificate_at(alloc: Global, object: &Object) -> Result<Certificate, CertError>
     ensures { Gives CertError.Memory (λ x. x) result
         (spec.certificate_at (members_view object.now.entries)) }

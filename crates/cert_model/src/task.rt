@@ -7,11 +7,12 @@ ghost use Rattle.toml_keys.specs.Reading.{each};
 ghost use Rattle.cert_model.specs.Keys.{required};
 ghost use Rattle.cert_model.specs.Kinds as kind;
 ghost use Rattle.crpd_base.specs.CertificateRanges.{AreTasks};
+ghost use Rattle.cert_model.specs.Inner.Tasks as inner;
 ghost use Rattle.cert_model.specs.Reading as spec;
 
 use crate::fault::CertError;
 use crate::keys::Keys;
-use crate::kinds::{Object, all_objects, few_numbers, few_objects, method, name, numbers};
+use crate::kinds::{Object, method, name, objects, potentials};
 use crate::sets::set_numbers;
 use crate::states::states;
 use crate::version::Version;
@@ -36,7 +37,7 @@ fn set_at(
     keys.good(alloc, key, set_numbers(version.most_sets(), value))
 }
 
-#[tactic(auto, using(crate::proofs::Seen::good_seen), unfolding(crate::specs::Keys::required, crate::specs::Kinds::potentials))]
+#[tactic(auto, using(crate::proofs::Seen::good_seen), unfolding(crate::specs::Keys::required))]
 fn potentials_at(
     alloc: Global,
     version: Version,
@@ -48,7 +49,7 @@ fn potentials_at(
         (members_view keys.now.object.now.entries)) }
 {
     let value = keys.present(alloc, key)?;
-    let found = few_numbers(version.most_nodes(), numbers(alloc, value)?);
+    let found = potentials(alloc, version.most_nodes(), value)?;
     keys.good(alloc, key, found)
 }
 
@@ -84,14 +85,29 @@ fn states_at(alloc: Global, version: Version, keys: &Keys) -> Result<Vec<NodeSta
     keys.good(alloc, "states", found)
 }
 
-/// What the keys of a task say.
-#[tactic(auto, unfolding(crate::specs::Reading::fields_at))]
-fn fields_at(alloc: Global, version: Version, keys: &Keys) -> Result<TaskPart, CertError>
+/// The bound of a task and its evicting sets, the first two of its keys.
+#[tactic(auto, unfolding(crate::specs::Inner::Tasks::bound_and_evicting))]
+fn bound_and_evicting(
+    alloc: Global,
+    version: Version,
+    keys: &Keys,
+) -> Result<(u64, SetBits<WORDS>), CertError>
     ensures { Gives CertError.Memory (λ x. x) result
-        (spec.fields_at version keys.now.path.now (members_view keys.now.object.now.entries)) }
+        (inner.bound_and_evicting version keys.now.path.now
+        (members_view keys.now.object.now.entries)) }
 {
     let bound = keys.number(alloc, "bound", 0, LONGEST_BOUND)?;
     let evicting = set_at(alloc, version, keys, "evicting")?;
+    Ok((bound, evicting))
+}
+
+/// What the keys of a task say.
+#[tactic(auto, unfolding(crate::specs::Inner::Tasks::fields_at))]
+fn fields_at(alloc: Global, version: Version, keys: &Keys) -> Result<TaskPart, CertError>
+    ensures { Gives CertError.Memory (λ x. x) result
+        (inner.fields_at version keys.now.path.now (members_view keys.now.object.now.entries)) }
+{
+    let (bound, evicting) = bound_and_evicting(alloc, version, keys)?;
     let loops = potentials_at(alloc, version, keys, "loops")?;
     let method = method_at(alloc, keys)?;
     let name = name_at(alloc, keys)?;
@@ -117,6 +133,7 @@ fn fields_at(alloc: Global, version: Version, keys: &Keys) -> Result<TaskPart, C
 }
 
 /// The task at a place.
+#[tactic(auto, using(crate::proofs::Tasks::one_by_one))]
 fn task_at(
     alloc: Global,
     version: Version,
@@ -148,7 +165,7 @@ fn each_task(
     Ok(tasks)
 }
 
-#[tactic(auto, using(crate::proofs::Seen::good_seen), unfolding(crate::specs::Keys::required, crate::specs::Kinds::objects))]
+#[tactic(auto, using(crate::proofs::Seen::good_seen), unfolding(crate::specs::Keys::required))]
 fn task_objects<'a>(
     alloc: Global,
     version: Version,
@@ -159,7 +176,7 @@ fn task_objects<'a>(
         (members_view keys.now.object.now.entries)) }
 {
     let value = keys.present(alloc, "tasks")?;
-    let found = few_objects(version.most_tasks(), all_objects(alloc, value)?);
+    let found = objects(alloc, version.most_tasks(), value)?;
     keys.good(alloc, "tasks", found)
 }
 

@@ -1,14 +1,35 @@
-use Rattle.std.proofs.Common.{Result, subst}
-use Rattle.crpd_base.specs.Outcome.{Gives}
-use Rattle.crpd_base.specs.declared.data.Platform.{Platform}
-use Rattle.serde_json.specs.View.{members_view}
-use Rattle.cert_model.specs.declared.fault.CertError.{CertError}
-use Rattle.cert_model.specs.declared.fault.CertError.TheVariants.{Memory}
-use Rattle.cert_model.proofs.Platforms.{one_order}
+use Rattle.std.proofs.Common.{rules}
+use Rattle.cert_model.specs.Inner.Platforms.{platform_keys}
+use Rattle.cert_model.proofs.Steps.{went}
 use Rattle.cert_model.proofs.platform.platform_at.Goals as goal
 
-pub returns : goal.returns
-returns c =
-    subst (λ (r : Result Platform CertError). Gives Memory (λ x. x) c.platform_keys.result r)
-    (one_order c.args.version c.args.keys.now.path.now
-    (members_view c.args.keys.now.object.now.entries)) c.platform_keys.ensures
+pub returns-in_err-mul : goal.returns-in_err-mul
+unfolding platform_keys
+returns-in_err-mul c =
+    went _ _ c.in_ok-memory.ensures (went _ _ c.in_ok-div.ensures (went _ _ c.in_ok-hit.ensures
+    (went _ _ c.in_ok-line.ensures (went _ _ c.in_ok-miss.ensures (search rules)))))
+
+pub returns-in_err-switch : goal.returns-in_err-switch
+unfolding platform_keys
+returns-in_err-switch c =
+    let sets = rw c.most_sets.ensures.is at c.in_ok-sets.ensures in
+    went _ _ c.in_ok-memory.ensures (went _ _ c.in_ok-div.ensures (went _ _ c.in_ok-hit.ensures
+    (went _ _ c.in_ok-line.ensures (went _ _ c.in_ok-miss.ensures (went _ _ c.in_ok-mul.ensures
+    (went _ _ sets (search rules)))))))
+
+pub returns-in_err-switching : goal.returns-in_err-switching
+unfolding platform_keys
+returns-in_err-switching c =
+    let sets = rw c.most_sets.ensures.is at c.in_ok-sets.ensures in
+    went _ _ c.in_ok-memory.ensures (went _ _ c.in_ok-div.ensures (went _ _ c.in_ok-hit.ensures
+    (went _ _ c.in_ok-line.ensures (went _ _ c.in_ok-miss.ensures (went _ _ c.in_ok-mul.ensures
+    (went _ _ sets (went _ _ c.in_ok-switch.ensures (search rules))))))))
+
+pub returns-in_err-taken : goal.returns-in_err-taken
+unfolding platform_keys
+returns-in_err-taken c =
+    let sets = rw c.most_sets.ensures.is at c.in_ok-sets.ensures in
+    went _ _ c.in_ok-memory.ensures (went _ _ c.in_ok-div.ensures (went _ _ c.in_ok-hit.ensures
+    (went _ _ c.in_ok-line.ensures (went _ _ c.in_ok-miss.ensures (went _ _ c.in_ok-mul.ensures
+    (went _ _ sets (went _ _ c.in_ok-switch.ensures
+    (went _ _ c.in_ok-switching.ensures (search rules)))))))))

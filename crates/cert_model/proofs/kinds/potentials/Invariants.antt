@@ -1,7 +1,7 @@
 use Rattle.std.proofs.Common.{◌≡◌, ◌++◌, ◌^◌, drop, option_map}
 use Rattle.serde_json.specs.View.{items_view}
 use Rattle.cert_model.specs.Kinds.{all_of, whole}
-use Rattle.cert_model.proofs.kinds.numbers.Given as goal
+use Rattle.cert_model.proofs.kinds.potentials.Given as goal
 
 abbrev pub invariant-loop-value : goal.invariant-loop-value
 invariant-loop-value l =

@@ -2,7 +2,7 @@ use Rattle.std.proofs.Common.{◌≡◌, ◌++◌, drop, map, option_map}
 use Rattle.serde_json.specs.Find.{as_object}
 use Rattle.serde_json.specs.View.{items_view, members_view}
 use Rattle.cert_model.specs.Kinds.{all_of}
-use Rattle.cert_model.proofs.kinds.all_objects.Given as goal
+use Rattle.cert_model.proofs.kinds.objects.Given as goal
 
 abbrev pub invariant-loop-value : goal.invariant-loop-value
 invariant-loop-value l =
