@@ -8,6 +8,5 @@ pub mod Ranged
 mod Trees
 mod Rising
 mod Seen
-mod Steps
 mod Tasks
 mod Texts
