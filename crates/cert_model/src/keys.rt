@@ -1,7 +1,6 @@
 //! The keys of an object: each is looked up, and a fault is told with its path.
 
-ghost use Rattle.std.specs.Prelude.{◌≡◌, ◌≤◌, option_map, IfOk};
-ghost use Rattle.serde_json.specs.Find.{get_member};
+ghost use Rattle.std.specs.Prelude.{◌≤◌, IfOk};
 ghost use Rattle.serde_json.specs.View.{view, members_view};
 ghost use Rattle.cert_model.specs.Keys as spec;
 ghost use Rattle.crpd_base.specs.Outcome.{Gives};
@@ -25,14 +24,6 @@ pub struct Keys<'a> {
 }
 
 impl<'a> Keys<'a> {
-    /// The value at a key.
-    fn get(&self, key: &str) -> Option<&'a Value>
-        ensures { option_map (λ v. view v.now) result
-            ≡ get_member key.now (members_view self.now.object.now.entries) }
-    {
-        self.object.get(key)
-    }
-
     /// The value at a key that has to be there, else `Missing`. Memory is taken for the path of a
     /// refusal alone.
     pub fn present(&self, alloc: Global, key: &str) -> Result<&'a Value, CertError>
@@ -40,7 +31,7 @@ impl<'a> Keys<'a> {
             (spec.value_at_key self.now.path.now key.now
             (members_view self.now.object.now.entries)) }
     {
-        match self.get(key) {
+        match self.object.get(key) {
             Some(value) => Ok(value),
             None => Err(CertError::Missing(key_path(alloc, self.path, key)?)),
         }
