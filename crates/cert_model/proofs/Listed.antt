@@ -1,7 +1,7 @@
 -- A list that is read item by item, each in its turn.
 use Rattle.std.proofs.Common.{◌≡◌, ℕ, ◌+◌, ◌<◌, ◌≤◌, List, [], ◌∷◌, ◌++◌, length, get_or, drop}
-use Rattle.std.proofs.Common.{Bool, true, false, Option, Some, None, option_map, ap, subst, sym, ◌∙◌}
-use Rattle.std.specs.Prelude.{option_and_then}
+use Rattle.std.proofs.Common.{true, false, Option, Some, None, option_map, ap, subst, sym, ◌∙◌}
+use Rattle.std.specs.Prelude.{Bool, option_and_then}
 use Rattle.std.proofs.Math.ListN.{drop_of_length-le}
 use Rattle.std.proofs.lemmas.List.{append-nil}
 use Rattle.crpd_base.specs.declared.data.NodeState.{NodeState}

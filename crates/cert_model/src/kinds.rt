@@ -74,8 +74,8 @@ pub fn name(alloc: Global, value: &Value) -> Result<Option<String>, AllocError>
     task_name(alloc, value.as_str())
 }
 
-/// The numbers of a list of at most so many, each from 0 to 2^40; None for any other value. Linear in
-/// the list; the only error is want of memory.
+/// The numbers of a list of at most so many, each from 0 to 2^40; None for any other value. Linear
+/// in the list; the only error is want of memory.
 #[tactic(auto, unfolding(crate::specs::Kinds::potentials))]
 pub fn potentials(alloc: Global, most: u64, value: &Value) -> Result<Option<Vec<u64>>, AllocError>
     ensures { IfOk result (λ found.
