@@ -1,41 +1,38 @@
--- The steps behind a set with its code, the graphs of its tasks and the regions of their loops.
-use Rattle.std.proofs.Common.{◌≡◌, ℕ, List, Result, Ok, refl, inl, inr}
+-- What commands do with a set and its code: all that they are asked for, and each names a file.
+use Rattle.std.proofs.Common.{ℕ, List, Result}
 use Rattle.crpd_io.specs.Outside.{Contents}
 use Rattle.crpd_input.specs.declared.halt.Halt.{Halt}
-use Rattle.crpd_input.specs.declared.halt.Halt.TheVariants.{Refused, Memory, Fault}
-use Rattle.crpd_input.specs.declared.input.Input.{Input}
-use Rattle.crpd_input.specs.declared.shapes.Shapes.{Shapes}
 use Rattle.crpd_input.specs.Reading.{input_in}
-use Rattle.crpd_input.specs.Shapes.{ShapesIn}
-use Rattle.crpd_input.specs.Steps.{Exactly, MeansBy, StopsBy, Then}
-use Rattle.crpd_input.proofs.Chain.{goes_on}
-use Rattle.crpd_tool.specs.Inner.Shaped.{ShapedIn}
-use Rattle.crpd_tool.specs.Shaped.{WithShapes}
+use Rattle.crpd_input.specs.Steps.{Exactly, MeansBy, Then}
+use Rattle.crpd_tool.specs.Inner.Commands.{NamesNoFile, meant_work}
+use Rattle.crpd_tool.specs.Inner.Work.{WorkOf}
+use Rattle.crpd_tool.specs.Output.{Ends}
 use Rattle.crpd_tool.specs.declared.answer.Answer.{Answer}
-use Rattle.crpd_tool.specs.declared.shaped.Shaped.{Shaped}
+use Rattle.crpd_tool.specs.declared.certified.Purpose.TheVariants.{Check, Update, Explain}
+use Rattle.crpd_tool.specs.declared.further.Further.TheVariants.{Analyze, Classic, Slack}
+use Rattle.crpd_tool.specs.declared.further.Further.TheVariants.{Certified}
+use Rattle.crpd_tool.specs.declared.work.Work.{Work}
+use Rattle.crpd_tool.specs.declared.work.Work.TheVariants.{Sets, Simulate, Shaped}
 
-module _ (contents : Contents) (set : List ℕ) where
-  -- there are no graphs with regions
-  pub no_shapes : (input : Input) (halt : Halt) → input_in contents set ≡ Ok input
-      → StopsBy (ShapesIn input) halt → StopsBy (ShapedIn contents set) halt
-  no_shapes input (Refused r) is stop = inr (input, is, stop)
-  no_shapes input Memory is stop = tt
-  no_shapes input Fault is stop = tt
+module _ (contents : Contents) (set : List ℕ) (r : Result Answer Halt) where
+  pub ends_so : (work : Work)
+      → MeansBy (Then (Exactly (input_in contents set)) (WorkOf work contents set)) r
+      → MeansBy (Ends (meant_work set work) contents) r
+  ends_so Sets h = h
+  ends_so (Simulate script) h = h
+  ends_so (Shaped (Certified certificate Check)) h = h
+  ends_so (Shaped Analyze) h = h
+  ends_so (Shaped Classic) h = h
+  ends_so (Shaped Slack) h = h
+  ends_so (Shaped (Certified certificate (Update new_set))) h = h
+  ends_so (Shaped (Certified certificate (Explain script))) h = h
 
-  module _ (next : Input → Shapes → Result Answer Halt → Type 0) where
-    -- the next steps end so
-    pub behind : (shaped : Shaped) (result : Result Answer Halt) → ShapedIn contents set (Ok shaped)
-        → MeansBy (next shaped.input shaped.shapes) result
-        → MeansBy (WithShapes contents set next) result
-    behind shaped result given later =
-        goes_on (Exactly (input_in contents set)) (λ input. Then (ShapesIn input) (next input))
-        shaped.input result given.0
-        (goes_on (ShapesIn shaped.input) (next shaped.input) shaped.shapes result given.1 later)
-
-    -- there are no next steps
-    pub without : (halt : Halt) → StopsBy (ShapedIn contents set) halt
-        → StopsBy (WithShapes contents set next) halt
-    without (Refused r) (inl is) = inr (Refused r, is, refl)
-    without (Refused r) (inr made) = inl (made.0, made.1, inr (Refused r, made.2, refl))
-    without Memory stop = tt
-    without Fault stop = tt
+pub names_files : (set : List ℕ) (work : Work) → NamesNoFile (meant_work set work) → ⊥
+names_files set Sets h = h
+names_files set (Simulate script) h = h
+names_files set (Shaped (Certified certificate Check)) h = h
+names_files set (Shaped Analyze) h = h
+names_files set (Shaped Classic) h = h
+names_files set (Shaped Slack) h = h
+names_files set (Shaped (Certified certificate (Update new_set))) h = h
+names_files set (Shaped (Certified certificate (Explain script))) h = h

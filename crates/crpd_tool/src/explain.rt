@@ -8,15 +8,13 @@ ghost use Rattle.crpd_io.specs.Outside.{Rose};
 ghost use Rattle.crpd_input.specs.Shapes.{ShapesIn};
 ghost use Rattle.crpd_input.specs.Steps.{MeansBy, HoldsWhereTold};
 ghost use Rattle.preempt_machine.specs.Safe.{NamesTasks};
-ghost use Rattle.crpd_tool.specs.Explain.{AccountOf, ExplanationOf};
-ghost use Rattle.crpd_tool.specs.Explain.{ExplainFromCertificate, ExplainFromShapes};
+ghost use Rattle.crpd_tool.specs.Explain.{AccountOf, ExplainFromCertificate, ExplanationOf};
 
 use crate::answer::{Answer, Outcome};
-use crate::shaped::Shaped;
 use crate::texts::write_verdict;
 use cert_check::{Verdict, verdict};
 use crpd_base::{Certificate, Items, Memory, Script};
-use crpd_input::{Halt, Input, Shapes, load_certificate, load_script};
+use crpd_input::{Halt, Input, Shapes, load_script};
 use crpd_io::Files;
 use crpd_report::explain_text;
 use std::alloc::Global;
@@ -85,52 +83,27 @@ fn explanation(
 }
 
 /// The account of the run of a file's script, or the judge's no to the certificate.
-fn explain_script<F: Files>(
+pub(crate) fn explain_script<F: Files>(
     alloc: Global,
     files: &mut F,
-    shaped: &Shaped,
+    input: &Input,
+    shapes: &Shapes,
     stated: &Certificate,
     script: &str,
 ) -> Result<Answer, Halt>
-    requires set { IsTaskSet shaped.now.input.set }
-    requires count { length shaped.now.input.code.images ≡ length shaped.now.input.set.tasks }
-    requires shaped { ShapesIn shaped.now.input (Ok shaped.now.shapes) }
-    requires shown { AreTaskGraphs shaped.now.input.set shaped.now.shapes.graphs
-        shaped.now.shapes.nests }
+    requires set { IsTaskSet input.now.set }
+    requires count { length input.now.code.images ≡ length input.now.set.tasks }
+    requires shaped { ShapesIn input.now (Ok shapes.now) }
+    requires shown { AreTaskGraphs input.now.set shapes.now.graphs shapes.now.nests }
     requires ranges { IsCertificate stated.now }
     ensures exact { HoldsWhereTold (F.contents files.old)
-        (λ c. MeansBy (ExplainFromCertificate c script.now shaped.now.input shaped.now.shapes
-        stated.now) result) }
+        (λ c. MeansBy (ExplainFromCertificate c script.now input.now shapes.now stated.now)
+        result) }
     ensures same { F.contents files.new ≡ F.contents files.old }
     ensures later { F.faults files.old ≤ F.faults files.new }
     ensures fault { IsErrOf result Halt.Fault → Rose (F.faults files.old) (F.faults files.new) }
 {
-    let given = load_script(alloc, files, script, &shaped.input.set)?;
-    let answer = explanation(alloc, &shaped.input, &shaped.shapes, stated, &given)?;
+    let given = load_script(alloc, files, script, &input.set)?;
+    let answer = explanation(alloc, input, shapes, stated, &given)?;
     Ok(answer)
-}
-
-/// The account of a script's run, or the judge's no, after the certificate and the script were read
-/// from their files.
-pub(crate) fn explain_certificate<F: Files>(
-    alloc: Global,
-    files: &mut F,
-    shaped: &Shaped,
-    certificate: &str,
-    script: &str,
-) -> Result<Answer, Halt>
-    requires set { IsTaskSet shaped.now.input.set }
-    requires count { length shaped.now.input.code.images ≡ length shaped.now.input.set.tasks }
-    requires shaped { ShapesIn shaped.now.input (Ok shaped.now.shapes) }
-    requires shown { AreTaskGraphs shaped.now.input.set shaped.now.shapes.graphs
-        shaped.now.shapes.nests }
-    ensures exact { HoldsWhereTold (F.contents files.old)
-        (λ c. MeansBy (ExplainFromShapes c certificate.now script.now shaped.now.input
-        shaped.now.shapes) result) }
-    ensures same { F.contents files.new ≡ F.contents files.old }
-    ensures later { F.faults files.old ≤ F.faults files.new }
-    ensures fault { IsErrOf result Halt.Fault → Rose (F.faults files.old) (F.faults files.new) }
-{
-    let stated = load_certificate(alloc, files, certificate)?;
-    explain_script(alloc, files, shaped, &stated, script)
 }

@@ -8,18 +8,17 @@ ghost use Rattle.crpd_io.specs.Outside.{Rose};
 ghost use Rattle.crpd_input.specs.Graphs.{HasBoundedLoops};
 ghost use Rattle.crpd_input.specs.Shapes.{ShapesIn};
 ghost use Rattle.crpd_input.specs.Steps.{MeansBy, HoldsWhereTold, Then};
-ghost use Rattle.crpd_tool.specs.Update.{ChangeOf, UpdateFromCertificate, UpdateFromShapes};
-ghost use Rattle.crpd_tool.specs.Update.{UpdateOf, as_of_analysis};
+ghost use Rattle.crpd_tool.specs.Update.{ChangeOf, UpdateFromCertificate, UpdateOf};
+ghost use Rattle.crpd_tool.specs.Update.{as_of_analysis};
 
 use crate::answer::Answer;
 use crate::ending::{certificate_answer, without_certificate};
-use crate::shaped::Shaped;
 use crate::texts::write_verdict;
 use cert_build::BuildError;
 use cert_check::{Verdict, verdict};
 use cert_update::UpdateError;
 use crpd_base::Certificate;
-use crpd_input::{Halt, Input, Shapes, load_certificate, load_input, renewed_shapes};
+use crpd_input::{Halt, Input, Shapes, load_input, renewed_shapes};
 use crpd_io::Files;
 use std::alloc::Global;
 
@@ -103,72 +102,48 @@ fn judge_and_change(
 fn update_to_input(
     alloc: Global,
     file: &str,
-    old: &Shaped,
+    old: &Input,
+    old_shapes: &Shapes,
     stated: &Certificate,
     input: &Input,
 ) -> Result<Answer, Halt>
-    requires old { IsTaskSet old.now.input.set }
-    requires old_plans { length old.now.input.code.plans ≡ length old.now.input.set.tasks }
-    requires old_shapes { ShapesIn old.now.input (Ok old.now.shapes) }
-    requires old_shown { AreTaskGraphs old.now.input.set old.now.shapes.graphs
-        old.now.shapes.nests }
+    requires old { IsTaskSet old.now.set }
+    requires old_plans { length old.now.code.plans ≡ length old.now.set.tasks }
+    requires old_shaped { ShapesIn old.now (Ok old_shapes.now) }
+    requires old_shown { AreTaskGraphs old.now.set old_shapes.now.graphs old_shapes.now.nests }
     requires stated { IsCertificate stated.now }
     requires set { IsTaskSet input.now.set }
     requires plans { length input.now.code.plans ≡ length input.now.set.tasks }
     requires bounded { HasBoundedLoops input.now.code }
     ensures exact { MeansBy (Then (ShapesIn input.now)
-        (UpdateOf file.now old.now.input old.now.shapes stated.now input.now)) result }
+        (UpdateOf file.now old.now old_shapes.now stated.now input.now)) result }
     ensures no_fault { ¬ IsErrOf result Halt.Fault }
 {
-    let shapes = renewed_shapes(alloc, &old.input, &old.shapes, input)?;
-    judge_and_change(alloc, file, &old.input, &old.shapes, stated, input, &shapes)
+    let shapes = renewed_shapes(alloc, old, old_shapes, input)?;
+    judge_and_change(alloc, file, old, old_shapes, stated, input, &shapes)
 }
 
 /// The answer to a certificate of an old set, for the new set of a file.
-fn update_to_set<F: Files>(
+pub(crate) fn update_to_set<F: Files>(
     alloc: Global,
     files: &mut F,
-    old: &Shaped,
+    old: &Input,
+    old_shapes: &Shapes,
     stated: &Certificate,
     new_set: &str,
 ) -> Result<Answer, Halt>
-    requires old { IsTaskSet old.now.input.set }
-    requires old_plans { length old.now.input.code.plans ≡ length old.now.input.set.tasks }
-    requires old_shapes { ShapesIn old.now.input (Ok old.now.shapes) }
-    requires old_shown { AreTaskGraphs old.now.input.set old.now.shapes.graphs
-        old.now.shapes.nests }
+    requires old { IsTaskSet old.now.set }
+    requires old_plans { length old.now.code.plans ≡ length old.now.set.tasks }
+    requires old_shaped { ShapesIn old.now (Ok old_shapes.now) }
+    requires old_shown { AreTaskGraphs old.now.set old_shapes.now.graphs old_shapes.now.nests }
     requires stated { IsCertificate stated.now }
     ensures exact { HoldsWhereTold (F.contents files.old)
-        (λ c. MeansBy (UpdateFromCertificate c new_set.now old.now.input old.now.shapes stated.now)
+        (λ c. MeansBy (UpdateFromCertificate c new_set.now old.now old_shapes.now stated.now)
         result) }
     ensures same { F.contents files.new ≡ F.contents files.old }
     ensures later { F.faults files.old ≤ F.faults files.new }
     ensures fault { IsErrOf result Halt.Fault → Rose (F.faults files.old) (F.faults files.new) }
 {
     let input = load_input(alloc, files, new_set)?;
-    update_to_input(alloc, new_set, old, stated, &input)
-}
-
-/// The answer to the certificate of a file for an old set, for the new set of a file.
-pub(crate) fn update_certificate<F: Files>(
-    alloc: Global,
-    files: &mut F,
-    old: &Shaped,
-    old_certificate: &str,
-    new_set: &str,
-) -> Result<Answer, Halt>
-    requires old { IsTaskSet old.now.input.set }
-    requires old_plans { length old.now.input.code.plans ≡ length old.now.input.set.tasks }
-    requires old_shapes { ShapesIn old.now.input (Ok old.now.shapes) }
-    requires old_shown { AreTaskGraphs old.now.input.set old.now.shapes.graphs
-        old.now.shapes.nests }
-    ensures exact { HoldsWhereTold (F.contents files.old)
-        (λ c. MeansBy (UpdateFromShapes c old_certificate.now new_set.now old.now.input
-        old.now.shapes) result) }
-    ensures same { F.contents files.new ≡ F.contents files.old }
-    ensures later { F.faults files.old ≤ F.faults files.new }
-    ensures fault { IsErrOf result Halt.Fault → Rose (F.faults files.old) (F.faults files.new) }
-{
-    let stated = load_certificate(alloc, files, old_certificate)?;
-    update_to_set(alloc, files, old, &stated, new_set)
+    update_to_input(alloc, new_set, old, old_shapes, stated, &input)
 }

@@ -9,7 +9,7 @@ pub returns-clause-exact : goal.returns-clause-exact
 returns-clause-exact g c = λ contents told.
     goes_on (Exactly (input_in contents c.args.new_set.now))
     (λ input. Then (ShapesIn input)
-    (UpdateOf c.args.new_set.now c.args.old.now.input c.args.old.now.shapes c.args.stated.now
+    (UpdateOf c.args.new_set.now c.args.old.now c.args.old_shapes.now c.args.stated.now
     input))
     c.in_ok-input.input c.update_to_input.result (c.in_ok-input.ensures.exact contents told)
     c.update_to_input.ensures.exact
