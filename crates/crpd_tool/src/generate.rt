@@ -123,10 +123,10 @@ fn answer_behind_line(
     alloc: Global,
     number: u32,
     nodes: u64,
-    answer: Answer,
+    answer: &Answer,
 ) -> Result<Answer, AllocError>
     ensures { IfOk result (λ whole.
-        Ok whole ≡ spec.answer_behind_line (made_line number nodes) (Ok answer)) }
+        Ok whole ≡ spec.answer_behind_line (made_line number nodes) (Ok answer.now)) }
 {
     let line = format!(in alloc; "generated {number} tasks 16 nodes {nodes}\n")?;
     let mut text = line.into_bytes();
@@ -166,7 +166,7 @@ fn analysis_answer(
         Err(BuildError::Memory) => Err(Halt::Memory),
         Err(error) => {
             let ending = without_certificate(alloc, NAME, &input.set, error)?;
-            Ok(answer_behind_line(alloc, number, node_count(graphs), ending)?)
+            Ok(answer_behind_line(alloc, number, node_count(graphs), &ending)?)
         }
     }
 }

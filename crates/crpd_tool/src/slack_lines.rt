@@ -1,36 +1,36 @@
 // The text of the greatest costs.
-ghost use Rattle.std.specs.Prelude.{◌≡◌, ◌++◌, string_bytes, IfOk};
+ghost use Rattle.std.specs.Prelude.{◌≡◌, ◌++◌, ◌∷◌, [], codes, string_bytes, IfOk};
 ghost use Rattle.crpd_tool.specs.SlackText as spec;
 
 use crpd_base::{TaskSet, task_name};
 use sensitivity::{Slack, Stop};
 use std::alloc::{AllocError, Global};
 
-/// Adds the greatest cost in decimal, or `none`.
-fn add_cost(text: &mut String, greatest: Option<u32>) -> Result<(), AllocError>
-    ensures { IfOk result (λ _.
-        string_bytes text.new ≡ string_bytes text.old ++ spec.cost_text greatest) }
+/// Adds the kind of a cost, and the greatest one in decimal, or `none`.
+fn add_cost(text: &mut String, kind: &str, greatest: Option<u32>) -> Result<(), AllocError>
+    ensures { IfOk result (λ _. string_bytes text.new
+        ≡ string_bytes text.old ++ kind.now ++ codes " " ++ spec.cost_text greatest ++ codes " ") }
 {
     match greatest {
-        None => text.push_str("none"),
-        Some(cost) => write!(text, "{cost}"),
+        None => write!(text, "{kind} none "),
+        Some(cost) => write!(text, "{kind} {cost} "),
     }
 }
 
-/// Adds why a cost is not greater.
+/// Adds why a cost is not greater, and ends the line.
 fn add_stop(text: &mut String, set: &TaskSet, stop: Stop) -> Result<(), AllocError>
-    ensures { IfOk result (λ _.
-        string_bytes text.new ≡ string_bytes text.old ++ spec.stop_text set.now stop) }
+    ensures { IfOk result (λ _. string_bytes text.new
+        ≡ string_bytes text.old ++ spec.stop_text set.now stop ++ 10 ∷ []) }
 {
     match stop {
-        Stop::Limit => text.push_str("limit"),
+        Stop::Limit => text.push_str("limit\n"),
         Stop::Window(task) => {
             let name = task_name(set, task);
-            write!(text, "window {name}")
+            write!(text, "window {name}\n")
         }
         Stop::Bound(task) => {
             let name = task_name(set, task);
-            write!(text, "bound {name}")
+            write!(text, "bound {name}\n")
         }
     }
 }
@@ -41,11 +41,8 @@ fn add_line(text: &mut String, kind: &str, set: &TaskSet, slack: &Slack) -> Resu
         string_bytes text.new ≡ string_bytes text.old
         ++ spec.slack_line kind.now set.now slack.now) }
 {
-    write!(text, "{kind} ")?;
-    add_cost(text, slack.greatest)?;
-    text.push_str(" ")?;
-    add_stop(text, set, slack.stop)?;
-    text.push_str("\n")
+    add_cost(text, kind, slack.greatest)?;
+    add_stop(text, set, slack.stop)
 }
 
 /// The two lines of the greatest costs of a switch and of a reload.
