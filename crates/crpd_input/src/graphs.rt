@@ -15,38 +15,19 @@ use std::alloc::Global;
 fn graph_halt(alloc: Global, name: &str, error: GraphError) -> Halt
     ensures { IsRefusal (graph_stop name.now error) result }
 {
-    match error {
-        GraphError::Memory => Halt::Memory,
-        GraphError::Undecodable(address) => refuse_address(
-            alloc,
-            Cause::Undecodable,
-            name,
-            address,
-        ),
-        GraphError::OutsideCode(address) => refuse_address(
-            alloc,
-            Cause::OutsideCode,
-            name,
-            address,
-        ),
-        GraphError::IndirectJump(address) => refuse_address(
-            alloc,
-            Cause::IndirectJump,
-            name,
-            address,
-        ),
-        GraphError::OtherLink(address) => refuse_address(alloc, Cause::OtherLink, name, address),
-        GraphError::Breakpoint(address) => refuse_address(alloc, Cause::Breakpoint, name, address),
-        GraphError::Recursive(address) => refuse_address(alloc, Cause::Recursive, name, address),
-        GraphError::TooManyNodes(address) => refuse_address(
-            alloc,
-            Cause::TooManyNodes,
-            name,
-            address,
-        ),
-        GraphError::TooDeep(address) => refuse_address(alloc, Cause::TooDeep, name, address),
-        GraphError::Misaligned(address) => refuse_address(alloc, Cause::Misaligned, name, address),
-    }
+    let (cause, address) = match error {
+        GraphError::Memory => return Halt::Memory,
+        GraphError::Undecodable(address) => (Cause::Undecodable, address),
+        GraphError::OutsideCode(address) => (Cause::OutsideCode, address),
+        GraphError::IndirectJump(address) => (Cause::IndirectJump, address),
+        GraphError::OtherLink(address) => (Cause::OtherLink, address),
+        GraphError::Breakpoint(address) => (Cause::Breakpoint, address),
+        GraphError::Recursive(address) => (Cause::Recursive, address),
+        GraphError::TooManyNodes(address) => (Cause::TooManyNodes, address),
+        GraphError::TooDeep(address) => (Cause::TooDeep, address),
+        GraphError::Misaligned(address) => (Cause::Misaligned, address),
+    };
+    refuse_address(alloc, cause, name, address)
 }
 
 /// The graph of a task.

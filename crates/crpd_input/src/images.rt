@@ -21,30 +21,36 @@ use std::alloc::Global;
 fn elf_halt(alloc: Global, file: &str, error: ElfError) -> Halt
     ensures { IsRefusal (elf_stop file.now error) result }
 {
-    match error {
-        ElfError::Memory => Halt::Memory,
-        ElfError::Short => refuse_plainly(alloc, Cause::Short, file),
-        ElfError::NotElf => refuse_plainly(alloc, Cause::NotElf, file),
-        ElfError::NotElf32Little => refuse_plainly(alloc, Cause::NotElf32Little, file),
-        ElfError::NotRiscV => refuse_plainly(alloc, Cause::NotRiscV, file),
-        ElfError::NotExecutable => refuse_plainly(alloc, Cause::NotExecutable, file),
-        ElfError::NotStatic(place) => refuse_count(alloc, Cause::NotStatic, file, u64::from(place)),
-        ElfError::HeaderOutside => refuse_plainly(alloc, Cause::HeaderOutside, file),
-        ElfError::SegmentOutside(place) => refuse_count(
+    let cause = match error {
+        ElfError::Memory => return Halt::Memory,
+        ElfError::Short => Cause::Short,
+        ElfError::NotElf => Cause::NotElf,
+        ElfError::NotElf32Little => Cause::NotElf32Little,
+        ElfError::NotRiscV => Cause::NotRiscV,
+        ElfError::NotExecutable => Cause::NotExecutable,
+        ElfError::NotStatic(place) => return refuse_count(
+            alloc,
+            Cause::NotStatic,
+            file,
+            u64::from(place),
+        ),
+        ElfError::HeaderOutside => Cause::HeaderOutside,
+        ElfError::SegmentOutside(place) => return refuse_count(
             alloc,
             Cause::SegmentOutside,
             file,
             u64::from(place),
         ),
-        ElfError::SegmentsOverlap(place) => refuse_count(
+        ElfError::SegmentsOverlap(place) => return refuse_count(
             alloc,
             Cause::SegmentsOverlap,
             file,
             u64::from(place),
         ),
-        ElfError::NoCode => refuse_plainly(alloc, Cause::NoCode, file),
-        ElfError::SymbolsOutside => refuse_plainly(alloc, Cause::SymbolsOutside, file),
-    }
+        ElfError::NoCode => Cause::NoCode,
+        ElfError::SymbolsOutside => Cause::SymbolsOutside,
+    };
+    refuse_plainly(alloc, cause, file)
 }
 
 /// The image of an ELF file.

@@ -20,18 +20,14 @@ use std::alloc::Global;
 fn loop_halt(alloc: Global, name: &str, error: LoopError) -> Halt
     ensures { IsRefusal (loop_stop name.now error) result }
 {
-    match error {
-        LoopError::Memory => Halt::Memory,
-        LoopError::SecondEntry(address) => refuse_address(alloc, Cause::SecondEntry, name, address),
-        LoopError::NotNested(address) => refuse_address(alloc, Cause::NotNested, name, address),
-        LoopError::SameHead(address) => refuse_address(alloc, Cause::SameHead, name, address),
-        LoopError::CycleWithoutBound(address) => refuse_address(
-            alloc,
-            Cause::CycleWithoutBound,
-            name,
-            address,
-        ),
-    }
+    let (cause, address) = match error {
+        LoopError::Memory => return Halt::Memory,
+        LoopError::SecondEntry(address) => (Cause::SecondEntry, address),
+        LoopError::NotNested(address) => (Cause::NotNested, address),
+        LoopError::SameHead(address) => (Cause::SameHead, address),
+        LoopError::CycleWithoutBound(address) => (Cause::CycleWithoutBound, address),
+    };
+    refuse_address(alloc, cause, name, address)
 }
 
 /// The regions of a task's loops in its graph.

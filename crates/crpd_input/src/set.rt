@@ -18,16 +18,22 @@ use std::alloc::Global;
 fn set_halt(alloc: Global, file: &str, error: SetError) -> Halt
     ensures { IsRefusal (set_stop file.now error) result }
 {
-    match error {
-        SetError::Memory => Halt::Memory,
-        SetError::NotToml => refuse_plainly(alloc, Cause::SetNotToml, file),
-        SetError::Missing(key) => refuse(alloc, Cause::SetMissing, file, key),
-        SetError::BadValue(key) => refuse(alloc, Cause::SetBadValue, file, key),
-        SetError::TooManyTasks(count) => refuse_count(alloc, Cause::TooManyTasks, file, count),
-        SetError::SameName(key) => refuse(alloc, Cause::SameName, file, key),
-        SetError::DeadlineAfterPeriod(key) => refuse(alloc, Cause::DeadlineAfterPeriod, file, key),
-        SetError::UnknownKey(key) => refuse(alloc, Cause::SetUnknownKey, file, key),
-    }
+    let (cause, key) = match error {
+        SetError::Memory => return Halt::Memory,
+        SetError::NotToml => return refuse_plainly(alloc, Cause::SetNotToml, file),
+        SetError::Missing(key) => (Cause::SetMissing, key),
+        SetError::BadValue(key) => (Cause::SetBadValue, key),
+        SetError::TooManyTasks(count) => return refuse_count(
+            alloc,
+            Cause::TooManyTasks,
+            file,
+            count,
+        ),
+        SetError::SameName(key) => (Cause::SameName, key),
+        SetError::DeadlineAfterPeriod(key) => (Cause::DeadlineAfterPeriod, key),
+        SetError::UnknownKey(key) => (Cause::SetUnknownKey, key),
+    };
+    refuse(alloc, cause, file, key)
 }
 
 /// The task set of a file of at most 16,777,216 bytes: 1 to 32 tasks.
