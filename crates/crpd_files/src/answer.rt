@@ -1,9 +1,13 @@
 // What a command ends with.
-use crate::ending::Ending;
-use crpd_io::MemSink;
+use crate::source::Source;
+use crpd_io::{MemSink, StdSink, write_all};
 use crpd_tool::{Status, run};
 use std::alloc::{AllocError, Global};
-use std::{io, str};
+use std::io;
+use std::io::ErrorKind;
+
+/// No call has this number.
+pub(crate) const NEVER: u64 = u64::MAX;
 
 /// A status, and what was written.
 #[derive(Drop)]
@@ -28,30 +32,36 @@ impl Answer {
     }
 
     pub(crate) fn print(&self, rt: &HostRuntime) -> io::Result<()> {
-        match str::from_utf8(self.text()) {
-            Ok(text) => print!(rt; "{text}")?,
-            Err(_) => println!(rt; "no text")?,
+        if write_all(&mut StdSink::new(rt), self.text()).is_err() {
+            return Err(ErrorKind::WriteZero.into());
         }
         println!(rt; "{:?} {}", self.status, self.status.code())
     }
 }
 
-/// An output with room for 2,000 bytes, whose calls take at most so many bytes, and at least one.
-/// The call of this number fails, and so does each call once the room is full.
-pub(crate) fn sink(alloc: Global, most: usize, failing: u64) -> Result<MemSink, AllocError> {
-    match MemSink::new(alloc, 2000, most.max(1), [failing].to_vec(alloc)?) {
-        Ok(out) => Ok(out),
+/// Carries out a command. A call of its output takes at most so many bytes, and at least one. The
+/// call of this number fails, and so does each call once 10,000 bytes are taken.
+pub(crate) fn carry_out(
+    alloc: Global,
+    words: &[String],
+    files: &mut Source,
+    most: usize,
+    failing: u64,
+) -> Result<Answer, AllocError> {
+    match MemSink::new(alloc, 10_000, most.max(1), vec![in alloc; failing]?) {
+        Ok(mut out) => {
+            let status = run(alloc, words, files, &mut out);
+            Ok(Answer { status, out })
+        }
         Err(_) => Err(AllocError),
     }
 }
 
-/// Carries out a command.
-pub(crate) fn carry_out(
-    alloc: Global,
+/// Carries out a command, no call of whose output fails, and tells what it ends with.
+pub(crate) fn print_carried_out(
+    rt: &HostRuntime,
     words: &[String],
-    mut files: Ending,
-    mut out: MemSink,
-) -> Answer {
-    let status = run(alloc, words, &mut files, &mut out);
-    Answer { status, out }
+    files: &mut Source,
+) -> io::Result<()> {
+    carry_out(rt.alloc(), words, files, usize::MAX, NEVER)?.print(rt)
 }

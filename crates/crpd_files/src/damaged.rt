@@ -1,7 +1,7 @@
 // The first file of a command cut, ended and changed at each of its places.
-use crate::answer::{Answer, carry_out, sink};
-use crate::ending::Ending;
-use crate::trial::{Trial, copy_of};
+use crate::answer::{Answer, NEVER, carry_out};
+use crate::source::Source;
+use crate::trial::Trial;
 use std::alloc::{AllocError, Global};
 use std::io;
 
@@ -17,14 +17,6 @@ pub(crate) enum Damage {
 }
 
 impl Damage {
-    fn name(self) -> &'static str {
-        match self {
-            Damage::Cut => "cut",
-            Damage::Ended => "ended",
-            Damage::Turned => "turned",
-        }
-    }
-
     // Damages the bytes of a file.
     fn put(self, bytes: &mut Vec<u8>, place: usize) {
         match self {
@@ -57,13 +49,12 @@ impl Damage {
 
 // What a command ends with where its first file has this damage.
 fn ends(alloc: Global, trial: &Trial, damage: Damage, place: usize) -> Result<Answer, AllocError> {
-    let mut held = copy_of(alloc, trial.held.as_slice())?;
+    let mut held = trial.held.clone()?;
     if let Some(first) = held.first_mut() {
         damage.put(&mut first.1, place);
     }
-    let files = Ending::new(alloc, held, trial.first_name(), damage.end(place));
-    let out = sink(alloc, usize::MAX, u64::MAX)?;
-    Ok(carry_out(alloc, trial.words.as_slice(), files, out))
+    let mut files = Source::ending(alloc, held, trial.first_name(), damage.end(place));
+    carry_out(alloc, trial.words.as_slice(), &mut files, usize::MAX, NEVER)
 }
 
 // The first place from this one on at which a command ends otherwise.
@@ -83,6 +74,11 @@ fn next_of(
     Ok(places)
 }
 
+fn print_at(rt: &HostRuntime, first: usize, last: usize, answer: &Answer) -> io::Result<()> {
+    println!(rt; "places {first} to {last}:")?;
+    answer.print(rt)
+}
+
 // Tells the answer at the first of these places, and where the next answer begins.
 fn print_range(
     rt: &HostRuntime,
@@ -93,20 +89,17 @@ fn print_range(
 ) -> io::Result<usize> {
     let answer = ends(rt.alloc(), trial, damage, first)?;
     let next = next_of(rt.alloc(), trial, damage, first, places, &answer)?;
-    println!(rt; "places {first} to {}:", next.saturating_sub(1))?;
-    answer.print(rt)?;
+    print_at(rt, first, next.saturating_sub(1), &answer)?;
     Ok(next)
 }
 
 /// Damages the first file at each of its places.
-pub(crate) fn print_damaged(rt: &HostRuntime, line: &str, damage: Damage) -> io::Result<()> {
-    println!(rt; "$ {} {line}", damage.name())?;
-    let trial = Trial::read(rt, line)?;
+pub(crate) fn print_damaged(rt: &HostRuntime, trial: &Trial, damage: Damage) -> io::Result<()> {
     let places = damage.places(trial.first_bytes());
     let mut first = 0;
     for _ in 0..places {
         if first < places {
-            first = print_range(rt, &trial, damage, first, places)?;
+            first = print_range(rt, trial, damage, first, places)?;
         }
     }
     Ok(())

@@ -1,13 +1,13 @@
 // Each call of the files and of the output failing in turn.
-use crate::answer::{Answer, carry_out, sink};
-use crate::ending::Ending;
-use crate::trial::{Trial, copy_of};
+use crate::answer::{Answer, NEVER, carry_out};
+use crate::source::Source;
+use crate::trial::Trial;
 use crpd_tool::Status;
 use std::alloc::{AllocError, Global};
 use std::io;
 
-// No call has this number.
-const NEVER: u64 = u64::MAX;
+// How many bytes a call gives or takes at most.
+static MOSTS: [usize; 3] = [1, 7, 4096];
 
 // How many bytes a call gives or takes, and the numbers of the calls that fail.
 #[derive(Clone, Copy)]
@@ -19,10 +19,9 @@ struct Calls {
 
 // What a command ends with where these calls fail.
 fn ends(alloc: Global, trial: &Trial, calls: Calls) -> Result<Answer, AllocError> {
-    let held = copy_of(alloc, trial.held.as_slice())?;
-    let files = Ending::failing(alloc, held, calls.most, calls.of_files)?;
-    let out = sink(alloc, calls.most, calls.of_output)?;
-    Ok(carry_out(alloc, trial.words.as_slice(), files, out))
+    let mut files = Source::failing(alloc, trial.held.clone()?, calls.most, calls.of_files)?;
+    let words = trial.words.as_slice();
+    carry_out(alloc, words, &mut files, calls.most, calls.of_output)
 }
 
 // The first call of the files that is not made, or whose failing is no read fault before any text.
@@ -67,18 +66,38 @@ fn print_end(rt: &HostRuntime, number: u64, found: &Answer, whole: &Answer) -> i
     }
 }
 
+// Tells the end where these calls fail, the file's or the output's of this number.
+fn print_call(
+    rt: &HostRuntime,
+    trial: &Trial,
+    calls: Calls,
+    number: u64,
+    whole: &Answer,
+) -> io::Result<()> {
+    print_end(rt, number, &ends(rt.alloc(), trial, calls)?, whole)
+}
+
+fn print_read(
+    rt: &HostRuntime,
+    trial: &Trial,
+    most: usize,
+    of_files: u64,
+    whole: &Answer,
+) -> io::Result<()> {
+    let calls = Calls {
+        most,
+        of_files,
+        of_output: NEVER,
+    };
+    print_call(rt, trial, calls, of_files, whole)
+}
+
 fn print_reads(rt: &HostRuntime, trial: &Trial, most: usize, whole: &Answer) -> io::Result<()> {
     let count = reads(rt.alloc(), trial, most)?;
     println!(rt; "at most {most} in a read: {count} calls fail, each with ReadFault and no text")?;
-    for of_files in [count, count.saturating_add(1), NEVER] {
-        let calls = Calls {
-            most,
-            of_files,
-            of_output: NEVER,
-        };
-        print_end(rt, of_files, &ends(rt.alloc(), trial, calls)?, whole)?;
-    }
-    Ok(())
+    print_read(rt, trial, most, count, whole)?;
+    print_read(rt, trial, most, count.saturating_add(1), whole)?;
+    print_read(rt, trial, most, NEVER, whole)
 }
 
 fn print_writes(rt: &HostRuntime, trial: &Trial, most: usize, whole: &Answer) -> io::Result<()> {
@@ -91,24 +110,25 @@ fn print_writes(rt: &HostRuntime, trial: &Trial, most: usize, whole: &Answer) ->
         of_files: NEVER,
         of_output: count,
     };
-    print_end(rt, count, &ends(rt.alloc(), trial, calls)?, whole)
+    print_call(rt, trial, calls, count, whole)
+}
+
+fn print_calls(rt: &HostRuntime, trial: &Trial, whole: &Answer) -> io::Result<()> {
+    whole.print(rt)?;
+    for &most in &MOSTS {
+        print_reads(rt, trial, most, whole)?;
+        print_writes(rt, trial, most, whole)?;
+    }
+    Ok(())
 }
 
 /// Lets each call of the files fail in turn, and each of the output, with few bytes and many in a
 /// call. A call that is not made fails nowhere, nor does a later one.
-pub(crate) fn print_failing(rt: &HostRuntime, line: &str) -> io::Result<()> {
-    println!(rt; "$ failing {line}")?;
-    let trial = Trial::read(rt, line)?;
+pub(crate) fn print_failing(rt: &HostRuntime, trial: &Trial) -> io::Result<()> {
     let calls = Calls {
         most: usize::MAX,
         of_files: NEVER,
         of_output: NEVER,
     };
-    let whole = ends(rt.alloc(), &trial, calls)?;
-    whole.print(rt)?;
-    for most in [1, 7, 4096] {
-        print_reads(rt, &trial, most, &whole)?;
-        print_writes(rt, &trial, most, &whole)?;
-    }
-    Ok(())
+    print_calls(rt, trial, &ends(rt.alloc(), trial, calls)?)
 }

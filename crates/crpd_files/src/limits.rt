@@ -1,8 +1,7 @@
 // Files at the limits of what is read.
-use crate::answer::{carry_out, sink};
-use crate::command::words_of;
-use crate::ending::Ending;
-use crate::trial::{Held, Trial, copy_of};
+use crate::answer::print_carried_out;
+use crate::source::Source;
+use crate::trial::{Held, Trial, push_file};
 use std::alloc::{AllocError, Global};
 use std::io;
 
@@ -73,48 +72,40 @@ fn many_entries(alloc: Global, ends: &Ends) -> Result<String, AllocError> {
     Ok(text)
 }
 
-// Carries out a command over these files and one more.
-fn print_with(
-    rt: &HostRuntime,
-    words: &[String],
-    mut held: Held,
-    name: &str,
-    bytes: Vec<u8>,
-) -> io::Result<()> {
-    held.push((String::from_str(rt.alloc(), name)?, bytes))?;
-    let files = Ending::whole(rt.alloc(), held);
-    let out = sink(rt.alloc(), usize::MAX, u64::MAX)?;
-    carry_out(rt.alloc(), words, files, out).print(rt)
+// The files of a trial and one more.
+fn held_with(alloc: Global, trial: &Trial, name: &str, bytes: Vec<u8>) -> Result<Held, AllocError> {
+    let mut held = trial.held.clone()?;
+    push_file(&mut held, alloc, name, bytes)?;
+    Ok(held)
 }
 
-// Carries out a command over its files and this certificate.
-fn print_entries_of(rt: &HostRuntime, trial: &Trial, ends: &Ends) -> io::Result<()> {
-    let bytes = many_entries(rt.alloc(), ends)?.into_bytes();
-    let held = copy_of(rt.alloc(), trial.held.as_slice())?;
-    print_with(rt, trial.words.as_slice(), held, "many.json", bytes)
+// Carries out a command over its files and one more.
+fn print_with(rt: &HostRuntime, trial: &Trial, name: &str, bytes: Vec<u8>) -> io::Result<()> {
+    let held = held_with(rt.alloc(), trial, name, bytes)?;
+    let mut files = Source::ending(rt.alloc(), held, "", u64::MAX);
+    print_carried_out(rt, trial.words.as_slice(), &mut files)
 }
 
 /// A certificate with as many entries as may be, one with a useful set more, and that one with a
 /// value besides that is refused.
-pub(crate) fn print_entries(rt: &HostRuntime, line: &str) -> io::Result<()> {
-    println!(rt; "$ entries {line}")?;
-    let trial = Trial::read(rt, line)?;
+pub(crate) fn print_entries(rt: &HostRuntime, trial: &Trial) -> io::Result<()> {
     for ends in &ENDS {
-        print_entries_of(rt, &trial, ends)?;
+        print_with(
+            rt,
+            trial,
+            "many.json",
+            many_entries(rt.alloc(), ends)?.into_bytes(),
+        )?;
     }
     Ok(())
 }
 
 /// A file of a byte more than is read.
-pub(crate) fn print_long(rt: &HostRuntime, line: &str) -> io::Result<()> {
-    println!(rt; "$ long {line}")?;
-    let words = words_of(rt.alloc(), line)?;
-    let bytes = vec![in rt.alloc(); b'\n'; 16_777_217]?;
+pub(crate) fn print_long(rt: &HostRuntime, trial: &Trial) -> io::Result<()> {
     print_with(
         rt,
-        words.as_slice(),
-        Vec::new(rt.alloc()),
+        trial,
         "long.toml",
-        bytes,
+        vec![in rt.alloc(); b'\n'; 16_777_217]?,
     )
 }

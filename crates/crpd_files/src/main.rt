@@ -2,7 +2,7 @@
 //! answered by what the command writes and its status:
 //!
 //! - `# TEXT` is a heading.
-//! - `COMMAND WORD ..` is carried out over the files that lie where this program runs.
+//! - `crpd COMMAND WORD ..` is carried out over the files that lie where this program runs.
 //! - `untouched "COMMAND" "WORD" ..` has the words between the quotes, over files of which the
 //!   first call fails. Such words may be empty, or hold a space.
 //! - `failing COMMAND WORD .. with FILE ..` is carried out over copies of these files in memory:
@@ -13,14 +13,16 @@
 //! - `entries COMMAND WORD .. with FILE ..` has besides these files `many.json`, certificates with
 //!   as many entries of states as may be, and one more, and with one more and a bad value.
 //! - `long COMMAND WORD ..` has one file, `long.toml`, of a byte more than is read.
+//!
+//! A line that begins otherwise ends the program with an error.
 #![tactic(auto)]
 
 mod answer;
 mod command;
 mod damaged;
-mod ending;
 mod failing;
 mod limits;
+mod source;
 mod trial;
 
 use command::{print_command, print_untouched};
@@ -28,26 +30,42 @@ use damaged::{Damage, print_damaged};
 use failing::print_failing;
 use limits::{print_entries, print_long};
 use std::io;
+use std::io::ErrorKind;
+use trial::{Trial, halves};
 
-fn print_answer(rt: &HostRuntime, line: &str) -> io::Result<()> {
-    let (kind, rest) = line.split_once(' ').unwrap_or((line, ""));
+fn print_trial(rt: &HostRuntime, kind: &str, trial: &Trial) -> io::Result<()> {
     match kind {
-        "#" => println!(rt; "{line}"),
-        "untouched" => print_untouched(rt, rest),
-        "failing" => print_failing(rt, rest),
-        "cut" => print_damaged(rt, rest, Damage::Cut),
-        "ended" => print_damaged(rt, rest, Damage::Ended),
-        "turned" => print_damaged(rt, rest, Damage::Turned),
-        "entries" => print_entries(rt, rest),
-        "long" => print_long(rt, rest),
-        _ => print_command(rt, line),
+        "crpd" => print_command(rt, trial),
+        "failing" => print_failing(rt, trial),
+        "cut" => print_damaged(rt, trial, Damage::Cut),
+        "ended" => print_damaged(rt, trial, Damage::Ended),
+        "turned" => print_damaged(rt, trial, Damage::Turned),
+        "entries" => print_entries(rt, trial),
+        "long" => print_long(rt, trial),
+        _ => Err(ErrorKind::InvalidInput.into()),
     }
+}
+
+fn print_answer(rt: &HostRuntime, kind: &str, rest: &str) -> io::Result<()> {
+    if kind == "untouched" {
+        return print_untouched(rt, rest);
+    }
+    print_trial(rt, kind, &Trial::read(rt, rest)?)
+}
+
+fn print_line(rt: &HostRuntime, line: &str) -> io::Result<()> {
+    let (kind, rest) = halves(line, " ");
+    if kind == "#" {
+        return println!(rt; "{line}");
+    }
+    println!(rt; "$ {line}")?;
+    print_answer(rt, kind, rest)
 }
 
 fn main(rt: HostRuntime) -> io::Result<()> {
     for line in rt.lines(rt.alloc()) {
         let line = line?;
-        print_answer(&rt, line.as_str())?;
+        print_line(&rt, line.as_str())?;
     }
     Ok(())
 }

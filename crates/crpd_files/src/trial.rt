@@ -1,5 +1,4 @@
 // A command with copies of its files in memory.
-use crate::command::words_of;
 use std::alloc::{AllocError, Global};
 use std::{fs, io};
 
@@ -13,12 +12,42 @@ pub(crate) struct Trial {
     pub(crate) held: Held,
 }
 
+/// What stands before the first such mark of a line, and what stands behind it: nothing where there
+/// is none.
+pub(crate) fn halves<'a>(line: &'a str, mark: &str) -> (&'a str, &'a str) {
+    line.split_once(mark).unwrap_or((line, ""))
+}
+
+/// The words between which this mark stands: none of an empty text.
+pub(crate) fn words_of(alloc: Global, text: &str, mark: &str) -> Result<Vec<String>, AllocError> {
+    let mut words = Vec::new(alloc);
+    if text.is_empty() {
+        return Ok(words);
+    }
+    for word in text.split(mark) {
+        words.push(String::from_str(alloc, word)?)?;
+    }
+    Ok(words)
+}
+
+/// Adds a file of this name.
+pub(crate) fn push_file(
+    held: &mut Held,
+    alloc: Global,
+    name: &str,
+    bytes: Vec<u8>,
+) -> Result<(), AllocError> {
+    held.push((String::from_str(alloc, name)?, bytes))?;
+    Ok(())
+}
+
 // The files of these names that lie where this program runs.
-fn held(rt: &HostRuntime, names: &[String]) -> io::Result<Held> {
+fn files_of(rt: &HostRuntime, names: &str) -> io::Result<Held> {
     let mut held = Vec::new(rt.alloc());
-    for name in names {
-        let bytes = fs::read(rt, name.as_str())?;
-        held.push((name.clone()?, bytes))?;
+    for name in names.split(" ") {
+        if !name.is_empty() {
+            push_file(&mut held, rt.alloc(), name, fs::read(rt, name)?)?;
+        }
     }
     Ok(held)
 }
@@ -26,10 +55,9 @@ fn held(rt: &HostRuntime, names: &[String]) -> io::Result<Held> {
 impl Trial {
     /// The command before `with`, over the files of the names behind it.
     pub(crate) fn read(rt: &HostRuntime, line: &str) -> io::Result<Trial> {
-        let (words, names) = line.split_once(" with ").unwrap_or((line, ""));
-        let words = words_of(rt.alloc(), words)?;
-        let names = words_of(rt.alloc(), names)?;
-        let held = held(rt, names.as_slice())?;
+        let (words, names) = halves(line, " with ");
+        let words = words_of(rt.alloc(), words, " ")?;
+        let held = files_of(rt, names)?;
         Ok(Trial { words, held })
     }
 
@@ -48,13 +76,4 @@ impl Trial {
             None => &[],
         }
     }
-}
-
-/// A copy of files.
-pub(crate) fn copy_of(alloc: Global, held: &[(String, Vec<u8>)]) -> Result<Held, AllocError> {
-    let mut copy = Vec::new(alloc);
-    for (name, bytes) in held {
-        copy.push((name.clone()?, bytes.clone()?))?;
-    }
-    Ok(copy)
 }

@@ -1,0 +1,87 @@
+// Where the files of a command are: on the disk or in memory, where calls may fail or give few
+// bytes, and where a file may end before its size. They are of one kind, since a program has the
+// certifier once for each kind.
+ghost use Rattle.std.specs.Prelude.{None};
+ghost use Rattle.crpd_files.specs.declared.source.Source.TheVariants.{Disk, Memory};
+
+use crate::trial::Held;
+use crpd_io::{DiskFiles, Fault, Files, MemFiles};
+use std::alloc::{AllocError, Global};
+
+/// Files that tell no contents.
+#[derive(Drop)]
+pub(crate) enum Source<'a> {
+    /// The files that lie where this program runs.
+    Disk(DiskFiles<'a, HostRuntime>),
+    /// Files in memory, of which the reads of one name end at a place, whatever its size is said to
+    /// be.
+    Memory {
+        files: MemFiles,
+        name: &'a str,
+        end: u64,
+    },
+}
+
+impl<'a> Source<'a> {
+    /// The files that lie where this program runs.
+    pub(crate) fn disk(rt: &'a HostRuntime) -> Self {
+        Source::Disk(DiskFiles::new(rt))
+    }
+
+    /// The reads of this name end at a place.
+    pub(crate) fn ending(alloc: Global, files: Held, name: &'a str, end: u64) -> Self {
+        Source::Memory {
+            files: MemFiles::new(files, Vec::new(alloc)),
+            name,
+            end,
+        }
+    }
+
+    /// All files are whole, but the call of this number fails, and a call gives at most so many
+    /// bytes, and at least one.
+    pub(crate) fn failing(
+        alloc: Global,
+        files: Held,
+        most: usize,
+        call: u64,
+    ) -> Result<Self, AllocError> {
+        let failing = vec![in alloc; call]?;
+        Ok(Source::Memory {
+            files: MemFiles::with_most(files, failing, most.max(1)),
+            name: "",
+            end: u64::MAX,
+        })
+    }
+}
+
+impl Files for Source<'_> {
+    ghost contents = { λ _. None };
+
+    ghost faults = { elim [ Disk files ↦ files.faults | Memory files _ _ ↦ files.faults ] };
+
+    fn size(&mut self, name: &str) -> Result<Option<u64>, Fault> {
+        match self {
+            Source::Disk(files) => files.size(name),
+            Source::Memory { files, .. } => files.size(name),
+        }
+    }
+
+    fn read(&mut self, name: &str, place: u64, into: &mut [u8]) -> Result<usize, Fault> {
+        match self {
+            Source::Disk(files) => files.read(name, place, into),
+            Source::Memory {
+                files,
+                name: ending,
+                end,
+            } => {
+                let left = if name == *ending {
+                    end.saturating_sub(place)
+                } else {
+                    u64::MAX
+                };
+                let most = into.len().min(left as usize);
+                files.read(name, place, &mut into[..most])
+            }
+        }
+    }
+}
