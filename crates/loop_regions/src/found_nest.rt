@@ -2,9 +2,10 @@
 ghost use Rattle.std.specs.Prelude.{◌≡◌, ℕ, IfOk, IfErr, OnOk, length};
 ghost use Rattle.flat_graph.specs.CodeGraph.{graph_of, places_of};
 ghost use Rattle.loop_regions.specs.CodeNest.{nest_of, AreBounded, IsNestOf};
-ghost use Rattle.loop_regions.specs.Stated.{IsRegions, HasNoLoopRefusals, IsSameHead, IsNotNested};
+ghost use Rattle.loop_regions.specs.Stated.{IsRegions, HasNoLoopRefusals, IsSameHead};
 ghost use Rattle.loop_regions.specs.Inner.FoundRegions.{nest_in, code_nest, AreAround};
 ghost use Rattle.loop_regions.specs.LoopErrors.{IsLoopError};
+ghost use Rattle.loop_regions.specs.Inner.StoredNest.{IsStoredNest};
 
 use crate::around::regions_around;
 use crate::cycles::least_on_cycle;
@@ -50,6 +51,38 @@ fn accept(
     Ok(())
 }
 
+/// The parents of regions and the innermost regions of nodes.
+#[derive(Drop)]
+struct Nesting {
+    parents: Vec<Option<u32>>,
+    innermost: Vec<Option<u32>>,
+}
+
+/// How regions that were found for stated loops with heads of their own are nested, or the first
+/// refusal.
+fn find_nesting(
+    alloc: Global,
+    graph: &Graph,
+    loops: &[LoopAt],
+    found: &Regions,
+) -> Result<Nesting, LoopError>
+    requires nodes { length found.now.holders ≡ (graph_of graph.now).size }
+    requires one_head { (a : ℕ) → ¬ IsSameHead loops.now a }
+    requires regions { IsRegions (graph_of graph.now) (places_of graph.now) loops.now
+        (nest_in found.now) }
+    ensures stored { IfOk result
+        (λ n. IsStoredNest (code_nest found.now) n.parents.items n.innermost.items) }
+    ensures accepted { OnOk result (HasNoLoopRefusals (graph_of graph.now) (nest_in found.now)) }
+    ensures refused { IfErr result
+        (IsLoopError (graph_of graph.now) (places_of graph.now) loops.now) }
+{
+    let around = regions_around(alloc, found)?;
+    accept(alloc, graph, loops, found, &around)?;
+    let parents = parents(alloc, found, &around)?;
+    let innermost = levels(alloc, found, &around)?;
+    Ok(Nesting { parents, innermost })
+}
+
 /// The nest of regions that were found for stated loops with heads of their own, or the first
 /// refusal.
 fn nest_of_found(
@@ -69,20 +102,7 @@ fn nest_of_found(
     ensures refused { IfErr result
         (IsLoopError (graph_of graph.now) (places_of graph.now) loops.now) }
 {
-    let around = regions_around(alloc, &found)?;
-    accept(alloc, graph, loops, &found, &around)?;
-    let nest = nest_of_nested(alloc, found, &around)?;
-    Ok(nest)
-}
-
-/// The nest of regions that are nested, given the regions that hold each region's nodes.
-fn nest_of_nested(alloc: Global, found: Regions, around: &[Holders]) -> Result<Nest, AllocError>
-    requires around { AreAround (nest_in found) around.now }
-    requires nested { (y : ℕ) → ¬ IsNotNested (nest_in found) y }
-    ensures { IfOk result (λ nest. nest ≡ code_nest found) }
-{
-    let innermost = levels(alloc, &found, around)?;
-    let parents = parents(alloc, &found, around)?;
+    let Nesting { parents, innermost } = find_nesting(alloc, graph, loops, &found)?;
     Ok(Nest::new(found, parents, innermost))
 }
 
