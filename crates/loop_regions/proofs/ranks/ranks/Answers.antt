@@ -10,3 +10,6 @@ take_away-requires-clause-node c = grind (arith, elements)
 
 pub take_away-requires-clause-ready : goal.take_away-requires-clause-ready
 take_away-requires-clause-ready c = grind (arith, common_steps)
+
+pub loop-ranked-preserved : goal.loop-ranked-preserved
+loop-ranked-preserved c = grind (arith, common_steps)

@@ -7,6 +7,3 @@ returns-then-not-holds c = grind (arith, common_steps)
 
 pub loop-r-preserved : goal.loop-r-preserved
 loop-r-preserved c = grind (arith, common_steps)
-
-pub returns : goal.returns
-returns c = grind (arith, common_steps)
