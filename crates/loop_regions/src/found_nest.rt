@@ -18,7 +18,7 @@ use crate::same_head::least_same_head;
 use crate::second_entry::least_second_entry;
 use crpd_base::{LoopAt, NodeId, TaskPlan};
 use flat_graph::Graph;
-use std::alloc::{AllocError, Global};
+use std::alloc::Global;
 
 /// Fails with the first refusal of the regions that were found for stated loops with heads of their
 /// own, given the regions that hold each region's nodes.
