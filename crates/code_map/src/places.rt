@@ -15,7 +15,7 @@ fn place_text(alloc: Global, name: &str, offset: u32) -> Result<Text, AllocError
     ensures { IfOk result (λ t. t ≡ places.place_text name.now offset) }
 {
     if offset == 0 {
-        return Ok(Text::new(format!(in alloc; "{name}")?));
+        return Ok(Text::new(String::from_str(alloc, name)?));
     }
     Ok(Text::new(format!(in alloc; "{name}+{offset}")?))
 }

@@ -11,7 +11,7 @@ use crate::files::Files;
 use crate::places::{address_of, entry_of, loops_of};
 use crate::symbols::Names;
 use crpd_base::{Image, Items, Symbol, Task, TaskPlan, TaskSpec};
-use std::alloc::{AllocError, Global};
+use std::alloc::Global;
 
 /// The plan of a task, whose entry must have a word.
 #[tactic(auto, unfolding(crate::specs::Places::plan_of))]
@@ -42,25 +42,39 @@ fn plan_of(
     })
 }
 
-/// The place of the names of these symbols among the known ones, to which they are added where they
-/// are not there, so that they are made once for all tasks of a file.
-fn place_of<'a>(
-    alloc: Global,
-    known: &mut Vec<Names<'a>>,
-    symbols: &'a [Symbol],
-) -> Result<usize, AllocError>
-    ensures within { IfOk result (λ p. p < vec_len known.new) }
-    ensures is { IfOk result
-        (λ p. (d : List Symbol) → slice_index_or known.new.items p d ≡ symbols.now) }
+/// The place of the names of these symbols among the known ones, or how many are known.
+fn place_of(known: &[Names], symbols: &[Symbol]) -> usize
+    ensures within { result ≤ length known.now }
+    ensures is { (d : List Symbol) → result < length known.now
+        → slice_index_or known.now result d ≡ symbols.now }
 {
-    for (place, names) in known.iter().enumerate() {
-        if names.are_of(symbols) {
-            return Ok(place);
+    for place in 0..known.len() {
+        if known[place].are_of(symbols) {
+            return place;
         }
     }
-    let place = known.len();
-    known.push(Names::new(alloc, symbols)?)?;
-    Ok(place)
+    known.len()
+}
+
+/// The plan of a task by the known names of its file's symbols, to which they are added where they
+/// are not there, so that they are made once for all tasks of a file.
+fn plan_by<'a>(
+    alloc: Global,
+    known: &mut Vec<Names<'a>>,
+    task: Task,
+    spec: &TaskSpec,
+    image: &'a Image,
+    files: &Files,
+) -> Result<TaskPlan, MapError>
+    ensures { Gives MapError.Memory (λ x. x) result
+        (places.plan_of (word_at files.now) task spec.now image.now) }
+{
+    let symbols = image.symbols.as_slice();
+    let place = place_of(known, symbols);
+    if place == known.len() {
+        known.push(Names::new(alloc, symbols)?)?;
+    }
+    plan_of(alloc, task, spec, image, &known[place], files)
 }
 
 /// The plans of tasks, each with the file at its place.
@@ -78,11 +92,9 @@ pub(crate) fn plans_of(
     let images = files.images();
     let mut known = Vec::new(alloc);
     let mut plans = Vec::new(alloc);
-    for (i, spec) in tasks.iter().enumerate() {
-        let image = &images[i];
-        let place = place_of(alloc, &mut known, image.symbols.as_slice())?;
-        let names = &known[place];
-        plans.push(plan_of(alloc, Task(i as u8), spec, image, names, files)?)?;
+    for i in 0..tasks.len() {
+        let (spec, image) = (&tasks[i], &images[i]);
+        plans.push(plan_by(alloc, &mut known, Task(i as u8), spec, image, files)?)?;
     }
     Ok(plans)
 }

@@ -64,8 +64,8 @@ fn are_same(symbols: &[Symbol], others: &[Symbol]) -> bool
     if symbols.len() != others.len() {
         return false;
     }
-    for (i, symbol) in symbols.iter().enumerate() {
-        let other = &others[i];
+    for i in 0..symbols.len() {
+        let (symbol, other) = (&symbols[i], &others[i]);
         if symbol.value != other.value || symbol.name.as_slice() != other.name.as_slice() {
             return false;
         }

@@ -76,3 +76,13 @@ returns c =
     (listed_of c.args.listing.now.part.now)) c.args.order.now c.loop-done.useful c.loop-done.least
     (length c.args.order.now - c.loop-done.done) c.requires.order
     (omega (arith, c.loop-done-test.false)) c.loop-done.invariant
+
+pub useful_holds-requires-clause-hit : goal.useful_holds-requires-clause-hit
+useful_holds-requires-clause-hit c =
+    c.requires.hits _ (c.requires.order.nodes (length c.args.order.now - 1 - c.loop-done.done)
+    (omega (arith, c.loop-done-test.true, c.requires.order.count)))
+
+pub useful_at-useful-requires-clause-hit : goal.useful_at-useful-requires-clause-hit
+useful_at-useful-requires-clause-hit c =
+    c.requires.hits _ (c.requires.order.nodes (length c.args.order.now - 1 - c.loop-done.done)
+    (omega (arith, c.loop-done-test.true, c.requires.order.count)))

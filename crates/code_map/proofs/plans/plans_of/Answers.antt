@@ -5,22 +5,22 @@ use Rattle.code_map.specs.Words.{word_at}
 use Rattle.code_map.proofs.Planned.{plan_more, plan_refused, plans_end}
 use Rattle.code_map.proofs.plans.plans_of.Goals as goal
 
-pub returns-in_err-plan_of-clause-is : goal.returns-in_err-plan_of-clause-is
-returns-in_err-plan_of-clause-is c =
+pub returns-in_err-plan_by-clause-is : goal.returns-in_err-plan_by-clause-is
+returns-in_err-plan_by-clause-is c =
     let n = c.loop-i.i in
     let image = c.index-images-i.result in
     let too : n < length c.args.files.now = omega arith in
     let at = subst (λ (xs : List Image). image ≡ get_or xs n image) c.images-images.ensures
     c.index-images-i.is in
-    let p = err_from_is_err_and c.from_residual-in_err-plan_of.result
-    c.from_residual-in_err-plan_of.ensures.1 in
+    let p = err_from_is_err_and c.from_residual.result
+    c.from_residual.ensures.1 in
     rw (
       p.1,
       p.2,
     ) (λ ne. plan_refused (word_at c.args.files.now) c.loop-i.plans.items c.args.tasks.now
     c.args.files.now n c.index-tasks-i.result image c.loop-i-test.true too c.index-tasks-i.is at _
     c.loop-i.invariant.0
-    c.in_err-plan_of.field-0.0 (c.in_err-plan_of.ensures ne))
+    c.in_err-plan_by.field-0.0 (c.in_err-plan_by.ensures ne))
 
 pub loop-i-preserved : goal.loop-i-preserved
 loop-i-preserved c =
@@ -33,7 +33,7 @@ loop-i-preserved c =
           (plan_more (word_at c.args.files.now) c.loop-i.plans.items c.args.tasks.now
           c.args.files.now n c.index-tasks-i.result image c.loop-i-test.true too c.index-tasks-i.is
           at _ c.loop-i.invariant.0
-          c.in_ok-plan_of.field-0 c.in_ok-plan_of.ensures),
+          c.in_ok-plan_by.field-0 c.in_ok-plan_by.ensures),
       grind arith,
     )
 
@@ -42,14 +42,6 @@ returns-clause-is c =
     plans_end (word_at c.args.files.now) c.loop-i.plans.items c.args.tasks.now c.args.files.now
     c.loop-i.i _ (grind arith) c.loop-i.invariant.0
 
-pub plan_of-requires : goal.plan_of-requires
-plan_of-requires c =
-    c.index-names.ensures
-    ∙ (c.in_ok-place.ensures.is c.index-names.result.now ∙ c.as_slice.ensures)
-
 pub bounds-images-i : goal.bounds-images-i
 bounds-images-i c =
     rw c.images-images.ensures (omega (arith, c.requires.one, c.loop-i-test.true))
-
-pub index-names-requires : goal.index-names-requires
-index-names-requires c = c.in_ok-place.ensures.within
