@@ -1,5 +1,5 @@
--- What commands do with a set, its graphs and regions, and a certificate: what only contracts inside
--- the crate cite.
+-- What commands do with a set, its graphs and regions, and a certificate: what only contracts
+-- inside the crate cite.
 use Rattle.std.specs.Prelude.{Result}
 use Rattle.crpd_base.specs.declared.data.Certificate.{Certificate}
 use Rattle.crpd_io.specs.Outside.{Contents}
