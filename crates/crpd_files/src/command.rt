@@ -9,14 +9,11 @@ pub(crate) fn print_command(rt: &HostRuntime, trial: &Trial) -> io::Result<()> {
     print_carried_out(rt, trial.words.as_slice(), &mut Source::disk(rt))
 }
 
-fn print_without_files(rt: &HostRuntime, words: &[String]) -> io::Result<()> {
-    let mut files = Source::failing(rt.alloc(), Vec::new(rt.alloc()), usize::MAX, 0)?;
-    print_carried_out(rt, words, &mut files)
-}
-
 /// Runs a command, each word of which stands between quotes, over files of which the first call
 /// fails.
 pub(crate) fn print_untouched(rt: &HostRuntime, line: &str) -> io::Result<()> {
     let inside = line.get(1..line.len().saturating_sub(1)).unwrap_or("");
-    print_without_files(rt, words_of(rt.alloc(), inside, "\" \"")?.as_slice())
+    let words = words_of(rt.alloc(), inside, "\" \"")?;
+    let mut files = Source::failing(rt.alloc(), Vec::new(rt.alloc()), usize::MAX, 0)?;
+    print_carried_out(rt, words.as_slice(), &mut files)
 }

@@ -74,11 +74,6 @@ fn next_of(
     Ok(places)
 }
 
-fn print_at(rt: &HostRuntime, first: usize, last: usize, answer: &Answer) -> io::Result<()> {
-    println!(rt; "places {first} to {last}:")?;
-    answer.print(rt)
-}
-
 // Tells the answer at the first of these places, and where the next answer begins.
 fn print_range(
     rt: &HostRuntime,
@@ -89,7 +84,8 @@ fn print_range(
 ) -> io::Result<usize> {
     let answer = ends(rt.alloc(), trial, damage, first)?;
     let next = next_of(rt.alloc(), trial, damage, first, places, &answer)?;
-    print_at(rt, first, next.saturating_sub(1), &answer)?;
+    println!(rt; "places {first} to {}:", next.saturating_sub(1))?;
+    answer.print(rt)?;
     Ok(next)
 }
 

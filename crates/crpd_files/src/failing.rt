@@ -56,17 +56,8 @@ fn writes(alloc: Global, trial: &Trial, most: usize, text: &[u8]) -> Result<u64,
     Ok(NEVER)
 }
 
-// Tells an end that may be that of the whole command.
-fn print_end(rt: &HostRuntime, number: u64, found: &Answer, whole: &Answer) -> io::Result<()> {
-    if found.is_same(whole) {
-        println!(rt; "  call {number}: as without a failing call")
-    } else {
-        println!(rt; "  call {number}:")?;
-        found.print(rt)
-    }
-}
-
-// Tells the end where these calls fail, the file's or the output's of this number.
+// Tells the end where these calls fail, one of them the call of this number: it may be that of the
+// whole command.
 fn print_call(
     rt: &HostRuntime,
     trial: &Trial,
@@ -74,7 +65,12 @@ fn print_call(
     number: u64,
     whole: &Answer,
 ) -> io::Result<()> {
-    print_end(rt, number, &ends(rt.alloc(), trial, calls)?, whole)
+    let found = ends(rt.alloc(), trial, calls)?;
+    if found.is_same(whole) {
+        return println!(rt; "  call {number}: as without a failing call");
+    }
+    println!(rt; "  call {number}:")?;
+    found.print(rt)
 }
 
 fn print_read(

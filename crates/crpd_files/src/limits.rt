@@ -1,7 +1,7 @@
 // Files at the limits of what is read.
 use crate::answer::print_carried_out;
 use crate::source::Source;
-use crate::trial::{Held, Trial, push_file};
+use crate::trial::{Trial, push_file};
 use std::alloc::{AllocError, Global};
 use std::io;
 
@@ -16,9 +16,9 @@ fn sure_of(alloc: Global) -> Result<String, AllocError> {
 
 // The states of 500 nodes, each with these blocks, the first node with these useful sets.
 fn push_states(text: &mut String, sure: &str, useful: &str) -> Result<(), AllocError> {
-    write!(text, "[0,[{sure}],[{useful}]]")?;
-    for node in 1..500 {
-        write!(text, ",[{node},[{sure}],[]]")?;
+    for node in 0..500 {
+        let (start, useful) = if node == 0 { ("", useful) } else { (",", "") };
+        write!(text, "{start}[{node},[{sure}],[{useful}]]")?;
     }
     Ok(())
 }
@@ -72,16 +72,10 @@ fn many_entries(alloc: Global, ends: &Ends) -> Result<String, AllocError> {
     Ok(text)
 }
 
-// The files of a trial and one more.
-fn held_with(alloc: Global, trial: &Trial, name: &str, bytes: Vec<u8>) -> Result<Held, AllocError> {
-    let mut held = trial.held.clone()?;
-    push_file(&mut held, alloc, name, bytes)?;
-    Ok(held)
-}
-
 // Carries out a command over its files and one more.
 fn print_with(rt: &HostRuntime, trial: &Trial, name: &str, bytes: Vec<u8>) -> io::Result<()> {
-    let held = held_with(rt.alloc(), trial, name, bytes)?;
+    let mut held = trial.held.clone()?;
+    push_file(&mut held, rt.alloc(), name, bytes)?;
     let mut files = Source::ending(rt.alloc(), held, "", u64::MAX);
     print_carried_out(rt, trial.words.as_slice(), &mut files)
 }

@@ -46,20 +46,16 @@ fn print_trial(rt: &HostRuntime, kind: &str, trial: &Trial) -> io::Result<()> {
     }
 }
 
-fn print_answer(rt: &HostRuntime, kind: &str, rest: &str) -> io::Result<()> {
-    if kind == "untouched" {
-        return print_untouched(rt, rest);
-    }
-    print_trial(rt, kind, &Trial::read(rt, rest)?)
-}
-
 fn print_line(rt: &HostRuntime, line: &str) -> io::Result<()> {
     let (kind, rest) = halves(line, " ");
     if kind == "#" {
         return println!(rt; "{line}");
     }
     println!(rt; "$ {line}")?;
-    print_answer(rt, kind, rest)
+    if kind == "untouched" {
+        return print_untouched(rt, rest);
+    }
+    print_trial(rt, kind, &Trial::read(rt, rest)?)
 }
 
 fn main(rt: HostRuntime) -> io::Result<()> {
