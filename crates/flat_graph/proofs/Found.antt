@@ -1,17 +1,18 @@
 -- What was found, after one more spot.
-use Rattle.std.proofs.Common.{◌≡◌, ℕ, ◌+◌, ◌<◌, Bool, false, true, List, [], ◌∷◌, ◌++◌, length}
-use Rattle.std.proofs.Common.{Contains, get_or, refl, sym, ap, ◌∙◌, subst, inl, inr, ⊎_elim, ◌⊎◌}
-use Rattle.std.proofs.Common.{arith, AllPairs, Result, Ok, Err}
+use Rattle.std.proofs.Common.{◌≡◌, ℕ, ◌<◌, Bool, false, true, List, [], ◌∷◌, ◌++◌, length}
+use Rattle.std.proofs.Common.{Contains, refl, sym, ap, ◌∙◌, subst, inl, inr, ⊎_elim, ◌⊎◌}
+use Rattle.std.proofs.Common.{arith, Result, Ok, Err}
 use Rattle.std.specs.Prelude.{OnOk}
-use Rattle.std.proofs.lemmas.List.{map-append, append_assoc, length-append}
+use Rattle.std.proofs.lemmas.List.{map-append, append_assoc}
 use Rattle.std.proofs.lemmas.List.Elements.{Contains-append_left, Contains-append_right}
-use Rattle.std.proofs.lemmas.List.Elements.{Contains-append_cases, All-push}
-use Rattle.std.proofs.lemmas.Map.Keys.{Less-from_sorted}
+use Rattle.std.proofs.lemmas.List.Elements.{Contains-append_cases, All-push, Contains-get_or}
+use Rattle.std.proofs.lemmas.List.Quantifiers.{all_pairs_push}
+use Rattle.std.proofs.lemmas.List.Folds.{list_any_at}
+use Rattle.std.proofs.lemmas.Bool.{false≢true}
 use Rattle.std.specs.declared.cmp.Ordering.{Ordering}
 use Rattle.std.specs.declared.cmp.Ordering.TheVariants.{Less, Equal, Greater}
 use Rattle.std.specs.Ordering.{match_ordering, is_eq, nat_cmp, ordering_then}
 use Rattle.std.specs.List.{list_any}
-use Rattle.std.specs.List.Sorted.{IsStrictlySortedBy}
 use Rattle.std.specs.BTreeMap.{is_at}
 use Rattle.std.specs.BTreeSet.{insert_key}
 use Rattle.crpd_base.proofs.Elements.{at_head, at_rest, head_or_rest, in_none, in_one, contains_map}
@@ -38,15 +39,6 @@ spot_same s =
     ∙ nat_same s.address
 
 module _ (cmp : Spot → Spot → Ordering) (is : (s t : Spot) → cmp s t ≡ spot_cmp s t) where
-  -- keys in their order are apart
-  pub apart_keys : (ks : List Spot) → IsStrictlySortedBy cmp ks → AllPairs (λ s t. s ≡ t → ⊥) ks
-  apart_keys ks h i j d lt within e =
-      let s = get_or ks i d in
-      let less : cmp s s ≡ Less = subst (λ t. cmp s t ≡ Less) (sym e)
-      (Less-from_sorted cmp ks i j d h lt within) in
-      let same : cmp s s ≡ Equal = is s s ∙ spot_same s in
-      cc
-
   same_spot : (s t : Spot) → cmp s t ≡ Equal → s ≡ t
   same_spot s t e = spot_equal s t (sym (is s t) ∙ e)
 
@@ -112,21 +104,24 @@ module _ (cmp : Spot → Spot → Ordering) (is : (s t : Spot) → cmp s t ≡ s
   found_spot [] s h = cc
   found_spot (x ∷ xs) s h = found_by (is_at (cmp s) x) s x xs refl (found_spot xs s) h
 
+  -- a spot of the set is a key that it has
+  key_found : (ks : List Spot) (s : Spot) → Contains ks s → list_any (is_at (cmp s)) ks ≡ true
+  key_found ks s (k, lt, e) =
+      list_any_at (is_at (cmp s)) ks k s lt
+      (subst (λ t. is_at (cmp s) t ≡ true) (sym e) (ap is_eq (is s s ∙ spot_same s)))
+
   -- one more spot that was not there
   pub reached_more : (lists : List (List ℕ)) (set list : List Spot) (s : Spot)
-      → AreSameSpots lists set list → IsStrictlySortedBy cmp (insert_key cmp set s) →
-      length (insert_key cmp set s) ≡ length set + 1 → s.context < length lists
-      → AreSameSpots lists (insert_key cmp set s) (list ++ s ∷ [])
-  reached_more lists set list s R sorted count lt = record {
-    apart = apart_keys (insert_key cmp set s) sorted;
+      → AreSameSpots lists set list → list_any (is_at (cmp s)) set ≡ false
+      → s.context < length lists → AreSameSpots lists (insert_key cmp set s) (list ++ s ∷ [])
+  reached_more lists set list s R unmet lt = record {
+    apart = all_pairs_push (λ a b. a ≡ b → ⊥) list s R.apart
+        (λ k d within e. false≢true (sym unmet ∙ key_found set s
+        ((R.same s).1 (subst (Contains list) e (Contains-get_or list k d within)))));
     same = λ n. (into n, from n);
-    count = count ∙ ap (λ l. l + 1) R.count ∙ sym (length_more list);
     inside = All-push (λ (t : Spot). t.context < length lists) list s R.inside lt;
   }
     where
-      length_more : (l : List Spot) → length (l ++ s ∷ []) ≡ length l + 1
-      length_more l = simp length-append (omega arith)
-
       into : (n : Spot) → Contains (insert_key cmp set s) n → Contains (list ++ s ∷ []) n
       into n c =
           ⊎_elim

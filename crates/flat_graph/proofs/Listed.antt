@@ -86,7 +86,6 @@ module _ (old new : List (List ℕ)) (more : ExtendsLists old new) where
   reached_lists set list R = record {
     apart = R.apart;
     same = R.same;
-    count = R.count;
     inside = λ k d lt. within_more _ (R.inside k d lt);
   }
 

@@ -1,4 +1,4 @@
--- The spots of a set in the order of numbering.
+-- The spots of a list in the order of numbering.
 use Rattle.std.proofs.Common.{◌≡◌, ℕ, ◌<◌, ◌≤◌, Bool, false, List, length, Contains, get_or, refl}
 use Rattle.std.proofs.Common.{sym, ap, ◌∙◌, subst, ⊎_elim, arith, All, AllPairs}
 use Rattle.std.proofs.lemmas.Bool.{cases_eq, cases_order, false≢true}
@@ -96,18 +96,18 @@ not_below Greater n m e h ne = flat_less n m (flat_order.antisymm n m ∙ ap ord
 
 module _ (m : BTreeMap (List ℕ) ℕ) (lists : List (List ℕ)) (set list spots : List Spot)
     (N : AreNumbered m lists) (R : AreSameSpots lists set list)
-    (P : IsPermutation set spots) (sorted : IsSortedBy (below lists) spots) where
+    (P : IsPermutation list spots) (sorted : IsSortedBy (below lists) spots) where
   inside_of : (s : Spot) → Contains list s → s.context < length lists
   inside_of s (k, lt, e) = subst (λ (t : Spot). t.context < length lists) e (R.inside k s lt)
 
   into : (s : Spot) → Contains list s → Contains spots s
-  into s c = Contains-permutation set spots s P ((R.same s).1 c)
+  into s c = Contains-permutation list spots s P c
 
   from : (s : Spot) → Contains spots s → Contains list s
-  from s c = (R.same s).0 (Contains-permutation spots set s (IsPermutation-sym set spots P) c)
+  from s c = Contains-permutation spots list s (IsPermutation-sym list spots P) c
 
   pub count : length spots ≡ length list
-  count = length_permutation set spots P ∙ R.count
+  count = length_permutation list spots P
 
   -- each spot has a list of calls
   pub inside : All (λ s. s.context < length lists) spots
@@ -122,7 +122,7 @@ module _ (m : BTreeMap (List ℕ) ℕ) (lists : List (List ℕ)) (set list spots
       (spot_node lists t) refl
       (sorted_far (below lists) (ranks_by flat_order (spot_node lists)) spots sorted i j d
       (omega arith) within)
-      (λ e. moved set spots R.apart P i j d (omega arith) within (λ h. absurd (omega arith))
+      (λ e. moved list spots R.apart P i j d (omega arith) within (λ h. absurd (omega arith))
       (one_spot m lists N s t (inside i d (omega arith)) (inside j d within) e))
 
   ordered : AllPairs IsNumberedBefore (spot_nodes lists spots)

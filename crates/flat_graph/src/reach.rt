@@ -135,18 +135,17 @@ impl Found {
     }
 
     /// The spots in the order of numbering.
-    fn ordered(self, alloc: Global) -> Result<Ordered, AllocError>
+    fn ordered(self) -> Result<Ordered, AllocError>
         ensures lists { IfOk result (λ o. o.lists.items ≡ self.contexts.lists.items) }
-        ensures same { IfOk result (λ o. IsPermutation self.set.keys o.spots.items) }
+        ensures same { IfOk result (λ o. IsPermutation self.list.items o.spots.items) }
         ensures sorted { IfOk result
             (λ o. IsSortedBy (λ s t.
             is_lt (flat_cmp (spot_node self.contexts.lists.items s)
             (spot_node self.contexts.lists.items t))) o.spots.items) }
     {
-        let set = self.set;
         let contexts = self.contexts;
         let lists = contexts.lists;
-        let mut spots: Vec<Spot> = set.into_iter().collect(alloc)?;
+        let mut spots = self.list;
         sort(lists.as_slice(), &mut spots)?;
         Ok(Ordered { lists, spots })
     }
@@ -247,7 +246,7 @@ pub(crate) fn reach(
 {
     let mut found = Found::start(alloc, entry)?;
     found.follow_all(alloc, code, entry, most)?;
-    let ordered = found.ordered(alloc)?;
+    let ordered = found.ordered()?;
     if ordered.spots.len() > most {
         return Err(GraphError::TooManyNodes(entry));
     }

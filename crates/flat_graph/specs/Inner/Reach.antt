@@ -18,11 +18,10 @@ AreNumbered numbers lists =
 abbrev pub ExtendsLists : List (List ℕ) → List (List ℕ) → Type 0
 ExtendsLists old new = (n : ℕ) (c : List ℕ) → slice_get old n ≡ Some c → slice_get new n ≡ Some c
 
--- a set and a list have the same spots, each once, and each has a list of calls
+-- a set and a list have the same spots, each once in the list, and each has a list of calls
 pub record AreSameSpots (lists : List (List ℕ)) (set list : List Spot) : Type 0 where
-  pub apart : AllPairs (λ s t. s ≡ t → ⊥) set
+  pub apart : AllPairs (λ s t. s ≡ t → ⊥) list
   pub same : (s : Spot) → Contains set s ↔ Contains list s
-  pub count : length set ≡ length list
   pub inside : All (λ s. s.context < length lists) list
 
 -- the nodes `some` are there now, and what is behind the old ones is of them

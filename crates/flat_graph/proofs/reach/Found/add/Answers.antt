@@ -1,7 +1,6 @@
-use Rattle.std.proofs.Common.{refl, sym, ap, ◌∙◌, ◌+◌, subst, length, cond}
+use Rattle.std.proofs.Common.{refl, sym, ◌∙◌, subst}
 use Rattle.std.specs.BTreeSet.{insert_key}
-use Rattle.std.specs.List.Sorted.{IsStrictlySortedBy}
-use Rattle.std.proofs.lemmas.Bool.{not-false}
+use Rattle.std.proofs.lemmas.Bool.{not-false, not-true}
 use Rattle.flat_graph.specs.contracts.spots.SpotOrd.TheImpl as order
 use Rattle.flat_graph.specs.Inner.Reach.{AreSameSpots}
 use Rattle.flat_graph.proofs.Found.{reached_more, added_one, added_there, found_spot}
@@ -16,11 +15,7 @@ returns-in_ok-push-clause-found c =
     (sym c.in_ok-push.ensures.items)
     (reached_more order.cmp-value.it (λ s t. refl) lists c.args.self.now.set.keys
     c.args.self.now.list.items c.args.spot c.requires.found
-    (subst (IsStrictlySortedBy order.cmp-value.it) c.in_ok-insert.ensures.keys
-    c.in_ok-insert.ensures.ordered)
-    (sym (ap length c.in_ok-insert.ensures.keys) ∙ c.in_ok-insert.ensures.len
-    ∙ ap (λ b. length c.args.self.now.set.keys + cond b 1 0) c.if-branch.true)
-    c.requires.list))
+    (not-true _ (sym c.in_ok-insert.ensures.added ∙ c.if-branch.true)) c.requires.list))
 
 pub returns-in_ok-push-clause-added : goal.returns-in_ok-push-clause-added
 returns-in_ok-push-clause-added c =
