@@ -11,12 +11,14 @@ use Rattle.cert_model.specs.Kinds as kind
 use Rattle.cert_model.specs.Kinds.{whole}
 use Rattle.cert_model.specs.Reading.{most_nodes, most_sets}
 
+-- The keys `bound` and `evicting` of a task: at most 2^41 cycles, and numbers of sets.
 unfoldable pub bound_and_evicting : Version → List ℕ → Members → Result (ℕ × List ℕ) CertError
 bound_and_evicting version path ms = do
   bound ← required (whole 0 (2 ^ 41)) path (codes "bound") ms
   evicting ← required (kind.set_numbers (most_sets version)) path (codes "evicting") ms
   Ok (bound, evicting)
 
+-- A task as its keys give it, in their order, or the first cause against it.
 unfoldable pub fields_at : Version → List ℕ → Members → Result TaskPart CertError
 fields_at version path ms = do
   first ← bound_and_evicting version path ms
