@@ -29,7 +29,6 @@ const SHN_UNDEF: u16 = 0;
 const STT_FILE: u8 = 4;
 
 /// So many headers of the table that begins at a place of the file.
-#[tactic(auto, using(crpd_base::proofs::Elements::map_range_more))]
 fn table(
     alloc: Global,
     bytes: &[u8],
