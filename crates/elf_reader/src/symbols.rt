@@ -105,12 +105,18 @@ fn terminated(strings: &[u8]) -> &[u8]
     &strings[..end]
 }
 
+fn is_zero(byte: &u8) -> bool
+    ensures { result ≡ spec.is_zero byte.now }
+{
+    *byte == 0
+}
+
 /// The place of the first zero byte.
 fn first_zero(bytes: &[u8]) -> Option<usize>
     ensures is { result ≡ position spec.is_zero bytes.now }
     ensures bound { IfSome result (λ place. place < length bytes.now) }
 {
-    bytes.iter().position(|b| *b == 0)
+    bytes.iter().position(is_zero)
 }
 
 /// The bytes up to the first zero byte, unless there is none or it is the first byte.
