@@ -1,17 +1,19 @@
 -- The regions of stated loops, from the heads and the holders that were found.
-use Rattle.std.proofs.Common.{◌≡◌, ◌↔◌, ℕ, zero, suc, ◌<◌, ◌≤◌, List, [], ◌∷◌, length, map, Some}
+use Rattle.std.proofs.Common.{◌≡◌, ◌↔◌, ℕ, zero, suc, ◌<◌, ◌≤◌, List, [], ◌∷◌, length, Some}
 use Rattle.std.proofs.Common.{slice_get, slice_index, get_or, IsTrue, IsFalse, refl, sym, ap, ◌∙◌}
 use Rattle.std.proofs.Common.{subst, ⊎_elim, arith}
 use Rattle.std.proofs.lemmas.Bool.{cases_lt, both_ways}
+use Rattle.std.proofs.lemmas.List.{length-map, get_or-map}
 use Rattle.std.proofs.lemmas.Option.{slice_get_within, slice_get-get_or, get_or_from_slice_get}
 use Rattle.std.specs.Cmp.{both_ways as same_tests}
 use Rattle.crpd_base.specs.declared.data.LoopAt.{LoopAt}
 use Rattle.flat_graph.specs.Graph.{Graph, Places}
 use Rattle.loop_regions.specs.Stated.{holds_seen, region_holds, IsRegionOf, IsRegions}
-use Rattle.loop_regions.specs.CodeNest.{has, row, nest_of}
-use Rattle.loop_regions.specs.Inner.Heads.{AreHeads, IsHeldBy}
+use Rattle.loop_regions.specs.CodeNest.{has, row}
+use Rattle.loop_regions.specs.Inner.Heads.{AreHeads, IsHeldBy, nodes_of, bounds_of}
 use Rattle.loop_regions.specs.Inner.RegionLists.{AreRegionLists}
 use Rattle.loop_regions.specs.declared.heads.Head.{Head}
+use Rattle.loop_regions.proofs.LeastOf.{nest_by}
 use Rattle.loop_regions.proofs.Stated.{seen_here, loop_holds_head}
 
 pub past_end : (rows : List (List ℕ)) (y : ℕ) → length rows ≤ y → row rows y ≡ []
@@ -23,28 +25,14 @@ past_end (x ∷ rows) (suc y) le = past_end rows y (omega arith)
 pub none_past : (rows : List (List ℕ)) (y r : ℕ) → length rows ≤ y → IsFalse (has (row rows y) r)
 none_past rows y r le = ap (λ xs. has xs r) (past_end rows y le)
 
-index_mapped : (heads : List Head) (r : ℕ) (h : Head) → slice_get heads r ≡ Some h
-    → slice_index (map (λ x. x.node) heads) r ≡ h.node
-index_mapped [] r h e = absurd (let lt = slice_get_within [] r h e in omega arith)
-index_mapped (x ∷ heads) zero h e = let same : x ≡ h = cc in ap (λ (z : Head). z.node) same
-index_mapped (x ∷ heads) (suc r) h e = index_mapped heads r h e
-
-length_mapped : (heads : List Head) → length (map (λ x. x.node) heads) ≡ length heads
-length_mapped [] = refl
-length_mapped (x ∷ heads) = let e = length_mapped heads in omega arith
-
-module _ (g : Graph) (p : Places) (loops : List LoopAt) (heads : List Head) (nodes bounds : List ℕ)
+module _ (g : Graph) (p : Places) (loops : List LoopAt) (heads : List Head)
     (holders : List (List ℕ))
     (few_nodes : g.size ≤ 16384)
     (H : AreHeads p loops g.size heads)
-    (N : nodes ≡ map (λ h. h.node) heads)
-    (B : length bounds ≡ length heads)
-    (C : (r : ℕ) (h : Head) (l : LoopAt) → slice_get heads r ≡ Some h
-    → slice_get loops h.stated ≡ Some l → slice_index bounds r ≡ l.bound)
     (S : length holders ≡ g.size)
     (K : (y r : ℕ) → y < g.size → IsTrue (has (row holders y) r) ↔ IsHeldBy p loops heads y r) where
-  all_nodes : length nodes ≡ length heads
-  all_nodes = ap length N ∙ length_mapped heads
+  all_nodes : length (nodes_of heads) ≡ length heads
+  all_nodes = length-map heads (λ h. h.node)
 
   -- the head of a region, and its loop
   record Of (r : ℕ) : Type 0 where
@@ -53,12 +41,14 @@ module _ (g : Graph) (p : Places) (loops : List LoopAt) (heads : List Head) (nod
     here : slice_get heads r ≡ Some h
     there : slice_get loops h.stated ≡ Some l
     at : p.address h.node ≡ l.head
-    node : slice_index nodes r ≡ h.node
+    node : slice_index (nodes_of heads) r ≡ h.node
+    bound : slice_index (bounds_of heads) r ≡ l.bound
 
-  of : (r : ℕ) → r < length nodes → Of r
+  of : (r : ℕ) → r < length (nodes_of heads) → Of r
   of r lt =
-      let none : Head = record { node = 0; stated = 0 } in
-      let e = slice_get-get_or heads r none (subst (λ n. r < n) all_nodes lt) in
+      let none : Head = record { node = 0; stated = 0; bound = 0 } in
+      let within = subst (λ n. r < n) all_nodes lt in
+      let e = slice_get-get_or heads r none within in
       let s = H.stated r (get_or heads r none) e in
       record {
         h = get_or heads r none;
@@ -66,7 +56,8 @@ module _ (g : Graph) (p : Places) (loops : List LoopAt) (heads : List Head) (nod
         here = e;
         there = s.1;
         at = s.2;
-        node = ap (λ xs. slice_index xs r) N ∙ index_mapped heads r (get_or heads r none) e;
+        node = get_or-map (λ (h : Head). h.node) heads r none 0 within;
+        bound = get_or-map (λ (h : Head). h.bound) heads r none 0 within ∙ s.3;
       }
 
   held : (y r : ℕ) → y < g.size → (o : Of r) → IsTrue (region_holds p o.l (p.context o.h.node) y)
@@ -85,11 +76,10 @@ module _ (g : Graph) (p : Places) (loops : List LoopAt) (heads : List Head) (nod
       subst (λ (x : LoopAt). IsTrue (region_holds p x (p.context o.h.node) y)) same_loop
       (subst (λ (x : Head). IsTrue (region_holds p by.1 (p.context x.node) y)) same by.4)
 
-  pub is_sound : AreRegionLists nodes bounds holders
+  pub is_sound : AreRegionLists (nodes_of heads) holders
   is_sound = record {
     few = let f = H.few in omega (arith, all_nodes);
     few_nodes = omega arith;
-    all_bounds = B ∙ sym all_nodes;
     head_nodes = λ r lt.
         let o = of r lt in let w = H.node r o.h o.here in let e = o.node in omega arith;
     holds_head = λ r lt.
@@ -109,19 +99,17 @@ module _ (g : Graph) (p : Places) (loops : List LoopAt) (heads : List Head) (nod
   }
 
   is_region : (r : ℕ) → (o : Of r)
-      → IsRegionOf g p (nest_of (record { heads = nodes; bounds = bounds; holders = holders })) r
-      o.l
+      → IsRegionOf g p (nest_by (nodes_of heads) (bounds_of heads) holders) r o.l
   is_region r o = record {
     head = ap p.address o.node ∙ o.at;
-    bound = C r o.h o.l o.here o.there;
+    bound = o.bound;
     holds = λ y lt.
         subst (λ z. has (row holders y) r ≡ region_holds p o.l (p.context z) y) (sym o.node)
         (same_tests (has (row holders y) r) (region_holds p o.l (p.context o.h.node) y)
         (holds_by y r lt o) (held y r lt o));
   }
 
-  pub is_regions : IsRegions g p loops
-      (nest_of (record { heads = nodes; bounds = bounds; holders = holders }))
+  pub is_regions : IsRegions g p loops (nest_by (nodes_of heads) (bounds_of heads) holders)
   is_regions = record {
     node = λ r lt. let o = of r lt in subst (λ y. y < g.size) (sym o.node) (H.node r o.h o.here);
     numbered = λ r s lt s_lt.
@@ -150,34 +138,26 @@ module _ (g : Graph) (p : Places) (loops : List LoopAt) (heads : List Head) (nod
   }
 
 -- the same for lists that are those of the heads by equations
-pub found : (g : Graph) (p : Places) (loops : List LoopAt) (heads a b d : List Head)
-    (nodes nodes' bounds bounds' : List ℕ) (holders holders' : List (List ℕ))
-    → g.size ≤ 16384 → AreHeads p loops g.size heads → a ≡ heads → b ≡ heads → d ≡ heads
-    → nodes ≡ nodes' → nodes' ≡ map (λ h. h.node) b → bounds ≡ bounds' → length bounds' ≡ length d
-    → ((r : ℕ) (h : Head) (l : LoopAt) → slice_get d r ≡ Some h → slice_get loops h.stated ≡ Some l
-    → slice_index bounds' r ≡ l.bound)
+pub found : (g : Graph) (p : Places) (loops : List LoopAt) (old a heads : List Head)
+    (holders holders' : List (List ℕ))
+    → g.size ≤ 16384 → AreHeads p loops g.size old → a ≡ old → heads ≡ old
     → holders ≡ holders' → length holders' ≡ g.size
     → ((y r : ℕ) → y < g.size → IsTrue (has (row holders' y) r) ↔ IsHeldBy p loops a y r)
-    → AreRegionLists nodes bounds holders
-    × IsRegions g p loops (nest_of (record { heads = nodes; bounds = bounds; holders = holders }))
-found g p loops heads a b d nodes nodes' bounds bounds' holders holders' few H ea eb ed n N
-    e B C h S K =
-    let mapped = n ∙ N ∙ ap (map (λ (x : Head). x.node)) eb in
-    let all = ap length e ∙ B ∙ ap length ed in
-    let states =
-    λ (r : ℕ) (x : Head) (l : LoopAt) (t : slice_get heads r ≡ Some x)
-    (u : slice_get loops x.stated ≡ Some l).
-    ap (λ xs. slice_index xs r) e ∙ C r x l (ap (λ xs. slice_get xs r) ed ∙ t) u in
+    → AreRegionLists (nodes_of heads) holders
+    × IsRegions g p loops (nest_by (nodes_of heads) (bounds_of heads) holders)
+found g p loops old a heads holders holders' few H ea eh h S K =
+    let here = subst (AreHeads p loops g.size) (sym eh) H in
+    let same : a ≡ heads = ea ∙ sym eh in
     let held : (y r : ℕ) → y < g.size
     → IsTrue (has (row holders y) r) ↔ IsHeldBy p loops heads y r =
     λ y r lt. (
-      (λ t. subst (λ xs. IsHeldBy p loops xs y r) ea
+      (λ t. subst (λ xs. IsHeldBy p loops xs y r) same
           ((K y r lt).0 (subst (λ xs. IsTrue (has (row xs y) r)) h t))),
       (λ t. subst (λ xs. IsTrue (has (row xs y) r)) (sym h)
-          ((K y r lt).1 (subst (λ xs. IsHeldBy p loops xs y r) (sym ea) t))),
+          ((K y r lt).1 (subst (λ xs. IsHeldBy p loops xs y r) (sym same) t))),
     )
     in
     let full = ap length h ∙ S in (
-      is_sound g p loops heads nodes bounds holders few H mapped all states full held,
-      is_regions g p loops heads nodes bounds holders few H mapped all states full held,
+      is_sound g p loops heads holders few here full held,
+      is_regions g p loops heads holders few here full held,
     )

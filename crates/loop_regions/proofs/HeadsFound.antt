@@ -26,10 +26,10 @@ module _ (p : Places) (loops : List LoopAt) where
         (λ ne. H.all l y c (omega arith) e) (cases_eq y k);
   }
 
-  pub one_head : (k i : ℕ) (heads : List Head) → AreHeads p loops k heads
-      → IsLoopAt loops (p.address k) (Some i)
-      → AreHeads p loops (k + 1) (heads ++ record { node = k; stated = i } ∷ [])
-  one_head k i heads H some = record {
+  pub one_head : (k i b : ℕ) (heads : List Head) → AreHeads p loops k heads
+      → (l : LoopAt) × (slice_get loops i ≡ Some l) × (p.address k ≡ l.head) × (b ≡ l.bound)
+      → AreHeads p loops (k + 1) (heads ++ record { node = k; stated = i; bound = b } ∷ [])
+  one_head k i b heads H some = record {
     few = let f = H.few in omega (arith, length-append heads (here ∷ []));
     node = λ r h e.
         ⊎_elim (λ t. let lt = H.node r h t in omega arith)
@@ -47,7 +47,7 @@ module _ (p : Places) (loops : List LoopAt) where
     stated = λ r h e. ⊎_elim
         (λ t. H.stated r h t)
         (λ t. subst (λ (x : Head). (l : LoopAt) × (slice_get loops x.stated ≡ Some l)
-        × (p.address x.node ≡ l.head)) t.1 some)
+        × (p.address x.node ≡ l.head) × (x.bound ≡ l.bound)) t.1 some)
         (at_more heads here r h e);
     all = λ l y c lt e. ⊎_elim
         (λ is. (length heads, here, at_end heads here, sym is))
@@ -57,7 +57,7 @@ module _ (p : Places) (loops : List LoopAt) where
   }
     where
       here : Head
-      here = record { node = k; stated = i }
+      here = record { node = k; stated = i; bound = b }
 
   -- one head more
   pub placed : (heads : List Head) (y k : ℕ) (h : Head) (l : LoopAt) (old new : List ℕ)

@@ -154,7 +154,7 @@ answer_more P xs new x k e len here all = (
 )
 
 module _ (heads bounds : List ℕ) (holders rows : List (List ℕ))
-    (S : AreRegionLists heads bounds holders)
+    (S : AreRegionLists heads holders)
     (A : AreAround (nest_by heads bounds holders) rows) where
   node_within : (y r : ℕ) → IsTrue (has (row holders y) r) → y < length holders
   node_within y r h =

@@ -89,7 +89,7 @@ round_like heads holders rows k z r s lt e R =
     R
 
 pub all_round : (heads bounds : List ℕ) (holders rows : List (List ℕ)) (k : ℕ)
-    → AreRegionLists heads bounds holders → length holders ≤ k → length rows ≡ length heads
+    → AreRegionLists heads holders → length holders ≤ k → length rows ≡ length heads
     → ((r s : ℕ) → r < length heads → IsRoundBelow heads holders rows k r s)
     → AreAround (nest_by heads bounds holders) rows
 all_round heads bounds holders rows k S le all R = record {

@@ -72,7 +72,7 @@ enters_all g n u o lt h =
     (λ v e. (e.0.1, e.1)) h
 
 module _ (heads bounds : List ℕ) (holders : List (List ℕ))
-    (S : AreRegionLists heads bounds holders) where
+    (S : AreRegionLists heads holders) where
   abbrev test : ℕ → ℕ → ℕ → Bool
   test u v q = not (is_head heads v q) && not (has (row holders u) q)
 

@@ -1,5 +1,5 @@
 // For each region the regions round it.
-ghost use Rattle.std.specs.Prelude.{◌≡◌, ◌↔◌, ◌<◌, ℕ, IfOk, IsTrue, length, slice_index};
+ghost use Rattle.std.specs.Prelude.{◌≡◌, ◌↔◌, ◌<◌, ℕ, IfOk, IsTrue, length};
 ghost use Rattle.loop_regions.specs.CodeNest.{has, row};
 ghost use Rattle.loop_regions.specs.Inner.FoundRegions.{nest_in, AreAround};
 
@@ -9,14 +9,14 @@ use std::alloc::{AllocError, Global};
 
 /// For each region the regions that hold its head.
 fn at_heads(alloc: Global, regions: &Regions) -> Result<Vec<Holders>, AllocError>
-    ensures regions { IfOk result (λ rows. length rows.items ≡ length regions.now.heads) }
-    ensures rows { IfOk result (λ rows. (r : ℕ) → r < length regions.now.heads →
-        row rows.items r ≡ row regions.now.holders (slice_index regions.now.heads r)) }
+    ensures regions { IfOk result (λ rows. length rows.items ≡ (nest_in regions.now).size) }
+    ensures rows { IfOk result (λ rows. (r : ℕ) → r < (nest_in regions.now).size →
+        row rows.items r ≡ row regions.now.holders ((nest_in regions.now).head r)) }
 {
     let heads = regions.heads.as_slice();
     let mut rows = Vec::with_capacity(alloc, heads.len())?;
     for head in heads {
-        rows.push(regions.holders[*head as usize].clone()?)?;
+        rows.push(regions.holders[head.node as usize].clone()?)?;
     }
     Ok(rows)
 }

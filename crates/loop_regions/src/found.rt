@@ -1,21 +1,20 @@
 // The regions of a graph before they are known to be nested.
+ghost use Rattle.loop_regions.specs.Inner.Heads.{nodes_of};
 ghost use Rattle.loop_regions.specs.Inner.RegionLists.{AreRegionLists};
 
-use crate::heads::{bounds_of, heads, nodes_of};
+use crate::heads::{Head, heads};
 use crate::holders::{Holders, includes};
 use crate::holding::holders;
 use crpd_base::{Items, LoopAt};
 use flat_graph::Graph;
 use std::alloc::{AllocError, Global};
 
-/// The regions of stated loops, each with its head and its bound, and for each node the regions
-/// that hold it.
+/// The regions of stated loops, each with its head, and for each node the regions that hold it.
 #[derive(Drop)]
 pub(crate) struct Regions {
-    pub(crate) heads: Items<u32>,
-    pub(crate) bounds: Items<u32>,
+    pub(crate) heads: Items<Head>,
     pub(crate) holders: Items<Holders>,
-    ghost sound: { AreRegionLists heads bounds holders },
+    ghost sound: { AreRegionLists (nodes_of heads) holders },
 }
 
 impl Regions {
@@ -37,18 +36,15 @@ impl Regions {
         graph.graph_law();
         let heads = heads(alloc, graph, loops)?;
         let holders = holders(alloc, graph, loops, &heads)?;
-        let nodes = nodes_of(alloc, &heads)?;
-        let bounds = bounds_of(alloc, loops, &heads)?;
         Ok(Regions {
-            heads: Items::new(nodes),
-            bounds: Items::new(bounds),
+            heads: Items::new(heads),
             holders: Items::new(holders),
         })
     }
 
     /// How many regions there are.
     pub(crate) fn len(&self) -> u32
-        ensures { result ≡ length self.now.heads }
+        ensures { result ≡ (nest_in self.now).size }
     {
         self.heads.len() as u32
     }
@@ -78,9 +74,9 @@ impl Regions {
 
     /// Whether a node is the head of a region.
     pub(crate) fn is_head(&self, r: u32, y: u32) -> bool
-        ensures { result ≡ is_head self.now.heads y r }
+        ensures { result ≡ is_head (nodes_of self.now.heads) y r }
     {
         let heads = self.heads.as_slice();
-        (r as usize) < heads.len() && heads[r as usize] == y
+        (r as usize) < heads.len() && heads[r as usize].node == y
     }
 }

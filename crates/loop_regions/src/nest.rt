@@ -1,5 +1,6 @@
 // The regions of a task's graph.
 use crate::found::Regions;
+use crate::heads::Head;
 use crate::holders::Holders;
 use crpd_base::{Items, NodeId};
 use std::alloc::{AllocError, Global};
@@ -13,8 +14,7 @@ use std::marker::Model;
 /// Contracts see it as the head and the bound of each region, and the regions that hold each node.
 #[derive(Drop)]
 pub struct Nest {
-    heads: Items<u32>,
-    bounds: Items<u32>,
+    heads: Items<Head>,
     holders: Items<Holders>,
     parents: Items<Option<u32>>,
     innermost: Items<Option<u32>>,
@@ -22,16 +22,24 @@ pub struct Nest {
 
 impl Model for Nest {
     ghost use Rattle.loop_regions.specs.CodeNest.{CodeNest};
+    ghost use Rattle.loop_regions.specs.Inner.Heads.{nodes_of, bounds_of};
 
     ghost Value = { CodeNest };
 
     ghost use Rattle.loop_regions.specs.Inner.StoredNest.{IsStoredNest};
 
-    ghost view = { λ n. record { heads = n.heads; bounds = n.bounds; holders = n.holders } };
+    ghost view = { λ n. record {
+      heads = nodes_of n.heads;
+      bounds = bounds_of n.heads;
+      holders = n.holders;
+    } };
 
     ghost invariant = { λ n.
-        IsStoredNest (record { heads = n.heads; bounds = n.bounds; holders = n.holders }) n.parents
-        n.innermost };
+        IsStoredNest (record {
+          heads = nodes_of n.heads;
+          bounds = bounds_of n.heads;
+          holders = n.holders;
+        }) n.parents n.innermost };
 }
 
 impl Nest {
@@ -50,14 +58,9 @@ impl Nest {
         requires { IsStoredNest (code_nest regions) parents.items innermost.items }
         ensures { result ≡ code_nest regions }
     {
-        let Regions {
-            heads,
-            bounds,
-            holders,
-        } = regions;
+        let Regions { heads, holders } = regions;
         Nest {
             heads,
-            bounds,
             holders,
             parents: Items::new(parents),
             innermost: Items::new(innermost),
@@ -70,13 +73,11 @@ impl Nest {
         ensures { IfOk result (λ nest. nest ≡ self.now) }
     {
         let heads = Vec::from_slice(alloc, self.heads.as_slice())?;
-        let bounds = Vec::from_slice(alloc, self.bounds.as_slice())?;
         let holders = Vec::from_clones(alloc, self.holders.as_slice())?;
         let parents = Vec::from_slice(alloc, self.parents.as_slice())?;
         let innermost = Vec::from_slice(alloc, self.innermost.as_slice())?;
         Ok(Nest {
             heads: Items::new(heads),
-            bounds: Items::new(bounds),
             holders: Items::new(holders),
             parents: Items::new(parents),
             innermost: Items::new(innermost),
@@ -102,7 +103,7 @@ impl Nest {
         requires { r < (nest_of self.now).size }
         ensures { result.0 ≡ (nest_of self.now).head r }
     {
-        NodeId(self.heads[r as usize])
+        NodeId(self.heads[r as usize].node)
     }
 
     /// How often a kept walk may be at a region's head from an entry into the region until it
@@ -112,7 +113,7 @@ impl Nest {
         requires { r < (nest_of self.now).size }
         ensures { result ≡ (nest_of self.now).bound r }
     {
-        self.bounds[r as usize]
+        self.heads[r as usize].bound
     }
 
     /// The innermost region round a region, None where there is none. In constant time.

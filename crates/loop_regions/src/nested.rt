@@ -132,8 +132,8 @@ pub(crate) fn parents(
 ) -> Result<Vec<Option<u32>>, AllocError>
     requires around { AreAround (nest_in regions.now) around.now }
     requires nested { (y : ℕ) → ¬ IsNotNested (nest_in regions.now) y }
-    ensures regions { IfOk result (λ parents. length parents.items ≡ length regions.now.heads) }
-    ensures parents { IfOk result (λ parents. (r : ℕ) → r < length regions.now.heads →
+    ensures regions { IfOk result (λ parents. length parents.items ≡ (nest_in regions.now).size) }
+    ensures parents { IfOk result (λ parents. (r : ℕ) → r < (nest_in regions.now).size →
         IsParent (nest_in regions.now) r (slice_index_or parents.items r None)) }
 {
     let mut parents = Vec::with_capacity(alloc, around.len())?;

@@ -6,11 +6,16 @@ use Rattle.std.specs.List.{list_any}
 use Rattle.flat_graph.specs.Graph.{Graph, Edge}
 use Rattle.loop_regions.specs.Nest.{Nest, IsInside}
 use Rattle.loop_regions.specs.CodeNest.{has, row, CodeNest, nest_of}
+use Rattle.loop_regions.specs.Inner.Heads.{nodes_of, bounds_of}
 use Rattle.loop_regions.specs.declared.found.Regions.{Regions}
 
 -- the nest that regions stand for
 abbrev pub code_nest : Regions → CodeNest
-code_nest r = record { heads = r.heads; bounds = r.bounds; holders = r.holders }
+code_nest r = record {
+  heads = nodes_of r.heads;
+  bounds = bounds_of r.heads;
+  holders = r.holders;
+}
 
 abbrev pub nest_in : Regions → Nest
 nest_in r = nest_of (code_nest r)
@@ -22,7 +27,7 @@ is_head heads v r = nat_lt r (length heads) && (slice_index heads r == v)
 -- whether a region that holds v has another head, and does not hold u
 abbrev pub enters : Regions → ℕ → ℕ → Bool
 enters r u v =
-    list_any (λ q. not (is_head r.heads v q) && not (has (row r.holders u) q)) (row r.holders v)
+    list_any (λ q. not (is_head (nodes_of r.heads) v q) && not (has (row r.holders u) q)) (row r.holders v)
 
 -- a node of region r other than its head is entered from u
 abbrev pub Enters : Nest → ℕ → ℕ → Type 0

@@ -1,10 +1,18 @@
 -- The heads of stated loops among the nodes, and which regions hold a node.
 use Rattle.std.specs.Prelude.{◌≡◌, ℕ, ◌<◌, ◌≤◌, Bool, is_some, List, length, slice_get, IsTrue}
-use Rattle.std.specs.Prelude.{Option, Some, None, Contains}
+use Rattle.std.specs.Prelude.{Option, Some, None, Contains, map}
 use Rattle.crpd_base.specs.declared.data.LoopAt.{LoopAt}
 use Rattle.flat_graph.specs.Graph.{Places}
 use Rattle.loop_regions.specs.Stated.{seen_from, region_holds}
 use Rattle.loop_regions.specs.declared.heads.Head.{Head}
+
+-- the nodes of heads
+abbrev pub nodes_of : List Head → List ℕ
+nodes_of = map (λ h. h.node)
+
+-- the bounds of the loops of heads
+abbrev pub bounds_of : List Head → List ℕ
+bounds_of = map (λ h. h.bound)
 
 -- the number of a stated loop with this head
 abbrev pub IsLoopAt : List LoopAt → ℕ → Option ℕ → Type 0
@@ -20,6 +28,7 @@ pub record AreHeads (p : Places) (loops : List LoopAt) (bound : ℕ)
       → slice_get heads s ≡ Some k → h.node < k.node
   pub stated : (r : ℕ) (h : Head) → slice_get heads r ≡ Some h
       → (l : LoopAt) × (slice_get loops h.stated ≡ Some l) × (p.address h.node ≡ l.head)
+      × (h.bound ≡ l.bound)
   pub all : (l : LoopAt) (y : ℕ) → Contains loops l → y < bound → p.address y ≡ l.head
       → (r : ℕ) × (h : Head) × (slice_get heads r ≡ Some h) × (h.node ≡ y)
 

@@ -7,7 +7,6 @@ use Rattle.loop_regions.specs.Levels.{IsLevel, IsParent}
 -- beside the regions stand the parent of each region and the innermost region of each node
 pub record IsStoredNest (n : CodeNest) (parents innermost : List (Option ℕ)) : Type 0 where
   pub few : length n.heads ≤ most_nodes
-  pub all_bounds : length n.bounds ≡ length n.heads
   pub all_parents : length parents ≡ length n.heads
   pub all_levels : length innermost ≡ length n.holders
   pub is_parent : (r : ℕ) → r < length n.heads

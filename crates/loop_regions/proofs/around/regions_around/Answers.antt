@@ -1,11 +1,12 @@
 use Rattle.std.proofs.Common.{◌↔◌, ◌<◌, ◌∙◌, IsTrue, sym, subst, arith}
 use Rattle.loop_regions.specs.CodeNest.{has, row}
+use Rattle.loop_regions.specs.Inner.Heads.{nodes_of, bounds_of}
 use Rattle.loop_regions.proofs.Rounds.{all_round, round_like, round_more}
 use Rattle.loop_regions.proofs.around.regions_around.Goals as goal
 
 pub returns : goal.returns
 returns c =
-    all_round c.args.regions.now.heads c.args.regions.now.bounds c.args.regions.now.holders
+    all_round (nodes_of c.args.regions.now.heads) (bounds_of c.args.regions.now.heads) c.args.regions.now.holders
     c.loop-y.rows.items c.loop-y.y c.args.regions.now.sound (omega arith) c.loop-y.invariant.0
     c.loop-y.invariant.1
 
@@ -14,7 +15,7 @@ loop-y-preserved-then-is_like_before c =
     let like = c.is_like_before.ensures c.if-is_like_before.true in (
       c.loop-y.invariant.0,
       λ r s lt.
-          round_like c.args.regions.now.heads c.args.regions.now.holders c.loop-y.rows.items
+          round_like (nodes_of c.args.regions.now.heads) c.args.regions.now.holders c.loop-y.rows.items
           c.loop-y.y like.0 r s like.1 like.2 (c.loop-y.invariant.1 r s lt),
     )
 
@@ -30,7 +31,7 @@ loop-y-preserved c =
     let new = c.narrow_rows.new.rows.items in (
       c.narrow_rows.ensures.regions ∙ c.loop-y.invariant.0,
       λ r s lt.
-          round_more c.args.regions.now.heads c.args.regions.now.holders old new c.loop-y.y r s
+          round_more (nodes_of c.args.regions.now.heads) c.args.regions.now.holders old new c.loop-y.y r s
           (subst (λ xs. IsTrue (has (row new r) s)
           ↔ (IsTrue (has (row old r) s) × (IsTrue (has xs r) → IsTrue (has xs s))))
           c.holders.ensures

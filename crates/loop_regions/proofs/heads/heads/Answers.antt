@@ -1,11 +1,17 @@
-use Rattle.std.proofs.Common.{◌∙◌, sym, ap, subst, ◌+◌, Vec, Global, List}
+use Rattle.std.proofs.Common.{◌∙◌, sym, ap, subst, ◌+◌, Vec, Global, List, get_or}
 use Rattle.std.specs.Prelude.{Some, None}
+use Rattle.std.proofs.lemmas.Option.{slice_get_within, get_or_from_slice_get}
+use Rattle.crpd_base.specs.declared.data.LoopAt.{LoopAt}
 use Rattle.flat_graph.specs.CodeGraph.{places_of}
 use Rattle.loop_regions.specs.Inner.Heads.{IsLoopAt, AreHeads}
 use Rattle.loop_regions.specs.declared.heads.Head.{Head}
 use Rattle.loop_regions.proofs.HeadsFound.{no_head, one_head}
 use Rattle.loop_regions.proofs.heads.heads.Goals as goal
 use Rattle.loop_regions.proofs.heads.heads.Goals.{in-Some+in_ok-push, in_default}
+
+pub bounds-loops-stated : goal.bounds-loops-stated
+bounds-loops-stated c =
+    slice_get_within c.args.loops.now c.in-Some.stated c.in-Some.ensures.0 c.in-Some.ensures.1
 
 pub loop-node-preserved : goal.loop-node-preserved
 loop-node-preserved c =
@@ -17,9 +23,17 @@ loop-node-preserved c =
       | in-Some+in_ok-push w ↦
           subst goes
           (sym (ap (λ (v : Vec Head Global). v.items) w.heads-is ∙ w.in_ok-push.ensures.items))
-          (one_head p loops k w.in-Some.stated c.loop-node.heads.items c.loop-node.invariant
-          (subst (λ a. IsLoopAt loops a (Some w.in-Some.stated)) c.address.ensures
-          w.in-Some.ensures))
+          (let some = subst (λ a. IsLoopAt loops a (Some w.in-Some.stated)) c.address.ensures
+          w.in-Some.ensures in
+          one_head p loops k w.in-Some.stated (get_or loops w.in-Some.stated
+          w.index-loops-stated.result).bound c.loop-node.heads.items
+          c.loop-node.invariant (
+            some.0,
+            some.1,
+            some.2,
+            ap (λ (l : LoopAt). l.bound) (get_or_from_slice_get loops w.in-Some.stated some.0
+                w.index-loops-stated.result some.1),
+          ))
       | in_default w ↦
           subst goes (sym (ap (λ (v : Vec Head Global). v.items) w.heads-is))
           (no_head p loops k c.loop-node.heads.items c.loop-node.invariant

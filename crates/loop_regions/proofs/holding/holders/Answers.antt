@@ -11,7 +11,7 @@ loop-r-preserved c =
     let heads = c.args.heads.now in
     let loops = c.args.loops.now in
     let k = c.loop-r.r in
-    let none : Head = record { node = 0; stated = 0 } in
+    let none : Head = record { node = 0; stated = 0; bound = 0 } in
     let h = get_or heads k none in
     let eh = slice_get-get_or heads k none (omega arith) in
     let s = c.requires.stated k h eh in
@@ -34,7 +34,7 @@ returns-clause-held c y r lt =
 
 pub index-requires : goal.index-requires
 index-requires c =
-    let none : Head = record { node = 0; stated = 0 } in
+    let none : Head = record { node = 0; stated = 0; bound = 0 } in
     let h = get_or c.args.heads.now c.loop-r.r none in
     let eh = slice_get-get_or c.args.heads.now c.loop-r.r none (omega arith) in
     let s = c.requires.stated c.loop-r.r h eh in
@@ -47,6 +47,6 @@ index-requires c =
 
 pub place-requires-clause-head : goal.place-requires-clause-head
 place-requires-clause-head c =
-    let none : Head = record { node = 0; stated = 0 } in
+    let none : Head = record { node = 0; stated = 0; bound = 0 } in
     c.requires.node c.loop-r.r (get_or c.args.heads.now c.loop-r.r none)
     (slice_get-get_or c.args.heads.now c.loop-r.r none (omega arith))
