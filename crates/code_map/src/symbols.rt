@@ -1,5 +1,5 @@
 // The symbols of a file by their names.
-ghost use Rattle.std.specs.Prelude.{◌≡◌, List, ℕ, IfOk, IsTrue, is_some};
+ghost use Rattle.std.specs.Prelude.{◌≡◌, List, ℕ, IfOk, IsTrue};
 ghost use Rattle.std.specs.BTreeMap as tree;
 ghost use Rattle.std.specs.Cmp.Lexicographic.{slice_cmp};
 ghost use Rattle.std.specs.Ordering.{nat_cmp};
@@ -34,25 +34,15 @@ impl<'a> Model for Names<'a> {
         → tree.get_by (λ k. slice_cmp nat_cmp name k.now) n.values ≡ value_of n.symbols.now name };
 }
 
-/// Whether a name has a value already.
-fn is_known(values: &BTreeMap<&[u8], u32>, name: &[u8]) -> bool
-    ensures { result
-        ≡ is_some (tree.get_by (λ k. slice_cmp nat_cmp name.now k.now) values.now) }
-{
-    values.contains_key(name)
-}
-
-/// The value of the first symbol of each name.
+/// The value of the first symbol of each name, which is put last.
 fn values(alloc: Global, symbols: &[Symbol]) -> Result<BTreeMap<&[u8], u32>, AllocError>
     ensures { IfOk result (λ m. (name : List ℕ)
         → tree.get_by (λ k. slice_cmp nat_cmp name k.now) m ≡ value_of symbols.now name) }
 {
     let mut values = BTreeMap::new(alloc);
-    for symbol in symbols {
-        let name = symbol.name.as_slice();
-        if !is_known(&values, name) {
-            values.insert(name, symbol.value)?;
-        }
+    for i in (0..symbols.len()).rev() {
+        let symbol = &symbols[i];
+        values.insert(symbol.name.as_slice(), symbol.value)?;
     }
     Ok(values)
 }
