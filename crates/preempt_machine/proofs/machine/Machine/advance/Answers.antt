@@ -2,7 +2,7 @@ use Rattle.std.proofs.Common.{◌≡◌, ◌<◌, ◌&&◌, Bool, Some, ℕ, len
 use Rattle.std.specs.Prelude.{◌↔◌, IsTrue}
 use Rattle.preempt_machine.specs.declared.parts.Parts.{Parts}
 use Rattle.preempt_machine.specs.Inner.KeptFlag.{owner_is_kept}
-use Rattle.preempt_machine.specs.Inner.Schedule.{machine_of, running_of, HasMade, HasSameState}
+use Rattle.preempt_machine.specs.Inner.Schedule.{machine_of, running_of, HasMade, HasSameState, IsMachine}
 use Rattle.preempt_machine.specs.Running.{Running, GivesStore, HasPlans, system_by}
 use Rattle.preempt_machine.specs.Safe.{IsKept}
 use Rattle.preempt_machine.proofs.Turns.{on_err_of}
@@ -12,6 +12,19 @@ use Rattle.preempt_machine.proofs.machine.Machine.advance.Goals.{then-self, else
 
 pub owner_is_kept-self-inside-requires : goal.owner_is_kept-self-inside-requires
 owner_is_kept-self-inside-requires c o e = (c.in_ok-advance.ensures.machine.owner o e).below
+
+same_machine : (old new : Parts) → HasSameState old new → IsMachine old → IsMachine new
+same_machine old new h k = rw (h.geometry, h.state, h.queue, h.completions) k
+
+pub invariant_of-self : goal.invariant_of-self
+invariant_of-self c =
+    let same = c.in_err-advance.ensures.err in
+    record {
+      machine =
+          same_machine c.self.inside.parts c.advance.new.self same c.self.invariant.machine;
+      kept =
+          subst (λ m. IsTrue c.self.inside.kept ↔ IsKept m) (sym same.state) c.self.invariant.kept;
+    }
 
 pub invariant_of-self-2 : goal.invariant_of-self-2
 invariant_of-self-2 c =

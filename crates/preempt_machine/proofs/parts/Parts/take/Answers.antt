@@ -67,3 +67,18 @@ returns-clause-plans c =
 pub returns-in_err-turn-clause-err : goal.returns-in_err-turn-clause-err
 returns-in_err-turn-clause-err c =
     on_err_of c.from_residual.result _ c.in_err-turn.ensures.err
+
+pub returns-in_err-turn-clause-only : goal.returns-in_err-turn-clause-only
+returns-in_err-turn-clause-only c = on_err_of c.from_residual.result _ c.in_err-turn.ensures.only
+
+pub pass-requires-clause-places : goal.pass-requires-clause-places
+pass-requires-clause-places c =
+    let turned = c.in_ok-turn.ensures.ok in
+    let old = c.args.self.now.schedule in
+    rw (turned.queue, turned.completions) (λ p below.
+    omega (
+      arith,
+      c.requires.machine.due.places p below,
+      c.requires.machine.told,
+      lines_long old.jobs.items,
+    ))

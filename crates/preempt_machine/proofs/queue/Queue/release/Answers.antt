@@ -1,10 +1,15 @@
-use Rattle.std.proofs.Common.{◌≡◌, ℕ, ◌<◌, ◌≤◌, length, refl, ◌∙◌, ap, subst, inl, inr, arith}
+use Rattle.std.proofs.Common.{◌≡◌, ℕ, ◌<◌, ◌≤◌, List, length, refl, ◌∙◌, ap, subst, inl, inr, arith}
 use Rattle.std.proofs.Common.{get_or}
 use Rattle.std.proofs.lemmas.Bool.{cases_lt}
 use Rattle.std.proofs.lemmas.List.{get_or_default}
 use Rattle.preempt_machine.specs.Schedule.{due_place, due_release}
 use Rattle.preempt_machine.proofs.ReleaseOrder.{opened_more}
 use Rattle.preempt_machine.proofs.queue.Queue.release.Goals as goal
+
+item_is : (ds due : List (ℕ × ℕ)) (at : ℕ) (x : ℕ × ℕ) → ds ≡ due → at < length due
+    → x ≡ get_or ds at x → x ≡ get_or due at (0, 0)
+item_is ds due at x e inside read =
+    subst (λ (zs : List (ℕ × ℕ)). x ≡ get_or zs at x) e read ∙ get_or_default due at x (0, 0) inside
 
 pub loop-self-preserved : goal.loop-self-preserved
 loop-self-preserved c =
@@ -14,13 +19,10 @@ loop-self-preserved c =
     let h = c.loop-self.invariant in
     let inside : at < length due = subst (λ ds. at < length ds) h.due
     (omega (arith, c.loop-self-test.true, c.len.ensures)) in
-    let item : c.index-in-loop-self.result.now ≡ get_or due at (0, 0) =
-    subst (λ ds. c.index-in-loop-self.result.now ≡ get_or ds at c.index-in-loop-self.result.now)
-    h.due c.index-in-loop-self.ensures
-    ∙ get_or_default due at c.index-in-loop-self.result.now (0, 0) inside in
-    let first : c.index.result.now ≡ get_or due at (0, 0) =
-    subst (λ ds. c.index.result.now ≡ get_or ds at c.index.result.now) h.due c.index.ensures
-    ∙ get_or_default due at c.index.result.now (0, 0) inside in
+    let item = item_is c.loop-self.self.due.items due at c.index-in-loop-self.result.now h.due
+    inside c.index-in-loop-self.ensures in
+    let first = item_is c.loop-self.self.due.items due at c.index.result.now h.due inside
+    c.index.ensures in
     let place : c.index-in-loop-self.result.now.1 ≡ due_place due at =
     ap (λ (x : ℕ × ℕ). x.1) item in
     let release : c.index.result.now.0 ≡ due_release due at = ap (λ (x : ℕ × ℕ). x.0) first in
@@ -68,10 +70,8 @@ bounds-completions-index c =
     let h = c.loop-self.invariant in
     let inside : at < length due = subst (λ ds. at < length ds) h.due
     (omega (arith, c.loop-self-test.true, c.len.ensures)) in
-    let item : c.index-in-loop-self.result.now ≡ get_or due at (0, 0) =
-    subst (λ ds. c.index-in-loop-self.result.now ≡ get_or ds at c.index-in-loop-self.result.now)
-    h.due c.index-in-loop-self.ensures
-    ∙ get_or_default due at c.index-in-loop-self.result.now (0, 0) inside in
+    let item = item_is c.loop-self.self.due.items due at c.index-in-loop-self.result.now h.due
+    inside c.index-in-loop-self.ensures in
     let place : c.index-in-loop-self.result.now.1 ≡ due_place due at =
     ap (λ (x : ℕ × ℕ). x.1) item in
     omega (arith, place, c.requires at inside, c.loop-self.auto.completions)
@@ -117,3 +117,17 @@ returns-after-loop-self-clause-later c = c.loop-self.invariant.later
 
 pub returns-after-loop-self-clause-heads : goal.returns-after-loop-self-clause-heads
 returns-after-loop-self-clause-heads c = c.loop-self.invariant.heads
+
+pub returns-else-index-now-clause-wait : goal.returns-else-index-now-clause-wait
+returns-else-index-now-clause-wait c inside =
+    let due = c.args.self.now.due.items in
+    let at = c.loop-self.self.released in
+    let first = item_is c.loop-self.self.due.items due at c.index.result.now
+    c.loop-self.invariant.due inside c.index.ensures in
+    let release : c.index.result.now.0 ≡ due_release due at = ap (λ (x : ℕ × ℕ). x.0) first in
+    omega (arith, release, c.if-index-now.false)
+
+pub returns-after-loop-self-clause-wait : goal.returns-after-loop-self-clause-wait
+returns-after-loop-self-clause-wait c inside =
+    let long = ap (λ (ds : List (ℕ × ℕ)). length ds) c.loop-self.invariant.due in
+    absurd (omega (arith, long, inside, c.loop-self-test.false, c.len.ensures))
