@@ -64,3 +64,12 @@ returns-in-Some-clause-geometry c = c.execute.ensures.geometry
 
 pub returns-in-Some-clause-err : goal.returns-in-Some-clause-err
 returns-in-Some-clause-err c = c.execute.ensures.err
+
+pub execute-requires-clause-turns : goal.execute-requires-clause-turns
+execute-requires-clause-turns c =
+    let sys = system_by c.args.self.now.geometry.platform c.args.code.now in
+    let plan : plan_of sys c.args.job.now.line.task.0 ≡ c.plan.result.now =
+    plan_is sys c.args.job.now.line.task.0 c.plan.result.now
+    (rw c.task.ensures at c.plan.ensures) in
+    subst (λ (p : TaskPlan). HasIterations (length p.loops) c.args.job.now.watch) plan
+    c.requires.plan.loops

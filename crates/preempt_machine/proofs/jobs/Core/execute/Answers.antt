@@ -55,3 +55,8 @@ returns-in_err-work-2-clause-err c =
 pub returns-in_err-work-2-clause-store : goal.returns-in_err-work-2-clause-store
 returns-in_err-work-2-clause-store c =
     on_err_of c.from_residual-in_err-work-2.result _ c.in_err-work-2.ensures.store
+
+pub returns-clause-found : goal.returns-clause-found
+returns-clause-found c =
+    let none : c.args.job.now.left ≡ 0 = omega (arith, c.left-left.ensures, c.if-left-gt0.false) in
+    rw (none, c.access.ensures.found, c.block-block.ensures, c.pc.ensures) refl

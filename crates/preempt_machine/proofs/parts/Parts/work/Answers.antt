@@ -1,4 +1,5 @@
-use Rattle.std.proofs.Common.{◌≡◌, ℕ, [], set, refl, sym, ◌∙◌, ap, subst, arith}
+use Rattle.std.proofs.Common.{◌≡◌, ℕ, ◌<◌, List, length, [], get_or, set, refl, sym, ◌∙◌, ap, subst}
+use Rattle.std.proofs.Common.{arith, get_or-set_same}
 use Rattle.std.proofs.lemmas.List.{get_or_default, set-get_or}
 use Rattle.crpd_base.specs.declared.data.JobId.{JobId}
 use Rattle.preempt_machine.specs.declared.Completion.{Completion}
@@ -6,12 +7,16 @@ use Rattle.preempt_machine.specs.Machine.{Job, ins_at, job_at, no_job}
 use Rattle.preempt_machine.specs.Step.{turn_after_execution}
 use Rattle.preempt_machine.specs.Jobs.{turn_by}
 use Rattle.preempt_machine.specs.Inner.Jobs.{found_by}
-use Rattle.preempt_machine.specs.Running.{job_id, system_by}
+use Rattle.preempt_machine.specs.Running.{job_id, system_by, IsStoreNow}
 use Rattle.preempt_machine.specs.Schedule.{completion}
 use Rattle.preempt_machine.specs.Inner.Schedule.{machine_of}
 use Rattle.preempt_machine.proofs.CandidateTurns.{fetches, fetch_made, turned_on}
 use Rattle.preempt_machine.proofs.Turns.{on_err_of}
 use Rattle.preempt_machine.proofs.parts.Parts.work.Goals as goal
+
+own_job : (jobs : List Job) (place : ℕ) (job : Job) → place < length jobs
+    → job ≡ get_or jobs place job → job ≡ job_at jobs place
+own_job jobs place job below read = read ∙ get_or_default jobs place job no_job below
 
 pub returns-clause-ok : goal.returns-clause-ok
 returns-clause-ok c =
@@ -19,9 +24,8 @@ returns-clause-ok c =
     let sys = system_by c.args.self.now.core.geometry.platform c.args.code.now in
     let place = c.args.place in
     let after = c.advance.new.self in
-    let own : c.index_mut-job.result.now ≡ job_at m.jobs place =
-    c.index_mut-job.ensures.value
-    ∙ get_or_default m.jobs place c.index_mut-job.result.now no_job c.requires.below in
+    let own = own_job m.jobs place c.index_mut-job.result.now c.requires.below
+    c.index_mut-job.ensures.value in
     let executes = subst (λ (j : Job). turn_by after.cache after.memory 0 c.advance.new.job
     ≡ turn_after_execution sys m.time (turn_by m.cache m.memory 0 j) (ins_at sys j.pc)) own
     c.in_ok-found.ensures.ok in
@@ -55,9 +59,8 @@ returns-in_err-found-clause-err c =
     let m = machine_of c.args.self.now in
     let place = c.args.place in
     let err = c.in_err-found.ensures.err in
-    let own : c.index_mut-job.result.now ≡ job_at m.jobs place =
-    c.index_mut-job.ensures.value
-    ∙ get_or_default m.jobs place c.index_mut-job.result.now no_job c.requires.below in
+    let own = own_job m.jobs place c.index_mut-job.result.now c.requires.below
+    c.index_mut-job.ensures.value in
     let jobs : set m.jobs place c.advance.new.job ≡ m.jobs =
     ap (set m.jobs place) (err.0 ∙ own) ∙ set-get_or m.jobs place no_job in
     on_err_of c.from_residual.result _
@@ -68,3 +71,29 @@ returns-in_err-found-clause-err c =
       completions = refl;
       queue = refl;
     })
+
+pub advance-requires-clause-plan : goal.advance-requires-clause-plan
+advance-requires-clause-plan c =
+    rw (own_job c.args.self.now.schedule.jobs.items c.args.place c.index_mut-job.result.now
+    c.requires.below c.index_mut-job.ensures.value) c.requires.plan
+
+pub advance-requires-clause-open : goal.advance-requires-clause-open
+advance-requires-clause-open c =
+    rw (own_job c.args.self.now.schedule.jobs.items c.args.place c.index_mut-job.result.now
+    c.requires.below c.index_mut-job.ensures.value) c.requires.open
+
+pub returns-in_err-found-clause-only : goal.returns-in_err-found-clause-only
+returns-in_err-found-clause-only c =
+    let m = machine_of c.args.self.now in
+    let sys = system_by c.args.self.now.core.geometry.platform c.args.code.now in
+    let own = own_job m.jobs c.args.place c.index_mut-job.result.now c.requires.below
+    c.index_mut-job.ensures.value in
+    on_err_of c.from_residual.result _
+    (rw c.requires.switched
+    (subst (λ (j : Job). IsStoreNow sys (turn_by m.cache m.memory 0 j)) own
+    c.in_err-found.ensures.store))
+
+pub returns-clause-plan : goal.returns-clause-plan
+returns-clause-plan c =
+    rw (get_or-set_same c.args.self.now.schedule.jobs.items c.args.place c.advance.new.job no_job
+    c.requires.below) c.in_ok-found.ensures.plan
