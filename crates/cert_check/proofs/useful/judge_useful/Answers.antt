@@ -86,3 +86,31 @@ pub useful_at-useful-requires-clause-hit : goal.useful_at-useful-requires-clause
 useful_at-useful-requires-clause-hit c =
     c.requires.hits _ (c.requires.order.nodes (length c.args.order.now - 1 - c.loop-done.done)
     (omega (arith, c.loop-done-test.true, c.requires.order.count)))
+
+pub loop-done-init : goal.loop-done-init
+loop-done-init c = record {
+  within = omega (arith, c.requires.order.count);
+  here = λ below. absurd (omega (arith, below, c.requires.order.count));
+  seen = λ u s. absurd (omega (arith, s.1, s.2, c.requires.order.count));
+}
+
+pub useful_behind-behind-requires-clause-node : goal.useful_behind-behind-requires-clause-node
+useful_behind-behind-requires-clause-node c =
+    c.requires.order.nodes (length c.args.order.now - 1 - c.loop-done.done)
+    (omega (arith, c.loop-done-test.true, c.requires.order.count))
+
+pub useful_at-useful-requires-clause-node : goal.useful_at-useful-requires-clause-node
+useful_at-useful-requires-clause-node c =
+    c.requires.order.nodes (length c.args.order.now - 1 - c.loop-done.done)
+    (omega (arith, c.loop-done-test.true, c.requires.order.count))
+
+pub useful_at-useful-requires-clause-behind : goal.useful_at-useful-requires-clause-behind
+useful_at-useful-requires-clause-behind c = c.useful_behind-behind.ensures
+
+pub useful_holds-requires-clause-node : goal.useful_holds-requires-clause-node
+useful_holds-requires-clause-node c =
+    c.requires.order.nodes (length c.args.order.now - 1 - c.loop-done.done)
+    (omega (arith, c.loop-done-test.true, c.requires.order.count))
+
+pub useful_holds-requires-clause-behind : goal.useful_holds-requires-clause-behind
+useful_holds-requires-clause-behind c = c.useful_behind-behind.ensures
