@@ -223,9 +223,12 @@ impl Paid<'_> {
             (costs_at self.now.platform.now self.now.graph.now (counted self.now.hits.now))
             (potentials_of self.now.part.now) node.0) ((graph_of self.now.graph.now).next node.0) }
     {
-        self.graph
-            .successors(node)
-            .all(|next| self.edge_pays(node, next))
+        for next in self.graph.successors(node) {
+            if !self.edge_pays(node, next) {
+                return false;
+            }
+        }
+        true
     }
 
     /// Whether the region that a node heads, if any, pays for its iterations.

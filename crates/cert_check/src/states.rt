@@ -70,10 +70,12 @@ fn edge_states_hold(listing: &Listing<'_>, node: NodeId, after: &[Option<u32>]) 
         (node_accesses listing.now.platform.now listing.now.graph.now)
         (listed_of listing.now.part.now) node.0) ((graph_of listing.now.graph.now).next node.0) }
 {
-    listing
-        .graph
-        .successors(node)
-        .all(|next| edge_state_holds(listing, node, next, after))
+    for next in listing.graph.successors(node) {
+        if !edge_state_holds(listing, node, next, after) {
+            return false;
+        }
+    }
+    true
 }
 
 /// Whether clause 3 holds at a node, by the state after it.
