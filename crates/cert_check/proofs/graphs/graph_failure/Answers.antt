@@ -72,3 +72,17 @@ state_failure-requires-clause-hits c = c.write_hits.ensures.hits
 
 pub potential_failure-requires-clause-hits : goal.potential_failure-requires-clause-hits
 potential_failure-requires-clause-hits c = c.write_hits.ensures.hits
+
+pub list_failure-requires : goal.list_failure-requires
+list_failure-requires c = record {
+  index = rw (c.as_slice.ensures, c.len-size.ensures) at c.index.ensures;
+}
+
+pub write_hits-requires-clause-order : goal.write_hits-requires-clause-order
+write_hits-requires-clause-order c = c.write_order.ensures
+
+pub state_failure-requires-clause-order : goal.state_failure-requires-clause-order
+state_failure-requires-clause-order c = c.write_order.ensures
+
+pub state_failure-requires-clause-count : goal.state_failure-requires-clause-count
+state_failure-requires-clause-count c = c.write_hits.ensures.count
