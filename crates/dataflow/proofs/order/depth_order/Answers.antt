@@ -2,7 +2,7 @@ use Rattle.std.proofs.Common.{◌≡◌, get_or, true, false, length, ap, arith,
 use Rattle.std.proofs.lemmas.Bool.{not-false}
 use borrow.Author.Count.{below_more}
 use Rattle.dataflow.specs.Inner.Search.{IsVisitOrder, root_at}
-use Rattle.dataflow.proofs.Depth.{none_found, all_left, backwards, each_root}
+use Rattle.dataflow.proofs.Depth.{none_found, all_left, backwards, each_root, root_within}
 use Rattle.dataflow.proofs.order.depth_order.Goals as goal
 use Rattle.dataflow.proofs.order.depth_order.Goals.{then-is_new+in_ok-run, else-is_new}
 
@@ -66,3 +66,28 @@ loop-k-preserved g c =
                 (not-false _ (sym c.is_new.ensures ∙ w.if-is_new.false)));
           })
     ]
+
+pub root_at-root-requires : goal.root_at-root-requires
+root_at-root-requires g c =
+    omega (arith, c.loop-k-test.true, c.nodes-k-end.ensures, c.nodes.ensures)
+
+pub is_new-requires : goal.is_new-requires
+is_new-requires g c =
+    let root = root_within c.args.from_last (g.G.Flow.node_count c.args.flow.now) _ c.loop-k.k _
+    c.root_at-root.ensures c.nodes.ensures
+    (omega (arith, c.loop-k-test.true, c.nodes-k-end.ensures)) in
+    omega (arith, root, c.loop-k.search.seen.ok, c.loop-k.invariant.search.seen_nodes)
+
+pub run-requires : goal.run-requires
+run-requires g c = record {
+  edges = c.requires;
+  root =
+      root_within c.args.from_last (g.G.Flow.node_count c.args.flow.now) _ c.loop-k.k _
+      c.root_at-root.ensures c.nodes.ensures
+      (omega (arith, c.loop-k-test.true, c.nodes-k-end.ensures));
+  search = c.loop-k.invariant.search;
+  path = c.loop-k.invariant.path;
+}
+
+pub loop-k-smaller : goal.loop-k-smaller
+loop-k-smaller g c = omega arith

@@ -105,3 +105,27 @@ loop-next-preserved g c =
           c.absorb.new.fact fits waits_there how in
           omega (arith, c.loop-next.invariant.left);
     }
+
+pub index-next-requires : goal.index-next-requires
+index-next-requires g c =
+    omega (arith, c.args.outgoing.now.last.ok, c.requires.edges.all_nodes, c.requires.node)
+
+pub absorb-requires : goal.absorb-requires
+absorb-requires g c = λ κs within. within
+
+pub add-requires : goal.add-requires
+add-requires g c = omega (arith, c.loop-next.invariant.waiting, c.edge-target.ensures.target)
+
+pub returns : goal.returns
+returns g c =
+    let all = c.loop-next.invariant.under_way in
+    let ended = ap past_edge c.in_default.is in
+    record {
+      waiting = c.loop-next.invariant.waiting;
+      under_way = record {
+        sound = all.sound;
+        begun = all.begun;
+        carried = λ k lt any. all.carried k lt (λ here. omega arith);
+      };
+      left = c.loop-next.invariant.left;
+    }
