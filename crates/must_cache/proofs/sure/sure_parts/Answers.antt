@@ -1,7 +1,7 @@
 use Rattle.std.proofs.Common.{◌≡◌, ◌<◌, arith, List, ℕ, length, get_or, None, Some, refl, sym, ap}
-use Rattle.std.proofs.Common.{◌∙◌, subst, false}
-use Rattle.std.proofs.lemmas.Grind.{common_steps}
+use Rattle.std.proofs.Common.{◌∙◌, subst, false, lit<}
 use Rattle.crpd_base.specs.Sets.{has}
+use Rattle.dataflow.specs.Edges.{IsEdgeList}
 use Rattle.flat_graph.specs.CodeGraph.{graph_of, places_of}
 use Rattle.icache.specs.Accesses.{accesses}
 use Rattle.must_cache.specs.EdgeLists.{AreGraphEdges}
@@ -87,4 +87,46 @@ returns g c =
     }
 
 pub unreachable-requires : goal.unreachable-requires
-unreachable-requires g c = grind (arith, common_steps)
+unreachable-requires g c =
+    let size = (graph_of c.args.graph.now).size in
+    c.in_default-new.ensures.none refl
+    (subst (λ n. IsEdgeList n c.deref.result.now) (sym c.len.ensures)
+    (subst (IsEdgeList size) (sym c.deref.ensures.value) c.in_ok-edges.ensures.list))
+
+pub first_walks-requires : goal.first_walks-requires
+first_walks-requires g c =
+    (lit< tt, (c.requires.room, (c.requires.few, c.requires.room_for_sets)))
+
+pub solve-requires : goal.solve-requires
+solve-requires g c = λ n lt. omega (arith, lt, c.in-Some.ensures.graph.0, c.len.ensures)
+
+pub invariant_of-domain : goal.invariant_of-domain
+invariant_of-domain g c = record {
+  few = c.requires.few;
+  room = omega (arith, c.requires.room, c.requires.room_for_sets);
+  all_apart = ap length c.deref-2.ensures.value ∙ c.in-Ok.ensures.apart_count;
+}
+
+pub sure_ones-requires : goal.sure_ones-requires
+sure_ones-requires g c = (
+  omega (arith, c.requires.few),
+  (
+    c.requires.few,
+    (
+      omega (arith, c.requires.room, c.requires.room_for_sets),
+      (
+        ap length c.deref-4.ensures.value ∙ c.in-Ok.ensures.hits_count,
+        omega (
+          arith,
+          c.deref-5.ensures.len,
+          c.in-Ok-all_sets.unsure.ok,
+          c.in-Ok-all_sets.ensures.count,
+          c.in_ok-facts.ensures.nodes,
+          c.in-Some.ensures.graph.0,
+          c.len.ensures,
+          c.deref-3.ensures.len,
+        ),
+      ),
+    ),
+  ),
+)
