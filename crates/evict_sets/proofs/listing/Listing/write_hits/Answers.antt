@@ -28,3 +28,18 @@ returns-clause-hits c =
     (node_accesses c.args.self.now.platform.now c.args.self.now.graph.now)
     (listed_of c.args.self.now.part.now) c.args.order.now c.loop-k.blocks c.loop-k.hits c.loop-k.k
     c.requires.order (omega (arith, c.loop-k-test.false, c.requires.order.count)) c.loop-k.invariant
+
+pub enter-requires-clause-room : goal.enter-requires-clause-room
+enter-requires-clause-room c = c.loop-k.invariant.state.room
+
+pub leave-requires : goal.leave-requires
+leave-requires c = record {
+  case = c.requires.case;
+  node =
+      c.requires.order.nodes c.loop-k.k (omega (arith, c.loop-k-test.true, c.requires.order.count));
+  room = omega (arith, c.enter.auto.blocks, c.loop-k.invariant.state.room);
+  state = c.enter.ensures;
+}
+
+pub returns-clause-count : goal.returns-clause-count
+returns-clause-count c = omega (arith, c.loop-k.auto.hits, c.requires.count)
