@@ -14,6 +14,16 @@ use Rattle.loop_regions.specs.declared.heads.Head.{Head}
 use Rattle.loop_regions.proofs.Has.{has_placed, placed_has, has_more}
 
 module _ (p : Places) (loops : List LoopAt) where
+  pub no_heads : AreHeads p loops 0 []
+  no_heads = record {
+    few = omega arith;
+    node = λ r h e. absurd (let w = slice_get_within {A = Head} [] r h e in omega arith);
+    numbered = λ r s h k lt e f. absurd (let w = slice_get_within {A = Head} [] r h e in
+        omega arith);
+    stated = λ r h e. absurd (let w = slice_get_within {A = Head} [] r h e in omega arith);
+    all = λ l y c lt e. absurd (omega arith);
+  }
+
   pub no_head : (k : ℕ) (heads : List Head) → AreHeads p loops k heads
       → IsLoopAt loops (p.address k) None → AreHeads p loops (k + 1) heads
   no_head k heads H none = record {

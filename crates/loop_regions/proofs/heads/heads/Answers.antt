@@ -1,11 +1,12 @@
-use Rattle.std.proofs.Common.{◌∙◌, sym, ap, subst, ◌+◌, Vec, Global, List, get_or}
+use Rattle.std.proofs.Common.{◌≡◌, ◌∙◌, sym, ap, subst, ◌+◌, Vec, Global, List, get_or, length}
+use Rattle.std.proofs.Common.{arith}
 use Rattle.std.specs.Prelude.{Some, None}
 use Rattle.std.proofs.lemmas.Option.{slice_get_within, get_or_from_slice_get}
 use Rattle.crpd_base.specs.declared.data.LoopAt.{LoopAt}
 use Rattle.flat_graph.specs.CodeGraph.{places_of}
 use Rattle.loop_regions.specs.Inner.Heads.{IsLoopAt, AreHeads}
 use Rattle.loop_regions.specs.declared.heads.Head.{Head}
-use Rattle.loop_regions.proofs.HeadsFound.{no_head, one_head}
+use Rattle.loop_regions.proofs.HeadsFound.{no_head, no_heads, one_head}
 use Rattle.loop_regions.proofs.heads.heads.Goals as goal
 use Rattle.loop_regions.proofs.heads.heads.Goals.{in-Some+in_ok-push, in_default}
 
@@ -39,3 +40,14 @@ loop-node-preserved c =
           (no_head p loops k c.loop-node.heads.items c.loop-node.invariant
           (subst (λ a. IsLoopAt loops a None) c.address.ensures w.in_default.ensures))
     ]
+
+pub loop-node-init : goal.loop-node-init
+loop-node-init c =
+    rw c.new-heads.ensures.items (no_heads (places_of c.args.graph.now) c.args.loops.now)
+
+pub returns : goal.returns
+returns c =
+    let end : c.loop-node.node ≡ length c.args.graph.now.nodes =
+    omega (arith, c.len-node-end.ensures, c.loop-node-test.false, c.loop-node.auto.node-end) in
+    subst (λ n. AreHeads (places_of c.args.graph.now) c.args.loops.now n c.loop-node.heads.items)
+    end c.loop-node.invariant
