@@ -1,7 +1,7 @@
 use Rattle.std.proofs.Common.{◌≡◌, ℕ, ◌+◌, ◌<◌, ◌++◌, ◌∷◌, [], List, length, get_or, take, sym, ◌∙◌}
-use Rattle.std.proofs.Common.{ap}
+use Rattle.std.proofs.Common.{ap, arith}
 use Rattle.std.specs.Prelude.{map}
-use Rattle.std.proofs.lemmas.List.{map_push, take_more}
+use Rattle.std.proofs.lemmas.List.{map_push, take_all, take_more}
 use Rattle.std.proofs.lemmas.Option.{slice_get-get_or}
 use Rattle.run_account.specs.declared.told.Entry.{Entry}
 use Rattle.run_account.specs.declared.trails.Reload.{Reload}
@@ -40,3 +40,12 @@ loop-reload-preserved c =
 
 pub bounds-reloads-reload-index : goal.bounds-reloads-reload-index
 bounds-reloads-reload-index c = c.loop-reload-test.true
+
+pub loop-reload-init : goal.loop-reload-init
+loop-reload-init c = c.new-entries.ensures.items
+
+pub returns : goal.returns
+returns c =
+    c.loop-reload.invariant
+    ∙ ap (map (entry_from_completions c.args.completions.now))
+    (take_all c.loop-reload.reload-index c.args.reloads.now (omega arith))
