@@ -1,4 +1,4 @@
-use Rattle.std.proofs.Common.{List, Bool, sym, subst}
+use Rattle.std.proofs.Common.{◌∙◌, ◌≤◌, List, Bool, ap, arith, length, sym, subst}
 use Rattle.std.proofs.lemmas.Result.{err_from_is_err_and}
 use Rattle.crpd_base.specs.declared.data.Platform.{Platform}
 use Rattle.crpd_base.specs.declared.data.NodeState.{NodeState}
@@ -84,3 +84,37 @@ returns-clause-ranges c =
       loops = c.in_ok-cycles.field-0.loops;
     })
     _ c.found_part.ensures.bound entries c.in_ok-cycles.ensures
+
+pub found_bound-requires-clause-count : goal.found_bound-requires-clause-count
+found_bound-requires-clause-count c =
+    ap (λ (l : List Bool). length l) c.deref.ensures.value ∙ c.in-Ok.ensures.hits_count
+
+pub leader_entries-requires-clause-some : goal.leader_entries-requires-clause-some
+leader_entries-requires-clause-some c = c.new-geometry.result.some_set
+
+pub leader_entries-requires-clause-few : goal.leader_entries-requires-clause-few
+leader_entries-requires-clause-few c =
+    subst (λ (p : Platform). p.sets ≤ 512) (sym c.new-geometry.ensures)
+    (omega (arith, c.requires.platform.sets))
+
+pub leader_entries-requires-clause-parts : goal.leader_entries-requires-clause-parts
+leader_entries-requires-clause-parts c = c.in-Ok.ensures
+
+pub found_part-requires-clause-room : goal.found_part-requires-clause-room
+found_part-requires-clause-room c =
+    subst (λ (p : Platform). p.sets ≤ 512) (sym c.new-geometry.ensures)
+    (omega (arith, c.requires.platform.sets))
+
+pub found_part-requires-clause-count : goal.found_part-requires-clause-count
+found_part-requires-clause-count c =
+    ap (λ (l : List Bool). length l) c.deref-2.ensures.value ∙ c.in-Ok.ensures.hits_count
+
+pub found_part-requires-clause-hits : goal.found_part-requires-clause-hits
+found_part-requires-clause-hits c =
+    subst (λ (l : List Bool).
+    CountsSureHits (graph_of c.args.graph.now)
+    (accesses c.new-geometry.result.platform (places_of c.args.graph.now).address) (counted l))
+    (sym c.deref-2.ensures.value) c.in-Ok.ensures.hit
+
+pub returns-in_default-clause-exact : goal.returns-in_default-clause-exact
+returns-in_default-clause-exact c = tt
