@@ -8,7 +8,6 @@ pub mod Has
 pub mod Indexed
 mod Valued
 mod Planned
-mod Eachs
 mod Meaning
 mod NextWord
 mod Rows

@@ -87,6 +87,7 @@ fn range_of(
 }
 
 /// The ranges of a loop.
+#[tactic(auto, unfolding(crpd_base::specs::Outcome::each))]
 fn ranges_of(
     alloc: Global,
     task: Task,
@@ -118,6 +119,7 @@ fn loop_of(alloc: Global, task: Task, names: &Names, spec: &LoopSpec) -> Result<
 }
 
 /// The stated loops of a task.
+#[tactic(auto, unfolding(crpd_base::specs::Outcome::each))]
 pub(crate) fn loops_of(
     alloc: Global,
     task: Task,

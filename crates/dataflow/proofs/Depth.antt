@@ -2,7 +2,7 @@
 use Rattle.std.proofs.Common.{◌≡◌, ◌≢◌, ℕ, ◌+◌, ◌<◌, ◌≤◌, ◌⊎◌, ⊎_elim, inl, inr, List, [], ◌∷◌}
 use Rattle.std.proofs.Common.{◌++◌, Bool, true, false, length, get_or, set, ap, sym, ◌∙◌, subst}
 use Rattle.std.proofs.Common.{arith, Option, Some, None, length-append, get_or-set_same}
-use Rattle.std.proofs.Common.{get_or-set_other, suc, reverse, ◌-◌, refl}
+use Rattle.std.proofs.Common.{get_or-set_other, suc, reverse, ◌-◌}
 use Rattle.std.specs.List.{sum_by}
 use Rattle.std.proofs.lemmas.Bool.{cases_eq, cases_lt}
 use Rattle.std.proofs.lemmas.List.{get_or_append_left, length-set, get_or_past, get_or_default}
@@ -232,28 +232,3 @@ pub root_within : (from_last : Bool) (nodes same k root : ℕ) → root ≡ root
     → same ≡ nodes → k < nodes → root < nodes
 root_within true nodes same k root e s lt = omega arith
 root_within false nodes same k root e s lt = omega arith
-
-pub none_on : (path : List ℕ) → length path ≡ 0 → path ≡ []
-none_on [] e = refl
-none_on (n ∷ path) e = absurd (omega arith)
-
--- what was found stays so
-pub still_found : (seen new : List Bool) (n m : ℕ) → new ≡ set seen m true → m < length seen
-    → get_or seen n false ≡ true → get_or new n false ≡ true
-still_found seen new n m e lt was = ap (λ s. get_or s n false) e ∙ ⊎_elim
-    (λ (same : n ≡ m). ap (λ i. get_or (set seen m true) i false) same
-    ∙ get_or-set_same seen m true false lt)
-    (λ (ne : n ≢ m). get_or-set_other seen m n true false ne ∙ was)
-    (cases_eq n m)
-
--- the last node of the path
-pub last_on_path : (nodes edges : ℕ) (seen : List Bool) (next : List (Option ℕ))
-    (path front left : List ℕ) (n : ℕ) → path ≡ front ++ n ∷ []
-    → IsInDepth nodes edges seen next path left
-    → (n < nodes) × IsInDepth nodes edges seen next (front ++ n ∷ []) left
-last_on_path nodes edges seen next path front left n e h =
-    let whole = subst (λ p. IsInDepth nodes edges seen next p left) e h in (
-      subst (λ m. m < nodes) (get_or-append_seam front n [] 0)
-          (whole.on_path (length front) (omega (arith, length-append front (n ∷ [])))),
-      whole,
-    )

@@ -1,9 +1,8 @@
 -- Who waits, by the places of an order.
 use Rattle.std.proofs.Common.{◌≡◌, ℕ, ◌<◌, ◌≤◌, ⊎_elim, List, Bool, false, length, slice_index, ap}
-use Rattle.std.proofs.Common.{sym, ◌∙◌, arith, MatchOption, Option, Some, None, true, get_or, set}
-use Rattle.std.proofs.Common.{subst}
+use Rattle.std.proofs.Common.{sym, ◌∙◌, arith, MatchOption, Option, Some, None, true}
 use Rattle.std.proofs.lemmas.Bool.{cases_lt}
-use Rattle.std.proofs.lemmas.List.{get_or_past, get_or_default}
+use Rattle.std.proofs.lemmas.List.{get_or_past}
 use Rattle.dataflow.specs.Inner.Search.{IsVisitOrder, waits}
 
 pub nobody_waits : (order : List ℕ) (waiting : List Bool) (place : ℕ)
@@ -32,23 +31,3 @@ pub next_place : (order : List ℕ) (waiting : List Bool) (place : ℕ)
 next_place order waiting place is within later None earlier =
     nobody_waits order waiting place is later earlier
 next_place order waiting place is within later (Some i) h = (omega arith, h.1)
-
--- the node at the next place is taken
-pub node_taken : (order seen_order : List ℕ) (waiting seen_waiting now : List Bool)
-    (place node : ℕ) → IsVisitOrder (length waiting) order → seen_order ≡ order
-    → seen_waiting ≡ waiting → now ≡ waiting
-    → (place < length seen_order) × (waits seen_waiting (slice_index seen_order place) ≡ true)
-    → node ≡ get_or order place node
-    → (node < length now) × (waits now node ≡ true)
-    × (set waiting node false ≡ set now node false)
-node_taken order seen_order waiting seen_waiting now place node is eo ew en h read =
-    let within : place < length order = subst (λ xs. place < length xs) eo h.0 in
-    let here : node ≡ get_or order place 0 =
-    read ∙ get_or_default order place node 0 within in
-    let own : get_or order place 0 < length waiting = is.own place within in
-    let still = h.1 in (
-      subst (λ xs. node < length xs) (sym en)
-          (subst (λ n. n < length waiting) (sym here) own),
-      cc,
-      ap (λ xs. set xs node false) (sym en),
-    )

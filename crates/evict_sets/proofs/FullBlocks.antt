@@ -2,8 +2,7 @@
 use Rattle.std.proofs.Common.{◌≡◌, ◌≢◌, ◌↔◌, ℕ, zero, suc, ◌-◌, ◌<◌, ◌≤◌, List, []}
 use Rattle.std.proofs.Common.{◌∷◌, length, set, drop, Option, Some, None, IsTrue, IsFalse}
 use Rattle.std.proofs.Common.{refl, sym, ap, ◌∙◌, subst, inl, inr, ⊎_elim, arith}
-use Rattle.std.proofs.Common.{◌+◌, get_or, get_or-set_same, get_or-set_other, drop-cons, eq-eqb}
-use Rattle.std.proofs.Common.{ne_eqb}
+use Rattle.std.proofs.Common.{get_or-set_same, get_or-set_other}
 use Rattle.std.proofs.lemmas.List.{drop_all}
 use Rattle.std.proofs.lemmas.Bool.{cases_eq}
 use Rattle.std.proofs.lemmas.Option.{same_Some}
@@ -27,30 +26,6 @@ pub none_held : (blocks : List (Option ℕ)) (sure : List (ℕ × ℕ)) → ((s 
 none_held blocks sure none s =
     let empty : drop (length sure - 0) sure ≡ [] = drop_all (length sure - 0) sure (omega arith) in
     none s ∙ sym (ap (λ xs. block_of_set xs s) empty)
-
--- one more pair in front
-pub pair_held : (blocks : List (Option ℕ)) (sure : List (ℕ × ℕ)) (k done : ℕ) → done < length sure
-    → k ≡ length sure - 1 - done → (get_or sure k (0, 0)).0 < length blocks
-    → ((s : ℕ) → held blocks s ≡ block_of_set (drop (length sure - done) sure) s) → (s : ℕ)
-    → held (set blocks (get_or sure k (0, 0)).0 (Some (get_or sure k (0, 0)).1)) s
-    ≡ block_of_set (drop (length sure - (done + 1)) sure) s
-pair_held blocks sure k done lt is room before s =
-    let x = get_or sure k (0, 0) in
-    let within : k < length sure = omega arith in
-    let at : length sure - (done + 1) ≡ k = omega arith in
-    let behind : length sure - done ≡ suc k = omega arith in
-    let more : drop (length sure - (done + 1)) sure ≡ x ∷ drop (suc k) sure =
-    ap (λ j. drop j sure) at ∙ drop-cons sure k (0, 0) within in
-    rw more (⊎_elim
-    (λ (same : x.0 ≡ s).
-    rw (eq-eqb x.0 s same)
-    (subst (λ z. held (set blocks x.0 (Some x.1)) z ≡ Some x.1) same
-    (get_or-set_same blocks x.0 (Some x.1) None room)))
-    (λ (ne : x.0 ≢ s).
-    rw (ne_eqb x.0 s ne)
-    (get_or-set_other blocks x.0 s (Some x.1) None (λ e. ne (sym e)) ∙ before s
-    ∙ ap (λ j. block_of_set (drop j sure) s) behind))
-    (cases_eq x.0 s))
 
 module _ (g : Graph) (a : Accesses) (l : Listed) where
   pub listed_state : (y : ℕ) (blocks : List (Option ℕ)) → IsTrue (l.is_listed y)

@@ -4,10 +4,13 @@ use Rattle.std.proofs.Common.{Option, Some, None, ℤ, refl, sym, ◌∙◌, ap,
 use Rattle.std.proofs.Common.{arith}
 use Rattle.std.proofs.lemmas.Int.{to_z-of_z}
 use Rattle.rv_decode.specs.declared.Ins.{Ins}
+use Rattle.rv_decode.specs.declared.fields.Fields.{Fields}
+use Rattle.rv_decode.specs.Range.{HasFieldsInRange}
 use Rattle.rv_decode.specs.Table.{Key, bits, rd, rs1, rs2, i_imm, s_imm, b_imm, j_imm, r_form}
 use Rattle.rv_decode.specs.Table.{i_form, s_form, b_form, u_form, j_form, fence_form, fits_key}
 use Rattle.rv_decode.specs.Table.{table, row_of, ins_of_word}
 use Rattle.rv_decode.specs.Table.Key.{Opcode, Funct3, Funct7, Whole}
+use Rattle.rv_decode.proofs.Ranges.{row_in_range}
 
 -- whether a word with this opcode, funct3 and funct7 fits
 abbrev pub fits_at : Key → ℕ → ℕ → ℕ → ℕ → Bool
@@ -58,37 +61,64 @@ at_funct7 w o f g h =
     let r : bits 25 7 w ≡ g = grind arith in
     at_fields w o f g p q r
 
+-- the fields that a word has as one form or another
+abbrev pub AreFieldsOf : ℕ → Fields → Type 0
+AreFieldsOf w at = record {
+  rd : at.rd ≡ rd w;
+  rs1 : at.rs1 ≡ rs1 w;
+  rs2 : at.rs2 ≡ rs2 w;
+  upper : at.upper ≡ bits 12 20 w;
+  bits : at.bits ≡ bits 20 12 w;
+  i_imm : at.i_imm ≡ i_imm w;
+  s_imm : at.s_imm ≡ s_imm w;
+  b_imm : at.b_imm ≡ b_imm w;
+  j_imm : at.j_imm ≡ j_imm w;
+}
+
+-- an instruction is what a word is read as, and its fields are in range
+abbrev pub IsRead : ℕ → Ins → Type 0
+IsRead w ins = record { row : Some ins ≡ ins_of_word w; in_range : HasFieldsInRange ins }
+
+is_read : (w : ℕ) (ins : Ins) → Some ins ≡ ins_of_word w → IsRead w ins
+is_read w ins found = record { row = found; in_range = row_in_range w ins found }
+
 -- an instruction of a row, with the fields that the code reads
-pub r_row : (make : ℕ → ℕ → ℕ → Ins) (w x y z : ℕ) → ins_of_word w ≡ Some (r_form make w) → x ≡ rd w
-    → y ≡ rs1 w → z ≡ rs2 w → Some (make x y z) ≡ ins_of_word w
-r_row make w x y z found p q r = rw (p, q, r) (sym found)
+pub r_row : (w : ℕ) (at : Fields) (make : ℕ → ℕ → ℕ → Ins) → ins_of_word w ≡ Some (r_form make w)
+    → AreFieldsOf w at → IsRead w (make at.rd at.rs1 at.rs2)
+r_row w at make found h = is_read _ _ (rw (h.rd, h.rs1, h.rs2) (sym found))
 
-pub i_row : (make : ℕ → ℕ → ℤ → Ins) (w x y : ℕ) (i : ℤ) → ins_of_word w ≡ Some (i_form make w)
-    → x ≡ rd w → y ≡ rs1 w → SFits w32 i → i ≡ i_imm w
-    → Some (make x y (to_z w32 (of_z w32 i))) ≡ ins_of_word w
-i_row make w x y i found p q within r = rw (to_z-of_z w32 i within, p, q, r) (sym found)
+pub i_row : (w : ℕ) (at : Fields) (make : ℕ → ℕ → ℤ → Ins) → ins_of_word w ≡ Some (i_form make w)
+    → AreFieldsOf w at → SFits w32 at.i_imm
+    → IsRead w (make at.rd at.rs1 (to_z w32 (of_z w32 at.i_imm)))
+i_row w at make found h within =
+    is_read _ _ (rw (to_z-of_z w32 _ within, h.rd, h.rs1, h.i_imm) (sym found))
 
-pub s_row : (make : ℕ → ℕ → ℤ → Ins) (w x y : ℕ) (i : ℤ) → ins_of_word w ≡ Some (s_form make w)
-    → x ≡ rs1 w → y ≡ rs2 w → SFits w32 i → i ≡ s_imm w
-    → Some (make x y (to_z w32 (of_z w32 i))) ≡ ins_of_word w
-s_row make w x y i found p q within r = rw (to_z-of_z w32 i within, p, q, r) (sym found)
+pub s_row : (w : ℕ) (at : Fields) (make : ℕ → ℕ → ℤ → Ins) → ins_of_word w ≡ Some (s_form make w)
+    → AreFieldsOf w at → SFits w32 at.s_imm
+    → IsRead w (make at.rs1 at.rs2 (to_z w32 (of_z w32 at.s_imm)))
+s_row w at make found h within =
+    is_read _ _ (rw (to_z-of_z w32 _ within, h.rs1, h.rs2, h.s_imm) (sym found))
 
-pub b_row : (make : ℕ → ℕ → ℤ → Ins) (w x y : ℕ) (i : ℤ) → ins_of_word w ≡ Some (b_form make w)
-    → x ≡ rs1 w → y ≡ rs2 w → SFits w32 i → i ≡ b_imm w
-    → Some (make x y (to_z w32 (of_z w32 i))) ≡ ins_of_word w
-b_row make w x y i found p q within r = rw (to_z-of_z w32 i within, p, q, r) (sym found)
+pub b_row : (w : ℕ) (at : Fields) (make : ℕ → ℕ → ℤ → Ins) → ins_of_word w ≡ Some (b_form make w)
+    → AreFieldsOf w at → SFits w32 at.b_imm
+    → IsRead w (make at.rs1 at.rs2 (to_z w32 (of_z w32 at.b_imm)))
+b_row w at make found h within =
+    is_read _ _ (rw (to_z-of_z w32 _ within, h.rs1, h.rs2, h.b_imm) (sym found))
 
-pub u_row : (make : ℕ → ℕ → Ins) (w x y : ℕ) → ins_of_word w ≡ Some (u_form make w) → x ≡ rd w
-    → y ≡ bits 12 20 w → Some (make x y) ≡ ins_of_word w
-u_row make w x y found p q = rw (p, q) (sym found)
+pub u_row : (w : ℕ) (at : Fields) (make : ℕ → ℕ → Ins) → ins_of_word w ≡ Some (u_form make w)
+    → AreFieldsOf w at → IsRead w (make at.rd at.upper)
+u_row w at make found h = is_read _ _ (rw (h.rd, h.upper) (sym found))
 
-pub j_row : (make : ℕ → ℤ → Ins) (w x : ℕ) (i : ℤ) → ins_of_word w ≡ Some (j_form make w) → x ≡ rd w
-    → SFits w32 i → i ≡ j_imm w → Some (make x (to_z w32 (of_z w32 i))) ≡ ins_of_word w
-j_row make w x i found p within q = rw (to_z-of_z w32 i within, p, q) (sym found)
+pub j_row : (w : ℕ) (at : Fields) (make : ℕ → ℤ → Ins) → ins_of_word w ≡ Some (j_form make w)
+    → AreFieldsOf w at → SFits w32 at.j_imm
+    → IsRead w (make at.rd (to_z w32 (of_z w32 at.j_imm)))
+j_row w at make found h within =
+    is_read _ _ (rw (to_z-of_z w32 _ within, h.rd, h.j_imm) (sym found))
 
-pub fence_row : (make : ℕ → ℕ → ℕ → Ins) (w x y z : ℕ) → ins_of_word w ≡ Some (fence_form make w)
-    → x ≡ rd w → y ≡ rs1 w → z ≡ bits 20 12 w → Some (make x y z) ≡ ins_of_word w
-fence_row make w x y z found p q r = rw (p, q, r) (sym found)
+pub fence_row : (w : ℕ) (at : Fields) (make : ℕ → ℕ → ℕ → Ins)
+    → ins_of_word w ≡ Some (fence_form make w) → AreFieldsOf w at
+    → IsRead w (make at.rd at.rs1 at.bits)
+fence_row w at make found h = is_read _ _ (rw (h.rd, h.rs1, h.bits) (sym found))
 
 -- no row of these fits
 abbrev pub FitsNone : List (Key × (ℕ → Ins)) → ℕ → Type 0
@@ -103,9 +133,8 @@ pub no_row : (w : ℕ) → FitsNone table w → None ≡ ins_of_word w
 unfolding ins_of_word
 no_row w h = sym (none_of table w h)
 
-pub whole_row : (make : Ins) (w v : ℕ) → ins_of_word v ≡ Some make → w ≡ v
-    → Some make ≡ ins_of_word w
-whole_row make w v found e = sym (ap ins_of_word e ∙ found)
+pub whole_row : (make : Ins) (w v : ℕ) → ins_of_word v ≡ Some make → w ≡ v → IsRead w make
+whole_row make w v found e = is_read _ _ (sym (ap ins_of_word e ∙ found))
 
 pub not_whole : (w v : ℕ) → (w ≡ v → ⊥) → false ≡ fits_key (Whole v) w
 not_whole w v h = grind arith

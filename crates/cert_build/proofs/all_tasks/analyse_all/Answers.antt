@@ -82,18 +82,3 @@ returns-in_err-analysis c =
     (λ j l. code_is_graph _
     (c.graphs_law.ensures j no_graph (omega (arith, l, c.requires.tasks.all_graphs))))
     (omega (arith, gl, c.requires.tasks.all_graphs)) c.loop-k.invariant refused)
-
-pub bounds-nests-k : goal.bounds-nests-k
-bounds-nests-k c =
-    omega (
-      arith,
-      c.loop-k-test.true,
-      c.requires.tasks.all_graphs,
-      c.requires.tasks.all_nests,
-    )
-
-pub returns-in_err-push : goal.returns-in_err-push
-returns-in_err-push c =
-    let p = err_from_is_err_and c.from_residual-in_err-push.result
-    c.from_residual-in_err-push.ensures.1 in
-    rw (p.1, p.2) tt

@@ -73,9 +73,3 @@ pub part-requires-clause-source : goal.part-requires-clause-source
 part-requires-clause-source c =
     c.requires.sources.each c.loop-i.i
     (omega (arith, c.requires.sources.tasks, c.loop-i-test.true))
-
-pub returns-in_err-push-clause-parts : goal.returns-in_err-push-clause-parts
-returns-in_err-push-clause-parts c =
-    let p = err_from_is_err_and c.from_residual-in_err-push.result
-    c.from_residual-in_err-push.ensures.1 in
-    rw (p.1, p.2) tt

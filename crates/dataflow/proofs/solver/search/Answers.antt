@@ -4,8 +4,7 @@ use Rattle.std.proofs.Common.{MatchOption, Option, List, Bool}
 use Rattle.std.proofs.Math.Seq.{take-append_seam}
 use Rattle.std.proofs.lemmas.List.{get_or_default, get_or_past, length-set}
 use Rattle.dataflow.specs.Problem.{Problem, fact_at}
-use Rattle.dataflow.specs.Inner.Search.{IsPartialSolution, IsPassedOn, IsVisitOrder, waits}
-use Rattle.dataflow.specs.Inner.Search.{work_left}
+use Rattle.dataflow.specs.Inner.Search.{IsPartialSolution, IsPassedOn, waits, work_left}
 use Rattle.dataflow.proofs.Solution.{is_fact, is_least}
 use Rattle.dataflow.proofs.Steps.{at_start, taken, taken_empty, its_source, solved}
 use Rattle.dataflow.proofs.Left.{left_taken}
@@ -180,33 +179,3 @@ loop-node-smaller g c =
 
 pub returns-clause-nodes : goal.returns-clause-nodes
 returns-clause-nodes g c = c.loop-node.invariant.nodes
-
-pub new-requires : goal.new-requires
-new-requires g c =
-    subst (λ n. IsVisitOrder n c.in_ok-order.order.items) (sym c.nodes.ensures)
-    c.in_ok-order.ensures
-
-pub first_facts-requires : goal.first_facts-requires
-first_facts-requires g c = c.requires
-
-pub index-requires : goal.index-requires
-index-requires g c =
-    omega (
-      arith,
-      c.loop-node.facts.ok,
-      c.in-Some.ensures.0,
-      c.loop-node.invariant.nodes,
-      c.loop-node.invariant.waiting,
-    )
-
-pub fact_after-value-requires : goal.fact_after-value-requires
-fact_after-value-requires g c =
-    c.requires c.in-Some.node (omega (arith, c.in-Some.ensures.0, c.loop-node.invariant.waiting))
-
-pub pass_on-requires-clause-node : goal.pass_on-requires-clause-node
-pass_on-requires-clause-node g c =
-    omega (arith, c.in-Some.ensures.0, c.loop-node.invariant.waiting)
-
-pub pass_on-requires-clause-facts : goal.pass_on-requires-clause-facts
-pass_on-requires-clause-facts g c =
-    omega (arith, c.deref_mut.ensures.len, c.loop-node.invariant.nodes)

@@ -51,13 +51,3 @@ returns-clause-count c =
     omega (arith, c.write_hits.auto.hits, c.as_mut_slice.ensures.len) in
     ap length (take_at new (drop (length new) c.in_ok-hits.hits.items) c.in_ok-hits.hits.len all)
     ∙ c.write_hits.ensures.count
-
-pub write_hits-requires-clause-count : goal.write_hits-requires-clause-count
-write_hits-requires-clause-count c =
-    omega (
-      arith,
-      c.as_mut_slice.ensures.len,
-      c.in_ok-hits.ensures,
-      c.in_ok-hits.hits.ok,
-      c.len-size.ensures,
-    )

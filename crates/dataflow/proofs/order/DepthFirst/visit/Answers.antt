@@ -1,6 +1,6 @@
 use Rattle.std.proofs.Common.{◌<◌, Some, [], ◌∷◌, ◌++◌, length, ap, ◌∙◌, arith, refl}
 use Rattle.dataflow.proofs.Depth.{find, follow, leave, its_edge, same_search, falls_once}
-use Rattle.dataflow.proofs.Depth.{falls_twice, still_found}
+use Rattle.dataflow.proofs.Depth.{falls_twice}
 use Rattle.dataflow.proofs.Chain.{read_before, falls_back}
 use Rattle.dataflow.proofs.order.DepthFirst.visit.Goals as goal
 
@@ -78,33 +78,3 @@ returns-in_ok-push-in-None-clause-search g c =
     (leave (g.G.Flow.node_count c.args.flow.now) (g.G.Flow.edge_count c.args.flow.now)
     c.args.self.now.seen.items c.args.self.now.next.items _ c.args.self.now.left.items c.args.node
     c.requires.node c.requires.search)
-
-pub index-requires : goal.index-requires
-index-requires g c =
-    omega (arith, c.args.self.now.next.ok, c.requires.search.next_nodes, c.requires.node)
-
-pub index_mut-requires : goal.index_mut-requires
-index_mut-requires g c =
-    omega (arith, c.args.self.now.next.ok, c.requires.search.next_nodes, c.requires.node)
-
-pub find-requires : goal.find-requires
-find-requires g c =
-    omega (
-      arith,
-      c.args.self.now.seen.ok,
-      c.requires.search.seen_nodes,
-      c.edge-target.ensures.target,
-    )
-
-pub returns-in_ok-find-in-Some-clause-seen : goal.returns-in_ok-find-in-Some-clause-seen
-returns-in_ok-find-in-Some-clause-seen g c = λ n was.
-    let target : c.edge-target.result.1 < length c.args.self.now.seen.items =
-    omega (arith, c.requires.search.seen_nodes, c.edge-target.ensures.target) in
-    still_found c.args.self.now.seen.items c.find.new.self.seen.items n c.edge-target.result.1
-    c.in_ok-find-in-Some.ensures.seen target was
-
-pub returns-in_ok-push-in-None-clause-seen : goal.returns-in_ok-push-in-None-clause-seen
-returns-in_ok-push-in-None-clause-seen g c = λ n was. was
-
-pub returns-in_ok-push-in-None-clause-falls : goal.returns-in_ok-push-in-None-clause-falls
-returns-in_ok-push-in-None-clause-falls g c = omega arith

@@ -1,11 +1,11 @@
-use Rattle.std.proofs.Common.{◌<◌, length, refl, ap, ◌∙◌, arith}
+use Rattle.std.proofs.Common.{◌<◌, length, ap, ◌∙◌, arith}
 use Rattle.std.proofs.lemmas.Grind.{get_or_default_zero}
 use Rattle.flat_graph.specs.CodeGraph.{graph_of}
 use Rattle.loop_regions.specs.CodeNest.{nest_of}
 use Rattle.loop_regions.specs.Potentials.{item_potential}
 use Rattle.loop_regions.proofs.Beside.{nested, one_last}
 use Rattle.exec_bound.specs.Costs.{listed_potentials}
-use Rattle.exec_bound.proofs.Values.{notes_none, notes_same, notes_exit}
+use Rattle.exec_bound.proofs.Values.{notes_same, notes_exit}
 use Rattle.exec_bound.proofs.costed.Costed.note_exits.Goals as goal
 
 pub loop-next-preserved-in-Exit : goal.loop-next-preserved-in-Exit
@@ -50,11 +50,3 @@ loop-next-preserved c =
           notes_same _ _ c.args.node.0 c.loop-next.yielded c.in-Some.next _ _ so_far.exits
           c.way.result c.way.ensures c.in_default.not-Exit;
     }
-
-pub loop-next-init : goal.loop-next-init
-loop-next-init c = record {
-  settled = refl;
-  nodes = refl;
-  loops = refl;
-  exits = notes_none _ _ c.args.node.0 c.args.values.now.exits.items;
-}
