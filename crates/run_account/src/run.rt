@@ -1,5 +1,5 @@
 // The account of a run.
-ghost use Rattle.std.specs.Prelude.{◌≡◌, ◌<◌, ◌≤◌, ◌+◌, ◌^◌, ℕ, ◌↔◌, ◌⊎◌, Some, length, map};
+ghost use Rattle.std.specs.Prelude.{◌≡◌, ◌<◌, ◌≤◌, ◌+◌, ◌^◌, ℕ, ◌↔◌, Some, length, map};
 ghost use Rattle.std.specs.Prelude.{slice_get, IfOk, OnOk, IsTrue};
 ghost use Rattle.crpd_base.specs.Ranges.{IsTaskSet};
 ghost use Rattle.loop_regions.specs.Nest.{Nest};
@@ -15,7 +15,7 @@ ghost use Rattle.run_account.specs.Account.{IsAccount, HasAccountFacts};
 ghost use Rattle.run_account.specs.Inner.Account.{entry_from_completions, IsTold};
 ghost use Rattle.run_account.specs.Ledger.{IsLedger};
 ghost use Rattle.run_account.specs.Inner.Runs.{run_graphs, run_start, run_certificate, flags_of};
-ghost use Rattle.run_account.specs.Inner.Runs.{AreHits, IsFetched, IsQuick, HasAccountInput};
+ghost use Rattle.run_account.specs.Inner.Runs.{AreHits, IsFetched, HasAccountInput};
 ghost use Rattle.run_account.specs.Inner.Runs.{IsRunning, IsSoFar};
 ghost use Rattle.preempt_machine.specs.Starts.{start_of_script};
 ghost use Rattle.run_account.specs.AccountGraphs.{with_nests, AreGraphsOf, TasksAreMet, SetsAreMet};
@@ -70,16 +70,6 @@ fn all_hits(
     Ok(all)
 }
 
-impl Run<'_> {
-    /// Whether an instruction that misses may end in the cycle of its fetch.
-    fn is_quick(&self) -> bool
-        requires { HasAccountInput self.now }
-        ensures { IsTrue result ↔ IsQuick self.now.set.now.platform }
-    {
-        self.set.platform.hit + self.set.platform.miss < 2
-    }
-}
-
 /// The first cycle from now on in which a job may be ready, at most a cycle behind it; jobs by
 /// their completions.
 fn idle_until(lines: &[ScriptJob], completions: &[Completion], now: u64, cycles: u64) -> u64
@@ -119,23 +109,6 @@ fn is_reload(counted: bool, access: Access) -> bool
     }
 }
 
-/// Whether no watch was broken before a fetch that missed, as far as it has to be looked at after
-/// the fetch.
-fn was_kept(run: &Run<'_>, machine: &Machine) -> bool
-    requires { HasAccountInput run.now }
-    ensures { IsTrue result ↔ (IsQuick run.now.set.now.platform ⊎ IsKept machine.now.state) }
-{
-    run.is_quick() || machine.kept()
-}
-
-/// Whether no watch is broken, as far as it has to be looked at before a fetch.
-fn is_kept_so_far(run: &Run<'_>, machine: &Machine) -> bool
-    requires { HasAccountInput run.now }
-    ensures { IsTrue result ↔ (IsQuick run.now.set.now.platform → IsKept machine.now.state) }
-{
-    !run.is_quick() || machine.kept()
-}
-
 impl Trails {
     /// Goes on to the node of a fetch of the job at a place, in its task's graph; gives whether the
     /// node is counted as a hit.
@@ -155,67 +128,50 @@ impl Trails {
         self.follow(&run.graphs[task], hits, place, fetch.address)
     }
 
-    /// Notes a fetch of the job at a place, after which the machine stands as it is. False where it
-    /// finds that a watch was broken before the fetch, so that neither this fetch nor a later one
-    /// is a reload.
-    fn note(
-        &mut self,
-        run: &Run<'_>,
-        machine: &Machine,
-        fetch: &Fetch,
-        place: usize,
-        now: u64,
-    ) -> Result<bool, Memory>
+    /// Notes a fetch of the job at a place, before which no watch was broken.
+    fn note(&mut self, run: &Run<'_>, fetch: &Fetch, place: usize, now: u64) -> Result<(), Memory>
         requires ready { HasAccountInput run.now }
-        requires running { IsRunning run.now (now + 1) machine.now }
-        requires quick { IsQuick run.now.set.now.platform → IsKept (state (run_start run.now) now) }
+        requires kept { IsKept (state (run_start run.now) now) }
         requires fetched { IsFetched run.now now place fetch.now }
         requires noted { AreTrailsOf (run_start run.now) (run_graphs run.now)
             (run_certificate run.now) now self.old }
-        ensures { IfOk result (λ on. IsSoFar run.now (now + 1) on self.new) }
+        ensures { OnOk result (AreTrailsOf (run_start run.now) (run_graphs run.now)
+            (run_certificate run.now) (now + 1) self.new) }
     {
         let counted = self.follow_fetch(run, fetch, place);
         self.close_gap(run.script.jobs.as_slice(), place, now)?;
         let geometry = Geometry::new(&run.set.platform);
         let set = geometry.set(geometry.block(fetch.address));
         if is_reload(counted, fetch.access) {
-            if was_kept(run, machine) {
-                self.enter(place, set, now)?;
-            } else {
-                return Ok(false);
-            }
+            self.enter(place, set, now)?;
         }
         self.touch(place, set, now);
-        Ok(true)
+        Ok(())
     }
 
-    /// Makes a cycle of a run, and notes its fetch. False where it finds that a watch was broken
-    /// before it.
-    fn make_cycle(&mut self, machine: &mut Machine, run: &Run<'_>) -> Result<bool, Memory>
+    /// Makes a cycle of a run, before which no watch is broken, and notes its fetch.
+    fn make_cycle(&mut self, machine: &mut Machine, run: &Run<'_>) -> Result<(), Memory>
         requires ready { HasAccountInput run.now }
         requires running { IsRunning run.now machine.old.state.time machine.old }
-        requires within { machine.old.state.time < run.now.script.now.cycles }
         requires later { machine.old.state.time + 1 < 2 ^ 64 }
-        requires quick { IsQuick run.now.set.now.platform → IsKept machine.old.state }
+        requires kept { IsKept machine.old.state }
         requires noted { AreTrailsOf (run_start run.now) (run_graphs run.now)
             (run_certificate run.now) machine.old.state.time self.old }
         ensures running { OnOk result (IsRunning run.now machine.new.state.time machine.new) }
-        ensures within { OnOk result (machine.new.state.time ≤ run.now.script.now.cycles) }
-        ensures so_far { IfOk result (λ on. IsSoFar run.now machine.new.state.time on self.new) }
-        ensures forth { IfOk result
-            (λ on. IsTrue on → machine.old.state.time < machine.new.state.time) }
-        ensures back { OnOk result (machine.old.state.time ≤ machine.new.state.time) }
+        ensures next { OnOk result (machine.new.state.time ≡ machine.old.state.time + 1) }
+        ensures noted { OnOk result (AreTrailsOf (run_start run.now) (run_graphs run.now)
+            (run_certificate run.now) machine.new.state.time self.new) }
     {
         let now = machine.steps();
         machine.cycle(run.code)?;
         let Some(fetch) = machine.last_fetch() else {
-            return Ok(true);
+            return Ok(());
         };
         let Some(place) = machine.owner_place() else {
             unreachable!()
         };
-        let on = self.note(run, machine, &fetch, place, now)?;
-        Ok(on)
+        self.note(run, &fetch, place, now)?;
+        Ok(())
     }
 
     /// The first cycle from now on in which a job may be ready, by a look through the jobs where
@@ -264,9 +220,9 @@ impl Trails {
         if until > machine.steps() {
             machine.run_until(run.code, until)?;
             Ok(true)
-        } else if is_kept_so_far(run, machine) {
-            let on = self.make_cycle(machine, run)?;
-            Ok(on)
+        } else if machine.kept() {
+            self.make_cycle(machine, run)?;
+            Ok(true)
         } else {
             Ok(false)
         }

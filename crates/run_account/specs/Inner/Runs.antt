@@ -78,10 +78,6 @@ pub record IsRunning (r : Run) (n : ℕ) (m : Running) : Type 0 where
   pub state : m.state ≡ state (run_start r) n
   pub plans : HasPlans r.code.now m.state
 
--- an instruction that misses may end in the cycle of its fetch
-abbrev pub IsQuick : Platform → Type 0
-IsQuick p = p.hit + p.miss < 2
-
 -- the fetches of the first n steps are noted, or none of those that are not is a reload of the
 -- ledger
 abbrev pub IsSoFar : Run → ℕ → Bool → Trails → Type 0
