@@ -4,11 +4,8 @@ use Rattle.std.proofs.Common.{inl, inr, arith}
 use Rattle.std.specs.Prelude.{◌==◌, if◌then◌else◌}
 use Rattle.std.proofs.lemmas.Bool.{cases_Bool, false≢true, and_parts, eq-eqb, eqb-true}
 use Rattle.crpd_base.proofs.Sums.{sum_le, sum_times, sum_ge, sum_swap}
-use Rattle.crpd_base.specs.Sum.{sum_below}
+use Rattle.crpd_base.specs.Sum.{sum_below, one_if}
 use Rattle.sound_laws.proofs.Windows.Releases.{count, one_le, count_none, at_most_one}
-
-abbrev one_if : Bool → ℕ
-one_if b = if b then 1 else 0
 
 -- what passes is counted with one of the values that it maps to
 pub spread : (p : ℕ → Bool) (f : ℕ → ℕ) (n m : ℕ) → ((x : ℕ) → x < n → p x ≡ true → f x < m)

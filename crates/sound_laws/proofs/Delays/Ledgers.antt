@@ -2,13 +2,14 @@
 -- they are made, are within both delays.
 use Rattle.std.proofs.Common.{◌≡◌, ℕ, zero, suc, ◌+◌, ◌-◌, ◌*◌, ◌<◌, ◌≤◌, Bool, true, false, ◌&&◌}
 use Rattle.std.proofs.Common.{List, [], ◌∷◌, length, refl, sym, ◌∙◌, ap, subst, inl, inr, arith}
-use Rattle.std.proofs.Common.{nat_lt, nat_le, if◌then◌else◌, cond, mul-le-mul_left, mul_comm}
+use Rattle.std.proofs.Common.{nat_lt, nat_le, cond, mul-le-mul_left, mul_comm}
 use Rattle.std.specs.Prelude.{◌==◌, All, AllPairs}
 use Rattle.std.specs.List.{list_any, count_by}
 use Rattle.std.proofs.lemmas.Bool.{cases_Bool, false≢true, and_parts, or_cases, ltb-true, leb-true}
 use Rattle.std.proofs.lemmas.Bool.{eqb-true, eq-eqb, or_right}
 use Rattle.std.proofs.lemmas.List.{get_or_default}
 use Rattle.std.proofs.lemmas.List.Recursion.{is_count_by}
+use Rattle.crpd_base.specs.Sum.{one_if}
 use Rattle.crpd_base.proofs.Sums.{sum_change}
 use Rattle.crpd_base.specs.declared.data.TaskSet.{TaskSet}
 use Rattle.crpd_base.specs.declared.data.Certificate.{Certificate}
@@ -38,9 +39,6 @@ how_many p (e ∷ es) = cond (p e) (1 + how_many p es) (how_many p es)
 
 abbrev made_at : (LedgerReload → Bool) → List LedgerReload → ℕ → Bool
 made_at p es n = list_any (λ (e : LedgerReload). (e.time == n) && p e) es
-
-abbrev one_if : Bool → ℕ
-one_if b = if b then 1 else 0
 
 -- the reload at a step
 pub record IsMade (P : LedgerReload → Type 0) (p : LedgerReload → Bool) (n : ℕ) : Type 0 where
