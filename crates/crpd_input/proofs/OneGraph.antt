@@ -1,20 +1,18 @@
 -- A task has one flat graph at most, and either a graph or one refusal.
-use Rattle.std.proofs.Common.{◌≡◌, ◌≢◌, ℕ, zero, suc, ◌<◌, ◌≤◌, Bool, true, false, List, [], ◌∷◌}
-use Rattle.std.proofs.Common.{Option, Some, None, Result, Ok, Err, length, refl, sym, ap, ◌∙◌}
-use Rattle.std.proofs.Common.{subst, inl, inr, arith}
-use Rattle.std.specs.Prelude.{if◌then◌else◌, AllPairs, Contains, map, slice_get}
+use Rattle.std.proofs.Common.{◌≡◌, ◌≢◌, ℕ, zero, suc, ◌<◌, ◌≤◌, List, [], ◌∷◌, Some}
+use Rattle.std.proofs.Common.{Result, Ok, Err, length, refl, sym, ap, ◌∙◌, subst, inl, inr, arith}
+use Rattle.std.specs.Prelude.{AllPairs, Contains, map, slice_get}
 use Rattle.std.specs.declared.cmp.Ordering.{Ordering}
 use Rattle.std.specs.declared.cmp.Ordering.TheVariants.{Less, Equal, Greater}
-use Rattle.std.specs.Ordering.{nat_cmp, ordering_reverse, ordering_then}
-use Rattle.std.specs.Cmp.Lexicographic.{slice_cmp}
+use Rattle.std.specs.Ordering.{ordering_reverse}
 use Rattle.std.proofs.lemmas.List.{ext_get_or}
 use Rattle.std.proofs.lemmas.List.Elements.{All-contains}
 use Rattle.flat_graph.proofs.SameCode.{some_word}
 use Rattle.crpd_base.proofs.Elements.{at_head, at_rest, head_or_rest, in_none, at_contains, some_at}
 use Rattle.crpd_base.proofs.Elements.{pairs_head, pairs_tail, same_places}
-use Rattle.crpd_base.proofs.Options.{not_none}
+use Rattle.crpd_base.proofs.Options.{not_none, some_injective}
 use Rattle.crpd_base.specs.declared.data.TaskPlan.{TaskPlan}
-use Rattle.rv_decode.specs.Flow.{Flow, Flows, Words, flows}
+use Rattle.rv_decode.specs.Flow.{Flows, Words, flows}
 use Rattle.rv_decode.specs.Table.{ins_of_word}
 use Rattle.code_map.specs.Words.{word_at}
 use Rattle.flat_graph.specs.CodeGraph.{CodeGraph, IsCodeGraph, graph_of, no_node, node_of}
@@ -22,17 +20,18 @@ use Rattle.flat_graph.specs.CodeGraph.{places_of}
 use Rattle.flat_graph.specs.Numbered.{ArePlaces, IsFlatGraph}
 use Rattle.flat_graph.specs.FlatGraph.{FlatNode, NodeError, IsNode, IsNumberedBefore, IsNumbering}
 use Rattle.flat_graph.specs.FlatGraph.{IsGraphRefused, GraphRefusal, TooManyNodes, AtNode}
-use Rattle.flat_graph.specs.FlatGraph.{ins_error, error_of, successors}
+use Rattle.flat_graph.specs.FlatGraph.{error_of, successors}
 use Rattle.flat_graph.specs.FlatGraph as flat
 use Rattle.flat_graph.specs.GraphErrors.{IsGraphError}
 use Rattle.flat_graph.specs.Inner.GraphErrors.{graph_error}
+use Rattle.flat_graph.specs.Inner.NumberingOrder.{flat_cmp}
 use Rattle.flat_graph.specs.declared.fault.GraphError.{GraphError}
 use Rattle.flat_graph.specs.declared.fault.GraphError.TheVariants as graph
 use Rattle.crpd_input.specs.declared.input.Input.{Input}
 use Rattle.crpd_input.specs.declared.halt.Halt.{Halt}
 use Rattle.crpd_input.specs.Graphs.{GraphAt, IsGraphOrNot, graph_halt, name_at}
 use Rattle.flat_graph.proofs.Order.{before_one_way, flat_equal, flat_less, not_before_same}
-use Rattle.flat_graph.proofs.Order.{flat_total}
+use Rattle.flat_graph.proofs.Order.{flat_order}
 
 -- ---- lists of nodes in order
 
@@ -139,12 +138,6 @@ one_row xs is js ns h = same_places (slice_get xs) (slice_get xs)
 
 -- ---- graphs
 
--- an address without a word is an error
-no_word : (code : Flows) (entry : ℕ) (c : List ℕ) (t : Bool) (o : Option (Option Flow)) → o ≡ None
-    → (if t then ins_error code entry c o else Some flat.Misaligned) ≡ None → ⊥
-no_word code entry c true o none e = let f = rw none at e in cc
-no_word code entry c false o none e = cc
-
 module _ (words : Words) (entry : ℕ) (g h : CodeGraph) (X : IsCodeGraph words entry g)
     (Y : IsCodeGraph words entry h) where
   same_nodes : X.nodes ≡ Y.nodes
@@ -200,10 +193,6 @@ not_both words entry g TooManyNodes X few more =
 not_both words entry g (AtNode e a) X few at =
     not_none (error_of (flows words) entry at.1) e (X.no_errors at.1 at.2) at.3
 
--- by context, then by address
-abbrev flat_cmp : FlatNode → FlatNode → Ordering
-flat_cmp n m = ordering_then (slice_cmp nat_cmp n.context m.context) (nat_cmp n.address m.address)
-
 neither_before : (n m : FlatNode) → (IsNumberedBefore n m → ⊥) → (IsNumberedBefore m n → ⊥) → n ≡ m
 neither_before n m one other = by_order (flat_cmp n m) refl
   where
@@ -211,7 +200,7 @@ neither_before n m one other = by_order (flat_cmp n m) refl
     by_order Less e = absurd (one (flat_less n m e))
     by_order Equal e = flat_equal n m e
     by_order Greater e =
-        absurd (other (flat_less m n (flat_total.antisymm m n ∙ ap ordering_reverse e)))
+        absurd (other (flat_less m n (flat_order.antisymm m n ∙ ap ordering_reverse e)))
 
 same_error : (code : Flows) (entry : ℕ) (n m : FlatNode) (e d : NodeError) (a b : ℕ) → n ≡ m
     → error_of code entry n ≡ Some e → error_of code entry m ≡ Some d → n.address ≡ a
@@ -285,8 +274,5 @@ module _ (input : Input) (k : ℕ) (plan : TaskPlan) where
 pub one_graph_at : (input : Input) (k : ℕ) (r s : Result CodeGraph Halt) → GraphAt input k r
     → GraphAt input k s → r ≡ s
 one_graph_at input k r s x y =
-    let same : x.0 ≡ y.0 = some_same x.0 y.0 (sym x.1 ∙ y.1) in
+    let same : x.0 ≡ y.0 = some_injective (sym x.1 ∙ y.1) in
     one_ending input k x.0 r s x.2 (subst (λ p. IsGraphOrNot input k p s) (sym same) y.2)
-  where
-    some_same : (a b : TaskPlan) → Some a ≡ Some b → a ≡ b
-    some_same a b e = cc
