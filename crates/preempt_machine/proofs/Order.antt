@@ -1,7 +1,7 @@
 -- The order of jobs, and the first of the ready ones.
 use Rattle.std.proofs.Common.{◌≡◌, ℕ, zero, suc, ◌<◌, ◌⊎◌, true, false, List, Option, Some, None}
-use Rattle.std.proofs.Common.{refl, sym, ◌∙◌, subst, inl, inr, arith}
-use Rattle.std.proofs.lemmas.Bool.{cases_Bool, cases_lt, false≢true}
+use Rattle.std.proofs.Common.{refl, sym, ◌∙◌, inl, inr, arith, below_more}
+use Rattle.std.proofs.lemmas.Bool.{cases_Bool, false≢true}
 use Rattle.std.proofs.lemmas.Bool.Decides.{nat_tests}
 use Rattle.crpd_base.specs.declared.data.ScriptJob.{ScriptJob}
 use Rattle.preempt_machine.specs.Machine.{Job, job_at}
@@ -35,13 +35,6 @@ abbrev pub IsBest : ℕ → List Job → ℕ → Option ℕ → Type 0
 IsBest time jobs n None = (j : ℕ) → j < n → is_ready time (job_at jobs j) ≡ false
 IsBest time jobs n (Some i) = IsFirst time jobs n i
 
--- what holds below n and at n holds below n + 1
-one_more : (P : ℕ → Type 0) (n : ℕ) → ((j : ℕ) → j < n → P j) → P n → (j : ℕ) → j < suc n → P j
-one_more P n below here j h = elim (cases_lt j n) [
-  | inl l ↦ below j l
-  | inr g ↦ let e : n ≡ j = omega arith in subst P e here
-]
-
 better_is : (time : ℕ) (jobs : List Job) (n : ℕ) (best : Option ℕ) → IsBest time jobs n best
     → IsBest time jobs (suc n) (better_candidate time jobs n best)
 better_is time jobs n None h =
@@ -49,12 +42,13 @@ better_is time jobs n None h =
       | inl r ↦ rw r (record {
         below = omega arith;
         ready = r;
-        first =
-            one_more (λ j. is_ready time (job_at jobs j) ≡ true
-            → (j ≡ n) ⊎ (before jobs n j ≡ true)) n (λ j l q. absurd (false≢true (sym (h j l) ∙ q)))
-            (λ q. inl refl);
+        first = λ j m.
+            below_more (λ k. is_ready time (job_at jobs k) ≡ true
+            → (k ≡ n) ⊎ (before jobs n k ≡ true)) n (λ k l q. absurd (false≢true (sym (h k l) ∙ q)))
+            (λ q. inl refl) j (omega arith);
       })
-      | inr r ↦ rw r (one_more (λ j. is_ready time (job_at jobs j) ≡ false) n h r)
+      | inr r ↦ rw r (λ j m.
+          below_more (λ k. is_ready time (job_at jobs k) ≡ false) n h r j (omega arith))
     ]
 better_is time jobs n (Some i) h =
     elim (cases_Bool (is_ready time (job_at jobs n))) [
@@ -62,35 +56,35 @@ better_is time jobs n (Some i) h =
         | inl b ↦ rw (r, b) (record {
           below = omega arith;
           ready = r;
-          first =
-              one_more (λ j. is_ready time (job_at jobs j) ≡ true
-              → (j ≡ n) ⊎ (before jobs n j ≡ true)) n
-              (λ j l q. elim (h.first j l q) [
+          first = λ j m.
+              below_more (λ k. is_ready time (job_at jobs k) ≡ true
+              → (k ≡ n) ⊎ (before jobs n k ≡ true)) n
+              (λ k l q. elim (h.first k l q) [
                 | inl e ↦ inr (rw e b)
                 | inr c ↦
                     inr (comes_before_trans (job_at jobs n).line n (job_at jobs i).line i
-                    (job_at jobs j).line j b c)
+                    (job_at jobs k).line k b c)
               ])
-              (λ q. inl refl);
+              (λ q. inl refl) j (omega arith);
         })
         | inr b ↦ rw (r, b) (record {
           below = omega (arith, h.below);
           ready = h.ready;
-          first =
-              one_more (λ j. is_ready time (job_at jobs j) ≡ true
-              → (j ≡ i) ⊎ (before jobs i j ≡ true)) n h.first
+          first = λ j m.
+              below_more (λ k. is_ready time (job_at jobs k) ≡ true
+              → (k ≡ i) ⊎ (before jobs i k ≡ true)) n h.first
               (λ q. inr
               (comes_before_total (job_at jobs n).line n (job_at jobs i).line i b
-              (λ e. omega (arith, h.below))));
+              (λ e. omega (arith, h.below)))) j (omega arith);
         })
       ]
       | inr r ↦ rw r (record {
         below = omega (arith, h.below);
         ready = h.ready;
-        first =
-            one_more (λ j. is_ready time (job_at jobs j) ≡ true
-            → (j ≡ i) ⊎ (before jobs i j ≡ true)) n h.first
-            (λ q. absurd (false≢true (sym r ∙ q)));
+        first = λ j m.
+            below_more (λ k. is_ready time (job_at jobs k) ≡ true
+            → (k ≡ i) ⊎ (before jobs i k ≡ true)) n h.first
+            (λ q. absurd (false≢true (sym r ∙ q))) j (omega arith);
       })
     ]
 
