@@ -7,23 +7,10 @@ use Rattle.dataflow.specs.Variable.{one_if_live}
 use Rattle.dataflow.specs.declared.variable.Use.{Use}
 use Rattle.dataflow.specs.declared.variable.Use.TheVariants.{Reads, Writes, Neither}
 use Rattle.std.proofs.lemmas.Bool.{cases_eq}
-
-or_same : (a : Bool) → (a || a) ≡ a
-or_same true = refl
-or_same false = refl
-
-or_swapped : (a b : Bool) → (a || b) ≡ (b || a)
-or_swapped true true = refl
-or_swapped true false = refl
-or_swapped false true = refl
-or_swapped false false = refl
-
-or_grouped : (a b c : Bool) → ((a || b) || c) ≡ (a || (b || c))
-or_grouped true b c = refl
-or_grouped false b c = refl
+use Rattle.std.proofs.Math.Bool.{or_self, or_comm, or_assoc}
 
 pub or_joins : IsSemilattice Bool (λ a b. a || b)
-or_joins = record { same = or_same; swapped = or_swapped; grouped = or_grouped }
+or_joins = record { same = or_self; swapped = or_comm; grouped = or_assoc }
 
 pub live_distributes : (u : Use) (a b : Bool)
     → live_before u (a || b) ≡ (live_before u a || live_before u b)
