@@ -2,13 +2,14 @@
 use Rattle.std.proofs.Common.{◌≡◌, ◌≢◌, ℕ, ◌+◌, ◌<◌, ◌≤◌, ◌⊎◌, ⊎_elim, inl, inr, List, [], ◌∷◌}
 use Rattle.std.proofs.Common.{◌++◌, Bool, true, false, length, get_or, set, ap, sym, ◌∙◌, subst}
 use Rattle.std.proofs.Common.{arith, Option, Some, None, length-append, get_or-set_same}
-use Rattle.std.proofs.Common.{get_or-set_other, suc, reverse, ◌-◌}
+use Rattle.std.proofs.Common.{get_or-set_other, suc, reverse, ◌-◌, refl}
 use Rattle.std.specs.List.{sum_by}
 use Rattle.std.proofs.lemmas.Bool.{cases_eq, cases_lt}
 use Rattle.std.proofs.lemmas.List.{get_or_append_left, length-set, get_or_past, get_or_default}
 use Rattle.std.proofs.lemmas.List.{get_or-reverse, length-reverse}
 use Rattle.std.proofs.lemmas.List.Sums.{sum_by-set}
 use Rattle.std.proofs.Math.Seq.{get_or-append_seam, get_or-append_right}
+use Rattle.crpd_base.proofs.Elements.{pushed_each}
 use Rattle.dataflow.specs.Inner.Search.{IsChained, IsInList, IsInDepth, IsVisitOrder, root_at}
 use Rattle.dataflow.specs.Inner.Search.{to_follow, past_edge}
 
@@ -33,14 +34,9 @@ at_either n m xs h = ⊎_elim
 all_below_more : (nodes m : ℕ) (xs : List ℕ) → ((i : ℕ) → i < length xs → get_or xs i 0 < nodes)
     → m < nodes
     → (i : ℕ) → i < length (xs ++ m ∷ []) → get_or (xs ++ m ∷ []) i 0 < nodes
-all_below_more nodes m xs h lt i below = ⊎_elim
-    (λ (front : i < length xs).
-    subst (λ x. x < nodes) (sym (get_or_append_left xs (m ∷ []) 0 i front)) (h i front))
-    (λ (ge : length xs ≤ i).
-    let last : i ≡ length xs = omega (arith, below, length-append xs (m ∷ [])) in
-    subst (λ x. x < nodes)
-    (sym (ap (λ j. get_or (xs ++ m ∷ []) j 0) last ∙ get_or-append_seam xs m [] 0)) lt)
-    (cases_lt i (length xs))
+all_below_more nodes m xs h lt i below =
+    pushed_each (λ j x. x < nodes) xs (xs ++ m ∷ []) m 0 (length xs) refl refl h lt i
+    (omega (arith, below, length-append xs (m ∷ [])))
 
 module _ (nodes edges : ℕ) where
   pub find : (seen : List Bool) (next : List (Option ℕ)) (path left : List ℕ) (n : ℕ) → n < nodes
