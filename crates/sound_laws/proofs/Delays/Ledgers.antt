@@ -1,35 +1,31 @@
 -- Step 6, ledger_within_delays: the ledger's reloads of a window, counted as the steps at which
 -- they are made, are within both delays.
-use Rattle.std.proofs.Common.{◌≡◌, ℕ, zero, suc, ◌+◌, ◌-◌, ◌*◌, ◌<◌, ◌≤◌, Bool, true, false, ◌&&◌}
-use Rattle.std.proofs.Common.{List, [], ◌∷◌, length, refl, sym, ◌∙◌, ap, subst, inl, inr, arith}
+use Rattle.std.proofs.Common.{◌≡◌, ℕ, suc, ◌+◌, ◌*◌, ◌<◌, ◌≤◌, Bool, true, false, ◌&&◌}
+use Rattle.std.proofs.Common.{List, [], ◌∷◌, refl, sym, ◌∙◌, ap, subst, inl, inr, arith}
 use Rattle.std.proofs.Common.{nat_lt, nat_le, cond, mul-le-mul_left, mul_comm}
 use Rattle.std.specs.Prelude.{◌==◌, All, AllPairs}
 use Rattle.std.specs.List.{list_any, count_by}
 use Rattle.std.proofs.lemmas.Bool.{cases_Bool, false≢true, and_parts, or_cases, ltb-true, leb-true}
 use Rattle.std.proofs.lemmas.Bool.{eqb-true, eq-eqb, or_right}
-use Rattle.std.proofs.lemmas.List.{get_or_default}
 use Rattle.std.proofs.lemmas.List.Recursion.{is_count_by}
 use Rattle.crpd_base.specs.Sum.{one_if}
 use Rattle.crpd_base.proofs.Sums.{sum_change}
 use Rattle.crpd_base.specs.declared.data.TaskSet.{TaskSet}
 use Rattle.crpd_base.specs.declared.data.Certificate.{Certificate}
-use Rattle.flow_watch.specs.Watch.{is_unbroken}
 use Rattle.loop_regions.specs.TaskGraph.{TaskGraph}
-use Rattle.preempt_machine.specs.Machine.{Job, no_job}
-use Rattle.preempt_machine.specs.Step.{is_open, Start, state}
-use Rattle.preempt_machine.specs.Safe.{IsKept}
+use Rattle.preempt_machine.specs.Machine.{Job}
+use Rattle.preempt_machine.specs.Step.{is_open, Start}
 use Rattle.preempt_machine.proofs.Runs.{over_stays}
 use Rattle.run_account.specs.Fetches.{job_after}
 use Rattle.run_account.specs.Nodes.{job_task}
 use Rattle.run_account.specs.Ledger.{LedgerReload, IsOfRun}
-use Rattle.run_account.proofs.Jobs.{jobs_length}
 use Rattle.run_account.proofs.AnswerTimes.{answered_by}
 use Rattle.sound_laws.specs.Windows.{HasWindow, EvictedBy, PreemptedBy}
 use Rattle.sound_laws.specs.Ledgers.{HasAnswered, is_reload_in_window, evicted_by, preempted_by}
 use Rattle.sound_laws.specs.Ledgers.{LedgerWithinDelays}
 use Rattle.sound_laws.proofs.Windows.Releases.{count, one_le}
 use Rattle.sound_laws.proofs.Counts.Counting.{count_le}
-use Rattle.run_account.proofs.JobWalks.{kept_before}
+use Rattle.run_account.proofs.ReloadFacts.{kept_at}
 use Rattle.sound_laws.proofs.Delays.WindowDelays.{reloads_within_delays}
 
 -- how many reloads pass a test, and whether one that passes is made at a step
@@ -126,28 +122,6 @@ module _ (s : Start) (set : TaskSet) (graphs : ℕ → TaskGraph) (c : Certifica
   answer_by : answer ≤ n
   answer_by = answered_by s n x answer H.answered
 
-  kept_down : (d m y : ℕ) → is_unbroken (job_after s (m + d) y).watch ≡ true
-      → is_unbroken (job_after s m y).watch ≡ true
-  kept_down zero m y k =
-      let e : m + 0 ≡ m = omega arith in subst (λ u. is_unbroken (job_after s u y).watch ≡ true) e k
-  kept_down (suc d) m y k =
-      let e : m + suc d ≡ suc (m + d) = omega arith in
-      kept_down d m y
-      (kept_before s graphs (m + d) y (subst (λ u. is_unbroken (job_after s u y).watch ≡ true) e k))
-
-  kept_job : (y : ℕ) → y < length s.lines → is_unbroken (job_after s answer y).watch ≡ true
-  kept_job y l =
-      let b = answer_by in
-      let e : answer + (n - answer) ≡ n = omega (arith, b) in
-      kept_down (n - answer) answer y
-      (subst (λ u. is_unbroken (job_after s u y).watch ≡ true) (sym e)
-      (H.kept y no_job (omega (arith, jobs_length s n, l))))
-
-  kept : IsKept (state s answer)
-  kept y d l =
-      rw (get_or_default (state s answer).jobs y d no_job l)
-      (kept_job y (omega (arith, l, jobs_length s answer)))
-
   open_before : (m : ℕ) → m < answer → is_open (job_after s m x).standing ≡ true
   open_before m l =
       elim (cases_Bool (is_open (job_after s m x).standing)) [
@@ -167,7 +141,7 @@ module _ (s : Start) (set : TaskSet) (graphs : ℕ → TaskGraph) (c : Certifica
         code = H.code;
         says = H.says;
         run = H.run;
-        kept = kept;
+        kept = kept_at s graphs answer n answer_by H.kept;
         job = H.job;
         starts = H.starts;
         open_before = open_before;

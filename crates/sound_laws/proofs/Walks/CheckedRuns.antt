@@ -1,5 +1,5 @@
 -- For steps 4 to 7: a kept run of a checked set, as one record, and what its jobs keep.
-use Rattle.std.proofs.Common.{◌≡◌, ℕ, zero, suc, ◌+◌, ◌-◌, ◌<◌, ◌≤◌, ◌≢◌, true, false, length, Some}
+use Rattle.std.proofs.Common.{◌≡◌, ℕ, ◌<◌, ◌≤◌, ◌≢◌, true, false, length, Some}
 use Rattle.std.proofs.Common.{refl, sym, ap, subst, arith}
 use Rattle.std.proofs.lemmas.Bool.{true≢false}
 use Rattle.std.proofs.lemmas.List.{get_or_past}
@@ -21,7 +21,8 @@ use Rattle.run_account.proofs.Owners.{candidate_at}
 use Rattle.run_account.proofs.AnswerTimes.{answered_by}
 use Rattle.sound_laws.specs.Walks.{HasTaskRanges, IsCodeOf, RunsLegally}
 use Rattle.sound_laws.proofs.Windows.Busy.{task_at}
-use Rattle.run_account.proofs.JobWalks.{kept_before, opened}
+use Rattle.run_account.proofs.JobWalks.{each_kept, opened}
+use Rattle.run_account.proofs.ReloadFacts.{kept_at as kept_then}
 use Rattle.sound_laws.proofs.Walks.KeptWalks.{below_at, task_below}
 
 -- what is asked of a run: a cache with an entry for each of the platform's sets, and jobs of the
@@ -103,22 +104,9 @@ module _ (K : CheckedRun) where
   pub is_below : (n x : ℕ) → candidate_at s n ≡ Some x → x < length s.lines
   is_below n x e = below_at s set graphs R C run.tasks n x e
 
-  pub kept_down : (d n x : ℕ) → is_unbroken (job_after s (n + d) x).watch ≡ true
-      → is_unbroken (job_after s n x).watch ≡ true
-  kept_down zero n x k =
-      let e : n + 0 ≡ n = omega arith in subst (λ m. is_unbroken (job_after s m x).watch ≡ true) e k
-  kept_down (suc d) n x k =
-      let e : n + suc d ≡ suc (n + d) = omega arith in
-      kept_down d n x
-      (kept_before s graphs (n + d) x (subst (λ m. is_unbroken (job_after s m x).watch ≡ true) e k))
-
   pub kept_at : (n x : ℕ) → n ≤ horizon → x < length s.lines
       → is_unbroken (job_after s n x).watch ≡ true
-  kept_at n x l h =
-      let e : n + (horizon - n) ≡ horizon = omega arith in
-      kept_down (horizon - n) n x
-      (subst (λ m. is_unbroken (job_after s m x).watch ≡ true) (sym e)
-      (kept x no_job (omega (arith, jobs_length s horizon, h))))
+  kept_at n x l h = each_kept s graphs n x h (kept_then s graphs n horizon l kept)
 
   pub past_over : (n x : ℕ) → length s.lines ≤ x → is_open (job_after s n x).standing ≡ false
   past_over n x g =
