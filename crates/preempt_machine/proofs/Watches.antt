@@ -57,9 +57,9 @@ broken_is : (w : Watch) → is_unbroken w ≡ false → w ≡ None
 broken_is None h = refl
 broken_is (Some frames) h = absurd (true≢false h)
 
-kept_before : (old new : Watch) → (old ≡ None → new ≡ None) → is_unbroken new ≡ true
+pub unbroken_before : (old new : Watch) → (old ≡ None → new ≡ None) → is_unbroken new ≡ true
     → is_unbroken old ≡ true
-kept_before old new stays k =
+unbroken_before old new stays k =
     elim (cases_Bool (is_unbroken old)) [
       | inl b ↦ b
       | inr b ↦ absurd (false≢true (ap is_unbroken (sym (stays (broken_is old b))) ∙ k))
@@ -82,7 +82,8 @@ step_changes sys m i e =
             ap (λ (j : Job). is_unbroken j.watch) (sym own)
             ∙ ap (λ y. is_unbroken (job_at (step sys m).jobs y).watch) (sym same) ∙ k in
             ap (λ y. is_unbroken (job_at m.jobs y).watch) same
-            ∙ kept_before (job_at m.jobs i).watch _ (turned_watch sys m.time (turn_of sys m i)) now
+            ∙ unbroken_before (job_at m.jobs i).watch _
+            (turned_watch sys m.time (turn_of sys m i)) now
         | inr ne ↦ ap (λ (j : Job). is_unbroken j.watch) (sym (other x ne)) ∙ k
       ];
     }

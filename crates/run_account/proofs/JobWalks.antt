@@ -3,7 +3,7 @@
 use Rattle.std.proofs.Common.{◌≡◌, ◌≢◌, ◌⊎◌, ℕ, zero, suc, ◌<◌, true, false, List, [], ◌∷◌, length}
 use Rattle.std.proofs.Common.{Option, Some, None, refl, sym, ◌∙◌, ap, subst, inl, inr, arith}
 use Rattle.std.specs.Prelude.{◌==◌, map}
-use Rattle.std.proofs.lemmas.Bool.{cases_Bool, cases_eq, eq-eqb, eqb-true, false≢true, true≢false}
+use Rattle.std.proofs.lemmas.Bool.{cases_Bool, cases_eq, eq-eqb, eqb-true, false≢true}
 use Rattle.std.proofs.lemmas.List.{get_or_default}
 use Rattle.crpd_base.proofs.Options.{some_injective, none_some, same_or_not}
 use Rattle.crpd_base.specs.declared.data.Certificate.{Certificate}
@@ -11,7 +11,7 @@ use Rattle.crpd_base.specs.declared.data.ScriptJob.{ScriptJob}
 use Rattle.crpd_base.specs.declared.data.TaskPlan.{TaskPlan}
 use Rattle.icache.specs.Accesses.{Accesses, accesses, last_access}
 use Rattle.icache.specs.Cache.{block_of, set_of}
-use Rattle.flow_watch.specs.Watch.{Watch, start, is_unbroken}
+use Rattle.flow_watch.specs.Watch.{start, is_unbroken}
 use Rattle.flat_graph.specs.FlatGraph.{FlatNode}
 use Rattle.flat_graph.specs.Graph.{IsWalk, Places}
 use Rattle.flat_graph.specs.Numbered.{node_at}
@@ -27,7 +27,7 @@ use Rattle.preempt_machine.specs.Step.{is_open, turn_of, makes_fetch, Fetch, Sta
 use Rattle.preempt_machine.proofs.Steps.{candidate_some, ready_open, step_own, step_other}
 use Rattle.preempt_machine.proofs.Steps.{fetch_says, fetch_left, open_is_below}
 use Rattle.preempt_machine.proofs.Runs.{state_line}
-use Rattle.preempt_machine.proofs.Watches.{turned_watch}
+use Rattle.preempt_machine.proofs.Watches.{turned_watch, unbroken_before}
 use Rattle.run_account.specs.Fetches.{job_after, fetched_set}
 use Rattle.run_account.specs.Nodes.{job_task, plan_at, node_of_job}
 use Rattle.run_account.specs.Reloads.{fetched_block, FetchesAt, HasOwn}
@@ -101,11 +101,6 @@ module _ (s : Start) (graphs : ℕ → TaskGraph) where
       ⊎ (fetched_nodes s graphs (suc n) x ≡ fetched_nodes s graphs n x)
   nodes_step n x = nodes_step_by n x (fetch_at s n) refl
 
-  -- a watch that is kept was kept before
-  broken : (w : Watch) → is_unbroken w ≡ false → w ≡ None
-  broken None h = refl
-  broken (Some frames) h = absurd (true≢false h)
-
   broken_step : (n x : ℕ) → (job_after s n x).watch ≡ None → (job_after s (suc n) x).watch ≡ None
   broken_step n x b =
       elim (same_or_not (candidate_at s n) (Some x)) [
@@ -115,13 +110,10 @@ module _ (s : Start) (graphs : ℕ → TaskGraph) where
         | inr ne ↦ ap (λ (j : Job). j.watch) (step_other s.system (state s n) x ne) ∙ b
       ]
 
+  -- a watch that is kept was kept before
   pub kept_before : (n x : ℕ) → is_unbroken (job_after s (suc n) x).watch ≡ true
       → is_unbroken (job_after s n x).watch ≡ true
-  kept_before n x k =
-      elim (cases_Bool (is_unbroken (job_after s n x).watch)) [
-        | inl b ↦ b
-        | inr b ↦ absurd (false≢true (ap is_unbroken (sym (broken_step n x (broken _ b))) ∙ k))
-      ]
+  kept_before n x k = unbroken_before (job_after s n x).watch _ (broken_step n x) k
 
   -- of a kept state each watch is kept
   pub each_kept : (n x : ℕ) → x < length s.lines → IsKept (state s n)
@@ -261,9 +253,6 @@ module _ (s : Start) (graphs : ℕ → TaskGraph) (A : HasGraphs s graphs) (x : 
       subst (λ i. (job_after s n i).pc ≡ f.address) made.by
       (sym (fetch_says s.system (state s n) f made.is).at)
 
-  no_own : (b : ℕ) → None ≡ Some b → ⊥
-  no_own b e = none_some e
-
   own_more : (n c b : ℕ) (o : Option Fetch) → fetch_at s n ≡ o
       → is_unbroken (job_after s n x).watch ≡ true
       → (last_access acc c (fetched_nodes s graphs n x) ≡ Some b → HasOwn s x c n b)
@@ -285,7 +274,7 @@ module _ (s : Start) (graphs : ℕ → TaskGraph) (A : HasGraphs s graphs) (x : 
 
   pub own_of_nodes : (n c b : ℕ) → is_unbroken (job_after s n x).watch ≡ true
       → last_access acc c (fetched_nodes s graphs n x) ≡ Some b → HasOwn s x c n b
-  own_of_nodes zero c b k e = absurd (no_own b e)
+  own_of_nodes zero c b k e = absurd (none_some e)
   own_of_nodes (suc n) c b k e =
       let kn = kept_before s graphs n x k in
       own_more n c b (fetch_at s n) refl kn (own_of_nodes n c b kn) e
