@@ -3,7 +3,7 @@ use Rattle.std.proofs.Common.{◌≡◌, ℕ, ◌+◌, ◌-◌, ◌<◌, ◌≤�
 use Rattle.std.proofs.Common.{◌++◌, length, slice_index, slice_index_or, sym, ap, ◌∙◌, subst}
 use Rattle.std.proofs.Common.{⊎_elim, arith, All}
 use Rattle.std.specs.Prelude.{nat_le, nat_lt, ◌||◌, ◌==◌}
-use borrow.Author.Tests.{ltb-true}
+use borrow.Author.Tests.{ltb-true, ltb-false}
 use Rattle.std.proofs.lemmas.Bool.{cases_lt, cases_Bool, cases_eq, eqb-true}
 use Rattle.std.proofs.lemmas.Bool.Decides.{nat_tests}
 use Rattle.std.proofs.lemmas.List.{get_or_default, get_or_append_left, length-append}
@@ -114,15 +114,12 @@ module _ (stated ranges : List (ℕ × ℕ)) (reaches : List ℕ) (R : AreRanges
           subst (λ r. in_range a r ≡ false) (get_or_default ranges k (0, 0) d lt)
           (in_false a (slice_index_or ranges k (0, 0)) (λ le. ends k lt le))
 
-  not_below : (v : ℕ) → nat_lt a v ≡ false → v ≤ a
-  not_below v f = grind (arith, nat_tests)
-
   pub below_reach : (v : ℕ) → 0 < begun → v ≡ slice_index reaches (begun - 1)
       → list_any (in_range a) stated ≡ nat_lt a v
   below_reach v some e =
       ⊎_elim
       (λ t. some_has some (subst (λ x. a < x) e (ltb-true a v t)) ∙ sym t)
-      (λ f. none_has (λ s. subst (λ x. x ≤ a) e (not_below v f)) ∙ sym f)
+      (λ f. none_has (λ s. subst (λ x. x ≤ a) e (ltb-false a v f)) ∙ sym f)
       (cases_Bool (nat_lt a v))
 
   pub none_begun : begun ≡ 0 → list_any (in_range a) stated ≡ false

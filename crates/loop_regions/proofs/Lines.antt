@@ -1,13 +1,14 @@
 -- Regions that lie one inside the other, and the innermost of them.
 use Rattle.std.proofs.Common.{◌≡◌, ◌≢◌, ◌⊎◌, ℕ, ◌+◌, ◌<◌, ◌≤◌, true, false, not, ◌&&◌, List, []}
-use Rattle.std.proofs.Common.{◌∷◌, ◌++◌, length, length-append, zero, suc, take, Some, None}
+use Rattle.std.proofs.Common.{◌∷◌, ◌++◌, length, zero, suc, take, Some, None}
 use Rattle.std.proofs.Common.{slice_index, get_or, IsTrue, IsFalse, refl, sym, ap, ◌∙◌, subst, inl}
 use Rattle.std.proofs.Common.{inr, ⊎_elim, arith, ◌==◌, eq-eqb}
 use Rattle.std.specs.Prelude.{Option}
 use Rattle.std.specs.List.{list_any}
-use Rattle.std.proofs.lemmas.Bool.{cases_eq, cases_lt, cases_Bool, both_ways, eqb-true, and_parts}
+use Rattle.std.proofs.lemmas.Bool.{cases_lt, cases_Bool, both_ways, eqb-true, and_parts}
 use Rattle.std.proofs.lemmas.Bool.{and_from, and_cases, or_cases, or_left, or_right, not-true}
 use Rattle.std.proofs.lemmas.Bool.{not-false, not_from_false, false_from_ne_true}
+use Rattle.crpd_base.proofs.Elements.{count_more, pushed_each}
 use Rattle.loop_regions.specs.Levels.{IsLevel, IsParent}
 use Rattle.loop_regions.specs.Stated.{HoldsMore, IsNotNested}
 use Rattle.loop_regions.specs.CodeNest.{has, row}
@@ -130,28 +131,11 @@ best_of_all rows among i besides (Some r) le B =
     (B.0, B.1, λ s h ne. B.2 s (all_seen among i s le h) ne)
 
 -- one more answer
-get_last : (xs : List (Option ℕ)) (x : Option ℕ) → get_or (xs ++ x ∷ []) (length xs) None ≡ x
-get_last [] x = refl
-get_last (y ∷ xs) x = get_last xs x
-
-get_before : (xs : List (Option ℕ)) (x : Option ℕ) (z : ℕ) → z < length xs
-    → get_or (xs ++ x ∷ []) z None ≡ get_or xs z None
-get_before [] x z lt = absurd (omega arith)
-get_before (y ∷ xs) x zero lt = refl
-get_before (y ∷ xs) x (suc z) lt = get_before xs x z (omega arith)
-
 pub answer_more : (P : ℕ → Option ℕ → Type 0) (xs new : List (Option ℕ)) (x : Option ℕ) (k : ℕ)
     → new ≡ xs ++ x ∷ [] → length xs ≡ k → P k x → ((z : ℕ) → z < k → P z (get_or xs z None))
     → (length new ≡ k + 1) × ((z : ℕ) → z < k + 1 → P z (get_or new z None))
-answer_more P xs new x k e len here all = (
-  ap length e ∙ (omega (arith, length-append xs (x ∷ []))),
-  λ z lt. subst (λ ys. P z (get_or ys z None)) (sym e)
-      (⊎_elim
-      (λ is. subst (λ y. P y (get_or (xs ++ x ∷ []) y None)) (len ∙ sym is)
-      (subst (P (length xs)) (sym (get_last xs x)) (subst (λ y. P y x) (sym len) here)))
-      (λ ne. subst (P z) (sym (get_before xs x z (omega arith))) (all z (omega arith)))
-      (cases_eq z k)),
-)
+answer_more P xs new x k e len here all =
+    (count_more xs new x k e len, pushed_each P xs new x None k e len all here)
 
 module _ (heads bounds : List ℕ) (holders rows : List (List ℕ))
     (S : AreRegionLists heads holders)

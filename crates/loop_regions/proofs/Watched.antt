@@ -6,6 +6,7 @@ use Rattle.std.proofs.Common.{append_assoc, append-nil, length-append}
 use Rattle.std.specs.Prelude.{slice_index_or}
 use Rattle.std.proofs.lemmas.Bool.{cases_eq, cases_Bool, and_parts, leb-true, eqb-true, false≢true}
 use Rattle.std.proofs.lemmas.List.{reverse-append, reverse-reverse}
+use Rattle.crpd_base.proofs.Elements.{contains_at}
 use Rattle.crpd_base.specs.declared.data.LoopAt.{LoopAt}
 use Rattle.crpd_base.specs.declared.data.TaskPlan.{TaskPlan}
 use Rattle.rv_decode.specs.Address.{next_address, address_before, end_address}
@@ -98,12 +99,6 @@ no_turns_length (m ∷ loops) = omega (arith, no_turns_length loops)
 -- a frame after the arrival at an address
 abbrev arrived : TaskPlan → ℕ → Frame → Frame
 arrived plan to f = record { back = f.back; turns = all_iterations_after to plan.loops f.turns }
-
-contained_at : (xs : List LoopAt) (x : LoopAt) → Contains xs x → (i : ℕ) × (slice_get xs i ≡ Some x)
-contained_at [] x (k, lt, e) = absurd (omega arith)
-contained_at (y ∷ xs) x (zero, lt, e) = (0, ap Some e)
-contained_at (y ∷ xs) x (suc k, lt, e) =
-    let r = contained_at xs x (k, omega arith, e) in (suc r.0, r.1)
 
 context_arrive : (plan : TaskPlan) (to : ℕ) (f : Frame) (fs : List Frame)
     → calls_under_way (arrived plan to f ∷ fs) ≡ calls_under_way (f ∷ fs)
@@ -267,7 +262,7 @@ module _ (code : Flows) (plan : TaskPlan) (g : Graph) (p : Places) (n : Nest)
     kept_now : fits_now → (r : ℕ) → r < n.size → head_count n r (v ∷ w) ≤ n.bound r
     kept_now fits r lt =
         let s = R.stated r lt in
-        let at = contained_at loops s.0 s.1 in
+        let at = contains_at loops s.0 s.1 in
         ⊎_elim
         (λ (h : IsTrue (n.holds r v)).
         let seen = seen_prefix s.0 (p.context (n.head r)) (p.context v) (p.address v)
