@@ -1,5 +1,5 @@
 -- Nodes as they are seen from a context: those that are seen stand together.
-use Rattle.std.proofs.Common.{◌≡◌, ◌⊎◌, ℕ, ◌<◌, ◌≤◌, true, false, List, [], ◌∷◌, length}
+use Rattle.std.proofs.Common.{◌≡◌, ◌≢◌, ◌⊎◌, ℕ, ◌<◌, ◌≤◌, true, false, List, [], ◌∷◌, length}
 use Rattle.std.proofs.Common.{get_or, Some, None, slice_get, IsTrue, IsFalse, refl, sym, ◌∙◌, subst}
 use Rattle.std.proofs.Common.{inl, inr, ⊎_elim, arith, eq-eqb, ◌==◌, nat_eq}
 use Rattle.std.specs.Prelude.{is_some}
@@ -148,35 +148,31 @@ module _ (g : CodeGraph) (H : HasCode g) where
       node_between c (node_at (places_of g) u) (node_at (places_of g) v) (node_at (places_of g) w)
       (before u v uv (omega arith)) (before v w vw w_lt) h i
 
+  unseen : (c : List ℕ) (v y : ℕ) → IsFalse (is_seen_from (places_of g) c v)
+      → (y ≢ v → IsTrue (is_seen_from (places_of g) c y)
+      → IsTrue (is_seen_from (places_of g) c v)) → IsFalse (is_seen_from (places_of g) c y)
+  unseen c v y out sees =
+      ⊎_elim
+      (λ e. subst (λ z. IsFalse (is_seen_from (places_of g) c z)) (sym e) out)
+      (λ ne. ⊎_elim
+      (λ h. absurd (both_ways (is_seen_from (places_of g) c v) out (sees ne h)))
+      (λ f. f)
+      (cases_Bool (is_seen_from (places_of g) c y)))
+      (cases_eq y v)
+
   -- from a head down: below a node that is not seen there is none
   pub none_before : (head v y : ℕ) → head < (graph_of g).size → v < head
       → IsFalse (is_seen_from (places_of g) ((places_of g).context head) v) → y ≤ v
       → IsFalse (is_seen_from (places_of g) ((places_of g).context head) y)
   none_before head v y head_lt v_lt out le =
       let c = (places_of g).context head in
-      ⊎_elim
-      (λ e. subst (λ z. IsFalse (is_seen_from (places_of g) c z)) (sym e) out)
-      (λ ne. ⊎_elim
-      (λ h. absurd
-      (both_ways (is_seen_from (places_of g) c v) out
-      (sees_between c y v head (omega arith) v_lt head_lt h
-      (seen_own c ((places_of g).address head)))))
-      (λ f. f)
-      (cases_Bool (is_seen_from (places_of g) c y)))
-      (cases_eq y v)
+      unseen c v y out (λ ne h. sees_between c y v head (omega arith) v_lt head_lt h
+      (seen_own c ((places_of g).address head)))
 
   pub none_after : (head v y : ℕ) → head < v → v ≤ y → y < (graph_of g).size
       → IsFalse (is_seen_from (places_of g) ((places_of g).context head) v)
       → IsFalse (is_seen_from (places_of g) ((places_of g).context head) y)
   none_after head v y v_lt le y_lt out =
       let c = (places_of g).context head in
-      ⊎_elim
-      (λ e. subst (λ z. IsFalse (is_seen_from (places_of g) c z)) (sym e) out)
-      (λ ne. ⊎_elim
-      (λ h. absurd
-      (both_ways (is_seen_from (places_of g) c v) out
-      (sees_between c head v y v_lt (omega arith) y_lt
-      (seen_own c ((places_of g).address head)) h)))
-      (λ f. f)
-      (cases_Bool (is_seen_from (places_of g) c y)))
-      (cases_eq y v)
+      unseen c v y out (λ ne h. sees_between c head v y v_lt (omega arith) y_lt
+      (seen_own c ((places_of g).address head)) h)
