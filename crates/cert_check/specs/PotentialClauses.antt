@@ -1,16 +1,10 @@
 -- What the clauses of the potentials and of the bound say.
-use Rattle.std.specs.Prelude.{◌≡◌, ℕ, ◌*◌, ◌<◌, ◌≤◌, Bool}
-use Rattle.crpd_base.specs.declared.data.Platform.{Platform}
+use Rattle.std.specs.Prelude.{◌≡◌, ℕ, ◌*◌, ◌<◌, ◌≤◌}
 use Rattle.flat_graph.specs.Graph.{Graph, Edge}
-use Rattle.flat_graph.specs.EdgeCost.{NodeCode, edge_cost, end_cost}
 use Rattle.loop_regions.specs.Nest.{Nest, Leaves, Item, IsItem}
 use Rattle.loop_regions.specs.Potentials.{Costs, Potentials, item_potential, MeetsAt}
+pub use Rattle.loop_regions.specs.Potentials.{edge_costs}
 pub use Rattle.evict_sets.specs.Listing.{CountsHits}
-
--- the costs of the edges with these hits
-abbrev pub edge_costs : Platform → NodeCode → (ℕ → Bool) → (ℕ → Bool) → Costs
-edge_costs p listing answers is_hit =
-    record { edge = edge_cost p listing is_hit; answers = answers; end = end_cost p listing is_hit }
 
 -- the inequalities on the node's edges, on each region that such an edge leaves, and on the region
 -- whose head the node is
