@@ -13,7 +13,6 @@ use Rattle.cert_check.proofs.paid.Paid.edges_pay.Goals as goal
 
 pub loop-next-preserved : goal.loop-next-preserved
 loop-next-preserved c =
-    let g = graph_of c.args.self.now.graph.now in
     let P : ℕ → Type 0 = EdgePaid (nest_of c.args.self.now.nest.now)
     (costs_at c.args.self.now.platform.now c.args.self.now.graph.now
     (counted c.args.self.now.hits.now)) (potentials_of c.args.self.now.part.now) c.args.node.0 in
