@@ -1,14 +1,15 @@
 -- Clauses 3 to 5 judged along an order of the nodes.
-use Rattle.std.proofs.Common.{◌≡◌, ℕ, ◌+◌, ◌<◌, ◌≤◌, List, Option, IsFalse, sym, ap, ◌∙◌}
-use Rattle.std.proofs.Common.{subst, arith}
+use Rattle.std.proofs.Common.{◌≡◌, ◌↔◌, ℕ, ◌+◌, ◌-◌, ◌<◌, ◌≤◌, Bool, if◌then◌else◌, List, length}
+use Rattle.std.proofs.Common.{Option, Some, IsTrue, IsFalse, refl, sym, ap, ◌∙◌, subst, arith}
 use Rattle.std.specs.Prelude.{slice_index}
 use Rattle.icache.specs.Accesses.{Accesses}
 use Rattle.flat_graph.specs.Graph.{Graph, Edge}
 use Rattle.evict_sets.specs.Full.{Listed}
 use Rattle.evict_sets.specs.CacheClauses.{StatesMeet}
 use Rattle.evict_sets.specs.Listing.{IsChainOrder}
-use Rattle.cert_check.specs.Inner.JudgedNodes.{IsUsefulAt, IsLeastFailing}
-use Rattle.cert_check.proofs.LeastSeen.{IsLeastSeen, SeenTo, SeenFrom, finished}
+use Rattle.cert_check.specs.Inner.JudgedNodes.{IsUsefulAt, IsLeastFailing, lesser}
+use Rattle.cert_check.proofs.LeastSeen.{IsLeastSeen, SeenTo, SeenFrom, finished, lowest}
+use Rattle.cert_check.proofs.LeastSeen.{seen_before}
 use Rattle.evict_sets.proofs.HitsTo.{BlocksTo}
 
 module _ (g : Graph) (a : Accesses) (l : Listed) where
@@ -43,16 +44,30 @@ module _ (g : Graph) (a : Accesses) (l : Listed) where
       let same : slice_index order k ≡ v = ap (slice_index order) (sym is) ∙ b.1 in
       subst (λ x. IsUsefulAt g a l x useful) same (H.here (let c = b.0 in omega (arith, is, c)))
 
-  pub useful_more : (P : ℕ → Type 0) (order useful new : List ℕ) (least next : Option ℕ)
-      (k place node : ℕ) → place + 1 ≡ k → slice_index order place ≡ node
-      → IsUsefulAt g a l node new
-      → IsLeastSeen P (SeenFrom order g.size place) g.size next → UsefulFrom P order useful least k
-      → UsefulFrom P order new next place
-  useful_more P order useful new least next k place node is at U L H = record {
-    within = (let w = H.within in omega (arith, w, is));
-    here = λ lt. subst (λ x. IsUsefulAt g a l x new) (sym at) U;
-    seen = L;
-  }
+  -- one node more, from the last: its set, and what is judged of it
+  pub useful_step : (P : ℕ → Type 0) (order useful new : List ℕ) (least next : Option ℕ) (b : Bool)
+      (done : ℕ) → IsChainOrder g l order → done < length order
+      → IsUsefulAt g a l (slice_index order (length order - 1 - done)) new
+      → IsTrue b ↔ P (slice_index order (length order - 1 - done))
+      → next ≡ (if b then least
+      else Some (lesser least (slice_index order (length order - 1 - done))))
+      → UsefulFrom P order useful least (length order - done)
+      → UsefulFrom P order new next (length order - (done + 1))
+  useful_step P order useful new least next b done O lt U test is H =
+      let at : length order - 1 - done ≡ length order - (done + 1) = omega arith in
+      subst (UsefulFrom P order new next) at (record {
+        within = omega (arith, O.count);
+        here = λ below. U;
+        seen =
+            subst (IsLeastSeen P (SeenFrom order g.size (length order - 1 - done)) g.size) (sym is)
+            (lowest P (SeenFrom order g.size (length order - done))
+            (SeenFrom order g.size (length order - 1 - done)) g.size least
+            (slice_index order (length order - 1 - done)) b
+            (O.nodes (length order - 1 - done) (omega (arith, lt, O.count)))
+            (λ u s ne. seen_before order g.size (length order - 1 - done) (length order - done)
+            (slice_index order (length order - 1 - done)) u (omega (arith, lt)) refl s ne) test
+            H.seen);
+      })
 
   pub useful_least : (P : ℕ → Type 0) (order useful : List ℕ) (least : Option ℕ) (k : ℕ)
       → IsChainOrder g l order → k ≡ 0 → UsefulFrom P order useful least k
