@@ -1,9 +1,8 @@
-use Rattle.std.proofs.Common.{◌≡◌, Ok, Err, refl, sym, ap, ◌∙◌, arith}
+use Rattle.std.proofs.Common.{Ok, Err, refl, sym, ap, ◌∙◌, arith}
 use Rattle.std.specs.Prelude.{slice_index}
 use Rattle.std.proofs.lemmas.Bool.{false≢true}
 use Rattle.crpd_base.proofs.Times.{jitter_is, deadline_is}
 use Rattle.crpd_base.specs.declared.data.TaskPart.{TaskPart}
-use Rattle.evict_sets.specs.ListedPart.{certified_task}
 use Rattle.cert_check.specs.declared.outcome.Clause.TheVariants.{Window, Response, Deadline}
 use Rattle.cert_check.specs.Verdict.{TimesHold}
 use Rattle.cert_check.proofs.Found.{then_found, found_first, fails_first, fails_later, window_holds}
@@ -22,16 +21,11 @@ returns-then-not-has_room c =
 
 pub returns-then-from : goal.returns-then-from
 returns-then-from c =
-    let part : certified_task c.args.certificate.now c.args.i ≡ c.index-part.result.now =
-    (part_is c.args.certificate.now c.args.i c.index-part.result.now c.requires.higher.tasks
-    c.index-part.ensures) in
-    let r : (certified_task c.args.certificate.now c.args.i).response
-    ≡ c.index-part.result.now.response = ap (λ (t : TaskPart). t.response) part in
-    let w : (certified_task c.args.certificate.now c.args.i).window
-    ≡ c.index-part.result.now.window = ap (λ (t : TaskPart). t.window) part in
+    let part = part_is c.args.certificate.now c.args.i c.index-part.result.now
+    c.requires.higher.tasks c.index-part.ensures in
+    let r = ap (λ (t : TaskPart). t.response) part in
+    let w = ap (λ (t : TaskPart). t.window) part in
     let j = jitter_is c.args.set.now c.args.i c.index-task.result.now c.requires.task
-    c.index-task.ensures in
-    let d = deadline_is c.args.set.now c.args.i c.index-task.result.now c.requires.task
     c.index-task.ensures in
     then_found
     (TimesHold c.args.set.now (slice_index c.args.longest.now) c.args.certificate.now c.args.i) 8 8
@@ -47,13 +41,10 @@ returns-then-from c =
 
 pub returns-then-part-task : goal.returns-then-part-task
 returns-then-part-task c =
-    let part : certified_task c.args.certificate.now c.args.i ≡ c.index-part.result.now =
-    (part_is c.args.certificate.now c.args.i c.index-part.result.now c.requires.higher.tasks
-    c.index-part.ensures) in
-    let r : (certified_task c.args.certificate.now c.args.i).response
-    ≡ c.index-part.result.now.response = ap (λ (t : TaskPart). t.response) part in
-    let w : (certified_task c.args.certificate.now c.args.i).window
-    ≡ c.index-part.result.now.window = ap (λ (t : TaskPart). t.window) part in
+    let part = part_is c.args.certificate.now c.args.i c.index-part.result.now
+    c.requires.higher.tasks c.index-part.ensures in
+    let r = ap (λ (t : TaskPart). t.response) part in
+    let w = ap (λ (t : TaskPart). t.window) part in
     let j = jitter_is c.args.set.now c.args.i c.index-task.result.now c.requires.task
     c.index-task.ensures in
     let d = deadline_is c.args.set.now c.args.i c.index-task.result.now c.requires.task
@@ -74,13 +65,10 @@ returns-then-part-task c =
 
 pub returns : goal.returns
 returns c =
-    let part : certified_task c.args.certificate.now c.args.i ≡ c.index-part.result.now =
-    (part_is c.args.certificate.now c.args.i c.index-part.result.now c.requires.higher.tasks
-    c.index-part.ensures) in
-    let r : (certified_task c.args.certificate.now c.args.i).response
-    ≡ c.index-part.result.now.response = ap (λ (t : TaskPart). t.response) part in
-    let w : (certified_task c.args.certificate.now c.args.i).window
-    ≡ c.index-part.result.now.window = ap (λ (t : TaskPart). t.window) part in
+    let part = part_is c.args.certificate.now c.args.i c.index-part.result.now
+    c.requires.higher.tasks c.index-part.ensures in
+    let r = ap (λ (t : TaskPart). t.response) part in
+    let w = ap (λ (t : TaskPart). t.window) part in
     let j = jitter_is c.args.set.now c.args.i c.index-task.result.now c.requires.task
     c.index-task.ensures in
     let d = deadline_is c.args.set.now c.args.i c.index-task.result.now c.requires.task
