@@ -3,10 +3,9 @@ use Rattle.std.proofs.Common.{◌≡◌, ℕ, zero, suc, ◌+◌, ◌-◌, ◌*�
 use Rattle.std.proofs.Common.{drop, length, get_or, refl, sym, ◌∙◌, ap, arith, true}
 use Rattle.std.specs.Prelude.{Bool, ◌||◌}
 use Rattle.std.proofs.lemmas.Bool.{cases_Bool, cases_eq, true≢false}
-use Rattle.std.proofs.lemmas.List.{get_or_read, get_or-take, get_or-drop, length-take-le}
+use Rattle.std.proofs.lemmas.List.{get_or-take, get_or-drop, length-take-le}
 use Rattle.std.proofs.lemmas.List.{length-drop}
 use Rattle.std.specs.Cmp.{both_ways}
-use Rattle.crpd_base.proofs.Bools.{or_false}
 use Rattle.crpd_base.specs.declared.data.Part.{Part}
 use Rattle.crpd_base.specs.declared.data.Method.{Method}
 use Rattle.crpd_base.specs.declared.data.Method.TheVariants.{Ucb, Ecb}
@@ -76,37 +75,15 @@ sets_few parts Ecb i j =
     greatest_le (shared_sets parts j) (suc j) (suc i) 512
     (λ k h. shared_most (has (parts k).useful) (evicted_from parts j) 512)
 
-some_same : (f g : ℕ → ℕ → Bool) (n c : ℕ) → ((k : ℕ) → k < n → f k c ≡ g k c)
-    → useful_to_some f 0 n c ≡ useful_to_some g 0 n c
-some_same f g zero c same = refl
-some_same f g (suc n) c same =
-    some_more f 0 n c (omega arith)
-    ∙ ap (λ z. z || useful_to_some f 0 n c) (same n (omega arith))
-    ∙ ap (λ z. g n c || z) (some_same f g n c (λ k h. same k (omega arith)))
-    ∙ sym (some_more g 0 n c (omega arith))
-
-evicted_is : (parts : ℕ → Part) (j c : ℕ)
-    → useful_to_some (λ k. has (parts k).evicting) 0 (suc j) c ≡ evicted_from parts j c
-evicted_is parts zero c =
-    some_more (λ k. has (parts k).evicting) 0 0 c (omega arith)
-    ∙ or_false (has (parts 0).evicting c)
-evicted_is parts (suc j) c =
-    some_more (λ k. has (parts k).evicting) 0 (suc j) c (omega arith)
-    ∙ ap (λ z. has (parts (suc j)).evicting c || z) (evicted_is parts j c)
-
 one : (a : ℕ) → a * 1 ≡ a
 one a = omega arith
 
 -- the sets of the tasks from one on to another, as a stretch of the list of all
-module _ (parts : ℕ → Part) (useful evicting : List (List ℕ)) (i j n : ℕ) (order : j ≤ i)
-    (room : i < n) (long : n ≤ length useful) (wide : n ≤ length evicting)
-    (uses : (k : ℕ) → k < n → get_or useful k [] ≡ (parts k).useful)
-    (evicts : (k : ℕ) → k < n → get_or evicting k [] ≡ (parts k).evicting) where
+module _ (parts : ℕ → Part) (useful : List (List ℕ)) (i j n : ℕ) (order : j ≤ i) (room : i < n)
+    (long : n ≤ length useful)
+    (uses : (k : ℕ) → k < n → get_or useful k [] ≡ (parts k).useful) where
   abbrev lower : List (List ℕ)
   lower = take (i + 1 - (j + 1)) (drop (j + 1) useful)
-
-  abbrev above : List (List ℕ)
-  above = take (j + 1) evicting
 
   lower_length : length lower ≡ i - j
   lower_length =
@@ -132,29 +109,20 @@ module _ (parts : ℕ → Part) (useful evicting : List (List ℕ)) (i j n : ℕ
       (λ k h. ap (λ x. has x c) (lower_at k h))
       ∙ ap (λ x. useful_to_some (λ k. has (parts k).useful) (suc j) x c) end_is
 
-  pub ucb_reloads : (miss result : ℕ) (own : List ℕ) → own ≡ get_or evicting j own
-      → result ≡ classic_ucb_delay miss 1 own lower 512 → result ≡ miss * ucb_sets parts i j
-  ucb_reloads miss result own e is =
-      let at : own ≡ (parts j).evicting =
-      get_or_read evicting j own (omega arith) e [] ∙ evicts j (omega arith) in
+  pub ucb_reloads : (miss result : ℕ) (own : Part) → own ≡ parts j
+      → result ≡ classic_ucb_delay miss 1 own.evicting lower 512
+      → result ≡ miss * ucb_sets parts i j
+  ucb_reloads miss result own at is =
       let same = shared_same (useful_to_some (useful_in lower) 0 (length lower))
-      (useful_to_some (λ k. has (parts k).useful) (suc j) (suc i)) (has own)
-      (has (parts j).evicting) 512 useful_is (λ c. ap (λ x. has x c) at) in
+      (useful_to_some (λ k. has (parts k).useful) (suc j) (suc i)) (has own.evicting)
+      (has (parts j).evicting) 512 useful_is (λ c. ap (λ (p : Part). has p.evicting c) at) in
       is ∙ product (miss * 1)
-      (shared_count (useful_to_some (useful_in lower) 0 (length lower)) (has own) 512) miss
+      (shared_count (useful_to_some (useful_in lower) 0 (length lower)) (has own.evicting) 512)
+      miss
       (ucb_sets parts i j) (one miss) same
 
-  up_is : (up : List ℕ) (c : ℕ) → IsUnionOfSets above up → has up c ≡ evicted_from parts j c
-  up_is up c u =
-      let l : length above ≡ suc j = length-take-le (j + 1) evicting (omega arith) ∙ omega arith in
-      union_has above up c u
-      ∙ ap (λ x. useful_to_some (useful_in above) 0 x c) l
-      ∙ some_same (useful_in above) (λ k. has (parts k).evicting) (suc j) c
-      (λ k h. ap (λ x. has x c)
-      (get_or-take (j + 1) evicting k [] (omega arith) ∙ evicts k (omega arith)))
-      ∙ evicted_is parts j c
-
-  pub ecb_reloads : (miss result : ℕ) (up : List ℕ) → IsUnionOfSets above up
+  pub ecb_reloads : (miss result : ℕ) (up : List ℕ)
+      → ((c : ℕ) → has up c ≡ evicted_from parts j c)
       → result ≡ classic_ecb_delay miss 1 up lower 512 → result ≡ miss * ecb_sets parts i j
   ecb_reloads miss result up u is =
       let same : greatest_from (λ k. shared_count (useful_in lower k) (has up) 512) 0 (length lower)
@@ -163,7 +131,7 @@ module _ (parts : ℕ → Part) (useful evicting : List (List ℕ)) (i j n : ℕ
       ∙ greatest_moved (λ k. shared_count (useful_in lower k) (has up) 512) (shared_sets parts j)
       (suc j) (i - j)
       (λ k h. shared_same (useful_in lower k) (has (parts (suc j + k)).useful) (has up)
-      (evicted_from parts j) 512 (λ c. ap (λ x. has x c) (lower_at k h)) (λ c. up_is up c u))
+      (evicted_from parts j) 512 (λ c. ap (λ x. has x c) (lower_at k h)) u)
       ∙ ap (λ x. greatest_from (shared_sets parts j) (suc j) x) end_is in
       is ∙ product (miss * 1)
       (greatest_from (λ k. shared_count (useful_in lower k) (has up) 512) 0 (length lower)) miss

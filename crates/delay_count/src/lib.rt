@@ -14,4 +14,4 @@ pub use laws::growth_law;
 pub use rates::least_rate;
 pub use share::Share;
 pub use union::gamma_ucb;
-pub use window_demand::{charged_delays, demand, higher_demand, own_demand};
+pub use window_demand::{charged_delays, demand, evicted_up, higher_demand, own_demand};

@@ -216,8 +216,9 @@ pub fn delay_by(
     }
 }
 
-// The sets that a task or one above it evicts.
-fn evicted_up(parts: &[Part], j: usize) -> SetBits<WORDS>
+/// The cache sets that a task or one above it evicts, by the parts of all of these. It takes no
+/// memory. Its time is that of a union for each of them.
+pub fn evicted_up(parts: &[Part], j: usize) -> SetBits<WORDS>
     requires { j < length parts.now }
     ensures { (c : ℕ) → has result c ≡ evicted_from (part_at parts.now) j c }
 {
