@@ -80,7 +80,7 @@ pub record IsCompletedBy (set : TaskSet) (demands : Demands) (graphs : ℕ → T
       (demands (certified_part c) (longest_at set.platform graphs) (window_at c) k) k
       (certified_task c k).method (window_at c k)
 
--- with the multiset delays
+-- whose windows are those with the multiset delays
 abbrev pub IsCompleted : TaskSet → (ℕ → TaskGraph) → (ℕ → Analysis) → Certificate → Type 0
 IsCompleted set = IsCompletedBy set (demand set)
 
@@ -90,6 +90,6 @@ abbrev pub HaveNoWindowsBy : TaskSet → Demands → (ℕ → TaskGraph) → (�
 HaveNoWindowsBy set demands graphs analyses =
     IsWindowError set (demands (λ k. (analyses k).part) (longest_at set.platform graphs))
 
--- with the multiset delays
+-- when there are none with the multiset delays
 abbrev pub HasNoWindows : TaskSet → (ℕ → TaskGraph) → (ℕ → Analysis) → WindowError → Type 0
 HasNoWindows set = HaveNoWindowsBy set (demand set)

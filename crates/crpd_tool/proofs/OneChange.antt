@@ -43,6 +43,12 @@ use Rattle.crpd_tool.specs.Check.{verdict_answer}
 use Rattle.crpd_tool.specs.Update.{ChangeOf, UpdateOf, as_of_analysis}
 use Rattle.crpd_tool.proofs.OneMade.{built_answer}
 
+-- the update, or a refusal beside want of memory
+abbrev IsRenewed : Side → Certificate → Side → Result Certificate BuildError → Type 0
+IsRenewed old c new =
+    IsOutcome new.set (demand new.set) (longest_at new.set.platform new.graphs)
+    (IsUpdatedPart old c new) (AreUpdatedParts old c new) (IsFirstChangedLarge old new)
+
 -- ---- by other regions of the same loops
 
 module _ (p q : Platform) (g h : CodeGraph) (n v m w : CodeNest)
@@ -128,47 +134,30 @@ module _ (old_set set : TaskSet) (gs hs : List CodeGraph) where
           lt changed);
     }
 
-    refused_too : (e : UpdateError) → IsUpdateError (side old_set gs ns) c (side set hs ms) e
-        → IsUpdateError (side old_set gs vs) c (side set hs ws) e
-    refused_too Memory R = tt
-    refused_too (TooLarge t address) R = record {
-      task = R.task;
-      large = large_at ns vs ms ws before after t.0 R.task R.large;
-      first = λ j lt large.
-          R.first j lt
-          (large_at vs ns ws ms (all_turned old_set ns vs before) (all_turned set ms ws after) j
-          (let l = R.task in omega (arith, l, lt)) large);
-      at = R.at;
-    }
-    refused_too (TooManyEntries n) R = record {
-      parts = R.parts;
-      are = parts_too R.parts R.are;
-      count_is = R.count_is;
-      many = R.many;
-    }
-    refused_too (Unschedulable t) R = record {
-      parts = R.parts;
-      are = parts_too R.parts R.are;
-      few = R.few;
-      without = R.without;
-    }
+    refused_too : (e : UpdateError) → e ≢ Memory
+        → IsUpdateError (side old_set gs ns) c (side set hs ms) e
+        → IsRenewed (side old_set gs vs) c (side set hs ws) (Err (as_of_analysis e))
+    refused_too Memory free R = absurd (free refl)
+    refused_too (TooLarge t address) free R = (
+      λ e. cc,
+      record {
+        task = R.task;
+        large = large_at ns vs ms ws before after t.0 R.task R.large;
+        first = λ j lt large.
+            R.first j lt
+            (large_at vs ns ws ms (all_turned old_set ns vs before) (all_turned set ms ws after) j
+            (let l = R.task in omega (arith, l, lt)) large);
+        at = R.at;
+      },
+    )
+    refused_too (TooManyEntries n) free R =
+        (λ e. cc, (R.parts, parts_too R.parts R.are, R.count_is, R.many))
+    refused_too (Unschedulable t) free R =
+        (λ e. cc, (R.parts, parts_too R.parts R.are, R.few, R.without))
 
 -- ---- the update and its refusals, over the same graphs and regions
 
 module _ (old new : Side) (c : Certificate) where
-  -- the update, or a refusal beside want of memory
-  abbrev IsRenewed : Result Certificate BuildError → Type 0
-  IsRenewed =
-      IsOutcome new.set (demand new.set) (longest_at new.set.platform new.graphs)
-      (IsUpdatedPart old c new) (AreUpdatedParts old c new) (IsFirstChangedLarge old new)
-
-  refusal : (e : UpdateError) → e ≢ Memory → IsUpdateError old c new e
-      → IsRenewed (Err (as_of_analysis e))
-  refusal Memory free R = absurd (free refl)
-  refusal (TooLarge t a) free R = (λ e. cc, R)
-  refusal (TooManyEntries n) free R = (λ e. cc, (R.parts, R.are, R.count_is, R.many))
-  refusal (Unschedulable t) free R = (λ e. cc, (R.parts, R.are, R.few, R.without))
-
   one_first : (i j a b : ℕ) → IsFirstChangedLarge old new i a → IsFirstChangedLarge old new j b
       → (i ≡ j) × (a ≡ b)
   one_first i j a b E D =
@@ -204,7 +193,8 @@ module _ (old new : Side) (c : Certificate) where
           (IsUpdatedPart old c new) d times (multiset_above new.set) U i lt;
     }
 
-    one_renewed : (r s : Result Certificate BuildError) → IsRenewed r → IsRenewed s → r ≡ s
+    one_renewed : (r s : Result Certificate BuildError) → IsRenewed old c new r
+        → IsRenewed old c new s → r ≡ s
     one_renewed =
         one_outcome new.set (demand new.set) (longest_at new.set.platform new.graphs)
         (IsUpdatedPart old c new) (AreUpdatedParts old c new) (IsFirstChangedLarge old new)
@@ -215,6 +205,37 @@ module _ (old new : Side) (c : Certificate) where
 
 no_yes : (task : Task) (clause place : ℕ) → verdict.No task clause place ≡ verdict.Yes → ⊥
 no_yes task clause place e = cc
+
+self : (set : TaskSet) (ns : List CodeNest) → AllAlike set ns ns
+self set ns i lt = record {
+  size = refl;
+  head = λ r l. refl;
+  bound = λ r l. refl;
+  holds = λ r y l. refl;
+}
+
+module _ (file : List ℕ) (old input : Input) (c : Certificate) (gs hs : List CodeGraph) where
+  ends : (ns vs ms ws : List CodeNest) → AllAlike old.set ns vs → AllAlike input.set ms ws
+      → (r : Result Answer Halt)
+      → ChangeOf file old (record { graphs = gs; nests = ns }) c input
+      (record { graphs = hs; nests = ms }) r
+      → (o : Result Certificate BuildError)
+      × IsRenewed (side old.set gs vs) c (side input.set hs ws) o
+      × (r ≡ built_answer file input.set o)
+  ends ns vs ms ws before after r (inl a) = (
+    Ok a.0,
+    (
+      certificate_too input.set (demand input.set) _ _ _ a.0
+          (updated_too old.set input.set gs hs ns vs ms ws before after c) a.1.update,
+      a.1.few,
+    ),
+    a.2,
+  )
+  ends ns vs ms ws before after r (inr a) = (
+    Err (as_of_analysis a.0),
+    refused_too old.set input.set gs hs ns vs ms ws before after c a.0 a.1 a.2,
+    a.3,
+  )
 
 module _ (file : List ℕ) (old input : Input) (c : Certificate) (gs hs : List CodeGraph)
     (ns vs ms ws : List CodeNest)
@@ -227,44 +248,14 @@ module _ (file : List ℕ) (old input : Input) (c : Certificate) (gs hs : List C
   abbrev NewSide : Side
   NewSide = side input.set hs ws
 
-  abbrev Renewed : Result Answer Halt → Type 0
-  Renewed r =
-      (o : Result Certificate BuildError) × IsRenewed OldSide NewSide c o
-      × (r ≡ built_answer file input.set o)
-
-  first_ends : (r : Result Answer Halt)
-      → ChangeOf file old (record { graphs = gs; nests = ns }) c input
-      (record { graphs = hs; nests = ms }) r → Renewed r
-  first_ends r (inl a) = (
-    Ok a.0,
-    (
-      certificate_too input.set (demand input.set) _ _ _ a.0
-          (updated_too old.set input.set gs hs ns vs ms ws before after c) a.1.update,
-      a.1.few,
-    ),
-    a.2,
-  )
-  first_ends r (inr a) = (
-    Err (as_of_analysis a.0),
-    refusal OldSide NewSide c a.0 a.1
-        (refused_too old.set input.set gs hs ns vs ms ws before after c a.0 a.2),
-    a.3,
-  )
-
-  second_ends : (r : Result Answer Halt)
-      → ChangeOf file old (record { graphs = gs; nests = vs }) c input
-      (record { graphs = hs; nests = ws }) r → Renewed r
-  second_ends r (inl a) = (Ok a.0, (a.1.update, a.1.few), a.2)
-  second_ends r (inr a) = (Err (as_of_analysis a.0), refusal OldSide NewSide c a.0 a.1 a.2, a.3)
-
   one_made : (r s : Result Answer Halt)
       → ChangeOf file old (record { graphs = gs; nests = ns }) c input
       (record { graphs = hs; nests = ms }) r
       → ChangeOf file old (record { graphs = gs; nests = vs }) c input
       (record { graphs = hs; nests = ws }) s → r ≡ s
   one_made r s x y =
-      let a = first_ends r x in
-      let b = second_ends s y in
+      let a = ends file old input c gs hs ns vs ms ws before after r x in
+      let b = ends file old input c gs hs vs vs ws ws (self old.set vs) (self input.set ws) s y in
       a.2 ∙ ap (built_answer file input.set) (one_renewed OldSide NewSide c O S G a.0 b.0 a.1 b.1)
       ∙ sym b.2
 
