@@ -13,26 +13,25 @@ use Rattle.crpd_base.specs.declared.data.TaskSet.{TaskSet}
 use Rattle.crpd_base.specs.declared.data.TaskPart.{TaskPart}
 use Rattle.crpd_base.specs.declared.data.Certificate.{Certificate}
 use Rattle.crpd_base.specs.declared.data.Method.{Method}
+use Rattle.crpd_base.specs.declared.data.Part.{Part}
 use Rattle.loop_regions.specs.TaskGraph.{TaskGraph}
 use Rattle.evict_sets.specs.ListedPart.{no_task_part, certified_task}
-use Rattle.delay_count.specs.Demand.{demand}
+use Rattle.response.specs.Windows.{IsFirstWithoutWindow}
 use Rattle.response.specs.declared.choice.WindowError.{WindowError}
 use Rattle.response.specs.declared.choice.WindowError.TheVariants as window
-use Rattle.cert_check.specs.JudgeInput.{window_at, longest_at, task_name}
+use Rattle.cert_check.specs.JudgeInput.{certified_part, window_at, longest_at, task_name}
 use Rattle.crpd_base.proofs.Times.{has_times}
 use Rattle.crpd_base.specs.Names.{is_name}
 use Rattle.cert_model.specs.Reading.{task_entries, entries}
 use Rattle.crpd_base.specs.CertificateRanges.{IsTaskPart, IsCertificate}
-use Rattle.cert_build.specs.Best.{IsBestPart, IsBest, demand_of}
+use Rattle.cert_build.specs.Best.{Demands, IsAnalysisBy, IsBestPart, IsCertificateBy}
 use Rattle.cert_build.specs.Analysis.{part_of_analysis, IsAnalysis, KeepsRanges}
 use Rattle.cert_build.specs.Assembly.{no_analysis, analysis_at, entries_of, AreAnalysed}
-use Rattle.cert_build.specs.Certify.{part_in, HasParts, IsCompleted, HasNoWindows, IsBuildError}
+use Rattle.cert_build.specs.Certify.{HasParts, HaveNoWindowsBy, IsCompletedBy, IsRefusedBy}
 use Rattle.cert_build.specs.Inner.Certify.{window_build_error}
 use Rattle.cert_build.specs.declared.one_task.Analysis.{Analysis}
 use Rattle.cert_build.specs.declared.fault.BuildError.{BuildError}
 use Rattle.response.proofs.WindowLaws.{smaller_is_window}
-use Rattle.response.proofs.Choices.{first_too}
-use Rattle.response.proofs.Least.{demands_agree}
 use Rattle.cert_build.proofs.Counting.{best_parts, entries_map}
 
 -- what holds of the names of all tasks holds of that of one
@@ -134,59 +133,65 @@ module _ (set : TaskSet) (all : List Analysis) (c : Certificate)
         entries = few;
       }
 
--- the smaller windows are in the deadlines
-pub in_deadlines : (set : TaskSet) (graphs : ℕ → TaskGraph) (analyses : ℕ → Analysis)
-    (c : Certificate) → IsCompleted set graphs analyses c → (k : ℕ) → k < length set.tasks
-    → window_at c k + jitter_of set k ≤ deadline_of set k
-in_deadlines set graphs analyses c C k lt =
-    (smaller_is_window set (demand_of set graphs c k) k (certified_task c k).method (window_at c k)
-    (C.smaller k lt)).in_deadline
+-- the windows of a certificate with some analyses
+module _ (set : TaskSet) (demands : Demands) (graphs : ℕ → TaskGraph) (analyses : ℕ → Analysis)
+    (c : Certificate) (C : IsCompletedBy set demands graphs analyses c) where
+  -- the smaller windows are in the deadlines
+  pub in_deadlines : (k : ℕ) → k < length set.tasks
+      → window_at c k + jitter_of set k ≤ deadline_of set k
+  in_deadlines k lt =
+      (smaller_is_window set
+      (demands (certified_part c) (longest_at set.platform graphs) (window_at c) k) k
+      (certified_task c k).method (window_at c k) (C.smaller k lt)).in_deadline
 
-module _ (set : TaskSet) (graphs : ℕ → TaskGraph) (all : List Analysis) (c : Certificate)
-    (A : AreAnalysed set graphs all) (C : IsCompleted set graphs (analysis_at all) c) where
-  pub is_best : IsBest set graphs c
-  is_best =
+  -- the certificate has parts of each kind that these are
+  pub certified : (IsPart : ℕ → TaskPart → Type 0)
+      → ((k : ℕ) → k < length set.tasks → IsPart k (certified_task c k))
+      → IsCertificateBy set demands (longest_at set.platform graphs) IsPart c
+  certified IsPart part =
       record {
         platform = C.parts.platform;
         tasks = C.parts.tasks;
         each = λ i lt. record {
           name = ap (λ (t : TaskPart). t.name) (C.parts.part i lt);
-          part = part_best set all c C.parts graphs i lt (A.each i lt);
+          part = part i lt;
           window = C.smaller i lt;
           response = ap (λ (t : TaskPart). t.response) (C.parts.part i lt);
         };
       }
 
-  pub few_entries : entries c.tasks ≤ 4000000
-  few_entries =
-      let e = entries_are set all c C.parts A.tasks in let few = A.entries in omega (arith, e, few)
-
-  pub best_in_ranges : IsTaskSet set → IsCertificate c
-  best_in_ranges S =
-      in_ranges set all c C.parts (has_times set S) S A.ranges
-      (in_deadlines set graphs (analysis_at all) c C) few_entries
-
--- a want of windows refuses the certificate
-module _ (set : TaskSet) (graphs : ℕ → TaskGraph) (all : List Analysis) (times : HasTimes set)
+module _ (set : TaskSet) (demands : Demands) (graphs : ℕ → TaskGraph) (all : List Analysis)
     (A : AreAnalysed set graphs all) where
-  no_windows : (e : WindowError) → HasNoWindows set graphs (analysis_at all) e
-      → IsBuildError set graphs (window_build_error e)
+  module _ (c : Certificate) (C : IsCompletedBy set demands graphs (analysis_at all) c) where
+    pub is_best : IsAnalysisBy set demands graphs c
+    is_best =
+        certified set demands graphs (analysis_at all) c C
+        (λ i. IsBestPart set.platform (graphs i))
+        (λ i lt. part_best set all c C.parts graphs i lt (A.each i lt))
+
+    pub few_entries : entries c.tasks ≤ 4000000
+    few_entries =
+        let e = entries_are set all c C.parts A.tasks in let few = A.entries in omega (arith, e, few)
+
+    pub best_in_ranges : IsTaskSet set → IsCertificate c
+    best_in_ranges S =
+        in_ranges set all c C.parts (has_times set S) S A.ranges
+        (in_deadlines set demands graphs (analysis_at all) c C) few_entries
+
+  -- a want of windows refuses the certificate
+  no_windows : (e : WindowError) → HaveNoWindowsBy set demands graphs (analysis_at all) e
+      → IsRefusedBy set demands graphs (window_build_error e)
   no_windows window.Memory none = tt
   no_windows (window.Unschedulable t) none = (
     map part_of_analysis all,
     best_parts set graphs all A.tasks A.each,
     (let e = entries_map all in let few = A.entries in omega (arith, e, few)),
-    first_too set (demand set (λ k. (analysis_at all k).part) (longest_at set.platform graphs))
-        (demand set (part_in (map part_of_analysis all)) (longest_at set.platform graphs))
-        (demands_agree set (λ k. (analysis_at all k).part) (part_in (map part_of_analysis all))
-        (longest_at set.platform graphs) (longest_at set.platform graphs) (length set.tasks) times
-        (omega arith)
-        (λ k lt. ap (λ (p : TaskPart). p.part) (sym (mapped part_of_analysis all k no_analysis)))
-        (λ k lt. refl)) t.0 none,
+    subst (λ (f : ℕ → Part).
+        IsFirstWithoutWindow set (demands f (longest_at set.platform graphs)) t.0)
+        (λ x k. ((sym (mapped part_of_analysis all k no_analysis)) x).part) none,
   )
 
   pub not_scheduled : (e : WindowError) (x : BuildError)
-      → HasNoWindows set graphs (analysis_at all) e → x ≡ window_build_error e
-      → IsBuildError set graphs x
-  not_scheduled e x none is =
-      subst (λ (y : BuildError). IsBuildError set graphs y) (sym is) (no_windows e none)
+      → HaveNoWindowsBy set demands graphs (analysis_at all) e → x ≡ window_build_error e
+      → IsRefusedBy set demands graphs x
+  not_scheduled e x none is = subst (IsRefusedBy set demands graphs) (sym is) (no_windows e none)

@@ -1,4 +1,4 @@
--- The windows of analyses, from those of their parts and longest costs.
+-- The windows of analyses by any demand, from those of their parts and longest costs.
 use Rattle.std.proofs.Common.{◌≡◌, ℕ, ◌<◌, List, length, map, sym, ap, ◌∙◌, arith}
 use Rattle.std.specs.Prelude.{slice_index}
 use Rattle.std.proofs.Math.ListN.{get_or-map}
@@ -10,7 +10,6 @@ use Rattle.crpd_base.specs.Tasks.{HasTimes}
 use Rattle.flat_graph.specs.CodeGraph.{CodeGraph}
 use Rattle.loop_regions.specs.CodeNest.{CodeNest}
 use Rattle.delay_count.specs.Gamma.{part_at}
-use Rattle.delay_count.specs.Demand.{demand}
 use Rattle.response.specs.declared.choice.Choice.{Choice}
 use Rattle.response.specs.declared.choice.WindowError.{WindowError}
 use Rattle.response.specs.declared.choice.WindowError.TheVariants.{Memory, Unschedulable}
@@ -18,16 +17,15 @@ use Rattle.response.specs.Windows.{Demand, AreAllChoices, IsWindowError, method_
 use Rattle.response.specs.Windows.{window_at as chosen_window}
 use Rattle.response.proofs.WindowLaws.{smaller_is_window}
 use Rattle.response.proofs.Choices.{first_too}
-use Rattle.response.proofs.Least.{demands_agree}
 use Rattle.cert_check.specs.JudgeInput.{longest_at}
 use Rattle.cert_check.specs.TaskGraphs.{task_graph_at}
 use Rattle.cert_check.specs.Times.{AreLongest}
-use Rattle.cert_build.specs.Best.{HasChoice}
+use Rattle.cert_build.specs.Best.{Demands, HasChoice}
 use Rattle.cert_build.specs.Assembly.{no_analysis, analysis_at, HaveResponses, IsAssembled}
-use Rattle.cert_build.specs.Certify.{IsCompleted, HasNoWindows}
+use Rattle.cert_build.specs.Certify.{HaveNoWindowsBy, IsCompletedBy}
 use Rattle.cert_build.specs.declared.one_task.Analysis.{Analysis}
 use Rattle.cert_build.proofs.Assembly.{has_parts}
-use Rattle.cert_build.proofs.Choices.{choices_by}
+use Rattle.cert_build.proofs.Choices.{AllAgree, chosen_by}
 
 -- a part of the analyses' list
 pub part_of_list : (analyses : List Analysis) (parts : List Part) (k : ℕ)
@@ -47,23 +45,20 @@ responses set demand choices times A k lt =
     let p = times.longest k lt in
     omega (arith, d, e, p)
 
-module _ (set : TaskSet) (times : HasTimes set) (graphs : List CodeGraph) (nests : List CodeNest)
-    (analyses : List Analysis) (parts : List Part) (costs : List ℕ)
-    (P : parts ≡ map (λ (a : Analysis). a.part) analyses) (L : AreLongest set graphs costs) where
-  costs_are : (k : ℕ) → k < length set.tasks
-      → slice_index costs k ≡ longest_at set.platform (task_graph_at graphs nests) k
-  costs_are k lt = L.each k lt
-
+module _ (set : TaskSet) (demands : Demands) (agree : AllAgree set demands)
+    (graphs : List CodeGraph) (nests : List CodeNest) (analyses : List Analysis)
+    (parts : List Part) (costs : List ℕ) (P : parts ≡ map (λ (a : Analysis). a.part) analyses)
+    (L : AreLongest set graphs costs) where
   pub completed : (choices : List Choice) (c : Certificate)
-      → AreAllChoices set (demand set (part_at parts) (slice_index costs)) choices
+      → AreAllChoices set (demands (part_at parts) (slice_index costs)) choices
       → IsAssembled set analyses choices c
-      → IsCompleted set (task_graph_at graphs nests) (analysis_at analyses) c
+      → IsCompletedBy set demands (task_graph_at graphs nests) (analysis_at analyses) c
   completed choices c A C =
       record {
         parts = has_parts set analyses choices c C;
-        smaller = λ k lt.
-            choices_by set (task_graph_at graphs nests) c (part_at parts) (slice_index costs)
-            choices k times A has_choice lt;
+        smaller =
+            chosen_by set demands agree (task_graph_at graphs nests) c (part_at parts)
+            (slice_index costs) choices A has_choice;
       }
     where
       has_choice : (k : ℕ) → k < length set.tasks
@@ -73,20 +68,20 @@ module _ (set : TaskSet) (times : HasTimes set) (graphs : List CodeGraph) (nests
           let at = C.parts.each k lt in
           record {
             part = ap (λ (t : TaskPart). t.part) at ∙ sym (part_of_list analyses parts k P);
-            instruction = sym (costs_are k lt);
+            instruction = sym (L.each k lt);
             window = ap (λ (t : TaskPart). t.window) at;
             method = ap (λ (t : TaskPart). t.method) at;
           }
 
   pub unscheduled : (e : WindowError)
-      → IsWindowError set (demand set (part_at parts) (slice_index costs)) e
-      → HasNoWindows set (task_graph_at graphs nests) (analysis_at analyses) e
+      → IsWindowError set (demands (part_at parts) (slice_index costs)) e
+      → HaveNoWindowsBy set demands (task_graph_at graphs nests) (analysis_at analyses) e
   unscheduled Memory R = tt
   unscheduled (Unschedulable t) R =
-      first_too set (demand set (part_at parts) (slice_index costs))
-      (demand set (λ k. (analysis_at analyses k).part)
+      first_too set (demands (part_at parts) (slice_index costs))
+      (demands (λ k. (analysis_at analyses k).part)
       (longest_at set.platform (task_graph_at graphs nests)))
-      (demands_agree set (part_at parts) (λ k. (analysis_at analyses k).part) (slice_index costs)
-      (longest_at set.platform (task_graph_at graphs nests)) (length set.tasks) times (omega arith)
-      (λ k lt. part_of_list analyses parts k P) costs_are)
+      (agree (part_at parts) (λ k. (analysis_at analyses k).part) (slice_index costs)
+      (longest_at set.platform (task_graph_at graphs nests))
+      (λ k lt. part_of_list analyses parts k P) L.each)
       t.0 R

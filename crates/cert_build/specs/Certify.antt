@@ -1,5 +1,5 @@
 -- The certificate that is made, and when there is none.
-use Rattle.std.specs.Prelude.{◌≡◌, ℕ, ◌+◌, ◌<◌, ◌≤◌, ◌^◌, List, length, slice_index_or}
+use Rattle.std.specs.Prelude.{◌≡◌, ℕ, ◌+◌, ◌<◌, ◌≤◌, List, length, slice_index_or}
 use Rattle.crpd_base.specs.Limits.{longest_time, most_entries}
 use Rattle.crpd_base.specs.declared.data.TaskSet.{TaskSet}
 use Rattle.crpd_base.specs.declared.data.Part.{Part}
@@ -9,12 +9,11 @@ use Rattle.crpd_base.specs.Tasks.{jitter_of}
 use Rattle.loop_regions.specs.TaskGraph.{TaskGraph}
 use Rattle.evict_sets.specs.ListedPart.{no_task_part, certified_task}
 use Rattle.delay_count.specs.Demand.{demand}
-use Rattle.response.specs.Windows.{IsSmallerWindow, IsFirstWithoutWindow}
+use Rattle.response.specs.Windows.{IsSmallerWindow, IsFirstWithoutWindow, IsWindowError}
 use Rattle.response.specs.declared.choice.WindowError.{WindowError}
-use Rattle.response.specs.declared.choice.WindowError.TheVariants as window
-use Rattle.cert_check.specs.JudgeInput.{window_at, longest_at, task_name}
+use Rattle.cert_check.specs.JudgeInput.{certified_part, window_at, longest_at, task_name}
 use Rattle.cert_model.specs.Reading.{entries}
-use Rattle.cert_build.specs.Best.{IsBestPart, demand_of}
+use Rattle.cert_build.specs.Best.{Demands, IsBestPart}
 use Rattle.cert_build.specs.Analysis.{part_with, HasLargeBound}
 use Rattle.cert_build.specs.declared.one_task.Analysis.{Analysis}
 use Rattle.cert_build.specs.declared.fault.BuildError.{BuildError}
@@ -52,13 +51,17 @@ HaveNoAnalyses set graphs (TooManyEntries n) =
     × (most_entries < n)
 HaveNoAnalyses set graphs (Unschedulable t) = ⊥
 
--- when each refusal of a certificate comes: those of the analyses; else the first task without a
--- window
-abbrev pub IsBuildError : TaskSet → (ℕ → TaskGraph) → BuildError → Type 0
-IsBuildError set graphs (Unschedulable t) =
+-- when each refusal of a certificate by a demand comes: those of the analyses; else the first task
+-- without a window
+abbrev pub IsRefusedBy : TaskSet → Demands → (ℕ → TaskGraph) → BuildError → Type 0
+IsRefusedBy set demands graphs (Unschedulable t) =
     (parts : List TaskPart) × AreBestParts set graphs parts × (entries parts ≤ most_entries)
-    × IsFirstWithoutWindow set (demand set (part_in parts) (longest_at set.platform graphs)) t.0
-IsBuildError set graphs e = HaveNoAnalyses set graphs e
+    × IsFirstWithoutWindow set (demands (part_in parts) (longest_at set.platform graphs)) t.0
+IsRefusedBy set demands graphs e = HaveNoAnalyses set graphs e
+
+-- and of the analysis' certificate
+abbrev pub IsBuildError : TaskSet → (ℕ → TaskGraph) → BuildError → Type 0
+IsBuildError set = IsRefusedBy set (demand set)
 
 -- a certificate with these analyses, whatever its windows: each with its task's name, and as
 -- response its window and jitter
@@ -69,16 +72,24 @@ pub record HasParts (set : TaskSet) (analyses : ℕ → Analysis) (c : Certifica
       certified_task c k ≡ part_with (analyses k) (task_name set k) (certified_task c k).method
       (window_at c k) (window_at c k + jitter_of set k)
 
--- the certificate of these analyses, whose windows are the smaller of the least ones
-pub record IsCompleted (set : TaskSet) (graphs : ℕ → TaskGraph) (analyses : ℕ → Analysis)
-    (c : Certificate) : Type 0 where
+-- the certificate of these analyses, whose windows are the smaller of the least ones by a demand
+pub record IsCompletedBy (set : TaskSet) (demands : Demands) (graphs : ℕ → TaskGraph)
+    (analyses : ℕ → Analysis) (c : Certificate) : Type 0 where
   pub parts : HasParts set analyses c
-  pub smaller : (k : ℕ) → k < length set.tasks →
-      IsSmallerWindow set (demand_of set graphs c k) k (certified_task c k).method (window_at c k)
+  pub smaller : (k : ℕ) → k < length set.tasks → IsSmallerWindow set
+      (demands (certified_part c) (longest_at set.platform graphs) (window_at c) k) k
+      (certified_task c k).method (window_at c k)
 
--- when there are no windows for these analyses
+-- whose windows are those with the multiset delays
+abbrev pub IsCompleted : TaskSet → (ℕ → TaskGraph) → (ℕ → Analysis) → Certificate → Type 0
+IsCompleted set = IsCompletedBy set (demand set)
+
+-- when there are no windows for these analyses by a demand
+abbrev pub HaveNoWindowsBy : TaskSet → Demands → (ℕ → TaskGraph) → (ℕ → Analysis) → WindowError
+    → Type 0
+HaveNoWindowsBy set demands graphs analyses =
+    IsWindowError set (demands (λ k. (analyses k).part) (longest_at set.platform graphs))
+
+-- when there are none with the multiset delays
 abbrev pub HasNoWindows : TaskSet → (ℕ → TaskGraph) → (ℕ → Analysis) → WindowError → Type 0
-HasNoWindows set graphs analyses window.Memory = Unit {0}
-HasNoWindows set graphs analyses (window.Unschedulable t) =
-    IsFirstWithoutWindow set (demand set (λ k. (analyses k).part) (longest_at set.platform graphs))
-    t.0
+HasNoWindows set = HaveNoWindowsBy set (demand set)

@@ -1,5 +1,5 @@
 -- The updated certificate, put together from the new parts and their windows.
-use Rattle.std.proofs.Common.{ℕ, ◌<◌, ◌≤◌, ◌^◌, List, length, sym, ap, subst, inl, inr, arith}
+use Rattle.std.proofs.Common.{ℕ, ◌<◌, ◌≤◌, ◌^◌, List, length, sym, subst, inl, inr, arith}
 use Rattle.std.specs.Prelude.{All, sum_by}
 use Rattle.crpd_base.specs.Ranges.{IsTaskSet}
 use Rattle.crpd_base.specs.declared.data.Task.{Task}
@@ -23,7 +23,8 @@ use Rattle.cert_build.specs.Assembly.{analysis_at, entries_of}
 use Rattle.cert_build.specs.Certify.{IsCompleted}
 use Rattle.cert_build.specs.declared.one_task.Analysis.{Analysis}
 use Rattle.cert_build.proofs.Counting.{entries_map}
-use Rattle.cert_build.proofs.Certified.{beside as with_others, entries_are, in_ranges, in_deadlines}
+use Rattle.cert_build.proofs.Certified.{beside as with_others, certified, entries_are, in_ranges}
+use Rattle.cert_build.proofs.Certified.{in_deadlines}
 use Rattle.cert_update.specs.Unchanged.{Side}
 use Rattle.cert_update.specs.Update.{IsUpdate, IsUpdatedPart, AreChangedTasks, AreUpdatedParts}
 use Rattle.cert_update.specs.Inner.Parts.{AreNewParts}
@@ -79,16 +80,8 @@ module _ (old : Side) (c : Certificate) (new : Side) (parts : List Analysis) (d 
 
   pub is_update : IsUpdate old c new d
   is_update =
-      record {
-        platform = K.parts.platform;
-        tasks = K.parts.tasks;
-        each = λ i lt. record {
-          name = ap (λ (t : TaskPart). t.name) (K.parts.part i lt);
-          part = part_at i lt;
-          window = K.smaller i lt;
-          response = ap (λ (t : TaskPart). t.response) (K.parts.part i lt);
-        };
-      }
+      certified new.set (demand new.set) new.graphs (analysis_at parts) d K
+      (IsUpdatedPart old c new) part_at
 
   are_parts : AreUpdatedParts old c new d.tasks
   are_parts =
@@ -115,7 +108,7 @@ module _ (old : Side) (c : Certificate) (new : Side) (parts : List Analysis) (d 
   pub update_in_ranges : IsTaskSet new.set → IsCertificate d
   update_in_ranges S =
       in_ranges new.set parts d K.parts (has_times new.set S) S (λ i lt. (A.each i lt).ranges)
-      (in_deadlines new.set new.graphs (analysis_at parts) d K) few_entries
+      (in_deadlines new.set (demand new.set) new.graphs (analysis_at parts) d K) few_entries
 
 -- no windows for the new parts
 pub no_windows : (old : Side) (c : Certificate) (new : Side) (parts : List Analysis) (i : ℕ)

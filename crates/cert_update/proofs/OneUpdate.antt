@@ -1,5 +1,5 @@
 -- There is one update of a certificate at most.
-use Rattle.std.proofs.Common.{◌≡◌, ◌≢◌, ℕ, ◌<◌, [], length, get_or, refl, sym, ◌∙◌, subst, inl, inr}
+use Rattle.std.proofs.Common.{◌≡◌, ◌≢◌, ℕ, ◌<◌, [], length, get_or, sym, ◌∙◌, subst, inl, inr}
 use Rattle.std.proofs.Common.{⊎_elim, arith}
 use Rattle.std.proofs.lemmas.Bool.{cases_order}
 use Rattle.std.proofs.lemmas.List.{get_or-map}
@@ -10,12 +10,12 @@ use Rattle.crpd_base.specs.declared.data.TaskSet.{TaskSet}
 use Rattle.crpd_base.specs.declared.data.TaskPart.{TaskPart}
 use Rattle.crpd_base.specs.declared.data.Certificate.{Certificate}
 use Rattle.evict_sets.specs.ListedPart.{certified_task}
-use Rattle.response.proofs.Least.{demands_agree}
-use Rattle.cert_check.specs.JudgeInput.{window_at, certified_part, longest_at, task_name}
+use Rattle.delay_count.specs.Demand.{demand}
+use Rattle.cert_check.specs.JudgeInput.{longest_at, task_name}
 use Rattle.crpd_base.proofs.Times.{has_times}
-use Rattle.cert_build.specs.Best.{demand_of}
+use Rattle.cert_build.proofs.Choices.{multiset_agree}
 use Rattle.cert_build.proofs.OneBest.{same_analysis}
-use Rattle.cert_build.proofs.OneCertificate.{SameAnalysis, one_certificate}
+use Rattle.cert_build.proofs.OneCertificate.{AreOneAnalysis, SameAnalysis, one_certificate}
 use Rattle.cert_update.specs.Unchanged.{Side, IsUnchanged}
 use Rattle.cert_update.specs.Update.{IsUpdatedPart, HasSameAnalysis}
 use Rattle.cert_update.specs.Laws.{OneUpdateLaw}
@@ -54,34 +54,17 @@ module _ (old new : Side) (c : Certificate) (O : IsTaskSet old.set) where
   one_source : (i k j : ℕ) → IsUnchanged old new k i → IsUnchanged old new j i → k ≡ j
   one_source i k j K J = one_name old.set O k j K.task J.task (K.name ∙ sym J.name)
 
-  same_update : (i : ℕ) (x y : TaskPart) → IsUpdatedPart old c new i x → IsUpdatedPart old c new i y
-      → SameAnalysis x y
-  same_update i x y (inl a) (inl b) =
+  pub same_update : AreOneAnalysis new.set (IsUpdatedPart old c new)
+  same_update i x y lt (inl a) (inl b) =
       kept_analysis (certified_task c a.0) x y a.2
       (subst (λ k. HasSameAnalysis (certified_task c k) y) (one_source i b.0 a.0 b.1 a.1) b.2)
-  same_update i x y (inl a) (inr b) = absurd (b.0 a.0 a.1)
-  same_update i x y (inr a) (inl b) = absurd (a.0 b.0 b.1)
-  same_update i x y (inr a) (inr b) =
+  same_update i x y lt (inl a) (inr b) = absurd (b.0 a.0 a.1)
+  same_update i x y lt (inr a) (inl b) = absurd (a.0 b.0 b.1)
+  same_update i x y lt (inr a) (inr b) =
       same_analysis new.set.platform (new.graphs i) x y a.1 b.1
 
 pub one_update_by : OneUpdateLaw
-one_update_by old new c d e O S D E =
-    one_certificate new.set d e (demand_of new.set new.graphs d) (demand_of new.set new.graphs e)
-    (D.platform ∙ sym E.platform) D.tasks E.tasks
-    (λ i l.
-    let X = D.each i l in
-    let Y = E.each i l in
-    record {
-      name = X.name ∙ sym Y.name;
-      analysis = same_update old new c O i (certified_task d i) (certified_task e i)
-          X.part Y.part;
-      window = X.window;
-      other = Y.window;
-      response = X.response;
-      reply = Y.response;
-    })
-    (λ parts.
-    demands_agree new.set (certified_part d) (certified_part e)
-    (longest_at new.set.platform new.graphs) (longest_at new.set.platform new.graphs)
-    (length new.set.tasks) (has_times new.set S) (omega arith) parts (λ k m. refl)
-    (window_at d) (window_at e))
+one_update_by old new c d e O S =
+    one_certificate new.set (demand new.set) (longest_at new.set.platform new.graphs)
+    (IsUpdatedPart old c new) (multiset_agree new.set (has_times new.set S))
+    (same_update old new c O) d e

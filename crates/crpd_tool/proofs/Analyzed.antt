@@ -5,6 +5,8 @@ use Rattle.crpd_base.specs.declared.data.Certificate.{Certificate}
 use Rattle.crpd_base.specs.declared.data.TaskSet.{TaskSet}
 use Rattle.flat_graph.specs.CodeGraph.{graph_of, graph_at}
 use Rattle.flat_graph.specs.Graph.{IsGraph}
+use Rattle.delay_count.specs.Demand.{demand}
+use Rattle.cert_build.specs.Best.{Demands}
 use Rattle.cert_build.specs.declared.fault.BuildError.{BuildError}
 use Rattle.cert_build.specs.declared.fault.BuildError.TheVariants.{Memory, TooLarge, TooManyEntries}
 use Rattle.cert_build.specs.declared.fault.BuildError.TheVariants.{Unschedulable}
@@ -19,8 +21,8 @@ use Rattle.crpd_tool.specs.declared.status.Status.TheVariants.{Done}
 use Rattle.crpd_input.specs.declared.input.Input.{Input}
 use Rattle.crpd_input.specs.declared.halt.Halt.{Halt}
 use Rattle.crpd_input.specs.declared.shapes.Shapes.{Shapes}
-use Rattle.crpd_tool.specs.Analyze.{AnalysisOf, AnalyzeEnds, IsMade, certificate_answer}
-use Rattle.crpd_tool.specs.Analyze.{without_certificate}
+use Rattle.crpd_tool.specs.Analyze.{AnalysisBy, AnalysisOf, AnalyzeEnds, IsMade}
+use Rattle.crpd_tool.specs.Analyze.{certificate_answer, without_certificate}
 use Rattle.crpd_tool.specs.Analyzed.{DoneIsBest, IsAnalyzed}
 use Rattle.crpd_tool.specs.Output.{Output, ending_output}
 use Rattle.crpd_input.specs.Reading.{input_in}
@@ -39,26 +41,28 @@ not_done file set (TooLarge task address) is = cc
 not_done file set (TooManyEntries count) is = cc
 not_done file set (Unschedulable task) is = cc
 
-module _ (contents : Contents) (set : List ℕ) where
-  made : (input : Input) (shapes : Shapes) (ending : Result Answer Halt)
-      → AnalysisOf set input shapes ending → (ending_output ending).status ≡ Done
-      → (c : Certificate) × IsMade input.set (task_graph_at shapes.graphs shapes.nests) c
-      × (ending ≡ Ok (certificate_answer c))
-  made input shapes ending (inl found) e = found
-  made input shapes ending (inr none) e =
-      absurd (not_done set input.set none.0
-      (ap (λ (r : Result Answer Halt). (ending_output r).status) (sym none.3) ∙ e))
+pub made : (demands : TaskSet → Demands) (file : List ℕ) (input : Input) (shapes : Shapes)
+    (ending : Result Answer Halt) → AnalysisBy demands file input shapes ending
+    → (ending_output ending).status ≡ Done
+    → (c : Certificate)
+    × IsMade input.set (demands input.set) (task_graph_at shapes.graphs shapes.nests) c
+    × (ending ≡ Ok (certificate_answer c))
+made demands file input shapes ending (inl found) e = found
+made demands file input shapes ending (inr none) e =
+    absurd (not_done file input.set none.0
+    (ap (λ (r : Result Answer Halt). (ending_output r).status) (sym none.3) ∙ e))
 
+module _ (contents : Contents) (set : List ℕ) where
   analyzed : (input : Input) (shapes : Shapes) (c : Certificate) (ending : Result Answer Halt)
       → input_in contents set ≡ Ok input → ShapesIn input (Ok shapes)
-      → IsMade input.set (task_graph_at shapes.graphs shapes.nests) c
+      → IsMade input.set (demand input.set) (task_graph_at shapes.graphs shapes.nests) c
       → ending ≡ Ok (certificate_answer c) → IsAnalyzed contents set (ending_output ending).text
   analyzed input shapes c ending is shaped M end =
       let G : (k : ℕ) → k < length input.set.tasks → IsGraph (graph_of (graph_at shapes.graphs k)) =
       λ k lt. (shapes_built input shapes (input_good contents set input is)
       (input_planned contents set input is) shaped k lt).follows.graph in
       let yes : IsJudged input.set (task_graph_at shapes.graphs shapes.nests) c Yes =
-      best_is_judged input.set (task_graph_at shapes.graphs shapes.nests) c G M.best in
+      best_is_judged input.set (task_graph_at shapes.graphs shapes.nests) c G M.is in
       record {
         input = input;
         shapes = shapes;
@@ -68,7 +72,7 @@ module _ (contents : Contents) (set : List ℕ) where
         shapes_are = shaped;
         text_is = ap (λ (r : Result Answer Halt). (ending_output r).text) end;
         reads = M.reads;
-        best = M.best;
+        best = M.is;
         judged = yes;
         checks = λ others file name same read.
             inl (input, same, inl (shapes, shaped, inl (c, read, (verdict.Yes, yes, refl))));
@@ -78,7 +82,7 @@ module _ (contents : Contents) (set : List ℕ) where
       → (ending_output ending).status ≡ Done → IsAnalyzed contents set (ending_output ending).text
   ended ending is e =
       let given = shapes_done contents set (AnalysisOf set) ending is e in
-      let found = made given.0 given.1 ending given.4 e in
+      let found = made demand set given.0 given.1 ending given.4 e in
       analyzed given.0 given.1 found.0 ending given.2 given.3 found.1 found.2
 
 pub done_is_best : (words : List (List ℕ)) (contents : Contents) → DoneIsBest words contents

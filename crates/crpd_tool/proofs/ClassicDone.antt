@@ -1,7 +1,6 @@
 -- A whole text with the status Done on `classic` comes of the certificate with the plain union
 -- delays.
 use Rattle.std.proofs.Common.{◌≡◌, ℕ, ◌<◌, List, Result, Ok, length, refl, ap, sym, ◌∙◌, subst, inl}
-use Rattle.std.proofs.Common.{inr}
 use Rattle.crpd_base.specs.declared.data.Certificate.{Certificate}
 use Rattle.code_map.specs.Words.{word_at}
 use Rattle.cert_check.specs.JudgeInput.{IsGraphOf}
@@ -10,6 +9,7 @@ use Rattle.cert_check.specs.TaskGraphs.{task_graph_at}
 use Rattle.cert_check.specs.declared.outcome.Verdict.TheVariants as verdict
 use Rattle.cert_model.specs.Writing.{text as certificate_text}
 use Rattle.delay_classic.specs.Classic.{ClassicHasBest, ClassicIsJudged, OneClassic}
+use Rattle.delay_classic.specs.Demand.{classic_demands}
 use Rattle.preempt_machine.specs.Machine.{plan_of}
 use Rattle.preempt_machine.specs.Safe.{system_of}
 use Rattle.sound_laws.specs.Headline.{CheckedCodeIsSafe}
@@ -24,29 +24,20 @@ use Rattle.crpd_input.specs.Reading.{input_in}
 use Rattle.crpd_input.specs.Shapes.{ShapesIn}
 use Rattle.crpd_input.proofs.Built.{shapes_built}
 use Rattle.crpd_input.proofs.Given.{input_good, input_planned}
-use Rattle.crpd_tool.specs.Analyze.{certificate_answer}
-use Rattle.crpd_tool.specs.Classic.{ClassicEnds, ClassicOf, IsMadeClassic}
+use Rattle.crpd_tool.specs.Analyze.{IsMade, certificate_answer}
+use Rattle.crpd_tool.specs.Classic.{ClassicEnds, ClassicOf}
 use Rattle.crpd_tool.specs.ClassicSound.{DoneIsClassic, IsSoundClassic}
 use Rattle.crpd_tool.specs.Output.{Output, ending_output}
 use Rattle.crpd_tool.specs.Commands.{classic}
-use Rattle.crpd_tool.proofs.Analyzed.{not_done}
+use Rattle.crpd_tool.proofs.Analyzed.{made}
 use Rattle.crpd_tool.proofs.Finish.{some-out}
 use Rattle.crpd_tool.proofs.Safety.{shapes_done}
 
 module _ (safe_law : CheckedCodeIsSafe) (judged_law : ClassicIsJudged) (one_law : OneClassic)
     (best_law : ClassicHasBest) (contents : Contents) (set : List ℕ) where
-  made : (input : Input) (shapes : Shapes) (ending : Result Answer Halt)
-      → ClassicOf set input shapes ending → (ending_output ending).status ≡ Done
-      → (c : Certificate) × IsMadeClassic input.set (task_graph_at shapes.graphs shapes.nests) c
-      × (ending ≡ Ok (certificate_answer c))
-  made input shapes ending (inl found) e = found
-  made input shapes ending (inr none) e =
-      absurd (not_done set input.set none.0
-      (ap (λ (r : Result Answer Halt). (ending_output r).status) (sym none.3) ∙ e))
-
   sound : (input : Input) (shapes : Shapes) (c : Certificate) (ending : Result Answer Halt)
       → input_in contents set ≡ Ok input → ShapesIn input (Ok shapes)
-      → IsMadeClassic input.set (task_graph_at shapes.graphs shapes.nests) c
+      → IsMade input.set (classic_demands input.set) (task_graph_at shapes.graphs shapes.nests) c
       → ending ≡ Ok (certificate_answer c) → IsSoundClassic contents set (ending_output ending).text
   sound input shapes c ending is shaped M end =
       let good = input_good contents set input is in
@@ -56,7 +47,7 @@ module _ (safe_law : CheckedCodeIsSafe) (judged_law : ClassicIsJudged) (one_law 
       shapes_built input shapes good (input_planned contents set input is) shaped in
       let yes : IsJudged input.set (task_graph_at shapes.graphs shapes.nests) c Yes =
       judged_law input.set (task_graph_at shapes.graphs shapes.nests) c
-      (λ k lt. (built k lt).follows.graph) M.classic in
+      (λ k lt. (built k lt).follows.graph) M.is in
       record {
         input = input;
         shapes = shapes;
@@ -66,15 +57,15 @@ module _ (safe_law : CheckedCodeIsSafe) (judged_law : ClassicIsJudged) (one_law 
         shapes_are = shaped;
         text_is = ap (λ (r : Result Answer Halt). (ending_output r).text) end;
         reads = M.reads;
-        is = M.classic;
-        only = λ d D. one_law input.set (task_graph_at shapes.graphs shapes.nests) d c D M.classic;
+        is = M.is;
+        only = λ d D. one_law input.set (task_graph_at shapes.graphs shapes.nests) d c D M.is;
         judged = yes;
         safe =
             safe_law input.set input.code (task_graph_at shapes.graphs shapes.nests) c good.ranges
             good.words built yes;
         best =
             best_law input.set (task_graph_at shapes.graphs shapes.nests) c
-            (has_times input.set good.ranges) M.classic;
+            (has_times input.set good.ranges) M.is;
         checks = λ others file name same read.
             inl (input, same, inl (shapes, shaped, inl (c, read, (verdict.Yes, yes, refl))));
       }
@@ -84,7 +75,7 @@ module _ (safe_law : CheckedCodeIsSafe) (judged_law : ClassicIsJudged) (one_law 
       → IsSoundClassic contents set (ending_output ending).text
   ended ending is e =
       let given = shapes_done contents set (ClassicOf set) ending is e in
-      let found = made given.0 given.1 ending given.4 e in
+      let found = made classic_demands set given.0 given.1 ending given.4 e in
       sound given.0 given.1 found.0 ending given.2 given.3 found.1 found.2
 
 pub done_is_classic : CheckedCodeIsSafe → ClassicIsJudged → OneClassic → ClassicHasBest

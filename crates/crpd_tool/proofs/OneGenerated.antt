@@ -1,14 +1,18 @@
 -- A made input has one end by all regions of the same loops.
-use Rattle.std.proofs.Common.{◌≡◌, ℕ, ◌<◌, Bool, List, length, Result, Ok, sym, ap, subst, ◌∙◌, inl}
-use Rattle.std.proofs.Common.{inr}
+use Rattle.std.proofs.Common.{◌≡◌, ℕ, ◌<◌, Bool, List, length, Result, Ok, Err, sym, ap, subst, ◌∙◌}
+use Rattle.std.proofs.Common.{inl, inr}
 use Rattle.std.proofs.lemmas.Bool.Decides.{same_from_decides}
 use Rattle.crpd_base.specs.declared.data.Certificate.{Certificate}
 use Rattle.crpd_base.specs.declared.data.Script.{Script}
 use Rattle.crpd_base.specs.Tasks.{HasTimes}
+use Rattle.crpd_base.proofs.Results.{ok_is, ok_not_err}
 use Rattle.flat_graph.specs.CodeGraph.{CodeGraph, graph_of, graph_at}
 use Rattle.flat_graph.specs.Graph.{IsGraph}
 use Rattle.loop_regions.specs.CodeNest.{CodeNest}
-use Rattle.cert_build.proofs.OneBest.{one_best}
+use Rattle.delay_count.specs.Demand.{demand}
+use Rattle.cert_build.specs.declared.fault.BuildError.{BuildError}
+use Rattle.cert_build.proofs.Choices.{multiset_above, multiset_agree}
+use Rattle.cert_build.proofs.OneBuild.{IsBuilt}
 use Rattle.cert_check.specs.FirstFailing.{answer_of}
 use Rattle.cert_check.specs.TaskGraphs.{task_graph_at}
 use Rattle.cert_check.specs.Verdict.{IsJudged}
@@ -22,8 +26,10 @@ use Rattle.cert_check.proofs.Alike.{AllAlike, judged_too}
 use Rattle.cert_check.proofs.OneAnswer.{one_verdict}
 use Rattle.crpd_tool.specs.Generate.{GeneratedOf, IsRunJudged, made_answer, without_made}
 use Rattle.crpd_tool.specs.Simulate.{run_of}
-use Rattle.crpd_tool.proofs.OneBuild.{not_refused, one_refusal}
-use Rattle.crpd_tool.proofs.OneMade.{best_too, refused_too}
+use Rattle.crpd_tool.proofs.OneMade.{built_once}
+
+err_is : {A E : Type 0} (d e : E) → ◌≡◌ {A = Result A E} (Err d) (Err e) → d ≡ e
+err_is d e same = cc
 
 module _ (n : ℕ) (script : Script) (input : Input) (graphs : List CodeGraph) (ns ms : List CodeNest)
     (times : HasTimes input.set)
@@ -35,11 +41,17 @@ module _ (n : ℕ) (script : Script) (input : Input) (graphs : List CodeGraph) (
   abbrev by_second : Shapes
   by_second = record { graphs = graphs; nests = ms }
 
+  same_built : (o p : Result Certificate BuildError)
+      → IsBuilt input.set (demand input.set) (task_graph_at graphs ns) o
+      → IsBuilt input.set (demand input.set) (task_graph_at graphs ms) p → o ≡ p
+  same_built =
+      built_once input.set (demand input.set) graphs ns ms times G same
+      (multiset_agree input.set times) (multiset_above input.set)
+
   one_certificate : (c d : Certificate) (v w : Verdict) (k l : Bool)
       → IsRunJudged script input by_first c v k → IsRunJudged script input by_second d w l → c ≡ d
   one_certificate c d v w k l M N =
-      one_best input.set (task_graph_at graphs ms) c d times
-      (best_too input.set graphs ns ms same c M.best) N.best
+      ok_is c d (same_built (Ok c) (Ok d) (M.best, M.few) (N.best, N.few))
 
   same_verdict : (c d : Certificate) (v w : Verdict) (k l : Bool)
       → IsRunJudged script input by_first c v k → IsRunJudged script input by_second d w l → v ≡ w
@@ -66,12 +78,11 @@ module _ (n : ℕ) (script : Script) (input : Input) (graphs : List CodeGraph) (
       e ∙ same_answer c d v w k l (one_certificate c d v w k l M N) (same_verdict c d v w k l M N)
       kept ∙ sym f
   one_generated r s (inl (c, v, k, M, e)) (inr b) =
-      absurd (not_refused input.set (task_graph_at graphs ms) times G c b.0
-      (best_too input.set graphs ns ms same c M.best) M.few b.1 b.2)
+      absurd (ok_not_err c b.0
+      (same_built (Ok c) (Err b.0) (M.best, M.few) (b.1, b.2)))
   one_generated r s (inr a) (inl (d, w, l, N, f)) =
-      absurd (not_refused input.set (task_graph_at graphs ms) times G d a.0 N.best N.few a.1
-      (refused_too input.set graphs ns ms same a.0 a.2))
+      absurd (ok_not_err d a.0
+      (sym (same_built (Err a.0) (Ok d) (a.1, a.2) (N.best, N.few))))
   one_generated r s (inr a) (inr b) =
-      let e : a.0 ≡ b.0 = one_refusal input.set (task_graph_at graphs ms) times G a.0 b.0 a.1 b.1
-      (refused_too input.set graphs ns ms same a.0 a.2) b.2 in
+      let e : a.0 ≡ b.0 = err_is a.0 b.0 (same_built (Err a.0) (Err b.0) (a.1, a.2) (b.1, b.2)) in
       a.3 ∙ ap (without_made n input by_second) e ∙ sym b.3

@@ -137,7 +137,7 @@ module _ (judges : UpdateIsJudgedLaw) (bests : UpdateIsBestLaw) (contents : Cont
                   shaped,
                   inl (
                     c,
-                    record { best = B; few = M.few; reads = M.reads },
+                    record { is = B; few = M.few; reads = M.reads },
                     ap (λ t. Ok (record { text = t; outcome = ended.Done })) text,
                   ),
                 ),

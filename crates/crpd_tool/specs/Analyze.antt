@@ -5,8 +5,9 @@ use Rattle.crpd_base.specs.Limits.{most_entries}
 use Rattle.crpd_base.specs.declared.data.Certificate.{Certificate}
 use Rattle.crpd_base.specs.declared.data.TaskSet.{TaskSet}
 use Rattle.loop_regions.specs.TaskGraph.{TaskGraph}
-use Rattle.cert_build.specs.Best.{IsBest}
-use Rattle.cert_build.specs.Certify.{IsBuildError}
+use Rattle.delay_count.specs.Demand.{demand}
+use Rattle.cert_build.specs.Best.{Demands, IsAnalysisBy}
+use Rattle.cert_build.specs.Certify.{IsRefusedBy}
 use Rattle.cert_build.specs.declared.fault.BuildError.{BuildError}
 use Rattle.cert_build.specs.declared.fault.BuildError.TheVariants as build
 use Rattle.cert_check.specs.TaskGraphs.{task_graph_at}
@@ -26,10 +27,11 @@ use Rattle.crpd_input.specs.Steps.{refusal}
 use Rattle.crpd_tool.specs.Shaped.{WithShapes}
 use Rattle.crpd_tool.specs.Texts.{with_line_feed, unschedulable_text}
 
--- the certificate of the analysis, with at most 4,000,000 state entries; its text is read as this
--- certificate
-pub record IsMade (set : TaskSet) (graphs : ℕ → TaskGraph) (c : Certificate) : Type 0 where
-  pub best : IsBest set graphs c
+-- the certificate of the analysis with the windows by a demand, with at most 4,000,000 state
+-- entries; its text is read as this certificate
+pub record IsMade (set : TaskSet) (demands : Demands) (graphs : ℕ → TaskGraph)
+    (c : Certificate) : Type 0 where
+  pub is : IsAnalysisBy set demands graphs c
   pub few : entries c.tasks ≤ most_entries
   pub reads : reading (certificate_text c) ≡ Ok c
 
@@ -49,15 +51,20 @@ without_certificate file set (build.TooManyEntries count) =
 without_certificate file set (build.Unschedulable task) =
     Ok (record { text = unschedulable_text (name_of set task); outcome = No })
 
--- the analysis of all tasks, over their graphs and the regions of their loops: its certificate, or
--- why there is none
-abbrev pub AnalysisOf : List ℕ → Input → Shapes → Result Answer Halt → Type 0
-AnalysisOf file input shapes r =
-    ((c : Certificate) × IsMade input.set (task_graph_at shapes.graphs shapes.nests) c
+-- the analysis of all tasks with the windows by a demand, over their graphs and the regions of
+-- their loops: its certificate, or why there is none
+abbrev pub AnalysisBy : (TaskSet → Demands) → List ℕ → Input → Shapes → Result Answer Halt → Type 0
+AnalysisBy demands file input shapes r =
+    ((c : Certificate)
+    × IsMade input.set (demands input.set) (task_graph_at shapes.graphs shapes.nests) c
     × (r ≡ Ok (certificate_answer c)))
     ⊎ ((e : BuildError) × (e ≢ build.Memory)
-    × IsBuildError input.set (task_graph_at shapes.graphs shapes.nests) e
+    × IsRefusedBy input.set (demands input.set) (task_graph_at shapes.graphs shapes.nests) e
     × (r ≡ without_certificate file input.set e))
+
+-- the one with the multiset delays
+abbrev pub AnalysisOf : List ℕ → Input → Shapes → Result Answer Halt → Type 0
+AnalysisOf = AnalysisBy demand
 
 -- the whole command: the set with its code, the graphs of all tasks and the regions of their loops,
 -- and then the analysis

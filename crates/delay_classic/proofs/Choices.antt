@@ -1,21 +1,17 @@
 -- Choices by the plain union delays.
-use Rattle.std.proofs.Common.{◌≡◌, ℕ, ◌<◌, ◌≤◌, List, length, arith}
+use Rattle.std.proofs.Common.{ℕ, ◌<◌, ◌≤◌, List, arith}
 use Rattle.crpd_base.specs.declared.data.TaskSet.{TaskSet}
 use Rattle.crpd_base.specs.declared.data.Part.{Part}
 use Rattle.crpd_base.specs.Tasks.{jitter_of, deadline_of}
 use Rattle.response.specs.declared.choice.Choice.{Choice}
 use Rattle.response.specs.Windows.{window_at, method_at, AreChoices}
 use Rattle.response.proofs.WindowLaws.{smaller_is_window}
-use Rattle.response.proofs.Choices.{Agree}
+use Rattle.cert_build.proofs.Choices.{AllAgree}
 use Rattle.delay_classic.specs.Demand.{classic_demand, classic_demands}
 use Rattle.delay_classic.proofs.Same.{classic_same}
 
 -- the demands agree, where the parts and the longest costs are the same
-pub demands_agree : (set : TaskSet) (parts others : ℕ → Part) (longest further : ℕ → ℕ)
-    → ((k : ℕ) → k < length set.tasks → parts k ≡ others k)
-    → ((k : ℕ) → k < length set.tasks → longest k ≡ further k)
-    → Agree (classic_demands set parts longest) (classic_demands set others further)
-    (length set.tasks)
+pub demands_agree : (set : TaskSet) → AllAgree set (classic_demands set)
 demands_agree set parts others longest further P L window other i l same =
     classic_same set parts others longest further i l P L
 

@@ -12,7 +12,7 @@ returns-in_ok-certificate_answer-in-Ok-clause-exact c =
     inl (
       c.in-Ok.certificate,
       record {
-        classic =
+        is =
             rw (sym c.as_slice-graphs.ensures, sym c.as_slice-nests.ensures) c.in-Ok.ensures.exact;
         few = c.in-Ok.ensures.few;
         reads = c.in_ok-certificate_answer-in-Ok.ensures.reads_back;
