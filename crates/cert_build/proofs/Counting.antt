@@ -8,7 +8,6 @@ use Rattle.std.proofs.lemmas.List.Sums.{sum_by-cons, sum_by_push}
 use Rattle.std.proofs.Math.ListN.{get_or-map, length-map}
 use Rattle.crpd_base.specs.declared.data.Platform.{Platform}
 use Rattle.crpd_base.specs.declared.data.TaskSet.{TaskSet}
-use Rattle.crpd_base.specs.declared.data.NodeState.{NodeState}
 use Rattle.crpd_base.specs.declared.data.TaskPart.{TaskPart}
 use Rattle.crpd_base.specs.declared.data.Method.TheVariants.{Ucb}
 use Rattle.loop_regions.specs.Nest.{Item, Node, Loop, IsItem}
@@ -104,20 +103,6 @@ module _ (set : TaskSet) (graphs : ℕ → TaskGraph) where
         within = λ k lt.
             subst (λ (t : TaskPart). t.part.bound ≤ 2 ^ 40)
             (sym (get_or-map part_of_analysis all k no_analysis)) (each k lt).within;
-      }
-
-  pub none_counted : CountsEntries set graphs 0 0 []
-  none_counted =
-      record {
-        all = [];
-        analysed = record {
-          tasks = refl;
-          each = λ k l. absurd (omega (arith, l));
-          ranges = λ k l. absurd (omega (arith, l));
-        };
-        entries = refl;
-        same = λ l. refl;
-        small = omega arith;
       }
 
   pushed : (all : List Analysis) (a : Analysis) (n k : ℕ) (P : ℕ → Analysis → Type 0)

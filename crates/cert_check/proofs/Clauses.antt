@@ -7,11 +7,10 @@ use Rattle.crpd_base.specs.declared.data.Platform.{Platform}
 use Rattle.crpd_base.specs.declared.data.TaskSet.{TaskSet}
 use Rattle.rv_decode.specs.Cost.{cost}
 use Rattle.rv_decode.specs.Flow.{flow}
-use Rattle.flat_graph.specs.Graph.{Graph, IsGraph}
+use Rattle.flat_graph.specs.Graph.{Graph}
 use Rattle.flat_graph.specs.EdgeCost.{is_return}
 use Rattle.evict_sets.specs.Full.{Listed}
 use Rattle.icache.specs.Accesses.{Accesses}
-use Rattle.evict_sets.proofs.FullLaws.{hit_test_law}
 use Rattle.loop_regions.specs.Potentials.{Potentials, item_potential, MeetsAt}
 use Rattle.crpd_base.specs.declared.data.Certificate.{Certificate}
 use Rattle.evict_sets.specs.ListedPart.{listed_of, certified_task}
@@ -98,12 +97,6 @@ module _ (p : Platform) (t : TaskGraph) (c : TaskPart) where
         potentials = λ u l. h (Inequalities u) is_hit counts l;
         bound = h Bound;
       }
-
-  -- where the leaders are listed there is a test of the hits that are counted
-  pub graph_meets : IsGraph t.graph → ((k : Clause) → GraphHolds p t c k) → GraphMeets p t c
-  graph_meets G h =
-      let test = hit_test_law t.graph (accesses_of p t) (listed_of c) G (h Leaders).1 in
-      meets_with h test.0 test.1
 
 -- what is listed, and these: the clauses of a graph
 pub clauses_of : (p : Platform) (t : TaskGraph) (c : TaskPart)

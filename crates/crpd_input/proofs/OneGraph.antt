@@ -1,8 +1,8 @@
 -- A task has one flat graph at most, and either a graph or one refusal.
-use Rattle.std.proofs.Common.{◌≡◌, ◌≢◌, ℕ, zero, suc, ◌<◌, ◌≤◌, Bool, true, false, List, [], ◌∷◌}
-use Rattle.std.proofs.Common.{Option, Some, None, Result, Ok, Err, length, refl, sym, ap, ◌∙◌}
+use Rattle.std.proofs.Common.{◌≡◌, ◌≢◌, ℕ, zero, suc, ◌<◌, ◌≤◌, List, [], ◌∷◌}
+use Rattle.std.proofs.Common.{Some, Result, Ok, Err, length, refl, sym, ap, ◌∙◌}
 use Rattle.std.proofs.Common.{subst, inl, inr, arith}
-use Rattle.std.specs.Prelude.{if◌then◌else◌, AllPairs, Contains, map, slice_get}
+use Rattle.std.specs.Prelude.{AllPairs, Contains, map, slice_get}
 use Rattle.std.specs.declared.cmp.Ordering.{Ordering}
 use Rattle.std.specs.declared.cmp.Ordering.TheVariants.{Less, Equal, Greater}
 use Rattle.std.specs.Ordering.{nat_cmp, ordering_reverse, ordering_then}
@@ -14,7 +14,7 @@ use Rattle.crpd_base.proofs.Elements.{at_head, at_rest, head_or_rest, in_none, a
 use Rattle.crpd_base.proofs.Elements.{pairs_head, pairs_tail, same_places}
 use Rattle.crpd_base.proofs.Options.{not_none}
 use Rattle.crpd_base.specs.declared.data.TaskPlan.{TaskPlan}
-use Rattle.rv_decode.specs.Flow.{Flow, Flows, Words, flows}
+use Rattle.rv_decode.specs.Flow.{Flows, Words, flows}
 use Rattle.rv_decode.specs.Table.{ins_of_word}
 use Rattle.code_map.specs.Words.{word_at}
 use Rattle.flat_graph.specs.CodeGraph.{CodeGraph, IsCodeGraph, graph_of, no_node, node_of}
@@ -22,7 +22,7 @@ use Rattle.flat_graph.specs.CodeGraph.{places_of}
 use Rattle.flat_graph.specs.Numbered.{ArePlaces, IsFlatGraph}
 use Rattle.flat_graph.specs.FlatGraph.{FlatNode, NodeError, IsNode, IsNumberedBefore, IsNumbering}
 use Rattle.flat_graph.specs.FlatGraph.{IsGraphRefused, GraphRefusal, TooManyNodes, AtNode}
-use Rattle.flat_graph.specs.FlatGraph.{ins_error, error_of, successors}
+use Rattle.flat_graph.specs.FlatGraph.{error_of, successors}
 use Rattle.flat_graph.specs.FlatGraph as flat
 use Rattle.flat_graph.specs.GraphErrors.{IsGraphError}
 use Rattle.flat_graph.specs.Inner.GraphErrors.{graph_error}
@@ -138,12 +138,6 @@ one_row xs is js ns h = same_places (slice_get xs) (slice_get xs)
     (λ i j n. one_place xs i j n h) is js ns
 
 -- ---- graphs
-
--- an address without a word is an error
-no_word : (code : Flows) (entry : ℕ) (c : List ℕ) (t : Bool) (o : Option (Option Flow)) → o ≡ None
-    → (if t then ins_error code entry c o else Some flat.Misaligned) ≡ None → ⊥
-no_word code entry c true o none e = let f = rw none at e in cc
-no_word code entry c false o none e = cc
 
 module _ (words : Words) (entry : ℕ) (g h : CodeGraph) (X : IsCodeGraph words entry g)
     (Y : IsCodeGraph words entry h) where

@@ -7,9 +7,6 @@ use Rattle.dataflow.specs.Inner.Search.{rank, work_left}
 
 module _ (F V : Type 0) (view : F → V) (height : V → ℕ) (tallest : ℕ)
     (bounded : (v : V) → height v ≤ tallest) where
-  weight : Option F → ℕ
-  weight o = suc tallest - rank height (option_map view o)
-
   rank_bounded : (o : Option V) → rank height o ≤ suc tallest
   rank_bounded None = omega arith
   rank_bounded (Some v) = omega (arith, bounded v)

@@ -52,10 +52,6 @@ module _ (set : TaskSet) (graphs : ℕ → TaskGraph) (analyses : List Analysis)
       let e = ap (λ (p : Part). p.bound) (part_is k) in
       let b = (A.each k l).within in omega (arith, e, b)
 
-  -- the parts of all tasks without their times
-  abbrev bare : List TaskPart
-  bare = map part_of_analysis analyses
-
   bare_is : (k : ℕ) → part_at parts k ≡ part_in (map part_of_analysis analyses) k
   bare_is k =
       part_is k

@@ -1,5 +1,5 @@
 -- Regions that are entered elsewhere than at their heads.
-use Rattle.std.proofs.Common.{◌≡◌, ◌≢◌, ◌⊎◌, ℕ, ◌+◌, ◌<◌, ◌≤◌, Bool, false, not, ◌&&◌, List, []}
+use Rattle.std.proofs.Common.{◌≡◌, ◌≢◌, ◌⊎◌, ℕ, ◌+◌, ◌<◌, ◌≤◌, false, not, ◌&&◌, List, []}
 use Rattle.std.proofs.Common.{◌∷◌, ◌++◌, length}
 use Rattle.std.proofs.Common.{Some, None, slice_index, IsTrue, refl, sym, subst, ap}
 use Rattle.std.proofs.Common.{inl, inr, ⊎_elim, arith, ◌==◌, eq-eqb}
@@ -73,9 +73,6 @@ enters_all g n u o lt h =
 
 module _ (heads bounds : List ℕ) (holders : List (List ℕ))
     (S : AreRegionLists heads holders) where
-  abbrev test : ℕ → ℕ → ℕ → Bool
-  test u v q = not (is_head heads v q) && not (has (row holders u) q)
-
   pub enters_from : (u v : ℕ)
       → IsTrue
       (list_any (λ q. not (is_head heads v q) && not (has (row holders u) q)) (row holders v))

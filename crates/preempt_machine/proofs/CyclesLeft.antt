@@ -1,21 +1,12 @@
 -- The cycles left of an instruction.
-use Rattle.std.proofs.Common.{◌≡◌, ℕ, suc, ◌≤◌, Option, Some, None, refl, inl, inr, arith}
+use Rattle.std.proofs.Common.{◌≡◌, ℕ, suc, ◌≤◌, Option, Some, None, inl, inr, arith}
 use Rattle.std.specs.Prelude.{◌==◌, nat_lt}
 use Rattle.std.proofs.lemmas.Bool.{cases_Bool}
 use Rattle.std.proofs.lemmas.Bool.Decides.{nat_tests}
 use Rattle.rv_decode.specs.declared.Ins.{Ins}
-use Rattle.rv_core.specs.declared.Next.{Next}
-use Rattle.rv_core.specs.declared.Next.TheVariants.{Goto, Answer, Fault}
 use Rattle.preempt_machine.specs.Machine.{System, ins_at}
 use Rattle.preempt_machine.specs.Step.{Turn, turn_after_step, turn_after_execution}
-use Rattle.preempt_machine.specs.Step.{turn_after_cycle, turn_after_effect, turn_after_fetch}
-
--- a turn uses at most one of the cycles left of an instruction
-went_left : (sys : System) (n : ℕ) (ins : Ins) (t : Turn) (next : Next)
-    → (turn_after_effect sys n ins t next).job.left ≡ 0
-went_left sys n ins t (Goto to) = refl
-went_left sys n ins t Answer = refl
-went_left sys n ins t Fault = refl
+use Rattle.preempt_machine.specs.Step.{turn_after_cycle, turn_after_fetch}
 
 worked_left : (sys : System) (n : ℕ) (ins : Ins) (t : Turn)
     → t.job.left ≤ suc (turn_after_cycle sys n ins t).job.left

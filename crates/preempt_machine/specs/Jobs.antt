@@ -4,8 +4,6 @@ use Rattle.icache.specs.Cache.{Cache}
 use Rattle.rv_core.specs.Memory.{Memory}
 use Rattle.preempt_machine.specs.declared.End.{End}
 use Rattle.preempt_machine.specs.declared.End.TheVariants as «end»
-use Rattle.preempt_machine.specs.declared.jobs.Standing as told
-use Rattle.preempt_machine.specs.declared.jobs.Standing.TheVariants as kept
 use Rattle.preempt_machine.specs.Machine.{Standing, Open, Answered, Faulted, Job}
 use Rattle.preempt_machine.specs.Step.{Turn}
 

@@ -10,7 +10,7 @@ use Rattle.icache.specs.Cache.{Cache}
 use Rattle.rv_core.specs.Memory.{Memory}
 use Rattle.preempt_machine.specs.declared.schedule.Schedule.{Schedule}
 use Rattle.preempt_machine.specs.Machine.{Job, Machine, job_at, no_job}
-use Rattle.preempt_machine.specs.Step.{is_open, keeps_core, step}
+use Rattle.preempt_machine.specs.Step.{is_open, keeps_core}
 use Rattle.preempt_machine.specs.Jobs.{end_of_standing}
 use Rattle.preempt_machine.specs.Running.{completion_at}
 

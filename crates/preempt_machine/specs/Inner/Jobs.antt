@@ -1,8 +1,6 @@
 -- What the program keeps of a job, and its turns: what only contracts inside the crate cite.
 use Rattle.std.specs.Prelude.{◌≡◌, ◌≢◌, ◌==◌, ◌&&◌, if◌then◌else◌, is_some, Option, Some, None, []}
 use Rattle.icache.specs.declared.Access.{Access}
-use Rattle.preempt_machine.specs.declared.End.{End}
-use Rattle.preempt_machine.specs.declared.End.TheVariants as «end»
 use Rattle.preempt_machine.specs.declared.jobs.Job.TheInside.{Inside}
 use Rattle.preempt_machine.specs.declared.jobs.Standing as told
 use Rattle.preempt_machine.specs.declared.jobs.Standing.TheVariants as kept

@@ -4,7 +4,6 @@ use Rattle.std.specs.Prelude.{◌≡◌, ℕ, suc, ◌+◌, ◌<◌, ◌≤◌, 
 use Rattle.std.specs.Prelude.{option_map}
 use Rattle.crpd_base.specs.declared.data.ScriptJob.{ScriptJob}
 use Rattle.code_map.specs.Words.{Code}
-use Rattle.preempt_machine.specs.declared.End.TheVariants as «end»
 use Rattle.icache.specs.Cache.{Cache}
 use Rattle.rv_core.specs.Memory.{Memory}
 use Rattle.preempt_machine.specs.declared.parts.Parts.{Parts}

@@ -1,7 +1,7 @@
 -- Step 5, execution_within_bound: the cycles executed and those to go are at most the bound and
 -- the cost of a miss for each reload.
 use Rattle.std.proofs.Common.{◌≡◌, ◌≢◌, ℕ, zero, suc, ◌+◌, ◌-◌, ◌*◌, ◌<◌, ◌≤◌, Bool, true, false}
-use Rattle.std.proofs.Common.{List, [], ◌∷◌, length, Some, refl, sym, ◌∙◌, ap, subst, inl, inr}
+use Rattle.std.proofs.Common.{[], ◌∷◌, length, Some, refl, sym, ◌∙◌, ap, subst, inl, inr}
 use Rattle.std.proofs.Common.{arith}
 use Rattle.std.specs.Prelude.{◌==◌}
 use Rattle.std.proofs.lemmas.Bool.{cases_Bool, cases_eq, eq-eqb, ne_eqb, false≢true, or_parts}
@@ -101,9 +101,6 @@ module _ (s : Start) (set : TaskSet) (graphs : ℕ → TaskGraph) (R : HasTaskRa
 
   module _ (c : TaskPart) (x : ℕ) (h : x < length s.lines) (counted : ℕ → Bool)
       (M : IsMet s.system.platform (graphs (job_task s x)) c counted) where
-    abbrev pub nodes : ℕ → List ℕ
-    nodes n = fetched_nodes s graphs n x
-
     abbrev pub go : ℕ → ℕ
     go n =
         cycles_to_go s.system (plan_at s x) (graphs (job_task s x)) (potentials_of c)
