@@ -105,20 +105,6 @@ module _ (set : TaskSet) (graphs : ℕ → TaskGraph) where
             (sym (get_or-map part_of_analysis all k no_analysis)) (each k lt).within;
       }
 
-  pub none_counted : CountsEntries set graphs 0 0 []
-  none_counted =
-      record {
-        all = [];
-        analysed = record {
-          tasks = refl;
-          each = λ k l. absurd (omega (arith, l));
-          ranges = λ k l. absurd (omega (arith, l));
-        };
-        entries = refl;
-        same = λ l. refl;
-        small = omega arith;
-      }
-
   pushed : (all : List Analysis) (a : Analysis) (n k : ℕ) (P : ℕ → Analysis → Type 0)
       → length all ≡ n → ((j : ℕ) → j < n → P j (analysis_at all j)) → P n a → k < n + 1
       → P k (analysis_at (all ++ a ∷ []) k)

@@ -88,14 +88,6 @@ elsewhere n m s (x ∷ xs) ne =
     ]
 
 module _ (g : Graph) (a : Accesses) (y n : ℕ) where
-  pub none_listed : ListsSure g a y 0 []
-  none_listed =
-      record {
-        each = λ s m lt. absurd (omega (arith, lt));
-        rise = tt;
-        blocks = λ k d l. absurd (omega (arith, l));
-      }
-
   -- one set more, which surely holds a block or none
   next : (xs : List (ℕ × ℕ)) (o : Option ℕ) (s m : ℕ) → s < n + 1
       → ((x : ℕ) → (o ≡ Some x) ↔ Sure g a y n x) → block_of_set xs n ≡ o

@@ -92,10 +92,6 @@ no_word r a h =
     false_from_ne_true (has_word r a) (λ e. let n = word_needs r a e in h n.0 n.1 n.2 n.3)
 
 module _ (r : Run) (start low : ℕ) (is_low : low ≡ max r.start start) where
-  -- no word stands behind the end of the addresses
-  pub none_past : end ≤ low → (a : ℕ) → start ≤ a → a < 2 ^ 32 → has_word r a ≡ false
-  none_past past a from below = no_word r a (λ even ne at fits. ne (omega arith))
-
   module _ (address : ℕ) (is_next : address ≡ low + (4 - low % 4) % 4) where
     pub none_at_end : address ≡ end → (a : ℕ) → start ≤ a → a < 2 ^ 32 → has_word r a ≡ false
     none_at_end e a from below = no_word r a (λ even ne at fits. ne (omega arith))

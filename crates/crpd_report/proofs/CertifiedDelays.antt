@@ -34,9 +34,6 @@ module _ (c : Certificate) (parts : List Part) (windows : List ℕ)
   windows_are =
       ap slice_index ws ∙ fun_ext (λ k. mapped (λ (t : TaskPart). t.window) no_task_part c.tasks k)
 
-  pub long : length parts ≡ length c.tasks
-  long = ap length ps ∙ length-map c.tasks (λ (t : TaskPart). t.part)
-
   pub long_windows : length windows ≡ length c.tasks
   long_windows = ap length ws ∙ length-map c.tasks (λ (t : TaskPart). t.window)
 

@@ -26,7 +26,6 @@ use Rattle.crpd_base.specs.CertificateRanges.{IsCertificate}
 use Rattle.run_account.specs.AccountGraphs.{AreGraphsOf, TasksAreMet}
 use Rattle.crpd_input.specs.declared.input.Input.{Input}
 use Rattle.crpd_input.specs.declared.shapes.Shapes.{Shapes}
-use Rattle.crpd_input.specs.declared.halt.Halt.{Halt}
 use Rattle.crpd_input.specs.Shapes.{ShapesIn}
 use Rattle.cert_check.proofs.InRange.{in_range}
 use Rattle.crpd_report.specs.Explain.{HasWindowOfEach}
@@ -36,9 +35,6 @@ use Rattle.crpd_tool.specs.declared.answer.Answer.{Answer}
 
 same_plan : (p q : TaskPlan) → Some p ≡ Some q → p ≡ q
 same_plan p q e = cc
-
-not_refused : (x : Shapes) (r : Halt) → ◌≡◌ {A = Result Shapes Halt} (Ok x) (Err r) → ⊥
-not_refused x r e = cc
 
 -- the graphs of the step are the flat graphs of the tasks' code
 pub graphs_of : (input : Input) (shapes : Shapes) → ShapesIn input (Ok shapes)

@@ -1,5 +1,5 @@
 -- Counts of jobs, in windows.
-use Rattle.std.specs.Prelude.{◌<◌, ◌≤◌, ◌^◌, List, length, slice_index, ℕ, ◌+◌, ◌-◌, ◌*◌, ◌/◌, ◌==◌}
+use Rattle.std.specs.Prelude.{◌<◌, ◌≤◌, List, length, slice_index, ℕ, ◌+◌, ◌-◌, ◌*◌, ◌/◌, ◌==◌}
 use Rattle.std.specs.Prelude.{nat_lt, if◌then◌else◌}
 use Rattle.crpd_base.specs.Limits.{longest_time}
 use Rattle.crpd_base.specs.declared.data.TaskSet.{TaskSet}

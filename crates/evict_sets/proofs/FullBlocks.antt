@@ -1,11 +1,8 @@
 -- Full states kept as the blocks of the cache sets.
-use Rattle.std.proofs.Common.{◌≡◌, ◌≢◌, ◌↔◌, ℕ, zero, suc, ◌-◌, ◌<◌, ◌≤◌, List, []}
-use Rattle.std.proofs.Common.{◌∷◌, length, set, drop, Option, Some, None, IsTrue, IsFalse}
-use Rattle.std.proofs.Common.{refl, sym, ap, ◌∙◌, subst, inl, inr, ⊎_elim, arith}
-use Rattle.std.proofs.Common.{get_or-set_same, get_or-set_other}
+use Rattle.std.proofs.Common.{◌≡◌, ◌↔◌, ℕ, zero, suc, ◌-◌, ◌<◌, ◌≤◌, List, []}
+use Rattle.std.proofs.Common.{◌∷◌, length, drop, Option, Some, None, IsTrue, IsFalse}
+use Rattle.std.proofs.Common.{refl, sym, ap, ◌∙◌, ⊎_elim, arith}
 use Rattle.std.proofs.lemmas.List.{drop_all}
-use Rattle.std.proofs.lemmas.Bool.{cases_eq}
-use Rattle.std.proofs.lemmas.Option.{same_Some}
 use Rattle.icache.specs.Cache.{held}
 use Rattle.icache.specs.Accesses.{Accesses}
 use Rattle.flat_graph.specs.Graph.{Graph, Edge}
@@ -34,26 +31,6 @@ module _ (g : Graph) (a : Accesses) (l : Listed) where
     λ st. is s ∙ as_listed g a l y s m t st,
     λ e. listed y s m t (sym (is s) ∙ e),
   )
-
-  -- the state after a node
-  pub state_after : (y : ℕ) (blocks : List (Option ℕ)) → a.set y < length blocks
-      → IsStateAt g a l y blocks → IsStateAfter g a l y (set blocks (a.set y) (Some (a.block y)))
-  state_after y blocks room S s m =
-      ⊎_elim
-      (λ (same : a.set y ≡ s).
-      let there : held (set blocks (a.set y) (Some (a.block y))) s ≡ Some (a.block y) =
-      subst (λ z. held (set blocks (a.set y) (Some (a.block y))) z ≡ Some (a.block y)) same
-      (get_or-set_same blocks (a.set y) (Some (a.block y)) None room) in (
-        (λ h. ⊎_elim (λ h'. there ∙ ap Some h'.1) (λ h'. absurd (h'.0 same)) h),
-        (λ e. inl (same, same_Some (a.block y) m (sym there ∙ e))),
-      ))
-      (λ (ne : a.set y ≢ s).
-      let there : held (set blocks (a.set y) (Some (a.block y))) s ≡ held blocks s =
-      get_or-set_other blocks (a.set y) s (Some (a.block y)) None (λ e. ne (sym e)) in (
-        (λ h. ⊎_elim (λ h'. absurd (ne h'.0)) (λ h'. there ∙ (S s m).0 h'.1) h),
-        (λ e. inr (ne, (S s m).1 (sym there ∙ e))),
-      ))
-      (cases_eq (a.set y) s)
 
   -- it is the state of the unlisted node that follows
   pub state_behind : (u v : ℕ) (blocks : List (Option ℕ)) → ListsLeaders g l → v < g.size

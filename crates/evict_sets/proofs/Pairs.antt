@@ -57,14 +57,6 @@ pub record PairsTo (blocks : List (Option ℕ)) (sure : List (ℕ × ℕ)) (seen
   pub firsts : (j : ℕ) → j < k → IsFirst sure j
       → held blocks (set_at sure j) ≡ Some (block_at sure j)
 
-pub no_pairs : (blocks : List (Option ℕ)) (sure : List (ℕ × ℕ)) (seen : List ℕ)
-    → ((t : ℕ) → member seen t ≡ 0) → PairsTo blocks sure seen 0
-no_pairs blocks sure seen none = record {
-  is_seen = λ s e. absurd (let z = none s in omega (arith, z, e));
-  seen_is = λ j lt. absurd (omega arith);
-  firsts = λ j lt. absurd (omega arith);
-}
-
 pub pairs_skip : (blocks : List (Option ℕ)) (sure : List (ℕ × ℕ)) (seen : List ℕ) (k : ℕ)
     → member seen (set_at sure k) ≡ 1 → PairsTo blocks sure seen k
     → PairsTo blocks sure seen (k + 1)

@@ -1,5 +1,5 @@
 -- What a script that was read keeps: its tasks are in the set, and its jobs are few.
-use Rattle.std.proofs.Common.{◌≡◌, ℕ, ◌<◌, ◌≤◌, ◌^◌, nat_lt, List, [], ◌∷◌, length, codes}
+use Rattle.std.proofs.Common.{◌≡◌, ℕ, ◌<◌, ◌≤◌, ◌^◌, nat_lt, List, [], length, codes}
 use Rattle.std.proofs.Common.{Option, Some, None, Result, Ok, Err, ap, subst, arith, inl, inr}
 use Rattle.std.specs.Prelude.{All, IfOk}
 use Rattle.std.specs.List.{AllByRecursion}

@@ -200,9 +200,6 @@ pub below_all : (s : TaskSet) (jobs : List ScriptJob) (i : ℕ) → length jobs 
     → AreSpacedBelow s jobs i → AreSpacedPairs s jobs
 below_all s jobs i le h = record { pairs = λ a b d lt bl. h.pairs a b d (omega arith) lt bl }
 
-pub below_none : (s : TaskSet) (jobs : List ScriptJob) → AreSpacedBelow s jobs 0
-below_none s jobs = record { pairs = λ a b d lt ab bl. absurd (omega arith) }
-
 -- one job more, which is spaced from those after it
 pub below_next : (s : TaskSet) (jobs : List ScriptJob) (i : ℕ) (x : ScriptJob) → i < length jobs
     → x ≡ get_or jobs i x → All (AreSpaced s x) (drop (i + 1) jobs) → AreSpacedBelow s jobs i

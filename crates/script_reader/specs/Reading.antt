@@ -1,5 +1,5 @@
 -- What the text of a script stands for beside a task set, or the first refusal.
-use Rattle.std.specs.Prelude.{ℕ, pos, ◌^◌, List, [], ◌∷◌, ◌++◌, length, codes, Bool, false}
+use Rattle.std.specs.Prelude.{ℕ, pos, List, [], ◌∷◌, ◌++◌, length, codes, Bool, false}
 use Rattle.std.specs.Prelude.{Option, Some, None, nat_lt, Result, Ok, Err, if◌then◌else◌}
 use Rattle.std.specs.Str.{is_utf8}
 use Rattle.crpd_base.specs.Limits.{longest_time, most_jobs}
