@@ -1,27 +1,24 @@
 -- The windows of analyses by any demand, from those of their parts and longest costs.
-use Rattle.std.proofs.Common.{◌≡◌, ℕ, ◌<◌, List, length, map, sym, ap, ◌∙◌, arith}
+use Rattle.std.proofs.Common.{◌≡◌, ℕ, ◌<◌, List, length, map, sym, ap, ◌∙◌}
 use Rattle.std.specs.Prelude.{slice_index}
 use Rattle.std.proofs.Math.ListN.{get_or-map}
 use Rattle.crpd_base.specs.declared.data.Part.{Part}
 use Rattle.crpd_base.specs.declared.data.TaskSet.{TaskSet}
 use Rattle.crpd_base.specs.declared.data.TaskPart.{TaskPart}
 use Rattle.crpd_base.specs.declared.data.Certificate.{Certificate}
-use Rattle.crpd_base.specs.Tasks.{HasTimes}
 use Rattle.flat_graph.specs.CodeGraph.{CodeGraph}
 use Rattle.loop_regions.specs.CodeNest.{CodeNest}
 use Rattle.delay_count.specs.Gamma.{part_at}
 use Rattle.response.specs.declared.choice.Choice.{Choice}
 use Rattle.response.specs.declared.choice.WindowError.{WindowError}
 use Rattle.response.specs.declared.choice.WindowError.TheVariants.{Memory, Unschedulable}
-use Rattle.response.specs.Windows.{Demand, AreAllChoices, IsWindowError, method_at}
-use Rattle.response.specs.Windows.{window_at as chosen_window}
-use Rattle.response.proofs.WindowLaws.{smaller_is_window}
+use Rattle.response.specs.Windows.{AreAllChoices, IsWindowError}
 use Rattle.response.proofs.Choices.{first_too}
 use Rattle.cert_check.specs.JudgeInput.{longest_at}
 use Rattle.cert_check.specs.TaskGraphs.{task_graph_at}
 use Rattle.cert_check.specs.Times.{AreLongest}
 use Rattle.cert_build.specs.Best.{Demands, HasChoice}
-use Rattle.cert_build.specs.Assembly.{no_analysis, analysis_at, HaveResponses, IsAssembled}
+use Rattle.cert_build.specs.Assembly.{no_analysis, analysis_at, IsAssembled}
 use Rattle.cert_build.specs.Certify.{HaveNoWindowsBy, IsCompletedBy}
 use Rattle.cert_build.specs.declared.one_task.Analysis.{Analysis}
 use Rattle.cert_build.proofs.Assembly.{has_parts}
@@ -34,16 +31,6 @@ pub part_of_list : (analyses : List Analysis) (parts : List Part) (k : ℕ)
 part_of_list analyses parts k is =
     ap (λ (l : List Part). part_at l k) is
     ∙ get_or-map (λ (a : Analysis). a.part) analyses k no_analysis
-
--- windows by their deadlines have room for the jitter, whatever the demand
-pub responses : (set : TaskSet) (demand : Demand) (choices : List Choice) → HasTimes set
-    → AreAllChoices set demand choices → HaveResponses set choices
-responses set demand choices times A k lt =
-    let d = (smaller_is_window set (demand (chosen_window choices) k) k (method_at choices k)
-    (chosen_window choices k) (A.each k lt)).in_deadline in
-    let e = times.deadline k lt in
-    let p = times.longest k lt in
-    omega (arith, d, e, p)
 
 module _ (set : TaskSet) (demands : Demands) (agree : AllAgree set demands)
     (graphs : List CodeGraph) (nests : List CodeNest) (analyses : List Analysis)
