@@ -1,10 +1,9 @@
 -- A writer that goes on, step by step.
-use Rattle.std.proofs.Common.{◌≡◌, ℕ, ◌+◌, ◌<◌, ◌≤◌, List, [], ◌∷◌, ◌++◌, length, get_or, map, take}
+use Rattle.std.proofs.Common.{◌≡◌, ℕ, ◌≤◌, List, [], ◌∷◌, ◌++◌, length, map, take}
 use Rattle.std.proofs.Common.{Result, Ok, Err, refl, ap, sym, subst, ◌∙◌, append_assoc, append-nil}
 use Rattle.std.specs.Prelude.{OnOk, decimal}
 use Rattle.std.specs.List.{flat_map}
-use Rattle.std.proofs.lemmas.List.{take_more, take_all}
-use Rattle.std.proofs.lemmas.List.Concat.{flat_map-append}
+use Rattle.std.proofs.lemmas.List.{take_all}
 use Rattle.json.specs.Token.{Token, begin_array, end_array, number}
 use Rattle.json.specs.Tree.{items_tokens}
 use Rattle.json.specs.Written.{Written, Writes}
@@ -39,19 +38,6 @@ closes (Ok x) a ts h w = h (wrote w)
 closes (Err e) a ts h w = tt
 
 -- ---- lists
-
--- one item more
-pub one_more : {X : Type 0} {a b c : Written} (ts : X → List Token) (xs : List X) (i : ℕ) (d x : X)
-    → i < length xs → x ≡ get_or xs i d
-    → Adds a b (flat_map ts (take i xs)) → Adds b c (ts x)
-    → Adds a c (flat_map ts (take (i + 1) xs))
-one_more {a = a} {c = c} ts xs i d x lt at h k =
-    let more : flat_map ts (take i xs ++ x ∷ []) ≡ flat_map ts (take i xs) ++ ts x =
-    flat_map-append ts (take i xs) (x ∷ [])
-    ∙ ap (λ l. flat_map ts (take i xs) ++ l) (append-nil (ts x)) in
-    let same : flat_map ts (take (i + 1) xs) ≡ flat_map ts (take i xs ++ x ∷ []) =
-    ap (flat_map ts) (take_more xs i d lt ∙ ap (λ y. take i xs ++ y ∷ []) (sym at)) in
-    subst (Adds a c) (sym (same ∙ more)) (then h k)
 
 -- all items
 pub all_of : {X : Type 0} {a b : Written} (ts : X → List Token) (xs : List X) (i : ℕ)

@@ -7,7 +7,6 @@ use Rattle.std.proofs.lemmas.List.Elements.{recursion_from_All}
 use Rattle.json.proofs.Printed.Trees.{value-json_tokens}
 use Rattle.json.specs.Lex.{tokens}
 use Rattle.json.specs.Json as json
-use Rattle.json.specs.Token.{Token}
 use Rattle.json.specs.Tree as tree
 use Rattle.serde_json.proofs.Numbers.{number_of-decimal}
 use Rattle.serde_json.specs.Data.{Data, null, boolean, number, string, array, object, Items}
@@ -197,11 +196,6 @@ unfolding certificate_members
 certificate_low c = omega (arith, platform_low c.platform, items_low task_data 4 task_low c.tasks)
 
 -- ---- the whole
-
-abbrev value_of : List Token → Data → Type 0
-value_of ts d =
-    option_and_then of_json (option_and_then (λ p. json.if_last p.0 p.1) (json.value max_depth ts))
-    ≡ Some d
 
 pub certificate_reads : (c : Certificate) (text : List ℕ) → IsCertificate c
     → tokens text ≡ tokens_of (object (certificate_members c))
