@@ -1,7 +1,7 @@
 -- What the text of a certificate stands for, or the first refusal: the keys of each object, each
 -- with its kind, in their order.
-use Rattle.std.specs.Prelude.{ℕ, ◌+◌, ◌^◌, List, [], length, codes, ◌==◌, Option, Some, None}
-use Rattle.std.specs.Prelude.{nat_lt, Result, Ok, Err, if◌then◌else◌, sum_by}
+use Rattle.std.specs.Prelude.{ℕ, ◌^◌, List, [], codes, ◌==◌, Option, Some, None}
+use Rattle.std.specs.Prelude.{nat_lt, Result, Ok, Err, if◌then◌else◌}
 use Rattle.std.specs.Str.{is_utf8}
 use Rattle.crpd_base.specs.Limits.{most_cost, longest_time, most_entries}
 pub use Rattle.crpd_base.specs.Entries.{set_size, state_entries, task_entries, entries}
