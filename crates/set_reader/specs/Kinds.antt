@@ -1,10 +1,9 @@
 -- The kinds of a task set's values: what a value stands for, or None where it is of another kind or
 -- outside its range.
-use Rattle.std.specs.Prelude.{ℕ, ◌+◌, ◌*◌, ◌-◌, ◌^◌, pos, List, [], ◌∷◌, length, drop, codes, Bool}
-use Rattle.std.specs.Prelude.{false, ◌||◌, ◌&&◌, ◌==◌, nat_le, nat_lt, Option, Some, None}
+use Rattle.std.specs.Prelude.{ℕ, ◌+◌, ◌*◌, ◌-◌, ◌^◌, pos, List, [], ◌∷◌, length, drop, Bool}
+use Rattle.std.specs.Prelude.{false, ◌&&◌, ◌==◌, nat_lt, Option, Some, None}
 use Rattle.std.specs.Prelude.{option_map, option_and_then, if◌then◌else◌}
-use Rattle.std.specs.List.{list_all, position_or_len, before_first, after_first}
-use Rattle.std.specs.Str.{bytes_eq}
+use Rattle.std.specs.List.{position_or_len, before_first, after_first}
 use Rattle.toml.specs.Data.{Data, string, integer, Items, no_items, item, as_str, as_array}
 use Rattle.crpd_base.specs.Names.{is_between, is_line_length, is_name, is_file}
 use Rattle.crpd_base.specs.declared.data.Place.{Place}
