@@ -1,10 +1,10 @@
 -- What was written is read as the same certificate.
-use Rattle.std.proofs.Common.{◌≡◌, ◌≢◌, ◌⊎◌, ℕ, zero, suc, ◌+◌, ◌≤◌, ◌<◌, ◌^◌, true, false, nat_lt}
+use Rattle.std.proofs.Common.{◌≡◌, ◌≢◌, ◌⊎◌, ℕ, zero, suc, ◌+◌, ◌≤◌, ◌<◌, ◌^◌, true}
 use Rattle.std.proofs.Common.{List, [], ◌∷◌, ◌++◌, length, map, codes, Option, Some, option_map}
 use Rattle.std.proofs.Common.{Result, Ok, refl, sym, ap, subst, ◌∙◌, arith, inl, inr}
 use Rattle.std.specs.Prelude.{All, if◌then◌else◌, ◌==◌}
 use Rattle.std.specs.List.{AllByRecursion}
-use Rattle.std.proofs.lemmas.Bool.{cases_Bool, le-leb, lt-ltb, ltb-true}
+use Rattle.std.proofs.lemmas.Bool.{le-leb, le-ltb, lt-ltb}
 use Rattle.std.proofs.lemmas.Bool.Decides.{nat_tests}
 use Rattle.std.proofs.lemmas.List.{length-map}
 use Rattle.std.proofs.lemmas.List.Elements.{recursion_from_All}
@@ -340,16 +340,9 @@ tasks_back ms ts e h w =
 
 -- ---- the certificate
 
-few_back : (n most : ℕ) → n ≤ most → nat_lt most n ≡ false
-few_back n most h =
-    elim (cases_Bool (nat_lt most n)) [
-      | inl more ↦ absurd (omega (arith, ltb-true most n more))
-      | inr few ↦ few
-    ]
-
 counted_back : (c : Certificate) → entries c.tasks ≤ 4000000 → within_entry_limit c ≡ Ok c
 unfolding within_entry_limit
-counted_back c h = rw (few_back (entries c.tasks) 4000000 h)
+counted_back c h = rw (le-ltb 4000000 (entries c.tasks) h)
 
 version_back : (ms : Members) → get_member (codes "version") ms ≡ Some (whole_number 2)
     → version_at ms ≡ Ok Second

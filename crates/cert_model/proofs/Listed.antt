@@ -11,8 +11,7 @@ use Rattle.serde_json.specs.View.{view, items_view}
 use Rattle.serde_json.specs.declared.value.Value.{Value}
 use Rattle.toml_keys.specs.Kinds.{only}
 use Rattle.cert_model.specs.Kinds.{all_of, listed, state_value, states_from}
-use Rattle.cert_model.proofs.Pairs.{front_moved}
-use Rattle.cert_model.proofs.Rising.{items_from, same_option}
+use Rattle.cert_model.proofs.Rising.{front_moved, items_from, same_option}
 
 -- what was read, in front of what is left to read
 abbrev pub in_front : {A : Type 0} → List A → Option (List A) → Option (List A)

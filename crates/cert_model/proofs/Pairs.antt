@@ -1,7 +1,6 @@
 -- A flat list of pairs, read two values at a time.
 use Rattle.std.proofs.Common.{◌≡◌, ◌≢◌, ℕ, ◌+◌, ◌*◌, ◌<◌, List, [], ◌∷◌, ◌++◌, length, get_or, drop}
 use Rattle.std.proofs.Common.{Option, Some, None, option_map, refl, ap, sym, ◌∙◌, arith}
-use Rattle.std.proofs.Common.{append_assoc}
 use Rattle.std.specs.Prelude.{option_and_then}
 use Rattle.std.proofs.Common.{length-drop}
 use Rattle.std.proofs.Math.ListN.{drop_of_length-le}
@@ -10,7 +9,7 @@ use Rattle.serde_json.specs.Data.{Data, Items, item}
 use Rattle.serde_json.specs.View.{view, items_view}
 use Rattle.serde_json.specs.declared.value.Value.{Value}
 use Rattle.cert_model.specs.Kinds.{pair, pairs_from, three_items}
-use Rattle.cert_model.proofs.Rising.{items_from, same_option}
+use Rattle.cert_model.proofs.Rising.{front_moved, items_from, same_option}
 
 -- the two values at a place, and those behind them
 two_at : (vs : List Value) (i : ℕ) (a b : Value) → 2 * i + 1 < length vs → a ≡ get_or vs (2 * i) a
@@ -22,12 +21,6 @@ two_at vs i a b n p q =
     items_from vs (2 * i) a (omega arith) p
     ∙ ap (item (view a)) (items_from vs (2 * i + 1) b n q
     ∙ ap (λ k. item (view b) (items_view (drop k vs))) e)
-
-pub front_moved : {A : Type 0} (front : List A) (x : A) (o : Option (List A))
-    → option_map (λ xs. front ++ xs) (option_map (λ xs. x ∷ xs) o)
-    ≡ option_map (λ xs. (front ++ x ∷ []) ++ xs) o
-front_moved front x None = refl
-front_moved front x (Some xs) = ap (λ l. Some l) (sym (append_assoc front (x ∷ []) xs))
 
 abbrev with_pair : List (ℕ × ℕ) → ℕ → Items → Option (ℕ × ℕ) → Option (List (ℕ × ℕ))
 with_pair front limit ds o =

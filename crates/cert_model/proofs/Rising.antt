@@ -114,11 +114,11 @@ rose_none limit set items none = record {
   read = same_option (rising 0 limit items);
 }
 
-moved : (front : List ℕ) (n : ℕ) (o : Option (List ℕ))
-    → option_map (λ ns. front ++ ns) (option_map (λ ns. n ∷ ns) o)
-    ≡ option_map (λ ns. (front ++ n ∷ []) ++ ns) o
-moved front n None = refl
-moved front n (Some ns) = ap (λ l. Some l) (sym (append_assoc front (n ∷ []) ns))
+pub front_moved : {A : Type 0} (front : List A) (x : A) (o : Option (List A))
+    → option_map (λ xs. front ++ xs) (option_map (λ xs. x ∷ xs) o)
+    ≡ option_map (λ xs. (front ++ x ∷ []) ++ xs) o
+front_moved front x None = refl
+front_moved front x (Some xs) = ap (λ l. Some l) (sym (append_assoc front (x ∷ []) xs))
 
 flag_or : (a b : Bool) → flag (a || b) ≡ (if b then 1 else flag a)
 flag_or true true = refl
@@ -150,7 +150,7 @@ rose_more limit low n set more rest d ds all first rose is inserted = record {
       let read : option_map (λ ns. rose.front ++ ns) (rising low limit (item d ds)) ≡ all =
       subst (λ (r : Items). option_map (λ ns. rose.front ++ ns) (rising low limit r) ≡ all) first
       rose.read in
-      sym (moved rose.front n (rising (n + 1) limit ds))
+      sym (front_moved rose.front n (rising (n + 1) limit ds))
       ∙ ap (λ (o : Option ℕ). option_map (λ ns. rose.front ++ ns)
       (option_and_then (λ m. option_map (λ ns. m ∷ ns) (rising (m + 1) limit ds)) o)) is ∙ read;
 }

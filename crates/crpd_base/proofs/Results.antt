@@ -9,6 +9,12 @@ pub bind_ok : {A B E : Type 0} (r : Result A E) (f : A → Result B E) (y : B) �
 bind_ok (Ok x) f y e = (x, refl, e)
 bind_ok (Err d) f y e = absurd cc
 
+-- steps after a step, in one
+pub bind_assoc : {A B C E : Type 0} (r : Result A E) (f : A → Result B E) (g : B → Result C E)
+    → ((r >>= f) >>= g) ≡ (r >>= (λ x. f x >>= g))
+bind_assoc (Ok x) f g = refl
+bind_assoc (Err e) f g = refl
+
 -- a result has one value
 pub ok_is : {A E : Type 0} (x y : A) → ◌≡◌ {A = Result A E} (Ok x) (Ok y) → x ≡ y
 ok_is x y e = cc

@@ -1,7 +1,7 @@
 -- Ranges of addresses that are apart.
 use Rattle.std.proofs.Common.{◌≡◌, ℕ, ◌+◌, ◌<◌, ◌≤◌, ◌⊎◌, min, max, Bool, true, false, cond, not}
 use Rattle.std.proofs.Common.{◌&&◌, ◌||◌, ltb, List, [], ◌∷◌, ◌++◌, refl, ap, subst, ◌∙◌, inl}
-use Rattle.std.proofs.Common.{inr, ⊎_elim, arith}
+use Rattle.std.proofs.Common.{inr, ⊎_elim, sym, arith}
 use Rattle.std.specs.Prelude.{filter}
 use Rattle.std.specs.List.{list_any, AllByRecursion}
 use Rattle.std.specs.declared.ops.Bound.TheVariants.{Excluded, Unbounded}
@@ -13,6 +13,7 @@ use Rattle.std.proofs.lemmas.List.Elements.{filter_agree}
 use Rattle.std.proofs.lemmas.Bool.{eq-eqb, ne_eqb, cases_Bool, cases_lt, or_parts, ltb-true}
 use Rattle.std.proofs.lemmas.Bool.{ltb-false, lt-ltb, le-ltb}
 use Rattle.std.proofs.lemmas.Bool.Decides.{nat_tests}
+use Rattle.std.proofs.Math.Bool.{or_comm, or_assoc}
 use Rattle.crpd_base.proofs.Bools.{or_false}
 use Rattle.elf_reader.specs.declared.entries.ProgramHeader.{ProgramHeader}
 use Rattle.elf_reader.specs.Segments.{AreDisjointRanges, header_end, is_loaded, meets, occupies}
@@ -127,16 +128,6 @@ range_is to rs =
 
 -- ---- one range more
 
-or_comm : (x y : Bool) → (x || y) ≡ (y || x)
-or_comm true true = refl
-or_comm true false = refl
-or_comm false true = refl
-or_comm false false = refl
-
-or_assoc : (x y z : Bool) → (x || (y || z)) ≡ ((x || y) || z)
-or_assoc true y z = refl
-or_assoc false y z = refl
-
 -- two ranges that have no address in common
 apart_cases : (from to : ℕ) (r : ℕ × ℕ) → from < to → r.0 < r.1 → meets from to r ≡ false
     → (to ≤ r.0) ⊎ (r.1 ≤ from)
@@ -165,7 +156,6 @@ all_later : (a from to : ℕ) (rs : List (ℕ × ℕ)) → AllByRecursion (λ s.
     → AllByRecursion (λ s. a ≤ s.0) (insert_entry nat_cmp rs from to)
 all_later a from to [] h le = (le, tt)
 all_later a from to (r ∷ rs) h le =
-    let P : ℕ × ℕ → Type 0 = λ s. a ≤ s.0 in
     elim (nat_cmp from r.0) as (λ o.
     AllByRecursion (λ s. a ≤ s.0)
     (match_ordering o ((from, to) ∷ r ∷ rs) ((r.0, to) ∷ rs)
@@ -208,7 +198,7 @@ insert_any a b from to some (r ∷ rs) apart m =
     (λ (h : r.1 ≤ from). let long : r.0 < r.1 = apart.0 in
     ap (list_any (meets a b)) (insert_after from to r rs (omega arith))
     ∙ (ap (λ t. meets a b r || t) (insert_any a b from to some rs apart.2 parts.1)
-    ∙ or_assoc (meets a b r) (list_any (meets a b) rs) (meets a b (from, to))))
+    ∙ sym (or_assoc (meets a b r) (list_any (meets a b) rs) (meets a b (from, to)))))
     (apart_cases from to r some apart.0 parts.0)
 
 -- no addresses meet nothing

@@ -1,10 +1,9 @@
 -- The search for the first header that shares an address with an earlier one.
-use Rattle.std.proofs.Common.{◌≡◌, ℕ, ◌+◌, ◌<◌, ◌≤◌, ltb, max, min, Bool, true, false, ◌&&◌, ◌||◌}
+use Rattle.std.proofs.Common.{◌≡◌, ℕ, ◌+◌, ◌<◌, Bool, true, false, ◌&&◌, ◌||◌}
 use Rattle.std.proofs.Common.{not, List, [], ◌∷◌, ◌++◌, length, get_or, take, drop, Option, Some}
 use Rattle.std.proofs.Common.{refl, ap, sym, subst, ◌∙◌, arith}
 use Rattle.std.specs.Prelude.{if◌then◌else◌}
 use Rattle.std.specs.List.{list_any}
-use Rattle.std.proofs.lemmas.Bool.{and_parts, ltb-true}
 use Rattle.std.proofs.lemmas.List.{drop_more, take_more, length-take-le}
 use Rattle.elf_reader.specs.declared.entries.ProgramHeader.{ProgramHeader}
 use Rattle.elf_reader.specs.Segments.{header_end, first_shared, is_loaded, occupies, shares}
@@ -78,14 +77,3 @@ pub told : (hs : List ProgramHeader) (h : ProgramHeader) (free x : Bool)
 told hs h free x same is =
     any_shares h hs
     ∙ (ap (λ t. is_loaded h && t) (sym same) ∙ (not_not (is_loaded h && x) ∙ ap not (sym is)))
-
--- `shares` is what its name says: both are loaded, and some address is one of both
-pub shares_means : (h other : ProgramHeader) → shares h other ≡ true
-    → (a : ℕ) × (h.p_vaddr ≤ a) × (a < header_end h) × (other.p_vaddr ≤ a) × (a < header_end other)
-shares_means h other e =
-    let parts = and_parts (is_loaded h) (occupies h.p_vaddr (header_end h) other) e in
-    let test = and_parts (is_loaded other)
-    (ltb (max h.p_vaddr other.p_vaddr) (min (header_end h) (header_end other))) parts.1 in
-    let lt : max h.p_vaddr other.p_vaddr < min (header_end h) (header_end other) =
-    ltb-true (max h.p_vaddr other.p_vaddr) (min (header_end h) (header_end other)) test.1 in
-    (max h.p_vaddr other.p_vaddr, omega arith, omega arith, omega arith, omega arith)

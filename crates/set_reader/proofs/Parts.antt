@@ -1,5 +1,6 @@
 -- The keys of a task, read in two parts, are read one after the other.
-use Rattle.std.proofs.Common.{◌≡◌, ℕ, List, Result, Ok, Err, refl}
+use Rattle.std.proofs.Common.{◌≡◌, ℕ, List, Result, Ok}
+use Rattle.crpd_base.proofs.Results.{bind_assoc}
 use Rattle.crpd_base.specs.Outcome.{◌>>=◌}
 use Rattle.crpd_base.specs.declared.data.TaskSpec.{TaskSpec}
 use Rattle.toml.specs.Data.{Members}
@@ -7,11 +8,6 @@ use Rattle.toml_keys.specs.declared.fault.KeyError.{KeyError}
 use Rattle.toml_keys.specs.Reading.{all_known}
 use Rattle.set_reader.specs.Inner.Parts.{program_at, load_at}
 use Rattle.set_reader.specs.Reading.{task_keys, fields_at}
-
-bind_assoc : {A B C E : Type 0} (r : Result A E) (f : A → Result B E) (g : B → Result C E)
-    → ((r >>= f) >>= g) ≡ (r >>= (λ x. f x >>= g))
-bind_assoc (Ok x) f g = refl
-bind_assoc (Err e) f g = refl
 
 abbrev pub in_parts : List ℕ → Members → Result TaskSpec KeyError
 in_parts path ms = do
