@@ -1,7 +1,6 @@
 -- The tests of clause 3.
 use Rattle.std.proofs.Common.{◌≡◌, ◌↔◌, ℕ, ◌<◌, Bool, true, List, [], ◌∷◌, length, All, Option}
-use Rattle.std.proofs.Common.{IsTrue, IsFalse, refl, sym, ◌∙◌, arith, ne_eqb, eq-eqb}
-use Rattle.std.specs.Prelude.{◌==◌}
+use Rattle.std.proofs.Common.{IsTrue, IsFalse, refl, sym, ◌∙◌, arith, ne_eqb, eq-eqb, ◌==◌}
 use Rattle.std.proofs.lemmas.Bool.{false≢true}
 use Rattle.std.proofs.lemmas.Option.{none-some}
 use Rattle.icache.specs.Accesses.{Accesses}

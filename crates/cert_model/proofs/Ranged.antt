@@ -1,8 +1,7 @@
 -- What a certificate that was read keeps: the ranges of its numbers, and the order of its lists.
 use Rattle.std.proofs.Common.{◌≡◌, ℕ, ◌+◌, ◌≤◌, ◌<◌, ◌^◌, true, nat_lt, nat_le, List, [], ◌∷◌}
 use Rattle.std.proofs.Common.{length, get_or, codes, Option, Some, None, Result, Ok, Err, refl, sym}
-use Rattle.std.proofs.Common.{ap, subst, arith, inl, inr}
-use Rattle.std.specs.Prelude.{All, IfOk, option_and_then, ◌&&◌}
+use Rattle.std.proofs.Common.{ap, subst, arith, inl, inr, All, IfOk, option_and_then, ◌&&◌}
 use Rattle.std.specs.List.{AllByRecursion}
 use Rattle.std.specs.Str.{is_utf8}
 use Rattle.std.proofs.lemmas.Bool.{cases_Bool, ltb-false, ltb-true, leb-true}

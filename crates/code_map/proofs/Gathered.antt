@@ -1,7 +1,6 @@
 -- The pieces of files.
 use Rattle.std.proofs.Common.{◌≡◌, ℕ, ◌+◌, ◌<◌, List, [], ◌∷◌, ◌++◌, length, get_or, take, ap, sym}
-use Rattle.std.proofs.Common.{◌∙◌, append_assoc, Bool, true, false, cond, map, refl}
-use Rattle.std.specs.Prelude.{filter}
+use Rattle.std.proofs.Common.{◌∙◌, append_assoc, Bool, true, false, cond, map, refl, filter}
 use Rattle.std.proofs.lemmas.List.{append-nil, map_push, take_more}
 use Rattle.std.proofs.lemmas.List.Elements.{filter_more}
 use Rattle.crpd_base.specs.declared.data.Image.{Image}

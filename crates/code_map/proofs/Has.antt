@@ -1,8 +1,7 @@
 -- Which numbers a function has of the elements of a list, in any order.
 use Rattle.std.proofs.Common.{◌≡◌, ℕ, ◌<◌, eqb, eqb-true, eq-eqb, Bool, true, false, List, [], ◌∷◌}
 use Rattle.std.proofs.Common.{length, get_or, Option, Some, None, refl, ap, sym, ◌∙◌, ⊎_elim, arith}
-use Rattle.std.proofs.Common.{suc}
-use Rattle.std.specs.Prelude.{not}
+use Rattle.std.proofs.Common.{suc, not}
 use Rattle.std.specs.List.{list_any}
 use Rattle.std.proofs.lemmas.Bool.{cases_Bool, ne_eqb}
 use Rattle.std.proofs.lemmas.Option.{none-some}

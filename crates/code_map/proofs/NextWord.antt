@@ -1,11 +1,10 @@
 -- The least address from one on at which a word stands in runs.
 use Rattle.std.proofs.Common.{◌≡◌, ℕ, ◌+◌, ◌-◌, ◌%◌, ◌^◌, ◌<◌, ◌≤◌, eqb, Bool, true, false, List}
 use Rattle.std.proofs.Common.{length, get_or, Option, Some, None, refl, ap, sym, subst, ◌∙◌, ⊎_elim}
-use Rattle.std.proofs.Common.{arith}
-use Rattle.std.specs.Prelude.{AllPairs, All, is_some, max, slice_get, if◌then◌else◌, ◌&&◌, not}
+use Rattle.std.proofs.Common.{arith, take, drop, AllPairs, All, is_some, max, slice_get}
+use Rattle.std.proofs.Common.{if◌then◌else◌, ◌&&◌, not}
 use Rattle.std.proofs.Math.Nat.{eq-or-lt_of_le}
 use Rattle.std.proofs.lemmas.Bool.{le-leb, false_from_ne_true, cases_lt}
-use Rattle.std.proofs.Common.{take, drop}
 use Rattle.std.proofs.lemmas.List.{get_or-drop, get_or-take, length-take, length-drop}
 use Rattle.std.proofs.lemmas.Option.{none-some, slice_get-get_or, get_or_from_slice_get}
 use Rattle.std.proofs.lemmas.List.Folds.{list_any_at}

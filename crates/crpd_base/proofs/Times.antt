@@ -1,7 +1,6 @@
 -- A task set in its ranges has times in theirs.
 use Rattle.std.proofs.Common.{ℕ, zero, suc, ◌<◌, ◌≤◌, List, [], ◌∷◌, length, map, get_or, All, ◌≡◌}
-use Rattle.std.proofs.Common.{sym, ◌∙◌, ap, None, arith}
-use Rattle.std.specs.Prelude.{◌^◌}
+use Rattle.std.proofs.Common.{sym, ◌∙◌, ap, None, arith, ◌^◌}
 use Rattle.std.proofs.lemmas.List.{get_or-map}
 use Rattle.crpd_base.specs.Ranges.{IsTaskSpec, IsTaskSet}
 use Rattle.crpd_base.specs.Tasks.{HasTimes, period_of, jitter_of, deadline_of}

@@ -1,6 +1,5 @@
 -- The stated loops of a set's plans have bounds from 1 to 1,000,000.
-use Rattle.std.proofs.Common.{◌≡◌, ℕ, ◌+◌, ◌≤◌, List, [], ◌∷◌, Ok, subst}
-use Rattle.std.specs.Prelude.{All, is_some}
+use Rattle.std.proofs.Common.{◌≡◌, ℕ, ◌+◌, ◌≤◌, List, [], ◌∷◌, Ok, subst, All, is_some}
 use Rattle.std.proofs.lemmas.List.Elements.{All-nil, All-cons, All-head, All-tail}
 use Rattle.crpd_base.proofs.Results.{bind_ok, ok_is}
 use Rattle.crpd_base.specs.Ranges.{IsLoopSpec, IsTaskSpec}

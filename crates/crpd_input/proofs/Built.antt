@@ -1,6 +1,5 @@
 -- The graphs and regions that a set's code gives are those that the judge and its laws speak of.
-use Rattle.std.proofs.Common.{◌≡◌, ℕ, ◌<◌, length, Some, Ok, sym, subst, inl, inr, arith}
-use Rattle.std.specs.Prelude.{slice_get}
+use Rattle.std.proofs.Common.{◌≡◌, ℕ, ◌<◌, length, Some, Ok, sym, subst, inl, inr, arith, slice_get}
 use Rattle.std.proofs.lemmas.Option.{get_or_from_slice_get}
 use Rattle.crpd_base.proofs.Elements.{some_at}
 use Rattle.crpd_base.proofs.Results.{ok_is, ok_not_err}

@@ -1,6 +1,5 @@
 -- What the steps that read give: a set in its ranges, and code of images that can lie in memory.
-use Rattle.std.proofs.Common.{◌≡◌, ℕ, List, Ok, Err, length, refl, subst}
-use Rattle.std.specs.Prelude.{Result}
+use Rattle.std.proofs.Common.{◌≡◌, ℕ, List, Ok, Err, length, refl, subst, Result}
 use Rattle.crpd_base.specs.declared.data.Image.{Image}
 use Rattle.crpd_base.specs.declared.data.TaskSet.{TaskSet}
 use Rattle.crpd_base.specs.declared.data.TaskSpec.{TaskSpec}

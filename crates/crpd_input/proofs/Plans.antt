@@ -1,8 +1,7 @@
 -- The code of a set has a plan for each task, and its words end below the last address.
 use Rattle.std.proofs.Common.{◌≡◌, ◌∙◌, ap, refl, sym, subst, ℕ, suc, ◌+◌, ◌%◌, ◌&&◌, Bool, true}
 use Rattle.std.proofs.Common.{false, not, cond, List, [], ◌∷◌, length, Option, Some, None, Result}
-use Rattle.std.proofs.Common.{Ok, arith}
-use Rattle.std.specs.Prelude.{All, ◌==◌}
+use Rattle.std.proofs.Common.{Ok, arith, All, ◌==◌}
 use Rattle.crpd_base.proofs.Results.{bind_ok}
 use Rattle.crpd_base.specs.Images.{IsImage}
 use Rattle.crpd_base.specs.declared.data.Image.{Image}

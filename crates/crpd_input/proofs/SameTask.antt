@@ -1,7 +1,6 @@
 -- The graph and the regions of an old task are those of a new task that is the same.
 use Rattle.std.proofs.Common.{◌≡◌, ℕ, ◌<◌, ◌≤◌, List, length, Some, Ok, sym, ap, ◌∙◌, subst, inl}
-use Rattle.std.proofs.Common.{inr, arith}
-use Rattle.std.specs.Prelude.{Option, None, slice_get}
+use Rattle.std.proofs.Common.{inr, arith, Option, None, slice_get}
 use Rattle.std.proofs.lemmas.Option.{get_or_from_slice_get, slice_get_within, same_Some}
 use Rattle.crpd_base.specs.Tasks.{place_of_name}
 use Rattle.crpd_base.proofs.Elements.{some_at}

@@ -1,8 +1,6 @@
 -- The test of legality decides it.
-use Rattle.std.proofs.Common.{◌≡◌, ℕ, suc, ◌+◌, ◌≤◌, Bool, true, false, List, [], ◌∷◌}
-use Rattle.std.proofs.Common.{refl, sym, arith}
-use Rattle.std.specs.Prelude.{All, AllPairs, not, ◌||◌, ◌↔◌, ◌==◌, nat_le, IsTrue}
-use Rattle.std.specs.Bool.{Decides}
+use Rattle.std.proofs.Common.{◌≡◌, ℕ, suc, ◌+◌, ◌≤◌, Bool, true, false, List, [], ◌∷◌, refl, sym}
+use Rattle.std.proofs.Common.{arith, All, AllPairs, not, ◌||◌, ◌↔◌, ◌==◌, nat_le, IsTrue, Decides}
 use Rattle.std.specs.List.{list_all}
 use Rattle.std.proofs.lemmas.Bool.{true≢false}
 use Rattle.std.proofs.lemmas.Bool.Decides.{Decides-and, Decides-by_and, Decides-eqb, Decides-or}

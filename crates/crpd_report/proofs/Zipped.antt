@@ -1,7 +1,6 @@
 -- Lines of pairs, one after another.
 use Rattle.std.proofs.Common.{◌≡◌, ℕ, ◌+◌, ◌<◌, List, [], ◌∷◌, ◌++◌, length, get_or, take, min, sym}
-use Rattle.std.proofs.Common.{ap, ◌∙◌, arith}
-use Rattle.std.specs.List.{flat_map, zip}
+use Rattle.std.proofs.Common.{ap, ◌∙◌, arith, flat_map, zip}
 use Rattle.std.proofs.lemmas.List.{flat_map_more, take_all, take_more}
 use Rattle.std.proofs.lemmas.Slice.Zip.{get_or-zip, length-zip}
 

@@ -1,7 +1,6 @@
 -- One digit more of a number.
 use Rattle.std.proofs.Common.{◌≡◌, ℕ, ◌+◌, ◌-◌, ◌*◌, ◌^◌, ◌<◌, ◌≤◌, true, List, length, drop}
-use Rattle.std.proofs.Common.{get_or, ap, sym, ◌∙◌, arith, add-one}
-use Rattle.std.specs.Prelude.{nat_le}
+use Rattle.std.proofs.Common.{get_or, ap, sym, ◌∙◌, arith, add-one, nat_le}
 use Rattle.std.specs.List.{list_all}
 use Rattle.std.proofs.Math.Nat.{pow-suc}
 use Rattle.std.proofs.lemmas.Bool.{and_parts, leb-true}

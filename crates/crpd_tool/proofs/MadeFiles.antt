@@ -1,9 +1,8 @@
 -- Files in memory, under the names that tasks have for them.
 use Rattle.std.proofs.Common.{◌≡◌, ℕ, zero, suc, ◌+◌, ◌<◌, List, [], ◌∷◌, ◌++◌, length, map, take}
-use Rattle.std.proofs.Common.{get_or, Some, Option, refl, ap, sym, ◌∙◌, arith, add-one}
+use Rattle.std.proofs.Common.{get_or, Some, Option, refl, ap, sym, ◌∙◌, arith, add-one, String, Vec}
+use Rattle.std.proofs.Common.{string_bytes, if◌then◌else◌, zip}
 use Rattle.std.proofs.lemmas.List.{get_or-map, length-map, map-append}
-use Rattle.std.specs.Prelude.{String, Vec, string_bytes, if◌then◌else◌}
-use Rattle.std.specs.List.{zip}
 use Rattle.std.specs.Str.{bytes_eq}
 use Rattle.crpd_base.specs.declared.data.TaskSpec.{TaskSpec}
 use Rattle.crpd_io.specs.FilesInMemory.{file_named}

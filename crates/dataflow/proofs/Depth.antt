@@ -2,8 +2,7 @@
 use Rattle.std.proofs.Common.{◌≡◌, ◌≢◌, ℕ, ◌+◌, ◌<◌, ◌≤◌, ◌⊎◌, ⊎_elim, inl, inr, List, [], ◌∷◌}
 use Rattle.std.proofs.Common.{◌++◌, Bool, true, false, length, get_or, set, ap, sym, ◌∙◌, subst}
 use Rattle.std.proofs.Common.{arith, Option, Some, None, length-append, get_or-set_same}
-use Rattle.std.proofs.Common.{get_or-set_other, suc, reverse, ◌-◌, refl}
-use Rattle.std.specs.List.{sum_by}
+use Rattle.std.proofs.Common.{get_or-set_other, suc, reverse, ◌-◌, refl, sum_by}
 use Rattle.std.proofs.lemmas.Bool.{cases_eq, cases_lt}
 use Rattle.std.proofs.lemmas.List.{get_or_append_left, length-set, get_or_past, get_or_default}
 use Rattle.std.proofs.lemmas.List.{get_or-reverse, length-reverse}

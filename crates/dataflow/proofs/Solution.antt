@@ -1,7 +1,6 @@
 -- Values that paths bring, and facts under way to the solution.
 use Rattle.std.proofs.Common.{◌≡◌, ℕ, List, [], ◌∷◌, ◌++◌, Option, Some, None, option_map, map}
-use Rattle.std.proofs.Common.{get_or, suc, zero, refl, sym, ap, ◌∙◌, subst, arith}
-use Rattle.std.specs.List.{All}
+use Rattle.std.proofs.Common.{get_or, suc, zero, refl, sym, ap, ◌∙◌, subst, arith, All}
 use Rattle.std.proofs.lemmas.List.Elements.{All-append, All-map}
 use Rattle.dataflow.specs.Problem.{Problem, IsSemilattice, IsBelow, HasEdge, IsPath, path_value}
 use Rattle.dataflow.specs.Problem.{Brings, joined_all, IsFact, IsAtLeast, Solves}

@@ -1,8 +1,7 @@
 -- The demand with parts that have the reloads in their bounds.
 use Rattle.std.proofs.Common.{◌≡◌, ℕ, zero, suc, ◌+◌, ◌*◌, ◌<◌, ◌≤◌, inl, inr, List, [], length}
 use Rattle.std.proofs.Common.{set as list_set, replicate, refl, sym, ◌∙◌, ap, subst, arith, false}
-use Rattle.std.proofs.Common.{◌^◌}
-use Rattle.std.specs.Prelude.{Bool, if◌then◌else◌, slice_index}
+use Rattle.std.proofs.Common.{◌^◌, Bool, if◌then◌else◌, slice_index}
 use Rattle.std.proofs.lemmas.Nat.{mul-le}
 use Rattle.std.proofs.lemmas.Bool.{cases_Bool, cases_eq, cases_lt}
 use Rattle.std.proofs.lemmas.List.{get_or-replicate, get_or_past, length-replicate, get_or-set_same}

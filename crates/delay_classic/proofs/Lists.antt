@@ -1,7 +1,6 @@
 -- Unions of lists of sets, and stretches of them.
 use Rattle.std.proofs.Common.{◌≡◌, ℕ, zero, suc, ◌+◌, ◌-◌, ◌*◌, ◌<◌, ◌≤◌, inl, inr, List, [], take}
-use Rattle.std.proofs.Common.{drop, length, get_or, refl, sym, ◌∙◌, ap, arith, true}
-use Rattle.std.specs.Prelude.{Bool, ◌||◌}
+use Rattle.std.proofs.Common.{drop, length, get_or, refl, sym, ◌∙◌, ap, arith, true, Bool, ◌||◌}
 use Rattle.std.proofs.lemmas.Bool.{cases_Bool, cases_eq, true≢false}
 use Rattle.std.proofs.lemmas.List.{get_or-take, get_or-drop, length-take-le}
 use Rattle.std.proofs.lemmas.List.{length-drop}

@@ -1,7 +1,6 @@
 -- The multiset delays are at most the plain ones.
-use Rattle.std.proofs.Common.{◌≡◌, ℕ, zero, suc, ◌+◌, ◌*◌, ◌<◌, ◌≤◌, inl, inr, refl, sym}
-use Rattle.std.proofs.Common.{arith, false}
-use Rattle.std.specs.Prelude.{Bool, nat_le, if◌then◌else◌, ◌&&◌}
+use Rattle.std.proofs.Common.{◌≡◌, ℕ, zero, suc, ◌+◌, ◌*◌, ◌<◌, ◌≤◌, inl, inr, refl, sym, arith}
+use Rattle.std.proofs.Common.{false, Bool, nat_le, if◌then◌else◌, ◌&&◌}
 use Rattle.std.proofs.lemmas.Nat.{mul-le}
 use Rattle.std.proofs.lemmas.Bool.{cases_Bool, cases_lt, leb-false, true≢false}
 use Rattle.crpd_base.proofs.Sums.{sum_le, sum_times}

@@ -1,8 +1,7 @@
 -- Sums over the bits of a word.
 use Rattle.std.proofs.Common.{◌≡◌, ℕ, zero, suc, ◌+◌, ◌-◌, ◌*◌, ◌/◌, ◌%◌, ◌^◌, ◌<◌, ◌≤◌, inl, inr}
-use Rattle.std.proofs.Common.{List, get_or, refl, sym, ◌∙◌, ap, arith}
-use Rattle.std.specs.Prelude.{◌&&◌, bit_and, min, if◌then◌else◌, ◌==◌, Bool, slice_index_or, []}
-use Rattle.std.specs.Prelude.{map}
+use Rattle.std.proofs.Common.{List, get_or, refl, sym, ◌∙◌, ap, arith, ◌&&◌, bit_and, min}
+use Rattle.std.proofs.Common.{if◌then◌else◌, ◌==◌, Bool, slice_index_or, [], map}
 use Rattle.std.specs.Int.{bit_at}
 use Rattle.std.proofs.lemmas.Nat.{mul-le}
 use Rattle.std.proofs.lemmas.Nat.Bits.{bit_at_and, bit_at_not, bit_at-lt, bit_at-zero}

@@ -1,7 +1,6 @@
 -- Greatest values over the numbers below a bound.
 use Rattle.std.proofs.Common.{◌≡◌, ℕ, zero, suc, ◌+◌, ◌-◌, ◌<◌, ◌≤◌, inl, inr, refl, sym, ◌∙◌, ap}
-use Rattle.std.proofs.Common.{arith, true}
-use Rattle.std.specs.Prelude.{nat_le, max}
+use Rattle.std.proofs.Common.{arith, true, nat_le, max}
 use Rattle.std.proofs.lemmas.Bool.{cases_Bool, cases_eq, le-leb, lt-leb}
 use Rattle.crpd_base.specs.declared.data.Switching.{Switching}
 use Rattle.crpd_base.specs.declared.data.Switching.TheVariants.{Cycle, Instruction}

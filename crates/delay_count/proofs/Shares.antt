@@ -1,7 +1,6 @@
 -- The counts and the sets of a list of shares.
 use Rattle.std.proofs.Common.{◌≡◌, ◌≢◌, take, ℕ, ◌<◌, ◌+◌, List, [], length, get_or, sym, ◌∙◌, ap}
-use Rattle.std.proofs.Common.{subst, arith, inl, inr}
-use Rattle.std.specs.Prelude.{Bool, map, slice_index_or, set}
+use Rattle.std.proofs.Common.{subst, arith, inl, inr, Bool, map, slice_index_or, set}
 use Rattle.std.proofs.lemmas.List.{length-map, get_or-map, get_or-set_same, get_or-set_other}
 use Rattle.std.proofs.lemmas.List.{map-set, take-map, get_or-take}
 use Rattle.std.proofs.lemmas.Bool.{cases_eq}

@@ -1,13 +1,12 @@
 -- Ranges of addresses that are apart.
 use Rattle.std.proofs.Common.{◌≡◌, ℕ, ◌+◌, ◌<◌, ◌≤◌, ◌⊎◌, min, max, Bool, true, false, cond, not}
-use Rattle.std.proofs.Common.{◌&&◌, ◌||◌, ltb, List, [], ◌∷◌, ◌++◌, refl, ap, subst, ◌∙◌, inl}
-use Rattle.std.proofs.Common.{inr, ⊎_elim, sym, arith}
-use Rattle.std.specs.Prelude.{filter}
+use Rattle.std.proofs.Common.{◌&&◌, ◌||◌, ltb, List, [], ◌∷◌, ◌++◌, refl, ap, subst, ◌∙◌, inl, inr}
+use Rattle.std.proofs.Common.{⊎_elim, sym, arith, filter, nat_cmp}
 use Rattle.std.specs.List.{list_any, AllByRecursion}
 use Rattle.std.specs.declared.ops.Bound.TheVariants.{Excluded, Unbounded}
 use Rattle.std.specs.BTreeMap.{insert_entry}
 use Rattle.std.specs.BTreeMap.Range.{range_contains}
-use Rattle.std.specs.Ordering.{nat_cmp, match_ordering}
+use Rattle.std.specs.Ordering.{match_ordering}
 use Rattle.std.specs.declared.cmp.Ordering.TheVariants.{Less, Equal, Greater}
 use Rattle.std.proofs.lemmas.List.Elements.{filter_agree}
 use Rattle.std.proofs.lemmas.Bool.{eq-eqb, ne_eqb, cases_Bool, cases_lt, or_parts, ltb-true}

@@ -1,7 +1,6 @@
 -- The sets of the nodes so far, as they are collected.
-use Rattle.std.proofs.Common.{◌≡◌, ◌≢◌, ℕ, ◌+◌, ◌<◌, List, IsTrue, ◌↔◌, refl, sym, ◌∙◌, ap}
-use Rattle.std.proofs.Common.{⊎_elim, arith, ne_eqb, eq-eqb}
-use Rattle.std.specs.Prelude.{if◌then◌else◌, ◌==◌, true, false}
+use Rattle.std.proofs.Common.{◌≡◌, ◌≢◌, ℕ, ◌+◌, ◌<◌, List, IsTrue, ◌↔◌, refl, sym, ◌∙◌, ap, ⊎_elim}
+use Rattle.std.proofs.Common.{arith, ne_eqb, eq-eqb, if◌then◌else◌, ◌==◌, true, false}
 use Rattle.std.proofs.lemmas.Bool.{cases_eq, eqb-true}
 use Rattle.crpd_base.specs.Sets.{member, has}
 use Rattle.icache.specs.Accesses.{Accesses}

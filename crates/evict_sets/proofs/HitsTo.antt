@@ -1,8 +1,7 @@
 -- Full states as blocks, and which nodes are counted as hits, along an order of the nodes.
 use Rattle.std.proofs.Common.{◌≡◌, ◌≢◌, ◌↔◌, ℕ, ◌+◌, ◌<◌, ◌≤◌, Bool, false, List, length, set}
 use Rattle.std.proofs.Common.{Option, IsTrue, IsFalse, sym, ap, ◌∙◌, subst, ⊎_elim, arith}
-use Rattle.std.proofs.Common.{get_or-set_same, get_or-set_other}
-use Rattle.std.specs.Prelude.{slice_index}
+use Rattle.std.proofs.Common.{get_or-set_same, get_or-set_other, slice_index}
 use Rattle.std.proofs.lemmas.Bool.{cases_eq}
 use Rattle.icache.specs.Accesses.{Accesses}
 use Rattle.flat_graph.specs.Graph.{Graph, Edge}

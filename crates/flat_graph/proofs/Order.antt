@@ -1,13 +1,12 @@
 -- The order of spots is the order of numbering.
 use Rattle.std.proofs.Common.{◌≡◌, ℕ, ◌<◌, ◌≤◌, true, List, [], ◌∷◌, refl, sym, ap, ◌∙◌, subst, inl}
-use Rattle.std.proofs.Common.{inr, ⊎_elim, ◌⊎◌, arith, rules}
+use Rattle.std.proofs.Common.{inr, ⊎_elim, ◌⊎◌, arith, rules, nat_cmp}
 use Rattle.std.proofs.lemmas.Bool.{cases_eq, false≢true}
 use Rattle.std.proofs.lemmas.Bool.Decides.{nat_tests}
 use Rattle.std.proofs.lemmas.Cmp.{ranked}
 use Rattle.std.specs.declared.cmp.Ordering.{Ordering}
 use Rattle.std.specs.declared.cmp.Ordering.TheVariants.{Less, Equal, Greater}
-use Rattle.std.specs.Ordering.{nat_cmp, ordering_then, ordering_reverse, ordering_index, then_cmp}
-use Rattle.std.specs.Ordering.{on}
+use Rattle.std.specs.Ordering.{ordering_then, ordering_reverse, ordering_index, then_cmp, on}
 use Rattle.std.specs.Cmp.{IsTotalOrder, nat_cmp_is}
 use Rattle.std.specs.Cmp.Rules.{comparing}
 use Rattle.std.specs.Cmp.Lexicographic.{slice_cmp}

@@ -3,7 +3,7 @@ use Rattle.std.proofs.Common.{◌≡◌, ◌≢◌, ℕ, suc, zero, ◌+◌, ◌
 use Rattle.std.proofs.Common.{true, false, List, [], ◌∷◌, ◌++◌, length, take, drop, get_or, set}
 use Rattle.std.proofs.Common.{map, replicate, slice_index, IfSome, Option, Some, None}
 use Rattle.std.proofs.Common.{option_and_then, refl, sym, ◌∙◌, ap, subst, arith, length-append}
-use Rattle.std.proofs.Common.{eq-eqb, get_or-set_same, get_or-set_other}
+use Rattle.std.proofs.Common.{eq-eqb, get_or-set_same, get_or-set_other, Vec}
 use Rattle.std.proofs.lemmas.Bool.{lt-ltb, le-ltb, ne_eqb}
 use Rattle.std.proofs.Math.Nat.{mul-le-mul_right}
 use Rattle.std.proofs.Math.Seq.{take-suc}
@@ -11,7 +11,6 @@ use Rattle.std.proofs.lemmas.List.{drop-take, take-take, take_at, drop_at, lengt
 use Rattle.std.proofs.lemmas.List.{length-drop, with_items_is, take-replicate}
 use Rattle.std.proofs.lemmas.List.Elements.{All-nil, All-cons, All-get_or}
 use Rattle.std.proofs.lemmas.Simd.{splat_is_map}
-use Rattle.std.specs.Prelude.{Vec}
 use Rattle.std.specs.Vec.{with_items_from}
 use Rattle.crpd_base.proofs.Rows.{row_ends}
 use Rattle.rv_decode.specs.Address.{next_address, address_before, end_address}

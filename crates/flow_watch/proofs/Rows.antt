@@ -1,6 +1,5 @@
 -- Small flows, by computation.
-use Rattle.std.proofs.Common.{◌≡◌, List, [], ◌∷◌, Some, None, refl}
-use Rattle.std.specs.Prelude.{pos, ℕ}
+use Rattle.std.proofs.Common.{◌≡◌, List, [], ◌∷◌, Some, None, refl, pos, ℕ}
 use Rattle.crpd_base.specs.declared.data.TaskPlan.{TaskPlan}
 use Rattle.rv_decode.specs.declared.Ins.TheVariants.{Jal, Jalr, Addi}
 use Rattle.rv_decode.specs.Flow.{flow}

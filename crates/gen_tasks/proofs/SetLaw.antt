@@ -1,7 +1,6 @@
 -- The made task set keeps the ranges of task sets.
 use Rattle.std.proofs.Common.{◌≡◌, ℕ, ◌<◌, ◌≤◌, Bool, true, [], ◌∷◌, ◌++◌, map, length, get_or}
-use Rattle.std.proofs.Common.{arith, refl, sym, ap, ◌∙◌, subst, lit≤, inl, inr, zero-add}
-use Rattle.std.specs.Prelude.{codes}
+use Rattle.std.proofs.Common.{arith, refl, sym, ap, ◌∙◌, subst, lit≤, inl, inr, zero-add, codes}
 use Rattle.std.specs.Fmt.{digits}
 use Rattle.std.specs.Fmt.{decimal}
 use Rattle.std.specs.List.{list_all, range_with_len}

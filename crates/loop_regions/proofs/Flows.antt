@@ -1,7 +1,6 @@
 -- Where instructions go, by their flow.
 use Rattle.std.proofs.Common.{◌≡◌, ◌⊎◌, ℕ, zero, suc, Bool, true, false, List, refl, sym, ◌∙◌, ap}
-use Rattle.std.proofs.Common.{inl, inr}
-use Rattle.std.specs.Prelude.{ℤ, pos}
+use Rattle.std.proofs.Common.{inl, inr, ℤ, pos}
 use Rattle.rv_decode.specs.declared.Ins.{Ins}
 use Rattle.rv_decode.specs.declared.Ins.TheVariants.{Jal, Jalr, Beq, Bne, Blt, Bge, Bltu, Bgeu}
 use Rattle.rv_decode.specs.declared.Ins.TheVariants.{Ecall, Ebreak}

@@ -1,8 +1,7 @@
 -- Whether ranges that stand in order have an address.
 use Rattle.std.proofs.Common.{◌≡◌, ℕ, ◌+◌, ◌-◌, ◌<◌, ◌≤◌, max, Bool, true, false, List, [], ◌∷◌}
 use Rattle.std.proofs.Common.{◌++◌, length, slice_index, slice_index_or, sym, ap, ◌∙◌, subst}
-use Rattle.std.proofs.Common.{⊎_elim, arith, All}
-use Rattle.std.specs.Prelude.{nat_le, nat_lt, ◌||◌, ◌==◌}
+use Rattle.std.proofs.Common.{⊎_elim, arith, All, nat_le, nat_lt, ◌||◌, ◌==◌}
 use borrow.Author.Tests.{ltb-true, ltb-false}
 use Rattle.std.proofs.lemmas.Bool.{cases_lt, cases_Bool, cases_eq, eqb-true}
 use Rattle.std.proofs.lemmas.Bool.Decides.{nat_tests}

@@ -1,7 +1,6 @@
 -- Refusals at least nodes.
-use Rattle.std.proofs.Common.{◌≡◌, ℕ, ◌<◌, Some, arith}
+use Rattle.std.proofs.Common.{◌≡◌, ℕ, ◌<◌, Some, arith, List}
 use Rattle.crpd_base.specs.declared.data.LoopAt.{LoopAt}
-use Rattle.std.specs.Prelude.{List}
 use Rattle.flat_graph.specs.Graph.{Graph, Places}
 use Rattle.loop_regions.specs.Nest.{Nest}
 use Rattle.loop_regions.specs.Stated.{IsRegions, IsSecondEntry, IsNotNested, IsLeastAt}

@@ -1,9 +1,8 @@
 -- Regions that lie one inside the other, and the innermost of them.
 use Rattle.std.proofs.Common.{◌≡◌, ◌≢◌, ◌⊎◌, ℕ, ◌+◌, ◌<◌, ◌≤◌, true, false, not, ◌&&◌, List, []}
-use Rattle.std.proofs.Common.{◌∷◌, ◌++◌, length, zero, suc, take, Some, None}
-use Rattle.std.proofs.Common.{slice_index, get_or, IsTrue, IsFalse, refl, sym, ap, ◌∙◌, subst, inl}
-use Rattle.std.proofs.Common.{inr, ⊎_elim, arith, ◌==◌, eq-eqb}
-use Rattle.std.specs.Prelude.{Option}
+use Rattle.std.proofs.Common.{◌∷◌, ◌++◌, length, zero, suc, take, Some, None, slice_index, get_or}
+use Rattle.std.proofs.Common.{IsTrue, IsFalse, refl, sym, ap, ◌∙◌, subst, inl, inr, ⊎_elim, arith}
+use Rattle.std.proofs.Common.{◌==◌, eq-eqb, Option}
 use Rattle.std.specs.List.{list_any}
 use Rattle.std.proofs.lemmas.Bool.{cases_lt, cases_Bool, both_ways, eqb-true, and_parts}
 use Rattle.std.proofs.lemmas.Bool.{and_from, and_cases, or_cases, or_left, or_right, not-true}

@@ -1,7 +1,6 @@
 -- The law on steps without loops: the watch without its stated loops goes the same way.
 use Rattle.std.proofs.Common.{◌≡◌, ℕ, true, false, List, [], ◌∷◌, ◌++◌, Some, None, refl, sym, ◌∙◌}
-use Rattle.std.proofs.Common.{ap, inl, inr, arith}
-use Rattle.std.specs.Prelude.{◌==◌, nat_lt, length}
+use Rattle.std.proofs.Common.{ap, inl, inr, arith, ◌==◌, nat_lt, length}
 use Rattle.std.proofs.lemmas.Bool.{cases_Bool, false≢true}
 use Rattle.flow_watch.proofs.Steps.{step_none}
 use Rattle.crpd_base.specs.declared.data.TaskPlan.{TaskPlan}

@@ -1,8 +1,7 @@
 -- For each region the regions that hold all of its nodes.
 use Rattle.std.proofs.Common.{◌≡◌, ◌↔◌, ℕ, ◌+◌, ◌<◌, ◌≤◌, List, [], length, take, set, slice_index}
 use Rattle.std.proofs.Common.{get_or, IsTrue, sym, ap, ◌∙◌, subst, inl, inr, ⊎_elim, arith}
-use Rattle.std.proofs.Common.{get_or-set_same, get_or-set_other}
-use Rattle.std.specs.List.{filter}
+use Rattle.std.proofs.Common.{get_or-set_same, get_or-set_other, filter}
 use Rattle.std.proofs.lemmas.Bool.{cases_eq, cases_lt, both_ways}
 use Rattle.loop_regions.specs.CodeNest.{has, row}
 use Rattle.loop_regions.specs.Inner.RegionLists.{AreRegionLists}

@@ -1,8 +1,7 @@
 -- Nodes as they are seen from a context: those that are seen stand together.
 use Rattle.std.proofs.Common.{◌≡◌, ◌≢◌, ◌⊎◌, ℕ, ◌<◌, ◌≤◌, true, false, List, [], ◌∷◌, length}
 use Rattle.std.proofs.Common.{get_or, Some, None, slice_get, IsTrue, IsFalse, refl, sym, ◌∙◌, subst}
-use Rattle.std.proofs.Common.{inl, inr, ⊎_elim, arith, eq-eqb, ◌==◌, nat_eq}
-use Rattle.std.specs.Prelude.{is_some}
+use Rattle.std.proofs.Common.{inl, inr, ⊎_elim, arith, eq-eqb, ◌==◌, nat_eq, is_some}
 use Rattle.std.specs.List.{starts_with}
 use Rattle.std.proofs.lemmas.Bool.{cases_eq, cases_Bool, both_ways, false≢true, eqb-true, ltb-true}
 use Rattle.std.proofs.lemmas.Option.{slice_get_within, get_or_from_slice_get}

@@ -1,7 +1,6 @@
 -- The steps of a job, one after another, are a kept walk.
 use Rattle.std.proofs.Common.{◌≡◌, ◌⊎◌, ℕ, true, List, [], ◌∷◌, map, Some, None, refl, sym, ◌∙◌, ap}
-use Rattle.std.proofs.Common.{subst, inl, inr, arith}
-use Rattle.std.specs.Prelude.{◌==◌, nat_lt, length}
+use Rattle.std.proofs.Common.{subst, inl, inr, arith, ◌==◌, nat_lt, length}
 use Rattle.std.proofs.lemmas.Bool.{cases_Bool, eqb-true, false≢true}
 use Rattle.flow_watch.proofs.Steps.{step_none}
 use Rattle.crpd_base.specs.declared.data.TaskPlan.{TaskPlan}

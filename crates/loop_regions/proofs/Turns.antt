@@ -1,8 +1,6 @@
 -- What a loop over a node's successors is at.
-use Rattle.std.proofs.Common.{◌≡◌, ◌<◌, ℕ, List, length, sym, subst}
-use Rattle.std.specs.Prelude.{Option, Some}
+use Rattle.std.proofs.Common.{◌≡◌, ◌<◌, ℕ, List, length, sym, subst, Option, Some, All}
 use Rattle.std.specs.Iterator.{Yields}
-use Rattle.std.specs.List.{All}
 use Rattle.std.proofs.lemmas.Iterator.Consumers.{YieldsList-from_first, YieldsList-turn}
 use Rattle.crpd_base.specs.declared.data.NodeId.{NodeId}
 use Rattle.flat_graph.specs.Successors.{GivesFirst}

@@ -2,8 +2,7 @@
 use Rattle.std.proofs.Common.{◌≡◌, ◌≢◌, ℕ, zero, suc, ◌<◌, ◌==◌, Bool, false, not, nat_eq, IsTrue}
 use Rattle.std.proofs.Common.{◌↔◌, List, ◌∷◌, [], ◌++◌, length, map, set, Option, Some, None, refl}
 use Rattle.std.proofs.Common.{sym, ap, ◌∙◌, subst, ⊎_elim, append_assoc, eq-eqb, ne_eqb}
-use Rattle.std.proofs.Common.{get_or-set_other, get_or-set_same, replicate, true}
-use Rattle.std.specs.Prelude.{if◌then◌else◌}
+use Rattle.std.proofs.Common.{get_or-set_other, get_or-set_same, replicate, true, if◌then◌else◌}
 use Rattle.std.specs.Option.{option_eq}
 use Rattle.std.proofs.lemmas.Bool.{cases_eq, false≢true}
 use Rattle.std.proofs.lemmas.List.{map_push}

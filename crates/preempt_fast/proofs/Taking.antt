@@ -1,7 +1,6 @@
 -- The moves of the parts.
 use Rattle.std.proofs.Common.{◌≡◌, ℕ, ◌+◌, ◌-◌, ◌<◌, ◌≤◌, true, List, length, Some, refl, sym, ◌∙◌}
-use Rattle.std.proofs.Common.{ap, subst, arith, get_or-set_same}
-use Rattle.std.specs.Prelude.{slice_set}
+use Rattle.std.proofs.Common.{ap, subst, arith, get_or-set_same, slice_set}
 use Rattle.crpd_base.specs.declared.data.ScriptJob.{ScriptJob}
 use Rattle.icache.specs.declared.Geometry.{Geometry}
 use Rattle.code_map.specs.Words.{Code}

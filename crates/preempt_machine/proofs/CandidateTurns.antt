@@ -1,9 +1,8 @@
 -- The turn of a candidate, with and without switch cycles.
 use Rattle.std.proofs.Common.{◌≡◌, ℕ, ◌-◌, ◌<◌, ◌≤◌, true, false, List, length, Option, Some, None}
 use Rattle.std.proofs.Common.{refl, sym, ◌∙◌, ap, subst, inl, inr, arith, get_or-set_same}
-use Rattle.std.proofs.Common.{get_or-set_other, length-set}
-use Rattle.std.specs.Prelude.{◌==◌, ◌&&◌, nat_lt, is_some, option_map, slice_index, slice_set}
-use Rattle.std.specs.Prelude.{if◌then◌else◌, IfSome, MatchOption}
+use Rattle.std.proofs.Common.{get_or-set_other, length-set, ◌==◌, ◌&&◌, nat_lt, is_some, option_map}
+use Rattle.std.proofs.Common.{slice_index, slice_set, if◌then◌else◌, IfSome, MatchOption}
 use Rattle.std.proofs.lemmas.Bool.{cases_Bool, cases_eq, cases_lt, false≢true}
 use Rattle.std.proofs.lemmas.Bool.Decides.{nat_tests}
 use Rattle.crpd_base.specs.declared.data.JobId.{JobId}

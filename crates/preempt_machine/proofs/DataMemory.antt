@@ -1,7 +1,6 @@
 -- A step keeps the data memory in order: only a store changes it, byte by byte.
 use Rattle.std.proofs.Common.{◌≡◌, ℕ, zero, suc, ◌%◌, ◌^◌, ◌<◌, List, Option, Some, None, subst}
-use Rattle.std.proofs.Common.{inl, inr, arith}
-use Rattle.std.specs.Prelude.{◌==◌, nat_lt}
+use Rattle.std.proofs.Common.{inl, inr, arith, ◌==◌, nat_lt}
 use Rattle.std.proofs.lemmas.Bool.{cases_Bool}
 use Rattle.rv_decode.specs.Address.{plus}
 use Rattle.rv_decode.specs.declared.Ins.{Ins}

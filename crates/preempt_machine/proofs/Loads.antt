@@ -1,7 +1,6 @@
 -- What loops over blocks, segments and files have put so far.
 use Rattle.std.proofs.Common.{◌≡◌, ℕ, ◌+◌, ◌<◌, List, [], ◌∷◌, ◌++◌, length, take, Option, Some}
-use Rattle.std.proofs.Common.{None, refl, sym, ◌∙◌, ap, arith, get_or, length-set}
-use Rattle.std.specs.Prelude.{replicate}
+use Rattle.std.proofs.Common.{None, refl, sym, ◌∙◌, ap, arith, get_or, length-set, replicate}
 use Rattle.std.proofs.lemmas.List.{ext_get_or, get_or-replicate, length-replicate, take_more}
 use Rattle.crpd_base.specs.declared.data.Image.{Image}
 use Rattle.crpd_base.specs.declared.data.Platform.{Platform}

@@ -1,8 +1,7 @@
 -- A job's number grows with its place among the jobs of its task, so the order by places is the
 -- order by numbers.
 use Rattle.std.proofs.Common.{◌≡◌, ℕ, zero, suc, ◌+◌, ◌<◌, ◌≤◌, true, cond, List, [], ◌∷◌, length}
-use Rattle.std.proofs.Common.{refl, ap, inl, inr, arith}
-use Rattle.std.specs.Prelude.{◌==◌, slice_index_or}
+use Rattle.std.proofs.Common.{refl, ap, inl, inr, arith, ◌==◌, slice_index_or}
 use Rattle.std.proofs.lemmas.Bool.{cases_lt, eq-eqb}
 use Rattle.crpd_base.specs.declared.data.ScriptJob.{ScriptJob}
 use Rattle.preempt_machine.specs.Machine.{number_in_script}

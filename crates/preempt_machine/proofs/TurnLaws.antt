@@ -1,7 +1,6 @@
 -- What a turn of a job does.
 use Rattle.std.proofs.Common.{◌≡◌, ℕ, ◌+◌, ◌-◌, ◌<◌, ◌≤◌, ◌≢◌, Bool, true, false, not, Some, refl}
-use Rattle.std.proofs.Common.{◌∙◌, ap, inl, inr, arith}
-use Rattle.std.specs.Prelude.{◌==◌, ◌&&◌, nat_lt, if◌then◌else◌}
+use Rattle.std.proofs.Common.{◌∙◌, ap, inl, inr, arith, ◌==◌, ◌&&◌, nat_lt, if◌then◌else◌}
 use Rattle.std.proofs.lemmas.Bool.{cases_Bool, cases_eq, false≢true, ne_eqb, eq-eqb, ltb-true}
 use Rattle.std.proofs.lemmas.Bool.{ltb-false, lt-ltb}
 use Rattle.crpd_base.specs.declared.data.Platform.{Platform}

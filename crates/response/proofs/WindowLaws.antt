@@ -1,7 +1,6 @@
 -- Windows of any demand: the same of equal needs, one at most, and there or not.
 use Rattle.std.proofs.Common.{◌≡◌, ℕ, zero, suc, ◌+◌, ◌-◌, ◌<◌, ◌≤◌, ◌⊎◌, inl, inr, Option, Some}
-use Rattle.std.proofs.Common.{None, refl, sym, ◌∙◌, subst, arith}
-use Rattle.std.specs.Prelude.{MatchOption, nat_le}
+use Rattle.std.proofs.Common.{None, refl, sym, ◌∙◌, subst, arith, MatchOption, nat_le}
 use Rattle.std.proofs.lemmas.Bool.{cases_Bool, cases_eq, cases_lt, leb-true, leb-false}
 use Rattle.crpd_base.specs.declared.data.TaskSet.{TaskSet}
 use Rattle.crpd_base.specs.declared.data.Method.{Method}

@@ -1,8 +1,7 @@
 -- Bytes as one number, in pages and in memories.
 use Rattle.std.proofs.Common.{◌≡◌, ℕ, suc, ◌+◌, ◌*◌, ◌/◌, ◌%◌, ◌^◌, ◌<◌, ◌≤◌, List, [], ◌∷◌, ◌++◌}
 use Rattle.std.proofs.Common.{length, take, drop, refl, sym, ◌∙◌, ap, arith, take-append-drop}
-use Rattle.std.proofs.Common.{append_assoc, Fits, w8}
-use Rattle.std.specs.Prelude.{slice_index, slice_range, slice_set}
+use Rattle.std.proofs.Common.{append_assoc, Fits, w8, slice_index, slice_range, slice_set}
 use Rattle.std.proofs.lemmas.Slice.{between_is}
 use Rattle.std.proofs.lemmas.List.{drop-drop, drop-set-lt, length-set, length-take-le, take-take}
 use Rattle.std.proofs.lemmas.List.{take_more_set}

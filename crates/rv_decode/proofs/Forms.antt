@@ -1,8 +1,7 @@
 -- What follows from the operands of an instruction, with its name and its operation.
 use Rattle.std.proofs.Common.{◌≡◌, ℕ, ◌^◌, ◌<◌, ℤ, List, Result, refl, sym, ap, ◌∙◌, subst, lit<}
-use Rattle.std.proofs.Common.{to_z, of_z, w32, SFits, Bool, true, ◌&&◌, nat_lt, arith}
+use Rattle.std.proofs.Common.{to_z, of_z, w32, SFits, Bool, true, ◌&&◌, nat_lt, arith, IfOk}
 use Rattle.std.proofs.lemmas.Int.{to_z-of_z}
-use Rattle.std.specs.Prelude.{IfOk}
 use Rattle.rv_decode.specs.declared.Ins.{Ins}
 use Rattle.rv_decode.specs.declared.Ins.TheVariants.{Lui, Auipc, Jal, Jalr, Beq, Bne, Blt, Bge}
 use Rattle.rv_decode.specs.declared.Ins.TheVariants.{Bltu, Bgeu, Lb, Lh, Lw, Lbu, Lhu, Sb, Sh, Sw}

@@ -1,7 +1,6 @@
 -- What a script that was read keeps: its tasks are in the set, and its jobs are few.
-use Rattle.std.proofs.Common.{◌≡◌, ℕ, ◌<◌, ◌≤◌, ◌^◌, nat_lt, List, [], length, codes}
-use Rattle.std.proofs.Common.{Option, Some, None, Result, Ok, Err, ap, subst, arith, inl, inr}
-use Rattle.std.specs.Prelude.{All, IfOk}
+use Rattle.std.proofs.Common.{◌≡◌, ℕ, ◌<◌, ◌≤◌, ◌^◌, nat_lt, List, [], length, codes, Option, Some}
+use Rattle.std.proofs.Common.{None, Result, Ok, Err, ap, subst, arith, inl, inr, All, IfOk}
 use Rattle.std.specs.List.{AllByRecursion}
 use Rattle.std.specs.Str.{is_utf8}
 use Rattle.std.proofs.lemmas.Bool.{cases_Bool, ltb-false}

@@ -1,7 +1,6 @@
 -- Files whose bytes all stand below the address at which jobs end are a code map.
 use Rattle.std.proofs.Common.{◌≡◌, ℕ, ◌+◌, ◌-◌, ◌<◌, Bool, true, not, ◌&&◌, List, [], ◌∷◌, length}
-use Rattle.std.proofs.Common.{Option, Some, None, IsTrue, refl, inl, inr, arith, nat_le}
-use Rattle.std.specs.Prelude.{◌==◌, ◌%◌}
+use Rattle.std.proofs.Common.{Option, Some, None, IsTrue, refl, inl, inr, arith, nat_le, ◌==◌, ◌%◌}
 use Rattle.std.specs.Option.{option_or}
 use Rattle.std.proofs.lemmas.Bool.{cases_Bool, and_parts, leb-true}
 use Rattle.std.proofs.lemmas.Option.{slice_get_within, none-some}

@@ -1,8 +1,7 @@
 -- The premises of the laws hold of a task with a loop.
 use Rattle.std.proofs.Common.{◌≡◌, ◌≢◌, ℕ, zero, suc, ◌+◌, ◌*◌, ◌<◌, ◌≤◌, List, [], ◌∷◌, Some, None}
 use Rattle.std.proofs.Common.{Contains, IsTrue, IsFalse, refl, sym, ◌∙◌, ap, subst, inl, inr, arith}
-use Rattle.std.proofs.Common.{length}
-use Rattle.std.specs.Prelude.{◌==◌, nat_lt, get_or}
+use Rattle.std.proofs.Common.{length, ◌==◌, nat_lt, get_or}
 use Rattle.std.proofs.lemmas.Bool.{cases_Bool, eqb-true, false≢true, true≢false, ne_eqb, ltb-true}
 use Rattle.std.proofs.lemmas.Bool.{lt-ltb}
 use Rattle.std.proofs.lemmas.Option.{same_Some}

@@ -1,9 +1,8 @@
 -- Tests by which a task that goes one way has its graph, and meets the judge's clauses.
 use Rattle.std.proofs.Common.{◌≡◌, ℕ, zero, suc, ◌+◌, ◌<◌, ◌≤◌, Bool, true, false, List, [], ◌∷◌}
-use Rattle.std.proofs.Common.{Option, Some, None, Contains, IsTrue, refl, ◌∙◌, ap, subst}
-use Rattle.std.proofs.Common.{arith, length}
-use Rattle.std.specs.Prelude.{◌==◌, ◌&&◌, nat_lt, nat_le, slice_index_or, get_or}
-use Rattle.std.specs.Prelude.{option_and_then}
+use Rattle.std.proofs.Common.{Option, Some, None, Contains, IsTrue, refl, ◌∙◌, ap, subst, arith}
+use Rattle.std.proofs.Common.{length, ◌==◌, ◌&&◌, nat_lt, nat_le, slice_index_or, get_or}
+use Rattle.std.proofs.Common.{option_and_then}
 use Rattle.std.proofs.lemmas.Bool.{eqb-true, eq-eqb, ltb-true, leb-true, and_parts}
 use Rattle.std.proofs.lemmas.Bool.{false≢true}
 use Rattle.crpd_base.specs.declared.data.Platform.{Platform}

@@ -1,7 +1,6 @@
 -- The premises of the laws hold of two tasks of which one preempts the other.
 use Rattle.std.proofs.Common.{◌≡◌, ℕ, ◌<◌, ◌≤◌, true, List, [], ◌∷◌, length, refl, sym, ap, subst}
-use Rattle.std.proofs.Common.{inl, inr, arith}
-use Rattle.std.specs.Prelude.{slice_index, slice_index_or}
+use Rattle.std.proofs.Common.{inl, inr, arith, slice_index, slice_index_or}
 use Rattle.std.proofs.lemmas.Bool.{cases_lt}
 use Rattle.crpd_base.specs.declared.data.Method.TheVariants.{Ucb}
 use Rattle.crpd_base.specs.Ranges.{IsTaskSpec, HaveOwnNames, IsTaskSet}

@@ -1,7 +1,6 @@
 -- For step 6: counting by sums.
 use Rattle.std.proofs.Common.{◌≡◌, ℕ, ◌*◌, ◌<◌, ◌≤◌, Bool, true, false, ◌&&◌, refl, sym, ◌∙◌, subst}
-use Rattle.std.proofs.Common.{inl, inr, arith}
-use Rattle.std.specs.Prelude.{◌==◌, if◌then◌else◌}
+use Rattle.std.proofs.Common.{inl, inr, arith, ◌==◌, if◌then◌else◌}
 use Rattle.std.proofs.lemmas.Bool.{cases_Bool, false≢true, and_parts, eq-eqb, eqb-true}
 use Rattle.crpd_base.proofs.Sums.{sum_le, sum_times, sum_ge, sum_swap}
 use Rattle.crpd_base.specs.Sum.{sum_below, one_if}

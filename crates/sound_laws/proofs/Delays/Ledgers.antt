@@ -1,10 +1,9 @@
 -- Step 6, ledger_within_delays: the ledger's reloads of a window, counted as the steps at which
 -- they are made, are within both delays.
-use Rattle.std.proofs.Common.{◌≡◌, ℕ, suc, ◌+◌, ◌*◌, ◌<◌, ◌≤◌, Bool, true, false, ◌&&◌}
-use Rattle.std.proofs.Common.{List, [], ◌∷◌, refl, sym, ◌∙◌, ap, subst, inl, inr, arith}
-use Rattle.std.proofs.Common.{nat_lt, nat_le, cond, mul-le-mul_left, mul_comm}
-use Rattle.std.specs.Prelude.{◌==◌, All, AllPairs}
-use Rattle.std.specs.List.{list_any, count_by}
+use Rattle.std.proofs.Common.{◌≡◌, ℕ, suc, ◌+◌, ◌*◌, ◌<◌, ◌≤◌, Bool, true, false, ◌&&◌, List, []}
+use Rattle.std.proofs.Common.{◌∷◌, refl, sym, ◌∙◌, ap, subst, inl, inr, arith, nat_lt, nat_le, cond}
+use Rattle.std.proofs.Common.{mul-le-mul_left, mul_comm, ◌==◌, All, AllPairs, count_by}
+use Rattle.std.specs.List.{list_any}
 use Rattle.std.proofs.lemmas.Bool.{cases_Bool, false≢true, and_parts, or_cases, ltb-true, leb-true}
 use Rattle.std.proofs.lemmas.Bool.{eqb-true, eq-eqb, or_right}
 use Rattle.std.proofs.lemmas.List.Recursion.{is_count_by}

@@ -1,8 +1,7 @@
 -- Step 6, reloads_within_delays: the reloads of a window, up to a step before which its job is
 -- open, are within both delays.
 use Rattle.std.proofs.Common.{◌≡◌, ℕ, ◌+◌, ◌<◌, ◌≤◌, ◌⊎◌, Bool, true, false, ◌&&◌, length, sym, ◌∙◌}
-use Rattle.std.proofs.Common.{subst, inl, inr, arith}
-use Rattle.std.specs.Prelude.{nat_lt, ◌==◌, if◌then◌else◌}
+use Rattle.std.proofs.Common.{subst, inl, inr, arith, nat_lt, ◌==◌, if◌then◌else◌}
 use Rattle.std.proofs.Math.Nat.{mul-le-mul_left}
 use Rattle.std.proofs.lemmas.Bool.{cases_Bool, cases_lt, false≢true, and_parts, and_from, lt-ltb}
 use Rattle.std.proofs.lemmas.Bool.{ltb-true, eq-eqb}

@@ -1,9 +1,8 @@
 -- Step 5, execution_within_bound: the cycles executed and those to go are at most the bound and
 -- the cost of a miss for each reload.
 use Rattle.std.proofs.Common.{◌≡◌, ◌≢◌, ℕ, zero, suc, ◌+◌, ◌-◌, ◌*◌, ◌<◌, ◌≤◌, Bool, true, false}
-use Rattle.std.proofs.Common.{[], ◌∷◌, length, Some, refl, sym, ◌∙◌, ap, subst, inl, inr}
-use Rattle.std.proofs.Common.{arith}
-use Rattle.std.specs.Prelude.{◌==◌}
+use Rattle.std.proofs.Common.{[], ◌∷◌, length, Some, refl, sym, ◌∙◌, ap, subst, inl, inr, arith}
+use Rattle.std.proofs.Common.{◌==◌}
 use Rattle.std.proofs.lemmas.Bool.{cases_Bool, cases_eq, eq-eqb, ne_eqb, false≢true, or_parts}
 use Rattle.crpd_base.proofs.Options.{same_or_not}
 use Rattle.crpd_base.specs.declared.data.Platform.{Platform}

@@ -1,8 +1,7 @@
 -- For step 7: in a checked run each step of a job spends a cycle of what it has to go, and at
 -- a reload the cost of a miss.
 use Rattle.std.proofs.Common.{◌≡◌, ℕ, zero, suc, ◌+◌, ◌*◌, ◌<◌, ◌≤◌, ◌≢◌, true, false, ◌&&◌, length}
-use Rattle.std.proofs.Common.{Some, inl, inr, arith}
-use Rattle.std.specs.Prelude.{nat_le}
+use Rattle.std.proofs.Common.{Some, inl, inr, arith, nat_le}
 use Rattle.std.proofs.lemmas.Bool.{cases_Bool, cases_lt, le-leb}
 use Rattle.crpd_base.specs.Sum.{sum_below}
 use Rattle.cert_check.specs.ListedPotentials.{potentials_of}

@@ -2,9 +2,7 @@
 -- within the delays.
 use Rattle.std.proofs.Common.{◌≡◌, ℕ, zero, suc, ◌+◌, ◌*◌, ◌<◌, ◌≤◌, Bool, true, false, ◌&&◌, List}
 use Rattle.std.proofs.Common.{[], ◌∷◌, length, get_or, map, cond, nat_le, if◌then◌else◌, IsTrue}
-use Rattle.std.proofs.Common.{refl, sym, ◌∙◌, ap, subst, arith}
-use Rattle.std.specs.Prelude.{slice_index}
-use Rattle.std.specs.List.{count_by}
+use Rattle.std.proofs.Common.{refl, sym, ◌∙◌, ap, subst, arith, slice_index, count_by}
 use Rattle.std.proofs.lemmas.List.Recursion.{is_count_by}
 use Rattle.crpd_base.specs.declared.data.Certificate.{Certificate}
 use Rattle.crpd_base.specs.declared.data.Script.{Script}

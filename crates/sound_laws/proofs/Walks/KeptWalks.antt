@@ -1,8 +1,7 @@
 -- Step 3, fetches_are_kept_walk: while its watch is not broken, each job's fetches are a kept walk
 -- of its task's graph.
 use Rattle.std.proofs.Common.{◌≡◌, ℕ, zero, suc, ◌<◌, ◌≤◌, true, [], length, Some, None, refl, sym}
-use Rattle.std.proofs.Common.{◌∙◌, ap, subst, inl, inr, arith}
-use Rattle.std.specs.Prelude.{◌==◌}
+use Rattle.std.proofs.Common.{◌∙◌, ap, subst, inl, inr, arith, ◌==◌}
 use Rattle.std.proofs.lemmas.Bool.{eq-eqb, false≢true}
 use Rattle.crpd_base.proofs.Options.{same_or_not}
 use Rattle.crpd_base.specs.declared.data.Platform.{Platform}

@@ -1,5 +1,4 @@
-use Rattle.std.proofs.Common.{Ok, Err, arith}
-use Rattle.std.specs.Prelude.{slice_index}
+use Rattle.std.proofs.Common.{Ok, Err, arith, slice_index}
 use Rattle.cert_check.specs.declared.outcome.Clause.TheVariants.{HasTask}
 use Rattle.cert_check.specs.Verdict.{TimesHold, ClauseHolds}
 use Rattle.cert_check.specs.TaskGraphs.{task_graph_at}

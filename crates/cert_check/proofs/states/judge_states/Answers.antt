@@ -1,5 +1,4 @@
-use Rattle.std.proofs.Common.{◌+◌, length, refl, sym, subst, arith}
-use Rattle.std.specs.Prelude.{slice_index_or}
+use Rattle.std.proofs.Common.{◌+◌, length, refl, sym, subst, arith, slice_index_or}
 use Rattle.flat_graph.specs.CodeGraph.{graph_of}
 use Rattle.evict_sets.specs.ListedPart.{listed_of}
 use Rattle.evict_sets.specs.CacheClauses.{StatesMeet}

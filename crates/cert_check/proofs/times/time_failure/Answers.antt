@@ -1,5 +1,4 @@
-use Rattle.std.proofs.Common.{Ok, Err, refl, sym, ap, ◌∙◌, arith}
-use Rattle.std.specs.Prelude.{slice_index}
+use Rattle.std.proofs.Common.{Ok, Err, refl, sym, ap, ◌∙◌, arith, slice_index}
 use Rattle.std.proofs.lemmas.Bool.{false≢true}
 use Rattle.crpd_base.proofs.Times.{jitter_is, deadline_is}
 use Rattle.crpd_base.specs.declared.data.TaskPart.{TaskPart}

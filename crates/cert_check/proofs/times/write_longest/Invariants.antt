@@ -1,6 +1,5 @@
 -- The costs of the tasks so far.
-use Rattle.std.proofs.Common.{◌≡◌, ℕ, ◌<◌, ◌≤◌}
-use Rattle.std.specs.Prelude.{slice_index}
+use Rattle.std.proofs.Common.{◌≡◌, ℕ, ◌<◌, ◌≤◌, slice_index}
 use Rattle.flat_graph.specs.CodeGraph.{graph_of, node_code, graph_at}
 use Rattle.evict_sets.specs.Answering.{answers_of}
 use Rattle.evict_sets.specs.Longest.{longest}

@@ -1,5 +1,4 @@
-use Rattle.std.proofs.Common.{◌≡◌, sym, subst}
-use Rattle.std.specs.Prelude.{if◌then◌else◌, ◌==◌}
+use Rattle.std.proofs.Common.{◌≡◌, sym, subst, if◌then◌else◌, ◌==◌}
 use Rattle.crpd_base.specs.Sets.{has}
 use Rattle.flat_graph.specs.CodeGraph.{graph_of}
 use Rattle.evict_sets.specs.ListedPart.{listed_of}

@@ -1,5 +1,4 @@
-use Rattle.std.proofs.Common.{arith, ◌^◌, ℕ, List, length, Option, ◌∙◌, ap}
-use Rattle.std.specs.Prelude.{nat_le, option_and_then}
+use Rattle.std.proofs.Common.{arith, ◌^◌, ℕ, List, length, Option, ◌∙◌, ap, nat_le, option_and_then}
 use Rattle.std.proofs.lemmas.Bool.{le-leb, lt-leb}
 use Rattle.serde_json.specs.Data.{Data}
 use Rattle.toml_keys.specs.Kinds.{only}

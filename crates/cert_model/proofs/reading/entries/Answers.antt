@@ -1,5 +1,4 @@
-use Rattle.std.proofs.Common.{◌≤◌, length, subst, sym}
-use Rattle.std.specs.Prelude.{All, List}
+use Rattle.std.proofs.Common.{◌≤◌, length, subst, sym, All, List}
 use Rattle.crpd_base.specs.declared.data.NodeState.{NodeState}
 use Rattle.crpd_base.specs.CertificateRanges.{HasFewPairs}
 use Rattle.cert_model.proofs.Ranged.{few_states, few_pairs}

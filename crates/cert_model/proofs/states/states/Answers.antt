@@ -1,5 +1,4 @@
-use Rattle.std.proofs.Common.{arith, ◌∙◌, ap, sym}
-use Rattle.std.specs.Prelude.{option_and_then}
+use Rattle.std.proofs.Common.{arith, ◌∙◌, ap, sym, option_and_then}
 use Rattle.serde_json.specs.View.{view}
 use Rattle.cert_model.specs.Kinds.{states, states_from}
 use Rattle.cert_model.proofs.Listed.{states_start, state_more, state_fault, states_all, of_states}

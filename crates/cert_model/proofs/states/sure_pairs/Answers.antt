@@ -1,5 +1,4 @@
-use Rattle.std.proofs.Common.{arith, ◌∙◌, sym, ap}
-use Rattle.std.specs.Prelude.{option_and_then}
+use Rattle.std.proofs.Common.{arith, ◌∙◌, sym, ap, option_and_then}
 use Rattle.cert_model.specs.Kinds.{sure_pairs, pairs_from}
 use Rattle.cert_model.proofs.Pairs.{pairs_start, pairs_more, pairs_fault, pairs_odd, pairs_all}
 use Rattle.cert_model.proofs.states.sure_pairs.Goals as goal

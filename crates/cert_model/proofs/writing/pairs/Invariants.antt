@@ -1,5 +1,4 @@
-use Rattle.std.proofs.Common.{take}
-use Rattle.std.specs.List.{flat_map}
+use Rattle.std.proofs.Common.{take, flat_map}
 use Rattle.cert_model.specs.Inner.Tokens.{Adds}
 use Rattle.cert_model.proofs.Adds.{pair_tokens}
 use Rattle.cert_model.proofs.writing.pairs.Given as goal

@@ -1,5 +1,4 @@
-use Rattle.std.proofs.Common.{◌∙◌, List, Some, subst}
-use Rattle.std.specs.Prelude.{All}
+use Rattle.std.proofs.Common.{◌∙◌, List, Some, subst, All}
 use Rattle.crpd_base.specs.declared.data.TaskPart.{TaskPart}
 use Rattle.serde_json.specs.Data.{object}
 use Rattle.cert_model.specs.Inner.Ranges.{HasSetWords}

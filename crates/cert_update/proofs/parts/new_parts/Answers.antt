@@ -1,5 +1,4 @@
-use Rattle.std.proofs.Common.{◌≤◌, List, length, sym, ap, ◌∙◌, subst, All, arith}
-use Rattle.std.specs.Prelude.{sum_by}
+use Rattle.std.proofs.Common.{◌≤◌, List, length, sym, ap, ◌∙◌, subst, All, arith, sum_by}
 use Rattle.std.proofs.lemmas.Result.{err_from_is_err_and}
 use Rattle.crpd_base.specs.declared.data.NodeState.{NodeState}
 use Rattle.crpd_base.specs.CertificateRanges.{HasFewPairs}

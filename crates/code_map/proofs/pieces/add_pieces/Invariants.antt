@@ -1,5 +1,4 @@
-use Rattle.std.proofs.Common.{◌≡◌, ◌++◌, map, take}
-use Rattle.std.specs.Prelude.{All, filter}
+use Rattle.std.proofs.Common.{◌≡◌, ◌++◌, map, take, All, filter}
 use Rattle.code_map.specs.Inner.Pieces.{HasBytes, piece_of, piece_content}
 use Rattle.code_map.proofs.pieces.add_pieces.Given as goal
 

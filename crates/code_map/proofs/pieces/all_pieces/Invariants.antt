@@ -1,5 +1,4 @@
-use Rattle.std.proofs.Common.{◌≡◌, map, take}
-use Rattle.std.specs.Prelude.{All}
+use Rattle.std.proofs.Common.{◌≡◌, map, take, All}
 use Rattle.code_map.specs.Inner.Pieces.{HasBytes, all_pieces, piece_content}
 use Rattle.code_map.proofs.pieces.all_pieces.Given as goal
 

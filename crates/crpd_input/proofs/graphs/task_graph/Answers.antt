@@ -1,5 +1,4 @@
-use Rattle.std.proofs.Common.{ap, refl, subst}
-use Rattle.std.specs.Prelude.{IfSome}
+use Rattle.std.proofs.Common.{ap, refl, subst, IfSome}
 use Rattle.crpd_base.proofs.Elements.{some_at}
 use Rattle.rv_decode.specs.Flow.{flows}
 use Rattle.code_map.specs.Words.{word_at}

@@ -1,5 +1,4 @@
-use Rattle.std.proofs.Common.{◌≡◌, ◌≤◌, length, take, Ok}
-use Rattle.std.specs.Prelude.{All}
+use Rattle.std.proofs.Common.{◌≡◌, ◌≤◌, length, take, Ok, All}
 use Rattle.crpd_base.specs.Images.{IsImage}
 use Rattle.crpd_input.specs.Steps.{HoldsWhereTold}
 use Rattle.crpd_input.specs.Reading.{images_in}

@@ -1,5 +1,4 @@
-use Rattle.std.proofs.Common.{◌≡◌, ◌<◌, List, None, sym, subst, arith, length}
-use Rattle.std.specs.Prelude.{slice_index_or}
+use Rattle.std.proofs.Common.{◌≡◌, ◌<◌, List, None, sym, subst, arith, length, slice_index_or}
 use Rattle.std.proofs.lemmas.Option.{slice_get-get_or}
 use Rattle.loop_regions.specs.CodeNest.{CodeNest}
 use Rattle.cert_check.specs.TaskGraphs.{AreTaskGraphs, nest_at, no_nest}

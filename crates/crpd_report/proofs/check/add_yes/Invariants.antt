@@ -1,6 +1,4 @@
-use Rattle.std.proofs.Common.{◌≡◌, [], ◌∷◌, ◌++◌, codes, length, take}
-use Rattle.std.specs.Prelude.{string_bytes}
-use Rattle.std.specs.List.{flat_map, zip}
+use Rattle.std.proofs.Common.{◌≡◌, [], ◌∷◌, ◌++◌, codes, length, take, string_bytes, flat_map, zip}
 use Rattle.crpd_report.specs.Check.{task_line}
 use Rattle.crpd_report.proofs.check.add_yes.Given as goal
 

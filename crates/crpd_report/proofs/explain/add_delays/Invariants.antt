@@ -1,6 +1,5 @@
-use Rattle.std.proofs.Common.{◌≡◌, ◌++◌}
-use Rattle.std.specs.Prelude.{string_bytes}
-use Rattle.std.specs.List.{flat_map, range_with_len}
+use Rattle.std.proofs.Common.{◌≡◌, ◌++◌, string_bytes, flat_map}
+use Rattle.std.specs.List.{range_with_len}
 use Rattle.crpd_report.specs.Explain.{delay_line}
 use Rattle.crpd_report.proofs.explain.add_delays.Given as goal
 

@@ -1,6 +1,4 @@
-use Rattle.std.proofs.Common.{◌≡◌, ◌+◌, ◌++◌, ◌∙◌, refl, sym, ap, arith}
-use Rattle.std.specs.Prelude.{string_bytes}
-use Rattle.std.specs.List.{flat_map}
+use Rattle.std.proofs.Common.{◌≡◌, ◌+◌, ◌++◌, ◌∙◌, refl, sym, ap, arith, string_bytes, flat_map}
 use Rattle.crpd_base.specs.Sets.{has}
 use Rattle.crpd_report.specs.List.{those_below}
 use Rattle.crpd_report.specs.Sets.{number_text, numbers_text}

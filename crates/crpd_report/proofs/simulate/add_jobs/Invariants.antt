@@ -1,6 +1,4 @@
-use Rattle.std.proofs.Common.{◌≡◌, ◌++◌, length, take}
-use Rattle.std.specs.Prelude.{string_bytes}
-use Rattle.std.specs.List.{flat_map, zip}
+use Rattle.std.proofs.Common.{◌≡◌, ◌++◌, length, take, string_bytes, flat_map, zip}
 use Rattle.crpd_report.specs.Simulate.{job_line}
 use Rattle.crpd_report.proofs.simulate.add_jobs.Given as goal
 

@@ -1,5 +1,4 @@
-use Rattle.std.proofs.Common.{◌≡◌, subst}
-use Rattle.std.specs.Prelude.{IfOk}
+use Rattle.std.proofs.Common.{◌≡◌, subst, IfOk}
 use Rattle.cert_check.specs.FirstFailing.{answer_of}
 use Rattle.cert_check.specs.Verdict.{Yes}
 use Rattle.cert_check.specs.declared.outcome.Verdict.TheVariants as verdict

@@ -1,5 +1,4 @@
-use Rattle.std.proofs.Common.{◌≡◌, ◌∙◌, Err, Result, ap, arith, refl, sym}
-use Rattle.std.specs.Prelude.{IsErrOf, Option, ok_or}
+use Rattle.std.proofs.Common.{◌≡◌, ◌∙◌, Err, Result, ap, arith, refl, sym, IsErrOf, Option, ok_or}
 use Rattle.crpd_base.specs.declared.data.Task.{Task}
 use Rattle.crpd_input.specs.Steps.{IsRefusal, Stops, and_then, refusal}
 use Rattle.crpd_input.specs.declared.cause.Cause.TheVariants.{NoSuchTask}

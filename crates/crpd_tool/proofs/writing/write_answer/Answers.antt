@@ -1,5 +1,4 @@
-use Rattle.std.proofs.Common.{◌≢◌, ◌∙◌, ℕ, List, rules, subst, sym}
-use Rattle.std.specs.Prelude.{Option}
+use Rattle.std.proofs.Common.{◌≢◌, ◌∙◌, ℕ, List, rules, subst, sym, Option}
 use Rattle.crpd_tool.specs.Inner.Output.{Finished}
 use Rattle.crpd_tool.specs.Output.{IsWhole}
 use Rattle.crpd_tool.specs.declared.status.Status.{Status}

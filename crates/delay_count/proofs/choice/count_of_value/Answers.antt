@@ -1,5 +1,4 @@
-use Rattle.std.proofs.Common.{arith, ◌*◌, ◌^◌, ◌≤◌}
-use Rattle.std.specs.Prelude.{slice_index}
+use Rattle.std.proofs.Common.{arith, ◌*◌, ◌^◌, ◌≤◌, slice_index}
 use Rattle.delay_count.specs.Gamma.{count_at}
 use Rattle.delay_count.specs.Inner.Filling.{sum_at_value}
 use Rattle.delay_count.proofs.Choices.{counted_most, counted_more, counted_other}

@@ -1,5 +1,4 @@
-use Rattle.std.proofs.Common.{◌≡◌}
-use Rattle.std.specs.Prelude.{slice_index}
+use Rattle.std.proofs.Common.{◌≡◌, slice_index}
 use Rattle.delay_count.specs.Gamma.{count_at}
 use Rattle.delay_count.specs.Inner.Filling.{sum_at_value}
 use Rattle.delay_count.proofs.choice.count_of_value.Given as goal

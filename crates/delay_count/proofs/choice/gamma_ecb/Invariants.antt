@@ -1,5 +1,4 @@
-use Rattle.std.proofs.Common.{◌≡◌, ◌+◌, ◌*◌, ◌<◌, ◌≤◌, length}
-use Rattle.std.specs.Prelude.{slice_index}
+use Rattle.std.proofs.Common.{◌≡◌, ◌+◌, ◌*◌, ◌<◌, ◌≤◌, length, slice_index}
 use Rattle.delay_count.specs.Gamma.{count_at}
 use Rattle.delay_count.specs.Inner.Filling.{sum_from_value, worth_from}
 use Rattle.delay_count.proofs.choice.gamma_ecb.Given as goal

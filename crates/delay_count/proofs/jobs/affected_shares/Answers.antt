@@ -1,5 +1,4 @@
-use Rattle.std.proofs.Common.{arith, ◌≡◌, ap, length-set}
-use Rattle.std.specs.Prelude.{slice_index}
+use Rattle.std.proofs.Common.{arith, ◌≡◌, ap, length-set, slice_index}
 use Rattle.std.proofs.lemmas.List.{get_or_read}
 use Rattle.crpd_base.specs.declared.data.Part.{Part}
 use Rattle.crpd_base.specs.Sets.{has}

@@ -1,5 +1,4 @@
-use Rattle.std.proofs.Common.{arith, ◌≡◌, ◌/◌, ◌^◌, ap}
-use Rattle.std.specs.Prelude.{slice_index}
+use Rattle.std.proofs.Common.{arith, ◌≡◌, ◌/◌, ◌^◌, ap, slice_index}
 use Rattle.std.proofs.lemmas.Nat.{mul-le}
 use Rattle.delay_count.specs.Gamma.{count_at, part_at}
 use Rattle.delay_count.proofs.Scaled.{delay_low}

@@ -1,5 +1,4 @@
-use Rattle.std.proofs.Common.{◌≡◌, ℕ, ◌<◌, length}
-use Rattle.std.specs.Prelude.{slice_index}
+use Rattle.std.proofs.Common.{◌≡◌, ℕ, ◌<◌, length, slice_index}
 use Rattle.crpd_base.specs.Sets.{has}
 use Rattle.delay_count.specs.Gamma.{count_at, useful_at, part_at}
 use Rattle.delay_count.specs.Inner.Rates.{affected_rate}

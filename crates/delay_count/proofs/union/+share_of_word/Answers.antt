@@ -1,5 +1,4 @@
-use Rattle.std.proofs.Common.{arith, ◌≡◌, suc, ap, ◌∙◌, ◌*◌, ◌-◌}
-use Rattle.std.specs.Prelude.{slice_index}
+use Rattle.std.proofs.Common.{arith, ◌≡◌, suc, ap, ◌∙◌, ◌*◌, ◌-◌, slice_index}
 use Rattle.delay_count.proofs.Bits.{share_none, share_full, share_last, share_split, share_within}
 use Rattle.delay_count.proofs.Bits.{product}
 use Rattle.delay_count.proofs.union.+share_of_word.Goals as goal

@@ -1,6 +1,5 @@
-use Rattle.std.proofs.Common.{arith, ap, ◌∙◌, ◌≤◌, ◌^◌, ◌*◌, length}
+use Rattle.std.proofs.Common.{arith, ap, ◌∙◌, ◌≤◌, ◌^◌, ◌*◌, length, slice_index}
 use Rattle.std.proofs.lemmas.Nat.{mul-le}
-use Rattle.std.specs.Prelude.{slice_index}
 use Rattle.delay_count.specs.Inner.Words.{word_share}
 use Rattle.delay_count.proofs.Bits.{union_start, union_more, union_fits, word_of_sets, share_within}
 use Rattle.delay_count.proofs.union.gamma_ucb.Goals as goal

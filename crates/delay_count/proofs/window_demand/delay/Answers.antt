@@ -1,5 +1,4 @@
-use Rattle.std.proofs.Common.{arith, ◌∙◌}
-use Rattle.std.specs.Prelude.{slice_index}
+use Rattle.std.proofs.Common.{arith, ◌∙◌, slice_index}
 use Rattle.delay_count.specs.Gamma.{count_at, part_at}
 use Rattle.delay_count.proofs.Times.{affected_few}
 use Rattle.delay_count.proofs.Delays.{gamma_from}

@@ -1,5 +1,4 @@
-use Rattle.std.proofs.Common.{◌-◌, ap, ◌∙◌}
-use Rattle.std.specs.Prelude.{slice_index}
+use Rattle.std.proofs.Common.{◌-◌, ap, ◌∙◌, slice_index}
 use Rattle.delay_count.specs.Demand.{greatest_from}
 use Rattle.delay_count.proofs.window_demand.longest_begun.Goals as goal
 

@@ -1,5 +1,4 @@
-use Rattle.std.proofs.Common.{◌≡◌, ◌≤◌, ◌-◌, ◌^◌}
-use Rattle.std.specs.Prelude.{slice_index}
+use Rattle.std.proofs.Common.{◌≡◌, ◌≤◌, ◌-◌, ◌^◌, slice_index}
 use Rattle.delay_count.specs.Demand.{greatest_from}
 use Rattle.delay_count.proofs.window_demand.longest_from.Given as goal
 

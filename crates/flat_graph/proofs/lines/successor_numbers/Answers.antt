@@ -1,5 +1,4 @@
-use Rattle.std.proofs.Common.{◌∙◌, sym, subst, All, Contains, [], arith}
-use Rattle.std.specs.Prelude.{slice_index_or}
+use Rattle.std.proofs.Common.{◌∙◌, sym, subst, All, Contains, [], arith, slice_index_or}
 use Rattle.flat_graph.specs.FlatGraph.{FlatNode}
 use Rattle.flat_graph.specs.Inner.Spots.{spot_nodes, flat_steps}
 use Rattle.flat_graph.specs.declared.spots.Steps.{Steps}

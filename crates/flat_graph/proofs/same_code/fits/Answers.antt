@@ -1,5 +1,4 @@
-use Rattle.std.proofs.Common.{◌<◌, below_more, refl, arith}
-use Rattle.std.specs.Prelude.{length}
+use Rattle.std.proofs.Common.{◌<◌, below_more, refl, arith, length}
 use Rattle.std.proofs.lemmas.Bool.{false≢true}
 use Rattle.flat_graph.proofs.same_code.fits.Goals as goal
 

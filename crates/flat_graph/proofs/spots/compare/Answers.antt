@@ -1,7 +1,5 @@
-use Rattle.std.proofs.Common.{◌∙◌, sym, ap}
-use Rattle.std.proofs.Common.{rules}
-use Rattle.std.specs.Prelude.{slice_index_or, []}
-use Rattle.std.specs.Ordering.{nat_cmp, ordering_then}
+use Rattle.std.proofs.Common.{◌∙◌, sym, ap, rules, slice_index_or, [], nat_cmp}
+use Rattle.std.specs.Ordering.{ordering_then}
 use Rattle.flat_graph.specs.Inner.NumberingOrder.{list_cmp}
 use Rattle.flat_graph.proofs.Order.{list_same}
 use Rattle.flat_graph.proofs.spots.compare.Goals as goal

@@ -1,5 +1,4 @@
-use Rattle.std.proofs.Common.{ap}
-use Rattle.std.specs.Ordering.{is_lt}
+use Rattle.std.proofs.Common.{ap, is_lt}
 use Rattle.std.proofs.lemmas.Fn.{always_returns_same}
 use Rattle.std.proofs.lemmas.List.Sorted.{ranks_by}
 use Rattle.flat_graph.specs.Inner.NumberingOrder.{flat_cmp}

@@ -1,5 +1,4 @@
-use Rattle.std.proofs.Common.{◌≡◌, drop}
-use Rattle.std.specs.List.{find}
+use Rattle.std.proofs.Common.{◌≡◌, drop, find}
 use Rattle.flow_watch.specs.Watch.{in_range}
 use Rattle.flow_watch.proofs.loops.range_around.Given as goal
 

@@ -1,5 +1,4 @@
-use Rattle.std.proofs.Common.{ℕ, List, subst}
-use Rattle.std.specs.Prelude.{Result, Ok, Err, IfOk}
+use Rattle.std.proofs.Common.{ℕ, List, subst, Result, Ok, Err, IfOk}
 use Rattle.crpd_base.specs.declared.data.LoopAt.{LoopAt}
 use Rattle.flat_graph.specs.CodeGraph.{graph_of, places_of}
 use Rattle.loop_regions.specs.Stated.{IsSameHead, IsLoopRefused, SameHead}

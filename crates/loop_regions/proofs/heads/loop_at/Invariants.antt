@@ -1,5 +1,4 @@
-use Rattle.std.proofs.Common.{◌≢◌, ◌<◌, ℕ}
-use Rattle.std.specs.List.{slice_index_or}
+use Rattle.std.proofs.Common.{◌≢◌, ◌<◌, ℕ, slice_index_or}
 use Rattle.crpd_base.specs.declared.data.LoopAt.{LoopAt}
 use Rattle.loop_regions.proofs.heads.loop_at.Given as goal
 

@@ -1,6 +1,5 @@
 use Rattle.loop_regions.proofs.Seen.{none_before}
-use Rattle.std.proofs.Common.{◌≡◌, ◌∙◌, ◌+◌, ◌-◌, ◌/◌, sym, ap, subst, false, arith}
-use Rattle.std.specs.Prelude.{is_some}
+use Rattle.std.proofs.Common.{◌≡◌, ◌∙◌, ◌+◌, ◌-◌, ◌/◌, sym, ap, subst, false, arith, is_some}
 use Rattle.flat_graph.specs.CodeGraph.{places_of}
 use Rattle.loop_regions.specs.Stated.{seen_from}
 use Rattle.loop_regions.proofs.holding.first_seen.Goals as goal

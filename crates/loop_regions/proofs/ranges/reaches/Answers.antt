@@ -1,5 +1,4 @@
-use Rattle.std.proofs.Common.{◌+◌, refl, sym, subst}
-use Rattle.std.specs.Prelude.{slice_index_or}
+use Rattle.std.proofs.Common.{◌+◌, refl, sym, subst, slice_index_or}
 use Rattle.loop_regions.specs.Inner.Ranges.{IsReach, AreReaches}
 use Rattle.loop_regions.proofs.InRanges.{reach_more, reaches_more}
 use Rattle.loop_regions.proofs.ranges.reaches.Goals as goal

@@ -1,5 +1,4 @@
-use Rattle.std.proofs.Common.{◌∷◌, ◌<◌, [], ℕ, slice_index, sym, subst}
-use Rattle.std.specs.List.{All}
+use Rattle.std.proofs.Common.{◌∷◌, ◌<◌, [], ℕ, slice_index, sym, subst, All}
 use Rattle.std.proofs.lemmas.List.{map-append}
 use Rattle.std.proofs.lemmas.List.Elements.{All-push}
 use Rattle.crpd_base.specs.declared.data.NodeId.{NodeId}

@@ -1,5 +1,4 @@
-use Rattle.std.proofs.Common.{◌<◌, map, slice_index}
-use Rattle.std.specs.List.{All}
+use Rattle.std.proofs.Common.{◌<◌, map, slice_index, All}
 use Rattle.crpd_base.specs.declared.data.NodeId.{NodeId}
 use Rattle.loop_regions.specs.Nest.{IsBackEdge}
 use Rattle.loop_regions.specs.Inner.FoundRegions.{nest_in}

@@ -1,5 +1,4 @@
-use Rattle.std.proofs.Common.{◌<◌, length}
-use Rattle.std.specs.List.{All}
+use Rattle.std.proofs.Common.{◌<◌, length, All}
 use Rattle.loop_regions.proofs.ranks.without_arrivals.Given as goal
 
 abbrev pub invariant-loop-v : goal.invariant-loop-v

@@ -1,5 +1,4 @@
-use Rattle.std.proofs.Common.{subst}
-use Rattle.std.specs.Prelude.{ℕ}
+use Rattle.std.proofs.Common.{subst, ℕ}
 use Rattle.flat_graph.specs.CodeGraph.{graph_of}
 use Rattle.loop_regions.specs.Inner.Least.{IsLeastNumber}
 use Rattle.loop_regions.specs.Inner.FoundRegions.{nest_in, EntersAt}

@@ -1,5 +1,4 @@
-use Rattle.std.proofs.Common.{◌≡◌, ℕ, ◌<◌, length, take}
-use Rattle.std.specs.Prelude.{map}
+use Rattle.std.proofs.Common.{◌≡◌, ℕ, ◌<◌, length, take, map}
 use Rattle.preempt_machine.specs.Machine.{System, job_at, new_job}
 use Rattle.preempt_machine.specs.Running.{HasPlan}
 use Rattle.preempt_machine.proofs.schedule.start_jobs.Given as goal

@@ -1,5 +1,4 @@
-use Rattle.std.proofs.Common.{arith}
-use Rattle.std.specs.Prelude.{slice_index}
+use Rattle.std.proofs.Common.{arith, slice_index}
 use Rattle.response.proofs.Jumps.{demanded_low}
 use Rattle.response.proofs.bounds.lower_bound.Goals as goal
 

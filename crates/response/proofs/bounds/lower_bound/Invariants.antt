@@ -1,5 +1,4 @@
-use Rattle.std.proofs.Common.{◌≤◌, ◌^◌}
-use Rattle.std.specs.Prelude.{slice_index}
+use Rattle.std.proofs.Common.{◌≤◌, ◌^◌, slice_index}
 use Rattle.response.specs.Inner.LowerBounds.{IsLowerBound}
 use Rattle.response.proofs.bounds.lower_bound.Given as goal
 

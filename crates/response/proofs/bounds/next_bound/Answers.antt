@@ -1,5 +1,4 @@
-use Rattle.std.proofs.Common.{arith, ap, add-one, ◌≡◌}
-use Rattle.std.specs.Prelude.{slice_index}
+use Rattle.std.proofs.Common.{arith, ap, add-one, ◌≡◌, slice_index}
 use Rattle.crpd_base.proofs.Sums.{sum_part}
 use Rattle.crpd_base.specs.Sum.{sum_below}
 use Rattle.response.proofs.Jumps.{sloped, taken, divided, too_steep}

@@ -1,5 +1,4 @@
-use Rattle.std.proofs.Common.{◌≤◌, ℕ, ◌<◌, ◌+◌, ◌*◌, ◌^◌}
-use Rattle.std.specs.Prelude.{slice_index}
+use Rattle.std.proofs.Common.{◌≤◌, ℕ, ◌<◌, ◌+◌, ◌*◌, ◌^◌, slice_index}
 use Rattle.crpd_base.specs.Sum.{sum_below}
 use Rattle.response.proofs.bounds.next_bound.Given as goal
 

@@ -1,5 +1,4 @@
-use Rattle.std.proofs.Common.{ℕ, ◌+◌, ◌-◌, ◌<◌, ◌≤◌}
-use Rattle.std.specs.Prelude.{slice_index}
+use Rattle.std.proofs.Common.{ℕ, ◌+◌, ◌-◌, ◌<◌, ◌≤◌, slice_index}
 use Rattle.delay_count.specs.Gamma.{part_at}
 use Rattle.delay_count.specs.Demand.{demand}
 use Rattle.response.proofs.search.window.Given as goal

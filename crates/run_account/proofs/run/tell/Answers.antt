@@ -1,8 +1,6 @@
-use Rattle.std.proofs.Common.{◌<◌, length, sym, ◌∙◌, ap, subst}
-use Rattle.std.specs.Prelude.{map}
+use Rattle.std.proofs.Common.{◌<◌, length, sym, ◌∙◌, ap, subst, List, map}
 use Rattle.preempt_machine.specs.declared.Completion.{Completion}
 use Rattle.preempt_machine.specs.Schedule.{completion}
-use Rattle.std.proofs.Common.{List}
 use Rattle.run_account.specs.Inner.Account.{entry_from_completions}
 use Rattle.run_account.proofs.run.tell.Goals as goal
 

@@ -1,5 +1,4 @@
-use Rattle.std.proofs.Common.{ap, ◌∙◌}
-use Rattle.std.specs.List.{filter}
+use Rattle.std.proofs.Common.{ap, ◌∙◌, filter}
 use Rattle.rv_core.specs.Inner.Pages.{Pages, is_not_between}
 use Rattle.rv_core.proofs.Clearing.{outside_removed}
 use Rattle.rv_core.proofs.memory.remove_pages.Goals as goal

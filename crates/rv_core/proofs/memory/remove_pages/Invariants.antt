@@ -1,5 +1,4 @@
-use Rattle.std.proofs.Common.{◌≡◌, length}
-use Rattle.std.specs.List.{filter}
+use Rattle.std.proofs.Common.{◌≡◌, length, filter}
 use Rattle.rv_core.specs.Inner.Pages.{is_not_between}
 use Rattle.rv_core.proofs.memory.remove_pages.Given as goal
 

@@ -1,5 +1,4 @@
-use Rattle.std.proofs.Common.{rules}
-use Rattle.std.specs.Prelude.{string_bytes}
+use Rattle.std.proofs.Common.{rules, string_bytes}
 use Rattle.rv_decode.specs.declared.operands.Operands.TheVariants as form
 use Rattle.rv_decode.proofs.Forms.{imm_again, text_arm}
 use Rattle.rv_decode.proofs.Ins.text.Goals as goal

@@ -1,6 +1,5 @@
 use Rattle.std.proofs.Common.{◌≡◌, ℕ, ◌+◌, ◌<◌, ◌∙◌, List, sym, refl, ap, subst, length, get_or}
-use Rattle.std.proofs.Common.{drop, arith}
-use Rattle.std.specs.Prelude.{All}
+use Rattle.std.proofs.Common.{drop, arith, All}
 use Rattle.std.proofs.lemmas.Bool.{false≢true}
 use Rattle.std.proofs.lemmas.List.{get_or_default}
 use Rattle.crpd_base.proofs.Times.{period_is}

@@ -1,6 +1,5 @@
 use Rattle.std.proofs.Common.{◌≡◌, Bool, List, ◌∷◌, [], ◌++◌, ◌∙◌, ap, subst, length, length-append}
-use Rattle.std.proofs.Common.{not, arith}
-use Rattle.std.specs.Prelude.{if◌then◌else◌}
+use Rattle.std.proofs.Common.{not, arith, if◌then◌else◌}
 use Rattle.crpd_base.proofs.Elements.{pushed_each}
 use Rattle.crpd_base.specs.declared.data.Part.{Part}
 use Rattle.loop_regions.specs.CodeNest.{CodeNest}

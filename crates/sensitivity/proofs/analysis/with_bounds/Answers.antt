@@ -1,7 +1,6 @@
 use Rattle.std.proofs.Common.{◌≡◌, ◌≤◌, ◌<◌, Bool, List, length, get_or, ◌∷◌, [], ◌++◌, ◌∙◌, sym}
-use Rattle.std.proofs.Common.{ap, subst, length-append, not, arith}
+use Rattle.std.proofs.Common.{ap, subst, length-append, not, arith, if◌then◌else◌}
 use Rattle.std.proofs.lemmas.List.{get_or_default}
-use Rattle.std.specs.Prelude.{if◌then◌else◌}
 use Rattle.crpd_base.proofs.Elements.{pushed_each}
 use Rattle.crpd_base.specs.declared.data.Part.{Part}
 use Rattle.delay_count.specs.Gamma.{part_at}

@@ -1,5 +1,4 @@
-use Rattle.std.proofs.Common.{List, subst}
-use Rattle.std.specs.Prelude.{All}
+use Rattle.std.proofs.Common.{List, subst, All}
 use Rattle.crpd_base.specs.Images.{IsImage}
 use Rattle.crpd_base.specs.declared.data.Image.{Image}
 use Rattle.code_map.proofs.files.Files.images_law.Goals as goal

@@ -1,5 +1,4 @@
-use Rattle.std.proofs.Common.{Some, ◌∙◌, ap, sym}
-use Rattle.std.specs.Prelude.{is_some}
+use Rattle.std.proofs.Common.{Some, ◌∙◌, ap, sym, is_some}
 use Rattle.code_map.proofs.KeptWords.{runs_at, own_apart, own_word}
 use Rattle.code_map.proofs.files.Files.own.Goals as goal
 

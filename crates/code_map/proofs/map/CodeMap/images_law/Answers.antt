@@ -1,5 +1,4 @@
-use Rattle.std.proofs.Common.{List, subst, ap}
-use Rattle.std.specs.Prelude.{All}
+use Rattle.std.proofs.Common.{List, subst, ap, All}
 use Rattle.crpd_base.specs.Images.{IsImage}
 use Rattle.crpd_base.specs.declared.data.Image.{Image}
 use Rattle.code_map.specs.Words.{Code}

@@ -1,5 +1,4 @@
-use Rattle.std.proofs.Common.{◌∙◌, sym, subst, [], ◌∷◌}
-use Rattle.std.specs.Prelude.{slice_index_or}
+use Rattle.std.proofs.Common.{◌∙◌, sym, subst, [], ◌∷◌, slice_index_or}
 use Rattle.flat_graph.specs.Inner.Reach.{AreNumbered, AreAdded}
 use Rattle.flat_graph.specs.Inner.Spots.{spot_node, spot_nodes, flat_steps}
 use Rattle.flat_graph.specs.declared.contexts.Contexts.{Contexts}

@@ -1,6 +1,5 @@
-use Rattle.std.proofs.Common.{◌<◌, List, ℕ, true, false, length, set, sym, ◌∙◌}
-use Rattle.std.proofs.Common.{subst, arith, get_or-set_same}
-use Rattle.std.specs.List.{All}
+use Rattle.std.proofs.Common.{◌<◌, List, ℕ, true, false, length, set, sym, ◌∙◌, subst, arith}
+use Rattle.std.proofs.Common.{get_or-set_same, All}
 use Rattle.std.proofs.lemmas.Bool.{both_ways}
 use Rattle.std.proofs.lemmas.List.{length-set, get_or_default}
 use Rattle.std.proofs.lemmas.List.Elements.{All-push, All-map}

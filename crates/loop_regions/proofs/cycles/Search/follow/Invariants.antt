@@ -1,6 +1,5 @@
 -- The forward edges to the successors so far were followed.
-use Rattle.std.proofs.Common.{◌≡◌, ◌∷◌, ◌≤◌, ℕ, length}
-use Rattle.std.specs.List.{All}
+use Rattle.std.proofs.Common.{◌≡◌, ◌∷◌, ◌≤◌, ℕ, length, All}
 use Rattle.crpd_base.specs.declared.data.NodeId.{NodeId}
 use Rattle.flat_graph.specs.CodeGraph.{graph_of}
 use Rattle.loop_regions.specs.Inner.FoundRegions.{nest_in}

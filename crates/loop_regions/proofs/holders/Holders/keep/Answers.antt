@@ -1,5 +1,4 @@
-use Rattle.std.proofs.Common.{ap, ◌∙◌, rules}
-use Rattle.std.specs.List.{filter}
+use Rattle.std.proofs.Common.{ap, ◌∙◌, rules, filter}
 use Rattle.std.proofs.lemmas.Fn.{filter_same}
 use Rattle.loop_regions.specs.CodeNest.{has}
 use Rattle.loop_regions.proofs.holders.Holders.keep.Goals as goal

@@ -1,5 +1,4 @@
-use Rattle.std.proofs.Common.{◌≡◌, Option, sym, ap, subst, ◌∙◌}
-use Rattle.std.specs.Prelude.{not, Bool, IfSome}
+use Rattle.std.proofs.Common.{◌≡◌, Option, sym, ap, subst, ◌∙◌, not, Bool, IfSome}
 use Rattle.crpd_base.specs.declared.data.Platform.{Platform}
 use Rattle.rv_decode.specs.declared.Ins.{Ins}
 use Rattle.rv_decode.specs.Cost.{cost}

@@ -1,5 +1,4 @@
-use Rattle.std.proofs.Common.{ℕ, ◌<◌}
-use Rattle.std.specs.Prelude.{slice_index}
+use Rattle.std.proofs.Common.{ℕ, ◌<◌, slice_index}
 use Rattle.preempt_machine.specs.Schedule.{IsReleasedBy}
 use Rattle.preempt_machine.proofs.queue.Queue.first.Given as goal
 

@@ -1,5 +1,4 @@
-use Rattle.std.proofs.Common.{◌∙◌, ap}
-use Rattle.std.specs.Prelude.{replicate, None}
+use Rattle.std.proofs.Common.{◌∙◌, ap, replicate, None}
 use Rattle.run_account.proofs.Accounts.{noted_start}
 use Rattle.run_account.proofs.run.Run.follow.Goals as goal
 

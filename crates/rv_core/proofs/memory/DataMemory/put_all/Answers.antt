@@ -1,5 +1,4 @@
-use Rattle.std.proofs.Common.{◌+◌, ◌∙◌, ap, arith}
-use Rattle.std.specs.Prelude.{slice_range}
+use Rattle.std.proofs.Common.{◌+◌, ◌∙◌, ap, arith, slice_range}
 use Rattle.rv_core.specs.Memory.{Memory, put_all}
 use Rattle.rv_core.proofs.Bytes.{all_to}
 use Rattle.rv_core.proofs.memory.DataMemory.put_all.Goals as goal
