@@ -1,0 +1,112 @@
+"""What is found in an ELF file for a task: its loops with their origins, and what is wrong with its flow."""
+from __future__ import annotations
+
+from dataclasses import dataclass
+from pathlib import Path
+
+from .flow import Function, Loop, Strange, call_graph, has_way_out, loops_of, outs
+from .origin import Finder, Origin
+from .program import Names, Program, read_program
+from .lines import Frames, lines_of
+from .source import Sources
+from .stack import depth_of
+
+
+SAME_TIME = 10  # seconds within which files may have been written together
+
+
+@dataclass
+class Found:
+    """A loop of a task: in which function it is, its origin, and whether a return or an answer is reached from it."""
+
+    loop: Loop
+    origin: Origin
+    function: str
+    place: int
+    ends: bool
+
+
+@dataclass
+class TaskLoops:
+    """A task's loops, each head once, its cycles with several entries by function, whether it can answer at all, and the bytes
+    of stack that it takes at most, where that is told."""
+
+    loops: list[Found]
+    strange: list[tuple[str, Strange]]
+    answers: bool
+    stack: int | None
+
+
+class Image:
+    """An ELF file with its sources."""
+
+    def __init__(self, path: str) -> None:
+        self.path = path
+        self.program: Program = read_program(Path(path).read_bytes())
+        self.names = Names(self.program.functions)
+        self.sources = Sources(Path(path).parent)
+        self.lines: dict[int, Frames] = {}
+
+    def task(self, entry: int) -> TaskLoops:
+        functions = call_graph(self.program, entry)
+        self.look_up(functions)
+        out = outs(self.program, functions)
+        answers = entry in functions and has_way_out(functions[entry], entry, out[entry])
+        found = TaskLoops([], [], answers, depth_of(self.program, functions, entry))
+        seen: set[int] = set()
+        for start, function in functions.items():
+            loops, strange = loops_of(function)
+            origins = Finder(self.program, function, self.lines, self.sources).origins(loops)
+            odd = {a for cycle in strange for a in cycle.nodes}
+            for loop in loops:
+                if not odd.isdisjoint(loop.body):
+                    origins[loop.head].forget()
+                if loop.head not in seen:
+                    ends = has_way_out(function, loop.head, out[start])
+                    found.loops.append(Found(loop, origins[loop.head], self.names.before(loop.head)[0], 0, ends))
+            seen.update(loop.head for loop in loops)
+            found.strange += [(self.names.before(start)[0], cycle) for cycle in strange]
+        number_within_functions(found.loops)
+        return found
+
+    def address(self, place: int | str) -> int | None:
+        """The address of a place, None where its symbol is not there."""
+        try:
+            return self.program.place(place)
+        except (KeyError, ValueError):
+            return None
+
+    def look_up(self, functions: dict[int, Function]) -> None:
+        asked = sorted({a for function in functions.values() for a in function.edges} - self.lines.keys())
+        self.lines.update(dict.fromkeys(asked, ()))
+        self.lines.update(lines_of(self.path, asked))
+
+    def line_text(self, address: int) -> str:
+        frames = self.lines.get(address, ())
+        return f"{address:08x} ({frames[0].text()})" if frames else f"{address:08x}"
+
+    def missing_source(self, address: int) -> str:
+        """Says so where the source of an address is not there."""
+        frames = self.lines.get(address, ())
+        return f"; its source {frames[0].path} is not there" if frames and frames[0].path in self.sources.missing else ""
+
+    def is_older_than_sources(self) -> bool:
+        return Path(self.path).stat().st_mtime + SAME_TIME < self.sources.newest
+
+
+def number_within_functions(loops: list[Found]) -> None:
+    """Gives each loop its place, by address, among those of its function."""
+    count: dict[str, int] = {}
+    for found in sorted(loops, key=lambda found: found.loop.head):
+        found.place = count.get(found.function, 0)
+        count[found.function] = found.place + 1
+
+
+def ranges_of(body: frozenset[int]) -> list[tuple[int, int]]:
+    found: list[tuple[int, int]] = []
+    for a in sorted(body):
+        if found and found[-1][1] == a:
+            found[-1] = (found[-1][0], a + 4)
+        else:
+            found.append((a, a + 4))
+    return found

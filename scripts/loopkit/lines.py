@@ -1,0 +1,52 @@
+"""The source lines of addresses, as addr2line tells them."""
+from __future__ import annotations
+
+import shutil
+import subprocess
+from dataclasses import dataclass
+from pathlib import Path
+
+ADDR2LINE = ("riscv64-unknown-elf-addr2line", "riscv32-unknown-elf-addr2line", "riscv64-linux-gnu-addr2line", "llvm-addr2line")
+
+
+@dataclass(frozen=True)
+class Frame:
+    """A line of a function; of inlined functions there are several, one called from the next."""
+
+    function: str
+    path: str
+    line: int
+
+    def text(self) -> str:
+        return f"{Path(self.path).name}:{self.line} {self.function}"
+
+
+Frames = tuple[Frame, ...]
+
+
+def lines_of(elf: str, addresses: list[int]) -> dict[int, Frames]:
+    """The source lines of addresses, the innermost inlined function first; none where the file has no debug lines."""
+    tool = next((tool for tool in ADDR2LINE if shutil.which(tool)), None)
+    if tool is None or not addresses:
+        return {}
+    asked = "\n".join(f"0x{a:x}" for a in addresses)
+    return read_answer(subprocess.run([tool, "-a", "-i", "-f", "-e", elf], input=asked, capture_output=True, text=True).stdout)
+
+
+def read_answer(answer: str) -> dict[int, Frames]:
+    """The frames by address: an address on a line of its own, then for each frame a line with the function and one with the
+    place."""
+    found: dict[int, list[Frame]] = {}
+    address, function = 0, None
+    for line in answer.splitlines():
+        if function is None and line.startswith("0x"):
+            address = int(line, 16)
+            found[address] = []
+        elif function is None:
+            function = line
+        else:
+            path, _, number = line.split(" (discriminator")[0].rpartition(":")
+            if number.isdigit() and int(number) and path and not path.startswith("?"):
+                found[address].append(Frame(function, path, int(number)))
+            function = None
+    return {a: tuple(frames) for a, frames in found.items()}
