@@ -67,7 +67,7 @@ class Writer:
         """Says in the comment whether the bound is the code's, or one more than the turns."""
         if table.bound and table.bound == found.origin.count:
             table.comment += f", {COUNTED} in the code"
-        elif found.origin.one_more():
+        elif found.origin.one_more() and (origin_of(found) or self.stated_bound(found)):
             table.comment += f", {ONE_MORE}"
 
     # Its bound.
