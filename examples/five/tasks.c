@@ -25,10 +25,10 @@ void filter_sample(void)
 {
     int32_t total = 0;
 
-    for (int32_t i = TAPS - 1; i > 0; i--)
+    for (int32_t i = TAPS - 1; i > 0; i--)         /* bound 7 */
         window[i] = window[i - 1];
     window[0] = limited(command, 2000);
-    for (int32_t i = 0; i < TAPS; i++)
+    for (int32_t i = 0; i < TAPS; i++)             /* bound 8 */
         total += window[i] * taps[i];
     filtered = total >> 5;
 }
@@ -45,10 +45,10 @@ void control_step(void)
 /* A product of two matrices: three nested loops. */
 void multiply_matrices(void)
 {
-    for (int32_t i = 0; i < SIZE; i++)
-        for (int32_t j = 0; j < SIZE; j++) {
+    for (int32_t i = 0; i < SIZE; i++)             /* bound 4 */
+        for (int32_t j = 0; j < SIZE; j++) {       /* bound 4 */
             int32_t total = 0;
-            for (int32_t k = 0; k < SIZE; k++)
+            for (int32_t k = 0; k < SIZE; k++)     /* bound 4 */
                 total += left[i][k] * right[k][j];
             product[i][j] = limited(total, 1 << 20);
         }
@@ -59,7 +59,7 @@ void check_frame(void)
 {
     uint32_t total = 0;
 
-    for (uint32_t i = 0; i < BYTES; i++) {
+    for (uint32_t i = 0; i < BYTES; i++) {         /* bound 24 */
         total = (total >> 1) + ((total & 1) << 15) + frame[i];
         total &= 0xFFFF;
     }
@@ -69,9 +69,9 @@ void check_frame(void)
 /* The median of some samples, by insertion. */
 void sort_samples(void)
 {
-    for (int32_t i = 1; i < SAMPLES; i++) {
+    for (int32_t i = 1; i < SAMPLES; i++) {        /* bound 11 */
         int32_t value = samples[i], j = i;
-        while (j > 0 && samples[j - 1] > value) {
+        while (j > 0 && samples[j - 1] > value) {  /* bound 11 */
             samples[j] = samples[j - 1];
             j--;
         }

@@ -34,9 +34,9 @@ void check_message(void)
 {
     uint32_t crc = 0xFFFFFFFFu;
 
-    for (uint32_t i = 0; i < LENGTH; i++) {
+    for (uint32_t i = 0; i < LENGTH; i++) {        /* bound 32 */
         crc ^= message[i];
-        for (uint32_t bit = 0; bit < 8; bit++)
+        for (uint32_t bit = 0; bit < 8; bit++)     /* bound 8 */
             crc = crc & 1 ? crc >> 1 ^ 0xEDB88320u : crc >> 1;
     }
     checksum = ~crc;
