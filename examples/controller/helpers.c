@@ -22,16 +22,21 @@ uint32_t square_root(uint32_t value)
     return root;
 }
 
+uint32_t with_byte(uint32_t crc, uint8_t byte)
+{
+    crc ^= (uint32_t)byte << 8;
+    for (uint32_t bit = 0; bit < 8; bit++)                /* bound 8 */
+        crc = crc & 0x8000 ? crc << 1 ^ 0x1021 : crc << 1;
+    return crc & 0xFFFF;
+}
+
 uint32_t checksum(const uint8_t *bytes, uint32_t length)
 {
     uint32_t crc = 0xFFFF;
 
-    for (uint32_t i = 0; i < length; i++) {               /* bound 12 log=32 */
-        crc ^= (uint32_t)bytes[i] << 8;
-        for (uint32_t bit = 0; bit < 8; bit++)            /* bound 8 */
-            crc = crc & 0x8000 ? crc << 1 ^ 0x1021 : crc << 1;
-    }
-    return crc & 0xFFFF;
+    for (uint32_t i = 0; i < length; i++)                 /* bound 12 log=32 */
+        crc = with_byte(crc, bytes[i]);
+    return crc;
 }
 
 uint32_t put_number(char *text, uint32_t value)

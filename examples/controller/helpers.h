@@ -11,7 +11,8 @@ int32_t limited(int32_t value, int32_t low, int32_t high);
 /* The square root, rounded down. */
 uint32_t square_root(uint32_t value);
 
-/* The checksum of some bytes (CRC-16 CCITT). */
+/* A checksum with one more byte (CRC-16 CCITT; it begins with 0xFFFF), and that of some bytes. */
+uint32_t with_byte(uint32_t crc, uint8_t byte);
 uint32_t checksum(const uint8_t *bytes, uint32_t length);
 
 /* Writes a number in decimal and gives its length. */

@@ -87,32 +87,42 @@ void watch_heat(void)
 }
 
 /* receive: takes frames out of a stream of bytes. 0x7E ends a frame, and 0x7D stands before a byte that is changed. */
-uint8_t raw[RAW] = {0x7E, 1, 2, 0x7D, 0x5E, 3, 0x7D, 0x5D, 4, 5, 6, 7, 8, 9, 10, 0x9C, 0x61, 0x7E, 11, 12, 0x7E, 0x7E, 13, 14};
+uint8_t raw[RAW] = {0x7E, 1, 2, 0x7D, 0x5E, 3, 0x7D, 0x5D, 4, 5, 6, 7, 8, 0x2A, 0x27, 0x7E, 11, 12, 0x7E, 0x7E, 13, 14, 15, 16};
 uint8_t frame[PAYLOAD];
-uint32_t good_frames, bad_frames, frame_length;
+uint32_t good_frames, bad_frames, frame_length, frame_sum = 0xFFFF, is_changed;
+
+static void end_frame(void)
+{
+#ifdef FIRST_TRY
+    frame_sum = checksum(frame, frame_length);
+#endif
+    if (frame_length > 2 && frame_sum == 0)
+        good_frames++;
+    else if (frame_length > 0)
+        bad_frames++;
+    frame_length = 0;
+    frame_sum = 0xFFFF;
+}
+
+static void take_byte(uint8_t byte)
+{
+    if (frame_length == PAYLOAD)
+        return;
+    frame[frame_length++] = byte;
+#ifndef FIRST_TRY
+    frame_sum = with_byte(frame_sum, byte);
+#endif
+}
 
 void receive_bytes(void)
 {
-    uint32_t length = frame_length, is_changed = 0;
-
     for (uint32_t i = 0; i < RAW; i++) {                     /* bound 24 */
-        uint8_t byte = raw[i];
-        if (byte == 0x7E) {
-            if (length > 2 && checksum(frame, length) == 0)
-                good_frames++;
-            else if (length > 0)
-                bad_frames++;
-            length = 0;
-            is_changed = 0;
-        } else if (byte == 0x7D) {
-            is_changed = 1;
-        } else {
-            if (length < PAYLOAD)
-                frame[length++] = is_changed ? byte ^ 0x20 : byte;
-            is_changed = 0;
-        }
+        if (raw[i] == 0x7E)
+            end_frame();
+        else if (raw[i] != 0x7D)
+            take_byte(is_changed ? raw[i] ^ 0x20 : raw[i]);
+        is_changed = raw[i] == 0x7D;
     }
-    frame_length = length;
 }
 
 /* swings: how often a signal turns round, from rising to falling and back. */

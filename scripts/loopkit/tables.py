@@ -11,8 +11,8 @@ from .taskset import Table
 
 MOST_LOOPS = 64
 PART = "__asm__ volatile (\"nop\");"
-OTHER_OPTIONS = ("other options may help, for this function alone by"
-                 " __attribute__((optimize(\"no-thread-jumps\", \"no-shrink-wrap\")))")
+TWO_ENTRIES = (f"begin the body of the outer loop with {PART} or give the function"
+               " __attribute__((optimize(\"no-thread-jumps\", \"no-shrink-wrap\")))")
 
 Names = tuple[str, ...]
 
@@ -142,7 +142,7 @@ class Writer:
         for function, cycle in task.strange:
             places = " and ".join(self.image.line_text(a) for a in cycle.entries)
             self.report.warn(subject, f"{function}: a cycle is entered at {places}; crpd refuses it at {cycle.nodes[0]:08x};"
-                             f" {OTHER_OPTIONS}", unfit=True)
+                             f" {TWO_ENTRIES}", unfit=True)
         if not task.answers:
             self.report.warn(subject, "no answer is reached from its entry", unfit=True)
         if len(task.loops) > MOST_LOOPS:
