@@ -5,12 +5,11 @@ from dataclasses import dataclass
 from pathlib import Path
 
 from .flow import Function, Loop, Strange, call_graph, has_way_out, loops_of, outs
+from .lines import Frames, lines_of
 from .origin import Finder, Origin
 from .program import Names, Program, read_program
-from .lines import Frames, lines_of
 from .source import Sources
 from .stack import depth_of
-
 
 SAME_TIME = 10  # seconds within which files may have been written together
 

@@ -6,9 +6,9 @@ from dataclasses import dataclass, field, replace
 
 from .counts import Counts
 from .flow import Edges, Function, Loop, body_of, dominators, passes, reached_from, turned
+from .lines import Frames
 from .program import Program, is_branch, is_call, is_plain_jump, is_store
 from .source import SourceLoop, Sources
-from .lines import Frames
 
 
 @dataclass(frozen=True)
