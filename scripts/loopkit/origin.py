@@ -1,6 +1,7 @@
 """Which loop of the source a loop of the code is, and whether its head is reached once more than that turns."""
 from __future__ import annotations
 
+from collections import Counter
 from collections.abc import Callable
 from dataclasses import dataclass, field, replace
 
@@ -148,19 +149,16 @@ class Finder:
 
     def sites_of(self, part: Part, head: int, taken: set[Site | None]) -> list[Site]:
         """The loops of the source that the turns of a part may be, the inner first: those whose test ends the turns and that
-        have most nodes, with those inside whose turns pass no such test; or else the innermost one that has all."""
-        around, count, tested = {}, 0, set()
-        for a in part.own:
-            if self.lines.get(a):
-                count += 1
-                for site, _ in self.sites(a):
-                    around[site] = around.get(site, 0) + 1
-            if self.is_deciding(a, part, head):
-                tested.update(site for site, line in self.sites(a) if line in site.loop.test)
-        fits = in_order([site for site in around if site in tested and 2 * around[site] >= count and site not in taken])
+        have most of the nodes that are in loops, with those inside whose turns pass no such test; or else the innermost one that
+        has all nodes."""
+        around = Counter(site for a in part.own for site in self.sites_at(a))
+        in_loops = sum(bool(self.sites(a)) for a in part.own)
+        tested = {site for a in part.own if self.is_deciding(a, part, head) for site in self.sites_at(a) if self.is_test(a, site)}
+        fits = in_order([site for site in around if site in tested - taken and 2 * around[site] >= in_loops])
         if fits:
             return self.turning_inside(part, head, fits, taken) + fits
-        inner = in_order([site for site in around if around[site] == count])[:1]
+        with_lines = sum(bool(self.lines.get(a)) for a in part.own)
+        inner = in_order([site for site in around if around[site] == with_lines])[:1]
         return [site for site in inner if site not in taken]
 
     def turning_inside(self, part: Part, head: int, fits: list[Site], taken: set[Site | None]) -> list[Site]:
