@@ -1,0 +1,201 @@
+"""Gathers what a page tells of a set."""
+from __future__ import annotations
+
+from dataclasses import dataclass
+from pathlib import Path
+
+from .program import Body, read_bodies
+from .reading import (Answer, Claim, Crpd, Platform, Raw, Run, Task, TaskSet, Trouble, read_bytes, read_claims, read_run,
+                      read_set, read_toml, set_text)
+from .windows import Analysis, Window, blocking_of
+
+LONGEST = 1 << 40  # the longest period that a set may state
+CODE_REFUSALS = range(50, 65)  # refusals whose detail is an address
+ROUND = 4  # lines of code that are shown on each side of it
+
+
+@dataclass(frozen=True)
+class Request:
+    """The files that a page is about."""
+
+    task_set: str
+    script: str | None = None
+    certificate: str | None = None
+
+
+@dataclass(frozen=True)
+class Refusal:
+    """A line `refused NUMBER NAME SUBJECT DETAIL`, and the code round the address where the detail is one."""
+
+    number: int
+    name: str
+    subject: str
+    detail: str
+    code: list[str]
+
+
+@dataclass(frozen=True)
+class Objection:
+    """A line `no NAME clause K place P` on a given certificate, with what that claims of the task."""
+
+    task: str
+    clause: int
+    place: int
+    claim: Claim | None
+
+
+@dataclass(frozen=True)
+class CacheSets:
+    """What a task's code evicts, and what is useful to it."""
+
+    evicting: frozenset[int]
+    useful: frozenset[int]
+
+
+@dataclass(frozen=True)
+class Facts:
+    """What there is to tell of a set that is not refused. Where a task fails nothing is certified; there are windows of the
+    first tasks alone, up to one that may not complete within its period, and perhaps no claims at all."""
+
+    given: TaskSet
+    failing: str | None
+    objection: Objection | None
+    analysis: Analysis | None
+    windows: list[Window]
+    cache: list[CacheSets]
+    bodies: list[Body]
+    slack: list[list[str]]
+    classic: Answer
+    run: Run | Refusal | None
+
+    def platform(self) -> Platform:
+        return self.given.platform
+
+    def tasks(self) -> list[Task]:
+        return self.given.tasks
+
+    def claims(self) -> list[Claim]:
+        return self.analysis.claims if self.analysis else []
+
+    def place(self, name: str) -> int:
+        return next(place for place, task in enumerate(self.tasks()) if task.name == name)
+
+    def load(self) -> float:
+        """The share of the core that the tasks ask for at most."""
+        return sum(claim.bound / task.period for claim, task in zip(self.claims(), self.tasks()))
+
+    def response(self, name: str) -> int | None:
+        """The certified response of a task."""
+        return None if self.failing else self.windows[self.place(name)].response()
+
+    def deadline(self, name: str) -> int:
+        return self.tasks()[self.place(name)].deadline
+
+
+@dataclass(frozen=True)
+class Basis:
+    """What the page is about: a certificate that `check` accepts, or the task for which `analyze` found no window; and what
+    `check` said of a given certificate that it does not accept."""
+
+    certificate: str | None
+    failing: str | None
+    objection: Objection | None
+
+
+def gather(crpd: Crpd, asked: Request, folder: Path) -> Facts | Refusal:
+    """Asks `crpd` all that a page tells. Files are made in the folder."""
+    objection = None
+    if asked.certificate:
+        checked = crpd.ask("check", asked.task_set, asked.certificate)
+        if checked.status == 2:
+            return read_refusal(crpd, asked, checked)
+        if checked.status == 0:
+            return read_facts(crpd, asked, Basis(asked.certificate, None, None), folder)
+        objection = read_objection(checked, asked.certificate)
+    analysed = crpd.ask("analyze", asked.task_set)
+    if analysed.status == 2:
+        return read_refusal(crpd, asked, analysed)
+    if analysed.status == 1:
+        return read_facts(crpd, asked, Basis(None, analysed.text.split()[1], objection), folder)
+    certificate = write(folder / "cert.json", analysed.text)
+    if crpd.ask("check", asked.task_set, certificate).status != 0:
+        raise Trouble("the analysis' certificate is not accepted")
+    return read_facts(crpd, asked, Basis(certificate, None, objection), folder)
+
+
+def read_facts(crpd: Crpd, asked: Request, basis: Basis, folder: Path) -> Facts:
+    name, raw = asked.task_set, read_toml(asked.task_set)
+    given = read_set(raw)
+    bodies = read_bodies(crpd, name, given)
+    blocking = blocking_of(given, [body.longest for body in bodies])
+    if basis.certificate:
+        claims = read_claims(read_bytes(basis.certificate).decode())
+        analysis: Analysis | None = Analysis(given, claims, blocking)
+    else:
+        analysis = lifted_analysis(crpd, raw, blocking, folder)
+    run = read_run(crpd, name, basis.certificate, asked.script) if asked.script else None
+    return Facts(given, basis.failing, basis.objection, analysis, windows_of(analysis, basis.failing),
+                 read_cache(crpd.ask("sets", name)), bodies, crpd.ask("slack", name).lines(), crpd.ask("classic", name),
+                 read_refusal(crpd, asked, run) if isinstance(run, Answer) else run)
+
+
+def read_cache(answer: Answer) -> list[CacheSets]:
+    """The lines `NAME evicting ..` and `NAME useful ..` of each task."""
+    sets = [frozenset(map(int, line[2:])) for line in answer.lines()]
+    return [CacheSets(evicting, useful) for evicting, useful in zip(sets[::2], sets[1::2])]
+
+
+def lifted_analysis(crpd: Crpd, raw: Raw, blocking: list[int], folder: Path) -> Analysis | None:
+    """The claims for a set without a certificate, by the same set with the longest periods and deadlines: bounds and cache sets
+    do not depend on these. None where that set has no certificate either."""
+    lifted = {**raw, "task": [{**task, "period": LONGEST, "deadline": LONGEST} for task in raw["task"]]}
+    answer = crpd.ask("analyze", write(folder / "set.toml", set_text(lifted)))
+    if answer.status != 0:
+        return None
+    claims = read_claims(answer.text)
+    Analysis(read_set(lifted), claims, blocking).certified()
+    return Analysis(read_set(raw), claims, blocking)
+
+
+def windows_of(analysis: Analysis | None, failing: str | None) -> list[Window]:
+    """The windows that are certified, or those that would be needed whatever the deadlines. Of these the first that is not
+    within its task's deadline must be that of the task that `analyze` names."""
+    if not analysis or not failing:
+        return analysis.certified() if analysis else []
+    windows = analysis.possible()
+    responses = [window.response() for window in windows] + [LONGEST + 1]
+    late = next((task.name for task, response in zip(analysis.given.tasks, responses) if response > task.deadline), "none")
+    if late != failing:
+        raise Trouble(f"the sums differ: `analyze` finds no window for {failing}; the first task without one within its "
+                      f"deadline should be {late}")
+    return windows
+
+
+def read_refusal(crpd: Crpd, asked: Request, answer: Answer) -> Refusal:
+    """A refusal, whose subject is told without the path of a file."""
+    _, number, name, *subject, detail = answer.text.split()
+    roles = {asked.task_set: "the task set", asked.script: "the script", asked.certificate: "the certificate"}
+    whom = " ".join(subject)
+    code: list[str] = []
+    if int(number) in CODE_REFUSALS:
+        code = lines_round(crpd.ask("list", asked.task_set, whom).text.splitlines(), detail)
+        whom = f"task {whom}"
+    return Refusal(int(number), name, roles.get(whom, Path(whom).name), detail, code)
+
+
+def lines_round(listing: list[str], address: str) -> list[str]:
+    """The lines of code round an address, that of the address marked."""
+    at = next((k for k, line in enumerate(listing) if line >= address), len(listing))
+    near = listing[max(at - ROUND, 0):at + ROUND]
+    return [("▸ " if line.startswith(address) else "  ") + line for line in near]
+
+
+def read_objection(answer: Answer, certificate: str) -> Objection:
+    _, name, _, clause, _, place = answer.text.split()
+    claims = read_claims(read_bytes(certificate).decode())
+    return Objection(name, int(clause), int(place), next((claim for claim in claims if claim.name == name), None))
+
+
+def write(path: Path, text: str) -> str:
+    path.write_text(text)
+    return str(path)

@@ -1,0 +1,313 @@
+"""Puts a page together."""
+from __future__ import annotations
+
+import hashlib
+from bisect import bisect_left
+from collections import Counter
+from html import escape
+from pathlib import Path
+
+from .advice import Verdict, decided, refusal_words, refused
+from .facts import Facts, Refusal, Request
+from .markup import counted, listed, num, paragraph, per_cent, section, table, tag
+from .pictures import SHAPES, cache_picture, definitions, named, windows_picture
+from .reading import Claim, Platform, Run, Task, read_bytes, read_claims
+from .runs import busiest, run_picture, whole
+from .windows import Window
+
+CLOSE = 5  # a margin of fewer per cent of the deadline is warned of
+OPEN_TABLES = 12  # of more tasks, the numbers of windows are folded up
+STYLE = Path(__file__).with_name("page.css")
+
+
+def page(found: Facts | Refusal, asked: Request) -> str:
+    """The whole page, in one text."""
+    verdict = refused(found) if isinstance(found, Refusal) else decided(found)
+    parts = [header(verdict)] + ([] if isinstance(found, Refusal) else sections(found))
+    style = SHAPES.read_text() + STYLE.read_text()
+    hidden = tag("svg", definitions(), width=0, height=0, aria_hidden="true", style="position: absolute")
+    return ('<!DOCTYPE html>\n<html lang="en"><head><meta charset="utf-8"><meta name="viewport" content="width=device-width, '
+            f'initial-scale=1"><title>{verdict.title}</title><style>\n{style}</style></head>\n<body>{hidden}\n'
+            + tag("main", *("\n" + part for part in parts)) + "\n" + footer(found, asked) + "</body></html>\n")
+
+
+def sections(facts: Facts) -> list[str]:
+    return [tiles(facts), platform_words(facts.platform()), warnings(facts), tasks_section(facts), windows_section(facts),
+            cache_section(facts), room_section(facts), run_section(facts) if facts.run else ""]
+
+
+def footer(found: Facts | Refusal, asked: Request) -> str:
+    """The files that the page was made from, by their contents."""
+    files = [("task set", asked.task_set), ("certificate", asked.certificate), ("script", asked.script)]
+    if isinstance(found, Facts):
+        files += dict.fromkeys((Path(task.file).name, task.file) for task in found.tasks())
+    prints = (f"{escape(name)} {tag('code', hashlib.sha256(read_bytes(file)).hexdigest()[:16])}" for name, file in files
+              if file and Path(file).is_file())
+    return tag("footer", f"Times are cycles of the core. Made from files with these beginnings of SHA-256: {', '.join(prints)}.")
+
+
+def header(verdict: Verdict) -> str:
+    heading = tag("h1", tag("span", verdict.sign, class_="sign", aria_hidden="true"), verdict.title)
+    code = [tag("pre", escape("\n".join(verdict.code)))] if verdict.code else []
+    return tag("header", heading, *map(paragraph, verdict.sentences), *code, class_=verdict.css)
+
+
+def tiles(facts: Facts) -> str:
+    """The numbers that one asks for first."""
+    found = [(per_cent(facts.load(), 1), "utilization: bounds over periods")] if facts.claims() else []
+    if not facts.failing:
+        left, name = min((1 - window.response() / task.deadline, task.name)
+                         for window, task in zip(facts.windows, facts.tasks()))
+        found.append((per_cent(left, 1), f"least margin to a deadline: {escape(name)}"))
+    for kind, most, *_ in facts.slack:
+        what = "a switch" if kind == "switch" else "a line load"
+        value = most if most == "none" else num(int(most))
+        found.append((value, f"cycles that {what} may cost; now {num(cost_now(facts.platform(), kind))}"))
+    return tag("ul", *(tag("li", tag("b", value), words) for value, words in found), class_="tiles")
+
+
+def cost_now(platform: Platform, kind: str) -> int:
+    return platform.switch if kind == "switch" else platform.miss
+
+
+def platform_words(p: Platform) -> str:
+    costs = (("instruction", p.hit), ("line load", p.miss), ("load or store", p.data), ("taken jump", p.taken),
+             ("multiply", p.mul), ("divide", p.div), ("switch", p.switch))
+    where = "between instructions" if p.switches_between_instructions() else "in any cycle"
+    return paragraph(f"{tag('b', 'Platform')} Direct-mapped instruction cache of {counted(p.sets, 'set')} of {p.line} bytes "
+                     f"({num(p.sets * p.line)} bytes). Cycles: {', '.join(f'{name} {num(n)}' for name, n in costs)}. "
+                     f"Switches happen {where}.", "soft")
+
+
+# ---- warnings
+
+
+def warnings(facts: Facts) -> str:
+    found = run_warnings(facts) + stack_warnings(facts) + margin_warnings(facts)
+    if not found:
+        return section("Warnings", paragraph("None. Stacks, margins and utilization were looked at.", "soft"))
+    return section("Warnings", tag("ul", *(tag("li", words) for words in found), class_="warnings"))
+
+
+def run_warnings(facts: Facts) -> list[str]:
+    run, found = facts.run, []
+    if isinstance(run, Run) and not run.legal:
+        found.append("The run of the script is illegal: arrivals or releases do not keep periods and jitters. The certificate "
+                     "says nothing of it.")
+    if isinstance(run, Run) and not run.kept:
+        found.append("The run of the script is broken: a stated loop bound is too small, or a job returned to another place "
+                     "than it was called from (frames of a shared stack, for one). While such a run is possible, a yes is "
+                     "worth nothing.")
+    return found
+
+
+def margin_warnings(facts: Facts) -> list[str]:
+    found = []
+    if facts.load() > 1:
+        found.append(f"The tasks ask for {per_cent(facts.load(), 1)} of the core. Above 100\u00a0% no order of priorities helps.")
+    left = [(task, task.deadline - window.response()) for task, window in zip(facts.tasks(), facts.windows)]
+    close = [f"{escape(task.name)} ({num(cycles)})" for task, cycles in left if 0 <= 100 * cycles < CLOSE * task.deadline]
+    if close:
+        found.append(f"Less than {CLOSE}\u00a0% of the deadline is left, in cycles: {', '.join(close)}. A small change of code, "
+                     "layout or platform may cost the yes.")
+    return found
+
+
+def stack_warnings(facts: Facts) -> list[str]:
+    """Tasks whose frames may meet in the one memory, by the starts of their stacks and the bytes that they take at most."""
+    bodies, found = facts.bodies, []
+    for start in sorted({body.stack_start for body in bodies}):
+        places = [place for place, body in enumerate(bodies) if body.stack_start == start]
+        used = [place for place in places if bodies[place].stack_bytes]
+        stated = [place for place in places if facts.tasks()[place].stack is not None]
+        if len(used) > 1:
+            found.append(f"{names(facts, used)} use one stack, from {start:#x} down. Jobs preempt each other in one memory, so "
+                         "each task needs a stack of its own. A job that overwrites another’s frames breaks the run, and the "
+                         "certificate says nothing of a broken run.")
+        elif len(stated) > 1:
+            found.append(f"{names(facts, stated)} state one stack, {start:#x}. Not more than one of them is seen to use it, so "
+                         "this is harmless until another does.")
+        if missing := [place for place in used if facts.tasks()[place].stack is None]:
+            found.append(f"No stack is stated for {names(facts, missing)}, whose code uses one. It starts at 0, from the end of "
+                         "memory down.")
+    return found + close_stacks(facts)
+
+
+def close_stacks(facts: Facts) -> list[str]:
+    """Stacks that reach into the one below."""
+    order = sorted((body.stack_start, body.stack_bytes, place) for place, body in enumerate(facts.bodies) if body.stack_bytes)
+    return [f"{names(facts, [upper])} uses up to {counted(depth, 'byte')} below {high:#x}, and the stack of "
+            f"{names(facts, [lower])} begins only {counted(high - low, 'byte')} lower."
+            for (low, _, lower), (high, depth, upper) in zip(order, order[1:]) if low < high < low + depth]
+
+
+def names(facts: Facts, places: list[int]) -> str:
+    return listed(escape(facts.tasks()[place].name) for place in places)
+
+
+# ---- tasks and windows
+
+
+def tasks_section(facts: Facts) -> str:
+    rows = [task_row(facts, place, task) for place, task in enumerate(facts.tasks())]
+    caption = "Highest priority first; times in cycles" + (
+        ". Nothing is certified: windows and responses are what would be needed, whatever the deadlines" if facts.failing else "")
+    heads = ["Task", "Entry", "Period", "Deadline", "Jitter", "Bound", "Window", "Response", "Response / deadline",
+             "Bound / period", "Method"]
+    return section("Tasks", table(caption, "llrrrrrrlrl", heads, rows))
+
+
+def task_row(facts: Facts, place: int, task: Task) -> list[str]:
+    claim = facts.claims()[place] if facts.claims() else None
+    window = facts.windows[place] if place < len(facts.windows) else None
+    entry = "the file’s" if task.entry is None else task.entry if isinstance(task.entry, str) else f"{task.entry:#x}"
+    row = [named(place, task.name), tag("code", escape(entry)), num(task.period), num(task.deadline), num(task.jitter),
+           num(claim.bound) if claim else "–"]
+    row += [num(window.total()), num(window.response()), gauge(window, task)] if window else ["–"] * 3
+    return row + [per_cent(claim.bound, task.period) if claim else "–", window.method if window else "–"]
+
+
+def gauge(window: Window, task: Task) -> str:
+    left, used = task.deadline - window.response(), window.response() / task.deadline
+    bar = tag("span", tag("i", style=f"width:{min(100 * used, 100):.2f}%"), class_="gauge" if left >= 0 else "gauge over")
+    words = f"{num(left)} left" if left >= 0 else f"✗ {num(-left)} too many"
+    return bar + per_cent(used, 1) + tag("small", words, class_="under")
+
+
+def windows_section(facts: Facts) -> str:
+    if not facts.windows:
+        return ""
+    words = "What there may be from a job’s arrival to its completion, at most. Each bar is scaled to the task’s deadline. " + (
+        "The sums are this page’s own, and certify nothing." if facts.failing else
+        "Each sum was made again for this page, from the certificate’s bounds and cache sets, and equals its window.")
+    tables = tag("div", *(window_table(facts, place, window) for place, window in enumerate(facts.windows)), class_="tables")
+    numbers = tag("details", tag("summary", "The numbers of each window"), tables,
+                  open="" if len(facts.windows) <= OPEN_TABLES else None)
+    return section("Windows", paragraph(words), windows_picture(facts).html(), numbers)
+
+
+def window_table(facts: Facts, place: int, window: Window) -> str:
+    task, higher = facts.tasks()[place], window.higher()
+    rows = [["own, first switch", "1", num(window.bound), num(window.switch), "", num(window.bound + window.switch)]]
+    if facts.platform().switches_between_instructions():
+        rows.append(["blocking", "", num(window.blocking), "", "", num(window.blocking)])
+    for high, share in enumerate(window.shares):
+        numbers = (share.jobs, share.execution, share.switches, share.reloads, share.total())
+        rows.append([named(high, facts.tasks()[high].name), *map(num, numbers)])
+    sums = (window.bound + window.blocking + higher.execution, window.switch + higher.switches, higher.reloads, window.total())
+    foot = [["window", "", *map(num, sums)], ["jitter", "", "", "", "", num(window.jitter)],
+            ["response", "", "", "", "", num(window.response())]]
+    caption = named(place, task.name) + " " + tag("small", f"by the {window.method} method; deadline {num(task.deadline)}")
+    return table(caption, "lrrrrr", ["In the window", "Jobs", "Execution", "Switches", "Reloads", "Cycles"], rows, foot)
+
+
+# ---- the cache, and the room that is left
+
+
+def cache_section(facts: Facts) -> str:
+    words = ("The cache sets that each task’s code evicts, and those in which it may use again what it has loaded. Where a task "
+             "evicts a set that is useful to a lower one, a preemption may cost the lower one a reload.")
+    other = [place for place, (claim, cache) in enumerate(zip(facts.claims(), facts.cache))
+             if (claim.evicting, claim.useful) != (cache.evicting, cache.useful)]
+    words += f" The certificate counts with other sets of {names(facts, other)}." if other else ""
+    return section("Cache", paragraph(words), cache_picture(facts).html(), disturbance(facts))
+
+
+def disturbance(facts: Facts) -> str:
+    """How many useful sets of each task a higher one evicts."""
+    tasks, miss = facts.tasks(), facts.platform().miss
+    met = [[len(higher.evicting & cache.useful) for higher in facts.cache[:low]] for low, cache in enumerate(facts.cache)]
+    most = max([1, *(count for counts in met for count in counts)])
+    rows = []
+    for low, counts in list(enumerate(met))[1:]:
+        cells = [tag("span", with_cycles(count, miss), class_="heat", style=f"--heat:{45 * count // most}%") for count in counts]
+        rows.append([named(low, tasks[low].name), *cells, *[""] * (len(tasks) - 1 - low)])
+    heads = ["Preempted, by →", *(named(high, task.name) for high, task in enumerate(tasks[:-1]))]
+    return table("Who can disturb whom: the useful sets of a preempted task that a preempting one evicts, and the cycles to "
+                 f"load them again ({miss} each)", "l" + "r" * (len(tasks) - 1), heads, rows) if rows else ""
+
+
+def with_cycles(lines: int, miss: int) -> str:
+    return f"{num(lines)} {tag('small', num(lines * miss))}" if lines else "0"
+
+
+def room_section(facts: Facts) -> str:
+    parts = [tag("ul", *(tag("li", slack_words(facts.platform(), *line)) for line in facts.slack))]
+    if facts.classic.status == 1:
+        name = facts.classic.text.split()[1]
+        end = " either" if facts.failing else ": it is the multiset delays that accept this set"
+        parts.append(paragraph(f"By the plain union delays of older tools {escape(name)} has no window up to its deadline{end}."))
+    elif facts.classic.status == 0:
+        parts.append(plain_table(facts, read_claims(facts.classic.text)))
+    return section("Room", *parts)
+
+
+def plain_table(facts: Facts, plain: list[Claim]) -> str:
+    """The windows beside those of the plain union delays."""
+    rows = []
+    for place, (task, window, claim) in enumerate(zip(facts.tasks(), facts.windows, plain)):
+        gain = claim.window - window.total()
+        rows.append([named(place, task.name), num(claim.window), num(window.total()), num(gain), per_cent(gain, claim.window)])
+    return table("What the plain union delays of older tools would have certified", "lrrrr",
+                 ["Task", "Plain window", "This window", "Gain", "Gain / plain"], rows)
+
+
+def slack_words(platform: Platform, kind: str, most: str, *stop: str) -> str:
+    """A line of `slack` in words."""
+    now = cost_now(platform, kind)
+    cost = f"{'A switch' if kind == 'switch' else 'Loading a line'} costs {counted(now, 'cycle')}"
+    if stop[0] == "limit":
+        return f"{cost}, and may cost whatever can be stated, up to {num(int(most))}."
+    ends = {"window": "has no window within its deadline", "bound": "has a bound beyond 2^40 cycles"}
+    why = f"{escape(stop[1])} {ends[stop[0]]}"
+    if most == "none":
+        return f"{cost}, and no cost is low enough, not even 0: {why}."
+    if int(most) < now:
+        return f"{cost}. With {tag('strong', num(int(most)))} or less the set would be accepted."
+    return f"{cost}, and may cost up to {tag('strong', num(int(most)))}. With {num(int(most) + 1)}, {why}."
+
+
+# ---- the run
+
+
+def run_section(facts: Facts) -> str:
+    run = facts.run
+    if not isinstance(run, Run):
+        return section("Run", *map(paragraph, ["The script is refused.", *refusal_words(run)] if run else []))
+    said_of = [(run.legal, "✓ legal", "arrivals keep the periods, and releases the jitters", "✗ illegal",
+                "two arrivals are closer than the period, or a release is not within the jitter"),
+               (run.kept, "✓ kept", "no job left its stated loop bounds, calls and returns", "✗ broken",
+                "a job reached a loop’s head more often than stated, or returned to another place than it was called from")]
+    lines = [paragraph(f"{tag('strong', yes if good else no)}: {words if good else others}.", None if good else "alarm")
+             for good, yes, words, no, others in said_of]
+    axis = whole(facts, run)
+    pictures = [run_picture(facts, run, axis, True).html()]
+    if near := busiest(run, axis):
+        pictures += [paragraph("The longest stretch in which some job is between release and completion:"),
+                     run_picture(facts, run, near, False).html()]
+    return section("Run", *lines, *pictures, ledger(facts, run))
+
+
+def ledger(facts: Facts, run: Run) -> str:
+    """The reloads of the run by victim and evictor, and the most in a job's window beside the certified delay."""
+    if facts.failing:
+        return paragraph("Without a certificate there is no ledger of reloads.", "soft")
+    tasks, miss, rows = facts.tasks(), facts.platform().miss, []
+    count = Counter((reload.task, reload.evictor.split()[0]) for reload in run.reloads)
+    for place, task in enumerate(tasks):
+        own = [count[task.name, other.name] for other in tasks[:-1]]
+        rows.append([named(place, task.name), *(with_cycles(lines, miss) if lines else "" for lines in own),
+                     with_cycles(sum(own), miss), num(most_in_a_window(facts, run, place) * miss), num(run.delays[task.name])])
+    heads = ["Reloads, evicted by →", *(named(place, task.name) for place, task in enumerate(tasks[:-1])), "All",
+             "Most in a window", "Certified"]
+    return table("Ledger: reloads of this run, by who loads again and who had evicted the block, with their cycles. On the "
+                 "right the most cycles of reloads in a job’s window, its own and those of higher jobs, beside the certified "
+                 "ones", "l" + "r" * (len(heads) - 1), heads, rows)
+
+
+def most_in_a_window(facts: Facts, run: Run, place: int) -> int:
+    """The most reloads between release and completion of a job of a task, by it and by higher jobs."""
+    names_down = {task.name for task in facts.tasks()[:place + 1]}
+    cycles = sorted(reload.cycle for reload in run.reloads if reload.task in names_down)
+    return max((bisect_left(cycles, job.end) - bisect_left(cycles, job.release) for job in run.jobs
+                if job.task == facts.tasks()[place].name), default=0)

@@ -1,0 +1,153 @@
+"""Follows the code of a task: which instructions it may reach, and how much stack they take."""
+from __future__ import annotations
+
+import struct
+from dataclasses import dataclass
+
+from .reading import Crpd, Platform, TaskSet, read_bytes
+
+LOADS, STORES = ("lb", "lh", "lw", "lbu", "lhu"), ("sb", "sh", "sw")
+BRANCHES = ("beq", "bne", "blt", "bge", "bltu", "bgeu")
+MULTIPLIES, DIVIDES = ("mul", "mulh", "mulhsu", "mulhu"), ("div", "divu", "rem", "remu")
+SECTION_BYTES, SYMBOL_BYTES, SYMBOL_TABLE, FILE_SYMBOL = 40, 16, 2, 4  # of ELF files
+
+
+@dataclass(frozen=True)
+class Instruction:
+    """An instruction as `crpd list` writes it."""
+
+    name: str
+    operands: list[str]
+
+    def offset(self) -> int:
+        """How far a branch or a `jal` goes."""
+        return int(self.operands[-1])
+
+    def is_call(self) -> bool:
+        return self.name == "jal" and self.operands[0] == "x1"
+
+    def longest(self, p: Platform) -> int:
+        """The most cycles that it takes: its line is loaded, its branch is taken."""
+        jumps = self.name == "jalr" or (self.name == "jal" or self.name in BRANCHES) and self.offset() != 4
+        extra = ((p.data, LOADS + STORES), (p.mul, MULTIPLIES), (p.div, DIVIDES))
+        return p.hit + p.miss + p.taken * jumps + sum(cost for cost, names in extra if self.name in names)
+
+    def next(self, address: int) -> list[int]:
+        """The addresses that may follow in the same function, a call's return aside."""
+        if self.name in BRANCHES:
+            return [address + 4, address + self.offset()]
+        if self.name == "jal":
+            return [] if self.is_call() else [address + self.offset()]
+        return [] if self.name in ("jalr", "ecall", "ebreak") else [address + 4]
+
+
+@dataclass
+class Reach:
+    """The addresses that a function reaches, those of its calls included; whether it returns; and the most bytes of stack below
+    x2 that it takes, None where x2 is set in another way than by steps."""
+
+    addresses: set[int]
+    returns: bool = False
+    stack: int | None = 0
+
+    def deepen(self, below: int, more: int | None = 0) -> None:
+        """Some code takes `more` bytes where x2 stands `below` bytes under its start."""
+        self.stack = None if self.stack is None or more is None else max(self.stack, below + more)
+
+
+@dataclass(frozen=True)
+class Code:
+    """The instructions of all tasks, by address."""
+
+    instructions: dict[int, Instruction]
+
+    def reach(self, function: int, known: dict[int, Reach]) -> Reach:
+        """What a function may reach. There is no recursion in code that `crpd` does not refuse."""
+        if function not in known:
+            known[function] = Reach(set())
+            known[function] = self.walk(function, known)
+        return known[function]
+
+    def walk(self, function: int, known: dict[int, Reach]) -> Reach:
+        found, todo, seen = Reach(set()), [(function, 0)], set()
+        while todo:
+            address, below = todo.pop()
+            if address in seen or address not in self.instructions:
+                continue
+            seen.add(address)
+            instruction = self.instructions[address]
+            after = instruction.next(address)
+            if instruction.is_call():
+                callee = self.reach(address + instruction.offset(), known)
+                found.addresses |= callee.addresses
+                found.deepen(below, callee.stack)
+                after = [address + 4] if callee.returns else []
+            elif instruction.name == "jalr":
+                found.returns = True
+            elif instruction.name == "addi" and instruction.operands[:2] == ["x2", "x2"]:
+                below -= int(instruction.operands[2])
+            elif instruction.operands[:1] == ["x2"] and instruction.name not in STORES + BRANCHES:
+                found.stack = None
+            found.deepen(below)
+            todo += [(goal, below) for goal in after]
+        found.addresses |= seen
+        return found
+
+
+@dataclass(frozen=True)
+class Symbols:
+    """The entry and the symbols of an ELF file that `crpd` does not refuse."""
+
+    entry: int
+    values: dict[str, int]
+
+    def address(self, place: int | str) -> int:
+        """What a place of the set means."""
+        if isinstance(place, int):
+            return place
+        symbol, _, offset = place.partition("+")
+        return self.values[symbol] + int(offset or "0", 16 if offset.startswith("0x") else 10)
+
+
+def read_symbols(data: bytes) -> Symbols:
+    """The symbols of the first symbol table; of each name the first one."""
+    entry, _, sections = struct.unpack_from("<III", data, 24)
+    count = struct.unpack_from("<H", data, 48)[0] if sections else 0
+    headers = [struct.unpack_from("<10I", data, sections + SECTION_BYTES * k) for k in range(count)]
+    values: dict[str, int] = {}
+    for table in [header for header in headers if header[1] == SYMBOL_TABLE][:1]:
+        names = headers[table[6]][4]
+        for at in range(table[4], table[4] + table[5] - SYMBOL_BYTES + 1, SYMBOL_BYTES):
+            name, value, _, kind, _, section = struct.unpack_from("<IIIBBH", data, at)
+            if name and section and kind & 15 != FILE_SYMBOL:
+                text = data[names + name:data.find(b"\0", names + name)]
+                values.setdefault(text.decode(errors="replace"), value)
+    return Symbols(entry, values)
+
+
+@dataclass(frozen=True)
+class Body:
+    """A task's code: the most cycles of one of its instructions, where its stack starts, and the bytes that it takes at most."""
+
+    longest: int
+    stack_start: int
+    stack_bytes: int | None
+
+
+def read_bodies(crpd: Crpd, name: str, given: TaskSet) -> list[Body]:
+    """The bodies of the tasks of a set that is not refused."""
+    symbols: dict[str, Symbols] = {}
+    code = Code({})
+    for task in given.tasks:
+        if task.file not in symbols:
+            symbols[task.file] = read_symbols(read_bytes(task.file))
+            for address, _, word, *operands in crpd.ask("list", name, task.name).lines():
+                code.instructions[int(address, 16)] = Instruction(word, operands[0].split(",") if operands else [])
+    known: dict[int, Reach] = {}
+    found = []
+    for task in given.tasks:
+        own = symbols[task.file]
+        reach = code.reach(own.entry if task.entry is None else own.address(task.entry), known)
+        longest = max(code.instructions[address].longest(given.platform) for address in reach.addresses)
+        found.append(Body(longest, own.address(task.stack or 0), reach.stack))
+    return found

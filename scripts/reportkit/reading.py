@@ -1,0 +1,204 @@
+"""Asks `crpd`, and reads what goes into it and what it writes."""
+from __future__ import annotations
+
+import json
+import subprocess
+import tomllib
+from dataclasses import dataclass, fields
+from pathlib import Path
+from typing import Any
+
+Raw = dict[str, Any]  # a table as TOML or JSON has it
+
+
+class Trouble(Exception):
+    """Why no page can be written."""
+
+
+@dataclass(frozen=True)
+class Platform:
+    """The numbers of the core, under the names of the set's keys."""
+
+    line: int
+    sets: int
+    hit: int
+    miss: int
+    data: int
+    taken: int
+    switch: int
+    mul: int = 0
+    div: int = 0
+    switching: str = "cycle"
+
+    def switches_between_instructions(self) -> bool:
+        return self.switching == "instruction"
+
+
+@dataclass(frozen=True)
+class Task:
+    """A task of the set. A place (`entry`, `stack`) is a number, or a text with a symbol."""
+
+    name: str
+    file: str
+    period: int
+    deadline: int
+    jitter: int
+    entry: int | str | None = None
+    stack: int | str | None = None
+
+
+@dataclass(frozen=True)
+class TaskSet:
+    """The platform, and the tasks in order of priority, the highest first."""
+
+    platform: Platform
+    tasks: list[Task]
+
+
+@dataclass(frozen=True)
+class Claim:
+    """What a certificate says of a task."""
+
+    name: str
+    bound: int
+    evicting: frozenset[int]
+    useful: frozenset[int]
+    method: str
+    window: int
+    response: int
+
+
+@dataclass(frozen=True)
+class Answer:
+    """What a command wrote, with its status: 0 done, 1 no, 2 refused."""
+
+    status: int
+    text: str
+
+    def lines(self) -> list[list[str]]:
+        return [line.split() for line in self.text.splitlines()]
+
+
+@dataclass(frozen=True)
+class Crpd:
+    """The program."""
+
+    path: str
+
+    def ask(self, *words: str) -> Answer:
+        """Runs a command; `Trouble` where it does not start, or ends otherwise than done, no or refused."""
+        try:
+            done = subprocess.run([self.path, *words], capture_output=True, text=True, errors="replace", check=False)
+        except OSError as error:
+            raise Trouble(f"{self.path} does not start: {error.strerror}") from error
+        if done.returncode not in (0, 1, 2):
+            said = (done.stdout or done.stderr).strip()
+            raise Trouble(f"`crpd {' '.join(words)}` ends with status {done.returncode}: {said}")
+        return Answer(done.returncode, done.stdout)
+
+
+def read_bytes(name: str) -> bytes:
+    try:
+        return Path(name).read_bytes()
+    except OSError as error:
+        raise Trouble(f"{name}: {error.strerror}") from error
+
+
+def read_toml(name: str) -> Raw:
+    return tomllib.loads(read_bytes(name).decode())
+
+
+def read_set(raw: Raw) -> TaskSet:
+    """A set that `crpd` does not refuse, without its loops."""
+    keys = [field.name for field in fields(Task)]
+    tasks = [Task(**{key: task[key] for key in keys if key in task}) for task in raw["task"]]
+    return TaskSet(Platform(**raw["platform"]), tasks)
+
+
+def read_claims(text: str) -> list[Claim]:
+    """What a certificate that `crpd` does not refuse says, task by task."""
+    return [read_claim(task) for task in json.loads(text)["tasks"]]
+
+
+def read_claim(task: Raw) -> Claim:
+    evicting, useful = frozenset(task["evicting"]), frozenset(task["useful"])
+    return Claim(task["name"], task["bound"], evicting, useful, task["method"], task["window"], task["response"])
+
+
+def set_text(raw: Raw) -> str:
+    """The TOML of a task set."""
+    lines = table_lines("[platform]", raw["platform"])
+    for task in raw["task"]:
+        lines += table_lines("[[task]]", task)
+        for loop in task.get("loop", []):
+            lines += table_lines("[[task.loop]]", loop)
+    return "\n".join(lines) + "\n"
+
+
+def table_lines(head: str, keys: Raw) -> list[str]:
+    return [head] + [f"{key} = {json.dumps(value)}" for key, value in keys.items() if key != "loop"]
+
+
+@dataclass(frozen=True)
+class Job:
+    """A job of a run. Its `state` is `answer`, `open`, `fault` or `unreleased`; its `end` is when it completed, the end of the
+    run where it is open, and else its release."""
+
+    task: str
+    number: int
+    arrival: int
+    release: int
+    state: str
+    end: int
+
+    def is_complete(self) -> bool:
+        return self.state == "answer"
+
+
+@dataclass(frozen=True)
+class Reload:
+    """A line that a job loads again. Evictor and preemptor are a task's name with a job's number."""
+
+    task: str
+    number: int
+    cache_set: int
+    cycle: int
+    evictor: str
+    preemptor: str
+
+
+@dataclass(frozen=True)
+class Run:
+    """A run of a script; with a certificate also its reloads, and the certified cycles of reloads by task."""
+
+    jobs: list[Job]
+    legal: bool
+    kept: bool
+    reloads: list[Reload]
+    delays: dict[str, int]
+
+
+def read_run(crpd: Crpd, name: str, certificate: str | None, script: str) -> Run | Answer:
+    """The run of a script, or its refusal."""
+    simulated = crpd.ask("simulate", name, script)
+    if simulated.status != 0:
+        return simulated
+    *lines, (_, legal, kept) = simulated.lines()
+    cycles = read_toml(script)["cycles"]
+    explained = crpd.ask("explain", name, certificate, script).lines() if certificate else []
+    reloads = [read_reload(line) for line in explained if line[0] == "reload"]
+    delays = {line[1]: int(line[2]) for line in explained if line[0] == "delay"}
+    return Run([read_job(line, cycles) for line in lines], legal == "legal", kept == "kept", reloads, delays)
+
+
+def read_job(line: list[str], cycles: int) -> Job:
+    """A line `job NAME NUMBER arrival A release R answer T`, or with another state in place of `answer T`."""
+    _, task, number, _, arrival, _, release, state, *end = line
+    last = int(end[0]) if end else cycles if state == "open" else int(release)
+    return Job(task, int(number), int(arrival), int(release), state, last)
+
+
+def read_reload(line: list[str]) -> Reload:
+    """A line `reload NAME NUMBER set S cycle T evictor NAME NUMBER preemptor NAME NUMBER`."""
+    _, task, number, _, cache_set, _, cycle, _, *evictor, _, preemptor, job = line
+    return Reload(task, int(number), int(cache_set), int(cycle), " ".join(evictor), f"{preemptor} {job}")

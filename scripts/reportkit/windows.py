@@ -1,0 +1,164 @@
+"""Sums windows up again, from the bounds and cache sets of a certificate: an independent reading of the formulas.
+
+    jobs(k, w)    = (w + jitter of k) / period of k, rounded up: the jobs of task k that can be in a window of w cycles
+    demand(i, w)  = switch + bound of i + blocking of i
+                    + for each higher task j: jobs(j, w) * (bound of j + 2 * switch) + miss * reloads(i, j, w)
+    blocking of i = 0, or with `switching = "instruction"` the longest instruction of i and of the lower tasks, less 1
+    window of i   = the least w of at least 1 with demand(i, w) <= w; response of i = window of i + jitter of i
+
+The tasks that j affects in a window of i are those below j, down to i. A task k among them can be disturbed by j at most
+count(k) = jobs(j, window of k) * jobs(k, w) times, and i itself jobs(j, w) times.
+
+    by the UCB-union method: reloads = the sum, over the cache sets that j evicts, of the smaller of jobs(j, w) and the
+        sum of count(k) over the affected tasks to which the set is useful
+    by the ECB-union method: task k loses at most so many lines at once as it finds useful sets that j, or a task above j,
+        evicts; reloads = the greatest sum of jobs(j, w) such losses, in which k comes at most count(k) times
+"""
+from __future__ import annotations
+
+from collections import Counter
+from collections.abc import Sequence
+from dataclasses import dataclass, replace
+
+from .reading import Claim, TaskSet, Trouble
+
+METHODS = ("ucb", "ecb")
+FAR = 64  # windows of sets that are not schedulable are looked for up to so many periods
+
+
+@dataclass(frozen=True)
+class Share:
+    """What the jobs of a higher task take of a window, in cycles."""
+
+    jobs: int
+    execution: int
+    switches: int
+    reloads: int
+
+    def total(self) -> int:
+        return self.execution + self.switches + self.reloads
+
+
+@dataclass(frozen=True)
+class Window:
+    """What a window holds, in cycles, with a share for each higher task."""
+
+    method: str
+    bound: int
+    switch: int
+    blocking: int
+    jitter: int
+    shares: list[Share]
+
+    def higher(self) -> Share:
+        """All shares together."""
+        shares = self.shares
+        return Share(sum(share.jobs for share in shares), sum(share.execution for share in shares),
+                     sum(share.switches for share in shares), sum(share.reloads for share in shares))
+
+    def total(self) -> int:
+        return self.bound + self.switch + self.blocking + self.higher().total()
+
+    def response(self) -> int:
+        return self.total() + self.jitter
+
+
+def blocking_of(given: TaskSet, longest: Sequence[int]) -> list[int]:
+    """The blocking of each task, by the longest instructions of all tasks."""
+    if not given.platform.switches_between_instructions():
+        return [0] * len(longest)
+    return [max(longest[place:]) - 1 for place in range(len(longest))]
+
+
+class Analysis:
+    """The demands and windows of a set, for what a certificate claims. Tasks are named by their places, 0 the highest."""
+
+    def __init__(self, given: TaskSet, claims: list[Claim], blocking: list[int]) -> None:
+        self.given, self.claims, self.blocking = given, claims, blocking
+        places = range(len(claims))
+        self.evicted_down_to = [frozenset().union(*(claim.evicting for claim in claims[:place + 1])) for place in places]
+        self.users = {(high, low): self.users_of(high, low) for low in places for high in range(low)}
+
+    def users_of(self, high: int, low: int) -> Counter[tuple[int, ...]]:
+        """The sets that a task evicts, counted by the tasks below it, down to `low`, to which they are useful."""
+        affected = range(high + 1, low + 1)
+        return Counter(tuple(k for k in affected if cache_set in self.claims[k].useful)
+                       for cache_set in self.claims[high].evicting)
+
+    def jobs(self, place: int, window: int) -> int:
+        task = self.given.tasks[place]
+        return -(-(window + task.jitter) // task.period)
+
+    def counts(self, high: int, low: int, window: int, windows: Sequence[int]) -> dict[int, int]:
+        """How often a task can disturb each task that it affects in a window of `low`. `windows` are those of higher tasks."""
+        between = {k: self.jobs(high, windows[k]) * self.jobs(k, window) for k in range(high + 1, low)}
+        return {**between, low: self.jobs(high, window)}
+
+    def reloads(self, high: int, low: int, method: str, window: int, windows: Sequence[int]) -> int:
+        """The most lines that a window of `low` loads again since jobs of `high` evicted them."""
+        jobs, counts = self.jobs(high, window), self.counts(high, low, window, windows)
+        if method == "ucb":
+            return sum(sets * min(jobs, sum(counts[k] for k in users)) for users, sets in self.users[high, low].items())
+        return greatest_sum(jobs, [(self.lost(k, high), count) for k, count in counts.items()])
+
+    def lost(self, place: int, high: int) -> int:
+        """How many useful sets of a task are evicted by a task above it, or by those above that one."""
+        return len(self.claims[place].useful & self.evicted_down_to[high])
+
+    def demand(self, low: int, method: str, window: int, windows: Sequence[int]) -> Window:
+        """What has to be in a window of so many cycles."""
+        platform, shares = self.given.platform, []
+        for high in range(low):
+            jobs, reloads = self.jobs(high, window), self.reloads(high, low, method, window, windows)
+            shares.append(Share(jobs, jobs * self.claims[high].bound, jobs * 2 * platform.switch, platform.miss * reloads))
+        jitter = self.given.tasks[low].jitter
+        return Window(method, self.claims[low].bound, platform.switch, self.blocking[low], jitter, shares)
+
+    def least(self, low: int, method: str, windows: Sequence[int], limit: int) -> Window | None:
+        """The least window that holds its demand, where it is at most the limit."""
+        window = 1
+        while window <= limit:
+            demand = self.demand(low, method, window, windows)
+            if demand.total() <= window:
+                return demand
+            window = demand.total()
+        return None
+
+    def certified(self) -> list[Window]:
+        """The certificate's windows, each summed up again by its method. `Trouble` at the first that comes out otherwise."""
+        found: list[Window] = []
+        for low, (task, claim) in enumerate(zip(self.given.tasks, self.claims)):
+            windows = [window.total() for window in found]
+            least = self.least(low, claim.method, windows, FAR * task.period)
+            sums = (least.total(), least.response()) if least else ("none", "none")
+            if not least or sums != (claim.window, claim.response):
+                raise Trouble(f"the sums differ at {task.name}: the certificate has window {claim.window} and response "
+                              f"{claim.response}, and its own bounds and cache sets need {sums[0]} and {sums[1]}")
+            found.append(least)
+        return found
+
+    def possible(self) -> list[Window]:
+        """The least windows whatever the deadlines, up to the first task that may not complete within its period."""
+        found: list[Window] = []
+        for low, task in enumerate(self.given.tasks):
+            windows = [window.total() for window in found]
+            choices = [self.least(low, method, windows, FAR * task.period) for method in METHODS]
+            best = min((choice for choice in choices if choice), key=Window.total, default=None)
+            found += [best] if best else []
+            if best is None or best.response() > task.period:
+                break
+        return found
+
+    def without(self, cost: str) -> Analysis:
+        """The same where a switch, or a reload after a preemption (`miss`), costs nothing; bounds are as they were."""
+        platform = replace(self.given.platform, **{cost: 0})
+        return Analysis(TaskSet(platform, self.given.tasks), self.claims, self.blocking)
+
+
+def greatest_sum(jobs: int, lost: list[tuple[int, int]]) -> int:
+    """The greatest sum of so many losses, each pair a loss and how often it may come."""
+    total = 0
+    for value, count in sorted(lost, reverse=True):
+        total += value * min(jobs, count)
+        jobs -= min(jobs, count)
+    return total
