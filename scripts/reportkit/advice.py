@@ -2,7 +2,7 @@
 from __future__ import annotations
 
 import re
-from dataclasses import dataclass
+from dataclasses import dataclass, field
 from functools import cache
 from html import escape
 from pathlib import Path
@@ -26,13 +26,14 @@ class Advice:
 
 @dataclass(frozen=True)
 class Verdict:
-    """A colour, a sign, a title; sentences in HTML; and lines of code round what was refused."""
+    """A colour, a sign, a title; in HTML what it means and what may help; and the code round what was refused."""
 
     css: str
     sign: str
     title: str
     sentences: list[str]
-    code: list[str]
+    helps: list[str] = field(default_factory=list)
+    code: list[str] = field(default_factory=list)
 
 
 @cache
@@ -54,27 +55,41 @@ def advice() -> dict[int, Advice]:
     return found
 
 
-def clauses() -> dict[int, str]:
-    """Where each clause of docs/FORMATS.md holds."""
+@dataclass(frozen=True)
+class Clause:
+    """Where a clause holds, and what the place of a failure is."""
+
+    holds_where: str
+    place: str
+
+
+def clauses() -> dict[int, Clause]:
+    """The clauses of docs/FORMATS.md."""
     heads = [at for at, row in enumerate(rows()) if row[:2] == ["clause", "holds where"]]
-    found: dict[int, str] = {}
+    found: dict[int, Clause] = {}
     for row in rows()[heads[0] + 2:] if heads else []:
         if not row:
             break
-        found[int(row[0])] = row[1]
+        found[int(row[0])] = Clause(row[1], row[2])
     return found
 
 
-def refusal_words(refusal: Refusal) -> list[str]:
-    """What is refused, when that refusal comes, and what usually helps."""
-    known = advice().get(refusal.number, Advice("docs/FORMATS.md says", "see docs/FORMATS.md"))
+def refusal_words(refusal: Refusal) -> str:
+    """What is refused, and when that refusal comes."""
     at = "" if refusal.detail == "-" else f", {tag('code', escape(refusal.detail))}"
-    return [f"{tag('strong', f'{refusal.number} {refusal.name}')} in {escape(refusal.subject)}{at}. It comes where: "
-            f"{marked(known.comes_where)}.", f"What usually helps: {marked(known.helps)}."]
+    known = advice().get(refusal.number)
+    when = f" It comes where: {marked(known.comes_where)}." if known else ""
+    return f"{tag('strong', f'{refusal.number} {refusal.name}')} in {escape(refusal.subject)}{at}.{when}"
+
+
+def refusal_helps(refusal: Refusal) -> list[str]:
+    known = advice().get(refusal.number)
+    return [marked(words) for words in known.helps.split("; ")] if known else ["see docs/FORMATS.md"]
 
 
 def refused(refusal: Refusal) -> Verdict:
-    return Verdict("odd", "!", "Refused: nothing is said of the tasks", refusal_words(refusal), refusal.code)
+    return Verdict("odd", "!", "Refused: nothing is said of the tasks", [refusal_words(refusal)], refusal_helps(refusal),
+                   refusal.code)
 
 
 def decided(facts: Facts) -> Verdict:
@@ -89,7 +104,7 @@ def schedulable(facts: Facts) -> Verdict:
         f"Each job of {names} completes within its task’s certified response, and each response is within the deadline. This "
         "holds for all arrivals that keep periods and jitters, from any cache and any memory.",
         "It holds as long as jobs keep their stated loop bounds and return to where they were called. Of a run that is broken, "
-        "the certificate says nothing."], [])
+        "the certificate says nothing."])
 
 
 def unschedulable(facts: Facts, name: str) -> Verdict:
@@ -97,34 +112,32 @@ def unschedulable(facts: Facts, name: str) -> Verdict:
     sentences = [f"The analysis finds no window for {escape(name)}: no number of cycles, up to the deadline less the jitter, "
                  "holds all that may happen between a job’s release and its completion. Nothing is certified of this set. "
                  "A job need not miss its deadline."]
-    if place < len(facts.windows):
-        window, deadline = facts.windows[place], facts.deadline(name)
-        over = tag("strong", f"{num(window.response() - deadline)} too many")
-        sentences.append(f"From arrival to completion it would need {num(window.response())} cycles, and its deadline allows "
-                         f"{num(deadline)}: {over}.")
-        sentences.append("What may help: " + "; ".join(remedies(facts, place, window)) + ".")
-    elif facts.claims():
-        sentences.append("Nor do 64 of its periods hold it: fewer cycles in it and in the tasks above it, or longer periods "
-                         "above it, may help.")
-    return Verdict("bad", "✗", f"{escape(name)} may miss its deadline", sentences, [])
+    if place >= len(facts.windows):
+        sentences += ["Nor do 64 of its periods hold it."] if facts.claims() else []
+        return Verdict("bad", "✗", f"{escape(name)} may miss its deadline", sentences, [
+            "fewer cycles in this task and in those above it, or longer periods above it"])
+    window, deadline = facts.windows[place], facts.deadline(name)
+    over = tag("strong", f"{num(window.response() - deadline)} too many")
+    sentences.append(f"From arrival to completion it would need {num(window.response())} cycles, and its deadline allows "
+                     f"{num(deadline)}: {over}.")
+    return Verdict("bad", "✗", f"{escape(name)} may miss its deadline", sentences, remedies(facts, place, window))
 
 
 def remedies(facts: Facts, place: int, window: Window) -> list[str]:
     """What takes most of a window that is too long, and whether it would be short enough without reloads or switches."""
-    deadline, higher = facts.tasks()[place].deadline, window.higher()
-    found = []
+    deadline, found = facts.tasks()[place].deadline, []
     for cost, words, cure in (("miss", "reloads after preemptions", "more cache sets, or functions placed otherwise"),
                               ("switch", "switches", "a cheaper switch, or fewer preemptions")):
         response = needed_without(facts, place, cost)
         if response is not None and response <= deadline:
-            found.append(f"{cure} (if {words} cost nothing, it would need {num(response)})")
+            found.append(f"{cure}: if {words} cost nothing, it would need {num(response)} cycles")
     if window.shares:
         most = max(range(place), key=lambda high: window.shares[high].total())
-        found.append(f"fewer cycles, or a longer period, of {escape(facts.tasks()[most].name)} (its jobs take "
-                     f"{num(window.shares[most].total())} of this window, all higher jobs {num(higher.total())})")
-    found.append(f"fewer cycles of its own (now {num(window.bound)}); another order of priorities. Section “Room” says how "
-                 "cheap a switch or a line load would have to be")
-    return found
+        found.append(f"fewer cycles, or a longer period, of {escape(facts.tasks()[most].name)}: its jobs take "
+                     f"{num(window.shares[most].total())} cycles of this window, all higher jobs "
+                     f"{num(window.higher().total())}")
+    return found + [f"fewer cycles of its own, now {num(window.bound)}", "another order of priorities",
+                    "a switch or a line load that costs no more than section “Room” says"]
 
 
 def needed_without(facts: Facts, place: int, cost: str) -> int | None:
@@ -134,15 +147,16 @@ def needed_without(facts: Facts, place: int, cost: str) -> int | None:
 
 def rejected(facts: Facts, objection: Objection, own: Verdict) -> Verdict:
     """The verdict on a given certificate that `check` does not accept; `own` is that on the set by itself."""
-    name, clause = escape(objection.task), objection.clause
-    place = "" if facts.failing else f" The analysis finds {claim_words(facts.claims()[facts.place(objection.task)])}."
+    name, clause = escape(objection.task), clauses().get(objection.clause, Clause("docs/FORMATS.md says", "see there"))
+    found = [claim for claim in facts.claims() if claim.name == objection.task and not facts.failing]
     said = f"It claims {claim_words(objection.claim)} for {name}." if objection.claim else f"It claims nothing for {name}."
+    said += f" The analysis finds {claim_words(found[0])}." if found else ""
+    helps = "another set: no certificate of this one is found" if facts.failing else "the certificate that `analyze` writes"
     return Verdict("bad", "✗", "The certificate does not hold for this set", [
-        f"Clause {clause} does not hold for {name}, at place {objection.place}. Nobody may rely on this certificate.",
-        f"The clause holds where: {marked(clauses().get(clause, 'see docs/FORMATS.md'))}.", said + place,
-        f"The rest of the page is about the analysis’ own {'result' if facts.failing else 'certificate'}, whose verdict is: "
-        f"{own.title}. {tag('code', 'analyze')} writes "
-        + ("none that holds." if facts.failing else "a certificate that holds.")], [])
+        f"Clause {objection.clause} does not hold for {name}, at place {objection.place} (what a place is: "
+        f"{marked(clause.place)}). Nobody may rely on this certificate.",
+        f"The clause holds where: {marked(clause.holds_where)}.", said,
+        f"The rest of the page is about what the analysis finds by itself: {tag('strong', own.title)}."], [marked(helps)])
 
 
 def claim_words(claim: Claim) -> str:

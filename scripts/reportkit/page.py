@@ -7,7 +7,7 @@ from collections import Counter
 from html import escape
 from pathlib import Path
 
-from .advice import Verdict, decided, refusal_words, refused
+from .advice import Verdict, decided, refusal_helps, refusal_words, refused
 from .facts import Facts, Refusal, Request
 from .markup import counted, listed, num, paragraph, per_cent, section, table, tag
 from .pictures import SHAPES, cache_picture, definitions, named, windows_picture
@@ -48,8 +48,13 @@ def footer(found: Facts | Refusal, asked: Request) -> str:
 
 def header(verdict: Verdict) -> str:
     heading = tag("h1", tag("span", verdict.sign, class_="sign", aria_hidden="true"), verdict.title)
-    code = [tag("pre", escape("\n".join(verdict.code)))] if verdict.code else []
-    return tag("header", heading, *map(paragraph, verdict.sentences), *code, class_=verdict.css)
+    return tag("header", heading, *map(paragraph, verdict.sentences), helping(verdict.helps),
+               tag("pre", escape("\n".join(verdict.code))) if verdict.code else "", class_=verdict.css)
+
+
+def helping(helps: list[str]) -> str:
+    """What may help, as a list."""
+    return paragraph("What may help:") + tag("ul", *(tag("li", words) for words in helps)) if helps else ""
 
 
 def tiles(facts: Facts) -> str:
@@ -273,7 +278,7 @@ def slack_words(platform: Platform, kind: str, most: str, *stop: str) -> str:
 def run_section(facts: Facts) -> str:
     run = facts.run
     if not isinstance(run, Run):
-        return section("Run", *map(paragraph, ["The script is refused.", *refusal_words(run)] if run else []))
+        return section("Run", paragraph(f"The script is refused: {refusal_words(run)}"), helping(refusal_helps(run))) if run else ""
     said_of = [(run.legal, "✓ legal", "arrivals keep the periods, and releases the jitters", "✗ illegal",
                 "two arrivals are closer than the period, or a release is not within the jitter"),
                (run.kept, "✓ kept", "no job left its stated loop bounds, calls and returns", "✗ broken",
