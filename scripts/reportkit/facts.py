@@ -10,7 +10,8 @@ from .reading import (Answer, Claim, Crpd, Platform, Raw, Run, Task, TaskSet, Tr
 from .windows import Analysis, Window, blocking_of
 
 LONGEST = 1 << 40  # the longest period that a set may state
-CODE_REFUSALS = range(50, 65)  # refusals whose detail is an address
+TASK_REFUSALS = range(41, 65)  # refusals whose subject is a task
+CODE_REFUSALS = range(50, 65)  # of these, those whose detail is an address
 ROUND = 4  # lines of code that are shown on each side of it
 
 
@@ -179,8 +180,8 @@ def read_refusal(crpd: Crpd, asked: Request, answer: Answer) -> Refusal:
     code: list[str] = []
     if int(number) in CODE_REFUSALS:
         code = lines_round(crpd.ask("list", asked.task_set, whom).text.splitlines(), detail)
-        whom = f"task {whom}"
-    return Refusal(int(number), name, roles.get(whom, Path(whom).name), detail, code)
+    where = f"task {whom}" if int(number) in TASK_REFUSALS else roles.get(whom, Path(whom).name)
+    return Refusal(int(number), name, where, detail, code)
 
 
 def lines_round(listing: list[str], address: str) -> list[str]:

@@ -92,5 +92,5 @@ def ranges(members: Iterable[int]) -> str:
 
 def step(length: int, most: int) -> int:
     """1, 2 or 5 times a power of ten, so that a length has at most so many steps."""
-    sizes = (factor * 10 ** power for power in range(16) for factor in (1, 2, 5))
+    sizes = (factor * int(10 ** power) for power in range(16) for factor in (1, 2, 5))
     return next(size for size in sizes if length <= most * size)

@@ -135,6 +135,9 @@ def stack_warnings(facts: Facts) -> list[str]:
         if missing := [place for place in used if facts.tasks()[place].stack is None]:
             found.append(f"No stack is stated for {names(facts, missing)}, whose code uses one. It starts at 0, from the end of "
                          "memory down.")
+    if unknown := [place for place, body in enumerate(bodies) if body.stack_bytes is None]:
+        found.append(f"The code of {names(facts, unknown)} sets x2 by itself. Whether that stack meets another was not "
+                     "looked at.")
     return found + close_stacks(facts)
 
 
@@ -278,7 +281,8 @@ def slack_words(platform: Platform, kind: str, most: str, *stop: str) -> str:
 def run_section(facts: Facts) -> str:
     run = facts.run
     if not isinstance(run, Run):
-        return section("Run", paragraph(f"The script is refused: {refusal_words(run)}"), helping(refusal_helps(run))) if run else ""
+        words = [paragraph(f"The script is refused: {refusal_words(run)}"), helping(refusal_helps(run))] if run else []
+        return section("Run", *words)
     said_of = [(run.legal, "✓ legal", "arrivals keep the periods, and releases the jitters", "✗ illegal",
                 "two arrivals are closer than the period, or a release is not within the jitter"),
                (run.kept, "✓ kept", "no job left its stated loop bounds, calls and returns", "✗ broken",

@@ -109,16 +109,18 @@ class Picture:
 
 
 def settled(css: str) -> str:
-    """The style of a file: colours in place of their names, since not every program that shows SVG knows names."""
-    light, dark = (dict(re.findall(r"--([\w-]+): ([^;]+);", block)) for block in re.findall(r":root \{(.*?)\}", css, re.DOTALL)[:2])
-    rules = re.sub(r"(@media[^{]*\{\s*)?:root \{.*?\}(\s*\})?\n", "", css, flags=re.DOTALL)
+    """The style of a file: colours in place of their names, since not every program that shows SVG knows names. The tables of
+    colours, light and dark, stand before the rules."""
+    tables, _, rules = css.partition("} }\n")
+    light, dark = (re.findall(r"--([\w-]+): ([^;]+);", table) for table in tables.split("@media"))
+    coloured = "".join(f"{rule}\n" for rule in rules.splitlines() if "var(" in rule)
+    return f"\n{painted(rules, light)}@media (prefers-color-scheme: dark) {{\n{painted(coloured, dark + light)}}}\n"
 
-    def with_colours(colours: dict[str, str]) -> str:
-        return re.sub(r"var\(--([\w-]+)\)", lambda name: colours[name[1]], rules)
 
-    coloured = "".join(line + "\n" for line in rules.splitlines() if "var(" in line)
-    dark_rules = re.sub(r"var\(--([\w-]+)\)", lambda name: {**light, **dark}[name[1]], coloured)
-    return f"\n{with_colours(light)}@media (prefers-color-scheme: dark) {{\n{dark_rules}}}\n"
+def painted(rules: str, colours: list[tuple[str, str]]) -> str:
+    for name, colour in colours:
+        rules = rules.replace(f"var(--{name})", colour)
+    return rules
 
 
 def definitions() -> str:

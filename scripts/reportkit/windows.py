@@ -132,8 +132,9 @@ class Analysis:
             least = self.least(low, claim.method, windows, FAR * task.period)
             sums = (least.total(), least.response()) if least else ("none", "none")
             if not least or sums != (claim.window, claim.response):
+                wider = "; a page shows windows that are no wider than needed" if least and least.total() < claim.window else ""
                 raise Trouble(f"the sums differ at {task.name}: the certificate has window {claim.window} and response "
-                              f"{claim.response}, and its own bounds and cache sets need {sums[0]} and {sums[1]}")
+                              f"{claim.response}, and its own bounds and cache sets need {sums[0]} and {sums[1]}{wider}")
             found.append(least)
         return found
 
