@@ -7,9 +7,10 @@ from functools import cache
 from html import escape
 from pathlib import Path
 
+from .cautions import cautions
 from .facts import Facts, Objection, Refusal
-from .markup import listed, marked, num, tag
-from .reading import Claim
+from .markup import counted, listed, marked, num, tag
+from .reading import Claim, Run
 from .windows import Window
 
 FORMATS = Path(__file__).parents[2] / "docs" / "FORMATS.md"
@@ -100,11 +101,18 @@ def decided(facts: Facts) -> Verdict:
 
 def schedulable(facts: Facts) -> Verdict:
     names = listed(escape(task.name) for task in facts.tasks())
-    return Verdict("good", "✓", "Every job meets its deadline", [
+    sentences = [
         f"Each job of {names} completes within its task’s certified response, and each response is within the deadline. This "
         "holds for all arrivals that keep periods and jitters, from any cache and any memory.",
         "It holds as long as jobs keep their stated loop bounds and return to where they were called. Of a run that is broken, "
-        "the certificate says nothing."])
+        "the certificate says nothing."]
+    if isinstance(facts.run, Run) and not facts.run.kept:
+        return Verdict("odd", "!", "Accepted, but a run is broken", [
+            tag("strong", "The run of the script is broken, so this certificate says nothing of it, nor of others like it."),
+            *sentences], ["larger bounds of the loops that the run shows to be too small", "a stack of its own for each task"])
+    if found := cautions(facts):
+        sentences.append(tag("strong", f"There {'is' if len(found) == 1 else 'are'} {counted(len(found), 'warning')} below."))
+    return Verdict("good", "✓", "Every job meets its deadline", sentences)
 
 
 def unschedulable(facts: Facts, name: str) -> Verdict:

@@ -8,14 +8,14 @@ from html import escape
 from pathlib import Path
 
 from .advice import Verdict, decided, refusal_helps, refusal_words, refused
+from .cautions import cautions, names
 from .facts import Facts, Refusal, Request
-from .markup import counted, listed, num, paragraph, per_cent, section, table, tag
+from .markup import counted, num, paragraph, per_cent, section, table, tag
 from .pictures import SHAPES, cache_picture, definitions, named, windows_picture
 from .reading import Claim, Platform, Run, Task, read_bytes, read_claims
 from .runs import busiest, run_picture, whole
 from .windows import Window
 
-CLOSE = 5  # a margin of fewer per cent of the deadline is warned of
 OPEN_TABLES = 12  # of more tasks, the numbers of windows are folded up
 STYLE = Path(__file__).with_name("page.css")
 
@@ -84,73 +84,11 @@ def platform_words(p: Platform) -> str:
                      f"Switches happen {where}.", "soft")
 
 
-# ---- warnings
-
-
 def warnings(facts: Facts) -> str:
-    found = run_warnings(facts) + stack_warnings(facts) + margin_warnings(facts)
+    found = cautions(facts)
     if not found:
         return section("Warnings", paragraph("None. Stacks, margins and utilization were looked at.", "soft"))
     return section("Warnings", tag("ul", *(tag("li", words) for words in found), class_="warnings"))
-
-
-def run_warnings(facts: Facts) -> list[str]:
-    run, found = facts.run, []
-    if isinstance(run, Run) and not run.legal:
-        found.append("The run of the script is illegal: arrivals or releases do not keep periods and jitters. The certificate "
-                     "says nothing of it.")
-    if isinstance(run, Run) and not run.kept:
-        found.append("The run of the script is broken: a stated loop bound is too small, or a job returned to another place "
-                     "than it was called from (frames of a shared stack, for one). While such a run is possible, a yes is "
-                     "worth nothing.")
-    return found
-
-
-def margin_warnings(facts: Facts) -> list[str]:
-    found = []
-    if facts.load() > 1:
-        found.append(f"The tasks ask for {per_cent(facts.load(), 1)} of the core. Above 100\u00a0% no order of priorities helps.")
-    left = [(task, task.deadline - window.response()) for task, window in zip(facts.tasks(), facts.windows)]
-    close = [f"{escape(task.name)} ({num(cycles)})" for task, cycles in left if 0 <= 100 * cycles < CLOSE * task.deadline]
-    if close:
-        found.append(f"Less than {CLOSE}\u00a0% of the deadline is left, in cycles: {', '.join(close)}. A small change of code, "
-                     "layout or platform may cost the yes.")
-    return found
-
-
-def stack_warnings(facts: Facts) -> list[str]:
-    """Tasks whose frames may meet in the one memory, by the starts of their stacks and the bytes that they take at most."""
-    bodies, found = facts.bodies, []
-    for start in sorted({body.stack_start for body in bodies}):
-        places = [place for place, body in enumerate(bodies) if body.stack_start == start]
-        used = [place for place in places if bodies[place].stack_bytes]
-        stated = [place for place in places if facts.tasks()[place].stack is not None]
-        if len(used) > 1:
-            found.append(f"{names(facts, used)} use one stack, from {start:#x} down. Jobs preempt each other in one memory, so "
-                         "each task needs a stack of its own. A job that overwrites another’s frames breaks the run, and the "
-                         "certificate says nothing of a broken run.")
-        elif len(stated) > 1:
-            found.append(f"{names(facts, stated)} state one stack, {start:#x}. Not more than one of them is seen to use it, so "
-                         "this is harmless until another does.")
-        if missing := [place for place in used if facts.tasks()[place].stack is None]:
-            found.append(f"No stack is stated for {names(facts, missing)}, whose code uses one. It starts at 0, from the end of "
-                         "memory down.")
-    if unknown := [place for place, body in enumerate(bodies) if body.stack_bytes is None]:
-        found.append(f"The code of {names(facts, unknown)} sets x2 by itself. Whether that stack meets another was not "
-                     "looked at.")
-    return found + close_stacks(facts)
-
-
-def close_stacks(facts: Facts) -> list[str]:
-    """Stacks that reach into the one below."""
-    order = sorted((body.stack_start, body.stack_bytes, place) for place, body in enumerate(facts.bodies) if body.stack_bytes)
-    return [f"{names(facts, [upper])} uses up to {counted(depth, 'byte')} below {high:#x}, and the stack of "
-            f"{names(facts, [lower])} begins only {counted(high - low, 'byte')} lower."
-            for (low, _, lower), (high, depth, upper) in zip(order, order[1:]) if low < high < low + depth]
-
-
-def names(facts: Facts, places: list[int]) -> str:
-    return listed(escape(facts.tasks()[place].name) for place in places)
 
 
 # ---- tasks and windows
