@@ -101,18 +101,17 @@ def decided(facts: Facts) -> Verdict:
 
 def schedulable(facts: Facts) -> Verdict:
     names = listed(escape(task.name) for task in facts.tasks())
-    sentences = [
-        f"Each job of {names} completes within its task’s certified response, and each response is within the deadline. This "
-        "holds for all arrivals that keep periods and jitters, from any cache and any memory.",
-        "It holds as long as jobs keep their stated loop bounds and return to where they were called. Of a run that is broken, "
-        "the certificate says nothing."]
+    promise = (f"As long as jobs keep their stated loop bounds and return to where they were called, each job of {names} "
+               "completes within its task’s certified response, and each response is within the deadline. This holds for all "
+               "arrivals that keep periods and jitters, from any cache and any memory. Of other runs the certificate says "
+               "nothing.")
     if isinstance(facts.run, Run) and not facts.run.kept:
-        return Verdict("odd", "!", "Accepted, but a run is broken", [
-            tag("strong", "The run of the script is broken, so this certificate says nothing of it, nor of others like it."),
-            *sentences], ["larger bounds of the loops that the run shows to be too small", "a stack of its own for each task"])
-    if found := cautions(facts):
-        sentences.append(tag("strong", f"There {'is' if len(found) == 1 else 'are'} {counted(len(found), 'warning')} below."))
-    return Verdict("good", "✓", "Every job meets its deadline", sentences)
+        return Verdict("odd", "!", "Accepted, but a run is broken", [tag("strong", "The certificate says nothing of the run of "
+                       "this script, in which a job broke a stated loop bound or a return."), promise],
+                       ["larger bounds of the loops that the run shows to be too small", "a stack of its own for each task"])
+    found = cautions(facts)
+    count = tag("strong", f"There {'is' if len(found) == 1 else 'are'} {counted(len(found), 'warning')} below.")
+    return Verdict("good", "✓", "Every job meets its deadline", [promise] + [count] * bool(found))
 
 
 def unschedulable(facts: Facts, name: str) -> Verdict:

@@ -15,6 +15,7 @@ from .reading import Task
 from .windows import Window
 
 REACH = 1.4  # bars of windows end at so many deadlines at most
+THIN = 0.5  # per cent of a row; thinner pieces of a window have no edge
 WIDE, NARROW = 780, 320  # pixels of a row on a screen and on a phone, for what fits into it
 SHAPES = Path(__file__).with_name("shapes.css")
 
@@ -205,7 +206,8 @@ def window_bar(tasks: list[Task], place: int, window: Window, reach: float) -> l
     for piece in pieces(tasks, place, window):
         width = min(100 * piece.cycles / deadline / reach, 100 - at)
         words = f"{piece.words}: {counted(piece.cycles, 'cycle')}, {per_cent(piece.cycles, window.response())} of the response"
-        parts.append(box(f"{piece.css} piece", f"{at:.3f}%", f"{width:.3f}%", 24, 3, words, piece.place))
+        css = f"{piece.css} piece" if width > THIN else piece.css
+        parts.append(box(css, f"{at:.3f}%", f"{width:.3f}%", 24, 3, words, piece.place))
         parts += piece_label(piece, at, width)
         at += width
     due = f"{100 / reach:.3f}%" if reach > 1 else "99.8%"

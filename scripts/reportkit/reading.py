@@ -105,7 +105,10 @@ def read_bytes(name: str) -> bytes:
 
 
 def read_toml(name: str) -> Raw:
-    return tomllib.loads(read_bytes(name).decode())
+    try:
+        return tomllib.loads(read_bytes(name).decode())
+    except ValueError as error:
+        raise Trouble(f"{name}: {error}") from error
 
 
 def read_set(raw: Raw) -> TaskSet:

@@ -10,7 +10,7 @@ from .markup import box, counted, hue, joined, num, step, tag, title
 from .pictures import Item, Mark, Picture, Row, sample, stroke
 from .reading import Job, Reload, Run
 
-CROWD = 150  # of more jobs in a row, the bars alone are drawn
+CROWD = 40  # of more jobs in a row, the bars alone are drawn
 TELL = 20  # of more jobs in a row, their number alone is told
 TOGETHER = 9  # so many reloads are told one by one where they stand together
 
