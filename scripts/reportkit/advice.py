@@ -7,9 +7,9 @@ from functools import cache
 from html import escape
 from pathlib import Path
 
-from .cautions import cautions
+from .cautions import cautions, names
 from .facts import Facts, Objection, Refusal
-from .markup import counted, listed, marked, num, tag
+from .markup import counted, marked, num, tag
 from .reading import Claim, Run
 from .windows import Window
 
@@ -100,11 +100,10 @@ def decided(facts: Facts) -> Verdict:
 
 
 def schedulable(facts: Facts) -> Verdict:
-    names = listed(escape(task.name) for task in facts.tasks())
-    promise = (f"As long as jobs keep their stated loop bounds and return to where they were called, each job of {names} "
-               "completes within its task’s certified response, and each response is within the deadline. This holds for all "
-               "arrivals that keep periods and jitters, from any cache and any memory. Of other runs the certificate says "
-               "nothing.")
+    promise = ("As long as jobs keep their stated loop bounds and return to where they were called, each job of "
+               f"{names(facts, range(len(facts.tasks())))} completes within its task’s certified response, and each response "
+               "is within the deadline. This holds for all arrivals that keep periods and jitters, from any cache and any "
+               "memory. Of other runs the certificate says nothing.")
     if isinstance(facts.run, Run) and not facts.run.kept:
         return Verdict("odd", "!", "Accepted, but a run is broken", [tag("strong", "The certificate says nothing of the run of "
                        "this script, in which a job broke a stated loop bound or a return."), promise],

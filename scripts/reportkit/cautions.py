@@ -1,12 +1,14 @@
 """What a yes does not cover, and what may soon cost it."""
 from __future__ import annotations
 
+from collections.abc import Sequence
 from html import escape
 
 from .facts import Facts
 from .markup import counted, listed, num, per_cent
 from .reading import Run
 
+MANY = 12  # more tasks are not named one by one
 CLOSE = 5  # a margin of fewer per cent of the deadline is warned of
 
 
@@ -70,5 +72,7 @@ def close_stacks(facts: Facts) -> list[str]:
             for (low, _, lower), (high, depth, upper) in zip(order, order[1:]) if low < high < low + depth]
 
 
-def names(facts: Facts, places: list[int]) -> str:
-    return listed(escape(facts.tasks()[place].name) for place in places)
+def names(facts: Facts, places: Sequence[int]) -> str:
+    """The names of some tasks; of many the first and the last."""
+    words = [escape(facts.tasks()[place].name) for place in places]
+    return listed(words) if len(words) <= MANY else f"{len(words)} tasks ({words[0]}, {words[1]}, .. {words[-1]})"

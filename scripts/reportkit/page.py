@@ -13,10 +13,12 @@ from .facts import Facts, Refusal, Request
 from .markup import counted, num, paragraph, per_cent, section, table, tag
 from .pictures import SHAPES, cache_picture, definitions, named, windows_picture
 from .reading import Claim, Platform, Run, Task, read_bytes, read_claims
-from .runs import busiest, run_picture, whole
+from .runs import busiest, is_late, run_picture, whole
 from .windows import Window
 
 OPEN_TABLES = 12  # of more tasks, the numbers of windows are folded up
+OPEN_ROWS = 12  # of more jobs or reloads, the table is folded up
+LISTED = 200  # so many jobs or reloads are listed
 STYLE = Path(__file__).with_name("page.css")
 
 
@@ -228,11 +230,42 @@ def run_section(facts: Facts) -> str:
     lines = [paragraph(f"{tag('strong', yes if good else no)}: {words if good else others}.", None if good else "alarm")
              for good, yes, words, no, others in said_of]
     axis = whole(facts, run)
-    pictures = [run_picture(facts, run, axis, True).html()]
+    pictures = [paragraph("Below a task’s name: its jobs, and the longest response of this run"
+                          + (". Nothing is certified." if facts.failing else ", of the certified one.")),
+                run_picture(facts, run, axis, True).html()]
     if near := busiest(run, axis):
         pictures += [paragraph("The longest stretch in which some job is between release and completion:"),
                      run_picture(facts, run, near, False).html()]
-    return section("Run", *lines, *pictures, ledger(facts, run))
+    return section("Run", *lines, *pictures, jobs_table(facts, run), reloads_table(run), ledger(facts, run))
+
+
+def folded(words: str, rows: list[list[str]], kinds: str, heads: list[str]) -> str:
+    """A table that is open where it is short; of a long one the first rows."""
+    if not rows:
+        return ""
+    caption = f"{words}; times in cycles" + (f"; the first {LISTED} of {num(len(rows))}" if len(rows) > LISTED else "")
+    return tag("details", tag("summary", words), table(caption, kinds, heads, rows[:LISTED]),
+               open="" if len(rows) <= OPEN_ROWS else None)
+
+
+def jobs_table(facts: Facts, run: Run) -> str:
+    """What the picture shows of each job, in numbers."""
+    rows = []
+    for job in run.jobs:
+        name, response = named(facts.place(job.task), f"{job.task} {job.number}"), facts.response(job.task)
+        own = num(job.end - job.arrival) if job.is_complete() else job.state
+        late = tag("span", f"✗ {own}", class_="alarm") if is_late(facts, job) else own
+        rows.append([name, num(job.arrival), num(job.release), num(job.end) if job.is_complete() else "–", late,
+                     "–" if response is None else num(response), num(facts.deadline(job.task))])
+    return folded("Each job of the run", rows, "lrrrrrr",
+                  ["Job", "Arrival", "Release", "Completion", "Response", "Certified response", "Deadline"])
+
+
+def reloads_table(run: Run) -> str:
+    """Each reload, with who evicted the block and who preempted."""
+    rows = [[num(reload.cycle), escape(f"{reload.task} {reload.number}"), str(reload.cache_set), escape(reload.evictor),
+             escape(reload.preemptor)] for reload in run.reloads]
+    return folded("Each reload of the run", rows, "rlrll", ["Cycle", "Job", "Cache set", "Evicted by", "Preempted by"])
 
 
 def ledger(facts: Facts, run: Run) -> str:

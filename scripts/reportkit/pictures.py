@@ -189,7 +189,7 @@ def windows_picture(facts: Facts) -> Picture:
     legend = [Item(sample(hue(0)), "execution, in the task’s colour: its own, then higher tasks’"),
               Item(sample("switch"), "switches")]
     legend += [Item(sample("blocking"), "blocking")] if facts.platform().switches_between_instructions() else []
-    legend += [Item(sample("reload"), "reloads (CRPD)"), Item(sample("jitter"), "jitter"),
+    legend += [Item(sample("reload"), "reloads (CRPD)"), Item(sample("jitter piece"), "jitter"),
                Item(stroke("due", "8", "8", 0, 12), "deadline")]
     return Picture("windows", legend, rows, "", [])
 
