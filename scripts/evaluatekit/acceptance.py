@@ -1,0 +1,252 @@
+"""The share of random sets that each method accepts, by utilization, cache sets and cost of a
+miss."""
+import random
+from collections import Counter
+from dataclasses import dataclass, replace
+
+from . import windows
+from .kernels import HUGE, Platform, Timed, set_text
+from .measuring import BASE, Evidence, Known, System, know, progress
+from .program import Job, Verdict
+
+# Utilizations in percent.
+UTILIZATIONS = range(5, 101, 5)
+# A task's share of the processor is a whole number of these parts of the set's.
+SHARES = 1 << 30
+# Of so many sets one is compared with `classic`, and of so many accepted ones one is run.
+CLASSIC_EVERY, RUN_EVERY = 5, 20
+LONGEST_RUN, MOST_JOBS = 200_000, 2_000
+
+# Methods of which the page tells how many sets one accepts and the other does not.
+PAIRS = [
+    ("ucb multiset", "ecb multiset"), ("plain ucb", "plain ecb"), ("plain ecb", "ecb only"),
+    ("ecb multiset", "plain ucb"), ("combination", "classic"), ("combination", "ecb only"),
+    ("refined", "combination"),
+]
+
+
+@dataclass(frozen=True)
+class Family:
+    """A kind of random sets: how many tasks they have, and which part of its period a jitter has at
+    most, in thousandths."""
+
+    name: str
+    tasks: int
+    jitter: int = 0
+    # Of the sets for each utilization, one in so many is drawn.
+    every: int = 1
+
+
+FAMILIES = [Family("5 tasks", 5), Family("8 tasks", 8), Family("8 tasks, jitter", 8, 100, 4)]
+SWEEPS = {"sets": [4, 8, 16, 32, 64, 128, 256, 512], "miss": [1, 2, 5, 10, 20, 40, 80]}
+SWEEP_FAMILY = FAMILIES[1]
+
+
+@dataclass(frozen=True)
+class Share:
+    """A kernel with its share of a set's utilization, in parts of SHARES, and its jitter in
+    thousandths of its period."""
+
+    kernel: str
+    parts: int
+    jitter: int
+
+
+@dataclass(frozen=True)
+class Draw:
+    """A random set before its platform is known."""
+
+    utilization: int
+    shares: list[Share]
+
+
+@dataclass(frozen=True)
+class Placed:
+    """A task of a drawn set on its platform."""
+
+    known: Known
+    period: int
+    jitter: int
+
+    @property
+    def name(self) -> str:
+        return self.known.part.name
+
+
+def split(rng: random.Random, count: int) -> list[int]:
+    """Shares that are evenly spread over all with the sum SHARES, as those of UUniFast; by whole
+    numbers alone, which are the same everywhere."""
+    cuts = sorted(rng.randrange(SHARES + 1) for _ in range(count - 1))
+    return [high - low for low, high in zip([0, *cuts], [*cuts, SHARES])]
+
+
+def draw(rng: random.Random, names: list[str], family: Family, utilization: int) -> Draw:
+    """Different kernels with random shares of a utilization."""
+    kernels, parts = rng.sample(names, family.tasks), split(rng, family.tasks)
+    jitters = [rng.randrange(family.jitter + 1) if family.jitter else 0 for _ in kernels]
+    return Draw(utilization, list(map(Share, kernels, parts, jitters)))
+
+
+def place(one: Draw, known: dict[str, Known]) -> list[Placed]:
+    """The tasks with periods by their bounds, and the shorter deadline before the longer one."""
+    found = []
+    for share in one.shares:
+        kernel = known[share.kernel]
+        wanted = -(-kernel.part.bound * SHARES * 100 // (max(share.parts, 1) * one.utilization))
+        period = min(HUGE, wanted)
+        found.append(Placed(kernel, period, period * share.jitter // 1000))
+    return sorted(found, key=lambda task: task.period)
+
+
+def agrees(names: list[str], found: list[windows.Window], verdict: Verdict) -> bool:
+    """Whether all windows and methods are the program's, or the first task without a window is."""
+    if len(found) == len(names):
+        return found == verdict.windows
+    return names[len(found)] == verdict.failed
+
+
+# The commands whose verdicts are compared with recomputed ones, with their method, and in how many
+# sets one is. A program that does not know a command is not asked.
+COMPARED = {"analyze": ("combination", 1), "classic": ("classic", CLASSIC_EVERY),
+            "refine": ("refined", CLASSIC_EVERY)}
+
+
+class Tally:
+    """Counts over many sets of a platform: who accepts, and whether the recomputation agrees."""
+
+    def __init__(self, system: System, platform: Platform, evidence: Evidence,
+                 rng: random.Random) -> None:
+        self.system, self.platform, self.evidence = system, platform, evidence
+        self.rng, self.known = rng, know(system, platform)
+        self.sets = self.accepted_by_crpd = self.disorder = 0
+        self.compared: Counter[str] = Counter()
+        self.agree: Counter[str] = Counter()
+        self.only = {f"{a} > {b}": 0 for pair in PAIRS for a, b in (pair, pair[::-1])}
+        self.commands = {command: how for command, how in COMPARED.items()
+                         if system.crpd.knows(command)}
+
+    def look(self, one: Draw) -> set[str]:
+        """The methods that accept a set."""
+        tasks = place(one, self.known)
+        found = windows.windows_by_all(windows.TaskSet(
+            [task.known.task(task.period, task.jitter) for task in tasks],
+            self.platform.switch, self.platform.miss))
+        self.compare(tasks, found)
+        self.disorder += sum(not windows.never_longer(found[a], found[b]) for a, b in windows.ORDER)
+        accepting = {method for method, by in found.items() if len(by) == len(tasks)}
+        for pair in self.only:
+            first, second = pair.split(" > ")
+            self.only[pair] += first in accepting and second not in accepting
+        self.sets += 1
+        return accepting
+
+    def compare(self, tasks: list[Placed], found: dict[str, list[windows.Window]]) -> None:
+        """Asks `crpd` for its windows, and lets an accepted set run now and then."""
+        crpd, names = self.system.crpd, [task.name for task in tasks]
+        text = set_text(self.platform, [Timed(self.system.kernels[task.name], task.period,
+                                              task.jitter) for task in tasks])
+        for command, (method, every) in self.commands.items():
+            if self.sets % every == 0:
+                verdict = crpd.verdict(command, text)
+                self.compared[command] += 1
+                self.agree[command] += agrees(names, found[method], verdict)
+                if command == "analyze" and not verdict.failed:
+                    self.accepted_by_crpd += 1
+                    if self.accepted_by_crpd % RUN_EVERY == 0:
+                        self.run(tasks, verdict.windows, found["refined"])
+
+    def run(self, tasks: list[Placed], certified: list[windows.Window],
+            by_points: list[windows.Window]) -> None:
+        """Lets the set in set.toml run twice: from its critical instant, and from random phases."""
+        latest = max(task.jitter for task in tasks)
+        cycles = min(LONGEST_RUN, latest + 2 * certified[-1].length + 1)
+        phases = [self.rng.randrange(min(task.period, cycles)) for task in tasks]
+        for releases in ([latest] * len(tasks), [latest + phase for phase in phases]):
+            run = self.system.crpd.run(cycles, jobs(tasks, releases, cycles))
+            self.evidence.look(run, *(
+                {task.name: window.length + task.jitter for task, window in zip(tasks, windows_by)}
+                for windows_by in (certified, by_points)))
+
+    def numbers(self) -> dict:
+        return {"sets": self.sets, "accepted by crpd": self.accepted_by_crpd,
+                "compared": dict(self.compared), "agree": dict(self.agree),
+                "out of order": self.disorder, "only": self.only}
+
+
+def jobs(tasks: list[Placed], releases: list[int], cycles: int) -> list[Job]:
+    """The jobs of a run: each task's first with all its jitter, and then one a period."""
+    found = []
+    for task, release in zip(tasks, releases):
+        first = release - task.jitter
+        found.append(Job(task.name, first, release))
+        found += [Job(task.name, at, at)
+                  for at in range(first + task.period, cycles, task.period)]
+    return found[:MOST_JOBS]
+
+
+def family_numbers(system: System, family: Family, each: int, evidence: Evidence) -> dict:
+    """How many sets of a family each method accepts, by utilization."""
+    rng = system.generator("sets", family.name)
+    tally = Tally(system, BASE, evidence, system.generator("phases", family.name))
+    here = max(1, each // family.every)
+    accepted: dict[str, list[int]] = {method: [] for method in windows.METHODS}
+    for utilization in UTILIZATIONS:
+        counts: Counter[str] = Counter()
+        for _ in range(here):
+            counts.update(tally.look(draw(rng, list(system.kernels), family, utilization)))
+        for method, counted in accepted.items():
+            counted.append(counts[method])
+        progress(f"acceptance: {family.name}, utilization {utilization} percent")
+    return {"tasks": family.tasks, "jitter": family.jitter, "each": here, "accepted": accepted,
+            **tally.numbers()}
+
+
+def measure(system: System, each: int) -> dict:
+    """The numbers of all families, with so many sets for each utilization."""
+    evidence = Evidence()
+    families = {family.name: family_numbers(system, family, each, evidence) for family in FAMILIES}
+    return {"utilizations": list(UTILIZATIONS), "families": families,
+            "evidence": evidence.numbers()}
+
+
+def sweep_numbers(system: System, key: str, values: list[int], draws: list[Draw],
+                  evidence: Evidence) -> dict:
+    """The utilizations of accepted sets, summed up, for each value of a key of the platform."""
+    sums: dict[str, list[int]] = {method: [] for method in windows.METHODS}
+    tallies = []
+    for value in values:
+        phases = system.generator("phases", key, value)
+        tally = Tally(system, replace(BASE, **{key: value}), evidence, phases)
+        weights: Counter[str] = Counter()
+        for one in draws:
+            weights.update(dict.fromkeys(tally.look(one), one.utilization))
+        for method, summed in sums.items():
+            summed.append(weights[method])
+        tallies.append(tally.numbers())
+        progress(f"weighted: {key} {value}")
+    return {"values": values, "sums": sums, **added(tallies)}
+
+
+def added(tallies: list[dict]) -> dict:
+    """The sums of counts, key by key."""
+    total: dict = {}
+    for tally in tallies:
+        for key, value in tally.items():
+            if isinstance(value, dict):
+                total[key] = added([total.get(key, {}), value])
+            else:
+                total[key] = total.get(key, 0) + value
+    return total
+
+
+def measure_weighted(system: System, each: int) -> dict:
+    """Weighted schedulability against the number of cache sets and the cost of a miss, with the
+    same draws at each value."""
+    evidence, rng = Evidence(), system.generator("sweep")
+    draws = [draw(rng, list(system.kernels), SWEEP_FAMILY, utilization)
+             for utilization in UTILIZATIONS for _ in range(max(1, each // len(UTILIZATIONS)))]
+    sweeps = {key: sweep_numbers(system, key, values, draws, evidence)
+              for key, values in SWEEPS.items()}
+    return {"tasks": SWEEP_FAMILY.tasks, "draws": len(draws),
+            "utilization": sum(one.utilization for one in draws), "sweeps": sweeps,
+            "evidence": evidence.numbers()}

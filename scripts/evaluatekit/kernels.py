@@ -1,0 +1,172 @@
+"""The kernels of examples/kernels, their image, and the task sets that are made of them."""
+import json
+import struct
+import tomllib
+from collections.abc import Iterable
+from dataclasses import dataclass, replace
+from pathlib import Path
+
+from .ending import stop
+
+# A period that no window reaches.
+HUGE = 1 << 40
+
+
+@dataclass(frozen=True)
+class Platform:
+    """The numbers of a core: bytes of a line, cache sets, and cycles."""
+
+    line: int = 16
+    sets: int = 32
+    hit: int = 1
+    miss: int = 10
+    data: int = 1
+    taken: int = 2
+    mul: int = 3
+    div: int = 20
+    switch: int = 20
+
+    def text(self) -> str:
+        keys = ("line", "sets", "hit", "miss", "data", "taken", "mul", "div", "switch")
+        return "[platform]\n" + "".join(f"{key} = {getattr(self, key)}\n" for key in keys)
+
+
+@dataclass(frozen=True)
+class Loop:
+    """A stated loop, with its places as a task set writes them."""
+
+    head: str
+    bound: int
+    ranges: list[list[str]]
+
+    def text(self) -> str:
+        return (f'[[task.loop]]\nhead = "{self.head}"\nbound = {self.bound}\n'
+                f"range = {json.dumps(self.ranges)}\n")
+
+
+@dataclass(frozen=True)
+class Kernel:
+    """A kernel: its entry, which is its name, and its loops."""
+
+    name: str
+    loops: list[Loop]
+
+
+@dataclass(frozen=True)
+class Timed:
+    """A task of a set: a kernel with its period, which is its deadline, and its jitter."""
+
+    kernel: Kernel
+    period: int
+    jitter: int = 0
+    name: str = ""
+
+    def text(self, place: int) -> str:
+        """The task's tables. `place` counts the tasks of the set: each has a stack of its own."""
+        entry = self.kernel.name
+        keys = (f'name = "{self.name or entry}"\nfile = "kernels.elf"\nentry = "{entry}"\n'
+                f"period = {self.period}\ndeadline = {self.period}\njitter = {self.jitter}\n"
+                f'stack = "stack_{place}"\n')
+        return "[[task]]\n" + keys + "".join(loop.text() for loop in self.kernel.loops)
+
+
+def set_text(platform: Platform, tasks: Iterable[Timed]) -> str:
+    """The task set's file; the tasks stand in the order of priority."""
+    return platform.text() + "".join(task.text(place) for place, task in enumerate(tasks))
+
+
+def read_kernels(path: Path) -> dict[str, Kernel]:
+    """The kernels of a task set by name, in its order."""
+    with path.open("rb") as handle:
+        tasks = tomllib.load(handle)["task"]
+    return {task["entry"]: Kernel(task["entry"], [Loop(loop["head"], loop["bound"], loop["range"])
+                                                  for loop in task.get("loop", [])])
+            for task in tasks}
+
+
+@dataclass(frozen=True)
+class Symbol:
+    """A symbol: its address, and how many bytes it names."""
+
+    address: int
+    size: int
+
+
+@dataclass(frozen=True)
+class Segment:
+    """The bytes of a segment that stand in the file."""
+
+    address: int
+    offset: int
+    size: int
+    executable: bool
+
+    def holds(self, symbol: Symbol) -> bool:
+        end = self.address + self.size
+        return self.address <= symbol.address and symbol.address + symbol.size <= end
+
+
+@dataclass(frozen=True)
+class Image:
+    """The ELF file of the kernels, whose data can be changed."""
+
+    content: bytes
+    segments: list[Segment]
+    symbols: dict[str, Symbol]
+
+    def offset(self, symbol: Symbol) -> int:
+        """Where the bytes of a symbol stand in the file."""
+        for segment in self.segments:
+            if segment.holds(symbol):
+                return segment.offset + symbol.address - segment.address
+        stop(f"nothing stands in the file for {symbol.address:08x}")
+
+    def word(self, address: int) -> int:
+        """The word at an address."""
+        return struct.unpack_from("<I", self.content, self.offset(Symbol(address, 4)))[0]
+
+    def data(self, kernel: str) -> list[Symbol]:
+        """The data that a kernel starts with: its symbols in the file's part of the data
+        segment."""
+        data = [segment for segment in self.segments if not segment.executable]
+        found = [symbol for name, symbol in self.symbols.items()
+                 if name.startswith(f"{kernel}_") and any(part.holds(symbol) for part in data)]
+        return sorted(found, key=lambda symbol: symbol.address)
+
+    def values(self, kernel: str) -> bytes:
+        """The bytes of a kernel's data."""
+        places = [(self.offset(symbol), symbol.size) for symbol in self.data(kernel)]
+        return b"".join(self.content[at:at + size] for at, size in places)
+
+    def with_values(self, kernel: str, values: bytes) -> "Image":
+        """The image with other bytes in a kernel's data."""
+        changed, used = bytearray(self.content), 0
+        for symbol in self.data(kernel):
+            at = self.offset(symbol)
+            changed[at:at + symbol.size] = values[used:used + symbol.size]
+            used += symbol.size
+        return replace(self, content=bytes(changed))
+
+
+def read_image(content: bytes) -> Image:
+    """The image of an ELF32 file: its loaded segments, and the symbols of its symbol table."""
+    segments, sections = struct.unpack_from("<II", content, 28)
+    _, segment_count, _, section_count = struct.unpack_from("<HHHH", content, 42)
+    headers = [struct.unpack_from("<8I", content, segments + 32 * n) for n in range(segment_count)]
+    loaded = [Segment(address, offset, size, flags & 1 == 1)
+              for kind, offset, address, _, size, _, flags, _ in headers if kind == 1]
+    tables = [struct.unpack_from("<10I", content, sections + 40 * n) for n in range(section_count)]
+    symbols: dict[str, Symbol] = {}
+    for table in tables:
+        if table[1] == 2:
+            read_symbols(content, table[4], table[5], tables[table[6]][4], symbols)
+    return Image(content, loaded, symbols)
+
+
+def read_symbols(content: bytes, offset: int, size: int, names: int,
+                 symbols: dict[str, Symbol]) -> None:
+    """Adds the symbols of a symbol table; the first of each name counts."""
+    for at in range(offset, offset + size, 16):
+        name, address, length = struct.unpack_from("<III", content, at)
+        text = content[names + name:content.index(b"\0", names + name)].decode("ascii")
+        symbols.setdefault(text, Symbol(address, length))

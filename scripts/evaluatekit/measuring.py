@@ -1,0 +1,117 @@
+"""What all measurements share: the system that is evaluated, its random numbers, and the evidence
+of its runs."""
+import random
+import sys
+from dataclasses import asdict, dataclass
+
+from . import windows
+from .ending import stop
+from .kernels import HUGE, Image, Kernel, Platform, Timed, set_text
+from .points import Flow, largest
+from .program import Crpd, Part, Run
+
+BASE = Platform()
+
+
+@dataclass(frozen=True)
+class System:
+    """What is evaluated, with the seed of all random numbers."""
+
+    crpd: Crpd
+    kernels: dict[str, Kernel]
+    image: Image
+    seed: str
+
+    def generator(self, *names: object) -> random.Random:
+        """Random numbers of their own for each use, so that one use does not change another."""
+        return random.Random("/".join([self.seed, *map(str, names)]))
+
+
+def progress(words: str) -> None:
+    """Tells on standard error how far the evaluation is."""
+    print(words, file=sys.stderr, flush=True)
+
+
+def mask(sets: list[int]) -> int:
+    """A set of cache sets as a number with a bit for each."""
+    return sum(1 << one for one in sets)
+
+
+@dataclass(frozen=True)
+class Known:
+    """What is known of a kernel on a platform: its part of a certificate, and the largest of the
+    sets that are useful at single nodes, which the evaluation works out itself."""
+
+    part: Part
+    points: tuple[int, ...]
+    code_bytes: int
+
+    @property
+    def useful_at_once(self) -> int:
+        """How many cache sets are useful at one node at most."""
+        return max(point.bit_count() for point in self.points)
+
+    def task(self, period: int, jitter: int = 0, bound: int | None = None) -> windows.Task:
+        """The kernel as a task whose deadline is its period, with another bound where one is
+        given."""
+        part = self.part
+        return windows.Task(part.bound if bound is None else bound, mask(part.evicting),
+                            mask(part.useful), period, period, jitter, self.points)
+
+
+def know(system: System, platform: Platform) -> dict[str, Known]:
+    """All kernels on a platform, by one analysis of them together. That the recomputed cache sets
+    are those of the certificate is looked at, too."""
+    tasks = [Timed(kernel, HUGE) for kernel in system.kernels.values()]
+    parts = system.crpd.certificate(set_text(platform, tasks))
+    return {part.name: know_kernel(system.image, platform, part) for part in parts}
+
+
+def know_kernel(image: Image, platform: Platform, part: Part) -> Known:
+    graph = Flow(image, image.symbols[part.name].address)
+    useful = set(graph.useful(platform.line, platform.sets).values())
+    union = 0
+    for one in useful:
+        union |= one
+    if (union, graph.evicting(platform.line, platform.sets), len(graph.after)) != (
+            mask(part.useful), mask(part.evicting), part.nodes):
+        stop(f"{part.name} has other cache sets or nodes than its certificate")
+    return Known(part, largest(useful), graph.code_bytes())
+
+
+@dataclass
+class Evidence:
+    """Runs, and how many jobs of the legal and kept ones were later than certified. A job counts
+    where it answered, or where the run went on beyond its response. `explained` are runs whose
+    reloads were looked at."""
+
+    runs: int = 0
+    kept: int = 0
+    jobs: int = 0
+    late: int = 0
+    late_by_points: int = 0
+    explained: int = 0
+    above_delay: int = 0
+
+    def look(self, run: Run, responses: dict[str, int], by_points: dict[str, int]) -> None:
+        """Compares the jobs of a run with the responses of their tasks. `by_points` are those with
+        the delays by points, which are not certified."""
+        self.runs += 1
+        if not run.legal_and_kept:
+            return
+        self.kept += 1
+        for job, answer in run.jobs:
+            taken = (run.cycles if answer is None else answer) - job.arrival
+            if answer is not None or taken > responses[job.task]:
+                self.jobs += 1
+                self.late += taken > responses[job.task]
+            self.late_by_points += taken > by_points[job.task]
+
+    def look_at_reloads(self, lines: list[list[str]], cycles: int, delay: int) -> None:
+        """Compares the cycles of reloads of a job in an explained run with the certified delay."""
+        if lines[-1] == ["run", "legal", "kept"]:
+            self.explained += 1
+            self.above_delay += cycles > delay
+
+    def numbers(self) -> dict[str, int]:
+        return asdict(self)

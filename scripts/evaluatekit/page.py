@@ -1,0 +1,92 @@
+"""Writes the page and its plots: a function of the numbers and of the page's text."""
+import json
+import re
+import textwrap
+from pathlib import Path
+
+from . import prose
+from .ending import stop
+from .plots import PLOTS
+from .tables import TABLES
+
+TEXT = Path(__file__).parent / "page.md"
+PARTS = ["bounds", "responses", "acceptance", "weighted", "times"]
+WIDTH = 100
+NAMED = re.compile(r"\{\{([^}]+)\}\}")
+
+
+def load(folder: Path, part: str) -> dict:
+    """The stored numbers of a part."""
+    path = folder / "evaluation" / f"{part}.json"
+    if not path.exists():
+        stop(f"{part} is not measured: there is no {path.name}")
+    return json.loads(path.read_text(encoding="ascii"))
+
+
+def load_all(folder: Path) -> dict:
+    return {part: load(folder, part) for part in PARTS}
+
+
+def store(folder: Path, part: str, numbers: dict) -> None:
+    """Stores the numbers of a part, a line for each list of numbers."""
+    (folder / "evaluation").mkdir(parents=True, exist_ok=True)
+    text = json.dumps(numbers, indent=1)
+    text = re.sub(r"\[[^][{}]*\]", lambda found: " ".join(found[0].split()), text)
+    path = folder / "evaluation" / f"{part}.json"
+    path.write_text(text + "\n", encoding="ascii")
+
+
+def page_text(numbers: dict) -> str:
+    """The page: its text, with a value or a table for each name in double braces."""
+    known: dict[str, object] = prose.values(numbers)
+    known |= {name: make(numbers) for name, make in TABLES.items()}
+    text = TEXT.read_text(encoding="utf-8")
+    if unknown := sorted({name for name in NAMED.findall(text) if name not in known}):
+        stop(f"the page's text names {', '.join(unknown)}, which is no value")
+    told = NAMED.sub(lambda found: str(known[found[1]]), text)
+    return "\n\n".join(map(wrapped, told.rstrip("\n").split("\n\n"))) + "\n"
+
+
+def wrapped(block: str) -> str:
+    """A paragraph or list with lines of at most WIDTH; headings, tables and pictures as they
+    are."""
+    if block.startswith(("#", "|", "!")):
+        return block
+    if block.startswith("- "):
+        items = block.removeprefix("- ").split("\n- ")
+        return "\n".join(filled(item, "- ") for item in items)
+    return filled(block)
+
+
+def filled(text: str, first: str = "") -> str:
+    return textwrap.fill(" ".join(text.split()), WIDTH, initial_indent=first,
+                         subsequent_indent=" " * len(first), break_long_words=False,
+                         break_on_hyphens=False)
+
+
+def files(numbers: dict) -> dict[str, str]:
+    """All that is made of the numbers: the page and the plots, by place."""
+    made = {f"evaluation/{name}.svg": plot(numbers[name]).svg() for name, plot in PLOTS.items()}
+    return {"EVALUATION.md": page_text(numbers)} | made
+
+
+def figures(numbers: dict) -> str:
+    """The two main figures, as the README says them."""
+    known = prose.values(numbers)
+    return (f"Certified responses are {known['response ratios']} times the longest that a search "
+            f"over releases found. Of {known['sets of 5 tasks']} random sets of 5 kernels `analyze` "
+            f"accepts {known['combination, 5 tasks']} %, the plain union delays "
+            f"{known['classic, 5 tasks']} %, and ECB-only {known['ecb only, 5 tasks']} %.")
+
+
+def false_statements(numbers: dict) -> list[str]:
+    """The statements of the page that do not hold for the numbers."""
+    return [words for words, holds in prose.statements(numbers).items() if not holds]
+
+
+def write(folder: Path, numbers: dict) -> None:
+    """Writes the page and the plots, where all that the page says holds."""
+    if wrong := false_statements(numbers):
+        stop("the page says what the numbers do not: " + "; ".join(wrong))
+    for place, text in files(numbers).items():
+        (folder / place).write_text(text, encoding="utf-8")

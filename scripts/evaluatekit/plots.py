@@ -1,0 +1,239 @@
+"""The plots of the page, made from the numbers alone."""
+from dataclasses import dataclass
+
+from . import bounds
+from .charts import Axis, Box, Drawing, Mark, Panel, Point, Style, legend, marks
+
+# How each method is told and drawn. The wide ones come last, before the others.
+METHODS = {
+    "none": Style("no reloads counted (unsafe)", "grey", dash="1.5 3", width=2),
+    "refined": Style("by points (not certified yet)", "purple", "down", "9 3", 2.2, "open"),
+    "combination": Style("crpd analyze: both multisets", "blue", "circle", width=2.6),
+    "ucb multiset": Style("UCB-union multiset", "orange", "up"),
+    "ecb multiset": Style("ECB-union multiset", "green", "square"),
+    "classic": Style("crpd classic: both plain unions", "blue", "circle", "5 3", 1.8, "open"),
+    "plain ucb": Style("plain UCB-union", "orange", "up", "5 3", 1.8, "open"),
+    "plain ecb": Style("plain ECB-union", "green", "square", "5 3", 1.8, "open"),
+    "ecb only": Style("ECB-only (all that is evicted)", "red", "diamond", "7 3 1.5 3"),
+}
+# The curves of the upper panels; the lower ones have all but the first two, over ECB-only.
+MAIN = ["none", "refined", "ecb only", "classic", "combination"]
+GAINS = ["plain ecb", "plain ucb", "ecb multiset", "ucb multiset", "classic", "combination"]
+
+
+def percent(part: int, whole: int) -> float:
+    return 100 * part / whole
+
+
+# Bounds
+
+BOUNDS = {
+    "free misses": Style("misses cost nothing", "grey", "circle", width=0, filling="open"),
+    "32 sets": Style("32 sets, a miss costs 10", "blue", "square", width=0),
+    "8 sets": Style("8 sets, a miss costs 10", "red", "tall", width=0, filling="clear"),
+}
+
+
+def ratio(row: dict, platform: str) -> float:
+    """The certified bound over the longest execution seen."""
+    return row["bound"][platform] / row["seen"][platform]
+
+
+def bounds_plot(numbers: dict) -> Drawing:
+    """The ratio of each kernel, the greatest on top."""
+    rows = sorted(numbers["kernels"].items(), key=lambda row: ratio(row[1], bounds.BASE_NAME))
+    drawing = Drawing(760, 118 + 23 * len(rows), "Certified bounds over longest runs",
+                      "For each kernel the certified execution bound divided by the longest "
+                      "execution seen, with free misses, with 32 and with 8 cache sets.")
+    top = max(ratio(row, platform) for _, row in rows for platform in BOUNDS)
+    steps = [1 + 0.5 * n for n in range(int(2 * top))]
+    panel = Panel(drawing, Box(90, 50, 640, 23 * len(rows)),
+                  Axis(0.9, max(top + 0.2, 2), [m for m in marks(steps) if m.value <= top + 0.2],
+                       "certified bound / longest execution seen"),
+                  Axis(-0.5, len(rows) - 0.5,
+                       [m for n, (name, _) in enumerate(rows) for m in marks([n], name)])).frame()
+    for n, (name, row) in enumerate(rows):
+        for platform, style in BOUNDS.items():
+            title = (f"{name}, {style.label}: bound {row['bound'][platform]}, seen "
+                     f"{row['seen'][platform]}, ratio {ratio(row, platform):.2f}")
+            drawing.marker(panel.x(ratio(row, platform)), panel.y(n), style, title)
+    legend(drawing, 90, 28, [0, 190, 400], list(BOUNDS.values()))
+    return drawing
+
+
+# Responses
+
+CAUSES = {
+    "jitter": Style("jitter", "grey", hatch="dotted"),
+    "bound": Style("own bound", "blue"),
+    "higher": Style("bounds of higher jobs", "sky", hatch="rising"),
+    "switches": Style("switches", "green", hatch="upright"),
+    "delay": Style("reload delays", "red", hatch="crossed"),
+}
+SEEN = Style("longest response seen", "ink", "diamond", width=0)
+BY_RUNS = Style("by longest runs (unsafe)", "ink", "bar", width=0)
+BY_POINTS = Style("by points (not certified yet)", "purple", "down", width=0)
+
+
+def response_bar(panel: Panel, y: float, row: dict) -> None:
+    """A task's certified response by causes, with the marks of other responses."""
+    drawing, at, whole = panel.drawing, 0, row["response"]
+    for key, style in CAUSES.items():
+        left, right = panel.x(percent(at, whole)), panel.x(percent(at + row[key], whole))
+        if row[key]:
+            drawing.bar(Box(left, y, right - left, 15), style,
+                        f"{row['task']}, {style.label}: {row[key]} of {whole} cycles")
+        at += row[key]
+    for key, style in (("by points", BY_POINTS), ("by runs", BY_RUNS), ("seen", SEEN)):
+        drawing.marker(panel.x(percent(row[key], whole)), y + 7.5, style,
+                       f"{row['task']}, {style.label}: {row[key]} cycles")
+    drawing.text(89, y + 12, row["task"], "end")
+    drawing.text(746, y + 12, f"{whole} cycles, {whole / row['seen']:.2f} times seen", look="faint")
+
+
+def responses_plot(numbers: dict) -> Drawing:
+    """The responses of all sets as shares of the certified ones."""
+    count = sum(len(rows) for rows in numbers["sets"].values())
+    height = 21 * count + 26 * len(numbers["sets"])
+    drawing = Drawing(940, height + 128, "Certified responses by cause, with the longest seen",
+                      "For each task the certified response, divided into jitter, bounds, switches "
+                      "and delays, and in it the longest response seen.")
+    panel = Panel(drawing, Box(96, 70, 640, height),
+                  Axis(0, 100, marks([0, 20, 40, 60, 80, 100], "{:g} %"),
+                       "share of the certified response"), Axis(0, 1, [])).frame()
+    y = 70.0
+    for name, rows in numbers["sets"].items():
+        y += 26
+        drawing.text(20, y - 7, name, look="bold")
+        for row in rows:
+            response_bar(panel, y, row)
+            y += 21
+    legend(drawing, 96, 28, [0, 105, 230, 420, 525], list(CAUSES.values()))
+    legend(drawing, 96, 50, [-10, 180, 375], [SEEN, BY_RUNS, BY_POINTS])
+    return drawing
+
+
+# Acceptance
+
+@dataclass(frozen=True)
+class Curves:
+    """The values of each method in percent, at some places across, which the titles of markers
+    name."""
+
+    title: str
+    across: Axis
+    xs: list[float]
+    places: list[str]
+    values: dict[str, list[float]]
+
+    def points(self, method: str) -> list[Point]:
+        """The curve of a method."""
+        return [Point(x, value, f"{METHODS[method].label}, {place}: {value:.1f} %")
+                for x, value, place in zip(self.xs, self.values[method], self.places)]
+
+    def gains(self, method: str) -> list[Point]:
+        """How much a method is above ECB-only."""
+        over = self.values["ecb only"]
+        return [Point(x, value - base, f"{METHODS[method].label}, {place}: {value - base:+.1f} "
+                                       "points above ECB-only")
+                for x, value, base, place in zip(self.xs, self.values[method], over, self.places)]
+
+
+def two_by_two(drawing: Drawing, columns: list[Curves], what: str) -> None:
+    """A column of two panels for each of the curves: the values, and the gains over ECB-only."""
+    gains = [point.y for curves in columns for method in GAINS
+             for point in curves.gains(method)]
+    least, most = 5 * int(min(gains) // 5), 5 * int(-(-max(gains) // 5))
+    low = 10 * int(min(point.y for curves in columns for method in MAIN
+                       for point in curves.points(method)) // 10)
+    for n, curves in enumerate(columns):
+        left, first = 80 + 430 * n, n == 0
+        step = 20 if low == 0 else 10
+        upper = Panel(drawing, Box(left, 116, 366, 230), curves.across,
+                      Axis(low, 100, marks(list(range(low, 101, step)), "{:g} %"),
+                           what if first else "")).frame(curves.title)
+        lower = Panel(drawing, Box(left, 420, 366, 190), curves.across,
+                      Axis(least, most, [Mark(gain, f"{gain:+}" if gain else "0")
+                                   for gain in range(least, most + 1, 5)],
+                           "above ECB-only, in points" if first else "")).frame()
+        drawing.line((left, lower.y(0)), (left + 366, lower.y(0)), "red", 1.8,
+                     METHODS["ecb only"].dash)
+        for method in MAIN:
+            upper.curve(curves.points(method), METHODS[method])
+        for method in GAINS:
+            lower.curve(curves.gains(method), METHODS[method])
+    legend(drawing, 80, 26, [0, 270, 540], list(METHODS.values()))
+
+
+def acceptance_plot(numbers: dict) -> Drawing:
+    """Accepted sets against utilization, from where not all are accepted."""
+    first = next(n for n, u in enumerate(numbers["utilizations"]) if u >= 40)
+    utilizations = numbers["utilizations"][first:]
+    drawing = Drawing(900, 664, "Accepted sets against utilization",
+                      "The share of random sets that each method accepts, for 5 and for 8 tasks; "
+                      "below, how much it is above that of ECB-only.")
+    xs = [u / 100 for u in utilizations]
+    across = Axis(0.4, 1.0, marks([0.4, 0.5, 0.6, 0.7, 0.8, 0.9, 1.0], "{:.1f}"),
+                  "utilization, sum of bound / period")
+    columns = []
+    for name in ("5 tasks", "8 tasks"):
+        family = numbers["families"][name]
+        values = {method: [percent(count, family["each"]) for count in counts[first:]]
+                  for method, counts in family["accepted"].items()}
+        places = [f"{name}, utilization {x:.2f}" for x in xs]
+        columns.append(Curves(name, across, xs, places, values))
+    two_by_two(drawing, columns, "accepted sets")
+    return drawing
+
+
+SWEEPS = {"sets": ("size of the cache", "cache sets (lines of 16 bytes); a miss costs 10"),
+          "miss": ("cost of a miss", "cycles of a miss; 32 cache sets")}
+
+
+def weighted_plot(numbers: dict) -> Drawing:
+    """Weighted schedulability against cache sets and the cost of a miss."""
+    drawing = Drawing(900, 664, "Weighted schedulability",
+                      "Accepted sets weighted with their utilizations, against the number of cache "
+                      "sets and the cost of a miss; below, how much that is above ECB-only.")
+    columns = []
+    for key, (title, label) in SWEEPS.items():
+        sweep = numbers["sweeps"][key]
+        xs = [float(n) for n in range(len(sweep["values"]))]
+        ticks = [mark for x, value in zip(xs, sweep["values"]) for mark in marks([x], str(value))]
+        values = {method: [percent(total, numbers["utilization"]) for total in sums]
+                  for method, sums in sweep["sums"].items()}
+        places = [f"{key} {value}" for value in sweep["values"]]
+        columns.append(Curves(f"{numbers['tasks']} tasks, {title}",
+                              Axis(-0.3, xs[-1] + 0.3, ticks, label), xs, places, values))
+    two_by_two(drawing, columns, "weighted schedulability")
+    return drawing
+
+
+# Times
+
+TIMES = {"analyze": Style("analyze", "blue", "circle"),
+         "check": Style("check", "red", "diamond", "7 3 1.5 3"),
+         "classic": Style("classic", "orange", "up", "5 3", 1.8, "open")}
+
+
+def times_plot(numbers: dict) -> Drawing:
+    """The processor time of each command against the number of tasks."""
+    drawing = Drawing(560, 330, "Processor time against the number of tasks",
+                      "Milliseconds of analyze, check and classic for 1 to 32 tasks.")
+    rows = numbers["rows"]
+    top = max(row[command] for row in rows for command in TIMES) // 1000 + 1
+    step = max(1, top // 6)
+    panel = Panel(drawing, Box(70, 50, 460, 220),
+                  Axis(0, 33, marks([1, 4, 8, 12, 16, 20, 24, 28, 32]), "tasks"),
+                  Axis(0, top, marks(list(range(0, top + 1, step))),
+                       "milliseconds of processor time")).frame()
+    for command, style in TIMES.items():
+        panel.curve([Point(row["tasks"], row[command] / 1000,
+                           f"{command}, {row['tasks']} tasks: {row[command] / 1000:.1f} ms")
+                     for row in rows], style)
+    legend(drawing, 70, 30, [0, 140, 260], list(TIMES.values()))
+    return drawing
+
+
+PLOTS = {"bounds": bounds_plot, "responses": responses_plot, "acceptance": acceptance_plot,
+         "weighted": weighted_plot, "times": times_plot}

@@ -1,0 +1,267 @@
+"""The numbers in the page's sentences, and the statements that its sentences make.
+
+Each value has a name, by which the page's text names it. Each statement is what a sentence says in
+words; where it does not hold for the numbers, no page is written.
+"""
+from . import bounds
+from .acceptance import CLASSIC_EVERY, RUN_EVERY
+from .plots import percent, ratio
+from .tables import PARTS, all_evidence, commands, tallies, thousands
+
+Values = dict[str, object]
+BASE, FREE = bounds.BASE_NAME, "free misses"
+# Up to this ratio a bound with free misses is told as near the longest run.
+NEAR = 1.1
+
+
+def listed(words: list[str]) -> str:
+    """Words with commas, and with `and` before the last."""
+    if len(words) < 2:
+        return "".join(words)
+    return ", ".join(words[:-1]) + (" and " if len(words) == 2 else ", and ") + words[-1]
+
+
+def spread(ratios: list[float], digits: int = 1) -> str:
+    """The least and the greatest of some ratios."""
+    return f"{min(ratios):.{digits}f} to {max(ratios):.{digits}f}"
+
+
+# Bounds
+
+def free_ratios(numbers: dict) -> dict[str, float]:
+    return {name: ratio(row, FREE) for name, row in numbers["bounds"]["kernels"].items()}
+
+
+def bounds_values(numbers: dict) -> Values:
+    rows = numbers["bounds"]["kernels"]
+    free = free_ratios(numbers)
+    near = [value for value in free.values() if value <= NEAR]
+    far = [f"{value:.2f} (`{name}`)" for name, value in free.items() if value > NEAR]
+    worst = max(rows, key=lambda name: ratio(rows[name], BASE))
+    row = rows[worst]
+    useful, evicting = (sum(one[key] for one in rows.values()) for key in ("useful", "evicting"))
+    return {"kernels": len(rows),
+            "code bytes": thousands(sum(one["bytes"] for one in rows.values())),
+            "loops": sum(one["loops"] for one in rows.values()),
+            "values tried": numbers["bounds"]["values tried"], "near kernels": len(near),
+            "near ratios": spread(near, 2), "far ratios": listed(far),
+            "costly ratios": spread([ratio(one, BASE) for one in rows.values()]),
+            "worst kernel": f"`{worst}`", "worst sets": row["evicting"],
+            "worst bound grows": thousands(row["bound"][BASE] - row["bound"][FREE]),
+            "worst run grows": row["seen"][BASE] - row["seen"][FREE],
+            "evicting on average": f"{evicting / len(rows):.0f}",
+            "useful of evicting": f"{percent(useful, evicting):.0f}",
+            "most useful at once": max(one["useful at once"] for one in rows.values())}
+
+
+def bounds_statements(numbers: dict) -> dict[str, bool]:
+    rows = list(numbers["bounds"]["kernels"].values())
+    return {
+        "each loop reaches its bound in some run":
+            all(row["loops"] == row["reached"] for row in rows),
+        "code without loops has the least ratios":
+            max(ratio(row, BASE) for row in rows if not row["loops"])
+            < min(ratio(row, BASE) for row in rows if row["loops"]),
+        "with 32 and with 128 sets all numbers are equal":
+            all(row[key][BASE] == row[key]["128 sets"]
+                for row in rows for key in ("bound", "seen")),
+        "a larger cache makes no ratio smaller, a smaller one some":
+            any(ratio(row, "8 sets") < ratio(row, BASE) for row in rows),
+        "sort and levinson have the greatest ratios with free misses":
+            {"sort", "levinson"} == set(sorted(free_ratios(numbers),
+                                               key=free_ratios(numbers).get)[-2:]),
+    }
+
+
+# Responses
+
+def all_rows(numbers: dict) -> list[dict]:
+    return [row for rows in numbers["responses"]["sets"].values() for row in rows]
+
+
+def over_seen(row: dict, key: str = "response") -> float:
+    return row[key] / row["seen"]
+
+
+def utilization(numbers: dict, rows: list[dict], key: str) -> str:
+    """The percent of the processor that a set takes, by certified bounds or by longest runs."""
+    kernels = numbers["bounds"]["kernels"]
+    return f"{sum(100 * kernels[row['task']][key][BASE] / row['period'] for row in rows):.0f}"
+
+
+def responses_values(numbers: dict) -> Values:
+    rows, sets = all_rows(numbers), numbers["responses"]["sets"]
+    disturbed = [row for one in sets.values() for row in one[1:]]
+    later = [row for row in disturbed if row["seen"] > row["critical"]]
+    widest = max(sets, key=lambda name: max(map(over_seen, sets[name])))
+    dearest = max(rows, key=lambda row: row["delay"])
+    kernel = numbers["bounds"]["kernels"][dearest["task"]]
+    return {"searched sets": len(sets), "searched tasks": len(rows),
+            "release runs": thousands(numbers["responses"]["runs"]),
+            "explained runs": numbers["responses"]["explained"],
+            "response ratios": spread(list(map(over_seen, rows))),
+            "run ratios": spread([over_seen(row, "by runs") for row in rows], 2),
+            "point ratios": spread([over_seen(row, "by points") for row in rows]),
+            "disturbed tasks": len(disturbed), "later tasks": len(later),
+            "widest set": f"`{widest}`",
+            "widest by bounds": utilization(numbers, sets[widest], "bound"),
+            "widest by runs": utilization(numbers, sets[widest], "seen"),
+            "greatest delay": thousands(dearest["delay"]),
+            "most reloads": max(row["most reloads"] for row in rows),
+            "dearest task": f"`{dearest['task']}`", "dearest useful": kernel["useful"],
+            "dearest at once": kernel["useful at once"]}
+
+
+def responses_statements(numbers: dict) -> dict[str, bool]:
+    sets = numbers["responses"]["sets"].values()
+    return {"ratios grow from task to task":
+            all(over_seen(a) <= over_seen(b) for rows in sets for a, b in zip(rows, rows[1:])),
+            "no response by points is above the certified one":
+            all(row["by points"] <= row["response"] for row in all_rows(numbers))}
+
+
+# Acceptance
+
+def overall(family: dict, method: str) -> float:
+    """The percent of a family's sets that a method accepts."""
+    counts = family["accepted"][method]
+    return percent(sum(counts), family["each"] * len(counts))
+
+
+def acceptance_values(numbers: dict) -> Values:
+    acceptance, found = numbers["acceptance"], {}
+    place = acceptance["utilizations"].index(75)
+    for name, family in acceptance["families"].items():
+        for method, counts in family["accepted"].items():
+            found[f"{method}, {name}"] = f"{overall(family, method):.1f}"
+            found[f"{method} at 0.75, {name}"] = f"{percent(counts[place], family['each']):.1f}"
+    whole = [u for n, u in enumerate(acceptance["utilizations"])
+             if all(family["accepted"][method][n] == family["each"]
+                    for family in acceptance["families"].values() for method in family["accepted"])]
+    kinds = tallies(numbers).values()
+    return found | {"sets of 5 tasks": thousands(acceptance["families"]["5 tasks"]["sets"]),
+                    "sets each": thousands(acceptance["families"]["5 tasks"]["each"]),
+                    "jitter sets each": acceptance["families"]["8 tasks, jitter"]["each"],
+                    "jitter share": acceptance["families"]["8 tasks, jitter"]["jitter"] // 10,
+                    "all accept up to": f"{max(whole, default=0) / 100:.2f}",
+                    "classic every": CLASSIC_EVERY, "run every": RUN_EVERY,
+                    "all sets": thousands(sum(one["sets"] for one in kinds)),
+                    "not agreeing": sum(one["compared"][command] - one["agree"][command]
+                                        for one in kinds for command in commands(numbers)),
+                    "out of order": sum(one["out of order"] for one in kinds)}
+
+
+def alone(tally: dict, first: str, second: str) -> int:
+    """How many sets the first method accepts and the second one does not."""
+    return tally["only"][f"{first} > {second}"]
+
+
+def acceptance_statements(numbers: dict) -> dict[str, bool]:
+    found, families = tallies(numbers), numbers["acceptance"]["families"]
+    eight = found["8 tasks"]
+    return {
+        "all verdicts agree, and no window is out of order":
+            all(one["compared"] == one["agree"] and not one["out of order"]
+                for one in found.values()),
+        "with 8 tasks plain ECB-union loses to ECB-only":
+            alone(eight, "plain ecb", "ecb only") < alone(eight, "ecb only", "plain ecb"),
+        "the gap to no reloads is mostly what delays by points close":
+            all(2 * (overall(one, "refined") - overall(one, "combination"))
+                > overall(one, "none") - overall(one, "combination") for one in families.values()),
+        "no command of crpd computes the delays by points": "refine" not in commands(numbers),
+        "accepted shares are those of crpd":
+            all(sum(one["accepted"]["combination"]) == one["accepted by crpd"]
+                for one in families.values()),
+    }
+
+
+def weighted_gain(numbers: dict, key: str, method: str) -> list[float]:
+    """By how many points a method is below `crpd analyze` at each value of a sweep."""
+    weighted = numbers["weighted"]
+    sums = weighted["sweeps"][key]["sums"]
+    return [percent(a - b, weighted["utilization"])
+            for a, b in zip(sums["combination"], sums[method])]
+
+
+def weighted_values(numbers: dict) -> Values:
+    by_sets, by_miss = (weighted_gain(numbers, key, method)
+                        for key, method in (("sets", "ecb only"), ("miss", "classic")))
+    nodes = weighted_gain(numbers, "sets", "refined")
+    return {"draws": thousands(numbers["weighted"]["draws"]),
+            "swept tasks": numbers["weighted"]["tasks"],
+            "greatest gain over evicted": f"{max(by_sets):.0f}",
+            "classic gain, cheap": f"{by_miss[0]:.1f}", "classic gain, dear": f"{by_miss[-1]:.1f}",
+            "greatest gain of points": f"{-min(nodes):.0f}"}
+
+
+def weighted_statements(numbers: dict) -> dict[str, bool]:
+    by_sets = weighted_gain(numbers, "sets", "ecb only")
+    sizes = numbers["weighted"]["sweeps"]["sets"]
+    by_miss = numbers["weighted"]["sweeps"]["miss"]["sums"]["none"]
+    here = dict(zip(sizes["values"], by_sets))
+    large = dict(zip(sizes["values"], zip(sizes["sums"]["none"], sizes["sums"]["combination"])))
+    lost = [-gain for gain in weighted_gain(numbers, "sets", "none")]
+    return {
+        "up to 32 sets there is more to lose": lost[0] < lost[1] < lost[2] < lost[3],
+        "the gain over ECB-only grows beyond 32 sets":
+            here[32] < here[64] < here[128] <= here[256],
+        "with dearer misses the gain over the plain delays grows":
+            weighted_gain(numbers, "miss", "classic")[0]
+            < weighted_gain(numbers, "miss", "classic")[-1],
+        "with 256 sets delays nearly vanish":
+            percent(large[256][0] - large[256][1], numbers["weighted"]["utilization"]) < 2,
+        "without reloads, dearer misses are accepted more": by_miss[0] < by_miss[-1],
+    }
+
+
+# Runs and times
+
+def evidence_values(numbers: dict) -> Values:
+    found = all_evidence(numbers)
+    return {"runs": thousands(found["runs"]), "kept runs": thousands(found["kept"]),
+            "jobs": thousands(found["jobs"]), "late jobs": found["late"],
+            "late by points": found["late_by_points"],
+            "explained in all": thousands(found["explained"]), "above": found["above_delay"]}
+
+
+def evidence_statements(numbers: dict) -> dict[str, bool]:
+    found = all_evidence(numbers)
+    seeds = {numbers[part]["seed"] for part in PARTS}
+    return {"all numbers come from one seed": len(seeds) == 1,
+            "all runs are legal and kept": found["runs"] == found["kept"],
+            "no job is later than certified": found["late"] == 0,
+            "no job is later than by points": found["late_by_points"] == 0,
+            "no reloads are above the certified delay": found["above_delay"] == 0}
+
+
+def milliseconds(taken: int) -> str:
+    return f"{taken / 1000:.1f}"
+
+
+def times_values(numbers: dict) -> Values:
+    times = numbers["times"]
+    rows = {row["tasks"]: row for row in times["rows"]}
+    found: Values = {"start": milliseconds(times["start"]), "rounds": times["rounds"]}
+    for count in (1, 8, 32):
+        found[f"analyze of {count}"] = milliseconds(rows[count]["analyze"])
+        found[f"nodes of {count}"] = thousands(rows[count]["nodes"])
+    return found | {"check of 32": milliseconds(rows[32]["check"])}
+
+
+def values(numbers: dict) -> Values:
+    """All values by name."""
+    found: Values = {"seed": numbers["bounds"]["seed"],
+                     "calls": thousands(sum(numbers[part]["calls"] for part in PARTS))}
+    for make in (bounds_values, responses_values, acceptance_values, weighted_values,
+                 evidence_values, times_values):
+        found |= make(numbers)
+    return found
+
+
+def statements(numbers: dict) -> dict[str, bool]:
+    """What the page says in words, and whether it holds."""
+    found: dict[str, bool] = {}
+    for make in (bounds_statements, responses_statements, acceptance_statements,
+                 weighted_statements, evidence_statements):
+        found |= make(numbers)
+    return found

@@ -1,0 +1,54 @@
+"""The processor time of calls against the number of tasks. These numbers alone differ from machine
+to machine and from call to call."""
+import math
+import os
+
+from .kernels import Timed, set_text
+from .measuring import BASE, Known, System, know
+from .program import processor_seconds
+
+COUNTS, ROUNDS = [1, 2, 4, 8, 12, 16, 20, 24, 28, 32], 60
+# The sets' utilization is one half.
+LOAD_DIVISOR = 2
+COMMANDS = ["analyze", "check", "classic"]
+
+
+def loaded(system: System, known: dict[str, Known], count: int) -> list[Timed]:
+    """So many tasks, the kernels in turn, with equal shares of the utilization."""
+    kernels = list(system.kernels.values())
+    turn = [kernels[n % len(kernels)] for n in range(count)]
+    tasks = [Timed(kernel, known[kernel.name].part.bound * count * LOAD_DIVISOR, 0, f"task{n}")
+             for n, kernel in enumerate(turn)]
+    return sorted(tasks, key=lambda task: task.period)
+
+
+def prepare(system: System, known: dict[str, Known], count: int) -> dict:
+    """A set of so many tasks with its certificate, in files that begin with the number."""
+    crpd = system.crpd
+    parts = crpd.certificate(set_text(BASE, loaded(system, known, count)))
+    for name in ("set.toml", "cert.json"):
+        os.replace(crpd.folder / name, crpd.folder / f"{count}-{name}")
+    return {"tasks": count, "nodes": sum(part.nodes for part in parts)}
+
+
+def words(command: str, count: int) -> list[str]:
+    """A call of a command over the files of a set."""
+    certificate = [f"{count}-cert.json"] if command == "check" else []
+    return [command, f"{count}-set.toml", *certificate]
+
+
+def measure(system: System) -> dict:
+    """The least times of some calls, in microseconds. A round has a call of each kind."""
+    crpd = system.crpd
+    crpd.load(system.image)
+    known, start = know(system, BASE), math.inf
+    rows = [prepare(system, known, count) for count in COUNTS]
+    least = {(count, command): math.inf for count in COUNTS for command in COMMANDS}
+    for _ in range(ROUNDS):
+        start = min(start, processor_seconds(crpd.program, crpd.folder, []))
+        for count, command in least:
+            taken = processor_seconds(crpd.program, crpd.folder, words(command, count))
+            least[count, command] = min(least[count, command], taken)
+    for row in rows:
+        row |= {command: round(1e6 * least[row["tasks"], command]) for command in COMMANDS}
+    return {"rounds": ROUNDS, "start": round(1e6 * start), "rows": rows}
