@@ -84,10 +84,10 @@ class DataSearch:
         run, name = self.run(values), self.kernel.name
         response = {name: self.bound + self.platform.switch}
         self.evidence.look(run, response, response)
-        answer = run.jobs[0][1]
-        if answer is None or not run.legal_and_kept:
-            stop(f"{name} does not answer, or breaks a stated bound, with {values.hex()}")
-        return answer - self.platform.switch
+        completed = run.jobs[0][1]
+        if completed is None or not run.legal_and_kept:
+            stop(f"{name} does not complete, or breaks a stated bound, with {values.hex()}")
+        return completed - self.platform.switch
 
     def look(self, values: bytes) -> None:
         """Runs a job with these values, and keeps them if none took longer."""

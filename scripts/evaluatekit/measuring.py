@@ -82,7 +82,7 @@ def know_kernel(image: Image, platform: Platform, part: Part) -> Known:
 @dataclass
 class Evidence:
     """Runs, and how many jobs of the legal and kept ones were later than certified. A job counts
-    where it answered, or where the run went on beyond its response. `explained` are runs whose
+    where it completed, or where the run went on beyond its response. `explained` are runs whose
     reloads were looked at."""
 
     runs: int = 0
@@ -100,9 +100,9 @@ class Evidence:
         if not run.legal_and_kept:
             return
         self.kept += 1
-        for job, answer in run.jobs:
-            taken = (run.cycles if answer is None else answer) - job.arrival
-            if answer is not None or taken > responses[job.task]:
+        for job, completed in run.jobs:
+            taken = (run.cycles if completed is None else completed) - job.arrival
+            if completed is not None or taken > responses[job.task]:
                 self.jobs += 1
                 self.late += taken > responses[job.task]
             self.late_by_points += taken > by_points[job.task]

@@ -17,7 +17,7 @@ def signed(value: int, bits: int) -> int:
 
 
 def successors(image: Image, node: Node) -> list[Node]:
-    """The nodes that may come next; none after the answer."""
+    """The nodes that may come next; none after the return that ends the job."""
     calls, at = node
     word = image.word(at)
     if word == RETURN:

@@ -29,7 +29,7 @@ class Job:
 
 @dataclass(frozen=True)
 class Run:
-    """What `simulate` says of a script: each job with its answer, and the words of the last
+    """What `simulate` says of a script: when each job completes, and the words of the last
     line."""
 
     cycles: int
@@ -133,8 +133,8 @@ class Crpd:
         self.script(cycles, jobs)
         *lines, last = self.call("simulate", "set.toml", "script.toml")[1].splitlines()
         words = [line.split() for line in lines]
-        answers = [int(word[8]) if word[7] == "answer" else None for word in words]
-        return Run(cycles, list(zip(jobs, answers, strict=True)), last.removeprefix("run "))
+        completed = [int(word[8]) if word[7] == "answer" else None for word in words]
+        return Run(cycles, list(zip(jobs, completed, strict=True)), last.removeprefix("run "))
 
     def explain(self, cycles: int, jobs: list[Job]) -> list[list[str]]:
         """The words of each line of `explain` for the set in set.toml with cert.json."""

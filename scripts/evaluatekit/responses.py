@@ -18,7 +18,7 @@ SETS = Path(__file__).parent / "sets.toml"
 @dataclass(frozen=True)
 class Effort:
     """How many patterns of releases are drawn, and how many steps uphill are made, in the search
-    for a late answer and in the one for many reloads."""
+    for a late completion and in the one for many reloads."""
 
     at_random: int = 400
     uphill: int = 600
@@ -125,13 +125,13 @@ class Search:
         return jobs
 
     def response(self, pattern: Pattern) -> int:
-        """The response of the job looked at; a job without an answer counts to the run's end."""
+        """The response of the job looked at; a job that is not completed counts to the run's end."""
         run = self.system.crpd.run(self.cycles, self.jobs(pattern))
         self.evidence.look(run, self.responses, self.responses_by_points)
         if not run.legal_and_kept:
             stop(f"a run of {self.name} is {run.state}")
-        answer = run.jobs[0][1]
-        return (run.cycles if answer is None else answer) - self.arrival
+        completed = run.jobs[0][1]
+        return (run.cycles if completed is None else completed) - self.arrival
 
     def reload_cycles(self, pattern: Pattern) -> int:
         """The cycles of the reloads that `explain` lists for the job looked at."""
