@@ -211,14 +211,14 @@ def components(entry: int, edges: Edges) -> list[list[int]]:
 
 
 def outs(program: Program, functions: dict[int, Function]) -> dict[int, list[int]]:
-    """For each function the addresses at which it returns, answers by ecall, or calls one that may answer so."""
-    answering = {e for e, f in functions.items() if ends(program, f, {ECALL})}
+    """For each function the addresses at which it returns, ends the job by ecall, or calls one that may end it so."""
+    ending = {e for e, f in functions.items() if ends(program, f, {ECALL})}
     while True:
-        more = {e for e, f in functions.items() if answering.intersection(f.calls.values())} - answering
+        more = {e for e, f in functions.items() if ending.intersection(f.calls.values())} - ending
         if not more:
             break
-        answering |= more
-    return {e: ends(program, f, {RETURN, ECALL}) + [a for a, callee in f.calls.items() if callee in answering]
+        ending |= more
+    return {e: ends(program, f, {RETURN, ECALL}) + [a for a, callee in f.calls.items() if callee in ending]
             for e, f in functions.items()}
 
 

@@ -16,7 +16,7 @@ SAME_TIME = 10  # seconds within which files may have been written together
 
 @dataclass
 class Found:
-    """A loop of a task: in which function it is, its origin, and whether a return or an answer is reached from it."""
+    """A loop of a task: in which function it is, its origin, and whether a return or the end of the job is reached from it."""
 
     loop: Loop
     origin: Origin
@@ -27,12 +27,12 @@ class Found:
 
 @dataclass
 class TaskLoops:
-    """A task's loops, each head once, its cycles with several entries by function, whether it can answer at all, and the bytes
+    """A task's loops, each head once, its cycles with several entries by function, whether its jobs can complete at all, and the bytes
     of stack that it takes at most, where that is told."""
 
     loops: list[Found]
     strange: list[tuple[str, Strange]]
-    answers: bool
+    completes: bool
     stack: int | None
 
 
@@ -50,8 +50,8 @@ class Image:
         functions = call_graph(self.program, entry)
         self.look_up(functions)
         out = outs(self.program, functions)
-        answers = entry in functions and has_way_out(functions[entry], entry, out[entry])
-        found = TaskLoops([], [], answers, depth_of(self.program, functions, entry))
+        completes = entry in functions and has_way_out(functions[entry], entry, out[entry])
+        found = TaskLoops([], [], completes, depth_of(self.program, functions, entry))
         seen: set[int] = set()
         for start, function in functions.items():
             loops, strange = loops_of(function)

@@ -18,7 +18,7 @@ def depth_of(program: Program, functions: dict[int, Function], entry: int) -> in
 
     def depth(start: int) -> int | None:
         if start not in known:
-            known[start] = None  # also the answer of a recursion
+            known[start] = None  # for a recursion, too
             known[start] = deepest(functions[start])
         return known[start]
 

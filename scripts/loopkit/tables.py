@@ -120,7 +120,7 @@ class Writer:
         """Warns of a loop without a way out, without a bound, or whose head serves several loops of the source."""
         if not found.ends:
             table.bound = 0
-            self.report.warn(subject, f"no answer is reached from {name_of(found)}: with any bound no run is kept to its end, and"
+            self.report.warn(subject, f"no job completes from {name_of(found)}: with any bound no run is kept to its end, and"
                              " `yes` would say nothing; give it a way out", unfit=True)
             return
         if not table.bound:
@@ -143,8 +143,8 @@ class Writer:
             places = " and ".join(self.image.line_text(a) for a in cycle.entries)
             self.report.warn(subject, f"{function}: a cycle is entered at {places}; crpd refuses it at {cycle.nodes[0]:08x};"
                              f" {TWO_ENTRIES}", unfit=True)
-        if not task.answers:
-            self.report.warn(subject, "no answer is reached from its entry", unfit=True)
+        if not task.completes:
+            self.report.warn(subject, "no job completes from its entry", unfit=True)
         if len(task.loops) > MOST_LOOPS:
             self.report.warn(subject, f"has {len(task.loops)} loops; a task may have {MOST_LOOPS}", unfit=True)
 
