@@ -11,6 +11,8 @@ from .points import Flow, largest
 from .program import Crpd, Part, Run
 
 BASE = Platform()
+# Random sets for each utilization, where nothing else is said.
+SETS = 1000
 
 
 @dataclass(frozen=True)

@@ -5,6 +5,7 @@ words; where it does not hold for the numbers, no page is written.
 """
 from . import bounds
 from .acceptance import CLASSIC_EVERY, RUN_EVERY
+from .measuring import SETS
 from .plots import percent, ratio
 from .tables import PARTS, all_evidence, commands, tallies, thousands
 
@@ -139,8 +140,10 @@ def acceptance_values(numbers: dict) -> Values:
              if all(family["accepted"][method][n] == family["each"]
                     for family in acceptance["families"].values() for method in family["accepted"])]
     kinds = tallies(numbers).values()
-    return found | {"sets of 5 tasks": thousands(acceptance["families"]["5 tasks"]["sets"]),
-                    "sets each": thousands(acceptance["families"]["5 tasks"]["each"]),
+    each = acceptance["families"]["5 tasks"]["each"]
+    return found | {"options": "" if each == SETS else f" --sets {each}",
+                    "sets of 5 tasks": thousands(acceptance["families"]["5 tasks"]["sets"]),
+                    "sets each": thousands(each),
                     "jitter sets each": acceptance["families"]["8 tasks, jitter"]["each"],
                     "jitter share": acceptance["families"]["8 tasks, jitter"]["jitter"] // 10,
                     "all accept up to": f"{max(whole, default=0) / 100:.2f}",
