@@ -23,6 +23,8 @@ PAIRS = [
     ("ecb multiset", "plain ucb"), ("combination", "classic"), ("combination", "ecb only"),
     ("refined", "combination"),
 ]
+# The pairs of which the first method is the better one by its formula, directly or not.
+BETTER = set(windows.ORDER) | {("combination", "ecb only"), ("refined", "combination")}
 
 
 @dataclass(frozen=True)

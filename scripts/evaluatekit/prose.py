@@ -4,13 +4,15 @@ Each value has a name, by which the page's text names it. Each statement is what
 words; where it does not hold for the numbers, no page is written.
 """
 from . import bounds
-from .acceptance import CLASSIC_EVERY, RUN_EVERY
+from .acceptance import BETTER, CLASSIC_EVERY, PAIRS, RUN_EVERY
 from .measuring import SETS
 from .plots import percent, ratio
 from .tables import PARTS, all_evidence, commands, tallies, thousands
 
 Values = dict[str, object]
 BASE, FREE = bounds.BASE_NAME, "free misses"
+# Pairs of methods of which neither is the better one by its formula.
+OPEN = [pair for pair in PAIRS if not {pair, pair[::-1]} & BETTER]
 # Up to this ratio a bound with free misses is told as near the longest run.
 NEAR = 1.1
 
@@ -166,6 +168,9 @@ def acceptance_statements(numbers: dict) -> dict[str, bool]:
         "all verdicts agree, and no window is out of order":
             all(one["compared"] == one["agree"] and not one["out of order"]
                 for one in found.values()),
+        "where the order is open, both happen":
+            all(sum(alone(one, *pair) for one in found.values())
+                for first, second in OPEN for pair in ((first, second), (second, first))),
         "with 8 tasks plain ECB-union loses to ECB-only":
             alone(eight, "plain ecb", "ecb only") < alone(eight, "ecb only", "plain ecb"),
         "the gap to no reloads is mostly what delays by points close":
