@@ -3,6 +3,7 @@ from __future__ import annotations
 
 import re
 from collections.abc import Iterable
+from dataclasses import asdict, dataclass
 from html import escape
 
 HUES = 8  # colours of tasks; the tasks behind these have the same colours with stripes
@@ -45,11 +46,21 @@ def hue(place: int) -> str:
     return f"t{place % HUES}"
 
 
-def box(css: str, x: str, width: str, height: int, y: int, words: str = "", place: int = 0) -> str:
+@dataclass(frozen=True)
+class Frame:
+    """Where a rectangle stands; across in per cent or pixels, down in pixels."""
+
+    x: str
+    y: int
+    width: str
+    height: int
+
+
+def box(css: str, frame: Frame, words: str = "", place: int = 0) -> str:
     """A rectangle with a title. With the place of a task behind the eighth it has stripes."""
-    shape = {"x": x, "y": y, "width": width, "height": height}
-    stripes = tag("rect", title(words) if words else "", class_=f"s{place // HUES}", **shape) if place >= HUES else ""
-    return tag("rect", title(words) if words else "", class_=css, **shape) + stripes
+    inside, shape = title(words) if words else "", asdict(frame)
+    stripes = tag("rect", inside, class_=f"s{place // HUES}", **shape) if place >= HUES else ""
+    return tag("rect", inside, class_=css, **shape) + stripes
 
 
 def marked(text: str) -> str:

@@ -10,7 +10,7 @@ from html import escape
 from pathlib import Path
 
 from .facts import Facts
-from .markup import box, counted, hue, joined, num, per_cent, ranges, step, tag, title
+from .markup import Frame, box, counted, hue, joined, num, per_cent, ranges, step, tag, title
 from .reading import Task
 from .windows import Window
 
@@ -81,7 +81,7 @@ class Picture:
         top, parts = 40, [tag("text", escape(heading), x=16, y=26, class_="heading")]
         for row in self.rows:
             inside = [tag("rect", class_="ground", width="100%", height=row.height), *row.shapes]
-            parts += [box(f"patch {hue(row.place)}", "16", "12", 12, top + row.height // 2 - 14, place=row.place),
+            parts += [box(f"patch {hue(row.place)}", Frame("16", top + row.height // 2 - 14, "12", 12), place=row.place),
                       tag("text", escape(row.name), x=34, y=top + row.height // 2 - 3, class_="name"),
                       tag("text", row.note, x=34, y=top + row.height // 2 + 13),
                       tag("svg", *inside, x=164, y=top, width=WIDE, height=row.height, overflow="visible")]
@@ -140,13 +140,13 @@ def definitions() -> str:
 
 def named(place: int, name: str) -> str:
     """A task's name behind its colour."""
-    patch = tag("svg", box(f"patch {hue(place)}", "0", "12", 12, 0, place=place), class_="sample", width=12, height=12,
+    patch = tag("svg", box(f"patch {hue(place)}", Frame("0", 0, "12", 12), place=place), class_="sample", width=12, height=12,
                 aria_hidden="true")
     return tag("span", patch, escape(name), class_="name")
 
 
 def sample(css: str, place: int = 0) -> str:
-    return box(css, "0", "16", 12, 0, place=place)
+    return box(css, Frame("0", 0, "16", 12), place=place)
 
 
 def stroke(css: str, x1: str, x2: str, y1: int, y2: int, *inside: str) -> str:
@@ -207,7 +207,7 @@ def window_bar(tasks: list[Task], place: int, window: Window, reach: float) -> l
         width = min(100 * piece.cycles / deadline / reach, 100 - at)
         words = f"{piece.words}: {counted(piece.cycles, 'cycle')}, {per_cent(piece.cycles, window.response())} of the response"
         css = f"{piece.css} piece" if width > THIN else piece.css
-        parts.append(box(css, f"{at:.3f}%", f"{width:.3f}%", 24, 3, words, piece.place))
+        parts.append(box(css, Frame(f"{at:.3f}%", 3, f"{width:.3f}%", 24), words, piece.place))
         parts += piece_label(piece, at, width)
         at += width
     due = f"{100 / reach:.3f}%" if reach > 1 else "99.8%"
@@ -238,7 +238,8 @@ def cache_picture(facts: Facts) -> Picture:
             spans = [(member, member + 1) for member in sorted(chosen)]
             for first, end in joined(spans) if sets > 64 else spans:
                 said = f"{task.name}, cache set {ranges(range(first, end))}: {words}"
-                shapes.append(box(f"{css} cell", f"{100 * first / sets:.3f}%", f"{100 * (end - first) / sets:.3f}%", 20, 2, said))
+                frame = Frame(f"{100 * first / sets:.3f}%", 2, f"{100 * (end - first) / sets:.3f}%", 20)
+                shapes.append(box(f"{css} cell", frame, said))
         rows.append(Row(place, task.name, f"{len(cache.evicting)} evicting, {len(cache.useful)} useful", 24, shapes,
                         f"{task.name}: evicting {ranges(cache.evicting)}; useful {ranges(cache.useful)}"))
     marks = [Mark(100 * (member + 0.5) / sets, str(member)) for member in range(0, sets, step(sets, 16))]

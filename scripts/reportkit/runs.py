@@ -6,7 +6,7 @@ from dataclasses import dataclass
 from html import escape
 
 from .facts import Facts
-from .markup import box, counted, hue, joined, num, step, tag, title
+from .markup import Frame, box, counted, hue, joined, num, step, tag, title
 from .pictures import Item, Mark, Picture, Row, sample, stroke
 from .reading import Job, Reload, Run
 
@@ -43,7 +43,7 @@ class Axis:
     def bar(self, css: str, start: int, end: int, words: str, place: int = 0) -> str:
         if not self.shows(start, end):
             return ""
-        return box(css, self.x(start), f"{self.at(end) - self.at(start):.3f}%", 18, 18, words, place)
+        return box(css, Frame(self.x(start), 18, f"{self.at(end) - self.at(start):.3f}%", 18), words, place)
 
     def cycles(self) -> range:
         """The cycles that are marked."""
