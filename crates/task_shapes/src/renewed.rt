@@ -130,6 +130,7 @@ pub fn renew(alloc: Global, old: &ShapedSet, input: Input) -> Result<ShapedSet, 
     ensures exact { GivesBy ShapeError.Memory (ShapesOf input) result }
     ensures taken { IfOk result (AreTaken old.now) }
 {
+    old.shaped_law();
     let sources = sources(alloc, old, &input)?;
     let graphs = renewed_graphs(alloc, old, &sources, &input)?;
     match renewed_nests(alloc, old, &sources, &input, graphs.as_slice()) {
