@@ -6,4 +6,4 @@ pub mod Chain
 pub mod Plans
 mod Readers
 pub mod Built
-pub mod Shapes
+pub mod ShapeSteps

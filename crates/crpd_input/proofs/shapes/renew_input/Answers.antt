@@ -3,7 +3,7 @@ use Rattle.task_shapes.specs.declared.error.ShapeError.TheVariants.{Memory}
 use Rattle.task_shapes.specs.Shapes.{ShapesOf}
 use Rattle.crpd_input.specs.Shapes.{shape_halt}
 use Rattle.crpd_input.proofs.Readers.{no_fault}
-use Rattle.crpd_input.proofs.Shapes.{stops_as}
+use Rattle.crpd_input.proofs.ShapeSteps.{stops_as}
 use Rattle.crpd_input.proofs.shapes.renew_input.Goals as goal
 
 pub returns-in-Err-clause-exact : goal.returns-in-Err-clause-exact
