@@ -8,4 +8,5 @@ pub mod Ranges
 pub mod Entries
 pub mod CertificateRanges
 pub mod Tasks
+pub mod Texts
 pub mod Outcome

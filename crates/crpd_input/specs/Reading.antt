@@ -22,7 +22,7 @@ use Rattle.cert_model.specs.declared.fault.CertError.{CertError}
 use Rattle.cert_model.specs.declared.fault.CertError.TheVariants as certificate_fault
 use Rattle.task_shapes.specs.Inputs.{SetWithCode}
 use Rattle.crpd_io.specs.Outside.{Contents}
-use Rattle.crpd_report.specs.Texts.{hexadecimal}
+use Rattle.crpd_base.specs.Texts.{hexadecimal}
 use Rattle.crpd_input.specs.declared.cause.Cause.TheVariants as cause
 use Rattle.crpd_input.specs.declared.halt.Halt.{Halt}
 use Rattle.crpd_input.specs.declared.halt.Halt.TheVariants as halt

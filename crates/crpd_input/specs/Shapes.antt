@@ -12,7 +12,7 @@ use Rattle.task_shapes.specs.Inputs.{SetWithCode}
 use Rattle.task_shapes.specs.Graphs.{GraphsOf}
 use Rattle.task_shapes.specs.Shapes.{SetWithShapes, ShapesOf}
 use Rattle.crpd_io.specs.Outside.{Contents}
-use Rattle.crpd_report.specs.Texts.{hexadecimal}
+use Rattle.crpd_base.specs.Texts.{hexadecimal}
 use Rattle.crpd_input.specs.declared.cause.Cause.{Cause}
 use Rattle.crpd_input.specs.declared.cause.Cause.TheVariants as cause
 use Rattle.crpd_input.specs.declared.halt.Halt.{Halt}

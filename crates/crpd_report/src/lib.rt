@@ -2,7 +2,6 @@
 //! `simulate`, `explain` and `generate`.
 #![tactic(auto)]
 
-mod address;
 mod check;
 mod explain;
 mod generate;
@@ -10,8 +9,8 @@ mod list;
 mod refusal;
 mod sets;
 mod simulate;
+mod unscheduled;
 
-pub use address::address_text;
 pub use check::check_text;
 pub use explain::explain_text;
 pub use generate::{generate_text, late_law};
@@ -19,3 +18,4 @@ pub use list::list_text;
 pub use refusal::refusal_text;
 pub use sets::sets_text;
 pub use simulate::simulate_text;
+pub use unscheduled::unschedulable_text;

@@ -1,8 +1,8 @@
 // The text of an address or a word.
 ghost use Rattle.std.specs.Prelude.{◌≡◌, string_bytes, IfOk};
-ghost use Rattle.crpd_report.specs.Texts.{hexadecimal};
+ghost use Rattle.crpd_base.specs.Texts.{hexadecimal};
 
-use crpd_base::Memory;
+use crate::data::Memory;
 use std::alloc::Global;
 
 /// The text of an address or a word: 8 lower-case hexadecimal digits. `Memory` is the only error.

@@ -2,7 +2,7 @@
 use Rattle.std.proofs.Common.{◌≡◌, ℕ, ◌-◌, ◌^◌, false, [], length, refl, arith}
 use Rattle.std.proofs.lemmas.List.{append-nil}
 use Rattle.std.specs.Fmt.{char_count, digits, format_spec, padded_integral}
-use Rattle.crpd_report.specs.Texts.{hexadecimal}
+use Rattle.crpd_base.specs.Texts.{hexadecimal}
 
 pub styled_hexadecimal : (n : ℕ)
     → padded_integral (format_spec 32 0 4 8 (2 ^ 64 - 1)) false [] (digits 16 false n)
