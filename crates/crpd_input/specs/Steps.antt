@@ -20,10 +20,11 @@ unfoldable pub each : {A B : Type 0} → (A → Result B Halt) → List A → Re
 each step [] = Ok []
 each step (x ∷ xs) = and_then (step x) (λ y. and_then (each step xs) (λ ys. Ok (y ∷ ys)))
 
--- the refusal of a file or a task for this cause, with a detail and without one
+-- the refusal of a file or a task for this cause, with a detail
 abbrev pub refusal : Cause → List ℕ → List ℕ → Halt
 refusal why subject detail = Refused (record { cause = why; subject = subject; detail = detail })
 
+-- the refusal without a detail
 abbrev pub plain_refusal : Cause → List ℕ → Halt
 plain_refusal why subject = refusal why subject (codes "-")
 
@@ -32,6 +33,7 @@ abbrev pub or_refused : {A E : Type 0} → (E → Halt) → Result A E → Resul
 or_refused halt_of (Ok value) = Ok value
 or_refused halt_of (Err e) = Err (halt_of e)
 
+-- a file's bytes, with the refusal of the file as the command's stop
 abbrev pub refused_file : {A : Type 0} → List ℕ → Result A FileRefusal → Result A Halt
 refused_file name (Ok bytes) = Ok bytes
 refused_file name (Err no_file) = Err (plain_refusal cause.NoFile name)
