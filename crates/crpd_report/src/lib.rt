@@ -9,6 +9,7 @@ mod list;
 mod refusal;
 mod sets;
 mod simulate;
+mod slack;
 mod unscheduled;
 
 pub use check::check_text;
@@ -18,4 +19,5 @@ pub use list::list_text;
 pub use refusal::refusal_text;
 pub use sets::sets_text;
 pub use simulate::simulate_text;
+pub use slack::slack_text;
 pub use unscheduled::unschedulable_text;
