@@ -1,6 +1,5 @@
 -- The steps on graphs and regions: their stops, and that they are refused in one way.
 use Rattle.std.proofs.Common.{◌≡◌, ◌≢◌, ◌∙◌, ℕ, List, Result, Ok, Err, ap, sym}
-use Rattle.flat_graph.specs.CodeGraph.{CodeGraph}
 use Rattle.task_shapes.specs.Graphs.{GraphsOf}
 use Rattle.task_shapes.specs.Inputs.{SetWithCode}
 use Rattle.task_shapes.specs.Shapes.{ShapesOf}

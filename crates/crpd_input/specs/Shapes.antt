@@ -1,6 +1,6 @@
 -- The steps that find the graphs of a set's tasks and the regions of their loops, and why they
 -- stop.
-use Rattle.std.specs.Prelude.{◌≡◌, ℕ, List, Result, Ok, Err}
+use Rattle.std.specs.Prelude.{ℕ, List, Result}
 use Rattle.flat_graph.specs.CodeGraph.{CodeGraph}
 use Rattle.flat_graph.specs.declared.fault.GraphError.{GraphError}
 use Rattle.flat_graph.specs.declared.fault.GraphError.TheVariants as graph_error

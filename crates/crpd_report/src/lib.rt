@@ -1,5 +1,5 @@
-//! Texts that the certifier writes: of refusals, of verdicts, and of the commands `list`, `sets`,
-//! `simulate`, `explain` and `generate`.
+//! Texts that the certifier writes: of refusals, of verdicts, of a task without a window, and of the
+//! commands `list`, `sets`, `simulate`, `explain`, `slack` and `generate`.
 #![tactic(auto)]
 
 mod check;

@@ -10,7 +10,7 @@ use crate::analysis::{Bounded, with_bounds};
 use crate::cost::{Cost, platform_with};
 use crate::laws::acceptance_law;
 use cert_check::write_longest;
-use crpd_base::{MOST_COST, MOST_TASKS, Items, Memory, Part, Slack, Stop, TaskSet, copy_set};
+use crpd_base::{Items, MOST_COST, MOST_TASKS, Memory, Part, Slack, Stop, TaskSet, copy_set};
 use flat_graph::{Graph, graphs_law};
 use loop_regions::Nest;
 use response::{WindowError, windows};

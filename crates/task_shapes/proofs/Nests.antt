@@ -1,5 +1,5 @@
 -- Each nest is that of the graph at its place.
-use Rattle.std.proofs.Common.{◌≡◌, ℕ, ◌<◌, List, length, get_or, Some, Ok, Err, sym, subst, arith}
+use Rattle.std.proofs.Common.{◌≡◌, ℕ, List, length, get_or, Some, Ok, Err, sym, subst, arith}
 use Rattle.std.specs.Prelude.{Result, Option, None, slice_get, slice_index_or}
 use Rattle.std.proofs.lemmas.Option.{get_or_from_slice_get, slice_get-get_or}
 use Rattle.crpd_base.specs.declared.data.TaskSet.{TaskSet}

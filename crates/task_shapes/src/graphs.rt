@@ -1,6 +1,5 @@
 // The graphs of the tasks.
-ghost use Rattle.std.specs.Prelude.{◌≡◌, ◌≢◌, ◌<◌, length, IfOk};
-ghost use Rattle.task_shapes.specs.Inputs.{name_at};
+ghost use Rattle.std.specs.Prelude.{◌≡◌, ◌≢◌, ◌<◌, length};
 ghost use Rattle.task_shapes.specs.Graphs.{GraphAt, GraphsOf};
 ghost use Rattle.task_shapes.specs.Steps.{GivesBy};
 

@@ -1,9 +1,9 @@
-use Rattle.std.proofs.Common.{◌∙◌, List, None, Ok, Err, ap, inl, inr, refl, subst, sym, arith}
+use Rattle.std.proofs.Common.{List, None, Ok, Err, ap, inl, inr, refl, subst, sym, arith}
 use Rattle.std.specs.Prelude.{slice_index_or}
 use Rattle.cert_check.specs.TaskGraphs.{nest_at}
 use Rattle.flat_graph.specs.CodeGraph.{CodeGraph}
 use Rattle.task_shapes.specs.Graphs.{RegionsOf}
-use Rattle.task_shapes.specs.Inner.SameTask.{AreSources, IsTaken}
+use Rattle.task_shapes.specs.Inner.SameTask.{IsTaken}
 use Rattle.task_shapes.specs.SameTask.{AreTaken}
 use Rattle.task_shapes.specs.Shapes.{SetWithShapes}
 use Rattle.task_shapes.proofs.SameTask.{same_graph, source_is}
