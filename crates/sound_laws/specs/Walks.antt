@@ -11,7 +11,11 @@ use Rattle.flat_graph.specs.Graph.{IsWalk}
 use Rattle.loop_regions.specs.Nest.{IsKeptWalk}
 use Rattle.loop_regions.specs.Watched.{IsWatchedWalk}
 use Rattle.loop_regions.specs.TaskGraph.{TaskGraph}
+use Rattle.crpd_base.specs.declared.data.Certificate.{Certificate}
+use Rattle.evict_sets.specs.ListedPart.{certified_task}
+use Rattle.cert_check.specs.declared.outcome.Clause.{Clause}
 use Rattle.cert_check.specs.JudgeInput.{IsGraphOf}
+use Rattle.cert_check.specs.Verdict.{GraphHolds}
 use Rattle.crpd_base.specs.Tasks.{deadline_of}
 use Rattle.preempt_machine.specs.Machine.{System, Job, plan_of}
 use Rattle.preempt_machine.specs.Step.{is_open, Start}
@@ -40,6 +44,12 @@ pub record IsCodeOf (sys : System) (set : TaskSet) (graphs : ℕ → TaskGraph) 
   pub platform : sys.platform ≡ set.platform
   pub map : IsCodeMap sys.word
   pub graphs_of : (k : ℕ) → k < length set.tasks → IsGraphOf sys.word (plan_of sys k) (graphs k)
+
+-- each task's part of a certificate meets the clauses of the task's graph
+abbrev pub MeetsGraphs : TaskSet → (ℕ → TaskGraph) → Certificate → Type 0
+MeetsGraphs set graphs c =
+    (k : ℕ) (clause : Clause) → k < length set.tasks
+    → GraphHolds set.platform (graphs k) (certified_task c k) clause
 
 -- the nodes before the job's own node, of which it may be in the middle, where these are the nodes
 -- of its fetches

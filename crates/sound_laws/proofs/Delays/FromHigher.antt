@@ -19,6 +19,7 @@ use Rattle.run_account.proofs.ReloadLaws.{one_job_per_preemptor}
 use Rattle.sound_laws.specs.FromHigher.{IsFromHigher, ReloadComesFromHigher, PreemptorWithinUseful}
 use Rattle.sound_laws.proofs.Windows.Releases.{count}
 use Rattle.sound_laws.proofs.Counts.Counting.{inject}
+use Rattle.sound_laws.proofs.Execution.Executed.{yes_meets}
 use Rattle.sound_laws.proofs.Walks.CheckedRuns.{CheckedRun, cached_run, checked_run, runs_jobs}
 use Rattle.sound_laws.proofs.Walks.CheckedRuns.{some_sets}
 use Rattle.sound_laws.proofs.Reloads.Checked.{met, set_at}
@@ -33,7 +34,7 @@ module _ (K : CheckedRun) where
     horizon,
     in_range as R,
     code as C,
-    says,
+    meets,
     run,
   }
 
@@ -70,7 +71,7 @@ module _ (K : CheckedRun) where
       }
 
   -- it comes from higher tasks
-  from_higher : (n x p : ℕ) (e : IsPreempted s graphs c n x p) → IsFromHigher s graphs c n x p e
+  pub from_higher : (n x p : ℕ) (e : IsPreempted s graphs c n x p) → IsFromHigher s graphs c n x p e
   from_higher n x p e =
       let reload : LedgerReload = record {
         job = x;
@@ -92,7 +93,7 @@ module _ (K : CheckedRun) where
 
 pub reload_comes_from_higher : ReloadComesFromHigher
 reload_comes_from_higher s set graphs c n x p R C says run e =
-    from_higher (checked_run s set graphs c n R C says (runs_jobs run) e.reload.kept) n x p e
+    from_higher (checked_run s set graphs c n R C (yes_meets set graphs c says) (runs_jobs run) e.reload.kept) n x p e
 
 -- the reloads of a job with one preemptor
 module _ (K : CheckedRun) (x p first : ℕ) (test useful : ℕ → Bool)
@@ -107,7 +108,7 @@ module _ (K : CheckedRun) (x p first : ℕ) (test useful : ℕ → Bool)
     horizon,
     in_range as R,
     code as C,
-    says,
+    meets,
     run,
   }
 
@@ -157,5 +158,5 @@ module _ (K : CheckedRun) (x p first : ℕ) (test useful : ℕ → Bool)
 
 pub preemptor_within_useful : PreemptorWithinUseful
 preemptor_within_useful s set graphs c until x p first test useful R C says run kept e each covers =
-    few_useful (checked_run s set graphs c until R C says (runs_jobs run) kept) x p first test
+    few_useful (checked_run s set graphs c until R C (yes_meets set graphs c says) (runs_jobs run) kept) x p first test
     useful e each covers

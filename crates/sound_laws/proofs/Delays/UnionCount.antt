@@ -291,15 +291,3 @@ module _ (s : Start) (set : TaskSet) (run : RunsLegally set s) (parts : ℕ → 
       → count (by_task j) to ≤ ucb_count set parts window (window (task_at s i)) (task_at s i) j
   unfolding union_count
   task_share j h = all_shares j 512 h are.places
-
-  -- the reloads of the window
-  pub evicted_few : count is_reload to
-      ≤ sum_below (ucb_count set parts window (window (task_at s i)) (task_at s i)) (task_at s i)
-  evicted_few =
-      let all = spread is_reload (λ n. task_at s (evictor n)) to (task_at s i)
-      (λ n l b. let up = are.higher n l b in
-      let top = inside_task s i t to (victim n) (are.victims n l b).1 in omega arith) in
-      let le = sum_le (λ j. count (by_task j) to)
-      (ucb_count set parts window (window (task_at s i)) (task_at s i)) (task_at s i)
-      (λ j l. task_share j (omega arith)) in
-      omega (arith, all, le)

@@ -31,7 +31,7 @@ module _ (K : CheckedRun) where
     horizon,
     in_range as R,
     code as C,
-    says,
+    meets,
     run,
     kept,
   }
