@@ -19,23 +19,13 @@ use Rattle.sound_laws.proofs.Windows.Releases.{count, count_none, at_most_one, l
 use Rattle.sound_laws.proofs.Counts.Counting.{spread, each_at_most, count_le}
 use Rattle.sound_laws.proofs.Windows.Busy.{line_at, task_at, in_window}
 use Rattle.sound_laws.proofs.Windows.Demands.{is_member, releases_few}
-use Rattle.sound_laws.proofs.Delays.UnionCount.{inside_member, inside_task}
+use Rattle.sound_laws.proofs.Delays.UnionCount.{AreCharged, charged_member, inside_member}
+use Rattle.sound_laws.proofs.Delays.UnionCount.{inside_task}
 
--- the reloads of a window: steps with a victim and a preemptor inside, of which the preemptor is of
--- a higher task and is released in the victim's life. All steps of a preemptor have one victim, and
--- where the one is of task j and the other of task k they are at most the most of these tasks
-pub record ArePreempted (s : Start) (most : ℕ → ℕ → ℕ) (window : ℕ → ℕ) (i t to : ℕ)
-    (is_reload : ℕ → Bool) (victim preemptor : ℕ → ℕ) : Type 0 where
-  pub victims : (n : ℕ) → n < to → is_reload n ≡ true
-      → (victim n < length s.lines) × (in_window s i t to (victim n) ≡ true)
-  pub preemptors : (n : ℕ) → n < to → is_reload n ≡ true
-      → (preemptor n < length s.lines) × (in_window s i t to (preemptor n) ≡ true)
-  pub higher : (n : ℕ) → n < to → is_reload n ≡ true
-      → task_at s (preemptor n) < task_at s (victim n)
-  pub in_life : (n : ℕ) → n < to → is_reload n ≡ true → task_at s (victim n) < task_at s i
-      → lies_in (line_at s (victim n)).release
-      ((line_at s (victim n)).release + window (task_at s (victim n)))
-      (line_at s (preemptor n)).release ≡ true
+-- all reloads of a preemptor have one victim, and where the one is of task j and the other of task
+-- k they are at most the most of these tasks
+pub record ArePreempted (s : Start) (most : ℕ → ℕ → ℕ) (to : ℕ) (is_reload : ℕ → Bool)
+    (victim preemptor : ℕ → ℕ) : Type 0 where
   pub one_job : (n m : ℕ) → n < to → m < to → is_reload n ≡ true → is_reload m ≡ true
       → preemptor n ≡ preemptor m → victim n ≡ victim m
   pub few : (p k : ℕ) → count (λ n.
@@ -43,7 +33,8 @@ pub record ArePreempted (s : Start) (most : ℕ → ℕ → ℕ) (window : ℕ �
 
 module _ (s : Start) (set : TaskSet) (run : RunsLegally set s) (most : ℕ → ℕ → ℕ) (window : ℕ → ℕ)
     (i t : ℕ) (is_reload : ℕ → Bool) (victim preemptor : ℕ → ℕ)
-    (are : ArePreempted s most window i t (t + window (task_at s i)) is_reload victim preemptor)
+    (are : AreCharged s window i t (t + window (task_at s i)) is_reload victim preemptor)
+    (by : ArePreempted s most (t + window (task_at s i)) is_reload victim preemptor)
     (periods : (k : ℕ) → k ≤ task_at s i → 0 < period_of set k) where
   abbrev to : ℕ
   to = t + window (task_at s i)
@@ -85,23 +76,13 @@ module _ (s : Start) (set : TaskSet) (run : RunsLegally set s) (most : ℕ → �
         is_task = eqb-true _ _ both.0;
       }
 
-  preemptor_member : (j n : ℕ) → n < to → is_reload n ≡ true → task_at s (preemptor n) ≡ j
-      → is_member s t to j (preemptor n) ≡ true
-  preemptor_member j n l b e =
-      let is = are.preemptors n l b in
-      let below = are.higher n l b in
-      let top = inside_task s i t to (victim n) (are.victims n l b).1 in
-      subst (λ k. is_member s t to k (preemptor n) ≡ true) e
-      (inside_member s i t to (preemptor n) is.1
-      (λ q. let same : task_at s (preemptor n) ≡ task_at s i = ap (λ k. task_at s k) q in
-      omega arith))
-
   has_member : (j k p : ℕ) → has j k p ≡ true → is_member s t to j p ≡ true
   has_member j k p h =
       let f = found j k p h in
       subst (λ q. is_member s t to j q ≡ true) f.is_preemptor
-      (preemptor_member j (at k p) f.early f.reload
-      (ap (λ q. task_at s q) f.is_preemptor ∙ f.is_task))
+      (charged_member s window i t is_reload victim preemptor are j (at k p) f.early
+      (and_from (is_reload (at k p)) _ f.reload
+      (eq-eqb _ _ (ap (λ q. task_at s q) f.is_preemptor ∙ f.is_task))))
 
   -- how many jobs of j preempt jobs of k
   abbrev choice : ℕ → ℕ → ℕ
@@ -112,7 +93,7 @@ module _ (s : Start) (set : TaskSet) (run : RunsLegally set s) (most : ℕ → �
   one_task j p = at_most_one (λ k. has j k p) (suc (task_at s i)) (λ k m l h a b.
       let f = found j k p a in
       let g = found j m p b in
-      let same = are.one_job (at k p) (at m p) f.early g.early f.reload g.reload
+      let same = by.one_job (at k p) (at m p) f.early g.early f.reload g.reload
       (f.is_preemptor ∙ sym g.is_preemptor) in
       let e : k ≡ m = sym f.is_victim ∙ ap (λ q. task_at s q) same ∙ g.is_victim in
       omega arith)
@@ -242,7 +223,7 @@ module _ (s : Start) (set : TaskSet) (run : RunsLegally set s) (most : ℕ → �
       (and_from (is_reload n) (preemptor n == p) three.0 two.1) one.1) in
       elim (cases_Bool (has j k p)) [
         | inl b ↦
-            let few = are.few p k in
+            let few = by.few p k in
             let same = ap (λ q. most q k) (found j k p b).is_task in
             rw b (omega (arith, le, few, same))
         | inr b ↦
@@ -274,7 +255,7 @@ module _ (s : Start) (set : TaskSet) (run : RunsLegally set s) (most : ℕ → �
       (suc (task_at s i))
   task_count j h =
       let all = spread (by_task j) preemptor to (length s.lines)
-      (λ n l b. (are.preemptors n l (and_parts (is_reload n) _ b).0).0) in
+      (λ n l b. (are.jobs n l (and_parts (is_reload n) _ b).0).0) in
       let split = sum_le (λ p. count (λ n. by_task j n && (preemptor n == p)) to)
       (λ p. sum_below (λ k. most j k * (if has j k p then 1 else 0))
       (suc (task_at s i))) (length s.lines) (λ p l.

@@ -26,17 +26,7 @@ use Rattle.sound_laws.proofs.Reloads.Checked.{met, set_at}
 use Rattle.sound_laws.proofs.Reloads.OwnFetches.{has_graphs}
 
 module _ (K : CheckedRun) where
-  open K use {
-    start as s,
-    set,
-    graphs,
-    certificate as c,
-    horizon,
-    in_range as R,
-    code as C,
-    meets,
-    run,
-  }
+  open K use {start as s, set, graphs, certificate as c, in_range as R, code as C, run}
 
   -- what the laws on ledgers ask of such a run
   graphs_here : HasGraphs s graphs
@@ -100,17 +90,7 @@ module _ (K : CheckedRun) (x p first : ℕ) (test useful : ℕ → Bool)
     (e : IsPreempted K.start K.graphs K.certificate first x p)
     (each : (n : ℕ) → test n ≡ true
     → (n < K.horizon) × IsPreempted K.start K.graphs K.certificate n x p) where
-  open K use {
-    start as s,
-    set,
-    graphs,
-    certificate as c,
-    horizon,
-    in_range as R,
-    code as C,
-    meets,
-    run,
-  }
+  open K use {start as s, set, graphs, certificate as c, horizon, in_range as R, code as C, run}
 
   abbrev place_at : ℕ → ℕ
   place_at n = set_at K (job_after s n x).pc

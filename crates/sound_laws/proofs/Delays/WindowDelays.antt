@@ -51,7 +51,6 @@ module _ (K : CheckedRun) where
     horizon,
     in_range as R,
     code as C,
-    meets,
     run,
     kept,
   }

@@ -31,7 +31,8 @@ use Rattle.sound_laws.proofs.Delays.ChoiceCount.{ArePreempted, task_choice}
 use Rattle.sound_laws.proofs.Counts.Counting.{inject}
 use Rattle.run_account.proofs.Preemptors.{preemptor_of, HasPreemptor, preemptor_is, same_reload}
 use Rattle.run_account.proofs.Preemptors.{same_job}
-use Rattle.sound_laws.proofs.Delays.UnionCount.{AreEvicted, task_share, inside_task}
+use Rattle.sound_laws.proofs.Delays.UnionCount.{AreCharged, HaveSets, task_share}
+use Rattle.sound_laws.proofs.Delays.UnionCount.{inside_task}
 use Rattle.sound_laws.proofs.Walks.CheckedRuns.{CheckedRun, window, parts, some_sets, cached_run}
 use Rattle.sound_laws.proofs.Walks.CheckedRuns.{below_tasks, is_below, sets_same}
 use Rattle.sound_laws.proofs.Reloads.Checked.{is_reload, victim, cached, evictor_at, preemptor_at}
@@ -53,18 +54,7 @@ evicted_by parts h (suc j) c l e =
     ]
 
 module _ (K : CheckedRun) where
-  open K use {
-    start as s,
-    set,
-    graphs,
-    certificate as c,
-    horizon,
-    in_range as R,
-    code as C,
-    meets,
-    run,
-    kept,
-  }
+  open K use {start as s, set, certificate as c, horizon, in_range as R, run}
 
   pub inside_more : (i t until to x : ℕ) → until ≤ to → in_window s i t until x ≡ true
       → in_window s i t to x ≡ true
@@ -343,12 +333,6 @@ module _ (K : CheckedRun) where
         omega (arith, at.2, early) in
         and_from _ _ (le-leb _ _ low) (lt-ltb _ _ high)
 
-    evicts_before : (n : ℕ) → test n ≡ true → PassesBefore n (evictor_at K n)
-    evicts_before n b = evictor_passes n (facts n b).reload
-
-    preempts_before : (n : ℕ) → test n ≡ true → PassesBefore n (preemptor_at K n)
-    preempts_before n b = preemptor_passes n (facts n b).reload
-
     evicted : (n : ℕ) → (b : test n ≡ true)
         → has_set (parts K (task_at s (evictor_at K n))).evicting (cached K n) ≡ true
     evicted n b =
@@ -376,17 +360,23 @@ module _ (K : CheckedRun) where
         e.reload f.reload (e.set_same ∙ ca ∙ sym f.set_same) e.evicts other in
         omega arith
 
-    are_evicted : AreEvicted s set (parts K) (window K) i t to test (victim K) (evictor_at K)
-        (cached K)
-    are_evicted =
+    -- with jobs that pass before them
+    are_charged : (charged : ℕ → ℕ)
+        → ((n : ℕ) → is_reload K n ≡ true → PassesBefore n (charged n))
+        → AreCharged s (window K) i t to test (victim K) charged
+    are_charged charged passes =
         record {
           victims = λ n l b. ((says_at n b).below, victim_inside n b);
-          evictors = λ n l b. (
-            is_job n (evictor_at K n) (evicts_before n b),
-            inside n (evictor_at K n) l b (evicts_before n b),
-          );
-          higher = λ n l b. (evicts_before n b).passes.higher;
-          in_life = λ n l b up. life n (evictor_at K n) b (evicts_before n b) up;
+          jobs = λ n l b.
+              let p = passes n (facts n b).reload in
+              (is_job n (charged n) p, inside n (charged n) l b p);
+          higher = λ n l b. (passes n (facts n b).reload).passes.higher;
+          in_life = λ n l b up. life n (charged n) b (passes n (facts n b).reload) up;
+        }
+
+    have_sets : HaveSets s (parts K) to test (victim K) (evictor_at K) (cached K)
+    have_sets =
+        record {
           places = λ n l b. places n (facts n b).reload;
           is_evicted = λ n l b. evicted n b;
           is_useful = λ n l b. (says_at n b).useful;
@@ -394,16 +384,9 @@ module _ (K : CheckedRun) where
         }
 
     are_preempted : (most : ℕ → ℕ → ℕ) → OnePreemptorWithin most
-        → ArePreempted s most (window K) i t to test (victim K) (preemptor_at K)
+        → ArePreempted s most to test (victim K) (preemptor_at K)
     are_preempted most within =
         record {
-          victims = λ n l b. ((says_at n b).below, victim_inside n b);
-          preemptors = λ n l b. (
-            is_job n (preemptor_at K n) (preempts_before n b),
-            inside n (preemptor_at K n) l b (preempts_before n b),
-          );
-          higher = λ n l b. (preempts_before n b).passes.higher;
-          in_life = λ n l b up. life n (preemptor_at K n) b (preempts_before n b) up;
           one_job = λ n m l k b c q. one_job n m (facts n b).reload (facts m c).reload q;
           few = λ p k. within p k to
               (λ n. (test n && (preemptor_at K n == p)) && (task_at s (victim K n) == k))
@@ -424,7 +407,7 @@ module _ (K : CheckedRun) where
         ≤ ucb_count set (parts K) (window K) (window K (task_at s i)) (task_at s i) j
     by_evictors legal j l =
         task_share s set (legal_run legal) (parts K) (window K) i t test (victim K) (evictor_at K)
-        (cached K) are_evicted periods_pos j l
+        (cached K) (are_charged (evictor_at K) evictor_passes) have_sets periods_pos j l
 
     pub by_preemptors : IsLegal set s.lines → (most : ℕ → ℕ → ℕ) → OnePreemptorWithin most
         → (j : ℕ) → j ≤ task_at s i
@@ -434,7 +417,7 @@ module _ (K : CheckedRun) where
         (suc (task_at s i)) (jobs_of set j (window K (task_at s i)))
     by_preemptors legal most within j l =
         task_choice s set (legal_run legal) most (window K) i t test (victim K) (preemptor_at K)
-        (are_preempted most within) periods_pos j l
+        (are_charged (preemptor_at K) preemptor_passes) (are_preempted most within) periods_pos j l
 
   -- the UCB-union delay covers the reloads, charged to their evictors
   ucb_covers : IsLegal set s.lines → (i : ℕ) → IsCovering i (evictor_at K)

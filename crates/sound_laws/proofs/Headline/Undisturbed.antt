@@ -32,7 +32,6 @@ module _ (K : CheckedRun) where
     horizon,
     in_range as R,
     code as C,
-    meets,
     run,
     kept,
   }

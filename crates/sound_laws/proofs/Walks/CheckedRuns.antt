@@ -71,7 +71,6 @@ module _ (K : CheckedRun) where
     horizon,
     in_range as R,
     code as C,
-    meets,
     run,
     kept,
   }

@@ -28,18 +28,7 @@ pub record HaveDelays (K : CheckedRun) (delay : ℕ → ℕ → ℕ) : Type 0 wh
       → (charged : ℕ → ℕ) × IsCovering K i charged (delay (task_at K.start i))
 
 module _ (K : CheckedRun) where
-  open K use {
-    start as s,
-    set,
-    graphs,
-    certificate as c,
-    horizon,
-    in_range as R,
-    code as C,
-    meets,
-    run,
-    kept,
-  }
+  open K use {start as s, set, horizon, code as C}
 
   -- the reloads of a whole window
   module _ (i t from : ℕ) (h : i < length s.lines) (after : t ≤ from)

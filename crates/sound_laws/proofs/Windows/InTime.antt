@@ -37,18 +37,7 @@ use Rattle.sound_laws.proofs.Delays.WindowReloads.{legal_run}
 use Rattle.sound_laws.proofs.Windows.Delayed.{HaveDelays, delayed}
 
 module _ (K : CheckedRun) where
-  open K use {
-    start as s,
-    set,
-    graphs,
-    certificate as c,
-    horizon,
-    in_range as R,
-    code as C,
-    meets,
-    run,
-    kept,
-  }
+  open K use {start as s, set, graphs, certificate as c, horizon, in_range as R, code as C, run}
 
   module _ (legal : IsLegal set s.lines) where
     abbrev pub block : ℕ → ℕ
