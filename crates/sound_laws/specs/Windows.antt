@@ -22,8 +22,8 @@ use Rattle.sound_laws.specs.CyclesToGo.{count_below}
 pub record HaveRoom (set : TaskSet) (graphs : ℕ → TaskGraph) (c : Certificate)
     (delay : ℕ → ℕ → ℕ) : Type 0 where
   pub room : (k : ℕ) → k < length set.tasks
-      → demand_by set (certified_part c) (longest_at set.platform graphs) k (delay k) (window_at c k)
-      ≤ window_at c k
+      → demand_by set (certified_part c) (longest_at set.platform graphs) k (delay k)
+      (window_at c k) ≤ window_at c k
   pub in_deadline : (k : ℕ) → k < length set.tasks → window_at c k + jitter_of set k
       ≤ deadline_of set k
 

@@ -83,7 +83,9 @@ module _ (K : CheckedRun) where
 
 pub reload_comes_from_higher : ReloadComesFromHigher
 reload_comes_from_higher s set graphs c n x p R C says run e =
-    from_higher (checked_run s set graphs c n R C (yes_meets set graphs c says) (runs_jobs run) e.reload.kept) n x p e
+    from_higher
+    (checked_run s set graphs c n R C (yes_meets set graphs c says) (runs_jobs run) e.reload.kept)
+    n x p e
 
 -- the reloads of a job with one preemptor
 module _ (K : CheckedRun) (x p first : ℕ) (test useful : ℕ → Bool)
@@ -138,5 +140,6 @@ module _ (K : CheckedRun) (x p first : ℕ) (test useful : ℕ → Bool)
 
 pub preemptor_within_useful : PreemptorWithinUseful
 preemptor_within_useful s set graphs c until x p first test useful R C says run kept e each covers =
-    few_useful (checked_run s set graphs c until R C (yes_meets set graphs c says) (runs_jobs run) kept) x p first test
-    useful e each covers
+    few_useful
+    (checked_run s set graphs c until R C (yes_meets set graphs c says) (runs_jobs run) kept) x p
+    first test useful e each covers

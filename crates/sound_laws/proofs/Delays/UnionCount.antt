@@ -138,7 +138,8 @@ module _ (s : Start) (set : TaskSet) (run : RunsLegally set s) (parts : ℕ → 
   by_jobs : (j c : ℕ) → j ≤ task_at s i → count (by_set j c) to ≤ jobs j (window (task_at s i))
   by_jobs j c h =
       few_evictors j c (by_set j c) t (window (task_at s i)) h (λ n l b. b)
-      (λ n l b. charged_member s window i t is_reload victim evictor are j n l (and_parts (by_task j n) _ b).0)
+      (λ n l b. charged_member s window i t is_reload victim evictor are j n l
+      (and_parts (by_task j n) _ b).0)
 
   -- the reloads of one victim
   abbrev by_job : ℕ → ℕ → ℕ → ℕ → ℕ → Bool

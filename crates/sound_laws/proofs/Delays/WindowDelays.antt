@@ -190,8 +190,8 @@ none_counted t until test l each =
       | inl b ↦ let w = each n b in absurd (omega (arith, w.0, w.1))
     ])
 
--- in every legal and kept run of a set's code whose parts meet the clauses of the graphs, the windows
--- have such delays
+-- in every legal and kept run of a set's code, where the parts meet the clauses of the graphs, the
+-- windows have such delays
 abbrev pub HoldInRuns : TaskSet → (ℕ → TaskGraph) → Certificate → (ℕ → ℕ → ℕ) → Type 0
 HoldInRuns set graphs c delay =
     (s : Start) (n : ℕ) (R : HasTaskRanges set) (C : IsCodeOf s.system set graphs)

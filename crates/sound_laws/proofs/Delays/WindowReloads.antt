@@ -243,7 +243,8 @@ module _ (K : CheckedRun) where
       (λ n b. let e = each n b in (
         e.0,
         e.1,
-        subst (λ q. has_set (parts K q).useful (cached K n) ≡ true) e.2 (reload_says K n e.0).useful,
+        subst (λ q. has_set (parts K q).useful (cached K n) ≡ true) e.2
+            (reload_says K n e.0).useful,
       ))
 
   pub legal_run : IsLegal set s.lines → RunsLegally set s

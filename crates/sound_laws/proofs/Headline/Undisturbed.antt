@@ -182,4 +182,6 @@ module _ (K : CheckedRun) where
 
 pub undisturbed_bound : UndisturbedBound
 undisturbed_bound s set graphs c n x first R C says run kept h hz still =
-    undisturbed (checked_run s set graphs c n R C (yes_meets set graphs c says) (runs_jobs run) kept) x first h still hz
+    undisturbed
+    (checked_run s set graphs c n R C (yes_meets set graphs c says) (runs_jobs run) kept) x first h
+    still hz

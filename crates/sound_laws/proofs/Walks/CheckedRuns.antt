@@ -30,8 +30,8 @@ pub record RunsJobsOf (set : TaskSet) (s : Start) : Type 0 where
   pub cache : s.system.platform.sets ≤ length s.cache
   pub tasks : NamesTasks set s.lines
 
--- a run of a set with its code, of which these are the graphs, and whose parts of a certificate meet
--- the clauses of the graphs: it is kept up to the horizon
+-- a run of a set with its code, of which these are the graphs, where the parts of a certificate meet
+-- the graphs' clauses: it is kept up to the horizon
 pub record CheckedRun : Type 0 where
   pub start : Start
   pub set : TaskSet

@@ -19,7 +19,8 @@ use Rattle.sound_laws.proofs.Delays.UnionCount.{inside_task}
 use Rattle.sound_laws.proofs.Walks.CheckedRuns.{CheckedRun, window}
 use Rattle.sound_laws.proofs.Reloads.Checked.{is_reload, extra, victim}
 use Rattle.sound_laws.proofs.Execution.Spent.{extra_counts}
-use Rattle.sound_laws.proofs.Delays.WindowReloads.{IsCounted, IsOpenWindow, IsCovering, victim_inside}
+use Rattle.sound_laws.proofs.Delays.WindowReloads.{IsCounted, IsOpenWindow, IsCovering}
+use Rattle.sound_laws.proofs.Delays.WindowReloads.{victim_inside}
 
 -- delays of all pairs of tasks that cover the reloads of a run, and for which the windows have room
 pub record HaveDelays (K : CheckedRun) (delay : ℕ → ℕ → ℕ) : Type 0 where
