@@ -17,7 +17,7 @@ use Rattle.delay_count.specs.Gamma.{greatest_choice}
 use Rattle.delay_count.proofs.Choices.{choice_most}
 use Rattle.sound_laws.proofs.Windows.Releases.{count, count_none, at_most_one, lies_in}
 use Rattle.sound_laws.proofs.Counts.Counting.{spread, each_at_most, count_le}
-use Rattle.sound_laws.proofs.Windows.Busy.{line_at, task_at, in_window}
+use Rattle.sound_laws.proofs.Windows.Busy.{line_at, task_at}
 use Rattle.sound_laws.proofs.Windows.Demands.{is_member, releases_few}
 use Rattle.sound_laws.proofs.Delays.UnionCount.{AreCharged, charged_member, inside_member}
 use Rattle.sound_laws.proofs.Delays.UnionCount.{inside_task}

@@ -43,17 +43,7 @@ use Rattle.sound_laws.proofs.Windows.Delayed.{HaveDelays}
 use Rattle.sound_laws.proofs.Windows.InTime.{block, delays, windows}
 
 module _ (K : CheckedRun) where
-  open K use {
-    start as s,
-    set,
-    graphs,
-    certificate as c,
-    horizon,
-    in_range as R,
-    code as C,
-    run,
-    kept,
-  }
+  open K use {start as s, set, graphs, certificate as c, horizon}
 
   -- a reload of the ledger has the run's evictor and preemptor
   evictor_is : (n x y : ℕ) → is_reload K n ≡ true → IsEvicted s graphs c n x y → evictor_at K n ≡ y

@@ -24,17 +24,7 @@ use Rattle.sound_laws.proofs.Reloads.Checked.{is_reload, extra, victim, evictor_
 use Rattle.sound_laws.proofs.Execution.Spent.{rest, rest_spends, fresh}
 
 module _ (K : CheckedRun) where
-  open K use {
-    start as s,
-    set,
-    graphs,
-    certificate as c,
-    horizon,
-    in_range as R,
-    code as C,
-    run,
-    kept,
-  }
+  open K use {start as s, set, graphs, certificate as c, horizon, in_range as R, code as C, run}
 
   was_from : (n u x : ℕ) → u < n → candidate_at s u ≡ Some x → was_owner s n x ≡ true
   was_from zero u x l e = absurd (omega arith)
