@@ -15,7 +15,7 @@ use Rattle.run_account.specs.Walks.{HasGraphs, AreStatesMet}
 use Rattle.run_account.proofs.ReloadFacts.{of_higher}
 use Rattle.run_account.proofs.Gaps.{one_gap_per_preemptor}
 use Rattle.run_account.proofs.JobWalks.{ledger_reload_is_own}
-use Rattle.run_account.proofs.ReloadLaws.{one_job_per_preemptor}
+use Rattle.run_account.proofs.ReloadLaws.{one_reload_of}
 use Rattle.sound_laws.specs.FromHigher.{IsFromHigher, ReloadComesFromHigher, PreemptorWithinUseful}
 use Rattle.sound_laws.proofs.Windows.Releases.{count}
 use Rattle.sound_laws.proofs.Counts.Counting.{inject}
@@ -109,8 +109,8 @@ module _ (K : CheckedRun) (x p first : ℕ) (test useful : ℕ → Bool)
       let F = (each m b).1 in
       let r = ledger_reload_is_own s graphs c n x E.fetch (graphs_here K) (states_met K) E.reload in
       let t = ledger_reload_is_own s graphs c m x F.fetch (graphs_here K) (states_met K) F.reload in
-      let same = one_job_per_preemptor.one_reload s x n r.time E.fetch r.own m t.time F.fetch t.own
-      p E.from E.time E.until F.from F.time F.until (cached_run K) r.reload t.reload
+      let same = one_reload_of s x n r.time E.fetch r.own m t.time F.fetch t.own p E.from E.time
+      E.until F.from F.time F.until r.reload t.reload
       (place_is n E.fetch E.reload.fetches ∙ q ∙ sym (place_is m F.fetch F.reload.fetches))
       E.is F.is in
       omega arith

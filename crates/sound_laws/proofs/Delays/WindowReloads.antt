@@ -151,21 +151,22 @@ module _ (K : CheckedRun) where
   preemptor_passes : (n : ℕ) → is_reload K n ≡ true → PassesBefore n (preemptor_at K n)
   preemptor_passes n b =
       let w = preempted n (reload_says K n b) in
-      let q = w.is in
+      let q = w.is.passes in
+      let g = w.is.lies in
       let early = q.until in
-      let in_time = q.in_time in
+      let in_time = w.is.in_time in
       record {
         begin = w.a;
         at = q.at;
         end = w.c;
-        first = q.from;
+        first = g.from;
         fetch = q.fetch;
-        begins = q.gap.begins;
+        begins = g.gap.begins;
         by = q.by;
         early = omega (arith, early, in_time);
         passes =
-            gap_is_of_higher s (victim K n) (preemptor_at K n) w.a q.at w.c q.from q.fetch q.to
-            q.after q.until q.gap.begins q.by q.gap.ends q.other;
+            gap_is_of_higher s (victim K n) (preemptor_at K n) w.a q.at w.c g.from q.fetch g.to
+            q.after q.until g.gap.begins q.by g.gap.ends q.other;
       }
 
   -- the evictor in the gap of a reload is of the preemptor's task or of one above it
