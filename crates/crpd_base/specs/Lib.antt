@@ -9,4 +9,5 @@ pub mod Entries
 pub mod CertificateRanges
 pub mod Tasks
 pub mod Texts
+pub mod Arrivals
 pub mod Outcome

@@ -11,7 +11,7 @@ use Rattle.crpd_base.specs.declared.data.TaskSet.{TaskSet}
 use Rattle.crpd_base.specs.Ranges.{IsTaskSet}
 use Rattle.rv_decode.specs.Flow.{IsCodeMap}
 use Rattle.code_map.specs.Words.{Code, word_at}
-use Rattle.script_reader.specs.Legal.{IsLegal}
+use Rattle.crpd_base.specs.Arrivals.{IsLegal}
 use Rattle.crpd_base.specs.declared.data.Method.{Method}
 use Rattle.crpd_base.specs.declared.data.Method.TheVariants.{Ucb, Ecb}
 use Rattle.delay_count.specs.Demand.{gamma}

@@ -5,7 +5,8 @@ use Rattle.crpd_base.specs.Limits.{most_sets}
 use Rattle.crpd_base.specs.declared.data.TaskPlan.{TaskPlan}
 use Rattle.crpd_base.specs.declared.data.TaskSet.{TaskSet}
 use Rattle.rv_decode.specs.Flow.{Words, IsCodeMap, flows}
-use Rattle.script_reader.specs.Legal.{period_of, IsLegal}
+use Rattle.crpd_base.specs.Tasks.{period_of}
+use Rattle.crpd_base.specs.Arrivals.{IsLegal}
 use Rattle.flow_watch.specs.Watch.{Frame, is_unbroken}
 use Rattle.flat_graph.specs.Graph.{IsWalk}
 use Rattle.loop_regions.specs.Nest.{IsKeptWalk}

@@ -7,7 +7,7 @@ use Rattle.crpd_base.specs.declared.data.TaskPart.{TaskPart}
 use Rattle.crpd_base.specs.declared.data.Method.TheVariants.{Ucb, Ecb}
 use Rattle.crpd_base.specs.Ranges.{IsPlatform, IsTaskSpec, HaveOwnNames, IsTaskSet}
 use Rattle.code_map.specs.Words.{word_at}
-use Rattle.script_reader.specs.Legal.{AreSpaced, IsReleasedInTime}
+use Rattle.crpd_base.specs.Arrivals.{AreSpaced, IsReleasedInTime}
 use Rattle.rv_decode.specs.Flow.{flow}
 use Rattle.rv_decode.specs.Table.{ins_of_word, table}
 use Rattle.rv_decode.specs.Cost.{work_cost}

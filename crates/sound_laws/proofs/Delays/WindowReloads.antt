@@ -9,7 +9,8 @@ use Rattle.crpd_base.proofs.Options.{some_injective}
 use Rattle.crpd_base.specs.declared.data.Part.{Part}
 use Rattle.crpd_base.specs.declared.data.Method.{Method}
 use Rattle.crpd_base.specs.declared.data.Method.TheVariants.{Ucb, Ecb}
-use Rattle.script_reader.specs.Legal.{IsLegal, period_of}
+use Rattle.crpd_base.specs.Arrivals.{IsLegal}
+use Rattle.crpd_base.specs.Tasks.{period_of}
 use Rattle.delay_count.specs.Counts.{jobs_of, affected_preemptions}
 use Rattle.delay_count.specs.Gamma.{ucb_count, evicted_from, shared_count, shared_sets}
 use Rattle.delay_count.specs.Gamma.{greatest_choice}

@@ -10,7 +10,7 @@ use Rattle.crpd_base.specs.declared.data.ScriptJob.{ScriptJob}
 use Rattle.crpd_base.specs.declared.data.TaskPart.{TaskPart}
 use Rattle.crpd_base.specs.declared.data.TaskSet.{TaskSet}
 use Rattle.code_map.specs.Words.{Code}
-use Rattle.script_reader.specs.Legal.{IsLegal}
+use Rattle.crpd_base.specs.Arrivals.{IsLegal}
 use Rattle.crpd_base.specs.declared.data.Method.{Method}
 use Rattle.crpd_base.specs.declared.data.Method.TheVariants.{Ucb, Ecb}
 use Rattle.delay_count.specs.Demand.{gamma}

@@ -7,7 +7,8 @@ use Rattle.crpd_base.proofs.Sums.{sum_add}
 use Rattle.crpd_base.specs.declared.data.Platform.{Platform}
 use Rattle.crpd_base.specs.declared.data.Switching.{Switching}
 use Rattle.crpd_base.specs.declared.data.Switching.TheVariants.{Cycle, Instruction}
-use Rattle.script_reader.specs.Legal.{IsLegal, jitter_of, period_of}
+use Rattle.crpd_base.specs.Tasks.{jitter_of, period_of}
+use Rattle.crpd_base.specs.Arrivals.{IsLegal}
 use Rattle.delay_count.specs.Counts.{jobs_of}
 use Rattle.crpd_base.specs.Sum.{sum_below}
 use Rattle.delay_count.specs.Demand.{blocking, greatest_from}

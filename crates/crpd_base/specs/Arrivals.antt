@@ -1,8 +1,8 @@
--- Which scripts are legal.
+-- The arrivals of jobs: which scripts are legal.
 use Rattle.std.specs.Prelude.{◌≡◌, ℕ, ◌+◌, ◌≤◌, ◌⊎◌, List, All, AllPairs}
 use Rattle.crpd_base.specs.declared.data.ScriptJob.{ScriptJob}
 use Rattle.crpd_base.specs.declared.data.TaskSet.{TaskSet}
-pub use Rattle.crpd_base.specs.Tasks.{period_of, jitter_of}
+use Rattle.crpd_base.specs.Tasks.{period_of, jitter_of}
 
 -- two times are at least so far apart
 abbrev pub AreApart : ℕ → ℕ → ℕ → Type 0
