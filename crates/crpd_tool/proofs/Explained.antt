@@ -6,7 +6,7 @@ use Rattle.crpd_base.specs.declared.data.Certificate.{Certificate}
 use Rattle.crpd_base.specs.declared.data.Script.{Script}
 use Rattle.crpd_base.specs.declared.data.TaskSet.{TaskSet}
 use Rattle.code_map.specs.Words.{word_at}
-use Rattle.script_reader.specs.Legal.{IsLegal}
+use Rattle.crpd_base.specs.Arrivals.{IsLegal}
 use Rattle.script_reader.specs.Reading as script_reader
 use Rattle.script_reader.proofs.Found.{found_in}
 use Rattle.loop_regions.specs.TaskGraph.{TaskGraph}

@@ -7,7 +7,7 @@ use Rattle.std.proofs.lemmas.List.{append_assoc, ext_get_or, get_or-map, length-
 use Rattle.crpd_base.specs.declared.data.Certificate.{Certificate}
 use Rattle.crpd_base.specs.declared.data.Script.{Script}
 use Rattle.crpd_base.specs.declared.data.TaskSet.{TaskSet}
-use Rattle.script_reader.specs.Legal.{IsLegal}
+use Rattle.crpd_base.specs.Arrivals.{IsLegal}
 use Rattle.cert_build.specs.declared.fault.BuildError.{BuildError}
 use Rattle.cert_build.specs.declared.fault.BuildError.TheVariants.{Memory, TooLarge, TooManyEntries}
 use Rattle.cert_build.specs.declared.fault.BuildError.TheVariants.{Unschedulable}

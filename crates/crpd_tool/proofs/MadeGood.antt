@@ -2,7 +2,7 @@
 -- a start of the machine.
 use Rattle.std.proofs.Common.{◌≡◌, ℕ, length, Ok, ap, sym, subst, ◌∙◌, arith}
 use Rattle.crpd_base.specs.Ranges.{IsTaskSet}
-use Rattle.script_reader.specs.Legal.{IsLegal}
+use Rattle.crpd_base.specs.Arrivals.{IsLegal}
 use Rattle.preempt_machine.specs.Safe.{IsLegalRun, NamesTasks}
 use Rattle.preempt_machine.specs.Starts.{start_of_script}
 use Rattle.preempt_machine.proofs.Loads.{start_cache_length}

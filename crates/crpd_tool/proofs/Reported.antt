@@ -3,7 +3,7 @@ use Rattle.std.proofs.Common.{◌≡◌, ◌++◌, ℕ, List, Result, Ok, ap, sy
 use Rattle.std.proofs.lemmas.Bool.Decides.{same_from_decides}
 use Rattle.crpd_base.specs.declared.data.Script.{Script}
 use Rattle.crpd_base.specs.declared.data.TaskSet.{TaskSet}
-use Rattle.script_reader.specs.Legal.{IsLegal}
+use Rattle.crpd_base.specs.Arrivals.{IsLegal}
 use Rattle.preempt_machine.specs.Machine.{Machine}
 use Rattle.preempt_machine.specs.Safe.{IsKept}
 use Rattle.crpd_io.specs.Outside.{Contents}

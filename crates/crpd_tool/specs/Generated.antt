@@ -1,7 +1,7 @@
 -- What `generate` writes with the status Done, and that no job of a kept run is late.
 use Rattle.std.specs.Prelude.{◌≡◌, ◌↔◌, IsTrue, ℕ, Bool, true, List, ◌++◌, Some, Ok}
 use Rattle.crpd_base.specs.declared.data.Certificate.{Certificate}
-use Rattle.script_reader.specs.Legal.{IsLegal}
+use Rattle.crpd_base.specs.Arrivals.{IsLegal}
 use Rattle.cert_build.specs.Best.{IsBest}
 use Rattle.cert_check.specs.JudgeInput.{responses}
 use Rattle.cert_check.specs.Verdict.{IsJudged, Yes}
