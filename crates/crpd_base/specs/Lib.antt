@@ -9,3 +9,4 @@ pub mod Entries
 pub mod CertificateRanges
 pub mod Tasks
 pub mod Outcome
+pub mod Inner
