@@ -11,3 +11,4 @@ pub mod Tasks
 pub mod Texts
 pub mod Arrivals
 pub mod Outcome
+pub mod Inner

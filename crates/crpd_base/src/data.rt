@@ -1,11 +1,30 @@
 // Plain data: what the files say, and what is certified.
+ghost use Rattle.std.specs.Prelude.{◌≡◌};
+
 use crate::limits::WORDS;
 use crate::lists::{Items, Text};
 use crate::set_bits::SetBits;
+use std::alloc::{AllocError, AllocFailed};
 
-/// Want of memory: an allocation was refused.
+/// Want of memory: an allocation was refused. A `?` makes it of the library's errors.
 #[derive(Clone, Copy, Debug)]
 pub struct Memory;
+
+impl From<AllocError> for Memory {
+    ghost from_gives = { λ _ e. e ≡ record {} };
+
+    fn from(_e: AllocError) -> Memory {
+        Memory
+    }
+}
+
+impl<T: Drop> From<AllocFailed<T>> for Memory {
+    ghost from_gives = { λ _ e. e ≡ record {} };
+
+    fn from(_e: AllocFailed<T>) -> Memory {
+        Memory
+    }
+}
 
 /// A task's place in priority order, 0 the highest, at most 31.
 #[derive(Clone, Copy, PartialEq, Eq)]

@@ -2,7 +2,7 @@
 use Rattle.std.proofs.Common.{◌≡◌, length, vec_len}
 use Rattle.dataflow.specs.Problem.{problem, fact_at}
 use Rattle.dataflow.specs.Inner.Search.{IsPartialSolution, waits, work_left}
-use Rattle.dataflow.proofs.solver.search.Given as goal
+use Rattle.dataflow.proofs.solver.solve.Given as goal
 
 abbrev pub invariant-loop-node : goal.invariant-loop-node
 invariant-loop-node g l = record {

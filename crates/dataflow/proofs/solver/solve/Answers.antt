@@ -8,7 +8,7 @@ use Rattle.dataflow.specs.Inner.Search.{IsPartialSolution, IsPassedOn, waits, wo
 use Rattle.dataflow.proofs.Solution.{is_fact, is_least}
 use Rattle.dataflow.proofs.Steps.{at_start, taken, taken_empty, its_source, solved}
 use Rattle.dataflow.proofs.Left.{left_taken}
-use Rattle.dataflow.proofs.solver.search.Goals as goal
+use Rattle.dataflow.proofs.solver.solve.Goals as goal
 
 -- the fact that is passed on
 source_in : (F V : Type 0) (view : F → V) (facts same : List (Option F)) (p : Problem V)
