@@ -21,9 +21,9 @@ use Rattle.sensitivity.specs.Accepted.{IsStop}
 use Rattle.sensitivity.specs.Costs.{with_miss, with_switch}
 use Rattle.sensitivity.specs.Laws.{IsLoopBounded}
 use Rattle.sensitivity.specs.Slack.{AreRefusedFrom, IsGreatest, IsSlack, StopsNext}
-use Rattle.sensitivity.specs.declared.slack.Slack.{Slack}
-use Rattle.sensitivity.specs.declared.slack.Stop.{Stop}
-use Rattle.sensitivity.specs.declared.slack.Stop.TheVariants.{Limit, Window, Bound}
+use Rattle.crpd_base.specs.declared.data.Slack.{Slack}
+use Rattle.crpd_base.specs.declared.data.Stop.{Stop}
+use Rattle.crpd_base.specs.declared.data.Stop.TheVariants.{Limit, Window, Bound}
 use Rattle.sensitivity.proofs.Slacks.{one_slack_by}
 use Rattle.crpd_tool.specs.declared.answer.Answer.{Answer}
 use Rattle.task_shapes.specs.Shapes.{SetWithShapes}

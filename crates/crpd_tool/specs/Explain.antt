@@ -45,7 +45,8 @@ AccountOf shaped certificate script r =
     × (r ≡ Ok (account_answer input.set certificate account last))
 
 -- the account after a yes, and else the line of the no
-abbrev pub ExplainedBy : SetWithShapes → Certificate → Script → Verdict → Result Answer Halt → Type 0
+abbrev pub ExplainedBy : SetWithShapes → Certificate → Script → Verdict → Result Answer Halt
+    → Type 0
 ExplainedBy shaped certificate script Yes r = AccountOf shaped certificate script r
 ExplainedBy shaped certificate script (No task clause place) r =
     r ≡ Ok (verdict_answer shaped.input.set certificate (No task clause place))

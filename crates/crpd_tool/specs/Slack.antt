@@ -4,7 +4,7 @@ use Rattle.crpd_base.specs.declared.data.TaskSet.{TaskSet}
 use Rattle.loop_regions.specs.TaskGraph.{TaskGraph}
 use Rattle.sensitivity.specs.Costs.{with_miss, with_switch}
 use Rattle.sensitivity.specs.Slack.{IsSlack}
-use Rattle.sensitivity.specs.declared.slack.Slack.{Slack}
+use Rattle.crpd_base.specs.declared.data.Slack.{Slack}
 use Rattle.crpd_io.specs.Outside.{Contents}
 use Rattle.crpd_tool.specs.declared.answer.Answer.{Answer}
 use Rattle.crpd_tool.specs.declared.answer.Outcome.TheVariants.{Done}
@@ -13,7 +13,7 @@ use Rattle.task_shapes.specs.Shapes.{SetWithShapes}
 use Rattle.crpd_tool.specs.Shaped.{graphs_of}
 use Rattle.crpd_input.specs.Shapes.{ShapedIn}
 use Rattle.crpd_input.specs.Steps.{Then}
-use Rattle.crpd_tool.specs.SlackText.{slack_text}
+use Rattle.crpd_report.specs.Slack.{slack_text}
 
 -- the greatest accepted costs of a switch and of a reload, each with the stop of the next one
 pub record AreSlacks (set : TaskSet) (graphs : ℕ → TaskGraph) (first second : Slack) : Type 0 where

@@ -5,7 +5,7 @@ use Rattle.delay_count.specs.Laws.{DelayGrows, DemandGrows}
 use Rattle.sensitivity.specs.Accepted.{IsAccepted}
 use Rattle.sensitivity.specs.Costs.{with_costs}
 use Rattle.sensitivity.specs.Laws.{BoundGrows, LongestGrows, WindowsGrow}
-use Rattle.sensitivity.specs.declared.slack.Slack.{Slack}
+use Rattle.crpd_base.specs.declared.data.Slack.{Slack}
 use Rattle.crpd_io.specs.Outside.{Contents}
 use Rattle.crpd_tool.specs.declared.status.Status.TheVariants.{Done}
 use Rattle.task_shapes.specs.Shapes.{SetWithShapes}
@@ -13,7 +13,7 @@ use Rattle.crpd_tool.specs.Output.{IsOut, Output}
 use Rattle.crpd_input.specs.Reading.{input_in}
 use Rattle.crpd_input.specs.Shapes.{ShapedFrom}
 use Rattle.crpd_tool.specs.Slack.{AreSlacks}
-use Rattle.crpd_tool.specs.SlackText.{slack_text}
+use Rattle.crpd_report.specs.Slack.{slack_text}
 use Rattle.crpd_tool.specs.Commands.{slack, command_of}
 
 -- the files mean a set with its code, which has graphs and regions; the text is that of the one

@@ -1,10 +1,10 @@
 // The command `explain`.
-ghost use Rattle.std.specs.Prelude.{◌≤◌, length, IfOk, Ok};
+ghost use Rattle.std.specs.Prelude.{◌≤◌, length, IfOk, IsErrOf, Ok};
 ghost use Rattle.cert_check.specs.Verdict.{IsJudged, Yes};
 ghost use Rattle.crpd_base.specs.CertificateRanges.{IsCertificate};
 ghost use Rattle.crpd_input.specs.Steps.{HoldsWhereTold, LeavesFiles, MeansBy};
 ghost use Rattle.preempt_machine.specs.Safe.{NamesTasks};
-ghost use Rattle.crpd_tool.specs.Explain.{AccountOf, ExplainEnds};
+ghost use Rattle.crpd_tool.specs.Explain.{AccountOf, ExplainEnds, ExplanationOf};
 ghost use Rattle.crpd_tool.specs.Shaped.{graphs_of};
 
 use crate::answer::{Answer, Outcome};
@@ -48,6 +48,26 @@ fn account_answer(
     })
 }
 
+/// The account of a script's run, or the judge's no to the certificate.
+fn explanation(
+    alloc: Global,
+    shaped: &ShapedSet,
+    certificate: &Certificate,
+    script: &Script,
+) -> Result<Answer, Halt>
+    requires ranges { IsCertificate certificate.now }
+    requires tasks { NamesTasks shaped.now.input.set script.now.jobs }
+    requires few { length script.now.jobs ≤ 10000 }
+    ensures exact { MeansBy (ExplanationOf shaped.now certificate.now script.now) result }
+    ensures no_fault { ¬ IsErrOf result Halt.Fault }
+{
+    let found = judge(shaped, certificate);
+    match found {
+        Verdict::Yes => Ok(account_answer(alloc, shaped, certificate, script)?),
+        Verdict::No { .. } => Ok(write_verdict(alloc, shaped.set(), certificate, &found)?),
+    }
+}
+
 /// The account of the run of a file's script for the set of a file, or the judge's no to the
 /// certificate of a file.
 pub(crate) fn explain<F: Files>(
@@ -64,9 +84,5 @@ pub(crate) fn explain<F: Files>(
     let shaped = load_shaped(alloc, files, set)?;
     let stated = load_certificate(alloc, files, certificate)?;
     let given = load_script(alloc, files, script, shaped.set())?;
-    let found = judge(&shaped, &stated);
-    match found {
-        Verdict::Yes => Ok(account_answer(alloc, &shaped, &stated, &given)?),
-        Verdict::No { .. } => Ok(write_verdict(alloc, shaped.set(), &stated, &found)?),
-    }
+    explanation(alloc, &shaped, &stated, &given)
 }

@@ -3,10 +3,10 @@ ghost use Rattle.crpd_input.specs.Steps.{HoldsWhereTold, LeavesFiles, MeansBy};
 ghost use Rattle.crpd_tool.specs.Slack.{SlackEnds};
 
 use crate::answer::{Answer, Outcome};
-use crate::slack_lines::slack_text;
 use crpd_base::Items;
 use crpd_input::{Halt, load_shaped};
 use crpd_io::Files;
+use crpd_report::slack_text;
 use sensitivity::{greatest_miss, greatest_switch};
 use std::alloc::Global;
 

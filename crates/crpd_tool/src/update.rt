@@ -4,7 +4,7 @@ ghost use Rattle.cert_check.specs.Verdict.{IsJudged, Yes};
 ghost use Rattle.crpd_base.specs.CertificateRanges.{IsCertificate};
 ghost use Rattle.crpd_input.specs.Steps.{HoldsWhereTold, LeavesFiles, MeansBy};
 ghost use Rattle.crpd_tool.specs.Shaped.{graphs_of};
-ghost use Rattle.crpd_tool.specs.Update.{ChangeOf, UpdateEnds, as_of_analysis};
+ghost use Rattle.crpd_tool.specs.Update.{ChangeOf, UpdateEnds, UpdateOf, as_of_analysis};
 
 use crate::answer::Answer;
 use crate::check::judge;
@@ -62,6 +62,25 @@ fn change(
     }
 }
 
+/// The answer of the update of a certificate to a new set, or the judge's no to it for the old set.
+fn judged_change(
+    alloc: Global,
+    file: &str,
+    old: &ShapedSet,
+    stated: &Certificate,
+    new: &ShapedSet,
+) -> Result<Answer, Halt>
+    requires { IsCertificate stated.now }
+    ensures exact { MeansBy (UpdateOf file.now old.now stated.now new.now) result }
+    ensures no_fault { ¬ IsErrOf result Halt.Fault }
+{
+    let found = judge(old, stated);
+    match found {
+        Verdict::Yes => change(alloc, file, old, stated, new),
+        Verdict::No { .. } => Ok(write_verdict(alloc, old.set(), stated, &found)?),
+    }
+}
+
 /// The answer of the update of the certificate of a file to the new set of a file, or the judge's
 /// no to it for the old set of a file.
 pub(crate) fn update<F: Files>(
@@ -78,9 +97,5 @@ pub(crate) fn update<F: Files>(
     let old = load_shaped(alloc, files, old_set)?;
     let stated = load_certificate(alloc, files, old_certificate)?;
     let new = load_renewed(alloc, files, new_set, &old)?;
-    let found = judge(&old, &stated);
-    match found {
-        Verdict::Yes => change(alloc, new_set, &old, &stated, &new),
-        Verdict::No { .. } => Ok(write_verdict(alloc, old.set(), &stated, &found)?),
-    }
+    judged_change(alloc, new_set, &old, &stated, &new)
 }

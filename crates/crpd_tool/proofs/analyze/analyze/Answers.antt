@@ -17,5 +17,6 @@ returns-clause-exact g c = λ contents told.
     goes_on (ShapedIn contents set) (AnalysisOf set) shaped c.made_ending.result
     (c.in_ok-shaped.ensures.exact contents told)
     (analysis_meant demand set shaped c.certify-made.result c.made_ending.result
-    (rw (sym c.set.ensures.is, sym c.graphs.ensures, sym c.nests.ensures) c.certify-made.ensures.exact)
+    (rw (sym c.set.ensures.is, sym c.graphs.ensures, sym c.nests.ensures)
+    c.certify-made.ensures.exact)
     c.certify-made.ensures.ranges (rw c.set-2.ensures.is at c.made_ending.ensures.exact))

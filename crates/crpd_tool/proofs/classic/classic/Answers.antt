@@ -17,5 +17,6 @@ returns-clause-exact g c = λ contents told.
     goes_on (ShapedIn contents set) (ClassicOf set) shaped c.made_ending.result
     (c.in_ok-shaped.ensures.exact contents told)
     (analysis_meant classic_demands set shaped c.classic-made.result c.made_ending.result
-    (rw (sym c.set.ensures.is, sym c.graphs.ensures, sym c.nests.ensures) c.classic-made.ensures.exact)
+    (rw (sym c.set.ensures.is, sym c.graphs.ensures, sym c.nests.ensures)
+    c.classic-made.ensures.exact)
     c.classic-made.ensures.ranges (rw c.set-2.ensures.is at c.made_ending.ensures.exact))

@@ -1,7 +1,6 @@
-use Rattle.std.proofs.Common.{◌≡◌, ◌∙◌, ℕ, List, Result, Ok, Err, ap}
+use Rattle.std.proofs.Common.{◌≡◌, ◌∙◌, ℕ, List, Result, Ok, Err}
 use Rattle.crpd_base.specs.declared.data.Certificate.{Certificate}
 use Rattle.crpd_base.specs.declared.data.Script.{Script}
-use Rattle.cert_check.specs.declared.outcome.Verdict.TheVariants as verdict
 use Rattle.crpd_io.specs.Outside.{Contents}
 use Rattle.crpd_input.specs.Reading.{certificate_in}
 use Rattle.crpd_input.specs.Shapes.{ShapedIn}
@@ -9,7 +8,6 @@ use Rattle.crpd_input.specs.Script.{script_in}
 use Rattle.crpd_input.specs.Steps.{Exactly, MeansBy}
 use Rattle.crpd_input.specs.declared.halt.Halt.{Halt}
 use Rattle.crpd_input.proofs.Chain.{goes_on, stopped}
-use Rattle.crpd_tool.specs.Check.{verdict_answer}
 use Rattle.crpd_tool.specs.Explain.{ExplainEnds, ExplainFromCertificate, ExplainFromShapes}
 use Rattle.crpd_tool.specs.Explain.{ExplanationOf}
 use Rattle.crpd_tool.specs.declared.answer.Answer.{Answer}
@@ -53,7 +51,8 @@ returns-in_err-stated-clause-exact g c = λ contents told.
     let shaped = c.in_ok-shaped.shaped in
     let halt = c.in_err-stated.field-0.0 in
     stops_so (ExplainEnds contents c.args.set.now c.args.certificate.now c.args.script.now)
-    c.from_residual-in_err-stated.result c.in_err-stated.field-0.0 c.from_residual-in_err-stated.ensures.1
+    c.from_residual-in_err-stated.result c.in_err-stated.field-0.0
+    c.from_residual-in_err-stated.ensures.1
     (goes_on (ShapedIn contents c.args.set.now)
     (ExplainFromShapes contents c.args.certificate.now c.args.script.now) shaped (Err halt)
     (c.in_ok-shaped.ensures.exact contents told)
@@ -67,36 +66,22 @@ returns-in_err-given-clause-exact g c = λ contents told.
     let halt = c.in_err-given.field-0.0 in
     let after_set = c.in_ok-shaped.ensures.files.0 ∙ told in
     stops_so (ExplainEnds contents c.args.set.now c.args.certificate.now c.args.script.now)
-    c.from_residual-in_err-given.result c.in_err-given.field-0.0 c.from_residual-in_err-given.ensures.1
+    c.from_residual-in_err-given.result c.in_err-given.field-0.0
+    c.from_residual-in_err-given.ensures.1
     (from_certificate contents c.args.set.now c.args.certificate.now c.args.script.now shaped
     c.in_ok-stated.stated (c.in_ok-shaped.ensures.exact contents told)
     (c.in_ok-stated.ensures.exact contents after_set) (Err halt)
     (stopped (Exactly (script_in contents c.args.script.now shaped.input.set))
     (ExplanationOf shaped c.in_ok-stated.stated) halt
-    (c.in_err-given.ensures.exact contents (c.in_ok-stated.ensures.same ∙ after_set))))
+    (rw c.set.ensures.is
+    at (c.in_err-given.ensures.exact contents (c.in_ok-stated.ensures.files.0 ∙ after_set)))))
 
-pub returns-in-Yes-clause-exact :
-    goal.returns-in-Yes-clause-exact
-returns-in-Yes-clause-exact g c = λ contents told.
-    let after_set = c.in_ok-shaped.ensures.files.0 ∙ told in
-    from_script contents c.args.set.now c.args.certificate.now c.args.script.now
-    c.in_ok-shaped.shaped c.in_ok-stated.stated (c.in_ok-shaped.ensures.exact contents told)
-    (c.in_ok-stated.ensures.exact contents after_set) c.in_ok-given.given
-    (Ok c.in_ok-account_answer-in-Yes.field-0)
-    (c.in_ok-given.ensures.exact contents (c.in_ok-stated.ensures.same ∙ after_set))
-    (verdict.Yes, c.in-Yes.ensures, c.in_ok-account_answer-in-Yes.ensures)
-
-pub returns-clause-exact :
-    goal.returns-clause-exact
+pub returns-clause-exact : goal.returns-clause-exact
 returns-clause-exact g c = λ contents told.
     let after_set = c.in_ok-shaped.ensures.files.0 ∙ told in
     from_script contents c.args.set.now c.args.certificate.now c.args.script.now
     c.in_ok-shaped.shaped c.in_ok-stated.stated (c.in_ok-shaped.ensures.exact contents told)
-    (c.in_ok-stated.ensures.exact contents after_set) c.in_ok-given.given
-    (Ok c.in_ok-write_verdict-in-No.field-0)
-    (c.in_ok-given.ensures.exact contents (c.in_ok-stated.ensures.same ∙ after_set)) (
-      verdict.No c.in-No.task c.in-No.clause c.in-No.place,
-      c.in-No.ensures,
-      ap (λ (a : Answer). Ok a) (c.in_ok-write_verdict-in-No.ensures
-          ∙ ap (verdict_answer c.in_ok-shaped.shaped.input.set c.in_ok-stated.stated) c.in-No.is),
-    )
+    (c.in_ok-stated.ensures.exact contents after_set) c.in_ok-given.given c.explanation.result
+    (rw c.set.ensures.is
+    at (c.in_ok-given.ensures.exact contents (c.in_ok-stated.ensures.files.0 ∙ after_set)))
+    c.explanation.ensures.exact

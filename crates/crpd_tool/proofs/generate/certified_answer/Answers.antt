@@ -17,7 +17,8 @@ returns c =
     let found = c.judge-found.result in
     let kept = c.in_ok-completions.kept in
     let m = run_of input script in
-    let outcome = c.in_ok-completions.ensures in
+    let outcome = rw (c.code-code.ensures, c.input.ensures, c.set-set.ensures.is)
+    at c.in_ok-completions.ensures in
     let ends : c.as_slice-ends.result.now ≡ completions_of m =
     c.as_slice-ends.ensures.value
     ∙ told m c.in_ok-completions.completions.items outcome.long outcome.each in
@@ -25,7 +26,7 @@ returns c =
     c.node_count-nodes.ensures ∙ ap node_count c.graphs.ensures in
     let text : c.new.result ≡ generate_text n (node_count shaped.graphs) input.set certificate found
     script (completions_of m) kept =
-    c.new.ensures ∙ c.in_ok-text.ensures
+    c.new.ensures ∙ (rw c.set-set.ensures.is at c.in_ok-text.ensures)
     ∙ ap (λ (k : ℕ). generate_text n k input.set certificate found script
     c.as_slice-ends.result.now kept) nodes
     ∙ ap (λ (cs : List Completion).

@@ -44,9 +44,13 @@ returns-in_err-shaped-clause-exact c =
     let made = c.in_ok-made.made in
     let files = c.as_slice.result.now in
     from_made c.args.seed.number made files _ c.in_ok-made.ensures.is c.as_slice.ensures
-    (stops_so (EndsFrom c.args.seed.number (record { set = made.set; files = files; script = made.script })) c.from_residual-in_err-shaped.result c.in_err-shaped.field-0.0
+    (stops_so
+    (EndsFrom c.args.seed.number
+    (record { set = made.set; files = files; script = made.script }))
+    c.from_residual-in_err-shaped.result c.in_err-shaped.field-0.0
     c.from_residual-in_err-shaped.ensures.1
-    (stopped (Then (Exactly (input_of made.set files)) ShapedFrom) (GeneratedOf c.args.seed.number made.script)
+    (stopped (Then (Exactly (input_of made.set files)) ShapedFrom)
+    (GeneratedOf c.args.seed.number made.script)
     c.in_err-shaped.field-0.0 c.in_err-shaped.ensures.exact))
 
 pub returns-clause-exact : goal.returns-clause-exact
@@ -55,6 +59,7 @@ returns-clause-exact c =
     let files = c.as_slice.result.now in
     from_made c.args.seed.number made files c.analysis_answer.result c.in_ok-made.ensures.is
     c.as_slice.ensures
-    (goes_on (Then (Exactly (input_of made.set files)) ShapedFrom) (GeneratedOf c.args.seed.number made.script)
+    (goes_on (Then (Exactly (input_of made.set files)) ShapedFrom)
+    (GeneratedOf c.args.seed.number made.script)
     c.in_ok-shaped.shaped c.analysis_answer.result c.in_ok-shaped.ensures.exact
     c.analysis_answer.ensures.exact)

@@ -28,7 +28,8 @@ pub returns-in_err-code-clause-exact : goal.returns-in_err-code-clause-exact
 returns-in_err-code-clause-exact c =
     let files = c.in_ok-kept.kept.files.items in
     let halt = c.in_err-code.field-0.0 in
-    stops_so (Then (Exactly (input_of c.args.set c.args.files.now)) ShapedFrom) c.from_residual-in_err-code.result c.in_err-code.field-0.0
+    stops_so (Then (Exactly (input_of c.args.set c.args.files.now)) ShapedFrom)
+    c.from_residual-in_err-code.result c.in_err-code.field-0.0
     c.from_residual-in_err-code.ensures.1
     (stopped (Exactly (input_of c.args.set c.args.files.now)) ShapedFrom halt
     (code_stopped c.args.set c.args.files.now halt

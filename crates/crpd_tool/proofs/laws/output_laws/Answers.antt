@@ -13,24 +13,37 @@ use Rattle.crpd_tool.proofs.laws.output_laws.Goals as goal
 pub returns-clause-one_answer : goal.returns-clause-one_answer
 returns-clause-one_answer c = one_answer
 
-pub returns-clause-lawful : goal.returns-clause-lawful
-returns-clause-lawful c = λ words contents. record {
-  safety = done_is_safe c.checked_code_is_safe.ensures words contents;
-  undisturbed_bound = done_is_bounded c.checked_code_is_bounded.ensures words contents;
-  report = done_is_reported words contents;
-  analyze_exact = done_is_best words contents;
-  classic_sound =
-      done_is_classic c.checked_code_is_safe.ensures c.certificate_law.ensures.judged
-      c.certificate_law.ensures.one c.certificate_law.ensures.best words contents;
-  slack_exact = done_is_slack c.acceptance_law.ensures.stays words contents;
-  update_exact =
-      done_is_update c.update_laws.ensures.judged c.update_laws.ensures.best words contents;
-  generate_safe =
-      done_is_generated c.checked_code_is_safe.ensures c.late_law.ensures.none words contents;
-  ledger_within_delays =
-      done_is_explained c.ledger_facts.ensures c.checked_account_is_within_delays.ensures words
-      contents;
-}
+pub returns-clause-safety : goal.returns-clause-safety
+returns-clause-safety c = done_is_safe c.checked_code_is_safe.ensures
+
+pub returns-clause-undisturbed_bound : goal.returns-clause-undisturbed_bound
+returns-clause-undisturbed_bound c = done_is_bounded c.checked_code_is_bounded.ensures
+
+pub returns-clause-report : goal.returns-clause-report
+returns-clause-report c = done_is_reported
+
+pub returns-clause-analyze_exact : goal.returns-clause-analyze_exact
+returns-clause-analyze_exact c = done_is_best
+
+pub returns-clause-classic_sound : goal.returns-clause-classic_sound
+returns-clause-classic_sound c =
+    done_is_classic c.checked_code_is_safe.ensures c.certificate_law.ensures.judged
+    c.certificate_law.ensures.one c.certificate_law.ensures.best
+
+pub returns-clause-slack_exact : goal.returns-clause-slack_exact
+returns-clause-slack_exact c = done_is_slack c.acceptance_law.ensures.stays
+
+pub returns-clause-update_exact : goal.returns-clause-update_exact
+returns-clause-update_exact c =
+    done_is_update c.update_laws.ensures.judged c.update_laws.ensures.best
+
+pub returns-clause-generate_safe : goal.returns-clause-generate_safe
+returns-clause-generate_safe c =
+    done_is_generated c.checked_code_is_safe.ensures c.late_law.ensures.none
+
+pub returns-clause-ledger_within_delays : goal.returns-clause-ledger_within_delays
+returns-clause-ledger_within_delays c =
+    done_is_explained c.ledger_facts.ensures c.checked_account_is_within_delays.ensures
 
 pub returns-clause-costs_grow : goal.returns-clause-costs_grow
 returns-clause-costs_grow c = record {

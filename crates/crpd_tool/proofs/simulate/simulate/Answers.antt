@@ -12,12 +12,14 @@ returns-in_err-stated-clause-exact g c = λ contents told.
     let input = c.in_ok-input.input in
     let halt = c.in_err-stated.field-0.0 in
     stops_so (SimulateEnds contents c.args.set.now c.args.script.now)
-    c.from_residual-in_err-stated.result c.in_err-stated.field-0.0 c.from_residual-in_err-stated.ensures.1
+    c.from_residual-in_err-stated.result c.in_err-stated.field-0.0
+    c.from_residual-in_err-stated.ensures.1
     (goes_on (Exactly (input_in contents c.args.set.now))
     (λ input. Then (Exactly (script_in contents c.args.script.now input.set)) (ReportOf input))
     input (Err halt) (c.in_ok-input.ensures.exact contents told)
     (stopped (Exactly (script_in contents c.args.script.now input.set)) (ReportOf input) halt
-    (c.in_err-stated.ensures.exact contents (c.in_ok-input.ensures.same ∙ told))))
+    (rw c.set.ensures.is
+    at (c.in_err-stated.ensures.exact contents (c.in_ok-input.ensures.files.0 ∙ told)))))
 
 pub returns-clause-exact : goal.returns-clause-exact
 returns-clause-exact g c = λ contents told.
@@ -28,5 +30,6 @@ returns-clause-exact g c = λ contents told.
     input (Ok answer) (c.in_ok-input.ensures.exact contents told)
     (goes_on (Exactly (script_in contents c.args.script.now input.set)) (ReportOf input)
     c.in_ok-stated.stated (Ok answer)
-    (c.in_ok-stated.ensures.exact contents (c.in_ok-input.ensures.same ∙ told))
+    (rw c.set.ensures.is
+    at (c.in_ok-stated.ensures.exact contents (c.in_ok-input.ensures.files.0 ∙ told)))
     c.in_ok-answer.ensures)

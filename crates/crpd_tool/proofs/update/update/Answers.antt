@@ -1,17 +1,12 @@
-use Rattle.std.proofs.Common.{◌≡◌, ◌∙◌, ℕ, List, Result, Ok, Err, ap, inl, inr}
+use Rattle.std.proofs.Common.{◌≡◌, ◌∙◌, ℕ, List, Result, Ok, Err}
 use Rattle.crpd_base.specs.declared.data.Certificate.{Certificate}
-use Rattle.cert_check.specs.FirstFailing.{answer_of}
-use Rattle.cert_check.specs.Verdict.{IsJudged, Yes}
 use Rattle.crpd_io.specs.Outside.{Contents}
 use Rattle.crpd_input.specs.Reading.{certificate_in}
 use Rattle.crpd_input.specs.Shapes.{ShapedIn}
 use Rattle.crpd_input.specs.Steps.{Exactly, MeansBy}
 use Rattle.crpd_input.specs.declared.halt.Halt.{Halt}
-use Rattle.crpd_input.specs.declared.halt.Halt.TheVariants.{Refused, Memory, Fault}
 use Rattle.crpd_input.proofs.Chain.{goes_on, stopped}
-use Rattle.crpd_tool.specs.Check.{verdict_answer}
-use Rattle.crpd_tool.specs.Shaped.{graphs_of}
-use Rattle.crpd_tool.specs.Update.{ChangeOf, UpdateEnds, UpdateFromCertificate, UpdateFromShapes}
+use Rattle.crpd_tool.specs.Update.{UpdateEnds, UpdateFromCertificate, UpdateFromShapes}
 use Rattle.crpd_tool.specs.Update.{UpdateOf}
 use Rattle.crpd_tool.specs.declared.answer.Answer.{Answer}
 use Rattle.task_shapes.specs.Shapes.{SetWithShapes}
@@ -40,17 +35,6 @@ module _ (contents : Contents) (old_set old_certificate new_set : List ℕ) (old
       (goes_on (ShapedIn contents new_set)
       (UpdateOf new_set old stated) new r new_is later)
 
--- after the judge's yes the update is the whole answer
-after_yes : (file : List ℕ) (old : SetWithShapes) (stated : Certificate) (new : SetWithShapes)
-    (r : Result Answer Halt)
-    → IsJudged old.input.set (graphs_of old) stated Yes
-    → MeansBy (ChangeOf file old stated new) r
-    → MeansBy (UpdateOf file old stated new) r
-after_yes file old stated new (Ok answer) judged change = inr (judged, change)
-after_yes file old stated new (Err (Refused refusal)) judged change = inr (judged, change)
-after_yes file old stated new (Err Memory) judged change = tt
-after_yes file old stated new (Err Fault) judged change = tt
-
 pub returns-in_err-old-clause-exact : goal.returns-in_err-old-clause-exact
 returns-in_err-old-clause-exact g c = λ contents told.
     stops_so (UpdateEnds contents c.args.old_set.now c.args.old_certificate.now c.args.new_set.now)
@@ -64,7 +48,8 @@ returns-in_err-stated-clause-exact g c = λ contents told.
     let old = c.in_ok-old.old in
     let halt = c.in_err-stated.field-0.0 in
     stops_so (UpdateEnds contents c.args.old_set.now c.args.old_certificate.now c.args.new_set.now)
-    c.from_residual-in_err-stated.result c.in_err-stated.field-0.0 c.from_residual-in_err-stated.ensures.1
+    c.from_residual-in_err-stated.result c.in_err-stated.field-0.0
+    c.from_residual-in_err-stated.ensures.1
     (goes_on (ShapedIn contents c.args.old_set.now)
     (UpdateFromShapes contents c.args.old_certificate.now c.args.new_set.now) old (Err halt)
     (c.in_ok-old.ensures.exact contents told)
@@ -85,32 +70,13 @@ returns-in_err-new-clause-exact g c = λ contents told.
     (c.in_ok-stated.ensures.exact contents after_old) (Err halt)
     (stopped (ShapedIn contents c.args.new_set.now)
     (UpdateOf c.args.new_set.now old stated) halt
-    (c.in_err-new.ensures.exact contents (c.in_ok-stated.ensures.same ∙ after_old))))
+    (c.in_err-new.ensures.exact contents (c.in_ok-stated.ensures.files.0 ∙ after_old))))
 
-pub returns-in-Yes-clause-exact : goal.returns-in-Yes-clause-exact
-returns-in-Yes-clause-exact g c = λ contents told.
-    let after_old = c.in_ok-old.ensures.files.0 ∙ told in
-    from_new contents c.args.old_set.now c.args.old_certificate.now c.args.new_set.now
-    c.in_ok-old.old c.in_ok-stated.stated (c.in_ok-old.ensures.exact contents told)
-    (c.in_ok-stated.ensures.exact contents after_old) c.in_ok-new.new c.change.result
-    (c.in_ok-new.ensures.exact contents (c.in_ok-stated.ensures.same ∙ after_old))
-    (after_yes c.args.new_set.now c.in_ok-old.old c.in_ok-stated.stated c.in_ok-new.new
-    c.change.result c.in-Yes.ensures c.change.ensures.exact)
-
-pub returns-clause-exact :
-    goal.returns-clause-exact
+pub returns-clause-exact : goal.returns-clause-exact
 returns-clause-exact g c = λ contents told.
     let after_old = c.in_ok-old.ensures.files.0 ∙ told in
     from_new contents c.args.old_set.now c.args.old_certificate.now c.args.new_set.now
     c.in_ok-old.old c.in_ok-stated.stated (c.in_ok-old.ensures.exact contents told)
-    (c.in_ok-stated.ensures.exact contents after_old) c.in_ok-new.new
-    (Ok c.in_ok-write_verdict-in-No.field-0)
-    (c.in_ok-new.ensures.exact contents (c.in_ok-stated.ensures.same ∙ after_old))
-    (inl (
-      c.in-No.task,
-      c.in-No.clause,
-      c.in-No.place,
-      c.in-No.ensures,
-      ap (λ (a : Answer). Ok a) (c.in_ok-write_verdict-in-No.ensures
-          ∙ ap (verdict_answer c.in_ok-old.old.input.set c.in_ok-stated.stated) c.in-No.is),
-    ))
+    (c.in_ok-stated.ensures.exact contents after_old) c.in_ok-new.new c.judged_change.result
+    (c.in_ok-new.ensures.exact contents (c.in_ok-stated.ensures.files.0 ∙ after_old))
+    c.judged_change.ensures.exact
