@@ -21,6 +21,7 @@ pub record IsBuilt (words : Words) (plan : TaskPlan) (nodes : List FlatNode)
   pub regions : IsRegions t.graph t.places plan.loops t.nest
   pub accepted : HasNoLoopRefusals t.graph t.nest
 
+-- what is built of the code is the graph of the code
 abbrev pub GraphOfLaw : Type 0
 GraphOfLaw =
     (words : Words) (plan : TaskPlan) (nodes : List FlatNode) (t : TaskGraph)

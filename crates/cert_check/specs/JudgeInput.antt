@@ -17,9 +17,11 @@ use Rattle.loop_regions.specs.TaskGraph.{TaskGraph, node_code_of, answering}
 use Rattle.evict_sets.specs.Longest.{longest}
 use Rattle.evict_sets.specs.ListedPart.{certified_task}
 
+-- the accesses at a task's nodes
 abbrev pub accesses_of : Platform → TaskGraph → Accesses
 accesses_of p t = accesses p t.places.address
 
+-- the longest cost of one instruction of a task
 abbrev pub longest_of : Platform → TaskGraph → ℕ
 longest_of p t = longest p t.graph (node_code_of t) (answering t)
 
@@ -33,6 +35,7 @@ pub record IsGraphOf (words : Words) (plan : TaskPlan) (t : TaskGraph) : Type 0 
   pub regions : IsRegions t.graph t.places plan.loops t.nest
   pub accepted : HasNoLoopRefusals t.graph t.nest
 
+-- the certified window of the task at a place
 abbrev pub window_at : Certificate → ℕ → ℕ
 window_at c i = (certified_task c i).window
 
@@ -40,6 +43,7 @@ window_at c i = (certified_task c i).window
 abbrev pub certified_part : Certificate → ℕ → Part
 certified_part c i = (certified_task c i).part
 
+-- the longest cost of one instruction of the task at a place
 abbrev pub longest_at : Platform → (ℕ → TaskGraph) → ℕ → ℕ
 longest_at p graphs i = longest_of p (graphs i)
 

@@ -18,9 +18,11 @@ task_graph g n = record {
   nest = nest_of n;
 }
 
+-- no regions
 abbrev pub no_nest : CodeNest
 no_nest = record { heads = []; bounds = []; holders = [] }
 
+-- the regions of the task at a place
 abbrev pub nest_at : List CodeNest → ℕ → CodeNest
 nest_at nests i = slice_index_or nests i no_nest
 

@@ -116,6 +116,7 @@ YesMeetsListing =
     MeetsListing (graphs i).graph (accesses_of set.platform (graphs i))
     (listed_of (certified_task c i))
 
+-- after a yes each task's sets hold what its nodes access and reuse
 abbrev pub YesMeetsSets : Type 0
 YesMeetsSets =
     (set : TaskSet) (graphs : ℕ → TaskGraph) (c : Certificate) (i : ℕ) →
@@ -138,6 +139,7 @@ pub record IsFirstFailure (set : TaskSet) (graphs : ℕ → TaskGraph) (c : Cert
   pub tasks_before : (j : ℕ) (l : Clause) → j < i → ClauseHolds set graphs c j l
   pub clauses_before : (l : Clause) → IsEarlierClause l k → ClauseHolds set graphs c i l
 
+-- the judge's answer: yes, or the task, the clause and the place that fail
 pub data Answer : Type 0 where
   Yes : Answer
   No : (task clause place : ℕ) → Answer

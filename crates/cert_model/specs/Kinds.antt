@@ -40,17 +40,21 @@ line_bytes d = only is_line_length (unsigned_number d)
 
 -- ---- texts
 
+-- where a switch may happen, by its name
 unfoldable pub switching : Data → Option Switching
 switching d = as_str d >>= switching_named
 
+-- the method of a name
 abbrev pub method_named : List ℕ → Option Method
 method_named s =
     if bytes_eq s (codes "ucb") then Some Ucb else if bytes_eq s (codes "ecb")
     then Some Ecb else None
 
+-- a method, by its name
 unfoldable pub method : Data → Option Method
 method d = as_str d >>= method_named
 
+-- a text that may name a task
 unfoldable pub name : Data → Option (List ℕ)
 name d = only is_name (as_str d)
 
@@ -61,6 +65,7 @@ abbrev pub all_of : {A : Type 0} → (Data → Option A) → Items → Option (L
 all_of kind no_items = Some []
 all_of kind (item d ds) = kind d >>= (λ x. option_map (λ xs. x ∷ xs) (all_of kind ds))
 
+-- the items of an array of a kind; none where one is not, or where it is no array
 abbrev pub listed : {A : Type 0} → (Data → Option A) → Data → Option (List A)
 listed kind d = as_array d >>= all_of kind
 
@@ -80,6 +85,7 @@ rising low limit no_items = Some []
 rising low limit (item d ds) =
     below low limit d >>= (λ n. option_map (λ ns. n ∷ ns) (rising (n + 1) limit ds))
 
+-- whether a number is in a list
 abbrev pub is_in : ℕ → List ℕ → Bool
 is_in n ns = list_any (λ x. x == n) ns
 
@@ -89,6 +95,7 @@ unfoldable pub word_of : List ℕ → ℕ → ℕ → ℕ
 word_of ns first zero = 0
 word_of ns first (suc bits) = (if is_in first ns then 1 else 0) + 2 * word_of ns (first + 1) bits
 
+-- the words of 64 bits of a list of numbers, from one number on
 unfoldable pub words_from : List ℕ → ℕ → ℕ → List ℕ
 words_from ns first zero = []
 words_from ns first (suc words) = word_of ns first 64 ∷ words_from ns (first + 64) words
@@ -118,6 +125,7 @@ pairs_from low limit (item set (item block ds)) =
     pair low limit set block
     >>= (λ p. option_map (λ more. p ∷ more) (pairs_from (p.0 + 1) limit ds))
 
+-- the sure pairs in an array, by strictly increasing set
 unfoldable pub sure_pairs : ℕ → Data → Option (List (ℕ × ℕ))
 sure_pairs limit d = as_array d >>= pairs_from 0 limit
 
@@ -129,10 +137,12 @@ state_of sets nodes low node sure useful = do
   words ← set_numbers sets useful
   Some (record { node = n; sure = pairs; useful = words })
 
+-- what f gives of exactly three items
 abbrev pub three_items : {A : Type 0} → (Data → Data → Data → Option A) → Items → Option A
 three_items f (item a (item b (item c no_items))) = f a b c
 three_items f _ = None
 
+-- the entry of a node from one on, in an array of three
 unfoldable pub state_value : ℕ → ℕ → ℕ → Data → Option NodeState
 state_value sets nodes low d = as_array d >>= three_items (state_of sets nodes low)
 
@@ -143,5 +153,6 @@ states_from sets nodes low (item d ds) =
     state_value sets nodes low d
     >>= (λ s. option_map (λ more. s ∷ more) (states_from sets nodes (s.node + 1) ds))
 
+-- the entries of nodes in an array, by strictly increasing node
 unfoldable pub states : ℕ → ℕ → Data → Option (List NodeState)
 states sets nodes d = as_array d >>= states_from sets nodes 0

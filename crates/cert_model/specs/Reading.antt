@@ -35,15 +35,18 @@ abbrev pub most_nodes : Version → ℕ
 most_nodes First = 4096
 most_nodes Second = 16384
 
+-- the most tasks of a certificate of a version
 abbrev pub most_tasks : Version → ℕ
 most_tasks First = 16
 most_tasks Second = 32
 
 -- ---- the version
 
+-- the version of a number, or the refusal of another
 abbrev pub version_numbered : ℕ → Result Version CertError
 version_numbered n = if n == 1 then Ok First else if n == 2 then Ok Second else Err (OtherVersion n)
 
+-- the version that an object states, or the refusal
 unfoldable pub version_at : Members → Result Version CertError
 version_at ms = do
   n ← required unsigned_number [] (codes "version") ms
@@ -78,6 +81,7 @@ first_platform path ms = do
     switching = Cycle;
   })
 
+-- the platform in an object of version 2, or the first refusal
 unfoldable pub second_platform : List ℕ → Members → Result Platform CertError
 second_platform path ms = do
   memory ← required cycles path (codes "data") ms
@@ -103,12 +107,14 @@ second_platform path ms = do
     switching = switching;
   })
 
+-- the platform in an object of a version, or the first refusal
 abbrev pub platform_at : Version → List ℕ → Members → Result Platform CertError
 platform_at First = first_platform
 platform_at Second = second_platform
 
 -- ---- tasks
 
+-- the task's part in an object of a version, or the first refusal
 unfoldable pub fields_at : Version → List ℕ → Members → Result TaskPart CertError
 fields_at version path ms = do
   bound ← required (whole 0 (2 ^ 41)) path (codes "bound") ms
@@ -138,15 +144,18 @@ task_at version i = fields_at version (item_path [] (codes "tasks") i)
 
 -- ---- the certificate
 
+-- the certificate where it has few enough state entries, else the refusal with their number
 unfoldable pub within_entry_limit : Certificate → Result Certificate CertError
 within_entry_limit c =
     if nat_lt most_entries (entries c.tasks) then Err (TooLong (entries c.tasks)) else Ok c
 
+-- the tasks' parts in a certificate's object, or the first refusal
 unfoldable pub tasks_at : Version → Members → Result (List TaskPart) CertError
 tasks_at version ms = do
   objects ← required (kind.objects (most_tasks version)) [] (codes "tasks") ms
   each (task_at version) 0 objects
 
+-- the certificate in an object, or the first refusal
 unfoldable pub certificate_at : Members → Result Certificate CertError
 certificate_at ms = do
   version ← version_at ms
@@ -155,10 +164,12 @@ certificate_at ms = do
   tasks ← tasks_at version ms
   within_entry_limit (record { platform = platform; tasks = tasks })
 
+-- the certificate of a text that is an object, else the refusal of the whole text
 abbrev pub whole_text : Option Members → Result Certificate CertError
 whole_text None = Err (BadValue (codes "-"))
 whole_text (Some ms) = certificate_at ms
 
+-- the certificate of a JSON text; another text is refused
 abbrev pub document : Option Data → Result Certificate CertError
 document None = Err NotJson
 document (Some d) = whole_text (as_object d)

@@ -38,6 +38,7 @@ pub record AreSameGraphs (t u : TaskGraph) : Type 0 where
   pub first : t.graph.first ≡ u.graph.first
   pub next : (y : ℕ) → y < t.graph.size → t.graph.next y ≡ u.graph.next y
 
+-- graphs of the same code begin at the same node and have the same edges
 abbrev pub SameGraphLaw : Type 0
 SameGraphLaw =
     (p q : Platform) (g h : CodeGraph) (n m : CodeNest) →

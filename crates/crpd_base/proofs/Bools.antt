@@ -1,7 +1,7 @@
 -- Tests.
 use Rattle.std.proofs.Common.{◌≡◌, ℕ, zero, suc, ◌<◌, Bool, true, false, ◌&&◌, ◌||◌, IsTrue, refl}
-use Rattle.std.proofs.Common.{sym, subst, inl, inr, arith}
-use Rattle.std.proofs.lemmas.Bool.{cases_lt, and_parts, false≢true}
+use Rattle.std.proofs.Common.{sym, subst, inl, inr, arith, ◌∙◌, ◌==◌, eq-eqb, ne_eqb}
+use Rattle.std.proofs.lemmas.Bool.{cases_eq, cases_lt, and_parts, false≢true}
 
 -- a test or false is the test
 pub or_false : (b : Bool) → (b || false) ≡ b
@@ -31,3 +31,10 @@ needs false b = true
 pub needed : (a b : Bool) → IsTrue (needs a b) → IsTrue a → IsTrue b
 needed true b t h = t
 needed false b t h = absurd (false≢true h)
+
+-- two numbers are compared in either order
+pub equal_swapped : (a b : ℕ) → (a == b) ≡ (b == a)
+equal_swapped a b = elim (cases_eq a b) [
+  | inl same ↦ eq-eqb a b same ∙ sym (eq-eqb b a (sym same))
+  | inr other ↦ ne_eqb a b other ∙ sym (ne_eqb b a (λ e. other (sym e)))
+]

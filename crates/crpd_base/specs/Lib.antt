@@ -8,4 +8,7 @@ pub mod Ranges
 pub mod Entries
 pub mod CertificateRanges
 pub mod Tasks
+pub mod Texts
+pub mod Arrivals
 pub mod Outcome
+pub mod Inner

@@ -16,13 +16,15 @@ name_of set task = option_map_or (λ (t : TaskSpec). t.name) (slice_get set.task
 abbrev pub place_of_name : List TaskSpec → List ℕ → Option ℕ
 place_of_name tasks name = position (λ (t : TaskSpec). bytes_eq name t.name) tasks
 
--- the period, the jitter and the deadline of the task at a place
+-- the period of the task at a place
 abbrev pub period_of : TaskSet → ℕ → ℕ
 period_of set t = slice_index (map (λ (k : TaskSpec). k.period) set.tasks) t
 
+-- the jitter of the task at a place
 abbrev pub jitter_of : TaskSet → ℕ → ℕ
 jitter_of set t = slice_index (map (λ (k : TaskSpec). k.jitter) set.tasks) t
 
+-- the deadline of the task at a place
 abbrev pub deadline_of : TaskSet → ℕ → ℕ
 deadline_of set t = slice_index (map (λ (k : TaskSpec). k.deadline) set.tasks) t
 

@@ -1,11 +1,30 @@
 // Plain data: what the files say, and what is certified.
+ghost use Rattle.std.specs.Prelude.{◌≡◌};
+
 use crate::limits::WORDS;
 use crate::lists::{Items, Text};
 use crate::set_bits::SetBits;
+use std::alloc::{AllocError, AllocFailed};
 
-/// Want of memory: an allocation was refused.
+/// Want of memory: an allocation was refused. A `?` makes it of the library's errors.
 #[derive(Clone, Copy, Debug)]
 pub struct Memory;
+
+impl From<AllocError> for Memory {
+    ghost from_gives = { λ _ e. e ≡ record {} };
+
+    fn from(_e: AllocError) -> Memory {
+        Memory
+    }
+}
+
+impl<T: Drop> From<AllocFailed<T>> for Memory {
+    ghost from_gives = { λ _ e. e ≡ record {} };
+
+    fn from(_e: AllocFailed<T>) -> Memory {
+        Memory
+    }
+}
 
 /// A task's place in priority order, 0 the highest, at most 31.
 #[derive(Clone, Copy, PartialEq, Eq)]
@@ -269,4 +288,27 @@ pub struct Certificate {
     pub platform: Platform,
     /// 1 to 32 tasks in priority order, the highest first.
     pub tasks: Items<TaskPart>,
+}
+
+/// Why a cost can not grow further: it is the greatest that a platform may have, or with the next
+/// one this task is the first that has no window, or the first whose execution bound exceeds 2^40
+/// cycles.
+#[derive(Clone, Copy)]
+pub enum Stop {
+    /// It is 65,535 cycles, the greatest that a platform may have.
+    Limit,
+    /// With the next cost this task is the first without a window.
+    Window(Task),
+    /// With the next cost this task is the first whose execution bound exceeds 2^40 cycles.
+    Bound(Task),
+}
+
+/// The greatest cost, in cycles, with which a task set is accepted, None where it is refused even
+/// with 0; and why it is not greater.
+#[derive(Clone, Copy)]
+pub struct Slack {
+    /// 0 to 65,535 cycles, None where the set is refused even with 0.
+    pub greatest: Option<u32>,
+    /// Why it is not greater; where there is none, why 0 is refused.
+    pub stop: Stop,
 }

@@ -19,7 +19,7 @@ use Rattle.code_map.specs.Reading.{code_of, files_of}
 use Rattle.code_map.specs.Words.{Code, word_at}
 use Rattle.code_map.specs.declared.fault.MapError.TheVariants.{EntryOutside}
 use Rattle.loop_regions.specs.CodeNest.{AreBounded}
-use Rattle.crpd_input.specs.Graphs.{HasBoundedLoops}
+use Rattle.task_shapes.specs.Inputs.{HasBoundedLoops}
 
 abbrev IsBounded : LoopAt → Type 0
 IsBounded l = (1 ≤ l.bound) × (l.bound ≤ 1000000)

@@ -1,24 +1,25 @@
 -- What the steps that read give: a set in its ranges, and code of images that can lie in memory.
-use Rattle.std.proofs.Common.{◌≡◌, ℕ, List, Ok, Err, length, refl, subst, Result}
+use Rattle.std.proofs.Common.{◌≡◌, ℕ, List, Ok, Err, refl, subst, Result}
 use Rattle.crpd_base.specs.declared.data.Image.{Image}
 use Rattle.crpd_base.specs.declared.data.TaskSet.{TaskSet}
 use Rattle.crpd_base.specs.declared.data.TaskSpec.{TaskSpec}
 use Rattle.crpd_base.specs.Images.{IsImage}
 use Rattle.crpd_base.specs.Ranges.{IsTaskSet}
-use Rattle.rv_decode.specs.Flow.{IsCodeMap}
 use Rattle.code_map.specs.Reading.{code_of}
-use Rattle.code_map.specs.Words.{Code, word_at}
+use Rattle.code_map.specs.Words.{Code}
 use Rattle.elf_reader.specs.Reading as elf
 use Rattle.elf_reader.proofs.Law.{read_image}
 use Rattle.set_reader.specs.Reading as set
 use Rattle.set_reader.proofs.Ranged.{found_ranged}
 use Rattle.crpd_io.specs.Outside.{Contents}
-use Rattle.crpd_input.specs.declared.input.Input.{Input}
+use Rattle.task_shapes.specs.Inputs.{IsInput, SetWithCode}
 use Rattle.crpd_input.specs.declared.halt.Halt.{Halt}
 use Rattle.crpd_input.specs.Steps.{and_then, bytes_in, file_bytes, or_refused}
 use Rattle.crpd_input.specs.Reading.{code_in, elf_halt, image_in, images_in, input_in, map_halt}
 use Rattle.crpd_input.specs.Reading.{set_in, set_halt}
+use Rattle.crpd_input.proofs.Bounds.{code_bounded}
 use Rattle.crpd_input.proofs.Each.{all_given, each_count}
+use Rattle.crpd_input.proofs.OwnImages.{images_count}
 use Rattle.crpd_input.proofs.Plans.{code_ends, plan_per_task}
 
 -- the value on which a step went on
@@ -46,49 +47,31 @@ image_good contents name image e =
     (λ bytes. or_refused (elf_halt name) (elf.reading bytes)) image e in
     read_image bytes.0 image (read_ok (elf_halt name) (elf.reading bytes.0) image bytes.2)
 
-pub code_good : (contents : Contents) (name : List ℕ) (s : TaskSet) (c : Code)
-    → code_in contents name s ≡ Ok c → IsCodeMap (word_at c.images)
-code_good contents name s c e =
+-- the code of a set in its ranges
+pub code_good : (contents : Contents) (name : List ℕ) (s : TaskSet) (c : Code) → IsTaskSet s
+    → code_in contents name s ≡ Ok c → IsInput (record { set = s; code = c })
+code_good contents name s c ranges e =
     let images = step_ok (images_in contents s.tasks)
     (λ images. or_refused (map_halt name s) (code_of s images)) c e in
-    code_ends s images.0 c
-    (all_given (λ (t : TaskSpec). image_in contents t.file) IsImage
-    (λ t image is. image_good contents t.file image is) s.tasks images.0 images.1)
-    (read_ok (map_halt name s) (code_of s images.0) c images.2)
+    let is = read_ok (map_halt name s) (code_of s images.0) c images.2 in
+    let step = λ (t : TaskSpec). image_in contents t.file in
+    let count = each_count step s.tasks images.0 images.1 in
+    record {
+      ranges = ranges;
+      images = images_count s images.0 c _ is count;
+      plans = plan_per_task s images.0 c count is;
+      bounded = code_bounded s images.0 c ranges.each is;
+      words =
+          code_ends s images.0 c
+          (all_given step IsImage (λ t image at. image_good contents t.file image at) s.tasks
+          images.0 images.1) is;
+    }
 
-pub code_planned : (contents : Contents) (name : List ℕ) (s : TaskSet) (c : Code)
-    → code_in contents name s ≡ Ok c → length c.plans ≡ length s.tasks
-code_planned contents name s c e =
-    let images = step_ok (images_in contents s.tasks)
-    (λ images. or_refused (map_halt name s) (code_of s images)) c e in
-    plan_per_task s images.0 c
-    (each_count (λ (t : TaskSpec). image_in contents t.file) s.tasks images.0 images.1)
-    (read_ok (map_halt name s) (code_of s images.0) c images.2)
-
--- a set with its code
-pub record IsInput (input : Input) : Type 0 where
-  pub ranges : IsTaskSet input.set
-  pub words : IsCodeMap (word_at input.code.images)
-
-pub input_good : (contents : Contents) (name : List ℕ) (input : Input)
+pub input_good : (contents : Contents) (name : List ℕ) (input : SetWithCode)
     → input_in contents name ≡ Ok input → IsInput input
 input_good contents name input e =
     let s = step_ok (set_in contents name) _ input e in
     let c = step_ok (code_in contents name s.0) (λ code. Ok (record { set = s.0; code = code }))
     input s.2 in
     let is : record { set = s.0; code = c.0 } ≡ input = cc in
-    subst IsInput is (record {
-      ranges = set_ranged contents name s.0 s.1;
-      words = code_good contents name s.0 c.0 c.1;
-    })
-
--- its code has a plan for each task
-pub input_planned : (contents : Contents) (name : List ℕ) (input : Input)
-    → input_in contents name ≡ Ok input → length input.code.plans ≡ length input.set.tasks
-input_planned contents name input e =
-    let s = step_ok (set_in contents name) _ input e in
-    let c = step_ok (code_in contents name s.0) (λ code. Ok (record { set = s.0; code = code }))
-    input s.2 in
-    let is : record { set = s.0; code = c.0 } ≡ input = cc in
-    subst (λ (i : Input). length i.code.plans ≡ length i.set.tasks) is
-    (code_planned contents name s.0 c.0 c.1)
+    subst IsInput is (code_good contents name s.0 c.0 (set_ranged contents name s.0 s.1) c.1)

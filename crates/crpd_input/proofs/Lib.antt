@@ -1,12 +1,9 @@
 pub mod Each
 mod OwnImages
 pub mod Given
-mod Below
+mod Bounds
 pub mod Chain
-pub mod OneGraph
 pub mod Plans
 mod Readers
-mod Nests
-mod Bounds
 pub mod Built
-pub mod SameTask
+pub mod ShapeSteps

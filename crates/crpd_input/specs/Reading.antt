@@ -20,12 +20,12 @@ use Rattle.code_map.specs.declared.fault.MapError.TheVariants as map_fault
 use Rattle.cert_model.specs.Reading as certificate
 use Rattle.cert_model.specs.declared.fault.CertError.{CertError}
 use Rattle.cert_model.specs.declared.fault.CertError.TheVariants as certificate_fault
+use Rattle.task_shapes.specs.Inputs.{SetWithCode}
 use Rattle.crpd_io.specs.Outside.{Contents}
-use Rattle.crpd_report.specs.Texts.{hexadecimal}
+use Rattle.crpd_base.specs.Texts.{hexadecimal}
 use Rattle.crpd_input.specs.declared.cause.Cause.TheVariants as cause
 use Rattle.crpd_input.specs.declared.halt.Halt.{Halt}
 use Rattle.crpd_input.specs.declared.halt.Halt.TheVariants as halt
-use Rattle.crpd_input.specs.declared.input.Input.{Input}
 use Rattle.crpd_input.specs.Steps.{and_then, bytes_in, certificate_bytes, each, file_bytes}
 use Rattle.crpd_input.specs.Steps.{or_refused, plain_refusal, refusal}
 
@@ -102,7 +102,7 @@ code_in contents name set =
     (λ images. or_refused (map_halt name set) (code.code_of set images))
 
 -- a set with its code
-abbrev pub input_in : Contents → List ℕ → Result Input Halt
+abbrev pub input_in : Contents → List ℕ → Result SetWithCode Halt
 input_in contents name =
     and_then (set_in contents name)
     (λ set. and_then (code_in contents name set) (λ code. Ok (record { set = set; code = code })))

@@ -1,8 +1,9 @@
 -- A command is a list of steps. Each gives a value, or why the command stops.
-use Rattle.std.specs.Prelude.{◌≡◌, ◌⊎◌, ℕ, ◌<◌, List, [], ◌∷◌, length, slice_get, Option, Some}
-use Rattle.std.specs.Prelude.{Result, Ok, Err, codes}
+use Rattle.std.specs.Prelude.{◌≡◌, ℕ, ◌≤◌, List, [], ◌∷◌, Option, Some, Result, Ok, Err, IsErrOf}
+use Rattle.std.specs.Prelude.{codes}
 pub use Rattle.crpd_base.specs.Limits.{file_bytes, certificate_bytes}
-use Rattle.crpd_io.specs.Outside.{Contents}
+pub use Rattle.task_shapes.specs.Steps.{EachBelow, Exactly, Then}
+use Rattle.crpd_io.specs.Outside.{Contents, Rose}
 use Rattle.crpd_io.specs.Whole.{file_within, FileRefusal, no_file, too_long}
 use Rattle.crpd_input.specs.declared.cause.Cause.{Cause}
 use Rattle.crpd_input.specs.declared.cause.Cause.TheVariants as cause
@@ -19,10 +20,11 @@ unfoldable pub each : {A B : Type 0} → (A → Result B Halt) → List A → Re
 each step [] = Ok []
 each step (x ∷ xs) = and_then (step x) (λ y. and_then (each step xs) (λ ys. Ok (y ∷ ys)))
 
--- the refusal of a file or a task for this cause, with a detail and without one
+-- the refusal of a file or a task for this cause, with a detail
 abbrev pub refusal : Cause → List ℕ → List ℕ → Halt
 refusal why subject detail = Refused (record { cause = why; subject = subject; detail = detail })
 
+-- the refusal without a detail
 abbrev pub plain_refusal : Cause → List ℕ → Halt
 plain_refusal why subject = refusal why subject (codes "-")
 
@@ -31,6 +33,7 @@ abbrev pub or_refused : {A E : Type 0} → (E → Halt) → Result A E → Resul
 or_refused halt_of (Ok value) = Ok value
 or_refused halt_of (Err e) = Err (halt_of e)
 
+-- a file's bytes, with the refusal of the file as the command's stop
 abbrev pub refused_file : {A : Type 0} → List ℕ → Result A FileRefusal → Result A Halt
 refused_file name (Ok bytes) = Ok bytes
 refused_file name (Err no_file) = Err (plain_refusal cause.NoFile name)
@@ -61,26 +64,20 @@ IsRefusal meant (Refused refusal) = Refused refusal ≡ meant
 IsRefusal meant Memory = Unit {0}
 IsRefusal meant Fault = ⊥
 
+-- a step leaves the files as they are: their contents stay, their count of faults never falls, and
+-- the step stops at a fault only where the count rose
+abbrev pub LeavesFiles : {F A : Type 0} → (F → Option Contents) → (F → ℕ) → (old new : F)
+    → Result A Halt → Type 0
+LeavesFiles contents faults old new result =
+    (contents new ≡ contents old) × (faults old ≤ faults new)
+    × (IsErrOf result Fault → Rose (faults old) (faults new))
+
 -- ---- steps of which more than one end may be meant
 
--- exactly this end
-abbrev pub Exactly : {A : Type 0} → Result A Halt → Result A Halt → Type 0
-Exactly meant r = meant ≡ r
-
--- one step after another: the first stop ends them
-abbrev pub Then : {A B : Type 0} → (Result A Halt → Type 0) → (A → Result B Halt → Type 0)
-    → Result B Halt → Type 0
-Then {A} P next r =
-    ((value : A) × P (Ok value) × next value r) ⊎ ((halt : Halt) × P (Err halt) × (r ≡ Err halt))
-
--- a step for each number below n, in order: a value for each, or the stop of one before which each
--- has a value
-abbrev pub EachBelow : {B : Type 0} → (ℕ → Result B Halt → Type 0) → ℕ
-    → Result (List B) Halt → Type 0
-EachBelow {B} P n (Ok ys) =
-    (length ys ≡ n) × ((k : ℕ) (y : B) → slice_get ys k ≡ Some y → P k (Ok y))
-EachBelow {B} P n (Err halt) =
-    (k : ℕ) × (k < n) × P k (Err halt) × ((j : ℕ) → j < k → (y : B) × P j (Ok y))
+-- as a step of a command: its error is the command's stop
+abbrev pub AsStep : {A E : Type 0} → (E → Halt) → (Result A E → Type 0) → Result A Halt → Type 0
+AsStep halt_of P (Ok value) = P (Ok value)
+AsStep {A} {E} halt_of P (Err halt) = (error : E) × P (Err error) × (halt ≡ halt_of error)
 
 -- the stop is one that is meant, want of memory and faults aside
 abbrev pub StopsBy : {A : Type 0} → (Result A Halt → Type 0) → Halt → Type 0

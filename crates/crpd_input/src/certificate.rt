@@ -1,9 +1,9 @@
 // The certificate of a file.
-ghost use Rattle.std.specs.Prelude.{◌≡◌, ◌≤◌, IsErrOf, IfOk};
+ghost use Rattle.std.specs.Prelude.{IfOk};
 ghost use Rattle.crpd_base.specs.CertificateRanges.{IsCertificate};
-ghost use Rattle.crpd_io.specs.Outside.{Rose};
-ghost use Rattle.crpd_input.specs.Steps.{IsRefusal, Means, HoldsWhereTold};
-ghost use Rattle.crpd_input.specs.Reading.{certificate_in, certificate_halt as certificate_stop};
+ghost use Rattle.crpd_input.specs.Steps.{HoldsWhereTold, IsRefusal, LeavesFiles, Means};
+ghost use Rattle.crpd_input.specs.Reading as spec;
+ghost use Rattle.crpd_input.specs.Reading.{certificate_in};
 
 use crate::cause::Cause;
 use crate::halt::Halt;
@@ -16,7 +16,7 @@ use std::alloc::Global;
 
 /// Why a command stops at a certificate's file.
 fn certificate_halt(alloc: Global, file: &str, error: CertError) -> Halt
-    ensures { IsRefusal (certificate_stop file.now error) result }
+    ensures { IsRefusal (spec.certificate_halt file.now error) result }
 {
     match error {
         CertError::Memory => Halt::Memory,
@@ -41,9 +41,7 @@ pub fn load_certificate<F: Files>(
     ensures exact { HoldsWhereTold (F.contents files.old)
         (λ c. Means (certificate_in c name.now) result) }
     ensures ranges { IfOk result IsCertificate }
-    ensures same { F.contents files.new ≡ F.contents files.old }
-    ensures later { F.faults files.old ≤ F.faults files.new }
-    ensures fault { IsErrOf result Halt.Fault → Rose (F.faults files.old) (F.faults files.new) }
+    ensures files { LeavesFiles F.contents F.faults files.old files.new result }
 {
     let bytes = load(alloc, files, name, CERTIFICATE_BYTES)?;
     match read_certificate(alloc, bytes.as_slice()) {

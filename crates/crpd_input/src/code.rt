@@ -1,10 +1,10 @@
 // The code of a task set.
-ghost use Rattle.std.specs.Prelude.{◌≡◌, ◌≤◌, length, IsErrOf, IfOk};
+ghost use Rattle.std.specs.Prelude.{IfOk};
 ghost use Rattle.crpd_base.specs.Ranges.{IsTaskSet};
-ghost use Rattle.crpd_io.specs.Outside.{Rose};
-ghost use Rattle.crpd_input.specs.Graphs.{HasBoundedLoops};
-ghost use Rattle.crpd_input.specs.Steps.{IsRefusal, Means, HoldsWhereTold};
-ghost use Rattle.crpd_input.specs.Reading.{code_in, map_halt as map_stop};
+ghost use Rattle.task_shapes.specs.Inputs.{IsInput};
+ghost use Rattle.crpd_input.specs.Steps.{HoldsWhereTold, IsRefusal, LeavesFiles, Means};
+ghost use Rattle.crpd_input.specs.Reading as spec;
+ghost use Rattle.crpd_input.specs.Reading.{code_in};
 
 use crate::cause::Cause;
 use crate::halt::Halt;
@@ -17,7 +17,7 @@ use std::alloc::Global;
 
 /// Why a command stops at a set's code.
 fn map_halt(alloc: Global, file: &str, set: &TaskSet, error: MapError) -> Halt
-    ensures { IsRefusal (map_stop file.now set.now error) result }
+    ensures { IsRefusal (spec.map_halt file.now set.now error) result }
 {
     match error {
         MapError::Memory => Halt::Memory,
@@ -56,19 +56,19 @@ pub fn load_code<F: Files>(
     name: &str,
     set: &TaskSet,
 ) -> Result<CodeMap, Halt>
-    requires ranges { IsTaskSet set.now }
-    requires few { length set.now.tasks ≤ 256 }
+    requires { IsTaskSet set.now }
     ensures exact { HoldsWhereTold (F.contents files.old)
         (λ c. Means (code_in c name.now set.now) result) }
-    ensures count { IfOk result (λ code. length code.images ≡ length set.now.tasks) }
-    ensures bounded { IfOk result HasBoundedLoops }
-    ensures same { F.contents files.new ≡ F.contents files.old }
-    ensures later { F.faults files.old ≤ F.faults files.new }
-    ensures fault { IsErrOf result Halt.Fault → Rose (F.faults files.old) (F.faults files.new) }
+    ensures input { IfOk result (λ code. IsInput (record { set = set.now; code = code })) }
+    ensures files { LeavesFiles F.contents F.faults files.old files.new result }
 {
     let images = load_images(alloc, files, set.tasks.as_slice())?;
     match CodeMap::new(alloc, set, images.into_vec()) {
-        Ok(code) => Ok(code),
+        Ok(code) => {
+            code.plans_law();
+            code.words_law();
+            Ok(code)
+        }
         Err(error) => Err(map_halt(alloc, name, set, error)),
     }
 }

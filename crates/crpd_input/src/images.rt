@@ -1,11 +1,11 @@
 // The images of the tasks' files.
-ghost use Rattle.std.specs.Prelude.{◌≡◌, ◌≤◌, ◌<◌, length, position, All, IsErrOf, IfOk, IfSome};
+ghost use Rattle.std.specs.Prelude.{◌≡◌, ◌<◌, length, position, All, IfOk, IfSome};
 ghost use Rattle.std.specs.Prelude.{Ok};
 ghost use Rattle.std.specs.Str.{bytes_eq};
 ghost use Rattle.crpd_base.specs.Images.{IsImage};
-ghost use Rattle.crpd_io.specs.Outside.{Rose};
-ghost use Rattle.crpd_input.specs.Steps.{IsRefusal, Means, HoldsWhereTold};
-ghost use Rattle.crpd_input.specs.Reading.{elf_halt as elf_stop, image_in, images_in};
+ghost use Rattle.crpd_input.specs.Steps.{HoldsWhereTold, IsRefusal, LeavesFiles, Means};
+ghost use Rattle.crpd_input.specs.Reading as spec;
+ghost use Rattle.crpd_input.specs.Reading.{image_in, images_in};
 
 use crate::cause::Cause;
 use crate::copies::copy_image;
@@ -19,7 +19,7 @@ use std::alloc::Global;
 
 /// Why a command stops at an ELF file.
 fn elf_halt(alloc: Global, file: &str, error: ElfError) -> Halt
-    ensures { IsRefusal (elf_stop file.now error) result }
+    ensures { IsRefusal (spec.elf_halt file.now error) result }
 {
     let cause = match error {
         ElfError::Memory => return Halt::Memory,
@@ -58,9 +58,7 @@ fn load_image<F: Files>(alloc: Global, files: &mut F, name: &str) -> Result<Imag
     ensures exact { HoldsWhereTold (F.contents files.old)
         (λ c. Means (image_in c name.now) result) }
     ensures image { IfOk result IsImage }
-    ensures same { F.contents files.new ≡ F.contents files.old }
-    ensures later { F.faults files.old ≤ F.faults files.new }
-    ensures fault { IsErrOf result Halt.Fault → Rose (F.faults files.old) (F.faults files.new) }
+    ensures files { LeavesFiles F.contents F.faults files.old files.new result }
 {
     let bytes = load(alloc, files, name, FILE_BYTES)?;
     match read_elf(alloc, bytes.as_slice()) {
@@ -93,9 +91,7 @@ fn image_of<F: Files>(
     ensures exact { HoldsWhereTold (F.contents files.old)
         (λ c. Means (image_in c file.now) result) }
     ensures image { IfOk result IsImage }
-    ensures same { F.contents files.new ≡ F.contents files.old }
-    ensures later { F.faults files.old ≤ F.faults files.new }
-    ensures fault { IsErrOf result Halt.Fault → Rose (F.faults files.old) (F.faults files.new) }
+    ensures files { LeavesFiles F.contents F.faults files.old files.new result }
 {
     match first_of_file(earlier, file) {
         Some(place) => Ok(copy_image(alloc, &images[place])?),
@@ -116,9 +112,7 @@ pub fn load_images<F: Files>(
         (λ c. Means (images_in c tasks.now) result) }
     ensures count { IfOk result (λ images. length images ≡ length tasks.now) }
     ensures images { IfOk result (λ images. All IsImage images) }
-    ensures same { F.contents files.new ≡ F.contents files.old }
-    ensures later { F.faults files.old ≤ F.faults files.new }
-    ensures fault { IsErrOf result Halt.Fault → Rose (F.faults files.old) (F.faults files.new) }
+    ensures files { LeavesFiles F.contents F.faults files.old files.new result }
 {
     let mut images = Vec::new(alloc);
     for (i, task) in tasks.iter().enumerate() {

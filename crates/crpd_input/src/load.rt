@@ -1,7 +1,5 @@
 // The bytes of a file.
-ghost use Rattle.std.specs.Prelude.{◌≡◌, ◌≤◌, IsErrOf};
-ghost use Rattle.crpd_io.specs.Outside.{Rose};
-ghost use Rattle.crpd_input.specs.Steps.{Means, HoldsWhereTold, bytes_in};
+ghost use Rattle.crpd_input.specs.Steps.{HoldsWhereTold, LeavesFiles, Means, bytes_in};
 
 use crate::cause::Cause;
 use crate::halt::Halt;
@@ -21,9 +19,7 @@ pub fn load<F: Files>(
 ) -> Result<Items<u8>, Halt>
     ensures exact { HoldsWhereTold (F.contents files.old)
         (λ c. Means (bytes_in most c name.now) result) }
-    ensures same { F.contents files.new ≡ F.contents files.old }
-    ensures later { F.faults files.old ≤ F.faults files.new }
-    ensures fault { IsErrOf result Halt.Fault → Rose (F.faults files.old) (F.faults files.new) }
+    ensures files { LeavesFiles F.contents F.faults files.old files.new result }
 {
     match read_all(alloc, files, name, most) {
         Ok(bytes) => Ok(Items::new(bytes)),

@@ -1,14 +1,13 @@
 // Refusals, as commands stop with them.
 ghost use Rattle.std.specs.Prelude.{string_bytes};
 ghost use Rattle.std.specs.Fmt.{decimal};
-ghost use Rattle.crpd_report.specs.Texts.{hexadecimal};
+ghost use Rattle.crpd_base.specs.Texts.{hexadecimal};
 ghost use Rattle.crpd_input.specs.Steps.{IsRefusal, plain_refusal, refusal};
 
 use crate::cause::Cause;
 use crate::halt::Halt;
 use crate::refusal::Refusal;
-use crpd_base::Text;
-use crpd_report::address_text;
+use crpd_base::{Text, address_text};
 use std::alloc::Global;
 
 /// The refusal for this cause with a detail.

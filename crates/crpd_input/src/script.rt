@@ -1,9 +1,9 @@
 // The script of a file.
-ghost use Rattle.std.specs.Prelude.{◌≡◌, ◌≤◌, length, IsErrOf, IfOk};
+ghost use Rattle.std.specs.Prelude.{◌≤◌, length, IfOk};
 ghost use Rattle.preempt_machine.specs.Safe.{NamesTasks};
-ghost use Rattle.crpd_io.specs.Outside.{Rose};
-ghost use Rattle.crpd_input.specs.Steps.{IsRefusal, Means, HoldsWhereTold};
-ghost use Rattle.crpd_input.specs.Script.{script_in, script_halt as script_stop};
+ghost use Rattle.crpd_input.specs.Steps.{HoldsWhereTold, IsRefusal, LeavesFiles, Means};
+ghost use Rattle.crpd_input.specs.Script as spec;
+ghost use Rattle.crpd_input.specs.Script.{script_in};
 
 use crate::cause::Cause;
 use crate::halt::Halt;
@@ -16,7 +16,7 @@ use std::alloc::Global;
 
 /// Why a command stops at a script's file.
 fn script_halt(alloc: Global, file: &str, error: ScriptError) -> Halt
-    ensures { IsRefusal (script_stop file.now error) result }
+    ensures { IsRefusal (spec.script_halt file.now error) result }
 {
     match error {
         ScriptError::Memory => Halt::Memory,
@@ -45,9 +45,7 @@ pub fn load_script<F: Files>(
         (λ c. Means (script_in c name.now set.now) result) }
     ensures tasks { IfOk result (λ script. NamesTasks set.now script.jobs) }
     ensures few { IfOk result (λ script. length script.jobs ≤ 10000) }
-    ensures same { F.contents files.new ≡ F.contents files.old }
-    ensures later { F.faults files.old ≤ F.faults files.new }
-    ensures fault { IsErrOf result Halt.Fault → Rose (F.faults files.old) (F.faults files.new) }
+    ensures files { LeavesFiles F.contents F.faults files.old files.new result }
 {
     let bytes = load(alloc, files, name, FILE_BYTES)?;
     match read_script(alloc, bytes.as_slice(), set) {

@@ -1,9 +1,9 @@
 // The task set of a file.
-ghost use Rattle.std.specs.Prelude.{◌≡◌, ◌≤◌, IsErrOf, IfOk};
+ghost use Rattle.std.specs.Prelude.{IfOk};
 ghost use Rattle.crpd_base.specs.Ranges.{IsTaskSet};
-ghost use Rattle.crpd_io.specs.Outside.{Rose};
-ghost use Rattle.crpd_input.specs.Steps.{IsRefusal, Means, HoldsWhereTold};
-ghost use Rattle.crpd_input.specs.Reading.{set_in, set_halt as set_stop};
+ghost use Rattle.crpd_input.specs.Steps.{HoldsWhereTold, IsRefusal, LeavesFiles, Means};
+ghost use Rattle.crpd_input.specs.Reading as spec;
+ghost use Rattle.crpd_input.specs.Reading.{set_in};
 
 use crate::cause::Cause;
 use crate::halt::Halt;
@@ -16,7 +16,7 @@ use std::alloc::Global;
 
 /// Why a command stops at a set's file.
 fn set_halt(alloc: Global, file: &str, error: SetError) -> Halt
-    ensures { IsRefusal (set_stop file.now error) result }
+    ensures { IsRefusal (spec.set_halt file.now error) result }
 {
     let (cause, key) = match error {
         SetError::Memory => return Halt::Memory,
@@ -44,9 +44,7 @@ fn set_halt(alloc: Global, file: &str, error: SetError) -> Halt
 pub fn load_task_set<F: Files>(alloc: Global, files: &mut F, name: &str) -> Result<TaskSet, Halt>
     ensures exact { HoldsWhereTold (F.contents files.old) (λ c. Means (set_in c name.now) result) }
     ensures ranges { IfOk result IsTaskSet }
-    ensures same { F.contents files.new ≡ F.contents files.old }
-    ensures later { F.faults files.old ≤ F.faults files.new }
-    ensures fault { IsErrOf result Halt.Fault → Rose (F.faults files.old) (F.faults files.new) }
+    ensures files { LeavesFiles F.contents F.faults files.old files.new result }
 {
     let bytes = load(alloc, files, name, FILE_BYTES)?;
     match read_set(alloc, bytes.as_slice()) {

@@ -8,8 +8,9 @@ use Rattle.std.proofs.lemmas.Bool.Decides.{nat_tests, same_from_decides}
 use Rattle.std.proofs.lemmas.List.Kept.{AllPairs-cons}
 use Rattle.crpd_base.specs.declared.data.ScriptJob.{ScriptJob}
 use Rattle.crpd_base.specs.declared.data.TaskSet.{TaskSet}
-use Rattle.script_reader.specs.Legal.{AreSpaced, IsLegal, IsReleasedInTime, jitter_of}
-use Rattle.script_reader.specs.Legal.{period_of}
+use Rattle.crpd_base.specs.Tasks.{jitter_of}
+use Rattle.crpd_base.specs.Arrivals.{AreSpaced, IsLegal, IsReleasedInTime}
+use Rattle.crpd_base.specs.Tasks.{period_of}
 use Rattle.crpd_report.specs.Simulate.{are_spaced, is_in_time, is_legal, list_all_pairs}
 
 at_most : (a b : ℕ) → Decides (nat_le a b) (a ≤ b)

@@ -1,4 +1,3 @@
-mod Hexadecimal
 mod Addresses
 mod Zipped
 mod Lines

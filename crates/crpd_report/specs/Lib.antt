@@ -5,3 +5,4 @@ pub mod Sets
 pub mod Simulate
 pub mod Generate
 pub mod Explain
+pub mod Slack

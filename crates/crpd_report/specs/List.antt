@@ -10,7 +10,7 @@ use Rattle.rv_decode.specs.declared.Ins.{Ins}
 use Rattle.rv_decode.specs.Table.{ins_of_word}
 use Rattle.rv_decode.specs.Text.{text}
 use Rattle.code_map.specs.Words.{Code, word_at, owns}
-use Rattle.crpd_report.specs.Texts.{hexadecimal}
+use Rattle.crpd_base.specs.Texts.{hexadecimal}
 
 -- the numbers below n that pass a test, in increasing order
 unfoldable pub those_below : ℕ → (ℕ → Bool) → List ℕ

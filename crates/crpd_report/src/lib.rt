@@ -1,8 +1,7 @@
-//! Texts that the certifier writes: of refusals, of verdicts, and of the commands `list`, `sets`,
-//! `simulate`, `explain` and `generate`.
+//! Texts that the certifier writes: of refusals, of verdicts, of a task without a window, and of the
+//! commands `list`, `sets`, `simulate`, `explain`, `slack` and `generate`.
 #![tactic(auto)]
 
-mod address;
 mod check;
 mod explain;
 mod generate;
@@ -10,8 +9,9 @@ mod list;
 mod refusal;
 mod sets;
 mod simulate;
+mod slack;
+mod unscheduled;
 
-pub use address::address_text;
 pub use check::check_text;
 pub use explain::explain_text;
 pub use generate::{generate_text, late_law};
@@ -19,3 +19,5 @@ pub use list::list_text;
 pub use refusal::refusal_text;
 pub use sets::sets_text;
 pub use simulate::simulate_text;
+pub use slack::slack_text;
+pub use unscheduled::unschedulable_text;

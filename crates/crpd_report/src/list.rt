@@ -3,9 +3,8 @@ ghost use Rattle.std.specs.Prelude.{◌≡◌, ◌+◌, ◌<◌, ◌++◌, lengt
 ghost use Rattle.rv_decode.specs.Table.{ins_of_word};
 ghost use Rattle.crpd_report.specs.List as spec;
 
-use crate::address::address_text;
 use code_map::CodeMap;
-use crpd_base::{Memory, Task};
+use crpd_base::{Memory, Task, address_text};
 use rv_decode::decode;
 use std::alloc::Global;
 

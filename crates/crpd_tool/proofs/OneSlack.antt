@@ -21,14 +21,16 @@ use Rattle.sensitivity.specs.Accepted.{IsStop}
 use Rattle.sensitivity.specs.Costs.{with_miss, with_switch}
 use Rattle.sensitivity.specs.Laws.{IsLoopBounded}
 use Rattle.sensitivity.specs.Slack.{AreRefusedFrom, IsGreatest, IsSlack, StopsNext}
-use Rattle.sensitivity.specs.declared.slack.Slack.{Slack}
-use Rattle.sensitivity.specs.declared.slack.Stop.{Stop}
-use Rattle.sensitivity.specs.declared.slack.Stop.TheVariants.{Limit, Window, Bound}
+use Rattle.crpd_base.specs.declared.data.Slack.{Slack}
+use Rattle.crpd_base.specs.declared.data.Stop.{Stop}
+use Rattle.crpd_base.specs.declared.data.Stop.TheVariants.{Limit, Window, Bound}
 use Rattle.sensitivity.proofs.Slacks.{one_slack_by}
 use Rattle.crpd_tool.specs.declared.answer.Answer.{Answer}
-use Rattle.crpd_input.specs.declared.input.Input.{Input}
+use Rattle.task_shapes.specs.Shapes.{SetWithShapes}
 use Rattle.crpd_input.specs.declared.halt.Halt.{Halt}
+use Rattle.crpd_tool.specs.Shaped.{graphs_of}
 use Rattle.crpd_tool.specs.Slack.{AreSlacks, SlackOf, slack_answer}
+use Rattle.crpd_tool.proofs.OneMade.{with_nests}
 
 -- a task's code has nested regions outside whose back edges no cycle is left
 pub loop_bounded : (words : Words) (plan : TaskPlan) (t : TaskGraph) → IsGraphOf words plan t
@@ -143,26 +145,27 @@ one_pair set graphs times bounded one two first second A B = (
 
 -- ---- the end
 
-module _ (input : Input) (graphs : List CodeGraph) (ns ms : List CodeNest)
-    (times : HasTimes input.set)
-    (bounded : (k : ℕ) → k < length input.set.tasks → IsLoopBounded (task_graph_at graphs ns k))
-    (same : AllAlike input.set ns ms) where
-  slacks_back : (first second : Slack) → AreSlacks input.set (task_graph_at graphs ms) first second
-      → AreSlacks input.set (task_graph_at graphs ns) first second
-  slacks_back first second S = record {
-    by_switch =
-        slack_too (λ c. with_switch input.set c) graphs ms ns
-        (λ c. all_turned input.set ns ms same) (λ c. same) first S.by_switch;
-    by_miss =
-        slack_too (λ c. with_miss input.set c) graphs ms ns (λ c. all_turned input.set ns ms same)
-        (λ c. same) second S.by_miss;
-  }
+module _ (x : SetWithShapes) (ms : List CodeNest) (times : HasTimes x.input.set)
+    (bounded : (k : ℕ) → k < length x.input.set.tasks → IsLoopBounded (graphs_of x k))
+    (same : AllAlike x.input.set x.nests ms) where
+  slacks_back : (first second : Slack)
+      → AreSlacks x.input.set (graphs_of (with_nests x ms)) first second
+      → AreSlacks x.input.set (graphs_of x) first second
+  slacks_back first second S =
+      let turned = λ (c : ℕ). all_turned x.input.set x.nests ms same in
+      record {
+        by_switch =
+            slack_too (λ c. with_switch x.input.set c) x.graphs ms x.nests turned (λ c. same) first
+            S.by_switch;
+        by_miss =
+            slack_too (λ c. with_miss x.input.set c) x.graphs ms x.nests turned (λ c. same) second
+            S.by_miss;
+      }
 
-  pub one_slack_end : (r s : Result Answer Halt)
-      → SlackOf input (record { graphs = graphs; nests = ns }) r
-      → SlackOf input (record { graphs = graphs; nests = ms }) s → r ≡ s
+  pub one_slack_end : (r s : Result Answer Halt) → SlackOf x r → SlackOf (with_nests x ms) s
+      → r ≡ s
   one_slack_end r s a b =
-      let pair = one_pair input.set (task_graph_at graphs ns) times bounded a.0 a.1 b.0 b.1 a.2
+      let pair = one_pair x.input.set (graphs_of x) times bounded a.0 a.1 b.0 b.1 a.2
       (slacks_back b.0 b.1 b.2) in
-      a.3 ∙ ap (λ (x : Slack). Ok (slack_answer input.set x a.1)) pair.0
-      ∙ ap (λ (x : Slack). Ok (slack_answer input.set b.0 x)) pair.1 ∙ sym b.3
+      a.3 ∙ ap (λ (y : Slack). Ok (slack_answer x.input.set y a.1)) pair.0
+      ∙ ap (λ (y : Slack). Ok (slack_answer x.input.set b.0 y)) pair.1 ∙ sym b.3

@@ -14,7 +14,6 @@ use Rattle.cert_build.specs.Certify.{IsBuildError}
 use Rattle.cert_build.specs.declared.fault.BuildError.{BuildError}
 use Rattle.cert_build.specs.declared.fault.BuildError.TheVariants as build
 use Rattle.cert_check.specs.FirstFailing.{answer_of}
-use Rattle.cert_check.specs.TaskGraphs.{task_graph_at}
 use Rattle.cert_check.specs.Verdict.{IsJudged}
 use Rattle.cert_check.specs.declared.outcome.Verdict.{Verdict}
 use Rattle.cert_model.specs.Reading.{entries}
@@ -23,11 +22,12 @@ use Rattle.crpd_io.specs.Outside.{Contents}
 use Rattle.crpd_report.specs.Generate.{generate_text, made_line}
 use Rattle.gen_tasks.specs.GeneratedInput.{made}
 use Rattle.gen_tasks.specs.declared.Generated.{Generated}
-use Rattle.crpd_input.specs.declared.input.Input.{Input}
+use Rattle.task_shapes.specs.Inputs.{SetWithCode}
 use Rattle.crpd_input.specs.declared.halt.Halt.{Halt}
-use Rattle.crpd_input.specs.declared.shapes.Shapes.{Shapes}
+use Rattle.task_shapes.specs.Shapes.{SetWithShapes}
 use Rattle.crpd_input.specs.Reading.{code_in}
-use Rattle.crpd_input.specs.Shapes.{ShapesIn}
+use Rattle.crpd_input.specs.Shapes.{ShapedFrom}
+use Rattle.crpd_tool.specs.Shaped.{graphs_of}
 use Rattle.crpd_input.specs.Steps.{Exactly, Then, and_then}
 use Rattle.crpd_tool.specs.declared.answer.Answer.{Answer}
 use Rattle.crpd_tool.specs.Analyze.{without_certificate}
@@ -51,13 +51,13 @@ abbrev pub made_name : List ℕ
 made_name = codes "generate"
 
 -- a set with the code that these files mean, as for a set that was read
-abbrev pub input_of : TaskSet → List (List ℕ) → Result Input Halt
+abbrev pub input_of : TaskSet → List (List ℕ) → Result SetWithCode Halt
 input_of set files =
     and_then (code_in (contents_of_files (named_files set files)) made_name set)
     (λ code. Ok (record { set = set; code = code }))
 
 -- the made set with its code
-abbrev pub made_input : ℕ → Result Input Halt
+abbrev pub made_input : ℕ → Result SetWithCode Halt
 made_input n = input_of (made n).set (made n).files
 
 -- ---- its analysis, its verdict and its run
@@ -68,19 +68,19 @@ node_count graphs = sum_by (λ (g : CodeGraph). length g.nodes) graphs
 
 -- the analysis' certificate, with at most 4,000,000 state entries; the judge's verdict on it; and
 -- whether the state after the script's cycles is kept
-pub record IsRunJudged (script : Script) (input : Input) (shapes : Shapes) (c : Certificate)
+pub record IsRunJudged (script : Script) (shaped : SetWithShapes) (c : Certificate)
     (verdict : Verdict) (kept : Bool) : Type 0 where
-  pub best : IsBest input.set (task_graph_at shapes.graphs shapes.nests) c
+  pub best : IsBest shaped.input.set (graphs_of shaped) c
   pub few : entries c.tasks ≤ most_entries
-  pub judged : IsJudged input.set (task_graph_at shapes.graphs shapes.nests) c (answer_of verdict)
-  pub kept_so : IsTrue kept ↔ IsKept (run_of input script)
+  pub judged : IsJudged shaped.input.set (graphs_of shaped) c (answer_of verdict)
+  pub kept_so : IsTrue kept ↔ IsKept (run_of shaped.input script)
 
 -- the answer with a certificate
-abbrev pub made_answer : ℕ → Script → Input → Shapes → Certificate → Verdict → Bool → Answer
-made_answer n script input shapes c verdict kept = record {
+abbrev pub made_answer : ℕ → Script → SetWithShapes → Certificate → Verdict → Bool → Answer
+made_answer n script shaped c verdict kept = record {
   text =
-      generate_text n (node_count shapes.graphs) input.set c verdict script
-      (completions_of (run_of input script)) kept;
+      generate_text n (node_count shaped.graphs) shaped.input.set c verdict script
+      (completions_of (run_of shaped.input script)) kept;
   outcome = verdict_outcome verdict;
 }
 
@@ -92,27 +92,26 @@ answer_behind_line line (Err halt) = Err halt
 
 -- where there is no certificate, the analysis' end, with the first line before the line of a task
 -- without a window
-abbrev pub without_made : ℕ → Input → Shapes → BuildError → Result Answer Halt
-without_made n input shapes e =
-    answer_behind_line (made_line n (node_count shapes.graphs))
-    (without_certificate made_name input.set e)
+abbrev pub without_made : ℕ → SetWithShapes → BuildError → Result Answer Halt
+without_made n shaped e =
+    answer_behind_line (made_line n (node_count shaped.graphs))
+    (without_certificate made_name shaped.input.set e)
 
 -- the analysis of all tasks, and with its certificate the verdict and the script's run
-abbrev pub GeneratedOf : ℕ → Script → Input → Shapes → Result Answer Halt → Type 0
-GeneratedOf n script input shapes r =
+abbrev pub GeneratedOf : ℕ → Script → SetWithShapes → Result Answer Halt → Type 0
+GeneratedOf n script shaped r =
     ((c : Certificate) × (verdict : Verdict) × (kept : Bool)
-    × IsRunJudged script input shapes c verdict kept
-    × (r ≡ Ok (made_answer n script input shapes c verdict kept)))
+    × IsRunJudged script shaped c verdict kept
+    × (r ≡ Ok (made_answer n script shaped c verdict kept)))
     ⊎ ((e : BuildError) × (e ≢ build.Memory)
-    × IsBuildError input.set (task_graph_at shapes.graphs shapes.nests) e
-    × (r ≡ without_made n input shapes e))
+    × IsBuildError shaped.input.set (graphs_of shaped) e
+    × (r ≡ without_made n shaped e))
 
 -- over an input that was made of a number: the set with its code, the graphs of all tasks and the
 -- regions of their loops, and then the analysis, the verdict and the run
 abbrev pub EndsFrom : ℕ → Generated → Result Answer Halt → Type 0
 EndsFrom n g =
-    Then (Exactly (input_of g.set g.files))
-    (λ input. Then (ShapesIn input) (GeneratedOf n g.script input))
+    Then (Then (Exactly (input_of g.set g.files)) ShapedFrom) (GeneratedOf n g.script)
 
 -- the whole command
 abbrev pub GenerateEnds : ℕ → Result Answer Halt → Type 0

@@ -4,7 +4,7 @@ use Rattle.crpd_base.specs.declared.data.Certificate.{Certificate}
 use Rattle.crpd_io.specs.Outside.{Contents}
 use Rattle.crpd_report.specs.Check.{yes_text}
 use Rattle.sound_laws.specs.CheckedCode.{IsBoundedWith, bounds}
-use Rattle.crpd_input.specs.declared.input.Input.{Input}
+use Rattle.task_shapes.specs.Inputs.{SetWithCode}
 use Rattle.crpd_input.specs.Reading.{certificate_in, input_in}
 use Rattle.crpd_tool.specs.Output.{IsOut, Output}
 use Rattle.crpd_tool.specs.Commands.{check, command_of}
@@ -15,7 +15,7 @@ use Rattle.crpd_tool.specs.declared.status.Status.TheVariants.{Done}
 -- is the candidate, from the first step in which it is, for as many steps as a switch and its
 -- task's bound take, or is over sooner, has answered when they end
 pub record HasUndisturbedBounds (contents : Contents) (set certificate text : List ℕ) : Type 0 where
-  pub input : Input
+  pub input : SetWithCode
   pub stated : Certificate
   pub input_is : input_in contents set ≡ Ok input
   pub certificate_is : certificate_in contents certificate ≡ Ok stated

@@ -1,33 +1,21 @@
 // The command `classic`.
-ghost use Rattle.std.specs.Prelude.{IsErrOf};
-ghost use Rattle.cert_check.specs.TaskGraphs.{AreTaskGraphs};
-ghost use Rattle.crpd_base.specs.Ranges.{IsTaskSet};
-ghost use Rattle.crpd_input.specs.Steps.{MeansBy};
-ghost use Rattle.crpd_tool.specs.Classic.{ClassicOf};
+ghost use Rattle.crpd_input.specs.Steps.{HoldsWhereTold, LeavesFiles, MeansBy};
+ghost use Rattle.crpd_tool.specs.Classic.{ClassicEnds};
 
 use crate::answer::Answer;
-use crate::ending::{certificate_answer, without_certificate};
-use crpd_input::{Halt, Input, Shapes};
-use delay_classic::ClassicError;
+use crate::ending::made_ending;
+use crpd_input::{Halt, load_shaped};
+use crpd_io::Files;
 use std::alloc::Global;
 
-/// The answer of the analysis with the plain union delays of a set that was read from this file.
-pub(crate) fn plain_analysis(
-    alloc: Global,
-    file: &str,
-    input: &Input,
-    shapes: &Shapes,
-) -> Result<Answer, Halt>
-    requires set { IsTaskSet input.now.set }
-    requires shown { AreTaskGraphs input.now.set shapes.now.graphs shapes.now.nests }
-    ensures exact { MeansBy (ClassicOf file.now input.now shapes.now) result }
-    ensures no_fault { ¬ IsErrOf result Halt.Fault }
+/// The answer of the analysis with the plain union delays of the set of a file.
+pub(crate) fn classic<F: Files>(alloc: Global, files: &mut F, set: &str) -> Result<Answer, Halt>
+    ensures exact { HoldsWhereTold (F.contents files.old)
+        (λ c. MeansBy (ClassicEnds c set.now) result) }
+    ensures files { LeavesFiles F.contents F.faults files.old files.new result }
 {
-    let graphs = shapes.graphs.as_slice();
-    let nests = shapes.nests.as_slice();
-    match delay_classic::classic(alloc, &input.set, graphs, nests) {
-        Ok(certificate) => Ok(certificate_answer(alloc, &certificate)?),
-        Err(ClassicError::Memory) => Err(Halt::Memory),
-        Err(error) => without_certificate(alloc, file, &input.set, error),
-    }
+    let shaped = load_shaped(alloc, files, set)?;
+    shaped.shaped_law();
+    let made = delay_classic::classic(alloc, shaped.set(), shaped.graphs(), shaped.nests());
+    made_ending(alloc, set, shaped.set(), made)
 }

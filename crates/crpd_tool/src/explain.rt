@@ -1,20 +1,18 @@
 // The command `explain`.
-ghost use Rattle.std.specs.Prelude.{◌≡◌, ◌≤◌, length, IfOk, IsErrOf, Ok};
-ghost use Rattle.cert_check.specs.TaskGraphs.{AreTaskGraphs, task_graph_at};
+ghost use Rattle.std.specs.Prelude.{◌≤◌, length, IfOk, IsErrOf, Ok};
 ghost use Rattle.cert_check.specs.Verdict.{IsJudged, Yes};
 ghost use Rattle.crpd_base.specs.CertificateRanges.{IsCertificate};
-ghost use Rattle.crpd_base.specs.Ranges.{IsTaskSet};
-ghost use Rattle.crpd_io.specs.Outside.{Rose};
-ghost use Rattle.crpd_input.specs.Shapes.{ShapesIn};
-ghost use Rattle.crpd_input.specs.Steps.{MeansBy, HoldsWhereTold};
+ghost use Rattle.crpd_input.specs.Steps.{HoldsWhereTold, LeavesFiles, MeansBy};
 ghost use Rattle.preempt_machine.specs.Safe.{NamesTasks};
-ghost use Rattle.crpd_tool.specs.Explain.{AccountOf, ExplainFromCertificate, ExplanationOf};
+ghost use Rattle.crpd_tool.specs.Explain.{AccountOf, ExplainEnds, ExplanationOf};
+ghost use Rattle.crpd_tool.specs.Shaped.{graphs_of};
 
 use crate::answer::{Answer, Outcome};
+use crate::check::judge;
 use crate::texts::write_verdict;
-use cert_check::{Verdict, verdict};
+use cert_check::Verdict;
 use crpd_base::{Certificate, Items, Memory, Script};
-use crpd_input::{Halt, Input, Shapes, load_script};
+use crpd_input::{Halt, ShapedSet, load_certificate, load_script, load_shaped};
 use crpd_io::Files;
 use crpd_report::explain_text;
 use std::alloc::Global;
@@ -22,33 +20,28 @@ use std::alloc::Global;
 /// The account of a script's run, after the judge's yes to a certificate.
 fn account_answer(
     alloc: Global,
-    input: &Input,
-    shapes: &Shapes,
+    shaped: &ShapedSet,
     certificate: &Certificate,
     script: &Script,
 ) -> Result<Answer, Memory>
-    requires set { IsTaskSet input.now.set }
-    requires count { length input.now.code.images ≡ length input.now.set.tasks }
-    requires shaped { ShapesIn input.now (Ok shapes.now) }
     requires ranges { IsCertificate certificate.now }
-    requires tasks { NamesTasks input.now.set script.now.jobs }
+    requires tasks { NamesTasks shaped.now.input.set script.now.jobs }
     requires few { length script.now.jobs ≤ 10000 }
-    requires judged { IsJudged input.now.set (task_graph_at shapes.now.graphs shapes.now.nests)
-        certificate.now Yes }
+    requires judged { IsJudged shaped.now.input.set (graphs_of shaped.now) certificate.now Yes }
     ensures { IfOk result (λ answer.
-        AccountOf input.now shapes.now certificate.now script.now (Ok answer)) }
+        AccountOf shaped.now certificate.now script.now (Ok answer)) }
 {
-    input.code.plans_law();
-    let graphs = shapes.graphs.as_slice();
+    shaped.shaped_law();
+    let set = shaped.set();
     let account = run_account::account(
         alloc,
-        &input.code,
-        &input.set,
-        graphs,
+        shaped.input().code(),
+        set,
+        shaped.graphs(),
         certificate,
         script,
     )?;
-    let text = explain_text(alloc, &input.set, certificate, script, &account)?;
+    let text = explain_text(alloc, set, certificate, script, &account)?;
     Ok(Answer {
         text: Items::new(text),
         outcome: Outcome::Done,
@@ -58,52 +51,38 @@ fn account_answer(
 /// The account of a script's run, or the judge's no to the certificate.
 fn explanation(
     alloc: Global,
-    input: &Input,
-    shapes: &Shapes,
+    shaped: &ShapedSet,
     certificate: &Certificate,
     script: &Script,
-) -> Result<Answer, Memory>
-    requires set { IsTaskSet input.now.set }
-    requires count { length input.now.code.images ≡ length input.now.set.tasks }
-    requires shaped { ShapesIn input.now (Ok shapes.now) }
-    requires shown { AreTaskGraphs input.now.set shapes.now.graphs shapes.now.nests }
+) -> Result<Answer, Halt>
     requires ranges { IsCertificate certificate.now }
-    requires tasks { NamesTasks input.now.set script.now.jobs }
+    requires tasks { NamesTasks shaped.now.input.set script.now.jobs }
     requires few { length script.now.jobs ≤ 10000 }
-    ensures { IfOk result (λ answer.
-        ExplanationOf input.now shapes.now certificate.now script.now (Ok answer)) }
+    ensures exact { MeansBy (ExplanationOf shaped.now certificate.now script.now) result }
+    ensures no_fault { ¬ IsErrOf result Halt.Fault }
 {
-    let graphs = shapes.graphs.as_slice();
-    let nests = shapes.nests.as_slice();
-    let found = verdict(&input.set, graphs, nests, certificate);
+    let found = judge(shaped, certificate);
     match found {
-        Verdict::Yes => account_answer(alloc, input, shapes, certificate, script),
-        Verdict::No { .. } => write_verdict(alloc, &input.set, certificate, &found),
+        Verdict::Yes => Ok(account_answer(alloc, shaped, certificate, script)?),
+        Verdict::No { .. } => Ok(write_verdict(alloc, shaped.set(), certificate, &found)?),
     }
 }
 
-/// The account of the run of a file's script, or the judge's no to the certificate.
-pub(crate) fn explain_script<F: Files>(
+/// The account of the run of a file's script for the set of a file, or the judge's no to the
+/// certificate of a file.
+pub(crate) fn explain<F: Files>(
     alloc: Global,
     files: &mut F,
-    input: &Input,
-    shapes: &Shapes,
-    stated: &Certificate,
+    set: &str,
+    certificate: &str,
     script: &str,
 ) -> Result<Answer, Halt>
-    requires set { IsTaskSet input.now.set }
-    requires count { length input.now.code.images ≡ length input.now.set.tasks }
-    requires shaped { ShapesIn input.now (Ok shapes.now) }
-    requires shown { AreTaskGraphs input.now.set shapes.now.graphs shapes.now.nests }
-    requires ranges { IsCertificate stated.now }
     ensures exact { HoldsWhereTold (F.contents files.old)
-        (λ c. MeansBy (ExplainFromCertificate c script.now input.now shapes.now stated.now)
-        result) }
-    ensures same { F.contents files.new ≡ F.contents files.old }
-    ensures later { F.faults files.old ≤ F.faults files.new }
-    ensures fault { IsErrOf result Halt.Fault → Rose (F.faults files.old) (F.faults files.new) }
+        (λ c. MeansBy (ExplainEnds c set.now certificate.now script.now) result) }
+    ensures files { LeavesFiles F.contents F.faults files.old files.new result }
 {
-    let given = load_script(alloc, files, script, &input.set)?;
-    let answer = explanation(alloc, input, shapes, stated, &given)?;
-    Ok(answer)
+    let shaped = load_shaped(alloc, files, set)?;
+    let stated = load_certificate(alloc, files, certificate)?;
+    let given = load_script(alloc, files, script, shaped.set())?;
+    explanation(alloc, &shaped, &stated, &given)
 }

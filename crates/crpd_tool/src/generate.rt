@@ -2,28 +2,24 @@
 ghost use Rattle.std.specs.Prelude.{◌≡◌, ◌^◌, ◌<◌, ◌≤◌, length, map, string_bytes, IfOk, IsErrOf};
 ghost use Rattle.std.specs.Prelude.{Ok};
 ghost use Rattle.cert_build.specs.Best.{IsBest};
-ghost use Rattle.cert_check.specs.TaskGraphs.{AreTaskGraphs, task_graph_at};
 ghost use Rattle.crpd_base.specs.CertificateRanges.{IsCertificate};
 ghost use Rattle.crpd_base.specs.Ranges.{IsTaskSet};
 ghost use Rattle.preempt_machine.specs.Safe.{NamesTasks};
 ghost use Rattle.crpd_report.specs.Generate.{made_line};
-ghost use Rattle.crpd_input.specs.Graphs.{HasBoundedLoops};
-ghost use Rattle.crpd_input.specs.Reading.{code_in};
-ghost use Rattle.crpd_input.specs.Shapes.{ShapesIn};
-ghost use Rattle.crpd_input.specs.Steps.{Means, MeansBy, Then};
+ghost use Rattle.crpd_input.specs.Shapes.{ShapedFrom};
+ghost use Rattle.crpd_input.specs.Steps.{Exactly, MeansBy, Then};
 ghost use Rattle.crpd_tool.specs.Generate as spec;
-ghost use Rattle.crpd_tool.specs.Generate.{EndsFrom, GenerateEnds, GeneratedOf, contents_of_files};
-ghost use Rattle.crpd_tool.specs.Generate.{made_name, named_files};
+ghost use Rattle.crpd_tool.specs.Generate.{GenerateEnds, GeneratedOf, input_of, named_files};
+ghost use Rattle.crpd_tool.specs.Shaped.{graphs_of};
 
 use crate::answer::Answer;
+use crate::check::judge;
 use crate::ending::without_certificate;
 use crate::number::Seed;
 use crate::texts::verdict_outcome;
 use cert_build::{BuildError, certify};
-use cert_check::verdict;
-use code_map::CodeMap;
 use crpd_base::{Certificate, Items, Memory, Script, TaskSet};
-use crpd_input::{Halt, Input, Shapes, load_code, task_shapes};
+use crpd_input::{Halt, Input, ShapedSet, load_code, shape_input};
 use crpd_io::SureFiles;
 use crpd_report::generate_text;
 use flat_graph::Graph;
@@ -48,18 +44,18 @@ fn hold(alloc: Global, set: &TaskSet, files: &[Items<u8>]) -> Result<SureFiles, 
     Ok(SureFiles::new(kept))
 }
 
-/// The code of a set whose files are at hand, as for a set that was read.
-fn code_of(alloc: Global, set: &TaskSet, files: &[Items<u8>]) -> Result<CodeMap, Halt>
-    requires ranges { IsTaskSet set.now }
-    requires count { length files.now ≡ length set.now.tasks }
-    ensures exact { Means
-        (code_in (contents_of_files (named_files set.now files.now)) made_name set.now) result }
-    ensures count { IfOk result (λ code. length code.images ≡ length set.now.tasks) }
-    ensures bounded { IfOk result HasBoundedLoops }
+/// A set with the code of its files, which are at hand, the graphs of its tasks and the regions of
+/// their loops, as for a set that was read.
+fn shape_files(alloc: Global, set: TaskSet, files: &[Items<u8>]) -> Result<ShapedSet, Halt>
+    requires ranges { IsTaskSet set }
+    requires count { length files.now ≡ length set.tasks }
+    ensures exact { MeansBy (Then (Exactly (input_of set files.now)) ShapedFrom) result }
+    ensures same { IfOk result (λ shaped. shaped.input.set ≡ set) }
     ensures no_fault { ¬ IsErrOf result Halt.Fault }
 {
-    let mut kept = hold(alloc, set, files)?;
-    load_code(alloc, &mut kept, NAME, set)
+    let mut kept = hold(alloc, &set, files)?;
+    let code = load_code(alloc, &mut kept, NAME, &set)?;
+    shape_input(alloc, Input::new(set, code))
 }
 
 /// The nodes of all graphs together.
@@ -79,33 +75,29 @@ fn certified_answer(
     alloc: Global,
     number: u32,
     script: &Script,
-    input: &Input,
-    shapes: &Shapes,
+    shaped: &ShapedSet,
     certificate: &Certificate,
 ) -> Result<Answer, Memory>
-    requires set { IsTaskSet input.now.set }
-    requires shown { AreTaskGraphs input.now.set shapes.now.graphs shapes.now.nests }
-    requires count { length input.now.code.images ≡ length input.now.set.tasks }
-    requires tasks { NamesTasks input.now.set script.now.jobs }
+    requires tasks { NamesTasks shaped.now.input.set script.now.jobs }
     requires jobs { length script.now.jobs < 2 ^ 32 }
     requires ranges { IsCertificate certificate.now }
-    requires best { IsBest input.now.set (task_graph_at shapes.now.graphs shapes.now.nests)
-        certificate.now }
+    requires best { IsBest shaped.now.input.set (graphs_of shaped.now) certificate.now }
     ensures { IfOk result (λ answer.
-        GeneratedOf number script.now input.now shapes.now (Ok answer)) }
+        GeneratedOf number script.now shaped.now (Ok answer)) }
 {
-    let graphs = shapes.graphs.as_slice();
-    let found = verdict(&input.set, graphs, shapes.nests.as_slice(), certificate);
-    input.code.plans_law();
-    input.code.images_law();
-    let (completions, kept) = run_fast(alloc, &input.code, &input.set, script)?;
+    let found = judge(shaped, certificate);
+    let set = shaped.set();
+    let code = shaped.input().code();
+    shaped.shaped_law();
+    code.images_law();
+    let (completions, kept) = run_fast(alloc, code, set, script)?;
     let ends = completions.as_slice();
-    let nodes = node_count(graphs);
+    let nodes = node_count(shaped.graphs());
     let text = generate_text(
         alloc,
         number,
         nodes,
-        &input.set,
+        set,
         certificate,
         &found,
         script,
@@ -142,85 +134,24 @@ fn analysis_answer(
     alloc: Global,
     number: u32,
     script: &Script,
-    input: &Input,
-    shapes: &Shapes,
+    shaped: &ShapedSet,
 ) -> Result<Answer, Halt>
-    requires set { IsTaskSet input.now.set }
-    requires shown { AreTaskGraphs input.now.set shapes.now.graphs shapes.now.nests }
-    requires count { length input.now.code.images ≡ length input.now.set.tasks }
-    requires tasks { NamesTasks input.now.set script.now.jobs }
+    requires tasks { NamesTasks shaped.now.input.set script.now.jobs }
     requires jobs { length script.now.jobs < 2 ^ 32 }
-    ensures exact { MeansBy (GeneratedOf number script.now input.now shapes.now) result }
+    ensures exact { MeansBy (GeneratedOf number script.now shaped.now) result }
     ensures no_fault { ¬ IsErrOf result Halt.Fault }
 {
-    let graphs = shapes.graphs.as_slice();
-    match certify(alloc, &input.set, graphs, shapes.nests.as_slice()) {
-        Ok(certificate) => Ok(certified_answer(
-            alloc,
-            number,
-            script,
-            input,
-            shapes,
-            &certificate,
-        )?),
+    shaped.shaped_law();
+    let set = shaped.set();
+    let graphs = shaped.graphs();
+    match certify(alloc, set, graphs, shaped.nests()) {
+        Ok(certificate) => Ok(certified_answer(alloc, number, script, shaped, &certificate)?),
         Err(BuildError::Memory) => Err(Halt::Memory),
         Err(error) => {
-            let ending = without_certificate(alloc, NAME, &input.set, error)?;
+            let ending = without_certificate(alloc, NAME, set, error)?;
             Ok(answer_behind_line(alloc, number, node_count(graphs), &ending)?)
         }
     }
-}
-
-/// A set with the code of its files, which are at hand.
-fn input_of(alloc: Global, set: TaskSet, files: &[Items<u8>]) -> Result<Input, Halt>
-    requires ranges { IsTaskSet set }
-    requires count { length files.now ≡ length set.tasks }
-    ensures exact { Means (spec.input_of set files.now) result }
-    ensures ranges { IfOk result (λ input. IsTaskSet input.set) }
-    ensures same { IfOk result (λ input. input.set ≡ set) }
-    ensures count { IfOk result (λ input. length input.code.images ≡ length input.set.tasks) }
-    ensures bounded { IfOk result (λ input. HasBoundedLoops input.code) }
-    ensures no_fault { ¬ IsErrOf result Halt.Fault }
-{
-    let code = code_of(alloc, &set, files)?;
-    Ok(Input { set, code })
-}
-
-/// The answer of a made set with its code: that of its analysis, after the graphs of all tasks and
-/// the regions of their loops.
-fn input_answer(alloc: Global, number: u32, script: &Script, input: &Input) -> Result<Answer, Halt>
-    requires set { IsTaskSet input.now.set }
-    requires count { length input.now.code.images ≡ length input.now.set.tasks }
-    requires bounded { HasBoundedLoops input.now.code }
-    requires tasks { NamesTasks input.now.set script.now.jobs }
-    requires jobs { length script.now.jobs < 2 ^ 32 }
-    ensures exact { MeansBy
-        (Then (ShapesIn input.now) (GeneratedOf number script.now input.now)) result }
-    ensures no_fault { ¬ IsErrOf result Halt.Fault }
-{
-    input.code.plans_law();
-    let shapes = task_shapes(alloc, input)?;
-    analysis_answer(alloc, number, script, input, &shapes)
-}
-
-/// The answer of a made input.
-fn answer_of(
-    alloc: Global,
-    number: u32,
-    set: TaskSet,
-    files: &[Items<u8>],
-    script: &Script,
-) -> Result<Answer, Halt>
-    requires ranges { IsTaskSet set }
-    requires count { length files.now ≡ length set.tasks }
-    requires tasks { NamesTasks set script.now.jobs }
-    requires jobs { length script.now.jobs < 2 ^ 32 }
-    ensures exact { MeansBy
-        (EndsFrom number (record { set = set; files = files.now; script = script.now })) result }
-    ensures no_fault { ¬ IsErrOf result Halt.Fault }
-{
-    let input = input_of(alloc, set, files)?;
-    input_answer(alloc, number, script, &input)
 }
 
 /// Makes the input of a number, analyses its set, judges the certificate, and runs its script. No
@@ -231,5 +162,6 @@ pub(crate) fn generate(alloc: Global, seed: Seed) -> Result<Answer, Halt>
 {
     let made = gen_tasks::generate(alloc, seed.number)?;
     let set = made.set;
-    answer_of(alloc, seed.number, set, made.files.as_slice(), &made.script)
+    let shaped = shape_files(alloc, set, made.files.as_slice())?;
+    analysis_answer(alloc, seed.number, &made.script, &shaped)
 }

@@ -1,33 +1,31 @@
 // The command `slack`.
-ghost use Rattle.std.specs.Prelude.{IsErrOf};
-ghost use Rattle.cert_check.specs.TaskGraphs.{AreTaskGraphs};
-ghost use Rattle.crpd_base.specs.Ranges.{IsTaskSet};
-ghost use Rattle.crpd_input.specs.Steps.{MeansBy};
-ghost use Rattle.crpd_tool.specs.Slack.{SlackOf};
+ghost use Rattle.crpd_input.specs.Steps.{HoldsWhereTold, LeavesFiles, MeansBy};
+ghost use Rattle.crpd_tool.specs.Slack.{SlackEnds};
 
 use crate::answer::{Answer, Outcome};
-use crate::slack_lines::slack_text;
 use crpd_base::Items;
-use crpd_input::{Halt, Input, Shapes};
+use crpd_input::{Halt, load_shaped};
+use crpd_io::Files;
+use crpd_report::slack_text;
 use sensitivity::{greatest_miss, greatest_switch};
 use std::alloc::Global;
 
-/// The answer with the greatest costs of a set.
-pub(crate) fn greatest_costs(alloc: Global, input: &Input, shapes: &Shapes) -> Result<Answer, Halt>
-    requires set { IsTaskSet input.now.set }
-    requires shown { AreTaskGraphs input.now.set shapes.now.graphs shapes.now.nests }
-    ensures exact { MeansBy (SlackOf input.now shapes.now) result }
-    ensures no_fault { ¬ IsErrOf result Halt.Fault }
+/// The answer with the greatest costs of the set of a file.
+pub(crate) fn slack<F: Files>(alloc: Global, files: &mut F, file: &str) -> Result<Answer, Halt>
+    ensures exact { HoldsWhereTold (F.contents files.old)
+        (λ c. MeansBy (SlackEnds c file.now) result) }
+    ensures files { LeavesFiles F.contents F.faults files.old files.new result }
 {
-    let graphs = shapes.graphs.as_slice();
-    let nests = shapes.nests.as_slice();
-    let by_switch = greatest_switch(alloc, &input.set, graphs, nests)?;
-    let by_miss = greatest_miss(alloc, &input.set, graphs, nests)?;
-    match slack_text(alloc, &input.set, &by_switch, &by_miss) {
-        Ok(text) => Ok(Answer {
-            text: Items::new(text),
-            outcome: Outcome::Done,
-        }),
-        Err(_) => Err(Halt::Memory),
-    }
+    let shaped = load_shaped(alloc, files, file)?;
+    shaped.shaped_law();
+    let set = shaped.set();
+    let graphs = shaped.graphs();
+    let nests = shaped.nests();
+    let by_switch = greatest_switch(alloc, set, graphs, nests)?;
+    let by_miss = greatest_miss(alloc, set, graphs, nests)?;
+    let text = slack_text(alloc, set, &by_switch, &by_miss)?;
+    Ok(Answer {
+        text: Items::new(text),
+        outcome: Outcome::Done,
+    })
 }

@@ -13,6 +13,7 @@ pub record Problem (V : Type 0) : Type 0 where
   pub edges : ℕ
   pub ends : ℕ → ℕ × ℕ
 
+-- the problem of these parts
 abbrev pub problem : {V : Type 0} → (V → V → V) → (ℕ → V → V) → (ℕ → Option V) → ℕ → ℕ
     → (ℕ → ℕ × ℕ) → Problem V
 problem joined passed begins nodes edges ends =
@@ -35,6 +36,7 @@ pub record IsSemilattice (V : Type 0) (joined : V → V → V) : Type 0 where
 abbrev pub IsBelow : {V : Type 0} → Problem V → V → V → Type 0
 IsBelow p a b = p.joined a b ≡ b
 
+-- an edge leads from one node to another
 abbrev pub HasEdge : {V : Type 0} → Problem V → ℕ → ℕ → Type 0
 HasEdge p m n = (k : ℕ) × (k < p.edges) × (p.ends k ≡ (m, n))
 

@@ -102,12 +102,24 @@ fn pass_on<G: Flow, D: Domain>(
     }
 }
 
-/// The least solution, or want of memory.
-fn search<G: Flow, D: Domain>(
+/// The least solution of a dataflow problem. The fact of a node is the fact before it: the join of
+/// its start with the fact after the source of each edge that leads to it. It is the join over all
+/// paths from nodes with a start, and None exactly where no such path leads. All numbers below the
+/// flow's `nodes()` must be the domain's own. The one refusal is want of memory; a fact for each
+/// node is taken, and some fifteen bytes for each node and edge.
+///
+/// Nodes are visited round and round in two orders in turn, each the reverse of the order in which
+/// a search in depth leaves them: of a search from the first node on, and of one from the last node
+/// back. Each is visited only when its fact has risen since. So each edge is followed at most once
+/// more often than a fact can rise, and once where the edges have no cycle (Kam and Ullman 1976).
+/// By the second order a fact goes back through a chain of loops that overlap in one round. A visit
+/// costs a copy of a fact and a transfer, an edge that is followed a join; a round looks at each
+/// node twice.
+pub fn solve<G: Flow, D: Domain>(
     alloc: Global,
     flow: &G,
     domain: &D,
-) -> Result<Vec<Option<D::Fact>>, AllocError>
+) -> Result<Vec<Option<D::Fact>>, Memory>
     requires { (n : ℕ) → n < G.node_count flow.now → D.is_own domain.now n }
     ensures nodes { IfOk result (λ facts. vec_len facts ≡ G.node_count flow.now) }
     ensures facts { IfOk result (λ facts. (n : ℕ) → n < G.node_count flow.now →
@@ -139,40 +151,4 @@ fn search<G: Flow, D: Domain>(
         }
     }
     Ok(facts)
-}
-
-/// The least solution of a dataflow problem. The fact of a node is the fact before it: the join of
-/// its start with the fact after the source of each edge that leads to it. It is the join over all
-/// paths from nodes with a start, and None exactly where no such path leads. All numbers below the
-/// flow's `nodes()` must be the domain's own. The one refusal is want of memory; a fact for each
-/// node is taken, and some fifteen bytes for each node and edge.
-///
-/// Nodes are visited round and round in two orders in turn, each the reverse of the order in which
-/// a search in depth leaves them: of a search from the first node on, and of one from the last node
-/// back. Each is visited only when its fact has risen since. So each edge is followed at most once
-/// more often than a fact can rise, and once where the edges have no cycle (Kam and Ullman 1976).
-/// By the second order a fact goes back through a chain of loops that overlap in one round. A visit
-/// costs a copy of a fact and a transfer, an edge that is followed a join; a round looks at each
-/// node twice.
-pub fn solve<G: Flow, D: Domain>(
-    alloc: Global,
-    flow: &G,
-    domain: &D,
-) -> Result<Vec<Option<D::Fact>>, Memory>
-    requires { (n : ℕ) → n < G.node_count flow.now → D.is_own domain.now n }
-    ensures nodes { IfOk result (λ facts. vec_len facts ≡ G.node_count flow.now) }
-    ensures facts { IfOk result (λ facts. (n : ℕ) → n < G.node_count flow.now →
-        IsFact (problem D.joined (D.passed domain.now) (D.begins domain.now) (G.node_count flow.now)
-        (G.edge_count flow.now) (G.ends flow.now))
-        n (fact_at D.view facts.items n)) }
-    ensures least { IfOk result (λ facts.
-        IsLeastSolution D.Value
-        (problem D.joined (D.passed domain.now) (D.begins domain.now) (G.node_count flow.now)
-        (G.edge_count flow.now) (G.ends flow.now))
-        (fact_at D.view facts.items)) }
-{
-    match search(alloc, flow, domain) {
-        Ok(facts) => Ok(facts),
-        Err(_) => Err(Memory),
-    }
 }

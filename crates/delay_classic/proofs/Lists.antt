@@ -14,7 +14,9 @@ use Rattle.delay_count.specs.Gamma.{shared_count, shared_sets, evicted_from}
 use Rattle.delay_count.specs.Demand.{greatest_from}
 use Rattle.delay_classic.specs.Gamma.{useful_to_some, useful_in, classic_ucb_delay}
 use Rattle.delay_classic.specs.Gamma.{classic_ecb_delay, ucb_sets, ecb_sets}
+use Rattle.delay_count.specs.Counts.{jobs_of}
 use Rattle.delay_classic.specs.Inner.Charged.{classic_sets}
+use Rattle.delay_classic.specs.Laws.{UcbOfLists, EcbOfLists}
 use Rattle.delay_count.proofs.Bits.{shared_most, product}
 use Rattle.delay_count.proofs.Greatest.{greatest_le, greatest_moved}
 use Rattle.delay_count.proofs.Delays.{shared_same}
@@ -77,6 +79,52 @@ sets_few parts Ecb i j =
 one : (a : ℕ) → a * 1 ≡ a
 one a = omega arith
 
+-- the useful sets of the tasks that task j affects in a window of i, as a list
+module _ (parts : ℕ → Part) (i j : ℕ) (lower : List (List ℕ)) (order : j ≤ i)
+    (size : length lower ≡ i - j)
+    (uses : (k : ℕ) → k < i - j → get_or lower k [] ≡ (parts (suc j + k)).useful) where
+  end_is : suc j + (i - j) ≡ suc i
+  end_is = omega arith
+
+  useful_is : (c : ℕ) → useful_to_some (useful_in lower) 0 (length lower) c
+      ≡ useful_to_some (λ k. has (parts k).useful) (suc j) (suc i) c
+  useful_is c =
+      ap (λ x. useful_to_some (useful_in lower) 0 x c) size
+      ∙ some_moved (useful_in lower) (λ k. has (parts k).useful) (suc j) (i - j) c
+      (λ k h. ap (λ x. has x c) (uses k h))
+      ∙ ap (λ x. useful_to_some (λ k. has (parts k).useful) (suc j) x c) end_is
+
+  pub ucb_is : shared_count (useful_to_some (useful_in lower) 0 (length lower))
+      (has (parts j).evicting) 512 ≡ ucb_sets parts i j
+  ucb_is =
+      shared_same (useful_to_some (useful_in lower) 0 (length lower))
+      (useful_to_some (λ k. has (parts k).useful) (suc j) (suc i)) (has (parts j).evicting)
+      (has (parts j).evicting) 512 useful_is (λ c. refl)
+
+  pub ecb_is : (up : List ℕ) → ((c : ℕ) → has up c ≡ evicted_from parts j c)
+      → greatest_from (λ k. shared_count (useful_in lower k) (has up) 512) 0 (length lower)
+      ≡ ecb_sets parts i j
+  ecb_is up u =
+      ap (λ x. greatest_from (λ k. shared_count (useful_in lower k) (has up) 512) 0 x) size
+      ∙ greatest_moved (λ k. shared_count (useful_in lower k) (has up) 512) (shared_sets parts j)
+      (suc j) (i - j)
+      (λ k h. shared_same (useful_in lower k) (has (parts (suc j + k)).useful) (has up)
+      (evicted_from parts j) 512 (λ c. ap (λ x. has x c) (uses k h)) u)
+      ∙ ap (λ x. greatest_from (shared_sets parts j) (suc j) x) end_is
+
+-- the delays over such a list are those of the tasks
+pub ucb_of_lists : UcbOfLists
+ucb_of_lists set parts w i j lower S =
+    let size = S.tasks in
+    ap (λ z. set.platform.miss * jobs_of set j w * z)
+    (ucb_is parts i j lower (omega arith) (omega arith) (λ k h. S.useful k (omega arith)))
+
+pub ecb_of_lists : EcbOfLists
+ecb_of_lists set parts w i j lower up S u =
+    let size = S.tasks in
+    ap (λ z. set.platform.miss * jobs_of set j w * z)
+    (ecb_is parts i j lower (omega arith) (omega arith) (λ k h. S.useful k (omega arith)) up u)
+
 -- the sets of the tasks from one on to another, as a stretch of the list of all
 module _ (parts : ℕ → Part) (useful : List (List ℕ)) (i j n : ℕ) (order : j ≤ i) (room : i < n)
     (long : n ≤ length useful)
@@ -97,41 +145,20 @@ module _ (parts : ℕ → Part) (useful : List (List ℕ)) (i j n : ℕ) (order 
       ∙ ap (λ x. get_or useful x []) e
       ∙ uses (suc j + k) (omega arith)
 
-  end_is : suc j + (i - j) ≡ suc i
-  end_is = omega arith
-
-  useful_is : (c : ℕ) → useful_to_some (useful_in lower) 0 (length lower) c
-      ≡ useful_to_some (λ k. has (parts k).useful) (suc j) (suc i) c
-  useful_is c =
-      ap (λ x. useful_to_some (useful_in lower) 0 x c) lower_length
-      ∙ some_moved (useful_in lower) (λ k. has (parts k).useful) (suc j) (i - j) c
-      (λ k h. ap (λ x. has x c) (lower_at k h))
-      ∙ ap (λ x. useful_to_some (λ k. has (parts k).useful) (suc j) x c) end_is
-
   pub ucb_reloads : (miss result : ℕ) (own : Part) → own ≡ parts j
       → result ≡ classic_ucb_delay miss 1 own.evicting lower 512
       → result ≡ miss * ucb_sets parts i j
   ucb_reloads miss result own at is =
-      let same = shared_same (useful_to_some (useful_in lower) 0 (length lower))
-      (useful_to_some (λ k. has (parts k).useful) (suc j) (suc i)) (has own.evicting)
-      (has (parts j).evicting) 512 useful_is (λ c. ap (λ (p : Part). has p.evicting c) at) in
-      is ∙ product (miss * 1)
-      (shared_count (useful_to_some (useful_in lower) 0 (length lower)) (has own.evicting) 512)
-      miss
-      (ucb_sets parts i j) (one miss) same
+      is
+      ∙ ap (λ (p : Part). classic_ucb_delay miss 1 p.evicting lower 512) at
+      ∙ product (miss * 1)
+      (shared_count (useful_to_some (useful_in lower) 0 (length lower)) (has (parts j).evicting)
+      512) miss (ucb_sets parts i j) (one miss) (ucb_is parts i j lower order lower_length lower_at)
 
   pub ecb_reloads : (miss result : ℕ) (up : List ℕ)
       → ((c : ℕ) → has up c ≡ evicted_from parts j c)
       → result ≡ classic_ecb_delay miss 1 up lower 512 → result ≡ miss * ecb_sets parts i j
   ecb_reloads miss result up u is =
-      let same : greatest_from (λ k. shared_count (useful_in lower k) (has up) 512) 0 (length lower)
-      ≡ ecb_sets parts i j =
-      ap (λ x. greatest_from (λ k. shared_count (useful_in lower k) (has up) 512) 0 x) lower_length
-      ∙ greatest_moved (λ k. shared_count (useful_in lower k) (has up) 512) (shared_sets parts j)
-      (suc j) (i - j)
-      (λ k h. shared_same (useful_in lower k) (has (parts (suc j + k)).useful) (has up)
-      (evicted_from parts j) 512 (λ c. ap (λ x. has x c) (lower_at k h)) u)
-      ∙ ap (λ x. greatest_from (shared_sets parts j) (suc j) x) end_is in
       is ∙ product (miss * 1)
       (greatest_from (λ k. shared_count (useful_in lower k) (has up) 512) 0 (length lower)) miss
-      (ecb_sets parts i j) (one miss) same
+      (ecb_sets parts i j) (one miss) (ecb_is parts i j lower order lower_length lower_at up u)

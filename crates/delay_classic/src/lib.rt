@@ -10,5 +10,5 @@ mod windows;
 pub use cert_build::BuildError as ClassicError;
 pub use certificate::classic;
 pub use delays::{classic_ecb, classic_ucb};
-pub use laws::{certificate_law, delays_law, windows_law};
+pub use laws::{certificate_law, delays_law, lists_law, windows_law};
 pub use windows::classic_windows;

@@ -15,6 +15,7 @@ use Rattle.delay_count.specs.Counts.{jobs_of, affected_preemptions}
 use Rattle.delay_count.specs.Gamma.{union_count, shared_count, greatest_choice, set_share, count_at}
 use Rattle.delay_count.specs.Gamma.{useful_at, ucb_delay, ecb_delay, shared_sets, evicted_from}
 use Rattle.delay_count.specs.Demand.{gamma}
+use Rattle.delay_count.specs.Laws.{UcbOfShares, EcbOfShares}
 use Rattle.delay_count.specs.Inner.Rates.{gamma_by}
 use Rattle.delay_count.proofs.Bits.{union_fits, shared_most}
 use Rattle.delay_count.proofs.Choices.{choice_same, choice_le, choice_within}
@@ -51,6 +52,34 @@ counts_same value count count' n budget h =
     (λ k l. omega (arith, h k l)) (omega arith) in
     omega (arith, a, b)
 
+-- the delays over the shares of the tasks down to i, by how often the jobs of each may be preempted
+module _ {W : ℕ} (parts : ℕ → Part) (i j : ℕ) (lower : List (Share W)) (count : ℕ → ℕ)
+    (size : length lower ≡ suc i) (counts : (k : ℕ) → k < suc i → count_at lower k ≡ count k)
+    (useful : (k c : ℕ) → k < suc i → useful_at lower k c ≡ has (parts k).useful c)
+    (miss jobs : ℕ) where
+  pub ucb_by : ucb_delay miss jobs (parts j).evicting lower 512
+      ≡ gamma_by Ucb miss parts count jobs i j
+  ucb_by =
+      ap (λ z. miss * union_count jobs (has (parts j).evicting) (useful_at lower)
+      (count_at lower) z 512) size
+      ∙ ap (λ z. miss * z)
+      (union_same jobs (has (parts j).evicting) (useful_at lower) (λ k. has (parts k).useful)
+      (count_at lower) count (suc i) 512 useful counts)
+
+  pub ecb_by : (up : List ℕ) → ((c : ℕ) → has up c ≡ evicted_from parts j c)
+      → ecb_delay miss jobs up lower 512 ≡ gamma_by Ecb miss parts count jobs i j
+  ecb_by up f =
+      let values : (k : ℕ) → k < suc i
+      → shared_count (useful_at lower k) (has up) 512 ≡ shared_sets parts j k =
+      λ k h. shared_same (useful_at lower k) (has (parts k).useful) (has up) (evicted_from parts j)
+      512 (λ c. useful k c h) f in
+      ap (λ z. miss * greatest_choice (λ k. shared_count (useful_at lower k) (has up) 512)
+      (count_at lower) z jobs) size
+      ∙ ap (λ z. miss * z)
+      (choice_same (λ k. shared_count (useful_at lower k) (has up) 512) (shared_sets parts j)
+      (count_at lower) (suc i) jobs values
+      ∙ counts_same (shared_sets parts j) (count_at lower) count (suc i) jobs counts)
+
 module _ (parts : ℕ → Part) (i j : ℕ) (shares : List (Share 8)) (size : length shares ≡ 32)
     (few : i < 32)
     (useful : (k c : ℕ) → k ≤ i → useful_at shares k c ≡ has (parts k).useful c) where
@@ -79,44 +108,23 @@ module _ (parts : ℕ → Part) (i j : ℕ) (shares : List (Share 8)) (size : le
       ap (λ z. has z c) (first_same (λ (s : Share 8). s.useful) shares (i + 1) k [] (omega arith))
       ∙ useful k c (omega arith)
 
-  abbrev long : suc i ≡ i + 1
-  long = omega arith
+  same_length : length lower ≡ suc i
+  same_length = lower_length ∙ omega arith
 
   pub is_ucb : (miss jobs : ℕ) (evicting : List ℕ) (result : ℕ) → evicting ≡ (parts j).evicting
       → result ≡ ucb_delay miss jobs evicting lower 512
       → result ≡ gamma_by Ucb miss parts (count_at shares) jobs i j
   is_ucb miss jobs evicting result f is =
-      let same : union_count jobs (has (parts j).evicting) (useful_at lower) (count_at lower)
-      (suc i) 512 ≡ union_count jobs (has (parts j).evicting) (λ k. has (parts k).useful)
-      (count_at shares) (suc i) 512 =
-      union_same jobs (has (parts j).evicting) (useful_at lower) (λ k. has (parts k).useful)
-      (count_at lower) (count_at shares) (suc i) 512 (λ k c h. lower_useful k c h) lower_count in
       is
-      ∙ ap (λ z. miss * union_count jobs (has z) (useful_at lower) (count_at lower)
-      (length lower) 512) f
-      ∙ ap (λ z. miss * union_count jobs (has (parts j).evicting) (useful_at lower)
-      (count_at lower) z 512) (lower_length ∙ sym long)
-      ∙ ap (λ z. miss * z) same
+      ∙ ap (λ z. ucb_delay miss jobs z lower 512) f
+      ∙ ucb_by parts i j lower (count_at shares) same_length lower_count lower_useful miss jobs
 
   pub is_ecb : (miss jobs : ℕ) (up : List ℕ) (result : ℕ)
       → ((c : ℕ) → has up c ≡ evicted_from parts j c) → result ≡ ecb_delay miss jobs up lower 512
       → result ≡ gamma_by Ecb miss parts (count_at shares) jobs i j
   is_ecb miss jobs up result f is =
-      let values : (k : ℕ) → k < suc i
-      → shared_count (useful_at lower k) (has up) 512 ≡ shared_sets parts j k =
-      λ k h. shared_same (useful_at lower k) (has (parts k).useful) (has up) (evicted_from parts j)
-      512 (λ c. lower_useful k c h) f in
-      let same : greatest_choice (λ k. shared_count (useful_at lower k) (has up) 512)
-      (count_at lower) (suc i) jobs
-      ≡ greatest_choice (shared_sets parts j) (count_at shares) (suc i) jobs =
-      choice_same (λ k. shared_count (useful_at lower k) (has up) 512) (shared_sets parts j)
-      (count_at lower) (suc i) jobs values
-      ∙ counts_same (shared_sets parts j) (count_at lower) (count_at shares)
-      (suc i) jobs lower_count in
-      is
-      ∙ ap (λ z. miss * greatest_choice (λ k. shared_count (useful_at lower k) (has up) 512)
-      (count_at lower) z jobs) (lower_length ∙ sym long)
-      ∙ ap (λ z. miss * z) same
+      is ∙ ecb_by parts i j lower (count_at shares) same_length lower_count lower_useful miss jobs
+      up f
 
 -- the delay of a window is one by counts of jobs
 pub gamma_from : (set : TaskSet) (parts : ℕ → Part) (window count : ℕ → ℕ) (w i j jobs : ℕ)
@@ -135,6 +143,19 @@ gamma_from set parts window count w i j jobs Ecb e same =
     ∙ ap (λ z. set.platform.miss * z)
     (counts_same (shared_sets parts j) count (affected_preemptions set window w i j) (suc i)
     (jobs_of set j w) (λ k h. same k (omega arith)))
+
+-- and so are the delays over the shares of its tasks
+pub ucb_of_shares : UcbOfShares
+ucb_of_shares W set parts window w i j lower S =
+    ucb_by parts i j lower (affected_preemptions set window w i j) S.tasks
+    (λ k h. S.counts k (omega arith)) (λ k c h. S.useful k c (omega arith)) set.platform.miss
+    (jobs_of set j w)
+
+pub ecb_of_shares : EcbOfShares
+ecb_of_shares W set parts window w i j lower up S u =
+    ecb_by parts i j lower (affected_preemptions set window w i j) S.tasks
+    (λ k h. S.counts k (omega arith)) (λ k c h. S.useful k c (omega arith)) set.platform.miss
+    (jobs_of set j w) up u
 
 -- neither delay is out of range
 pub ucb_fits : (miss jobs result : ℕ) (evicting : List ℕ) (lower : List (Share 8)) → miss < 2 ^ 32

@@ -1,6 +1,8 @@
 -- Delays by rates of jobs are below those by jobs.
 use Rattle.std.proofs.Common.{◌≡◌, ℕ, zero, suc, ◌+◌, ◌-◌, ◌*◌, ◌/◌, ◌^◌, ◌<◌, ◌≤◌, inl, inr, Bool}
 use Rattle.std.proofs.Common.{length, refl, sym, ap, subst, arith, min, nat_lt, if◌then◌else◌}
+use Rattle.std.proofs.Common.{◌⊎◌, ◌∙◌}
+use Rattle.std.proofs.Math.Nat.{mul-div_cancel_left}
 use Rattle.std.proofs.lemmas.Nat.{mul-le}
 use Rattle.std.proofs.lemmas.Bool.{cases_Bool, cases_eq, cases_lt, eq-eqb, ne_eqb}
 use Rattle.crpd_base.specs.declared.data.Part.{Part}
@@ -221,3 +223,31 @@ delay_low set parts window count i j jobs delay method times is l d e same w =
         (jobs_of set j w) i j ≡ gamma set parts window w method i j
     by_method Ucb = refl
     by_method Ecb = refl
+
+-- a job's cycles over its period, to less than a part, or one
+pub counted : (each period least : ℕ) → 1 ≤ period → least ≡ min each period
+    → (least * 2 ^ 80 / period ≡ 2 ^ 80)
+    ⊎ (each * 2 ^ 80 < (least * 2 ^ 80 / period + 1) * period)
+counted each period least some is =
+    elim (cases_lt each period) [
+      | inl l ↦
+          let same : each ≡ least = omega arith in
+          let over : least * 2 ^ 80 < (least * 2 ^ 80 / period + 1) * period = omega arith in
+          inr (omega (arith, over, same))
+      | inr g ↦
+          let same : least ≡ period = omega arith in
+          inl (ap (λ z. z * 2 ^ 80 / period) same ∙ mul-div_cancel_left (2 ^ 80) {n = period} some)
+    ]
+
+-- and so with a delay more, at most one
+pub at_least : (jobs rate delay need period : ℕ) → rate ≡ min (jobs + delay) (2 ^ 80)
+    → (jobs ≡ 2 ^ 80) ⊎ (need < (jobs + 1) * period)
+    → (rate ≡ 2 ^ 80) ⊎ (need < (rate + 1) * period)
+at_least jobs rate delay need period is (inl full) = inl (omega arith)
+at_least jobs rate delay need period is (inr few) =
+    elim (cases_lt (jobs + delay) (2 ^ 80)) [
+      | inl l ↦
+          let more = mul-le (jobs + 1) period (rate + 1) period (omega arith) (omega arith) in
+          inr (omega (arith, few, more))
+      | inr g ↦ inl (omega arith)
+    ]

@@ -22,6 +22,7 @@ abbrev pub blocking : Switching → (ℕ → ℕ) → ℕ → ℕ → ℕ
 blocking Cycle longest i tasks = 0
 blocking Instruction longest i tasks = greatest_from (λ k. longest k - 1) i tasks
 
+-- the delay of a window w of task i by a higher task j, by a method
 abbrev pub gamma : TaskSet → (ℕ → Part) → (ℕ → ℕ) → ℕ → Method → ℕ → ℕ → ℕ
 gamma set parts window w Ucb i j = gamma_ucb set parts window w i j
 gamma set parts window w Ecb i j = gamma_ecb set parts window w i j

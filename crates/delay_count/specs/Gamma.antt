@@ -37,10 +37,11 @@ greatest_choice value count (suc n) budget =
     greatest_to (λ x. greatest_choice value count n (budget - x) + value n * x)
     (min (count n) budget)
 
--- the counts and the useful sets of a list of shares
+-- how often the jobs of a task of a list of shares may be preempted
 abbrev pub count_at : {W : ℕ} → List (Share W) → ℕ → ℕ
 count_at {W = W} lower k = slice_index (map (λ (s : Share W). s.count) lower) k
 
+-- and its useful sets
 abbrev pub useful_at : {W : ℕ} → List (Share W) → ℕ → ℕ → Bool
 useful_at {W = W} lower k = has (slice_index_or (map (λ (s : Share W). s.useful) lower) k [])
 
@@ -67,6 +68,7 @@ ucb_count set parts window w i j =
     union_count (jobs_of set j w) (has (parts j).evicting) (λ k. has (parts k).useful)
     (affected_preemptions set window w i j) (suc i) most_sets
 
+-- the UCB-union multiset delay of task j in a window w of task i: a reload for each of the count
 abbrev pub gamma_ucb : TaskSet → (ℕ → Part) → (ℕ → ℕ) → ℕ → ℕ → ℕ → ℕ
 gamma_ucb set parts window w i j = set.platform.miss * ucb_count set parts window w i j
 
@@ -87,5 +89,6 @@ ecb_count set parts window w i j =
     greatest_choice (shared_sets parts j) (affected_preemptions set window w i j) (suc i)
     (jobs_of set j w)
 
+-- and the ECB-union multiset delay
 abbrev pub gamma_ecb : TaskSet → (ℕ → Part) → (ℕ → ℕ) → ℕ → ℕ → ℕ → ℕ
 gamma_ecb set parts window w i j = set.platform.miss * ecb_count set parts window w i j

@@ -1,9 +1,15 @@
 -- How the delays and the demand grow.
-use Rattle.std.specs.Prelude.{◌≡◌, ℕ, ◌<◌, ◌≤◌, length}
+use Rattle.std.specs.Prelude.{◌≡◌, ℕ, suc, ◌<◌, ◌≤◌, List, length}
+use Rattle.crpd_base.specs.Limits.{most_sets}
 use Rattle.crpd_base.specs.declared.data.Part.{Part}
 use Rattle.crpd_base.specs.declared.data.TaskSet.{TaskSet}
 use Rattle.crpd_base.specs.declared.data.Method.{Method}
 use Rattle.crpd_base.specs.Tasks.{HasTimes}
+use Rattle.crpd_base.specs.Sets.{has}
+use Rattle.delay_count.specs.declared.share.Share.{Share}
+use Rattle.delay_count.specs.Counts.{jobs_of, affected_preemptions}
+use Rattle.delay_count.specs.Gamma.{count_at, useful_at, ucb_delay, ecb_delay, gamma_ucb, gamma_ecb}
+use Rattle.delay_count.specs.Gamma.{evicted_from}
 use Rattle.delay_count.specs.Demand.{gamma, demand}
 
 -- what a demand is made of: a task set, and the parts, longest costs and windows of its tasks
@@ -40,3 +46,28 @@ DemandGrows =
     → IsCostlier a b i → w ≤ longer →
     demand a.set a.parts a.longest a.window i method w
     ≤ demand b.set b.parts b.longest b.window i method longer
+
+-- the shares of the tasks down to i: how often jobs of a higher task j may preempt theirs in a
+-- window w of i, and their useful cache sets
+pub record AreShares {W : ℕ} (set : TaskSet) (parts : ℕ → Part) (window : ℕ → ℕ) (w i j : ℕ)
+    (lower : List (Share W)) : Type 0 where
+  pub tasks : length lower ≡ suc i
+  pub counts : (k : ℕ) → k ≤ i → count_at lower k ≡ affected_preemptions set window w i j k
+  pub useful : (k c : ℕ) → k ≤ i → useful_at lower k c ≡ has (parts k).useful c
+
+-- with them the UCB-union delay that is computed is that of the tasks
+abbrev pub UcbOfShares : Type 0
+UcbOfShares =
+    (W : ℕ) (set : TaskSet) (parts : ℕ → Part) (window : ℕ → ℕ) (w i j : ℕ)
+    (lower : List (Share W)) → AreShares set parts window w i j lower →
+    ucb_delay set.platform.miss (jobs_of set j w) (parts j).evicting lower most_sets
+    ≡ gamma_ucb set parts window w i j
+
+-- and so is the ECB-union one, with the sets that task j and all above it evict
+abbrev pub EcbOfShares : Type 0
+EcbOfShares =
+    (W : ℕ) (set : TaskSet) (parts : ℕ → Part) (window : ℕ → ℕ) (w i j : ℕ)
+    (lower : List (Share W)) (up : List ℕ) → AreShares set parts window w i j lower
+    → ((c : ℕ) → has up c ≡ evicted_from parts j c) →
+    ecb_delay set.platform.miss (jobs_of set j w) up lower most_sets
+    ≡ gamma_ecb set parts window w i j

@@ -10,7 +10,7 @@ mod union;
 mod window_demand;
 
 pub use choice::{gamma_ecb, shared};
-pub use laws::growth_law;
+pub use laws::{growth_law, shares_law};
 pub use rates::least_rate;
 pub use share::Share;
 pub use union::gamma_ucb;

@@ -5,7 +5,7 @@ ghost use Rattle.crpd_base.specs.Tasks.{HasTimes, period_of};
 ghost use Rattle.delay_count.specs.Counts.{jobs_of, HasWindows};
 ghost use Rattle.delay_count.specs.Gamma.{count_at, useful_at, part_at};
 ghost use Rattle.delay_count.specs.Demand.{gamma};
-ghost use Rattle.delay_count.specs.Rates.{IsRate};
+ghost use Rattle.delay_count.specs.Rates.{IsRate, CountsJobs};
 ghost use Rattle.delay_count.specs.Inner.Rates.{release_rate, affected_rate};
 
 use crate::jobs::jobs;
@@ -21,9 +21,9 @@ const ONE_JOB: u64 = 1 << 63;
 
 /// A rate, with 2^80 to one and at most one, at which a higher task takes of every window of a task
 /// at least: its jobs as if they were released evenly, each with its bound and two switches, and
-/// the delay by the evictions of so many jobs. The higher task is any of those above the task. It
-/// needs what `demand` needs but the longest instructions. Its time is that of the delay; it takes
-/// no memory.
+/// the delay by the evictions of so many jobs. It is one, or at least the rate of these jobs to
+/// less than a part. The higher task is any of those above the task. It needs what `demand` needs
+/// but the longest instructions. Its time is that of the delay; it takes no memory.
 pub fn least_rate(
     set: &TaskSet,
     parts: &[Part],
@@ -40,6 +40,7 @@ pub fn least_rate(
     ensures most { result ≤ 2 ^ 80 }
     ensures is { IsRate set.now (part_at parts.now) (slice_index windows.now) method task.0
         higher.0 result }
+    ensures counts { CountsJobs set.now (part_at parts.now) higher.0 result }
 {
     let (i, j) = (task.0 as usize, higher.0 as usize);
     let jobs = jobs_rate(set, parts, j);
@@ -57,6 +58,7 @@ fn jobs_rate(set: &TaskSet, parts: &[Part], j: usize) -> u128
         result * w ≤ jobs_of set.now j
         w * ((part_at parts.now j).bound + (set.now.platform.switch + set.now.platform.switch)) * 2
         ^ 80 }
+    ensures counts { CountsJobs set.now (part_at parts.now) j result }
 {
     let platform = &set.platform;
     let part = &parts[j];

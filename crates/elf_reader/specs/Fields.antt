@@ -14,17 +14,19 @@ file_half file place = little_number 2 (drop place file)
 unfoldable pub file_word : List ℕ → ℕ → ℕ
 file_word file place = little_number 4 (drop place file)
 
--- the bytes of the file's header, of a program header, of a section header, and of an entry of the
--- symbol table
+-- the bytes of the file's header
 abbrev pub file_header_bytes : ℕ
 file_header_bytes = 52
 
+-- the bytes of a program header
 abbrev pub program_header_bytes : ℕ
 program_header_bytes = 32
 
+-- the bytes of a section header
 abbrev pub section_header_bytes : ℕ
 section_header_bytes = 40
 
+-- the bytes of an entry of the symbol table
 abbrev pub symbol_bytes : ℕ
 symbol_bytes = 16
 

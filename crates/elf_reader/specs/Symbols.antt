@@ -48,6 +48,7 @@ contents file s = slice_range file s.sh_offset (s.sh_offset + s.sh_size)
 
 -- ---- symbols
 
+-- the byte 0
 abbrev pub is_zero : ℕ → Bool
 is_zero b = b == 0
 

@@ -18,10 +18,12 @@ abbrev pub block_of_set : List (ℕ × ℕ) → ℕ → Option ℕ
 block_of_set [] c = None
 block_of_set (x ∷ sure) c = if x.0 == c then Some x.1 else block_of_set sure c
 
+-- the block of a cache set by a node's entry; None without an entry
 abbrev pub block_by_entry : Option NodeState → ℕ → Option ℕ
 block_by_entry None c = None
 block_by_entry (Some s) c = block_of_set s.sure c
 
+-- whether a cache set is useful by a node's entry; it is not without one
 abbrev pub is_useful_by_entry : Option NodeState → ℕ → Bool
 is_useful_by_entry None c = false
 is_useful_by_entry (Some s) c = has s.useful c
@@ -49,5 +51,6 @@ no_task_part =
       response = 0;
     }
 
+-- the part of the task at a place
 abbrev pub certified_task : Certificate → ℕ → TaskPart
 certified_task c i = slice_index_or c.tasks i no_task_part

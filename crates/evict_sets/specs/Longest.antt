@@ -15,6 +15,7 @@ longest_at_node p g l answers u =
     max (greatest_of (edge_cost p l (λ y. false) u) (g.next u))
     (if answers u then end_cost p l (λ y. false) u else 0)
 
+-- the greatest cost of an edge of the nodes below n
 abbrev pub longest_below : Platform → Graph → NodeCode → (ℕ → Bool) → ℕ → ℕ
 longest_below p g l answers zero = 0
 longest_below p g l answers (suc n) =

@@ -19,31 +19,36 @@ pub record GraphNode : Type 0 where
   pub ins : Ins
   pub next : List ℕ
 
+-- a graph with its code: the nodes by number, and the number of the first
 pub record CodeGraph : Type 0 where
   pub nodes : List GraphNode
   pub first : ℕ
 
--- the node of a number; past the graph's end one that goes nowhere
+-- a node that goes nowhere, which stands past a graph's end
 abbrev pub no_node : GraphNode
 no_node = record { context = []; address = 0; ins = Ecall; next = [] }
 
+-- the node of a number
 abbrev pub node_of : CodeGraph → ℕ → GraphNode
 node_of g u = slice_index_or g.nodes u no_node
 
--- the graph of a task in a list; past the list's end one with no nodes
+-- a graph without nodes, which stands past a list's end
 abbrev pub no_graph : CodeGraph
 no_graph = record { nodes = []; first = 0 }
 
+-- the graph of a task in a list
 abbrev pub graph_at : List CodeGraph → ℕ → CodeGraph
 graph_at graphs i = slice_index_or graphs i no_graph
 
--- its graph of numbers, where its nodes stand, and their instructions
+-- its graph of numbers
 abbrev pub graph_of : CodeGraph → Graph
 graph_of g = record { size = length g.nodes; first = g.first; next = λ u. (node_of g u).next }
 
+-- where its nodes stand
 abbrev pub places_of : CodeGraph → Places
 places_of g = record { context = λ u. (node_of g u).context; address = λ u. (node_of g u).address }
 
+-- the instruction of a node
 abbrev pub ins_of : CodeGraph → ℕ → Ins
 ins_of g u = (node_of g u).ins
 

@@ -14,6 +14,7 @@ pub record NodeCode : Type 0 where
 abbrev pub edge_cost : Platform → NodeCode → (ℕ → Bool) → ℕ → ℕ → ℕ
 edge_cost p l is_hit u v = cost p (l.ins u) (not (is_hit u)) (not (l.address v == l.address u + 4))
 
+-- whether an instruction returns
 abbrev pub is_return : Flow → Bool
 is_return Return = true
 is_return _ = false

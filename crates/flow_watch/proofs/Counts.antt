@@ -1,14 +1,16 @@
 -- The arrival at an address, counted loop by loop.
-use Rattle.std.proofs.Common.{◌≡◌, ◌≢◌, ℕ, suc, ◌+◌, ◌<◌, ◌≤◌, ◌==◌, nat_le, true, false, Some}
+use Rattle.std.proofs.Common.{◌≡◌, ◌≢◌, ℕ, zero, suc, ◌+◌, ◌<◌, ◌≤◌, ◌==◌, nat_le, true, false, Some, None}
 use Rattle.std.proofs.Common.{List, [], ◌∷◌, ◌++◌, length, take, drop, get_or, slice_index, inl}
 use Rattle.std.proofs.Common.{inr, refl, sym, ◌∙◌, ap, subst, arith, append_assoc, drop-cons}
 use Rattle.std.specs.List.{find, list_any}
-use Rattle.std.proofs.lemmas.Bool.{cases_Bool, ne_eqb}
+use Rattle.std.proofs.lemmas.Bool.{and_parts, cases_Bool, eq-eqb, leb-true, ltb-true}
+use Rattle.std.proofs.lemmas.Bool.{ne_eqb}
 use Rattle.std.proofs.lemmas.Bool.Decides.{nat_tests}
 use Rattle.std.proofs.lemmas.List.{drop_all, take-append-drop}
 use Rattle.std.proofs.Math.Seq.{take-suc}
 use Rattle.crpd_base.specs.declared.data.LoopAt.{LoopAt}
-use Rattle.flow_watch.specs.Watch.{in_range, all_iterations_after, within_bounds}
+use Rattle.flow_watch.specs.Watch.{in_range, iterations_after, all_iterations_after}
+use Rattle.flow_watch.specs.Watch.{within_bounds}
 use Rattle.flow_watch.specs.Inner.Quiet.{KeepsAllIterations, KeepsIterations}
 
 -- the iterations with those of the first i loops counted: what is left to count gives the whole
@@ -122,3 +124,79 @@ still_held a near loop turns r other within found low high =
               let rest = held_by a near rs r (rw e at found) low high in
               elim (cases_Bool (in_range a x)) [ inl t ↦ rw t refl | inr t ↦ rw (t, rest) refl ]
         ]
+
+-- an arrival that leaves a loop's iterations as they are is not at its head
+pub kept_apart :
+    (a : ℕ) (loop : LoopAt) (turns : ℕ) → KeepsIterations a loop turns → a ≢ loop.head
+kept_apart a loop turns keeps e =
+    let test : (a == loop.head) ≡ true = eq-eqb a loop.head e in
+    let more : suc turns ≡ turns = rw test at keeps.same in
+    omega arith
+
+-- the first range that has an address has it
+pub found_holds : (a : ℕ) (rs : List (ℕ × ℕ)) (r : ℕ × ℕ) → find (in_range a) rs ≡ Some r
+    → (r.0 ≤ a) × (a < r.1)
+found_holds a [] r found = cc
+found_holds a (x ∷ rs) r found =
+    elim (cases_Bool (in_range a x)) [
+      | inl e ↦
+          let is : x ≡ r = some_same x r (rw e at found) in
+          let parts = and_parts _ _ e in
+          let low : x.0 ≤ a = leb-true x.0 a parts.0 in
+          let high : a < x.1 = ltb-true a x.1 parts.1 in
+          (subst (λ (y : ℕ × ℕ). y.0 ≤ a) is low, subst (λ (y : ℕ × ℕ). a < y.1) is high)
+      | inr e ↦ found_holds a rs r (rw e at found)
+    ]
+  where
+    some_same : (x r : ℕ × ℕ) → Some x ≡ Some r → x ≡ r
+    some_same x r e = cc
+
+-- where no range has it, none of them is found to have it
+none_held : (a : ℕ) (rs : List (ℕ × ℕ)) → find (in_range a) rs ≡ None
+    → list_any (in_range a) rs ≡ false
+none_held a [] none = refl
+none_held a (x ∷ rs) none =
+    elim (cases_Bool (in_range a x)) [
+      | inl e ↦ absurd (some_none x (rw e at none))
+      | inr e ↦ let rest = none_held a rs (rw e at none) in rw (e, rest) refl
+    ]
+  where
+    some_none : (x : ℕ × ℕ) → Some x ≡ None → ⊥
+    some_none x e = cc
+
+-- an arrival that leaves the iterations of an open loop as they are is in one of its ranges
+pub kept_found :
+    (a : ℕ) (loop : LoopAt) (turns : ℕ) → KeepsIterations a loop turns → turns ≢ 0
+    → find (in_range a) loop.ranges ≡ None → ⊥
+kept_found a loop turns keeps under_way none =
+    let test : (a == loop.head) ≡ false =
+    ne_eqb a loop.head (kept_apart a loop turns keeps) in
+    let outside : list_any (in_range a) loop.ranges ≡ false = none_held a loop.ranges none in
+    let closed : iterations_after a loop turns ≡ 0 = rw (test, outside) refl in
+    under_way (sym keeps.same ∙ closed)
+
+-- an arrival that leaves all iterations as they are leaves those of each loop so
+pub keeps_each :
+    (a : ℕ) (loops : List LoopAt) (turns : List ℕ) (i : ℕ) (loop : LoopAt)
+    → length turns ≡ length loops → KeepsAllIterations a loops turns → i < length loops
+    → loop ≡ get_or loops i loop → KeepsIterations a loop (slice_index turns i)
+keeps_each a [] turns i loop long keeps below is = absurd (omega arith)
+keeps_each a (l ∷ loops) [] i loop long keeps below is = absurd (omega arith)
+keeps_each a (l ∷ loops) (t ∷ turns) zero loop long keeps below is =
+    let first : iterations_after a l t ≡ t = same_head _ _ _ _ keeps.same in
+    let bound : t ≤ l.bound = leb-true t l.bound (and_parts _ _ keeps.within).0 in
+    subst (λ (x : LoopAt). KeepsIterations a x t) (sym is)
+    (record { same = first; within = bound })
+  where
+    same_head : (x y : ℕ) (xs ys : List ℕ) → x ∷ xs ≡ y ∷ ys → x ≡ y
+    same_head x y xs ys e = cc
+keeps_each a (l ∷ loops) (t ∷ turns) (suc i) loop long keeps below is =
+    keeps_each a loops turns i loop (omega arith)
+    (record {
+      same = same_tail _ _ _ _ keeps.same;
+      within = (and_parts _ _ keeps.within).1;
+    })
+    (omega arith) is
+  where
+    same_tail : (x y : ℕ) (xs ys : List ℕ) → x ∷ xs ≡ y ∷ ys → xs ≡ ys
+    same_tail x y xs ys e = cc

@@ -11,9 +11,11 @@ use Rattle.std.proofs.lemmas.List.{drop-take, take-take, take_at, drop_at, lengt
 use Rattle.std.proofs.lemmas.List.{length-drop, with_items_is, take-replicate}
 use Rattle.std.proofs.lemmas.List.Elements.{All-nil, All-cons, All-get_or}
 use Rattle.std.proofs.lemmas.Simd.{splat_is_map}
+use Rattle.std.specs.Prelude.{Bool, if◌then◌else◌}
 use Rattle.std.specs.Vec.{with_items_from}
 use Rattle.crpd_base.proofs.Rows.{row_ends}
 use Rattle.rv_decode.specs.Address.{next_address, address_before, end_address}
+use Rattle.crpd_base.specs.declared.data.LoopAt.{LoopAt}
 use Rattle.crpd_base.specs.declared.data.TaskPlan.{TaskPlan}
 use Rattle.flow_watch.specs.Watch.{Frame, Watch, all_iterations_after, within_bounds, arrive}
 use Rattle.flow_watch.specs.Watch.{context}
@@ -375,3 +377,37 @@ quiet_frames plan a n calls turns (suc k) w is some still =
     let same = stands.same in
     let within = stands.within in
     rw (← is, same, within) refl
+
+-- and one that leaves the watch as it is leaves the iterations of the top frame so
+still_by : (loops : List LoopAt) (a to : ℕ) (row : List ℕ) (rest : List Frame) (b : Bool)
+    → b ≡ within_bounds loops (all_iterations_after a loops row)
+    → (if b then Some (record {
+      back = to;
+      turns = all_iterations_after a loops row;
+    } ∷ rest) else None) ≡ Some (record { back = to; turns = row } ∷ rest)
+    → KeepsAllIterations a loops row
+still_by loops a to row rest true within e =
+    let same : all_iterations_after a loops row ≡ row = ap top_turns e in
+    record { same = same; within = ap (within_bounds loops) (sym same) ∙ sym within }
+  where
+    top_turns : Watch → List ℕ
+    top_turns None = []
+    top_turns (Some []) = []
+    top_turns (Some (f ∷ fs)) = f.turns
+still_by loops a to row rest false within e = absurd (none_some _ e)
+  where
+    none_some : (fs : List Frame) → None ≡ Some fs → ⊥
+    none_some fs e = cc
+
+pub keeps_all :
+    (plan : TaskPlan) (a n : ℕ) (calls turns : List ℕ) (frames : ℕ) (w : Watch) →
+    Some (frames_of n calls turns frames) ≡ w → 0 < frames → IsQuiet plan w a →
+    KeepsAllIterations a plan.loops (frame_row n turns (frames - 1))
+keeps_all plan a n calls turns zero w is some quiet = absurd (omega arith)
+keeps_all plan a n calls turns (suc k) w is some quiet =
+    let at_k : k ≡ suc k - 1 = omega arith in
+    let there : IsQuiet plan (Some (frames_of n calls turns (suc k))) a =
+    subst (λ (v : Watch). IsQuiet plan v a) (sym is) quiet in
+    subst (λ (j : ℕ). KeepsAllIterations a plan.loops (frame_row n turns j)) at_k
+    (still_by plan.loops a (back calls k) (frame_row n turns k) (frames_of n calls turns k)
+    (within_bounds plan.loops (all_iterations_after a plan.loops (frame_row n turns k))) refl there)

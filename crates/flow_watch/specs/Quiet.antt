@@ -1,5 +1,6 @@
 -- Arrivals that change nothing.
 use Rattle.std.specs.Prelude.{◌≡◌, ℕ, ◌≤◌, ◌<◌, Bool, true, false, option_and_then}
+use Rattle.flow_watch.specs.declared.Addresses.{Addresses}
 use Rattle.crpd_base.specs.declared.data.TaskPlan.{TaskPlan}
 use Rattle.rv_decode.specs.declared.Ins.{Ins}
 use Rattle.rv_decode.specs.Flow.{Flow, Call, Return, OtherJalr, OtherJal}
@@ -24,6 +25,10 @@ IsArrival ins =
 abbrev pub IsQuiet : TaskPlan → Watch → ℕ → Type 0
 IsQuiet plan w a = option_and_then (arrive plan a) w ≡ w
 
--- so does one at each address from the first on and before the second
-abbrev pub AreQuiet : TaskPlan → Watch → ℕ × ℕ → Type 0
-AreQuiet plan w r = (a : ℕ) → r.0 ≤ a → a < r.1 → IsQuiet plan w a
+-- the address is one of these
+abbrev pub AreAmong : Addresses → ℕ → Type 0
+AreAmong r a = (r.from ≤ a) × (a < r.until)
+
+-- an arrival at each of these addresses leaves it so
+abbrev pub AreQuiet : TaskPlan → Watch → Addresses → Type 0
+AreQuiet plan w r = (a : ℕ) → r.from ≤ a → a < r.until → IsQuiet plan w a

@@ -18,10 +18,11 @@ pub record Frame : Type 0 where
 abbrev pub Watch : Type 0
 Watch = Option (List Frame)
 
--- whether a loop holds an address: its head, and what is in its ranges
+-- whether a range has an address: the first included, the second excluded
 abbrev pub in_range : ℕ → ℕ × ℕ → Bool
 in_range a r = nat_le r.0 a && nat_lt a r.1
 
+-- whether a loop holds an address: its head, and what is in its ranges
 abbrev pub holds : LoopAt → ℕ → Bool
 holds loop a = (a == loop.head) || list_any (in_range a) loop.ranges
 
@@ -30,6 +31,7 @@ abbrev pub iterations_after : ℕ → LoopAt → ℕ → ℕ
 iterations_after a loop turns =
     if a == loop.head then suc turns else (if holds loop a then turns else 0)
 
+-- those of all stated loops
 abbrev pub all_iterations_after : ℕ → List LoopAt → List ℕ → List ℕ
 all_iterations_after a (loop ∷ loops) (t ∷ turns) =
     iterations_after a loop t ∷ all_iterations_after a loops turns
@@ -98,6 +100,7 @@ calls_under_way [] = []
 calls_under_way (f ∷ []) = []
 calls_under_way (f ∷ frames) = calls_under_way frames ++ call_of f ∷ []
 
+-- the same of a watch; a broken one has none
 abbrev pub context : Watch → List ℕ
 context None = []
 context (Some frames) = calls_under_way frames

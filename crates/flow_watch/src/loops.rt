@@ -1,16 +1,24 @@
 // The iterations of a frame's stated loops.
-ghost use Rattle.std.specs.Prelude.{◌≡◌, ◌≢◌, ℕ, ◌<◌, ◌≤◌, Some, None, length, nat_le};
+ghost use Rattle.std.specs.Prelude.{◌≡◌, ◌≢◌, ℕ, ◌+◌, ◌^◌, ◌<◌, ◌≤◌, Some, None, length, nat_le};
 ghost use Rattle.std.specs.Prelude.{if◌then◌else◌};
 ghost use Rattle.std.specs.Bool.{OnTrue};
 ghost use Rattle.std.specs.List.{find, list_any};
 ghost use Rattle.flow_watch.specs.Watch.{in_range, iterations_after, all_iterations_after};
 ghost use Rattle.flow_watch.specs.Watch.{within_bounds};
+ghost use Rattle.flow_watch.specs.Quiet.{AreAmong};
 ghost use Rattle.flow_watch.specs.Inner.Quiet.{KeepsAllIterations, KeepsIterations};
 
+use crate::Addresses;
 use crpd_base::LoopAt;
 
 /// No address.
-const NOWHERE: (u32, u32) = (0, 0);
+const NOWHERE: Addresses = Addresses { from: 0, until: 0 };
+
+/// All addresses but the last one.
+pub(crate) const EVERYWHERE: Addresses = Addresses {
+    from: 0,
+    until: u32::MAX,
+};
 
 /// Whether a range has the address: it includes its first address and excludes its second.
 fn in_range(address: u32, range: &(u32, u32)) -> bool
@@ -76,13 +84,21 @@ fn range_around(stated: &LoopAt, address: u32) -> Option<(u32, u32)>
 
 /// The addresses of a range on the side of a loop's head on which an address lies, after the head
 /// where it is the head.
-fn beside_head(range: (u32, u32), head: u32, near: u32) -> (u32, u32)
-    ensures { (a : ℕ) → result.0 ≤ a → a < result.1 → (range.0 ≤ a) × (a < range.1) × (a ≢ head) }
+fn beside_head(range: Addresses, head: u32, near: u32) -> Addresses
+    ensures beside { (a : ℕ) → result.from ≤ a → a < result.until
+        → (range.from ≤ a) × (a < range.until) × (a ≢ head) }
+    ensures near { near + 1 < 2 ^ 32 → AreAmong range near → near ≢ head → AreAmong result near }
 {
     if near < head {
-        (range.0, range.1.min(head))
+        Addresses {
+            from: range.from,
+            until: range.until.min(head),
+        }
     } else if head < u32::MAX {
-        (range.0.max(head + 1), range.1)
+        Addresses {
+            from: range.from.max(head + 1),
+            until: range.until,
+        }
     } else {
         NOWHERE
     }
@@ -90,9 +106,11 @@ fn beside_head(range: (u32, u32), head: u32, near: u32) -> (u32, u32)
 
 /// The addresses of a range at which an arrival leaves a stated loop's iterations as they are, of
 /// those around an address.
-fn still_range(range: (u32, u32), stated: &LoopAt, turns: u32, near: u32) -> (u32, u32)
-    ensures { (a : ℕ) → result.0 ≤ a → a < result.1
-        → (range.0 ≤ a) × (a < range.1) × KeepsIterations a stated.now turns }
+fn still_range(range: Addresses, stated: &LoopAt, turns: u32, near: u32) -> Addresses
+    ensures still { (a : ℕ) → result.from ≤ a → a < result.until
+        → (range.from ≤ a) × (a < range.until) × KeepsIterations a stated.now turns }
+    ensures near { near + 1 < 2 ^ 32 → AreAmong range near → KeepsIterations near stated.now turns
+        → AreAmong result near }
 {
     let around = beside_head(range, stated.head, near);
     if turns == 0 {
@@ -102,17 +120,24 @@ fn still_range(range: (u32, u32), stated: &LoopAt, turns: u32, near: u32) -> (u3
         return NOWHERE;
     }
     match range_around(stated, near) {
-        Some(held) => (around.0.max(held.0), around.1.min(held.1)),
+        Some(held) => Addresses {
+            from: around.from.max(held.0),
+            until: around.until.min(held.1),
+        },
         None => NOWHERE,
     }
 }
 
-/// A range of addresses around one, at which an arrival leaves a frame's iterations as they are.
-pub(crate) fn quiet_range(turns: &[u32], loops: &[LoopAt], near: u32) -> (u32, u32)
+/// Addresses around one, at which an arrival leaves a frame's iterations as they are; that one is
+/// among them where it does so there.
+pub(crate) fn quiet_range(turns: &[u32], loops: &[LoopAt], near: u32) -> Addresses
     requires { length turns.now ≡ length loops.now }
-    ensures { (a : ℕ) → result.0 ≤ a → a < result.1 → KeepsAllIterations a loops.now turns.now }
+    ensures still { (a : ℕ) → result.from ≤ a → a < result.until
+        → KeepsAllIterations a loops.now turns.now }
+    ensures near { near + 1 < 2 ^ 32 → KeepsAllIterations near loops.now turns.now
+        → AreAmong result near }
 {
-    let mut range = (0, u32::MAX);
+    let mut range = EVERYWHERE;
     for (i, stated) in loops.iter().enumerate() {
         range = still_range(range, stated, turns[i], near);
     }

@@ -3,7 +3,7 @@ ghost use Rattle.std.specs.Prelude.{length};
 ghost use Rattle.flow_watch.specs.Iterations.{HasIterations};
 
 use crpd_base::{Items, LoopAt, TaskPlan};
-use flow_watch::{Watch, stays_in_frame};
+use flow_watch::{Addresses, Watch, stays_in_frame};
 use rv_decode::Ins;
 use std::alloc::Global;
 use std::process::Abort;
@@ -266,9 +266,9 @@ static QUIET: [Quiet; 11] = [
 ];
 
 fn compare_addresses(rt: &impl Abort, alloc: Global, plan: &TaskPlan, row: &Quiet) {
-    let &(_, steps, near, quiet) = row;
+    let &(_, steps, near, (from, until)) = row;
     let watch = watch_after(rt, alloc, plan, steps);
-    assert!(rt; watch.quiet(plan, near) == quiet);
+    assert!(rt; watch.quiet(plan, near) == Addresses { from, until });
 }
 
 fn compare_quiet(rt: &impl Abort, alloc: Global, row: &Quiet) {

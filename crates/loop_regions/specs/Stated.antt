@@ -13,6 +13,7 @@ seen_from [] (b ∷ d) a = Some b
 seen_from (x ∷ c) [] a = None
 seen_from (x ∷ c) (y ∷ d) a = if x == y then seen_from c d a else None
 
+-- whether a loop holds an address, where there is one
 abbrev pub holds_seen : LoopAt → Option ℕ → Bool
 holds_seen l None = false
 holds_seen l (Some a) = holds l a
@@ -87,6 +88,7 @@ IsSameHead loops a =
 abbrev pub IsLeastAt : Graph → Places → (ℕ → Type 0) → ℕ → Type 0
 IsLeastAt g p P a = (y : ℕ) × (y < g.size) × P y × (p.address y ≡ a) × ((z : ℕ) → z < y → P z → ⊥)
 
+-- why stated loops are refused, each with an address
 pub data LoopRefusal : Type 0 where
   SameHead : (address : ℕ) → LoopRefusal
   SecondEntry : (address : ℕ) → LoopRefusal

@@ -49,14 +49,14 @@ abbrev pub watch_after : TaskPlan → List Step → Watch
 watch_after plan [] = start plan
 watch_after plan (s ∷ earlier) = watch_step plan (watch_after plan earlier) s.from s.ins s.to
 
--- the context and the address of a job after steps, and of all moments up to then, the last one
--- first
+-- the context and the address of a job after steps
 abbrev pub node_after : TaskPlan → List Step → FlatNode
 node_after plan steps = record {
   context = context (watch_after plan steps);
   address = address_after plan.entry steps;
 }
 
+-- those of all moments up to then, the last one first
 abbrev pub nodes_along : TaskPlan → List Step → List FlatNode
 nodes_along plan [] = node_after plan [] ∷ []
 nodes_along plan (s ∷ earlier) = node_after plan (s ∷ earlier) ∷ nodes_along plan earlier
@@ -121,6 +121,7 @@ WalkLaw =
     AreSteps words plan.entry steps → IsGoingOn plan steps
     → (walk : List ℕ) × IsKeptWalkOf plan g p n steps walk
 
+-- and where the job then answers, the last node is an answering node
 abbrev pub WalkEndLaw : Type 0
 WalkEndLaw =
     (words : Words) (plan : TaskPlan) (g : Graph) (p : Places) (n : Nest) (steps : List Step) →

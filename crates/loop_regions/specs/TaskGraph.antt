@@ -14,6 +14,7 @@ pub record TaskGraph : Type 0 where
   pub ins : ℕ → Ins
   pub nest : Nest
 
+-- where its nodes stand, with their instructions
 abbrev pub node_code_of : TaskGraph → NodeCode
 node_code_of t = record { address = t.places.address; ins = t.ins }
 

@@ -62,6 +62,7 @@ TaskWalkLaw code task g n =
     → AreSteps (words_of code) plan.entry steps → IsGoingOn plan steps →
     (walk : List ℕ) × IsKeptWalkOf plan (graph_of g) (places_of g) (nest_of n) steps walk
 
+-- and where the job then answers, its last node is an answering node
 abbrev pub TaskWalkEndLaw : Code → ℕ → CodeGraph → CodeNest → Type 0
 TaskWalkEndLaw code task g n =
     (plan : TaskPlan) (steps : List Step) → IsPlanOf code task plan

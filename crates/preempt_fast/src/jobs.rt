@@ -5,7 +5,7 @@ ghost use Rattle.rv_decode.specs.Range.{HasFieldsInRange};
 ghost use Rattle.rv_core.specs.Effect.{next_pc};
 ghost use Rattle.icache.specs.Cache.{cache_after_access, block_of, is_hit, set_of};
 ghost use Rattle.flow_watch.specs.Iterations.{HasIterations};
-ghost use Rattle.flow_watch.specs.Quiet.{AreQuiet, IsArrival};
+ghost use Rattle.flow_watch.specs.Quiet.{AreAmong, AreQuiet, IsArrival};
 ghost use Rattle.preempt_machine.specs.Machine.{System, Open, Faulted, plan_of};
 ghost use Rattle.preempt_machine.specs.Step.{fetch_cost, turn_after_fetch, turn_after_effect};
 ghost use Rattle.preempt_machine.specs.Running.{system_by, HasPlan};
@@ -16,6 +16,7 @@ ghost use Rattle.preempt_fast.specs.Inner.Stretch.{HasMoved};
 use crate::decoded::{Decoded, Decoding};
 use code_map::CodeMap;
 use crpd_base::{Memory, SETS, TaskPlan};
+use flow_watch::Addresses;
 use icache::{Access, Cache, Geometry};
 use preempt_machine::{Job, is_taken};
 use rv_core::{DataMemory, Next};
@@ -30,15 +31,15 @@ pub(crate) struct Core {
     pub(crate) decoded: Decoded,
 }
 
-/// Whether an address is one of those from one up to another.
-fn is_within(range: (u32, u32), at: u32) -> bool
-    ensures { IsTrue result → (range.0 ≤ at) × (at < range.1) }
+/// Whether an address is one of these.
+fn is_within(range: Addresses, at: u32) -> bool
+    ensures { IsTrue result → AreAmong range at }
 {
-    range.0 <= at && at < range.1
+    range.from <= at && at < range.until
 }
 
-/// Addresses that are quiet for a job, from one up to another.
-fn quiet_of(job: &Job, plan: &TaskPlan) -> (u32, u32)
+/// Addresses that are quiet for a job.
+fn quiet_of(job: &Job, plan: &TaskPlan) -> Addresses
     requires { HasIterations (length plan.now.loops) job.now.watch }
     ensures { AreQuiet plan.now job.now.watch result }
 {
@@ -135,7 +136,7 @@ impl Core {
         ins: &Ins,
         next: Next,
         time: u64,
-        quiet: &mut (u32, u32),
+        quiet: &mut Addresses,
     ) -> Result<(), Memory>
         requires in_range { HasFieldsInRange ins.now }
         requires stays { IsTrue found.now.stays → IsArrival ins.now }
@@ -175,7 +176,7 @@ impl Core {
         plan: &TaskPlan,
         now: u64,
         until: u64,
-        quiet: &mut (u32, u32),
+        quiet: &mut Addresses,
     ) -> Result<u64, Memory>
         requires before { now < until }
         requires room { self.old.geometry.platform.sets ≤ length self.old.cache }

@@ -1,5 +1,6 @@
 // The run of a script.
 ghost use Rattle.std.specs.Prelude.{◌≡◌, ◌↔◌, ◌<◌, ◌≤◌, ◌^◌, true, length, All, IfOk, IsTrue};
+ghost use Rattle.crpd_base.specs.Limits.{most_sets};
 ghost use Rattle.flow_watch.specs.Watch.{is_unbroken};
 ghost use Rattle.preempt_machine.specs.Machine.{start_machine};
 ghost use Rattle.preempt_machine.specs.Safe.{system_of, NamesTasks};
@@ -21,7 +22,7 @@ use std::alloc::Global;
 fn load(alloc: Global, code: &CodeMap, set: &TaskSet, script: &Script) -> Result<Parts, Memory>
     requires line { 0 < set.now.platform.line }
     requires sets { 0 < set.now.platform.sets }
-    requires few { set.now.platform.sets ≤ 512 }
+    requires few { set.now.platform.sets ≤ most_sets }
     requires plans { length code.now.plans ≡ length set.now.tasks }
     requires tasks { NamesTasks set.now script.now.jobs }
     requires jobs { length script.now.jobs < 2 ^ 32 }
@@ -77,7 +78,7 @@ pub fn run_fast(
 ) -> Result<(Vec<Completion>, bool), Memory>
     requires line { 0 < set.now.platform.line }
     requires sets { 0 < set.now.platform.sets }
-    requires few { set.now.platform.sets ≤ 512 }
+    requires few { set.now.platform.sets ≤ most_sets }
     requires plans { length code.now.plans ≡ length set.now.tasks }
     requires tasks { NamesTasks set.now script.now.jobs }
     requires jobs { length script.now.jobs < 2 ^ 32 }

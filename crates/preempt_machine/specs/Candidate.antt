@@ -4,13 +4,15 @@ use Rattle.crpd_base.specs.declared.data.Switching.TheVariants.{Instruction}
 use Rattle.preempt_machine.specs.Machine.{System, Open, Job, Machine, job_at, number_in_script}
 use Rattle.preempt_machine.specs.Step.{candidate}
 
--- the task, the release and the number of the job at a place of the script
+-- the task of the job at a place of the script
 abbrev pub task_of : Machine → ℕ → ℕ
 task_of m x = (job_at m.jobs x).line.task.0
 
+-- its release
 abbrev pub release_of : Machine → ℕ → ℕ
 release_of m x = (job_at m.jobs x).line.release
 
+-- its number among the jobs of its task
 abbrev pub job_number : Machine → ℕ → ℕ
 job_number m x = number_in_script (map (λ (job : Job). job.line) m.jobs) (task_of m x) x
 

@@ -101,5 +101,6 @@ no_job =
       standing = Faulted;
     }
 
+-- and of any other place the job there
 abbrev pub job_at : List Job → ℕ → Job
 job_at jobs i = slice_index_or jobs i no_job

@@ -62,7 +62,7 @@ start_of set code cache memory lines =
       fetch = None;
     }
 
--- after one step, and after n steps
+-- after one step
 abbrev pub running_after_step : Code → Running → Running
 running_after_step code r =
     let sys = system_by r.platform code in
@@ -72,6 +72,7 @@ running_after_step code r =
       fetch = option_map (fetch_told sys r.state) (step.fetch sys r.state);
     }
 
+-- after n steps
 abbrev pub running_after_steps : ℕ → Code → Running → Running
 running_after_steps zero code r = r
 running_after_steps (suc n) code r = running_after_step code (running_after_steps n code r)

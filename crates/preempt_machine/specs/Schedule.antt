@@ -14,17 +14,19 @@ use Rattle.preempt_machine.specs.Step.{is_open, keeps_core}
 use Rattle.preempt_machine.specs.Jobs.{end_of_standing}
 use Rattle.preempt_machine.specs.Running.{completion_at}
 
--- the release and the place of the job at a position of the order by release
+-- the release of the job at a position of the order by release
 abbrev pub due_release : List (ℕ × ℕ) → ℕ → ℕ
 due_release due p = (slice_index_or due p (0, 0)).0
 
+-- and its place
 abbrev pub due_place : List (ℕ × ℕ) → ℕ → ℕ
 due_place due p = (slice_index_or due p (0, 0)).1
 
--- the line of the script at a place, and the task of the job at a position
+-- the line of the script at a place
 abbrev pub script_line : List ScriptJob → ℕ → ScriptJob
 script_line lines x = slice_index_or lines x no_job.line
 
+-- the task of the job at a position
 abbrev pub due_task : List ScriptJob → List (ℕ × ℕ) → ℕ → ℕ
 due_task lines due p = (script_line lines (due_place due p)).task.0
 
@@ -86,6 +88,7 @@ NoneIsReleased due heads now =
 abbrev pub open_completion : Completion → Completion
 open_completion c = record { job = c.job; «end» = «end».Open }
 
+-- the completion at a place
 abbrev pub completion : List Completion → ℕ → Completion
 completion cs x =
     slice_index_or cs x (record {
@@ -189,14 +192,14 @@ pub record HasToldReleases (old new : Schedule) : Type 0 where
   pub released : AreReleased old.queue.due.items old.steps old.queue.released new.queue.released
       old.completions.items new.completions.items
 
--- the first open jobs of the tasks, and the completions, once it is told whether the job at a place
--- is over
+-- the first open jobs of the tasks, once it is told whether the job at a place is over
 abbrev pub heads_after : List Job → List ℕ → List ℕ → ℕ → List ℕ
 heads_after jobs later heads x =
     let task = (job_at jobs x).line.task.0 in
     if is_open (job_at jobs x).standing then heads
     else slice_set heads task (slice_index later (slice_index heads task))
 
+-- the completions then
 abbrev pub completions_after : List Job → List Completion → ℕ → List Completion
 completions_after jobs cs x =
     if is_open (job_at jobs x).standing then cs

@@ -18,7 +18,7 @@ abbrev pub with_blocks : Platform → Cache → List ℕ → Cache
 with_blocks p cache [] = cache
 with_blocks p cache (b ∷ blocks) = with_blocks p (cache_after_access p cache b) blocks
 
--- the cache at the start of a script, with room for 512 sets
+-- the cache at the start of a script, with room for the most sets of a platform
 unfoldable pub start_cache : Platform → List ℕ → Cache
 start_cache p blocks = with_blocks p (replicate most_sets None) blocks
 
@@ -26,6 +26,7 @@ start_cache p blocks = with_blocks p (replicate most_sets None) blocks
 abbrev pub with_segment : Memory → Segment → Memory
 with_segment memory s = put_all (clear_bytes memory s.address s.size) s.address s.bytes
 
+-- the segments of a file, a later one over an earlier one
 abbrev pub with_segments : Memory → List Segment → Memory
 with_segments memory [] = memory
 with_segments memory (s ∷ segments) = with_segments (with_segment memory s) segments

@@ -17,12 +17,13 @@ use Rattle.flow_watch.specs.Watch.{step as watch_step}
 use Rattle.preempt_machine.specs.Machine.{System, ins_at, Standing, Open, Answered, Faulted, Job}
 use Rattle.preempt_machine.specs.Machine.{Machine, plan_of, start_machine, job_at}
 
--- a job is ready from its release until it answers or faults
+-- a job is open until it answers or faults, and ready from its release on while it is open
 abbrev pub is_open : Standing → Bool
 is_open Open = true
 is_open (Answered t) = false
 is_open Faulted = false
 
+-- whether a job is so at a time
 unfoldable pub is_ready : ℕ → Job → Bool
 is_ready time job = is_open job.standing && nat_le job.line.release time
 
@@ -35,16 +36,18 @@ comes_before a x b y =
     || ((a.task.0 == b.task.0)
     && (nat_lt a.release b.release || ((a.release == b.release) && nat_lt x y)))
 
+-- whether the job at a place comes before the one at another
 abbrev pub before : List Job → ℕ → ℕ → Bool
 before jobs x y = comes_before (job_at jobs x).line x (job_at jobs y).line y
 
--- the first in that order of the ready jobs below a place
+-- the first of two in that order: of one found so far, and the job at a place where it is ready
 abbrev pub better_candidate : ℕ → List Job → ℕ → Option ℕ → Option ℕ
 better_candidate time jobs x best =
     if is_ready time (job_at jobs x)
     then (elim best [ None ↦ Some x | Some y ↦ if before jobs x y then Some x else Some y ])
     else best
 
+-- and of all the ready jobs below a place
 abbrev pub first_ready : ℕ → List Job → ℕ → Option ℕ
 first_ready time jobs zero = None
 first_ready time jobs (suc n) = better_candidate time jobs n (first_ready time jobs n)
@@ -63,6 +66,7 @@ candidate_by sys m (Some o) =
     if keeps_core sys.platform.switching m.time (job_at m.jobs o) then Some o
     else first_ready m.time m.jobs (length m.jobs)
 
+-- the candidate of a state
 unfoldable pub candidate : System → Machine → Option ℕ
 candidate sys m = candidate_by sys m m.owner
 
@@ -73,11 +77,12 @@ pub record Turn : Type 0 where
   pub switch_left : ℕ
   pub job : Job
 
--- a candidate that is not the owner has all switch cycles before it
+-- whether the job at a place is the owner: another candidate has all switch cycles before it
 abbrev pub is_owner : Option ℕ → ℕ → Bool
 is_owner None i = false
 is_owner (Some o) i = o == i
 
+-- the turn of the job at a place
 abbrev pub turn_of : System → Machine → ℕ → Turn
 turn_of sys m i =
     record {
@@ -87,12 +92,13 @@ turn_of sys m i =
       job = job_at m.jobs i;
     }
 
--- the fetch: the cache is accessed, and the instruction's cost is what is left of it
+-- whether a job goes on at the next address, as far as the cost of its instruction goes
 abbrev pub goes_to_next : Next → ℕ → Bool
 goes_to_next (Goto to) pc = to == next_address pc
 goes_to_next Answer pc = true
 goes_to_next Fault pc = true
 
+-- the cycles of an instruction that is fetched now
 abbrev pub fetch_cost : System → Ins → Turn → ℕ
 fetch_cost sys ins t =
     let p = sys.platform in
@@ -100,6 +106,7 @@ fetch_cost sys ins t =
     cost p ins (not (is_hit p t.cache (block_of p pc)))
     (not (goes_to_next (next_pc ins pc t.job.registers) pc))
 
+-- what the fetch leaves, where no instruction is under way
 abbrev pub turn_after_fetch : System → Ins → Turn → Turn
 turn_after_fetch sys ins t =
     if t.job.left == 0 then
@@ -138,6 +145,7 @@ turn_after_cycle sys n ins t =
     if nat_lt 1 t.job.left then record t { job = record t.job { left = t.job.left - 1 } }
     else turn_after_effect sys n ins t (next_pc ins t.job.pc t.job.registers)
 
+-- where no instruction can be fetched the job faults
 abbrev pub turn_after_execution : System → ℕ → Turn → Option Ins → Turn
 turn_after_execution sys n t None = record t { job = record t.job { standing = Faulted } }
 turn_after_execution sys n t (Some ins) = turn_after_cycle sys n ins (turn_after_fetch sys ins t)
@@ -160,6 +168,7 @@ machine_after_turn m i t =
       jobs = slice_set m.jobs i t.job;
     }
 
+-- the state after a step of a candidate; with none only time passes
 abbrev pub step_by : System → Machine → Option ℕ → Machine
 step_by sys m None = record m { time = suc m.time }
 step_by sys m (Some i) = machine_after_turn m i (turn_after_step sys m.time (turn_of sys m i))
@@ -193,6 +202,7 @@ pub record Fetch : Type 0 where
 abbrev pub makes_fetch : System → Turn → Bool
 makes_fetch sys t = (t.switch_left == 0) && (t.job.left == 0) && is_some (ins_at sys t.job.pc)
 
+-- the fetch of a candidate's step
 abbrev pub fetch_by : System → Machine → Option ℕ → Option Fetch
 fetch_by sys m None = None
 fetch_by sys m (Some i) =

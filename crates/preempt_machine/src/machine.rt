@@ -58,6 +58,7 @@ fn place_of(completions: &[Completion], job: JobId) -> usize
 impl Machine {
     ghost use Rattle.std.specs.Prelude.{◌≡◌, ◌≢◌, ℕ, ◌+◌, ◌-◌, ◌<◌, ◌≤◌, ◌^◌, length, map, All};
     ghost use Rattle.std.specs.Prelude.{IsTrue, ◌↔◌, Some, None, option_map, IfOk, OnOk, OnErr};
+    ghost use Rattle.crpd_base.specs.Limits.{most_sets};
     ghost use Rattle.preempt_machine.specs.Safe.{completions, IsKept, NamesTasks};
     ghost use Rattle.preempt_machine.specs.Starts.{start_cache, start_memory};
     ghost use Rattle.preempt_machine.specs.Running.{completion_at, job_id, start_of};
@@ -123,7 +124,7 @@ impl Machine {
     ) -> Result<Self, Memory>
         requires line { 0 < set.now.platform.line }
         requires sets { 0 < set.now.platform.sets }
-        requires few { set.now.platform.sets ≤ 512 }
+        requires few { set.now.platform.sets ≤ most_sets }
         requires plans { length code.now.plans ≡ length set.now.tasks }
         requires tasks { NamesTasks set.now script.now.jobs }
         requires jobs { length script.now.jobs < 2 ^ 32 }

@@ -1,5 +1,6 @@
 // The cache and the data memory that a script starts from.
 ghost use Rattle.std.specs.Prelude.{◌≡◌, ◌+◌, ◌<◌, ◌≤◌, ◌^◌, length, All, IfOk, OnOk};
+ghost use Rattle.crpd_base.specs.Limits.{most_sets};
 ghost use Rattle.preempt_machine.specs.Starts.{start_cache, start_memory, with_blocks};
 ghost use Rattle.preempt_machine.specs.Starts.{with_segment, with_segments};
 
@@ -15,9 +16,9 @@ use std::alloc::Global;
 pub fn start_cache(set: &TaskSet, script: &Script) -> Cache<SETS>
     requires line { 0 < set.now.platform.line }
     requires sets { 0 < set.now.platform.sets }
-    requires few { set.now.platform.sets ≤ 512 }
+    requires few { set.now.platform.sets ≤ most_sets }
     ensures is { result ≡ start_cache set.now.platform script.now.cache }
-    ensures room { length result ≡ 512 }
+    ensures room { length result ≡ most_sets }
 {
     let geometry = Geometry::new(&set.platform);
     let mut cache = Cache::empty();

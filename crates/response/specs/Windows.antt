@@ -42,10 +42,11 @@ smaller_of (Some u) (Some e) =
     if nat_le u e then Some (record { window = u; method = Ucb })
     else Some (record { window = e; method = Ecb })
 
--- the windows of a list
+-- the window of a task of a list
 abbrev pub window_at : List Choice → ℕ → ℕ
 window_at choices k = slice_index (map (λ (c : Choice). c.window) choices) k
 
+-- and its method
 abbrev pub method_at : List Choice → ℕ → Method
 method_at choices k = slice_index_or (map (λ (c : Choice). c.method) choices) k Ucb
 

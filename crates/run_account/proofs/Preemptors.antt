@@ -9,7 +9,8 @@ use Rattle.preempt_machine.specs.Step.{before, Fetch, Start, state, fetch_at}
 use Rattle.preempt_machine.proofs.Order.{comes_before_trans, comes_before_total}
 use Rattle.run_account.specs.Fetches.{fetched_set, IsLastFetchTo, HasCache}
 use Rattle.run_account.specs.Reloads.{FetchesAt, IsOwnReload, IsPreemptor}
-use Rattle.run_account.proofs.ReloadLaws.{evictor_is_other, same_fetch, one_job_per_preemptor}
+use Rattle.run_account.proofs.ReloadLaws.{evictor_is_other, same_fetch, one_job_of}
+use Rattle.run_account.proofs.ReloadLaws.{one_reload_of}
 use Rattle.run_account.proofs.LastBelow.{found_below, found_is, found_last, some_from}
 
 -- the first number from low on that passes
@@ -282,23 +283,27 @@ preemptor_is s x t u f g cached reload =
           is = record {
             evictor = e;
             last = last;
-            from = fa.fetch;
-            to = fc.fetch;
-            gap = record {
-              after = at_a.0;
-              until = omega arith;
-              begins = record { is = fa.is; by = fa.holds };
-              ends = record { is = fc.is; by = fc.holds };
-              none = none;
+            lies = record {
+              from = fa.fetch;
+              to = fc.fetch;
+              gap = record {
+                after = at_a.0;
+                until = omega arith;
+                begins = record { is = fa.is; by = fa.holds };
+                ends = record { is = fc.is; by = fc.holds };
+                none = none;
+              };
             };
             in_time = omega arith;
-            at = p.time;
-            fetch = p.fetch;
-            after = p.after;
-            until = until;
-            by = p.by;
-            other = λ z. none p.time p.fetch p.after until p.by.is (p.by.by ∙ z);
-            latest = p.all;
+            passes = record {
+              at = p.time;
+              fetch = p.fetch;
+              after = p.after;
+              until = until;
+              by = p.by;
+              other = λ z. none p.time p.fetch p.after until p.by.is (p.by.by ∙ z);
+              latest = p.all;
+            };
           };
           up = p.base_up;
         })
@@ -311,14 +316,12 @@ pub same_reload : (s : Start) (x t u : ℕ) (f g : Fetch) (x' t' u' : ℕ) (f' g
 same_reload s x t u f g x' t' u' f' g' p p' a v c a' v' c' cached r r' same q q' e =
     let q2 : IsPreemptor s x' p t' a' v' c' f' =
     subst (λ k. IsPreemptor s x' k t' a' v' c' f') (sym e) q' in
-    let job = one_job_per_preemptor.one_job s x t u f g x' t' u' f' g' p a v c a' v' c' cached
-    r r' q q2 in
+    let job = one_job_of s x t f x' t' f' p a v c a' v' c' q q2 in
     let r3 : IsOwnReload s x t' u' f' g' = subst (λ k. IsOwnReload s k t' u' f' g') (sym job) r' in
     let q3 : IsPreemptor s x p t' a' v' c' f' =
     subst (λ k. IsPreemptor s k p t' a' v' c' f') (sym job) q2 in (
       job,
-      one_job_per_preemptor.one_reload s x t u f g t' u' f' g' p a v c a' v' c' cached r
-          r3 same q q3,
+      one_reload_of s x t u f g t' u' f' g' p a v c a' v' c' r r3 same q q3,
     )
 
 -- two reloads of one preemptor are one job's
@@ -327,5 +330,5 @@ pub same_job : (s : Start) (x t u : ℕ) (f g : Fetch) (x' t' u' : ℕ) (f' g' :
     IsOwnReload s x t u f g → IsOwnReload s x' t' u' f' g' → IsPreemptor s x p t a v c f
     → IsPreemptor s x' p' t' a' v' c' f' → p ≡ p' → x ≡ x'
 same_job s x t u f g x' t' u' f' g' p p' a v c a' v' c' cached r r' q q' e =
-    one_job_per_preemptor.one_job s x t u f g x' t' u' f' g' p a v c a' v' c' cached r r' q
+    one_job_of s x t f x' t' f' p a v c a' v' c' q
     (subst (λ k. IsPreemptor s x' k t' a' v' c' f') (sym e) q')

@@ -28,7 +28,8 @@ use Rattle.run_account.proofs.JobWalks.{nodes_fetch, kept_one, each_kept, addres
 use Rattle.run_account.proofs.JobWalks.{fetcher_below, ledger_reload_is_own, nodes_step}
 use Rattle.run_account.proofs.OneLedger.{last_job}
 use Rattle.run_account.proofs.ReloadLaws.{same_fetch, gap_is_of_higher, evictor_is_other}
-use Rattle.run_account.proofs.ReloadLaws.{one_reload_per_evictor_and_set, one_job_per_preemptor}
+use Rattle.run_account.proofs.ReloadLaws.{one_reload_per_evictor_and_set, one_job_of}
+use Rattle.run_account.proofs.ReloadLaws.{one_reload_of}
 
 -- nodes at the end
 pub onto_last : (later : List ℕ) (z : ℕ) (w : List ℕ) → onto (later ++ z ∷ []) w ≡ z ∷ onto later w
@@ -209,8 +210,8 @@ module _ (s : Start) (graphs : ℕ → TaskGraph) (c : Certificate)
 
     preemptor_passes : RunsInGap s e.job e.preemptor r.preempted.from r.preempted.until
     preemptor_passes =
-        gap_is_of_higher s e.job e.preemptor r.preempted.from P.at r.preempted.until P.from P.fetch
-        P.to P.after P.until P.gap.begins P.by P.gap.ends P.other
+        gap_is_of_higher s e.job e.preemptor r.preempted.from P.passes.at r.preempted.until P.lies.from P.passes.fetch
+        P.lies.to P.passes.after P.passes.until P.lies.gap.begins P.passes.by P.lies.gap.ends P.passes.other
 
     -- the last fetch of the one is that of the other
     same_evictor : P.evictor.job ≡ e.evictor
@@ -222,7 +223,7 @@ module _ (s : Start) (graphs : ℕ → TaskGraph) (c : Certificate)
     not_after : (e.evictor ≡ e.preemptor) ⊎ (before (state s 0).jobs e.evictor e.preemptor ≡ true)
     not_after =
         subst (λ y. (y ≡ e.preemptor) ⊎ (before (state s 0).jobs y e.preemptor ≡ true)) same_evictor
-        (P.latest r.preempted.time P.evictor P.gap.after P.gap.until P.last.is)
+        (P.passes.latest r.preempted.time P.evictor P.lies.gap.after P.lies.gap.until P.last.is)
 
     evicts : IsTrue (has (certified_task c (job_task s e.evictor)).part.evicting e.set)
     evicts =
@@ -250,14 +251,14 @@ module _ (s : Start) (graphs : ℕ → TaskGraph) (c : Certificate)
     away : (m : ℕ) (g : Fetch) → r.preempted.until ≤ m → m < e.time → FetchesAt s e.job m g
         → fetched_set s g ≢ e.set
     away m g l k f q =
-        let u = P.gap.until in P.last.last m g (omega arith) k f.is (q ∙ sym r.to_set)
+        let u = P.lies.gap.until in P.last.last m g (omega arith) k f.is (q ∙ sym r.to_set)
 
     carried : FullUseful (graphs (job_task s e.job)).graph
         (accesses s.system.platform (graphs (job_task s e.job)).places.address)
         (listed_of (certified_task c (job_task s e.job)))
         (node_of_job (graphs (job_task s e.job)) (job_after s r.preempted.until e.job)) e.set
     carried =
-        carried_to s graphs A e.job below r.preempted.until e.time e.set P.to P.gap.ends kept away
+        carried_to s graphs A e.job below r.preempted.until e.time e.set P.lies.to P.lies.gap.ends kept away
         (certified_task c (job_task s e.job)) (M e.job below) P.in_time r.evicted.fetch
         r.evicted.reload.fetches r.to_set r.evicted.reload.counted
 
@@ -265,7 +266,7 @@ module _ (s : Start) (graphs : ℕ → TaskGraph) (c : Certificate)
         < (graphs (job_task s e.job)).graph.size
     node_below =
         let k = kept r.preempted.until P.in_time in
-        (address_at s graphs A e.job below r.preempted.until P.to P.gap.ends
+        (address_at s graphs A e.job below r.preempted.until P.lies.to P.lies.gap.ends
         (each_kept s graphs r.preempted.until e.job below k)).below
 
     pub of_higher : IsOfHigher s graphs c e r
@@ -311,12 +312,9 @@ module _ (s : Start) (graphs : ℕ → TaskGraph) (c : Certificate)
 
     one_job : d.preemptor ≡ e.preemptor → d.job ≡ e.job
     one_job p =
-        let D = reload_of d q in
-        let E = reload_of e r in
-        one_job_per_preemptor.one_job s d.job d.time D.time q.evicted.fetch D.own e.job e.time
-        E.time r.evicted.fetch E.own d.preemptor
+        one_job_of s d.job d.time q.evicted.fetch e.job e.time r.evicted.fetch d.preemptor
         q.preempted.from q.preempted.time q.preempted.until r.preempted.from r.preempted.time
-        r.preempted.until cached D.reload E.reload (preemptor_of d q) (by_first p)
+        r.preempted.until (preemptor_of d q) (by_first p)
 
     distinct_preemptor : d.preemptor ≡ e.preemptor → d.set ≢ e.set
     distinct_preemptor p k =
@@ -329,10 +327,10 @@ module _ (s : Start) (graphs : ℕ → TaskGraph) (c : Certificate)
         r.preempted.until r.evicted.fetch =
         subst (λ i. IsPreemptor s i d.preemptor e.time r.preempted.from r.preempted.time
         r.preempted.until r.evicted.fetch) (sym job) (by_first p) in
-        let same = one_job_per_preemptor.one_reload s d.job d.time D.time q.evicted.fetch D.own
-        e.time E.time r.evicted.fetch E.own d.preemptor
-        q.preempted.from q.preempted.time q.preempted.until r.preempted.from r.preempted.time
-        r.preempted.until cached D.reload again (same_set k) (preemptor_of d q) preemptor in
+        let same = one_reload_of s d.job d.time D.time q.evicted.fetch D.own e.time E.time
+        r.evicted.fetch E.own d.preemptor q.preempted.from q.preempted.time q.preempted.until
+        r.preempted.from r.preempted.time r.preempted.until D.reload again (same_set k)
+        (preemptor_of d q) preemptor in
         omega arith
 
     pub one_until : d.preemptor ≡ e.preemptor → q.preempted.until ≡ r.preempted.until

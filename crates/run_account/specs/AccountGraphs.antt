@@ -36,6 +36,7 @@ pub record MeetsTask (set : TaskSet) (graphs : List CodeGraph) (c : Certificate)
   pub listing : let g = graph_at graphs i in
       MeetsListing (graph_of g) (node_accesses set.platform g) (listed_of (certified_task c i))
 
+-- each task is so met
 abbrev pub TasksAreMet : TaskSet → List CodeGraph → Certificate → Type 0
 TasksAreMet set graphs c = (i : ℕ) → i < length set.tasks → MeetsTask set graphs c i
 

@@ -49,6 +49,7 @@ pub record AreDistinct (s : Start) (graphs : ℕ → TaskGraph) (c : Certificate
   pub until : d.preemptor ≡ e.preemptor → (q : IsOfRun s graphs c d) (r : IsOfRun s graphs c e)
       → q.preempted.until ≡ r.preempted.until
 
+-- the facts of a ledger: of each of its reloads, and of any two
 pub record HasFacts (s : Start) (graphs : ℕ → TaskGraph) (c : Certificate)
     (ledger : List LedgerReload) : Type 0 where
   pub of_higher : All (λ (e : LedgerReload). (r : IsOfRun s graphs c e) → IsOfHigher s graphs c e r)

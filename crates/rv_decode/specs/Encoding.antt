@@ -20,21 +20,25 @@ abbrev pub signed_bits : ℕ → ℤ → ℕ
 signed_bits n (pos k) = k
 signed_bits n (negsuc k) = 2 ^ n - 1 - k
 
--- where the forms put an immediate's bits
+-- the word of the I form, by where it puts an immediate's bits
 abbrev pub i_word : ℕ → ℕ → ℕ → ℕ → ℕ → ℕ
 i_word o f d a m = word_of_fields o d f a (m % 2 ^ 5) (m / 2 ^ 5)
 
+-- the word of the S form
 abbrev pub s_word : ℕ → ℕ → ℕ → ℕ → ℕ → ℕ
 s_word o f a b m = word_of_fields o (m % 2 ^ 5) f a b (m / 2 ^ 5)
 
+-- the word of the B form
 abbrev pub b_word : ℕ → ℕ → ℕ → ℕ → ℕ → ℕ
 b_word o f a b m =
     word_of_fields o (m / 2 ^ 11 % 2 + m / 2 % 2 ^ 4 * 2) f a b
     (m / 2 ^ 5 % 2 ^ 6 + m / 2 ^ 12 * 2 ^ 6)
 
+-- the word of the U form
 abbrev pub u_word : ℕ → ℕ → ℕ → ℕ
 u_word o d upper = o + d * 2 ^ 7 + upper * 2 ^ 12
 
+-- the word of the J form
 abbrev pub j_word : ℕ → ℕ → ℕ → ℕ
 j_word o d m =
     u_word o d (m / 2 ^ 12 % 2 ^ 8 + m / 2 ^ 11 % 2 * 2 ^ 8 + m / 2 % 2 ^ 10 * 2 ^ 9

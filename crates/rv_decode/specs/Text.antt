@@ -17,6 +17,7 @@ register n = codes "x" ++ decimal n
 abbrev pub two_operands : List ℕ → List ℕ → List ℕ → List ℕ
 two_operands name x y = name ++ codes " " ++ x ++ codes "," ++ y
 
+-- an instruction with three operands
 abbrev pub three_operands : List ℕ → List ℕ → List ℕ → List ℕ → List ℕ
 three_operands name x y z = name ++ codes " " ++ x ++ codes "," ++ y ++ codes "," ++ z
 

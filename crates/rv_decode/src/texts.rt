@@ -13,29 +13,20 @@ use std::alloc::Global;
 fn r_text(alloc: Global, name: &str, rd: u8, rs1: u8, rs2: u8) -> Result<String, Memory>
     ensures { IfOk result (λ s. string_bytes s ≡ r_text name.now rd rs1 rs2) }
 {
-    match format!(in alloc; "{name} x{rd},x{rs1},x{rs2}") {
-        Ok(text) => Ok(text),
-        Err(_) => Err(Memory),
-    }
+    Ok(format!(in alloc; "{name} x{rd},x{rs1},x{rs2}")?)
 }
 
 /// Two registers and a number: the I form, and branches.
 fn i_text(alloc: Global, name: &str, rd: u8, rs1: u8, imm: i32) -> Result<String, Memory>
     ensures { IfOk result (λ s. string_bytes s ≡ i_text name.now rd rs1 imm) }
 {
-    match format!(in alloc; "{name} x{rd},x{rs1},{imm}") {
-        Ok(text) => Ok(text),
-        Err(_) => Err(Memory),
-    }
+    Ok(format!(in alloc; "{name} x{rd},x{rs1},{imm}")?)
 }
 
 fn shift_text(alloc: Global, name: &str, rd: u8, rs1: u8, amount: u8) -> Result<String, Memory>
     ensures { IfOk result (λ s. string_bytes s ≡ shift_text name.now rd rs1 amount) }
 {
-    match format!(in alloc; "{name} x{rd},x{rs1},{amount}") {
-        Ok(text) => Ok(text),
-        Err(_) => Err(Memory),
-    }
+    Ok(format!(in alloc; "{name} x{rd},x{rs1},{amount}")?)
 }
 
 fn address_text(
@@ -47,37 +38,25 @@ fn address_text(
 ) -> Result<String, Memory>
     ensures { IfOk result (λ s. string_bytes s ≡ address_text name.now register imm base) }
 {
-    match format!(in alloc; "{name} x{register},{imm}(x{base})") {
-        Ok(text) => Ok(text),
-        Err(_) => Err(Memory),
-    }
+    Ok(format!(in alloc; "{name} x{register},{imm}(x{base})")?)
 }
 
 fn j_text(alloc: Global, name: &str, rd: u8, imm: i32) -> Result<String, Memory>
     ensures { IfOk result (λ s. string_bytes s ≡ j_text name.now rd imm) }
 {
-    match format!(in alloc; "{name} x{rd},{imm}") {
-        Ok(text) => Ok(text),
-        Err(_) => Err(Memory),
-    }
+    Ok(format!(in alloc; "{name} x{rd},{imm}")?)
 }
 
 fn u_text(alloc: Global, name: &str, rd: u8, upper: u32) -> Result<String, Memory>
     ensures { IfOk result (λ s. string_bytes s ≡ u_text name.now rd upper) }
 {
-    match format!(in alloc; "{name} x{rd},{upper}") {
-        Ok(text) => Ok(text),
-        Err(_) => Err(Memory),
-    }
+    Ok(format!(in alloc; "{name} x{rd},{upper}")?)
 }
 
 fn name_text(alloc: Global, name: &str) -> Result<String, Memory>
     ensures { IfOk result (λ s. string_bytes s ≡ name.now) }
 {
-    match String::from_str(alloc, name) {
-        Ok(text) => Ok(text),
-        Err(_) => Err(Memory),
-    }
+    Ok(String::from_str(alloc, name)?)
 }
 
 macro_rules! name_rows {

@@ -11,24 +11,24 @@ use crate::table::instruction_table;
 
 /// What stands in the places of rd, rs1, rs2 and funct7.
 #[derive(Clone, Copy)]
-struct Parts {
+struct FieldValues {
     rd: u32,
     rs1: u32,
     rs2: u32,
     funct7: u32,
 }
 
-fn assemble(opcode: u32, funct3: u32, parts: Parts) -> u32
+fn assemble(opcode: u32, funct3: u32, values: FieldValues) -> u32
     requires opcode { opcode < 2 ^ 7 }
     requires funct3 { funct3 < 2 ^ 3 }
-    requires rd { parts.rd < 2 ^ 5 }
-    requires rs1 { parts.rs1 < 2 ^ 5 }
-    requires rs2 { parts.rs2 < 2 ^ 5 }
-    requires funct7 { parts.funct7 < 2 ^ 7 }
-    ensures { result ≡ word_of_fields opcode parts.rd funct3 parts.rs1 parts.rs2 parts.funct7 }
+    requires rd { values.rd < 2 ^ 5 }
+    requires rs1 { values.rs1 < 2 ^ 5 }
+    requires rs2 { values.rs2 < 2 ^ 5 }
+    requires funct7 { values.funct7 < 2 ^ 7 }
+    ensures { result ≡ word_of_fields opcode values.rd funct3 values.rs1 values.rs2 values.funct7 }
 {
-    let low = opcode + (parts.rd << 7) + (funct3 << 12);
-    low + (parts.rs1 << 15) + (parts.rs2 << 20) + (parts.funct7 << 25)
+    let low = opcode + (values.rd << 7) + (funct3 << 12);
+    low + (values.rs1 << 15) + (values.rs2 << 20) + (values.funct7 << 25)
 }
 
 /// The `count` bits of a signed number.
@@ -55,13 +55,13 @@ fn r_word(opcode: u32, funct3: u32, funct7: u32, rd: u8, rs1: u8, rs2: u8) -> u3
     requires rs2 { rs2 < 32 }
     ensures { result ≡ word_of_fields opcode rd funct3 rs1 rs2 funct7 }
 {
-    let parts = Parts {
+    let values = FieldValues {
         rd: rd as u32,
         rs1: rs1 as u32,
         rs2: rs2 as u32,
         funct7,
     };
-    assemble(opcode, funct3, parts)
+    assemble(opcode, funct3, values)
 }
 
 /// The I form, and FENCE, whose bits 31 to 20 are these.
@@ -73,13 +73,13 @@ fn i_word(opcode: u32, funct3: u32, rd: u8, rs1: u8, high: u32) -> u32
     requires high { high < 2 ^ 12 }
     ensures { result ≡ i_word opcode funct3 rd rs1 high }
 {
-    let parts = Parts {
+    let values = FieldValues {
         rd: rd as u32,
         rs1: rs1 as u32,
         rs2: high % 32,
         funct7: high / 32,
     };
-    assemble(opcode, funct3, parts)
+    assemble(opcode, funct3, values)
 }
 
 fn s_word(opcode: u32, funct3: u32, rs1: u8, rs2: u8, imm: i32) -> u32
@@ -91,13 +91,13 @@ fn s_word(opcode: u32, funct3: u32, rs1: u8, rs2: u8, imm: i32) -> u32
     ensures { result ≡ s_word opcode funct3 rs1 rs2 (signed_bits 12 imm) }
 {
     let imm = bits_of(imm, 12);
-    let parts = Parts {
+    let values = FieldValues {
         rd: imm % 32,
         rs1: rs1 as u32,
         rs2: rs2 as u32,
         funct7: imm / 32,
     };
-    assemble(opcode, funct3, parts)
+    assemble(opcode, funct3, values)
 }
 
 fn b_word(opcode: u32, funct3: u32, rs1: u8, rs2: u8, imm: i32) -> u32
@@ -109,13 +109,13 @@ fn b_word(opcode: u32, funct3: u32, rs1: u8, rs2: u8, imm: i32) -> u32
     ensures { result ≡ b_word opcode funct3 rs1 rs2 (signed_bits 13 imm) }
 {
     let imm = bits_of(imm, 13);
-    let parts = Parts {
+    let values = FieldValues {
         rd: (imm >> 11) % 2 + (imm >> 1) % 16 * 2,
         rs1: rs1 as u32,
         rs2: rs2 as u32,
         funct7: (imm >> 5) % 64 + (imm >> 12) * 64,
     };
-    assemble(opcode, funct3, parts)
+    assemble(opcode, funct3, values)
 }
 
 fn u_word(opcode: u32, rd: u8, upper: u32) -> u32

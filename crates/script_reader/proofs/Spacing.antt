@@ -15,7 +15,8 @@ use Rattle.std.proofs.lemmas.List.Sorted.{IsPermutation-keeps}
 use Rattle.crpd_base.proofs.Elements.{pairs_head, pairs_tail}
 use Rattle.crpd_base.specs.declared.data.ScriptJob.{ScriptJob}
 use Rattle.crpd_base.specs.declared.data.TaskSet.{TaskSet}
-use Rattle.script_reader.specs.Legal.{AreApart, AreSpaced, period_of}
+use Rattle.crpd_base.specs.Tasks.{period_of}
+use Rattle.crpd_base.specs.Arrivals.{AreApart, AreSpaced}
 use Rattle.script_reader.specs.Inner.Legal.{AreAllApart, EachIsSpaced, AreSpacedPairs, arrivals_of}
 
 -- ---- pairs

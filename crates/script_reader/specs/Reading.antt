@@ -26,12 +26,14 @@ script_error (fault.Missing key) = Missing key
 script_error (fault.BadValue key) = BadValue key
 script_error (fault.UnknownKey key) = UnknownKey key
 
+-- what a key has, with its fault as one of the script
 abbrev pub of_script : {A : Type 0} → Result A KeyError → Result A ScriptError
 of_script (Ok x) = Ok x
 of_script (Err e) = Err (script_error e)
 
 -- ---- jobs
 
+-- the keys of a job
 unfoldable pub job_keys : List (List ℕ)
 job_keys = codes "task" ∷ codes "arrival" ∷ codes "release" ∷ []
 
@@ -45,6 +47,7 @@ task_or_unknown path (Some i) =
 unfoldable pub task_named : List ℕ → List ℕ → TaskSet → Result ℕ ScriptError
 task_named path name set = task_or_unknown path (place_of_name set.tasks name)
 
+-- a job from its table
 unfoldable pub job_at : TaskSet → List ℕ → Members → Result ScriptJob ScriptError
 job_at set path ms = do
   _ ← of_script (all_known job_keys path ms)
@@ -58,6 +61,7 @@ job_at set path ms = do
 abbrev pub nth_job : TaskSet → ℕ → Members → Result ScriptJob ScriptError
 nth_job set i = job_at set (item_path [] (codes "job") i)
 
+-- the jobs from the document
 unfoldable pub jobs_at : TaskSet → Members → Result (List ScriptJob) ScriptError
 jobs_at set ms = do
   tables ← of_script (optional [] (listed as_table) [] (codes "job") ms)
@@ -66,6 +70,7 @@ jobs_at set ms = do
 
 -- ---- the script
 
+-- the keys of a script
 unfoldable pub script_keys : List (List ℕ)
 script_keys = codes "cycles" ∷ codes "cache" ∷ codes "job" ∷ []
 
@@ -74,6 +79,7 @@ unfoldable pub is_above : ℕ → Data → Bool
 is_above n (integer (pos m)) = nat_lt n m
 is_above n _ = false
 
+-- the number of cycles from the document
 unfoldable pub cycles_at : Members → Result ℕ ScriptError
 cycles_at ms = do
   d ← of_script (value_at_key [] (codes "cycles") ms)
@@ -84,6 +90,7 @@ cycles_at ms = do
 abbrev pub block : Data → Option ℕ
 block = whole 0 4294967295
 
+-- a script from its document
 unfoldable pub script_at : TaskSet → Members → Result Script ScriptError
 script_at set ms = do
   _ ← of_script (all_known script_keys [] ms)
@@ -92,6 +99,7 @@ script_at set ms = do
   jobs ← jobs_at set ms
   Ok (record { cycles = cycles; cache = cache; jobs = jobs })
 
+-- and from a text that may be no document
 abbrev pub document : TaskSet → Option Members → Result Script ScriptError
 document set None = Err NotToml
 document set (Some ms) = script_at set ms

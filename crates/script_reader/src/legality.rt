@@ -2,7 +2,7 @@ ghost use Rattle.std.specs.Prelude.{◌≡◌, ℕ, ◌<◌, ◌≤◌, ◌↔�
 ghost use Rattle.std.specs.Prelude.{All};
 ghost use Rattle.std.specs.List.Sorted.{IsNonDecreasing};
 ghost use Rattle.crpd_base.specs.Limits.{most_jobs};
-ghost use Rattle.script_reader.specs.Legal.{AreApart, IsReleasedInTime, IsLegal};
+ghost use Rattle.crpd_base.specs.Arrivals.{AreApart, IsReleasedInTime, IsLegal};
 ghost use Rattle.script_reader.specs.Inner.Legal.{AreAllApart, AreSpacedPairs, EachIsSpaced};
 ghost use Rattle.script_reader.specs.Inner.Legal.{IsSpacedBy, arrivals_of};
 

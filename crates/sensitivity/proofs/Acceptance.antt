@@ -14,8 +14,8 @@ use Rattle.response.proofs.WindowLaws.{smaller_or_none}
 use Rattle.response.proofs.Choices.{choices_more}
 use Rattle.response.proofs.Least.{looks_above}
 use Rattle.cert_check.specs.JudgeInput.{longest_at}
-use Rattle.sensitivity.specs.declared.slack.Stop.{Stop}
-use Rattle.sensitivity.specs.declared.slack.Stop.TheVariants.{Limit, Window, Bound}
+use Rattle.crpd_base.specs.declared.data.Stop.{Stop}
+use Rattle.crpd_base.specs.declared.data.Stop.TheVariants.{Limit, Window, Bound}
 use Rattle.sensitivity.specs.Costs.{platform_with_costs, with_costs}
 use Rattle.sensitivity.specs.Accepted.{IsLeastBound, IsAnalysedPart, AreAnalysedParts, IsAccepted}
 use Rattle.sensitivity.specs.Accepted.{IsFirstTooLarge, IsFirstLate, IsStop}

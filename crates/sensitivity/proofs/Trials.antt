@@ -15,8 +15,8 @@ use Rattle.cert_check.specs.TaskGraphs.{task_graph_at, nest_at, AreTaskGraphs}
 use Rattle.sensitivity.specs.declared.cost.Cost.{Cost}
 use Rattle.sensitivity.specs.declared.cost.Cost.TheVariants.{Switch, Miss}
 use Rattle.sensitivity.specs.Costs.{platform_with_costs, with_switch}
-use Rattle.sensitivity.specs.declared.slack.Stop.{Stop}
-use Rattle.sensitivity.specs.declared.slack.Stop.TheVariants.{Limit, Bound}
+use Rattle.crpd_base.specs.declared.data.Stop.{Stop}
+use Rattle.crpd_base.specs.declared.data.Stop.TheVariants.{Limit, Bound}
 use Rattle.sensitivity.specs.Accepted.{IsLeastBound, IsAccepted, IsFirstTooLarge, IsStop}
 use Rattle.sensitivity.specs.Slack.{IsSlack}
 use Rattle.sensitivity.specs.Laws.{IsLoopBounded, StaysAccepted, NeverStops}

@@ -6,8 +6,7 @@ mod cost;
 mod greatest;
 mod laws;
 mod search;
-mod slack;
 
+pub use crpd_base::{Slack, Stop};
 pub use greatest::{greatest_miss, greatest_switch};
 pub use laws::{acceptance_law, costs_law};
-pub use slack::{Slack, Stop};

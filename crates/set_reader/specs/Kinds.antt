@@ -14,17 +14,21 @@ use Rattle.toml_keys.specs.Reading.{whole}
 
 -- ---- the platform
 
+-- the length of a cache line in bytes
 unfoldable pub line_bytes : Data → Option ℕ
 line_bytes d = only is_line_length (whole 4 64 d)
 
+-- where a switch may happen, by its name
 unfoldable pub switching : Data → Option Switching
 switching d = option_and_then switching_named (as_str d)
 
 -- ---- texts
 
+-- a text that may name a task
 unfoldable pub name : Data → Option (List ℕ)
 name d = only is_name (as_str d)
 
+-- a text that may name a file
 unfoldable pub file : Data → Option (List ℕ)
 file d = only is_file (as_str d)
 
@@ -49,6 +53,7 @@ digits radix n (c ∷ cs) =
 abbrev pub digits_number : ℕ → ℕ → List ℕ → Option ℕ
 digits_number radix most cs = if is_between 1 most (length cs) then digits radix 0 cs else None
 
+-- whether a text begins with `0x`
 abbrev pub starts_with_0x : List ℕ → Bool
 starts_with_0x (a ∷ b ∷ cs) = a == 48 && b == 120
 starts_with_0x _ = false
@@ -57,6 +62,7 @@ starts_with_0x _ = false
 unfoldable pub offset : List ℕ → Option ℕ
 offset cs = if starts_with_0x cs then digits_number 16 8 (drop 2 cs) else digits_number 10 10 cs
 
+-- the byte `+`
 abbrev pub is_plus : ℕ → Bool
 is_plus b = b == 43
 
@@ -72,14 +78,17 @@ place_named s =
     then option_and_then (symbol (before_first is_plus s)) (offset (after_first is_plus s))
     else symbol s 0
 
+-- a place: a number below 2^32, or a text that names a symbol, with or without an offset
 unfoldable pub place : Data → Option Place
 place (integer (pos n)) = if nat_lt n (2 ^ 32) then Some (Number n) else None
 place (string s) = place_named s
 place _ = None
 
+-- two values as a pair of places
 abbrev pub place_pair : Data → Data → Option (Place × Place)
 place_pair from to = option_and_then (λ a. option_map (λ b. (a, b)) (place to)) (place from)
 
+-- a pair of places, of exactly two items
 unfoldable pub two_places : Items → Option (Place × Place)
 two_places (item from (item to no_items)) = place_pair from to
 two_places _ = None

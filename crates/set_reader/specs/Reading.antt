@@ -29,6 +29,7 @@ use Rattle.set_reader.specs.Kinds as kind
 
 -- ---- the platform
 
+-- the keys of a platform
 unfoldable pub platform_keys : List (List ℕ)
 platform_keys =
     codes "line" ∷ codes "sets" ∷ codes "hit" ∷ codes "miss" ∷ codes "data" ∷ codes "taken"
@@ -38,6 +39,7 @@ platform_keys =
 abbrev pub cycles : Data → Option ℕ
 cycles = whole 0 most_cost
 
+-- the platform in a table, or the first refusal
 unfoldable pub platform_at : List ℕ → Members → Result Platform KeyError
 platform_at path ms = do
   _ ← all_known platform_keys path ms
@@ -66,9 +68,11 @@ platform_at path ms = do
 
 -- ---- loops
 
+-- the keys of a loop
 unfoldable pub loop_keys : List (List ℕ)
 loop_keys = codes "head" ∷ codes "bound" ∷ codes "range" ∷ []
 
+-- the stated loop in a table, or the first refusal
 unfoldable pub loop_at : List ℕ → Members → Result LoopSpec KeyError
 loop_at path ms = do
   _ ← all_known loop_keys path ms
@@ -81,9 +85,11 @@ loop_at path ms = do
 abbrev pub nth_loop : List ℕ → ℕ → Members → Result LoopSpec KeyError
 nth_loop path i = loop_at (item_path path (codes "loop") i)
 
+-- at most 64 tables in an array
 abbrev pub loop_tables : Data → Option (List Members)
 loop_tables d = at_most most_loops (listed as_table d)
 
+-- the stated loops of a task's table, none where it names none, or the first refusal
 unfoldable pub loops_at : List ℕ → Members → Result (List LoopSpec) KeyError
 loops_at path ms = do
   tables ← optional [] loop_tables path (codes "loop") ms
@@ -91,14 +97,17 @@ loops_at path ms = do
 
 -- ---- tasks
 
+-- the keys of a task
 unfoldable pub task_keys : List (List ℕ)
 task_keys =
     codes "name" ∷ codes "file" ∷ codes "entry" ∷ codes "period" ∷ codes "deadline" ∷ codes "jitter"
     ∷ codes "stack" ∷ codes "global" ∷ codes "loop" ∷ []
 
+-- the place of an entry that is stated
 abbrev pub entry_place : Data → Option (Option Place)
 entry_place d = option_map (λ p. Some p) (kind.place d)
 
+-- the task in a table, whose deadline may be past its period, or the first refusal
 unfoldable pub fields_at : List ℕ → Members → Result TaskSpec KeyError
 fields_at path ms = do
   _ ← all_known task_keys path ms
@@ -130,6 +139,7 @@ set_error (fault.Missing key) = Missing key
 set_error (fault.BadValue key) = BadValue key
 set_error (fault.UnknownKey key) = UnknownKey key
 
+-- a value or a key's refusal, as those of a set
 abbrev pub of_set : {A : Type 0} → Result A KeyError → Result A SetError
 of_set (Ok x) = Ok x
 of_set (Err e) = Err (set_error e)
@@ -144,6 +154,7 @@ task_at i ms = do
 
 -- ---- the set
 
+-- whether one of the tasks has this name
 abbrev pub occurs : List ℕ → List TaskSpec → Bool
 occurs name tasks = list_any (λ (t : TaskSpec). bytes_eq name t.name) tasks
 
@@ -153,13 +164,16 @@ repeated_after earlier [] = None
 repeated_after earlier (t ∷ ts) =
     if occurs t.name earlier then Some (length earlier) else repeated_after (earlier ++ t ∷ []) ts
 
+-- the tasks where no name comes again, else the refusal of the first that does
 abbrev pub distinct_or_refused : List TaskSpec → Option ℕ → Result (List TaskSpec) SetError
 distinct_or_refused tasks None = Ok tasks
 distinct_or_refused tasks (Some i) = Err (SameName (item_path [] (codes "task") i ++ codes "name"))
 
+-- the tasks where their names differ, else the refusal of the first repeated name
 unfoldable pub distinct : List TaskSpec → Result (List TaskSpec) SetError
 distinct tasks = distinct_or_refused tasks (repeated_after [] tasks)
 
+-- the keys of a set
 unfoldable pub set_keys : List (List ℕ)
 set_keys = codes "platform" ∷ codes "task" ∷ []
 
@@ -167,6 +181,7 @@ set_keys = codes "platform" ∷ codes "task" ∷ []
 abbrev pub task_tables : Data → Option (List Members)
 task_tables d = only (λ ts. nat_le 1 (length ts)) (listed as_table d)
 
+-- the tasks of a set's table, or the first refusal
 unfoldable pub tasks_at : Members → Result (List TaskSpec) SetError
 tasks_at ms = do
   tables ← of_set (required task_tables [] (codes "task") ms)
@@ -174,6 +189,7 @@ tasks_at ms = do
       else each task_at 0 tables
   distinct tasks
 
+-- the set of a document's keys, or the first refusal
 unfoldable pub set_at : Members → Result TaskSet SetError
 set_at ms = do
   _ ← of_set (all_known set_keys [] ms)
@@ -182,6 +198,7 @@ set_at ms = do
   tasks ← tasks_at ms
   Ok (record { platform = platform; tasks = tasks })
 
+-- the set of a text's keys; a text that is no TOML is refused
 abbrev pub document : Option Members → Result TaskSet SetError
 document None = Err NotToml
 document (Some ms) = set_at ms

@@ -2,7 +2,6 @@
 -- delays.
 pub mod FromHigher
 pub mod UnionCount
-pub mod Choices
 pub mod ChoiceCount
 pub mod WindowReloads
 pub mod WindowDelays

@@ -11,8 +11,10 @@ use Rattle.crpd_base.specs.declared.data.TaskSet.{TaskSet}
 use Rattle.crpd_base.specs.Ranges.{IsTaskSet}
 use Rattle.rv_decode.specs.Flow.{IsCodeMap}
 use Rattle.code_map.specs.Words.{Code, word_at}
-use Rattle.script_reader.specs.Legal.{IsLegal}
-use Rattle.delay_count.specs.Gamma.{gamma_ucb, gamma_ecb}
+use Rattle.crpd_base.specs.Arrivals.{IsLegal}
+use Rattle.crpd_base.specs.declared.data.Method.{Method}
+use Rattle.crpd_base.specs.declared.data.Method.TheVariants.{Ucb, Ecb}
+use Rattle.delay_count.specs.Demand.{gamma}
 use Rattle.loop_regions.specs.TaskGraph.{TaskGraph}
 use Rattle.cert_check.specs.JudgeInput.{IsGraphOf, window_at, certified_part}
 use Rattle.cert_check.specs.Verdict.{IsYes}
@@ -67,33 +69,23 @@ CheckedCodeIsBounded =
 abbrev pub is_in_window : ℕ → ℕ → ℕ → Entry → Bool
 is_in_window i start answer e = nat_le start e.time && nat_lt e.time answer && nat_le e.job.task.0 i
 
--- those with an evictor of task j, and those with a preemptor of task j
-abbrev pub has_evictor : ℕ → Entry → Bool
-has_evictor j e = e.evictor.task.0 == j
+-- the task to whose job a method charges a reload
+abbrev pub charged_task : Method → Entry → ℕ
+charged_task Ucb e = e.evictor.task.0
+charged_task Ecb e = e.preemptor.task.0
 
-abbrev pub has_preemptor : ℕ → Entry → Bool
-has_preemptor j e = e.preemptor.task.0 == j
-
--- of an account of a script's run: take a job that has answered, the start of its window, and a
--- task j above its task i. The reloads of the window with an evictor of j take at most the
--- UCB-union delay of j in i's window, and those with a preemptor of j at most the ECB-union delay,
--- with the certificate's parts and windows
-pub record IsWithinDelays (set : TaskSet) (code : Code) (script : Script) (c : Certificate)
-    (a : Account) : Type 0 where
-  pub ucb : (x start answer j : ℕ) → x < length script.jobs
-      → (completion a.completions x).«end» ≡ «end».Answered answer →
-      IsWindowStart (start_of_script set code script) x start →
-      let i = (script_line script.jobs x).task.0 in j < i →
-      count_by (λ (e : Entry). is_in_window i start answer e && has_evictor j e)
-      a.entries * set.platform.miss
-      ≤ gamma_ucb set (certified_part c) (window_at c) (window_at c i) i j
-  pub ecb : (x start answer j : ℕ) → x < length script.jobs
-      → (completion a.completions x).«end» ≡ «end».Answered answer →
-      IsWindowStart (start_of_script set code script) x start →
-      let i = (script_line script.jobs x).task.0 in j < i →
-      count_by (λ (e : Entry). is_in_window i start answer e && has_preemptor j e)
-      a.entries * set.platform.miss
-      ≤ gamma_ecb set (certified_part c) (window_at c) (window_at c i) i j
+-- of an account of a script's run, by either method: take a job that has answered, the start of its
+-- window, and a task j above its task i. The reloads of the window that are charged to a job of j
+-- take at most the delay of j in i's window, with the certificate's parts and windows
+abbrev pub IsWithinDelays : TaskSet → Code → Script → Certificate → Account → Type 0
+IsWithinDelays set code script c a =
+    (method : Method) (x start answer j : ℕ) → x < length script.jobs
+    → (completion a.completions x).«end» ≡ «end».Answered answer →
+    IsWindowStart (start_of_script set code script) x start →
+    let i = (script_line script.jobs x).task.0 in j < i →
+    count_by (λ (e : Entry). is_in_window i start answer e && (charged_task method e == j))
+    a.entries * set.platform.miss
+    ≤ gamma set (certified_part c) (window_at c) (window_at c i) method i j
 
 -- after a yes that holds of the account of each legal and kept run from a script's start
 abbrev pub CheckedAccountIsWithinDelays : Type 0

@@ -38,6 +38,7 @@ rest_after plan t p job walk ins (Goto to) =
 rest_after plan t p job walk ins Answer = 0
 rest_after plan t p job walk ins Fault = 0
 
+-- the same of an instruction that there may be
 abbrev pub rest_of_ins : TaskPlan → TaskGraph → Potentials → Job → List ℕ → Option Ins → ℕ
 rest_of_ins plan t p job walk None = 0
 rest_of_ins plan t p job walk (Some ins) =
@@ -66,6 +67,7 @@ goes_on plan job ins (Goto to) =
 goes_on plan job ins Answer = false
 goes_on plan job ins Fault = false
 
+-- the same of an instruction that there may be
 abbrev pub ins_goes_on : TaskPlan → Job → Option Ins → Bool
 ins_goes_on plan job None = false
 ins_goes_on plan job (Some ins) = goes_on plan job ins (next_pc ins job.pc job.registers)
@@ -81,17 +83,19 @@ misses_counted_hit sys t counted u =
     && (counted (node_of_job t u.job)
     && not (is_hit sys.platform u.cache (block_of sys.platform u.job.pc)))
 
--- whether job x uses a cycle of an instruction at step n, and whether it makes a reload there
+-- whether job x uses a cycle of an instruction at step n
 abbrev pub executes : Start → ℕ → ℕ → Bool
 executes s x n =
     is_owner (candidate s.system (state s n)) x
     && ((turn_of s.system (state s n) x).switch_left == 0)
 
+-- and whether it makes a reload there
 abbrev pub makes_reload : Start → TaskGraph → (ℕ → Bool) → ℕ → ℕ → Bool
 makes_reload s t counted x n =
     is_owner (candidate s.system (state s n)) x && misses_counted_hit s.system t counted
     (turn_of s.system (state s n) x)
 
+-- how many numbers below n pass a test
 abbrev pub count_below : (ℕ → Bool) → ℕ → ℕ
 count_below p n = sum_below (λ x. if p x then 1 else 0) n
 

@@ -2,8 +2,10 @@
 use Rattle.std.specs.Prelude.{◌≡◌, ℕ, ◌*◌, ◌<◌, ◌≤◌, ◌==◌, ◌&&◌, nat_lt, nat_le, Bool, List, length}
 use Rattle.std.specs.List.{count_by}
 use Rattle.crpd_base.specs.declared.data.TaskSet.{TaskSet}
+use Rattle.crpd_base.specs.declared.data.Method.{Method}
+use Rattle.crpd_base.specs.declared.data.Method.TheVariants.{Ucb, Ecb}
 use Rattle.crpd_base.specs.declared.data.Certificate.{Certificate}
-use Rattle.delay_count.specs.Gamma.{gamma_ucb, gamma_ecb}
+use Rattle.delay_count.specs.Demand.{gamma}
 use Rattle.loop_regions.specs.TaskGraph.{TaskGraph}
 use Rattle.cert_check.specs.JudgeInput.{window_at, certified_part}
 use Rattle.cert_check.specs.Verdict.{IsYes}
@@ -15,13 +17,12 @@ use Rattle.run_account.specs.Nodes.{job_task}
 use Rattle.run_account.specs.Ledger.{IsWindowStart, LedgerReload, IsLedger}
 use Rattle.sound_laws.specs.Walks.{HasTaskRanges, IsCodeOf, RunsLegally}
 
--- after a yes, a legal run that is kept after n steps, with its ledger, and a job that has
--- answered, with its window's start
+-- a legal run that is kept after n steps, with its ledger, and a job that has answered, with its
+-- window's start
 pub record HasAnswered (s : Start) (set : TaskSet) (graphs : ℕ → TaskGraph) (c : Certificate)
     (n : ℕ) (ledger : List LedgerReload) (x start answer : ℕ) : Type 0 where
   pub in_range : HasTaskRanges set
   pub code : IsCodeOf s.system set graphs
-  pub says : IsYes set graphs c
   pub run : RunsLegally set s
   pub kept : IsKept (state s n)
   pub is_ledger : IsLedger s graphs c n ledger
@@ -35,24 +36,28 @@ abbrev pub is_reload_in_window : Start → ℕ → ℕ → ℕ → LedgerReload 
 is_reload_in_window s x start answer e =
     nat_le start e.time && nat_lt e.time answer && nat_le (job_task s e.job) (job_task s x)
 
--- those with an evictor of task j, and those with a preemptor of task j
-abbrev pub evicted_by : Start → ℕ → LedgerReload → Bool
-evicted_by s j e = job_task s e.evictor == j
+-- the job to which a method charges a reload
+abbrev pub charged_job : Method → LedgerReload → ℕ
+charged_job Ucb e = e.evictor
+charged_job Ecb e = e.preemptor
 
-abbrev pub preempted_by : Start → ℕ → LedgerReload → Bool
-preempted_by s j e = job_task s e.preemptor == j
+-- those that are charged to a job of task j
+abbrev pub charged_to : Method → Start → ℕ → LedgerReload → Bool
+charged_to method s j e = job_task s (charged_job method e) == j
 
--- of each higher task j both delays hold, whichever method the certificate names
-pub record LedgerWithinDelays : Type 0 where
-  pub ucb : (s : Start) (set : TaskSet) (graphs : ℕ → TaskGraph) (c : Certificate) (n : ℕ)
-      (ledger : List LedgerReload) (x start answer j : ℕ) →
-      HasAnswered s set graphs c n ledger x start answer → j < job_task s x →
-      count_by (λ e. is_reload_in_window s x start answer e && evicted_by s j e)
-      ledger * set.platform.miss
-      ≤ gamma_ucb set (certified_part c) (window_at c) (window_at c (job_task s x)) (job_task s x) j
-  pub ecb : (s : Start) (set : TaskSet) (graphs : ℕ → TaskGraph) (c : Certificate) (n : ℕ)
-      (ledger : List LedgerReload) (x start answer j : ℕ) →
-      HasAnswered s set graphs c n ledger x start answer → j < job_task s x →
-      count_by (λ e. is_reload_in_window s x start answer e && preempted_by s j e)
-      ledger * set.platform.miss
-      ≤ gamma_ecb set (certified_part c) (window_at c) (window_at c (job_task s x)) (job_task s x) j
+-- of each higher task j those that a method charges to it take at most a delay
+abbrev pub CoversLedgers : TaskSet → (ℕ → TaskGraph) → Certificate → Method → (ℕ → ℕ → ℕ) → Type 0
+CoversLedgers set graphs c method delay =
+    (s : Start) (n : ℕ) (ledger : List LedgerReload) (x start answer j : ℕ) →
+    HasAnswered s set graphs c n ledger x start answer → j < job_task s x →
+    count_by (λ e. is_reload_in_window s x start answer e && charged_to method s j e)
+    ledger * set.platform.miss
+    ≤ delay (job_task s x) j
+
+-- after a yes, the delay by either method, whichever the certificate names
+abbrev pub LedgerWithinDelays : Type 0
+LedgerWithinDelays =
+    (set : TaskSet) (graphs : ℕ → TaskGraph) (c : Certificate) (method : Method) →
+    IsYes set graphs c →
+    CoversLedgers set graphs c method
+    (λ i. gamma set (certified_part c) (window_at c) (window_at c i) method i)

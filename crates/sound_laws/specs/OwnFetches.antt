@@ -31,6 +31,7 @@ pub record OwnFetchesAgree (s : Start) (t : TaskGraph) (c : TaskPart) (n x : ℕ
       → StateAfter t.graph (accesses_of s.system.platform t) (listed_of c)
       (node_of_job t (job_after s n x)) set m → HasOwn s x set n m
 
+-- after a yes, of an open job whose watch is not broken
 abbrev pub OwnFetchesAgreeLaw : Type 0
 OwnFetchesAgreeLaw =
     (s : Start) (set : TaskSet) (graphs : ℕ → TaskGraph) (c : Certificate) (n x : ℕ) →

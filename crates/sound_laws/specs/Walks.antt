@@ -5,13 +5,18 @@ use Rattle.crpd_base.specs.Limits.{most_sets}
 use Rattle.crpd_base.specs.declared.data.TaskPlan.{TaskPlan}
 use Rattle.crpd_base.specs.declared.data.TaskSet.{TaskSet}
 use Rattle.rv_decode.specs.Flow.{Words, IsCodeMap, flows}
-use Rattle.script_reader.specs.Legal.{period_of, IsLegal}
+use Rattle.crpd_base.specs.Tasks.{period_of}
+use Rattle.crpd_base.specs.Arrivals.{IsLegal}
 use Rattle.flow_watch.specs.Watch.{Frame, is_unbroken}
 use Rattle.flat_graph.specs.Graph.{IsWalk}
 use Rattle.loop_regions.specs.Nest.{IsKeptWalk}
 use Rattle.loop_regions.specs.Watched.{IsWatchedWalk}
 use Rattle.loop_regions.specs.TaskGraph.{TaskGraph}
+use Rattle.crpd_base.specs.declared.data.Certificate.{Certificate}
+use Rattle.evict_sets.specs.ListedPart.{certified_task}
+use Rattle.cert_check.specs.declared.outcome.Clause.{Clause}
 use Rattle.cert_check.specs.JudgeInput.{IsGraphOf}
+use Rattle.cert_check.specs.Verdict.{GraphHolds}
 use Rattle.crpd_base.specs.Tasks.{deadline_of}
 use Rattle.preempt_machine.specs.Machine.{System, Job, plan_of}
 use Rattle.preempt_machine.specs.Step.{is_open, Start}
@@ -40,6 +45,12 @@ pub record IsCodeOf (sys : System) (set : TaskSet) (graphs : ℕ → TaskGraph) 
   pub platform : sys.platform ≡ set.platform
   pub map : IsCodeMap sys.word
   pub graphs_of : (k : ℕ) → k < length set.tasks → IsGraphOf sys.word (plan_of sys k) (graphs k)
+
+-- each task's part of a certificate meets the clauses of the task's graph
+abbrev pub MeetsGraphs : TaskSet → (ℕ → TaskGraph) → Certificate → Type 0
+MeetsGraphs set graphs c =
+    (k : ℕ) (clause : Clause) → k < length set.tasks
+    → GraphHolds set.platform (graphs k) (certified_task c k) clause
 
 -- the nodes before the job's own node, of which it may be in the middle, where these are the nodes
 -- of its fetches

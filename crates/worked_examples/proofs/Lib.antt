@@ -6,5 +6,6 @@ mod LowFiles
 mod TwoWords
 mod OneLoop
 mod TwoTasks
+mod LateTasks
 mod ThreeTasks
 mod WorkedSets

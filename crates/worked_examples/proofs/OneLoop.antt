@@ -10,7 +10,7 @@ use Rattle.rv_decode.specs.Flow.{flow, flows}
 use Rattle.rv_decode.specs.Table.{ins_of_word, table}
 use Rattle.rv_decode.specs.Cost.{work_cost}
 use Rattle.icache.specs.Accesses.{Accesses}
-use Rattle.script_reader.specs.Legal.{period_of}
+use Rattle.crpd_base.specs.Tasks.{period_of}
 use Rattle.flat_graph.specs.FlatGraph.{FlatNode, IsNode, the_first, a_successor, successors}
 use Rattle.flat_graph.specs.FlatGraph.{error_of, HasNoErrors}
 use Rattle.flat_graph.specs.Graph.{Edge, IsWalk, IsGraph, Continues}

@@ -6,7 +6,7 @@ use Rattle.std.proofs.lemmas.Bool.{cases_lt}
 use Rattle.crpd_base.specs.declared.data.Method.TheVariants.{Ucb}
 use Rattle.crpd_base.specs.Ranges.{IsTaskSpec, HaveOwnNames, IsTaskSet}
 use Rattle.code_map.specs.Words.{word_at}
-use Rattle.script_reader.specs.Legal.{AreSpaced, IsReleasedInTime}
+use Rattle.crpd_base.specs.Arrivals.{AreSpaced, IsReleasedInTime}
 use Rattle.rv_decode.specs.declared.Ins.TheVariants.{Jal, Ecall}
 use Rattle.rv_decode.specs.Flow.{flow, IsCodeMap}
 use Rattle.rv_decode.specs.Table.{ins_of_word, table}

@@ -5,7 +5,7 @@ use Rattle.std.proofs.lemmas.Bool.{cases_lt}
 use Rattle.crpd_base.specs.declared.data.Method.TheVariants.{Ucb}
 use Rattle.crpd_base.specs.Ranges.{IsTaskSpec, HaveOwnNames, IsTaskSet}
 use Rattle.code_map.specs.Words.{word_at}
-use Rattle.script_reader.specs.Legal.{AreSpaced, IsReleasedInTime}
+use Rattle.crpd_base.specs.Arrivals.{AreSpaced, IsReleasedInTime}
 use Rattle.rv_decode.specs.Flow.{flow, IsCodeMap}
 use Rattle.rv_decode.specs.Table.{ins_of_word, table}
 use Rattle.rv_decode.specs.Cost.{work_cost}
@@ -68,7 +68,7 @@ code_low =
       one_number = refl;
     }
 
-graphs_of : (k : ℕ) → k < 2 → IsGraphOf (word_at code.images) (plan_of system k) (graphs k)
+pub graphs_of : (k : ℕ) → k < 2 → IsGraphOf (word_at code.images) (plan_of system k) (graphs k)
 graphs_of =
     two (λ k. IsGraphOf (word_at code.images) (plan_of system k) (graphs k))
     (is_graph_of (word_at code.images) 0x2000 (way 0x2000) (is_way 0x2000) code_high)
@@ -183,7 +183,7 @@ least others safe =
     (low_least others safe)
 
 -- the words all end before the address at which jobs end
-is_map : IsCodeMap (word_at code.images)
+pub is_map : IsCodeMap (word_at code.images)
 is_map = low_code code.images refl
 
 pub two_tasks : CheckedCodeIsSafe → TwoTasks

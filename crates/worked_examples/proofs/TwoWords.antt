@@ -4,7 +4,7 @@ use Rattle.rv_decode.specs.declared.Ins.TheVariants.{Addi, Ecall}
 use Rattle.rv_decode.specs.Flow.{flow}
 use Rattle.rv_decode.specs.Table.{ins_of_word, table}
 use Rattle.rv_decode.specs.Cost.{work_cost}
-use Rattle.script_reader.specs.Legal.{period_of}
+use Rattle.crpd_base.specs.Tasks.{period_of}
 use Rattle.crpd_base.specs.Tasks.{deadline_of}
 use Rattle.cert_check.specs.JudgeInput.{IsGraphOf}
 use Rattle.cert_check.specs.declared.outcome.Clause.{Clause}

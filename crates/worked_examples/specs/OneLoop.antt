@@ -24,36 +24,44 @@ words =
     word_in ((0x1000, 0x00300293) ∷ (0x1004, 0xFFF28293) ∷ (0x1008, 0xFE029EE3)
     ∷ (0x100C, 0x00000073) ∷ [])
 
+-- the stated loop: its head, its bound and its one range
 abbrev pub loop : LoopAt
 loop = record { head = 0x1004; bound = 3; ranges = (0x1004, 0x100C) ∷ [] }
 
+-- the task of these words, with that loop
 abbrev pub plan : TaskPlan
 plan = record { entry = 0x1000; stack = 0; global = 0; loops = loop ∷ [] }
 
+-- the machine's system of it
 abbrev pub system : System
 system = record { platform = platform; plans = plan ∷ []; word = words }
 
+-- the set of this task alone
 abbrev pub set : TaskSet
 set = record { platform = platform; tasks = task 100 ∷ [] }
 
+-- the successors of a node
 abbrev pub next_of : ℕ → List ℕ
 next_of zero = 1 ∷ []
 next_of (suc zero) = 2 ∷ []
 next_of (suc (suc zero)) = 3 ∷ 1 ∷ []
 next_of (suc (suc (suc k))) = []
 
+-- the address of a node
 abbrev pub address_of : ℕ → ℕ
 address_of zero = 0x1000
 address_of (suc zero) = 0x1004
 address_of (suc (suc zero)) = 0x1008
 address_of (suc (suc (suc k))) = 0x100C
 
+-- the instruction at a node
 abbrev pub ins_of : ℕ → Ins
 ins_of zero = Addi 5 0 (pos 3)
 ins_of (suc zero) = Addi 5 5 (negsuc 0)
 ins_of (suc (suc zero)) = Bne 5 0 (negsuc 3)
 ins_of (suc (suc (suc k))) = Ecall
 
+-- the graph, with the loop as its one region
 abbrev pub graph : TaskGraph
 graph =
     record {
@@ -68,6 +76,7 @@ graph =
       };
     }
 
+-- the certificate lists three leaders; each round of the loop costs 4 cycles or less
 abbrev pub task_certificate : TaskPart
 task_certificate =
     record {
@@ -83,6 +92,7 @@ task_certificate =
       response = 29;
     }
 
+-- and has this task alone
 abbrev pub certificate : Certificate
 certificate = record { platform = platform; tasks = task_certificate ∷ [] }
 

@@ -21,11 +21,11 @@ abbrev pub word_in : List (ℕ × ℕ) → ℕ → Option ℕ
 word_in [] a = None
 word_in (e ∷ table) a = if a == e.0 then Some e.1 else word_in table a
 
--- a plan from an entry, and a task with a period that is its deadline: no stack, no jitter, no
--- loops
+-- a plan from an entry: no stack, no loops
 abbrev pub plan : ℕ → TaskPlan
 plan entry = record { entry = entry; stack = 0; global = 0; loops = [] }
 
+-- a task with a period that is its deadline, without a name: no stack, no jitter, no loops
 abbrev pub task : ℕ → TaskSpec
 task period =
     record {
@@ -44,12 +44,13 @@ task period =
 abbrev pub named_task : List ℕ → ℕ → TaskSpec
 named_task name period = record (task period) { name = name; file = name }
 
--- the bytes of words, of each the lowest first, and a file with words from some addresses on
+-- the bytes of words, of each the lowest first
 abbrev pub bytes_of : List ℕ → List ℕ
 bytes_of [] = []
 bytes_of (w ∷ ws) =
     (w % 256) ∷ ((w / 256) % 256) ∷ ((w / 65536) % 256) ∷ (w / 16777216) ∷ bytes_of ws
 
+-- a segment with words from an address on
 abbrev pub segment_of : ℕ × List ℕ → Segment
 segment_of run = record {
   address = run.0;
@@ -58,6 +59,7 @@ segment_of run = record {
   executable = true;
 }
 
+-- a file with such segments
 abbrev pub file_of : List (ℕ × List ℕ) → Image
 file_of runs = record { entry = 0; segments = map segment_of runs; symbols = [] }
 
@@ -70,9 +72,11 @@ abbrev pub to_one : Option ℕ → List ℕ
 to_one None = []
 to_one (Some v) = v ∷ []
 
+-- a graph of so many nodes, each with at most one successor
 abbrev pub straight_graph : ℕ → (ℕ → Option ℕ) → Graph
 straight_graph size next = record { size = size; first = 0; next = λ y. to_one (next y) }
 
+-- no region
 abbrev pub no_regions : Nest
 no_regions = record { size = 0; head = λ r. 0; bound = λ r. 0; holds = λ r y. false }
 

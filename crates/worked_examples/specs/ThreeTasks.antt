@@ -37,15 +37,19 @@ code =
       plans = plan 0x3010 ∷ plan 0x2010 ∷ plan 0x1030 ∷ [];
     }
 
+-- the name of the highest task
 abbrev pub high_name : List ℕ
 high_name = codes "high"
 
+-- of the second
 abbrev pub middle_name : List ℕ
 middle_name = codes "middle"
 
+-- of the lowest
 abbrev pub low_name : List ℕ
 low_name = codes "low"
 
+-- the set of the three
 abbrev pub set : TaskSet
 set = record {
   platform = platform;
@@ -53,39 +57,47 @@ set = record {
       named_task high_name 10000 ∷ named_task middle_name 10000 ∷ named_task low_name 10000 ∷ [];
 }
 
+-- the machine's system of them
 abbrev pub system : System
 system = system_of set code
 
+-- the graph of four jumps from line to line
 abbrev pub lines : ℕ → TaskGraph
 lines entry =
     listed_graph (entry ∷ (entry + 16) ∷ (entry + 32) ∷ (entry + 48) ∷ [])
     (Jal 0 (pos 16) ∷ Jal 0 (pos 16) ∷ Jal 0 (pos 16) ∷ Ecall ∷ [])
     (Some 1 ∷ Some 2 ∷ Some 3 ∷ None ∷ [])
 
+-- the graph of a way there, back and there again
 abbrev pub there_again : ℕ → TaskGraph
 there_again entry =
     listed_graph (entry ∷ (entry + 4) ∷ (entry + 16) ∷ (entry + 20) ∷ [])
     (Jal 0 (pos 16) ∷ Jal 0 (pos 16) ∷ Jal 0 (negsuc 11) ∷ Ecall ∷ [])
     (Some 2 ∷ Some 3 ∷ Some 1 ∷ None ∷ [])
 
+-- the graph of each task
 abbrev pub graphs : ℕ → TaskGraph
 graphs zero = lines 0x3010
 graphs (suc zero) = there_again 0x2010
 graphs (suc (suc k)) = there_again 0x1030
 
--- the sets of the cache sets 1 to 4, of 1 and 2, of 3 and 4, and of none, in their words
+-- the cache sets 1 to 4, in the words of a set of them
 abbrev pub one_to_four : List ℕ
 one_to_four = 30 ∷ replicate 7 0
 
+-- the cache sets 1 and 2
 abbrev pub one_and_two : List ℕ
 one_and_two = 6 ∷ replicate 7 0
 
+-- the cache sets 3 and 4
 abbrev pub three_and_four : List ℕ
 three_and_four = 24 ∷ replicate 7 0
 
+-- no cache set
 abbrev pub nothing : List ℕ
 nothing = replicate 8 0
 
+-- what the certificate says of the three
 abbrev pub certificate : Certificate
 certificate =
     record {

@@ -18,27 +18,33 @@ use Rattle.worked_examples.specs.StraightCode.{plan, named_task, file_of, job, f
 abbrev pub words : List ℕ
 words = 0x00100293 ∷ 0x00000073 ∷ []
 
+-- the files and the plans of both
 abbrev pub code : Code
 code = record {
   images = file_of ((0x2000, words) ∷ []) ∷ file_of ((0x1000, words) ∷ []) ∷ [];
   plans = plan 0x2000 ∷ plan 0x1000 ∷ [];
 }
 
+-- the name of the higher task
 abbrev pub high_name : List ℕ
 high_name = codes "high"
 
+-- the name of the lower task
 abbrev pub low_name : List ℕ
 low_name = codes "low"
 
+-- the set of the two
 abbrev pub set : TaskSet
 set = record {
   platform = platform;
   tasks = named_task high_name 100 ∷ named_task low_name 100 ∷ [];
 }
 
+-- the machine's system of them
 abbrev pub system : System
 system = system_of set code
 
+-- the graph of each task
 abbrev pub graphs : ℕ → TaskGraph
 graphs zero = graph_from 0x2000
 graphs (suc k) = graph_from 0x1000

@@ -13,6 +13,7 @@ use Rattle.preempt_machine.specs.Safe.{IsSafe}
 use Rattle.sound_laws.specs.Walks.{HasTaskRanges, IsCodeOf}
 use Rattle.worked_examples.specs.StraightCode.{word_in, plan, task, listed_graph, first_alone}
 
+-- a platform with four cache sets of one line of 16 bytes
 abbrev pub platform : Platform
 platform = record {
   line = 16;
@@ -31,9 +32,11 @@ platform = record {
 abbrev pub words : ℕ → Option ℕ
 words = word_in ((0x1000, 0x00100293) ∷ (0x1004, 0x00000073) ∷ [])
 
+-- the machine's system of them
 abbrev pub system : System
 system = record { platform = platform; plans = plan 0x1000 ∷ []; word = words }
 
+-- the set of this task alone
 abbrev pub set : TaskSet
 set = record { platform = platform; tasks = task 100 ∷ [] }
 
@@ -42,6 +45,7 @@ abbrev pub graph_from : ℕ → TaskGraph
 graph_from entry =
     listed_graph (entry ∷ (entry + 4) ∷ []) (Addi 5 0 (pos 1) ∷ Ecall ∷ []) (Some 1 ∷ None ∷ [])
 
+-- the graph of the task
 abbrev pub graph : TaskGraph
 graph = graph_from 0x1000
 
@@ -53,6 +57,7 @@ zero_alone = 1 ∷ replicate 7 0
 abbrev pub task_certificate : TaskPart
 task_certificate = first_alone 12 zero_alone zero_alone (12 ∷ 1 ∷ []) 17
 
+-- and has this task alone
 abbrev pub certificate : Certificate
 certificate = record { platform = platform; tasks = task_certificate ∷ [] }
 

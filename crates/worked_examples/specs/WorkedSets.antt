@@ -38,9 +38,11 @@ pub record HasSets (g : Graph) (a : Accesses) (evicting useful : List ℕ) : Typ
 abbrev pub graph : ℕ → Graph
 graph k = (three.graphs k).graph
 
+-- the accesses of their nodes
 abbrev pub uses : ℕ → Accesses
 uses k = accesses_of three.platform (three.graphs k)
 
+-- what their certificate lists
 abbrev pub lists : ℕ → Listed
 lists k = listed_of (certified_task three.certificate k)
 
@@ -49,35 +51,43 @@ lists k = listed_of (certified_task three.certificate k)
 abbrev pub call_addresses : List ℕ
 call_addresses = 0x1000 ∷ 0x1004 ∷ 0x1008 ∷ 0x100C ∷ 0x1010 ∷ 0x1014 ∷ 0x1018 ∷ 0x101C ∷ 0x101C ∷ []
 
+-- its instructions
 abbrev pub call_instructions : List Ins
 call_instructions =
     Addi 2 2 (negsuc 15) ∷ Sw 2 1 (pos 12) ∷ Jal 1 (pos 20) ∷ Jal 1 (pos 16) ∷ Lw 1 2 (pos 12)
     ∷ Addi 2 2 (pos 16) ∷ Jalr 0 1 (pos 0)
     ∷ Jalr 0 1 (pos 0) ∷ Jalr 0 1 (pos 0) ∷ []
 
+-- its successors
 abbrev pub call_successors : List (Option ℕ)
 call_successors = Some 1 ∷ Some 2 ∷ Some 7 ∷ Some 8 ∷ Some 5 ∷ Some 6 ∷ None ∷ Some 3 ∷ Some 4 ∷ []
 
+-- its contexts
 abbrev pub call_context : ℕ → List ℕ
 call_context y =
     slice_index_or ([] ∷ [] ∷ [] ∷ [] ∷ [] ∷ [] ∷ [] ∷ (0x1008 ∷ []) ∷ (0x100C ∷ []) ∷ []) y []
 
+-- its graph
 abbrev pub two_calls : TaskGraph
 two_calls =
     record (listed_graph call_addresses call_instructions call_successors)
     { places = record { context = call_context; address = λ y. slice_index_or call_addresses y 0 } }
 
+-- the accesses of its nodes
 abbrev pub call_uses : Accesses
 call_uses = accesses_of two_words.platform two_calls
 
+-- the cache sets 0 and 1
 abbrev pub zero_and_one : List ℕ
 zero_and_one = 3 ∷ replicate 7 0
 
+-- what a certificate lists for it
 abbrev pub call_lists : Listed
 call_lists =
     listed_of
     (first_alone 45 zero_and_one zero_and_one (45 ∷ 34 ∷ 30 ∷ 14 ∷ 8 ∷ 4 ∷ 3 ∷ 27 ∷ 11 ∷ []) 50)
 
+-- what the analyses say of the three tasks and of the program with two calls
 pub record WorkedSets : Type 0 where
   -- the highest task uses no block again
   pub high : HasSets (graph 0) (uses 0) (1 ∷ 2 ∷ 3 ∷ 4 ∷ []) []

@@ -2,6 +2,7 @@
 //! nothing: sets that meet all premises, with what the laws then say of them.
 #![tactic(auto)]
 
+ghost use Rattle.worked_examples.specs.LateTasks.{LateTasks};
 ghost use Rattle.worked_examples.specs.OneLoop.{OneLoop};
 ghost use Rattle.worked_examples.specs.ThreeTasks.{ThreeTasks};
 ghost use Rattle.worked_examples.specs.TwoTasks.{TwoTasks};
@@ -28,6 +29,15 @@ pub fn one_loop()
 /// run takes both responses whole, so none that are shorter are safe. In constant time.
 pub fn two_tasks()
     ensures { TwoTasks }
+{
+    checked_code_is_safe();
+}
+
+/// A law: the premises hold of the two tasks where switches wait for the end of an instruction, the
+/// higher task is released after its arrival, and the lower one's delay is by the ECB-union method.
+/// In constant time.
+pub fn late_tasks()
+    ensures { LateTasks }
 {
     checked_code_is_safe();
 }

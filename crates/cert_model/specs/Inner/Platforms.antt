@@ -25,6 +25,7 @@ abbrev pub later_switching : Version → List ℕ → Members → Result Switchi
 later_switching First path ms = Ok Cycle
 later_switching Second path ms = required kind.switching path (codes "switching") ms
 
+-- the platform in an object, of either version, or the first refusal
 unfoldable pub platform_keys : Version → List ℕ → Members → Result Platform CertError
 platform_keys version path ms = do
   memory ← required cycles path (codes "data") ms

@@ -22,6 +22,7 @@ all_pieces (i ∷ is) = pieces_of i ++ all_pieces is
 abbrev pub piece_content : Piece → ℕ × List ℕ
 piece_content p = (p.start, p.bytes.now)
 
+-- the byte of a piece at an address
 abbrev pub piece_byte : Piece → ℕ → Option ℕ
 piece_byte p a = byte_from p.start p.bytes.now a
 

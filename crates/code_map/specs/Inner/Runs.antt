@@ -3,6 +3,7 @@ use Rattle.std.specs.Prelude.{◌≡◌, ℕ, ◌+◌, ◌<◌, Bool, List, leng
 use Rattle.code_map.specs.declared.runs.Run.{Run}
 use Rattle.code_map.specs.Words.{byte_from, find_map, word_by}
 
+-- the byte of a run at an address
 abbrev pub run_byte : Run → ℕ → Option ℕ
 run_byte r a = byte_from r.start r.bytes a
 
@@ -14,6 +15,7 @@ runs_byte rs a = find_map (λ r. run_byte r a) rs
 abbrev pub has_word : Run → ℕ → Bool
 has_word r a = is_some (word_by (run_byte r) a)
 
+-- whether some runs together hold a whole word at an address
 abbrev pub have_word : List Run → ℕ → Bool
 have_word rs a = is_some (word_by (runs_byte rs) a)
 

@@ -85,6 +85,7 @@ pub record AbsorbsAt (V : Type 0) (p : Problem V) (facts new : ℕ → Option V)
   pub kept : (n : ℕ) → IsTrue (waiting n) → IsTrue (woken n)
   pub changed : IsTrue (woken t) ⊎ (new t ≡ facts t)
 
+-- a number is in a list
 abbrev pub IsInList : ℕ → List ℕ → Type 0
 IsInList n xs = (i : ℕ) × (i < length xs) × (slice_index xs i ≡ n)
 

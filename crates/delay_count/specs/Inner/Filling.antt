@@ -11,11 +11,12 @@ pub record IsNextValue (value : ℕ → ℕ) (tasks level next : ℕ) : Type 0 w
 abbrev pub sum_at_value : (ℕ → ℕ) → (ℕ → ℕ) → ℕ → ℕ → ℕ
 sum_at_value value count tasks v = sum_below (λ k. if value k == v then count k else 0) tasks
 
--- the counts of the first tasks that have at least a value, and what they bring
+-- the counts of the first tasks that have at least a value
 abbrev pub sum_from_value : (ℕ → ℕ) → (ℕ → ℕ) → ℕ → ℕ → ℕ
 sum_from_value value count level tasks =
     sum_below (λ k. if nat_le level (value k) then count k else 0) tasks
 
+-- the sum of their values, each as often as its count
 abbrev pub worth_from : (ℕ → ℕ) → (ℕ → ℕ) → ℕ → ℕ → ℕ
 worth_from value count level tasks =
     sum_below (λ k. if nat_le level (value k) then count k * value k else 0) tasks

@@ -32,6 +32,7 @@ IsErrorAt code entry nodes k e =
     (n : FlatNode) → slice_get nodes k ≡ Some n
     → option_map (λ x. graph_error x n.address) (error_of code entry n) ≡ Some e
 
+-- each line is that of the node at its place
 abbrev pub AreNodeLines : Words → ℕ → List FlatNode → List Line → Type 0
 AreNodeLines words entry nodes lines =
     (k : ℕ) (n : FlatNode) (line : Line) → slice_get nodes k ≡ Some n

@@ -21,6 +21,7 @@ HasDifferentEnds Ends = Unit {0}
 HasDifferentEnds (To v) = Unit {0}
 HasDifferentEnds (Either v w) = v ≢ w
 
+-- the ends of a node's edges are nodes, and differ
 pub record AreEnds (size : ℕ) (next : Onward) : Type 0 where
   pub below : All (λ v. v < size) (onward next)
   pub apart : HasDifferentEnds next
@@ -44,6 +45,7 @@ IsMarked g count v Continues =
     × ((w : ℕ) → w < count → Contains (g.next w) v → w ≡ u)
 IsMarked g count v Leads = IsLeader g v
 
+-- each node has the mark that the edges of the first nodes give it
 abbrev pub AreMarked : List Line → ℕ → ℕ → List Mark → Type 0
 AreMarked lines first count marks =
     (g : Graph) → IsGraphOfLines g lines first → (v : ℕ) (m : Mark) → slice_get marks v ≡ Some m
@@ -54,6 +56,7 @@ abbrev pub is_leading : Mark → Bool
 is_leading Continues = false
 is_leading _ = true
 
+-- exactly the leaders are flagged
 abbrev pub HasLeaders : List Line → ℕ → List Bool → Type 0
 HasLeaders lines first leaders =
     (g : Graph) → IsGraphOfLines g lines first → (v : ℕ) (b : Bool) → slice_get leaders v ≡ Some b

@@ -6,6 +6,7 @@ use Rattle.std.specs.Cmp.Lexicographic.{slice_cmp}
 use Rattle.flat_graph.specs.FlatGraph.{FlatNode}
 use Rattle.flat_graph.specs.declared.graph.Stand.{Stand}
 
+-- lists of numbers in lexicographic order
 abbrev pub list_cmp : List ℕ → List ℕ → Ordering
 list_cmp = slice_cmp nat_cmp
 

@@ -7,9 +7,11 @@ use Rattle.flat_graph.specs.declared.spots.Spot.{Spot}
 use Rattle.flat_graph.specs.declared.spots.Steps.{Steps}
 use Rattle.flat_graph.specs.declared.spots.Steps.TheVariants.{Ends, To, Either, Away}
 
+-- the node of a spot, by the lists of calls under way
 abbrev pub spot_node : List (List ℕ) → Spot → FlatNode
 spot_node lists s = record { context = slice_index_or lists s.context []; address = s.address }
 
+-- the nodes of some spots
 abbrev pub spot_nodes : List (List ℕ) → List Spot → List FlatNode
 spot_nodes lists = map (spot_node lists)
 

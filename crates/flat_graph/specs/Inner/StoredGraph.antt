@@ -9,6 +9,7 @@ use Rattle.flat_graph.specs.declared.graph.Onward.{Onward}
 use Rattle.flat_graph.specs.declared.graph.Onward.TheVariants.{Ends, To, Either}
 use Rattle.flat_graph.specs.declared.graph.Stand.{Stand}
 
+-- the successors that are stored of a node
 abbrev pub onward : Onward → List ℕ
 onward Ends = []
 onward (To v) = v ∷ []

@@ -4,6 +4,7 @@ use Rattle.rv_decode.specs.Flow as flow
 use Rattle.flat_graph.specs.declared.ways.Way.{Way}
 use Rattle.flat_graph.specs.declared.ways.Way.TheVariants as way
 
+-- the flow of a way
 abbrev pub flow_by : Way → Flow
 flow_by way.Next = flow.Plain
 flow_by (way.Branch t) = flow.Branch t

@@ -19,6 +19,7 @@ frames_of loops calls turns zero = []
 frames_of loops calls turns (suc k) =
     record { back = back calls k; turns = frame_row loops turns k } ∷ frames_of loops calls turns k
 
+-- the watch of some frames in use
 abbrev pub watch_of : ℕ → List ℕ → List ℕ → Option ℕ → Watch
 watch_of loops calls turns frames = option_map (frames_of loops calls turns) frames
 

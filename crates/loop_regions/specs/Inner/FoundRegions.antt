@@ -17,6 +17,7 @@ code_nest r = record {
   holders = r.holders;
 }
 
+-- found regions as a nest
 abbrev pub nest_in : Regions → Nest
 nest_in r = nest_of (code_nest r)
 

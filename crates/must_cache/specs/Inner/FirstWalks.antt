@@ -63,6 +63,7 @@ pub record IsToFollow (a : Accesses) (taken : Taken) (x : ℕ × Cache) : Type 0
   pub is : taken x.0 ≡ Some walk
   pub leaves : (s : ℕ) → held x.1 s ≡ last_access a s walk
 
+-- a node waits with some state
 abbrev pub Waits : List (ℕ × Cache) → ℕ → Type 0
 Waits todo u = (state : Cache) × Contains todo (u, state)
 
@@ -109,6 +110,7 @@ abbrev pub one_if_unmet : Option ℕ → ℕ
 one_if_unmet None = 1
 one_if_unmet (Some place) = 0
 
+-- how much is still to do: two for each node not met, and what waits
 abbrev pub still_to_do : List (Option ℕ) → List (ℕ × Cache) → ℕ
 still_to_do met todo = 2 * sum_by one_if_unmet met + length todo
 

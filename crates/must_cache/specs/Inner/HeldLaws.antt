@@ -7,6 +7,7 @@ use Rattle.dataflow.specs.Variable.{common_value}
 use Rattle.dataflow.specs.VariableLaws.{both_joins, unknown_bounded}
 use Rattle.must_cache.specs.Inner.Held.{Held, common_blocks, after_access, unknown_below}
 
+-- the common blocks are a join
 pub agreed_joins : IsSemilattice Held common_blocks
 agreed_joins = record {
   same = λ x i s. both_joins.same (x s) i;
@@ -14,15 +15,18 @@ agreed_joins = record {
   grouped = λ x y z i s. both_joins.grouped (x s) (y s) (z s) i;
 }
 
+-- an access or none passes joins through
 either_way : (t : Bool) (k : Option ℕ) (x y : Option ℕ)
     → (if t then k else common_value x y) ≡ common_value (if t then k else x) (if t then k else y)
 either_way true k x y = sym (both_joins.same k)
 either_way false k x y = refl
 
+-- an access passes joins through
 pub access_distributes : (a : Accesses) (n : ℕ) (x y : Held)
     → after_access a n (common_blocks x y) ≡ common_blocks (after_access a n x) (after_access a n y)
 access_distributes a n x y i s = either_way (a.set n == s) (Some (a.block n)) (x s) (y s) i
 
+-- of n cache sets at most n are unknown
 pub few_unknown : (x : Held) (n : ℕ) → unknown_below x n ≤ n
 few_unknown x zero = omega arith
 few_unknown x (suc n) = omega (arith, few_unknown x n, unknown_bounded (x n))

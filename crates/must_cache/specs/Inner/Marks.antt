@@ -8,6 +8,7 @@ use Rattle.icache.specs.Accesses.{Accesses}
 abbrev pub Marks : Type 0
 Marks = ℕ → Bool
 
+-- the sets that are marked in one or the other
 abbrev pub either_marks : Marks → Marks → Marks
 either_marks x y s = x s || y s
 

@@ -7,6 +7,7 @@ use Rattle.preempt_machine.specs.declared.decoded.Decoding.{Decoding}
 abbrev pub Nothing : Type 0
 Nothing = Unit {0}
 
+-- the one such value
 abbrev pub nothing : Nothing
 nothing = tt
 

@@ -12,6 +12,7 @@ abbrev pub kept_at : List Job → Option ℕ → Bool
 kept_at jobs None = true
 kept_at jobs (Some o) = is_unbroken (job_at jobs o).watch
 
+-- whether that of a state's owner is not broken
 abbrev pub owner_is_kept : Machine → Bool
 owner_is_kept m = kept_at m.jobs m.owner
 

@@ -28,6 +28,7 @@ NoneIsReady time jobs = (x : ℕ) → is_ready time (job_at jobs x) ≡ false
 abbrev pub machine_of : Parts → Machine
 machine_of p = machine_by p.core.cache p.core.memory p.schedule
 
+-- with the order of their jobs and their completions
 abbrev pub IsMachine : Parts → Type 0
 IsMachine p = IsScheduled p.core.geometry.platform.sets p.core.cache p.core.memory p.schedule
 

@@ -23,16 +23,19 @@ use Rattle.run_account.specs.Inner.Trails.{ledger_reload_of, AreTrailsOf}
 use Rattle.preempt_machine.specs.Starts.{start_of_script}
 use Rattle.run_account.specs.AccountGraphs.{with_nests, AreGraphsOf, TasksAreMet}
 
--- the start, the graphs and the certificate of a run. Regions play no part, so there are none
+-- regions play no part in an account, so there are none
 abbrev pub no_nests : ℕ → Nest
 no_nests i = record { size = 0; head = λ r. 0; bound = λ r. 0; holds = λ r y. false }
 
+-- what the run starts from
 abbrev pub run_start : Run → Start
 run_start r = start_of_script r.set.now r.code.now r.script.now
 
+-- the task graph of each task
 abbrev pub run_graphs : Run → ℕ → TaskGraph
 run_graphs r = with_nests r.graphs.now no_nests
 
+-- the certificate
 abbrev pub run_certificate : Run → Certificate
 run_certificate r = r.certificate.now
 
@@ -41,6 +44,7 @@ abbrev pub flags_by : Option Hits → List Bool
 flags_by None = []
 flags_by (Some h) = h.flags.items
 
+-- the flags of the task at a place
 abbrev pub flags_of : List Hits → ℕ → List Bool
 flags_of all i = flags_by (slice_get all i)
 

@@ -23,6 +23,7 @@ pub record IsLastFetchOf (s : Start) (x n t : ℕ) : Type 0 where
   pub is : FetchesAt s x t fetch
   pub none : (u : ℕ) (f : Fetch) → t < u → u < n → FetchesAt s x u f → ⊥
 
+-- the time of a job's last fetch of the first n steps, none where it made none
 abbrev pub IsLastFetch : Start → ℕ → ℕ → Option ℕ → Type 0
 IsLastFetch s x n None = (t : ℕ) (f : Fetch) → t < n → FetchesAt s x t f → ⊥
 IsLastFetch s x n (Some t) = IsLastFetchOf s x n t
@@ -33,6 +34,7 @@ pub record IsTouchOf (s : Start) (set n : ℕ) (w : Touch) : Type 0 where
   pub last : IsLastFetchTo s set n w.time fetch
   pub by : fetch.job ≡ w.job
 
+-- the last fetch to a set, none where there was none
 abbrev pub IsTouch : Start → ℕ → ℕ → Option Touch → Type 0
 IsTouch s set n None = NoFetchTo s set 0 n
 IsTouch s set n (Some w) = IsTouchOf s set n w
@@ -43,6 +45,7 @@ IsAlone s x n =
     (t : ℕ) → IsLastFetchOf s x n t → (u : ℕ) (f : Fetch) → t < u → u < n
     → fetch_at s u ≡ Some f → ⊥
 
+-- the job of the last fetch at all, where one is told
 abbrev pub IsTrailOwner : Start → ℕ → Option ℕ → Type 0
 IsTrailOwner s n None = Unit {0}
 IsTrailOwner s n (Some x) = IsAlone s x n
@@ -81,6 +84,7 @@ pub record AreGapsOf (s : Start) (x n : ℕ) (gaps : List Gap) : Type 0 where
   pub complete : (u v c : ℕ) (f g h : Fetch) → u < v → v < c → c < n → FetchesAt s x u f
       → fetch_at s v ≡ Some g → g.job ≢ x → FetchesAt s x c h → IsInGap s x n gaps v
 
+-- a reload that is kept, as one of the ledger
 abbrev pub ledger_reload_of : Reload → LedgerReload
 ledger_reload_of r = record {
   job = r.job;

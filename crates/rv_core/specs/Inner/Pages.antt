@@ -7,6 +7,7 @@ use Rattle.std.specs.Map.{lookup}
 use Rattle.std.specs.Ordering.{nat_cmp}
 use Rattle.rv_core.specs.Memory.{Memory, prepend_byte}
 
+-- the stored pages, each with its number
 abbrev pub Pages : Type 0
 Pages = List (ℕ × List ℕ)
 

@@ -9,6 +9,7 @@ use Rattle.rv_decode.specs.declared.Ins.TheVariants.{Or, And, Mul, Mulh, Mulhsu,
 use Rattle.rv_decode.specs.declared.Ins.TheVariants.{Rem, Remu, Fence, Ecall, Ebreak}
 use Rattle.rv_decode.specs.declared.writing.Operation.{Operation}
 
+-- an operation of an opcode, a funct3 and a funct7
 abbrev by : ℕ → ℕ → ℕ → Operation
 by o f g = record { opcode = o; funct3 = f; funct7 = g }
 

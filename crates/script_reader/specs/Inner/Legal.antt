@@ -2,8 +2,8 @@
 use Rattle.std.specs.Prelude.{◌≡◌, ℕ, ◌<◌, List, [], ◌∷◌, length, ◌==◌, if◌then◌else◌, AllPairs}
 use Rattle.crpd_base.specs.declared.data.ScriptJob.{ScriptJob}
 use Rattle.crpd_base.specs.declared.data.TaskSet.{TaskSet}
-pub use Rattle.crpd_base.specs.Tasks.{period_of, jitter_of}
-use Rattle.script_reader.specs.Legal.{AreApart, AreSpaced}
+use Rattle.crpd_base.specs.Tasks.{period_of}
+use Rattle.crpd_base.specs.Arrivals.{AreApart, AreSpaced}
 
 -- any two of the times are at least so far apart
 pub record AreAllApart (period : ℕ) (times : List ℕ) : Type 0 where

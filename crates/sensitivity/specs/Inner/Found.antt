@@ -14,7 +14,7 @@ use Rattle.sensitivity.specs.declared.analysis.Bounded.{Bounded}
 use Rattle.sensitivity.specs.declared.analysis.Bounded.TheVariants.{Parts, TooLarge}
 use Rattle.sensitivity.specs.declared.cost.Cost.{Cost}
 use Rattle.sensitivity.specs.declared.cost.Cost.TheVariants.{Switch, Miss}
-use Rattle.sensitivity.specs.declared.slack.Stop.{Stop}
+use Rattle.crpd_base.specs.declared.data.Stop.{Stop}
 use Rattle.sensitivity.specs.Costs.{with_switch, with_miss}
 use Rattle.sensitivity.specs.Accepted.{HasCacheBlocks, IsLeastBound, AreAnalysedParts, IsAccepted}
 use Rattle.sensitivity.specs.Accepted.{IsFirstTooLarge, IsStop}

@@ -15,6 +15,7 @@ use Rattle.set_reader.specs.declared.task.Program.{Program}
 use Rattle.set_reader.specs.Kinds as kind
 use Rattle.set_reader.specs.Reading.{entry_place, loops_at, fields_at, of_set}
 
+-- the name, the file and the entry of the task in a table
 unfoldable pub program_at : List ℕ → Members → Result Program KeyError
 program_at path ms = do
   name ← required kind.name path (codes "name") ms
@@ -22,6 +23,7 @@ program_at path ms = do
   entry ← optional None entry_place path (codes "entry") ms
   Ok (record { name = name; file = file; entry = entry })
 
+-- the times, the stack, the global pointer and the loops of the task in a table
 unfoldable pub load_at : List ℕ → Members → Result Load KeyError
 load_at path ms = do
   period ← required (whole 1 longest_time) path (codes "period") ms

@@ -1,72 +1,41 @@
--- For step 6: the reloads of a window with their preemptors are at most the ECB-union multiset
--- counts.
-use Rattle.std.proofs.Common.{◌≡◌, ℕ, zero, suc, ◌+◌, ◌*◌, ◌<◌, ◌≤◌, Bool, true, ◌&&◌, length, refl}
+-- For step 6: the reloads of a window with their preemptors are at most the greatest sums over
+-- choices of preempted jobs, by what bounds the reloads of one preemptor.
+use Rattle.std.proofs.Common.{◌≡◌, ℕ, suc, ◌+◌, ◌*◌, ◌<◌, ◌≤◌, Bool, true, ◌&&◌, length, refl}
 use Rattle.std.proofs.Common.{sym, ◌∙◌, ap, subst, inl, inr, arith, ◌==◌, nat_lt, if◌then◌else◌}
 use Rattle.std.proofs.Math.Nat.{mul-le-mul_left}
-use Rattle.std.proofs.lemmas.Bool.{cases_Bool, cases_eq, false≢true, and_parts, and_from, or_left}
-use Rattle.std.proofs.lemmas.Bool.{or_right, eq-eqb, eqb-true, ne_eqb, lt-ltb}
+use Rattle.std.proofs.lemmas.Bool.{cases_Bool, cases_eq, false≢true, and_parts, and_from}
+use Rattle.std.proofs.lemmas.Bool.{eq-eqb, eqb-true, ne_eqb, lt-ltb}
 use Rattle.crpd_base.proofs.Sums.{sum_le, sum_times, sum_swap}
 use Rattle.crpd_base.specs.declared.data.TaskSet.{TaskSet}
-use Rattle.script_reader.specs.Legal.{period_of, jitter_of}
+use Rattle.crpd_base.specs.Tasks.{period_of, jitter_of}
 use Rattle.preempt_machine.specs.Step.{Start}
 use Rattle.run_account.proofs.LastBelow.{some_below, found_below, found_is, some_from}
 use Rattle.sound_laws.specs.Walks.{RunsLegally}
 use Rattle.crpd_base.specs.Sum.{sum_below}
-use Rattle.crpd_base.specs.Sets.{has as has_set}
-use Rattle.crpd_base.specs.declared.data.Part.{Part}
-use Rattle.delay_count.specs.Counts.{jobs_in, preemptions}
-use Rattle.delay_count.specs.Gamma.{evicted_from, shared_count, shared_sets, ecb_count}
-use Rattle.sound_laws.proofs.Delays.Choices.{IsChoice, choice_le}
+use Rattle.delay_count.specs.Counts.{jobs_in, preemptions, affected_preemptions}
+use Rattle.delay_count.specs.Gamma.{greatest_choice}
+use Rattle.delay_count.proofs.Choices.{choice_most}
 use Rattle.sound_laws.proofs.Windows.Releases.{count, count_none, at_most_one, lies_in}
-use Rattle.sound_laws.proofs.Counts.Counting.{spread, inject, each_at_most, count_le}
-use Rattle.sound_laws.proofs.Windows.Busy.{line_at, task_at, in_window}
+use Rattle.sound_laws.proofs.Counts.Counting.{spread, each_at_most, count_le}
+use Rattle.sound_laws.proofs.Windows.Busy.{line_at, task_at}
 use Rattle.sound_laws.proofs.Windows.Demands.{is_member, releases_few}
-use Rattle.sound_laws.proofs.Delays.UnionCount.{inside_member, inside_task}
+use Rattle.sound_laws.proofs.Delays.UnionCount.{AreCharged, charged_member, inside_member}
+use Rattle.sound_laws.proofs.Delays.UnionCount.{inside_task}
 
-pub evicted_by : (parts : ℕ → Part) (h j c : ℕ) → h ≤ j → has_set (parts h).evicting c ≡ true
-    → evicted_from parts j c ≡ true
-evicted_by parts h zero c l e =
-    let z : h ≡ 0 = omega arith in subst (λ k. has_set (parts k).evicting c ≡ true) z e
-evicted_by parts h (suc j) c l e =
-    elim (cases_eq h (suc j)) [
-      | inl q ↦
-          or_left (has_set (parts (suc j)).evicting c) (evicted_from parts j c)
-          (subst (λ k. has_set (parts k).evicting c ≡ true) q e)
-      | inr ne ↦
-          or_right (has_set (parts (suc j)).evicting c) (evicted_from parts j c)
-          (evicted_by parts h j c (omega arith) e)
-    ]
-
--- the reloads of a window: steps with a victim and a preemptor inside, of which the preemptor is of
--- a higher task and is released in the victim's life, and a cache set that the preemptor's task or
--- one above it evicts, and that the victim finds useful. All steps of a preemptor have one victim
--- and different sets
-pub record ArePreempted (s : Start) (set : TaskSet) (parts : ℕ → Part) (window : ℕ → ℕ) (i t to : ℕ)
-    (is_reload : ℕ → Bool) (victim preemptor cached : ℕ → ℕ) : Type 0 where
-  pub victims : (n : ℕ) → n < to → is_reload n ≡ true
-      → (victim n < length s.lines) × (in_window s i t to (victim n) ≡ true)
-  pub preemptors : (n : ℕ) → n < to → is_reload n ≡ true
-      → (preemptor n < length s.lines) × (in_window s i t to (preemptor n) ≡ true)
-  pub higher : (n : ℕ) → n < to → is_reload n ≡ true
-      → task_at s (preemptor n) < task_at s (victim n)
-  pub in_life : (n : ℕ) → n < to → is_reload n ≡ true → task_at s (victim n) < task_at s i
-      → lies_in (line_at s (victim n)).release
-      ((line_at s (victim n)).release + window (task_at s (victim n)))
-      (line_at s (preemptor n)).release ≡ true
-  pub places : (n : ℕ) → n < to → is_reload n ≡ true → cached n < 512
-  pub is_evicted : (n : ℕ) → n < to → is_reload n ≡ true
-      → evicted_from parts (task_at s (preemptor n)) (cached n) ≡ true
-  pub is_useful : (n : ℕ) → n < to → is_reload n ≡ true
-      → has_set (parts (task_at s (victim n))).useful (cached n) ≡ true
+-- all reloads of a preemptor have one victim, and where the one is of task j and the other of task
+-- k they are at most the most of these tasks
+pub record ArePreempted (s : Start) (most : ℕ → ℕ → ℕ) (to : ℕ) (is_reload : ℕ → Bool)
+    (victim preemptor : ℕ → ℕ) : Type 0 where
   pub one_job : (n m : ℕ) → n < to → m < to → is_reload n ≡ true → is_reload m ≡ true
       → preemptor n ≡ preemptor m → victim n ≡ victim m
-  pub one_set : (n m : ℕ) → n < m → m < to → is_reload n ≡ true → is_reload m ≡ true
-      → preemptor n ≡ preemptor m → cached n ≡ cached m → ⊥
+  pub few : (p k : ℕ) → count (λ n.
+      (is_reload n && (preemptor n == p)) && (task_at s (victim n) == k)) to ≤ most (task_at s p) k
 
-module _ (s : Start) (set : TaskSet) (run : RunsLegally set s) (parts : ℕ → Part) (window : ℕ → ℕ)
-    (i t : ℕ) (is_reload : ℕ → Bool) (victim preemptor cached : ℕ → ℕ)
-    (are : ArePreempted s set parts window i t (t + window (task_at s i)) is_reload victim preemptor
-    cached) (periods : (k : ℕ) → k ≤ task_at s i → 0 < period_of set k) where
+module _ (s : Start) (set : TaskSet) (run : RunsLegally set s) (most : ℕ → ℕ → ℕ) (window : ℕ → ℕ)
+    (i t : ℕ) (is_reload : ℕ → Bool) (victim preemptor : ℕ → ℕ)
+    (are : AreCharged s window i t (t + window (task_at s i)) is_reload victim preemptor)
+    (by : ArePreempted s most (t + window (task_at s i)) is_reload victim preemptor)
+    (periods : (k : ℕ) → k ≤ task_at s i → 0 < period_of set k) where
   abbrev to : ℕ
   to = t + window (task_at s i)
 
@@ -107,47 +76,13 @@ module _ (s : Start) (set : TaskSet) (run : RunsLegally set s) (parts : ℕ → 
         is_task = eqb-true _ _ both.0;
       }
 
-  preemptor_member : (j n : ℕ) → n < to → is_reload n ≡ true → task_at s (preemptor n) ≡ j
-      → is_member s t to j (preemptor n) ≡ true
-  preemptor_member j n l b e =
-      let is = are.preemptors n l b in
-      let below = are.higher n l b in
-      let top = inside_task s i t to (victim n) (are.victims n l b).1 in
-      subst (λ k. is_member s t to k (preemptor n) ≡ true) e
-      (inside_member s i t to (preemptor n) is.1
-      (λ q. let same : task_at s (preemptor n) ≡ task_at s i = ap (λ k. task_at s k) q in
-      omega arith))
-
   has_member : (j k p : ℕ) → has j k p ≡ true → is_member s t to j p ≡ true
   has_member j k p h =
       let f = found j k p h in
       subst (λ q. is_member s t to j q ≡ true) f.is_preemptor
-      (preemptor_member j (at k p) f.early f.reload
-      (ap (λ q. task_at s q) f.is_preemptor ∙ f.is_task))
-
-  -- the reloads of one preemptor and one victim's task are at most the shared sets
-  pair_sets : (j k p : ℕ) → task_at s p ≡ j → count (of_pair p k) to ≤ shared_sets parts j k
-  unfolding shared_count
-  pair_sets j k p e =
-      inject (of_pair p k) cached (λ c. has_set (parts k).useful c && evicted_from parts j c) to 512
-      (λ n l b. are.places n l
-      (and_parts (is_reload n) _ (and_parts (is_reload n && (preemptor n == p)) _ b).0).0)
-      (λ n l b.
-      let pair = and_parts (is_reload n && (preemptor n == p)) (task_at s (victim n) == k) b in
-      let one = and_parts (is_reload n) (preemptor n == p) pair.0 in
-      let vk : task_at s (victim n) ≡ k = eqb-true _ _ pair.1 in
-      let pj : task_at s (preemptor n) ≡ j =
-      ap (λ q. task_at s q) (eqb-true (preemptor n) p one.1) ∙ e in
-      and_from (has_set (parts k).useful (cached n)) (evicted_from parts j (cached n))
-      (subst (λ q. has_set (parts q).useful (cached n) ≡ true) vk (are.is_useful n l one.0))
-      (subst (λ q. evicted_from parts q (cached n) ≡ true) pj (are.is_evicted n l one.0)))
-      (λ n m l h a b q.
-      let pa = and_parts (is_reload n) (preemptor n == p)
-      (and_parts (is_reload n && (preemptor n == p)) _ a).0 in
-      let pb = and_parts (is_reload m) (preemptor m == p)
-      (and_parts (is_reload m && (preemptor m == p)) _ b).0 in
-      are.one_set n m l h pa.0 pb.0
-      (eqb-true (preemptor n) p pa.1 ∙ sym (eqb-true (preemptor m) p pb.1)) q)
+      (charged_member s window i t is_reload victim preemptor are j (at k p) f.early
+      (and_from (is_reload (at k p)) _ f.reload
+      (eq-eqb _ _ (ap (λ q. task_at s q) f.is_preemptor ∙ f.is_task))))
 
   -- how many jobs of j preempt jobs of k
   abbrev choice : ℕ → ℕ → ℕ
@@ -158,7 +93,7 @@ module _ (s : Start) (set : TaskSet) (run : RunsLegally set s) (parts : ℕ → 
   one_task j p = at_most_one (λ k. has j k p) (suc (task_at s i)) (λ k m l h a b.
       let f = found j k p a in
       let g = found j m p b in
-      let same = are.one_job (at k p) (at m p) f.early g.early f.reload g.reload
+      let same = by.one_job (at k p) (at m p) f.early g.early f.reload g.reload
       (f.is_preemptor ∙ sym g.is_preemptor) in
       let e : k ≡ m = sym f.is_victim ∙ ap (λ q. task_at s q) same ∙ g.is_victim in
       omega arith)
@@ -270,18 +205,14 @@ module _ (s : Start) (set : TaskSet) (run : RunsLegally set s) (parts : ℕ → 
             ]
       ]
 
-  is_choice : (j : ℕ) → j ≤ task_at s i
-      → IsChoice set window (window (task_at s i)) (task_at s i) j (choice j)
-  is_choice j h = record { each = λ k l. choice_each j k h l; all = choice_all j h }
-
   -- the reloads with a preemptor of a task
   abbrev by_task : ℕ → ℕ → Bool
   by_task j n = is_reload n && (task_at s (preemptor n) == j)
 
-  -- of one preemptor and one task of victims, none or at most the shared sets
+  -- of one preemptor and one task of victims, none or at most the most of the tasks
   pair_le : (j k p : ℕ) → count
       (λ n. ((by_task j n) && (preemptor n == p)) && (task_at s (victim n) == k)) to
-      ≤ shared_sets parts j k * (if has j k p then 1 else 0)
+      ≤ most j k * (if has j k p then 1 else 0)
   pair_le j k p =
       let le = count_le (λ n. ((by_task j n) && (preemptor n == p)) && (task_at s (victim n) == k))
       (of_pair p k) to (λ n l b.
@@ -292,8 +223,9 @@ module _ (s : Start) (set : TaskSet) (run : RunsLegally set s) (parts : ℕ → 
       (and_from (is_reload n) (preemptor n == p) three.0 two.1) one.1) in
       elim (cases_Bool (has j k p)) [
         | inl b ↦
-            let sets_of = pair_sets j k p (found j k p b).is_task in
-            rw b (omega (arith, le, sets_of))
+            let few = by.few p k in
+            let same = ap (λ q. most q k) (found j k p b).is_task in
+            rw b (omega (arith, le, few, same))
         | inr b ↦
             let none = count_none (λ n.
             ((by_task j n) && (preemptor n == p)) && (task_at s (victim n) == k)) to
@@ -319,13 +251,13 @@ module _ (s : Start) (set : TaskSet) (run : RunsLegally set s) (parts : ℕ → 
       ]
 
   task_count : (j : ℕ) → j ≤ task_at s i
-      → count (by_task j) to ≤ sum_below (λ k. shared_sets parts j k * choice j k)
+      → count (by_task j) to ≤ sum_below (λ k. most j k * choice j k)
       (suc (task_at s i))
   task_count j h =
       let all = spread (by_task j) preemptor to (length s.lines)
-      (λ n l b. (are.preemptors n l (and_parts (is_reload n) _ b).0).0) in
+      (λ n l b. (are.jobs n l (and_parts (is_reload n) _ b).0).0) in
       let split = sum_le (λ p. count (λ n. by_task j n && (preemptor n == p)) to)
-      (λ p. sum_below (λ k. shared_sets parts j k * (if has j k p then 1 else 0))
+      (λ p. sum_below (λ k. most j k * (if has j k p then 1 else 0))
       (suc (task_at s i))) (length s.lines) (λ p l.
       let by_victims = spread (λ n. by_task j n && (preemptor n == p)) (λ n. task_at s (victim n))
       to (suc (task_at s i)) (λ n ln b.
@@ -334,37 +266,27 @@ module _ (s : Start) (set : TaskSet) (run : RunsLegally set s) (parts : ℕ → 
       omega arith) in
       let le = sum_le
       (λ k. count (λ n. (by_task j n && (preemptor n == p)) && (task_at s (victim n) == k)) to)
-      (λ k. shared_sets parts j k * (if has j k p then 1 else 0)) (suc (task_at s i))
+      (λ k. most j k * (if has j k p then 1 else 0)) (suc (task_at s i))
       (λ k lk. pair_le j k p) in
       omega (arith, by_victims, le)) in
-      let swapped = sum_swap (λ p k. shared_sets parts j k * (if has j k p then 1 else 0))
+      let swapped = sum_swap (λ p k. most j k * (if has j k p then 1 else 0))
       (length s.lines) (suc (task_at s i)) in
       let times = sum_le (λ k.
-      sum_below (λ p. shared_sets parts j k * (if has j k p then 1 else 0)) (length s.lines))
-      (λ k. shared_sets parts j k * choice j k) (suc (task_at s i)) (λ k l.
-      let e = sum_times (shared_sets parts j k) (λ p. if has j k p then 1 else 0)
+      sum_below (λ p. most j k * (if has j k p then 1 else 0)) (length s.lines))
+      (λ k. most j k * choice j k) (suc (task_at s i)) (λ k l.
+      let e = sum_times (most j k) (λ p. if has j k p then 1 else 0)
       (length s.lines) in omega (arith, e)) in
       omega (arith, all, split, swapped, times)
 
-  -- the reloads of the window, where each g j bounds every choice
+  -- the reloads with a preemptor of a task are at most the greatest choice
   pub task_choice : (j : ℕ) → j ≤ task_at s i
-      → count (by_task j) to ≤ ecb_count set parts window (window (task_at s i)) (task_at s i) j
+      → count (by_task j) to ≤ greatest_choice (most j)
+      (affected_preemptions set window (window (task_at s i)) (task_at s i) j) (suc (task_at s i))
+      (jobs j (window (task_at s i)))
   task_choice j h =
       let c = task_count j h in
-      let b = choice_le set parts window (window (task_at s i)) (task_at s i) j (choice j)
-      (is_choice j h) in
+      let b = choice_most (most j)
+      (affected_preemptions set window (window (task_at s i)) (task_at s i) j) (choice j)
+      (suc (task_at s i)) (jobs j (window (task_at s i)))
+      (λ k l. choice_each j k h (omega arith)) (choice_all j h) in
       omega (arith, c, b)
-
-  pub preempted_few : count is_reload to
-      ≤ sum_below (ecb_count set parts window (window (task_at s i)) (task_at s i)) (task_at s i)
-  preempted_few =
-      let all = spread is_reload (λ n. task_at s (preemptor n)) to (task_at s i)
-      (λ n l b. let up = are.higher n l b in
-      let top = inside_task s i t to (victim n) (are.victims n l b).1 in omega arith) in
-      let le = sum_le (λ j. count (by_task j) to)
-      (ecb_count set parts window (window (task_at s i)) (task_at s i)) (task_at s i) (λ j l.
-      let c = task_count j (omega arith) in
-      let b = choice_le set parts window (window (task_at s i)) (task_at s i) j (choice j)
-      (is_choice j (omega arith)) in
-      omega (arith, c, b)) in
-      omega (arith, all, le)

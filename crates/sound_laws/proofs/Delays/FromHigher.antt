@@ -15,27 +15,18 @@ use Rattle.run_account.specs.Walks.{HasGraphs, AreStatesMet}
 use Rattle.run_account.proofs.ReloadFacts.{of_higher}
 use Rattle.run_account.proofs.Gaps.{one_gap_per_preemptor}
 use Rattle.run_account.proofs.JobWalks.{ledger_reload_is_own}
-use Rattle.run_account.proofs.ReloadLaws.{one_job_per_preemptor}
+use Rattle.run_account.proofs.ReloadLaws.{one_reload_of}
 use Rattle.sound_laws.specs.FromHigher.{IsFromHigher, ReloadComesFromHigher, PreemptorWithinUseful}
 use Rattle.sound_laws.proofs.Windows.Releases.{count}
 use Rattle.sound_laws.proofs.Counts.Counting.{inject}
+use Rattle.sound_laws.proofs.Execution.Executed.{yes_meets}
 use Rattle.sound_laws.proofs.Walks.CheckedRuns.{CheckedRun, cached_run, checked_run, runs_jobs}
 use Rattle.sound_laws.proofs.Walks.CheckedRuns.{some_sets}
 use Rattle.sound_laws.proofs.Reloads.Checked.{met, set_at}
 use Rattle.sound_laws.proofs.Reloads.OwnFetches.{has_graphs}
 
 module _ (K : CheckedRun) where
-  open K use {
-    start as s,
-    set,
-    graphs,
-    certificate as c,
-    horizon,
-    in_range as R,
-    code as C,
-    says,
-    run,
-  }
+  open K use {start as s, set, graphs, certificate as c, in_range as R, code as C, run}
 
   -- what the laws on ledgers ask of such a run
   graphs_here : HasGraphs s graphs
@@ -70,7 +61,7 @@ module _ (K : CheckedRun) where
       }
 
   -- it comes from higher tasks
-  from_higher : (n x p : ℕ) (e : IsPreempted s graphs c n x p) → IsFromHigher s graphs c n x p e
+  pub from_higher : (n x p : ℕ) (e : IsPreempted s graphs c n x p) → IsFromHigher s graphs c n x p e
   from_higher n x p e =
       let reload : LedgerReload = record {
         job = x;
@@ -92,24 +83,16 @@ module _ (K : CheckedRun) where
 
 pub reload_comes_from_higher : ReloadComesFromHigher
 reload_comes_from_higher s set graphs c n x p R C says run e =
-    from_higher (checked_run s set graphs c n R C says (runs_jobs run) e.reload.kept) n x p e
+    from_higher
+    (checked_run s set graphs c n R C (yes_meets set graphs c says) (runs_jobs run) e.reload.kept)
+    n x p e
 
 -- the reloads of a job with one preemptor
 module _ (K : CheckedRun) (x p first : ℕ) (test useful : ℕ → Bool)
     (e : IsPreempted K.start K.graphs K.certificate first x p)
     (each : (n : ℕ) → test n ≡ true
     → (n < K.horizon) × IsPreempted K.start K.graphs K.certificate n x p) where
-  open K use {
-    start as s,
-    set,
-    graphs,
-    certificate as c,
-    horizon,
-    in_range as R,
-    code as C,
-    says,
-    run,
-  }
+  open K use {start as s, set, graphs, certificate as c, horizon, in_range as R, code as C, run}
 
   abbrev place_at : ℕ → ℕ
   place_at n = set_at K (job_after s n x).pc
@@ -126,8 +109,8 @@ module _ (K : CheckedRun) (x p first : ℕ) (test useful : ℕ → Bool)
       let F = (each m b).1 in
       let r = ledger_reload_is_own s graphs c n x E.fetch (graphs_here K) (states_met K) E.reload in
       let t = ledger_reload_is_own s graphs c m x F.fetch (graphs_here K) (states_met K) F.reload in
-      let same = one_job_per_preemptor.one_reload s x n r.time E.fetch r.own m t.time F.fetch t.own
-      p E.from E.time E.until F.from F.time F.until (cached_run K) r.reload t.reload
+      let same = one_reload_of s x n r.time E.fetch r.own m t.time F.fetch t.own p E.from E.time
+      E.until F.from F.time F.until r.reload t.reload
       (place_is n E.fetch E.reload.fetches ∙ q ∙ sym (place_is m F.fetch F.reload.fetches))
       E.is F.is in
       omega arith
@@ -157,5 +140,6 @@ module _ (K : CheckedRun) (x p first : ℕ) (test useful : ℕ → Bool)
 
 pub preemptor_within_useful : PreemptorWithinUseful
 preemptor_within_useful s set graphs c until x p first test useful R C says run kept e each covers =
-    few_useful (checked_run s set graphs c until R C says (runs_jobs run) kept) x p first test
-    useful e each covers
+    few_useful
+    (checked_run s set graphs c until R C (yes_meets set graphs c says) (runs_jobs run) kept) x p
+    first test useful e each covers

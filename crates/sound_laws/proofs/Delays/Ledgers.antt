@@ -1,5 +1,5 @@
 -- Step 6, ledger_within_delays: the ledger's reloads of a window, counted as the steps at which
--- they are made, are within both delays.
+-- they are made, are within the delays that cover them.
 use Rattle.std.proofs.Common.{◌≡◌, ℕ, suc, ◌+◌, ◌*◌, ◌<◌, ◌≤◌, Bool, true, false, ◌&&◌, List, []}
 use Rattle.std.proofs.Common.{◌∷◌, refl, sym, ◌∙◌, ap, subst, inl, inr, arith, nat_lt, nat_le, cond}
 use Rattle.std.proofs.Common.{mul-le-mul_left, mul_comm, ◌==◌, All, AllPairs, count_by}
@@ -11,7 +11,11 @@ use Rattle.crpd_base.specs.Sum.{one_if}
 use Rattle.crpd_base.proofs.Sums.{sum_change}
 use Rattle.crpd_base.specs.declared.data.TaskSet.{TaskSet}
 use Rattle.crpd_base.specs.declared.data.Certificate.{Certificate}
+use Rattle.crpd_base.specs.declared.data.Method.{Method}
+use Rattle.crpd_base.specs.declared.data.Method.TheVariants.{Ucb, Ecb}
+use Rattle.delay_count.specs.Demand.{gamma}
 use Rattle.loop_regions.specs.TaskGraph.{TaskGraph}
+use Rattle.cert_check.specs.JudgeInput.{window_at, certified_part}
 use Rattle.preempt_machine.specs.Machine.{Job}
 use Rattle.preempt_machine.specs.Step.{is_open, Start}
 use Rattle.preempt_machine.proofs.Runs.{over_stays}
@@ -19,9 +23,9 @@ use Rattle.run_account.specs.Fetches.{job_after}
 use Rattle.run_account.specs.Nodes.{job_task}
 use Rattle.run_account.specs.Ledger.{LedgerReload, IsOfRun}
 use Rattle.run_account.proofs.AnswerTimes.{answered_by}
-use Rattle.sound_laws.specs.Windows.{HasWindow, EvictedBy, PreemptedBy}
-use Rattle.sound_laws.specs.Ledgers.{HasAnswered, is_reload_in_window, evicted_by, preempted_by}
-use Rattle.sound_laws.specs.Ledgers.{LedgerWithinDelays}
+use Rattle.sound_laws.specs.Windows.{HasWindow, IsCharged, ChargedTo, CoversReloads}
+use Rattle.sound_laws.specs.Ledgers.{HasAnswered, is_reload_in_window, charged_job, charged_to}
+use Rattle.sound_laws.specs.Ledgers.{CoversLedgers, LedgerWithinDelays}
 use Rattle.sound_laws.proofs.Windows.Releases.{count, one_le}
 use Rattle.sound_laws.proofs.Counts.Counting.{count_le}
 use Rattle.run_account.proofs.ReloadFacts.{kept_at}
@@ -133,12 +137,11 @@ module _ (s : Start) (set : TaskSet) (graphs : ℕ → TaskGraph) (c : Certifica
             absurd (omega (arith, early, l))
       ]
 
-  has_window : HasWindow s set graphs c x start answer
+  has_window : HasWindow s set graphs x start answer
   has_window =
       record {
         in_range = H.in_range;
         code = H.code;
-        says = H.says;
         run = H.run;
         kept = kept_at s graphs answer n answer_by H.kept;
         job = H.job;
@@ -179,23 +182,29 @@ module _ (s : Start) (set : TaskSet) (graphs : ℕ → TaskGraph) (c : Certifica
     few : count_by of_window ledger ≤ count (made_at of_window ledger) answer
     few = counted of_window answer ledger H.is_ledger.in_order (λ e b. (in_window e b).early)
 
-  evicted_at : (j t : ℕ) → made_at (of_window (evicted_by s j)) ledger t ≡ true
-      → (t < answer) × EvictedBy s graphs c x start j t
-  evicted_at j t b =
-      let m = made (evicted_by s j) t b in
-      let e = m.reload in
-      let w = in_window (evicted_by s j) e m.passes in
-      subst (λ u. (u < answer) × EvictedBy s graphs c x start j u) m.at
-      (w.early, (w.late, e.job, e.evictor, w.by, eqb-true _ _ w.passes, m.holds.1.evicted))
+  charged_at : (method : Method) (e : LedgerReload) → IsOfRun s graphs c e
+      → IsCharged method s graphs c e.time e.job (charged_job method e)
+  charged_at Ucb e r = r.evicted
+  charged_at Ecb e r = r.preempted
 
-  preempted_at : (j t : ℕ) → made_at (of_window (preempted_by s j)) ledger t ≡ true
-      → (t < answer) × PreemptedBy s graphs c x start j t
-  preempted_at j t b =
-      let m = made (preempted_by s j) t b in
+  made_of : (method : Method) (j t : ℕ)
+      → made_at (of_window (charged_to method s j)) ledger t ≡ true
+      → (t < answer) × ChargedTo method s graphs c x start j t
+  made_of method j t b =
+      let m = made (charged_to method s j) t b in
       let e = m.reload in
-      let w = in_window (preempted_by s j) e m.passes in
-      subst (λ u. (u < answer) × PreemptedBy s graphs c x start j u) m.at
-      (w.early, (w.late, e.job, e.preemptor, w.by, eqb-true _ _ w.passes, m.holds.1.preempted))
+      let w = in_window (charged_to method s j) e m.passes in
+      subst (λ u. (u < answer) × ChargedTo method s graphs c x start j u) m.at (
+        w.early,
+        (
+          w.late,
+          e.job,
+          charged_job method e,
+          w.by,
+          eqb-true _ _ w.passes,
+          charged_at method e m.holds.1,
+        ),
+      )
 
 times_within : (a b miss most : ℕ) → a ≤ b → miss * b ≤ most → a * miss ≤ most
 times_within a b miss most le h =
@@ -203,19 +212,19 @@ times_within a b miss most le h =
     let turn : a * miss ≡ miss * a = mul_comm a miss in
     omega (arith, more, turn, h)
 
+-- a delay that covers the reloads covers those of the ledger
+pub covers_ledgers : (set : TaskSet) (graphs : ℕ → TaskGraph) (c : Certificate) (method : Method)
+    (delay : ℕ → ℕ → ℕ) → CoversReloads set graphs c method delay
+    → CoversLedgers set graphs c method delay
+covers_ledgers set graphs c method delay covers s n ledger x start answer j H l =
+    times_within _ _ set.platform.miss _
+    (few s set graphs c n ledger x start answer H (charged_to method s j))
+    (covers s x start answer j _
+    (has_window s set graphs c n ledger x start answer H) (omega (arith, l))
+    (made_of s set graphs c n ledger x start answer H method j))
+
 pub ledger_within_delays : LedgerWithinDelays
-ledger_within_delays =
-    record {
-      ucb = λ s set graphs c n ledger x start answer j H l.
-          times_within _ _ set.platform.miss _
-          (few s set graphs c n ledger x start answer H (evicted_by s j))
-          (reloads_within_delays.ucb s set graphs c x start answer j _
-          (has_window s set graphs c n ledger x start answer H) (omega (arith, l))
-          (evicted_at s set graphs c n ledger x start answer H j));
-      ecb = λ s set graphs c n ledger x start answer j H l.
-          times_within _ _ set.platform.miss _
-          (few s set graphs c n ledger x start answer H (preempted_by s j))
-          (reloads_within_delays.ecb s set graphs c x start answer j _
-          (has_window s set graphs c n ledger x start answer H) (omega (arith, l))
-          (preempted_at s set graphs c n ledger x start answer H j));
-    }
+ledger_within_delays set graphs c method says =
+    covers_ledgers set graphs c method
+    (λ i. gamma set (certified_part c) (window_at c) (window_at c i) method i)
+    (reloads_within_delays set graphs c method says)

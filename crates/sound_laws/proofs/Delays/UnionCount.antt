@@ -8,7 +8,7 @@ use Rattle.std.proofs.lemmas.Bool.{cases_Bool, cases_eq, false≢true, and_parts
 use Rattle.std.proofs.lemmas.Bool.{eq-eqb, eqb-true, ne_eqb, lt-ltb, ltb-true}
 use Rattle.crpd_base.proofs.Sums.{sum_le}
 use Rattle.crpd_base.specs.declared.data.TaskSet.{TaskSet}
-use Rattle.script_reader.specs.Legal.{period_of, jitter_of}
+use Rattle.crpd_base.specs.Tasks.{period_of, jitter_of}
 use Rattle.preempt_machine.specs.Step.{Start}
 use Rattle.sound_laws.specs.Walks.{RunsLegally}
 use Rattle.crpd_base.specs.Sum.{sum_below}
@@ -21,20 +21,24 @@ use Rattle.sound_laws.proofs.Counts.Counting.{spread, inject, each_at_most, coun
 use Rattle.sound_laws.proofs.Windows.Busy.{line_at, task_at, in_window}
 use Rattle.sound_laws.proofs.Windows.Demands.{is_member, releases_few}
 
--- the reloads of a window: steps with a victim and an evictor inside, of which the evictor is of a
--- higher task and is released in the victim's life, and a cache set that the one evicts and the
--- other finds useful. No two steps have the same evictor and set
-pub record AreEvicted (s : Start) (set : TaskSet) (parts : ℕ → Part) (window : ℕ → ℕ) (i t to : ℕ)
-    (is_reload : ℕ → Bool) (victim evictor cached : ℕ → ℕ) : Type 0 where
+-- the reloads of a window: steps with a victim inside, and a job inside to which they are charged,
+-- of a higher task, and released in the victim's life
+pub record AreCharged (s : Start) (window : ℕ → ℕ) (i t to : ℕ) (is_reload : ℕ → Bool)
+    (victim charged : ℕ → ℕ) : Type 0 where
   pub victims : (n : ℕ) → n < to → is_reload n ≡ true
       → (victim n < length s.lines) × (in_window s i t to (victim n) ≡ true)
-  pub evictors : (n : ℕ) → n < to → is_reload n ≡ true
-      → (evictor n < length s.lines) × (in_window s i t to (evictor n) ≡ true)
-  pub higher : (n : ℕ) → n < to → is_reload n ≡ true → task_at s (evictor n) < task_at s (victim n)
+  pub jobs : (n : ℕ) → n < to → is_reload n ≡ true
+      → (charged n < length s.lines) × (in_window s i t to (charged n) ≡ true)
+  pub higher : (n : ℕ) → n < to → is_reload n ≡ true → task_at s (charged n) < task_at s (victim n)
   pub in_life : (n : ℕ) → n < to → is_reload n ≡ true → task_at s (victim n) < task_at s i
       → lies_in (line_at s (victim n)).release
       ((line_at s (victim n)).release + window (task_at s (victim n)))
-      (line_at s (evictor n)).release ≡ true
+      (line_at s (charged n)).release ≡ true
+
+-- a cache set of each that its evictor evicts and its victim finds useful. No two steps have the
+-- same evictor and set
+pub record HaveSets (s : Start) (parts : ℕ → Part) (to : ℕ) (is_reload : ℕ → Bool)
+    (victim evictor cached : ℕ → ℕ) : Type 0 where
   pub places : (n : ℕ) → n < to → is_reload n ≡ true → cached n < 512
   pub is_evicted : (n : ℕ) → n < to → is_reload n ≡ true
       → has_set (parts (task_at s (evictor n))).evicting (cached n) ≡ true
@@ -72,10 +76,28 @@ inside_task s i t to x h =
       | inr q ↦ let l : task_at s x < task_at s i = ltb-true _ _ (and_parts _ _ q).0 in omega arith
     ]
 
+-- the job to which a reload is charged is a member by its task
+pub charged_member : (s : Start) (window : ℕ → ℕ) (i t : ℕ) (is_reload : ℕ → Bool)
+    (victim charged : ℕ → ℕ)
+    → AreCharged s window i t (t + window (task_at s i)) is_reload victim charged
+    → (j n : ℕ) → n < t + window (task_at s i)
+    → (is_reload n && (task_at s (charged n) == j)) ≡ true
+    → is_member s t (t + window (task_at s i)) j (charged n) ≡ true
+charged_member s window i t is_reload victim charged are j n l b =
+    let both = and_parts (is_reload n) (task_at s (charged n) == j) b in
+    let is = are.jobs n l both.0 in
+    let below = are.higher n l both.0 in
+    let top = inside_task s i t (t + window (task_at s i)) (victim n) (are.victims n l both.0).1 in
+    subst (λ k. is_member s t (t + window (task_at s i)) k (charged n) ≡ true)
+    (eqb-true (task_at s (charged n)) j both.1)
+    (inside_member s i t (t + window (task_at s i)) (charged n) is.1
+    (λ q. let same : task_at s (charged n) ≡ task_at s i = ap (λ k. task_at s k) q in
+    omega arith))
+
 module _ (s : Start) (set : TaskSet) (run : RunsLegally set s) (parts : ℕ → Part) (window : ℕ → ℕ)
     (i t : ℕ) (is_reload : ℕ → Bool) (victim evictor cached : ℕ → ℕ)
-    (are : AreEvicted s set parts window i t (t + window (task_at s i)) is_reload victim evictor
-    cached)
+    (are : AreCharged s window i t (t + window (task_at s i)) is_reload victim evictor)
+    (sets : HaveSets s parts (t + window (task_at s i)) is_reload victim evictor cached)
     (periods : (k : ℕ) → k ≤ task_at s i → 0 < period_of set k) where
   abbrev to : ℕ
   to = t + window (task_at s i)
@@ -95,18 +117,6 @@ module _ (s : Start) (set : TaskSet) (run : RunsLegally set s) (parts : ℕ → 
   abbrev by_victim : ℕ → ℕ → ℕ → ℕ → Bool
   by_victim j c k n = by_set j c n && (task_at s (victim n) == k)
 
-  evictor_member : (j n : ℕ) → n < to → by_task j n ≡ true → is_member s t to j (evictor n) ≡ true
-  evictor_member j n l b =
-      let both = and_parts (is_reload n) (task_at s (evictor n) == j) b in
-      let is = are.evictors n l both.0 in
-      let e = eqb-true (task_at s (evictor n)) j both.1 in
-      let below = are.higher n l both.0 in
-      let top = inside_task s i t to (victim n) (are.victims n l both.0).1 in
-      subst (λ k. is_member s t to k (evictor n) ≡ true) e
-      (inside_member s i t to (evictor n) is.1
-      (λ q. let same : task_at s (evictor n) ≡ task_at s i = ap (λ k. task_at s k) q in
-      omega arith))
-
   -- the evictors of the reloads of a task and a set are different
   few_evictors : (j c : ℕ) (p : ℕ → Bool) (low w : ℕ) → j ≤ task_at s i
       → ((n : ℕ) → n < to → p n ≡ true → by_set j c n ≡ true)
@@ -114,12 +124,12 @@ module _ (s : Start) (set : TaskSet) (run : RunsLegally set s) (parts : ℕ → 
       → count p to ≤ jobs j w
   few_evictors j c p low w h is member =
       let inj = inject p evictor (is_member s low (low + w) j) to (length s.lines)
-      (λ n l b. (are.evictors n l (and_parts _ _ (and_parts _ _ (is n l b)).0).0).0)
+      (λ n l b. (are.jobs n l (and_parts _ _ (and_parts _ _ (is n l b)).0).0).0)
       member
       (λ n m l k a b e.
       let pa = and_parts (by_task j n) (cached n == c) (is n (omega arith) a) in
       let pb = and_parts (by_task j m) (cached m == c) (is m k b) in
-      are.once n m l k (and_parts (is_reload n) _ pa.0).0 (and_parts (is_reload m) _ pb.0).0 e
+      sets.once n m l k (and_parts (is_reload n) _ pa.0).0 (and_parts (is_reload m) _ pb.0).0 e
       (eqb-true (cached n) c pa.1 ∙ sym (eqb-true (cached m) c pb.1))) in
       let few = releases_few s set run low w j (periods j h) in
       omega (arith, inj, few)
@@ -128,7 +138,8 @@ module _ (s : Start) (set : TaskSet) (run : RunsLegally set s) (parts : ℕ → 
   by_jobs : (j c : ℕ) → j ≤ task_at s i → count (by_set j c) to ≤ jobs j (window (task_at s i))
   by_jobs j c h =
       few_evictors j c (by_set j c) t (window (task_at s i)) h (λ n l b. b)
-      (λ n l b. evictor_member j n l (and_parts (by_task j n) _ b).0)
+      (λ n l b. charged_member s window i t is_reload victim evictor are j n l
+      (and_parts (by_task j n) _ b).0)
 
   -- the reloads of one victim
   abbrev by_job : ℕ → ℕ → ℕ → ℕ → ℕ → Bool
@@ -207,7 +218,7 @@ module _ (s : Start) (set : TaskSet) (run : RunsLegally set s) (parts : ℕ → 
                   let u : has_set (parts k).useful c ≡ true =
                   subst (λ z. has_set (parts k).useful z ≡ true) cc'
                   (subst (λ z. has_set (parts z).useful (cached n) ≡ true) vk
-                  (are.is_useful n l eb.0)) in
+                  (sets.is_useful n l eb.0)) in
                   absurd (false≢true (sym b
                   ∙ and_from (nat_lt j k) (has_set (parts k).useful c) (lt-ltb j k l') u))
             ]) in
@@ -272,7 +283,7 @@ module _ (s : Start) (set : TaskSet) (run : RunsLegally set s) (parts : ℕ → 
                   let ev : has_set (parts j).evicting c ≡ true =
                   subst (λ z. has_set (parts j).evicting z ≡ true) (eqb-true (cached n) c tb.1)
                   (subst (λ z. has_set (parts z).evicting (cached n) ≡ true)
-                  (eqb-true (task_at s (evictor n)) j eb.1) (are.is_evicted n l eb.0)) in
+                  (eqb-true (task_at s (evictor n)) j eb.1) (sets.is_evicted n l eb.0)) in
                   absurd (false≢true (sym b ∙ ev))
             ]) in
             omega (arith, none)
@@ -290,16 +301,4 @@ module _ (s : Start) (set : TaskSet) (run : RunsLegally set s) (parts : ℕ → 
   pub task_share : (j : ℕ) → j ≤ task_at s i
       → count (by_task j) to ≤ ucb_count set parts window (window (task_at s i)) (task_at s i) j
   unfolding union_count
-  task_share j h = all_shares j 512 h are.places
-
-  -- the reloads of the window
-  pub evicted_few : count is_reload to
-      ≤ sum_below (ucb_count set parts window (window (task_at s i)) (task_at s i)) (task_at s i)
-  evicted_few =
-      let all = spread is_reload (λ n. task_at s (evictor n)) to (task_at s i)
-      (λ n l b. let up = are.higher n l b in
-      let top = inside_task s i t to (victim n) (are.victims n l b).1 in omega arith) in
-      let le = sum_le (λ j. count (by_task j) to)
-      (ucb_count set parts window (window (task_at s i)) (task_at s i)) (task_at s i)
-      (λ j l. task_share j (omega arith)) in
-      omega (arith, all, le)
+  task_share j h = all_shares j 512 h sets.places

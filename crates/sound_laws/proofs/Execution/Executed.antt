@@ -37,7 +37,7 @@ use Rattle.run_account.proofs.Owners.{candidate_at, was_owner, owns_same}
 use Rattle.run_account.proofs.Moves.{never_moved}
 use Rattle.run_account.specs.Nodes.{job_task, plan_at, node_of_job}
 use Rattle.run_account.specs.Walks.{fetched_nodes}
-use Rattle.sound_laws.specs.Walks.{HasTaskRanges, IsCodeOf, before_of}
+use Rattle.sound_laws.specs.Walks.{HasTaskRanges, IsCodeOf, MeetsGraphs, before_of}
 use Rattle.sound_laws.specs.CyclesToGo.{walk_of, cycles_to_go, misses_counted_hit, executes}
 use Rattle.sound_laws.specs.CyclesToGo.{makes_reload, count_below, rest_of_walk, has_rest}
 use Rattle.sound_laws.specs.CyclesToGo.{ExecutionWithinBound}
@@ -46,6 +46,11 @@ use Rattle.sound_laws.proofs.Walks.KeptWalks.{ok, hit_some, left_zero, stands_at
 use Rattle.run_account.proofs.Stands.{nodes_after}
 use Rattle.sound_laws.proofs.Execution.Spends.{extra_of, go_between, SpendTurn, spend_turn}
 use Rattle.sound_laws.proofs.Execution.Spends.{rest_some}
+
+-- after a yes the tasks' parts meet the clauses of the graphs
+pub yes_meets : (set : TaskSet) (graphs : ℕ → TaskGraph) (c : Certificate) → IsYes set graphs c
+    → MeetsGraphs set graphs c
+yes_meets set graphs c says k clause l = graph_part set graphs c k clause (says k clause l)
 
 -- what the clauses give for a task, with these hits
 pub record IsMet (p : Platform) (t : TaskGraph) (c : TaskPart) (counted : ℕ → Bool) : Type 0 where
@@ -63,18 +68,18 @@ module _ (s : Start) (set : TaskSet) (graphs : ℕ → TaskGraph) (R : HasTaskRa
       regions_law (graphs (job_task s x)).graph (graphs (job_task s x)).places (plan_at s x).loops
       (graphs (job_task s x)).nest g.regions g.accepted
 
-  -- after a yes, with any test of the hits that are counted
-  pub is_met : (c : Certificate) (x : ℕ) → x < length s.lines → IsYes set graphs c
+  -- with any test of the hits that are counted
+  pub is_met : (c : Certificate) (x : ℕ) → x < length s.lines → MeetsGraphs set graphs c
       → job_task s x < length set.tasks → (counted : ℕ → Bool)
       → CountsHits (graphs (job_task s x)).graph
       (accesses_of s.system.platform (graphs (job_task s x)))
       (listed_of (certified_task c (job_task s x))) counted
       → IsMet s.system.platform (graphs (job_task s x)) (certified_task c (job_task s x)) counted
-  is_met c x h says l counted counts =
+  is_met c x h met l counted counts =
       let t = graphs (job_task s x) in
       let N = nested x h in
       let here : (k : Clause) → GraphHolds set.platform t (certified_task c (job_task s x)) k =
-      λ k. graph_part set graphs c (job_task s x) k (says (job_task s x) k l) in
+      λ k. met (job_task s x) k l in
       let there : (k : Clause)
       → GraphHolds s.system.platform t (certified_task c (job_task s x)) k =
       subst (λ (p : Platform). (k : Clause) → GraphHolds p t (certified_task c (job_task s x)) k)
@@ -91,12 +96,12 @@ module _ (s : Start) (set : TaskSet) (graphs : ℕ → TaskGraph) (R : HasTaskRa
       }
 
   -- there is such a test
-  pub hit_test : (c : Certificate) (k : ℕ) → IsYes set graphs c → k < length set.tasks
+  pub hit_test : (c : Certificate) (k : ℕ) → MeetsGraphs set graphs c → k < length set.tasks
       → (counted : ℕ → Bool) × CountsHits (graphs k).graph
       (accesses_of s.system.platform (graphs k)) (listed_of (certified_task c k)) counted
-  hit_test c k says l =
+  hit_test c k met l =
       hit_test_law (graphs k).graph (accesses_of s.system.platform (graphs k))
-      (listed_of (certified_task c k)) (C.graphs_of k l).follows.graph (says k Leaders l).1
+      (listed_of (certified_task c k)) (C.graphs_of k l).follows.graph (met k Leaders l).1
 
   module _ (c : TaskPart) (x : ℕ) (h : x < length s.lines) (counted : ℕ → Bool)
       (M : IsMet s.system.platform (graphs (job_task s x)) c counted) where
@@ -297,7 +302,7 @@ module _ (s : Start) (set : TaskSet) (graphs : ℕ → TaskGraph) (R : HasTaskRa
 
 pub execution_within_bound : ExecutionWithinBound
 execution_within_bound s set graphs c n x is_hit R C T says h l counts k =
-    let M = is_met s set graphs R C T c x h says l is_hit counts in (
+    let M = is_met s set graphs R C T c x h (yes_meets set graphs c says) l is_hit counts in (
       execution s set graphs R C T (certified_task c (job_task s x)) x h is_hit M n k,
       λ o. some_rest s set graphs R C T (certified_task c (job_task s x)) x h is_hit M n o k,
     )

@@ -23,18 +23,7 @@ use Rattle.sound_laws.proofs.Walks.CheckedRuns.{CheckedRun, bound_of, is_below, 
 use Rattle.sound_laws.proofs.Reloads.Checked.{counted_at, met, is_reload, extra, extra_is}
 
 module _ (K : CheckedRun) where
-  open K use {
-    start as s,
-    set,
-    graphs,
-    certificate as c,
-    horizon,
-    in_range as R,
-    code as C,
-    says,
-    run,
-    kept,
-  }
+  open K use {start as s, set, graphs, certificate as c, horizon, in_range as R, code as C, run}
 
   -- the cycles that a job has to go
   abbrev pub rest : ℕ → ℕ → ℕ

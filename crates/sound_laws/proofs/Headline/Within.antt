@@ -2,7 +2,7 @@
 -- within the delays.
 use Rattle.std.proofs.Common.{◌≡◌, ℕ, zero, suc, ◌+◌, ◌*◌, ◌<◌, ◌≤◌, Bool, true, false, ◌&&◌, List}
 use Rattle.std.proofs.Common.{[], ◌∷◌, length, get_or, map, cond, nat_le, if◌then◌else◌, IsTrue}
-use Rattle.std.proofs.Common.{refl, sym, ◌∙◌, ap, subst, arith, slice_index, count_by}
+use Rattle.std.proofs.Common.{refl, sym, ◌∙◌, ap, subst, arith, slice_index, count_by, ◌==◌}
 use Rattle.std.proofs.lemmas.List.Recursion.{is_count_by}
 use Rattle.crpd_base.specs.declared.data.Certificate.{Certificate}
 use Rattle.crpd_base.specs.declared.data.Script.{Script}
@@ -10,8 +10,10 @@ use Rattle.crpd_base.specs.declared.data.ScriptJob.{ScriptJob}
 use Rattle.crpd_base.specs.declared.data.TaskPart.{TaskPart}
 use Rattle.crpd_base.specs.declared.data.TaskSet.{TaskSet}
 use Rattle.code_map.specs.Words.{Code}
-use Rattle.script_reader.specs.Legal.{IsLegal}
-use Rattle.delay_count.specs.Gamma.{gamma_ucb, gamma_ecb}
+use Rattle.crpd_base.specs.Arrivals.{IsLegal}
+use Rattle.crpd_base.specs.declared.data.Method.{Method}
+use Rattle.crpd_base.specs.declared.data.Method.TheVariants.{Ucb, Ecb}
+use Rattle.delay_count.specs.Demand.{gamma}
 use Rattle.evict_sets.specs.ListedPart.{certified_task, no_task_part}
 use Rattle.loop_regions.specs.TaskGraph.{TaskGraph}
 use Rattle.cert_check.specs.JudgeInput.{window_at, certified_part}
@@ -31,10 +33,10 @@ use Rattle.preempt_machine.specs.Starts.{start_of_script}
 use Rattle.run_account.proofs.Jobs.{line_is}
 use Rattle.preempt_machine.proofs.Loads.{start_cache_length}
 use Rattle.sound_laws.specs.Headline.{IsUndisturbed}
-use Rattle.sound_laws.specs.Ledgers.{HasAnswered}
+use Rattle.sound_laws.specs.Ledgers.{HasAnswered, is_reload_in_window, charged_to}
 use Rattle.sound_laws.specs.Walks.{IsCodeOf, RunsLegally}
 use Rattle.sound_laws.specs.CheckedCode.{IsChecked, bounds, CheckedCodeIsBounded, is_in_window}
-use Rattle.sound_laws.specs.CheckedCode.{has_evictor, has_preemptor, CheckedAccountIsWithinDelays}
+use Rattle.sound_laws.specs.CheckedCode.{charged_task, CheckedAccountIsWithinDelays}
 use Rattle.sound_laws.proofs.Headline.Undisturbed.{undisturbed_bound}
 use Rattle.sound_laws.proofs.Headline.InRange.{in_range}
 use Rattle.sound_laws.proofs.Delays.Ledgers.{ledger_within_delays}
@@ -119,7 +121,6 @@ module _ (set : TaskSet) (code : Code) (graphs : ℕ → TaskGraph) (c : Certifi
       record {
         in_range = in_range set K.ranges;
         code = code_of set code graphs c K;
-        says = K.says;
         run = run;
         kept = I.kept.0 k;
         is_ledger = I.is_ledger;
@@ -139,51 +140,39 @@ module _ (set : TaskSet) (code : Code) (graphs : ℕ → TaskGraph) (c : Certifi
       → count_by p a.entries ≡ count_by (λ (e : LedgerReload). p (account_entry s e)) I.ledger
   in_ledger p = ap (count_by p) I.entries ∙ count_map p (account_entry s) I.ledger
 
-  within_ucb : (x start answer j : ℕ) → x < length script.jobs
-      → (completion a.completions x).«end» ≡ «end».Answered answer → IsWindowStart s x start
-      → (i : ℕ) → job_task s x ≡ i → j < i
-      → count_by (λ (e : Entry). is_in_window i start answer e && has_evictor j e)
-      a.entries * set.platform.miss
-      ≤ gamma_ucb set (certified_part c) (window_at c) (window_at c i) i j
-  within_ucb x start answer j h e w i at l =
-      subst (λ z. count_by (λ (d : Entry). is_in_window z start answer d && has_evictor j d)
-      a.entries * set.platform.miss
-      ≤ gamma_ucb set (certified_part c) (window_at c) (window_at c z) z j) at
-      (subst (λ m. m * set.platform.miss
-      ≤ gamma_ucb set (certified_part c) (window_at c) (window_at c (job_task s x))
-      (job_task s x) j)
-      (sym (in_ledger (λ (d : Entry).
-      is_in_window (job_task s x) start answer d && has_evictor j d)))
-      (ledger_within_delays.ucb s set graphs c script.cycles I.ledger x start answer j
-      (has_answered x start answer h e w) (omega (arith, l, at))))
+  -- those that a method charges to a task
+  in_method : (method : Method) (x start answer j : ℕ)
+      → count_by (λ (d : Entry).
+      is_in_window (job_task s x) start answer d && (charged_task method d == j)) a.entries
+      ≡ count_by (λ (e : LedgerReload).
+      is_reload_in_window s x start answer e && charged_to method s j e) I.ledger
+  in_method Ucb x start answer j =
+      in_ledger (λ (d : Entry).
+      is_in_window (job_task s x) start answer d && (charged_task Ucb d == j))
+  in_method Ecb x start answer j =
+      in_ledger (λ (d : Entry).
+      is_in_window (job_task s x) start answer d && (charged_task Ecb d == j))
 
-  within_ecb : (x start answer j : ℕ) → x < length script.jobs
+  within : (method : Method) (x start answer j : ℕ) → x < length script.jobs
       → (completion a.completions x).«end» ≡ «end».Answered answer → IsWindowStart s x start
       → (i : ℕ) → job_task s x ≡ i → j < i
-      → count_by (λ (e : Entry). is_in_window i start answer e && has_preemptor j e)
+      → count_by (λ (e : Entry). is_in_window i start answer e && (charged_task method e == j))
       a.entries * set.platform.miss
-      ≤ gamma_ecb set (certified_part c) (window_at c) (window_at c i) i j
-  within_ecb x start answer j h e w i at l =
-      subst (λ z. count_by (λ (d : Entry). is_in_window z start answer d && has_preemptor j d)
+      ≤ gamma set (certified_part c) (window_at c) (window_at c i) method i j
+  within method x start answer j h e w i at l =
+      subst (λ z. count_by (λ (d : Entry).
+      is_in_window z start answer d && (charged_task method d == j))
       a.entries * set.platform.miss
-      ≤ gamma_ecb set (certified_part c) (window_at c) (window_at c z) z j) at
+      ≤ gamma set (certified_part c) (window_at c) (window_at c z) method z j) at
       (subst (λ m. m * set.platform.miss
-      ≤ gamma_ecb set (certified_part c) (window_at c) (window_at c (job_task s x))
+      ≤ gamma set (certified_part c) (window_at c) (window_at c (job_task s x)) method
       (job_task s x) j)
-      (sym (in_ledger (λ (d : Entry).
-      is_in_window (job_task s x) start answer d && has_preemptor j d)))
-      (ledger_within_delays.ecb s set graphs c script.cycles I.ledger x start answer j
+      (sym (in_method method x start answer j))
+      (ledger_within_delays set graphs c method K.says s script.cycles I.ledger x start answer j
       (has_answered x start answer h e w) (omega (arith, l, at))))
 
 pub checked_account_is_within_delays : CheckedAccountIsWithinDelays
-checked_account_is_within_delays set code graphs c script a K T legal I k =
-    record {
-      ucb = λ x start answer j h e w l.
-          within_ucb set code graphs c script a K T legal I k x start answer j h e w
-          (script_line script.jobs x).task.0
-          (task_is set code graphs c script a K T legal I k x h) l;
-      ecb = λ x start answer j h e w l.
-          within_ecb set code graphs c script a K T legal I k x start answer j h e w
-          (script_line script.jobs x).task.0
-          (task_is set code graphs c script a K T legal I k x h) l;
-    }
+checked_account_is_within_delays set code graphs c script a K T legal I k method x start answer j h
+    e w l =
+    within set code graphs c script a K T legal I k method x start answer j h e w
+    (script_line script.jobs x).task.0 (task_is set code graphs c script a K T legal I k x h) l

@@ -7,7 +7,9 @@ use Rattle.std.proofs.lemmas.Bool.{cases_lt, false≢true, and_parts, and_from, 
 use Rattle.crpd_base.proofs.Options.{some_injective}
 use Rattle.icache.specs.Cache.{block_of, set_of, is_hit}
 use Rattle.crpd_base.specs.Sets.{has as has_set}
-use Rattle.evict_sets.specs.ListedPart.{certified_task}
+use Rattle.evict_sets.specs.Full.{IsHit}
+use Rattle.evict_sets.specs.ListedPart.{listed_of, certified_task}
+use Rattle.cert_check.specs.JudgeInput.{accesses_of}
 use Rattle.preempt_machine.specs.Step.{turn_of, Fetch, state, makes_fetch}
 use Rattle.preempt_machine.proofs.Steps.{fetch_says}
 use Rattle.run_account.specs.Fetches.{job_after, fetched_set}
@@ -26,7 +28,8 @@ use Rattle.sound_laws.proofs.Walks.Stands.{walk_node}
 use Rattle.sound_laws.proofs.Walks.KeptWalks.{ok, walking}
 use Rattle.sound_laws.proofs.Execution.Spends.{extra_of}
 use Rattle.sound_laws.proofs.Execution.Executed.{IsMet, is_met, hit_test}
-use Rattle.sound_laws.proofs.Reloads.OwnFetches.{reload_is, set_is}
+use Rattle.run_account.proofs.ReloadFacts.{kept_at as kept_then}
+use Rattle.sound_laws.proofs.Reloads.OwnFetches.{hit_is, reload_is, set_is}
 use Rattle.sound_laws.proofs.Walks.CheckedRuns.{CheckedRun, parts, below_tasks, is_opened, is_below}
 use Rattle.sound_laws.proofs.Walks.CheckedRuns.{kept_at}
 
@@ -39,14 +42,14 @@ module _ (K : CheckedRun) where
     horizon,
     in_range as R,
     code as C,
-    says,
+    meets,
     run,
     kept,
   }
 
   -- the hits that the clauses count, of the task of each job
   pub counted_by : (k : ℕ) → (k < length set.tasks) ⊎ (length set.tasks ≤ k) → ℕ → Bool
-  counted_by k (inl l) = (hit_test s set graphs R C run.tasks c k says l).0
+  counted_by k (inl l) = (hit_test s set graphs R C run.tasks c k meets l).0
   counted_by k (inr g) = λ y. false
 
   pub counted_at : ℕ → ℕ → Bool
@@ -58,8 +61,8 @@ module _ (K : CheckedRun) where
       (counted_by (job_task s x) d)
   unfolding counted_by
   met_by x h (inl l) =
-      let test = hit_test s set graphs R C run.tasks c (job_task s x) says l in
-      is_met s set graphs R C run.tasks c x h says l test.0 test.1
+      let test = hit_test s set graphs R C run.tasks c (job_task s x) meets l in
+      is_met s set graphs R C run.tasks c x h meets l test.0 test.1
   met_by x h (inr g) = let l = below_tasks K x h in absurd (omega arith)
 
   pub met : (x : ℕ) → x < length s.lines
@@ -96,6 +99,13 @@ module _ (K : CheckedRun) where
   abbrev pub preemptor_at : ℕ → ℕ
   preemptor_at n = preemptor_of s (victim n) (cached n) n
 
+  -- the node of job x at step n is counted as a hit
+  abbrev pub hits_at : ℕ → ℕ → Type 0
+  hits_at n x =
+      IsHit (graphs (job_task s x)).graph (accesses_of s.system.platform (graphs (job_task s x)))
+      (listed_of (certified_task c (job_task s x)))
+      (node_of_job (graphs (job_task s x)) (job_after s n x))
+
   -- what such a reload is: its job's own, with its evictor
   pub record IsCheckedReload (n : ℕ) : Type 0 where
     pub is_candidate : candidate_at s n ≡ Some (victim n)
@@ -104,6 +114,7 @@ module _ (K : CheckedRun) where
     pub fetch : Fetch
     pub own : Fetch
     pub reload : IsOwnReload s (victim n) n own_time fetch own
+    pub counted : hits_at n (victim n)
     pub set_same : fetched_set s fetch ≡ cached n
     pub useful : has_set (parts K (task_at s (victim n))).useful (cached n) ≡ true
     pub last_time : ℕ
@@ -132,6 +143,10 @@ module _ (K : CheckedRun) where
         reload =
             subst (λ k. IsOwnReload s k n r.own_time
             (record { job = x; address = (job_after s n x).pc }) r.own) (sym vx) r.reload;
+        counted =
+            subst (hits_at n) (sym vx)
+            (hit_is s set graphs R C run.tasks x h (certified_task c (job_task s x)) (counted_at x)
+            (met x h) n k e b);
         set_same = ap (λ k. set_at (job_after s n k).pc) (sym vx);
         useful =
             subst (λ k. has_set (parts K (task_at s k)).useful (set_at (job_after s n k).pc) ≡ true)
@@ -220,6 +235,17 @@ module _ (K : CheckedRun) where
       (turn_of s.system (state s n) x) ≡ true = rw (makes, counted, misses) refl in
       and_from (nat_lt n horizon) _ (lt-ltb n horizon l)
       (subst (λ q. reload_by q n ≡ true) (sym mine) is)
+
+  -- and such a reload is one of the ledger
+  pub ledger_of : (n : ℕ) → n ≤ horizon → (e : IsCheckedReload n)
+      → Ledger.IsLedgerReload s graphs c n (victim n) e.fetch
+  ledger_of n l e =
+      record {
+        kept = kept_then s graphs n horizon l kept;
+        fetches = e.reload.fetches;
+        counted = e.counted;
+        misses = e.reload.misses;
+      }
 
   pub fetch_same : (n x y : ℕ) (f g : Fetch) → FetchesAt s x n f → FetchesAt s y n g → f ≡ g
   fetch_same n x y f g a b = some_injective (sym a.is ∙ b.is)

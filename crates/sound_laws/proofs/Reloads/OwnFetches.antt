@@ -30,7 +30,7 @@ use Rattle.sound_laws.proofs.Walks.Walked.{before_fresh}
 use Rattle.run_account.proofs.JobWalks.{opened, own_of_nodes}
 use Rattle.sound_laws.proofs.Walks.KeptWalks.{hit_some, task_below, ok, walking}
 use Rattle.sound_laws.proofs.Walks.Stands.{walk_node}
-use Rattle.sound_laws.proofs.Execution.Executed.{IsMet, is_met, hit_test}
+use Rattle.sound_laws.proofs.Execution.Executed.{IsMet, is_met, hit_test, yes_meets}
 
 -- what the laws on runs ask of such a run
 pub has_graphs : (s : Start) (set : TaskSet) (graphs : ℕ → TaskGraph)
@@ -115,6 +115,19 @@ module _ (s : Start) (set : TaskSet) (graphs : ℕ → TaskGraph) (R : HasTaskRa
               ∙ last_is n c' m k o on.1
         ])
 
+    -- a reload is at a node that is counted as a hit
+    pub hit_is : (n : ℕ) → is_unbroken (job_after s n x).watch ≡ true → candidate_at s n ≡ Some x
+        → misses_counted_hit s.system tg counted (turn_of s.system (state s n) x) ≡ true
+        → IsHit tg.graph acc (listed_of c) (node_of_job tg (job_after s n x))
+    hit_is n k e b =
+        let both = and_parts (makes_fetch s.system (turn_of s.system (state s n) x)) _ b in
+        let more = and_parts (counted (node_of_job tg (job_after s n x))) _ both.1 in
+        let W = on_walk n k (opened s graphs n x e) in
+        let node = walk_node s.system (plan_at s x) tg (ok s set graphs R C T x h) C.map
+        (node_of_job tg (job_after s n x))
+        (before_of (job_after s n x) (fetched_nodes s graphs n x)) W.walked.walk in
+        (M.hits (node_of_job tg (job_after s n x)) node).0 more.0
+
     pub reload_is : (n : ℕ) → is_unbroken (job_after s n x).watch ≡ true → candidate_at s n ≡ Some x
         → misses_counted_hit s.system tg counted (turn_of s.system (state s n) x) ≡ true
         → IsUsefulReload s tg c n x
@@ -128,8 +141,7 @@ module _ (s : Start) (set : TaskSet) (graphs : ℕ → TaskGraph) (R : HasTaskRa
         let node = walk_node s.system (plan_at s x) tg (ok s set graphs R C T x h) C.map
         (node_of_job tg (job_after s n x))
         (before_of (job_after s n x) (fetched_nodes s graphs n x)) W.walked.walk in
-        let hit : IsHit tg.graph acc (listed_of c) (node_of_job tg (job_after s n x)) =
-        (M.hits (node_of_job tg (job_after s n x)) node).0 more.0 in
+        let hit = hit_is n k e b in
         let own_pc : HasOwn s x
         (set_of s.system.platform (block_of s.system.platform (job_after s n x).pc)) n
         (block_of s.system.platform (job_after s n x).pc) =
@@ -153,9 +165,10 @@ module _ (s : Start) (set : TaskSet) (graphs : ℕ → TaskGraph) (R : HasTaskRa
 
 pub own_fetches_agree : OwnFetchesAgreeLaw
 own_fetches_agree s set graphs c n x R C T says h k o =
+    let met = yes_meets set graphs c says in
     let l = task_below s set graphs R C T x h in
-    let test = hit_test s set graphs R C T c (job_task s x) says l in
-    let M = is_met s set graphs R C T c x h says l test.0 test.1 in
+    let test = hit_test s set graphs R C T c (job_task s x) met l in
+    let M = is_met s set graphs R C T c x h met l test.0 test.1 in
     record {
       between = own_between s set graphs R C T x h (certified_task c (job_task s x)) test.0 M n k o;
       within = own_within s set graphs R C T x h (certified_task c (job_task s x)) test.0 M n k o;
@@ -163,7 +176,8 @@ own_fetches_agree s set graphs c n x R C T says h k o =
 
 pub ledger_reloads_are_own : LedgerReloadsAreOwn
 ledger_reloads_are_own s set graphs c n x is_hit R C T says h l counts k b =
-    let M = is_met s set graphs R C T c x h says l is_hit counts in
+    let met = yes_meets set graphs c says in
+    let M = is_met s set graphs R C T c x h met l is_hit counts in
     let both = and_parts (is_owner (candidate_at s n) x) _ b in
     reload_is s set graphs R C T x h (certified_task c (job_task s x)) is_hit M n k
     (owns_true (candidate_at s n) x both.0) both.1

@@ -10,7 +10,6 @@ use Rattle.crpd_base.specs.declared.data.Part.{Part}
 use Rattle.crpd_base.specs.declared.data.Certificate.{Certificate}
 use Rattle.loop_regions.specs.TaskGraph.{TaskGraph}
 use Rattle.cert_check.specs.JudgeInput.{window_at, certified_part, longest_at}
-use Rattle.cert_check.specs.Verdict.{IsYes}
 use Rattle.evict_sets.specs.ListedPart.{certified_task}
 use Rattle.preempt_machine.specs.Machine.{Standing, Open, Answered, Faulted, Job, no_job}
 use Rattle.preempt_machine.specs.Step.{is_open, Start, state}
@@ -19,7 +18,7 @@ use Rattle.run_account.specs.Fetches.{job_after, HasCache}
 use Rattle.run_account.proofs.Jobs.{jobs_length}
 use Rattle.run_account.proofs.Owners.{candidate_at}
 use Rattle.run_account.proofs.AnswerTimes.{answered_by}
-use Rattle.sound_laws.specs.Walks.{HasTaskRanges, IsCodeOf, RunsLegally}
+use Rattle.sound_laws.specs.Walks.{HasTaskRanges, IsCodeOf, RunsLegally, MeetsGraphs}
 use Rattle.sound_laws.proofs.Windows.Busy.{task_at}
 use Rattle.run_account.proofs.JobWalks.{each_kept, opened}
 use Rattle.run_account.proofs.ReloadFacts.{kept_at as kept_then}
@@ -31,8 +30,8 @@ pub record RunsJobsOf (set : TaskSet) (s : Start) : Type 0 where
   pub cache : s.system.platform.sets ≤ length s.cache
   pub tasks : NamesTasks set s.lines
 
--- a run of a set with its code, of which these are the graphs, after the judge's yes: it is kept up
--- to the horizon
+-- a run of a set with its code, of which these are the graphs, where the parts of a certificate meet
+-- the graphs' clauses: it is kept up to the horizon
 pub record CheckedRun : Type 0 where
   pub start : Start
   pub set : TaskSet
@@ -41,15 +40,15 @@ pub record CheckedRun : Type 0 where
   pub horizon : ℕ
   pub in_range : HasTaskRanges set
   pub code : IsCodeOf start.system set graphs
-  pub says : IsYes set graphs certificate
+  pub meets : MeetsGraphs set graphs certificate
   pub run : RunsJobsOf set start
   pub kept : IsKept (state start horizon)
 
 -- the record of these parts
 abbrev pub checked_run : (s : Start) (set : TaskSet) (graphs : ℕ → TaskGraph) (c : Certificate)
-    (n : ℕ) → HasTaskRanges set → IsCodeOf s.system set graphs → IsYes set graphs c
+    (n : ℕ) → HasTaskRanges set → IsCodeOf s.system set graphs → MeetsGraphs set graphs c
     → RunsJobsOf set s → IsKept (state s n) → CheckedRun
-checked_run s set graphs c n R C says run kept =
+checked_run s set graphs c n R C meets run kept =
     record {
       start = s;
       set = set;
@@ -58,7 +57,7 @@ checked_run s set graphs c n R C says run kept =
       horizon = n;
       in_range = R;
       code = C;
-      says = says;
+      meets = meets;
       run = run;
       kept = kept;
     }
@@ -72,7 +71,6 @@ module _ (K : CheckedRun) where
     horizon,
     in_range as R,
     code as C,
-    says,
     run,
     kept,
   }

@@ -8,7 +8,8 @@ use Rattle.std.proofs.lemmas.Bool.{eqb-true, ne_eqb, ltb-true, leb-true, lt-ltb,
 use Rattle.crpd_base.proofs.Sums.{sum_le, sum_add, sum_times, sum_ge, sum_swap, only, sum_only}
 use Rattle.crpd_base.specs.declared.data.ScriptJob.{ScriptJob}
 use Rattle.crpd_base.specs.declared.data.TaskSet.{TaskSet}
-use Rattle.script_reader.specs.Legal.{AreApart, AreSpaced, IsReleasedInTime, period_of, jitter_of}
+use Rattle.crpd_base.specs.Tasks.{period_of, jitter_of}
+use Rattle.crpd_base.specs.Arrivals.{AreApart, AreSpaced, IsReleasedInTime}
 use Rattle.preempt_machine.specs.Machine.{no_job}
 use Rattle.preempt_machine.specs.Step.{Start}
 use Rattle.sound_laws.specs.Walks.{RunsLegally}

@@ -7,10 +7,11 @@ use Rattle.crpd_base.proofs.Sums.{sum_add}
 use Rattle.crpd_base.specs.declared.data.Platform.{Platform}
 use Rattle.crpd_base.specs.declared.data.Switching.{Switching}
 use Rattle.crpd_base.specs.declared.data.Switching.TheVariants.{Cycle, Instruction}
-use Rattle.script_reader.specs.Legal.{IsLegal, jitter_of, period_of}
+use Rattle.crpd_base.specs.Tasks.{jitter_of, period_of}
+use Rattle.crpd_base.specs.Arrivals.{IsLegal}
 use Rattle.delay_count.specs.Counts.{jobs_of}
-use Rattle.delay_count.specs.Demand.{blocking, greatest_from, gamma}
-use Rattle.cert_check.specs.declared.outcome.Clause.TheVariants.{Window, Response, Deadline}
+use Rattle.crpd_base.specs.Sum.{sum_below}
+use Rattle.delay_count.specs.Demand.{blocking, greatest_from}
 use Rattle.cert_check.specs.JudgeInput.{longest_of}
 use Rattle.evict_sets.specs.ListedPart.{certified_task}
 use Rattle.preempt_machine.specs.Machine.{Job}
@@ -29,26 +30,15 @@ use Rattle.sound_laws.proofs.Windows.Fronts.{middle, middle_left, middle_over, c
 use Rattle.sound_laws.proofs.Windows.Fronts.{instruction_front}
 use Rattle.sound_laws.proofs.Execution.Executed.{short_at}
 use Rattle.sound_laws.proofs.Walks.NoFaults.{no_fault}
-use Rattle.sound_laws.proofs.Walks.CheckedRuns.{CheckedRun, window, parts, longest, bound_of}
+use Rattle.sound_laws.proofs.Walks.CheckedRuns.{CheckedRun, window, longest, bound_of}
 use Rattle.sound_laws.proofs.Walks.CheckedRuns.{below_tasks, kept_at, answered_in_time}
 use Rattle.sound_laws.proofs.Reloads.Checked.{counted_at, met, extra}
 use Rattle.sound_laws.proofs.Execution.Spent.{rest, rest_spends, fresh}
 use Rattle.sound_laws.proofs.Delays.WindowReloads.{legal_run}
-use Rattle.sound_laws.proofs.Windows.Delayed.{delay, delayed}
+use Rattle.sound_laws.proofs.Windows.Delayed.{HaveDelays, delayed}
 
 module _ (K : CheckedRun) where
-  open K use {
-    start as s,
-    set,
-    graphs,
-    certificate as c,
-    horizon,
-    in_range as R,
-    code as C,
-    says,
-    run,
-    kept,
-  }
+  open K use {start as s, set, graphs, certificate as c, horizon, in_range as R, code as C, run}
 
   module _ (legal : IsLegal set s.lines) where
     abbrev pub block : ℕ → ℕ
@@ -93,70 +83,76 @@ module _ (K : CheckedRun) where
         (greatest_from (λ k. longest K k - 1) (task_at s x) (length set.tasks))
         (owner_short x t h early last)
 
-    pub room_at : (k : ℕ) → k < length set.tasks
-        → block k + base_demand set s.system.platform.switch (bound_of K) k (window K k)
-        + delay K legal k ≤ window K k
-    room_at k h =
-        let r = (says k Window h).1 in
-        let split = sum_add (λ j.
-        jobs_of set j (window K k) * (bound_of K j + (set.platform.switch + set.platform.switch)))
-        (gamma set (parts K) (window K) (window K k) (certified_task c k).method k) k in
-        let by_set : blocking set.platform.switching (longest K) k (length set.tasks)
-        + base_demand set set.platform.switch (bound_of K) k (window K k) + delay K legal k
-        ≤ window K k = omega (arith, r, split) in
-        subst (λ (p : Platform).
-        blocking p.switching (longest K) k (length set.tasks) + base_demand set p.switch
-        (bound_of K) k (window K k) + delay K legal k ≤ window K k) (sym C.platform) by_set
+    -- with delays that cover the reloads, and for which the windows have room
+    module _ (delay : ℕ → ℕ → ℕ) (D : HaveDelays K delay) where
+      -- the delays in a window of a task
+      abbrev pub delays : ℕ → ℕ
+      delays k = sum_below (delay k) k
 
-    pub response_at : (k : ℕ) → k < length set.tasks
-        → window K k + jitter_of set k ≤ period_of set k
-    response_at k h =
-        let r = says k Response h in
-        let d = says k Deadline h in
-        let p = R.deadlines k h in
-        omega (arith, r, d, p)
+      room_at : (k : ℕ) → k < length set.tasks
+          → block k + base_demand set s.system.platform.switch (bound_of K) k (window K k)
+          + delays k ≤ window K k
+      room_at k h =
+          let r = D.room.room k h in
+          let split = sum_add (λ j.
+          jobs_of set j (window K k) * (bound_of K j + (set.platform.switch + set.platform.switch)))
+          (delay k) k in
+          let by_set : blocking set.platform.switching (longest K) k (length set.tasks)
+          + base_demand set set.platform.switch (bound_of K) k (window K k) + delays k
+          ≤ window K k = omega (arith, r, split) in
+          subst (λ (p : Platform).
+          blocking p.switching (longest K) k (length set.tasks) + base_demand set p.switch
+          (bound_of K) k (window K k) + delays k ≤ window K k) (sym C.platform) by_set
 
-    pub windows : HasWindows s set (rest K) (extra K) (bound_of K) (window K) block
-        (delay K legal) horizon
-    windows =
-        record {
-          fronts = front_by s.system.platform.switching refl;
-          fresh = λ n x early w. fresh K n x w;
-          room = room_at;
-          response = response_at;
-          periods = R.periods;
-          delays = λ x t from h q a b e covers higher o.
-              delayed K legal x t from h a b e covers higher o;
-        }
+      response_at : (k : ℕ) → k < length set.tasks
+          → window K k + jitter_of set k ≤ period_of set k
+      response_at k h =
+          let d = D.room.in_deadline k h in
+          let p = R.deadlines k h in
+          omega (arith, d, p)
 
-    pub sure_over : (x : ℕ) → x < length s.lines
-        → (line_at s x).release + window K (task_at s x) ≤ horizon
-        → is_open (job_after s ((line_at s x).release + window K (task_at s x)) x).standing ≡ false
-    sure_over x h l =
-        over_in_window s set (legal_run K legal) (rest K) (extra K) (bound_of K) (window K) block
-        (delay K legal) horizon (rest_spends K) windows x h l
+      pub windows : HasWindows s set (rest K) (extra K) (bound_of K) (window K) block delays horizon
+      windows =
+          record {
+            fronts = front_by s.system.platform.switching refl;
+            fresh = λ n x early w. fresh K n x w;
+            room = room_at;
+            response = response_at;
+            periods = R.periods;
+            delays = λ x t from h q a b e covers higher o.
+                let by = D.covering x h in
+                delayed K x t from h a b e covers higher o by.0 (delay (task_at s x)) by.1;
+          }
 
-    pub sure_not_late : (x : ℕ) → x < length s.lines
-        → (line_at s x).arrival + (window K (task_at s x) + jitter_of set (task_at s x)) ≤ horizon
-        → IsAnsweredBy
-        ((line_at s x).arrival + (window K (task_at s x) + jitter_of set (task_at s x)))
-        (job_after s horizon x).standing
-    sure_not_late x h late =
-        let times = in_time_at s set (legal_run K legal) x h in
-        let by : (line_at s x).release + window K (task_at s x)
-        ≤ (line_at s x).arrival + (window K (task_at s x) + jitter_of set (task_at s x)) =
-        omega (arith, times.1) in
-        let early : (line_at s x).release + window K (task_at s x) ≤ horizon =
-        omega (arith, by, late) in
-        let over = sure_over x h early in
-        let same : (job_after s horizon x).standing
-        ≡ (job_after s ((line_at s x).release + window K (task_at s x)) x).standing =
-        ap (λ (j : Job). j.standing)
-        (over_stays s x ((line_at s x).release + window K (task_at s x)) horizon early over) in
-        subst (λ st. IsAnsweredBy
-        ((line_at s x).arrival + (window K (task_at s x) + jitter_of set (task_at s x))) st)
-        (sym same)
-        (answered_in_time K ((line_at s x).release + window K (task_at s x)) _ x
-        (job_after s ((line_at s x).release + window K (task_at s x)) x).standing refl over
-        (no_fault s set graphs R C run.tasks ((line_at s x).release + window K (task_at s x)) x h
-        (kept_at K ((line_at s x).release + window K (task_at s x)) x early h)) by)
+      sure_over : (x : ℕ) → x < length s.lines
+          → (line_at s x).release + window K (task_at s x) ≤ horizon
+          → is_open (job_after s ((line_at s x).release + window K (task_at s x)) x).standing
+          ≡ false
+      sure_over x h l =
+          over_in_window s set (legal_run K legal) (rest K) (extra K) (bound_of K) (window K) block
+          delays horizon (rest_spends K) windows x h l
+
+      pub sure_not_late : (x : ℕ) → x < length s.lines
+          → (line_at s x).arrival + (window K (task_at s x) + jitter_of set (task_at s x)) ≤ horizon
+          → IsAnsweredBy
+          ((line_at s x).arrival + (window K (task_at s x) + jitter_of set (task_at s x)))
+          (job_after s horizon x).standing
+      sure_not_late x h late =
+          let times = in_time_at s set (legal_run K legal) x h in
+          let by : (line_at s x).release + window K (task_at s x)
+          ≤ (line_at s x).arrival + (window K (task_at s x) + jitter_of set (task_at s x)) =
+          omega (arith, times.1) in
+          let early : (line_at s x).release + window K (task_at s x) ≤ horizon =
+          omega (arith, by, late) in
+          let over = sure_over x h early in
+          let same : (job_after s horizon x).standing
+          ≡ (job_after s ((line_at s x).release + window K (task_at s x)) x).standing =
+          ap (λ (j : Job). j.standing)
+          (over_stays s x ((line_at s x).release + window K (task_at s x)) horizon early over) in
+          subst (λ st. IsAnsweredBy
+          ((line_at s x).arrival + (window K (task_at s x) + jitter_of set (task_at s x))) st)
+          (sym same)
+          (answered_in_time K ((line_at s x).release + window K (task_at s x)) _ x
+          (job_after s ((line_at s x).release + window K (task_at s x)) x).standing refl over
+          (no_fault s set graphs R C run.tasks ((line_at s x).release + window K (task_at s x)) x h
+          (kept_at K ((line_at s x).release + window K (task_at s x)) x early h)) by)

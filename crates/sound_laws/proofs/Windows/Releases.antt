@@ -4,7 +4,7 @@ use Rattle.std.proofs.Common.{inl, inr, arith, nat_lt, nat_le, if◌then◌else�
 use Rattle.std.proofs.lemmas.Bool.{cases_Bool, cases_lt, and_parts, and_from, ltb-true, leb-true}
 use Rattle.std.proofs.lemmas.Bool.{lt-ltb, le-leb}
 use Rattle.crpd_base.proofs.Sums.{sum_le, sum_add, sum_zero}
-use Rattle.script_reader.specs.Legal.{AreApart}
+use Rattle.crpd_base.specs.Arrivals.{AreApart}
 use Rattle.crpd_base.specs.Sum.{sum_below}
 use Rattle.delay_count.specs.Counts.{jobs_in}
 

@@ -5,7 +5,8 @@ use Rattle.std.proofs.Common.{◌∙◌, ap, subst, inl, inr, arith}
 use Rattle.std.proofs.lemmas.Bool.{cases_Bool, cases_eq, cases_lt, false≢true}
 use Rattle.crpd_base.specs.declared.data.ScriptJob.{ScriptJob}
 use Rattle.crpd_base.specs.declared.data.TaskSet.{TaskSet}
-use Rattle.script_reader.specs.Legal.{AreApart, period_of, jitter_of}
+use Rattle.crpd_base.specs.Tasks.{period_of, jitter_of}
+use Rattle.crpd_base.specs.Arrivals.{AreApart}
 use Rattle.preempt_machine.specs.Machine.{no_job}
 use Rattle.preempt_machine.specs.Step.{is_open, is_ready, Start, state, Fetch, fetch_at}
 use Rattle.sound_laws.specs.Walks.{RunsLegally}

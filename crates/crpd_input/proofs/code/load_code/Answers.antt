@@ -9,16 +9,19 @@ use Rattle.crpd_input.proofs.OwnImages.{images_count}
 use Rattle.crpd_input.proofs.Readers.{read, refused, no_fault}
 use Rattle.crpd_input.proofs.code.load_code.Goals as goal
 
-pub returns-in-Ok-clause-count : goal.returns-in-Ok-clause-count
-returns-in-Ok-clause-count g c =
-    images_count c.args.set.now c.into_vec.result.items c.in-Ok.code _ c.in-Ok.ensures
+pub returns-in-Ok-clause-input : goal.returns-in-Ok-clause-input
+returns-in-Ok-clause-input g c =
+    let set = c.args.set.now in
+    let count = images_count set c.into_vec.result.items c.in-Ok.code _ c.in-Ok.ensures
     (ap (λ (is : List Image). length is) c.into_vec.ensures ∙ c.in_ok-images.ensures.count
-    ∙ ap (λ (ts : List TaskSpec). length ts) c.as_slice.ensures)
-
-pub returns-in-Ok-clause-bounded : goal.returns-in-Ok-clause-bounded
-returns-in-Ok-clause-bounded g c =
-    code_bounded c.args.set.now c.into_vec.result.items c.in-Ok.code c.requires.ranges.each
-    c.in-Ok.ensures
+    ∙ ap (λ (ts : List TaskSpec). length ts) c.as_slice.ensures) in
+    record {
+      ranges = c.requires;
+      images = count;
+      plans = c.plans_law.ensures ∙ count;
+      bounded = code_bounded set c.into_vec.result.items c.in-Ok.code c.requires.each c.in-Ok.ensures;
+      words = λ a w at. (c.words_law.ensures a w at).0;
+    }
 
 pub returns-in-Ok-clause-exact : goal.returns-in-Ok-clause-exact
 returns-in-Ok-clause-exact g c = λ contents told.
@@ -40,10 +43,13 @@ returns-in-Err-clause-exact g c = λ contents told.
     ∙ ap (λ (is : List Image). Ok is) (sym c.into_vec.ensures))
     refl c.in-Err.ensures c.map_halt.ensures
 
-pub returns-in-Err-clause-fault : goal.returns-in-Err-clause-fault
-returns-in-Err-clause-fault g c = λ e.
-    absurd (no_fault (map_halt c.args.name.now c.args.set.now c.in-Err.error) c.map_halt.result
-    c.map_halt.ensures e)
+pub returns-in-Err-clause-files : goal.returns-in-Err-clause-files
+returns-in-Err-clause-files g c = (
+  c.in_ok-images.ensures.files.0,
+  c.in_ok-images.ensures.files.1,
+  λ e. absurd (no_fault (map_halt c.args.name.now c.args.set.now c.in-Err.error) c.map_halt.result
+      c.map_halt.ensures e),
+)
 
 pub new-requires-clause-one : goal.new-requires-clause-one
 new-requires-clause-one g c =

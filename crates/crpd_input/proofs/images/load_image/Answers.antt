@@ -22,7 +22,9 @@ returns-clause-exact g c = λ contents told.
     (sym c.as_slice.ensures))
     refl c.in-Err.ensures.is c.elf_halt.ensures
 
-pub returns-clause-fault : goal.returns-clause-fault
-returns-clause-fault g c = λ e.
-    absurd (no_fault (elf_halt c.args.name.now c.in-Err.error) c.elf_halt.result
-    c.elf_halt.ensures e)
+pub returns-clause-files : goal.returns-clause-files
+returns-clause-files g c = (
+  c.in_ok-bytes.ensures.files.0,
+  c.in_ok-bytes.ensures.files.1,
+  λ e. absurd (no_fault (elf_halt c.args.name.now c.in-Err.error) c.elf_halt.result c.elf_halt.ensures e),
+)

@@ -33,8 +33,8 @@ returns-in-Err-clause-exact g c = λ contents told.
 
 pub loop-i-preserved : goal.loop-i-preserved
 loop-i-preserved g c = record {
-  same = c.in-Ok.ensures.same ∙ c.loop-i.invariant.same;
-  later = omega (arith, c.in-Ok.ensures.later, c.loop-i.invariant.later);
+  same = c.in-Ok.ensures.files.0 ∙ c.loop-i.invariant.same;
+  later = omega (arith, c.in-Ok.ensures.files.1, c.loop-i.invariant.later);
   are = λ contents told.
       one_more (λ (t : TaskSpec). image_in contents t.file) c.args.tasks.now c.loop-i.i
       c.index-tasks-i.result c.loop-i.images.items c.in-Ok.image c.loop-i-test.true

@@ -1,15 +1,31 @@
-use Rattle.std.proofs.Common.{subst}
-use Rattle.crpd_tool.specs.Inner.Commands.{NamesNoFile, meant_by}
-use Rattle.crpd_tool.proofs.Behind.{names_files}
 use Rattle.crpd_tool.proofs.front.perform.Goals as goal
 
-pub returns-in-OnSet-clause-exact : goal.returns-in-OnSet-clause-exact
-returns-in-OnSet-clause-exact g c = rw c.in-OnSet.is c.answer_work.ensures.exact
+pub returns-in-Check-clause-exact : goal.returns-in-Check-clause-exact
+returns-in-Check-clause-exact g c = rw c.in-Check.is c.check.ensures.exact
 
-pub returns-in-OnSet-clause-no_file : goal.returns-in-OnSet-clause-no_file
-returns-in-OnSet-clause-no_file g c = λ none.
-    absurd (names_files c.in-OnSet.set.now c.in-OnSet.work
-    (subst (λ k. NamesNoFile (meant_by k)) c.in-OnSet.is none))
+pub returns-in-List-clause-exact : goal.returns-in-List-clause-exact
+returns-in-List-clause-exact g c = rw c.in-List.is c.list.ensures.exact
+
+pub returns-in-Simulate-clause-exact : goal.returns-in-Simulate-clause-exact
+returns-in-Simulate-clause-exact g c = rw c.in-Simulate.is c.simulate.ensures.exact
+
+pub returns-in-Sets-clause-exact : goal.returns-in-Sets-clause-exact
+returns-in-Sets-clause-exact g c = rw c.in-Sets.is c.sets.ensures.exact
+
+pub returns-in-Analyze-clause-exact : goal.returns-in-Analyze-clause-exact
+returns-in-Analyze-clause-exact g c = rw c.in-Analyze.is c.analyze.ensures.exact
+
+pub returns-in-Explain-clause-exact : goal.returns-in-Explain-clause-exact
+returns-in-Explain-clause-exact g c = rw c.in-Explain.is c.explain.ensures.exact
+
+pub returns-in-Classic-clause-exact : goal.returns-in-Classic-clause-exact
+returns-in-Classic-clause-exact g c = rw c.in-Classic.is c.classic.ensures.exact
+
+pub returns-in-Slack-clause-exact : goal.returns-in-Slack-clause-exact
+returns-in-Slack-clause-exact g c = rw c.in-Slack.is c.slack.ensures.exact
+
+pub returns-in-Update-clause-exact : goal.returns-in-Update-clause-exact
+returns-in-Update-clause-exact g c = rw c.in-Update.is c.update.ensures.exact
 
 pub returns-in-Generate-clause-exact : goal.returns-in-Generate-clause-exact
 returns-in-Generate-clause-exact g c = λ contents told.

@@ -1,48 +1,43 @@
 use Rattle.std.proofs.Common.{◌≡◌, ◌∙◌, ℕ, List, Ok, ap, inl}
-use Rattle.cert_check.specs.FirstFailing.{answer_of}
 use Rattle.preempt_machine.specs.declared.Completion.{Completion}
 use Rattle.crpd_report.specs.Generate.{generate_text}
-use Rattle.cert_check.proofs.InRange.{in_range}
 use Rattle.crpd_tool.specs.declared.answer.Answer.{Answer}
 use Rattle.crpd_tool.specs.Generate.{made_answer, node_count}
 use Rattle.crpd_tool.specs.Simulate.{completions_of, run_of}
-use Rattle.crpd_tool.proofs.Judged.{judged_over}
 use Rattle.crpd_tool.proofs.Simulated.{told}
 use Rattle.crpd_tool.proofs.generate.certified_answer.Goals as goal
-
-pub verdict-found-requires-clause-certificate : goal.verdict-found-requires-clause-certificate
-verdict-found-requires-clause-certificate c = in_range c.args.certificate.now c.requires.ranges
 
 pub returns : goal.returns
 returns c =
     let n = c.args.number in
-    let input = c.args.input.now in
-    let shapes = c.args.shapes.now in
+    let input = c.args.shaped.now.input in
+    let shaped = c.args.shaped.now in
     let script = c.args.script.now in
     let certificate = c.args.certificate.now in
-    let found = c.verdict-found.result in
+    let found = c.judge-found.result in
     let kept = c.in_ok-completions.kept in
     let m = run_of input script in
-    let outcome = c.in_ok-completions.ensures in
+    let outcome = rw (c.code-code.ensures, c.input.ensures, c.set-set.ensures.is)
+    at c.in_ok-completions.ensures in
     let ends : c.as_slice-ends.result.now ≡ completions_of m =
     c.as_slice-ends.ensures.value
     ∙ told m c.in_ok-completions.completions.items outcome.long outcome.each in
-    let nodes : c.node_count-nodes.result ≡ node_count shapes.graphs =
-    c.node_count-nodes.ensures ∙ ap node_count c.as_slice-graphs.ensures in
-    let text : c.new.result ≡ generate_text n (node_count shapes.graphs) input.set certificate found
+    let nodes : c.node_count-nodes.result ≡ node_count shaped.graphs =
+    c.node_count-nodes.ensures ∙ ap node_count c.graphs.ensures in
+    let text : c.new.result ≡ generate_text n (node_count shaped.graphs) input.set certificate found
     script (completions_of m) kept =
-    c.new.ensures ∙ c.in_ok-text.ensures
+    c.new.ensures ∙ (rw c.set-set.ensures.is at c.in_ok-text.ensures)
     ∙ ap (λ (k : ℕ). generate_text n k input.set certificate found script
     c.as_slice-ends.result.now kept) nodes
     ∙ ap (λ (cs : List Completion).
-    generate_text n (node_count shapes.graphs) input.set certificate found script cs kept) ends in
+    generate_text n (node_count shaped.graphs) input.set certificate found script cs kept) ends in
     let answer : ◌≡◌ {A = Answer}
     (record { text = c.new.result; outcome = c.verdict_outcome.result })
-    (made_answer n script input shapes certificate found kept) =
+    (made_answer n script shaped certificate found kept) =
     ap (λ (t : List ℕ). record { text = t; outcome = c.verdict_outcome.result }) text
     ∙ ap (λ o. record {
       text =
-          generate_text n (node_count shapes.graphs) input.set certificate found script
+          generate_text n (node_count shaped.graphs) input.set certificate found script
           (completions_of m) kept;
       outcome = o;
     }) c.verdict_outcome.ensures in
@@ -53,14 +48,8 @@ returns c =
       record {
         best = c.requires.best;
         few = c.requires.ranges.entries;
-        judged =
-            judged_over input.set certificate (answer_of found) c.as_slice-graphs.ensures
-            c.as_slice.ensures c.verdict-found.ensures;
+        judged = c.judge-found.ensures;
         kept_so = outcome.kept_so;
       },
       ap (λ (a : Answer). Ok a) answer,
     )
-
-pub verdict-found-requires-clause-tasks : goal.verdict-found-requires-clause-tasks
-verdict-found-requires-clause-tasks c =
-    rw (c.as_slice-graphs.ensures, c.as_slice.ensures) c.requires.shown

@@ -5,4 +5,5 @@ use Rattle.preempt_fast.proofs.jobs.quiet_of.Goals as goal
 
 pub returns : goal.returns
 returns c =
-    subst (λ (w : Watch). AreQuiet c.args.plan.now w c.quiet.result) c.watch.ensures c.quiet.ensures
+    subst (λ (w : Watch). AreQuiet c.args.plan.now w c.quiet.result) c.watch.ensures
+    c.quiet.ensures.quiet

@@ -2,8 +2,8 @@ use Rattle.std.proofs.Common.{arith, slice_index}
 use Rattle.response.proofs.Jumps.{demanded_low}
 use Rattle.response.proofs.bounds.lower_bound.Goals as goal
 
-pub loop-init : goal.loop-init
-loop-init c = record {
+pub loop-bound-init : goal.loop-bound-init
+loop-bound-init c = record {
   onward = omega arith;
   most = c.requires.most;
   lower = λ v takes more steep fits.

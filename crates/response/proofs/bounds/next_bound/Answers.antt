@@ -1,7 +1,8 @@
-use Rattle.std.proofs.Common.{arith, ap, add-one, ◌≡◌, slice_index}
+use Rattle.std.proofs.Common.{arith, ap, add-one, refl, ℕ, max, ◌≡◌, ◌*◌, ◌^◌, slice_index}
 use Rattle.crpd_base.proofs.Sums.{sum_part}
 use Rattle.crpd_base.specs.Sum.{sum_below}
 use Rattle.response.proofs.Jumps.{sloped, taken, divided, too_steep}
+use Rattle.response.proofs.Jumps.{split_sloped, split_taken, settled}
 use Rattle.response.proofs.bounds.next_bound.Goals as goal
 use Rattle.response.proofs.bounds.next_bound.Goals.{then-higher-k, else-higher-k}
 
@@ -27,6 +28,14 @@ loop-k-preserved c =
     elim c.if-higher-k.branch [
       | then-higher-k w ↦ rw (w.fixed-is, w.slope-is) (record {
         few = rw (add-one c.loop-k.k) (omega (arith, c.loop-k.invariant.few));
+        splits =
+            split_sloped c.args.own c.loop-k.fixed c.loop-k.slope
+            (slice_index c.args.higher.now c.loop-k.k) (slice_index c.args.slopes.now c.loop-k.k)
+            c.loop-k.k c.args.bound
+            (λ k. max (slice_index c.args.higher.now k * 2 ^ 80)
+            (slice_index c.args.slopes.now k * c.args.bound)) c.loop-k.invariant.splits refl
+            (omega arith);
+        own = c.loop-k.invariant.own;
         flat = omega (arith, c.loop-k.invariant.flat, c.requires.flat c.loop-k.k (omega arith));
         lower = λ v takes more steep.
             sloped c.args.own c.loop-k.fixed c.loop-k.slope
@@ -35,6 +44,14 @@ loop-k-preserved c =
       })
       | else-higher-k w ↦ rw (w.fixed-is, w.slope-is) (record {
         few = rw (add-one c.loop-k.k) (omega (arith, c.loop-k.invariant.few));
+        splits =
+            split_taken c.args.own c.loop-k.fixed c.loop-k.slope
+            (slice_index c.args.higher.now c.loop-k.k) (slice_index c.args.slopes.now c.loop-k.k)
+            c.loop-k.k c.args.bound
+            (λ k. max (slice_index c.args.higher.now k * 2 ^ 80)
+            (slice_index c.args.slopes.now k * c.args.bound)) c.loop-k.invariant.splits refl
+            (omega arith);
+        own = omega (arith, c.loop-k.invariant.own);
         flat = omega (arith, c.loop-k.invariant.flat);
         lower = λ v takes more steep.
             taken c.args.own c.loop-k.fixed c.loop-k.slope
@@ -60,3 +77,25 @@ returns-then-fixed-gt0-clause-lower c = λ v takes more steep fits.
 
 pub returns-else-fixed-gt0-clause-lower : goal.returns-else-fixed-gt0-clause-lower
 returns-else-fixed-gt0-clause-lower c = c.requires.known
+
+pub returns-then-slope-lt-SCALE-clause-settled : goal.returns-then-slope-lt-SCALE-clause-settled
+returns-then-slope-lt-SCALE-clause-settled c = λ some low.
+    let more : ℕ → ℕ = λ k. max (slice_index c.args.higher.now k * 2 ^ 80)
+    (slice_index c.args.slopes.now k * c.args.bound) in
+    let all : sum_below more c.loop-k.k ≡ sum_below more c.args.task.0 =
+    ap (sum_below more) (omega (arith, c.loop-k.auto.k-end)) in
+    omega (
+      arith,
+      c.loop-k.invariant.splits,
+      all,
+      settled c.loop-k.fixed c.loop-k.slope c.args.bound (omega arith)
+          (omega (arith, low, c.max.ensures)),
+    )
+
+pub returns-then-fixed-gt0-clause-settled : goal.returns-then-fixed-gt0-clause-settled
+returns-then-fixed-gt0-clause-settled c = λ some low.
+    absurd (omega (arith, low, c.requires.bound))
+
+pub returns-else-fixed-gt0-clause-settled : goal.returns-else-fixed-gt0-clause-settled
+returns-else-fixed-gt0-clause-settled c = λ some low.
+    absurd (omega (arith, some, c.loop-k.invariant.own))

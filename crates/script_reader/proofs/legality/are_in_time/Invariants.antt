@@ -1,6 +1,6 @@
 use Rattle.std.proofs.Common.{ℕ, ◌<◌, get_or}
 use Rattle.crpd_base.specs.declared.data.ScriptJob.{ScriptJob}
-use Rattle.script_reader.specs.Legal.{IsReleasedInTime}
+use Rattle.crpd_base.specs.Arrivals.{IsReleasedInTime}
 use Rattle.script_reader.proofs.legality.are_in_time.Given as goal
 
 abbrev pub invariant-loop-job : goal.invariant-loop-job

@@ -3,7 +3,7 @@ use Rattle.std.proofs.Common.{below_more}
 use Rattle.std.proofs.lemmas.Bool.{false≢true}
 use Rattle.crpd_base.proofs.Times.{period_is}
 use Rattle.crpd_base.specs.declared.data.TaskSpec.{TaskSpec}
-use Rattle.script_reader.specs.Legal.{period_of}
+use Rattle.crpd_base.specs.Tasks.{period_of}
 use Rattle.script_reader.specs.Inner.Legal.{AreAllApart, arrivals_of}
 use Rattle.script_reader.proofs.legality.are_spaced.Goals as goal
 

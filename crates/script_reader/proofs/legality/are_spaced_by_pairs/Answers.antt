@@ -5,7 +5,7 @@ use Rattle.std.proofs.lemmas.List.{get_or_default}
 use Rattle.crpd_base.proofs.Times.{period_is}
 use Rattle.crpd_base.specs.declared.data.ScriptJob.{ScriptJob}
 use Rattle.crpd_base.specs.declared.data.TaskSpec.{TaskSpec}
-use Rattle.script_reader.specs.Legal.{period_of}
+use Rattle.crpd_base.specs.Tasks.{period_of}
 use Rattle.script_reader.specs.Inner.Legal.{IsSpacedBy}
 use Rattle.script_reader.proofs.Spacing.{below_all, below_next, pairs_at, rest_of}
 use Rattle.script_reader.proofs.legality.are_spaced_by_pairs.Goals as goal

@@ -1,0 +1,2 @@
+-- What contracts inside the crate alone cite; no clause of a public call reaches it.
+pub mod NumbersLeft

@@ -1,0 +1,59 @@
+-- A whole text with the status Done on `slack` is that of the greatest accepted costs.
+use Rattle.std.proofs.Common.{◌≡◌, ℕ, ◌<◌, List, Result, Ok, length, ap, sym, ◌∙◌, subst}
+use Rattle.code_map.specs.Words.{word_at}
+use Rattle.crpd_tool.specs.Shaped.{graphs_of}
+use Rattle.preempt_machine.specs.Machine.{plan_of}
+use Rattle.preempt_machine.specs.Safe.{system_of}
+use Rattle.sensitivity.specs.Laws.{IsLoopBounded, StaysAccepted}
+use Rattle.crpd_base.proofs.Times.{has_times}
+use Rattle.crpd_io.specs.Outside.{Contents}
+use Rattle.crpd_tool.specs.declared.answer.Answer.{Answer}
+use Rattle.crpd_tool.specs.declared.status.Status.TheVariants.{Done}
+use Rattle.crpd_input.specs.declared.halt.Halt.{Halt}
+use Rattle.task_shapes.specs.Shapes.{SetWithShapes}
+use Rattle.crpd_input.specs.Reading.{input_in}
+use Rattle.crpd_input.proofs.Given.{input_good}
+use Rattle.crpd_tool.proofs.ReadSet.{IsReadFrom, built_of}
+use Rattle.crpd_tool.specs.Output.{ending_output}
+use Rattle.crpd_tool.specs.Slack.{SlackEnds, SlackOf}
+use Rattle.crpd_tool.specs.SlackLaw.{DoneIsSlack, HasGreatestCosts}
+use Rattle.crpd_tool.specs.Commands.{slack}
+use Rattle.crpd_tool.proofs.OneSlack.{loop_bounded, one_pair}
+use Rattle.crpd_tool.proofs.Done.{output_done, shapes_done}
+
+module _ (stays_law : StaysAccepted) (contents : Contents) (set : List ℕ) where
+  greatest : (shaped : SetWithShapes) (ending : Result Answer Halt)
+      → IsReadFrom (input_in contents set) shaped → SlackOf shaped ending
+      → HasGreatestCosts contents set (ending_output ending).text
+  greatest shaped ending read S =
+      let is = shaped.input.set in
+      let times = has_times is (input_good contents set shaped.input read.input_is).ranges in
+      let bounded : (k : ℕ) → k < length is.tasks → IsLoopBounded (graphs_of shaped k) = λ k lt.
+      loop_bounded _ _ (graphs_of shaped k) (built_of shaped read.shapes_are k lt) in
+      record {
+        shaped = shaped;
+        first = S.0;
+        second = S.1;
+        input_is = read.input_is;
+        shapes_are = read.shapes_are;
+        text_is = ap (λ (r : Result Answer Halt). (ending_output r).text) S.3;
+        are = S.2;
+        only = λ one two A.
+            one_pair is (graphs_of shaped) times bounded one two S.0 S.1 A S.2;
+        stays = λ s m k d switch miss A.
+            stays_law is (graphs_of shaped) s m k d
+            (record { times = times; bounded = bounded; switch = switch; miss = miss }) A;
+      }
+
+  ended : (ending : Result Answer Halt) → SlackEnds contents set ending
+      → (ending_output ending).status ≡ Done
+      → HasGreatestCosts contents set (ending_output ending).text
+  ended ending is e =
+      let given = shapes_done (input_in contents set) SlackOf ending is e in
+      greatest given.0 ending given.1 given.2
+
+pub done_is_slack : StaysAccepted → (words : List (List ℕ)) (contents : Contents)
+    → DoneIsSlack words contents
+done_is_slack stays_law words contents set output =
+    output_done words contents (slack set) output (HasGreatestCosts contents set)
+    (ended stays_law contents set)

@@ -1,0 +1,22 @@
+use Rattle.delay_classic.specs.Demand.{classic_demands}
+use Rattle.std.proofs.Common.{sym}
+use Rattle.crpd_input.specs.Shapes.{ShapedIn}
+use Rattle.crpd_input.proofs.Chain.{goes_on}
+use Rattle.crpd_tool.specs.Classic.{ClassicOf}
+use Rattle.crpd_tool.proofs.Making.{analysis_meant}
+use Rattle.crpd_tool.proofs.classic.classic.Goals as goal
+
+pub classic-made-requires-clause-tasks : goal.classic-made-requires-clause-tasks
+classic-made-requires-clause-tasks g c =
+    rw (c.set.ensures.is, c.graphs.ensures, c.nests.ensures) c.shaped_law.ensures.shown
+
+pub returns-clause-exact : goal.returns-clause-exact
+returns-clause-exact g c = λ contents told.
+    let set = c.args.set.now in
+    let shaped = c.in_ok-shaped.shaped in
+    goes_on (ShapedIn contents set) (ClassicOf set) shaped c.made_ending.result
+    (c.in_ok-shaped.ensures.exact contents told)
+    (analysis_meant classic_demands set shaped c.classic-made.result c.made_ending.result
+    (rw (sym c.set.ensures.is, sym c.graphs.ensures, sym c.nests.ensures)
+    c.classic-made.ensures.exact)
+    c.classic-made.ensures.ranges (rw c.set-2.ensures.is at c.made_ending.ensures.exact))

@@ -1,0 +1,87 @@
+use Rattle.std.proofs.Common.{◌≡◌, ◌∙◌, ℕ, List, Result, Ok, Err}
+use Rattle.crpd_base.specs.declared.data.Certificate.{Certificate}
+use Rattle.crpd_base.specs.declared.data.Script.{Script}
+use Rattle.crpd_io.specs.Outside.{Contents}
+use Rattle.crpd_input.specs.Reading.{certificate_in}
+use Rattle.crpd_input.specs.Shapes.{ShapedIn}
+use Rattle.crpd_input.specs.Script.{script_in}
+use Rattle.crpd_input.specs.Steps.{Exactly, MeansBy}
+use Rattle.crpd_input.specs.declared.halt.Halt.{Halt}
+use Rattle.crpd_input.proofs.Chain.{goes_on, stopped}
+use Rattle.crpd_tool.specs.Explain.{ExplainEnds, ExplainFromCertificate, ExplainFromShapes}
+use Rattle.crpd_tool.specs.Explain.{ExplanationOf}
+use Rattle.crpd_tool.specs.declared.answer.Answer.{Answer}
+use Rattle.task_shapes.specs.Shapes.{SetWithShapes}
+use Rattle.crpd_tool.proofs.Shaping.{stops_so}
+use Rattle.crpd_tool.proofs.explain.explain.Goals as goal
+
+-- the steps up to the certificate
+module _ (contents : Contents) (set certificate script : List ℕ) (shaped : SetWithShapes)
+    (stated : Certificate) (is : ShapedIn contents set (Ok shaped))
+    (stated_is : certificate_in contents certificate ≡ Ok stated) where
+  from_certificate : (r : Result Answer Halt)
+      → MeansBy (ExplainFromCertificate contents script shaped stated) r
+      → MeansBy (ExplainEnds contents set certificate script) r
+  from_certificate r later =
+      goes_on (ShapedIn contents set) (ExplainFromShapes contents certificate script) shaped r
+      is
+      (goes_on (Exactly (certificate_in contents certificate))
+      (ExplainFromCertificate contents script shaped) stated r stated_is later)
+
+  -- and up to the script
+  from_script : (given : Script) (r : Result Answer Halt)
+      → script_in contents script shaped.input.set ≡ Ok given
+      → MeansBy (ExplanationOf shaped stated given) r
+      → MeansBy (ExplainEnds contents set certificate script) r
+  from_script given r given_is later =
+      from_certificate r
+      (goes_on (Exactly (script_in contents script shaped.input.set))
+      (ExplanationOf shaped stated) given r given_is later)
+
+pub returns-in_err-shaped-clause-exact : goal.returns-in_err-shaped-clause-exact
+returns-in_err-shaped-clause-exact g c = λ contents told.
+    stops_so (ExplainEnds contents c.args.set.now c.args.certificate.now c.args.script.now)
+    c.from_residual.result c.in_err-shaped.field-0.0 c.from_residual.ensures.1
+    (stopped (ShapedIn contents c.args.set.now)
+    (ExplainFromShapes contents c.args.certificate.now c.args.script.now) c.in_err-shaped.field-0.0
+    (c.in_err-shaped.ensures.exact contents told))
+
+pub returns-in_err-stated-clause-exact : goal.returns-in_err-stated-clause-exact
+returns-in_err-stated-clause-exact g c = λ contents told.
+    let shaped = c.in_ok-shaped.shaped in
+    let halt = c.in_err-stated.field-0.0 in
+    stops_so (ExplainEnds contents c.args.set.now c.args.certificate.now c.args.script.now)
+    c.from_residual-in_err-stated.result c.in_err-stated.field-0.0
+    c.from_residual-in_err-stated.ensures.1
+    (goes_on (ShapedIn contents c.args.set.now)
+    (ExplainFromShapes contents c.args.certificate.now c.args.script.now) shaped (Err halt)
+    (c.in_ok-shaped.ensures.exact contents told)
+    (stopped (Exactly (certificate_in contents c.args.certificate.now))
+    (ExplainFromCertificate contents c.args.script.now shaped) halt
+    (c.in_err-stated.ensures.exact contents (c.in_ok-shaped.ensures.files.0 ∙ told))))
+
+pub returns-in_err-given-clause-exact : goal.returns-in_err-given-clause-exact
+returns-in_err-given-clause-exact g c = λ contents told.
+    let shaped = c.in_ok-shaped.shaped in
+    let halt = c.in_err-given.field-0.0 in
+    let after_set = c.in_ok-shaped.ensures.files.0 ∙ told in
+    stops_so (ExplainEnds contents c.args.set.now c.args.certificate.now c.args.script.now)
+    c.from_residual-in_err-given.result c.in_err-given.field-0.0
+    c.from_residual-in_err-given.ensures.1
+    (from_certificate contents c.args.set.now c.args.certificate.now c.args.script.now shaped
+    c.in_ok-stated.stated (c.in_ok-shaped.ensures.exact contents told)
+    (c.in_ok-stated.ensures.exact contents after_set) (Err halt)
+    (stopped (Exactly (script_in contents c.args.script.now shaped.input.set))
+    (ExplanationOf shaped c.in_ok-stated.stated) halt
+    (rw c.set.ensures.is
+    at (c.in_err-given.ensures.exact contents (c.in_ok-stated.ensures.files.0 ∙ after_set)))))
+
+pub returns-clause-exact : goal.returns-clause-exact
+returns-clause-exact g c = λ contents told.
+    let after_set = c.in_ok-shaped.ensures.files.0 ∙ told in
+    from_script contents c.args.set.now c.args.certificate.now c.args.script.now
+    c.in_ok-shaped.shaped c.in_ok-stated.stated (c.in_ok-shaped.ensures.exact contents told)
+    (c.in_ok-stated.ensures.exact contents after_set) c.in_ok-given.given c.explanation.result
+    (rw c.set.ensures.is
+    at (c.in_ok-given.ensures.exact contents (c.in_ok-stated.ensures.files.0 ∙ after_set)))
+    c.explanation.ensures.exact

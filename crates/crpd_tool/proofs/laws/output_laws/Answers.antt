@@ -1,0 +1,55 @@
+use Rattle.crpd_tool.proofs.AnalyzeLaw.{done_is_best}
+use Rattle.crpd_tool.proofs.ClassicLaw.{done_is_classic}
+use Rattle.crpd_tool.proofs.ExplainLaw.{done_is_explained}
+use Rattle.crpd_tool.proofs.GenerateLaw.{done_is_generated}
+use Rattle.crpd_tool.proofs.OneAnswer.{one_answer}
+use Rattle.crpd_tool.proofs.SimulateLaw.{done_is_reported}
+use Rattle.crpd_tool.proofs.Safety.{done_is_safe}
+use Rattle.crpd_tool.proofs.SlackLaw.{done_is_slack}
+use Rattle.crpd_tool.proofs.Undisturbed.{done_is_bounded}
+use Rattle.crpd_tool.proofs.UpdateLaw.{done_is_update}
+use Rattle.crpd_tool.proofs.laws.output_laws.Goals as goal
+
+pub returns-clause-one_answer : goal.returns-clause-one_answer
+returns-clause-one_answer c = one_answer
+
+pub returns-clause-safety : goal.returns-clause-safety
+returns-clause-safety c = done_is_safe c.checked_code_is_safe.ensures
+
+pub returns-clause-undisturbed_bound : goal.returns-clause-undisturbed_bound
+returns-clause-undisturbed_bound c = done_is_bounded c.checked_code_is_bounded.ensures
+
+pub returns-clause-report : goal.returns-clause-report
+returns-clause-report c = done_is_reported
+
+pub returns-clause-analyze_exact : goal.returns-clause-analyze_exact
+returns-clause-analyze_exact c = done_is_best
+
+pub returns-clause-classic_sound : goal.returns-clause-classic_sound
+returns-clause-classic_sound c =
+    done_is_classic c.checked_code_is_safe.ensures c.certificate_law.ensures.judged
+    c.certificate_law.ensures.one c.certificate_law.ensures.best
+
+pub returns-clause-slack_exact : goal.returns-clause-slack_exact
+returns-clause-slack_exact c = done_is_slack c.acceptance_law.ensures.stays
+
+pub returns-clause-update_exact : goal.returns-clause-update_exact
+returns-clause-update_exact c =
+    done_is_update c.update_laws.ensures.judged c.update_laws.ensures.best
+
+pub returns-clause-generate_safe : goal.returns-clause-generate_safe
+returns-clause-generate_safe c =
+    done_is_generated c.checked_code_is_safe.ensures c.late_law.ensures.none
+
+pub returns-clause-ledger_within_delays : goal.returns-clause-ledger_within_delays
+returns-clause-ledger_within_delays c =
+    done_is_explained c.ledger_facts.ensures c.checked_account_is_within_delays.ensures
+
+pub returns-clause-costs_grow : goal.returns-clause-costs_grow
+returns-clause-costs_grow c = record {
+  bound = c.costs_law.ensures.bound;
+  longest = c.costs_law.ensures.longest;
+  delay = c.costs_law.ensures.delay;
+  demand = c.costs_law.ensures.demand;
+  windows = c.costs_law.ensures.windows;
+}

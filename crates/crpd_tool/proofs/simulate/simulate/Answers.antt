@@ -1,0 +1,35 @@
+use Rattle.std.proofs.Common.{◌∙◌, Ok, Err}
+use Rattle.crpd_input.specs.Reading.{input_in}
+use Rattle.crpd_input.specs.Script.{script_in}
+use Rattle.crpd_input.specs.Steps.{Exactly, Then}
+use Rattle.crpd_input.proofs.Chain.{goes_on, stopped}
+use Rattle.crpd_tool.specs.Simulate.{ReportOf, SimulateEnds}
+use Rattle.crpd_tool.proofs.Shaping.{stops_so}
+use Rattle.crpd_tool.proofs.simulate.simulate.Goals as goal
+
+pub returns-in_err-stated-clause-exact : goal.returns-in_err-stated-clause-exact
+returns-in_err-stated-clause-exact g c = λ contents told.
+    let input = c.in_ok-input.input in
+    let halt = c.in_err-stated.field-0.0 in
+    stops_so (SimulateEnds contents c.args.set.now c.args.script.now)
+    c.from_residual-in_err-stated.result c.in_err-stated.field-0.0
+    c.from_residual-in_err-stated.ensures.1
+    (goes_on (Exactly (input_in contents c.args.set.now))
+    (λ input. Then (Exactly (script_in contents c.args.script.now input.set)) (ReportOf input))
+    input (Err halt) (c.in_ok-input.ensures.exact contents told)
+    (stopped (Exactly (script_in contents c.args.script.now input.set)) (ReportOf input) halt
+    (rw c.set.ensures.is
+    at (c.in_err-stated.ensures.exact contents (c.in_ok-input.ensures.files.0 ∙ told)))))
+
+pub returns-clause-exact : goal.returns-clause-exact
+returns-clause-exact g c = λ contents told.
+    let input = c.in_ok-input.input in
+    let answer = c.in_ok-answer.answer in
+    goes_on (Exactly (input_in contents c.args.set.now))
+    (λ input. Then (Exactly (script_in contents c.args.script.now input.set)) (ReportOf input))
+    input (Ok answer) (c.in_ok-input.ensures.exact contents told)
+    (goes_on (Exactly (script_in contents c.args.script.now input.set)) (ReportOf input)
+    c.in_ok-stated.stated (Ok answer)
+    (rw c.set.ensures.is
+    at (c.in_ok-stated.ensures.exact contents (c.in_ok-input.ensures.files.0 ∙ told)))
+    c.in_ok-answer.ensures)

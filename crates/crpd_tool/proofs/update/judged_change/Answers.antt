@@ -1,0 +1,39 @@
+use Rattle.std.proofs.Common.{◌∙◌, ℕ, List, Result, Ok, Err, ap, inl, inr}
+use Rattle.crpd_base.specs.declared.data.Certificate.{Certificate}
+use Rattle.cert_check.specs.Verdict.{IsJudged, Yes}
+use Rattle.crpd_input.specs.Steps.{MeansBy}
+use Rattle.crpd_input.specs.declared.halt.Halt.{Halt}
+use Rattle.crpd_input.specs.declared.halt.Halt.TheVariants.{Refused, Memory, Fault}
+use Rattle.crpd_tool.specs.Check.{verdict_answer}
+use Rattle.crpd_tool.specs.Shaped.{graphs_of}
+use Rattle.crpd_tool.specs.Update.{ChangeOf, UpdateOf}
+use Rattle.crpd_tool.specs.declared.answer.Answer.{Answer}
+use Rattle.task_shapes.specs.Shapes.{SetWithShapes}
+use Rattle.crpd_tool.proofs.update.judged_change.Goals as goal
+
+-- after the judge's yes the update is the whole answer
+after_yes : (file : List ℕ) (old : SetWithShapes) (stated : Certificate) (new : SetWithShapes)
+    (r : Result Answer Halt)
+    → IsJudged old.input.set (graphs_of old) stated Yes
+    → MeansBy (ChangeOf file old stated new) r
+    → MeansBy (UpdateOf file old stated new) r
+after_yes file old stated new (Ok answer) judged change = inr (judged, change)
+after_yes file old stated new (Err (Refused refusal)) judged change = inr (judged, change)
+after_yes file old stated new (Err Memory) judged change = tt
+after_yes file old stated new (Err Fault) judged change = tt
+
+pub returns-in-Yes-clause-exact : goal.returns-in-Yes-clause-exact
+returns-in-Yes-clause-exact c =
+    after_yes c.args.file.now c.args.old.now c.args.stated.now c.args.new.now c.change.result
+    c.in-Yes.ensures c.change.ensures.exact
+
+pub returns-in_ok-write_verdict-in-No-clause-exact :
+    goal.returns-in_ok-write_verdict-in-No-clause-exact
+returns-in_ok-write_verdict-in-No-clause-exact c = inl (
+  c.in-No.task,
+  c.in-No.clause,
+  c.in-No.place,
+  c.in-No.ensures,
+  ap (λ (a : Answer). Ok a) ((rw c.set.ensures.is at c.in_ok-write_verdict-in-No.ensures)
+      ∙ ap (verdict_answer c.args.old.now.input.set c.args.stated.now) c.in-No.is),
+)

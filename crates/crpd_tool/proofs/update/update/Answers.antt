@@ -1,0 +1,82 @@
+use Rattle.std.proofs.Common.{◌≡◌, ◌∙◌, ℕ, List, Result, Ok, Err}
+use Rattle.crpd_base.specs.declared.data.Certificate.{Certificate}
+use Rattle.crpd_io.specs.Outside.{Contents}
+use Rattle.crpd_input.specs.Reading.{certificate_in}
+use Rattle.crpd_input.specs.Shapes.{ShapedIn}
+use Rattle.crpd_input.specs.Steps.{Exactly, MeansBy}
+use Rattle.crpd_input.specs.declared.halt.Halt.{Halt}
+use Rattle.crpd_input.proofs.Chain.{goes_on, stopped}
+use Rattle.crpd_tool.specs.Update.{UpdateEnds, UpdateFromCertificate, UpdateFromShapes}
+use Rattle.crpd_tool.specs.Update.{UpdateOf}
+use Rattle.crpd_tool.specs.declared.answer.Answer.{Answer}
+use Rattle.task_shapes.specs.Shapes.{SetWithShapes}
+use Rattle.crpd_tool.proofs.Shaping.{stops_so}
+use Rattle.crpd_tool.proofs.update.update.Goals as goal
+
+-- the steps up to the old certificate
+module _ (contents : Contents) (old_set old_certificate new_set : List ℕ) (old : SetWithShapes)
+    (stated : Certificate) (is : ShapedIn contents old_set (Ok old))
+    (stated_is : certificate_in contents old_certificate ≡ Ok stated) where
+  from_certificate : (r : Result Answer Halt)
+      → MeansBy (UpdateFromCertificate contents new_set old stated) r
+      → MeansBy (UpdateEnds contents old_set old_certificate new_set) r
+  from_certificate r later =
+      goes_on (ShapedIn contents old_set)
+      (UpdateFromShapes contents old_certificate new_set) old r is
+      (goes_on (Exactly (certificate_in contents old_certificate))
+      (UpdateFromCertificate contents new_set old) stated r stated_is later)
+
+  -- and up to the new set
+  from_new : (new : SetWithShapes) (r : Result Answer Halt) → ShapedIn contents new_set (Ok new)
+      → MeansBy (UpdateOf new_set old stated new) r
+      → MeansBy (UpdateEnds contents old_set old_certificate new_set) r
+  from_new new r new_is later =
+      from_certificate r
+      (goes_on (ShapedIn contents new_set)
+      (UpdateOf new_set old stated) new r new_is later)
+
+pub returns-in_err-old-clause-exact : goal.returns-in_err-old-clause-exact
+returns-in_err-old-clause-exact g c = λ contents told.
+    stops_so (UpdateEnds contents c.args.old_set.now c.args.old_certificate.now c.args.new_set.now)
+    c.from_residual.result c.in_err-old.field-0.0 c.from_residual.ensures.1
+    (stopped (ShapedIn contents c.args.old_set.now)
+    (UpdateFromShapes contents c.args.old_certificate.now c.args.new_set.now)
+    c.in_err-old.field-0.0 (c.in_err-old.ensures.exact contents told))
+
+pub returns-in_err-stated-clause-exact : goal.returns-in_err-stated-clause-exact
+returns-in_err-stated-clause-exact g c = λ contents told.
+    let old = c.in_ok-old.old in
+    let halt = c.in_err-stated.field-0.0 in
+    stops_so (UpdateEnds contents c.args.old_set.now c.args.old_certificate.now c.args.new_set.now)
+    c.from_residual-in_err-stated.result c.in_err-stated.field-0.0
+    c.from_residual-in_err-stated.ensures.1
+    (goes_on (ShapedIn contents c.args.old_set.now)
+    (UpdateFromShapes contents c.args.old_certificate.now c.args.new_set.now) old (Err halt)
+    (c.in_ok-old.ensures.exact contents told)
+    (stopped (Exactly (certificate_in contents c.args.old_certificate.now))
+    (UpdateFromCertificate contents c.args.new_set.now old) halt
+    (c.in_err-stated.ensures.exact contents (c.in_ok-old.ensures.files.0 ∙ told))))
+
+pub returns-in_err-new-clause-exact : goal.returns-in_err-new-clause-exact
+returns-in_err-new-clause-exact g c = λ contents told.
+    let old = c.in_ok-old.old in
+    let stated = c.in_ok-stated.stated in
+    let halt = c.in_err-new.field-0.0 in
+    let after_old = c.in_ok-old.ensures.files.0 ∙ told in
+    stops_so (UpdateEnds contents c.args.old_set.now c.args.old_certificate.now c.args.new_set.now)
+    c.from_residual-in_err-new.result c.in_err-new.field-0.0 c.from_residual-in_err-new.ensures.1
+    (from_certificate contents c.args.old_set.now c.args.old_certificate.now c.args.new_set.now old
+    stated (c.in_ok-old.ensures.exact contents told)
+    (c.in_ok-stated.ensures.exact contents after_old) (Err halt)
+    (stopped (ShapedIn contents c.args.new_set.now)
+    (UpdateOf c.args.new_set.now old stated) halt
+    (c.in_err-new.ensures.exact contents (c.in_ok-stated.ensures.files.0 ∙ after_old))))
+
+pub returns-clause-exact : goal.returns-clause-exact
+returns-clause-exact g c = λ contents told.
+    let after_old = c.in_ok-old.ensures.files.0 ∙ told in
+    from_new contents c.args.old_set.now c.args.old_certificate.now c.args.new_set.now
+    c.in_ok-old.old c.in_ok-stated.stated (c.in_ok-old.ensures.exact contents told)
+    (c.in_ok-stated.ensures.exact contents after_old) c.in_ok-new.new c.judged_change.result
+    (c.in_ok-new.ensures.exact contents (c.in_ok-stated.ensures.files.0 ∙ after_old))
+    c.judged_change.ensures.exact

@@ -1,0 +1,52 @@
+-- What `slack` writes are the greatest accepted costs, and acceptance never comes back above them.
+use Rattle.std.specs.Prelude.{◌≡◌, ℕ, ◌≤◌, List, Some, Ok}
+use Rattle.crpd_tool.specs.Shaped.{graphs_of}
+use Rattle.delay_count.specs.Laws.{DelayGrows, DemandGrows}
+use Rattle.sensitivity.specs.Accepted.{IsAccepted}
+use Rattle.sensitivity.specs.Costs.{with_costs}
+use Rattle.sensitivity.specs.Laws.{BoundGrows, LongestGrows, WindowsGrow}
+use Rattle.crpd_base.specs.declared.data.Slack.{Slack}
+use Rattle.crpd_io.specs.Outside.{Contents}
+use Rattle.crpd_tool.specs.declared.status.Status.TheVariants.{Done}
+use Rattle.task_shapes.specs.Shapes.{SetWithShapes}
+use Rattle.crpd_tool.specs.Output.{IsOut, Output}
+use Rattle.crpd_input.specs.Reading.{input_in}
+use Rattle.crpd_input.specs.Shapes.{ShapedFrom}
+use Rattle.crpd_tool.specs.Slack.{AreSlacks}
+use Rattle.crpd_report.specs.Slack.{slack_text}
+use Rattle.crpd_tool.specs.Commands.{slack, command_of}
+
+-- the files mean a set with its code, which has graphs and regions; the text is that of the one
+-- greatest cost of a switch and the one of a reload
+pub record HasGreatestCosts (contents : Contents) (set text : List ℕ) : Type 0 where
+  pub shaped : SetWithShapes
+  pub first : Slack
+  pub second : Slack
+  pub input_is : input_in contents set ≡ Ok shaped.input
+  pub shapes_are : ShapedFrom shaped.input (Ok shaped)
+  pub text_is : text ≡ slack_text shaped.input.set first second
+  pub are : AreSlacks shaped.input.set (graphs_of shaped) first second
+  pub only : (one two : Slack)
+      → AreSlacks shaped.input.set (graphs_of shaped) one two
+      → (one ≡ first) × (two ≡ second)
+  -- the set is accepted with all smaller costs of a switch and of a reload than those with which it
+  -- is accepted
+  pub stays : (s m k d : ℕ) → s ≤ k → m ≤ d →
+      IsAccepted (with_costs shaped.input.set k d) (graphs_of shaped)
+      → IsAccepted (with_costs shaped.input.set s m) (graphs_of shaped)
+
+-- with the status Done on `slack SET`
+abbrev pub DoneIsSlack : List (List ℕ) → Contents → Type 0
+DoneIsSlack words contents =
+    (set : List ℕ) (output : Output) →
+    command_of words ≡ Some (slack set) → IsOut words contents output → output.status ≡ Done
+    → HasGreatestCosts contents set output.text
+
+-- as a switch and a reload cost more, no bound of a task and no longest cost of an instruction
+-- falls, neither delay and no demand, and no window
+pub record CostsGrow : Type 0 where
+  pub bound : BoundGrows
+  pub longest : LongestGrows
+  pub delay : DelayGrows
+  pub demand : DemandGrows
+  pub windows : WindowsGrow

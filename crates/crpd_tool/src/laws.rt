@@ -1,0 +1,47 @@
+// What is said of the outputs of all commands.
+ghost use Rattle.std.specs.Prelude.{ℕ, List};
+ghost use Rattle.crpd_io.specs.Outside.{Contents};
+ghost use Rattle.crpd_tool.specs.AnalyzeLaw.{DoneIsBest};
+ghost use Rattle.crpd_tool.specs.ClassicLaw.{DoneIsClassic};
+ghost use Rattle.crpd_tool.specs.ExplainLaw.{DoneIsExplained};
+ghost use Rattle.crpd_tool.specs.GenerateLaw.{DoneIsGenerated};
+ghost use Rattle.crpd_tool.specs.Output.{OneAnswer};
+ghost use Rattle.crpd_tool.specs.Safety.{DoneIsSafe};
+ghost use Rattle.crpd_tool.specs.SimulateLaw.{DoneIsReported};
+ghost use Rattle.crpd_tool.specs.SlackLaw.{CostsGrow, DoneIsSlack};
+ghost use Rattle.crpd_tool.specs.Undisturbed.{DoneIsBounded};
+ghost use Rattle.crpd_tool.specs.UpdateLaw.{DoneIsUpdate};
+
+use cert_update::update_laws;
+use crpd_report::late_law;
+use delay_classic::certificate_law;
+use run_account::ledger_facts;
+use sensitivity::{acceptance_law, costs_law};
+use sound_laws::{checked_account_is_within_delays, checked_code_is_bounded, checked_code_is_safe};
+
+/// A law: any words have one output at most over any contents, and what outputs with the status
+/// Done say is true.
+pub(crate) fn output_laws()
+    ensures one_answer { OneAnswer }
+    ensures safety { (words : List (List ℕ)) (c : Contents) → DoneIsSafe words c }
+    ensures undisturbed_bound { (words : List (List ℕ)) (c : Contents) → DoneIsBounded words c }
+    ensures report { (words : List (List ℕ)) (c : Contents) → DoneIsReported words c }
+    ensures analyze_exact { (words : List (List ℕ)) (c : Contents) → DoneIsBest words c }
+    ensures classic_sound { (words : List (List ℕ)) (c : Contents) → DoneIsClassic words c }
+    ensures slack_exact { (words : List (List ℕ)) (c : Contents) → DoneIsSlack words c }
+    ensures update_exact { (words : List (List ℕ)) (c : Contents) → DoneIsUpdate words c }
+    ensures generate_safe { (words : List (List ℕ)) (c : Contents) → DoneIsGenerated words c }
+    ensures ledger_within_delays { (words : List (List ℕ)) (c : Contents)
+        → DoneIsExplained words c }
+    ensures costs_grow { CostsGrow }
+{
+    checked_code_is_safe();
+    checked_code_is_bounded();
+    certificate_law();
+    acceptance_law();
+    costs_law();
+    update_laws();
+    late_law();
+    ledger_facts();
+    checked_account_is_within_delays();
+}

@@ -1,0 +1,6 @@
+mod Below
+mod Nests
+pub mod OneGraph
+pub mod Once
+pub mod OneShape
+pub mod SameTask

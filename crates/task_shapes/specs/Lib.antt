@@ -1,0 +1,6 @@
+pub mod Steps
+pub mod Inputs
+pub mod Graphs
+pub mod Shapes
+pub mod SameTask
+pub mod Inner

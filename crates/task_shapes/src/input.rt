@@ -1,0 +1,84 @@
+// A task set with its code.
+use code_map::CodeMap;
+use crpd_base::{Task, TaskPlan, TaskSet, task_name};
+use std::marker::Model;
+
+/// A task set in its ranges, with the code of its tasks' files: an image and a plan for each task,
+/// whose stated loops have bounds from 1 to 1,000,000.
+#[derive(Drop)]
+pub struct Input {
+    set: TaskSet,
+    code: CodeMap,
+}
+
+impl Model for Input {
+    ghost use Rattle.task_shapes.specs.Inputs.{IsInput, SetWithCode};
+
+    ghost Value = { SetWithCode };
+
+    ghost view = { λ i. record { set = i.set; code = i.code } };
+
+    ghost invariant = { λ i. IsInput (record { set = i.set; code = i.code }) };
+}
+
+impl Input {
+    ghost use Rattle.std.specs.Prelude.{◌≡◌, ◌<◌, ◌≤◌, length, slice_get, Some};
+    ghost use Rattle.crpd_base.specs.Limits.{most_tasks};
+    ghost use Rattle.crpd_base.specs.Ranges.{IsTaskSet};
+    ghost use Rattle.loop_regions.specs.CodeNest.{AreBounded};
+    ghost use Rattle.task_shapes.specs.Inputs.{IsInput, name_at};
+
+    /// A set with its code. In constant time; it takes no memory.
+    pub fn new(set: TaskSet, code: CodeMap) -> Self
+        requires { IsInput (record { set = set; code = code }) }
+        ensures { result ≡ record { set = set; code = code } }
+    {
+        Input { set, code }
+    }
+
+    /// The set. In constant time.
+    pub fn set(&self) -> &TaskSet
+        ensures is { result.now ≡ self.now.set }
+        ensures ranges { IsTaskSet result.now }
+    {
+        &self.set
+    }
+
+    /// The code of the tasks' files. In constant time.
+    pub fn code(&self) -> &CodeMap
+        ensures { result.now ≡ self.now.code }
+    {
+        &self.code
+    }
+
+    /// How many tasks there are: 1 to 32. In constant time.
+    pub(crate) fn task_count(&self) -> usize
+        ensures is { result ≡ length self.now.set.tasks }
+        ensures few { result ≤ most_tasks }
+    {
+        self.set.tasks.len()
+    }
+
+    /// The name of a task. In constant time.
+    pub(crate) fn name(&self, task: Task) -> &str
+        ensures { result.now ≡ name_at self.now task.0 }
+    {
+        task_name(&self.set, task)
+    }
+
+    /// The plan of a task. In constant time.
+    pub(crate) fn plan(&self, task: Task) -> &TaskPlan
+        requires { task.0 < length self.now.set.tasks }
+        ensures is { slice_get self.now.code.plans task.0 ≡ Some result.now }
+        ensures bounded { AreBounded result.now.loops }
+    {
+        self.code.plan(task)
+    }
+
+    /// What holds of each set with its code. In constant time.
+    pub fn input_law(&self)
+        ensures { IsInput self.now }
+    {
+        let _set = &self.set;
+    }
+}

@@ -1,0 +1,25 @@
+// The graphs of the tasks with the regions of their loops.
+ghost use Rattle.task_shapes.specs.Shapes.{ShapesOf};
+ghost use Rattle.task_shapes.specs.Steps.{GivesBy};
+
+use crate::error::ShapeError;
+use crate::graphs::task_graphs;
+use crate::input::Input;
+use crate::regions::all_regions;
+use crate::shaped::ShapedSet;
+use std::alloc::Global;
+
+/// A set with the graphs of all tasks and the regions of all tasks' loops.
+///
+/// The error is that of the first task without a graph, and where each has one, that of the first
+/// task whose loops have no regions. The set is dropped then. Cost: that of building each graph and
+/// its regions.
+pub fn shape(alloc: Global, input: Input) -> Result<ShapedSet, ShapeError>
+    ensures { GivesBy ShapeError.Memory (ShapesOf input) result }
+{
+    let graphs = task_graphs(alloc, &input)?;
+    match all_regions(alloc, &input, graphs.as_slice()) {
+        Ok(nests) => Ok(ShapedSet::new(input, graphs, nests)),
+        Err(error) => Err(error),
+    }
+}
