@@ -47,8 +47,8 @@ def commands() -> list[str]:
     return [line for line in (FOLDER / "stdin").read_text().splitlines() if not line.startswith("# ")]
 
 
-def check() -> int:
-    """Counts what does not fit: commands of stdin without an answer at their place in stdout."""
+def check(sources: Sources) -> int:
+    """Counts what does not fit: commands of stdin without an answer at their place in stdout, and refusals told wrongly."""
     wrong = 0
     stored = read(FOLDER / "stdout")
     for line, case in zip(commands(), stored):
@@ -58,6 +58,18 @@ def check() -> int:
     if len(commands()) != len(stored):
         print(f"stdin has {len(commands())} commands, and stdout answers {len(stored)}")
         wrong += 1
+    return wrong + refusals(sources, used(stored))
+
+
+def refusals(sources: Sources, found: dict[str, list[Case]]) -> int:
+    """Counts the refusals that a block's remark tells, and that no command which reads the file writes."""
+    wrong = 0
+    for name, block in sources.blocks.items():
+        answers = " ".join(line for case in found.get(name, []) for line in case.lines if line.startswith("refused "))
+        for told in re.findall(r"[Rr]efused(?: as|:) (\w+)", " ".join(block.notes)):
+            if told not in answers.split():
+                print(f"{block.where}: no command is refused as {told} over {name}")
+                wrong += 1
     return wrong
 
 
