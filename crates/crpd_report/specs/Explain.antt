@@ -18,12 +18,13 @@ use Rattle.crpd_report.specs.Simulate.{is_legal, run_line}
 abbrev pub job_name : TaskSet → JobId → List ℕ
 job_name set job = name_of set job.task ++ codes " " ++ decimal job.number
 
--- what missed where and when, and which job had evicted the block and which one preempted
+-- which job reloaded, in which cache set, and at which cycle
 abbrev pub miss_text : TaskSet → Entry → List ℕ
 miss_text set e =
     codes "reload " ++ job_name set e.job ++ codes " set " ++ decimal e.set ++ codes " cycle "
     ++ decimal e.time
 
+-- which job had evicted the block, and which one preempted
 abbrev pub cause_text : TaskSet → Entry → List ℕ
 cause_text set e =
     codes "evictor " ++ job_name set e.evictor ++ codes " preemptor " ++ job_name set e.preemptor
@@ -32,6 +33,7 @@ cause_text set e =
 abbrev pub reload_line : TaskSet → Entry → List ℕ
 reload_line set e = miss_text set e ++ codes " " ++ cause_text set e ++ 10 ∷ []
 
+-- the lines of all reloads
 unfoldable pub reload_lines : TaskSet → List Entry → List ℕ
 reload_lines set reloads = flat_map (reload_line set) reloads
 
@@ -42,6 +44,7 @@ delay_of set certificate i =
     charged_delays set (certified_part certificate) (window_at certificate) i
     (certified_task certificate i).method (window_at certificate i)
 
+-- the line of a task's certified delays
 abbrev pub delay_line : TaskSet → Certificate → ℕ → List ℕ
 delay_line set certificate i =
     codes "delay " ++ name_of set (record { 0 = i }) ++ codes " "

@@ -20,13 +20,14 @@ use Rattle.preempt_machine.specs.Safe.{IsLate, end_by}
 use Rattle.crpd_report.specs.Check.{check_text}
 use Rattle.crpd_report.specs.Simulate.{is_legal, run_line}
 
--- whether a job answered, and whether at this time or earlier
+-- whether a job answered
 abbrev pub is_answered : End → Bool
 is_answered Unreleased = false
 is_answered Open = false
 is_answered (Answered time) = true
 is_answered Faulted = false
 
+-- whether a job answered at this time or earlier
 abbrev pub is_answered_by : ℕ → End → Bool
 is_answered_by deadline Unreleased = false
 is_answered_by deadline Open = false

@@ -26,6 +26,7 @@ abbrev pub word_text : Option Ins → List ℕ
 word_text (Some ins) = text ins
 word_text None = codes ".word"
 
+-- the line of a word: its address, the word, and its text
 abbrev pub word_line : ℕ → ℕ → List ℕ
 word_line address word =
     hexadecimal address ++ codes " " ++ hexadecimal word ++ codes " "
@@ -39,6 +40,7 @@ line_of address word = option_map_or (word_line address) word []
 abbrev pub word_lines : Code → List ℕ → List ℕ
 word_lines code addresses = flat_map (λ a. line_of a (word_at code.images a)) addresses
 
+-- the lines of the words that the task's own file holds, in the order of addresses
 unfoldable pub list_text : Code → Task → List ℕ
 list_text code task =
     word_lines code (option_map_or own_addresses (slice_get code.images task.0) [])

@@ -23,6 +23,7 @@ part_lines name part =
     (name ++ codes " evicting" ++ numbers_text part.evicting ++ 10 ∷ [])
     ++ (name ++ codes " useful" ++ numbers_text part.useful ++ 10 ∷ [])
 
+-- the lines of a task with its part
 abbrev pub task_lines : TaskSpec × Part → List ℕ
 task_lines pair = part_lines pair.0.name pair.1
 

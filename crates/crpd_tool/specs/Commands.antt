@@ -18,6 +18,7 @@ pub data Command : Type 0 where
   generate : ℕ → Command
   explain : List ℕ → List ℕ → List ℕ → Command
 
+-- the word at a place, empty where there is none
 abbrev pub command_word : ℕ → List (List ℕ) → List ℕ
 command_word k words = slice_index_or words k []
 

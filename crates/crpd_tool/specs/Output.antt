@@ -64,6 +64,7 @@ abbrev pub IsOutputOf : Contents → Command → Output → Type 0
 IsOutputOf contents command output =
     (ending : Result Answer Halt) × Ends command contents ending × (output ≡ ending_output ending)
 
+-- the output for words of none of the forms
 abbrev pub bad_words : Output
 bad_words = record { text = bad_words_text; status = exit.BadWords }
 
