@@ -348,27 +348,17 @@ impl Run<'_> {
     }
 }
 
-/// The reloads of the run of a script from the script's start, for the script's cycles: the
-/// fetches, up to and including the first cycle in which a watch breaks, that miss at a node that
-/// its full state counts as a hit, in the order of their times. Each has the job of the last fetch
-/// to the set before, the evictor. That fetch lies between two successive fetches of the job that
-/// misses; of the others that fetched between these two, the preemptor is the last in the order of
-/// jobs. Beside them stand the jobs' completions, and whether the run is kept.
+/// The reloads of a script's run from its start, for the script's cycles, in the order of their
+/// times: the fetches that miss at a node that its full state counts as a hit, up to the first
+/// cycle in which a watch breaks. Each has the job that evicted the block, the last to fetch to the
+/// set before, and the preemptor, the last in the order of jobs of those that fetched between the
+/// two fetches of the job that misses. Beside them stand the completions, and whether the run is
+/// kept. Where clauses 4 and 5 hold too, evictors and preemptors are of higher tasks, with one
+/// reload at most of an evictor, or of a preemptor, and a set.
 ///
-/// The set is in its ranges, the code map has a plan for each of its tasks, the graphs are the flat
-/// graphs of the tasks' code, and the script's jobs are of the set's tasks. The certificate has a
-/// part for each task, whose cache sets are below 512, every leader of each graph is listed, and
-/// clause 3 holds at each node. Want of memory is the only error.
-///
-/// Where clauses 4 and 5 hold too, evictors and preemptors are of higher tasks, whatever the
-/// script, and there is at most one reload of an evictor, or of a preemptor, and a cache set; all
-/// reloads of a preemptor are of one job.
-///
-/// Its time is that of `Machine::load`, of `hits` for each task, and of the machine's cycles in
-/// which a job is ready, with a look through the jobs where another job fetches than before and
-/// where a job is over, and a search in the job's gaps for each reload. Beside the machine a flag is
-/// kept for each node, a note and an `Entry` for each reload, and a note for each time at which a
-/// job goes on behind others.
+/// `Memory` is the only error. The time is that of the machine's cycles in which a job is ready,
+/// and for each reload a search in the job's gaps. A flag for each node, and a note for each reload
+/// and each time at which a job goes on behind others are kept.
 pub fn account(
     alloc: Global,
     code: &CodeMap,
