@@ -84,10 +84,10 @@ class DataSearch:
         run, name = self.run(values), self.kernel.name
         response = {name: self.bound + self.platform.switch}
         self.evidence.look(run, response, response)
-        completed = run.jobs[0][1]
-        if completed is None or not run.legal_and_kept:
+        job = run.jobs[0]
+        if not job.is_complete() or not run.is_legal_and_kept():
             stop(f"{name} does not complete, or breaks a stated bound, with {values.hex()}")
-        return completed - self.platform.switch
+        return job.end - self.platform.switch
 
     def look(self, values: bytes) -> None:
         """Runs a job with these values, and keeps them if none took longer."""
@@ -120,7 +120,7 @@ class DataSearch:
         for at, loop in enumerate(loops):
             lower = replace(loop, bound=loop.bound - 1)
             self.prepare(replace(self.kernel, loops=[*loops[:at], lower, *loops[at + 1:]]))
-            found += any("broken" in self.run(values).state for values in tried)
+            found += any(not self.run(values).kept for values in tried)
         return found
 
 

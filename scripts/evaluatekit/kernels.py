@@ -6,6 +6,8 @@ from collections.abc import Iterable
 from dataclasses import dataclass, replace
 from pathlib import Path
 
+from commonkit.elf import Elf, Symbol, read_elf
+
 from .ending import stop
 
 # A period that no window reaches.
@@ -85,88 +87,49 @@ def read_kernels(path: Path) -> dict[str, Kernel]:
 
 
 @dataclass(frozen=True)
-class Symbol:
-    """A symbol: its address, and how many bytes it names."""
-
-    address: int
-    size: int
-
-
-@dataclass(frozen=True)
-class Segment:
-    """The bytes of a segment that stand in the file."""
-
-    address: int
-    offset: int
-    size: int
-    executable: bool
-
-    def holds(self, symbol: Symbol) -> bool:
-        end = self.address + self.size
-        return self.address <= symbol.address and symbol.address + symbol.size <= end
-
-
-@dataclass(frozen=True)
 class Image:
-    """The ELF file of the kernels, whose data can be changed."""
+    """The ELF file of the kernels, whose data can be changed, and its symbols by name."""
 
     content: bytes
-    segments: list[Segment]
+    elf: Elf
     symbols: dict[str, Symbol]
 
-    def offset(self, symbol: Symbol) -> int:
-        """Where the bytes of a symbol stand in the file."""
-        for segment in self.segments:
-            if segment.holds(symbol):
-                return segment.offset + symbol.address - segment.address
-        stop(f"nothing stands in the file for {symbol.address:08x}")
+    def offset(self, address: int, size: int) -> int:
+        """Where bytes stand in the file."""
+        for segment in self.elf.segments:
+            if segment.holds(address, size):
+                return segment.offset + address - segment.address
+        stop(f"nothing stands in the file for {address:08x}")
 
     def word(self, address: int) -> int:
         """The word at an address."""
-        return struct.unpack_from("<I", self.content, self.offset(Symbol(address, 4)))[0]
+        return struct.unpack_from("<I", self.content, self.offset(address, 4))[0]
 
     def data(self, kernel: str) -> list[Symbol]:
         """The data that a kernel starts with: its symbols in the file's part of the data
         segment."""
-        data = [segment for segment in self.segments if not segment.executable]
-        found = [symbol for name, symbol in self.symbols.items()
-                 if name.startswith(f"{kernel}_") and any(part.holds(symbol) for part in data)]
+        data = [segment for segment in self.elf.segments if not segment.executable]
+        found = [symbol for name, symbol in self.symbols.items() if name.startswith(f"{kernel}_")
+                 and any(part.holds(symbol.address, symbol.size) for part in data)]
         return sorted(found, key=lambda symbol: symbol.address)
 
     def values(self, kernel: str) -> bytes:
         """The bytes of a kernel's data."""
-        places = [(self.offset(symbol), symbol.size) for symbol in self.data(kernel)]
+        places = [(self.offset(symbol.address, symbol.size), symbol.size)
+                  for symbol in self.data(kernel)]
         return b"".join(self.content[at:at + size] for at, size in places)
 
     def with_values(self, kernel: str, values: bytes) -> "Image":
         """The image with other bytes in a kernel's data."""
         changed, used = bytearray(self.content), 0
         for symbol in self.data(kernel):
-            at = self.offset(symbol)
+            at = self.offset(symbol.address, symbol.size)
             changed[at:at + symbol.size] = values[used:used + symbol.size]
             used += symbol.size
         return replace(self, content=bytes(changed))
 
 
 def read_image(content: bytes) -> Image:
-    """The image of an ELF32 file: its loaded segments, and the symbols of its symbol table."""
-    segments, sections = struct.unpack_from("<II", content, 28)
-    _, segment_count, _, section_count = struct.unpack_from("<HHHH", content, 42)
-    headers = [struct.unpack_from("<8I", content, segments + 32 * n) for n in range(segment_count)]
-    loaded = [Segment(address, offset, size, flags & 1 == 1)
-              for kind, offset, address, _, size, _, flags, _ in headers if kind == 1]
-    tables = [struct.unpack_from("<10I", content, sections + 40 * n) for n in range(section_count)]
-    symbols: dict[str, Symbol] = {}
-    for table in tables:
-        if table[1] == 2:
-            read_symbols(content, table[4], table[5], tables[table[6]][4], symbols)
-    return Image(content, loaded, symbols)
-
-
-def read_symbols(content: bytes, offset: int, size: int, names: int,
-                 symbols: dict[str, Symbol]) -> None:
-    """Adds the symbols of a symbol table; the first of each name counts."""
-    for at in range(offset, offset + size, 16):
-        name, address, length = struct.unpack_from("<III", content, at)
-        text = content[names + name:content.index(b"\0", names + name)].decode("ascii")
-        symbols.setdefault(text, Symbol(address, length))
+    """The image of an ELF32 file; the first symbol of each name counts."""
+    elf = read_elf(content)
+    return Image(content, elf, {symbol.name: symbol for symbol in reversed(elf.symbols)})

@@ -99,12 +99,12 @@ class Evidence:
         """Compares the jobs of a run with the responses of their tasks. `by_points` are those with
         the delays by points, which are not certified."""
         self.runs += 1
-        if not run.legal_and_kept:
+        if not run.is_legal_and_kept():
             return
         self.kept += 1
-        for job, completed in run.jobs:
-            taken = (run.cycles if completed is None else completed) - job.arrival
-            if completed is not None or taken > responses[job.task]:
+        for job in run.jobs:
+            taken = (job.end if job.is_complete() else run.cycles) - job.arrival
+            if job.is_complete() or taken > responses[job.task]:
                 self.jobs += 1
                 self.late += taken > responses[job.task]
             self.late_by_points += taken > by_points[job.task]

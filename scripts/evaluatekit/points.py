@@ -5,15 +5,11 @@ x1, returns, and instructions that go on behind themselves.
 """
 from collections.abc import Iterable
 
+from commonkit.code import RETURN, branch_target, is_branch, is_call, is_jump, jump_target
+
 from .kernels import Image
 
 Node = tuple[tuple[int, ...], int]
-RETURN = 0x8067
-
-
-def signed(value: int, bits: int) -> int:
-    """A number whose highest bit is its sign."""
-    return value - (1 << bits) if value >> (bits - 1) else value
 
 
 def successors(image: Image, node: Node) -> list[Node]:
@@ -22,14 +18,10 @@ def successors(image: Image, node: Node) -> list[Node]:
     word = image.word(at)
     if word == RETURN:
         return [(calls[:-1], calls[-1] + 4)] if calls else []
-    if word & 127 == 0x63:
-        offset = ((word >> 31) << 12 | (word >> 7 & 1) << 11 | (word >> 25 & 63) << 5
-                  | (word >> 8 & 15) << 1)
-        return [(calls, at + 4), (calls, at + signed(offset, 13))]
-    if word & 127 == 0x6F:
-        offset = ((word >> 31) << 20 | (word >> 12 & 255) << 12 | (word >> 20 & 1) << 11
-                  | (word >> 21 & 1023) << 1)
-        return [((*calls, at) if word >> 7 & 31 else calls, at + signed(offset, 21))]
+    if is_branch(word):
+        return [(calls, at + 4), (calls, branch_target(at, word))]
+    if is_jump(word):
+        return [((*calls, at) if is_call(word) else calls, jump_target(at, word))]
     return [(calls, at + 4)]
 
 

@@ -9,6 +9,8 @@ from collections.abc import Iterable
 from dataclasses import dataclass
 from pathlib import Path
 
+from commonkit import calls
+
 from .ending import stop
 from .kernels import Image
 from .windows import Window
@@ -28,17 +30,13 @@ class Job:
 
 
 @dataclass(frozen=True)
-class Run:
-    """What `simulate` says of a script: when each job completes, and the words of the last
-    line."""
+class Run(calls.Run):
+    """The run of a script of so many cycles."""
 
     cycles: int
-    jobs: list[tuple[Job, int | None]]
-    state: str
 
-    @property
-    def legal_and_kept(self) -> bool:
-        return self.state == "legal kept"
+    def is_legal_and_kept(self) -> bool:
+        return self.legal and self.kept
 
 
 @dataclass(frozen=True)
@@ -68,12 +66,13 @@ TOLD = re.compile(r"^\S+ bound \d+ window (?P<window>\d+) response \d+ method (?
                   re.MULTILINE)
 
 
-def read_verdict(status: int, text: str) -> Verdict:
+def read_verdict(answer: calls.Answer) -> Verdict:
     """The windows that `analyze`, `classic`, `check` or `refine` writes."""
-    if status != 0:
-        return Verdict([], text.split()[1])
-    form = TOLD if text.startswith("yes") else CERTIFIED
-    return Verdict([Window(int(found["window"]), found["method"]) for found in form.finditer(text)])
+    if answer.status != 0:
+        return Verdict([], answer.text.split()[1])
+    form = TOLD if answer.text.startswith("yes") else CERTIFIED
+    return Verdict([Window(int(found["window"]), found["method"])
+                    for found in form.finditer(answer.text)])
 
 
 class Crpd:
@@ -82,6 +81,7 @@ class Crpd:
     def __init__(self, program: Path) -> None:
         self.program, self.calls = str(program.resolve()), 0
         self.folder = Path(tempfile.mkdtemp(prefix="evaluate-"))
+        self.crpd = calls.Crpd(self.program, self.folder)
 
     def close(self) -> None:
         shutil.rmtree(self.folder)
@@ -93,15 +93,16 @@ class Crpd:
         """Puts the image of all tasks in place."""
         (self.folder / "kernels.elf").write_bytes(image.content)
 
-    def call(self, *words: str) -> tuple[int, str]:
-        """The status, which has to be 0 or 1, and the text."""
+    def call(self, *words: str) -> calls.Answer:
+        """What a command writes; its status has to be 0 or 1."""
         self.calls += 1
-        done = subprocess.run([self.program, *words], cwd=self.folder, stdout=subprocess.PIPE,
-                              close_fds=False, check=False)
-        text = done.stdout.decode("ascii")
-        if done.returncode not in (0, 1):
-            stop(f"{' '.join(words)} ended with {done.returncode}: {text[:300]}")
-        return done.returncode, text
+        try:
+            answer = self.crpd.ask(*words)
+        except calls.Trouble as trouble:
+            stop(str(trouble))
+        if answer.status not in (0, 1):
+            stop(f"{' '.join(words)}: {answer.text.strip()}")
+        return answer
 
     def knows(self, command: str) -> bool:
         """Whether the program has a command of one word."""
@@ -112,18 +113,18 @@ class Crpd:
     def certificate(self, text: str) -> list[Part]:
         """The parts of a set that is accepted. Then its certificate stands in cert.json."""
         self.write("set.toml", text)
-        status, written = self.call("analyze", "set.toml")
-        if status != 0:
-            stop(written.strip())
-        self.write("cert.json", written)
+        answer = self.call("analyze", "set.toml")
+        if answer.status != 0:
+            stop(answer.text.strip())
+        self.write("cert.json", answer.text)
         return [Part(task["name"], task["bound"], task["evicting"], task["useful"],
                      task["method"], task["window"], len(task["potentials"]))
-                for task in json.loads(written)["tasks"]]
+                for task in json.loads(answer.text)["tasks"]]
 
     def verdict(self, command: str, text: str) -> Verdict:
         """What a command says of a set."""
         self.write("set.toml", text)
-        return read_verdict(*self.call(command, "set.toml"))
+        return read_verdict(self.call(command, "set.toml"))
 
     def script(self, cycles: int, jobs: Iterable[Job]) -> None:
         self.write("script.toml", f"cycles = {cycles}\n" + "".join(job.text() for job in jobs))
@@ -131,16 +132,13 @@ class Crpd:
     def run(self, cycles: int, jobs: list[Job]) -> Run:
         """The run of a script on the set in set.toml."""
         self.script(cycles, jobs)
-        *lines, last = self.call("simulate", "set.toml", "script.toml")[1].splitlines()
-        words = [line.split() for line in lines]
-        completed = [int(word[8]) if word[7] == "answer" else None for word in words]
-        return Run(cycles, list(zip(jobs, completed, strict=True)), last.removeprefix("run "))
+        run = calls.read_run(self.call("simulate", "set.toml", "script.toml"), cycles)
+        return Run(run.jobs, run.legal, run.kept, cycles)
 
     def explain(self, cycles: int, jobs: list[Job]) -> list[list[str]]:
         """The words of each line of `explain` for the set in set.toml with cert.json."""
         self.script(cycles, jobs)
-        text = self.call("explain", "set.toml", "cert.json", "script.toml")[1]
-        return [line.split() for line in text.splitlines()]
+        return self.call("explain", "set.toml", "cert.json", "script.toml").lines()
 
 
 def reloads(lines: list[list[str]], task: str) -> int:

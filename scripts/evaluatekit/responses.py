@@ -128,10 +128,10 @@ class Search:
         """The response of the job looked at; a job that is not completed counts to the run's end."""
         run = self.system.crpd.run(self.cycles, self.jobs(pattern))
         self.evidence.look(run, self.responses, self.responses_by_points)
-        if not run.legal_and_kept:
-            stop(f"a run of {self.name} is {run.state}")
-        completed = run.jobs[0][1]
-        return (run.cycles if completed is None else completed) - self.arrival
+        if not run.is_legal_and_kept():
+            stop(f"of {self.name}: {run.last_line()}")
+        job = run.jobs[0]
+        return (job.end if job.is_complete() else run.cycles) - self.arrival
 
     def reload_cycles(self, pattern: Pattern) -> int:
         """The cycles of the reloads that `explain` lists for the job looked at."""

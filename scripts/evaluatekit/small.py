@@ -2,6 +2,8 @@
 import xml.etree.ElementTree as ElementTree
 from pathlib import Path
 
+from commonkit.calls import Answer
+
 from . import acceptance, bounds, page, responses, windows
 from .kernels import set_text
 from .measuring import BASE, Evidence, System, know, progress
@@ -20,7 +22,7 @@ def worked_example() -> list[str]:
     wrong = [f"worked example: {method} gives {found[method][1].length}, not {length}"
              for method, length in wanted.items() if found[method][1].length != length]
     told = "yes\nlow bound 28 window 81 response 81 method point\n"
-    if read_verdict(0, told).windows != [windows.Window(81, "point")]:
+    if read_verdict(Answer(0, told)).windows != [windows.Window(81, "point")]:
         wrong.append("worked example: the text of a yes is not read")
     return wrong
 

@@ -8,7 +8,8 @@ from pathlib import Path
 
 PREFIX = "riscv64-unknown-elf-"
 COMMON = ("-mabi=ilp32", "-ffreestanding", "-fno-pic", "-mcmodel=medlow", "-fno-jump-tables", "-fno-common", "-w")
-CLANG = ("--target=riscv32", "-fno-addrsig", "-gline-tables-only", "-gdwarf-4", "-fno-dwarf-directory-asm")
+CLANG = ("--target=riscv32", "-fno-addrsig", "-gline-tables-only", "-gdwarf-4", "-fno-dwarf-directory-asm", "-mllvm",
+         "-tail-dup-placement=false")
 LEVELS = {"gcc": ("-O0", "-O1", "-O2", "-O3", "-Os", "-Og"), "clang": ("-O0", "-O1", "-O2", "-O3", "-Os")}
 
 

@@ -3,8 +3,10 @@ from __future__ import annotations
 
 from dataclasses import dataclass
 
+from commonkit.code import is_branch, is_call, signed
+
 from .flow import Edges, Function, Loop, dominators, passes, turned
-from .program import Program, is_branch, is_call, signed
+from .program import Program
 
 MOST = 1_000_000
 SAVED = {0, 2, 3, 4, 8, 9, *range(18, 28)}  # registers that a call leaves as they are

@@ -3,7 +3,9 @@ from __future__ import annotations
 
 from dataclasses import dataclass, field
 
-from .program import ECALL, RETURN, Program
+from commonkit.code import ECALL, RETURN
+
+from .program import Program
 
 Edges = dict[int, list[int]]
 

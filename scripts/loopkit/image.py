@@ -71,7 +71,7 @@ class Image:
     def address(self, place: int | str) -> int | None:
         """The address of a place, None where its symbol is not there."""
         try:
-            return self.program.place(place)
+            return self.program.elf.address(place)
         except (KeyError, ValueError):
             return None
 

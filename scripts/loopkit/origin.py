@@ -5,10 +5,12 @@ from collections import Counter
 from collections.abc import Callable
 from dataclasses import dataclass, field, replace
 
+from commonkit.code import is_branch, is_call, is_plain_jump, is_store, makes_constant
+
 from .counts import Counts
 from .flow import Edges, Function, Loop, body_of, dominators, passes, reached_from, turned
 from .lines import Frames
-from .program import Program, is_branch, is_call, is_plain_jump, is_store
+from .program import Program
 from .source import SourceLoop, Sources
 
 
@@ -150,14 +152,14 @@ class Finder:
     def sites_of(self, part: Part, head: int, taken: set[Site | None]) -> list[Site]:
         """The loops of the source that the turns of a part may be, the inner first: those whose test ends the turns and that
         have most of the nodes that are in loops, with those inside whose turns pass no such test; or else the innermost one that
-        has all nodes."""
+        has all nodes but constants that were moved."""
         around = Counter(site for a in part.own for site in self.sites_at(a))
         in_loops = sum(bool(self.sites(a)) for a in part.own)
         tested = {site for a in part.own if self.is_deciding(a, part, head) for site in self.sites_at(a) if self.is_test(a, site)}
         fits = in_order([site for site in around if site in tested - taken and 2 * around[site] >= in_loops])
         if fits:
             return self.turning_inside(part, head, fits, taken) + fits
-        with_lines = sum(bool(self.lines.get(a)) for a in part.own)
+        with_lines = sum(bool(self.lines.get(a)) and not self.is_moved_here(a) for a in part.own)
         inner = in_order([site for site in around if around[site] == with_lines])[:1]
         return [site for site in inner if site not in taken]
 
@@ -177,6 +179,11 @@ class Finder:
 
     def is_test_branch(self, a: int, site: Site) -> bool:
         return is_branch(self.program.word(a) or 0) and self.is_test(a, site)
+
+    def is_moved_here(self, a: int) -> bool:
+        """Whether the instruction makes a constant with a line that is in no loop: compilers make constants where they need them,
+        and leave the line of the place where they were made first."""
+        return not self.sites(a) and makes_constant(self.program.word(a) or 0)
 
     def sites_at(self, a: int) -> list[Site]:
         return [site for site, _ in self.sites(a)]

@@ -68,7 +68,7 @@ class Counter:
     def once(self, key: LoopKey) -> Seen:
         """Whether a head that is reached once at most is reached: an `ebreak` in its place tells."""
         task = self.runner.document["task"][key[0]]
-        head = program_of(task["file"]).place(self.runner.loop(key)["head"])
+        head = program_of(task["file"]).elf.address(self.runner.loop(key)["head"])
         run = self.runner.run({}, self.cycles, self.with_ebreak(head))
         faults = {job.task for job in run.jobs if job.state == "fault"} - self.faulting
         if not faults:
@@ -128,7 +128,7 @@ def about_stacks(document: dict) -> str:
     """What may be said of the stacks where a run is broken by a return."""
     users: dict[int, list[str]] = {}
     for task in document["task"]:
-        users.setdefault(program_of(task["file"]).place(task.get("stack", 0)), []).append(task["name"])
+        users.setdefault(program_of(task["file"]).elf.address(task.get("stack", 0)), []).append(task["name"])
     shared = [names for names in users.values() if len(names) > 1]
     if not shared:
         return "the stacks begin at places of their own: is one of them too small?"

@@ -4,9 +4,11 @@ from __future__ import annotations
 from dataclasses import dataclass
 from pathlib import Path
 
+from commonkit.calls import Answer, Crpd, Trouble
+from commonkit.toml import toml
+
 from .program import Body, read_bodies
-from .reading import (Answer, Claim, Crpd, Platform, Raw, Run, Task, TaskSet, Trouble, read_bytes, read_claims, read_run,
-                      read_set, read_toml, set_text)
+from .reading import (Claim, Platform, Raw, Run, Task, TaskSet, read_bytes, read_claims, read_run, read_set, read_toml)
 from .windows import Analysis, Window, blocking_of
 
 LONGEST = 1 << 40  # the longest period that a set may state
@@ -150,7 +152,7 @@ def lifted_analysis(crpd: Crpd, raw: Raw, blocking: list[int], folder: Path) -> 
     """The claims for a set without a certificate, by the same set with the longest periods and deadlines: bounds and cache sets
     do not depend on these. None where that set has no certificate either."""
     lifted = {**raw, "task": [{**task, "period": LONGEST, "deadline": LONGEST} for task in raw["task"]]}
-    answer = crpd.ask("analyze", write(folder / "set.toml", set_text(lifted)))
+    answer = crpd.ask("analyze", write(folder / "set.toml", toml(lifted)))
     if answer.status != 0:
         return None
     claims = read_claims(answer.text)

@@ -1,15 +1,16 @@
 """Follows the code of a task: which instructions it may reach, and how much stack they take."""
 from __future__ import annotations
 
-import struct
 from dataclasses import dataclass
 
-from .reading import Crpd, Platform, TaskSet, read_bytes
+from commonkit.calls import Crpd
+from commonkit.elf import Elf, read_elf
+
+from .reading import Platform, TaskSet, read_bytes
 
 LOADS, STORES = ("lb", "lh", "lw", "lbu", "lhu"), ("sb", "sh", "sw")
 BRANCHES = ("beq", "bne", "blt", "bge", "bltu", "bgeu")
 MULTIPLIES, DIVIDES = ("mul", "mulh", "mulhsu", "mulhu"), ("div", "divu", "rem", "remu")
-SECTION_BYTES, SYMBOL_BYTES, SYMBOL_TABLE, FILE_SYMBOL = 40, 16, 2, 4  # of ELF files
 
 
 @dataclass(frozen=True)
@@ -95,37 +96,6 @@ class Code:
 
 
 @dataclass(frozen=True)
-class Symbols:
-    """The entry and the symbols of an ELF file that `crpd` does not refuse."""
-
-    entry: int
-    values: dict[str, int]
-
-    def address(self, place: int | str) -> int:
-        """What a place of the set means."""
-        if isinstance(place, int):
-            return place
-        symbol, _, offset = place.partition("+")
-        return self.values[symbol] + int(offset or "0", 16 if offset.startswith("0x") else 10)
-
-
-def read_symbols(data: bytes) -> Symbols:
-    """The symbols of the first symbol table; of each name the first one."""
-    entry, _, sections = struct.unpack_from("<III", data, 24)
-    count = struct.unpack_from("<H", data, 48)[0] if sections else 0
-    headers = [struct.unpack_from("<10I", data, sections + SECTION_BYTES * k) for k in range(count)]
-    values: dict[str, int] = {}
-    for table in [header for header in headers if header[1] == SYMBOL_TABLE][:1]:
-        names = headers[table[6]][4]
-        for at in range(table[4], table[4] + table[5] - SYMBOL_BYTES + 1, SYMBOL_BYTES):
-            name, value, _, kind, _, section = struct.unpack_from("<IIIBBH", data, at)
-            if name and section and kind & 15 != FILE_SYMBOL:
-                text = data[names + name:data.find(b"\0", names + name)]
-                values.setdefault(text.decode(errors="replace"), value)
-    return Symbols(entry, values)
-
-
-@dataclass(frozen=True)
 class Body:
     """A task's code: the most cycles of one of its instructions, where its stack starts, and the bytes that it takes at most."""
 
@@ -136,17 +106,17 @@ class Body:
 
 def read_bodies(crpd: Crpd, name: str, given: TaskSet) -> list[Body]:
     """The bodies of the tasks of a set that is not refused."""
-    symbols: dict[str, Symbols] = {}
+    files: dict[str, Elf] = {}
     code = Code({})
     for task in given.tasks:
-        if task.file not in symbols:
-            symbols[task.file] = read_symbols(read_bytes(task.file))
+        if task.file not in files:
+            files[task.file] = read_elf(read_bytes(task.file))
             for address, _, word, *operands in crpd.ask("list", name, task.name).lines():
                 code.instructions[int(address, 16)] = Instruction(word, operands[0].split(",") if operands else [])
     known: dict[int, Reach] = {}
     found = []
     for task in given.tasks:
-        own = symbols[task.file]
+        own = files[task.file]
         reach = code.reach(own.entry if task.entry is None else own.address(task.entry), known)
         longest = max(code.instructions[address].longest(given.platform) for address in reach.addresses)
         found.append(Body(longest, own.address(task.stack or 0), reach.stack))

@@ -1,18 +1,16 @@
-"""Asks `crpd`, and reads what goes into it and what it writes."""
+"""Reads what goes into `crpd` and what it writes."""
 from __future__ import annotations
 
 import json
-import subprocess
 import tomllib
 from dataclasses import dataclass, fields
 from pathlib import Path
 from typing import Any
 
+from commonkit import calls
+from commonkit.calls import Answer, Crpd, Trouble
+
 Raw = dict[str, Any]  # a table as TOML or JSON has it
-
-
-class Trouble(Exception):
-    """Why no page can be written."""
 
 
 @dataclass(frozen=True)
@@ -68,35 +66,6 @@ class Claim:
     response: int
 
 
-@dataclass(frozen=True)
-class Answer:
-    """What a command wrote, with its status: 0 done, 1 no, 2 refused."""
-
-    status: int
-    text: str
-
-    def lines(self) -> list[list[str]]:
-        return [line.split() for line in self.text.splitlines()]
-
-
-@dataclass(frozen=True)
-class Crpd:
-    """The program."""
-
-    path: str
-
-    def ask(self, *words: str) -> Answer:
-        """Runs a command; `Trouble` where it does not start, or ends otherwise than done, no or refused."""
-        try:
-            done = subprocess.run([self.path, *words], capture_output=True, text=True, errors="replace", check=False)
-        except OSError as error:
-            raise Trouble(f"{self.path} does not start: {error.strerror}") from error
-        if done.returncode not in (0, 1, 2):
-            said = (done.stdout or done.stderr).strip()
-            raise Trouble(f"`crpd {' '.join(words)}` ends with status {done.returncode}: {said}")
-        return Answer(done.returncode, done.stdout)
-
-
 def read_bytes(name: str) -> bytes:
     try:
         return Path(name).read_bytes()
@@ -128,36 +97,6 @@ def read_claim(task: Raw) -> Claim:
     return Claim(task["name"], task["bound"], evicting, useful, task["method"], task["window"], task["response"])
 
 
-def set_text(raw: Raw) -> str:
-    """The TOML of a task set."""
-    lines = table_lines("[platform]", raw["platform"])
-    for task in raw["task"]:
-        lines += table_lines("[[task]]", task)
-        for loop in task.get("loop", []):
-            lines += table_lines("[[task.loop]]", loop)
-    return "\n".join(lines) + "\n"
-
-
-def table_lines(head: str, keys: Raw) -> list[str]:
-    return [head] + [f"{key} = {json.dumps(value)}" for key, value in keys.items() if key != "loop"]
-
-
-@dataclass(frozen=True)
-class Job:
-    """A job of a run. Its `state` is `answer`, `open`, `fault` or `unreleased`; its `end` is when it completed, the end of the
-    run where it is open, and else its release."""
-
-    task: str
-    number: int
-    arrival: int
-    release: int
-    state: str
-    end: int
-
-    def is_complete(self) -> bool:
-        return self.state == "answer"
-
-
 @dataclass(frozen=True)
 class Reload:
     """A line that a job loads again. Evictor and preemptor are a task's name with a job's number."""
@@ -171,12 +110,9 @@ class Reload:
 
 
 @dataclass(frozen=True)
-class Run:
+class Run(calls.Run):
     """A run of a script; with a certificate also its reloads, and the certified cycles of reloads by task."""
 
-    jobs: list[Job]
-    legal: bool
-    kept: bool
     reloads: list[Reload]
     delays: dict[str, int]
 
@@ -186,19 +122,11 @@ def read_run(crpd: Crpd, name: str, certificate: str | None, script: str) -> Run
     simulated = crpd.ask("simulate", name, script)
     if simulated.status != 0:
         return simulated
-    *lines, (_, legal, kept) = simulated.lines()
-    cycles = read_toml(script)["cycles"]
+    run = calls.read_run(simulated, read_toml(script)["cycles"])
     explained = crpd.ask("explain", name, certificate, script).lines() if certificate else []
     reloads = [read_reload(line) for line in explained if line[0] == "reload"]
     delays = {line[1]: int(line[2]) for line in explained if line[0] == "delay"}
-    return Run([read_job(line, cycles) for line in lines], legal == "legal", kept == "kept", reloads, delays)
-
-
-def read_job(line: list[str], cycles: int) -> Job:
-    """A line `job NAME NUMBER arrival A release R answer T`, or with another state in place of `answer T`."""
-    _, task, number, _, arrival, _, release, state, *end = line
-    last = int(end[0]) if end else cycles if state == "open" else int(release)
-    return Job(task, int(number), int(arrival), int(release), state, last)
+    return Run(run.jobs, run.legal, run.kept, reloads, delays)
 
 
 def read_reload(line: list[str]) -> Reload:

@@ -5,10 +5,12 @@ from bisect import bisect_left
 from dataclasses import dataclass
 from html import escape
 
+from commonkit.calls import Job
+
 from .facts import Facts
 from .markup import Frame, box, counted, hue, joined, num, step, tag, title
 from .pictures import Item, Mark, Picture, Row, sample, stroke
-from .reading import Job, Reload, Run
+from .reading import Reload, Run
 
 CROWD = 40  # of more jobs in a row, the bars alone are drawn
 TELL = 20  # of more jobs in a row, their number alone is told

@@ -20,7 +20,9 @@ from collections import Counter
 from collections.abc import Sequence
 from dataclasses import dataclass, replace
 
-from .reading import Claim, TaskSet, Trouble
+from commonkit.calls import Trouble
+
+from .reading import Claim, TaskSet
 
 METHODS = ("ucb", "ecb")
 FAR = 64  # windows of sets that are not schedulable are looked for up to so many periods

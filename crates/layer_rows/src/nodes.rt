@@ -124,12 +124,18 @@ fn compare_flow(rt: &impl Abort, alloc: Global, flow: &Flow) {
 
 // `beq x0,x0,16`, the one way by `jal x0,4` and the other by `jal x0,-8` in the next line, to one
 // `ecall`.
-const MEETING: [u32; 5] = [0x0000_0863, 0x0040_006F, 0x0000_0073, 0, 0xFF9F_F06F];
+const MEETING: [u32; 5] = [
+    0x0000_0863, // beq x0,x0,16
+    0x0040_006F, // jal x0,4
+    0x0000_0073, // ecall
+    0,
+    0xFF9F_F06F, // jal x0,-8
+];
 
 // 128 bytes on by `jal x0,128`, to a line in the same set, and back to `ecall` by `jal x0,-124`.
 const SAME_SET: [u32; 33] = [
-    0x0800_006F,
-    0x0000_0073,
+    0x0800_006F, // jal x0,128
+    0x0000_0073, // ecall
     0,
     0,
     0,
@@ -160,7 +166,7 @@ const SAME_SET: [u32; 33] = [
     0,
     0,
     0,
-    0xF85F_F06F,
+    0xF85F_F06F, // jal x0,-124
 ];
 
 // Where words begin, the words, and their nodes.
@@ -261,9 +267,9 @@ fn nodes_of_small_programs(rt: HostRuntime) {
 // Addresses, the words there, whether they are the task's own, and the next address of such a word.
 static WORDS: [(u32, Option<u32>, bool, Option<u32>); 7] = [
     (0, None, false, Some(0x1000)),
-    (0x1000, Some(0x0010_0293), true, Some(0x1000)),
+    (0x1000, Some(0x0010_0293), true, Some(0x1000)), // addi x5,x0,1
     (0x1001, None, false, Some(0x1004)),
-    (0x1004, Some(0x0000_0073), true, Some(0x1004)),
+    (0x1004, Some(0x0000_0073), true, Some(0x1004)), // ecall
     (0x1005, None, false, None),
     (0x1008, None, false, None),
     (0xFFFF_FFF9, None, false, None),

@@ -66,7 +66,12 @@ const CALL_TURNS: Program<'static> = Program {
 
 // A store and a load, and a word that is no instruction.
 const STORER: Program<'static> = Program {
-    words: &[0x0050_0293, 0x0051_2023, 0x0001_2303, 0],
+    words: &[
+        0x0050_0293, // addi x5,x0,5
+        0x0051_2023, // sw x5,0(x2)
+        0x0001_2303, // lw x6,0(x2)
+        0,
+    ],
     stack: 0x8000,
     ..ONE
 };
@@ -74,7 +79,10 @@ const STORER: Program<'static> = Program {
 // EBREAK in the high task.
 static BREAKER: [Program<'static>; 2] = [
     Program {
-        words: &[0x0010_0293, 0x0010_0073],
+        words: &[
+            0x0010_0293, // addi x5,x0,1
+            0x0010_0073, // ebreak
+        ],
         ..HIGH
     },
     LOW,
@@ -84,7 +92,7 @@ static BREAKER: [Program<'static>; 2] = [
 static SPINNER: [Program<'static>; 2] = [
     HIGH,
     Program {
-        words: &[0x0000_006F],
+        words: &[0x0000_006F], // jal x0,0
         ..LOW
     },
 ];

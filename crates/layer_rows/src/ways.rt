@@ -20,90 +20,114 @@ use std::process::Abort;
 use std::slice;
 
 // Three instructions in a row.
-const STRAIGHT: [u32; 3] = [0xFFF2_8293, 0x0273_02B3, ECALL];
+const STRAIGHT: [u32; 3] = [
+    0xFFF2_8293, // addi x5,x5,-1
+    0x0273_02B3, // mul x5,x6,x7
+    ECALL,
+];
 
 // An answer by a return.
-const RETURN: [u32; 2] = [0xFFF2_8293, RET];
+const RETURN: [u32; 2] = [
+    0xFFF2_8293, // addi x5,x5,-1
+    RET,
+];
 
 // Two ways that meet again.
-const DIAMOND: [u32; 5] = [0x0062_8663, 0x0273_02B3, 0x0080_006F, 0xFFF2_8293, ECALL];
+const DIAMOND: [u32; 5] = [
+    0x0062_8663, // beq x5,x6,12
+    0x0273_02B3, // mul x5,x6,x7
+    0x0080_006F, // jal x0,8
+    0xFFF2_8293, // addi x5,x5,-1
+    ECALL,
+];
 
 // A loop that is left at two places.
 const TWO_EXITS: [u32; 7] = [
-    0xFFF2_8293,
-    0x0002_8863,
-    0xFFF3_0313,
-    0x0003_0663,
-    0xFF5F_F06F,
-    0x0273_02B3,
+    0xFFF2_8293, // addi x5,x5,-1
+    0x0002_8863, // beq x5,x0,16
+    0xFFF3_0313, // addi x6,x6,-1
+    0x0003_0663, // beq x6,x0,12
+    0xFF5F_F06F, // jal x0,-12
+    0x0273_02B3, // mul x5,x6,x7
     ECALL,
 ];
 
 // A loop with two ways that meet again.
 const LOOPED_DIAMOND: [u32; 7] = [
-    0xFFF2_8293,
-    0x0062_8663,
-    0x0273_02B3,
-    0x0080_006F,
-    0xFFF2_8293,
-    0xFE02_98E3,
+    0xFFF2_8293, // addi x5,x5,-1
+    0x0062_8663, // beq x5,x6,12
+    0x0273_02B3, // mul x5,x6,x7
+    0x0080_006F, // jal x0,8
+    0xFFF2_8293, // addi x5,x5,-1
+    0xFE02_98E3, // bne x5,x0,-16
     ECALL,
 ];
 
 // Two loops in a row.
-const ROW: [u32; 5] = [0xFFF2_8293, 0xFE02_9EE3, 0xFFF2_8293, 0xFE02_9EE3, ECALL];
+const ROW: [u32; 5] = [
+    0xFFF2_8293, // addi x5,x5,-1
+    0xFE02_9EE3, // bne x5,x0,-4
+    0xFFF2_8293, // addi x5,x5,-1
+    0xFE02_9EE3, // bne x5,x0,-4
+    ECALL,
+];
 
 // A loop that holds the answer.
-const ANSWER_INSIDE: [u32; 4] = [0xFFF2_8293, 0x0002_8463, 0xFFDF_F06F, ECALL];
+const ANSWER_INSIDE: [u32; 4] = [
+    0xFFF2_8293, // addi x5,x5,-1
+    0x0002_8463, // beq x5,x0,8
+    0xFFDF_F06F, // jal x0,-4
+    ECALL,
+];
 
 // A loop round a loop that can leave both at once.
 const LEAVES_BOTH: [u32; 6] = [
-    0xFFF2_8293,
-    0x0002_8863,
-    0xFE03_1EE3,
-    0xFE03_9AE3,
-    0xFFF2_8293,
+    0xFFF2_8293, // addi x5,x5,-1
+    0x0002_8863, // beq x5,x0,16
+    0xFE03_1EE3, // bne x6,x0,-4
+    0xFE03_9AE3, // bne x7,x0,-12
+    0xFFF2_8293, // addi x5,x5,-1
     ECALL,
 ];
 
 // A loop round a loop that can go on with the outer one's next iteration.
 const NEXT_TURN: [u32; 6] = [
-    0xFFF2_8293,
-    0xFFF2_8293,
-    0xFE02_8CE3,
-    0xFE03_1CE3,
-    0xFE03_98E3,
+    0xFFF2_8293, // addi x5,x5,-1
+    0xFFF2_8293, // addi x5,x5,-1
+    0xFE02_8CE3, // beq x5,x0,-8
+    0xFE03_1CE3, // bne x6,x0,-8
+    0xFE03_98E3, // bne x7,x0,-16
     ECALL,
 ];
 
 // A function with a loop, called twice.
 const CALLED_LOOP: [u32; 7] = [
-    0x0100_00EF,
-    0x00C0_00EF,
+    0x0100_00EF, // jal x1,16
+    0x00C0_00EF, // jal x1,12
     ECALL,
-    0x0000_0013,
-    0xFFF2_8293,
-    0xFE02_9EE3,
+    0x0000_0013, // addi x0,x0,0
+    0xFFF2_8293, // addi x5,x5,-1
+    0xFE02_9EE3, // bne x5,x0,-4
     RET,
 ];
 
 // A loop round a call of a function with a loop.
 const LOOP_IN_CALL: [u32; 6] = [
-    0x00C0_00EF,
-    0xFE03_1EE3,
+    0x00C0_00EF, // jal x1,12
+    0xFE03_1EE3, // bne x6,x0,-4
     ECALL,
-    0xFFF2_8293,
-    0xFE02_9EE3,
+    0xFFF2_8293, // addi x5,x5,-1
+    0xFE02_9EE3, // bne x5,x0,-4
     RET,
 ];
 
 // Three loops, one round the other.
 const THREE: [u32; 6] = [
-    0xFFF2_8293,
-    0xFFF2_8293,
-    0x0002_9063,
-    0xFE03_1CE3,
-    0xFE03_98E3,
+    0xFFF2_8293, // addi x5,x5,-1
+    0xFFF2_8293, // addi x5,x5,-1
+    0x0002_9063, // bne x5,x0,0
+    0xFE03_1CE3, // bne x6,x0,-8
+    0xFE03_98E3, // bne x7,x0,-16
     ECALL,
 ];
 

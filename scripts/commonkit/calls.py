@@ -1,0 +1,87 @@
+"""Calls of the program `crpd`, and the runs that its `simulate` writes."""
+from __future__ import annotations
+
+import subprocess
+from dataclasses import dataclass
+from pathlib import Path
+
+
+class Trouble(Exception):
+    """Why an answer cannot be had."""
+
+
+@dataclass(frozen=True)
+class Answer:
+    """What a command wrote, with its status: 0 done, 1 no, 2 refused."""
+
+    status: int
+    text: str
+
+    def lines(self) -> list[list[str]]:
+        return [line.split() for line in self.text.splitlines()]
+
+
+@dataclass(frozen=True)
+class Crpd:
+    """The program, and the folder from which its files are meant."""
+
+    path: str
+    folder: Path | None = None
+
+    def ask(self, *words: str) -> Answer:
+        """Runs a command; `Trouble` where it does not start, or ends otherwise than done, no or refused."""
+        try:
+            done = subprocess.run([self.path, *words], cwd=self.folder, stdout=subprocess.PIPE, close_fds=False, check=False)
+        except OSError as error:
+            raise Trouble(f"{self.path} does not start: {error.strerror}") from error
+        text = done.stdout.decode(errors="replace")
+        if done.returncode not in (0, 1, 2):
+            raise Trouble(f"`crpd {' '.join(words)}` ends with status {done.returncode}: {text.strip()[:300]}")
+        return Answer(done.returncode, text)
+
+
+@dataclass(frozen=True)
+class Job:
+    """A job of a run. Its `state` is `answer`, `open`, `fault` or `unreleased`; its `end` is when it completed, the end of the
+    run where it is open, and else its release."""
+
+    task: str
+    number: int
+    arrival: int
+    release: int
+    state: str
+    end: int
+
+    def name(self) -> str:
+        return f"{self.task} {self.number}"
+
+    def is_complete(self) -> bool:
+        return self.state == "answer"
+
+    def is_under_way(self) -> bool:
+        return self.state in ("open", "fault")
+
+
+@dataclass(frozen=True)
+class Run:
+    """What `simulate` writes."""
+
+    jobs: list[Job]
+    legal: bool
+    kept: bool
+
+    def last_line(self) -> str:
+        return f"run {'legal' if self.legal else 'illegal'} {'kept' if self.kept else 'broken'}"
+
+
+def read_run(answer: Answer, cycles: int) -> Run:
+    """The run of a script of so many cycles."""
+    *jobs, (_, legal, kept) = answer.lines()
+    return Run([read_job(line, cycles) for line in jobs], legal == "legal", kept == "kept")
+
+
+def read_job(line: list[str], cycles: int) -> Job:
+    """A line `job NAME NUMBER arrival A release R answer T`, or with another state in place of `answer T`."""
+    _, task, number, _, arrival, _, release, state, *end = line
+    last = int(end[0]) if end else cycles if state == "open" else int(release)
+    return Job(task, int(number), int(arrival), int(release), state, last)
